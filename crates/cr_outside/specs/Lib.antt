@@ -6,3 +6,4 @@ pub mod MemFiles
 pub mod MemSink
 pub mod Scripts
 pub mod Scripted
+pub mod Question

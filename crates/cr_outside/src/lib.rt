@@ -6,17 +6,21 @@
 
 mod fault_plan;
 mod files;
+mod has;
 mod judge;
 mod memory_files;
 mod memory_sink;
+mod question;
 mod script;
 mod scripted;
 mod sink;
 
 pub use files::{FileFault, Files, NoMemory, ReadAnswer};
+pub use has::Has;
 pub use judge::{Answer, Judge};
 pub use memory_files::MemFiles;
 pub use memory_sink::MemSink;
+pub use question::Question;
 pub use script::Script;
 pub use scripted::{Asked, Scripted};
 pub use sink::{Sink, SinkFault};

@@ -1,0 +1,5 @@
+pub mod Numbering
+pub mod Members
+pub mod Reductions
+pub mod Runs
+pub mod Sizes
