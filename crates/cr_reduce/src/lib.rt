@@ -4,10 +4,14 @@
 //! is the one-thread first-accepted reduction. Stands on `cr_tokens` and `cr_outside`.
 #![tactic(auto)]
 
+mod advance;
 mod bench;
 mod end;
+mod look;
+mod take;
 pub mod traits;
 mod trial;
+mod walk;
 
 pub use bench::Bench;
 pub use end::{Accepted, End, Plan, Why};
