@@ -6,3 +6,4 @@ pub mod Sizes
 pub mod Walks
 pub mod Verdicts
 pub mod Traces
+pub mod Ends

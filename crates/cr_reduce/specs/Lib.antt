@@ -5,3 +5,4 @@ pub mod Reduction
 pub mod Bench
 pub mod Search
 pub mod Walk
+pub mod Ends

@@ -7,6 +7,7 @@
 mod advance;
 mod bench;
 mod end;
+mod greedy;
 mod look;
 mod take;
 pub mod traits;
@@ -15,6 +16,7 @@ mod walk;
 
 pub use bench::Bench;
 pub use end::{Accepted, End, Plan, Why};
+pub use greedy::reduce;
 pub use traits::law::{Law, Reason, Ruling, TokenLaw};
 pub use traits::passes::{Cursor, Passes};
 pub use traits::positions::{cursor_at, position_of, positions};

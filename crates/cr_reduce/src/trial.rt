@@ -3,7 +3,7 @@ ghost use Rattle.std.specs.Prelude.{◌≡◌, ◌≢◌, ◌≤◌, ◌<◌, �
 ghost use Rattle.cr_outside.specs.Faults.{Rose};
 ghost use Rattle.cr_outside.specs.declared.judge.Answer.TheVariants.{Yes as AnswerYes, No as AnswerNo};
 ghost use Rattle.cr_reduce.specs.Bench.{first_calls, first_count, first_says, others};
-ghost use Rattle.cr_reduce.specs.Sizes.{HasSize};
+ghost use Rattle.cr_reduce.specs.Sizes.{HasSize, IsMeasured};
 ghost use Rattle.cr_reduce.specs.Trials.{AnswerInRun, CallsAbout, IsBad, IsGood};
 
 use crate::bench::Bench;
@@ -26,7 +26,7 @@ pub enum Verdict {
 
 /// The size of a file, where it tokenises.
 pub fn measure(alloc: Global, file: &[u8]) -> Result<Option<u64>, NoMemory>
-    ensures { IfOk result (λ found. MatchOption found ((n : ℕ) → HasSize file.now n → ⊥) (λ n. HasSize file.now n)) }
+    ensures { IfOk result (λ found. MatchOption found ((n : ℕ) → HasSize file.now n → ⊥) (IsMeasured file.now)) }
 {
     match read(alloc, file) {
         Ok(tokens) => Ok(Some(size(file, &tokens))),
