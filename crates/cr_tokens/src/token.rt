@@ -1,3 +1,5 @@
+ghost use Rattle.std.specs.Prelude.{◌≡◌, ◌<◌, ◌^◌};
+
 use thiserror::Error;
 
 /// The bytes of the longest file that is read.
@@ -46,4 +48,14 @@ pub enum TokenFault {
     OpenLiteral(u32),
     #[error("more than 262144 tokens, at {0}")]
     TooMany(u32),
+}
+
+impl Token {
+    pub(crate) fn new(kind: TokenKind, start: usize, end: usize) -> Self
+        requires start { start < 2 ^ 32 }
+        requires end { end < 2 ^ 32 }
+        ensures { result ≡ record { kind = kind; start = start; end = end } }
+    {
+        Token { kind, start: start as u32, end: end as u32 }
+    }
 }
