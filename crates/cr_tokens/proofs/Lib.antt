@@ -1,0 +1,10 @@
+pub mod Places
+pub mod Tables
+pub mod Ranges
+pub mod Firsts
+pub mod Units
+pub mod Chains
+pub mod Longest
+pub mod Signs
+pub mod Integers
+pub mod Files

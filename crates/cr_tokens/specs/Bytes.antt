@@ -1,6 +1,6 @@
 -- Classes of bytes (C11 5.2.1), and what is said of the bytes at places of a file. A place is a number of
 -- bytes before it. Past the end of a file a byte reads as 0, which stands in no class.
-use Rattle.std.specs.Prelude.{◌≡◌, ℕ, ◌+◌, ◌≤◌, ◌<◌, ◌⊎◌, List, Bool, nat_eq, slice_index}
+use Rattle.std.specs.Prelude.{◌≡◌, ℕ, ◌+◌, ◌≤◌, ◌<◌, ◌⊎◌, List, Bool, nat_eq, ◌==◌, slice_index}
 use Rattle.std.specs.List.{list_any}
 use Rattle.std.specs.Cmp.Lexicographic.{pointwise}
 
@@ -35,6 +35,10 @@ IsIndent b = (b ≡ 9) ⊎ (b ≡ 32)
 -- each byte from place `from` to before place `to` is so
 abbrev pub Each : (ℕ → Type 0) → List ℕ → ℕ → ℕ → Type 0
 Each P file from to = (k : ℕ) → from ≤ k → k < to → P (slice_index file k)
+
+-- the byte stands among the bytes
+abbrev pub is_byte_of : List ℕ → ℕ → Bool
+is_byte_of bytes b = list_any (λ c. c == b) bytes
 
 -- the spelling stands in the table
 abbrev pub is_among : List (List ℕ) → List ℕ → Bool

@@ -29,9 +29,14 @@ pub data IsBadChar (file : List ℕ) (quote at bad : ℕ) : Type 0 where
   trigraph : (to : ℕ) → IsUnit file quote at to → at ≤ bad → bad < to → IsTrigraph file bad →
       ((k : ℕ) → at ≤ k → k < bad → ¬ IsTrigraph file k) → IsBadChar file quote at bad
 
+-- the fault is a bad character, after the characters that stand from `from` on
+abbrev pub IsBadAmong : List ℕ → ℕ → ℕ → TokenFault → Type 0
+IsBadAmong file quote from fault =
+    (to count bad : ℕ) × (fault ≡ BadByte bad) × Chars file quote from to count × IsBadChar file quote to bad
+
 -- the line or the file ends at `at`
 abbrev pub IsLineEnd : List ℕ → ℕ → Type 0
-IsLineEnd file at = (at ≡ length file) ⊎ (slice_index file at ≡ 10)
+IsLineEnd file at = (length file ≤ at) ⊎ (slice_index file at ≡ 10)
 
 -- neither a token nor a blank stands at `at`, and this is why
 pub data FaultAt (file : List ℕ) (at : ℕ) : TokenFault → Type 0 where

@@ -1,17 +1,25 @@
 -- Character constants (C11 6.4.4.4) and string literals (6.4.5), without trigraphs (5.2.1.1).
-use Rattle.std.specs.Prelude.{◌≡◌, ◌≢◌, ℕ, suc, ◌+◌, ◌≤◌, ◌<◌, ◌⊎◌, List, codes, slice_index, slice_range, Contains}
-use Rattle.cr_tokens.specs.Bytes.{IsOctalDigit, IsHexDigit, Each}
+use Rattle.std.specs.Prelude.{◌≡◌, ◌≢◌, ℕ, suc, ◌+◌, ◌≤◌, ◌<◌, ◌⊎◌, List, codes, length, slice_index, slice_range, true}
+use Rattle.cr_tokens.specs.Bytes.{IsOctalDigit, IsHexDigit, Each, is_byte_of}
 use Rattle.cr_tokens.specs.Numbers.{number_of}
+
+-- what ends a trigraph
+abbrev pub trigraph_ends : List ℕ
+trigraph_ends = codes "=(/)'<!>-"
 
 -- a trigraph begins at `at`: two question marks, and one of = ( / ) ' < ! > -
 abbrev pub IsTrigraph : List ℕ → ℕ → Type 0
 IsTrigraph file at =
     (slice_index file at ≡ 63) × (slice_index file (at + 1) ≡ 63)
-    × Contains (codes "=(/)'<!>-") (slice_index file (at + 2))
+    × (is_byte_of trigraph_ends (slice_index file (at + 2)) ≡ true)
+
+-- what follows the backslash in a simple escape sequence
+abbrev pub simple_escapes : List ℕ
+simple_escapes = codes "'\"?\\abfnrtv"
 
 -- the simple escape sequences: \' \" \? \\ \a \b \f \n \r \t \v
 pub record IsSimpleEscape (file : List ℕ) (from to : ℕ) : Type 0 where
-  pub letter : Contains (codes "'\"?\\abfnrtv") (slice_index file (from + 1))
+  pub letter : is_byte_of simple_escapes (slice_index file (from + 1)) ≡ true
   pub end : to ≡ from + 2
 
 -- an octal escape sequence: the one to three octal digits that follow, of a value up to 255
@@ -56,6 +64,10 @@ pub data Chars (file : List ℕ) (quote : ℕ) : ℕ → ℕ → ℕ → Type 0 
   none : {at : ℕ} → Chars file quote at at 0
   more : {from to after count : ℕ} →
       IsChar file quote from to → Chars file quote to after count → Chars file quote from after (suc count)
+
+-- the characters of a literal end at `at`: there is a quote, the end of the line or the end of the file
+abbrev pub EndsCharacters : List ℕ → ℕ → ℕ → Type 0
+EndsCharacters file quote at = (length file ≤ at) ⊎ (slice_index file at ≡ quote) ⊎ (slice_index file at ≡ 10)
 
 -- the bytes from `from` to before `to` are a quote, `count` characters, and the same quote
 pub record IsLiteral (file : List ℕ) (quote from to count : ℕ) : Type 0 where

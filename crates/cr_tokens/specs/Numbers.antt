@@ -1,5 +1,5 @@
 -- Preprocessing numbers (C11 6.4.8), and the integer constants among them (6.4.4.1).
-use Rattle.std.specs.Prelude.{◌≡◌, ℕ, ◌+◌, ◌-◌, ◌*◌, ◌^◌, ◌≤◌, ◌<◌, ◌⊎◌, ◌||◌, ◌==◌, List, [], ◌∷◌, codes, Bool, true, false, nat_le, slice_index, take, drop, if◌then◌else◌}
+use Rattle.std.specs.Prelude.{◌≡◌, ℕ, ◌+◌, ◌-◌, ◌*◌, ◌^◌, ◌≤◌, ◌<◌, ◌⊎◌, ◌||◌, ◌==◌, List, [], ◌∷◌, codes, Bool, true, false, nat_le, fold, slice_index, take, drop, if◌then◌else◌}
 use Rattle.std.specs.List.{list_any}
 use Rattle.cr_tokens.specs.declared.number.Base.{Base}
 use Rattle.cr_tokens.specs.declared.number.Base.TheVariants.{Decimal, Octal, Hexadecimal}
@@ -36,14 +36,9 @@ pub record IsNumber (file : List ℕ) (from to : ℕ) : Type 0 where
 abbrev pub digit_value : ℕ → ℕ
 digit_value b = if nat_le b 57 then b - 48 else (if nat_le b 70 then b - 55 else b - 87)
 
--- the number that digits spell in a base, after a number `before`
-abbrev pub number_after : ℕ → ℕ → List ℕ → ℕ
-number_after base before [] = before
-number_after base before (b ∷ bs) = number_after base (before * base + digit_value b) bs
-
 -- the number that digits spell in a base
 abbrev pub number_of : ℕ → List ℕ → ℕ
-number_of base digits = number_after base 0 digits
+number_of base digits = fold (λ n b. n * base + digit_value b) 0 digits
 
 -- an integer constant's base: 0x or 0X stands before hexadecimal digits, octal digits begin with 0
 abbrev pub base_of : List ℕ → Base
@@ -56,7 +51,7 @@ base_of spelling =
 abbrev pub body_of : Base → List ℕ → List ℕ
 body_of Decimal spelling = spelling
 body_of Octal spelling = spelling
-body_of hexaDecimal spelling = drop 2 spelling
+body_of Hexadecimal spelling = drop 2 spelling
 
 abbrev pub radix_of : Base → ℕ
 radix_of Decimal = 10

@@ -1,6 +1,8 @@
 -- Identifiers (C11 6.4.2.1) and keywords (6.4.1).
-use Rattle.std.specs.Prelude.{ℕ, ◌<◌, List, [], ◌∷◌, codes, slice_index}
-use Rattle.cr_tokens.specs.Bytes.{IsNondigit, IsWordByte, Each}
+use Rattle.std.specs.Prelude.{ℕ, ◌<◌, List, [], ◌∷◌, codes, slice_index, if◌then◌else◌}
+use Rattle.cr_tokens.specs.declared.token.TokenKind.{TokenKind}
+use Rattle.cr_tokens.specs.declared.token.TokenKind.TheVariants.{Keyword, Identifier}
+use Rattle.cr_tokens.specs.Bytes.{IsNondigit, IsWordByte, Each, is_among}
 
 -- the bytes from `from` to before `to` are a letter or an underscore, and then letters, digits and
 -- underscores
@@ -21,3 +23,7 @@ keywords =
     ∷ codes "while" ∷ codes "_Alignas" ∷ codes "_Alignof" ∷ codes "_Atomic" ∷ codes "_Bool"
     ∷ codes "_Complex" ∷ codes "_Generic" ∷ codes "_Imaginary" ∷ codes "_Noreturn"
     ∷ codes "_Static_assert" ∷ codes "_Thread_local" ∷ []
+
+-- a word's kind
+abbrev pub word_kind_of : List ℕ → TokenKind
+word_kind_of spelling = if is_among keywords spelling then Keyword else Identifier

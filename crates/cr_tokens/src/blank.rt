@@ -1,5 +1,5 @@
-ghost use Rattle.std.specs.Prelude.{◌≡◌, ◌↔◌, ◌≤◌, ◌<◌, IsTrue, IfOk, IfErr, length, slice_index};
-ghost use Rattle.cr_tokens.specs.Blanks.{IsSplice, EndsLine, OpensComment, StandsFirst, BeginsSkipped, IsPragma};
+ghost use Rattle.std.specs.Prelude.{◌≡◌, ◌≢◌, ◌↔◌, ◌≤◌, ◌<◌, ◌+◌, ℕ, IsTrue, IfOk, IfErr, IfSome, IfNone, length, slice_index};
+ghost use Rattle.cr_tokens.specs.Blanks.{IsSplice, EndsLine, OpensBlock, OpensComment, ClosesBlock, IsComment, StandsFirst, BeginsSkipped, IsPragma};
 ghost use Rattle.cr_tokens.specs.Items.{StandsAt};
 ghost use Rattle.cr_tokens.specs.Faults.{FaultAt};
 
@@ -8,14 +8,15 @@ use crate::item::Item;
 use crate::token::TokenFault;
 
 /// The comment at a place where one opens.
-pub fn comment_at(file: &[u8], at: usize) -> Result<Item, TokenFault> {
-    let end = if byte_at(file, at + 1) == b'/' {
-        line_end(file, at)
-    } else {
-        match block_end(file, at + 2) {
-            Some(end) => end,
-            None => return Err(TokenFault::OpenComment(at as u32)),
-        }
+pub fn comment_at(file: &[u8], at: usize) -> Result<Item, TokenFault>
+    requires inside { at < length file.now }
+    requires short { length file.now ≤ 1048576 }
+    requires opens { OpensComment file.now at }
+    ensures item { IfOk result (StandsAt file.now at) }
+    ensures fault { IfErr result (FaultAt file.now at) }
+{
+    let Some(end) = comment_end(file, at) else {
+        return Err(TokenFault::OpenComment(at as u32));
     };
     match first_splice(file, at, end) {
         Some(bad) => Err(TokenFault::BadByte(bad as u32)),
@@ -23,18 +24,49 @@ pub fn comment_at(file: &[u8], at: usize) -> Result<Item, TokenFault> {
     }
 }
 
-/// The place after the first `*/` from `from` on.
-fn block_end(file: &[u8], from: usize) -> Option<usize> {
+/// Where the comment ends that opens at a place.
+fn comment_end(file: &[u8], at: usize) -> Option<usize>
+    requires inside { at < length file.now }
+    requires opens { OpensComment file.now at }
+    ensures comment { IfSome result (IsComment file.now at) }
+    ensures some { IfSome result (λ to. (at < to) × (to ≤ length file.now)) }
+    ensures block { IfNone result (OpensBlock file.now at) }
+    ensures none { IfNone result ((k : ℕ) → at + 2 ≤ k → ¬ ClosesBlock file.now k) }
+{
+    if byte_at(file, at + 1) == b'/' {
+        return Some(line_end(file, at));
+    }
+    match block_close(file, at + 2) {
+        Some(close) => Some(close + 2),
+        None => None,
+    }
+}
+
+/// The first `*/` from `from` on.
+fn block_close(file: &[u8], from: usize) -> Option<usize>
+    requires { from ≤ length file.now }
+    ensures after { IfSome result (λ close. (from ≤ close) × (close + 2 ≤ length file.now)) }
+    ensures closed { IfSome result (ClosesBlock file.now) }
+    ensures first { IfSome result (λ close. (k : ℕ) → from ≤ k → k < close → ¬ ClosesBlock file.now k) }
+    ensures none { IfNone result ((k : ℕ) → from ≤ k → ¬ ClosesBlock file.now k) }
+{
     for at in from..file.len() {
         if file[at] == b'*' && byte_at(file, at + 1) == b'/' {
-            return Some(at + 2);
+            return Some(at);
         }
     }
     None
 }
 
 /// The first place from `from` to before `to` at which a line is spliced.
-fn first_splice(file: &[u8], from: usize, to: usize) -> Option<usize> {
+fn first_splice(file: &[u8], from: usize, to: usize) -> Option<usize>
+    requires order { from ≤ to }
+    requires inside { to ≤ length file.now }
+    ensures range { IfSome result (λ bad. (from ≤ bad) × (bad < to)) }
+    ensures spliced { IfSome result (IsSplice file.now) }
+    ensures first { IfSome result (λ bad. (k : ℕ) → from ≤ k → k < bad → ¬ IsSplice file.now k) }
+    ensures none { IfNone result ((k : ℕ) → from ≤ k → k < to → ¬ IsSplice file.now k) }
+{
     for at in from..to {
         if is_splice(file, at) {
             return Some(at);
@@ -62,11 +94,23 @@ fn line_end(file: &[u8], from: usize) -> usize
     requires { from ≤ length file.now }
     ensures { EndsLine file.now from result }
 {
-    run_end(file, from, |byte| byte != b'\n')
+    run_end(file, from, is_within_line)
+}
+
+fn is_within_line(byte: u8) -> bool
+    ensures { IsTrue result ↔ (byte ≢ 10) }
+{
+    byte != b'\n'
 }
 
 /// The skipped line at a `#`.
-pub fn skipped_line_at(file: &[u8], at: usize) -> Result<Item, TokenFault> {
+pub fn skipped_line_at(file: &[u8], at: usize) -> Result<Item, TokenFault>
+    requires inside { at < length file.now }
+    requires short { length file.now ≤ 1048576 }
+    requires hash { slice_index file.now at ≡ 35 }
+    ensures item { IfOk result (StandsAt file.now at) }
+    ensures fault { IfErr result (FaultAt file.now at) }
+{
     if begins_skipped(file, at) {
         Ok(Item::Blank(line_end(file, at)))
     } else {

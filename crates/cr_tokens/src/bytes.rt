@@ -1,5 +1,7 @@
-ghost use Rattle.std.specs.Prelude.{◌≡◌, ◌↔◌, ◌≤◌, ◌<◌, ℕ, IsTrue, map, slice_index, length, true, false};
-ghost use Rattle.cr_tokens.specs.Bytes.{is_among as is_among_lem, IsDigit, IsOctalDigit, IsHexDigit, IsNondigit, IsWordByte, IsSpace, IsIndent};
+ghost use Rattle.std.specs.Prelude.{◌≡◌, ◌↔◌, ◌≤◌, ◌<◌, ℕ, IsTrue, slice_index, length, nat_eq, true, false};
+ghost use Rattle.std.specs.List.{list_any};
+ghost use Rattle.std.specs.Cmp.Lexicographic.{pointwise};
+ghost use Rattle.cr_tokens.specs.Bytes.{IsDigit, IsOctalDigit, IsHexDigit, IsNondigit, IsWordByte, IsSpace, IsIndent};
 
 pub fn is_digit(byte: u8) -> bool
     ensures { IsTrue result ↔ IsDigit byte }
@@ -68,7 +70,7 @@ pub fn run_end<F: Fn(u8) -> bool>(file: &[u8], from: usize, class: F) -> usize
 }
 
 pub fn is_among(table: &[&[u8]], spelling: &[u8]) -> bool
-    ensures { result ≡ is_among_lem (map (λ t. t.now) table.now) spelling.now }
+    ensures { result ≡ list_any (λ t. pointwise nat_eq t.now spelling.now) table.now }
 {
     for entry in table {
         if *entry == spelling {

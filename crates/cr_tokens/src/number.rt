@@ -71,7 +71,19 @@ fn is_integer(spelling: &[u8]) -> bool
 {
     let base = base_of(spelling);
     let body = body_of(base, spelling);
-    is_integer_of(base, body, run_end(body, 0, |byte| is_digit_of(base, byte)))
+    is_integer_of(base, body, digits_end(base, body))
+}
+
+fn digits_end(base: Base, body: &[u8]) -> usize
+    ensures inside { result ≤ length body.now }
+    ensures digits { Each (IsDigitOf base) body.now 0 result }
+    ensures stop { result < length body.now → ¬ IsDigitOf base (slice_index body.now result) }
+{
+    match base {
+        Base::Decimal => run_end(body, 0, is_digit),
+        Base::Octal => run_end(body, 0, is_octal_digit),
+        Base::Hexadecimal => run_end(body, 0, is_hex_digit),
+    }
 }
 
 fn is_integer_of(base: Base, body: &[u8], count: usize) -> bool
@@ -104,16 +116,6 @@ fn body_of(base: Base, spelling: &[u8]) -> &[u8]
     match base {
         Base::Decimal | Base::Octal => spelling,
         Base::Hexadecimal => &spelling[2..],
-    }
-}
-
-fn is_digit_of(base: Base, byte: u8) -> bool
-    ensures { IsTrue result ↔ IsDigitOf base byte }
-{
-    match base {
-        Base::Decimal => is_digit(byte),
-        Base::Octal => is_octal_digit(byte),
-        Base::Hexadecimal => is_hex_digit(byte),
     }
 }
 

@@ -1,4 +1,4 @@
-ghost use Rattle.std.specs.Prelude.{◌≡◌, ◌⊎◌, ◌+◌, ◌<◌, ◌++◌, ◌∷◌, [], IfOk, IfErr, OnOk, vec_len};
+ghost use Rattle.std.specs.Prelude.{◌≡◌, ◌⊎◌, ◌≤◌, ◌<◌, ◌++◌, ◌∷◌, [], IfOk, IfErr, OnOk, length};
 ghost use Rattle.cr_tokens.specs.Tokens.{Tokenizes};
 ghost use Rattle.cr_tokens.specs.Faults.{FirstTokenFault};
 
@@ -34,6 +34,9 @@ pub fn read(alloc: Global, file: &[u8]) -> Result<Tokens, TokenFault>
 }
 
 fn keep(list: &mut Vec<Token>, token: Token) -> Result<(), TokenFault>
+    ensures kept { OnOk result (list.new.items ≡ list.old.items ++ token ∷ []) }
+    ensures room { OnOk result (length list.old.items < 262144) }
+    ensures full { IfErr result (λ e. (e ≡ TokenFault.NoMemory) ⊎ ((e ≡ TokenFault.TooMany token.start) × (262144 ≤ length list.old.items))) }
 {
     if list.len() >= MAX_TOKENS {
         return Err(TokenFault::TooMany(token.start));

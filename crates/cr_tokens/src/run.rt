@@ -1,6 +1,6 @@
-ghost use Rattle.std.specs.Prelude.{◌↔◌, IsTrue};
+ghost use Rattle.std.specs.Prelude.{◌≡◌, ◌≤◌, ◌↔◌, IsTrue, length, take, slice_range};
 ghost use Rattle.cr_tokens.specs.Tokens.{Tokenizes};
-ghost use Rattle.cr_tokens.specs.Runs.{spellings, StandsIn};
+ghost use Rattle.cr_tokens.specs.Runs.{spellings, StandsIn, IsWithin, AllWithin};
 
 use crate::token::{Token, Tokens};
 
@@ -25,10 +25,17 @@ pub fn contains(file: &[u8], tokens: &Tokens, text: &[u8], wanted: &Tokens) -> b
 }
 
 fn begins_with(file: &[u8], tokens: &[Token], text: &[u8], run: &[Token]) -> bool
+    requires file { AllWithin file.now tokens.now }
+    requires text { AllWithin text.now run.now }
+    requires room { length run.now ≤ length tokens.now }
+    ensures { IsTrue result ↔ (take (length run.now) (spellings file.now tokens.now) ≡ spellings text.now run.now) }
 {
     tokens.iter().zip(run).all(|(token, wanted)| spelling(file, token) == spelling(text, wanted))
 }
 
-fn spelling<'a>(file: &'a [u8], token: &Token) -> &'a [u8] {
+fn spelling<'a>(file: &'a [u8], token: &Token) -> &'a [u8]
+    requires { IsWithin file.now token.now }
+    ensures { result.now ≡ slice_range file.now token.now.start token.now.end }
+{
     &file[token.start as usize..token.end as usize]
 }

@@ -1,6 +1,6 @@
 ghost use Rattle.std.specs.Prelude.{◌≡◌, ◌≤◌, ◌<◌, length, slice_index};
 ghost use Rattle.cr_tokens.specs.Bytes.{is_among as is_among_lem, IsNondigit};
-ghost use Rattle.cr_tokens.specs.Words.{keywords};
+ghost use Rattle.cr_tokens.specs.Words.{keywords, word_kind_of};
 ghost use Rattle.cr_tokens.specs.Tokens.{IsToken};
 
 use crate::bytes::{is_among, is_word_byte, run_end};
@@ -24,12 +24,17 @@ pub fn word_at(file: &[u8], at: usize) -> Token
     ensures start { result.start ≡ at }
 {
     let end = run_end(file, at, is_word_byte);
-    let kind = if is_keyword(&file[at..end]) {
+    Token::new(word_kind(&file[at..end]), at, end)
+}
+
+fn word_kind(word: &[u8]) -> TokenKind
+    ensures { result ≡ word_kind_of word.now }
+{
+    if is_keyword(word) {
         TokenKind::Keyword
     } else {
         TokenKind::Identifier
-    };
-    Token::new(kind, at, end)
+    }
 }
 
 fn is_keyword(word: &[u8]) -> bool
