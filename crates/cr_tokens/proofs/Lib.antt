@@ -8,3 +8,5 @@ pub mod Longest
 pub mod Signs
 pub mod Integers
 pub mod Files
+pub mod Measures
+pub mod Spellings

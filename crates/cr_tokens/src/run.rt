@@ -1,6 +1,6 @@
-ghost use Rattle.std.specs.Prelude.{◌≡◌, ◌≤◌, ◌↔◌, IsTrue, length, take, slice_range};
+ghost use Rattle.std.specs.Prelude.{◌≤◌, ◌+◌, ◌↔◌, IsTrue, length};
 ghost use Rattle.cr_tokens.specs.Tokens.{Tokenizes};
-ghost use Rattle.cr_tokens.specs.Runs.{spellings, StandsIn, IsWithin, AllWithin};
+ghost use Rattle.cr_tokens.specs.Runs.{spellings, StandsIn, StandsAt, AllWithin};
 
 use crate::token::{Token, Tokens};
 
@@ -16,26 +16,27 @@ pub fn contains(file: &[u8], tokens: &Tokens, text: &[u8], wanted: &Tokens) -> b
     if run.len() > all.len() {
         return false;
     }
-    for first in 0..=all.len() - run.len() {
-        if begins_with(file, &all[first..], text, run) {
+    let places = all.len() - run.len() + 1;
+    for first in 0..places {
+        if stands_at(file, all, text, run, first) {
             return true;
         }
     }
     false
 }
 
-fn begins_with(file: &[u8], tokens: &[Token], text: &[u8], run: &[Token]) -> bool
-    requires file { AllWithin file.now tokens.now }
+/// Whether the tokens `run` of `text` are spelled as those of `file` from `first` on.
+fn stands_at(file: &[u8], all: &[Token], text: &[u8], run: &[Token], first: usize) -> bool
+    requires file { AllWithin file.now all.now }
     requires text { AllWithin text.now run.now }
-    requires room { length run.now ≤ length tokens.now }
-    ensures { IsTrue result ↔ (take (length run.now) (spellings file.now tokens.now) ≡ spellings text.now run.now) }
+    requires room { first + length run.now ≤ length all.now }
+    ensures { IsTrue result ↔ StandsAt first (spellings text.now run.now) (spellings file.now all.now) }
 {
-    tokens.iter().zip(run).all(|(token, wanted)| spelling(file, token) == spelling(text, wanted))
-}
-
-fn spelling<'a>(file: &'a [u8], token: &Token) -> &'a [u8]
-    requires { IsWithin file.now token.now }
-    ensures { result.now ≡ slice_range file.now token.now.start token.now.end }
-{
-    &file[token.start as usize..token.end as usize]
+    for at in 0..run.len() {
+        let is_same = all[first + at].spelling(file) == run[at].spelling(text);
+        if !is_same {
+            return false;
+        }
+    }
+    true
 }

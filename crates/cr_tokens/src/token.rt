@@ -1,4 +1,4 @@
-ghost use Rattle.std.specs.Prelude.{◌≡◌, ◌<◌, ◌^◌};
+ghost use Rattle.std.specs.Prelude.{◌≡◌, ◌<◌, ◌^◌, slice_range};
 
 use thiserror::Error;
 
@@ -51,11 +51,21 @@ pub enum TokenFault {
 }
 
 impl Token {
+    ghost use Rattle.cr_tokens.specs.Runs.{IsWithin};
+
     pub(crate) fn new(kind: TokenKind, start: usize, end: usize) -> Self
         requires start { start < 2 ^ 32 }
         requires end { end < 2 ^ 32 }
         ensures { result ≡ record { kind = kind; start = start; end = end } }
     {
         Token { kind, start: start as u32, end: end as u32 }
+    }
+
+    /// The bytes that spell the token in its file.
+    pub fn spelling<'a>(&self, file: &'a [u8]) -> &'a [u8]
+        requires { IsWithin file.now self.now }
+        ensures { result.now ≡ slice_range file.now self.now.start self.now.end }
+    {
+        &file[self.start as usize..self.end as usize]
     }
 }
