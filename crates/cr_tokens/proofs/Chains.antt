@@ -1,6 +1,5 @@
 -- Sequences of characters grow at their end, and end at one place.
-use Rattle.std.proofs.Common.{◌≡◌, ◌≢◌, ◌⊎◌, inl, inr, ℕ, suc, ◌+◌, ◌≤◌, length, List, refl, sym, ap, arith}
-use Rattle.std.specs.Prelude.{slice_index}
+use Rattle.std.proofs.Common.{◌≡◌, ◌≢◌, inl, inr, ℕ, suc, List, refl, sym, ap, arith}
 use Rattle.cr_tokens.specs.Literals.{Chars, IsChar, EndsCharacters}
 use Rattle.cr_tokens.specs.Literals.Chars.{none, more}
 use Rattle.cr_tokens.specs.Faults.{IsBadChar}

@@ -1,21 +1,19 @@
 -- A token's first byte tells its kind, so where no kind can begin there is no token.
-use Rattle.std.proofs.Common.{◌≡◌, ◌≢◌, ◌⊎◌, inl, inr, ℕ, ◌+◌, ◌-◌, ◌≤◌, ◌<◌, List, [], ◌∷◌, length, true, false, nat_eq, arith, sym, refl, ap, add-zero}
+use Rattle.std.proofs.Common.{◌≡◌, ◌⊎◌, inl, inr, ℕ, ◌+◌, ◌≤◌, ◌<◌, List, length, true, arith, refl, ap, add-zero}
 use Rattle.std.specs.Prelude.{slice_index, slice_range, ◌==◌, nat_le, not, Bool, ◌&&◌, ◌||◌}
 use Rattle.std.specs.List.{list_all}
 use Rattle.cr_tokens.specs.declared.token.Token.{Token}
 use Rattle.cr_tokens.specs.declared.token.TokenKind.{TokenKind}
 use Rattle.cr_tokens.specs.declared.token.TokenKind.TheVariants.{Keyword, Identifier, Integer, Character, Text, Punctuator}
-use Rattle.cr_tokens.specs.declared.token.TokenFault.TheVariants.{BadByte}
 use Rattle.cr_tokens.specs.Bytes.{IsNondigit, IsSpace, IsDigit, IsIndent, IsWordByte}
 use Rattle.cr_tokens.specs.Numbers.{BeginsNumber}
 use Rattle.cr_tokens.specs.Punctuators.{IsPunctuator, punctuators}
-use Rattle.cr_tokens.specs.Blanks.{IsBlank, BeginsSkipped, IsPragma, OpensComment, IsComment, IsBlockComment, IsLineComment}
+use Rattle.cr_tokens.specs.Blanks.{IsBlank, BeginsSkipped, IsPragma, OpensComment}
 use Rattle.cr_tokens.specs.Blanks.IsBlank.{space, comment, skipped}
 use Rattle.cr_tokens.specs.Tokens.{Spells, IsToken}
-use Rattle.cr_tokens.specs.Faults.{IsQuote, FaultAt}
-use Rattle.cr_tokens.specs.Faults.FaultAt.{no_token}
+use Rattle.cr_tokens.specs.Faults.{IsQuote}
 use Rattle.cr_tokens.proofs.Tables.{is_among-all}
-use Rattle.cr_tokens.proofs.Ranges.{slice_range-at, slice_range-short}
+use Rattle.cr_tokens.proofs.Ranges.{slice_range-at}
 
 -- what a token of the kind begins with
 data Begins (file : List ℕ) (from to : ℕ) : Type 0 where
@@ -36,8 +34,8 @@ begins Punctuator file from to s = sign s
 pub no_token_at : (file : List ℕ) (at : ℕ) → ¬ IsNondigit (slice_index file at) → ¬ BeginsNumber file at →
     ¬ IsQuote (slice_index file at) → ((to : ℕ) → at < to → to ≤ length file → ¬ IsPunctuator file at to) →
     (t : Token) → t.start ≡ at → ¬ IsToken file t
-no_token_at file at w n q p t e h = 
-    elim (rw e at (begins t.kind file t.start t.end h.spells)) as (λ _. ⊥) 
+no_token_at file at w n q p t e h =
+    elim (rw e at (begins t.kind file t.start t.end h.spells)) as (λ _. ⊥)
     [ word x ↦ w x | number x ↦ n x | quote x ↦ q x | sign x ↦ p t.end (rw e at h.not_empty) h.inside x ]
 
 -- no blank stands where neither white space, a comment nor # begins
@@ -52,7 +50,7 @@ pub no_hash : (file : List ℕ) (at to : ℕ) → at < to → slice_index file a
 no_hash file at to h e p =
     let first : slice_index (slice_range file at to) 0 ≡ slice_index file (at + 0) = slice_range-at file at to 0 (omega arith) in
     let none : not (slice_index (slice_range file at to) 0 == 35) ≡ true =
-        is_among-all (λ s. not (slice_index s 0 == 35)) punctuators (slice_range file at to) p refl in
+    is_among-all (λ s. not (slice_index s 0 == 35)) punctuators (slice_range file at to) p refl in
     let byte : slice_index (slice_range file at to) 0 ≡ 35 = rw (first, add-zero, e) in
     let absurd_test : not (35 == 35) ≡ true = rw byte at none in
     cc
@@ -62,7 +60,7 @@ pub no_indent_first : (file : List ℕ) (at : ℕ) → IsDigit (slice_index file
 no_indent_first file at (inl d) i = grind arith
 no_indent_first file at (inr p) i =
     let first : slice_index (slice_range file at (at + 6)) 0 ≡ slice_index file (at + 0) =
-            slice_range-at file at (at + 6) 0 (omega arith) in
+    slice_range-at file at (at + 6) 0 (omega arith) in
     let letter : slice_index (slice_range file at (at + 6)) 0 ≡ 112 = ap (λ (s : List ℕ). slice_index s 0) p.letters in
     let byte : slice_index file at ≡ 112 = rw (first, add-zero) at letter in
     grind arith

@@ -1,13 +1,12 @@
 -- An integer constant has its digits in one way.
-use Rattle.std.proofs.Common.{◌≡◌, ◌⊎◌, inl, inr, ℕ, ◌+◌, ◌≤◌, ◌<◌, length, List, [], ◌∷◌, refl, sym, ◌∙◌, ap, arith, true, false, not, Bool, add-zero, get_or-drop}
-use Rattle.std.specs.Prelude.{slice_index, drop, nat_le, ◌&&◌, ◌||◌, ◌==◌}
-use Rattle.std.specs.List.{list_all}
+use Rattle.std.proofs.Common.{◌≡◌, inl, inr, ℕ, ◌+◌, ◌<◌, length, List, refl, arith, true, not, Bool, add-zero, get_or-drop}
+use Rattle.std.specs.Prelude.{slice_index, drop, nat_le, ◌&&◌, ◌||◌}
 use Rattle.cr_tokens.specs.declared.number.Base.{Base}
 use Rattle.cr_tokens.specs.declared.number.Base.TheVariants.{Decimal, Octal, Hexadecimal}
-use Rattle.cr_tokens.specs.Bytes.{IsHexDigit, IsDigit, IsOctalDigit, Each, is_among}
+use Rattle.cr_tokens.specs.Bytes.{IsHexDigit, Each, is_among}
 use Rattle.cr_tokens.specs.Numbers.{IsDigitOf, IsIntegerOf, suffixes}
 use Rattle.cr_tokens.proofs.Tables.{is_among-all}
-use Rattle.cr_tokens.proofs.Places.{each_end, not_past, no_digit, no_octal_digit, no_hex_digit}
+use Rattle.cr_tokens.proofs.Places.{each_end, not_past, no_hex_digit}
 
 is_hex : ℕ → Bool
 is_hex b = nat_le 48 b && nat_le b 57 || nat_le 65 b && nat_le b 70 || nat_le 97 b && nat_le b 102
@@ -32,7 +31,7 @@ suffix_first : (base : Base) (body : List ℕ) (count : ℕ) → is_among suffix
 unfolding is_hex
 suffix_first base body count h d =
     let none : not (is_hex (slice_index (drop count body) 0)) ≡ true =
-            is_among-all (λ s. not (is_hex (slice_index s 0))) suffixes (drop count body) h refl in
+    is_among-all (λ s. not (is_hex (slice_index s 0))) suffixes (drop count body) h refl in
     let first : slice_index (drop count body) 0 ≡ slice_index body (count + 0) = get_or-drop count body 0 0 in
     no_hex (slice_index body count) (rw (first, add-zero) at none) (hex_of base (slice_index body count) d)
 
@@ -40,5 +39,5 @@ pub digits_meet : (base : Base) (body : List ℕ) (count end : ℕ) → IsIntege
     Each (IsDigitOf base) body 0 end → (end < length body → ¬ IsDigitOf base (slice_index body end)) → count ≡ end
 digits_meet base body count end i each stop =
     each_end (IsDigitOf base) body 0 count end i.digits each (omega arith) (omega arith)
-        (suffix_first base body count i.suffix)
-        (not_past (IsDigitOf base) body end (no_zero base) stop)
+    (suffix_first base body count i.suffix)
+    (not_past (IsDigitOf base) body end (no_zero base) stop)

@@ -1,14 +1,14 @@
 -- Nothing longer than a token that is read to its end could be a token at its start.
-use Rattle.std.proofs.Common.{◌≡◌, ◌≢◌, ◌⊎◌, inl, inr, ℕ, suc, ◌+◌, ◌≤◌, ◌<◌, length, List, refl, sym, ◌∙◌, ap, arith, true, false, not, Bool, add-zero}
+use Rattle.std.proofs.Common.{◌≡◌, ◌≢◌, inl, inr, ℕ, ◌+◌, ◌≤◌, ◌<◌, length, List, refl, sym, ◌∙◌, arith, true, false, not, Bool, add-zero}
 use Rattle.std.specs.Prelude.{slice_index, slice_range, nat_le, ◌&&◌, ◌==◌, if◌then◌else◌}
 use Rattle.std.proofs.lemmas.Bool.{cases_lt, cases_eq, cases_order, eq-eqb, le-leb}
 use Rattle.cr_tokens.specs.declared.token.TokenKind.TheVariants.{Keyword, Identifier, Integer, Character, Text, Punctuator}
 use Rattle.cr_tokens.specs.declared.token.Token.{Token}
 use Rattle.cr_tokens.specs.declared.token.TokenKind.{TokenKind}
-use Rattle.cr_tokens.specs.Bytes.{IsNondigit, IsWordByte, IsDigit, Each, is_among}
+use Rattle.cr_tokens.specs.Bytes.{IsNondigit, IsWordByte, IsDigit, is_among}
 use Rattle.cr_tokens.specs.Words.{IsWord, keywords, word_kind_of}
 use Rattle.cr_tokens.specs.Numbers.{IsNumber, IsNumberPart, BeginsNumber, IsInteger}
-use Rattle.cr_tokens.specs.Literals.{IsLiteral, Chars}
+use Rattle.cr_tokens.specs.Literals.{IsLiteral}
 use Rattle.cr_tokens.specs.Punctuators.{IsPunctuator, punctuators}
 use Rattle.cr_tokens.specs.Blanks.{IsBlank, IsSplice, OpensComment}
 use Rattle.cr_tokens.specs.Tokens.{IsLexeme, IsToken, Spells}
@@ -20,7 +20,7 @@ use Rattle.cr_tokens.proofs.Places.{past, no_word_byte}
 use Rattle.cr_tokens.proofs.Tables.{is_among-all}
 use Rattle.cr_tokens.proofs.Ranges.{slice_range-at}
 use Rattle.cr_tokens.proofs.Firsts.{punctuator_no_other, no_blank_at}
-use Rattle.cr_tokens.proofs.Chains.{NoChar, ends-NoChar, Chars-meet}
+use Rattle.cr_tokens.proofs.Chains.{ends-NoChar, Chars-meet}
 
 pub quote_no_backslash : (quote : ℕ) → IsQuote quote → quote ≢ 92
 quote_no_backslash quote (inl e) n = omega arith
@@ -64,7 +64,7 @@ pub literal_meet : (file : List ℕ) (quote from a b n m : ℕ) → IsQuote quot
 literal_meet file quote from a b n m q x y =
     let no_backslash : quote ≢ 92 = quote_no_backslash quote q in
     let met = Chars-meet x.characters (ends-NoChar file quote x.close no_backslash (inr (inl x.close_quote)))
-                y.characters (ends-NoChar file quote y.close no_backslash (inr (inl y.close_quote))) in
+    y.characters (ends-NoChar file quote y.close no_backslash (inr (inl y.close_quote))) in
     (omega (arith, met.0, x.end, y.end), met.1)
 
 pub literal_longest : (file : List ℕ) (quote at to count : ℕ) → IsQuote quote → IsLiteral file quote at to count → at < to →
@@ -73,7 +73,7 @@ literal_longest file quote at to count q x h longer lt (word w) =
     nondigit_no_quote (slice_index file at) w.first (rw x.open_quote q)
 literal_longest file quote at to count q x h longer lt (number n) =
     number_no_quote file at n.first (rw x.open_quote q)
-literal_longest file quote at to count q x h longer lt (character m y) = 
+literal_longest file quote at to count q x h longer lt (character m y) =
     let same : quote ≡ 39 = sym x.open_quote ∙ y.open_quote in
     absurd (omega (arith, lt, (literal_meet file quote at to longer count m q x (rw same y)).0))
 literal_longest file quote at to count q x h longer lt (text m y) =
@@ -96,7 +96,7 @@ literal_IsToken file kind quote at close count q x e h s =
       spells = s;
       longest = λ to lt _. literal_longest file quote at (close + 1) count q x (omega arith) to lt;
       no_comment = no_comment_at file at (quote_no_slash (slice_index file at) first);
-      no_splice = no_splice_at file at (quote_no_backslash (slice_index file at) first) (quote_no_splice (slice_index file at) first)
+      no_splice = no_splice_at file at (quote_no_backslash (slice_index file at) first) (quote_no_splice (slice_index file at) first);
     }
 
 -- what spells a token could be one
@@ -142,7 +142,7 @@ word_IsToken file at end w inside stop =
       spells = word_spells file at end (is_among keywords (slice_range file at end)) refl w;
       longest = λ to lt _. word_longest file at end w stop to lt;
       no_comment = no_comment_at file at no.0;
-      no_splice = no_splice_at file at no.1 no.2
+      no_splice = no_splice_at file at no.1 no.2;
     }
 
 number_no_word : (file : List ℕ) (at : ℕ) → BeginsNumber file at → ¬ IsNondigit (slice_index file at)
@@ -170,13 +170,13 @@ punctuator_no_number file at to h dot (inl d) p = punctuator_no_other file at to
 punctuator_no_number file at to h dot (inr d) p =
     let first : slice_index (slice_range file at to) 0 ≡ slice_index file (at + 0) = slice_range-at file at to 0 (omega arith) in
     let second : slice_index (slice_range file at to) 1 ≡ slice_index file (at + 1) =
-            slice_range-at file at to 1 (dot d.0) in
+    slice_range-at file at to 1 (dot d.0) in
     let none : not (slice_index (slice_range file at to) 0 == 46 && (nat_le 48 (slice_index (slice_range file at to) 1)
-                && nat_le (slice_index (slice_range file at to) 1) 57)) ≡ true =
-            is_among-all (λ s. not (slice_index s 0 == 46 && (nat_le 48 (slice_index s 1) && nat_le (slice_index s 1) 57)))
-                punctuators (slice_range file at to) p refl in
+    && nat_le (slice_index (slice_range file at to) 1) 57)) ≡ true =
+    is_among-all (λ s. not (slice_index s 0 == 46 && (nat_le 48 (slice_index s 1) && nat_le (slice_index s 1) 57)))
+    punctuators (slice_range file at to) p refl in
     no_dot_digit (slice_index (slice_range file at to) 0) (slice_index (slice_range file at to) 1) none
-        (rw (first, add-zero) d.0) (rw second d.1)
+    (rw (first, add-zero) d.0) (rw second d.1)
 
 pub number_longest : (file : List ℕ) (at end : ℕ) → IsNumber file at end → ¬ IsNumberPart file end →
     (to : ℕ) → end < to → ¬ IsLexeme file at to
@@ -197,7 +197,7 @@ number_IsToken file at end n inside stop i =
       spells = (n, i);
       longest = λ to lt _. number_longest file at end n stop to lt;
       no_comment = no_comment_at file at no.0;
-      no_splice = no_splice_at file at no.1 no.2
+      no_splice = no_splice_at file at no.1 no.2;
     }
 
 number_only : (kind : TokenKind) (file : List ℕ) (at end : ℕ) → IsNumber file at end → ¬ IsInteger (slice_range file at end) →
@@ -215,10 +215,12 @@ pub number_no_token : (file : List ℕ) (at end : ℕ) → IsNumber file at end 
 number_no_token file at end n inside stop i t e h =
     let spells : Spells file t.kind at t.end = rw e at h.spells in
     elim (cases_order t.end end) [
-        inl same ↦ number_only t.kind file at end n i (rw same at spells)
+      | inl same ↦ number_only t.kind file at end n i (rw same at spells)
       | inr o ↦ elim o [
-            inl lt ↦ (rw e at h.longest) end lt inside (number n)
-          | inr gt ↦ number_longest file at end n stop t.end gt (lexeme_of t.kind file at t.end spells) ] ]
+        | inl lt ↦ (rw e at h.longest) end lt inside (number n)
+        | inr gt ↦ number_longest file at end n stop t.end gt (lexeme_of t.kind file at t.end spells)
+      ]
+    ]
 
 no_part : (file : List ℕ) (at : ℕ) → slice_index file at ≡ 0 → ¬ IsNumberPart file at
 no_part file at z (inl w) = no_word_byte (rw z at w)
@@ -234,15 +236,17 @@ number_stop file at h p = elim (cases_lt at (length file)) [ inl lt ↦ h lt p |
 pub number_whole : (file : List ℕ) (at end : ℕ) → BeginsNumber file at → at < end →
     ((k : ℕ) → at < k → k < end → IsNumberPart file k) → ¬ IsNumberPart file end → IsNumber file at end
 number_whole file at end b h each stop = record {
-    not_empty = h;
-    first = b;
-    second = λ dot. elim (cases_eq end (at + 1)) [
-        inl e ↦ elim b [
-            inl d ↦ absurd (omega arith)
-          | inr d ↦ absurd (stop (rw e (inl (inr d.1)))) ]
-      | inr n ↦ omega arith ];
-    each = each
-  }
+  not_empty = h;
+  first = b;
+  second = λ dot. elim (cases_eq end (at + 1)) [
+    | inl e ↦ elim b [
+      | inl d ↦ absurd (omega arith)
+      | inr d ↦ absurd (stop (rw e (inl (inr d.1))))
+    ]
+    | inr n ↦ omega arith
+  ];
+  each = each;
+}
 
 number_no_blank : (file : List ℕ) (at : ℕ) → BeginsNumber file at → (to : ℕ) → ¬ IsBlank file at to
 number_no_blank file at (inl d) = no_blank_at file at (λ s. grind arith) (no_comment_at file at (λ e. omega arith)) (λ k. omega (arith, k.hash))
@@ -253,4 +257,4 @@ pub number_fault : (file : List ℕ) (at end : ℕ) → IsNumber file at end →
     ¬ IsNumberPart file end → ¬ IsInteger (slice_range file at end) → FaultAt file at (BadByte at)
 number_fault file at end n lt inside stop i =
     no_token lt (no_comment_at file at (number_no_slash file at n.first).0) (number_no_quote file at n.first)
-        (number_no_blank file at n.first) (number_no_token file at end n inside stop i)
+    (number_no_blank file at n.first) (number_no_token file at end n inside stop i)

@@ -1,17 +1,16 @@
 -- Tokens lie within their file and are no more than its bytes, so its size is at most twelve times its length.
-use Rattle.std.proofs.Common.{◌≡◌, ◌⊎◌, inl, inr, ℕ, zero, suc, ◌+◌, ◌*◌, ◌≤◌, ◌<◌, List, [], ◌∷◌, length, take, refl, sym, arith, true, false, Bool, nat_eq}
-use Rattle.std.specs.Prelude.{sum_by, slice_range, if◌then◌else◌, All, slice_index_or}
+use Rattle.std.proofs.Common.{inl, inr, ℕ, zero, suc, ◌+◌, ◌*◌, ◌≤◌, List, [], ◌∷◌, length, take, arith, true, false, Bool, nat_eq}
+use Rattle.std.specs.Prelude.{sum_by, slice_range, if◌then◌else◌, slice_index_or}
 use Rattle.std.specs.Cmp.Lexicographic.{pointwise}
 use Rattle.std.proofs.lemmas.List.Sums.{sum_by-le, sum_by-take-le}
-use Rattle.std.proofs.lemmas.List.Elements.{All-from_get_or}
 use Rattle.cr_tokens.specs.declared.token.Token.{Token}
 use Rattle.cr_tokens.specs.declared.token.TokenKind.{TokenKind}
 use Rattle.cr_tokens.specs.declared.token.TokenKind.TheVariants.{Keyword, Identifier, Integer, Character, Text, Punctuator}
 use Rattle.cr_tokens.specs.Blanks.{IsBlank}
 use Rattle.cr_tokens.specs.Blanks.IsBlank.{space, comment, skipped}
-use Rattle.cr_tokens.specs.Tokens.{IsToken, FallsInto, Tokenizes}
+use Rattle.cr_tokens.specs.Tokens.{FallsInto, Tokenizes}
 use Rattle.cr_tokens.specs.Tokens.FallsInto.{nothing, blank, token}
-use Rattle.cr_tokens.specs.Size.{weight_of, share_of, size_of}
+use Rattle.cr_tokens.specs.Size.{weight_of, share_of}
 use Rattle.cr_tokens.specs.Runs.{IsWithin, AllWithin}
 
 pub blank_after : (file : List ℕ) (from to : ℕ) → IsBlank file from to → from ≤ to

@@ -1,9 +1,9 @@
 -- Where the bytes of a class end.
-use Rattle.std.proofs.Common.{◌≡◌, ◌⊎◌, inl, inr, ℕ, ◌+◌, ◌≤◌, ◌<◌, List, length, arith, true, false, IsTrue, refl, ap}
-use Rattle.std.specs.Prelude.{slice_index, ◌↔◌}
+use Rattle.std.proofs.Common.{◌≡◌, inl, inr, ℕ, ◌+◌, ◌≤◌, ◌<◌, List, length, arith}
+use Rattle.std.specs.Prelude.{slice_index}
 use Rattle.std.proofs.lemmas.Bool.{cases_lt, cases_eq, cases_order}
 use Rattle.std.proofs.lemmas.List.{get_or_past}
-use Rattle.cr_tokens.specs.Bytes.{Each, IsIndent, IsOctalDigit, IsHexDigit, IsDigit, IsNondigit, IsWordByte}
+use Rattle.cr_tokens.specs.Bytes.{Each, IsIndent, IsOctalDigit, IsHexDigit, IsDigit, IsWordByte}
 
 -- a byte past the end is 0
 pub past : (file : List ℕ) (at : ℕ) → length file ≤ at → slice_index file at ≡ 0

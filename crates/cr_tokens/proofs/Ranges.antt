@@ -1,6 +1,6 @@
 -- The bytes of a part of a file.
-use Rattle.std.proofs.Common.{◌≡◌, ℕ, suc, ◌+◌, ◌-◌, ◌≤◌, ◌<◌, List, [], ◌∷◌, length, get_or, take, drop, arith, refl, ap, get_or-take, get_or-drop, length-take, length-drop, add-one}
-use Rattle.std.specs.Prelude.{slice_index, slice_range, min}
+use Rattle.std.proofs.Common.{◌≡◌, ℕ, ◌+◌, ◌-◌, ◌≤◌, ◌<◌, List, [], ◌∷◌, length, drop, arith, get_or-take, get_or-drop, length-take, length-drop, add-one}
+use Rattle.std.specs.Prelude.{slice_index, slice_range}
 use Rattle.std.proofs.Math.Seq.{drop-cons}
 
 pub slice_range-at : (file : List ℕ) (from to k : ℕ) → from + k < to →

@@ -1,14 +1,13 @@
 -- The longest punctuator at a place is what three bytes begin with.
-use Rattle.std.proofs.Common.{◌≡◌, ◌≢◌, ◌⊎◌, inl, inr, ℕ, ◌+◌, ◌-◌, ◌≤◌, ◌<◌, length, List, [], ◌∷◌, refl, sym, ◌∙◌, ap, arith, true, false, not, Bool}
+use Rattle.std.proofs.Common.{◌≡◌, ◌≢◌, ◌⊎◌, inl, inr, ℕ, ◌+◌, ◌-◌, ◌≤◌, ◌<◌, length, List, [], ◌∷◌, refl, sym, arith, true, false, not, Bool}
 use Rattle.std.specs.Prelude.{slice_index, slice_range, nat_le, ◌&&◌, ◌==◌, if◌then◌else◌}
-use Rattle.std.specs.List.{list_all}
 use Rattle.std.proofs.lemmas.Bool.{cases_eq, leb-true, eq-eqb}
 use Rattle.cr_tokens.specs.declared.token.Token.{Token}
 use Rattle.cr_tokens.specs.declared.token.TokenKind.TheVariants.{Punctuator}
 use Rattle.cr_tokens.specs.Bytes.{is_among, IsNondigit}
 use Rattle.cr_tokens.specs.Numbers.{BeginsNumber}
 use Rattle.cr_tokens.specs.Blanks.{IsSplice, OpensComment}
-use Rattle.cr_tokens.specs.Tokens.{IsLexeme, IsToken}
+use Rattle.cr_tokens.specs.Tokens.{IsToken}
 use Rattle.cr_tokens.specs.Tokens.IsLexeme.{word, number, character, text, punctuator}
 use Rattle.cr_tokens.specs.Faults.{IsQuote}
 use Rattle.cr_tokens.specs.Punctuators.{IsPunctuator, punctuators, punctuator_len}
@@ -39,7 +38,7 @@ three_inside : (file : List ℕ) (at : ℕ) → Three file at ≡ true → at + 
 unfolding Three
 three_inside file at h = byte_inside file (at + 2) (not_zero (slice_index file (at + 2))
     (is_among-all (λ s. not (nat_le 3 (length s) && slice_index s 2 == 0)) punctuators
-        (slice_index file at ∷ slice_index file (at + 1) ∷ slice_index file (at + 2) ∷ []) h refl))
+    (slice_index file at ∷ slice_index file (at + 1) ∷ slice_index file (at + 2) ∷ []) h refl))
 
 pub data Found (file : List ℕ) (at to : ℕ) : Type 0 where
   one : to ≡ at + 1 → One file at ≡ true → Found file at to
@@ -49,7 +48,7 @@ pub data Found (file : List ℕ) (at to : ℕ) : Type 0 where
 short : (file : List ℕ) (at to : ℕ) → to ≤ length file → IsPunctuator file at to → to - at ≤ 3
 short file at to h p =
     let few : nat_le (length (slice_range file at to)) 3 ≡ true =
-            is_among-all (λ s. nat_le (length s) 3) punctuators (slice_range file at to) p refl in
+    is_among-all (λ s. nat_le (length s) 3) punctuators (slice_range file at to) p refl in
     let size : length (slice_range file at to) ≡ to - at = slice_range-length file at to h in
     leb-true (to - at) 3 (rw size at few)
 
@@ -59,19 +58,21 @@ unfolding One Two Three
 punctuator-Found file at to lt inside p =
     let few : to - at ≤ 3 = short file at to inside p in
     elim (cases_eq to (at + 1)) [
-        inl e ↦
+      | inl e ↦
           let bytes : slice_range file at (at + 1) ≡ slice_index file at ∷ [] = slice_range-one file at (omega arith) in
           one e (rw bytes at (rw e at p))
       | inr n ↦ elim (cases_eq to (at + 2)) [
-            inl e ↦
-              let bytes : slice_range file at (at + 2) ≡ slice_index file at ∷ slice_index file (at + 1) ∷ [] =
-                      slice_range-two file at (omega arith) in
-              two e (rw bytes at (rw e at p))
-          | inr m ↦
+        | inl e ↦
+            let bytes : slice_range file at (at + 2) ≡ slice_index file at ∷ slice_index file (at + 1) ∷ [] =
+            slice_range-two file at (omega arith) in
+            two e (rw bytes at (rw e at p))
+        | inr m ↦
             let e : to ≡ at + 3 = omega arith in
             let bytes : slice_range file at (at + 3) ≡ slice_index file at ∷ slice_index file (at + 1) ∷ slice_index file (at + 2) ∷ [] =
-                    slice_range-three file at (omega arith) in
-            three e (rw bytes at (rw e at p)) ] ]
+            slice_range-three file at (omega arith) in
+            three e (rw bytes at (rw e at p))
+      ]
+    ]
 
 -- what the length of the longest punctuator says
 pub record Longest (file : List ℕ) (at len : ℕ) : Type 0 where
@@ -83,21 +84,30 @@ choice : (file : List ℕ) (at len : ℕ) (b3 b2 b1 : Bool) → at < length file
     len ≡ (if b3 then 3 else (if b2 then 2 else (if b1 then 1 else 0))) →
     ((len ≡ 0) × ((to : ℕ) → ¬ Found file at to)) ⊎ (((0 < len) × (len ≤ 3)) × Longest file at len)
 unfolding One Two Three
-choice file at len true b2 b1 h e3 e2 e1 e = inr ((omega arith, omega arith), rw e record {
+choice file at len true b2 b1 h e3 e2 e1 e = inr (
+  (omega arith, omega arith),
+  rw e record {
     inside = omega (arith, three_inside file at (sym e3));
     punctuator = rw (slice_range-three file at (three_inside file at (sym e3))) (sym e3);
-    longest = λ to lt f. elim f [ one x y ↦ omega arith | two x y ↦ omega arith | three x y ↦ omega arith ]
-  })
-choice file at len false true b1 h e3 e2 e1 e = inr ((omega arith, omega arith), rw e record {
+    longest = λ to lt f. elim f [ one x y ↦ omega arith | two x y ↦ omega arith | three x y ↦ omega arith ];
+  },
+)
+choice file at len false true b1 h e3 e2 e1 e = inr (
+  (omega arith, omega arith),
+  rw e record {
     inside = omega (arith, two_inside file at (sym e2));
     punctuator = rw (slice_range-two file at (two_inside file at (sym e2))) (sym e2);
-    longest = λ to lt f. elim f [ one x y ↦ omega arith | two x y ↦ omega arith | three x y ↦ cc ]
-  })
-choice file at len false false true h e3 e2 e1 e = inr ((omega arith, omega arith), rw e record {
+    longest = λ to lt f. elim f [ one x y ↦ omega arith | two x y ↦ omega arith | three x y ↦ cc ];
+  },
+)
+choice file at len false false true h e3 e2 e1 e = inr (
+  (omega arith, omega arith),
+  rw e record {
     inside = omega arith;
     punctuator = rw (slice_range-one file at h) (sym e1);
-    longest = λ to lt f. elim f [ one x y ↦ omega arith | two x y ↦ cc | three x y ↦ cc ]
-  })
+    longest = λ to lt f. elim f [ one x y ↦ omega arith | two x y ↦ cc | three x y ↦ cc ];
+  },
+)
 choice file at len false false false h e3 e2 e1 e =
     inl (e, λ to f. elim f [ one x y ↦ cc | two x y ↦ cc | three x y ↦ cc ])
 
@@ -113,18 +123,19 @@ pub punctuator_IsToken : (file : List ℕ) (at len : ℕ) → Longest file at le
     ¬ OpensComment file at → ¬ IsSplice file at →
     IsToken file (record { kind = Punctuator; start = at; end = at + len })
 punctuator_IsToken file at len l some w n q c s = record {
-    not_empty = omega arith;
-    inside = l.inside;
-    spells = l.punctuator;
-    longest = λ to lt inside x. elim x [
-        word y ↦ w y.first
-      | number y ↦ n y.first
-      | character m y ↦ q (inl y.open_quote)
-      | text m y ↦ q (inr y.open_quote)
-      | punctuator y ↦ l.longest to lt (punctuator-Found file at to (omega arith) inside y) ];
-    no_comment = c;
-    no_splice = s
-  }
+  not_empty = omega arith;
+  inside = l.inside;
+  spells = l.punctuator;
+  longest = λ to lt inside x. elim x [
+    | word y ↦ w y.first
+    | number y ↦ n y.first
+    | character m y ↦ q (inl y.open_quote)
+    | text m y ↦ q (inr y.open_quote)
+    | punctuator y ↦ l.longest to lt (punctuator-Found file at to (omega arith) inside y)
+  ];
+  no_comment = c;
+  no_splice = s;
+}
 
 -- a spliced line is no token
 pub splice_no_token : (file : List ℕ) (at : ℕ) → IsSplice file at → (t : Token) → t.start ≡ at → ¬ IsToken file t

@@ -1,8 +1,8 @@
 -- What holds of each entry of a table holds of what stands in it.
-use Rattle.std.proofs.Common.{◌≡◌, List, [], ◌∷◌, ℕ, Bool, true, false, nat_eq, sym, refl, arith}
+use Rattle.std.proofs.Common.{◌≡◌, List, [], ◌∷◌, ℕ, Bool, true, false, nat_eq, sym, refl}
 use Rattle.std.specs.Prelude.{◌&&◌, ◌||◌, ◌==◌}
 use Rattle.std.proofs.lemmas.Bool.{eqb-true}
-use Rattle.std.specs.List.{list_any, list_all}
+use Rattle.std.specs.List.{list_all}
 use Rattle.std.specs.Cmp.Lexicographic.{pointwise, same_text}
 use Rattle.cr_tokens.specs.Bytes.{is_among, is_byte_of}
 
@@ -24,7 +24,7 @@ pub is_among-all : (p : List ℕ → Bool) (table : List (List ℕ)) (s : List �
 is_among-all p [] s h a = cc
 is_among-all p (t ∷ ts) s h a =
     entry p t s ts (pointwise nat_eq t s) refl h (λ r. is_among-all p ts s r (and-second (p t) (list_all p ts) a))
-        (and-first (p t) (list_all p ts) a)
+    (and-first (p t) (list_all p ts) a)
 
 byte : (p : ℕ → Bool) (c b : ℕ) (cs : List ℕ) (e : Bool) → e ≡ (c == b) →
     (e || is_byte_of cs b) ≡ true → (is_byte_of cs b ≡ true → p b ≡ true) → p c ≡ true → p b ≡ true
@@ -36,4 +36,4 @@ pub is_byte_of-all : (p : ℕ → Bool) (bytes : List ℕ) (b : ℕ) → is_byte
 is_byte_of-all p [] b h a = cc
 is_byte_of-all p (c ∷ cs) b h a =
     byte p c b cs (c == b) refl h (λ r. is_byte_of-all p cs b r (and-second (p c) (list_all p cs) a))
-        (and-first (p c) (list_all p cs) a)
+    (and-first (p c) (list_all p cs) a)

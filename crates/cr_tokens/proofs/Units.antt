@@ -1,9 +1,9 @@
 -- One character of a literal ends at one place.
-use Rattle.std.proofs.Common.{◌≡◌, ◌≢◌, ◌⊎◌, inl, inr, ℕ, ◌+◌, ◌≤◌, ◌<◌, List, length, arith, true, false, not, sym, refl, ap}
-use Rattle.std.specs.Prelude.{slice_index, ◌==◌, nat_le, ◌&&◌, ◌||◌}
-use Rattle.std.proofs.lemmas.Bool.{cases_lt, cases_eq, cases_order}
+use Rattle.std.proofs.Common.{◌≡◌, ◌≢◌, ◌⊎◌, inl, inr, ℕ, ◌+◌, ◌≤◌, ◌<◌, List, length, arith, true, not, refl}
+use Rattle.std.specs.Prelude.{slice_index, ◌==◌, nat_le, ◌&&◌}
+use Rattle.std.proofs.lemmas.Bool.{cases_lt, cases_order}
 use Rattle.cr_tokens.specs.Bytes.{Each, IsOctalDigit, IsHexDigit, is_byte_of}
-use Rattle.cr_tokens.specs.Literals.{IsEscape, IsSimpleEscape, IsOctalEscape, IsHexEscape, IsPlain, IsUnit, IsChar, simple_escapes}
+use Rattle.cr_tokens.specs.Literals.{IsSimpleEscape, IsOctalEscape, IsHexEscape, IsUnit, simple_escapes}
 use Rattle.cr_tokens.proofs.Places.{each_end, past}
 use Rattle.cr_tokens.proofs.Tables.{is_byte_of-all}
 
@@ -12,8 +12,9 @@ pub octal_end : (file : List ℕ) (at a b : ℕ) → at + 1 ≤ a → at + 1 ≤
     (a < at + 4 → ¬ IsOctalDigit (slice_index file a)) → (b < at + 4 → ¬ IsOctalDigit (slice_index file b)) → a ≡ b
 octal_end file at a b fa fb ma mb da db sa sb =
     elim (cases_order a b) [
-        inl e ↦ e
-      | inr o ↦ elim o [ inl lt ↦ absurd (sa (omega arith) (db a fa lt)) | inr gt ↦ absurd (sb (omega arith) (da b fb gt)) ] ]
+      | inl e ↦ e
+      | inr o ↦ elim o [ inl lt ↦ absurd (sa (omega arith) (db a fa lt)) | inr gt ↦ absurd (sb (omega arith) (da b fb gt)) ]
+    ]
 
 -- no simple escape sequence begins as an octal or a hexadecimal one
 simple_octal : (b : ℕ) → is_byte_of simple_escapes b ≡ true → ¬ IsOctalDigit b
@@ -68,8 +69,9 @@ no_unit file quote at to z (inr u) = cc
 
 pub unit_inside : (file : List ℕ) (quote at to : ℕ) → IsUnit file quote at to → at < length file
 unit_inside file quote at to u = elim (cases_lt at (length file)) [
-    inl lt ↦ lt
-  | inr ge ↦ absurd (no_unit file quote at to (past file at ge) u) ]
+  | inl lt ↦ lt
+  | inr ge ↦ absurd (no_unit file quote at to (past file at ge) u)
+]
 
 pub unit_some : (file : List ℕ) (quote at to : ℕ) → IsUnit file quote at to → at < to
 unit_some file quote at to (inl p) = omega (arith, p.1)

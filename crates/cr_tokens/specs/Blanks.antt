@@ -8,7 +8,7 @@ abbrev pub IsSplice : List ℕ → ℕ → Type 0
 IsSplice file at =
     ((slice_index file at ≡ 92) × (slice_index file (at + 1) ≡ 10))
     ⊎ ((slice_index file at ≡ 63) × (slice_index file (at + 1) ≡ 63) × (slice_index file (at + 2) ≡ 47)
-        × (slice_index file (at + 3) ≡ 10))
+    × (slice_index file (at + 3) ≡ 10))
 
 -- `to` is where the line on which `from` stands ends: its LF, or the end of the file
 pub record EndsLine (file : List ℕ) (from to : ℕ) : Type 0 where

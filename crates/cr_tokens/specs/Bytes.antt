@@ -1,6 +1,6 @@
 -- Classes of bytes (C11 5.2.1), and what is said of the bytes at places of a file. A place is a number of
 -- bytes before it. Past the end of a file a byte reads as 0, which stands in no class.
-use Rattle.std.specs.Prelude.{◌≡◌, ℕ, ◌+◌, ◌≤◌, ◌<◌, ◌⊎◌, List, Bool, nat_eq, ◌==◌, slice_index}
+use Rattle.std.specs.Prelude.{◌≡◌, ℕ, ◌≤◌, ◌<◌, ◌⊎◌, List, Bool, nat_eq, ◌==◌, slice_index}
 use Rattle.std.specs.List.{list_any}
 use Rattle.std.specs.Cmp.Lexicographic.{pointwise}
 

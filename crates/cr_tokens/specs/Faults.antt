@@ -3,7 +3,7 @@
 use Rattle.std.specs.Prelude.{◌≡◌, ◌≢◌, ℕ, ◌+◌, ◌≤◌, ◌<◌, ◌⊎◌, List, length, slice_index}
 use Rattle.cr_tokens.specs.declared.token.Token.{Token}
 use Rattle.cr_tokens.specs.declared.token.TokenFault.{TokenFault}
-use Rattle.cr_tokens.specs.declared.token.TokenFault.TheVariants.{NoMemory, TooLong, BadByte, OpenComment, OpenLiteral, TooMany}
+use Rattle.cr_tokens.specs.declared.token.TokenFault.TheVariants.{TooLong, BadByte, OpenComment, OpenLiteral, TooMany}
 use Rattle.cr_tokens.specs.Literals.{Chars, IsUnit, IsTrigraph}
 use Rattle.cr_tokens.specs.Blanks.{IsBlank, IsComment, IsSplice, OpensBlock, OpensComment, ClosesBlock}
 use Rattle.cr_tokens.specs.Tokens.{IsToken, FallsInto}

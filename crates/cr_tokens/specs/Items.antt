@@ -1,6 +1,5 @@
 -- What the reading of a file finds at a place.
 use Rattle.std.specs.Prelude.{◌≡◌, ℕ, ◌≤◌, ◌<◌, List, length}
-use Rattle.cr_tokens.specs.declared.token.Token.{Token}
 use Rattle.cr_tokens.specs.declared.item.Item.{Item}
 use Rattle.cr_tokens.specs.declared.item.Item.TheVariants.{Blank, Spelled}
 use Rattle.cr_tokens.specs.Blanks.{IsBlank}

@@ -1,5 +1,5 @@
 -- Preprocessing numbers (C11 6.4.8), and the integer constants among them (6.4.4.1).
-use Rattle.std.specs.Prelude.{◌≡◌, ℕ, ◌+◌, ◌-◌, ◌*◌, ◌^◌, ◌≤◌, ◌<◌, ◌⊎◌, ◌||◌, ◌==◌, List, [], ◌∷◌, codes, Bool, true, false, nat_le, fold, slice_index, take, drop, if◌then◌else◌}
+use Rattle.std.specs.Prelude.{◌≡◌, ℕ, ◌+◌, ◌-◌, ◌*◌, ◌^◌, ◌<◌, ◌⊎◌, ◌||◌, ◌==◌, List, [], ◌∷◌, codes, Bool, true, false, nat_le, fold, slice_index, take, drop, if◌then◌else◌}
 use Rattle.std.specs.List.{list_any}
 use Rattle.cr_tokens.specs.declared.number.Base.{Base}
 use Rattle.cr_tokens.specs.declared.number.Base.TheVariants.{Decimal, Octal, Hexadecimal}

@@ -150,5 +150,7 @@ fn is_pragma(file: &[u8], at: usize) -> bool
     requires { at ≤ length file.now }
     ensures { IsTrue result ↔ IsPragma file.now at }
 {
-    file.len() - at >= 6 && &file[at..at + 6] == b"pragma".as_slice() && !is_word_byte(byte_at(file, at + 6))
+    file.len() - at >= 6
+        && &file[at..at + 6] == b"pragma".as_slice()
+        && !is_word_byte(byte_at(file, at + 6))
 }

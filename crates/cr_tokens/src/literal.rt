@@ -109,7 +109,10 @@ fn is_trigraph(file: &[u8], at: usize) -> bool
 fn ends_trigraph(byte: u8) -> bool
     ensures { result ≡ is_byte_of trigraph_ends byte }
 {
-    matches!(byte, b'=' | b'(' | b'/' | b')' | b'\'' | b'<' | b'!' | b'>' | b'-')
+    matches!(
+        byte,
+        b'=' | b'(' | b'/' | b')' | b'\'' | b'<' | b'!' | b'>' | b'-'
+    )
 }
 
 /// Where the plain byte or the escape sequence ends that begins at a place.
@@ -122,7 +125,11 @@ fn unit_end(file: &[u8], quote: u8, at: usize) -> Option<usize>
     if file[at] == b'\\' {
         return escape_end(file, at);
     }
-    if is_plain(quote, file[at]) { Some(at + 1) } else { None }
+    if is_plain(quote, file[at]) {
+        Some(at + 1)
+    } else {
+        None
+    }
 }
 
 fn is_plain(quote: u8, byte: u8) -> bool
@@ -153,7 +160,10 @@ fn escape_end(file: &[u8], at: usize) -> Option<usize>
 fn is_simple_escape(byte: u8) -> bool
     ensures { result ≡ is_byte_of simple_escapes byte }
 {
-    matches!(byte, b'\'' | b'"' | b'?' | b'\\' | b'a' | b'b' | b'f' | b'n' | b'r' | b't' | b'v')
+    matches!(
+        byte,
+        b'\'' | b'"' | b'?' | b'\\' | b'a' | b'b' | b'f' | b'n' | b'r' | b't' | b'v'
+    )
 }
 
 fn octal_escape_end(file: &[u8], at: usize) -> Option<usize>

@@ -6,7 +6,9 @@ ghost use Rattle.cr_tokens.specs.Numbers.{radix_of as radix_of_lem, is_unsigned 
 ghost use Rattle.cr_tokens.specs.Items.{StandsAt};
 ghost use Rattle.cr_tokens.specs.Faults.{FaultAt};
 
-use crate::bytes::{byte_at, is_among, is_digit, is_hex_digit, is_octal_digit, is_word_byte, run_end};
+use crate::bytes::{
+    byte_at, is_among, is_digit, is_hex_digit, is_octal_digit, is_word_byte, run_end,
+};
 use crate::item::Item;
 use crate::token::{Token, TokenFault, TokenKind};
 

@@ -2,10 +2,9 @@ ghost use Rattle.std.specs.Prelude.{◌≡◌, ◌⊎◌, ◌≤◌, ◌<◌, �
 ghost use Rattle.cr_tokens.specs.Tokens.{Tokenizes};
 ghost use Rattle.cr_tokens.specs.Faults.{FirstTokenFault};
 
-use std::alloc::Global;
-
 use crate::item::{Item, item_at};
 use crate::token::{MAX_BYTES, MAX_TOKENS, Token, TokenFault, Tokens};
+use std::alloc::Global;
 
 /// The tokens of a file, or its first fault.
 pub fn read(alloc: Global, file: &[u8]) -> Result<Tokens, TokenFault>

@@ -1,9 +1,8 @@
+use crate::token::TokenKind::{Character, Identifier, Integer, Keyword, Punctuator, Text};
+use crate::{TokenFault, TokenKind, contains, read, size};
 use std::alloc::Global;
 use std::process::Abort;
 use std::test::Fail;
-
-use crate::token::TokenKind::{Character, Identifier, Integer, Keyword, Punctuator, Text};
-use crate::{TokenFault, TokenKind, contains, read, size};
 
 type Spelled = (TokenKind, &'static [u8]);
 
@@ -12,34 +11,119 @@ const LISTS: [(&[u8], &[Spelled]); 58] = [
     (b"", &[]),
     (b" ", &[]),
     (b"\t\x0b\x0c\r\n", &[]),
-    (b"a+++b", &[(Identifier, b"a"), (Punctuator, b"++"), (Punctuator, b"+"), (Identifier, b"b")]),
-    (b"x>>=1", &[(Identifier, b"x"), (Punctuator, b">>="), (Integer, b"1")]),
+    (
+        b"a+++b",
+        &[
+            (Identifier, b"a"),
+            (Punctuator, b"++"),
+            (Punctuator, b"+"),
+            (Identifier, b"b"),
+        ],
+    ),
+    (
+        b"x>>=1",
+        &[(Identifier, b"x"), (Punctuator, b">>="), (Integer, b"1")],
+    ),
     (b"...", &[(Punctuator, b"...")]),
     (b"..", &[(Punctuator, b"."), (Punctuator, b".")]),
     (b"....", &[(Punctuator, b"..."), (Punctuator, b".")]),
-    (b"p->x", &[(Identifier, b"p"), (Punctuator, b"->"), (Identifier, b"x")]),
+    (
+        b"p->x",
+        &[(Identifier, b"p"), (Punctuator, b"->"), (Identifier, b"x")],
+    ),
     (b"-->", &[(Punctuator, b"--"), (Punctuator, b">")]),
     (b"0x1fUL", &[(Integer, b"0x1fUL")]),
     (b"0X1F", &[(Integer, b"0X1F")]),
-    (b"1u 1lu 1llU 1LLu 1ULL", &[(Integer, b"1u"), (Integer, b"1lu"), (Integer, b"1llU"), (Integer, b"1LLu"), (Integer, b"1ULL")]),
+    (
+        b"1u 1lu 1llU 1LLu 1ULL",
+        &[
+            (Integer, b"1u"),
+            (Integer, b"1lu"),
+            (Integer, b"1llU"),
+            (Integer, b"1LLu"),
+            (Integer, b"1ULL"),
+        ],
+    ),
     (b"017", &[(Integer, b"017")]),
     (b"0", &[(Integer, b"0")]),
     (b"9223372036854775807", &[(Integer, b"9223372036854775807")]),
-    (b"9223372036854775808u", &[(Integer, b"9223372036854775808u")]),
-    (b"18446744073709551615U", &[(Integer, b"18446744073709551615U")]),
+    (
+        b"9223372036854775808u",
+        &[(Integer, b"9223372036854775808u")],
+    ),
+    (
+        b"18446744073709551615U",
+        &[(Integer, b"18446744073709551615U")],
+    ),
     (b"0xffffffffffffffff", &[(Integer, b"0xffffffffffffffff")]),
-    (b"01777777777777777777777", &[(Integer, b"01777777777777777777777")]),
-    (b"00000000000000000000000000", &[(Integer, b"00000000000000000000000000")]),
-    (b"_Bool int1 int", &[(Keyword, b"_Bool"), (Identifier, b"int1"), (Keyword, b"int")]),
-    (b"_Thread_local _Static_assert autos", &[(Keyword, b"_Thread_local"), (Keyword, b"_Static_assert"), (Identifier, b"autos")]),
+    (
+        b"01777777777777777777777",
+        &[(Integer, b"01777777777777777777777")],
+    ),
+    (
+        b"00000000000000000000000000",
+        &[(Integer, b"00000000000000000000000000")],
+    ),
+    (
+        b"_Bool int1 int",
+        &[
+            (Keyword, b"_Bool"),
+            (Identifier, b"int1"),
+            (Keyword, b"int"),
+        ],
+    ),
+    (
+        b"_Thread_local _Static_assert autos",
+        &[
+            (Keyword, b"_Thread_local"),
+            (Keyword, b"_Static_assert"),
+            (Identifier, b"autos"),
+        ],
+    ),
     (b"_a9Z", &[(Identifier, b"_a9Z")]),
     (b"%:", &[(Punctuator, b"%"), (Punctuator, b":")]),
     (b"<:", &[(Punctuator, b"<"), (Punctuator, b":")]),
     (b"<<<=", &[(Punctuator, b"<<"), (Punctuator, b"<=")]),
-    (b"a?b:c", &[(Identifier, b"a"), (Punctuator, b"?"), (Identifier, b"b"), (Punctuator, b":"), (Identifier, b"c")]),
-    (b"??=", &[(Punctuator, b"?"), (Punctuator, b"?"), (Punctuator, b"=")]),
-    (b"!=^=|=&=%=/=*=", &[(Punctuator, b"!="), (Punctuator, b"^="), (Punctuator, b"|="), (Punctuator, b"&="), (Punctuator, b"%="), (Punctuator, b"/="), (Punctuator, b"*=")]),
-    (b"[](){}~,;", &[(Punctuator, b"["), (Punctuator, b"]"), (Punctuator, b"("), (Punctuator, b")"), (Punctuator, b"{"), (Punctuator, b"}"), (Punctuator, b"~"), (Punctuator, b","), (Punctuator, b";")]),
+    (
+        b"a?b:c",
+        &[
+            (Identifier, b"a"),
+            (Punctuator, b"?"),
+            (Identifier, b"b"),
+            (Punctuator, b":"),
+            (Identifier, b"c"),
+        ],
+    ),
+    (
+        b"??=",
+        &[(Punctuator, b"?"), (Punctuator, b"?"), (Punctuator, b"=")],
+    ),
+    (
+        b"!=^=|=&=%=/=*=",
+        &[
+            (Punctuator, b"!="),
+            (Punctuator, b"^="),
+            (Punctuator, b"|="),
+            (Punctuator, b"&="),
+            (Punctuator, b"%="),
+            (Punctuator, b"/="),
+            (Punctuator, b"*="),
+        ],
+    ),
+    (
+        b"[](){}~,;",
+        &[
+            (Punctuator, b"["),
+            (Punctuator, b"]"),
+            (Punctuator, b"("),
+            (Punctuator, b")"),
+            (Punctuator, b"{"),
+            (Punctuator, b"}"),
+            (Punctuator, b"~"),
+            (Punctuator, b","),
+            (Punctuator, b";"),
+        ],
+    ),
     (b"/ =", &[(Punctuator, b"/"), (Punctuator, b"=")]),
     (b"'a'", &[(Character, b"'a'")]),
     (b"'\"'", &[(Character, b"'\"'")]),
@@ -47,16 +131,25 @@ const LISTS: [(&[u8], &[Spelled]); 58] = [
     (b"'\\377'", &[(Character, b"'\\377'")]),
     (b"'\\0'", &[(Character, b"'\\0'")]),
     (b"'\\x000000ff'", &[(Character, b"'\\x000000ff'")]),
-    (b"\"\\'\\\"\\?\\\\\\a\\b\\f\\n\\r\\t\\v\"", &[(Text, b"\"\\'\\\"\\?\\\\\\a\\b\\f\\n\\r\\t\\v\"")]),
+    (
+        b"\"\\'\\\"\\?\\\\\\a\\b\\f\\n\\r\\t\\v\"",
+        &[(Text, b"\"\\'\\\"\\?\\\\\\a\\b\\f\\n\\r\\t\\v\"")],
+    ),
     (b"\"\"", &[(Text, b"\"\"")]),
     (b"\"a\"\"b\"", &[(Text, b"\"a\""), (Text, b"\"b\"")]),
     (b"\"\\1234\"", &[(Text, b"\"\\1234\"")]),
     (b"\"\\08\"", &[(Text, b"\"\\08\"")]),
     (b"\"\x80\xff\"", &[(Text, b"\"\x80\xff\"")]),
     (b"\"/*\" x", &[(Text, b"\"/*\""), (Identifier, b"x")]),
-    (b"\"?\" \"a??\" \"???\"", &[(Text, b"\"?\""), (Text, b"\"a??\""), (Text, b"\"???\"")]),
+    (
+        b"\"?\" \"a??\" \"???\"",
+        &[(Text, b"\"?\""), (Text, b"\"a??\""), (Text, b"\"???\"")],
+    ),
     (b"/**/", &[]),
-    (b"a/* \" ' // \x00\xff */b", &[(Identifier, b"a"), (Identifier, b"b")]),
+    (
+        b"a/* \" ' // \x00\xff */b",
+        &[(Identifier, b"a"), (Identifier, b"b")],
+    ),
     (b"/***/x", &[(Identifier, b"x")]),
     (b"//", &[]),
     (b"// \" /*\nx", &[(Identifier, b"x")]),
@@ -66,7 +159,15 @@ const LISTS: [(&[u8], &[Spelled]); 58] = [
     (b"\t# \t pragma\n#7", &[]),
     (b"x\n# 1 /*\ny", &[(Identifier, b"x"), (Identifier, b"y")]),
     (b"/*\n# 1 */x", &[(Identifier, b"x")]),
-    (b"a+ +b", &[(Identifier, b"a"), (Punctuator, b"+"), (Punctuator, b"+"), (Identifier, b"b")]),
+    (
+        b"a+ +b",
+        &[
+            (Identifier, b"a"),
+            (Punctuator, b"+"),
+            (Punctuator, b"+"),
+            (Identifier, b"b"),
+        ],
+    ),
 ];
 
 // Texts and their first faults.

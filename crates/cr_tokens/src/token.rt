@@ -58,7 +58,11 @@ impl Token {
         requires end { end < 2 ^ 32 }
         ensures { result ≡ record { kind = kind; start = start; end = end } }
     {
-        Token { kind, start: start as u32, end: end as u32 }
+        Token {
+            kind,
+            start: start as u32,
+            end: end as u32,
+        }
     }
 
     /// The bytes that spell the token in its file.

@@ -11,5 +11,5 @@ returns-in-Some-first_splice-clause-fault c = spliced (record {
   after = c.in-Some-first_splice.ensures.range.0;
   inside = c.in-Some-first_splice.ensures.range.1;
   spliced = c.in-Some-first_splice.ensures.spliced;
-  first = c.in-Some-first_splice.ensures.first
+  first = c.in-Some-first_splice.ensures.first;
 })

@@ -1,4 +1,4 @@
-use Rattle.std.proofs.Common.{◌≡◌, ◌≢◌, ◌⊎◌, inl, inr, ℕ, ◌≤◌, ◌<◌, length, slice_index, arith}
+use Rattle.std.proofs.Common.{slice_index, arith}
 use Rattle.cr_tokens.specs.Bytes.{IsNondigit, IsSpace}
 use Rattle.cr_tokens.specs.Numbers.{BeginsNumber}
 use Rattle.cr_tokens.specs.Blanks.{OpensComment, BeginsSkipped}
@@ -17,4 +17,4 @@ returns-else-begins_skipped-clause-fault c =
     let no_word : ¬ IsNondigit (slice_index c.args.file.now c.args.at) = grind arith in
     let no_number : ¬ BeginsNumber c.args.file.now c.args.at = grind arith in
     no_token c.requires.inside no_comment no_quote (no_blank_at _ _ no_space no_comment no_skip)
-      (no_token_at _ _ no_word no_number no_quote (λ to a b. no_hash _ _ to a c.requires.hash))
+    (no_token_at _ _ no_word no_number no_quote (λ to a b. no_hash _ _ to a c.requires.hash))

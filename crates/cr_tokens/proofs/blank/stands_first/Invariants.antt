@@ -1,4 +1,3 @@
-use Rattle.std.proofs.Common.{ℕ, ◌≤◌, ◌<◌}
 use Rattle.cr_tokens.specs.Bytes.{IsIndent, Each}
 use Rattle.cr_tokens.proofs.blank.stands_first.Given as goal
 

@@ -1,4 +1,4 @@
-use Rattle.std.proofs.Common.{◌≡◌, ℕ, ◌+◌, ◌≤◌, ◌<◌, length, refl, arith, add-one}
+use Rattle.std.proofs.Common.{arith, add-one}
 use Rattle.cr_tokens.specs.Literals.Chars.{none}
 use Rattle.cr_tokens.proofs.Chains.{Chars-snoc}
 use Rattle.cr_tokens.proofs.literal.characters_at.Goals as goal
@@ -11,5 +11,5 @@ loop-end-preserved c = record {
   inside = c.in_ok-end.ensures.some.1;
   after = omega (arith, c.in_ok-end.ensures.some);
   few = omega (arith, c.in_ok-end.ensures.some);
-  characters = rw add-one (Chars-snoc c.loop-end.invariant.characters c.in_ok-end.ensures.char)
+  characters = rw add-one (Chars-snoc c.loop-end.invariant.characters c.in_ok-end.ensures.char);
 }

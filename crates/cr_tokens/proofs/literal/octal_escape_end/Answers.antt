@@ -1,5 +1,5 @@
-use Rattle.std.proofs.Common.{◌≡◌, ℕ, ◌+◌, ◌≤◌, ◌<◌, length, List, refl, arith}
-use Rattle.std.specs.Prelude.{slice_index, min}
+use Rattle.std.proofs.Common.{◌≡◌, ℕ, ◌+◌, List, arith}
+use Rattle.std.specs.Prelude.{slice_index}
 use Rattle.cr_tokens.specs.Bytes.{IsOctalDigit}
 use Rattle.cr_tokens.specs.Literals.{IsOctalEscape}
 use Rattle.cr_tokens.proofs.Places.{not_past, no_octal_digit}
@@ -13,6 +13,6 @@ pub returns-then-end-at-clause-none : goal.returns-then-end-at-clause-none
 returns-then-end-at-clause-none c to =
     let at_once : c.run_end.result ≡ c.args.at + 1 = omega (arith, c.run_end.ensures.after) in
     let no_digit : ¬ IsOctalDigit (slice_index c.args.file.now c.run_end.result) =
-            not_past IsOctalDigit c.args.file.now c.run_end.result no_octal_digit
-                (λ lt i. absurd (cc ((c.run_end.ensures.stop lt).1 i))) in
+    not_past IsOctalDigit c.args.file.now c.run_end.result no_octal_digit
+    (λ lt i. absurd (cc ((c.run_end.ensures.stop lt).1 i))) in
     none_there c.args.file.now c.args.at to (rw at_once at no_digit)

@@ -1,4 +1,4 @@
-use Rattle.std.proofs.Common.{◌⊎◌, inl, inr, ◌≡◌, ℕ, Some, None, Option, arith, List}
+use Rattle.std.proofs.Common.{inl, inr, ◌≡◌, ℕ, Some, None, Option, List}
 use Rattle.std.specs.Prelude.{slice_index, IfNone}
 use Rattle.cr_tokens.specs.Literals.{IsUnit, IsEscape}
 use Rattle.cr_tokens.proofs.literal.unit_end.Goals as goal

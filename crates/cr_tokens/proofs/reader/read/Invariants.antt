@@ -6,7 +6,7 @@ abbrev pub invariant-loop-at : goal.invariant-loop-at
 invariant-loop-at l = record {
   inside : l.at ≤ length l.file;
   few : length l.list.items ≤ 262144;
-  falls : FallsInto l.file 0 l.at l.list.items
+  falls : FallsInto l.file 0 l.at l.list.items;
 }
 
 abbrev pub decreases-loop-at : goal.decreases-loop-at
