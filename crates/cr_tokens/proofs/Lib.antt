@@ -1,1 +1,12 @@
-mod RiseLemmas
+pub mod Places
+pub mod Tables
+pub mod Ranges
+pub mod Firsts
+pub mod Units
+pub mod Chains
+pub mod Longest
+pub mod Signs
+pub mod Integers
+pub mod Files
+pub mod Measures
+pub mod Spellings

@@ -1,3 +1,5 @@
+ghost use Rattle.std.specs.Prelude.{◌≡◌, ◌<◌, ◌^◌, slice_range};
+
 use thiserror::Error;
 
 /// The bytes of the longest file that is read.
@@ -46,4 +48,28 @@ pub enum TokenFault {
     OpenLiteral(u32),
     #[error("more than 262144 tokens, at {0}")]
     TooMany(u32),
+}
+
+impl Token {
+    ghost use Rattle.cr_tokens.specs.Runs.{IsWithin};
+
+    pub(crate) fn new(kind: TokenKind, start: usize, end: usize) -> Self
+        requires start { start < 2 ^ 32 }
+        requires end { end < 2 ^ 32 }
+        ensures { result ≡ record { kind = kind; start = start; end = end } }
+    {
+        Token {
+            kind,
+            start: start as u32,
+            end: end as u32,
+        }
+    }
+
+    /// The bytes that spell the token in its file.
+    pub fn spelling<'a>(&self, file: &'a [u8]) -> &'a [u8]
+        requires { IsWithin file.now self.now }
+        ensures { result.now ≡ slice_range file.now self.now.start self.now.end }
+    {
+        &file[self.start as usize..self.end as usize]
+    }
 }
