@@ -7,3 +7,5 @@ pub mod MemSink
 pub mod Scripts
 pub mod Scripted
 pub mod Question
+pub mod HasText
+pub mod Test

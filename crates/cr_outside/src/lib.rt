@@ -14,6 +14,7 @@ mod question;
 mod script;
 mod scripted;
 mod sink;
+mod test;
 
 pub use files::{FileFault, Files, NoMemory, ReadAnswer};
 pub use has::Has;
@@ -24,3 +25,4 @@ pub use question::Question;
 pub use script::Script;
 pub use scripted::{Asked, Scripted};
 pub use sink::{Sink, SinkFault};
+pub use test::{Test, TestFault};

@@ -86,6 +86,16 @@ rejected_of_chain s now limit file e chain is = fixed_in_run s now limit file e 
 pub told_of_chain : (s : Search) (now : Option (List Call)) (limit : Option ℕ) (file : List ℕ) (e : End) → EndsInRun s now limit file e → IsAllTold s → EndsAsTold s limit file e
 told_of_chain s now limit file e chain told = ends_as_told s now limit (start_of file) e e.why told chain
 
+within_zero : (limit : Option ℕ) → Within limit 0
+within_zero None = tt
+within_zero (Some most) = omega arith
+
 -- no memory at the beginning
 pub nothing_done : (s : Search) (now : Option (List Call)) (limit : Option ℕ) (file : List ℕ) (e : End) → e.file.items ≡ file → e.accepted.items ≡ [] → e.turns ≡ 0 → e.why ≡ NoMemory → EndsInRun s now limit file e
-nothing_done s now limit file e file_is none zero_turns why_is = ?
+nothing_done s now limit file e file_is none zero_turns why_is =
+    let here = stops_here s.proposals (AcceptsInRun s now) (RejectsInRun s now) (start_of file) (omega arith) in
+    let same : ends (start_of file) here.0 ≡ outcome_of e here.0 = λ i. record { file = sym file_is i; accepted = sym none i; turns = sym zero_turns i; why = here.0 } in
+    subst (λ why. EndsBy (λ most out. ReducesInRun s now most (start_of file) out) limit e why) (sym why_is) (
+      subst (Within limit) (sym zero_turns) (within_zero limit),
+      (here.0, subst (λ turns. ReducesInRun s now (Some turns) (start_of file) (outcome_of e here.0)) (sym zero_turns) (subst (λ out. ReducesInRun s now (Some 0) (start_of file) out) same here.1)),
+    )

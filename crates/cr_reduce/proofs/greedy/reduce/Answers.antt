@@ -1,4 +1,5 @@
-use Rattle.std.proofs.Common.{refl}
+use Rattle.std.proofs.Common.{refl, ap}
+use Rattle.cr_reduce.specs.declared.end.Why.TheVariants.{NoMemory}
 use Rattle.cr_reduce.specs.Bench.{first_calls, first_count, first_says}
 use Rattle.cr_reduce.specs.Ends.{EndsInRun}
 use Rattle.cr_reduce.specs.Search.{search_of}
@@ -35,7 +36,11 @@ returns-in-Ok-clause-fixed_point g c = λ told is.
     (state_of c.in-Ok.walk) c.walk_on-why.new.walk c.walk_on-why.result c.end_of.result c.in-Ok.ensures.start c.end_of.ensures c.walk_on-why.ensures.walked c.walk_on-why.ensures.ended c.walk_on-why.ensures.placed c.walk_on-why.ensures.within) is)
 
 pub returns-in-Err-clause-chain : goal.returns-in-Err-clause-chain
-returns-in-Err-clause-chain g c = ?
+returns-in-Err-clause-chain g c =
+    let s = search_of (g.P.Passes.widths c.args.passes.now) (g.P.Passes.bytes c.args.passes.now) (g.L.Law.lawful c.args.law.now) (g.Q.Question.asks c.args.question.now) (g.Q.Question.tells c.args.question.now) (first_says g.J.Judge.key g.J.Judge.says c.args.bench.now) c.args.name.now (first_calls g.J.Judge.calls c.args.bench.now) in
+    (nothing_done s (first_calls g.J.Judge.calls c.args.bench.now) c.args.plan.now.limit c.args.file.items (record { file = c.in-Err.file; accepted = c.new.result; turns = 0; why = NoMemory }) (ap (λ v. v.items) c.in-Err.ensures.back) c.new.ensures.items refl refl)
 
 pub returns-in-Err-clause-reduction : goal.returns-in-Err-clause-reduction
-returns-in-Err-clause-reduction g c = ?
+returns-in-Err-clause-reduction g c =
+    let s = search_of (g.P.Passes.widths c.args.passes.now) (g.P.Passes.bytes c.args.passes.now) (g.L.Law.lawful c.args.law.now) (g.Q.Question.asks c.args.question.now) (g.Q.Question.tells c.args.question.now) (first_says g.J.Judge.key g.J.Judge.says c.args.bench.now) c.args.name.now (first_calls g.J.Judge.calls c.args.bench.now) in
+    told_of_chain s (first_calls g.J.Judge.calls c.args.bench.now) c.args.plan.now.limit c.args.file.items (record { file = c.in-Err.file; accepted = c.new.result; turns = 0; why = NoMemory }) (nothing_done s (first_calls g.J.Judge.calls c.args.bench.now) c.args.plan.now.limit c.args.file.items (record { file = c.in-Err.file; accepted = c.new.result; turns = 0; why = NoMemory }) (ap (λ v. v.items) c.in-Err.ensures.back) c.new.ensures.items refl refl)
