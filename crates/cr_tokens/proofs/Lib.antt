@@ -8,5 +8,8 @@ pub mod Longest
 pub mod Signs
 pub mod Integers
 pub mod Files
+pub mod Uniques
+pub mod Wholes
+pub mod Faults
 pub mod Measures
 pub mod Spellings

@@ -26,14 +26,14 @@ pub quote_no_backslash : (quote : ℕ) → IsQuote quote → quote ≢ 92
 quote_no_backslash quote (inl e) n = omega arith
 quote_no_backslash quote (inr e) n = omega arith
 
-nondigit_no_quote : (b : ℕ) → IsNondigit b → ¬ IsQuote b
+pub nondigit_no_quote : (b : ℕ) → IsNondigit b → ¬ IsQuote b
 nondigit_no_quote b n q = grind arith
 
-number_no_quote : (file : List ℕ) (at : ℕ) → BeginsNumber file at → ¬ IsQuote (slice_index file at)
+pub number_no_quote : (file : List ℕ) (at : ℕ) → BeginsNumber file at → ¬ IsQuote (slice_index file at)
 number_no_quote file at (inl d) q = grind arith
 number_no_quote file at (inr d) q = grind arith
 
-quote_no_slash : (b : ℕ) → IsQuote b → b ≢ 47
+pub quote_no_slash : (b : ℕ) → IsQuote b → b ≢ 47
 quote_no_slash b (inl e) n = omega arith
 quote_no_slash b (inr e) n = omega arith
 
@@ -41,7 +41,7 @@ quote_no_splice : (b : ℕ) → IsQuote b → b ≢ 63
 quote_no_splice b (inl e) n = omega arith
 quote_no_splice b (inr e) n = omega arith
 
-quote_some : (b : ℕ) → IsQuote b → b ≢ 0
+pub quote_some : (b : ℕ) → IsQuote b → b ≢ 0
 quote_some b (inl e) n = omega arith
 quote_some b (inr e) n = omega arith
 
@@ -145,7 +145,7 @@ word_IsToken file at end w inside stop =
       no_splice = no_splice_at file at no.1 no.2;
     }
 
-number_no_word : (file : List ℕ) (at : ℕ) → BeginsNumber file at → ¬ IsNondigit (slice_index file at)
+pub number_no_word : (file : List ℕ) (at : ℕ) → BeginsNumber file at → ¬ IsNondigit (slice_index file at)
 number_no_word file at (inl d) w = grind arith
 number_no_word file at (inr d) w = grind arith
 

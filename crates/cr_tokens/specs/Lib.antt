@@ -9,3 +9,4 @@ pub mod Faults
 pub mod Size
 pub mod Items
 pub mod Runs
+pub mod Laws

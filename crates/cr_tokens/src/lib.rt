@@ -7,6 +7,7 @@
 mod blank;
 mod bytes;
 mod item;
+pub mod laws;
 mod literal;
 mod measure;
 mod number;
