@@ -1,4 +1,5 @@
 use Rattle.std.proofs.Common.{arith}
+use Rattle.cr_reduce.proofs.Sizes.{no_size}
 use Rattle.cr_reduce.proofs.trial.measure.Goals as goal
 
 pub returns-in-Ok : goal.returns-in-Ok
@@ -8,4 +9,4 @@ returns-in-Ok c = record {
 }
 
 pub returns-in-Err : goal.returns-in-Err
-returns-in-Err c = ?
+returns-in-Err c = λ n has. no_size c.args.file.now c.in-Err.field-0 n c.in-Err.ensures.fault ? has
