@@ -14,4 +14,4 @@ one_size file m n first second = first.is ∙ ap (size_of file) (one_list file f
 -- A file with a fault has no size.
 pub no_size : (file : List ℕ) (fault : TokenFault) (n : ℕ) → (fault ≡ NoMemory) ⊎ FirstTokenFault file fault → (fault ≡ NoMemory → ⊥) → HasSize file n → ⊥
 no_size file fault n (inl none) other has = other none
-no_size file fault n (inr first) other has = list_no_fault file has.tokens fault has.tokenizes first
+no_size file fault n (inr it) other has = list_no_fault file has.tokens fault has.tokenizes it
