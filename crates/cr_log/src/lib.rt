@@ -1,0 +1,11 @@
+//! The log of a reduction and its summary, as texts. `log_text` writes one line for each accepted variant and a last line
+//! on the end, and `summary_text` the one line that a run prints; their contracts are the texts, byte by byte. `read_log`
+//! reads a log back: it answers the log exactly where the text is one, and else names the first line that isn't in the
+//! form. Stands on `cr_reduce`.
+#![tactic(auto)]
+
+#[cfg(test)]
+mod tests;
+mod text;
+
+pub use text::{log_text, summary_text};
