@@ -86,8 +86,13 @@ closed Character file quote at to q e h s =
     record { close = s.close; count = 1; characters = rw same at s.characters; quoted = s.close_quote ∙ same; one = λ _. refl }
 closed Text file quote at to q e h s =
     let same : 34 ≡ quote = sym s.1.open_quote ∙ e in
-    record { close = s.1.close; count = s.0; characters = rw same at s.1.characters; quoted = s.1.close_quote ∙ same;
-      one = λ f. absurd (omega (arith, same, f)) }
+    record {
+      close = s.1.close;
+      count = s.0;
+      characters = rw same at s.1.characters;
+      quoted = s.1.close_quote ∙ same;
+      one = λ f. absurd (omega (arith, same, f));
+    }
 closed Punctuator file quote at to q e h s = absurd (punctuator_no_other file at to h s (inr (rw e q)))
 
 quote_no_ten : (b : ℕ) → IsQuote b → b ≢ 10
@@ -142,19 +147,20 @@ spliced_no_blank file at wrong s to (skipped k l) = absurd (omega (arith, k.hash
 view-Stuck : (file : List ℕ) (at : ℕ) (fault : TokenFault) → View file at fault → Stuck file at
 view-Stuck file at fault (nothing a b c d e) = record { no_blank = d; no_token = e }
 view-Stuck file at fault (opened o n) = record {
-    no_blank = λ to b. elim (slash_blank file at to o.0 b) [
-        inl c ↦ n c.close c.after c.closed
-      | inr c ↦ absurd (omega (arith, o.1, c.opens.1)) ];
-    no_token = λ t e h. h.no_comment (rw e (inl o))
-  }
+  no_blank = λ to b. elim (slash_blank file at to o.0 b) [
+    | inl c ↦ n c.close c.after c.closed
+    | inr c ↦ absurd (omega (arith, o.1, c.opens.1))
+  ];
+  no_token = λ t e h. h.no_comment (rw e (inl o));
+}
 view-Stuck file at fault (splice s) = record {
-    no_blank = λ to b. spliced_no_blank file at _ s to b;
-    no_token = λ t e h. h.no_comment (rw e (opens file at s.to s.comment))
-  }
+  no_blank = λ to b. spliced_no_blank file at _ s to b;
+  no_token = λ t e h. h.no_comment (rw e (opens file at s.to s.comment));
+}
 view-Stuck file at fault (literal l) = record {
-    no_blank = quote_no_space file at (rw l.first l.is_quote);
-    no_token = literal_no_token file at fault l
-  }
+  no_blank = quote_no_space file at (rw l.first l.is_quote);
+  no_token = literal_no_token file at fault l;
+}
 
 view_inside : (file : List ℕ) (at : ℕ) (fault : TokenFault) → View file at fault → at < length file
 view_inside file at fault (nothing a b c d e) = a
@@ -181,8 +187,9 @@ bad_unique file quote at wrong other (no_unit a b c d e) (trigraph to u a' b' c'
 bad_unique file quote at wrong other (trigraph to u a b c d) (no_unit a' b' c' d' e') = absurd (d' to u)
 bad_unique file quote at wrong other (trigraph to u a b c d) (trigraph to' u' a' b' c' d') =
     elim (cases_order wrong other) [
-        inl e ↦ e
-      | inr o ↦ elim o [ inl lt ↦ absurd (d' wrong a lt c) | inr gt ↦ absurd (d other a' gt c') ] ]
+      | inl e ↦ e
+      | inr o ↦ elim o [ inl lt ↦ absurd (d' wrong a lt c) | inr gt ↦ absurd (d other a' gt c') ]
+    ]
 
 stops_unique : (file : List ℕ) (quote at count place : ℕ) (e f : TokenFault) → IsQuote quote →
     Stops file quote at count place e → Stops file quote at count place f → e ≡ f
@@ -205,19 +212,21 @@ literal_unique file at e f x y =
     let same : y.quote ≡ x.quote = sym y.first ∙ x.first in
     let stops : Stops file x.quote y.to y.count at f = rw same at y.stops in
     let met = Chars-meet x.characters (stops-NoChar file x.quote x.to x.count at e x.is_quote x.stops)
-                (rw same at y.characters) (stops-NoChar file x.quote y.to y.count at f x.is_quote stops) in
+    (rw same at y.characters) (stops-NoChar file x.quote y.to y.count at f x.is_quote stops) in
     stops_unique file x.quote x.to x.count at e f x.is_quote x.stops (rw (met.0, met.1) stops)
 
 spliced_unique : (file : List ℕ) (at wrong other : ℕ) → IsSplicedComment file at wrong → IsSplicedComment file at other → wrong ≡ other
 spliced_unique file at wrong other x y = elim (cases_order wrong other) [
-    inl e ↦ e
-  | inr o ↦ elim o [ inl lt ↦ absurd (y.first wrong x.after lt x.spliced) | inr gt ↦ absurd (x.first other y.after gt y.spliced) ] ]
+  | inl e ↦ e
+  | inr o ↦ elim o [ inl lt ↦ absurd (y.first wrong x.after lt x.spliced) | inr gt ↦ absurd (x.first other y.after gt y.spliced) ]
+]
 
 opened_no_splice : (file : List ℕ) (at wrong : ℕ) → OpensBlock file at → ((k : ℕ) → at + 2 ≤ k → ¬ ClosesBlock file k) →
     ¬ IsSplicedComment file at wrong
 opened_no_splice file at wrong o n s = elim s.comment [
-    inl c ↦ n c.close c.after c.closed
-  | inr c ↦ absurd (omega (arith, o.1, c.opens.1)) ]
+  | inl c ↦ n c.close c.after c.closed
+  | inr c ↦ absurd (omega (arith, o.1, c.opens.1))
+]
 
 literal_no_slash : (file : List ℕ) (at : ℕ) (e : TokenFault) → Literal file at e → slice_index file at ≢ 47
 literal_no_slash file at e l z = quote_no_slash l.quote l.is_quote (sym l.first ∙ z)

@@ -1,15 +1,20 @@
 ghost use Rattle.std.specs.Prelude.{◌≡◌, ◌⊎◌, ◌≤◌, ◌<◌, ◌++◌, ◌∷◌, [], IfOk, IfErr, OnOk, length};
-ghost use Rattle.cr_tokens.specs.Tokens.{Tokenizes};
+ghost use Rattle.cr_tokens.specs.Tokens.{Tokenizes, HasNoTokens};
 ghost use Rattle.cr_tokens.specs.Faults.{FirstTokenFault};
 
 use crate::item::{Item, item_at};
 use crate::token::{MAX_BYTES, MAX_TOKENS, Token, TokenFault, Tokens};
 use std::alloc::Global;
 
-/// The tokens of a file, or its first fault.
+/// The tokens of a file (C11 6.4), or its first fault. `TooLong` comes above 1,048,576 bytes before all
+/// else; the other faults carry the place of a byte, and the one at the least place is answered.
+/// `TooMany` comes at the 262,145th token.
 pub fn read(alloc: Global, file: &[u8]) -> Result<Tokens, TokenFault>
     ensures list { IfOk result (λ r. Tokenizes file.now r.list.items) }
     ensures fault { IfErr result (λ e. (e ≡ TokenFault.NoMemory) ⊎ FirstTokenFault file.now e) }
+
+    // A file is refused only where it has no tokens.
+    ensures refused { IfErr result (λ e. (e ≡ TokenFault.NoMemory) ⊎ HasNoTokens file.now) }
 {
     if file.len() > MAX_BYTES {
         return Err(TokenFault::TooLong);
