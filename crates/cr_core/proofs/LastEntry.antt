@@ -1,5 +1,5 @@
 -- The code's reads and writes of a list's last entry.
-use Rattle.std.proofs.Common.{◌≡◌, ◌≢◌, ℕ, ◌+◌, ◌-◌, List, [], ◌∷◌, ◌++◌, length, get_or, set, refl, sym, ap, subst, ◌∙◌, arith, Option, None, Some, MatchOption, slice_get}
+use Rattle.std.proofs.Common.{◌≡◌, ℕ, ◌+◌, ◌-◌, [], ◌∷◌, ◌++◌, length, get_or, set, refl, sym, ap, subst, ◌∙◌, arith, Option, None, Some, MatchOption, slice_get}
 use Prim.Native.Nat.{zero, suc}
 use Rattle.cr_core.specs.declared.marks.Mark.{Mark}
 use Rattle.cr_core.specs.declared.marks.Entry.{Entry}

@@ -3,3 +3,4 @@ pub mod Steps
 pub mod Totals
 pub mod LastEntry
 pub mod FirstHit
+pub mod Entries

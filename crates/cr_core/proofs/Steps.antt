@@ -1,5 +1,5 @@
 -- Each event keeps soundness, said of one list and whatever the rest is.
-use Rattle.std.proofs.Common.{◌≡◌, ◌≢◌, ℕ, ◌+◌, ◌-◌, ◌*◌, ◌/◌, ◌<◌, ◌≤◌, List, [], ◌∷◌, ◌++◌, length, refl, sym, ap, subst, arith, ◌⊎◌, inl, inr}
+use Rattle.std.proofs.Common.{◌≡◌, ◌≢◌, ℕ, ◌+◌, ◌-◌, ◌<◌, ◌≤◌, [], ◌∷◌, ◌++◌, refl, sym, ap, subst, arith, ◌⊎◌, inl, inr}
 use Prim.Native.Nat.{zero, suc, min}
 use Rattle.cr_core.specs.declared.marks.HitKind.{HitKind}
 use Rattle.cr_core.specs.declared.marks.Mark.{Mark}
@@ -7,9 +7,9 @@ use Rattle.cr_core.specs.declared.marks.Mark.TheVariants.{Open, No, Hit, Skipped
 use Rattle.cr_core.specs.declared.marks.Entry.{Entry}
 use Rattle.cr_core.specs.declared.events.Settle.{Settle}
 use Rattle.cr_core.specs.declared.events.Settle.TheVariants as settle
-use Rattle.cr_core.specs.Row.{Row, kind_no, mark_no, word, opening, apart, below, placed, marked, disorder, early, past, last_position, last_mark, with_last}
+use Rattle.cr_core.specs.Row.{Row, kind_no, mark_no, word, opening, marked, disorder, early, past, last_position, last_mark, with_last}
 use Rattle.cr_core.specs.Sound.{Sum, IsOver, IsSound}
-use Rattle.cr_core.specs.Machine.{MaySettle, MayClaim, MayHit, MayLeave, settled, claimed, lowered}
+use Rattle.cr_core.specs.Machine.{MaySettle, MayClaim, MayHit, settled, claimed, lowered}
 use Rattle.cr_core.proofs.Rows.{placed-append, marked-append, placed-with_last, disorder-with_last, early-with_last, past-with_last, marked-with_last, last_position-with_last, last_mark-with_last, disorder-append, early-append, past-append, past-last, placed-last, settled_no}
 
 -- what is counted in one list and in the rest
@@ -41,8 +41,8 @@ new_or_old : (p : ℕ) (n m : Mark) (r : ℕ) (l : Row) → last_mark l ≡ Open
 new_or_old p n m r l is_open h =
     let e = marked-with_last p n m l is_open in
     elim (some_or_none (r + marked p n l)) [
-      inl old ↦ inl old
-    | inr none ↦ inr (omega arith, omega arith)
+      | inl old ↦ inl old
+      | inr none ↦ inr (omega arith, omega arith)
     ]
 
 least_stays : (len least : ℕ) (rest : Sum) (l : Row) (m : Mark) → last_mark l ≡ Open
@@ -71,20 +71,20 @@ re_marks len next least low rest l m is_open fits falls s = record {
   positions_rise_and_only_a_last_entry_is_open = omega (arith, disorder-with_last 0 m l);
   the_least_word_is_the_first_or_a_hit = least_falls len least low rest l m is_open falls.1 s.the_least_word_is_the_first_or_a_hit;
   no_hit_lies_below_it = λ p k h.
-    elim (new_or_old p (Hit k) m _ l is_open h) [
-      inl old ↦ (let f = s.no_hit_lies_below_it p k old in (f.0, omega arith))
-    | inr (at, is) ↦ (let f = fits.hit k (omega arith) in (omega arith, omega arith))
-    ];
+      elim (new_or_old p (Hit k) m _ l is_open h) [
+        | inl old ↦ (let f = s.no_hit_lies_below_it p k old in (f.0, omega arith))
+        | inr (at, is) ↦ (let f = fits.hit k (omega arith) in (omega arith, omega arith))
+      ];
   a_skipped_entry_is_over = λ p h.
-    elim (new_or_old p Skipped m _ l is_open h) [
-      inl old ↦ over_falls len low least p falls.0 (s.a_skipped_entry_is_over p old)
-    | inr (at, is) ↦ (let P : ℕ → Type 0 = λ q. IsOver len low q in subst P (sym at) (fits.skipped (omega arith)))
-    ];
+      elim (new_or_old p Skipped m _ l is_open h) [
+        | inl old ↦ over_falls len low least p falls.0 (s.a_skipped_entry_is_over p old)
+        | inr (at, is) ↦ (let P : ℕ → Type 0 = λ q. IsOver len low q in subst P (sym at) (fits.skipped (omega arith)))
+      ];
   a_rejected_entry_is_below_the_length = λ p h.
-    elim (new_or_old p No m _ l is_open h) [
-      inl old ↦ s.a_rejected_entry_is_below_the_length p old
-    | inr (at, is) ↦ (let f = fits.rejected (omega arith) in omega arith)
-    ];
+      elim (new_or_old p No m _ l is_open h) [
+        | inl old ↦ s.a_rejected_entry_is_below_the_length p old
+        | inr (at, is) ↦ (let f = fits.rejected (omega arith) in omega arith)
+      ];
   only_a_last_entry_is_past_the_end = omega (arith, early-with_last len m l);
   next_is_bounded = omega (arith, past-with_last len m l);
 }
@@ -143,15 +143,15 @@ appends len next least rest l closed h s =
     let n = newly next in
     let order = order_kept len next least rest l closed h s in
     let same : (p : ℕ) (m : Mark) → 0 < mark_no m → marked p m (l ++ n ∷ []) ≡ marked p m l =
-      λ p m q. omega (arith, marked-append p m l (n ∷ [])) in
+    λ p m q. omega (arith, marked-append p m l (n ∷ [])) in
     record {
       each_claimed_number_stands_once = λ p. omega (arith, s.each_claimed_number_stands_once p, placed-append p l (n ∷ []));
       positions_rise_and_only_a_last_entry_is_open = omega (arith, order.0);
       the_least_word_is_the_first_or_a_hit =
-        elim s.the_least_word_is_the_first_or_a_hit [
-          inl q ↦ inl q
-        | inr (p, k, e, q) ↦ inr (p, k, e, omega (arith, same p (Hit k) (omega arith)))
-        ];
+          elim s.the_least_word_is_the_first_or_a_hit [
+            | inl q ↦ inl q
+            | inr (p, k, e, q) ↦ inr (p, k, e, omega (arith, same p (Hit k) (omega arith)))
+          ];
       no_hit_lies_below_it = λ p k q. s.no_hit_lies_below_it p k (omega (arith, same p (Hit k) (omega arith)));
       a_skipped_entry_is_over = λ p q. s.a_skipped_entry_is_over p (omega (arith, same p Skipped (omega arith)));
       a_rejected_entry_is_below_the_length = λ p q. s.a_rejected_entry_is_below_the_length p (omega (arith, same p No (omega arith)));

@@ -1,12 +1,12 @@
 -- From all lists to one and the rest, and back.
-use Rattle.std.proofs.Common.{◌≡◌, ◌≢◌, ℕ, ◌+◌, ◌-◌, ◌*◌, ◌^◌, ◌<◌, ◌≤◌, List, [], ◌∷◌, ◌++◌, length, get_or, set, take, refl, sym, ap, ◌∙◌, subst, arith, inl, inr, replicate, Bool, true, false}
+use Rattle.std.proofs.Common.{◌≡◌, ◌≢◌, ℕ, ◌+◌, ◌-◌, ◌^◌, ◌<◌, ◌≤◌, List, [], ◌∷◌, ◌++◌, length, get_or, set, take, refl, sym, ap, ◌∙◌, subst, arith, inl, inr, replicate, Bool, true, false}
 use Rattle.std.proofs.Math.ListN.{length-set}
 use Rattle.std.proofs.lemmas.List.{get_or_past, take_more, length-replicate}
 use Prim.Native.Nat.{zero, suc}
 use Rattle.cr_core.specs.declared.events.Event.{Event}
 use Rattle.cr_core.specs.declared.events.Event.TheVariants as event
 use Rattle.cr_core.specs.declared.marks.Mark.TheVariants.{Open, No, Hit, Skipped}
-use Rattle.cr_core.specs.Row.{Row, mark_no, placed, marked, disorder, early, past, opening, last_position}
+use Rattle.cr_core.specs.Row.{Row, mark_no, placed, marked, disorder, early, past, last_position}
 use Rattle.cr_core.specs.Sound.{Sum, total, IsSound}
 use Rattle.cr_core.specs.State.{State, start, in_lists, IsSoundState, IsFinished, IsFirst, first_of}
 use Rattle.cr_core.specs.Laws.{IsInOrder}
@@ -42,7 +42,7 @@ pub in_place : (len next least next' least' : ℕ) (ls : List Row) (i : ℕ) (m 
 in_place len next least next' least' ls i m h step s =
     let from : (f : Row → ℕ) → total f ls ≡ with_row (others ls i) (get_or ls i []) f = λ f. omega (arith, total-at f [] ls i h) in
     let to : (f : Row → ℕ) → with_row (others ls i) m f ≡ total f (set ls i m) =
-      λ f. omega (arith, total-at f [] ls i h, total-set f [] ls i m h) in
+    λ f. omega (arith, total-at f [] ls i h, total-set f [] ls i m h) in
     let P : Sum → Type 0 = IsSound len next least in
     let Q : Sum → Type 0 = IsSound len next' least' in
     subst Q (λ j f. to f j) (step (subst P (λ j f. from f j) s))
@@ -152,11 +152,11 @@ in_order len low (e ∷ f ∷ es) rise close =
 
 pub each_in_order : (s : State) → IsSoundState s → (i : ℕ) → IsInOrder s.len 0 (get_or s.lists i [])
 each_in_order s sound i = elim (some_or_none (length s.lists - i)) [
-      inl there ↦ in_order s.len 0 _
-        (omega (arith, sound.positions_rise_and_only_a_last_entry_is_open, total-at (disorder 0) [] s.lists i (omega arith)))
-        (omega (arith, sound.only_a_last_entry_is_past_the_end, total-at (early s.len) [] s.lists i (omega arith)))
-    | inr gone ↦ (let P : Row → Type 0 = IsInOrder s.len 0 in subst P (sym (get_or_past s.lists i [] (omega arith))) tt)
-    ]
+  | inl there ↦ in_order s.len 0 _
+      (omega (arith, sound.positions_rise_and_only_a_last_entry_is_open, total-at (disorder 0) [] s.lists i (omega arith)))
+      (omega (arith, sound.only_a_last_entry_is_past_the_end, total-at (early s.len) [] s.lists i (omega arith)))
+  | inr gone ↦ (let P : Row → Type 0 = IsInOrder s.len 0 in subst P (sym (get_or_past s.lists i [] (omega arith))) tt)
+]
 
 -- a turn of the loop over a list of events
 pub run_turn : (len workers : ℕ) (es : List Event) (i : ℕ) (d : Event) (t u : State) (b : Bool) → i < length es → Does (get_or es i d) t u b

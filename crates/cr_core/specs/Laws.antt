@@ -1,8 +1,9 @@
 -- What soundness comes to.
-use Rattle.std.specs.Prelude.{◌≡◌, ◌≢◌, ℕ, ◌+◌, ◌<◌, ◌≤◌, ◌^◌, List, [], ◌∷◌, length, slice_index_or}
+use Rattle.std.specs.Prelude.{◌≡◌, ◌≢◌, ℕ, ◌+◌, ◌<◌, ◌≤◌, ◌↔◌, List, [], ◌∷◌, Some, slice_get, slice_index_or}
+use Rattle.cr_core.specs.declared.marks.Mark.{Mark}
 use Rattle.cr_core.specs.declared.marks.Mark.TheVariants.{Open}
 use Rattle.cr_core.specs.declared.events.Event.{Event}
-use Rattle.cr_core.specs.Row.{Row}
+use Rattle.cr_core.specs.Row.{Row, marked}
 use Rattle.cr_core.specs.State.{State, start, in_lists, IsSoundState, IsFinished, IsFirst, first_of}
 use Rattle.cr_core.specs.Machine.{Runs}
 
@@ -21,3 +22,11 @@ EachListIsInOrder = (s : State) → IsSoundState s → (i : ℕ) → IsInOrder s
 abbrev pub OrderedCommit : Type 0
 OrderedCommit = (len workers : ℕ) (events : List Event) (s : State) → Runs (start len workers) events s
     → IsSoundState s × (IsFinished s → IsFirst s.len (in_lists s) (first_of s.len s.least))
+
+-- an entry of some worker's list
+abbrev pub IsMarked : State → ℕ → Mark → Type 0
+IsMarked s p m = (i : ℕ) × (j : ℕ) × (slice_get (slice_index_or s.lists i []) j ≡ Some (record { position = p; mark = m }))
+
+-- where a count is above 0 there is an entry
+abbrev pub CountsAreEntries : Type 0
+CountsAreEntries = (s : State) (p : ℕ) (m : Mark) → (0 < in_lists s (marked p m)) ↔ IsMarked s p m

@@ -1,9 +1,9 @@
 -- Soundness of the speculative core.
 -- It is said of a sum, "how many there are in all lists", so that it can be read of the lists of a `Core` and of those that the
 -- passes of several threads hold.
-use Rattle.std.specs.Prelude.{◌≡◌, ℕ, ◌+◌, ◌*◌, ◌/◌, ◌<◌, ◌≤◌, ◌⊎◌, List, [], ◌∷◌}
+use Rattle.std.specs.Prelude.{◌≡◌, ℕ, ◌+◌, ◌/◌, ◌<◌, ◌≤◌, ◌⊎◌, List, [], ◌∷◌}
 use Rattle.cr_core.specs.declared.marks.HitKind.{HitKind}
-use Rattle.cr_core.specs.declared.marks.Mark.TheVariants.{Open, No, Hit, Skipped}
+use Rattle.cr_core.specs.declared.marks.Mark.TheVariants.{No, Hit, Skipped}
 use Rattle.cr_core.specs.Row.{Row, word, opening, below, placed, marked, disorder, early, past}
 
 -- what is counted in a list, added up over all lists
@@ -25,7 +25,7 @@ pub record IsSound (len next least : ℕ) (sum : Sum) : Type 0 where
   pub positions_rise_and_only_a_last_entry_is_open : sum (disorder 0) ≡ 0
   -- `least` is its first value, or the word of a hit
   pub the_least_word_is_the_first_or_a_hit : (least ≡ opening len)
-    ⊎ ((p : ℕ) × (k : HitKind) × (least ≡ word p k) × (0 < sum (marked p (Hit k))))
+      ⊎ ((p : ℕ) × (k : HitKind) × (least ≡ word p k) × (0 < sum (marked p (Hit k))))
   -- each hit is below the length, and its word isn't below `least`
   pub no_hit_lies_below_it : (p : ℕ) (k : HitKind) → 0 < sum (marked p (Hit k)) → (p < len) × (least ≤ word p k)
   -- each skipped entry is past the end or above the least position

@@ -1,5 +1,5 @@
 -- The state of the speculative core, and when it is finished.
-use Rattle.std.specs.Prelude.{◌≡◌, ◌≢◌, ◌↔◌, ℕ, ◌<◌, ◌≤◌, ◌/◌, ◌%◌, List, [], ◌∷◌, replicate, length, slice_index_or, if◌then◌else◌, nat_lt}
+use Rattle.std.specs.Prelude.{◌≡◌, ◌≢◌, ◌↔◌, ℕ, ◌<◌, ◌≤◌, ◌/◌, ◌%◌, List, [], replicate, length, slice_index_or, if◌then◌else◌, nat_lt}
 use Prim.Native.Nat.{zero, suc}
 use Rattle.cr_core.specs.declared.marks.HitKind.{HitKind}
 use Rattle.cr_core.specs.declared.marks.HitKind.TheVariants.{Yes, Failed, Starved}
@@ -30,7 +30,7 @@ IsSoundState s = IsSound s.len s.next s.least (in_lists s)
 pub record IsFinished (s : State) : Type 0 where
   pub nothing_is_open : (p : ℕ) → in_lists s (marked p Open) ≡ 0
   pub one_saw_the_end : (i : ℕ) × (i < length s.lists) × (slice_index_or s.lists i [] ≢ [])
-    × IsOver s.len s.least (last_position (slice_index_or s.lists i []))
+      × IsOver s.len s.least (last_position (slice_index_or s.lists i []))
 
 -- every position below n is marked No
 abbrev pub AllRejected : Sum → ℕ → Type 0

@@ -9,7 +9,6 @@
 
 mod events;
 mod laws;
-
 mod machine;
 mod marks;
 mod settling;
@@ -17,7 +16,6 @@ mod settling;
 mod tests;
 
 pub use events::{Event, First, Settle};
-
-pub use laws::{each_list_is_in_order, ordered_commit};
+pub use laws::{counts_are_entries, each_list_is_in_order, ordered_commit};
 pub use machine::{Core, NoMemory, run};
 pub use marks::{Entry, HitKind, Mark};

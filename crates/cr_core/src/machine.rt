@@ -6,7 +6,7 @@ ghost use Rattle.cr_core.specs.Core.{state_of};
 
 use crate::events::{Event, First, Settle};
 use crate::marks::{Entry, HitKind, Mark};
-use crate::settling::{add, may_claim, may_leave, open_position, mark_last, settle};
+use crate::settling::{add, mark_last, may_claim, may_leave, open_position, settle};
 use cr_rows::Row;
 use std::alloc::{AllocError, Global};
 

@@ -1,11 +1,7 @@
-use Rattle.std.proofs.Common.{◌≡◌, [], ◌∷◌, ◌++◌, take, length, subst, sym, ap, arith}
-use Rattle.std.proofs.lemmas.List.{take_all}
-use Rattle.cr_core.specs.declared.events.Event.{Event}
-use Rattle.cr_core.specs.State.{start, in_lists, IsFinished, IsFirst, first_of}
-use Rattle.cr_core.specs.Machine.{Runs}
+use Rattle.std.proofs.Common.{arith}
 use Rattle.cr_core.specs.Core.{state_of}
 use Rattle.cr_core.proofs.FirstHit.{first_is}
-use Rattle.cr_core.proofs.Totals.{begins, finished, in_range, run_turn, run_begins, ordered}
+use Rattle.cr_core.proofs.Totals.{finished, in_range, run_turn, run_begins}
 use Rattle.cr_core.proofs.machine.run.Goals as goal
 
 pub loop-event-init : goal.loop-event-init
@@ -17,7 +13,7 @@ step-requires c = in_range c.args.len c.args.workers (state_of c.loop-event.core
 pub loop-event-preserved : goal.loop-event-preserved
 loop-event-preserved c =
     run_turn c.args.len c.args.workers c.args.events.now c.loop-event.event-index _ (state_of c.loop-event.core) (state_of c.step.new.self) c.in_ok-step.field-0
-      c.loop-event-test.true c.in_ok-step.ensures.ok c.loop-event.invariant
+    c.loop-event-test.true c.in_ok-step.ensures.ok c.loop-event.invariant
 
 pub returns-clause-first : goal.returns-clause-first
 returns-clause-first c f =

@@ -1,4 +1,3 @@
-use Rattle.std.proofs.Common.{◌≡◌, ◌∙◌}
 use Rattle.cr_core.proofs.LastEntry.{is_last}
 use Rattle.cr_core.proofs.settling.last.Goals as goal
 

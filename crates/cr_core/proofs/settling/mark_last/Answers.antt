@@ -1,4 +1,4 @@
-use Rattle.std.proofs.Common.{◌≡◌, [], ◌++◌, sym, arith, ◌∙◌}
+use Rattle.std.proofs.Common.{[], sym, arith, ◌∙◌}
 use Rattle.std.proofs.lemmas.List.{append-nil}
 use Rattle.cr_core.specs.Row.{with_last}
 use Rattle.cr_core.proofs.settling.mark_last.Goals as goal

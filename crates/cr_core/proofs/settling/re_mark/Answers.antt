@@ -1,5 +1,3 @@
-use Rattle.std.proofs.Common.{◌≡◌, set, get_or, subst, sym}
-use Rattle.cr_core.specs.Row.{Row, with_last}
 use Rattle.cr_core.proofs.LastEntry.{set-with_last}
 use Rattle.cr_core.proofs.settling.re_mark.Goals as goal
 

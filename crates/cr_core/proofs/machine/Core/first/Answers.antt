@@ -1,5 +1,3 @@
-use Rattle.std.proofs.Common.{◌≡◌}
-use Rattle.cr_core.specs.State.{in_lists}
 use Rattle.cr_core.specs.Core.{state_of}
 use Rattle.cr_core.proofs.FirstHit.{least_is, first_is}
 use Rattle.cr_core.proofs.Totals.{finished}
