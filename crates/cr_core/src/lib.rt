@@ -17,5 +17,5 @@ mod tests;
 
 pub use events::{Event, First, Settle};
 pub use laws::{counts_are_entries, each_list_is_in_order, ordered_commit};
-pub use machine::{Core, NoMemory, run};
+pub use machine::{Core, NoMemory, hit_of, run, word_of};
 pub use marks::{Entry, HitKind, Mark};

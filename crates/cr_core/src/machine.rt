@@ -131,8 +131,8 @@ impl Core {
     }
 }
 
-// The hit that the least word names.
-fn hit_of(len: u64, least: u64) -> First
+/// The hit that the least word of an epoch names.
+pub fn hit_of(len: u64, least: u64) -> First
     ensures { result ≡ first_of len least }
 {
     if least / 4 >= len {
@@ -146,8 +146,8 @@ fn hit_of(len: u64, least: u64) -> First
     First::At(least / 4, kind)
 }
 
-// The word of a hit.
-fn word_of(position: u64, kind: HitKind) -> u64
+/// The word of a hit: `4 * position + kind`, with Yes 0, Failed 1 and Starved 2.
+pub fn word_of(position: u64, kind: HitKind) -> u64
     requires { position < 4096 }
     ensures { result ≡ word position kind }
 {
