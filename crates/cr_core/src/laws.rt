@@ -1,0 +1,17 @@
+ghost use Rattle.cr_core.specs.Laws.{CountsAreEntries, EachListIsInOrder, OrderedCommit};
+
+/// A position is counted under a mark exactly where an entry of some worker's list has that position and that mark.
+pub fn counts_are_entries()
+    ensures { CountsAreEntries }
+{}
+
+/// In a sound state positions of each list rise, and each entry but the last is settled and below the length.
+pub fn each_list_is_in_order()
+    ensures { EachListIsInOrder }
+{}
+
+/// After every list of events the state is sound, and where it is finished, the least hit is the first position in order that wasn't
+/// rejected.
+pub fn ordered_commit()
+    ensures { OrderedCommit }
+{}
