@@ -1,0 +1,10 @@
+//! The integer types of the subset and their operations, as C11 6.3.1 and 6.5 state them.
+#![tactic(auto)]
+
+mod end;
+mod kind;
+
+pub use end::{
+    IntEnd, LEFT_SHIFT, NOT_REPRESENTABLE, QUOTIENT_NOT_REPRESENTABLE, SHIFT_COUNT, ZERO_DIVISOR,
+};
+pub use kind::IntKind;
