@@ -42,6 +42,10 @@ least_of kind = if is_signed kind then neg_ℤ (pos (2 ^ (width_of kind - 1))) e
 abbrev pub greatest_of : IntKind → ℤ
 greatest_of kind = if is_signed kind then pos (2 ^ (width_of kind - 1) - 1) else pos (2 ^ width_of kind - 1)
 
+-- how many values a kind of this width has
+abbrev pub modulus_of : IntKind → ℤ
+modulus_of kind = pos (2 ^ width_of kind)
+
 -- the kind can represent the value: it lies in the kind's range; as a fact, and as a test
 pub record Represents (kind : IntKind) (value : ℤ) : Type 0 where
   pub from_least : least_of kind ≤ℤ value

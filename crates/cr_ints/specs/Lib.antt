@@ -1,1 +1,3 @@
 pub mod IntKind
+pub mod Conversions
+pub mod Operations

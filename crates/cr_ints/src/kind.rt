@@ -1,5 +1,5 @@
 ghost use Rattle.std.specs.Prelude.{◌≡◌, ◌↔◌, IsTrue};
-ghost use Rattle.cr_ints.specs.IntKind.{width_of, is_signed, least_of, greatest_of, rank_of, unsigned_of};
+ghost use Rattle.cr_ints.specs.IntKind.{width_of, is_signed, least_of, greatest_of, Represents, can_represent, can_represent_all, rank_of, unsigned_of, modulus_of};
 
 /// An integer type of the subset (C11 6.2.5). An enumerated type is `Int` or `UInt` itself.
 #[derive(Clone, Copy, PartialEq, Eq, Debug)]
@@ -84,5 +84,55 @@ impl IntKind {
             IntKind::Long | IntKind::LLong => i128::from(i64::MAX),
             IntKind::ULong | IntKind::ULLong => i128::from(u64::MAX),
         }
+    }
+
+    /// Whether the value lies in the kind's range.
+    pub fn can_represent(self, value: i128) -> bool
+        ensures test { result ≡ can_represent self value }
+        ensures fact { IsTrue result ↔ Represents self value }
+    {
+        self.least() <= value && value <= self.greatest()
+    }
+
+    /// Whether all values of the other kind lie in this kind's range.
+    pub fn can_represent_all(self, other: IntKind) -> bool
+        ensures { result ≡ can_represent_all self other }
+    {
+        self.can_represent(other.least()) && self.can_represent(other.greatest())
+    }
+
+    /// The unsigned kind of the same size (C11 6.2.5p6); an unsigned kind, and `_Bool`, is its own.
+    pub fn to_unsigned(self) -> IntKind
+        ensures { result ≡ unsigned_of self }
+    {
+        match self {
+            IntKind::Char | IntKind::SChar => IntKind::UChar,
+            IntKind::Short => IntKind::UShort,
+            IntKind::Int => IntKind::UInt,
+            IntKind::Long => IntKind::ULong,
+            IntKind::LLong => IntKind::ULLong,
+            _ => self,
+        }
+    }
+
+    /// The conversion rank (C11 6.3.1.1p1), counted from that of `_Bool`.
+    pub fn rank(self) -> u32
+        ensures { result ≡ rank_of self }
+    {
+        match self {
+            IntKind::Bool => 0,
+            IntKind::Char | IntKind::SChar | IntKind::UChar => 1,
+            IntKind::Short | IntKind::UShort => 2,
+            IntKind::Int | IntKind::UInt => 3,
+            IntKind::Long | IntKind::ULong => 4,
+            IntKind::LLong | IntKind::ULLong => 5,
+        }
+    }
+
+    // How many values a kind of this width has.
+    pub(crate) fn modulus(self) -> i128
+        ensures { result ≡ modulus_of self }
+    {
+        1 << self.width()
     }
 }
