@@ -1,10 +1,11 @@
 -- What holds of the range of every kind.
-use Rattle.std.proofs.Common.{◌≡◌, ℕ, ◌+◌, ◌-◌, ◌%◌, ◌<◌, ◌^◌, ℤ, pos, negsuc, ◌+ℤ◌, ◌-ℤ◌, ◌≤ℤ◌, refl, arith, FitsSigned}
+use Rattle.std.proofs.Common.{◌≡◌, ℕ, ◌-◌, ◌%◌, ◌<◌, ◌^◌, ℤ, pos, negsuc, ◌+ℤ◌, ◌-ℤ◌, ◌≤ℤ◌, refl, arith, true, ◌≤◌, unsigned_abs, FitsSigned}
 use Rattle.std.proofs.lemmas.Int.{ints}
+use Rattle.std.proofs.lemmas.Nat.{pow_pos}
 use Rattle.std.specs.Int.{int_rem_euclid, w128}
 use Rattle.cr_ints.specs.declared.kind.IntKind.{IntKind}
 use Rattle.cr_ints.specs.declared.kind.IntKind.TheVariants.{Bool as BoolKind, Char, SChar, UChar, Short, UShort, Int, UInt, Long, ULong, LLong, ULLong}
-use Rattle.cr_ints.specs.IntKind.{width_of, modulus_of, least_of, greatest_of, Represents}
+use Rattle.cr_ints.specs.IntKind.{width_of, modulus_of, is_signed, least_of, greatest_of, Represents, IsInteger}
 use Rattle.cr_ints.specs.Conversions.{wrapped}
 
 -- a fact that holds of each kind
@@ -35,13 +36,10 @@ pub remainder : (z : ℤ) (m : ℕ) → 0 < m → Remainder z m
 remainder (pos a) m h = record { value = a % m; is = refl; below = omega arith }
 remainder (negsuc a) m h = record { value = m - 1 - a % m; is = refl; below = omega arith }
 
-pub two_power : (kind : IntKind) → 0 < 2 ^ width_of kind
-two_power = each (λ kind. 0 < 2 ^ width_of kind) (omega arith) (omega arith) (omega arith) (omega arith) (omega arith) (omega arith) (omega arith) (omega arith) (omega arith) (omega arith) (omega arith) (omega arith)
-
 -- a wrapped value lies in the range
 pub wrapped-represents : (kind : IntKind) (value : ℤ) → Represents kind (wrapped kind value)
 wrapped-represents kind value =
-  let r = remainder (value -ℤ least_of kind) (2 ^ width_of kind) (two_power kind) in
+  let r = remainder (value -ℤ least_of kind) (2 ^ width_of kind) (pow_pos (width_of kind)) in
   let e : wrapped kind value ≡ least_of kind +ℤ pos r.value = rw r.is refl in
   let g = greatest_from_least kind in
   let h = r.below in
@@ -66,3 +64,22 @@ narrow_modulus = each (λ kind. (pos 2 ≤ℤ modulus_of kind) × (modulus_of ki
   (omega arith, omega arith) (omega arith, omega arith) (omega arith, omega arith) (omega arith, omega arith)
   (omega arith, omega arith) (omega arith, omega arith) (omega arith, omega arith) (omega arith, omega arith)
   (omega arith, omega arith) (omega arith, omega arith) (omega arith, omega arith) (omega arith, omega arith)
+
+pub narrow_greatest : (kind : IntKind) → (pos 0 ≤ℤ greatest_of kind) × (greatest_of kind ≤ℤ pos (2 ^ 64 - 1))
+narrow_greatest = each (λ kind. (pos 0 ≤ℤ greatest_of kind) × (greatest_of kind ≤ℤ pos (2 ^ 64 - 1)))
+  (omega arith, omega arith) (omega arith, omega arith) (omega arith, omega arith) (omega arith, omega arith)
+  (omega arith, omega arith) (omega arith, omega arith) (omega arith, omega arith) (omega arith, omega arith)
+  (omega arith, omega arith) (omega arith, omega arith) (omega arith, omega arith) (omega arith, omega arith)
+
+-- a value of a kind lies between the extremes of all kinds
+pub represented_integer : (kind : IntKind) (value : ℤ) → Represents kind value → IsInteger value
+represented_integer kind value h =
+  let l = narrow_least kind in let g = narrow_greatest kind in
+  record { from_least = omega (arith, ints); to_greatest = omega (arith, ints) }
+
+-- a value of a signed kind is at most 2^63 away from 0
+pub signed_size : (kind : IntKind) (value : ℤ) → is_signed kind ≡ true → Represents kind value → unsigned_abs value ≤ 2 ^ 63
+signed_size = each (λ kind. (value : ℤ) → is_signed kind ≡ true → Represents kind value → unsigned_abs value ≤ 2 ^ 63)
+  (λ v s h. cc) (λ v s h. omega (arith, ints)) (λ v s h. omega (arith, ints)) (λ v s h. cc)
+  (λ v s h. omega (arith, ints)) (λ v s h. cc) (λ v s h. omega (arith, ints)) (λ v s h. cc)
+  (λ v s h. omega (arith, ints)) (λ v s h. cc) (λ v s h. omega (arith, ints)) (λ v s h. cc)

@@ -1,8 +1,8 @@
 -- Conversions of integers (C11 6.3.1), over integers without bounds.
-use Rattle.std.specs.Prelude.{◌≡◌, ℤ, pos, ◌+ℤ◌, ◌-ℤ◌, ◌==◌, nat_le, unsigned_abs, cond, if◌then◌else◌}
+use Rattle.std.specs.Prelude.{◌≡◌, ℤ, pos, ◌+ℤ◌, ◌-ℤ◌, ◌==◌, nat_le, unsigned_abs, if◌then◌else◌}
 use Rattle.std.specs.Int.{int_rem_euclid}
 use Rattle.cr_ints.specs.declared.kind.IntKind.{IntKind}
-use Rattle.cr_ints.specs.declared.kind.IntKind.TheVariants.{Bool as BoolKind, Char, SChar, UChar, Short, UShort, Int, UInt, Long, ULong, LLong, ULLong}
+use Rattle.cr_ints.specs.declared.kind.IntKind.TheVariants.{Bool as BoolKind, Int, UInt}
 use Rattle.cr_ints.specs.IntKind.{modulus_of, is_signed, least_of, can_represent_all, rank_of, unsigned_of}
 
 -- ---- one value

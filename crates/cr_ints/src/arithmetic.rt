@@ -1,5 +1,5 @@
-ghost use Rattle.std.specs.Prelude.{◌≡◌};
-ghost use Rattle.cr_ints.specs.IntKind.{Represents};
+ghost use Rattle.std.specs.Prelude.{◌≡◌, ◌^◌, pos, ◌*ℤ◌, ◌≤ℤ◌, ◌<ℤ◌, unsigned_abs, ◌≢◌, int_div, int_rem};
+ghost use Rattle.cr_ints.specs.IntKind.{Represents, IsInteger};
 ghost use Rattle.cr_ints.specs.Operations.{IfValue, end_of, add_of, sub_of, mul_of, div_of, rem_of, is_shift_count, shl_of, shr_of};
 
 use crate::end::IntEnd;
@@ -64,9 +64,11 @@ pub fn div(kind: IntKind, left: i128, right: i128) -> IntEnd
     ensures representable { IfValue result (Represents kind) }
 {
     if right == 0 {
-        IntEnd::Undefined(ZERO_DIVISOR)
-    } else if kind.can_represent(left / right) {
-        IntEnd::Value(left / right)
+        return IntEnd::Undefined(ZERO_DIVISOR);
+    }
+    let quotient = quotient(left, right);
+    if kind.can_represent(quotient) {
+        IntEnd::Value(quotient)
     } else {
         IntEnd::Undefined(QUOTIENT_NOT_REPRESENTABLE)
     }
@@ -81,11 +83,27 @@ pub fn rem(kind: IntKind, left: i128, right: i128) -> IntEnd
 {
     if right == 0 {
         IntEnd::Undefined(ZERO_DIVISOR)
-    } else if kind.can_represent(left / right) {
-        IntEnd::Value(left % right)
+    } else if kind.can_represent(quotient(left, right)) {
+        IntEnd::Value(remainder(left, right))
     } else {
         IntEnd::Undefined(QUOTIENT_NOT_REPRESENTABLE)
     }
+}
+
+fn quotient(left: i128, right: i128) -> i128
+    requires left { IsInteger left }
+    requires right { unsigned_abs right ≢ 0 }
+    ensures { result ≡ int_div left right }
+{
+    left / right
+}
+
+fn remainder(left: i128, right: i128) -> i128
+    requires left { IsInteger left }
+    requires right { unsigned_abs right ≢ 0 }
+    ensures { result ≡ int_rem left right }
+{
+    left % right
 }
 
 /// `left << count` (C11 6.5.7p3 and p4), where `kind` is that of the promoted left operand.
@@ -97,7 +115,7 @@ pub fn shl(kind: IntKind, left: i128, count: i128) -> IntEnd
     if !is_shift_count(kind, count) {
         return IntEnd::Undefined(SHIFT_COUNT);
     }
-    let exact = left * (1 << count);
+    let exact = times_power_of_two(left, count);
     if !kind.is_signed() {
         IntEnd::Value(exact.rem_euclid(kind.modulus()))
     } else if left >= 0 && kind.can_represent(exact) {
@@ -118,6 +136,15 @@ pub fn shr(kind: IntKind, left: i128, count: i128) -> IntEnd
     } else {
         IntEnd::Undefined(SHIFT_COUNT)
     }
+}
+
+fn times_power_of_two(left: i128, count: i128) -> i128
+    requires left { IsInteger left }
+    requires not_negative { pos 0 ≤ℤ count }
+    requires below_width { count <ℤ pos 64 }
+    ensures { result ≡ left *ℤ pos (2 ^ unsigned_abs count) }
+{
+    left * (1 << count)
 }
 
 fn is_shift_count(kind: IntKind, count: i128) -> bool

@@ -1,10 +1,10 @@
-use Rattle.std.proofs.Common.{rules, arith, ◌≡◌, refl, FitsSigned, to_z, of_z, ℤ, pos, ◌+ℤ◌, ◌-ℤ◌, ◌∙◌, subst}
+use Rattle.std.proofs.Common.{rules, arith, ◌≡◌, refl, FitsSigned, to_z, of_z, ℤ, ◌+ℤ◌, ◌-ℤ◌}
 use Rattle.std.proofs.lemmas.Int.{ints, to_z-of_z}
 use Rattle.std.specs.Int.{w128, int_rem_euclid}
 use Rattle.cr_ints.specs.declared.kind.IntKind.{IntKind}
-use Rattle.cr_ints.specs.IntKind.{Represents, IsInteger, least_of, modulus_of}
+use Rattle.cr_ints.specs.IntKind.{IsInteger, least_of, modulus_of}
 use Rattle.cr_ints.specs.Conversions.{wrapped}
-use Rattle.cr_ints.proofs.Ranges.{wrapped-represents, represented_fits, narrow_least, narrow_modulus}
+use Rattle.cr_ints.proofs.Ranges.{wrapped-represents, represented_fits, narrow_least}
 use Rattle.cr_ints.proofs.conversion.wrap.Goals as goal
 
 -- what the code computes, in numbers that fit, is the wrapped value
