@@ -5,6 +5,7 @@ mod arithmetic;
 mod conversion;
 mod end;
 mod kind;
+pub mod laws;
 
 pub use arithmetic::{add, div, mul, rem, shl, shr, sub};
 pub use conversion::{common, convert, promote};
