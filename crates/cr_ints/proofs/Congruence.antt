@@ -19,7 +19,7 @@ pub record Place (kind : IntKind) (value : ℤ) : Type 0 where
 
 place_by : (kind : IntKind) (value distance : ℤ) → distance ≡ value -ℤ least_of kind → Represents kind value → Place kind value
 place_by kind value (pos n) e h = let g = greatest_from_least kind in let p = pow_pos (width_of kind) in
-  record { offset = n; is = omega (arith, ints); below = omega (arith, ints, h) }
+    record { offset = n; is = omega (arith, ints); below = omega (arith, ints, h) }
 place_by kind value (negsuc n) e h = absurd (omega (arith, ints, h))
 
 pub place : (kind : IntKind) (value : ℤ) → Represents kind value → Place kind value
@@ -28,32 +28,32 @@ place kind value h = place_by kind value (value -ℤ least_of kind) refl h
 same_rest : (modulus a b x y : ℕ) → a < modulus → b < modulus → a + x * modulus ≡ b + y * modulus → a ≡ b
 same_rest modulus a b x y p q e = sym (rest modulus a x p) ∙ ap (λ n. n % modulus) e ∙ rest modulus b y q
   where
-  rest : (m c z : ℕ) → c < m → (c + z * m) % m ≡ c
-  rest m c z h = add-mul-mod_self_right c z m ∙ mod-eq_of_lt h
+    rest : (m c z : ℕ) → c < m → (c + z * m) % m ≡ c
+    rest m c z h = add-mul-mod_self_right c z m ∙ mod-eq_of_lt h
 
 -- two values of the range that are congruent to one value are one
 same_value : (modulus : ℕ) (least left right value : ℤ) (a b x y : ℕ) → a < modulus → b < modulus
-  → left ≡ least +ℤ pos a → right ≡ least +ℤ pos b
-  → (left ≡ value +ℤ pos (x * modulus)) ⊎ (value ≡ left +ℤ pos (x * modulus))
-  → (right ≡ value +ℤ pos (y * modulus)) ⊎ (value ≡ right +ℤ pos (y * modulus)) → a ≡ b
+    → left ≡ least +ℤ pos a → right ≡ least +ℤ pos b
+    → (left ≡ value +ℤ pos (x * modulus)) ⊎ (value ≡ left +ℤ pos (x * modulus))
+    → (right ≡ value +ℤ pos (y * modulus)) ⊎ (value ≡ right +ℤ pos (y * modulus)) → a ≡ b
 same_value modulus least left right value a b x y p q l r (inl f) (inl g) = same_rest modulus a b y x p q (omega (arith, ints))
 same_value modulus least left right value a b x y p q l r (inl f) (inr g) = same_rest modulus a b 0 (x + y) p q (omega (arith, ints))
 same_value modulus least left right value a b x y p q l r (inr f) (inl g) = same_rest modulus a b (x + y) 0 p q (omega (arith, ints))
 same_value modulus least left right value a b x y p q l r (inr f) (inr g) = same_rest modulus a b x y p q (omega (arith, ints))
 
 pub congruent-unique : (kind : IntKind) (left right value : ℤ) → Represents kind left → Represents kind right
-  → IsCongruent (2 ^ width_of kind) left value → IsCongruent (2 ^ width_of kind) right value → left ≡ right
+    → IsCongruent (2 ^ width_of kind) left value → IsCongruent (2 ^ width_of kind) right value → left ≡ right
 congruent-unique kind left right value h k f g =
-  let l = place kind left h in let r = place kind right k in
-  let e = same_value _ (least_of kind) left right value l.offset r.offset f.0 g.0 l.below r.below l.is r.is f.1 g.1 in
-  l.is ∙ ap (λ n. least_of kind +ℤ pos n) e ∙ sym r.is
+    let l = place kind left h in let r = place kind right k in
+    let e = same_value _ (least_of kind) left right value l.offset r.offset f.0 g.0 l.below r.below l.is r.is f.1 g.1 in
+    l.is ∙ ap (λ n. least_of kind +ℤ pos n) e ∙ sym r.is
 
 wrapped-congruent_by : (kind : IntKind) (value distance : ℤ) → distance ≡ value -ℤ least_of kind
-  → IsCongruent (2 ^ width_of kind) (least_of kind +ℤ int_rem_euclid distance (pos (2 ^ width_of kind))) value
+    → IsCongruent (2 ^ width_of kind) (least_of kind +ℤ int_rem_euclid distance (pos (2 ^ width_of kind))) value
 wrapped-congruent_by kind value (pos a) e =
-  let d = div-add-mod' a (2 ^ width_of kind) in (a / 2 ^ width_of kind, inr (omega (arith, ints)))
+    let d = div-add-mod' a (2 ^ width_of kind) in (a / 2 ^ width_of kind, inr (omega (arith, ints)))
 wrapped-congruent_by kind value (negsuc a) e =
-  let d = div-add-mod' a (2 ^ width_of kind) in let p = pow_pos (width_of kind) in (a / 2 ^ width_of kind + 1, inl (omega (arith, ints)))
+    let d = div-add-mod' a (2 ^ width_of kind) in let p = pow_pos (width_of kind) in (a / 2 ^ width_of kind + 1, inl (omega (arith, ints)))
 
 pub wrapped-congruent : (kind : IntKind) (value : ℤ) → IsCongruent (2 ^ width_of kind) (wrapped kind value) value
 wrapped-congruent kind value = wrapped-congruent_by kind value (value -ℤ least_of kind) refl
@@ -61,7 +61,7 @@ wrapped-congruent kind value = wrapped-congruent_by kind value (value -ℤ least
 -- the value itself, where the range has it
 pub wrapped-kept : (kind : IntKind) (value : ℤ) → Represents kind value → wrapped kind value ≡ value
 wrapped-kept kind value h =
-  congruent-unique kind _ value value (wrapped-represents kind value) h (wrapped-congruent kind value) (0, inl (omega (arith, ints)))
+    congruent-unique kind _ value value (wrapped-represents kind value) h (wrapped-congruent kind value) (0, inl (omega (arith, ints)))
 
 -- a conversion to any kind but `_Bool` wraps
 pub convert_of-wraps : (value : ℤ) (kind : IntKind) → kind ≢ BoolKind → convert_of value kind ≡ wrapped kind value

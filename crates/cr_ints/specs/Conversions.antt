@@ -23,9 +23,9 @@ convert_of value kind = wrapped kind value
 -- all its values, and else `unsigned int`; the others stay
 abbrev pub promote_of : IntKind → IntKind
 promote_of kind =
-  if nat_le (rank_of kind) (rank_of Int)
-  then (if can_represent_all Int kind then Int else UInt)
-  else kind
+    if nat_le (rank_of kind) (rank_of Int)
+    then (if can_represent_all Int kind then Int else UInt)
+    else kind
 
 -- an operand of this kind is what the integer promotions leave as it is
 abbrev pub IsPromoted : IntKind → Type 0
@@ -39,16 +39,16 @@ higher_of left right = if nat_le (rank_of right) (rank_of left) then left else r
 -- represent all values of the unsigned one; else the unsigned kind that corresponds to the signed one
 abbrev pub mixed_of : IntKind → IntKind → IntKind
 mixed_of unsigned signed =
-  if nat_le (rank_of signed) (rank_of unsigned)
-  then unsigned
-  else (if can_represent_all signed unsigned then signed else unsigned_of signed)
+    if nat_le (rank_of signed) (rank_of unsigned)
+    then unsigned
+    else (if can_represent_all signed unsigned then signed else unsigned_of signed)
 
 -- the common kind of two promoted ones
 abbrev pub balanced_of : IntKind → IntKind → IntKind
 balanced_of left right =
-  if is_signed left
-  then (if is_signed right then higher_of left right else mixed_of right left)
-  else (if is_signed right then mixed_of left right else higher_of left right)
+    if is_signed left
+    then (if is_signed right then higher_of left right else mixed_of right left)
+    else (if is_signed right then mixed_of left right else higher_of left right)
 
 -- the usual arithmetic conversions (6.3.1.8p1): both operands are promoted first
 abbrev pub common_of : IntKind → IntKind → IntKind

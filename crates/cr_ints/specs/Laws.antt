@@ -8,7 +8,7 @@ use Rattle.cr_ints.specs.Conversions.{convert_of, promote_of, common_of}
 -- the one is the other with the modulus added some number of times (6.3.1.3p2)
 abbrev pub IsCongruent : ℕ → ℤ → ℤ → Type 0
 IsCongruent modulus left right =
-  (times : ℕ) × ((left ≡ right +ℤ pos (times * modulus)) ⊎ (right ≡ left +ℤ pos (times * modulus)))
+    (times : ℕ) × ((left ≡ right +ℤ pos (times * modulus)) ⊎ (right ≡ left +ℤ pos (times * modulus)))
 
 -- a value that the kind can represent is unchanged (6.3.1.3p1)
 abbrev pub ConversionKeepsRange : Type 0
@@ -21,12 +21,12 @@ ConversionIsRepresentable = (value : ℤ) (kind : IntKind) → Represents kind (
 -- but for `_Bool`, the converted value is congruent to the value modulo the number of the kind's values
 abbrev pub ConversionIsCongruent : Type 0
 ConversionIsCongruent = (value : ℤ) (kind : IntKind) → kind ≢ BoolKind
-  → IsCongruent (2 ^ width_of kind) (convert_of value kind) value
+    → IsCongruent (2 ^ width_of kind) (convert_of value kind) value
 
 -- and it is the only such value that the kind can represent
 abbrev pub ConversionIsUnique : Type 0
 ConversionIsUnique = (value result : ℤ) (kind : IntKind) → kind ≢ BoolKind → Represents kind result
-  → IsCongruent (2 ^ width_of kind) result value → result ≡ convert_of value kind
+    → IsCongruent (2 ^ width_of kind) result value → result ≡ convert_of value kind
 
 -- a promotion keeps every value (6.3.1.1p3)
 abbrev pub PromotionKeepsValues : Type 0

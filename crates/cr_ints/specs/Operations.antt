@@ -22,9 +22,9 @@ modulo_of kind exact = int_rem_euclid exact (modulus_of kind)
 -- a signed result has to be representable (6.5p5)
 abbrev pub end_of : IntKind → ℤ → IntEnd
 end_of kind exact =
-  if is_signed kind
-  then (if can_represent kind exact then Value exact else Undefined NOT_REPRESENTABLE)
-  else Value (modulo_of kind exact)
+    if is_signed kind
+    then (if can_represent kind exact then Value exact else Undefined NOT_REPRESENTABLE)
+    else Value (modulo_of kind exact)
 
 -- 6.5.6p5
 abbrev pub add_of : IntKind → ℤ → ℤ → IntEnd
@@ -43,9 +43,9 @@ mul_of kind left right = end_of kind (left *ℤ right)
 -- `/` and `%` are undefined where the divisor is 0 (6.5.5p5), and where the quotient isn't representable (6.5.5p6)
 abbrev pub quotient_end_of : IntKind → ℤ → ℤ → ℤ → IntEnd
 quotient_end_of kind left right result =
-  if unsigned_abs right == 0
-  then Undefined ZERO_DIVISOR
-  else (if can_represent kind (int_div left right) then Value result else Undefined QUOTIENT_NOT_REPRESENTABLE)
+    if unsigned_abs right == 0
+    then Undefined ZERO_DIVISOR
+    else (if can_represent kind (int_div left right) then Value result else Undefined QUOTIENT_NOT_REPRESENTABLE)
 
 -- the quotient with any fractional part discarded (6.5.5p6)
 abbrev pub div_of : IntKind → ℤ → ℤ → IntEnd
@@ -64,19 +64,19 @@ is_shift_count kind count = int_le (pos 0) count && int_lt count (pos (width_of 
 -- the left operand times a power of two: of a signed kind it isn't negative and the product is representable (6.5.7p4)
 abbrev pub shifted_left_of : IntKind → ℤ → ℤ → IntEnd
 shifted_left_of kind left exact =
-  if is_signed kind
-  then (if int_le (pos 0) left && can_represent kind exact then Value exact else Undefined LEFT_SHIFT)
-  else Value (modulo_of kind exact)
+    if is_signed kind
+    then (if int_le (pos 0) left && can_represent kind exact then Value exact else Undefined LEFT_SHIFT)
+    else Value (modulo_of kind exact)
 
 abbrev pub shl_of : IntKind → ℤ → ℤ → IntEnd
 shl_of kind left count =
-  if is_shift_count kind count
-  then shifted_left_of kind left (left *ℤ pos (2 ^ unsigned_abs count))
-  else Undefined SHIFT_COUNT
+    if is_shift_count kind count
+    then shifted_left_of kind left (left *ℤ pos (2 ^ unsigned_abs count))
+    else Undefined SHIFT_COUNT
 
 -- the left operand divided by a power of two (6.5.7p5); that a negative one is rounded down too is this project's choice
 abbrev pub shr_of : IntKind → ℤ → ℤ → IntEnd
 shr_of kind left count =
-  if is_shift_count kind count
-  then Value (int_div_euclid left (pos (2 ^ unsigned_abs count)))
-  else Undefined SHIFT_COUNT
+    if is_shift_count kind count
+    then Value (int_div_euclid left (pos (2 ^ unsigned_abs count)))
+    else Undefined SHIFT_COUNT

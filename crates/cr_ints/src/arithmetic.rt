@@ -2,8 +2,9 @@ ghost use Rattle.std.specs.Prelude.{◌≡◌, ◌^◌, pos, ◌*ℤ◌, ◌≤�
 ghost use Rattle.cr_ints.specs.IntKind.{Represents, IsInteger};
 ghost use Rattle.cr_ints.specs.Operations.{IfValue, end_of, add_of, sub_of, mul_of, div_of, rem_of, is_shift_count, shl_of, shr_of};
 
-use crate::end::IntEnd;
-use crate::end::{LEFT_SHIFT, NOT_REPRESENTABLE, QUOTIENT_NOT_REPRESENTABLE, SHIFT_COUNT, ZERO_DIVISOR};
+use crate::end::{
+    IntEnd, LEFT_SHIFT, NOT_REPRESENTABLE, QUOTIENT_NOT_REPRESENTABLE, SHIFT_COUNT, ZERO_DIVISOR,
+};
 use crate::kind::IntKind;
 
 /// `left + right` (C11 6.5.6p5).

@@ -30,11 +30,7 @@ pub fn promote(kind: IntKind) -> IntKind
     ensures { result ≡ promote_of kind }
 {
     match kind {
-        IntKind::UInt
-        | IntKind::Long
-        | IntKind::ULong
-        | IntKind::LLong
-        | IntKind::ULLong => kind,
+        IntKind::UInt | IntKind::Long | IntKind::ULong | IntKind::LLong | IntKind::ULLong => kind,
         _ => IntKind::Int,
     }
 }
@@ -62,7 +58,11 @@ fn balance(left: IntKind, right: IntKind) -> IntKind
 fn higher(left: IntKind, right: IntKind) -> IntKind
     ensures { result ≡ higher_of left right }
 {
-    if left.rank() < right.rank() { right } else { left }
+    if left.rank() < right.rank() {
+        right
+    } else {
+        left
+    }
 }
 
 fn mixed(unsigned: IntKind, signed: IntKind) -> IntKind

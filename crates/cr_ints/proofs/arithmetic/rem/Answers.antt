@@ -9,8 +9,8 @@ pub remainder-requires-clause-left : goal.remainder-requires-clause-left
 remainder-requires-clause-left c = search (rules, represented_integer)
 
 pub returns-then-can_represent-clause-representable :
-  goal.returns-then-can_represent-clause-representable
+    goal.returns-then-can_represent-clause-representable
 returns-then-can_represent-clause-representable c =
-  let e = rw (to_z-of_z w128 c.args.left c.ranges.left, to_z-of_z w128 c.args.right c.ranges.right) at c.remainder.ensures in
-  let fits : FitsSigned w128 c.remainder.result = search rules in
-  rw (to_z-of_z w128 c.remainder.result fits, e) (rem-represents c.args.kind c.args.left c.args.right c.requires.left)
+    let e = rw (to_z-of_z w128 c.args.left c.ranges.left, to_z-of_z w128 c.args.right c.ranges.right) at c.remainder.ensures in
+    let fits : FitsSigned w128 c.remainder.result = search rules in
+    rw (to_z-of_z w128 c.remainder.result fits, e) (rem-represents c.args.kind c.args.left c.args.right c.requires.left)

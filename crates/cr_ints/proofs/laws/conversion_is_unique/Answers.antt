@@ -4,4 +4,4 @@ use Rattle.cr_ints.proofs.laws.conversion_is_unique.Goals as goal
 
 pub returns : goal.returns
 returns c = λ value result kind other h f.
-  rw (convert_of-wraps value kind other) (congruent-unique kind result _ value h (wrapped-represents kind value) f (wrapped-congruent kind value))
+    rw (convert_of-wraps value kind other) (congruent-unique kind result _ value h (wrapped-represents kind value) f (wrapped-congruent kind value))
