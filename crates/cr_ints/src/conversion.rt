@@ -27,7 +27,8 @@ fn wrap(value: i128, to: IntKind) -> i128
 
 /// The kind that the integer promotions give (6.3.1.1p2).
 pub fn promote(kind: IntKind) -> IntKind
-    ensures { result ≡ promote_of kind }
+    ensures value { result ≡ promote_of kind }
+    ensures promoted { IsPromoted result }
 {
     match kind {
         IntKind::UInt | IntKind::Long | IntKind::ULong | IntKind::LLong | IntKind::ULLong => kind,
