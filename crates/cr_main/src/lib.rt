@@ -4,5 +4,9 @@
 #![tactic(auto)]
 
 mod lines;
+mod settings;
+mod top;
 
 pub use lines::LinesPass;
+pub use settings::{Settings, Source, WordFault, words};
+pub use top::run;
