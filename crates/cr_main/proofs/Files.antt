@@ -1,6 +1,6 @@
 -- What was read of a file.
 use Rattle.std.proofs.Common.{◌≡◌, ◌⊎◌, inl, inr, ◌+◌, ◌-◌, ◌<◌, ◌≤◌, ℕ, List, ◌∷◌, ◌++◌, [], length, take, min, Option, Some, None, refl, sym, ap, ◌∙◌, subst, arith}
-use Rattle.std.proofs.lemmas.List.{length-take, append_cancel_left}
+use Rattle.std.proofs.lemmas.List.{length-take, append_cancel_left, take_all}
 use Rattle.std.specs.Global.{Vec}
 use Rattle.cr_outside.specs.Files.{Names, content_of, Reads, Shows}
 use Rattle.cr_outside.specs.declared.files.ReadAnswer.{ReadAnswer}
@@ -10,16 +10,12 @@ use Rattle.cr_reduce.specs.TokenLaw.{IsTokenized}
 use Rattle.cr_main.specs.Run.{FileHas, FileLacks, IsRefused}
 use Rattle.cr_main.specs.Words.{HasSettings}
 
-take_whole : (n : ℕ) (xs : List ℕ) → length xs ≤ n → take n xs ≡ xs
-take_whole n [] short = ?
-take_whole n (x ∷ xs) short = ?
-
 whole_of : (content : Option (List ℕ)) (bytes : List ℕ) → Shows content 1048577 bytes → length bytes ≤ 1048576 → content ≡ Some bytes
 whole_of None bytes shown short = absurd shown
 whole_of (Some whole) bytes shown short =
     let least : min 1048577 (length whole) ≡ length bytes = sym (length-take 1048577 whole) ∙ ap length (sym shown) in
     let few : length whole ≤ 1048577 = grind arith in
-    ap Some (sym (shown ∙ take_whole 1048577 whole few))
+    ap Some (sym (shown ∙ take_all 1048577 whole few))
 
 -- a file of at most 1,048,576 bytes was read whole
 pub read_whole : (told : Option Names) (name : List ℕ) (v : Vec ℕ) → Reads told name 1048577 (Bytes v) → length v.items ≤ 1048576 → FileHas told name v.items

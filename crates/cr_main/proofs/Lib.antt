@@ -1,3 +1,4 @@
 pub mod LineLemmas
 pub mod Names
 pub mod Files
+pub mod RunFile
