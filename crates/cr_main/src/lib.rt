@@ -10,3 +10,6 @@ mod top;
 pub use lines::LinesPass;
 pub use settings::{Settings, Source, WordFault, words};
 pub use top::run;
+
+#[cfg(test)]
+mod tests;
