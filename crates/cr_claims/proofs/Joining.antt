@@ -1,4 +1,4 @@
--- Splitting, joining and closing keep the rule, and what closing tells.
+-- Splitting and joining keep the rule, and what closing tells.
 use Rattle.std.proofs.Common.{◌≡◌, ◌≢◌, ℕ, ◌+◌, ◌-◌, ◌*◌, ◌<◌, ◌≤◌, Bool, true, false, if◌then◌else◌, List, [], ◌∷◌, ◌++◌, length, get_or, set, refl, sym, ap, subst, ◌∙◌, arith, ◌⊎◌, inl, inr}
 use Prim.Native.Nat.{zero, suc}
 use mathlib.Core.Option.{some, some-injective, some-ne-none}
@@ -15,7 +15,7 @@ use Rattle.cr_core.proofs.FirstHit.{IsOverAt, first_is}
 use Rattle.cr_core.proofs.Totals.{total-marks}
 use Rattle.cr_claims.specs.declared.view.View.{View}
 use Rattle.cr_claims.specs.View.{new_view, spent_view, one_split_more, with_joined, joins}
-use Rattle.cr_claims.specs.Rule.{live, in_lists, in_views, keeps, Fits, Keeps}
+use Rattle.cr_claims.specs.Rule.{live, in_lists, in_views, keeper_count, Fits, IsKept}
 use Rattle.cr_claims.specs.Pass.{held, IsDone}
 use Rattle.cr_claims.proofs.Views.{total-set, total-at, total-append, only_there, live-is, live-spent}
 use Rattle.cr_claims.proofs.Steps.{Kept, fits_falls}
@@ -52,27 +52,27 @@ least_low len next least sum s =
     | inr (p, k, e, h) ↦ (let short = (s.no_hit_lies_below_it p k h).0 in omega (arith, kind_small k))
     ]
 
-keeps-yes : (v : View) → v.keeper ≡ true → keeps v ≡ 1
-keeps-yes v h = ap {B = ℕ} (λ (b : Bool). if b then 1 else 0) h
+keeper_count-yes : (v : View) → v.keeper ≡ true → keeper_count v ≡ 1
+keeper_count-yes v h = ap {B = ℕ} (λ (b : Bool). if b then 1 else 0) h
 
-keeps-no : (v : View) → v.keeper ≡ false → keeps v ≡ 0
-keeps-no v h = ap {B = ℕ} (λ (b : Bool). if b then 1 else 0) h
+keeper_count-no : (v : View) → v.keeper ≡ false → keeper_count v ≡ 0
+keeper_count-no v h = ap {B = ℕ} (λ (b : Bool). if b then 1 else 0) h
 
-not_keeper : (v : View) (b : Bool) → v.keeper ≡ b → keeps v ≡ 0 → v.keeper ≡ false
-not_keeper v true e h = absurd (omega (arith, keeps-yes v e))
+not_keeper : (v : View) (b : Bool) → v.keeper ≡ b → keeper_count v ≡ 0 → v.keeper ≡ false
+not_keeper v true e h = absurd (omega (arith, keeper_count-yes v e))
 not_keeper v false e h = e
 
-no_splits : (len least : ℕ) (u : View) (b : Bool) → u.spent ≡ b → (u.spent ≡ false → Fits len least u) → live keeps u ≡ 0 → live splits u ≡ 0
+no_splits : (len least : ℕ) (u : View) (b : Bool) → u.spent ≡ b → (u.spent ≡ false → Fits len least u) → live keeper_count u ≡ 0 → live splits u ≡ 0
 no_splits len least u true e f h = live-spent splits u e
 no_splits len least u false e f h =
-    omega (arith, live-is splits u e, ((f e).only_the_keeper_splits_and_joins (not_keeper u u.keeper refl (omega (arith, live-is keeps u e)))).0)
+    omega (arith, live-is splits u e, ((f e).only_the_keeper_splits_and_joins (not_keeper u u.keeper refl (omega (arith, live-is keeper_count u e)))).0)
 
 -- the keeper alone has splits
-keeper_splits : (len : ℕ) (words : List ℕ) (vs : List View) (id : ℕ) (v : View) (k : Keeps len words vs) → get_elem? vs id ≡ some v → v.spent ≡ false
+keeper_splits : (len : ℕ) (words : List ℕ) (vs : List View) (id : ℕ) (v : View) (k : IsKept len words vs) → get_elem? vs id ≡ some v → v.spent ≡ false
     → v.keeper ≡ true → total (live splits) vs ≡ v.splits
 keeper_splits len words vs id v k there is_live keeper =
     let only = k.one_is_the_keeper in
-    only_there (live keeps) (live splits) vs id v there (omega (arith, live-is keeps v is_live, keeps-yes v keeper))
+    only_there (live keeper_count) (live splits) vs id v there (omega (arith, live-is keeper_count v is_live, keeper_count-yes v keeper))
       (λ j u at. no_splits len k.least u u.spent refl (k.each_fits j u at)) ∙ live-is splits v is_live
 
 pub may_split : (len id : ℕ) (v : View) → v.spent ≡ false → v.keeper ≡ true → v.splits < 4096 → Splits (Kept len) id v (one_split_more v) (new_view v)
@@ -118,20 +118,20 @@ may_split len id v is_live keeper few s k there =
         ];
       one_is_the_keeper =
         (let only = k.one_is_the_keeper in
-         omega (arith, total-append (live keeps) (set vs id l) (r ∷ []), total-set (live keeps) vs id v l there));
+         omega (arith, total-append (live keeper_count) (set vs id l) (r ∷ []), total-set (live keeper_count) vs id v l there));
       lists_number_the_splits = (let lists = k.lists_number_the_splits in omega (arith, sym (to one)));
       splits_are_few = omega arith;
     }
 
 -- a view beside the keeper's isn't the keeper's
-other_is_no_keeper : (vs : List View) (id other : ℕ) (v w : View) → total (live keeps) vs ≡ 1 → get_elem? vs id ≡ some v → v.spent ≡ false → v.keeper ≡ true
+other_is_no_keeper : (vs : List View) (id other : ℕ) (v w : View) → total (live keeper_count) vs ≡ 1 → get_elem? vs id ≡ some v → v.spent ≡ false → v.keeper ≡ true
     → other ≢ id → get_elem? vs other ≡ some w → w.spent ≡ false → w.keeper ≡ false
 other_is_no_keeper vs id other v w only there is_live keeper differ there_too is_live_too =
     let rest = set vs id spent_view in
     let at : get_elem? rest other ≡ some w = set_else vs id other spent_view differ ∙ there_too in
-    let none : live keeps w ≡ 0 =
-      omega (arith, total-at (live keeps) rest other w at, total-set (live keeps) vs id v spent_view there, live-is keeps v is_live, keeps-yes v keeper) in
-    not_keeper w w.keeper refl (omega (arith, live-is keeps w is_live_too))
+    let none : live keeper_count w ≡ 0 =
+      omega (arith, total-at (live keeper_count) rest other w at, total-set (live keeper_count) vs id v spent_view there, live-is keeper_count v is_live, keeper_count-yes v keeper) in
+    not_keeper w w.keeper refl (omega (arith, live-is keeper_count w is_live_too))
 
 joined_over : (len least : ℕ) (l : Row) (ls : List Row) → (l ≡ []) ⊎ IsOver len least (last_position l)
     → ((i : ℕ) → (get_or ls i [] ≡ []) ⊎ IsOver len least (last_position (get_or ls i [])))
@@ -181,8 +181,8 @@ may_join len id other v w is_live is_live_too keeper rests s k there differ afte
       one_is_the_keeper =
         (let only = k.one_is_the_keeper in
          let no = other_is_no_keeper vs id other v w only there is_live keeper differ there_too is_live_too in
-         omega (arith, total-set (live keeps) mid other w spent_view after, total-set (live keeps) vs id v both there, live-is keeps w is_live_too,
-           keeps-no w no));
+         omega (arith, total-set (live keeper_count) mid other w spent_view after, total-set (live keeper_count) vs id v both there, live-is keeper_count w is_live_too,
+           keeper_count-no w no));
       lists_number_the_splits = (let lists = k.lists_number_the_splits in omega (arith, to one));
       splits_are_few = (let few = k.splits_are_few in omega arith);
     }
@@ -206,7 +206,7 @@ no_lists f u true e h = live-spent (in_lists f) u e
 no_lists f u false e h = absurd (omega (arith, live-is (in_lists one) u e))
 
 -- where as many passes were joined as were split, the keeper holds all lists
-holds_all : (len : ℕ) (words : List ℕ) (vs : List View) (id : ℕ) (v : View) (k : Keeps len words vs) → get_elem? vs id ≡ some v → v.spent ≡ false
+holds_all : (len : ℕ) (words : List ℕ) (vs : List View) (id : ℕ) (v : View) (k : IsKept len words vs) → get_elem? vs id ≡ some v → v.spent ≡ false
     → v.keeper ≡ true → joins v ≡ v.splits → (f : Row → ℕ) → in_views vs f ≡ held v f
 holds_all len words vs id v k there is_live keeper all f =
     let lists = k.lists_number_the_splits in
@@ -240,7 +240,7 @@ over_at len next least v sound f done =
     ]
 
 -- what the word `least` says once all passes are joined
-pub closes : (len : ℕ) (words : List ℕ) (vs : List View) (id : ℕ) (v : View) (n : ℕ) (k : Keeps len words vs) → get_elem? vs id ≡ some v → v.spent ≡ false
+pub closes : (len : ℕ) (words : List ℕ) (vs : List View) (id : ℕ) (v : View) (n : ℕ) (k : IsKept len words vs) → get_elem? vs id ≡ some v → v.spent ≡ false
     → v.keeper ≡ true → joins v ≡ v.splits → IsDone v → get_elem? words 1 ≡ some n → IsFirst len (held v) (first_of len n)
 closes len words vs id v n k there is_live keeper all done at =
     let P : Sum → Type 0 = IsSound len k.next k.least in

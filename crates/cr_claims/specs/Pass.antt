@@ -1,6 +1,8 @@
 -- What contracts read of a pass and of the claims.
 use Rattle.std.specs.Prelude.{◌≡◌, ◌≢◌, ℕ, ◌⊎◌, true, false, List, [], ◌∷◌, slice_index_or}
 use Rattle.cr_claims.specs.declared.view.View.{View}
+use Rattle.cr_claims.specs.View.{moved}
+use Rattle.atomic_table.specs.declared.shared.Seat.{Seat}
 use Rattle.cr_claims.specs.declared.seats.Claims.{Claims}
 use Rattle.cr_claims.specs.declared.seats.Pass.{Pass}
 use Rattle.cr_core.specs.declared.marks.Mark.TheVariants.{Open}
@@ -14,9 +16,9 @@ view_of p = p.seat.me.0
 abbrev pub IsOf : Claims → Pass → Type 0
 IsOf c p = (p.seat.table_id ≡ c.table.shared.table_id) × ((view_of p).len ≡ c.len)
 
--- the pass was not moved to other claims
-abbrev pub StaysWith : Pass → Pass → Type 0
-StaysWith old new = new.seat.table_id ≡ old.seat.table_id
+-- the pass's seat with its read word and its looks left out: what a look leaves as it was
+abbrev pub steady : Pass → Seat ℕ View
+steady p = record p.seat { me = (moved (view_of p).own 0 0 (view_of p).left (view_of p), p.seat.me.1) }
 
 -- what is counted in all lists that a pass holds
 abbrev pub held : View → Sum

@@ -19,8 +19,8 @@ abbrev pub in_views : List View → Sum
 in_views vs = λ f. total (live (in_lists f)) vs
 
 -- 1 for the view of the keeper's, else 0
-abbrev pub keeps : View → ℕ
-keeps v = if v.keeper then 1 else 0
+abbrev pub keeper_count : View → ℕ
+keeper_count v = if v.keeper then 1 else 0
 
 -- what the rule says of each view that isn't spent
 pub record Fits (len least : ℕ) (v : View) : Type 0 where
@@ -31,7 +31,7 @@ pub record Fits (len least : ℕ) (v : View) : Type 0 where
   pub it_joined_what_is_over : (i : ℕ) → (slice_index_or v.joined i [] ≡ []) ⊎ IsOver len least (last_position (slice_index_or v.joined i []))
   pub only_the_keeper_splits_and_joins : v.keeper ≡ false → (v.splits ≡ 0) × (v.joined ≡ [])
 
-pub record Keeps (len : ℕ) (words : List ℕ) (views : List View) : Type 0 where
+pub record IsKept (len : ℕ) (words : List ℕ) (views : List View) : Type 0 where
   pub next : ℕ
   pub least : ℕ
   pub two_words : words ≡ next ∷ least ∷ []
@@ -39,7 +39,7 @@ pub record Keeps (len : ℕ) (words : List ℕ) (views : List View) : Type 0 whe
   -- the words with all lists are a sound state of the core
   pub is_sound : IsSound len next least (in_views views)
   pub each_fits : (id : ℕ) (v : View) → get_elem? views id ≡ some v → v.spent ≡ false → Fits len least v
-  pub one_is_the_keeper : total (live keeps) views ≡ 1
+  pub one_is_the_keeper : total (live keeper_count) views ≡ 1
   -- each split made one list, and none is lost: the passes beside the keeper number its splits less its joins
   pub lists_number_the_splits : in_views views (λ _. 1) ≡ 1 + total (live (λ v. v.splits)) views
   pub splits_are_few : total (live (λ v. v.splits)) views ≤ 4096

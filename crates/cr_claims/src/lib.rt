@@ -6,11 +6,13 @@
 //! position in order that wasn't rejected. None of the four waits or takes memory. It stands on cr_core and `atomic_table`.
 #![tactic(auto)]
 
+mod laws;
 mod plays;
 mod seats;
 #[cfg(test)]
 mod tests;
 mod view;
 
+pub use laws::{each_step_is_allowed, words_and_passes_are_a_core};
 pub use seats::{Claims, Pass};
 pub use view::View;

@@ -2,7 +2,7 @@
 ghost use Rattle.std.specs.Prelude.{◌≡◌, ◌≤◌, ◌<◌, ◌⊎◌, [], ◌∷◌};
 ghost use Prim.Native.Nat.{min};
 ghost use Rattle.cr_claims.specs.View.{first_view, new_view, spent_view, with_own, looked, struck, gone, one_split_more, with_joined};
-ghost use Rattle.cr_claims.specs.Rule.{Keeps};
+ghost use Rattle.cr_claims.specs.Rule.{IsKept};
 ghost use Rattle.cr_core.specs.declared.events.Settle.{Settle};
 ghost use Rattle.cr_core.specs.declared.events.Settle.TheVariants as settle;
 ghost use Rattle.cr_core.specs.Row.{last_position};
@@ -17,7 +17,7 @@ use std::marker::PhantomData;
 pub struct TwoWords;
 
 impl TableRule<u8, View, u64> for TwoWords {
-    ghost holds = { λ len s. Keeps len s.words s.views };
+    ghost holds = { λ len s. IsKept len s.words s.views };
 
     ghost first = { first_view };
 }

@@ -1,6 +1,6 @@
 ghost use Rattle.std.specs.Prelude.{◌≡◌, ◌≢◌, ◌↔◌, ◌+◌, ◌*◌, ◌/◌, ◌<◌, ◌≤◌, ◌⊎◌, [], ◌∷◌, true, false, IsTrue, IfOk};
 ghost use Prim.Native.Nat.{min};
-ghost use Rattle.cr_core.specs.Row.{word, last_position, last_mark, with_last};
+ghost use Rattle.cr_core.specs.Row.{word, last_position, last_mark, with_last, IsLast};
 ghost use Rattle.cr_core.specs.State.{IsFirst};
 ghost use Rattle.cr_core.specs.Machine.{MayClaim, MayHit, MayLeave, claimed, settled};
 ghost use Rattle.cr_claims.specs.View.{first_view, new_view, with_own, looked, struck, gone, one_split_more, with_joined, joins};
@@ -34,7 +34,7 @@ pub struct Pass {
 }
 
 impl Claims {
-    ghost use Rattle.cr_claims.specs.Pass.{view_of, IsOf, StaysWith, held, IsDone};
+    ghost use Rattle.cr_claims.specs.Pass.{view_of, IsOf, steady, held, IsDone};
 
     /// The words of an epoch of `len` positions, and its first pass, the keeper's.
     pub fn open(alloc: Global, len: u64) -> Result<(Claims, Pass), NoMemory>
@@ -64,6 +64,7 @@ impl Claims {
         requires may { MayClaim self.now.len (view_of pass.old).read D.done (view_of pass.old).own }
         ensures stays { IsOf self.now pass.new }
         ensures view { view_of pass.new ≡ with_own (claimed result D.done (view_of pass.old).own) (view_of pass.old) }
+        ensures last { IsLast (view_of pass.new).own (record { position = result; mark = Mark.Open }) }
         ensures rises { RisesAbove result (view_of pass.old).own }
     {
         let position = self.table.shared.fetch_add::<Claim<D>>(&mut pass.seat, 0, 1);
@@ -79,6 +80,7 @@ impl Claims {
         requires may { MayClaim self.now.len (view_of pass.old).read done (view_of pass.old).own }
         ensures stays { IsOf self.now pass.new }
         ensures view { view_of pass.new ≡ with_own (claimed result done (view_of pass.old).own) (view_of pass.old) }
+        ensures last { IsLast (view_of pass.new).own (record { position = result; mark = Mark.Open }) }
         ensures rises { RisesAbove result (view_of pass.old).own }
     {
         match done {
@@ -94,6 +96,7 @@ impl Claims {
         requires is_open { last_mark (view_of pass.old).own ≡ Mark.Open }
         ensures stays { IsOf self.now pass.new }
         ensures view { view_of pass.new ≡ looked (view_of pass.new).read (view_of pass.old) }
+        ensures steady { steady pass.new ≡ steady pass.old }
         ensures falls { (view_of pass.new).read ≤ (view_of pass.old).read }
         ensures lower { IsTrue result ↔ ((view_of pass.new).read / 4 < last_position (view_of pass.old).own) }
     {

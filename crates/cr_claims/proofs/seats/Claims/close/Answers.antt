@@ -3,7 +3,7 @@ use mathlib.Core.Option.{some}
 use lib.ListN.{get_elem?}
 use Rattle.cr_core.specs.declared.events.First.{First}
 use Rattle.cr_core.specs.State.{IsFirst}
-use Rattle.cr_claims.specs.Rule.{Keeps}
+use Rattle.cr_claims.specs.Rule.{IsKept}
 use Rattle.cr_claims.specs.Pass.{held, view_of}
 use Rattle.cr_claims.proofs.Joining.{closes}
 use Rattle.cr_claims.proofs.seats.Claims.close.Goals as goal
@@ -13,7 +13,7 @@ returns c =
     let pass = c.args.pass in
     let len = c.args.self.len in
     let (s, seen, words, _, _) = c.close_with-closed.ensures.values.2 in
-    let N : ℕ → Type 0 = λ n. Keeps n s.words s.views in
+    let N : ℕ → Type 0 = λ n. IsKept n s.words s.views in
     let P : First → Type 0 = λ r. IsFirst len (held (view_of pass)) r in
     let at : get_elem? s.words 1 ≡ some c.word-least.result = ap (λ (ws : List ℕ). get_elem? ws 1) words ∙ c.word-least.ensures in
     subst P (sym c.hit_of.ensures)
