@@ -1,9 +1,9 @@
 -- Splitting and joining keep the rule, and what closing tells.
-use Rattle.std.proofs.Common.{◌≡◌, ◌≢◌, ℕ, ◌+◌, ◌-◌, ◌*◌, ◌<◌, ◌≤◌, Bool, true, false, if◌then◌else◌, List, [], ◌∷◌, ◌++◌, length, get_or, set, refl, sym, ap, subst, ◌∙◌, arith, ◌⊎◌, inl, inr}
+use Rattle.std.proofs.Common.{◌≡◌, ◌≢◌, ℕ, ◌+◌, ◌<◌, ◌≤◌, Bool, true, false, if◌then◌else◌, List, [], ◌∷◌, ◌++◌, length, get_or, set, refl, sym, ap, subst, ◌∙◌, arith, ◌⊎◌, inl, inr}
 use Prim.Native.Nat.{zero, suc}
-use mathlib.Core.Option.{some, some-injective, some-ne-none}
+use mathlib.Core.Option.{some, some-injective}
 use lib.ListN.{get_elem?}
-use Rattle.atomic_table.specs.Table.{State, Splits, Joins}
+use Rattle.atomic_table.specs.Table.{Splits, Joins}
 use Rattle.atomic_table.proofs.Lists.{at_set, at_snoc, set_else}
 use Rattle.cr_core.specs.declared.marks.HitKind.{HitKind}
 use Rattle.cr_core.specs.declared.marks.HitKind.TheVariants.{Yes, Failed, Starved}
@@ -18,7 +18,7 @@ use Rattle.cr_claims.specs.View.{new_view, spent_view, one_split_more, with_join
 use Rattle.cr_claims.specs.Rule.{live, in_lists, in_views, keeper_count, Fits, IsKept}
 use Rattle.cr_claims.specs.Pass.{held, IsDone}
 use Rattle.cr_claims.proofs.Views.{total-set, total-at, total-append, only_there, live-is, live-spent}
-use Rattle.cr_claims.proofs.Steps.{Kept, fits_falls}
+use Rattle.cr_claims.proofs.Steps.{Kept}
 
 abbrev splits : View → ℕ
 splits v = v.splits
@@ -48,8 +48,8 @@ kind_small Starved = omega arith
 least_low : (len next least : ℕ) (sum : Sum) → IsSound len next least sum → least ≤ opening len
 least_low len next least sum s =
     elim s.the_least_word_is_the_first_or_a_hit [
-      inl e ↦ omega arith
-    | inr (p, k, e, h) ↦ (let short = (s.no_hit_lies_below_it p k h).0 in omega (arith, kind_small k))
+      | inl e ↦ omega arith
+      | inr (p, k, e, h) ↦ (let short = (s.no_hit_lies_below_it p k h).0 in omega (arith, kind_small k))
     ]
 
 keeper_count-yes : (v : View) → v.keeper ≡ true → keeper_count v ≡ 1
@@ -73,7 +73,7 @@ keeper_splits : (len : ℕ) (words : List ℕ) (vs : List View) (id : ℕ) (v : 
 keeper_splits len words vs id v k there is_live keeper =
     let only = k.one_is_the_keeper in
     only_there (live keeper_count) (live splits) vs id v there (omega (arith, live-is keeper_count v is_live, keeper_count-yes v keeper))
-      (λ j u at. no_splits len k.least u u.spent refl (k.each_fits j u at)) ∙ live-is splits v is_live
+    (λ j u at. no_splits len k.least u u.spent refl (k.each_fits j u at)) ∙ live-is splits v is_live
 
 pub may_split : (len id : ℕ) (v : View) → v.spent ≡ false → v.keeper ≡ true → v.splits < 4096 → Splits (Kept len) id v (one_split_more v) (new_view v)
 may_split len id v is_live keeper few s k there =
@@ -97,11 +97,11 @@ may_split len id v is_live keeper few s k there =
       only_the_keeper_splits_and_joins = λ e. cc;
     } in
     let to : (g : Row → ℕ) → in_views vs g + g [] ≡ in_views (set vs id l ++ r ∷ []) g =
-      λ g. omega (arith, total-append (live (in_lists g)) (set vs id l) (r ∷ []), total-set (live (in_lists g)) vs id v l there) in
+    λ g. omega (arith, total-append (live (in_lists g)) (set vs id l) (r ∷ []), total-set (live (in_lists g)) vs id v l there) in
     let Q : Sum → Type 0 = IsSound len k.next k.least in
     let had = keeper_splits len s.words vs id v k there is_live keeper in
     let splits_now : total (live splits) (set vs id l ++ r ∷ []) ≡ v.splits + 1 =
-      omega (arith, total-append (live splits) (set vs id l) (r ∷ []), total-set (live splits) vs id v l there, live-is splits v is_live, live-is splits l is_live) in
+    omega (arith, total-append (live splits) (set vs id l) (r ∷ []), total-set (live splits) vs id v l there, live-is splits v is_live, live-is splits l is_live) in
     record {
       next = k.next;
       least = k.least;
@@ -109,16 +109,16 @@ may_split len id v is_live keeper few s k there =
       length_is_small = k.length_is_small;
       is_sound = subst Q (λ j g. to g j) (one_more len k.next k.least (in_views vs) k.is_sound);
       each_fits = λ j u at there_too.
-        elim (at_snoc (set vs id l) r u j at) [
-          inl old ↦ elim (at_set vs id j l u old) [
-            inl (same, e) ↦ (let F : View → Type 0 = Fits len k.least in subst F e more)
-          | inr (other, older) ↦ k.each_fits j u older there_too
-          ]
-        | inr e ↦ (let F : View → Type 0 = Fits len k.least in subst F e new)
-        ];
+          elim (at_snoc (set vs id l) r u j at) [
+            | inl old ↦ elim (at_set vs id j l u old) [
+              | inl (same, e) ↦ (let F : View → Type 0 = Fits len k.least in subst F e more)
+              | inr (other, older) ↦ k.each_fits j u older there_too
+            ]
+            | inr e ↦ (let F : View → Type 0 = Fits len k.least in subst F e new)
+          ];
       one_is_the_keeper =
-        (let only = k.one_is_the_keeper in
-         omega (arith, total-append (live keeper_count) (set vs id l) (r ∷ []), total-set (live keeper_count) vs id v l there));
+          (let only = k.one_is_the_keeper in
+          omega (arith, total-append (live keeper_count) (set vs id l) (r ∷ []), total-set (live keeper_count) vs id v l there));
       lists_number_the_splits = (let lists = k.lists_number_the_splits in omega (arith, sym (to one)));
       splits_are_few = omega arith;
     }
@@ -130,7 +130,7 @@ other_is_no_keeper vs id other v w only there is_live keeper differ there_too is
     let rest = set vs id spent_view in
     let at : get_elem? rest other ≡ some w = set_else vs id other spent_view differ ∙ there_too in
     let none : live keeper_count w ≡ 0 =
-      omega (arith, total-at (live keeper_count) rest other w at, total-set (live keeper_count) vs id v spent_view there, live-is keeper_count v is_live, keeper_count-yes v keeper) in
+    omega (arith, total-at (live keeper_count) rest other w at, total-set (live keeper_count) vs id v spent_view there, live-is keeper_count v is_live, keeper_count-yes v keeper) in
     not_keeper w w.keeper refl (omega (arith, live-is keeper_count w is_live_too))
 
 joined_over : (len least : ℕ) (l : Row) (ls : List Row) → (l ≡ []) ⊎ IsOver len least (last_position l)
@@ -150,7 +150,7 @@ may_join len id other v w is_live is_live_too keeper rests s k there differ afte
     let g = k.each_fits other w there_too is_live_too in
     let plain = g.only_the_keeper_splits_and_joins (other_is_no_keeper vs id other v w k.one_is_the_keeper there is_live keeper differ there_too is_live_too) in
     let w_over : (w.own ≡ []) ⊎ IsOver len k.least (last_position w.own) =
-      elim rests [ inl none ↦ inl none | inr left ↦ inr (g.it_left_at_the_end left).1 ] in
+    elim rests [ inl none ↦ inl none | inr left ↦ inr (g.it_left_at_the_end left).1 ] in
     let new : Fits len k.least both = record {
       it_names_the_length = f.it_names_the_length;
       it_read_no_less = f.it_read_no_less;
@@ -159,11 +159,18 @@ may_join len id other v w is_live is_live_too keeper rests s k there differ afte
       only_the_keeper_splits_and_joins = λ e. cc;
     } in
     let to : (h : Row → ℕ) → in_views vs h ≡ in_views (set mid other spent_view) h =
-      λ h. omega (arith, total-set (live (in_lists h)) mid other w spent_view after, total-set (live (in_lists h)) vs id v both there,
-        live-is (in_lists h) v is_live, live-is (in_lists h) both is_live, live-is (in_lists h) w is_live_too, ap (total h) plain.1) in
+    λ h. omega (
+      arith,
+      total-set (live (in_lists h)) mid other w spent_view after,
+      total-set (live (in_lists h)) vs id v both there,
+      live-is (in_lists h) v is_live,
+      live-is (in_lists h) both is_live,
+      live-is (in_lists h) w is_live_too,
+      ap (total h) plain.1,
+    ) in
     let Q : Sum → Type 0 = IsSound len k.next k.least in
     let splits_now : total (live splits) (set mid other spent_view) ≡ total (live splits) vs =
-      omega (arith, total-set (live splits) mid other w spent_view after, total-set (live splits) vs id v both there, live-is splits w is_live_too, plain.0) in
+    omega (arith, total-set (live splits) mid other w spent_view after, total-set (live splits) vs id v both there, live-is splits w is_live_too, plain.0) in
     record {
       next = k.next;
       least = k.least;
@@ -171,18 +178,23 @@ may_join len id other v w is_live is_live_too keeper rests s k there differ afte
       length_is_small = k.length_is_small;
       is_sound = subst Q (λ j h. to h j) k.is_sound;
       each_fits = λ j u at u_live.
-        elim (at_set mid other j spent_view u at) [
-          inl (same, e) ↦ (let clash : true ≡ u.spent = ap (λ (x : View). x.spent) e in cc)
-        | inr (_, old) ↦ elim (at_set vs id j both u old) [
-            inl (same, e) ↦ (let F : View → Type 0 = Fits len k.least in subst F e new)
-          | inr (_, older) ↦ k.each_fits j u older u_live
-          ]
-        ];
+          elim (at_set mid other j spent_view u at) [
+            | inl (same, e) ↦ (let clash : true ≡ u.spent = ap (λ (x : View). x.spent) e in cc)
+            | inr (_, old) ↦ elim (at_set vs id j both u old) [
+              | inl (same, e) ↦ (let F : View → Type 0 = Fits len k.least in subst F e new)
+              | inr (_, older) ↦ k.each_fits j u older u_live
+            ]
+          ];
       one_is_the_keeper =
-        (let only = k.one_is_the_keeper in
-         let no = other_is_no_keeper vs id other v w only there is_live keeper differ there_too is_live_too in
-         omega (arith, total-set (live keeper_count) mid other w spent_view after, total-set (live keeper_count) vs id v both there, live-is keeper_count w is_live_too,
-           keeper_count-no w no));
+          (let only = k.one_is_the_keeper in
+          let no = other_is_no_keeper vs id other v w only there is_live keeper differ there_too is_live_too in
+          omega (
+            arith,
+            total-set (live keeper_count) mid other w spent_view after,
+            total-set (live keeper_count) vs id v both there,
+            live-is keeper_count w is_live_too,
+            keeper_count-no w no,
+          ));
       lists_number_the_splits = (let lists = k.lists_number_the_splits in omega (arith, to one));
       splits_are_few = (let few = k.splits_are_few in omega arith);
     }
@@ -211,32 +223,32 @@ holds_all : (len : ℕ) (words : List ℕ) (vs : List View) (id : ℕ) (v : View
 holds_all len words vs id v k there is_live keeper all f =
     let lists = k.lists_number_the_splits in
     only_there (live (in_lists one)) (live (in_lists f)) vs id v there
-      (omega (arith, keeper_splits len words vs id v k there is_live keeper, live-is (in_lists one) v is_live, total-ones v.joined))
-      (λ j u at. no_lists f u u.spent refl) ∙ live-is (in_lists f) v is_live
+    (omega (arith, keeper_splits len words vs id v k there is_live keeper, live-is (in_lists one) v is_live, total-ones v.joined))
+    (λ j u at. no_lists f u u.spent refl) ∙ live-is (in_lists f) v is_live
 
 over_at : (len next least : ℕ) (v : View) → IsSound len next least (held v) → Fits len least v → IsDone v → IsOverAt len next least (held v)
 over_at len next least v sound f done =
     elim done.one_left [
-      inl left ↦
-        (let q = f.it_left_at_the_end left in
-         record {
-           marks = λ p. total-marks p (v.own ∷ v.joined);
-           sound = sound;
-           closed = done.nothing_is_open;
-           end = last_position v.own;
-           end_claimed = omega (arith, placed-there v.own q.0, sound.each_claimed_number_stands_once (last_position v.own));
-           end_over = q.1;
-         })
-    | inr (i, full) ↦
-        (let l = get_or v.joined i [] in
-         record {
-           marks = λ p. total-marks p (v.own ∷ v.joined);
-           sound = sound;
-           closed = done.nothing_is_open;
-           end = last_position l;
-           end_claimed = omega (arith, placed-there l full, total-get (placed (last_position l)) v.joined i, sound.each_claimed_number_stands_once (last_position l));
-           end_over = elim (f.it_joined_what_is_over i) [ inl none ↦ absurd (full none) | inr over ↦ over ];
-         })
+      | inl left ↦
+          (let q = f.it_left_at_the_end left in
+          record {
+            marks = λ p. total-marks p (v.own ∷ v.joined);
+            sound = sound;
+            closed = done.nothing_is_open;
+            end = last_position v.own;
+            end_claimed = omega (arith, placed-there v.own q.0, sound.each_claimed_number_stands_once (last_position v.own));
+            end_over = q.1;
+          })
+      | inr (i, full) ↦
+          (let l = get_or v.joined i [] in
+          record {
+            marks = λ p. total-marks p (v.own ∷ v.joined);
+            sound = sound;
+            closed = done.nothing_is_open;
+            end = last_position l;
+            end_claimed = omega (arith, placed-there l full, total-get (placed (last_position l)) v.joined i, sound.each_claimed_number_stands_once (last_position l));
+            end_over = elim (f.it_joined_what_is_over i) [ inl none ↦ absurd (full none) | inr over ↦ over ];
+          })
     ]
 
 -- what the word `least` says once all passes are joined

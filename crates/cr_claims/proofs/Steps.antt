@@ -1,9 +1,9 @@
 -- A step of one pass keeps the rule.
-use Rattle.std.proofs.Common.{◌≡◌, ◌≢◌, ℕ, ◌+◌, ◌-◌, ◌*◌, ◌/◌, ◌%◌, ◌^◌, ◌<◌, ◌≤◌, Bool, true, false, List, [], ◌∷◌, ◌++◌, length, get_or, set, refl, sym, ap, subst, ◌∙◌, arith, ◌⊎◌, inl, inr}
-use Prim.Native.Nat.{zero, suc, min}
-use mathlib.Core.Option.{some, some-injective, some-ne-none}
+use Rattle.std.proofs.Common.{◌≡◌, ◌≢◌, ℕ, ◌+◌, ◌-◌, ◌%◌, ◌^◌, ◌<◌, ◌≤◌, Bool, true, false, List, [], ◌∷◌, ◌++◌, get_or, set, refl, sym, ap, subst, ◌∙◌, arith, inl, inr}
+use Prim.Native.Nat.{min}
+use mathlib.Core.Option.{some}
 use lib.ListN.{get_elem?}
-use Rattle.atomic_table.specs.Table.{State, Me, Act, Allows}
+use Rattle.atomic_table.specs.Table.{State, Me, Allows}
 use Rattle.atomic_table.specs.Table.Act.{keeps as stays}
 use Rattle.atomic_table.proofs.Lists.{at_set}
 use Rattle.cr_core.specs.declared.marks.HitKind.{HitKind}
@@ -13,7 +13,7 @@ use Rattle.cr_core.specs.declared.marks.Mark.TheVariants.{Open, No, Hit, Skipped
 use Rattle.cr_core.specs.declared.marks.Entry.{Entry}
 use Rattle.cr_core.specs.declared.events.Settle.{Settle}
 use Rattle.cr_core.specs.declared.events.Settle.TheVariants as settle
-use Rattle.cr_core.specs.Row.{Row, word, past, last_position, last_mark, with_last, IsLast}
+use Rattle.cr_core.specs.Row.{Row, word, past, last_position, with_last, IsLast}
 use Rattle.cr_core.specs.Sound.{Sum, total, IsOver, IsSound}
 use Rattle.cr_core.specs.State.{kind_of}
 use Rattle.cr_core.specs.Machine.{MaySettle, MayClaim, MayHit, MayLeave, claimed, settled, lowered}
@@ -49,9 +49,13 @@ own_apart vs id v there is_live f =
 own_changed : (vs : List View) (id : ℕ) (v : View) (own : Row) (read looks : ℕ) (left : Bool) → get_elem? vs id ≡ some v → v.spent ≡ false
     → (f : Row → ℕ) → with_row (beside vs v) own f ≡ in_views (set vs id (moved own read looks left v)) f
 own_changed vs id v own read looks left there is_live f =
-    omega (arith, total-at (live (in_lists f)) vs id v there,
+    omega (
+      arith,
+      total-at (live (in_lists f)) vs id v there,
       total-set (live (in_lists f)) vs id v (moved own read looks left v) there,
-      live-is (in_lists f) v is_live, live-is (in_lists f) (moved own read looks left v) is_live)
+      live-is (in_lists f) v is_live,
+      live-is (in_lists f) (moved own read looks left v) is_live,
+    )
 
 -- a pass's own list changes as the core allows
 pub moves : (len : ℕ) (words after : List ℕ) (vs : List View) (id : ℕ) (v : View) (k : IsKept len words vs) → get_elem? vs id ≡ some v → v.spent ≡ false
@@ -80,17 +84,20 @@ moves len words after vs id v k there is_live own read looks left next least is 
       length_is_small = k.length_is_small;
       is_sound = subst Q (λ j g. to g j) (step (beside vs v) (subst P (λ j g. from g j) k.is_sound));
       each_fits = λ j u at there_too.
-        elim (at_set vs id j w u at) [
-          inl (same, e) ↦ (let F : View → Type 0 = Fits len least in subst F e new)
-        | inr (other, old) ↦ fits_falls len k.least least u falls (k.each_fits j u old there_too)
-        ];
+          elim (at_set vs id j w u at) [
+            | inl (same, e) ↦ (let F : View → Type 0 = Fits len least in subst F e new)
+            | inr (other, old) ↦ fits_falls len k.least least u falls (k.each_fits j u old there_too)
+          ];
       one_is_the_keeper = (let one = k.one_is_the_keeper in omega (arith, total-set (live keeper_count) vs id v w there));
       lists_number_the_splits =
-        (let lists = k.lists_number_the_splits in
-         omega (arith, total-set (live (in_lists (λ _. 1))) vs id v w there,
-           total-set (live (λ u. u.splits)) vs id v w there));
+          (let lists = k.lists_number_the_splits in
+          omega (
+            arith,
+            total-set (live (in_lists (λ _. 1))) vs id v w there,
+            total-set (live (λ u. u.splits)) vs id v w there,
+          ));
       splits_are_few =
-        (let few = k.splits_are_few in omega (arith, total-set (live (λ u. u.splits)) vs id v w there));
+          (let few = k.splits_are_few in omega (arith, total-set (live (λ u. u.splits)) vs id v w there));
     }
 
 -- what a pass may do by the word that it has read, it may do by a lesser one
@@ -138,7 +145,7 @@ second_word ws a b x y h e = ap (λ (us : List ℕ). set us 1 x) h ∙ ap (λ (z
 
 pub may_claim : (len slots id : ℕ) (me : Me ℕ View) (done : Settle) → me.0.spent ≡ false → me.0.left ≡ false → MayClaim len me.0.read done me.0.own
     → Allows (Kept len) slots id me 0 (λ n. (n + 1) % 2 ^ 64)
-      (λ n after. (after.0 ≡ with_own (claimed n done me.0.own) me.0) × (after.1 ≡ me.1) × RisesAbove n me.0.own)
+    (λ n after. (after.0 ≡ with_own (claimed n done me.0.own) me.0) × (after.1 ≡ me.1) × RisesAbove n me.0.own)
 may_claim len slots id me done is_live here may s k homes there small =
     let v = me.0 in
     let f = k.each_fits id v there is_live in
@@ -148,17 +155,20 @@ may_claim len slots id me done is_live here may s k homes there small =
     let low : k.least ≤ v.read = f.it_read_no_less in
     let may_now : MayClaim len k.least done v.own = (settle_falls len k.least v.read done v.own low may.0, may.1) in
     let sound : (rest : Sum) → IsSound len k.next k.least (with_row rest v.own) → IsSound len (k.next + 1) k.least (with_row rest (claimed n done v.own)) =
-      λ rest q. (let P : ℕ → Type 0 = λ m. IsSound len (k.next + 1) k.least (with_row rest (claimed m done v.own)) in
-        subst P (sym is) (claims len k.next k.least rest v.own done may_now q)) in
+    λ rest q. (let P : ℕ → Type 0 = λ m. IsSound len (k.next + 1) k.least (with_row rest (claimed m done v.own)) in
+    subst P (sym is) (claims len k.next k.least rest v.own done may_now q)) in
     let up : RisesAbove n v.own =
-      (let P : Sum → Type 0 = IsSound len k.next k.least in
-       let from = own_apart s.views id v there is_live in
-       let Q : ℕ → Type 0 = λ m. RisesAbove m v.own in
-       subst Q (sym is) (rises len k.next k.least (beside s.views v) v.own (subst P (λ j g. from g j) k.is_sound))) in
-    (with_own (claimed n done v.own) v, stays, tt,
+    (let P : Sum → Type 0 = IsSound len k.next k.least in
+    let from = own_apart s.views id v there is_live in
+    let Q : ℕ → Type 0 = λ m. RisesAbove m v.own in
+    subst Q (sym is) (rises len k.next k.least (beside s.views v) v.own (subst P (λ j g. from g j) k.is_sound))) in (
+      with_own (claimed n done v.own) v,
+      stays,
+      tt,
       moves len s.words _ s.views id v k there is_live (claimed n done v.own) v.read v.looks v.left (k.next + 1) k.least
-        (first_word s.words k.next k.least _ _ k.two_words (omega arith)) (omega arith) low (λ gone. cc) sound,
-      (refl, refl, up))
+          (first_word s.words k.next k.least _ _ k.two_words (omega arith)) (omega arith) low (λ gone. cc) sound,
+      (refl, refl, up),
+    )
 
 pub may_look : (len slots id : ℕ) (me : Me ℕ View) → me.0.spent ≡ false
     → Allows (Kept len) slots id me 1 (λ n. n) (λ n after. (after.0 ≡ looked n me.0) × (after.1 ≡ me.1) × (n ≤ me.0.read))
@@ -167,11 +177,14 @@ may_look len slots id me is_live s k homes there small =
     let f = k.each_fits id v there is_live in
     let n = get_or s.words 1 0 in
     let is : n ≡ k.least = ap (λ (ws : List ℕ). get_or ws 1 0) k.two_words in
-    let low : k.least ≤ v.read = f.it_read_no_less in
-    (looked n v, stays, tt,
+    let low : k.least ≤ v.read = f.it_read_no_less in (
+      looked n v,
+      stays,
+      tt,
       moves len s.words _ s.views id v k there is_live v.own n (v.looks + 1) v.left k.next k.least
-        (second_word s.words k.next k.least _ _ k.two_words is) (omega arith) (omega arith) f.it_left_at_the_end (λ rest q. q),
-      (refl, refl, omega arith))
+          (second_word s.words k.next k.least _ _ k.two_words is) (omega arith) (omega arith) f.it_left_at_the_end (λ rest q. q),
+      (refl, refl, omega arith),
+    )
 
 kind_of-word : (p : ℕ) (k : HitKind) → kind_of (word p k % 4) ≡ k
 kind_of-word p Yes = (let e : word p Yes % 4 ≡ 0 = omega arith in ap kind_of e)
@@ -199,7 +212,7 @@ last_position-settled settle.Skipped l = last_position-with_last Skipped l
 
 pub may_hit : (len slots id : ℕ) (me : Me ℕ View) (k : HitKind) (w : ℕ) → me.0.spent ≡ false → MayHit len me.0.own → w ≡ word (last_position me.0.own) k
     → Allows (Kept len) slots id me 1 (λ n. min n w)
-      (λ n after. (after.0 ≡ struck (min n w) (hit_list w me.0.own) me.0) × (after.1 ≡ me.1) × (n ≤ me.0.read))
+    (λ n after. (after.0 ≡ struck (min n w) (hit_list w me.0.own) me.0) × (after.1 ≡ me.1) × (n ≤ me.0.read))
 may_hit len slots id me kind w is_live may e s k homes there small =
     let v = me.0 in
     let f = k.each_fits id v there is_live in
@@ -210,18 +223,23 @@ may_hit len slots id me kind w is_live may e s k homes there small =
     let same : new ≡ with_last (Hit kind) v.own = ap (λ (x : ℕ). hit_list x v.own) e ∙ hit_list-word (last_position v.own) kind v.own in
     let after : ℕ = lowered k.least kind v.own in
     let sound : (rest : Sum) → IsSound len k.next k.least (with_row rest v.own) → IsSound len k.next after (with_row rest new) =
-      λ rest q. (let P : Row → Type 0 = λ l. IsSound len k.next after (with_row rest l) in
-        subst P (sym same) (hits len k.next k.least rest v.own kind may q)) in
+    λ rest q. (let P : Row → Type 0 = λ l. IsSound len k.next after (with_row rest l) in
+    subst P (sym same) (hits len k.next k.least rest v.own kind may q)) in
     let over : v.left ≡ true → (new ≢ []) × IsOver len after (last_position new) =
-      λ gone. (let g = f.it_left_at_the_end gone in
-        let P : Row → Type 0 = λ l. (l ≢ []) × IsOver len after (last_position l) in
-        let Q : ℕ → Type 0 = λ p. IsOver len after p in
-        subst P (sym same) (with_last-some (Hit kind) v.own g.0,
-          subst Q (sym (last_position-with_last (Hit kind) v.own)) (over_falls len after k.least _ (omega arith) g.1))) in
-    (struck (min n w) new v, stays, tt,
+    λ gone. (let g = f.it_left_at_the_end gone in
+    let P : Row → Type 0 = λ l. (l ≢ []) × IsOver len after (last_position l) in
+    let Q : ℕ → Type 0 = λ p. IsOver len after p in
+    subst P (sym same) (
+      with_last-some (Hit kind) v.own g.0,
+      subst Q (sym (last_position-with_last (Hit kind) v.own)) (over_falls len after k.least _ (omega arith) g.1),
+    )) in (
+      struck (min n w) new v,
+      stays,
+      tt,
       moves len s.words _ s.views id v k there is_live new (min n w) v.looks v.left k.next after
-        (second_word s.words k.next k.least _ _ k.two_words (omega arith)) (omega arith) (omega arith) over sound,
-      (refl, refl, omega arith))
+          (second_word s.words k.next k.least _ _ k.two_words (omega arith)) (omega arith) (omega arith) over sound,
+      (refl, refl, omega arith),
+    )
 
 pub may_leave : (len slots id : ℕ) (me : Me ℕ View) (done : Settle) → me.0.spent ≡ false → MayLeave len me.0.read done me.0.own
     → Allows (Kept len) slots id me 1 (λ n. n) (λ n after. (after.0 ≡ gone (settled done me.0.own) me.0) × (after.1 ≡ me.1))
@@ -234,12 +252,15 @@ may_leave len slots id me done is_live may s k homes there small =
     let may_now : MaySettle len k.least done v.own = settle_falls len k.least v.read done v.own low may.0 in
     let Q : ℕ → Type 0 = λ p. IsOver len k.least p in
     let over : (settled done v.own ≢ []) × IsOver len k.least (last_position (settled done v.own)) =
-      (settled-some done v.own may.1, subst Q (sym (last_position-settled done v.own)) (over_falls len k.least v.read _ low may.2)) in
-    (gone (settled done v.own) v, stays, tt,
+    (settled-some done v.own may.1, subst Q (sym (last_position-settled done v.own)) (over_falls len k.least v.read _ low may.2)) in (
+      gone (settled done v.own) v,
+      stays,
+      tt,
       moves len s.words _ s.views id v k there is_live (settled done v.own) v.read v.looks true k.next k.least
-        (second_word s.words k.next k.least _ _ k.two_words is) (omega arith) low (λ _. over)
-        (λ rest q. settles len k.next k.least rest v.own done may_now q),
-      (refl, refl))
+          (second_word s.words k.next k.least _ _ k.two_words is) (omega arith) low (λ _. over)
+          (λ rest q. settles len k.next k.least rest v.own done may_now q),
+      (refl, refl),
+    )
 
 pub last_position-hit : (w : ℕ) (l : Row) → last_position (hit_list w l) ≡ last_position l
 last_position-hit w l = last_position-with_last (Hit (kind_of (w % 4))) l

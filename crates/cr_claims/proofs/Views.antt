@@ -1,10 +1,10 @@
 -- Sums over all views, where one view changes.
-use Rattle.std.proofs.Common.{◌≡◌, ◌≢◌, ℕ, ◌+◌, ◌-◌, ◌*◌, ◌<◌, ◌≤◌, Bool, true, false, if◌then◌else◌, List, [], ◌∷◌, ◌++◌, length, get_or, set, refl, sym, ap, subst, ◌∙◌, arith, ◌⊎◌, inl, inr}
+use Rattle.std.proofs.Common.{◌≡◌, ℕ, ◌+◌, ◌≤◌, Bool, true, false, if◌then◌else◌, List, [], ◌∷◌, ◌++◌, set, refl, sym, ap, arith}
 use Prim.Native.Nat.{zero, suc}
 use mathlib.Core.Option.{some, some-injective, some-ne-none}
 use lib.ListN.{get_elem?}
-use Rattle.cr_core.specs.Row.{Row, placed, past}
-use Rattle.cr_core.specs.Sound.{Sum, total, IsOver, IsSound}
+use Rattle.cr_core.specs.Row.{placed}
+use Rattle.cr_core.specs.Sound.{total}
 use Rattle.cr_core.proofs.Rows.{with_any_mark, placed-marks}
 use Rattle.cr_core.proofs.Totals.{total-marks}
 use Rattle.cr_claims.specs.declared.view.View.{View}

@@ -18,7 +18,7 @@ all_lists (v ∷ vs) = (if v.spent then [] else (v.own ∷ v.joined)) ++ all_lis
 abbrev pub WordsAndPassesAreACore : Type 0
 WordsAndPassesAreACore = (len : ℕ) (words : List ℕ) (views : List View) → IsKept len words views
     → (next : ℕ) × (least : ℕ) × (words ≡ next ∷ least ∷ [])
-      × IsSoundState (record { len = len; next = next; least = least; lists = all_lists views })
+    × IsSoundState (record { len = len; next = next; least = least; lists = all_lists views })
 
 -- what a pass may do by the word that it has read, the core allows by the word as it stands
 abbrev pub EachStepIsAllowed : Type 0

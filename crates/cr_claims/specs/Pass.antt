@@ -1,12 +1,12 @@
 -- What contracts read of a pass and of the claims.
-use Rattle.std.specs.Prelude.{◌≡◌, ◌≢◌, ℕ, ◌⊎◌, true, false, List, [], ◌∷◌, slice_index_or}
+use Rattle.std.specs.Prelude.{◌≡◌, ◌≢◌, ℕ, ◌⊎◌, true, [], ◌∷◌, slice_index_or}
 use Rattle.cr_claims.specs.declared.view.View.{View}
 use Rattle.cr_claims.specs.View.{moved}
 use Rattle.atomic_table.specs.declared.shared.Seat.{Seat}
 use Rattle.cr_claims.specs.declared.seats.Claims.{Claims}
 use Rattle.cr_claims.specs.declared.seats.Pass.{Pass}
 use Rattle.cr_core.specs.declared.marks.Mark.TheVariants.{Open}
-use Rattle.cr_core.specs.Row.{Row, marked}
+use Rattle.cr_core.specs.Row.{marked}
 use Rattle.cr_core.specs.Sound.{Sum, total}
 
 abbrev pub view_of : Pass → View

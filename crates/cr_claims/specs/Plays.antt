@@ -1,5 +1,5 @@
 -- What a step tells its pass.
-use Rattle.std.specs.Prelude.{◌≡◌, ℕ, ◌%◌, ◌<◌, ◌⊎◌, List, []}
+use Rattle.std.specs.Prelude.{◌≡◌, ℕ, ◌%◌, ◌<◌, ◌⊎◌, []}
 use Rattle.cr_core.specs.declared.marks.Mark.TheVariants.{Hit}
 use Rattle.cr_core.specs.Row.{Row, last_position, with_last}
 use Rattle.cr_core.specs.State.{kind_of}

@@ -67,7 +67,10 @@ impl Claims {
         ensures last { IsLast (view_of pass.new).own (record { position = result; mark = Mark.Open }) }
         ensures rises { RisesAbove result (view_of pass.old).own }
     {
-        let position = self.table.shared.fetch_add::<Claim<D>>(&mut pass.seat, 0, 1);
+        let position = self
+            .table
+            .shared
+            .fetch_add::<Claim<D>>(&mut pass.seat, 0, 1);
         pass.last = position;
         position
     }
@@ -114,7 +117,9 @@ impl Claims {
         ensures own { (view_of pass.new).read ≤ word (last_position (view_of pass.old).own) kind }
     {
         let hit = word_of(pass.last, kind);
-        self.table.shared.fetch_min::<Strike>(&mut pass.seat, 1, hit);
+        self.table
+            .shared
+            .fetch_min::<Strike>(&mut pass.seat, 1, hit);
     }
 
     fn leave_as<D: Done>(&self, pass: &mut Pass)

@@ -1,4 +1,4 @@
-use Rattle.std.proofs.Common.{◌≡◌, subst, sym, ap, ◌∙◌, arith}
+use Rattle.std.proofs.Common.{subst, sym, ap, ◌∙◌, arith}
 use Rattle.cr_core.specs.declared.marks.Mark.TheVariants.{Open}
 use Rattle.cr_core.specs.Row.{Row, last_position, IsLast}
 use Rattle.cr_core.specs.Machine.{settled}
@@ -10,9 +10,11 @@ use Rattle.cr_claims.proofs.seats.Claims.claim_as.Goals as goal
 pub fetch_add-position-requires : goal.fetch_add-position-requires
 fetch_add-position-requires g c =
     let claims = c.args.self.now in
-    let pass = c.args.pass.now in
-    (c.requires.of.0, omega (arith, claims.two_words.0),
-      rw claims.about.0 (may_claim claims.len claims.table.shared.table_id.slots pass.seat.id pass.seat.me g.D.Done.done pass.in_force.1 c.requires.in_force c.requires.may))
+    let pass = c.args.pass.now in (
+      c.requires.of.0,
+      omega (arith, claims.two_words.0),
+      rw claims.about.0 (may_claim claims.len claims.table.shared.table_id.slots pass.seat.id pass.seat.me g.D.Done.done pass.in_force.1 c.requires.in_force c.requires.may),
+    )
 
 pub invariant_of-pass : goal.invariant_of-pass
 invariant_of-pass g c =

@@ -17,5 +17,5 @@ returns c =
     let P : First → Type 0 = λ r. IsFirst len (held (view_of pass)) r in
     let at : get_elem? s.words 1 ≡ some c.word-least.result = ap (λ (ws : List ℕ). get_elem? ws 1) words ∙ c.word-least.ensures in
     subst P (sym c.hit_of.ensures)
-      (closes len s.words s.views pass.seat.id (view_of pass) c.word-least.result (subst N c.args.self.about.0 seen.0) seen.1 pass.in_force.1
-        c.requires.keeper c.requires.all_joined c.requires.done at)
+    (closes len s.words s.views pass.seat.id (view_of pass) c.word-least.result (subst N c.args.self.about.0 seen.0) seen.1 pass.in_force.1
+    c.requires.keeper c.requires.all_joined c.requires.done at)

@@ -1,9 +1,6 @@
 use Rattle.std.proofs.Common.{◌≡◌, ℕ, sym, ap, ◌∙◌, arith}
-use Rattle.cr_core.specs.declared.marks.Mark.TheVariants.{Hit}
-use Rattle.cr_core.specs.Row.{word, last_position, with_last}
-use Rattle.cr_core.proofs.Rows.{last_position-with_last}
+use Rattle.cr_core.specs.Row.{word, last_position}
 use Rattle.cr_claims.specs.declared.view.View.{View}
-use Rattle.cr_claims.specs.Plays.{hit_list}
 use Rattle.cr_claims.proofs.Steps.{may_hit, last_position-hit}
 use Rattle.cr_claims.proofs.seats.Claims.hit.Goals as goal
 
@@ -12,9 +9,11 @@ fetch_min-requires c =
     let claims = c.args.self.now in
     let pass = c.args.pass.now in
     let is : c.word_of-hit.result ≡ word (last_position pass.seat.me.0.own) c.args.kind =
-      c.word_of-hit.ensures ∙ ap (λ (p : ℕ). word p c.args.kind) pass.last_is in
-    (c.requires.of.0, omega (arith, claims.two_words.0),
-      rw claims.about.0 (may_hit claims.len claims.table.shared.table_id.slots pass.seat.id pass.seat.me c.args.kind c.word_of-hit.result pass.in_force.1 c.requires.may is))
+    c.word_of-hit.ensures ∙ ap (λ (p : ℕ). word p c.args.kind) pass.last_is in (
+      c.requires.of.0,
+      omega (arith, claims.two_words.0),
+      rw claims.about.0 (may_hit claims.len claims.table.shared.table_id.slots pass.seat.id pass.seat.me c.args.kind c.word_of-hit.result pass.in_force.1 c.requires.may is),
+    )
 
 pub invariant_of-pass : goal.invariant_of-pass
 invariant_of-pass c =

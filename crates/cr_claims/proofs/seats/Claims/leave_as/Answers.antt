@@ -1,4 +1,4 @@
-use Rattle.std.proofs.Common.{◌≡◌, sym, ap, ◌∙◌, arith}
+use Rattle.std.proofs.Common.{sym, ap, ◌∙◌, arith}
 use Rattle.cr_core.specs.Row.{last_position}
 use Rattle.cr_claims.specs.declared.view.View.{View}
 use Rattle.cr_claims.proofs.Steps.{may_leave, last_position-settled}
@@ -7,9 +7,11 @@ use Rattle.cr_claims.proofs.seats.Claims.leave_as.Goals as goal
 pub load-requires : goal.load-requires
 load-requires g c =
     let claims = c.args.self.now in
-    let pass = c.args.pass.now in
-    (c.requires.of.0, omega (arith, claims.two_words.0),
-      rw claims.about.0 (may_leave claims.len claims.table.shared.table_id.slots pass.seat.id pass.seat.me g.D.Done.done pass.in_force.1 c.requires.may))
+    let pass = c.args.pass.now in (
+      c.requires.of.0,
+      omega (arith, claims.two_words.0),
+      rw claims.about.0 (may_leave claims.len claims.table.shared.table_id.slots pass.seat.id pass.seat.me g.D.Done.done pass.in_force.1 c.requires.may),
+    )
 
 pub invariant_of-pass : goal.invariant_of-pass
 invariant_of-pass g c =
