@@ -251,13 +251,19 @@ over_at len next least v sound f done =
           })
     ]
 
--- what the word `least` says once all passes are joined
+-- once all passes are joined, the keeper's lists are a sound state by themselves
+pub held_is_sound : (len : ℕ) (words : List ℕ) (vs : List View) (id : ℕ) (v : View) (k : IsKept len words vs) → get_elem? vs id ≡ some v → v.spent ≡ false
+    → v.keeper ≡ true → joins v ≡ v.splits → IsSound len k.next k.least (held v)
+held_is_sound len words vs id v k there is_live keeper all =
+    let P : Sum → Type 0 = IsSound len k.next k.least in
+    let from = holds_all len words vs id v k there is_live keeper all in
+    subst P (λ j f. from f j) k.is_sound
+
+-- what the word `least` says then
 pub closes : (len : ℕ) (words : List ℕ) (vs : List View) (id : ℕ) (v : View) (n : ℕ) (k : IsKept len words vs) → get_elem? vs id ≡ some v → v.spent ≡ false
     → v.keeper ≡ true → joins v ≡ v.splits → IsDone v → get_elem? words 1 ≡ some n → IsFirst len (held v) (first_of len n)
 closes len words vs id v n k there is_live keeper all done at =
-    let P : Sum → Type 0 = IsSound len k.next k.least in
-    let from = holds_all len words vs id v k there is_live keeper all in
-    let sound = subst P (λ j f. from f j) k.is_sound in
+    let sound = held_is_sound len words vs id v k there is_live keeper all in
     let is : k.least ≡ n = some-injective k.least n (sym (ap (λ (ws : List ℕ). get_elem? ws 1) k.two_words) ∙ at) in
     let R : ℕ → Type 0 = λ m. IsFirst len (held v) (first_of len m) in
     subst R is (first_is len k.next k.least (held v) (over_at len k.next k.least v sound (k.each_fits id v there is_live) done))

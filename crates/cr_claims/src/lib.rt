@@ -13,6 +13,6 @@ mod seats;
 mod tests;
 mod view;
 
-pub use laws::{each_step_is_allowed, words_and_passes_are_a_core};
+pub use laws::{each_step_is_an_event, words_and_passes_are_a_core};
 pub use seats::{Claims, Pass};
 pub use view::View;

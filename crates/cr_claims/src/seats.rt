@@ -1,6 +1,6 @@
-ghost use Rattle.std.specs.Prelude.{◌≡◌, ◌≢◌, ◌↔◌, ◌+◌, ◌*◌, ◌/◌, ◌<◌, ◌≤◌, ◌⊎◌, [], ◌∷◌, true, false, IsTrue, IfOk};
+ghost use Rattle.std.specs.Prelude.{ℕ, ◌≡◌, ◌≢◌, ◌↔◌, ◌+◌, ◌*◌, ◌/◌, ◌<◌, ◌≤◌, ◌⊎◌, [], ◌∷◌, true, false, IsTrue, IfOk};
 ghost use Prim.Native.Nat.{min};
-ghost use Rattle.cr_core.specs.Row.{word, last_position, last_mark, with_last, IsLast};
+ghost use Rattle.cr_core.specs.Row.{placed, under, word, last_position, last_mark, with_last, IsLast};
 ghost use Rattle.cr_core.specs.State.{IsFirst};
 ghost use Rattle.cr_core.specs.Machine.{MayClaim, MayHit, MayLeave, claimed, settled};
 ghost use Rattle.cr_claims.specs.View.{first_view, new_view, with_own, looked, struck, gone, one_split_more, with_joined, joins};
@@ -158,13 +158,16 @@ impl Claims {
         self.table.shared.join_seat::<TakeIn>(&mut pass.seat, seat);
     }
 
-    /// The first position that wasn't rejected, once all passes are joined into the keeper's, and one of them has left.
+    /// The first position that wasn't rejected, once all passes are joined into the keeper's, and one of them has left. No position was
+    /// claimed twice.
     pub fn close(self, pass: Pass) -> First
         requires of { IsOf self pass }
         requires keeper { (view_of pass).keeper ≡ true }
         requires all_joined { joins (view_of pass) ≡ (view_of pass).splits }
         requires done { IsDone (view_of pass) }
-        ensures { IsFirst self.len (held (view_of pass)) result }
+        ensures first { IsFirst self.len (held (view_of pass)) result }
+        ensures once { (p : ℕ) → held (view_of pass) (placed p) ≤ 1 }
+        ensures few { held (view_of pass) (under self.len) ≤ self.len }
     {
         let Claims { table, len } = self;
         let Pass { seat, last: _ } = pass;
