@@ -1,0 +1,53 @@
+// Files by name, read from their beginning and written whole.
+ghost use Rattle.std.specs.Prelude.{◌≡◌, ◌≤◌, ℕ, Option, IsErrOf};
+ghost use Rattle.cr_outside.specs.Faults.{Rose};
+ghost use Rattle.cr_outside.specs.Files.{Names, Reads, Writes};
+
+use std::alloc::{AllocError, Global};
+use thiserror::Error;
+
+/// Want of memory, the one error of a call that only takes memory.
+pub type NoMemory = AllocError;
+
+/// What a read found.
+#[derive(Debug, Drop)]
+pub enum ReadAnswer {
+    /// The first bytes of the file, as many as were asked for, or all where it has fewer.
+    Bytes(Vec<u8>),
+    /// No file has this name.
+    Absent,
+    /// The file is there or not, and could not be read.
+    Failed,
+    NoMemory,
+}
+
+/// Why a file was not written.
+#[derive(Clone, Copy, Debug, PartialEq, Eq, Drop, Error)]
+pub enum FileFault {
+    #[error("the file could not be written")]
+    Failed,
+    #[error("no memory is left")]
+    NoMemory,
+}
+
+/// Files by name. An object may tell its whole map; what it tells is then what its calls read and write.
+pub trait Files {
+    /// The files by name, where they are told.
+    ghost told: { Self → Option Names };
+
+    /// How often the outside has failed. It never falls.
+    ghost faults: { Self → ℕ };
+
+    /// Reads the first `most` bytes of a file.
+    fn read(&mut self, alloc: Global, name: &str, most: usize) -> ReadAnswer
+        ensures told { Reads (told self.old) name.now most result }
+        ensures same { told self.new ≡ told self.old }
+        ensures later { faults self.old ≤ faults self.new }
+        ensures failed { result ≡ ReadAnswer.Failed → Rose (faults self.old) (faults self.new) };
+
+    /// Writes a whole file, which need not be there before. A refused write may have been made all the same.
+    fn write(&mut self, alloc: Global, name: &str, bytes: &[u8]) -> Result<(), FileFault>
+        ensures written { Writes (told self.old) (told self.new) name.now bytes.now result }
+        ensures later { faults self.old ≤ faults self.new }
+        ensures failed { IsErrOf result FileFault.Failed → Rose (faults self.old) (faults self.new) };
+}

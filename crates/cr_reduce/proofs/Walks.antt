@@ -1,0 +1,153 @@
+-- The numbers of a walk, and what its steps complete.
+use Rattle.std.proofs.Common.{◌≡◌, ◌⊎◌, inl, inr, ℕ, ◌+◌, ◌-◌, ◌*◌, ◌<◌, ◌≤◌, Bool, true, false, List, ◌∷◌, ◌++◌, length, Option, Some, None, subst, sym, refl, arith}
+use Rattle.std.specs.List.{slice_get}
+use Rattle.cr_outside.specs.declared.judge.Answer.{Answer}
+use Rattle.cr_outside.specs.declared.judge.Answer.TheVariants.{Yes, No}
+use Rattle.cr_outside.specs.Faults.{Rose}
+use Rattle.cr_outside.specs.Judge.{Call, call_of, with_call}
+use Rattle.cr_reduce.specs.declared.traits.passes.Cursor.{Cursor}
+use Rattle.cr_reduce.specs.Sizes.{HasSize, IsSmaller}
+use Rattle.cr_reduce.specs.Trials.{AnswerInRun, CallsAbout, IsBad, IsGood, IsAccepted, IsRejected, GoesOn}
+use Rattle.cr_reduce.specs.Trials.IsRejected.{not_smaller, unlawful, answered_no}
+use Rattle.cr_reduce.specs.Reduction.{State, Outcome, Within, cursors_of, moved, taken, next_round, Reduces}
+use Rattle.cr_reduce.specs.Reduction.Reduces.{new_round}
+use Rattle.cr_reduce.specs.Search.{Search, ReducesInRun, AcceptsInRun, RejectsInRun}
+use Rattle.cr_reduce.specs.declared.end.Why.{Why}
+use Rattle.cr_reduce.specs.declared.end.Why.TheVariants.{Fixed, Limit, Fault, NoMemory}
+use Rattle.cr_reduce.specs.Walk.{left_of, MovesOn, AsksAtMostOnce, Leads, IsHalt, EndsHere, Advances}
+use Rattle.cr_reduce.specs.Walk.Advances.{moves, round}
+use Rattle.cr_reduce.specs.Walk.MovesOn.{rejected, accepted}
+use Rattle.cr_reduce.specs.Walk.AsksAtMostOnce.{not_asked, asked}
+use Rattle.cr_reduce.proofs.Sizes.{one_size}
+use Rattle.cr_reduce.proofs.Runs.{goes_on-refl, goes_on-trans, answer_in_run-later, answer_in_run-earlier}
+use Rattle.cr_reduce.proofs.Reductions.{skip, take_next}
+
+pub left_low : (changed : Bool) (size count position : ℕ) → size * 1073741824 ≤ left_of changed size count position
+left_low true size count position = omega arith
+left_low false size count position = omega arith
+
+-- An acceptance makes the size fall, and with it the bound.
+pub left_falls : (changed : Bool) (old_size old_count old_position size count position : ℕ) → size < old_size → count ≤ 167772160
+    → left_of true size count position < left_of changed old_size old_count old_position
+left_falls changed old_size old_count old_position size count position less few = omega (arith, left_low changed old_size old_count old_position)
+
+-- so does a rejected position
+pub left_moves : (changed : Bool) (size count position : ℕ) → position < count → left_of changed size count (position + 1) < left_of changed size count position
+left_moves true size count position below = omega arith
+left_moves false size count position below = omega arith
+
+-- and a new round
+pub left_rounds : (size count position : ℕ) → count ≤ 167772160 → left_of false size count 0 < left_of true size count position
+left_rounds size count position few = omega arith
+
+-- from the verdict on a variant to the definition
+
+smaller : (file variant : List ℕ) (size n : ℕ) → HasSize file size → HasSize variant n → n < size → IsSmaller variant file
+smaller file variant size n has new less = record { new_size = n; old_size = size; new_is = new; old_is = has; less = less }
+
+not_less : (file variant : List ℕ) (size : ℕ) → HasSize file size → ((n : ℕ) → HasSize variant n → size ≤ n) → IsSmaller variant file → ⊥
+not_less file variant size has big it = absurd (omega (arith, big it.new_size it.new_is, one_size file size it.old_size has it.old_is, it.less))
+
+rejected_so : (s : Search) (now : Option (List Call)) (file variant : List ℕ) (size : ℕ) → HasSize file size
+    → IsBad s.Lawful variant size ⊎ AnswerInRun s.asks s.Tells s.name s.before now variant No → RejectsInRun s now file variant
+rejected_so s now file variant size has (inl (inl big)) = not_smaller (not_less file variant size has big)
+rejected_so s now file variant size has (inl (inr against)) = unlawful against
+rejected_so s now file variant size has (inr answer) = answered_no answer
+
+pub moves_rejected : (s : Search) (now : Option (List Call)) (st : State) (at : Cursor) (variant : List ℕ) (size : ℕ)
+    → slice_get (cursors_of s.proposals st.file) st.position ≡ Some at → variant ≡ s.proposals.bytes st.file at → HasSize st.file size
+    → IsBad s.Lawful variant size ⊎ AnswerInRun s.asks s.Tells s.name s.before now variant No → MovesOn s now st (moved st (st.position + 1) (st.turns + 1))
+moves_rejected s now st at variant size there is has why =
+    rejected at there (subst (λ v. RejectsInRun s now st.file v) is (rejected_so s now st.file variant size has why)) refl
+
+pub moves_accepted : (s : Search) (now : Option (List Call)) (st : State) (at : Cursor) (variant : List ℕ) (size n : ℕ)
+    → slice_get (cursors_of s.proposals st.file) st.position ≡ Some at → variant ≡ s.proposals.bytes st.file at → HasSize st.file size
+    → IsGood s.Lawful variant size n → AnswerInRun s.asks s.Tells s.name s.before now variant Yes → MovesOn s now st (taken s.proposals st at n (st.turns + 1))
+moves_accepted s now st at variant size n there is has good answer =
+    accepted at n there
+    (subst (λ v. AcceptsInRun s now st.file v) is (record { smaller = smaller st.file variant size n has good.has good.less; lawful = good.lawful; answered = answer }))
+    (subst (λ v. HasSize v n) is good.has) refl
+
+pub asks_at_most_once : (s : Search) (now : Option (List Call)) (st : State) (at : Cursor) (variant : List ℕ) (size : ℕ)
+    → slice_get (cursors_of s.proposals st.file) st.position ≡ Some at → variant ≡ s.proposals.bytes st.file at → HasSize st.file size
+    → CallsAbout s.before now s.name variant → (now ≡ s.before) ⊎ ((n : ℕ) × IsGood s.Lawful variant size n) → AsksAtMostOnce s now st
+asks_at_most_once s now st at variant size there is has calls (inl same) = not_asked same
+asks_at_most_once s now st at variant size there is has (inl same) (inr good) = not_asked same
+asks_at_most_once s now st at variant size there is has (inr made) (inr good) =
+    subst (λ v. now ≡ with_call (call_of made.0 s.name v made.1) s.before → IsSmaller v st.file → s.Lawful v → AsksAtMostOnce s now st) (sym is)
+    (λ is_call less lawful. asked at made.0 made.1 there less lawful is_call)
+    made.2 (smaller st.file variant size good.0 has good.1.has good.1.less) good.1.lawful
+
+-- what the steps complete
+
+pub leads-refl : (s : Search) (now : Option (List Call)) (st : State) → Leads s now st st
+leads-refl s now st = record { later = omega arith; leads = λ after limit out on within rest. rest }
+
+within_less : (limit : Option ℕ) (m n : ℕ) → m ≤ n → Within limit n → Within limit m
+within_less None m n less within = tt
+within_less (Some most) m n less within = omega arith
+
+pub leads-trans : (s : Search) (middle now : Option (List Call)) (a b c : State) → Leads s middle a b → GoesOn middle now → Leads s now b c → Leads s now a c
+leads-trans s middle now a b c first on second = record {
+  later = omega (arith, first.later, second.later);
+  leads = λ after limit out later within rest. first.leads after limit out (goes_on-trans middle now after on later) (within_less limit b.turns c.turns second.later within) (second.leads after limit out later within rest);
+}
+
+pub leads-round : (s : Search) (now : Option (List Call)) (st : State) → st.position ≡ length (cursors_of s.proposals st.file) → st.changed ≡ true → Leads s now st (next_round st)
+leads-round s now st end changed = record { later = omega arith; leads = λ after limit out on within rest. new_round end changed rest }
+
+-- one step, whose trial was made since `before`
+accepts_later : (s : Search) (before now after : Option (List Call)) (file variant : List ℕ) → GoesOn before s.before → GoesOn now after
+    → AcceptsInRun s now file variant → AcceptsInRun (record s { before = before }) after file variant
+accepts_later s before now after file variant earlier later it = record {
+  smaller = it.smaller;
+  lawful = it.lawful;
+  answered = answer_in_run-earlier s.asks s.Tells s.name before s.before after variant Yes earlier (answer_in_run-later s.asks s.Tells s.name s.before now after variant Yes it.answered later);
+}
+
+rejects_later : (s : Search) (before now after : Option (List Call)) (file variant : List ℕ) → GoesOn before s.before → GoesOn now after
+    → RejectsInRun s now file variant → RejectsInRun (record s { before = before }) after file variant
+rejects_later s before now after file variant earlier later (not_smaller big) = not_smaller big
+rejects_later s before now after file variant earlier later (unlawful against) = unlawful against
+rejects_later s before now after file variant earlier later (answered_no answer) =
+    answered_no (answer_in_run-earlier s.asks s.Tells s.name before s.before after variant No earlier (answer_in_run-later s.asks s.Tells s.name s.before now after variant No answer later))
+
+pub leads-moves : (s : Search) (before now : Option (List Call)) (st to : State) → GoesOn before s.before → MovesOn s now st to → Leads (record s { before = before }) now st to
+leads-moves s before now st to earlier (rejected at there refused is) =
+    let run = record s { before = before } in
+    subst (Leads run now st) (sym is) (record {
+      later = omega arith;
+      leads = λ after limit out on within rest. skip s.proposals (AcceptsInRun run after) (RejectsInRun run after) limit st out at there
+          (rejects_later s before now after st.file (s.proposals.bytes st.file at) earlier on refused) within rest;
+    })
+leads-moves s before now st to earlier (accepted at size there taken_so has is) =
+    let run = record s { before = before } in
+    subst (Leads run now st) (sym is) (record {
+      later = omega arith;
+      leads = λ after limit out on within rest. take_next s.proposals (AcceptsInRun run after) (RejectsInRun run after) limit st out at size there
+          (accepts_later s before now after st.file (s.proposals.bytes st.file at) earlier on taken_so) has within rest;
+    })
+
+-- A position that ends the walk ends it here.
+pub halt_ends : (s : Search) (limit : Option ℕ) (before now : ℕ) (st : State) (why : Why) → IsHalt s.asks before now st.turns why → EndsHere s limit before now st why
+halt_ends s limit before now st Fixed halt = absurd halt
+halt_ends s limit before now st Limit halt = absurd halt
+halt_ends s limit before now st (Fault turn worker) halt = halt
+halt_ends s limit before now st NoMemory halt = halt
+
+-- one step of the walk
+pub leads-advances : (s : Search) (before now : Option (List Call)) (st to : State) → GoesOn before s.before → Advances s now st to → Leads (record s { before = before }) now st to
+leads-advances s before now st to earlier (moves step) = leads-moves s before now st to earlier step
+leads-advances s before now st to earlier (round end changed is) =
+    let run = record s { before = before } in
+    subst (Leads run now st) (sym is) (leads-round run now st end changed)
+
+rose_earlier : (first before now : ℕ) → first ≤ before → Rose before now → Rose first now
+rose_earlier first before now less rose = grind arith
+
+-- A fault of the last step is a fault since the beginning.
+pub ends_earlier : (s : Search) (limit : Option ℕ) (first before now : ℕ) (st : State) (why : Why) → first ≤ before → EndsHere s limit before now st why → EndsHere s limit first now st why
+ends_earlier s limit first before now st Fixed less ended = ended
+ends_earlier s limit first before now st Limit less ended = ended
+ends_earlier s limit first before now st (Fault turn worker) less ended = (ended.0, rose_earlier first before now less ended.1, ended.2, ended.3)
+ends_earlier s limit first before now st NoMemory less ended = ended

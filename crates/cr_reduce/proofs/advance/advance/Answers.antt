@@ -1,0 +1,14 @@
+use Rattle.cr_reduce.specs.Bench.{first_calls, first_count, first_says}
+use Rattle.cr_reduce.specs.Search.{search_of}
+use Rattle.cr_reduce.specs.Walk.{state_of}
+use Rattle.cr_reduce.specs.Walk.Advances.{moves}
+use Rattle.cr_reduce.proofs.Walks.{halt_ends}
+use Rattle.cr_reduce.proofs.advance.advance.Goals as goal
+
+pub returns-clause-advances : goal.returns-clause-advances
+returns-clause-advances g c = λ is. moves (c.look.ensures.moved is)
+
+pub returns-clause-ended : goal.returns-clause-ended
+returns-clause-ended g c = λ why is.
+    halt_ends (search_of (g.P.Passes.widths c.args.passes.now) (g.P.Passes.bytes c.args.passes.now) (g.L.Law.lawful c.args.law.now) (g.Q.Question.asks c.args.question.now) (g.Q.Question.tells c.args.question.now) (first_says g.J.Judge.key g.J.Judge.says c.args.bench.now) c.args.name.now (first_calls g.J.Judge.calls c.args.bench.now))
+    c.args.limit (first_count g.J.Judge.faults c.args.bench.now) (first_count g.J.Judge.faults c.look.new.bench) (state_of c.args.walk.now) why (c.look.ensures.halted why is)

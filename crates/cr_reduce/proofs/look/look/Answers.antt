@@ -1,0 +1,25 @@
+use Rattle.std.proofs.Common.{◌≡◌, refl, subst, sym}
+use Rattle.cr_reduce.specs.Bench.{first_calls, first_says}
+use Rattle.cr_reduce.specs.Search.{search_of}
+use Rattle.cr_reduce.specs.Walk.{state_of, MovesOn}
+use Rattle.cr_reduce.proofs.look.look.Goals as goal
+
+pub take-requires-clause-there : goal.take-requires-clause-there
+take-requires-clause-there g c = (c.in-Accepted.ensures.accepted c.in-Accepted.at c.in-Accepted.size refl).there
+
+pub take-requires-clause-variant : goal.take-requires-clause-variant
+take-requires-clause-variant g c = (c.in-Accepted.ensures.accepted c.in-Accepted.at c.in-Accepted.size refl).is
+
+pub take-requires-clause-has : goal.take-requires-clause-has
+take-requires-clause-has g c = (c.in-Accepted.ensures.accepted c.in-Accepted.at c.in-Accepted.size refl).has
+
+pub take-requires-clause-smaller : goal.take-requires-clause-smaller
+take-requires-clause-smaller g c = (c.in-Accepted.ensures.accepted c.in-Accepted.at c.in-Accepted.size refl).less
+
+pub returns-in-Rejected-clause-moved : goal.returns-in-Rejected-clause-moved
+returns-in-Rejected-clause-moved g c = λ _. c.in-Rejected.ensures.rejected refl
+
+pub returns-in-Ok-clause-moved : goal.returns-in-Ok-clause-moved
+returns-in-Ok-clause-moved g c = λ _.
+    let s = search_of (g.P.Passes.widths c.args.passes.now) (g.P.Passes.bytes c.args.passes.now) (g.L.Law.lawful c.args.law.now) (g.Q.Question.asks c.args.question.now) (g.Q.Question.tells c.args.question.now) (first_says g.J.Judge.key g.J.Judge.says c.args.bench.now) c.args.name.now (first_calls g.J.Judge.calls c.args.bench.now) in
+    subst (MovesOn s (first_calls g.J.Judge.calls c.consider.new.bench) (state_of c.args.walk.now)) (sym c.in-Ok.ensures.taken) (c.in-Accepted.ensures.accepted c.in-Accepted.at c.in-Accepted.size refl).moves

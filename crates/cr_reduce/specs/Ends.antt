@@ -1,0 +1,49 @@
+-- What a reduction's end says.
+use Rattle.std.specs.Prelude.{◌≡◌, ℕ, ◌+◌, true, List, length, Option, Some}
+use Rattle.cr_outside.specs.Judge.{Call}
+use Rattle.cr_outside.specs.Faults.{Rose}
+use Rattle.cr_reduce.specs.declared.end.End.{End}
+use Rattle.cr_reduce.specs.declared.walk.Walk.{Walk}
+use Rattle.cr_reduce.specs.declared.end.Why.{Why}
+use Rattle.cr_reduce.specs.declared.end.Why.TheVariants.{Fixed, Limit, Fault, NoMemory}
+use Rattle.cr_reduce.specs.Reduction.{AllRejected, Outcome, Within, cursors_of, start_of}
+use Rattle.cr_reduce.specs.Search.{Search, ReducesInRun, ReducesAsTold, RejectsInRun, RejectsAsTold}
+
+abbrev pub outcome_of : End → Why → Outcome
+outcome_of e why = record { file = e.file.items; accepted = e.accepted.items; turns = e.turns; why = why }
+
+abbrev pub end_of_walk : {T : Type 0} → Walk T → Why → End
+end_of_walk w why = record { file = w.file; accepted = w.accepted; turns = w.turns; why = why }
+
+-- With as many turns as were made, the reduction comes to this file and this accepted list.
+abbrev pub StopsAt : (Option ℕ → Outcome → Type 0) → End → Type 0
+StopsAt reduction e = (why : Why) × reduction (Some e.turns) (outcome_of e why)
+
+-- At Fixed and Limit the end is the reduction's, whole. A fault is one of the turn after the last, and it and want of
+-- memory leave what the reduction comes to after the turns that were made.
+abbrev pub EndsBy : (Option ℕ → Outcome → Type 0) → Option ℕ → End → Why → Type 0
+EndsBy reduction limit e Fixed = reduction limit (outcome_of e Fixed)
+EndsBy reduction limit e Limit = reduction limit (outcome_of e Limit)
+EndsBy reduction limit e (Fault turn worker) = (turn ≡ e.turns + 1) × (worker ≡ 0) × Within limit e.turns × StopsAt reduction e
+EndsBy reduction limit e NoMemory = Within limit e.turns × StopsAt reduction e
+
+-- by the answers given in the run
+abbrev pub EndsInRun : Search → Option (List Call) → Option ℕ → List ℕ → End → Type 0
+EndsInRun s now limit file e = EndsBy (λ most out. ReducesInRun s now most (start_of file) out) limit e e.why
+
+-- by the told answers: the one-thread first-accepted reduction
+abbrev pub EndsAsTold : Search → Option ℕ → List ℕ → End → Type 0
+EndsAsTold s limit file e = EndsBy (λ most out. ReducesAsTold s most (start_of file) out) limit e e.why
+
+-- No pass has an acceptable variant of the result left: in the run each was rejected.
+abbrev pub IsFixedInRun : Search → Option (List Call) → List ℕ → Type 0
+IsFixedInRun s now file = AllRejected s.proposals (RejectsInRun s now) file 0 (length (cursors_of s.proposals file))
+
+-- and by the told answers
+abbrev pub IsFixedAsTold : Search → List ℕ → Type 0
+IsFixedAsTold s file = AllRejected s.proposals (RejectsAsTold s) file 0 (length (cursors_of s.proposals file))
+
+-- A fault comes only where the question asks, and the judge's count of faults rose.
+abbrev pub FaultsWithCause : Search → ℕ → ℕ → Why → Type 0
+FaultsWithCause s before now (Fault turn worker) = (s.asks ≡ true) × Rose before now
+FaultsWithCause s before now _ = Unit {0}

@@ -1,0 +1,9 @@
+pub mod Variants
+pub mod Sizes
+pub mod Trials
+pub mod Reduction
+pub mod Bench
+pub mod Search
+pub mod Walk
+pub mod Ends
+pub mod TokenLaw

@@ -1,0 +1,86 @@
+-- What a reduction searches: what the passes propose, which files are lawful, and what is asked about them.
+use Rattle.std.specs.Prelude.{◌≡◌, ◌⊎◌, ℕ, ◌+◌, ◌<◌, ◌≤◌, Bool, true, List, [], ◌∷◌, ◌++◌, length, Option, Some, None}
+use Rattle.std.specs.List.{slice_get}
+use Rattle.cr_outside.specs.declared.judge.Answer.{Answer}
+use Rattle.cr_outside.specs.declared.judge.Answer.TheVariants.{Yes, No}
+use Rattle.cr_outside.specs.Judge.{Call, call_of, with_call}
+use Rattle.cr_outside.specs.Question.{Says, IsTold}
+use Rattle.cr_reduce.specs.declared.end.Accepted.{Accepted}
+use Rattle.cr_reduce.specs.declared.traits.passes.Cursor.{Cursor}
+use Rattle.cr_reduce.specs.Variants.{Widths}
+use Rattle.cr_reduce.specs.Sizes.{HasSize, IsSmaller}
+use Rattle.cr_reduce.specs.Trials.{IsAccepted, IsRejected, ToldAnswer, AnswerInRun, GoesOn}
+use Rattle.cr_reduce.specs.Reduction.{Proposals, Trial, State, Outcome, Reduces, cursors_of}
+
+pub record Search : Type 1 where
+  pub proposals : Proposals
+  pub Lawful : List ℕ → Type 0
+  -- whether the question uses a judge
+  pub asks : Bool
+  -- the told answer about a file
+  pub Tells : List ℕ → Bool → Type 0
+  -- the name under which a test sees the file
+  pub name : List ℕ
+  -- the calls of the judge before the run
+  pub before : Option (List Call)
+
+abbrev pub search_of : (List ℕ → Widths) → (List ℕ → Cursor → List ℕ) → (List ℕ → Type 0) → Bool → (Says → List ℕ → List ℕ → Bool → Type 0) → Says → List ℕ → Option (List Call) → Search
+search_of widths bytes Lawful asks tells says name before = record {
+  proposals = record { widths = widths; bytes = bytes };
+  Lawful = Lawful;
+  asks = asks;
+  Tells = λ file answer. tells says name file answer;
+  name = name;
+  before = before;
+}
+
+-- with the answers that were given in the run so far
+abbrev pub AcceptsInRun : Search → Option (List Call) → Trial
+AcceptsInRun s now = IsAccepted s.Lawful (AnswerInRun s.asks s.Tells s.name s.before now)
+
+abbrev pub RejectsInRun : Search → Option (List Call) → Trial
+RejectsInRun s now = IsRejected s.Lawful (AnswerInRun s.asks s.Tells s.name s.before now)
+
+abbrev pub ReducesInRun : Search → Option (List Call) → Option ℕ → State → Outcome → Type 0
+ReducesInRun s now limit st out = Reduces s.proposals (AcceptsInRun s now) (RejectsInRun s now) limit st out
+
+-- with the told answers
+abbrev pub AcceptsAsTold : Search → Trial
+AcceptsAsTold s = IsAccepted s.Lawful (ToldAnswer s.Tells)
+
+abbrev pub RejectsAsTold : Search → Trial
+RejectsAsTold s = IsRejected s.Lawful (ToldAnswer s.Tells)
+
+abbrev pub ReducesAsTold : Search → Option ℕ → State → Outcome → Type 0
+ReducesAsTold s limit st out = Reduces s.proposals (AcceptsAsTold s) (RejectsAsTold s) limit st out
+
+-- The answer about every file is told.
+abbrev pub IsAllTold : Search → Type 0
+IsAllTold s = (file : List ℕ) → IsTold s.asks (s.Tells file)
+
+-- the files of a chain: the first one, and each accepted variant of the one before
+abbrev pub chain_of : Proposals → List ℕ → List Accepted → List (List ℕ)
+chain_of p file [] = file ∷ []
+chain_of p file (a ∷ more) = file ∷ chain_of p (p.bytes file a.at) more
+
+-- A smaller, lawful variant of a file of the chain: only about such ones the test is asked.
+pub record IsCandidate (s : Search) (start : List ℕ) (accepted : List Accepted) (variant : List ℕ) : Type 0 where
+  pub place : ℕ
+  pub file : List ℕ
+  pub position : ℕ
+  pub at : Cursor
+  pub in_chain : slice_get (chain_of s.proposals start accepted) place ≡ Some file
+  pub there : slice_get (cursors_of s.proposals file) position ≡ Some at
+  pub is : variant ≡ s.proposals.bytes file at
+  pub smaller : IsSmaller variant file
+  pub lawful : s.Lawful variant
+
+-- each call is about such a file, under the file's own name
+abbrev pub AboutCandidates : Search → List ℕ → List Accepted → List Call → Type 0
+AboutCandidates s start accepted [] = Unit {0}
+AboutCandidates s start accepted (call ∷ calls) = (call.name ≡ s.name) × IsCandidate s start accepted call.file × AboutCandidates s start accepted calls
+
+-- The calls made since the run began are about candidates.
+abbrev pub AsksOnlyCandidates : Search → List ℕ → List Accepted → Option (List Call) → Option (List Call) → Type 0
+AsksOnlyCandidates s start accepted None now = Unit {0}
+AsksOnlyCandidates s start accepted (Some before) now = (more : List Call) × (now ≡ Some (before ++ more)) × AboutCandidates s start accepted more

@@ -1,0 +1,102 @@
+// The steps of the walk, up to its end.
+ghost use Rattle.std.specs.Prelude.{◌≡◌, ◌<◌, ◌≤◌, ℕ, List, IsSome, Some, None, length};
+ghost use Rattle.cr_reduce.specs.declared.end.Why.{Why};
+ghost use Rattle.cr_reduce.specs.Bench.{first_calls, first_count, first_says, others};
+ghost use Rattle.cr_reduce.specs.Reduction.{Within};
+ghost use Rattle.cr_reduce.specs.Search.{search_of};
+ghost use Rattle.cr_reduce.specs.Variants.{cursors};
+ghost use Rattle.cr_reduce.specs.Walk.{Advances, AsksAtMostOnce, EndsHere, IsSound, Walked, state_of, work_of};
+
+use crate::bench::Bench;
+use crate::end::Why;
+use crate::look::look;
+use crate::traits::law::Law;
+use crate::traits::passes::Passes;
+use crate::walk::Walk;
+use cr_outside::{Judge, Question};
+use std::alloc::Global;
+
+/// Looks at one position, or begins a new round, or says why the walk has ended.
+fn advance<P: Passes, L: Law, Q: Question, J: Judge>(
+    alloc: Global,
+    passes: &P,
+    law: &L,
+    question: &Q,
+    bench: &mut Bench<J>,
+    name: &str,
+    limit: Option<u64>,
+    walk: &mut Walk<P::Prep>,
+    variant: &mut Vec<u8>,
+) -> Option<Why>
+    requires sound { IsSound (P.widths passes.now) (P.is_of passes.now) walk.old }
+    ensures advances { result ≡ None → Advances (search_of (P.widths passes.now) (P.bytes passes.now) (L.lawful law.now) (Q.asks question.now) (Q.tells question.now) (first_says J.key J.says bench.old) name.now (first_calls J.calls bench.old))
+        (first_calls J.calls bench.new) (state_of walk.old) (state_of walk.new) }
+    ensures sound { result ≡ None → IsSound (P.widths passes.now) (P.is_of passes.now) walk.new }
+    ensures less { result ≡ None → work_of walk.new < work_of walk.old }
+    ensures within { result ≡ None → Within limit walk.old.turns → Within limit walk.new.turns }
+    ensures same { IsSome result → state_of walk.new ≡ state_of walk.old }
+    ensures ended { (why : Why) → result ≡ Some why → EndsHere (search_of (P.widths passes.now) (P.bytes passes.now) (L.lawful law.now) (Q.asks question.now) (Q.tells question.now) (first_says J.key J.says bench.old) name.now (first_calls J.calls bench.old))
+        limit (first_count J.faults bench.old) (first_count J.faults bench.new) (state_of walk.old) why }
+    ensures asks { AsksAtMostOnce (search_of (P.widths passes.now) (P.bytes passes.now) (L.lawful law.now) (Q.asks question.now) (Q.tells question.now) (first_says J.key J.says bench.old) name.now (first_calls J.calls bench.old))
+        (first_calls J.calls bench.new) (state_of walk.old) }
+    ensures key { first_says J.key J.says bench.new ≡ first_says J.key J.says bench.old }
+    ensures others { others bench.new ≡ others bench.old }
+    ensures count { length bench.new ≡ length bench.old }
+    ensures later { first_count J.faults bench.old ≤ first_count J.faults bench.new }
+{
+    if walk.position == walk.count {
+        if !walk.changed {
+            return Some(Why::Fixed);
+        }
+        walk.position = 0;
+        walk.changed = false;
+        return None;
+    }
+    if limit == Some(walk.turns) {
+        return Some(Why::Limit);
+    }
+    look(alloc, passes, law, question, bench, name, walk, variant)
+}
+
+/// Goes on until the walk ends, and says why.
+pub fn walk_on<P: Passes, L: Law, Q: Question, J: Judge>(
+    alloc: Global,
+    passes: &P,
+    law: &L,
+    question: &Q,
+    bench: &mut Bench<J>,
+    name: &str,
+    limit: Option<u64>,
+    walk: &mut Walk<P::Prep>,
+) -> Why
+    requires sound { IsSound (P.widths passes.now) (P.is_of passes.now) walk.old }
+    requires within { Within limit walk.old.turns }
+    ensures walked { Walked (search_of (P.widths passes.now) (P.bytes passes.now) (L.lawful law.now) (Q.asks question.now) (Q.tells question.now) (first_says J.key J.says bench.old) name.now (first_calls J.calls bench.old))
+        (first_calls J.calls bench.new) (state_of walk.old) (state_of walk.new) }
+    ensures ended { EndsHere (search_of (P.widths passes.now) (P.bytes passes.now) (L.lawful law.now) (Q.asks question.now) (Q.tells question.now) (first_says J.key J.says bench.old) name.now (first_calls J.calls bench.old))
+        limit (first_count J.faults bench.old) (first_count J.faults bench.new) (state_of walk.new) result }
+    ensures placed { (state_of walk.new).position ≤ length (cursors (P.widths passes.now (state_of walk.new).file)) }
+    ensures within { Within limit walk.new.turns }
+    ensures key { first_says J.key J.says bench.new ≡ first_says J.key J.says bench.old }
+    ensures others { others bench.new ≡ others bench.old }
+    ensures count { length bench.new ≡ length bench.old }
+    ensures later { first_count J.faults bench.old ≤ first_count J.faults bench.new }
+{
+    let mut variant = Vec::new(alloc);
+    loop {
+        let step = advance(
+            alloc,
+            passes,
+            law,
+            question,
+            bench,
+            name,
+            limit,
+            walk,
+            &mut variant,
+        );
+        if let Some(why) = step {
+            return why;
+        }
+    }
+}

@@ -1,0 +1,122 @@
+// The reduction.
+ghost use Rattle.std.specs.Prelude.{◌≡◌, ◌<◌, ◌≤◌, ℕ, length, IfErr, IfOk};
+ghost use Rattle.cr_reduce.specs.Bench.{first_calls, first_count, first_says, others};
+ghost use Rattle.cr_reduce.specs.Ends.{end_of_walk, EndsAsTold, EndsInRun, FaultsWithCause, IsFixedAsTold, IsFixedInRun};
+ghost use Rattle.cr_reduce.specs.Search.{AsksOnlyCandidates, IsAllTold, search_of};
+ghost use Rattle.cr_reduce.specs.Reduction.{start_of};
+ghost use Rattle.cr_reduce.specs.Sizes.{HasSize};
+ghost use Rattle.cr_reduce.specs.Walk.{IsSound, state_of};
+
+use crate::advance::walk_on;
+use crate::bench::Bench;
+use crate::end::{End, Plan, Why};
+use crate::traits::law::Law;
+use crate::traits::passes::Passes;
+use crate::traits::positions::positions;
+use crate::trial::measure;
+use crate::walk::Walk;
+use cr_outside::{Judge, Question};
+use std::alloc::Global;
+
+/// Reduces a lawful file: each accepted variant becomes the file, until a round accepts nothing, the turns reach the
+/// limit, the test fails, or no memory is left.
+pub fn reduce<P: Passes, L: Law, Q: Question, J: Judge>(
+    alloc: Global,
+    passes: &P,
+    law: &L,
+    question: &Q,
+    bench: &mut Bench<J>,
+    name: &str,
+    file: Vec<u8>,
+    plan: &Plan,
+) -> End
+    requires tokenizes { (n : ℕ) × HasSize file.items n }
+    requires workers { (0 < plan.now.workers) × (plan.now.workers ≤ length bench.old) }
+    requires window { (0 < plan.now.window) × (plan.now.window ≤ 4096) }
+
+    // The reduction by the answers given in this run, whatever the judge is.
+    ensures chain { EndsInRun (search_of (P.widths passes.now) (P.bytes passes.now) (L.lawful law.now) (Q.asks question.now) (Q.tells question.now) (first_says J.key J.says bench.old) name.now (first_calls J.calls bench.old))
+        (first_calls J.calls bench.new) plan.now.limit file.items result }
+    ensures all_rejected { result.why ≡ Why.Fixed → IsFixedInRun (search_of (P.widths passes.now) (P.bytes passes.now) (L.lawful law.now) (Q.asks question.now) (Q.tells question.now) (first_says J.key J.says bench.old) name.now (first_calls J.calls bench.old))
+        (first_calls J.calls bench.new) result.file.items }
+
+    // Where the answers are told, it is the one-thread first-accepted reduction.
+    ensures reduction { IsAllTold (search_of (P.widths passes.now) (P.bytes passes.now) (L.lawful law.now) (Q.asks question.now) (Q.tells question.now) (first_says J.key J.says bench.old) name.now (first_calls J.calls bench.old))
+        → EndsAsTold (search_of (P.widths passes.now) (P.bytes passes.now) (L.lawful law.now) (Q.asks question.now) (Q.tells question.now) (first_says J.key J.says bench.old) name.now (first_calls J.calls bench.old)) plan.now.limit file.items result }
+    ensures fixed_point { IsAllTold (search_of (P.widths passes.now) (P.bytes passes.now) (L.lawful law.now) (Q.asks question.now) (Q.tells question.now) (first_says J.key J.says bench.old) name.now (first_calls J.calls bench.old))
+        → result.why ≡ Why.Fixed → IsFixedAsTold (search_of (P.widths passes.now) (P.bytes passes.now) (L.lawful law.now) (Q.asks question.now) (Q.tells question.now) (first_says J.key J.says bench.old) name.now (first_calls J.calls bench.old)) result.file.items }
+
+    // The test is asked about nothing but smaller, lawful variants of the chain's files.
+    ensures asks_only { AsksOnlyCandidates (search_of (P.widths passes.now) (P.bytes passes.now) (L.lawful law.now) (Q.asks question.now) (Q.tells question.now) (first_says J.key J.says bench.old) name.now (first_calls J.calls bench.old))
+        file.items result.accepted.items (first_calls J.calls bench.old) (first_calls J.calls bench.new) }
+    ensures cause { FaultsWithCause (search_of (P.widths passes.now) (P.bytes passes.now) (L.lawful law.now) (Q.asks question.now) (Q.tells question.now) (first_says J.key J.says bench.old) name.now (first_calls J.calls bench.old))
+        (first_count J.faults bench.old) (first_count J.faults bench.new) result.why }
+    ensures key { first_says J.key J.says bench.new ≡ first_says J.key J.says bench.old }
+    ensures others { others bench.new ≡ others bench.old }
+    ensures count { length bench.new ≡ length bench.old }
+    ensures later { first_count J.faults bench.old ≤ first_count J.faults bench.new }
+{
+    match begin(alloc, passes, file) {
+        Ok(mut walk) => {
+            let why = walk_on(
+                alloc, passes, law, question, bench, name, plan.limit, &mut walk,
+            );
+            end_of(walk, why)
+        }
+        Err(file) => End {
+            file,
+            accepted: Vec::new(alloc),
+            turns: 0,
+            why: Why::NoMemory,
+        },
+    }
+}
+
+// The walk before its first position, or the file back where no memory is left.
+fn begin<P: Passes>(alloc: Global, passes: &P, file: Vec<u8>) -> Result<Walk<P::Prep>, Vec<u8>>
+    requires { (n : ℕ) × HasSize file.items n }
+    ensures sound { IfOk result (IsSound (P.widths passes.now) (P.is_of passes.now)) }
+    ensures start { IfOk result (λ walk. state_of walk ≡ start_of file.items) }
+    ensures back { IfErr result (λ given. given ≡ file) }
+{
+    let size = match measure(alloc, &file) {
+        Ok(Some(size)) => size,
+        Ok(None) => unreachable!(),
+        Err(_) => return Err(file),
+    };
+    let Ok(prep) = passes.prepare(alloc, &file) else {
+        return Err(file);
+    };
+    let count = positions(passes, &prep);
+    Ok(Walk {
+        file,
+        size,
+        prep,
+        count,
+        position: 0,
+        changed: false,
+        accepted: Vec::new(alloc),
+        turns: 0,
+    })
+}
+
+fn end_of<T: Drop>(walk: Walk<T>, why: Why) -> End
+    ensures { result ≡ end_of_walk walk why }
+{
+    let Walk {
+        file,
+        size: _,
+        prep: _,
+        count: _,
+        position: _,
+        changed: _,
+        accepted,
+        turns,
+    } = walk;
+    End {
+        file,
+        accepted,
+        turns,
+        why,
+    }
+}

@@ -1,0 +1,48 @@
+// An accepted variant becomes the file.
+ghost use Rattle.std.specs.Prelude.{◌≡◌, ◌<◌, ◌+◌, OnOk, OnErr, Some, slice_get};
+ghost use Rattle.cr_reduce.specs.Variants.{cursors};
+ghost use Rattle.cr_reduce.specs.Sizes.{HasSize};
+ghost use Rattle.cr_reduce.specs.Reduction.{taken};
+ghost use Rattle.cr_reduce.specs.Walk.{IsSound, state_of, work_of};
+
+use crate::end::Accepted;
+use crate::traits::passes::{Cursor, Passes};
+use crate::traits::positions::{position_of, positions};
+use crate::walk::Walk;
+use cr_outside::NoMemory;
+use std::alloc::Global;
+use std::mem;
+
+/// Makes the accepted variant the file. The old file is left in `variant`. Without memory nothing changes.
+pub fn take<P: Passes>(
+    alloc: Global,
+    passes: &P,
+    walk: &mut Walk<P::Prep>,
+    at: Cursor,
+    size: u64,
+    variant: &mut Vec<u8>,
+) -> Result<(), NoMemory>
+    requires sound { IsSound (P.widths passes.now) (P.is_of passes.now) walk.old }
+    requires there { slice_get (cursors (P.widths passes.now walk.old.file.items)) walk.old.position ≡ Some at }
+    requires variant { variant.old.items ≡ P.bytes passes.now walk.old.file.items at }
+    requires has { HasSize variant.old.items size }
+    requires smaller { size < walk.old.size }
+    ensures taken { OnOk result (state_of walk.new ≡ taken (record { widths = P.widths passes.now; bytes = P.bytes passes.now }) (state_of walk.old) at size (walk.old.turns + 1)) }
+    ensures sound { OnOk result (IsSound (P.widths passes.now) (P.is_of passes.now) walk.new) }
+    ensures less { OnOk result (work_of walk.new < work_of walk.old) }
+    ensures same { OnErr result (state_of walk.new ≡ state_of walk.old) }
+{
+    let prep = passes.prepare(alloc, variant)?;
+    let turn = walk.turns + 1;
+    let count = positions(passes, &prep);
+    let position = position_of(passes, &prep, at);
+    walk.accepted.push(Accepted { at, size, turn })?;
+    mem::swap(&mut walk.file, variant);
+    walk.size = size;
+    walk.prep = prep;
+    walk.count = count;
+    walk.position = position;
+    walk.changed = true;
+    walk.turns = turn;
+    Ok(())
+}

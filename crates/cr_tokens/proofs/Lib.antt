@@ -1,0 +1,15 @@
+pub mod Places
+pub mod Tables
+pub mod Ranges
+pub mod Firsts
+pub mod Units
+pub mod Chains
+pub mod Longest
+pub mod Signs
+pub mod Integers
+pub mod Files
+pub mod Uniques
+pub mod Wholes
+pub mod Faults
+pub mod Measures
+pub mod Spellings

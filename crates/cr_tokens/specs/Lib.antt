@@ -1,0 +1,12 @@
+pub mod Bytes
+pub mod Words
+pub mod Numbers
+pub mod Literals
+pub mod Punctuators
+pub mod Blanks
+pub mod Tokens
+pub mod Faults
+pub mod Size
+pub mod Items
+pub mod Runs
+pub mod Laws
