@@ -1,7 +1,7 @@
 -- At most as many positions below the length are claimed as there are.
 use Rattle.std.proofs.Common.{◌≡◌, ℕ, ◌+◌, ◌-◌, ◌≤◌, List, [], ◌∷◌, refl, arith}
 use Prim.Native.Nat.{zero, suc}
-use Rattle.cr_core.specs.Row.{Row, apart, below, placed, under}
+use Rattle.cr_core.specs.Row.{Row, apart, below, placed, under, early, past}
 use Rattle.cr_core.specs.Sound.{Sum, total, IsSound}
 
 -- the sum of f below n
@@ -43,6 +43,35 @@ total-upto len (l ∷ ls) =
 pub once : (len next least : ℕ) (sum : Sum) → IsSound len next least sum → (p : ℕ) → sum (placed p) ≤ 1
 once len next least sum s p = omega (arith, s.each_claimed_number_stands_once p)
 
+pub few_below : (len next : ℕ) (lists : List Row) → ((p : ℕ) → total (placed p) lists ≡ below p next) → total (under len) lists ≤ len
+few_below len next lists each =
+    omega (arith, total-upto len lists, upto-small len (λ p. total (placed p) lists) (λ p. omega (arith, each p)))
+
 pub few : (len next least : ℕ) (lists : List Row) → IsSound len next least (λ f. total f lists) → total (under len) lists ≤ len
-few len next least lists s =
-    omega (arith, total-upto len lists, upto-small len (λ p. total (placed p) lists) (once len next least (λ f. total f lists) s))
+few len next least lists s = few_below len next lists s.each_claimed_number_stands_once
+
+upto-all : (n m : ℕ) (f : ℕ → ℕ) → ((p : ℕ) → f p ≡ below p m) → n ≤ m → upto n f ≡ n
+unfolding upto
+upto-all zero m f h le = refl
+upto-all (suc n) m f h le = omega (arith, h n, upto-all n m f h (omega arith))
+
+-- beside the entries below the length a list has its last one at most
+under-past : (len n : ℕ) (l : Row) → early len l ≡ 0 → under n l ≤ under len l + past len l
+under-past len n [] h = omega arith
+under-past len n (e ∷ []) h = omega arith
+under-past len n (e ∷ f ∷ es) h = omega (arith, under-past len n (f ∷ es) (omega arith))
+
+total-past : (len n : ℕ) (ls : List Row) → total (early len) ls ≡ 0 → total (under n) ls ≤ total (under len) ls + total (past len) ls
+total-past len n [] h = omega arith
+total-past len n (l ∷ ls) h = omega (arith, under-past len n l (omega arith), total-past len n ls (omega arith))
+
+pub bound : (len next : ℕ) (lists : List Row) → ((p : ℕ) → total (placed p) lists ≡ below p next) → total (early len) lists ≡ 0
+    → next ≤ len + total (past len) lists
+bound len next lists each close =
+    omega (
+      arith,
+      few_below len next lists each,
+      total-past len next lists close,
+      total-upto next lists,
+      upto-all next next (λ p. total (placed p) lists) each (omega arith),
+    )
