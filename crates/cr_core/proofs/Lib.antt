@@ -4,3 +4,4 @@ pub mod Totals
 pub mod LastEntry
 pub mod FirstHit
 pub mod Entries
+pub mod Few

@@ -171,3 +171,11 @@ pub run_begins : (len workers : ℕ) (s : State) → s ≡ start len workers →
 run_begins len workers s e =
     let P : State → Type 0 = λ x. Runs (start len workers) [] x × Stays len workers x in
     subst P (sym e) (ends (start len workers), record { sound = begins len workers; same_len = refl; same_lists = length-replicate workers [] })
+
+-- the events of a list end in one state
+pub one_end : (s : State) (es : List Event) (t u : State) → Runs s es t → Runs s es u → t ≡ u
+one_end s es t u (ends _) (ends _) = refl
+one_end s es t u (does _ e fs _ h r) (does _ _ _ _ _ q) = one_end (after e s) fs t u r q
+one_end s es t u (does _ e fs _ h r) (passes_over _ _ _ _ not q) = absurd (not h)
+one_end s es t u (passes_over _ e fs _ not r) (does _ _ _ _ h q) = absurd (not h)
+one_end s es t u (passes_over _ e fs _ not r) (passes_over _ _ _ _ _ q) = one_end s fs t u r q

@@ -3,7 +3,8 @@ use Rattle.std.specs.Prelude.{◌≡◌, ◌≢◌, ℕ, ◌+◌, ◌<◌, ◌�
 use Rattle.cr_core.specs.declared.marks.Mark.{Mark}
 use Rattle.cr_core.specs.declared.marks.Mark.TheVariants.{Open}
 use Rattle.cr_core.specs.declared.events.Event.{Event}
-use Rattle.cr_core.specs.Row.{Row, marked}
+use Rattle.cr_core.specs.Row.{Row, below, placed, marked, under, early, past}
+use Rattle.cr_core.specs.Sound.{total, IsSound}
 use Rattle.cr_core.specs.State.{State, start, in_lists, IsSoundState, IsFinished, IsFirst, first_of}
 use Rattle.cr_core.specs.Machine.{Runs}
 
@@ -30,3 +31,16 @@ IsMarked s p m = (i : ℕ) × (j : ℕ) × (slice_get (slice_index_or s.lists i 
 -- where a count is above 0 there is an entry
 abbrev pub CountsAreEntries : Type 0
 CountsAreEntries = (s : State) (p : ℕ) (m : Mark) → (0 < in_lists s (marked p m)) ↔ IsMarked s p m
+
+-- the events of a list, from a state on, end in one state
+abbrev pub ARunHasOneEnd : Type 0
+ARunHasOneEnd = (s : State) (events : List Event) (t u : State) → Runs s events t → Runs s events u → t ≡ u
+
+-- in a sound state at most `len` entries are below the length: no position is tried twice
+abbrev pub FewAreTried : Type 0
+FewAreTried = (len next least : ℕ) (lists : List Row) → IsSound len next least (λ f. total f lists) → total (under len) lists ≤ len
+
+-- the bound on `next` follows from the facts before it: of each list, only the last entry is at or past the length
+abbrev pub TheBoundFollows : Type 0
+TheBoundFollows = (len next : ℕ) (lists : List Row) → ((p : ℕ) → total (placed p) lists ≡ below p next) → total (early len) lists ≡ 0
+    → next ≤ len + total (past len) lists

@@ -11,7 +11,7 @@ use Rattle.cr_core.specs.Row.{Row, word, last_position, last_mark, with_last}
 use Rattle.cr_core.specs.Sound.{IsOver}
 use Rattle.cr_core.specs.State.{State}
 
--- whether a list's open entry may be settled so; with nothing to settle there is none
+-- whether a list's open entry may be settled so; with nothing to settle there is none (in a sound state only a last entry is open)
 abbrev pub MaySettle : ℕ → ℕ → Settle → Row → Type 0
 MaySettle len least settle.Nothing l = last_mark l ≢ Open
 MaySettle len least settle.No l = (last_mark l ≡ Open) × (last_position l < len)

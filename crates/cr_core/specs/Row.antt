@@ -43,6 +43,11 @@ abbrev pub placed : ℕ → Row → ℕ
 placed p [] = 0
 placed p (e ∷ es) = (1 - apart p e.position) + placed p es
 
+-- how many entries of a list are below the length
+abbrev pub under : ℕ → Row → ℕ
+under len [] = 0
+under len (e ∷ es) = below e.position len + under len es
+
 -- how often it stands there with a mark
 abbrev pub marked : ℕ → Mark → Row → ℕ
 marked p m [] = 0

@@ -34,5 +34,5 @@ pub record IsSound (len next least : ℕ) (sum : Sum) : Type 0 where
   pub a_rejected_entry_is_below_the_length : (p : ℕ) → 0 < sum (marked p No) → p < len
   -- each entry but a list's last is below the length
   pub only_a_last_entry_is_past_the_end : sum (early len) ≡ 0
-  -- and so there are at most `len` claims and one more for each list
+  -- and so there are at most `len` claims and one more for each list (it follows, and is kept so that each step is plain arithmetic)
   pub next_is_bounded : next ≤ len + sum (past len)

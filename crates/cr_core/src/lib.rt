@@ -16,6 +16,9 @@ mod settling;
 mod tests;
 
 pub use events::{Event, First, Settle};
-pub use laws::{counts_are_entries, each_list_is_in_order, ordered_commit};
+pub use laws::{
+    a_run_has_one_end, counts_are_entries, each_list_is_in_order, few_are_tried, ordered_commit,
+    the_bound_follows,
+};
 pub use machine::{Core, NoMemory, hit_of, run, word_of};
 pub use marks::{Entry, HitKind, Mark};
