@@ -1,6 +1,5 @@
 -- Lines and places, and spellings side by side, for the crates above.
 use Rattle.std.specs.Prelude.{ℕ, ◌+◌, ◌==◌, List, [], ◌∷◌, ◌++◌, length, take, count_by}
-use Rattle.cr_tokens.specs.declared.token.Token.{Token}
 use Rattle.cr_tokens.specs.declared.token.TokenKind.{TokenKind}
 use Rattle.cr_tokens.specs.Tokens.{Tokenizes}
 
@@ -12,5 +11,5 @@ line_of file at = 1 + count_by (λ b. b == 10) (take at file)
 abbrev pub StaysApart : List ℕ → List ℕ → Type 0
 StaysApart left right =
     (kind other : TokenKind) × Tokenizes (left ++ right)
-        (record { kind = kind; start = 0; end = length left }
-        ∷ record { kind = other; start = length left; end = length left + length right } ∷ [])
+    (record { kind = kind; start = 0; end = length left }
+    ∷ record { kind = other; start = length left; end = length left + length right } ∷ [])

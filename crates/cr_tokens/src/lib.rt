@@ -20,6 +20,6 @@ mod token;
 mod word;
 
 pub use measure::size;
-pub use reader::read;
+pub use reader::{first_fault, read};
 pub use run::contains;
 pub use token::{MAX_BYTES, MAX_TOKENS, Token, TokenFault, TokenKind, Tokens};
