@@ -4,7 +4,7 @@ use Rattle.cr_tokens.specs.declared.token.Token.{Token}
 use Rattle.cr_tokens.specs.declared.token.TokenFault.{TokenFault}
 use Rattle.cr_tokens.specs.declared.token.TokenFault.TheVariants.{TooMany}
 use Rattle.cr_tokens.specs.Blanks.{IsBlank}
-use Rattle.cr_tokens.specs.Tokens.{FallsInto, IsToken, HasTokens}
+use Rattle.cr_tokens.specs.Tokens.{FallsInto, IsToken}
 use Rattle.cr_tokens.specs.Tokens.FallsInto.{nothing}
 use Rattle.cr_tokens.specs.Faults.{FaultAt, FirstTokenFault}
 use Rattle.cr_tokens.specs.Faults.FirstTokenFault.{first, too_many}
@@ -29,11 +29,6 @@ comes_token file at count t c h e = record {
   falls = FallsInto-token t c.falls e h;
   counted = simp length-append (omega (arith, c.counted));
 }
-
-pub comes_all : (file : List ℕ) (at count : ℕ) → length file ≤ 1048576 → count ≤ 262144 → Comes file at count → at ≡ length file →
-    HasTokens file
-comes_all file at count short few c e =
-    (c.tokens, record { short = short; few = omega (arith, c.counted); falls = rw e at c.falls })
 
 pub comes_fault : (file : List ℕ) (at count : ℕ) (fault : TokenFault) → length file ≤ 1048576 → count ≤ 262144 → Comes file at count →
     FaultAt file at fault → FirstTokenFault file fault
