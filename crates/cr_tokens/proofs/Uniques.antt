@@ -1,16 +1,14 @@
 -- What stands at a place of a file, a blank or a token, stands there in one way.
-use Rattle.std.proofs.Common.{◌≡◌, ◌≢◌, ◌⊎◌, inl, inr, ℕ, ◌+◌, ◌≤◌, ◌<◌, List, length, refl, sym, ◌∙◌, arith, true, false, not, Bool}
-use Rattle.std.specs.Prelude.{slice_index, slice_range, nat_le, ◌&&◌, ◌||◌, ◌==◌}
-use Rattle.std.proofs.lemmas.Bool.{cases_order, cases_lt}
+use Rattle.std.proofs.Common.{◌≡◌, ◌≢◌, inl, inr, ℕ, ◌<◌, List, length, refl, sym, arith, true, false, not, Bool}
+use Rattle.std.specs.Prelude.{slice_index, nat_le, ◌&&◌, ◌||◌, ◌==◌}
+use Rattle.std.proofs.lemmas.Bool.{cases_order}
 use Rattle.cr_tokens.specs.declared.token.Token.{Token}
 use Rattle.cr_tokens.specs.declared.token.TokenKind.{TokenKind}
 use Rattle.cr_tokens.specs.declared.token.TokenKind.TheVariants.{Keyword, Identifier, Integer, Character, Text, Punctuator}
-use Rattle.cr_tokens.specs.Bytes.{IsSpace, IsNondigit}
-use Rattle.cr_tokens.specs.Numbers.{BeginsNumber}
-use Rattle.cr_tokens.specs.Blanks.{IsBlank, IsComment, IsBlockComment, IsLineComment, EndsLine, OpensComment}
+use Rattle.cr_tokens.specs.Bytes.{IsSpace}
+use Rattle.cr_tokens.specs.Blanks.{IsBlank, IsComment, EndsLine}
 use Rattle.cr_tokens.specs.Blanks.IsBlank.{space, comment, skipped}
 use Rattle.cr_tokens.specs.Tokens.{Spells, IsToken}
-use Rattle.cr_tokens.specs.Faults.{IsQuote}
 use Rattle.cr_tokens.proofs.Firsts.{punctuator_no_other, punctuator_first, no_token_at, no_hash}
 use Rattle.cr_tokens.proofs.Longest.{number_no_word, nondigit_no_quote, number_no_quote, punctuator_no_number, lexeme_of, byte_inside}
 

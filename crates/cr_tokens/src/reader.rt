@@ -1,5 +1,5 @@
-ghost use Rattle.std.specs.Prelude.{◌≡◌, ◌⊎◌, ◌≤◌, ◌<◌, ◌++◌, ◌∷◌, [], IfOk, IfErr, OnOk, length};
-ghost use Rattle.cr_tokens.specs.Tokens.{Tokenizes, HasNoTokens};
+ghost use Rattle.std.specs.Prelude.{◌≡◌, ◌⊎◌, ◌≤◌, ◌<◌, ◌++◌, ◌∷◌, [], IfOk, IfErr, IfSome, IfNone, OnOk, length};
+ghost use Rattle.cr_tokens.specs.Tokens.{Tokenizes, HasTokens, HasNoTokens};
 ghost use Rattle.cr_tokens.specs.Faults.{FirstTokenFault};
 
 use crate::item::{Item, item_at};
@@ -35,6 +35,32 @@ pub fn read(alloc: Global, file: &[u8]) -> Result<Tokens, TokenFault>
         }
     }
     Ok(Tokens { list })
+}
+
+/// The first fault of a file, or `None` where it has tokens. It takes no memory.
+pub fn first_fault(file: &[u8]) -> Option<TokenFault>
+    ensures fault { IfSome result (FirstTokenFault file.now) }
+    ensures none { IfNone result (HasTokens file.now) }
+{
+    if file.len() > MAX_BYTES {
+        return Some(TokenFault::TooLong);
+    }
+    let mut at = 0;
+    let mut count: usize = 0;
+    while at < file.len() {
+        match item_at(file, at) {
+            Err(fault) => return Some(fault),
+            Ok(Item::Blank(to)) => at = to,
+            Ok(Item::Spelled(token)) => {
+                if count >= MAX_TOKENS {
+                    return Some(TokenFault::TooMany(token.start));
+                }
+                count += 1;
+                at = token.end as usize;
+            }
+        }
+    }
+    None
 }
 
 fn keep(list: &mut Vec<Token>, token: Token) -> Result<(), TokenFault>

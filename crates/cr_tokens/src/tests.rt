@@ -1,5 +1,5 @@
 use crate::token::TokenKind::{Character, Identifier, Integer, Keyword, Punctuator, Text};
-use crate::{TokenFault, TokenKind, contains, read, size};
+use crate::{TokenFault, TokenKind, contains, first_fault, read, size};
 use std::alloc::Global;
 use std::test::Fail;
 
@@ -235,7 +235,10 @@ const FAULTS: [(&[u8], TokenFault); 62] = [
     (b"x /* \\\n", TokenFault::OpenComment(2)),
 ];
 
-const COMMENT_FAULTS: [(&[u8], TokenFault); 6] = [
+const SPLICE_FAULTS: [(&[u8], TokenFault); 9] = [
+    (b"\"a\\\\\n", TokenFault::BadByte(3)),
+    (b"'\\\\\n'", TokenFault::BadByte(2)),
+    (b"\"a\\\\", TokenFault::OpenLiteral(0)),
     (b"/* \\\n */", TokenFault::BadByte(3)),
     (b"// a\\\nb", TokenFault::BadByte(4)),
     (b"// a??/\nb", TokenFault::BadByte(4)),
@@ -259,7 +262,7 @@ fn has_tokens(alloc: Global, text: &[u8], wanted: &[Spelled]) -> bool {
 fn has_fault(alloc: Global, text: &[u8], wanted: TokenFault) -> bool {
     match read(alloc, text) {
         Ok(_) => false,
-        Err(fault) => fault == wanted,
+        Err(fault) => fault == wanted && first_fault(text) == Some(wanted),
     }
 }
 
@@ -276,7 +279,7 @@ fn texts_have_their_first_faults(rt: HostRuntime) -> Result<(), Fail> {
     for (text, wanted) in FAULTS {
         assert!(rt; has_fault(rt.alloc(), text, wanted), "{text:?}");
     }
-    for (text, wanted) in COMMENT_FAULTS {
+    for (text, wanted) in SPLICE_FAULTS {
         assert!(rt; has_fault(rt.alloc(), text, wanted), "{text:?}");
     }
     Ok(())
