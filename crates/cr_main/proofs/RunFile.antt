@@ -11,14 +11,17 @@ use Rattle.cr_main.proofs.Files.{read_whole, refused_file}
 
 -- the statuses that come once the file is found interesting
 abbrev pub IsLate : ℕ → Type 0
-IsLate status = (status ≡ 0) ⊎ (status ≡ 7) ⊎ (status ≡ 8) ⊎ (status ≡ 9) ⊎ (status ≡ 11)
+IsLate status = (status ≡ 0) ⊎ (status ≡ 9) ⊎ (status ≡ 11)
 
-late_is_not : (status n : ℕ) → IsLate status → 1 < n → n < 7 → status ≡ n → ⊥
+late_is_not : (status n : ℕ) → IsLate status → 1 < n → n < 9 → status ≡ n → ⊥
 late_is_not status n (inl e) more less is = omega (arith, e, more, less, is)
 late_is_not status n (inr (inl e)) more less is = omega (arith, e, more, less, is)
-late_is_not status n (inr (inr (inl e))) more less is = omega (arith, e, more, less, is)
-late_is_not status n (inr (inr (inr (inl e)))) more less is = omega (arith, e, more, less, is)
-late_is_not status n (inr (inr (inr (inr e)))) more less is = omega (arith, e, more, less, is)
+late_is_not status n (inr (inr e)) more less is = omega (arith, e, more, less, is)
+
+late_known : (status : ℕ) → IsLate status → (status ≡ 0) ⊎ (status ≡ 3) ⊎ (status ≡ 4) ⊎ (status ≡ 6) ⊎ (status ≡ 9) ⊎ (status ≡ 11)
+late_known status (inl e) = inl e
+late_known status (inr (inl e)) = inr (inr (inr (inr (inl e))))
+late_known status (inr (inr e)) = inr (inr (inr (inr (inr e))))
 
 not_early : (status : ℕ) → IsLate status → (status ≡ 3) ⊎ (status ≡ 4) ⊎ (status ≡ 6) → ⊥
 not_early status late (inl is) = late_is_not status 3 late (omega arith) (omega arith) is
@@ -39,7 +42,7 @@ result_of_bytes old read new name text v reads same lawful answer result = recor
 
 pub runs_late : (old read new : Option Names) (before middle now : ℕ) (name text : List ℕ) (v : Vec ℕ) (status : ℕ) → Reads old name 1048577 (Bytes v) → read ≡ old → before ≤ middle → IsTokenized v.items → TellsText text v.items true → IsLate status → (status ≡ 9 → Rose middle now) → (status ≡ 0 → IsResult read new name text v.items) → RunsFile old new before now name text status
 runs_late old read new before middle now name text v status reads same later lawful answer late failed reduced = record {
-  not_usage = late_is_not status 2 late (omega arith) (omega arith);
+  known = late_known status late;
   absent = λ is. absurd (late_is_not status 3 late (omega arith) (omega arith) is);
   refused = λ is. absurd (late_is_not status 4 late (omega arith) (omega arith) is);
   uninteresting = λ is. absurd (late_is_not status 6 late (omega arith) (omega arith) is);
@@ -54,7 +57,7 @@ keeps_late old read new name text v reads same lawful answer (inr result) = inr 
 
 pub runs_refused : (old new : Option Names) (before now : ℕ) (name text : List ℕ) (v : Vec ℕ) → Reads old name 1048577 (Bytes v) → new ≡ old → (IsTokenized v.items → ⊥) → RunsFile old new before now name text 4
 runs_refused old new before now name text v reads same against = record {
-  not_usage = λ is. omega (arith, is);
+  known = inr (inr (inl refl));
   absent = λ is. absurd (omega (arith, is));
   refused = λ is. refused_file old name v reads against;
   uninteresting = λ is. absurd (omega (arith, is));
@@ -65,7 +68,7 @@ runs_refused old new before now name text v reads same against = record {
 
 pub runs_uninteresting : (old new : Option Names) (before now : ℕ) (name text : List ℕ) (v : Vec ℕ) → Reads old name 1048577 (Bytes v) → new ≡ old → IsTokenized v.items → TellsText text v.items false → RunsFile old new before now name text 6
 runs_uninteresting old new before now name text v reads same lawful answer = record {
-  not_usage = λ is. omega (arith, is);
+  known = inr (inr (inr (inl refl)));
   absent = λ is. absurd (omega (arith, is));
   refused = λ is. absurd (omega (arith, is));
   uninteresting = λ is. record { bytes = v.items; read = read_whole old name v reads lawful.tokenizes.short; lawful = lawful; answer = answer };
@@ -73,3 +76,11 @@ runs_uninteresting old new before now name text v reads same lawful answer = rec
   reduced = λ is. absurd (omega (arith, is));
   unwritten = λ is. same;
 }
+
+pub not_usage : (status : ℕ) → (status ≡ 0) ⊎ (status ≡ 3) ⊎ (status ≡ 4) ⊎ (status ≡ 6) ⊎ (status ≡ 9) ⊎ (status ≡ 11) → status ≡ 2 → ⊥
+not_usage status (inl e) is = omega (arith, e, is)
+not_usage status (inr (inl e)) is = omega (arith, e, is)
+not_usage status (inr (inr (inl e))) is = omega (arith, e, is)
+not_usage status (inr (inr (inr (inl e)))) is = omega (arith, e, is)
+not_usage status (inr (inr (inr (inr (inl e))))) is = omega (arith, e, is)
+not_usage status (inr (inr (inr (inr (inr e))))) is = omega (arith, e, is)

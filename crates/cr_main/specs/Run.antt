@@ -67,7 +67,7 @@ KeepsOrReduces old new name text = (new ≡ old) ⊎ IsReduced old new name text
 
 -- What a run on a file answers, and why.
 pub record RunsFile (old new : Option Names) (before now : ℕ) (name text : List ℕ) (status : ℕ) : Type 0 where
-  pub not_usage : status ≡ 2 → ⊥
+  pub known : (status ≡ 0) ⊎ (status ≡ 3) ⊎ (status ≡ 4) ⊎ (status ≡ 6) ⊎ (status ≡ 9) ⊎ (status ≡ 11)
   -- 3: there is no such file
   pub absent : status ≡ 3 → FileLacks old name
   -- 4: it doesn't tokenise

@@ -82,7 +82,10 @@ const CASES: [Case; 8] = [
 
 fn files(alloc: Global, name: &str, text: &str, failing: &[u64]) -> Result<MemFiles, AllocError> {
     let mut pairs = Vec::new(alloc);
-    pairs.push((String::from_str(alloc, name)?, text.as_bytes().to_vec(alloc)?))?;
+    pairs.push((
+        String::from_str(alloc, name)?,
+        text.as_bytes().to_vec(alloc)?,
+    ))?;
     Ok(MemFiles::new(pairs, failing.to_vec(alloc)?))
 }
 

@@ -152,7 +152,7 @@ fn reduce_bytes<F: Files, J: Judge>(
     ensures reduced { result ≡ 0 → IsResult (F.told files.old) (F.told files.new) name.now has.now bytes.items }
     ensures failed { result ≡ 9 → Rose (F.faults files.old) (F.faults files.new) }
     ensures others_kept { (F.told files.new ≡ F.told files.old) ⊎ IsResult (F.told files.old) (F.told files.new) name.now has.now bytes.items }
-    ensures late { (result ≡ 0) ⊎ (result ≡ 7) ⊎ (result ≡ 8) ⊎ (result ≡ 9) ⊎ (result ≡ 11) }
+    ensures late { (result ≡ 0) ⊎ (result ≡ 9) ⊎ (result ≡ 11) }
 {
     let plan = Plan {
         workers: bench.workers().min(WORKERS),
@@ -168,6 +168,8 @@ fn finish<F: Files>(alloc: Global, name: &str, end: &End, files: &mut F) -> u8
     ensures failed { result ≡ 9 → Rose (F.faults files.old) (F.faults files.new) }
     ensures others_kept { (F.told files.new ≡ F.told files.old) ⊎ ((F.told files.new ≡ put_told name.now end.now.file.items (F.told files.old)) × (end.now.why ≡ Why.Fixed)) }
     ensures late { (result ≡ 0) ⊎ (result ≡ 7) ⊎ (result ≡ 8) ⊎ (result ≡ 9) ⊎ (result ≡ 11) }
+    ensures limit { result ≡ 7 → end.now.why ≡ Why.Limit }
+    ensures fault { result ≡ 8 → (turn worker : ℕ) × (end.now.why ≡ Why.Fault turn worker) }
 {
     match end.why {
         Why::Fixed => write(alloc, name, end.file.as_slice(), files),

@@ -40,13 +40,7 @@ fn reduce(rt: &HostRuntime) -> io::Result<u8> {
     let mut bench = bench(rt.alloc())?;
     let mut files = StdFiles::new(rt);
     let mut out = StdOut::new(rt);
-    Ok(run(
-        rt.alloc(),
-        &words,
-        &mut files,
-        &mut bench,
-        &mut out,
-    ))
+    Ok(run(rt.alloc(), &words, &mut files, &mut bench, &mut out))
 }
 
 fn main(rt: HostRuntime) -> ExitCode {

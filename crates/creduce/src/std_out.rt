@@ -4,7 +4,6 @@ ghost use Rattle.std.specs.Prelude.{◌≡◌, None};
 use cr_outside::{Sink, SinkFault};
 use std::io::{self, ErrorKind, Print, Write};
 
-
 /// Standard output. It tells nothing.
 #[derive(Drop)]
 pub struct StdOut<'a, R> {
