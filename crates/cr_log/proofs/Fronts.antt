@@ -1,8 +1,7 @@
 -- Lines: what the front of one tells of the rest.
-use Rattle.std.proofs.Common.{◌≡◌, ◌≢◌, ℕ, ◌+◌, ◌^◌, ◌<◌, ◌≤◌, ◌⊎◌, inl, inr, List, [], ◌∷◌, ◌++◌, length, All, refl, sym, ◌∙◌, ap, subst, arith}
+use Rattle.std.proofs.Common.{◌≡◌, ◌≢◌, ℕ, ◌^◌, ◌<◌, inl, inr, List, ◌∷◌, ◌++◌, All, sym, ◌∙◌, subst, arith}
 use Rattle.std.specs.Fmt.{decimal}
 use Rattle.cr_reduce.specs.declared.end.Accepted.{Accepted}
-use Rattle.cr_log.specs.Texts.{accepted_line, last_line, letter_of, why_word}
 use Rattle.cr_log.specs.Forms.{IsAcceptedLine, IsInForm, IsLastLine, StartsInForm}
 use Rattle.cr_log.specs.Reading.{IsCut, IsPair, StartsWithNumber, StartsWithPass, StartsWithWhy}
 use Rattle.cr_log.proofs.Lines.{accepted_line_free, last_line_free, same_cut, same_end, same_head, same_why}

@@ -1,12 +1,12 @@
 -- Where a line and a field end, and that a line tells what it was written of.
-use Rattle.std.proofs.Common.{◌≡◌, ◌≢◌, ℕ, zero, suc, ◌+◌, ◌^◌, ◌<◌, ◌≤◌, ◌⊎◌, inl, inr, List, [], ◌∷◌, ◌++◌, length, get_or, map, All, refl, sym, ◌∙◌, ap, subst, arith, rules, cond, eqb, append_assoc}
+use Rattle.std.proofs.Common.{◌≡◌, ◌≢◌, ℕ, zero, suc, ◌^◌, ◌<◌, ◌≤◌, List, [], ◌∷◌, ◌++◌, All, refl, sym, ◌∙◌, ap, arith, cond, eqb}
 use Rattle.std.specs.Fmt.{decimal}
 use Rattle.std.proofs.lemmas.Fmt.{decimal_is_IsNumeral, decimal_injective}
-use Rattle.std.proofs.lemmas.List.Elements.{All-append, All-nil, All-cons, All-from_get_or}
+use Rattle.std.proofs.lemmas.List.Elements.{All-append, All-cons, All-from_get_or}
 use Rattle.std.proofs.lemmas.Str.Parse.{digit_at}
 use Rattle.std.specs.Int.{IsInRange}
 use Rattle.cr_reduce.specs.declared.end.Accepted.{Accepted}
-use Rattle.cr_log.specs.Texts.{accepted_line, last_line, letter_of, line_text, spaced, why_word}
+use Rattle.cr_log.specs.Texts.{accepted_line, last_line, letter_of, why_word}
 use Rattle.cr_log.specs.Forms.{IsLoggable, IsEnding}
 
 -- what stands before the first c, and after it, is one

@@ -1,10 +1,12 @@
 -- A text is one log, or has one first line that isn't in the form, and never both.
-use Rattle.std.proofs.Common.{◌≡◌, ◌≢◌, ℕ, zero, suc, ◌+◌, ◌^◌, ◌<◌, ◌≤◌, ◌⊎◌, inl, inr, List, [], ◌∷◌, ◌++◌, length, map, All, Vec, Global, Result, Ok, Err, refl, sym, ◌∙◌, ap, subst, arith, append_assoc, append-nil, length-append}
+use Rattle.std.proofs.Common.{◌≡◌, ◌≢◌, ℕ, suc, ◌+◌, ◌^◌, ◌<◌, ◌≤◌, inl, inr, List, [], ◌∷◌, ◌++◌, length, map, All, Vec, Global, Result, Ok, Err, refl, sym, ◌∙◌, ap, subst, arith, append_assoc, append-nil, length-append}
 use Rattle.std.proofs.lemmas.List.Elements.{All-append, All-cons, All-nil}
 use Rattle.std.specs.List.{flat_map}
 use Rattle.cr_reduce.specs.declared.end.Accepted.{Accepted}
-use Rattle.cr_log.specs.Texts.{accepted_line, last_line, line_text}
-use Rattle.cr_log.specs.Forms.{BeginsWith, IsAcceptedLine, IsEnding, IsFirstBadLine, IsInForm, IsLastLine, IsLog, IsLoggable, StartsInForm, out_of_form, past_the_end}
+use Rattle.cr_reduce.specs.declared.end.Why.{Why}
+use Rattle.cr_reduce.specs.declared.end.Why.TheVariants.{Fixed, Limit, Fault, NoMemory as WhyNoMemory}
+use Rattle.cr_log.specs.Texts.{accepted_line, last_line, line_text, text_of, why_number}
+use Rattle.cr_log.specs.Forms.{BeginsWith, IsEnding, IsFirstBadLine, IsLog, IsLoggable, StartsInForm, out_of_form, past_the_end}
 use Rattle.cr_log.specs.declared.line.Last.{Last}
 use Rattle.cr_log.specs.declared.line.Line.{Line}
 use Rattle.cr_log.specs.declared.line.Line.TheVariants.{Accepted as AcceptedLine, Last as LastLine}
@@ -41,7 +43,7 @@ same_begin (x ∷ xs) (y ∷ ys) r s p q u v e =
     let px = p 0 x (omega arith) in
     let qy = q 0 y (omega arith) in
     let cut = same_cut 10 (accepted_line x) (accepted_line y) (lines_of xs ++ r) (lines_of ys ++ s) (accepted_line_free x px) (accepted_line_free y qy)
-        (sym (first_line (accepted_line x) (lines_of xs) r) ∙ e ∙ first_line (accepted_line y) (lines_of ys) s) in
+    (sym (first_line (accepted_line x) (lines_of xs) r) ∙ e ∙ first_line (accepted_line y) (lines_of ys) s) in
     let one : x ≡ y = same_accepted_line x y px qy cut.0 in
     let rest = same_begin xs ys r s (λ k d h. p (suc k) d (omega arith)) (λ k d h. q (suc k) d (omega arith)) u v cut.1 in
     let others : xs ≡ ys = rest.0 in
@@ -54,7 +56,7 @@ same_split text xs ys r s p q u v = same_begin xs ys r s p.loggable q.loggable u
 last_stops : (why size turns : ℕ) (rest : List ℕ) → IsEnding why size turns → Stops (line_text (last_line why size turns) ++ rest)
 last_stops why size turns rest p one after l e =
     let cut = same_cut 10 (last_line why size turns) (accepted_line one) rest after (last_line_free why size turns p) (accepted_line_free one l)
-        (sym (line_then (last_line why size turns) rest) ∙ e) in
+    (sym (line_then (last_line why size turns) rest) ∙ e) in
     other_line one why size turns (sym cut.0)
 
 end_stops : (why size turns : ℕ) → IsEnding why size turns → Stops (line_text (last_line why size turns))
@@ -86,7 +88,7 @@ log_no_bad_line text xs why size turns n p (out_of_form before rest begins unfor
 log_no_bad_line text xs why size turns n p (past_the_end before w t x rest begins ending more is) =
     let same = same_split text xs before _ _ p.begins begins (end_stops why size turns p.ending) (last_stops w t x rest ending) in
     let cut = same_cut 10 (last_line why size turns) (last_line w t x) [] rest (last_line_free why size turns p.ending) (last_line_free w t x ending)
-        (same.1 ∙ line_then (last_line w t x) rest) in
+    (same.1 ∙ line_then (last_line w t x) rest) in
     more (sym cut.1)
 
 -- a text has one first line at most that isn't in the form
@@ -107,7 +109,7 @@ one_bad_line text m n (past_the_end xs v z y r p begun less i) (past_the_end ys 
     omega arith
 
 -- one more line of an acceptance
-lines-push : (xs : List Accepted) (one : Accepted) → lines_of (xs ++ one ∷ []) ≡ lines_of xs ++ line_text (accepted_line one)
+pub lines-push : (xs : List Accepted) (one : Accepted) → lines_of (xs ++ one ∷ []) ≡ lines_of xs ++ line_text (accepted_line one)
 lines-push [] one = simp append-nil
 lines-push (x ∷ xs) one = ap (λ t. line_text (accepted_line x) ++ t) (lines-push xs one) ∙ sym (append_assoc (line_text (accepted_line x)) (lines_of xs) (line_text (accepted_line one)))
 
@@ -119,10 +121,10 @@ pub begins_more : (text : List ℕ) (xs : List Accepted) (rest : List ℕ) (one 
 begins_more text xs rest one after p q =
     let line = ap (λ l. l ++ 10 ∷ after) q.says.is in
     let split : lines_of xs ++ rest ≡ (lines_of xs ++ line_text (accepted_line one)) ++ after =
-        ap (λ t. lines_of xs ++ t) (q.is ∙ line ∙ sym (line_then (accepted_line one) after)) ∙ sym (append_assoc (lines_of xs) (line_text (accepted_line one)) after) in
+    ap (λ t. lines_of xs ++ t) (q.is ∙ line ∙ sym (line_then (accepted_line one) after)) ∙ sym (append_assoc (lines_of xs) (line_text (accepted_line one)) after) in
     record {
       loggable = All-push xs one p.loggable q.says.loggable;
-      split = p.split ∙ split ∙ ap (λ t. t ++ after) (sym (lines-push xs one))
+      split = p.split ∙ split ∙ ap (λ t. t ++ after) (sym (lines-push xs one));
     }
 
 pub begins_none : (text : List ℕ) → BeginsWith text [] text
@@ -137,15 +139,15 @@ pub finished_right : (text rest after : List ℕ) (accepted : Vec Accepted Globa
 finished_right text rest [] accepted last number p q n =
     record {
       begins = record { loggable = p.loggable; split = p.split ∙ ap (λ t. lines_of accepted.items ++ t) (q.is ∙ ap (λ l. l ++ 10 ∷ []) q.says.is) };
-      ending = q.says.ending
+      ending = q.says.ending;
     }
 finished_right text rest (byte ∷ after) accepted last number p q n =
     past_the_end accepted.items last.why last.size last.turns (byte ∷ after)
-        (record {
-          loggable = p.loggable;
-          split = p.split ∙ ap (λ t. lines_of accepted.items ++ t) (q.is ∙ ap (λ l. l ++ 10 ∷ byte ∷ after) q.says.is ∙ sym (line_then (last_line last.why last.size last.turns) (byte ∷ after)))
-        })
-        q.says.ending (λ e. cc) (omega arith)
+    (record {
+      loggable = p.loggable;
+      split = p.split ∙ ap (λ t. lines_of accepted.items ++ t) (q.is ∙ ap (λ l. l ++ 10 ∷ byte ∷ after) q.says.is ∙ sym (line_then (last_line last.why last.size last.turns) (byte ∷ after)));
+    })
+    q.says.ending (λ e. cc) (omega arith)
 
 -- a right answer is the only one
 pub right_log : (text : List ℕ) (answer : Result Log LogFault) → Reads text answer → (accepted : List Accepted) (why size turns : ℕ) → IsLog text accepted why size turns → IsReadAs answer accepted why size turns
@@ -166,3 +168,17 @@ right_finish text answer other is p = subst (Reads text) (sym is) p
 
 pub starts_with : (text : List ℕ) (line other : Line) (rest : List ℕ) → line ≡ other → StartsWithLine text line rest → StartsWithLine text other rest
 starts_with text line other rest is p = let P : Line → Type 0 = λ l. StartsWithLine text l rest in subst P is p
+
+known_why : (why : Why) → why ≢ WhyNoMemory → why_number why ≤ 2
+known_why Fixed some = omega arith
+known_why Limit some = omega arith
+known_why (Fault turn worker) some = omega arith
+known_why WhyNoMemory some = absurd (some refl)
+
+-- what was written is a log
+pub written_log : (text : List ℕ) (xs : List Accepted) (why : Why) (size turns : ℕ) → All IsLoggable xs → why ≢ WhyNoMemory → size < 2 ^ 64 → turns < 2 ^ 64 → text ≡ text_of xs (why_number why) size turns → IsLog text xs (why_number why) size turns
+written_log text xs why size turns p some size_fits turns_fit is =
+    record {
+      begins = record { loggable = p; split = is };
+      ending = record { known = known_why why some; size_fits = size_fits; turns_fit = turns_fit };
+    }

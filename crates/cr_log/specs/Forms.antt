@@ -2,7 +2,7 @@
 use Rattle.std.specs.Prelude.{◌≡◌, ◌≢◌, ℕ, ◌+◌, ◌^◌, ◌<◌, ◌≤◌, ◌⊎◌, List, [], ◌∷◌, ◌++◌, length, map, All}
 use Rattle.std.specs.List.{flat_map}
 use Rattle.cr_reduce.specs.declared.end.Accepted.{Accepted}
-use Rattle.cr_log.specs.Texts.{accepted_line, last_line, line_text, text_of}
+use Rattle.cr_log.specs.Texts.{accepted_line, last_line, line_text}
 
 -- a log can hold this acceptance: its pass has a letter, and its numbers are in their ranges
 pub record IsLoggable (one : Accepted) : Type 0 where

@@ -1,7 +1,5 @@
 -- What the parts of the reader find at the front of a text.
-use Rattle.std.specs.Prelude.{◌≡◌, ◌≢◌, ℕ, ◌^◌, ◌<◌, ◌≤◌, List, [], ◌∷◌, ◌++◌, All, codes, decimal}
-use Rattle.cr_reduce.specs.declared.end.Accepted.{Accepted}
-use Rattle.cr_log.specs.declared.line.Last.{Last}
+use Rattle.std.specs.Prelude.{◌≡◌, ◌≢◌, ℕ, ◌^◌, ◌<◌, ◌≤◌, List, ◌∷◌, ◌++◌, All, codes, decimal}
 use Rattle.cr_log.specs.declared.line.Line.{Line}
 use Rattle.cr_log.specs.declared.line.Line.TheVariants.{Accepted as AcceptedLine, Last as LastLine}
 use Rattle.cr_log.specs.Texts.{letter_of, why_word}

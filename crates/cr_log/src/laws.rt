@@ -6,11 +6,9 @@ pub fn a_text_is_read_in_one_way()
     ensures one_log { OneLog }
     ensures one_line { OneBadLine }
     ensures apart { LogOrBadLine }
-{
-}
+{}
 
 /// The log text of an end says what was accepted and how it ended, so `read_log` gives these back.
 pub fn a_log_text_is_a_log()
     ensures { ReadsBack }
-{
-}
+{}

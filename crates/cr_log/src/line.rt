@@ -1,5 +1,5 @@
 // One line of a log.
-ghost use Rattle.std.specs.Prelude.{◌≡◌, ◌≤◌, ℕ, List, MatchOption};
+ghost use Rattle.std.specs.Prelude.{◌≡◌, ◌∷◌, ◌++◌, ℕ, List, MatchOption, codes};
 ghost use Rattle.cr_reduce.specs.declared.end.Accepted.{Accepted};
 ghost use Rattle.cr_log.specs.Forms.{IsAcceptedLine, IsInForm, IsLastLine, StartsInForm};
 ghost use Rattle.cr_log.specs.Reading.{IsLetter, Says, StartsWithLine, StartsWithPass, StartsWithWhy};
@@ -107,10 +107,21 @@ fn read_last(line: &[u8]) -> Option<Last>
 fn take_why(line: &[u8]) -> Option<(u8, &[u8])>
     ensures { MatchOption result ((why : ℕ) (rest : List ℕ) → StartsWithWhy line.now why rest → ⊥) (λ taken. StartsWithWhy line.now taken.0 taken.1.now) }
 {
+    let rest = take_end(line)?;
+    match rest {
+        [b'f', b'i', b'x', b'e', b'd', b' ', rest @ ..] => Some((0, rest)),
+        [b'l', b'i', b'm', b'i', b't', b' ', rest @ ..] => Some((1, rest)),
+        [b'f', b'a', b'u', b'l', b't', b' ', rest @ ..] => Some((2, rest)),
+        _ => None,
+    }
+}
+
+// Takes `end` and the space after it off a line.
+fn take_end(line: &[u8]) -> Option<&[u8]>
+    ensures { MatchOption result ((rest : List ℕ) → line.now ≡ codes "end" ++ 32 ∷ rest → ⊥) (λ rest. line.now ≡ codes "end" ++ 32 ∷ rest.now) }
+{
     match line {
-        [b'e', b'n', b'd', b' ', b'f', b'i', b'x', b'e', b'd', b' ', rest @ ..] => Some((0, rest)),
-        [b'e', b'n', b'd', b' ', b'l', b'i', b'm', b'i', b't', b' ', rest @ ..] => Some((1, rest)),
-        [b'e', b'n', b'd', b' ', b'f', b'a', b'u', b'l', b't', b' ', rest @ ..] => Some((2, rest)),
+        [b'e', b'n', b'd', b' ', rest @ ..] => Some(rest),
         _ => None,
     }
 }

@@ -71,12 +71,7 @@ fn read_lines(alloc: Global, text: &[u8]) -> Result<Log, LogFault>
 }
 
 // The log, where nothing follows its last line, which is line `number`.
-fn finish(
-    accepted: Vec<Accepted>,
-    last: Last,
-    after: &[u8],
-    number: u32,
-) -> Result<Log, LogFault>
+fn finish(accepted: Vec<Accepted>, last: Last, after: &[u8], number: u32) -> Result<Log, LogFault>
     requires { number < 2 ^ 31 }
     ensures { result ≡ finished accepted last after.now number }
 {

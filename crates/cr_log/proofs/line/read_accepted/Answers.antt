@@ -1,4 +1,4 @@
-use Rattle.cr_log.proofs.Fronts.{ends_with_pair, is_level, starts_with_index, starts_with_level, starts_with_pass}
+use Rattle.cr_log.proofs.Fronts.{ends_with_pair, is_level, starts_with_index}
 use Rattle.std.proofs.Common.{arith}
 use Rattle.cr_log.proofs.line.read_accepted.Goals as goal
 

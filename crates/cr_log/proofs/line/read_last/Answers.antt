@@ -1,4 +1,4 @@
-use Rattle.cr_log.proofs.Fronts.{last_pair, starts_with_why}
+use Rattle.cr_log.proofs.Fronts.{last_pair}
 use Rattle.cr_log.proofs.line.read_last.Goals as goal
 
 pub returns-in_err-size : goal.returns-in_err-size

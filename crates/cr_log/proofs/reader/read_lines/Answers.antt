@@ -1,4 +1,4 @@
-use Rattle.std.proofs.Common.{◌≡◌, ℕ, ◌+◌, List, [], ◌∷◌, ◌++◌, Result, Ok, Err, Bool, false, cond, is_ok, is_err, length, length-append, sym, ap, subst, arith}
+use Rattle.std.proofs.Common.{◌≡◌, ℕ, ◌+◌, List, [], ◌∷◌, ◌++◌, Result, Ok, Err, false, cond, is_ok, is_err, length, length-append, sym, ap, subst, arith}
 use Rattle.cr_reduce.specs.declared.end.Accepted.{Accepted}
 use Rattle.cr_log.specs.declared.line.Line.TheVariants.{Accepted as AcceptedLine, Last as LastLine}
 use Rattle.cr_log.specs.Forms.{BeginsWith, out_of_form}
@@ -22,7 +22,7 @@ read_more text accepted rest number one after new p q is =
     record {
       begins = subst P (sym is) (begins_more text accepted rest one after p.begins q);
       counted = omega (arith, p.counted);
-      room = omega (arith, p.room)
+      room = omega (arith, p.room);
     }
 
 pub returns-in_default : goal.returns-in_default
@@ -32,12 +32,12 @@ returns-in_default c =
 pub returns-in-Last : goal.returns-in-Last
 returns-in-Last c =
     right_finish c.args.text.now c.finish.result (finished c.loop-line.accepted c.in-Last.last c.in-Some.after.now c.loop-line.number) c.finish.ensures
-        (finished_right c.args.text.now c.loop-line.rest.now c.in-Some.after.now c.loop-line.accepted c.in-Last.last c.loop-line.number c.loop-line.invariant.begins
-            (starts_with c.loop-line.rest.now c.in-Some.line (LastLine c.in-Last.last) c.in-Some.after.now c.in-Last.is c.in-Some.ensures) c.loop-line.invariant.counted)
+    (finished_right c.args.text.now c.loop-line.rest.now c.in-Some.after.now c.loop-line.accepted c.in-Last.last c.loop-line.number c.loop-line.invariant.begins
+    (starts_with c.loop-line.rest.now c.in-Some.line (LastLine c.in-Last.last) c.in-Some.after.now c.in-Last.is c.in-Some.ensures) c.loop-line.invariant.counted)
 
 pub loop-line-preserved : goal.loop-line-preserved
 loop-line-preserved c =
     let started = starts_with c.loop-line.rest.now c.in-Some.line (AcceptedLine c.in-Accepted.one) c.in-Some.after.now c.in-Accepted.is c.in-Some.ensures in
     let kept : is_err c.push.result ≡ false = cc in
     read_more c.args.text.now c.loop-line.accepted.items c.loop-line.rest.now c.loop-line.number c.in-Accepted.one c.in-Some.after.now c.push.new.self.items c.loop-line.invariant started
-        (pushed c.push.result _ _ _ kept c.push.ensures.items)
+    (pushed c.push.result _ _ _ kept c.push.ensures.items)
