@@ -1,1 +1,5 @@
 pub mod Texts
+pub mod Forms
+pub mod Reading
+pub mod Readers
+pub mod Laws

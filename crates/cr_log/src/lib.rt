@@ -4,8 +4,14 @@
 //! form. Stands on `cr_reduce`.
 #![tactic(auto)]
 
+mod laws;
+mod line;
+mod number;
+mod reader;
 #[cfg(test)]
 mod tests;
 mod text;
 
+pub use laws::{a_log_text_is_a_log, a_text_is_read_in_one_way};
+pub use reader::{Log, LogFault, read_log};
 pub use text::{log_text, summary_text};

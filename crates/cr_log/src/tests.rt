@@ -1,8 +1,8 @@
-// The worked examples of the texts.
+// The worked examples of the texts, and texts that are no logs.
 ghost use Rattle.std.specs.Prelude.{◌≡◌, ◌≢◌, ◌≤◌, IfOk, All};
 ghost use Rattle.cr_reduce.specs.declared.end.Why.{Why};
 
-use crate::{log_text, summary_text};
+use crate::{LogFault, log_text, read_log, summary_text};
 use cr_outside::NoMemory;
 use cr_reduce::{Accepted, Cursor, End, Why};
 use std::alloc::Global;
@@ -110,4 +110,80 @@ fn each_pass_has_its_letter(rt: HostRuntime) -> Result<(), Fail> {
         assert_eq!(rt; log.as_slice(), wanted.as_bytes());
     }
     Ok(())
+}
+
+// A text is this log.
+fn expect_log(
+    rt: &impl Abort,
+    alloc: Global,
+    text: &str,
+    accepted: &[Accepted],
+    end: (u8, u64, u64),
+) -> Result<(), LogFault> {
+    assert!(rt; text.len() <= 100);
+    let log = read_log(alloc, text.as_bytes())?;
+    assert_eq!(rt; log.accepted.as_slice(), accepted, "in {text:?}");
+    assert_eq!(rt; (log.why, log.size, log.turns), end, "in {text:?}");
+    Ok(())
+}
+
+#[test]
+fn a_log_is_read_back(rt: HostRuntime) -> Result<(), Fail> {
+    let alloc = rt.alloc();
+    let both = [accepted(0, 13, 1, 68, 15), accepted(0, 14, 0, 34, 16)];
+    let end = end(alloc, &both, 32, Why::Fixed)?;
+    let text = log_text(alloc, &end, 34)?;
+    assert!(rt; text.len() <= 100);
+    let log = read_log(alloc, &text)?;
+    assert_eq!(rt; log.accepted.as_slice(), both.as_slice());
+    assert_eq!(rt; (log.why, log.size, log.turns), (0, 34, 32));
+    Ok(())
+}
+
+#[test]
+fn these_texts_are_logs(rt: HostRuntime) -> Result<(), Fail> {
+    let alloc = rt.alloc();
+    let one = [accepted(9, 255, u64::MAX, 0, 1)];
+    expect_log(&rt, alloc, "end limit 5 6\n", &[], (1, 5, 6))?;
+    expect_log(&rt, alloc, "end fault 102 13\n", &[], (2, 102, 13))?;
+    expect_log(
+        &rt,
+        alloc,
+        "f 255 18446744073709551615 0 1\nend fixed 0 18446744073709551615\n",
+        &one,
+        (0, 0, u64::MAX),
+    )?;
+    Ok(())
+}
+
+#[test]
+fn the_first_line_out_of_the_form_is_named(rt: HostRuntime) {
+    for (text, line) in [
+        ("l 13 01 68 15\n", 1),
+        ("", 1),
+        ("end fixed 1 2", 1),
+        ("\nend fixed 1 2\n", 1),
+        ("l 13 1 68 15\n", 2),
+        ("l 13 1 68 15\nl 14 0 34 16", 2),
+        ("l 13 1 68 15\nend fixed 34 32\n\n", 3),
+        ("end fixed 1 2\nend fixed 1 2\n", 2),
+        ("l 13 1 68 15\r\nend fixed 34 32\n", 1),
+        ("a 13 1 68 15\nend fixed 34 32\n", 1),
+        ("l 256 1 68 15\nend fixed 34 32\n", 1),
+        ("l 13 18446744073709551616 68 15\nend fixed 34 32\n", 1),
+        ("l 13 +1 68 15\nend fixed 34 32\n", 1),
+        ("l 13  1 68 15\nend fixed 34 32\n", 1),
+        ("l 13 1 68 15 \nend fixed 34 32\n", 1),
+        ("l 13 1 68\nend fixed 34 32\n", 1),
+        ("l 13 1 68 15\nend done 34 32\n", 2),
+        ("l 13 1 68 15\nend fixed 34 00\n", 2),
+        ("l 13 1 68 15\nend memory 34 32\n", 2),
+    ] {
+        assert!(rt; text.len() <= 100);
+        let answer = read_log(rt.alloc(), text.as_bytes());
+        assert!(rt;
+            matches!(answer, Err(LogFault::Line(n)) if n == line),
+            "in {text:?}"
+        );
+    }
 }

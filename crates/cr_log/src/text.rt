@@ -2,10 +2,11 @@
 ghost use Rattle.std.specs.Prelude.{◌≡◌, ◌≢◌, ◌≤◌, ◌∷◌, [], ◌++◌, IfOk, OnOk, All};
 ghost use Rattle.std.specs.String.{string_bytes};
 ghost use Rattle.cr_reduce.specs.declared.end.Why.{Why};
+ghost use Rattle.cr_log.specs.Forms.{IsLog, IsLoggable};
 ghost use Rattle.cr_log.specs.Texts.{accepted_line, letter_of, line_text, log_text_of, summary_text_of, why_number, why_word};
 
 use cr_outside::NoMemory;
-use cr_reduce::{Accepted, End, Why};
+use cr_reduce::{Accepted, Cursor, End, Why};
 use std::alloc::Global;
 
 /// The log of a reduction: a line for each accepted variant, in order, and a last line on the end. `size` is the size of
@@ -13,14 +14,18 @@ use std::alloc::Global;
 pub fn log_text(alloc: Global, end: &End, size: u64) -> Result<Vec<u8>, NoMemory>
     requires passes { All (λ one. one.at.pass ≤ 9) end.now.accepted.items }
     requires ended { end.now.why ≢ Why.NoMemory }
-    ensures { IfOk result (λ text. text.items ≡ log_text_of end.now size) }
+    ensures text { IfOk result (λ text. text.items ≡ log_text_of end.now size) }
+
+    // So `read_log` gives back what was accepted and how it ended.
+    ensures log { IfOk result (λ text. IsLog text.items end.now.accepted.items (why_number end.now.why) size end.now.turns) }
 {
     let mut text = String::new(alloc);
     for one in &end.accepted {
         push_accepted(&mut text, one)?;
     }
     let why = word(end.why);
-    write!(text, "end {why} {size} {}\n", end.turns)?;
+    let turns = end.turns;
+    write!(text, "end {why} {size} {turns}\n")?;
     Ok(text.into_bytes())
 }
 
@@ -45,14 +50,16 @@ pub fn summary_text(
 
 fn push_accepted(text: &mut String, one: &Accepted) -> Result<(), NoMemory>
     requires { one.now.at.pass ≤ 9 }
-    ensures { OnOk result (string_bytes text.new ≡ string_bytes text.old ++ line_text (accepted_line one.now)) }
+    ensures text { OnOk result (string_bytes text.new ≡ string_bytes text.old ++ line_text (accepted_line one.now)) }
+    ensures loggable { IsLoggable one.now }
 {
-    let letter = letter(one.at.pass);
-    write!(
-        text,
-        "{letter} {} {} {} {}\n",
-        one.at.level, one.at.index, one.size, one.turn
-    )?;
+    let Accepted {
+        at: Cursor { pass, level, index },
+        size,
+        turn,
+    } = *one;
+    let letter = letter(pass);
+    write!(text, "{letter} {level} {index} {size} {turn}\n")?;
     Ok(())
 }
 
