@@ -14,6 +14,7 @@ pub struct Cells {
 impl Cells {
     ghost use Rattle.cr_footprint.specs.Cells.{has};
 
+    /// No cell. Takes no memory.
     pub fn new(alloc: Global) -> Cells
         ensures { (c : Cell) → has result c ≡ false }
     {
@@ -22,12 +23,14 @@ impl Cells {
         }
     }
 
+    /// Whether the set has a cell.
     pub fn contains(&self, cell: (u32, u32)) -> bool
         ensures { result ≡ has self.now cell }
     {
         self.list.binary_search(&cell).is_ok()
     }
 
+    /// Puts a cell in its place, unless it is there.
     pub fn insert(&mut self, cell: (u32, u32)) -> Result<(), AllocError>
         ensures { OnOk result ((c : Cell) → has self.new c ≡ (has self.old c || same_cell c cell)) }
     {
