@@ -1,5 +1,5 @@
 -- What a test asks: whether a file contains a text, token by token, or what a program answers.
-use Rattle.std.specs.Prelude.{◌≡◌, ◌≢◌, ℕ, Bool, true, false, List, [], codes, Some, Result, Ok, Err}
+use Rattle.std.specs.Prelude.{◌≡◌, ◌≢◌, ℕ, Bool, true, false, List, [], ◌++◌, codes, Some, Result, Ok, Err}
 use Rattle.std.specs.String.{string_bytes}
 use Rattle.cr_outside.specs.Question.{Says, told_once}
 use Rattle.cr_outside.specs.declared.test.Test.{Test}
@@ -18,25 +18,17 @@ abbrev pub asks_test : Test → Bool
 asks_test (test.Has text) = false
 asks_test (test.Program path) = true
 
--- what is read of `has:` and this rest
-abbrev pub ReadsHas : List ℕ → Result Test TestFault → Type 0
-ReadsHas rest (Ok (test.Has text)) = (text ≡ rest) × IsText rest
-ReadsHas rest (Ok (test.Program path)) = ⊥
-ReadsHas rest (Err fault.BadText) = IsText rest → ⊥
-ReadsHas rest (Err fault.Empty) = ⊥
-ReadsHas rest (Err fault.NoMemory) = Unit {0}
-
--- and of any other word
-abbrev pub ReadsProgram : List ℕ → Result Test TestFault → Type 0
-ReadsProgram word (Ok (test.Program path)) = (string_bytes path ≡ word) × (word ≢ [])
-ReadsProgram word (Ok (test.Has text)) = ⊥
-ReadsProgram word (Err fault.Empty) = word ≡ []
-ReadsProgram word (Err fault.BadText) = ⊥
-ReadsProgram word (Err fault.NoMemory) = Unit {0}
-
 -- `has:`
 abbrev pub has_prefix : List ℕ
 has_prefix = codes "has:"
+
+-- What is read of a word: `has:` and a text, or the path of a program.
+abbrev pub ReadsTest : List ℕ → Result Test TestFault → Type 0
+ReadsTest word (Ok (test.Has text)) = (word ≡ has_prefix ++ text) × IsText text
+ReadsTest word (Ok (test.Program path)) = (string_bytes path ≡ word) × (word ≢ []) × ((rest : List ℕ) → word ≡ has_prefix ++ rest → ⊥)
+ReadsTest word (Err fault.BadText) = (rest : List ℕ) × (word ≡ has_prefix ++ rest) × (IsText rest → ⊥)
+ReadsTest word (Err fault.Empty) = word ≡ []
+ReadsTest word (Err fault.NoMemory) = Unit {0}
 
 -- a test has one told answer
 pub one_test_answer : (t : Test) (says : Says) (name file : List ℕ) → tells_test t says name file true → tells_test t says name file false → ⊥

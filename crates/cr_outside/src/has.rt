@@ -1,10 +1,12 @@
 // The question whether a file contains a text.
-ghost use Rattle.std.specs.Prelude.{◌≡◌, ◌≢◌, [], false, IfOk};
+ghost use Rattle.std.specs.Prelude.{◌≡◌, ◌≢◌, ◌⊎◌, false, ◌↔◌, List, IfOk, IsTrue, MatchOption};
+ghost use Rattle.cr_tokens.specs.declared.token.Token.{Token};
+ghost use Rattle.cr_tokens.specs.Tokens.{Tokenizes};
 ghost use Rattle.cr_outside.specs.HasText.{HasText, IsText, TellsText};
 
-use crate::{Answer, Judge, Question, TestFault};
+use crate::{Answer, Judge, NoMemory, Question, TestFault};
 use cr_tokens::{TokenFault, Tokens, contains, read};
-use std::alloc::Global;
+use std::alloc::{AllocError, Global};
 use std::marker::Model;
 
 /// A text of C with its tokens, of which there is at least one. Clauses see the text.
@@ -32,18 +34,60 @@ impl Has {
         ensures bad { result ≡ Err TestFault.BadText → IsText text.now → ⊥ }
         ensures not_empty { result ≢ Err TestFault.Empty }
     {
-        let wanted = match read(alloc, text) {
-            Ok(wanted) => wanted,
-            Err(TokenFault::NoMemory) => return Err(TestFault::NoMemory),
-            Err(_) => return Err(TestFault::BadText),
-        };
-        if wanted.list.is_empty() {
-            return Err(TestFault::BadText);
-        }
-        match text.to_vec(alloc) {
-            Ok(text) => Ok(Has { text, wanted }),
+        match tokens_of(alloc, text) {
+            Ok(Some(wanted)) => with_tokens(alloc, text, wanted),
+            Ok(None) => Err(TestFault::BadText),
             Err(_) => Err(TestFault::NoMemory),
         }
+    }
+
+    fn ask_tokens(&self, file: &[u8], tokens: &Tokens) -> Answer
+        requires { Tokenizes file.now tokens.now.list.items }
+        ensures yes { result ≡ Answer.Yes → HasText self.now file.now }
+        ensures no { result ≡ Answer.No → HasText self.now file.now → ⊥ }
+        ensures told { (result ≡ Answer.Yes) ⊎ (result ≡ Answer.No) }
+    {
+        if contains(file, tokens, &self.text, &self.wanted) {
+            Answer::Yes
+        } else {
+            Answer::No
+        }
+    }
+}
+
+// The tokens of a file, where it has some.
+fn tokens_of(alloc: Global, file: &[u8]) -> Result<Option<Tokens>, NoMemory>
+    ensures { IfOk result (λ found. MatchOption found ((list : List Token) → Tokenizes file.now list → ⊥) (λ tokens. Tokenizes file.now tokens.list.items)) }
+{
+    match read(alloc, file) {
+        Ok(tokens) => Ok(Some(tokens)),
+        Err(fault) => {
+            if is_want(fault) {
+                return Err(AllocError);
+            }
+            Ok(None)
+        }
+    }
+}
+
+fn is_want(fault: TokenFault) -> bool
+    ensures { IsTrue result ↔ (fault ≡ TokenFault.NoMemory) }
+{
+    matches!(fault, TokenFault::NoMemory)
+}
+
+fn with_tokens(alloc: Global, text: &[u8], wanted: Tokens) -> Result<Has, TestFault>
+    requires { Tokenizes text.now wanted.list.items }
+    ensures text { IfOk result (λ has. (has ≡ text.now) × IsText text.now) }
+    ensures bad { result ≡ Err TestFault.BadText → IsText text.now → ⊥ }
+    ensures not_empty { result ≢ Err TestFault.Empty }
+{
+    if wanted.list.is_empty() {
+        return Err(TestFault::BadText);
+    }
+    match text.to_vec(alloc) {
+        Ok(text) => Ok(Has { text, wanted }),
+        Err(_) => Err(TestFault::NoMemory),
     }
 }
 
@@ -55,16 +99,10 @@ impl Question for Has {
     ghost one_answer = { λ text says name file has lacks. lacks has };
 
     fn ask<J: Judge>(&self, alloc: Global, _judge: &mut J, _name: &str, file: &[u8]) -> Answer {
-        match read(alloc, file) {
-            Ok(tokens) => {
-                if contains(file, &tokens, &self.text, &self.wanted) {
-                    Answer::Yes
-                } else {
-                    Answer::No
-                }
-            }
-            Err(TokenFault::NoMemory) => Answer::NoMemory,
-            Err(_) => Answer::No,
+        match tokens_of(alloc, file) {
+            Ok(Some(tokens)) => self.ask_tokens(file, &tokens),
+            Ok(None) => Answer::No,
+            Err(_) => Answer::NoMemory,
         }
     }
 }

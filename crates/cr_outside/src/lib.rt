@@ -15,6 +15,8 @@ mod script;
 mod scripted;
 mod sink;
 mod test;
+#[cfg(test)]
+mod tests;
 
 pub use files::{FileFault, Files, NoMemory, ReadAnswer};
 pub use has::Has;

@@ -21,6 +21,7 @@ impl Model for Script {
 }
 
 impl Script {
+    /// A table of these rows, and the answer about every other file.
     pub fn new(rows: Vec<(Vec<u8>, Answer)>, other: Answer) -> Script
         ensures { result ≡ table_of rows.items other }
     {

@@ -1,6 +1,6 @@
 // The user's test.
 ghost use Rattle.std.specs.Prelude.{◌≡◌, ◌++◌, ℕ, List};
-ghost use Rattle.cr_outside.specs.Test.{ReadsHas, ReadsProgram, asks_test, has_prefix, tells_test};
+ghost use Rattle.cr_outside.specs.Test.{ReadsTest, asks_test, has_prefix, tells_test};
 
 use crate::{Answer, Has, Judge, Question};
 use std::alloc::Global;
@@ -28,20 +28,28 @@ pub enum TestFault {
 impl Test {
     /// Reads a word: `has:` and a text, or the path of a program.
     pub fn read(alloc: Global, word: &str) -> Result<Test, TestFault>
-        ensures has { (rest : List ℕ) → word.now ≡ has_prefix ++ rest → ReadsHas rest result }
-        ensures program { ((rest : List ℕ) → word.now ≡ has_prefix ++ rest → ⊥) → ReadsProgram word.now result }
+        ensures { ReadsTest word.now result }
     {
-        match word.as_bytes() {
-            [b'h', b'a', b's', b':', text @ ..] => match Has::new(alloc, text) {
+        match word.as_bytes().strip_prefix(b"has:") {
+            Some(text) => match Has::new(alloc, text) {
                 Ok(has) => Ok(Test::Has(has)),
                 Err(fault) => Err(fault),
             },
-            [] => Err(TestFault::Empty),
-            _ => match String::from_str(alloc, word) {
-                Ok(path) => Ok(Test::Program(path)),
-                Err(_) => Err(TestFault::NoMemory),
-            },
+            None => read_program(alloc, word),
         }
+    }
+}
+
+fn read_program(alloc: Global, word: &str) -> Result<Test, TestFault>
+    requires { (rest : List ℕ) → word.now ≡ has_prefix ++ rest → ⊥ }
+    ensures { ReadsTest word.now result }
+{
+    if word.is_empty() {
+        return Err(TestFault::Empty);
+    }
+    match String::from_str(alloc, word) {
+        Ok(path) => Ok(Test::Program(path)),
+        Err(_) => Err(TestFault::NoMemory),
     }
 }
 

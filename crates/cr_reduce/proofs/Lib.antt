@@ -7,3 +7,4 @@ pub mod Walks
 pub mod Verdicts
 pub mod Traces
 pub mod Ends
+pub mod TokenReasons

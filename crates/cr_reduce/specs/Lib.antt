@@ -6,3 +6,4 @@ pub mod Bench
 pub mod Search
 pub mod Walk
 pub mod Ends
+pub mod TokenLaw

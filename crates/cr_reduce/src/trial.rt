@@ -1,5 +1,5 @@
 // The trial of one variant.
-ghost use Rattle.std.specs.Prelude.{◌≡◌, ◌≢◌, ◌≤◌, ◌<◌, ◌⊎◌, ℕ, IfOk, MatchOption, true, false, length};
+ghost use Rattle.std.specs.Prelude.{◌≡◌, ◌≢◌, ◌≤◌, ◌<◌, ◌⊎◌, ℕ, ◌↔◌, IfOk, IsTrue, MatchOption, true, false, length};
 ghost use Rattle.cr_outside.specs.Faults.{Rose};
 ghost use Rattle.cr_outside.specs.declared.judge.Answer.TheVariants.{Yes as AnswerYes, No as AnswerNo};
 ghost use Rattle.cr_reduce.specs.Bench.{first_calls, first_count, first_says, others};
@@ -30,9 +30,19 @@ pub fn measure(alloc: Global, file: &[u8]) -> Result<Option<u64>, NoMemory>
 {
     match read(alloc, file) {
         Ok(tokens) => Ok(Some(size(file, &tokens))),
-        Err(TokenFault::NoMemory) => Err(AllocError),
-        Err(_) => Ok(None),
+        Err(fault) => {
+            if is_want(fault) {
+                return Err(AllocError);
+            }
+            Ok(None)
+        }
     }
+}
+
+fn is_want(fault: TokenFault) -> bool
+    ensures { IsTrue result ↔ (fault ≡ TokenFault.NoMemory) }
+{
+    matches!(fault, TokenFault::NoMemory)
 }
 
 /// Whether a file is lawful.

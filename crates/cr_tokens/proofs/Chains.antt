@@ -3,7 +3,7 @@ use Rattle.std.proofs.Common.{◌≡◌, ◌≢◌, inl, inr, ℕ, suc, List, re
 use Rattle.cr_tokens.specs.Literals.{Chars, IsChar, EndsCharacters}
 use Rattle.cr_tokens.specs.Literals.Chars.{none, more}
 use Rattle.cr_tokens.specs.Faults.{IsBadChar}
-use Rattle.cr_tokens.specs.Faults.IsBadChar.{no_unit, trigraph}
+use Rattle.cr_tokens.specs.Faults.IsBadChar.{no_unit, broken}
 use Rattle.cr_tokens.proofs.Units.{unit_unique, unit_no_quote, unit_no_line_end, unit_inside}
 
 pub Chars-snoc : {file : List ℕ} {quote from to after count : ℕ} → Chars file quote from to count → IsChar file quote to after →
@@ -24,9 +24,9 @@ ends-NoChar file quote at n (inr (inr l)) = λ to i. absurd (unit_no_line_end fi
 pub bad-NoChar : (file : List ℕ) (quote at bad : ℕ) → IsBadChar file quote at bad → NoChar file quote at
 unfolding NoChar
 bad-NoChar file quote at bad (no_unit a b c d e) = λ to i. d to i.unit
-bad-NoChar file quote at bad (trigraph t u a b r f) = λ to i.
+bad-NoChar file quote at bad (broken t u a b r f) = λ to i.
     let same : t ≡ to = unit_unique file quote at t to u i.unit in
-    i.no_trigraph bad a (rw same at b) r
+    i.unbroken bad a (rw same at b) r
 
 same_count : {file : List ℕ} {quote from a b n : ℕ} → Chars file quote from b n → from ≡ a → NoChar file quote a →
     (a ≡ b) × (0 ≡ n)

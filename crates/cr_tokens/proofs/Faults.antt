@@ -1,26 +1,26 @@
 -- A file has one first fault, and none where it has tokens.
-use Rattle.std.proofs.Common.{◌≡◌, ◌≢◌, ◌⊎◌, inl, inr, ℕ, ◌+◌, ◌≤◌, ◌<◌, List, ◌++◌, length, length-append, refl, sym, ◌∙◌, ap, arith}
+use Rattle.std.proofs.Common.{◌≡◌, ◌≢◌, inl, inr, ℕ, ◌+◌, ◌≤◌, ◌<◌, List, ◌++◌, length, length-append, refl, sym, ◌∙◌, ap, arith}
 use Rattle.std.specs.Prelude.{slice_index}
 use Rattle.std.proofs.lemmas.Bool.{cases_order}
 use Rattle.cr_tokens.specs.declared.token.Token.{Token}
 use Rattle.cr_tokens.specs.declared.token.TokenKind.{TokenKind}
 use Rattle.cr_tokens.specs.declared.token.TokenKind.TheVariants.{Keyword, Identifier, Integer, Character, Text, Punctuator}
 use Rattle.cr_tokens.specs.declared.token.TokenFault.{TokenFault}
-use Rattle.cr_tokens.specs.declared.token.TokenFault.TheVariants.{TooLong, BadByte, OpenComment, OpenLiteral, TooMany}
-use Rattle.cr_tokens.specs.Literals.{Chars, IsUnit}
+use Rattle.cr_tokens.specs.declared.token.TokenFault.TheVariants.{BadByte, OpenComment, OpenLiteral, TooMany}
+use Rattle.cr_tokens.specs.Literals.{Chars}
 use Rattle.cr_tokens.specs.Blanks.{IsBlank, IsComment, OpensComment, OpensBlock, ClosesBlock}
 use Rattle.cr_tokens.specs.Blanks.IsBlank.{space, comment, skipped}
 use Rattle.cr_tokens.specs.Tokens.{IsToken, Spells, Tokenizes, FallsInto}
 use Rattle.cr_tokens.specs.Faults.{FaultAt, IsQuote, IsBadChar, IsLineEnd, IsSplicedComment, FirstTokenFault}
-use Rattle.cr_tokens.specs.Faults.IsBadChar.{no_unit, trigraph}
+use Rattle.cr_tokens.specs.Faults.IsBadChar.{no_unit, broken}
 use Rattle.cr_tokens.specs.Faults.FaultAt.{no_token, open_comment, spliced, bad_char, open_literal, wrong_count}
 use Rattle.cr_tokens.specs.Faults.FirstTokenFault.{too_long, first, too_many}
-use Rattle.cr_tokens.proofs.Units.{unit_no_quote, unit_no_line_end, unit_inside, unit_unique}
+use Rattle.cr_tokens.proofs.Units.{unit_no_quote, unit_no_line_end, unit_inside}
 use Rattle.cr_tokens.proofs.Chains.{NoChar, ends-NoChar, bad-NoChar, Chars-meet}
 use Rattle.cr_tokens.proofs.Longest.{byte_inside, quote_no_backslash, quote_no_slash, quote_some, nondigit_no_quote, number_no_quote}
 use Rattle.cr_tokens.proofs.Firsts.{punctuator_no_other}
 use Rattle.cr_tokens.proofs.Uniques.{comment_unique, comment_first}
-use Rattle.cr_tokens.proofs.Wholes.{Stuck, end-Stuck, falls_on, falls_nowhere, falls_further, falls_same, falls_as_many}
+use Rattle.cr_tokens.proofs.Wholes.{Stuck, end-Stuck, falls_on, falls_further, falls_same, falls_as_many}
 
 -- how a literal's characters end where it is a fault
 data Stops (file : List ℕ) (quote at count place : ℕ) : TokenFault → Type 0 where
@@ -86,8 +86,13 @@ closed Character file quote at to q e h s =
     record { close = s.close; count = 1; characters = rw same at s.characters; quoted = s.close_quote ∙ same; one = λ _. refl }
 closed Text file quote at to q e h s =
     let same : 34 ≡ quote = sym s.1.open_quote ∙ e in
-    record { close = s.1.close; count = s.0; characters = rw same at s.1.characters; quoted = s.1.close_quote ∙ same;
-      one = λ f. absurd (omega (arith, same, f)) }
+    record {
+      close = s.1.close;
+      count = s.0;
+      characters = rw same at s.1.characters;
+      quoted = s.1.close_quote ∙ same;
+      one = λ f. absurd (omega (arith, same, f));
+    }
 closed Punctuator file quote at to q e h s = absurd (punctuator_no_other file at to h s (inr (rw e q)))
 
 quote_no_ten : (b : ℕ) → IsQuote b → b ≢ 10
@@ -102,7 +107,7 @@ quote_no_hash b (inr e) n = omega arith
 no_stop : (file : List ℕ) (quote at count place : ℕ) (fault : TokenFault) → IsQuote quote → slice_index file at ≡ quote →
     (quote ≡ 39 → count ≡ 1) → ¬ Stops file quote at count place fault
 no_stop file quote at count place fault q e one (bad (no_unit a b c d f)) = b e
-no_stop file quote at count place fault q e one (bad (trigraph to u a b c d)) = unit_no_quote file quote at to u (quote_no_backslash quote q) e
+no_stop file quote at count place fault q e one (bad (broken to u a b c d)) = unit_no_quote file quote at to u (quote_no_backslash quote q) e
 no_stop file quote at count place fault q e one (open_end (inl past)) =
     absurd (omega (arith, past, byte_inside file at (λ z. quote_some quote q (sym e ∙ z))))
 no_stop file quote at count place fault q e one (open_end (inr end)) = quote_no_ten quote q (sym e ∙ end)
@@ -142,19 +147,20 @@ spliced_no_blank file at wrong s to (skipped k l) = absurd (omega (arith, k.hash
 view-Stuck : (file : List ℕ) (at : ℕ) (fault : TokenFault) → View file at fault → Stuck file at
 view-Stuck file at fault (nothing a b c d e) = record { no_blank = d; no_token = e }
 view-Stuck file at fault (opened o n) = record {
-    no_blank = λ to b. elim (slash_blank file at to o.0 b) [
-        inl c ↦ n c.close c.after c.closed
-      | inr c ↦ absurd (omega (arith, o.1, c.opens.1)) ];
-    no_token = λ t e h. h.no_comment (rw e (inl o))
-  }
+  no_blank = λ to b. elim (slash_blank file at to o.0 b) [
+    | inl c ↦ n c.close c.after c.closed
+    | inr c ↦ absurd (omega (arith, o.1, c.opens.1))
+  ];
+  no_token = λ t e h. h.no_comment (rw e (inl o));
+}
 view-Stuck file at fault (splice s) = record {
-    no_blank = λ to b. spliced_no_blank file at _ s to b;
-    no_token = λ t e h. h.no_comment (rw e (opens file at s.to s.comment))
-  }
+  no_blank = λ to b. spliced_no_blank file at _ s to b;
+  no_token = λ t e h. h.no_comment (rw e (opens file at s.to s.comment));
+}
 view-Stuck file at fault (literal l) = record {
-    no_blank = quote_no_space file at (rw l.first l.is_quote);
-    no_token = literal_no_token file at fault l
-  }
+  no_blank = quote_no_space file at (rw l.first l.is_quote);
+  no_token = literal_no_token file at fault l;
+}
 
 view_inside : (file : List ℕ) (at : ℕ) (fault : TokenFault) → View file at fault → at < length file
 view_inside file at fault (nothing a b c d e) = a
@@ -164,25 +170,26 @@ view_inside file at fault (literal l) = byte_inside file at (λ z. quote_some l.
 
 bad_inside : (file : List ℕ) (quote at wrong : ℕ) → IsBadChar file quote at wrong → at < length file
 bad_inside file quote at wrong (no_unit a b c d e) = a
-bad_inside file quote at wrong (trigraph to u a b c d) = unit_inside file quote at to u
+bad_inside file quote at wrong (broken to u a b c d) = unit_inside file quote at to u
 
 bad_no_quote : (file : List ℕ) (quote at wrong : ℕ) → IsQuote quote → IsBadChar file quote at wrong → slice_index file at ≢ quote
 bad_no_quote file quote at wrong q (no_unit a b c d e) = b
-bad_no_quote file quote at wrong q (trigraph to u a b c d) = unit_no_quote file quote at to u (quote_no_backslash quote q)
+bad_no_quote file quote at wrong q (broken to u a b c d) = unit_no_quote file quote at to u (quote_no_backslash quote q)
 
 bad_no_line_end : (file : List ℕ) (quote at wrong : ℕ) → IsBadChar file quote at wrong → ¬ IsLineEnd file at
 bad_no_line_end file quote at wrong b (inl past) = absurd (omega (arith, past, bad_inside file quote at wrong b))
 bad_no_line_end file quote at wrong (no_unit a b c d e) (inr end) = c end
-bad_no_line_end file quote at wrong (trigraph to u a b c d) (inr end) = unit_no_line_end file quote at to u end
+bad_no_line_end file quote at wrong (broken to u a b c d) (inr end) = unit_no_line_end file quote at to u end
 
 bad_unique : (file : List ℕ) (quote at wrong other : ℕ) → IsBadChar file quote at wrong → IsBadChar file quote at other → wrong ≡ other
 bad_unique file quote at wrong other (no_unit a b c d e) (no_unit a' b' c' d' e') = e ∙ sym e'
-bad_unique file quote at wrong other (no_unit a b c d e) (trigraph to u a' b' c' d') = absurd (d to u)
-bad_unique file quote at wrong other (trigraph to u a b c d) (no_unit a' b' c' d' e') = absurd (d' to u)
-bad_unique file quote at wrong other (trigraph to u a b c d) (trigraph to' u' a' b' c' d') =
+bad_unique file quote at wrong other (no_unit a b c d e) (broken to u a' b' c' d') = absurd (d to u)
+bad_unique file quote at wrong other (broken to u a b c d) (no_unit a' b' c' d' e') = absurd (d' to u)
+bad_unique file quote at wrong other (broken to u a b c d) (broken to' u' a' b' c' d') =
     elim (cases_order wrong other) [
-        inl e ↦ e
-      | inr o ↦ elim o [ inl lt ↦ absurd (d' wrong a lt c) | inr gt ↦ absurd (d other a' gt c') ] ]
+      | inl e ↦ e
+      | inr o ↦ elim o [ inl lt ↦ absurd (d' wrong a lt c) | inr gt ↦ absurd (d other a' gt c') ]
+    ]
 
 stops_unique : (file : List ℕ) (quote at count place : ℕ) (e f : TokenFault) → IsQuote quote →
     Stops file quote at count place e → Stops file quote at count place f → e ≡ f
@@ -205,19 +212,21 @@ literal_unique file at e f x y =
     let same : y.quote ≡ x.quote = sym y.first ∙ x.first in
     let stops : Stops file x.quote y.to y.count at f = rw same at y.stops in
     let met = Chars-meet x.characters (stops-NoChar file x.quote x.to x.count at e x.is_quote x.stops)
-                (rw same at y.characters) (stops-NoChar file x.quote y.to y.count at f x.is_quote stops) in
+    (rw same at y.characters) (stops-NoChar file x.quote y.to y.count at f x.is_quote stops) in
     stops_unique file x.quote x.to x.count at e f x.is_quote x.stops (rw (met.0, met.1) stops)
 
 spliced_unique : (file : List ℕ) (at wrong other : ℕ) → IsSplicedComment file at wrong → IsSplicedComment file at other → wrong ≡ other
 spliced_unique file at wrong other x y = elim (cases_order wrong other) [
-    inl e ↦ e
-  | inr o ↦ elim o [ inl lt ↦ absurd (y.first wrong x.after lt x.spliced) | inr gt ↦ absurd (x.first other y.after gt y.spliced) ] ]
+  | inl e ↦ e
+  | inr o ↦ elim o [ inl lt ↦ absurd (y.first wrong x.after lt x.spliced) | inr gt ↦ absurd (x.first other y.after gt y.spliced) ]
+]
 
 opened_no_splice : (file : List ℕ) (at wrong : ℕ) → OpensBlock file at → ((k : ℕ) → at + 2 ≤ k → ¬ ClosesBlock file k) →
     ¬ IsSplicedComment file at wrong
 opened_no_splice file at wrong o n s = elim s.comment [
-    inl c ↦ n c.close c.after c.closed
-  | inr c ↦ absurd (omega (arith, o.1, c.opens.1)) ]
+  | inl c ↦ n c.close c.after c.closed
+  | inr c ↦ absurd (omega (arith, o.1, c.opens.1))
+]
 
 literal_no_slash : (file : List ℕ) (at : ℕ) (e : TokenFault) → Literal file at e → slice_index file at ≢ 47
 literal_no_slash file at e l z = quote_no_slash l.quote l.is_quote (sym l.first ∙ z)

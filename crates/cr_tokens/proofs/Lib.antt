@@ -11,5 +11,6 @@ pub mod Files
 pub mod Uniques
 pub mod Wholes
 pub mod Faults
+pub mod Comes
 pub mod Measures
 pub mod Spellings

@@ -10,6 +10,7 @@ use Rattle.cr_tokens.specs.Blanks.{IsBlank}
 use Rattle.cr_tokens.specs.Blanks.IsBlank.{space, comment, skipped}
 use Rattle.cr_tokens.specs.Tokens.{FallsInto, Tokenizes}
 use Rattle.cr_tokens.specs.Tokens.FallsInto.{nothing, blank, token}
+use Rattle.cr_tokens.specs.Places.{Rise}
 use Rattle.cr_tokens.specs.Size.{weight_of, share_of}
 use Rattle.cr_tokens.specs.Runs.{IsWithin, AllWithin}
 
@@ -33,6 +34,17 @@ pub falls_within : {file : List ℕ} {from to : ℕ} {tokens : List Token} → F
 falls_within nothing = λ k d lt. absurd (omega arith)
 falls_within (blank b rest) = falls_within rest
 falls_within {file} (token {tokens = ts} t e h rest) = within_cons file t ts (omega (arith, h.not_empty), h.inside) (falls_within rest)
+
+rise_from : (from at to : ℕ) (tokens : List Token) → from ≤ at → Rise at to tokens → Rise from to tokens
+rise_from from at to [] h r = omega arith
+rise_from from at to (t ∷ ts) h r = (omega (arith, r.0), r.1, r.2)
+
+-- a file's tokens rise
+pub falls_rise : {file : List ℕ} {from to : ℕ} {tokens : List Token} → FallsInto file from to tokens → Rise from to tokens
+falls_rise nothing = omega arith
+falls_rise {file} {from} {to = after} {tokens = tokens} (blank {to = to} b rest) =
+    rise_from from to after tokens (blank_after file from to b) (falls_rise rest)
+falls_rise (token t e h rest) = (omega (arith, e), h.not_empty, falls_rise rest)
 
 two : (b c : Bool) → (if b then 0 else (if c then 1 else 2)) ≤ 3
 two true c = omega arith

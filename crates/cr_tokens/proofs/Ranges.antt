@@ -11,9 +11,6 @@ slice_range-at file from to k h =
 pub slice_range-length : (file : List ℕ) (from to : ℕ) → to ≤ length file → length (slice_range file from to) ≡ to - from
 slice_range-length file from to h = simp (length-take, length-drop) (omega arith)
 
-pub slice_range-short : (file : List ℕ) (from to : ℕ) → length (slice_range file from to) ≤ to - from
-slice_range-short file from to = simp (length-take, length-drop) (omega arith)
-
 cons : (file : List ℕ) (at : ℕ) → at < length file → drop at file ≡ slice_index file at ∷ drop (at + 1) file
 cons file at h = rw add-one (drop-cons file at 0 h)
 

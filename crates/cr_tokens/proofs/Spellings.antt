@@ -4,7 +4,7 @@ use Rattle.std.specs.Prelude.{slice_range}
 use Rattle.std.proofs.lemmas.List.{take_more_same, get_or-map, take-append-drop, length-map}
 use Rattle.std.proofs.Math.Seq.{drop-append_seam, take-append_seam}
 use Rattle.cr_tokens.specs.declared.token.Token.{Token}
-use Rattle.cr_tokens.specs.Runs.{spellings, StandsIn, StandsAt}
+use Rattle.cr_tokens.specs.Runs.{spellings, StandsIn, StandsFrom}
 
 -- the spelling of the token at `k`
 pub spelling_at : (file : List ℕ) (tokens : List Token) (k : ℕ) (d : Token) → k < length tokens →
@@ -13,14 +13,14 @@ spelling_at file tokens k d h = get_or-map (λ t. slice_range file t.start t.end
 
 -- a row that stands somewhere among the spellings stands at a place
 pub in-at : (wanted all : List (List ℕ)) → StandsIn wanted all →
-    (first : ℕ) × (first + length wanted ≤ length all) × StandsAt first wanted all
+    (first : ℕ) × (first + length wanted ≤ length all) × StandsFrom first wanted all
 in-at wanted all (before, after, e) = (
   length before,
   rw e (simp length-append (omega arith)),
   rw (e, append_assoc, drop-append_seam, take-append_seam),
 )
 
-pub at-in : (first : ℕ) (wanted all : List (List ℕ)) → StandsAt first wanted all → StandsIn wanted all
+pub at-in : (first : ℕ) (wanted all : List (List ℕ)) → StandsFrom first wanted all → StandsIn wanted all
 at-in first wanted all h =
     let split : take (length wanted) (drop first all) ++ drop (length wanted) (drop first all) ≡ drop first all =
     take-append-drop (length wanted) (drop first all) in
@@ -50,7 +50,7 @@ row_more file text all run first k d e lt room same next =
 
 -- tokens in a row are spelled alike
 pub row_same : (file text : List ℕ) (all run : List Token) (first k : ℕ) (d e : Token) → k < length run → first + length run ≤ length all →
-    StandsAt first (spellings text run) (spellings file all) →
+    StandsFrom first (spellings text run) (spellings file all) →
     slice_range file (get_or all (first + k) d).start (get_or all (first + k) d).end ≡
     slice_range text (get_or run k e).start (get_or run k e).end
 row_same file text all run first k d e lt room h =

@@ -1,35 +1,36 @@
 -- What stands at a place of a file, a blank or a token, stands there in one way.
-use Rattle.std.proofs.Common.{◌≡◌, ◌≢◌, ◌⊎◌, inl, inr, ℕ, ◌+◌, ◌≤◌, ◌<◌, List, length, refl, sym, ◌∙◌, arith, true, false, not, Bool}
-use Rattle.std.specs.Prelude.{slice_index, slice_range, nat_le, ◌&&◌, ◌||◌, ◌==◌}
-use Rattle.std.proofs.lemmas.Bool.{cases_order, cases_lt}
+use Rattle.std.proofs.Common.{◌≡◌, ◌≢◌, inl, inr, ℕ, ◌<◌, List, length, refl, sym, arith, true, false, not, Bool}
+use Rattle.std.specs.Prelude.{slice_index, nat_le, ◌&&◌, ◌||◌, ◌==◌}
+use Rattle.std.proofs.lemmas.Bool.{cases_order}
 use Rattle.cr_tokens.specs.declared.token.Token.{Token}
 use Rattle.cr_tokens.specs.declared.token.TokenKind.{TokenKind}
 use Rattle.cr_tokens.specs.declared.token.TokenKind.TheVariants.{Keyword, Identifier, Integer, Character, Text, Punctuator}
-use Rattle.cr_tokens.specs.Bytes.{IsSpace, IsNondigit}
-use Rattle.cr_tokens.specs.Numbers.{BeginsNumber}
-use Rattle.cr_tokens.specs.Blanks.{IsBlank, IsComment, IsBlockComment, IsLineComment, EndsLine, OpensComment}
+use Rattle.cr_tokens.specs.Bytes.{IsSpace}
+use Rattle.cr_tokens.specs.Blanks.{IsBlank, IsComment, EndsLine}
 use Rattle.cr_tokens.specs.Blanks.IsBlank.{space, comment, skipped}
 use Rattle.cr_tokens.specs.Tokens.{Spells, IsToken}
-use Rattle.cr_tokens.specs.Faults.{IsQuote}
 use Rattle.cr_tokens.proofs.Firsts.{punctuator_no_other, punctuator_first, no_token_at, no_hash}
 use Rattle.cr_tokens.proofs.Longest.{number_no_word, nondigit_no_quote, number_no_quote, punctuator_no_number, lexeme_of, byte_inside}
 
 before : (file : List ℕ) (from a b : ℕ) → EndsLine file from a → EndsLine file from b → ¬ (a < b)
 before file from a b x y lt = elim x.end [
-    inl e ↦ absurd (omega (arith, y.inside))
-  | inr e ↦ y.each a x.after lt e ]
+  | inl e ↦ absurd (omega (arith, y.inside))
+  | inr e ↦ y.each a x.after lt e
+]
 
 -- lines end at one place
 pub EndsLine_unique : (file : List ℕ) (from a b : ℕ) → EndsLine file from a → EndsLine file from b → a ≡ b
 EndsLine_unique file from a b x y = elim (cases_order a b) [
-    inl e ↦ e
-  | inr o ↦ elim o [ inl lt ↦ absurd (before file from a b x y lt) | inr gt ↦ absurd (before file from b a y x gt) ] ]
+  | inl e ↦ e
+  | inr o ↦ elim o [ inl lt ↦ absurd (before file from a b x y lt) | inr gt ↦ absurd (before file from b a y x gt) ]
+]
 
 -- comments end at one place
 pub comment_unique : (file : List ℕ) (from a b : ℕ) → IsComment file from a → IsComment file from b → a ≡ b
 comment_unique file from a b (inl x) (inl y) = elim (cases_order x.close y.close) [
-    inl e ↦ omega (arith, e, x.end, y.end)
-  | inr o ↦ elim o [ inl lt ↦ absurd (y.first x.close x.after lt x.closed) | inr gt ↦ absurd (x.first y.close y.after gt y.closed) ] ]
+  | inl e ↦ omega (arith, e, x.end, y.end)
+  | inr o ↦ elim o [ inl lt ↦ absurd (y.first x.close x.after lt x.closed) | inr gt ↦ absurd (x.first y.close y.after gt y.closed) ]
+]
 comment_unique file from a b (inl x) (inr y) = absurd (omega (arith, x.opens.1, y.opens.1))
 comment_unique file from a b (inr x) (inl y) = absurd (omega (arith, x.opens.1, y.opens.1))
 comment_unique file from a b (inr x) (inr y) = EndsLine_unique file from a b x.line y.line
@@ -141,8 +142,9 @@ no_longer file t u s x y lt =
 
 same_end : (file : List ℕ) (t u : Token) → t.start ≡ u.start → IsToken file t → IsToken file u → t.end ≡ u.end
 same_end file t u s x y = elim (cases_order t.end u.end) [
-    inl e ↦ e
-  | inr o ↦ elim o [ inl lt ↦ absurd (no_longer file t u s x y lt) | inr gt ↦ absurd (no_longer file u t (sym s) y x gt) ] ]
+  | inl e ↦ e
+  | inr o ↦ elim o [ inl lt ↦ absurd (no_longer file t u s x y lt) | inr gt ↦ absurd (no_longer file u t (sym s) y x gt) ]
+]
 
 -- one token begins at a place
 pub token_unique : (file : List ℕ) (t u : Token) → t.start ≡ u.start → IsToken file t → IsToken file u → t ≡ u

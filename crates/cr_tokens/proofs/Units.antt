@@ -72,9 +72,3 @@ unit_inside file quote at to u = elim (cases_lt at (length file)) [
   | inl lt ↦ lt
   | inr ge ↦ absurd (no_unit file quote at to (past file at ge) u)
 ]
-
-pub unit_some : (file : List ℕ) (quote at to : ℕ) → IsUnit file quote at to → at < to
-unit_some file quote at to (inl p) = omega (arith, p.1)
-unit_some file quote at to (inr (e, inl s)) = omega (arith, s.end)
-unit_some file quote at to (inr (e, inr (inl o))) = omega (arith, o.some)
-unit_some file quote at to (inr (e, inr (inr x))) = omega (arith, x.some)

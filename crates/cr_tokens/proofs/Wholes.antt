@@ -1,5 +1,5 @@
 -- A file is read in one way: up to the place where nothing more stands, the tokens are the same.
-use Rattle.std.proofs.Common.{◌≡◌, ◌≢◌, ◌⊎◌, inl, inr, ℕ, zero, suc, ◌+◌, ◌≤◌, ◌<◌, List, [], ◌∷◌, ◌++◌, length, length-append, refl, sym, ◌∙◌, ap, arith}
+use Rattle.std.proofs.Common.{◌≡◌, ℕ, ◌<◌, List, [], ◌∷◌, ◌++◌, length, refl, sym, ◌∙◌, ap, arith}
 use Rattle.std.proofs.lemmas.List.{append-nil}
 use Rattle.cr_tokens.specs.declared.token.Token.{Token}
 use Rattle.cr_tokens.specs.Blanks.{IsBlank}
@@ -14,9 +14,9 @@ pub record Stuck (file : List ℕ) (at : ℕ) : Type 0 where
 
 pub end-Stuck : (file : List ℕ) → Stuck file (length file)
 end-Stuck file = record {
-    no_blank = λ to b. absurd (omega (arith, blank_inside file (length file) to b));
-    no_token = λ t e h. absurd (omega (arith, e, h.not_empty, h.inside))
-  }
+  no_blank = λ to b. absurd (omega (arith, blank_inside file (length file) to b));
+  no_token = λ t e h. absurd (omega (arith, e, h.not_empty, h.inside));
+}
 
 cons_same : (u t : Token) (us vs : List Token) → u ≡ t → us ≡ vs → (u ∷ us) ≡ (t ∷ vs)
 cons_same u t us vs e f = cc

@@ -4,7 +4,7 @@ use Rattle.std.specs.Prelude.{◌≡◌, ◌≢◌, ℕ, ◌+◌, ◌≤◌, ◌
 use Rattle.cr_tokens.specs.declared.token.Token.{Token}
 use Rattle.cr_tokens.specs.declared.token.TokenFault.{TokenFault}
 use Rattle.cr_tokens.specs.declared.token.TokenFault.TheVariants.{TooLong, BadByte, OpenComment, OpenLiteral, TooMany}
-use Rattle.cr_tokens.specs.Literals.{Chars, IsUnit, IsTrigraph}
+use Rattle.cr_tokens.specs.Literals.{Chars, IsUnit, IsBroken}
 use Rattle.cr_tokens.specs.Blanks.{IsBlank, IsComment, IsSplice, OpensBlock, OpensComment, ClosesBlock}
 use Rattle.cr_tokens.specs.Tokens.{IsToken, FallsInto}
 
@@ -22,12 +22,13 @@ pub record IsSplicedComment (file : List ℕ) (at bad : ℕ) : Type 0 where
   pub first : (k : ℕ) → at ≤ k → k < bad → ¬ IsSplice file k
 
 -- in a literal between the quotes `quote` no character stands at `at`, and `bad` is the first place that is
--- wrong: `at` itself where there is no plain byte and no escape sequence, else where a trigraph begins in it
+-- wrong: `at` itself where there is no plain byte and no escape sequence, else where a trigraph or a spliced
+-- line begins in it
 pub data IsBadChar (file : List ℕ) (quote at bad : ℕ) : Type 0 where
   no_unit : at < length file → slice_index file at ≢ quote → slice_index file at ≢ 10 →
       ((to : ℕ) → ¬ IsUnit file quote at to) → bad ≡ at → IsBadChar file quote at bad
-  trigraph : (to : ℕ) → IsUnit file quote at to → at ≤ bad → bad < to → IsTrigraph file bad →
-      ((k : ℕ) → at ≤ k → k < bad → ¬ IsTrigraph file k) → IsBadChar file quote at bad
+  broken : (to : ℕ) → IsUnit file quote at to → at ≤ bad → bad < to → IsBroken file bad →
+      ((k : ℕ) → at ≤ k → k < bad → ¬ IsBroken file k) → IsBadChar file quote at bad
 
 -- the fault is a bad character, after the characters that stand from `from` on
 abbrev pub IsBadAmong : List ℕ → ℕ → ℕ → TokenFault → Type 0
@@ -48,7 +49,7 @@ pub data FaultAt (file : List ℕ) (at : ℕ) : TokenFault → Type 0 where
   open_comment : OpensBlock file at → ((k : ℕ) → at + 2 ≤ k → ¬ ClosesBlock file k) → FaultAt file at (OpenComment at)
   -- a spliced line in a comment
   spliced : {bad : ℕ} → IsSplicedComment file at bad → FaultAt file at (BadByte bad)
-  -- in a literal: a byte or an escape sequence that may not stand there, or a trigraph
+  -- in a literal: a byte or an escape sequence that may not stand there, a trigraph, or a spliced line
   bad_char : {bad : ℕ} (quote to count : ℕ) → IsQuote quote → slice_index file at ≡ quote →
       Chars file quote (at + 1) to count → IsBadChar file quote to bad → FaultAt file at (BadByte bad)
   -- a literal without its closing quote

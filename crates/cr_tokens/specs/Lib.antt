@@ -10,3 +10,4 @@ pub mod Size
 pub mod Items
 pub mod Runs
 pub mod Laws
+pub mod Places

@@ -1,6 +1,7 @@
 -- Character constants (C11 6.4.4.4) and string literals (6.4.5), without trigraphs (5.2.1.1).
 use Rattle.std.specs.Prelude.{◌≡◌, ◌≢◌, ℕ, suc, ◌+◌, ◌≤◌, ◌<◌, ◌⊎◌, List, codes, length, slice_index, slice_range, true}
 use Rattle.cr_tokens.specs.Bytes.{IsOctalDigit, IsHexDigit, Each, is_byte_of}
+use Rattle.cr_tokens.specs.Blanks.{IsSplice}
 use Rattle.cr_tokens.specs.Numbers.{number_of}
 
 -- what ends a trigraph
@@ -54,10 +55,14 @@ pub record IsPlain (quote b : ℕ) : Type 0 where
 abbrev pub IsUnit : List ℕ → ℕ → ℕ → ℕ → Type 0
 IsUnit file quote from to = (IsPlain quote (slice_index file from) × (to ≡ from + 1)) ⊎ IsEscape file from to
 
--- and no trigraph begins in them: they are one character of a literal
+-- what no literal may hold begins at `at`: a trigraph, or a backslash directly before LF
+abbrev pub IsBroken : List ℕ → ℕ → Type 0
+IsBroken file at = IsTrigraph file at ⊎ IsSplice file at
+
+-- and nothing broken begins in them: they are one character of a literal
 pub record IsChar (file : List ℕ) (quote from to : ℕ) : Type 0 where
   pub unit : IsUnit file quote from to
-  pub no_trigraph : (k : ℕ) → from ≤ k → k < to → ¬ IsTrigraph file k
+  pub unbroken : (k : ℕ) → from ≤ k → k < to → ¬ IsBroken file k
 
 -- the bytes from `from` to before `to` are `count` characters of a literal
 pub data Chars (file : List ℕ) (quote : ℕ) : ℕ → ℕ → ℕ → Type 0 where

@@ -11,8 +11,8 @@ abbrev pub StandsIn : List (List ℕ) → List (List ℕ) → Type 0
 StandsIn wanted all = (before after : List (List ℕ)) × (all ≡ before ++ wanted ++ after)
 
 -- the spellings `wanted` stand in a row among the spellings `all`, from place `first` on
-abbrev pub StandsAt : ℕ → List (List ℕ) → List (List ℕ) → Type 0
-StandsAt first wanted all = take (length wanted) (drop first all) ≡ wanted
+abbrev pub StandsFrom : ℕ → List (List ℕ) → List (List ℕ) → Type 0
+StandsFrom first wanted all = take (length wanted) (drop first all) ≡ wanted
 
 -- the token's span lies within the file
 abbrev pub IsWithin : List ℕ → Token → Type 0

@@ -52,3 +52,10 @@ pub record Tokenizes (file : List ℕ) (tokens : List Token) : Type 0 where
   pub short : length file ≤ 1048576
   pub few : length tokens ≤ 262144
   pub falls : FallsInto file 0 (length file) tokens
+
+-- the file has tokens, or has none
+abbrev pub HasTokens : List ℕ → Type 0
+HasTokens file = (tokens : List Token) × Tokenizes file tokens
+
+abbrev pub HasNoTokens : List ℕ → Type 0
+HasNoTokens file = (tokens : List Token) → ¬ Tokenizes file tokens

@@ -75,6 +75,7 @@ fn first_splice(file: &[u8], from: usize, to: usize) -> Option<usize>
     None
 }
 
+/// Whether a line is spliced at a place.
 pub fn is_splice(file: &[u8], at: usize) -> bool
     requires { at < length file.now }
     ensures { IsTrue result ↔ IsSplice file.now at }

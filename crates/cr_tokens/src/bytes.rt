@@ -3,42 +3,49 @@ ghost use Rattle.std.specs.List.{list_any};
 ghost use Rattle.std.specs.Cmp.Lexicographic.{pointwise};
 ghost use Rattle.cr_tokens.specs.Bytes.{IsDigit, IsOctalDigit, IsHexDigit, IsNondigit, IsWordByte, IsSpace, IsIndent};
 
+/// A digit.
 pub fn is_digit(byte: u8) -> bool
     ensures { IsTrue result ↔ IsDigit byte }
 {
     matches!(byte, b'0'..=b'9')
 }
 
+/// An octal digit.
 pub fn is_octal_digit(byte: u8) -> bool
     ensures { IsTrue result ↔ IsOctalDigit byte }
 {
     matches!(byte, b'0'..=b'7')
 }
 
+/// A hexadecimal digit.
 pub fn is_hex_digit(byte: u8) -> bool
     ensures { IsTrue result ↔ IsHexDigit byte }
 {
     matches!(byte, b'0'..=b'9' | b'A'..=b'F' | b'a'..=b'f')
 }
 
+/// A letter or an underscore.
 pub fn is_nondigit(byte: u8) -> bool
     ensures { IsTrue result ↔ IsNondigit byte }
 {
     matches!(byte, b'a'..=b'z' | b'A'..=b'Z' | b'_')
 }
 
+/// A letter, an underscore or a digit.
 pub fn is_word_byte(byte: u8) -> bool
     ensures { IsTrue result ↔ IsWordByte byte }
 {
     is_nondigit(byte) || is_digit(byte)
 }
 
+/// White space.
 pub fn is_space(byte: u8) -> bool
     ensures { IsTrue result ↔ IsSpace byte }
 {
     matches!(byte, b'\t'..=b'\r' | b' ')
 }
 
+/// A space or a tab.
 pub fn is_indent(byte: u8) -> bool
     ensures { IsTrue result ↔ IsIndent byte }
 {
@@ -69,6 +76,7 @@ pub fn run_end<F: Fn(u8) -> bool>(file: &[u8], from: usize, class: F) -> usize
     file.len()
 }
 
+/// Whether a spelling stands in a table.
 pub fn is_among(table: &[&[u8]], spelling: &[u8]) -> bool
     ensures { result ≡ list_any (λ t. pointwise nat_eq t.now spelling.now) table.now }
 {

@@ -17,6 +17,7 @@ pub enum Item {
     Spelled(Token),
 }
 
+/// What stands at a place, or the fault there.
 pub fn item_at(file: &[u8], at: usize) -> Result<Item, TokenFault>
     requires inside { at < length file.now }
     requires short { length file.now ≤ 1048576 }

@@ -4,17 +4,14 @@ ghost use Rattle.cr_tokens.specs.Laws.{HasOneTokenList, HasOneFault, HasListOrFa
 /// A file has one list of tokens at most.
 pub fn one_token_list()
     ensures { HasOneTokenList }
-{
-}
+{}
 
 /// A file has a list of tokens or a fault, and never both.
 pub fn list_or_fault()
     ensures { HasListOrFault }
-{
-}
+{}
 
 /// A file has one first fault at most.
 pub fn one_fault()
     ensures { HasOneFault }
-{
-}
+{}

@@ -1,9 +1,10 @@
 ghost use Rattle.std.specs.Prelude.{◌≡◌, ◌≢◌, ◌↔◌, ◌≤◌, ◌<◌, ◌+◌, ℕ, IsTrue, IsSome, IfSome, IfNone, IfOk, IfErr, length, slice_index};
 ghost use Rattle.cr_tokens.specs.Bytes.{is_byte_of};
-ghost use Rattle.cr_tokens.specs.Literals.{Chars, EndsCharacters, IsTrigraph, IsEscape, IsOctalEscape, IsHexEscape, IsUnit, IsChar, IsPlain, trigraph_ends, simple_escapes};
+ghost use Rattle.cr_tokens.specs.Literals.{Chars, EndsCharacters, IsTrigraph, IsBroken, IsEscape, IsOctalEscape, IsHexEscape, IsUnit, IsChar, IsPlain, trigraph_ends, simple_escapes};
 ghost use Rattle.cr_tokens.specs.Items.{StandsAt};
 ghost use Rattle.cr_tokens.specs.Faults.{IsQuote, IsBadChar, IsBadAmong, FaultAt};
 
+use crate::blank::is_splice;
 use crate::bytes::{byte_at, is_hex_digit, is_octal_digit, run_end};
 use crate::item::Item;
 use crate::number::number;
@@ -76,27 +77,34 @@ fn char_end(file: &[u8], quote: u8, at: usize) -> Result<usize, TokenFault>
     let Some(end) = unit_end(file, quote, at) else {
         return Err(TokenFault::BadByte(at as u32));
     };
-    match first_trigraph(file, at, end) {
+    match first_broken(file, at, end) {
         Some(bad) => Err(TokenFault::BadByte(bad as u32)),
         None => Ok(end),
     }
 }
 
-/// The first place from `from` to before `to` at which a trigraph begins.
-fn first_trigraph(file: &[u8], from: usize, to: usize) -> Option<usize>
+/// The first place from `from` to before `to` at which a trigraph or a spliced line begins.
+fn first_broken(file: &[u8], from: usize, to: usize) -> Option<usize>
     requires order { from ≤ to }
     requires inside { to ≤ length file.now }
     ensures range { IfSome result (λ bad. (from ≤ bad) × (bad < to)) }
-    ensures trigraph { IfSome result (IsTrigraph file.now) }
-    ensures first { IfSome result (λ bad. (k : ℕ) → from ≤ k → k < bad → ¬ IsTrigraph file.now k) }
-    ensures none { IfNone result ((k : ℕ) → from ≤ k → k < to → ¬ IsTrigraph file.now k) }
+    ensures broken { IfSome result (IsBroken file.now) }
+    ensures first { IfSome result (λ bad. (k : ℕ) → from ≤ k → k < bad → ¬ IsBroken file.now k) }
+    ensures none { IfNone result ((k : ℕ) → from ≤ k → k < to → ¬ IsBroken file.now k) }
 {
     for at in from..to {
-        if is_trigraph(file, at) {
+        if is_broken(file, at) {
             return Some(at);
         }
     }
     None
+}
+
+fn is_broken(file: &[u8], at: usize) -> bool
+    requires { at < length file.now }
+    ensures { IsTrue result ↔ IsBroken file.now at }
+{
+    is_trigraph(file, at) || is_splice(file, at)
 }
 
 fn is_trigraph(file: &[u8], at: usize) -> bool

@@ -1,6 +1,6 @@
 ghost use Rattle.std.specs.Prelude.{◌≤◌, ◌+◌, ◌↔◌, IsTrue, length};
 ghost use Rattle.cr_tokens.specs.Tokens.{Tokenizes};
-ghost use Rattle.cr_tokens.specs.Runs.{spellings, StandsIn, StandsAt, AllWithin};
+ghost use Rattle.cr_tokens.specs.Runs.{spellings, StandsIn, StandsFrom, AllWithin};
 
 use crate::token::{Token, Tokens};
 
@@ -30,7 +30,7 @@ fn stands_at(file: &[u8], all: &[Token], text: &[u8], run: &[Token], first: usiz
     requires file { AllWithin file.now all.now }
     requires text { AllWithin text.now run.now }
     requires room { first + length run.now ≤ length all.now }
-    ensures { IsTrue result ↔ StandsAt first (spellings text.now run.now) (spellings file.now all.now) }
+    ensures { IsTrue result ↔ StandsFrom first (spellings text.now run.now) (spellings file.now all.now) }
 {
     for at in 0..run.len() {
         let is_same = all[first + at].spelling(file) == run[at].spelling(text);

@@ -1,7 +1,6 @@
 use crate::token::TokenKind::{Character, Identifier, Integer, Keyword, Punctuator, Text};
-use crate::{TokenFault, TokenKind, contains, read, size};
+use crate::{TokenFault, TokenKind, contains, first_fault, read, size};
 use std::alloc::Global;
-use std::process::Abort;
 use std::test::Fail;
 
 type Spelled = (TokenKind, &'static [u8]);
@@ -236,7 +235,10 @@ const FAULTS: [(&[u8], TokenFault); 62] = [
     (b"x /* \\\n", TokenFault::OpenComment(2)),
 ];
 
-const COMMENT_FAULTS: [(&[u8], TokenFault); 6] = [
+const SPLICE_FAULTS: [(&[u8], TokenFault); 9] = [
+    (b"\"a\\\\\n", TokenFault::BadByte(3)),
+    (b"'\\\\\n'", TokenFault::BadByte(2)),
+    (b"\"a\\\\", TokenFault::OpenLiteral(0)),
     (b"/* \\\n */", TokenFault::BadByte(3)),
     (b"// a\\\nb", TokenFault::BadByte(4)),
     (b"// a??/\nb", TokenFault::BadByte(4)),
@@ -260,7 +262,7 @@ fn has_tokens(alloc: Global, text: &[u8], wanted: &[Spelled]) -> bool {
 fn has_fault(alloc: Global, text: &[u8], wanted: TokenFault) -> bool {
     match read(alloc, text) {
         Ok(_) => false,
-        Err(fault) => fault == wanted,
+        Err(fault) => fault == wanted && first_fault(text) == Some(wanted),
     }
 }
 
@@ -277,8 +279,136 @@ fn texts_have_their_first_faults(rt: HostRuntime) -> Result<(), Fail> {
     for (text, wanted) in FAULTS {
         assert!(rt; has_fault(rt.alloc(), text, wanted), "{text:?}");
     }
-    for (text, wanted) in COMMENT_FAULTS {
+    for (text, wanted) in SPLICE_FAULTS {
         assert!(rt; has_fault(rt.alloc(), text, wanted), "{text:?}");
     }
     Ok(())
+}
+
+// Texts and their sizes: bytes, 8 for each token, and the weights.
+const SIZES: [(&[u8], u64); 14] = [
+    (b"", 0),
+    (b" ", 1),
+    (b"a", 12),
+    (b"0", 9),
+    (b"1", 10),
+    (b"2", 11),
+    (b"00", 12),
+    (b"1u", 12),
+    (b"'1'", 13),
+    (b"\"1\"", 13),
+    (b"int", 11),
+    (b"+=", 10),
+    (b"int a;\nint b;\nint c;\n", 102),
+    (b"/* a */", 7),
+];
+
+// A file, a text, and whether the text's tokens stand in the file's as an unbroken run.
+const RUNS: [(&[u8], &[u8], bool); 14] = [
+    (b"int a;", b"a", true),
+    (b"int a;", b"a ;", true),
+    (b"int a;", b"int ;", false),
+    (b"int a;", b"", true),
+    (b"", b"", true),
+    (b"", b"a", false),
+    (b"a a b", b"a b", true),
+    (b"a b a c", b"a c", true),
+    (b"aa", b"a", false),
+    (b"a", b"a a", false),
+    (b"x = y+z;", b"y + z", true),
+    (b"x = y+ +z;", b"y++z", false),
+    (b"\"b\"", b"b", false),
+    (b"0x1", b"1", false),
+];
+
+const SAMPLE: &[u8] = b"# 1 \"p.c\"
+typedef int T;
+extern int printf(const char *, ...);
+enum color { RED, GREEN = 5, BLUE };
+struct pair { T left; T right; };
+static struct pair table[2] = { { 1, 2 }, { 3, 4 } };
+static T sum(struct pair *p, int n)
+{
+  T s = 0;
+  int i;
+  for (i = 0; i < n; i++)
+    s += p[i].left * p[i].right;
+  return s;
+}
+int main(void)
+{
+  long T = BLUE;
+  printf(\"%d %ld\\n\", sum(table, 2), T);
+  return 0;
+}
+";
+
+fn size_of(alloc: Global, text: &[u8]) -> Option<u64> {
+    let Ok(tokens) = read(alloc, text) else {
+        return None;
+    };
+    Some(size(text, &tokens))
+}
+
+fn stands_in(alloc: Global, file: &[u8], text: &[u8]) -> Option<bool> {
+    let (Ok(tokens), Ok(wanted)) = (read(alloc, file), read(alloc, text)) else {
+        return None;
+    };
+    Some(contains(file, &tokens, text, &wanted))
+}
+
+#[test]
+fn texts_have_their_sizes(rt: HostRuntime) -> Result<(), Fail> {
+    for (text, wanted) in SIZES {
+        assert_eq!(rt; size_of(rt.alloc(), text), Some(wanted), "{text:?}");
+    }
+    assert_eq!(rt; SAMPLE.len(), 407);
+    assert_eq!(rt; read(rt.alloc(), SAMPLE)?.list.len(), 143);
+    assert_eq!(rt; size_of(rt.alloc(), SAMPLE), Some(1686));
+    Ok(())
+}
+
+#[test]
+fn runs_stand_unbroken(rt: HostRuntime) -> Result<(), Fail> {
+    for (file, text, wanted) in RUNS {
+        assert_eq!(rt;
+            stands_in(rt.alloc(), file, text),
+            Some(wanted),
+            "{text:?} in {file:?}"
+        );
+    }
+    Ok(())
+}
+
+// The count of tokens of a text made of `count` times one byte and then an end.
+fn count_of(alloc: Global, byte: u8, count: usize, end: &[u8]) -> Result<usize, TokenFault> {
+    let mut text = Vec::new(alloc);
+    for _ in 0..count {
+        text.push(byte).map_err(|_| TokenFault::NoMemory)?;
+    }
+    text.extend_from_slice(end)
+        .map_err(|_| TokenFault::NoMemory)?;
+    Ok(read(alloc, &text)?.list.len())
+}
+
+#[test]
+fn limits_are_kept(rt: HostRuntime) {
+    assert_eq!(rt; count_of(rt.alloc(), b' ', 1_048_576, b""), Ok(0));
+    assert_eq!(rt;
+        count_of(rt.alloc(), b'@', 1_048_577, b""),
+        Err(TokenFault::TooLong)
+    );
+    assert_eq!(rt; count_of(rt.alloc(), b';', 262_144, b" /**/ "), Ok(262_144));
+    assert_eq!(rt;
+        count_of(rt.alloc(), b';', 262_144, b" ;"),
+        Err(TokenFault::TooMany(262_145))
+    );
+    assert_eq!(rt;
+        count_of(rt.alloc(), b';', 262_144, b" @"),
+        Err(TokenFault::BadByte(262_145))
+    );
+    assert_eq!(rt;
+        count_of(rt.alloc(), b';', 262_144, b"'ab"),
+        Err(TokenFault::OpenLiteral(262_144))
+    );
 }

@@ -1,7 +1,7 @@
 // The law that a file must obey.
-ghost use Rattle.std.specs.Prelude.{◌≡◌, ℕ, List, false, true};
-ghost use Rattle.cr_tokens.specs.declared.token.Token.{Token};
-ghost use Rattle.cr_tokens.specs.Tokens.{Tokenizes};
+ghost use Rattle.std.specs.Prelude.{◌≡◌, ◌≢◌, ◌≤◌, ◌⊎◌, ◌==◌, ℕ, List, false, true, length, count_by};
+ghost use Rattle.cr_tokens.specs.Faults.{FirstTokenFault};
+ghost use Rattle.cr_reduce.specs.TokenLaw.{RulesOn, line_at};
 ghost use Rattle.cr_reduce.specs.declared.traits.law.Reason.{Reason};
 
 use crate::traits::stop::Stop;
@@ -47,13 +47,54 @@ pub trait Law {
 pub struct TokenLaw;
 
 impl Law for TokenLaw {
-    ghost lawful = { λ _ file. (tokens : List Token) × Tokenizes file tokens };
+    ghost use Rattle.cr_reduce.specs.TokenLaw.{IsTokenReason, IsTokenized};
 
-    fn rule<S: Stop>(&self, alloc: Global, file: &[u8], _stop: &mut S) -> Ruling {
-        match read(alloc, file) {
-            Ok(_) => Ruling::Lawful,
-            Err(TokenFault::NoMemory) => Ruling::NoMemory,
-            Err(_) => Ruling::Unlawful(Reason::Token(0, 1)),
-        }
+    ghost lawful = { λ _ file. IsTokenized file };
+
+    fn rule<S: Stop>(&self, alloc: Global, file: &[u8], _stop: &mut S) -> Ruling
+        ensures lawful { result ≡ Ruling.Lawful → IsTokenized file.now }
+        ensures unlawful { (reason : Reason) → result ≡ Ruling.Unlawful reason → IsTokenized file.now → ⊥ }
+        ensures stopped { result ≡ Ruling.Stopped → S.raised _stop.new ≡ true }
+        ensures held { S.held _stop.new ≡ S.held _stop.old }
+
+        // It is the number and the line of the first fault.
+        ensures reason { (reason : Reason) → result ≡ Ruling.Unlawful reason → IsTokenReason file.now reason }
+        ensures unstopped { result ≢ Ruling.Stopped }
+    {
+        let fault = match read(alloc, file) {
+            Ok(_) => return Ruling::Lawful,
+            Err(fault) => fault,
+        };
+        ruling_of(file, fault)
     }
+}
+
+fn ruling_of(file: &[u8], fault: TokenFault) -> Ruling
+    requires { (fault ≡ TokenFault.NoMemory) ⊎ FirstTokenFault file.now fault }
+    ensures { RulesOn file.now fault result }
+{
+    match fault {
+        TokenFault::NoMemory => Ruling::NoMemory,
+        TokenFault::TooLong => Ruling::Unlawful(Reason::Token(1, 1)),
+        TokenFault::BadByte(place) => Ruling::Unlawful(Reason::Token(2, line_of(file, place))),
+        TokenFault::OpenComment(place) => Ruling::Unlawful(Reason::Token(3, line_of(file, place))),
+        TokenFault::OpenLiteral(place) => Ruling::Unlawful(Reason::Token(4, line_of(file, place))),
+        TokenFault::TooMany(place) => Ruling::Unlawful(Reason::Token(5, line_of(file, place))),
+    }
+}
+
+/// The line that a place of a file stands on, from 1.
+pub fn line_of(file: &[u8], place: u32) -> u32
+    requires { length file.now ≤ 1048576 }
+    ensures { result ≡ line_at file.now place }
+{
+    let before = &file[..file.len().min(place as usize)];
+    1 + count_lines(before)
+}
+
+fn count_lines(text: &[u8]) -> u32
+    requires { length text.now ≤ 1048576 }
+    ensures { result ≡ count_by (λ b. b == 10) text.now }
+{
+    text.iter().filter(|b| **b == b'\n').count() as u32
 }

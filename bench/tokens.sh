@@ -1,0 +1,52 @@
+#!/usr/bin/env bash
+# Prints how many megabytes a second cr_tokens::read reads of a C text of 1 MiB, on one core.
+# It proves and builds a small timer in a folder of its own, which takes a few minutes. Run it by hand.
+set -eu
+top="$(cd "$(dirname "${BASH_SOURCE[0]}")/.." && pwd)"
+lab="$(mktemp -d)"
+trap 'rm -rf "$lab"' EXIT
+touch "$lab/crates.txt"
+cd "$lab"
+mkdir -p crates/cr_tokens
+cp -r "$top/crates/cr_tokens/src" "$top/crates/cr_tokens/specs" "$top/crates/cr_tokens/proofs" crates/cr_tokens/
+rt new crates/timer start_io >/dev/null 2>&1
+printf 'cr_tokens: thiserror\ntimer: cr_tokens\n' >crates.txt
+cd crates/timer
+rm -rf src/* specs proofs stdin stdout BUILD.bazel
+cat >src/main.rt <<'RT'
+//! Reads the tokens of standard input a hundred times, and prints how long that took.
+#![tactic(auto)]
+
+use std::io::{self, Read};
+use std::time::Instant;
+
+fn main(rt: HostRuntime) -> io::Result<()> {
+    let mut text = Vec::new(rt.alloc());
+    rt.stdin().read_to_end(&mut text)?;
+    let start = Instant::now(&rt)?;
+    let mut tokens = 0;
+    for _ in 0..100 {
+        if let Ok(read) = cr_tokens::read(rt.alloc(), &text) {
+            tokens = read.list.len();
+        }
+    }
+    let taken = start.elapsed(&rt)?;
+    println!(rt; "{} {} {}", text.len(), tokens, taken.as_micros())?;
+    Ok(())
+}
+RT
+echo "proving and building the timer" >&2
+rt run </dev/null >"$lab/build.log" 2>&1 || { tail -n 20 "$lab/build.log" >&2; exit 1; }
+sample='static struct measured_pair pair_table[2] = { { 1, 2 }, { 3, 4 } };
+/* The sum of the products of the pairs that the table holds, from the first one on. */
+static long sum_of_products(struct measured_pair *first_pair, int number_of_pairs)
+{
+  long running_total = 0x0;
+  for (int index = 0; index < number_of_pairs; index++)
+    running_total += first_pair[index].left * first_pair[index].right; // both are int
+  printf("%d pairs, and their sum: %s\n", number_of_pairs, "not shown");
+  return running_total == 1u ? running_total : -1;
+}
+'
+yes "$sample" | head -c 1048000 | sed '$d' >"$lab/sample.c"
+out/timer <"$lab/sample.c" | awk '{ printf "%d bytes, %d tokens: %.0f MB/s\n", $1, $2, 100 * $1 / $3 }'

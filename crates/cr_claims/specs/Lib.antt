@@ -1,0 +1,5 @@
+pub mod View
+pub mod Plays
+pub mod Rule
+pub mod Pass
+pub mod Laws

@@ -1,0 +1,7 @@
+pub mod Rows
+pub mod Steps
+pub mod Totals
+pub mod LastEntry
+pub mod FirstHit
+pub mod Entries
+pub mod Few

@@ -1,0 +1,32 @@
+ghost use Rattle.cr_core.specs.Laws.{ARunHasOneEnd, CountsAreEntries, EachListIsInOrder, FewAreTried, OrderedCommit, TheBoundFollows};
+
+/// A position is counted under a mark exactly where an entry of some worker's list has that position and that mark.
+pub fn counts_are_entries()
+    ensures { CountsAreEntries }
+{}
+
+/// In a sound state positions of each list rise, and each entry but the last is settled and below the length.
+pub fn each_list_is_in_order()
+    ensures { EachListIsInOrder }
+{}
+
+/// After every list of events the state is sound, and where it is finished, the least hit is the first position in order that wasn't
+/// rejected.
+pub fn ordered_commit()
+    ensures { OrderedCommit }
+{}
+
+/// The events of a list, from a state on, end in one state.
+pub fn a_run_has_one_end()
+    ensures { ARunHasOneEnd }
+{}
+
+/// In a sound state at most as many positions below the length are claimed as there are, each once.
+pub fn few_are_tried()
+    ensures { FewAreTried }
+{}
+
+/// The bound on `next` follows from the facts of soundness before it.
+pub fn the_bound_follows()
+    ensures { TheBoundFollows }
+{}

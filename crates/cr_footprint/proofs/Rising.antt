@@ -1,0 +1,230 @@
+-- Lemmas on cells in order, and on lists of them that rise.
+use Rattle.std.proofs.Common.{◌≡◌, ℕ, suc, ◌<◌, ◌≤◌, Bool, true, false, ◌&&◌, ◌||◌, cond, List, [], ◌∷◌, length, get_or, take, drop, refl, sym, ◌∙◌, ap, subst, arith, nat_eq, ◌⊎◌, inl, inr}
+use Rattle.std.specs.Prelude.{Option, Some, None, find, Result, Ok, Err, is_ok}
+use Rattle.std.specs.declared.cmp.Ordering.{Ordering}
+use Rattle.std.specs.declared.cmp.Ordering.TheVariants.{Less, Equal, Greater}
+use Rattle.std.specs.Ordering.{ordering_index, ordering_reverse, is_gt, is_lt, is_eq, ord_min}
+use Rattle.std.specs.Cmp.{IsTotalOrder, then_total, on_total, tied_itself}
+use Rattle.std.proofs.lemmas.Cmp.{nat_cmp_total}
+use Rattle.std.specs.List.{insert, AllWithin, HoldsAt}
+use Rattle.std.specs.List.Sorted.{IsSearchInRange, IsBinarySearchResult}
+use Rattle.std.proofs.lemmas.Bool.{eqb-true, or_cases, or_left, or_right, and_parts}
+use Rattle.std.proofs.lemmas.Bool.Decides.{nat_tests}
+use Rattle.std.proofs.lemmas.List.{take-append-drop}
+use Rattle.std.proofs.lemmas.List.Folds.{list_any-append, list_any_at, list_any_none}
+use Rattle.std.proofs.lemmas.List.Sorted.{IsNonDecreasingBy-insert}
+use Rattle.cr_footprint.specs.Cell.{Cell, cell_cmp, same_cell, holds, IsRising, IsLeast, IsLeastOf}
+
+pub cell_total : IsTotalOrder cell_cmp
+cell_total = then_total (on_total (λ (c : Cell). c.0) nat_cmp_total) (on_total (λ (c : Cell). c.1) nat_cmp_total)
+
+-- the test of equality and the order agree
+pub same_cell-cell_cmp : (c d : Cell) → same_cell c d ≡ is_eq (cell_cmp d c)
+same_cell-cell_cmp c d = grind (arith, nat_tests)
+
+pub same_cell-equal : (c d : Cell) → same_cell c d ≡ true → c ≡ d
+same_cell-equal c d same =
+    let parts : (nat_eq c.0 d.0 ≡ true) × (nat_eq c.1 d.1 ≡ true) = and_parts (nat_eq c.0 d.0) (nat_eq c.1 d.1) same in
+    let object : c.0 ≡ d.0 = eqb-true c.0 d.0 parts.0 in
+    let cell : c.1 ≡ d.1 = eqb-true c.1 d.1 parts.1 in
+    λ i. (object i, cell i)
+
+-- what is above stands no lower against any cell
+above_below : (a b c : Cell) → cell_cmp a b ≡ Less → cell_cmp b c ≡ Less → cell_cmp a c ≡ Less
+above_below a b c = cell_total.trans a b c
+
+above_same : (a b c : Cell) → cell_cmp a b ≡ Less → cell_cmp b c ≡ Equal → cell_cmp a c ≡ Less
+above_same a b c low same =
+    cell_total.antisymm a c ∙ ap ordering_reverse (sym (cell_total.congr b c a same) ∙ cell_total.antisymm b a ∙ ap ordering_reverse low)
+
+index_within : (x y : Ordering) → (y ≡ Less → x ≡ Less) → (y ≡ Equal → x ≡ Less) → ordering_index x ≤ ordering_index y
+index_within x Less below same = rw (below refl) (omega arith)
+index_within x Equal below same = rw (same refl) (omega arith)
+index_within Less Greater below same = omega arith
+index_within Equal Greater below same = omega arith
+index_within Greater Greater below same = omega arith
+
+pub index_rises : (a b c : Cell) → cell_cmp a b ≡ Less → ordering_index (cell_cmp a c) ≤ ordering_index (cell_cmp b c)
+index_rises a b c low =
+    index_within (cell_cmp a c) (cell_cmp b c) (above_below a b c low) (above_same a b c low)
+
+flipped : (a b : Cell) → cell_cmp a b ≡ Greater → cell_cmp b a ≡ Less
+flipped a b high = cell_total.antisymm b a ∙ ap ordering_reverse high
+
+-- what a search finds, or doesn't find, is in the list, or not
+pub holds-found : (cells : List Cell) (c : Cell) (i : ℕ) → i < length cells → HoldsAt (λ d. cell_cmp d c ≡ Equal) cells i → holds cells c ≡ true
+holds-found cells c i within equal =
+    list_any_at (same_cell c) cells i c within (same_cell-cell_cmp c (get_or cells i c) ∙ ap is_eq (equal c))
+
+differ : (c d : Cell) → (cell_cmp d c ≡ Less) ⊎ (cell_cmp d c ≡ Greater) → same_cell c d ≡ false
+differ c d (inl low) = same_cell-cell_cmp c d ∙ ap is_eq low
+differ c d (inr high) = same_cell-cell_cmp c d ∙ ap is_eq high
+
+pub holds-absent : (cells : List Cell) (c : Cell) (i : ℕ) → AllWithin (λ d. cell_cmp d c ≡ Less) cells 0 i → AllWithin (λ d. cell_cmp d c ≡ Greater) cells i (length cells) → holds cells c ≡ false
+holds-absent cells c i below above =
+    list_any_none (same_cell c) cells
+    (λ k d within. differ c (get_or cells k d) (elim (side k i) [ inl low ↦ inl (below k d (omega arith) low) | inr high ↦ inr (above k d high within) ]))
+  where
+    side : (k i : ℕ) → (k < i) ⊎ (i ≤ k)
+    side k i = grind arith
+
+-- a cell put in its place
+pub holds-insert : (cells : List Cell) (i : ℕ) (cell c : Cell) → holds (insert cells i cell) c ≡ (holds cells c || same_cell c cell)
+holds-insert cells i cell c =
+    list_any-append (same_cell c) (take i cells) (cell ∷ drop i cells)
+    ∙ middle (holds (take i cells) c) (same_cell c cell) (holds (drop i cells) c)
+    ∙ ap (λ b. b || same_cell c cell) (sym (list_any-append (same_cell c) (take i cells) (drop i cells)) ∙ ap (λ l. holds l c) (take-append-drop i cells))
+  where
+    middle : (x y z : Bool) → (x || (y || z)) ≡ ((x || z) || y)
+    middle true y z = refl
+    middle false true true = refl
+    middle false true false = refl
+    middle false false true = refl
+    middle false false false = refl
+
+pub IsRising-insert : (cells : List Cell) (i : ℕ) (cell : Cell) → IsRising cells → i ≤ length cells → AllWithin (λ d. cell_cmp d cell ≡ Less) cells 0 i → AllWithin (λ d. cell_cmp d cell ≡ Greater) cells i (length cells) → IsRising (insert cells i cell)
+IsRising-insert cells i cell rising within below above c =
+    IsNonDecreasingBy-insert (λ d. ordering_index (cell_cmp d c)) cells i cell (rising c) within
+    (λ k d low. index_rises (get_or cells k d) cell c (below k d (omega arith) low))
+    (λ k d high short. index_rises cell (get_or cells k d) c (flipped (get_or cells k d) cell (above k d high short)))
+
+-- what a binary search answers of a rising list
+pub held_where_found : (cells : List Cell) (c : Cell) (r : Result ℕ ℕ) → IsRising cells → IsSearchInRange r (length cells) → IsBinarySearchResult (λ d. cell_cmp d c) cells r → is_ok r ≡ holds cells c
+held_where_found cells c (Ok i) rising within position = sym (holds-found cells c i within position)
+held_where_found cells c (Err i) rising within position =
+    let parts : AllWithin (λ d. cell_cmp d c ≡ Less) cells 0 i × AllWithin (λ d. cell_cmp d c ≡ Greater) cells i (length cells) = position (rising c) in
+    sym (holds-absent cells c i parts.0 parts.1)
+
+-- a set with one more cell that it has
+pub holds-again : (cells : List Cell) (cell c : Cell) → holds cells cell ≡ true → holds cells c ≡ (holds cells c || same_cell c cell)
+holds-again cells cell c there = joined (holds cells c) (same_cell c cell) (λ same. ap (holds cells) (same_cell-equal c cell same) ∙ there)
+  where
+    joined : (x y : Bool) → (y ≡ true → x ≡ true) → x ≡ (x || y)
+    joined true y h = refl
+    joined false true h = h refl
+    joined false false h = refl
+
+-- where a cell of the list stands
+place_of : (cells : List Cell) (c : Cell) → holds cells c ≡ true → (k : ℕ) × (k < length cells) × (same_cell c (get_or cells k c) ≡ true)
+place_of [] c there = cc
+place_of (cell ∷ cells) c there =
+    elim (or_cases (same_cell c cell) (holds cells c) there) [
+      | inl here ↦ (0, omega arith, here)
+      | inr later ↦ (let (k, within, same) = place_of cells c later in (suc k, omega arith, same))
+    ]
+
+-- the least cell of a rising list that passes a test is the first that does
+not_above : (x y : Ordering) → ordering_index x ≤ ordering_index y → y ≡ Equal → is_gt x ≡ false
+not_above Less y h e = refl
+not_above Equal y h e = refl
+not_above Greater y h e = absurd (omega (arith, h, ap ordering_index e))
+
+head_least : (cell : Cell) (cells : List Cell) (d : Cell) → IsRising (cell ∷ cells) → holds (cell ∷ cells) d ≡ true → is_gt (cell_cmp cell d) ≡ false
+head_least cell cells d rising there =
+    let (k, within, same) = place_of (cell ∷ cells) d there in
+    let P : Cell → Type 0 = λ x. ordering_index (cell_cmp cell d) ≤ ordering_index (cell_cmp x d) in
+    not_above (cell_cmp cell d) (cell_cmp d d)
+    (subst P (sym (same_cell-equal d (get_or (cell ∷ cells) k d) same)) (rising d 0 k d (omega arith) within))
+    (tied_itself cell_total d)
+
+IsRising-tail : (cell : Cell) (cells : List Cell) → IsRising (cell ∷ cells) → IsRising cells
+IsRising-tail cell cells rising c i j d below within = rising c (suc i) (suc j) d (omega arith) (omega arith)
+
+-- a set that has the same cells has the same least one
+pub IsLeastOf-same : (p q : Cell → Bool) (r : Option Cell) → ((c : Cell) → p c ≡ q c) → IsLeastOf p r → IsLeastOf q r
+IsLeastOf-same p q None same none = λ c. sym (same c) ∙ none c
+IsLeastOf-same p q (Some cell) same least = record {
+  inside = sym (same cell) ∙ least.inside;
+  least = λ d there. least.least d (same d ∙ there);
+}
+
+skipped : (p : Cell → Bool) (cell : Cell) (cells : List Cell) → p cell ≡ false → (c : Cell) → (holds cells c && p c) ≡ (holds (cell ∷ cells) c && p c)
+skipped p cell cells fails c =
+    alike (same_cell c cell) (holds cells c) (p c) (λ same. ap p (same_cell-equal c cell same) ∙ fails)
+  where
+    alike : (x y z : Bool) → (x ≡ true → z ≡ false) → (y && z) ≡ ((x || y) && z)
+    alike false y z h = refl
+    alike true true z h = refl
+    alike true false z h = sym (h refl)
+
+same_cell-itself : (c : Cell) → same_cell c c ≡ true
+same_cell-itself c = same_cell-cell_cmp c c ∙ ap is_eq (tied_itself cell_total c)
+
+first_or_later : (p : Cell → Bool) (cell : Cell) (cells : List Cell) → IsRising (cell ∷ cells) → IsLeastOf (λ c. holds cells c && p c) (find p cells) → (b : Bool) → p cell ≡ b → IsLeastOf (λ c. holds (cell ∷ cells) c && p c) (cond b (Some cell) (find p cells))
+first_or_later p cell cells rising later true passes = record {
+  inside = rw (same_cell-itself cell, passes) refl;
+  least = λ d there. head_least cell cells d rising (and_parts (holds (cell ∷ cells) d) (p d) there).0;
+}
+first_or_later p cell cells rising later false fails =
+    IsLeastOf-same (λ c. holds cells c && p c) (λ c. holds (cell ∷ cells) c && p c) (find p cells) (skipped p cell cells fails) later
+
+pub find-least : (p : Cell → Bool) (cells : List Cell) → IsRising cells → IsLeastOf (λ c. holds cells c && p c) (find p cells)
+find-least p [] rising = λ c. refl
+find-least p (cell ∷ cells) rising =
+    first_or_later p cell cells rising (find-least p cells (IsRising-tail cell cells rising)) (p cell) refl
+
+pub and-swap : (x y : Bool) → (x && y) ≡ (y && x)
+and-swap true true = refl
+and-swap true false = refl
+and-swap false true = refl
+and-swap false false = refl
+
+-- an insert that may have failed
+pub IsRising-kept : (done : Bool) (now before : List Cell) → IsRising now → IsRising before → IsRising (cond done now before)
+IsRising-kept true now before first second = first
+IsRising-kept false now before first second = second
+
+-- what a search of a rising list says of the place where it found nothing
+pub IsRising-searched : (cells given : List Cell) (cell : Cell) (i : ℕ) → given ≡ cells → IsRising cells → i ≤ length given → IsBinarySearchResult {X = Cell} (λ d. cell_cmp d cell) given (Err i) → IsRising (insert cells i cell)
+IsRising-searched cells given cell i same rising within position =
+    let P : List Cell → Type 0 = λ l. i ≤ length l in
+    let Q : List Cell → Type 0 = λ l. IsBinarySearchResult (λ d. cell_cmp d cell) l (Err i) in
+    let parts : AllWithin (λ d. cell_cmp d cell ≡ Less) cells 0 i × AllWithin (λ d. cell_cmp d cell ≡ Greater) cells i (length cells) = subst Q same position (rising cell) in
+    IsRising-insert cells i cell rising (subst P same within) parts.0 parts.1
+
+-- the lesser of the least cells of two sets is the least of both
+not_above_trans : (a b c : Cell) → is_gt (cell_cmp a b) ≡ false → is_gt (cell_cmp b c) ≡ false → is_gt (cell_cmp a c) ≡ false
+not_above_trans a b c low high = grind (arith, nat_tests)
+
+below_not_above : (a b : Cell) → is_lt (cell_cmp a b) ≡ true → is_gt (cell_cmp a b) ≡ false
+below_not_above a b low = grind (arith, nat_tests)
+
+not_below_above : (a b : Cell) → is_lt (cell_cmp b a) ≡ false → is_gt (cell_cmp a b) ≡ false
+not_below_above a b high = grind (arith, nat_tests)
+
+either_least : (p q : Cell → Bool) (a b : Cell) → IsLeast p a → IsLeast q b → (low : Bool) → is_lt (cell_cmp b a) ≡ low → IsLeast (λ c. p c || q c) (cond low b a)
+either_least p q a b first second true low = record {
+  inside = or_right (p b) (q b) second.inside;
+  least = λ d there. elim (or_cases (p d) (q d) there) [
+    | inl here ↦ not_above_trans b a d (below_not_above b a low) (first.least d here)
+    | inr here ↦ second.least d here
+  ];
+}
+either_least p q a b first second false high = record {
+  inside = or_left (p a) (q a) first.inside;
+  least = λ d there. elim (or_cases (p d) (q d) there) [
+    | inl here ↦ first.least d here
+    | inr here ↦ not_above_trans a b d (not_below_above a b high) (second.least d here)
+  ];
+}
+
+pub least-lesser : (p q : Cell → Bool) (first second : Option Cell) (a b lesser : Cell) → first ≡ Some a → second ≡ Some b → lesser ≡ ord_min cell_cmp a b → IsLeastOf p first → IsLeastOf q second → IsLeast (λ c. p c || q c) lesser
+least-lesser p q first second a b lesser is_a is_b is_min at_first at_second =
+    let P : Option Cell → Type 0 = IsLeastOf p in
+    let Q : Option Cell → Type 0 = IsLeastOf q in
+    let R : Cell → Type 0 = IsLeast (λ c. p c || q c) in
+    subst R (sym is_min) (either_least p q a b (subst P is_a at_first) (subst Q is_b at_second) (is_lt (cell_cmp b a)) refl)
+
+pub spread : (x r s o : Bool) → (x && r || (x && s || x && o)) ≡ (x && (r || (s || o)))
+spread true r s o = refl
+spread false r s o = refl
+
+pub joined : (s o t : Bool) → (s && t || o && t) ≡ ((s || o) && t)
+joined true true true = refl
+joined true true false = refl
+joined true false true = refl
+joined true false false = refl
+joined false true true = refl
+joined false true false = refl
+joined false false true = refl
+joined false false false = refl

@@ -1,0 +1,33 @@
+-- A cell of memory: the number of its object, and its number in the object.
+use Rattle.std.specs.Prelude.{◌≡◌, ℕ, Bool, true, false, ◌&&◌, ◌==◌, List, Option, MatchOption}
+use Rattle.std.specs.List.{list_any}
+use Rattle.std.specs.declared.cmp.Ordering.{Ordering}
+use Rattle.std.specs.Ordering.{nat_cmp, ordering_then, ordering_index, is_gt}
+use Rattle.std.specs.List.Sorted.{IsNonDecreasingBy}
+
+abbrev pub Cell : Type 0
+Cell = ℕ × ℕ
+
+-- the order of cells: by object, then by cell
+abbrev pub cell_cmp : Cell → Cell → Ordering
+cell_cmp c d = ordering_then (nat_cmp c.0 d.0) (nat_cmp c.1 d.1)
+
+abbrev pub same_cell : Cell → Cell → Bool
+same_cell c d = (c.0 == d.0) && (c.1 == d.1)
+
+-- whether a cell stands in a list
+abbrev pub holds : List Cell → Cell → Bool
+holds cells c = list_any (same_cell c) cells
+
+-- the cells stand in rising order: against any cell, first those below it, then it, then those above
+abbrev pub IsRising : List Cell → Type 0
+IsRising cells = (c : Cell) → IsNonDecreasingBy (λ d. ordering_index (cell_cmp d c)) cells
+
+-- c is in the set, and no cell of the set is below it
+pub record IsLeast (set : Cell → Bool) (c : Cell) : Type 0 where
+  pub inside : set c ≡ true
+  pub least : (d : Cell) → set d ≡ true → is_gt (cell_cmp c d) ≡ false
+
+-- the least cell of a set, or none where the set is empty
+abbrev pub IsLeastOf : (Cell → Bool) → Option Cell → Type 0
+IsLeastOf set found = MatchOption found ((c : Cell) → set c ≡ false) (IsLeast set)

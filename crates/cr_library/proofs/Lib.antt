@@ -1,0 +1,4 @@
+pub mod Conversions
+pub mod Readings
+pub mod Unique
+pub mod Agreement

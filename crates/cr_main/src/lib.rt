@@ -1,0 +1,15 @@
+//! The top call of the reducer: it reads the words of the command line, the file, and the law's ruling on it, asks the
+//! test, reduces, and writes the results. Each status has its cause as a clause of `run`, and the headline is a clause
+//! of it too. Stands on `cr_reduce`, and on the passes: so far the lines pass, a private part of this crate.
+#![tactic(auto)]
+
+mod lines;
+mod settings;
+mod top;
+
+pub use lines::LinesPass;
+pub use settings::{Settings, Source, WordFault, words};
+pub use top::run;
+
+#[cfg(test)]
+mod tests;

@@ -1,0 +1,54 @@
+//! `creduce has:TEXT FILE`: reduces FILE while it contains the text, and ends with the status of `run`, which see.
+#![tactic(auto)]
+
+mod std_files;
+mod std_out;
+
+use cr_main::run;
+use cr_outside::{Answer, Scripted};
+use cr_reduce::Bench;
+use std::alloc::{AllocError, Global};
+use std::process::ExitCode;
+use std::{env, io};
+use std_files::StdFiles;
+use std_out::StdOut;
+
+/// Status 2: the words are not in the form that `run` reads.
+const USAGE: u8 = 2;
+
+/// Status 11: no memory is left.
+const NO_MEMORY: u8 = 11;
+
+// No program is run as a test yet, so no judge is ever asked.
+fn bench(alloc: Global) -> Result<Bench<Scripted>, AllocError> {
+    let judge = Scripted::new(alloc, Vec::new(alloc), Answer::Failed, Vec::new(alloc));
+    let mut judges = Vec::new(alloc);
+    judges.push(judge)?;
+    Bench::new(judges)
+}
+
+fn words(rt: &HostRuntime) -> io::Result<Vec<String>> {
+    let mut words = Vec::new(rt.alloc());
+    for word in env::args(rt)?.skip(1) {
+        words.push(word)?;
+    }
+    Ok(words)
+}
+
+fn reduce(rt: &HostRuntime) -> io::Result<u8> {
+    let words = words(rt)?;
+    let mut bench = bench(rt.alloc())?;
+    let mut files = StdFiles::new(rt);
+    let mut out = StdOut::new(rt);
+    Ok(run(rt.alloc(), &words, &mut files, &mut bench, &mut out))
+}
+
+fn main(rt: HostRuntime) -> ExitCode {
+    let status = match reduce(&rt) {
+        Ok(status) => status,
+        Err(e) if e.kind() == io::ErrorKind::OutOfMemory => NO_MEMORY,
+        // A word that is no text is in no form.
+        Err(_) => USAGE,
+    };
+    ExitCode::from(status)
+}
