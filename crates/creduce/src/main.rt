@@ -3,6 +3,8 @@
 
 mod std_files;
 mod std_out;
+#[cfg(test)]
+mod tests;
 
 use cr_main::run;
 use cr_outside::{Answer, Scripted};

@@ -1,0 +1,33 @@
+use crate::std_files::StdFiles;
+use crate::std_out::StdOut;
+use cr_outside::{Files, ReadAnswer, Sink};
+use std::{fs, io};
+
+const NAME: &str = "creduce-test-file.c";
+
+fn reads(answer: ReadAnswer, text: &str) -> bool {
+    match answer {
+        ReadAnswer::Bytes(bytes) => bytes.as_slice() == text.as_bytes(),
+        ReadAnswer::Absent | ReadAnswer::Failed | ReadAnswer::NoMemory => false,
+    }
+}
+
+#[test]
+fn a_real_file_is_written_read_and_missed(rt: HostRuntime) -> io::Result<()> {
+    let mut files = StdFiles::new(&rt);
+    assert_eq!(rt; files.write(rt.alloc(), NAME, b"int a;\n"), Ok(()));
+    assert_eq!(rt; files.write(rt.alloc(), NAME, b"int\n"), Ok(()));
+    assert!(rt; reads(files.read(rt.alloc(), NAME, 9), "int\n"));
+    assert!(rt; reads(files.read(rt.alloc(), NAME, 2), "in"));
+    fs::remove_file(&rt, NAME)?;
+    assert!(rt; matches!(files.read(rt.alloc(), NAME, 9), ReadAnswer::Absent));
+    // A folder can't be read.
+    assert!(rt; matches!(files.read(rt.alloc(), ".", 9), ReadAnswer::Failed));
+    Ok(())
+}
+
+#[test]
+fn a_piece_goes_to_standard_output(rt: HostRuntime) {
+    let mut out = StdOut::new(&rt);
+    assert_eq!(rt; out.put(b"a piece of a test\n"), Ok(()));
+}
