@@ -17,7 +17,7 @@ struct Case {
 const THREE: &str = "int a;\nint b;\nint c;\n";
 
 /// The statuses and files were found by hand from the rules of the lines pass.
-const CASES: [Case; 8] = [
+const CASES: [Case; 12] = [
     Case {
         test: "has:b",
         before: THREE,
@@ -69,6 +69,35 @@ const CASES: [Case; 8] = [
         failing: &[],
         status: 0,
         after: "int a;\nint b;\n",
+    },
+    Case {
+        test: "has:b",
+        before: "int b;",
+        failing: &[],
+        status: 0,
+        after: "int b;",
+    },
+    // The last line has no LF.
+    Case {
+        test: "has:c",
+        before: "int b;\nint c;",
+        failing: &[],
+        status: 0,
+        after: "int c;",
+    },
+    Case {
+        test: "has:b",
+        before: "\n\nint b;\n\n\n",
+        failing: &[],
+        status: 0,
+        after: "int b;\n",
+    },
+    Case {
+        test: "has:b",
+        before: "\n\n\n",
+        failing: &[],
+        status: 6,
+        after: "\n\n\n",
     },
     // No test of this form is known.
     Case {
