@@ -1,0 +1,138 @@
+-- Reading and writing through a pointer. Each operation gives its result, or the first case that holds in the order in
+-- which the cases stand in its equation.
+use Rattle.std.specs.Prelude.{◌≡◌, ℕ, zero, suc, ◌+◌, ◌==◌, Bool, true, false, ◌&&◌, ◌||◌, not, nat_le, Option, Some, None, Result, Ok, Err, List, [], ◌∷◌, ◌++◌, map, length, take, drop, slice_index_or, slice_set, if◌then◌else◌}
+use Rattle.std.specs.List.{list_any}
+use Rattle.cr_memory.specs.declared.value.Pointer.{Pointer}
+use Rattle.cr_memory.specs.declared.value.Pointer.TheVariants.{Null, At}
+use Rattle.cr_memory.specs.declared.value.Scalar.{Scalar}
+use Rattle.cr_memory.specs.declared.value.Scalar.TheVariants.{Int as IntegerKind, Pointer as PointerKind}
+use Rattle.cr_memory.specs.declared.value.Cell.{Cell}
+use Rattle.cr_memory.specs.declared.value.Cell.TheVariants.{Unset, Number, Pointer as PointerCell}
+use Rattle.cr_memory.specs.declared.value.Guard.{Guard}
+use Rattle.cr_memory.specs.declared.value.Guard.TheVariants.{Free, Constant, Literal}
+use Rattle.cr_memory.specs.declared.value.Trap.{Trap}
+use Rattle.cr_memory.specs.declared.value.Trap.TheVariants.{Undefined, Left}
+use Rattle.cr_memory.specs.declared.value.TheConstants.{NULL_OR_END, ENDED, UNSET, LITERAL_WRITTEN, CONSTANT_WRITTEN, OTHER_TYPE}
+use Rattle.cr_memory.specs.Kind.{is_same}
+use Rattle.cr_memory.specs.Memory.{Object, Memory, live_object, has_ended}
+
+-- ---- what a pointer points to
+
+-- the pointer is null or at the end of its array, so it points to no cell (6.5.3.2p4, 6.5.6p8)
+abbrev pub is_null_or_end : Pointer → Bool
+is_null_or_end Null = true
+is_null_or_end (At object cell low high stride) = nat_le high cell
+
+abbrev pub number_of : Pointer → ℕ
+number_of Null = 0
+number_of (At object cell low high stride) = object
+
+abbrev pub cell_of : Pointer → ℕ
+cell_of Null = 0
+cell_of (At object cell low high stride) = cell
+
+-- an object, with no cells where there is none
+abbrev pub some_object : Option Object → Object
+some_object None = record { cells = []; shape = [] }
+some_object (Some object) = object
+
+abbrev pub object_at : Memory → Pointer → Object
+object_at memory at = some_object (live_object memory (number_of at))
+
+-- the cell that the pointer points to, its kind and its guard
+abbrev pub cell_at : Memory → Pointer → Cell
+cell_at memory at = slice_index_or (object_at memory at).cells (cell_of at) Unset
+
+abbrev pub shape_at : Memory → Pointer → Scalar × Guard
+shape_at memory at = slice_index_or (object_at memory at).shape (cell_of at) (PointerKind 0, Free)
+
+-- as many cells from there on, and their shape
+abbrev pub cells_at : Memory → Pointer → ℕ → List Cell
+cells_at memory at count = take count (drop (cell_of at) (object_at memory at).cells)
+
+abbrev pub shape_run_at : Memory → Pointer → ℕ → List (Scalar × Guard)
+shape_run_at memory at count = take count (drop (cell_of at) (object_at memory at).shape)
+
+-- ---- tests on cells
+
+-- the cell holds a pointer to an object whose lifetime has ended
+abbrev pub holds_ended : Memory → Cell → Bool
+holds_ended memory Unset = false
+holds_ended memory (Number value) = false
+holds_ended memory (PointerCell pointer) = has_ended memory pointer
+
+abbrev pub is_unset : Cell → Bool
+is_unset Unset = true
+is_unset (Number value) = false
+is_unset (PointerCell pointer) = false
+
+abbrev pub is_literal : Guard → Bool
+is_literal Free = false
+is_literal Constant = false
+is_literal Literal = true
+
+abbrev pub is_constant : Guard → Bool
+is_constant Free = false
+is_constant Constant = true
+is_constant Literal = false
+
+-- the kinds are the same, one by one
+abbrev pub are_same : List Scalar → List Scalar → Bool
+are_same [] [] = true
+are_same [] (right ∷ rights) = false
+are_same (left ∷ lefts) [] = false
+are_same (left ∷ lefts) (right ∷ rights) = is_same left right && are_same lefts rights
+
+-- ---- the memory after a write
+
+-- the cells written over those that stand from a place on
+abbrev pub overwritten : List Cell → ℕ → List Cell → List Cell
+overwritten cells place [] = cells
+overwritten cells place (cell ∷ rest) = overwritten (slice_set cells place cell) (suc place) rest
+
+-- the cells stand where the pointer points to and after; kinds and guards stay, and so do all other objects
+abbrev pub with_cells : Memory → Pointer → List Cell → Memory
+with_cells memory at cells =
+  let object = object_at memory at in
+  let written : Object = record { cells = overwritten object.cells (cell_of at) cells; shape = object.shape } in
+  record { most = memory.most; objects = slice_set memory.objects (number_of at) (Some written) }
+
+-- ---- the operations
+
+-- the value of a scalar object (6.3.2.1p2)
+abbrev pub load_of : Memory → Pointer → Scalar → Result Cell Trap
+load_of memory at kind =
+  if has_ended memory at then Err (Undefined ENDED)
+  else (if is_null_or_end at then Err (Undefined NULL_OR_END)
+  else (if holds_ended memory (cell_at memory at) then Err (Undefined ENDED)
+  else (if not (is_same (shape_at memory at).0 kind) then Err (Left OTHER_TYPE)
+  else (if is_unset (cell_at memory at) then Err (Undefined UNSET)
+  else Ok (cell_at memory at)))))
+
+-- a value stored in a scalar object (6.5.16p3)
+abbrev pub save_of : Memory → Pointer → Scalar → Cell → Result Memory Trap
+save_of memory at kind value =
+  if has_ended memory at then Err (Undefined ENDED)
+  else (if is_null_or_end at then Err (Undefined NULL_OR_END)
+  else (if is_literal (shape_at memory at).1 then Err (Undefined LITERAL_WRITTEN)
+  else (if is_constant (shape_at memory at).1 then Err (Undefined CONSTANT_WRITTEN)
+  else (if not (is_same (shape_at memory at).0 kind) then Err (Left OTHER_TYPE)
+  else Ok (with_cells memory at (value ∷ []))))))
+
+-- a structure stored in another one of as many cells (6.5.16.1p2, 6.2.6.1p6): all cells are read before one is written
+abbrev pub copy_of : Memory → Pointer → Pointer → ℕ → Result Memory Trap
+copy_of memory from to count =
+  if has_ended memory from || has_ended memory to then Err (Undefined ENDED)
+  else (if is_null_or_end from || is_null_or_end to then Err (Undefined NULL_OR_END)
+  else (if list_any (λ s. is_literal s.1) (shape_run_at memory to count) then Err (Undefined LITERAL_WRITTEN)
+  else (if list_any (λ s. is_constant s.1) (shape_run_at memory to count) then Err (Undefined CONSTANT_WRITTEN)
+  else (if not (are_same (map (λ s. s.0) (shape_run_at memory from count)) (map (λ s. s.0) (shape_run_at memory to count))) then Err (Left OTHER_TYPE)
+  else Ok (with_cells memory to (cells_at memory from count))))))
+
+-- the cells of a structure (6.2.6.1p6), as many as there are kinds
+abbrev pub cells_of : Memory → Pointer → List Scalar → Result (List Cell) Trap
+cells_of memory from kinds =
+  if has_ended memory from then Err (Undefined ENDED)
+  else (if is_null_or_end from then Err (Undefined NULL_OR_END)
+  else (if not (are_same (map (λ s. s.0) (shape_run_at memory from (length kinds))) kinds) then Err (Left OTHER_TYPE)
+  else Ok (cells_at memory from (length kinds))))

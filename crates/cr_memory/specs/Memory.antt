@@ -1,0 +1,68 @@
+-- The memory of a program (C11 6.2.4, 6.2.6): its objects by their numbers, with the cells of each.
+use Rattle.std.specs.Prelude.{◌≡◌, ℕ, ◌+◌, ◌-◌, ◌<◌, ◌≤◌, ◌%◌, ℤ, pos, Bool, true, false, not, is_none, Option, Some, None, List, length, sum_by, nat_le, slice_index_or, if◌then◌else◌}
+use Rattle.cr_ints.specs.IntKind.{Represents}
+use Rattle.cr_memory.specs.declared.value.Pointer.{Pointer}
+use Rattle.cr_memory.specs.declared.value.Pointer.TheVariants.{Null, At}
+use Rattle.cr_memory.specs.declared.value.Scalar.{Scalar}
+use Rattle.cr_memory.specs.declared.value.Scalar.TheVariants.{Int as IntegerKind, Pointer as PointerKind}
+use Rattle.cr_memory.specs.declared.value.Cell.{Cell}
+use Rattle.cr_memory.specs.declared.value.Cell.TheVariants.{Unset, Number, Pointer as PointerCell}
+use Rattle.cr_memory.specs.declared.value.Guard.{Guard}
+
+-- ---- objects
+
+-- the cells of a live object, and for each its kind and its guard
+pub record Object : Type 0 where
+  pub cells : List Cell
+  pub shape : List (Scalar × Guard)
+
+-- the objects that were entered so far, by number: none where the object's lifetime has ended; and how many cells may
+-- live at once
+pub record Memory : Type 0 where
+  pub most : ℕ
+  pub objects : List (Option Object)
+
+-- the object of that number while it lives
+abbrev pub live_object : Memory → ℕ → Option Object
+live_object memory number = slice_index_or memory.objects number None
+
+abbrev pub count_of : Option Object → ℕ
+count_of None = 0
+count_of (Some object) = length object.cells
+
+-- the cells that live
+abbrev pub live_cells : Memory → ℕ
+live_cells memory = sum_by count_of memory.objects
+
+-- ---- pointers
+
+-- a pointer that this memory can give: null, or into an array of whole elements in an object that was entered
+pub record IsArrayPlace (memory : Memory) (object cell low high stride : ℕ) : Type 0 where
+  pub entered : object < length memory.objects
+  pub stride_above : 1 ≤ stride
+  pub low_before : low ≤ cell
+  pub high_after : cell ≤ high
+  pub whole_before : (cell - low) % stride ≡ 0
+  pub whole_after : (high - cell) % stride ≡ 0
+  pub within : (live : Object) → live_object memory object ≡ Some live → high ≤ length live.cells
+
+abbrev pub IsPointer : Memory → Pointer → Type 0
+IsPointer memory Null = Unit {0}
+IsPointer memory (At object cell low high stride) = IsArrayPlace memory object cell low high stride
+
+-- what a cell of a kind may hold: nothing yet, a number of the integer type's range, or a pointer
+abbrev pub Holds : Memory → Scalar → Cell → Type 0
+Holds memory kind Unset = Unit {0}
+Holds memory (IntegerKind kind) (Number value) = Represents kind value
+Holds memory (IntegerKind kind) (PointerCell pointer) = ⊥
+Holds memory (PointerKind to) (Number value) = ⊥
+Holds memory (PointerKind to) (PointerCell pointer) = IsPointer memory pointer
+
+-- the lifetime of the object that the pointer points to, or just past, has ended (6.2.4p2)
+abbrev pub has_ended : Memory → Pointer → Bool
+has_ended memory Null = false
+has_ended memory (At object cell low high stride) = is_none (live_object memory object)
+
+-- every pointer of the one memory is one of the other
+pub record KeepsPointers (old new : Memory) : Type 0 where
+  pub kept : (pointer : Pointer) → IsPointer old pointer → IsPointer new pointer
