@@ -1,7 +1,8 @@
 -- Reading and writing through a pointer. Each operation gives its result, or the first case that holds in the order in
 -- which the cases stand in its equation.
-use Rattle.std.specs.Prelude.{◌≡◌, ℕ, zero, suc, ◌+◌, ◌==◌, Bool, true, false, ◌&&◌, ◌||◌, not, nat_le, Option, Some, None, Result, Ok, Err, List, [], ◌∷◌, ◌++◌, map, length, take, drop, slice_index_or, slice_set, if◌then◌else◌}
-use Rattle.std.specs.List.{list_any}
+use Rattle.std.specs.Prelude.{◌≡◌, ℕ, zero, suc, ◌+◌, ◌==◌, Bool, true, false, ◌&&◌, ◌||◌, not, nat_le, Option, Some, None, Result, Ok, Err, IsOk, List, [], ◌∷◌, length, take, drop, slice_index_or, slice_set, if◌then◌else◌}
+use Rattle.std.specs.Global.{Vec}
+use Rattle.std.specs.List.{list_any, list_all, zip}
 use Rattle.cr_memory.specs.declared.value.Pointer.{Pointer}
 use Rattle.cr_memory.specs.declared.value.Pointer.TheVariants.{Null, At}
 use Rattle.cr_memory.specs.declared.value.Scalar.{Scalar}
@@ -11,7 +12,7 @@ use Rattle.cr_memory.specs.declared.value.Cell.TheVariants.{Unset, Number, Point
 use Rattle.cr_memory.specs.declared.value.Guard.{Guard}
 use Rattle.cr_memory.specs.declared.value.Guard.TheVariants.{Free, Constant, Literal}
 use Rattle.cr_memory.specs.declared.value.Trap.{Trap}
-use Rattle.cr_memory.specs.declared.value.Trap.TheVariants.{Undefined, Left}
+use Rattle.cr_memory.specs.declared.value.Trap.TheVariants.{Undefined, Left, NoMemory}
 use Rattle.cr_memory.specs.declared.value.TheConstants.{NULL_OR_END, ENDED, UNSET, LITERAL_WRITTEN, CONSTANT_WRITTEN, OTHER_TYPE}
 use Rattle.cr_memory.specs.Kind.{is_same}
 use Rattle.cr_memory.specs.Memory.{Object, Memory, live_object, has_ended}
@@ -76,12 +77,12 @@ is_constant Free = false
 is_constant Constant = true
 is_constant Literal = false
 
--- the kinds are the same, one by one
-abbrev pub are_same : List Scalar → List Scalar → Bool
-are_same [] [] = true
-are_same [] (right ∷ rights) = false
-are_same (left ∷ lefts) [] = false
-are_same (left ∷ lefts) (right ∷ rights) = is_same left right && are_same lefts rights
+-- the cells have the same kinds, one by one
+abbrev pub have_kinds : List (Scalar × Guard) → List Scalar → Bool
+have_kinds shape kinds = list_all (λ p. is_same p.0.0 p.1) (zip shape kinds)
+
+abbrev pub have_same_kinds : List (Scalar × Guard) → List (Scalar × Guard) → Bool
+have_same_kinds left right = list_all (λ p. is_same p.0.0 p.1.0) (zip left right)
 
 -- ---- the memory after a write
 
@@ -90,12 +91,12 @@ abbrev pub overwritten : List Cell → ℕ → List Cell → List Cell
 overwritten cells place [] = cells
 overwritten cells place (cell ∷ rest) = overwritten (slice_set cells place cell) (suc place) rest
 
--- the cells stand where the pointer points to and after; kinds and guards stay, and so do all other objects
-abbrev pub with_cells : Memory → Pointer → List Cell → Memory
-with_cells memory at cells =
-  let object = object_at memory at in
-  let written : Object = record { cells = overwritten object.cells (cell_of at) cells; shape = object.shape } in
-  record { most = memory.most; objects = slice_set memory.objects (number_of at) (Some written) }
+-- the cells stand in an object from a place on; kinds and guards stay, and so do all other objects
+abbrev pub with_cells : Memory → ℕ → ℕ → List Cell → Memory
+with_cells memory number place cells =
+  let object = some_object (live_object memory number) in
+  let written : Object = record { cells = overwritten object.cells place cells; shape = object.shape } in
+  record { most = memory.most; objects = slice_set memory.objects number (Some written) }
 
 -- ---- the operations
 
@@ -117,7 +118,7 @@ save_of memory at kind value =
   else (if is_literal (shape_at memory at).1 then Err (Undefined LITERAL_WRITTEN)
   else (if is_constant (shape_at memory at).1 then Err (Undefined CONSTANT_WRITTEN)
   else (if not (is_same (shape_at memory at).0 kind) then Err (Left OTHER_TYPE)
-  else Ok (with_cells memory at (value ∷ []))))))
+  else Ok (with_cells memory (number_of at) (cell_of at) (value ∷ []))))))
 
 -- a structure stored in another one of as many cells (6.5.16.1p2, 6.2.6.1p6): all cells are read before one is written
 abbrev pub copy_of : Memory → Pointer → Pointer → ℕ → Result Memory Trap
@@ -126,13 +127,30 @@ copy_of memory from to count =
   else (if is_null_or_end from || is_null_or_end to then Err (Undefined NULL_OR_END)
   else (if list_any (λ s. is_literal s.1) (shape_run_at memory to count) then Err (Undefined LITERAL_WRITTEN)
   else (if list_any (λ s. is_constant s.1) (shape_run_at memory to count) then Err (Undefined CONSTANT_WRITTEN)
-  else (if not (are_same (map (λ s. s.0) (shape_run_at memory from count)) (map (λ s. s.0) (shape_run_at memory to count))) then Err (Left OTHER_TYPE)
-  else Ok (with_cells memory to (cells_at memory from count))))))
+  else (if not (have_same_kinds (shape_run_at memory from count) (shape_run_at memory to count)) then Err (Left OTHER_TYPE)
+  else Ok (with_cells memory (number_of to) (cell_of to) (cells_at memory from count))))))
 
 -- the cells of a structure (6.2.6.1p6), as many as there are kinds
 abbrev pub cells_of : Memory → Pointer → List Scalar → Result (List Cell) Trap
 cells_of memory from kinds =
   if has_ended memory from then Err (Undefined ENDED)
   else (if is_null_or_end from then Err (Undefined NULL_OR_END)
-  else (if not (are_same (map (λ s. s.0) (shape_run_at memory from (length kinds))) kinds) then Err (Left OTHER_TYPE)
+  else (if not (have_kinds (shape_run_at memory from (length kinds)) kinds) then Err (Left OTHER_TYPE)
   else Ok (cells_at memory from (length kinds))))
+
+-- a call that writes: it leaves the state that the operation gives, or its case and the state as it was
+abbrev pub Writes : {State : Type 0} → Result State Trap → Result (Unit {0}) Trap → State → State → Type 0
+Writes (Ok state) result old new = (result ≡ Ok tt) × (new ≡ state)
+Writes (Err trap) result old new = (result ≡ Err trap) × (new ≡ old)
+
+-- a call that makes a list: the list that the operation gives, its case, or no memory
+abbrev pub Reads : Result (List Cell) Trap → Result (Vec Cell) Trap → Type 0
+Reads want (Ok cells) = want ≡ Ok cells.items
+Reads want (Err NoMemory) = IsOk want
+Reads want (Err (Undefined number)) = want ≡ Err (Undefined number)
+Reads want (Err (Left number)) = want ≡ Err (Left number)
+
+-- a pointer that isn't null has elements of so many cells
+abbrev pub HasStride : Pointer → ℕ → Type 0
+HasStride Null count = Unit {0}
+HasStride (At object cell low high stride) count = stride ≡ count

@@ -1,5 +1,5 @@
 -- The memory of a program (C11 6.2.4, 6.2.6): its objects by their numbers, with the cells of each.
-use Rattle.std.specs.Prelude.{◌≡◌, ℕ, ◌+◌, ◌-◌, ◌<◌, ◌≤◌, ◌%◌, ℤ, pos, Bool, true, false, not, is_none, Option, Some, None, List, length, sum_by, nat_le, slice_index_or, if◌then◌else◌}
+use Rattle.std.specs.Prelude.{◌≡◌, ℕ, ◌+◌, ◌-◌, ◌<◌, ◌≤◌, ◌%◌, ℤ, pos, Bool, true, false, not, is_none, Option, Some, None, List, [], ◌∷◌, ◌++◌, map, length, sum_by, nat_le, nat_lt, ◌&&◌, slice_set, slice_index_or, if◌then◌else◌}
 use Rattle.cr_ints.specs.IntKind.{Represents}
 use Rattle.cr_memory.specs.declared.value.Pointer.{Pointer}
 use Rattle.cr_memory.specs.declared.value.Pointer.TheVariants.{Null, At}
@@ -66,3 +66,27 @@ has_ended memory (At object cell low high stride) = is_none (live_object memory 
 -- every pointer of the one memory is one of the other
 pub record KeepsPointers (old new : Memory) : Type 0 where
   pub kept : (pointer : Pointer) → IsPointer old pointer → IsPointer new pointer
+
+-- ---- lifetimes
+
+-- what an object's cell holds at the start of the lifetime: zero or null, or nothing (6.2.4p6, 6.7.9p10)
+abbrev pub zero_of : Scalar → Cell
+zero_of (IntegerKind kind) = Number (pos 0)
+zero_of (PointerKind to) = PointerCell Null
+
+abbrev pub first_cell : Bool → Scalar × Guard → Cell
+first_cell zero shape = if zero then zero_of shape.0 else Unset
+
+abbrev pub new_object : Bool → List (Scalar × Guard) → Object
+new_object zero shape = record { cells = map (first_cell zero) shape; shape = shape }
+
+-- there is room for an object of so many cells, and a number for it
+abbrev pub has_room : Memory → ℕ → Bool
+has_room memory count = nat_le (live_cells memory + count) memory.most && nat_lt (length memory.objects) 4294967295
+
+abbrev pub with_object : Memory → Object → Memory
+with_object memory object = record { most = memory.most; objects = memory.objects ++ Some object ∷ [] }
+
+-- the object's lifetime has ended
+abbrev pub without_object : Memory → ℕ → Memory
+without_object memory number = record { most = memory.most; objects = slice_set memory.objects number None }

@@ -1,0 +1,6 @@
+use Rattle.std.proofs.Common.{◌≡◌, take, drop}
+use Rattle.cr_memory.specs.Access.{overwritten}
+use Rattle.cr_memory.proofs.flat.copy_down.Given as goal
+
+abbrev pub invariant-loop-i : goal.invariant-loop-i
+invariant-loop-i l = l.cells.items ≡ overwritten l.fn.cells.items l.target (take l.i (drop l.source l.fn.cells.items))
