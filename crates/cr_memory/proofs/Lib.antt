@@ -1,1 +1,3 @@
 pub mod Overwriting
+pub mod View
+pub mod Reaching

@@ -3,6 +3,8 @@
 
 mod flat;
 mod span;
+mod store;
 mod value;
 
+pub use store::Store;
 pub use value::{Cell, Guard, Pointer, Scalar, Trap};

@@ -1,0 +1,58 @@
+ghost use Rattle.std.specs.Prelude.{◌≡◌, ◌<◌, ◌↔◌, [], false, length, IsSome, IfOk, OnErr, IsErrOf};
+ghost use Rattle.cr_memory.specs.Memory.{IsPointer, Holds, KeepsPointers, live_object, has_room, new_object, with_object, without_object};
+ghost use Rattle.cr_memory.specs.Access.{load_of, save_of, copy_of, cells_of, Writes, Reads, HasStride};
+ghost use Rattle.cr_memory.specs.Pointers.{shift_of, differ_of, less_of, same_of};
+
+use std::alloc::Global;
+use std::marker::Model;
+
+use crate::flat;
+use crate::span::Span;
+use crate::value::{Cell, Guard, Pointer, Scalar, Trap};
+
+/// The memory of a running program: objects of cells, each with its kind and its guard.
+#[derive(Drop)]
+pub struct Store {
+    most: u32,
+    live: u32,
+    top: u32,
+    spans: Vec<Span>,
+    cells: Vec<Cell>,
+    shape: Vec<(Scalar, Guard)>,
+}
+
+impl Model for Store {
+    ghost use Rattle.cr_memory.specs.Memory.{Memory};
+    ghost use Rattle.cr_memory.specs.Flat.{memory_of, IsStored};
+
+    ghost Value = { Memory };
+
+    ghost view = { λ s. memory_of s.most s.spans.items s.cells.items s.shape.items };
+
+    ghost invariant = { λ s. IsStored s.most s.live s.top s.spans.items s.cells.items s.shape.items };
+}
+
+impl Store {
+    /// A memory without objects, in which at most so many cells live at once.
+    pub fn new(alloc: Global, most: u32) -> Store
+        ensures { result ≡ record { most = most; objects = [] } }
+    {
+        Store {
+            most,
+            live: 0,
+            top: 0,
+            spans: Vec::new(alloc),
+            cells: Vec::new(alloc),
+            shape: Vec::new(alloc),
+        }
+    }
+
+    /// The value of a scalar object (C11 6.3.2.1p2): U9, U10, U11, N5.
+    pub fn load(&self, at: Pointer, kind: Scalar) -> Result<Cell, Trap>
+        requires { IsPointer self.now at }
+        ensures value { result ≡ load_of self.now at kind }
+        ensures holds { IfOk result (Holds self.now kind) }
+    {
+        flat::load(&self.spans, &self.cells, &self.shape, at, kind)
+    }
+}
