@@ -1,3 +1,4 @@
 pub mod Overwriting
 pub mod View
 pub mod Reaching
+pub mod Comparing

@@ -1,7 +1,9 @@
 -- What is read from the flat store is what the memory's operations give.
-use Rattle.std.proofs.Common.{◌≡◌, ℕ, zero, suc, ◌+◌, ◌<◌, ◌≤◌, ◌==◌, Bool, true, false, not, nat_le, ◌⊎◌, inl, inr, Option, Some, None, Result, Ok, Err, IfOk, List, [], ◌∷◌, length, get_or, take, drop, if◌then◌else◌, refl, sym, ap, ◌∙◌, subst, arith, length-drop}
-use Rattle.std.proofs.lemmas.List.{length-take-le, get_or-take, get_or-drop, drop-take, take-take}
-use Rattle.std.proofs.lemmas.Bool.{eqb-true, leb-false}
+use Rattle.std.proofs.Common.{◌≡◌, ℕ, zero, suc, ◌+◌, ◌-◌, ◌%◌, ◌&&◌, ◌<◌, ◌≤◌, ◌==◌, Bool, true, false, not, nat_le, ◌⊎◌, inl, inr, Option, Some, None, Result, Ok, Err, IfOk, List, [], ◌∷◌, length, get_or, take, drop, if◌then◌else◌, refl, sym, ap, ◌∙◌, subst, arith, length-drop}
+use Rattle.std.proofs.lemmas.List.{length-take-le, get_or-take, get_or-drop, drop-take, take-take, drop-drop, drop_more}
+use Rattle.std.proofs.Math.Nat.{mod-eq_of_lt}
+use Rattle.std.proofs.lemmas.Bool.{eqb-true, leb-false, leb-true}
+use Rattle.std.specs.Global.{Vec}
 use Rattle.cr_ints.specs.declared.kind.IntKind.{IntKind}
 use Rattle.cr_ints.specs.declared.kind.IntKind.TheVariants.{Bool as BoolKind, Char, SChar, UChar, Short, UShort, Int, UInt, Long, ULong, LLong, ULLong}
 use Rattle.cr_memory.specs.declared.value.Pointer.{Pointer}
@@ -17,8 +19,8 @@ use Rattle.cr_memory.specs.declared.value.Trap.TheVariants.{Undefined, Left}
 use Rattle.cr_memory.specs.declared.value.TheConstants.{NULL_OR_END, ENDED, UNSET, OTHER_TYPE}
 use Rattle.cr_memory.specs.declared.span.Span.{Span}
 use Rattle.cr_memory.specs.Kind.{is_same, place_of}
-use Rattle.cr_memory.specs.Memory.{Memory, IsPointer, Holds, live_object, has_ended}
-use Rattle.cr_memory.specs.Access.{is_null_or_end, is_unset, number_of, cell_of, some_object, object_at, cell_at, shape_at, cells_at, shape_run_at, holds_ended, load_of, cells_of, HasStride}
+use Rattle.cr_memory.specs.Memory.{Memory, IsPointer, Holds, AllHold, live_object, has_ended}
+use Rattle.cr_memory.specs.Access.{is_null_or_end, is_unset, number_of, cell_of, some_object, object_at, cell_at, shape_at, cells_at, shape_run_at, holds_ended, have_kinds, Reads, load_of, cells_of, HasStride}
 use Rattle.cr_memory.specs.Flat.{span_at, object_of, memory_of, ended_in, held_ended_in, index_of, cell_or, shape_or, PointerIn, HoldsIn, HasRoom, IsStored, flat_load, flat_cells}
 use Rattle.cr_memory.proofs.View.{two_ways, whole_of, object_of-live, live_object-memory_of, has_ended-memory_of, holds_ended-memory_of, holds}
 
@@ -138,3 +140,97 @@ flat_load-holds most live top spans cells shape at kind s h =
     holds most spans cells shape kind _ s.room
     (let P : Scalar → Type 0 = λ k. HoldsIn spans k (cell_or cells (index_of spans at)) in
       subst P (same_kinds _ _ same) (s.holds (index_of spans at) r.inside)))
+
+-- ---- runs of cells
+
+run-whole : {X : Type 0} (xs : List X) (first count place size : ℕ) → place + size ≤ count
+  → take size (drop place (take count (drop first xs))) ≡ take size (drop (first + place) xs)
+run-whole xs first count place size h =
+  let rest : count ≡ place + (count - place) = omega arith in
+  ap (λ n. take size (drop place (take n (drop first xs)))) rest
+  ∙ ap (take size) (drop-take place (count - place) (drop first xs))
+  ∙ take-take size (count - place) (drop place (drop first xs)) (omega arith)
+  ∙ ap (take size) (drop-drop place first xs)
+
+-- a whole element lies before the end
+stride_fits : (cell high stride : ℕ) → 1 ≤ stride → cell < high → (high - cell) % stride ≡ 0 → cell + stride ≤ high
+stride_fits cell high stride one below whole = by_test (nat_le (cell + stride) high) refl
+  where
+  by_test : (b : Bool) → nat_le (cell + stride) high ≡ b → cell + stride ≤ high
+  by_test true e = leb-true (cell + stride) high e
+  by_test false e =
+    let short : high - cell < stride = omega (arith, leb-false (cell + stride) high e) in
+    absurd (omega (arith, mod-eq_of_lt {n = high - cell} {m = stride} short))
+
+pub record ReachedRun (most : ℕ) (spans : List Span) (cells : List Cell) (shape : List (Scalar × Guard)) (at : Pointer) (size : ℕ) : Type 0 where
+  pub cells_run : cells_at (memory_of most spans cells shape) at size ≡ take size (drop (index_of spans at) cells)
+  pub shape_run : shape_run_at (memory_of most spans cells shape) at size ≡ take size (drop (index_of spans at) shape)
+  pub inside : index_of spans at + size ≤ length cells
+
+pub reached_run : (most : ℕ) (spans : List Span) (cells : List Cell) (shape : List (Scalar × Guard)) (at : Pointer) (size : ℕ)
+  → HasRoom spans (length cells) → PointerIn spans at → HasStride at size → ended_in spans at ≡ false → is_null_or_end at ≡ false
+  → ReachedRun most spans cells shape at size
+reached_run most spans cells shape Null size room h stride live inside = cc
+reached_run most spans cells shape (At object cell low high stride) size room h wide live inside =
+  let span = span_at spans object in
+  let alive = alive_from span.alive live in
+  let before : cell < high = leb-false high cell inside in
+  let whole_element = stride_fits cell high stride h.stride_above before h.whole_after in
+  let fits = h.within alive in
+  let bound = room.within object alive in
+  let below : cell + size ≤ span.count = omega arith in
+  let whole = whole_reached most spans cells shape object alive in
+  record {
+    cells_run = ap (λ x. take size (drop cell x.cells)) whole ∙ run-whole cells span.first span.count cell size below;
+    shape_run = ap (λ x. take size (drop cell x.shape)) whole ∙ run-whole shape span.first span.count cell size below;
+    inside = omega arith
+  }
+
+pub flat_cells-is : (most : ℕ) (spans : List Span) (cells : List Cell) (shape : List (Scalar × Guard)) (from : Pointer) (kinds : List Scalar)
+  → HasRoom spans (length cells) → PointerIn spans from → HasStride from (length kinds)
+  → flat_cells spans cells shape from kinds ≡ cells_of (memory_of most spans cells shape) from kinds
+flat_cells-is most spans cells shape from kinds room h stride =
+  same_access (ended_in spans from) (has_ended (memory_of most spans cells shape) from) (is_null_or_end from) _ _ (sym (has_ended-memory_of most spans cells shape from))
+  (λ live inside. let r = reached_run most spans cells shape from (length kinds) room h stride live inside in rw (r.cells_run, r.shape_run) refl)
+
+both_true : (a b : Bool) → (a && b) ≡ true → (a ≡ true) × (b ≡ true)
+both_true true b e = (refl, e)
+both_true false b e = absurd (cc e)
+
+-- the cells of a run hold values of their own kinds
+all_hold : (most live top : ℕ) (spans : List Span) (cells : List Cell) (shape : List (Scalar × Guard)) (kinds : List Scalar) (index : ℕ)
+  → IsStored most live top spans cells shape → index + length kinds ≤ length cells
+  → have_kinds (take (length kinds) (drop index shape)) kinds ≡ true
+  → AllHold (memory_of most spans cells shape) kinds (take (length kinds) (drop index cells))
+all_hold most live top spans cells shape [] index s room e = tt
+all_hold most live top spans cells shape (kind ∷ kinds) index s room e =
+  let free : Scalar × Guard = (PointerKind 0, Free) in
+  let first_cell = drop_more cells index Unset (omega arith) in
+  let first_shape = drop_more shape index free (omega (arith, s.same_length)) in
+  let tests = both_true _ _ (rw first_shape at e) in
+  rw first_cell
+  (holds most spans cells shape kind (cell_or cells index) s.room
+    (let P : Scalar → Type 0 = λ k. HoldsIn spans k (cell_or cells index) in subst P (same_kinds _ _ tests.0) (s.holds index (omega arith))),
+  all_hold most live top spans cells shape kinds (index + 1) s (omega arith) tests.1)
+
+read_by : (P : List Cell → Type 0) (ended end same : Bool) (cells : List Cell) (result : Result (Vec Cell) Trap)
+  → (ended ≡ false → end ≡ false → same ≡ true → P cells)
+  → Reads (if ended then Err (Undefined ENDED)
+    else (if end then Err (Undefined NULL_OR_END)
+    else (if not same then Err (Left OTHER_TYPE)
+    else Ok cells))) result → IfOk result (λ v. P v.items)
+read_by P ended end same cells (Err e) h r = tt
+read_by P true end same cells (Ok v) h r = absurd (cc r)
+read_by P false true same cells (Ok v) h r = absurd (cc r)
+read_by P false false false cells (Ok v) h r = absurd (cc r)
+read_by P false false true cells (Ok v) h r = let e : cells ≡ v.items = cc r in subst P e (h refl refl refl)
+
+-- the cells that are read hold values of the kinds
+pub flat_cells-hold : (most live top : ℕ) (spans : List Span) (cells : List Cell) (shape : List (Scalar × Guard)) (from : Pointer) (kinds : List Scalar)
+  → IsStored most live top spans cells shape → PointerIn spans from → HasStride from (length kinds) → (result : Result (Vec Cell) Trap)
+  → Reads (flat_cells spans cells shape from kinds) result → IfOk result (λ v. AllHold (memory_of most spans cells shape) kinds v.items)
+flat_cells-hold most live top spans cells shape from kinds s h stride result r =
+  read_by (AllHold (memory_of most spans cells shape) kinds) (ended_in spans from) (is_null_or_end from)
+    (have_kinds (take (length kinds) (drop (index_of spans from) shape)) kinds) (take (length kinds) (drop (index_of spans from) cells)) result
+  (λ alive inside same. all_hold most live top spans cells shape kinds (index_of spans from) s
+    (reached_run most spans cells shape from (length kinds) s.room h stride alive inside).inside same) r

@@ -1,5 +1,5 @@
 -- How the store keeps a memory: the cells of all objects one after another, and for each object the span of its cells.
-use Rattle.std.specs.Prelude.{◌≡◌, ℕ, ◌+◌, ◌-◌, ◌%◌, sum_by, ◌<◌, ◌≤◌, Bool, true, false, ◌&&◌, ◌||◌, not, nat_le, Option, Some, None, Result, Ok, Err, List, [], ◌∷◌, map, length, take, drop, slice_index_or, slice_set, if◌then◌else◌}
+use Rattle.std.specs.Prelude.{◌≡◌, ◌==◌, ℤ, ℕ, ◌+◌, ◌-◌, ◌%◌, sum_by, ◌<◌, ◌≤◌, Bool, true, false, ◌&&◌, ◌||◌, not, nat_le, Option, Some, None, Result, Ok, Err, List, [], ◌∷◌, map, length, take, drop, slice_index_or, slice_set, if◌then◌else◌}
 use Rattle.std.specs.List.{list_any}
 use Rattle.cr_ints.specs.IntKind.{Represents}
 use Rattle.cr_memory.specs.declared.value.Pointer.{Pointer}
@@ -12,10 +12,11 @@ use Rattle.cr_memory.specs.declared.value.Guard.{Guard}
 use Rattle.cr_memory.specs.declared.value.Guard.TheVariants.{Free}
 use Rattle.cr_memory.specs.declared.value.Trap.{Trap}
 use Rattle.cr_memory.specs.declared.value.Trap.TheVariants.{Undefined, Left}
-use Rattle.cr_memory.specs.declared.value.TheConstants.{NULL_OR_END, ENDED, UNSET, LITERAL_WRITTEN, CONSTANT_WRITTEN, OTHER_TYPE}
+use Rattle.cr_memory.specs.declared.value.TheConstants.{NULL_OR_END, ENDED, UNSET, LITERAL_WRITTEN, CONSTANT_WRITTEN, OTHER_TYPE, END_COMPARED}
 use Rattle.cr_memory.specs.declared.span.Span.{Span}
 use Rattle.cr_memory.specs.Kind.{is_same}
 use Rattle.cr_memory.specs.Memory.{Object, Memory}
+use Rattle.cr_memory.specs.Pointers.{moved_by, difference_of, order_of}
 use Rattle.cr_memory.specs.Access.{is_null_or_end, is_unset, is_literal, is_constant, have_kinds, have_same_kinds, overwritten}
 
 abbrev pub span_at : List Span → ℕ → Span
@@ -76,6 +77,11 @@ HoldsIn spans (IntegerKind kind) (Number value) = Represents kind value
 HoldsIn spans (IntegerKind kind) (PointerCell pointer) = ⊥
 HoldsIn spans (PointerKind to) (Number value) = ⊥
 HoldsIn spans (PointerKind to) (PointerCell pointer) = PointerIn spans pointer
+
+-- a pointer that isn't null stands at or after the beginning of its array, and its elements have cells
+abbrev pub HasSubscript : Pointer → Type 0
+HasSubscript Null = Unit {0}
+HasSubscript (At object cell low high stride) = (low ≤ cell) × (1 ≤ stride)
 
 -- each live span lies among so many cells
 pub record HasRoom (spans : List Span) (room : ℕ) : Type 0 where
@@ -146,3 +152,27 @@ flat_cells spans cells shape from kinds =
   else (if is_null_or_end from then Err (Undefined NULL_OR_END)
   else (if not (have_kinds (take (length kinds) (drop (index_of spans from) shape)) kinds) then Err (Left OTHER_TYPE)
   else Ok (take (length kinds) (drop (index_of spans from) cells))))
+
+abbrev pub flat_shift : List Span → Pointer → ℤ → Result Pointer Trap
+flat_shift spans at by = if ended_in spans at then Err (Undefined ENDED) else moved_by at by
+
+abbrev pub flat_differ : List Span → Pointer → Pointer → Result ℤ Trap
+flat_differ spans left right =
+  if ended_in spans left || ended_in spans right then Err (Undefined ENDED) else difference_of left right
+
+abbrev pub flat_less : List Span → Pointer → Pointer → Result Bool Trap
+flat_less spans left right =
+  if ended_in spans left || ended_in spans right then Err (Undefined ENDED) else order_of left right
+
+abbrev pub flat_equality : List Span → Pointer → Pointer → Result Bool Trap
+flat_equality spans Null Null = Ok true
+flat_equality spans Null (At object cell low high stride) = Ok false
+flat_equality spans (At object cell low high stride) Null = Ok false
+flat_equality spans (At object cell low high stride) (At object' cell' low' high' stride') =
+  if object == object' then Ok (cell == cell')
+  else (if ((span_at spans object).count == cell) || ((span_at spans object').count == cell') then Err (Left END_COMPARED)
+  else Ok false)
+
+abbrev pub flat_same : List Span → Pointer → Pointer → Result Bool Trap
+flat_same spans left right =
+  if ended_in spans left || ended_in spans right then Err (Undefined ENDED) else flat_equality spans left right

@@ -58,6 +58,13 @@ Holds memory (IntegerKind kind) (PointerCell pointer) = ⊥
 Holds memory (PointerKind to) (Number value) = ⊥
 Holds memory (PointerKind to) (PointerCell pointer) = IsPointer memory pointer
 
+-- cells that hold values of the kinds, one by one
+abbrev pub AllHold : Memory → List Scalar → List Cell → Type 0
+AllHold memory [] [] = Unit {0}
+AllHold memory [] (cell ∷ cells) = ⊥
+AllHold memory (kind ∷ kinds) [] = ⊥
+AllHold memory (kind ∷ kinds) (cell ∷ cells) = Holds memory kind cell × AllHold memory kinds cells
+
 -- the lifetime of the object that the pointer points to, or just past, has ended (6.2.4p2)
 abbrev pub has_ended : Memory → Pointer → Bool
 has_ended memory Null = false

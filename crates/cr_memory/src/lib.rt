@@ -1,6 +1,7 @@
 //! The memory of a C program.
 #![tactic(auto)]
 
+mod arithmetic;
 mod flat;
 mod span;
 mod store;

@@ -1,11 +1,12 @@
 ghost use Rattle.std.specs.Prelude.{◌≡◌, ◌<◌, ◌↔◌, [], false, length, IsSome, IfOk, OnErr, IsErrOf};
-ghost use Rattle.cr_memory.specs.Memory.{IsPointer, Holds, KeepsPointers, live_object, has_room, new_object, with_object, without_object};
+ghost use Rattle.cr_memory.specs.Memory.{IsPointer, Holds, AllHold, KeepsPointers, live_object, has_room, new_object, with_object, without_object};
 ghost use Rattle.cr_memory.specs.Access.{load_of, save_of, copy_of, cells_of, Writes, Reads, HasStride};
 ghost use Rattle.cr_memory.specs.Pointers.{shift_of, differ_of, less_of, same_of};
 
 use std::alloc::Global;
 use std::marker::Model;
 
+use crate::arithmetic;
 use crate::flat;
 use crate::span::Span;
 use crate::value::{Cell, Guard, Pointer, Scalar, Trap};
@@ -54,5 +55,56 @@ impl Store {
         ensures holds { IfOk result (Holds self.now kind) }
     {
         flat::load(&self.spans, &self.cells, &self.shape, at, kind)
+    }
+
+    /// The cells of a structure from the pointer on, one for each kind (C11 6.2.6.1p6): U9, U10 of the pointer alone, N5.
+    pub fn cells(
+        &self,
+        alloc: Global,
+        from: Pointer,
+        kinds: &[Scalar],
+    ) -> Result<Vec<Cell>, Trap>
+        requires pointer { IsPointer self.now from }
+        requires stride { HasStride from (length kinds.now) }
+        ensures value { Reads (cells_of self.now from kinds.now) result }
+        ensures holds { IfOk result (λ cells. AllHold self.now kinds.now cells.items) }
+    {
+        flat::cells(alloc, &self.spans, &self.cells, &self.shape, from, kinds)
+    }
+
+    /// The pointer moved by so many elements (6.5.6p8): U6, U10.
+    pub fn shift(&self, at: Pointer, by: i128) -> Result<Pointer, Trap>
+        requires { IsPointer self.now at }
+        ensures value { result ≡ shift_of self.now at by }
+        ensures pointer { IfOk result (IsPointer self.now) }
+    {
+        arithmetic::shift(&self.spans, at, by)
+    }
+
+    /// The distance of two pointers into one array, in elements (6.5.6p9): U7, U10.
+    pub fn differ(&self, left: Pointer, right: Pointer) -> Result<i128, Trap>
+        requires left { IsPointer self.now left }
+        requires right { IsPointer self.now right }
+        ensures { result ≡ differ_of self.now left right }
+    {
+        arithmetic::differ(&self.spans, left, right)
+    }
+
+    /// Whether the one place in an object comes before the other (6.5.8p5): U8, U10.
+    pub fn less(&self, left: Pointer, right: Pointer) -> Result<bool, Trap>
+        requires left { IsPointer self.now left }
+        requires right { IsPointer self.now right }
+        ensures { result ≡ less_of self.now left right }
+    {
+        arithmetic::less(&self.spans, left, right)
+    }
+
+    /// Whether two pointers are equal (6.5.9p6): U10, N6.
+    pub fn same(&self, left: Pointer, right: Pointer) -> Result<bool, Trap>
+        requires left { IsPointer self.now left }
+        requires right { IsPointer self.now right }
+        ensures { result ≡ same_of self.now left right }
+    {
+        arithmetic::same(&self.spans, left, right)
     }
 }
