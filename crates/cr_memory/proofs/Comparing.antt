@@ -26,7 +26,7 @@ first_case : {A : Type 0} (ended ended' : Bool) (rest rest' : Result A Trap) →
 first_case true ended' rest rest' e same = rw (← e) refl
 first_case false ended' rest rest' e same = rw (← e) (same refl)
 
-either_ended : (most : ℕ) (spans : List Span) (cells : List Cell) (shape : List (Scalar × Guard)) (left right : Pointer)
+pub either_ended : (most : ℕ) (spans : List Span) (cells : List Cell) (shape : List (Scalar × Guard)) (left right : Pointer)
   → (ended_in spans left || ended_in spans right) ≡ (has_ended (memory_of most spans cells shape) left || has_ended (memory_of most spans cells shape) right)
 either_ended most spans cells shape left right =
   ap (λ b. b || ended_in spans right) (sym (has_ended-memory_of most spans cells shape left))
@@ -47,7 +47,7 @@ flat_less-is most spans cells shape left right = first_case _ _ _ _ (either_ende
 
 -- ---- equality
 
-neither : (a b : Bool) → (a || b) ≡ false → (a ≡ false) × (b ≡ false)
+pub neither : (a b : Bool) → (a || b) ≡ false → (a ≡ false) × (b ≡ false)
 neither true b e = absurd (cc e)
 neither false b e = (refl, e)
 

@@ -2,3 +2,5 @@ pub mod Overwriting
 pub mod View
 pub mod Reaching
 pub mod Comparing
+pub mod Writing
+pub mod Storing

@@ -153,7 +153,7 @@ run-whole xs first count place size h =
   ∙ ap (take size) (drop-drop place first xs)
 
 -- a whole element lies before the end
-stride_fits : (cell high stride : ℕ) → 1 ≤ stride → cell < high → (high - cell) % stride ≡ 0 → cell + stride ≤ high
+pub stride_fits : (cell high stride : ℕ) → 1 ≤ stride → cell < high → (high - cell) % stride ≡ 0 → cell + stride ≤ high
 stride_fits cell high stride one below whole = by_test (nat_le (cell + stride) high) refl
   where
   by_test : (b : Bool) → nat_le (cell + stride) high ≡ b → cell + stride ≤ high
@@ -193,7 +193,7 @@ flat_cells-is most spans cells shape from kinds room h stride =
   same_access (ended_in spans from) (has_ended (memory_of most spans cells shape) from) (is_null_or_end from) _ _ (sym (has_ended-memory_of most spans cells shape from))
   (λ live inside. let r = reached_run most spans cells shape from (length kinds) room h stride live inside in rw (r.cells_run, r.shape_run) refl)
 
-both_true : (a b : Bool) → (a && b) ≡ true → (a ≡ true) × (b ≡ true)
+pub both_true : (a b : Bool) → (a && b) ≡ true → (a ≡ true) × (b ≡ true)
 both_true true b e = (refl, e)
 both_true false b e = absurd (cc e)
 

@@ -1,5 +1,5 @@
 -- What the flat store shows as a memory.
-use Rattle.std.proofs.Common.{◌≡◌, ℕ, zero, suc, ◌+◌, ◌<◌, ◌≤◌, Bool, true, false, not, is_none, nat_le, ◌⊎◌, inl, inr, Option, Some, None, Result, Ok, Err, IfOk, List, [], ◌∷◌, map, length, get_or, take, drop, if◌then◌else◌, refl, sym, ap, ◌∙◌, arith, length-drop}
+use Rattle.std.proofs.Common.{◌≡◌, ℕ, zero, suc, ◌+◌, ◌<◌, ◌≤◌, Bool, true, false, not, is_none, nat_le, ◌⊎◌, inl, inr, Option, Some, None, Result, Ok, Err, IfOk, List, [], ◌∷◌, map, length, get_or, take, drop, if◌then◌else◌, refl, sym, ap, ◌∙◌, subst, arith, length-drop}
 use Rattle.std.proofs.lemmas.List.{length-map, length-take-le, get_or-take, get_or-drop}
 use Rattle.cr_memory.specs.declared.value.Pointer.{Pointer}
 use Rattle.cr_memory.specs.declared.value.Pointer.TheVariants.{Null, At}
@@ -114,3 +114,8 @@ holds_in most spans cells shape (PointerKind to) (PointerCell pointer) room h = 
 pub pointer_seen : (most : ℕ) (spans : List Span) (cells : List Cell) (shape : List (Scalar × Guard)) (memory : Memory) (pointer : Pointer)
   → memory_of most spans cells shape ≡ memory → HasRoom spans (length cells) → IsPointer memory pointer → PointerIn spans pointer
 pointer_seen most spans cells shape memory pointer view room h = pointer_in most spans cells shape pointer room (rw view h)
+
+pub holds_seen : (most : ℕ) (spans : List Span) (cells : List Cell) (shape : List (Scalar × Guard)) (memory : Memory) (kind : Scalar) (cell : Cell)
+  → memory_of most spans cells shape ≡ memory → HasRoom spans (length cells) → Holds memory kind cell → HoldsIn spans kind cell
+holds_seen most spans cells shape memory kind cell view room h =
+  let P : Memory → Type 0 = λ m. Holds m kind cell in holds_in most spans cells shape kind cell room (subst P (sym view) h)

@@ -40,12 +40,16 @@ some_object (Some object) = object
 abbrev pub object_at : Memory → Pointer → Object
 object_at memory at = some_object (live_object memory (number_of at))
 
+-- the kind and the guard of an object's cell
+abbrev pub shape_in : Memory → ℕ → ℕ → Scalar × Guard
+shape_in memory number place = slice_index_or (some_object (live_object memory number)).shape place (PointerKind 0, Free)
+
 -- the cell that the pointer points to, its kind and its guard
 abbrev pub cell_at : Memory → Pointer → Cell
 cell_at memory at = slice_index_or (object_at memory at).cells (cell_of at) Unset
 
 abbrev pub shape_at : Memory → Pointer → Scalar × Guard
-shape_at memory at = slice_index_or (object_at memory at).shape (cell_of at) (PointerKind 0, Free)
+shape_at memory at = shape_in memory (number_of at) (cell_of at)
 
 -- as many cells from there on, and their shape
 abbrev pub cells_at : Memory → Pointer → ℕ → List Cell

@@ -109,7 +109,7 @@ pub record IsStored (most live top : ℕ) (spans : List Span) (cells : List Cell
   -- from `top` on no object lives; a span's link jumps over objects that don't live
   pub top_entered : top ≤ length spans
   pub above : (number : ℕ) → top ≤ number → (span_at spans number).alive ≡ false
-  pub links : (number between : ℕ) → (span_at spans number).below ≤ between → between < number → (span_at spans between).alive ≡ false
+  pub links : (number between : ℕ) → number < length spans → (span_at spans number).below ≤ between → between < number → (span_at spans between).alive ≡ false
   pub links_down : (number : ℕ) → (span_at spans number).below ≤ number
   pub holds : (index : ℕ) → index < length cells → HoldsIn spans (shape_or shape index).0 (cell_or cells index)
 

@@ -1,8 +1,8 @@
-ghost use Rattle.std.specs.Prelude.{◌≡◌, ◌<◌, ◌≤◌, ◌↔◌, ℕ, ◌+◌, length, true, false, map, take, drop, IsNone, IfSome, IfOk, OnErr};
+ghost use Rattle.std.specs.Prelude.{◌≡◌, ◌<◌, ◌≤◌, ◌↔◌, ℕ, ◌+◌, length, true, false, map, take, drop, slice_set, IsNone, IfSome, IfOk, OnErr};
 ghost use Rattle.std.specs.List.{list_any};
 ghost use Rattle.cr_memory.specs.Kind.{is_same};
 ghost use Rattle.cr_memory.specs.Access.{is_null_or_end, is_literal, is_constant, have_kinds, have_same_kinds, overwritten, Writes, Reads, HasStride};
-ghost use Rattle.cr_memory.specs.Flat.{ended_in, held_ended_in, index_of, PointerIn, CellIn, HasRoom, cell_or, flat_load, flat_save, flat_copy, flat_cells};
+ghost use Rattle.cr_memory.specs.Flat.{span_at, ended_in, held_ended_in, index_of, PointerIn, CellIn, HasRoom, cell_or, flat_load, flat_save, flat_copy, flat_cells};
 
 use std::alloc::Global;
 
@@ -237,4 +237,19 @@ pub(crate) fn cells(
         Ok(copy) => Ok(copy),
         Err(_) => Err(Trap::NoMemory),
     }
+}
+
+/// Sets a cell of a live object, whatever its guard.
+pub(crate) fn begin(
+    spans: &Vec<Span>,
+    cells: &mut Vec<Cell>,
+    object: u32,
+    cell: u32,
+    value: Cell,
+)
+    requires entered { object < length spans.now.items }
+    requires within { (span_at spans.now.items object).first + cell < length cells.old.items }
+    ensures { cells.new.items ≡ slice_set cells.old.items ((span_at spans.now.items object).first + cell) value }
+{
+    cells[spans[object as usize].first + cell as usize] = value;
 }

@@ -1,6 +1,6 @@
-ghost use Rattle.std.specs.Prelude.{◌≡◌, ◌<◌, ◌↔◌, [], false, length, IsSome, IfOk, OnErr, IsErrOf};
-ghost use Rattle.cr_memory.specs.Memory.{IsPointer, Holds, AllHold, KeepsPointers, live_object, has_room, new_object, with_object, without_object};
-ghost use Rattle.cr_memory.specs.Access.{load_of, save_of, copy_of, cells_of, Writes, Reads, HasStride};
+ghost use Rattle.std.specs.Prelude.{◌≡◌, ◌<◌, ◌↔◌, [], ◌∷◌, false, length, IsSome, IfOk, OnErr, IsErrOf};
+ghost use Rattle.cr_memory.specs.Memory.{IsPointer, Holds, AllHold, KeepsPointers, live_object, count_of, has_room, new_object, with_object, without_object};
+ghost use Rattle.cr_memory.specs.Access.{load_of, save_of, copy_of, cells_of, shape_in, with_cells, Writes, Reads, HasStride};
 ghost use Rattle.cr_memory.specs.Pointers.{shift_of, differ_of, less_of, same_of};
 
 use std::alloc::Global;
@@ -106,5 +106,37 @@ impl Store {
         ensures { result ≡ same_of self.now left right }
     {
         arithmetic::same(&self.spans, left, right)
+    }
+
+    /// Stores a value in a scalar object (6.5.16p3): U9, U10, U13, U14, N5.
+    pub fn save(&mut self, at: Pointer, kind: Scalar, value: Cell) -> Result<(), Trap>
+        requires pointer { IsPointer self.old at }
+        requires value { Holds self.old kind value }
+        ensures written { Writes (save_of self.old at kind value) result self.old self.new }
+        ensures kept { KeepsPointers self.old self.new }
+    {
+        flat::save(&self.spans, &mut self.cells, &self.shape, at, kind, value)
+    }
+
+    /// Stores a structure in another one (6.5.16.1p2): U9, U10 of the two pointers alone, U13, U14, N5.
+    pub fn copy(&mut self, from: Pointer, to: Pointer, count: u32) -> Result<(), Trap>
+        requires from { IsPointer self.old from }
+        requires to { IsPointer self.old to }
+        requires from_stride { HasStride from count }
+        requires to_stride { HasStride to count }
+        ensures written { Writes (copy_of self.old from to count) result self.old self.new }
+        ensures kept { KeepsPointers self.old self.new }
+    {
+        flat::copy(&self.spans, &mut self.cells, &self.shape, from, to, count)
+    }
+
+    /// Initialises a cell of a live object, whatever its guard (6.7.9).
+    pub fn begin(&mut self, object: u32, cell: u32, value: Cell)
+        requires live { cell < count_of (live_object self.old object) }
+        requires value { Holds self.old (shape_in self.old object cell).0 value }
+        ensures begun { self.new ≡ with_cells self.old object cell (value ∷ []) }
+        ensures kept { KeepsPointers self.old self.new }
+    {
+        flat::begin(&self.spans, &mut self.cells, object, cell, value)
     }
 }
