@@ -4,3 +4,5 @@ pub mod Reaching
 pub mod Comparing
 pub mod Writing
 pub mod Storing
+pub mod Lifetimes
+pub mod Ending

@@ -81,7 +81,7 @@ other_object cells written shape span (inl alive) h =
 other_object cells written shape span (inr ended) h = object_of-ended written shape span ended ∙ sym (object_of-ended cells shape span ended)
 
 -- which of two numbers is the lesser
-lesser : (m n : ℕ) → m ≢ n → (m < n) ⊎ (n < m)
+pub lesser : (m n : ℕ) → m ≢ n → (m < n) ⊎ (n < m)
 lesser zero zero h = absurd (h refl)
 lesser zero (suc n) h = inl (omega arith)
 lesser (suc m) zero h = inr (omega arith)
@@ -163,7 +163,7 @@ held_overwritten spans cells shape place (v ∷ vs) h r i b =
 
 -- ---- a live cell
 
-entered_if_alive : (spans : List Span) (number : ℕ) → (span_at spans number).alive ≡ true → number < length spans
+pub entered_if_alive : (spans : List Span) (number : ℕ) → (span_at spans number).alive ≡ true → number < length spans
 entered_if_alive [] number e = absurd (cc e)
 entered_if_alive (s ∷ spans) zero e = omega arith
 entered_if_alive (s ∷ spans) (suc number) e = let h = entered_if_alive spans number e in omega arith
@@ -212,3 +212,11 @@ held_by_live most spans cells shape memory number place value view room live h =
   let Q : Scalar × Guard → Type 0 = λ k. HoldsIn spans k.0 value in
   subst Q (kind_of_live most spans cells shape number place live)
   (holds_in most spans cells shape (shape_in (memory_of most spans cells shape) number place).0 value room (subst P (sym view) h))
+
+-- before, at or after
+pub three_ways : (m n : ℕ) → (m < n) ⊎ ((m ≡ n) ⊎ (n < m))
+three_ways m n = by_test (same_or_not m n)
+  where
+  by_test : (m ≡ n) ⊎ (m ≢ n) → (m < n) ⊎ ((m ≡ n) ⊎ (n < m))
+  by_test (inl e) = inr (inl e)
+  by_test (inr h) = elim (lesser m n h) [ inl l ↦ inl l | inr r ↦ inr (inr r) ]

@@ -1,5 +1,5 @@
 -- How the store keeps a memory: the cells of all objects one after another, and for each object the span of its cells.
-use Rattle.std.specs.Prelude.{◌≡◌, ◌==◌, ℤ, ℕ, ◌+◌, ◌-◌, ◌%◌, sum_by, ◌<◌, ◌≤◌, Bool, true, false, ◌&&◌, ◌||◌, not, nat_le, Option, Some, None, Result, Ok, Err, List, [], ◌∷◌, map, length, take, drop, slice_index_or, slice_set, if◌then◌else◌}
+use Rattle.std.specs.Prelude.{◌≡◌, ◌==◌, ℤ, ℕ, zero, suc, ◌+◌, ◌-◌, ◌%◌, sum_by, ◌<◌, ◌≤◌, Bool, true, false, ◌&&◌, ◌||◌, not, nat_le, Option, Some, None, Result, Ok, Err, List, [], ◌∷◌, map, length, take, drop, slice_index_or, slice_set, if◌then◌else◌}
 use Rattle.std.specs.List.{list_any}
 use Rattle.cr_ints.specs.IntKind.{Represents}
 use Rattle.cr_memory.specs.declared.value.Pointer.{Pointer}
@@ -96,6 +96,18 @@ shape_or shape index = slice_index_or shape index (PointerKind 0, Free)
 
 abbrev pub span_count : Span → ℕ
 span_count span = if span.alive then span.count else 0
+
+-- the span of a new object; and a span whose object's lifetime has ended
+abbrev pub span_of : ℕ → ℕ → ℕ → Span
+span_of first count below = record { first = first; count = count; below = below; alive = true }
+
+abbrev pub ended_span : Span → Span
+ended_span span = record { first = span.first; count = span.count; below = span.below; alive = false }
+
+-- where the cells of the objects below a number end, the last of which lives
+abbrev pub end_of : List Span → ℕ → ℕ
+end_of spans zero = 0
+end_of spans (suc last) = (span_at spans last).first + (span_at spans last).count
 
 -- what holds of the store at every moment
 pub record IsStored (most live top : ℕ) (spans : List Span) (cells : List Cell) (shape : List (Scalar × Guard)) : Type 0 where

@@ -3,6 +3,7 @@
 
 mod arithmetic;
 mod flat;
+mod lifetime;
 mod span;
 mod store;
 mod value;

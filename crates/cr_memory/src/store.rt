@@ -1,4 +1,4 @@
-ghost use Rattle.std.specs.Prelude.{◌≡◌, ◌<◌, ◌↔◌, [], ◌∷◌, false, length, IsSome, IfOk, OnErr, IsErrOf};
+ghost use Rattle.std.specs.Prelude.{◌≡◌, ◌<◌, ◌↔◌, [], ◌∷◌, false, length, IsSome, ◌⊎◌, IfOk, IfErr, OnErr};
 ghost use Rattle.cr_memory.specs.Memory.{IsPointer, Holds, AllHold, KeepsPointers, live_object, count_of, has_room, new_object, with_object, without_object};
 ghost use Rattle.cr_memory.specs.Access.{load_of, save_of, copy_of, cells_of, shape_in, with_cells, Writes, Reads, HasStride};
 ghost use Rattle.cr_memory.specs.Pointers.{shift_of, differ_of, less_of, same_of};
@@ -8,8 +8,9 @@ use std::marker::Model;
 
 use crate::arithmetic;
 use crate::flat;
+use crate::lifetime;
 use crate::span::Span;
-use crate::value::{Cell, Guard, Pointer, Scalar, Trap};
+use crate::value::{Cell, Guard, NO_ROOM, Pointer, Scalar, Trap};
 
 /// The memory of a running program: objects of cells, each with its kind and its guard.
 #[derive(Drop)]
@@ -138,5 +139,43 @@ impl Store {
         ensures kept { KeepsPointers self.old self.new }
     {
         flat::begin(&self.spans, &mut self.cells, object, cell, value)
+    }
+
+    /// Enters an object, its cells zero or null where `zero`, and else unset. N3: `Left(3)` comes exactly where more cells
+    /// would live than the store may hold, or 4,294,967,295 objects were entered before.
+    pub fn enter(&mut self, shape: &[(Scalar, Guard)], zero: bool) -> Result<u32, Trap>
+        ensures entered { IfOk result (λ number. (number ≡ length self.old.objects) × (self.new ≡ with_object self.old (new_object zero shape.now))) }
+
+        ensures no_room { (result ≡ Err (Trap.Left NO_ROOM)) ↔ (has_room self.old (length shape.now) ≡ false) }
+        ensures causes { IfErr result (λ trap. (trap ≡ Trap.Left NO_ROOM) ⊎ (trap ≡ Trap.NoMemory)) }
+        ensures refused { OnErr result (self.new ≡ self.old) }
+
+        ensures kept { KeepsPointers self.old self.new }
+    {
+        let count = shape.len();
+        if !lifetime::has_room(&self.spans, self.most, self.live, count) {
+            return Err(Trap::Left(NO_ROOM));
+        }
+        match lifetime::enter(&mut self.spans, &mut self.cells, &mut self.shape, self.top, shape, zero) {
+            Ok(number) => {
+                self.live += count as u32;
+                self.top = number + 1;
+                Ok(number)
+            }
+            Err(_) => Err(Trap::NoMemory),
+        }
+    }
+
+    /// Ends the lifetime of a live object (6.2.4p2).
+    pub fn leave(&mut self, object: u32)
+        requires { IsSome (live_object self.old object) }
+        ensures ended { self.new ≡ without_object self.old object }
+        ensures kept { KeepsPointers self.old self.new }
+    {
+        self.live -= lifetime::end_object(&mut self.spans, object);
+        self.top = lifetime::top_below(&self.spans, self.top);
+        let end = lifetime::end(&self.spans, self.top);
+        self.cells.truncate(end);
+        self.shape.truncate(end);
     }
 }
