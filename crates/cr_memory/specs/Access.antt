@@ -1,12 +1,12 @@
 -- Reading and writing through a pointer. Each operation gives its result, or the first case that holds in the order in
 -- which the cases stand in its equation.
-use Rattle.std.specs.Prelude.{◌≡◌, ℕ, zero, suc, ◌+◌, ◌==◌, Bool, true, false, ◌&&◌, ◌||◌, not, nat_le, Option, Some, None, Result, Ok, Err, IsOk, List, [], ◌∷◌, length, take, drop, slice_index_or, slice_set, if◌then◌else◌}
+use Rattle.std.specs.Prelude.{◌≡◌, ℕ, suc, Bool, true, false, ◌||◌, not, nat_le, Option, Some, None, Result, Ok, Err, IsOk, List, [], ◌∷◌, length, take, drop, slice_index_or, slice_set, if◌then◌else◌}
 use Rattle.std.specs.Global.{Vec}
 use Rattle.std.specs.List.{list_any, list_all, zip}
 use Rattle.cr_memory.specs.declared.value.Pointer.{Pointer}
 use Rattle.cr_memory.specs.declared.value.Pointer.TheVariants.{Null, At}
 use Rattle.cr_memory.specs.declared.value.Scalar.{Scalar}
-use Rattle.cr_memory.specs.declared.value.Scalar.TheVariants.{Int as IntegerKind, Pointer as PointerKind}
+use Rattle.cr_memory.specs.declared.value.Scalar.TheVariants.{Pointer as PointerKind}
 use Rattle.cr_memory.specs.declared.value.Cell.{Cell}
 use Rattle.cr_memory.specs.declared.value.Cell.TheVariants.{Unset, Number, Pointer as PointerCell}
 use Rattle.cr_memory.specs.declared.value.Guard.{Guard}
@@ -98,49 +98,49 @@ overwritten cells place (cell ∷ rest) = overwritten (slice_set cells place cel
 -- the cells stand in an object from a place on; kinds and guards stay, and so do all other objects
 abbrev pub with_cells : Memory → ℕ → ℕ → List Cell → Memory
 with_cells memory number place cells =
-  let object = some_object (live_object memory number) in
-  let written : Object = record { cells = overwritten object.cells place cells; shape = object.shape } in
-  record { most = memory.most; objects = slice_set memory.objects number (Some written) }
+    let object = some_object (live_object memory number) in
+    let written : Object = record { cells = overwritten object.cells place cells; shape = object.shape } in
+    record { most = memory.most; objects = slice_set memory.objects number (Some written) }
 
 -- ---- the operations
 
 -- the value of a scalar object (6.3.2.1p2)
 abbrev pub load_of : Memory → Pointer → Scalar → Result Cell Trap
 load_of memory at kind =
-  if has_ended memory at then Err (Undefined ENDED)
-  else (if is_null_or_end at then Err (Undefined NULL_OR_END)
-  else (if holds_ended memory (cell_at memory at) then Err (Undefined ENDED)
-  else (if not (is_same (shape_at memory at).0 kind) then Err (Left OTHER_TYPE)
-  else (if is_unset (cell_at memory at) then Err (Undefined UNSET)
-  else Ok (cell_at memory at)))))
+    if has_ended memory at then Err (Undefined ENDED)
+    else (if is_null_or_end at then Err (Undefined NULL_OR_END)
+    else (if holds_ended memory (cell_at memory at) then Err (Undefined ENDED)
+    else (if not (is_same (shape_at memory at).0 kind) then Err (Left OTHER_TYPE)
+    else (if is_unset (cell_at memory at) then Err (Undefined UNSET)
+    else Ok (cell_at memory at)))))
 
 -- a value stored in a scalar object (6.5.16p3)
 abbrev pub save_of : Memory → Pointer → Scalar → Cell → Result Memory Trap
 save_of memory at kind value =
-  if has_ended memory at then Err (Undefined ENDED)
-  else (if is_null_or_end at then Err (Undefined NULL_OR_END)
-  else (if is_literal (shape_at memory at).1 then Err (Undefined LITERAL_WRITTEN)
-  else (if is_constant (shape_at memory at).1 then Err (Undefined CONSTANT_WRITTEN)
-  else (if not (is_same (shape_at memory at).0 kind) then Err (Left OTHER_TYPE)
-  else Ok (with_cells memory (number_of at) (cell_of at) (value ∷ []))))))
+    if has_ended memory at then Err (Undefined ENDED)
+    else (if is_null_or_end at then Err (Undefined NULL_OR_END)
+    else (if is_literal (shape_at memory at).1 then Err (Undefined LITERAL_WRITTEN)
+    else (if is_constant (shape_at memory at).1 then Err (Undefined CONSTANT_WRITTEN)
+    else (if not (is_same (shape_at memory at).0 kind) then Err (Left OTHER_TYPE)
+    else Ok (with_cells memory (number_of at) (cell_of at) (value ∷ []))))))
 
 -- a structure stored in another one of as many cells (6.5.16.1p2, 6.2.6.1p6): all cells are read before one is written
 abbrev pub copy_of : Memory → Pointer → Pointer → ℕ → Result Memory Trap
 copy_of memory from to count =
-  if has_ended memory from || has_ended memory to then Err (Undefined ENDED)
-  else (if is_null_or_end from || is_null_or_end to then Err (Undefined NULL_OR_END)
-  else (if list_any (λ s. is_literal s.1) (shape_run_at memory to count) then Err (Undefined LITERAL_WRITTEN)
-  else (if list_any (λ s. is_constant s.1) (shape_run_at memory to count) then Err (Undefined CONSTANT_WRITTEN)
-  else (if not (have_same_kinds (shape_run_at memory from count) (shape_run_at memory to count)) then Err (Left OTHER_TYPE)
-  else Ok (with_cells memory (number_of to) (cell_of to) (cells_at memory from count))))))
+    if has_ended memory from || has_ended memory to then Err (Undefined ENDED)
+    else (if is_null_or_end from || is_null_or_end to then Err (Undefined NULL_OR_END)
+    else (if list_any (λ s. is_literal s.1) (shape_run_at memory to count) then Err (Undefined LITERAL_WRITTEN)
+    else (if list_any (λ s. is_constant s.1) (shape_run_at memory to count) then Err (Undefined CONSTANT_WRITTEN)
+    else (if not (have_same_kinds (shape_run_at memory from count) (shape_run_at memory to count)) then Err (Left OTHER_TYPE)
+    else Ok (with_cells memory (number_of to) (cell_of to) (cells_at memory from count))))))
 
 -- the cells of a structure (6.2.6.1p6), as many as there are kinds
 abbrev pub cells_of : Memory → Pointer → List Scalar → Result (List Cell) Trap
 cells_of memory from kinds =
-  if has_ended memory from then Err (Undefined ENDED)
-  else (if is_null_or_end from then Err (Undefined NULL_OR_END)
-  else (if not (have_kinds (shape_run_at memory from (length kinds)) kinds) then Err (Left OTHER_TYPE)
-  else Ok (cells_at memory from (length kinds))))
+    if has_ended memory from then Err (Undefined ENDED)
+    else (if is_null_or_end from then Err (Undefined NULL_OR_END)
+    else (if not (have_kinds (shape_run_at memory from (length kinds)) kinds) then Err (Left OTHER_TYPE)
+    else Ok (cells_at memory from (length kinds))))
 
 -- a call that writes: it leaves the state that the operation gives, or its case and the state as it was
 abbrev pub Writes : {State : Type 0} → Result State Trap → Result (Unit {0}) Trap → State → State → Type 0

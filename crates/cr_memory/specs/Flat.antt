@@ -1,5 +1,5 @@
 -- How the store keeps a memory: the cells of all objects one after another, and for each object the span of its cells.
-use Rattle.std.specs.Prelude.{◌≡◌, ◌==◌, ℤ, ℕ, zero, suc, ◌+◌, ◌-◌, ◌%◌, sum_by, ◌<◌, ◌≤◌, Bool, true, false, ◌&&◌, ◌||◌, not, nat_le, Option, Some, None, Result, Ok, Err, List, [], ◌∷◌, map, length, take, drop, slice_index_or, slice_set, if◌then◌else◌}
+use Rattle.std.specs.Prelude.{◌≡◌, ◌==◌, ℤ, ℕ, zero, suc, ◌+◌, ◌-◌, ◌%◌, sum_by, ◌<◌, ◌≤◌, Bool, true, false, ◌||◌, not, Option, Some, None, Result, Ok, Err, List, map, length, take, drop, slice_index_or, slice_set, if◌then◌else◌}
 use Rattle.std.specs.List.{list_any}
 use Rattle.cr_ints.specs.IntKind.{Represents}
 use Rattle.cr_memory.specs.declared.value.Pointer.{Pointer}
@@ -25,9 +25,9 @@ span_at spans number = slice_index_or spans number (record { first = 0; count = 
 -- the object of a span
 abbrev pub object_of : List Cell → List (Scalar × Guard) → Span → Option Object
 object_of cells shape span =
-  if span.alive
-  then Some (record { cells = take span.count (drop span.first cells); shape = take span.count (drop span.first shape) })
-  else None
+    if span.alive
+    then Some (record { cells = take span.count (drop span.first cells); shape = take span.count (drop span.first shape) })
+    else None
 
 abbrev pub memory_of : ℕ → List Span → List Cell → List (Scalar × Guard) → Memory
 memory_of most spans cells shape = record { most = most; objects = map (object_of cells shape) spans }
@@ -115,7 +115,7 @@ pub record IsStored (most live top : ℕ) (spans : List Span) (cells : List Cell
   pub room : HasRoom spans (length cells)
   -- a live span ends before a later live one begins
   pub apart : (left right : ℕ) → left < right → (span_at spans left).alive ≡ true → (span_at spans right).alive ≡ true
-    → (span_at spans left).first + (span_at spans left).count ≤ (span_at spans right).first
+      → (span_at spans left).first + (span_at spans left).count ≤ (span_at spans right).first
   pub counted : live ≡ sum_by span_count spans
   pub at_most : live ≤ most
   -- from `top` on no object lives; a span's link jumps over objects that don't live
@@ -129,62 +129,62 @@ pub record IsStored (most live top : ℕ) (spans : List Span) (cells : List Cell
 
 abbrev pub flat_load : List Span → List Cell → List (Scalar × Guard) → Pointer → Scalar → Result Cell Trap
 flat_load spans cells shape at kind =
-  let cell = cell_or cells (index_of spans at) in
-  let own = shape_or shape (index_of spans at) in
-  if ended_in spans at then Err (Undefined ENDED)
-  else (if is_null_or_end at then Err (Undefined NULL_OR_END)
-  else (if held_ended_in spans cell then Err (Undefined ENDED)
-  else (if not (is_same own.0 kind) then Err (Left OTHER_TYPE)
-  else (if is_unset cell then Err (Undefined UNSET)
-  else Ok cell))))
+    let cell = cell_or cells (index_of spans at) in
+    let own = shape_or shape (index_of spans at) in
+    if ended_in spans at then Err (Undefined ENDED)
+    else (if is_null_or_end at then Err (Undefined NULL_OR_END)
+    else (if held_ended_in spans cell then Err (Undefined ENDED)
+    else (if not (is_same own.0 kind) then Err (Left OTHER_TYPE)
+    else (if is_unset cell then Err (Undefined UNSET)
+    else Ok cell))))
 
 abbrev pub flat_save : List Span → List Cell → List (Scalar × Guard) → Pointer → Scalar → Cell → Result (List Cell) Trap
 flat_save spans cells shape at kind value =
-  let own = shape_or shape (index_of spans at) in
-  if ended_in spans at then Err (Undefined ENDED)
-  else (if is_null_or_end at then Err (Undefined NULL_OR_END)
-  else (if is_literal own.1 then Err (Undefined LITERAL_WRITTEN)
-  else (if is_constant own.1 then Err (Undefined CONSTANT_WRITTEN)
-  else (if not (is_same own.0 kind) then Err (Left OTHER_TYPE)
-  else Ok (slice_set cells (index_of spans at) value)))))
+    let own = shape_or shape (index_of spans at) in
+    if ended_in spans at then Err (Undefined ENDED)
+    else (if is_null_or_end at then Err (Undefined NULL_OR_END)
+    else (if is_literal own.1 then Err (Undefined LITERAL_WRITTEN)
+    else (if is_constant own.1 then Err (Undefined CONSTANT_WRITTEN)
+    else (if not (is_same own.0 kind) then Err (Left OTHER_TYPE)
+    else Ok (slice_set cells (index_of spans at) value)))))
 
 abbrev pub flat_copy : List Span → List Cell → List (Scalar × Guard) → Pointer → Pointer → ℕ → Result (List Cell) Trap
 flat_copy spans cells shape from to count =
-  let own = take count (drop (index_of spans to) shape) in
-  if ended_in spans from || ended_in spans to then Err (Undefined ENDED)
-  else (if is_null_or_end from || is_null_or_end to then Err (Undefined NULL_OR_END)
-  else (if list_any (λ s. is_literal s.1) own then Err (Undefined LITERAL_WRITTEN)
-  else (if list_any (λ s. is_constant s.1) own then Err (Undefined CONSTANT_WRITTEN)
-  else (if not (have_same_kinds (take count (drop (index_of spans from) shape)) own) then Err (Left OTHER_TYPE)
-  else Ok (overwritten cells (index_of spans to) (take count (drop (index_of spans from) cells)))))))
+    let own = take count (drop (index_of spans to) shape) in
+    if ended_in spans from || ended_in spans to then Err (Undefined ENDED)
+    else (if is_null_or_end from || is_null_or_end to then Err (Undefined NULL_OR_END)
+    else (if list_any (λ s. is_literal s.1) own then Err (Undefined LITERAL_WRITTEN)
+    else (if list_any (λ s. is_constant s.1) own then Err (Undefined CONSTANT_WRITTEN)
+    else (if not (have_same_kinds (take count (drop (index_of spans from) shape)) own) then Err (Left OTHER_TYPE)
+    else Ok (overwritten cells (index_of spans to) (take count (drop (index_of spans from) cells)))))))
 
 abbrev pub flat_cells : List Span → List Cell → List (Scalar × Guard) → Pointer → List Scalar → Result (List Cell) Trap
 flat_cells spans cells shape from kinds =
-  if ended_in spans from then Err (Undefined ENDED)
-  else (if is_null_or_end from then Err (Undefined NULL_OR_END)
-  else (if not (have_kinds (take (length kinds) (drop (index_of spans from) shape)) kinds) then Err (Left OTHER_TYPE)
-  else Ok (take (length kinds) (drop (index_of spans from) cells))))
+    if ended_in spans from then Err (Undefined ENDED)
+    else (if is_null_or_end from then Err (Undefined NULL_OR_END)
+    else (if not (have_kinds (take (length kinds) (drop (index_of spans from) shape)) kinds) then Err (Left OTHER_TYPE)
+    else Ok (take (length kinds) (drop (index_of spans from) cells))))
 
 abbrev pub flat_shift : List Span → Pointer → ℤ → Result Pointer Trap
 flat_shift spans at by = if ended_in spans at then Err (Undefined ENDED) else moved_by at by
 
 abbrev pub flat_differ : List Span → Pointer → Pointer → Result ℤ Trap
 flat_differ spans left right =
-  if ended_in spans left || ended_in spans right then Err (Undefined ENDED) else difference_of left right
+    if ended_in spans left || ended_in spans right then Err (Undefined ENDED) else difference_of left right
 
 abbrev pub flat_less : List Span → Pointer → Pointer → Result Bool Trap
 flat_less spans left right =
-  if ended_in spans left || ended_in spans right then Err (Undefined ENDED) else order_of left right
+    if ended_in spans left || ended_in spans right then Err (Undefined ENDED) else order_of left right
 
 abbrev pub flat_equality : List Span → Pointer → Pointer → Result Bool Trap
 flat_equality spans Null Null = Ok true
 flat_equality spans Null (At object cell low high stride) = Ok false
 flat_equality spans (At object cell low high stride) Null = Ok false
 flat_equality spans (At object cell low high stride) (At object' cell' low' high' stride') =
-  if object == object' then Ok (cell == cell')
-  else (if ((span_at spans object).count == cell) || ((span_at spans object').count == cell') then Err (Left END_COMPARED)
-  else Ok false)
+    if object == object' then Ok (cell == cell')
+    else (if ((span_at spans object).count == cell) || ((span_at spans object').count == cell') then Err (Left END_COMPARED)
+    else Ok false)
 
 abbrev pub flat_same : List Span → Pointer → Pointer → Result Bool Trap
 flat_same spans left right =
-  if ended_in spans left || ended_in spans right then Err (Undefined ENDED) else flat_equality spans left right
+    if ended_in spans left || ended_in spans right then Err (Undefined ENDED) else flat_equality spans left right

@@ -1,5 +1,5 @@
 -- The memory of a program (C11 6.2.4, 6.2.6): its objects by their numbers, with the cells of each.
-use Rattle.std.specs.Prelude.{◌≡◌, ℕ, ◌+◌, ◌-◌, ◌<◌, ◌≤◌, ◌%◌, ℤ, pos, Bool, true, false, not, is_none, Option, Some, None, List, [], ◌∷◌, ◌++◌, map, length, sum_by, nat_le, nat_lt, ◌&&◌, slice_set, slice_index_or, if◌then◌else◌}
+use Rattle.std.specs.Prelude.{◌≡◌, ℕ, ◌+◌, ◌-◌, ◌<◌, ◌≤◌, ◌%◌, pos, Bool, false, is_none, Option, Some, None, List, [], ◌∷◌, ◌++◌, map, length, sum_by, nat_le, nat_lt, ◌&&◌, slice_set, slice_index_or, if◌then◌else◌}
 use Rattle.cr_ints.specs.IntKind.{Represents}
 use Rattle.cr_memory.specs.declared.value.Pointer.{Pointer}
 use Rattle.cr_memory.specs.declared.value.Pointer.TheVariants.{Null, At}

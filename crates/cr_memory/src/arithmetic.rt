@@ -4,19 +4,36 @@ ghost use Rattle.cr_memory.specs.Flat.{span_at, PointerIn, HasSubscript, flat_sh
 
 use crate::flat::has_ended;
 use crate::span::Span;
-use crate::value::{DIFFERENT_ARRAYS, DIFFERENT_OBJECTS, ENDED, END_COMPARED, Pointer, SUM_OUTSIDE, Trap};
+use crate::value::{
+    DIFFERENT_ARRAYS, DIFFERENT_OBJECTS, END_COMPARED, ENDED, Pointer, SUM_OUTSIDE, Trap,
+};
 
 /// The sum of a pointer and a number of elements.
 fn moved(at: Pointer, by: i128) -> Result<Pointer, Trap>
     ensures { result ≡ moved_by at by }
 {
-    let Pointer::At { object, cell, low, high, stride } = at else {
+    let Pointer::At {
+        object,
+        cell,
+        low,
+        high,
+        stride,
+    } = at
+    else {
         return Err(Trap::Undefined(SUM_OUTSIDE));
     };
-    let moved = by.checked_mul(i128::from(stride)).and_then(|cells| cells.checked_add(i128::from(cell)));
+    let moved = by
+        .checked_mul(i128::from(stride))
+        .and_then(|cells| cells.checked_add(i128::from(cell)));
     match moved {
         Some(moved) if i128::from(low) <= moved && moved <= i128::from(high) => {
-            Ok(Pointer::At { object, cell: moved as u32, low, high, stride })
+            Ok(Pointer::At {
+                object,
+                cell: moved as u32,
+                low,
+                high,
+                stride,
+            })
         }
         _ => Err(Trap::Undefined(SUM_OUTSIDE)),
     }
@@ -30,8 +47,20 @@ fn difference(left: Pointer, right: Pointer) -> Result<i128, Trap>
 {
     match (left, right) {
         (
-            Pointer::At { object, cell, low, high, stride },
-            Pointer::At { object: other, cell: cell_r, low: low_r, high: high_r, stride: stride_r },
+            Pointer::At {
+                object,
+                cell,
+                low,
+                high,
+                stride,
+            },
+            Pointer::At {
+                object: other,
+                cell: cell_r,
+                low: low_r,
+                high: high_r,
+                stride: stride_r,
+            },
         ) if object == other && low == low_r && high == high_r => {
             Ok(i128::from((cell - low) / stride) - i128::from((cell_r - low_r) / stride_r))
         }
@@ -44,11 +73,14 @@ fn order(left: Pointer, right: Pointer) -> Result<bool, Trap>
     ensures { result ≡ order_of left right }
 {
     match (left, right) {
-        (Pointer::At { object, cell, .. }, Pointer::At { object: other, cell: cell_r, .. })
-            if object == other =>
-        {
-            Ok(cell < cell_r)
-        }
+        (
+            Pointer::At { object, cell, .. },
+            Pointer::At {
+                object: other,
+                cell: cell_r,
+                ..
+            },
+        ) if object == other => { Ok(cell < cell_r) }
         _ => Err(Trap::Undefined(DIFFERENT_OBJECTS)),
     }
 }
@@ -61,7 +93,14 @@ fn equality(spans: &Vec<Span>, left: Pointer, right: Pointer) -> Result<bool, Tr
 {
     match (left, right) {
         (Pointer::Null, Pointer::Null) => Ok(true),
-        (Pointer::At { object, cell, .. }, Pointer::At { object: other, cell: cell_r, .. }) => {
+        (
+            Pointer::At { object, cell, .. },
+            Pointer::At {
+                object: other,
+                cell: cell_r,
+                ..
+            },
+        ) => {
             if object == other {
                 Ok(cell == cell_r)
             } else if is_last_end(spans, object, cell) || is_last_end(spans, other, cell_r) {
@@ -86,7 +125,11 @@ pub(crate) fn shift(spans: &Vec<Span>, at: Pointer, by: i128) -> Result<Pointer,
     requires { PointerIn spans.now.items at }
     ensures { result ≡ flat_shift spans.now.items at by }
 {
-    if has_ended(spans, at) { Err(Trap::Undefined(ENDED)) } else { moved(at, by) }
+    if has_ended(spans, at) {
+        Err(Trap::Undefined(ENDED))
+    } else {
+        moved(at, by)
+    }
 }
 
 /// The distance of two pointers in elements.

@@ -1,14 +1,15 @@
-ghost use Rattle.std.specs.Prelude.{◌≡◌, ◌<◌, ◌≤◌, ◌↔◌, ℕ, ◌+◌, length, true, false, map, take, drop, slice_set, IsNone, IfSome, IfOk, OnErr};
+ghost use Rattle.std.specs.Prelude.{◌≡◌, ◌<◌, ◌≤◌, ◌↔◌, ℕ, ◌+◌, length, true, false, map, take, drop, slice_set, IsTrue, IsNone, IfNone, IfSome, IfOk, OnErr};
 ghost use Rattle.std.specs.List.{list_any};
 ghost use Rattle.cr_memory.specs.Kind.{is_same};
 ghost use Rattle.cr_memory.specs.Access.{is_null_or_end, is_literal, is_constant, have_kinds, have_same_kinds, overwritten, Writes, Reads, HasStride};
-ghost use Rattle.cr_memory.specs.Flat.{span_at, ended_in, held_ended_in, index_of, PointerIn, CellIn, HasRoom, cell_or, flat_load, flat_save, flat_copy, flat_cells};
-
-use std::alloc::Global;
+ghost use Rattle.cr_memory.specs.Flat.{span_at, ended_in, held_ended_in, index_of, PlaceIn, PointerIn, HoldsIn, CellIn, HasRoom, cell_or, shape_or, flat_load, flat_save, flat_copy, flat_cells};
 
 use crate::span::Span;
-use crate::value::{CONSTANT_WRITTEN, Cell, ENDED, Guard, LITERAL_WRITTEN, NULL_OR_END, OTHER_TYPE, Pointer, Scalar, Trap, UNSET};
-
+use crate::value::{
+    CONSTANT_WRITTEN, Cell, ENDED, Guard, LITERAL_WRITTEN, NULL_OR_END, OTHER_TYPE, Pointer,
+    Scalar, Trap, UNSET,
+};
+use std::alloc::Global;
 
 pub(crate) fn is_same(left: Scalar, right: Scalar) -> bool
     ensures { result ≡ is_same left right }
@@ -45,7 +46,12 @@ fn index(spans: &Vec<Span>, cells: &Vec<Cell>, at: Pointer) -> Option<usize>
     ensures place { IfSome result (λ i. (i ≡ index_of spans.now.items at) × (i < length cells.now.items)) }
 {
     match at {
-        Pointer::At { object, cell, high, .. } if cell < high => Some(spans[object as usize].first + cell as usize),
+        Pointer::At {
+            object,
+            cell,
+            high,
+            ..
+        } if cell < high => Some(spans[object as usize].first + cell as usize),
         _ => None,
     }
 }
@@ -60,15 +66,24 @@ fn first_index(spans: &Vec<Span>, cells: &Vec<Cell>, at: Pointer, count: usize) 
     ensures place { IfSome result (λ i. (i ≡ index_of spans.now.items at) × (i + count ≤ length cells.now.items)) }
 {
     match at {
-        Pointer::At { object, cell, high, .. } if cell < high => {
-            Some(spans[object as usize].first + cell as usize)
-        }
+        Pointer::At {
+            object,
+            cell,
+            high,
+            ..
+        } if cell < high => { Some(spans[object as usize].first + cell as usize) }
         _ => None,
     }
 }
 
 /// The cell at a pointer's place as a value of a kind.
-pub(crate) fn load(spans: &Vec<Span>, cells: &Vec<Cell>, shape: &Vec<(Scalar, Guard)>, at: Pointer, kind: Scalar) -> Result<Cell, Trap>
+pub(crate) fn load(
+    spans: &Vec<Span>,
+    cells: &Vec<Cell>,
+    shape: &Vec<(Scalar, Guard)>,
+    at: Pointer,
+    kind: Scalar,
+) -> Result<Cell, Trap>
     requires within { PointerIn spans.now.items at }
     requires room { HasRoom spans.now.items (length cells.now.items) }
     requires same_length { length shape.now.items ≡ length cells.now.items }
@@ -94,7 +109,14 @@ pub(crate) fn load(spans: &Vec<Span>, cells: &Vec<Cell>, shape: &Vec<(Scalar, Gu
 }
 
 /// Writes a value of a kind to the cell at a pointer's place.
-pub(crate) fn save(spans: &Vec<Span>, cells: &mut Vec<Cell>, shape: &Vec<(Scalar, Guard)>, at: Pointer, kind: Scalar, value: Cell) -> Result<(), Trap>
+pub(crate) fn save(
+    spans: &Vec<Span>,
+    cells: &mut Vec<Cell>,
+    shape: &Vec<(Scalar, Guard)>,
+    at: Pointer,
+    kind: Scalar,
+    value: Cell,
+) -> Result<(), Trap>
     requires within { PointerIn spans.now.items at }
     requires room { HasRoom spans.now.items (length cells.old.items) }
     requires same_length { length shape.now.items ≡ length cells.old.items }
@@ -139,7 +161,10 @@ fn have_same_kinds(left: &[(Scalar, Guard)], right: &[(Scalar, Guard)]) -> bool
 fn have_kinds(shape: &[(Scalar, Guard)], kinds: &[Scalar]) -> bool
     ensures { result ≡ have_kinds shape.now kinds.now }
 {
-    shape.iter().zip(kinds).all(|(own, kind)| is_same(own.0, *kind))
+    shape
+        .iter()
+        .zip(kinds)
+        .all(|(own, kind)| is_same(own.0, *kind))
 }
 
 /// Copies cells to a place before theirs.
@@ -240,16 +265,76 @@ pub(crate) fn cells(
 }
 
 /// Sets a cell of a live object, whatever its guard.
-pub(crate) fn begin(
-    spans: &Vec<Span>,
-    cells: &mut Vec<Cell>,
-    object: u32,
-    cell: u32,
-    value: Cell,
-)
+pub(crate) fn begin(spans: &Vec<Span>, cells: &mut Vec<Cell>, object: u32, cell: u32, value: Cell)
     requires entered { object < length spans.now.items }
     requires within { (span_at spans.now.items object).first + cell < length cells.old.items }
     ensures { cells.new.items ≡ slice_set cells.old.items ((span_at spans.now.items object).first + cell) value }
 {
     cells[spans[object as usize].first + cell as usize] = value;
+}
+
+/// Whether a pointer names an object that was entered, into an array of whole elements, within its cells where it lives.
+pub(crate) fn is_pointer(spans: &Vec<Span>, at: Pointer) -> bool
+    ensures { IsTrue result ↔ PointerIn spans.now.items at }
+{
+    match at {
+        Pointer::Null => true,
+        Pointer::At {
+            object,
+            cell,
+            low,
+            high,
+            stride,
+        } => is_array_place(spans, object, cell, low, high, stride),
+    }
+}
+
+fn is_array_place(
+    spans: &Vec<Span>,
+    object: u32,
+    cell: u32,
+    low: u32,
+    high: u32,
+    stride: u32,
+) -> bool
+    ensures { IsTrue result ↔ PlaceIn spans.now.items object cell low high stride }
+{
+    if object as usize >= spans.len() || stride == 0 || cell < low || high < cell {
+        return false;
+    }
+    let span = spans[object as usize];
+    (cell - low) % stride == 0 && (high - cell) % stride == 0 && (!span.alive || high <= span.count)
+}
+
+/// Whether a value may stand in a cell of a kind.
+pub(crate) fn holds(spans: &Vec<Span>, kind: Scalar, value: Cell) -> bool
+    ensures { IsTrue result ↔ HoldsIn spans.now.items kind value }
+{
+    match (kind, value) {
+        (_, Cell::Unset) => true,
+        (Scalar::Int(kind), Cell::Number(number)) => kind.can_represent(number),
+        (Scalar::Pointer(_), Cell::Pointer(pointer)) => is_pointer(spans, pointer),
+        _ => false,
+    }
+}
+
+/// The kind of a live object's cell.
+pub(crate) fn kind_of(
+    spans: &Vec<Span>,
+    shape: &Vec<(Scalar, Guard)>,
+    object: u32,
+    cell: u32,
+) -> Option<Scalar>
+    requires { HasRoom spans.now.items (length shape.now.items) }
+    ensures some { IfSome result (λ kind. ((span_at spans.now.items object).alive ≡ true) × (cell < (span_at spans.now.items object).count) × (kind ≡ (shape_or shape.now.items ((span_at spans.now.items object).first + cell)).0)) }
+    ensures none { IfNone result ((span_at spans.now.items object).alive ≡ true → (span_at spans.now.items object).count ≤ cell) }
+{
+    if object as usize >= spans.len() {
+        return None;
+    }
+    let span = spans[object as usize];
+    if !span.alive || cell >= span.count {
+        return None;
+    }
+    Some(shape[span.first + cell as usize].0)
 }

@@ -2,10 +2,9 @@ ghost use Rattle.std.specs.Prelude.{◌≡◌, ◌&&◌, nat_le, nat_lt, ◌<◌
 ghost use Rattle.cr_memory.specs.Memory.{first_cell};
 ghost use Rattle.cr_memory.specs.Flat.{span_at, end_of, ended_span, span_of};
 
-use std::alloc::AllocError;
-
 use crate::span::Span;
 use crate::value::{Cell, Guard, Pointer, Scalar};
+use std::alloc::AllocError;
 
 /// Whether one more object of so many cells has room, and a number.
 pub(crate) fn has_room(spans: &Vec<Span>, most: u32, live: u32, count: usize) -> bool

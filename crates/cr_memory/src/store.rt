@@ -1,16 +1,13 @@
-ghost use Rattle.std.specs.Prelude.{◌≡◌, ◌<◌, ◌↔◌, [], ◌∷◌, false, length, IsSome, ◌⊎◌, IfOk, IfErr, OnErr};
+ghost use Rattle.std.specs.Prelude.{◌≡◌, ◌<◌, ◌≤◌, ◌↔◌, [], ◌∷◌, false, length, is_some, IsSome, IsTrue, IfSome, IfNone, ◌⊎◌, IfOk, IfErr, OnErr};
 ghost use Rattle.cr_memory.specs.Memory.{IsPointer, Holds, AllHold, KeepsPointers, live_object, count_of, has_room, new_object, with_object, without_object};
 ghost use Rattle.cr_memory.specs.Access.{load_of, save_of, copy_of, cells_of, shape_in, with_cells, Writes, Reads, HasStride};
 ghost use Rattle.cr_memory.specs.Pointers.{shift_of, differ_of, less_of, same_of};
 
-use std::alloc::Global;
-use std::marker::Model;
-
-use crate::arithmetic;
-use crate::flat;
-use crate::lifetime;
 use crate::span::Span;
 use crate::value::{Cell, Guard, NO_ROOM, Pointer, Scalar, Trap};
+use crate::{arithmetic, flat, lifetime};
+use std::alloc::Global;
+use std::marker::Model;
 
 /// The memory of a running program: objects of cells, each with its kind and its guard.
 #[derive(Drop)]
@@ -59,12 +56,7 @@ impl Store {
     }
 
     /// The cells of a structure from the pointer on, one for each kind (C11 6.2.6.1p6): U9, U10 of the pointer alone, N5.
-    pub fn cells(
-        &self,
-        alloc: Global,
-        from: Pointer,
-        kinds: &[Scalar],
-    ) -> Result<Vec<Cell>, Trap>
+    pub fn cells(&self, alloc: Global, from: Pointer, kinds: &[Scalar]) -> Result<Vec<Cell>, Trap>
         requires pointer { IsPointer self.now from }
         requires stride { HasStride from (length kinds.now) }
         ensures value { Reads (cells_of self.now from kinds.now) result }
@@ -156,7 +148,14 @@ impl Store {
         if !lifetime::has_room(&self.spans, self.most, self.live, count) {
             return Err(Trap::Left(NO_ROOM));
         }
-        match lifetime::enter(&mut self.spans, &mut self.cells, &mut self.shape, self.top, shape, zero) {
+        match lifetime::enter(
+            &mut self.spans,
+            &mut self.cells,
+            &mut self.shape,
+            self.top,
+            shape,
+            zero,
+        ) {
             Ok(number) => {
                 self.live += count as u32;
                 self.top = number + 1;
@@ -177,5 +176,34 @@ impl Store {
         let end = lifetime::end(&self.spans, self.top);
         self.cells.truncate(end);
         self.shape.truncate(end);
+    }
+
+    /// Whether the object's lifetime goes on.
+    pub fn is_live(&self, object: u32) -> bool
+        ensures { result ≡ is_some (live_object self.now object) }
+    {
+        (object as usize) < self.spans.len() && self.spans[object as usize].alive
+    }
+
+    /// Whether the pointer is one of this memory: what the other calls ask of their pointers.
+    pub fn is_pointer(&self, at: Pointer) -> bool
+        ensures { IsTrue result ↔ IsPointer self.now at }
+    {
+        flat::is_pointer(&self.spans, at)
+    }
+
+    /// Whether a cell of the kind may hold the value: what `save` asks of its value.
+    pub fn holds(&self, kind: Scalar, value: Cell) -> bool
+        ensures { IsTrue result ↔ Holds self.now kind value }
+    {
+        flat::holds(&self.spans, kind, value)
+    }
+
+    /// The kind of an object's cell, if the object is live and has that cell: what `begin` asks of its cell.
+    pub fn kind_of(&self, object: u32, cell: u32) -> Option<Scalar>
+        ensures some { IfSome result (λ kind. (cell < count_of (live_object self.now object)) × (kind ≡ (shape_in self.now object cell).0)) }
+        ensures none { IfNone result (count_of (live_object self.now object) ≤ cell) }
+    {
+        flat::kind_of(&self.spans, &self.shape, object, cell)
     }
 }

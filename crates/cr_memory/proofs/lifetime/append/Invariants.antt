@@ -1,4 +1,4 @@
-use Rattle.std.proofs.Common.{◌≡◌, ◌+◌, ◌≤◌, ◌++◌, length, map, take, vec_len, vec_capacity}
+use Rattle.std.proofs.Common.{◌≡◌, ◌+◌, ◌≤◌, ◌++◌, map, take, vec_len, vec_capacity}
 use Rattle.cr_memory.specs.Memory.{first_cell}
 use Rattle.cr_memory.proofs.lifetime.append.Given as goal
 
@@ -9,5 +9,5 @@ invariant-loop-own l = record {
   cell_len : vec_len l.cells ≡ vec_len l.fn.cells + l.own-index;
   shape_len : vec_len l.shapes ≡ vec_len l.fn.shapes + l.own-index;
   cell_room : vec_capacity l.fn.cells ≤ vec_capacity l.cells;
-  shape_room : vec_capacity l.fn.shapes ≤ vec_capacity l.shapes
+  shape_room : vec_capacity l.fn.shapes ≤ vec_capacity l.shapes;
 }

@@ -5,7 +5,7 @@ use Rattle.cr_memory.proofs.lifetime.top_below.Given as goal
 abbrev pub invariant-loop-top : goal.invariant-loop-top
 invariant-loop-top l = record {
   at_most : l.top ≤ l.fn.top;
-  ended : (n : ℕ) → l.top ≤ n → n < l.fn.top → (span_at l.spans.items n).alive ≡ false
+  ended : (n : ℕ) → l.top ≤ n → n < l.fn.top → (span_at l.spans.items n).alive ≡ false;
 }
 
 abbrev pub decreases-loop-top : goal.decreases-loop-top
