@@ -65,15 +65,7 @@ fn first_index(spans: &Vec<Span>, cells: &Vec<Cell>, at: Pointer, count: usize) 
     ensures none { IsNone result ↔ (is_null_or_end at ≡ true) }
     ensures place { IfSome result (λ i. (i ≡ index_of spans.now.items at) × (i + count ≤ length cells.now.items)) }
 {
-    match at {
-        Pointer::At {
-            object,
-            cell,
-            high,
-            ..
-        } if cell < high => { Some(spans[object as usize].first + cell as usize) }
-        _ => None,
-    }
+    index(spans, cells, at)
 }
 
 /// The cell at a pointer's place as a value of a kind.
