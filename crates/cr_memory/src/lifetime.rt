@@ -1,10 +1,13 @@
-ghost use Rattle.std.specs.Prelude.{◌≡◌, ◌&&◌, nat_le, nat_lt, ◌<◌, ◌≤◌, ◌+◌, ◌-◌, ◌++◌, ◌^◌, ◌∷◌, [], ℕ, true, false, length, map, vec_len, vec_capacity, slice_set, OnOk, OnErr, IfOk};
+ghost use Rattle.std.specs.Prelude.{◌≡◌, ◌&&◌, nat_le, nat_lt, ◌<◌, ◌≤◌, ◌+◌, ◌-◌, ◌++◌, ◌^◌, ◌∷◌, [], ℕ, true, false, length, map, take, vec_len, vec_capacity, slice_set, OnOk, OnErr, IfOk};
 ghost use Rattle.cr_memory.specs.Memory.{first_cell};
 ghost use Rattle.cr_memory.specs.Flat.{span_at, end_of, ended_span, span_of};
 
 use crate::span::Span;
 use crate::value::{Cell, Guard, Pointer, Scalar};
 use std::alloc::AllocError;
+
+/// So many slots stay with the store, whether they are used or not.
+const KEPT: usize = 1024;
 
 /// Whether one more object of so many cells has room, and a number.
 pub(crate) fn has_room(spans: &Vec<Span>, most: u32, live: u32, count: usize) -> bool
@@ -115,4 +118,14 @@ pub(crate) fn end(spans: &Vec<Span>, top: u32) -> usize
     }
     let last = spans[top as usize - 1];
     last.first + last.count as usize
+}
+
+/// Drops the items from a place on, and gives memory back where most of it stands idle.
+pub(crate) fn cut<T: Drop>(items: &mut Vec<T>, end: usize)
+    ensures { items.new.items ≡ take end items.old.items }
+{
+    items.truncate(end);
+    if items.capacity() / 4 > end && items.capacity() > KEPT {
+        items.shrink_to(end * 2);
+    }
 }

@@ -174,8 +174,8 @@ impl Store {
         self.live -= lifetime::end_object(&mut self.spans, object);
         self.top = lifetime::top_below(&self.spans, self.top);
         let end = lifetime::end(&self.spans, self.top);
-        self.cells.truncate(end);
-        self.shape.truncate(end);
+        lifetime::cut(&mut self.cells, end);
+        lifetime::cut(&mut self.shape, end);
     }
 
     /// Whether the object's lifetime goes on.

@@ -1,4 +1,4 @@
-use Rattle.std.proofs.Common.{◌≡◌, ◌+◌, ◌<◌, ◌≤◌, ◌↔◌, ℕ, Bool, true, false, ◌⊎◌, inl, inr, Option, Some, None, IsNone, IfSome, List, length, []}
+use Rattle.std.proofs.Common.{◌≡◌, ◌+◌, ◌<◌, ◌≤◌, ℕ, true, false, ◌⊎◌, inl, inr, Option, Some, None, IsNone, IfSome, List, length, []}
 use Rattle.cr_memory.specs.declared.value.Pointer.{Pointer}
 use Rattle.cr_memory.specs.declared.value.Cell.{Cell}
 use Rattle.cr_memory.specs.declared.span.Span.{Span}
