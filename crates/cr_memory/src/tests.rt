@@ -196,69 +196,51 @@ fn a_copy_reads_all_cells_before_it_writes_one(rt: HostRuntime) {
         assert!(rt; save(&rt, &mut store, at, INT, Cell::Number(value)) == Ok(()));
     }
     // The structures of two cells at 0 and at 1 overlap, in one array each.
-    assert!(rt;
-        copy(
-            &rt,
-            &mut store,
-            place(0, 0, 0, 6, 2),
-            place(0, 1, 1, 5, 2),
-            2
-        ) == Ok(())
-    );
+    let (from, to) = (place(0, 0, 0, 6, 2), place(0, 1, 1, 5, 2));
+    assert!(rt; copy(&rt, &mut store, from, to, 2) == Ok(()));
     for (cell, value) in [(0, 1), (1, 1), (2, 2), (3, 0)] {
-        assert!(rt; load(&rt, &store, place(0, cell, 0, 6, 1), INT) == Ok(Cell::Number(value)));
+        let at = place(0, cell, 0, 6, 1);
+        assert!(rt; load(&rt, &store, at, INT) == Ok(Cell::Number(value)));
     }
-    let rows = [
-        (place(4, 0, 0, 1, 1), place(0, 0, 0, 6, 1), 1, Ok(())),
-        (place(6, 0, 0, 1, 1), place(3, 0, 0, 1, 1), 1, Ok(())),
-        (
-            Pointer::Null,
-            place(0, 0, 0, 6, 2),
-            2,
-            Err(Trap::Undefined(9)),
-        ),
-        (
-            place(0, 0, 0, 6, 1),
-            place(5, 1, 0, 1, 1),
-            1,
-            Err(Trap::Undefined(10)),
-        ),
-        (
-            place(0, 0, 0, 6, 1),
-            place(2, 0, 0, 2, 1),
-            1,
-            Err(Trap::Undefined(13)),
-        ),
-        (
-            place(3, 0, 0, 1, 1),
-            place(1, 0, 0, 1, 1),
-            1,
-            Err(Trap::Undefined(14)),
-        ),
-        (
-            place(3, 0, 0, 1, 1),
-            place(0, 0, 0, 6, 1),
-            1,
-            Err(Trap::Left(5)),
-        ),
-    ];
-    for (from, to, count, want) in rows {
-        assert!(rt;
-            copy(&rt, &mut store, from, to, count) == want,
-            "{from:?} to {to:?}"
-        );
-    }
-    assert!(rt; load(&rt, &store, place(0, 0, 0, 6, 1), INT) == Err(Trap::Undefined(11)));
-    assert!(rt; load(&rt, &store, place(3, 0, 0, 1, 1), TO_INT) == Err(Trap::Undefined(10)));
 }
 
 #[test]
-fn pointers_move_and_compare_in_their_array(rt: HostRuntime) {
+fn a_copy_answers_the_first_case(rt: HostRuntime) {
+    let mut store = Store::new(rt.alloc(), 100);
+    several_objects(&rt, &mut store);
+    let a = place(0, 0, 0, 6, 1);
+    let k = place(1, 0, 0, 1, 1);
+    let s = place(2, 0, 0, 2, 1);
+    let p = place(3, 0, 0, 1, 1);
+    let u = place(4, 0, 0, 1, 1);
+    let q = place(6, 0, 0, 1, 1);
+    let rows = [
+        (u, a, Ok(())),
+        (q, p, Ok(())),
+        (Pointer::Null, a, Err(Trap::Undefined(9))),
+        (a, place(5, 1, 0, 1, 1), Err(Trap::Undefined(10))),
+        (a, s, Err(Trap::Undefined(13))),
+        (p, k, Err(Trap::Undefined(14))),
+        (p, a, Err(Trap::Left(5))),
+    ];
+    for (from, to, want) in rows {
+        assert!(rt;
+            copy(&rt, &mut store, from, to, 1) == want,
+            "{from:?} to {to:?}"
+        );
+    }
+    assert!(rt; load(&rt, &store, a, INT) == Err(Trap::Undefined(11)));
+    assert!(rt; load(&rt, &store, p, TO_INT) == Err(Trap::Undefined(10)));
+}
+
+#[test]
+fn a_pointer_moves_in_its_array(rt: HostRuntime) {
     let mut store = Store::new(rt.alloc(), 100);
     several_objects(&rt, &mut store);
     let first = place(0, 0, 0, 3, 1);
     let row = place(0, 0, 0, 6, 3);
-    let moves = [
+    let ended = place(5, 0, 0, 1, 1);
+    let rows = [
         (first, 3, Ok(place(0, 3, 0, 3, 1))),
         (first, 4, Err(Trap::Undefined(6))),
         (first, -1, Err(Trap::Undefined(6))),
@@ -267,87 +249,46 @@ fn pointers_move_and_compare_in_their_array(rt: HostRuntime) {
         (row, 2, Ok(place(0, 6, 0, 6, 3))),
         (row, 3, Err(Trap::Undefined(6))),
         (Pointer::Null, 0, Err(Trap::Undefined(6))),
-        (place(5, 0, 0, 1, 1), 9, Err(Trap::Undefined(10))),
+        (ended, 9, Err(Trap::Undefined(10))),
     ];
-    for (at, by, want) in moves {
+    for (at, by, want) in rows {
         assert!(rt; store.is_pointer(at));
         assert!(rt; store.shift(at, by) == want, "{at:?} {by}");
     }
+}
+
+const NO_ORDER: Result<bool, Trap> = Err(Trap::Undefined(8));
+
+const NO_EQUALITY: Result<bool, Trap> = Err(Trap::Left(6));
+
+const OVER: Result<bool, Trap> = Err(Trap::Undefined(10));
+
+#[test]
+fn pointers_compare_in_their_object(rt: HostRuntime) {
+    let mut store = Store::new(rt.alloc(), 100);
+    several_objects(&rt, &mut store);
+    let first = place(0, 0, 0, 3, 1);
     let second = place(0, 2, 0, 3, 1);
-    let other_row = place(0, 3, 3, 6, 1);
-    let k = place(1, 0, 0, 1, 1);
-    let e = place(5, 0, 0, 1, 1);
     let end = place(0, 6, 3, 6, 1);
+    let k = place(1, 0, 0, 1, 1);
+    let ended = place(5, 0, 0, 1, 1);
     let null = Pointer::Null;
-    let pairs = [
-        (second, first, Ok(2), Ok(false), Ok(false)),
-        (first, second, Ok(-2), Ok(true), Ok(false)),
-        (place(0, 6, 0, 6, 3), row, Ok(2), Ok(false), Ok(false)),
-        (
-            first,
-            other_row,
-            Err(Trap::Undefined(7)),
-            Ok(true),
-            Ok(false),
-        ),
-        (first, row, Err(Trap::Undefined(7)), Ok(false), Ok(true)),
-        (
-            first,
-            k,
-            Err(Trap::Undefined(7)),
-            Err(Trap::Undefined(8)),
-            Ok(false),
-        ),
-        (
-            null,
-            null,
-            Err(Trap::Undefined(7)),
-            Err(Trap::Undefined(8)),
-            Ok(true),
-        ),
-        (
-            null,
-            k,
-            Err(Trap::Undefined(7)),
-            Err(Trap::Undefined(8)),
-            Ok(false),
-        ),
-        (
-            end,
-            k,
-            Err(Trap::Undefined(7)),
-            Err(Trap::Undefined(8)),
-            Err(Trap::Left(6)),
-        ),
-        (
-            k,
-            end,
-            Err(Trap::Undefined(7)),
-            Err(Trap::Undefined(8)),
-            Err(Trap::Left(6)),
-        ),
-        (
-            e,
-            e,
-            Err(Trap::Undefined(10)),
-            Err(Trap::Undefined(10)),
-            Err(Trap::Undefined(10)),
-        ),
-        (
-            end,
-            e,
-            Err(Trap::Undefined(10)),
-            Err(Trap::Undefined(10)),
-            Err(Trap::Undefined(10)),
-        ),
+    let rows = [
+        (second, first, Ok(false), Ok(false)),
+        (first, second, Ok(true), Ok(false)),
+        (first, place(0, 0, 0, 6, 3), Ok(false), Ok(true)),
+        (first, end, Ok(true), Ok(false)),
+        (first, k, NO_ORDER, Ok(false)),
+        (null, null, NO_ORDER, Ok(true)),
+        (null, k, NO_ORDER, Ok(false)),
+        (end, k, NO_ORDER, NO_EQUALITY),
+        (k, end, NO_ORDER, NO_EQUALITY),
+        (ended, ended, OVER, OVER),
+        (end, ended, OVER, OVER),
     ];
-    for (left, right, distance, order, equality) in pairs {
+    for (left, right, order, equality) in rows {
         assert!(rt; store.is_pointer(left));
         assert!(rt; store.is_pointer(right));
-        assert!(rt;
-            store.differ(left, right) == distance,
-            "{left:?} - {right:?}"
-        );
         assert!(rt; store.less(left, right) == order, "{left:?} < {right:?}");
         assert!(rt;
             store.same(left, right) == equality,
@@ -357,10 +298,34 @@ fn pointers_move_and_compare_in_their_array(rt: HostRuntime) {
 }
 
 #[test]
-fn a_million_objects_come_and_go(rt: HostRuntime) {
+fn pointers_have_a_distance_in_one_array(rt: HostRuntime) {
     let mut store = Store::new(rt.alloc(), 100);
     several_objects(&rt, &mut store);
-    for number in 7..1_000_007 {
+    let first = place(0, 0, 0, 3, 1);
+    let second = place(0, 2, 0, 3, 1);
+    let row = place(0, 0, 0, 6, 3);
+    let ended = place(5, 0, 0, 1, 1);
+    let rows = [
+        (second, first, Ok(2)),
+        (first, second, Ok(-2)),
+        (place(0, 6, 0, 6, 3), row, Ok(2)),
+        (first, place(0, 3, 3, 6, 1), Err(Trap::Undefined(7))),
+        (first, place(1, 0, 0, 1, 1), Err(Trap::Undefined(7))),
+        (Pointer::Null, Pointer::Null, Err(Trap::Undefined(7))),
+        (ended, first, Err(Trap::Undefined(10))),
+    ];
+    for (left, right, want) in rows {
+        assert!(rt; store.is_pointer(left));
+        assert!(rt; store.is_pointer(right));
+        assert!(rt; store.differ(left, right) == want, "{left:?} - {right:?}");
+    }
+}
+
+#[test]
+fn many_objects_come_and_go(rt: HostRuntime) {
+    let mut store = Store::new(rt.alloc(), 100);
+    several_objects(&rt, &mut store);
+    for number in 7..50_007 {
         let object = enter(&rt, &mut store, &[(INT, Guard::Free); 3], false);
         assert!(rt; object == number);
         leave(&rt, &mut store, object);
