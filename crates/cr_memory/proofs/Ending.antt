@@ -122,7 +122,7 @@ pointer_left spans number h (At object cell low high stride) p = record {
   within = λ a. let s = still_alive spans number object h a in rw s.same (p.within s.alive);
 }
 
-window-take : {X : Type 0} (xs : List X) (end first size : ℕ) → first + size ≤ end → take size (drop first (take end xs)) ≡ take size (drop first xs)
+pub window-take : {X : Type 0} (xs : List X) (end first size : ℕ) → first + size ≤ end → take size (drop first (take end xs)) ≡ take size (drop first xs)
 window-take xs end first size h =
     let rest : end ≡ first + (end - first) = omega arith in
     ap (λ n. take size (drop first (take n xs))) rest

@@ -6,3 +6,4 @@ pub mod Writing
 pub mod Storing
 pub mod Lifetimes
 pub mod Ending
+pub mod Moving

@@ -1,34 +1,33 @@
--- Cells written over others, one after another.
+-- Items written over others, one after another.
 use Rattle.std.proofs.Common.{◌≡◌, ℕ, suc, ◌+◌, ◌<◌, ◌≤◌, List, [], ◌∷◌, ◌++◌, length, get_or, set, take, drop, refl, sym, ap, ◌∙◌, arith, length-drop, length-set, get_or-set_other}
 use Rattle.std.proofs.lemmas.List.{set_comm, take_more, drop_more, get_or-drop, get_or-take, length-take-le}
-use Rattle.cr_memory.specs.declared.value.Cell.{Cell}
 use Rattle.cr_memory.specs.Access.{overwritten}
 
-pub length-overwritten : (xs : List Cell) (place : ℕ) (vs : List Cell) → length (overwritten xs place vs) ≡ length xs
+pub length-overwritten : {X : Type 0} (xs : List X) (place : ℕ) (vs : List X) → length (overwritten xs place vs) ≡ length xs
 length-overwritten xs place [] = refl
 length-overwritten xs place (v ∷ vs) = length-overwritten (set xs place v) (suc place) vs ∙ length-set xs place v
 
 -- one more at the end
-pub overwritten-append : (xs : List Cell) (place : ℕ) (vs : List Cell) (v : Cell)
+pub overwritten-append : {X : Type 0} (xs : List X) (place : ℕ) (vs : List X) (v : X)
     → overwritten xs place (vs ++ v ∷ []) ≡ set (overwritten xs place vs) (place + length vs) v
 overwritten-append xs place [] v = ap (λ n. set xs n v) (omega arith)
 overwritten-append xs place (w ∷ vs) v =
     overwritten-append (set xs place w) (suc place) vs v ∙ ap (λ n. set (overwritten (set xs place w) (suc place) vs) n v) (omega arith)
 
-pub get_or-overwritten_below : (xs : List Cell) (place : ℕ) (vs : List Cell) (j : ℕ) (d : Cell) → j < place
+pub get_or-overwritten_below : {X : Type 0} (xs : List X) (place : ℕ) (vs : List X) (j : ℕ) (d : X) → j < place
     → get_or (overwritten xs place vs) j d ≡ get_or xs j d
 get_or-overwritten_below xs place [] j d h = refl
 get_or-overwritten_below xs place (v ∷ vs) j d h =
     get_or-overwritten_below (set xs place v) (suc place) vs j d (omega arith) ∙ get_or-set_other xs place j v d (omega arith)
 
-pub get_or-overwritten_above : (xs : List Cell) (place : ℕ) (vs : List Cell) (j : ℕ) (d : Cell) → place + length vs ≤ j
+pub get_or-overwritten_above : {X : Type 0} (xs : List X) (place : ℕ) (vs : List X) (j : ℕ) (d : X) → place + length vs ≤ j
     → get_or (overwritten xs place vs) j d ≡ get_or xs j d
 get_or-overwritten_above xs place [] j d h = refl
 get_or-overwritten_above xs place (v ∷ vs) j d h =
     get_or-overwritten_above (set xs place v) (suc place) vs j d (omega arith) ∙ get_or-set_other xs place j v d (omega arith)
 
 -- one more in front
-pub set-overwritten : (xs : List Cell) (place at : ℕ) (vs : List Cell) (v : Cell) → at < place
+pub set-overwritten : {X : Type 0} (xs : List X) (place at : ℕ) (vs : List X) (v : X) → at < place
     → set (overwritten xs place vs) at v ≡ overwritten (set xs at v) place vs
 set-overwritten xs place at [] v h = refl
 set-overwritten xs place at (w ∷ vs) v h =
@@ -36,7 +35,7 @@ set-overwritten xs place at (w ∷ vs) v h =
     ∙ ap (λ ys. overwritten ys (suc place) vs) (set_comm xs place at w v (omega arith))
 
 -- a step of a copy to an earlier place
-pub copied_down : (xs : List Cell) (source target i : ℕ) (x : Cell) → target ≤ source → source + i < length xs
+pub copied_down : {X : Type 0} (xs : List X) (source target i : ℕ) (x : X) → target ≤ source → source + i < length xs
     → x ≡ get_or (overwritten xs target (take i (drop source xs))) (source + i) x
     → set (overwritten xs target (take i (drop source xs))) (target + i) x ≡ overwritten xs target (take (i + 1) (drop source xs))
 copied_down xs source target i x down within read =
@@ -48,7 +47,7 @@ copied_down xs source target i x down within read =
     ∙ overwritten-append xs target (take i (drop source xs)) x ∙ ap (λ n. set (overwritten xs target (take i (drop source xs))) (target + n) x) size)
 
 -- a step of a copy to a later place
-pub copied_up : (xs run : List Cell) (source target i : ℕ) (x : Cell) → source < target → i < length run → ((d : Cell) → get_or run i d ≡ get_or xs (source + i) d)
+pub copied_up : {X : Type 0} (xs run : List X) (source target i : ℕ) (x : X) → source < target → i < length run → ((d : X) → get_or run i d ≡ get_or xs (source + i) d)
     → x ≡ get_or (overwritten xs (target + (i + 1)) (drop (i + 1) run)) (source + i) x
     → set (overwritten xs (target + (i + 1)) (drop (i + 1) run)) (target + i) x ≡ overwritten xs (target + i) (drop i run)
 copied_up xs run source target i x up room same read =
@@ -59,7 +58,7 @@ copied_up xs run source target i x up room same read =
     ∙ sym (ap (λ vs. overwritten xs (target + i) vs) (drop_more run i x room ∙ ap (λ y. y ∷ drop (i + 1) run) (sym value)))
 
 -- the same where the loop counts from the next index
-pub copied_up_to : (xs : List Cell) (source target count i next : ℕ) (x : Cell) → next ≡ i + 1 → source < target
+pub copied_up_to : {X : Type 0} (xs : List X) (source target count i next : ℕ) (x : X) → next ≡ i + 1 → source < target
     → i < count → source + count ≤ length xs
     → x ≡ get_or (overwritten xs (target + next) (drop next (take count (drop source xs)))) (source + i) x
     → set (overwritten xs (target + next) (drop next (take count (drop source xs)))) (target + i) x

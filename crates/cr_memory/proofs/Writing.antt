@@ -33,7 +33,7 @@ window-set_after xs first size place x h =
     ∙ ap (take size) (drop-set-add first xs (place - first) x)
     ∙ take-set-le size (drop first xs) (place - first) x (omega arith)
 
-pub window-overwritten_same : (xs : List Cell) (first size place : ℕ) (vs : List Cell) → place + length vs ≤ size
+pub window-overwritten_same : {X : Type 0} (xs : List X) (first size place : ℕ) (vs : List X) → place + length vs ≤ size
     → take size (drop first (overwritten xs (first + place) vs)) ≡ overwritten (take size (drop first xs)) place vs
 window-overwritten_same xs first size place [] h = refl
 window-overwritten_same xs first size place (v ∷ vs) h =
@@ -43,7 +43,7 @@ window-overwritten_same xs first size place (v ∷ vs) h =
     ∙ ap (λ ys. overwritten ys (suc place) vs) (window-set_same xs first size place v (omega arith))
 
 -- a window that ends before, or begins after, what is written
-pub window-overwritten_other : (xs : List Cell) (first size place : ℕ) (vs : List Cell) → (place + length vs ≤ first) ⊎ (first + size ≤ place)
+pub window-overwritten_other : {X : Type 0} (xs : List X) (first size place : ℕ) (vs : List X) → (place + length vs ≤ first) ⊎ (first + size ≤ place)
     → take size (drop first (overwritten xs place vs)) ≡ take size (drop first xs)
 window-overwritten_other xs first size place [] h = refl
 window-overwritten_other xs first size place (v ∷ vs) (inl h) =

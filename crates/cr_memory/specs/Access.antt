@@ -90,10 +90,10 @@ have_same_kinds left right = list_all (λ p. is_same p.0.0 p.1.0) (zip left righ
 
 -- ---- the memory after a write
 
--- the cells written over those that stand from a place on
-abbrev pub overwritten : List Cell → ℕ → List Cell → List Cell
-overwritten cells place [] = cells
-overwritten cells place (cell ∷ rest) = overwritten (slice_set cells place cell) (suc place) rest
+-- the items written over those that stand from a place on
+abbrev pub overwritten : {X : Type 0} → List X → ℕ → List X → List X
+overwritten items place [] = items
+overwritten items place (item ∷ rest) = overwritten (slice_set items place item) (suc place) rest
 
 -- the cells stand in an object from a place on; kinds and guards stay, and so do all other objects
 abbrev pub with_cells : Memory → ℕ → ℕ → List Cell → Memory

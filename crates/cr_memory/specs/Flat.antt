@@ -104,6 +104,9 @@ span_of first count below = record { first = first; count = count; below = below
 abbrev pub ended_span : Span → Span
 ended_span span = record { first = span.first; count = span.count; below = span.below; alive = false }
 
+abbrev pub moved_span : ℕ → Span → Span
+moved_span first span = record { first = first; count = span.count; below = span.below; alive = span.alive }
+
 -- where the cells of the objects below a number end, the last of which lives
 abbrev pub end_of : List Span → ℕ → ℕ
 end_of spans zero = 0
@@ -188,3 +191,13 @@ flat_equality spans (At object cell low high stride) (At object' cell' low' high
 abbrev pub flat_same : List Span → Pointer → Pointer → Result Bool Trap
 flat_same spans left right =
     if ended_in spans left || ended_in spans right then Err (Undefined ENDED) else flat_equality spans left right
+
+-- an object that lives was moved down to a place; one that has ended was not
+pub record MovesDown (spans : List Span) (cells : List Cell) (shape : List (Scalar × Guard)) (number to : ℕ)
+    (spans' : List Span) (cells' : List Cell) (shape' : List (Scalar × Guard)) (end : ℕ) : Type 0 where
+  pub ended : (span_at spans number).alive ≡ false → (spans' ≡ spans) × (cells' ≡ cells) × (shape' ≡ shape) × (end ≡ to)
+  pub live : (span_at spans number).alive ≡ true
+      → (spans' ≡ slice_set spans number (moved_span to (span_at spans number)))
+      × (cells' ≡ overwritten cells to (take (span_at spans number).count (drop (span_at spans number).first cells)))
+      × (shape' ≡ overwritten shape to (take (span_at spans number).count (drop (span_at spans number).first shape)))
+      × (end ≡ to + (span_at spans number).count)

@@ -159,14 +159,14 @@ fn have_kinds(shape: &[(Scalar, Guard)], kinds: &[Scalar]) -> bool
         .all(|(own, kind)| is_same(own.0, *kind))
 }
 
-/// Copies cells to a place before theirs.
-fn copy_down(cells: &mut Vec<Cell>, source: usize, target: usize, count: usize)
+/// Copies items to a place before theirs.
+pub(crate) fn copy_down<T: Copy>(items: &mut Vec<T>, source: usize, target: usize, count: usize)
     requires down { target ≤ source }
-    requires within { source + count ≤ length cells.old.items }
-    ensures { cells.new.items ≡ overwritten cells.old.items target (take count (drop source cells.old.items)) }
+    requires within { source + count ≤ length items.old.items }
+    ensures { items.new.items ≡ overwritten items.old.items target (take count (drop source items.old.items)) }
 {
     for i in 0..count {
-        cells[target + i] = cells[source + i];
+        items[target + i] = items[source + i];
     }
 }
 

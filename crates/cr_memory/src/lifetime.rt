@@ -1,7 +1,8 @@
 ghost use Rattle.std.specs.Prelude.{◌≡◌, ◌&&◌, nat_le, nat_lt, ◌<◌, ◌≤◌, ◌+◌, ◌-◌, ◌++◌, ◌^◌, ◌∷◌, [], ℕ, true, false, length, map, take, vec_len, vec_capacity, slice_set, OnOk, OnErr, IfOk};
 ghost use Rattle.cr_memory.specs.Memory.{first_cell};
-ghost use Rattle.cr_memory.specs.Flat.{span_at, end_of, ended_span, span_of};
+ghost use Rattle.cr_memory.specs.Flat.{span_at, end_of, ended_span, span_of, HasRoom, MovesDown};
 
+use crate::flat::copy_down;
 use crate::span::Span;
 use crate::value::{Cell, Guard, Pointer, Scalar};
 use std::alloc::AllocError;
@@ -128,4 +129,29 @@ pub(crate) fn cut<T: Drop>(items: &mut Vec<T>, end: usize)
     if items.capacity() / 4 > end && items.capacity() > KEPT {
         items.shrink_to(end * 2);
     }
+}
+
+/// Moves the cells of an object, if it lives, down to a place, and answers where the cells below the next object end.
+pub(crate) fn move_down(
+    spans: &mut Vec<Span>,
+    cells: &mut Vec<Cell>,
+    shapes: &mut Vec<(Scalar, Guard)>,
+    number: usize,
+    to: usize,
+) -> usize
+    requires entered { number < length spans.old.items }
+    requires down { (span_at spans.old.items number).alive ≡ true → to ≤ (span_at spans.old.items number).first }
+    requires room { HasRoom spans.old.items (length cells.old.items) }
+    requires same_length { length shapes.old.items ≡ length cells.old.items }
+    ensures { MovesDown spans.old.items cells.old.items shapes.old.items number to spans.new.items cells.new.items shapes.new.items result }
+{
+    let span = spans[number];
+    if !span.alive {
+        return to;
+    }
+    let count = span.count as usize;
+    copy_down(cells, span.first, to, count);
+    copy_down(shapes, span.first, to, count);
+    spans[number].first = to;
+    to + count
 }

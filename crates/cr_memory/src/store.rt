@@ -176,6 +176,7 @@ impl Store {
         let end = lifetime::end(&self.spans, self.top);
         lifetime::cut(&mut self.cells, end);
         lifetime::cut(&mut self.shape, end);
+        self.tidy();
     }
 
     /// Whether the object's lifetime goes on.
@@ -205,5 +206,32 @@ impl Store {
         ensures none { IfNone result (count_of (live_object self.now object) ≤ cell) }
     {
         flat::kind_of(&self.spans, &self.shape, object, cell)
+    }
+
+    // Bounds the idle cells by the live ones and one for each object, at a cost that the calls of `leave` before have paid.
+    fn tidy(&mut self)
+        ensures { self.new ≡ self.old }
+    {
+        if self.cells.len() / 2 > self.live as usize + self.spans.len() {
+            self.close_gaps();
+        }
+    }
+
+    // Closes the gaps that ended objects left between the cells of live ones.
+    fn close_gaps(&mut self)
+        ensures { self.new ≡ self.old }
+    {
+        let mut end = 0;
+        for number in 0..self.spans.len() {
+            end = lifetime::move_down(
+                &mut self.spans,
+                &mut self.cells,
+                &mut self.shape,
+                number,
+                end,
+            );
+        }
+        lifetime::cut(&mut self.cells, end);
+        lifetime::cut(&mut self.shape, end);
     }
 }

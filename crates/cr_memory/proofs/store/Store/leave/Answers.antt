@@ -32,7 +32,7 @@ returns-clause-ended c =
     let t = c.top_below-self-inside.ensures in
     let last = last_found i.top i.spans.items _ c.args.object c.top_below-self-inside.result c.end_object.ensures.ended t.at_most t.ended t.live in
     let done = left i.most i.live i.top i.spans.items i.cells.items i.shape.items c.args.object c.top_below-self-inside.result c.self.invariant a last in
-    rw (c.cut.ensures, c.cut-2.ensures, c.end-end.ensures, c.end_object.ensures.ended) done.seen
+    rw (c.tidy.ensures, c.cut.ensures, c.cut-2.ensures, c.end-end.ensures, c.end_object.ensures.ended) done.seen
     ∙ ap (λ m. without_object m c.args.object) c.self.view_is
 
 pub returns-clause-kept : goal.returns-clause-kept
@@ -42,4 +42,4 @@ returns-clause-kept c =
     let t = c.top_below-self-inside.ensures in
     let last = last_found i.top i.spans.items _ c.args.object c.top_below-self-inside.result c.end_object.ensures.ended t.at_most t.ended t.live in
     let done = left i.most i.live i.top i.spans.items i.cells.items i.shape.items c.args.object c.top_below-self-inside.result c.self.invariant a last in
-    rw (← c.self.view_is, c.cut.ensures, c.cut-2.ensures, c.end-end.ensures, c.end_object.ensures.ended) done.kept
+    rw (← c.self.view_is, c.tidy.ensures, c.cut.ensures, c.cut-2.ensures, c.end-end.ensures, c.end_object.ensures.ended) done.kept
