@@ -346,13 +346,14 @@ fn lifetimes_need_not_nest(rt: HostRuntime) {
     let mut store = Store::new(rt.alloc(), 100);
     several_objects(&rt, &mut store);
     let mut last = enter(&rt, &mut store, &[(INT, Guard::Free); 3], true);
-    for value in 0..500 {
+    for round in 0..500u32 {
+        let value = Cell::Number(i128::from(round));
         let next = enter(&rt, &mut store, &[(INT, Guard::Free); 3], false);
-        begin(&rt, &mut store, next, 1, Cell::Number(value));
+        begin(&rt, &mut store, next, 1, value);
         leave(&rt, &mut store, last);
         last = next;
         let at = place(last, 1, 0, 3, 1);
-        assert!(rt; load(&rt, &store, at, INT) == Ok(Cell::Number(value)));
+        assert!(rt; load(&rt, &store, at, INT) == Ok(value));
     }
     assert!(rt; load(&rt, &store, place(0, 5, 3, 6, 1), INT) == Ok(Cell::Number(0)));
     assert!(rt; load(&rt, &store, place(4, 0, 0, 1, 1), INT) == Err(Trap::Undefined(11)));
