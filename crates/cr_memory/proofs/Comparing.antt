@@ -1,0 +1,133 @@
+-- Operations on pointers, on the spans and on the memory.
+use Rattle.std.proofs.Common.{◌≡◌, ℕ, suc, ◌+◌, ◌-◌, ◌*◌, ◌%◌, ◌≤◌, ◌==◌, nat_le, Bool, true, false, ◌&&◌, ◌||◌, ℤ, pos, negsuc, ◌+ℤ◌, ◌*ℤ◌, Result, Ok, Err, IfOk, List, length, if◌then◌else◌, refl, sym, ap, ◌∙◌, arith}
+use Rattle.std.specs.Prelude.{int_le, unsigned_abs}
+use Rattle.std.proofs.Math.Nat.{add-mul-mod_self_right}
+use Rattle.std.proofs.lemmas.Bool.{leb-true}
+use Rattle.std.proofs.lemmas.Int.{ints}
+use Rattle.cr_memory.specs.declared.value.Pointer.{Pointer}
+use Rattle.cr_memory.specs.declared.value.Pointer.TheVariants.{Null, At}
+use Rattle.cr_memory.specs.declared.value.Scalar.{Scalar}
+use Rattle.cr_memory.specs.declared.value.Cell.{Cell}
+use Rattle.cr_memory.specs.declared.value.Guard.{Guard}
+use Rattle.cr_memory.specs.declared.value.Trap.{Trap}
+use Rattle.cr_memory.specs.declared.value.Trap.TheVariants.{Undefined, Left}
+use Rattle.cr_memory.specs.declared.value.TheConstants.{ENDED, SUM_OUTSIDE, END_COMPARED}
+use Rattle.cr_memory.specs.declared.span.Span.{Span}
+use Rattle.cr_memory.specs.Memory.{IsPointer, live_object, count_of, has_ended}
+use Rattle.cr_memory.specs.Pointers.{moved_by, shift_of, differ_of, less_of, equality_of, same_of}
+use Rattle.cr_memory.specs.Flat.{span_at, memory_of, ended_in, PlaceIn, PointerIn, HasRoom, flat_shift, flat_differ, flat_less, flat_equality, flat_same}
+use Rattle.cr_memory.proofs.View.{object_of-live, length-whole_of, live_object-memory_of, has_ended-memory_of, is_pointer}
+use Rattle.cr_memory.proofs.Reaching.{alive_from}
+
+-- ---- a first case, and the rest where it doesn't hold
+
+first_case : {A : Type 0} (ended ended' : Bool) (rest rest' : Result A Trap) → ended ≡ ended' → (ended ≡ false → rest ≡ rest')
+    → (if ended then Err (Undefined ENDED) else rest) ≡ (if ended' then Err (Undefined ENDED) else rest')
+first_case true ended' rest rest' e same = rw (← e) refl
+first_case false ended' rest rest' e same = rw (← e) (same refl)
+
+pub either_ended : (most : ℕ) (spans : List Span) (cells : List Cell) (shape : List (Scalar × Guard)) (left right : Pointer)
+    → (ended_in spans left || ended_in spans right) ≡ (has_ended (memory_of most spans cells shape) left || has_ended (memory_of most spans cells shape) right)
+either_ended most spans cells shape left right =
+    ap (λ b. b || ended_in spans right) (sym (has_ended-memory_of most spans cells shape left))
+    ∙ ap (λ b. has_ended (memory_of most spans cells shape) left || b) (sym (has_ended-memory_of most spans cells shape right))
+
+pub flat_shift-is : (most : ℕ) (spans : List Span) (cells : List Cell) (shape : List (Scalar × Guard)) (at : Pointer) (by : ℤ)
+    → flat_shift spans at by ≡ shift_of (memory_of most spans cells shape) at by
+flat_shift-is most spans cells shape at by =
+    first_case (ended_in spans at) (has_ended (memory_of most spans cells shape) at) _ _ (sym (has_ended-memory_of most spans cells shape at)) (λ e. refl)
+
+pub flat_differ-is : (most : ℕ) (spans : List Span) (cells : List Cell) (shape : List (Scalar × Guard)) (left right : Pointer)
+    → flat_differ spans left right ≡ differ_of (memory_of most spans cells shape) left right
+flat_differ-is most spans cells shape left right = first_case _ _ _ _ (either_ended most spans cells shape left right) (λ e. refl)
+
+pub flat_less-is : (most : ℕ) (spans : List Span) (cells : List Cell) (shape : List (Scalar × Guard)) (left right : Pointer)
+    → flat_less spans left right ≡ less_of (memory_of most spans cells shape) left right
+flat_less-is most spans cells shape left right = first_case _ _ _ _ (either_ended most spans cells shape left right) (λ e. refl)
+
+-- ---- equality
+
+pub neither : (a b : Bool) → (a || b) ≡ false → (a ≡ false) × (b ≡ false)
+neither true b e = absurd (cc e)
+neither false b e = (refl, e)
+
+live_count : (most : ℕ) (spans : List Span) (cells : List Cell) (shape : List (Scalar × Guard)) (number : ℕ) → HasRoom spans (length cells)
+    → (span_at spans number).alive ≡ true → count_of (live_object (memory_of most spans cells shape) number) ≡ (span_at spans number).count
+live_count most spans cells shape number room alive =
+    ap count_of (live_object-memory_of most spans cells shape number ∙ object_of-live cells shape (span_at spans number) alive)
+    ∙ length-whole_of cells shape (span_at spans number) (room.within number alive)
+
+flat_equality-is : (most : ℕ) (spans : List Span) (cells : List Cell) (shape : List (Scalar × Guard)) (left right : Pointer) → HasRoom spans (length cells)
+    → ended_in spans left ≡ false → ended_in spans right ≡ false
+    → flat_equality spans left right ≡ equality_of (memory_of most spans cells shape) left right
+flat_equality-is most spans cells shape Null Null room l r = refl
+flat_equality-is most spans cells shape Null (At object cell low high stride) room l r = refl
+flat_equality-is most spans cells shape (At object cell low high stride) Null room l r = refl
+flat_equality-is most spans cells shape (At object cell low high stride) (At object' cell' low' high' stride') room l r =
+    let same : Bool → Bool → Result Bool Trap = λ a b. if object == object' then Ok (cell == cell') else (if a || b then Err (Left END_COMPARED) else Ok false) in
+    ap (λ n. same (n == cell) ((span_at spans object').count == cell')) (sym (live_count most spans cells shape object room (alive_from _ l)))
+    ∙ ap (λ n. same (count_of (live_object (memory_of most spans cells shape) object) == cell) (n == cell')) (sym (live_count most spans cells shape object' room (alive_from _ r)))
+
+pub flat_same-is : (most : ℕ) (spans : List Span) (cells : List Cell) (shape : List (Scalar × Guard)) (left right : Pointer) → HasRoom spans (length cells)
+    → flat_same spans left right ≡ same_of (memory_of most spans cells shape) left right
+flat_same-is most spans cells shape left right room =
+    first_case _ _ _ _ (either_ended most spans cells shape left right)
+    (λ e. let n = neither _ _ e in flat_equality-is most spans cells shape left right room n.0 n.1)
+
+-- ---- a moved pointer stays among whole elements
+
+same_rest : (more less k stride : ℕ) → more ≡ less + k * stride → more % stride ≡ less % stride
+same_rest more less k stride e = ap (λ n. n % stride) e ∙ add-mul-mod_self_right less k stride
+
+moved_place : (spans : List Span) (object cell low high stride n : ℕ) (by : ℤ) → PlaceIn spans object cell low high stride
+    → pos n ≡ pos cell +ℤ by *ℤ pos stride → low ≤ n → n ≤ high → PlaceIn spans object n low high stride
+moved_place spans object cell low high stride n (pos k) h e below above = record {
+  entered = h.entered;
+  stride_above = h.stride_above;
+  low_before = below;
+  high_after = above;
+  within = h.within;
+  whole_before = same_rest (n - low) (cell - low) k stride (omega (arith, ints, e, h.low_before)) ∙ h.whole_before;
+  whole_after = sym (same_rest (high - cell) (high - n) k stride (omega (arith, ints, e, h.low_before))) ∙ h.whole_after;
+}
+moved_place spans object cell low high stride n (negsuc k) h e below above = record {
+  entered = h.entered;
+  stride_above = h.stride_above;
+  low_before = below;
+  high_after = above;
+  within = h.within;
+  whole_before = sym (same_rest (cell - low) (n - low) (suc k) stride (omega (arith, ints, e, h.low_before))) ∙ h.whole_before;
+  whole_after = same_rest (high - n) (high - cell) (suc k) stride (omega (arith, ints, e, h.high_after)) ∙ h.whole_after;
+}
+
+moved_by_test : (spans : List Span) (object cell low high stride n : ℕ) (by : ℤ) (a b : Bool) → PlaceIn spans object cell low high stride
+    → pos n ≡ pos cell +ℤ by *ℤ pos stride → nat_le low n ≡ a → nat_le n high ≡ b
+    → IfOk (if a && b then Ok (At object n low high stride) else Err (Undefined SUM_OUTSIDE)) (PointerIn spans)
+moved_by_test spans object cell low high stride n by true true h e below above =
+    moved_place spans object cell low high stride n by h e (leb-true low n below) (leb-true n high above)
+moved_by_test spans object cell low high stride n by true false h e below above = tt
+moved_by_test spans object cell low high stride n by false b h e below above = tt
+
+moved_to : (spans : List Span) (object cell low high stride : ℕ) (by z : ℤ) → PlaceIn spans object cell low high stride
+    → z ≡ pos cell +ℤ by *ℤ pos stride
+    → IfOk (if int_le (pos low) z && int_le z (pos high) then Ok (At object (unsigned_abs z) low high stride) else Err (Undefined SUM_OUTSIDE)) (PointerIn spans)
+moved_to spans object cell low high stride by (pos n) h e = moved_by_test spans object cell low high stride n by _ _ h e refl refl
+moved_to spans object cell low high stride by (negsuc n) h e = tt
+
+moved_by-pointer : (spans : List Span) (at : Pointer) (by : ℤ) → PointerIn spans at → IfOk (moved_by at by) (PointerIn spans)
+moved_by-pointer spans Null by h = tt
+moved_by-pointer spans (At object cell low high stride) by h = moved_to spans object cell low high stride by _ h refl
+
+within_ok : {A : Type 0} (ended : Bool) (rest : Result A Trap) (P : A → Type 0) → IfOk rest P → IfOk (if ended then Err (Undefined ENDED) else rest) P
+within_ok true rest P h = tt
+within_ok false rest P h = h
+
+each_ok : (result : Result Pointer Trap) (P Q : Pointer → Type 0) → ((p : Pointer) → P p → Q p) → IfOk result P → IfOk result Q
+each_ok (Ok p) P Q f h = f p h
+each_ok (Err e) P Q f h = tt
+
+pub flat_shift-pointer : (most : ℕ) (spans : List Span) (cells : List Cell) (shape : List (Scalar × Guard)) (at : Pointer) (by : ℤ) → HasRoom spans (length cells)
+    → PointerIn spans at → IfOk (flat_shift spans at by) (IsPointer (memory_of most spans cells shape))
+flat_shift-pointer most spans cells shape at by room h =
+    each_ok (flat_shift spans at by) (PointerIn spans) (IsPointer (memory_of most spans cells shape))
+    (λ p. is_pointer most spans cells shape p room) (within_ok (ended_in spans at) (moved_by at by) (PointerIn spans) (moved_by-pointer spans at by h))

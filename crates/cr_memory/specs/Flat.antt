@@ -1,0 +1,203 @@
+-- How the store keeps a memory: the cells of all objects one after another, and for each object the span of its cells.
+use Rattle.std.specs.Prelude.{◌≡◌, ◌==◌, ℤ, ℕ, zero, suc, ◌+◌, ◌-◌, ◌%◌, sum_by, ◌<◌, ◌≤◌, Bool, true, false, ◌||◌, not, Option, Some, None, Result, Ok, Err, List, map, length, take, drop, slice_index_or, slice_set, if◌then◌else◌}
+use Rattle.std.specs.List.{list_any}
+use Rattle.cr_ints.specs.IntKind.{Represents}
+use Rattle.cr_memory.specs.declared.value.Pointer.{Pointer}
+use Rattle.cr_memory.specs.declared.value.Pointer.TheVariants.{Null, At}
+use Rattle.cr_memory.specs.declared.value.Scalar.{Scalar}
+use Rattle.cr_memory.specs.declared.value.Scalar.TheVariants.{Int as IntegerKind, Pointer as PointerKind}
+use Rattle.cr_memory.specs.declared.value.Cell.{Cell}
+use Rattle.cr_memory.specs.declared.value.Cell.TheVariants.{Unset, Number, Pointer as PointerCell}
+use Rattle.cr_memory.specs.declared.value.Guard.{Guard}
+use Rattle.cr_memory.specs.declared.value.Guard.TheVariants.{Free}
+use Rattle.cr_memory.specs.declared.value.Trap.{Trap}
+use Rattle.cr_memory.specs.declared.value.Trap.TheVariants.{Undefined, Left}
+use Rattle.cr_memory.specs.declared.value.TheConstants.{NULL_OR_END, ENDED, UNSET, LITERAL_WRITTEN, CONSTANT_WRITTEN, OTHER_TYPE, END_COMPARED}
+use Rattle.cr_memory.specs.declared.span.Span.{Span}
+use Rattle.cr_memory.specs.Kind.{is_same}
+use Rattle.cr_memory.specs.Memory.{Object, Memory}
+use Rattle.cr_memory.specs.Pointers.{moved_by, difference_of, order_of}
+use Rattle.cr_memory.specs.Access.{is_null_or_end, is_unset, is_literal, is_constant, have_kinds, have_same_kinds, overwritten}
+
+abbrev pub span_at : List Span → ℕ → Span
+span_at spans number = slice_index_or spans number (record { first = 0; count = 0; below = 0; alive = false })
+
+-- the object of a span
+abbrev pub object_of : List Cell → List (Scalar × Guard) → Span → Option Object
+object_of cells shape span =
+    if span.alive
+    then Some (record { cells = take span.count (drop span.first cells); shape = take span.count (drop span.first shape) })
+    else None
+
+abbrev pub memory_of : ℕ → List Span → List Cell → List (Scalar × Guard) → Memory
+memory_of most spans cells shape = record { most = most; objects = map (object_of cells shape) spans }
+
+-- ---- the same tests as on the memory, on spans
+
+abbrev pub ended_in : List Span → Pointer → Bool
+ended_in spans Null = false
+ended_in spans (At object cell low high stride) = not (span_at spans object).alive
+
+abbrev pub held_ended_in : List Span → Cell → Bool
+held_ended_in spans Unset = false
+held_ended_in spans (Number value) = false
+held_ended_in spans (PointerCell pointer) = ended_in spans pointer
+
+-- where the cell that a pointer points to stands in the flat store
+abbrev pub index_of : List Span → Pointer → ℕ
+index_of spans Null = 0
+index_of spans (At object cell low high stride) = (span_at spans object).first + cell
+
+-- ---- what the spans promise
+
+-- a pointer names an object that was entered, into an array of whole elements, within its cells where it lives
+pub record PlaceIn (spans : List Span) (object cell low high stride : ℕ) : Type 0 where
+  pub entered : object < length spans
+  pub stride_above : 1 ≤ stride
+  pub low_before : low ≤ cell
+  pub high_after : cell ≤ high
+  pub whole_before : (cell - low) % stride ≡ 0
+  pub whole_after : (high - cell) % stride ≡ 0
+  pub within : (span_at spans object).alive ≡ true → high ≤ (span_at spans object).count
+
+abbrev pub PointerIn : List Span → Pointer → Type 0
+PointerIn spans Null = Unit {0}
+PointerIn spans (At object cell low high stride) = PlaceIn spans object cell low high stride
+
+-- a pointer that a cell holds is such a one
+abbrev pub CellIn : List Span → Cell → Type 0
+CellIn spans Unset = Unit {0}
+CellIn spans (Number value) = Unit {0}
+CellIn spans (PointerCell pointer) = PointerIn spans pointer
+
+-- what a cell of a kind may hold
+abbrev pub HoldsIn : List Span → Scalar → Cell → Type 0
+HoldsIn spans kind Unset = Unit {0}
+HoldsIn spans (IntegerKind kind) (Number value) = Represents kind value
+HoldsIn spans (IntegerKind kind) (PointerCell pointer) = ⊥
+HoldsIn spans (PointerKind to) (Number value) = ⊥
+HoldsIn spans (PointerKind to) (PointerCell pointer) = PointerIn spans pointer
+
+-- a pointer that isn't null stands at or after the beginning of its array, and its elements have cells
+abbrev pub HasSubscript : Pointer → Type 0
+HasSubscript Null = Unit {0}
+HasSubscript (At object cell low high stride) = (low ≤ cell) × (1 ≤ stride)
+
+-- each live span lies among so many cells
+pub record HasRoom (spans : List Span) (room : ℕ) : Type 0 where
+  pub within : (number : ℕ) → (span_at spans number).alive ≡ true → (span_at spans number).first + (span_at spans number).count ≤ room
+
+-- what stands at a place of the flat store
+abbrev pub cell_or : List Cell → ℕ → Cell
+cell_or cells index = slice_index_or cells index Unset
+
+abbrev pub shape_or : List (Scalar × Guard) → ℕ → Scalar × Guard
+shape_or shape index = slice_index_or shape index (PointerKind 0, Free)
+
+abbrev pub span_count : Span → ℕ
+span_count span = if span.alive then span.count else 0
+
+-- the span of a new object; and a span whose object's lifetime has ended
+abbrev pub span_of : ℕ → ℕ → ℕ → Span
+span_of first count below = record { first = first; count = count; below = below; alive = true }
+
+abbrev pub ended_span : Span → Span
+ended_span span = record { first = span.first; count = span.count; below = span.below; alive = false }
+
+abbrev pub moved_span : ℕ → Span → Span
+moved_span first span = record { first = first; count = span.count; below = span.below; alive = span.alive }
+
+-- where the cells of the objects below a number end, the last of which lives
+abbrev pub end_of : List Span → ℕ → ℕ
+end_of spans zero = 0
+end_of spans (suc last) = (span_at spans last).first + (span_at spans last).count
+
+-- what holds of the store at every moment
+pub record IsStored (most live top : ℕ) (spans : List Span) (cells : List Cell) (shape : List (Scalar × Guard)) : Type 0 where
+  pub same_length : length shape ≡ length cells
+  pub room : HasRoom spans (length cells)
+  -- a live span ends before a later live one begins
+  pub apart : (left right : ℕ) → left < right → (span_at spans left).alive ≡ true → (span_at spans right).alive ≡ true
+      → (span_at spans left).first + (span_at spans left).count ≤ (span_at spans right).first
+  pub counted : live ≡ sum_by span_count spans
+  pub at_most : live ≤ most
+  -- from `top` on no object lives; a span's link jumps over objects that don't live
+  pub top_entered : top ≤ length spans
+  pub above : (number : ℕ) → top ≤ number → (span_at spans number).alive ≡ false
+  pub links : (number between : ℕ) → number < length spans → (span_at spans number).below ≤ between → between < number → (span_at spans between).alive ≡ false
+  pub links_down : (number : ℕ) → (span_at spans number).below ≤ number
+  pub holds : (index : ℕ) → index < length cells → HoldsIn spans (shape_or shape index).0 (cell_or cells index)
+
+-- ---- the operations on the flat store
+
+abbrev pub flat_load : List Span → List Cell → List (Scalar × Guard) → Pointer → Scalar → Result Cell Trap
+flat_load spans cells shape at kind =
+    let cell = cell_or cells (index_of spans at) in
+    let own = shape_or shape (index_of spans at) in
+    if ended_in spans at then Err (Undefined ENDED)
+    else (if is_null_or_end at then Err (Undefined NULL_OR_END)
+    else (if held_ended_in spans cell then Err (Undefined ENDED)
+    else (if not (is_same own.0 kind) then Err (Left OTHER_TYPE)
+    else (if is_unset cell then Err (Undefined UNSET)
+    else Ok cell))))
+
+abbrev pub flat_save : List Span → List Cell → List (Scalar × Guard) → Pointer → Scalar → Cell → Result (List Cell) Trap
+flat_save spans cells shape at kind value =
+    let own = shape_or shape (index_of spans at) in
+    if ended_in spans at then Err (Undefined ENDED)
+    else (if is_null_or_end at then Err (Undefined NULL_OR_END)
+    else (if is_literal own.1 then Err (Undefined LITERAL_WRITTEN)
+    else (if is_constant own.1 then Err (Undefined CONSTANT_WRITTEN)
+    else (if not (is_same own.0 kind) then Err (Left OTHER_TYPE)
+    else Ok (slice_set cells (index_of spans at) value)))))
+
+abbrev pub flat_copy : List Span → List Cell → List (Scalar × Guard) → Pointer → Pointer → ℕ → Result (List Cell) Trap
+flat_copy spans cells shape from to count =
+    let own = take count (drop (index_of spans to) shape) in
+    if ended_in spans from || ended_in spans to then Err (Undefined ENDED)
+    else (if is_null_or_end from || is_null_or_end to then Err (Undefined NULL_OR_END)
+    else (if list_any (λ s. is_literal s.1) own then Err (Undefined LITERAL_WRITTEN)
+    else (if list_any (λ s. is_constant s.1) own then Err (Undefined CONSTANT_WRITTEN)
+    else (if not (have_same_kinds (take count (drop (index_of spans from) shape)) own) then Err (Left OTHER_TYPE)
+    else Ok (overwritten cells (index_of spans to) (take count (drop (index_of spans from) cells)))))))
+
+abbrev pub flat_cells : List Span → List Cell → List (Scalar × Guard) → Pointer → List Scalar → Result (List Cell) Trap
+flat_cells spans cells shape from kinds =
+    if ended_in spans from then Err (Undefined ENDED)
+    else (if is_null_or_end from then Err (Undefined NULL_OR_END)
+    else (if not (have_kinds (take (length kinds) (drop (index_of spans from) shape)) kinds) then Err (Left OTHER_TYPE)
+    else Ok (take (length kinds) (drop (index_of spans from) cells))))
+
+abbrev pub flat_shift : List Span → Pointer → ℤ → Result Pointer Trap
+flat_shift spans at by = if ended_in spans at then Err (Undefined ENDED) else moved_by at by
+
+abbrev pub flat_differ : List Span → Pointer → Pointer → Result ℤ Trap
+flat_differ spans left right =
+    if ended_in spans left || ended_in spans right then Err (Undefined ENDED) else difference_of left right
+
+abbrev pub flat_less : List Span → Pointer → Pointer → Result Bool Trap
+flat_less spans left right =
+    if ended_in spans left || ended_in spans right then Err (Undefined ENDED) else order_of left right
+
+abbrev pub flat_equality : List Span → Pointer → Pointer → Result Bool Trap
+flat_equality spans Null Null = Ok true
+flat_equality spans Null (At object cell low high stride) = Ok false
+flat_equality spans (At object cell low high stride) Null = Ok false
+flat_equality spans (At object cell low high stride) (At object' cell' low' high' stride') =
+    if object == object' then Ok (cell == cell')
+    else (if ((span_at spans object).count == cell) || ((span_at spans object').count == cell') then Err (Left END_COMPARED)
+    else Ok false)
+
+abbrev pub flat_same : List Span → Pointer → Pointer → Result Bool Trap
+flat_same spans left right =
+    if ended_in spans left || ended_in spans right then Err (Undefined ENDED) else flat_equality spans left right
+
+-- an object that lives was moved down to a place; one that has ended was not
+pub record MovesDown (spans : List Span) (cells : List Cell) (shape : List (Scalar × Guard)) (number to : ℕ)
+    (spans' : List Span) (cells' : List Cell) (shape' : List (Scalar × Guard)) (end : ℕ) : Type 0 where
+  pub ended : (span_at spans number).alive ≡ false → (spans' ≡ spans) × (cells' ≡ cells) × (shape' ≡ shape) × (end ≡ to)
+  pub live : (span_at spans number).alive ≡ true
+      → (spans' ≡ slice_set spans number (moved_span to (span_at spans number)))
+      × (cells' ≡ overwritten cells to (take (span_at spans number).count (drop (span_at spans number).first cells)))
+      × (shape' ≡ overwritten shape to (take (span_at spans number).count (drop (span_at spans number).first shape)))
+      × (end ≡ to + (span_at spans number).count)

@@ -1,0 +1,172 @@
+ghost use Rattle.std.specs.Prelude.{◌≡◌, ◌<◌, ◌==◌, length};
+ghost use Rattle.cr_memory.specs.Pointers.{moved_by, difference_of, order_of};
+ghost use Rattle.cr_memory.specs.Flat.{span_at, PointerIn, HasSubscript, flat_shift, flat_differ, flat_less, flat_equality, flat_same};
+
+use crate::flat::has_ended;
+use crate::span::Span;
+use crate::value::{
+    DIFFERENT_ARRAYS, DIFFERENT_OBJECTS, END_COMPARED, ENDED, Pointer, SUM_OUTSIDE, Trap,
+};
+
+/// The sum of a pointer and a number of elements.
+fn moved(at: Pointer, by: i128) -> Result<Pointer, Trap>
+    ensures { result ≡ moved_by at by }
+{
+    let Pointer::At {
+        object,
+        cell,
+        low,
+        high,
+        stride,
+    } = at
+    else {
+        return Err(Trap::Undefined(SUM_OUTSIDE));
+    };
+    let moved = by
+        .checked_mul(i128::from(stride))
+        .and_then(|cells| cells.checked_add(i128::from(cell)));
+    match moved {
+        Some(moved) if i128::from(low) <= moved && moved <= i128::from(high) => {
+            Ok(Pointer::At {
+                object,
+                cell: moved as u32,
+                low,
+                high,
+                stride,
+            })
+        }
+        _ => Err(Trap::Undefined(SUM_OUTSIDE)),
+    }
+}
+
+/// The difference of the subscripts in one array.
+fn difference(left: Pointer, right: Pointer) -> Result<i128, Trap>
+    requires left { HasSubscript left }
+    requires right { HasSubscript right }
+    ensures { result ≡ difference_of left right }
+{
+    match (left, right) {
+        (
+            Pointer::At {
+                object,
+                cell,
+                low,
+                high,
+                stride,
+            },
+            Pointer::At {
+                object: other,
+                cell: cell_r,
+                low: low_r,
+                high: high_r,
+                stride: stride_r,
+            },
+        ) if object == other && low == low_r && high == high_r => {
+            Ok(i128::from((cell - low) / stride) - i128::from((cell_r - low_r) / stride_r))
+        }
+        _ => Err(Trap::Undefined(DIFFERENT_ARRAYS)),
+    }
+}
+
+/// Whether the one place in an object comes before the other.
+fn order(left: Pointer, right: Pointer) -> Result<bool, Trap>
+    ensures { result ≡ order_of left right }
+{
+    match (left, right) {
+        (
+            Pointer::At { object, cell, .. },
+            Pointer::At {
+                object: other,
+                cell: cell_r,
+                ..
+            },
+        ) if object == other => { Ok(cell < cell_r) }
+        _ => Err(Trap::Undefined(DIFFERENT_OBJECTS)),
+    }
+}
+
+/// Whether both are null, or the same place of one object.
+fn equality(spans: &Vec<Span>, left: Pointer, right: Pointer) -> Result<bool, Trap>
+    requires left { PointerIn spans.now.items left }
+    requires right { PointerIn spans.now.items right }
+    ensures { result ≡ flat_equality spans.now.items left right }
+{
+    match (left, right) {
+        (Pointer::Null, Pointer::Null) => Ok(true),
+        (
+            Pointer::At { object, cell, .. },
+            Pointer::At {
+                object: other,
+                cell: cell_r,
+                ..
+            },
+        ) => {
+            if object == other {
+                Ok(cell == cell_r)
+            } else if is_last_end(spans, object, cell) || is_last_end(spans, other, cell_r) {
+                Err(Trap::Left(END_COMPARED))
+            } else {
+                Ok(false)
+            }
+        }
+        _ => Ok(false),
+    }
+}
+
+fn is_last_end(spans: &Vec<Span>, object: u32, cell: u32) -> bool
+    requires { object < length spans.now.items }
+    ensures { result ≡ ((span_at spans.now.items object).count == cell) }
+{
+    spans[object as usize].count == cell
+}
+
+/// A pointer moved by a number of elements.
+pub(crate) fn shift(spans: &Vec<Span>, at: Pointer, by: i128) -> Result<Pointer, Trap>
+    requires { PointerIn spans.now.items at }
+    ensures { result ≡ flat_shift spans.now.items at by }
+{
+    if has_ended(spans, at) {
+        Err(Trap::Undefined(ENDED))
+    } else {
+        moved(at, by)
+    }
+}
+
+/// The distance of two pointers in elements.
+pub(crate) fn differ(spans: &Vec<Span>, left: Pointer, right: Pointer) -> Result<i128, Trap>
+    requires left { PointerIn spans.now.items left }
+    requires right { PointerIn spans.now.items right }
+    ensures { result ≡ flat_differ spans.now.items left right }
+{
+    if has_ended(spans, left) || has_ended(spans, right) {
+        Err(Trap::Undefined(ENDED))
+    } else {
+        difference(left, right)
+    }
+}
+
+/// The order of two pointers.
+pub(crate) fn less(spans: &Vec<Span>, left: Pointer, right: Pointer) -> Result<bool, Trap>
+    requires left { PointerIn spans.now.items left }
+    requires right { PointerIn spans.now.items right }
+    ensures { result ≡ flat_less spans.now.items left right }
+{
+    if has_ended(spans, left) || has_ended(spans, right) {
+        Err(Trap::Undefined(ENDED))
+    } else {
+        order(left, right)
+    }
+}
+
+/// The equality of two pointers.
+pub(crate) fn same(spans: &Vec<Span>, left: Pointer, right: Pointer) -> Result<bool, Trap>
+    requires left { PointerIn spans.now.items left }
+    requires right { PointerIn spans.now.items right }
+    ensures { result ≡ flat_same spans.now.items left right }
+{
+    if has_ended(spans, left) || has_ended(spans, right) {
+        Err(Trap::Undefined(ENDED))
+    } else {
+        equality(spans, left, right)
+    }
+}

@@ -1,0 +1,332 @@
+ghost use Rattle.std.specs.Prelude.{◌≡◌, ◌<◌, ◌≤◌, ◌↔◌, ℕ, ◌+◌, length, true, false, map, take, drop, slice_set, IsTrue, IsNone, IfNone, IfSome, IfOk, OnErr};
+ghost use Rattle.std.specs.List.{list_any};
+ghost use Rattle.cr_memory.specs.Kind.{is_same};
+ghost use Rattle.cr_memory.specs.Access.{is_null_or_end, is_literal, is_constant, have_kinds, have_same_kinds, overwritten, Writes, Reads, HasStride};
+ghost use Rattle.cr_memory.specs.Flat.{span_at, ended_in, held_ended_in, index_of, PlaceIn, PointerIn, HoldsIn, CellIn, HasRoom, cell_or, shape_or, flat_load, flat_save, flat_copy, flat_cells};
+
+use crate::span::Span;
+use crate::value::{
+    CONSTANT_WRITTEN, Cell, ENDED, Guard, LITERAL_WRITTEN, NULL_OR_END, OTHER_TYPE, Pointer,
+    Scalar, Trap, UNSET,
+};
+use std::alloc::Global;
+
+pub(crate) fn is_same(left: Scalar, right: Scalar) -> bool
+    ensures { result ≡ is_same left right }
+{
+    left == right
+}
+
+pub(crate) fn has_ended(spans: &Vec<Span>, at: Pointer) -> bool
+    requires { PointerIn spans.now.items at }
+    ensures { result ≡ ended_in spans.now.items at }
+{
+    match at {
+        Pointer::Null => false,
+        Pointer::At { object, .. } => !spans[object as usize].alive,
+    }
+}
+
+fn holds_ended(spans: &Vec<Span>, cell: Cell) -> bool
+    requires { CellIn spans.now.items cell }
+    ensures { result ≡ held_ended_in spans.now.items cell }
+{
+    match cell {
+        Cell::Pointer(pointer) => has_ended(spans, pointer),
+        Cell::Unset | Cell::Number(_) => false,
+    }
+}
+
+/// The place of the cell that a pointer points to, if it points to one.
+fn index(spans: &Vec<Span>, cells: &Vec<Cell>, at: Pointer) -> Option<usize>
+    requires live { ended_in spans.now.items at ≡ false }
+    requires within { PointerIn spans.now.items at }
+    requires room { HasRoom spans.now.items (length cells.now.items) }
+    ensures none { IsNone result ↔ (is_null_or_end at ≡ true) }
+    ensures place { IfSome result (λ i. (i ≡ index_of spans.now.items at) × (i < length cells.now.items)) }
+{
+    match at {
+        Pointer::At {
+            object,
+            cell,
+            high,
+            ..
+        } if cell < high => Some(spans[object as usize].first + cell as usize),
+        _ => None,
+    }
+}
+
+/// The place of the first of the cells of an element, if the pointer points to one.
+fn first_index(spans: &Vec<Span>, cells: &Vec<Cell>, at: Pointer, count: usize) -> Option<usize>
+    requires live { ended_in spans.now.items at ≡ false }
+    requires within { PointerIn spans.now.items at }
+    requires stride { HasStride at count }
+    requires room { HasRoom spans.now.items (length cells.now.items) }
+    ensures none { IsNone result ↔ (is_null_or_end at ≡ true) }
+    ensures place { IfSome result (λ i. (i ≡ index_of spans.now.items at) × (i + count ≤ length cells.now.items)) }
+{
+    index(spans, cells, at)
+}
+
+/// The cell at a pointer's place as a value of a kind.
+pub(crate) fn load(
+    spans: &Vec<Span>,
+    cells: &Vec<Cell>,
+    shape: &Vec<(Scalar, Guard)>,
+    at: Pointer,
+    kind: Scalar,
+) -> Result<Cell, Trap>
+    requires within { PointerIn spans.now.items at }
+    requires room { HasRoom spans.now.items (length cells.now.items) }
+    requires same_length { length shape.now.items ≡ length cells.now.items }
+    requires held { (i : ℕ) → i < length cells.now.items → CellIn spans.now.items (cell_or cells.now.items i) }
+    ensures { result ≡ flat_load spans.now.items cells.now.items shape.now.items at kind }
+{
+    if has_ended(spans, at) {
+        return Err(Trap::Undefined(ENDED));
+    }
+    let Some(index) = index(spans, cells, at) else {
+        return Err(Trap::Undefined(NULL_OR_END));
+    };
+    let cell = cells[index];
+    if holds_ended(spans, cell) {
+        Err(Trap::Undefined(ENDED))
+    } else if !is_same(shape[index].0, kind) {
+        Err(Trap::Left(OTHER_TYPE))
+    } else if cell == Cell::Unset {
+        Err(Trap::Undefined(UNSET))
+    } else {
+        Ok(cell)
+    }
+}
+
+/// Writes a value of a kind to the cell at a pointer's place.
+pub(crate) fn save(
+    spans: &Vec<Span>,
+    cells: &mut Vec<Cell>,
+    shape: &Vec<(Scalar, Guard)>,
+    at: Pointer,
+    kind: Scalar,
+    value: Cell,
+) -> Result<(), Trap>
+    requires within { PointerIn spans.now.items at }
+    requires room { HasRoom spans.now.items (length cells.old.items) }
+    requires same_length { length shape.now.items ≡ length cells.old.items }
+    ensures { Writes (flat_save spans.now.items cells.old.items shape.now.items at kind value) result cells.old.items cells.new.items }
+{
+    if has_ended(spans, at) {
+        return Err(Trap::Undefined(ENDED));
+    }
+    let Some(index) = index(spans, cells, at) else {
+        return Err(Trap::Undefined(NULL_OR_END));
+    };
+    let (own, guard) = shape[index];
+    match guard {
+        Guard::Literal => Err(Trap::Undefined(LITERAL_WRITTEN)),
+        Guard::Constant => Err(Trap::Undefined(CONSTANT_WRITTEN)),
+        Guard::Free if !is_same(own, kind) => Err(Trap::Left(OTHER_TYPE)),
+        Guard::Free => {
+            cells[index] = value;
+            Ok(())
+        }
+    }
+}
+
+fn has_literal(shape: &[(Scalar, Guard)]) -> bool
+    ensures { result ≡ list_any (λ s. is_literal s.1) shape.now }
+{
+    shape.iter().any(|s| s.1 == Guard::Literal)
+}
+
+fn has_constant(shape: &[(Scalar, Guard)]) -> bool
+    ensures { result ≡ list_any (λ s. is_constant s.1) shape.now }
+{
+    shape.iter().any(|s| s.1 == Guard::Constant)
+}
+
+fn have_same_kinds(left: &[(Scalar, Guard)], right: &[(Scalar, Guard)]) -> bool
+    ensures { result ≡ have_same_kinds left.now right.now }
+{
+    left.iter().zip(right).all(|(l, r)| is_same(l.0, r.0))
+}
+
+fn have_kinds(shape: &[(Scalar, Guard)], kinds: &[Scalar]) -> bool
+    ensures { result ≡ have_kinds shape.now kinds.now }
+{
+    shape
+        .iter()
+        .zip(kinds)
+        .all(|(own, kind)| is_same(own.0, *kind))
+}
+
+/// Copies items to a place before theirs.
+pub(crate) fn copy_down<T: Copy>(items: &mut Vec<T>, source: usize, target: usize, count: usize)
+    requires down { target ≤ source }
+    requires within { source + count ≤ length items.old.items }
+    ensures { items.new.items ≡ overwritten items.old.items target (take count (drop source items.old.items)) }
+{
+    for i in 0..count {
+        items[target + i] = items[source + i];
+    }
+}
+
+/// Copies cells to a place after theirs.
+fn copy_up(cells: &mut Vec<Cell>, source: usize, target: usize, count: usize)
+    requires up { source < target }
+    requires within { target + count ≤ length cells.old.items }
+    ensures { cells.new.items ≡ overwritten cells.old.items target (take count (drop source cells.old.items)) }
+{
+    for i in (0..count).rev() {
+        cells[target + i] = cells[source + i];
+    }
+}
+
+/// Copies as many cells as a structure has.
+pub(crate) fn copy(
+    spans: &Vec<Span>,
+    cells: &mut Vec<Cell>,
+    shape: &Vec<(Scalar, Guard)>,
+    from: Pointer,
+    to: Pointer,
+    count: u32,
+) -> Result<(), Trap>
+    requires from { PointerIn spans.now.items from }
+    requires to { PointerIn spans.now.items to }
+    requires from_stride { HasStride from count }
+    requires to_stride { HasStride to count }
+    requires room { HasRoom spans.now.items (length cells.old.items) }
+    requires same_length { length shape.now.items ≡ length cells.old.items }
+    ensures { Writes (flat_copy spans.now.items cells.old.items shape.now.items from to count) result cells.old.items cells.new.items }
+{
+    if has_ended(spans, from) || has_ended(spans, to) {
+        return Err(Trap::Undefined(ENDED));
+    }
+    let count = count as usize;
+    let Some(source) = first_index(spans, cells, from, count) else {
+        return Err(Trap::Undefined(NULL_OR_END));
+    };
+    let Some(target) = first_index(spans, cells, to, count) else {
+        return Err(Trap::Undefined(NULL_OR_END));
+    };
+    let own = &shape[target..target + count];
+    if has_literal(own) {
+        return Err(Trap::Undefined(LITERAL_WRITTEN));
+    }
+    if has_constant(own) {
+        return Err(Trap::Undefined(CONSTANT_WRITTEN));
+    }
+    if !have_same_kinds(&shape[source..source + count], own) {
+        return Err(Trap::Left(OTHER_TYPE));
+    }
+    if target <= source {
+        copy_down(cells, source, target, count);
+    } else {
+        copy_up(cells, source, target, count);
+    }
+    Ok(())
+}
+
+/// The cells of a structure.
+pub(crate) fn cells(
+    alloc: Global,
+    spans: &Vec<Span>,
+    cells: &Vec<Cell>,
+    shape: &Vec<(Scalar, Guard)>,
+    from: Pointer,
+    kinds: &[Scalar],
+) -> Result<Vec<Cell>, Trap>
+    requires from { PointerIn spans.now.items from }
+    requires from_stride { HasStride from (length kinds.now) }
+    requires room { HasRoom spans.now.items (length cells.now.items) }
+    requires same_length { length shape.now.items ≡ length cells.now.items }
+    ensures { Reads (flat_cells spans.now.items cells.now.items shape.now.items from kinds.now) result }
+{
+    if has_ended(spans, from) {
+        return Err(Trap::Undefined(ENDED));
+    }
+    let Some(start) = first_index(spans, cells, from, kinds.len()) else {
+        return Err(Trap::Undefined(NULL_OR_END));
+    };
+    if !have_kinds(&shape[start..start + kinds.len()], kinds) {
+        return Err(Trap::Left(OTHER_TYPE));
+    }
+    match cells[start..start + kinds.len()].to_vec(alloc) {
+        Ok(copy) => Ok(copy),
+        Err(_) => Err(Trap::NoMemory),
+    }
+}
+
+/// Sets a cell of a live object, whatever its guard.
+pub(crate) fn begin(spans: &Vec<Span>, cells: &mut Vec<Cell>, object: u32, cell: u32, value: Cell)
+    requires entered { object < length spans.now.items }
+    requires within { (span_at spans.now.items object).first + cell < length cells.old.items }
+    ensures { cells.new.items ≡ slice_set cells.old.items ((span_at spans.now.items object).first + cell) value }
+{
+    cells[spans[object as usize].first + cell as usize] = value;
+}
+
+/// Whether a pointer names an object that was entered, into an array of whole elements, within its cells where it lives.
+pub(crate) fn is_pointer(spans: &Vec<Span>, at: Pointer) -> bool
+    ensures { IsTrue result ↔ PointerIn spans.now.items at }
+{
+    match at {
+        Pointer::Null => true,
+        Pointer::At {
+            object,
+            cell,
+            low,
+            high,
+            stride,
+        } => is_array_place(spans, object, cell, low, high, stride),
+    }
+}
+
+fn is_array_place(
+    spans: &Vec<Span>,
+    object: u32,
+    cell: u32,
+    low: u32,
+    high: u32,
+    stride: u32,
+) -> bool
+    ensures { IsTrue result ↔ PlaceIn spans.now.items object cell low high stride }
+{
+    if object as usize >= spans.len() || stride == 0 || cell < low || high < cell {
+        return false;
+    }
+    let span = spans[object as usize];
+    (cell - low) % stride == 0 && (high - cell) % stride == 0 && (!span.alive || high <= span.count)
+}
+
+/// Whether a value may stand in a cell of a kind.
+pub(crate) fn holds(spans: &Vec<Span>, kind: Scalar, value: Cell) -> bool
+    ensures { IsTrue result ↔ HoldsIn spans.now.items kind value }
+{
+    match (kind, value) {
+        (_, Cell::Unset) => true,
+        (Scalar::Int(kind), Cell::Number(number)) => kind.can_represent(number),
+        (Scalar::Pointer(_), Cell::Pointer(pointer)) => is_pointer(spans, pointer),
+        _ => false,
+    }
+}
+
+/// The kind of a live object's cell.
+pub(crate) fn kind_of(
+    spans: &Vec<Span>,
+    shape: &Vec<(Scalar, Guard)>,
+    object: u32,
+    cell: u32,
+) -> Option<Scalar>
+    requires { HasRoom spans.now.items (length shape.now.items) }
+    ensures some { IfSome result (λ kind. ((span_at spans.now.items object).alive ≡ true) × (cell < (span_at spans.now.items object).count) × (kind ≡ (shape_or shape.now.items ((span_at spans.now.items object).first + cell)).0)) }
+    ensures none { IfNone result ((span_at spans.now.items object).alive ≡ true → (span_at spans.now.items object).count ≤ cell) }
+{
+    if object as usize >= spans.len() {
+        return None;
+    }
+    let span = spans[object as usize];
+    if !span.alive || cell >= span.count {
+        return None;
+    }
+    Some(shape[span.first + cell as usize].0)
+}

@@ -1,0 +1,237 @@
+ghost use Rattle.std.specs.Prelude.{◌≡◌, ◌<◌, ◌≤◌, ◌↔◌, [], ◌∷◌, false, length, is_some, IsSome, IsTrue, IfSome, IfNone, ◌⊎◌, IfOk, IfErr, OnErr};
+ghost use Rattle.cr_memory.specs.Memory.{IsPointer, Holds, AllHold, KeepsPointers, live_object, count_of, has_room, new_object, with_object, without_object};
+ghost use Rattle.cr_memory.specs.Access.{load_of, save_of, copy_of, cells_of, shape_in, with_cells, Writes, Reads, HasStride};
+ghost use Rattle.cr_memory.specs.Pointers.{shift_of, differ_of, less_of, same_of};
+
+use crate::span::Span;
+use crate::value::{Cell, Guard, NO_ROOM, Pointer, Scalar, Trap};
+use crate::{arithmetic, flat, lifetime};
+use std::alloc::Global;
+use std::marker::Model;
+
+/// The memory of a running program: objects of cells, each with its kind and its guard.
+#[derive(Drop)]
+pub struct Store {
+    most: u32,
+    live: u32,
+    top: u32,
+    spans: Vec<Span>,
+    cells: Vec<Cell>,
+    shape: Vec<(Scalar, Guard)>,
+}
+
+impl Model for Store {
+    ghost use Rattle.cr_memory.specs.Memory.{Memory};
+    ghost use Rattle.cr_memory.specs.Flat.{memory_of, IsStored};
+
+    ghost Value = { Memory };
+
+    ghost view = { λ s. memory_of s.most s.spans.items s.cells.items s.shape.items };
+
+    ghost invariant = { λ s. IsStored s.most s.live s.top s.spans.items s.cells.items s.shape.items };
+}
+
+impl Store {
+    /// A memory without objects, in which at most so many cells live at once.
+    pub fn new(alloc: Global, most: u32) -> Store
+        ensures { result ≡ record { most = most; objects = [] } }
+    {
+        Store {
+            most,
+            live: 0,
+            top: 0,
+            spans: Vec::new(alloc),
+            cells: Vec::new(alloc),
+            shape: Vec::new(alloc),
+        }
+    }
+
+    /// The value of a scalar object (C11 6.3.2.1p2): U9, U10, U11, N5.
+    pub fn load(&self, at: Pointer, kind: Scalar) -> Result<Cell, Trap>
+        requires { IsPointer self.now at }
+        ensures value { result ≡ load_of self.now at kind }
+        ensures holds { IfOk result (Holds self.now kind) }
+    {
+        flat::load(&self.spans, &self.cells, &self.shape, at, kind)
+    }
+
+    /// The cells of a structure from the pointer on, one for each kind (C11 6.2.6.1p6): U9, U10 of the pointer alone, N5.
+    pub fn cells(&self, alloc: Global, from: Pointer, kinds: &[Scalar]) -> Result<Vec<Cell>, Trap>
+        requires pointer { IsPointer self.now from }
+        requires stride { HasStride from (length kinds.now) }
+        ensures value { Reads (cells_of self.now from kinds.now) result }
+        ensures holds { IfOk result (λ cells. AllHold self.now kinds.now cells.items) }
+    {
+        flat::cells(alloc, &self.spans, &self.cells, &self.shape, from, kinds)
+    }
+
+    /// The pointer moved by so many elements (6.5.6p8): U6, U10.
+    pub fn shift(&self, at: Pointer, by: i128) -> Result<Pointer, Trap>
+        requires { IsPointer self.now at }
+        ensures value { result ≡ shift_of self.now at by }
+        ensures pointer { IfOk result (IsPointer self.now) }
+    {
+        arithmetic::shift(&self.spans, at, by)
+    }
+
+    /// The distance of two pointers into one array, in elements (6.5.6p9): U7, U10.
+    pub fn differ(&self, left: Pointer, right: Pointer) -> Result<i128, Trap>
+        requires left { IsPointer self.now left }
+        requires right { IsPointer self.now right }
+        ensures { result ≡ differ_of self.now left right }
+    {
+        arithmetic::differ(&self.spans, left, right)
+    }
+
+    /// Whether the one place in an object comes before the other (6.5.8p5): U8, U10.
+    pub fn less(&self, left: Pointer, right: Pointer) -> Result<bool, Trap>
+        requires left { IsPointer self.now left }
+        requires right { IsPointer self.now right }
+        ensures { result ≡ less_of self.now left right }
+    {
+        arithmetic::less(&self.spans, left, right)
+    }
+
+    /// Whether two pointers are equal (6.5.9p6): U10, N6.
+    pub fn same(&self, left: Pointer, right: Pointer) -> Result<bool, Trap>
+        requires left { IsPointer self.now left }
+        requires right { IsPointer self.now right }
+        ensures { result ≡ same_of self.now left right }
+    {
+        arithmetic::same(&self.spans, left, right)
+    }
+
+    /// Stores a value in a scalar object (6.5.16p3): U9, U10, U13, U14, N5.
+    pub fn save(&mut self, at: Pointer, kind: Scalar, value: Cell) -> Result<(), Trap>
+        requires pointer { IsPointer self.old at }
+        requires value { Holds self.old kind value }
+        ensures written { Writes (save_of self.old at kind value) result self.old self.new }
+        ensures kept { KeepsPointers self.old self.new }
+    {
+        flat::save(&self.spans, &mut self.cells, &self.shape, at, kind, value)
+    }
+
+    /// Stores a structure in another one (6.5.16.1p2): U9, U10 of the two pointers alone, U13, U14, N5.
+    pub fn copy(&mut self, from: Pointer, to: Pointer, count: u32) -> Result<(), Trap>
+        requires from { IsPointer self.old from }
+        requires to { IsPointer self.old to }
+        requires from_stride { HasStride from count }
+        requires to_stride { HasStride to count }
+        ensures written { Writes (copy_of self.old from to count) result self.old self.new }
+        ensures kept { KeepsPointers self.old self.new }
+    {
+        flat::copy(&self.spans, &mut self.cells, &self.shape, from, to, count)
+    }
+
+    /// Initialises a cell of a live object, whatever its guard (6.7.9).
+    pub fn begin(&mut self, object: u32, cell: u32, value: Cell)
+        requires live { cell < count_of (live_object self.old object) }
+        requires value { Holds self.old (shape_in self.old object cell).0 value }
+        ensures begun { self.new ≡ with_cells self.old object cell (value ∷ []) }
+        ensures kept { KeepsPointers self.old self.new }
+    {
+        flat::begin(&self.spans, &mut self.cells, object, cell, value)
+    }
+
+    /// Enters an object, its cells zero or null where `zero`, and else unset. N3: `Left(3)` comes exactly where more cells
+    /// would live than the store may hold, or 4,294,967,295 objects were entered before.
+    pub fn enter(&mut self, shape: &[(Scalar, Guard)], zero: bool) -> Result<u32, Trap>
+        ensures entered { IfOk result (λ number. (number ≡ length self.old.objects) × (self.new ≡ with_object self.old (new_object zero shape.now))) }
+
+        ensures no_room { (result ≡ Err (Trap.Left NO_ROOM)) ↔ (has_room self.old (length shape.now) ≡ false) }
+        ensures causes { IfErr result (λ trap. (trap ≡ Trap.Left NO_ROOM) ⊎ (trap ≡ Trap.NoMemory)) }
+        ensures refused { OnErr result (self.new ≡ self.old) }
+
+        ensures kept { KeepsPointers self.old self.new }
+    {
+        let count = shape.len();
+        if !lifetime::has_room(&self.spans, self.most, self.live, count) {
+            return Err(Trap::Left(NO_ROOM));
+        }
+        match lifetime::enter(
+            &mut self.spans,
+            &mut self.cells,
+            &mut self.shape,
+            self.top,
+            shape,
+            zero,
+        ) {
+            Ok(number) => {
+                self.live += count as u32;
+                self.top = number + 1;
+                Ok(number)
+            }
+            Err(_) => Err(Trap::NoMemory),
+        }
+    }
+
+    /// Ends the lifetime of a live object (6.2.4p2).
+    pub fn leave(&mut self, object: u32)
+        requires { IsSome (live_object self.old object) }
+        ensures ended { self.new ≡ without_object self.old object }
+        ensures kept { KeepsPointers self.old self.new }
+    {
+        self.live -= lifetime::end_object(&mut self.spans, object);
+        self.top = lifetime::top_below(&self.spans, self.top);
+        let end = lifetime::end(&self.spans, self.top);
+        lifetime::cut(&mut self.cells, end);
+        lifetime::cut(&mut self.shape, end);
+        self.tidy();
+    }
+
+    /// Whether the object's lifetime goes on.
+    pub fn is_live(&self, object: u32) -> bool
+        ensures { result ≡ is_some (live_object self.now object) }
+    {
+        (object as usize) < self.spans.len() && self.spans[object as usize].alive
+    }
+
+    /// Whether the pointer is one of this memory: what the other calls ask of their pointers.
+    pub fn is_pointer(&self, at: Pointer) -> bool
+        ensures { IsTrue result ↔ IsPointer self.now at }
+    {
+        flat::is_pointer(&self.spans, at)
+    }
+
+    /// Whether a cell of the kind may hold the value: what `save` asks of its value.
+    pub fn holds(&self, kind: Scalar, value: Cell) -> bool
+        ensures { IsTrue result ↔ Holds self.now kind value }
+    {
+        flat::holds(&self.spans, kind, value)
+    }
+
+    /// The kind of an object's cell, if the object is live and has that cell: what `begin` asks of its cell.
+    pub fn kind_of(&self, object: u32, cell: u32) -> Option<Scalar>
+        ensures some { IfSome result (λ kind. (cell < count_of (live_object self.now object)) × (kind ≡ (shape_in self.now object cell).0)) }
+        ensures none { IfNone result (count_of (live_object self.now object) ≤ cell) }
+    {
+        flat::kind_of(&self.spans, &self.shape, object, cell)
+    }
+
+    // Bounds the idle cells by the live ones and one for each object, at a cost that the calls of `leave` before have paid.
+    fn tidy(&mut self)
+        ensures { self.new ≡ self.old }
+    {
+        if self.cells.len() / 2 > self.live as usize + self.spans.len() {
+            self.close_gaps();
+        }
+    }
+
+    // Closes the gaps that ended objects left between the cells of live ones.
+    fn close_gaps(&mut self)
+        ensures { self.new ≡ self.old }
+    {
+        let mut end = 0;
+        for number in 0..self.spans.len() {
+            end = lifetime::move_down(
+                &mut self.spans,
+                &mut self.cells,
+                &mut self.shape,
+                number,
+                end,
+            );
+        }
+        lifetime::cut(&mut self.cells, end);
+        lifetime::cut(&mut self.shape, end);
+    }
+}
