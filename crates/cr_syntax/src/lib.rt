@@ -1,0 +1,10 @@
+//! The syntax tree and the grammar of the subset (C11 Annex A), as a definition.
+#![tactic(auto)]
+
+mod node;
+mod symbol;
+mod word;
+
+pub use node::{Kind, Node};
+pub use symbol::{Depth, Heard, Part, Symbol};
+pub use word::{KEYWORDS, PUNCTUATORS, Word, word_at};
