@@ -1,7 +1,8 @@
 -- What a token is to the grammar: the keywords of C11 6.4.1 and the punctuators of 6.4.6, in their order.
-use Rattle.std.specs.Prelude.{ℕ, List, [], ◌∷◌, map, codes, if◌then◌else◌}
+use Rattle.std.specs.Prelude.{ℕ, List, [], ◌∷◌, Option, None, Some, map, codes, if◌then◌else◌, slice_get, slice_range}
 use Rattle.std.specs.Str.{bytes_eq}
 use Rattle.std.specs.Borrow.{Bor}
+use Rattle.cr_tokens.specs.declared.token.Token.{Token}
 use Rattle.cr_tokens.specs.declared.token.TokenKind.{TokenKind}
 use Rattle.cr_tokens.specs.declared.token.TokenKind.TheVariants as kind
 use Rattle.cr_syntax.specs.declared.word.Word.{Word}
@@ -131,3 +132,23 @@ word_of kind.Integer s = word.Integer
 word_of kind.Character s = word.Character
 word_of kind.Text s = word.Text
 word_of kind.Punctuator s = word_in punctuator_table s
+
+-- a token as the grammar sees it
+pub record Lexeme : Type 0 where
+  pub word : Word
+  pub spelling : List ℕ
+
+abbrev pub lexeme_of : List ℕ → Token → Lexeme
+lexeme_of file t = let s = slice_range file t.start t.end in record { word = word_of t.kind s; spelling = s }
+
+-- the tokens of a file as the grammar sees them
+abbrev pub lexemes_of : List ℕ → List Token → List Lexeme
+lexemes_of file tokens = map (lexeme_of file) tokens
+
+-- the word of the token with number i, where there is one
+abbrev pub word_at : List Lexeme → ℕ → Option Word
+word_at ts i = elim (slice_get ts i) [ None ↦ None | Some t ↦ Some t.word ]
+
+-- the bytes of the token with number i
+abbrev pub spelling_at : List Lexeme → ℕ → List ℕ
+spelling_at ts i = elim (slice_get ts i) [ None ↦ [] | Some t ↦ t.spelling ]

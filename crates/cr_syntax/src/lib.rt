@@ -6,5 +6,5 @@ mod symbol;
 mod word;
 
 pub use node::{Kind, Node};
-pub use symbol::{Depth, Heard, Part, Symbol};
+pub use symbol::{Depth, Context, Part, Symbol};
 pub use word::{KEYWORDS, PUNCTUATORS, Word, word_at};

@@ -47,7 +47,7 @@ pub enum Part {
     Primary,
 }
 
-/// How many levels of its own node are open at a symbol.
+/// How many levels of its own node are open before a symbol: none, one or two.
 #[derive(Clone, Copy, PartialEq, Eq, Debug)]
 pub enum Depth {
     Outer,
@@ -62,8 +62,10 @@ pub enum Symbol {
     Token(Depth, Word),
     /// A token that opens a level.
     Opens(Depth, Word),
+    /// A token that closes a level and opens another.
+    Reopens(Word),
     /// A part.
-    One(Depth, Part),
+    Part(Depth, Part),
     /// A part that is a block of its own.
     Block(Depth, Part),
     /// A part that may be left out, the last one of its node.
@@ -114,9 +116,9 @@ pub enum Symbol {
     Else,
 }
 
-/// What the tokens and parts so far say of the identifiers that come.
+/// What the tokens and parts before say of an identifier that comes.
 #[derive(Clone, Copy, PartialEq, Eq, Debug)]
-pub struct Heard {
+pub struct Context {
     /// An identifier here is a name, since a type specifier or another token stands before it.
     pub typed: bool,
     /// The specifiers say `typedef`.
