@@ -5,3 +5,4 @@ pub mod Grammar
 pub mod Context
 pub mod Spells
 pub mod Units
+pub mod Kept

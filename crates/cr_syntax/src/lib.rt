@@ -3,8 +3,10 @@
 
 mod node;
 mod symbol;
+mod unit;
 mod word;
 
 pub use node::{Kind, Node};
 pub use symbol::{Depth, Context, Part, Symbol};
+pub use unit::Unit;
 pub use word::{KEYWORDS, PUNCTUATORS, Word, word_at};
