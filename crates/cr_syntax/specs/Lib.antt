@@ -6,3 +6,4 @@ pub mod Context
 pub mod Spells
 pub mod Units
 pub mod Kept
+pub mod Tables

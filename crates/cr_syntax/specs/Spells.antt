@@ -111,9 +111,9 @@ pub data Spells (ts : List Lexeme) (limit : Limit) : Phrase → Context → Scop
   -- a part or none
   optional_none : {l : Depth} {p : Part} {s : Side} {h : Context} {c e : Scopes} {d i j : ℕ} →
     Spells ts limit (rest s) h c e d none i j → Spells ts limit (rest (symbol.Optional l p ∷ s)) h c e d none i j
-  optional_some : {l : Depth} {p : Part} {s : Side} {h : Context} {c e f : Scopes} {d i j k : ℕ} {t : Trees} →
-    Spells ts limit (a p) h c e (levels l d) t i j → Spells ts limit (rest s) (past_part h t) e f d none j k →
-    Spells ts limit (rest (symbol.Optional l p ∷ s)) h c f d t i k
+  optional_some : {l : Depth} {p : Part} {s : Side} {h : Context} {c e f : Scopes} {d i j k : ℕ} {t u : Trees} →
+    Spells ts limit (a p) h c e (levels l d) t i j → Spells ts limit (rest s) (past_part h t) e f d u j k →
+    Spells ts limit (rest (symbol.Optional l p ∷ s)) h c f d (t & u) i k
   -- any number of parts
   many_none : {l : Depth} {p : Part} {s : Side} {h : Context} {c e : Scopes} {d i j : ℕ} →
     Spells ts limit (rest s) h c e d none i j → Spells ts limit (rest (symbol.Many l p ∷ s)) h c e d none i j
@@ -180,10 +180,10 @@ pub data Spells (ts : List Lexeme) (limit : Limit) : Phrase → Context → Scop
   -- ["=" conditional]
   value_none : {s : Side} {h : Context} {c e : Scopes} {d i j : ℕ} →
     Spells ts limit (rest s) h c e d none i j → Spells ts limit (rest (symbol.Value ∷ s)) h c e d none i j
-  value_some : {s : Side} {h : Context} {c e f : Scopes} {d i j k : ℕ} {t : Trees} →
+  value_some : {s : Side} {h : Context} {c e f : Scopes} {d i j k : ℕ} {t u : Trees} →
     Is ts i word.Equal → Stands limit i d → Spells ts limit (a Conditional) h c e d t (i + 1) j →
-    Spells ts limit (rest s) (past_part h t) e f d none j k →
-    Spells ts limit (rest (symbol.Value ∷ s)) h c f d t i k
+    Spells ts limit (rest s) (past_part h t) e f d u j k →
+    Spells ts limit (rest (symbol.Value ∷ s)) h c f d (t & u) i k
 
   -- The name of a declarator enters the scope that the declarator stands in, under that of its own parameters.
   enters : {s : Side} {h : Context} {c e : Scopes} {own : List Name} {d i j : ℕ} {t : Trees} →
@@ -196,16 +196,16 @@ pub data Spells (ts : List Lexeme) (limit : Limit) : Phrase → Context → Scop
   -- The parameters of a declarator have a scope of their own. Those behind the declared identifier itself are its own.
   prototype_none : {s : Side} {h : Context} {c e : Scopes} {d i j : ℕ} →
     Spells ts limit (rest s) h c e d none i j → Spells ts limit (rest (symbol.Prototype ∷ s)) h c e d none i j
-  prototype_some : {s : Side} {h : Context} {c e f : Scopes} {own names : List Name} {d i j k : ℕ} {t : Trees} →
+  prototype_some : {s : Side} {h : Context} {c e f : Scopes} {own names : List Name} {d i j k : ℕ} {t u : Trees} →
     Spells ts limit (a Parameters) h ([] ∷ c) (names ∷ e) (d + 1) t i j →
-    Spells ts limit (rest s) (past_part h t) ((if h.bare then names else own) ∷ e) f d none j k →
-    Spells ts limit (rest (symbol.Prototype ∷ s)) h (own ∷ c) f d t i k
+    Spells ts limit (rest s) (past_part h t) ((if h.bare then names else own) ∷ e) f d u j k →
+    Spells ts limit (rest (symbol.Prototype ∷ s)) h (own ∷ c) f d (t & u) i k
   -- An array's size stands outside that scope.
   size_none : {s : Side} {h : Context} {c e : Scopes} {d i j : ℕ} →
     Spells ts limit (rest s) h c e d none i j → Spells ts limit (rest (symbol.Size ∷ s)) h c e d none i j
-  size_some : {s : Side} {h : Context} {c e f : Scopes} {own : List Name} {d i j k : ℕ} {t : Trees} →
-    Spells ts limit (a Conditional) h c e (d + 1) t i j → Spells ts limit (rest s) (past_part h t) (own ∷ e) f d none j k →
-    Spells ts limit (rest (symbol.Size ∷ s)) h (own ∷ c) f d t i k
+  size_some : {s : Side} {h : Context} {c e f : Scopes} {own : List Name} {d i j k : ℕ} {t u : Trees} →
+    Spells ts limit (a Conditional) h c e (d + 1) t i j → Spells ts limit (rest s) (past_part h t) (own ∷ e) f d u j k →
+    Spells ts limit (rest (symbol.Size ∷ s)) h (own ∷ c) f d (t & u) i k
 
   -- text {text}
   texts_one : {h : Context} {c : Scopes} {d i : ℕ} →
@@ -238,7 +238,7 @@ pub data Spells (ts : List Lexeme) (limit : Limit) : Phrase → Context → Scop
   -- ["else" statement], where the statement is a block of its own
   else_none : {s : Side} {h : Context} {c e : Scopes} {d i j : ℕ} →
     Spells ts limit (rest s) h c e d none i j → Spells ts limit (rest (symbol.Else ∷ s)) h c e d none i j
-  else_some : {s : Side} {h : Context} {c e f : Scopes} {d i j k : ℕ} {t : Trees} →
+  else_some : {s : Side} {h : Context} {c e f : Scopes} {d i j k : ℕ} {t u : Trees} →
     Is ts i word.Else → Within limit i d → Spells ts limit (a Statement) h ([] ∷ c) e (d + 1) t (i + 1) j →
-    Spells ts limit (rest s) (past_part h t) c f d none j k →
-    Spells ts limit (rest (symbol.Else ∷ s)) h c f d t i k
+    Spells ts limit (rest s) (past_part h t) c f d u j k →
+    Spells ts limit (rest (symbol.Else ∷ s)) h c f d (t & u) i k

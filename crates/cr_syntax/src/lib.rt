@@ -2,6 +2,7 @@
 #![tactic(auto)]
 
 mod node;
+mod rules;
 mod symbol;
 mod unit;
 mod word;
