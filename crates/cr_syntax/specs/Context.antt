@@ -6,7 +6,7 @@ use Rattle.cr_syntax.specs.declared.symbol.Context.{Context}
 use Rattle.cr_syntax.specs.declared.symbol.Part.{Part}
 use Rattle.cr_syntax.specs.declared.symbol.Part.TheVariants as part
 use Rattle.cr_syntax.specs.Words.{Lexeme, spelling_at}
-use Rattle.cr_syntax.specs.Scopes.{Name, Scopes, enter}
+use Rattle.cr_syntax.specs.declared.scopes.TypeName.{TypeName}
 use Rattle.cr_syntax.specs.Trees.{Trees, none, node}
 
 -- nothing is said yet
@@ -108,8 +108,8 @@ abbrev pub at_start : Part → Context → Context
 at_start p h = elim (hears p) [ true ↦ h | false ↦ fresh ]
 
 -- the name that a declarator declares
-abbrev pub declared_name : List Lexeme → Context → Name
-declared_name ts h = record { spelling = spelling_at ts h.name; is_type = h.type_name }
+abbrev pub declared_name : List Lexeme → Context → TypeName
+declared_name ts h = record { name = spelling_at ts h.name; is_type = h.type_name }
 
 -- the statements whose last part is a statement, which ends them
 pub data Ending : Type 0 where

@@ -42,9 +42,6 @@ inner p = symbol.Part Inner p
 abbrev pub innermost : Part → Symbol
 innermost p = symbol.Part Innermost p
 
-abbrev pub block : Part → Symbol
-block p = symbol.Block Inner p
-
 abbrev pub optional : Part → Symbol
 optional p = symbol.Optional Outer p
 
@@ -147,12 +144,12 @@ pub data Alternative : Part → Kind → Side → Type 0 where
   compound_statement : Alternative Compound kind.Compound (symbol.Begins ∷ opening word.LeftBrace ∷ inner_many BlockItem ∷ closing word.RightBrace ∷ symbol.Ends ∷ [])
   expression_statement : Alternative Statement kind.ExpressionStatement (optional Expression ∷ token word.Semicolon ∷ [])
   -- 6.8.4 Selection statements: each is a block, and so are the statements in it
-  if_statement : Alternative Statement kind.If (symbol.Begins ∷ token word.If ∷ opening word.LeftParen ∷ inner Expression ∷ reopening word.RightParen ∷ block Statement ∷ symbol.Else ∷ symbol.Ends ∷ [])
-  switch_statement : Alternative Statement kind.Switch (symbol.Begins ∷ token word.Switch ∷ opening word.LeftParen ∷ inner Expression ∷ reopening word.RightParen ∷ block Compound ∷ symbol.Ends ∷ [])
+  if_statement : Alternative Statement kind.If (symbol.Begins ∷ token word.If ∷ opening word.LeftParen ∷ inner Expression ∷ reopening word.RightParen ∷ symbol.Begins ∷ inner Statement ∷ symbol.Ends ∷ symbol.Else ∷ symbol.Ends ∷ [])
+  switch_statement : Alternative Statement kind.Switch (symbol.Begins ∷ token word.Switch ∷ opening word.LeftParen ∷ inner Expression ∷ reopening word.RightParen ∷ symbol.Begins ∷ inner Compound ∷ symbol.Ends ∷ symbol.Ends ∷ [])
   -- 6.8.5 Iteration statements: likewise
-  while_statement : Alternative Statement kind.While (symbol.Begins ∷ token word.While ∷ opening word.LeftParen ∷ inner Expression ∷ reopening word.RightParen ∷ block Statement ∷ symbol.Ends ∷ [])
-  do_statement : Alternative Statement kind.Do (symbol.Begins ∷ opening word.Do ∷ block Statement ∷ token word.While ∷ opening word.LeftParen ∷ inner Expression ∷ closing word.RightParen ∷ token word.Semicolon ∷ symbol.Ends ∷ [])
-  for_statement : Alternative Statement kind.For (symbol.Begins ∷ token word.For ∷ opening word.LeftParen ∷ symbol.Init ∷ symbol.Clause ∷ symbol.Step ∷ block Statement ∷ symbol.Ends ∷ [])
+  while_statement : Alternative Statement kind.While (symbol.Begins ∷ token word.While ∷ opening word.LeftParen ∷ inner Expression ∷ reopening word.RightParen ∷ symbol.Begins ∷ inner Statement ∷ symbol.Ends ∷ symbol.Ends ∷ [])
+  do_statement : Alternative Statement kind.Do (symbol.Begins ∷ opening word.Do ∷ symbol.Begins ∷ inner Statement ∷ symbol.Ends ∷ token word.While ∷ opening word.LeftParen ∷ inner Expression ∷ closing word.RightParen ∷ token word.Semicolon ∷ symbol.Ends ∷ [])
+  for_statement : Alternative Statement kind.For (symbol.Begins ∷ token word.For ∷ opening word.LeftParen ∷ symbol.Init ∷ symbol.Clause ∷ symbol.Step ∷ symbol.Begins ∷ inner Statement ∷ symbol.Ends ∷ symbol.Ends ∷ [])
   -- 6.8.1 Labeled statements
   case_statement : Alternative Statement kind.Case (token word.Case ∷ part Conditional ∷ opening word.Colon ∷ inner Statement ∷ [])
   default_statement : Alternative Statement kind.Default (token word.Default ∷ opening word.Colon ∷ inner Statement ∷ [])

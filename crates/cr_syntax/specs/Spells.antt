@@ -11,7 +11,8 @@ use Rattle.cr_syntax.specs.declared.symbol.Symbol.{Symbol}
 use Rattle.cr_syntax.specs.declared.symbol.Symbol.TheVariants as symbol
 use Rattle.cr_syntax.specs.declared.symbol.Context.{Context}
 use Rattle.cr_syntax.specs.Words.{Lexeme, word_at, spelling_at}
-use Rattle.cr_syntax.specs.Scopes.{Name, Scopes, is_type, enter}
+use Rattle.cr_syntax.specs.declared.scopes.TypeName.{TypeName}
+use Rattle.cr_syntax.specs.Scopes.{Scopes, is_type, enter}
 use Rattle.cr_syntax.specs.Trees.{Trees, none, node, one, ◌&◌}
 use Rattle.cr_syntax.specs.Context.{fresh, past_token, past_part, at_start, declared_name, fits_together, may_stand}
 use Rattle.cr_syntax.specs.Grammar.{Side, Alternative, Chain}
@@ -78,13 +79,13 @@ pub data Spells (ts : List Lexeme) (limit : Limit) : Phrase → Context → Scop
     Spells ts limit (a p) h c e d t i j
   -- A declarator alone: the scope of its own parameters ends with it, and its name enters the scope that it stands in
   -- (6.2.1p4, p7). A member's name enters none, since members have a name space of their own (6.2.3).
-  init_declarator_alone : {h : Context} {c e : Scopes} {own : List Name} {d i j : ℕ} {t : Trees} →
+  init_declarator_alone : {h : Context} {c e : Scopes} {own : List TypeName} {d i j : ℕ} {t : Trees} →
     Spells ts limit (a Declarator) h c (own ∷ e) d t i j →
     Spells ts limit (a InitDeclarator) h c (enter (declared_name ts (past_part h t)) e) d t i j
-  parameter_declarator : {h : Context} {c e : Scopes} {own : List Name} {d i j : ℕ} {t : Trees} →
+  parameter_declarator : {h : Context} {c e : Scopes} {own : List TypeName} {d i j : ℕ} {t : Trees} →
     Spells ts limit (a Declarator) h c (own ∷ e) d t i j →
     Spells ts limit (a ParameterDeclarator) h c (enter (declared_name ts (past_part h t)) e) d t i j
-  member_declarator : {h : Context} {c e : Scopes} {own : List Name} {d i j : ℕ} {t : Trees} →
+  member_declarator : {h : Context} {c e : Scopes} {own : List TypeName} {d i j : ℕ} {t : Trees} →
     Spells ts limit (a Declarator) h c (own ∷ e) d t i j →
     Spells ts limit (a MemberDeclarator) h c e d t i j
 
@@ -101,13 +102,10 @@ pub data Spells (ts : List Lexeme) (limit : Limit) : Phrase → Context → Scop
   reopens : {w : Word} {s : Side} {h : Context} {c e : Scopes} {d i j : ℕ} {t : Trees} →
     Is ts i w → Stands limit i (d + 1) → Within limit i d → Spells ts limit (rest s) (past_token h) c e d t (i + 1) j →
     Spells ts limit (rest (symbol.Reopens w ∷ s)) h c e d t i j
-  -- a part, and one that is a block of its own
+  -- a part
   part : {l : Depth} {p : Part} {s : Side} {h : Context} {c e f : Scopes} {d i j k : ℕ} {t u : Trees} →
     Spells ts limit (a p) h c e (levels l d) t i j → Spells ts limit (rest s) (past_part h t) e f d u j k →
     Spells ts limit (rest (symbol.Part l p ∷ s)) h c f d (t & u) i k
-  block : {l : Depth} {p : Part} {s : Side} {h : Context} {c e f : Scopes} {d i j k : ℕ} {t u : Trees} →
-    Spells ts limit (a p) h ([] ∷ c) e (levels l d) t i j → Spells ts limit (rest s) (past_part h t) c f d u j k →
-    Spells ts limit (rest (symbol.Block l p ∷ s)) h c f d (t & u) i k
   -- a part or none
   optional_none : {l : Depth} {p : Part} {s : Side} {h : Context} {c e : Scopes} {d i j : ℕ} →
     Spells ts limit (rest s) h c e d none i j → Spells ts limit (rest (symbol.Optional l p ∷ s)) h c e d none i j
@@ -176,7 +174,7 @@ pub data Spells (ts : List Lexeme) (limit : Limit) : Phrase → Context → Scop
   -- An enumerator is in scope after its own definition (6.2.1p7), whatever its identifier was before.
   enumerates : {s : Side} {h : Context} {c e : Scopes} {d i j : ℕ} {t : Trees} →
     Is ts i word.Identifier → Stands limit i d → Spells ts limit (rest s) (past_token h) c e d t (i + 1) j →
-    Spells ts limit (rest (symbol.Enumerates ∷ s)) h c (enter (record { spelling = spelling_at ts i; is_type = false }) e) d t i j
+    Spells ts limit (rest (symbol.Enumerates ∷ s)) h c (enter (record { name = spelling_at ts i; is_type = false }) e) d t i j
   -- ["=" conditional]
   value_none : {s : Side} {h : Context} {c e : Scopes} {d i j : ℕ} →
     Spells ts limit (rest s) h c e d none i j → Spells ts limit (rest (symbol.Value ∷ s)) h c e d none i j
@@ -186,24 +184,24 @@ pub data Spells (ts : List Lexeme) (limit : Limit) : Phrase → Context → Scop
     Spells ts limit (rest (symbol.Value ∷ s)) h c f d (t & u) i k
 
   -- The name of a declarator enters the scope that the declarator stands in, under that of its own parameters.
-  enters : {s : Side} {h : Context} {c e : Scopes} {own : List Name} {d i j : ℕ} {t : Trees} →
+  enters : {s : Side} {h : Context} {c e : Scopes} {own : List TypeName} {d i j : ℕ} {t : Trees} →
     Spells ts limit (rest s) h (own ∷ enter (declared_name ts h) c) e d t i j →
     Spells ts limit (rest (symbol.Enters ∷ s)) h (own ∷ c) e d t i j
   begins : {s : Side} {h : Context} {c e : Scopes} {d i j : ℕ} {t : Trees} →
     Spells ts limit (rest s) h ([] ∷ c) e d t i j → Spells ts limit (rest (symbol.Begins ∷ s)) h c e d t i j
-  ends : {s : Side} {h : Context} {c e : Scopes} {own : List Name} {d i j : ℕ} {t : Trees} →
+  ends : {s : Side} {h : Context} {c e : Scopes} {own : List TypeName} {d i j : ℕ} {t : Trees} →
     Spells ts limit (rest s) h c e d t i j → Spells ts limit (rest (symbol.Ends ∷ s)) h (own ∷ c) e d t i j
   -- The parameters of a declarator have a scope of their own. Those behind the declared identifier itself are its own.
   prototype_none : {s : Side} {h : Context} {c e : Scopes} {d i j : ℕ} →
     Spells ts limit (rest s) h c e d none i j → Spells ts limit (rest (symbol.Prototype ∷ s)) h c e d none i j
-  prototype_some : {s : Side} {h : Context} {c e f : Scopes} {own names : List Name} {d i j k : ℕ} {t u : Trees} →
+  prototype_some : {s : Side} {h : Context} {c e f : Scopes} {own names : List TypeName} {d i j k : ℕ} {t u : Trees} →
     Spells ts limit (a Parameters) h ([] ∷ c) (names ∷ e) (d + 1) t i j →
     Spells ts limit (rest s) (past_part h t) ((if h.bare then names else own) ∷ e) f d u j k →
     Spells ts limit (rest (symbol.Prototype ∷ s)) h (own ∷ c) f d (t & u) i k
   -- An array's size stands outside that scope.
   size_none : {s : Side} {h : Context} {c e : Scopes} {d i j : ℕ} →
     Spells ts limit (rest s) h c e d none i j → Spells ts limit (rest (symbol.Size ∷ s)) h c e d none i j
-  size_some : {s : Side} {h : Context} {c e f : Scopes} {own : List Name} {d i j k : ℕ} {t u : Trees} →
+  size_some : {s : Side} {h : Context} {c e f : Scopes} {own : List TypeName} {d i j k : ℕ} {t u : Trees} →
     Spells ts limit (a Conditional) h c e (d + 1) t i j → Spells ts limit (rest s) (past_part h t) (own ∷ e) f d u j k →
     Spells ts limit (rest (symbol.Size ∷ s)) h (own ∷ c) f d (t & u) i k
 
@@ -238,7 +236,7 @@ pub data Spells (ts : List Lexeme) (limit : Limit) : Phrase → Context → Scop
   -- ["else" statement], where the statement is a block of its own
   else_none : {s : Side} {h : Context} {c e : Scopes} {d i j : ℕ} →
     Spells ts limit (rest s) h c e d none i j → Spells ts limit (rest (symbol.Else ∷ s)) h c e d none i j
-  else_some : {s : Side} {h : Context} {c e f : Scopes} {d i j k : ℕ} {t u : Trees} →
-    Is ts i word.Else → Within limit i d → Spells ts limit (a Statement) h ([] ∷ c) e (d + 1) t (i + 1) j →
-    Spells ts limit (rest s) (past_part h t) c f d u j k →
+  else_some : {s : Side} {h : Context} {c e f : Scopes} {names : List TypeName} {d i j k : ℕ} {t u : Trees} →
+    Is ts i word.Else → Within limit i d → Spells ts limit (a Statement) h ([] ∷ c) (names ∷ e) (d + 1) t (i + 1) j →
+    Spells ts limit (rest s) (past_part h t) e f d u j k →
     Spells ts limit (rest (symbol.Else ∷ s)) h c f d (t & u) i k

@@ -3,11 +3,13 @@
 
 mod node;
 mod rules;
+mod scopes;
 mod symbol;
 mod unit;
 mod word;
 
 pub use node::{Kind, Node};
+pub use scopes::TypeName;
 pub use symbol::{Depth, Context, Part, Symbol};
 pub use unit::Unit;
 pub use word::{KEYWORDS, PUNCTUATORS, Word, word_at};

@@ -66,8 +66,6 @@ pub enum Symbol {
     Reopens(Word),
     /// A part.
     Part(Depth, Part),
-    /// A part that is a block of its own.
-    Block(Depth, Part),
     /// A part that may be left out, the last one of its node.
     Optional(Depth, Part),
     /// Any number of parts, the last ones of their node.
