@@ -7,3 +7,5 @@ pub mod Spells
 pub mod Units
 pub mod Kept
 pub mod Tables
+pub mod Chains
+pub mod Reads

@@ -1,6 +1,7 @@
 //! The syntax tree and the grammar of the subset (C11 Annex A), as a definition.
 #![tactic(auto)]
 
+mod chains;
 mod node;
 mod rules;
 mod scopes;
