@@ -1,1 +1,3 @@
 pub mod Alternatives
+pub mod Tests
+pub mod Sound

@@ -1,0 +1,60 @@
+-- Taking apart the checker's tests, and what its small functions say of a row.
+use Rattle.std.proofs.Common.{◌≡◌, ℕ, zero, suc, ◌+◌, ◌-◌, ◌<◌, ◌≤◌, Bool, true, false, not, cond, ◌&&◌, ◌||◌, List, [], ◌∷◌, Option, None, Some, refl, sym, ap, subst, ◌∙◌, arith, sub-one}
+use Rattle.std.specs.Prelude.{if◌then◌else◌, ◌==◌, nat_lt, nat_le}
+use borrow.Author.Tests.{ltb-true, leb-true, eqb-true}
+use denote.Enum.Bare.{same_true, sameb}
+use Rattle.cr_syntax.specs.contracts.word.Word as word_type
+use Rattle.cr_syntax.specs.declared.word.Word.{Word}
+use Rattle.cr_syntax.specs.Words.{Lexeme, word_at}
+use Rattle.cr_syntax.specs.Trees.{Trees, none, node, one, ◌&◌}
+use Rattle.cr_syntax.specs.Reads.{is_word, same_word, are_words, span_is, is_none, alone, first_of, after_of, is_last, begins_at}
+use Rattle.cr_syntax.specs.Spells.{Is}
+
+pub if_some : {A : Type 0} {e : A} (b : Bool) (o : Option A) → (if b then o else None) ≡ Some e → (b ≡ true) × (o ≡ Some e)
+if_some true o q = (refl, q)
+if_some false o q = cc
+
+pub both : (b d : Bool) → b && d ≡ true → (b ≡ true) × (d ≡ true)
+both true d q = (refl, q)
+both false d q = cc
+
+pub some_one : {A : Type 0} {c e : A} → Some c ≡ Some e → c ≡ e
+some_one q = cc
+
+pub some_of : {A B : Type 0} {r : B} (o : Option A) (f : A → Option B) → elim o as (λ _. Option B) [ None ↦ None | Some x ↦ f x ] ≡ Some r → (x : A) × (o ≡ Some x) × (f x ≡ Some r)
+some_of None f q = cc
+some_of (Some x) f q = (x, refl, q)
+
+pub not_true : (b : Bool) → not b ≡ true → b ≡ false
+not_true true q = cc
+not_true false q = refl
+
+pub is_of : (ts : List Lexeme) (i : ℕ) (w : Word) → is_word ts i w ≡ true → Is ts i w
+is_of ts i w = at (word_at ts i)
+  where
+  at : (o : Option Word) → elim o as (λ _. Bool) [ None ↦ false | Some v ↦ same_word v w ] ≡ true → o ≡ Some w
+  at None q = cc
+  at (Some v) q = ap Some (same_true word_type.the_type tt v w q)
+
+pub none_of : (t : Trees) → is_none t ≡ true → none ≡ t
+none_of none q = refl
+none_of (node k i j a n) q = cc
+
+abbrev pub next_of : Trees → Trees
+next_of none = none
+next_of (node k i j a n) = n
+
+pub rejoined : (t : Trees) → alone t & next_of t ≡ t
+rejoined none = refl
+rejoined (node k i j a n) = refl
+
+pub last_of : (t : Trees) → is_last t ≡ true → none ≡ next_of t
+last_of none q = refl
+last_of (node k i j a none) q = refl
+last_of (node k i j a (node k' i' j' a' n')) q = cc
+
+-- a row that is a last tree is that tree alone
+pub last_alone : (t : Trees) → is_last t ≡ true → alone t ≡ t
+last_alone none q = refl
+last_alone (node k i j a none) q = refl
+last_alone (node k i j a (node k' i' j' a' n')) q = cc
