@@ -58,3 +58,12 @@ pub last_alone : (t : Trees) → is_last t ≡ true → alone t ≡ t
 last_alone none q = refl
 last_alone (node k i j a none) q = refl
 last_alone (node k i j a (node k' i' j' a' n')) q = cc
+
+-- by the test of a choice
+pub choose : {A : Type 0} {G : Type 0} {e : A} (b : Bool) (x y : Option A) → (b ≡ true → x ≡ Some e → G) → (b ≡ false → y ≡ Some e → G) → (if b then x else y) ≡ Some e → G
+choose true x y f g q = f refl q
+choose false x y f g q = g refl q
+
+pub alone_of : (t : Trees) → next_of t ≡ none → alone t ≡ t
+alone_of none q = refl
+alone_of (node k i j a n) q = ap (λ x. node k i j a x) (sym q)
