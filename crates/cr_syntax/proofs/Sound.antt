@@ -23,7 +23,7 @@ use Rattle.cr_syntax.specs.Context.{past_token, past_part, at_start, declared_na
 use Rattle.cr_syntax.specs.Grammar.{Side, Alternative, Chain}
 use Rattle.cr_syntax.specs.Grammar as grammar
 use Rattle.cr_syntax.specs.Tables.{side_of, part_of}
-use Rattle.cr_syntax.specs.Chains.{step_of, step_past, same_part}
+use Rattle.cr_syntax.specs.Chains.{step_of, link_of, step_past, same_part}
 use Rattle.cr_syntax.specs.Spells.{Limit, AtMost, Spells, a, rest, levels, Is, AreConst, const_none, const_more}
 use Rattle.cr_syntax.specs.Spells as spells
 use Rattle.cr_syntax.specs.Reads.{Reader, is_word, are_words, span_is, has_room, is_none, first_of, after_of, is_last, alone, begins_at, leads_declaration, entered, dropped, most_links, as_part, lead, list_on, along, reads, no_reader}
@@ -35,59 +35,57 @@ abbrev pub the_limit : Limit
 the_limit = AtMost most_levels
 
 -- what a link says of the grammar
-pub data Means : Part → Kind → Link → Type 0 where
-  makes : {p : Part} {k : Kind} → part_of k ≡ p → Means p k Makes
-  chains : {p q : Part} {k : Kind} → Chain p q → Means p k (Chains q)
-  enters_init : {k : Kind} → Means part.InitDeclarator k Enters
-  enters_parameter : {k : Kind} → Means part.ParameterDeclarator k Enters
-  drops : {k : Kind} → Means part.MemberDeclarator k Drops
-  refuses : {p : Part} {k : Kind} → Means p k Refuses
+pub data Means : Part → Part → Link → Type 0 where
+  makes : {p q : Part} → q ≡ p → Means p q Makes
+  chains : {p q r : Part} → Chain p r → Means p q (Chains r)
+  enters_init : {q : Part} → Means part.InitDeclarator q Enters
+  enters_parameter : {q : Part} → Means part.ParameterDeclarator q Enters
+  drops : {q : Part} → Means part.MemberDeclarator q Drops
+  refuses : {p q : Part} → Means p q Refuses
 
-past_means : (p : Part) (k : Kind) → Means p k (step_past p k)
-past_means part.External k = chains grammar.external_declaration
-past_means part.InitDeclarator k = enters_init
-past_means part.Initializer k = chains grammar.initializer_expression
-past_means part.Specifiers k = chains grammar.specifiers_one
-past_means part.Specifier k = chains grammar.specifier_plain
-past_means part.PlainSpecifiers k = chains grammar.plain_one
-past_means part.MemberDeclarator k = drops
-past_means part.Declarator k = chains grammar.declarator_direct
-past_means part.Parameters k = chains grammar.parameters_one
-past_means part.Parameter k = chains grammar.parameter_unnamed
-past_means part.ParameterDeclarator kind.AbstractPointer = chains grammar.parameter_abstract
-past_means part.ParameterDeclarator kind.AbstractGroup = chains grammar.parameter_abstract
-past_means part.ParameterDeclarator kind.AbstractArray = chains grammar.parameter_abstract
-past_means part.ParameterDeclarator kind.AbstractArrayOf = chains grammar.parameter_abstract
+past_means : (p q : Part) → Means p q (step_past p q)
+past_means part.External q = chains grammar.external_declaration
+past_means part.InitDeclarator q = enters_init
+past_means part.Initializer q = chains grammar.initializer_expression
+past_means part.Specifiers q = chains grammar.specifiers_one
+past_means part.Specifier q = chains grammar.specifier_plain
+past_means part.PlainSpecifiers q = chains grammar.plain_one
+past_means part.MemberDeclarator q = drops
+past_means part.Declarator q = chains grammar.declarator_direct
+past_means part.Parameters q = chains grammar.parameters_one
+past_means part.Parameter q = chains grammar.parameter_unnamed
+past_means part.ParameterDeclarator part.Abstract = chains grammar.parameter_abstract
+past_means part.ParameterDeclarator part.DirectAbstract = chains grammar.parameter_abstract
 past_means part.ParameterDeclarator _ = enters_parameter
-past_means part.Abstract k = chains grammar.abstract_direct
-past_means part.TypeName k = chains grammar.type_name_plain
-past_means part.BlockItem kind.Declaration = chains grammar.item_declaration
+past_means part.Abstract q = chains grammar.abstract_direct
+past_means part.TypeName q = chains grammar.type_name_plain
+past_means part.BlockItem part.Declaration = chains grammar.item_declaration
 past_means part.BlockItem _ = chains grammar.item_statement
-past_means part.Statement k = chains grammar.statement_compound
-past_means part.Expression k = chains grammar.expression_assignment
-past_means part.Assignment k = chains grammar.assignment_conditional
-past_means part.Conditional k = chains grammar.conditional_binary
-past_means part.LogicalOr k = chains grammar.binary_14
-past_means part.LogicalAnd k = chains grammar.binary_13
-past_means part.Or k = chains grammar.binary_12
-past_means part.Xor k = chains grammar.binary_11
-past_means part.And k = chains grammar.binary_10
-past_means part.Equality k = chains grammar.binary_9
-past_means part.Relational k = chains grammar.binary_8
-past_means part.Shift k = chains grammar.binary_7
-past_means part.Additive k = chains grammar.binary_6
-past_means part.Multiplicative k = chains grammar.binary_5
-past_means part.Cast k = chains grammar.cast_unary
-past_means part.Unary k = chains grammar.unary_postfix
-past_means part.Postfix k = chains grammar.postfix_primary
-past_means _ k = refuses
+past_means part.Statement q = chains grammar.statement_compound
+past_means part.Expression q = chains grammar.expression_assignment
+past_means part.Assignment q = chains grammar.assignment_conditional
+past_means part.Conditional q = chains grammar.conditional_binary
+past_means part.LogicalOr q = chains grammar.binary_14
+past_means part.LogicalAnd q = chains grammar.binary_13
+past_means part.Or q = chains grammar.binary_12
+past_means part.Xor q = chains grammar.binary_11
+past_means part.And q = chains grammar.binary_10
+past_means part.Equality q = chains grammar.binary_9
+past_means part.Relational q = chains grammar.binary_8
+past_means part.Shift q = chains grammar.binary_7
+past_means part.Additive q = chains grammar.binary_6
+past_means part.Multiplicative q = chains grammar.binary_5
+past_means part.Cast q = chains grammar.cast_unary
+past_means part.Unary q = chains grammar.unary_postfix
+past_means part.Postfix q = chains grammar.postfix_primary
+past_means _ q = refuses
 
-pub step_means : (p : Part) (k : Kind) → Means p k (step_of p k)
-step_means p k = by (same_part (part_of k) p) (λ q. same_true part_type.the_type tt (part_of k) p q)
+pub link_means : (p q : Part) → Means p q (link_of p q)
+link_means p q = by (same_part q p) (λ e. same_true part_type.the_type tt q p e)
   where
-  by : (b : Bool) → (b ≡ true → part_of k ≡ p) → Means p k (if b then Makes else step_past p k)
+  by : (b : Bool) → (b ≡ true → q ≡ p) → Means p q (if b then Makes else step_past p q)
   by true f = makes (f refl)
-  by false f = past_means p k
+  by false f = past_means p q
 
 -- a reader whose answers are spelled by a row of trees
 abbrev pub IsSound : List Lexeme → Trees → Reader → Type 0
@@ -114,7 +112,7 @@ module _ (ts : List Lexeme) (r : Reader) (t : Trees) (sound : IsSound ts t r) (k
     Spells ts the_limit (rest (side_of k)) (at_start p h) c e d t i j → Spells ts the_limit (a p) h c e d (one k i j t) i j
   made p h c e d q f s = spells.of_alternative (subst (λ x. Alternative x k (side_of k)) q (alternative_of k)) f s
 
-  at_link : (n : ℕ) → PartSound ts r k i j t n → (p : Part) (h : Context) (c e : Scopes) (d : ℕ) (l : Link) → Means p k l →
+  at_link : (n : ℕ) → PartSound ts r k i j t n → (p : Part) (h : Context) (c e : Scopes) (d : ℕ) (l : Link) → Means p (part_of k) l →
     elim l as (λ _. Option Scopes) [
         Makes ↦ if fits_together k t then r (side_of k) (at_start p h) c d i j else None
       | Chains q ↦ if may_stand p (one k i j t) then as_part ts r n q (at_start p h) c d k i j t else None
@@ -142,7 +140,7 @@ module _ (ts : List Lexeme) (r : Reader) (t : Trees) (sound : IsSound ts t r) (k
   pub part_sound : (n : ℕ) → PartSound ts r k i j t n
   unfolding as_part
   part_sound zero p h c e d q = cc
-  part_sound (suc n) p h c e d q = at_link n (part_sound n) p h c e d (step_of p k) (step_means p k) q
+  part_sound (suc n) p h c e d q = at_link n (part_sound n) p h c e d (step_of p k) (link_means p (part_of k)) q
 
 words_of : (ts : List Lexeme) (d n i : ℕ) → are_words ts word.Const n i ≡ true → AreConst ts the_limit d i (i + n)
 words_of ts d zero i q = let e : i ≡ i + 0 = omega arith in subst (λ x. AreConst ts the_limit d i x) e const_none
@@ -385,7 +383,7 @@ module _ (ts : List Lexeme) (t : Trees) (inside next : Reader)
     from_none _ _ _ _ _ _ _ w.0 (subst (λ x. Spells ts the_limit (rest (symbol.Texts ∷ [])) h c x d none i j) (some_one v.1) (texts_of ts h c d i j (ltb-true i j w.1) u.1))
   along_sound (symbol.Texts ∷ x ∷ s) h c e d i j q = cc
   along_sound (symbol.Init ∷ s) h c e d i j q =
-    choose (leads_declaration t) _ _
+    choose (leads_declaration t && begins_at t i) _ _
       (λ _ r. let v = some_of (lead ts inside t part.Declaration h c (d + 1) i) (λ x. next s (past_part h (alone t)) x d (after_of t) j) r in
         whole _ _ _ _ _ _ _ (spells.init_declaration (first part.Declaration h c v.0 (d + 1) i v.1) (after _ _ _ _ _ _ _ v.2)))
       (λ _ r. spells.init_clause (choose (begins_at t i) _ _ (λ _ x. clause_sound s h c e d i j x)

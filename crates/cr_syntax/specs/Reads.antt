@@ -6,7 +6,6 @@ use Rattle.cr_syntax.specs.contracts.word.Word as word_type
 use Rattle.cr_syntax.specs.declared.word.Word.{Word}
 use Rattle.cr_syntax.specs.declared.word.Word.TheVariants as word
 use Rattle.cr_syntax.specs.declared.node.Kind.{Kind}
-use Rattle.cr_syntax.specs.declared.node.Kind.TheVariants as kind
 use Rattle.cr_syntax.specs.declared.scopes.TypeName.{TypeName}
 use Rattle.cr_syntax.specs.declared.symbol.Depth.{Depth}
 use Rattle.cr_syntax.specs.declared.symbol.Part.{Part}
@@ -20,8 +19,8 @@ use Rattle.cr_syntax.specs.Scopes.{Scopes, is_type, enter}
 use Rattle.cr_syntax.specs.Trees.{Trees, none, node, one}
 use Rattle.cr_syntax.specs.Context.{past_token, past_part, at_start, declared_name, fits_together, may_stand}
 use Rattle.cr_syntax.specs.Grammar.{Side}
-use Rattle.cr_syntax.specs.Tables.{side_of}
-use Rattle.cr_syntax.specs.Chains.{step_of}
+use Rattle.cr_syntax.specs.Tables.{side_of, part_of}
+use Rattle.cr_syntax.specs.Chains.{step_of, same_part}
 use Rattle.cr_syntax.specs.Spells.{levels}
 use Rattle.cr_syntax.specs.Units.{most_levels}
 
@@ -72,13 +71,9 @@ abbrev pub begins_at : Trees → ℕ → Bool
 begins_at none i = false
 begins_at (node k i' j a n) i = i' == i
 
-abbrev pub is_declaration : Kind → Bool
-is_declaration kind.Declaration = true
-is_declaration _ = false
-
 abbrev pub leads_declaration : Trees → Bool
 leads_declaration none = false
-leads_declaration (node k i j a n) = is_declaration k
+leads_declaration (node k i j a n) = same_part (part_of k) part.Declaration
 
 abbrev pub entered : List Lexeme → Context → Trees → Option Scopes → Option Scopes
 entered ts h t None = None
@@ -189,7 +184,7 @@ along ts t inside next (symbol.Size ∷ s) h c d i j =
 along ts t inside next (symbol.Texts ∷ []) h c d i j = if is_none t && nat_lt i j && span_is ts word.Text i j then Some c else None
 along ts t inside next (symbol.Texts ∷ x ∷ s) h c d i j = None
 along ts t inside next (symbol.Init ∷ s) h c d i j =
-    if leads_declaration t
+    if leads_declaration t && begins_at t i
     then elim (lead ts inside t part.Declaration h c (d + 1) i) [ None ↦ None | Some e ↦ next s (past_part h (alone t)) e d (after_of t) j ]
     else (if begins_at t i
     then elim (lead ts inside t part.Expression h c (d + 1) i) [ None ↦ None | Some e ↦

@@ -24,11 +24,12 @@ pub enum Link {
 pub fn step(p: Part, kind: Kind) -> Link
     ensures { result ≡ step_of p kind }
 {
-    if part(kind) == p { Link::Makes } else { past(p, kind) }
+    let own = part(kind);
+    if own == p { Link::Makes } else { past(p, own) }
 }
 
-fn past(p: Part, kind: Kind) -> Link
-    ensures { result ≡ step_past p kind }
+fn past(p: Part, own: Part) -> Link
+    ensures { result ≡ step_past p own }
 {
     match p {
         Part::External => Link::Chains(Part::Declaration),
@@ -41,10 +42,10 @@ fn past(p: Part, kind: Kind) -> Link
         Part::Declarator => Link::Chains(Part::DirectDeclarator),
         Part::Parameters => Link::Chains(Part::Parameter),
         Part::Parameter => Link::Chains(Part::Specifiers),
-        Part::ParameterDeclarator => parameter_step(kind),
+        Part::ParameterDeclarator => parameter_step(own),
         Part::Abstract => Link::Chains(Part::DirectAbstract),
         Part::TypeName => Link::Chains(Part::PlainSpecifiers),
-        Part::BlockItem => item_step(kind),
+        Part::BlockItem => item_step(own),
         Part::Statement => Link::Chains(Part::Compound),
         Part::Expression => Link::Chains(Part::Assignment),
         Part::Assignment => Link::Chains(Part::Conditional),
@@ -66,22 +67,20 @@ fn past(p: Part, kind: Kind) -> Link
     }
 }
 
-fn parameter_step(kind: Kind) -> Link
-    ensures { result ≡ step_past Part.ParameterDeclarator kind }
+fn parameter_step(own: Part) -> Link
+    ensures { result ≡ step_past Part.ParameterDeclarator own }
 {
-    match kind {
-        Kind::AbstractPointer | Kind::AbstractGroup | Kind::AbstractArray | Kind::AbstractArrayOf => {
-            Link::Chains(Part::Abstract)
-        }
+    match own {
+        Part::Abstract | Part::DirectAbstract => Link::Chains(Part::Abstract),
         _ => Link::Enters,
     }
 }
 
-fn item_step(kind: Kind) -> Link
-    ensures { result ≡ step_past Part.BlockItem kind }
+fn item_step(own: Part) -> Link
+    ensures { result ≡ step_past Part.BlockItem own }
 {
-    match kind {
-        Kind::Declaration => Link::Chains(Part::Declaration),
+    match own {
+        Part::Declaration => Link::Chains(Part::Declaration),
         _ => Link::Chains(Part::Statement),
     }
 }
