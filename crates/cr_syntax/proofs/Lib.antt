@@ -1,3 +1,5 @@
 pub mod Alternatives
 pub mod Tests
 pub mod Sound
+pub mod Equations
+pub mod Complete
