@@ -26,11 +26,11 @@ use Rattle.cr_syntax.specs.Tables.{side_of, part_of}
 use Rattle.cr_syntax.specs.Chains.{step_of, link_of, step_past, same_part}
 use Rattle.cr_syntax.specs.Spells.{Limit, AtMost, Spells, Phrase, a, rest, levels, Is, Stands, Within, IsIdentifier, AreConst, const_none, const_more}
 use Rattle.cr_syntax.specs.Spells as spells
-use Rattle.cr_syntax.specs.Reads.{Reader, is_word, same_word, are_words, span_is, has_room, is_none, first_of, after_of, is_last, alone, begins_at, leads_declaration, entered, dropped, most_links, as_part, lead, list_on, along, reads, no_reader}
+use Rattle.cr_syntax.specs.Reads.{Reader, is_word, same_word, are_words, span_is, has_room, is_none, first_of, after_of, is_last, alone, begins_at, leads_declaration, entered, dropped, most_links, as_part, lead, list_on, along, reads, no_reader, parts_of, next_of, leads}
 use Rattle.cr_syntax.specs.Units.{most_levels}
 use Rattle.cr_syntax.proofs.Alternatives.{part_only, side_only}
-use Rattle.cr_syntax.proofs.Tests.{next_of, if_some, both}
-use Rattle.cr_syntax.proofs.Equations.{leads, part_on, clause_on, step_on, else_on, prototype_on, size_on, qualified_on, reads_token, reads_opens, reads_reopens, reads_part, reads_optional, reads_many, reads_list, reads_optional_list, reads_tag, reads_trailing, reads_ordinary, reads_type_identifier, reads_declared, reads_enumerates, reads_value, reads_begins, reads_enters, reads_ends, reads_clause, reads_init, reads_step, reads_else, reads_prototype, reads_size, reads_qualified, reads_optional_qualified, reads_texts, reads_done}
+use Rattle.cr_syntax.proofs.Tests.{if_some, both}
+use Rattle.cr_syntax.proofs.Equations.{part_on, clause_on, step_on, else_on, prototype_on, size_on, qualified_on, reads_token, reads_opens, reads_reopens, reads_part, reads_optional, reads_many, reads_list, reads_optional_list, reads_tag, reads_trailing, reads_ordinary, reads_type_identifier, reads_declared, reads_enumerates, reads_value, reads_begins, reads_enters, reads_ends, reads_clause, reads_init, reads_step, reads_else, reads_prototype, reads_size, reads_qualified, reads_optional_qualified, reads_texts, reads_done}
 use Rattle.cr_syntax.proofs.Sound.{the_limit}
 
 -- how many chains lead on from a part, at the most

@@ -16,17 +16,7 @@ use Rattle.cr_syntax.specs.Trees.{Trees, none, node}
 use Rattle.cr_syntax.specs.Context.{past_token, past_part, declared_name}
 use Rattle.cr_syntax.specs.Grammar.{Side}
 use Rattle.cr_syntax.specs.Spells.{levels}
-use Rattle.cr_syntax.specs.Reads.{Reader, is_word, span_is, has_room, is_none, first_of, after_of, alone, begins_at, leads_declaration, lead, list_on, along, reads}
-use Rattle.cr_syntax.proofs.Tests.{next_of}
-
--- the parts of a row's first tree
-abbrev pub parts_of : Trees → Trees
-parts_of none = none
-parts_of (node k i j a n) = a
-
--- the first tree of a row as a part
-abbrev pub leads : List Lexeme → Trees → Part → Context → Scopes → ℕ → ℕ → Option Scopes
-leads ts t p h c d i = lead ts (reads ts (parts_of t)) t p h c d i
+use Rattle.cr_syntax.specs.Reads.{Reader, is_word, span_is, has_room, is_none, first_of, after_of, alone, begins_at, leads_declaration, lead, list_on, along, reads, parts_of, next_of, leads}
 
 -- what follows a part
 abbrev pub part_on : List Lexeme → Trees → Side → Context → ℕ → ℕ → Option Scopes → Option Scopes

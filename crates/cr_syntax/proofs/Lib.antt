@@ -3,3 +3,5 @@ pub mod Tests
 pub mod Sound
 pub mod Equations
 pub mod Complete
+pub mod Arena
+pub mod Statements

@@ -26,10 +26,10 @@ use Rattle.cr_syntax.specs.Tables.{side_of, part_of}
 use Rattle.cr_syntax.specs.Chains.{step_of, link_of, step_past, same_part}
 use Rattle.cr_syntax.specs.Spells.{Limit, AtMost, Spells, a, rest, levels, Is, AreConst, const_none, const_more}
 use Rattle.cr_syntax.specs.Spells as spells
-use Rattle.cr_syntax.specs.Reads.{Reader, is_word, are_words, span_is, has_room, is_none, first_of, after_of, is_last, alone, begins_at, leads_declaration, entered, dropped, most_links, as_part, lead, list_on, along, reads, no_reader}
+use Rattle.cr_syntax.specs.Reads.{Reader, is_word, are_words, span_is, has_room, is_none, first_of, after_of, is_last, alone, begins_at, leads_declaration, entered, dropped, most_links, as_part, lead, list_on, along, reads, no_reader, next_of}
 use Rattle.cr_syntax.specs.Units.{most_levels}
 use Rattle.cr_syntax.proofs.Alternatives.{alternative_of}
-use Rattle.cr_syntax.proofs.Tests.{if_some, both, some_one, some_of, not_true, is_of, none_of, next_of, rejoined, last_of, last_alone, choose, alone_of}
+use Rattle.cr_syntax.proofs.Tests.{if_some, both, some_one, some_of, not_true, is_of, none_of, rejoined, last_of, last_alone, choose, alone_of}
 
 abbrev pub the_limit : Limit
 the_limit = AtMost most_levels

@@ -7,7 +7,7 @@ use Rattle.cr_syntax.specs.contracts.word.Word as word_type
 use Rattle.cr_syntax.specs.declared.word.Word.{Word}
 use Rattle.cr_syntax.specs.Words.{Lexeme, word_at}
 use Rattle.cr_syntax.specs.Trees.{Trees, none, node, one, ◌&◌}
-use Rattle.cr_syntax.specs.Reads.{is_word, same_word, are_words, span_is, is_none, alone, first_of, after_of, is_last, begins_at}
+use Rattle.cr_syntax.specs.Reads.{is_word, same_word, are_words, span_is, is_none, alone, first_of, after_of, is_last, begins_at, next_of}
 use Rattle.cr_syntax.specs.Spells.{Is}
 
 pub if_some : {A : Type 0} {e : A} (b : Bool) (o : Option A) → (if b then o else None) ≡ Some e → (b ≡ true) × (o ≡ Some e)
@@ -39,10 +39,6 @@ is_of ts i w = at (word_at ts i)
 pub none_of : (t : Trees) → is_none t ≡ true → none ≡ t
 none_of none q = refl
 none_of (node k i j a n) q = cc
-
-abbrev pub next_of : Trees → Trees
-next_of none = none
-next_of (node k i j a n) = n
 
 pub rejoined : (t : Trees) → alone t & next_of t ≡ t
 rejoined none = refl

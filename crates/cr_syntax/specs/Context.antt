@@ -5,6 +5,10 @@ use Rattle.cr_syntax.specs.declared.node.Kind.TheVariants as kind
 use Rattle.cr_syntax.specs.declared.symbol.Context.{Context}
 use Rattle.cr_syntax.specs.declared.symbol.Part.{Part}
 use Rattle.cr_syntax.specs.declared.symbol.Part.TheVariants as part
+use Rattle.cr_syntax.specs.declared.shape.Base.{Base}
+use Rattle.cr_syntax.specs.declared.shape.Base.TheVariants.{ItsName, InBrackets, Derived, NoDeclarator}
+use Rattle.cr_syntax.specs.declared.shape.Ending.{Ending}
+use Rattle.cr_syntax.specs.declared.shape.Ending.TheVariants.{InBranch, InBody, Closed}
 use Rattle.cr_syntax.specs.Words.{Lexeme, spelling_at}
 use Rattle.cr_syntax.specs.declared.scopes.TypeName.{TypeName}
 use Rattle.cr_syntax.specs.Trees.{Trees, none, node}
@@ -55,30 +59,24 @@ specifies test kind.Specifiers a = any_kind test a
 specifies test kind.PlainSpecifiers a = any_kind test a
 specifies test k a = test k
 
--- what a declarator is built on: its own identifier, another declarator as its first part, or nothing
-pub data Base : Type 0 where
-  its_name : Base
-  in_brackets : Base
-  derived : Base
-  no_declarator : Base
-
+-- what a declarator is built on
 abbrev pub base_of : Kind → Base
-base_of kind.NameDeclarator = its_name
-base_of kind.GroupDeclarator = in_brackets
-base_of kind.PointerDeclarator = derived
-base_of kind.ArrayDeclarator = derived
-base_of kind.FunctionDeclarator = derived
-base_of _ = no_declarator
+base_of kind.NameDeclarator = ItsName
+base_of kind.GroupDeclarator = InBrackets
+base_of kind.PointerDeclarator = Derived
+base_of kind.ArrayDeclarator = Derived
+base_of kind.FunctionDeclarator = Derived
+base_of _ = NoDeclarator
 
 -- whether a declarator is an identifier, in brackets or not
 abbrev pub is_bare : Trees → Bool
 is_bare none = false
-is_bare (node k i j a n) = elim (base_of k) [ its_name ↦ true | in_brackets ↦ is_bare a | derived ↦ false | no_declarator ↦ false ]
+is_bare (node k i j a n) = elim (base_of k) [ ItsName ↦ true | InBrackets ↦ is_bare a | Derived ↦ false | NoDeclarator ↦ false ]
 
 -- the number of the token that a declarator declares (6.7.6)
 abbrev pub declared_in : Trees → ℕ
 declared_in none = 0
-declared_in (node k i j a n) = elim (base_of k) [ its_name ↦ i | in_brackets ↦ declared_in a | derived ↦ declared_in a | no_declarator ↦ 0 ]
+declared_in (node k i j a n) = elim (base_of k) [ ItsName ↦ i | InBrackets ↦ declared_in a | Derived ↦ declared_in a | NoDeclarator ↦ 0 ]
 
 -- what is said after a part
 abbrev pub past_part : Context → Trees → Context
@@ -111,19 +109,14 @@ at_start p h = elim (hears p) [ true ↦ h | false ↦ fresh ]
 abbrev pub declared_name : List Lexeme → Context → TypeName
 declared_name ts h = record { name = spelling_at ts h.name; is_type = h.type_name }
 
--- the statements whose last part is a statement, which ends them
-pub data Ending : Type 0 where
-  in_branch : Ending
-  in_body : Ending
-  closed : Ending
-
+-- how a statement ends: some end in their last part, a statement
 abbrev pub ending_of : Kind → Ending
-ending_of kind.If = in_branch
-ending_of kind.While = in_body
-ending_of kind.For = in_body
-ending_of kind.Case = in_body
-ending_of kind.Default = in_body
-ending_of _ = closed
+ending_of kind.If = InBranch
+ending_of kind.While = InBody
+ending_of kind.For = InBody
+ending_of kind.Case = InBody
+ending_of kind.Default = InBody
+ending_of _ = Closed
 
 -- whether an `if` has an `else`: then it has three parts
 abbrev pub has_else : Trees → Bool
@@ -133,7 +126,7 @@ has_else _ = false
 -- whether the last tree of a row ends in an `if` without `else`, to which an `else` behind it would belong
 abbrev pub ends_open : Trees → Bool
 ends_open none = false
-ends_open (node k i j a none) = elim (ending_of k) [ in_branch ↦ not (has_else a) || ends_open a | in_body ↦ ends_open a | closed ↦ false ]
+ends_open (node k i j a none) = elim (ending_of k) [ InBranch ↦ not (has_else a) || ends_open a | InBody ↦ ends_open a | Closed ↦ false ]
 ends_open (node k i j a (node k' i' j' a' n')) = ends_open (node k' i' j' a' n')
 
 -- 6.8.4.1p3: an `else` belongs to the nearest `if`, so the branch before it ends in none that could take it

@@ -2,6 +2,7 @@
 use Rattle.std.specs.Prelude.{◌≡◌, ℕ, ◌<◌, ◌≤◌, ◌==◌, List, ◌++◌, Some, length, slice_get, slice_index, count_by}
 use Rattle.std.specs.List.{flat_map}
 use Rattle.cr_syntax.specs.declared.node.Node.{Node}
+use Rattle.cr_syntax.specs.Trees.{Trees, row_of, trees_of}
 
 -- the numbers that the nodes name as their parts, and those of the items
 abbrev pub named_in : List Node → List ℕ → List ℕ
@@ -22,3 +23,11 @@ NamedOnce nodes items = (k : ℕ) → k < length nodes → count_by (λ p. p == 
 -- each item is one of the nodes
 abbrev pub ItemsAreNodes : List Node → List ℕ → Type 0
 ItemsAreNodes nodes items = (i : ℕ) → i < length items → slice_index items i < length nodes
+
+-- each number of a list is below a bound
+abbrev pub AreBelow : List ℕ → ℕ → Type 0
+AreBelow ps bound = (i : ℕ) → i < length ps → slice_index ps i < bound
+
+-- the trees of a row of nodes
+abbrev pub row_in : List Node → List ℕ → Trees
+row_in nodes row = row_of (trees_of nodes) row

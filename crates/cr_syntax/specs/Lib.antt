@@ -9,3 +9,4 @@ pub mod Kept
 pub mod Tables
 pub mod Chains
 pub mod Reads
+pub mod Answers

@@ -215,3 +215,16 @@ no_reader s h c d i j = None
 unfoldable pub reads : List Lexeme → Trees → Reader
 reads ts none = along ts none no_reader no_reader
 reads ts (node k i j a n) = along ts (node k i j a n) (reads ts a) (reads ts n)
+
+-- the parts of a row's first tree, and the row after it
+abbrev pub parts_of : Trees → Trees
+parts_of none = none
+parts_of (node k i j a n) = a
+
+abbrev pub next_of : Trees → Trees
+next_of none = none
+next_of (node k i j a n) = n
+
+-- the first tree of a row as a part that begins at a place
+abbrev pub leads : List Lexeme → Trees → Part → Context → Scopes → ℕ → ℕ → Option Scopes
+leads ts t p h c d i = lead ts (reads ts (parts_of t)) t p h c d i

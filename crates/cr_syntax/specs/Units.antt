@@ -5,10 +5,11 @@ use Rattle.cr_syntax.specs.declared.word.Word.TheVariants as word
 use Rattle.cr_syntax.specs.declared.node.Kind.{Kind}
 use Rattle.cr_syntax.specs.declared.node.Kind.TheVariants as kind
 use Rattle.cr_syntax.specs.declared.symbol.Part.TheVariants.{External}
+use Rattle.cr_syntax.specs.declared.shape.Base.TheVariants.{ItsName, InBrackets, Derived, NoDeclarator}
 use Rattle.cr_syntax.specs.Words.{Lexeme, word_at}
 use Rattle.cr_syntax.specs.Scopes.{Scopes}
 use Rattle.cr_syntax.specs.Trees.{Trees, none, node}
-use Rattle.cr_syntax.specs.Context.{fresh, is_bare, Base, its_name, in_brackets, derived, no_declarator, base_of}
+use Rattle.cr_syntax.specs.Context.{fresh, is_bare, base_of}
 use Rattle.cr_syntax.specs.Grammar.{Side, part, many}
 use Rattle.cr_syntax.specs.Spells.{Limit, Free, AtMost, Upto, Leaving, Is, Spells, rest}
 
@@ -129,7 +130,7 @@ misplaced_at k at (node q i j a n) = ((i == k) && is_misplaced q at) || misplace
 abbrev pub own_parameters : Trees → Trees
 own_parameters none = none
 own_parameters (node kind.FunctionDeclarator i j a n) = if is_bare a then after_first a else own_parameters a
-own_parameters (node q i j a n) = elim (base_of q) [ its_name ↦ none | in_brackets ↦ own_parameters a | derived ↦ own_parameters a | no_declarator ↦ none ]
+own_parameters (node q i j a n) = elim (base_of q) [ ItsName ↦ none | InBrackets ↦ own_parameters a | Derived ↦ own_parameters a | NoDeclarator ↦ none ]
 
 -- a list of parameters that ends in `...` at token k
 abbrev pub ellipsis_at : ℕ → Trees → Bool

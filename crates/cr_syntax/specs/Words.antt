@@ -1,5 +1,5 @@
 -- What a token is to the grammar: the keywords of C11 6.4.1 and the punctuators of 6.4.6, in their order.
-use Rattle.std.specs.Prelude.{ℕ, List, [], ◌∷◌, Option, None, Some, map, codes, if◌then◌else◌, slice_get, slice_range}
+use Rattle.std.specs.Prelude.{◌≡◌, ℕ, ◌≤◌, List, [], ◌∷◌, Option, None, Some, length, map, codes, if◌then◌else◌, slice_get, slice_range}
 use Rattle.std.specs.Str.{bytes_eq}
 use Rattle.std.specs.Borrow.{Bor}
 use Rattle.cr_tokens.specs.declared.token.Token.{Token}
@@ -152,3 +152,7 @@ word_at ts i = elim (slice_get ts i) [ None ↦ None | Some t ↦ Some t.word ]
 -- the bytes of the token with number i
 abbrev pub spelling_at : List Lexeme → ℕ → List ℕ
 spelling_at ts i = elim (slice_get ts i) [ None ↦ [] | Some t ↦ t.spelling ]
+
+-- each token's bytes are some of the file's
+abbrev pub AreSpans : List ℕ → List Token → Type 0
+AreSpans file tokens = (k : ℕ) (t : Token) → slice_get tokens k ≡ Some t → (t.start ≤ t.end) × (t.end ≤ length file)

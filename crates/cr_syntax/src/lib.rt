@@ -3,8 +3,11 @@
 
 mod chains;
 mod node;
+mod place;
 mod rules;
 mod scopes;
+mod shape;
+mod source;
 mod symbol;
 mod unit;
 mod word;
