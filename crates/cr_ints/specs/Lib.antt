@@ -1,0 +1,4 @@
+pub mod IntKind
+pub mod Conversions
+pub mod Operations
+pub mod Laws
