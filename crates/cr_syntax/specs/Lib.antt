@@ -10,3 +10,4 @@ pub mod Tables
 pub mod Chains
 pub mod Reads
 pub mod Answers
+pub mod Laws

@@ -2,6 +2,7 @@
 #![tactic(auto)]
 
 mod chains;
+mod laws;
 mod node;
 mod place;
 mod rules;
@@ -9,11 +10,14 @@ mod scopes;
 mod shape;
 mod source;
 mod symbol;
+mod typed;
 mod unit;
 mod word;
 
+pub use laws::{reading_is_spelling, table_is_grammar};
 pub use node::{Kind, Node};
 pub use scopes::TypeName;
 pub use symbol::{Depth, Context, Part, Symbol};
+pub use typed::{CType, Shape, Typed};
 pub use unit::Unit;
 pub use word::{KEYWORDS, PUNCTUATORS, Word, word_at};

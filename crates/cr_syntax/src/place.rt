@@ -5,6 +5,9 @@ ghost use Rattle.cr_syntax.specs.Spells.{levels};
 use crate::shape::{at_start, past_token};
 use crate::symbol::{Context, Depth, Part};
 
+/// The most levels of nesting.
+pub const MOST_LEVELS: usize = 128;
+
 /// Where a reading stands: what is said before, the levels open, the number of the next token, and that of the token
 /// before which the reading must end.
 #[derive(Clone, Copy)]

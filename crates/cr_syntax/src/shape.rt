@@ -2,6 +2,7 @@ ghost use Rattle.std.specs.Prelude.{◌≡◌, ℕ, ◌<◌, ◌≤◌, MatchOpt
 ghost use Rattle.cr_syntax.specs.Trees.{Trees, none, one};
 ghost use Rattle.cr_syntax.specs.Kept.{PartsAreBelow, AreBelow, row_in};
 ghost use Rattle.cr_syntax.specs.Context.{past_token, past_part, is_type_specifier, is_typedef, any_kind, specifies, base_of, is_bare, declared_in, ending_of, has_else, ends_open, else_is_nearest, fits_together, may_stand, at_start};
+ghost use Rattle.cr_syntax.specs.Reads.{begins_at};
 ghost use Rattle.cr_syntax.specs.Answers.{IsFirst};
 
 use crate::node::{Kind, Node};
@@ -331,5 +332,17 @@ pub fn may_stand(p: Part, kind: Kind) -> bool
     match p {
         Part::Parameters => !matches!(kind, Kind::Void),
         _ => true,
+    }
+}
+
+/// Whether a row's first node begins at this token.
+pub fn begins_at(nodes: &[Node], row: &[u32], at: usize) -> bool
+    requires parts { PartsAreBelow nodes.now }
+    requires row { AreBelow row.now (length nodes.now) }
+    ensures { result ≡ begins_at (row_in nodes.now row.now) at }
+{
+    match first(nodes, row) {
+        None => false,
+        Some(node) => node.first as usize == at,
     }
 }
