@@ -5,10 +5,10 @@ use Rattle.cr_syntax.specs.declared.node.Kind.TheVariants as kind
 use Rattle.cr_syntax.specs.declared.symbol.Part.{Part}
 use Rattle.cr_syntax.specs.Grammar.{Side, Alternative}
 use Rattle.cr_syntax.specs.Grammar as grammar
-use Rattle.cr_syntax.specs.Tables.{side_of, part_of, rules_of_grammar}
+use Rattle.cr_syntax.specs.Tables.{side_of, part_of, declaration_rules, expression_rules}
 
 pub alternative_of : (k : Kind) → Alternative (part_of k) k (side_of k)
-unfolding part_of side_of rules_of_grammar
+unfolding part_of side_of declaration_rules expression_rules
 alternative_of kind.FunctionDefinition = grammar.function_definition
 alternative_of kind.Declaration = grammar.declaration
 alternative_of kind.InitDeclarator = grammar.init_declarator
@@ -118,7 +118,7 @@ alternative_of kind.Text = grammar.string_literal
 alternative_of kind.Group = grammar.parenthesized
 
 pub part_only : {p : Part} {k : Kind} {s : Side} → Alternative p k s → part_of k ≡ p
-unfolding part_of rules_of_grammar
+unfolding part_of declaration_rules expression_rules
 part_only grammar.function_definition = refl
 part_only grammar.declaration = refl
 part_only grammar.init_declarator = refl
@@ -228,7 +228,7 @@ part_only grammar.string_literal = refl
 part_only grammar.parenthesized = refl
 
 pub side_only : {p : Part} {k : Kind} {s : Side} → Alternative p k s → side_of k ≡ s
-unfolding side_of rules_of_grammar
+unfolding side_of declaration_rules expression_rules
 side_only grammar.function_definition = refl
 side_only grammar.declaration = refl
 side_only grammar.init_declarator = refl

@@ -1,13 +1,12 @@
 -- Taking apart the checker's tests, and what its small functions say of a row.
-use Rattle.std.proofs.Common.{◌≡◌, ℕ, zero, suc, ◌+◌, ◌-◌, ◌<◌, ◌≤◌, Bool, true, false, not, cond, ◌&&◌, ◌||◌, List, [], ◌∷◌, Option, None, Some, refl, sym, ap, subst, ◌∙◌, arith, sub-one}
-use Rattle.std.specs.Prelude.{if◌then◌else◌, ◌==◌, nat_lt, nat_le}
-use borrow.Author.Tests.{ltb-true, leb-true, eqb-true}
-use denote.Enum.Bare.{same_true, sameb}
+use Rattle.std.proofs.Common.{◌≡◌, ℕ, Bool, true, false, not, ◌&&◌, List, Option, None, Some, refl, sym, ap}
+use Rattle.std.specs.Prelude.{if◌then◌else◌}
+use denote.Enum.Bare.{same_true}
 use Rattle.cr_syntax.specs.contracts.word.Word as word_type
 use Rattle.cr_syntax.specs.declared.word.Word.{Word}
 use Rattle.cr_syntax.specs.Words.{Lexeme, word_at}
-use Rattle.cr_syntax.specs.Trees.{Trees, none, node, one, ◌&◌}
-use Rattle.cr_syntax.specs.Reads.{is_word, same_word, are_words, span_is, is_none, alone, first_of, after_of, is_last, begins_at, next_of}
+use Rattle.cr_syntax.specs.Trees.{Trees, none, node, ◌&◌}
+use Rattle.cr_syntax.specs.Reads.{is_word, same_word, is_none, alone, is_last, next_of}
 use Rattle.cr_syntax.specs.Spells.{Is}
 
 pub if_some : {A : Type 0} {e : A} (b : Bool) (o : Option A) → (if b then o else None) ≡ Some e → (b ≡ true) × (o ≡ Some e)
@@ -32,9 +31,9 @@ not_true false q = refl
 pub is_of : (ts : List Lexeme) (i : ℕ) (w : Word) → is_word ts i w ≡ true → Is ts i w
 is_of ts i w = at (word_at ts i)
   where
-  at : (o : Option Word) → elim o as (λ _. Bool) [ None ↦ false | Some v ↦ same_word v w ] ≡ true → o ≡ Some w
-  at None q = cc
-  at (Some v) q = ap Some (same_true word_type.the_type tt v w q)
+    at : (o : Option Word) → elim o as (λ _. Bool) [ None ↦ false | Some v ↦ same_word v w ] ≡ true → o ≡ Some w
+    at None q = cc
+    at (Some v) q = ap Some (same_true word_type.the_type tt v w q)
 
 pub none_of : (t : Trees) → is_none t ≡ true → none ≡ t
 none_of none q = refl

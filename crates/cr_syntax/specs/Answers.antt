@@ -1,10 +1,10 @@
 -- What the checker's functions answer.
-use Rattle.std.specs.Prelude.{◌≡◌, ℕ, ◌+◌, ◌<◌, ◌≤◌, Bool, true, false, List, [], ◌∷◌, Option, None, Some, Result, Ok, Err, length, drop, slice_index}
+use Rattle.std.specs.Prelude.{◌≡◌, ℕ, ◌+◌, ◌<◌, Bool, true, false, List, Option, None, Some, Result, Ok, Err, length, drop, slice_index}
 use Rattle.cr_syntax.specs.declared.node.Node.{Node}
 use Rattle.cr_syntax.specs.declared.source.Source.{Source}
 use Rattle.cr_syntax.specs.Words.{Lexeme, lexemes_of, AreSpans}
 use Rattle.cr_syntax.specs.Scopes.{Scopes}
-use Rattle.cr_syntax.specs.Trees.{Trees, none, node}
+use Rattle.cr_syntax.specs.Trees.{node}
 use Rattle.cr_syntax.specs.Kept.{AreBelow, PartsAreBelow, row_in}
 
 -- a reading that went well left its scopes, and one that didn't had none

@@ -82,11 +82,11 @@ declared_in (node k i j a n) = elim (base_of k) [ ItsName ↦ i | InBrackets ↦
 abbrev pub past_part : Context → Trees → Context
 past_part h none = h
 past_part h (node k i j a n) = record {
-    typed = h.typed || specifies is_type_specifier k a;
-    type_name = h.type_name || specifies is_typedef k a;
-    bare = is_bare (node k i j a n);
-    name = declared_in (node k i j a n)
-  }
+  typed = h.typed || specifies is_type_specifier k a;
+  type_name = h.type_name || specifies is_typedef k a;
+  bare = is_bare (node k i j a n);
+  name = declared_in (node k i j a n);
+}
 
 -- whether the parts of a node hear what stands before the node: specifiers and declarators do
 abbrev pub hears : Part → Bool

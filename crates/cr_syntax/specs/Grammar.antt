@@ -84,13 +84,11 @@ assignment_by w = part Unary ∷ opening w ∷ inner Assignment ∷ []
 pub data Alternative : Part → Kind → Side → Type 0 where
   -- 6.9 External definitions
   function_definition : Alternative External kind.FunctionDefinition (part Specifiers ∷ part Declarator ∷ symbol.Enters ∷ part Compound ∷ symbol.Ends ∷ [])
-
   -- 6.7 Declarations
   declaration : Alternative Declaration kind.Declaration (part Specifiers ∷ optional_list InitDeclarator ∷ token word.Semicolon ∷ [])
   init_declarator : Alternative InitDeclarator kind.InitDeclarator (part Declarator ∷ symbol.Enters ∷ symbol.Ends ∷ token word.Equal ∷ part Initializer ∷ [])
   -- 6.7.9
   initializer_list : Alternative Initializer kind.InitializerList (opening word.LeftBrace ∷ inner_list Initializer ∷ symbol.TrailingComma ∷ [])
-
   -- 6.7.1 Storage-class specifiers, 6.7.4 function specifiers
   declaration_specifiers : Alternative Specifiers kind.Specifiers (part Specifier ∷ part Specifier ∷ many Specifier ∷ [])
   specifier_typedef : Alternative Specifier kind.Typedef (token word.Typedef ∷ [])
@@ -112,7 +110,6 @@ pub data Alternative : Part → Kind → Side → Type 0 where
   type_bool : Alternative Plain kind.Bool (token word.Bool ∷ [])
   -- 6.7.8
   typedef_name : Alternative Plain kind.TypedefName (symbol.TypeIdentifier ∷ [])
-
   -- 6.7.2.1 Structures
   struct_content : Alternative Plain kind.StructContent (token word.Struct ∷ symbol.Tag ∷ inner MemberDeclaration ∷ inner_many MemberDeclaration ∷ closing word.RightBrace ∷ [])
   struct_tag : Alternative Plain kind.StructTag (token word.Struct ∷ token word.Identifier ∷ [])
@@ -121,7 +118,6 @@ pub data Alternative : Part → Kind → Side → Type 0 where
   enum_content : Alternative Plain kind.EnumContent (token word.Enum ∷ symbol.Tag ∷ inner_list Enumerator ∷ symbol.TrailingComma ∷ [])
   enum_tag : Alternative Plain kind.EnumTag (token word.Enum ∷ token word.Identifier ∷ [])
   enumerator : Alternative Enumerator kind.Enumerator (symbol.Enumerates ∷ symbol.Value ∷ [])
-
   -- 6.7.6 Declarators
   pointer_declarator : Alternative Declarator kind.PointerDeclarator (opening word.Star ∷ symbol.Qualified Declarator ∷ [])
   name_declarator : Alternative DirectDeclarator kind.NameDeclarator (symbol.Declared ∷ [])
@@ -132,14 +128,12 @@ pub data Alternative : Part → Kind → Side → Type 0 where
   parameter_list : Alternative Parameters kind.Parameters (part Parameter ∷ token word.Comma ∷ list Parameter ∷ [])
   variadic_parameters : Alternative Parameters kind.VariadicParameters (list Parameter ∷ token word.Comma ∷ token word.Ellipsis ∷ [])
   parameter_declaration : Alternative Parameter kind.Parameter (part Specifiers ∷ part ParameterDeclarator ∷ [])
-
   -- 6.7.7 Type names
   abstract_pointer : Alternative Abstract kind.AbstractPointer (opening word.Star ∷ symbol.OptionalQualified Abstract ∷ [])
   abstract_group : Alternative DirectAbstract kind.AbstractGroup (opening word.LeftParen ∷ inner Abstract ∷ closing word.RightParen ∷ [])
   abstract_array : Alternative DirectAbstract kind.AbstractArray (opening word.LeftBracket ∷ inner_optional Conditional ∷ closing word.RightBracket ∷ [])
   abstract_array_of : Alternative DirectAbstract kind.AbstractArrayOf (part DirectAbstract ∷ opening word.LeftBracket ∷ inner_optional Conditional ∷ closing word.RightBracket ∷ [])
   type_name : Alternative TypeName kind.TypeName (part PlainSpecifiers ∷ part Abstract ∷ [])
-
   -- 6.8.2 Compound statement, 6.8.3 expression and null statements
   compound_statement : Alternative Compound kind.Compound (symbol.Begins ∷ opening word.LeftBrace ∷ inner_many BlockItem ∷ closing word.RightBrace ∷ symbol.Ends ∷ [])
   expression_statement : Alternative Statement kind.ExpressionStatement (optional Expression ∷ token word.Semicolon ∷ [])
@@ -157,7 +151,6 @@ pub data Alternative : Part → Kind → Side → Type 0 where
   break_statement : Alternative Statement kind.Break (token word.Break ∷ token word.Semicolon ∷ [])
   continue_statement : Alternative Statement kind.Continue (token word.Continue ∷ token word.Semicolon ∷ [])
   return_statement : Alternative Statement kind.Return (token word.Return ∷ optional Expression ∷ token word.Semicolon ∷ [])
-
   -- 6.5.17 Comma operator
   comma : Alternative Expression kind.Comma (binary Expression word.Comma Assignment)
   -- 6.5.16 Assignment operators

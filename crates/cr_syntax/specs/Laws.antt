@@ -1,5 +1,5 @@
 -- What is proved of the grammar's table, and of reading a tree by it.
-use Rattle.std.specs.Prelude.{◌≡◌, ℕ, List, Some, length}
+use Rattle.std.specs.Prelude.{◌≡◌, List, Some, length}
 use Rattle.cr_syntax.specs.declared.node.Kind.{Kind}
 use Rattle.cr_syntax.specs.declared.symbol.Part.{Part}
 use Rattle.cr_syntax.specs.Words.{Lexeme}
@@ -8,7 +8,7 @@ use Rattle.cr_syntax.specs.Trees.{Trees}
 use Rattle.cr_syntax.specs.Context.{fresh}
 use Rattle.cr_syntax.specs.Grammar.{Side, Alternative}
 use Rattle.cr_syntax.specs.Tables.{part_of, side_of}
-use Rattle.cr_syntax.specs.Spells.{Limit, AtMost}
+use Rattle.cr_syntax.specs.Spells.{AtMost}
 use Rattle.cr_syntax.specs.Reads.{reads}
 use Rattle.cr_syntax.specs.Units.{IsUnit, most_levels, unit_side, file_scope}
 

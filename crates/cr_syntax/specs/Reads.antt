@@ -6,13 +6,11 @@ use Rattle.cr_syntax.specs.contracts.word.Word as word_type
 use Rattle.cr_syntax.specs.declared.word.Word.{Word}
 use Rattle.cr_syntax.specs.declared.word.Word.TheVariants as word
 use Rattle.cr_syntax.specs.declared.node.Kind.{Kind}
-use Rattle.cr_syntax.specs.declared.scopes.TypeName.{TypeName}
 use Rattle.cr_syntax.specs.declared.symbol.Depth.{Depth}
 use Rattle.cr_syntax.specs.declared.symbol.Part.{Part}
 use Rattle.cr_syntax.specs.declared.symbol.Part.TheVariants as part
 use Rattle.cr_syntax.specs.declared.symbol.Symbol.TheVariants as symbol
 use Rattle.cr_syntax.specs.declared.symbol.Context.{Context}
-use Rattle.cr_syntax.specs.declared.chains.Link.{Link}
 use Rattle.cr_syntax.specs.declared.chains.Link.TheVariants.{Makes, Chains, Enters, Drops, Refuses}
 use Rattle.cr_syntax.specs.Words.{Lexeme, word_at, spelling_at}
 use Rattle.cr_syntax.specs.Scopes.{Scopes, is_type, enter}
@@ -93,12 +91,12 @@ most_links = 20
 unfoldable pub as_part : List Lexeme → Reader → ℕ → Part → Context → Scopes → ℕ → Kind → ℕ → ℕ → Trees → Option Scopes
 as_part ts inside zero p h c d k i j t = None
 as_part ts inside (suc n) p h c d k i j t = elim (step_of p k) [
-    Makes ↦ if fits_together k t then inside (side_of k) (at_start p h) c d i j else None
+  | Makes ↦ if fits_together k t then inside (side_of k) (at_start p h) c d i j else None
   | Chains q ↦ if may_stand p (one k i j t) then as_part ts inside n q (at_start p h) c d k i j t else None
   | Enters ↦ entered ts h (one k i j t) (as_part ts inside n part.Declarator h c d k i j t)
   | Drops ↦ dropped (as_part ts inside n part.Declarator h c d k i j t)
   | Refuses ↦ None
-  ]
+]
 
 -- the first tree of a row as a part that begins at a place
 abbrev pub lead : List Lexeme → Reader → Trees → Part → Context → Scopes → ℕ → ℕ → Option Scopes
@@ -174,37 +172,58 @@ along ts t inside next (symbol.Ends ∷ s) h [] d i j = None
 along ts t inside next (symbol.Ends ∷ s) h (own ∷ c) d i j = along ts t inside next s h c d i j
 along ts t inside next (symbol.Prototype ∷ s) h c d i j =
     if is_none t then along ts t inside next s h c d i j
-    else elim c [ [] ↦ None | own ∷ c' ↦
-      elim (lead ts inside t part.Parameters h ([] ∷ c') (d + 1) i) [ None ↦ None | Some e ↦
-        elim e [ [] ↦ None | names ∷ e' ↦ next s (past_part h (alone t)) ((if h.bare then names else own) ∷ e') d (after_of t) j ] ] ]
+    else elim c [
+      | [] ↦ None
+      | own ∷ c' ↦
+          elim (lead ts inside t part.Parameters h ([] ∷ c') (d + 1) i) [
+            | None ↦ None
+            | Some e ↦
+                elim e [ [] ↦ None | names ∷ e' ↦ next s (past_part h (alone t)) ((if h.bare then names else own) ∷ e') d (after_of t) j ]
+          ]
+    ]
 along ts t inside next (symbol.Size ∷ s) h c d i j =
     if is_none t then along ts t inside next s h c d i j
-    else elim c [ [] ↦ None | own ∷ c' ↦
-      elim (lead ts inside t part.Conditional h c' (d + 1) i) [ None ↦ None | Some e ↦ next s (past_part h (alone t)) (own ∷ e) d (after_of t) j ] ]
+    else elim c [
+      | [] ↦ None
+      | own ∷ c' ↦
+          elim (lead ts inside t part.Conditional h c' (d + 1) i) [ None ↦ None | Some e ↦ next s (past_part h (alone t)) (own ∷ e) d (after_of t) j ]
+    ]
 along ts t inside next (symbol.Texts ∷ []) h c d i j = if is_none t && nat_lt i j && span_is ts word.Text i j then Some c else None
 along ts t inside next (symbol.Texts ∷ x ∷ s) h c d i j = None
 along ts t inside next (symbol.Init ∷ s) h c d i j =
     if leads_declaration t && begins_at t i
     then elim (lead ts inside t part.Declaration h c (d + 1) i) [ None ↦ None | Some e ↦ next s (past_part h (alone t)) e d (after_of t) j ]
     else (if begins_at t i
-    then elim (lead ts inside t part.Expression h c (d + 1) i) [ None ↦ None | Some e ↦
-      if is_word ts (after_of t) word.Semicolon then next s (past_token h) e d (after_of t + 1) j else None ]
+    then elim (lead ts inside t part.Expression h c (d + 1) i) [
+      | None ↦ None
+      | Some e ↦
+          if is_word ts (after_of t) word.Semicolon then next s (past_token h) e d (after_of t + 1) j else None
+    ]
     else (if is_word ts i word.Semicolon then along ts t inside next s (past_token h) c d (i + 1) j else None))
 along ts t inside next (symbol.Clause ∷ s) h c d i j =
     if begins_at t i
-    then elim (lead ts inside t part.Expression h c (d + 1) i) [ None ↦ None | Some e ↦
-      if is_word ts (after_of t) word.Semicolon then next s (past_token h) e d (after_of t + 1) j else None ]
+    then elim (lead ts inside t part.Expression h c (d + 1) i) [
+      | None ↦ None
+      | Some e ↦
+          if is_word ts (after_of t) word.Semicolon then next s (past_token h) e d (after_of t + 1) j else None
+    ]
     else (if is_word ts i word.Semicolon then along ts t inside next s (past_token h) c d (i + 1) j else None)
 along ts t inside next (symbol.Step ∷ s) h c d i j =
     if begins_at t i
-    then elim (lead ts inside t part.Expression h c (d + 1) i) [ None ↦ None | Some e ↦
-      if is_word ts (after_of t) word.RightParen && has_room d then next s (past_token h) e d (after_of t + 1) j else None ]
+    then elim (lead ts inside t part.Expression h c (d + 1) i) [
+      | None ↦ None
+      | Some e ↦
+          if is_word ts (after_of t) word.RightParen && has_room d then next s (past_token h) e d (after_of t + 1) j else None
+    ]
     else (if is_word ts i word.RightParen && has_room d then along ts t inside next s (past_token h) c d (i + 1) j else None)
 along ts t inside next (symbol.Else ∷ s) h c d i j =
     if is_none t then along ts t inside next s h c d i j
     else (if is_word ts i word.Else && has_room d
-    then elim (lead ts inside t part.Statement h ([] ∷ c) (d + 1) (i + 1)) [ None ↦ None | Some e ↦
-      elim e [ [] ↦ None | names ∷ e' ↦ next s (past_part h (alone t)) e' d (after_of t) j ] ]
+    then elim (lead ts inside t part.Statement h ([] ∷ c) (d + 1) (i + 1)) [
+      | None ↦ None
+      | Some e ↦
+          elim e [ [] ↦ None | names ∷ e' ↦ next s (past_part h (alone t)) e' d (after_of t) j ]
+    ]
     else None)
 
 -- reads nothing

@@ -1,5 +1,5 @@
 -- Scopes of ordinary identifiers, as far as the grammar asks: which of them are typedef names (C11 6.2.1, 6.7.8).
-use Rattle.std.specs.Prelude.{ℕ, Bool, true, false, List, [], ◌∷◌, Option, None, Some, if◌then◌else◌}
+use Rattle.std.specs.Prelude.{ℕ, Bool, false, List, [], ◌∷◌, Option, None, Some, if◌then◌else◌}
 use Rattle.std.specs.Str.{bytes_eq}
 use Rattle.cr_syntax.specs.declared.scopes.TypeName.{TypeName}
 

@@ -7,7 +7,8 @@ use Rattle.cr_syntax.specs.declared.node.Kind.{Kind}
 use Rattle.cr_syntax.specs.declared.symbol.Part.{Part}
 use Rattle.cr_syntax.specs.declared.symbol.Part.TheVariants.{External}
 use Rattle.cr_syntax.specs.declared.symbol.Symbol.{Symbol}
-use Rattle.cr_syntax.specs.declared.rules.TheConstants.{RULES}
+use Rattle.cr_syntax.specs.declared.operators.TheConstants.{EXPRESSIONS}
+use Rattle.cr_syntax.specs.declared.rules.TheConstants.{DECLARATIONS}
 use Rattle.cr_syntax.specs.Grammar.{Side}
 
 -- a kind, what it is an alternative of, and its right side
@@ -18,22 +19,26 @@ Rule = Kind × Part × Side
 abbrev pub plain : List (Kind × Part × Bor (List Symbol)) → List Rule
 plain = map (λ r. (r.0, r.1, r.2.now))
 
-unfoldable pub rules_of_grammar : List Rule
-rules_of_grammar = map (λ r. (r.0, r.1, r.2.now)) RULES
+unfoldable pub declaration_rules : List Rule
+declaration_rules = map (λ r. (r.0, r.1, r.2.now)) DECLARATIONS
+
+unfoldable pub expression_rules : List Rule
+expression_rules = map (λ r. (r.0, r.1, r.2.now)) EXPRESSIONS
 
 abbrev pub same_kind : Kind → Kind → Bool
 same_kind k q = sameb kind_type.the_type k q
 
-abbrev pub side_in : List Rule → Kind → Side
-side_in [] k = []
-side_in (r ∷ rs) k = if same_kind r.0 k then r.2 else side_in rs k
+-- the first row of a kind, or what stands for it where there is none
+abbrev pub side_in : List Rule → Kind → Side → Side
+side_in [] k other = other
+side_in (r ∷ rs) k other = if same_kind r.0 k then r.2 else side_in rs k other
 
-abbrev pub part_in : List Rule → Kind → Part
-part_in [] k = External
-part_in (r ∷ rs) k = if same_kind r.0 k then r.1 else part_in rs k
+abbrev pub part_in : List Rule → Kind → Part → Part
+part_in [] k other = other
+part_in (r ∷ rs) k other = if same_kind r.0 k then r.1 else part_in rs k other
 
 unfoldable pub side_of : Kind → Side
-side_of k = side_in rules_of_grammar k
+side_of k = side_in declaration_rules k (side_in expression_rules k [])
 
 unfoldable pub part_of : Kind → Part
-part_of k = part_in rules_of_grammar k
+part_of k = part_in declaration_rules k (part_in expression_rules k External)

@@ -1,7 +1,6 @@
 -- The syntax tree as a value, and how a list of nodes gives it.
-use Rattle.std.specs.Prelude.{ℕ, ◌+◌, Bool, true, false, not, ◌||◌, List, [], ◌∷◌, ◌++◌, slice_index_or}
+use Rattle.std.specs.Prelude.{ℕ, ◌+◌, List, [], ◌∷◌, ◌++◌, slice_index_or}
 use Rattle.cr_syntax.specs.declared.node.Kind.{Kind}
-use Rattle.cr_syntax.specs.declared.node.Kind.TheVariants as kind
 use Rattle.cr_syntax.specs.declared.node.Node.{Node}
 
 -- A row of trees: each has a kind, the number of its first token, the number of the token after it, its parts, and what
@@ -12,7 +11,6 @@ pub data Trees : Type 0 where
 
 -- one row after another
 infixr 5 ◌&◌
-
 abbrev pub ◌&◌ : Trees → Trees → Trees
 none & b = b
 (node k i j a n) & b = node k i j a (n & b)

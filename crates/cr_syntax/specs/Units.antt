@@ -1,12 +1,12 @@
 -- A unit, a text that can go on to one, and the first refusal.
-use Rattle.std.specs.Prelude.{◌≡◌, ℕ, ◌+◌, ◌<◌, Bool, true, false, ◌||◌, ◌&&◌, ◌==◌, if◌then◌else◌, List, [], ◌∷◌, Option, Some, length, slice_get, set, ◌⊎◌}
+use Rattle.std.specs.Prelude.{◌≡◌, ℕ, ◌+◌, ◌<◌, Bool, true, false, ◌||◌, ◌&&◌, ◌==◌, if◌then◌else◌, List, [], ◌∷◌, Some, length, slice_get, set, ◌⊎◌}
 use Rattle.cr_syntax.specs.declared.word.Word.{Word}
 use Rattle.cr_syntax.specs.declared.word.Word.TheVariants as word
 use Rattle.cr_syntax.specs.declared.node.Kind.{Kind}
 use Rattle.cr_syntax.specs.declared.node.Kind.TheVariants as kind
 use Rattle.cr_syntax.specs.declared.symbol.Part.TheVariants.{External}
 use Rattle.cr_syntax.specs.declared.shape.Base.TheVariants.{ItsName, InBrackets, Derived, NoDeclarator}
-use Rattle.cr_syntax.specs.Words.{Lexeme, word_at}
+use Rattle.cr_syntax.specs.Words.{Lexeme}
 use Rattle.cr_syntax.specs.Scopes.{Scopes}
 use Rattle.cr_syntax.specs.Trees.{Trees, none, node}
 use Rattle.cr_syntax.specs.Context.{fresh, is_bare, base_of}
@@ -188,7 +188,7 @@ pub data Outside (ts : List Lexeme) : ℕ → ℕ → Type 0 where
   label_as_body : {k : ℕ} (s : ℕ) → Is ts k word.Case ⊎ Is ts k word.Default → Shows ts k (switch_body_at s k) → Outside ts k 6
   -- 7: another statement than a block as a switch's body: it could be that of a `while` in the switch's place
   switch_body : {k : ℕ} (s : ℕ) → Shows ts k (switch_body_at s k) → (Is ts k word.LeftBrace → ⊥) → (Is ts k word.Case → ⊥) → (Is ts k word.Default → ⊥) →
-    Begins (Upto k most_levels) (with_word ts s word.While) (k + 1) → Outside ts k 7
+      Begins (Upto k most_levels) (with_word ts s word.While) (k + 1) → Outside ts k 7
   -- 8: the `...` of a function definition's own parameters, where its body begins at token m
   variadic_function : {k : ℕ} {t : Trees} (m : ℕ) → k < m → Is ts m word.LeftBrace → Completes (Upto k most_levels) ts (m + 1) t → Has (variadic_definition k m) t → Outside ts k 8
 
@@ -218,7 +218,7 @@ pub data IsTooDeep (ts : List Lexeme) (k : ℕ) : Type 0 where
   refused : {w v : Word} {row : ℕ} → Is ts k w → IsBracket w → Outside ts k row → StandsIn row v → OpensTooDeep (with_word ts k v) k → IsTooDeep ts k
   -- another unexpected bracket opens a level where no text leaves room for one
   unexpected : {w : Word} → Is ts k w → IsBracket w → BeginsWithin ts k → (Begins Free ts (k + 1) → ⊥) → ((row : ℕ) → Outside ts k row → ⊥) →
-    (Begins (Leaving k most_levels) ts k → ⊥) → IsTooDeep ts k
+      (Begins (Leaving k most_levels) ts k → ⊥) → IsTooDeep ts k
 
 -- The tokens before k are no cause to refuse: they begin a unit within the limit, and no row names one of them.
 pub record IsFineBefore (ts : List Lexeme) (k : ℕ) : Type 0 where
@@ -238,7 +238,7 @@ pub data FirstRefusal (ts : List Lexeme) : Refusal → Type 0 where
   too_deep : {k : ℕ} → k < length ts → IsFineBefore ts k → IsTooDeep ts k → FirstRefusal ts (TooDeep k)
   outside : {k row : ℕ} → k < length ts → IsFineBefore ts k → (IsTooDeep ts k → ⊥) → Outside ts k row → FirstRefusal ts (OutsideSubset k row)
   unexpected_token : {k : ℕ} → k < length ts → IsFineBefore ts k → (IsTooDeep ts k → ⊥) → ((row : ℕ) → Outside ts k row → ⊥) →
-    (Begins Free ts (k + 1) → ⊥) → FirstRefusal ts (Unexpected k)
+      (Begins Free ts (k + 1) → ⊥) → FirstRefusal ts (Unexpected k)
   end : IsFineBefore ts (length ts) → ((t : Trees) → IsUnit (AtMost most_levels) ts t → ⊥) → FirstRefusal ts Ended
 
 -- The trees are those of the tokens: they spell them within the limit, and no refused form stands in them.

@@ -41,7 +41,12 @@ fn said(scope: &Scope, spelling: &[u8]) -> Option<bool>
 }
 
 /// Puts a name into the innermost scope. The error is want of memory.
-pub fn enter(alloc: Global, scopes: &mut LinkedList<Scope>, spelling: &[u8], is_type: bool) -> Result<(), AllocError>
+pub fn enter(
+    alloc: Global,
+    scopes: &mut LinkedList<Scope>,
+    spelling: &[u8],
+    is_type: bool,
+) -> Result<(), AllocError>
     ensures { OnOk result (scopes.new ≡ enter (record { name = spelling.now; is_type = is_type }) scopes.old) }
 {
     let name = Row::from_vec(spelling.to_vec(alloc)?);

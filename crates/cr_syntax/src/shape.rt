@@ -122,7 +122,10 @@ fn says_type(nodes: &[Node], node: &Node) -> bool
     ensures { result ≡ specifies is_type_specifier node.now.kind (row_in nodes.now node.now.parts) }
 {
     match node.kind {
-        Kind::Specifiers | Kind::PlainSpecifiers => any_type_specifier(nodes, node.parts.as_slice()),
+        Kind::Specifiers | Kind::PlainSpecifiers => any_type_specifier(
+            nodes,
+            node.parts.as_slice(),
+        ),
         _ => is_type_specifier(node.kind),
     }
 }
@@ -188,7 +191,11 @@ fn declared_in(nodes: &[Node], row: &[u32], bound: usize) -> u32
         None => 0,
         Some(node) => match base_of(node.kind) {
             Base::ItsName => node.first,
-            Base::InBrackets | Base::Derived => declared_in(nodes, node.parts.as_slice(), row[0] as usize),
+            Base::InBrackets | Base::Derived => declared_in(
+                nodes,
+                node.parts.as_slice(),
+                row[0] as usize,
+            ),
             Base::NoDeclarator => 0,
         },
     }
@@ -203,7 +210,10 @@ pub fn past_node(nodes: &[Node], context: Context, node: &Node) -> Context
     let parts = node.parts.as_slice();
     let (bare, name) = match base_of(node.kind) {
         Base::ItsName => (true, node.first),
-        Base::InBrackets => (is_bare(nodes, parts, nodes.len()), declared_in(nodes, parts, nodes.len())),
+        Base::InBrackets => (
+            is_bare(nodes, parts, nodes.len()),
+            declared_in(nodes, parts, nodes.len()),
+        ),
         Base::Derived => (false, declared_in(nodes, parts, nodes.len())),
         Base::NoDeclarator => (false, 0),
     };

@@ -197,7 +197,6 @@ pub enum Word {
     Comma,
 }
 
-
 /// The keywords of C11 6.4.1, in its order.
 pub const KEYWORDS: [(&str, Word); 44] = [
     ("auto", Word::Auto),

@@ -4,4 +4,4 @@ use Rattle.cr_syntax.proofs.rules.find_side.Given as goal
 
 -- the rules looked at are of other kinds
 abbrev pub invariant-loop-k : goal.invariant-loop-k
-invariant-loop-k l = side_in (plain l.rules) l.kind ≡ side_in (plain (drop l.k-index l.rules)) l.kind
+invariant-loop-k l = side_in (plain l.rules) l.kind l.other ≡ side_in (plain (drop l.k-index l.rules)) l.kind l.other

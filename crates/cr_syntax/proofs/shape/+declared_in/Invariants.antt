@@ -1,4 +1,3 @@
-use Rattle.std.proofs.Common.{length, ◌+◌, ◌*◌, ◌^◌}
 use Rattle.cr_syntax.proofs.shape.+declared_in.Given as goal
 
 abbrev pub decreases-declared_in : goal.decreases-declared_in

@@ -1,4 +1,3 @@
-use Rattle.std.proofs.Common.{length, ◌+◌, ◌*◌, ◌^◌}
 use Rattle.cr_syntax.proofs.shape.+is_bare.Given as goal
 
 abbrev pub decreases-is_bare : goal.decreases-is_bare

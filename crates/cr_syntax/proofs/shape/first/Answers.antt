@@ -1,4 +1,4 @@
-use Rattle.std.proofs.Common.{rules, ◌≡◌, arith, refl}
+use Rattle.std.proofs.Common.{arith, refl}
 use Rattle.cr_syntax.proofs.Arena.{first_is}
 use Rattle.cr_syntax.proofs.shape.first.Goals as goal
 
