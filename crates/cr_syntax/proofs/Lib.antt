@@ -6,3 +6,4 @@ pub mod Ranks
 pub mod Complete
 pub mod Arena
 pub mod Statements
+pub mod Examples
