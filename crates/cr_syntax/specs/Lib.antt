@@ -1,0 +1,13 @@
+pub mod Words
+pub mod Trees
+pub mod Scopes
+pub mod Grammar
+pub mod Context
+pub mod Spells
+pub mod Units
+pub mod Kept
+pub mod Tables
+pub mod Chains
+pub mod Reads
+pub mod Answers
+pub mod Laws
