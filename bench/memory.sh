@@ -2,19 +2,8 @@
 # Prints how many millions of `load`, of `save`, and of `enter` with `leave` a second a cr_memory::Store does on one core.
 # It proves and builds a small timer in a folder of its own, which takes a few minutes. Run it by hand.
 set -eu
-top="$(cd "$(dirname "${BASH_SOURCE[0]}")/.." && pwd)"
-lab="$(mktemp -d)"
-trap 'rm -rf "$lab"' EXIT
-touch "$lab/crates.txt"
-cd "$lab"
-for crate in cr_ints cr_memory; do
-  mkdir -p "crates/$crate"
-  cp -r "$top/crates/$crate/src" "$top/crates/$crate/specs" "$top/crates/$crate/proofs" "crates/$crate/"
-done
-rt new crates/timer start_io >/dev/null 2>&1
-printf 'cr_ints:\ncr_memory: cr_ints\ntimer: cr_ints cr_memory\n' >crates.txt
-cd crates/timer
-rm -rf src/* specs/* proofs/* stdin stdout BUILD.bazel
+. "$(dirname "${BASH_SOURCE[0]}")/timer.sh"
+begin_timer 'cr_ints:' 'cr_memory: cr_ints'
 mkdir -p specs proofs/saves
 touch specs/Lib.antt
 
@@ -97,6 +86,5 @@ fn main(rt: HostRuntime) -> io::Result<()> {
     Ok(())
 }
 RT
-echo "proving and building the timer" >&2
-rt run </dev/null >"$lab/build.log" 2>&1 || { tail -n 40 "$lab/build.log" | cut -c1-300 >&2; exit 1; }
+build_timer
 ./out/timer | awk '{ times = $(NF - 1); micros = $NF; $NF = ""; $(NF - 1) = ""; printf "%s: %.1f million a second\n", $0, times / micros }'

@@ -2,17 +2,8 @@
 # Prints how many megabytes a second cr_tokens::read reads of a C text of 1 MiB, on one core.
 # It proves and builds a small timer in a folder of its own, which takes a few minutes. Run it by hand.
 set -eu
-top="$(cd "$(dirname "${BASH_SOURCE[0]}")/.." && pwd)"
-lab="$(mktemp -d)"
-trap 'rm -rf "$lab"' EXIT
-touch "$lab/crates.txt"
-cd "$lab"
-mkdir -p crates/cr_tokens
-cp -r "$top/crates/cr_tokens/src" "$top/crates/cr_tokens/specs" "$top/crates/cr_tokens/proofs" crates/cr_tokens/
-rt new crates/timer start_io >/dev/null 2>&1
-printf 'cr_tokens: thiserror\ntimer: cr_tokens\n' >crates.txt
-cd crates/timer
-rm -rf src/* specs proofs stdin stdout BUILD.bazel
+. "$(dirname "${BASH_SOURCE[0]}")/timer.sh"
+begin_timer 'cr_tokens: thiserror'
 cat >src/main.rt <<'RT'
 //! Reads the tokens of standard input a hundred times, and prints how long that took.
 #![tactic(auto)]
@@ -35,8 +26,7 @@ fn main(rt: HostRuntime) -> io::Result<()> {
     Ok(())
 }
 RT
-echo "proving and building the timer" >&2
-rt run </dev/null >"$lab/build.log" 2>&1 || { tail -n 20 "$lab/build.log" >&2; exit 1; }
+build_timer
 sample='static struct measured_pair pair_table[2] = { { 1, 2 }, { 3, 4 } };
 /* The sum of the products of the pairs that the table holds, from the first one on. */
 static long sum_of_products(struct measured_pair *first_pair, int number_of_pairs)
