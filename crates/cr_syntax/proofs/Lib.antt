@@ -7,3 +7,4 @@ pub mod Complete
 pub mod Arena
 pub mod Statements
 pub mod Examples
+pub mod MachineExamples

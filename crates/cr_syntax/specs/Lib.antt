@@ -11,3 +11,6 @@ pub mod Chains
 pub mod Reads
 pub mod Answers
 pub mod Laws
+pub mod Machine
+pub mod MachineBody
+pub mod Expressions
