@@ -8,3 +8,4 @@ pub mod Arena
 pub mod Statements
 pub mod Examples
 pub mod MachineExamples
+pub mod MachineRuns

@@ -14,3 +14,4 @@ pub mod Laws
 pub mod Machine
 pub mod MachineBody
 pub mod Expressions
+pub mod MachineLaws
