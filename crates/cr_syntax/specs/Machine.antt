@@ -35,8 +35,8 @@ pub data Wanted : Type 0 where
   unnamed : Wanted
   either : Wanted
 
--- What a function of the parser reads. ℕ is the levels open where it begins; of a loop, of the rest of a node, it is the
--- levels open at the node, then comes the node's first token, then the trees read so far.
+-- What a function of the parser reads. The first number is that of the levels open where it begins; of a loop, and of the
+-- rest of a node, it is that of the levels open at the node. Then come the node's first token and the trees read so far.
 pub data Goal : Type 0 where
   -- an expression, an assignment or a conditional, and no unused keyword behind it
   whole : Part → ℕ → Goal
@@ -58,7 +58,7 @@ pub data Goal : Type 0 where
   grouped : ℕ → ℕ → Goal
   -- after a string literal: others side by side
   texts : ℕ → Goal
-  -- arguments and the `)` behind them, in the levels of that bracket
+  -- behind the `(` of a call, arguments and their `)`
   arguments : ℕ → Trees → Goal
   suffixes : ℕ → ℕ → Trees → Goal
   -- type names (6.7.7)
@@ -81,7 +81,7 @@ pub data Goal : Type 0 where
   declarator : Wanted → Context → ℕ → Goal
   declarator_suffixes : ℕ → ℕ → Trees → Goal
   abstract_suffixes : ℕ → ℕ → Trees → Goal
-  -- an array's size, or none, and its `]`, in the levels of that bracket
+  -- behind a `[` of a declarator, an array's size or none, and its `]`
   size : ℕ → Goal
   parameters : ℕ → Goal
   more_parameters : ℕ → ℕ → Trees → Goal

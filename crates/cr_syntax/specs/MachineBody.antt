@@ -237,7 +237,7 @@ start_goal _ d = conditional d
 -- what follows where a declarator has no name in front
 abbrev pub array_start : Wanted → ℕ → ℕ → Prog
 array_start w d s = when (may_omit w)
-    (take opens (the word.LeftBracket) d (call (size (d + 1)) (λ t. into kind.AbstractArray s t (λ a. call (abstract_suffixes d s a) give))) (stop d))
+    (take opens (the word.LeftBracket) d (call (size d) (λ t. into kind.AbstractArray s t (λ a. call (abstract_suffixes d s a) give))) (stop d))
     (stop d)
 
 -- what follows a declarator in brackets
@@ -292,12 +292,12 @@ body (postfix d) = here (λ s.
 body (called d s) = take opens (the word.LeftParen) d
     (take plain (the word.RightParen) (d + 1)
         (into kind.Call s none (λ t. call (suffixes d s t) give))
-        (call (arguments (d + 1) none) (λ a. into kind.Call s a (λ t. call (suffixes d s t) give))))
+        (call (arguments d none) (λ a. into kind.Call s a (λ t. call (suffixes d s t) give))))
     (into kind.Identifier s none (λ t. call (suffixes d s t) give))
 body (grouped d s) = call (expression (d + 1)) (λ a. expect plain word.RightParen (d + 1) (into kind.Group s (a & none) (λ t. call (suffixes d s t) give)))
 body (texts d) = take plain (the word.Text) d (call (texts d) give) (give none)
-body (arguments d a) = call (assignment d) (λ b.
-    take plain (the word.Comma) d (call (arguments d (a & b & none)) give) (expect plain word.RightParen d (give (a & b & none))))
+body (arguments d a) = call (assignment (d + 1)) (λ b.
+    take plain (the word.Comma) (d + 1) (call (arguments d (a & b & none)) give) (expect plain word.RightParen (d + 1) (give (a & b & none))))
 body (suffixes d s a) =
     take opens (the word.LeftBracket) d
         (call (expression (d + 1)) (λ b. expect plain word.RightBracket (d + 1) (into kind.Subscript s (a & b & none) (λ t. call (suffixes d s t) give))))
@@ -353,7 +353,7 @@ body (declarator w h d) = here (λ s.
         (array_start w d s))))
 body (declarator_suffixes d s a) =
     take opens (the word.LeftBracket) d
-        (look (λ c. set (around c) (call (size (d + 1)) (λ t. look (λ e. set (innermost_of c ∷ e)
+        (look (λ c. set (around c) (call (size d) (λ t. look (λ e. set (innermost_of c ∷ e)
             (into kind.ArrayDeclarator s (a & t) (λ b. call (declarator_suffixes d s b) give)))))))
     (take opens (the word.LeftParen) d
         (take plain (the word.RightParen) (d + 1)
@@ -362,9 +362,9 @@ body (declarator_suffixes d s a) =
                 (expect plain word.RightParen (d + 1) (into kind.FunctionDeclarator s (a & t & none) (λ b. call (declarator_suffixes d s b) give)))))))))
     (give a))
 body (abstract_suffixes d s a) = take opens (the word.LeftBracket) d
-    (call (size (d + 1)) (λ t. into kind.AbstractArrayOf s (a & t) (λ b. call (abstract_suffixes d s b) give)))
+    (call (size d) (λ t. into kind.AbstractArrayOf s (a & t) (λ b. call (abstract_suffixes d s b) give)))
     (give a)
-body (size d) = take plain (the word.RightBracket) d (give none) (call (conditional d) (λ t. expect plain word.RightBracket d (give (t & none))))
+body (size d) = take plain (the word.RightBracket) (d + 1) (give none) (call (conditional (d + 1)) (λ t. expect plain word.RightBracket (d + 1) (give (t & none))))
 body (parameters d) = here (λ s. call (parameter d) (λ t. call (more_parameters d s (t & none)) give))
 body (more_parameters d s a) = take plain (the word.Comma) d
     (take plain (the word.Ellipsis) d (made kind.VariadicParameters s a) (call (parameter d) (λ t. call (more_parameters d s (a & t & none)) give)))
