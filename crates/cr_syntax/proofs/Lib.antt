@@ -9,3 +9,6 @@ pub mod Statements
 pub mod Examples
 pub mod MachineExamples
 pub mod MachineRuns
+pub mod MachineSpells
+pub mod MachineGives
+pub mod MachineKept

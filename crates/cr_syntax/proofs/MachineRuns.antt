@@ -114,7 +114,7 @@ module _ (ts us : List Lexeme) where
   test_of : (c : Scopes) (i : ℕ) (x : Test) {b : Bool} → slice_get us i ≡ slice_get ts i → passes ts c i x ≡ b → passes us c i x ≡ b
   test_of c i x q h = passes_same ts us i q c x ∙ h
 
-  brought_same : (i k : ℕ) (b : Bool) → ((n : ℕ) → n < i → slice_get us n ≡ slice_get ts n) → brought us i k b ≡ brought ts i k b
+  pub brought_same : (i k : ℕ) (b : Bool) → ((n : ℕ) → n < i → slice_get us n ≡ slice_get ts n) → brought us i k b ≡ brought ts i k b
   brought_same i k b f = ap (λ s. record { name = s; is_type = b }) (name_same ts us i k f)
 
 pub local : {body : Goal → Prog} {ts us : List Lexeme} {limit : Limit} {p : Prog} {c : Scopes} {i : ℕ} {r : Reply} →

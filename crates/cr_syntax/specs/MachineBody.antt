@@ -250,6 +250,38 @@ group_end d s t = when (is_declarator t)
 abbrev pub pointer_end : ℕ → Trees → Prog
 pointer_end s t = when (is_declarator t) (made kind.PointerDeclarator s (t & none)) (made kind.AbstractPointer s (t & none))
 
+-- what follows an assignment operator that makes a node of kind k, an operator of a level, a prefix operator
+abbrev pub assigned : ℕ → ℕ → Trees → Kind → Prog
+assigned d s a k = call (assignment (d + 1)) (λ b. made k s (a & b & none))
+
+abbrev pub operated : Part → ℕ → ℕ → Trees → Kind → Prog
+operated p d s a k = call (tighter p d) (λ b. into k s (a & b & none) (λ t. call (operands p d s t) give))
+
+abbrev pub prefixed : Goal → ℕ → Kind → Prog
+prefixed g s k = call g (λ a. made k s (a & none))
+
+-- a postfix expression of kind k with these parts, and the suffixes behind it
+abbrev pub suffixed : ℕ → ℕ → Trees → Kind → Prog
+suffixed d s a k = into k s a (λ t. call (suffixes d s t) give)
+
+-- the rest of the programs of `unary`, `postfix`, `suffixes` and `element`, behind their tables of words
+abbrev pub sized : ℕ → ℕ → Prog
+sized d s = take opens (the word.Sizeof) d (call (measured d s) give) (call (postfix d) give)
+
+abbrev pub other_primary : ℕ → ℕ → Prog
+other_primary d s =
+    take plain (the word.Text) d (call (texts d) (λ _. suffixed d s none kind.Text))
+    (take opens (the word.LeftParen) d (call (grouped d s) give) (stop d))
+
+abbrev pub suffixes_end : ℕ → Trees → Prog
+suffixes_end d a = when (is_identifier a) (give a) (bar (the word.LeftParen) 4 d (give a))
+
+abbrev pub other_element : Context → ℕ → ℕ → Prog
+other_element h d s =
+    take plain (the word.Struct) d (call (structure d s) give)
+    (take plain (the word.Enum) d (call (enumeration d s) give)
+    (take plain (type_identifier h.typed) d (made kind.TypedefName s none) (stop d)))
+
 abbrev pub body : Goal → Prog
 body (whole p d) = call (start_goal p d) (λ t. bar (has is_unused) 1 d (give t))
 -- 6.5.17
@@ -257,7 +289,7 @@ body (expression d) = here (λ s. call (assignment d) (λ a. call (commas d s a)
 body (commas d s a) = take plain (the word.Comma) d (call (assignment d) (λ b. into kind.Comma s (a & b & none) (λ t. call (commas d s t) give))) (give a)
 -- 6.5.16
 body (assignment d) = here (λ s. call (conditional d) (λ a. when (is_unary a)
-    (choose opens assignment_operators d (λ k. call (assignment (d + 1)) (λ b. made k s (a & b & none))) (give a))
+    (choose opens assignment_operators d (assigned d s a) (give a))
     (give a)))
 -- 6.5.15
 body (conditional d) = here (λ s. call (binary part.LogicalOr d) (λ a.
@@ -266,7 +298,7 @@ body (conditional d) = here (λ s. call (binary part.LogicalOr d) (λ a.
         (give a)))
 -- 6.5.14 to 6.5.5
 body (binary p d) = here (λ s. call (tighter p d) (λ a. call (operands p d s a) give))
-body (operands p d s a) = choose plain (operators p) d (λ k. call (tighter p d) (λ b. into k s (a & b & none) (λ t. call (operands p d s t) give))) (give a)
+body (operands p d s a) = choose plain (operators p) d (operated p d s a) (give a)
 -- 6.5.4
 body (cast d) = here (λ s. take opens (the word.LeftParen) d
     (peek type_start
@@ -275,9 +307,7 @@ body (cast d) = here (λ s. take opens (the word.LeftParen) d
     (call (unary d) give))
 -- 6.5.3
 body (unary d) = here (λ s.
-    choose opens unary_prefixes d (λ k. call (unary (d + 1)) (λ a. made k s (a & none)))
-    (choose opens cast_prefixes d (λ k. call (cast (d + 1)) (λ a. made k s (a & none)))
-    (take opens (the word.Sizeof) d (call (measured d s) give) (call (postfix d) give))))
+    choose opens unary_prefixes d (prefixed (unary (d + 1)) s) (choose opens cast_prefixes d (prefixed (cast (d + 1)) s) (sized d s)))
 body (measured d s) = here (λ q. take opens (the word.LeftParen) (d + 1)
     (peek type_start
         (call (type_name (d + 1 + 1)) (λ t. expect plain word.RightParen (d + 1 + 1) (made kind.SizeofType s (t & none))))
@@ -286,25 +316,22 @@ body (measured d s) = here (λ q. take opens (the word.LeftParen) (d + 1)
 -- 6.5.2, 6.5.1
 body (postfix d) = here (λ s.
     take plain ordinary d (call (called d s) give)
-    (choose plain constants d (λ k. into k s none (λ t. call (suffixes d s t) give))
-    (take plain (the word.Text) d (call (texts d) (λ _. into kind.Text s none (λ t. call (suffixes d s t) give)))
-    (take opens (the word.LeftParen) d (call (grouped d s) give) (stop d)))))
+    (choose plain constants d (suffixed d s none) (other_primary d s)))
 body (called d s) = take opens (the word.LeftParen) d
     (take plain (the word.RightParen) (d + 1)
-        (into kind.Call s none (λ t. call (suffixes d s t) give))
-        (call (arguments d none) (λ a. into kind.Call s a (λ t. call (suffixes d s t) give))))
-    (into kind.Identifier s none (λ t. call (suffixes d s t) give))
-body (grouped d s) = call (expression (d + 1)) (λ a. expect plain word.RightParen (d + 1) (into kind.Group s (a & none) (λ t. call (suffixes d s t) give)))
+        (suffixed d s none kind.Call)
+        (call (arguments d none) (λ a. suffixed d s a kind.Call)))
+    (suffixed d s none kind.Identifier)
+body (grouped d s) = call (expression (d + 1)) (λ a. expect plain word.RightParen (d + 1) (suffixed d s (a & none) kind.Group))
 body (texts d) = take plain (the word.Text) d (call (texts d) give) (give none)
 body (arguments d a) = call (assignment (d + 1)) (λ b.
     take plain (the word.Comma) (d + 1) (call (arguments d (a & b & none)) give) (expect plain word.RightParen (d + 1) (give (a & b & none))))
 body (suffixes d s a) =
     take opens (the word.LeftBracket) d
-        (call (expression (d + 1)) (λ b. expect plain word.RightBracket (d + 1) (into kind.Subscript s (a & b & none) (λ t. call (suffixes d s t) give))))
-    (take plain (the word.Dot) d (expect plain word.Identifier d (into kind.Member s (a & none) (λ t. call (suffixes d s t) give)))
-    (take plain (the word.Arrow) d (expect plain word.Identifier d (into kind.PointerMember s (a & none) (λ t. call (suffixes d s t) give)))
-    (choose plain postfix_operators d (λ k. into k s (a & none) (λ t. call (suffixes d s t) give))
-    (when (is_identifier a) (give a) (bar (the word.LeftParen) 4 d (give a))))))
+        (call (expression (d + 1)) (λ b. expect plain word.RightBracket (d + 1) (suffixed d s (a & b & none) kind.Subscript)))
+    (take plain (the word.Dot) d (expect plain word.Identifier d (suffixed d s (a & none) kind.Member))
+    (take plain (the word.Arrow) d (expect plain word.Identifier d (suffixed d s (a & none) kind.PointerMember))
+    (choose plain postfix_operators d (suffixed d s (a & none)) (suffixes_end d a))))
 -- 6.7.7
 body (type_name d) = here (λ s. call (row part.PlainSpecifiers fresh d) (λ t.
     peek (has is_abstract_start) (call (declarator unnamed fresh d) (λ a. made kind.TypeName s (t & a & none))) (give t)))
@@ -314,10 +341,7 @@ body (more p h d s a) = peek (element_start p h.typed)
     (call (element p h d) (λ t. call (more p (past_part h t) d s (a & t & none)) give))
     (here (λ e. give (in_row p s e a)))
 body (element p h d) = here (λ s.
-    choose plain (specifier_words p) d (λ k. made k s none)
-    (take plain (the word.Struct) d (call (structure d s) give)
-    (take plain (the word.Enum) d (call (enumeration d s) give)
-    (take plain (type_identifier h.typed) d (made kind.TypedefName s none) (stop d)))))
+    choose plain (specifier_words p) d (λ k. made k s none) (other_element h d s))
 -- 6.7.2.1
 body (structure d s) = take plain (the word.Identifier) d
     (take opens (the word.LeftBrace) d (call (members d s none) give) (made kind.StructTag s none))
