@@ -12,3 +12,5 @@ pub mod MachineRuns
 pub mod MachineSpells
 pub mod MachineGives
 pub mod MachineKept
+pub mod MachineMeans
+pub mod MachineSound

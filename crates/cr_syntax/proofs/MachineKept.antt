@@ -59,7 +59,7 @@ any_rows : (rs : Words) → AllRows Any rs
 any_rows [] = no_rows
 any_rows (r ∷ rs) = also {w = r.0} {k = r.1} tt (any_rows rs)
 
-not_both : {A : Type 0} (b : Bool) → b ≡ true → b ≡ false → A
+pub not_both : {A : Type 0} (b : Bool) → b ≡ true → b ≡ false → A
 not_both b x y = cc
 
 module _ (us : List Lexeme) (top : Limit) where
