@@ -14,3 +14,4 @@ pub mod MachineGives
 pub mod MachineKept
 pub mod MachineMeans
 pub mod MachineSound
+pub mod MachineFirst
