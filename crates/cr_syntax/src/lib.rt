@@ -23,7 +23,8 @@ mod word;
 
 pub use laws::{reading_is_spelling, table_is_grammar};
 pub use node::{Kind, Node};
-pub use scopes::TypeName;
+pub use scopes::{Scope, TypeName, begin, enter, is_type};
+pub use shape::{FRESH, past_node, past_token};
 pub use symbol::{Context, Depth, Part, Symbol};
 pub use typed::{CType, Shape, Typed};
 pub use unit::Unit;

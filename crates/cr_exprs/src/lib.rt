@@ -1,0 +1,27 @@
+//! The parser of expressions of the subset (C11 6.5), with the type names that casts and `sizeof` draw in (6.7.2, 6.7.6,
+//! 6.7.7).
+//!
+//! `expression` reads an expression from some token of a file on, by recursive descent: one function a goal of the
+//! machine in `cr_syntax`, whose definition says what it answers. It appends the nodes that it makes, parts before their
+//! node, and knows of the scopes which identifiers are types. It stands on the syntax tree and the grammar of
+//! `cr_syntax`, the tokens and the rows.
+#![tactic(auto)]
+
+mod arena;
+mod expression;
+mod fault;
+mod found;
+mod names;
+mod reading;
+mod scopes;
+mod source;
+mod tables;
+#[cfg(test)]
+mod tests;
+
+pub use expression::{Goal, expression};
+pub use fault::ParseFault;
+pub use found::Found;
+pub use names::TypeNames;
+pub use reading::whole;
+pub use source::{Source, words_of};

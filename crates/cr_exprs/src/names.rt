@@ -1,0 +1,33 @@
+use cr_rows::Row;
+use cr_syntax::{Scope, TypeName};
+use std::alloc::{AllocError, Global};
+use std::collections::LinkedList;
+
+/// The scopes that are open, the innermost last, each with its names, the latest last.
+#[derive(Drop, Debug)]
+pub struct TypeNames {
+    pub scopes: Row<Row<TypeName>>,
+}
+
+impl TypeNames {
+    /// The scopes as the grammar has them, the innermost first. The error is want of memory.
+    pub fn to_scopes(&self, alloc: Global) -> Result<LinkedList<Scope>, AllocError> {
+        let mut scopes = LinkedList::new(alloc);
+        for names in self.scopes.as_slice() {
+            scopes.push_front(scope_of(alloc, names.as_slice())?)?;
+        }
+        Ok(scopes)
+    }
+}
+
+fn scope_of(alloc: Global, names: &[TypeName]) -> Result<Scope, AllocError> {
+    let mut scope = LinkedList::new(alloc);
+    for entry in names {
+        let name = Row::from_vec(entry.name.as_slice().to_vec(alloc)?);
+        scope.push_front(TypeName {
+            name,
+            is_type: entry.is_type,
+        })?;
+    }
+    Ok(scope)
+}

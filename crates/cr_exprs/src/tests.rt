@@ -1,0 +1,472 @@
+use crate::Goal::{Assignment, Conditional, Expression};
+use crate::ParseFault::{Ended, OutsideSubset, TooDeep, Unexpected};
+use crate::{Found, Goal, ParseFault, TypeNames, expression};
+use cr_rows::Row;
+use cr_syntax::{Kind, Node, TypeName};
+use cr_tokens::{Tokens, read};
+use std::alloc::{AllocError, Global};
+use std::test::Fail;
+
+// Expressions, the token after them, and their trees: a node is its kind and its parts in brackets; an identifier, a
+// constant or a text is its spelling. `T` and `V` are types, but an inner scope makes `V` an object. Worked out by hand
+// from C11 6.5 and 6.7 and the rules of docs/DEFINITIONS.md.
+const TREES: [(&str, usize, &str); 98] = [
+    ("a", 1, "a"),
+    ("1", 1, "1"),
+    ("'x'", 1, "'x'"),
+    ("\"s\"", 1, "\"s\""),
+    ("\"s\" \"t\" \"u\"", 3, "\"s\" \"t\" \"u\""),
+    ("(a)", 3, "Group[a]"),
+    // the ten levels of binary operators
+    ("a+b", 3, "Add[a b]"),
+    ("a+b*c", 5, "Add[a Multiply[b c]]"),
+    ("a*b+c", 5, "Add[Multiply[a b] c]"),
+    ("a-b-c", 5, "Subtract[Subtract[a b] c]"),
+    ("a-(b-c)", 7, "Subtract[a Group[Subtract[b c]]]"),
+    ("a/b%c", 5, "Remainder[Divide[a b] c]"),
+    ("a<<b>>c", 5, "ShiftRight[ShiftLeft[a b] c]"),
+    (
+        "a<b>c<=d>=e",
+        9,
+        "GreaterEqual[LessEqual[Greater[Less[a b] c] d] e]",
+    ),
+    ("a==b!=c", 5, "NotEqual[Equal[a b] c]"),
+    ("a&b^c|d", 7, "Or[Xor[And[a b] c] d]"),
+    ("a|b^c&d", 7, "Or[a Xor[b And[c d]]]"),
+    (
+        "a&&b||c&&d",
+        7,
+        "LogicalOr[LogicalAnd[a b] LogicalAnd[c d]]",
+    ),
+    ("a||b||c", 5, "LogicalOr[LogicalOr[a b] c]"),
+    ("a<<b+c", 5, "ShiftLeft[a Add[b c]]"),
+    ("a&b==c", 5, "And[a Equal[b c]]"),
+    ("a<b<<c", 5, "Less[a ShiftLeft[b c]]"),
+    // conditionals, assignments, commas
+    ("a?b:c", 5, "Conditional[a b c]"),
+    ("a?b:c?d:e", 9, "Conditional[a b Conditional[c d e]]"),
+    ("a?b?c:d:e", 9, "Conditional[a Conditional[b c d] e]"),
+    ("a?b,c:d", 7, "Conditional[a Comma[b c] d]"),
+    ("a||b?c:d", 7, "Conditional[LogicalOr[a b] c d]"),
+    ("a=b", 3, "Assign[a b]"),
+    ("a=b=c", 5, "Assign[a Assign[b c]]"),
+    ("a+=b-=c", 5, "AddAssign[a SubtractAssign[b c]]"),
+    (
+        "a*=b/=c%=d",
+        7,
+        "MultiplyAssign[a DivideAssign[b RemainderAssign[c d]]]",
+    ),
+    ("a<<=b>>=c", 5, "ShiftLeftAssign[a ShiftRightAssign[b c]]"),
+    ("a&=b^=c|=d", 7, "AndAssign[a XorAssign[b OrAssign[c d]]]"),
+    ("a=b?c:d", 7, "Assign[a Conditional[b c d]]"),
+    ("a,b,c", 5, "Comma[Comma[a b] c]"),
+    ("a=b,c=d", 7, "Comma[Assign[a b] Assign[c d]]"),
+    // unary and postfix expressions
+    ("-a", 2, "Minus[a]"),
+    ("- -a", 3, "Minus[Minus[a]]"),
+    ("!~+a", 4, "Not[Complement[Plus[a]]]"),
+    ("&*p", 3, "AddressOf[Dereference[p]]"),
+    ("++--a", 3, "PreIncrement[PreDecrement[a]]"),
+    ("-a++", 3, "Minus[PostIncrement[a]]"),
+    ("*p++", 3, "Dereference[PostIncrement[p]]"),
+    ("a++--", 3, "PostDecrement[PostIncrement[a]]"),
+    ("*p=1", 4, "Assign[Dereference[p] 1]"),
+    ("a[1]", 4, "Subscript[a 1]"),
+    ("a[1][2]", 7, "Subscript[Subscript[a 1] 2]"),
+    ("a[b,c]", 6, "Subscript[a Comma[b c]]"),
+    ("s.m", 3, "Member[s]"),
+    ("s.T", 3, "Member[s]"),
+    ("p->m.n", 5, "Member[PointerMember[p]]"),
+    ("f()", 3, "Call"),
+    ("f(a)", 4, "Call[a]"),
+    ("f(a,b=c)", 8, "Call[a Assign[b c]]"),
+    (
+        "f(a)[1]->m++",
+        10,
+        "PostIncrement[PointerMember[Subscript[Call[a] 1]]]",
+    ),
+    ("f((a,b))", 8, "Call[Group[Comma[a b]]]"),
+    ("f(g(a),b)", 9, "Call[Call[a] b]"),
+    // casts and `sizeof`
+    ("(T)a", 4, "Cast[TypedefName a]"),
+    ("(int)-a", 5, "Cast[Int Minus[a]]"),
+    ("(T)(a)", 6, "Cast[TypedefName Group[a]]"),
+    ("(T)(int)a", 7, "Cast[TypedefName Cast[Int a]]"),
+    ("(V)+a", 5, "Add[Group[V] a]"),
+    ("(T)+a", 5, "Cast[TypedefName Plus[a]]"),
+    ("(T)a*b", 6, "Multiply[Cast[TypedefName a] b]"),
+    ("(const)a", 4, "Cast[Const a]"),
+    ("(T*)p", 5, "Cast[TypeName[TypedefName AbstractPointer] p]"),
+    (
+        "(const char*const*)p",
+        8,
+        "Cast[TypeName[PlainSpecifiers[Const Char] AbstractPointer[AbstractPointer]] p]",
+    ),
+    (
+        "(int(*)[3])p",
+        10,
+        "Cast[TypeName[Int AbstractArrayOf[AbstractGroup[AbstractPointer] 3]] p]",
+    ),
+    ("sizeof a", 2, "SizeofExpression[a]"),
+    ("sizeof(a)", 4, "SizeofExpression[Group[a]]"),
+    ("sizeof(T)", 4, "SizeofType[TypedefName]"),
+    (
+        "sizeof(int[3])",
+        7,
+        "SizeofType[TypeName[Int AbstractArray[3]]]",
+    ),
+    (
+        "sizeof(int[])",
+        6,
+        "SizeofType[TypeName[Int AbstractArray]]",
+    ),
+    (
+        "sizeof(int[2][3])",
+        10,
+        "SizeofType[TypeName[Int AbstractArrayOf[AbstractArray[2] 3]]]",
+    ),
+    (
+        "sizeof(unsigned long)*2",
+        7,
+        "Multiply[SizeofType[PlainSpecifiers[Unsigned Long]] 2]",
+    ),
+    ("sizeof(T)-1", 6, "Subtract[SizeofType[TypedefName] 1]"),
+    ("sizeof(T){", 4, "SizeofType[TypedefName]"),
+    ("sizeof(a)[0]", 7, "SizeofExpression[Subscript[Group[a] 0]]"),
+    (
+        "sizeof sizeof a",
+        3,
+        "SizeofExpression[SizeofExpression[a]]",
+    ),
+    ("sizeof(struct S)", 5, "SizeofType[StructTag]"),
+    (
+        "sizeof(struct S{int x;T y,*z;})",
+        16,
+        "SizeofType[StructContent[MemberDeclaration[Int NameDeclarator] MemberDeclaration[TypedefName NameDeclarator PointerDeclarator[NameDeclarator]]]]",
+    ),
+    (
+        "sizeof(struct{int T;})",
+        9,
+        "SizeofType[StructContent[MemberDeclaration[Int NameDeclarator]]]",
+    ),
+    ("sizeof(enum E)", 5, "SizeofType[EnumTag]"),
+    (
+        "sizeof(enum{A,B=1,C,})",
+        14,
+        "SizeofType[EnumContent[Enumerator Enumerator[1] Enumerator]]",
+    ),
+    (
+        "sizeof(enum{T})+T",
+        9,
+        "Add[SizeofType[EnumContent[Enumerator]] T]",
+    ),
+    (
+        "sizeof(struct{int(*f)(T,int x,...);})",
+        20,
+        "SizeofType[StructContent[MemberDeclaration[Int FunctionDeclarator[GroupDeclarator[PointerDeclarator[NameDeclarator]] VariadicParameters[TypedefName Parameter[Int NameDeclarator]]]]]]",
+    ),
+    (
+        "sizeof(struct{int f(void);})",
+        12,
+        "SizeofType[StructContent[MemberDeclaration[Int FunctionDeclarator[NameDeclarator VoidParameters]]]]",
+    ),
+    (
+        "sizeof(struct{int f();})",
+        11,
+        "SizeofType[StructContent[MemberDeclaration[Int FunctionDeclarator[NameDeclarator]]]]",
+    ),
+    (
+        "sizeof(struct{int f(int*,int[2],T(*)[3]);})",
+        26,
+        "SizeofType[StructContent[MemberDeclaration[Int FunctionDeclarator[NameDeclarator Parameters[Parameter[Int AbstractPointer] Parameter[Int AbstractArray[2]] Parameter[TypedefName AbstractArrayOf[AbstractGroup[AbstractPointer] 3]]]]]]]",
+    ),
+    (
+        "sizeof(struct{int a[2],b[];})",
+        16,
+        "SizeofType[StructContent[MemberDeclaration[Int ArrayDeclarator[NameDeclarator 2] ArrayDeclarator[NameDeclarator]]]]",
+    ),
+    // what follows a run
+    ("a b", 1, "a"),
+    ("a)", 1, "a"),
+    ("a+b;", 3, "Add[a b]"),
+    ("a+b=c", 3, "Add[a b]"),
+    ("a=b+c=d", 5, "Assign[a Add[b c]]"),
+    ("a?b:c=d", 5, "Conditional[a b c]"),
+    ("(a)=b", 5, "Assign[Group[a] b]"),
+    ("(T)a=b", 4, "Cast[TypedefName a]"),
+];
+
+// Texts that are refused, where so many levels are open.
+const FAULTS: [(&str, u32, ParseFault); 76] = [
+    ("", 0, Ended),
+    ("a+", 0, Ended),
+    ("(a", 0, Ended),
+    ("a[", 0, Ended),
+    ("a.", 0, Ended),
+    ("a?b", 0, Ended),
+    ("f(a", 0, Ended),
+    ("(T)", 0, Ended),
+    ("sizeof", 0, Ended),
+    ("sizeof(struct{int f(void", 0, Ended),
+    ("(a]", 0, Unexpected(2)),
+    ("+)", 0, Unexpected(1)),
+    ("a+)", 0, Unexpected(2)),
+    ("a[]", 0, Unexpected(2)),
+    ("a.(", 0, Unexpected(2)),
+    ("a.int", 0, Unexpected(2)),
+    ("a->1", 0, Unexpected(2)),
+    ("a?b;", 0, Unexpected(3)),
+    ("a?:b", 0, Unexpected(2)),
+    ("f(a,)", 0, Unexpected(4)),
+    ("f(,a)", 0, Unexpected(2)),
+    ("f(a;b)", 0, Unexpected(3)),
+    ("a,,b", 0, Unexpected(2)),
+    ("if", 0, Unexpected(0)),
+    ("{", 0, Unexpected(0)),
+    ("T", 0, Unexpected(0)),
+    ("a+T", 0, Unexpected(2)),
+    ("T(a)", 0, Unexpected(0)),
+    ("(T);", 0, Unexpected(3)),
+    ("(int a)b", 0, Unexpected(2)),
+    ("(T T)a", 0, Unexpected(2)),
+    ("(T V)a", 0, Unexpected(2)),
+    ("(struct)a", 0, Unexpected(2)),
+    ("(static int)a", 0, Unexpected(1)),
+    ("sizeof(struct{})", 0, Unexpected(4)),
+    ("sizeof(struct{int;})", 0, Unexpected(5)),
+    ("sizeof(struct{int a})", 0, Unexpected(6)),
+    ("sizeof(enum{})", 0, Unexpected(4)),
+    ("sizeof(enum{1})", 0, Unexpected(4)),
+    ("sizeof(enum{A B})", 0, Unexpected(5)),
+    ("sizeof(enum{A,,})", 0, Unexpected(6)),
+    ("sizeof(int[)", 0, Unexpected(4)),
+    ("sizeof(int*a)", 0, Unexpected(4)),
+    ("sizeof(int(int))", 0, Unexpected(4)),
+    ("sizeof(int(*)(int))", 0, Unexpected(6)),
+    ("sizeof(struct{int f(int,);})", 0, Unexpected(9)),
+    ("sizeof(struct{int f(...);})", 0, Unexpected(7)),
+    ("sizeof(struct{int f(void,void}", 0, Unexpected(10)),
+    // a call of what is no identifier
+    ("1(a)", 0, OutsideSubset(1, 4)),
+    ("f(a)(b)", 0, OutsideSubset(4, 4)),
+    ("(a)(b)", 0, OutsideSubset(3, 4)),
+    ("(V)(a)", 0, OutsideSubset(3, 4)),
+    ("a[1](b)", 0, OutsideSubset(4, 4)),
+    ("p->f(a)", 0, OutsideSubset(3, 4)),
+    ("a++(b)", 0, OutsideSubset(2, 4)),
+    ("\"s\"(a)", 0, OutsideSubset(1, 4)),
+    // compound literals, bit-fields, unused keywords
+    ("(T){1}", 0, OutsideSubset(3, 3)),
+    ("(int){1}", 0, OutsideSubset(3, 3)),
+    ("sizeof(struct{int a:3;})", 0, OutsideSubset(6, 5)),
+    ("float", 0, OutsideSubset(0, 1)),
+    ("a+double", 0, OutsideSubset(2, 1)),
+    ("a goto", 0, OutsideSubset(1, 1)),
+    ("(float)a", 0, OutsideSubset(1, 1)),
+    ("(int volatile)a", 0, OutsideSubset(2, 1)),
+    ("sizeof(union U)", 0, OutsideSubset(2, 1)),
+    // 128 levels are open already, or nearly
+    ("(a)", 128, TooDeep(0)),
+    ("a=b", 128, TooDeep(1)),
+    ("a?b:c", 128, TooDeep(1)),
+    ("a[1]", 128, TooDeep(1)),
+    ("f(a)", 128, TooDeep(1)),
+    ("1(a)", 128, TooDeep(1)),
+    ("1(a)", 127, OutsideSubset(1, 4)),
+    ("a+{", 128, TooDeep(2)),
+    ("(T)-a", 127, TooDeep(3)),
+    ("(T){", 127, TooDeep(3)),
+    ("sizeof(a)", 127, TooDeep(1)),
+];
+
+#[test]
+fn expressions_have_their_trees(rt: HostRuntime) -> Result<(), Fail> {
+    let alloc = rt.alloc();
+    for (text, next, tree) in &TREES {
+        let mut nodes = Row::new(alloc);
+        let found = read_text(alloc, text, 0, Expression, &mut nodes)?;
+        match found {
+            Ok((node, after)) => {
+                assert_eq!(rt; (text, after as usize), (text, *next));
+                let shown = shown(alloc, text, &nodes, node)?;
+                assert_eq!(rt; (text, shown.as_str()), (text, *tree));
+            }
+            Err(fault) => assert!(rt; false, "{text}: {fault}"),
+        }
+    }
+    Ok(())
+}
+
+#[test]
+fn refusals_name_kind_and_token(rt: HostRuntime) -> Result<(), Fail> {
+    let alloc = rt.alloc();
+    for (text, depth, fault) in &FAULTS {
+        let mut nodes = Row::new(alloc);
+        let found = read_text(alloc, text, *depth, Expression, &mut nodes)?;
+        assert_eq!(rt; (text, found.err()), (text, Some(*fault)));
+    }
+    Ok(())
+}
+
+#[test]
+fn other_goals_end_earlier(rt: HostRuntime) -> Result<(), Fail> {
+    let alloc = rt.alloc();
+    let rows = [
+        ("a=b,c", Assignment, 3u32),
+        ("a=b,c", Conditional, 1),
+        ("a?b:c,d", Conditional, 5),
+    ];
+    for (text, goal, next) in &rows {
+        let mut nodes = Row::new(alloc);
+        let found = read_text(alloc, text, 0, *goal, &mut nodes)?;
+        assert_eq!(rt; (text, found.ok().map(|x| x.1)), (text, Some(*next)));
+    }
+    Ok(())
+}
+
+#[test]
+fn levels_are_counted_to_128(rt: HostRuntime) -> Result<(), Fail> {
+    let alloc = rt.alloc();
+    for (open, close) in [
+        ("(", ")"),
+        ("- ", " "),
+        ("a[", "]"),
+        ("a=", " "),
+        ("a?", ":b"),
+        ("(T)", " "),
+    ] {
+        let fits = repeated(alloc, open, 128, close)?;
+        let mut nodes = Row::new(alloc);
+        let found = read_text(alloc, fits.as_str(), 0, Expression, &mut nodes)?;
+        assert_eq!(rt; (open, found.is_ok()), (open, true));
+        let deep = repeated(alloc, open, 129, close)?;
+        let mut nodes = Row::new(alloc);
+        let found = read_text(alloc, deep.as_str(), 0, Expression, &mut nodes)?;
+        match found {
+            Err(TooDeep(_)) => {}
+            _ => assert!(rt; false, "{open}"),
+        }
+    }
+    Ok(())
+}
+
+#[test]
+fn chains_cost_no_levels(rt: HostRuntime) -> Result<(), Fail> {
+    let alloc = rt.alloc();
+    for link in ["+1", ",1", "[1]", "++", ".m"] {
+        let mut text = String::from_str(alloc, "a")?;
+        for _ in 0..2000 {
+            text.push_str(link)?;
+        }
+        let mut nodes = Row::new(alloc);
+        let found = read_text(alloc, text.as_str(), 128, Expression, &mut nodes)?;
+        assert_eq!(rt; (link, found.is_ok()), (link, link != "[1]"));
+    }
+    Ok(())
+}
+
+fn repeated(alloc: Global, open: &str, count: u32, close: &str) -> Result<String, AllocError> {
+    let mut text = String::new(alloc);
+    for _ in 0..count {
+        text.push_str(open)?;
+    }
+    text.push('a')?;
+    for _ in 0..count {
+        text.push_str(close)?;
+    }
+    Ok(text)
+}
+
+// The nodes of an expression from a text's first token on.
+fn read_text(
+    alloc: Global,
+    text: &str,
+    depth: u32,
+    goal: Goal,
+    nodes: &mut Row<Node>,
+) -> Result<Result<(u32, u32), ParseFault>, Fail> {
+    let tokens = read(alloc, text.as_bytes())?;
+    let names = names(alloc)?;
+    Ok(expression(
+        alloc,
+        text.as_bytes(),
+        &tokens,
+        0,
+        depth,
+        goal,
+        &names,
+        nodes,
+    ))
+}
+
+fn names(alloc: Global) -> Result<TypeNames, AllocError> {
+    let mut outer = Row::new(alloc);
+    outer.push(name(alloc, "T", true)?)?;
+    outer.push(name(alloc, "V", true)?)?;
+    let mut inner = Row::new(alloc);
+    inner.push(name(alloc, "V", false)?)?;
+    let mut scopes = Row::new(alloc);
+    scopes.push(outer)?;
+    scopes.push(inner)?;
+    Ok(TypeNames { scopes })
+}
+
+fn name(alloc: Global, spelling: &str, is_type: bool) -> Result<TypeName, AllocError> {
+    Ok(TypeName {
+        name: Row::from_vec(spelling.as_bytes().to_vec(alloc)?),
+        is_type,
+    })
+}
+
+// A node and its parts in words.
+fn shown(alloc: Global, text: &str, nodes: &Row<Node>, top: u32) -> Result<String, Fail> {
+    let tokens = read(alloc, text.as_bytes())?;
+    let mut shown: Vec<String> = Vec::new(alloc);
+    for node in nodes.as_slice() {
+        let mut out = String::new(alloc);
+        match node.kind {
+            Kind::Identifier | Kind::Integer | Kind::Character | Kind::Text => {
+                push_tokens(&mut out, text, &tokens, node)?;
+            }
+            kind => {
+                let word = format!(in alloc; "{kind:?}")?;
+                out.push_str(word.as_str())?;
+            }
+        }
+        for (k, part) in node.parts.as_slice().iter().enumerate() {
+            out.push_str(if k == 0 { "[" } else { " " })?;
+            match shown.get(*part as usize) {
+                Some(inner) => out.push_str(inner.as_str())?,
+                None => out.push('?')?,
+            }
+        }
+        if !node.parts.is_empty() {
+            out.push(']')?;
+        }
+        shown.push(out)?;
+    }
+    match shown.get(top as usize) {
+        Some(out) => Ok(out.clone()?),
+        None => Ok(String::new(alloc)),
+    }
+}
+
+fn push_tokens(
+    out: &mut String,
+    text: &str,
+    tokens: &Tokens,
+    node: &Node,
+) -> Result<(), AllocError> {
+    for (k, token) in tokens.list.iter().enumerate() {
+        if (node.first as usize) <= k && k <= node.last as usize {
+            if k > node.first as usize {
+                out.push(' ')?;
+            }
+            match text.get(token.start as usize..token.end as usize) {
+                Some(piece) => out.push_str(piece)?,
+                None => out.push('?')?,
+            }
+        }
+    }
+    Ok(())
+}
