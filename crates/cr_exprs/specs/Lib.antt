@@ -1,0 +1,4 @@
+pub mod Source
+pub mod Tables
+pub mod Answers
+pub mod Parts

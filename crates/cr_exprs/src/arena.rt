@@ -1,3 +1,11 @@
+ghost use Rattle.std.specs.Prelude.{◌≡◌, ℕ, ◌+◌, ◌<◌, ◌^◌, ◌∷◌, [], IfOk, IfErr, length, option_to_list, slice_get};
+ghost use Rattle.cr_syntax.specs.Trees.{Trees, none, node, one, ◌&◌};
+ghost use Rattle.cr_syntax.specs.Kept.{AreBelow, PartsAreBelow, row_in};
+ghost use Rattle.cr_syntax.specs.Context.{past_part};
+ghost use Rattle.cr_syntax.specs.MachineBody.{is_unary, is_unary_kind, is_identifier, is_declarator, row_kind, in_row, in_parameters};
+ghost use Rattle.cr_exprs.specs.Tables.{is_void};
+ghost use Rattle.cr_exprs.specs.Answers.{IsPushed, IsGathered, IsRow, Keeps, tree};
+
 use crate::fault::ParseFault;
 use crate::found::{Found, Listed, Optional};
 use cr_rows::Row;
@@ -11,7 +19,16 @@ pub(crate) fn push(
     first: usize,
     next: usize,
     parts: Row<u32>,
-) -> Result<Found, ParseFault> {
+) -> Result<Found, ParseFault>
+    requires parts { AreBelow parts (length nodes.old) }
+    requires below { PartsAreBelow nodes.old }
+    requires first { first < next }
+    requires next { next < 2 ^ 32 }
+    ensures ok { IfOk result (λ x. IsPushed nodes.old nodes.new x) }
+    ensures next { IfOk result (λ x. x.next ≡ next) }
+    ensures tree { IfOk result (λ x. tree nodes.new x.node ≡ one kind first next (row_in nodes.old parts)) }
+    ensures err { IfErr result (λ fault. fault ≡ ParseFault.NoMemory) }
+{
     let Ok(node) = u32::try_from(nodes.len()) else {
         return Err(ParseFault::NoMemory);
     };
@@ -31,7 +48,15 @@ pub(crate) fn leaf(
     kind: Kind,
     first: usize,
     next: usize,
-) -> Result<Found, ParseFault> {
+) -> Result<Found, ParseFault>
+    requires below { PartsAreBelow nodes.old }
+    requires first { first < next }
+    requires next { next < 2 ^ 32 }
+    ensures ok { IfOk result (λ x. IsPushed nodes.old nodes.new x) }
+    ensures next { IfOk result (λ x. x.next ≡ next) }
+    ensures tree { IfOk result (λ x. tree nodes.new x.node ≡ one kind first next (none)) }
+    ensures err { IfErr result (λ fault. fault ≡ ParseFault.NoMemory) }
+{
     push(nodes, kind, first, next, Row::new(alloc))
 }
 
@@ -43,7 +68,16 @@ pub(crate) fn over(
     first: usize,
     next: usize,
     part: u32,
-) -> Result<Found, ParseFault> {
+) -> Result<Found, ParseFault>
+    requires part { part < length nodes.old }
+    requires below { PartsAreBelow nodes.old }
+    requires first { first < next }
+    requires next { next < 2 ^ 32 }
+    ensures ok { IfOk result (λ x. IsPushed nodes.old nodes.new x) }
+    ensures next { IfOk result (λ x. x.next ≡ next) }
+    ensures tree { IfOk result (λ x. tree nodes.new x.node ≡ one kind first next (tree nodes.old part & none)) }
+    ensures err { IfErr result (λ fault. fault ≡ ParseFault.NoMemory) }
+{
     push(nodes, kind, first, next, row_of(alloc, part)?)
 }
 
@@ -56,7 +90,17 @@ pub(crate) fn pair(
     next: usize,
     left: u32,
     right: u32,
-) -> Result<Found, ParseFault> {
+) -> Result<Found, ParseFault>
+    requires left { left < length nodes.old }
+    requires right { right < length nodes.old }
+    requires below { PartsAreBelow nodes.old }
+    requires first { first < next }
+    requires next { next < 2 ^ 32 }
+    ensures ok { IfOk result (λ x. IsPushed nodes.old nodes.new x) }
+    ensures next { IfOk result (λ x. x.next ≡ next) }
+    ensures tree { IfOk result (λ x. tree nodes.new x.node ≡ one kind first next (tree nodes.old left & tree nodes.old right & none)) }
+    ensures err { IfErr result (λ fault. fault ≡ ParseFault.NoMemory) }
+{
     let mut parts = row_of(alloc, left)?;
     parts.push(right)?;
     push(nodes, kind, first, next, parts)
@@ -69,7 +113,16 @@ pub(crate) fn over_optional(
     kind: Kind,
     first: usize,
     part: Optional,
-) -> Result<Found, ParseFault> {
+) -> Result<Found, ParseFault>
+    requires part { AreBelow (option_to_list part.node) (length nodes.old) }
+    requires below { PartsAreBelow nodes.old }
+    requires first { first < part.next }
+    requires next { part.next < 2 ^ 32 }
+    ensures ok { IfOk result (λ x. IsPushed nodes.old nodes.new x) }
+    ensures next { IfOk result (λ x. x.next ≡ part.next) }
+    ensures tree { IfOk result (λ x. tree nodes.new x.node ≡ one kind first part.next (row_in nodes.old (option_to_list part.node))) }
+    ensures err { IfErr result (λ fault. fault ≡ ParseFault.NoMemory) }
+{
     match part.node {
         None => leaf(alloc, nodes, kind, first, part.next),
         Some(node) => over(alloc, nodes, kind, first, part.next, node),
@@ -84,7 +137,17 @@ pub(crate) fn pair_optional(
     first: usize,
     left: u32,
     right: Optional,
-) -> Result<Found, ParseFault> {
+) -> Result<Found, ParseFault>
+    requires left { left < length nodes.old }
+    requires right { AreBelow (option_to_list right.node) (length nodes.old) }
+    requires below { PartsAreBelow nodes.old }
+    requires first { first < right.next }
+    requires next { right.next < 2 ^ 32 }
+    ensures ok { IfOk result (λ x. IsPushed nodes.old nodes.new x) }
+    ensures next { IfOk result (λ x. x.next ≡ right.next) }
+    ensures tree { IfOk result (λ x. tree nodes.new x.node ≡ one kind first right.next (tree nodes.old left & row_in nodes.old (option_to_list right.node))) }
+    ensures err { IfErr result (λ fault. fault ≡ ParseFault.NoMemory) }
+{
     match right.node {
         None => over(alloc, nodes, kind, first, right.next, left),
         Some(node) => pair(alloc, nodes, kind, first, right.next, left, node),
@@ -92,7 +155,10 @@ pub(crate) fn pair_optional(
 }
 
 /// A row of one number.
-pub(crate) fn row_of(alloc: Global, part: u32) -> Result<Row<u32>, ParseFault> {
+pub(crate) fn row_of(alloc: Global, part: u32) -> Result<Row<u32>, ParseFault>
+    ensures ok { IfOk result (λ parts. parts ≡ part ∷ []) }
+    ensures err { IfErr result (λ fault. fault ≡ ParseFault.NoMemory) }
+{
     let mut parts = Row::new(alloc);
     parts.push(part)?;
     Ok(parts)
@@ -104,17 +170,30 @@ pub(crate) fn gathered(
     part: Part,
     first: usize,
     list: Listed,
-) -> Result<Found, ParseFault> {
-    if let [node] = list.parts.as_slice() {
+) -> Result<Found, ParseFault>
+    requires row { IsRow list.parts (length nodes.old) }
+    requires below { PartsAreBelow nodes.old }
+    requires first { first < list.next }
+    requires next { list.next < 2 ^ 32 }
+    ensures ok { IfOk result (λ x. IsGathered nodes.old nodes.new x) }
+    ensures keeps { IfOk result (λ x. Keeps nodes.old nodes.new) }
+    ensures tree { IfOk result (λ x. tree nodes.new x.node ≡ in_row part first list.next (row_in nodes.old list.parts)) }
+    ensures next { IfOk result (λ x. x.next ≡ list.next) }
+    ensures err { IfErr result (λ fault. fault ≡ ParseFault.NoMemory) }
+{
+    if list.parts.len() == 1 {
+        let node = list.parts.as_slice()[0];
         return Ok(Found {
-            node: *node,
+            node,
             next: list.next,
         });
     }
     push(nodes, row_kind(part), first, list.next, list.parts)
 }
 
-fn row_kind(part: Part) -> Kind {
+fn row_kind(part: Part) -> Kind
+    ensures { result ≡ row_kind part }
+{
     match part {
         Part::Specifiers => Kind::Specifiers,
         _ => Kind::PlainSpecifiers,
@@ -127,32 +206,72 @@ pub(crate) fn gathered_parameters(
     nodes: &mut Row<Node>,
     first: usize,
     list: Listed,
-) -> Result<Found, ParseFault> {
-    if let [node] = list.parts.as_slice() {
-        if nodes.as_slice()[*node as usize].kind != Kind::Void {
-            return Ok(Found {
-                node: *node,
-                next: list.next,
-            });
-        }
-        let _ = nodes.pop();
-        return leaf(alloc, nodes, Kind::VoidParameters, first, list.next);
+) -> Result<Found, ParseFault>
+    requires row { IsRow list.parts (length nodes.old) }
+    requires below { PartsAreBelow nodes.old }
+    requires first { first < list.next }
+    requires next { list.next < 2 ^ 32 }
+    ensures ok { IfOk result (λ x. IsGathered nodes.old nodes.new x) }
+    ensures tree { IfOk result (λ x. tree nodes.new x.node ≡ in_parameters first list.next (row_in nodes.old list.parts)) }
+    ensures next { IfOk result (λ x. x.next ≡ list.next) }
+    ensures err { IfErr result (λ fault. fault ≡ ParseFault.NoMemory) }
+{
+    if list.parts.len() != 1 {
+        return push(nodes, Kind::Parameters, first, list.next, list.parts);
     }
-    push(nodes, Kind::Parameters, first, list.next, list.parts)
+    let node = list.parts.as_slice()[0];
+    if !is_void(nodes.as_slice()[node as usize].kind) {
+        return Ok(Found {
+            node,
+            next: list.next,
+        });
+    }
+    drop_last(nodes);
+    leaf(alloc, nodes, Kind::VoidParameters, first, list.next)
+}
+
+fn is_void(kind: Kind) -> bool
+    ensures { result ≡ is_void kind }
+{
+    match kind {
+        Kind::Void => true,
+        _ => false,
+    }
+}
+
+/// Takes the last node off.
+fn drop_last(nodes: &mut Row<Node>)
+    requires below { PartsAreBelow nodes.old }
+    requires some { 0 < length nodes.old }
+    ensures length { length nodes.new + 1 ≡ length nodes.old }
+    ensures same { (k : ℕ) → k < length nodes.new → slice_get nodes.new k ≡ slice_get nodes.old k }
+    ensures below { PartsAreBelow nodes.new }
+{
+    let _ = nodes.pop();
 }
 
 /// What is said after a node.
-pub(crate) fn past(nodes: &Row<Node>, context: Context, node: u32) -> Context {
+pub(crate) fn past(nodes: &Row<Node>, context: Context, node: u32) -> Context
+    requires below { PartsAreBelow nodes.now }
+    requires node { node < length nodes.now }
+    ensures { result ≡ past_part context (tree nodes.now node) }
+{
     let all = nodes.as_slice();
     past_node(all, context, &all[node as usize])
 }
 
 /// Whether an assignment operator can stand behind a node.
-pub(crate) fn is_unary(nodes: &Row<Node>, node: u32) -> bool {
+pub(crate) fn is_unary(nodes: &Row<Node>, node: u32) -> bool
+    requires below { PartsAreBelow nodes.now }
+    requires node { node < length nodes.now }
+    ensures { result ≡ is_unary (tree nodes.now node) }
+{
     is_unary_kind(nodes.as_slice()[node as usize].kind)
 }
 
-fn is_unary_kind(kind: Kind) -> bool {
+fn is_unary_kind(kind: Kind) -> bool
+    ensures { result ≡ is_unary_kind kind }
+{
     match kind {
         Kind::PreIncrement
         | Kind::PreDecrement
@@ -180,19 +299,35 @@ fn is_unary_kind(kind: Kind) -> bool {
 }
 
 /// Whether a node is an identifier.
-pub(crate) fn is_identifier(nodes: &Row<Node>, node: u32) -> bool {
-    match nodes.as_slice()[node as usize].kind {
+pub(crate) fn is_identifier(nodes: &Row<Node>, node: u32) -> bool
+    requires below { PartsAreBelow nodes.now }
+    requires node { node < length nodes.now }
+    ensures { result ≡ is_identifier (tree nodes.now node) }
+{
+    is_identifier_kind(nodes.as_slice()[node as usize].kind)
+}
+
+fn is_identifier_kind(kind: Kind) -> bool
+    ensures { (i j : ℕ) (a n : Trees) → result ≡ is_identifier (node kind i j a n) }
+{
+    match kind {
         Kind::Identifier => true,
         _ => false,
     }
 }
 
 /// Whether a node is a declarator with a name.
-pub(crate) fn is_declarator(nodes: &Row<Node>, node: u32) -> bool {
+pub(crate) fn is_declarator(nodes: &Row<Node>, node: u32) -> bool
+    requires below { PartsAreBelow nodes.now }
+    requires node { node < length nodes.now }
+    ensures { result ≡ is_declarator (tree nodes.now node) }
+{
     is_declarator_kind(nodes.as_slice()[node as usize].kind)
 }
 
-fn is_declarator_kind(kind: Kind) -> bool {
+fn is_declarator_kind(kind: Kind) -> bool
+    ensures { (i j : ℕ) (a n : Trees) → result ≡ is_declarator (node kind i j a n) }
+{
     match kind {
         Kind::NameDeclarator
         | Kind::GroupDeclarator

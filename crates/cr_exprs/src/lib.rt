@@ -8,9 +8,9 @@
 #![tactic(auto)]
 
 mod arena;
-mod expression;
 mod fault;
 mod found;
+mod front;
 mod names;
 mod reading;
 mod scopes;
@@ -19,9 +19,9 @@ mod tables;
 #[cfg(test)]
 mod tests;
 
-pub use expression::{Goal, expression};
 pub use fault::ParseFault;
 pub use found::Found;
+pub use front::{Goal, expression};
 pub use names::TypeNames;
 pub use reading::whole;
 pub use source::{Source, words_of};

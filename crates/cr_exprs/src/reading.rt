@@ -1,6 +1,20 @@
 //! The functions that read, one a goal of the machine. All of them call one another, since casts and `sizeof` draw type
 //! names in, and these draw expressions in. Each is told the token to begin at and how many levels are open before it.
 
+ghost use Rattle.std.specs.Prelude.{◌≡◌, ℕ, ◌+◌, ◌<◌, ◌≤◌, ◌^◌, ◌∷◌, [], IsTrue, true, false, IfOk, IfErr, IfSome, IfNone, length, option_to_list, if◌then◌else◌};
+ghost use Rattle.cr_syntax.specs.Words.{word_at};
+ghost use Rattle.cr_syntax.specs.Scopes.{Scopes};
+ghost use Rattle.cr_syntax.specs.Trees.{none, one, ◌&◌};
+ghost use Rattle.cr_syntax.specs.Kept.{PartsAreBelow, row_in};
+ghost use Rattle.cr_syntax.specs.Context.{fresh, past_part};
+ghost use Rattle.cr_syntax.specs.Reads.{is_word};
+ghost use Rattle.cr_syntax.specs.Machine.{passes, plain, give, expect, whole, expression, assignment, conditional, binary, cast, unary, measured, postfix, called, grouped, arguments, suffixes, type_name, row, element, structure, members, member, member_declarators, enumeration, enumerators, enumerator, declarator, declarator_suffixes, abstract_suffixes, size, parameters, parameter};
+ghost use Rattle.cr_syntax.specs.MachineBody.{body, tighter, unary_prefixes, cast_prefixes, type_start, element_start, declarator_start, may_name, may_omit, is_declarator, array_start, suffixed, suffixes_end};
+ghost use Rattle.cr_exprs.specs.Source.{IsReadable, text_of};
+ghost use Rattle.cr_exprs.specs.Tables.{kind_of};
+ghost use Rattle.cr_exprs.specs.Answers.{Answers, Reads, Lengthens, MayLengthen, Finishes, IsPushed, IsPlaced, IsGrown, IsListed, IsOptional, tree};
+ghost use Rattle.cr_exprs.specs.Parts.{wanted_of, chosen, EndsPointer, PointsOn};
+
 use crate::arena::{
     gathered, gathered_parameters, is_declarator, is_identifier, is_unary, leaf, over,
     over_optional, pair, pair_optional, past, push, row_of,
@@ -32,14 +46,18 @@ enum Wanted {
     Either,
 }
 
-fn may_name(wanted: Wanted) -> bool {
+fn may_name(wanted: Wanted) -> bool
+    ensures { result ≡ may_name (wanted_of wanted) }
+{
     match wanted {
         Wanted::Unnamed => false,
         _ => true,
     }
 }
 
-fn may_omit(wanted: Wanted) -> bool {
+fn may_omit(wanted: Wanted) -> bool
+    ensures { result ≡ may_omit (wanted_of wanted) }
+{
     match wanted {
         Wanted::Named => false,
         _ => true,
@@ -47,7 +65,10 @@ fn may_omit(wanted: Wanted) -> bool {
 }
 
 /// Whether a declarator that may come begins here.
-fn starts_wanted(source: &Source, wanted: Wanted, at: usize) -> bool {
+fn starts_wanted(source: &Source, wanted: Wanted, at: usize) -> bool
+    requires { IsReadable source.now }
+    ensures { (c : Scopes) → result ≡ passes (text_of source.now) c at (declarator_start (wanted_of wanted)) }
+{
     match wanted {
         Wanted::Unnamed => starts_abstract(source, at),
         _ => starts_declarator(source, at),
@@ -63,7 +84,14 @@ pub fn whole(
     depth: usize,
     scopes: &mut LinkedList<Scope>,
     nodes: &mut Row<Node>,
-) -> Result<Found, ParseFault> {
+) -> Result<Found, ParseFault>
+    requires readable { IsReadable source.now }
+    requires at { at ≤ length source.now.tokens.now }
+    requires depth { depth ≤ 128 }
+    requires below { PartsAreBelow nodes.old }
+    ensures reads { Reads (text_of source.now) (body (whole part depth)) scopes.old at nodes.new scopes.new result }
+    ensures placed { IfOk result (λ x. IsPlaced (length source.now.tokens.now) at nodes.old nodes.new x) }
+{
     let found = match part {
         Part::Expression => expression(alloc, source, at, depth, scopes, nodes)?,
         Part::Assignment => assignment(alloc, source, at, depth, scopes, nodes)?,
@@ -84,7 +112,14 @@ fn expression(
     depth: usize,
     scopes: &mut LinkedList<Scope>,
     nodes: &mut Row<Node>,
-) -> Result<Found, ParseFault> {
+) -> Result<Found, ParseFault>
+    requires readable { IsReadable source.now }
+    requires at { at ≤ length source.now.tokens.now }
+    requires depth { depth ≤ 128 }
+    requires below { PartsAreBelow nodes.old }
+    ensures reads { Reads (text_of source.now) (body (expression depth)) scopes.old at nodes.new scopes.new result }
+    ensures placed { IfOk result (λ x. IsPlaced (length source.now.tokens.now) at nodes.old nodes.new x) }
+{
     let mut left = assignment(alloc, source, at, depth, scopes, nodes)?;
     'commas: while stands(source, left.next, Word::Comma) {
         let right = assignment(alloc, source, left.next + 1, depth, scopes, nodes)?;
@@ -110,7 +145,14 @@ fn assignment(
     depth: usize,
     scopes: &mut LinkedList<Scope>,
     nodes: &mut Row<Node>,
-) -> Result<Found, ParseFault> {
+) -> Result<Found, ParseFault>
+    requires readable { IsReadable source.now }
+    requires at { at ≤ length source.now.tokens.now }
+    requires depth { depth ≤ 128 }
+    requires below { PartsAreBelow nodes.old }
+    ensures reads { Reads (text_of source.now) (body (assignment depth)) scopes.old at nodes.new scopes.new result }
+    ensures placed { IfOk result (λ x. IsPlaced (length source.now.tokens.now) at nodes.old nodes.new x) }
+{
     let left = conditional(alloc, source, at, depth, scopes, nodes)?;
     if !is_unary(nodes, left.node) {
         return Ok(left);
@@ -132,7 +174,14 @@ fn conditional(
     depth: usize,
     scopes: &mut LinkedList<Scope>,
     nodes: &mut Row<Node>,
-) -> Result<Found, ParseFault> {
+) -> Result<Found, ParseFault>
+    requires readable { IsReadable source.now }
+    requires at { at ≤ length source.now.tokens.now }
+    requires depth { depth ≤ 128 }
+    requires below { PartsAreBelow nodes.old }
+    ensures reads { Reads (text_of source.now) (body (conditional depth)) scopes.old at nodes.new scopes.new result }
+    ensures placed { IfOk result (λ x. IsPlaced (length source.now.tokens.now) at nodes.old nodes.new x) }
+{
     let test = binary(alloc, source, Part::LogicalOr, at, depth, scopes, nodes)?;
     if !stands(source, test.next, Word::Question) {
         return Ok(test);
@@ -151,7 +200,16 @@ fn chosen(
     depth: usize,
     scopes: &mut LinkedList<Scope>,
     nodes: &mut Row<Node>,
-) -> Result<Found, ParseFault> {
+) -> Result<Found, ParseFault>
+    requires readable { IsReadable source.now }
+    requires at { test.next + 1 ≤ length source.now.tokens.now }
+    requires depth { depth < 128 }
+    requires below { PartsAreBelow nodes.old }
+    requires start { start < test.next }
+    requires node { test.node < length nodes.old }
+    ensures reads { Reads (text_of source.now) (chosen depth start (tree nodes.old test.node)) scopes.old (test.next + 1) nodes.new scopes.new result }
+    ensures placed { IfOk result (λ x. IsPlaced (length source.now.tokens.now) start nodes.old nodes.new x) }
+{
     let yes = expression(alloc, source, test.next + 1, depth + 1, scopes, nodes)?;
     expect(source, yes.next, Word::Colon, depth + 1)?;
     let no = conditional(alloc, source, yes.next + 1, depth + 1, scopes, nodes)?;
@@ -171,7 +229,14 @@ fn binary(
     depth: usize,
     scopes: &mut LinkedList<Scope>,
     nodes: &mut Row<Node>,
-) -> Result<Found, ParseFault> {
+) -> Result<Found, ParseFault>
+    requires readable { IsReadable source.now }
+    requires at { at ≤ length source.now.tokens.now }
+    requires depth { depth ≤ 128 }
+    requires below { PartsAreBelow nodes.old }
+    ensures reads { Reads (text_of source.now) (body (binary part depth)) scopes.old at nodes.new scopes.new result }
+    ensures placed { IfOk result (λ x. IsPlaced (length source.now.tokens.now) at nodes.old nodes.new x) }
+{
     let mut left = operand(alloc, source, part, at, depth, scopes, nodes)?;
     'operands: while let Some(kind) = operator_in(part, source, left.next) {
         let right = operand(alloc, source, part, left.next + 1, depth, scopes, nodes)?;
@@ -190,7 +255,14 @@ fn operand(
     depth: usize,
     scopes: &mut LinkedList<Scope>,
     nodes: &mut Row<Node>,
-) -> Result<Found, ParseFault> {
+) -> Result<Found, ParseFault>
+    requires readable { IsReadable source.now }
+    requires at { at ≤ length source.now.tokens.now }
+    requires depth { depth ≤ 128 }
+    requires below { PartsAreBelow nodes.old }
+    ensures reads { Reads (text_of source.now) (body (tighter part depth)) scopes.old at nodes.new scopes.new result }
+    ensures placed { IfOk result (λ x. IsPlaced (length source.now.tokens.now) at nodes.old nodes.new x) }
+{
     match tighter(part) {
         Some(next) => binary(alloc, source, next, at, depth, scopes, nodes),
         None => cast(alloc, source, at, depth, scopes, nodes),
@@ -206,7 +278,14 @@ fn cast(
     depth: usize,
     scopes: &mut LinkedList<Scope>,
     nodes: &mut Row<Node>,
-) -> Result<Found, ParseFault> {
+) -> Result<Found, ParseFault>
+    requires readable { IsReadable source.now }
+    requires at { at ≤ length source.now.tokens.now }
+    requires depth { depth ≤ 128 }
+    requires below { PartsAreBelow nodes.old }
+    ensures reads { Reads (text_of source.now) (body (cast depth)) scopes.old at nodes.new scopes.new result }
+    ensures placed { IfOk result (λ x. IsPlaced (length source.now.tokens.now) at nodes.old nodes.new x) }
+{
     if !stands(source, at, Word::LeftParen) {
         return unary(alloc, source, at, depth, scopes, nodes);
     }
@@ -226,7 +305,16 @@ fn converted(
     depth: usize,
     scopes: &mut LinkedList<Scope>,
     nodes: &mut Row<Node>,
-) -> Result<Found, ParseFault> {
+) -> Result<Found, ParseFault>
+    requires readable { IsReadable source.now }
+    requires depth { depth < 128 }
+    requires below { PartsAreBelow nodes.old }
+    requires bracket { is_word (text_of source.now) start Word.LeftParen ≡ true }
+    requires starts { passes (text_of source.now) scopes.old (start + 1) type_start ≡ true }
+    requires at { start + 1 ≤ length source.now.tokens.now }
+    ensures reads { Reads (text_of source.now) (body (cast depth)) scopes.old start nodes.new scopes.new result }
+    ensures placed { IfOk result (λ x. IsPlaced (length source.now.tokens.now) start nodes.old nodes.new x) }
+{
     let to = type_name(alloc, source, start + 1, depth + 1, scopes, nodes)?;
     expect(source, to.next, Word::RightParen, depth + 1)?;
     bar(source, to.next + 1, Word::LeftBrace, 3, depth + 1)?;
@@ -251,7 +339,14 @@ fn unary(
     depth: usize,
     scopes: &mut LinkedList<Scope>,
     nodes: &mut Row<Node>,
-) -> Result<Found, ParseFault> {
+) -> Result<Found, ParseFault>
+    requires readable { IsReadable source.now }
+    requires at { at ≤ length source.now.tokens.now }
+    requires depth { depth ≤ 128 }
+    requires below { PartsAreBelow nodes.old }
+    ensures reads { Reads (text_of source.now) (body (unary depth)) scopes.old at nodes.new scopes.new result }
+    ensures placed { IfOk result (λ x. IsPlaced (length source.now.tokens.now) at nodes.old nodes.new x) }
+{
     if let Some(kind) = kind_in(&UNARY_PREFIXES, source, at) {
         return stepped(alloc, source, kind, at, depth, scopes, nodes);
     }
@@ -275,7 +370,15 @@ fn stepped(
     depth: usize,
     scopes: &mut LinkedList<Scope>,
     nodes: &mut Row<Node>,
-) -> Result<Found, ParseFault> {
+) -> Result<Found, ParseFault>
+    requires readable { IsReadable source.now }
+    requires at { start + 1 ≤ length source.now.tokens.now }
+    requires depth { depth ≤ 128 }
+    requires below { PartsAreBelow nodes.old }
+    requires kind { kind_of unary_prefixes (word_at (text_of source.now) start) ≡ Some kind }
+    ensures reads { Reads (text_of source.now) (body (unary depth)) scopes.old start nodes.new scopes.new result }
+    ensures placed { IfOk result (λ x. IsPlaced (length source.now.tokens.now) start nodes.old nodes.new x) }
+{
     room(start, depth)?;
     let operand = unary(alloc, source, start + 1, depth + 1, scopes, nodes)?;
     over(alloc, nodes, kind, start, operand.next, operand.node)
@@ -291,7 +394,16 @@ fn prefixed(
     depth: usize,
     scopes: &mut LinkedList<Scope>,
     nodes: &mut Row<Node>,
-) -> Result<Found, ParseFault> {
+) -> Result<Found, ParseFault>
+    requires readable { IsReadable source.now }
+    requires at { start + 1 ≤ length source.now.tokens.now }
+    requires depth { depth ≤ 128 }
+    requires below { PartsAreBelow nodes.old }
+    requires other { kind_of unary_prefixes (word_at (text_of source.now) start) ≡ None }
+    requires kind { kind_of cast_prefixes (word_at (text_of source.now) start) ≡ Some kind }
+    ensures reads { Reads (text_of source.now) (body (unary depth)) scopes.old start nodes.new scopes.new result }
+    ensures placed { IfOk result (λ x. IsPlaced (length source.now.tokens.now) start nodes.old nodes.new x) }
+{
     room(start, depth)?;
     let operand = cast(alloc, source, start + 1, depth + 1, scopes, nodes)?;
     over(alloc, nodes, kind, start, operand.next, operand.node)
@@ -306,7 +418,14 @@ fn measured(
     depth: usize,
     scopes: &mut LinkedList<Scope>,
     nodes: &mut Row<Node>,
-) -> Result<Found, ParseFault> {
+) -> Result<Found, ParseFault>
+    requires readable { IsReadable source.now }
+    requires at { start + 1 ≤ length source.now.tokens.now }
+    requires depth { depth < 128 }
+    requires below { PartsAreBelow nodes.old }
+    ensures reads { Reads (text_of source.now) (body (measured depth start)) scopes.old (start + 1) nodes.new scopes.new result }
+    ensures placed { IfOk result (λ x. IsPlaced (length source.now.tokens.now) start nodes.old nodes.new x) }
+{
     if !stands(source, start + 1, Word::LeftParen) {
         let operand = unary(alloc, source, start + 1, depth + 1, scopes, nodes)?;
         return sized(alloc, nodes, start, operand);
@@ -333,7 +452,16 @@ fn sized(
     nodes: &mut Row<Node>,
     start: usize,
     operand: Found,
-) -> Result<Found, ParseFault> {
+) -> Result<Found, ParseFault>
+    requires below { PartsAreBelow nodes.old }
+    requires part { operand.node < length nodes.old }
+    requires first { start < operand.next }
+    requires next { operand.next < 2 ^ 32 }
+    ensures ok { IfOk result (λ x. IsPushed nodes.old nodes.new x) }
+    ensures next { IfOk result (λ x. x.next ≡ operand.next) }
+    ensures tree { IfOk result (λ x. tree nodes.new x.node ≡ one Kind.SizeofExpression start operand.next (tree nodes.old operand.node & none)) }
+    ensures err { IfErr result (λ fault. fault ≡ ParseFault.NoMemory) }
+{
     over(
         alloc,
         nodes,
@@ -353,7 +481,16 @@ fn measured_type(
     depth: usize,
     scopes: &mut LinkedList<Scope>,
     nodes: &mut Row<Node>,
-) -> Result<Found, ParseFault> {
+) -> Result<Found, ParseFault>
+    requires readable { IsReadable source.now }
+    requires at { start + 1 + 1 ≤ length source.now.tokens.now }
+    requires depth { depth + 1 < 128 }
+    requires below { PartsAreBelow nodes.old }
+    requires bracket { is_word (text_of source.now) (start + 1) Word.LeftParen ≡ true }
+    requires starts { passes (text_of source.now) scopes.old (start + 1 + 1) type_start ≡ true }
+    ensures reads { Reads (text_of source.now) (body (measured depth start)) scopes.old (start + 1) nodes.new scopes.new result }
+    ensures placed { IfOk result (λ x. IsPlaced (length source.now.tokens.now) start nodes.old nodes.new x) }
+{
     let named = type_name(alloc, source, start + 1 + 1, depth + 1 + 1, scopes, nodes)?;
     expect(source, named.next, Word::RightParen, depth + 1 + 1)?;
     over(
@@ -375,7 +512,14 @@ fn postfix(
     depth: usize,
     scopes: &mut LinkedList<Scope>,
     nodes: &mut Row<Node>,
-) -> Result<Found, ParseFault> {
+) -> Result<Found, ParseFault>
+    requires readable { IsReadable source.now }
+    requires at { at ≤ length source.now.tokens.now }
+    requires depth { depth ≤ 128 }
+    requires below { PartsAreBelow nodes.old }
+    ensures reads { Reads (text_of source.now) (body (postfix depth)) scopes.old at nodes.new scopes.new result }
+    ensures placed { IfOk result (λ x. IsPlaced (length source.now.tokens.now) at nodes.old nodes.new x) }
+{
     if is_ordinary(source, at, scopes) {
         return called(alloc, source, at, depth, scopes, nodes);
     }
@@ -403,7 +547,14 @@ fn called(
     depth: usize,
     scopes: &mut LinkedList<Scope>,
     nodes: &mut Row<Node>,
-) -> Result<Found, ParseFault> {
+) -> Result<Found, ParseFault>
+    requires readable { IsReadable source.now }
+    requires at { start + 1 ≤ length source.now.tokens.now }
+    requires depth { depth ≤ 128 }
+    requires below { PartsAreBelow nodes.old }
+    ensures reads { Reads (text_of source.now) (body (called depth start)) scopes.old (start + 1) nodes.new scopes.new result }
+    ensures placed { IfOk result (λ x. IsPlaced (length source.now.tokens.now) start nodes.old nodes.new x) }
+{
     if !stands(source, start + 1, Word::LeftParen) {
         let first = leaf(alloc, nodes, Kind::Identifier, start, start + 1)?;
         return suffixes(alloc, source, start, first, depth, scopes, nodes);
@@ -427,7 +578,14 @@ fn arguments(
     depth: usize,
     scopes: &mut LinkedList<Scope>,
     nodes: &mut Row<Node>,
-) -> Result<Listed, ParseFault> {
+) -> Result<Listed, ParseFault>
+    requires readable { IsReadable source.now }
+    requires at { at ≤ length source.now.tokens.now }
+    requires depth { depth < 128 }
+    requires below { PartsAreBelow nodes.old }
+    ensures reads { Answers (text_of source.now) (body (arguments depth none)) scopes.old at (λ x. row_in nodes.new x.parts) scopes.new (λ x. x.next) result }
+    ensures listed { IfOk result (λ x. IsListed (length source.now.tokens.now) at nodes.old nodes.new x) }
+{
     let mut parts = Row::new(alloc);
     let mut next = at;
     'arguments: loop {
@@ -451,7 +609,15 @@ fn grouped(
     depth: usize,
     scopes: &mut LinkedList<Scope>,
     nodes: &mut Row<Node>,
-) -> Result<Found, ParseFault> {
+) -> Result<Found, ParseFault>
+    requires readable { IsReadable source.now }
+    requires at { at ≤ length source.now.tokens.now }
+    requires depth { depth < 128 }
+    requires below { PartsAreBelow nodes.old }
+    requires start { start < at }
+    ensures reads { Reads (text_of source.now) (body (grouped depth start)) scopes.old at nodes.new scopes.new result }
+    ensures placed { IfOk result (λ x. IsPlaced (length source.now.tokens.now) start nodes.old nodes.new x) }
+{
     let inner = expression(alloc, source, at, depth + 1, scopes, nodes)?;
     expect(source, inner.next, Word::RightParen, depth + 1)?;
     let first = over(alloc, nodes, Kind::Group, start, inner.next + 1, inner.node)?;
@@ -468,7 +634,16 @@ fn suffixes(
     depth: usize,
     scopes: &mut LinkedList<Scope>,
     nodes: &mut Row<Node>,
-) -> Result<Found, ParseFault> {
+) -> Result<Found, ParseFault>
+    requires readable { IsReadable source.now }
+    requires at { first.next ≤ length source.now.tokens.now }
+    requires depth { depth ≤ 128 }
+    requires below { PartsAreBelow nodes.old }
+    requires start { start < first.next }
+    requires node { first.node + 1 ≡ length nodes.old }
+    ensures reads { Reads (text_of source.now) (body (suffixes depth start (tree nodes.old first.node))) scopes.old first.next nodes.new scopes.new result }
+    ensures grown { IfOk result (λ x. IsGrown (length source.now.tokens.now) start nodes.old nodes.new x) }
+{
     let mut left = first;
     'suffixes: while let Some(longer) = suffix(alloc, source, start, left, depth, scopes, nodes)? {
         left = longer;
@@ -489,7 +664,17 @@ fn suffix(
     depth: usize,
     scopes: &mut LinkedList<Scope>,
     nodes: &mut Row<Node>,
-) -> Result<Option<Found>, ParseFault> {
+) -> Result<Option<Found>, ParseFault>
+    requires readable { IsReadable source.now }
+    requires at { left.next ≤ length source.now.tokens.now }
+    requires depth { depth ≤ 128 }
+    requires below { PartsAreBelow nodes.old }
+    requires start { start < left.next }
+    requires node { left.node + 1 ≡ length nodes.old }
+    ensures reads { MayLengthen (text_of source.now) (λ t. body (suffixes depth start t)) (tree nodes.old left.node) (suffixes_end depth (tree nodes.old left.node)) scopes.old left.next nodes.new scopes.new result }
+    ensures placed { IfOk result (λ o. IfSome o (IsPlaced (length source.now.tokens.now) start nodes.old nodes.new)) }
+    ensures none { IfOk result (λ o. IfNone o ((nodes.new ≡ nodes.old) × (scopes.new ≡ scopes.old))) }
+{
     if stands(source, left.next, Word::LeftBracket) {
         let longer = subscript(alloc, source, start, left, depth, scopes, nodes)?;
         return Ok(Some(longer));
@@ -505,7 +690,17 @@ fn plain_suffix(
     left: Found,
     depth: usize,
     nodes: &mut Row<Node>,
-) -> Result<Option<Found>, ParseFault> {
+) -> Result<Option<Found>, ParseFault>
+    requires readable { IsReadable source.now }
+    requires at { left.next ≤ length source.now.tokens.now }
+    requires below { PartsAreBelow nodes.old }
+    requires start { start < left.next }
+    requires node { left.node + 1 ≡ length nodes.old }
+    requires other { is_word (text_of source.now) left.next Word.LeftBracket ≡ false }
+    ensures reads { (c : Scopes) → MayLengthen (text_of source.now) (λ t. body (suffixes depth start t)) (tree nodes.old left.node) (suffixes_end depth (tree nodes.old left.node)) c left.next nodes.new c result }
+    ensures placed { IfOk result (λ o. IfSome o (IsPlaced (length source.now.tokens.now) start nodes.old nodes.new)) }
+    ensures none { IfOk result (λ o. IfNone o (nodes.new ≡ nodes.old)) }
+{
     if stands(source, left.next, Word::Dot) {
         let longer = member(alloc, source, Kind::Member, start, left, depth, nodes)?;
         return Ok(Some(longer));
@@ -538,7 +733,15 @@ fn member(
     left: Found,
     depth: usize,
     nodes: &mut Row<Node>,
-) -> Result<Found, ParseFault> {
+) -> Result<Found, ParseFault>
+    requires readable { IsReadable source.now }
+    requires at { left.next + 1 ≤ length source.now.tokens.now }
+    requires below { PartsAreBelow nodes.old }
+    requires start { start < left.next }
+    requires node { left.node + 1 ≡ length nodes.old }
+    ensures reads { (c : Scopes) → Finishes (text_of source.now) (expect plain Word.Identifier depth (suffixed depth start (tree nodes.old left.node & none) kind)) (λ t. body (suffixes depth start t)) c (left.next + 1) nodes.new result }
+    ensures placed { IfOk result (λ x. IsPlaced (length source.now.tokens.now) start nodes.old nodes.new x) }
+{
     expect(source, left.next + 1, Word::Identifier, depth)?;
     over(alloc, nodes, kind, start, left.next + 1 + 1, left.node)
 }
@@ -553,7 +756,17 @@ fn subscript(
     depth: usize,
     scopes: &mut LinkedList<Scope>,
     nodes: &mut Row<Node>,
-) -> Result<Found, ParseFault> {
+) -> Result<Found, ParseFault>
+    requires readable { IsReadable source.now }
+    requires at { left.next + 1 ≤ length source.now.tokens.now }
+    requires depth { depth ≤ 128 }
+    requires below { PartsAreBelow nodes.old }
+    requires start { start < left.next }
+    requires node { left.node + 1 ≡ length nodes.old }
+    requires bracket { is_word (text_of source.now) left.next Word.LeftBracket ≡ true }
+    ensures reads { Lengthens (text_of source.now) (λ t. body (suffixes depth start t)) (tree nodes.old left.node) scopes.old left.next nodes.new scopes.new result }
+    ensures placed { IfOk result (λ x. IsPlaced (length source.now.tokens.now) start nodes.old nodes.new x) }
+{
     room(left.next, depth)?;
     let inner = expression(alloc, source, left.next + 1, depth + 1, scopes, nodes)?;
     expect(source, inner.next, Word::RightBracket, depth + 1)?;
@@ -579,7 +792,14 @@ fn type_name(
     depth: usize,
     scopes: &mut LinkedList<Scope>,
     nodes: &mut Row<Node>,
-) -> Result<Found, ParseFault> {
+) -> Result<Found, ParseFault>
+    requires readable { IsReadable source.now }
+    requires at { at ≤ length source.now.tokens.now }
+    requires depth { depth ≤ 128 }
+    requires below { PartsAreBelow nodes.old }
+    ensures reads { Reads (text_of source.now) (body (type_name depth)) scopes.old at nodes.new scopes.new result }
+    ensures placed { IfOk result (λ x. IsPlaced (length source.now.tokens.now) at nodes.old nodes.new x) }
+{
     let specifiers = row(
         alloc,
         source,
@@ -623,7 +843,14 @@ fn row(
     depth: usize,
     scopes: &mut LinkedList<Scope>,
     nodes: &mut Row<Node>,
-) -> Result<Found, ParseFault> {
+) -> Result<Found, ParseFault>
+    requires readable { IsReadable source.now }
+    requires at { at ≤ length source.now.tokens.now }
+    requires depth { depth ≤ 128 }
+    requires below { PartsAreBelow nodes.old }
+    ensures reads { Reads (text_of source.now) (body (row part fresh depth)) scopes.old at nodes.new scopes.new result }
+    ensures placed { IfOk result (λ x. IsPlaced (length source.now.tokens.now) at nodes.old nodes.new x) }
+{
     let first = element(alloc, source, part, FRESH, at, depth, scopes, nodes)?;
     let mut context = past(nodes, FRESH, first.node);
     let mut parts = row_of(alloc, first.node)?;
@@ -644,7 +871,10 @@ fn starts_element(
     at: usize,
     typed: bool,
     scopes: &LinkedList<Scope>,
-) -> bool {
+) -> bool
+    requires { IsReadable source.now }
+    ensures { result ≡ passes (text_of source.now) scopes.now at (element_start part typed) }
+{
     match part {
         Part::Specifiers => starts_specifier(source, at, typed, scopes),
         _ => starts_plain(source, at, typed, scopes),
@@ -662,7 +892,14 @@ fn element(
     depth: usize,
     scopes: &mut LinkedList<Scope>,
     nodes: &mut Row<Node>,
-) -> Result<Found, ParseFault> {
+) -> Result<Found, ParseFault>
+    requires readable { IsReadable source.now }
+    requires at { at ≤ length source.now.tokens.now }
+    requires depth { depth ≤ 128 }
+    requires below { PartsAreBelow nodes.old }
+    ensures reads { Reads (text_of source.now) (body (element part context depth)) scopes.old at nodes.new scopes.new result }
+    ensures placed { IfOk result (λ x. IsPlaced (length source.now.tokens.now) at nodes.old nodes.new x) }
+{
     if let Some(kind) = specifier_in(part, source, at) {
         return leaf(alloc, nodes, kind, at, at + 1);
     }
@@ -687,7 +924,14 @@ fn structure(
     depth: usize,
     scopes: &mut LinkedList<Scope>,
     nodes: &mut Row<Node>,
-) -> Result<Found, ParseFault> {
+) -> Result<Found, ParseFault>
+    requires readable { IsReadable source.now }
+    requires at { start + 1 ≤ length source.now.tokens.now }
+    requires depth { depth ≤ 128 }
+    requires below { PartsAreBelow nodes.old }
+    ensures reads { Reads (text_of source.now) (body (structure depth start)) scopes.old (start + 1) nodes.new scopes.new result }
+    ensures placed { IfOk result (λ x. IsPlaced (length source.now.tokens.now) start nodes.old nodes.new x) }
+{
     if stands(source, start + 1, Word::Identifier) {
         if !stands(source, start + 1 + 1, Word::LeftBrace) {
             return leaf(alloc, nodes, Kind::StructTag, start, start + 1 + 1);
@@ -718,7 +962,15 @@ fn members(
     depth: usize,
     scopes: &mut LinkedList<Scope>,
     nodes: &mut Row<Node>,
-) -> Result<Found, ParseFault> {
+) -> Result<Found, ParseFault>
+    requires readable { IsReadable source.now }
+    requires at { at ≤ length source.now.tokens.now }
+    requires depth { depth < 128 }
+    requires below { PartsAreBelow nodes.old }
+    requires start { start < at }
+    ensures reads { Reads (text_of source.now) (body (members depth start none)) scopes.old at nodes.new scopes.new result }
+    ensures placed { IfOk result (λ x. IsPlaced (length source.now.tokens.now) start nodes.old nodes.new x) }
+{
     let mut parts = Row::new(alloc);
     let mut next = at;
     'members: loop {
@@ -740,7 +992,14 @@ fn member_declaration(
     depth: usize,
     scopes: &mut LinkedList<Scope>,
     nodes: &mut Row<Node>,
-) -> Result<Found, ParseFault> {
+) -> Result<Found, ParseFault>
+    requires readable { IsReadable source.now }
+    requires at { at ≤ length source.now.tokens.now }
+    requires depth { depth ≤ 128 }
+    requires below { PartsAreBelow nodes.old }
+    ensures reads { Reads (text_of source.now) (body (member depth)) scopes.old at nodes.new scopes.new result }
+    ensures placed { IfOk result (λ x. IsPlaced (length source.now.tokens.now) at nodes.old nodes.new x) }
+{
     let specifiers = row(
         alloc,
         source,
@@ -763,7 +1022,16 @@ fn member_declarators(
     depth: usize,
     scopes: &mut LinkedList<Scope>,
     nodes: &mut Row<Node>,
-) -> Result<Found, ParseFault> {
+) -> Result<Found, ParseFault>
+    requires readable { IsReadable source.now }
+    requires at { specifiers.next ≤ length source.now.tokens.now }
+    requires depth { depth ≤ 128 }
+    requires below { PartsAreBelow nodes.old }
+    requires start { start < specifiers.next }
+    requires node { specifiers.node + 1 ≡ length nodes.old }
+    ensures reads { Reads (text_of source.now) (body (member_declarators (past_part fresh (tree nodes.old specifiers.node)) depth start (tree nodes.old specifiers.node & none))) scopes.old specifiers.next nodes.new scopes.new result }
+    ensures placed { IfOk result (λ x. IsPlaced (length source.now.tokens.now) start nodes.old nodes.new x) }
+{
     let mut context = past(nodes, FRESH, specifiers.node);
     let mut parts = row_of(alloc, specifiers.node)?;
     let mut next = specifiers.next;
@@ -799,7 +1067,14 @@ fn enumeration(
     depth: usize,
     scopes: &mut LinkedList<Scope>,
     nodes: &mut Row<Node>,
-) -> Result<Found, ParseFault> {
+) -> Result<Found, ParseFault>
+    requires readable { IsReadable source.now }
+    requires at { start + 1 ≤ length source.now.tokens.now }
+    requires depth { depth ≤ 128 }
+    requires below { PartsAreBelow nodes.old }
+    ensures reads { Reads (text_of source.now) (body (enumeration depth start)) scopes.old (start + 1) nodes.new scopes.new result }
+    ensures placed { IfOk result (λ x. IsPlaced (length source.now.tokens.now) start nodes.old nodes.new x) }
+{
     if stands(source, start + 1, Word::Identifier) {
         if !stands(source, start + 1 + 1, Word::LeftBrace) {
             return leaf(alloc, nodes, Kind::EnumTag, start, start + 1 + 1);
@@ -830,7 +1105,15 @@ fn enumerators(
     depth: usize,
     scopes: &mut LinkedList<Scope>,
     nodes: &mut Row<Node>,
-) -> Result<Found, ParseFault> {
+) -> Result<Found, ParseFault>
+    requires readable { IsReadable source.now }
+    requires at { at ≤ length source.now.tokens.now }
+    requires depth { depth < 128 }
+    requires below { PartsAreBelow nodes.old }
+    requires start { start < at }
+    ensures reads { Reads (text_of source.now) (body (enumerators depth start none)) scopes.old at nodes.new scopes.new result }
+    ensures placed { IfOk result (λ x. IsPlaced (length source.now.tokens.now) start nodes.old nodes.new x) }
+{
     let mut parts = Row::new(alloc);
     let mut next = at;
     'enumerators: loop {
@@ -856,7 +1139,14 @@ fn enumerator(
     depth: usize,
     scopes: &mut LinkedList<Scope>,
     nodes: &mut Row<Node>,
-) -> Result<Found, ParseFault> {
+) -> Result<Found, ParseFault>
+    requires readable { IsReadable source.now }
+    requires at { at ≤ length source.now.tokens.now }
+    requires depth { depth ≤ 128 }
+    requires below { PartsAreBelow nodes.old }
+    ensures reads { Reads (text_of source.now) (body (enumerator depth)) scopes.old at nodes.new scopes.new result }
+    ensures placed { IfOk result (λ x. IsPlaced (length source.now.tokens.now) at nodes.old nodes.new x) }
+{
     expect(source, at, Word::Identifier, depth)?;
     if !stands(source, at + 1, Word::Equal) {
         bring(alloc, source, at + 1, at, false, scopes)?;
@@ -880,7 +1170,14 @@ fn declarator(
     depth: usize,
     scopes: &mut LinkedList<Scope>,
     nodes: &mut Row<Node>,
-) -> Result<Found, ParseFault> {
+) -> Result<Found, ParseFault>
+    requires readable { IsReadable source.now }
+    requires at { at ≤ length source.now.tokens.now }
+    requires depth { depth ≤ 128 }
+    requires below { PartsAreBelow nodes.old }
+    ensures reads { Reads (text_of source.now) (body (declarator (wanted_of wanted) context depth)) scopes.old at nodes.new scopes.new result }
+    ensures placed { IfOk result (λ x. IsPlaced (length source.now.tokens.now) at nodes.old nodes.new x) }
+{
     if stands(source, at, Word::Star) {
         return pointer(alloc, source, wanted, context, at, depth, scopes, nodes);
     }
@@ -909,7 +1206,15 @@ fn pointer(
     depth: usize,
     scopes: &mut LinkedList<Scope>,
     nodes: &mut Row<Node>,
-) -> Result<Found, ParseFault> {
+) -> Result<Found, ParseFault>
+    requires readable { IsReadable source.now }
+    requires at { start + 1 ≤ length source.now.tokens.now }
+    requires depth { depth ≤ 128 }
+    requires below { PartsAreBelow nodes.old }
+    requires star { is_word (text_of source.now) start Word.Star ≡ true }
+    ensures reads { Reads (text_of source.now) (body (declarator (wanted_of wanted) context depth)) scopes.old start nodes.new scopes.new result }
+    ensures placed { IfOk result (λ x. IsPlaced (length source.now.tokens.now) start nodes.old nodes.new x) }
+{
     room(start, depth)?;
     let next = consts(source, start + 1);
     if ends_pointer(source, wanted, next) {
@@ -930,12 +1235,20 @@ fn pointer(
 }
 
 /// Whether a `*` points to nothing that is spelled.
-fn ends_pointer(source: &Source, wanted: Wanted, at: usize) -> bool {
+fn ends_pointer(source: &Source, wanted: Wanted, at: usize) -> bool
+    requires { IsReadable source.now }
+    ensures ends { IsTrue result → EndsPointer (text_of source.now) (wanted_of wanted) at }
+    ensures goes { result ≡ false → PointsOn (text_of source.now) (wanted_of wanted) at }
+{
     may_omit(wanted) && !starts_wanted(source, wanted, at)
 }
 
 /// The kind of a `*` that points to this node.
-fn pointer_kind(nodes: &Row<Node>, to: u32) -> Kind {
+fn pointer_kind(nodes: &Row<Node>, to: u32) -> Kind
+    requires below { PartsAreBelow nodes.now }
+    requires node { to < length nodes.now }
+    ensures { result ≡ (if is_declarator (tree nodes.now to) then Kind.PointerDeclarator else Kind.AbstractPointer) }
+{
     if is_declarator(nodes, to) {
         Kind::PointerDeclarator
     } else {
@@ -954,7 +1267,16 @@ fn bracketed(
     depth: usize,
     scopes: &mut LinkedList<Scope>,
     nodes: &mut Row<Node>,
-) -> Result<Found, ParseFault> {
+) -> Result<Found, ParseFault>
+    requires readable { IsReadable source.now }
+    requires at { start + 1 ≤ length source.now.tokens.now }
+    requires depth { depth ≤ 128 }
+    requires below { PartsAreBelow nodes.old }
+    requires other { is_word (text_of source.now) start Word.Star ≡ false }
+    requires bracket { is_word (text_of source.now) start Word.LeftParen ≡ true }
+    ensures reads { Reads (text_of source.now) (body (declarator (wanted_of wanted) context depth)) scopes.old start nodes.new scopes.new result }
+    ensures placed { IfOk result (λ x. IsPlaced (length source.now.tokens.now) start nodes.old nodes.new x) }
+{
     room(start, depth)?;
     let inner = declarator(
         alloc,
@@ -999,7 +1321,14 @@ fn array_start(
     depth: usize,
     scopes: &mut LinkedList<Scope>,
     nodes: &mut Row<Node>,
-) -> Result<Found, ParseFault> {
+) -> Result<Found, ParseFault>
+    requires readable { IsReadable source.now }
+    requires at { at ≤ length source.now.tokens.now }
+    requires depth { depth ≤ 128 }
+    requires below { PartsAreBelow nodes.old }
+    ensures reads { Reads (text_of source.now) (array_start (wanted_of wanted) depth at) scopes.old at nodes.new scopes.new result }
+    ensures placed { IfOk result (λ x. IsPlaced (length source.now.tokens.now) at nodes.old nodes.new x) }
+{
     if !may_omit(wanted) {
         return Err(refused(source, at, depth));
     }
@@ -1022,7 +1351,16 @@ fn declarator_suffixes(
     depth: usize,
     scopes: &mut LinkedList<Scope>,
     nodes: &mut Row<Node>,
-) -> Result<Found, ParseFault> {
+) -> Result<Found, ParseFault>
+    requires readable { IsReadable source.now }
+    requires at { first.next ≤ length source.now.tokens.now }
+    requires depth { depth ≤ 128 }
+    requires below { PartsAreBelow nodes.old }
+    requires start { start < first.next }
+    requires node { first.node + 1 ≡ length nodes.old }
+    ensures reads { Reads (text_of source.now) (body (declarator_suffixes depth start (tree nodes.old first.node))) scopes.old first.next nodes.new scopes.new result }
+    ensures grown { IfOk result (λ x. IsGrown (length source.now.tokens.now) start nodes.old nodes.new x) }
+{
     let mut left = first;
     'suffixes: while let Some(longer) = declarator_suffix(
         alloc, source, start, left, depth, scopes, nodes,
@@ -1042,7 +1380,17 @@ fn declarator_suffix(
     depth: usize,
     scopes: &mut LinkedList<Scope>,
     nodes: &mut Row<Node>,
-) -> Result<Option<Found>, ParseFault> {
+) -> Result<Option<Found>, ParseFault>
+    requires readable { IsReadable source.now }
+    requires at { left.next ≤ length source.now.tokens.now }
+    requires depth { depth ≤ 128 }
+    requires below { PartsAreBelow nodes.old }
+    requires start { start < left.next }
+    requires node { left.node + 1 ≡ length nodes.old }
+    ensures reads { MayLengthen (text_of source.now) (λ t. body (declarator_suffixes depth start t)) (tree nodes.old left.node) (give (tree nodes.old left.node)) scopes.old left.next nodes.new scopes.new result }
+    ensures placed { IfOk result (λ o. IfSome o (IsPlaced (length source.now.tokens.now) start nodes.old nodes.new)) }
+    ensures none { IfOk result (λ o. IfNone o ((nodes.new ≡ nodes.old) × (scopes.new ≡ scopes.old))) }
+{
     if stands(source, left.next, Word::LeftBracket) {
         let longer = array(alloc, source, start, left, depth, scopes, nodes)?;
         return Ok(Some(longer));
@@ -1064,7 +1412,17 @@ fn array(
     depth: usize,
     scopes: &mut LinkedList<Scope>,
     nodes: &mut Row<Node>,
-) -> Result<Found, ParseFault> {
+) -> Result<Found, ParseFault>
+    requires readable { IsReadable source.now }
+    requires at { left.next + 1 ≤ length source.now.tokens.now }
+    requires depth { depth ≤ 128 }
+    requires below { PartsAreBelow nodes.old }
+    requires start { start < left.next }
+    requires node { left.node + 1 ≡ length nodes.old }
+    requires bracket { is_word (text_of source.now) left.next Word.LeftBracket ≡ true }
+    ensures reads { Lengthens (text_of source.now) (λ t. body (declarator_suffixes depth start t)) (tree nodes.old left.node) scopes.old left.next nodes.new scopes.new result }
+    ensures placed { IfOk result (λ x. IsPlaced (length source.now.tokens.now) start nodes.old nodes.new x) }
+{
     room(left.next, depth)?;
     let own = taken(alloc, scopes);
     let size = size(alloc, source, left.next + 1, depth, scopes, nodes)?;
@@ -1082,7 +1440,18 @@ fn function(
     depth: usize,
     scopes: &mut LinkedList<Scope>,
     nodes: &mut Row<Node>,
-) -> Result<Found, ParseFault> {
+) -> Result<Found, ParseFault>
+    requires readable { IsReadable source.now }
+    requires at { left.next + 1 ≤ length source.now.tokens.now }
+    requires depth { depth ≤ 128 }
+    requires below { PartsAreBelow nodes.old }
+    requires start { start < left.next }
+    requires node { left.node + 1 ≡ length nodes.old }
+    requires other { is_word (text_of source.now) left.next Word.LeftBracket ≡ false }
+    requires bracket { is_word (text_of source.now) left.next Word.LeftParen ≡ true }
+    ensures reads { Lengthens (text_of source.now) (λ t. body (declarator_suffixes depth start t)) (tree nodes.old left.node) scopes.old left.next nodes.new scopes.new result }
+    ensures placed { IfOk result (λ x. IsPlaced (length source.now.tokens.now) start nodes.old nodes.new x) }
+{
     room(left.next, depth)?;
     if stands(source, left.next + 1, Word::RightParen) {
         return over(
@@ -1121,7 +1490,16 @@ fn abstract_suffixes(
     depth: usize,
     scopes: &mut LinkedList<Scope>,
     nodes: &mut Row<Node>,
-) -> Result<Found, ParseFault> {
+) -> Result<Found, ParseFault>
+    requires readable { IsReadable source.now }
+    requires at { first.next ≤ length source.now.tokens.now }
+    requires depth { depth ≤ 128 }
+    requires below { PartsAreBelow nodes.old }
+    requires start { start < first.next }
+    requires node { first.node + 1 ≡ length nodes.old }
+    ensures reads { Reads (text_of source.now) (body (abstract_suffixes depth start (tree nodes.old first.node))) scopes.old first.next nodes.new scopes.new result }
+    ensures grown { IfOk result (λ x. IsGrown (length source.now.tokens.now) start nodes.old nodes.new x) }
+{
     let mut left = first;
     'suffixes: while stands(source, left.next, Word::LeftBracket) {
         room(left.next, depth)?;
@@ -1140,7 +1518,14 @@ fn size(
     depth: usize,
     scopes: &mut LinkedList<Scope>,
     nodes: &mut Row<Node>,
-) -> Result<Optional, ParseFault> {
+) -> Result<Optional, ParseFault>
+    requires readable { IsReadable source.now }
+    requires at { at ≤ length source.now.tokens.now }
+    requires depth { depth < 128 }
+    requires below { PartsAreBelow nodes.old }
+    ensures reads { Answers (text_of source.now) (body (size depth)) scopes.old at (λ x. row_in nodes.new (option_to_list x.node)) scopes.new (λ x. x.next) result }
+    ensures placed { IfOk result (λ x. IsOptional (length source.now.tokens.now) at nodes.old nodes.new x) }
+{
     if stands(source, at, Word::RightBracket) {
         return Ok(Optional {
             node: None,
@@ -1164,7 +1549,14 @@ fn parameters(
     depth: usize,
     scopes: &mut LinkedList<Scope>,
     nodes: &mut Row<Node>,
-) -> Result<Found, ParseFault> {
+) -> Result<Found, ParseFault>
+    requires readable { IsReadable source.now }
+    requires at { at ≤ length source.now.tokens.now }
+    requires depth { depth ≤ 128 }
+    requires below { PartsAreBelow nodes.old }
+    ensures reads { Reads (text_of source.now) (body (parameters depth)) scopes.old at nodes.new scopes.new result }
+    ensures placed { IfOk result (λ x. IsPlaced (length source.now.tokens.now) at nodes.old nodes.new x) }
+{
     let first = parameter(alloc, source, at, depth, scopes, nodes)?;
     let mut parts = row_of(alloc, first.node)?;
     let mut next = first.next;
@@ -1188,7 +1580,14 @@ fn parameter(
     depth: usize,
     scopes: &mut LinkedList<Scope>,
     nodes: &mut Row<Node>,
-) -> Result<Found, ParseFault> {
+) -> Result<Found, ParseFault>
+    requires readable { IsReadable source.now }
+    requires at { at ≤ length source.now.tokens.now }
+    requires depth { depth ≤ 128 }
+    requires below { PartsAreBelow nodes.old }
+    ensures reads { Reads (text_of source.now) (body (parameter depth)) scopes.old at nodes.new scopes.new result }
+    ensures placed { IfOk result (λ x. IsPlaced (length source.now.tokens.now) at nodes.old nodes.new x) }
+{
     let specifiers = row(alloc, source, Part::Specifiers, at, depth, scopes, nodes)?;
     if !starts_declarator(source, specifiers.next) {
         return Ok(specifiers);

@@ -1,3 +1,16 @@
+ghost use Rattle.std.specs.Prelude.{◌≡◌, ℕ, ◌≤◌, ◌<◌, ◌^◌, IsTrue, IfOk, IfErr, OnOk, OnErr, true, false, length};
+ghost use Rattle.cr_syntax.specs.Words.{AreSpans, spelling_at};
+ghost use Rattle.cr_syntax.specs.Reads.{is_word};
+ghost use Rattle.cr_syntax.specs.Units.{is_unused};
+ghost use Rattle.cr_syntax.specs.Machine.{has_word, passes, has, or, ordinary, type_identifier, declared, verdict, barred, overflows, too_deep};
+ghost use Rattle.cr_syntax.specs.MachineBody.{is_plain_start, is_specifier_start, is_abstract_start, is_declarator_start};
+ghost use Rattle.cr_exprs.specs.Source.{IsReadable, text_of, words_in};
+ghost use Rattle.cr_syntax.specs.Scopes.{Scopes};
+ghost use Rattle.cr_syntax.specs.Trees.{none};
+ghost use Rattle.cr_syntax.specs.Machine.{texts, consts};
+ghost use Rattle.cr_syntax.specs.MachineBody.{body};
+ghost use Rattle.cr_exprs.specs.Answers.{IsRefusal, Gives};
+
 use crate::fault::ParseFault;
 use cr_syntax::{Scope, Word, is_type, word_at};
 use cr_tokens::Token;
@@ -16,7 +29,10 @@ pub struct Source<'a> {
 }
 
 /// What each token of a file is to the grammar. The error is want of memory.
-pub fn words_of(alloc: Global, file: &[u8], tokens: &[Token]) -> Result<Vec<Word>, AllocError> {
+pub fn words_of(alloc: Global, file: &[u8], tokens: &[Token]) -> Result<Vec<Word>, AllocError>
+    requires { AreSpans file.now tokens.now }
+    ensures { IfOk result (λ v. v.items ≡ words_in file.now tokens.now) }
+{
     let mut words = Vec::with_capacity(alloc, tokens.len())?;
     for token in tokens {
         words.push(word_at(file, token))?;
@@ -25,7 +41,11 @@ pub fn words_of(alloc: Global, file: &[u8], tokens: &[Token]) -> Result<Vec<Word
 }
 
 /// Whether the token with this number is this word.
-pub(crate) fn stands(source: &Source, at: usize, word: Word) -> bool {
+pub(crate) fn stands(source: &Source, at: usize, word: Word) -> bool
+    requires { IsReadable source.now }
+    ensures answer { result ≡ is_word (text_of source.now) at word }
+    ensures inside { IsTrue result → at < length source.now.tokens.now }
+{
     match source.words.get(at) {
         Some(found) => *found == word,
         None => false,
@@ -33,24 +53,22 @@ pub(crate) fn stands(source: &Source, at: usize, word: Word) -> bool {
 }
 
 /// The bytes of the token with this number, none where there is no token.
-pub(crate) fn spelling<'a>(source: &'a Source, at: usize) -> &'a [u8] {
+pub(crate) fn spelling<'a>(source: &'a Source, at: usize) -> &'a [u8]
+    requires { IsReadable source.now }
+    ensures { result.now ≡ spelling_at (text_of source.now) at }
+{
     match source.tokens.get(at) {
         Some(token) => &source.file[token.start as usize..token.end as usize],
         None => &[],
     }
 }
 
-/// Whether an identifier stands here that is a type or none.
-fn is_identifier(source: &Source, at: usize, scopes: &LinkedList<Scope>, type_name: bool) -> bool {
-    if !stands(source, at, Word::Identifier) {
-        return false;
-    }
-    is_type(scopes, spelling(source, at)) == type_name
-}
-
 /// Whether an identifier stands here that is no type.
-pub(crate) fn is_ordinary(source: &Source, at: usize, scopes: &LinkedList<Scope>) -> bool {
-    is_identifier(source, at, scopes, false)
+pub(crate) fn is_ordinary(source: &Source, at: usize, scopes: &LinkedList<Scope>) -> bool
+    requires { IsReadable source.now }
+    ensures { result ≡ passes (text_of source.now) scopes.now at ordinary }
+{
+    stands(source, at, Word::Identifier) && !is_type(scopes, spelling(source, at))
 }
 
 /// Whether an identifier stands here that is a type, where no type specifier stands before it.
@@ -59,11 +77,11 @@ pub(crate) fn is_type_identifier(
     at: usize,
     typed: bool,
     scopes: &LinkedList<Scope>,
-) -> bool {
-    if typed {
-        return false;
-    }
-    is_identifier(source, at, scopes, true)
+) -> bool
+    requires { IsReadable source.now }
+    ensures { result ≡ passes (text_of source.now) scopes.now at (type_identifier typed) }
+{
+    stands(source, at, Word::Identifier) && is_type(scopes, spelling(source, at)) && !typed
 }
 
 /// Whether an identifier stands here that may be declared, behind a type specifier or another token, or not.
@@ -72,11 +90,11 @@ pub(crate) fn is_declared(
     at: usize,
     typed: bool,
     scopes: &LinkedList<Scope>,
-) -> bool {
-    if typed {
-        return stands(source, at, Word::Identifier);
-    }
-    is_identifier(source, at, scopes, false)
+) -> bool
+    requires { IsReadable source.now }
+    ensures { result ≡ passes (text_of source.now) scopes.now at (declared typed) }
+{
+    stands(source, at, Word::Identifier) && (typed || !is_type(scopes, spelling(source, at)))
 }
 
 /// Whether a specifier without storage classes begins here, where a type specifier stands before it or doesn't.
@@ -85,7 +103,10 @@ pub(crate) fn starts_plain(
     at: usize,
     typed: bool,
     scopes: &LinkedList<Scope>,
-) -> bool {
+) -> bool
+    requires { IsReadable source.now }
+    ensures { result ≡ passes (text_of source.now) scopes.now at (or (has is_plain_start) (type_identifier typed)) }
+{
     has_plain_start(source, at) || is_type_identifier(source, at, typed, scopes)
 }
 
@@ -95,12 +116,18 @@ pub(crate) fn starts_specifier(
     at: usize,
     typed: bool,
     scopes: &LinkedList<Scope>,
-) -> bool {
+) -> bool
+    requires { IsReadable source.now }
+    ensures { result ≡ passes (text_of source.now) scopes.now at (or (has is_specifier_start) (type_identifier typed)) }
+{
     has_specifier_start(source, at) || is_type_identifier(source, at, typed, scopes)
 }
 
 /// Whether a declarator without a name begins here.
-pub(crate) fn starts_abstract(source: &Source, at: usize) -> bool {
+pub(crate) fn starts_abstract(source: &Source, at: usize) -> bool
+    requires { IsReadable source.now }
+    ensures { result ≡ has_word (text_of source.now) at is_abstract_start }
+{
     match source.words.get(at) {
         Some(word) => is_abstract_start(*word),
         None => false,
@@ -108,35 +135,49 @@ pub(crate) fn starts_abstract(source: &Source, at: usize) -> bool {
 }
 
 /// Whether a declarator with or without a name begins here.
-pub(crate) fn starts_declarator(source: &Source, at: usize) -> bool {
+pub(crate) fn starts_declarator(source: &Source, at: usize) -> bool
+    requires { IsReadable source.now }
+    ensures { result ≡ has_word (text_of source.now) at is_declarator_start }
+{
     match source.words.get(at) {
         Some(word) => is_declarator_start(*word),
         None => false,
     }
 }
 
-fn has_plain_start(source: &Source, at: usize) -> bool {
+fn has_plain_start(source: &Source, at: usize) -> bool
+    requires { IsReadable source.now }
+    ensures { result ≡ has_word (text_of source.now) at is_plain_start }
+{
     match source.words.get(at) {
         Some(word) => is_plain_start(*word),
         None => false,
     }
 }
 
-fn has_specifier_start(source: &Source, at: usize) -> bool {
+fn has_specifier_start(source: &Source, at: usize) -> bool
+    requires { IsReadable source.now }
+    ensures { result ≡ has_word (text_of source.now) at is_specifier_start }
+{
     match source.words.get(at) {
         Some(word) => is_specifier_start(*word),
         None => false,
     }
 }
 
-fn has_unused(source: &Source, at: usize) -> bool {
+fn has_unused(source: &Source, at: usize) -> bool
+    requires { IsReadable source.now }
+    ensures { result ≡ has_word (text_of source.now) at is_unused }
+{
     match source.words.get(at) {
         Some(word) => is_unused(*word),
         None => false,
     }
 }
 
-fn is_plain_start(word: Word) -> bool {
+fn is_plain_start(word: Word) -> bool
+    ensures { result ≡ is_plain_start word }
+{
     match word {
         Word::Const
         | Word::Void
@@ -153,7 +194,9 @@ fn is_plain_start(word: Word) -> bool {
     }
 }
 
-fn is_specifier_start(word: Word) -> bool {
+fn is_specifier_start(word: Word) -> bool
+    ensures { result ≡ is_specifier_start word }
+{
     match word {
         Word::Typedef | Word::Extern | Word::Static | Word::Auto | Word::Register | Word::Inline =>
             true,
@@ -161,14 +204,18 @@ fn is_specifier_start(word: Word) -> bool {
     }
 }
 
-fn is_abstract_start(word: Word) -> bool {
+fn is_abstract_start(word: Word) -> bool
+    ensures { result ≡ is_abstract_start word }
+{
     match word {
         Word::Star | Word::LeftParen | Word::LeftBracket => true,
         _ => false,
     }
 }
 
-fn is_declarator_start(word: Word) -> bool {
+fn is_declarator_start(word: Word) -> bool
+    ensures { result ≡ is_declarator_start word }
+{
     match word {
         Word::Identifier => true,
         _ => is_abstract_start(word),
@@ -176,7 +223,9 @@ fn is_declarator_start(word: Word) -> bool {
 }
 
 /// Whether the grammar has a keyword nowhere.
-fn is_unused(word: Word) -> bool {
+fn is_unused(word: Word) -> bool
+    ensures { result ≡ is_unused word }
+{
     match word {
         Word::Double
         | Word::Float
@@ -198,7 +247,9 @@ fn is_unused(word: Word) -> bool {
 }
 
 /// Whether a word is a bracket that has no room for its level, where so many are open.
-fn overflows(word: Word, depth: usize) -> bool {
+fn overflows(word: Word, depth: usize) -> bool
+    ensures { result ≡ overflows word depth }
+{
     match word {
         Word::LeftParen | Word::LeftBracket | Word::LeftBrace => depth >= MOST_LEVELS,
         _ => false,
@@ -206,7 +257,11 @@ fn overflows(word: Word, depth: usize) -> bool {
 }
 
 /// The refusal of a token that nothing fits, where so many levels are open.
-pub(crate) fn refused(source: &Source, at: usize, depth: usize) -> ParseFault {
+pub(crate) fn refused(source: &Source, at: usize, depth: usize) -> ParseFault
+    requires readable { IsReadable source.now }
+    requires at { at ≤ length source.now.tokens.now }
+    ensures { IsRefusal (text_of source.now) result (verdict (text_of source.now) at depth) at }
+{
     let Some(word) = source.words.get(at) else {
         return ParseFault::Ended;
     };
@@ -220,7 +275,11 @@ pub(crate) fn refused(source: &Source, at: usize, depth: usize) -> ParseFault {
 }
 
 /// The refusal of a token that a row of the refused forms names, where so many levels are open.
-fn barred(source: &Source, at: usize, row: u8, depth: usize) -> ParseFault {
+fn barred(source: &Source, at: usize, row: u8, depth: usize) -> ParseFault
+    requires readable { IsReadable source.now }
+    requires at { at ≤ length source.now.tokens.now }
+    ensures { IsRefusal (text_of source.now) result (barred (text_of source.now) row at depth) at }
+{
     let Some(word) = source.words.get(at) else {
         return ParseFault::Ended;
     };
@@ -231,7 +290,12 @@ fn barred(source: &Source, at: usize, row: u8, depth: usize) -> ParseFault {
 }
 
 /// Refuses the token that opens a level where there is no room for one.
-pub(crate) fn room(at: usize, depth: usize) -> Result<(), ParseFault> {
+pub(crate) fn room(at: usize, depth: usize) -> Result<(), ParseFault>
+    requires { at < 2 ^ 32 }
+    ensures ok { OnOk result (depth < 128) }
+    ensures full { OnErr result (128 ≤ depth) }
+    ensures err { IfErr result (λ fault. fault ≡ ParseFault.TooDeep at) }
+{
     if depth >= MOST_LEVELS {
         return Err(ParseFault::TooDeep(at as u32));
     }
@@ -239,12 +303,14 @@ pub(crate) fn room(at: usize, depth: usize) -> Result<(), ParseFault> {
 }
 
 /// Refuses another token than this word, where so many levels are open.
-pub(crate) fn expect(
-    source: &Source,
-    at: usize,
-    word: Word,
-    depth: usize,
-) -> Result<(), ParseFault> {
+pub(crate) fn expect(source: &Source, at: usize, word: Word, depth: usize) -> Result<(), ParseFault>
+    requires readable { IsReadable source.now }
+    requires at { at ≤ length source.now.tokens.now }
+    ensures ok { OnOk result (is_word (text_of source.now) at word ≡ true) }
+    ensures inside { OnOk result (at < length source.now.tokens.now) }
+    ensures other { OnErr result (is_word (text_of source.now) at word ≡ false) }
+    ensures err { IfErr result (λ fault. IsRefusal (text_of source.now) fault (verdict (text_of source.now) at depth) at) }
+{
     if !stands(source, at, word) {
         return Err(refused(source, at, depth));
     }
@@ -258,7 +324,13 @@ pub(crate) fn bar(
     word: Word,
     row: u8,
     depth: usize,
-) -> Result<(), ParseFault> {
+) -> Result<(), ParseFault>
+    requires readable { IsReadable source.now }
+    requires at { at ≤ length source.now.tokens.now }
+    ensures ok { OnOk result (is_word (text_of source.now) at word ≡ false) }
+    ensures stands { OnErr result (is_word (text_of source.now) at word ≡ true) }
+    ensures err { IfErr result (λ fault. IsRefusal (text_of source.now) fault (barred (text_of source.now) row at depth) at) }
+{
     if stands(source, at, word) {
         return Err(barred(source, at, row, depth));
     }
@@ -266,7 +338,13 @@ pub(crate) fn bar(
 }
 
 /// Refuses a keyword that the grammar has nowhere.
-pub(crate) fn bar_unused(source: &Source, at: usize, depth: usize) -> Result<(), ParseFault> {
+pub(crate) fn bar_unused(source: &Source, at: usize, depth: usize) -> Result<(), ParseFault>
+    requires readable { IsReadable source.now }
+    requires at { at ≤ length source.now.tokens.now }
+    ensures ok { OnOk result (has_word (text_of source.now) at is_unused ≡ false) }
+    ensures stands { OnErr result (has_word (text_of source.now) at is_unused ≡ true) }
+    ensures err { IfErr result (λ fault. IsRefusal (text_of source.now) fault (barred (text_of source.now) 1 at depth) at) }
+{
     if has_unused(source, at) {
         return Err(barred(source, at, 1, depth));
     }
@@ -274,16 +352,35 @@ pub(crate) fn bar_unused(source: &Source, at: usize, depth: usize) -> Result<(),
 }
 
 /// The token after string literals side by side.
-pub(crate) fn texts(source: &Source, at: usize) -> usize {
+pub(crate) fn texts(source: &Source, at: usize) -> usize
+    requires readable { IsReadable source.now }
+    requires at { at ≤ length source.now.tokens.now }
+    ensures from { at ≤ result }
+    ensures to { result ≤ length source.now.tokens.now }
+    ensures read { (d : ℕ) (c : Scopes) → Gives (text_of source.now) (body (texts d)) c at none c result }
+{
     after(source, at, Word::Text)
 }
 
 /// The token after any number of `const`.
-pub(crate) fn consts(source: &Source, at: usize) -> usize {
+pub(crate) fn consts(source: &Source, at: usize) -> usize
+    requires readable { IsReadable source.now }
+    requires at { at ≤ length source.now.tokens.now }
+    ensures from { at ≤ result }
+    ensures to { result ≤ length source.now.tokens.now }
+    ensures read { (d : ℕ) (c : Scopes) → Gives (text_of source.now) (body (consts d)) c at none c result }
+{
     after(source, at, Word::Const)
 }
 
-fn after(source: &Source, at: usize, word: Word) -> usize {
+fn after(source: &Source, at: usize, word: Word) -> usize
+    requires readable { IsReadable source.now }
+    requires at { at ≤ length source.now.tokens.now }
+    ensures from { at ≤ result }
+    ensures to { result ≤ length source.now.tokens.now }
+    ensures all { (k : ℕ) → at ≤ k → k < result → is_word (text_of source.now) k word ≡ true }
+    ensures other { is_word (text_of source.now) result word ≡ false }
+{
     let mut next = at;
     while stands(source, next, word) {
         next += 1;

@@ -1,3 +1,9 @@
+ghost use Rattle.std.specs.Prelude.{◌≡◌, ◌<◌, IsSome, length};
+ghost use Rattle.cr_syntax.specs.Words.{word_at};
+ghost use Rattle.cr_syntax.specs.MachineBody.{operators, specifier_words};
+ghost use Rattle.cr_exprs.specs.Source.{IsReadable, text_of};
+ghost use Rattle.cr_exprs.specs.Tables.{kind_of, kind_of_word, next_level};
+
 use crate::source::Source;
 use cr_syntax::{Kind, Part, Word};
 
@@ -112,14 +118,20 @@ const PLAIN: [(Word, Kind); 9] = [
 ];
 
 /// The kind that a table gives the word that stands here.
-pub(crate) fn kind_in(table: &[(Word, Kind)], source: &Source, at: usize) -> Option<Kind> {
+pub(crate) fn kind_in(table: &[(Word, Kind)], source: &Source, at: usize) -> Option<Kind>
+    requires { IsReadable source.now }
+    ensures kind { result ≡ kind_of table.now (word_at (text_of source.now) at) }
+    ensures inside { IsSome result → at < length source.now.tokens.now }
+{
     match source.words.get(at) {
         Some(word) => find(table, *word),
         None => None,
     }
 }
 
-fn find(table: &[(Word, Kind)], found: Word) -> Option<Kind> {
+fn find(table: &[(Word, Kind)], found: Word) -> Option<Kind>
+    ensures { result ≡ kind_of_word table.now found }
+{
     for (word, kind) in table {
         if *word == found {
             return Some(*kind);
@@ -129,7 +141,11 @@ fn find(table: &[(Word, Kind)], found: Word) -> Option<Kind> {
 }
 
 /// The kind of the operator of a level that stands here.
-pub(crate) fn operator_in(part: Part, source: &Source, at: usize) -> Option<Kind> {
+pub(crate) fn operator_in(part: Part, source: &Source, at: usize) -> Option<Kind>
+    requires { IsReadable source.now }
+    ensures kind { result ≡ kind_of (operators part) (word_at (text_of source.now) at) }
+    ensures inside { IsSome result → at < length source.now.tokens.now }
+{
     match part {
         Part::LogicalOr => kind_in(&LOGICAL_OR, source, at),
         Part::LogicalAnd => kind_in(&LOGICAL_AND, source, at),
@@ -146,7 +162,9 @@ pub(crate) fn operator_in(part: Part, source: &Source, at: usize) -> Option<Kind
 }
 
 /// The next tighter level of a level of binary operators; behind the tightest comes a cast.
-pub(crate) fn tighter(part: Part) -> Option<Part> {
+pub(crate) fn tighter(part: Part) -> Option<Part>
+    ensures { result ≡ next_level part }
+{
     match part {
         Part::LogicalOr => Some(Part::LogicalAnd),
         Part::LogicalAnd => Some(Part::Or),
@@ -162,7 +180,11 @@ pub(crate) fn tighter(part: Part) -> Option<Part> {
 }
 
 /// The kind of the word that is a specifier of a row by itself.
-pub(crate) fn specifier_in(part: Part, source: &Source, at: usize) -> Option<Kind> {
+pub(crate) fn specifier_in(part: Part, source: &Source, at: usize) -> Option<Kind>
+    requires { IsReadable source.now }
+    ensures kind { result ≡ kind_of (specifier_words part) (word_at (text_of source.now) at) }
+    ensures inside { IsSome result → at < length source.now.tokens.now }
+{
     match part {
         Part::Specifiers => kind_in(&SPECIFIERS, source, at),
         _ => kind_in(&PLAIN, source, at),

@@ -1,0 +1,139 @@
+-- What the parser's functions answer, in terms of the machine's programs.
+use Rattle.std.specs.Prelude.{◌≡◌, ℕ, ◌+◌, ◌-◌, ◌<◌, ◌≤◌, Bool, List, Option, None, Some, Result, Ok, Err, length, slice_get, slice_index, slice_index_or, option_to_list}
+use Rattle.cr_syntax.specs.declared.node.Kind.{Kind}
+use Rattle.cr_syntax.specs.declared.node.Node.{Node}
+use Rattle.cr_syntax.specs.Words.{Lexeme}
+use Rattle.cr_syntax.specs.Scopes.{Scopes}
+use Rattle.cr_syntax.specs.Trees.{Trees, none, one, trees_of}
+use Rattle.cr_syntax.specs.Kept.{PartsAreBelow, AreBelow}
+use Rattle.cr_syntax.specs.Spells.{AtMost}
+use Rattle.cr_syntax.specs.Units.{most_levels}
+use Rattle.cr_syntax.specs.Machine.{Prog, Reply, Done, Failed, Cause, unexpected, ended, too_deep, outside, Runs}
+use Rattle.cr_syntax.specs.MachineBody.{body}
+use Rattle.cr_exprs.specs.declared.fault.ParseFault.{ParseFault}
+use Rattle.cr_exprs.specs.declared.fault.ParseFault.TheVariants.{NoMemory, Unexpected, Ended, TooDeep, OutsideSubset}
+use Rattle.cr_exprs.specs.declared.found.Found.{Found}
+use Rattle.cr_exprs.specs.declared.found.Listed.{Listed}
+use Rattle.cr_exprs.specs.declared.found.Optional.{Optional}
+
+-- the machine's run within the limit on nesting
+abbrev pub RunsTo : List Lexeme → Prog → Scopes → ℕ → Reply → Type 0
+RunsTo ts p c i r = Runs body ts (AtMost most_levels) p c i r
+
+-- the tree of a node
+abbrev pub tree : List Node → ℕ → Trees
+tree nodes k = slice_index_or (trees_of nodes) k none
+
+-- the machine's cause for a fault, none for want of memory, and its token, where there are n tokens
+abbrev pub cause_of : ParseFault → Option Cause
+cause_of NoMemory = None
+cause_of (Unexpected k) = Some unexpected
+cause_of Ended = Some ended
+cause_of (TooDeep k) = Some too_deep
+cause_of (OutsideSubset k row) = Some (outside row)
+
+abbrev pub place_of : ℕ → ParseFault → ℕ
+place_of n NoMemory = 0
+place_of n (Unexpected k) = k
+place_of n Ended = n
+place_of n (TooDeep k) = k
+place_of n (OutsideSubset k row) = k
+
+-- a fault that says this of this token
+pub record IsRefusal (ts : List Lexeme) (fault : ParseFault) (x : Cause) (k : ℕ) : Type 0 where
+  pub cause : cause_of fault ≡ Some x
+  pub place : place_of (length ts) fault ≡ k
+
+-- a program fails with this fault; want of memory says nothing
+pub record Refuses (ts : List Lexeme) (p : Prog) (c : Scopes) (i : ℕ) (fault : ParseFault) : Type 0 where
+  pub run : (x : Cause) → cause_of fault ≡ Some x → RunsTo ts p c i (Failed x (place_of (length ts) fault))
+
+-- a program is done with these trees
+pub record Gives (ts : List Lexeme) (p : Prog) (c : Scopes) (i : ℕ) (t : Trees) (e : Scopes) (j : ℕ) : Type 0 where
+  pub run : RunsTo ts p c i (Done t e j)
+
+-- what a program answers is what another one answers from there on
+pub record Goes (ts : List Lexeme) (p : Prog) (c : Scopes) (i : ℕ) (q : Prog) (e : Scopes) (j : ℕ) : Type 0 where
+  pub on : (r : Reply) → RunsTo ts q e j r → RunsTo ts p c i r
+
+-- a result says what a program answers, where t are its trees and j the token after them
+abbrev pub Answers : {A : Type 0} → List Lexeme → Prog → Scopes → ℕ → (A → Trees) → Scopes → (A → ℕ) → Result A ParseFault → Type 0
+Answers ts p c i t e j (Ok x) = Gives ts p c i (t x) e (j x)
+Answers ts p c i t e j (Err fault) = Refuses ts p c i fault
+
+-- a node that was read
+abbrev pub Reads : List Lexeme → Prog → Scopes → ℕ → List Node → Scopes → Result Found ParseFault → Type 0
+Reads ts p c i nodes e result = Answers ts p c i (λ x. tree nodes x.node) e (λ x. x.next) result
+
+-- the nodes of a list stay as they are where others are appended
+pub record Keeps (old new : List Node) : Type 0 where
+  pub longer : length old ≤ length new
+  pub same : (k : ℕ) → k < length old → slice_get new k ≡ slice_get old k
+
+-- one node more, the last of all; the parts of each are below it
+pub record IsPushed (old new : List Node) (x : Found) : Type 0 where
+  pub last : x.node ≡ length old
+  pub grows : length new ≡ length old + 1
+  pub keeps : Keeps old new
+  pub below : PartsAreBelow new
+
+-- A node that was read of so many tokens, from token `at` on: the last of all nodes, the old ones being kept.
+pub record IsPlaced (tokens at : ℕ) (old new : List Node) (x : Found) : Type 0 where
+  pub last : x.node + 1 ≡ length new
+  pub grows : length old < length new
+  pub keeps : Keeps old new
+  pub below : PartsAreBelow new
+  pub from : at < x.next
+  pub to : x.next ≤ tokens
+
+-- a row of so many nodes: it isn't empty, and its last one is the last of all
+pub record IsRow (row : List ℕ) (nodes : ℕ) : Type 0 where
+  pub below : AreBelow row nodes
+  pub some : 0 < length row
+  pub last : slice_index row (length row - 1) + 1 ≡ nodes
+
+-- the last of all nodes, where all but the last one stay at least
+pub record IsGathered (old new : List Node) (x : Found) : Type 0 where
+  pub last : x.node + 1 ≡ length new
+  pub longer : length old ≤ length new
+  pub same : (k : ℕ) → k + 1 < length old → slice_get new k ≡ slice_get old k
+  pub below : PartsAreBelow new
+
+-- as `IsPlaced`, where the node may be one of the old ones
+pub record IsGrown (tokens at : ℕ) (old new : List Node) (x : Found) : Type 0 where
+  pub last : x.node + 1 ≡ length new
+  pub keeps : Keeps old new
+  pub below : PartsAreBelow new
+  pub from : at < x.next
+  pub to : x.next ≤ tokens
+
+-- nodes that were read as a list, and a node or none
+pub record IsListed (tokens at : ℕ) (old new : List Node) (x : Listed) : Type 0 where
+  pub row : IsRow x.parts (length new)
+  pub keeps : Keeps old new
+  pub below : PartsAreBelow new
+  pub from : at < x.next
+  pub to : x.next ≤ tokens
+
+pub record IsOptional (tokens at : ℕ) (old new : List Node) (x : Optional) : Type 0 where
+  pub row : AreBelow (option_to_list x.node) (length new)
+  pub keeps : Keeps old new
+  pub below : PartsAreBelow new
+  pub from : at < x.next
+  pub to : x.next ≤ tokens
+
+-- A loop's program, which takes the trees so far, goes on with those of a longer node, or fails.
+abbrev pub Lengthens : List Lexeme → (Trees → Prog) → Trees → Scopes → ℕ → List Node → Scopes → Result Found ParseFault → Type 0
+Lengthens ts p t c i nodes e (Ok x) = Goes ts (p t) c i (p (tree nodes x.node)) e x.next
+Lengthens ts p t c i nodes e (Err fault) = Refuses ts (p t) c i fault
+
+-- It does, or comes to the rest of its program where nothing makes the node longer.
+abbrev pub MayLengthen : List Lexeme → (Trees → Prog) → Trees → Prog → Scopes → ℕ → List Node → Scopes → Result (Option Found) ParseFault → Type 0
+MayLengthen ts p t rest c i nodes e (Ok None) = Goes ts (p t) c i rest c i
+MayLengthen ts p t rest c i nodes e (Ok (Some x)) = Goes ts (p t) c i (p (tree nodes x.node)) e x.next
+MayLengthen ts p t rest c i nodes e (Err fault) = Refuses ts (p t) c i fault
+
+-- A program goes on with that of a node, or fails.
+abbrev pub Finishes : List Lexeme → Prog → (Trees → Prog) → Scopes → ℕ → List Node → Result Found ParseFault → Type 0
+Finishes ts q p c i nodes (Ok x) = Goes ts q c i (p (tree nodes x.node)) c x.next
+Finishes ts q p c i nodes (Err fault) = Refuses ts q c i fault

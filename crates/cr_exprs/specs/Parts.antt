@@ -1,0 +1,29 @@
+-- Parts of the machine's programs, as the parser's functions begin in them.
+use Rattle.std.specs.Prelude.{◌≡◌, ℕ, ◌+◌, Bool, true, false, List}
+use Rattle.cr_syntax.specs.declared.word.Word.TheVariants as word
+use Rattle.cr_syntax.specs.declared.node.Kind.TheVariants as kind
+use Rattle.cr_syntax.specs.Words.{Lexeme}
+use Rattle.cr_syntax.specs.Scopes.{Scopes}
+use Rattle.cr_syntax.specs.Trees.{Trees, none, ◌&◌}
+use Rattle.cr_syntax.specs.Machine.{Prog, passes, reopens, call, expect, made, expression, conditional}
+use Rattle.cr_syntax.specs.Machine as m
+use Rattle.cr_syntax.specs.MachineBody.{may_omit, declarator_start}
+use Rattle.cr_exprs.specs.declared.reading.Wanted.{Wanted}
+use Rattle.cr_exprs.specs.declared.reading.Wanted.TheVariants.{Named, Unnamed, Either}
+
+-- behind the `?` of a conditional whose test is read
+abbrev pub chosen : ℕ → ℕ → Trees → Prog
+chosen d s a = call (expression (d + 1)) (λ b. expect reopens word.Colon d (call (conditional (d + 1)) (λ c. made kind.Conditional s (a & b & c & none))))
+
+abbrev pub wanted_of : Wanted → m.Wanted
+wanted_of Named = m.named
+wanted_of Unnamed = m.unnamed
+wanted_of Either = m.either
+
+-- a `*` points to nothing that is spelled, and to something
+pub record EndsPointer (ts : List Lexeme) (w : m.Wanted) (i : ℕ) : Type 0 where
+  pub omits : may_omit w ≡ true
+  pub other : (c : Scopes) → passes ts c i (declarator_start w) ≡ false
+
+pub record PointsOn (ts : List Lexeme) (w : m.Wanted) (i : ℕ) : Type 0 where
+  pub starts : may_omit w ≡ true → (c : Scopes) → passes ts c i (declarator_start w) ≡ true
