@@ -56,10 +56,17 @@ pub record Gives (ts : List Lexeme) (p : Prog) (c : Scopes) (i : ℕ) (t : Trees
 pub record Goes (ts : List Lexeme) (p : Prog) (c : Scopes) (i : ℕ) (q : Prog) (e : Scopes) (j : ℕ) : Type 0 where
   pub on : (r : Reply) → RunsTo ts q e j r → RunsTo ts p c i r
 
--- a result says what a program answers, where t are its trees and j the token after them
+-- A result says what a program, begun so, comes to: at Ok a fact of the value, and else the program's failure.
+abbrev pub CasesOf : {A : Type 0} → List Lexeme → Prog → Scopes → ℕ → (A → Type 0) → Result A ParseFault → Type 0
+CasesOf ts p c i Q (Ok x) = Q x
+CasesOf ts p c i Q (Err fault) = Refuses ts p c i fault
+
+pub record Comes {A : Type 0} (ts : List Lexeme) (p : Prog) (c : Scopes) (i : ℕ) (Q : A → Type 0) (result : Result A ParseFault) : Type 0 where
+  pub is : CasesOf ts p c i Q result
+
+-- the trees of a value, and the token after them, are the program's
 abbrev pub Answers : {A : Type 0} → List Lexeme → Prog → Scopes → ℕ → (A → Trees) → Scopes → (A → ℕ) → Result A ParseFault → Type 0
-Answers ts p c i t e j (Ok x) = Gives ts p c i (t x) e (j x)
-Answers ts p c i t e j (Err fault) = Refuses ts p c i fault
+Answers ts p c i t e j result = Comes ts p c i (λ x. Gives ts p c i (t x) e (j x)) result
 
 -- a node that was read
 abbrev pub Reads : List Lexeme → Prog → Scopes → ℕ → List Node → Scopes → Result Found ParseFault → Type 0
@@ -122,18 +129,18 @@ pub record IsOptional (tokens at : ℕ) (old new : List Node) (x : Optional) : T
   pub from : at < x.next
   pub to : x.next ≤ tokens
 
--- A loop's program, which takes the trees so far, goes on with those of a longer node, or fails.
+-- A loop's program, which takes the trees so far, goes on with those of a longer node.
 abbrev pub Lengthens : List Lexeme → (Trees → Prog) → Trees → Scopes → ℕ → List Node → Scopes → Result Found ParseFault → Type 0
-Lengthens ts p t c i nodes e (Ok x) = Goes ts (p t) c i (p (tree nodes x.node)) e x.next
-Lengthens ts p t c i nodes e (Err fault) = Refuses ts (p t) c i fault
+Lengthens ts p t c i nodes e result = Comes ts (p t) c i (λ x. Goes ts (p t) c i (p (tree nodes x.node)) e x.next) result
 
 -- It does, or comes to the rest of its program where nothing makes the node longer.
-abbrev pub MayLengthen : List Lexeme → (Trees → Prog) → Trees → Prog → Scopes → ℕ → List Node → Scopes → Result (Option Found) ParseFault → Type 0
-MayLengthen ts p t rest c i nodes e (Ok None) = Goes ts (p t) c i rest c i
-MayLengthen ts p t rest c i nodes e (Ok (Some x)) = Goes ts (p t) c i (p (tree nodes x.node)) e x.next
-MayLengthen ts p t rest c i nodes e (Err fault) = Refuses ts (p t) c i fault
+abbrev pub IsLonger : List Lexeme → (Trees → Prog) → Trees → Prog → Scopes → ℕ → List Node → Scopes → Option Found → Type 0
+IsLonger ts p t rest c i nodes e None = Goes ts (p t) c i rest c i
+IsLonger ts p t rest c i nodes e (Some x) = Goes ts (p t) c i (p (tree nodes x.node)) e x.next
 
--- A program goes on with that of a node, or fails.
+abbrev pub MayLengthen : List Lexeme → (Trees → Prog) → Trees → Prog → Scopes → ℕ → List Node → Scopes → Result (Option Found) ParseFault → Type 0
+MayLengthen ts p t rest c i nodes e result = Comes ts (p t) c i (IsLonger ts p t rest c i nodes e) result
+
+-- a program goes on with that of a node
 abbrev pub Finishes : List Lexeme → Prog → (Trees → Prog) → Scopes → ℕ → List Node → Result Found ParseFault → Type 0
-Finishes ts q p c i nodes (Ok x) = Goes ts q c i (p (tree nodes x.node)) c x.next
-Finishes ts q p c i nodes (Err fault) = Refuses ts q c i fault
+Finishes ts q p c i nodes result = Comes ts q c i (λ x. Goes ts q c i (p (tree nodes x.node)) c x.next) result

@@ -1,13 +1,15 @@
 -- Parts of the machine's programs, as the parser's functions begin in them.
-use Rattle.std.specs.Prelude.{◌≡◌, ℕ, ◌+◌, Bool, true, false, List}
+use Rattle.std.specs.Prelude.{◌≡◌, ℕ, ◌+◌, Bool, true, false, List, if◌then◌else◌}
 use Rattle.cr_syntax.specs.declared.word.Word.TheVariants as word
 use Rattle.cr_syntax.specs.declared.node.Kind.TheVariants as kind
 use Rattle.cr_syntax.specs.Words.{Lexeme}
-use Rattle.cr_syntax.specs.Scopes.{Scopes}
+use Rattle.cr_syntax.specs.declared.symbol.Context.{Context}
+use Rattle.cr_syntax.specs.Context.{past_part}
+use Rattle.cr_syntax.specs.Scopes.{Scopes, enter}
 use Rattle.cr_syntax.specs.Trees.{Trees, none, ◌&◌}
-use Rattle.cr_syntax.specs.Machine.{Prog, passes, reopens, call, expect, made, expression, conditional}
+use Rattle.cr_syntax.specs.Machine.{Prog, brought, around, passes, reopens, call, expect, made, expression, conditional}
 use Rattle.cr_syntax.specs.Machine as m
-use Rattle.cr_syntax.specs.MachineBody.{may_omit, declarator_start}
+use Rattle.cr_syntax.specs.MachineBody.{may_omit, declarator_start, is_declarator}
 use Rattle.cr_exprs.specs.declared.reading.Wanted.{Wanted}
 use Rattle.cr_exprs.specs.declared.reading.Wanted.TheVariants.{Named, Unnamed, Either}
 
@@ -27,3 +29,7 @@ pub record EndsPointer (ts : List Lexeme) (w : m.Wanted) (i : ℕ) : Type 0 wher
 
 pub record PointsOn (ts : List Lexeme) (w : m.Wanted) (i : ℕ) : Type 0 where
   pub starts : may_omit w ≡ true → (c : Scopes) → passes ts c i (declarator_start w) ≡ true
+
+-- the scopes behind a parameter's declarator a, where token i stands: its name enters, and its own scope ends
+abbrev pub entered : List Lexeme → ℕ → Context → Trees → Scopes → Scopes
+entered ts i h a c = if is_declarator a then enter (brought ts i (past_part h a).name (past_part h a).type_name) (around c) else c

@@ -106,6 +106,34 @@ pub(crate) fn pair(
     push(nodes, kind, first, next, parts)
 }
 
+/// Appends a node with three parts.
+pub(crate) fn triple(
+    alloc: Global,
+    nodes: &mut Row<Node>,
+    kind: Kind,
+    first: usize,
+    next: usize,
+    left: u32,
+    middle: u32,
+    right: u32,
+) -> Result<Found, ParseFault>
+    requires left { left < length nodes.old }
+    requires middle { middle < length nodes.old }
+    requires right { right < length nodes.old }
+    requires below { PartsAreBelow nodes.old }
+    requires first { first < next }
+    requires next { next < 2 ^ 32 }
+    ensures ok { IfOk result (λ x. IsPushed nodes.old nodes.new x) }
+    ensures next { IfOk result (λ x. x.next ≡ next) }
+    ensures tree { IfOk result (λ x. tree nodes.new x.node ≡ one kind first next (tree nodes.old left & tree nodes.old middle & tree nodes.old right & none)) }
+    ensures err { IfErr result (λ fault. fault ≡ ParseFault.NoMemory) }
+{
+    let mut parts = row_of(alloc, left)?;
+    parts.push(middle)?;
+    parts.push(right)?;
+    push(nodes, kind, first, next, parts)
+}
+
 /// Appends a node with one part or none.
 pub(crate) fn over_optional(
     alloc: Global,

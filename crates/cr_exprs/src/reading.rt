@@ -6,7 +6,7 @@ ghost use Rattle.cr_syntax.specs.Words.{word_at};
 ghost use Rattle.cr_syntax.specs.Scopes.{Scopes};
 ghost use Rattle.cr_syntax.specs.Trees.{none, one, ◌&◌};
 ghost use Rattle.cr_syntax.specs.Kept.{PartsAreBelow, row_in};
-ghost use Rattle.cr_syntax.specs.Context.{fresh, past_part};
+ghost use Rattle.cr_syntax.specs.Context.{fresh, past_part, past_token};
 ghost use Rattle.cr_syntax.specs.Reads.{is_word};
 ghost use Rattle.cr_syntax.specs.Machine.{passes, plain, give, expect, whole, expression, assignment, conditional, binary, cast, unary, measured, postfix, called, grouped, arguments, suffixes, type_name, row, element, structure, members, member, member_declarators, enumeration, enumerators, enumerator, declarator, declarator_suffixes, abstract_suffixes, size, parameters, parameter};
 ghost use Rattle.cr_syntax.specs.MachineBody.{body, tighter, unary_prefixes, cast_prefixes, type_start, element_start, declarator_start, may_name, may_omit, is_declarator, array_start, suffixed, suffixes_end};
@@ -17,7 +17,7 @@ ghost use Rattle.cr_exprs.specs.Parts.{wanted_of, chosen, EndsPointer, PointsOn}
 
 use crate::arena::{
     gathered, gathered_parameters, is_declarator, is_identifier, is_unary, leaf, over,
-    over_optional, pair, pair_optional, past, push, row_of,
+    over_optional, pair, pair_optional, past, push, row_of, triple,
 };
 use crate::fault::ParseFault;
 use crate::found::{Found, Listed, Optional};
@@ -31,7 +31,7 @@ use crate::tables::{
     specifier_in, tighter,
 };
 use cr_rows::Row;
-use cr_syntax::{Context, FRESH, Kind, Node, Part, Scope, Word, begin, past_token};
+use cr_syntax::{Context, FRESH, Kind, Node, Part, Scope, Word, begin};
 use std::alloc::Global;
 use std::collections::LinkedList;
 
@@ -44,6 +44,16 @@ enum Wanted {
     Unnamed,
     /// Either.
     Either,
+}
+
+/// What is said behind a token.
+fn named(context: Context) -> Context
+    ensures { result ≡ past_token context }
+{
+    Context {
+        typed: true,
+        ..context
+    }
 }
 
 fn may_name(wanted: Wanted) -> bool
@@ -213,10 +223,16 @@ fn chosen(
     let yes = expression(alloc, source, test.next + 1, depth + 1, scopes, nodes)?;
     expect(source, yes.next, Word::Colon, depth + 1)?;
     let no = conditional(alloc, source, yes.next + 1, depth + 1, scopes, nodes)?;
-    let mut parts = row_of(alloc, test.node)?;
-    parts.push(yes.node)?;
-    parts.push(no.node)?;
-    push(nodes, Kind::Conditional, start, no.next, parts)
+    triple(
+        alloc,
+        nodes,
+        Kind::Conditional,
+        start,
+        no.next,
+        test.node,
+        yes.node,
+        no.node,
+    )
 }
 
 /// A level of binary operators (6.5.14 to 6.5.5).
@@ -648,9 +664,10 @@ fn suffixes(
     'suffixes: while let Some(longer) = suffix(alloc, source, start, left, depth, scopes, nodes)? {
         left = longer;
     }
-    if !is_identifier(nodes, left.node) {
-        bar(source, left.next, Word::LeftParen, 4, depth)?;
+    if is_identifier(nodes, left.node) {
+        return Ok(left);
     }
+    bar(source, left.next, Word::LeftParen, 4, depth)?;
     Ok(left)
 }
 
@@ -672,7 +689,7 @@ fn suffix(
     requires start { start < left.next }
     requires node { left.node + 1 ≡ length nodes.old }
     ensures reads { MayLengthen (text_of source.now) (λ t. body (suffixes depth start t)) (tree nodes.old left.node) (suffixes_end depth (tree nodes.old left.node)) scopes.old left.next nodes.new scopes.new result }
-    ensures placed { IfOk result (λ o. IfSome o (IsPlaced (length source.now.tokens.now) start nodes.old nodes.new)) }
+    ensures placed { IfOk result (λ o. IfSome o (IsPlaced (length source.now.tokens.now) left.next nodes.old nodes.new)) }
     ensures none { IfOk result (λ o. IfNone o ((nodes.new ≡ nodes.old) × (scopes.new ≡ scopes.old))) }
 {
     if stands(source, left.next, Word::LeftBracket) {
@@ -698,7 +715,7 @@ fn plain_suffix(
     requires node { left.node + 1 ≡ length nodes.old }
     requires other { is_word (text_of source.now) left.next Word.LeftBracket ≡ false }
     ensures reads { (c : Scopes) → MayLengthen (text_of source.now) (λ t. body (suffixes depth start t)) (tree nodes.old left.node) (suffixes_end depth (tree nodes.old left.node)) c left.next nodes.new c result }
-    ensures placed { IfOk result (λ o. IfSome o (IsPlaced (length source.now.tokens.now) start nodes.old nodes.new)) }
+    ensures placed { IfOk result (λ o. IfSome o (IsPlaced (length source.now.tokens.now) left.next nodes.old nodes.new)) }
     ensures none { IfOk result (λ o. IfNone o (nodes.new ≡ nodes.old)) }
 {
     if stands(source, left.next, Word::Dot) {
@@ -765,7 +782,7 @@ fn subscript(
     requires node { left.node + 1 ≡ length nodes.old }
     requires bracket { is_word (text_of source.now) left.next Word.LeftBracket ≡ true }
     ensures reads { Lengthens (text_of source.now) (λ t. body (suffixes depth start t)) (tree nodes.old left.node) scopes.old left.next nodes.new scopes.new result }
-    ensures placed { IfOk result (λ x. IsPlaced (length source.now.tokens.now) start nodes.old nodes.new x) }
+    ensures placed { IfOk result (λ x. IsPlaced (length source.now.tokens.now) left.next nodes.old nodes.new x) }
 {
     room(left.next, depth)?;
     let inner = expression(alloc, source, left.next + 1, depth + 1, scopes, nodes)?;
@@ -1054,7 +1071,7 @@ fn member_declarators(
             expect(source, one.next, Word::Semicolon, depth)?;
             return push(nodes, Kind::MemberDeclaration, start, next, parts);
         }
-        context = past_token(context);
+        context = named(context);
     }
 }
 
@@ -1224,7 +1241,7 @@ fn pointer(
         alloc,
         source,
         wanted,
-        past_token(context),
+        named(context),
         next,
         depth + 1,
         scopes,
@@ -1237,7 +1254,7 @@ fn pointer(
 /// Whether a `*` points to nothing that is spelled.
 fn ends_pointer(source: &Source, wanted: Wanted, at: usize) -> bool
     requires { IsReadable source.now }
-    ensures ends { IsTrue result → EndsPointer (text_of source.now) (wanted_of wanted) at }
+    ensures ends { result ≡ true → EndsPointer (text_of source.now) (wanted_of wanted) at }
     ensures goes { result ≡ false → PointsOn (text_of source.now) (wanted_of wanted) at }
 {
     may_omit(wanted) && !starts_wanted(source, wanted, at)
@@ -1282,7 +1299,7 @@ fn bracketed(
         alloc,
         source,
         wanted,
-        past_token(context),
+        named(context),
         start + 1,
         depth + 1,
         scopes,
@@ -1388,7 +1405,7 @@ fn declarator_suffix(
     requires start { start < left.next }
     requires node { left.node + 1 ≡ length nodes.old }
     ensures reads { MayLengthen (text_of source.now) (λ t. body (declarator_suffixes depth start t)) (tree nodes.old left.node) (give (tree nodes.old left.node)) scopes.old left.next nodes.new scopes.new result }
-    ensures placed { IfOk result (λ o. IfSome o (IsPlaced (length source.now.tokens.now) start nodes.old nodes.new)) }
+    ensures placed { IfOk result (λ o. IfSome o (IsPlaced (length source.now.tokens.now) left.next nodes.old nodes.new)) }
     ensures none { IfOk result (λ o. IfNone o ((nodes.new ≡ nodes.old) × (scopes.new ≡ scopes.old))) }
 {
     if stands(source, left.next, Word::LeftBracket) {
@@ -1421,7 +1438,7 @@ fn array(
     requires node { left.node + 1 ≡ length nodes.old }
     requires bracket { is_word (text_of source.now) left.next Word.LeftBracket ≡ true }
     ensures reads { Lengthens (text_of source.now) (λ t. body (declarator_suffixes depth start t)) (tree nodes.old left.node) scopes.old left.next nodes.new scopes.new result }
-    ensures placed { IfOk result (λ x. IsPlaced (length source.now.tokens.now) start nodes.old nodes.new x) }
+    ensures placed { IfOk result (λ x. IsPlaced (length source.now.tokens.now) left.next nodes.old nodes.new x) }
 {
     room(left.next, depth)?;
     let own = taken(alloc, scopes);
@@ -1450,7 +1467,7 @@ fn function(
     requires other { is_word (text_of source.now) left.next Word.LeftBracket ≡ false }
     requires bracket { is_word (text_of source.now) left.next Word.LeftParen ≡ true }
     ensures reads { Lengthens (text_of source.now) (λ t. body (declarator_suffixes depth start t)) (tree nodes.old left.node) scopes.old left.next nodes.new scopes.new result }
-    ensures placed { IfOk result (λ x. IsPlaced (length source.now.tokens.now) start nodes.old nodes.new x) }
+    ensures placed { IfOk result (λ x. IsPlaced (length source.now.tokens.now) left.next nodes.old nodes.new x) }
 {
     room(left.next, depth)?;
     if stands(source, left.next + 1, Word::RightParen) {

@@ -1,3 +1,12 @@
+ghost use Rattle.std.specs.Prelude.{◌≡◌, ◌<◌, OnOk, IfErr, length, if◌then◌else◌};
+ghost use Rattle.cr_syntax.specs.Scopes.{enter};
+ghost use Rattle.cr_syntax.specs.Kept.{PartsAreBelow};
+ghost use Rattle.cr_syntax.specs.Context.{is_bare};
+ghost use Rattle.cr_syntax.specs.Machine.{brought, innermost_of, around};
+ghost use Rattle.cr_exprs.specs.Source.{IsReadable, text_of};
+ghost use Rattle.cr_exprs.specs.Answers.{tree};
+ghost use Rattle.cr_exprs.specs.Parts.{entered};
+
 use crate::arena::{is_declarator, past};
 use crate::fault::ParseFault;
 use crate::found::Found;
@@ -15,7 +24,11 @@ pub(crate) fn bring(
     name: usize,
     is_type: bool,
     scopes: &mut LinkedList<Scope>,
-) -> Result<(), ParseFault> {
+) -> Result<(), ParseFault>
+    requires { IsReadable source.now }
+    ensures ok { OnOk result (scopes.new ≡ enter (brought (text_of source.now) at name is_type) scopes.old) }
+    ensures err { IfErr result (λ fault. fault ≡ ParseFault.NoMemory) }
+{
     let spelling = if name < at {
         spelling(source, name)
     } else {
@@ -26,7 +39,10 @@ pub(crate) fn bring(
 }
 
 /// Takes the innermost scope off, an empty one where none is open.
-pub(crate) fn taken(alloc: Global, scopes: &mut LinkedList<Scope>) -> Scope {
+pub(crate) fn taken(alloc: Global, scopes: &mut LinkedList<Scope>) -> Scope
+    ensures value { result ≡ innermost_of scopes.old }
+    ensures rest { scopes.new ≡ around scopes.old }
+{
     match scopes.pop_front() {
         Some(scope) => scope,
         None => LinkedList::new(alloc),
@@ -34,7 +50,9 @@ pub(crate) fn taken(alloc: Global, scopes: &mut LinkedList<Scope>) -> Scope {
 }
 
 /// Ends the innermost scope.
-pub(crate) fn drop_scope(scopes: &mut LinkedList<Scope>) {
+pub(crate) fn drop_scope(scopes: &mut LinkedList<Scope>)
+    ensures { scopes.new ≡ around scopes.old }
+{
     let _ = scopes.pop_front();
 }
 
@@ -46,7 +64,13 @@ pub(crate) fn enter_parameter(
     declarator: Found,
     scopes: &mut LinkedList<Scope>,
     nodes: &Row<Node>,
-) -> Result<(), ParseFault> {
+) -> Result<(), ParseFault>
+    requires readable { IsReadable source.now }
+    requires below { PartsAreBelow nodes.now }
+    requires node { declarator.node < length nodes.now }
+    ensures ok { OnOk result (scopes.new ≡ entered (text_of source.now) declarator.next context (tree nodes.now declarator.node) scopes.old) }
+    ensures err { IfErr result (λ fault. fault ≡ ParseFault.NoMemory) }
+{
     if !is_declarator(nodes, declarator.node) {
         return Ok(());
     }
@@ -63,7 +87,11 @@ pub(crate) fn enter_parameter(
 }
 
 /// The scope that stays on a declarator of a function: its parameters' where it is a name itself.
-pub(crate) fn kept(nodes: &Row<Node>, declarator: u32, names: Scope, own: Scope) -> Scope {
+pub(crate) fn kept(nodes: &Row<Node>, declarator: u32, names: Scope, own: Scope) -> Scope
+    requires below { PartsAreBelow nodes.now }
+    requires node { declarator < length nodes.now }
+    ensures { result ≡ (if is_bare (tree nodes.now declarator) then names else own) }
+{
     if past(nodes, cr_syntax::FRESH, declarator).bare {
         names
     } else {

@@ -1,8 +1,8 @@
-ghost use Rattle.std.specs.Prelude.{◌≡◌, ◌<◌, IsSome, length};
+ghost use Rattle.std.specs.Prelude.{◌≡◌, ◌+◌, ◌<◌, IsSome, IfSome, length};
 ghost use Rattle.cr_syntax.specs.Words.{word_at};
 ghost use Rattle.cr_syntax.specs.MachineBody.{operators, specifier_words};
 ghost use Rattle.cr_exprs.specs.Source.{IsReadable, text_of};
-ghost use Rattle.cr_exprs.specs.Tables.{kind_of, kind_of_word, next_level};
+ghost use Rattle.cr_exprs.specs.Tables.{kind_of, kind_of_word, next_level, level_of};
 
 use crate::source::Source;
 use cr_syntax::{Kind, Part, Word};
@@ -133,7 +133,7 @@ fn find(table: &[(Word, Kind)], found: Word) -> Option<Kind>
     ensures { result ≡ kind_of_word table.now found }
 {
     for (word, kind) in table {
-        if *word == found {
+        if found == *word {
             return Some(*kind);
         }
     }
@@ -163,7 +163,8 @@ pub(crate) fn operator_in(part: Part, source: &Source, at: usize) -> Option<Kind
 
 /// The next tighter level of a level of binary operators; behind the tightest comes a cast.
 pub(crate) fn tighter(part: Part) -> Option<Part>
-    ensures { result ≡ next_level part }
+    ensures next { result ≡ next_level part }
+    ensures level { IfSome result (λ q. level_of part ≡ level_of q + 1) }
 {
     match part {
         Part::LogicalOr => Some(Part::LogicalAnd),

@@ -1,0 +1,11 @@
+use Rattle.cr_exprs.proofs.Runs.{exit, fails, stops, deep, no_memory, finish, goes_on, through, handed}
+use Rattle.cr_syntax.specs.Machine.{suffixes, run_here, run_take, run_pass, run_stop, run_call}
+use Rattle.cr_syntax.specs.MachineBody.{body}
+use Rattle.cr_exprs.proofs.reading.member.Goals as goal
+
+pub returns-in_err-expect-clause-reads : goal.returns-in_err-expect-clause-reads
+returns-in_err-expect-clause-reads c = λ c'. exit c.from_residual.result _ c.from_residual.ensures.1 (stops c.in_err-expect.ensures.err (run_pass c.in_err-expect.ensures.other run_stop))
+
+pub returns-clause-reads : goal.returns-clause-reads
+returns-clause-reads c = λ c'. goes_on (λ t. body (suffixes c.args.depth c.args.start t)) c.over.new.nodes c.over.result c.over.ensures.err c.over.ensures.next c.over.ensures.tree
+    (record { on = λ y r. run_take c.in_ok-expect.ensures.ok tt (run_here (handed y r)) })
