@@ -15,7 +15,7 @@ use Rattle.cr_syntax.specs.Trees.{Trees, none, node, one, ◌&◌, row_of, tree_
 use Rattle.cr_syntax.proofs.Arena.{tree_at}
 use Rattle.cr_exprs.specs.declared.fault.ParseFault.{ParseFault}
 use Rattle.cr_exprs.specs.declared.found.Found.{Found}
-use Rattle.cr_exprs.specs.Answers.{tree, Keeps}
+use Rattle.cr_exprs.specs.Answers.{tree, Keeps, IsRow}
 
 grown_keeps : (ns : List Node) (made : List Trees) (k : ℕ) → k < length made → get_or (grown made ns) k none ≡ get_or made k none
 grown_keeps [] made k lt = refl
@@ -175,3 +175,43 @@ tree_of_pushed old new n k e q l s =
 
 pub ok_tree : (r : Result Found ParseFault) (new : List Node) (t u : Trees) → t ≡ u → IfOk r (λ x. tree new x.node ≡ t) → IfOk r (λ x. tree new x.node ≡ u)
 ok_tree r new t u e h = subst (λ y. IfOk r (λ x. tree new x.node ≡ y)) e h
+
+-- Rows of numbers as the parser's loops make them.
+
+pub below_empty : (ps : List ℕ) (n : ℕ) → ps ≡ [] → AreBelow ps n
+below_empty ps n q = subst (λ x. AreBelow x n) (sym q) (λ i lt. absurd (omega arith))
+
+pub row_empty : (ns : List Node) (ps : List ℕ) → ps ≡ [] → row_in ns ps ≡ none
+row_empty ns ps q = rw q refl
+
+pub row_single : (ns : List Node) (ps : List ℕ) (p : ℕ) → ps ≡ p ∷ [] → row_in ns ps ≡ tree ns p & none
+row_single ns ps p q = rw q refl
+
+pub is_row_single : (ps : List ℕ) (p n : ℕ) → ps ≡ p ∷ [] → p + 1 ≡ n → IsRow ps n
+is_row_single ps p n q r = subst (λ x. IsRow x n) (sym q) (record { below = λ i lt. elim i as (λ j. j < 1 → slice_index (p ∷ []) j < n) [ zero ↦ λ _. omega arith | suc j ↦ λ l. absurd (omega arith) ] lt; some = omega arith; last = r })
+
+pub row_more : (old new : List Node) (ps qs : List ℕ) (p : ℕ) → Keeps old new → AreBelow ps (length old) → qs ≡ ps ++ p ∷ [] → row_in new qs ≡ row_in old ps & tree new p & none
+row_more old new ps qs p h b q = rw q (row_push new ps p ∙ ap (λ x. x & tree new p & none) (row_kept old new ps h b))
+
+below_push : (ps : List ℕ) (p n : ℕ) → AreBelow ps n → p < n → AreBelow (ps ++ p ∷ []) n
+below_push [] p n b lt zero h = lt
+below_push [] p n b lt (suc i) h = absurd (omega arith)
+below_push (q ∷ ps) p n b lt zero h = b 0 (omega arith)
+below_push (q ∷ ps) p n b lt (suc i) h = below_push ps p n (λ j l. b (suc j) (omega arith)) lt i (omega arith)
+
+last_push : (ps : List ℕ) (p : ℕ) → slice_index (ps ++ p ∷ []) (length ps) ≡ p
+last_push [] p = refl
+last_push (q ∷ ps) p = last_push ps p
+
+pub is_row_more : (ps qs : List ℕ) (p m n : ℕ) → AreBelow ps m → m ≤ n → p + 1 ≡ n → qs ≡ ps ++ p ∷ [] → IsRow qs n
+is_row_more ps qs p m n b le r q =
+    let len : length (ps ++ p ∷ []) - 1 ≡ length ps = omega (arith, length-append ps (p ∷ [])) in
+    let all : AreBelow ps n = λ i lt. let below = b i lt in omega arith in
+    subst (λ x. IsRow x n) (sym q) (record {
+      below = below_push ps p n all (omega arith);
+      some = omega (arith, length-append ps (p ∷ []));
+      last = rw (len, last_push ps p) r;
+    })
+
+pub of_row : {k : Kind} {s n : ℕ} {x y : Trees} → x ≡ y → one k s n x ≡ one k s n y
+of_row {k} {s} {n} {x} {y} q = ap (one k s n) q

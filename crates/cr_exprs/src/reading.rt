@@ -757,7 +757,7 @@ fn member(
     requires start { start < left.next }
     requires node { left.node + 1 ≡ length nodes.old }
     ensures reads { (c : Scopes) → Finishes (text_of source.now) (expect plain Word.Identifier depth (suffixed depth start (tree nodes.old left.node & none) kind)) (λ t. body (suffixes depth start t)) c (left.next + 1) nodes.new result }
-    ensures placed { IfOk result (λ x. IsPlaced (length source.now.tokens.now) start nodes.old nodes.new x) }
+    ensures placed { IfOk result (λ x. IsPlaced (length source.now.tokens.now) left.next nodes.old nodes.new x) }
 {
     expect(source, left.next + 1, Word::Identifier, depth)?;
     over(alloc, nodes, kind, start, left.next + 1 + 1, left.node)
