@@ -3,7 +3,7 @@ use Rattle.std.proofs.Common.{◌≡◌, ◌⊎◌, inl, inr, ℕ, ◌+◌, ◌-
 use Rattle.std.specs.List.{slice_get}
 use Rattle.cr_outside.specs.declared.judge.Answer.{Answer}
 use Rattle.cr_outside.specs.declared.judge.Answer.TheVariants.{Yes, No}
-use Rattle.cr_outside.specs.Faults.{Rose}
+use Rattle.cr_outside.proofs.Counts.{rose_earlier}
 use Rattle.cr_outside.specs.Judge.{Call, call_of, with_call}
 use Rattle.cr_reduce.specs.declared.traits.passes.Cursor.{Cursor}
 use Rattle.cr_reduce.specs.Sizes.{HasSize, IsSmaller}
@@ -141,9 +141,6 @@ leads-advances s before now st to earlier (moves step) = leads-moves s before no
 leads-advances s before now st to earlier (round end changed is) =
     let run = record s { before = before } in
     subst (Leads run now st) (sym is) (leads-round run now st end changed)
-
-rose_earlier : (first before now : ℕ) → first ≤ before → Rose before now → Rose first now
-rose_earlier first before now less rose = grind arith
 
 -- A fault of the last step is a fault since the beginning.
 pub ends_earlier : (s : Search) (limit : Option ℕ) (first before now : ℕ) (st : State) (why : Why) → first ≤ before → EndsHere s limit before now st why → EndsHere s limit first now st why
