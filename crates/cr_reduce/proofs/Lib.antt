@@ -1,6 +1,7 @@
 pub mod Numbering
 pub mod Members
 pub mod Reductions
+pub mod OneOutcome
 pub mod Runs
 pub mod Sizes
 pub mod Walks

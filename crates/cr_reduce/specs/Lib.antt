@@ -7,3 +7,4 @@ pub mod Search
 pub mod Walk
 pub mod Ends
 pub mod TokenLaw
+pub mod Laws
