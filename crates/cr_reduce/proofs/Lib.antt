@@ -1,5 +1,6 @@
 pub mod Numbering
 pub mod Members
+pub mod Ranks
 pub mod Reductions
 pub mod OneOutcome
 pub mod Runs
@@ -8,4 +9,5 @@ pub mod Walks
 pub mod Verdicts
 pub mod Traces
 pub mod Ends
+pub mod Bounds
 pub mod TokenReasons

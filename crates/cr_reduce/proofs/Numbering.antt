@@ -16,7 +16,7 @@ back (a ∷ xs) ys i x h =
     let e : length (a ∷ xs) + i ≡ suc (length xs + i) = omega arith in
     subst (λ k. slice_get (a ∷ (xs ++ ys)) k ≡ Some x) (sym e) (back xs ys i x h)
 
-below_or_last : (i n : ℕ) → i < suc n → (i < n) ⊎ (i ≡ n)
+pub below_or_last : (i n : ℕ) → i < suc n → (i < n) ⊎ (i ≡ n)
 below_or_last i n h = search arith
 
 -- lengths

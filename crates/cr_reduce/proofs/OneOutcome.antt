@@ -14,7 +14,7 @@ use Rattle.cr_reduce.specs.Laws.{ExcludeEachOther}
 use Rattle.cr_reduce.proofs.Sizes.{one_size}
 
 -- what is within a limit that is told
-at_most : (limit : Option ℕ) (most turns : ℕ) → limit ≡ Some most → Within limit turns → turns ≤ most
+pub at_most : (limit : Option ℕ) (most turns : ℕ) → limit ≡ Some most → Within limit turns → turns ≤ most
 at_most limit most turns is within = subst (λ l. Within l turns) is within
 
 one_limit : (limit : Option ℕ) (m n : ℕ) → limit ≡ Some m → limit ≡ Some n → m ≡ n

@@ -83,7 +83,8 @@ asks_at_most_once s now st at variant size there is has (inr made) (inr good) =
 pub leads-refl : (s : Search) (now : Option (List Call)) (st : State) → Leads s now st st
 leads-refl s now st = record { later = omega arith; leads = λ after limit out on within rest. rest }
 
-within_less : (limit : Option ℕ) (m n : ℕ) → m ≤ n → Within limit n → Within limit m
+-- fewer turns are within a limit too
+pub within_less : (limit : Option ℕ) (m n : ℕ) → m ≤ n → Within limit n → Within limit m
 within_less None m n less within = tt
 within_less (Some most) m n less within = omega arith
 
