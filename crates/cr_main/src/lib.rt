@@ -12,4 +12,6 @@ pub use settings::{Settings, Source, WordFault, words};
 pub use top::run;
 
 #[cfg(test)]
+mod reduce_tests;
+#[cfg(test)]
 mod tests;
