@@ -1,5 +1,12 @@
 pub mod LineLemmas
-pub mod Names
+pub mod NameLemmas
+pub mod Puts
+pub mod LimitWords
+pub mod WordLists
+pub mod Steps
+pub mod Giving
+pub mod Writes
+pub mod Conclusions
+pub mod Outcomes
+pub mod Asking
 pub mod Files
-pub mod RunFile
-pub mod Limits

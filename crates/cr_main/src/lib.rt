@@ -3,7 +3,11 @@
 //! of it too. Stands on `cr_reduce`, and on the passes: so far the lines pass, a private part of this crate.
 #![tactic(auto)]
 
+mod finish;
 mod lines;
+mod messages;
+mod names;
+mod options;
 mod settings;
 mod top;
 

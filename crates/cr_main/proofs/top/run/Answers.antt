@@ -1,22 +1,16 @@
-use Rattle.std.proofs.Common.{Err, ap}
-use Rattle.cr_main.proofs.RunFile.{not_usage}
+use Rattle.std.proofs.Common.{refl, subst}
+use Rattle.cr_main.specs.Outside.{Says}
+use Rattle.cr_main.specs.Run.Runs.{on_file, refused}
 use Rattle.cr_main.proofs.top.run.Goals as goal
 
-pub returns-in-Ok-clause-usage : goal.returns-in-Ok-clause-usage
-returns-in-Ok-clause-usage g c = λ is.
-    let h = c.in-Ok.ensures.settings in
-    absurd (not_usage c.run_settings.result (c.run_settings.ensures.file h.text h.name h.test_is h.source_is).known is)
+pub returns-in-Ok : goal.returns-in-Ok
+returns-in-Ok g c = record {
+  runs = on_file c.in-Ok.settings c.run_settings.ensures.0 c.in-Ok.ensures.settings c.run_settings.ensures.1 c.run_settings.ensures.2;
+}
 
-pub returns-in-Ok-clause-settings : goal.returns-in-Ok-clause-settings
-returns-in-Ok-clause-settings g c = λ none. let h = c.in-Ok.ensures.settings in absurd (none h.text h.name h.has)
-
-pub returns-in-Ok-clause-unread : goal.returns-in-Ok-clause-unread
-returns-in-Ok-clause-unread g c = λ is.
-    let h = c.in-Ok.ensures.settings in
-    absurd (not_usage c.run_settings.result (c.run_settings.ensures.file h.text h.name h.test_is h.source_is).known is)
-
-pub returns-in-Err-Usage-clause-usage : goal.returns-in-Err-Usage-clause-usage
-returns-in-Err-Usage-clause-usage g c = λ _. c.in-Err-Usage.ensures.usage (ap Err c.in-Err-Usage.field-0-is)
-
-pub returns-in-Err-Usage-clause-file : goal.returns-in-Err-Usage-clause-file
-returns-in-Err-Usage-clause-file g c = λ text name has. absurd (c.in-Err-Usage.ensures.usage (ap Err c.in-Err-Usage.field-0-is) text name has)
+pub returns-in-Err-Usage : goal.returns-in-Err-Usage
+returns-in-Err-Usage g c = record {
+  runs = refused (c.in-Err-Usage.ensures.usage cc) refl refl
+      (subst (λ line. Says (g.O.Sink.told c.args.out.now) (g.O.Sink.told c.put.new.out) (g.O.Sink.faults c.args.out.now) (g.O.Sink.faults c.put.new.out) line 2 2 c.put.result)
+      c.as_bytes.ensures.value c.put.ensures);
+}
