@@ -10,3 +10,7 @@ pub mod Conclusions
 pub mod Outcomes
 pub mod Asking
 pub mod Files
+pub mod Headlines
+pub mod Keeping
+pub mod OneTask
+pub mod Completing

@@ -6,3 +6,5 @@ pub mod Messages
 pub mod Outside
 pub mod Run
 pub mod Requests
+pub mod Headline
+pub mod Laws

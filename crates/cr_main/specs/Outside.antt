@@ -50,6 +50,13 @@ pub data Fails (old new : Outside) (name : List ℕ) (status : ℕ) : Type 0 whe
   call_failed : Rose old.file_faults new.file_faults → Refuses old new (file_fault_line name) 9 status → Fails old new name status
   starved : new.output ≡ old.output → status ≡ 11 → Fails old new name status
 
+-- The file was written, and nothing was put.
+pub record IsWritten (old new : Outside) (name bytes : List ℕ) : Type 0 where
+  pub files : new.files ≡ put_told name bytes old.files
+  pub output : new.output ≡ old.output
+  pub file_faults : old.file_faults ≤ new.file_faults
+  pub output_faults : new.output_faults ≡ old.output_faults
+
 -- What a write came to, where it ended the run: the file was written or not.
 pub record WriteFails (old new : Outside) (name bytes : List ℕ) (status : ℕ) : Type 0 where
   pub files : (new.files ≡ old.files) ⊎ (new.files ≡ put_told name bytes old.files)

@@ -1,5 +1,5 @@
 -- What a run does, and with which status it ends.
-use Rattle.std.specs.Prelude.{◌≡◌, ℕ, Bool, true, List, Option, Some, None}
+use Rattle.std.specs.Prelude.{◌≡◌, ◌≤◌, ℕ, Bool, true, List, Option, Some, None}
 use Rattle.cr_outside.specs.Faults.{Rose}
 use Rattle.cr_outside.specs.Files.{Names, content_of, put_told}
 use Rattle.cr_outside.specs.Judge.{Call}
@@ -21,7 +21,7 @@ use Rattle.cr_log.specs.Texts.{log_text_of, summary_text_of}
 use Rattle.cr_main.specs.declared.settings.Settings.{Settings}
 use Rattle.cr_main.specs.Lines.{lines_bytes, lines_widths}
 use Rattle.cr_main.specs.Messages.{copy_name, failed_line, log_name, no_file_line, no_line, reason_line, reason_status, usage_line}
-use Rattle.cr_main.specs.Outside.{Fails, IsUnchanged, Judging, Outside, Puts, Refuses, WriteFails}
+use Rattle.cr_main.specs.Outside.{Fails, IsUnchanged, IsWritten, Judging, Outside, Puts, Refuses, WriteFails}
 use Rattle.cr_main.specs.Words.{HasNone, HasSettings, IsOwnName, Word, name_of}
 
 -- What a run is asked to do: the test, the most turns, the file's name, and the name under which the test sees it; and
@@ -69,6 +69,7 @@ pub record IsAsked (t : Task) (files : Option Names) (before after : Judging) (b
   pub has : FileHas files t.name bytes
   pub lawful : IsTokenized bytes
   pub calls : CallsAbout before.calls after.calls t.own bytes
+  pub later : before.faults ≤ after.faults
 
 -- It was answered so: by a call of this run, where the test is a program, and as told, where the answer is told.
 pub record IsAnswered (t : Task) (files : Option Names) (before after : Judging) (bytes : List ℕ) (answer : Answer) : Type 0 where
@@ -102,8 +103,8 @@ pub data Concludes (name : List ℕ) (old new : Outside) (end : End) (old_size s
   -- 9: the result was not written
   unwritten : WriteFails old new name end.file.items status → Concludes name old new end old_size size status
   -- 9: the log was not written
-  unlogged : (written : Outside) → written.files ≡ put_told name end.file.items old.files → written.output ≡ old.output
-      → WriteFails written new (log_name name) (log_text_of end size) status → Concludes name old new end old_size size status
+  unlogged : (written : Outside) → IsWritten old written name end.file.items → WriteFails written new (log_name name) (log_text_of end size) status
+      → Concludes name old new end old_size size status
   -- 0, 7 or 8 as the reduction ended, and 10 where the summary was not put whole
   summed_up : new.files ≡ put_told (log_name name) (log_text_of end size) (put_told name end.file.items old.files)
       → Puts old new (summary_text_of name old_size size end) (end_status end.why) 10 status → Concludes name old new end old_size size status
@@ -115,7 +116,7 @@ pub data Finishes (t : Task) (old new : Outside) (before after : Judging) (bytes
   -- 9: the copy was not written
   uncopied : WriteFails old new (copy_name t.name) bytes status → after.calls ≡ before.calls → Finishes t old new before after bytes status
   -- 0, 7, 8, 9, 10: the copy was written, and the bytes were reduced
-  reduced : (copied : Outside) (end : End) (old_size size : ℕ) → copied.files ≡ put_told (copy_name t.name) bytes old.files → copied.output ≡ old.output
+  reduced : (copied : Outside) (end : End) (old_size size : ℕ) → IsWritten old copied (copy_name t.name) bytes
       → IsReduction t before after bytes end → HasSize bytes old_size → HasSize end.file.items size
       → Concludes t.name copied new end old_size size status → Finishes t old new before after bytes status
 

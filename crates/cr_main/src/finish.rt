@@ -1,12 +1,11 @@
 // What comes once the test has said yes to the bytes read: the copy, the reduction, the result, the log, the summary.
 ghost use Rattle.std.specs.Prelude.{◌≡◌, ◌≢◌, ◌≤◌, ℕ, ◌++◌, All, IfOk, None, Some};
-ghost use Rattle.cr_outside.specs.Files.{put_told};
 ghost use Rattle.cr_reduce.specs.Bench.{first_calls, first_count, first_says};
 ghost use Rattle.cr_reduce.specs.Sizes.{HasSize};
 ghost use Rattle.cr_reduce.specs.TokenLaw.{IsTokenized};
 ghost use Rattle.cr_reduce.specs.declared.end.Why.{Why};
 ghost use Rattle.cr_log.specs.Texts.{log_text_of, summary_text_of};
-ghost use Rattle.cr_main.specs.Outside.{WriteFails, judging_of, outside_of};
+ghost use Rattle.cr_main.specs.Outside.{IsWritten, WriteFails, judging_of, outside_of};
 ghost use Rattle.cr_main.specs.Requests.{task_for};
 ghost use Rattle.cr_main.specs.Run.{Concludes, Finishes, end_status};
 
@@ -150,8 +149,9 @@ fn write<F: Files, O: Sink>(
     name: &str,
     bytes: &[u8],
 ) -> Option<u8>
-    ensures written { result ≡ None → F.told files.new ≡ put_told name.now bytes.now (F.told files.old) }
-    ensures silent { result ≡ None → out.new ≡ out.old }
+    ensures written { result ≡ None → IsWritten
+        (outside_of (F.told files.old) (F.faults files.old) (O.told out.old) (O.faults out.old))
+        (outside_of (F.told files.new) (F.faults files.new) (O.told out.new) (O.faults out.new)) name.now bytes.now }
     ensures failed { (status : ℕ) → result ≡ Some status → WriteFails
         (outside_of (F.told files.old) (F.faults files.old) (O.told out.old) (O.faults out.old))
         (outside_of (F.told files.new) (F.faults files.new) (O.told out.new) (O.faults out.new)) name.now bytes.now status }
@@ -172,8 +172,9 @@ fn write_beside<F: Files, O: Sink>(
     ending: &str,
     bytes: &[u8],
 ) -> Option<u8>
-    ensures written { result ≡ None → F.told files.new ≡ put_told (name.now ++ ending.now) bytes.now (F.told files.old) }
-    ensures silent { result ≡ None → out.new ≡ out.old }
+    ensures written { result ≡ None → IsWritten
+        (outside_of (F.told files.old) (F.faults files.old) (O.told out.old) (O.faults out.old))
+        (outside_of (F.told files.new) (F.faults files.new) (O.told out.new) (O.faults out.new)) (name.now ++ ending.now) bytes.now }
     ensures failed { (status : ℕ) → result ≡ Some status → WriteFails
         (outside_of (F.told files.old) (F.faults files.old) (O.told out.old) (O.faults out.old))
         (outside_of (F.told files.new) (F.faults files.new) (O.told out.new) (O.faults out.new)) (name.now ++ ending.now) bytes.now status }

@@ -4,6 +4,7 @@
 #![tactic(auto)]
 
 mod finish;
+mod laws;
 mod lines;
 mod messages;
 mod names;
@@ -11,6 +12,7 @@ mod options;
 mod settings;
 mod top;
 
+pub use laws::words_are_read_in_one_way;
 pub use lines::LinesPass;
 pub use settings::{Settings, Source, WordFault, words};
 pub use top::run;

@@ -1,9 +1,10 @@
 // The top call.
-ghost use Rattle.std.specs.Prelude.{◌≡◌, ℕ, List};
+ghost use Rattle.std.specs.Prelude.{◌≡◌, ◌⊎◌, ℕ, List};
 ghost use Rattle.cr_outside.specs.declared.files.ReadAnswer.TheVariants.{Bytes};
 ghost use Rattle.cr_outside.specs.Files.{Reads};
 ghost use Rattle.cr_reduce.specs.Bench.{first_calls, first_count, first_says};
 ghost use Rattle.cr_reduce.specs.TokenLaw.{IsTokenized};
+ghost use Rattle.cr_main.specs.Headline.{Completes, IsHeadline, KeepsFiles};
 ghost use Rattle.cr_main.specs.Outside.{judging_of, outside_of};
 ghost use Rattle.cr_main.specs.Requests.{task_for};
 ghost use Rattle.cr_main.specs.Run.{FileHas, Runs, RunsBytes, RunsFile, task_of};
@@ -39,8 +40,27 @@ pub fn run<F: Files, J: Judge, O: Sink>(
     bench: &mut Bench<J>,
     out: &mut O,
 ) -> u8
-    // Each status comes exactly at its place and with its cause; at 0 and 7 the headline holds.
+    // Each status comes exactly at its place and with its cause.
     ensures runs { Runs (texts_of list.now) (first_says J.key J.says bench.old)
+        (outside_of (F.told files.old) (F.faults files.old) (O.told out.old) (O.faults out.old))
+        (outside_of (F.told files.new) (F.faults files.new) (O.told out.new) (O.faults out.new))
+        (judging_of (first_calls J.calls bench.old) (first_count J.faults bench.old))
+        (judging_of (first_calls J.calls bench.new) (first_count J.faults bench.new)) result }
+
+    // At 0 and 7 the headline holds.
+    ensures headline { (result ≡ 0) ⊎ (result ≡ 7) → IsHeadline (texts_of list.now) (first_says J.key J.says bench.old)
+        (outside_of (F.told files.old) (F.faults files.old) (O.told out.old) (O.faults out.old))
+        (outside_of (F.told files.new) (F.faults files.new) (O.told out.new) (O.faults out.new)) result }
+
+    // At every status the file holds its old bytes, or the result's with the bytes read in its copy.
+    ensures files_kept { KeepsFiles (texts_of list.now) (first_says J.key J.says bench.old)
+        (outside_of (F.told files.old) (F.faults files.old) (O.told out.old) (O.faults out.old))
+        (outside_of (F.told files.new) (F.faults files.new) (O.told out.new) (O.faults out.new))
+        (judging_of (first_calls J.calls bench.old) (first_count J.faults bench.old))
+        (judging_of (first_calls J.calls bench.new) (first_count J.faults bench.new)) }
+
+    // Completeness: with all that it needs, it ends with 0, or for want of memory.
+    ensures completes { Completes (texts_of list.now) (first_says J.key J.says bench.old)
         (outside_of (F.told files.old) (F.faults files.old) (O.told out.old) (O.faults out.old))
         (outside_of (F.told files.new) (F.faults files.new) (O.told out.new) (O.faults out.new))
         (judging_of (first_calls J.calls bench.old) (first_count J.faults bench.old))

@@ -1,12 +1,11 @@
-use Rattle.std.proofs.Common.{ap, arith, refl, subst, ◌∙◌}
-use Rattle.cr_outside.specs.Files.{put_told}
+use Rattle.std.proofs.Common.{arith, refl, subst}
 use Rattle.cr_reduce.specs.Bench.{first_calls, first_says}
 use Rattle.cr_reduce.specs.Reduction.{start_of}
 use Rattle.cr_reduce.specs.Search.{AcceptsInRun, ReducesInRun, RejectsInRun, Search}
 use Rattle.cr_reduce.specs.Ends.{outcome_of}
 use Rattle.cr_reduce.specs.Sizes.{HasSize}
 use Rattle.cr_main.specs.Messages.{copy_name}
-use Rattle.cr_main.specs.Outside.{WriteFails, outside_of}
+use Rattle.cr_main.specs.Outside.{IsWritten, WriteFails, outside_of}
 use Rattle.cr_main.specs.Requests.{task_for}
 use Rattle.cr_main.specs.Run.{search_for}
 use Rattle.cr_main.specs.Run.Finishes.{uncopied, reduced}
@@ -37,8 +36,10 @@ pub returns : goal.returns
 returns g c = reduced
     (outside_of (g.F.Files.told c.write_beside.new.files) (g.F.Files.faults c.write_beside.new.files) (g.O.Sink.told c.write_beside.new.out) (g.O.Sink.faults c.write_beside.new.out))
     c.reduce-end.result c.in-Ok.old_size c.conclude.ensures.0
-    (c.in_default.ensures.written refl ∙ ap (λ b. put_told (copy_name c.args.request.name.now) b (g.F.Files.told c.args.files.now)) c.deref-2.ensures.value)
-    (ap g.O.Sink.told (c.in_default.ensures.silent refl))
+    (subst (λ b. IsWritten
+    (outside_of (g.F.Files.told c.args.files.now) (g.F.Files.faults c.args.files.now) (g.O.Sink.told c.args.out.now) (g.O.Sink.faults c.args.out.now))
+    (outside_of (g.F.Files.told c.write_beside.new.files) (g.F.Files.faults c.write_beside.new.files) (g.O.Sink.told c.write_beside.new.out) (g.O.Sink.faults c.write_beside.new.out))
+    (copy_name c.args.request.name.now) b) c.deref-2.ensures.value (c.in_default.ensures.written refl))
     (record {
       chain = c.reduce-end.ensures.chain;
       all_rejected = c.reduce-end.ensures.all_rejected;

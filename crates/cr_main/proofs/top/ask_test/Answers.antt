@@ -21,6 +21,7 @@ returns-in-Yes g c = interesting c.args.bytes.items
             (first_calls g.J.Judge.calls c.args.bench.now) (first_calls g.J.Judge.calls c.ask_first.new.self) c.args.request.own.now c.args.bytes.items Yes
             (λ uses. subst (λ b. AsksOnce (first_calls g.J.Judge.calls c.args.bench.now) (first_calls g.J.Judge.calls c.ask_first.new.self) c.args.request.own.now b Yes) c.deref.ensures.value (c.in-Yes.ensures.once uses))
             (λ quiet. ap (first_calls g.J.Judge.calls) (c.in-Yes.ensures.silent quiet));
+        later = c.in-Yes.ensures.later;
       });
       answered = answered_yes (asks_test c.args.request.test.now) (tells_for (task_for c.args.request (first_says g.J.Judge.key g.J.Judge.says c.args.bench.now))) c.args.request.own.now
           (first_calls g.J.Judge.calls c.args.bench.now) (first_calls g.J.Judge.calls c.ask_first.new.self) c.args.bytes.items
@@ -43,6 +44,7 @@ returns-in-No g c = uninteresting c.args.bytes.items (record {
         (first_calls g.J.Judge.calls c.args.bench.now) (first_calls g.J.Judge.calls c.ask_first.new.self) c.args.request.own.now c.args.bytes.items No
         (λ uses. subst (λ b. AsksOnce (first_calls g.J.Judge.calls c.args.bench.now) (first_calls g.J.Judge.calls c.ask_first.new.self) c.args.request.own.now b No) c.deref.ensures.value (c.in-No.ensures.once uses))
         (λ quiet. ap (first_calls g.J.Judge.calls) (c.in-No.ensures.silent quiet));
+    later = c.in-No.ensures.later;
   });
   answered = answered_no (asks_test c.args.request.test.now) (tells_for (task_for c.args.request (first_says g.J.Judge.key g.J.Judge.says c.args.bench.now))) c.args.request.own.now
       (first_calls g.J.Judge.calls c.args.bench.now) (first_calls g.J.Judge.calls c.ask_first.new.self) c.args.bytes.items
@@ -58,6 +60,7 @@ returns-in-Failed g c = test_failed c.args.bytes.items (record {
       (first_calls g.J.Judge.calls c.args.bench.now) (first_calls g.J.Judge.calls c.ask_first.new.self) c.args.request.own.now c.args.bytes.items Failed
       (λ uses. subst (λ b. AsksOnce (first_calls g.J.Judge.calls c.args.bench.now) (first_calls g.J.Judge.calls c.ask_first.new.self) c.args.request.own.now b Failed) c.deref.ensures.value (c.in-Failed.ensures.once uses))
       (λ quiet. ap (first_calls g.J.Judge.calls) (c.in-Failed.ensures.silent quiet));
+  later = c.in-Failed.ensures.later;
 }) (must_ask (asks_test c.args.request.test.now) c.in-Failed.ensures.unfailing) (c.in-Failed.ensures.failed refl) refl c.refuse-in-Failed.ensures
 
 pub returns-in-NoMemory : goal.returns-in-NoMemory
@@ -68,4 +71,5 @@ returns-in-NoMemory g c = unanswered c.args.bytes.items (record {
       (first_calls g.J.Judge.calls c.args.bench.now) (first_calls g.J.Judge.calls c.ask_first.new.self) c.args.request.own.now c.args.bytes.items NoMemory
       (λ uses. subst (λ b. AsksOnce (first_calls g.J.Judge.calls c.args.bench.now) (first_calls g.J.Judge.calls c.ask_first.new.self) c.args.request.own.now b NoMemory) c.deref.ensures.value (c.in-NoMemory.ensures.once uses))
       (λ quiet. ap (first_calls g.J.Judge.calls) (c.in-NoMemory.ensures.silent quiet));
+  later = c.in-NoMemory.ensures.later;
 }) refl refl
