@@ -14,3 +14,4 @@ pub mod Headlines
 pub mod Keeping
 pub mod OneTask
 pub mod Completing
+pub mod Askings

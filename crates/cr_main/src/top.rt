@@ -4,7 +4,7 @@ ghost use Rattle.cr_outside.specs.declared.files.ReadAnswer.TheVariants.{Bytes};
 ghost use Rattle.cr_outside.specs.Files.{Reads};
 ghost use Rattle.cr_reduce.specs.Bench.{first_calls, first_count, first_says};
 ghost use Rattle.cr_reduce.specs.TokenLaw.{IsTokenized};
-ghost use Rattle.cr_main.specs.Headline.{Completes, IsHeadline, KeepsFiles};
+ghost use Rattle.cr_main.specs.Headline.{AsksOnly, Completes, IsHeadline, KeepsFiles};
 ghost use Rattle.cr_main.specs.Outside.{judging_of, outside_of};
 ghost use Rattle.cr_main.specs.Requests.{task_for};
 ghost use Rattle.cr_main.specs.Run.{FileHas, Runs, RunsBytes, RunsFile, task_of};
@@ -56,6 +56,12 @@ pub fn run<F: Files, J: Judge, O: Sink>(
     ensures files_kept { KeepsFiles (texts_of list.now) (first_says J.key J.says bench.old)
         (outside_of (F.told files.old) (F.faults files.old) (O.told out.old) (O.faults out.old))
         (outside_of (F.told files.new) (F.faults files.new) (O.told out.new) (O.faults out.new))
+        (judging_of (first_calls J.calls bench.old) (first_count J.faults bench.old))
+        (judging_of (first_calls J.calls bench.new) (first_count J.faults bench.new)) }
+
+    // The test is asked about nothing but the file and smaller, lawful variants of the chain's files.
+    ensures asks_only { AsksOnly (texts_of list.now) (first_says J.key J.says bench.old)
+        (outside_of (F.told files.old) (F.faults files.old) (O.told out.old) (O.faults out.old))
         (judging_of (first_calls J.calls bench.old) (first_count J.faults bench.old))
         (judging_of (first_calls J.calls bench.new) (first_count J.faults bench.new)) }
 
