@@ -250,10 +250,12 @@ fn ends_so(alloc: Global, setup: &Setup, wanted: &Wanted) -> Result<bool, AllocE
     let Some(end) = end_of(alloc, setup, wanted.limit)? else {
         return Ok(false);
     };
-    Ok(end.file.as_slice() == wanted.after.as_bytes()
-        && end.accepted.as_slice() == wanted.accepted
-        && end.turns == wanted.turns
-        && end.why == wanted.why)
+    Ok(
+        end.file.as_slice() == wanted.after.as_bytes()
+            && end.accepted.as_slice() == wanted.accepted
+            && end.turns == wanted.turns
+            && end.why == wanted.why,
+    )
 }
 
 #[test]

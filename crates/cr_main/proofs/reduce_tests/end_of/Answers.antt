@@ -5,9 +5,11 @@ use Rattle.cr_main.proofs.reduce_tests.end_of.Goals as goal
 
 pub reduce-end-requires-clause-tokenizes : goal.reduce-end-requires-clause-tokenizes
 reduce-end-requires-clause-tokenizes c =
-    let tokens = c.in-Ok-read._tokens.list.items in
-    (size_of c.in_ok-file.file.items tokens, record {
-      tokens = tokens;
-      tokenizes = subst (λ file. Tokenizes file tokens) c.deref.ensures.value c.in-Ok-read.ensures.list;
-      is = refl;
-    })
+    let tokens = c.in-Ok-read._tokens.list.items in (
+      size_of c.in_ok-file.file.items tokens,
+      record {
+        tokens = tokens;
+        tokenizes = subst (λ file. Tokenizes file tokens) c.deref.ensures.value c.in-Ok-read.ensures.list;
+        is = refl;
+      },
+    )
