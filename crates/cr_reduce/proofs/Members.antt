@@ -1,5 +1,5 @@
 -- What stands among the cursors, and where.
-use Rattle.std.proofs.Common.{◌≡◌, ℕ, zero, suc, ◌+◌, ◌<◌, ◌≤◌, ◌⊎◌, inl, inr, List, [], ◌∷◌, ◌++◌, length, min, Option, Some, None, subst, sym, ap, refl, arith}
+use Rattle.std.proofs.Common.{◌≡◌, ℕ, zero, suc, ◌+◌, ◌<◌, ◌≤◌, ◌⊎◌, inl, inr, List, [], ◌∷◌, ◌++◌, length, Some, subst, sym, ap, refl, arith}
 use Rattle.std.specs.List.{slice_get}
 use Rattle.cr_reduce.specs.declared.traits.passes.Cursor.{Cursor}
 use Rattle.cr_reduce.specs.Variants.{Widths, cursor, level_cursors, pass_cursors, cursors_below, cursors, place_of}

@@ -1,5 +1,5 @@
 -- The numbers of cursors: how many stand before a level, and which one stands at a place.
-use Rattle.std.proofs.Common.{◌≡◌, ℕ, zero, suc, ◌+◌, ◌-◌, ◌<◌, ◌≤◌, List, [], ◌∷◌, ◌++◌, length, Some, subst, sym, ap, ◌∙◌, refl, arith, zero-add, add-one, ◌⊎◌, inl, inr}
+use Rattle.std.proofs.Common.{◌≡◌, ℕ, zero, suc, ◌+◌, ◌<◌, List, [], ◌∷◌, ◌++◌, length, Some, subst, sym, ap, ◌∙◌, refl, arith, zero-add, add-one, ◌⊎◌, inl, inr}
 use Rattle.std.specs.List.{slice_get}
 use Rattle.std.proofs.lemmas.List.{length-append}
 use Rattle.cr_reduce.specs.declared.traits.passes.Cursor.{Cursor}

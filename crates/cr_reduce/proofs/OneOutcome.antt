@@ -1,6 +1,6 @@
 -- A reduction has one outcome at most.
-use Rattle.std.proofs.Common.{◌≡◌, ℕ, ◌+◌, ◌<◌, ◌≤◌, ◌⊎◌, inl, inr, Bool, true, false, List, length, Option, Some, subst, sym, ap, ◌∙◌, refl, arith}
-use Rattle.std.proofs.lemmas.Bool.{true≢false}
+use Rattle.std.proofs.Common.{◌≡◌, ℕ, ◌<◌, ◌≤◌, inl, inr, Bool, true, false, List, length, Option, Some, subst, sym, ap, ◌∙◌, arith}
+use Rattle.std.proofs.lemmas.Bool.{cases_lt, true≢false}
 use Rattle.std.proofs.lemmas.Option.{slice_get_within}
 use Rattle.std.specs.List.{slice_get}
 use Rattle.cr_reduce.specs.declared.traits.passes.Cursor.{Cursor}
@@ -23,13 +23,10 @@ one_limit limit m n first second = cc
 -- An accepted position isn't among rejected ones.
 not_among : (p : Proposals) (A R : Trial) (file : List ℕ) (from position to : ℕ) (at : Cursor) → ExcludeEachOther A R → IsFirstAccepted p A R file from position at
     → AllRejected p R file from to → to ≤ position
-not_among p A R file from position to at apart first all = elim (sides position to) [
+not_among p A R file from position to at apart first all = elim (cases_lt position to) [
   | inl early ↦ absurd (apart file (p.bytes file at) first.accepted (all position at first.after early first.there))
   | inr late ↦ late
 ]
-  where
-    sides : (i n : ℕ) → (i < n) ⊎ (n ≤ i)
-    sides i n = search arith
 
 inside : (p : Proposals) (A R : Trial) (file : List ℕ) (from position : ℕ) (at : Cursor) → IsFirstAccepted p A R file from position at → position < length (cursors_of p file)
 inside p A R file from position at first = slice_get_within (cursors_of p file) position at first.there

@@ -1,9 +1,9 @@
 -- The order of cursors, whatever the widths are: a cursor's rank among as many indices as the size for each level.
-use Rattle.std.proofs.Common.{◌≡◌, ℕ, zero, suc, ◌+◌, ◌*◌, ◌<◌, ◌≤◌, ◌⊎◌, inl, inr, List, length, min, Some, subst, sym, ap, ◌∙◌, arith}
+use Rattle.std.proofs.Common.{◌≡◌, ℕ, zero, suc, ◌+◌, ◌*◌, ◌<◌, ◌≤◌, inl, inr, length, subst, sym, ap, ◌∙◌, arith}
 use Rattle.std.proofs.Math.Nat.{mul-le-mul_right, suc-mul}
-use Rattle.std.specs.List.{slice_get}
+use Rattle.std.proofs.lemmas.Bool.{cases_lt, cases_order}
 use Rattle.cr_reduce.specs.declared.traits.passes.Cursor.{Cursor}
-use Rattle.cr_reduce.specs.Variants.{Widths, cursors, cursors_below, pass_cursors, place_of}
+use Rattle.cr_reduce.specs.Variants.{Widths, cursors_below, pass_cursors, place_of}
 use Rattle.cr_reduce.specs.Bound.{levels_below}
 use Rattle.cr_reduce.proofs.Numbering.{below_or_last}
 use Rattle.cr_reduce.proofs.Members.{IsBelow, level_fits, pass_fits}
@@ -28,9 +28,6 @@ earlier size k m i j less few =
     let steps : suc k * size ≤ m * size = mul-le-mul_right size less in
     omega (arith, steps, suc-mul k size)
 
-three : (i n : ℕ) → (i < n) ⊎ (i ≡ n) ⊎ (n < i)
-three i n = search arith
-
 earlier_pass : (levels : ℕ → ℕ) (a c : Cursor) → a.level < levels a.pass → a.pass < c.pass → step_of levels a < step_of levels c
 earlier_pass levels a c below pass = omega (arith, levels_fit levels a.pass c.pass pass)
 
@@ -39,20 +36,17 @@ earlier_level levels a c same level = omega (arith, ap (levels_below levels) sam
 
 -- what has variants is a level of its pass
 pub is_level : (levels : ℕ → ℕ) (w : Widths) → ((pass level : ℕ) → levels pass ≤ level → w pass level ≡ 0) → (c : Cursor) → c.index < w c.pass c.level → c.level < levels c.pass
-is_level levels w none c index = elim (sides c.level (levels c.pass)) [
+is_level levels w none c index = elim (cases_lt c.level (levels c.pass)) [
   | inl below ↦ below
   | inr above ↦ absurd (omega (arith, none c.pass c.level above))
 ]
-  where
-    sides : (i n : ℕ) → (i < n) ⊎ (n ≤ i)
-    sides i n = search arith
 
 -- in one pass
 rises_in_pass : (levels : ℕ → ℕ) (size : ℕ) (w : Widths) (a c : Cursor) (j : ℕ) → a.index ≤ size → IsBelow w 10 16 j c → place_of w a ≤ j → a.pass ≡ c.pass
     → rank_of levels size a ≤ rank_of levels size c
-rises_in_pass levels size w a c j few at behind same = elim (three a.level c.level) [
-  | inl less ↦ earlier size (step_of levels a) (step_of levels c) a.index c.index (earlier_level levels a c same less) few
-  | inr (inl level) ↦
+rises_in_pass levels size w a c j few at behind same = elim (cases_order a.level c.level) [
+  | inr (inl less) ↦ earlier size (step_of levels a) (step_of levels c) a.index c.index (earlier_level levels a c same less) few
+  | inl level ↦
       let before = ap (λ q. length (cursors_below w q)) same in
       let levels_before = ap (λ q. length (pass_cursors w q a.level)) same ∙ ap (λ l. length (pass_cursors w c.pass l)) level in
       let width = ap (λ q. w q a.level) same ∙ ap (λ l. w c.pass l) level in
@@ -67,9 +61,9 @@ rises_in_pass levels size w a c j few at behind same = elim (three a.level c.lev
 -- What stands at or behind the place of a cursor has at least its rank.
 pub rises : (levels : ℕ → ℕ) (size : ℕ) (w : Widths) (a c : Cursor) (j : ℕ) → a.level < levels a.pass → a.index ≤ size → IsBelow w 10 16 j c → place_of w a ≤ j
     → rank_of levels size a ≤ rank_of levels size c
-rises levels size w a c j level few at behind = elim (three a.pass c.pass) [
-  | inl less ↦ earlier size (step_of levels a) (step_of levels c) a.index c.index (earlier_pass levels a c level less) few
-  | inr (inl same) ↦ rises_in_pass levels size w a c j few at behind same
+rises levels size w a c j level few at behind = elim (cases_order a.pass c.pass) [
+  | inr (inl less) ↦ earlier size (step_of levels a) (step_of levels c) a.index c.index (earlier_pass levels a c level less) few
+  | inl same ↦ rises_in_pass levels size w a c j few at behind same
   | inr (inr more) ↦ absurd (omega (arith, at.place, at.index, level_fits w c.pass c.level 16 at.level, pass_fits w c.pass a.pass more))
 ]
 

@@ -1,17 +1,16 @@
 -- The numbers of a walk, and what its steps complete.
-use Rattle.std.proofs.Common.{◌≡◌, ◌⊎◌, inl, inr, ℕ, ◌+◌, ◌-◌, ◌*◌, ◌<◌, ◌≤◌, Bool, true, false, List, ◌∷◌, ◌++◌, length, Option, Some, None, subst, sym, refl, arith}
+use Rattle.std.proofs.Common.{◌≡◌, ◌⊎◌, inl, inr, ℕ, ◌+◌, ◌*◌, ◌<◌, ◌≤◌, Bool, true, false, List, length, Option, Some, None, subst, sym, refl, arith}
 use Rattle.std.specs.List.{slice_get}
-use Rattle.cr_outside.specs.declared.judge.Answer.{Answer}
 use Rattle.cr_outside.specs.declared.judge.Answer.TheVariants.{Yes, No}
 use Rattle.cr_outside.proofs.Counts.{rose_earlier}
 use Rattle.cr_outside.specs.Judge.{Call, call_of, with_call}
 use Rattle.cr_reduce.specs.declared.traits.passes.Cursor.{Cursor}
 use Rattle.cr_reduce.specs.Sizes.{HasSize, IsSmaller}
-use Rattle.cr_reduce.specs.Trials.{AnswerInRun, CallsAbout, IsBad, IsGood, IsAccepted, IsRejected, GoesOn}
+use Rattle.cr_reduce.specs.Trials.{AnswerInRun, CallsAbout, IsBad, IsGood, GoesOn}
 use Rattle.cr_reduce.specs.Trials.IsRejected.{not_smaller, unlawful, answered_no}
-use Rattle.cr_reduce.specs.Reduction.{State, Outcome, Within, cursors_of, moved, taken, next_round, Reduces}
+use Rattle.cr_reduce.specs.Reduction.{State, Within, cursors_of, moved, taken, next_round}
 use Rattle.cr_reduce.specs.Reduction.Reduces.{new_round}
-use Rattle.cr_reduce.specs.Search.{Search, ReducesInRun, AcceptsInRun, RejectsInRun}
+use Rattle.cr_reduce.specs.Search.{Search, AcceptsInRun, RejectsInRun}
 use Rattle.cr_reduce.specs.declared.end.Why.{Why}
 use Rattle.cr_reduce.specs.declared.end.Why.TheVariants.{Fixed, Limit, Fault, NoMemory}
 use Rattle.cr_reduce.specs.Walk.{left_of, MovesOn, AsksAtMostOnce, Leads, IsHalt, EndsHere, Advances}
@@ -19,7 +18,7 @@ use Rattle.cr_reduce.specs.Walk.Advances.{moves, round}
 use Rattle.cr_reduce.specs.Walk.MovesOn.{rejected, accepted}
 use Rattle.cr_reduce.specs.Walk.AsksAtMostOnce.{not_asked, asked}
 use Rattle.cr_reduce.proofs.Sizes.{one_size}
-use Rattle.cr_reduce.proofs.Runs.{goes_on-refl, goes_on-trans, answer_in_run-later, answer_in_run-earlier}
+use Rattle.cr_reduce.proofs.Runs.{goes_on-trans, answer_in_run-later, answer_in_run-earlier}
 use Rattle.cr_reduce.proofs.Reductions.{skip, take_next}
 
 pub left_low : (changed : Bool) (size count position : ℕ) → size * 1073741824 ≤ left_of changed size count position
