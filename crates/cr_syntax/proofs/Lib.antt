@@ -6,4 +6,6 @@ pub mod Ranks
 pub mod Complete
 pub mod Arena
 pub mod Statements
+pub mod Readings
+pub mod Turns
 pub mod Examples

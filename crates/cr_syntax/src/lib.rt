@@ -7,6 +7,7 @@
 //! tokens, the integer types and the rows.
 #![tactic(auto)]
 
+mod ahead;
 mod chains;
 mod laws;
 mod node;
@@ -17,6 +18,7 @@ mod scopes;
 mod shape;
 mod source;
 mod symbol;
+mod turn;
 mod typed;
 mod unit;
 mod word;
