@@ -7,5 +7,6 @@ pub mod Complete
 pub mod Arena
 pub mod Statements
 pub mod Readings
+pub mod Checked
 pub mod Turns
 pub mod Examples

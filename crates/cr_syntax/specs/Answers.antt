@@ -1,5 +1,5 @@
 -- What the checker's functions answer.
-use Rattle.std.specs.Prelude.{◌≡◌, ℕ, ◌+◌, ◌<◌, Bool, true, false, List, [], ◌∷◌, Option, None, Some, Result, Ok, Err, length, drop, slice_index}
+use Rattle.std.specs.Prelude.{◌≡◌, ℕ, ◌+◌, ◌<◌, Bool, true, false, List, [], ◌∷◌, Option, None, Some, Result, Ok, Err, length, drop, slice_index, if◌then◌else◌}
 use Rattle.cr_syntax.specs.declared.node.Node.{Node}
 use Rattle.cr_syntax.specs.declared.source.Source.{Source}
 use Rattle.cr_syntax.specs.declared.ahead.Ahead.{Ahead}
@@ -14,6 +14,8 @@ use Rattle.cr_syntax.specs.Words.{Lexeme, lexemes_of, AreSpans}
 use Rattle.cr_syntax.specs.Scopes.{Scopes}
 use Rattle.cr_syntax.specs.Trees.{Trees, node}
 use Rattle.cr_syntax.specs.Kept.{AreBelow, PartsAreBelow, row_in}
+use Rattle.cr_syntax.specs.Context.{fits_together}
+use Rattle.cr_syntax.specs.Tables.{side_of}
 use Rattle.cr_syntax.specs.Spells.{levels}
 use Rattle.cr_syntax.specs.Reads.{reads, parts_of, as_part, leads, next_of, list_on}
 use Rattle.cr_syntax.specs.Steps.{part_on, before_on, else_on, prototype_from, size_from}
@@ -58,6 +60,12 @@ led_of s q a p c = leads (text_of s) (trees_in s a) q p.context c p.depth p.at
 -- a node as a part, by so many links at most
 abbrev pub part_of_node : Source → Node → ℕ → Part → Place → Scopes → Option Scopes
 part_of_node s n links q p c = as_part (text_of s) (reads (text_of s) (row_in s.nodes.now n.parts)) links q p.context c p.depth n.kind n.first (n.last + 1) (row_in s.nodes.now n.parts)
+
+-- a node by its own alternative
+abbrev pub made_of : Source → Node → Place → Scopes → Option Scopes
+made_of s n p c =
+    let t = row_in s.nodes.now n.parts in
+    if fits_together n.kind t then reads (text_of s) t (side_of n.kind) p.context c p.depth n.first (n.last + 1) else None
 
 -- what a symbol comes to before a part is read, where its scopes became e
 abbrev pub TurnsTo : Source → Symbol → Ahead → Place → Scopes → Scopes → Turn → Type 0

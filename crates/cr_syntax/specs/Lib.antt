@@ -12,3 +12,4 @@ pub mod Reads
 pub mod Steps
 pub mod Answers
 pub mod Laws
+pub mod Checked

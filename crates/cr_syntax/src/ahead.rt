@@ -1,4 +1,4 @@
-ghost use Rattle.std.specs.Prelude.{◌≡◌, ◌≤◌, ◌<◌, ◌-◌, ℕ, false, length};
+ghost use Rattle.std.specs.Prelude.{◌≡◌, ◌≤◌, ◌<◌, ◌-◌, ◌==◌, ◌&&◌, ℕ, false, length};
 ghost use Rattle.cr_syntax.specs.Kept.{AreBelow, row_in};
 ghost use Rattle.cr_syntax.specs.Context.{past_part};
 ghost use Rattle.cr_syntax.specs.Reads.{is_none, first_of, after_of, alone, next_of, leads_declaration};
@@ -26,6 +26,15 @@ pub fn is_none(source: &Source, ahead: &Ahead) -> bool
     ensures some { result ≡ false → 0 < length ahead.now.row.now }
 {
     first(source.nodes, ahead.row).is_none()
+}
+
+/// Whether no node is ahead and the place is the end.
+pub fn is_done(source: &Source, ahead: &Ahead, place: Place) -> bool
+    requires readable { IsReadable source.now }
+    requires row { AreBelow ahead.now.row.now (length source.now.nodes.now) }
+    ensures { result ≡ is_none (row_in source.now.nodes.now ahead.now.row.now) && (place.at == place.end) }
+{
+    is_none(source, ahead) && place.at == place.end
 }
 
 /// The number of the first token ahead that a node has, 0 where no node is.

@@ -9,10 +9,12 @@
 
 mod ahead;
 mod chains;
+mod checker;
 mod laws;
 mod node;
 mod operators;
 mod place;
+mod reading;
 mod rules;
 mod scopes;
 mod shape;
@@ -23,6 +25,7 @@ mod typed;
 mod unit;
 mod word;
 
+pub use checker::{NoMemory, spells_unit};
 pub use laws::{reading_is_spelling, table_is_grammar};
 pub use node::{Kind, Node};
 pub use scopes::TypeName;
