@@ -8,8 +8,12 @@
 #![tactic(auto)]
 
 mod ahead;
+#[cfg(test)]
+mod built;
 mod chains;
 mod checker;
+#[cfg(test)]
+mod examples;
 mod laws;
 mod node;
 mod operators;
@@ -20,6 +24,8 @@ mod scopes;
 mod shape;
 mod source;
 mod symbol;
+#[cfg(test)]
+mod tests;
 mod turn;
 mod typed;
 mod unit;
