@@ -5,7 +5,7 @@ ghost use Rattle.cr_syntax.specs.Words.{AreSpans};
 ghost use Rattle.cr_syntax.specs.Kept.{AreBelow, AreWithin, PartsAreBelow, NamedOnce, ItemsAreNodes, named_in};
 ghost use Rattle.cr_syntax.specs.Checked.{IsOf};
 
-use crate::examples::KINDS;
+use crate::sample_units::KINDS;
 use crate::{Kind, Node, Unit, spells_unit};
 use cr_rows::Row;
 use cr_tokens::{Token, Tokens, read};
