@@ -1,10 +1,11 @@
-ghost use Rattle.std.specs.Prelude.{◌≡◌, ◌≤◌, ◌<◌, ◌^◌, ◌+◌, [], ◌∷◌, ◌&&◌, ◌||◌, ◌==◌, IfOk, OnOk, IsTrue, length, if◌then◌else◌};
+ghost use Rattle.std.specs.Prelude.{◌≡◌, ◌≤◌, ◌<◌, ◌^◌, ◌+◌, [], ◌∷◌, ◌&&◌, ◌||◌, ◌==◌, not, nat_lt, IfOk, OnOk, IsTrue, length, if◌then◌else◌};
 ghost use Rattle.cr_syntax.specs.declared.ahead.Ahead.{Ahead};
 ghost use Rattle.cr_syntax.specs.declared.source.Source.{Source};
 ghost use Rattle.cr_syntax.specs.Kept.{AreBelow, row_in};
 ghost use Rattle.cr_syntax.specs.Context.{past_token, declared_name};
-ghost use Rattle.cr_syntax.specs.Scopes.{Scopes, enter};
-ghost use Rattle.cr_syntax.specs.Reads.{is_word, is_none};
+ghost use Rattle.cr_syntax.specs.Scopes.{Scopes, enter, is_type};
+ghost use Rattle.cr_syntax.specs.Words.{spelling_at};
+ghost use Rattle.cr_syntax.specs.Reads.{is_word, is_none, span_is, leads_declaration, begins_at};
 ghost use Rattle.cr_syntax.specs.Answers.{IsReadable, TurnsTo, text_of, trees_in};
 
 use crate::ahead::{Ahead, first_of, is_none, leads_declaration};
@@ -57,18 +58,6 @@ fn past(place: Place, stands: bool, fits: bool) -> Turn
     }
     let next = place.past_token();
     Turn::Goes(next.context, next.at)
-}
-
-fn both(a: bool, b: bool) -> bool
-    ensures { result ≡ a && b }
-{
-    a && b
-}
-
-fn either(a: bool, b: bool) -> bool
-    ensures { result ≡ a || b }
-{
-    a || b
 }
 
 /// The place past this word, or here where another stands.
@@ -141,8 +130,16 @@ fn type_turn(source: &Source, place: Place, scopes: &LinkedList<Scope>) -> Turn
     requires { IsReadable source.now }
     ensures { (a : Ahead) → TurnsTo source.now Symbol.TypeIdentifier a place scopes.now scopes.now result }
 {
-    let is_type = is_type(scopes, spelling(source, place.at));
-    past(place, is_word(source, place.at, Word::Identifier), both(is_type, !place.context.typed))
+    let names_type = names_type(source, place, scopes);
+    past(place, is_word(source, place.at, Word::Identifier), names_type)
+}
+
+/// Whether an identifier here is a type: the scopes make it one, and nothing before it says that it is a name.
+fn names_type(source: &Source, place: Place, scopes: &LinkedList<Scope>) -> bool
+    requires { IsReadable source.now }
+    ensures { result ≡ is_type scopes.now (spelling_at (text_of source.now) place.at) && not place.context.typed }
+{
+    is_type(scopes, spelling(source, place.at)) && !place.context.typed
 }
 
 fn declared_turn(
@@ -154,9 +151,17 @@ fn declared_turn(
     requires { IsReadable source.now }
     ensures { IfOk result (λ r. (a : Ahead) → TurnsTo source.now Symbol.Declared a place scopes.old scopes.new r) }
 {
-    let is_type = is_type(scopes, spelling(source, place.at));
+    let may_declare = may_declare(source, place, scopes);
     begin(alloc, scopes)?;
-    Ok(past(place, is_word(source, place.at, Word::Identifier), either(place.context.typed, !is_type)))
+    Ok(past(place, is_word(source, place.at, Word::Identifier), may_declare))
+}
+
+/// Whether an identifier here can be declared: something before it says that it is a name, or no scope makes it a type.
+fn may_declare(source: &Source, place: Place, scopes: &LinkedList<Scope>) -> bool
+    requires { IsReadable source.now }
+    ensures { result ≡ place.context.typed || not (is_type scopes.now (spelling_at (text_of source.now) place.at)) }
+{
+    place.context.typed || !is_type(scopes, spelling(source, place.at))
 }
 
 /// Puts the declared name into the innermost scope. The error is want of memory.
@@ -256,8 +261,16 @@ fn texts_turn(source: &Source, ahead: &Ahead, place: Place) -> Turn
     requires row { AreBelow ahead.now.row.now (length source.now.nodes.now) }
     ensures { (c : Scopes) → TurnsTo source.now Symbol.Texts ahead.now place c c result }
 {
-    let spans = both(place.at < place.end, span_is(source, Word::Text, place.at, place.end));
-    end_if(ahead, both(is_none(source, ahead), spans))
+    end_if(ahead, are_texts(source, ahead, place))
+}
+
+/// Whether no node is ahead, and string literals alone stand from here to the end, one at least.
+fn are_texts(source: &Source, ahead: &Ahead, place: Place) -> bool
+    requires readable { IsReadable source.now }
+    requires row { AreBelow ahead.now.row.now (length source.now.nodes.now) }
+    ensures { result ≡ is_none (trees_in source.now ahead.now) && (nat_lt place.at place.end && span_is (text_of source.now) Word.Text place.at place.end) }
+{
+    is_none(source, ahead) && place.at < place.end && span_is(source, Word::Text, place.at, place.end)
 }
 
 fn value_turn(source: &Source, ahead: &Ahead, place: Place) -> Turn
@@ -296,11 +309,19 @@ fn init_turn(source: &Source, ahead: &Ahead, place: Place) -> Turn
     requires row { AreBelow ahead.now.row.now (length source.now.nodes.now) }
     ensures { (c : Scopes) → TurnsTo source.now Symbol.Init ahead.now place c c result }
 {
-    let begins = begins_at(source.nodes, ahead.row, place.at);
-    if both(leads_declaration(source, ahead), begins) {
+    if begins_declaration(source, ahead, place) {
         return Turn::Part(Depth::Inner, Part::Declaration, place.at);
     }
     clause_turn(source, ahead, place)
+}
+
+/// Whether the first node ahead is a declaration that begins here.
+fn begins_declaration(source: &Source, ahead: &Ahead, place: Place) -> bool
+    requires readable { IsReadable source.now }
+    requires row { AreBelow ahead.now.row.now (length source.now.nodes.now) }
+    ensures { result ≡ leads_declaration (trees_in source.now ahead.now) && begins_at (trees_in source.now ahead.now) place.at }
+{
+    leads_declaration(source, ahead) && begins_at(source.nodes, ahead.row, place.at)
 }
 
 fn clause_turn(source: &Source, ahead: &Ahead, place: Place) -> Turn

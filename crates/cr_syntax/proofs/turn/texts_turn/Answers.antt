@@ -4,4 +4,4 @@ use Rattle.cr_syntax.proofs.Turns.{end_turn, texts_end}
 use Rattle.cr_syntax.proofs.turn.texts_turn.Goals as goal
 
 pub returns : goal.returns
-returns c = λ c'. end_turn c.args.source.now symbol.Texts c.args.ahead.now c.args.place c' _ c.end_if.result (rw (c.both.ensures, c.is_none.ensures.answer, c.both-spans.ensures, c.span_is.ensures) (texts_end _ _ _ _ _ _ _ _)) c.end_if.ensures
+returns c = λ c'. end_turn c.args.source.now symbol.Texts c.args.ahead.now c.args.place c' _ c.end_if.result (rw c.are_texts.ensures (texts_end _ _ _ _ _ _ _ _)) c.end_if.ensures
