@@ -1,5 +1,5 @@
 -- What the checker of a unit says of its tree, by the laws of reading.
-use Rattle.std.proofs.Common.{◌≡◌, true, false, Bool, None, Some, Result, Ok, Err, length, refl}
+use Rattle.std.proofs.Common.{true, false, Bool, Result, Ok, Err, length, refl}
 use Rattle.std.specs.Prelude.{◌↔◌, IfOk, IsTrue, List}
 use Rattle.cr_syntax.specs.Words.{Lexeme}
 use Rattle.cr_syntax.specs.Scopes.{Scopes}

@@ -12,10 +12,10 @@ use Rattle.cr_syntax.specs.declared.symbol.Context.{Context}
 use Rattle.cr_syntax.specs.Words.{Lexeme, spelling_at}
 use Rattle.cr_syntax.specs.Scopes.{Scopes, is_type, enter}
 use Rattle.cr_syntax.specs.Trees.{Trees, none, node}
-use Rattle.cr_syntax.specs.Context.{past_token, past_part, declared_name}
+use Rattle.cr_syntax.specs.Context.{past_token, declared_name}
 use Rattle.cr_syntax.specs.Grammar.{Side}
 use Rattle.cr_syntax.specs.Spells.{levels}
-use Rattle.cr_syntax.specs.Reads.{is_word, span_is, has_room, is_none, first_of, after_of, alone, begins_at, leads_declaration, list_on, along, reads, next_of, leads}
+use Rattle.cr_syntax.specs.Reads.{is_word, span_is, has_room, is_none, first_of, begins_at, leads_declaration, list_on, along, reads, next_of, leads}
 use Rattle.cr_syntax.specs.Steps.{part_on, clause_on, step_on, else_on, prototype_on, size_on, qualified_on}
 
 pub reads_token : (ts : List Lexeme) (t : Trees) (s : Side) (h : Context) (c : Scopes) (d i j : ℕ) (l : Depth) (w : Word) →

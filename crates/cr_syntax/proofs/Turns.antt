@@ -1,5 +1,5 @@
 -- What a symbol comes to before a part is read: the goals of `turn`, over plain variables.
-use Rattle.std.proofs.Common.{◌≡◌, ℕ, ◌+◌, ◌<◌, Bool, true, false, not, ◌&&◌, ◌||◌, List, [], ◌∷◌, Option, None, Some, length, refl, sym, ap, ◌∙◌, arith}
+use Rattle.std.proofs.Common.{◌≡◌, ℕ, ◌+◌, ◌<◌, Bool, true, false, ◌&&◌, List, [], ◌∷◌, Option, None, Some, length, refl, sym, ◌∙◌, arith}
 use Rattle.std.proofs.Math.Dec.{eqb-suc-zero}
 use Rattle.std.specs.Prelude.{if◌then◌else◌, ◌==◌, nat_lt}
 use Rattle.cr_syntax.specs.declared.word.Word.{Word}
@@ -22,7 +22,7 @@ use Rattle.cr_syntax.specs.Trees.{Trees, none, node}
 use Rattle.cr_syntax.specs.Context.{past_token, declared_name}
 use Rattle.cr_syntax.specs.Grammar.{Side}
 use Rattle.cr_syntax.specs.Reads.{is_word, has_room, span_is, is_none, first_of, begins_at, leads_declaration, along, reads, next_of, leads}
-use Rattle.cr_syntax.specs.Steps.{part_on, before_on, clause_on, step_on, else_on, prototype_on, prototype_from, size_on, size_from, qualified_on}
+use Rattle.cr_syntax.specs.Steps.{part_on, before_on, clause_on, step_on, else_on, prototype_from, size_from, qualified_on}
 use Rattle.cr_syntax.specs.Answers.{read_of, read_from, TurnsTo}
 use Rattle.cr_syntax.proofs.Equations.{reads_done, reads_enters, reads_ends, reads_qualified, reads_clause, reads_step, reads_init, reads_else, reads_tag, reads_trailing}
 

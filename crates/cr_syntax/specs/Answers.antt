@@ -1,5 +1,5 @@
 -- What the checker's functions answer.
-use Rattle.std.specs.Prelude.{◌≡◌, ℕ, ◌+◌, ◌<◌, Bool, true, false, List, [], ◌∷◌, Option, None, Some, Result, Ok, Err, length, drop, slice_index, if◌then◌else◌}
+use Rattle.std.specs.Prelude.{◌≡◌, ℕ, ◌+◌, ◌*◌, ◌^◌, ◌<◌, ◌≤◌, Bool, true, false, List, [], ◌∷◌, Option, None, Some, Result, Ok, Err, length, drop, slice_index, if◌then◌else◌}
 use Rattle.cr_syntax.specs.declared.node.Node.{Node}
 use Rattle.cr_syntax.specs.declared.source.Source.{Source}
 use Rattle.cr_syntax.specs.declared.ahead.Ahead.{Ahead}
@@ -17,7 +17,7 @@ use Rattle.cr_syntax.specs.Kept.{AreBelow, PartsAreBelow, row_in}
 use Rattle.cr_syntax.specs.Context.{fits_together}
 use Rattle.cr_syntax.specs.Tables.{side_of}
 use Rattle.cr_syntax.specs.Spells.{levels}
-use Rattle.cr_syntax.specs.Reads.{reads, parts_of, as_part, leads, next_of, list_on}
+use Rattle.cr_syntax.specs.Reads.{reads, as_part, leads}
 use Rattle.cr_syntax.specs.Steps.{part_on, before_on, else_on, prototype_from, size_from}
 
 -- a reading that went well left its scopes, and one that didn't had none
@@ -40,6 +40,13 @@ pub record IsFirst (nodes : List Node) (row : List ℕ) (n : Node) : Type 0 wher
   pub some : 0 < length row
   pub tree : row_in nodes row ≡ node n.kind n.first (n.last + 1) (row_in nodes n.parts) (row_in nodes (drop 1 row))
   pub below : AreBelow n.parts (slice_index row 0)
+
+-- nodes that can be read: their numbers are below a bound and those of nodes, and the levels can be counted
+pub record CanRead (s : Source) (row : List ℕ) (bound depth : ℕ) : Type 0 where
+  pub readable : IsReadable s
+  pub row_below : AreBelow row bound
+  pub within : bound ≤ length s.nodes.now
+  pub room : depth + 2 * bound ≤ 2 ^ 62
 
 -- the trees ahead
 abbrev pub trees_in : Source → Ahead → Trees

@@ -86,8 +86,8 @@ pub fn behind(source: &Source, ahead: &Ahead, place: Place) -> Place
     requires readable { IsReadable source.now }
     requires row { AreBelow ahead.now.row.now (length source.now.nodes.now) }
     ensures { result ≡ record place {
-        context = past_part place.context (alone (row_in source.now.nodes.now ahead.now.row.now));
-        at = after_of (row_in source.now.nodes.now ahead.now.row.now);
+      context = past_part place.context (alone (row_in source.now.nodes.now ahead.now.row.now));
+      at = after_of (row_in source.now.nodes.now ahead.now.row.now);
     } }
 {
     match first(source.nodes, ahead.row) {

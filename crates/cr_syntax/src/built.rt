@@ -14,7 +14,7 @@ use std::test::Fail;
 
 /// What is changed.
 #[derive(Clone, Copy, PartialEq, Eq, Debug)]
-pub enum Change {
+pub(crate) enum Change {
     Nothing,
     /// The token with this number becomes `goto`.
     Token(usize),
@@ -25,7 +25,12 @@ pub enum Change {
 }
 
 /// What the checker says of a unit with one change; none where it is no unit.
-pub fn checked(alloc: Global, text: &str, tree: &str, change: Change) -> Result<Option<bool>, Fail> {
+pub(crate) fn checked(
+    alloc: Global,
+    text: &str,
+    tree: &str,
+    change: Change,
+) -> Result<Option<bool>, Fail> {
     let file = format!(in alloc; "{text} goto")?;
     let tokens = changed_tokens(alloc, read(alloc, file.as_bytes())?, change)?;
     let (nodes, items) = nodes_of(alloc, tree, change)?;
@@ -46,7 +51,11 @@ fn changed_tokens(alloc: Global, tokens: Tokens, change: Change) -> Result<Token
         if k + 1 == count {
             break;
         }
-        let replaced = if change == Change::Token(k) { tokens.list.last() } else { None };
+        let replaced = if change == Change::Token(k) {
+            tokens.list.last()
+        } else {
+            None
+        };
         match replaced {
             Some(last) => list.push(*last)?,
             None => list.push(*token)?,
@@ -56,7 +65,11 @@ fn changed_tokens(alloc: Global, tokens: Tokens, change: Change) -> Result<Token
 }
 
 /// The nodes of a tree in words, and those that are no parts.
-fn nodes_of(alloc: Global, tree: &str, change: Change) -> Result<(Row<Node>, Row<u32>), AllocError> {
+fn nodes_of(
+    alloc: Global,
+    tree: &str,
+    change: Change,
+) -> Result<(Row<Node>, Row<u32>), AllocError> {
     let mut nodes = Row::new(alloc);
     let mut open: Vec<Option<u32>> = Vec::new(alloc);
     for (k, line) in tree.split("; ").enumerate() {
@@ -71,7 +84,11 @@ fn nodes_of(alloc: Global, tree: &str, change: Change) -> Result<(Row<Node>, Row
             continue;
         }
         open.push(u32::try_from(nodes.len()).ok())?;
-        let kind = if change == Change::Kind(k) { other(kind) } else { kind };
+        let kind = if change == Change::Kind(k) {
+            other(kind)
+        } else {
+            kind
+        };
         nodes.push(Node {
             kind,
             first,
@@ -106,7 +123,11 @@ fn kind_of(word: &str) -> Kind {
 }
 
 fn other(kind: Kind) -> Kind {
-    if kind == Kind::Break { Kind::Continue } else { Kind::Break }
+    if kind == Kind::Break {
+        Kind::Continue
+    } else {
+        Kind::Break
+    }
 }
 
 fn number_of(word: &str) -> u32 {

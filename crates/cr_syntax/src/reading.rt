@@ -2,7 +2,7 @@ ghost use Rattle.std.specs.Prelude.{◌≡◌, ◌≤◌, ◌+◌, ◌*◌, ◌^
 ghost use Rattle.cr_syntax.specs.Kept.{AreBelow};
 ghost use Rattle.cr_syntax.specs.Steps.{part_on, before_on, else_on, prototype_from, size_from};
 ghost use Rattle.cr_syntax.specs.Spells.{levels};
-ghost use Rattle.cr_syntax.specs.Answers.{IsReadable, Agrees, text_of, trees_in, read_of, read_from, led_of, part_of_node, made_of};
+ghost use Rattle.cr_syntax.specs.Answers.{CanRead, IsReadable, Agrees, text_of, trees_in, read_of, read_from, led_of, part_of_node, made_of};
 ghost use Rattle.cr_syntax.specs.Reads.{dropped};
 
 use crate::ahead::{Ahead, after_first, behind, is_done, is_none};
@@ -32,15 +32,19 @@ pub fn read(
     place: Place,
     scopes: &mut LinkedList<Scope>,
 ) -> Result<bool, AllocError>
-    requires readable { IsReadable source.now }
-    requires row { AreBelow ahead.now.row.now ahead.now.bound }
-    requires bound { ahead.now.bound ≤ length source.now.nodes.now }
-    requires room { place.depth + 2 * ahead.now.bound ≤ 2 ^ 62 }
+    requires { CanRead source.now ahead.now.row.now ahead.now.bound place.depth }
     ensures { Agrees result scopes.new (read_of source.now ahead.now place scopes.old) }
 {
     match ahead.side {
         [] => Ok(is_done(source, ahead, place)),
-        [symbol, side @ ..] => follow(alloc, source, *symbol, &Ahead { side, ..*ahead }, place, scopes),
+        [symbol, side @ ..] => follow(
+            alloc,
+            source,
+            *symbol,
+            &Ahead { side, ..*ahead },
+            place,
+            scopes,
+        ),
     }
 }
 
@@ -54,16 +58,23 @@ fn follow(
     place: Place,
     scopes: &mut LinkedList<Scope>,
 ) -> Result<bool, AllocError>
-    requires readable { IsReadable source.now }
-    requires row { AreBelow ahead.now.row.now ahead.now.bound }
-    requires bound { ahead.now.bound ≤ length source.now.nodes.now }
-    requires room { place.depth + 2 * ahead.now.bound ≤ 2 ^ 62 }
+    requires { CanRead source.now ahead.now.row.now ahead.now.bound place.depth }
     ensures { Agrees result scopes.new (read_from source.now symbol ahead.now place scopes.old) }
 {
     match turn_at(alloc, source, symbol, ahead, place, scopes)? {
         Turn::Refuses => Ok(false),
         Turn::Ends => Ok(true),
-        Turn::Goes(context, at) => read(alloc, source, ahead, Place { context, at, ..place }, scopes),
+        Turn::Goes(context, at) => read(
+            alloc,
+            source,
+            ahead,
+            Place {
+                context,
+                at,
+                ..place
+            },
+            scopes,
+        ),
         Turn::Part(depth, p, at) => part(alloc, source, depth, p, at, ahead, place, scopes),
         Turn::Many(depth, p) => many(alloc, source, depth, p, ahead, place, scopes),
         Turn::List(depth, p) => list(alloc, source, depth, p, ahead, place, scopes),
@@ -87,14 +98,18 @@ fn part(
     place: Place,
     scopes: &mut LinkedList<Scope>,
 ) -> Result<bool, AllocError>
-    requires readable { IsReadable source.now }
-    requires row { AreBelow ahead.now.row.now ahead.now.bound }
-    requires bound { ahead.now.bound ≤ length source.now.nodes.now }
-    requires room { place.depth + 2 * ahead.now.bound ≤ 2 ^ 62 }
+    requires { CanRead source.now ahead.now.row.now ahead.now.bound place.depth }
     ensures { Agrees result scopes.new (part_on (text_of source.now) (trees_in source.now ahead.now) ahead.now.side.now place.context place.depth place.end
         (led_of source.now p ahead.now (record place { depth = levels depth place.depth; at = at }) scopes.old)) }
 {
-    if !lead(alloc, source, p, ahead, place.deeper(depth).moved(at), scopes)? {
+    if !lead(
+        alloc,
+        source,
+        p,
+        ahead,
+        place.deeper(depth).moved(at),
+        scopes,
+    )? {
         return Ok(false);
     }
     let next = behind(source, ahead, place);
@@ -112,10 +127,7 @@ fn many(
     place: Place,
     scopes: &mut LinkedList<Scope>,
 ) -> Result<bool, AllocError>
-    requires readable { IsReadable source.now }
-    requires row { AreBelow ahead.now.row.now ahead.now.bound }
-    requires bound { ahead.now.bound ≤ length source.now.nodes.now }
-    requires room { place.depth + 2 * ahead.now.bound ≤ 2 ^ 62 }
+    requires { CanRead source.now ahead.now.row.now ahead.now.bound place.depth }
     ensures { Agrees result scopes.new (read_from source.now (Symbol.Many depth p) ahead.now place scopes.old) }
 {
     if is_none(source, ahead) {
@@ -125,7 +137,15 @@ fn many(
         return Ok(false);
     }
     let next = behind(source, ahead, place);
-    many(alloc, source, depth, p, &after_first(source, ahead), next, scopes)
+    many(
+        alloc,
+        source,
+        depth,
+        p,
+        &after_first(source, ahead),
+        next,
+        scopes,
+    )
 }
 
 /// Parts with commas between them, and then the rest.
@@ -139,10 +159,7 @@ fn list(
     place: Place,
     scopes: &mut LinkedList<Scope>,
 ) -> Result<bool, AllocError>
-    requires readable { IsReadable source.now }
-    requires row { AreBelow ahead.now.row.now ahead.now.bound }
-    requires bound { ahead.now.bound ≤ length source.now.nodes.now }
-    requires room { place.depth + 2 * ahead.now.bound ≤ 2 ^ 62 }
+    requires { CanRead source.now ahead.now.row.now ahead.now.bound place.depth }
     ensures { Agrees result scopes.new (read_from source.now (Symbol.List depth p) ahead.now place scopes.old) }
 {
     if !lead(alloc, source, p, ahead, place.deeper(depth), scopes)? {
@@ -156,7 +173,15 @@ fn list(
     if !is_word(source, next.at, Word::Comma) {
         return Ok(false);
     }
-    list(alloc, source, depth, p, &rest, place.moved(next.at).past_token(), scopes)
+    list(
+        alloc,
+        source,
+        depth,
+        p,
+        &rest,
+        place.moved(next.at).past_token(),
+        scopes,
+    )
 }
 
 /// An expression and a word behind it, and then the rest.
@@ -170,14 +195,18 @@ fn clause(
     place: Place,
     scopes: &mut LinkedList<Scope>,
 ) -> Result<bool, AllocError>
-    requires readable { IsReadable source.now }
-    requires row { AreBelow ahead.now.row.now ahead.now.bound }
-    requires bound { ahead.now.bound ≤ length source.now.nodes.now }
-    requires room { place.depth + 2 * ahead.now.bound ≤ 2 ^ 62 }
+    requires { CanRead source.now ahead.now.row.now ahead.now.bound place.depth }
     ensures { Agrees result scopes.new (before_on (text_of source.now) (trees_in source.now ahead.now) word fits ahead.now.side.now place.context place.depth place.end
         (led_of source.now Part.Expression ahead.now (record place { depth = place.depth + 1 }) scopes.old)) }
 {
-    if !lead(alloc, source, Part::Expression, ahead, place.deeper(Depth::Inner), scopes)? {
+    if !lead(
+        alloc,
+        source,
+        Part::Expression,
+        ahead,
+        place.deeper(Depth::Inner),
+        scopes,
+    )? {
         return Ok(false);
     }
     let at = behind(source, ahead, place).at;
@@ -200,10 +229,7 @@ fn enumerator(
     place: Place,
     scopes: &mut LinkedList<Scope>,
 ) -> Result<bool, AllocError>
-    requires readable { IsReadable source.now }
-    requires row { AreBelow ahead.now.row.now ahead.now.bound }
-    requires bound { ahead.now.bound ≤ length source.now.nodes.now }
-    requires room { place.depth + 2 * ahead.now.bound ≤ 2 ^ 62 }
+    requires { CanRead source.now ahead.now.row.now ahead.now.bound place.depth }
     ensures { Agrees result scopes.new (read_from source.now Symbol.Enumerates ahead.now place scopes.old) }
 {
     if !is_word(source, place.at, Word::Identifier) {
@@ -226,15 +252,19 @@ fn otherwise(
     place: Place,
     scopes: &mut LinkedList<Scope>,
 ) -> Result<bool, AllocError>
-    requires readable { IsReadable source.now }
-    requires row { AreBelow ahead.now.row.now ahead.now.bound }
-    requires bound { ahead.now.bound ≤ length source.now.nodes.now }
-    requires room { place.depth + 2 * ahead.now.bound ≤ 2 ^ 62 }
+    requires { CanRead source.now ahead.now.row.now ahead.now.bound place.depth }
     ensures { Agrees result scopes.new (else_on (text_of source.now) (trees_in source.now ahead.now) ahead.now.side.now place.context place.depth place.end
         (led_of source.now Part.Statement ahead.now (record place { depth = place.depth + 1; at = at }) ([] ∷ scopes.old))) }
 {
     begin(alloc, scopes)?;
-    if !lead(alloc, source, Part::Statement, ahead, place.deeper(Depth::Inner).moved(at), scopes)? {
+    if !lead(
+        alloc,
+        source,
+        Part::Statement,
+        ahead,
+        place.deeper(Depth::Inner).moved(at),
+        scopes,
+    )? {
         return Ok(false);
     }
     let Some(_) = scopes.pop_front() else {
@@ -253,17 +283,21 @@ fn prototype(
     place: Place,
     scopes: &mut LinkedList<Scope>,
 ) -> Result<bool, AllocError>
-    requires readable { IsReadable source.now }
-    requires row { AreBelow ahead.now.row.now ahead.now.bound }
-    requires bound { ahead.now.bound ≤ length source.now.nodes.now }
-    requires room { place.depth + 2 * ahead.now.bound ≤ 2 ^ 62 }
+    requires { CanRead source.now ahead.now.row.now ahead.now.bound place.depth }
     ensures { Agrees result scopes.new (prototype_from (text_of source.now) (trees_in source.now ahead.now) ahead.now.side.now place.context scopes.old place.depth place.at place.end) }
 {
     let Some(own) = scopes.pop_front() else {
         return Ok(false);
     };
     begin(alloc, scopes)?;
-    if !lead(alloc, source, Part::Parameters, ahead, place.deeper(Depth::Inner), scopes)? {
+    if !lead(
+        alloc,
+        source,
+        Part::Parameters,
+        ahead,
+        place.deeper(Depth::Inner),
+        scopes,
+    )? {
         return Ok(false);
     }
     let Some(names) = scopes.pop_front() else {
@@ -290,16 +324,20 @@ fn size(
     place: Place,
     scopes: &mut LinkedList<Scope>,
 ) -> Result<bool, AllocError>
-    requires readable { IsReadable source.now }
-    requires row { AreBelow ahead.now.row.now ahead.now.bound }
-    requires bound { ahead.now.bound ≤ length source.now.nodes.now }
-    requires room { place.depth + 2 * ahead.now.bound ≤ 2 ^ 62 }
+    requires { CanRead source.now ahead.now.row.now ahead.now.bound place.depth }
     ensures { Agrees result scopes.new (size_from (text_of source.now) (trees_in source.now ahead.now) ahead.now.side.now place.context scopes.old place.depth place.at place.end) }
 {
     let Some(own) = scopes.pop_front() else {
         return Ok(false);
     };
-    if !lead(alloc, source, Part::Conditional, ahead, place.deeper(Depth::Inner), scopes)? {
+    if !lead(
+        alloc,
+        source,
+        Part::Conditional,
+        ahead,
+        place.deeper(Depth::Inner),
+        scopes,
+    )? {
         return Ok(false);
     }
     scopes.push_front(own)?;
@@ -329,7 +367,16 @@ fn lead(
             if node.first as usize != place.at {
                 return Ok(false);
             }
-            as_part(alloc, source, node, ahead.row[0] as usize, MOST_LINKS, p, place, scopes)
+            as_part(
+                alloc,
+                source,
+                node,
+                ahead.row[0] as usize,
+                MOST_LINKS,
+                p,
+                place,
+                scopes,
+            )
         }
     }
 }
@@ -346,10 +393,7 @@ fn as_part(
     place: Place,
     scopes: &mut LinkedList<Scope>,
 ) -> Result<bool, AllocError>
-    requires readable { IsReadable source.now }
-    requires row { AreBelow node.now.parts bound }
-    requires bound { bound ≤ length source.now.nodes.now }
-    requires room { place.depth + 2 * bound ≤ 2 ^ 62 }
+    requires { CanRead source.now node.now.parts bound place.depth }
     ensures { Agrees result scopes.new (part_of_node source.now node.now links p place scopes.old) }
 {
     if links == 0 {
@@ -361,7 +405,16 @@ fn as_part(
             if !may_stand(p, node.kind) {
                 return Ok(false);
             }
-            as_part(alloc, source, node, bound, links - 1, q, place.starting(p), scopes)
+            as_part(
+                alloc,
+                source,
+                node,
+                bound,
+                links - 1,
+                q,
+                place.starting(p),
+                scopes,
+            )
         }
         Link::Enters => {
             if !declarator(alloc, source, node, bound, links - 1, place, scopes)? {
@@ -387,13 +440,19 @@ fn declarator(
     place: Place,
     scopes: &mut LinkedList<Scope>,
 ) -> Result<bool, AllocError>
-    requires readable { IsReadable source.now }
-    requires row { AreBelow node.now.parts bound }
-    requires bound { bound ≤ length source.now.nodes.now }
-    requires room { place.depth + 2 * bound ≤ 2 ^ 62 }
+    requires { CanRead source.now node.now.parts bound place.depth }
     ensures { Agrees result scopes.new (dropped (part_of_node source.now node.now links Part.Declarator place scopes.old)) }
 {
-    if !as_part(alloc, source, node, bound, links, Part::Declarator, place, scopes)? {
+    if !as_part(
+        alloc,
+        source,
+        node,
+        bound,
+        links,
+        Part::Declarator,
+        place,
+        scopes,
+    )? {
         return Ok(false);
     }
     Ok(scopes.pop_front().is_some())
@@ -409,10 +468,7 @@ fn made(
     place: Place,
     scopes: &mut LinkedList<Scope>,
 ) -> Result<bool, AllocError>
-    requires readable { IsReadable source.now }
-    requires row { AreBelow node.now.parts bound }
-    requires bound { bound ≤ length source.now.nodes.now }
-    requires room { place.depth + 2 * bound ≤ 2 ^ 62 }
+    requires { CanRead source.now node.now.parts bound place.depth }
     ensures { Agrees result scopes.new (made_of source.now node.now place scopes.old) }
 {
     if !fits_together(source.nodes, node) {

@@ -77,7 +77,11 @@ fn unless_none(source: &Source, ahead: &Ahead, place: Place, other: Turn) -> Tur
     requires row { AreBelow ahead.now.row.now (length source.now.nodes.now) }
     ensures { result ≡ (if is_none (trees_in source.now ahead.now) then Turn.Goes place.context place.at else other) }
 {
-    if is_none(source, ahead) { Turn::Goes(place.context, place.at) } else { other }
+    if is_none(source, ahead) {
+        Turn::Goes(place.context, place.at)
+    } else {
+        other
+    }
 }
 
 fn token_turn(source: &Source, depth: Depth, word: Word, place: Place) -> Turn
@@ -92,7 +96,11 @@ fn opening_turn(source: &Source, depth: Depth, word: Word, place: Place) -> Turn
     requires depth { place.depth ≤ 2 ^ 62 }
     ensures { (a : Ahead) (c : Scopes) → TurnsTo source.now (Symbol.Opens depth word) a place c c result }
 {
-    past(place, is_word(source, place.at, word), place.deeper(depth).has_room())
+    past(
+        place,
+        is_word(source, place.at, word),
+        place.deeper(depth).has_room(),
+    )
 }
 
 fn reopening_turn(source: &Source, word: Word, place: Place) -> Turn
@@ -107,7 +115,11 @@ fn tag_turn(source: &Source, place: Place) -> Turn
     ensures { (a : Ahead) (c : Scopes) → TurnsTo source.now Symbol.Tag a place c c result }
 {
     let next = past_optional(source, place, Word::Identifier);
-    past(next, is_word(source, next.at, Word::LeftBrace), place.has_room())
+    past(
+        next,
+        is_word(source, next.at, Word::LeftBrace),
+        place.has_room(),
+    )
 }
 
 fn comma_turn(source: &Source, place: Place) -> Turn
@@ -131,7 +143,11 @@ fn type_turn(source: &Source, place: Place, scopes: &LinkedList<Scope>) -> Turn
     ensures { (a : Ahead) → TurnsTo source.now Symbol.TypeIdentifier a place scopes.now scopes.now result }
 {
     let names_type = names_type(source, place, scopes);
-    past(place, is_word(source, place.at, Word::Identifier), names_type)
+    past(
+        place,
+        is_word(source, place.at, Word::Identifier),
+        names_type,
+    )
 }
 
 /// Whether an identifier here is a type: the scopes make it one, and nothing before it says that it is a name.
@@ -153,7 +169,11 @@ fn declared_turn(
 {
     let may_declare = may_declare(source, place, scopes);
     begin(alloc, scopes)?;
-    Ok(past(place, is_word(source, place.at, Word::Identifier), may_declare))
+    Ok(past(
+        place,
+        is_word(source, place.at, Word::Identifier),
+        may_declare,
+    ))
 }
 
 /// Whether an identifier here can be declared: something before it says that it is a name, or no scope makes it a type.
@@ -174,7 +194,12 @@ pub fn enter_declared(
     requires { IsReadable source.now }
     ensures { OnOk result (scopes.new ≡ enter (declared_name (text_of source.now) context) scopes.old) }
 {
-    enter(alloc, scopes, spelling(source, context.name as usize), context.type_name)
+    enter(
+        alloc,
+        scopes,
+        spelling(source, context.name as usize),
+        context.type_name,
+    )
 }
 
 fn enters_turn(
@@ -270,7 +295,9 @@ fn are_texts(source: &Source, ahead: &Ahead, place: Place) -> bool
     requires row { AreBelow ahead.now.row.now (length source.now.nodes.now) }
     ensures { result ≡ is_none (trees_in source.now ahead.now) && (nat_lt place.at place.end && span_is (text_of source.now) Word.Text place.at place.end) }
 {
-    is_none(source, ahead) && place.at < place.end && span_is(source, Word::Text, place.at, place.end)
+    is_none(source, ahead)
+        && place.at < place.end
+        && span_is(source, Word::Text, place.at, place.end)
 }
 
 fn value_turn(source: &Source, ahead: &Ahead, place: Place) -> Turn

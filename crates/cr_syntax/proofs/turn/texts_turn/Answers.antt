@@ -1,4 +1,3 @@
-use Rattle.std.proofs.Common.{sym}
 use Rattle.cr_syntax.specs.declared.symbol.Symbol.TheVariants as symbol
 use Rattle.cr_syntax.proofs.Turns.{end_turn, texts_end}
 use Rattle.cr_syntax.proofs.turn.texts_turn.Goals as goal

@@ -1,4 +1,4 @@
-use Rattle.std.proofs.Common.{sym, true, ◌&&◌}
+use Rattle.std.proofs.Common.{true, ◌&&◌}
 use Rattle.cr_syntax.specs.declared.symbol.Symbol.TheVariants as symbol
 use Rattle.cr_syntax.proofs.Equations.{reads_token}
 use Rattle.cr_syntax.proofs.Turns.{and_true, past_turn}

@@ -1,4 +1,3 @@
-use Rattle.std.proofs.Common.{sym}
 use Rattle.cr_syntax.specs.declared.symbol.Symbol.TheVariants as symbol
 use Rattle.cr_syntax.specs.declared.turn.Turn.TheVariants as turn
 use Rattle.cr_syntax.proofs.Equations.{reads_optional, reads_part}

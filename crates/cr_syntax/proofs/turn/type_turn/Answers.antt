@@ -1,4 +1,4 @@
-use Rattle.std.proofs.Common.{sym, ◌&&◌}
+use Rattle.std.proofs.Common.{◌&&◌}
 use Rattle.cr_syntax.specs.declared.symbol.Symbol.TheVariants as symbol
 use Rattle.cr_syntax.proofs.Equations.{reads_type_identifier}
 use Rattle.cr_syntax.proofs.Turns.{past_turn, and3}
