@@ -8,5 +8,6 @@ pub mod Arena
 pub mod Statements
 pub mod Readings
 pub mod Checked
+pub mod Spans
 pub mod Turns
 pub mod Examples

@@ -33,7 +33,7 @@ mod unit_tests;
 mod word;
 
 pub use checker::{NoMemory, spells_unit};
-pub use laws::{reading_is_spelling, table_is_grammar};
+pub use laws::{reading_is_spelling, table_is_grammar, tokens_are_spans};
 pub use node::{Kind, Node};
 pub use scopes::TypeName;
 pub use symbol::{Context, Depth, Part, Symbol};
