@@ -130,22 +130,16 @@ fn many(
     requires { CanRead source.now ahead.now.row.now ahead.now.bound place.depth }
     ensures { Agrees result scopes.new (read_from source.now (Symbol.Many depth p) ahead.now place scopes.old) }
 {
-    if is_none(source, ahead) {
-        return read(alloc, source, ahead, place, scopes);
+    let mut rest = *ahead;
+    let mut next = place;
+    'parts: while !is_none(source, &rest) {
+        if !lead(alloc, source, p, &rest, next.deeper(depth), scopes)? {
+            return Ok(false);
+        }
+        next = behind(source, &rest, next);
+        rest = after_first(source, &rest);
     }
-    if !lead(alloc, source, p, ahead, place.deeper(depth), scopes)? {
-        return Ok(false);
-    }
-    let next = behind(source, ahead, place);
-    many(
-        alloc,
-        source,
-        depth,
-        p,
-        &after_first(source, ahead),
-        next,
-        scopes,
-    )
+    read(alloc, source, &rest, next, scopes)
 }
 
 /// Parts with commas between them, and then the rest.
@@ -162,26 +156,20 @@ fn list(
     requires { CanRead source.now ahead.now.row.now ahead.now.bound place.depth }
     ensures { Agrees result scopes.new (read_from source.now (Symbol.List depth p) ahead.now place scopes.old) }
 {
-    if !lead(alloc, source, p, ahead, place.deeper(depth), scopes)? {
-        return Ok(false);
+    let mut rest = *ahead;
+    let mut next = place;
+    'parts: while lead(alloc, source, p, &rest, next.deeper(depth), scopes)? {
+        let after = behind(source, &rest, next);
+        rest = after_first(source, &rest);
+        if is_none(source, &rest) {
+            return read(alloc, source, &rest, after, scopes);
+        }
+        if !is_word(source, after.at, Word::Comma) {
+            return Ok(false);
+        }
+        next = next.moved(after.at).past_token();
     }
-    let next = behind(source, ahead, place);
-    let rest = after_first(source, ahead);
-    if is_none(source, &rest) {
-        return read(alloc, source, &rest, next, scopes);
-    }
-    if !is_word(source, next.at, Word::Comma) {
-        return Ok(false);
-    }
-    list(
-        alloc,
-        source,
-        depth,
-        p,
-        &rest,
-        place.moved(next.at).past_token(),
-        scopes,
-    )
+    Ok(false)
 }
 
 /// An expression and a word behind it, and then the rest.

@@ -37,26 +37,40 @@ enumerator-returns-then-not-branch t c = enumerator_none _ _ _ _ _ _ _ _ (sym c.
 pub enumerator-returns : goal.enumerator-returns
 enumerator-returns t c = enumerator_some _ _ _ _ _ _ _ _ _ _ (sym c.is_word.ensures.answer ∙ c.if-not-is_word.false) (rw (c.if-not-branch.false, c.past_token.ensures) at c.in_ok-read.ensures) (rw c.spelling.ensures at c.in_ok-enter.ensures)
 
-pub many-returns-then-is_none : goal.many-returns-then-is_none
-many-returns-then-is_none t c = agrees _ _ (many_none (text_of c.args.source.now) (trees_in c.args.source.now c.args.ahead.now) c.args.ahead.now.side.now c.args.place.context c.args.scopes.now c.args.place.depth c.args.place.at c.args.place.end c.args.depth c.args.p (sym c.is_none.ensures.answer ∙ c.if-is_none.true)) c.read.ensures
-
-pub many-returns-then-not-branch : goal.many-returns-then-not-branch
-many-returns-then-not-branch t c = many_stops (text_of c.args.source.now) (trees_in c.args.source.now c.args.ahead.now) c.args.ahead.now.side.now c.args.place.context c.args.scopes.now c.args.place.depth c.args.place.at c.args.place.end c.args.depth c.args.p (sym c.is_none.ensures.answer ∙ c.if-is_none.false) (rw (c.if-not-branch.true, c.deeper.ensures) at c.in_ok-lead.ensures)
-
-pub many-returns : goal.many-returns
-many-returns t c = agrees _ _ (many_more (text_of c.args.source.now) (trees_in c.args.source.now c.args.ahead.now) c.args.ahead.now.side.now c.args.place.context c.args.scopes.now c.args.place.depth c.args.place.at c.args.place.end c.args.depth c.args.p _ _ (sym c.is_none.ensures.answer ∙ c.if-is_none.false) (rw (c.if-not-branch.false, c.deeper.ensures) at c.in_ok-lead.ensures) c.after_first.ensures.row) (rw (c.behind-next.ensures, c.after_first.ensures.side) at c.many.ensures)
-
-pub list-returns-then-not-branch : goal.list-returns-then-not-branch
-list-returns-then-not-branch t c = list_stops (text_of c.args.source.now) (trees_in c.args.source.now c.args.ahead.now) c.args.ahead.now.side.now c.args.place.context c.args.scopes.now c.args.place.depth c.args.place.at c.args.place.end c.args.depth c.args.p (rw (c.if-not-branch.true, c.deeper.ensures) at c.in_ok-lead.ensures)
-
-pub list-returns-then-is_none : goal.list-returns-then-is_none
-list-returns-then-is_none t c = agrees _ _ (list_ends (text_of c.args.source.now) (trees_in c.args.source.now c.args.ahead.now) c.args.ahead.now.side.now c.args.place.context c.args.scopes.now c.args.place.depth c.args.place.at c.args.place.end c.args.depth c.args.p _ _ (rw (c.if-not-branch.false, c.deeper.ensures) at c.in_ok-lead.ensures) c.after_first-rest.ensures.row (sym c.is_none.ensures.answer ∙ c.if-is_none.true)) (rw (c.behind-next.ensures, c.after_first-rest.ensures.side) at c.read.ensures)
-
-pub list-returns-then-not-is_word : goal.list-returns-then-not-is_word
-list-returns-then-not-is_word t c = list_odd (text_of c.args.source.now) (trees_in c.args.source.now c.args.ahead.now) c.args.ahead.now.side.now c.args.place.context c.args.scopes.now c.args.place.depth c.args.place.at c.args.place.end c.args.depth c.args.p _ _ (rw (c.if-not-branch.false, c.deeper.ensures) at c.in_ok-lead.ensures) c.after_first-rest.ensures.row (sym c.is_none.ensures.answer ∙ c.if-is_none.false) (rw c.behind-next.ensures at (sym c.is_word.ensures.answer ∙ c.if-not-is_word.true))
-
-pub list-returns : goal.list-returns
-list-returns t c = agrees _ _ (list_more (text_of c.args.source.now) (trees_in c.args.source.now c.args.ahead.now) c.args.ahead.now.side.now c.args.place.context c.args.scopes.now c.args.place.depth c.args.place.at c.args.place.end c.args.depth c.args.p _ _ (rw (c.if-not-branch.false, c.deeper.ensures) at c.in_ok-lead.ensures) c.after_first-rest.ensures.row (sym c.is_none.ensures.answer ∙ c.if-is_none.false) (rw c.behind-next.ensures at (sym c.is_word.ensures.answer ∙ c.if-not-is_word.false))) (rw (c.past_token.ensures, c.moved.ensures, c.behind-next.ensures, c.after_first-rest.ensures.side) at c.list.ensures)
-
 pub read-returns-in-empty : goal.read-returns-in-empty
 read-returns-in-empty t c = ended_side AllocError (text_of c.args.source.now) (trees_in c.args.source.now c.args.ahead.now) c.args.ahead.now.side.now c.args.place.context c.args.scopes.now c.args.place.depth c.args.place.at c.args.place.end _ c.in-empty.len_below c.is_done.ensures
+
+pub many-returns-then-not-branch : goal.many-returns-then-not-branch
+many-returns-then-not-branch t c = c.parts.invariant.same ∙ many_stops (text_of c.args.source.now) (trees_in c.args.source.now c.parts.rest) c.parts.rest.side.now c.parts.next.context c.parts.scopes c.parts.next.depth c.parts.next.at c.parts.next.end c.args.depth c.args.p (sym c.is_none.ensures.answer ∙ c.parts-test.true) (rw (c.if-not-branch.true, c.deeper.ensures) at c.in_ok-lead.ensures)
+
+pub many-parts-preserved : goal.many-parts-preserved
+many-parts-preserved t c = record {
+  same = rw (c.behind-next.ensures, c.after_first-rest.ensures.side) (c.parts.invariant.same ∙ many_more (text_of c.args.source.now) (trees_in c.args.source.now c.parts.rest) c.parts.rest.side.now c.parts.next.context c.parts.scopes c.parts.next.depth c.parts.next.at c.parts.next.end c.args.depth c.args.p (trees_in c.args.source.now c.after_first-rest.result) c.lead.new.scopes (sym c.is_none.ensures.answer ∙ c.parts-test.true) (rw (c.if-not-branch.false, c.deeper.ensures) at c.in_ok-lead.ensures) c.after_first-rest.ensures.row);
+  side = c.after_first-rest.ensures.side ∙ c.parts.invariant.side;
+  bound = c.after_first-rest.ensures.bound ∙ c.parts.invariant.bound;
+  below = rw c.parts.invariant.bound at c.after_first-rest.ensures.below;
+  fewer = omega arith;
+  level = rw c.behind-next.ensures c.parts.invariant.level;
+}
+
+pub many-returns : goal.many-returns
+many-returns t c = agrees _ _ (c.parts.invariant.same ∙ many_none (text_of c.args.source.now) (trees_in c.args.source.now c.parts.rest) c.parts.rest.side.now c.parts.next.context c.parts.scopes c.parts.next.depth c.parts.next.at c.parts.next.end c.args.depth c.args.p (sym c.is_none.ensures.answer ∙ c.parts-test.false)) c.read.ensures
+
+pub list-returns : goal.list-returns
+list-returns t c = c.parts.invariant.same ∙ list_stops (text_of c.args.source.now) (trees_in c.args.source.now c.parts.rest) c.parts.rest.side.now c.parts.next.context c.parts.scopes c.parts.next.depth c.parts.next.at c.parts.next.end c.args.depth c.args.p (rw (c.if-branch.false, c.deeper.ensures) at c.in_ok-lead.ensures)
+
+pub list-returns-then-is_none : goal.list-returns-then-is_none
+list-returns-then-is_none t c = agrees _ _ (c.parts.invariant.same ∙ list_ends (text_of c.args.source.now) (trees_in c.args.source.now c.parts.rest) c.parts.rest.side.now c.parts.next.context c.parts.scopes c.parts.next.depth c.parts.next.at c.parts.next.end c.args.depth c.args.p (trees_in c.args.source.now c.after_first-rest.result) c.lead.new.scopes (rw (c.if-branch.true, c.deeper.ensures) at c.in_ok-lead.ensures) c.after_first-rest.ensures.row (sym c.is_none.ensures.answer ∙ c.if-is_none.true)) (rw (c.behind-after.ensures, c.after_first-rest.ensures.side) at c.read.ensures)
+
+pub list-returns-then-not-is_word : goal.list-returns-then-not-is_word
+list-returns-then-not-is_word t c = c.parts.invariant.same ∙ list_odd (text_of c.args.source.now) (trees_in c.args.source.now c.parts.rest) c.parts.rest.side.now c.parts.next.context c.parts.scopes c.parts.next.depth c.parts.next.at c.parts.next.end c.args.depth c.args.p (trees_in c.args.source.now c.after_first-rest.result) c.lead.new.scopes (rw (c.if-branch.true, c.deeper.ensures) at c.in_ok-lead.ensures) c.after_first-rest.ensures.row (sym c.is_none.ensures.answer ∙ c.if-is_none.false) (rw c.behind-after.ensures at (sym c.is_word.ensures.answer ∙ c.if-not-is_word.true))
+
+pub list-parts-preserved : goal.list-parts-preserved
+list-parts-preserved t c = record {
+  same = rw (c.past_token-next.ensures, c.moved.ensures, c.behind-after.ensures, c.after_first-rest.ensures.side) (c.parts.invariant.same ∙ list_more (text_of c.args.source.now) (trees_in c.args.source.now c.parts.rest) c.parts.rest.side.now c.parts.next.context c.parts.scopes c.parts.next.depth c.parts.next.at c.parts.next.end c.args.depth c.args.p (trees_in c.args.source.now c.after_first-rest.result) c.lead.new.scopes (rw (c.if-branch.true, c.deeper.ensures) at c.in_ok-lead.ensures) c.after_first-rest.ensures.row (sym c.is_none.ensures.answer ∙ c.if-is_none.false) (rw c.behind-after.ensures at (sym c.is_word.ensures.answer ∙ c.if-not-is_word.false)));
+  side = c.after_first-rest.ensures.side ∙ c.parts.invariant.side;
+  bound = c.after_first-rest.ensures.bound ∙ c.parts.invariant.bound;
+  below = rw c.parts.invariant.bound at c.after_first-rest.ensures.below;
+  fewer = omega arith;
+  level = rw (c.past_token-next.ensures, c.moved.ensures) c.parts.invariant.level;
+}

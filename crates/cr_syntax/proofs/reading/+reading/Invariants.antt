@@ -1,4 +1,7 @@
-use Rattle.std.proofs.Common.{length, ◌+◌, ◌*◌, ◌^◌}
+use Rattle.std.proofs.Common.{◌≡◌, ◌≤◌, length, ◌+◌, ◌*◌, ◌^◌}
+use Rattle.cr_syntax.specs.declared.symbol.Symbol.TheVariants as symbol
+use Rattle.cr_syntax.specs.Kept.{AreBelow}
+use Rattle.cr_syntax.specs.Answers.{read_from}
 use Rattle.cr_syntax.proofs.reading.+reading.Given as goal
 
 abbrev pub decreases-read : goal.decreases-read
@@ -42,3 +45,31 @@ decreases-prototype l = (l.ahead.now.bound * 2 ^ 65 + length l.ahead.now.row.now
 
 abbrev pub decreases-size : goal.decreases-size
 decreases-size l = (l.ahead.now.bound * 2 ^ 65 + length l.ahead.now.row.now) * 2 ^ 68 + length l.ahead.now.side.now * 16 + 8
+
+-- what is left is read as the whole is
+abbrev pub invariant-many-parts : goal.invariant-many-parts
+invariant-many-parts l = record {
+  same : read_from l.source (symbol.Many l.depth l.p) l.ahead l.fn.place l.fn.scopes ≡ read_from l.source (symbol.Many l.depth l.p) l.rest l.next l.scopes;
+  side : l.rest.side.now ≡ l.ahead.side.now;
+  bound : l.rest.bound ≡ l.ahead.bound;
+  below : AreBelow l.rest.row.now l.ahead.bound;
+  fewer : length l.rest.row.now ≤ length l.ahead.row.now;
+  level : l.next.depth ≡ l.fn.place.depth;
+}
+
+abbrev pub decreases-many-parts : goal.decreases-many-parts
+decreases-many-parts l = length l.rest.row.now
+
+-- what is left is read as the whole is
+abbrev pub invariant-list-parts : goal.invariant-list-parts
+invariant-list-parts l = record {
+  same : read_from l.source (symbol.List l.depth l.p) l.ahead l.fn.place l.fn.scopes ≡ read_from l.source (symbol.List l.depth l.p) l.rest l.next l.scopes;
+  side : l.rest.side.now ≡ l.ahead.side.now;
+  bound : l.rest.bound ≡ l.ahead.bound;
+  below : AreBelow l.rest.row.now l.ahead.bound;
+  fewer : length l.rest.row.now ≤ length l.ahead.row.now;
+  level : l.next.depth ≡ l.fn.place.depth;
+}
+
+abbrev pub decreases-list-parts : goal.decreases-list-parts
+decreases-list-parts l = length l.rest.row.now
