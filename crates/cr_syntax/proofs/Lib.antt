@@ -6,4 +6,8 @@ pub mod Ranks
 pub mod Complete
 pub mod Arena
 pub mod Statements
+pub mod Readings
+pub mod Checked
+pub mod Spans
+pub mod Turns
 pub mod Examples

@@ -9,5 +9,7 @@ pub mod Kept
 pub mod Tables
 pub mod Chains
 pub mod Reads
+pub mod Steps
 pub mod Answers
 pub mod Laws
+pub mod Checked

@@ -9,7 +9,7 @@ use crate::node::{Kind, Node};
 use crate::symbol::{Context, Part};
 
 /// What is said where nothing stands before.
-const FRESH: Context = Context {
+pub const FRESH: Context = Context {
     typed: false,
     type_name: false,
     bare: false,
