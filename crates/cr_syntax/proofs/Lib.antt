@@ -15,3 +15,6 @@ pub mod MachineKept
 pub mod MachineMeans
 pub mod MachineSound
 pub mod MachineFirst
+pub mod MachineTasks
+pub mod MachineExpressions
+pub mod MachineBegins
