@@ -18,3 +18,4 @@ pub mod MachineFirst
 pub mod MachineTasks
 pub mod MachineExpressions
 pub mod MachineBegins
+pub mod MachineTypes

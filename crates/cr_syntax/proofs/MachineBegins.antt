@@ -28,10 +28,10 @@ use Rattle.cr_syntax.proofs.MachineSpells.{is_one, Names, by_declarator, by_dire
 use Rattle.cr_syntax.proofs.MachineFirst.{none_true, false_by, yes, differs, sorted}
 use Rattle.cr_syntax.proofs.MachineTasks.{past_row}
 
-or_left : (x y : Bool) → x ≡ true → x || y ≡ true
+pub or_left : (x y : Bool) → x ≡ true → x || y ≡ true
 or_left x y q = ap (λ b. b || y) q
 
-or_right : (x y : Bool) → y ≡ true → x || y ≡ true
+pub or_right : (x y : Bool) → y ≡ true → x || y ≡ true
 or_right true y q = refl
 or_right false y q = q
 
@@ -88,7 +88,7 @@ plain_is_specifier word.Register q = none_true q
 plain_is_specifier word.Inline q = none_true q
 plain_is_specifier _ q = q
 
-type_test : (ts : List Lexeme) (c : Scopes) (i : ℕ) (typed : Bool) → IsIdentifier ts c i true → typed ≡ false → m.passes ts c i (m.type_identifier typed) ≡ true
+pub type_test : (ts : List Lexeme) (c : Scopes) (i : ℕ) (typed : Bool) → IsIdentifier ts c i true → typed ≡ false → m.passes ts c i (m.type_identifier typed) ≡ true
 type_test ts c i typed q n = (ap (λ b. b && is_type c (spelling_at ts i) && not typed) (yes q.0)) ∙ (ap (λ b. b && not typed) q.1) ∙ (ap (λ b. not b) n)
 
 plain_yes : {ts : List Lexeme} {c : Scopes} {i : ℕ} {typed : Bool} → PlainFirst ts c i typed → m.passes ts c i (m.or (m.has is_plain_start) (m.type_identifier typed)) ≡ true

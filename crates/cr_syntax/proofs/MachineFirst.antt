@@ -209,13 +209,13 @@ name_start : (w : Word) → starts w ≡ true → same_word w word.Identifier �
 name_start word.Identifier q = none_true q
 name_start _ q = refl
 
-or_false : (x y : Bool) → x ≡ false → y ≡ false → x || y ≡ false
+pub or_false : (x y : Bool) → x ≡ false → y ≡ false → x || y ≡ false
 or_false x y p q = (ap (λ b. b || y) p) ∙ q
 
-and_false : (x y z : Bool) → x ≡ false → x && y && z ≡ false
+pub and_false : (x y z : Bool) → x ≡ false → x && y && z ≡ false
 and_false x y z p = ap (λ b. b && y && z) p
 
-and_first : (x y z : Bool) → y ≡ false → x && y && z ≡ false
+pub and_first : (x y z : Bool) → y ≡ false → x && y && z ≡ false
 and_first true y z p = ap (λ b. b && z) p
 and_first false y z p = refl
 

@@ -77,13 +77,13 @@ open_of [] q = absurd (omega arith)
 open_of (names ∷ c) q = refl
 
 -- a name that enters behind it
-brought_is : (ts : List Lexeme) (i k : ℕ) (b : Bool) → k < i → brought ts i k b ≡ record { name = spelling_at ts k; is_type = b }
+pub brought_is : (ts : List Lexeme) (i k : ℕ) (b : Bool) → k < i → brought ts i k b ≡ record { name = spelling_at ts k; is_type = b }
 brought_is ts i k b lt = ap (λ x. record { name = if x then spelling_at ts k else []; is_type = b }) (lt-ltb k i lt)
 
 
 -- Rows.
 
-part_some : {ts : List Lexeme} {limit : Limit} {p : Part} {h : Context} {c e : Scopes} {d i j : ℕ} {t : Trees} →
+pub part_some : {ts : List Lexeme} {limit : Limit} {p : Part} {h : Context} {c e : Scopes} {d i j : ℕ} {t : Trees} →
     Spells ts limit (a p) h c e d t i j → (u : Trees) → has_some (t & u) ≡ true
 part_some s u = let w = is_one s in subst (λ x. has_some (x & u) ≡ true) (sym w.2) refl
 
@@ -91,13 +91,13 @@ pushed_some : (t u : Trees) → has_some t ≡ true → has_some (t & u) ≡ tru
 pushed_some none u q = cc
 pushed_some (node k i j b n) u q = refl
 
-two_in_row : (p : Part) (s e : ℕ) (t u v : Trees) → has_some t ≡ true → has_some u ≡ true → in_row p s e (t & (u & v)) ≡ one (row_kind p) s e (t & (u & v))
+pub two_in_row : (p : Part) (s e : ℕ) (t u v : Trees) → has_some t ≡ true → has_some u ≡ true → in_row p s e (t & (u & v)) ≡ one (row_kind p) s e (t & (u & v))
 two_in_row p s e none u v q q' = cc
 two_in_row p s e (node k i j b none) none v q q' = cc
 two_in_row p s e (node k i j b none) (node k' i' j' b' n') v q q' = refl
 two_in_row p s e (node k i j b (node k' i' j' b' n')) u v q q' = refl
 
-two_parameters : (s e : ℕ) (t u : Trees) → has_some t ≡ true → has_some u ≡ true → in_parameters s e (t & u) ≡ one kind.Parameters s e (t & u)
+pub two_parameters : (s e : ℕ) (t u : Trees) → has_some t ≡ true → has_some u ≡ true → in_parameters s e (t & u) ≡ one kind.Parameters s e (t & u)
 two_parameters s e none u q q' = cc
 two_parameters s e (node k i j b n) none q q' = cc
 two_parameters s e (node k i j b none) (node k' i' j' b' n') q q' = by k

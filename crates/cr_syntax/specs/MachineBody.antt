@@ -282,6 +282,12 @@ other_element h d s =
     (take plain (the word.Enum) d (call (enumeration d s) give)
     (take plain (type_identifier h.typed) d (made kind.TypedefName s none) (stop d)))
 
+-- what follows a member's declarator: no bit-field, another declarator, or the end of the member
+abbrev pub member_end : Context → ℕ → ℕ → Trees → Trees → Prog
+member_end h d s a t = bar (the word.Colon) 5 d
+    (take plain (the word.Comma) d (call (member_declarators (past_token h) d s (a & t & none)) give)
+    (expect plain word.Semicolon d (made kind.MemberDeclaration s (a & t & none))))
+
 abbrev pub body : Goal → Prog
 body (whole p d) = call (start_goal p d) (λ t. bar (has is_unused) 1 d (give t))
 -- 6.5.17
@@ -349,9 +355,7 @@ body (structure d s) = take plain (the word.Identifier) d
 body (members d s a) = call (member (d + 1)) (λ t.
     take plain (the word.RightBrace) (d + 1) (made kind.StructContent s (a & t & none)) (call (members d s (a & t & none)) give))
 body (member d) = here (λ s. call (row part.PlainSpecifiers fresh d) (λ t. call (member_declarators (past_part fresh t) d s (t & none)) give))
-body (member_declarators h d s a) = call (declarator named h d) (λ t. drops (bar (the word.Colon) 5 d
-    (take plain (the word.Comma) d (call (member_declarators (past_token h) d s (a & t & none)) give)
-    (expect plain word.Semicolon d (made kind.MemberDeclaration s (a & t & none))))))
+body (member_declarators h d s a) = call (declarator named h d) (λ t. drops (member_end h d s a t))
 -- 6.7.2.2
 body (enumeration d s) = take plain (the word.Identifier) d
     (take opens (the word.LeftBrace) d (call (enumerators d s none) give) (made kind.EnumTag s none))
