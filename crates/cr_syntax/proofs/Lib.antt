@@ -19,3 +19,4 @@ pub mod MachineTasks
 pub mod MachineExpressions
 pub mod MachineBegins
 pub mod MachineTypes
+pub mod MachineDeclarators

@@ -106,6 +106,7 @@ pub data NoSpecifier : Word → Type 0 where
   no_left_brace : NoSpecifier word.LeftBrace
   no_right_brace : NoSpecifier word.RightBrace
   no_ellipsis : NoSpecifier word.Ellipsis
+  no_right_paren : NoSpecifier word.RightParen
 
 same_is : (v w : Word) → same_word v w ≡ true → v ≡ w
 same_is v w q = same_true word_type.the_type tt v w q
@@ -117,6 +118,7 @@ not_specifier v w n s = false_by (same_word v w) (λ q. by n (subst (λ x. is_sp
     by no_left_brace q = none_true q
     by no_right_brace q = none_true q
     by no_ellipsis q = none_true q
+    by no_right_paren q = none_true q
 
 pub never_element : {ts : List Lexeme} {c : Scopes} {i : ℕ} {typed : Bool} {w : Word} → ElementFirst ts c i typed → NoSpecifier w → is_word ts i w ≡ false
 never_element {w = w} (by_storage {w = v} q s) n = differs q w (not_specifier v w n s)
@@ -124,6 +126,7 @@ never_element {w = w} (of_plain (by_plain {w = v} q s)) n = differs q w (not_spe
 never_element (of_plain (by_type q s)) no_left_brace = differs q.0 word.LeftBrace refl
 never_element (of_plain (by_type q s)) no_right_brace = differs q.0 word.RightBrace refl
 never_element (of_plain (by_type q s)) no_ellipsis = differs q.0 word.Ellipsis refl
+never_element (of_plain (by_type q s)) no_right_paren = differs q.0 word.RightParen refl
 
 pub element_first : (p : Part) {ts : List Lexeme} {limit : Limit} {h : Context} {c e : Scopes} {d i j : ℕ} {t : Trees} → Spells ts limit (a (element_part p)) h c e d t i j → ElementFirst ts c i h.typed
 element_first part.Specifiers s = specifier_first s

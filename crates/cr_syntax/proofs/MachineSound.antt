@@ -87,7 +87,7 @@ pub part_some : {ts : List Lexeme} {limit : Limit} {p : Part} {h : Context} {c e
     Spells ts limit (a p) h c e d t i j → (u : Trees) → has_some (t & u) ≡ true
 part_some s u = let w = is_one s in subst (λ x. has_some (x & u) ≡ true) (sym w.2) refl
 
-pushed_some : (t u : Trees) → has_some t ≡ true → has_some (t & u) ≡ true
+pub pushed_some : (t u : Trees) → has_some t ≡ true → has_some (t & u) ≡ true
 pushed_some none u q = cc
 pushed_some (node k i j b n) u q = refl
 
@@ -111,11 +111,11 @@ two_parameters s e (node k i j b (node k'' i'' j'' b'' n'')) (node k' i' j' b' n
     by kind.Void = refl
     by _ = refl
 
-bare_is : {ts : List Lexeme} {limit : Limit} {p : Part} {h' : Context} {c e : Scopes} {d i j : ℕ} {t : Trees} →
+pub bare_is : {ts : List Lexeme} {limit : Limit} {p : Part} {h' : Context} {c e : Scopes} {d i j : ℕ} {t : Trees} →
     Spells ts limit (a p) h' c e d t i j → (h : Context) → (past_part h t).bare ≡ is_bare t
 bare_is s h = let w = is_one s in subst (λ x. (past_part h x).bare ≡ is_bare x) (sym w.2) refl
 
-name_is : {ts : List Lexeme} {limit : Limit} {p : Part} {h' : Context} {c e : Scopes} {d i j : ℕ} {t : Trees} →
+pub name_is : {ts : List Lexeme} {limit : Limit} {p : Part} {h' : Context} {c e : Scopes} {d i j : ℕ} {t : Trees} →
     Spells ts limit (a p) h' c e d t i j → (h : Context) → (past_part h t).name ≡ declared_in t
 name_is s h = let w = is_one s in subst (λ x. (past_part h x).name ≡ declared_in x) (sym w.2) refl
 

@@ -56,7 +56,7 @@ closes_apart (by_paren q) = differs q word.LeftBrace refl
 closes_apart (by_comma q) = differs q word.LeftBrace refl
 closes_apart (by_semicolon q) = differs q word.LeftBrace refl
 
-unnamed_row : (p : Part) (ts : List Lexeme) (c : Scopes) (i : ℕ) (typed : Bool) → UnnamedFirst ts i → m.passes ts c i (element_start p typed) ≡ false
+pub unnamed_row : (p : Part) (ts : List Lexeme) (c : Scopes) (i : ℕ) (typed : Bool) → UnnamedFirst ts i → m.passes ts c i (element_start p typed) ≡ false
 unnamed_row p ts c i typed (at_star q) = ends_row p ts c i typed q refl refl refl
 unnamed_row p ts c i typed (at_paren q) = ends_row p ts c i typed q refl refl refl
 unnamed_row p ts c i typed (at_bracket q) = ends_row p ts c i typed q refl refl refl
@@ -93,7 +93,7 @@ named_apart (by_name q g) = differs q word.LeftBrace refl
 
 -- Tables.
 
-plain_row : {w : Word} {k : Kind} (p : Part) → all_differ w storage_words ≡ true → Row w k plain_words → Row w k (specifier_words p)
+pub plain_row : {w : Word} {k : Kind} (p : Part) → all_differ w storage_words ≡ true → Row w k plain_words → Row w k (specifier_words p)
 plain_row part.Specifiers q x = later_row storage_words plain_words q x
 plain_row _ q x = x
 
@@ -119,7 +119,7 @@ module _ (ts : List Lexeme) (limit : Limit) where
 
   module _ (n : ℕ) (b : Smaller ts limit n) where
     -- a word that is a specifier by itself
-    word_reads : (p : Part) (h : Context) (d : ℕ) {w : Word} {k : Kind} {c : Scopes} {i : ℕ} → Row w k (specifier_words p) → Is ts i w → Stands limit i d → Answers ts limit (m.element p h d) c i (one k i (i + 1) none) c (i + 1)
+    pub word_reads : (p : Part) (h : Context) (d : ℕ) {w : Word} {k : Kind} {c : Scopes} {i : ℕ} → Row w k (specifier_words p) → Is ts i w → Stands limit i d → Answers ts limit (m.element p h d) c i (one k i (i + 1) none) c (i + 1)
     word_reads p h d {i = i} row q w = run_here (takes body ts limit row plain d (λ k. made k i none) (other_element h d i) q w (run_here run_give))
 
     -- members behind `{`, and enumerators
@@ -211,12 +211,12 @@ module _ (ts : List Lexeme) (limit : Limit) where
         run_here (run_call (b.read (task.element p) s lt nb) (then_give (run_unseen fo (run_here
             (subst (λ y. Goes ts limit (give (in_row p i j (t & none))) e j (Done y e j)) (in_row_one s p i j) run_give)))))
 
-    specifiers_read : {h : Context} {c e : Scopes} {d i j : ℕ} {t : Trees} (s : Spells ts limit (a part.Specifiers) h c e d t i j) → measure s < suc n → Completes ts limit (task.row part.Specifiers) h c e d t i j
+    pub specifiers_read : {h : Context} {c e : Scopes} {d i j : ℕ} {t : Trees} (s : Spells ts limit (a part.Specifiers) h c e d t i j) → measure s < suc n → Completes ts limit (task.row part.Specifiers) h c e d t i j
     specifiers_read (spells.of_chain grammar.specifiers_one f s) lt fo nb = row_alone_reads part.Specifiers s (omega arith) fo nb
     specifiers_read {h = h} {e = e} {j = j} (spells.of_alternative grammar.declaration_specifiers f s) lt fo nb =
         row_node_reads part.Specifiers s (omega arith) (subst (λ y. m.passes ts e j (element_start part.Specifiers y) ≡ false) (sym (node_typed part.Specifiers s h)) fo) nb
 
-    plain_specifiers_read : {h : Context} {c e : Scopes} {d i j : ℕ} {t : Trees} (s : Spells ts limit (a part.PlainSpecifiers) h c e d t i j) → measure s < suc n → Completes ts limit (task.row part.PlainSpecifiers) h c e d t i j
+    pub plain_specifiers_read : {h : Context} {c e : Scopes} {d i j : ℕ} {t : Trees} (s : Spells ts limit (a part.PlainSpecifiers) h c e d t i j) → measure s < suc n → Completes ts limit (task.row part.PlainSpecifiers) h c e d t i j
     plain_specifiers_read (spells.of_chain grammar.plain_one f s) lt fo nb = row_alone_reads part.PlainSpecifiers s (omega arith) fo nb
     plain_specifiers_read {h = h} {e = e} {j = j} (spells.of_alternative grammar.specifier_qualifier_list f s) lt fo nb =
         row_node_reads part.PlainSpecifiers s (omega arith) (subst (λ y. m.passes ts e j (element_start part.PlainSpecifiers y) ≡ false) (sym (node_typed part.PlainSpecifiers s h)) fo) nb
