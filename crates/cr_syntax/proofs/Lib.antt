@@ -20,3 +20,4 @@ pub mod MachineExpressions
 pub mod MachineBegins
 pub mod MachineTypes
 pub mod MachineDeclarators
+pub mod MachineComplete

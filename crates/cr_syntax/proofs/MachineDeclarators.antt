@@ -23,9 +23,10 @@ use Rattle.cr_syntax.specs.Reads.{is_word, same_word}
 use Rattle.cr_syntax.specs.Machine.{Goal, Prog, Wanted, Reply, Done, Runs, plain, opens, reopens, give, take, call, made, the, run_give, run_stop, run_take, run_pass, run_free, run_seen, run_unseen, run_yes, run_no, run_here, run_look, run_set, run_bring, run_call, run_fail}
 use Rattle.cr_syntax.specs.Machine as m
 use Rattle.cr_syntax.specs.MachineBody.{body, Words, member_end, assigned, operated, prefixed, suffixed, sized, other_primary, suffixes_end, other_element, is_unary, is_identifier, tighter, assignment_operators, operators, unary_prefixes, cast_prefixes, constants, postfix_operators, specifier_words, plain_words, storage_words, row_kind, is_plain_start, is_specifier_start, is_abstract_start, is_declarator_start, element_start, type_start, in_row, in_parameters, declarator_start, is_declarator, array_start, pointer_end, may_name, may_omit}
+use Rattle.cr_syntax.specs.MachineLaws.{IsFree}
 use Rattle.cr_syntax.proofs.MachineMeans.{is_level, row_part, element_part, has_some}
 use Rattle.cr_syntax.proofs.MachineSpells.{and_none, and_and, pushed}
-use Rattle.cr_syntax.proofs.MachineFirst.{none_true, false_by, or_false, and_false, and_first, later_row, yes, differs, sorted, IsFree, free_by, lower, fails, all_below, all_differ, Row, row_here, row_next, takes, skips, ends, tail, First, never, never_bracket, never_paren, never_brace, not_type, first_expression, first_assignment, first_cast, first_conditional, unary_is, a_unary}
+use Rattle.cr_syntax.proofs.MachineFirst.{none_true, false_by, or_false, and_false, and_first, later_row, yes, differs, sorted, free_by, lower, fails, all_below, all_differ, Row, row_here, row_next, takes, skips, ends, tail, First, never, never_bracket, never_paren, never_brace, not_type, first_expression, first_assignment, first_cast, first_conditional, unary_is, a_unary}
 
 use Rattle.cr_syntax.proofs.MachineSound.{brought_is, part_some, pushed_some, two_parameters, bare_is, name_is}
 use Rattle.cr_syntax.proofs.MachineSpells.{is_one, named_before}
@@ -251,18 +252,18 @@ module _ (ts : List Lexeme) (limit : Limit) where
 
     pub parameter_reads : {h : Context} {c e : Scopes} {d i j : ℕ} {t : Trees} (s : Spells ts limit (a part.Parameter) h c e d t i j) → measure s < suc n → Completes ts limit task.parameter h c e d t i j
     parameter_reads {e = e} {j = j} {t = t} (spells.of_chain grammar.parameter_unnamed f s) lt = λ o.
-        run_here (run_call (b.read (task.row part.Specifiers) s (omega arith) (closes_row part.Specifiers ts e j (past_part fresh t).typed o) (closes_apart o))
+        run_here (run_call (b.read task.specifiers s (omega arith) (closes_row part.Specifiers ts e j (past_part fresh t).typed o) (closes_apart o))
         (run_unseen (closes_sorted o is_declarator_start refl refl refl) run_give))
     parameter_reads {i = i} (spells.of_alternative grammar.parameter_declaration f (spells.part {e = c'} {j = k} {t = t} x (spells.part (spells.of_alternative y g s) spells.done))) lt = elim y [ ]
     parameter_reads {i = i} (spells.of_alternative grammar.parameter_declaration f (spells.part {e = c'} {j = k} {t = t} x (spells.part (spells.of_chain grammar.parameter_abstract g s) spells.done))) lt = λ o.
         let u = unnamed_first begin.by_abstract s in
-        run_here (run_call (b.read (task.row part.Specifiers) x (omega arith) (unnamed_row part.Specifiers ts c' k (past_part fresh t).typed u) (unnamed_apart u))
+        run_here (run_call (b.read task.specifiers x (omega arith) (unnamed_row part.Specifiers ts c' k (past_part fresh t).typed u) (unnamed_apart u))
         (run_seen (unnamed_sorted u) (run_call (b.read task.abstract s (omega arith) m.either (past_part fresh t) refl o) (run_no (is_unnamed begin.by_abstract s) (run_here run_give)))))
     parameter_reads {i = i} {j = j} (spells.of_alternative grammar.parameter_declaration f (spells.part {e = c'} {j = k} {t = t} x (spells.part (spells.parameter_declarator {e = e'} {t = u} s) spells.done))) lt = λ o.
         let v = named_first facts.by_declarator s in
         let w = named_before facts.by_declarator s in
         let y = name_is s (past_part fresh t) in
-        run_here (run_call (b.read (task.row part.Specifiers) x (omega arith) (named_row part.Specifiers ts c' k (past_part fresh t).typed v) (named_apart v))
+        run_here (run_call (b.read task.specifiers x (omega arith) (named_row part.Specifiers ts c' k (past_part fresh t).typed v) (named_apart v))
         (run_seen (named_sorted v) (run_call (b.read task.declarator s (omega arith) m.either refl o) (run_yes (is_named facts.by_declarator s) (run_look (run_set (run_bring (run_here
             (subst (λ z. Goes ts limit (give (one kind.Parameter i j (t & u & none))) (enter (m.brought ts j (past_part (past_part fresh t) u).name (past_part (past_part fresh t) u).type_name) e') j (Done (one kind.Parameter i j (t & u & none)) (enter z e') j))
                 (brought_is ts j (past_part (past_part fresh t) u).name (past_part (past_part fresh t) u).type_name (omega arith)) run_give)))))))))

@@ -21,9 +21,10 @@ use Rattle.cr_syntax.specs.Reads.{is_word, same_word}
 use Rattle.cr_syntax.specs.Machine.{Goal, Prog, Wanted, Reply, Done, Runs, plain, opens, reopens, give, take, call, made, the, run_give, run_stop, run_take, run_pass, run_free, run_seen, run_unseen, run_yes, run_no, run_here, run_look, run_set, run_bring, run_call, run_fail}
 use Rattle.cr_syntax.specs.Machine as m
 use Rattle.cr_syntax.specs.MachineBody.{body, Words, assigned, operated, prefixed, suffixed, sized, other_primary, suffixes_end, other_element, is_unary, is_identifier, tighter, assignment_operators, operators, unary_prefixes, cast_prefixes, constants, postfix_operators, specifier_words, element_start, type_start, in_row, may_name, may_omit}
+use Rattle.cr_syntax.specs.MachineLaws.{rank_of, IsFree}
 use Rattle.cr_syntax.proofs.MachineMeans.{is_level, row_part, element_part, has_some}
 use Rattle.cr_syntax.proofs.MachineSpells.{and_none, and_and, pushed}
-use Rattle.cr_syntax.proofs.MachineFirst.{none_true, false_by, rank_of, yes, differs, sorted, IsFree, free_by, lower, fails, all_below, all_differ, Row, row_here, row_next, takes, skips, ends, tail, First, by_word, by_name, never, never_bracket, never_paren, never_brace, not_type, first_expression, first_assignment, first_cast, first_conditional, unary_is, a_unary}
+use Rattle.cr_syntax.proofs.MachineFirst.{none_true, false_by, yes, differs, sorted, free_by, lower, fails, all_below, all_differ, Row, row_here, row_next, takes, skips, ends, tail, First, by_word, by_name, never, never_bracket, never_paren, never_brace, not_type, first_expression, first_assignment, first_cast, first_conditional, unary_is, a_unary}
 
 use Rattle.cr_syntax.proofs.MachineTasks.{measure, Lone, lone_by, lone_free, Closes, base, below, Task, Goes, Answers, Started, by_group, by_others, Completes, Smaller}
 use Rattle.cr_syntax.proofs.MachineTasks as task

@@ -20,6 +20,7 @@ use Rattle.cr_syntax.specs.Reads.{is_word, same_word}
 use Rattle.cr_syntax.specs.Machine.{Goal, Prog, Manner, Test, Reply, Runs, Allows, Done, Failed, choose, call, give, has_word, passes, run_give, run_take, run_pass, run_call, run_fail}
 use Rattle.cr_syntax.specs.Machine as m
 use Rattle.cr_syntax.specs.MachineBody.{Words, is_plain_start, type_start, is_unary}
+use Rattle.cr_syntax.specs.MachineLaws.{rank_of, IsFree}
 use Rattle.cr_syntax.proofs.Tests.{is_of, both}
 
 pub none_true : {A : Type 0} → false ≡ true → A
@@ -41,52 +42,6 @@ sorted f b q n = subst (λ o. elim o as (λ _. Bool) [ None ↦ false | Some v �
 
 some_word : {v w : Word} → Some v ≡ Some w → v ≡ w
 some_word q = cc
-
--- How loosely a word goes on with an expression: a suffix of the tightest, a comma of the loosest.
-abbrev pub rank_of : Word → ℕ
-rank_of word.LeftBracket = 0
-rank_of word.LeftParen = 0
-rank_of word.Dot = 0
-rank_of word.Arrow = 0
-rank_of word.PlusPlus = 0
-rank_of word.MinusMinus = 0
-rank_of word.Text = 0
-rank_of word.Star = 1
-rank_of word.Slash = 1
-rank_of word.Percent = 1
-rank_of word.Plus = 2
-rank_of word.Minus = 2
-rank_of word.LessLess = 3
-rank_of word.GreaterGreater = 3
-rank_of word.Less = 4
-rank_of word.Greater = 4
-rank_of word.LessEqual = 4
-rank_of word.GreaterEqual = 4
-rank_of word.EqualEqual = 5
-rank_of word.BangEqual = 5
-rank_of word.Ampersand = 6
-rank_of word.Caret = 7
-rank_of word.Bar = 8
-rank_of word.AndAnd = 9
-rank_of word.BarBar = 10
-rank_of word.Question = 11
-rank_of word.Equal = 12
-rank_of word.StarEqual = 12
-rank_of word.SlashEqual = 12
-rank_of word.PercentEqual = 12
-rank_of word.PlusEqual = 12
-rank_of word.MinusEqual = 12
-rank_of word.LessLessEqual = 12
-rank_of word.GreaterGreaterEqual = 12
-rank_of word.AmpersandEqual = 12
-rank_of word.CaretEqual = 12
-rank_of word.BarEqual = 12
-rank_of word.Comma = 13
-rank_of _ = 14
-
--- no word of this rank or a tighter one stands at token j
-pub record IsFree (ts : List Lexeme) (n j : ℕ) : Type 0 where
-  pub all : (w : Word) → Is ts j w → n < rank_of w
 
 pub free_by : {ts : List Lexeme} {n j : ℕ} {w : Word} → Is ts j w → n < rank_of w → IsFree ts n j
 free_by {n = n} {w = w} q lt = record { all = λ v q'. subst (λ x. n < rank_of x) (some_word (sym q ∙ q')) lt }

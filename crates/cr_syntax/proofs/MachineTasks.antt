@@ -20,9 +20,10 @@ use Rattle.cr_syntax.specs.Reads.{is_word, same_word}
 use Rattle.cr_syntax.specs.Machine.{Goal, Prog, Wanted, Reply, Done, Runs, plain, opens, reopens, give, take, call, made, the, run_give, run_stop, run_take, run_pass, run_free, run_seen, run_unseen, run_yes, run_no, run_here, run_look, run_set, run_bring, run_call, run_fail}
 use Rattle.cr_syntax.specs.Machine as m
 use Rattle.cr_syntax.specs.MachineBody.{body, Words, assigned, operated, prefixed, suffixed, sized, other_primary, suffixes_end, other_element, is_unary, is_identifier, tighter, assignment_operators, operators, unary_prefixes, cast_prefixes, constants, postfix_operators, specifier_words, element_start, type_start, in_row, may_name, may_omit}
+use Rattle.cr_syntax.specs.MachineLaws.{IsFree}
 use Rattle.cr_syntax.proofs.MachineMeans.{is_level, row_part, element_part, has_some}
 use Rattle.cr_syntax.proofs.MachineSpells.{and_none, and_and, pushed}
-use Rattle.cr_syntax.proofs.MachineFirst.{none_true, yes, differs, sorted, IsFree, free_by, lower, fails, all_below, all_differ, Row, row_here, row_next, takes, skips, ends, tail, First, by_word, by_name, never, never_bracket, never_paren, never_brace, not_type, first_expression, first_assignment, first_cast, first_conditional, unary_is, a_unary}
+use Rattle.cr_syntax.proofs.MachineFirst.{none_true, yes, differs, sorted, free_by, lower, fails, all_below, all_differ, Row, row_here, row_next, takes, skips, ends, tail, First, by_word, by_name, never, never_bracket, never_paren, never_brace, not_type, first_expression, first_assignment, first_cast, first_conditional, unary_is, a_unary}
 
 -- how much stands in a spelling
 abbrev pub measure : {ts : List Lexeme} {limit : Limit} {p : Phrase} {h : Context} {c e : Scopes} {d i j : ℕ} {t : Trees} → Spells ts limit p h c e d t i j → ℕ
@@ -134,7 +135,8 @@ pub data Task : Phrase → Type 0 where
   postfix : Task (a part.Postfix)
   arguments : Task (rest (inner_list part.Assignment ∷ closing word.RightParen ∷ []))
   type_name : Task (a part.TypeName)
-  row : (p : Part) → Task (a (row_part p))
+  specifiers : Task (a part.Specifiers)
+  plain_specifiers : Task (a part.PlainSpecifiers)
   element : (p : Part) → Task (a (element_part p))
   elements : (p : Part) → Task (rest (many (element_part p) ∷ []))
   member : Task (a part.MemberDeclaration)
@@ -173,7 +175,8 @@ module _ (ts : List Lexeme) (limit : Limit) where
   Completes postfix h c e d t i j = Lone ts j → (r : Reply) → Goes (body (m.suffixes d i t)) e j r → Started d c i r
   Completes arguments h c e d t i j = (x : Trees) → Answers (m.arguments d x) c i (x & t) e j
   Completes type_name h c e d t i j = Is ts j word.RightParen → Answers (m.type_name d) c i t e j
-  Completes (row p) h c e d t i j = m.passes ts e j (element_start p (past_part h t).typed) ≡ false → is_word ts j word.LeftBrace ≡ false → Answers (m.row p h d) c i t e j
+  Completes specifiers h c e d t i j = m.passes ts e j (element_start part.Specifiers (past_part h t).typed) ≡ false → is_word ts j word.LeftBrace ≡ false → Answers (m.row part.Specifiers h d) c i t e j
+  Completes plain_specifiers h c e d t i j = m.passes ts e j (element_start part.PlainSpecifiers (past_part h t).typed) ≡ false → is_word ts j word.LeftBrace ≡ false → Answers (m.row part.PlainSpecifiers h d) c i t e j
   Completes (element p) h c e d t i j = is_word ts j word.LeftBrace ≡ false → Answers (m.element p h d) c i t e j
   Completes (elements p) h c e d t i j = (s : ℕ) (x : Trees) → m.passes ts e j (element_start p (past_row h t).typed) ≡ false → is_word ts j word.LeftBrace ≡ false →
       Answers (m.more p h d s x) c i (in_row p s j (x & t)) e j

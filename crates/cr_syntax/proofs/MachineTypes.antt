@@ -22,9 +22,10 @@ use Rattle.cr_syntax.specs.Reads.{is_word, same_word}
 use Rattle.cr_syntax.specs.Machine.{Goal, Prog, Wanted, Reply, Done, Runs, plain, opens, reopens, give, take, call, made, the, run_give, run_stop, run_take, run_pass, run_free, run_seen, run_unseen, run_yes, run_no, run_here, run_look, run_set, run_bring, run_call, run_fail}
 use Rattle.cr_syntax.specs.Machine as m
 use Rattle.cr_syntax.specs.MachineBody.{body, Words, member_end, assigned, operated, prefixed, suffixed, sized, other_primary, suffixes_end, other_element, is_unary, is_identifier, tighter, assignment_operators, operators, unary_prefixes, cast_prefixes, constants, postfix_operators, specifier_words, plain_words, storage_words, row_kind, is_plain_start, is_specifier_start, is_abstract_start, is_declarator_start, element_start, type_start, in_row, may_name, may_omit}
+use Rattle.cr_syntax.specs.MachineLaws.{IsFree}
 use Rattle.cr_syntax.proofs.MachineMeans.{is_level, row_part, element_part, has_some}
 use Rattle.cr_syntax.proofs.MachineSpells.{and_none, and_and, pushed}
-use Rattle.cr_syntax.proofs.MachineFirst.{none_true, false_by, or_false, and_false, and_first, later_row, yes, differs, sorted, IsFree, free_by, lower, fails, all_below, all_differ, Row, row_here, row_next, takes, skips, ends, tail, First, never, never_bracket, never_paren, never_brace, not_type, first_expression, first_assignment, first_cast, first_conditional, unary_is, a_unary}
+use Rattle.cr_syntax.proofs.MachineFirst.{none_true, false_by, or_false, and_false, and_first, later_row, yes, differs, sorted, free_by, lower, fails, all_below, all_differ, Row, row_here, row_next, takes, skips, ends, tail, First, never, never_bracket, never_paren, never_brace, not_type, first_expression, first_assignment, first_cast, first_conditional, unary_is, a_unary}
 
 use Rattle.cr_syntax.proofs.MachineSound.{brought_is, part_some, two_in_row, two_parameters}
 use Rattle.cr_syntax.proofs.MachineSpells.{is_one, forth}
@@ -211,23 +212,23 @@ module _ (ts : List Lexeme) (limit : Limit) where
         run_here (run_call (b.read (task.element p) s lt nb) (then_give (run_unseen fo (run_here
             (subst (λ y. Goes ts limit (give (in_row p i j (t & none))) e j (Done y e j)) (in_row_one s p i j) run_give)))))
 
-    pub specifiers_read : {h : Context} {c e : Scopes} {d i j : ℕ} {t : Trees} (s : Spells ts limit (a part.Specifiers) h c e d t i j) → measure s < suc n → Completes ts limit (task.row part.Specifiers) h c e d t i j
+    pub specifiers_read : {h : Context} {c e : Scopes} {d i j : ℕ} {t : Trees} (s : Spells ts limit (a part.Specifiers) h c e d t i j) → measure s < suc n → Completes ts limit task.specifiers h c e d t i j
     specifiers_read (spells.of_chain grammar.specifiers_one f s) lt fo nb = row_alone_reads part.Specifiers s (omega arith) fo nb
     specifiers_read {h = h} {e = e} {j = j} (spells.of_alternative grammar.declaration_specifiers f s) lt fo nb =
         row_node_reads part.Specifiers s (omega arith) (subst (λ y. m.passes ts e j (element_start part.Specifiers y) ≡ false) (sym (node_typed part.Specifiers s h)) fo) nb
 
-    pub plain_specifiers_read : {h : Context} {c e : Scopes} {d i j : ℕ} {t : Trees} (s : Spells ts limit (a part.PlainSpecifiers) h c e d t i j) → measure s < suc n → Completes ts limit (task.row part.PlainSpecifiers) h c e d t i j
+    pub plain_specifiers_read : {h : Context} {c e : Scopes} {d i j : ℕ} {t : Trees} (s : Spells ts limit (a part.PlainSpecifiers) h c e d t i j) → measure s < suc n → Completes ts limit task.plain_specifiers h c e d t i j
     plain_specifiers_read (spells.of_chain grammar.plain_one f s) lt fo nb = row_alone_reads part.PlainSpecifiers s (omega arith) fo nb
     plain_specifiers_read {h = h} {e = e} {j = j} (spells.of_alternative grammar.specifier_qualifier_list f s) lt fo nb =
         row_node_reads part.PlainSpecifiers s (omega arith) (subst (λ y. m.passes ts e j (element_start part.PlainSpecifiers y) ≡ false) (sym (node_typed part.PlainSpecifiers s h)) fo) nb
 
     pub type_name_reads : {h : Context} {c e : Scopes} {d i j : ℕ} {t : Trees} (s : Spells ts limit (a part.TypeName) h c e d t i j) → measure s < suc n → Completes ts limit task.type_name h c e d t i j
     type_name_reads {e = e} {j = j} {t = t} (spells.of_chain grammar.type_name_plain f s) lt = λ q.
-        run_here (run_call (b.read (task.row part.PlainSpecifiers) s (omega arith) (closes_row part.PlainSpecifiers ts e j (past_part fresh t).typed (by_paren q)) (differs q word.LeftBrace refl))
+        run_here (run_call (b.read task.plain_specifiers s (omega arith) (closes_row part.PlainSpecifiers ts e j (past_part fresh t).typed (by_paren q)) (differs q word.LeftBrace refl))
         (run_unseen (sorted is_abstract_start false q refl) run_give))
     type_name_reads (spells.of_alternative grammar.type_name f (spells.part {e = c'} {j = k} {t = t} x (spells.part y spells.done))) lt = λ q.
         let o = unnamed_first begin.by_abstract y in
-        run_here (run_call (b.read (task.row part.PlainSpecifiers) x (omega arith) (unnamed_row part.PlainSpecifiers ts c' k (past_part fresh t).typed o) (unnamed_apart o))
+        run_here (run_call (b.read task.plain_specifiers x (omega arith) (unnamed_row part.PlainSpecifiers ts c' k (past_part fresh t).typed o) (unnamed_apart o))
         (run_seen (unnamed_start o) (run_call (b.read task.abstract y (omega arith) m.unnamed fresh refl (by_paren q)) (run_here run_give))))
 
     -- Members.
@@ -271,7 +272,7 @@ module _ (ts : List Lexeme) (limit : Limit) where
     member_reads {c = c} {e = e} {d = d} {i = i} {j = j} (spells.of_alternative grammar.struct_declaration f (spells.part {e = c'} {j = k} {t = t} {u = u} x s)) lt =
         let o = member_list_first s in
         subst (λ z. Answers ts limit (m.member d) c i (one kind.MemberDeclaration i j z) e j) (and_and t none u)
-        (run_here (run_call (b.read (task.row part.PlainSpecifiers) x (omega arith) (named_row part.PlainSpecifiers ts c' k (past_part fresh t).typed o) (named_apart o))
+        (run_here (run_call (b.read task.plain_specifiers x (omega arith) (named_row part.PlainSpecifiers ts c' k (past_part fresh t).typed o) (named_apart o))
         (then_give (b.read task.member_list s (omega arith) i (t & none)))))
 
     pub members_read : {h : Context} {c e : Scopes} {d i j : ℕ} {t : Trees} (s : Spells ts limit (rest (inner_many part.MemberDeclaration ∷ closing word.RightBrace ∷ [])) h c e d t i j) → measure s < suc n →

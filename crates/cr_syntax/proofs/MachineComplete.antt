@@ -1,0 +1,89 @@
+-- What is spelled, the machine reads; and so the tokens of an expression have one tree.
+use Rattle.std.proofs.Common.{◌≡◌, ℕ, zero, suc, ◌+◌, ◌<◌, ◌≤◌, List, [], ◌∷◌, length, Option, None, Some, refl, sym, ap, subst, ◌∙◌, arith}
+use Rattle.std.specs.Prelude.{slice_get}
+use Rattle.cr_syntax.specs.declared.word.Word.{Word}
+use Rattle.cr_syntax.specs.declared.symbol.Part.{Part}
+use Rattle.cr_syntax.specs.declared.symbol.Part.TheVariants as part
+use Rattle.cr_syntax.specs.declared.symbol.Context.{Context}
+use Rattle.cr_syntax.specs.Words.{Lexeme, word_at}
+use Rattle.cr_syntax.specs.Scopes.{Scopes}
+use Rattle.cr_syntax.specs.Trees.{Trees}
+use Rattle.cr_syntax.specs.Spells.{Limit, Is, Phrase, Spells, a}
+use Rattle.cr_syntax.specs.Machine.{Reply, Done, Failed, Runs}
+use Rattle.cr_syntax.specs.MachineBody.{body, start_goal}
+use Rattle.cr_syntax.specs.MachineLaws.{IsFree, IsStart, start_expression, start_assignment, start_conditional}
+use Rattle.cr_syntax.proofs.MachineRuns.{same, OnDone}
+use Rattle.cr_syntax.proofs.MachineFirst.{lower}
+use Rattle.cr_syntax.proofs.MachineSound.{runs_sound}
+use Rattle.cr_syntax.proofs.MachineTasks.{Task, Completes, Smaller, measure}
+use Rattle.cr_syntax.proofs.MachineTasks as task
+use Rattle.cr_syntax.proofs.MachineExpressions.{level_reads, expression_reads, assignment_reads, conditional_reads, cast_reads, unary_reads, postfix_reads, arguments_read, at_level, at_assignment, at_unary, whole_expression}
+use Rattle.cr_syntax.proofs.MachineTypes.{element_reads, elements_read, specifiers_read, plain_specifiers_read, type_name_reads, member_list_reads, member_reads, members_read, enumerators_read, enumerator_reads}
+use Rattle.cr_syntax.proofs.MachineDeclarators.{declarator_reads, direct_reads, abstract_reads, direct_abstract_reads, parameters_read, parameter_list_reads, variadic_list_reads, parameter_reads}
+
+module _ (ts : List Lexeme) (limit : Limit) where
+  reads : (n : ℕ) → Smaller ts limit n → {p : Phrase} {h : Context} {c e : Scopes} {d i j : ℕ} {t : Trees} (k : Task p) (s : Spells ts limit p h c e d t i j) → measure s < suc n →
+      Completes ts limit k h c e d t i j
+  reads n b task.expression s lt = expression_reads ts limit n b s lt
+  reads n b {h = h} task.assignment s lt = assignment_reads ts limit n b h (at_assignment ts limit s lt)
+  reads n b task.conditional s lt = conditional_reads ts limit n b s lt
+  reads n b {h = h} (task.level p l) s lt = level_reads ts limit n b p l h (at_level ts limit p l s lt)
+  reads n b task.cast s lt = cast_reads ts limit n b s lt
+  reads n b {h = h} task.unary s lt = unary_reads ts limit n b h (at_unary ts limit s lt)
+  reads n b task.postfix s lt = postfix_reads ts limit n b s lt
+  reads n b task.arguments s lt = arguments_read ts limit n b s lt
+  reads n b task.type_name s lt = type_name_reads ts limit n b s lt
+  reads n b task.specifiers s lt = specifiers_read ts limit n b s lt
+  reads n b task.plain_specifiers s lt = plain_specifiers_read ts limit n b s lt
+  reads n b (task.element p) s lt = element_reads ts limit n b p s lt
+  reads n b (task.elements p) s lt = elements_read ts limit n b p s lt
+  reads n b task.member s lt = member_reads ts limit n b s lt
+  reads n b task.members s lt = members_read ts limit n b s lt
+  reads n b task.member_list s lt = member_list_reads ts limit n b s lt
+  reads n b task.enumerators s lt = enumerators_read ts limit n b s lt
+  reads n b task.enumerator s lt = enumerator_reads ts limit n b s lt
+  reads n b task.declarator s lt = declarator_reads ts limit n b s lt
+  reads n b task.direct s lt = direct_reads ts limit n b s lt
+  reads n b task.abstract s lt = abstract_reads ts limit n b s lt
+  reads n b task.direct_abstract s lt = direct_abstract_reads ts limit n b s lt
+  reads n b task.parameters s lt = parameters_read ts limit n b s lt
+  reads n b task.parameter s lt = parameter_reads ts limit n b s lt
+  reads n b task.parameter_list s lt = parameter_list_reads ts limit n b s lt
+  reads n b task.variadic_list s lt = variadic_list_reads ts limit n b s lt
+
+  smaller : (n : ℕ) → Smaller ts limit n
+  smaller zero = record { read = λ k s lt. absurd (omega arith) }
+  smaller (suc n) = record { read = reads n (smaller n) }
+
+  -- what is spelled, the machine reads
+  pub completes : {p : Phrase} {h : Context} {c e : Scopes} {d i j : ℕ} {t : Trees} (k : Task p) (s : Spells ts limit p h c e d t i j) → Completes ts limit k h c e d t i j
+  completes k s = (smaller (suc (measure s))).read k s (omega arith)
+
+  pub spelled_is_read : {p : Part} {h : Context} {c e : Scopes} {d i j : ℕ} {t : Trees} → IsStart p → Spells ts limit (a p) h c e d t i j → IsFree ts 13 j →
+      Runs body ts limit (body (start_goal p d)) c i (Done t e j)
+  spelled_is_read start_expression s f = whole_expression ts limit (suc (measure s)) (smaller (suc (measure s))) s (omega arith) f
+  spelled_is_read start_assignment s f = completes task.assignment s (lower f (omega arith))
+  spelled_is_read start_conditional s f = completes task.conditional s (lower f (omega arith))
+
+  pub read_is_spelled : {p : Part} (h : Context) {c e : Scopes} {d i j : ℕ} {t : Trees} → IsStart p → Runs body ts limit (body (start_goal p d)) c i (Done t e j) → Spells ts limit (a p) h c e d t i j
+  read_is_spelled h {c = c} {e = e} {d = d} {i = i} {j = j} {t = t} start_expression x = runs_sound (start_goal part.Expression d) c e i j t x h
+  read_is_spelled h {c = c} {e = e} {d = d} {i = i} {j = j} {t = t} start_assignment x = runs_sound (start_goal part.Assignment d) c e i j t x h
+  read_is_spelled h {c = c} {e = e} {d = d} {i = i} {j = j} {t = t} start_conditional x = runs_sound (start_goal part.Conditional d) c e i j t x h
+
+-- behind the last token nothing goes on
+get_past : (ts : List Lexeme) → slice_get ts (length ts) ≡ None
+get_past [] = refl
+get_past (x ∷ ts) = get_past ts
+
+pub free_at_end : (ts : List Lexeme) (n : ℕ) → IsFree ts n (length ts)
+free_at_end ts n = record { all = λ w q. none_some (sym (ap (λ o. elim o as (λ _. Option Word) [ None ↦ None | Some t ↦ Some t.word ]) (get_past ts)) ∙ q) }
+  where
+    none_some : {A : Type 0} {w : Word} → None ≡ Some w → A
+    none_some q = cc
+
+done_alike : {t u : Trees} {e f : Scopes} {i j : ℕ} → Done t e i ≡ Done u f j → (t ≡ u) × (e ≡ f)
+done_alike {t = t} {e = e} q = subst (λ r. OnDone r (λ u f k. (t ≡ u) × (e ≡ f))) q (refl, refl)
+
+pub one_tree : {ts : List Lexeme} {limit : Limit} {p : Part} {h h' : Context} {c e f : Scopes} {d i : ℕ} {t u : Trees} → IsStart p →
+    Spells ts limit (a p) h c e d t i (length ts) → Spells ts limit (a p) h' c f d u i (length ts) → (t ≡ u) × (e ≡ f)
+one_tree {ts = ts} {limit = limit} k s s' = done_alike (same (spelled_is_read ts limit k s (free_at_end ts 13)) (spelled_is_read ts limit k s' (free_at_end ts 13)))
