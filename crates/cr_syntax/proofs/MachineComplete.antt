@@ -8,11 +8,13 @@ use Rattle.cr_syntax.specs.declared.symbol.Context.{Context}
 use Rattle.cr_syntax.specs.Words.{Lexeme, word_at}
 use Rattle.cr_syntax.specs.Scopes.{Scopes}
 use Rattle.cr_syntax.specs.Trees.{Trees}
-use Rattle.cr_syntax.specs.Spells.{Limit, Is, Phrase, Spells, a}
-use Rattle.cr_syntax.specs.Machine.{Reply, Done, Failed, Runs}
+use Rattle.cr_syntax.specs.Spells.{Limit, Free, Is, Phrase, Spells, a}
+use Rattle.cr_syntax.specs.Machine.{Prog, Manner, Allows, Reply, Cause, Done, Failed, Runs}
+use Rattle.cr_syntax.specs.Machine as m
+use Rattle.cr_syntax.specs.Expressions.{Start, BeginsFrom, RunEnds}
 use Rattle.cr_syntax.specs.MachineBody.{body, start_goal}
-use Rattle.cr_syntax.specs.MachineLaws.{IsFree, IsStart, start_expression, start_assignment, start_conditional}
-use Rattle.cr_syntax.proofs.MachineRuns.{same, OnDone}
+use Rattle.cr_syntax.specs.MachineLaws.{end_of, IsFree, IsStart, start_expression, start_assignment, start_conditional}
+use Rattle.cr_syntax.proofs.MachineRuns.{same, local, OnDone}
 use Rattle.cr_syntax.proofs.MachineFirst.{lower}
 use Rattle.cr_syntax.proofs.MachineSound.{runs_sound}
 use Rattle.cr_syntax.proofs.MachineTasks.{Task, Completes, Smaller, measure}
@@ -87,3 +89,55 @@ done_alike {t = t} {e = e} q = subst (λ r. OnDone r (λ u f k. (t ≡ u) × (e 
 pub one_tree : {ts : List Lexeme} {limit : Limit} {p : Part} {h h' : Context} {c e f : Scopes} {d i : ℕ} {t u : Trees} → IsStart p →
     Spells ts limit (a p) h c e d t i (length ts) → Spells ts limit (a p) h' c f d u i (length ts) → (t ≡ u) × (e ≡ f)
 one_tree {ts = ts} {limit = limit} k s s' = done_alike (same (spelled_is_read ts limit k s (free_at_end ts 13)) (spelled_is_read ts limit k s' (free_at_end ts 13)))
+
+-- A run that no level stops is one without a limit.
+
+abbrev IsNotDeep : Reply → Type 0
+IsNotDeep (Done t e j) = Unit {0}
+IsNotDeep (Failed x k) = x ≡ m.too_deep → ⊥
+
+allows_free : (g : Manner) (i d : ℕ) → Allows Free g i d
+allows_free m.plain i d = tt
+allows_free m.opens i d = tt
+allows_free m.reopens i d = (tt, tt)
+
+unlimited : {ts : List Lexeme} {limit : Limit} {p : Prog} {c : Scopes} {i : ℕ} {r : Reply} → Runs body ts limit p c i r → IsNotDeep r → Runs body ts Free p c i r
+unlimited m.run_give n = m.run_give
+unlimited m.run_stop n = m.run_stop
+unlimited {i = i} (m.run_take {m = g} {d = d} x w h) n = m.run_take x (allows_free g i d) (unlimited h n)
+unlimited (m.run_deep x w) n = absurd (n refl)
+unlimited (m.run_pass x h) n = m.run_pass x (unlimited h n)
+unlimited (m.run_bar x) n = m.run_bar x
+unlimited (m.run_free x h) n = m.run_free x (unlimited h n)
+unlimited (m.run_seen x h) n = m.run_seen x (unlimited h n)
+unlimited (m.run_unseen x h) n = m.run_unseen x (unlimited h n)
+unlimited (m.run_yes x h) n = m.run_yes x (unlimited h n)
+unlimited (m.run_no x h) n = m.run_no x (unlimited h n)
+unlimited (m.run_here h) n = m.run_here (unlimited h n)
+unlimited (m.run_look h) n = m.run_look (unlimited h n)
+unlimited (m.run_set h) n = m.run_set (unlimited h n)
+unlimited (m.run_bring h) n = m.run_bring (unlimited h n)
+unlimited (m.run_call h k) n = m.run_call (unlimited h tt) (unlimited k n)
+unlimited (m.run_fail h) n = m.run_fail (unlimited h n)
+
+get_some : (ts : List Lexeme) (i : ℕ) → i < length ts → (x : Lexeme) × (slice_get ts i ≡ Some x)
+get_some [] i lt = absurd (omega arith)
+get_some (x ∷ ts) zero lt = (x, refl)
+get_some (x ∷ ts) (suc i) lt = get_some ts i (omega arith)
+
+-- a text that goes on with token k is read to its end, so the answer isn't at k
+goes_on : {ts : List Lexeme} {limit : Limit} (s : Start) {r : Reply} → IsStart s.part → IsNotDeep r → Runs body ts limit (body (start_goal s.part s.depth)) s.scopes s.at r →
+    end_of r < length ts → (b : BeginsFrom Free ts s (end_of r + 1)) → r ≡ Done b.trees b.continues.spelled.after (length b.continues.text)
+goes_on {ts = ts} s {r = r} k n h lt b =
+    same (local (unlimited h n) alike) (spelled_is_read b.continues.text Free k b.continues.spelled.spells (free_at_end b.continues.text 13))
+  where
+    alike : (i : ℕ) → i ≤ end_of r → slice_get b.continues.text i ≡ slice_get ts i
+    alike i le = let w = get_some ts i (omega arith) in b.continues.alike i w.0 (omega arith) w.1 ∙ sym w.1
+
+pub longest : {ts : List Lexeme} {limit : Limit} (s : Start) {e : Scopes} {j : ℕ} {t : Trees} → IsStart s.part →
+    Runs body ts limit (body (start_goal s.part s.depth)) s.scopes s.at (Done t e j) → RunEnds ts s j
+longest s {j = j} k h lt b = let le = b.continues.reaches in let q : j ≡ length b.continues.text = ap end_of (goes_on s k tt h lt b) in absurd (omega arith)
+
+pub refused : {ts : List Lexeme} {limit : Limit} (s : Start) {x : Cause} {k : ℕ} → IsStart s.part → (x ≡ m.too_deep → ⊥) →
+    Runs body ts limit (body (start_goal s.part s.depth)) s.scopes s.at (Failed x k) → RunEnds ts s k
+refused s k n h lt b = let q = goes_on s k n h lt b in cc

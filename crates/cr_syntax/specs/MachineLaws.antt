@@ -1,5 +1,5 @@
 -- What is proved of the machine.
-use Rattle.std.specs.Prelude.{◌≡◌, ℕ, ◌<◌, ◌≤◌, List, length, slice_get}
+use Rattle.std.specs.Prelude.{◌≡◌, ℕ, ◌+◌, ◌<◌, ◌≤◌, List, length, slice_get}
 use Rattle.cr_syntax.specs.declared.word.Word.{Word}
 use Rattle.cr_syntax.specs.declared.word.Word.TheVariants as word
 use Rattle.cr_syntax.specs.declared.symbol.Part.{Part}
@@ -8,8 +8,9 @@ use Rattle.cr_syntax.specs.declared.symbol.Context.{Context}
 use Rattle.cr_syntax.specs.Trees.{Trees}
 use Rattle.cr_syntax.specs.Words.{Lexeme}
 use Rattle.cr_syntax.specs.Scopes.{Scopes}
-use Rattle.cr_syntax.specs.Spells.{Limit, Is, Spells, a}
-use Rattle.cr_syntax.specs.Machine.{Prog, Reply, Done, Failed, Runs}
+use Rattle.cr_syntax.specs.Spells.{Limit, Free, Is, Spells, a}
+use Rattle.cr_syntax.specs.Machine.{Prog, Reply, Cause, Done, Failed, Runs, too_deep}
+use Rattle.cr_syntax.specs.Expressions.{Start, BeginsFrom, RunEnds}
 use Rattle.cr_syntax.specs.MachineBody.{body, start_goal}
 
 -- the token at which a program answers
@@ -97,3 +98,13 @@ SpelledIsRead = (ts : List Lexeme) (limit : Limit) (p : Part) (h : Context) (c e
 abbrev pub OneTree : Type 0
 OneTree = (ts : List Lexeme) (limit : Limit) (p : Part) (h : Context) (c e f : Scopes) (d i : ℕ) (t u : Trees) → IsStart p →
     Spells ts limit (a p) h c e d t i (length ts) → Spells ts limit (a p) h c f d u i (length ts) → (t ≡ u) × (e ≡ f)
+
+-- what is read is the longest run that begins a text
+abbrev pub ReadIsLongest : Type 0
+ReadIsLongest = (ts : List Lexeme) (limit : Limit) (s : Start) (e : Scopes) (j : ℕ) (t : Trees) → IsStart s.part →
+    Runs body ts limit (body (start_goal s.part s.depth)) s.scopes s.at (Done t e j) → RunEnds ts s j
+
+-- no text goes on with a token that is refused for another cause than the level's number
+abbrev pub RefusedEndsRun : Type 0
+RefusedEndsRun = (ts : List Lexeme) (limit : Limit) (s : Start) (x : Cause) (k : ℕ) → IsStart s.part → (x ≡ too_deep → ⊥) →
+    Runs body ts limit (body (start_goal s.part s.depth)) s.scopes s.at (Failed x k) → RunEnds ts s k

@@ -9,6 +9,7 @@
 
 mod chains;
 mod laws;
+mod machine;
 mod node;
 mod operators;
 mod place;
@@ -22,6 +23,7 @@ mod unit;
 mod word;
 
 pub use laws::{reading_is_spelling, table_is_grammar};
+pub use machine::{machine_is_grammar, one_tree};
 pub use node::{Kind, Node};
 pub use scopes::TypeName;
 pub use symbol::{Context, Depth, Part, Symbol};

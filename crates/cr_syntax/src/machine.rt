@@ -1,0 +1,20 @@
+ghost use Rattle.cr_syntax.specs.MachineLaws.{OneAnswer, LooksNoFurther, ReadIsSpelled, SpelledIsRead, OneTree, ReadIsLongest, RefusedEndsRun};
+
+/// A law: the parser's machine reads the grammar's expressions, and nothing else.
+///
+/// A program has one answer, and looks at no token behind the one at which it answers. What it reads is spelled; what is
+/// spelled it reads, where no token behind goes on with an expression. What it reads is the longest run of tokens that
+/// begins a text, and none begins with a run up to a token that it refuses, but for one with a level too many.
+pub fn machine_is_grammar()
+    ensures one_answer { OneAnswer }
+    ensures no_further { LooksNoFurther }
+    ensures sound { ReadIsSpelled }
+    ensures complete { SpelledIsRead }
+    ensures longest { ReadIsLongest }
+    ensures refused { RefusedEndsRun }
+{}
+
+/// A law: the tokens up to the end of a list spell at most one expression.
+pub fn one_tree()
+    ensures { OneTree }
+{}
