@@ -8,13 +8,13 @@ use Rattle.cr_syntax.specs.declared.symbol.Context.{Context}
 use Rattle.cr_syntax.specs.Words.{Lexeme, word_at}
 use Rattle.cr_syntax.specs.Scopes.{Scopes}
 use Rattle.cr_syntax.specs.Trees.{Trees}
-use Rattle.cr_syntax.specs.Spells.{Limit, Free, Is, Phrase, Spells, a}
+use Rattle.cr_syntax.specs.Spells.{Limit, Free, AtMost, Upto, Is, Phrase, Spells, a}
 use Rattle.cr_syntax.specs.Machine.{Prog, Manner, Allows, Reply, Cause, Done, Failed, Runs}
 use Rattle.cr_syntax.specs.Machine as m
 use Rattle.cr_syntax.specs.Expressions.{Start, BeginsFrom, RunEnds}
 use Rattle.cr_syntax.specs.MachineBody.{body, start_goal}
 use Rattle.cr_syntax.specs.MachineLaws.{end_of, IsFree, IsStart, start_expression, start_assignment, start_conditional}
-use Rattle.cr_syntax.proofs.MachineRuns.{same, local, OnDone}
+use Rattle.cr_syntax.proofs.MachineRuns.{same, local, reach, OnDone}
 use Rattle.cr_syntax.proofs.MachineFirst.{lower}
 use Rattle.cr_syntax.proofs.MachineSound.{runs_sound}
 use Rattle.cr_syntax.proofs.MachineTasks.{Task, Completes, Smaller, measure}
@@ -141,3 +141,42 @@ longest s {j = j} k h lt b = let le = b.continues.reaches in let q : j ≡ lengt
 pub refused : {ts : List Lexeme} {limit : Limit} (s : Start) {x : Cause} {k : ℕ} → IsStart s.part → (x ≡ m.too_deep → ⊥) →
     Runs body ts limit (body (start_goal s.part s.depth)) s.scopes s.at (Failed x k) → RunEnds ts s k
 refused s k n h lt b = let q = goes_on s k n h lt b in cc
+
+-- A run within a limit is one within it up to a token behind the answer's.
+
+allows_upto : (n most : ℕ) (g : Manner) (i d : ℕ) → Allows (AtMost most) g i d → Allows (Upto n most) g i d
+allows_upto n most m.plain i d w = tt
+allows_upto n most m.opens i d w = λ lt. w
+allows_upto n most m.reopens i d w = (tt, λ lt. w.1)
+
+refuses_upto : (n most : ℕ) (g : Manner) (i d : ℕ) → i < n → (Allows (AtMost most) g i d → ⊥) → Allows (Upto n most) g i d → ⊥
+refuses_upto n most m.plain i d lt w v = w tt
+refuses_upto n most m.opens i d lt w v = w (v lt)
+refuses_upto n most m.reopens i d lt w v = w (tt, v.1 lt)
+
+upto : {ts : List Lexeme} {most : ℕ} {p : Prog} {c : Scopes} {i : ℕ} {r : Reply} (n : ℕ) → end_of r < n → Runs body ts (AtMost most) p c i r → Runs body ts (Upto n most) p c i r
+upto n lt m.run_give = m.run_give
+upto n lt m.run_stop = m.run_stop
+upto {most = most} {i = i} n lt (m.run_take {m = g} {d = d} x w h) = m.run_take x (allows_upto n most g i d w) (upto n lt h)
+upto {most = most} {i = i} n lt (m.run_deep {m = g} {d = d} x w) = m.run_deep x (refuses_upto n most g i d lt w)
+upto n lt (m.run_pass x h) = m.run_pass x (upto n lt h)
+upto n lt (m.run_bar x) = m.run_bar x
+upto n lt (m.run_free x h) = m.run_free x (upto n lt h)
+upto n lt (m.run_seen x h) = m.run_seen x (upto n lt h)
+upto n lt (m.run_unseen x h) = m.run_unseen x (upto n lt h)
+upto n lt (m.run_yes x h) = m.run_yes x (upto n lt h)
+upto n lt (m.run_no x h) = m.run_no x (upto n lt h)
+upto n lt (m.run_here h) = m.run_here (upto n lt h)
+upto n lt (m.run_look h) = m.run_look (upto n lt h)
+upto n lt (m.run_set h) = m.run_set (upto n lt h)
+upto n lt (m.run_bring h) = m.run_bring (upto n lt h)
+upto n lt (m.run_call h k) = let le = reach k in m.run_call (upto n (omega arith) h) (upto n lt k)
+upto n lt (m.run_fail h) = m.run_fail (upto n lt h)
+
+pub refused_within : {ts : List Lexeme} {most : ℕ} (s : Start) {x : Cause} {k : ℕ} → IsStart s.part → k < length ts →
+    Runs body ts (AtMost most) (body (start_goal s.part s.depth)) s.scopes s.at (Failed x k) → BeginsFrom (Upto (k + 1) most) ts s (k + 1) → ⊥
+refused_within {ts = ts} {most = most} s {k = k} z lt h b =
+    let q = same (local (upto (k + 1) (omega arith) h) alike) (spelled_is_read b.continues.text (Upto (k + 1) most) z b.continues.spelled.spells (free_at_end b.continues.text 13)) in cc
+  where
+    alike : (i : ℕ) → i ≤ k → slice_get b.continues.text i ≡ slice_get ts i
+    alike i le = let w = get_some ts i (omega arith) in b.continues.alike i w.0 (omega arith) w.1 ∙ sym w.1

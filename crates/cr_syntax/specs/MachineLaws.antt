@@ -8,7 +8,7 @@ use Rattle.cr_syntax.specs.declared.symbol.Context.{Context}
 use Rattle.cr_syntax.specs.Trees.{Trees}
 use Rattle.cr_syntax.specs.Words.{Lexeme}
 use Rattle.cr_syntax.specs.Scopes.{Scopes}
-use Rattle.cr_syntax.specs.Spells.{Limit, Free, Is, Spells, a}
+use Rattle.cr_syntax.specs.Spells.{Limit, Free, AtMost, Upto, Is, Spells, a}
 use Rattle.cr_syntax.specs.Machine.{Prog, Reply, Cause, Done, Failed, Runs, too_deep}
 use Rattle.cr_syntax.specs.Expressions.{Start, BeginsFrom, RunEnds}
 use Rattle.cr_syntax.specs.MachineBody.{body, start_goal}
@@ -108,3 +108,8 @@ ReadIsLongest = (ts : List Lexeme) (limit : Limit) (s : Start) (e : Scopes) (j :
 abbrev pub RefusedEndsRun : Type 0
 RefusedEndsRun = (ts : List Lexeme) (limit : Limit) (s : Start) (x : Cause) (k : ℕ) → IsStart s.part → (x ≡ too_deep → ⊥) →
     Runs body ts limit (body (start_goal s.part s.depth)) s.scopes s.at (Failed x k) → RunEnds ts s k
+
+-- no text within the limit goes on with a token that is refused, whatever the cause
+abbrev pub RefusedWithin : Type 0
+RefusedWithin = (ts : List Lexeme) (most : ℕ) (s : Start) (x : Cause) (k : ℕ) → IsStart s.part → k < length ts →
+    Runs body ts (AtMost most) (body (start_goal s.part s.depth)) s.scopes s.at (Failed x k) → BeginsFrom (Upto (k + 1) most) ts s (k + 1) → ⊥
