@@ -1,10 +1,9 @@
 -- First tokens of specifiers and declarators, and what is said after a row of specifiers.
-use Rattle.std.proofs.Common.{◌≡◌, ℕ, zero, suc, ◌+◌, Bool, true, false, not, ◌&&◌, ◌||◌, List, [], ◌∷◌, refl, sym, ap, subst, ◌∙◌, arith}
+use Rattle.std.proofs.Common.{◌≡◌, ℕ, Bool, true, false, not, ◌&&◌, ◌||◌, List, [], ◌∷◌, refl, sym, ap, subst, ◌∙◌}
 use denote.Enum.Bare.{same_true}
 use Rattle.cr_syntax.specs.contracts.word.Word as word_type
 use Rattle.cr_syntax.specs.declared.word.Word.{Word}
 use Rattle.cr_syntax.specs.declared.word.Word.TheVariants as word
-use Rattle.cr_syntax.specs.declared.node.Kind.TheVariants as kind
 use Rattle.cr_syntax.specs.declared.symbol.Depth.{Depth}
 use Rattle.cr_syntax.specs.declared.symbol.Symbol.TheVariants as symbol
 use Rattle.cr_syntax.specs.declared.scopes.TypeName.{TypeName}
@@ -13,8 +12,8 @@ use Rattle.cr_syntax.specs.declared.symbol.Part.TheVariants as part
 use Rattle.cr_syntax.specs.declared.symbol.Context.{Context}
 use Rattle.cr_syntax.specs.Words.{Lexeme, spelling_at}
 use Rattle.cr_syntax.specs.Scopes.{Scopes, is_type}
-use Rattle.cr_syntax.specs.Trees.{Trees, none, node, one, ◌&◌}
-use Rattle.cr_syntax.specs.Context.{fresh, past_part, any_kind, is_type_specifier}
+use Rattle.cr_syntax.specs.Trees.{Trees, none, node, ◌&◌}
+use Rattle.cr_syntax.specs.Context.{past_part, any_kind, is_type_specifier}
 use Rattle.cr_syntax.specs.Grammar.{many}
 use Rattle.cr_syntax.specs.Grammar as grammar
 use Rattle.cr_syntax.specs.Spells.{Limit, Is, IsIdentifier, Spells, a, rest}
@@ -22,8 +21,8 @@ use Rattle.cr_syntax.specs.Spells as spells
 use Rattle.cr_syntax.specs.Reads.{is_word, same_word}
 use Rattle.cr_syntax.specs.Machine as m
 use Rattle.cr_syntax.specs.Machine.{around, innermost_of}
-use Rattle.cr_syntax.specs.MachineBody.{is_plain_start, is_specifier_start, is_declarator_start, is_declarator, element_start, type_start, row_kind}
-use Rattle.cr_syntax.proofs.MachineMeans.{row_part, element_part, IsOpen}
+use Rattle.cr_syntax.specs.MachineBody.{is_plain_start, is_specifier_start, is_declarator, element_start, type_start}
+use Rattle.cr_syntax.proofs.MachineMeans.{element_part, IsOpen}
 use Rattle.cr_syntax.proofs.MachineSpells.{is_one, Names, by_declarator, by_direct}
 use Rattle.cr_syntax.proofs.MachineFirst.{none_true, false_by, yes, differs, sorted}
 use Rattle.cr_syntax.proofs.MachineTasks.{past_row}

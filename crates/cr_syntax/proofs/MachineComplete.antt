@@ -5,10 +5,10 @@ use Rattle.cr_syntax.specs.declared.word.Word.{Word}
 use Rattle.cr_syntax.specs.declared.symbol.Part.{Part}
 use Rattle.cr_syntax.specs.declared.symbol.Part.TheVariants as part
 use Rattle.cr_syntax.specs.declared.symbol.Context.{Context}
-use Rattle.cr_syntax.specs.Words.{Lexeme, word_at}
+use Rattle.cr_syntax.specs.Words.{Lexeme}
 use Rattle.cr_syntax.specs.Scopes.{Scopes}
 use Rattle.cr_syntax.specs.Trees.{Trees}
-use Rattle.cr_syntax.specs.Spells.{Limit, Free, AtMost, Upto, Is, Phrase, Spells, a}
+use Rattle.cr_syntax.specs.Spells.{Limit, Free, AtMost, Upto, Phrase, Spells, a}
 use Rattle.cr_syntax.specs.Machine.{Prog, Manner, Allows, Reply, Cause, Done, Failed, Runs}
 use Rattle.cr_syntax.specs.Machine as m
 use Rattle.cr_syntax.specs.Expressions.{Start, BeginsFrom, RunEnds}

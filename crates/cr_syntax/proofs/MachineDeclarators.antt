@@ -1,5 +1,5 @@
 -- The machine reads what is spelled as declarators and parameters, where it reads all that is smaller.
-use Rattle.std.proofs.Common.{◌≡◌, ℕ, zero, suc, ◌+◌, ◌<◌, ◌≤◌, Bool, true, false, not, ◌&&◌, ◌||◌, List, [], ◌∷◌, Option, None, Some, refl, sym, ap, subst, ◌∙◌, arith}
+use Rattle.std.proofs.Common.{◌≡◌, ℕ, suc, ◌+◌, ◌<◌, Bool, true, false, not, ◌&&◌, ◌||◌, List, [], ◌∷◌, refl, sym, ap, subst, ◌∙◌, arith}
 use Rattle.std.specs.Prelude.{if◌then◌else◌}
 use Rattle.cr_syntax.specs.declared.word.Word.{Word}
 use Rattle.cr_syntax.specs.declared.word.Word.TheVariants as word
@@ -8,13 +8,11 @@ use Rattle.cr_syntax.specs.declared.node.Kind.TheVariants as kind
 use Rattle.cr_syntax.specs.declared.symbol.Part.{Part}
 use Rattle.cr_syntax.specs.declared.symbol.Part.TheVariants as part
 use Rattle.cr_syntax.specs.declared.symbol.Symbol.TheVariants as symbol
-use Rattle.cr_syntax.specs.declared.symbol.Depth.{Depth}
-use Rattle.cr_syntax.specs.declared.scopes.TypeName.{TypeName}
 use Rattle.cr_syntax.specs.declared.symbol.Context.{Context}
 use Rattle.cr_syntax.specs.Words.{Lexeme, spelling_at}
 use Rattle.cr_syntax.specs.Scopes.{Scopes, is_type, enter}
-use Rattle.cr_syntax.specs.Trees.{Trees, none, node, one, ◌&◌}
-use Rattle.cr_syntax.specs.Context.{fresh, past_token, past_part, may_stand, is_bare, declared_name, declared_in}
+use Rattle.cr_syntax.specs.Trees.{Trees, none, one, ◌&◌}
+use Rattle.cr_syntax.specs.Context.{fresh, past_token, past_part, may_stand}
 use Rattle.cr_syntax.specs.Grammar.{Side, inner, inner_many, inner_list, list, many, closing, token, binary, prefix, assignment_by}
 use Rattle.cr_syntax.specs.Grammar as grammar
 use Rattle.cr_syntax.specs.Spells.{Limit, Is, IsIdentifier, Stands, Within, levels, AreConst, const_none, const_more, Phrase, Spells, a, rest}
@@ -22,12 +20,9 @@ use Rattle.cr_syntax.specs.Spells as spells
 use Rattle.cr_syntax.specs.Reads.{is_word, same_word}
 use Rattle.cr_syntax.specs.Machine.{Goal, Prog, Wanted, Reply, Done, Runs, plain, opens, reopens, give, take, call, made, the, run_give, run_stop, run_take, run_pass, run_free, run_seen, run_unseen, run_yes, run_no, run_here, run_look, run_set, run_bring, run_call, run_fail}
 use Rattle.cr_syntax.specs.Machine as m
-use Rattle.cr_syntax.specs.MachineBody.{body, Words, member_end, assigned, operated, prefixed, suffixed, sized, other_primary, suffixes_end, other_element, is_unary, is_identifier, tighter, assignment_operators, operators, unary_prefixes, cast_prefixes, constants, postfix_operators, specifier_words, plain_words, storage_words, row_kind, is_plain_start, is_specifier_start, is_abstract_start, is_declarator_start, element_start, type_start, in_row, in_parameters, declarator_start, is_declarator, array_start, pointer_end, may_name, may_omit}
-use Rattle.cr_syntax.specs.MachineLaws.{IsFree}
-use Rattle.cr_syntax.proofs.MachineMeans.{is_level, row_part, element_part, has_some}
+use Rattle.cr_syntax.specs.MachineBody.{body, is_abstract_start, is_declarator_start, in_parameters, declarator_start, array_start, pointer_end, may_name, may_omit}
 use Rattle.cr_syntax.proofs.MachineSpells.{and_none, and_and, pushed}
-use Rattle.cr_syntax.proofs.MachineFirst.{none_true, false_by, or_false, and_false, and_first, later_row, yes, differs, sorted, free_by, lower, fails, all_below, all_differ, Row, row_here, row_next, takes, skips, ends, tail, First, never, never_bracket, never_paren, never_brace, not_type, first_expression, first_assignment, first_cast, first_conditional, unary_is, a_unary}
-
+use Rattle.cr_syntax.proofs.MachineFirst.{none_true, yes, differs, sorted, free_by, row_here, row_next, tail, never, never_bracket, first_conditional}
 use Rattle.cr_syntax.proofs.MachineSound.{brought_is, part_some, pushed_some, two_parameters, bare_is, name_is}
 use Rattle.cr_syntax.proofs.MachineSpells.{is_one, named_before}
 use Rattle.cr_syntax.proofs.MachineSpells as facts
@@ -36,11 +31,8 @@ use Rattle.cr_syntax.proofs.MachineTasks as task
 use Rattle.cr_syntax.proofs.MachineBegins.{or_left, or_right, type_test, ElementFirst, never_element, no_ellipsis, no_right_paren, element_first, element_yes, member_first, parameter_first, past_one, row_typed, NamedFirst, by_star, by_name, named_first, UnnamedFirst, at_star, at_paren, at_bracket, unnamed_first, owned, is_named, is_unnamed}
 use Rattle.cr_syntax.proofs.MachineBegins as begin
 use Rattle.cr_syntax.proofs.MachineExpressions.{closing_run}
-
-
 use Rattle.cr_syntax.proofs.MachineMeans.{IsOpen}
 use Rattle.cr_syntax.proofs.MachineTypes.{closes_row, closes_apart, unnamed_row, unnamed_apart, unnamed_start, named_row, named_apart, plain_row, word_reads}
-
 
 -- Tokens around declarators.
 
@@ -129,11 +121,11 @@ module _ (ts : List Lexeme) (limit : Limit) where
         Goes ts limit (f u) e j r → Goes ts limit (m.look (λ c. m.set (m.around c) (call (m.size d) (λ t. m.look (λ e. m.set (m.innermost_of c ∷ e) (f t)))))) c i r
     size_goes {c = c} {d = d} {i = i} (spells.size_none s) lt o f r =
         closing_run ts limit s (λ e u j. Goes ts limit (f none) e j r → Goes ts limit (m.look (λ c. m.set (m.around c) (call (m.size d) (λ t. m.look (λ e. m.set (m.innermost_of c ∷ e) (f t)))))) c i r) (λ q w g.
-            run_look (run_set (run_call (run_take (yes q) w run_give) (run_look (run_set (subst (λ y. Goes ts limit (f none) y (i + 1) r) o g))))))
+        run_look (run_set (run_call (run_take (yes q) w run_give) (run_look (run_set (subst (λ y. Goes ts limit (f none) y (i + 1) r) o g))))))
     size_goes {d = d} {i = i} (spells.size_some {c = c} {own = own} {t = t} y s) lt o f r =
         closing_run ts limit s (λ e u j. Goes ts limit (f (t & u)) e j r → Goes ts limit (m.look (λ c. m.set (m.around c) (call (m.size d) (λ t. m.look (λ e. m.set (m.innermost_of c ∷ e) (f t)))))) (own ∷ c) i r) (λ q w g.
-            run_look (run_set (run_call (run_pass (never (first_conditional y) never_bracket) (run_call (b.read task.conditional y (omega arith) (free_by q (omega arith))) (run_take (yes q) w run_give)))
-            (run_look (run_set g)))))
+        run_look (run_set (run_call (run_pass (never (first_conditional y) never_bracket) (run_call (b.read task.conditional y (omega arith) (free_by q (omega arith))) (run_take (yes q) w run_give)))
+        (run_look (run_set g)))))
 
     option_goes : {h : Context} {c e : Scopes} {d i j : ℕ} {u : Trees} (s : Spells ts limit (rest (grammar.inner_optional part.Conditional ∷ closing word.RightBracket ∷ [])) h c e d u i j) → measure s < n →
         Answers ts limit (m.size d) c i u e j
@@ -141,7 +133,7 @@ module _ (ts : List Lexeme) (limit : Limit) where
         closing_run ts limit s (λ e u j. Answers ts limit (m.size d) c i none e j) (λ q w. run_take (yes q) w run_give)
     option_goes {c = c} {d = d} {i = i} (spells.optional_some {t = t} y s) lt =
         closing_run ts limit s (λ e u j. Answers ts limit (m.size d) c i (t & u) e j) (λ q w.
-            run_pass (never (first_conditional y) never_bracket) (run_call (b.read task.conditional y (omega arith) (free_by q (omega arith))) (run_take (yes q) w run_give)))
+        run_pass (never (first_conditional y) never_bracket) (run_call (b.read task.conditional y (omega arith) (free_by q (omega arith))) (run_take (yes q) w run_give)))
 
     -- Declarators with a name.
 
@@ -154,8 +146,8 @@ module _ (ts : List Lexeme) (limit : Limit) where
       where
         by : (w : Wanted) → may_name w ≡ true → Answers ts limit (m.declarator w (past_token h) (d + 1)) c k t e j →
             Goes ts limit (m.when (may_omit w)
-                (m.peek (declarator_start w) (call (m.declarator w (past_token h) (d + 1)) (λ t. pointer_end i t)) (made kind.AbstractPointer i none))
-                (call (m.declarator w (past_token h) (d + 1)) (λ t. pointer_end i t))) c k (Done (one kind.PointerDeclarator i j (t & none)) e j)
+            (m.peek (declarator_start w) (call (m.declarator w (past_token h) (d + 1)) (λ t. pointer_end i t)) (made kind.AbstractPointer i none))
+            (call (m.declarator w (past_token h) (d + 1)) (λ t. pointer_end i t))) c k (Done (one kind.PointerDeclarator i j (t & none)) e j)
         by m.named y g = run_no refl (run_call g (run_yes (is_named facts.by_declarator s) (run_here run_give)))
         by m.either y g = run_yes refl (run_seen (named_sorted (named_first facts.by_declarator s)) (run_call g (run_yes (is_named facts.by_declarator s) (run_here run_give))))
         by m.unnamed y g = none_true y
@@ -166,19 +158,19 @@ module _ (ts : List Lexeme) (limit : Limit) where
         run_here (run_pass (differs q word.Star refl) (run_pass (differs q word.LeftParen refl) (run_yes y (run_take (declared_yes ts c i h.typed q g) v (run_look (run_set (run_here (then_give z))))))))
     direct_reads {h = h} {c = c} {d = d} {i = i} (spells.of_alternative grammar.group_declarator f (spells.opens q v (spells.part {t = t} x s))) lt =
         closing_run ts limit s (λ e u j. Completes ts limit task.direct h c e d (one kind.GroupDeclarator i j (t & u)) i j) (λ q' v' w y r z.
-            run_here (run_pass (differs q word.Star refl) (run_take (yes q) v (run_call (b.read task.declarator x (omega arith) w y (by_paren q'))
-            (run_take (yes q') v' (run_yes (is_named facts.by_declarator x) (run_here (then_give z))))))))
+        run_here (run_pass (differs q word.Star refl) (run_take (yes q) v (run_call (b.read task.declarator x (omega arith) w y (by_paren q'))
+        (run_take (yes q') v' (run_yes (is_named facts.by_declarator x) (run_here (then_give z))))))))
     direct_reads {d = d} {i = i} (spells.of_alternative grammar.array_declarator f (spells.part {t = t} x (spells.opens q v s))) lt = λ w y r z.
         b.read task.direct x (omega arith) w y r (run_take (yes q) v
         (size_goes s (omega arith) (owned facts.by_direct x) (λ u. m.into kind.ArrayDeclarator i (t & u) (λ k. call (m.declarator_suffixes d i k) give)) r (run_here (then_give z))))
     direct_reads {h = h} {c = c} {d = d} {i = i} (spells.of_alternative grammar.function_declarator f (spells.part {t = t} x (spells.opens q v (spells.prototype_none s)))) lt =
         closing_run ts limit s (λ e u j. Completes ts limit task.direct h c e d (one kind.FunctionDeclarator i j (t & none)) i j) (λ q' v' w y r z.
-            b.read task.direct x (omega arith) w y r (run_pass (differs q word.LeftBracket refl) (run_take (yes q) v (run_take (yes q') v' (run_here (then_give z))))))
+        b.read task.direct x (omega arith) w y r (run_pass (differs q word.LeftBracket refl) (run_take (yes q) v (run_take (yes q') v' (run_here (then_give z))))))
     direct_reads {h = h} {c = c} {d = d} {i = i} (spells.of_alternative grammar.function_declarator f (spells.part {t = t} x (spells.opens q v (spells.prototype_some {e = e'} {own = own} {names = names} {j = k} {t = u} p s)))) lt =
         closing_run ts limit s (λ e v' j. Completes ts limit task.direct h c e d (one kind.FunctionDeclarator i j (t & u & v')) i j) (λ q' v' w y r z.
-            b.read task.direct x (omega arith) w y r (run_pass (differs q word.LeftBracket refl) (run_take (yes q) v (run_pass (parameters_apart p)
-            (run_look (run_set (run_call (b.read task.parameters p (omega arith) q') (run_look (run_set (run_take (yes q') v' (run_here
-                (subst (λ y. Goes ts limit (call (m.declarator_suffixes d i (one kind.FunctionDeclarator i (k + 1) (t & u & none))) give) ((if y then names else own) ∷ e') (k + 1) r) (bare_is x h) (then_give z)))))))))))))
+        b.read task.direct x (omega arith) w y r (run_pass (differs q word.LeftBracket refl) (run_take (yes q) v (run_pass (parameters_apart p)
+        (run_look (run_set (run_call (b.read task.parameters p (omega arith) q') (run_look (run_set (run_take (yes q') v' (run_here
+        (subst (λ y. Goes ts limit (call (m.declarator_suffixes d i (one kind.FunctionDeclarator i (k + 1) (t & u & none))) give) ((if y then names else own) ∷ e') (k + 1) r) (bare_is x h) (then_give z)))))))))))))
 
     -- Declarators without a name.
 
@@ -197,8 +189,8 @@ module _ (ts : List Lexeme) (limit : Limit) where
     direct_abstract_reads (spells.of_chain x f s) lt = elim x [ ]
     direct_abstract_reads {h = h} {c = c} {d = d} {i = i} (spells.of_alternative grammar.abstract_group f (spells.opens q v (spells.part {t = t} x s))) lt =
         closing_run ts limit s (λ e u j. Completes ts limit task.direct_abstract h c e d (one kind.AbstractGroup i j (t & u)) i j) (λ q' v' w h' y r z.
-            run_here (run_pass (differs q word.Star refl) (run_take (yes q) v (run_call (b.read task.abstract x (omega arith) w (past_token h') y (by_paren q'))
-            (run_take (yes q') v' (run_no (is_unnamed begin.by_abstract x) (run_here (then_give z))))))))
+        run_here (run_pass (differs q word.Star refl) (run_take (yes q) v (run_call (b.read task.abstract x (omega arith) w (past_token h') y (by_paren q'))
+        (run_take (yes q') v' (run_no (is_unnamed begin.by_abstract x) (run_here (then_give z))))))))
     direct_abstract_reads {c = c} {d = d} {i = i} (spells.of_alternative {t = t} grammar.abstract_array f (spells.opens q v s)) lt = λ w h' y r z.
         run_here (run_pass (differs q word.Star refl) (run_pass (differs q word.LeftParen refl)
         (by w h' r (may_name w) (run_yes y (run_take (yes q) v (run_call (option_goes s (omega arith)) (run_here (then_give z))))))))
@@ -220,7 +212,7 @@ module _ (ts : List Lexeme) (limit : Limit) where
     pub parameters_read : {h : Context} {c e : Scopes} {d i j : ℕ} {t : Trees} (s : Spells ts limit (a part.Parameters) h c e d t i j) → measure s < suc n → Completes ts limit task.parameters h c e d t i j
     parameters_read {e = e} {i = i} {j = j} {t = t} (spells.of_chain grammar.parameters_one f s) lt = λ q.
         run_here (run_call (b.read task.parameter s (omega arith) (by_paren q)) (then_give (run_pass (differs q word.Comma refl) (run_here
-            (subst (λ y. Goes ts limit (give (in_parameters i j (t & none))) e j (Done y e j)) (in_parameters_one s f i j) run_give)))))
+        (subst (λ y. Goes ts limit (give (in_parameters i j (t & none))) e j (Done y e j)) (in_parameters_one s f i j) run_give)))))
     parameters_read (spells.of_alternative grammar.void_parameters f (spells.token q w spells.done)) lt = λ q'.
         run_here (run_call (void_goes q w (by_paren q')) (then_give (run_pass (differs q' word.Comma refl) (run_here run_give))))
     parameters_read {c = c} {e = e} {d = d} {i = i} {j = j} (spells.of_alternative grammar.parameter_list f (spells.part {t = t} {u = u} x (spells.token q w s))) lt = λ q'.
@@ -232,8 +224,8 @@ module _ (ts : List Lexeme) (limit : Limit) where
     pub parameter_list_reads : {h : Context} {c e : Scopes} {d i j : ℕ} {t : Trees} (s : Spells ts limit (rest (list part.Parameter ∷ [])) h c e d t i j) → measure s < suc n → Completes ts limit task.parameter_list h c e d t i j
     parameter_list_reads {e = e} {i = i} {j = j} {t = t} (spells.list_last x spells.done) lt = λ s y some q.
         run_call (b.read task.parameter x (omega arith) (by_paren q)) (then_give (run_pass (differs q word.Comma refl) (run_here
-            (subst (λ z. Goes ts limit (give (in_parameters s j (y & t & none))) e j (Done z e j))
-                (two_parameters s j y (t & none) some (part_some x none) ∙ ap (λ z. one kind.Parameters s j (y & z)) (and_none t)) run_give))))
+        (subst (λ z. Goes ts limit (give (in_parameters s j (y & t & none))) e j (Done z e j))
+        (two_parameters s j y (t & none) some (part_some x none) ∙ ap (λ z. one kind.Parameters s j (y & z)) (and_none t)) run_give))))
     parameter_list_reads {c = c} {e = e} {d = d} {i = i} {j = j} (spells.list_more {t = t} {u = u} x q w k) lt = λ s y some q'.
         subst (λ z. Goes ts limit (call (m.parameter d) (λ u. call (m.more_parameters d s (y & u & none)) give)) c i (Done (one kind.Parameters s j z) e j)) (pushed y t u)
         (run_call (b.read task.parameter x (omega arith) (by_comma q)) (then_give (run_take (yes q) w (run_pass (never_element (list_first k) no_ellipsis)
@@ -243,8 +235,8 @@ module _ (ts : List Lexeme) (limit : Limit) where
         Completes ts limit task.variadic_list h c e d t i j
     variadic_list_reads {c = c} {d = d} {i = i} (spells.list_last {e = e'} {j = k} {t = t} x s) lt =
         ellipsis_run s (λ e v j. (s : ℕ) (y : Trees) → Goes ts limit (call (m.parameter d) (λ u. call (m.more_parameters d s (y & u & none)) give)) c i (Done (one kind.VariadicParameters s j (y & t)) e j)) (λ q w q' w' s y.
-            subst (λ z. Goes ts limit (call (m.parameter d) (λ u. call (m.more_parameters d s (y & u & none)) give)) c i (Done (one kind.VariadicParameters s (k + 1 + 1) (y & z)) e' (k + 1 + 1))) (and_none t)
-            (run_call (b.read task.parameter x (omega arith) (by_comma q)) (then_give (run_take (yes q) w (run_take (yes q') w' (run_here run_give))))))
+        subst (λ z. Goes ts limit (call (m.parameter d) (λ u. call (m.more_parameters d s (y & u & none)) give)) c i (Done (one kind.VariadicParameters s (k + 1 + 1) (y & z)) e' (k + 1 + 1))) (and_none t)
+        (run_call (b.read task.parameter x (omega arith) (by_comma q)) (then_give (run_take (yes q) w (run_take (yes q') w' (run_here run_give))))))
     variadic_list_reads {c = c} {e = e} {d = d} {i = i} {j = j} (spells.list_more {t = t} {u = u} x q w k) lt = λ s y.
         subst (λ z. Goes ts limit (call (m.parameter d) (λ u. call (m.more_parameters d s (y & u & none)) give)) c i (Done (one kind.VariadicParameters s j z) e j)) (pushed y t u)
         (run_call (b.read task.parameter x (omega arith) (by_comma q)) (then_give (run_take (yes q) w (run_pass (never_element (list_first k) no_ellipsis)
@@ -265,5 +257,5 @@ module _ (ts : List Lexeme) (limit : Limit) where
         let y = name_is s (past_part fresh t) in
         run_here (run_call (b.read task.specifiers x (omega arith) (named_row part.Specifiers ts c' k (past_part fresh t).typed v) (named_apart v))
         (run_seen (named_sorted v) (run_call (b.read task.declarator s (omega arith) m.either refl o) (run_yes (is_named facts.by_declarator s) (run_look (run_set (run_bring (run_here
-            (subst (λ z. Goes ts limit (give (one kind.Parameter i j (t & u & none))) (enter (m.brought ts j (past_part (past_part fresh t) u).name (past_part (past_part fresh t) u).type_name) e') j (Done (one kind.Parameter i j (t & u & none)) (enter z e') j))
-                (brought_is ts j (past_part (past_part fresh t) u).name (past_part (past_part fresh t) u).type_name (omega arith)) run_give)))))))))
+        (subst (λ z. Goes ts limit (give (one kind.Parameter i j (t & u & none))) (enter (m.brought ts j (past_part (past_part fresh t) u).name (past_part (past_part fresh t) u).type_name) e') j (Done (one kind.Parameter i j (t & u & none)) (enter z e') j))
+        (brought_is ts j (past_part (past_part fresh t) u).name (past_part (past_part fresh t) u).type_name (omega arith)) run_give)))))))))

@@ -1,15 +1,13 @@
 -- Small texts that the machine reads or refuses, by running it.
-use Rattle.std.proofs.Common.{◌≡◌, ℕ, zero, suc, ◌+◌, ◌<◌, Bool, true, false, ◌&&◌, List, [], ◌∷◌, Option, None, Some, length, codes, refl}
-use Rattle.std.specs.Prelude.{if◌then◌else◌, nat_lt, ◌++◌}
+use Rattle.std.proofs.Common.{◌≡◌, ℕ, zero, suc, ◌+◌, Bool, true, false, List, [], ◌∷◌, Option, None, Some, codes, refl}
+use Rattle.std.specs.Prelude.{if◌then◌else◌, nat_lt}
 use Rattle.cr_syntax.specs.declared.word.Word.{Word}
 use Rattle.cr_syntax.specs.declared.word.Word.TheVariants as word
 use Rattle.cr_syntax.specs.declared.node.Kind.TheVariants as kind
-use Rattle.cr_syntax.specs.declared.symbol.Part.{Part}
 use Rattle.cr_syntax.specs.declared.symbol.Part.TheVariants as part
 use Rattle.cr_syntax.specs.Words.{Lexeme}
 use Rattle.cr_syntax.specs.Scopes.{Scopes, enter}
-use Rattle.cr_syntax.specs.Trees.{Trees, none, node, one, ◌&◌}
-use Rattle.cr_syntax.specs.Spells.{AtMost}
+use Rattle.cr_syntax.specs.Trees.{none, node, one}
 use Rattle.cr_syntax.specs.Units.{most_levels}
 use Rattle.cr_syntax.specs.Machine.{Prog, Manner, plain, opens, reopens, Reply, Done, Failed, Runs, passes, verdict, barred, brought, whole, unexpected, ended, too_deep, outside}
 use Rattle.cr_syntax.specs.Machine as m

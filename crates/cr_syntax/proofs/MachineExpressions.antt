@@ -1,5 +1,5 @@
 -- The machine reads what is spelled as an expression, where it reads all that is smaller.
-use Rattle.std.proofs.Common.{◌≡◌, ℕ, zero, suc, ◌+◌, ◌<◌, ◌≤◌, Bool, true, false, not, ◌&&◌, ◌||◌, List, [], ◌∷◌, Option, None, Some, refl, sym, ap, subst, ◌∙◌, arith}
+use Rattle.std.proofs.Common.{◌≡◌, ℕ, suc, ◌+◌, ◌<◌, Bool, true, false, not, ◌&&◌, List, [], ◌∷◌, refl, sym, ap, subst, ◌∙◌, arith}
 use Rattle.cr_syntax.specs.declared.word.Word.{Word}
 use Rattle.cr_syntax.specs.declared.word.Word.TheVariants as word
 use Rattle.cr_syntax.specs.declared.node.Kind.{Kind}
@@ -11,8 +11,7 @@ use Rattle.cr_syntax.specs.declared.symbol.Depth.{Depth}
 use Rattle.cr_syntax.specs.declared.symbol.Context.{Context}
 use Rattle.cr_syntax.specs.Words.{Lexeme, spelling_at}
 use Rattle.cr_syntax.specs.Scopes.{Scopes, is_type}
-use Rattle.cr_syntax.specs.Trees.{Trees, none, node, one, ◌&◌}
-use Rattle.cr_syntax.specs.Context.{fresh, past_token, past_part}
+use Rattle.cr_syntax.specs.Trees.{Trees, none, one, ◌&◌}
 use Rattle.cr_syntax.specs.Grammar.{Side, inner, inner_many, inner_list, list, many, closing, token, binary, prefix, assignment_by}
 use Rattle.cr_syntax.specs.Grammar as grammar
 use Rattle.cr_syntax.specs.Spells.{Limit, Is, IsIdentifier, Stands, Within, levels, Phrase, Spells, a, rest}
@@ -20,16 +19,14 @@ use Rattle.cr_syntax.specs.Spells as spells
 use Rattle.cr_syntax.specs.Reads.{is_word, same_word}
 use Rattle.cr_syntax.specs.Machine.{Goal, Prog, Wanted, Reply, Done, Runs, plain, opens, reopens, give, take, call, made, the, run_give, run_stop, run_take, run_pass, run_free, run_seen, run_unseen, run_yes, run_no, run_here, run_look, run_set, run_bring, run_call, run_fail}
 use Rattle.cr_syntax.specs.Machine as m
-use Rattle.cr_syntax.specs.MachineBody.{body, Words, assigned, operated, prefixed, suffixed, sized, other_primary, suffixes_end, other_element, is_unary, is_identifier, tighter, assignment_operators, operators, unary_prefixes, cast_prefixes, constants, postfix_operators, specifier_words, element_start, type_start, in_row, may_name, may_omit}
+use Rattle.cr_syntax.specs.MachineBody.{body, assigned, operated, prefixed, suffixed, sized, other_primary, suffixes_end, is_unary, is_identifier, tighter, assignment_operators, operators, unary_prefixes, cast_prefixes, constants, postfix_operators}
 use Rattle.cr_syntax.specs.MachineLaws.{rank_of, IsFree}
-use Rattle.cr_syntax.proofs.MachineMeans.{is_level, row_part, element_part, has_some}
-use Rattle.cr_syntax.proofs.MachineSpells.{and_none, and_and, pushed}
-use Rattle.cr_syntax.proofs.MachineFirst.{none_true, false_by, yes, differs, sorted, free_by, lower, fails, all_below, all_differ, Row, row_here, row_next, takes, skips, ends, tail, First, by_word, by_name, never, never_bracket, never_paren, never_brace, not_type, first_expression, first_assignment, first_cast, first_conditional, unary_is, a_unary}
-
+use Rattle.cr_syntax.proofs.MachineMeans.{is_level}
+use Rattle.cr_syntax.proofs.MachineSpells.{and_none, pushed}
+use Rattle.cr_syntax.proofs.MachineFirst.{none_true, yes, differs, free_by, lower, fails, all_differ, Row, row_here, row_next, takes, skips, ends, tail, First, never, never_paren, never_brace, not_type, first_expression, first_assignment, first_cast, unary_is, a_unary}
 use Rattle.cr_syntax.proofs.MachineTasks.{measure, Lone, lone_by, lone_free, Closes, base, below, Task, Goes, Answers, Started, by_group, by_others, Completes, Smaller}
 use Rattle.cr_syntax.proofs.MachineTasks as task
 use Rattle.cr_syntax.proofs.MachineBegins.{type_yes}
-
 
 -- an identifier and the machine's test of it
 ordinary_yes : (ts : List Lexeme) (c : Scopes) (i : ℕ) → IsIdentifier ts c i false → m.passes ts c i m.ordinary ≡ true
@@ -82,8 +79,8 @@ module _ (ts : List Lexeme) (limit : Limit) where
       (skips body ts limit unary_prefixes opens d (prefixed (m.unary (d + 1)) i) (m.choose opens cast_prefixes d (prefixed (m.cast (d + 1)) i) (sized d i)) q refl
       (skips body ts limit cast_prefixes opens d (prefixed (m.cast (d + 1)) i) (sized d i) q refl
       (run_pass (differs q word.Sizeof refl) (run_call (run_here (run_pass (ordinary_no ts c i (differs q word.Identifier refl))
-          (skips body ts limit constants plain d (suffixed d i none) (other_primary d i) q refl
-          (run_pass (differs q word.Text refl) (run_take (yes q) w (run_call x run_give)))))) run_give))))
+      (skips body ts limit constants plain d (suffixed d i none) (other_primary d i) q refl
+      (run_pass (differs q word.Text refl) (run_take (yes q) w (run_call x run_give)))))) run_give))))
   as_unary (by_others n x) = x
 
   as_measured : (d s : ℕ) {i j : ℕ} {c e : Scopes} {t : Trees} → Started ts limit (d + 1) c i (Done t e j) → Answers ts limit (m.measured d s) c i (one kind.SizeofExpression s j (t & none)) e j
@@ -276,7 +273,7 @@ module _ (ts : List Lexeme) (limit : Limit) where
     unary_reads h {e = e} {d = d} {i = i} {j = j} {t = t} (unary_alone s lt) = λ fr. b.read task.postfix s lt (lone_free fr) _ (suffixes_done d i t e j fr)
     unary_reads h {d = d} {i = i} (before_unary row apart (spells.opens q w (spells.part x spells.done)) lt) = λ fr. by_others (differs q word.LeftParen apart) (run_here
         (takes body ts limit row opens d (prefixed (m.unary (d + 1)) i) (m.choose opens cast_prefixes d (prefixed (m.cast (d + 1)) i) (sized d i)) q w
-            (run_call (as_unary (b.read task.unary x (omega arith) fr)) (run_here run_give))))
+        (run_call (as_unary (b.read task.unary x (omega arith) fr)) (run_here run_give))))
     unary_reads h {d = d} {i = i} (before_cast row apart other (spells.opens q w (spells.part x spells.done)) lt) = λ fr. by_others (differs q word.LeftParen apart) (run_here
         (skips body ts limit unary_prefixes opens d (prefixed (m.unary (d + 1)) i) (m.choose opens cast_prefixes d (prefixed (m.cast (d + 1)) i) (sized d i)) q other
         (takes body ts limit row opens d (prefixed (m.cast (d + 1)) i) (sized d i) q w (run_call (b.read task.cast x (omega arith) fr) (run_here run_give)))))
@@ -284,8 +281,8 @@ module _ (ts : List Lexeme) (limit : Limit) where
         by_others (differs q word.LeftParen refl) (before q refl refl (run_take (yes q) w (then_give (as_measured d i (b.read task.unary x (omega arith) fr)))))
     unary_reads h {c = c} {e = e} {d = d} {i = i} {j = j} (of_type (spells.opens q w (spells.opens q' w' (spells.part {t = t} x s))) lt) =
         closing_run s (λ e u j. Completes ts limit task.unary h c e d (one kind.SizeofType i j (t & u)) i j) (λ q'' w'' fr.
-            by_others (differs q word.LeftParen refl) (before q refl refl (run_take (yes q) w (then_give
-            (run_here (run_take (yes q') w' (run_seen (type_yes x) (run_call (b.read task.type_name x (omega arith) q'') (run_take (yes q'') w'' (run_here run_give))))))))))
+        by_others (differs q word.LeftParen refl) (before q refl refl (run_take (yes q) w (then_give
+        (run_here (run_take (yes q') w' (run_seen (type_yes x) (run_call (b.read task.type_name x (omega arith) q'') (run_take (yes q'') w'' (run_here run_give))))))))))
 
     -- an identifier before its suffixes
     by_identifier : {d i : ℕ} {c : Scopes} {r : Reply} → IsIdentifier ts c i false → Stands limit i d → Goes ts limit (body (m.called d i)) c (i + 1) r → Started ts limit d c i r
@@ -304,11 +301,11 @@ module _ (ts : List Lexeme) (limit : Limit) where
     primary_reads {e = e} {d = d} {i = i} {j = j} {t = t} (spells.of_alternative {c = c} grammar.string_literal f s) lt = λ lo r z.
         let x = texts_go s lo.text in
         through x.0 refl refl refl refl (run_here (run_pass (ordinary_no ts c i (differs x.0 word.Identifier refl))
-            (skips body ts limit constants plain d (suffixed d i none) (other_primary d i) x.0 refl
-            (run_take (yes x.0) x.1 (run_call x.3 (run_here (then_give (subst (λ y. Goes ts limit (body (m.suffixes d i (one kind.Text i j y))) e j r) (sym x.2) z))))))))
+        (skips body ts limit constants plain d (suffixed d i none) (other_primary d i) x.0 refl
+        (run_take (yes x.0) x.1 (run_call x.3 (run_here (then_give (subst (λ y. Goes ts limit (body (m.suffixes d i (one kind.Text i j y))) e j r) (sym x.2) z))))))))
     primary_reads {h = h} {c = c} {d = d} {i = i} (spells.of_alternative grammar.parenthesized f (spells.opens q w (spells.part {t = t} x s))) lt =
         closing_run s (λ e u j. Completes ts limit task.postfix h c e d (one kind.Group i j (t & u)) i j) (λ q' w' lo r z.
-            by_group q w (not_type (first_expression x)) (run_call (whole_expression x (omega arith) (free_by q' (omega arith))) (run_take (yes q') w' (run_here (then_give z)))))
+        by_group q w (not_type (first_expression x)) (run_call (whole_expression x (omega arith) (free_by q' (omega arith))) (run_take (yes q') w' (run_here (then_give z)))))
 
     stepped : {w : Word} {k : Kind} (d s : ℕ) (t : Trees) {i : ℕ} {c : Scopes} {r : Reply} → Row w k postfix_operators → Is ts i w → Stands limit i d → same_word w word.LeftBracket ≡ false → same_word w word.Dot ≡ false →
         same_word w word.Arrow ≡ false → Goes ts limit (suffixed d s (t & none) k) c (i + 1) r → Goes ts limit (body (m.suffixes d s t)) c i r
@@ -319,33 +316,33 @@ module _ (ts : List Lexeme) (limit : Limit) where
     postfix_reads (spells.of_chain grammar.postfix_primary f s) lt = primary_reads s (omega arith)
     postfix_reads {h = h} {c = c} {d = d} {i = i} (spells.of_alternative grammar.call f (spells.ordinary q w (spells.opens q' w' (spells.list_none s)))) lt =
         closing_run s (λ e u j. Completes ts limit task.postfix h c e d (one kind.Call i j u) i j) (λ q'' w'' lo r z.
-            by_identifier q w (run_take (yes q') w' (run_take (yes q'') w'' (run_here (then_give z)))))
+        by_identifier q w (run_take (yes q') w' (run_take (yes q'') w'' (run_here (then_give z)))))
     postfix_reads (spells.of_alternative grammar.call f (spells.ordinary q w (spells.opens q' w' (spells.list_some s)))) lt = λ lo r z.
         by_identifier q w (run_take (yes q') w' (run_pass (never (arguments_first s) never_paren) (run_call (b.read task.arguments s (omega arith) none) (run_here (then_give z)))))
     postfix_reads {h = h} {c = c} {d = d} {i = i} (spells.of_alternative grammar.subscript f (spells.part {t = t} x (spells.opens q w (spells.part {t = u} y s)))) lt =
         closing_run s (λ e v j. Completes ts limit task.postfix h c e d (one kind.Subscript i j (t & u & v)) i j) (λ q' w' lo r z.
-            b.read task.postfix x (omega arith) (lone_by q refl refl) r
-            (run_take (yes q) w (run_call (whole_expression y (omega arith) (free_by q' (omega arith))) (run_take (yes q') w' (run_here (then_give z))))))
+        b.read task.postfix x (omega arith) (lone_by q refl refl) r
+        (run_take (yes q) w (run_call (whole_expression y (omega arith) (free_by q' (omega arith))) (run_take (yes q') w' (run_here (then_give z))))))
     postfix_reads {h = h} {c = c} {d = d} {i = i} (spells.of_alternative grammar.member f (spells.part {t = t} x (spells.token q w s))) lt =
         closing_run s (λ e v j. Completes ts limit task.postfix h c e d (one kind.Member i j (t & v)) i j) (λ q' w' lo r z.
-            b.read task.postfix x (omega arith) (lone_by q refl refl) r (run_pass (differs q word.LeftBracket refl) (run_take (yes q) w (run_take (yes q') w' (run_here (then_give z))))))
+        b.read task.postfix x (omega arith) (lone_by q refl refl) r (run_pass (differs q word.LeftBracket refl) (run_take (yes q) w (run_take (yes q') w' (run_here (then_give z))))))
     postfix_reads {h = h} {c = c} {d = d} {i = i} (spells.of_alternative grammar.pointer_member f (spells.part {t = t} x (spells.token q w s))) lt =
         closing_run s (λ e v j. Completes ts limit task.postfix h c e d (one kind.PointerMember i j (t & v)) i j) (λ q' w' lo r z.
-            b.read task.postfix x (omega arith) (lone_by q refl refl) r
-            (run_pass (differs q word.LeftBracket refl) (run_pass (differs q word.Dot refl) (run_take (yes q) w (run_take (yes q') w' (run_here (then_give z)))))))
+        b.read task.postfix x (omega arith) (lone_by q refl refl) r
+        (run_pass (differs q word.LeftBracket refl) (run_pass (differs q word.Dot refl) (run_take (yes q) w (run_take (yes q') w' (run_here (then_give z)))))))
     postfix_reads {h = h} {c = c} {d = d} {i = i} (spells.of_alternative grammar.post_increment f (spells.part {t = t} x s)) lt =
         closing_run s (λ e v j. Completes ts limit task.postfix h c e d (one kind.PostIncrement i j (t & v)) i j) (λ q w lo r z.
-            b.read task.postfix x (omega arith) (lone_by q refl refl) r (stepped d i t row_here q w refl refl refl (run_here (then_give z))))
+        b.read task.postfix x (omega arith) (lone_by q refl refl) r (stepped d i t row_here q w refl refl refl (run_here (then_give z))))
     postfix_reads {h = h} {c = c} {d = d} {i = i} (spells.of_alternative grammar.post_decrement f (spells.part {t = t} x s)) lt =
         closing_run s (λ e v j. Completes ts limit task.postfix h c e d (one kind.PostDecrement i j (t & v)) i j) (λ q w lo r z.
-            b.read task.postfix x (omega arith) (lone_by q refl refl) r (stepped d i t (row_next refl row_here) q w refl refl refl (run_here (then_give z))))
+        b.read task.postfix x (omega arith) (lone_by q refl refl) r (stepped d i t (row_next refl row_here) q w refl refl refl (run_here (then_give z))))
 
     pub arguments_read : {h : Context} {c e : Scopes} {d i j : ℕ} {t : Trees} (s : Spells ts limit (rest (inner_list part.Assignment ∷ closing word.RightParen ∷ [])) h c e d t i j) → measure s < suc n →
         Completes ts limit task.arguments h c e d t i j
     arguments_read {c = c} {d = d} {i = i} (spells.list_last {e = e'} {j = j'} {t = t} x s) lt =
         closing_run s (λ e u j. (y : Trees) → Answers ts limit (m.arguments d y) c i (y & t) e j) (λ q w y.
-            subst (λ v. Answers ts limit (m.arguments d y) c i (y & v) e' (j' + 1)) (and_none t)
-            (run_call (b.read task.assignment x (omega arith) (free_by q (omega arith))) (run_pass (differs q word.Comma refl) (run_take (yes q) w run_give))))
+        subst (λ v. Answers ts limit (m.arguments d y) c i (y & v) e' (j' + 1)) (and_none t)
+        (run_call (b.read task.assignment x (omega arith) (free_by q (omega arith))) (run_pass (differs q word.Comma refl) (run_take (yes q) w run_give))))
     arguments_read {c = c} {e = e} {d = d} {i = i} {j = j} (spells.list_more {t = u} {u = v} x q w s) lt = λ y.
         subst (λ z. Answers ts limit (m.arguments d y) c i z e j) (pushed y u v)
         (run_call (b.read task.assignment x (omega arith) (free_by q (omega arith))) (run_take (yes q) w (then_give (b.read task.arguments s (omega arith) (y & u & none)))))

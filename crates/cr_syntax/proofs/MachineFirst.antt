@@ -1,5 +1,5 @@
 -- First tokens, the tokens that go on with an expression, and what the machine's tests say of them.
-use Rattle.std.proofs.Common.{◌≡◌, ℕ, zero, suc, ◌+◌, ◌<◌, ◌≤◌, Bool, true, false, not, ◌&&◌, ◌||◌, List, [], ◌∷◌, Option, None, Some, refl, sym, ap, subst, ◌∙◌, arith}
+use Rattle.std.proofs.Common.{◌≡◌, ℕ, ◌+◌, ◌<◌, ◌≤◌, Bool, true, false, not, ◌&&◌, ◌||◌, List, [], ◌∷◌, Option, None, Some, refl, sym, ap, subst, ◌∙◌, arith}
 use Rattle.std.specs.Prelude.{nat_le, ◌++◌}
 use borrow.Author.Tests.{leb-true}
 use denote.Enum.Bare.{true_same, same_true}
@@ -10,9 +10,9 @@ use Rattle.cr_syntax.specs.declared.node.Kind.{Kind}
 use Rattle.cr_syntax.specs.declared.symbol.Part.{Part}
 use Rattle.cr_syntax.specs.declared.symbol.Part.TheVariants as part
 use Rattle.cr_syntax.specs.declared.symbol.Context.{Context}
-use Rattle.cr_syntax.specs.Words.{Lexeme, word_at, spelling_at}
+use Rattle.cr_syntax.specs.Words.{Lexeme, spelling_at}
 use Rattle.cr_syntax.specs.Scopes.{Scopes, is_type}
-use Rattle.cr_syntax.specs.Trees.{Trees, none, node, one, ◌&◌}
+use Rattle.cr_syntax.specs.Trees.{Trees}
 use Rattle.cr_syntax.specs.Grammar as grammar
 use Rattle.cr_syntax.specs.Spells.{Limit, Is, IsIdentifier, Spells, a, rest}
 use Rattle.cr_syntax.specs.Spells as spells
@@ -137,6 +137,7 @@ no_start v w n s = false_by (same_word v w) (λ q. by n (subst (λ x. starts x �
     by never_bracket q = none_true q
     by never_paren q = none_true q
     by never_brace q = none_true q
+
     same : (v w : Word) → same_word v w ≡ true → v ≡ w
     same v w q = same_true word_type.the_type tt v w q
 

@@ -1,29 +1,26 @@
 -- What is spelled, the machine reads.
-use Rattle.std.proofs.Common.{◌≡◌, ℕ, zero, suc, ◌+◌, ◌<◌, ◌≤◌, Bool, true, false, not, ◌&&◌, ◌||◌, List, [], ◌∷◌, Option, None, Some, refl, sym, ap, subst, ◌∙◌, arith}
+use Rattle.std.proofs.Common.{◌≡◌, ℕ, suc, ◌+◌, ◌<◌, true, false, List, [], ◌∷◌, arith}
 use Rattle.cr_syntax.specs.declared.word.Word.{Word}
 use Rattle.cr_syntax.specs.declared.word.Word.TheVariants as word
-use Rattle.cr_syntax.specs.declared.node.Kind.{Kind}
 use Rattle.cr_syntax.specs.declared.node.Kind.TheVariants as kind
 use Rattle.cr_syntax.specs.declared.symbol.Part.{Part}
 use Rattle.cr_syntax.specs.declared.symbol.Part.TheVariants as part
 use Rattle.cr_syntax.specs.declared.symbol.Symbol.TheVariants as symbol
 use Rattle.cr_syntax.specs.declared.symbol.Context.{Context}
-use Rattle.cr_syntax.specs.Words.{Lexeme, spelling_at}
-use Rattle.cr_syntax.specs.Scopes.{Scopes, is_type}
+use Rattle.cr_syntax.specs.Words.{Lexeme}
+use Rattle.cr_syntax.specs.Scopes.{Scopes}
 use Rattle.cr_syntax.specs.Trees.{Trees, none, node, one, ◌&◌}
-use Rattle.cr_syntax.specs.Context.{fresh, past_token, past_part}
-use Rattle.cr_syntax.specs.Grammar.{Side, inner, inner_many, inner_list, list, many, closing, token, binary, prefix, assignment_by}
-use Rattle.cr_syntax.specs.Grammar as grammar
+use Rattle.cr_syntax.specs.Context.{past_part}
+use Rattle.cr_syntax.specs.Grammar.{inner_many, inner_list, list, many, closing, token}
 use Rattle.cr_syntax.specs.Spells.{Limit, Is, IsIdentifier, Stands, Within, Phrase, Spells, a, rest}
 use Rattle.cr_syntax.specs.Spells as spells
 use Rattle.cr_syntax.specs.Reads.{is_word, same_word}
 use Rattle.cr_syntax.specs.Machine.{Goal, Prog, Wanted, Reply, Done, Runs, plain, opens, reopens, give, take, call, made, the, run_give, run_stop, run_take, run_pass, run_free, run_seen, run_unseen, run_yes, run_no, run_here, run_look, run_set, run_bring, run_call, run_fail}
 use Rattle.cr_syntax.specs.Machine as m
-use Rattle.cr_syntax.specs.MachineBody.{body, Words, assigned, operated, prefixed, suffixed, sized, other_primary, suffixes_end, other_element, is_unary, is_identifier, tighter, assignment_operators, operators, unary_prefixes, cast_prefixes, constants, postfix_operators, specifier_words, element_start, type_start, in_row, may_name, may_omit}
+use Rattle.cr_syntax.specs.MachineBody.{body, element_start, type_start, in_row, may_name, may_omit}
 use Rattle.cr_syntax.specs.MachineLaws.{IsFree}
-use Rattle.cr_syntax.proofs.MachineMeans.{is_level, row_part, element_part, has_some}
-use Rattle.cr_syntax.proofs.MachineSpells.{and_none, and_and, pushed}
-use Rattle.cr_syntax.proofs.MachineFirst.{none_true, yes, differs, sorted, free_by, lower, fails, all_below, all_differ, Row, row_here, row_next, takes, skips, ends, tail, First, by_word, by_name, never, never_bracket, never_paren, never_brace, not_type, first_expression, first_assignment, first_cast, first_conditional, unary_is, a_unary}
+use Rattle.cr_syntax.proofs.MachineMeans.{is_level, element_part, has_some}
+use Rattle.cr_syntax.proofs.MachineFirst.{differs, fails}
 
 -- how much stands in a spelling
 abbrev pub measure : {ts : List Lexeme} {limit : Limit} {p : Phrase} {h : Context} {c e : Scopes} {d i j : ℕ} {t : Trees} → Spells ts limit p h c e d t i j → ℕ

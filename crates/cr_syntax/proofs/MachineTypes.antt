@@ -1,5 +1,5 @@
 -- The machine reads what is spelled as specifiers, structures, enumerations and type names, where it reads all that is smaller.
-use Rattle.std.proofs.Common.{◌≡◌, ℕ, zero, suc, ◌+◌, ◌<◌, ◌≤◌, Bool, true, false, not, ◌&&◌, ◌||◌, List, [], ◌∷◌, Option, None, Some, refl, sym, ap, subst, ◌∙◌, arith}
+use Rattle.std.proofs.Common.{◌≡◌, ℕ, suc, ◌+◌, ◌<◌, Bool, true, false, not, ◌&&◌, ◌||◌, List, [], ◌∷◌, refl, sym, ap, subst, ◌∙◌, arith}
 use Rattle.cr_syntax.specs.declared.word.Word.{Word}
 use Rattle.cr_syntax.specs.declared.word.Word.TheVariants as word
 use Rattle.cr_syntax.specs.declared.node.Kind.{Kind}
@@ -7,13 +7,12 @@ use Rattle.cr_syntax.specs.declared.node.Kind.TheVariants as kind
 use Rattle.cr_syntax.specs.declared.symbol.Part.{Part}
 use Rattle.cr_syntax.specs.declared.symbol.Part.TheVariants as part
 use Rattle.cr_syntax.specs.declared.symbol.Symbol.TheVariants as symbol
-use Rattle.cr_syntax.specs.declared.symbol.Depth.{Depth}
 use Rattle.cr_syntax.specs.declared.scopes.TypeName.{TypeName}
 use Rattle.cr_syntax.specs.declared.symbol.Context.{Context}
 use Rattle.cr_syntax.specs.Words.{Lexeme, spelling_at}
 use Rattle.cr_syntax.specs.Scopes.{Scopes, is_type, enter}
-use Rattle.cr_syntax.specs.Trees.{Trees, none, node, one, ◌&◌}
-use Rattle.cr_syntax.specs.Context.{fresh, past_token, past_part, any_kind, is_type_specifier}
+use Rattle.cr_syntax.specs.Trees.{Trees, none, one, ◌&◌}
+use Rattle.cr_syntax.specs.Context.{fresh, past_part, any_kind, is_type_specifier}
 use Rattle.cr_syntax.specs.Grammar.{Side, inner, inner_many, inner_list, list, many, closing, token, binary, prefix, assignment_by}
 use Rattle.cr_syntax.specs.Grammar as grammar
 use Rattle.cr_syntax.specs.Spells.{Limit, Is, IsIdentifier, Stands, Within, levels, Phrase, Spells, a, rest}
@@ -21,13 +20,11 @@ use Rattle.cr_syntax.specs.Spells as spells
 use Rattle.cr_syntax.specs.Reads.{is_word, same_word}
 use Rattle.cr_syntax.specs.Machine.{Goal, Prog, Wanted, Reply, Done, Runs, plain, opens, reopens, give, take, call, made, the, run_give, run_stop, run_take, run_pass, run_free, run_seen, run_unseen, run_yes, run_no, run_here, run_look, run_set, run_bring, run_call, run_fail}
 use Rattle.cr_syntax.specs.Machine as m
-use Rattle.cr_syntax.specs.MachineBody.{body, Words, member_end, assigned, operated, prefixed, suffixed, sized, other_primary, suffixes_end, other_element, is_unary, is_identifier, tighter, assignment_operators, operators, unary_prefixes, cast_prefixes, constants, postfix_operators, specifier_words, plain_words, storage_words, row_kind, is_plain_start, is_specifier_start, is_abstract_start, is_declarator_start, element_start, type_start, in_row, may_name, may_omit}
-use Rattle.cr_syntax.specs.MachineLaws.{IsFree}
-use Rattle.cr_syntax.proofs.MachineMeans.{is_level, row_part, element_part, has_some}
+use Rattle.cr_syntax.specs.MachineBody.{body, member_end, other_element, specifier_words, plain_words, storage_words, row_kind, is_plain_start, is_specifier_start, is_abstract_start, element_start, in_row}
+use Rattle.cr_syntax.proofs.MachineMeans.{element_part, has_some}
 use Rattle.cr_syntax.proofs.MachineSpells.{and_none, and_and, pushed}
-use Rattle.cr_syntax.proofs.MachineFirst.{none_true, false_by, or_false, and_false, and_first, later_row, yes, differs, sorted, free_by, lower, fails, all_below, all_differ, Row, row_here, row_next, takes, skips, ends, tail, First, never, never_bracket, never_paren, never_brace, not_type, first_expression, first_assignment, first_cast, first_conditional, unary_is, a_unary}
-
-use Rattle.cr_syntax.proofs.MachineSound.{brought_is, part_some, two_in_row, two_parameters}
+use Rattle.cr_syntax.proofs.MachineFirst.{none_true, or_false, and_false, later_row, yes, differs, sorted, free_by, lower, fails, all_differ, Row, row_here, row_next, takes, skips, tail}
+use Rattle.cr_syntax.proofs.MachineSound.{brought_is, part_some, two_in_row}
 use Rattle.cr_syntax.proofs.MachineSpells.{is_one, forth}
 use Rattle.cr_syntax.proofs.MachineSpells as facts
 use Rattle.cr_syntax.proofs.MachineTasks.{measure, Lone, lone_by, lone_free, Closes, by_paren, by_comma, by_semicolon, past_row, Task, Goes, Answers, Completes, Smaller}
@@ -35,7 +32,6 @@ use Rattle.cr_syntax.proofs.MachineTasks as task
 use Rattle.cr_syntax.proofs.MachineBegins.{or_left, or_right, type_test, ElementFirst, never_element, no_left_brace, no_right_brace, no_ellipsis, element_first, element_yes, member_first, parameter_first, past_one, row_typed, NamedFirst, by_star, by_name, named_first, UnnamedFirst, at_star, at_paren, at_bracket, unnamed_first}
 use Rattle.cr_syntax.proofs.MachineBegins as begin
 use Rattle.cr_syntax.proofs.MachineExpressions.{closing_run}
-
 
 -- Tokens behind a row of specifiers.
 
@@ -195,11 +191,11 @@ module _ (ts : List Lexeme) (limit : Limit) where
         m.passes ts e j (element_start p (past_row h t).typed) ≡ false → is_word ts j word.LeftBrace ≡ false → Answers ts limit (m.row p h d) c i (one (row_kind p) i j t) e j
     row_node_reads p {h = h} {c = c} {e = e} {d = d} {i = i} {j = j} (spells.part {t = t} x (spells.part {t = u} {u = v} y k)) lt fo nb =
         subst (λ z. Answers ts limit (m.row p h d) c i z e j)
-            (ap (λ z. in_row p i j z) (pushed (t & none) u v ∙ and_and t none (u & v)) ∙ two_in_row p i j t u v (subst (λ z. has_some z ≡ true) (and_none t) (part_some x none)) (subst (λ z. has_some z ≡ true) (and_none u) (part_some y none)))
+        (ap (λ z. in_row p i j z) (pushed (t & none) u v ∙ and_and t none (u & v)) ∙ two_in_row p i j t u v (subst (λ z. has_some z ≡ true) (and_none t) (part_some x none)) (subst (λ z. has_some z ≡ true) (and_none u) (part_some y none)))
         (run_here (run_call (b.read (task.element p) x (omega arith) (never_element (element_first p y) no_left_brace))
         (then_give (run_seen (element_yes p y) (run_call (b.read (task.element p) y (omega arith) (elements_apart p k nb))
         (then_give (b.read (task.elements p) k (omega arith) i ((t & none) & u & none)
-            (subst (λ z. m.passes ts e j (element_start p z.typed) ≡ false) (past_one x h (u & v) ∙ past_one y (past_part h t) v) fo) nb)))))))
+        (subst (λ z. m.passes ts e j (element_start p z.typed) ≡ false) (past_one x h (u & v) ∙ past_one y (past_part h t) v) fo) nb)))))))
 
     -- what is said after a row of two or more
     node_typed : (p : Part) {h : Context} {c e : Scopes} {d i j : ℕ} {t : Trees} → Spells ts limit (rest (grammar.part (element_part p) ∷ grammar.part (element_part p) ∷ many (element_part p) ∷ [])) h c e d t i j →
@@ -210,7 +206,7 @@ module _ (ts : List Lexeme) (limit : Limit) where
         m.passes ts e j (element_start p (past_part h t).typed) ≡ false → is_word ts j word.LeftBrace ≡ false → Answers ts limit (m.row p h d) c i t e j
     row_alone_reads p {h = h} {c = c} {e = e} {d = d} {i = i} {j = j} {t = t} s lt fo nb =
         run_here (run_call (b.read (task.element p) s lt nb) (then_give (run_unseen fo (run_here
-            (subst (λ y. Goes ts limit (give (in_row p i j (t & none))) e j (Done y e j)) (in_row_one s p i j) run_give)))))
+        (subst (λ y. Goes ts limit (give (in_row p i j (t & none))) e j (Done y e j)) (in_row_one s p i j) run_give)))))
 
     pub specifiers_read : {h : Context} {c e : Scopes} {d i j : ℕ} {t : Trees} (s : Spells ts limit (a part.Specifiers) h c e d t i j) → measure s < suc n → Completes ts limit task.specifiers h c e d t i j
     specifiers_read (spells.of_chain grammar.specifiers_one f s) lt fo nb = row_alone_reads part.Specifiers s (omega arith) fo nb
@@ -250,13 +246,13 @@ module _ (ts : List Lexeme) (limit : Limit) where
         Completes ts limit task.member_list h c e d t i j
     member_list_reads {h = h} {c = c} {d = d} {i = i} (spells.list_last {e = c'} {j = k} {t = t} x s) lt =
         closing_run ts limit s (λ e u j. (s : ℕ) (y : Trees) → Answers ts limit (m.member_declarators h d s y) c i (one kind.MemberDeclaration s j (y & t)) e j) (λ q w s y.
-            member_goes (member_end h d s y) (member_of x (omega arith)) (by_semicolon q)
-            (run_free (differs q word.Colon refl) (run_pass (differs q word.Comma refl) (run_take (yes q) w (run_here
-                (subst (λ z. Goes ts limit (give (one kind.MemberDeclaration s (k + 1) (y & t & none))) c' (k + 1) (Done (one kind.MemberDeclaration s (k + 1) (y & z)) c' (k + 1))) (and_none t) run_give))))))
+        member_goes (member_end h d s y) (member_of x (omega arith)) (by_semicolon q)
+        (run_free (differs q word.Colon refl) (run_pass (differs q word.Comma refl) (run_take (yes q) w (run_here
+        (subst (λ z. Goes ts limit (give (one kind.MemberDeclaration s (k + 1) (y & t & none))) c' (k + 1) (Done (one kind.MemberDeclaration s (k + 1) (y & z)) c' (k + 1))) (and_none t) run_give))))))
     member_list_reads {h = h} {c = c} {e = e} {d = d} {i = i} {j = j} (spells.list_more {t = t} {u = u} x q w k) lt = λ s y.
         subst (λ z. Answers ts limit (m.member_declarators h d s y) c i (one kind.MemberDeclaration s j z) e j) (pushed y t u)
         (member_goes (member_end h d s y) (member_of x (omega arith)) (by_comma q)
-            (run_free (differs q word.Colon refl) (run_take (yes q) w (then_give (b.read task.member_list k (omega arith) s (y & t & none))))))
+        (run_free (differs q word.Colon refl) (run_take (yes q) w (then_give (b.read task.member_list k (omega arith) s (y & t & none))))))
 
     member_named : {h : Context} {c e : Scopes} {d i j : ℕ} {t : Trees} → Spells ts limit (a part.MemberDeclarator) h c e d t i j → NamedFirst ts c i h.typed
     member_named (spells.of_alternative x f s) = elim x [ ]
@@ -279,8 +275,8 @@ module _ (ts : List Lexeme) (limit : Limit) where
         Completes ts limit task.members h c e d t i j
     members_read {c = c} {d = d} {i = i} (spells.many_none s) lt =
         closing_run ts limit s (λ e u j. (s : ℕ) (x : Trees) → Goes ts limit (take plain (the word.RightBrace) (d + 1) (made kind.StructContent s x) (call (m.members d s x) give)) c i (Done (one kind.StructContent s j (x & none)) e j)) (λ q w s x.
-            subst (λ y. Goes ts limit (take plain (the word.RightBrace) (d + 1) (made kind.StructContent s x) (call (m.members d s x) give)) c i (Done (one kind.StructContent s (i + 1) y) c (i + 1))) (sym (and_none x))
-            (run_take (yes q) w (run_here run_give)))
+        subst (λ y. Goes ts limit (take plain (the word.RightBrace) (d + 1) (made kind.StructContent s x) (call (m.members d s x) give)) c i (Done (one kind.StructContent s (i + 1) y) c (i + 1))) (sym (and_none x))
+        (run_take (yes q) w (run_here run_give)))
     members_read {c = c} {e = e} {d = d} {i = i} {j = j} (spells.many_more {t = t} {u = u} x k) lt = λ s y.
         subst (λ z. Goes ts limit (take plain (the word.RightBrace) (d + 1) (made kind.StructContent s y) (call (m.members d s y) give)) c i (Done (one kind.StructContent s j z) e j)) (pushed y t u)
         (run_pass (never_element (member_first x) no_right_brace) (then_give (run_call (b.read task.member x (omega arith)) (b.read task.members k (omega arith) s (y & t & none)))))
@@ -305,10 +301,10 @@ module _ (ts : List Lexeme) (limit : Limit) where
         Completes ts limit task.enumerators h c e d t i j
     enumerators_read {c = c} {d = d} {i = i} (spells.list_last {e = c'} {j = k} {t = t} x s) lt =
         trailing_run s (λ e u j. (s : ℕ) (y : Trees) → Answers ts limit (m.enumerators d s y) c i (one kind.EnumContent s j (y & t)) e j)
-            (λ q w s y. subst (λ z. Answers ts limit (m.enumerators d s y) c i (one kind.EnumContent s (k + 1) (y & z)) c' (k + 1)) (and_none t)
-                (run_call (b.read task.enumerator x (omega arith) (free_by q (omega arith))) (run_pass (differs q word.Comma refl) (run_take (yes q) w (run_here run_give)))))
-            (λ q w q' w' s y. subst (λ z. Answers ts limit (m.enumerators d s y) c i (one kind.EnumContent s (k + 1 + 1) (y & z)) c' (k + 1 + 1)) (and_none t)
-                (run_call (b.read task.enumerator x (omega arith) (free_by q (omega arith))) (run_take (yes q) w (run_take (yes q') w' (run_here run_give)))))
+        (λ q w s y. subst (λ z. Answers ts limit (m.enumerators d s y) c i (one kind.EnumContent s (k + 1) (y & z)) c' (k + 1)) (and_none t)
+        (run_call (b.read task.enumerator x (omega arith) (free_by q (omega arith))) (run_pass (differs q word.Comma refl) (run_take (yes q) w (run_here run_give)))))
+        (λ q w q' w' s y. subst (λ z. Answers ts limit (m.enumerators d s y) c i (one kind.EnumContent s (k + 1 + 1) (y & z)) c' (k + 1 + 1)) (and_none t)
+        (run_call (b.read task.enumerator x (omega arith) (free_by q (omega arith))) (run_take (yes q) w (run_take (yes q') w' (run_here run_give)))))
     enumerators_read {c = c} {e = e} {d = d} {i = i} {j = j} (spells.list_more {t = t} {u = u} x q w k) lt = λ s y.
         subst (λ z. Answers ts limit (m.enumerators d s y) c i (one kind.EnumContent s j z) e j) (pushed y t u)
         (run_call (b.read task.enumerator x (omega arith) (free_by q (omega arith))) (run_take (yes q) w (run_pass (differs (enumerators_first k) word.RightBrace refl)
@@ -318,10 +314,10 @@ module _ (ts : List Lexeme) (limit : Limit) where
     enumerator_reads (spells.of_chain x f s) lt = elim x [ ]
     enumerator_reads {c = c} {d = d} {i = i} (spells.of_alternative grammar.enumerator f (spells.enumerates q w (spells.value_none spells.done))) lt = λ fr.
         run_here (run_take (yes q) w (run_pass (fails fr word.Equal (omega arith)) (run_bring (run_here
-            (subst (λ y. Goes ts limit (give (one kind.Enumerator i (i + 1) none)) (enter (m.brought ts (i + 1) i false) c) (i + 1) (Done (one kind.Enumerator i (i + 1) none) (enter y c) (i + 1)))
-                (brought_is ts (i + 1) i false (omega arith)) run_give)))))
+        (subst (λ y. Goes ts limit (give (one kind.Enumerator i (i + 1) none)) (enter (m.brought ts (i + 1) i false) c) (i + 1) (Done (one kind.Enumerator i (i + 1) none) (enter y c) (i + 1)))
+        (brought_is ts (i + 1) i false (omega arith)) run_give)))))
     enumerator_reads {c = c} {d = d} {i = i} {j = j} (spells.of_alternative grammar.enumerator f (spells.enumerates {e = c'} q w (spells.value_some {t = t} q' w' x spells.done))) lt = λ fr.
         let le = forth x in
         run_here (run_take (yes q) w (run_take (yes q') w' (run_call (b.read task.conditional x (omega arith) (lower fr (omega arith))) (run_bring (run_here
-            (subst (λ y. Goes ts limit (give (one kind.Enumerator i j (t & none))) (enter (m.brought ts j i false) c') j (Done (one kind.Enumerator i j (t & none)) (enter y c') j))
-                (brought_is ts j i false (omega arith)) run_give))))))
+        (subst (λ y. Goes ts limit (give (one kind.Enumerator i j (t & none))) (enter (m.brought ts j i false) c') j (Done (one kind.Enumerator i j (t & none)) (enter y c') j))
+        (brought_is ts j i false (omega arith)) run_give))))))

@@ -8,7 +8,7 @@ use Rattle.cr_syntax.specs.declared.symbol.Context.{Context}
 use Rattle.cr_syntax.specs.Trees.{Trees}
 use Rattle.cr_syntax.specs.Words.{Lexeme}
 use Rattle.cr_syntax.specs.Scopes.{Scopes}
-use Rattle.cr_syntax.specs.Spells.{Limit, Free, AtMost, Upto, Is, Spells, a}
+use Rattle.cr_syntax.specs.Spells.{Limit, AtMost, Upto, Is, Spells, a}
 use Rattle.cr_syntax.specs.Machine.{Prog, Reply, Cause, Done, Failed, Runs, too_deep}
 use Rattle.cr_syntax.specs.Expressions.{Start, BeginsFrom, RunEnds}
 use Rattle.cr_syntax.specs.MachineBody.{body, start_goal}

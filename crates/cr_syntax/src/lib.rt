@@ -3,8 +3,9 @@
 //! It has the types of the tree, what every unit keeps of its nodes, the word that a token is to the grammar, and the
 //! grammar itself: one constructor an alternative in `specs/Grammar.antt`, what its symbols mean in `specs/Spells.antt`,
 //! and units, viable prefixes and the first refusal in `specs/Units.antt`. It promises that the table of right sides in
-//! `rules` is that grammar, and that reading a tree by recursion takes exactly the grammar's units. It stands on the
-//! tokens, the integer types and the rows.
+//! `rules` is that grammar, and that reading a tree by recursion takes exactly the grammar's units. The parser of expressions
+//! stands in `specs/Machine.antt` as a machine, and reads exactly the grammar. It stands on the tokens, the integer types
+//! and the rows.
 #![tactic(auto)]
 
 mod chains;
