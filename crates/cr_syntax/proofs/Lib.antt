@@ -11,3 +11,17 @@ pub mod Checked
 pub mod Spans
 pub mod Turns
 pub mod Examples
+pub mod MachineExamples
+pub mod MachineRuns
+pub mod MachineSpells
+pub mod MachineGives
+pub mod MachineKept
+pub mod MachineMeans
+pub mod MachineSound
+pub mod MachineFirst
+pub mod MachineTasks
+pub mod MachineExpressions
+pub mod MachineBegins
+pub mod MachineTypes
+pub mod MachineDeclarators
+pub mod MachineComplete

@@ -13,3 +13,7 @@ pub mod Steps
 pub mod Answers
 pub mod Laws
 pub mod Checked
+pub mod Machine
+pub mod MachineBody
+pub mod Expressions
+pub mod MachineLaws

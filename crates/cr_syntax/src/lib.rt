@@ -4,8 +4,9 @@
 //! grammar itself: one constructor an alternative in `specs/Grammar.antt`, what its symbols mean in `specs/Spells.antt`,
 //! and units, viable prefixes and the first refusal in `specs/Units.antt`. It promises that the table of right sides in
 //! `rules` is that grammar, that reading a tree by recursion takes exactly the grammar's units, and that `spells_unit`,
-//! the plain checker of a unit, answers true exactly where the unit's tree spells its tokens. It stands on the tokens, the
-//! integer types and the rows.
+//! the plain checker of a unit, answers true exactly where the unit's tree spells its tokens. The parser of expressions
+//! stands in `specs/Machine.antt` as a machine, and reads exactly the grammar. It stands on the tokens, the integer types
+//! and the rows.
 #![tactic(auto)]
 
 mod ahead;
@@ -14,6 +15,7 @@ mod built;
 mod chains;
 mod checker;
 mod laws;
+mod machine;
 mod node;
 mod operators;
 mod place;
@@ -34,6 +36,7 @@ mod word;
 
 pub use checker::{NoMemory, spells_unit};
 pub use laws::{reading_is_spelling, table_is_grammar, tokens_are_spans};
+pub use machine::{machine_is_grammar, one_tree};
 pub use node::{Kind, Node};
 pub use scopes::TypeName;
 pub use symbol::{Context, Depth, Part, Symbol};

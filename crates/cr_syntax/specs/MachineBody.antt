@@ -1,0 +1,404 @@
+-- The programs of the machine for expressions and all that they draw in. Statements and external declarations are to
+-- follow as further goals.
+use Rattle.std.specs.Prelude.{ℕ, ◌+◌, Bool, true, false, if◌then◌else◌, List, [], ◌∷◌, ◌++◌}
+use Rattle.cr_syntax.specs.declared.word.Word.{Word}
+use Rattle.cr_syntax.specs.declared.word.Word.TheVariants as word
+use Rattle.cr_syntax.specs.declared.node.Kind.{Kind}
+use Rattle.cr_syntax.specs.declared.node.Kind.TheVariants as kind
+use Rattle.cr_syntax.specs.declared.symbol.Part.{Part}
+use Rattle.cr_syntax.specs.declared.symbol.Part.TheVariants as part
+use Rattle.cr_syntax.specs.declared.shape.Base.TheVariants.{ItsName, InBrackets, Derived, NoDeclarator}
+use Rattle.cr_syntax.specs.declared.symbol.Context.{Context}
+use Rattle.cr_syntax.specs.Trees.{Trees, none, node, one, ◌&◌}
+use Rattle.cr_syntax.specs.Context.{fresh, past_token, past_part, is_bare, base_of}
+use Rattle.cr_syntax.specs.Units.{is_unused}
+use Rattle.cr_syntax.specs.Machine.{Goal, Prog, Test, Wanted, named, unnamed, either, plain, opens, reopens, the, has, ordinary, type_identifier, declared, or, give, stop, take, bar, peek, when, here, look, set, bring, call, expect, choose, into, made, begins, drops, innermost_of, around}
+use Rattle.cr_syntax.specs.Machine.{whole, expression, commas, assignment, conditional, binary, operands, cast, unary, measured, postfix, called, grouped, texts, arguments, suffixes, type_name, row, more, element, structure, members, member, member_declarators, enumeration, enumerators, enumerator, consts, declarator, declarator_suffixes, abstract_suffixes, size, parameters, more_parameters, parameter}
+
+-- a table of words and the kinds of node that they make
+abbrev pub Words : Type 0
+Words = List (Word × Kind)
+
+abbrev pub makes : Word → Kind → Word × Kind
+makes w k = (w, k)
+
+-- 6.5.16
+abbrev pub assignment_operators : Words
+assignment_operators =
+    makes word.Equal kind.Assign ∷
+    makes word.StarEqual kind.MultiplyAssign ∷
+    makes word.SlashEqual kind.DivideAssign ∷
+    makes word.PercentEqual kind.RemainderAssign ∷
+    makes word.PlusEqual kind.AddAssign ∷
+    makes word.MinusEqual kind.SubtractAssign ∷
+    makes word.LessLessEqual kind.ShiftLeftAssign ∷
+    makes word.GreaterGreaterEqual kind.ShiftRightAssign ∷
+    makes word.AmpersandEqual kind.AndAssign ∷
+    makes word.CaretEqual kind.XorAssign ∷
+    makes word.BarEqual kind.OrAssign ∷
+    []
+
+-- the operators of a level (6.5.5 to 6.5.14)
+abbrev pub operators : Part → Words
+operators part.LogicalOr = makes word.BarBar kind.LogicalOr ∷ []
+operators part.LogicalAnd = makes word.AndAnd kind.LogicalAnd ∷ []
+operators part.Or = makes word.Bar kind.Or ∷ []
+operators part.Xor = makes word.Caret kind.Xor ∷ []
+operators part.And = makes word.Ampersand kind.And ∷ []
+operators part.Equality = makes word.EqualEqual kind.Equal ∷ makes word.BangEqual kind.NotEqual ∷ []
+operators part.Relational = makes word.Less kind.Less ∷ makes word.Greater kind.Greater ∷ makes word.LessEqual kind.LessEqual ∷ makes word.GreaterEqual kind.GreaterEqual ∷ []
+operators part.Shift = makes word.LessLess kind.ShiftLeft ∷ makes word.GreaterGreater kind.ShiftRight ∷ []
+operators part.Additive = makes word.Plus kind.Add ∷ makes word.Minus kind.Subtract ∷ []
+operators part.Multiplicative = makes word.Star kind.Multiply ∷ makes word.Slash kind.Divide ∷ makes word.Percent kind.Remainder ∷ []
+operators _ = []
+
+-- the operands of a level
+abbrev pub tighter : Part → ℕ → Goal
+tighter part.LogicalOr d = binary part.LogicalAnd d
+tighter part.LogicalAnd d = binary part.Or d
+tighter part.Or d = binary part.Xor d
+tighter part.Xor d = binary part.And d
+tighter part.And d = binary part.Equality d
+tighter part.Equality d = binary part.Relational d
+tighter part.Relational d = binary part.Shift d
+tighter part.Shift d = binary part.Additive d
+tighter part.Additive d = binary part.Multiplicative d
+tighter _ d = cast d
+
+-- 6.5.3: operators before a unary expression, and before a cast
+abbrev pub unary_prefixes : Words
+unary_prefixes = makes word.PlusPlus kind.PreIncrement ∷ makes word.MinusMinus kind.PreDecrement ∷ []
+
+abbrev pub cast_prefixes : Words
+cast_prefixes =
+    makes word.Ampersand kind.AddressOf ∷
+    makes word.Star kind.Dereference ∷
+    makes word.Plus kind.Plus ∷
+    makes word.Minus kind.Minus ∷
+    makes word.Tilde kind.Complement ∷
+    makes word.Bang kind.Not ∷
+    []
+
+-- 6.5.1, 6.5.2
+abbrev pub constants : Words
+constants = makes word.Integer kind.Integer ∷ makes word.Character kind.Character ∷ []
+
+abbrev pub postfix_operators : Words
+postfix_operators = makes word.PlusPlus kind.PostIncrement ∷ makes word.MinusMinus kind.PostDecrement ∷ []
+
+-- 6.7.2, 6.7.3
+abbrev pub plain_words : Words
+plain_words =
+    makes word.Const kind.Const ∷
+    makes word.Void kind.Void ∷
+    makes word.Char kind.Char ∷
+    makes word.Short kind.Short ∷
+    makes word.Int kind.Int ∷
+    makes word.Long kind.Long ∷
+    makes word.Signed kind.Signed ∷
+    makes word.Unsigned kind.Unsigned ∷
+    makes word.Bool kind.Bool ∷
+    []
+
+-- 6.7.1, 6.7.4
+abbrev pub storage_words : Words
+storage_words =
+    makes word.Typedef kind.Typedef ∷
+    makes word.Extern kind.Extern ∷
+    makes word.Static kind.Static ∷
+    makes word.Auto kind.Auto ∷
+    makes word.Register kind.Register ∷
+    makes word.Inline kind.Inline ∷
+    []
+
+-- the words that are a specifier by themselves
+abbrev pub specifier_words : Part → Words
+specifier_words part.Specifiers = storage_words ++ plain_words
+specifier_words _ = plain_words
+
+abbrev pub row_kind : Part → Kind
+row_kind part.Specifiers = kind.Specifiers
+row_kind _ = kind.PlainSpecifiers
+
+-- whether a word begins a plain specifier
+abbrev pub is_plain_start : Word → Bool
+is_plain_start word.Const = true
+is_plain_start word.Void = true
+is_plain_start word.Char = true
+is_plain_start word.Short = true
+is_plain_start word.Int = true
+is_plain_start word.Long = true
+is_plain_start word.Signed = true
+is_plain_start word.Unsigned = true
+is_plain_start word.Bool = true
+is_plain_start word.Struct = true
+is_plain_start word.Enum = true
+is_plain_start _ = false
+
+abbrev pub is_specifier_start : Word → Bool
+is_specifier_start word.Typedef = true
+is_specifier_start word.Extern = true
+is_specifier_start word.Static = true
+is_specifier_start word.Auto = true
+is_specifier_start word.Register = true
+is_specifier_start word.Inline = true
+is_specifier_start w = is_plain_start w
+
+-- whether a word begins a declarator without a name, and one with or without
+abbrev pub is_abstract_start : Word → Bool
+is_abstract_start word.Star = true
+is_abstract_start word.LeftParen = true
+is_abstract_start word.LeftBracket = true
+is_abstract_start _ = false
+
+abbrev pub is_declarator_start : Word → Bool
+is_declarator_start word.Identifier = true
+is_declarator_start w = is_abstract_start w
+
+-- the word behind `(` where a cast or a type name of `sizeof` begins
+abbrev pub type_start : Test
+type_start = or (has is_plain_start) (type_identifier false)
+
+-- the word that goes on with a row of specifiers, where a type specifier stands before it or doesn't
+abbrev pub element_start : Part → Bool → Test
+element_start part.Specifiers typed = or (has is_specifier_start) (type_identifier typed)
+element_start _ typed = or (has is_plain_start) (type_identifier typed)
+
+-- the word that goes on with a declarator behind a `*`
+abbrev pub declarator_start : Wanted → Test
+declarator_start unnamed = has is_abstract_start
+declarator_start _ = has is_declarator_start
+
+abbrev pub may_name : Wanted → Bool
+may_name named = true
+may_name unnamed = false
+may_name either = true
+
+abbrev pub may_omit : Wanted → Bool
+may_omit named = false
+may_omit unnamed = true
+may_omit either = true
+
+-- the expressions that an assignment operator can stand behind (6.5.3, 6.5.2, 6.5.1)
+abbrev pub is_unary_kind : Kind → Bool
+is_unary_kind kind.PreIncrement = true
+is_unary_kind kind.PreDecrement = true
+is_unary_kind kind.AddressOf = true
+is_unary_kind kind.Dereference = true
+is_unary_kind kind.Plus = true
+is_unary_kind kind.Minus = true
+is_unary_kind kind.Complement = true
+is_unary_kind kind.Not = true
+is_unary_kind kind.SizeofExpression = true
+is_unary_kind kind.SizeofType = true
+is_unary_kind kind.Call = true
+is_unary_kind kind.Subscript = true
+is_unary_kind kind.Member = true
+is_unary_kind kind.PointerMember = true
+is_unary_kind kind.PostIncrement = true
+is_unary_kind kind.PostDecrement = true
+is_unary_kind kind.Identifier = true
+is_unary_kind kind.Integer = true
+is_unary_kind kind.Character = true
+is_unary_kind kind.Text = true
+is_unary_kind kind.Group = true
+is_unary_kind _ = false
+
+abbrev pub is_unary : Trees → Bool
+is_unary none = false
+is_unary (node k i j a n) = is_unary_kind k
+
+abbrev pub is_identifier : Trees → Bool
+is_identifier (node kind.Identifier i j a n) = true
+is_identifier _ = false
+
+-- whether a declarator has a name
+abbrev pub is_declarator : Trees → Bool
+is_declarator none = false
+is_declarator (node k i j a n) = elim (base_of k) [ ItsName ↦ true | InBrackets ↦ true | Derived ↦ true | NoDeclarator ↦ false ]
+
+-- a row of specifiers from token s to before e: one alone makes no node
+abbrev pub in_row : Part → ℕ → ℕ → Trees → Trees
+in_row p s e (node k i j a none) = node k i j a none
+in_row p s e t = one (row_kind p) s e t
+
+-- a list of parameters: `void` alone is none, and one alone makes no node
+abbrev pub in_parameters : ℕ → ℕ → Trees → Trees
+in_parameters s e (node kind.Void i j a none) = one kind.VoidParameters s e none
+in_parameters s e (node k i j a none) = node k i j a none
+in_parameters s e t = one kind.Parameters s e t
+
+-- what `expression` reads
+abbrev pub start_goal : Part → ℕ → Goal
+start_goal part.Expression d = expression d
+start_goal part.Assignment d = assignment d
+start_goal _ d = conditional d
+
+-- what follows where a declarator has no name in front
+abbrev pub array_start : Wanted → ℕ → ℕ → Prog
+array_start w d s = when (may_omit w)
+    (take opens (the word.LeftBracket) d (call (size d) (λ t. into kind.AbstractArray s t (λ a. call (abstract_suffixes d s a) give))) (stop d))
+    (stop d)
+
+-- what follows a declarator in brackets
+abbrev pub group_end : ℕ → ℕ → Trees → Prog
+group_end d s t = when (is_declarator t)
+    (into kind.GroupDeclarator s (t & none) (λ a. call (declarator_suffixes d s a) give))
+    (into kind.AbstractGroup s (t & none) (λ a. call (abstract_suffixes d s a) give))
+
+-- what a `*` points to
+abbrev pub pointer_end : ℕ → Trees → Prog
+pointer_end s t = when (is_declarator t) (made kind.PointerDeclarator s (t & none)) (made kind.AbstractPointer s (t & none))
+
+-- what follows an assignment operator that makes a node of kind k, an operator of a level, a prefix operator
+abbrev pub assigned : ℕ → ℕ → Trees → Kind → Prog
+assigned d s a k = call (assignment (d + 1)) (λ b. made k s (a & b & none))
+
+abbrev pub operated : Part → ℕ → ℕ → Trees → Kind → Prog
+operated p d s a k = call (tighter p d) (λ b. into k s (a & b & none) (λ t. call (operands p d s t) give))
+
+abbrev pub prefixed : Goal → ℕ → Kind → Prog
+prefixed g s k = call g (λ a. made k s (a & none))
+
+-- a postfix expression of kind k with these parts, and the suffixes behind it
+abbrev pub suffixed : ℕ → ℕ → Trees → Kind → Prog
+suffixed d s a k = into k s a (λ t. call (suffixes d s t) give)
+
+-- the rest of the programs of `unary`, `postfix`, `suffixes` and `element`, behind their tables of words
+abbrev pub sized : ℕ → ℕ → Prog
+sized d s = take opens (the word.Sizeof) d (call (measured d s) give) (call (postfix d) give)
+
+abbrev pub other_primary : ℕ → ℕ → Prog
+other_primary d s =
+    take plain (the word.Text) d (call (texts d) (λ _. suffixed d s none kind.Text))
+    (take opens (the word.LeftParen) d (call (grouped d s) give) (stop d))
+
+abbrev pub suffixes_end : ℕ → Trees → Prog
+suffixes_end d a = when (is_identifier a) (give a) (bar (the word.LeftParen) 4 d (give a))
+
+abbrev pub other_element : Context → ℕ → ℕ → Prog
+other_element h d s =
+    take plain (the word.Struct) d (call (structure d s) give)
+    (take plain (the word.Enum) d (call (enumeration d s) give)
+    (take plain (type_identifier h.typed) d (made kind.TypedefName s none) (stop d)))
+
+-- what follows a member's declarator: no bit-field, another declarator, or the end of the member
+abbrev pub member_end : Context → ℕ → ℕ → Trees → Trees → Prog
+member_end h d s a t = bar (the word.Colon) 5 d
+    (take plain (the word.Comma) d (call (member_declarators (past_token h) d s (a & t & none)) give)
+    (expect plain word.Semicolon d (made kind.MemberDeclaration s (a & t & none))))
+
+abbrev pub body : Goal → Prog
+body (whole p d) = call (start_goal p d) (λ t. bar (has is_unused) 1 d (give t))
+-- 6.5.17
+body (expression d) = here (λ s. call (assignment d) (λ a. call (commas d s a) give))
+body (commas d s a) = take plain (the word.Comma) d (call (assignment d) (λ b. into kind.Comma s (a & b & none) (λ t. call (commas d s t) give))) (give a)
+-- 6.5.16
+body (assignment d) = here (λ s. call (conditional d) (λ a. when (is_unary a)
+    (choose opens assignment_operators d (assigned d s a) (give a))
+    (give a)))
+-- 6.5.15
+body (conditional d) = here (λ s. call (binary part.LogicalOr d) (λ a.
+    take opens (the word.Question) d
+    (call (expression (d + 1)) (λ b. expect reopens word.Colon d (call (conditional (d + 1)) (λ c. made kind.Conditional s (a & b & c & none)))))
+    (give a)))
+-- 6.5.14 to 6.5.5
+body (binary p d) = here (λ s. call (tighter p d) (λ a. call (operands p d s a) give))
+body (operands p d s a) = choose plain (operators p) d (operated p d s a) (give a)
+-- 6.5.4
+body (cast d) = here (λ s. take opens (the word.LeftParen) d
+    (peek type_start
+    (call (type_name (d + 1)) (λ t. expect reopens word.RightParen d (bar (the word.LeftBrace) 3 (d + 1) (call (cast (d + 1)) (λ a. made kind.Cast s (t & a & none))))))
+    (call (grouped d s) give))
+    (call (unary d) give))
+-- 6.5.3
+body (unary d) = here (λ s.
+    choose opens unary_prefixes d (prefixed (unary (d + 1)) s) (choose opens cast_prefixes d (prefixed (cast (d + 1)) s) (sized d s)))
+body (measured d s) = here (λ q. take opens (the word.LeftParen) (d + 1)
+    (peek type_start
+    (call (type_name (d + 1 + 1)) (λ t. expect plain word.RightParen (d + 1 + 1) (made kind.SizeofType s (t & none))))
+    (call (grouped (d + 1) q) (λ a. made kind.SizeofExpression s (a & none))))
+    (call (unary (d + 1)) (λ a. made kind.SizeofExpression s (a & none))))
+-- 6.5.2, 6.5.1
+body (postfix d) = here (λ s.
+    take plain ordinary d (call (called d s) give)
+    (choose plain constants d (suffixed d s none) (other_primary d s)))
+body (called d s) = take opens (the word.LeftParen) d
+    (take plain (the word.RightParen) (d + 1)
+    (suffixed d s none kind.Call)
+    (call (arguments d none) (λ a. suffixed d s a kind.Call)))
+    (suffixed d s none kind.Identifier)
+body (grouped d s) = call (expression (d + 1)) (λ a. expect plain word.RightParen (d + 1) (suffixed d s (a & none) kind.Group))
+body (texts d) = take plain (the word.Text) d (call (texts d) give) (give none)
+body (arguments d a) = call (assignment (d + 1)) (λ b.
+    take plain (the word.Comma) (d + 1) (call (arguments d (a & b & none)) give) (expect plain word.RightParen (d + 1) (give (a & b & none))))
+body (suffixes d s a) =
+    take opens (the word.LeftBracket) d
+    (call (expression (d + 1)) (λ b. expect plain word.RightBracket (d + 1) (suffixed d s (a & b & none) kind.Subscript)))
+    (take plain (the word.Dot) d (expect plain word.Identifier d (suffixed d s (a & none) kind.Member))
+    (take plain (the word.Arrow) d (expect plain word.Identifier d (suffixed d s (a & none) kind.PointerMember))
+    (choose plain postfix_operators d (suffixed d s (a & none)) (suffixes_end d a))))
+-- 6.7.7
+body (type_name d) = here (λ s. call (row part.PlainSpecifiers fresh d) (λ t.
+    peek (has is_abstract_start) (call (declarator unnamed fresh d) (λ a. made kind.TypeName s (t & a & none))) (give t)))
+-- 6.7, 6.7.1 to 6.7.4
+body (row p h d) = here (λ s. call (element p h d) (λ t. call (more p (past_part h t) d s (t & none)) give))
+body (more p h d s a) = peek (element_start p h.typed)
+    (call (element p h d) (λ t. call (more p (past_part h t) d s (a & t & none)) give))
+    (here (λ e. give (in_row p s e a)))
+body (element p h d) = here (λ s.
+    choose plain (specifier_words p) d (λ k. made k s none) (other_element h d s))
+-- 6.7.2.1
+body (structure d s) = take plain (the word.Identifier) d
+    (take opens (the word.LeftBrace) d (call (members d s none) give) (made kind.StructTag s none))
+    (expect opens word.LeftBrace d (call (members d s none) give))
+body (members d s a) = call (member (d + 1)) (λ t.
+    take plain (the word.RightBrace) (d + 1) (made kind.StructContent s (a & t & none)) (call (members d s (a & t & none)) give))
+body (member d) = here (λ s. call (row part.PlainSpecifiers fresh d) (λ t. call (member_declarators (past_part fresh t) d s (t & none)) give))
+body (member_declarators h d s a) = call (declarator named h d) (λ t. drops (member_end h d s a t))
+-- 6.7.2.2
+body (enumeration d s) = take plain (the word.Identifier) d
+    (take opens (the word.LeftBrace) d (call (enumerators d s none) give) (made kind.EnumTag s none))
+    (expect opens word.LeftBrace d (call (enumerators d s none) give))
+body (enumerators d s a) = call (enumerator (d + 1)) (λ t.
+    take plain (the word.Comma) (d + 1)
+    (take plain (the word.RightBrace) (d + 1) (made kind.EnumContent s (a & t & none)) (call (enumerators d s (a & t & none)) give))
+    (expect plain word.RightBrace (d + 1) (made kind.EnumContent s (a & t & none))))
+body (enumerator d) = here (λ s. expect plain word.Identifier d (take plain (the word.Equal) d
+    (call (conditional d) (λ t. bring s false (made kind.Enumerator s (t & none))))
+    (bring s false (made kind.Enumerator s none))))
+-- 6.7.6, 6.7.7
+body (consts d) = take plain (the word.Const) d (call (consts d) give) (give none)
+body (declarator w h d) = here (λ s.
+    take opens (the word.Star) d
+    (call (consts (d + 1)) (λ _. when (may_omit w)
+    (peek (declarator_start w) (call (declarator w (past_token h) (d + 1)) (λ t. pointer_end s t)) (made kind.AbstractPointer s none))
+    (call (declarator w (past_token h) (d + 1)) (λ t. pointer_end s t))))
+    (take opens (the word.LeftParen) d
+    (call (declarator w (past_token h) (d + 1)) (λ t. expect plain word.RightParen (d + 1) (group_end d s t)))
+    (when (may_name w)
+    (take plain (declared h.typed) d (begins (into kind.NameDeclarator s none (λ t. call (declarator_suffixes d s t) give))) (array_start w d s))
+    (array_start w d s))))
+body (declarator_suffixes d s a) =
+    take opens (the word.LeftBracket) d
+    (look (λ c. set (around c) (call (size d) (λ t. look (λ e. set (innermost_of c ∷ e)
+    (into kind.ArrayDeclarator s (a & t) (λ b. call (declarator_suffixes d s b) give)))))))
+    (take opens (the word.LeftParen) d
+    (take plain (the word.RightParen) (d + 1)
+    (into kind.FunctionDeclarator s (a & none) (λ b. call (declarator_suffixes d s b) give))
+    (look (λ c. set ([] ∷ around c) (call (parameters (d + 1)) (λ t. look (λ e. set ((if is_bare a then innermost_of e else innermost_of c) ∷ around e)
+    (expect plain word.RightParen (d + 1) (into kind.FunctionDeclarator s (a & t & none) (λ b. call (declarator_suffixes d s b) give)))))))))
+    (give a))
+body (abstract_suffixes d s a) = take opens (the word.LeftBracket) d
+    (call (size d) (λ t. into kind.AbstractArrayOf s (a & t) (λ b. call (abstract_suffixes d s b) give)))
+    (give a)
+body (size d) = take plain (the word.RightBracket) (d + 1) (give none) (call (conditional (d + 1)) (λ t. expect plain word.RightBracket (d + 1) (give (t & none))))
+body (parameters d) = here (λ s. call (parameter d) (λ t. call (more_parameters d s (t & none)) give))
+body (more_parameters d s a) = take plain (the word.Comma) d
+    (take plain (the word.Ellipsis) d (made kind.VariadicParameters s a) (call (parameter d) (λ t. call (more_parameters d s (a & t & none)) give)))
+    (here (λ e. give (in_parameters s e a)))
+body (parameter d) = here (λ s. call (row part.Specifiers fresh d) (λ t. peek (has is_declarator_start)
+    (call (declarator either (past_part fresh t) d) (λ a. when (is_declarator a)
+    (drops (bring (past_part (past_part fresh t) a).name (past_part (past_part fresh t) a).type_name (made kind.Parameter s (t & a & none))))
+    (made kind.Parameter s (t & a & none))))
+    (give t)))
