@@ -1,0 +1,6 @@
+pub mod Moves
+pub mod LineEnds
+pub mod Stands
+pub mod Alone
+pub mod Dots
+pub mod Reading
