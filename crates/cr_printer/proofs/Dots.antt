@@ -29,7 +29,7 @@ no_word b e (inr (inl h)) = omega arith
 no_word b e (inr (inr h)) = omega arith
 
 -- a text is all of its bytes
-whole : (s : List ℕ) → slice_range s 0 (0 + length s) ≡ s
+pub whole : (s : List ℕ) → slice_range s 0 (0 + length s) ≡ s
 whole s = spelling_there s s 0 (record { left = omega arith; right = omega arith; each = λ k lt. refl })
 
 -- an integer constant begins with a digit

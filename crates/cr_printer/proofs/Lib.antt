@@ -4,3 +4,4 @@ pub mod Stands
 pub mod Alone
 pub mod Dots
 pub mod Reading
+pub mod Apart

@@ -35,7 +35,7 @@ longer_moved f a g b m to s lt inside x =
     lexeme_moved g b f a (to - b) (turned f a g b (to - b) (shorter f a g b m (to - b) (omega arith) s)) (subst P same x)
 
 -- a comment in a span of two bytes or more
-comment_back : (f : List ℕ) (a : ℕ) (g : List ℕ) (b m : ℕ) → Agree f a g b m → 1 < m → OpensComment g b → OpensComment f a
+pub comment_back : (f : List ℕ) (a : ℕ) (g : List ℕ) (b m : ℕ) → Agree f a g b m → 1 < m → OpensComment g b → OpensComment f a
 comment_back f a g b m s two c =
     let first : slice_index f a ≡ slice_index g b = byte f a g b m a b s (omega arith) (omega arith) (omega arith) in
     let second : slice_index f (a + 1) ≡ slice_index g (b + 1) = byte f a g b m (a + 1) (b + 1) s (omega arith) (omega arith) (omega arith) in
@@ -49,7 +49,7 @@ comment_no_space : (g : List ℕ) (b : ℕ) → OpensComment g b → slice_index
 comment_no_space g b (inl x) e = omega arith
 comment_no_space g b (inr x) e = omega arith
 
-splice_line_end : (g : List ℕ) (b : ℕ) → OneLine g → ¬ IsSplice g b
+pub splice_line_end : (g : List ℕ) (b : ℕ) → OneLine g → ¬ IsSplice g b
 splice_line_end g b line (inl x) = line.each (b + 1) x.1
 splice_line_end g b line (inr x) = line.each (b + 3) x.3
 
@@ -93,7 +93,7 @@ quoted Text file at to lt q s = (34, s.0, inr refl, s.1)
 quoted Punctuator file at to lt q s = absurd (punctuator_no_other file at to lt s (inr q))
 
 -- and nothing longer could be a token there
-quoted_longest : (kind : TokenKind) (file : List ℕ) (at to longer : ℕ) → at < to → to < longer → IsQuote (slice_index file at) →
+pub quoted_longest : (kind : TokenKind) (file : List ℕ) (at to longer : ℕ) → at < to → to < longer → IsQuote (slice_index file at) →
     Spells file kind at to → ¬ IsLexeme file at longer
 quoted_longest kind file at to longer lt more q s =
     let l = quoted kind file at to lt q s in
@@ -145,7 +145,7 @@ pub record Dots (g : List ℕ) (b : ℕ) : Type 0 where
   pub third : slice_index g (b + 2) ≡ 46
 
 -- the first two bytes of a punctuator of three are one, other than for `...`
-three_two : (g : List ℕ) (b : ℕ) → b + 2 < length g → IsPunctuator g b (b + 3) → ¬ Dots g b → IsPunctuator g b (b + 2)
+pub three_two : (g : List ℕ) (b : ℕ) → b + 2 < length g → IsPunctuator g b (b + 3) → ¬ Dots g b → IsPunctuator g b (b + 2)
 three_two g b inside p nd =
     let three = slice_range-three g b inside in
     let two = slice_range-two g b (omega arith) in
@@ -164,6 +164,13 @@ three_two g b inside p nd =
           }))
     ]
 
+-- no punctuator has more than three bytes
+pub sign_short : (g : List ℕ) (b to : ℕ) → to ≤ length g → IsPunctuator g b to → to - b ≤ 3
+sign_short g b to inside p =
+    let few : nat_le (length (slice_range g b to)) 3 ≡ true = is_among-all (λ s. nat_le (length s) 3) punctuators (slice_range g b to) p refl in
+    let size : length (slice_range g b to) ≡ to - b = slice_range-length g b to inside in
+    leb-true (to - b) 3 (rw size at few)
+
 -- what could be a token and is longer than two bytes could be one also where it is cut, but for literals and `...`
 lexeme_cut : (g : List ℕ) (b to longer : ℕ) → b + 1 < to → to < longer → longer ≤ length g → ¬ IsQuote (slice_index g b) → (to ≡ b + 2 → ¬ Dots g b) →
     IsLexeme g b longer → IsLexeme g b to
@@ -174,10 +181,7 @@ lexeme_cut g b to longer two lt inside nq nd (number w) =
 lexeme_cut g b to longer two lt inside nq nd (character count w) = absurd (nq (inl w.open_quote))
 lexeme_cut g b to longer two lt inside nq nd (text count w) = absurd (nq (inr w.open_quote))
 lexeme_cut g b to longer two lt inside nq nd (punctuator p) =
-    let few : nat_le (length (slice_range g b longer)) 3 ≡ true =
-    is_among-all (λ s. nat_le (length s) 3) punctuators (slice_range g b longer) p refl in
-    let size : length (slice_range g b longer) ≡ longer - b = slice_range-length g b longer inside in
-    let short : longer - b ≤ 3 = leb-true (longer - b) 3 (rw size at few) in
+    let short : longer - b ≤ 3 = sign_short g b longer inside p in
     let three : longer ≡ b + 3 = omega arith in
     let here : to ≡ b + 2 = omega arith in
     let P : ℕ → Type 0 = λ i. IsPunctuator g b i in

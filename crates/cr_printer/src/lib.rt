@@ -2,5 +2,6 @@
 #![tactic(auto)]
 
 mod laws;
+mod seam;
 
 pub use laws::printed_is_read;
