@@ -5,3 +5,5 @@ pub mod Alone
 pub mod Dots
 pub mod Reading
 pub mod Apart
+pub mod Orders
+pub mod Growth

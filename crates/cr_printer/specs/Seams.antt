@@ -1,12 +1,12 @@
 -- What is looked at where two spellings meet.
-use Rattle.std.specs.Prelude.{◌≡◌, ℕ, ◌+◌, ◌≤◌, ◌⊎◌, List, [], ◌∷◌, length, true, All}
+use Rattle.std.specs.Prelude.{◌≡◌, ℕ, ◌+◌, ◌≤◌, ◌⊎◌, List, [], ◌∷◌, length, true, All, slice_index_or}
 use Rattle.cr_tokens.specs.declared.token.Token.{Token}
 use Rattle.cr_tokens.specs.declared.token.TokenKind.{TokenKind}
 use Rattle.cr_tokens.specs.Bytes.{IsDigit, IsWordByte, is_among}
 use Rattle.cr_tokens.specs.Numbers.{IsSign, IsExponent}
 use Rattle.cr_tokens.specs.Punctuators.{punctuators}
 use Rattle.cr_tokens.specs.Tokens.{IsToken}
-use Rattle.cr_tokens.specs.Places.{Rise}
+use Rattle.cr_tokens.specs.Places.{Rise, StaysApart}
 use Rattle.cr_printer.specs.Pieces.{Piece, IsOneToken}
 
 -- tokens of a file, each behind the one before
@@ -29,3 +29,8 @@ Grows sign next after =
     (is_among punctuators (sign ∷ next ∷ []) ≡ true)
     ⊎ ((sign ≡ 46) × (IsDigit next ⊎ ((next ≡ 46) × (after ≡ 46))))
     ⊎ ((sign ≡ 47) × ((next ≡ 47) ⊎ (next ≡ 42)))
+
+-- the spelling with number `at` needs no space before it: it's the first, or stays apart from the one before
+abbrev pub NeedsNoSpace : List (List ℕ) → ℕ → Type 0
+NeedsNoSpace spellings at =
+    (at ≡ 0) ⊎ ((k : ℕ) × (at ≡ k + 1) × StaysApart (slice_index_or spellings k []) (slice_index_or spellings at []))
