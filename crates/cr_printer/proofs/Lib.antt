@@ -7,3 +7,4 @@ pub mod Reading
 pub mod Apart
 pub mod Orders
 pub mod Growth
+pub mod Names
