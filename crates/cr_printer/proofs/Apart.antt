@@ -48,7 +48,7 @@ pub spelling_some : (s : List ℕ) → IsSpelling s → 0 < length s
 spelling_some s h = not_empty (piece h.0 s) h.1
 
 -- where the first is a token they stay apart
-apart_from : (s t : List ℕ) (kind : TokenKind) → IsSpelling t → length s + length t ≤ 1048576 →
+pub apart_from : (s t : List ℕ) (kind : TokenKind) → IsSpelling t → length s + length t ≤ 1048576 →
     IsToken (s ++ t) (record { kind = kind; start = 0; end = length s }) → StaysApart s t
 apart_from s t kind h short first =
     let size : length (s ++ t) ≡ length s + length t = length-append s t in

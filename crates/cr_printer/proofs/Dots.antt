@@ -23,7 +23,7 @@ use Rattle.cr_printer.proofs.Moves.{Agree}
 use Rattle.cr_printer.proofs.Stands.{token_at}
 use Rattle.cr_printer.proofs.Alone.{alone, apart_some, not_empty, prints_front, all_first, all_rest, spelling_there}
 
-no_word : (b : ℕ) → b ≡ 46 → ¬ IsNondigit b
+pub no_word : (b : ℕ) → b ≡ 46 → ¬ IsNondigit b
 no_word b e (inl h) = omega arith
 no_word b e (inr (inl h)) = omega arith
 no_word b e (inr (inr h)) = omega arith
@@ -41,7 +41,7 @@ integer_first s false e i =
     let decimal : F false = subst F (sym e) i in
     decimal.1.digits 0 (omega arith) decimal.1.some
 
-number_no_dot : (s : List ℕ) (n : ℕ) → slice_index s 0 ≡ 46 → n ≡ length s → ¬ IsInteger (slice_range s 0 (0 + n))
+pub number_no_dot : (s : List ℕ) (n : ℕ) → slice_index s 0 ≡ 46 → n ≡ length s → ¬ IsInteger (slice_range s 0 (0 + n))
 number_no_dot s n first size i =
     let same : slice_range s 0 (0 + n) ≡ s = rw size (whole s) in
     let P : List ℕ → Type 0 = λ x. IsInteger x in

@@ -8,3 +8,5 @@ pub mod Apart
 pub mod Orders
 pub mod Growth
 pub mod Names
+pub mod Neighbours
+pub mod Units
