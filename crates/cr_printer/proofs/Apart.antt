@@ -54,13 +54,16 @@ apart_from s t kind h short first =
     let size : length (s ++ t) ≡ length s + length t = length-append s t in
     let second : IsToken (s ++ t) (token_at h.0 (length s) (length t)) =
     token_cut h.0 t 0 (s ++ t) (length s) (length t) (length t) (back s t) (omega arith) size (alone (piece h.0 t) h.1) in
-    let P : ℕ → Type 0 = λ i. FallsInto (s ++ t) (length s + length t) i [] in
-    (kind, h.0, record {
-      short = omega arith;
-      few = omega arith;
-      falls = token (record { kind = kind; start = 0; end = length s }) refl first
-          (token (token_at h.0 (length s) (length t)) refl second (subst P (sym size) nothing));
-    })
+    let P : ℕ → Type 0 = λ i. FallsInto (s ++ t) (length s + length t) i [] in (
+      kind,
+      h.0,
+      record {
+        short = omega arith;
+        few = omega arith;
+        falls = token (record { kind = kind; start = 0; end = length s }) refl first
+            (token (token_at h.0 (length s) (length t)) refl second (subst P (sym size) nothing));
+      },
+    )
 
 -- nothing longer than the first stands at its place
 pub no_longer : (s t : List ℕ) (to : ℕ) → StaysApart s t → length s < to → to ≤ length s + length t → ¬ IsLexeme (s ++ t) 0 to
@@ -275,8 +278,8 @@ one_apart s t i h short one ng =
     let e1 : slice_index (s ++ t) 1 ≡ slice_index t 0 = one_second s t one in
     let e2 : slice_index (s ++ t) 2 ≡ slice_index t 1 = one_third s t one in
     let no_two : 1 < length (s ++ t) → ¬ IsPunctuator (s ++ t) 0 2 = λ lt p.
-        let bytes = two_there (s ++ t) (slice_index s 0) (slice_index t 0) lt e0 e1 in
-        ng (inl (rw bytes at p)) in
+    let bytes = two_there (s ++ t) (slice_index s 0) (slice_index t 0) lt e0 e1 in
+    ng (inl (rw bytes at p)) in
     let no_dots : ¬ Dots (s ++ t) 0 = λ d. ng (inr (inl (sym e0 ∙ d.first, inr (sym e1 ∙ d.second, sym e2 ∙ d.third)))) in
     sign_apart s t i h short
     (λ to lt inside p. elim (cases_eq to 2) [
@@ -318,12 +321,12 @@ two_apart s t i h short two np =
     let size : length (s ++ t) ≡ length s + length t = length-append s t in
     sign_apart s t i h short
     (λ to lt inside p.
-      let few : to - 0 ≤ 3 = sign_short (s ++ t) 0 to inside p in
-      let e : to ≡ 3 = omega arith in
-      let P : ℕ → Type 0 = λ x. IsPunctuator (s ++ t) 0 x in
-      let bytes = three_there (s ++ t) (slice_index s 0) (slice_index s 1) (slice_index t 0) (omega arith) (front_byte s t (omega arith))
-      (get_or_append_left s t 0 1 (omega arith)) (two_third s t two) in
-      np (rw bytes at (subst P e p)))
+    let few : to - 0 ≤ 3 = sign_short (s ++ t) 0 to inside p in
+    let e : to ≡ 3 = omega arith in
+    let P : ℕ → Type 0 = λ x. IsPunctuator (s ++ t) 0 x in
+    let bytes = three_there (s ++ t) (slice_index s 0) (slice_index s 1) (slice_index t 0) (omega arith) (front_byte s t (omega arith))
+    (get_or_append_left s t 0 1 (omega arith)) (two_third s t two) in
+    np (rw bytes at (subst P e p)))
     (λ e. absurd (omega arith)) (λ e. absurd (omega arith))
 
 -- of three bytes

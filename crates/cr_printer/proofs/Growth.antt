@@ -82,7 +82,7 @@ next_spaced xs (suc k) text lt p na =
     let before : Prints (take k xs ++ get_or xs k [] ∷ []) text =
     let Q : List (List ℕ) → Type 0 = λ x. Prints x text in subst Q (take_more xs k [] (omega arith)) (subst P e p) in
     let apart : ¬ StaysApart (get_or xs k []) (get_or xs (k + 1) []) = λ a.
-        let A : ℕ → Type 0 = λ i. StaysApart (get_or xs k []) (get_or xs i []) in na (inr (k, e, subst A (sym e) a)) in
+    let A : ℕ → Type 0 = λ i. StaysApart (get_or xs k []) (get_or xs i []) in na (inr (k, e, subst A (sym e) a)) in
     let grown : Prints (take k xs ++ get_or xs k [] ∷ get_or xs (k + 1) [] ∷ []) (text ++ 32 ∷ get_or xs (k + 1) []) =
     grow_spaced (take k xs) (get_or xs k []) (get_or xs (k + 1) []) text before apart in
     let same : text ++ 32 ∷ get_or xs (k + 1) [] ≡ (text ++ 32 ∷ []) ++ get_or xs (k + 1) [] =

@@ -133,26 +133,32 @@ unit_moved f a g b n q x y to u z m low e d mid high (inr (p, inr (inl o))) =
     let stop : slice_index f to ≡ slice_index g u = byte f a g b n to u m (omega (arith, o.some)) (omega arith) d in
     let digits : slice_range f (x + 1) to ≡ slice_range g (y + 1) u =
     span f a g b n (x + 1) to (y + 1) u m (omega arith) (omega (arith, o.some)) (omega arith) (omega arith) d in
-    inr (rw here at p, inr (inl (record {
-      some = omega (arith, o.some);
-      most = omega (arith, o.most);
-      digits = each_moved IsOctalDigit f a g b n (x + 1) to (y + 1) u m (omega arith) (omega arith) (omega arith) d o.digits;
-      longest = λ lt i. o.longest (omega arith) (rw stop i);
-      small = rw digits at (o.small);
-    })))
+    inr (
+      rw here at p,
+      inr (inl (record {
+        some = omega (arith, o.some);
+        most = omega (arith, o.most);
+        digits = each_moved IsOctalDigit f a g b n (x + 1) to (y + 1) u m (omega arith) (omega arith) (omega arith) d o.digits;
+        longest = λ lt i. o.longest (omega arith) (rw stop i);
+        small = rw digits at (o.small);
+      })),
+    )
 unit_moved f a g b n q x y to u z m low e d mid high (inr (p, inr (inr h))) =
     let here : slice_index f x ≡ slice_index g y = byte f a g b n x y m low (omega (arith, h.some)) e in
     let next : slice_index f (x + 1) ≡ slice_index g (y + 1) = byte f a g b n (x + 1) (y + 1) m (omega arith) (omega (arith, h.some)) (omega arith) in
     let stop : slice_index f to ≡ slice_index g u = byte f a g b n to u m (omega (arith, h.some)) (omega arith) d in
     let digits : slice_range f (x + 2) to ≡ slice_range g (y + 2) u =
     span f a g b n (x + 2) to (y + 2) u m (omega arith) (omega (arith, h.some)) (omega arith) (omega arith) d in
-    inr (rw here at p, inr (inr (record {
-      letter = rw next at (h.letter);
-      some = omega (arith, h.some);
-      digits = each_moved IsHexDigit f a g b n (x + 2) to (y + 2) u m (omega arith) (omega arith) (omega arith) d h.digits;
-      longest = λ i. h.longest (rw stop i);
-      small = rw digits at (h.small);
-    })))
+    inr (
+      rw here at p,
+      inr (inr (record {
+        letter = rw next at (h.letter);
+        some = omega (arith, h.some);
+        digits = each_moved IsHexDigit f a g b n (x + 2) to (y + 2) u m (omega arith) (omega arith) (omega arith) d h.digits;
+        longest = λ i. h.longest (rw stop i);
+        small = rw digits at (h.small);
+      })),
+    )
 
 -- a byte that is no quote doesn't stand at the closing one
 before_close : (f : List ℕ) (q z k v : ℕ) → IsQuote q → slice_index f z ≡ q → slice_index f k ≡ v → v ≢ 39 → v ≢ 34 → k ≤ z → k < z

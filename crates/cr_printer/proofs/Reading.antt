@@ -69,8 +69,8 @@ walk g line (p ∷ q ∷ ps) b text e all nd (prints.joined {text = r} apart res
     let a : Agree (p.spelling ++ q.spelling) 0 g b (length (p.spelling ++ q.spelling)) = ends_front g b (p.spelling ++ q.spelling) f.0 (subst E both e) in
     let size : length (p.spelling ++ q.spelling) ≡ length p.spelling + length q.spelling = length-append p.spelling q.spelling in
     let no_dots : length (p.spelling ++ q.spelling) ≡ 2 → ¬ Dots g b = λ two d.
-        let first : slice_index (p.spelling ++ r) 0 ≡ 46 = sym (e.each 0) ∙ ap (λ i. slice_index g i) (add-zero b) ∙ d.first in
-        nd (three_dots p q ps r all (sym size ∙ two) rest first (sym (e.each 1) ∙ d.second) (sym (e.each 2) ∙ d.third)) in
+    let first : slice_index (p.spelling ++ r) 0 ≡ 46 = sym (e.each 0) ∙ ap (λ i. slice_index g i) (add-zero b) ∙ d.first in
+    nd (three_dots p q ps r all (sym size ∙ two) rest first (sym (e.each 1) ∙ d.second) (sym (e.each 2) ∙ d.third)) in
     let t : IsToken g (token_at p.kind b (length p.spelling)) =
     token_joined p.kind (p.spelling ++ q.spelling) 0 g b (length p.spelling) (length (p.spelling ++ q.spelling)) a
     (omega (arith, not_empty q hq)) no_dots line (apart_first p.kind p.spelling q.spelling apart (alone p hp)) in

@@ -195,7 +195,7 @@ token_joined kind f a g b n m s le nd line t =
     let some : b < b + n = omega (arith, t.not_empty) in
     let spells : Spells g kind b (b + n) = spells_moved kind f a g b n (shorter f a g b m n (omega arith) s) t.spells in
     let near : (to : ℕ) → b + n < to → to ≤ b + m → ¬ IsLexeme g b to = λ to lt inside x.
-        t.longest (a + (to - b)) (omega arith) (omega (arith, s.left)) (longer_moved f a g b m to s (omega arith) inside x) in
+    t.longest (a + (to - b)) (omega arith) (omega (arith, s.left)) (longer_moved f a g b m to s (omega arith) inside x) in
     record {
       not_empty = some;
       inside = omega (arith, s.right);

@@ -2,8 +2,9 @@
 #![tactic(auto)]
 
 mod laws;
-
 mod seam;
+#[cfg(test)]
+mod tests;
 mod text;
 
 pub use laws::{

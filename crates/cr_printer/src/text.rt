@@ -24,12 +24,7 @@ pub fn print(alloc: Global, file: &[u8], unit: &Unit) -> Result<Vec<u8>, NoMemor
 }
 
 /// The text of one node of a unit of the file, spelled in the same way.
-pub fn print_expr(
-    alloc: Global,
-    file: &[u8],
-    unit: &Unit,
-    node: u32,
-) -> Result<Vec<u8>, NoMemory>
+pub fn print_expr(alloc: Global, file: &[u8], unit: &Unit, node: u32) -> Result<Vec<u8>, NoMemory>
     requires file { Tokenizes file.now unit.now.tokens.list.items }
     requires node { node < length unit.now.nodes }
     ensures { IfOk result (λ text. (n : Node) × (slice_get unit.now.nodes node ≡ Some n) × Prints (spellings file.now (tokens_of unit.now n)) text.items) }
