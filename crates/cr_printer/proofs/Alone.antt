@@ -1,12 +1,12 @@
 -- A token apart from its file, and two side by side.
-use Rattle.std.proofs.Common.{◌≡◌, ◌≢◌, inl, inr, ℕ, zero, suc, ◌+◌, ◌-◌, ◌≤◌, ◌<◌, List, [], ◌∷◌, ◌++◌, length, refl, sym, ◌∙◌, ap, subst, arith, zero-add, length-append}
-use Rattle.std.specs.Prelude.{slice_index, slice_range, map, All}
+use Rattle.std.proofs.Common.{◌≡◌, ◌≢◌, inl, inr, ℕ, suc, ◌+◌, ◌-◌, ◌<◌, List, [], ◌∷◌, ◌++◌, length, refl, sym, ◌∙◌, ap, subst, arith, zero-add, length-append}
+use Rattle.std.specs.Prelude.{slice_index, slice_range, All}
 use Rattle.std.proofs.lemmas.Bool.{cases_lt}
 use Rattle.std.proofs.lemmas.List.{ext_get_or, append-nil, get_or_append_left, get_or-append-add}
 use Rattle.cr_tokens.specs.declared.token.Token.{Token}
 use Rattle.cr_tokens.specs.declared.token.TokenKind.{TokenKind}
 use Rattle.cr_tokens.specs.Tokens.{IsToken, Spells, FallsInto}
-use Rattle.cr_tokens.specs.Tokens.FallsInto.{nothing, blank, token}
+use Rattle.cr_tokens.specs.Tokens.FallsInto.{blank, token}
 use Rattle.cr_tokens.specs.Places.{StaysApart}
 use Rattle.cr_tokens.proofs.Places.{past}
 use Rattle.cr_tokens.proofs.Ranges.{slice_range-at, slice_range-length}

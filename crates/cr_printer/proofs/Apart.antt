@@ -1,7 +1,7 @@
 -- The quick test of two spellings side by side says whether they stay apart.
 use Rattle.std.proofs.Common.{◌≡◌, ◌≢◌, ◌⊎◌, inl, inr, ℕ, ◌+◌, ◌-◌, ◌≤◌, ◌<◌, List, [], ◌∷◌, ◌++◌, length, true, false, not, Bool, refl, sym, ◌∙◌, ap, subst, arith, zero-add, add-zero, length-append}
 use Rattle.std.specs.Prelude.{slice_index, slice_range, IsTrue, ◌↔◌}
-use Rattle.std.proofs.lemmas.Bool.{cases_lt, cases_eq, leb-true}
+use Rattle.std.proofs.lemmas.Bool.{cases_eq}
 use Rattle.std.proofs.lemmas.List.{get_or_append_left, get_or-append-add}
 use Rattle.cr_tokens.specs.declared.token.TokenKind.{TokenKind}
 use Rattle.cr_tokens.specs.declared.token.TokenKind.TheVariants.{Keyword, Identifier, Integer, Character, Text, Punctuator}
@@ -9,15 +9,13 @@ use Rattle.cr_tokens.specs.Bytes.{IsWordByte, IsDigit, is_among}
 use Rattle.cr_tokens.specs.Words.{IsWord, word_kind_of}
 use Rattle.cr_tokens.specs.Numbers.{IsNumber, IsNumberPart, IsInteger, BeginsNumber}
 use Rattle.cr_tokens.specs.Punctuators.{IsPunctuator, punctuators}
-use Rattle.cr_tokens.specs.Blanks.{OpensComment, IsSplice}
+use Rattle.cr_tokens.specs.Blanks.{OpensComment}
 use Rattle.cr_tokens.specs.Tokens.{IsToken, IsLexeme, Spells, FallsInto}
 use Rattle.cr_tokens.specs.Tokens.IsLexeme.{word, number, character, text, punctuator}
 use Rattle.cr_tokens.specs.Tokens.FallsInto.{nothing, token}
 use Rattle.cr_tokens.specs.Faults.{IsQuote}
 use Rattle.cr_tokens.specs.Places.{StaysApart}
-use Rattle.cr_tokens.proofs.Places.{past}
-use Rattle.cr_tokens.proofs.Ranges.{slice_range-two, slice_range-three, slice_range-length}
-use Rattle.cr_tokens.proofs.Tables.{is_among-all}
+use Rattle.cr_tokens.proofs.Ranges.{slice_range-two, slice_range-three}
 use Rattle.cr_tokens.proofs.Firsts.{punctuator_no_other}
 use Rattle.cr_tokens.proofs.Longest.{word_IsToken, number_IsToken, no_comment_at, quote_no_slash, byte_inside, punctuator_no_number}
 use Rattle.cr_printer.specs.Pieces.{Piece, IsOneToken}
@@ -26,7 +24,6 @@ use Rattle.cr_printer.proofs.Moves.{Agree, spells_moved, word_moved, number_move
 use Rattle.cr_printer.proofs.LineEnds.{OneLine, one_line-append}
 use Rattle.cr_printer.proofs.Stands.{token_at, token_cut, comment_back, splice_line_end, quoted_longest, three_two, sign_short, Dots}
 use Rattle.cr_printer.proofs.Alone.{alone, apart_some, front, one_line, not_empty}
-use Rattle.cr_printer.proofs.Dots.{whole}
 
 abbrev piece : TokenKind → List ℕ → Piece
 piece kind s = record { kind = kind; spelling = s }

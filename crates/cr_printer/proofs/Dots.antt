@@ -1,5 +1,5 @@
 -- Three dots come side by side only from three tokens `.`.
-use Rattle.std.proofs.Common.{◌≡◌, ◌≢◌, ◌⊎◌, inl, inr, ℕ, ◌+◌, ◌≤◌, ◌<◌, List, [], ◌∷◌, ◌++◌, length, true, false, not, Bool, refl, sym, ◌∙◌, ap, subst, arith, zero-add, length-append}
+use Rattle.std.proofs.Common.{◌≡◌, ◌⊎◌, inl, inr, ℕ, ◌+◌, ◌<◌, List, [], ◌∷◌, ◌++◌, length, true, false, not, Bool, refl, sym, ◌∙◌, ap, subst, arith, length-append}
 use Rattle.std.specs.Prelude.{slice_index, slice_range, ◌==◌, ◌||◌, nat_eq, codes, if◌then◌else◌, All}
 use Rattle.std.specs.Cmp.Lexicographic.{pointwise, same_text}
 use Rattle.std.proofs.lemmas.Bool.{or_cases, eqb-true, eq-eqb}
@@ -9,9 +9,9 @@ use Rattle.cr_tokens.specs.declared.token.TokenKind.TheVariants.{Keyword, Identi
 use Rattle.cr_tokens.specs.declared.number.Base.{Base}
 use Rattle.cr_tokens.specs.declared.number.Base.TheVariants.{Decimal, Octal, Hexadecimal}
 use Rattle.cr_tokens.specs.Bytes.{IsDigit, IsNondigit, is_among}
-use Rattle.cr_tokens.specs.Numbers.{IsInteger, IsIntegerOf, base_of, body_of}
-use Rattle.cr_tokens.specs.Punctuators.{IsPunctuator, punctuators}
-use Rattle.cr_tokens.specs.Tokens.{IsToken, Spells}
+use Rattle.cr_tokens.specs.Numbers.{IsInteger, IsIntegerOf, body_of}
+use Rattle.cr_tokens.specs.Punctuators.{punctuators}
+use Rattle.cr_tokens.specs.Tokens.{IsToken}
 use Rattle.cr_tokens.specs.Tokens.IsLexeme.{punctuator}
 use Rattle.cr_tokens.specs.Places.{StaysApart}
 use Rattle.cr_tokens.proofs.Places.{past}
@@ -19,7 +19,6 @@ use Rattle.cr_tokens.proofs.Tables.{is_among-all}
 use Rattle.cr_printer.specs.Pieces.{Piece, IsOneToken, HasThreeDots, spellings_of, dot}
 use Rattle.cr_printer.specs.Text.{Prints}
 use Rattle.cr_printer.specs.Text.Prints.{last, joined, spaced}
-use Rattle.cr_printer.proofs.Moves.{Agree}
 use Rattle.cr_printer.proofs.Stands.{token_at}
 use Rattle.cr_printer.proofs.Alone.{alone, apart_some, not_empty, prints_front, all_first, all_rest, spelling_there}
 

@@ -8,7 +8,7 @@ use Rattle.std.proofs.lemmas.List.Folds.{list_all_at}
 use Rattle.cr_tokens.specs.declared.token.TokenKind.{TokenKind}
 use Rattle.cr_tokens.specs.declared.token.TokenKind.TheVariants.{Keyword, Identifier, Integer, Character, Text, Punctuator}
 use Rattle.cr_tokens.specs.Bytes.{IsWordByte, is_byte_of}
-use Rattle.cr_tokens.specs.Numbers.{IsNumberPart, BeginsNumber, IsNumber}
+use Rattle.cr_tokens.specs.Numbers.{IsNumberPart, BeginsNumber}
 use Rattle.cr_tokens.specs.Literals.{IsLiteral, Chars, IsUnit, simple_escapes}
 use Rattle.cr_tokens.specs.Literals.Chars.{none, more}
 use Rattle.cr_tokens.specs.Punctuators.{IsPunctuator, punctuators}

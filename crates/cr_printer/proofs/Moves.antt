@@ -1,5 +1,5 @@
 -- What is said of a span of one text holds of a span of another with the same bytes.
-use Rattle.std.proofs.Common.{◌≡◌, ◌≢◌, ◌⊎◌, inl, inr, ℕ, ◌+◌, ◌-◌, ◌*◌, ◌≤◌, ◌<◌, List, length, true, refl, sym, ◌∙◌, ap, subst, arith, add-zero, length-take, length-drop}
+use Rattle.std.proofs.Common.{◌≡◌, ◌≢◌, inl, inr, ℕ, ◌+◌, ◌-◌, ◌≤◌, ◌<◌, List, length, refl, sym, ◌∙◌, ap, subst, arith}
 use Rattle.std.specs.Prelude.{slice_index, slice_range}
 use Rattle.std.proofs.lemmas.List.{ext_get_or}
 use Rattle.std.proofs.lemmas.Bool.{cases_eq}
@@ -8,9 +8,8 @@ use Rattle.cr_tokens.specs.declared.token.TokenKind.TheVariants.{Keyword, Identi
 use Rattle.cr_tokens.specs.Bytes.{Each, IsWordByte, IsOctalDigit, IsHexDigit}
 use Rattle.cr_tokens.specs.Words.{IsWord}
 use Rattle.cr_tokens.specs.Numbers.{IsNumber, IsNumberPart, BeginsNumber, IsInteger}
-use Rattle.cr_tokens.specs.Literals.{IsLiteral, Chars, IsChar, IsUnit, IsBroken, IsTrigraph, IsEscape, IsSimpleEscape, IsOctalEscape, IsHexEscape, IsPlain}
+use Rattle.cr_tokens.specs.Literals.{IsLiteral, Chars, IsChar, IsUnit, IsBroken}
 use Rattle.cr_tokens.specs.Literals.Chars.{none, more}
-use Rattle.cr_tokens.specs.Blanks.{IsSplice}
 use Rattle.cr_tokens.specs.Punctuators.{IsPunctuator}
 use Rattle.cr_tokens.specs.Tokens.{IsLexeme, Spells}
 use Rattle.cr_tokens.specs.Tokens.IsLexeme.{word, number, character, text, punctuator}

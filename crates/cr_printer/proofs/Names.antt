@@ -1,5 +1,5 @@
 -- In a unit each dot has a name behind it.
-use Rattle.std.proofs.Common.{◌≡◌, ◌≢◌, inl, inr, ℕ, zero, suc, ◌+◌, ◌≤◌, ◌<◌, length, Bool, true, false, not, ◌||◌, ◌&&◌, List, [], ◌∷◌, Option, Some, refl, sym, ◌∙◌, ap, subst, arith}
+use Rattle.std.proofs.Common.{◌≡◌, inl, inr, ℕ, zero, suc, ◌+◌, ◌≤◌, ◌<◌, length, Bool, true, false, not, ◌||◌, ◌&&◌, List, [], ◌∷◌, refl, sym, ◌∙◌, subst, arith}
 use Rattle.std.proofs.lemmas.Bool.{cases_eq, cases_lt, or_cases}
 use denote.Enum.Bare.{same_true}
 use Rattle.cr_syntax.specs.contracts.word.Word as word_type
@@ -17,7 +17,7 @@ use Rattle.cr_syntax.specs.Grammar as grammar
 use Rattle.cr_syntax.specs.Reads.{same_word}
 use Rattle.cr_syntax.specs.Spells.{Limit, Phrase, a, rest, Is, AreConst, const_none, const_more, Spells}
 use Rattle.cr_syntax.specs.Spells as spells
-use Rattle.cr_syntax.specs.Units.{IsUnit, unit_side}
+use Rattle.cr_syntax.specs.Units.{IsUnit}
 use Rattle.cr_syntax.proofs.Tests.{both, some_one}
 
 -- a right side that begins with a name

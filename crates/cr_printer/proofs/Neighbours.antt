@@ -1,7 +1,7 @@
 -- Tokens that stand side by side in a file stay apart, so a text that they print as is no longer than the file.
-use Rattle.std.proofs.Common.{◌≡◌, ◌≢◌, inl, inr, ℕ, zero, suc, ◌+◌, ◌-◌, ◌≤◌, ◌<◌, List, [], ◌∷◌, ◌++◌, length, refl, sym, ◌∙◌, ap, subst, arith, zero-add, length-append}
-use Rattle.std.specs.Prelude.{slice_index, slice_range, All}
-use Rattle.std.proofs.lemmas.Bool.{cases_lt, cases_eq}
+use Rattle.std.proofs.Common.{◌≡◌, ◌≢◌, inl, inr, ℕ, suc, ◌+◌, ◌-◌, ◌≤◌, ◌<◌, List, [], ◌∷◌, ◌++◌, length, refl, sym, ◌∙◌, ap, subst, arith, zero-add, length-append}
+use Rattle.std.specs.Prelude.{slice_index, slice_range, slice_index_or, All}
+use Rattle.std.proofs.lemmas.Bool.{cases_lt}
 use Rattle.std.proofs.lemmas.List.{get_or_append_left, get_or-append-add}
 use Rattle.cr_tokens.specs.declared.token.Token.{Token}
 use Rattle.cr_tokens.specs.Tokens.{IsToken, Tokenizes}
@@ -112,3 +112,29 @@ prints_one_text (s ∷ t ∷ ts) text other (joined a p) (spaced b q) = absurd (
 prints_one_text (s ∷ t ∷ ts) text other (spaced a p) (joined b q) = absurd (a b)
 prints_one_text (s ∷ t ∷ ts) text other (spaced {text = g} a p) (spaced {text = h} b q) =
     ap (λ (x : List ℕ). s ++ 32 ∷ x) (prints_one_text (t ∷ ts) g h p q)
+
+rise_from : (from at to : ℕ) (ts : List Token) → from ≤ at → Rise at to ts → Rise from to ts
+rise_from from at to [] h r = omega arith
+rise_from from at to (t ∷ ts) h r = (omega (arith, r.0), r.1, r.2)
+
+-- tokens rise from the start of the first to the end of the last
+rise_between : (from to : ℕ) (t : Token) (ts : List Token) (d : Token) → Rise from to (t ∷ ts) →
+    Rise t.start (slice_index_or (t ∷ ts) (length ts) d).end (t ∷ ts)
+rise_between from to t [] d r = (omega arith, r.1, omega arith)
+rise_between from to t (u ∷ us) d r =
+    (omega arith, r.1, rise_from t.end u.start (slice_index_or (u ∷ us) (length us) d).end (u ∷ us) r.2.0 (rise_between t.end to u us d r.2))
+
+-- the bytes from the first token to the last are room for a text of the tokens
+pub room_suffices : (file : List ℕ) (ts : List Token) (d : Token) (text : List ℕ) → AreInOrder file ts → 0 < length ts →
+    Prints (spellings file ts) text → length text ≤ (slice_index_or ts (length ts - 1) d).end - (slice_index_or ts 0 d).start
+room_suffices file [] d text o some p = absurd (omega arith)
+room_suffices file (t ∷ ts) d text o some p =
+    let last : length (t ∷ ts) - 1 ≡ length ts = omega arith in
+    let le : length text + t.start ≤ (slice_index_or (t ∷ ts) (length ts) d).end =
+    shrinks file o.short (t ∷ ts) t.start (slice_index_or (t ∷ ts) (length ts) d).end text o.each (rise_between 0 (length file) t ts d o.rise) p in
+    let P : ℕ → Type 0 = λ k. length text ≤ (slice_index_or (t ∷ ts) k d).end - t.start in
+    subst P (sym last) (omega arith)
+
+pub no_room : (file : List ℕ) (ts : List Token) (text : List ℕ) → length ts ≡ 0 → Prints (spellings file ts) text → length text ≤ 0
+no_room file [] text e (nothing) = omega arith
+no_room file (t ∷ ts) text e p = absurd (omega arith)

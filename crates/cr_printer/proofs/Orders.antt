@@ -1,9 +1,8 @@
 -- Tokens of a file, each behind the one before.
-use Rattle.std.proofs.Common.{◌≡◌, ℕ, zero, suc, ◌+◌, ◌-◌, ◌≤◌, ◌<◌, List, [], ◌∷◌, length, take, drop, refl, sym, ◌∙◌, subst, arith, zero-add}
-use Rattle.std.specs.Prelude.{slice_index, slice_range, slice_index_or, All}
+use Rattle.std.proofs.Common.{◌≡◌, ℕ, zero, suc, ◌+◌, ◌-◌, ◌≤◌, ◌<◌, List, [], ◌∷◌, length, take, drop, refl, sym, subst, arith, zero-add}
+use Rattle.std.specs.Prelude.{slice_range, slice_index_or, All}
 use Rattle.std.proofs.lemmas.List.Elements.{All-take, All-drop}
 use Rattle.cr_tokens.specs.declared.token.Token.{Token}
-use Rattle.cr_tokens.specs.declared.token.TokenKind.{TokenKind}
 use Rattle.cr_tokens.specs.Tokens.{IsToken, FallsInto, Tokenizes}
 use Rattle.cr_tokens.specs.Tokens.FallsInto.{nothing, blank, token}
 use Rattle.cr_tokens.specs.Places.{Rise}

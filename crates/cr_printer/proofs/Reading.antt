@@ -1,12 +1,11 @@
 -- What a list of tokens prints as is read as the list.
-use Rattle.std.proofs.Common.{◌≡◌, ◌≢◌, inl, inr, ℕ, zero, suc, ◌+◌, ◌-◌, ◌≤◌, ◌<◌, List, [], ◌∷◌, ◌++◌, length, refl, sym, ◌∙◌, ap, subst, arith, zero-add, add-zero, length-append, append_assoc}
-use Rattle.std.specs.Prelude.{slice_index, slice_range, map, All}
+use Rattle.std.proofs.Common.{◌≡◌, inr, ℕ, ◌+◌, ◌≤◌, List, [], ◌∷◌, ◌++◌, length, refl, sym, ◌∙◌, ap, subst, arith, zero-add, add-zero, length-append, append_assoc}
+use Rattle.std.specs.Prelude.{slice_index, slice_range, All}
 use Rattle.std.proofs.lemmas.List.{length-map}
 use Rattle.cr_tokens.specs.declared.token.Token.{Token}
 use Rattle.cr_tokens.specs.Tokens.{IsToken, FallsInto, Tokenizes}
 use Rattle.cr_tokens.specs.Tokens.FallsInto.{nothing, blank, token}
 use Rattle.cr_tokens.specs.Blanks.IsBlank.{space}
-use Rattle.cr_tokens.specs.Places.{StaysApart}
 use Rattle.cr_printer.specs.Pieces.{Piece, IsOneToken, HasThreeDots, pieces_of, spellings_of}
 use Rattle.cr_printer.specs.Text.{Prints}
 use Rattle.cr_printer.specs.Text as prints

@@ -1,15 +1,14 @@
 -- Where a token of one text is a token of another: where the text ends sooner, before a space, and before a token that
 -- it stays apart from.
-use Rattle.std.proofs.Common.{◌≡◌, ◌≢◌, ◌⊎◌, inl, inr, ℕ, ◌+◌, ◌-◌, ◌≤◌, ◌<◌, List, [], ◌∷◌, length, take, true, not, refl, sym, ◌∙◌, ap, subst, arith}
-use Rattle.std.specs.Prelude.{slice_index, slice_range, ◌==◌, ◌||◌, nat_le, nat_eq, codes}
+use Rattle.std.proofs.Common.{◌≡◌, ◌≢◌, inl, inr, ℕ, ◌+◌, ◌-◌, ◌≤◌, ◌<◌, List, [], ◌∷◌, length, take, true, refl, sym, ◌∙◌, ap, subst, arith}
+use Rattle.std.specs.Prelude.{slice_index, slice_range, ◌||◌, nat_le, nat_eq, codes}
 use Rattle.std.specs.Cmp.Lexicographic.{pointwise, same_text}
 use Rattle.std.proofs.lemmas.Bool.{cases_lt, or_cases, leb-true}
 use Rattle.cr_tokens.specs.declared.token.Token.{Token}
 use Rattle.cr_tokens.specs.declared.token.TokenKind.{TokenKind}
 use Rattle.cr_tokens.specs.declared.token.TokenKind.TheVariants.{Keyword, Identifier, Integer, Character, Text, Punctuator}
 use Rattle.cr_tokens.specs.Bytes.{IsWordByte, is_among}
-use Rattle.cr_tokens.specs.Words.{IsWord}
-use Rattle.cr_tokens.specs.Numbers.{IsNumber, IsNumberPart}
+use Rattle.cr_tokens.specs.Numbers.{IsNumberPart}
 use Rattle.cr_tokens.specs.Literals.{IsLiteral}
 use Rattle.cr_tokens.specs.Punctuators.{IsPunctuator, punctuators}
 use Rattle.cr_tokens.specs.Blanks.{IsSplice, OpensComment}

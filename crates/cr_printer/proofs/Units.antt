@@ -1,6 +1,6 @@
 -- What a unit prints as is a unit with the same tree.
-use Rattle.std.proofs.Common.{◌≡◌, ◌≢◌, inl, inr, ℕ, zero, suc, ◌+◌, ◌-◌, ◌≤◌, ◌<◌, List, [], ◌∷◌, ◌++◌, length, take, drop, map, Option, Some, refl, sym, ◌∙◌, ap, subst, arith, get_or, get_or-drop, get_or-take, length-append, length-take, length-drop, append_assoc}
-use Rattle.std.specs.Prelude.{slice_index, slice_range, slice_index_or, slice_get, All, codes}
+use Rattle.std.proofs.Common.{◌≡◌, inl, inr, ℕ, zero, suc, ◌+◌, ◌-◌, ◌≤◌, ◌<◌, List, [], ◌∷◌, ◌++◌, length, drop, map, Option, Some, refl, sym, ◌∙◌, ap, subst, arith, get_or, get_or-drop, get_or-take, length-take, length-drop, append_assoc}
+use Rattle.std.specs.Prelude.{slice_index, slice_range, slice_get, All}
 use Rattle.std.proofs.lemmas.List.{get_or-map, get_or_past, get_or-append-add, length-map, take_all}
 use Rattle.std.proofs.lemmas.Option.{slice_get-map, slice_get-get_or}
 use Rattle.std.proofs.lemmas.Bool.{cases_lt}

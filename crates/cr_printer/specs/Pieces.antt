@@ -1,5 +1,5 @@
 -- Tokens apart from the file that they stand in.
-use Rattle.std.specs.Prelude.{ℕ, List, [], ◌∷◌, map, length, codes, slice_range, All}
+use Rattle.std.specs.Prelude.{ℕ, List, [], ◌∷◌, map, length, codes, slice_range}
 use Rattle.cr_tokens.specs.declared.token.Token.{Token}
 use Rattle.cr_tokens.specs.declared.token.TokenKind.{TokenKind}
 use Rattle.cr_tokens.specs.Tokens.{Tokenizes}

@@ -7,7 +7,7 @@ use Rattle.cr_tokens.specs.Numbers.{IsSign, IsExponent}
 use Rattle.cr_tokens.specs.Punctuators.{punctuators}
 use Rattle.cr_tokens.specs.Tokens.{IsToken}
 use Rattle.cr_tokens.specs.Places.{Rise, StaysApart}
-use Rattle.cr_printer.specs.Pieces.{Piece, IsOneToken}
+use Rattle.cr_printer.specs.Pieces.{IsOneToken}
 
 -- tokens of a file, each behind the one before
 pub record AreInOrder (file : List ℕ) (tokens : List Token) : Type 0 where

@@ -1,4 +1,4 @@
-ghost use Rattle.std.specs.Prelude.{◌≡◌, ◌↔◌, ◌≤◌, ◌<◌, IsTrue, IfOk, length, slice_get, slice_range};
+ghost use Rattle.std.specs.Prelude.{◌≡◌, ◌↔◌, ◌≤◌, ◌<◌, ℕ, List, IsTrue, IfOk, length, slice_get, slice_range};
 ghost use Rattle.cr_tokens.specs.Tokens.{Tokenizes, IsToken};
 ghost use Rattle.cr_tokens.specs.Runs.{spellings};
 ghost use Rattle.cr_tokens.specs.Places.{StaysApart};
@@ -57,12 +57,16 @@ fn print_tokens(alloc: Global, file: &[u8], tokens: &[Token]) -> Result<Vec<u8>,
     Ok(text)
 }
 
-/// The bytes from the first token to the last, which no text of the tokens exceeds.
-fn room(tokens: &[Token]) -> usize {
-    match (tokens.first(), tokens.last()) {
-        (Some(first), Some(last)) => last.end.saturating_sub(first.start) as usize,
-        _ => 0,
+/// The bytes from the first token's first to the last one's last, which no text of the tokens exceeds.
+fn room(tokens: &[Token]) -> usize
+    ensures { (file text : List ℕ) → AreInOrder file tokens.now → Prints (spellings file tokens.now) text → length text ≤ result }
+{
+    if tokens.is_empty() {
+        return 0;
     }
+    let first = &tokens[0];
+    let last = &tokens[tokens.len() - 1];
+    last.end.saturating_sub(first.start) as usize
 }
 
 /// Whether a token comes directly behind the one before, or is the first.

@@ -1,7 +1,6 @@
 use Rattle.std.proofs.Common.{ℕ, List, sym, subst}
-use Rattle.std.specs.Prelude.{slice_range}
 use Rattle.cr_printer.specs.Pieces.{IsOneToken}
-use Rattle.cr_printer.proofs.Orders.{one_token, short_together}
+use Rattle.cr_printer.proofs.Orders.{one_token}
 use Rattle.cr_printer.proofs.text.are_apart.Goals as goal
 
 pub stays_apart-requires-clause-left : goal.stays_apart-requires-clause-left

@@ -1,5 +1,4 @@
-use Rattle.std.proofs.Common.{◌≡◌, inl, inr, List, ℕ, [], sym, subst, ap, ◌∙◌}
-use Rattle.cr_tokens.specs.declared.token.Token.{Token}
+use Rattle.std.proofs.Common.{inl, inr, List, ℕ, [], sym, subst}
 use Rattle.cr_tokens.specs.declared.token.TokenKind.TheVariants.{Keyword}
 use Rattle.cr_printer.specs.Text.{Prints}
 use Rattle.cr_printer.specs.Text.Prints.{nothing}
