@@ -107,12 +107,6 @@ spelling_there s g b a =
     let same : 0 + i ≡ i = zero-add i in
     slice_range-at g b (b + length s) i (omega arith) ∙ sym (a.each i (omega arith)) ∙ ap (λ k. slice_index s k) same)
 
-pub all_first : (P : Piece → Type 0) (p : Piece) (ps : List Piece) → All P (p ∷ ps) → P p
-all_first P p ps h = h 0 p (omega arith)
-
-pub all_rest : (P : Piece → Type 0) (p : Piece) (ps : List Piece) → All P (p ∷ ps) → All P ps
-all_rest P p ps h = λ k d lt. h (suc k) d (omega arith)
-
 -- a text begins with its first spelling
 pub prints_front : (s : List ℕ) (ss : List (List ℕ)) (text : List ℕ) → Prints (s ∷ ss) text → (rest : List ℕ) × (text ≡ s ++ rest)
 prints_front s [] text (last) = ([], sym (append-nil s))

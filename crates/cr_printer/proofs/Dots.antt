@@ -4,6 +4,7 @@ use Rattle.std.specs.Prelude.{slice_index, slice_range, ◌==◌, ◌||◌, nat_
 use Rattle.std.specs.Cmp.Lexicographic.{pointwise, same_text}
 use Rattle.std.proofs.lemmas.Bool.{or_cases, eqb-true, eq-eqb}
 use Rattle.std.proofs.lemmas.List.{get_or_append_left, get_or-append-add}
+use Rattle.std.proofs.lemmas.List.Elements.{All-head, All-tail}
 use Rattle.cr_tokens.specs.declared.token.TokenKind.{TokenKind}
 use Rattle.cr_tokens.specs.declared.token.TokenKind.TheVariants.{Keyword, Identifier, Integer, Character, Text, Punctuator}
 use Rattle.cr_tokens.specs.declared.number.Base.{Base}
@@ -20,7 +21,7 @@ use Rattle.cr_printer.specs.Pieces.{Piece, IsOneToken, HasThreeDots, spellings_o
 use Rattle.cr_printer.specs.Text.{Prints}
 use Rattle.cr_printer.specs.Text.Prints.{last, joined, spaced}
 use Rattle.cr_printer.proofs.Stands.{token_at}
-use Rattle.cr_printer.proofs.Alone.{alone, apart_some, not_empty, prints_front, all_first, all_rest, spelling_there}
+use Rattle.cr_printer.proofs.Alone.{alone, apart_some, not_empty, prints_front, spelling_there}
 
 pub no_word : (b : ℕ) → b ≡ 46 → ¬ IsNondigit b
 no_word b e (inl h) = omega arith
@@ -101,9 +102,9 @@ three_dots p q [] r all size (last) a b c =
     let z : slice_index (p.spelling ++ q.spelling) 2 ≡ 0 = past (p.spelling ++ q.spelling) 2 (simp length-append (omega arith)) in
     absurd (omega arith)
 three_dots p q (u ∷ us) r all size (joined {text = t} apart rest) a b c =
-    let hp = all_first IsOneToken p (q ∷ u ∷ us) all in
-    let hq = all_first IsOneToken q (u ∷ us) (all_rest IsOneToken p (q ∷ u ∷ us) all) in
-    let hu = all_first IsOneToken u us (all_rest IsOneToken q (u ∷ us) (all_rest IsOneToken p (q ∷ u ∷ us) all)) in
+    let hp = All-head IsOneToken p (q ∷ u ∷ us) all in
+    let hq = All-head IsOneToken q (u ∷ us) (All-tail IsOneToken p (q ∷ u ∷ us) all) in
+    let hu = All-head IsOneToken u us (All-tail IsOneToken q (u ∷ us) (All-tail IsOneToken p (q ∷ u ∷ us) all)) in
     let one : length p.spelling ≡ 1 = omega (arith, not_empty p hp, not_empty q hq) in
     let one_more : length q.spelling ≡ 1 = omega (arith, not_empty p hp, not_empty q hq) in
     let first : slice_index p.spelling 0 ≡ 46 = sym (get_or_append_left p.spelling (q.spelling ++ t) 0 0 (omega arith)) ∙ a in
@@ -119,8 +120,8 @@ three_dots p q (u ∷ us) r all size (joined {text = t} apart rest) a b c =
     let P : List ℕ → Type 0 = λ x. StaysApart x u.spelling in
     stand p q u us p_dot q_dot (dot_apart u hu u_first (subst P q_dot apart))
 three_dots p q (u ∷ us) r all size (spaced {text = t} apart rest) a b c =
-    let hp = all_first IsOneToken p (q ∷ u ∷ us) all in
-    let hq = all_first IsOneToken q (u ∷ us) (all_rest IsOneToken p (q ∷ u ∷ us) all) in
+    let hp = All-head IsOneToken p (q ∷ u ∷ us) all in
+    let hq = All-head IsOneToken q (u ∷ us) (All-tail IsOneToken p (q ∷ u ∷ us) all) in
     let one : length p.spelling ≡ 1 = omega (arith, not_empty p hp, not_empty q hq) in
     let one_more : length q.spelling ≡ 1 = omega (arith, not_empty p hp, not_empty q hq) in
     let third : slice_index (32 ∷ t) 0 ≡ 46 = behind q.spelling (32 ∷ t) 0 one_more ∙ behind p.spelling (q.spelling ++ 32 ∷ t) 1 one ∙ c in

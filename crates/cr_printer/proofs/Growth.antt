@@ -10,35 +10,22 @@ use Rattle.cr_printer.specs.Seams.{NeedsNoSpace}
 use Rattle.cr_printer.specs.Text.{Prints}
 use Rattle.cr_printer.specs.Text.Prints.{nothing, last, joined, spaced}
 
-grow_joined : (ss : List (List ℕ)) (s t text : List ℕ) → Prints (ss ++ s ∷ []) text → StaysApart s t → Prints (ss ++ s ∷ t ∷ []) (text ++ t)
-grow_joined [] s t text (last) a = joined a last
-grow_joined (x ∷ []) s t text (joined {text = r} b p) a =
+-- what stands between the last spelling and a new one is a matter of these two
+grow : (ss : List (List ℕ)) (s t text more : List ℕ) → Prints (ss ++ s ∷ []) text → Prints (s ∷ t ∷ []) (s ++ more) →
+    Prints (ss ++ s ∷ t ∷ []) (text ++ more)
+grow [] s t text more (last) q = q
+grow (x ∷ []) s t text more (joined {text = r} a p) q =
     let P : List ℕ → Type 0 = λ g. Prints (x ∷ s ∷ t ∷ []) g in
-    subst P (sym (append_assoc x r t)) (joined b (grow_joined [] s t r p a))
-grow_joined (x ∷ []) s t text (spaced {text = r} b p) a =
+    subst P (sym (append_assoc x r more)) (joined a (grow [] s t r more p q))
+grow (x ∷ []) s t text more (spaced {text = r} a p) q =
     let P : List ℕ → Type 0 = λ g. Prints (x ∷ s ∷ t ∷ []) g in
-    subst P (sym (append_assoc x (32 ∷ r) t)) (spaced b (grow_joined [] s t r p a))
-grow_joined (x ∷ y ∷ ss) s t text (joined {text = r} b p) a =
+    subst P (sym (append_assoc x (32 ∷ r) more)) (spaced a (grow [] s t r more p q))
+grow (x ∷ y ∷ ss) s t text more (joined {text = r} a p) q =
     let P : List ℕ → Type 0 = λ g. Prints (x ∷ y ∷ (ss ++ s ∷ t ∷ [])) g in
-    subst P (sym (append_assoc x r t)) (joined b (grow_joined (y ∷ ss) s t r p a))
-grow_joined (x ∷ y ∷ ss) s t text (spaced {text = r} b p) a =
+    subst P (sym (append_assoc x r more)) (joined a (grow (y ∷ ss) s t r more p q))
+grow (x ∷ y ∷ ss) s t text more (spaced {text = r} a p) q =
     let P : List ℕ → Type 0 = λ g. Prints (x ∷ y ∷ (ss ++ s ∷ t ∷ [])) g in
-    subst P (sym (append_assoc x (32 ∷ r) t)) (spaced b (grow_joined (y ∷ ss) s t r p a))
-
-grow_spaced : (ss : List (List ℕ)) (s t text : List ℕ) → Prints (ss ++ s ∷ []) text → ¬ StaysApart s t → Prints (ss ++ s ∷ t ∷ []) (text ++ 32 ∷ t)
-grow_spaced [] s t text (last) a = spaced a last
-grow_spaced (x ∷ []) s t text (joined {text = r} b p) a =
-    let P : List ℕ → Type 0 = λ g. Prints (x ∷ s ∷ t ∷ []) g in
-    subst P (sym (append_assoc x r (32 ∷ t))) (joined b (grow_spaced [] s t r p a))
-grow_spaced (x ∷ []) s t text (spaced {text = r} b p) a =
-    let P : List ℕ → Type 0 = λ g. Prints (x ∷ s ∷ t ∷ []) g in
-    subst P (sym (append_assoc x (32 ∷ r) (32 ∷ t))) (spaced b (grow_spaced [] s t r p a))
-grow_spaced (x ∷ y ∷ ss) s t text (joined {text = r} b p) a =
-    let P : List ℕ → Type 0 = λ g. Prints (x ∷ y ∷ (ss ++ s ∷ t ∷ [])) g in
-    subst P (sym (append_assoc x r (32 ∷ t))) (joined b (grow_spaced (y ∷ ss) s t r p a))
-grow_spaced (x ∷ y ∷ ss) s t text (spaced {text = r} b p) a =
-    let P : List ℕ → Type 0 = λ g. Prints (x ∷ y ∷ (ss ++ s ∷ t ∷ [])) g in
-    subst P (sym (append_assoc x (32 ∷ r) (32 ∷ t))) (spaced b (grow_spaced (y ∷ ss) s t r p a))
+    subst P (sym (append_assoc x (32 ∷ r) more)) (spaced a (grow (y ∷ ss) s t r more p q))
 
 -- the first spellings of a list, and two more
 two_more : (xs : List (List ℕ)) (k : ℕ) → k + 1 < length xs →
@@ -54,8 +41,17 @@ no_text xs at text e p = let P : ℕ → Type 0 = λ i. Prints (take i xs) text 
     only : (g : List ℕ) → Prints [] g → g ≡ []
     only g (nothing) = refl
 
+-- the next spelling behind a first one
+next : (xs : List (List ℕ)) (k : ℕ) (text more : List ℕ) → k + 1 < length xs → Prints (take (k + 1) xs) text →
+    Prints (get_or xs k [] ∷ get_or xs (k + 1) [] ∷ []) (get_or xs k [] ++ more) → Prints (take (k + 1 + 1) xs) (text ++ more)
+next xs k text more lt p q =
+    let P : List (List ℕ) → Type 0 = λ x. Prints x text in
+    let Q : List (List ℕ) → Type 0 = λ x. Prints x (text ++ more) in
+    subst Q (sym (two_more xs k lt))
+    (grow (take k xs) (get_or xs k []) (get_or xs (k + 1) []) text more (subst P (take_more xs k [] (omega arith)) p) q)
+
 -- the next spelling, without a space before it and with one
-pub next_joined : (xs : List (List ℕ)) (at : ℕ) (text : List ℕ) → at < length xs → Prints (take at xs) text → NeedsNoSpace xs at →
+next_joined : (xs : List (List ℕ)) (at : ℕ) (text : List ℕ) → at < length xs → Prints (take at xs) text → NeedsNoSpace xs at →
     Prints (take (at + 1) xs) (text ++ get_or xs at [])
 next_joined xs at text lt p (inl e) =
     let none : text ≡ [] = no_text xs at text e p in
@@ -64,33 +60,22 @@ next_joined xs at text lt p (inl e) =
     rw (same, one) last
 next_joined xs at text lt p (inr (k, e, a)) =
     let P : ℕ → Type 0 = λ i. Prints (take i xs) text in
-    let before : Prints (take k xs ++ get_or xs k [] ∷ []) text =
-    let Q : List (List ℕ) → Type 0 = λ x. Prints x text in subst Q (take_more xs k [] (omega arith)) (subst P e p) in
     let A : ℕ → Type 0 = λ i. StaysApart (get_or xs k []) (get_or xs i []) in
-    let grown : Prints (take k xs ++ get_or xs k [] ∷ get_or xs (k + 1) [] ∷ []) (text ++ get_or xs (k + 1) []) =
-    grow_joined (take k xs) (get_or xs k []) (get_or xs (k + 1) []) text before (subst A e a) in
-    let R : List (List ℕ) → Type 0 = λ x. Prints x (text ++ get_or xs (k + 1) []) in
     let S : ℕ → Type 0 = λ i. Prints (take (i + 1) xs) (text ++ get_or xs i []) in
-    subst S (sym e) (subst R (sym (two_more xs k (omega arith))) grown)
+    subst S (sym e) (next xs k text (get_or xs (k + 1) []) (omega arith) (subst P e p) (joined (subst A e a) last))
 
-pub next_spaced : (xs : List (List ℕ)) (at : ℕ) (text : List ℕ) → at < length xs → Prints (take at xs) text → ¬ NeedsNoSpace xs at →
+next_spaced : (xs : List (List ℕ)) (at : ℕ) (text : List ℕ) → at < length xs → Prints (take at xs) text → ¬ NeedsNoSpace xs at →
     Prints (take (at + 1) xs) ((text ++ 32 ∷ []) ++ get_or xs at [])
 next_spaced xs zero text lt p na = absurd (na (inl refl))
 next_spaced xs (suc k) text lt p na =
     let e : suc k ≡ k + 1 = omega arith in
     let P : ℕ → Type 0 = λ i. Prints (take i xs) text in
-    let before : Prints (take k xs ++ get_or xs k [] ∷ []) text =
-    let Q : List (List ℕ) → Type 0 = λ x. Prints x text in subst Q (take_more xs k [] (omega arith)) (subst P e p) in
     let apart : ¬ StaysApart (get_or xs k []) (get_or xs (k + 1) []) = λ a.
     let A : ℕ → Type 0 = λ i. StaysApart (get_or xs k []) (get_or xs i []) in na (inr (k, e, subst A (sym e) a)) in
-    let grown : Prints (take k xs ++ get_or xs k [] ∷ get_or xs (k + 1) [] ∷ []) (text ++ 32 ∷ get_or xs (k + 1) []) =
-    grow_spaced (take k xs) (get_or xs k []) (get_or xs (k + 1) []) text before apart in
-    let same : text ++ 32 ∷ get_or xs (k + 1) [] ≡ (text ++ 32 ∷ []) ++ get_or xs (k + 1) [] =
-    sym (append_assoc text (32 ∷ []) (get_or xs (k + 1) [])) in
-    let T : List ℕ → Type 0 = λ g. Prints (take k xs ++ get_or xs k [] ∷ get_or xs (k + 1) [] ∷ []) g in
-    let R : List (List ℕ) → Type 0 = λ x. Prints x ((text ++ 32 ∷ []) ++ get_or xs (k + 1) []) in
     let S : ℕ → Type 0 = λ i. Prints (take (i + 1) xs) ((text ++ 32 ∷ []) ++ get_or xs i []) in
-    subst S (sym e) (subst R (sym (two_more xs k (omega arith))) (subst T same grown))
+    let T : List ℕ → Type 0 = λ g. Prints (take (k + 1 + 1) xs) g in
+    subst S (sym e) (subst T (sym (append_assoc text (32 ∷ []) (get_or xs (k + 1) [])))
+    (next xs k text (32 ∷ get_or xs (k + 1) []) (omega arith) (subst P e p) (spaced apart last)))
 
 -- where a token isn't the first one
 pub no_space_later : (file : List ℕ) (ts : List Token) (at : ℕ) (d : Token) (r : Bool) → at ≢ 0 → at < length ts →

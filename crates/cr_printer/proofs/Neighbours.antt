@@ -3,6 +3,7 @@ use Rattle.std.proofs.Common.{◌≡◌, ◌≢◌, inl, inr, ℕ, suc, ◌+◌,
 use Rattle.std.specs.Prelude.{slice_index, slice_range, slice_index_or, All}
 use Rattle.std.proofs.lemmas.Bool.{cases_lt}
 use Rattle.std.proofs.lemmas.List.{get_or_append_left, get_or-append-add}
+use Rattle.std.proofs.lemmas.List.Elements.{All-head, All-tail}
 use Rattle.cr_tokens.specs.declared.token.Token.{Token}
 use Rattle.cr_tokens.specs.Tokens.{IsToken, Tokenizes}
 use Rattle.cr_tokens.specs.Runs.{spellings}
@@ -14,15 +15,13 @@ use Rattle.cr_printer.specs.Seams.{AreInOrder}
 use Rattle.cr_printer.proofs.Moves.{Agree}
 use Rattle.cr_printer.proofs.Stands.{token_at, token_cut}
 use Rattle.cr_printer.proofs.Apart.{apart_from}
-use Rattle.cr_printer.proofs.Orders.{sized, one_token, short_together, in_order, order_part}
+use Rattle.cr_printer.proofs.Orders.{sized, one_token, short_together, in_order, order_part, rise_from}
 
 -- the bytes of both are those of the file
 both_there : (file : List ℕ) (t u : Token) → IsToken file t → IsToken file u → t.end ≡ u.start →
     Agree file t.start (slice_range file t.start t.end ++ slice_range file u.start u.end) 0
     (length (slice_range file t.start t.end) + length (slice_range file u.start u.end))
 both_there file t u h k e =
-    let s : List ℕ = slice_range file t.start t.end in
-    let r : List ℕ = slice_range file u.start u.end in
     let a : length (slice_range file t.start t.end) ≡ t.end - t.start = slice_range-length file t.start t.end h.inside in
     let b : length (slice_range file u.start u.end) ≡ u.end - u.start = slice_range-length file u.start u.end k.inside in
     record {
@@ -39,7 +38,6 @@ both_there file t u h k e =
           get_or_append_left (slice_range file t.start t.end) (slice_range file u.start u.end) 0 i below
           ∙ slice_range-at file t.start t.end i (omega arith)
       | inr above ↦
-          let j : ℕ = i - length (slice_range file t.start t.end) in
           let same : length (slice_range file t.start t.end) + (i - length (slice_range file t.start t.end)) ≡ i = omega arith in
           let place : u.start + (i - length (slice_range file t.start t.end)) ≡ t.start + i = omega (arith, h.not_empty) in
           ap (λ x. slice_index (slice_range file t.start t.end ++ slice_range file u.start u.end) x) (sym same)
@@ -51,8 +49,6 @@ both_there file t u h k e =
 pub neighbours_stay_apart : (file : List ℕ) (t u : Token) → length file ≤ 1048576 → IsToken file t → IsToken file u → t.end ≡ u.start →
     StaysApart (slice_range file t.start t.end) (slice_range file u.start u.end)
 neighbours_stay_apart file t u short h k e =
-    let s : List ℕ = slice_range file t.start t.end in
-    let r : List ℕ = slice_range file u.start u.end in
     let a : length (slice_range file t.start t.end) ≡ t.end - t.start = slice_range-length file t.start t.end h.inside in
     let size : length (slice_range file t.start t.end ++ slice_range file u.start u.end) ≡ length (slice_range file t.start t.end) + length (slice_range file u.start u.end) =
     length-append (slice_range file t.start t.end) (slice_range file u.start u.end) in
@@ -65,34 +61,28 @@ neighbours_stay_apart file t u short h k e =
     apart_from (slice_range file t.start t.end) (slice_range file u.start u.end) t.kind (u.kind, one_token file u short k)
     (short_together file t u short h k (omega arith)) (subst Q (zero-add (length (slice_range file t.start t.end))) first)
 
-first_all : (P : Token → Type 0) (t : Token) (ts : List Token) → All P (t ∷ ts) → P t
-first_all P t ts h = h 0 t (omega arith)
-
-rest_all : (P : Token → Type 0) (t : Token) (ts : List Token) → All P (t ∷ ts) → All P ts
-rest_all P t ts h = λ k d lt. h (suc k) d (omega arith)
-
 shrinks : (file : List ℕ) → length file ≤ 1048576 → (ts : List Token) (from to : ℕ) (text : List ℕ) → All (IsToken file) ts → Rise from to ts →
     Prints (spellings file ts) text → length text + from ≤ to
 shrinks file short [] from to text all r (nothing) = omega arith
 shrinks file short (t ∷ []) from to text all r (last) =
-    let h : IsToken file t = first_all (IsToken file) t [] all in
+    let h : IsToken file t = All-head (IsToken file) t [] all in
     let a : length (slice_range file t.start t.end) ≡ t.end - t.start = slice_range-length file t.start t.end h.inside in
     omega (arith, r.0, r.1, r.2)
 shrinks file short (t ∷ u ∷ ts) from to text all r (joined {text = g} apart p) =
-    let h : IsToken file t = first_all (IsToken file) t (u ∷ ts) all in
+    let h : IsToken file t = All-head (IsToken file) t (u ∷ ts) all in
     let a : length (slice_range file t.start t.end) ≡ t.end - t.start = slice_range-length file t.start t.end h.inside in
     let size : length (slice_range file t.start t.end ++ g) ≡ length (slice_range file t.start t.end) + length g = length-append (slice_range file t.start t.end) g in
-    let next : length g + t.end ≤ to = shrinks file short (u ∷ ts) t.end to g (rest_all (IsToken file) t (u ∷ ts) all) r.2 p in
+    let next : length g + t.end ≤ to = shrinks file short (u ∷ ts) t.end to g (All-tail (IsToken file) t (u ∷ ts) all) r.2 p in
     omega (arith, r.0, r.1)
 shrinks file short (t ∷ u ∷ ts) from to text all r (spaced {text = g} apart p) =
-    let h : IsToken file t = first_all (IsToken file) t (u ∷ ts) all in
-    let k : IsToken file u = first_all (IsToken file) u ts (rest_all (IsToken file) t (u ∷ ts) all) in
+    let h : IsToken file t = All-head (IsToken file) t (u ∷ ts) all in
+    let k : IsToken file u = All-head (IsToken file) u ts (All-tail (IsToken file) t (u ∷ ts) all) in
     let a : length (slice_range file t.start t.end) ≡ t.end - t.start = slice_range-length file t.start t.end h.inside in
     let size : length (slice_range file t.start t.end ++ 32 ∷ g) ≡ length (slice_range file t.start t.end) + length (32 ∷ g) = length-append (slice_range file t.start t.end) (32 ∷ g) in
     let parted : t.end ≢ u.start = λ e. apart (neighbours_stay_apart file t u short h k e) in
     let gap : t.end + 1 ≤ u.start = omega (arith, r.2.0) in
     let next : length g + (t.end + 1) ≤ to =
-    shrinks file short (u ∷ ts) (t.end + 1) to g (rest_all (IsToken file) t (u ∷ ts) all) (gap, r.2.1, r.2.2) p in
+    shrinks file short (u ∷ ts) (t.end + 1) to g (All-tail (IsToken file) t (u ∷ ts) all) (gap, r.2.1, r.2.2) p in
     omega (arith, r.0, r.1)
 
 pub printed_is_no_longer : (file : List ℕ) (tokens : List Token) (from to : ℕ) (text : List ℕ) → Tokenizes file tokens →
@@ -112,10 +102,6 @@ prints_one_text (s ∷ t ∷ ts) text other (joined a p) (spaced b q) = absurd (
 prints_one_text (s ∷ t ∷ ts) text other (spaced a p) (joined b q) = absurd (a b)
 prints_one_text (s ∷ t ∷ ts) text other (spaced {text = g} a p) (spaced {text = h} b q) =
     ap (λ (x : List ℕ). s ++ 32 ∷ x) (prints_one_text (t ∷ ts) g h p q)
-
-rise_from : (from at to : ℕ) (ts : List Token) → from ≤ at → Rise at to ts → Rise from to ts
-rise_from from at to [] h r = omega arith
-rise_from from at to (t ∷ ts) h r = (omega (arith, r.0), r.1, r.2)
 
 -- tokens rise from the start of the first to the end of the last
 rise_between : (from to : ℕ) (t : Token) (ts : List Token) (d : Token) → Rise from to (t ∷ ts) →

@@ -1,7 +1,7 @@
 -- Tokens of a file, each behind the one before.
 use Rattle.std.proofs.Common.{◌≡◌, ℕ, zero, suc, ◌+◌, ◌-◌, ◌≤◌, ◌<◌, List, [], ◌∷◌, length, take, drop, refl, sym, subst, arith, zero-add}
 use Rattle.std.specs.Prelude.{slice_range, slice_index_or, All}
-use Rattle.std.proofs.lemmas.List.Elements.{All-take, All-drop}
+use Rattle.std.proofs.lemmas.List.Elements.{All-cons, All-take, All-drop}
 use Rattle.cr_tokens.specs.declared.token.Token.{Token}
 use Rattle.cr_tokens.specs.Tokens.{IsToken, FallsInto, Tokenizes}
 use Rattle.cr_tokens.specs.Tokens.FallsInto.{nothing, blank, token}
@@ -35,7 +35,6 @@ cut_out file t h =
 
 pub one_token : (file : List ℕ) (t : Token) → length file ≤ 1048576 → IsToken file t → IsOneToken (piece_at file t)
 one_token file t short h =
-    let g : List ℕ = slice_range file t.start t.end in
     let size : length (slice_range file t.start t.end) ≡ t.end - t.start = slice_range-length file t.start t.end h.inside in
     let cut : IsToken (slice_range file t.start t.end) (token_at t.kind 0 (t.end - t.start)) =
     token_cut t.kind file t.start (slice_range file t.start t.end) 0 (t.end - t.start) (t.end - t.start) (cut_out file t h) (omega arith)
@@ -56,14 +55,10 @@ short_together file t u short h k order =
     let b : length (slice_range file u.start u.end) ≡ u.end - u.start = slice_range-length file u.start u.end k.inside in
     omega (arith, k.inside, k.not_empty, h.not_empty)
 
-all_cons : (P : Token → Type 0) (t : Token) (ts : List Token) → P t → All P ts → All P (t ∷ ts)
-all_cons P t ts h all zero d lt = h
-all_cons P t ts h all (suc k) d lt = all k d (omega arith)
-
 falls_each : {file : List ℕ} {from to : ℕ} {ts : List Token} → FallsInto file from to ts → All (IsToken file) ts
 falls_each nothing = λ k d lt. absurd (omega arith)
 falls_each (blank b rest) = falls_each rest
-falls_each {file} (token {tokens = ts} t e h rest) = all_cons (IsToken file) t ts h (falls_each rest)
+falls_each {file} (token {tokens = ts} t e h rest) = All-cons (IsToken file) t ts h (falls_each rest)
 
 pub in_order : (file : List ℕ) (ts : List Token) → Tokenizes file ts → AreInOrder file ts
 in_order file ts h = record { short = h.short; each = falls_each h.falls; rise = falls_rise h.falls }
@@ -72,7 +67,7 @@ rise_le : (from to : ℕ) (ts : List Token) → Rise from to ts → from ≤ to
 rise_le from to [] r = r
 rise_le from to (t ∷ ts) r = omega (arith, r.0, r.1, rise_le t.end to ts r.2)
 
-rise_from : (from at to : ℕ) (ts : List Token) → from ≤ at → Rise at to ts → Rise from to ts
+pub rise_from : (from at to : ℕ) (ts : List Token) → from ≤ at → Rise at to ts → Rise from to ts
 rise_from from at to [] h r = omega arith
 rise_from from at to (t ∷ ts) h r = (omega (arith, r.0), r.1, r.2)
 

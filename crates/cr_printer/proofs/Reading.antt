@@ -2,6 +2,7 @@
 use Rattle.std.proofs.Common.{◌≡◌, inr, ℕ, ◌+◌, ◌≤◌, List, [], ◌∷◌, ◌++◌, length, refl, sym, ◌∙◌, ap, subst, arith, zero-add, add-zero, length-append, append_assoc}
 use Rattle.std.specs.Prelude.{slice_index, slice_range, All}
 use Rattle.std.proofs.lemmas.List.{length-map}
+use Rattle.std.proofs.lemmas.List.Elements.{All-head, All-tail}
 use Rattle.cr_tokens.specs.declared.token.Token.{Token}
 use Rattle.cr_tokens.specs.Tokens.{IsToken, FallsInto, Tokenizes}
 use Rattle.cr_tokens.specs.Tokens.FallsInto.{nothing, blank, token}
@@ -12,18 +13,18 @@ use Rattle.cr_printer.specs.Text as prints
 use Rattle.cr_printer.proofs.Moves.{Agree}
 use Rattle.cr_printer.proofs.LineEnds.{OneLine, one_line-append, one_line-nil, one_line-space}
 use Rattle.cr_printer.proofs.Stands.{token_at, token_cut, token_spaced, token_joined, Dots}
-use Rattle.cr_printer.proofs.Alone.{Ends, alone, apart_first, one_line, not_empty, ends_front, ends_after, ends_all, spelling_there, prints_front, all_first, all_rest}
+use Rattle.cr_printer.proofs.Alone.{Ends, alone, apart_first, one_line, not_empty, ends_front, ends_after, ends_all, spelling_there, prints_front}
 use Rattle.cr_printer.proofs.Dots.{three_dots}
 
 prints_one_line : (ps : List Piece) (text : List ℕ) → All IsOneToken ps → Prints (spellings_of ps) text → OneLine text
 prints_one_line [] text all (prints.nothing) = one_line-nil
-prints_one_line (p ∷ []) text all (prints.last) = one_line p (all_first IsOneToken p [] all)
+prints_one_line (p ∷ []) text all (prints.last) = one_line p (All-head IsOneToken p [] all)
 prints_one_line (p ∷ q ∷ ps) text all (prints.joined {text = r} apart rest) =
-    one_line-append p.spelling r (one_line p (all_first IsOneToken p (q ∷ ps) all))
-    (prints_one_line (q ∷ ps) r (all_rest IsOneToken p (q ∷ ps) all) rest)
+    one_line-append p.spelling r (one_line p (All-head IsOneToken p (q ∷ ps) all))
+    (prints_one_line (q ∷ ps) r (All-tail IsOneToken p (q ∷ ps) all) rest)
 prints_one_line (p ∷ q ∷ ps) text all (prints.spaced {text = r} apart rest) =
-    one_line-append p.spelling (32 ∷ r) (one_line p (all_first IsOneToken p (q ∷ ps) all))
-    (one_line-space r (prints_one_line (q ∷ ps) r (all_rest IsOneToken p (q ∷ ps) all) rest))
+    one_line-append p.spelling (32 ∷ r) (one_line p (All-head IsOneToken p (q ∷ ps) all))
+    (one_line-space r (prints_one_line (q ∷ ps) r (All-tail IsOneToken p (q ∷ ps) all) rest))
 
 no_more_dots : (p : Piece) (ps : List Piece) → ¬ HasThreeDots (spellings_of (p ∷ ps)) → ¬ HasThreeDots (spellings_of ps)
 no_more_dots p ps h (before, after, e) = h (p.spelling ∷ before, after, ap (λ (x : List (List ℕ)). p.spelling ∷ x) e)
@@ -49,10 +50,9 @@ walk g line [] b text e all nd (prints.nothing) =
     let same : b ≡ length g = omega (arith, e.size) in
     record { tokens = []; falls = subst P same nothing; same = refl }
 walk g line (p ∷ []) b text e all nd (prints.last) =
-    let n = length p.spelling in
     let a : Agree p.spelling 0 g b (length p.spelling) = ends_all g b p.spelling e in
     let t : IsToken g (token_at p.kind b (length p.spelling)) =
-    token_cut p.kind p.spelling 0 g b (length p.spelling) (length p.spelling) a (omega arith) e.size (alone p (all_first IsOneToken p [] all)) in
+    token_cut p.kind p.spelling 0 g b (length p.spelling) (length p.spelling) a (omega arith) e.size (alone p (All-head IsOneToken p [] all)) in
     let P : ℕ → Type 0 = λ i. FallsInto g (b + length p.spelling) i [] in
     record {
       tokens = token_at p.kind b (length p.spelling) ∷ [];
@@ -60,8 +60,8 @@ walk g line (p ∷ []) b text e all nd (prints.last) =
       same = piece_there g b p [] [] a refl;
     }
 walk g line (p ∷ q ∷ ps) b text e all nd (prints.joined {text = r} apart rest) =
-    let hp = all_first IsOneToken p (q ∷ ps) all in
-    let hq = all_first IsOneToken q ps (all_rest IsOneToken p (q ∷ ps) all) in
+    let hp = All-head IsOneToken p (q ∷ ps) all in
+    let hq = All-head IsOneToken q ps (All-tail IsOneToken p (q ∷ ps) all) in
     let f = prints_front q.spelling (spellings_of ps) r rest in
     let both : p.spelling ++ r ≡ (p.spelling ++ q.spelling) ++ f.0 = ap (λ (x : List ℕ). p.spelling ++ x) f.1 ∙ sym (append_assoc p.spelling q.spelling f.0) in
     let E : List ℕ → Type 0 = λ x. Ends g b x in
@@ -74,14 +74,14 @@ walk g line (p ∷ q ∷ ps) b text e all nd (prints.joined {text = r} apart res
     token_joined p.kind (p.spelling ++ q.spelling) 0 g b (length p.spelling) (length (p.spelling ++ q.spelling)) a
     (omega (arith, not_empty q hq)) no_dots line (apart_first p.kind p.spelling q.spelling apart (alone p hp)) in
     let next : Reads g (b + length p.spelling) (q ∷ ps) =
-    walk g line (q ∷ ps) (b + length p.spelling) r (ends_after g b p.spelling r e) (all_rest IsOneToken p (q ∷ ps) all) (no_more_dots p (q ∷ ps) nd) rest in
+    walk g line (q ∷ ps) (b + length p.spelling) r (ends_after g b p.spelling r e) (All-tail IsOneToken p (q ∷ ps) all) (no_more_dots p (q ∷ ps) nd) rest in
     record {
       tokens = token_at p.kind b (length p.spelling) ∷ next.tokens;
       falls = token (token_at p.kind b (length p.spelling)) refl t next.falls;
       same = piece_there g b p next.tokens (q ∷ ps) (ends_front g b p.spelling r e) next.same;
     }
 walk g line (p ∷ q ∷ ps) b text e all nd (prints.spaced {text = r} apart rest) =
-    let hp = all_first IsOneToken p (q ∷ ps) all in
+    let hp = All-head IsOneToken p (q ∷ ps) all in
     let a : Agree p.spelling 0 g b (length p.spelling) = ends_front g b p.spelling (32 ∷ r) e in
     let tail : Ends g (b + length p.spelling) (32 ∷ r) = ends_after g b p.spelling (32 ∷ r) e in
     let here : slice_index g (b + length p.spelling) ≡ 32 = ap (λ i. slice_index g i) (sym (add-zero (b + length p.spelling))) ∙ tail.each 0 in
@@ -89,7 +89,7 @@ walk g line (p ∷ q ∷ ps) b text e all nd (prints.spaced {text = r} apart res
     token_spaced p.kind p.spelling 0 g b (length p.spelling) a here line (alone p hp) in
     let next : Reads g (b + length p.spelling + 1) (q ∷ ps) =
     walk g line (q ∷ ps) (b + length p.spelling + 1) r (ends_after g (b + length p.spelling) (32 ∷ []) r tail)
-    (all_rest IsOneToken p (q ∷ ps) all) (no_more_dots p (q ∷ ps) nd) rest in
+    (All-tail IsOneToken p (q ∷ ps) all) (no_more_dots p (q ∷ ps) nd) rest in
     record {
       tokens = token_at p.kind b (length p.spelling) ∷ next.tokens;
       falls = token (token_at p.kind b (length p.spelling)) refl t (blank (space (inr here) refl) next.falls);

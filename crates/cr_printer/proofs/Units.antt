@@ -5,6 +5,7 @@ use Rattle.std.proofs.lemmas.List.{get_or-map, get_or_past, get_or-append-add, l
 use Rattle.std.proofs.lemmas.Option.{slice_get-map, slice_get-get_or}
 use Rattle.std.proofs.lemmas.Bool.{cases_lt}
 use Rattle.std.specs.Option.{option_map}
+use Rattle.std.proofs.lemmas.List.Elements.{All-nil, All-cons, All-head, All-tail}
 use Rattle.cr_tokens.specs.declared.token.Token.{Token}
 use Rattle.cr_tokens.specs.declared.token.TokenKind.{TokenKind}
 use Rattle.cr_tokens.specs.declared.token.TokenKind.TheVariants.{Keyword, Identifier, Integer, Character, Text, Punctuator}
@@ -49,7 +50,6 @@ nowhere = record { kind = Keyword; start = 0; end = 0 }
 is_dot : (file : List ℕ) (ts : List Token) (i : ℕ) → AreInOrder file ts → get_or (spellings file ts) i [] ≡ dot → Is (lexemes_of file ts) i word.Dot
 is_dot file ts i o e =
     let lt : i < length ts = within in
-    let t : Token = get_or ts i nowhere in
     let spelled : slice_range file (get_or ts i nowhere).start (get_or ts i nowhere).end ≡ dot =
     sym (get_or-map (λ (x : Token). slice_range file x.start x.end) ts i nowhere [] lt) ∙ e in
     let here : slice_get (lexemes_of file ts) i ≡ Some (lexeme_of file (get_or ts i nowhere)) =
@@ -94,7 +94,6 @@ no_dots : (file : List ℕ) (ts : List Token) (t : Trees) (from to : ℕ) → To
     ¬ HasThreeDots (spellings file (slice_range ts from to))
 no_dots file ts t from to h u (before, after, e) =
     let o : AreInOrder file ts = in_order file ts h in
-    let row : List (List ℕ) = dot ∷ dot ∷ dot ∷ [] in
     let split : spellings file (slice_range ts from to) ≡ before ++ (dot ∷ dot ∷ dot ∷ after) = e ∙ append_assoc before (dot ∷ dot ∷ dot ∷ []) after in
     let first : get_or (spellings file (slice_range ts from to)) (length before + 0) [] ≡ dot =
     ap (λ (x : List (List ℕ)). get_or x (length before + 0) []) split ∙ get_or-append-add before (dot ∷ dot ∷ dot ∷ after) 0 [] in
@@ -114,18 +113,15 @@ spellings_same file [] = refl
 spellings_same file (t ∷ ts) = ap (λ (x : List (List ℕ)). slice_range file t.start t.end ∷ x) (spellings_same file ts)
 
 pieces_all : (file : List ℕ) → length file ≤ 1048576 → (ts : List Token) → All (IsToken file) ts → All IsOneToken (pieces_of file ts)
-pieces_all file short [] all = λ k d lt. absurd (omega arith)
-pieces_all file short (t ∷ ts) all = cons (pieces_all file short ts (λ k d lt. all (suc k) d (omega arith)))
-  where
-    cons : All IsOneToken (pieces_of file ts) → All IsOneToken (piece_at file t ∷ pieces_of file ts)
-    cons rest zero d lt = one_token file t short (all 0 t (omega arith))
-    cons rest (suc k) d lt = rest k d (omega arith)
+pieces_all file short [] all = All-nil IsOneToken
+pieces_all file short (t ∷ ts) all =
+    All-cons IsOneToken (piece_at file t) (pieces_of file ts) (one_token file t short (All-head (IsToken file) t ts all))
+    (pieces_all file short ts (All-tail (IsToken file) t ts all))
 
 pub part_is_read : (file : List ℕ) (ts : List Token) (t : Trees) (from to : ℕ) (text : List ℕ) → Tokenizes file ts →
     IsTreeOf (lexemes_of file ts) t → Prints (spellings file (slice_range ts from to)) text →
     IsReadAs text (pieces_of file (slice_range ts from to))
 part_is_read file ts t from to text h u p =
-    let run : List Token = slice_range ts from to in
     let o : AreInOrder file (slice_range ts from to) = order_part file ts from to (in_order file ts h) in
     let same : spellings_of (pieces_of file (slice_range ts from to)) ≡ spellings file (slice_range ts from to) = spellings_same file (slice_range ts from to) in
     let P : List (List ℕ) → Type 0 = λ x. Prints x text in
