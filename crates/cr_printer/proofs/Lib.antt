@@ -9,4 +9,5 @@ pub mod Orders
 pub mod Growth
 pub mod Names
 pub mod Neighbours
+pub mod Lost
 pub mod Units

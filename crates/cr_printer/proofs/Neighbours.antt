@@ -1,5 +1,5 @@
 -- Tokens that stand side by side in a file stay apart, so a text that they print as is no longer than the file.
-use Rattle.std.proofs.Common.{◌≡◌, ◌≢◌, inl, inr, ℕ, suc, ◌+◌, ◌-◌, ◌≤◌, ◌<◌, List, [], ◌∷◌, ◌++◌, length, refl, sym, ◌∙◌, ap, subst, arith, zero-add, length-append}
+use Rattle.std.proofs.Common.{◌≡◌, ◌≢◌, inl, inr, ℕ, ◌+◌, ◌-◌, ◌≤◌, ◌<◌, List, [], ◌∷◌, ◌++◌, length, refl, sym, ◌∙◌, ap, subst, arith, zero-add, length-append}
 use Rattle.std.specs.Prelude.{slice_index, slice_range, slice_index_or, All}
 use Rattle.std.proofs.lemmas.Bool.{cases_lt}
 use Rattle.std.proofs.lemmas.List.{get_or_append_left, get_or-append-add}
@@ -61,7 +61,7 @@ neighbours_stay_apart file t u short h k e =
     apart_from (slice_range file t.start t.end) (slice_range file u.start u.end) t.kind (u.kind, one_token file u short k)
     (short_together file t u short h k (omega arith)) (subst Q (zero-add (length (slice_range file t.start t.end))) first)
 
-shrinks : (file : List ℕ) → length file ≤ 1048576 → (ts : List Token) (from to : ℕ) (text : List ℕ) → All (IsToken file) ts → Rise from to ts →
+pub shrinks : (file : List ℕ) → length file ≤ 1048576 → (ts : List Token) (from to : ℕ) (text : List ℕ) → All (IsToken file) ts → Rise from to ts →
     Prints (spellings file ts) text → length text + from ≤ to
 shrinks file short [] from to text all r (nothing) = omega arith
 shrinks file short (t ∷ []) from to text all r (last) =

@@ -1,5 +1,5 @@
 -- What a unit prints as is a unit with the same tree.
-use Rattle.std.proofs.Common.{◌≡◌, inl, inr, ℕ, zero, suc, ◌+◌, ◌-◌, ◌≤◌, ◌<◌, List, [], ◌∷◌, ◌++◌, length, drop, map, Option, Some, refl, sym, ◌∙◌, ap, subst, arith, get_or, get_or-drop, get_or-take, length-take, length-drop, append_assoc}
+use Rattle.std.proofs.Common.{◌≡◌, inl, inr, ℕ, ◌+◌, ◌-◌, ◌≤◌, ◌<◌, List, [], ◌∷◌, ◌++◌, length, drop, map, Option, Some, refl, sym, ◌∙◌, ap, subst, arith, get_or, get_or-drop, get_or-take, length-take, length-drop, append_assoc}
 use Rattle.std.specs.Prelude.{slice_index, slice_range, slice_get, All}
 use Rattle.std.proofs.lemmas.List.{get_or-map, get_or_past, get_or-append-add, length-map, take_all}
 use Rattle.std.proofs.lemmas.Option.{slice_get-map, slice_get-get_or}
@@ -108,7 +108,7 @@ no_dots file ts t from to h u (before, after, e) =
 
 -- a file's tokens as pieces
 
-spellings_same : (file : List ℕ) (ts : List Token) → spellings_of (pieces_of file ts) ≡ spellings file ts
+pub spellings_same : (file : List ℕ) (ts : List Token) → spellings_of (pieces_of file ts) ≡ spellings file ts
 spellings_same file [] = refl
 spellings_same file (t ∷ ts) = ap (λ (x : List (List ℕ)). slice_range file t.start t.end ∷ x) (spellings_same file ts)
 

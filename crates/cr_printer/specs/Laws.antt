@@ -25,6 +25,11 @@ abbrev pub PrintedIsRead : Type 0
 PrintedIsRead = (pieces : List Piece) (text : List ℕ) → All IsOneToken pieces → ¬ HasThreeDots (spellings_of pieces) →
     Prints (spellings_of pieces) text → length text ≤ 1048576 → length pieces ≤ 262144 → IsReadAs text pieces
 
+-- and where three dots stand in a row it doesn't
+abbrev pub ThreeDotsAreLost : Type 0
+ThreeDotsAreLost = (pieces : List Piece) (text : List ℕ) → HasThreeDots (spellings_of pieces) → Prints (spellings_of pieces) text →
+    ¬ IsReadAs text pieces
+
 -- tokens that stand side by side in a file stay apart, so printing parts none of them
 abbrev pub NeighboursStayApart : Type 0
 NeighboursStayApart = (file : List ℕ) (t u : Token) → length file ≤ 1048576 → IsToken file t → IsToken file u → t.end ≡ u.start →

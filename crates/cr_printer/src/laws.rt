@@ -1,4 +1,4 @@
-ghost use Rattle.cr_printer.specs.Laws.{PrintsOneText, PrintedIsRead, NeighboursStayApart, PrintedIsNoLonger, DotsHaveNames, PrintedPartIsRead, PrintedIsUnit};
+ghost use Rattle.cr_printer.specs.Laws.{PrintsOneText, PrintedIsRead, ThreeDotsAreLost, NeighboursStayApart, PrintedIsNoLonger, DotsHaveNames, PrintedPartIsRead, PrintedIsUnit};
 
 /// A law: a list of spellings prints as one text at most.
 pub fn prints_one_text()
@@ -8,6 +8,11 @@ pub fn prints_one_text()
 /// A law: reading what a list of tokens prints as gives the list back, where no three dots stand in a row in it.
 pub fn printed_is_read()
     ensures { PrintedIsRead }
+{}
+
+/// A law: where three dots stand in a row in the list, reading what it prints as gives another list.
+pub fn three_dots_are_lost()
+    ensures { ThreeDotsAreLost }
 {}
 
 /// A law: tokens that stand side by side in a file stay apart.

@@ -14,6 +14,6 @@ mod text;
 
 pub use laws::{
     dots_have_names, neighbours_stay_apart, printed_is_no_longer, printed_is_read, printed_is_unit,
-    printed_part_is_read, prints_one_text,
+    printed_part_is_read, prints_one_text, three_dots_are_lost,
 };
 pub use text::{NoMemory, print, print_expr};
