@@ -20,4 +20,8 @@ pub use top::run;
 #[cfg(test)]
 mod reduce_tests;
 #[cfg(test)]
+mod rehearsed;
+#[cfg(test)]
 mod tests;
+#[cfg(test)]
+mod word_tests;

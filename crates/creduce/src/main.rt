@@ -1,4 +1,4 @@
-//! `creduce has:TEXT FILE`: reduces FILE while it contains the text, and ends with the status of `run`, which see.
+//! `creduce [--limit N] TEST FILE`: reduces FILE while the test says yes, and ends with the status of `run`, which see.
 #![tactic(auto)]
 
 mod std_files;
@@ -15,9 +15,6 @@ use std::{env, io};
 use std_files::StdFiles;
 use std_out::StdOut;
 
-/// Status 2: the words are not in the form that `run` reads.
-const USAGE: u8 = 2;
-
 /// Status 11: no memory is left.
 const NO_MEMORY: u8 = 11;
 
@@ -29,15 +26,24 @@ fn bench(alloc: Global) -> Result<Bench<Scripted>, AllocError> {
     Bench::new(judges)
 }
 
-fn words(rt: &HostRuntime) -> io::Result<Vec<String>> {
-    let mut words = Vec::new(rt.alloc());
-    for word in env::args(rt)?.skip(1) {
+// The words after the program's name. Where one of them is no text, the words are in no form, as an empty list is.
+fn words(rt: &HostRuntime) -> Result<Vec<String>, AllocError> {
+    match env::args(rt) {
+        Ok(args) => listed(rt.alloc(), args.skip(1)),
+        Err(e) if e.kind() == io::ErrorKind::OutOfMemory => Err(AllocError),
+        Err(_) => Ok(Vec::new(rt.alloc())),
+    }
+}
+
+fn listed(alloc: Global, args: impl Iterator<Item = String>) -> Result<Vec<String>, AllocError> {
+    let mut words = Vec::new(alloc);
+    for word in args {
         words.push(word)?;
     }
     Ok(words)
 }
 
-fn reduce(rt: &HostRuntime) -> io::Result<u8> {
+fn reduce(rt: &HostRuntime) -> Result<u8, AllocError> {
     let words = words(rt)?;
     let mut bench = bench(rt.alloc())?;
     let mut files = StdFiles::new(rt);
@@ -48,9 +54,7 @@ fn reduce(rt: &HostRuntime) -> io::Result<u8> {
 fn main(rt: HostRuntime) -> ExitCode {
     let status = match reduce(&rt) {
         Ok(status) => status,
-        Err(e) if e.kind() == io::ErrorKind::OutOfMemory => NO_MEMORY,
-        // A word that is no text is in no form.
-        Err(_) => USAGE,
+        Err(_) => NO_MEMORY,
     };
     ExitCode::from(status)
 }
