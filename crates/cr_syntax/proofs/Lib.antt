@@ -21,3 +21,6 @@ pub mod MachineBegins
 pub mod MachineTypes
 pub mod MachineDeclarators
 pub mod MachineComplete
+pub mod MachineExtend
+pub mod MachineFails
+pub mod MachineGrows
