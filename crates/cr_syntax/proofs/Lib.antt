@@ -24,3 +24,4 @@ pub mod MachineComplete
 pub mod MachineExtend
 pub mod MachineFails
 pub mod MachineGrows
+pub mod MachineViable

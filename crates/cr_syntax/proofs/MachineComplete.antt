@@ -144,7 +144,7 @@ refused s k n h lt b = let q = goes_on s k n h lt b in cc
 
 -- A run within a limit is one within it up to a token behind the answer's.
 
-allows_upto : (n most : ℕ) (g : Manner) (i d : ℕ) → Allows (AtMost most) g i d → Allows (Upto n most) g i d
+pub allows_upto : (n most : ℕ) (g : Manner) (i d : ℕ) → Allows (AtMost most) g i d → Allows (Upto n most) g i d
 allows_upto n most m.plain i d w = tt
 allows_upto n most m.opens i d w = λ lt. w
 allows_upto n most m.reopens i d w = (tt, λ lt. w.1)

@@ -234,7 +234,7 @@ module _ (us : List Lexeme) (top : Limit) where
 
   -- Declarators.
 
-  abbrev Declared : Wanted → Context → ℕ → Scopes → ℕ → Trees → Scopes → ℕ → Type 0
+  abbrev pub Declared : Wanted → Context → ℕ → Scopes → ℕ → Trees → Scopes → ℕ → Type 0
   Declared w h d c i t e j = IsDeclared us top w h d c i t e j
 
   pub dropped_member : {h : Context} {d i j : ℕ} {c e : Scopes} {t : Trees} → Declared named h d c i t e j → Spells us top (a part.MemberDeclarator) h c (around e) d t i j
@@ -280,12 +280,12 @@ module _ (us : List Lexeme) (top : Limit) where
 
   -- a declarator in brackets
   module _ (w : Wanted) (h : Context) (d : ℕ) (c : Scopes) (i : ℕ) (q : Is us i word.LeftParen) (v : Within top i d) where
-    group_named : {e : Scopes} {j : ℕ} {t : Trees} → Declared w (past_token h) (d + 1) c (i + 1) t e j → is_declarator t ≡ true → Is us j word.RightParen → Stands top j (d + 1) →
+    pub group_named : {e : Scopes} {j : ℕ} {t : Trees} → Declared w (past_token h) (d + 1) c (i + 1) t e j → is_declarator t ≡ true → Is us j word.RightParen → Stands top j (d + 1) →
         (may_name w ≡ true) × IsOpen e × Spells us top (a part.DirectDeclarator) h c e d (one kind.GroupDeclarator i (j + 1) (t & none)) i (j + 1)
     group_named (with_name y z o s) y' q' v' = (z, o, spells.of_alternative grammar.group_declarator refl (spells.opens q v (spells.part s (spells.token q' v' spells.done))))
     group_named {t = t} (without y z s) y' q' v' = not_both (is_declarator t) y' y
 
-    group_unnamed : {e : Scopes} {j : ℕ} {t : Trees} → Declared w (past_token h) (d + 1) c (i + 1) t e j → is_declarator t ≡ false → Is us j word.RightParen → Stands top j (d + 1) →
+    pub group_unnamed : {e : Scopes} {j : ℕ} {t : Trees} → Declared w (past_token h) (d + 1) c (i + 1) t e j → is_declarator t ≡ false → Is us j word.RightParen → Stands top j (d + 1) →
         (may_omit w ≡ true) × Reads us top part.DirectAbstract d c i (one kind.AbstractGroup i (j + 1) (t & none)) e (j + 1)
     group_unnamed {t = t} (with_name y z o s) y' q' v' = not_both (is_declarator t) y y'
     group_unnamed (without y z s) y' q' v' = (z, λ h'. spells.of_alternative grammar.abstract_group refl (spells.opens q v (spells.part (s _) (spells.token q' v' spells.done))))

@@ -113,3 +113,8 @@ RefusedEndsRun = (ts : List Lexeme) (limit : Limit) (s : Start) (x : Cause) (k :
 abbrev pub RefusedWithin : Type 0
 RefusedWithin = (ts : List Lexeme) (most : ℕ) (s : Start) (x : Cause) (k : ℕ) → IsStart s.part → k < length ts →
     Runs body ts (AtMost most) (body (start_goal s.part s.depth)) s.scopes s.at (Failed x k) → BeginsFrom (Upto (k + 1) most) ts s (k + 1) → ⊥
+
+-- the tokens before a refused one begin a text within the limit
+abbrev pub BeginsBefore : Type 0
+BeginsBefore = (ts : List Lexeme) (most : ℕ) (s : Start) (x : Cause) (k : ℕ) → IsStart s.part → k ≤ length ts →
+    Runs body ts (AtMost most) (body (start_goal s.part s.depth)) s.scopes s.at (Failed x k) → BeginsFrom (Upto k most) ts s k
