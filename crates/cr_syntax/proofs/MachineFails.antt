@@ -1,5 +1,5 @@
 -- What a program owes for what it refuses: that the tokens before the refused one can go on to a text.
-use Rattle.std.proofs.Common.{◌≡◌, ℕ, ◌+◌, ◌<◌, ◌≤◌, Bool, true, false, List, [], ◌∷◌, length, refl, sym, ap, subst, ◌∙◌, arith}
+use Rattle.std.proofs.Common.{◌≡◌, ℕ, ◌+◌, ◌<◌, ◌≤◌, true, false, List, length, subst, ◌∙◌, arith}
 use Rattle.std.specs.Prelude.{slice_get}
 use Rattle.cr_syntax.specs.declared.word.Word.{Word}
 use Rattle.cr_syntax.specs.declared.node.Kind.{Kind}
@@ -7,7 +7,7 @@ use Rattle.cr_syntax.specs.Words.{Lexeme}
 use Rattle.cr_syntax.specs.Scopes.{Scopes, enter}
 use Rattle.cr_syntax.specs.Trees.{Trees}
 use Rattle.cr_syntax.specs.Spells.{Limit, Is}
-use Rattle.cr_syntax.specs.Machine.{Goal, Prog, Manner, plain, opens, reopens, Reply, Cause, Done, Failed, Runs, Allows, brought, choose, give, stop, take, bar, peek, when, here, look, set, bring, call, run_give, run_stop, run_take, run_deep, run_pass, run_bar, run_free, run_seen, run_unseen, run_yes, run_no, run_here, run_look, run_set, run_bring, run_call, run_fail}
+use Rattle.cr_syntax.specs.Machine.{Goal, Prog, Manner, plain, opens, reopens, Cause, Done, Failed, Runs, Allows, brought, choose, give, stop, take, bar, peek, when, here, look, set, bring, call, run_stop, run_take, run_deep, run_pass, run_bar, run_free, run_seen, run_unseen, run_yes, run_no, run_here, run_look, run_set, run_bring, run_call, run_fail}
 use Rattle.cr_syntax.specs.MachineBody.{Words}
 use Rattle.cr_syntax.proofs.MachineRuns.{reach, passes_same, brought_same}
 use Rattle.cr_syntax.proofs.MachineGives.{Holds, holds, Gives, gives, AllRows, no_rows, also}
@@ -69,5 +69,5 @@ module _ (body : Goal → Prog) (ts us : List Lexeme) (limit top : Limit) (known
       let n = reach h in
       let n' = reach h' in
       viable h' f e al lim (y.1 _ _ _ n (keeps g c _ i _ _ h)
-          (gives body ts us limit top known means keeps each h (means g c i) (λ j lt. al j (omega arith)) (λ b j d lt. lim b j d (omega arith)) (each g c i)))
+      (gives body ts us limit top known means keeps each h (means g c i) (λ j lt. al j (omega arith)) (λ b j d lt. lim b j d (omega arith)) (each g c i)))
   viable {c = c} {i = i} (run_fail {g = g} h) f e al lim y = y.0 (viable h (via g c i) e al lim (owes g c i))

@@ -1,22 +1,18 @@
 -- What the machine refuses can go on before the refused token: each goal's program owes a text for each place where it can stop.
-use Rattle.std.proofs.Common.{◌≡◌, ℕ, zero, suc, ◌+◌, ◌<◌, ◌≤◌, Bool, true, false, ◌||◌, List, [], ◌∷◌, length, refl, sym, ap, subst, ◌∙◌, arith}
-use Rattle.std.specs.Prelude.{if◌then◌else◌}
-use borrow.Author.Tests.{lt-ltb}
+use Rattle.std.proofs.Common.{◌≡◌, ℕ, ◌+◌, ◌≤◌, true, List, [], ◌∷◌, length, refl, sym, subst, arith}
 use Rattle.cr_syntax.specs.declared.word.Word.{Word}
 use Rattle.cr_syntax.specs.declared.word.Word.TheVariants as word
 use Rattle.cr_syntax.specs.declared.node.Kind.{Kind}
 use Rattle.cr_syntax.specs.declared.node.Kind.TheVariants as kind
-use Rattle.cr_syntax.specs.declared.symbol.Depth.{Depth}
 use Rattle.cr_syntax.specs.declared.symbol.Part.{Part}
 use Rattle.cr_syntax.specs.declared.symbol.Part.TheVariants as part
 use Rattle.cr_syntax.specs.declared.symbol.Symbol.{Symbol}
 use Rattle.cr_syntax.specs.declared.symbol.Symbol.TheVariants as symbol
 use Rattle.cr_syntax.specs.declared.symbol.Context.{Context}
-use Rattle.cr_syntax.specs.declared.scopes.TypeName.{TypeName}
-use Rattle.cr_syntax.specs.Words.{Lexeme, spelling_at}
-use Rattle.cr_syntax.specs.Scopes.{Scopes, enter}
-use Rattle.cr_syntax.specs.Trees.{Trees, none, node, one, ◌&◌}
-use Rattle.cr_syntax.specs.Context.{fresh, past_token, past_part, declared_in, fits_together, is_bare}
+use Rattle.cr_syntax.specs.Words.{Lexeme}
+use Rattle.cr_syntax.specs.Scopes.{Scopes}
+use Rattle.cr_syntax.specs.Trees.{Trees, none, one, ◌&◌}
+use Rattle.cr_syntax.specs.Context.{fresh, past_token, past_part}
 use Rattle.cr_syntax.specs.Grammar.{Side, Alternative, prefix, token, assignment_by, inner_optional, inner_list, closing, many, list, part, binary}
 use Rattle.cr_syntax.specs.Grammar as grammar
 use Rattle.cr_syntax.specs.Spells.{Limit, Phrase, Is, Stands, Within, Spells, a, rest, AreConst, const_none, const_more}
@@ -24,23 +20,21 @@ use Rattle.cr_syntax.specs.Spells as spells
 use Rattle.cr_syntax.specs.Machine.{Goal, Prog, Manner, Wanted, named, unnamed, either, Runs, Done, Reply, Allows, plain, opens, reopens, give, stop, take, when, call, into, made, choose, the, around, innermost_of, brought, name_before}
 use Rattle.cr_syntax.specs.Machine.{whole, expression, commas, assignment, conditional, operands, cast, unary, measured, postfix, called, grouped, texts, arguments, suffixes, type_name, row, more, element, structure, members, member, member_declarators, enumeration, enumerators, enumerator, consts, declarator, declarator_suffixes, abstract_suffixes, size, parameters, more_parameters, parameter}
 use Rattle.cr_syntax.specs.Machine as m
-use Rattle.cr_syntax.specs.MachineBody.{body, assigned, operated, prefixed, suffixed, sized, other_primary, suffixes_end, other_element, array_start, Words, is_declarator, may_name, may_omit, start_goal, tighter, assignment_operators, operators, unary_prefixes, cast_prefixes, constants, postfix_operators, specifier_words, plain_words, row_kind, in_row, in_parameters}
+use Rattle.cr_syntax.specs.MachineBody.{body, assigned, operated, prefixed, suffixed, sized, other_primary, suffixes_end, other_element, array_start, may_name, may_omit, start_goal, tighter, operators, cast_prefixes}
 use Rattle.cr_syntax.proofs.MachineMeans as means
 use Rattle.cr_syntax.proofs.MachineSpells as facts
 use Rattle.cr_syntax.proofs.MachineSpells.{and_none, and_and, pushed, is_one, named_before, unary_in}
-use Rattle.cr_syntax.proofs.MachineGives.{Gives, gives, AllRows, no_rows, also, gives_choose}
-use Rattle.cr_syntax.proofs.MachineKept.{Kept, runs_kept, not_both}
+use Rattle.cr_syntax.proofs.MachineGives.{AllRows, no_rows, also}
+use Rattle.cr_syntax.proofs.MachineKept.{Kept, runs_kept}
 use Rattle.cr_syntax.proofs.MachineMeans.{Means, Reads, Behind, IsDeclared, with_name, without, IsSize, unsized, IsParameterRow, first_one, next_one, IsRowBegin, IsOpen, has_some, start_part, is_level, row_part, element_part}
-
-use Rattle.cr_syntax.proofs.MachineSound.{Declared, group_named, group_unnamed, Makes, Assigns, assignment_rows, Prefixes, unary_rows, cast_rows, IsConstant, constant_rows, Follows, postfix_rows, open_of, brought_is, part_some, pushed_some, many_of, start_means, level_up, plain_up, specifier_rows, Specifies, dropped_member, array_of, array_size, parameters_of, at_end, hears_nothing, row_of_parameters, row_alone, row_made, Operates, operator_rows}
-use Rattle.cr_syntax.proofs.MachineFails.{Fails, words_fail, viable, Deep}
-use Rattle.cr_syntax.proofs.MachineExtend.{Front, front_itself, front_then, Longer, longer, weaken, weaken_consts, weaken_name}
+use Rattle.cr_syntax.proofs.MachineSound.{Declared, group_named, group_unnamed, Assigns, assignment_rows, Prefixes, unary_rows, cast_rows, IsConstant, constant_rows, Follows, postfix_rows, open_of, part_some, pushed_some, many_of, start_means, level_up, plain_up, specifier_rows, Specifies, dropped_member, array_of, array_size, parameters_of, at_end, hears_nothing, row_of_parameters, row_alone, row_made}
+use Rattle.cr_syntax.proofs.MachineFails.{Fails, words_fail}
+use Rattle.cr_syntax.proofs.MachineExtend.{Front, front_itself, front_then, longer, weaken, weaken_consts, weaken_name}
 use Rattle.cr_syntax.proofs.MachineTasks.{below}
 use Rattle.cr_syntax.proofs.MachineTasks as task
 use Rattle.cr_syntax.proofs.MachineComplete.{completes}
 use Rattle.cr_syntax.proofs.MachineBegins.{owned}
 use Rattle.cr_syntax.proofs.MachineFirst.{none_true}
-
 
 -- what is spelled in one text as a phrase up to a place
 abbrev pub Built : List Lexeme → Limit → Phrase → Context → Scopes → ℕ → ℕ → ℕ → Type 0
@@ -124,8 +118,14 @@ module _ (us : List Lexeme) (top : Limit) (late : (g : Manner) (i d : ℕ) → l
   more1 g w k =
       let le = g.late in
       let x = longer g.all g.end g.size w in
-      record { all = x.all; front = front_then g.front x.front; end = g.end + 1; size = x.size; late = omega arith;
-          built = k x.all (front_then g.front x.front) g.built.0 g.built.1 g.end g.late (weaken x.front g.built.2) x.word }
+      record {
+        all = x.all;
+        front = front_then g.front x.front;
+        end = g.end + 1;
+        size = x.size;
+        late = omega arith;
+        built = k x.all (front_then g.front x.front) g.built.0 g.built.1 g.end g.late (weaken x.front g.built.2) x.word;
+      }
 
   more2 : {q q' : Phrase} {h h' : Context} {c c' : Scopes} {d d' s s' : ℕ} → Grown us top q h c d s → (w w' : Word) →
       ((all : List Lexeme) (f : Front us all) (t : Trees) (e : Scopes) (j : ℕ) → length us ≤ j → Spells all top q h c e d t s j → Is all j w → Is all (j + 1) w' → Built all top q' h' c' d' s' (j + 1 + 1)) → Grown us top q' h' c' d' s'
@@ -134,19 +134,29 @@ module _ (us : List Lexeme) (top : Limit) (late : (g : Manner) (i d : ℕ) → l
       let x = longer g.all g.end g.size w in
       let y = longer x.all (g.end + 1) x.size w' in
       let f = front_then g.front (front_then x.front y.front) in
-      record { all = y.all; front = f; end = g.end + 1 + 1; size = y.size; late = omega arith;
-          built = k y.all f g.built.0 g.built.1 g.end g.late (weaken (front_then x.front y.front) g.built.2) (y.front.words _ _ x.word) y.word }
+      record {
+        all = y.all;
+        front = f;
+        end = g.end + 1 + 1;
+        size = y.size;
+        late = omega arith;
+        built = k y.all f g.built.0 g.built.1 g.end g.late (weaken (front_then x.front y.front) g.built.2) (y.front.words _ _ x.word) y.word;
+      }
 
   -- a constant as each part of an expression
   module _ (all : List Lexeme) (c : Scopes) (d i : ℕ) (q : Is all i word.Integer) (le : length us ≤ i) where
     abbrev number : Trees
     number = one kind.Integer i (i + 1) none
+
     number_postfix : (h : Context) → Spells all top (a part.Postfix) h c c d number i (i + 1)
     number_postfix h = spells.of_chain grammar.postfix_primary refl (spells.of_alternative grammar.integer_constant refl (spells.token q (late plain i d le) spells.done))
+
     number_unary : (h : Context) → Spells all top (a part.Unary) h c c d number i (i + 1)
     number_unary h = spells.of_chain grammar.unary_postfix refl (number_postfix _)
+
     number_cast : (h : Context) → Spells all top (a part.Cast) h c c d number i (i + 1)
     number_cast h = spells.of_chain grammar.cast_unary refl (number_unary _)
+
     number_conditional : (h : Context) → Spells all top (a part.Conditional) h c c d number i (i + 1)
     number_conditional h = spells.of_chain grammar.conditional_binary refl (spells.of_chain grammar.binary_14 refl (spells.of_chain grammar.binary_13 refl (spells.of_chain grammar.binary_12 refl (spells.of_chain grammar.binary_11 refl (spells.of_chain grammar.binary_10 refl
         (spells.of_chain grammar.binary_9 refl (spells.of_chain grammar.binary_8 refl (spells.of_chain grammar.binary_7 refl (spells.of_chain grammar.binary_6 refl (spells.of_chain grammar.binary_5 refl (number_cast _)))))))))))
@@ -154,9 +164,13 @@ module _ (us : List Lexeme) (top : Limit) (late : (g : Manner) (i d : ℕ) → l
   -- a declarator with a name, in brackets
   bracketed : (all : List Lexeme) (h : Context) (c : Scopes) (d i : ℕ) → Is all i word.LeftParen → Is all (i + 1) word.Identifier → Is all (i + 1 + 1) word.RightParen → length us ≤ i →
       Built all top (a part.Declarator) h c d i (i + 1 + 1 + 1)
-  bracketed all h c d i q q' q'' le = (_, _, spells.of_chain grammar.declarator_direct refl (spells.of_alternative grammar.group_declarator refl (spells.opens q (late opens i d le)
-      (spells.part (spells.of_chain grammar.declarator_direct refl (spells.of_alternative grammar.name_declarator refl (spells.declared q' refl (late plain (i + 1) (d + 1) (omega arith)) spells.done)))
-      (spells.token q'' (late plain (i + 1 + 1) (d + 1) (omega arith)) spells.done)))))
+  bracketed all h c d i q q' q'' le = (
+    _,
+    _,
+    spells.of_chain grammar.declarator_direct refl (spells.of_alternative grammar.group_declarator refl (spells.opens q (late opens i d le)
+        (spells.part (spells.of_chain grammar.declarator_direct refl (spells.of_alternative grammar.name_declarator refl (spells.declared q' refl (late plain (i + 1) (d + 1) (omega arith)) spells.done)))
+        (spells.token q'' (late plain (i + 1 + 1) (d + 1) (omega arith)) spells.done)))),
+  )
 
   -- What a goal owes.
 
@@ -306,126 +320,257 @@ module _ (us : List Lexeme) (top : Limit) (late : (g : Manner) (i d : ℕ) → l
   -- Expressions.
 
   owes_expression : (d : ℕ) (c : Scopes) (i : ℕ) → Owes (body (expression d)) (Via (expression d) c i) c i
-  owes_expression d c i =
-      (λ v h. more0 (v _) (λ all f t e j le s. (_, _, spells.of_chain grammar.expression_assignment refl s)),
-      λ t e j _ _ x. (λ v. v c (λ h. spells.of_chain grammar.expression_assignment refl (x _)), λ t' e' j' _ _ _. tt))
+  owes_expression d c i = (
+    λ v h. more0 (v _) (λ all f t e j le s. (_, _, spells.of_chain grammar.expression_assignment refl s)),
+    λ t e j _ _ x. (λ v. v c (λ h. spells.of_chain grammar.expression_assignment refl (x _)), λ t' e' j' _ _ _. tt),
+  )
 
   owes_commas : (d s : ℕ) (y : Trees) (c : Scopes) (i : ℕ) → Owes (body (commas d s y)) (Via (commas d s y) c i) c i
-  owes_commas d s y c i =
-      (tt, λ q w. (λ v c0 z h. more0 (v _) (λ all f t e j le x. (_, _, spells.of_alternative grammar.comma refl (spells.part (weaken f (z _)) (spells.token (f.words _ _ q) w (spells.part x spells.done))))),
-          λ t e j _ _ x. (λ v c0 z. v c0 (λ h. spells.of_alternative grammar.comma refl (spells.part (z _) (spells.token q w (spells.part (x _) spells.done)))), λ t' e' j' _ _ _. tt)), tt)
+  owes_commas d s y c i = (
+    tt,
+    λ q w. (
+      λ v c0 z h. more0 (v _) (λ all f t e j le x. (_, _, spells.of_alternative grammar.comma refl (spells.part (weaken f (z _)) (spells.token (f.words _ _ q) w (spells.part x spells.done))))),
+      λ t e j _ _ x. (λ v c0 z. v c0 (λ h. spells.of_alternative grammar.comma refl (spells.part (z _) (spells.token q w (spells.part (x _) spells.done)))), λ t' e' j' _ _ _. tt),
+    ),
+    tt,
+  )
 
   owes_assignment : (d : ℕ) (c : Scopes) (i : ℕ) → Owes (body (assignment d)) (Via (assignment d) c i) c i
-  owes_assignment d c i =
-      (λ v h. more0 (v _) (λ all f t e j le s. (_, _, spells.of_chain grammar.assignment_conditional refl s)),
-      λ t e j _ _ x. (λ u. words_fail us top Kept (Means us top) Via opens d (assigned d i t) (give t) (G part.Assignment d c i) e j Assigns assignment_rows
-              (λ q h. put0 q (_, _, spells.of_chain grammar.assignment_conditional refl (x _)))
-              (λ w k r q v. (λ y h. more0 (y _) (λ all f t' e' j' le s. (_, _, spells.of_alternative r.0 (r.1 _) (spells.part (weaken f (unary_in facts.conditional u (x fresh))) (spells.opens (f.words _ _ q) v (spells.part s spells.done))))),
-                  λ t' e' j' _ _ _. tt)) tt, λ u. tt))
+  owes_assignment d c i = (
+    λ v h. more0 (v _) (λ all f t e j le s. (_, _, spells.of_chain grammar.assignment_conditional refl s)),
+    λ t e j _ _ x. (
+      λ u. words_fail us top Kept (Means us top) Via opens d (assigned d i t) (give t) (G part.Assignment d c i) e j Assigns assignment_rows
+          (λ q h. put0 q (_, _, spells.of_chain grammar.assignment_conditional refl (x _)))
+          (λ w k r q v. (
+            λ y h. more0 (y _) (λ all f t' e' j' le s. (_, _, spells.of_alternative r.0 (r.1 _) (spells.part (weaken f (unary_in facts.conditional u (x fresh))) (spells.opens (f.words _ _ q) v (spells.part s spells.done))))),
+            λ t' e' j' _ _ _. tt,
+          )) tt,
+      λ u. tt,
+    ),
+  )
 
   owes_conditional : (d : ℕ) (c : Scopes) (i : ℕ) → Owes (body (conditional d)) (Via (conditional d) c i) c i
-  owes_conditional d c i =
-      (λ v h. more0 (v refl _) (λ all f t e j le s. (_, _, spells.of_chain grammar.conditional_binary refl s)),
-      λ t e j _ _ x. (λ q h. put0 q (_, _, spells.of_chain grammar.conditional_binary refl (x refl _)),
-          λ q w. (λ v h. more2 (v _) word.Colon word.Integer (λ all f t' e' j' le s q1 q2. (_, _, spells.of_alternative grammar.conditional refl (spells.part (weaken f (x refl _)) (spells.opens (f.words _ _ q) w (spells.part s
-                  (spells.reopens q1 (late plain j' (d + 1) le) (late opens j' d le) (spells.part (number_conditional all e' (d + 1) (j' + 1) q2 (omega arith) _) spells.done))))))),
-              λ t' e' j' _ _ x'.
-                  let ends : j' ≡ length us → G part.Conditional d c i = λ z h. put2 z word.Colon word.Integer (λ all f q1 q2 le. (_, _, spells.of_alternative grammar.conditional refl (spells.part (weaken f (x refl _)) (spells.opens (f.words _ _ q) w
-                      (spells.part (weaken f (x' _)) (spells.reopens q1 (late plain j' (d + 1) le) (late opens j' d le) (spells.part (number_conditional all e' (d + 1) (j' + 1) q2 (omega arith) _) spells.done))))))) in
-                  (ends, λ q' w'. (λ v h. more0 (v _) (λ all f t'' e'' j'' le s. (_, _, spells.of_alternative grammar.conditional refl (spells.part (weaken f (x refl _)) (spells.opens (f.words _ _ q) w
-                      (spells.part (weaken f (x' _)) (spells.reopens (f.words _ _ q') w'.0 w'.1 (spells.part s spells.done))))))), λ t'' e'' j'' _ _ _. tt), ends)), tt))
+  owes_conditional d c i = (
+    λ v h. more0 (v refl _) (λ all f t e j le s. (_, _, spells.of_chain grammar.conditional_binary refl s)),
+    λ t e j _ _ x. (
+      λ q h. put0 q (_, _, spells.of_chain grammar.conditional_binary refl (x refl _)),
+      λ q w. (
+        λ v h. more2 (v _) word.Colon word.Integer (λ all f t' e' j' le s q1 q2. (
+          _,
+          _,
+          spells.of_alternative grammar.conditional refl (spells.part (weaken f (x refl _)) (spells.opens (f.words _ _ q) w (spells.part s
+              (spells.reopens q1 (late plain j' (d + 1) le) (late opens j' d le) (spells.part (number_conditional all e' (d + 1) (j' + 1) q2 (omega arith) _) spells.done))))),
+        )),
+        λ t' e' j' _ _ x'.
+            let ends : j' ≡ length us → G part.Conditional d c i = λ z h. put2 z word.Colon word.Integer (λ all f q1 q2 le. (
+              _,
+              _,
+              spells.of_alternative grammar.conditional refl (spells.part (weaken f (x refl _)) (spells.opens (f.words _ _ q) w
+                  (spells.part (weaken f (x' _)) (spells.reopens q1 (late plain j' (d + 1) le) (late opens j' d le) (spells.part (number_conditional all e' (d + 1) (j' + 1) q2 (omega arith) _) spells.done))))),
+            )) in (
+              ends,
+              λ q' w'. (
+                λ v h. more0 (v _) (λ all f t'' e'' j'' le s. (
+                  _,
+                  _,
+                  spells.of_alternative grammar.conditional refl (spells.part (weaken f (x refl _)) (spells.opens (f.words _ _ q) w
+                      (spells.part (weaken f (x' _)) (spells.reopens (f.words _ _ q') w'.0 w'.1 (spells.part s spells.done))))),
+                )),
+                λ t'' e'' j'' _ _ _. tt,
+              ),
+              ends,
+            ),
+      ),
+      tt,
+    ),
+  )
 
   owes_binary : (p : Part) (d : ℕ) (c : Scopes) (i : ℕ) → Owes (body (m.binary p d)) (Via (m.binary p d) c i) c i
-  owes_binary p d c i =
-      (λ v l h. more0 (tight_via p l d c i v fresh) (λ all f t e j le s. (_, _, level_chain p l s h)),
-      λ t e j _ _ x. (λ v l. v l c (level_up us top p d c i t e j l x), λ t' e' j' _ _ _. tt))
+  owes_binary p d c i = (
+    λ v l h. more0 (tight_via p l d c i v fresh) (λ all f t e j le s. (_, _, level_chain p l s h)),
+    λ t e j _ _ x. (λ v l. v l c (level_up us top p d c i t e j l x), λ t' e' j' _ _ _. tt),
+  )
 
   owes_operands : (p : Part) (d s : ℕ) (y : Trees) (c : Scopes) (i : ℕ) → Owes (body (operands p d s y)) (Via (operands p d s y) c i) c i
   owes_operands p d s y c i = words_fail us top Kept (Means us top) Via plain d (operated p d s y) (give y) (Via (operands p d s y) c i) c i (Joins p) (join_rows p) tt
-      (λ w k r q v. (λ z l c0 x h. more0 (tight_via p l d c (i + 1) z fresh) (λ all f t e j le u. (_, _, r all top d c0 c e s i j y t (λ h'. weaken f (x h')) (f.words _ _ q) v (λ h'. operand_anywhere p l u h') h)),
-          λ t e j _ _ x. (λ z l c0 g. z l c0 (r us top d c0 c e s i j y t g q v (tight_means p l d c (i + 1) t e j x)), λ t' e' j' _ _ _. tt))) tt
+      (λ w k r q v. (
+        λ z l c0 x h. more0 (tight_via p l d c (i + 1) z fresh) (λ all f t e j le u. (_, _, r all top d c0 c e s i j y t (λ h'. weaken f (x h')) (f.words _ _ q) v (λ h'. operand_anywhere p l u h') h)),
+        λ t e j _ _ x. (λ z l c0 g. z l c0 (r us top d c0 c e s i j y t g q v (tight_means p l d c (i + 1) t e j x)), λ t' e' j' _ _ _. tt),
+      )) tt
 
   owes_cast : (d : ℕ) (c : Scopes) (i : ℕ) → Owes (body (cast d)) (Via (cast d) c i) c i
-  owes_cast d c i =
-      (λ z h. put1 z word.Integer (λ all f q le. (_, _, number_cast all c d i q le h)),
-      λ q w. ((λ v h. more2 (v _) word.RightParen word.Integer (λ all f t e j le s q1 q2. (_, _, spells.of_alternative grammar.cast refl (spells.opens (f.words _ _ q) w (spells.part s
-                  (spells.reopens q1 (late plain j (d + 1) le) (late opens j d le) (spells.part (number_cast all e (d + 1) (j + 1) q2 (omega arith) _) spells.done)))))),
-              λ t e j le _ x.
-                  let ends : j ≡ length us → G part.Cast d c i = λ z h. put2 z word.RightParen word.Integer (λ all f q1 q2 le. (_, _, spells.of_alternative grammar.cast refl (spells.opens (f.words _ _ q) w (spells.part (weaken f (x _))
-                      (spells.reopens q1 (late plain j (d + 1) le) (late opens j d le) (spells.part (number_cast all e (d + 1) (j + 1) q2 (omega arith) _) spells.done)))))) in
-                  (ends, λ q' w'. (λ z h. put1 z word.Integer (λ all f q2 le. (_, _, spells.of_alternative grammar.cast refl (spells.opens (f.words _ _ q) w (spells.part (weaken f (x _))
-                          (spells.reopens (f.words _ _ q') w'.0 w'.1 (spells.part (number_cast all e (d + 1) (j + 1) q2 le _) spells.done)))))),
-                      (λ v h. more0 (v _) (λ all f t' e' j' le s. (_, _, spells.of_alternative grammar.cast refl (spells.opens (f.words _ _ q) w (spells.part (weaken f (x _))
-                          (spells.reopens (f.words _ _ q') w'.0 w'.1 (spells.part s spells.done)))))), λ t' e' j' _ _ _. tt)), ends)),
-          (λ v h. more0 (v (λ all f r h e t j z. spells.opens (f.words _ _ q) w z) _) (λ all f t e j le s. (_, _, spells.of_chain grammar.cast_unary refl (spells.of_chain grammar.unary_postfix refl s))), λ t e j _ _ _. tt)),
-      (λ v h. more0 (v _) (λ all f t e j le s. (_, _, spells.of_chain grammar.cast_unary refl s)), λ t e j _ _ _. tt))
+  owes_cast d c i = (
+    λ z h. put1 z word.Integer (λ all f q le. (_, _, number_cast all c d i q le h)),
+    λ q w. (
+      (
+        λ v h. more2 (v _) word.RightParen word.Integer (λ all f t e j le s q1 q2. (
+          _,
+          _,
+          spells.of_alternative grammar.cast refl (spells.opens (f.words _ _ q) w (spells.part s
+              (spells.reopens q1 (late plain j (d + 1) le) (late opens j d le) (spells.part (number_cast all e (d + 1) (j + 1) q2 (omega arith) _) spells.done)))),
+        )),
+        λ t e j le _ x.
+            let ends : j ≡ length us → G part.Cast d c i = λ z h. put2 z word.RightParen word.Integer (λ all f q1 q2 le. (
+              _,
+              _,
+              spells.of_alternative grammar.cast refl (spells.opens (f.words _ _ q) w (spells.part (weaken f (x _))
+                  (spells.reopens q1 (late plain j (d + 1) le) (late opens j d le) (spells.part (number_cast all e (d + 1) (j + 1) q2 (omega arith) _) spells.done)))),
+            )) in (
+              ends,
+              λ q' w'. (
+                λ z h. put1 z word.Integer (λ all f q2 le. (
+                  _,
+                  _,
+                  spells.of_alternative grammar.cast refl (spells.opens (f.words _ _ q) w (spells.part (weaken f (x _))
+                      (spells.reopens (f.words _ _ q') w'.0 w'.1 (spells.part (number_cast all e (d + 1) (j + 1) q2 le _) spells.done)))),
+                )),
+                (
+                  λ v h. more0 (v _) (λ all f t' e' j' le s. (
+                    _,
+                    _,
+                    spells.of_alternative grammar.cast refl (spells.opens (f.words _ _ q) w (spells.part (weaken f (x _))
+                        (spells.reopens (f.words _ _ q') w'.0 w'.1 (spells.part s spells.done)))),
+                  )),
+                  λ t' e' j' _ _ _. tt,
+                ),
+              ),
+              ends,
+            ),
+      ),
+      (λ v h. more0 (v (λ all f r h e t j z. spells.opens (f.words _ _ q) w z) _) (λ all f t e j le s. (_, _, spells.of_chain grammar.cast_unary refl (spells.of_chain grammar.unary_postfix refl s))), λ t e j _ _ _. tt),
+    ),
+    (λ v h. more0 (v _) (λ all f t e j le s. (_, _, spells.of_chain grammar.cast_unary refl s)), λ t e j _ _ _. tt),
+  )
 
   owes_unary : (d : ℕ) (c : Scopes) (i : ℕ) → Owes (body (unary d)) (Via (unary d) c i) c i
   owes_unary d c i = words_fail us top Kept (Means us top) Via opens d (prefixed (unary (d + 1)) i) (choose opens cast_prefixes d (prefixed (cast (d + 1)) i) (sized d i)) (Via (unary d) c i) c i (Prefixes part.Unary) unary_rows begins
       (λ w k r q v. (λ y h. more0 (y _) (λ all f t e j le s. (_, _, spells.of_alternative r.0 (r.1 _) (spells.opens (f.words _ _ q) v (spells.part s spells.done)))), λ t e j _ _ _. tt))
       (words_fail us top Kept (Means us top) Via opens d (prefixed (cast (d + 1)) i) (sized d i) (Via (unary d) c i) c i (Prefixes part.Cast) cast_rows begins
-      (λ w k r q v. (λ y h. more0 (y _) (λ all f t e j le s. (_, _, spells.of_alternative r.0 (r.1 _) (spells.opens (f.words _ _ q) v (spells.part s spells.done)))), λ t e j _ _ _. tt))
-      (begins, λ q w. (λ v. v (λ all f r h e t j z. spells.opens (f.words _ _ q) w z), λ t e j _ _ _. tt),
-          (λ v h. more0 (v _) (λ all f t e j le s. (_, _, spells.of_chain grammar.unary_postfix refl s)), λ t e j _ _ _. tt)))
+      (λ w k r q v. (λ y h. more0 (y _) (λ all f t e j le s. (_, _, spells.of_alternative r.0 (r.1 _) (spells.opens (f.words _ _ q) v (spells.part s spells.done)))), λ t e j _ _ _. tt)) (
+        begins,
+        λ q w. (λ v. v (λ all f r h e t j z. spells.opens (f.words _ _ q) w z), λ t e j _ _ _. tt),
+        (λ v h. more0 (v _) (λ all f t e j le s. (_, _, spells.of_chain grammar.unary_postfix refl s)), λ t e j _ _ _. tt),
+      ))
     where
       begins : i ≡ length us → G part.Unary d c i
       begins z h = put1 z word.Integer (λ all f q le. (_, _, number_unary all c d i q le h))
 
   owes_measured : (d s : ℕ) (c : Scopes) (i : ℕ) → Owes (body (measured d s)) (Via (measured d s) c i) c i
-  owes_measured d s c i =
-      (λ z b h. put1 z word.Integer (λ all f q le. (_, _, spells.of_alternative grammar.sizeof_expression refl (b all f _ _ _ _ _ (spells.part (number_unary all c (d + 1) i q le _) spells.done)))),
-      λ q w. ((λ v b h. more1 (v _) word.RightParen (λ all f t e j le x q1. (_, _, spells.of_alternative grammar.sizeof_type refl (b all f _ _ _ _ _ (spells.opens (f.words _ _ q) w (spells.part x (spells.token q1 (late plain j (d + 1 + 1) le) spells.done)))))),
-              λ t e j _ _ x. (tt, λ q' w'. tt, λ z b h. put1 z word.RightParen (λ all f q1 le. (_, _, spells.of_alternative grammar.sizeof_type refl (b all f _ _ _ _ _ (spells.opens (f.words _ _ q) w
-                  (spells.part (weaken f (x _)) (spells.token q1 (late plain j (d + 1 + 1) le) spells.done)))))))),
-          (λ v b h. more0 (v (λ all f r h e t j z. spells.opens (f.words _ _ q) w z) _) (λ all f t e j le x. (_, _, spells.of_alternative grammar.sizeof_expression refl (b all f _ _ _ _ _ (spells.part (spells.of_chain grammar.unary_postfix refl x) spells.done)))),
-              λ t e j _ _ _. tt)),
-      (λ v b h. more0 (v _) (λ all f t e j le x. (_, _, spells.of_alternative grammar.sizeof_expression refl (b all f _ _ _ _ _ (spells.part x spells.done)))), λ t e j _ _ _. tt))
+  owes_measured d s c i = (
+    λ z b h. put1 z word.Integer (λ all f q le. (_, _, spells.of_alternative grammar.sizeof_expression refl (b all f _ _ _ _ _ (spells.part (number_unary all c (d + 1) i q le _) spells.done)))),
+    λ q w. (
+      (
+        λ v b h. more1 (v _) word.RightParen (λ all f t e j le x q1. (_, _, spells.of_alternative grammar.sizeof_type refl (b all f _ _ _ _ _ (spells.opens (f.words _ _ q) w (spells.part x (spells.token q1 (late plain j (d + 1 + 1) le) spells.done)))))),
+        λ t e j _ _ x. (
+          tt,
+          λ q' w'. tt,
+          λ z b h. put1 z word.RightParen (λ all f q1 le. (
+            _,
+            _,
+            spells.of_alternative grammar.sizeof_type refl (b all f _ _ _ _ _ (spells.opens (f.words _ _ q) w
+                (spells.part (weaken f (x _)) (spells.token q1 (late plain j (d + 1 + 1) le) spells.done)))),
+          )),
+        ),
+      ),
+      (
+        λ v b h. more0 (v (λ all f r h e t j z. spells.opens (f.words _ _ q) w z) _) (λ all f t e j le x. (_, _, spells.of_alternative grammar.sizeof_expression refl (b all f _ _ _ _ _ (spells.part (spells.of_chain grammar.unary_postfix refl x) spells.done)))),
+        λ t e j _ _ _. tt,
+      ),
+    ),
+    (λ v b h. more0 (v _) (λ all f t e j le x. (_, _, spells.of_alternative grammar.sizeof_expression refl (b all f _ _ _ _ _ (spells.part x spells.done)))), λ t e j _ _ _. tt),
+  )
 
   owes_postfix : (d : ℕ) (c : Scopes) (i : ℕ) → Owes (body (postfix d)) (Via (postfix d) c i) c i
-  owes_postfix d c i =
-      (tt, λ q w. (λ v. v (λ all f r h e t j z. spells.ordinary (weaken_name c i f q) w z), λ t e j _ _ _. tt),
-      words_fail us top Kept (Means us top) Via plain d (suffixed d i none) (other_primary d i) (Via (postfix d) c i) c i IsConstant constant_rows tt
-          (λ w k r q v. (λ y. y c (λ h. spells.of_chain grammar.postfix_primary refl (spells.of_alternative r.0 (r.1 _) (spells.token q v spells.done))), λ t e j _ _ _. tt))
-      (tt, λ q w. (λ v. absurd v, λ t e j _ _ x. (λ y. y c (λ h. subst (λ z. Spells us top (a part.Postfix) h c z d (one kind.Text i j none) i j) x.0
-              (spells.of_chain grammar.postfix_primary refl (spells.of_alternative grammar.string_literal refl (x.1 i (λ h. spells.texts_one q w) (λ h k z. spells.texts_more q w z) _)))), λ t' e' j' _ _ _. tt)),
-          (begins, λ q w. (λ v. v (λ all f r h e t j z. spells.opens (f.words _ _ q) w z), λ t e j _ _ _. tt), begins)))
+  owes_postfix d c i = (
+    tt,
+    λ q w. (λ v. v (λ all f r h e t j z. spells.ordinary (weaken_name c i f q) w z), λ t e j _ _ _. tt),
+    words_fail us top Kept (Means us top) Via plain d (suffixed d i none) (other_primary d i) (Via (postfix d) c i) c i IsConstant constant_rows tt
+        (λ w k r q v. (λ y. y c (λ h. spells.of_chain grammar.postfix_primary refl (spells.of_alternative r.0 (r.1 _) (spells.token q v spells.done))), λ t e j _ _ _. tt)) (
+          tt,
+          λ q w. (
+            λ v. absurd v,
+            λ t e j _ _ x. (
+              λ y. y c (λ h. subst (λ z. Spells us top (a part.Postfix) h c z d (one kind.Text i j none) i j) x.0
+                  (spells.of_chain grammar.postfix_primary refl (spells.of_alternative grammar.string_literal refl (x.1 i (λ h. spells.texts_one q w) (λ h k z. spells.texts_more q w z) _)))),
+              λ t' e' j' _ _ _. tt,
+            ),
+          ),
+          (begins, λ q w. (λ v. v (λ all f r h e t j z. spells.opens (f.words _ _ q) w z), λ t e j _ _ _. tt), begins),
+        ),
+  )
     where
       begins : i ≡ length us → G part.Postfix d c i
       begins z h = put1 z word.Integer (λ all f q le. (_, _, number_postfix all c d i q le h))
 
   owes_called : (d s : ℕ) (c : Scopes) (i : ℕ) → Owes (body (called d s)) (Via (called d s) c i) c i
-  owes_called d s c i =
-      (λ z b h. put0 z (_, _, spells.of_chain grammar.postfix_primary refl (spells.of_alternative grammar.identifier refl (b us (front_itself us) _ _ _ _ _ spells.done))),
-      λ q w. (tt, λ q' w'. (λ v b. v c (λ h. spells.of_alternative grammar.call refl (b us (front_itself us) _ _ _ _ _ (spells.opens q w (spells.list_none (spells.token q' w' spells.done))))), λ t e j _ _ _. tt),
-          (λ v b h. more0 (v _) (λ all f t e j le x. (_, _, spells.of_alternative grammar.call refl (b all f _ _ _ _ _ (spells.opens (f.words _ _ q) w (spells.list_some x))))),
-              λ t e j _ _ x. (λ v b. v c (λ h. subst (λ y. Spells us top (a part.Postfix) h c e d (one kind.Call s j y) s j) (sym x.1)
-                  (spells.of_alternative grammar.call refl (b us (front_itself us) _ _ _ _ _ (spells.opens q w (spells.list_some (x.2 _)))))), λ t' e' j' _ _ _. tt))),
-      (λ v b. v c (λ h. spells.of_chain grammar.postfix_primary refl (spells.of_alternative grammar.identifier refl (b us (front_itself us) _ _ _ _ _ spells.done))), λ t e j _ _ _. tt))
+  owes_called d s c i = (
+    λ z b h. put0 z (_, _, spells.of_chain grammar.postfix_primary refl (spells.of_alternative grammar.identifier refl (b us (front_itself us) _ _ _ _ _ spells.done))),
+    λ q w. (
+      tt,
+      λ q' w'. (λ v b. v c (λ h. spells.of_alternative grammar.call refl (b us (front_itself us) _ _ _ _ _ (spells.opens q w (spells.list_none (spells.token q' w' spells.done))))), λ t e j _ _ _. tt),
+      (
+        λ v b h. more0 (v _) (λ all f t e j le x. (_, _, spells.of_alternative grammar.call refl (b all f _ _ _ _ _ (spells.opens (f.words _ _ q) w (spells.list_some x))))),
+        λ t e j _ _ x. (
+          λ v b. v c (λ h. subst (λ y. Spells us top (a part.Postfix) h c e d (one kind.Call s j y) s j) (sym x.1)
+              (spells.of_alternative grammar.call refl (b us (front_itself us) _ _ _ _ _ (spells.opens q w (spells.list_some (x.2 _)))))),
+          λ t' e' j' _ _ _. tt,
+        ),
+      ),
+    ),
+    (λ v b. v c (λ h. spells.of_chain grammar.postfix_primary refl (spells.of_alternative grammar.identifier refl (b us (front_itself us) _ _ _ _ _ spells.done))), λ t e j _ _ _. tt),
+  )
 
   owes_grouped : (d s : ℕ) (c : Scopes) (i : ℕ) → Owes (body (grouped d s)) (Via (grouped d s) c i) c i
-  owes_grouped d s c i =
-      (λ v b h. more1 (v _) word.RightParen (λ all f t e j le x q1. (_, _, spells.of_chain grammar.postfix_primary refl (spells.of_alternative grammar.parenthesized refl (b all f _ _ _ _ _ (spells.part x (spells.token q1 (late plain j (d + 1) le) spells.done)))))),
-      λ t e j _ _ x. (tt, λ q w. (λ v b. v c (λ h. spells.of_chain grammar.postfix_primary refl (spells.of_alternative grammar.parenthesized refl (b us (front_itself us) _ _ _ _ _ (spells.part (x _) (spells.token q w spells.done))))), λ t' e' j' _ _ _. tt),
-          λ z b h. put1 z word.RightParen (λ all f q1 le. (_, _, spells.of_chain grammar.postfix_primary refl (spells.of_alternative grammar.parenthesized refl (b all f _ _ _ _ _ (spells.part (weaken f (x _)) (spells.token q1 (late plain j (d + 1) le) spells.done))))))))
+  owes_grouped d s c i = (
+    λ v b h. more1 (v _) word.RightParen (λ all f t e j le x q1. (_, _, spells.of_chain grammar.postfix_primary refl (spells.of_alternative grammar.parenthesized refl (b all f _ _ _ _ _ (spells.part x (spells.token q1 (late plain j (d + 1) le) spells.done)))))),
+    λ t e j _ _ x. (
+      tt,
+      λ q w. (λ v b. v c (λ h. spells.of_chain grammar.postfix_primary refl (spells.of_alternative grammar.parenthesized refl (b us (front_itself us) _ _ _ _ _ (spells.part (x _) (spells.token q w spells.done))))), λ t' e' j' _ _ _. tt),
+      λ z b h. put1 z word.RightParen (λ all f q1 le. (_, _, spells.of_chain grammar.postfix_primary refl (spells.of_alternative grammar.parenthesized refl (b all f _ _ _ _ _ (spells.part (weaken f (x _)) (spells.token q1 (late plain j (d + 1) le) spells.done)))))),
+    ),
+  )
 
   owes_arguments : (d : ℕ) (y : Trees) (c : Scopes) (i : ℕ) → Owes (body (arguments d y)) (Via (arguments d y) c i) c i
-  owes_arguments d y c i =
-      (λ v h. more1 (v _) word.RightParen (λ all f t e j le x q1. (_, _, spells.list_last x (spells.token q1 (late plain j (d + 1) le) spells.done))),
-      λ t e j _ _ x. (tt, λ q w. (λ v h. more0 (v _) (λ all f t' e' j' le z. (_, _, spells.list_more (weaken f (x _)) (f.words _ _ q) w z)), λ t' e' j' _ _ _. tt),
-          (tt, λ q w. tt, λ z h. put1 z word.RightParen (λ all f q1 le. (_, _, spells.list_last (weaken f (x _)) (spells.token q1 (late plain j (d + 1) le) spells.done))))))
+  owes_arguments d y c i = (
+    λ v h. more1 (v _) word.RightParen (λ all f t e j le x q1. (_, _, spells.list_last x (spells.token q1 (late plain j (d + 1) le) spells.done))),
+    λ t e j _ _ x. (
+      tt,
+      λ q w. (λ v h. more0 (v _) (λ all f t' e' j' le z. (_, _, spells.list_more (weaken f (x _)) (f.words _ _ q) w z)), λ t' e' j' _ _ _. tt),
+      (tt, λ q w. tt, λ z h. put1 z word.RightParen (λ all f q1 le. (_, _, spells.list_last (weaken f (x _)) (spells.token q1 (late plain j (d + 1) le) spells.done)))),
+    ),
+  )
 
   owes_suffixes : (d s : ℕ) (y : Trees) (c : Scopes) (i : ℕ) → Owes (body (suffixes d s y)) (Via (suffixes d s y) c i) c i
-  owes_suffixes d s y c i =
-      (alone, λ q w. (λ v c0 z h. more1 (v _) word.RightBracket (λ all f t e j le x q1. (_, _, spells.of_alternative grammar.subscript refl (spells.part (weaken f (z _)) (spells.opens (f.words _ _ q) w (spells.part x (spells.token q1 (late plain j (d + 1) le) spells.done)))))),
-          λ t e j _ _ x. (tt, λ q' w'. (λ v c0 z. v c0 (λ h. spells.of_alternative grammar.subscript refl (spells.part (z _) (spells.opens q w (spells.part (x _) (spells.token q' w' spells.done))))), λ t' e' j' _ _ _. tt),
-              λ z c0 g h. put1 z word.RightBracket (λ all f q1 le. (_, _, spells.of_alternative grammar.subscript refl (spells.part (weaken f (g _)) (spells.opens (f.words _ _ q) w (spells.part (weaken f (x _)) (spells.token q1 (late plain j (d + 1) le) spells.done)))))))),
-      (tt, λ q w. (tt, λ q' w'. (λ v c0 z. v c0 (λ h. spells.of_alternative grammar.member refl (spells.part (z _) (spells.token q w (spells.token q' w' spells.done)))), λ t e j _ _ _. tt),
-          λ z c0 g h. put1 z word.Identifier (λ all f q1 le. (_, _, spells.of_alternative grammar.member refl (spells.part (weaken f (g _)) (spells.token (f.words _ _ q) w (spells.token q1 (late plain (i + 1) d le) spells.done)))))),
-      (tt, λ q w. (tt, λ q' w'. (λ v c0 z. v c0 (λ h. spells.of_alternative grammar.pointer_member refl (spells.part (z _) (spells.token q w (spells.token q' w' spells.done)))), λ t e j _ _ _. tt),
-          λ z c0 g h. put1 z word.Identifier (λ all f q1 le. (_, _, spells.of_alternative grammar.pointer_member refl (spells.part (weaken f (g _)) (spells.token (f.words _ _ q) w (spells.token q1 (late plain (i + 1) d le) spells.done)))))),
-      words_fail us top Kept (Means us top) Via plain d (suffixed d s (y & none)) (suffixes_end d y) (Via (suffixes d s y) c i) c i Follows postfix_rows tt
-          (λ w k r q v. (λ z c0 g. z c0 (λ h. spells.of_alternative r.0 (r.1 _) (spells.part (g _) (spells.token q v spells.done))), λ t e j _ _ _. tt))
-          (λ u. tt, λ u. (alone, tt)))))
+  owes_suffixes d s y c i = (
+    alone,
+    λ q w. (
+      λ v c0 z h. more1 (v _) word.RightBracket (λ all f t e j le x q1. (_, _, spells.of_alternative grammar.subscript refl (spells.part (weaken f (z _)) (spells.opens (f.words _ _ q) w (spells.part x (spells.token q1 (late plain j (d + 1) le) spells.done)))))),
+      λ t e j _ _ x. (
+        tt,
+        λ q' w'. (λ v c0 z. v c0 (λ h. spells.of_alternative grammar.subscript refl (spells.part (z _) (spells.opens q w (spells.part (x _) (spells.token q' w' spells.done))))), λ t' e' j' _ _ _. tt),
+        λ z c0 g h. put1 z word.RightBracket (λ all f q1 le. (_, _, spells.of_alternative grammar.subscript refl (spells.part (weaken f (g _)) (spells.opens (f.words _ _ q) w (spells.part (weaken f (x _)) (spells.token q1 (late plain j (d + 1) le) spells.done)))))),
+      ),
+    ),
+    (
+      tt,
+      λ q w. (
+        tt,
+        λ q' w'. (λ v c0 z. v c0 (λ h. spells.of_alternative grammar.member refl (spells.part (z _) (spells.token q w (spells.token q' w' spells.done)))), λ t e j _ _ _. tt),
+        λ z c0 g h. put1 z word.Identifier (λ all f q1 le. (_, _, spells.of_alternative grammar.member refl (spells.part (weaken f (g _)) (spells.token (f.words _ _ q) w (spells.token q1 (late plain (i + 1) d le) spells.done))))),
+      ),
+      (
+        tt,
+        λ q w. (
+          tt,
+          λ q' w'. (λ v c0 z. v c0 (λ h. spells.of_alternative grammar.pointer_member refl (spells.part (z _) (spells.token q w (spells.token q' w' spells.done)))), λ t e j _ _ _. tt),
+          λ z c0 g h. put1 z word.Identifier (λ all f q1 le. (_, _, spells.of_alternative grammar.pointer_member refl (spells.part (weaken f (g _)) (spells.token (f.words _ _ q) w (spells.token q1 (late plain (i + 1) d le) spells.done))))),
+        ),
+        words_fail us top Kept (Means us top) Via plain d (suffixed d s (y & none)) (suffixes_end d y) (Via (suffixes d s y) c i) c i Follows postfix_rows tt
+            (λ w k r q v. (λ z c0 g. z c0 (λ h. spells.of_alternative r.0 (r.1 _) (spells.part (g _) (spells.token q v spells.done))), λ t e j _ _ _. tt))
+            (λ u. tt, λ u. (alone, tt)),
+      ),
+    ),
+  )
     where
       alone : i ≡ length us → Via (suffixes d s y) c i
       alone z c0 g h = put0 z (_, _, g h)
@@ -441,9 +586,10 @@ module _ (us : List Lexeme) (top : Limit) (late : (g : Manner) (i d : ℕ) → l
   one_declarator (one_unnamed y g) = none_true y
 
   owes_type_name : (d : ℕ) (c : Scopes) (i : ℕ) → Owes (body (type_name d)) (Via (type_name d) c i) c i
-  owes_type_name d c i =
-      (λ v h. more0 v (λ all f t e j le s. (_, _, spells.of_chain grammar.type_name_plain refl s)),
-      λ t e j _ _ x. ((λ v h. more0 (one_abstract v _) (λ all f t' e' j' le s. (_, _, spells.of_alternative grammar.type_name refl (spells.part (weaken f x) (spells.part s spells.done)))), λ t' e' j' _ _ _. tt), tt))
+  owes_type_name d c i = (
+    λ v h. more0 v (λ all f t e j le s. (_, _, spells.of_chain grammar.type_name_plain refl s)),
+    λ t e j _ _ x. ((λ v h. more0 (one_abstract v _) (λ all f t' e' j' le s. (_, _, spells.of_alternative grammar.type_name refl (spells.part (weaken f x) (spells.part s spells.done)))), λ t' e' j' _ _ _. tt), tt),
+  )
 
   -- a row of specifiers with one more
   row_more : (p : Part) (y : Trees) {all : List Lexeme} {h0 h : Context} {c0 c e f : Scopes} {d s i j k : ℕ} {t u : Trees} → IsRowBegin all top p d h0 c0 s y h c i → Spells all top (a (element_part p)) h c e d t i j →
@@ -452,44 +598,65 @@ module _ (us : List Lexeme) (top : Limit) (late : (g : Manner) (i d : ℕ) → l
       subst (λ v. Spells all top (rest (many (element_part p) ∷ [])) h0 c0 f d v s k) (sym (pushed y t u)) (b _ _ _ (spells.many_more x z))
 
   owes_row : (p : Part) (h : Context) (d : ℕ) (c : Scopes) (i : ℕ) → Owes (body (row p h d)) (Via (row p h d) c i) c i
-  owes_row p h d c i =
-      (λ v. more0 v (λ all f t e j le s. (_, _, row_alone all top p s)),
-      λ t e j _ _ x. (λ v. v h c (part_some x none) (λ all f u g k z. subst (λ y. Spells all top (rest (many (element_part p) ∷ [])) h c g d y i k) (sym (and_and t none u)) (spells.many_more (weaken f x) z)), λ t' e' j' _ _ _. tt))
+  owes_row p h d c i = (
+    λ v. more0 v (λ all f t e j le s. (_, _, row_alone all top p s)),
+    λ t e j _ _ x. (λ v. v h c (part_some x none) (λ all f u g k z. subst (λ y. Spells all top (rest (many (element_part p) ∷ [])) h c g d y i k) (sym (and_and t none u)) (spells.many_more (weaken f x) z)), λ t' e' j' _ _ _. tt),
+  )
 
   owes_more : (p : Part) (h : Context) (d s : ℕ) (y : Trees) (c : Scopes) (i : ℕ) → Owes (body (more p h d s y)) (Via (more p h d s y) c i) c i
-  owes_more p h d s y c i =
-      ((λ v h0 c0 n b. more0 v (λ all f t e j le x. (_, _, row_made all top p (pushed_some y (t & none) n)
-              (subst (λ z. Spells all top (rest (many (element_part p) ∷ [])) h0 c0 e d z s j) (and_none (y & t & none)) (row_more p y (b all f) x (spells.many_none spells.done))))),
-          λ t e j _ _ x. (λ v h0 c0 n b. v h0 c0 (pushed_some y (t & none) n) (λ all f u g k z. row_more p y (b all f) (weaken f x) z), λ t' e' j' _ _ _. tt)), tt)
+  owes_more p h d s y c i = (
+    (
+      λ v h0 c0 n b. more0 v (λ all f t e j le x. (
+        _,
+        _,
+        row_made all top p (pushed_some y (t & none) n)
+            (subst (λ z. Spells all top (rest (many (element_part p) ∷ [])) h0 c0 e d z s j) (and_none (y & t & none)) (row_more p y (b all f) x (spells.many_none spells.done))),
+      )),
+      λ t e j _ _ x. (λ v h0 c0 n b. v h0 c0 (pushed_some y (t & none) n) (λ all f u g k z. row_more p y (b all f) (weaken f x) z), λ t' e' j' _ _ _. tt),
+    ),
+    tt,
+  )
 
   owes_element : (p : Part) (h : Context) (d : ℕ) (c : Scopes) (i : ℕ) → Owes (body (element p h d)) (Via (element p h d) c i) c i
-  owes_element p h d c i = words_fail us top Kept (Means us top) Via plain d (λ k. made k i none) (other_element h d i) (Via (element p h d) c i) c i (Specifies us top p) (specifier_rows us top p) tt (λ w k r q v. tt)
-      (tt, λ q w. (λ v. more0 (v (λ all f r h e t j z. spells.token (f.words _ _ q) w z) h) (λ all f t e j le s. (_, _, plain_up all top p s)), λ t e j _ _ _. tt),
-      (tt, λ q w. (λ v. more0 (v (λ all f r h e t j z. spells.token (f.words _ _ q) w z) h) (λ all f t e j le s. (_, _, plain_up all top p s)), λ t e j _ _ _. tt),
-      (tt, λ q w. tt, λ z. put1 z word.Int (λ all f q le. (_, _, plain_up all top p (spells.of_alternative grammar.type_int refl (spells.token q (late plain i d le) spells.done)))))))
+  owes_element p h d c i = words_fail us top Kept (Means us top) Via plain d (λ k. made k i none) (other_element h d i) (Via (element p h d) c i) c i (Specifies us top p) (specifier_rows us top p) tt (λ w k r q v. tt) (
+    tt,
+    λ q w. (λ v. more0 (v (λ all f r h e t j z. spells.token (f.words _ _ q) w z) h) (λ all f t e j le s. (_, _, plain_up all top p s)), λ t e j _ _ _. tt),
+    (
+      tt,
+      λ q w. (λ v. more0 (v (λ all f r h e t j z. spells.token (f.words _ _ q) w z) h) (λ all f t e j le s. (_, _, plain_up all top p s)), λ t e j _ _ _. tt),
+      (tt, λ q w. tt, λ z. put1 z word.Int (λ all f q le. (_, _, plain_up all top p (spells.of_alternative grammar.type_int refl (spells.token q (late plain i d le) spells.done))))),
+    ),
+  )
 
   owes_structure : (d s : ℕ) (c : Scopes) (i : ℕ) → Owes (body (structure d s)) (Via (structure d s) c i) c i
-  owes_structure d s c i =
-      (tt, λ q w. (λ z b h. put0 z (_, _, spells.of_alternative grammar.struct_tag refl (b us (front_itself us) _ _ _ _ _ (spells.token q w spells.done))),
-          λ q' w'. (λ v b h. more0 (v _) (λ all f t e j le x. (_, _, spells.of_alternative grammar.struct_content refl (b all f _ _ _ _ _ (spells.tag_some (f.words _ _ q) w (f.words _ _ q') w' x)))), λ t e j _ _ _. tt), tt),
-      (tagged, λ q w. (λ v b h. more0 (v _) (λ all f t e j le x. (_, _, spells.of_alternative grammar.struct_content refl (b all f _ _ _ _ _ (spells.tag_none (f.words _ _ q) w x)))), λ t e j _ _ _. tt), tagged))
+  owes_structure d s c i = (
+    tt,
+    λ q w. (
+      λ z b h. put0 z (_, _, spells.of_alternative grammar.struct_tag refl (b us (front_itself us) _ _ _ _ _ (spells.token q w spells.done))),
+      λ q' w'. (λ v b h. more0 (v _) (λ all f t e j le x. (_, _, spells.of_alternative grammar.struct_content refl (b all f _ _ _ _ _ (spells.tag_some (f.words _ _ q) w (f.words _ _ q') w' x)))), λ t e j _ _ _. tt),
+      tt,
+    ),
+    (tagged, λ q w. (λ v b h. more0 (v _) (λ all f t e j le x. (_, _, spells.of_alternative grammar.struct_content refl (b all f _ _ _ _ _ (spells.tag_none (f.words _ _ q) w x)))), λ t e j _ _ _. tt), tagged),
+  )
     where
       tagged : i ≡ length us → Via (structure d s) c i
       tagged z b h = put1 z word.Identifier (λ all f q le. (_, _, spells.of_alternative grammar.struct_tag refl (b all f _ _ _ _ _ (spells.token q (late plain i d le) spells.done))))
 
   owes_members : (d s : ℕ) (y : Trees) (c : Scopes) (i : ℕ) → Owes (body (members d s y)) (Via (members d s y) c i) c i
-  owes_members d s y c i =
-      (λ v h. more1 (v _) word.RightBrace (λ all f t e j le x q1. (_, _, spells.part x (spells.many_none (spells.token q1 (late plain j (d + 1) le) spells.done)))),
-      λ t e j _ _ x. (tt, λ q w. tt, (λ v h. more0 (v _) (λ all f t' e' j' le z. (_, _, spells.part (weaken f (x _)) (many_of z))), λ t' e' j' _ _ _. tt)))
+  owes_members d s y c i = (
+    λ v h. more1 (v _) word.RightBrace (λ all f t e j le x q1. (_, _, spells.part x (spells.many_none (spells.token q1 (late plain j (d + 1) le) spells.done)))),
+    λ t e j _ _ x. (tt, λ q w. tt, (λ v h. more0 (v _) (λ all f t' e' j' le z. (_, _, spells.part (weaken f (x _)) (many_of z))), λ t' e' j' _ _ _. tt)),
+  )
 
   -- a member's declarator, from one whose own scope is open
   as_member : {all : List Lexeme} {h : Context} {c e : Scopes} {d i j : ℕ} {t : Trees} → Spells all top (a part.Declarator) h c e d t i j → Spells all top (a part.MemberDeclarator) h c (around e) d t i j
   as_member {all = all} {h = h} {c = c} {d = d} {i = i} {j = j} {t = t} s = spells.member_declarator (subst (λ z. Spells all top (a part.Declarator) h c z d t i j) (owned facts.by_declarator s) s)
 
   owes_member : (d : ℕ) (c : Scopes) (i : ℕ) → Owes (body (member d)) (Via (member d) c i) c i
-  owes_member d c i =
-      (λ v h. with_member v,
-      λ t e j _ _ x. (λ v h. more0 v (λ all f t' e' j' le z. (_, _, spells.of_alternative grammar.struct_declaration refl (spells.part (weaken f x) z))), λ t' e' j' _ _ _. tt))
+  owes_member d c i = (
+    λ v h. with_member v,
+    λ t e j _ _ x. (λ v h. more0 v (λ all f t' e' j' le z. (_, _, spells.of_alternative grammar.struct_declaration refl (spells.part (weaken f x) z))), λ t' e' j' _ _ _. tt),
+  )
     where
       with_member : {h : Context} → Grown us top (a part.PlainSpecifiers) fresh c d i → Grown us top (a part.MemberDeclaration) h c d i
       with_member g =
@@ -502,35 +669,53 @@ module _ (us : List Lexeme) (top : Limit) (late : (g : Manner) (i d : ℕ) → l
           let f24 = front_then x2.front f34 in
           let f14 = front_then x1.front f24 in
           let b = bracketed x4.all (past_part fresh g.built.0) g.built.1 d g.end (f24.words _ _ x1.word) (f34.words _ _ x2.word) (x4.front.words _ _ x3.word) g.late in
-          record { all = x4.all; front = front_then g.front f14; end = g.end + 1 + 1 + 1 + 1; size = x4.size; late = omega arith;
-              built = (_, _, spells.of_alternative grammar.struct_declaration refl (spells.part (weaken f14 g.built.2) (spells.list_last (as_member b.2) (spells.token x4.word (late plain (g.end + 1 + 1 + 1) d (omega arith)) spells.done)))) }
+          record {
+            all = x4.all;
+            front = front_then g.front f14;
+            end = g.end + 1 + 1 + 1 + 1;
+            size = x4.size;
+            late = omega arith;
+            built = (_, _, spells.of_alternative grammar.struct_declaration refl (spells.part (weaken f14 g.built.2) (spells.list_last (as_member b.2) (spells.token x4.word (late plain (g.end + 1 + 1 + 1) d (omega arith)) spells.done))));
+          }
 
   owes_member_declarators : (h : Context) (d s : ℕ) (y : Trees) (c : Scopes) (i : ℕ) → Owes (body (member_declarators h d s y)) (Via (member_declarators h d s y) c i) c i
-  owes_member_declarators h d s y c i =
-      (λ v. more1 (one_declarator v) word.Semicolon (λ all f t e j le x q1. (_, _, spells.list_last (as_member x) (spells.token q1 (late plain j d le) spells.done))),
-      λ t e j _ _ x.
-          let ends : j ≡ length us → Via (member_declarators h d s y) c i = λ z. put1 z word.Semicolon (λ all f q1 le. (_, _, spells.list_last (weaken f (dropped_member us top x)) (spells.token q1 (late plain j d le) spells.done))) in
-          (ends, (tt, λ q w. (λ v. more0 v (λ all f t' e' j' le z. (_, _, spells.list_more (weaken f (dropped_member us top x)) (f.words _ _ q) w z)), λ t' e' j' _ _ _. tt), (tt, λ q w. tt, ends))))
+  owes_member_declarators h d s y c i = (
+    λ v. more1 (one_declarator v) word.Semicolon (λ all f t e j le x q1. (_, _, spells.list_last (as_member x) (spells.token q1 (late plain j d le) spells.done))),
+    λ t e j _ _ x.
+        let ends : j ≡ length us → Via (member_declarators h d s y) c i = λ z. put1 z word.Semicolon (λ all f q1 le. (_, _, spells.list_last (weaken f (dropped_member us top x)) (spells.token q1 (late plain j d le) spells.done))) in
+        (ends, (tt, λ q w. (λ v. more0 v (λ all f t' e' j' le z. (_, _, spells.list_more (weaken f (dropped_member us top x)) (f.words _ _ q) w z)), λ t' e' j' _ _ _. tt), (tt, λ q w. tt, ends))),
+  )
 
   owes_enumeration : (d s : ℕ) (c : Scopes) (i : ℕ) → Owes (body (enumeration d s)) (Via (enumeration d s) c i) c i
-  owes_enumeration d s c i =
-      (tt, λ q w. (λ z b h. put0 z (_, _, spells.of_alternative grammar.enum_tag refl (b us (front_itself us) _ _ _ _ _ (spells.token q w spells.done))),
-          λ q' w'. (λ v b h. more0 (v _) (λ all f t e j le x. (_, _, spells.of_alternative grammar.enum_content refl (b all f _ _ _ _ _ (spells.tag_some (f.words _ _ q) w (f.words _ _ q') w' x)))), λ t e j _ _ _. tt), tt),
-      (tagged, λ q w. (λ v b h. more0 (v _) (λ all f t e j le x. (_, _, spells.of_alternative grammar.enum_content refl (b all f _ _ _ _ _ (spells.tag_none (f.words _ _ q) w x)))), λ t e j _ _ _. tt), tagged))
+  owes_enumeration d s c i = (
+    tt,
+    λ q w. (
+      λ z b h. put0 z (_, _, spells.of_alternative grammar.enum_tag refl (b us (front_itself us) _ _ _ _ _ (spells.token q w spells.done))),
+      λ q' w'. (λ v b h. more0 (v _) (λ all f t e j le x. (_, _, spells.of_alternative grammar.enum_content refl (b all f _ _ _ _ _ (spells.tag_some (f.words _ _ q) w (f.words _ _ q') w' x)))), λ t e j _ _ _. tt),
+      tt,
+    ),
+    (tagged, λ q w. (λ v b h. more0 (v _) (λ all f t e j le x. (_, _, spells.of_alternative grammar.enum_content refl (b all f _ _ _ _ _ (spells.tag_none (f.words _ _ q) w x)))), λ t e j _ _ _. tt), tagged),
+  )
     where
       tagged : i ≡ length us → Via (enumeration d s) c i
       tagged z b h = put1 z word.Identifier (λ all f q le. (_, _, spells.of_alternative grammar.enum_tag refl (b all f _ _ _ _ _ (spells.token q (late plain i d le) spells.done))))
 
   owes_enumerators : (d s : ℕ) (y : Trees) (c : Scopes) (i : ℕ) → Owes (body (enumerators d s y)) (Via (enumerators d s y) c i) c i
-  owes_enumerators d s y c i =
-      (λ v h. more1 (v _) word.RightBrace (λ all f t e j le x q1. (_, _, spells.list_last x (spells.comma_none q1 (late plain j (d + 1) le) spells.done))),
-      λ t e j _ _ x. (tt, λ q w. (tt, λ q' w'. tt, (λ v h. more0 (v _) (λ all f t' e' j' le z. (_, _, spells.list_more (weaken f (x _)) (f.words _ _ q) w z)), λ t' e' j' _ _ _. tt)),
-          (tt, λ q w. tt, λ z h. put1 z word.RightBrace (λ all f q1 le. (_, _, spells.list_last (weaken f (x _)) (spells.comma_none q1 (late plain j (d + 1) le) spells.done))))))
+  owes_enumerators d s y c i = (
+    λ v h. more1 (v _) word.RightBrace (λ all f t e j le x q1. (_, _, spells.list_last x (spells.comma_none q1 (late plain j (d + 1) le) spells.done))),
+    λ t e j _ _ x. (
+      tt,
+      λ q w. (tt, λ q' w'. tt, (λ v h. more0 (v _) (λ all f t' e' j' le z. (_, _, spells.list_more (weaken f (x _)) (f.words _ _ q) w z)), λ t' e' j' _ _ _. tt)),
+      (tt, λ q w. tt, λ z h. put1 z word.RightBrace (λ all f q1 le. (_, _, spells.list_last (weaken f (x _)) (spells.comma_none q1 (late plain j (d + 1) le) spells.done)))),
+    ),
+  )
 
   owes_enumerator : (d : ℕ) (c : Scopes) (i : ℕ) → Owes (body (enumerator d)) (Via (enumerator d) c i) c i
-  owes_enumerator d c i =
-      (tt, λ q w. (tt, λ q' w'. (λ v h. more0 (v _) (λ all f t e j le x. (_, _, spells.of_alternative grammar.enumerator refl (spells.enumerates (f.words _ _ q) w (spells.value_some (f.words _ _ q') w' x spells.done)))), λ t e j _ _ _. tt), tt),
-      λ z h. put1 z word.Identifier (λ all f q le. (_, _, spells.of_alternative grammar.enumerator refl (spells.enumerates q (late plain i d le) (spells.value_none spells.done)))))
+  owes_enumerator d c i = (
+    tt,
+    λ q w. (tt, λ q' w'. (λ v h. more0 (v _) (λ all f t e j le x. (_, _, spells.of_alternative grammar.enumerator refl (spells.enumerates (f.words _ _ q) w (spells.value_some (f.words _ _ q') w' x spells.done)))), λ t e j _ _ _. tt), tt),
+    λ z h. put1 z word.Identifier (λ all f q le. (_, _, spells.of_alternative grammar.enumerator refl (spells.enumerates q (late plain i d le) (spells.value_none spells.done)))),
+  )
 
   -- Declarators.
 
@@ -541,40 +726,84 @@ module _ (us : List Lexeme) (top : Limit) (late : (g : Manner) (i d : ℕ) → l
   one_from unnamed h c d i z = one_unnamed refl (λ h'. put1 z word.Star (λ all f q le. (_, _, spells.of_alternative grammar.abstract_pointer refl (spells.opens q (late opens i d le) (spells.qualified_none const_none)))))
 
   one_pointer : (w : Wanted) (h : Context) (d : ℕ) (c : Scopes) (i : ℕ) → Is us i word.Star → Within top i d → {e : Scopes} {j : ℕ} → (c ≡ e) × AreConst us top (d + 1) (i + 1) j → OneDeclared w (past_token h) e (d + 1) j → OneDeclared w h c d i
-  one_pointer w h d c i q v {j = k} x (one_named y g) = one_named y (more0 g (λ all f t e j le s. (_, _, spells.of_alternative grammar.pointer_declarator refl (spells.opens (f.words _ _ q) v
-      (spells.qualified (weaken_consts f x.1) (subst (λ z. Spells all top (a part.Declarator) (past_token h) z e (d + 1) t k j) (sym x.0) s))))))
-  one_pointer w h d c i q v {j = k} x (one_unnamed y g) = one_unnamed y (λ h'. more0 (g (past_token fresh)) (λ all f t e j le s. (_, _, spells.of_alternative grammar.abstract_pointer refl (spells.opens (f.words _ _ q) v
-      (spells.qualified_some (weaken_consts f x.1) (subst (λ z. Spells all top (a part.Abstract) (past_token fresh) z e (d + 1) t k j) (sym x.0) s))))))
+  one_pointer w h d c i q v {j = k} x (one_named y g) = one_named y (more0 g (λ all f t e j le s. (
+    _,
+    _,
+    spells.of_alternative grammar.pointer_declarator refl (spells.opens (f.words _ _ q) v
+        (spells.qualified (weaken_consts f x.1) (subst (λ z. Spells all top (a part.Declarator) (past_token h) z e (d + 1) t k j) (sym x.0) s))),
+  )))
+  one_pointer w h d c i q v {j = k} x (one_unnamed y g) = one_unnamed y (λ h'. more0 (g (past_token fresh)) (λ all f t e j le s. (
+    _,
+    _,
+    spells.of_alternative grammar.abstract_pointer refl (spells.opens (f.words _ _ q) v
+        (spells.qualified_some (weaken_consts f x.1) (subst (λ z. Spells all top (a part.Abstract) (past_token fresh) z e (d + 1) t k j) (sym x.0) s))),
+  )))
 
   one_group : (w : Wanted) (h : Context) (d : ℕ) (c : Scopes) (i : ℕ) → Is us i word.LeftParen → Within top i d → OneDeclared w (past_token h) c (d + 1) (i + 1) → OneDeclared w h c d i
-  one_group w h d c i q v (one_named y g) = one_named y (more1 g word.RightParen (λ all f t e j le s q1. (_, _, spells.of_chain grammar.declarator_direct refl (spells.of_alternative grammar.group_declarator refl
-      (spells.opens (f.words _ _ q) v (spells.part s (spells.token q1 (late plain j (d + 1) le) spells.done)))))))
-  one_group w h d c i q v (one_unnamed y g) = one_unnamed y (λ h'. more1 (g _) word.RightParen (λ all f t e j le s q1. (_, _, spells.of_chain grammar.abstract_direct refl (spells.of_alternative grammar.abstract_group refl
-      (spells.opens (f.words _ _ q) v (spells.part s (spells.token q1 (late plain j (d + 1) le) spells.done)))))))
+  one_group w h d c i q v (one_named y g) = one_named y (more1 g word.RightParen (λ all f t e j le s q1. (
+    _,
+    _,
+    spells.of_chain grammar.declarator_direct refl (spells.of_alternative grammar.group_declarator refl
+        (spells.opens (f.words _ _ q) v (spells.part s (spells.token q1 (late plain j (d + 1) le) spells.done)))),
+  )))
+  one_group w h d c i q v (one_unnamed y g) = one_unnamed y (λ h'. more1 (g _) word.RightParen (λ all f t e j le s q1. (
+    _,
+    _,
+    spells.of_chain grammar.abstract_direct refl (spells.of_alternative grammar.abstract_group refl
+        (spells.opens (f.words _ _ q) v (spells.part s (spells.token q1 (late plain j (d + 1) le) spells.done)))),
+  )))
 
   -- a group that was read, before its `)`
   group_ends : (w : Wanted) (h : Context) (d : ℕ) (c : Scopes) (i : ℕ) → Is us i word.LeftParen → Within top i d → {t : Trees} {e : Scopes} {j : ℕ} → Declared us top w (past_token h) (d + 1) c (i + 1) t e j → j ≡ length us → OneDeclared w h c d i
-  group_ends w h d c i q v {j = j} (with_name x y o s) z = one_named y (put1 z word.RightParen (λ all f q1 le. (_, _, spells.of_chain grammar.declarator_direct refl (spells.of_alternative grammar.group_declarator refl
-      (spells.opens (f.words _ _ q) v (spells.part (weaken f s) (spells.token q1 (late plain j (d + 1) le) spells.done)))))))
-  group_ends w h d c i q v {j = j} (without x y s) z = one_unnamed y (λ h'. put1 z word.RightParen (λ all f q1 le. (_, _, spells.of_chain grammar.abstract_direct refl (spells.of_alternative grammar.abstract_group refl
-      (spells.opens (f.words _ _ q) v (spells.part (weaken f (s _)) (spells.token q1 (late plain j (d + 1) le) spells.done)))))))
+  group_ends w h d c i q v {j = j} (with_name x y o s) z = one_named y (put1 z word.RightParen (λ all f q1 le. (
+    _,
+    _,
+    spells.of_chain grammar.declarator_direct refl (spells.of_alternative grammar.group_declarator refl
+        (spells.opens (f.words _ _ q) v (spells.part (weaken f s) (spells.token q1 (late plain j (d + 1) le) spells.done)))),
+  )))
+  group_ends w h d c i q v {j = j} (without x y s) z = one_unnamed y (λ h'. put1 z word.RightParen (λ all f q1 le. (
+    _,
+    _,
+    spells.of_chain grammar.abstract_direct refl (spells.of_alternative grammar.abstract_group refl
+        (spells.opens (f.words _ _ q) v (spells.part (weaken f (s _)) (spells.token q1 (late plain j (d + 1) le) spells.done)))),
+  )))
 
   sized_grown : {q : Phrase} {h : Context} {c c' : Scopes} {d s i : ℕ} → OneSize c' d i → ((all : List Lexeme) (f : Front us all) (t : Trees) (e : Scopes) (j : ℕ) → IsSize all top d c' i t e j → Built all top q h c d s j) → Grown us top q h c d s
   sized_grown g k = record { all = g.all; front = g.front; end = g.end; size = g.size; late = g.beyond; built = k g.all g.front g.trees g.after g.end g.is_size }
 
   owes_declarator : (w : Wanted) (h : Context) (d : ℕ) (c : Scopes) (i : ℕ) → Owes (body (declarator w h d)) (Via (declarator w h d) c i) c i
-  owes_declarator w h d c i =
-      (one_from w h c d i, λ q v. (λ y. absurd y, λ t e j _ _ x. (λ o. ((λ y. one_pointer w h d c i q v x y, λ t' e' j' _ _ _. (λ y. tt, λ y. tt)), tt), λ o. (λ y. one_pointer w h d c i q v x y, λ t' e' j' _ _ _. (λ y. tt, λ y. tt)))),
-      (one_from w h c d i, λ q v. (λ y. one_group w h d c i q v y, λ t e j _ _ x. (tt, λ q' v'.
-              (λ y. (λ k. let n = group_named us top w h d c i q v x y q' v' in one_named n.0 (more0 (k h c n.1 n.2) (λ all f t' e' j' le s. (_, _, spells.of_chain grammar.declarator_direct refl s))), λ t' e' j' _ _ _. tt),
-              λ y. (λ k. let n = group_unnamed us top w h d c i q v x y q' v' in one_unnamed n.0 (λ h'. more0 (k c n.1 _) (λ all f t' e' j' le s. (_, _, spells.of_chain grammar.abstract_direct refl s))), λ t' e' j' _ _ _. tt)),
-              group_ends w h d c i q v x)),
-      (λ o. (tt, λ q v. (λ k. one_named o (more0 (k h c refl (spells.of_alternative grammar.name_declarator refl (spells.declared q.0 q.1 v spells.done))) (λ all f t e j le s. (_, _, spells.of_chain grammar.declarator_direct refl s))), λ t e j _ _ _. tt), arrays), λ o. arrays)))
+  owes_declarator w h d c i = (
+    one_from w h c d i,
+    λ q v. (λ y. absurd y, λ t e j _ _ x. (λ o. ((λ y. one_pointer w h d c i q v x y, λ t' e' j' _ _ _. (λ y. tt, λ y. tt)), tt), λ o. (λ y. one_pointer w h d c i q v x y, λ t' e' j' _ _ _. (λ y. tt, λ y. tt)))),
+    (
+      one_from w h c d i,
+      λ q v. (
+        λ y. one_group w h d c i q v y,
+        λ t e j _ _ x. (
+          tt,
+          λ q' v'. (
+            λ y. (λ k. let n = group_named us top w h d c i q v x y q' v' in one_named n.0 (more0 (k h c n.1 n.2) (λ all f t' e' j' le s. (_, _, spells.of_chain grammar.declarator_direct refl s))), λ t' e' j' _ _ _. tt),
+            λ y. (λ k. let n = group_unnamed us top w h d c i q v x y q' v' in one_unnamed n.0 (λ h'. more0 (k c n.1 _) (λ all f t' e' j' le s. (_, _, spells.of_chain grammar.abstract_direct refl s))), λ t' e' j' _ _ _. tt),
+          ),
+          group_ends w h d c i q v x,
+        ),
+      ),
+      (λ o. (tt, λ q v. (λ k. one_named o (more0 (k h c refl (spells.of_alternative grammar.name_declarator refl (spells.declared q.0 q.1 v spells.done))) (λ all f t e j le s. (_, _, spells.of_chain grammar.declarator_direct refl s))), λ t e j _ _ _. tt), arrays), λ o. arrays),
+    ),
+  )
     where
       arrays : Owes (array_start w d i) (OneDeclared w h c d i) c i
-      arrays = (λ o. (one_from w h c d i, λ q v. (λ k. one_unnamed o (λ h'. sized_grown k (λ all f t e j x. (_, _, spells.of_chain grammar.abstract_direct refl (spells.of_alternative grammar.abstract_array refl (spells.opens (f.words _ _ q) v (array_of all top x _)))))),
-          λ t e j _ _ x. (λ k. one_unnamed o (λ h'. more0 (k c (λ h. spells.of_alternative grammar.abstract_array refl (spells.opens q v (array_of us top x _))) _) (λ all f t' e' j' le s. (_, _, spells.of_chain grammar.abstract_direct refl s))), λ t' e' j' _ _ _. tt)),
-          one_from w h c d i), λ o. one_from w h c d i)
+      arrays = (
+        λ o. (
+          one_from w h c d i,
+          λ q v. (
+            λ k. one_unnamed o (λ h'. sized_grown k (λ all f t e j x. (_, _, spells.of_chain grammar.abstract_direct refl (spells.of_alternative grammar.abstract_array refl (spells.opens (f.words _ _ q) v (array_of all top x _)))))),
+            λ t e j _ _ x. (λ k. one_unnamed o (λ h'. more0 (k c (λ h. spells.of_alternative grammar.abstract_array refl (spells.opens q v (array_of us top x _))) _) (λ all f t' e' j' le s. (_, _, spells.of_chain grammar.abstract_direct refl s))), λ t' e' j' _ _ _. tt),
+          ),
+          one_from w h c d i,
+        ),
+        λ o. one_from w h c d i,
+      )
 
   -- an array's bracket with the scope of its declarator's parameters aside
   array_opened : {all : List Lexeme} {h : Context} {c e : Scopes} {d i j : ℕ} {t : Trees} → IsOpen c → Is all i word.LeftBracket → Within top i d → IsSize all top d (around c) (i + 1) t e j →
@@ -583,27 +812,53 @@ module _ (us : List Lexeme) (top : Limit) (late : (g : Manner) (i d : ℕ) → l
       subst (λ v. Spells all top (rest (grammar.opening word.LeftBracket ∷ symbol.Size ∷ closing word.RightBracket ∷ [])) h v (innermost_of c ∷ e) d t i j) (sym o) (spells.opens q w (array_size all top x _ (innermost_of c)))
 
   owes_declarator_suffixes : (d s : ℕ) (y : Trees) (c : Scopes) (i : ℕ) → Owes (body (declarator_suffixes d s y)) (Via (declarator_suffixes d s y) c i) c i
-  owes_declarator_suffixes d s y c i =
-      (alone, λ q w. (λ v h c0 o z. sized_grown v (λ all f t e j x. (_, _, spells.of_alternative grammar.array_declarator refl (spells.part (weaken f z) (array_opened o (f.words _ _ q) w x)))),
-          λ t e j _ _ x. (λ v h c0 o z. v h c0 refl (spells.of_alternative grammar.array_declarator refl (spells.part z (array_opened o q w x))), λ t' e' j' _ _ _. tt)),
-      (alone, λ q w. (tt, λ q' w'. (λ v h c0 o z. v h c0 o (spells.of_alternative grammar.function_declarator refl (spells.part z (spells.opens q w (spells.prototype_none (spells.token q' w' spells.done))))), λ t e j _ _ _. tt),
-          (λ v h c0 o z. more1 (v fresh) word.RightParen (λ all f t e j le x q1.
-                  let n = runs_kept (parameters (d + 1)) ([] ∷ around c) e (i + 1) j t (completes all top task.parameters x q1) in
-                  (_, _, spells.of_alternative grammar.function_declarator refl (spells.part (weaken f z) (parameters_of all top h (weaken f z) o (open_of e (omega arith)) (λ h'. parameters_anywhere x h') (f.words _ _ q) w q1 (late plain j (d + 1) le))))),
-              λ t e j _ k x. (tt, λ q' w'. (λ v h c0 o z. v h c0 refl (spells.of_alternative grammar.function_declarator refl (spells.part z (parameters_of us top h z o (open_of e (omega arith)) x q w q' w'))), λ t' e' j' _ _ _. tt),
-                  λ z' h c0 o z. put1 z' word.RightParen (λ all f q1 le. (_, _, spells.of_alternative grammar.function_declarator refl (spells.part (weaken f z)
-                      (parameters_of all top h (weaken f z) o (open_of e (omega arith)) (λ h'. weaken f (x h')) (f.words _ _ q) w q1 (late plain j (d + 1) le)))))))), tt))
+  owes_declarator_suffixes d s y c i = (
+    alone,
+    λ q w. (
+      λ v h c0 o z. sized_grown v (λ all f t e j x. (_, _, spells.of_alternative grammar.array_declarator refl (spells.part (weaken f z) (array_opened o (f.words _ _ q) w x)))),
+      λ t e j _ _ x. (λ v h c0 o z. v h c0 refl (spells.of_alternative grammar.array_declarator refl (spells.part z (array_opened o q w x))), λ t' e' j' _ _ _. tt),
+    ),
+    (
+      alone,
+      λ q w. (
+        tt,
+        λ q' w'. (λ v h c0 o z. v h c0 o (spells.of_alternative grammar.function_declarator refl (spells.part z (spells.opens q w (spells.prototype_none (spells.token q' w' spells.done))))), λ t e j _ _ _. tt),
+        (
+          λ v h c0 o z. more1 (v fresh) word.RightParen (λ all f t e j le x q1.
+              let n = runs_kept (parameters (d + 1)) ([] ∷ around c) e (i + 1) j t (completes all top task.parameters x q1) in
+              (_, _, spells.of_alternative grammar.function_declarator refl (spells.part (weaken f z) (parameters_of all top h (weaken f z) o (open_of e (omega arith)) (λ h'. parameters_anywhere x h') (f.words _ _ q) w q1 (late plain j (d + 1) le))))),
+          λ t e j _ k x. (
+            tt,
+            λ q' w'. (λ v h c0 o z. v h c0 refl (spells.of_alternative grammar.function_declarator refl (spells.part z (parameters_of us top h z o (open_of e (omega arith)) x q w q' w'))), λ t' e' j' _ _ _. tt),
+            λ z' h c0 o z. put1 z' word.RightParen (λ all f q1 le. (
+              _,
+              _,
+              spells.of_alternative grammar.function_declarator refl (spells.part (weaken f z)
+                  (parameters_of all top h (weaken f z) o (open_of e (omega arith)) (λ h'. weaken f (x h')) (f.words _ _ q) w q1 (late plain j (d + 1) le))),
+            )),
+          ),
+        ),
+      ),
+      tt,
+    ),
+  )
     where
       alone : i ≡ length us → Via (declarator_suffixes d s y) c i
       alone z h c0 o x = put0 z (_, _, x)
+
       parameters_anywhere : {all : List Lexeme} {h : Context} {c e : Scopes} {d i j : ℕ} {t : Trees} → Spells all top (a part.Parameters) h c e d t i j → (h' : Context) → Spells all top (a part.Parameters) h' c e d t i j
       parameters_anywhere (spells.of_alternative x f s) h' = spells.of_alternative x f s
       parameters_anywhere (spells.of_chain x f s) h' = spells.of_chain x f s
 
   owes_abstract_suffixes : (d s : ℕ) (y : Trees) (c : Scopes) (i : ℕ) → Owes (body (abstract_suffixes d s y)) (Via (abstract_suffixes d s y) c i) c i
-  owes_abstract_suffixes d s y c i =
-      (λ z c0 x h. put0 z (_, _, x h), λ q w. (λ v c0 z h. sized_grown v (λ all f t e j x. (_, _, spells.of_alternative grammar.abstract_array_of refl (spells.part (weaken f (z _)) (spells.opens (f.words _ _ q) w (array_of all top x _))))),
-          λ t e j _ _ x. (λ v c0 z. v c0 (λ h. spells.of_alternative grammar.abstract_array_of refl (spells.part (z _) (spells.opens q w (array_of us top x _)))), λ t' e' j' _ _ _. tt)), tt)
+  owes_abstract_suffixes d s y c i = (
+    λ z c0 x h. put0 z (_, _, x h),
+    λ q w. (
+      λ v c0 z h. sized_grown v (λ all f t e j x. (_, _, spells.of_alternative grammar.abstract_array_of refl (spells.part (weaken f (z _)) (spells.opens (f.words _ _ q) w (array_of all top x _))))),
+      λ t e j _ _ x. (λ v c0 z. v c0 (λ h. spells.of_alternative grammar.abstract_array_of refl (spells.part (z _) (spells.opens q w (array_of us top x _)))), λ t' e' j' _ _ _. tt),
+    ),
+    tt,
+  )
 
   owes_size : (d : ℕ) (c : Scopes) (i : ℕ) → Owes (body (size d)) (Via (size d) c i) c i
   owes_size d c i = (tt, λ q w. tt, (λ v. from v, λ t e j _ _ x. (tt, λ q w. tt, λ z. ends x z)))
@@ -613,12 +868,21 @@ module _ (us : List Lexeme) (top : Limit) (late : (g : Manner) (i d : ℕ) → l
           let g = v fresh in
           let le = g.late in
           let x = longer g.all g.end g.size word.RightBracket in
-          record { all = x.all; front = front_then g.front x.front; trees = g.built.0 & none; after = g.built.1; end = g.end + 1; size = x.size; beyond = omega arith;
-              is_size = means.sized (λ h. conditional_anywhere (weaken x.front g.built.2) h) x.word (late plain g.end (d + 1) g.late) }
+          record {
+            all = x.all;
+            front = front_then g.front x.front;
+            trees = g.built.0 & none;
+            after = g.built.1;
+            end = g.end + 1;
+            size = x.size;
+            beyond = omega arith;
+            is_size = means.sized (λ h. conditional_anywhere (weaken x.front g.built.2) h) x.word (late plain g.end (d + 1) g.late);
+          }
         where
           conditional_anywhere : {all : List Lexeme} {h : Context} {c e : Scopes} {d i j : ℕ} {t : Trees} → Spells all top (a part.Conditional) h c e d t i j → (h' : Context) → Spells all top (a part.Conditional) h' c e d t i j
           conditional_anywhere (spells.of_alternative x f s) h' = spells.of_alternative x f s
           conditional_anywhere (spells.of_chain x f s) h' = spells.of_chain x f s
+
       ends : {t : Trees} {e : Scopes} {j : ℕ} → Reads us top part.Conditional (d + 1) c i t e j → j ≡ length us → OneSize c d i
       ends {t = t} {e = e} {j = j} y z =
           let x = longer us j z word.RightBracket in
@@ -635,18 +899,32 @@ module _ (us : List Lexeme) (top : Limit) (late : (g : Manner) (i d : ℕ) → l
       (λ v h. more0 (v fresh) (λ all f t e j le s. (_, _, row_of_parameters all top (spells.list_last s spells.done))), λ t e j _ _ x. (λ v. v c (first_one x), λ t' e' j' _ _ _. tt))
 
   owes_more_parameters : (d s : ℕ) (y : Trees) (c : Scopes) (i : ℕ) → Owes (body (more_parameters d s y)) (Via (more_parameters d s y) c i) c i
-  owes_more_parameters d s y c i =
-      (tt, λ q w. (tt, λ q' w'. tt, (λ v c0 r h. more0 (v fresh) (λ all f t e j le x. (_, _, row_of_parameters all top (at_end all top (next_one (weaken_row f r) (f.words _ _ q) w (λ h'. hears_nothing all top x)) (λ h'. spells.done) fresh))),
-          λ t e j _ _ x. (λ v c0 r. v c0 (next_one r q w x), λ t' e' j' _ _ _. tt))), tt)
+  owes_more_parameters d s y c i = (
+    tt,
+    λ q w. (
+      tt,
+      λ q' w'. tt,
+      (
+        λ v c0 r h. more0 (v fresh) (λ all f t e j le x. (_, _, row_of_parameters all top (at_end all top (next_one (weaken_row f r) (f.words _ _ q) w (λ h'. hears_nothing all top x)) (λ h'. spells.done) fresh))),
+        λ t e j _ _ x. (λ v c0 r. v c0 (next_one r q w x), λ t' e' j' _ _ _. tt),
+      ),
+    ),
+    tt,
+  )
 
   owes_parameter : (d : ℕ) (c : Scopes) (i : ℕ) → Owes (body (parameter d)) (Via (parameter d) c i) c i
-  owes_parameter d c i =
-      (λ v h. more0 v (λ all f t e j le s. (_, _, spells.of_chain grammar.parameter_unnamed refl s)),
-      λ t e j _ _ x. ((λ v h. with_declarator x v, λ t' e' j' _ _ _. (λ y. tt, λ y. tt)), tt))
+  owes_parameter d c i = (
+    λ v h. more0 v (λ all f t e j le s. (_, _, spells.of_chain grammar.parameter_unnamed refl s)),
+    λ t e j _ _ x. ((λ v h. with_declarator x v, λ t' e' j' _ _ _. (λ y. tt, λ y. tt)), tt),
+  )
     where
       with_declarator : {h : Context} {t : Trees} {e : Scopes} {j : ℕ} → Spells us top (a part.Specifiers) fresh c e d t i j → OneDeclared either (past_part fresh t) e d j → Grown us top (a part.Parameter) h c d i
-      with_declarator {t = t} {e = e} {j = j} x (one_named y g) = more0 g (λ all f u e' k le s. (_, _, spells.of_alternative grammar.parameter_declaration refl (spells.part (weaken f x)
-          (spells.part (spells.parameter_declarator (subst (λ z. Spells all top (a part.Declarator) (past_part fresh t) e z d u j k) (owned facts.by_declarator s) s)) spells.done))))
+      with_declarator {t = t} {e = e} {j = j} x (one_named y g) = more0 g (λ all f u e' k le s. (
+        _,
+        _,
+        spells.of_alternative grammar.parameter_declaration refl (spells.part (weaken f x)
+            (spells.part (spells.parameter_declarator (subst (λ z. Spells all top (a part.Declarator) (past_part fresh t) e z d u j k) (owned facts.by_declarator s) s)) spells.done)),
+      ))
       with_declarator {t = t} x (one_unnamed y g) = more0 (g (past_part fresh t)) (λ all f u e' k le s. (_, _, spells.of_alternative grammar.parameter_declaration refl (spells.part (weaken f x) (spells.part (spells.of_chain grammar.parameter_abstract refl s) spells.done))))
 
   pub owes : (g : Goal) (c : Scopes) (i : ℕ) → Owes (body g) (Via g c i) c i

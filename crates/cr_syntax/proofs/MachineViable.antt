@@ -1,12 +1,11 @@
 -- The tokens before a refused one begin a text.
-use Rattle.std.proofs.Common.{◌≡◌, ℕ, zero, suc, ◌+◌, ◌<◌, ◌≤◌, List, [], ◌∷◌, length, Option, None, Some, refl, sym, ap, subst, ◌∙◌, arith}
+use Rattle.std.proofs.Common.{◌≡◌, ℕ, zero, suc, ◌<◌, ◌≤◌, List, [], ◌∷◌, length, Option, None, Some, refl, ap, subst, ◌∙◌, arith}
 use Rattle.std.specs.Prelude.{slice_get}
 use Rattle.cr_syntax.specs.declared.word.Word.{Word}
 use Rattle.cr_syntax.specs.declared.symbol.Part.{Part}
-use Rattle.cr_syntax.specs.declared.symbol.Part.TheVariants as part
 use Rattle.cr_syntax.specs.Words.{Lexeme, word_at, spelling_at}
 use Rattle.cr_syntax.specs.Context.{fresh}
-use Rattle.cr_syntax.specs.Spells.{Limit, AtMost, Upto, Spells, a}
+use Rattle.cr_syntax.specs.Spells.{AtMost, Upto, Spells, a}
 use Rattle.cr_syntax.specs.Machine.{Manner, plain, opens, reopens, Allows, Cause, Failed, Runs}
 use Rattle.cr_syntax.specs.MachineBody.{body, start_goal}
 use Rattle.cr_syntax.specs.MachineLaws.{IsStart, start_expression, start_assignment, start_conditional}
@@ -41,6 +40,7 @@ token_is ts i x = by (slice_get ts i)
   where
     some_word : {v w : Word} → Some v ≡ Some w → v ≡ w
     some_word q = cc
+
     by : (o : Option Lexeme) → elim o as (λ _. Option Word) [ None ↦ None | Some t ↦ Some t.word ] ≡ Some x.word → elim o as (λ _. List ℕ) [ None ↦ [] | Some t ↦ t.spelling ] ≡ x.spelling → o ≡ Some x
     by None q r = cc
     by (Some y) q r = ap (λ w. Some (record { word = w; spelling = y.spelling })) (some_word q) ∙ ap (λ s. Some (record { word = x.word; spelling = s })) r
@@ -57,18 +57,21 @@ module _ (ts : List Lexeme) (most : ℕ) (k : ℕ) (le : k ≤ length ts) where
   goes_on : (s : Start) (x : Cause) → Runs body ts (AtMost most) (body (start_goal s.part s.depth)) s.scopes s.at (Failed x k) → G us (Upto k most) beyond (start_part s.part) s.depth s.scopes s.at
   goes_on s x h = start_via us (Upto k most) beyond s.part s.depth s.scopes s.at
       (viable body ts us (AtMost most) (Upto k most) Kept (Means us (Upto k most)) (Via us (Upto k most) beyond) runs_kept (each us (Upto k most)) (λ i d. tt) (owes us (Upto k most) beyond)
-          h (Via us (Upto k most) beyond (start_goal s.part s.depth) s.scopes s.at) (prefix_length k ts le) (prefix_get k ts) (λ g n d lt w. allows_upto k most g n d w) (owes us (Upto k most) beyond (start_goal s.part s.depth) s.scopes s.at))
+      h (Via us (Upto k most) beyond (start_goal s.part s.depth) s.scopes s.at) (prefix_length k ts le) (prefix_get k ts) (λ g n d lt w. allows_upto k most g n d w) (owes us (Upto k most) beyond (start_goal s.part s.depth) s.scopes s.at))
 
   begins_by : (s : Start) → Grown us (Upto k most) (a s.part) fresh s.scopes s.depth s.at → BeginsFrom (Upto k most) ts s k
-  begins_by s g = record { trees = g.built.0; continues = record {
+  begins_by s g = record {
+    trees = g.built.0;
+    continues = record {
       text = g.all;
       alike = λ i x lt q.
           let q' : slice_get us i ≡ Some x = prefix_get k ts i lt ∙ q in
           token_is g.all i x (g.front.words i x.word (ap (λ o. elim o as (λ _. Option Word) [ None ↦ None | Some t ↦ Some t.word ]) q'))
-              (g.front.names i ∙ ap (λ o. elim o as (λ _. List ℕ) [ None ↦ [] | Some t ↦ t.spelling ]) q');
+          (g.front.names i ∙ ap (λ o. elim o as (λ _. List ℕ) [ None ↦ [] | Some t ↦ t.spelling ]) q');
       reaches = let e = prefix_length k ts le in let l = g.late in let z = g.size in omega arith;
       spelled = record { after = g.built.1; spells = subst (λ j. Spells g.all (Upto k most) (a s.part) fresh s.scopes g.built.1 s.depth g.built.0 s.at j) g.size g.built.2 };
-    } }
+    };
+  }
 
   start_is : {p : Part} → IsStart p → start_part p ≡ p
   start_is start_expression = refl
