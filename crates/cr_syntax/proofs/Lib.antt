@@ -25,3 +25,7 @@ pub mod MachineBegins
 pub mod MachineTypes
 pub mod MachineDeclarators
 pub mod MachineComplete
+pub mod MachineExtend
+pub mod MachineFails
+pub mod MachineGrows
+pub mod MachineViable

@@ -11,7 +11,7 @@ use Rattle.cr_syntax.specs.Trees.{Trees}
 use Rattle.cr_syntax.specs.Spells.{Limit, Free, AtMost, Upto, Phrase, Spells, a}
 use Rattle.cr_syntax.specs.Machine.{Prog, Manner, Allows, Reply, Cause, Done, Failed, Runs}
 use Rattle.cr_syntax.specs.Machine as m
-use Rattle.cr_syntax.specs.Expressions.{Start, BeginsFrom, RunEnds}
+use Rattle.cr_syntax.specs.Expressions.{Start, Spelled, BeginsFrom, RunEnds}
 use Rattle.cr_syntax.specs.MachineBody.{body, start_goal}
 use Rattle.cr_syntax.specs.MachineLaws.{end_of, IsFree, IsStart, start_expression, start_assignment, start_conditional}
 use Rattle.cr_syntax.proofs.MachineRuns.{same, local, reach, OnDone}
@@ -144,7 +144,7 @@ refused s k n h lt b = let q = goes_on s k n h lt b in cc
 
 -- A run within a limit is one within it up to a token behind the answer's.
 
-allows_upto : (n most : ℕ) (g : Manner) (i d : ℕ) → Allows (AtMost most) g i d → Allows (Upto n most) g i d
+pub allows_upto : (n most : ℕ) (g : Manner) (i d : ℕ) → Allows (AtMost most) g i d → Allows (Upto n most) g i d
 allows_upto n most m.plain i d w = tt
 allows_upto n most m.opens i d w = λ lt. w
 allows_upto n most m.reopens i d w = (tt, λ lt. w.1)
@@ -180,3 +180,8 @@ refused_within {ts = ts} {most = most} s {k = k} z lt h b =
   where
     alike : (i : ℕ) → i ≤ k → slice_get b.continues.text i ≡ slice_get ts i
     alike i le = let w = get_some ts i (omega arith) in b.continues.alike i w.0 (omega arith) w.1 ∙ sym w.1
+
+-- a list that is refused at its end spells no tree
+pub ended_is_none : {ts : List Lexeme} {limit : Limit} (s : Start) {x : Cause} {t : Trees} → IsStart s.part → (x ≡ m.too_deep → ⊥) →
+    Runs body ts limit (body (start_goal s.part s.depth)) s.scopes s.at (Failed x (length ts)) → Spelled Free ts s (length ts) t → ⊥
+ended_is_none {ts = ts} s z n h y = let q = same (unlimited h n) (spelled_is_read ts Free z y.spells (free_at_end ts 13)) in cc

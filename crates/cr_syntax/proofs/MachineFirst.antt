@@ -26,6 +26,9 @@ use Rattle.cr_syntax.proofs.Tests.{is_of, both}
 pub none_true : {A : Type 0} → false ≡ true → A
 none_true q = cc
 
+pub true_false : {A : Type 0} → true ≡ false → A
+true_false q = cc
+
 pub false_by : (b : Bool) → (b ≡ true → ⊥) → b ≡ false
 false_by true f = absurd (f refl)
 false_by false f = refl

@@ -32,47 +32,47 @@ use Rattle.cr_syntax.proofs.MachineKept.{Kept, runs_kept, not_both}
 use Rattle.cr_syntax.proofs.MachineMeans.{Means, Reads, Behind, IsDeclared, with_name, without, IsSize, unsized, IsParameterRow, first_one, next_one, IsRowBegin, IsOpen, has_some, start_part, is_level, row_part, element_part}
 
 -- an alternative for a kind, with any parts
-abbrev Makes : Part → Side → Kind → Type 0
+abbrev pub Makes : Part → Side → Kind → Type 0
 Makes p s k = Alternative p k s × ((t : Trees) → fits_together k t ≡ true)
 
-makes : {p : Part} {s : Side} {k : Kind} → Alternative p k s → ((t : Trees) → fits_together k t ≡ true) → Makes p s k
+pub makes : {p : Part} {s : Side} {k : Kind} → Alternative p k s → ((t : Trees) → fits_together k t ≡ true) → Makes p s k
 makes m f = (m, f)
 
-abbrev Assigns : Word → Kind → Type 0
+abbrev pub Assigns : Word → Kind → Type 0
 Assigns w k = Makes part.Assignment (assignment_by w) k
 
-assignment_rows : AllRows Assigns assignment_operators
+pub assignment_rows : AllRows Assigns assignment_operators
 assignment_rows =
     also (makes grammar.assign (λ t. refl)) (also (makes grammar.multiply_assign (λ t. refl)) (also (makes grammar.divide_assign (λ t. refl))
     (also (makes grammar.remainder_assign (λ t. refl)) (also (makes grammar.add_assign (λ t. refl)) (also (makes grammar.subtract_assign (λ t. refl))
     (also (makes grammar.shift_left_assign (λ t. refl)) (also (makes grammar.shift_right_assign (λ t. refl)) (also (makes grammar.and_assign (λ t. refl))
     (also (makes grammar.xor_assign (λ t. refl)) (also (makes grammar.or_assign (λ t. refl)) no_rows))))))))))
 
-abbrev Prefixes : Part → Word → Kind → Type 0
+abbrev pub Prefixes : Part → Word → Kind → Type 0
 Prefixes p w k = Makes part.Unary (prefix w p) k
 
-unary_rows : AllRows (Prefixes part.Unary) unary_prefixes
+pub unary_rows : AllRows (Prefixes part.Unary) unary_prefixes
 unary_rows = also (makes grammar.pre_increment (λ t. refl)) (also (makes grammar.pre_decrement (λ t. refl)) no_rows)
 
-cast_rows : AllRows (Prefixes part.Cast) cast_prefixes
+pub cast_rows : AllRows (Prefixes part.Cast) cast_prefixes
 cast_rows =
     also (makes grammar.address_of (λ t. refl)) (also (makes grammar.dereference (λ t. refl)) (also (makes grammar.plus (λ t. refl))
     (also (makes grammar.minus (λ t. refl)) (also (makes grammar.complement (λ t. refl)) (also (makes grammar.logical_not (λ t. refl)) no_rows)))))
 
-abbrev IsConstant : Word → Kind → Type 0
+abbrev pub IsConstant : Word → Kind → Type 0
 IsConstant w k = Makes part.Primary (token w ∷ []) k
 
-constant_rows : AllRows IsConstant constants
+pub constant_rows : AllRows IsConstant constants
 constant_rows = also (makes grammar.integer_constant (λ t. refl)) (also (makes grammar.character_constant (λ t. refl)) no_rows)
 
-abbrev Follows : Word → Kind → Type 0
+abbrev pub Follows : Word → Kind → Type 0
 Follows w k = Makes part.Postfix (part part.Postfix ∷ token w ∷ []) k
 
-postfix_rows : AllRows Follows postfix_operators
+pub postfix_rows : AllRows Follows postfix_operators
 postfix_rows = also (makes grammar.post_increment (λ t. refl)) (also (makes grammar.post_decrement (λ t. refl)) no_rows)
 
 -- a scope is open where there is one
-open_of : (c : Scopes) → 0 < length c → IsOpen c
+pub open_of : (c : Scopes) → 0 < length c → IsOpen c
 open_of [] q = absurd (omega arith)
 open_of (names ∷ c) q = refl
 
@@ -118,7 +118,7 @@ pub name_is : {ts : List Lexeme} {limit : Limit} {p : Part} {h' : Context} {c e 
     Spells ts limit (a p) h' c e d t i j → (h : Context) → (past_part h t).name ≡ declared_in t
 name_is s h = let w = is_one s in subst (λ x. (past_part h x).name ≡ declared_in x) (sym w.2) refl
 
-many_of : {ts : List Lexeme} {limit : Limit} {l : Depth} {p : Part} {r : Side} {h : Context} {c e : Scopes} {d i j : ℕ} {t : Trees} →
+pub many_of : {ts : List Lexeme} {limit : Limit} {l : Depth} {p : Part} {r : Side} {h : Context} {c e : Scopes} {d i j : ℕ} {t : Trees} →
     Spells ts limit (rest (symbol.Part l p ∷ symbol.Many l p ∷ r)) h c e d t i j → Spells ts limit (rest (symbol.Many l p ∷ r)) h c e d t i j
 many_of (spells.part x s) = spells.many_more x s
 
@@ -151,13 +151,13 @@ lone _ s = spells.of_chain grammar.parameters_one refl s
 module _ (us : List Lexeme) (top : Limit) where
   -- Parts by a goal's table.
 
-  start_means : (p : Part) (d : ℕ) (c : Scopes) (i : ℕ) (t : Trees) (e : Scopes) (j : ℕ) → Means us top (start_goal p d) c i t e j → Reads us top (start_part p) d c i t e j
+  pub start_means : (p : Part) (d : ℕ) (c : Scopes) (i : ℕ) (t : Trees) (e : Scopes) (j : ℕ) → Means us top (start_goal p d) c i t e j → Reads us top (start_part p) d c i t e j
   start_means part.Expression d c i t e j x = x
   start_means part.Assignment d c i t e j x = x
   start_means _ d c i t e j x = x
 
   -- the operands of a level, alone
-  level_up : (p : Part) (d : ℕ) (c : Scopes) (i : ℕ) (t : Trees) (e : Scopes) (j : ℕ) → is_level p ≡ true → Means us top (tighter p d) c i t e j → Reads us top p d c i t e j
+  pub level_up : (p : Part) (d : ℕ) (c : Scopes) (i : ℕ) (t : Trees) (e : Scopes) (j : ℕ) → is_level p ≡ true → Means us top (tighter p d) c i t e j → Reads us top p d c i t e j
   level_up part.LogicalOr d c i t e j l x = λ h. spells.of_chain grammar.binary_14 refl (x refl _)
   level_up part.LogicalAnd d c i t e j l x = λ h. spells.of_chain grammar.binary_13 refl (x refl _)
   level_up part.Or d c i t e j l x = λ h. spells.of_chain grammar.binary_12 refl (x refl _)
@@ -171,11 +171,11 @@ module _ (us : List Lexeme) (top : Limit) where
   level_up _ d c i t e j l x = cc
 
   -- an operator of a level between two operands
-  abbrev Operates : Part → Word → Kind → Type 0
+  abbrev pub Operates : Part → Word → Kind → Type 0
   Operates p w k = (d : ℕ) (c0 c e : Scopes) (s i j : ℕ) (t u : Trees) → Reads us top p d c0 s t c i → Is us i w → Stands top i d →
       Means us top (tighter p d) c (i + 1) u e j → Reads us top p d c0 s (one k s j (t & u & none)) e j
 
-  operator_rows : (p : Part) → AllRows (Operates p) (operators p)
+  pub operator_rows : (p : Part) → AllRows (Operates p) (operators p)
   operator_rows part.LogicalOr = also (λ d c0 c e s i j t u x q w y h. spells.of_alternative grammar.logical_or refl (spells.part (x _) (spells.token q w (spells.part (y refl _) spells.done)))) no_rows
   operator_rows part.LogicalAnd = also (λ d c0 c e s i j t u x q w y h. spells.of_alternative grammar.logical_and refl (spells.part (x _) (spells.token q w (spells.part (y refl _) spells.done)))) no_rows
   operator_rows part.Or = also (λ d c0 c e s i j t u x q w y h. spells.of_alternative grammar.inclusive_or refl (spells.part (x _) (spells.token q w (spells.part (y refl _) spells.done)))) no_rows
@@ -202,18 +202,18 @@ module _ (us : List Lexeme) (top : Limit) where
   operator_rows _ = no_rows
 
   -- a word that is a specifier by itself
-  abbrev Specifies : Part → Word → Kind → Type 0
+  abbrev pub Specifies : Part → Word → Kind → Type 0
   Specifies p w k = (h : Context) (c : Scopes) (d i : ℕ) → Is us i w → Stands top i d → Spells us top (a (element_part p)) h c c d (one k i (i + 1) none) i (i + 1)
 
   word_by : (p : Part) (w : Word) (k : Kind) → Alternative p k (token w ∷ []) → fits_together k none ≡ true → (h : Context) (c : Scopes) (d i : ℕ) → Is us i w → Stands top i d →
       Spells us top (a p) h c c d (one k i (i + 1) none) i (i + 1)
   word_by p w k x f h c d i q v = spells.of_alternative x f (spells.token q v spells.done)
 
-  plain_up : (p : Part) {h : Context} {c e : Scopes} {d i j : ℕ} {t : Trees} → Spells us top (a part.Plain) h c e d t i j → Spells us top (a (element_part p)) h c e d t i j
+  pub plain_up : (p : Part) {h : Context} {c e : Scopes} {d i j : ℕ} {t : Trees} → Spells us top (a part.Plain) h c e d t i j → Spells us top (a (element_part p)) h c e d t i j
   plain_up part.Specifiers s = spells.of_chain grammar.specifier_plain refl s
   plain_up _ s = s
 
-  specifier_rows : (p : Part) → AllRows (Specifies p) (specifier_words p)
+  pub specifier_rows : (p : Part) → AllRows (Specifies p) (specifier_words p)
   specifier_rows = by
     where
       plain_by : (p : Part) (w : Word) (k : Kind) → Alternative part.Plain k (token w ∷ []) → fits_together k none ≡ true → Specifies p w k
@@ -234,10 +234,10 @@ module _ (us : List Lexeme) (top : Limit) where
 
   -- Declarators.
 
-  abbrev Declared : Wanted → Context → ℕ → Scopes → ℕ → Trees → Scopes → ℕ → Type 0
+  abbrev pub Declared : Wanted → Context → ℕ → Scopes → ℕ → Trees → Scopes → ℕ → Type 0
   Declared w h d c i t e j = IsDeclared us top w h d c i t e j
 
-  dropped_member : {h : Context} {d i j : ℕ} {c e : Scopes} {t : Trees} → Declared named h d c i t e j → Spells us top (a part.MemberDeclarator) h c (around e) d t i j
+  pub dropped_member : {h : Context} {d i j : ℕ} {c e : Scopes} {t : Trees} → Declared named h d c i t e j → Spells us top (a part.MemberDeclarator) h c (around e) d t i j
   dropped_member {h = h} {d = d} {i = i} {j = j} {c = c} {e = e} {t = t} (with_name x y o s) =
       spells.member_declarator (subst (λ z. Spells us top (a part.Declarator) h c z d t i j) o s)
   dropped_member (without x y s) = cc
@@ -246,12 +246,12 @@ module _ (us : List Lexeme) (top : Limit) where
   abstract_of (with_name x y o s) = cc
   abstract_of (without x y s) = s
 
-  array_of : {d i j : ℕ} {c e : Scopes} {t : Trees} → IsSize us top d c i t e j → (h : Context) →
+  pub array_of : {d i j : ℕ} {c e : Scopes} {t : Trees} → IsSize us top d c i t e j → (h : Context) →
       Spells us top (rest (inner_optional part.Conditional ∷ closing word.RightBracket ∷ [])) h c e d t i j
   array_of (unsized q w) h = spells.optional_none (spells.token q w spells.done)
   array_of (means.sized x q w) h = spells.optional_some (x _) (spells.token q w spells.done)
 
-  array_size : {d i j : ℕ} {c e : Scopes} {t : Trees} → IsSize us top d c i t e j → (h : Context) (own : List TypeName) →
+  pub array_size : {d i j : ℕ} {c e : Scopes} {t : Trees} → IsSize us top d c i t e j → (h : Context) (own : List TypeName) →
       Spells us top (rest (symbol.Size ∷ closing word.RightBracket ∷ [])) h (own ∷ c) (own ∷ e) d t i j
   array_size (unsized q w) h own = spells.size_none (spells.token q w spells.done)
   array_size (means.sized x q w) h own = spells.size_some (x _) (spells.token q w spells.done)
@@ -280,18 +280,18 @@ module _ (us : List Lexeme) (top : Limit) where
 
   -- a declarator in brackets
   module _ (w : Wanted) (h : Context) (d : ℕ) (c : Scopes) (i : ℕ) (q : Is us i word.LeftParen) (v : Within top i d) where
-    group_named : {e : Scopes} {j : ℕ} {t : Trees} → Declared w (past_token h) (d + 1) c (i + 1) t e j → is_declarator t ≡ true → Is us j word.RightParen → Stands top j (d + 1) →
+    pub group_named : {e : Scopes} {j : ℕ} {t : Trees} → Declared w (past_token h) (d + 1) c (i + 1) t e j → is_declarator t ≡ true → Is us j word.RightParen → Stands top j (d + 1) →
         (may_name w ≡ true) × IsOpen e × Spells us top (a part.DirectDeclarator) h c e d (one kind.GroupDeclarator i (j + 1) (t & none)) i (j + 1)
     group_named (with_name y z o s) y' q' v' = (z, o, spells.of_alternative grammar.group_declarator refl (spells.opens q v (spells.part s (spells.token q' v' spells.done))))
     group_named {t = t} (without y z s) y' q' v' = not_both (is_declarator t) y' y
 
-    group_unnamed : {e : Scopes} {j : ℕ} {t : Trees} → Declared w (past_token h) (d + 1) c (i + 1) t e j → is_declarator t ≡ false → Is us j word.RightParen → Stands top j (d + 1) →
+    pub group_unnamed : {e : Scopes} {j : ℕ} {t : Trees} → Declared w (past_token h) (d + 1) c (i + 1) t e j → is_declarator t ≡ false → Is us j word.RightParen → Stands top j (d + 1) →
         (may_omit w ≡ true) × Reads us top part.DirectAbstract d c i (one kind.AbstractGroup i (j + 1) (t & none)) e (j + 1)
     group_unnamed {t = t} (with_name y z o s) y' q' v' = not_both (is_declarator t) y y'
     group_unnamed (without y z s) y' q' v' = (z, λ h'. spells.of_alternative grammar.abstract_group refl (spells.opens q v (spells.part (s _) (spells.token q' v' spells.done))))
 
   -- a declarator's parameters, with the scope of its own aside
-  parameters_of : (h : Context) {h0 : Context} {c c0 e : Scopes} {d s i j : ℕ} {x t : Trees} → Spells us top (a part.DirectDeclarator) h0 c0 c d x s i → IsOpen c → IsOpen e →
+  pub parameters_of : (h : Context) {h0 : Context} {c c0 e : Scopes} {d s i j : ℕ} {x t : Trees} → Spells us top (a part.DirectDeclarator) h0 c0 c d x s i → IsOpen c → IsOpen e →
       Reads us top part.Parameters (d + 1) ([] ∷ around c) (i + 1) t e j → Is us i word.LeftParen → Within top i d → Is us j word.RightParen → Stands top j (d + 1) →
       Spells us top (rest (grammar.opening word.LeftParen ∷ symbol.Prototype ∷ closing word.RightParen ∷ [])) (past_part h x) c ((if is_bare x then innermost_of e else innermost_of c) ∷ around e) d (t & none) i (j + 1)
   parameters_of h {c = c} {e = e} {d = d} {i = i} {j = j} {x = x} {t = t} sx oc oe r q w q' w' =
@@ -311,7 +311,7 @@ module _ (us : List Lexeme) (top : Limit) where
   before_comma {d = d} {s = s} {c = c} {j = j} {f = f} {u = u} {r = r} (next_one {t = t} {u = v} z q' w' x) q w k h =
       subst (λ y. Spells us top (rest (list part.Parameter ∷ r)) h c f d y s j) (sym (pushed t v u)) (before_comma z q' w' (λ h'. spells.list_more (x _) q w (k _)) h)
 
-  at_end : {d s : ℕ} {c : Scopes} {i j : ℕ} {e f : Scopes} {t : Trees} {r : Side} → IsParameterRow us top d c s t e i →
+  pub at_end : {d s : ℕ} {c : Scopes} {i j : ℕ} {e f : Scopes} {t : Trees} {r : Side} → IsParameterRow us top d c s t e i →
       ((h : Context) → Spells us top (rest r) h e f d none i j) → (h : Context) → Spells us top (rest (list part.Parameter ∷ r)) h c f d t s j
   at_end {d = d} {s = s} {c = c} {j = j} {f = f} {r = r} (first_one {t = t} x) k h =
       subst (λ y. Spells us top (rest (list part.Parameter ∷ r)) h c f d y s j) (sym (and_none t)) (spells.list_last (x _) (k _))
@@ -323,7 +323,7 @@ module _ (us : List Lexeme) (top : Limit) where
   list_some (spells.list_more {u = u} x q w k) = part_some x u
 
   -- a parameter, and a list of them, hear nothing of what stands before
-  hears_nothing : {h h' : Context} {d i j : ℕ} {c e : Scopes} {t : Trees} → Spells us top (a part.Parameter) h c e d t i j → Spells us top (a part.Parameter) h' c e d t i j
+  pub hears_nothing : {h h' : Context} {d i j : ℕ} {c e : Scopes} {t : Trees} → Spells us top (a part.Parameter) h c e d t i j → Spells us top (a part.Parameter) h' c e d t i j
   hears_nothing (spells.of_alternative x f s) = spells.of_alternative x f s
   hears_nothing (spells.of_chain x f s) = spells.of_chain x f s
 
@@ -332,7 +332,7 @@ module _ (us : List Lexeme) (top : Limit) where
   anywhere (spells.list_last x spells.done) h' = spells.list_last (hears_nothing x) spells.done
   anywhere (spells.list_more x q w k) h' = spells.list_more (hears_nothing x) q w (anywhere k _)
 
-  row_of_parameters : {h : Context} {d i j : ℕ} {c e : Scopes} {t : Trees} → Spells us top (rest (list part.Parameter ∷ [])) fresh c e d t i j →
+  pub row_of_parameters : {h : Context} {d i j : ℕ} {c e : Scopes} {t : Trees} → Spells us top (rest (list part.Parameter ∷ [])) fresh c e d t i j →
       Spells us top (a part.Parameters) h c e d (in_parameters i j t) i j
   row_of_parameters {h = h} {d = d} {i = i} {j = j} {c = c} {e = e} {t = t} (spells.list_last x spells.done) =
       let w = is_one x in
@@ -344,7 +344,7 @@ module _ (us : List Lexeme) (top : Limit) where
 
   -- Specifiers.
 
-  row_alone : (p : Part) {h : Context} {c e : Scopes} {d i j : ℕ} {t : Trees} → Spells us top (a (element_part p)) h c e d t i j → Spells us top (a (row_part p)) h c e d t i j
+  pub row_alone : (p : Part) {h : Context} {c e : Scopes} {d i j : ℕ} {t : Trees} → Spells us top (a (element_part p)) h c e d t i j → Spells us top (a (row_part p)) h c e d t i j
   row_alone part.Specifiers s = spells.of_chain grammar.specifiers_one refl s
   row_alone _ s = spells.of_chain grammar.plain_one refl s
 
@@ -354,7 +354,7 @@ module _ (us : List Lexeme) (top : Limit) where
   row_node part.Specifiers s = spells.of_alternative grammar.declaration_specifiers refl s
   row_node _ s = spells.of_alternative grammar.specifier_qualifier_list refl s
 
-  row_made : (p : Part) {h : Context} {c e : Scopes} {d i j : ℕ} {t : Trees} → has_some t ≡ true → Spells us top (rest (many (element_part p) ∷ [])) h c e d t i j →
+  pub row_made : (p : Part) {h : Context} {c e : Scopes} {d i j : ℕ} {t : Trees} → has_some t ≡ true → Spells us top (rest (many (element_part p) ∷ [])) h c e d t i j →
       Spells us top (a (row_part p)) h c e d (in_row p i j t) i j
   row_made p y (spells.many_none spells.done) = cc
   row_made p {h = h} {c = c} {e = e} {d = d} {i = i} {j = j} y (spells.many_more {t = t} x (spells.many_none spells.done)) =

@@ -8,9 +8,9 @@ use Rattle.cr_syntax.specs.declared.symbol.Context.{Context}
 use Rattle.cr_syntax.specs.Trees.{Trees}
 use Rattle.cr_syntax.specs.Words.{Lexeme}
 use Rattle.cr_syntax.specs.Scopes.{Scopes}
-use Rattle.cr_syntax.specs.Spells.{Limit, AtMost, Upto, Is, Spells, a}
+use Rattle.cr_syntax.specs.Spells.{Limit, Free, AtMost, Upto, Is, Spells, a}
 use Rattle.cr_syntax.specs.Machine.{Prog, Reply, Cause, Done, Failed, Runs, too_deep}
-use Rattle.cr_syntax.specs.Expressions.{Start, BeginsFrom, RunEnds}
+use Rattle.cr_syntax.specs.Expressions.{Start, Spelled, BeginsFrom, RunEnds}
 use Rattle.cr_syntax.specs.MachineBody.{body, start_goal}
 
 -- the token at which a program answers
@@ -113,3 +113,13 @@ RefusedEndsRun = (ts : List Lexeme) (limit : Limit) (s : Start) (x : Cause) (k :
 abbrev pub RefusedWithin : Type 0
 RefusedWithin = (ts : List Lexeme) (most : ℕ) (s : Start) (x : Cause) (k : ℕ) → IsStart s.part → k < length ts →
     Runs body ts (AtMost most) (body (start_goal s.part s.depth)) s.scopes s.at (Failed x k) → BeginsFrom (Upto (k + 1) most) ts s (k + 1) → ⊥
+
+-- the tokens before a refused one begin a text within the limit
+abbrev pub BeginsBefore : Type 0
+BeginsBefore = (ts : List Lexeme) (most : ℕ) (s : Start) (x : Cause) (k : ℕ) → IsStart s.part → k ≤ length ts →
+    Runs body ts (AtMost most) (body (start_goal s.part s.depth)) s.scopes s.at (Failed x k) → BeginsFrom (Upto k most) ts s k
+
+-- where the end is refused, the tokens up to it spell no tree
+abbrev pub EndedIsNone : Type 0
+EndedIsNone = (ts : List Lexeme) (limit : Limit) (s : Start) (x : Cause) (t : Trees) → IsStart s.part → (x ≡ too_deep → ⊥) →
+    Runs body ts limit (body (start_goal s.part s.depth)) s.scopes s.at (Failed x (length ts)) → Spelled Free ts s (length ts) t → ⊥
