@@ -26,21 +26,21 @@ fn bench(alloc: Global) -> Result<Bench<Scripted>, AllocError> {
     Bench::new(judges)
 }
 
-// The words after the program's name. Where one of them is no text, the words are in no form, as an empty list is.
-fn words(rt: &HostRuntime) -> Result<Vec<String>, AllocError> {
-    match env::args(rt) {
-        Ok(args) => listed(rt.alloc(), args.skip(1)),
-        Err(e) if e.kind() == io::ErrorKind::OutOfMemory => Err(AllocError),
-        Err(_) => Ok(Vec::new(rt.alloc())),
-    }
-}
-
-fn listed(alloc: Global, args: impl Iterator<Item = String>) -> Result<Vec<String>, AllocError> {
-    let mut words = Vec::new(alloc);
-    for word in args {
+fn given(rt: &HostRuntime) -> io::Result<Vec<String>> {
+    let mut words = Vec::new(rt.alloc());
+    for word in env::args(rt)?.skip(1) {
         words.push(word)?;
     }
     Ok(words)
+}
+
+// The words after the program's name. Where one of them is no text, the words are in no form, as an empty list is.
+fn words(rt: &HostRuntime) -> Result<Vec<String>, AllocError> {
+    match given(rt) {
+        Ok(words) => Ok(words),
+        Err(e) if e.kind() == io::ErrorKind::OutOfMemory => Err(AllocError),
+        Err(_) => Ok(Vec::new(rt.alloc())),
+    }
 }
 
 fn reduce(rt: &HostRuntime) -> Result<u8, AllocError> {
