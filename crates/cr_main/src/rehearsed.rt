@@ -21,7 +21,9 @@ pub struct Rehearsed {
 
 impl Rehearsed {
     /// A judge that was asked nothing yet.
-    pub fn new(test: &'static str, name: &'static str, calls: &'static [Calls]) -> Rehearsed {
+    pub fn new(test: &'static str, name: &'static str, calls: &'static [Calls]) -> Rehearsed
+        ensures { (result.asked ≡ 0) × (result.faults ≡ 0) }
+    {
         Rehearsed {
             test,
             name,
