@@ -18,7 +18,7 @@ use std_out::StdOut;
 /// Status 11: no memory is left.
 const NO_MEMORY: u8 = 11;
 
-// No program is run as a test yet, so no judge is ever asked.
+// No program is run as a test yet: the one judge fails at each call.
 fn bench(alloc: Global) -> Result<Bench<Scripted>, AllocError> {
     let judge = Scripted::new(alloc, Vec::new(alloc), Answer::Failed, Vec::new(alloc));
     let mut judges = Vec::new(alloc);
