@@ -3,7 +3,7 @@
 # begin_timer LINE..: makes the folder with the crates of these lines of crates.txt, and goes to the empty crate `timer`,
 # which stands on them all.
 begin_timer() {
-  local top line crate names=''
+  local top line crate part names=''
   top="$(cd "$(dirname "${BASH_SOURCE[0]}")/.." && pwd)"
   lab="$(mktemp -d)"
   trap 'rm -rf "$lab"' EXIT
@@ -13,7 +13,9 @@ begin_timer() {
     crate="${line%%:*}"
     names="$names $crate"
     mkdir -p "crates/$crate"
-    cp -r "$top/crates/$crate/src" "$top/crates/$crate/specs" "$top/crates/$crate/proofs" "crates/$crate/"
+    for part in src specs proofs; do
+      [ ! -d "$top/crates/$crate/$part" ] || cp -r "$top/crates/$crate/$part" "crates/$crate/"
+    done
   done
   rt new crates/timer start_io >/dev/null 2>&1
   printf '%s\n' "$@" "timer:$names" >crates.txt

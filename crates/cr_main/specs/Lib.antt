@@ -1,4 +1,10 @@
 pub mod Lines
 pub mod LineLaws
 pub mod Words
+pub mod Sorting
+pub mod Messages
+pub mod Outside
 pub mod Run
+pub mod Requests
+pub mod Headline
+pub mod Laws

@@ -1,5 +1,5 @@
 -- A level of the lines pass has no more variants than the file has bytes, and no other pass or level has one.
-use Rattle.std.specs.Prelude.{◌≡◌, ℕ, zero, suc, ◌+◌, ◌*◌, ◌/◌, ◌%◌, ◌^◌, ◌-◌, ◌<◌, ◌≤◌, Bool, true, false, List, [], ◌∷◌, length, min, if◌then◌else◌, ◌==◌, nat_eq, nat_le, ◌&&◌, refl}
+use Rattle.std.specs.Prelude.{◌≡◌, ℕ, zero, suc, ◌+◌, ◌*◌, ◌/◌, ◌%◌, ◌-◌, ◌<◌, ◌≤◌, true, false, List, [], ◌∷◌, length, min, if◌then◌else◌, ◌==◌, nat_eq, nat_le, ◌&&◌}
 use Rattle.std.specs.Int.{div_ceil}
 use Rattle.std.proofs.Common.{arith}
 use Rattle.std.proofs.lemmas.Nat.{pow_pos}

@@ -1,7 +1,11 @@
 // The command line.
-ghost use Rattle.std.specs.Prelude.{◌≡◌, ◌↔◌, ◌⊎◌, ◌++◌, ◌∷◌, List, ℕ, [], IfOk, IsTrue, MatchOption, codes};
-ghost use Rattle.cr_main.specs.Words.{EndsFolder, HasLastPart, HasSettings, Holds, IsMade, IsNoName, IsOption, texts_of};
+ghost use Rattle.std.specs.Prelude.{◌≡◌, ◌≤◌, ◌<◌, Option, ◌↔◌, ◌⊎◌, ◌++◌, ◌∷◌, List, ℕ, [], IfOk, IsTrue, MatchOption, codes, slice_index, Some, Ok};
+ghost use Rattle.cr_outside.specs.Test.{ReadsTest};
+ghost use Rattle.cr_main.specs.Words.{EndsFolder, GivesSettings, HasLastPart, HasNone, HasSettings, IsLimit, IsLimitWord, IsMade, IsNoName, name_of, texts_of};
+ghost use Rattle.cr_outside.specs.declared.test.Test.{Test};
+ghost use Rattle.cr_main.specs.declared.settings.Settings.{Settings};
 
+use crate::options::{Sorted, sort};
 use cr_outside::{Test, TestFault};
 use std::alloc::Global;
 
@@ -15,6 +19,8 @@ pub enum Source {
 /// What the words ask for.
 #[derive(Debug, Drop)]
 pub struct Settings {
+    /// The most turns.
+    pub limit: Option<u64>,
     pub test: Test,
     pub source: Source,
 }
@@ -27,35 +33,100 @@ pub enum WordFault {
     Usage,
 }
 
-/// Reads the words after the program's name: `has:TEXT FILE`.
-pub fn words(alloc: Global, list: &[String]) -> Result<Settings, WordFault>
-    ensures settings { IfOk result (Holds (texts_of list.now)) }
-    ensures usage { result ≡ Err WordFault.Usage → (text name : List ℕ) → HasSettings (texts_of list.now) text name → ⊥ }
+/// A limit has at most so many digits, and is at most so great.
+const MOST_DIGITS: usize = 19;
+
+const MOST_TURNS: u64 = 9_223_372_036_854_775_807;
+
+/// Reads the words after the program's name. `most` is the number of workers that there are.
+pub fn words(alloc: Global, list: &[String], _most: u32) -> Result<Settings, WordFault>
+    ensures settings { IfOk result (HasSettings (texts_of list.now)) }
+    ensures usage { result ≡ Err WordFault.Usage → HasNone (texts_of list.now) }
 {
-    if list.len() != 2 {
-        return Err(WordFault::Usage);
-    }
-    two_words(alloc, list[0].as_str(), list[1].as_str())
+    let Sorted { limits, places } = sort(alloc, list)?;
+    settings_of(alloc, &limits, &places)
 }
 
-fn two_words(alloc: Global, test: &str, name: &str) -> Result<Settings, WordFault>
-    ensures settings { IfOk result (Holds (test.now ∷ name.now ∷ [])) }
-    ensures usage { result ≡ Err WordFault.Usage → (text file : List ℕ) → HasSettings (test.now ∷ name.now ∷ []) text file → ⊥ }
+fn settings_of(alloc: Global, limits: &[String], places: &[String]) -> Result<Settings, WordFault>
+    ensures settings { IfOk result (GivesSettings (texts_of limits.now) (texts_of places.now)) }
+    ensures usage { result ≡ Err WordFault.Usage → (settings : Settings) → GivesSettings (texts_of limits.now) (texts_of places.now) settings → ⊥ }
 {
-    if is_no_name(name.as_bytes()) {
+    if places.len() != 2 {
         return Err(WordFault::Usage);
     }
-    let test = match Test::read(alloc, test) {
-        Ok(Test::Has(has)) => Test::Has(has),
-        Ok(Test::Program(_)) => return Err(WordFault::Usage),
-        Err(TestFault::NoMemory) => return Err(WordFault::NoMemory),
-        Err(TestFault::Empty | TestFault::BadText) => return Err(WordFault::Usage),
-    };
-    match String::from_str(alloc, name) {
-        Ok(name) => Ok(Settings {
-            test,
-            source: Source::Named(name),
-        }),
+    let limit = limit_of(limits)?;
+    let test = test_of(alloc, places[0].as_str())?;
+    let source = source_of(alloc, places[1].as_str())?;
+    Ok(Settings {
+        limit,
+        test,
+        source,
+    })
+}
+
+// The limit, where the option comes once at most.
+fn limit_of(values: &[String]) -> Result<Option<u64>, WordFault>
+    ensures limit { IfOk result (IsLimit (texts_of values.now)) }
+    ensures usage { result ≡ Err WordFault.Usage → (limit : Option ℕ) → IsLimit (texts_of values.now) limit → ⊥ }
+{
+    if values.is_empty() {
+        return Ok(None);
+    }
+    if values.len() > 1 {
+        return Err(WordFault::Usage);
+    }
+    match number_of(values[0].as_str()) {
+        Some(limit) => Ok(Some(limit)),
+        None => Err(WordFault::Usage),
+    }
+}
+
+// The number that a word of digits writes.
+fn number_of(word: &str) -> Option<u64>
+    ensures { MatchOption result ((n : ℕ) → IsLimitWord word.now n → ⊥) (IsLimitWord word.now) }
+{
+    if word.len() > MOST_DIGITS || has_plus(word.as_bytes()) {
+        return None;
+    }
+    match word.parse::<u64>() {
+        Ok(n) => within(n),
+        Err(_) => None,
+    }
+}
+
+fn within(n: u64) -> Option<u64>
+    ensures { MatchOption result (MOST_TURNS < n) (λ same. (same ≡ n) × (n ≤ MOST_TURNS)) }
+{
+    if n > MOST_TURNS { None } else { Some(n) }
+}
+
+// Whether a plus stands first, which `parse` would take.
+fn has_plus(word: &[u8]) -> bool
+    ensures { IsTrue result ↔ (slice_index word.now 0 ≡ 43) }
+{
+    !word.is_empty() && word[0] == b'+'
+}
+
+fn test_of(alloc: Global, word: &str) -> Result<Test, WordFault>
+    ensures test { IfOk result (λ test. ReadsTest word.now (Ok test)) }
+    ensures usage { result ≡ Err WordFault.Usage → (test : Test) → ReadsTest word.now (Ok test) → ⊥ }
+{
+    match Test::read(alloc, word) {
+        Ok(test) => Ok(test),
+        Err(TestFault::NoMemory) => Err(WordFault::NoMemory),
+        Err(TestFault::Empty | TestFault::BadText) => Err(WordFault::Usage),
+    }
+}
+
+fn source_of(alloc: Global, word: &str) -> Result<Source, WordFault>
+    ensures source { IfOk result (λ source. (name_of source ≡ word.now) × (IsNoName word.now → ⊥)) }
+    ensures usage { result ≡ Err WordFault.Usage → IsNoName word.now }
+{
+    if is_no_name(word.as_bytes()) {
+        return Err(WordFault::Usage);
+    }
+    match String::from_str(alloc, word) {
+        Ok(name) => Ok(Source::Named(name)),
         Err(_) => Err(WordFault::NoMemory),
     }
 }
@@ -64,16 +135,7 @@ fn two_words(alloc: Global, test: &str, name: &str) -> Result<Settings, WordFaul
 fn is_no_name(word: &[u8]) -> bool
     ensures { IsTrue result ↔ IsNoName word.now }
 {
-    if is_option(word) || is_made(word) {
-        return true;
-    }
-    has_no_part(word)
-}
-
-fn is_option(word: &[u8]) -> bool
-    ensures { IsTrue result ↔ IsOption word.now }
-{
-    word.len() > 1 && word[0] == b'-'
+    is_made(word) || has_no_part(word)
 }
 
 fn is_made(word: &[u8]) -> bool

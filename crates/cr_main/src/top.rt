@@ -1,26 +1,36 @@
 // The top call.
-ghost use Rattle.std.specs.Prelude.{◌≡◌, ◌≢◌, ◌⊎◌, ℕ, List, true, false};
-ghost use Rattle.cr_outside.specs.Faults.{Rose};
-ghost use Rattle.cr_outside.specs.HasText.{TellsText};
-ghost use Rattle.cr_outside.specs.Files.{put_told};
+ghost use Rattle.std.specs.Prelude.{◌≡◌, ◌⊎◌, ℕ, List};
+ghost use Rattle.cr_outside.specs.declared.files.ReadAnswer.TheVariants.{Bytes};
+ghost use Rattle.cr_outside.specs.Files.{Reads};
+ghost use Rattle.cr_reduce.specs.Bench.{first_calls, first_count, first_says};
 ghost use Rattle.cr_reduce.specs.TokenLaw.{IsTokenized};
-ghost use Rattle.cr_main.specs.Run.{IsResult, KeepsOrReduces, RunsFile};
-ghost use Rattle.cr_main.specs.Words.{HasSettings, SourceIs, TestIs, texts_of};
+ghost use Rattle.cr_main.specs.Headline.{AsksOnly, Completes, IsHeadline, KeepsFiles};
+ghost use Rattle.cr_main.specs.Outside.{judging_of, outside_of};
+ghost use Rattle.cr_main.specs.Requests.{task_for};
+ghost use Rattle.cr_main.specs.Run.{FileHas, Runs, RunsBytes, RunsFile, task_of};
+ghost use Rattle.cr_main.specs.Words.{IsOwnName, name_of, texts_of};
 
-use crate::lines::LinesPass;
+use crate::finish::copy_and_reduce;
+use crate::messages::{USAGE, put, refusal_status, refuse, refuse_file};
+use crate::names::own_name;
 use crate::settings::{Settings, Source, WordFault, words};
-use cr_outside::{Answer, FileFault, Files, Has, Judge, ReadAnswer, Sink, Test};
-use cr_reduce::{Bench, End, Law, Never, Plan, Ruling, TokenLaw, Why, reduce};
+use cr_outside::{Answer, Files, Judge, ReadAnswer, Sink, Test};
+use cr_reduce::{Bench, Law, Never, Ruling, TokenLaw};
 use std::alloc::Global;
 
 /// What is read of a file at most: one byte more than a file may have, so that a longer one is refused.
 const MOST: usize = 1_048_577;
 
-/// The most workers that are used where the words name no number.
-const WORKERS: u32 = 4;
-
-/// How many positions are tried at once, at most.
-const WINDOW: u32 = 256;
+/// What a run is asked to do with a file.
+#[derive(Clone, Copy, Debug)]
+pub struct Request<'a> {
+    pub test: &'a Test,
+    /// The most turns.
+    pub limit: Option<u64>,
+    pub name: &'a str,
+    /// The name under which the test sees the file.
+    pub own: &'a str,
+}
 
 /// Runs the reducer on the words after the program's name, and answers its exit status.
 pub fn run<F: Files, J: Judge, O: Sink>(
@@ -28,166 +38,146 @@ pub fn run<F: Files, J: Judge, O: Sink>(
     list: &[String],
     files: &mut F,
     bench: &mut Bench<J>,
-    _out: &mut O,
+    out: &mut O,
 ) -> u8
-    // 2 comes exactly where the words give no settings, but for want of memory.
-    ensures usage { result ≡ 2 → (text name : List ℕ) → HasSettings (texts_of list.now) text name → ⊥ }
-    ensures settings { ((text name : List ℕ) → HasSettings (texts_of list.now) text name → ⊥) → (result ≡ 2) ⊎ (result ≡ 11) }
-    ensures unread { (result ≡ 2) → F.told files.new ≡ F.told files.old }
+    // Each status comes exactly at its place and with its cause.
+    ensures runs { Runs (texts_of list.now) (first_says J.key J.says bench.old)
+        (outside_of (F.told files.old) (F.faults files.old) (O.told out.old) (O.faults out.old))
+        (outside_of (F.told files.new) (F.faults files.new) (O.told out.new) (O.faults out.new))
+        (judging_of (first_calls J.calls bench.old) (first_count J.faults bench.old))
+        (judging_of (first_calls J.calls bench.new) (first_count J.faults bench.new)) result }
 
-    // Each other status has its cause, and the headline holds at 0.
-    ensures file { (text name : List ℕ) → HasSettings (texts_of list.now) text name
-        → (result ≡ 11) ⊎ RunsFile (F.told files.old) (F.told files.new) (F.faults files.old) (F.faults files.new) name text result }
+    // At 0 and 7 the headline holds.
+    ensures headline { (result ≡ 0) ⊎ (result ≡ 7) → IsHeadline (texts_of list.now) (first_says J.key J.says bench.old)
+        (outside_of (F.told files.old) (F.faults files.old) (O.told out.old) (O.faults out.old))
+        (outside_of (F.told files.new) (F.faults files.new) (O.told out.new) (O.faults out.new)) result }
 
-    // At 9 and 11 the file holds its old bytes or the result's, and no other file changes.
-    ensures others_kept { (text name : List ℕ) → HasSettings (texts_of list.now) text name → KeepsOrReduces (F.told files.old) (F.told files.new) name text }
+    // At every status the file holds its old bytes, or the result's with the bytes read in its copy.
+    ensures files_kept { KeepsFiles (texts_of list.now) (first_says J.key J.says bench.old)
+        (outside_of (F.told files.old) (F.faults files.old) (O.told out.old) (O.faults out.old))
+        (outside_of (F.told files.new) (F.faults files.new) (O.told out.new) (O.faults out.new))
+        (judging_of (first_calls J.calls bench.old) (first_count J.faults bench.old))
+        (judging_of (first_calls J.calls bench.new) (first_count J.faults bench.new)) }
+
+    // The test is asked about nothing but the file and smaller, lawful variants of the chain's files.
+    ensures asks_only { AsksOnly (texts_of list.now) (first_says J.key J.says bench.old)
+        (outside_of (F.told files.old) (F.faults files.old) (O.told out.old) (O.faults out.old))
+        (judging_of (first_calls J.calls bench.old) (first_count J.faults bench.old))
+        (judging_of (first_calls J.calls bench.new) (first_count J.faults bench.new)) }
+
+    // Completeness: with all that it needs, it ends with 0, or for want of memory.
+    ensures completes { Completes (texts_of list.now) (first_says J.key J.says bench.old)
+        (outside_of (F.told files.old) (F.faults files.old) (O.told out.old) (O.faults out.old))
+        (outside_of (F.told files.new) (F.faults files.new) (O.told out.new) (O.faults out.new))
+        (judging_of (first_calls J.calls bench.old) (first_count J.faults bench.old))
+        (judging_of (first_calls J.calls bench.new) (first_count J.faults bench.new)) result }
 {
-    match words(alloc, list) {
-        Ok(settings) => run_settings(alloc, settings, files, bench),
-        Err(WordFault::Usage) => 2,
+    match words(alloc, list, bench.workers()) {
+        Ok(settings) => run_settings(alloc, &settings, files, bench, out),
+        Err(WordFault::Usage) => put(out, USAGE.as_bytes(), 2, 2),
         Err(WordFault::NoMemory) => 11,
     }
 }
 
-fn run_settings<F: Files, J: Judge>(
+fn run_settings<F: Files, J: Judge, O: Sink>(
     alloc: Global,
-    settings: Settings,
+    settings: &Settings,
     files: &mut F,
     bench: &mut Bench<J>,
+    out: &mut O,
 ) -> u8
-    requires { (text : List ℕ) × TestIs settings.test text }
-    ensures file { (text name : List ℕ) → TestIs settings.test text → SourceIs settings.source name
-        → RunsFile (F.told files.old) (F.told files.new) (F.faults files.old) (F.faults files.new) name text result }
-    ensures others_kept { (text name : List ℕ) → TestIs settings.test text → SourceIs settings.source name → KeepsOrReduces (F.told files.old) (F.told files.new) name text }
+    ensures { (own : List ℕ) × IsOwnName (name_of settings.now.source) own
+        × RunsFile (task_of settings.now (first_says J.key J.says bench.old) own)
+        (outside_of (F.told files.old) (F.faults files.old) (O.told out.old) (O.faults out.old))
+        (outside_of (F.told files.new) (F.faults files.new) (O.told out.new) (O.faults out.new))
+        (judging_of (first_calls J.calls bench.old) (first_count J.faults bench.old))
+        (judging_of (first_calls J.calls bench.new) (first_count J.faults bench.new)) result }
 {
-    let Settings { test, source } = settings;
-    let Source::Named(name) = source;
-    match test {
-        Test::Has(has) => reduce_file(alloc, &has, name.as_str(), files, bench),
-        Test::Program(_) => unreachable!(),
-    }
-}
-
-fn reduce_file<F: Files, J: Judge>(
-    alloc: Global,
-    has: &Has,
-    name: &str,
-    files: &mut F,
-    bench: &mut Bench<J>,
-) -> u8
-    ensures file { RunsFile (F.told files.old) (F.told files.new) (F.faults files.old) (F.faults files.new) name.now has.now result }
-    ensures others_kept { KeepsOrReduces (F.told files.old) (F.told files.new) name.now has.now }
-{
-    let bytes = match files.read(alloc, name, MOST) {
-        ReadAnswer::Bytes(bytes) => bytes,
-        ReadAnswer::Absent => return 3,
-        ReadAnswer::Failed => return 9,
-        ReadAnswer::NoMemory => return 11,
+    let name = source_name(&settings.source);
+    let request = Request {
+        test: &settings.test,
+        limit: settings.limit,
+        name,
+        own: own_name(name),
     };
-    match examine(alloc, has, bench, name, &bytes) {
-        Examined::Interesting => reduce_bytes(alloc, has, name, bytes, files, bench),
-        Examined::Refused => 4,
-        Examined::Uninteresting => 6,
-        Examined::NoMemory => 11,
-    }
+    run_file(alloc, request, files, bench, out)
 }
 
-/// What a file is before it is reduced.
-#[derive(Clone, Copy, Debug, PartialEq, Eq)]
-enum Examined {
-    Interesting,
-    Refused,
-    Uninteresting,
-    NoMemory,
-}
-
-fn examine<J: Judge>(
-    alloc: Global,
-    has: &Has,
-    bench: &mut Bench<J>,
-    name: &str,
-    bytes: &[u8],
-) -> Examined
-    ensures interesting { result ≡ Examined.Interesting → IsTokenized bytes.now × TellsText has.now bytes.now true }
-    ensures refused { result ≡ Examined.Refused → IsTokenized bytes.now → ⊥ }
-    ensures uninteresting { result ≡ Examined.Uninteresting → IsTokenized bytes.now × TellsText has.now bytes.now false }
+fn source_name(source: &Source) -> &str
+    ensures { result.now ≡ name_of source.now }
 {
-    let mut never = Never { looks: 0 };
-    match TokenLaw.rule(alloc, bytes, &mut never) {
-        Ruling::Lawful => ask(alloc, has, bench, name, bytes),
-        Ruling::Unlawful(_) => Examined::Refused,
-        Ruling::Stopped => unreachable!(),
-        Ruling::NoMemory => Examined::NoMemory,
+    match source {
+        Source::Named(name) => name.as_str(),
     }
 }
 
-fn ask<J: Judge>(
+fn run_file<F: Files, J: Judge, O: Sink>(
     alloc: Global,
-    has: &Has,
+    request: Request<'_>,
+    files: &mut F,
     bench: &mut Bench<J>,
-    name: &str,
-    bytes: &[u8],
-) -> Examined
-    ensures interesting { result ≡ Examined.Interesting → TellsText has.now bytes.now true }
-    ensures uninteresting { result ≡ Examined.Uninteresting → TellsText has.now bytes.now false }
-    ensures not_refused { result ≢ Examined.Refused }
+    out: &mut O,
+) -> u8
+    ensures { RunsFile (task_for request.entry (first_says J.key J.says bench.old))
+        (outside_of (F.told files.old) (F.faults files.old) (O.told out.old) (O.faults out.old))
+        (outside_of (F.told files.new) (F.faults files.new) (O.told out.new) (O.faults out.new))
+        (judging_of (first_calls J.calls bench.old) (first_count J.faults bench.old))
+        (judging_of (first_calls J.calls bench.new) (first_count J.faults bench.new)) result }
 {
-    match bench.ask_first(alloc, has, name, bytes) {
-        Answer::Yes => Examined::Interesting,
-        Answer::No => Examined::Uninteresting,
-        Answer::Failed => unreachable!(),
-        Answer::NoMemory => Examined::NoMemory,
+    match files.read(alloc, request.name, MOST) {
+        ReadAnswer::Bytes(bytes) => run_bytes(alloc, request, bytes, files, bench, out),
+        ReadAnswer::Absent => refuse(alloc, out, "no file ", request.name, 3),
+        ReadAnswer::Failed => refuse(alloc, out, "file fault: ", request.name, 9),
+        ReadAnswer::NoMemory => 11,
     }
 }
 
-fn reduce_bytes<F: Files, J: Judge>(
+fn run_bytes<F: Files, J: Judge, O: Sink>(
     alloc: Global,
-    has: &Has,
-    name: &str,
+    request: Request<'_>,
     bytes: Vec<u8>,
     files: &mut F,
     bench: &mut Bench<J>,
+    out: &mut O,
 ) -> u8
-    requires lawful { IsTokenized bytes.items }
-    ensures reduced { result ≡ 0 → IsResult (F.told files.old) (F.told files.new) name.now has.now bytes.items }
-    ensures failed { result ≡ 9 → Rose (F.faults files.old) (F.faults files.new) }
-    ensures others_kept { (F.told files.new ≡ F.told files.old) ⊎ IsResult (F.told files.old) (F.told files.new) name.now has.now bytes.items }
-    ensures late { (result ≡ 0) ⊎ (result ≡ 9) ⊎ (result ≡ 11) }
+    requires read { Reads (F.told files.old) request.name.now 1048577 (Bytes bytes) }
+    ensures { RunsBytes (task_for request.entry (first_says J.key J.says bench.old))
+        (outside_of (F.told files.old) (F.faults files.old) (O.told out.old) (O.faults out.old))
+        (outside_of (F.told files.new) (F.faults files.new) (O.told out.new) (O.faults out.new))
+        (judging_of (first_calls J.calls bench.old) (first_count J.faults bench.old))
+        (judging_of (first_calls J.calls bench.new) (first_count J.faults bench.new)) result }
 {
-    let plan = Plan {
-        workers: bench.workers().min(WORKERS),
-        window: WINDOW,
-        limit: None,
-    };
-    let end = reduce(alloc, &LinesPass, &TokenLaw, has, bench, name, bytes, &plan);
-    finish(alloc, name, &end, files)
-}
-
-fn finish<F: Files>(alloc: Global, name: &str, end: &End, files: &mut F) -> u8
-    ensures written { result ≡ 0 → (F.told files.new ≡ put_told name.now end.now.file.items (F.told files.old)) × (end.now.why ≡ Why.Fixed) }
-    ensures failed { result ≡ 9 → Rose (F.faults files.old) (F.faults files.new) }
-    ensures others_kept { (F.told files.new ≡ F.told files.old) ⊎ ((F.told files.new ≡ put_told name.now end.now.file.items (F.told files.old)) × (end.now.why ≡ Why.Fixed)) }
-    ensures late { (result ≡ 0) ⊎ (result ≡ 7) ⊎ (result ≡ 8) ⊎ (result ≡ 9) ⊎ (result ≡ 11) }
-    ensures limit { result ≡ 7 → end.now.why ≡ Why.Limit }
-    ensures fault { result ≡ 8 → (turn worker : ℕ) × (end.now.why ≡ Why.Fault turn worker) }
-{
-    match end.why {
-        Why::Fixed => write(alloc, name, end.file.as_slice(), files),
-        Why::Limit => 7,
-        Why::Fault(_, _) => 8,
-        Why::NoMemory => 11,
+    let mut never = Never { looks: 0 };
+    match TokenLaw.rule(alloc, &bytes, &mut never) {
+        Ruling::Lawful => ask_test(alloc, request, bytes, files, bench, out),
+        Ruling::Unlawful(reason) => {
+            refuse_file(alloc, out, request.name, reason, refusal_status(reason))
+        }
+        Ruling::Stopped => unreachable!(),
+        Ruling::NoMemory => 11,
     }
 }
 
-fn write<F: Files>(alloc: Global, name: &str, bytes: &[u8], files: &mut F) -> u8
-    ensures written { result ≡ 0 → F.told files.new ≡ put_told name.now bytes.now (F.told files.old) }
-    ensures failed { result ≡ 9 → Rose (F.faults files.old) (F.faults files.new) }
-    ensures others_kept { (F.told files.new ≡ F.told files.old) ⊎ (F.told files.new ≡ put_told name.now bytes.now (F.told files.old)) }
-    ensures late { (result ≡ 0) ⊎ (result ≡ 9) ⊎ (result ≡ 11) }
+fn ask_test<F: Files, J: Judge, O: Sink>(
+    alloc: Global,
+    request: Request<'_>,
+    bytes: Vec<u8>,
+    files: &mut F,
+    bench: &mut Bench<J>,
+    out: &mut O,
+) -> u8
+    requires lawful { IsTokenized bytes.items }
+    requires has { FileHas (F.told files.old) request.name.now bytes.items }
+    ensures { RunsBytes (task_for request.entry (first_says J.key J.says bench.old))
+        (outside_of (F.told files.old) (F.faults files.old) (O.told out.old) (O.faults out.old))
+        (outside_of (F.told files.new) (F.faults files.new) (O.told out.new) (O.faults out.new))
+        (judging_of (first_calls J.calls bench.old) (first_count J.faults bench.old))
+        (judging_of (first_calls J.calls bench.new) (first_count J.faults bench.new)) result }
 {
-    match files.write(alloc, name, bytes) {
-        Ok(()) => 0,
-        Err(FileFault::Failed) => 9,
-        Err(FileFault::NoMemory) => 11,
+    match bench.ask_first(alloc, request.test, request.own, &bytes) {
+        Answer::Yes => copy_and_reduce(alloc, request, bytes, files, bench, out),
+        Answer::No => refuse(alloc, out, "the test says no to ", request.name, 6),
+        Answer::Failed => refuse(alloc, out, "the test failed on ", request.name, 8),
+        Answer::NoMemory => 11,
     }
 }

@@ -1,11 +1,11 @@
 // The question whether a file contains a text.
-ghost use Rattle.std.specs.Prelude.{◌≡◌, ◌≢◌, ◌⊎◌, false, ◌↔◌, List, IfOk, IsTrue, MatchOption};
+ghost use Rattle.std.specs.Prelude.{◌≡◌, ◌≢◌, ◌⊎◌, false, List, IfOk, MatchOption};
 ghost use Rattle.cr_tokens.specs.declared.token.Token.{Token};
 ghost use Rattle.cr_tokens.specs.Tokens.{Tokenizes};
 ghost use Rattle.cr_outside.specs.HasText.{HasText, IsText, TellsText};
 
 use crate::{Answer, Judge, NoMemory, Question, TestFault};
-use cr_tokens::{TokenFault, Tokens, contains, read};
+use cr_tokens::{Tokens, contains, read};
 use std::alloc::{AllocError, Global};
 use std::marker::Model;
 
@@ -62,18 +62,12 @@ fn tokens_of(alloc: Global, file: &[u8]) -> Result<Option<Tokens>, NoMemory>
     match read(alloc, file) {
         Ok(tokens) => Ok(Some(tokens)),
         Err(fault) => {
-            if is_want(fault) {
+            if fault.is_want() {
                 return Err(AllocError);
             }
             Ok(None)
         }
     }
-}
-
-fn is_want(fault: TokenFault) -> bool
-    ensures { IsTrue result ↔ (fault ≡ TokenFault.NoMemory) }
-{
-    matches!(fault, TokenFault::NoMemory)
 }
 
 fn with_tokens(alloc: Global, text: &[u8], wanted: Tokens) -> Result<Has, TestFault>

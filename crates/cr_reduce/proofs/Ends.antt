@@ -1,14 +1,12 @@
 -- From the walk to the end.
-use Rattle.std.proofs.Common.{◌≡◌, ℕ, ◌+◌, ◌<◌, ◌≤◌, Bool, true, false, List, [], length, Option, Some, None, refl, subst, sym, arith}
-use Rattle.cr_outside.specs.declared.judge.Answer.TheVariants.{Yes, No}
+use Rattle.std.proofs.Common.{◌≡◌, ℕ, ◌≤◌, List, [], length, Option, Some, None, refl, subst, sym, arith}
 use Rattle.cr_outside.specs.Judge.{Call}
 use Rattle.cr_reduce.specs.declared.end.End.{End}
 use Rattle.cr_reduce.specs.declared.end.Why.{Why}
 use Rattle.cr_reduce.specs.declared.end.Why.TheVariants.{Fixed, Limit, Fault, NoMemory}
 use Rattle.cr_reduce.specs.declared.walk.Walk.{Walk}
-use Rattle.cr_reduce.specs.Trials.{IsAccepted, IsRejected, GoesOn}
 use Rattle.cr_reduce.specs.Trials.IsRejected.{not_smaller, unlawful, answered_no}
-use Rattle.cr_reduce.specs.Reduction.{AllRejected, State, Outcome, Within, Reduces, cursors_of, start_of, ends}
+use Rattle.cr_reduce.specs.Reduction.{State, Outcome, Within, cursors_of, start_of, ends}
 use Rattle.cr_reduce.specs.Reduction.Reduces.{fixed, spent}
 use Rattle.cr_reduce.specs.Search.{Search, AcceptsInRun, RejectsInRun, AcceptsAsTold, RejectsAsTold, ReducesInRun, ReducesAsTold, IsAllTold}
 use Rattle.cr_reduce.specs.Walk.{EndsHere, Walked, state_of}

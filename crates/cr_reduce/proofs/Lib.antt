@@ -1,10 +1,13 @@
 pub mod Numbering
 pub mod Members
+pub mod Ranks
 pub mod Reductions
+pub mod OneOutcome
 pub mod Runs
 pub mod Sizes
 pub mod Walks
 pub mod Verdicts
 pub mod Traces
 pub mod Ends
+pub mod Bounds
 pub mod TokenReasons

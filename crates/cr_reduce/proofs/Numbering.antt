@@ -1,5 +1,5 @@
 -- The numbers of cursors: how many stand before a level, and which one stands at a place.
-use Rattle.std.proofs.Common.{◌≡◌, ℕ, zero, suc, ◌+◌, ◌-◌, ◌<◌, ◌≤◌, List, [], ◌∷◌, ◌++◌, length, Some, subst, sym, ap, ◌∙◌, refl, arith, zero-add, add-one, ◌⊎◌, inl, inr}
+use Rattle.std.proofs.Common.{◌≡◌, ℕ, zero, suc, ◌+◌, ◌<◌, List, [], ◌∷◌, ◌++◌, length, Some, subst, sym, ap, ◌∙◌, refl, arith, zero-add, add-one, ◌⊎◌, inl, inr}
 use Rattle.std.specs.List.{slice_get}
 use Rattle.std.proofs.lemmas.List.{length-append}
 use Rattle.cr_reduce.specs.declared.traits.passes.Cursor.{Cursor}
@@ -16,7 +16,7 @@ back (a ∷ xs) ys i x h =
     let e : length (a ∷ xs) + i ≡ suc (length xs + i) = omega arith in
     subst (λ k. slice_get (a ∷ (xs ++ ys)) k ≡ Some x) (sym e) (back xs ys i x h)
 
-below_or_last : (i n : ℕ) → i < suc n → (i < n) ⊎ (i ≡ n)
+pub below_or_last : (i n : ℕ) → i < suc n → (i < n) ⊎ (i ≡ n)
 below_or_last i n h = search arith
 
 -- lengths

@@ -1,6 +1,6 @@
 -- Steps of the reduction.
-use Rattle.std.proofs.Common.{◌≡◌, ℕ, ◌+◌, ◌<◌, ◌≤◌, ◌⊎◌, inl, inr, Bool, true, false, List, ◌∷◌, ◌++◌, [], length, Option, Some, subst, sym, ap, refl, arith}
-use Rattle.std.proofs.lemmas.Bool.{true≢false}
+use Rattle.std.proofs.Common.{◌≡◌, ℕ, ◌+◌, ◌<◌, ◌≤◌, ◌⊎◌, inl, inr, Bool, true, false, List, length, Option, Some, subst, sym, ap, refl, arith}
+use Rattle.std.proofs.lemmas.Bool.{cases_lt, true≢false}
 use Rattle.std.specs.List.{slice_get}
 use Rattle.cr_reduce.specs.declared.traits.passes.Cursor.{Cursor}
 use Rattle.cr_reduce.specs.declared.end.Accepted.{Accepted}
@@ -101,13 +101,10 @@ abbrev pub IsSwept : Proposals → Trial → State → Type 0
 IsSwept p R st = st.changed ≡ false → AllRejected p R st.file 0 st.position
 
 joined : (p : Proposals) (R : Trial) (file : List ℕ) (middle to : ℕ) → AllRejected p R file 0 middle → AllRejected p R file middle to → AllRejected p R file 0 to
-joined p R file middle to before after i at low high there = elim (sides i middle) [
+joined p R file middle to before after i at low high there = elim (cases_lt i middle) [
   | inl early ↦ before i at low early there
   | inr late ↦ after i at late high there
 ]
-  where
-    sides : (i middle : ℕ) → (i < middle) ⊎ (middle ≤ i)
-    sides i middle = search arith
 
 -- A reduction that ends Fixed has no accepted variant left: each variant of the result is rejected.
 pub fixed_point : (p : Proposals) (A R : Trial) (limit : Option ℕ) (st : State) (out : Outcome) → Reduces p A R limit st out → IsSwept p R st → out.why ≡ Fixed

@@ -1,10 +1,10 @@
 -- Calls in a run: lists of calls that go on, and answers that stay given.
-use Rattle.std.proofs.Common.{◌≡◌, ◌≢◌, ◌⊎◌, inl, inr, ℕ, Bool, true, false, List, [], ◌∷◌, ◌++◌, Option, Some, None, subst, sym, ap, ◌∙◌, refl, append_assoc}
+use Rattle.std.proofs.Common.{◌≡◌, inl, inr, ℕ, Bool, List, [], ◌∷◌, ◌++◌, Option, Some, None, subst, sym, ap, ◌∙◌, refl, append_assoc}
 use Rattle.std.proofs.lemmas.List.{append-nil}
 use Rattle.cr_outside.specs.declared.judge.Answer.{Answer}
-use Rattle.cr_outside.specs.declared.judge.Answer.TheVariants.{Yes, No, Failed, NoMemory}
+use Rattle.cr_outside.specs.declared.judge.Answer.TheVariants.{Yes, No}
 use Rattle.cr_outside.specs.Judge.{Call, call_of, with_call}
-use Rattle.cr_outside.specs.Question.{AsksOnce, AnswersAsTold}
+use Rattle.cr_outside.specs.Question.{AsksOnce}
 use Rattle.cr_reduce.specs.Trials.{GoesOn, HasCalled, AnswerInRun, CallsAbout}
 
 pub goes_on-refl : (calls : Option (List Call)) → GoesOn calls calls

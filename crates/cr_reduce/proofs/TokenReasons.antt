@@ -1,6 +1,5 @@
 -- The reasons against a file that doesn't tokenise.
-use Rattle.std.proofs.Common.{◌≡◌, ◌≤◌, ◌⊎◌, inl, inr, ℕ, List, length, arith, refl, subst}
-use Rattle.cr_tokens.specs.declared.token.Token.{Token}
+use Rattle.std.proofs.Common.{◌≡◌, ◌≤◌, ◌⊎◌, inl, inr, ℕ, List, length, refl, subst}
 use Rattle.cr_tokens.specs.declared.token.TokenFault.{TokenFault}
 use Rattle.cr_tokens.specs.declared.token.TokenFault.TheVariants as fault
 use Rattle.cr_tokens.specs.Faults.{FirstTokenFault}

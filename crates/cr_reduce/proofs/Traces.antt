@@ -5,9 +5,9 @@ use Rattle.std.specs.List.{slice_get}
 use Rattle.cr_outside.specs.Judge.{Call, call_of, with_call}
 use Rattle.cr_reduce.specs.declared.end.Accepted.{Accepted}
 use Rattle.cr_reduce.specs.Trials.{GoesOn}
-use Rattle.cr_reduce.specs.Reduction.{Proposals, State, cursors_of, taken, moved, next_round}
+use Rattle.cr_reduce.specs.Reduction.{Proposals, State}
 use Rattle.cr_reduce.specs.Search.{Search, chain_of, IsCandidate, AboutCandidates, AsksOnlyCandidates}
-use Rattle.cr_reduce.specs.Walk.{MovesOn, AsksAtMostOnce, Advances, Traces, Walked, Leads}
+use Rattle.cr_reduce.specs.Walk.{AsksAtMostOnce, Advances, Traces, Walked}
 use Rattle.cr_reduce.specs.Walk.MovesOn.{rejected, accepted}
 use Rattle.cr_reduce.specs.Walk.AsksAtMostOnce.{not_asked, asked}
 use Rattle.cr_reduce.specs.Walk.Advances.{moves, round}

@@ -1,5 +1,5 @@
 -- From what a position came to, back to the verdict on its variant.
-use Rattle.std.proofs.Common.{◌≡◌, ℕ, refl, sym, ◌∙◌}
+use Rattle.std.proofs.Common.{◌≡◌, ℕ, refl}
 use Rattle.cr_reduce.specs.declared.traits.passes.Cursor.{Cursor}
 use Rattle.cr_reduce.specs.declared.look.Considered.{Considered}
 use Rattle.cr_reduce.specs.declared.look.Considered.TheVariants as considered

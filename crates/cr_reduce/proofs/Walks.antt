@@ -1,17 +1,16 @@
 -- The numbers of a walk, and what its steps complete.
-use Rattle.std.proofs.Common.{◌≡◌, ◌⊎◌, inl, inr, ℕ, ◌+◌, ◌-◌, ◌*◌, ◌<◌, ◌≤◌, Bool, true, false, List, ◌∷◌, ◌++◌, length, Option, Some, None, subst, sym, refl, arith}
+use Rattle.std.proofs.Common.{◌≡◌, ◌⊎◌, inl, inr, ℕ, ◌+◌, ◌*◌, ◌<◌, ◌≤◌, Bool, true, false, List, length, Option, Some, None, subst, sym, refl, arith}
 use Rattle.std.specs.List.{slice_get}
-use Rattle.cr_outside.specs.declared.judge.Answer.{Answer}
 use Rattle.cr_outside.specs.declared.judge.Answer.TheVariants.{Yes, No}
-use Rattle.cr_outside.specs.Faults.{Rose}
+use Rattle.cr_outside.proofs.Counts.{rose_earlier}
 use Rattle.cr_outside.specs.Judge.{Call, call_of, with_call}
 use Rattle.cr_reduce.specs.declared.traits.passes.Cursor.{Cursor}
 use Rattle.cr_reduce.specs.Sizes.{HasSize, IsSmaller}
-use Rattle.cr_reduce.specs.Trials.{AnswerInRun, CallsAbout, IsBad, IsGood, IsAccepted, IsRejected, GoesOn}
+use Rattle.cr_reduce.specs.Trials.{AnswerInRun, CallsAbout, IsBad, IsGood, GoesOn}
 use Rattle.cr_reduce.specs.Trials.IsRejected.{not_smaller, unlawful, answered_no}
-use Rattle.cr_reduce.specs.Reduction.{State, Outcome, Within, cursors_of, moved, taken, next_round, Reduces}
+use Rattle.cr_reduce.specs.Reduction.{State, Within, cursors_of, moved, taken, next_round}
 use Rattle.cr_reduce.specs.Reduction.Reduces.{new_round}
-use Rattle.cr_reduce.specs.Search.{Search, ReducesInRun, AcceptsInRun, RejectsInRun}
+use Rattle.cr_reduce.specs.Search.{Search, AcceptsInRun, RejectsInRun}
 use Rattle.cr_reduce.specs.declared.end.Why.{Why}
 use Rattle.cr_reduce.specs.declared.end.Why.TheVariants.{Fixed, Limit, Fault, NoMemory}
 use Rattle.cr_reduce.specs.Walk.{left_of, MovesOn, AsksAtMostOnce, Leads, IsHalt, EndsHere, Advances}
@@ -19,7 +18,7 @@ use Rattle.cr_reduce.specs.Walk.Advances.{moves, round}
 use Rattle.cr_reduce.specs.Walk.MovesOn.{rejected, accepted}
 use Rattle.cr_reduce.specs.Walk.AsksAtMostOnce.{not_asked, asked}
 use Rattle.cr_reduce.proofs.Sizes.{one_size}
-use Rattle.cr_reduce.proofs.Runs.{goes_on-refl, goes_on-trans, answer_in_run-later, answer_in_run-earlier}
+use Rattle.cr_reduce.proofs.Runs.{goes_on-trans, answer_in_run-later, answer_in_run-earlier}
 use Rattle.cr_reduce.proofs.Reductions.{skip, take_next}
 
 pub left_low : (changed : Bool) (size count position : ℕ) → size * 1073741824 ≤ left_of changed size count position
@@ -83,7 +82,8 @@ asks_at_most_once s now st at variant size there is has (inr made) (inr good) =
 pub leads-refl : (s : Search) (now : Option (List Call)) (st : State) → Leads s now st st
 leads-refl s now st = record { later = omega arith; leads = λ after limit out on within rest. rest }
 
-within_less : (limit : Option ℕ) (m n : ℕ) → m ≤ n → Within limit n → Within limit m
+-- fewer turns are within a limit too
+pub within_less : (limit : Option ℕ) (m n : ℕ) → m ≤ n → Within limit n → Within limit m
 within_less None m n less within = tt
 within_less (Some most) m n less within = omega arith
 
@@ -141,9 +141,6 @@ leads-advances s before now st to earlier (moves step) = leads-moves s before no
 leads-advances s before now st to earlier (round end changed is) =
     let run = record s { before = before } in
     subst (Leads run now st) (sym is) (leads-round run now st end changed)
-
-rose_earlier : (first before now : ℕ) → first ≤ before → Rose before now → Rose first now
-rose_earlier first before now less rose = grind arith
 
 -- A fault of the last step is a fault since the beginning.
 pub ends_earlier : (s : Search) (limit : Option ℕ) (first before now : ℕ) (st : State) (why : Why) → first ≤ before → EndsHere s limit before now st why → EndsHere s limit first now st why

@@ -1,5 +1,5 @@
 -- A bench of judges, seen through what its first judge tells.
-use Rattle.std.specs.Prelude.{◌≡◌, ℕ, Bool, List, [], ◌∷◌, Option, None}
+use Rattle.std.specs.Prelude.{ℕ, List, [], ◌∷◌, Option, None}
 use Rattle.cr_outside.specs.Judge.{Call}
 use Rattle.cr_outside.specs.Question.{Says}
 

@@ -6,4 +6,6 @@ pub mod Bench
 pub mod Search
 pub mod Walk
 pub mod Ends
+pub mod Bound
 pub mod TokenLaw
+pub mod Laws

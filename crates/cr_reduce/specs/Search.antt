@@ -1,15 +1,13 @@
 -- What a reduction searches: what the passes propose, which files are lawful, and what is asked about them.
-use Rattle.std.specs.Prelude.{◌≡◌, ◌⊎◌, ℕ, ◌+◌, ◌<◌, ◌≤◌, Bool, true, List, [], ◌∷◌, ◌++◌, length, Option, Some, None}
+use Rattle.std.specs.Prelude.{◌≡◌, ℕ, Bool, List, [], ◌∷◌, ◌++◌, Option, Some, None}
 use Rattle.std.specs.List.{slice_get}
-use Rattle.cr_outside.specs.declared.judge.Answer.{Answer}
-use Rattle.cr_outside.specs.declared.judge.Answer.TheVariants.{Yes, No}
-use Rattle.cr_outside.specs.Judge.{Call, call_of, with_call}
+use Rattle.cr_outside.specs.Judge.{Call}
 use Rattle.cr_outside.specs.Question.{Says, IsTold}
 use Rattle.cr_reduce.specs.declared.end.Accepted.{Accepted}
 use Rattle.cr_reduce.specs.declared.traits.passes.Cursor.{Cursor}
 use Rattle.cr_reduce.specs.Variants.{Widths}
-use Rattle.cr_reduce.specs.Sizes.{HasSize, IsSmaller}
-use Rattle.cr_reduce.specs.Trials.{IsAccepted, IsRejected, ToldAnswer, AnswerInRun, GoesOn}
+use Rattle.cr_reduce.specs.Sizes.{IsSmaller}
+use Rattle.cr_reduce.specs.Trials.{IsAccepted, IsRejected, ToldAnswer, AnswerInRun}
 use Rattle.cr_reduce.specs.Reduction.{Proposals, Trial, State, Outcome, Reduces, cursors_of}
 
 pub record Search : Type 1 where

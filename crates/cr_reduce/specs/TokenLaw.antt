@@ -1,10 +1,11 @@
 -- The law that a file tokenises, and the reasons against it.
-use Rattle.std.specs.Prelude.{◌≡◌, ℕ, ◌+◌, List, take, count_by, ◌==◌}
+use Rattle.std.specs.Prelude.{◌≡◌, ℕ, List}
 use Rattle.cr_tokens.specs.declared.token.Token.{Token}
 use Rattle.cr_tokens.specs.declared.token.TokenFault.{TokenFault}
 use Rattle.cr_tokens.specs.declared.token.TokenFault.TheVariants as fault
 use Rattle.cr_tokens.specs.Tokens.{Tokenizes}
 use Rattle.cr_tokens.specs.Faults.{FirstTokenFault}
+use Rattle.cr_tokens.specs.Places.{line_of}
 use Rattle.cr_reduce.specs.declared.traits.law.Reason.{Reason}
 use Rattle.cr_reduce.specs.declared.traits.law.Reason.TheVariants.{Token as token}
 use Rattle.cr_reduce.specs.declared.traits.law.Ruling.{Ruling}
@@ -13,10 +14,6 @@ use Rattle.cr_reduce.specs.declared.traits.law.Ruling.TheVariants as ruling
 pub record IsTokenized (file : List ℕ) : Type 0 where
   pub tokens : List Token
   pub tokenizes : Tokenizes file tokens
-
--- the line of a place: 1, and the LF bytes before it
-abbrev pub line_at : List ℕ → ℕ → ℕ
-line_at file place = 1 + count_by (λ b. b == 10) (take place file)
 
 -- the numbers of the faults
 abbrev pub number_of : TokenFault → ℕ
@@ -28,16 +25,16 @@ number_of (fault.OpenLiteral place) = 4
 number_of (fault.TooMany place) = 5
 
 -- the lines of the faults
-abbrev pub line_of : List ℕ → TokenFault → ℕ
-line_of file fault.NoMemory = 1
-line_of file fault.TooLong = 1
-line_of file (fault.BadByte place) = line_at file place
-line_of file (fault.OpenComment place) = line_at file place
-line_of file (fault.OpenLiteral place) = line_at file place
-line_of file (fault.TooMany place) = line_at file place
+abbrev pub fault_line : List ℕ → TokenFault → ℕ
+fault_line file fault.NoMemory = 1
+fault_line file fault.TooLong = 1
+fault_line file (fault.BadByte place) = line_of file place
+fault_line file (fault.OpenComment place) = line_of file place
+fault_line file (fault.OpenLiteral place) = line_of file place
+fault_line file (fault.TooMany place) = line_of file place
 
 abbrev pub reason_of : List ℕ → TokenFault → Reason
-reason_of file f = token (number_of f) (line_of file f)
+reason_of file f = token (number_of f) (fault_line file f)
 
 abbrev pub RulesOn : List ℕ → TokenFault → Ruling → Type 0
 RulesOn file fault.NoMemory result = result ≡ ruling.NoMemory

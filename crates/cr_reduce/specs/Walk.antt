@@ -1,5 +1,5 @@
 -- The walk of a reduction, as its loop has it.
-use Rattle.std.specs.Prelude.{◌≡◌, ◌⊎◌, ℕ, ◌+◌, ◌*◌, ◌-◌, ◌<◌, ◌≤◌, Bool, true, false, List, ◌++◌, length, Option, Some, None}
+use Rattle.std.specs.Prelude.{◌≡◌, ℕ, ◌+◌, ◌*◌, ◌-◌, ◌<◌, ◌≤◌, Bool, true, false, List, ◌++◌, length, Option, Some}
 use Rattle.std.specs.List.{slice_get}
 use Rattle.cr_outside.specs.Judge.{Call, call_of, with_call}
 use Rattle.cr_outside.specs.declared.judge.Answer.{Answer}

@@ -1,9 +1,10 @@
 // The reduction.
-ghost use Rattle.std.specs.Prelude.{◌≡◌, ◌<◌, ◌≤◌, ℕ, length, IfErr, IfOk};
+ghost use Rattle.std.specs.Prelude.{◌≡◌, ◌≢◌, ◌<◌, ◌≤◌, ℕ, length, IfErr, IfOk};
 ghost use Rattle.cr_reduce.specs.Bench.{first_calls, first_count, first_says, others};
+ghost use Rattle.cr_reduce.specs.Bound.{HasLevels, enough_turns};
 ghost use Rattle.cr_reduce.specs.Ends.{end_of_walk, EndsAsTold, EndsInRun, FaultsWithCause, IsFixedAsTold, IsFixedInRun};
 ghost use Rattle.cr_reduce.specs.Search.{AsksOnlyCandidates, IsAllTold, search_of};
-ghost use Rattle.cr_reduce.specs.Reduction.{start_of};
+ghost use Rattle.cr_reduce.specs.Reduction.{Within, start_of};
 ghost use Rattle.cr_reduce.specs.Sizes.{HasSize};
 ghost use Rattle.cr_reduce.specs.Walk.{IsSound, state_of};
 
@@ -51,6 +52,9 @@ pub fn reduce<P: Passes, L: Law, Q: Question, J: Judge>(
         file.items result.accepted.items (first_calls J.calls bench.old) (first_calls J.calls bench.new) }
     ensures cause { FaultsWithCause (search_of (P.widths passes.now) (P.bytes passes.now) (L.lawful law.now) (Q.asks question.now) (Q.tells question.now) (first_says J.key J.says bench.old) name.now (first_calls J.calls bench.old))
         (first_count J.faults bench.old) (first_count J.faults bench.new) result.why }
+
+    // With turns enough it ends for another reason.
+    ensures in_time { (levels : ℕ → ℕ) (size : ℕ) → HasLevels (P.widths passes.now) levels → HasSize file.items size → Within plan.now.limit (enough_turns levels size) → result.why ≢ Why.Limit }
     ensures key { first_says J.key J.says bench.new ≡ first_says J.key J.says bench.old }
     ensures others { others bench.new ≡ others bench.old }
     ensures count { length bench.new ≡ length bench.old }

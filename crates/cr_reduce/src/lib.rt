@@ -8,6 +8,7 @@ mod advance;
 mod bench;
 mod end;
 mod greedy;
+pub mod laws;
 mod look;
 mod take;
 pub mod traits;

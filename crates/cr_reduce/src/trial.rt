@@ -1,5 +1,5 @@
 // The trial of one variant.
-ghost use Rattle.std.specs.Prelude.{◌≡◌, ◌≢◌, ◌≤◌, ◌<◌, ◌⊎◌, ℕ, ◌↔◌, IfOk, IsTrue, MatchOption, true, false, length};
+ghost use Rattle.std.specs.Prelude.{◌≡◌, ◌≢◌, ◌≤◌, ◌<◌, ◌⊎◌, ℕ, IfOk, MatchOption, true, false, length};
 ghost use Rattle.cr_outside.specs.Faults.{Rose};
 ghost use Rattle.cr_outside.specs.declared.judge.Answer.TheVariants.{Yes as AnswerYes, No as AnswerNo};
 ghost use Rattle.cr_reduce.specs.Bench.{first_calls, first_count, first_says, others};
@@ -10,7 +10,7 @@ use crate::bench::Bench;
 use crate::traits::law::{Law, Ruling};
 use crate::traits::stop::Never;
 use cr_outside::{Answer, Judge, NoMemory, Question};
-use cr_tokens::{TokenFault, read, size};
+use cr_tokens::{read, size};
 use std::alloc::{AllocError, Global};
 
 /// What the trial of a variant came to.
@@ -31,18 +31,12 @@ pub fn measure(alloc: Global, file: &[u8]) -> Result<Option<u64>, NoMemory>
     match read(alloc, file) {
         Ok(tokens) => Ok(Some(size(file, &tokens))),
         Err(fault) => {
-            if is_want(fault) {
+            if fault.is_want() {
                 return Err(AllocError);
             }
             Ok(None)
         }
     }
-}
-
-fn is_want(fault: TokenFault) -> bool
-    ensures { IsTrue result ↔ (fault ≡ TokenFault.NoMemory) }
-{
-    matches!(fault, TokenFault::NoMemory)
 }
 
 /// Whether a file is lawful.

@@ -28,7 +28,8 @@ use Rattle.cr_syntax.specs.Reads.{Reader, is_word, same_word, are_words, span_is
 use Rattle.cr_syntax.specs.Units.{most_levels}
 use Rattle.cr_syntax.proofs.Alternatives.{part_only, side_only}
 use Rattle.cr_syntax.proofs.Tests.{if_some, both}
-use Rattle.cr_syntax.proofs.Equations.{part_on, clause_on, step_on, else_on, prototype_on, size_on, qualified_on, reads_token, reads_opens, reads_reopens, reads_part, reads_optional, reads_many, reads_list, reads_optional_list, reads_tag, reads_trailing, reads_ordinary, reads_type_identifier, reads_declared, reads_enumerates, reads_value, reads_begins, reads_enters, reads_ends, reads_clause, reads_init, reads_step, reads_else, reads_prototype, reads_size, reads_qualified, reads_optional_qualified, reads_texts, reads_done}
+use Rattle.cr_syntax.specs.Steps.{part_on, clause_on, step_on, else_on, prototype_on, size_on, qualified_on}
+use Rattle.cr_syntax.proofs.Equations.{reads_token, reads_opens, reads_reopens, reads_part, reads_optional, reads_many, reads_list, reads_optional_list, reads_tag, reads_trailing, reads_ordinary, reads_type_identifier, reads_declared, reads_enumerates, reads_value, reads_begins, reads_enters, reads_ends, reads_clause, reads_init, reads_step, reads_else, reads_prototype, reads_size, reads_qualified, reads_optional_qualified, reads_texts, reads_done}
 use Rattle.cr_syntax.proofs.Sound.{the_limit}
 use Rattle.cr_syntax.proofs.Ranks.{lower, under_itself, under_past, past_is, enters_is, member_up, init_up, parameter_up, differ, link_past, link_makes, rank_small, rank, under}
 

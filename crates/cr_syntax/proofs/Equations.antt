@@ -12,15 +12,11 @@ use Rattle.cr_syntax.specs.declared.symbol.Context.{Context}
 use Rattle.cr_syntax.specs.Words.{Lexeme, spelling_at}
 use Rattle.cr_syntax.specs.Scopes.{Scopes, is_type, enter}
 use Rattle.cr_syntax.specs.Trees.{Trees, none, node}
-use Rattle.cr_syntax.specs.Context.{past_token, past_part, declared_name}
+use Rattle.cr_syntax.specs.Context.{past_token, declared_name}
 use Rattle.cr_syntax.specs.Grammar.{Side}
 use Rattle.cr_syntax.specs.Spells.{levels}
-use Rattle.cr_syntax.specs.Reads.{is_word, span_is, has_room, is_none, first_of, after_of, alone, begins_at, leads_declaration, list_on, along, reads, next_of, leads}
-
--- what follows a part
-abbrev pub part_on : List Lexeme → Trees → Side → Context → ℕ → ℕ → Option Scopes → Option Scopes
-part_on ts t s h d j None = None
-part_on ts t s h d j (Some e) = reads ts (next_of t) s (past_part h (alone t)) e d (after_of t) j
+use Rattle.cr_syntax.specs.Reads.{is_word, span_is, has_room, is_none, first_of, begins_at, leads_declaration, list_on, along, reads, next_of, leads}
+use Rattle.cr_syntax.specs.Steps.{part_on, clause_on, step_on, else_on, prototype_on, size_on, qualified_on}
 
 pub reads_token : (ts : List Lexeme) (t : Trees) (s : Side) (h : Context) (c : Scopes) (d i j : ℕ) (l : Depth) (w : Word) →
     reads ts t (symbol.Token l w ∷ s) h c d i j ≡ (if is_word ts i w then reads ts t s (past_token h) c d (i + 1) j else None)
@@ -129,33 +125,6 @@ pub reads_ends : (ts : List Lexeme) (t : Trees) (s : Side) (h : Context) (own : 
 unfolding reads along
 reads_ends ts none s h own c d i j = refl
 reads_ends ts (node k i' j' b n) s h own c d i j = refl
-
--- what follows the expressions of a `for`, and the statement of an `else`
-abbrev pub clause_on : List Lexeme → Trees → Side → Context → ℕ → ℕ → Option Scopes → Option Scopes
-clause_on ts t s h d j None = None
-clause_on ts t s h d j (Some e) = if is_word ts (after_of t) word.Semicolon then reads ts (next_of t) s (past_token h) e d (after_of t + 1) j else None
-
-abbrev pub step_on : List Lexeme → Trees → Side → Context → ℕ → ℕ → Option Scopes → Option Scopes
-step_on ts t s h d j None = None
-step_on ts t s h d j (Some e) = if is_word ts (after_of t) word.RightParen && has_room d then reads ts (next_of t) s (past_token h) e d (after_of t + 1) j else None
-
-abbrev pub else_on : List Lexeme → Trees → Side → Context → ℕ → ℕ → Option Scopes → Option Scopes
-else_on ts t s h d j None = None
-else_on ts t s h d j (Some []) = None
-else_on ts t s h d j (Some (names ∷ e)) = reads ts (next_of t) s (past_part h (alone t)) e d (after_of t) j
-
-abbrev pub prototype_on : List Lexeme → Trees → Side → Context → List TypeName → ℕ → ℕ → Option Scopes → Option Scopes
-prototype_on ts t s h own d j None = None
-prototype_on ts t s h own d j (Some []) = None
-prototype_on ts t s h own d j (Some (names ∷ e)) = reads ts (next_of t) s (past_part h (alone t)) ((if h.bare then names else own) ∷ e) d (after_of t) j
-
-abbrev pub size_on : List Lexeme → Trees → Side → Context → List TypeName → ℕ → ℕ → Option Scopes → Option Scopes
-size_on ts t s h own d j None = None
-size_on ts t s h own d j (Some e) = reads ts (next_of t) s (past_part h (alone t)) (own ∷ e) d (after_of t) j
-
-abbrev pub qualified_on : List Lexeme → Trees → Context → ℕ → ℕ → Option Scopes → Option Scopes
-qualified_on ts t h d j None = None
-qualified_on ts t h d j (Some e) = reads ts (next_of t) [] h e d (after_of t) j
 
 pub reads_clause : (ts : List Lexeme) (t : Trees) (s : Side) (h : Context) (c : Scopes) (d i j : ℕ) →
     reads ts t (symbol.Clause ∷ s) h c d i j ≡ (if begins_at t i then clause_on ts t s h d j (leads ts t part.Expression h c (d + 1) i) else (if is_word ts i word.Semicolon then reads ts t s (past_token h) c d (i + 1) j else None))

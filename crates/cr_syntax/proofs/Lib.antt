@@ -6,6 +6,10 @@ pub mod Ranks
 pub mod Complete
 pub mod Arena
 pub mod Statements
+pub mod Readings
+pub mod Checked
+pub mod Spans
+pub mod Turns
 pub mod Examples
 pub mod MachineExamples
 pub mod MachineRuns
@@ -15,3 +19,13 @@ pub mod MachineKept
 pub mod MachineMeans
 pub mod MachineSound
 pub mod MachineFirst
+pub mod MachineTasks
+pub mod MachineExpressions
+pub mod MachineBegins
+pub mod MachineTypes
+pub mod MachineDeclarators
+pub mod MachineComplete
+pub mod MachineExtend
+pub mod MachineFails
+pub mod MachineGrows
+pub mod MachineViable

@@ -1,5 +1,5 @@
 -- First tokens, the tokens that go on with an expression, and what the machine's tests say of them.
-use Rattle.std.proofs.Common.{◌≡◌, ℕ, zero, suc, ◌+◌, ◌<◌, ◌≤◌, Bool, true, false, not, ◌&&◌, ◌||◌, List, [], ◌∷◌, Option, None, Some, refl, sym, ap, subst, ◌∙◌, arith}
+use Rattle.std.proofs.Common.{◌≡◌, ℕ, ◌+◌, ◌<◌, ◌≤◌, Bool, true, false, not, ◌&&◌, ◌||◌, List, [], ◌∷◌, Option, None, Some, refl, sym, ap, subst, ◌∙◌, arith}
 use Rattle.std.specs.Prelude.{nat_le, ◌++◌}
 use borrow.Author.Tests.{leb-true}
 use denote.Enum.Bare.{true_same, same_true}
@@ -10,9 +10,9 @@ use Rattle.cr_syntax.specs.declared.node.Kind.{Kind}
 use Rattle.cr_syntax.specs.declared.symbol.Part.{Part}
 use Rattle.cr_syntax.specs.declared.symbol.Part.TheVariants as part
 use Rattle.cr_syntax.specs.declared.symbol.Context.{Context}
-use Rattle.cr_syntax.specs.Words.{Lexeme, word_at, spelling_at}
+use Rattle.cr_syntax.specs.Words.{Lexeme, spelling_at}
 use Rattle.cr_syntax.specs.Scopes.{Scopes, is_type}
-use Rattle.cr_syntax.specs.Trees.{Trees, none, node, one, ◌&◌}
+use Rattle.cr_syntax.specs.Trees.{Trees}
 use Rattle.cr_syntax.specs.Grammar as grammar
 use Rattle.cr_syntax.specs.Spells.{Limit, Is, IsIdentifier, Spells, a, rest}
 use Rattle.cr_syntax.specs.Spells as spells
@@ -20,10 +20,14 @@ use Rattle.cr_syntax.specs.Reads.{is_word, same_word}
 use Rattle.cr_syntax.specs.Machine.{Goal, Prog, Manner, Test, Reply, Runs, Allows, Done, Failed, choose, call, give, has_word, passes, run_give, run_take, run_pass, run_call, run_fail}
 use Rattle.cr_syntax.specs.Machine as m
 use Rattle.cr_syntax.specs.MachineBody.{Words, is_plain_start, type_start, is_unary}
+use Rattle.cr_syntax.specs.MachineLaws.{rank_of, IsFree}
 use Rattle.cr_syntax.proofs.Tests.{is_of, both}
 
 pub none_true : {A : Type 0} → false ≡ true → A
 none_true q = cc
+
+pub true_false : {A : Type 0} → true ≡ false → A
+true_false q = cc
 
 pub false_by : (b : Bool) → (b ≡ true → ⊥) → b ≡ false
 false_by true f = absurd (f refl)
@@ -41,52 +45,6 @@ sorted f b q n = subst (λ o. elim o as (λ _. Bool) [ None ↦ false | Some v �
 
 some_word : {v w : Word} → Some v ≡ Some w → v ≡ w
 some_word q = cc
-
--- How loosely a word goes on with an expression: a suffix of the tightest, a comma of the loosest.
-abbrev pub rank_of : Word → ℕ
-rank_of word.LeftBracket = 0
-rank_of word.LeftParen = 0
-rank_of word.Dot = 0
-rank_of word.Arrow = 0
-rank_of word.PlusPlus = 0
-rank_of word.MinusMinus = 0
-rank_of word.Text = 0
-rank_of word.Star = 1
-rank_of word.Slash = 1
-rank_of word.Percent = 1
-rank_of word.Plus = 2
-rank_of word.Minus = 2
-rank_of word.LessLess = 3
-rank_of word.GreaterGreater = 3
-rank_of word.Less = 4
-rank_of word.Greater = 4
-rank_of word.LessEqual = 4
-rank_of word.GreaterEqual = 4
-rank_of word.EqualEqual = 5
-rank_of word.BangEqual = 5
-rank_of word.Ampersand = 6
-rank_of word.Caret = 7
-rank_of word.Bar = 8
-rank_of word.AndAnd = 9
-rank_of word.BarBar = 10
-rank_of word.Question = 11
-rank_of word.Equal = 12
-rank_of word.StarEqual = 12
-rank_of word.SlashEqual = 12
-rank_of word.PercentEqual = 12
-rank_of word.PlusEqual = 12
-rank_of word.MinusEqual = 12
-rank_of word.LessLessEqual = 12
-rank_of word.GreaterGreaterEqual = 12
-rank_of word.AmpersandEqual = 12
-rank_of word.CaretEqual = 12
-rank_of word.BarEqual = 12
-rank_of word.Comma = 13
-rank_of _ = 14
-
--- no word of this rank or a tighter one stands at token j
-pub record IsFree (ts : List Lexeme) (n j : ℕ) : Type 0 where
-  pub all : (w : Word) → Is ts j w → n < rank_of w
 
 pub free_by : {ts : List Lexeme} {n j : ℕ} {w : Word} → Is ts j w → n < rank_of w → IsFree ts n j
 free_by {n = n} {w = w} q lt = record { all = λ v q'. subst (λ x. n < rank_of x) (some_word (sym q ∙ q')) lt }
@@ -182,6 +140,7 @@ no_start v w n s = false_by (same_word v w) (λ q. by n (subst (λ x. starts x �
     by never_bracket q = none_true q
     by never_paren q = none_true q
     by never_brace q = none_true q
+
     same : (v w : Word) → same_word v w ≡ true → v ≡ w
     same v w q = same_true word_type.the_type tt v w q
 
@@ -209,13 +168,13 @@ name_start : (w : Word) → starts w ≡ true → same_word w word.Identifier �
 name_start word.Identifier q = none_true q
 name_start _ q = refl
 
-or_false : (x y : Bool) → x ≡ false → y ≡ false → x || y ≡ false
+pub or_false : (x y : Bool) → x ≡ false → y ≡ false → x || y ≡ false
 or_false x y p q = (ap (λ b. b || y) p) ∙ q
 
-and_false : (x y z : Bool) → x ≡ false → x && y && z ≡ false
+pub and_false : (x y z : Bool) → x ≡ false → x && y && z ≡ false
 and_false x y z p = ap (λ b. b && y && z) p
 
-and_first : (x y z : Bool) → y ≡ false → x && y && z ≡ false
+pub and_first : (x y z : Bool) → y ≡ false → x && y && z ≡ false
 and_first true y z p = ap (λ b. b && z) p
 and_first false y z p = refl
 

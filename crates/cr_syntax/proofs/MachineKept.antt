@@ -1,18 +1,16 @@
 -- The machine leaves no scope open less than it found, and a declarator with a name one more: that of its parameters.
-use Rattle.std.proofs.Common.{◌≡◌, ℕ, suc, ◌+◌, ◌<◌, ◌≤◌, Bool, true, false, List, [], ◌∷◌, length, refl, sym, ap, subst, ◌∙◌, arith}
+use Rattle.std.proofs.Common.{◌≡◌, ℕ, suc, ◌+◌, ◌≤◌, Bool, true, false, List, [], ◌∷◌, length, refl, arith}
 use Rattle.cr_syntax.specs.declared.word.Word.{Word}
-use Rattle.cr_syntax.specs.declared.word.Word.TheVariants as word
 use Rattle.cr_syntax.specs.declared.node.Kind.{Kind}
-use Rattle.cr_syntax.specs.declared.node.Kind.TheVariants as kind
 use Rattle.cr_syntax.specs.declared.symbol.Part.{Part}
 use Rattle.cr_syntax.specs.declared.symbol.Part.TheVariants as part
 use Rattle.cr_syntax.specs.declared.scopes.TypeName.{TypeName}
 use Rattle.cr_syntax.specs.Words.{Lexeme}
 use Rattle.cr_syntax.specs.Scopes.{Scopes, enter}
-use Rattle.cr_syntax.specs.Trees.{Trees, none, one, ◌&◌}
+use Rattle.cr_syntax.specs.Trees.{Trees, none, ◌&◌}
 use Rattle.cr_syntax.specs.Context.{fresh, past_part}
 use Rattle.cr_syntax.specs.Spells.{Limit}
-use Rattle.cr_syntax.specs.Machine.{Goal, Prog, Manner, choose, Wanted, Runs, Done, plain, opens, give, stop, take, when, call, into, made, the, type_identifier, around, innermost_of, brought}
+use Rattle.cr_syntax.specs.Machine.{Goal, Prog, Manner, choose, Runs, Done, plain, opens, give, made, around, brought}
 use Rattle.cr_syntax.specs.Machine.{whole, expression, commas, assignment, conditional, binary, operands, cast, unary, measured, postfix, called, grouped, texts, arguments, suffixes, type_name, row, more, element, structure, members, member, member_declarators, enumeration, enumerators, enumerator, consts, declarator, declarator_suffixes, abstract_suffixes, size, parameters, more_parameters, parameter}
 use Rattle.cr_syntax.specs.MachineBody.{body, assigned, operated, prefixed, suffixed, sized, other_primary, suffixes_end, other_element, array_start, Words, is_declarator, may_omit, start_goal, tighter, assignment_operators, operators, unary_prefixes, cast_prefixes, constants, postfix_operators, specifier_words}
 use Rattle.cr_syntax.proofs.MachineGives.{Gives, gives, AllRows, no_rows, also, gives_choose}
@@ -83,14 +81,25 @@ module _ (us : List Lexeme) (top : Limit) where
   kept (unary d) c i = words_kept opens unary_prefixes d (prefixed (unary (d + 1)) i) (choose opens cast_prefixes d (prefixed (cast (d + 1)) i) (sized d i)) (Kept (unary d) c i) c i (λ k t e j _ _ m. m)
       (words_kept opens cast_prefixes d (prefixed (cast (d + 1)) i) (sized d i) (Kept (unary d) c i) c i (λ k t e j _ _ m. m) (λ q w t e j _ _ m. m, λ t e j _ _ m. m))
   kept (measured d s) c i = (λ q w. (λ t e j _ _ m. (λ q' w'. m, tt), λ t e j _ _ m. m), λ t e j _ _ m. m)
-  kept (postfix d) c i = (λ q w t e j _ _ m. m, words_kept plain constants d (suffixed d i none) (other_primary d i) (Kept (postfix d) c i) c i (λ k t e j _ _ m. m)
-      (λ q w t e j _ _ m t' e' j' _ _ m'. omega arith, (λ q w t e j _ _ m. m, tt)))
+  kept (postfix d) c i = (
+    λ q w t e j _ _ m. m,
+    words_kept plain constants d (suffixed d i none) (other_primary d i) (Kept (postfix d) c i) c i (λ k t e j _ _ m. m)
+        (λ q w t e j _ _ m t' e' j' _ _ m'. omega arith, (λ q w t e j _ _ m. m, tt)),
+  )
   kept (called d s) c i = (λ q w. (λ q' w' t e j _ _ m. m, λ t e j _ _ m t' e' j' _ _ m'. omega arith), λ t e j _ _ m. m)
   kept (grouped d s) c i = λ t e j _ _ m. (λ q w t' e' j' _ _ m'. omega arith, tt)
   kept (texts d) c i = (λ q w t e j _ _ m. m, omega arith)
   kept (arguments d a) c i = λ t e j _ _ m. (λ q w t' e' j' _ _ m'. omega arith, (λ q w. m, tt))
-  kept (suffixes d s a) c i = (λ q w t e j _ _ m. (λ q' w' t' e' j' _ _ m'. omega arith, tt), ((λ q w. (λ q' w' t e j _ _ m. m, tt)), ((λ q w. (λ q' w' t e j _ _ m. m, tt)),
-      words_kept plain postfix_operators d (suffixed d s (a & none)) (suffixes_end d a) (Kept (suffixes d s a) c i) c i (λ k t e j _ _ m. m) (λ u. omega arith, λ u. omega arith))))
+  kept (suffixes d s a) c i = (
+    λ q w t e j _ _ m. (λ q' w' t' e' j' _ _ m'. omega arith, tt),
+    (
+      (λ q w. (λ q' w' t e j _ _ m. m, tt)),
+      (
+        (λ q w. (λ q' w' t e j _ _ m. m, tt)),
+        words_kept plain postfix_operators d (suffixed d s (a & none)) (suffixes_end d a) (Kept (suffixes d s a) c i) c i (λ k t e j _ _ m. m) (λ u. omega arith, λ u. omega arith),
+      ),
+    ),
+  )
   kept (type_name d) c i = λ t e j _ _ m. (λ t' e' j' _ _ m'. let n = m'.0 in omega arith, m)
   kept (row p h d) c i = λ t e j _ _ m t' e' j' _ _ m'. omega arith
   kept (more p h d s a) c i = (λ t e j _ _ m t' e' j' _ _ m'. omega arith, omega arith)
@@ -106,11 +115,19 @@ module _ (us : List Lexeme) (top : Limit) where
   kept (enumerators d s a) c i = λ t e j _ _ m. (λ q w. (λ q' w'. m, λ t' e' j' _ _ m'. omega arith), (λ q w. m, tt))
   kept (enumerator d) c i = (λ q w. (λ q' w' t e j _ _ m. entered_more (length c) (brought us j i false) e m, entered_more (length c) (brought us (i + 1) i false) c (omega arith)), tt)
   kept (consts d) c i = (λ q w t e j _ _ m. m, omega arith)
-  kept (declarator w h d) c i =
-      (λ q v t e j _ _ m. (λ o. (λ t' e' j' _ _ m'. pointer e t' e' m m', (m, λ x. cc, λ x. not_both (may_omit w) o x)), λ o t' e' j' _ _ m'. pointer e t' e' m m'),
-      (λ q v t e j _ _ m. (λ q' v'. (λ y t' e' j' _ _ m'. let n = m.1 y in let l = m'.0 in (omega arith, λ x. omega arith, λ x. m'.1 refl),
-          λ y t' e' j' _ _ m'. let n = m.0 in let l = m'.0 in (omega arith, λ x. not_both (is_declarator t') x (m'.1 refl), λ x. not_both (is_declarator t) (m.2 x) y)), tt),
-      (λ o. (λ q v t e j _ _ m. let l = m.0 in (omega arith, λ x. omega arith, λ x. m.1 refl), arrays), λ o. arrays)))
+  kept (declarator w h d) c i = (
+    λ q v t e j _ _ m. (λ o. (λ t' e' j' _ _ m'. pointer e t' e' m m', (m, λ x. cc, λ x. not_both (may_omit w) o x)), λ o t' e' j' _ _ m'. pointer e t' e' m m'),
+    (
+      λ q v t e j _ _ m. (
+        λ q' v'. (
+          λ y t' e' j' _ _ m'. let n = m.1 y in let l = m'.0 in (omega arith, λ x. omega arith, λ x. m'.1 refl),
+          λ y t' e' j' _ _ m'. let n = m.0 in let l = m'.0 in (omega arith, λ x. not_both (is_declarator t') x (m'.1 refl), λ x. not_both (is_declarator t) (m.2 x) y),
+        ),
+        tt,
+      ),
+      (λ o. (λ q v t e j _ _ m. let l = m.0 in (omega arith, λ x. omega arith, λ x. m.1 refl), arrays), λ o. arrays),
+    ),
+  )
     where
       pointer : (e : Scopes) (t : Trees) (e' : Scopes) → length c ≤ length e → (length e ≤ length e') × (is_declarator t ≡ true → suc (length e) ≤ length e') × (may_omit w ≡ false → is_declarator t ≡ true) →
           (is_declarator t ≡ true → (length c ≤ length e') × (true ≡ true → suc (length c) ≤ length e') × (may_omit w ≡ false → true ≡ true)) ×
@@ -118,21 +135,30 @@ module _ (us : List Lexeme) (top : Limit) where
       pointer e t e' m m' =
           let n = m'.0 in
           (λ y. let l = m'.1 y in (omega arith, λ x. omega arith, λ x. refl), λ y. (omega arith, λ x. cc, λ x. not_both (is_declarator t) (m'.2 x) y))
+
       arrays : Keeps (array_start w d i) (Kept (declarator w h d) c i) c i
       arrays = (λ o. (λ q v t e j _ _ m t' e' j' _ _ m'. let l = m'.0 in (omega arith, λ x. not_both (is_declarator t') x (m'.1 refl), λ x. not_both (may_omit w) o x), tt), λ o. tt)
   kept (declarator_suffixes d s a) c i =
-      let n = around_less c in
-      (λ q w t e j _ _ m t' e' j' _ _ m'. let l = m'.0 in (omega arith, λ x. m'.1 refl),
-      (λ q w. (λ q' w' t e j _ _ m. (m.0, λ x. m.1 refl),
-          λ t e j _ _ m. let o = around_less e in (λ q' w' t' e' j' _ _ m'. let l = m'.0 in (omega arith, λ x. m'.1 refl), tt)),
-      (omega arith, λ x. x)))
+      let n = around_less c in (
+        λ q w t e j _ _ m t' e' j' _ _ m'. let l = m'.0 in (omega arith, λ x. m'.1 refl),
+        (
+          λ q w. (
+            λ q' w' t e j _ _ m. (m.0, λ x. m.1 refl),
+            λ t e j _ _ m. let o = around_less e in (λ q' w' t' e' j' _ _ m'. let l = m'.0 in (omega arith, λ x. m'.1 refl), tt),
+          ),
+          (omega arith, λ x. x),
+        ),
+      )
   kept (abstract_suffixes d s a) c i = (λ q w t e j _ _ m t' e' j' _ _ m'. let l = m'.0 in (omega arith, λ x. m'.1 refl), (omega arith, λ x. x))
   kept (size d) c i = (λ q w. omega arith, λ t e j _ _ m. (λ q w. m, tt))
   kept (parameters d) c i = λ t e j _ _ m t' e' j' _ _ m'. omega arith
   kept (more_parameters d s a) c i = (λ q w. (λ q' w'. omega arith, λ t e j _ _ m t' e' j' _ _ m'. omega arith), omega arith)
-  kept (parameter d) c i = λ t e j _ _ m. (λ t' e' j' _ _ m'.
-      let l = m'.0 in let o = around_less e' in
-      (λ y. let n = m'.1 y in entered_more (length c) (brought us j' (past_part (past_part fresh t) t').name (past_part (past_part fresh t) t').type_name) (around e') (omega arith), λ y. omega arith), m)
+  kept (parameter d) c i = λ t e j _ _ m. (
+    λ t' e' j' _ _ m'.
+        let l = m'.0 in let o = around_less e' in
+        (λ y. let n = m'.1 y in entered_more (length c) (brought us j' (past_part (past_part fresh t) t').name (past_part (past_part fresh t) t').type_name) (around e') (omega arith), λ y. omega arith),
+    m,
+  )
 
 pub runs_kept : {ts : List Lexeme} {limit : Limit} (g : Goal) (c e : Scopes) (i j : ℕ) (t : Trees) → Runs body ts limit (body g) c i (Done t e j) → Kept g c i t e j
 runs_kept {ts = ts} {limit = limit} g c e i j t h =

@@ -1,8 +1,6 @@
 -- What a goal's answer means: which tokens its trees spell, as which part.
-use Rattle.std.proofs.Common.{◌≡◌, ℕ, ◌+◌, ◌<◌, ◌≤◌, Bool, true, false, List, [], ◌∷◌, length, refl, sym, ap, subst, ◌∙◌, arith}
-use Rattle.cr_syntax.specs.declared.word.Word.{Word}
+use Rattle.std.proofs.Common.{◌≡◌, ℕ, ◌+◌, Bool, true, false, List, [], ◌∷◌}
 use Rattle.cr_syntax.specs.declared.word.Word.TheVariants as word
-use Rattle.cr_syntax.specs.declared.node.Kind.{Kind}
 use Rattle.cr_syntax.specs.declared.node.Kind.TheVariants as kind
 use Rattle.cr_syntax.specs.declared.symbol.Depth.TheVariants.{Outer}
 use Rattle.cr_syntax.specs.declared.symbol.Part.{Part}
@@ -13,7 +11,7 @@ use Rattle.cr_syntax.specs.declared.symbol.Context.{Context}
 use Rattle.cr_syntax.specs.Words.{Lexeme}
 use Rattle.cr_syntax.specs.Scopes.{Scopes}
 use Rattle.cr_syntax.specs.Trees.{Trees, none, node, one, ◌&◌}
-use Rattle.cr_syntax.specs.Context.{fresh, past_token, past_part}
+use Rattle.cr_syntax.specs.Context.{past_token}
 use Rattle.cr_syntax.specs.Grammar.{Side, inner, inner_many, inner_list, list, many, closing, token}
 use Rattle.cr_syntax.specs.Spells.{Limit, Is, Stands, AreConst, Spells, a, rest}
 use Rattle.cr_syntax.specs.Machine.{Goal, Wanted, around, innermost_of}

@@ -1,6 +1,6 @@
 -- What the machine's laws need of spelling: a part is one tree, its tokens go on to the right, a declarator's name stands
 -- in it, and an expression that an assignment operator can stand behind is a unary one.
-use Rattle.std.proofs.Common.{◌≡◌, ℕ, zero, suc, ◌+◌, ◌<◌, ◌≤◌, Bool, true, false, List, [], ◌∷◌, refl, sym, ap, subst, ◌∙◌, arith}
+use Rattle.std.proofs.Common.{◌≡◌, ℕ, ◌<◌, ◌≤◌, true, List, refl, sym, ap, subst, ◌∙◌, arith}
 use Rattle.cr_syntax.specs.declared.node.Kind.{Kind}
 use Rattle.cr_syntax.specs.declared.symbol.Part.{Part}
 use Rattle.cr_syntax.specs.declared.symbol.Part.TheVariants as part

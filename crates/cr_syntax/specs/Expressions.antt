@@ -23,13 +23,12 @@ pub record Spelled (limit : Limit) (ts : List Lexeme) (s : Start) (k : ℕ) (t :
   pub after : Scopes
   pub spells : Spells ts limit (a s.part) fresh s.scopes after s.depth t s.at k
 
--- the tokens from the start to before token k, and maybe some others behind them, spell the trees
+-- the tokens from the start to before token k, and maybe some others behind them up to a text's end, spell the trees
 pub record Continues (limit : Limit) (ts : List Lexeme) (s : Start) (k : ℕ) (t : Trees) : Type 0 where
   pub text : List Lexeme
-  pub end : ℕ
   pub alike : (i : ℕ) (x : Lexeme) → i < k → slice_get ts i ≡ Some x → slice_get text i ≡ Some x
-  pub reaches : k ≤ end
-  pub spelled : Spelled limit text s end t
+  pub reaches : k ≤ length text
+  pub spelled : Spelled limit text s (length text) t
 
 -- the tokens from the start to before token k begin some text of the part
 pub record BeginsFrom (limit : Limit) (ts : List Lexeme) (s : Start) (k : ℕ) : Type 0 where

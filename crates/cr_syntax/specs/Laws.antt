@@ -1,8 +1,10 @@
--- What is proved of the grammar's table, and of reading a tree by it.
-use Rattle.std.specs.Prelude.{◌≡◌, List, Some, length}
+-- What is proved of the grammar's table, of reading a tree by it, and of the tokens that it is read against.
+use Rattle.std.specs.Prelude.{◌≡◌, ℕ, List, Some, length}
+use Rattle.cr_tokens.specs.declared.token.Token.{Token}
+use Rattle.cr_tokens.specs.Tokens.{Tokenizes}
 use Rattle.cr_syntax.specs.declared.node.Kind.{Kind}
 use Rattle.cr_syntax.specs.declared.symbol.Part.{Part}
-use Rattle.cr_syntax.specs.Words.{Lexeme}
+use Rattle.cr_syntax.specs.Words.{Lexeme, AreSpans}
 use Rattle.cr_syntax.specs.Scopes.{Scopes}
 use Rattle.cr_syntax.specs.Trees.{Trees}
 use Rattle.cr_syntax.specs.Context.{fresh}
@@ -31,3 +33,7 @@ ReadIsUnit = (ts : List Lexeme) (t : Trees) (after : Scopes) → IsRead ts t aft
 -- a unit is read
 abbrev pub UnitIsRead : Type 0
 UnitIsRead = (ts : List Lexeme) (t : Trees) → IsUnit (AtMost most_levels) ts t → (after : Scopes) × IsRead ts t after
+
+-- the tokens of a file are parts of it
+abbrev pub TokensAreSpans : Type 0
+TokensAreSpans = (file : List ℕ) (tokens : List Token) → Tokenizes file tokens → AreSpans file tokens

@@ -9,8 +9,10 @@ pub mod Kept
 pub mod Tables
 pub mod Chains
 pub mod Reads
+pub mod Steps
 pub mod Answers
 pub mod Laws
+pub mod Checked
 pub mod Machine
 pub mod MachineBody
 pub mod Expressions

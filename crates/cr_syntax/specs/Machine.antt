@@ -24,7 +24,7 @@ use Rattle.cr_syntax.specs.declared.symbol.Context.{Context}
 use Rattle.cr_syntax.specs.declared.scopes.TypeName.{TypeName}
 use Rattle.cr_syntax.specs.Words.{Lexeme, word_at, spelling_at}
 use Rattle.cr_syntax.specs.Scopes.{Scopes, is_type, enter}
-use Rattle.cr_syntax.specs.Trees.{Trees, none, one}
+use Rattle.cr_syntax.specs.Trees.{Trees, one}
 use Rattle.cr_syntax.specs.Spells.{Limit, Within, Stands}
 use Rattle.cr_syntax.specs.Reads.{is_word}
 use Rattle.cr_syntax.specs.Units.{most_levels, is_unused, Refusal, Unexpected, Ended, TooDeep, OutsideSubset}

@@ -12,7 +12,7 @@ use Rattle.cr_syntax.specs.declared.symbol.Context.{Context}
 use Rattle.cr_syntax.specs.Trees.{Trees, none, node, one, ◌&◌}
 use Rattle.cr_syntax.specs.Context.{fresh, past_token, past_part, is_bare, base_of}
 use Rattle.cr_syntax.specs.Units.{is_unused}
-use Rattle.cr_syntax.specs.Machine.{Goal, Prog, Test, Wanted, named, unnamed, either, Manner, plain, opens, reopens, the, has, ordinary, type_identifier, declared, or, give, stop, take, bar, peek, when, here, look, set, bring, call, expect, choose, into, made, begins, drops, innermost_of, around}
+use Rattle.cr_syntax.specs.Machine.{Goal, Prog, Test, Wanted, named, unnamed, either, plain, opens, reopens, the, has, ordinary, type_identifier, declared, or, give, stop, take, bar, peek, when, here, look, set, bring, call, expect, choose, into, made, begins, drops, innermost_of, around}
 use Rattle.cr_syntax.specs.Machine.{whole, expression, commas, assignment, conditional, binary, operands, cast, unary, measured, postfix, called, grouped, texts, arguments, suffixes, type_name, row, more, element, structure, members, member, member_declarators, enumeration, enumerators, enumerator, consts, declarator, declarator_suffixes, abstract_suffixes, size, parameters, more_parameters, parameter}
 
 -- a table of words and the kinds of node that they make
@@ -282,6 +282,12 @@ other_element h d s =
     (take plain (the word.Enum) d (call (enumeration d s) give)
     (take plain (type_identifier h.typed) d (made kind.TypedefName s none) (stop d)))
 
+-- what follows a member's declarator: no bit-field, another declarator, or the end of the member
+abbrev pub member_end : Context → ℕ → ℕ → Trees → Trees → Prog
+member_end h d s a t = bar (the word.Colon) 5 d
+    (take plain (the word.Comma) d (call (member_declarators (past_token h) d s (a & t & none)) give)
+    (expect plain word.Semicolon d (made kind.MemberDeclaration s (a & t & none))))
+
 abbrev pub body : Goal → Prog
 body (whole p d) = call (start_goal p d) (λ t. bar (has is_unused) 1 d (give t))
 -- 6.5.17
@@ -294,24 +300,24 @@ body (assignment d) = here (λ s. call (conditional d) (λ a. when (is_unary a)
 -- 6.5.15
 body (conditional d) = here (λ s. call (binary part.LogicalOr d) (λ a.
     take opens (the word.Question) d
-        (call (expression (d + 1)) (λ b. expect reopens word.Colon d (call (conditional (d + 1)) (λ c. made kind.Conditional s (a & b & c & none)))))
-        (give a)))
+    (call (expression (d + 1)) (λ b. expect reopens word.Colon d (call (conditional (d + 1)) (λ c. made kind.Conditional s (a & b & c & none)))))
+    (give a)))
 -- 6.5.14 to 6.5.5
 body (binary p d) = here (λ s. call (tighter p d) (λ a. call (operands p d s a) give))
 body (operands p d s a) = choose plain (operators p) d (operated p d s a) (give a)
 -- 6.5.4
 body (cast d) = here (λ s. take opens (the word.LeftParen) d
     (peek type_start
-        (call (type_name (d + 1)) (λ t. expect reopens word.RightParen d (bar (the word.LeftBrace) 3 (d + 1) (call (cast (d + 1)) (λ a. made kind.Cast s (t & a & none))))))
-        (call (grouped d s) give))
+    (call (type_name (d + 1)) (λ t. expect reopens word.RightParen d (bar (the word.LeftBrace) 3 (d + 1) (call (cast (d + 1)) (λ a. made kind.Cast s (t & a & none))))))
+    (call (grouped d s) give))
     (call (unary d) give))
 -- 6.5.3
 body (unary d) = here (λ s.
     choose opens unary_prefixes d (prefixed (unary (d + 1)) s) (choose opens cast_prefixes d (prefixed (cast (d + 1)) s) (sized d s)))
 body (measured d s) = here (λ q. take opens (the word.LeftParen) (d + 1)
     (peek type_start
-        (call (type_name (d + 1 + 1)) (λ t. expect plain word.RightParen (d + 1 + 1) (made kind.SizeofType s (t & none))))
-        (call (grouped (d + 1) q) (λ a. made kind.SizeofExpression s (a & none))))
+    (call (type_name (d + 1 + 1)) (λ t. expect plain word.RightParen (d + 1 + 1) (made kind.SizeofType s (t & none))))
+    (call (grouped (d + 1) q) (λ a. made kind.SizeofExpression s (a & none))))
     (call (unary (d + 1)) (λ a. made kind.SizeofExpression s (a & none))))
 -- 6.5.2, 6.5.1
 body (postfix d) = here (λ s.
@@ -319,8 +325,8 @@ body (postfix d) = here (λ s.
     (choose plain constants d (suffixed d s none) (other_primary d s)))
 body (called d s) = take opens (the word.LeftParen) d
     (take plain (the word.RightParen) (d + 1)
-        (suffixed d s none kind.Call)
-        (call (arguments d none) (λ a. suffixed d s a kind.Call)))
+    (suffixed d s none kind.Call)
+    (call (arguments d none) (λ a. suffixed d s a kind.Call)))
     (suffixed d s none kind.Identifier)
 body (grouped d s) = call (expression (d + 1)) (λ a. expect plain word.RightParen (d + 1) (suffixed d s (a & none) kind.Group))
 body (texts d) = take plain (the word.Text) d (call (texts d) give) (give none)
@@ -328,7 +334,7 @@ body (arguments d a) = call (assignment (d + 1)) (λ b.
     take plain (the word.Comma) (d + 1) (call (arguments d (a & b & none)) give) (expect plain word.RightParen (d + 1) (give (a & b & none))))
 body (suffixes d s a) =
     take opens (the word.LeftBracket) d
-        (call (expression (d + 1)) (λ b. expect plain word.RightBracket (d + 1) (suffixed d s (a & b & none) kind.Subscript)))
+    (call (expression (d + 1)) (λ b. expect plain word.RightBracket (d + 1) (suffixed d s (a & b & none) kind.Subscript)))
     (take plain (the word.Dot) d (expect plain word.Identifier d (suffixed d s (a & none) kind.Member))
     (take plain (the word.Arrow) d (expect plain word.Identifier d (suffixed d s (a & none) kind.PointerMember))
     (choose plain postfix_operators d (suffixed d s (a & none)) (suffixes_end d a))))
@@ -349,17 +355,15 @@ body (structure d s) = take plain (the word.Identifier) d
 body (members d s a) = call (member (d + 1)) (λ t.
     take plain (the word.RightBrace) (d + 1) (made kind.StructContent s (a & t & none)) (call (members d s (a & t & none)) give))
 body (member d) = here (λ s. call (row part.PlainSpecifiers fresh d) (λ t. call (member_declarators (past_part fresh t) d s (t & none)) give))
-body (member_declarators h d s a) = call (declarator named h d) (λ t. drops (bar (the word.Colon) 5 d
-    (take plain (the word.Comma) d (call (member_declarators (past_token h) d s (a & t & none)) give)
-    (expect plain word.Semicolon d (made kind.MemberDeclaration s (a & t & none))))))
+body (member_declarators h d s a) = call (declarator named h d) (λ t. drops (member_end h d s a t))
 -- 6.7.2.2
 body (enumeration d s) = take plain (the word.Identifier) d
     (take opens (the word.LeftBrace) d (call (enumerators d s none) give) (made kind.EnumTag s none))
     (expect opens word.LeftBrace d (call (enumerators d s none) give))
 body (enumerators d s a) = call (enumerator (d + 1)) (λ t.
     take plain (the word.Comma) (d + 1)
-        (take plain (the word.RightBrace) (d + 1) (made kind.EnumContent s (a & t & none)) (call (enumerators d s (a & t & none)) give))
-        (expect plain word.RightBrace (d + 1) (made kind.EnumContent s (a & t & none))))
+    (take plain (the word.RightBrace) (d + 1) (made kind.EnumContent s (a & t & none)) (call (enumerators d s (a & t & none)) give))
+    (expect plain word.RightBrace (d + 1) (made kind.EnumContent s (a & t & none))))
 body (enumerator d) = here (λ s. expect plain word.Identifier d (take plain (the word.Equal) d
     (call (conditional d) (λ t. bring s false (made kind.Enumerator s (t & none))))
     (bring s false (made kind.Enumerator s none))))
@@ -367,23 +371,23 @@ body (enumerator d) = here (λ s. expect plain word.Identifier d (take plain (th
 body (consts d) = take plain (the word.Const) d (call (consts d) give) (give none)
 body (declarator w h d) = here (λ s.
     take opens (the word.Star) d
-        (call (consts (d + 1)) (λ _. when (may_omit w)
-            (peek (declarator_start w) (call (declarator w (past_token h) (d + 1)) (λ t. pointer_end s t)) (made kind.AbstractPointer s none))
-            (call (declarator w (past_token h) (d + 1)) (λ t. pointer_end s t))))
+    (call (consts (d + 1)) (λ _. when (may_omit w)
+    (peek (declarator_start w) (call (declarator w (past_token h) (d + 1)) (λ t. pointer_end s t)) (made kind.AbstractPointer s none))
+    (call (declarator w (past_token h) (d + 1)) (λ t. pointer_end s t))))
     (take opens (the word.LeftParen) d
-        (call (declarator w (past_token h) (d + 1)) (λ t. expect plain word.RightParen (d + 1) (group_end d s t)))
+    (call (declarator w (past_token h) (d + 1)) (λ t. expect plain word.RightParen (d + 1) (group_end d s t)))
     (when (may_name w)
-        (take plain (declared h.typed) d (begins (into kind.NameDeclarator s none (λ t. call (declarator_suffixes d s t) give))) (array_start w d s))
-        (array_start w d s))))
+    (take plain (declared h.typed) d (begins (into kind.NameDeclarator s none (λ t. call (declarator_suffixes d s t) give))) (array_start w d s))
+    (array_start w d s))))
 body (declarator_suffixes d s a) =
     take opens (the word.LeftBracket) d
-        (look (λ c. set (around c) (call (size d) (λ t. look (λ e. set (innermost_of c ∷ e)
-            (into kind.ArrayDeclarator s (a & t) (λ b. call (declarator_suffixes d s b) give)))))))
+    (look (λ c. set (around c) (call (size d) (λ t. look (λ e. set (innermost_of c ∷ e)
+    (into kind.ArrayDeclarator s (a & t) (λ b. call (declarator_suffixes d s b) give)))))))
     (take opens (the word.LeftParen) d
-        (take plain (the word.RightParen) (d + 1)
-            (into kind.FunctionDeclarator s (a & none) (λ b. call (declarator_suffixes d s b) give))
-            (look (λ c. set ([] ∷ around c) (call (parameters (d + 1)) (λ t. look (λ e. set ((if is_bare a then innermost_of e else innermost_of c) ∷ around e)
-                (expect plain word.RightParen (d + 1) (into kind.FunctionDeclarator s (a & t & none) (λ b. call (declarator_suffixes d s b) give)))))))))
+    (take plain (the word.RightParen) (d + 1)
+    (into kind.FunctionDeclarator s (a & none) (λ b. call (declarator_suffixes d s b) give))
+    (look (λ c. set ([] ∷ around c) (call (parameters (d + 1)) (λ t. look (λ e. set ((if is_bare a then innermost_of e else innermost_of c) ∷ around e)
+    (expect plain word.RightParen (d + 1) (into kind.FunctionDeclarator s (a & t & none) (λ b. call (declarator_suffixes d s b) give)))))))))
     (give a))
 body (abstract_suffixes d s a) = take opens (the word.LeftBracket) d
     (call (size d) (λ t. into kind.AbstractArrayOf s (a & t) (λ b. call (abstract_suffixes d s b) give)))
@@ -395,6 +399,6 @@ body (more_parameters d s a) = take plain (the word.Comma) d
     (here (λ e. give (in_parameters s e a)))
 body (parameter d) = here (λ s. call (row part.Specifiers fresh d) (λ t. peek (has is_declarator_start)
     (call (declarator either (past_part fresh t) d) (λ a. when (is_declarator a)
-        (drops (bring (past_part (past_part fresh t) a).name (past_part (past_part fresh t) a).type_name (made kind.Parameter s (t & a & none))))
-        (made kind.Parameter s (t & a & none))))
+    (drops (bring (past_part (past_part fresh t) a).name (past_part (past_part fresh t) a).type_name (made kind.Parameter s (t & a & none))))
+    (made kind.Parameter s (t & a & none))))
     (give t)))

@@ -1,4 +1,4 @@
-ghost use Rattle.cr_syntax.specs.Laws.{TableIsGrammar, GrammarIsTable, ReadIsUnit, UnitIsRead};
+ghost use Rattle.cr_syntax.specs.Laws.{TableIsGrammar, GrammarIsTable, ReadIsUnit, UnitIsRead, TokensAreSpans};
 
 /// A law: the table of right sides is the grammar, alternative by alternative.
 pub fn table_is_grammar()
@@ -10,4 +10,9 @@ pub fn table_is_grammar()
 pub fn reading_is_spelling()
     ensures sound { ReadIsUnit }
     ensures complete { UnitIsRead }
+{}
+
+/// A law: the tokens of a file are parts of it, as `word_at` and `spells_unit` ask.
+pub fn tokens_are_spans()
+    ensures { TokensAreSpans }
 {}

@@ -3,25 +3,40 @@
 //! It has the types of the tree, what every unit keeps of its nodes, the word that a token is to the grammar, and the
 //! grammar itself: one constructor an alternative in `specs/Grammar.antt`, what its symbols mean in `specs/Spells.antt`,
 //! and units, viable prefixes and the first refusal in `specs/Units.antt`. It promises that the table of right sides in
-//! `rules` is that grammar, and that reading a tree by recursion takes exactly the grammar's units. It stands on the
-//! tokens, the integer types and the rows.
+//! `rules` is that grammar, that reading a tree by recursion takes exactly the grammar's units, and that `spells_unit`,
+//! the plain checker of a unit, answers true exactly where the unit's tree spells its tokens. The parser of expressions
+//! stands in `specs/Machine.antt` as a machine, and reads exactly the grammar. It stands on the tokens, the integer types
+//! and the rows.
 #![tactic(auto)]
 
+mod ahead;
+#[cfg(test)]
+mod built;
 mod chains;
+mod checker;
 mod laws;
+mod machine;
 mod node;
 mod operators;
 mod place;
+mod reading;
 mod rules;
+#[cfg(test)]
+mod sample_units;
 mod scopes;
 mod shape;
 mod source;
 mod symbol;
+mod turn;
 mod typed;
 mod unit;
+#[cfg(test)]
+mod unit_tests;
 mod word;
 
-pub use laws::{reading_is_spelling, table_is_grammar};
+pub use checker::{NoMemory, spells_unit};
+pub use laws::{reading_is_spelling, table_is_grammar, tokens_are_spans};
+pub use machine::{machine_is_grammar, one_tree};
 pub use node::{Kind, Node};
 pub use scopes::{Scope, TypeName, begin, enter, is_type};
 pub use shape::{FRESH, past_node, past_token};

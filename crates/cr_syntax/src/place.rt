@@ -1,6 +1,7 @@
 ghost use Rattle.std.specs.Prelude.{◌≡◌, ◌+◌, ◌^◌, ◌<◌, ◌≤◌};
 ghost use Rattle.cr_syntax.specs.Context.{past_token, at_start};
 ghost use Rattle.cr_syntax.specs.Spells.{levels};
+ghost use Rattle.cr_syntax.specs.Reads.{has_room};
 
 use crate::shape::{at_start, past_token};
 use crate::symbol::{Context, Depth, Part};
@@ -57,6 +58,13 @@ impl Place {
             context: at_start(p, self.context),
             ..self
         }
+    }
+
+    /// Whether another level may be opened here.
+    pub fn has_room(self) -> bool
+        ensures { result ≡ has_room self.depth }
+    {
+        self.depth < MOST_LEVELS
     }
 
     /// The place with another end.

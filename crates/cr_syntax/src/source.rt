@@ -7,6 +7,7 @@ use crate::word::{Word, word_at};
 use cr_tokens::Token;
 
 /// What a tree is read against: the file, its tokens, and the nodes.
+#[derive(Clone, Copy)]
 pub struct Source<'a> {
     pub file: &'a [u8],
     pub tokens: &'a [Token],

@@ -1,4 +1,4 @@
-ghost use Rattle.std.specs.Prelude.{◌≡◌, ◌<◌, ◌^◌, slice_range};
+ghost use Rattle.std.specs.Prelude.{◌≡◌, ◌<◌, ◌^◌, ◌↔◌, IsTrue, slice_range};
 
 use thiserror::Error;
 
@@ -48,6 +48,15 @@ pub enum TokenFault {
     OpenLiteral(u32),
     #[error("more than 262144 tokens, at {0}")]
     TooMany(u32),
+}
+
+impl TokenFault {
+    /// Whether memory was wanting, so that nothing is said of the file.
+    pub fn is_want(self) -> bool
+        ensures { IsTrue result ↔ (self ≡ TokenFault.NoMemory) }
+    {
+        matches!(self, TokenFault::NoMemory)
+    }
 }
 
 impl Token {

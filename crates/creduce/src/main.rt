@@ -1,4 +1,4 @@
-//! `creduce has:TEXT FILE`: reduces FILE while it contains the text, and ends with the status of `run`, which see.
+//! `creduce [--limit N] TEST FILE`: reduces FILE while the test says yes, and ends with the status of `run`, which see.
 #![tactic(auto)]
 
 mod std_files;
@@ -15,13 +15,10 @@ use std::{env, io};
 use std_files::StdFiles;
 use std_out::StdOut;
 
-/// Status 2: the words are not in the form that `run` reads.
-const USAGE: u8 = 2;
-
 /// Status 11: no memory is left.
 const NO_MEMORY: u8 = 11;
 
-// No program is run as a test yet, so no judge is ever asked.
+// No program is run as a test yet: the one judge fails at each call.
 fn bench(alloc: Global) -> Result<Bench<Scripted>, AllocError> {
     let judge = Scripted::new(alloc, Vec::new(alloc), Answer::Failed, Vec::new(alloc));
     let mut judges = Vec::new(alloc);
@@ -29,7 +26,7 @@ fn bench(alloc: Global) -> Result<Bench<Scripted>, AllocError> {
     Bench::new(judges)
 }
 
-fn words(rt: &HostRuntime) -> io::Result<Vec<String>> {
+fn given(rt: &HostRuntime) -> io::Result<Vec<String>> {
     let mut words = Vec::new(rt.alloc());
     for word in env::args(rt)?.skip(1) {
         words.push(word)?;
@@ -37,7 +34,16 @@ fn words(rt: &HostRuntime) -> io::Result<Vec<String>> {
     Ok(words)
 }
 
-fn reduce(rt: &HostRuntime) -> io::Result<u8> {
+// The words after the program's name. Where one of them is no text, the words are in no form, as an empty list is.
+fn words(rt: &HostRuntime) -> Result<Vec<String>, AllocError> {
+    match given(rt) {
+        Ok(words) => Ok(words),
+        Err(e) if e.kind() == io::ErrorKind::OutOfMemory => Err(AllocError),
+        Err(_) => Ok(Vec::new(rt.alloc())),
+    }
+}
+
+fn reduce(rt: &HostRuntime) -> Result<u8, AllocError> {
     let words = words(rt)?;
     let mut bench = bench(rt.alloc())?;
     let mut files = StdFiles::new(rt);
@@ -48,9 +54,7 @@ fn reduce(rt: &HostRuntime) -> io::Result<u8> {
 fn main(rt: HostRuntime) -> ExitCode {
     let status = match reduce(&rt) {
         Ok(status) => status,
-        Err(e) if e.kind() == io::ErrorKind::OutOfMemory => NO_MEMORY,
-        // A word that is no text is in no form.
-        Err(_) => USAGE,
+        Err(_) => NO_MEMORY,
     };
     ExitCode::from(status)
 }

@@ -1,7 +1,8 @@
 // The law that a file must obey.
 ghost use Rattle.std.specs.Prelude.{◌≡◌, ◌≢◌, ◌≤◌, ◌⊎◌, ◌==◌, ℕ, List, false, true, length, count_by};
 ghost use Rattle.cr_tokens.specs.Faults.{FirstTokenFault};
-ghost use Rattle.cr_reduce.specs.TokenLaw.{RulesOn, line_at};
+ghost use Rattle.cr_tokens.specs.Places.{line_of as line_of_place};
+ghost use Rattle.cr_reduce.specs.TokenLaw.{RulesOn};
 ghost use Rattle.cr_reduce.specs.declared.traits.law.Reason.{Reason};
 
 use crate::traits::stop::Stop;
@@ -86,7 +87,7 @@ fn ruling_of(file: &[u8], fault: TokenFault) -> Ruling
 /// The line that a place of a file stands on, from 1.
 pub fn line_of(file: &[u8], place: u32) -> u32
     requires { length file.now ≤ 1048576 }
-    ensures { result ≡ line_at file.now place }
+    ensures { result ≡ line_of_place file.now place }
 {
     let before = &file[..file.len().min(place as usize)];
     1 + count_lines(before)

@@ -1,4 +1,4 @@
-use Rattle.std.proofs.Common.{◌≡◌, ◌+◌, ◌-◌, length, take, drop, arith, subst, sym}
+use Rattle.std.proofs.Common.{◌≡◌, ◌+◌, ◌-◌, length, take, drop, subst, sym}
 use Rattle.cr_main.specs.Lines.{lines_of, joined}
 use Rattle.cr_main.proofs.LineLemmas.{ends_at}
 use Rattle.cr_main.proofs.lines.skip_lines.Goals as goal

@@ -1,5 +1,4 @@
-use Rattle.std.proofs.Common.{◌∙◌, sym}
-use Rattle.cr_main.proofs.Names.{same_front}
+use Rattle.cr_main.proofs.NameLemmas.{same_front}
 use Rattle.cr_main.proofs.settings.has_last_part.Goals as goal
 
 pub returns-in-Some : goal.returns-in-Some

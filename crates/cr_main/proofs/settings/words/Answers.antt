@@ -1,11 +1,12 @@
-use Rattle.std.proofs.Common.{◌≡◌, ◌∷◌, [], length, subst, sym, arith}
-use Rattle.cr_main.specs.Words.{HasSettings, texts_of}
-use Rattle.cr_main.proofs.Names.{two_texts}
+use Rattle.std.proofs.Common.{subst}
+use Rattle.cr_main.specs.Words.{GivesSettings, texts_of}
+use Rattle.cr_main.proofs.Giving.{gives_none}
 use Rattle.cr_main.proofs.settings.words.Goals as goal
 
 pub returns-clause-usage : goal.returns-clause-usage
-returns-clause-usage c = λ is text name has.
-    let two : length c.args.list.now ≡ 2 = omega arith in
-    let texts : texts_of c.args.list.now ≡ c.as_str.result.now ∷ c.as_str-2.result.now ∷ [] =
-    rw (c.as_str.ensures.value, c.as_str-2.ensures.value) (two_texts c.args.list.now c.index-list-0.result c.index-list-1.result two c.index-list-0.is c.index-list-1.is) in
-    c.two_words.ensures.usage is text name (subst (λ ws. HasSettings ws text name) texts has)
+returns-clause-usage c = λ is settings.
+    let limits = c.in_ok-limits.field-0.limits.items in
+    let places = c.in_ok-limits.field-0.places.items in
+    gives_none (texts_of c.args.list.now) (texts_of limits) (texts_of places) settings c.in_ok-limits.ensures.sorted
+    (subst (λ l. GivesSettings (texts_of l) (texts_of places) settings → ⊥) c.deref.ensures.value
+    (subst (λ p. GivesSettings (texts_of c.deref.result.now) (texts_of p) settings → ⊥) c.deref-2.ensures.value (c.settings_of.ensures.usage is settings)))

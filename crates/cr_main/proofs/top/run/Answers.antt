@@ -1,22 +1,53 @@
-use Rattle.std.proofs.Common.{Err, ap}
-use Rattle.cr_main.proofs.RunFile.{not_usage}
+use Rattle.std.proofs.Common.{refl, subst}
+use Rattle.cr_reduce.specs.Bench.{first_calls, first_count, first_says}
+use Rattle.cr_main.specs.Outside.{Says, judging_of, outside_of}
+use Rattle.cr_main.specs.Run.Runs.{on_file, refused}
+use Rattle.cr_main.specs.Words.{texts_of}
+use Rattle.cr_main.proofs.Headlines.{headline_of}
+use Rattle.cr_main.proofs.Keeping.{keeps_files}
+use Rattle.cr_main.proofs.Askings.{asks_only}
+use Rattle.cr_main.proofs.Completing.{completes}
 use Rattle.cr_main.proofs.top.run.Goals as goal
 
-pub returns-in-Ok-clause-usage : goal.returns-in-Ok-clause-usage
-returns-in-Ok-clause-usage g c = λ is.
-    let h = c.in-Ok.ensures.settings in
-    absurd (not_usage c.run_settings.result (c.run_settings.ensures.file h.text h.name h.test_is h.source_is).known is)
+pub returns-in-Ok-clause-runs : goal.returns-in-Ok-clause-runs
+returns-in-Ok-clause-runs g c = on_file c.in-Ok.settings c.run_settings.ensures.0 c.in-Ok.ensures.settings c.run_settings.ensures.1 c.run_settings.ensures.2
 
-pub returns-in-Ok-clause-settings : goal.returns-in-Ok-clause-settings
-returns-in-Ok-clause-settings g c = λ none. let h = c.in-Ok.ensures.settings in absurd (none h.text h.name h.has)
+pub returns-in-Ok-clause-headline : goal.returns-in-Ok-clause-headline
+returns-in-Ok-clause-headline g c = headline_of (texts_of c.args.list.now) (first_says g.J.Judge.key g.J.Judge.says c.args.bench.now)
+    (outside_of (g.F.Files.told c.args.files.now) (g.F.Files.faults c.args.files.now) (g.O.Sink.told c.args.out.now) (g.O.Sink.faults c.args.out.now))
+    (outside_of (g.F.Files.told c.run_settings.new.files) (g.F.Files.faults c.run_settings.new.files) (g.O.Sink.told c.run_settings.new.out) (g.O.Sink.faults c.run_settings.new.out))
+    (judging_of (first_calls g.J.Judge.calls c.args.bench.now) (first_count g.J.Judge.faults c.args.bench.now))
+    (judging_of (first_calls g.J.Judge.calls c.run_settings.new.bench) (first_count g.J.Judge.faults c.run_settings.new.bench))
+    c.run_settings.result (returns-in-Ok-clause-runs g c)
 
-pub returns-in-Ok-clause-unread : goal.returns-in-Ok-clause-unread
-returns-in-Ok-clause-unread g c = λ is.
-    let h = c.in-Ok.ensures.settings in
-    absurd (not_usage c.run_settings.result (c.run_settings.ensures.file h.text h.name h.test_is h.source_is).known is)
+pub returns-in-Ok-clause-files_kept : goal.returns-in-Ok-clause-files_kept
+returns-in-Ok-clause-files_kept g c = keeps_files (texts_of c.args.list.now) (first_says g.J.Judge.key g.J.Judge.says c.args.bench.now)
+    (outside_of (g.F.Files.told c.args.files.now) (g.F.Files.faults c.args.files.now) (g.O.Sink.told c.args.out.now) (g.O.Sink.faults c.args.out.now))
+    (outside_of (g.F.Files.told c.run_settings.new.files) (g.F.Files.faults c.run_settings.new.files) (g.O.Sink.told c.run_settings.new.out) (g.O.Sink.faults c.run_settings.new.out))
+    (judging_of (first_calls g.J.Judge.calls c.args.bench.now) (first_count g.J.Judge.faults c.args.bench.now))
+    (judging_of (first_calls g.J.Judge.calls c.run_settings.new.bench) (first_count g.J.Judge.faults c.run_settings.new.bench))
+    c.run_settings.result (returns-in-Ok-clause-runs g c)
 
-pub returns-in-Err-Usage-clause-usage : goal.returns-in-Err-Usage-clause-usage
-returns-in-Err-Usage-clause-usage g c = λ _. c.in-Err-Usage.ensures.usage (ap Err c.in-Err-Usage.field-0-is)
+pub returns-in-Ok-clause-asks_only : goal.returns-in-Ok-clause-asks_only
+returns-in-Ok-clause-asks_only g c = asks_only (texts_of c.args.list.now) (first_says g.J.Judge.key g.J.Judge.says c.args.bench.now)
+    (outside_of (g.F.Files.told c.args.files.now) (g.F.Files.faults c.args.files.now) (g.O.Sink.told c.args.out.now) (g.O.Sink.faults c.args.out.now))
+    (outside_of (g.F.Files.told c.run_settings.new.files) (g.F.Files.faults c.run_settings.new.files) (g.O.Sink.told c.run_settings.new.out) (g.O.Sink.faults c.run_settings.new.out))
+    (judging_of (first_calls g.J.Judge.calls c.args.bench.now) (first_count g.J.Judge.faults c.args.bench.now))
+    (judging_of (first_calls g.J.Judge.calls c.run_settings.new.bench) (first_count g.J.Judge.faults c.run_settings.new.bench))
+    c.run_settings.result (returns-in-Ok-clause-runs g c)
 
-pub returns-in-Err-Usage-clause-file : goal.returns-in-Err-Usage-clause-file
-returns-in-Err-Usage-clause-file g c = λ text name has. absurd (c.in-Err-Usage.ensures.usage (ap Err c.in-Err-Usage.field-0-is) text name has)
+pub returns-in-Ok-clause-completes : goal.returns-in-Ok-clause-completes
+returns-in-Ok-clause-completes g c = completes (texts_of c.args.list.now) (first_says g.J.Judge.key g.J.Judge.says c.args.bench.now)
+    (outside_of (g.F.Files.told c.args.files.now) (g.F.Files.faults c.args.files.now) (g.O.Sink.told c.args.out.now) (g.O.Sink.faults c.args.out.now))
+    (outside_of (g.F.Files.told c.run_settings.new.files) (g.F.Files.faults c.run_settings.new.files) (g.O.Sink.told c.run_settings.new.out) (g.O.Sink.faults c.run_settings.new.out))
+    (judging_of (first_calls g.J.Judge.calls c.args.bench.now) (first_count g.J.Judge.faults c.args.bench.now))
+    (judging_of (first_calls g.J.Judge.calls c.run_settings.new.bench) (first_count g.J.Judge.faults c.run_settings.new.bench))
+    c.run_settings.result (returns-in-Ok-clause-runs g c)
+
+pub returns-in-Err-Usage-clause-runs : goal.returns-in-Err-Usage-clause-runs
+returns-in-Err-Usage-clause-runs g c = refused (c.in-Err-Usage.ensures.usage cc) refl refl
+    (subst (λ line. Says (g.O.Sink.told c.args.out.now) (g.O.Sink.told c.put.new.out) (g.O.Sink.faults c.args.out.now) (g.O.Sink.faults c.put.new.out) line 2 2 c.put.result)
+    c.as_bytes.ensures.value c.put.ensures)
+
+pub returns-in-Err-Usage-clause-completes : goal.returns-in-Err-Usage-clause-completes
+returns-in-Err-Usage-clause-completes g c = λ t is_task all. absurd ((c.in-Err-Usage.ensures.usage (cc)) is_task.settings is_task.gives)

@@ -1,7 +1,7 @@
-use Rattle.std.proofs.Common.{◌≡◌, ◌≤◌, length, refl, sym, ◌∙◌, subst, arith}
+use Rattle.std.proofs.Common.{◌≡◌, refl, sym, ◌∙◌, subst, arith}
 use Rattle.cr_outside.specs.Question.{Says}
 use Rattle.cr_reduce.specs.Bench.{first_calls, first_count, first_says}
-use Rattle.cr_reduce.specs.Search.{Search, search_of}
+use Rattle.cr_reduce.specs.Search.{search_of}
 use Rattle.cr_reduce.specs.Walk.{Advances, AsksAtMostOnce, EndsHere, state_of}
 use Rattle.cr_reduce.proofs.Traces.{walked-refl, walked-step, walked-end}
 use Rattle.cr_reduce.proofs.Walks.{ends_earlier}

@@ -1,12 +1,8 @@
-use Rattle.std.proofs.Common.{◌≡◌, ◌⊎◌, ◌<◌, ℕ, ◌+◌, Some, subst, sym, List}
-use Rattle.std.specs.List.{slice_get}
-use Rattle.cr_outside.specs.declared.judge.Answer.TheVariants.{Yes}
+use Rattle.std.proofs.Common.{subst}
 use Rattle.cr_reduce.specs.Bench.{first_calls, first_says}
 use Rattle.cr_reduce.specs.Sizes.{HasSize}
-use Rattle.cr_reduce.specs.Trials.{IsGood, AnswerInRun}
-use Rattle.cr_reduce.specs.Reduction.{cursors_of, taken}
 use Rattle.cr_reduce.specs.Search.{search_of}
-use Rattle.cr_reduce.specs.Walk.{state_of, IsTakable, MovesOn}
+use Rattle.cr_reduce.specs.Walk.{state_of, IsTakable}
 use Rattle.cr_reduce.proofs.Verdicts.{was_rejected, was_accepted}
 use Rattle.cr_reduce.proofs.Walks.{moves_rejected, moves_accepted, asks_at_most_once}
 use Rattle.cr_reduce.proofs.look.consider.Goals as goal

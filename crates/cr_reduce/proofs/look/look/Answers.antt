@@ -1,4 +1,4 @@
-use Rattle.std.proofs.Common.{◌≡◌, refl, subst, sym}
+use Rattle.std.proofs.Common.{refl, subst, sym}
 use Rattle.cr_reduce.specs.Bench.{first_calls, first_says}
 use Rattle.cr_reduce.specs.Search.{search_of}
 use Rattle.cr_reduce.specs.Walk.{state_of, MovesOn}

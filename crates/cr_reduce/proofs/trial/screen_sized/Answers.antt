@@ -1,4 +1,4 @@
-use Rattle.std.proofs.Common.{arith, inl, inr}
+use Rattle.std.proofs.Common.{arith, inl}
 use Rattle.cr_reduce.proofs.Sizes.{one_size}
 use Rattle.cr_reduce.proofs.trial.screen_sized.Goals as goal
 

@@ -1,7 +1,6 @@
-use Rattle.std.proofs.Common.{◌≡◌, inl, inr, subst}
+use Rattle.std.proofs.Common.{◌≡◌, inr, subst}
 use Rattle.cr_reduce.specs.Bench.{first_calls}
 use Rattle.cr_reduce.specs.Trials.{IsGood}
-use Rattle.cr_reduce.specs.declared.trial.Verdict.TheVariants.{Accepted}
 use Rattle.cr_reduce.proofs.Runs.{called_yes, called_no}
 use Rattle.cr_reduce.proofs.trial.try_variant.Goals as goal
 

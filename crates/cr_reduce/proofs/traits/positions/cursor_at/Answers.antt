@@ -1,6 +1,6 @@
-use Rattle.std.proofs.Common.{◌≡◌, ◌<◌, ◌+◌, length, arith, Some, subst, sym, ap}
+use Rattle.std.proofs.Common.{◌≡◌, ◌+◌, length, arith, Some, subst, sym, ap}
 use Rattle.std.specs.List.{slice_get}
-use Rattle.cr_reduce.specs.Variants.{cursors, cursors_below, cursor}
+use Rattle.cr_reduce.specs.Variants.{cursors, cursors_below}
 use Rattle.cr_reduce.proofs.Numbering.{no_passes, one_pass, in_all, all_passes}
 use Rattle.cr_reduce.proofs.traits.positions.cursor_at.Goals as goal
 

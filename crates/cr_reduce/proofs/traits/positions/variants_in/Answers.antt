@@ -1,4 +1,4 @@
-use Rattle.std.proofs.Common.{◌∙◌, arith}
+use Rattle.std.proofs.Common.{arith}
 use Rattle.cr_reduce.proofs.Numbering.{no_levels, one_level}
 use Rattle.cr_reduce.proofs.traits.positions.variants_in.Goals as goal
 

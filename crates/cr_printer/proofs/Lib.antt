@@ -1,0 +1,13 @@
+pub mod Moves
+pub mod LineEnds
+pub mod Stands
+pub mod Alone
+pub mod Dots
+pub mod Reading
+pub mod Apart
+pub mod Orders
+pub mod Growth
+pub mod Names
+pub mod Neighbours
+pub mod Lost
+pub mod Units
