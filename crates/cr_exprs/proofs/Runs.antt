@@ -10,7 +10,8 @@ use Rattle.cr_syntax.specs.declared.symbol.Part.{Part}
 use Rattle.cr_syntax.specs.declared.symbol.Part.TheVariants as part
 use Rattle.cr_syntax.specs.declared.symbol.Context.{Context}
 use Rattle.cr_syntax.specs.declared.node.Kind.TheVariants as kind
-use Rattle.cr_syntax.specs.Context.{past_part}
+use Rattle.cr_syntax.specs.Context.{past_part, is_bare}
+use Rattle.cr_syntax.specs.declared.scopes.TypeName.{TypeName}
 use Rattle.cr_syntax.specs.Spells.{AtMost}
 use Rattle.cr_syntax.specs.Units.{most_levels}
 use Rattle.cr_syntax.specs.Scopes.{Scopes, enter}
@@ -225,3 +226,14 @@ parameter_by h a false q = run_no q (run_here run_give)
 pub parameter_ends : {ts : List Lexeme} {c e : Scopes} {i s : ℕ} {t : Trees} (h : Context) (a : Trees) → e ≡ entered ts i h a c →
     RunsTo ts (when (is_declarator a) (drops (bring (past_part h a).name (past_part h a).type_name (made kind.Parameter s t))) (made kind.Parameter s t)) c i (Done (one kind.Parameter s i t) e i)
 parameter_ends {ts} {c} {e} {i} {s} {t} h a q = done_in q (parameter_by h a (is_declarator a) refl)
+
+-- the scopes on a declarator behind an array's size, and behind a function's parameters
+pub own_scopes : {s e : Scopes} {own : List TypeName} (c : Scopes) → s ≡ own ∷ e → own ≡ m.innermost_of c → s ≡ m.innermost_of c ∷ e
+own_scopes {s} {e} {own} c q r = q ∙ ap (λ x. x ∷ e) r
+
+pub kept_scopes : {s r : Scopes} {k names own : List TypeName} (b a : Trees) (e c : Scopes) → s ≡ k ∷ r → k ≡ (if is_bare b then names else own) → b ≡ a → names ≡ m.innermost_of e → own ≡ m.innermost_of c → r ≡ around e →
+    s ≡ (if is_bare a then m.innermost_of e else m.innermost_of c) ∷ around e
+kept_scopes {s} {r} {k} {names} {own} b a e c q v t n o w =
+    let first : k ≡ (if is_bare a then m.innermost_of e else m.innermost_of c) =
+    v ∙ ap (λ (x : Trees). if is_bare x then names else own) t ∙ ap (λ (x : List TypeName). if is_bare a then x else own) n ∙ ap (λ (x : List TypeName). if is_bare a then m.innermost_of e else x) o in
+    q ∙ ap (λ (x : List TypeName). x ∷ r) first ∙ ap (λ (x : Scopes). (if is_bare a then m.innermost_of e else m.innermost_of c) ∷ x) w

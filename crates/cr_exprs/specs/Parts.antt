@@ -10,6 +10,10 @@ use Rattle.cr_syntax.specs.Trees.{Trees, none, ◌&◌}
 use Rattle.cr_syntax.specs.Machine.{Prog, brought, around, passes, reopens, call, expect, made, expression, conditional}
 use Rattle.cr_syntax.specs.Machine as m
 use Rattle.cr_syntax.specs.MachineBody.{may_omit, declarator_start, is_declarator}
+use Rattle.cr_syntax.specs.declared.symbol.Part.{Part}
+use Rattle.cr_syntax.specs.declared.symbol.Part.TheVariants as part
+use Rattle.cr_exprs.specs.declared.goal.Goal.{Goal}
+use Rattle.cr_exprs.specs.declared.goal.Goal.TheVariants.{Expression, Assignment, Conditional}
 use Rattle.cr_exprs.specs.declared.reading.Wanted.{Wanted}
 use Rattle.cr_exprs.specs.declared.reading.Wanted.TheVariants.{Named, Unnamed, Either}
 
@@ -33,3 +37,9 @@ pub record PointsOn (ts : List Lexeme) (w : m.Wanted) (i : ℕ) : Type 0 where
 -- the scopes behind a parameter's declarator a, where token i stands: its name enters, and its own scope ends
 abbrev pub entered : List Lexeme → ℕ → Context → Trees → Scopes → Scopes
 entered ts i h a c = if is_declarator a then enter (brought ts i (past_part h a).name (past_part h a).type_name) (around c) else c
+
+-- the part of the grammar that is to be read
+abbrev pub part_of : Goal → Part
+part_of Expression = part.Expression
+part_of Assignment = part.Assignment
+part_of Conditional = part.Conditional

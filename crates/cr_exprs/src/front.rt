@@ -1,22 +1,12 @@
 use crate::fault::ParseFault;
+use crate::goal::Goal;
 use crate::names::TypeNames;
 use crate::reading::whole;
 use crate::source::{Source, words_of};
 use cr_rows::Row;
-use cr_syntax::{Node, Part};
+use cr_syntax::Node;
 use cr_tokens::Tokens;
 use std::alloc::Global;
-
-/// What is to be read.
-#[derive(Clone, Copy, PartialEq, Eq, Debug)]
-pub enum Goal {
-    /// An expression (C11 6.5.17).
-    Expression,
-    /// An assignment expression (6.5.16).
-    Assignment,
-    /// A conditional expression (6.5.15).
-    Conditional,
-}
 
 /// Reads the longest run of tokens from `at` on that begins a text of the goal in these scopes, where so many levels are
 /// open, and appends its nodes. It gives the node and the token after it.
@@ -40,19 +30,11 @@ pub fn expression(
     let found = whole(
         alloc,
         &source,
-        part_of(goal),
+        goal,
         at as usize,
         depth as usize,
         &mut scopes,
         nodes,
     )?;
     Ok((found.node, found.next as u32))
-}
-
-fn part_of(goal: Goal) -> Part {
-    match goal {
-        Goal::Expression => Part::Expression,
-        Goal::Assignment => Part::Assignment,
-        Goal::Conditional => Part::Conditional,
-    }
 }

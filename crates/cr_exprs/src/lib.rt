@@ -11,6 +11,7 @@ mod arena;
 mod fault;
 mod found;
 mod front;
+mod goal;
 mod names;
 mod reading;
 mod scopes;
@@ -21,7 +22,8 @@ mod tests;
 
 pub use fault::ParseFault;
 pub use found::Found;
-pub use front::{Goal, expression};
+pub use front::expression;
+pub use goal::Goal;
 pub use names::TypeNames;
 pub use reading::whole;
 pub use source::{Source, words_of};

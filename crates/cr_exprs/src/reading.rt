@@ -9,11 +9,11 @@ ghost use Rattle.cr_syntax.specs.Kept.{PartsAreBelow, row_in};
 ghost use Rattle.cr_syntax.specs.Context.{fresh, past_part, past_token};
 ghost use Rattle.cr_syntax.specs.Reads.{is_word};
 ghost use Rattle.cr_syntax.specs.Machine.{passes, plain, give, expect, whole, expression, assignment, conditional, binary, cast, unary, measured, postfix, called, grouped, arguments, suffixes, type_name, row, element, structure, members, member, member_declarators, enumeration, enumerators, enumerator, declarator, declarator_suffixes, abstract_suffixes, size, parameters, parameter};
-ghost use Rattle.cr_syntax.specs.MachineBody.{body, tighter, unary_prefixes, cast_prefixes, type_start, element_start, declarator_start, may_name, may_omit, is_declarator, array_start, suffixed, suffixes_end};
+ghost use Rattle.cr_syntax.specs.MachineBody.{body, start_goal, tighter, unary_prefixes, cast_prefixes, type_start, element_start, declarator_start, may_name, may_omit, is_declarator, array_start, suffixed, suffixes_end};
 ghost use Rattle.cr_exprs.specs.Source.{IsReadable, text_of};
 ghost use Rattle.cr_exprs.specs.Tables.{kind_of};
 ghost use Rattle.cr_exprs.specs.Answers.{Answers, Reads, Lengthens, MayLengthen, Finishes, IsPushed, IsPlaced, IsGrown, IsListed, IsOptional, tree};
-ghost use Rattle.cr_exprs.specs.Parts.{wanted_of, chosen, EndsPointer, PointsOn};
+ghost use Rattle.cr_exprs.specs.Parts.{part_of, wanted_of, chosen, EndsPointer, PointsOn};
 
 use crate::arena::{
     gathered, gathered_parameters, is_declarator, is_identifier, is_unary, leaf, over,
@@ -21,6 +21,7 @@ use crate::arena::{
 };
 use crate::fault::ParseFault;
 use crate::found::{Found, Listed, Optional};
+use crate::goal::Goal;
 use crate::scopes::{bring, drop_scope, enter_parameter, kept, taken};
 use crate::source::{
     Source, bar, bar_unused, consts, expect, is_declared, is_ordinary, is_type_identifier, refused,
@@ -85,11 +86,11 @@ fn starts_wanted(source: &Source, wanted: Wanted, at: usize) -> bool
     }
 }
 
-/// An expression, an assignment or a conditional with no unused keyword behind it.
+/// What is to be read, with no unused keyword behind it.
 pub fn whole(
     alloc: Global,
     source: &Source,
-    part: Part,
+    goal: Goal,
     at: usize,
     depth: usize,
     scopes: &mut LinkedList<Scope>,
@@ -99,16 +100,36 @@ pub fn whole(
     requires at { at ≤ length source.now.tokens.now }
     requires depth { depth ≤ 128 }
     requires below { PartsAreBelow nodes.old }
-    ensures reads { Reads (text_of source.now) (body (whole part depth)) scopes.old at nodes.new scopes.new result }
+    ensures reads { Reads (text_of source.now) (body (whole (part_of goal) depth)) scopes.old at nodes.new scopes.new result }
     ensures placed { IfOk result (λ x. IsPlaced (length source.now.tokens.now) at nodes.old nodes.new x) }
 {
-    let found = match part {
-        Part::Expression => expression(alloc, source, at, depth, scopes, nodes)?,
-        Part::Assignment => assignment(alloc, source, at, depth, scopes, nodes)?,
-        _ => conditional(alloc, source, at, depth, scopes, nodes)?,
-    };
+    let found = started(alloc, source, goal, at, depth, scopes, nodes)?;
     bar_unused(source, found.next, depth)?;
     Ok(found)
+}
+
+/// What is to be read.
+fn started(
+    alloc: Global,
+    source: &Source,
+    goal: Goal,
+    at: usize,
+    depth: usize,
+    scopes: &mut LinkedList<Scope>,
+    nodes: &mut Row<Node>,
+) -> Result<Found, ParseFault>
+    requires readable { IsReadable source.now }
+    requires at { at ≤ length source.now.tokens.now }
+    requires depth { depth ≤ 128 }
+    requires below { PartsAreBelow nodes.old }
+    ensures reads { Reads (text_of source.now) (body (start_goal (part_of goal) depth)) scopes.old at nodes.new scopes.new result }
+    ensures placed { IfOk result (λ x. IsPlaced (length source.now.tokens.now) at nodes.old nodes.new x) }
+{
+    match goal {
+        Goal::Expression => expression(alloc, source, at, depth, scopes, nodes),
+        Goal::Assignment => assignment(alloc, source, at, depth, scopes, nodes),
+        Goal::Conditional => conditional(alloc, source, at, depth, scopes, nodes),
+    }
 }
 
 // Expressions (C11 6.5).

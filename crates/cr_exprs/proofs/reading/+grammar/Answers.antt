@@ -1,14 +1,14 @@
-use Rattle.std.proofs.Common.{◌≡◌, ◌+◌, refl, sym, ◌∙◌, arith, rules}
+use Rattle.std.proofs.Common.{◌≡◌, ◌+◌, refl, sym, ap, ◌∙◌, arith, rules}
 use Rattle.std.specs.Prelude.{option_to_list}
 use Rattle.cr_syntax.specs.declared.node.Kind.TheVariants as kind
-use Rattle.cr_syntax.specs.Trees.{none, one, ◌&◌}
+use Rattle.cr_syntax.specs.Trees.{Trees, none, one, ◌&◌}
 use Rattle.cr_syntax.specs.Kept.{row_in}
 use Rattle.cr_syntax.specs.Machine as m
 use Rattle.cr_syntax.specs.Machine.{plain, opens, give, choose, made, run_give, run_stop, run_take, run_deep, run_pass, run_bar, run_free, run_seen, run_unseen, run_yes, run_no, run_here, run_look, run_set, run_bring, run_call, run_fail}
 use Rattle.cr_syntax.specs.MachineBody.{body, assignment_operators, operators, unary_prefixes, cast_prefixes, constants, specifier_words, assigned, operated, prefixed, sized, suffixed, other_primary, other_element}
 use Rattle.cr_exprs.specs.Answers.{tree}
 use Rattle.cr_exprs.proofs.Nodes.{tree_kept, keeps_all, keeps_none, below_empty, row_empty, row_single, is_row_single, row_more, is_row_more, of_row}
-use Rattle.cr_exprs.proofs.Runs.{exit, fails, stops, deep, no_memory, memory, finish, goes_on, through, handed, chosen_here, chosen_none, shift, done_as, done_in, run_in, no_room, tighter_some, tighter_none, more_shift, members_shift, points_on, pointer_ends, parameter_ends}
+use Rattle.cr_exprs.proofs.Runs.{exit, fails, stops, deep, no_memory, memory, finish, goes_on, through, handed, chosen_here, chosen_none, shift, done_as, done_in, run_in, no_room, tighter_some, tighter_none, more_shift, members_shift, points_on, own_scopes, kept_scopes, pointer_ends, parameter_ends}
 use Rattle.cr_exprs.proofs.reading.+grammar.Goals as goal
 
 pub expression-returns-in_err-left-clause-reads : goal.expression-returns-in_err-left-clause-reads
@@ -24,7 +24,7 @@ pub expression-returns-in_err-left-2-clause-reads : goal.expression-returns-in_e
 expression-returns-in_err-left-2-clause-reads t c = exit c.from_residual-in_err-left-2.result _ c.from_residual-in_err-left-2.ensures.1 (no_memory c.in_err-left-2.ensures.err)
 
 pub expression-commas-preserved : goal.expression-commas-preserved
-expression-commas-preserved t c = record { goes = record { on = λ y r. c.commas.invariant.goes.on y (run_take (sym c.stands.ensures.answer ∙ c.commas-test.true) tt (run_call c.in_ok-right.ensures.reads.is.run (run_here (handed y (shift (λ u. body (m.commas c.args.depth c.args.at u)) (let q : tree c.pair.new.nodes c.in_ok-left-2.left.node ≡ one kind.Comma c.args.at c.in_ok-right.right.next (tree c.commas.nodes c.commas.left.node & tree c.assignment-in-commas.new.nodes c.in_ok-right.right.node & none) = (let e = tree_kept c.commas.nodes c.assignment-in-commas.new.nodes c.commas.left.node c.in_ok-right.ensures.placed.keeps (omega (arith, c.commas.invariant.placed.last)) in cc) in q) c.in_ok-left-2.ensures.next r))))) }; placed = record { last = omega (arith, c.in_ok-left-2.ensures.ok.last, c.in_ok-left-2.ensures.ok.grows); grows = omega (arith, c.commas.invariant.placed.grows, c.in_ok-right.ensures.placed.grows, c.in_ok-left-2.ensures.ok.grows); keeps = keeps_all _ _ _ (keeps_all _ _ _ c.commas.invariant.placed.keeps c.in_ok-right.ensures.placed.keeps) c.in_ok-left-2.ensures.ok.keeps; below = c.in_ok-left-2.ensures.ok.below; from = omega (arith, c.commas.invariant.placed.from, c.in_ok-right.ensures.placed.from, c.in_ok-left-2.ensures.next); to = omega (arith, c.in_ok-right.ensures.placed.to, c.in_ok-left-2.ensures.next) } }
+expression-commas-preserved t c = record { goes = record { on = λ y r. c.commas.invariant.goes.on y (run_take (sym c.stands.ensures.answer ∙ c.commas-test.true) tt (run_call c.in_ok-right.ensures.reads.is.run (run_here (handed y (shift (λ u. body (m.commas c.args.depth c.args.at u)) (c.in_ok-left-2.ensures.tree ∙ ap (λ (x : Trees). one kind.Comma c.args.at c.in_ok-right.right.next (x & tree c.assignment-in-commas.new.nodes c.in_ok-right.right.node & none)) (tree_kept c.commas.nodes c.assignment-in-commas.new.nodes c.commas.left.node c.in_ok-right.ensures.placed.keeps (omega (arith, c.commas.invariant.placed.last)))) c.in_ok-left-2.ensures.next r))))) }; placed = record { last = omega (arith, c.in_ok-left-2.ensures.ok.last, c.in_ok-left-2.ensures.ok.grows); grows = omega (arith, c.commas.invariant.placed.grows, c.in_ok-right.ensures.placed.grows, c.in_ok-left-2.ensures.ok.grows); keeps = keeps_all _ _ _ (keeps_all _ _ _ c.commas.invariant.placed.keeps c.in_ok-right.ensures.placed.keeps) c.in_ok-left-2.ensures.ok.keeps; below = c.in_ok-left-2.ensures.ok.below; from = omega (arith, c.commas.invariant.placed.from, c.in_ok-right.ensures.placed.from, c.in_ok-left-2.ensures.next); to = omega (arith, c.in_ok-right.ensures.placed.to, c.in_ok-left-2.ensures.next) } }
 
 pub expression-returns-clause-reads : goal.expression-returns-clause-reads
 expression-returns-clause-reads t c = record { is = record { run = c.commas.invariant.goes.on _ (run_pass (sym c.stands.ensures.answer ∙ c.commas-test.false) run_give) } }
@@ -42,7 +42,7 @@ pub binary-returns-in_err-left-2-clause-reads : goal.binary-returns-in_err-left-
 binary-returns-in_err-left-2-clause-reads t c = exit c.from_residual-in_err-left-2.result _ c.from_residual-in_err-left-2.ensures.1 (no_memory c.in_err-left-2.ensures.err)
 
 pub binary-operands-preserved : goal.binary-operands-preserved
-binary-operands-preserved t c = record { goes = record { on = λ y r. c.operands.invariant.goes.on y (chosen_here plain (operators c.args.part) c.args.depth (operated c.args.part c.args.depth c.args.at (tree c.operands.nodes c.operands.left.node)) (give (tree c.operands.nodes c.operands.left.node)) (sym c.in-Some.ensures.kind) (λ x' z w. run_take w tt (run_call c.in_ok-right.ensures.reads.is.run (run_here (handed y (shift (λ u. body (m.operands c.args.part c.args.depth c.args.at u)) (let q : tree c.pair.new.nodes c.in_ok-left-2.left.node ≡ one c.in-Some.kind c.args.at c.in_ok-right.right.next (tree c.operands.nodes c.operands.left.node & tree c.operand-in-Some.new.nodes c.in_ok-right.right.node & none) = (let e = tree_kept c.operands.nodes c.operand-in-Some.new.nodes c.operands.left.node c.in_ok-right.ensures.placed.keeps (omega (arith, c.operands.invariant.placed.last)) in cc) in q) c.in_ok-left-2.ensures.next r)))))) }; placed = record { last = omega (arith, c.in_ok-left-2.ensures.ok.last, c.in_ok-left-2.ensures.ok.grows); grows = omega (arith, c.operands.invariant.placed.grows, c.in_ok-right.ensures.placed.grows, c.in_ok-left-2.ensures.ok.grows); keeps = keeps_all _ _ _ (keeps_all _ _ _ c.operands.invariant.placed.keeps c.in_ok-right.ensures.placed.keeps) c.in_ok-left-2.ensures.ok.keeps; below = c.in_ok-left-2.ensures.ok.below; from = omega (arith, c.operands.invariant.placed.from, c.in_ok-right.ensures.placed.from, c.in_ok-left-2.ensures.next); to = omega (arith, c.in_ok-right.ensures.placed.to, c.in_ok-left-2.ensures.next) } }
+binary-operands-preserved t c = record { goes = record { on = λ y r. c.operands.invariant.goes.on y (chosen_here plain (operators c.args.part) c.args.depth (operated c.args.part c.args.depth c.args.at (tree c.operands.nodes c.operands.left.node)) (give (tree c.operands.nodes c.operands.left.node)) (sym c.in-Some.ensures.kind) (λ x' z w. run_take w tt (run_call c.in_ok-right.ensures.reads.is.run (run_here (handed y (shift (λ u. body (m.operands c.args.part c.args.depth c.args.at u)) (c.in_ok-left-2.ensures.tree ∙ ap (λ (x : Trees). one c.in-Some.kind c.args.at c.in_ok-right.right.next (x & tree c.operand-in-Some.new.nodes c.in_ok-right.right.node & none)) (tree_kept c.operands.nodes c.operand-in-Some.new.nodes c.operands.left.node c.in_ok-right.ensures.placed.keeps (omega (arith, c.operands.invariant.placed.last)))) c.in_ok-left-2.ensures.next r)))))) }; placed = record { last = omega (arith, c.in_ok-left-2.ensures.ok.last, c.in_ok-left-2.ensures.ok.grows); grows = omega (arith, c.operands.invariant.placed.grows, c.in_ok-right.ensures.placed.grows, c.in_ok-left-2.ensures.ok.grows); keeps = keeps_all _ _ _ (keeps_all _ _ _ c.operands.invariant.placed.keeps c.in_ok-right.ensures.placed.keeps) c.in_ok-left-2.ensures.ok.keeps; below = c.in_ok-left-2.ensures.ok.below; from = omega (arith, c.operands.invariant.placed.from, c.in_ok-right.ensures.placed.from, c.in_ok-left-2.ensures.next); to = omega (arith, c.in_ok-right.ensures.placed.to, c.in_ok-left-2.ensures.next) } }
 
 pub binary-returns-clause-reads : goal.binary-returns-clause-reads
 binary-returns-clause-reads t c = record { is = record { run = c.operands.invariant.goes.on _ (chosen_none plain (operators c.args.part) c.args.depth (operated c.args.part c.args.depth c.args.at (tree c.operands.nodes c.operands.left.node)) (give (tree c.operands.nodes c.operands.left.node)) (sym c.in_default.ensures.kind) (run_give)) } }
@@ -251,8 +251,8 @@ members-returns-in_err-push-clause-reads t c = memory c.from_residual-in_err-pus
 pub members-returns-then-stands-clause-reads : goal.members-returns-then-stands-clause-reads
 members-returns-then-stands-clause-reads t c = finish c.push-then-stands.new.nodes c.push-then-stands.result c.push-then-stands.ensures.err c.push-then-stands.ensures.next c.push-then-stands.ensures.tree (c.members.invariant.goes.on _ (run_call c.in_ok-declaration.ensures.reads.is.run (run_take (sym c.stands.ensures.answer ∙ c.if-stands.true) tt (run_here (done_as (of_row (row_more _ _ _ _ _ c.in_ok-declaration.ensures.placed.keeps c.members.invariant.parts c.in_ok-push.ensures.ok)) run_give)))))
 
-pub members-push-then-stands-requires-clause-parts : goal.members-push-then-stands-requires-clause-parts
-members-push-then-stands-requires-clause-parts t c = (is_row_more _ _ _ _ _ c.members.invariant.parts c.in_ok-declaration.ensures.placed.keeps.longer c.in_ok-declaration.ensures.placed.last c.in_ok-push.ensures.ok).below
+pub members-push-requires-then-stands-clause-parts : goal.members-push-requires-then-stands-clause-parts
+members-push-requires-then-stands-clause-parts t c = (is_row_more _ _ _ _ _ c.members.invariant.parts c.in_ok-declaration.ensures.placed.keeps.longer c.in_ok-declaration.ensures.placed.last c.in_ok-push.ensures.ok).below
 
 pub members-members-preserved : goal.members-members-preserved
 members-members-preserved t c = record { goes = record { on = λ y r. c.members.invariant.goes.on y (run_call c.in_ok-declaration.ensures.reads.is.run (run_pass (sym c.stands.ensures.answer ∙ c.if-stands.false) (handed y (shift (λ u. body (m.members c.args.depth c.args.start u)) (row_more _ _ _ _ _ c.in_ok-declaration.ensures.placed.keeps c.members.invariant.parts c.in_ok-push.ensures.ok) refl r)))) }; keeps = keeps_all _ _ _ c.members.invariant.keeps c.in_ok-declaration.ensures.placed.keeps; below = c.in_ok-declaration.ensures.placed.below; parts = (is_row_more _ _ _ _ _ c.members.invariant.parts c.in_ok-declaration.ensures.placed.keeps.longer c.in_ok-declaration.ensures.placed.last c.in_ok-push.ensures.ok).below; from = omega (arith, c.members.invariant.from, c.in_ok-declaration.ensures.placed.from); to = c.in_ok-declaration.ensures.placed.to }
@@ -272,14 +272,14 @@ enumerators-returns-in_err-expect-clause-reads t c = exit c.from_residual-in_err
 pub enumerators-returns-then-not-stands-clause-reads : goal.enumerators-returns-then-not-stands-clause-reads
 enumerators-returns-then-not-stands-clause-reads t c = finish c.push-then-not-stands.new.nodes c.push-then-not-stands.result c.push-then-not-stands.ensures.err c.push-then-not-stands.ensures.next c.push-then-not-stands.ensures.tree (c.enumerators.invariant.goes.on _ (run_call c.in_ok-one.ensures.reads.is.run (run_pass (sym c.stands.ensures.answer ∙ c.if-not-stands.true) (run_take c.in_ok-expect.ensures.ok tt (run_here (done_as (of_row (row_more _ _ _ _ _ c.in_ok-one.ensures.placed.keeps c.enumerators.invariant.parts c.in_ok-push.ensures.ok)) run_give))))))
 
-pub enumerators-push-then-not-stands-requires-clause-parts : goal.enumerators-push-then-not-stands-requires-clause-parts
-enumerators-push-then-not-stands-requires-clause-parts t c = (is_row_more _ _ _ _ _ c.enumerators.invariant.parts c.in_ok-one.ensures.placed.keeps.longer c.in_ok-one.ensures.placed.last c.in_ok-push.ensures.ok).below
+pub enumerators-push-requires-then-not-stands-clause-parts : goal.enumerators-push-requires-then-not-stands-clause-parts
+enumerators-push-requires-then-not-stands-clause-parts t c = (is_row_more _ _ _ _ _ c.enumerators.invariant.parts c.in_ok-one.ensures.placed.keeps.longer c.in_ok-one.ensures.placed.last c.in_ok-push.ensures.ok).below
 
 pub enumerators-returns-then-stands-clause-reads : goal.enumerators-returns-then-stands-clause-reads
 enumerators-returns-then-stands-clause-reads t c = finish c.push-then-stands.new.nodes c.push-then-stands.result c.push-then-stands.ensures.err c.push-then-stands.ensures.next c.push-then-stands.ensures.tree (c.enumerators.invariant.goes.on _ (run_call c.in_ok-one.ensures.reads.is.run (run_take (sym c.stands.ensures.answer ∙ c.if-not-stands.false) tt (run_take (sym c.stands-in-enumerators.ensures.answer ∙ c.if-stands.true) tt (run_here (done_as (of_row (row_more _ _ _ _ _ c.in_ok-one.ensures.placed.keeps c.enumerators.invariant.parts c.in_ok-push.ensures.ok)) run_give))))))
 
-pub enumerators-push-then-stands-requires-clause-parts : goal.enumerators-push-then-stands-requires-clause-parts
-enumerators-push-then-stands-requires-clause-parts t c = (is_row_more _ _ _ _ _ c.enumerators.invariant.parts c.in_ok-one.ensures.placed.keeps.longer c.in_ok-one.ensures.placed.last c.in_ok-push.ensures.ok).below
+pub enumerators-push-requires-then-stands-clause-parts : goal.enumerators-push-requires-then-stands-clause-parts
+enumerators-push-requires-then-stands-clause-parts t c = (is_row_more _ _ _ _ _ c.enumerators.invariant.parts c.in_ok-one.ensures.placed.keeps.longer c.in_ok-one.ensures.placed.last c.in_ok-push.ensures.ok).below
 
 pub enumerators-enumerators-preserved : goal.enumerators-enumerators-preserved
 enumerators-enumerators-preserved t c = record { goes = record { on = λ y r. c.enumerators.invariant.goes.on y (run_call c.in_ok-one.ensures.reads.is.run (run_take (sym c.stands.ensures.answer ∙ c.if-not-stands.false) tt (run_pass (sym c.stands-in-enumerators.ensures.answer ∙ c.if-stands.false) (handed y (shift (λ u. body (m.enumerators c.args.depth c.args.start u)) (row_more _ _ _ _ _ c.in_ok-one.ensures.placed.keeps c.enumerators.invariant.parts c.in_ok-push.ensures.ok) refl r))))) }; keeps = keeps_all _ _ _ c.enumerators.invariant.keeps c.in_ok-one.ensures.placed.keeps; below = c.in_ok-one.ensures.placed.below; parts = (is_row_more _ _ _ _ _ c.enumerators.invariant.parts c.in_ok-one.ensures.placed.keeps.longer c.in_ok-one.ensures.placed.last c.in_ok-push.ensures.ok).below; from = omega (arith, c.enumerators.invariant.from, c.in_ok-one.ensures.placed.from); to = search rules }
@@ -413,8 +413,8 @@ member_declarators-returns-in_err-expect-clause-reads t c = exit c.from_residual
 pub member_declarators-returns-then-not-stands-clause-reads : goal.member_declarators-returns-then-not-stands-clause-reads
 member_declarators-returns-then-not-stands-clause-reads t c = finish c.push-then-not-stands.new.nodes c.push-then-not-stands.result c.push-then-not-stands.ensures.err c.push-then-not-stands.ensures.next c.push-then-not-stands.ensures.tree (done_in c.drop_scope.ensures (c.declarators.invariant.goes.on _ (run_call c.in_ok-one.ensures.reads.is.run (run_look (run_set (run_free c.in_ok-bar.ensures.ok (run_pass (sym c.stands.ensures.answer ∙ c.if-not-stands.true) (run_take c.in_ok-expect.ensures.ok tt (run_here (done_as (of_row (row_more _ _ _ _ _ c.in_ok-one.ensures.placed.keeps c.declarators.invariant.parts c.in_ok-push.ensures.ok)) run_give))))))))))
 
-pub member_declarators-push-then-not-stands-requires-clause-parts : goal.member_declarators-push-then-not-stands-requires-clause-parts
-member_declarators-push-then-not-stands-requires-clause-parts t c = (is_row_more _ _ _ _ _ c.declarators.invariant.parts c.in_ok-one.ensures.placed.keeps.longer c.in_ok-one.ensures.placed.last c.in_ok-push.ensures.ok).below
+pub member_declarators-push-requires-then-not-stands-clause-parts : goal.member_declarators-push-requires-then-not-stands-clause-parts
+member_declarators-push-requires-then-not-stands-clause-parts t c = (is_row_more _ _ _ _ _ c.declarators.invariant.parts c.in_ok-one.ensures.placed.keeps.longer c.in_ok-one.ensures.placed.last c.in_ok-push.ensures.ok).below
 
 pub member_declarators-declarators-preserved : goal.member_declarators-declarators-preserved
 member_declarators-declarators-preserved t c = record { goes = record { on = λ y r. c.declarators.invariant.goes.on y (run_call c.in_ok-one.ensures.reads.is.run (run_look (run_set (run_free c.in_ok-bar.ensures.ok (run_take (sym c.stands.ensures.answer ∙ c.if-not-stands.false) tt (handed y (run_in c.drop_scope.ensures (members_shift c.named-context.ensures (row_more _ _ _ _ _ c.in_ok-one.ensures.placed.keeps c.declarators.invariant.parts c.in_ok-push.ensures.ok) r)))))))) }; keeps = keeps_all _ _ _ c.declarators.invariant.keeps c.in_ok-one.ensures.placed.keeps; below = c.in_ok-one.ensures.placed.below; parts = (is_row_more _ _ _ _ _ c.declarators.invariant.parts c.in_ok-one.ensures.placed.keeps.longer c.in_ok-one.ensures.placed.last c.in_ok-push.ensures.ok).below; from = omega (arith, c.declarators.invariant.from, c.in_ok-one.ensures.placed.from); to = search rules }
@@ -438,13 +438,13 @@ pub pointer-returns-in_err-room-clause-reads : goal.pointer-returns-in_err-room-
 pointer-returns-in_err-room-clause-reads t c = exit c.from_residual.result _ c.from_residual.ensures.1 (deep c.in_err-room.ensures.err (run_here (run_deep c.requires.star (no_room c.in_err-room.ensures.full))))
 
 pub pointer-returns-then-ends_pointer-clause-reads : goal.pointer-returns-then-ends_pointer-clause-reads
-pointer-returns-then-ends_pointer-clause-reads t c = finish c.leaf.new.nodes c.leaf.result c.leaf.ensures.err c.leaf.ensures.next c.leaf.ensures.tree (run_here (run_take c.requires.star c.in_ok-room.ensures.ok (run_call (c.consts-next.ensures.read _ _).run (run_yes (c.ends_pointer.ensures.ends c.if-ends_pointer.true).omits (run_unseen ((c.ends_pointer.ensures.ends c.if-ends_pointer.true).other _) (run_here run_give))))))
+pointer-returns-then-ends_pointer-clause-reads t c = finish c.leaf.new.nodes c.leaf.result c.leaf.ensures.err c.leaf.ensures.next c.leaf.ensures.tree (run_here (run_take c.requires.star c.in_ok-room.ensures.ok (run_call (c.consts-next.ensures.read _ _).run (run_yes (c.ends_pointer.ensures.ends c.if-ends_pointer.true).omits (run_unseen ((c.ends_pointer.ensures.ends c.if-ends_pointer.true).other c.args.scopes.now) (run_here run_give))))))
 
 pub pointer-returns-in_err-to-clause-reads : goal.pointer-returns-in_err-to-clause-reads
 pointer-returns-in_err-to-clause-reads t c = exit c.from_residual-in_err-to.result _ c.from_residual-in_err-to.ensures.1 (fails (rw c.named.ensures at c.in_err-to.ensures.reads.is) (λ x k h. run_here (run_take c.requires.star c.in_ok-room.ensures.ok (run_call (c.consts-next.ensures.read _ _).run (points_on _ (c.ends_pointer.ensures.goes c.if-ends_pointer.false) (run_fail h))))))
 
 pub pointer-returns-clause-reads : goal.pointer-returns-clause-reads
-pointer-returns-clause-reads t c = finish c.over.new.nodes c.over.result c.over.ensures.err c.over.ensures.next c.over.ensures.tree (run_here (run_take c.requires.star c.in_ok-room.ensures.ok (run_call (c.consts-next.ensures.read _ _).run (points_on _ (c.ends_pointer.ensures.goes c.if-ends_pointer.false) (run_call (rw c.named.ensures at c.in_ok-to.ensures.reads.is).run (pointer_ends _ c.pointer_kind.ensures))))))
+pointer-returns-clause-reads t c = finish c.over.new.nodes c.over.result c.over.ensures.err c.over.ensures.next c.over.ensures.tree (run_here (run_take c.requires.star c.in_ok-room.ensures.ok (run_call (c.consts-next.ensures.read _ _).run (points_on _ (c.ends_pointer.ensures.goes c.if-ends_pointer.false) (run_call (rw c.named.ensures at c.in_ok-to.ensures.reads.is).run (pointer_ends _ c.pointer_kind-kind.ensures))))))
 
 pub bracketed-returns-in_err-room-clause-reads : goal.bracketed-returns-in_err-room-clause-reads
 bracketed-returns-in_err-room-clause-reads t c = exit c.from_residual.result _ c.from_residual.ensures.1 (deep c.in_err-room.ensures.err (run_here (run_pass c.requires.other (run_deep c.requires.bracket (no_room c.in_err-room.ensures.full)))))
@@ -528,7 +528,7 @@ pub abstract_suffixes-returns-in_err-left-clause-reads : goal.abstract_suffixes-
 abstract_suffixes-returns-in_err-left-clause-reads t c = exit c.from_residual-in_err-left.result _ c.from_residual-in_err-left.ensures.1 (no_memory c.in_err-left.ensures.err)
 
 pub abstract_suffixes-suffixes-preserved : goal.abstract_suffixes-suffixes-preserved
-abstract_suffixes-suffixes-preserved t c = let e = tree_kept c.suffixes.nodes c.size.new.nodes c.suffixes.left.node c.in_ok-size.ensures.placed.keeps (omega (arith, c.suffixes.invariant.grown.last)) in let q : tree c.pair_optional.new.nodes c.in_ok-left.left.node ≡ one kind.AbstractArrayOf c.args.start c.in_ok-size.size.next (tree c.suffixes.nodes c.suffixes.left.node & row_in c.size.new.nodes (option_to_list c.in_ok-size.size.node)) = cc in record { goes = record { on = λ y r. c.suffixes.invariant.goes.on y (run_take (sym c.stands.ensures.answer ∙ c.suffixes-test.true) c.in_ok-room.ensures.ok (run_call c.in_ok-size.ensures.reads.is.run (run_here (handed y (shift (λ u. body (m.abstract_suffixes c.args.depth c.args.start u)) q c.in_ok-left.ensures.next r))))) }; grown = record { last = omega (arith, c.in_ok-left.ensures.ok.last, c.in_ok-left.ensures.ok.grows); keeps = keeps_all _ _ _ (keeps_all _ _ _ c.suffixes.invariant.grown.keeps c.in_ok-size.ensures.placed.keeps) c.in_ok-left.ensures.ok.keeps; below = c.in_ok-left.ensures.ok.below; from = omega (arith, c.in_ok-left.ensures.next, c.in_ok-size.ensures.placed.from, c.suffixes.invariant.grown.from); to = omega (arith, c.in_ok-left.ensures.next, c.in_ok-size.ensures.placed.to) }; far = omega (arith, c.in_ok-left.ensures.next, c.in_ok-size.ensures.placed.from, c.suffixes.invariant.far) }
+abstract_suffixes-suffixes-preserved t c = let e = tree_kept c.suffixes.nodes c.size.new.nodes c.suffixes.left.node c.in_ok-size.ensures.placed.keeps (omega (arith, c.suffixes.invariant.grown.last)) in let q : tree c.pair_optional.new.nodes c.in_ok-left.left.node ≡ one kind.AbstractArrayOf c.args.start c.in_ok-size.size.next (tree c.suffixes.nodes c.suffixes.left.node & row_in c.size.new.nodes (option_to_list c.in_ok-size.size.node)) = c.in_ok-left.ensures.tree ∙ ap (λ (x : Trees). one kind.AbstractArrayOf c.args.start c.in_ok-size.size.next (x & row_in c.size.new.nodes (option_to_list c.in_ok-size.size.node))) e in record { goes = record { on = λ y r. c.suffixes.invariant.goes.on y (run_take (sym c.stands.ensures.answer ∙ c.suffixes-test.true) c.in_ok-room.ensures.ok (run_call c.in_ok-size.ensures.reads.is.run (run_here (handed y (shift (λ u. body (m.abstract_suffixes c.args.depth c.args.start u)) q c.in_ok-left.ensures.next r))))) }; grown = record { last = omega (arith, c.in_ok-left.ensures.ok.last, c.in_ok-left.ensures.ok.grows); keeps = keeps_all _ _ _ (keeps_all _ _ _ c.suffixes.invariant.grown.keeps c.in_ok-size.ensures.placed.keeps) c.in_ok-left.ensures.ok.keeps; below = c.in_ok-left.ensures.ok.below; from = omega (arith, c.in_ok-left.ensures.next, c.in_ok-size.ensures.placed.from, c.suffixes.invariant.grown.from); to = omega (arith, c.in_ok-left.ensures.next, c.in_ok-size.ensures.placed.to) }; far = omega (arith, c.in_ok-left.ensures.next, c.in_ok-size.ensures.placed.from, c.suffixes.invariant.far) }
 
 pub abstract_suffixes-returns-clause-reads : goal.abstract_suffixes-returns-clause-reads
 abstract_suffixes-returns-clause-reads t c = record { is = record { run = c.suffixes.invariant.goes.on _ (run_pass (sym c.stands.ensures.answer ∙ c.suffixes-test.false) run_give) } }
@@ -567,7 +567,7 @@ pub subscript-returns-in_err-expect-clause-reads : goal.subscript-returns-in_err
 subscript-returns-in_err-expect-clause-reads t c = exit c.from_residual-in_err-expect.result _ c.from_residual-in_err-expect.ensures.1 (stops c.in_err-expect.ensures.err (run_take c.requires.bracket c.in_ok-room.ensures.ok (run_call c.in_ok-inner.ensures.reads.is.run (run_pass c.in_err-expect.ensures.other run_stop))))
 
 pub subscript-returns-clause-reads : goal.subscript-returns-clause-reads
-subscript-returns-clause-reads t c = goes_on (λ u. body (m.suffixes c.args.depth c.args.start u)) c.pair.new.nodes c.pair.result c.pair.ensures.err c.pair.ensures.next c.pair.ensures.tree (record { on = λ y r. run_take c.requires.bracket c.in_ok-room.ensures.ok (run_call c.in_ok-inner.ensures.reads.is.run (run_take c.in_ok-expect.ensures.ok tt (run_here (handed y (shift (λ u. body (m.suffixes c.args.depth c.args.start u)) (let e = tree_kept _ _ c.args.left.node c.in_ok-inner.ensures.placed.keeps (omega (arith, c.requires.node)) in cc) refl r))))) })
+subscript-returns-clause-reads t c = goes_on (λ u. body (m.suffixes c.args.depth c.args.start u)) c.pair.new.nodes c.pair.result c.pair.ensures.err c.pair.ensures.next c.pair.ensures.tree (record { on = λ y r. run_take c.requires.bracket c.in_ok-room.ensures.ok (run_call c.in_ok-inner.ensures.reads.is.run (run_take c.in_ok-expect.ensures.ok tt (run_here (handed y (shift (λ u. body (m.suffixes c.args.depth c.args.start u)) (ap (λ (x : Trees). one kind.Subscript c.args.start (c.in_ok-inner.inner.next + 1) (x & tree c.expression.new.nodes c.in_ok-inner.inner.node & none)) (tree_kept _ _ c.args.left.node c.in_ok-inner.ensures.placed.keeps (omega (arith, c.requires.node)))) refl r))))) })
 
 pub array-returns-in_err-room-clause-reads : goal.array-returns-in_err-room-clause-reads
 array-returns-in_err-room-clause-reads t c = exit c.from_residual.result _ c.from_residual.ensures.1 (deep c.in_err-room.ensures.err (run_deep c.requires.bracket (no_room c.in_err-room.ensures.full)))
@@ -579,7 +579,7 @@ pub array-returns-in_err-push_front-clause-reads : goal.array-returns-in_err-pus
 array-returns-in_err-push_front-clause-reads t c = memory c.from_residual-in_err-push_front.result c.from_residual-in_err-push_front.ensures.1
 
 pub array-returns-clause-reads : goal.array-returns-clause-reads
-array-returns-clause-reads t c = goes_on (λ u. body (m.declarator_suffixes c.args.depth c.args.start u)) c.pair_optional.new.nodes c.pair_optional.result c.pair_optional.ensures.err c.pair_optional.ensures.next c.pair_optional.ensures.tree (record { on = λ y r. run_take c.requires.bracket c.in_ok-room.ensures.ok (run_look (run_set (run_call (run_in c.taken-own.ensures.rest c.in_ok-size.ensures.reads.is.run) (run_look (run_set (run_here (handed y (run_in (let e = c.in_ok-push_front.ensures.ok in let g = c.taken-own.ensures.value in cc) (shift (λ u. body (m.declarator_suffixes c.args.depth c.args.start u)) (let e = tree_kept _ _ c.args.left.node c.in_ok-size.ensures.placed.keeps (omega (arith, c.requires.node)) in cc) refl r))))))))) })
+array-returns-clause-reads t c = goes_on (λ u. body (m.declarator_suffixes c.args.depth c.args.start u)) c.pair_optional.new.nodes c.pair_optional.result c.pair_optional.ensures.err c.pair_optional.ensures.next c.pair_optional.ensures.tree (record { on = λ y r. run_take c.requires.bracket c.in_ok-room.ensures.ok (run_look (run_set (run_call (run_in c.taken-own.ensures.rest c.in_ok-size.ensures.reads.is.run) (run_look (run_set (run_here (handed y (run_in (own_scopes c.args.scopes.now c.in_ok-push_front.ensures.items c.taken-own.ensures.value) (shift (λ u. body (m.declarator_suffixes c.args.depth c.args.start u)) (ap (λ (x : Trees). one kind.ArrayDeclarator c.args.start c.in_ok-size.size.next (x & row_in c.size.new.nodes (option_to_list c.in_ok-size.size.node))) (tree_kept _ _ c.args.left.node c.in_ok-size.ensures.placed.keeps (omega (arith, c.requires.node)))) refl r))))))))) })
 
 pub function-returns-in_err-room-clause-reads : goal.function-returns-in_err-room-clause-reads
 function-returns-in_err-room-clause-reads t c = exit c.from_residual.result _ c.from_residual.ensures.1 (deep c.in_err-room.ensures.err (run_pass c.requires.other (run_deep c.requires.bracket (no_room c.in_err-room.ensures.full))))
@@ -600,7 +600,7 @@ pub function-returns-in_err-expect-clause-reads : goal.function-returns-in_err-e
 function-returns-in_err-expect-clause-reads t c = exit c.from_residual-in_err-expect.result _ c.from_residual-in_err-expect.ensures.1 (stops c.in_err-expect.ensures.err (run_pass c.requires.other (run_take c.requires.bracket c.in_ok-room.ensures.ok (run_pass (sym c.stands.ensures.answer ∙ c.if-stands.false) (run_look (run_set (run_call (run_in (let e = c.in_ok-begin.ensures in let g = c.taken-own.ensures.rest in cc) c.in_ok-list.ensures.reads.is.run) (run_look (run_set (run_pass c.in_err-expect.ensures.other run_stop))))))))))
 
 pub function-returns-clause-reads : goal.function-returns-clause-reads
-function-returns-clause-reads t c = goes_on (λ u. body (m.declarator_suffixes c.args.depth c.args.start u)) c.pair.new.nodes c.pair.result c.pair.ensures.err c.pair.ensures.next c.pair.ensures.tree (record { on = λ y r. run_pass c.requires.other (run_take c.requires.bracket c.in_ok-room.ensures.ok (run_pass (sym c.stands.ensures.answer ∙ c.if-stands.false) (run_look (run_set (run_call (run_in (let e = c.in_ok-begin.ensures in let g = c.taken-own.ensures.rest in cc) c.in_ok-list.ensures.reads.is.run) (run_look (run_set (run_take c.in_ok-expect.ensures.ok tt (run_here (handed y (run_in (let e = c.in_ok-push_front.ensures.ok in let g = c.taken-own.ensures.value in let i = c.taken-names.ensures.value in let j = c.taken-names.ensures.rest in let k = c.kept.ensures in let o = (tree_kept _ _ c.args.left.node c.in_ok-list.ensures.placed.keeps (omega (arith, c.requires.node))) in cc) (shift (λ u. body (m.declarator_suffixes c.args.depth c.args.start u)) (let e = (tree_kept _ _ c.args.left.node c.in_ok-list.ensures.placed.keeps (omega (arith, c.requires.node))) in cc) refl r)))))))))))) })
+function-returns-clause-reads t c = goes_on (λ u. body (m.declarator_suffixes c.args.depth c.args.start u)) c.pair.new.nodes c.pair.result c.pair.ensures.err c.pair.ensures.next c.pair.ensures.tree (record { on = λ y r. run_pass c.requires.other (run_take c.requires.bracket c.in_ok-room.ensures.ok (run_pass (sym c.stands.ensures.answer ∙ c.if-stands.false) (run_look (run_set (run_call (run_in (let e = c.in_ok-begin.ensures in let g = c.taken-own.ensures.rest in cc) c.in_ok-list.ensures.reads.is.run) (run_look (run_set (run_take c.in_ok-expect.ensures.ok tt (run_here (handed y (run_in (kept_scopes (tree c.parameters.new.nodes c.args.left.node) (tree c.args.nodes.now c.args.left.node) c.parameters.new.scopes c.args.scopes.now c.in_ok-push_front.ensures.items c.kept.ensures (tree_kept _ _ c.args.left.node c.in_ok-list.ensures.placed.keeps (omega (arith, c.requires.node))) c.taken-names.ensures.value c.taken-own.ensures.value c.taken-names.ensures.rest) (shift (λ u. body (m.declarator_suffixes c.args.depth c.args.start u)) (ap (λ (x : Trees). one kind.FunctionDeclarator c.args.start (c.in_ok-list.list.next + 1) (x & tree c.parameters.new.nodes c.in_ok-list.list.node & none)) (tree_kept _ _ c.args.left.node c.in_ok-list.ensures.placed.keeps (omega (arith, c.requires.node)))) refl r)))))))))))) })
 
 pub size-returns-then-stands-clause-reads : goal.size-returns-then-stands-clause-reads
 size-returns-then-stands-clause-reads t c = record { is = record { run = run_take (sym c.stands.ensures.answer ∙ c.if-stands.true) tt run_give } }

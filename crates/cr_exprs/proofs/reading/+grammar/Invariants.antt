@@ -155,9 +155,9 @@ decreases-binary-operands l = length l.source.tokens.now - l.left.next
 
 abbrev pub invariant-suffixes-suffixes : goal.invariant-suffixes-suffixes
 invariant-suffixes-suffixes l = record {
-  goes : Goes (text_of l.source) (body (m.suffixes l.depth l.start (tree l.fn.nodes l.first.node))) l.fn.scopes l.first.next (body (m.suffixes l.depth l.start (tree l.nodes l.left.node))) l.scopes l.left.next;
+  goes : Goes (text_of l.source) (body (m.suffixes l.depth l.start (tree l.fn.nodes l.fn.first.node))) l.fn.scopes l.fn.first.next (body (m.suffixes l.depth l.start (tree l.nodes l.left.node))) l.scopes l.left.next;
   grown : IsGrown (length l.source.tokens.now) l.start l.fn.nodes l.nodes l.left;
-  far : l.first.next ≤ l.left.next;
+  far : l.fn.first.next ≤ l.left.next;
 }
 
 abbrev pub decreases-suffixes-suffixes : goal.decreases-suffixes-suffixes
@@ -165,9 +165,9 @@ decreases-suffixes-suffixes l = length l.source.tokens.now - l.left.next
 
 abbrev pub invariant-declarator_suffixes-suffixes : goal.invariant-declarator_suffixes-suffixes
 invariant-declarator_suffixes-suffixes l = record {
-  goes : Goes (text_of l.source) (body (m.declarator_suffixes l.depth l.start (tree l.fn.nodes l.first.node))) l.fn.scopes l.first.next (body (m.declarator_suffixes l.depth l.start (tree l.nodes l.left.node))) l.scopes l.left.next;
+  goes : Goes (text_of l.source) (body (m.declarator_suffixes l.depth l.start (tree l.fn.nodes l.fn.first.node))) l.fn.scopes l.fn.first.next (body (m.declarator_suffixes l.depth l.start (tree l.nodes l.left.node))) l.scopes l.left.next;
   grown : IsGrown (length l.source.tokens.now) l.start l.fn.nodes l.nodes l.left;
-  far : l.first.next ≤ l.left.next;
+  far : l.fn.first.next ≤ l.left.next;
 }
 
 abbrev pub decreases-declarator_suffixes-suffixes : goal.decreases-declarator_suffixes-suffixes
@@ -175,9 +175,9 @@ decreases-declarator_suffixes-suffixes l = length l.source.tokens.now - l.left.n
 
 abbrev pub invariant-abstract_suffixes-suffixes : goal.invariant-abstract_suffixes-suffixes
 invariant-abstract_suffixes-suffixes l = record {
-  goes : Goes (text_of l.source) (body (m.abstract_suffixes l.depth l.start (tree l.fn.nodes l.first.node))) l.fn.scopes l.first.next (body (m.abstract_suffixes l.depth l.start (tree l.nodes l.left.node))) l.scopes l.left.next;
+  goes : Goes (text_of l.source) (body (m.abstract_suffixes l.depth l.start (tree l.fn.nodes l.fn.first.node))) l.fn.scopes l.fn.first.next (body (m.abstract_suffixes l.depth l.start (tree l.nodes l.left.node))) l.scopes l.left.next;
   grown : IsGrown (length l.source.tokens.now) l.start l.fn.nodes l.nodes l.left;
-  far : l.first.next ≤ l.left.next;
+  far : l.fn.first.next ≤ l.left.next;
 }
 
 abbrev pub decreases-abstract_suffixes-suffixes : goal.decreases-abstract_suffixes-suffixes
@@ -224,11 +224,11 @@ decreases-enumerators-enumerators l = length l.source.tokens.now - l.next
 
 abbrev pub invariant-member_declarators-declarators : goal.invariant-member_declarators-declarators
 invariant-member_declarators-declarators l = record {
-  goes : Goes (text_of l.source) (body (m.member_declarators (past_part fresh (tree l.fn.nodes l.specifiers.node)) l.depth l.start (tree l.fn.nodes l.specifiers.node & none))) l.fn.scopes l.specifiers.next (body (m.member_declarators l.context l.depth l.start (row_in l.nodes l.parts))) l.scopes l.next;
+  goes : Goes (text_of l.source) (body (m.member_declarators (past_part fresh (tree l.fn.nodes l.fn.specifiers.node)) l.depth l.start (tree l.fn.nodes l.fn.specifiers.node & none))) l.fn.scopes l.fn.specifiers.next (body (m.member_declarators l.context l.depth l.start (row_in l.nodes l.parts))) l.scopes l.next;
   keeps : Keeps l.fn.nodes l.nodes;
   below : PartsAreBelow l.nodes;
   parts : AreBelow l.parts (length l.nodes);
-  from : l.specifiers.next ≤ l.next;
+  from : l.fn.specifiers.next ≤ l.next;
   to : l.next ≤ length l.source.tokens.now;
 }
 
