@@ -1,3 +1,8 @@
+ghost use Rattle.std.specs.Prelude.{ℕ, ◌≤◌, ◌<◌, ◌^◌, IfOk, length};
+ghost use Rattle.cr_syntax.specs.Words.{AreSpans};
+ghost use Rattle.cr_syntax.specs.Kept.{PartsAreBelow};
+ghost use Rattle.cr_exprs.specs.Answers.{IsPlaced};
+
 use crate::fault::ParseFault;
 use crate::goal::Goal;
 use crate::names::TypeNames;
@@ -9,7 +14,8 @@ use cr_tokens::Tokens;
 use std::alloc::Global;
 
 /// Reads the longest run of tokens from `at` on that begins a text of the goal in these scopes, where so many levels are
-/// open, and appends its nodes. It gives the node and the token after it.
+/// open, and appends its nodes. It gives the node, which is the last one, and the token after it; the nodes that were there
+/// stay as they are.
 pub fn expression(
     alloc: Global,
     file: &[u8],
@@ -19,7 +25,14 @@ pub fn expression(
     goal: Goal,
     scope: &TypeNames,
     nodes: &mut Row<Node>,
-) -> Result<(u32, u32), ParseFault> {
+) -> Result<(u32, u32), ParseFault>
+    requires spans { AreSpans file.now tokens.now.list.items }
+    requires few { length tokens.now.list.items < 2 ^ 32 }
+    requires at { at ≤ length tokens.now.list.items }
+    requires depth { depth ≤ 128 }
+    requires below { PartsAreBelow nodes.old }
+    ensures placed { IfOk result (λ x. IsPlaced (length tokens.now.list.items) at nodes.old nodes.new (record { node = x.0; next = x.1 })) }
+{
     let words = words_of(alloc, file, tokens.list.as_slice())?;
     let source = Source {
         file,

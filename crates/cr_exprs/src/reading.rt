@@ -100,7 +100,6 @@ pub fn whole(
     requires at { at ≤ length source.now.tokens.now }
     requires depth { depth ≤ 128 }
     requires below { PartsAreBelow nodes.old }
-    ensures reads { Reads (text_of source.now) (body (whole (part_of goal) depth)) scopes.old at nodes.new scopes.new result }
     ensures placed { IfOk result (λ x. IsPlaced (length source.now.tokens.now) at nodes.old nodes.new x) }
 {
     let found = started(alloc, source, goal, at, depth, scopes, nodes)?;
@@ -122,7 +121,6 @@ fn started(
     requires at { at ≤ length source.now.tokens.now }
     requires depth { depth ≤ 128 }
     requires below { PartsAreBelow nodes.old }
-    ensures reads { Reads (text_of source.now) (body (start_goal (part_of goal) depth)) scopes.old at nodes.new scopes.new result }
     ensures placed { IfOk result (λ x. IsPlaced (length source.now.tokens.now) at nodes.old nodes.new x) }
 {
     match goal {
@@ -148,7 +146,6 @@ fn expression(
     requires at { at ≤ length source.now.tokens.now }
     requires depth { depth ≤ 128 }
     requires below { PartsAreBelow nodes.old }
-    ensures reads { Reads (text_of source.now) (body (expression depth)) scopes.old at nodes.new scopes.new result }
     ensures placed { IfOk result (λ x. IsPlaced (length source.now.tokens.now) at nodes.old nodes.new x) }
 {
     let mut left = assignment(alloc, source, at, depth, scopes, nodes)?;
@@ -181,7 +178,6 @@ fn assignment(
     requires at { at ≤ length source.now.tokens.now }
     requires depth { depth ≤ 128 }
     requires below { PartsAreBelow nodes.old }
-    ensures reads { Reads (text_of source.now) (body (assignment depth)) scopes.old at nodes.new scopes.new result }
     ensures placed { IfOk result (λ x. IsPlaced (length source.now.tokens.now) at nodes.old nodes.new x) }
 {
     let left = conditional(alloc, source, at, depth, scopes, nodes)?;
@@ -210,7 +206,6 @@ fn conditional(
     requires at { at ≤ length source.now.tokens.now }
     requires depth { depth ≤ 128 }
     requires below { PartsAreBelow nodes.old }
-    ensures reads { Reads (text_of source.now) (body (conditional depth)) scopes.old at nodes.new scopes.new result }
     ensures placed { IfOk result (λ x. IsPlaced (length source.now.tokens.now) at nodes.old nodes.new x) }
 {
     let test = binary(alloc, source, Part::LogicalOr, at, depth, scopes, nodes)?;
@@ -238,7 +233,6 @@ fn chosen(
     requires below { PartsAreBelow nodes.old }
     requires start { start < test.next }
     requires node { test.node < length nodes.old }
-    ensures reads { Reads (text_of source.now) (chosen depth start (tree nodes.old test.node)) scopes.old (test.next + 1) nodes.new scopes.new result }
     ensures placed { IfOk result (λ x. IsPlaced (length source.now.tokens.now) start nodes.old nodes.new x) }
 {
     let yes = expression(alloc, source, test.next + 1, depth + 1, scopes, nodes)?;
@@ -271,7 +265,6 @@ fn binary(
     requires at { at ≤ length source.now.tokens.now }
     requires depth { depth ≤ 128 }
     requires below { PartsAreBelow nodes.old }
-    ensures reads { Reads (text_of source.now) (body (binary part depth)) scopes.old at nodes.new scopes.new result }
     ensures placed { IfOk result (λ x. IsPlaced (length source.now.tokens.now) at nodes.old nodes.new x) }
 {
     let mut left = operand(alloc, source, part, at, depth, scopes, nodes)?;
@@ -297,7 +290,6 @@ fn operand(
     requires at { at ≤ length source.now.tokens.now }
     requires depth { depth ≤ 128 }
     requires below { PartsAreBelow nodes.old }
-    ensures reads { Reads (text_of source.now) (body (tighter part depth)) scopes.old at nodes.new scopes.new result }
     ensures placed { IfOk result (λ x. IsPlaced (length source.now.tokens.now) at nodes.old nodes.new x) }
 {
     match tighter(part) {
@@ -320,7 +312,6 @@ fn cast(
     requires at { at ≤ length source.now.tokens.now }
     requires depth { depth ≤ 128 }
     requires below { PartsAreBelow nodes.old }
-    ensures reads { Reads (text_of source.now) (body (cast depth)) scopes.old at nodes.new scopes.new result }
     ensures placed { IfOk result (λ x. IsPlaced (length source.now.tokens.now) at nodes.old nodes.new x) }
 {
     if !stands(source, at, Word::LeftParen) {
@@ -349,7 +340,6 @@ fn converted(
     requires bracket { is_word (text_of source.now) start Word.LeftParen ≡ true }
     requires starts { passes (text_of source.now) scopes.old (start + 1) type_start ≡ true }
     requires at { start + 1 ≤ length source.now.tokens.now }
-    ensures reads { Reads (text_of source.now) (body (cast depth)) scopes.old start nodes.new scopes.new result }
     ensures placed { IfOk result (λ x. IsPlaced (length source.now.tokens.now) start nodes.old nodes.new x) }
 {
     let to = type_name(alloc, source, start + 1, depth + 1, scopes, nodes)?;
@@ -381,7 +371,6 @@ fn unary(
     requires at { at ≤ length source.now.tokens.now }
     requires depth { depth ≤ 128 }
     requires below { PartsAreBelow nodes.old }
-    ensures reads { Reads (text_of source.now) (body (unary depth)) scopes.old at nodes.new scopes.new result }
     ensures placed { IfOk result (λ x. IsPlaced (length source.now.tokens.now) at nodes.old nodes.new x) }
 {
     if let Some(kind) = kind_in(&UNARY_PREFIXES, source, at) {
@@ -413,7 +402,6 @@ fn stepped(
     requires depth { depth ≤ 128 }
     requires below { PartsAreBelow nodes.old }
     requires kind { kind_of unary_prefixes (word_at (text_of source.now) start) ≡ Some kind }
-    ensures reads { Reads (text_of source.now) (body (unary depth)) scopes.old start nodes.new scopes.new result }
     ensures placed { IfOk result (λ x. IsPlaced (length source.now.tokens.now) start nodes.old nodes.new x) }
 {
     room(start, depth)?;
@@ -438,7 +426,6 @@ fn prefixed(
     requires below { PartsAreBelow nodes.old }
     requires other { kind_of unary_prefixes (word_at (text_of source.now) start) ≡ None }
     requires kind { kind_of cast_prefixes (word_at (text_of source.now) start) ≡ Some kind }
-    ensures reads { Reads (text_of source.now) (body (unary depth)) scopes.old start nodes.new scopes.new result }
     ensures placed { IfOk result (λ x. IsPlaced (length source.now.tokens.now) start nodes.old nodes.new x) }
 {
     room(start, depth)?;
@@ -460,7 +447,6 @@ fn measured(
     requires at { start + 1 ≤ length source.now.tokens.now }
     requires depth { depth < 128 }
     requires below { PartsAreBelow nodes.old }
-    ensures reads { Reads (text_of source.now) (body (measured depth start)) scopes.old (start + 1) nodes.new scopes.new result }
     ensures placed { IfOk result (λ x. IsPlaced (length source.now.tokens.now) start nodes.old nodes.new x) }
 {
     if !stands(source, start + 1, Word::LeftParen) {
@@ -525,7 +511,6 @@ fn measured_type(
     requires below { PartsAreBelow nodes.old }
     requires bracket { is_word (text_of source.now) (start + 1) Word.LeftParen ≡ true }
     requires starts { passes (text_of source.now) scopes.old (start + 1 + 1) type_start ≡ true }
-    ensures reads { Reads (text_of source.now) (body (measured depth start)) scopes.old (start + 1) nodes.new scopes.new result }
     ensures placed { IfOk result (λ x. IsPlaced (length source.now.tokens.now) start nodes.old nodes.new x) }
 {
     let named = type_name(alloc, source, start + 1 + 1, depth + 1 + 1, scopes, nodes)?;
@@ -554,7 +539,6 @@ fn postfix(
     requires at { at ≤ length source.now.tokens.now }
     requires depth { depth ≤ 128 }
     requires below { PartsAreBelow nodes.old }
-    ensures reads { Reads (text_of source.now) (body (postfix depth)) scopes.old at nodes.new scopes.new result }
     ensures placed { IfOk result (λ x. IsPlaced (length source.now.tokens.now) at nodes.old nodes.new x) }
 {
     if is_ordinary(source, at, scopes) {
@@ -589,7 +573,6 @@ fn called(
     requires at { start + 1 ≤ length source.now.tokens.now }
     requires depth { depth ≤ 128 }
     requires below { PartsAreBelow nodes.old }
-    ensures reads { Reads (text_of source.now) (body (called depth start)) scopes.old (start + 1) nodes.new scopes.new result }
     ensures placed { IfOk result (λ x. IsPlaced (length source.now.tokens.now) start nodes.old nodes.new x) }
 {
     if !stands(source, start + 1, Word::LeftParen) {
@@ -620,7 +603,6 @@ fn arguments(
     requires at { at ≤ length source.now.tokens.now }
     requires depth { depth < 128 }
     requires below { PartsAreBelow nodes.old }
-    ensures reads { Answers (text_of source.now) (body (arguments depth none)) scopes.old at (λ x. row_in nodes.new x.parts) scopes.new (λ x. x.next) result }
     ensures listed { IfOk result (λ x. IsListed (length source.now.tokens.now) at nodes.old nodes.new x) }
 {
     let mut parts = Row::new(alloc);
@@ -652,7 +634,6 @@ fn grouped(
     requires depth { depth < 128 }
     requires below { PartsAreBelow nodes.old }
     requires start { start < at }
-    ensures reads { Reads (text_of source.now) (body (grouped depth start)) scopes.old at nodes.new scopes.new result }
     ensures placed { IfOk result (λ x. IsPlaced (length source.now.tokens.now) start nodes.old nodes.new x) }
 {
     let inner = expression(alloc, source, at, depth + 1, scopes, nodes)?;
@@ -678,7 +659,6 @@ fn suffixes(
     requires below { PartsAreBelow nodes.old }
     requires start { start < first.next }
     requires node { first.node + 1 ≡ length nodes.old }
-    ensures reads { Reads (text_of source.now) (body (suffixes depth start (tree nodes.old first.node))) scopes.old first.next nodes.new scopes.new result }
     ensures grown { IfOk result (λ x. IsGrown (length source.now.tokens.now) start nodes.old nodes.new x) }
 {
     let mut left = first;
@@ -709,7 +689,6 @@ fn suffix(
     requires below { PartsAreBelow nodes.old }
     requires start { start < left.next }
     requires node { left.node + 1 ≡ length nodes.old }
-    ensures reads { MayLengthen (text_of source.now) (λ t. body (suffixes depth start t)) (tree nodes.old left.node) (suffixes_end depth (tree nodes.old left.node)) scopes.old left.next nodes.new scopes.new result }
     ensures placed { IfOk result (λ o. IfSome o (IsPlaced (length source.now.tokens.now) left.next nodes.old nodes.new)) }
     ensures none { IfOk result (λ o. IfNone o ((nodes.new ≡ nodes.old) × (scopes.new ≡ scopes.old))) }
 {
@@ -802,7 +781,6 @@ fn subscript(
     requires start { start < left.next }
     requires node { left.node + 1 ≡ length nodes.old }
     requires bracket { is_word (text_of source.now) left.next Word.LeftBracket ≡ true }
-    ensures reads { Lengthens (text_of source.now) (λ t. body (suffixes depth start t)) (tree nodes.old left.node) scopes.old left.next nodes.new scopes.new result }
     ensures placed { IfOk result (λ x. IsPlaced (length source.now.tokens.now) left.next nodes.old nodes.new x) }
 {
     room(left.next, depth)?;
@@ -835,7 +813,6 @@ fn type_name(
     requires at { at ≤ length source.now.tokens.now }
     requires depth { depth ≤ 128 }
     requires below { PartsAreBelow nodes.old }
-    ensures reads { Reads (text_of source.now) (body (type_name depth)) scopes.old at nodes.new scopes.new result }
     ensures placed { IfOk result (λ x. IsPlaced (length source.now.tokens.now) at nodes.old nodes.new x) }
 {
     let specifiers = row(
@@ -886,7 +863,6 @@ fn row(
     requires at { at ≤ length source.now.tokens.now }
     requires depth { depth ≤ 128 }
     requires below { PartsAreBelow nodes.old }
-    ensures reads { Reads (text_of source.now) (body (row part fresh depth)) scopes.old at nodes.new scopes.new result }
     ensures placed { IfOk result (λ x. IsPlaced (length source.now.tokens.now) at nodes.old nodes.new x) }
 {
     let first = element(alloc, source, part, FRESH, at, depth, scopes, nodes)?;
@@ -935,7 +911,6 @@ fn element(
     requires at { at ≤ length source.now.tokens.now }
     requires depth { depth ≤ 128 }
     requires below { PartsAreBelow nodes.old }
-    ensures reads { Reads (text_of source.now) (body (element part context depth)) scopes.old at nodes.new scopes.new result }
     ensures placed { IfOk result (λ x. IsPlaced (length source.now.tokens.now) at nodes.old nodes.new x) }
 {
     if let Some(kind) = specifier_in(part, source, at) {
@@ -967,7 +942,6 @@ fn structure(
     requires at { start + 1 ≤ length source.now.tokens.now }
     requires depth { depth ≤ 128 }
     requires below { PartsAreBelow nodes.old }
-    ensures reads { Reads (text_of source.now) (body (structure depth start)) scopes.old (start + 1) nodes.new scopes.new result }
     ensures placed { IfOk result (λ x. IsPlaced (length source.now.tokens.now) start nodes.old nodes.new x) }
 {
     if stands(source, start + 1, Word::Identifier) {
@@ -1006,7 +980,6 @@ fn members(
     requires depth { depth < 128 }
     requires below { PartsAreBelow nodes.old }
     requires start { start < at }
-    ensures reads { Reads (text_of source.now) (body (members depth start none)) scopes.old at nodes.new scopes.new result }
     ensures placed { IfOk result (λ x. IsPlaced (length source.now.tokens.now) start nodes.old nodes.new x) }
 {
     let mut parts = Row::new(alloc);
@@ -1035,7 +1008,6 @@ fn member_declaration(
     requires at { at ≤ length source.now.tokens.now }
     requires depth { depth ≤ 128 }
     requires below { PartsAreBelow nodes.old }
-    ensures reads { Reads (text_of source.now) (body (member depth)) scopes.old at nodes.new scopes.new result }
     ensures placed { IfOk result (λ x. IsPlaced (length source.now.tokens.now) at nodes.old nodes.new x) }
 {
     let specifiers = row(
@@ -1067,7 +1039,6 @@ fn member_declarators(
     requires below { PartsAreBelow nodes.old }
     requires start { start < specifiers.next }
     requires node { specifiers.node + 1 ≡ length nodes.old }
-    ensures reads { Reads (text_of source.now) (body (member_declarators (past_part fresh (tree nodes.old specifiers.node)) depth start (tree nodes.old specifiers.node & none))) scopes.old specifiers.next nodes.new scopes.new result }
     ensures placed { IfOk result (λ x. IsPlaced (length source.now.tokens.now) start nodes.old nodes.new x) }
 {
     let mut context = past(nodes, FRESH, specifiers.node);
@@ -1110,7 +1081,6 @@ fn enumeration(
     requires at { start + 1 ≤ length source.now.tokens.now }
     requires depth { depth ≤ 128 }
     requires below { PartsAreBelow nodes.old }
-    ensures reads { Reads (text_of source.now) (body (enumeration depth start)) scopes.old (start + 1) nodes.new scopes.new result }
     ensures placed { IfOk result (λ x. IsPlaced (length source.now.tokens.now) start nodes.old nodes.new x) }
 {
     if stands(source, start + 1, Word::Identifier) {
@@ -1149,7 +1119,6 @@ fn enumerators(
     requires depth { depth < 128 }
     requires below { PartsAreBelow nodes.old }
     requires start { start < at }
-    ensures reads { Reads (text_of source.now) (body (enumerators depth start none)) scopes.old at nodes.new scopes.new result }
     ensures placed { IfOk result (λ x. IsPlaced (length source.now.tokens.now) start nodes.old nodes.new x) }
 {
     let mut parts = Row::new(alloc);
@@ -1182,7 +1151,6 @@ fn enumerator(
     requires at { at ≤ length source.now.tokens.now }
     requires depth { depth ≤ 128 }
     requires below { PartsAreBelow nodes.old }
-    ensures reads { Reads (text_of source.now) (body (enumerator depth)) scopes.old at nodes.new scopes.new result }
     ensures placed { IfOk result (λ x. IsPlaced (length source.now.tokens.now) at nodes.old nodes.new x) }
 {
     expect(source, at, Word::Identifier, depth)?;
@@ -1213,7 +1181,6 @@ fn declarator(
     requires at { at ≤ length source.now.tokens.now }
     requires depth { depth ≤ 128 }
     requires below { PartsAreBelow nodes.old }
-    ensures reads { Reads (text_of source.now) (body (declarator (wanted_of wanted) context depth)) scopes.old at nodes.new scopes.new result }
     ensures placed { IfOk result (λ x. IsPlaced (length source.now.tokens.now) at nodes.old nodes.new x) }
 {
     if stands(source, at, Word::Star) {
@@ -1250,7 +1217,6 @@ fn pointer(
     requires depth { depth ≤ 128 }
     requires below { PartsAreBelow nodes.old }
     requires star { is_word (text_of source.now) start Word.Star ≡ true }
-    ensures reads { Reads (text_of source.now) (body (declarator (wanted_of wanted) context depth)) scopes.old start nodes.new scopes.new result }
     ensures placed { IfOk result (λ x. IsPlaced (length source.now.tokens.now) start nodes.old nodes.new x) }
 {
     room(start, depth)?;
@@ -1312,7 +1278,6 @@ fn bracketed(
     requires below { PartsAreBelow nodes.old }
     requires other { is_word (text_of source.now) start Word.Star ≡ false }
     requires bracket { is_word (text_of source.now) start Word.LeftParen ≡ true }
-    ensures reads { Reads (text_of source.now) (body (declarator (wanted_of wanted) context depth)) scopes.old start nodes.new scopes.new result }
     ensures placed { IfOk result (λ x. IsPlaced (length source.now.tokens.now) start nodes.old nodes.new x) }
 {
     room(start, depth)?;
@@ -1364,7 +1329,6 @@ fn array_start(
     requires at { at ≤ length source.now.tokens.now }
     requires depth { depth ≤ 128 }
     requires below { PartsAreBelow nodes.old }
-    ensures reads { Reads (text_of source.now) (array_start (wanted_of wanted) depth at) scopes.old at nodes.new scopes.new result }
     ensures placed { IfOk result (λ x. IsPlaced (length source.now.tokens.now) at nodes.old nodes.new x) }
 {
     if !may_omit(wanted) {
@@ -1396,7 +1360,6 @@ fn declarator_suffixes(
     requires below { PartsAreBelow nodes.old }
     requires start { start < first.next }
     requires node { first.node + 1 ≡ length nodes.old }
-    ensures reads { Reads (text_of source.now) (body (declarator_suffixes depth start (tree nodes.old first.node))) scopes.old first.next nodes.new scopes.new result }
     ensures grown { IfOk result (λ x. IsGrown (length source.now.tokens.now) start nodes.old nodes.new x) }
 {
     let mut left = first;
@@ -1425,7 +1388,6 @@ fn declarator_suffix(
     requires below { PartsAreBelow nodes.old }
     requires start { start < left.next }
     requires node { left.node + 1 ≡ length nodes.old }
-    ensures reads { MayLengthen (text_of source.now) (λ t. body (declarator_suffixes depth start t)) (tree nodes.old left.node) (give (tree nodes.old left.node)) scopes.old left.next nodes.new scopes.new result }
     ensures placed { IfOk result (λ o. IfSome o (IsPlaced (length source.now.tokens.now) left.next nodes.old nodes.new)) }
     ensures none { IfOk result (λ o. IfNone o ((nodes.new ≡ nodes.old) × (scopes.new ≡ scopes.old))) }
 {
@@ -1458,7 +1420,6 @@ fn array(
     requires start { start < left.next }
     requires node { left.node + 1 ≡ length nodes.old }
     requires bracket { is_word (text_of source.now) left.next Word.LeftBracket ≡ true }
-    ensures reads { Lengthens (text_of source.now) (λ t. body (declarator_suffixes depth start t)) (tree nodes.old left.node) scopes.old left.next nodes.new scopes.new result }
     ensures placed { IfOk result (λ x. IsPlaced (length source.now.tokens.now) left.next nodes.old nodes.new x) }
 {
     room(left.next, depth)?;
@@ -1487,7 +1448,6 @@ fn function(
     requires node { left.node + 1 ≡ length nodes.old }
     requires other { is_word (text_of source.now) left.next Word.LeftBracket ≡ false }
     requires bracket { is_word (text_of source.now) left.next Word.LeftParen ≡ true }
-    ensures reads { Lengthens (text_of source.now) (λ t. body (declarator_suffixes depth start t)) (tree nodes.old left.node) scopes.old left.next nodes.new scopes.new result }
     ensures placed { IfOk result (λ x. IsPlaced (length source.now.tokens.now) left.next nodes.old nodes.new x) }
 {
     room(left.next, depth)?;
@@ -1535,7 +1495,6 @@ fn abstract_suffixes(
     requires below { PartsAreBelow nodes.old }
     requires start { start < first.next }
     requires node { first.node + 1 ≡ length nodes.old }
-    ensures reads { Reads (text_of source.now) (body (abstract_suffixes depth start (tree nodes.old first.node))) scopes.old first.next nodes.new scopes.new result }
     ensures grown { IfOk result (λ x. IsGrown (length source.now.tokens.now) start nodes.old nodes.new x) }
 {
     let mut left = first;
@@ -1561,7 +1520,6 @@ fn size(
     requires at { at ≤ length source.now.tokens.now }
     requires depth { depth < 128 }
     requires below { PartsAreBelow nodes.old }
-    ensures reads { Answers (text_of source.now) (body (size depth)) scopes.old at (λ x. row_in nodes.new (option_to_list x.node)) scopes.new (λ x. x.next) result }
     ensures placed { IfOk result (λ x. IsOptional (length source.now.tokens.now) at nodes.old nodes.new x) }
 {
     if stands(source, at, Word::RightBracket) {
@@ -1592,7 +1550,6 @@ fn parameters(
     requires at { at ≤ length source.now.tokens.now }
     requires depth { depth ≤ 128 }
     requires below { PartsAreBelow nodes.old }
-    ensures reads { Reads (text_of source.now) (body (parameters depth)) scopes.old at nodes.new scopes.new result }
     ensures placed { IfOk result (λ x. IsPlaced (length source.now.tokens.now) at nodes.old nodes.new x) }
 {
     let first = parameter(alloc, source, at, depth, scopes, nodes)?;
@@ -1623,7 +1580,6 @@ fn parameter(
     requires at { at ≤ length source.now.tokens.now }
     requires depth { depth ≤ 128 }
     requires below { PartsAreBelow nodes.old }
-    ensures reads { Reads (text_of source.now) (body (parameter depth)) scopes.old at nodes.new scopes.new result }
     ensures placed { IfOk result (λ x. IsPlaced (length source.now.tokens.now) at nodes.old nodes.new x) }
 {
     let specifiers = row(alloc, source, Part::Specifiers, at, depth, scopes, nodes)?;
