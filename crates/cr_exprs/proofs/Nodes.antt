@@ -215,3 +215,7 @@ is_row_more ps qs p m n b le r q =
 
 pub of_row : {k : Kind} {s n : ℕ} {x y : Trees} → x ≡ y → one k s n x ≡ one k s n y
 of_row {k} {s} {n} {x} {y} q = ap (one k s n) q
+
+-- no nodes have no parts
+pub none_below : (ns : List Node) → ns ≡ [] → PartsAreBelow ns
+none_below ns q k n r i lt = absurd (omega (arith, slice_get_within ns k n r, ap length q))

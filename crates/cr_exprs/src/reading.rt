@@ -1,19 +1,19 @@
 //! The functions that read, one a goal of the machine. All of them call one another, since casts and `sizeof` draw type
 //! names in, and these draw expressions in. Each is told the token to begin at and how many levels are open before it.
 
-ghost use Rattle.std.specs.Prelude.{◌≡◌, ℕ, ◌+◌, ◌<◌, ◌≤◌, ◌^◌, ◌∷◌, [], IsTrue, true, false, IfOk, IfErr, IfSome, IfNone, length, option_to_list, if◌then◌else◌};
+ghost use Rattle.std.specs.Prelude.{◌≡◌, ◌+◌, ◌<◌, ◌≤◌, ◌^◌, true, false, IfOk, IfErr, IfSome, IfNone, length, if◌then◌else◌};
 ghost use Rattle.cr_syntax.specs.Words.{word_at};
 ghost use Rattle.cr_syntax.specs.Scopes.{Scopes};
 ghost use Rattle.cr_syntax.specs.Trees.{none, one, ◌&◌};
-ghost use Rattle.cr_syntax.specs.Kept.{PartsAreBelow, row_in};
-ghost use Rattle.cr_syntax.specs.Context.{fresh, past_part, past_token};
+ghost use Rattle.cr_syntax.specs.Kept.{PartsAreBelow};
+ghost use Rattle.cr_syntax.specs.Context.{past_token};
 ghost use Rattle.cr_syntax.specs.Reads.{is_word};
-ghost use Rattle.cr_syntax.specs.Machine.{passes, plain, give, expect, whole, expression, assignment, conditional, binary, cast, unary, measured, postfix, called, grouped, arguments, suffixes, type_name, row, element, structure, members, member, member_declarators, enumeration, enumerators, enumerator, declarator, declarator_suffixes, abstract_suffixes, size, parameters, parameter};
-ghost use Rattle.cr_syntax.specs.MachineBody.{body, start_goal, tighter, unary_prefixes, cast_prefixes, type_start, element_start, declarator_start, may_name, may_omit, is_declarator, array_start, suffixed, suffixes_end};
+ghost use Rattle.cr_syntax.specs.Machine.{passes, plain, expect, suffixes};
+ghost use Rattle.cr_syntax.specs.MachineBody.{body, unary_prefixes, cast_prefixes, type_start, element_start, declarator_start, may_name, may_omit, is_declarator, suffixed, suffixes_end};
 ghost use Rattle.cr_exprs.specs.Source.{IsReadable, text_of};
 ghost use Rattle.cr_exprs.specs.Tables.{kind_of};
-ghost use Rattle.cr_exprs.specs.Answers.{Answers, Reads, Lengthens, MayLengthen, Finishes, IsPushed, IsPlaced, IsGrown, IsListed, IsOptional, tree};
-ghost use Rattle.cr_exprs.specs.Parts.{part_of, wanted_of, chosen, EndsPointer, PointsOn};
+ghost use Rattle.cr_exprs.specs.Answers.{MayLengthen, Finishes, IsPushed, IsPlaced, IsGrown, IsListed, IsOptional, tree};
+ghost use Rattle.cr_exprs.specs.Parts.{wanted_of, EndsPointer, PointsOn};
 
 use crate::arena::{
     gathered, gathered_parameters, is_declarator, is_identifier, is_unary, leaf, over,

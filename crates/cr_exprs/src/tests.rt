@@ -2,7 +2,7 @@ use crate::Goal::{Assignment, Conditional, Expression};
 use crate::ParseFault::{Ended, OutsideSubset, TooDeep, Unexpected};
 use crate::{Found, Goal, ParseFault, TypeNames, expression};
 use cr_rows::Row;
-use cr_syntax::{Kind, Node, TypeName};
+use cr_syntax::{Kind, Node, TypeName, tokens_are_spans};
 use cr_tokens::{Tokens, read};
 use std::alloc::{AllocError, Global};
 use std::test::Fail;
@@ -283,8 +283,7 @@ const FAULTS: [(&str, u32, ParseFault); 76] = [
 fn expressions_have_their_trees(rt: HostRuntime) -> Result<(), Fail> {
     let alloc = rt.alloc();
     for (text, next, tree) in &TREES {
-        let mut nodes = Row::new(alloc);
-        let found = read_text(alloc, text, 0, Expression, &mut nodes)?;
+        let (nodes, found) = read_text(alloc, text, 0, Expression)?;
         match found {
             Ok((node, after)) => {
                 assert_eq!(rt; (text, after as usize), (text, *next));
@@ -301,8 +300,7 @@ fn expressions_have_their_trees(rt: HostRuntime) -> Result<(), Fail> {
 fn refusals_name_kind_and_token(rt: HostRuntime) -> Result<(), Fail> {
     let alloc = rt.alloc();
     for (text, depth, fault) in &FAULTS {
-        let mut nodes = Row::new(alloc);
-        let found = read_text(alloc, text, *depth, Expression, &mut nodes)?;
+        let (_, found) = read_text(alloc, text, *depth, Expression)?;
         assert_eq!(rt; (text, found.err()), (text, Some(*fault)));
     }
     Ok(())
@@ -317,8 +315,7 @@ fn other_goals_end_earlier(rt: HostRuntime) -> Result<(), Fail> {
         ("a?b:c,d", Conditional, 5),
     ];
     for (text, goal, next) in &rows {
-        let mut nodes = Row::new(alloc);
-        let found = read_text(alloc, text, 0, *goal, &mut nodes)?;
+        let (_, found) = read_text(alloc, text, 0, *goal)?;
         assert_eq!(rt; (text, found.ok().map(|x| x.1)), (text, Some(*next)));
     }
     Ok(())
@@ -336,12 +333,10 @@ fn levels_are_counted_to_128(rt: HostRuntime) -> Result<(), Fail> {
         ("(T)", " "),
     ] {
         let fits = repeated(alloc, open, 128, close)?;
-        let mut nodes = Row::new(alloc);
-        let found = read_text(alloc, fits.as_str(), 0, Expression, &mut nodes)?;
+        let (_, found) = read_text(alloc, fits.as_str(), 0, Expression)?;
         assert_eq!(rt; (open, found.is_ok()), (open, true));
         let deep = repeated(alloc, open, 129, close)?;
-        let mut nodes = Row::new(alloc);
-        let found = read_text(alloc, deep.as_str(), 0, Expression, &mut nodes)?;
+        let (_, found) = read_text(alloc, deep.as_str(), 0, Expression)?;
         match found {
             Err(TooDeep(_)) => {}
             _ => assert!(rt; false, "{open}"),
@@ -358,8 +353,7 @@ fn chains_cost_no_levels(rt: HostRuntime) -> Result<(), Fail> {
         for _ in 0..2000 {
             text.push_str(link)?;
         }
-        let mut nodes = Row::new(alloc);
-        let found = read_text(alloc, text.as_str(), 128, Expression, &mut nodes)?;
+        let (_, found) = read_text(alloc, text.as_str(), 128, Expression)?;
         assert_eq!(rt; (link, found.is_ok()), (link, link != "[1]"));
     }
     Ok(())
@@ -377,26 +371,21 @@ fn repeated(alloc: Global, open: &str, count: u32, close: &str) -> Result<String
     Ok(text)
 }
 
-// The nodes of an expression from a text's first token on.
+// The nodes of an expression from a text's first token on, where so many levels are open, at most 128.
 fn read_text(
     alloc: Global,
     text: &str,
     depth: u32,
     goal: Goal,
-    nodes: &mut Row<Node>,
-) -> Result<Result<(u32, u32), ParseFault>, Fail> {
-    let tokens = read(alloc, text.as_bytes())?;
+) -> Result<(Row<Node>, Result<(u32, u32), ParseFault>), Fail> {
+    tokens_are_spans();
+    let file = text.as_bytes();
+    let tokens = read(alloc, file)?;
     let names = names(alloc)?;
-    Ok(expression(
-        alloc,
-        text.as_bytes(),
-        &tokens,
-        0,
-        depth,
-        goal,
-        &names,
-        nodes,
-    ))
+    let open = depth.min(128);
+    let mut nodes = Row::new(alloc);
+    let found = expression(alloc, file, &tokens, 0, open, goal, &names, &mut nodes);
+    Ok((nodes, found))
 }
 
 fn names(alloc: Global) -> Result<TypeNames, AllocError> {
