@@ -1,5 +1,5 @@
 -- The trees of nodes, where nodes are appended.
-use Rattle.std.proofs.Common.{◌≡◌, ℕ, zero, suc, ◌+◌, ◌-◌, ◌<◌, ◌≤◌, true, false, List, [], ◌∷◌, ◌++◌, Option, None, Some, length, get_or, slice_get, slice_index, refl, sym, ap, subst, ◌∙◌, arith, length-append}
+use Rattle.std.proofs.Common.{◌≡◌, ℕ, zero, suc, ◌+◌, ◌-◌, ◌<◌, ◌≤◌, Bool, true, false, List, [], ◌∷◌, ◌++◌, Option, None, Some, length, get_or, slice_get, slice_index, refl, sym, ap, subst, ◌∙◌, arith, length-append}
 use Rattle.std.proofs.Math.ListN.{get_or-append}
 use Rattle.std.proofs.Math.Seq.{get_or-append_seam}
 use Rattle.std.proofs.lemmas.Option.{slice_get_within, slice_get_read}
@@ -11,7 +11,7 @@ use Rattle.cr_syntax.specs.MachineBody.{row_kind, in_row, in_parameters}
 use Rattle.cr_exprs.specs.Tables.{is_void}
 use Rattle.cr_syntax.specs.declared.node.Node.{Node}
 use Rattle.cr_syntax.specs.Kept.{PartsAreBelow, AreBelow, row_in}
-use Rattle.cr_syntax.specs.Trees.{Trees, none, node, one, ◌&◌, tree_of, grown, trees_of}
+use Rattle.cr_syntax.specs.Trees.{Trees, none, node, one, ◌&◌, row_of, tree_of, grown, trees_of}
 use Rattle.cr_syntax.proofs.Arena.{tree_at}
 use Rattle.cr_exprs.specs.declared.fault.ParseFault.{ParseFault}
 use Rattle.cr_exprs.specs.declared.found.Found.{Found}
@@ -215,7 +215,3 @@ is_row_more ps qs p m n b le r q =
 
 pub of_row : {k : Kind} {s n : ℕ} {x y : Trees} → x ≡ y → one k s n x ≡ one k s n y
 of_row {k} {s} {n} {x} {y} q = ap (one k s n) q
-
--- no nodes have no parts
-pub none_below : (ns : List Node) → ns ≡ [] → PartsAreBelow ns
-none_below ns q k n r i lt = absurd (omega (arith, slice_get_within ns k n r, ap length q))

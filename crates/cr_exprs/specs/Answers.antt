@@ -1,9 +1,10 @@
 -- What the parser's functions answer, in terms of the machine's programs.
-use Rattle.std.specs.Prelude.{◌≡◌, ℕ, ◌+◌, ◌-◌, ◌<◌, ◌≤◌, List, Option, None, Some, Result, Ok, Err, length, slice_get, slice_index, slice_index_or, option_to_list}
+use Rattle.std.specs.Prelude.{◌≡◌, ℕ, ◌+◌, ◌-◌, ◌<◌, ◌≤◌, Bool, List, Option, None, Some, Result, Ok, Err, length, slice_get, slice_index, slice_index_or, option_to_list}
+use Rattle.cr_syntax.specs.declared.node.Kind.{Kind}
 use Rattle.cr_syntax.specs.declared.node.Node.{Node}
 use Rattle.cr_syntax.specs.Words.{Lexeme}
 use Rattle.cr_syntax.specs.Scopes.{Scopes}
-use Rattle.cr_syntax.specs.Trees.{Trees, none, trees_of}
+use Rattle.cr_syntax.specs.Trees.{Trees, none, one, trees_of}
 use Rattle.cr_syntax.specs.Kept.{PartsAreBelow, AreBelow}
 use Rattle.cr_syntax.specs.Spells.{AtMost}
 use Rattle.cr_syntax.specs.Units.{most_levels}

@@ -2,3 +2,5 @@ pub mod Source
 pub mod Tables
 pub mod Answers
 pub mod Parts
+pub mod Names
+pub mod Expression

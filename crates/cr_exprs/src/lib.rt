@@ -1,13 +1,10 @@
 //! The parser of expressions of the subset (C11 6.5), with the type names that casts and `sizeof` draw in (6.7.2, 6.7.6,
 //! 6.7.7).
 //!
-//! `expression` reads an expression from some token of a file on, by recursive descent, one function a goal of the machine
-//! in `cr_syntax`. It appends the nodes that it makes, parts before their node, and knows of the scopes which identifiers
-//! are types. It stands on the syntax tree and the grammar of `cr_syntax`, the tokens and the rows.
-//!
-//! It is proved that it is safe and ends, that the old nodes stay, and that its node is the last one and its token lies
-//! behind the start and within the tokens. That its answer is the machine's, and so the grammar's, is not proved yet: a
-//! table of expressions and one of refusals test it.
+//! `expression` reads an expression from some token of a file on, by recursive descent: one function a goal of the
+//! machine in `cr_syntax`, whose definition says what it answers. It appends the nodes that it makes, parts before their
+//! node, and knows of the scopes which identifiers are types. It stands on the syntax tree and the grammar of
+//! `cr_syntax`, the tokens and the rows.
 #![tactic(auto)]
 
 mod arena;

@@ -1,3 +1,6 @@
+ghost use Rattle.std.specs.Prelude.{◌≡◌, [], IfOk};
+ghost use Rattle.cr_exprs.specs.Names.{names_onto, scopes_of};
+
 use cr_rows::Row;
 use cr_syntax::{Scope, TypeName};
 use std::alloc::{AllocError, Global};
@@ -11,7 +14,9 @@ pub struct TypeNames {
 
 impl TypeNames {
     /// The scopes as the grammar has them, the innermost first. The error is want of memory.
-    pub fn to_scopes(&self, alloc: Global) -> Result<LinkedList<Scope>, AllocError> {
+    pub fn to_scopes(&self, alloc: Global) -> Result<LinkedList<Scope>, AllocError>
+        ensures { IfOk result (λ scopes. scopes ≡ scopes_of self.now) }
+    {
         let mut scopes = LinkedList::new(alloc);
         for names in self.scopes.as_slice() {
             scopes.push_front(scope_of(alloc, names.as_slice())?)?;
@@ -20,7 +25,9 @@ impl TypeNames {
     }
 }
 
-fn scope_of(alloc: Global, names: &[TypeName]) -> Result<Scope, AllocError> {
+fn scope_of(alloc: Global, names: &[TypeName]) -> Result<Scope, AllocError>
+    ensures { IfOk result (λ scope. scope ≡ names_onto names.now []) }
+{
     let mut scope = LinkedList::new(alloc);
     for entry in names {
         let name = Row::from_vec(entry.name.as_slice().to_vec(alloc)?);

@@ -1,19 +1,21 @@
 //! The functions that read, one a goal of the machine. All of them call one another, since casts and `sizeof` draw type
 //! names in, and these draw expressions in. Each is told the token to begin at and how many levels are open before it.
 
-ghost use Rattle.std.specs.Prelude.{◌≡◌, ◌+◌, ◌<◌, ◌≤◌, ◌^◌, true, false, IfOk, IfErr, IfSome, IfNone, length, if◌then◌else◌};
+ghost use Rattle.std.specs.Prelude.{◌≡◌, ℕ, ◌+◌, ◌<◌, ◌≤◌, ◌^◌, ◌∷◌, [], IsTrue, true, false, IfOk, IfErr, IfSome, IfNone, length, option_to_list, if◌then◌else◌};
 ghost use Rattle.cr_syntax.specs.Words.{word_at};
 ghost use Rattle.cr_syntax.specs.Scopes.{Scopes};
 ghost use Rattle.cr_syntax.specs.Trees.{none, one, ◌&◌};
-ghost use Rattle.cr_syntax.specs.Kept.{PartsAreBelow};
-ghost use Rattle.cr_syntax.specs.Context.{past_token};
+ghost use Rattle.cr_syntax.specs.Kept.{PartsAreBelow, row_in};
+ghost use Rattle.cr_syntax.specs.Context.{fresh, past_part, past_token};
 ghost use Rattle.cr_syntax.specs.Reads.{is_word};
-ghost use Rattle.cr_syntax.specs.Machine.{passes, plain, expect, suffixes};
-ghost use Rattle.cr_syntax.specs.MachineBody.{body, unary_prefixes, cast_prefixes, type_start, element_start, declarator_start, may_name, may_omit, is_declarator, suffixed, suffixes_end};
+ghost use Rattle.cr_syntax.specs.Machine.{has_word, passes, plain, give, expect, whole, expression, assignment, conditional, binary, cast, unary, measured, postfix, called, grouped, arguments, suffixes, type_name, row, element, structure, members, member, member_declarators, enumeration, enumerators, enumerator, declarator, declarator_suffixes, abstract_suffixes, size, parameters, parameter};
+ghost use Rattle.cr_syntax.specs.MachineBody.{body, start_goal, tighter, unary_prefixes, cast_prefixes, type_start, element_start, declarator_start, may_name, may_omit, is_declarator, array_start, suffixed, suffixes_end};
 ghost use Rattle.cr_exprs.specs.Source.{IsReadable, text_of};
 ghost use Rattle.cr_exprs.specs.Tables.{kind_of};
-ghost use Rattle.cr_exprs.specs.Answers.{MayLengthen, Finishes, IsPushed, IsPlaced, IsGrown, IsListed, IsOptional, tree};
-ghost use Rattle.cr_exprs.specs.Parts.{wanted_of, EndsPointer, PointsOn};
+ghost use Rattle.cr_exprs.specs.Answers.{Answers, Reads, Lengthens, MayLengthen, Finishes, IsPushed, IsPlaced, IsGrown, IsListed, IsOptional, tree};
+ghost use Rattle.cr_syntax.specs.Units.{is_unused};
+ghost use Rattle.cr_exprs.specs.Expression.{start_of, IsLongest, IsRefused};
+ghost use Rattle.cr_exprs.specs.Parts.{part_of, wanted_of, chosen, EndsPointer, PointsOn};
 
 use crate::arena::{
     gathered, gathered_parameters, is_declarator, is_identifier, is_unary, leaf, over,
@@ -100,6 +102,10 @@ pub fn whole(
     requires at { at ≤ length source.now.tokens.now }
     requires depth { depth ≤ 128 }
     requires below { PartsAreBelow nodes.old }
+    ensures reads { Reads (text_of source.now) (body (whole (part_of goal) depth)) scopes.old at nodes.new scopes.new result }
+    ensures longest { IfOk result (λ x. IsLongest (text_of source.now) (start_of goal scopes.old depth at) (tree nodes.new x.node) x.next) }
+    ensures free { IfOk result (λ x. has_word (text_of source.now) x.next is_unused ≡ false) }
+    ensures refused { IfErr result (IsRefused (text_of source.now) (start_of goal scopes.old depth at)) }
     ensures placed { IfOk result (λ x. IsPlaced (length source.now.tokens.now) at nodes.old nodes.new x) }
 {
     let found = started(alloc, source, goal, at, depth, scopes, nodes)?;
@@ -121,6 +127,7 @@ fn started(
     requires at { at ≤ length source.now.tokens.now }
     requires depth { depth ≤ 128 }
     requires below { PartsAreBelow nodes.old }
+    ensures reads { Reads (text_of source.now) (body (start_goal (part_of goal) depth)) scopes.old at nodes.new scopes.new result }
     ensures placed { IfOk result (λ x. IsPlaced (length source.now.tokens.now) at nodes.old nodes.new x) }
 {
     match goal {
@@ -146,6 +153,7 @@ fn expression(
     requires at { at ≤ length source.now.tokens.now }
     requires depth { depth ≤ 128 }
     requires below { PartsAreBelow nodes.old }
+    ensures reads { Reads (text_of source.now) (body (expression depth)) scopes.old at nodes.new scopes.new result }
     ensures placed { IfOk result (λ x. IsPlaced (length source.now.tokens.now) at nodes.old nodes.new x) }
 {
     let mut left = assignment(alloc, source, at, depth, scopes, nodes)?;
@@ -178,6 +186,7 @@ fn assignment(
     requires at { at ≤ length source.now.tokens.now }
     requires depth { depth ≤ 128 }
     requires below { PartsAreBelow nodes.old }
+    ensures reads { Reads (text_of source.now) (body (assignment depth)) scopes.old at nodes.new scopes.new result }
     ensures placed { IfOk result (λ x. IsPlaced (length source.now.tokens.now) at nodes.old nodes.new x) }
 {
     let left = conditional(alloc, source, at, depth, scopes, nodes)?;
@@ -206,6 +215,7 @@ fn conditional(
     requires at { at ≤ length source.now.tokens.now }
     requires depth { depth ≤ 128 }
     requires below { PartsAreBelow nodes.old }
+    ensures reads { Reads (text_of source.now) (body (conditional depth)) scopes.old at nodes.new scopes.new result }
     ensures placed { IfOk result (λ x. IsPlaced (length source.now.tokens.now) at nodes.old nodes.new x) }
 {
     let test = binary(alloc, source, Part::LogicalOr, at, depth, scopes, nodes)?;
@@ -233,6 +243,7 @@ fn chosen(
     requires below { PartsAreBelow nodes.old }
     requires start { start < test.next }
     requires node { test.node < length nodes.old }
+    ensures reads { Reads (text_of source.now) (chosen depth start (tree nodes.old test.node)) scopes.old (test.next + 1) nodes.new scopes.new result }
     ensures placed { IfOk result (λ x. IsPlaced (length source.now.tokens.now) start nodes.old nodes.new x) }
 {
     let yes = expression(alloc, source, test.next + 1, depth + 1, scopes, nodes)?;
@@ -265,6 +276,7 @@ fn binary(
     requires at { at ≤ length source.now.tokens.now }
     requires depth { depth ≤ 128 }
     requires below { PartsAreBelow nodes.old }
+    ensures reads { Reads (text_of source.now) (body (binary part depth)) scopes.old at nodes.new scopes.new result }
     ensures placed { IfOk result (λ x. IsPlaced (length source.now.tokens.now) at nodes.old nodes.new x) }
 {
     let mut left = operand(alloc, source, part, at, depth, scopes, nodes)?;
@@ -290,6 +302,7 @@ fn operand(
     requires at { at ≤ length source.now.tokens.now }
     requires depth { depth ≤ 128 }
     requires below { PartsAreBelow nodes.old }
+    ensures reads { Reads (text_of source.now) (body (tighter part depth)) scopes.old at nodes.new scopes.new result }
     ensures placed { IfOk result (λ x. IsPlaced (length source.now.tokens.now) at nodes.old nodes.new x) }
 {
     match tighter(part) {
@@ -312,6 +325,7 @@ fn cast(
     requires at { at ≤ length source.now.tokens.now }
     requires depth { depth ≤ 128 }
     requires below { PartsAreBelow nodes.old }
+    ensures reads { Reads (text_of source.now) (body (cast depth)) scopes.old at nodes.new scopes.new result }
     ensures placed { IfOk result (λ x. IsPlaced (length source.now.tokens.now) at nodes.old nodes.new x) }
 {
     if !stands(source, at, Word::LeftParen) {
@@ -340,6 +354,7 @@ fn converted(
     requires bracket { is_word (text_of source.now) start Word.LeftParen ≡ true }
     requires starts { passes (text_of source.now) scopes.old (start + 1) type_start ≡ true }
     requires at { start + 1 ≤ length source.now.tokens.now }
+    ensures reads { Reads (text_of source.now) (body (cast depth)) scopes.old start nodes.new scopes.new result }
     ensures placed { IfOk result (λ x. IsPlaced (length source.now.tokens.now) start nodes.old nodes.new x) }
 {
     let to = type_name(alloc, source, start + 1, depth + 1, scopes, nodes)?;
@@ -371,6 +386,7 @@ fn unary(
     requires at { at ≤ length source.now.tokens.now }
     requires depth { depth ≤ 128 }
     requires below { PartsAreBelow nodes.old }
+    ensures reads { Reads (text_of source.now) (body (unary depth)) scopes.old at nodes.new scopes.new result }
     ensures placed { IfOk result (λ x. IsPlaced (length source.now.tokens.now) at nodes.old nodes.new x) }
 {
     if let Some(kind) = kind_in(&UNARY_PREFIXES, source, at) {
@@ -402,6 +418,7 @@ fn stepped(
     requires depth { depth ≤ 128 }
     requires below { PartsAreBelow nodes.old }
     requires kind { kind_of unary_prefixes (word_at (text_of source.now) start) ≡ Some kind }
+    ensures reads { Reads (text_of source.now) (body (unary depth)) scopes.old start nodes.new scopes.new result }
     ensures placed { IfOk result (λ x. IsPlaced (length source.now.tokens.now) start nodes.old nodes.new x) }
 {
     room(start, depth)?;
@@ -426,6 +443,7 @@ fn prefixed(
     requires below { PartsAreBelow nodes.old }
     requires other { kind_of unary_prefixes (word_at (text_of source.now) start) ≡ None }
     requires kind { kind_of cast_prefixes (word_at (text_of source.now) start) ≡ Some kind }
+    ensures reads { Reads (text_of source.now) (body (unary depth)) scopes.old start nodes.new scopes.new result }
     ensures placed { IfOk result (λ x. IsPlaced (length source.now.tokens.now) start nodes.old nodes.new x) }
 {
     room(start, depth)?;
@@ -447,6 +465,7 @@ fn measured(
     requires at { start + 1 ≤ length source.now.tokens.now }
     requires depth { depth < 128 }
     requires below { PartsAreBelow nodes.old }
+    ensures reads { Reads (text_of source.now) (body (measured depth start)) scopes.old (start + 1) nodes.new scopes.new result }
     ensures placed { IfOk result (λ x. IsPlaced (length source.now.tokens.now) start nodes.old nodes.new x) }
 {
     if !stands(source, start + 1, Word::LeftParen) {
@@ -511,6 +530,7 @@ fn measured_type(
     requires below { PartsAreBelow nodes.old }
     requires bracket { is_word (text_of source.now) (start + 1) Word.LeftParen ≡ true }
     requires starts { passes (text_of source.now) scopes.old (start + 1 + 1) type_start ≡ true }
+    ensures reads { Reads (text_of source.now) (body (measured depth start)) scopes.old (start + 1) nodes.new scopes.new result }
     ensures placed { IfOk result (λ x. IsPlaced (length source.now.tokens.now) start nodes.old nodes.new x) }
 {
     let named = type_name(alloc, source, start + 1 + 1, depth + 1 + 1, scopes, nodes)?;
@@ -539,6 +559,7 @@ fn postfix(
     requires at { at ≤ length source.now.tokens.now }
     requires depth { depth ≤ 128 }
     requires below { PartsAreBelow nodes.old }
+    ensures reads { Reads (text_of source.now) (body (postfix depth)) scopes.old at nodes.new scopes.new result }
     ensures placed { IfOk result (λ x. IsPlaced (length source.now.tokens.now) at nodes.old nodes.new x) }
 {
     if is_ordinary(source, at, scopes) {
@@ -573,6 +594,7 @@ fn called(
     requires at { start + 1 ≤ length source.now.tokens.now }
     requires depth { depth ≤ 128 }
     requires below { PartsAreBelow nodes.old }
+    ensures reads { Reads (text_of source.now) (body (called depth start)) scopes.old (start + 1) nodes.new scopes.new result }
     ensures placed { IfOk result (λ x. IsPlaced (length source.now.tokens.now) start nodes.old nodes.new x) }
 {
     if !stands(source, start + 1, Word::LeftParen) {
@@ -603,6 +625,7 @@ fn arguments(
     requires at { at ≤ length source.now.tokens.now }
     requires depth { depth < 128 }
     requires below { PartsAreBelow nodes.old }
+    ensures reads { Answers (text_of source.now) (body (arguments depth none)) scopes.old at (λ x. row_in nodes.new x.parts) scopes.new (λ x. x.next) result }
     ensures listed { IfOk result (λ x. IsListed (length source.now.tokens.now) at nodes.old nodes.new x) }
 {
     let mut parts = Row::new(alloc);
@@ -634,6 +657,7 @@ fn grouped(
     requires depth { depth < 128 }
     requires below { PartsAreBelow nodes.old }
     requires start { start < at }
+    ensures reads { Reads (text_of source.now) (body (grouped depth start)) scopes.old at nodes.new scopes.new result }
     ensures placed { IfOk result (λ x. IsPlaced (length source.now.tokens.now) start nodes.old nodes.new x) }
 {
     let inner = expression(alloc, source, at, depth + 1, scopes, nodes)?;
@@ -659,6 +683,7 @@ fn suffixes(
     requires below { PartsAreBelow nodes.old }
     requires start { start < first.next }
     requires node { first.node + 1 ≡ length nodes.old }
+    ensures reads { Reads (text_of source.now) (body (suffixes depth start (tree nodes.old first.node))) scopes.old first.next nodes.new scopes.new result }
     ensures grown { IfOk result (λ x. IsGrown (length source.now.tokens.now) start nodes.old nodes.new x) }
 {
     let mut left = first;
@@ -689,6 +714,7 @@ fn suffix(
     requires below { PartsAreBelow nodes.old }
     requires start { start < left.next }
     requires node { left.node + 1 ≡ length nodes.old }
+    ensures reads { MayLengthen (text_of source.now) (λ t. body (suffixes depth start t)) (tree nodes.old left.node) (suffixes_end depth (tree nodes.old left.node)) scopes.old left.next nodes.new scopes.new result }
     ensures placed { IfOk result (λ o. IfSome o (IsPlaced (length source.now.tokens.now) left.next nodes.old nodes.new)) }
     ensures none { IfOk result (λ o. IfNone o ((nodes.new ≡ nodes.old) × (scopes.new ≡ scopes.old))) }
 {
@@ -781,6 +807,7 @@ fn subscript(
     requires start { start < left.next }
     requires node { left.node + 1 ≡ length nodes.old }
     requires bracket { is_word (text_of source.now) left.next Word.LeftBracket ≡ true }
+    ensures reads { Lengthens (text_of source.now) (λ t. body (suffixes depth start t)) (tree nodes.old left.node) scopes.old left.next nodes.new scopes.new result }
     ensures placed { IfOk result (λ x. IsPlaced (length source.now.tokens.now) left.next nodes.old nodes.new x) }
 {
     room(left.next, depth)?;
@@ -813,6 +840,7 @@ fn type_name(
     requires at { at ≤ length source.now.tokens.now }
     requires depth { depth ≤ 128 }
     requires below { PartsAreBelow nodes.old }
+    ensures reads { Reads (text_of source.now) (body (type_name depth)) scopes.old at nodes.new scopes.new result }
     ensures placed { IfOk result (λ x. IsPlaced (length source.now.tokens.now) at nodes.old nodes.new x) }
 {
     let specifiers = row(
@@ -863,6 +891,7 @@ fn row(
     requires at { at ≤ length source.now.tokens.now }
     requires depth { depth ≤ 128 }
     requires below { PartsAreBelow nodes.old }
+    ensures reads { Reads (text_of source.now) (body (row part fresh depth)) scopes.old at nodes.new scopes.new result }
     ensures placed { IfOk result (λ x. IsPlaced (length source.now.tokens.now) at nodes.old nodes.new x) }
 {
     let first = element(alloc, source, part, FRESH, at, depth, scopes, nodes)?;
@@ -911,6 +940,7 @@ fn element(
     requires at { at ≤ length source.now.tokens.now }
     requires depth { depth ≤ 128 }
     requires below { PartsAreBelow nodes.old }
+    ensures reads { Reads (text_of source.now) (body (element part context depth)) scopes.old at nodes.new scopes.new result }
     ensures placed { IfOk result (λ x. IsPlaced (length source.now.tokens.now) at nodes.old nodes.new x) }
 {
     if let Some(kind) = specifier_in(part, source, at) {
@@ -942,6 +972,7 @@ fn structure(
     requires at { start + 1 ≤ length source.now.tokens.now }
     requires depth { depth ≤ 128 }
     requires below { PartsAreBelow nodes.old }
+    ensures reads { Reads (text_of source.now) (body (structure depth start)) scopes.old (start + 1) nodes.new scopes.new result }
     ensures placed { IfOk result (λ x. IsPlaced (length source.now.tokens.now) start nodes.old nodes.new x) }
 {
     if stands(source, start + 1, Word::Identifier) {
@@ -980,6 +1011,7 @@ fn members(
     requires depth { depth < 128 }
     requires below { PartsAreBelow nodes.old }
     requires start { start < at }
+    ensures reads { Reads (text_of source.now) (body (members depth start none)) scopes.old at nodes.new scopes.new result }
     ensures placed { IfOk result (λ x. IsPlaced (length source.now.tokens.now) start nodes.old nodes.new x) }
 {
     let mut parts = Row::new(alloc);
@@ -1008,6 +1040,7 @@ fn member_declaration(
     requires at { at ≤ length source.now.tokens.now }
     requires depth { depth ≤ 128 }
     requires below { PartsAreBelow nodes.old }
+    ensures reads { Reads (text_of source.now) (body (member depth)) scopes.old at nodes.new scopes.new result }
     ensures placed { IfOk result (λ x. IsPlaced (length source.now.tokens.now) at nodes.old nodes.new x) }
 {
     let specifiers = row(
@@ -1039,6 +1072,7 @@ fn member_declarators(
     requires below { PartsAreBelow nodes.old }
     requires start { start < specifiers.next }
     requires node { specifiers.node + 1 ≡ length nodes.old }
+    ensures reads { Reads (text_of source.now) (body (member_declarators (past_part fresh (tree nodes.old specifiers.node)) depth start (tree nodes.old specifiers.node & none))) scopes.old specifiers.next nodes.new scopes.new result }
     ensures placed { IfOk result (λ x. IsPlaced (length source.now.tokens.now) start nodes.old nodes.new x) }
 {
     let mut context = past(nodes, FRESH, specifiers.node);
@@ -1081,6 +1115,7 @@ fn enumeration(
     requires at { start + 1 ≤ length source.now.tokens.now }
     requires depth { depth ≤ 128 }
     requires below { PartsAreBelow nodes.old }
+    ensures reads { Reads (text_of source.now) (body (enumeration depth start)) scopes.old (start + 1) nodes.new scopes.new result }
     ensures placed { IfOk result (λ x. IsPlaced (length source.now.tokens.now) start nodes.old nodes.new x) }
 {
     if stands(source, start + 1, Word::Identifier) {
@@ -1119,6 +1154,7 @@ fn enumerators(
     requires depth { depth < 128 }
     requires below { PartsAreBelow nodes.old }
     requires start { start < at }
+    ensures reads { Reads (text_of source.now) (body (enumerators depth start none)) scopes.old at nodes.new scopes.new result }
     ensures placed { IfOk result (λ x. IsPlaced (length source.now.tokens.now) start nodes.old nodes.new x) }
 {
     let mut parts = Row::new(alloc);
@@ -1151,6 +1187,7 @@ fn enumerator(
     requires at { at ≤ length source.now.tokens.now }
     requires depth { depth ≤ 128 }
     requires below { PartsAreBelow nodes.old }
+    ensures reads { Reads (text_of source.now) (body (enumerator depth)) scopes.old at nodes.new scopes.new result }
     ensures placed { IfOk result (λ x. IsPlaced (length source.now.tokens.now) at nodes.old nodes.new x) }
 {
     expect(source, at, Word::Identifier, depth)?;
@@ -1181,6 +1218,7 @@ fn declarator(
     requires at { at ≤ length source.now.tokens.now }
     requires depth { depth ≤ 128 }
     requires below { PartsAreBelow nodes.old }
+    ensures reads { Reads (text_of source.now) (body (declarator (wanted_of wanted) context depth)) scopes.old at nodes.new scopes.new result }
     ensures placed { IfOk result (λ x. IsPlaced (length source.now.tokens.now) at nodes.old nodes.new x) }
 {
     if stands(source, at, Word::Star) {
@@ -1217,6 +1255,7 @@ fn pointer(
     requires depth { depth ≤ 128 }
     requires below { PartsAreBelow nodes.old }
     requires star { is_word (text_of source.now) start Word.Star ≡ true }
+    ensures reads { Reads (text_of source.now) (body (declarator (wanted_of wanted) context depth)) scopes.old start nodes.new scopes.new result }
     ensures placed { IfOk result (λ x. IsPlaced (length source.now.tokens.now) start nodes.old nodes.new x) }
 {
     room(start, depth)?;
@@ -1278,6 +1317,7 @@ fn bracketed(
     requires below { PartsAreBelow nodes.old }
     requires other { is_word (text_of source.now) start Word.Star ≡ false }
     requires bracket { is_word (text_of source.now) start Word.LeftParen ≡ true }
+    ensures reads { Reads (text_of source.now) (body (declarator (wanted_of wanted) context depth)) scopes.old start nodes.new scopes.new result }
     ensures placed { IfOk result (λ x. IsPlaced (length source.now.tokens.now) start nodes.old nodes.new x) }
 {
     room(start, depth)?;
@@ -1329,6 +1369,7 @@ fn array_start(
     requires at { at ≤ length source.now.tokens.now }
     requires depth { depth ≤ 128 }
     requires below { PartsAreBelow nodes.old }
+    ensures reads { Reads (text_of source.now) (array_start (wanted_of wanted) depth at) scopes.old at nodes.new scopes.new result }
     ensures placed { IfOk result (λ x. IsPlaced (length source.now.tokens.now) at nodes.old nodes.new x) }
 {
     if !may_omit(wanted) {
@@ -1360,6 +1401,7 @@ fn declarator_suffixes(
     requires below { PartsAreBelow nodes.old }
     requires start { start < first.next }
     requires node { first.node + 1 ≡ length nodes.old }
+    ensures reads { Reads (text_of source.now) (body (declarator_suffixes depth start (tree nodes.old first.node))) scopes.old first.next nodes.new scopes.new result }
     ensures grown { IfOk result (λ x. IsGrown (length source.now.tokens.now) start nodes.old nodes.new x) }
 {
     let mut left = first;
@@ -1388,6 +1430,7 @@ fn declarator_suffix(
     requires below { PartsAreBelow nodes.old }
     requires start { start < left.next }
     requires node { left.node + 1 ≡ length nodes.old }
+    ensures reads { MayLengthen (text_of source.now) (λ t. body (declarator_suffixes depth start t)) (tree nodes.old left.node) (give (tree nodes.old left.node)) scopes.old left.next nodes.new scopes.new result }
     ensures placed { IfOk result (λ o. IfSome o (IsPlaced (length source.now.tokens.now) left.next nodes.old nodes.new)) }
     ensures none { IfOk result (λ o. IfNone o ((nodes.new ≡ nodes.old) × (scopes.new ≡ scopes.old))) }
 {
@@ -1420,6 +1463,7 @@ fn array(
     requires start { start < left.next }
     requires node { left.node + 1 ≡ length nodes.old }
     requires bracket { is_word (text_of source.now) left.next Word.LeftBracket ≡ true }
+    ensures reads { Lengthens (text_of source.now) (λ t. body (declarator_suffixes depth start t)) (tree nodes.old left.node) scopes.old left.next nodes.new scopes.new result }
     ensures placed { IfOk result (λ x. IsPlaced (length source.now.tokens.now) left.next nodes.old nodes.new x) }
 {
     room(left.next, depth)?;
@@ -1448,6 +1492,7 @@ fn function(
     requires node { left.node + 1 ≡ length nodes.old }
     requires other { is_word (text_of source.now) left.next Word.LeftBracket ≡ false }
     requires bracket { is_word (text_of source.now) left.next Word.LeftParen ≡ true }
+    ensures reads { Lengthens (text_of source.now) (λ t. body (declarator_suffixes depth start t)) (tree nodes.old left.node) scopes.old left.next nodes.new scopes.new result }
     ensures placed { IfOk result (λ x. IsPlaced (length source.now.tokens.now) left.next nodes.old nodes.new x) }
 {
     room(left.next, depth)?;
@@ -1495,6 +1540,7 @@ fn abstract_suffixes(
     requires below { PartsAreBelow nodes.old }
     requires start { start < first.next }
     requires node { first.node + 1 ≡ length nodes.old }
+    ensures reads { Reads (text_of source.now) (body (abstract_suffixes depth start (tree nodes.old first.node))) scopes.old first.next nodes.new scopes.new result }
     ensures grown { IfOk result (λ x. IsGrown (length source.now.tokens.now) start nodes.old nodes.new x) }
 {
     let mut left = first;
@@ -1520,6 +1566,7 @@ fn size(
     requires at { at ≤ length source.now.tokens.now }
     requires depth { depth < 128 }
     requires below { PartsAreBelow nodes.old }
+    ensures reads { Answers (text_of source.now) (body (size depth)) scopes.old at (λ x. row_in nodes.new (option_to_list x.node)) scopes.new (λ x. x.next) result }
     ensures placed { IfOk result (λ x. IsOptional (length source.now.tokens.now) at nodes.old nodes.new x) }
 {
     if stands(source, at, Word::RightBracket) {
@@ -1550,6 +1597,7 @@ fn parameters(
     requires at { at ≤ length source.now.tokens.now }
     requires depth { depth ≤ 128 }
     requires below { PartsAreBelow nodes.old }
+    ensures reads { Reads (text_of source.now) (body (parameters depth)) scopes.old at nodes.new scopes.new result }
     ensures placed { IfOk result (λ x. IsPlaced (length source.now.tokens.now) at nodes.old nodes.new x) }
 {
     let first = parameter(alloc, source, at, depth, scopes, nodes)?;
@@ -1580,6 +1628,7 @@ fn parameter(
     requires at { at ≤ length source.now.tokens.now }
     requires depth { depth ≤ 128 }
     requires below { PartsAreBelow nodes.old }
+    ensures reads { Reads (text_of source.now) (body (parameter depth)) scopes.old at nodes.new scopes.new result }
     ensures placed { IfOk result (λ x. IsPlaced (length source.now.tokens.now) at nodes.old nodes.new x) }
 {
     let specifiers = row(alloc, source, Part::Specifiers, at, depth, scopes, nodes)?;

@@ -2,7 +2,7 @@ ghost use Rattle.std.specs.Prelude.{◌≡◌, ℕ, ◌≤◌, ◌<◌, ◌^◌,
 ghost use Rattle.cr_syntax.specs.Words.{AreSpans, spelling_at};
 ghost use Rattle.cr_syntax.specs.Reads.{is_word};
 ghost use Rattle.cr_syntax.specs.Units.{is_unused};
-ghost use Rattle.cr_syntax.specs.Machine.{has_word, passes, has, or, ordinary, type_identifier, declared, verdict, barred, overflows};
+ghost use Rattle.cr_syntax.specs.Machine.{has_word, passes, has, or, ordinary, type_identifier, declared, verdict, barred, overflows, too_deep};
 ghost use Rattle.cr_syntax.specs.MachineBody.{is_plain_start, is_specifier_start, is_abstract_start, is_declarator_start};
 ghost use Rattle.cr_exprs.specs.Source.{IsReadable, text_of, words_in};
 ghost use Rattle.cr_syntax.specs.Scopes.{Scopes};
@@ -343,10 +343,11 @@ pub(crate) fn bar_unused(source: &Source, at: usize, depth: usize) -> Result<(),
     requires at { at ≤ length source.now.tokens.now }
     ensures ok { OnOk result (has_word (text_of source.now) at is_unused ≡ false) }
     ensures stands { OnErr result (has_word (text_of source.now) at is_unused ≡ true) }
+    ensures row { IfErr result (λ fault. fault ≡ ParseFault.OutsideSubset at 1) }
     ensures err { IfErr result (λ fault. IsRefusal (text_of source.now) fault (barred (text_of source.now) 1 at depth) at) }
 {
     if has_unused(source, at) {
-        return Err(barred(source, at, 1, depth));
+        return Err(ParseFault::OutsideSubset(at as u32, 1));
     }
     Ok(())
 }

@@ -1,9 +1,12 @@
+ghost use Rattle.std.specs.Prelude.{◌≡◌, ◌≤◌, IsTrue, length};
+ghost use Rattle.cr_syntax.specs.Words.{AreSpans};
+
 use crate::Goal::{Assignment, Conditional, Expression};
 use crate::ParseFault::{Ended, OutsideSubset, TooDeep, Unexpected};
-use crate::{Found, Goal, ParseFault, TypeNames, expression};
+use crate::{Goal, ParseFault, TypeNames, expression};
 use cr_rows::Row;
-use cr_syntax::{Kind, Node, TypeName, tokens_are_spans};
-use cr_tokens::{Tokens, read};
+use cr_syntax::{Kind, Node, TypeName};
+use cr_tokens::{MAX_TOKENS, Token, Tokens, read};
 use std::alloc::{AllocError, Global};
 use std::test::Fail;
 
@@ -283,15 +286,11 @@ const FAULTS: [(&str, u32, ParseFault); 76] = [
 fn expressions_have_their_trees(rt: HostRuntime) -> Result<(), Fail> {
     let alloc = rt.alloc();
     for (text, next, tree) in &TREES {
-        let (nodes, found) = read_text(alloc, text, 0, Expression)?;
-        match found {
-            Ok((node, after)) => {
-                assert_eq!(rt; (text, after as usize), (text, *next));
-                let shown = shown(alloc, text, &nodes, node)?;
-                assert_eq!(rt; (text, shown.as_str()), (text, *tree));
-            }
-            Err(fault) => assert!(rt; false, "{text}: {fault}"),
-        }
+        let outcome = read_text(alloc, text, 0, Expression)?;
+        let after = outcome.found.ok().map_or(0, |x| x.1 as usize);
+        assert_eq!(rt; (text, after), (text, *next));
+        let shown = shown(alloc, text, &outcome)?;
+        assert_eq!(rt; (text, shown.as_str()), (text, *tree));
     }
     Ok(())
 }
@@ -300,8 +299,8 @@ fn expressions_have_their_trees(rt: HostRuntime) -> Result<(), Fail> {
 fn refusals_name_kind_and_token(rt: HostRuntime) -> Result<(), Fail> {
     let alloc = rt.alloc();
     for (text, depth, fault) in &FAULTS {
-        let (_, found) = read_text(alloc, text, *depth, Expression)?;
-        assert_eq!(rt; (text, found.err()), (text, Some(*fault)));
+        let outcome = read_text(alloc, text, *depth, Expression)?;
+        assert_eq!(rt; (text, outcome.found.err()), (text, Some(*fault)));
     }
     Ok(())
 }
@@ -315,46 +314,61 @@ fn other_goals_end_earlier(rt: HostRuntime) -> Result<(), Fail> {
         ("a?b:c,d", Conditional, 5),
     ];
     for (text, goal, next) in &rows {
-        let (_, found) = read_text(alloc, text, 0, *goal)?;
-        assert_eq!(rt; (text, found.ok().map(|x| x.1)), (text, Some(*next)));
+        let outcome = read_text(alloc, text, 0, *goal)?;
+        assert_eq!(rt;
+            (text, outcome.found.ok().map_or(0, |x| x.1)),
+            (text, *next)
+        );
     }
     Ok(())
 }
+
+// Openers, each with what closes it, or ends its operand.
+const NESTS: [(&str, &str); 6] = [
+    ("(", ")"),
+    ("- ", " "),
+    ("a[", "]"),
+    ("a=", " "),
+    ("a?", ":b"),
+    ("(T)", " "),
+];
 
 #[test]
 fn levels_are_counted_to_128(rt: HostRuntime) -> Result<(), Fail> {
     let alloc = rt.alloc();
-    for (open, close) in [
-        ("(", ")"),
-        ("- ", " "),
-        ("a[", "]"),
-        ("a=", " "),
-        ("a?", ":b"),
-        ("(T)", " "),
-    ] {
+    for (open, close) in &NESTS {
         let fits = repeated(alloc, open, 128, close)?;
-        let (_, found) = read_text(alloc, fits.as_str(), 0, Expression)?;
+        let found = read_text(alloc, fits.as_str(), 0, Expression)?.found;
         assert_eq!(rt; (open, found.is_ok()), (open, true));
         let deep = repeated(alloc, open, 129, close)?;
-        let (_, found) = read_text(alloc, deep.as_str(), 0, Expression)?;
-        match found {
-            Err(TooDeep(_)) => {}
-            _ => assert!(rt; false, "{open}"),
-        }
+        let found = read_text(alloc, deep.as_str(), 0, Expression)?.found;
+        assert_eq!(rt; (open, is_too_deep(found)), (open, true));
     }
     Ok(())
 }
 
+fn is_too_deep(found: Result<(u32, u32), ParseFault>) -> bool {
+    matches!(found, Err(TooDeep(_)))
+}
+
+const LINKS: [(&str, bool); 5] = [
+    ("+1", true),
+    (",1", true),
+    ("[1]", false),
+    ("++", true),
+    (".m", true),
+];
+
 #[test]
 fn chains_cost_no_levels(rt: HostRuntime) -> Result<(), Fail> {
     let alloc = rt.alloc();
-    for link in ["+1", ",1", "[1]", "++", ".m"] {
+    for (link, fits) in &LINKS {
         let mut text = String::from_str(alloc, "a")?;
         for _ in 0..2000 {
             text.push_str(link)?;
         }
-        let (_, found) = read_text(alloc, text.as_str(), 128, Expression)?;
-        assert_eq!(rt; (link, found.is_ok()), (link, link != "[1]"));
+        let found = read_text(alloc, text.as_str(), 128, Expression)?.found;
+        assert_eq!(rt; (link, found.is_ok()), (link, *fits));
     }
     Ok(())
 }
@@ -371,21 +385,50 @@ fn repeated(alloc: Global, open: &str, count: u32, close: &str) -> Result<String
     Ok(text)
 }
 
-// The nodes of an expression from a text's first token on, where so many levels are open, at most 128.
-fn read_text(
-    alloc: Global,
-    text: &str,
-    depth: u32,
-    goal: Goal,
-) -> Result<(Row<Node>, Result<(u32, u32), ParseFault>), Fail> {
-    tokens_are_spans();
-    let file = text.as_bytes();
-    let tokens = read(alloc, file)?;
+// What reading a text answers, and the nodes.
+#[derive(Drop)]
+struct Outcome {
+    found: Result<(u32, u32), ParseFault>,
+    nodes: Row<Node>,
+}
+
+// Reads an expression from a text's first token on.
+fn read_text(alloc: Global, text: &str, depth: u32, goal: Goal) -> Result<Outcome, Fail> {
+    let tokens = read(alloc, text.as_bytes())?;
     let names = names(alloc)?;
-    let open = depth.min(128);
     let mut nodes = Row::new(alloc);
-    let found = expression(alloc, file, &tokens, 0, open, goal, &names, &mut nodes);
-    Ok((nodes, found))
+    if depth > 128 || !are_spans(text.as_bytes(), tokens.list.as_slice()) {
+        return Ok(Outcome {
+            found: Err(ParseFault::NoMemory),
+            nodes,
+        });
+    }
+    let found = expression(
+        alloc,
+        text.as_bytes(),
+        &tokens,
+        0,
+        depth,
+        goal,
+        &names,
+        &mut nodes,
+    );
+    Ok(Outcome { found, nodes })
+}
+
+fn are_spans(file: &[u8], tokens: &[Token]) -> bool
+    ensures spans { IsTrue result → AreSpans file.now tokens.now }
+    ensures few { IsTrue result → length tokens.now ≤ 262144 }
+{
+    if tokens.len() > MAX_TOKENS {
+        return false;
+    }
+    for token in tokens {
+        if token.start > token.end || token.end as usize > file.len() {
+            return false;
+        }
+    }
+    true
 }
 
 fn names(alloc: Global) -> Result<TypeNames, AllocError> {
@@ -407,26 +450,17 @@ fn name(alloc: Global, spelling: &str, is_type: bool) -> Result<TypeName, AllocE
     })
 }
 
-// A node and its parts in words.
-fn shown(alloc: Global, text: &str, nodes: &Row<Node>, top: u32) -> Result<String, Fail> {
+// The node that was read and its parts in words.
+fn shown(alloc: Global, text: &str, outcome: &Outcome) -> Result<String, Fail> {
     let tokens = read(alloc, text.as_bytes())?;
     let mut shown: Vec<String> = Vec::new(alloc);
-    for node in nodes.as_slice() {
+    for node in outcome.nodes.as_slice() {
         let mut out = String::new(alloc);
-        match node.kind {
-            Kind::Identifier | Kind::Integer | Kind::Character | Kind::Text => {
-                push_tokens(&mut out, text, &tokens, node)?;
-            }
-            kind => {
-                let word = format!(in alloc; "{kind:?}")?;
-                out.push_str(word.as_str())?;
-            }
-        }
+        push_kind(alloc, &mut out, text, &tokens, node)?;
         for (k, part) in node.parts.as_slice().iter().enumerate() {
             out.push_str(if k == 0 { "[" } else { " " })?;
-            match shown.get(*part as usize) {
-                Some(inner) => out.push_str(inner.as_str())?,
-                None => out.push('?')?,
+            if let Some(inner) = shown.get(*part as usize) {
+                out.push_str(inner.as_str())?;
             }
         }
         if !node.parts.is_empty() {
@@ -434,9 +468,28 @@ fn shown(alloc: Global, text: &str, nodes: &Row<Node>, top: u32) -> Result<Strin
         }
         shown.push(out)?;
     }
-    match shown.get(top as usize) {
+    let top = outcome.found.ok().map_or(0, |x| x.0 as usize);
+    match shown.get(top) {
         Some(out) => Ok(out.clone()?),
         None => Ok(String::new(alloc)),
+    }
+}
+
+fn push_kind(
+    alloc: Global,
+    out: &mut String,
+    text: &str,
+    tokens: &Tokens,
+    node: &Node,
+) -> Result<(), AllocError> {
+    match node.kind {
+        Kind::Identifier | Kind::Integer | Kind::Character | Kind::Text => {
+            push_tokens(out, text, tokens, node)
+        }
+        kind => {
+            let word = format!(in alloc; "{kind:?}")?;
+            out.push_str(word.as_str())
+        }
     }
 }
 
@@ -451,9 +504,8 @@ fn push_tokens(
             if k > node.first as usize {
                 out.push(' ')?;
             }
-            match text.get(token.start as usize..token.end as usize) {
-                Some(piece) => out.push_str(piece)?,
-                None => out.push('?')?,
+            if let Some(piece) = text.get(token.start as usize..token.end as usize) {
+                out.push_str(piece)?;
             }
         }
     }

@@ -1,3 +1,4 @@
+use Rattle.std.proofs.Common.{sym, ◌∙◌, ap, arith}
 use Rattle.cr_exprs.proofs.Nodes.{front_keeps, front_length, front_below}
 use Rattle.cr_exprs.proofs.arena.drop_last.Goals as goal
 

@@ -1,7 +1,8 @@
-use Rattle.std.proofs.Common.{◌≡◌, arith}
-use Rattle.cr_syntax.specs.Trees.{one}
+use Rattle.std.proofs.Common.{◌≡◌, ◌+◌, ◌∷◌, [], refl, sym, ◌∙◌, ap, arith, rules}
+use Rattle.cr_syntax.specs.declared.node.Kind.TheVariants as kind
+use Rattle.cr_syntax.specs.Trees.{none, one}
 use Rattle.cr_syntax.specs.Kept.{row_in}
-use Rattle.cr_syntax.specs.MachineBody.{in_row}
+use Rattle.cr_syntax.specs.MachineBody.{in_row, in_parameters}
 use Rattle.cr_exprs.proofs.Nodes.{in_row_lone, in_row_more, ok_tree}
 use Rattle.cr_exprs.proofs.arena.gathered.Goals as goal
 

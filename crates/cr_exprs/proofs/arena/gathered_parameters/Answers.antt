@@ -1,6 +1,10 @@
-use Rattle.std.proofs.Common.{◌≡◌, true, false, subst, sym, ◌∙◌, arith}
+use Rattle.std.proofs.Common.{◌≡◌, true, false, subst, ◌+◌, ◌∷◌, [], refl, sym, ◌∙◌, ap, arith, rules}
+use Rattle.cr_syntax.specs.declared.node.Kind.TheVariants as kind
 use Rattle.cr_syntax.specs.declared.node.Node.{Node}
 use Rattle.cr_exprs.specs.Tables.{is_void}
+use Rattle.cr_syntax.specs.Trees.{none, one}
+use Rattle.cr_syntax.specs.Kept.{row_in}
+use Rattle.cr_syntax.specs.MachineBody.{in_row, in_parameters}
 use Rattle.cr_exprs.proofs.Nodes.{in_parameters_lone, in_parameters_void, in_parameters_more, ok_tree}
 use Rattle.cr_exprs.proofs.arena.gathered_parameters.Goals as goal
 

@@ -1,4 +1,4 @@
-use Rattle.std.proofs.Common.{arith, rules}
+use Rattle.std.proofs.Common.{◌≡◌, ◌+◌, ◌∷◌, [], refl, sym, ◌∙◌, ap, arith, rules}
 use Rattle.cr_exprs.proofs.Nodes.{tree_of_pushed}
 use Rattle.cr_exprs.proofs.arena.push.Goals as goal
 

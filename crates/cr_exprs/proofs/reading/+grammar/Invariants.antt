@@ -1,7 +1,12 @@
-use Rattle.std.proofs.Common.{◌+◌, ◌-◌, ◌*◌, ◌<◌, ◌≤◌, length}
-use Rattle.cr_syntax.specs.Kept.{PartsAreBelow, AreBelow}
+use Rattle.std.proofs.Common.{◌≡◌, ◌+◌, ◌-◌, ◌*◌, ◌<◌, ◌≤◌, length}
+use Rattle.cr_syntax.specs.Trees.{none, ◌&◌}
+use Rattle.cr_syntax.specs.Kept.{PartsAreBelow, AreBelow, row_in}
+use Rattle.cr_syntax.specs.Context.{fresh, past_part}
+use Rattle.cr_syntax.specs.Machine as m
+use Rattle.cr_syntax.specs.MachineBody.{body}
+use Rattle.cr_exprs.specs.Source.{text_of}
 use Rattle.cr_exprs.specs.Tables.{level_of}
-use Rattle.cr_exprs.specs.Answers.{IsPlaced, IsGrown, IsRow, Keeps}
+use Rattle.cr_exprs.specs.Answers.{Goes, IsPlaced, IsGrown, IsRow, Keeps, tree}
 use Rattle.cr_exprs.proofs.reading.+grammar.Given as goal
 
 abbrev pub decreases-abstract_suffixes : goal.decreases-abstract_suffixes
@@ -132,6 +137,7 @@ decreases-unary l = (length l.source.now.tokens.now - l.at) * 64 + 18
 
 abbrev pub invariant-expression-commas : goal.invariant-expression-commas
 invariant-expression-commas l = record {
+  goes : Goes (text_of l.source) (body (m.expression l.depth)) l.fn.scopes l.at (body (m.commas l.depth l.at (tree l.nodes l.left.node))) l.scopes l.left.next;
   placed : IsPlaced (length l.source.tokens.now) l.at l.fn.nodes l.nodes l.left;
 }
 
@@ -140,6 +146,7 @@ decreases-expression-commas l = length l.source.tokens.now - l.left.next
 
 abbrev pub invariant-binary-operands : goal.invariant-binary-operands
 invariant-binary-operands l = record {
+  goes : Goes (text_of l.source) (body (m.binary l.part l.depth)) l.fn.scopes l.at (body (m.operands l.part l.depth l.at (tree l.nodes l.left.node))) l.scopes l.left.next;
   placed : IsPlaced (length l.source.tokens.now) l.at l.fn.nodes l.nodes l.left;
 }
 
@@ -148,6 +155,7 @@ decreases-binary-operands l = length l.source.tokens.now - l.left.next
 
 abbrev pub invariant-suffixes-suffixes : goal.invariant-suffixes-suffixes
 invariant-suffixes-suffixes l = record {
+  goes : Goes (text_of l.source) (body (m.suffixes l.depth l.start (tree l.fn.nodes l.fn.first.node))) l.fn.scopes l.fn.first.next (body (m.suffixes l.depth l.start (tree l.nodes l.left.node))) l.scopes l.left.next;
   grown : IsGrown (length l.source.tokens.now) l.start l.fn.nodes l.nodes l.left;
   far : l.fn.first.next ≤ l.left.next;
 }
@@ -157,6 +165,7 @@ decreases-suffixes-suffixes l = length l.source.tokens.now - l.left.next
 
 abbrev pub invariant-declarator_suffixes-suffixes : goal.invariant-declarator_suffixes-suffixes
 invariant-declarator_suffixes-suffixes l = record {
+  goes : Goes (text_of l.source) (body (m.declarator_suffixes l.depth l.start (tree l.fn.nodes l.fn.first.node))) l.fn.scopes l.fn.first.next (body (m.declarator_suffixes l.depth l.start (tree l.nodes l.left.node))) l.scopes l.left.next;
   grown : IsGrown (length l.source.tokens.now) l.start l.fn.nodes l.nodes l.left;
   far : l.fn.first.next ≤ l.left.next;
 }
@@ -166,6 +175,7 @@ decreases-declarator_suffixes-suffixes l = length l.source.tokens.now - l.left.n
 
 abbrev pub invariant-abstract_suffixes-suffixes : goal.invariant-abstract_suffixes-suffixes
 invariant-abstract_suffixes-suffixes l = record {
+  goes : Goes (text_of l.source) (body (m.abstract_suffixes l.depth l.start (tree l.fn.nodes l.fn.first.node))) l.fn.scopes l.fn.first.next (body (m.abstract_suffixes l.depth l.start (tree l.nodes l.left.node))) l.scopes l.left.next;
   grown : IsGrown (length l.source.tokens.now) l.start l.fn.nodes l.nodes l.left;
   far : l.fn.first.next ≤ l.left.next;
 }
@@ -175,6 +185,7 @@ decreases-abstract_suffixes-suffixes l = length l.source.tokens.now - l.left.nex
 
 abbrev pub invariant-arguments-arguments : goal.invariant-arguments-arguments
 invariant-arguments-arguments l = record {
+  goes : Goes (text_of l.source) (body (m.arguments l.depth none)) l.fn.scopes l.at (body (m.arguments l.depth (row_in l.nodes l.parts))) l.scopes l.next;
   keeps : Keeps l.fn.nodes l.nodes;
   below : PartsAreBelow l.nodes;
   parts : AreBelow l.parts (length l.nodes);
@@ -187,6 +198,7 @@ decreases-arguments-arguments l = length l.source.tokens.now - l.next
 
 abbrev pub invariant-members-members : goal.invariant-members-members
 invariant-members-members l = record {
+  goes : Goes (text_of l.source) (body (m.members l.depth l.start none)) l.fn.scopes l.at (body (m.members l.depth l.start (row_in l.nodes l.parts))) l.scopes l.next;
   keeps : Keeps l.fn.nodes l.nodes;
   below : PartsAreBelow l.nodes;
   parts : AreBelow l.parts (length l.nodes);
@@ -199,6 +211,7 @@ decreases-members-members l = length l.source.tokens.now - l.next
 
 abbrev pub invariant-enumerators-enumerators : goal.invariant-enumerators-enumerators
 invariant-enumerators-enumerators l = record {
+  goes : Goes (text_of l.source) (body (m.enumerators l.depth l.start none)) l.fn.scopes l.at (body (m.enumerators l.depth l.start (row_in l.nodes l.parts))) l.scopes l.next;
   keeps : Keeps l.fn.nodes l.nodes;
   below : PartsAreBelow l.nodes;
   parts : AreBelow l.parts (length l.nodes);
@@ -211,6 +224,7 @@ decreases-enumerators-enumerators l = length l.source.tokens.now - l.next
 
 abbrev pub invariant-member_declarators-declarators : goal.invariant-member_declarators-declarators
 invariant-member_declarators-declarators l = record {
+  goes : Goes (text_of l.source) (body (m.member_declarators (past_part fresh (tree l.fn.nodes l.fn.specifiers.node)) l.depth l.start (tree l.fn.nodes l.fn.specifiers.node & none))) l.fn.scopes l.fn.specifiers.next (body (m.member_declarators l.context l.depth l.start (row_in l.nodes l.parts))) l.scopes l.next;
   keeps : Keeps l.fn.nodes l.nodes;
   below : PartsAreBelow l.nodes;
   parts : AreBelow l.parts (length l.nodes);
@@ -223,6 +237,7 @@ decreases-member_declarators-declarators l = length l.source.tokens.now - l.next
 
 abbrev pub invariant-parameters-parameters : goal.invariant-parameters-parameters
 invariant-parameters-parameters l = record {
+  goes : Goes (text_of l.source) (body (m.parameters l.depth)) l.fn.scopes l.at (body (m.more_parameters l.depth l.at (row_in l.nodes l.parts))) l.scopes l.next;
   keeps : Keeps l.fn.nodes l.nodes;
   below : PartsAreBelow l.nodes;
   row : IsRow l.parts (length l.nodes);
@@ -236,6 +251,7 @@ decreases-parameters-parameters l = length l.source.tokens.now - l.next
 
 abbrev pub invariant-row-more : goal.invariant-row-more
 invariant-row-more l = record {
+  goes : Goes (text_of l.source) (body (m.row l.part fresh l.depth)) l.fn.scopes l.at (body (m.more l.part l.context l.depth l.at (row_in l.nodes l.parts))) l.scopes l.next;
   keeps : Keeps l.fn.nodes l.nodes;
   below : PartsAreBelow l.nodes;
   row : IsRow l.parts (length l.nodes);

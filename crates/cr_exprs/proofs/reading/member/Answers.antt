@@ -1,5 +1,5 @@
-use Rattle.cr_exprs.proofs.Runs.{exit, stops, goes_on, handed}
-use Rattle.cr_syntax.specs.Machine.{suffixes, run_here, run_take, run_pass, run_stop}
+use Rattle.cr_exprs.proofs.Runs.{exit, fails, stops, deep, no_memory, finish, goes_on, through, handed}
+use Rattle.cr_syntax.specs.Machine.{suffixes, run_here, run_take, run_pass, run_stop, run_call}
 use Rattle.cr_syntax.specs.MachineBody.{body}
 use Rattle.cr_exprs.proofs.reading.member.Goals as goal
 

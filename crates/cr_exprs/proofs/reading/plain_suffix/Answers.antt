@@ -1,4 +1,4 @@
-use Rattle.std.proofs.Common.{sym, ◌∙◌}
+use Rattle.std.proofs.Common.{refl, sym, ◌∙◌, arith, rules}
 use Rattle.cr_syntax.specs.Trees.{none, ◌&◌}
 use Rattle.cr_syntax.specs.Machine as m
 use Rattle.cr_syntax.specs.Machine.{plain, run_take, run_pass, run_here}
