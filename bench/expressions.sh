@@ -76,7 +76,7 @@ fn are_spans(file: &[u8], tokens: &[Token]) -> bool
 RT
 build_timer
 chain=$(printf 'a%.0s' 1; printf '+1%.0s' $(seq 1 131000))
-mixed=$(printf 'x'; for _ in $(seq 1 9000); do printf ' + first_pair[index].left * value(second, 3)\n  - (int)total->part / (1 << count ? -4 : ~mask)'; done)
+mixed=$(printf 'x'; for _ in $(seq 1 7900); do printf ' + first_pair[index].left * value(second, 3)\n  - (int)total->part / (1 << count ? -4 : ~mask)'; done)
 for text in "$chain" "$mixed"; do
     printf '%s' "$text" | out/timer | awk '{ printf "%d bytes, %d tokens, read to %d: %.1f MB/s\n", $1, $2, $3, 20 * $1 / $4 }'
 done
