@@ -27,16 +27,5 @@ fn main(rt: HostRuntime) -> io::Result<()> {
 }
 RT
 build_timer
-sample='static struct measured_pair pair_table[2] = { { 1, 2 }, { 3, 4 } };
-/* The sum of the products of the pairs that the table holds, from the first one on. */
-static long sum_of_products(struct measured_pair *first_pair, int number_of_pairs)
-{
-  long running_total = 0x0;
-  for (int index = 0; index < number_of_pairs; index++)
-    running_total += first_pair[index].left * first_pair[index].right; // both are int
-  printf("%d pairs, and their sum: %s\n", number_of_pairs, "not shown");
-  return running_total == 1u ? running_total : -1;
-}
-'
-yes "$sample" | head -c 1048000 | sed '$d' >"$lab/sample.c"
+c_sample
 out/timer <"$lab/sample.c" | awk '{ printf "%d bytes, %d tokens: %.0f MB/s\n", $1, $2, 100 * $1 / $3 }'
