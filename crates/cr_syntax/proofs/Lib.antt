@@ -13,6 +13,7 @@ pub mod Turns
 pub mod Examples
 pub mod MachineExamples
 pub mod MachineRuns
+pub mod MachineEnds
 pub mod MachineSpells
 pub mod MachineGives
 pub mod MachineKept
