@@ -30,3 +30,5 @@ pub mod MachineExtend
 pub mod MachineFails
 pub mod MachineGrows
 pub mod MachineViable
+pub mod MachineMarks
+pub mod MachineForms
