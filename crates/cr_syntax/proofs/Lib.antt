@@ -32,3 +32,4 @@ pub mod MachineGrows
 pub mod MachineViable
 pub mod MachineMarks
 pub mod MachineForms
+pub mod MachineUnused

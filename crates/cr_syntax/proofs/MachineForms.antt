@@ -631,7 +631,7 @@ module _ (ts us : List Lexeme) (limit top : Limit) (r : Form) (k : ℕ) (stands 
   barred_there g {c = c} {i = i} h = marked body ts us limit top (row_of r) k (Unmarked r k) alike allowed owes h (Unmarked r k g c i) (owes g c i)
 
 -- the list goes on to its tokens
-within : (ts : List Lexeme) (k : ℕ) {w : Word} → Is ts k w → k < length ts
+pub within : (ts : List Lexeme) (k : ℕ) {w : Word} → Is ts k w → k < length ts
 within [] k q = cc
 within (x ∷ ts) zero q = omega arith
 within (x ∷ ts) (suc k) q = let n = within ts k q in omega arith
