@@ -1,7 +1,7 @@
 -- A row of the refused forms that names a token behind a tree: the machine refuses the token there by that row.
-use Rattle.std.proofs.Common.{◌≡◌, ℕ, zero, suc, ◌+◌, ◌<◌, ◌≤◌, Bool, true, false, ◌&&◌, ◌||◌, ◌==◌, List, [], ◌∷◌, length, Option, None, Some, ◌⊎◌, inl, inr, ⊎_elim, refl, sym, ap, subst, ◌∙◌, arith}
+use Rattle.std.proofs.Common.{◌≡◌, ℕ, zero, suc, ◌+◌, ◌<◌, ◌≤◌, Bool, true, false, ◌&&◌, ◌||◌, ◌==◌, List, [], ◌∷◌, length, ◌⊎◌, inl, inr, ⊎_elim, refl, sym, ap, subst, ◌∙◌, arith}
 use Rattle.std.specs.Prelude.{slice_get}
-use Rattle.std.proofs.lemmas.Bool.{eqb-true, eq-eqb}
+use Rattle.std.proofs.lemmas.Bool.{eqb-true, eq-eqb, both_ways, and_from, or_parts, or_from, cases_Bool, cases_lt}
 use Rattle.cr_syntax.specs.declared.word.Word.{Word}
 use Rattle.cr_syntax.specs.declared.word.Word.TheVariants as word
 use Rattle.cr_syntax.specs.declared.node.Kind.{Kind}
@@ -12,7 +12,7 @@ use Rattle.cr_syntax.specs.declared.symbol.Context.{Context}
 use Rattle.cr_syntax.specs.Words.{Lexeme}
 use Rattle.cr_syntax.specs.Scopes.{Scopes}
 use Rattle.cr_syntax.specs.Trees.{Trees, none, node, one, ◌&◌}
-use Rattle.cr_syntax.specs.Context.{fresh, past_token, past_part}
+use Rattle.cr_syntax.specs.Context.{fresh}
 use Rattle.cr_syntax.specs.Grammar.{inner_list, closing}
 use Rattle.cr_syntax.specs.Grammar as grammar
 use Rattle.cr_syntax.specs.Spells.{Limit, AtMost, Upto, Is, Spells, a, rest}
@@ -25,12 +25,12 @@ use Rattle.cr_syntax.specs.MachineBody.{body, assigned, operated, prefixed, suff
 use Rattle.cr_syntax.specs.MachineLaws.{IsStart}
 use Rattle.cr_syntax.specs.Expressions.{Start, ShowsFrom, OutsideFrom, compound_literal, called_expression, bit_field, unused_keyword}
 use Rattle.cr_syntax.proofs.Tests.{both}
-use Rattle.cr_syntax.proofs.MachineRuns.{reach}
-use Rattle.cr_syntax.proofs.MachineEnds.{barring, Ends, end_pass, end_no, end_bar, end_here, end_look, end_set, end_behind, end_inside}
+use Rattle.cr_syntax.proofs.MachineRuns.{reach, same}
+use Rattle.cr_syntax.proofs.MachineEnds.{Way, barring, Ends, refused_so, end_pass, end_no, end_bar, end_here, end_look, end_set, end_behind, end_inside}
 use Rattle.cr_syntax.proofs.MachineSpells as facts
 use Rattle.cr_syntax.proofs.MachineSpells.{and_none, is_one, forth}
 use Rattle.cr_syntax.proofs.MachineGives.{AllRows, no_rows, also, gives}
-use Rattle.cr_syntax.proofs.MachineKept.{Kept, runs_kept, not_both}
+use Rattle.cr_syntax.proofs.MachineKept.{Kept, runs_kept}
 use Rattle.cr_syntax.proofs.MachineMeans.{Means, IsDeclared, with_name, without, has_some}
 use Rattle.cr_syntax.proofs.MachineSound.{each, runs_sound, part_some}
 use Rattle.cr_syntax.proofs.MachineFirst.{none_true, yes, differs}
@@ -38,9 +38,10 @@ use Rattle.cr_syntax.proofs.MachineTasks as task
 use Rattle.cr_syntax.proofs.MachineBegins.{named_first, is_named}
 use Rattle.cr_syntax.proofs.MachineDeclarators.{consts_go, named_const}
 use Rattle.cr_syntax.proofs.MachineComplete.{completes, spelled_is_read, free_at_end, get_some}
+use Rattle.cr_syntax.proofs.MachineWays.{Point, at, same_way}
 use Rattle.cr_syntax.proofs.MachineMarks.{Barred, barred_on, or_so, Marks, Behind, marks_choose, same_test, marked}
 
--- the brace of a compound literal, the bracket of a call, the colon of a bit-field
+-- the brace of a compound literal, the bracket of a called expression, the colon of a bit-field
 pub data Form : Type 0 where
   literal : Form
   calling : Form
@@ -51,10 +52,10 @@ row_of literal = 3
 row_of calling = 4
 row_of field = 5
 
-abbrev pub word_of : Form → Word
-word_of literal = word.LeftBrace
-word_of calling = word.LeftParen
-word_of field = word.Colon
+abbrev pub token_of : Form → Word
+token_of literal = word.LeftBrace
+token_of calling = word.LeftParen
+token_of field = word.Colon
 
 abbrev is_literal : Form → Bool
 is_literal literal = true
@@ -112,15 +113,15 @@ field_mark : (k : ℕ) (l : Kind) (i j : ℕ) (b : Trees) → member_before k l 
 field_mark k kind.MemberDeclaration i j b q = q
 field_mark k _ i j b q = none_true q
 
-literal_facts : (r : Form) → is_literal r ≡ true → (word_of r ≡ word.LeftBrace) × (3 ≡ row_of r)
+literal_facts : (r : Form) → is_literal r ≡ true → (token_of r ≡ word.LeftBrace) × (3 ≡ row_of r)
 literal_facts literal q = (refl, refl)
 literal_facts _ q = none_true q
 
-calling_facts : (r : Form) → is_calling r ≡ true → (word_of r ≡ word.LeftParen) × (4 ≡ row_of r)
+calling_facts : (r : Form) → is_calling r ≡ true → (token_of r ≡ word.LeftParen) × (4 ≡ row_of r)
 calling_facts calling q = (refl, refl)
 calling_facts _ q = none_true q
 
-field_facts : (r : Form) → is_field r ≡ true → (word_of r ≡ word.Colon) × (5 ≡ row_of r)
+field_facts : (r : Form) → is_field r ≡ true → (token_of r ≡ word.Colon) × (5 ≡ row_of r)
 field_facts field q = (refl, refl)
 field_facts _ q = none_true q
 
@@ -213,29 +214,9 @@ row_unmarked _ = refl
 
 -- Which of a row's trees begin or end at a token.
 
-decided : (b : Bool) → (b ≡ true) ⊎ (b ≡ false)
-decided true = inl refl
-decided false = inr refl
-
 or_none : (b : Bool) → b || false ≡ b
 or_none true = refl
 or_none false = refl
-
-or_parts : (x y : Bool) → x || y ≡ false → (x ≡ false) × (y ≡ false)
-or_parts true y q = cc
-or_parts false y q = (refl, q)
-
-or_both : (x y : Bool) → x ≡ false → y ≡ false → x || y ≡ false
-or_both x y p q = (ap (λ b. b || y) p) ∙ q
-
-and_both : (x y : Bool) → x ≡ true → y ≡ true → x && y ≡ true
-and_both x y p q = (ap (λ b. b && y) p) ∙ q
-
-strictly : (i k : ℕ) → i ≤ k → (i ≡ k → ⊥) → i < k
-strictly zero zero le f = absurd (f refl)
-strictly zero (suc k) le f = omega arith
-strictly (suc i) zero le f = absurd (omega arith)
-strictly (suc i) (suc k) le f = let n = strictly i k (omega arith) (λ q. f (ap suc q)) in omega arith
 
 begins_second : (k : ℕ) {l l' : Kind} {s e i j : ℕ} {b b' t u : Trees} → t ≡ one l s e b → u ≡ one l' i j b' → one_begins_at k (after_first (t & u & none)) ≡ (i == k)
 begins_second k {i = i} {u = u} q q' =
@@ -243,7 +224,7 @@ begins_second k {i = i} {u = u} q q' =
 
 ends_nowhere : (k : ℕ) (t u : Trees) → one_ends_at k t ≡ false → one_ends_at k u ≡ false → one_ends_at k (t & u) ≡ false
 ends_nowhere k none u x y = y
-ends_nowhere k (node l i j b n) u x y = let v = or_parts (j == k) (one_ends_at k n) x in or_both (j == k) (one_ends_at k (n & u)) v.0 (ends_nowhere k n u v.1 y)
+ends_nowhere k (node l i j b n) u x y = let v = or_parts (j == k) (one_ends_at k n) x in or_from (j == k) (one_ends_at k (n & u)) v.0 (ends_nowhere k n u v.1 y)
 
 ends_later : (k : ℕ) (t u : Trees) → has_some t ≡ true → one_ends_at k (after_first t) ≡ false → one_ends_at k u ≡ false → one_ends_at k (after_first (t & u)) ≡ false
 ends_later k none u q x y = cc
@@ -257,7 +238,7 @@ some_more (node l i j b n) u q = refl
 declares_more : (f : Bool) (k : ℕ) (t : Trees) {l : Kind} {i j : ℕ} {b u : Trees} → has_some t ≡ true → f && one_ends_at k (after_first t) ≡ false → u ≡ one l i j b → f && (j == k) ≡ false →
     f && one_ends_at k (after_first (t & u & none)) ≡ false
 declares_more false k t q x e y = refl
-declares_more true k t {j = j} {u = u} q x e y = ends_later k t (u & none) q x (subst (λ z. one_ends_at k (z & none) ≡ false) (sym e) (or_both (j == k) false y refl))
+declares_more true k t {j = j} {u = u} q x e y = ends_later k t (u & none) q x (subst (λ z. one_ends_at k (z & none) ≡ false) (sym e) (or_from (j == k) false y refl))
 
 declares_none : (f : Bool) (k : ℕ) {l : Kind} {i j : ℕ} {b t : Trees} → t ≡ one l i j b → f && one_ends_at k (after_first (t & none)) ≡ false
 declares_none false k e = refl
@@ -284,7 +265,7 @@ module _ (r : Form) (k : ℕ) where
   clean_two {t = t} {u = u} x y = clean_and t (u & none) x (clean_alone {t = u} y)
 
   clean_by : {l : Kind} {i j : ℕ} {b : Trees} → mark r k l i j b ≡ false → Clean b → Clean (one l i j b)
-  clean_by {l = l} {i = i} {j = j} {b = b} n x (has_here q) = not_both (mark r k l i j b) q n
+  clean_by {l = l} {i = i} {j = j} {b = b} n x (has_here q) = both_ways (mark r k l i j b) n q
   clean_by n x (has_inside h) = x h
   clean_by n x (has_after h) = clean_none h
 
@@ -367,7 +348,7 @@ before_colon {ts = ts} {limit = limit} {h = h} {c = c} {e = e} {d = d} {i = i} {
     (run_here (run_take (yes q') v (run_call (consts_go ts limit x (named_const (named_first facts.by_declarator s)))
     (run_no refl (run_call (before_colon s q) (run_yes (is_named facts.by_declarator s) (run_here run_give)))))))
 
-module _ (ts us : List Lexeme) (limit top : Limit) (r : Form) (k : ℕ) (stands : Is ts k (word_of r))
+module _ (ts us : List Lexeme) (limit top : Limit) (r : Form) (k : ℕ) (stands : Is ts k (token_of r))
     (alike : (n : ℕ) → n < k → slice_get us n ≡ slice_get ts n)
     (allowed : (g : Manner) (n d : ℕ) → n < k → Allows limit g n d → Allows top g n d) where
   abbrev Owes : Prog → (Trees → Scopes → ℕ → Type 0) → Scopes → ℕ → Type 0
@@ -377,7 +358,7 @@ module _ (ts us : List Lexeme) (limit top : Limit) (r : Form) (k : ℕ) (stands 
   Bars p c i = Barred body ts top (row_of r) k p c i
 
   abbrev There : Prog → (Trees → Scopes → ℕ → Type 0) → Scopes → ℕ → Type 0
-  There p f c i = Owes p f c i ⊎ (i ≤ k) × Bars p c i
+  There = Behind body ts us limit top (row_of r) k (Unmarked r k)
 
   abbrev Reads : Goal → Scopes → ℕ → Trees → Scopes → ℕ → Type 0
   Reads g c i t e j = Runs body us limit (body g) c i (Done t e j)
@@ -391,11 +372,8 @@ module _ (ts us : List Lexeme) (limit top : Limit) (r : Form) (k : ℕ) (stands 
   means_there g {c = c} {e = e} {i = i} {j = j} {t = t} h le = gives body us ts limit top Kept (Means ts top) runs_kept (each ts top) h (Means ts top g c i)
       (λ n lt. sym (alike n (omega arith))) (λ x n d lt w. allowed x n d (omega arith) w) (each ts top g c i)
 
-  one_of : {p : Part} {h : Context} {c e : Scopes} {d i j : ℕ} {t : Trees} → Spells us limit (a p) h c e d t i j → (l : Kind) × (b : Trees) × (t ≡ one l i j b)
-  one_of s = is_one s
-
   -- the form's token, where its row is known
-  at_token : {i : ℕ} (w : Word) → word_of r ≡ w → i ≡ k → Is ts i w
+  at_token : {i : ℕ} (w : Word) → token_of r ≡ w → i ≡ k → Is ts i w
   at_token {i = i} w q e = subst (λ j. Is ts j w) (sym e) (subst (λ v. Is ts k v) q stands)
 
   ends_at : {p : Prog} {c : Scopes} {i : ℕ} (n : ℕ) (x : m.Test) (d : ℕ) → n ≡ row_of r → i ≡ k → Ends body ts top p c i (barring x n d) i → Bars p c i
@@ -418,7 +396,7 @@ module _ (ts us : List Lexeme) (limit top : Limit) (r : Form) (k : ℕ) (stands 
   joins l j d s b f c i g = ⊎_elim
       (λ y. let v = both (is_calling r) (i == k) y in let e : i ≡ k = eqb-true i k v.1 in inr ((v.0, e), called_here l j d s b c i v.0 e))
       (λ y. inl (λ t e n le h x. inl (g t e n (λ z. x (clean_by r k ((joined r k l j s i b).0 ∙ y) z)))))
-      (decided (is_calling r && (i == k)))
+      (cases_Bool (is_calling r && (i == k)))
 
   joins_there : (l : Kind) → is_joined l ≡ true → (d s : ℕ) (b : Trees) (f : Trees → Scopes → ℕ → Type 0) (c : Scopes) (i : ℕ) →
       ((t : Trees) (e : Scopes) (j : ℕ) → (Clean r k b → Clean r k t) → f t e j) → There (suffixed d s b l) f c i
@@ -434,13 +412,13 @@ module _ (ts us : List Lexeme) (limit top : Limit) (r : Form) (k : ℕ) (stands 
   text_joins : (d s : ℕ) (c : Scopes) (i : ℕ) → There (call (texts d) (λ _. suffixed d s none kind.Text)) (λ t e j. Clean r k t) c i
   text_joins d s c i = ⊎_elim
       (λ y. let v = both (is_calling r) (i == k) y in let e : i ≡ k = eqb-true i k v.1 in
-          inr (omega arith, barred_on (called_here kind.Text refl d s none c i v.0 e) (λ x n z. end_behind (run_pass (differs (at_token word.LeftParen (calling_facts r v.0).0 e) word.Text refl) run_give) z)))
+      inr (omega arith, barred_on (called_here kind.Text refl d s none c i v.0 e) (λ x n z. end_behind (run_pass (differs (at_token word.LeftParen (calling_facts r v.0).0 e) word.Text refl) run_give) z)))
       (λ y. inl (λ t e j le h x. or_so (joins kind.Text refl d s none (λ t e j. Clean r k t) e j (λ t' e' j' z. z (clean_none r k)))
-          (λ z. (before y le z.0.0 z.0.1, barred_on z.1 (λ x' n v. end_behind (texts_there z.0.0 h z.0.1) v)))))
-      (decided (is_calling r && (i == k)))
+      (λ z. (before y le z.0.0 z.0.1, barred_on z.1 (λ x' n v. end_behind (texts_there z.0.0 h z.0.1) v)))))
+      (cases_Bool (is_calling r && (i == k)))
     where
       before : {j : ℕ} → is_calling r && (i == k) ≡ false → i ≤ j → is_calling r ≡ true → j ≡ k → i < k
-      before y le q e = strictly i k (omega arith) (λ e'. not_both (is_calling r && (i == k)) (and_both (is_calling r) (i == k) q (eq-eqb i k e')) y)
+      before y le q e = ⊎_elim (λ lt. lt) (λ ge. let e' : i ≡ k = omega arith in absurd (both_ways (is_calling r && (i == k)) y (and_from (is_calling r) (i == k) q (eq-eqb i k e')))) (cases_lt i k)
 
   arguments_there : (x : Trees) {d i j : ℕ} {c e : Scopes} {t : Trees} → Reads (arguments d x) c i t e j → j ≡ k → (i < k) × Runs body ts top (body (arguments d x)) c i (Done t e j)
   arguments_there x {d = d} {i = i} {j = j} {c = c} {e = e} h w =
@@ -458,10 +436,10 @@ module _ (ts us : List Lexeme) (limit top : Limit) (r : Form) (k : ℕ) (stands 
       There (bar (the word.LeftBrace) 3 (d + 1) (call (cast (d + 1)) (λ x. made kind.Cast s (t & x & none)))) (λ t e j. Clean r k t) c i
   operand_there d s c i e x = ⊎_elim
       (λ y. let v = both (is_literal r) (i == k) y in let w = literal_facts r v.0 in let e' : i ≡ k = eqb-true i k v.1 in
-          inr (omega arith, ends_at 3 (the word.LeftBrace) (d + 1) w.1 e' (end_bar (yes (at_token word.LeftBrace w.0 e')))))
+      inr (omega arith, ends_at 3 (the word.LeftBrace) (d + 1) w.1 e' (end_bar (yes (at_token word.LeftBrace w.0 e')))))
       (λ y. inl (λ u f j le h x'. let w = is_one (runs_sound (cast (d + 1)) c f i j u h fresh) in
-          inl (clean_by r k ((ap (λ b. is_literal r && b) (begins_second k e w.2)) ∙ y) (clean_two r k x x'))))
-      (decided (is_literal r && (i == k)))
+      inl (clean_by r k ((ap (λ b. is_literal r && b) (begins_second k e w.2)) ∙ y) (clean_two r k x x'))))
+      (cases_Bool (is_literal r && (i == k)))
 
   -- The declarator of a member, which ends here.
 
@@ -480,13 +458,13 @@ module _ (ts us : List Lexeme) (limit top : Limit) (r : Form) (k : ℕ) (stands 
   member_owes : (h : Context) (d s : ℕ) (x : Trees) (c : Scopes) (i : ℕ) → Owes (call (declarator named h d) (λ t. drops (member_end h d s x t))) (Unmarked r k (member_declarators h d s x) c i) c i
   member_owes h d s x c i = λ t e j le g y. ⊎_elim
       (λ z. let v = both (is_field r) (j == k) z in let w = field_facts r v.0 in let e' : j ≡ k = eqb-true j k v.1 in let n = declarator_there v.0 g e' in
-          inr (n.0, barred_on (ends_at 5 (the word.Colon) d w.1 e' (end_look (end_set (end_bar (yes (at_token word.Colon w.0 e')))))) (λ x' n' z'. end_behind n.1 z')))
+      inr (n.0, barred_on (ends_at 5 (the word.Colon) d w.1 e' (end_look (end_set (end_bar (yes (at_token word.Colon w.0 e')))))) (λ x' n' z'. end_behind n.1 z')))
       (λ z. let w = declarator_one (runs_sound (declarator named h d) c e i j t g) in
-          inl (
-            inl (λ t' e' j' _ _ y'. inl (λ q o f. y' (clean_two r k q y) (some_more x t o) (declares_more (is_field r) k x o f w.2 z))),
-            (inl (λ q o f. clean_by r k (declares_more (is_field r) k x o f w.2 z) (clean_two r k q y)), tt),
-          ))
-      (decided (is_field r && (j == k)))
+      inl (
+        inl (λ t' e' j' _ _ y'. inl (λ q o f. y' (clean_two r k q y) (some_more x t o) (declares_more (is_field r) k x o f w.2 z))),
+        (inl (λ q o f. clean_by r k (declares_more (is_field r) k x o f w.2 z) (clean_two r k q y)), tt),
+      ))
+      (cases_Bool (is_field r && (j == k)))
 
   -- What the goals owe.
 
@@ -642,7 +620,7 @@ allows_before k most opens n d lt w = w lt
 allows_before k most reopens n d lt w = (tt, w.1 lt)
 
 -- a form's token behind its tree is refused by the form's row
-pub form_is_barred : (r : Form) {ts : List Lexeme} (s : Start) {k : ℕ} {test : Kind → ℕ → ℕ → Trees → Bool} → IsStart s.part → Is ts k (word_of r) →
+pub form_is_barred : (r : Form) {ts : List Lexeme} (s : Start) {k : ℕ} {test : Kind → ℕ → ℕ → Trees → Bool} → IsStart s.part → Is ts k (token_of r) →
     ((l : Kind) (i j : ℕ) (b : Trees) → test l i j b ≡ true → mark r k l i j b ≡ true) → ShowsFrom ts s k test →
     Barred body ts (AtMost most_levels) (row_of r) k (body (start_goal s.part s.depth)) s.scopes s.at
 form_is_barred r {ts = ts} s {k = k} z q f b = ⊎_elim
@@ -661,3 +639,16 @@ outside_is_barred s z f (unused_keyword q u) = absurd (f refl)
 outside_is_barred s {k = k} z f (compound_literal q b) = form_is_barred literal s z q (literal_mark k) b
 outside_is_barred s {k = k} z f (called_expression q b) = form_is_barred calling s z q (calling_mark k) b
 outside_is_barred s {k = k} z f (bit_field q b) = form_is_barred field s z q (field_mark k) b
+
+-- where it refuses one, no such row names another token, and no other row that one
+pub data IsBarring (n k : ℕ) : Point → Type 0 where
+  by_row : {x : m.Test} {d : ℕ} → IsBarring n k (at (barring x n d) k)
+
+pub outside_is_end : {ts : List Lexeme} (s : Start) {i k n : ℕ} {w : Way} → IsStart s.part → Ends body ts (AtMost most_levels) (body (start_goal s.part s.depth)) s.scopes s.at w k →
+    (n ≡ 1 → ⊥) → OutsideFrom ts s i n → IsBarring n i (at w k)
+outside_is_end s {i = i} {n = n} z y f o = let b = outside_is_barred s z f o in subst (λ p. IsBarring n i p) (same_way b.ends y) by_row
+
+-- where it reads the part, such a row names no token
+pub outside_is_refused : {ts : List Lexeme} (s : Start) {i j n : ℕ} {t : Trees} {e : Scopes} → IsStart s.part → Runs body ts (AtMost most_levels) (body (start_goal s.part s.depth)) s.scopes s.at (Done t e j) →
+    (n ≡ 1 → ⊥) → OutsideFrom ts s i n → ⊥
+outside_is_refused s z h f o = let b = outside_is_barred s z f o in let q = same h (refused_so b.ends) in cc

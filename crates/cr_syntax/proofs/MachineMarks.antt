@@ -1,6 +1,6 @@
 -- A mark in the trees that a program gives of one text: on another text with the same tokens before it, the program is
 -- refused there by a row of the refused forms.
-use Rattle.std.proofs.Common.{◌≡◌, ℕ, ◌+◌, ◌<◌, ◌≤◌, Bool, true, false, List, [], ◌∷◌, ◌⊎◌, inl, inr, ⊎_elim, refl, sym, subst, ◌∙◌, arith}
+use Rattle.std.proofs.Common.{◌≡◌, ℕ, ◌+◌, ◌<◌, ◌≤◌, Bool, true, false, List, ◌⊎◌, inl, inr, ⊎_elim, sym, subst, ◌∙◌, arith}
 use Rattle.std.specs.Prelude.{slice_get}
 use Rattle.cr_syntax.specs.declared.word.Word.{Word}
 use Rattle.cr_syntax.specs.declared.node.Kind.{Kind}
@@ -12,7 +12,7 @@ use Rattle.cr_syntax.specs.Machine.{Goal, Prog, Manner, Test, Reply, Done, Faile
 use Rattle.cr_syntax.specs.MachineBody.{Words}
 use Rattle.cr_syntax.specs.MachineLaws.{end_of}
 use Rattle.cr_syntax.proofs.MachineRuns.{OnDone, reach, passes_same, brought_same}
-use Rattle.cr_syntax.proofs.MachineEnds.{Way, barring, Ends, end_take, end_pass, end_free, end_seen, end_unseen, end_yes, end_no, end_here, end_look, end_set, end_bring, end_behind, end_inside}
+use Rattle.cr_syntax.proofs.MachineEnds.{barring, Ends, end_take, end_pass, end_free, end_seen, end_unseen, end_yes, end_no, end_here, end_look, end_set, end_bring, end_behind, end_inside}
 use Rattle.cr_syntax.proofs.MachineGives.{AllRows, no_rows, also}
 
 -- token k is refused by row n
@@ -110,8 +110,11 @@ module _ (body : Goal → Prog) (ts us : List Lexeme) (limit top : Limit) (n k :
     marked (run_look h) f y = or_so (marked h f y) (λ b. (b.0, barred_on b.1 (λ x d z. end_look z)))
     marked (run_set h) f y = or_so (marked h f y) (λ b. (b.0, barred_on b.1 (λ x d z. end_set z)))
     marked {c = c} {i = i} (run_bring {k = m} {b = a} {p = p} h) f y =
-        or_so (marked h f y) (λ b. (b.0, barred_on b.1 (λ x d z. end_bring
-        (subst (λ v. Ends body ts top p (enter v c) i (barring x n d) k) (brought_same ts us i m a (λ j lt. let le = b.0 in alike j (omega arith))) z))))
+        or_so (marked h f y) (λ b. (
+          b.0,
+          barred_on b.1 (λ x d z. end_bring
+              (subst (λ v. Ends body ts top p (enter v c) i (barring x n d) k) (brought_same ts us i m a (λ j lt. let le = b.0 in alike j (omega arith))) z)),
+        ))
     marked {c = c} {i = i} {r = r} (run_call {g = g} {f = p} {t = t} {e = e} {j = j} h h') f y =
         ⊎_elim (λ z. ⊎_elim (λ v. or_so (marked h' f v) (λ b. inside b.0 b.1)) inr (y t e j le h z))
         (λ b. inr (b.0, barred_on b.1 (λ x d v. end_inside v))) (marked h (means g c i) (each g c i))

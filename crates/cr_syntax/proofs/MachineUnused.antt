@@ -1,5 +1,6 @@
 -- A text of the grammar has none of the keywords that no alternative has.
-use Rattle.std.proofs.Common.{◌≡◌, ℕ, zero, suc, ◌+◌, ◌<◌, ◌≤◌, Bool, true, false, not, ◌&&◌, List, [], ◌∷◌, Some, ◌⊎◌, inl, inr, ⊎_elim, refl, sym, subst, ◌∙◌, arith}
+use Rattle.std.proofs.Common.{◌≡◌, ℕ, ◌+◌, ◌<◌, ◌≤◌, Bool, true, false, not, ◌&&◌, List, [], ◌∷◌, ⊎_elim, refl, sym, subst, ◌∙◌, arith}
+use Rattle.std.proofs.lemmas.Bool.{cases_lt}
 use Rattle.cr_syntax.specs.declared.word.Word.{Word}
 use Rattle.cr_syntax.specs.declared.node.Kind.{Kind}
 use Rattle.cr_syntax.specs.declared.node.Kind.TheVariants as kind
@@ -7,7 +8,7 @@ use Rattle.cr_syntax.specs.declared.symbol.Part.{Part}
 use Rattle.cr_syntax.specs.declared.symbol.Symbol.{Symbol}
 use Rattle.cr_syntax.specs.declared.symbol.Symbol.TheVariants as symbol
 use Rattle.cr_syntax.specs.declared.symbol.Context.{Context}
-use Rattle.cr_syntax.specs.Words.{Lexeme, word_at}
+use Rattle.cr_syntax.specs.Words.{Lexeme}
 use Rattle.cr_syntax.specs.Scopes.{Scopes}
 use Rattle.cr_syntax.specs.Trees.{Trees}
 use Rattle.cr_syntax.specs.Grammar.{Side, Alternative}
@@ -17,7 +18,7 @@ use Rattle.cr_syntax.specs.Spells as spells
 use Rattle.cr_syntax.specs.Units.{is_unused}
 use Rattle.cr_syntax.specs.Expressions.{Start, BeginsFrom}
 use Rattle.cr_syntax.proofs.Alternatives.{side_only}
-use Rattle.cr_syntax.proofs.Tests.{both, not_true}
+use Rattle.cr_syntax.proofs.Tests.{both, not_true, some_one}
 use Rattle.cr_syntax.proofs.MachineRuns.{word_same}
 use Rattle.cr_syntax.proofs.MachineComplete.{get_some}
 use Rattle.cr_syntax.proofs.MachineForms.{within}
@@ -49,25 +50,19 @@ IsUsed (rest s) = all_used s ≡ true
 pub record AreUsed (ts : List Lexeme) (i j : ℕ) : Type 0 where
   pub all : (n : ℕ) (w : Word) → i ≤ n → n < j → Is ts n w → is_unused w ≡ false
 
-before_or : (i j : ℕ) → (i < j) ⊎ (j ≤ i)
-before_or i zero = inr (omega arith)
-before_or zero (suc j) = inl (omega arith)
-before_or (suc i) (suc j) = ⊎_elim (λ n. inl (omega arith)) (λ n. inr (omega arith)) (before_or i j)
-
-one_word : {v w : Word} → Some v ≡ Some w → v ≡ w
-one_word q = cc
-
 module _ {ts : List Lexeme} where
   no_token : {i j : ℕ} → j ≤ i → AreUsed ts i j
   no_token le = record { all = λ n w ge lt q. absurd (omega arith) }
 
   and_then : {i j k : ℕ} → AreUsed ts i j → AreUsed ts j k → AreUsed ts i k
-  and_then {j = j} x y = record { all = λ n w ge lt q. ⊎_elim (λ b. x.all n w ge b q) (λ b. y.all n w b lt q) (before_or n j) }
+  and_then {j = j} x y = record { all = λ n w ge lt q. ⊎_elim (λ b. x.all n w ge b q) (λ b. y.all n w b lt q) (cases_lt n j) }
 
   one_token : {i : ℕ} {v : Word} → Is ts i v → is_unused v ≡ false → AreUsed ts i (i + 1)
-  one_token {i = i} q u = record { all = λ n w ge lt q'.
-      let e : n ≡ i = omega arith in
-      subst (λ v. is_unused v ≡ false) (one_word (sym q ∙ subst (λ k. Is ts k w) e q')) u }
+  one_token {i = i} q u = record {
+    all = λ n w ge lt q'.
+        let e : n ≡ i = omega arith in
+        subst (λ v. is_unused v ≡ false) (some_one (sym q ∙ subst (λ k. Is ts k w) e q')) u;
+  }
 
   first : {i j : ℕ} {v : Word} → Is ts i v → is_unused v ≡ false → AreUsed ts (i + 1) j → AreUsed ts i j
   first q u x = and_then (one_token q u) x
