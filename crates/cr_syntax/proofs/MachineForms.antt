@@ -69,7 +69,7 @@ abbrev is_field : Form → Bool
 is_field field = true
 is_field _ = false
 
--- a node behind a part of which, or behind which, the form's token stands
+-- a node behind which, or behind a part of which, the form's token stands
 abbrev pub mark : Form → ℕ → Kind → ℕ → ℕ → Trees → Bool
 mark r k kind.Cast i j b = is_literal r && one_begins_at k (after_first b)
 mark r k kind.Call i j b = is_calling r && (j == k)
@@ -640,10 +640,11 @@ outside_is_barred s {k = k} z f (compound_literal q b) = form_is_barred literal 
 outside_is_barred s {k = k} z f (called_expression q b) = form_is_barred calling s z q (calling_mark k) b
 outside_is_barred s {k = k} z f (bit_field q b) = form_is_barred field s z q (field_mark k) b
 
--- where it refuses one, no such row names another token, and no other row that one
+-- token k is refused by row n
 pub data IsBarring (n k : ℕ) : Point → Type 0 where
   by_row : {x : m.Test} {d : ℕ} → IsBarring n k (at (barring x n d) k)
 
+-- where the machine refuses a token, no such row names another one, and no other row that one
 pub outside_is_end : {ts : List Lexeme} (s : Start) {i k n : ℕ} {w : Way} → IsStart s.part → Ends body ts (AtMost most_levels) (body (start_goal s.part s.depth)) s.scopes s.at w k →
     (n ≡ 1 → ⊥) → OutsideFrom ts s i n → IsBarring n i (at w k)
 outside_is_end s {i = i} {n = n} z y f o = let b = outside_is_barred s z f o in subst (λ p. IsBarring n i p) (same_way b.ends y) by_row
