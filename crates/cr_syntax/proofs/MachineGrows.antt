@@ -28,7 +28,7 @@ use Rattle.cr_syntax.proofs.MachineSpells.{and_none, and_and, pushed, is_one, na
 use Rattle.cr_syntax.proofs.MachineGives.{AllRows, no_rows, also}
 use Rattle.cr_syntax.proofs.MachineKept.{Kept, runs_kept}
 use Rattle.cr_syntax.proofs.MachineMeans.{Means, Reads, Behind, IsDeclared, with_name, without, IsSize, unsized, IsParameterRow, first_one, next_one, IsRowBegin, IsOpen, has_some, start_part, is_level, row_part, element_part}
-use Rattle.cr_syntax.proofs.MachineSound.{Declared, group_named, group_unnamed, Assigns, assignment_rows, Prefixes, unary_rows, cast_rows, IsConstant, constant_rows, Follows, postfix_rows, open_of, part_some, pushed_some, many_of, start_means, level_up, plain_up, specifier_rows, Specifies, dropped_member, array_of, array_size, parameters_of, at_end, hears_nothing, row_of_parameters, row_alone, row_made}
+use Rattle.cr_syntax.proofs.MachineSound.{Declared, group_named, group_unnamed, Assigns, assignment_rows, Prefixes, unary_rows, cast_rows, IsConstant, constant_rows, Follows, postfix_rows, open_of, part_some, pushed_some, many_of, level_up, plain_up, specifier_rows, Specifies, dropped_member, array_of, array_size, parameters_of, at_end, hears_nothing, row_of_parameters, row_alone, row_made}
 use Rattle.cr_syntax.proofs.MachineFails.{Fails, words_fail}
 use Rattle.cr_syntax.proofs.MachineEnds.{Way}
 use Rattle.cr_syntax.proofs.MachineShown.{Next, next_literal, next_call, next_field, next_free, next_more, next_so, Shown, shown_literal, shown_call, shown_field, shown_free, shown_so, Room, Barred, has_left, left, right, inside, first, second, third, row_shown, parameter_shown, parameters_shown, operand_begins, postfix_ends, declarator_ends}
@@ -129,7 +129,7 @@ module _ (us : List Lexeme) (top : Limit) (way : Way) (late : (g : Manner) (i d 
       ((all : List Lexeme) → Front us all → Is all i w → Is all (i + 1) w' → Is all (i + 1 + 1) w'' → length us ≤ i → Built all top q h c d s (i + 1 + 1 + 1)) → Grown us top way q h c d s
   put3 z w w' w'' k = grown3 z.here w w' w'' (λ all q. next_free z.free) (λ all f q q' q'' le. let b = k all f q q' q'' le in (b.0, b.1, b.2, shown_free z.free))
 
-  -- no token, one and two behind a phrase that is grown
+  -- some tokens, or none, behind a phrase that is grown
 
   more0 : {q q' : Phrase} {h h' : Context} {c c' : Scopes} {d d' s s' : ℕ} → Grown us top way q h c d s →
       ((all : List Lexeme) (f : Front us all) (t : Trees) (e : Scopes) (j : ℕ) → length us < j → Spells all top q h c e d t s j → Shown (length us) t way → Shows all top way (length us) q' h' c' d' s' j) → Grown us top way q' h' c' d' s'
@@ -167,6 +167,28 @@ module _ (us : List Lexeme) (top : Limit) (way : Way) (late : (g : Manner) (i d 
         late = omega arith;
         next = next_more (front_then x.front y.front) g.next;
         built = k y.all f g.built.0 g.built.1 g.end g.late (weaken (front_then x.front y.front) g.built.2) (y.front.words _ _ x.word) y.word g.built.3;
+      }
+
+  more4 : {q q' : Phrase} {h h' : Context} {c c' : Scopes} {d d' s s' : ℕ} → Grown us top way q h c d s → (w1 w2 w3 w4 : Word) →
+      ((all : List Lexeme) (f : Front us all) (t : Trees) (e : Scopes) (j : ℕ) → length us < j → Spells all top q h c e d t s j → Is all j w1 → Is all (j + 1) w2 → Is all (j + 1 + 1) w3 → Is all (j + 1 + 1 + 1) w4 →
+      Shown (length us) t way → Shows all top way (length us) q' h' c' d' s' (j + 1 + 1 + 1 + 1)) → Grown us top way q' h' c' d' s'
+  more4 g w1 w2 w3 w4 k =
+      let le = g.late in
+      let x1 = longer g.all g.end g.size w1 in
+      let x2 = longer x1.all (g.end + 1) x1.size w2 in
+      let x3 = longer x2.all (g.end + 1 + 1) x2.size w3 in
+      let x4 = longer x3.all (g.end + 1 + 1 + 1) x3.size w4 in
+      let f34 = front_then x3.front x4.front in
+      let f24 = front_then x2.front f34 in
+      let f14 = front_then x1.front f24 in
+      record {
+        all = x4.all;
+        front = front_then g.front f14;
+        end = g.end + 1 + 1 + 1 + 1;
+        size = x4.size;
+        late = omega arith;
+        next = next_more f14 g.next;
+        built = k x4.all (front_then g.front f14) g.built.0 g.built.1 g.end g.late (weaken f14 g.built.2) (f24.words _ _ x1.word) (f34.words _ _ x2.word) (x4.front.words _ _ x3.word) x4.word g.built.3;
       }
 
   -- a constant as each part of an expression
@@ -428,31 +450,14 @@ module _ (us : List Lexeme) (top : Limit) (way : Way) (late : (g : Manner) (i d 
 
   -- a member, from its specifiers
   with_member : {h : Context} {c : Scopes} {d i : ℕ} → Grown us top way (a part.PlainSpecifiers) fresh c d i → Grown us top way (a part.MemberDeclaration) h c d i
-  with_member {d = d} g =
-      let le = g.late in
-      let x1 = longer g.all g.end g.size word.LeftParen in
-      let x2 = longer x1.all (g.end + 1) x1.size word.Identifier in
-      let x3 = longer x2.all (g.end + 1 + 1) x2.size word.RightParen in
-      let x4 = longer x3.all (g.end + 1 + 1 + 1) x3.size word.Semicolon in
-      let f34 = front_then x3.front x4.front in
-      let f24 = front_then x2.front f34 in
-      let f14 = front_then x1.front f24 in
-      let b = bracketed x4.all (past_part fresh g.built.0) g.built.1 d g.end (f24.words _ _ x1.word) (f34.words _ _ x2.word) (x4.front.words _ _ x3.word) (late opens g.end d g.late) (omega arith) in
-      record {
-        all = x4.all;
-        front = front_then g.front f14;
-        end = g.end + 1 + 1 + 1 + 1;
-        size = x4.size;
-        late = omega arith;
-        next = next_more f14 g.next;
-        built = (
-          _,
-          _,
-          spells.of_alternative grammar.struct_declaration refl
-              (spells.part (weaken f14 g.built.2) (spells.list_last {t = b.0} (as_member b.2) (spells.token x4.word (late plain (g.end + 1 + 1 + 1) d (omega arith)) spells.done))),
-          first g.built.3 _,
-        );
-      }
+  with_member {d = d} g = more4 g word.LeftParen word.Identifier word.RightParen word.Semicolon (λ all f t e j le s q1 q2 q3 q4 shown.
+      let b = bracketed all (past_part fresh t) e d j q1 q2 q3 (late opens j d le) (omega arith) in (
+        _,
+        _,
+        spells.of_alternative grammar.struct_declaration refl
+            (spells.part s (spells.list_last {t = b.0} (as_member b.2) (spells.token q4 (late plain (j + 1 + 1 + 1) d (omega arith)) spells.done))),
+        first shown b.0,
+      ))
 
   some_members : (c : Scopes) (d i : ℕ) → Room us top way i (d + 1) → (h : Context) → Grown us top way (rest (grammar.inner part.MemberDeclaration ∷ grammar.inner_many part.MemberDeclaration ∷ closing word.RightBrace ∷ [])) h c d i
   some_members c d i z h = more1 (with_member (some_row fresh c (d + 1) i z)) word.RightBrace (λ all f t e j le x q1 shown. (_, _, spells.part x (spells.many_none (spells.token q1 (late plain j (d + 1) le) spells.done)), left shown _))

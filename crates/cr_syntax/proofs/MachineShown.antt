@@ -3,7 +3,6 @@
 use Rattle.std.proofs.Common.{◌≡◌, ℕ, ◌≤◌, Bool, true, false, List, length, refl, sym, subst, inl, inr}
 use Rattle.std.specs.Prelude.{◌==◌, ◌||◌}
 use Rattle.std.proofs.lemmas.Bool.Decides.{eqb_tells}
-use Rattle.cr_syntax.specs.declared.word.Word.{Word}
 use Rattle.cr_syntax.specs.declared.word.Word.TheVariants as word
 use Rattle.cr_syntax.specs.declared.node.Kind.{Kind}
 use Rattle.cr_syntax.specs.declared.node.Kind.TheVariants as kind
@@ -16,7 +15,7 @@ use Rattle.cr_syntax.specs.Trees.{Trees, none, node, one, ◌&◌}
 use Rattle.cr_syntax.specs.Grammar as grammar
 use Rattle.cr_syntax.specs.Spells.{Limit, Is, Spells, a}
 use Rattle.cr_syntax.specs.Spells as spells
-use Rattle.cr_syntax.specs.Units.{Has, has_here, has_inside, has_after, after_first, one_begins_at, one_ends_at, cast_operand_at, postfix_before, member_before}
+use Rattle.cr_syntax.specs.Units.{Has, has_here, has_inside, has_after, one_begins_at, one_ends_at, cast_operand_at, postfix_before, member_before}
 use Rattle.cr_syntax.specs.Machine.{Manner, Test, the, Allows, levels_at}
 use Rattle.cr_syntax.specs.MachineBody.{is_identifier, in_row, in_parameters}
 use Rattle.cr_syntax.proofs.MachineEnds.{Way, stopped, barring, crowded}

@@ -146,6 +146,14 @@ passes_inside ts c i x v = elim (cases_lt i (length ts)) [
     by : true ≡ false → ⊥
     by q = cc
 
+-- so it is none behind the end
+pub barred_inside : {ts : List Lexeme} {limit : Limit} {p : Prog} {c : Scopes} {i k n d : ℕ} {x : Test} → Ends body ts limit p c i (barring x n d) k → k < length ts
+barred_inside {ts = ts} {k = k} {x = x} h = let t = tested h in passes_inside ts t.0 k x t.1
+
+pub crowded_inside : {ts : List Lexeme} {limit : Limit} {p : Prog} {c : Scopes} {i k : ℕ} → Ends body ts limit p c i crowded k → k < length ts
+crowded_inside {ts = ts} {k = k} h = let t = tested h in passes_inside ts t.1 k t.0 t.2
+
+-- the word that stands in for a refused one comes next
 stands_next : {all : List Lexeme} {k n d : ℕ} {x : Test} {v : Word} → StandsIn n v → Next all k (barring x n d) → Is all k v
 stands_next group_for_literal (next_literal q) = q
 stands_next subscript_for_call (next_call q) = q
@@ -227,7 +235,7 @@ module _ (ts : List Lexeme) (most k : ℕ) (le : k ≤ length ts) (s : Start) (z
   pub stopped_leaves : (m : ℕ) → EndsBy (stopped m) → m < most → BeginsFrom (Leaving k most) ts s k
   stopped_leaves m h y =
       let g = goes_on ts most k le (Leaving k most) (stopped m) leaving_late s k z h (omega arith)
-              (record { here = prefix_length k ts le; fits = λ g d l. leaving_fits k most m y g k d l; free = by_stop }) (leaving_before k most) in
+      (record { here = prefix_length k ts le; fits = λ g d l. leaving_fits k most m y g k d l; free = by_stop }) (leaving_before k most) in
       record { trees = g.built.0; continues = continues ts most k le (Leaving k most) (stopped m) leaving_late s g }
 
   bar_grown : (x : Test) (n m : ℕ) → EndsBy (barring x n m) → Grown (prefix k ts) (Upto k most) (barring x n m) (a s.part) fresh s.scopes s.depth s.at
@@ -250,7 +258,7 @@ module _ (ts : List Lexeme) (most k : ℕ) (le : k ≤ length ts) (s : Start) (z
   pub barred_leaves : (x : Test) (n m : ℕ) → EndsBy (barring x n m) → k < length ts → {v : Word} → StandsIn n v → m < most → BeginsFrom (Upto (k + 1) most) (with_word ts k v) s (k + 1)
   barred_leaves x n m h lt {v = v} y below =
       let g = goes_on ts most k le (Upto (k + 1) most) (barring x n m) (upto_late (k + 1) (omega arith)) s k z h (omega arith)
-              (record { here = prefix_length k ts le; fits = λ g d l. upto_fits (k + 1) most m below g k d l; so = refl }) (λ g i d lt w. allows_upto (k + 1) most g i d w) in
+      (record { here = prefix_length k ts le; fits = λ g d l. upto_fits (k + 1) most m below g k d l; so = refl }) (λ g i d lt w. allows_upto (k + 1) most g i d w) in
       let e = prefix_length k ts le in
       record {
         trees = g.built.0;
@@ -299,4 +307,4 @@ begins_before ts most k le s x z h = let y = ends_so h in by y.way y.ends
     by : (w : Way) → Ends body ts (AtMost most) (body (start_goal s.part s.depth)) s.scopes s.at w k → BeginsFrom (Upto k most) ts s k
     by (stopped d) y = stopped_begins ts most k le s z d y
     by (barring t n d) y = barred_begins ts most k le s z t n d y
-    by crowded y = let t = tested y in begins_less (crowded_begins ts most k le s z y (passes_inside ts t.1 k t.0 t.2))
+    by crowded y = begins_less (crowded_begins ts most k le s z y (crowded_inside y))
