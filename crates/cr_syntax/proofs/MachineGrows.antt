@@ -1,4 +1,5 @@
--- What the machine refuses can go on before the refused token: each goal's program owes a text for each place where it can stop.
+-- What the machine refuses can go on before the refused token: each goal's program owes a text for each place where a token can be
+-- refused, and where a row of the refused forms refuses it, the text shows the row's node.
 use Rattle.std.proofs.Common.{◌≡◌, ℕ, ◌+◌, ◌<◌, ◌≤◌, true, false, List, [], ◌∷◌, length, refl, sym, subst, arith}
 use Rattle.cr_syntax.specs.declared.word.Word.{Word}
 use Rattle.cr_syntax.specs.declared.word.Word.TheVariants as word
