@@ -30,3 +30,4 @@ pub mod MachineExtend
 pub mod MachineFails
 pub mod MachineGrows
 pub mod MachineViable
+pub mod MachineSteady
