@@ -31,3 +31,5 @@ pub mod MachineFails
 pub mod MachineGrows
 pub mod MachineViable
 pub mod MachineSteady
+pub mod MachineRows
+pub mod MachineStuck
