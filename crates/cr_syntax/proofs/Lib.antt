@@ -33,3 +33,5 @@ pub mod MachineViable
 pub mod MachineSteady
 pub mod MachineRows
 pub mod MachineStuck
+pub mod MachineClosed
+pub mod MachineRefused

@@ -146,7 +146,7 @@ module _ (ts us : List Lexeme) (limit top : Limit) (k m : ℕ) (alike : (n : ℕ
   gives_none (run_call {g = g} h h') q le y = let v = y.1 in gives_none h q (omega arith) (eager g y.0)
 
   -- what is read in one text up to token k is read in the other, or nothing is
-  same_done : (l b : ℕ) (o : Bool) {p : Prog} {c e f : Scopes} {i j n : ℕ} {t u : Trees} → Runs body ts limit p c i (Done t e j) → Runs body us top p c i (Done u f n) → Goes ts p l b o c i → j ≤ k → (j ≡ k → m ≤ l) → Done t e j ≡ Done u f n
+  pub same_done : (l b : ℕ) (o : Bool) {p : Prog} {c e f : Scopes} {i j n : ℕ} {t u : Trees} → Runs body ts limit p c i (Done t e j) → Runs body us top p c i (Done u f n) → Goes ts p l b o c i → j ≤ k → (j ≡ k → m ≤ l) → Done t e j ≡ Done u f n
   same_done l b o run_give run_give y le z = refl
   same_done l b o (run_take x a h) (run_take x' a' h') y le z = same_done l _ _ h h' y.2 le z
   same_done l b o {c = c} {i = i} (run_take {x = x} v a h) (run_pass v' h') y le z =
@@ -203,7 +203,7 @@ module _ (ts us : List Lexeme) (limit top : Limit) (k m : ℕ) (alike : (n : ℕ
     pub is : Is us k word
 
   -- where one text is refused at token k, with so many levels or more, nothing is read in the other
-  stuck : (l b : ℕ) (o : Bool) {p : Prog} {c f : Scopes} {i k' n : ℕ} {w : Way} {u : Trees} → Ends body ts limit p c i w k' → Runs body us top p c i (Done u f n) → k' ≡ k → Goes ts p l b o c i → is_crowded w ≡ false → m ≤ levels_by w →
+  pub stuck : (l b : ℕ) (o : Bool) {p : Prog} {c f : Scopes} {i k' n : ℕ} {w : Way} {u : Trees} → Ends body ts limit p c i w k' → Runs body us top p c i (Done u f n) → k' ≡ k → Goes ts p l b o c i → is_crowded w ≡ false → m ≤ levels_by w →
       ((x : Test) (n d : ℕ) → w ≡ barring x n d → Stand n) → (o ≡ true → i ≡ k → Is us k word.LeftBracket → ⊥) → ⊥
   stuck l b o end_stop h' e y cr le st inv = elim h' [ ]
   stuck l b o (end_take x a z) (run_take x' a' h') e y cr le st inv = stuck l _ _ z h' e y.2 cr le st (λ q. none_true q)
