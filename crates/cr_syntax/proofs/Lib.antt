@@ -27,6 +27,7 @@ pub mod MachineTypes
 pub mod MachineDeclarators
 pub mod MachineComplete
 pub mod MachineExtend
+pub mod MachineShown
 pub mod MachineFails
 pub mod MachineGrows
 pub mod MachineViable
