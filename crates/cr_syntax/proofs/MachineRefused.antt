@@ -17,7 +17,7 @@ use Rattle.cr_syntax.specs.Expressions.{Start, Spelled, BeginsFrom}
 use Rattle.cr_syntax.proofs.Tests.{both, not_true}
 use Rattle.cr_syntax.proofs.MachineGives.{Holds, holds}
 use Rattle.cr_syntax.proofs.MachineFirst.{none_true, true_false, free_by}
-use Rattle.cr_syntax.proofs.MachineComplete.{spelled_is_read, free_at_end}
+use Rattle.cr_syntax.proofs.MachineComplete.{spelled_is_read, free_at_end, get_some}
 use Rattle.cr_syntax.proofs.MachineEnds.{Way, stopped, barring, crowded, Ends}
 use Rattle.cr_syntax.proofs.MachineSteady.{enters, leaves, fits, steady}
 use Rattle.cr_syntax.proofs.MachineStuck.{levels_by, is_crowded, Stand, stuck}
@@ -72,11 +72,6 @@ passes_some us c i g (declared typed) f q = (word.Identifier, (holds us c i (dec
 passes_some us c i g (or x y) f q = none_true f
 
 -- Texts.
-
-get_some : (ts : List Lexeme) (i : ℕ) → i < length ts → (x : Lexeme) × (slice_get ts i ≡ Some x)
-get_some [] i lt = absurd (omega arith)
-get_some (x ∷ ts) zero lt = (x, refl)
-get_some (x ∷ ts) (suc i) lt = get_some ts i (omega arith)
 
 -- the tokens of a text that begins as the list does
 same_tokens : (ts us : List Lexeme) (k : ℕ) → k ≤ length ts → ((i : ℕ) (x : Lexeme) → i < k → slice_get ts i ≡ Some x → slice_get us i ≡ Some x) → (n : ℕ) → n < k → slice_get us n ≡ slice_get ts n

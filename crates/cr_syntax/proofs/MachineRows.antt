@@ -11,7 +11,7 @@ use Rattle.cr_syntax.specs.Context.{past_part, any_kind, is_type_specifier}
 use Rattle.cr_syntax.specs.Grammar.{many}
 use Rattle.cr_syntax.specs.Spells.{Limit, Spells, a, rest}
 use Rattle.cr_syntax.specs.Spells as spells
-use Rattle.cr_syntax.specs.Machine.{Goal, Prog, Test, Reply, Done, Runs, passes, has_word, type_identifier, run_give, run_take, run_pass, run_free, run_seen, run_unseen, run_yes, run_no, run_here, run_look, run_set, run_bring, run_call}
+use Rattle.cr_syntax.specs.Machine.{Goal, Prog, Done, Runs, passes, has_word, type_identifier, run_give, run_take, run_pass, run_free, run_seen, run_unseen, run_yes, run_no, run_here, run_look, run_set, run_bring, run_call}
 use Rattle.cr_syntax.specs.Machine as m
 use Rattle.cr_syntax.specs.MachineBody.{body, element_start, in_row, is_specifier_start, is_plain_start}
 use Rattle.cr_syntax.proofs.MachineMeans.{element_part}
@@ -22,6 +22,7 @@ use Rattle.cr_syntax.proofs.MachineBegins.{past_one, row_typed}
 use Rattle.cr_syntax.proofs.MachineFirst.{true_false}
 use Rattle.cr_syntax.proofs.MachineSteady.{Finds, finds, Known}
 use Rattle.cr_syntax.proofs.MachineRuns.{reach, again}
+use Rattle.cr_syntax.proofs.MachineParts.{Within, peeked, at_place, given, within, within_last}
 
 neither_right : (x y : Bool) → x || y ≡ false → y ≡ false
 neither_right true y q = true_false q
@@ -43,32 +44,6 @@ beyond_done (run_set h) y = beyond_done h y
 beyond_done (run_bring h) y = beyond_done h y
 beyond_done {ts = ts} {c = c} {i = i} (run_call {g = g} h k) y = let n = beyond_done h (finds ts g c i y) in let n' = reach k in omega arith
 
--- what a goal that is called answers, and the rest
-pub record Within (ts : List Lexeme) (limit : Limit) (g : Goal) (f : Trees → Prog) (c : Scopes) (i : ℕ) (r : Reply) : Type 0 where
-  pub trees : Trees
-  pub after : Scopes
-  pub end : ℕ
-  pub goal : Runs body ts limit (body g) c i (Done trees after end)
-  pub others : Runs body ts limit (f trees) after end r
-
--- The runs of a program's parts.
-module _ {ts : List Lexeme} {limit : Limit} where
-  pub peeked : {x : Test} {p q : Prog} {c : Scopes} {i : ℕ} {r : Reply} → Runs body ts limit (m.peek x p q) c i r → ((passes ts c i x ≡ true) × Runs body ts limit p c i r) ⊎ ((passes ts c i x ≡ false) × Runs body ts limit q c i r)
-  peeked (run_seen x h) = inl (x, h)
-  peeked (run_unseen x h) = inr (x, h)
-
-  pub at_place : {f : ℕ → Prog} {c : Scopes} {i : ℕ} {r : Reply} → Runs body ts limit (m.here f) c i r → Runs body ts limit (f i) c i r
-  at_place (run_here h) = h
-
-  pub given : {t : Trees} {c : Scopes} {i : ℕ} {r : Reply} → Runs body ts limit (m.give t) c i r → Done t c i ≡ r
-  given run_give = refl
-
-  pub within : {g : Goal} {f : Trees → Prog} {c e : Scopes} {i j : ℕ} {t : Trees} → Runs body ts limit (m.call g f) c i (Done t e j) → Within ts limit g f c i (Done t e j)
-  within (run_call h k) = record { trees = _; after = _; end = _; goal = h; others = k }
-
-  pub within_last : {g : Goal} {c e : Scopes} {i j : ℕ} {t : Trees} → Runs body ts limit (m.call g m.give) c i (Done t e j) → Runs body ts limit (body g) c i (Done t e j)
-  within_last {g = g} {c = c} {i = i} h = let w = within h in subst (λ r. Runs body ts limit (body g) c i r) (given w.others) w.goal
-
 module _ (ts : List Lexeme) (limit : Limit) where
   -- the specifiers that a row goes on with, and the token behind them
   record Further (p : Part) (h : Context) (d s : ℕ) (x : Trees) (c : Scopes) (i : ℕ) (t : Trees) (e : Scopes) (j : ℕ) : Type 0 where
@@ -82,7 +57,7 @@ module _ (ts : List Lexeme) (limit : Limit) where
   no_further {p = p} {h = h} {d = d} {s = s} {x = x} {c = c} {i = i} q y =
       again (λ t e j. Further p h d s x c i t e j) (sym y) (record { trees = none; in_a_row = ap (λ y. in_row p s i y) (sym (and_none x)); ended = q; spelled = spells.many_none spells.done })
 
-  one_more : {p : Part} {h : Context} {d s : ℕ} {x : Trees} {c : Scopes} {i : ℕ} {t : Trees} {e : Scopes} {j : ℕ} (y : Within ts limit (m.element p h d) (λ t. m.call (m.more p (past_part h t) d s (x & t & none)) m.give) c i (Done t e j)) →
+  one_more : {p : Part} {h : Context} {d s : ℕ} {x : Trees} {c : Scopes} {i : ℕ} {t : Trees} {e : Scopes} {j : ℕ} (y : Within body ts limit (m.element p h d) (λ t. m.call (m.more p (past_part h t) d s (x & t & none)) m.give) c i (Done t e j)) →
       Further p (past_part h y.trees) d s (x & y.trees & none) y.after y.end t e j → Further p h d s x c i t e j
   one_more {p = p} {h = h} {d = d} {s = s} {x = x} {c = c} {i = i} {e = f} {j = j} y w =
       let v : Spells ts limit (a (element_part p)) h c y.after d y.trees i y.end = runs_sound (m.element p h d) c y.after i y.end y.trees y.goal in
