@@ -1,13 +1,13 @@
 -- A text with unused keywords in the place of all its tokens from one on: what is spelled before that token is spelled
 -- there too, and nothing goes on with it.
-use Rattle.std.proofs.Common.{◌≡◌, ℕ, zero, suc, ◌+◌, ◌<◌, ◌≤◌, Bool, true, false, not, ◌||◌, List, [], ◌∷◌, length, Option, None, Some, refl, sym, ap, subst, ◌∙◌, arith}
+use Rattle.std.proofs.Common.{◌≡◌, ℕ, zero, suc, ◌<◌, ◌≤◌, Bool, true, false, not, ◌||◌, List, [], ◌∷◌, Option, None, Some, refl, sym, ap, subst, ◌∙◌, arith}
 use Rattle.std.specs.Prelude.{slice_get}
 use Rattle.cr_syntax.specs.declared.word.Word.{Word}
 use Rattle.cr_syntax.specs.declared.word.Word.TheVariants as word
 use Rattle.cr_syntax.specs.declared.symbol.Part.TheVariants as part
 use Rattle.cr_syntax.specs.declared.symbol.Symbol.TheVariants as symbol
 use Rattle.cr_syntax.specs.declared.symbol.Context.{Context}
-use Rattle.cr_syntax.specs.Words.{Lexeme, word_at, spelling_at}
+use Rattle.cr_syntax.specs.Words.{Lexeme, spelling_at}
 use Rattle.cr_syntax.specs.Scopes.{Scopes, is_type, enter}
 use Rattle.cr_syntax.specs.Trees.{Trees}
 use Rattle.cr_syntax.specs.Context.{past_part}

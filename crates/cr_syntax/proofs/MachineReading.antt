@@ -1,9 +1,8 @@
 -- What the machine answers is what reading an expression in the middle of a text promises.
-use Rattle.std.proofs.Common.{◌≡◌, ℕ, zero, suc, ◌+◌, ◌<◌, ◌≤◌, Bool, true, false, not, ◌&&◌, List, [], ◌∷◌, length, Option, None, Some, refl, sym, ap, subst, ◌∙◌, arith, ◌⊎◌, inl, inr}
+use Rattle.std.proofs.Common.{◌≡◌, ℕ, ◌<◌, ◌≤◌, Bool, true, false, not, ◌&&◌, List, length, Option, None, Some, refl, sym, ap, subst, ◌∙◌, arith, ◌⊎◌, inl, inr}
 use Rattle.std.specs.Prelude.{slice_get, nat_lt, if◌then◌else◌}
 use Rattle.std.proofs.Math.Nat.{eq-or-lt_of_le}
-use Rattle.std.proofs.lemmas.Bool.{cases_lt}
-use borrow.Author.Tests.{lt-ltb, ltb-true}
+use Rattle.std.proofs.lemmas.Bool.{both_ways, ltb-true, ltb-false}
 use Rattle.cr_syntax.specs.declared.word.Word.{Word}
 use Rattle.cr_syntax.specs.declared.word.Word.TheVariants as word
 use Rattle.cr_syntax.specs.declared.symbol.Part.{Part}
@@ -12,27 +11,27 @@ use Rattle.cr_syntax.specs.Words.{Lexeme, word_at}
 use Rattle.cr_syntax.specs.Scopes.{Scopes}
 use Rattle.cr_syntax.specs.Trees.{Trees}
 use Rattle.cr_syntax.specs.Context.{fresh}
-use Rattle.cr_syntax.specs.Spells.{Limit, Free, AtMost, Upto, Leaving, Is, Spells, a}
-use Rattle.cr_syntax.specs.Units.{most_levels, is_unused, with_word, IsBracket, parenthesis, bracket, brace, StandsIn, group_for_literal, subscript_for_call}
-use Rattle.cr_syntax.specs.Machine.{Prog, Manner, Test, whole, Reply, Cause, Done, Failed, Runs, Allows, passes, has, has_word, verdict, barred, refusal_of, overflows, is_bracket, too_deep, ended, outside, unexpected, run_give, run_stop, run_take, run_deep, run_pass, run_bar, run_free, run_seen, run_unseen, run_yes, run_no, run_here, run_look, run_set, run_bring, run_call, run_fail}
+use Rattle.cr_syntax.specs.Spells.{Limit, Free, AtMost, Upto, Is, Spells, a}
+use Rattle.cr_syntax.specs.Units.{most_levels, is_unused, IsBracket, parenthesis, bracket, brace, StandsIn, group_for_literal, subscript_for_call}
+use Rattle.cr_syntax.specs.Machine.{Prog, Test, whole, Reply, Cause, Done, Failed, Runs, passes, has, barred, refusal_of, overflows, is_bracket, too_deep, ended, outside, unexpected, run_give, run_stop, run_take, run_deep, run_pass, run_bar, run_free, run_seen, run_unseen, run_yes, run_no, run_here, run_look, run_set, run_bring, run_call, run_fail}
 use Rattle.cr_syntax.specs.MachineBody.{body, start_goal}
 use Rattle.cr_syntax.specs.MachineLaws.{end_of, IsStart, start_expression, start_assignment, start_conditional}
 use Rattle.cr_syntax.specs.Expressions.{Start, Spelled, BeginsFrom, OutsideFrom, unused_keyword, compound_literal, called_expression, bit_field, IsTooDeepFrom, IsFineFrom, RunEnds, Outcome, Read, Refused, IsReading}
 use Rattle.cr_syntax.specs.Expressions as expressions
-use Rattle.cr_syntax.proofs.Tests.{both, not_true}
-use Rattle.cr_syntax.proofs.MachineRuns.{same, local, OnDone}
-use Rattle.cr_syntax.proofs.MachineEnds.{Way, stopped, barring, crowded, Ends, end_stop, end_take, end_crowded, end_pass, end_bar, end_free, end_seen, end_unseen, end_yes, end_no, end_here, end_look, end_set, end_bring, end_behind, end_inside, EndsSo, ends_so, refused_so, cause_by}
+use Rattle.cr_syntax.proofs.Tests.{both, not_true, some_one}
+use Rattle.cr_syntax.proofs.MachineRuns.{same, local}
+use Rattle.cr_syntax.proofs.MachineEnds.{Way, stopped, barring, crowded, Ends, end_stop, end_take, end_crowded, end_pass, end_bar, end_free, end_seen, end_unseen, end_yes, end_no, end_here, end_look, end_set, end_bring, end_behind, end_inside, ends_so, refused_so, cause_by}
 use Rattle.cr_syntax.proofs.MachineGives.{gives}
 use Rattle.cr_syntax.proofs.MachineKept.{Kept, runs_kept}
 use Rattle.cr_syntax.proofs.MachineMeans.{Means}
 use Rattle.cr_syntax.proofs.MachineSound.{each}
 use Rattle.cr_syntax.proofs.MachineFirst.{none_true, true_false}
-use Rattle.cr_syntax.proofs.MachineComplete.{spelled_is_read, read_is_spelled, free_at_end, get_some, IsNotDeep, unlimited, allows_free, allows_upto, longest, refused_within}
+use Rattle.cr_syntax.proofs.MachineComplete.{spelled_is_read, read_is_spelled, free_at_end, get_some, unlimited, allows_free, allows_upto, longest, refused_within}
 use Rattle.cr_syntax.proofs.MachineViable.{prefix, prefix_length, prefix_get, passes_inside, stopped_leaves, barred_stands, barred_leaves, crowded_begins, barred_outside, barred_inside, crowded_inside, begins_before}
-use Rattle.cr_syntax.proofs.MachineWays.{Point, at}
-use Rattle.cr_syntax.proofs.MachineForms.{IsBarring, by_row, outside_is_end, outside_is_refused}
+use Rattle.cr_syntax.proofs.MachineWays.{at}
+use Rattle.cr_syntax.proofs.MachineForms.{within, IsBarring, by_row, outside_is_end, outside_is_refused}
 use Rattle.cr_syntax.proofs.MachineUnused.{begun_is_used}
-use Rattle.cr_syntax.proofs.MachineParts.{Within, Refusing, given, refused_or_free, within_or_refused}
+use Rattle.cr_syntax.proofs.MachineParts.{given, refused_or_free, within_or_refused}
 use Rattle.cr_syntax.proofs.MachineStuck.{is_crowded}
 use Rattle.cr_syntax.proofs.MachineRefused.{no_room, spells_none, no_room_instead}
 
@@ -77,12 +76,6 @@ unlimited_end (end_inside z) n = end_inside (unlimited_end z n)
 
 -- Words.
 
-contrary : {b : Bool} → b ≡ true → b ≡ false → ⊥
-contrary x y = cc
-
-some_word : {v w : Word} → Some v ≡ Some w → v ≡ w
-some_word q = cc
-
 bracket_is : (w : Word) → is_bracket w ≡ true → IsBracket w
 bracket_is word.LeftParen q = parenthesis
 bracket_is word.LeftBracket q = bracket
@@ -99,9 +92,13 @@ bracket_is_used parenthesis = refl
 bracket_is_used bracket = refl
 bracket_is_used brace = refl
 
+-- a token is no unused keyword and another word
+not_both : {o : Option Word} {v w : Word} → o ≡ Some v → is_unused v ≡ true → o ≡ Some w → is_unused w ≡ false → ⊥
+not_both {v = v} q u q' u' = both_ways (is_unused v) (subst (λ w. is_unused w ≡ false) (some_one (sym q' ∙ q)) u') u
+
 -- a bracket overflows where so many levels are open
 at_most : (m most : ℕ) → not (nat_lt m most) ≡ true → most ≤ m
-at_most m most q = elim (cases_lt m most) [ inl lt ↦ absurd (contrary (lt-ltb m most lt) (not_true (nat_lt m most) q)) | inr le ↦ le ]
+at_most m most q = ltb-false m most (not_true (nat_lt m most) q)
 
 below : (w : Word) (m : ℕ) → is_bracket w ≡ true → overflows w m ≡ false → m < most_levels
 below w m b q = ltb-true m most_levels (by (is_bracket w) (nat_lt m most_levels) b q)
@@ -120,10 +117,10 @@ keyword_or_form (bit_field q b) = inr (λ e. omega arith)
 
 -- a bracket that a row refuses has another one in its place
 in_place : {ts : List Lexeme} {s : Start} {k n : ℕ} {w : Word} → OutsideFrom ts s k n → Is ts k w → IsBracket w → (v : Word) × StandsIn n v
-in_place (unused_keyword q u) y b = absurd (contrary u (subst (λ w. is_unused w ≡ false) (some_word (sym y ∙ q)) (bracket_is_used b)))
+in_place (unused_keyword q u) y b = absurd (not_both q u y (bracket_is_used b))
 in_place (compound_literal q x) y b = (word.LeftParen, group_for_literal)
 in_place (called_expression q x) y b = (word.LeftBracket, subscript_for_call)
-in_place (bit_field q x) y b = absurd (contrary (subst (λ w. is_bracket w ≡ true) (some_word (sym y ∙ q)) (is_of_bracket b)) refl)
+in_place (bit_field q x) y b = absurd (both_ways (is_bracket word.Colon) refl (subst (λ w. is_bracket w ≡ true) (some_one (sym y ∙ q)) (is_of_bracket b)))
 
 not_keyword_row : {n : ℕ} {v : Word} → StandsIn n v → n ≡ 1 → ⊥
 not_keyword_row {v = v} x e = by (subst (λ n. StandsIn n v) e x)
@@ -134,11 +131,6 @@ not_keyword_row {v = v} x e = by (subst (λ n. StandsIn n v) e x)
 -- the way in which a token that a row names is refused
 barring_at : {n i k : ℕ} {w : Way} → IsBarring n i (at w k) → (i ≡ k) × (x : Test) × (d : ℕ) × (w ≡ barring x n d)
 barring_at (by_row {x = x} {d = d}) = (refl, x, d, refl)
-
-inside_text : (ts : List Lexeme) (k : ℕ) {w : Word} → Is ts k w → k < length ts
-inside_text [] k q = cc
-inside_text (x ∷ ts) zero q = omega arith
-inside_text (x ∷ ts) (suc k) q = let n = inside_text ts k q in omega arith
 
 at_end : (ts : List Lexeme) (k : ℕ) → k ≤ length ts → word_at ts k ≡ None → k ≡ length ts
 at_end ts k le q = elim (eq-or-lt_of_le {n = k} {m = length ts} le) [ inl e ↦ e | inr lt ↦ (let w = get_some ts k lt in by (ap (λ o. elim o as (λ _. Option Word) [ None ↦ None | Some t ↦ Some t.word ]) w.1) q) ]
@@ -219,7 +211,7 @@ module _ (ts : List Lexeme) (s : Start) (z : IsStart s.part) (le : s.at ≤ leng
   -- Tokens that no row of the refused forms names.
 
   inside_read : {t : Trees} {e : Scopes} {j : ℕ} → Answers (Done t e j) → (i n : ℕ) → s.at ≤ i → i < j → OutsideFrom ts s i n → ⊥
-  inside_read h i n ge lt o = elim (keyword_or_form o) [ inl (w, q, u) ↦ contrary u (begun_is_used s (read_begins h) ge lt q) | inr f ↦ outside_is_refused s z h f o ]
+  inside_read h i n ge lt o = elim (keyword_or_form o) [ inl (w, q, u) ↦ both_ways (is_unused w) (begun_is_used s (read_begins h) ge lt q) u | inr f ↦ outside_is_refused s z h f o ]
 
   fine_read : {t : Trees} {e : Scopes} {j : ℕ} → Answers (Done t e j) → IsFineFrom ts s j
   fine_read h = record { begins = read_begins h; inside = inside_read h }
@@ -231,34 +223,34 @@ module _ (ts : List Lexeme) (s : Start) (z : IsStart s.part) (le : s.at ≤ leng
       begins = begins_before ts most_levels k le' s (cause_by ts k w) z (refused_so y)
 
       inside : (i n : ℕ) → s.at ≤ i → i < k → OutsideFrom ts s i n → ⊥
-      inside i n ge lt o = elim (keyword_or_form o) [ inl (w, q, u) ↦ contrary u (begun_is_used s begins ge lt q) | inr f ↦ (let b = barring_at (outside_is_end s z y f o) in let e = b.0 in absurd (omega arith)) ]
+      inside i n ge lt o = elim (keyword_or_form o) [ inl (w, q, u) ↦ both_ways (is_unused w) (begun_is_used s begins ge lt q) u | inr f ↦ (let b = barring_at (outside_is_end s z y f o) in let e = b.0 in absurd (omega arith)) ]
 
   -- an unused keyword is no bracket too deep
   keyword_not_deep : {k : ℕ} {w : Word} → Is ts k w → is_unused w ≡ true → RunEnds ts s k → IsTooDeepFrom ts s k → ⊥
-  keyword_not_deep {k = k} {w = w} q u r (expressions.expected o) = r (inside_text ts k q) (begins_free o.begins)
-  keyword_not_deep q u r (expressions.refused y b o x d) = contrary u (subst (λ w. is_unused w ≡ false) (some_word (sym y ∙ q)) (bracket_is_used b))
-  keyword_not_deep q u r (expressions.unexpected y b n o x) = contrary u (subst (λ w. is_unused w ≡ false) (some_word (sym y ∙ q)) (bracket_is_used b))
+  keyword_not_deep {k = k} {w = w} q u r (expressions.expected o) = r (within ts k q) (begins_free o.begins)
+  keyword_not_deep q u r (expressions.refused y b o x d) = not_both q u y (bracket_is_used b)
+  keyword_not_deep q u r (expressions.unexpected y b n o x) = not_both q u y (bracket_is_used b)
 
   -- A token at which the machine stops.
   module _ (m k : ℕ) (y : EndsBy (stopped m) k) (le' : k ≤ length ts) where
     not_outside : {w : Word} → Is ts k w → is_unused w ≡ false → (n : ℕ) → OutsideFrom ts s k n → ⊥
-    not_outside q u n o = elim (keyword_or_form o) [ inl (v, q', u') ↦ contrary u' (subst (λ w. is_unused w ≡ false) (some_word (sym q ∙ q')) u) | inr f ↦ (let b = barring_at (outside_is_end s z y f o) in no_row b.3) ]
+    not_outside q u n o = elim (keyword_or_form o) [ inl (v, q', u') ↦ not_both q' u' q u | inr f ↦ (let b = barring_at (outside_is_end s z y f o) in no_row b.3) ]
       where
         no_row : {x : Test} {n d : ℕ} → stopped m ≡ barring x n d → ⊥
         no_row q = cc
 
     not_deep : {w : Word} → Is ts k w → is_unused w ≡ false → overflows w m ≡ false → IsTooDeepFrom ts s k → ⊥
-    not_deep q u v (expressions.expected o) = run_ends y refl (inside_text ts k q) (begins_free o.begins)
+    not_deep q u v (expressions.expected o) = run_ends y refl (within ts k q) (begins_free o.begins)
     not_deep q u v (expressions.refused {row = n} q' b o x d) = not_outside q u n o
-    not_deep {w = w} q u v (expressions.unexpected q' b n o x) = x (stopped_leaves ts most_levels k le' s z m y (below w m (subst (λ w. is_bracket w ≡ true) (some_word (sym q' ∙ q)) (is_of_bracket b)) v))
+    not_deep {w = w} q u v (expressions.unexpected q' b n o x) = x (stopped_leaves ts most_levels k le' s z m y (below w m (subst (λ w. is_bracket w ≡ true) (some_one (sym q' ∙ q)) (is_of_bracket b)) v))
 
     read_stop_word : {w : Word} → Is ts k w → (u o : Bool) → is_unused w ≡ u → overflows w m ≡ o → IsReading ts s (Refused (refusal_of (if u then outside 1 else (if o then too_deep else unexpected)) k))
-    read_stop_word q true o u v = expressions.outside (inside_text ts k q) (fine y le') (keyword_not_deep q u (run_ends y refl)) (unused_keyword q u)
+    read_stop_word q true o u v = expressions.outside (within ts k q) (fine y le') (keyword_not_deep q u (run_ends y refl)) (unused_keyword q u)
     read_stop_word {w = w} q false true u v =
         let b = both (is_bracket w) (not (nat_lt m most_levels)) v in
-        expressions.too_deep (inside_text ts k q) (fine y le')
-        (expressions.unexpected q (bracket_is w b.0) (run_ends y refl (inside_text ts k q)) (not_outside q u) (no_room most_levels s z le' (at_most m most_levels b.1) y))
-    read_stop_word q false false u v = expressions.unexpected_token (inside_text ts k q) (fine y le') (not_deep q u v) (not_outside q u) (run_ends y refl) (λ t. spells_none s z y)
+        expressions.too_deep (within ts k q) (fine y le')
+        (expressions.unexpected q (bracket_is w b.0) (run_ends y refl (within ts k q)) (not_outside q u) (no_room most_levels s z le' (at_most m most_levels b.1) y))
+    read_stop_word q false false u v = expressions.unexpected_token (within ts k q) (fine y le') (not_deep q u v) (not_outside q u) (run_ends y refl) (λ t. spells_none s z y)
 
     read_stop : (o : Option Word) → word_at ts k ≡ o →
         IsReading ts s (Refused (refusal_of (elim o as (λ _. Cause) [ None ↦ ended | Some w ↦ if is_unused w then outside 1 else (if overflows w m then too_deep else unexpected) ]) k))
@@ -271,22 +263,22 @@ module _ (ts : List Lexeme) (s : Start) (z : IsStart s.part) (le : s.at ≤ leng
     same_row q = cc
 
     form_not_deep : {w : Word} → Is ts k w → overflows w m ≡ false → IsTooDeepFrom ts s k → ⊥
-    form_not_deep q v (expressions.expected o) = run_ends y refl (inside_text ts k q) (begins_free o.begins)
+    form_not_deep q v (expressions.expected o) = run_ends y refl (within ts k q) (begins_free o.begins)
     form_not_deep {w = w} q v (expressions.refused {v = v'} q' b o x' d) =
         let r = barring_at (outside_is_end s z y (not_keyword_row x') o) in
-        d.too_deep (barred_leaves ts most_levels k le' s z x n m y (inside_text ts k q) (subst (λ n. StandsIn n v') (same_row r.3) x') (below w m (subst (λ w. is_bracket w ≡ true) (some_word (sym q' ∙ q)) (is_of_bracket b)) v))
+        d.too_deep (barred_leaves ts most_levels k le' s z x n m y (within ts k q) (subst (λ n. StandsIn n v') (same_row r.3) x') (below w m (subst (λ w. is_bracket w ≡ true) (some_one (sym q' ∙ q)) (is_of_bracket b)) v))
     form_not_deep q v (expressions.unexpected q' b f o x') = o n (barred_outside ts k le' s z x n m y)
 
     read_bar_word : {w : Word} → Is ts k w → (o : Bool) → overflows w m ≡ o → IsReading ts s (Refused (refusal_of (if o then too_deep else outside n) k))
     read_bar_word {w = w} q true v =
         let b = both (is_bracket w) (not (nat_lt m most_levels)) v in
         let o = barred_outside ts k le' s z x n m y in
-        let lt = inside_text ts k q in
+        let lt = within ts k q in
         let r = in_place o q (bracket_is w b.0) in
         expressions.too_deep lt (fine y le')
         (expressions.refused q (bracket_is w b.0) o r.1
         (record { begins = barred_stands ts most_levels k le' s z x n m y lt r.1; too_deep = no_room_instead most_levels s z lt (at_most m most_levels b.1) r.1 y }))
-    read_bar_word q false v = expressions.outside (inside_text ts k q) (fine y le') (form_not_deep q v) (barred_outside ts k le' s z x n m y)
+    read_bar_word q false v = expressions.outside (within ts k q) (fine y le') (form_not_deep q v) (barred_outside ts k le' s z x n m y)
 
     read_bar : (o : Option Word) → word_at ts k ≡ o → IsReading ts s (Refused (refusal_of (elim o as (λ _. Cause) [ None ↦ ended | Some w ↦ if overflows w m then too_deep else outside n ]) k))
     read_bar None q = let e = at_end ts k le' q in let lt = barred_inside y in absurd (omega arith)
@@ -322,7 +314,7 @@ module _ (ts : List Lexeme) (s : Start) (z : IsStart s.part) (le : s.at ≤ leng
   keyword_flat w d u = by (is_bracket w) refl
     where
       by : (b : Bool) → is_bracket w ≡ b → b && not (nat_lt d most_levels) ≡ false
-      by true q = absurd (contrary u (bracket_is_used (bracket_is w q)))
+      by true q = absurd (both_ways (is_unused w) (bracket_is_used (bracket_is w q)) u)
       by false q = refl
 
   keyword_barred : (j d : ℕ) {w : Word} → Is ts j w → is_unused w ≡ true → outside 1 ≡ barred ts 1 j d
@@ -333,7 +325,7 @@ module _ (ts : List Lexeme) (s : Start) (z : IsStart s.part) (le : s.at ≤ leng
   keyword_is_reading {e = e} {j = j} h q =
       let w = keyword_of e j q in
       subst (λ x. IsReading ts s (Refused (refusal_of x j))) (keyword_barred j s.depth w.1 w.2)
-      (expressions.outside (inside_text ts j w.1) (fine_read h) (keyword_not_deep w.1 w.2 (longest s z h)) (unused_keyword w.1 w.2))
+      (expressions.outside (within ts j w.1) (fine_read h) (keyword_not_deep w.1 w.2 (longest s z h)) (unused_keyword w.1 w.2))
 
   read_is_reading : {t : Trees} {e : Scopes} {j : ℕ} → Answers (Done t e j) → passes ts e j (has is_unused) ≡ false → IsReading ts s (Read t j)
   read_is_reading {e = e} {j = j} h q = expressions.read (ends_inside h le) (record { after = e; spells = read_is_spelled ts (AtMost most_levels) fresh z h }) (longest s z h) none
@@ -342,7 +334,7 @@ module _ (ts : List Lexeme) (s : Start) (z : IsStart s.part) (le : s.at ≤ leng
       none i n ge le' o = elim (keyword_or_form o) [
         | inl (w, y, u) ↦
             elim (eq-or-lt_of_le {n = i} {m = j} le') [
-              | inl x ↦ contrary u (used_word e j q (subst (λ i. Is ts i w) x y))
+              | inl x ↦ both_ways (is_unused w) (used_word e j q (subst (λ i. Is ts i w) x y)) u
               | inr lt ↦ inside_read h i n ge lt o
             ]
         | inr f ↦ outside_is_refused s z h f o

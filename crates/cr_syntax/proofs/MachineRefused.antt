@@ -1,35 +1,29 @@
 -- What the machine's refusal of a token says of texts: at the levels where it stopped none leaves room, the tokens before
 -- spell nothing, and the bracket that stands in a refused one's place has no room either.
-use Rattle.std.proofs.Common.{◌≡◌, ℕ, zero, suc, ◌+◌, ◌<◌, ◌≤◌, Bool, true, false, not, ◌&&◌, ◌||◌, List, [], ◌∷◌, length, Option, None, Some, refl, sym, ap, subst, ◌∙◌, arith}
+use Rattle.std.proofs.Common.{◌≡◌, ℕ, zero, suc, ◌+◌, ◌<◌, ◌≤◌, true, false, not, List, [], ◌∷◌, length, Option, None, Some, refl, sym, ap, subst, ◌∙◌, arith}
 use Rattle.std.specs.Prelude.{slice_get, set}
+use Rattle.std.proofs.lemmas.Bool.{both_ways}
 use Rattle.cr_syntax.specs.declared.word.Word.{Word}
 use Rattle.cr_syntax.specs.declared.word.Word.TheVariants as word
-use Rattle.cr_syntax.specs.declared.symbol.Part.{Part}
-use Rattle.cr_syntax.specs.Words.{Lexeme, word_at}
+use Rattle.cr_syntax.specs.Words.{Lexeme}
 use Rattle.cr_syntax.specs.Scopes.{Scopes}
 use Rattle.cr_syntax.specs.Trees.{Trees}
-use Rattle.cr_syntax.specs.Spells.{Limit, Free, AtMost, Upto, Leaving, Is}
+use Rattle.cr_syntax.specs.Spells.{Limit, Free, Upto, Leaving, Is}
 use Rattle.cr_syntax.specs.Units.{is_unused, with_word, StandsIn, list_for_designator, group_for_literal, subscript_for_call, block_for_body}
-use Rattle.cr_syntax.specs.Machine.{Manner, Test, plain, opens, reopens, the, has, ordinary, type_identifier, declared, or, Allows, passes, levels_at, is_bracket, Done, Runs}
+use Rattle.cr_syntax.specs.Machine.{Manner, Test, plain, opens, reopens, the, has, ordinary, type_identifier, declared, or, Allows, passes, levels_at, is_bracket}
 use Rattle.cr_syntax.specs.MachineBody.{body, start_goal}
 use Rattle.cr_syntax.specs.MachineLaws.{IsStart, IsFree, rank_of}
 use Rattle.cr_syntax.specs.Expressions.{Start, Spelled, BeginsFrom}
-use Rattle.cr_syntax.proofs.Tests.{both, not_true}
-use Rattle.cr_syntax.proofs.MachineGives.{Holds, holds}
-use Rattle.cr_syntax.proofs.MachineFirst.{none_true, true_false, free_by}
+use Rattle.cr_syntax.proofs.Tests.{both, not_true, some_one}
+use Rattle.cr_syntax.proofs.MachineGives.{holds}
+use Rattle.cr_syntax.proofs.MachineFirst.{none_true}
 use Rattle.cr_syntax.proofs.MachineComplete.{spelled_is_read, free_at_end, get_some}
-use Rattle.cr_syntax.proofs.MachineEnds.{Way, stopped, barring, crowded, Ends}
+use Rattle.cr_syntax.proofs.MachineEnds.{stopped, barring, Ends}
 use Rattle.cr_syntax.proofs.MachineSteady.{enters, leaves, fits, steady}
-use Rattle.cr_syntax.proofs.MachineStuck.{levels_by, is_crowded, Stand, stuck}
+use Rattle.cr_syntax.proofs.MachineStuck.{stuck}
 use Rattle.cr_syntax.proofs.MachineClosed.{closed, closed_before, closed_at, spelled_closed}
 
 -- A test of a token in the grammar's programs and the token's word.
-
-some_word : {v w : Word} → Some v ≡ Some w → v ≡ w
-some_word q = cc
-
-contrary : {b : Bool} → b ≡ true → b ≡ false → ⊥
-contrary x y = cc
 
 -- no unused keyword passes
 no_keyword : (g : Manner) (w : Word) → fits g (the w) ≡ true → is_unused w ≡ false
@@ -38,11 +32,11 @@ no_keyword opens w f = not_true (is_unused w) f
 no_keyword reopens w f = not_true (is_unused w) (both (not (is_unused w)) (not (is_bracket w)) f).0
 
 pub passes_no_keyword : (us : List Lexeme) (c : Scopes) (i : ℕ) (g : Manner) (x : Test) (v : Word) → fits g x ≡ true → passes us c i x ≡ true → Is us i v → is_unused v ≡ false
-passes_no_keyword us c i g (the w) v f q z = subst (λ y. is_unused y ≡ false) (some_word (sym (holds us c i (the w) q) ∙ z)) (no_keyword g w f)
+passes_no_keyword us c i g (the w) v f q z = subst (λ y. is_unused y ≡ false) (some_one (sym (holds us c i (the w) q) ∙ z)) (no_keyword g w f)
 passes_no_keyword us c i g (has t) v f q z = none_true f
-passes_no_keyword us c i g ordinary v f q z = subst (λ y. is_unused y ≡ false) (some_word (sym (holds us c i ordinary q).0 ∙ z)) refl
-passes_no_keyword us c i g (type_identifier typed) v f q z = subst (λ y. is_unused y ≡ false) (some_word (sym (holds us c i (type_identifier typed) q).0.0 ∙ z)) refl
-passes_no_keyword us c i g (declared typed) v f q z = subst (λ y. is_unused y ≡ false) (some_word (sym (holds us c i (declared typed) q).0 ∙ z)) refl
+passes_no_keyword us c i g ordinary v f q z = subst (λ y. is_unused y ≡ false) (some_one (sym (holds us c i ordinary q).0 ∙ z)) refl
+passes_no_keyword us c i g (type_identifier typed) v f q z = subst (λ y. is_unused y ≡ false) (some_one (sym (holds us c i (type_identifier typed) q).0.0 ∙ z)) refl
+passes_no_keyword us c i g (declared typed) v f q z = subst (λ y. is_unused y ≡ false) (some_one (sym (holds us c i (declared typed) q).0 ∙ z)) refl
 passes_no_keyword us c i g (or x y) v f q z = none_true f
 
 -- nor a bracket, where it opens no level
@@ -55,11 +49,11 @@ no_bracket flat_plain w f = not_true (is_bracket w) (both (not (is_unused w)) (n
 no_bracket flat_reopens w f = not_true (is_bracket w) (both (not (is_unused w)) (not (is_bracket w)) f).1
 
 pub passes_no_bracket : (us : List Lexeme) (c : Scopes) (i : ℕ) {g : Manner} → IsFlat g → (x : Test) (v : Word) → fits g x ≡ true → passes us c i x ≡ true → Is us i v → is_bracket v ≡ false
-passes_no_bracket us c i l (the w) v f q z = subst (λ y. is_bracket y ≡ false) (some_word (sym (holds us c i (the w) q) ∙ z)) (no_bracket l w f)
+passes_no_bracket us c i l (the w) v f q z = subst (λ y. is_bracket y ≡ false) (some_one (sym (holds us c i (the w) q) ∙ z)) (no_bracket l w f)
 passes_no_bracket us c i l (has t) v f q z = none_true f
-passes_no_bracket us c i l ordinary v f q z = subst (λ y. is_bracket y ≡ false) (some_word (sym (holds us c i ordinary q).0 ∙ z)) refl
-passes_no_bracket us c i l (type_identifier typed) v f q z = subst (λ y. is_bracket y ≡ false) (some_word (sym (holds us c i (type_identifier typed) q).0.0 ∙ z)) refl
-passes_no_bracket us c i l (declared typed) v f q z = subst (λ y. is_bracket y ≡ false) (some_word (sym (holds us c i (declared typed) q).0 ∙ z)) refl
+passes_no_bracket us c i l ordinary v f q z = subst (λ y. is_bracket y ≡ false) (some_one (sym (holds us c i ordinary q).0 ∙ z)) refl
+passes_no_bracket us c i l (type_identifier typed) v f q z = subst (λ y. is_bracket y ≡ false) (some_one (sym (holds us c i (type_identifier typed) q).0.0 ∙ z)) refl
+passes_no_bracket us c i l (declared typed) v f q z = subst (λ y. is_bracket y ≡ false) (some_one (sym (holds us c i (declared typed) q).0 ∙ z)) refl
 passes_no_bracket us c i l (or x y) v f q z = none_true f
 
 -- a passed test has a token
@@ -118,7 +112,7 @@ no_room {ts = ts} {limit = limit} most s {d = d} {k = k} z le up h b =
 closed_blocks : (ts : List Lexeme) (k : ℕ) (c : Scopes) (g : Manner) (x : Test) (i : ℕ) → i ≡ k → fits g x ≡ true → passes (closed k ts) c i x ≡ true → ⊥
 closed_blocks ts k c g x i q f v =
     let w = passes_some (closed k ts) c i g x f v in
-    contrary (subst (λ y. is_unused y ≡ true) (closed_at k ts w.0 (subst (λ y. Is (closed k ts) y w.0) q w.1)) refl) (passes_no_keyword (closed k ts) c i g x w.0 f v w.1)
+    both_ways (is_unused w.0) (passes_no_keyword (closed k ts) c i g x w.0 f v w.1) (subst (λ y. is_unused y ≡ true) (closed_at k ts w.0 (subst (λ y. Is (closed k ts) y w.0) q w.1)) refl)
 
 closed_free : (ts : List Lexeme) (k : ℕ) → IsFree (closed k ts) 13 k
 closed_free ts k = record { all = λ w q. subst (λ y. 13 < rank_of y) (closed_at k ts w q) (omega arith) }
@@ -138,9 +132,9 @@ stands_bracket block_for_body = refl
 
 allows_bracket : (us : List Lexeme) (most k : ℕ) (v : Word) → is_bracket v ≡ true → Is us k v → (g : Manner) (x : Test) (d : ℕ) (c : Scopes) (i : ℕ) → i ≡ k → most ≤ levels_at g d → fits g x ≡ true → passes us c i x ≡ true →
     Allows (Upto (k + 1) most) g i d → ⊥
-allows_bracket us most k v b s plain x d c i q le f y w = contrary b (passes_no_bracket us c i flat_plain x v f y (subst (λ j. Is us j v) (sym q) s))
+allows_bracket us most k v b s plain x d c i q le f y w = both_ways (is_bracket v) (passes_no_bracket us c i flat_plain x v f y (subst (λ j. Is us j v) (sym q) s)) b
 allows_bracket us most k v b s opens x d c i q le f y w = let n = w (omega arith) in absurd (omega arith)
-allows_bracket us most k v b s reopens x d c i q le f y w = contrary b (passes_no_bracket us c i flat_reopens x v f y (subst (λ j. Is us j v) (sym q) s))
+allows_bracket us most k v b s reopens x d c i q le f y w = both_ways (is_bracket v) (passes_no_bracket us c i flat_reopens x v f y (subst (λ j. Is us j v) (sym q) s)) b
 
 same_row : {x y : Test} {n n' d d' : ℕ} → barring x n d ≡ barring y n' d' → n ≡ n'
 same_row q = cc

@@ -1,5 +1,6 @@
 -- Behind a row of specifiers that the machine read stands no identifier that could be one more of them.
-use Rattle.std.proofs.Common.{◌≡◌, ℕ, zero, suc, ◌+◌, ◌<◌, ◌≤◌, Bool, true, false, ◌||◌, List, [], ◌∷◌, refl, sym, ap, subst, ◌∙◌, arith, ◌⊎◌, inl, inr}
+use Rattle.std.proofs.Common.{◌≡◌, ℕ, zero, suc, ◌+◌, ◌<◌, ◌≤◌, Bool, false, ◌||◌, List, [], ◌∷◌, refl, sym, ap, subst, ◌∙◌, arith, inl, inr}
+use Rattle.std.proofs.lemmas.Bool.{or_parts}
 use Rattle.cr_syntax.specs.declared.node.Kind.{Kind}
 use Rattle.cr_syntax.specs.declared.symbol.Part.{Part}
 use Rattle.cr_syntax.specs.declared.symbol.Part.TheVariants as part
@@ -19,14 +20,9 @@ use Rattle.cr_syntax.proofs.MachineSpells.{and_none, and_and, pushed, is_one}
 use Rattle.cr_syntax.proofs.MachineSound.{runs_sound}
 use Rattle.cr_syntax.proofs.MachineTasks.{past_row}
 use Rattle.cr_syntax.proofs.MachineBegins.{past_one, row_typed}
-use Rattle.cr_syntax.proofs.MachineFirst.{true_false}
 use Rattle.cr_syntax.proofs.MachineSteady.{Finds, finds, Known}
 use Rattle.cr_syntax.proofs.MachineRuns.{reach, again}
 use Rattle.cr_syntax.proofs.MachineParts.{Within, peeked, at_place, given, within, within_last}
-
-neither_right : (x y : Bool) → x || y ≡ false → y ≡ false
-neither_right true y q = true_false q
-neither_right false y q = q
 
 -- A program that finds its first token goes on behind it.
 pub beyond_done : {ts : List Lexeme} {limit : Limit} {p : Prog} {c e : Scopes} {i j : ℕ} {t : Trees} → Runs body ts limit p c i (Done t e j) → Finds ts p c i → i < j
@@ -100,8 +96,8 @@ past_in_row : (p : Part) (h : Context) (s e : ℕ) (t u : Trees) → ((k : Kind)
 past_in_row p h s e t u w = subst (λ t. (past_row h (t & u)).typed ≡ h.typed || any_kind is_type_specifier (t & u) → (past_part h (in_row p s e (t & u))).typed ≡ (past_row h (t & u)).typed) (sym w.4) (row_says p h s e w.0 w.2 w.3 w.1 u)
 
 no_type_behind : (p : Part) (ts : List Lexeme) (c : Scopes) (i : ℕ) (typed : Bool) → passes ts c i (element_start p typed) ≡ false → passes ts c i (type_identifier typed) ≡ false
-no_type_behind part.Specifiers ts c i typed q = neither_right (has_word ts i is_specifier_start) (passes ts c i (type_identifier typed)) q
-no_type_behind _ ts c i typed q = neither_right (has_word ts i is_plain_start) (passes ts c i (type_identifier typed)) q
+no_type_behind part.Specifiers ts c i typed q = (or_parts (has_word ts i is_specifier_start) (passes ts c i (type_identifier typed)) q).1
+no_type_behind _ ts c i typed q = (or_parts (has_word ts i is_plain_start) (passes ts c i (type_identifier typed)) q).1
 
 row_ends : {ts : List Lexeme} {limit : Limit} (p : Part) (h : Context) (d : ℕ) {c e : Scopes} {i j : ℕ} {t : Trees} → Runs body ts limit (body (m.row p h d)) c i (Done t e j) → passes ts e j (type_identifier (past_part h t).typed) ≡ false
 row_ends {ts = ts} {limit = limit} p h d {c = c} {e = f} {i = i} {j = j} {t = t} y =

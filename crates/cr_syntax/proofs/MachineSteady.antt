@@ -1,6 +1,7 @@
 -- At one token the levels of a program's tests never rise: each has the levels of the one before it or fewer, and where
 -- the program stops it says no more than the last of them. So says `Steady`, of a program and then goal by goal.
-use Rattle.std.proofs.Common.{◌≡◌, ℕ, ◌+◌, ◌<◌, ◌≤◌, Bool, true, false, not, ◌&&◌, ◌||◌, List, [], ◌∷◌, Option, None, Some, refl, sym, ap, subst, ◌∙◌, arith}
+use Rattle.std.proofs.Common.{◌≡◌, ℕ, ◌+◌, ◌≤◌, Bool, true, false, not, ◌&&◌, ◌||◌, List, [], ◌∷◌, Option, None, Some, refl, sym, ap, subst, ◌∙◌, arith, inl, inr}
+use Rattle.std.proofs.lemmas.Bool.{both_ways, or_cases, or_from}
 use Rattle.cr_syntax.specs.declared.word.Word.{Word}
 use Rattle.cr_syntax.specs.declared.word.Word.TheVariants as word
 use Rattle.cr_syntax.specs.declared.node.Kind.{Kind}
@@ -16,9 +17,9 @@ use Rattle.cr_syntax.specs.Reads.{is_word, same_word}
 use Rattle.cr_syntax.specs.Units.{is_unused, StandsIn, subscript_for_call}
 use Rattle.cr_syntax.specs.Machine.{Goal, Prog, Manner, Test, Wanted, named, unnamed, either, plain, opens, reopens, the, has, ordinary, type_identifier, declared, or, passes, has_word, is_bracket, levels_at, brought, choose, give, stop, take, bar, peek, when, here, look, set, bring, call, made}
 use Rattle.cr_syntax.specs.Machine.{whole, expression, commas, assignment, conditional, binary, operands, cast, unary, measured, postfix, called, grouped, texts, arguments, suffixes, type_name, row, more, element, structure, members, member, member_declarators, enumeration, enumerators, enumerator, consts, declarator, declarator_suffixes, abstract_suffixes, size, parameters, more_parameters, parameter}
-use Rattle.cr_syntax.specs.MachineBody.{Words, body, assigned, operated, prefixed, suffixed, sized, other_primary, suffixes_end, other_element, array_start, may_omit, may_name, start_goal, tighter, assignment_operators, operators, unary_prefixes, cast_prefixes, constants, postfix_operators, specifier_words, plain_words, element_start, is_plain_start, is_specifier_start, is_abstract_start, is_declarator_start, declarator_start}
+use Rattle.cr_syntax.specs.MachineBody.{Words, body, assigned, operated, prefixed, suffixed, sized, other_primary, suffixes_end, other_element, array_start, may_omit, start_goal, tighter, assignment_operators, operators, unary_prefixes, cast_prefixes, constants, postfix_operators, specifier_words, plain_words, element_start, is_plain_start, is_specifier_start, is_abstract_start, is_declarator_start, declarator_start}
 use Rattle.cr_syntax.proofs.Tests.{both, not_true}
-use Rattle.cr_syntax.proofs.MachineFirst.{none_true, true_false, false_by, yes}
+use Rattle.cr_syntax.proofs.MachineFirst.{none_true, true_false}
 
 -- Levels.
 
@@ -193,17 +194,6 @@ abbrev has_row : Word → Words → Bool
 has_row w [] = false
 has_row w (r ∷ rs) = same_word w r.0 || has_row w rs
 
-neither : (x y : Bool) → x || y ≡ false → (x ≡ false) × (y ≡ false)
-neither true y q = true_false q
-neither false y q = (refl, q)
-
-either_true : {A : Type 0} (x y : Bool) → x || y ≡ true → (x ≡ true → A) → (y ≡ true → A) → A
-either_true true y q f g = f refl
-either_true false y q f g = g q
-
-not_row : {A : Type 0} (b : Bool) → b ≡ true → b ≡ false → A
-not_row b x y = cc
-
 plain_among : (w : Word) → is_plain_start w ≡ true → has_row w plain_words ≡ false → same_word w word.Struct ≡ false → same_word w word.Enum ≡ false → ⊥
 plain_among word.Const q x y z = true_false x
 plain_among word.Void q x y z = true_false x
@@ -277,22 +267,18 @@ module _ (ts : List Lexeme) (i : ℕ) where
 
   finds_choose : (g : Manner) (rs : Words) (d : ℕ) (p : Kind → Prog) (q : Prog) (c : Scopes) → (NoRow rs → Finds ts q c i) → Finds ts (choose g rs d p q) c i
   finds_choose g [] d p q c f = f (λ w z. refl)
-  finds_choose g (r ∷ rs) d p q c f = λ n. finds_choose g rs d p q c (λ o. f (λ w z. both_false (same_word w r.0) (has_row w rs) (apart ts i w r.0 z n) (o w z)))
-    where
-      both_false : (x y : Bool) → x ≡ false → y ≡ false → x || y ≡ false
-      both_false true y a b = true_false a
-      both_false false y a b = b
+  finds_choose g (r ∷ rs) d p q c f = λ n. finds_choose g rs d p q c (λ o. f (λ w z. or_from (same_word w r.0) (has_row w rs) (apart ts i w r.0 z n) (o w z)))
 
   element_found : (p : Part) (c : Scopes) (typed : Bool) → passes ts c i (element_start p typed) ≡ true → NoRow (specifier_words p) → is_word ts i word.Struct ≡ false → is_word ts i word.Enum ≡ false →
       passes ts c i (type_identifier typed) ≡ false → ⊥
-  element_found part.Specifiers c typed q n s e t =
-      either_true (has_word ts i is_specifier_start) (passes ts c i (type_identifier typed)) q
-      (λ y. let w = word_of_test ts i is_specifier_start y in specifier_among w.0 w.2 (n w.0 w.1) (apart ts i w.0 word.Struct w.1 s) (apart ts i w.0 word.Enum w.1 e))
-      (λ y. not_row (passes ts c i (type_identifier typed)) y t)
-  element_found _ c typed q n s e t =
-      either_true (has_word ts i is_plain_start) (passes ts c i (type_identifier typed)) q
-      (λ y. let w = word_of_test ts i is_plain_start y in plain_among w.0 w.2 (n w.0 w.1) (apart ts i w.0 word.Struct w.1 s) (apart ts i w.0 word.Enum w.1 e))
-      (λ y. not_row (passes ts c i (type_identifier typed)) y t)
+  element_found part.Specifiers c typed q n s e t = elim (or_cases (has_word ts i is_specifier_start) (passes ts c i (type_identifier typed)) q) [
+    | inl y ↦ (let w = word_of_test ts i is_specifier_start y in specifier_among w.0 w.2 (n w.0 w.1) (apart ts i w.0 word.Struct w.1 s) (apart ts i w.0 word.Enum w.1 e))
+    | inr y ↦ both_ways (passes ts c i (type_identifier typed)) t y
+  ]
+  element_found _ c typed q n s e t = elim (or_cases (has_word ts i is_plain_start) (passes ts c i (type_identifier typed)) q) [
+    | inl y ↦ (let w = word_of_test ts i is_plain_start y in plain_among w.0 w.2 (n w.0 w.1) (apart ts i w.0 word.Struct w.1 s) (apart ts i w.0 word.Enum w.1 e))
+    | inr y ↦ both_ways (passes ts c i (type_identifier typed)) t y
+  ]
 
   abstract_found : has_word ts i is_abstract_start ≡ true → is_word ts i word.Star ≡ false → is_word ts i word.LeftParen ≡ false → is_word ts i word.LeftBracket ≡ false → ⊥
   abstract_found q s p b =

@@ -1,7 +1,9 @@
 -- A text that the machine refuses and another one with the same tokens before: where no test lets the other text's token
 -- at that place pass with room for it, the machine reads no tree there.
-use Rattle.std.proofs.Common.{◌≡◌, ℕ, zero, suc, ◌+◌, ◌<◌, ◌≤◌, Bool, true, false, not, ◌&&◌, ◌||◌, List, [], ◌∷◌, refl, sym, ap, subst, ◌∙◌, arith, ◌⊎◌, inl, inr}
+use Rattle.std.proofs.Common.{◌≡◌, ℕ, ◌<◌, ◌≤◌, Bool, true, false, List, refl, sym, subst, ◌∙◌, arith, inl, inr}
 use Rattle.std.specs.Prelude.{slice_get}
+use Rattle.std.proofs.Math.Nat.{eq-or-lt_of_le}
+use Rattle.std.proofs.lemmas.Bool.{both_ways, or_cases}
 use Rattle.cr_syntax.specs.declared.word.Word.{Word}
 use Rattle.cr_syntax.specs.declared.word.Word.TheVariants as word
 use Rattle.cr_syntax.specs.Words.{Lexeme}
@@ -9,13 +11,12 @@ use Rattle.cr_syntax.specs.Scopes.{Scopes, enter}
 use Rattle.cr_syntax.specs.Trees.{Trees}
 use Rattle.cr_syntax.specs.Spells.{Limit, Is}
 use Rattle.cr_syntax.specs.Units.{StandsIn}
-use Rattle.cr_syntax.specs.Machine.{Goal, Prog, Manner, Test, the, Reply, Done, Runs, Allows, passes, levels_at, run_give, run_take, run_pass, run_free, run_seen, run_unseen, run_yes, run_no, run_here, run_look, run_set, run_bring, run_call}
-use Rattle.cr_syntax.specs.Machine as m
+use Rattle.cr_syntax.specs.Machine.{Prog, Manner, Test, the, Done, Runs, Allows, passes, levels_at, run_give, run_take, run_pass, run_free, run_seen, run_unseen, run_yes, run_no, run_here, run_look, run_set, run_bring, run_call}
 use Rattle.cr_syntax.specs.MachineBody.{body}
 use Rattle.cr_syntax.proofs.MachineFirst.{none_true, true_false, yes}
 use Rattle.cr_syntax.proofs.MachineRuns.{reach, again, passes_same, brought_same}
 use Rattle.cr_syntax.proofs.MachineEnds.{Way, stopped, barring, crowded, Ends, end_stop, end_take, end_crowded, end_pass, end_bar, end_free, end_seen, end_unseen, end_yes, end_no, end_here, end_look, end_set, end_bring, end_behind, end_inside, refused_so}
-use Rattle.cr_syntax.proofs.MachineSteady.{enters, leaves, fits, tries, IsEager, eager, Finds, finds, Replaced, by_none, by_trial, by_take, Known, Goes, steady}
+use Rattle.cr_syntax.proofs.MachineSteady.{enters, leaves, fits, tries, IsEager, eager, Finds, finds, Replaced, by_none, by_trial, by_take, Goes, steady}
 use Rattle.cr_syntax.proofs.MachineRows.{knows, beyond_done}
 
 -- the levels where a run is refused
@@ -28,12 +29,6 @@ levels_by crowded = 0
 abbrev pub is_crowded : Way → Bool
 is_crowded crowded = true
 is_crowded _ = false
-
-place : (i k : ℕ) → i ≤ k → (i < k) ⊎ (i ≡ k)
-place zero zero le = inr refl
-place zero (suc k) le = inl (omega arith)
-place (suc i) zero le = absurd (omega arith)
-place (suc i) (suc k) le = elim (place i k (omega arith)) [ inl lt ↦ inl (omega arith) | inr e ↦ inr (ap suc e) ]
 
 end_reach : {ts : List Lexeme} {limit : Limit} {p : Prog} {c : Scopes} {i k : ℕ} {w : Way} → Ends body ts limit p c i w k → i ≤ k
 end_reach z = reach (refused_so z)
@@ -91,10 +86,7 @@ module _ {ts : List Lexeme} {limit : Limit} where
   beyond_end (end_take x a z) q y = let n = end_reach z in omega arith
   beyond_end (end_crowded x a) q y = true_false q
   beyond_end (end_pass x z) q y = beyond_end z q (y x)
-  beyond_end (end_bar x) q y = not_both x y.0
-    where
-      not_both : {A : Type 0} {b : Bool} → b ≡ true → b ≡ false → A
-      not_both x y = cc
+  beyond_end (end_bar x) q y = absurd (both_ways _ y.0 x)
   beyond_end (end_free x z) q y = beyond_end z q y.1
   beyond_end (end_seen x z) q y = beyond_end z q (y.0 x)
   beyond_end (end_unseen x z) q y = beyond_end z q (y.1 x)
@@ -109,25 +101,15 @@ module _ {ts : List Lexeme} {limit : Limit} where
 
 -- a test of `[` that a token doesn't pass
 not_tried : (us : List Lexeme) (c : Scopes) (i : ℕ) (x : Test) → tries x ≡ true → passes us c i x ≡ false → Is us i word.LeftBracket → ⊥
-not_tried us c i (the word.LeftBracket) q n z = by (yes z) n
-  where
-    by : {b : Bool} → b ≡ true → b ≡ false → ⊥
-    by x y = cc
+not_tried us c i (the word.LeftBracket) q n z = both_ways _ n (yes z)
 not_tried us c i _ q n z = none_true q
-
-one_of : (x y : Bool) → x || y ≡ true → (x ≡ true) ⊎ (y ≡ true)
-one_of true y q = inl refl
-one_of false y q = inr q
-
-apart : {b : Bool} → b ≡ true → b ≡ false → ⊥
-apart x y = cc
 
 -- The other text, its limit, and the levels from which on there is no room at token k.
 module _ (ts us : List Lexeme) (limit top : Limit) (k m : ℕ) (alike : (n : ℕ) → n < k → slice_get us n ≡ slice_get ts n)
     (block : (g : Manner) (x : Test) (d : ℕ) (c : Scopes) (i : ℕ) → i ≡ k → m ≤ levels_at g d → fits g x ≡ true → passes us c i x ≡ true → Allows top g i d → ⊥) where
   -- where a test says two things of the texts, it is asked at token k
   at_last : (c : Scopes) (i : ℕ) (x : Test) {b b' : Bool} → i ≤ k → passes ts c i x ≡ b → passes us c i x ≡ b' → (b ≡ b' → ⊥) → i ≡ k
-  at_last c i x le q q' f = elim (place i k le) [ inl lt ↦ absurd (f (sym q ∙ sym (passes_same ts us i (alike i lt) c x) ∙ q')) | inr e ↦ e ]
+  at_last c i x le q q' f = elim (eq-or-lt_of_le {n = i} {m = k} le) [ inl e ↦ e | inr lt ↦ absurd (f (sym q ∙ sym (passes_same ts us i (alike i lt) c x) ∙ q')) ]
 
   -- a program that must consume token k gives nothing
   gives_none : {p : Prog} {c e : Scopes} {i j b : ℕ} {t : Trees} → Runs body us top p c i (Done t e j) → i ≡ k → m ≤ b → IsEager b p → ⊥
@@ -174,8 +156,8 @@ module _ (ts us : List Lexeme) (limit top : Limit) (k m : ℕ) (alike : (n : ℕ
       absurd (gives_none h' q (omega arith) y.0)
   same_done l b o (run_unseen x h) (run_unseen x' h') y le z = same_done l _ _ h h' y.3 le z
   same_done l b o (run_yes x h) (run_yes x' h') y le z = same_done l _ _ h h' (y.0 x) le z
-  same_done l b o (run_yes x h) (run_no x' h') y le z = absurd (apart x x')
-  same_done l b o (run_no x h) (run_yes x' h') y le z = absurd (apart x' x)
+  same_done l b o (run_yes x h) (run_no x' h') y le z = absurd (both_ways _ x' x)
+  same_done l b o (run_no x h) (run_yes x' h') y le z = absurd (both_ways _ x x')
   same_done l b o (run_no x h) (run_no x' h') y le z = same_done l _ _ h h' (y.1 x) le z
   same_done l b o (run_here h) (run_here h') y le z = same_done l _ _ h h' y le z
   same_done l b o (run_look h) (run_look h') y le z = same_done l _ _ h h' y le z
@@ -218,7 +200,7 @@ module _ (ts us : List Lexeme) (limit top : Limit) (k m : ℕ) (alike : (n : ℕ
       let lt = low_end l _ _ z (omega arith) y.3 in
       block g x d c i q (omega arith) y.1 v' a'
   stuck l b o {c = c} {i = i} (end_pass {x = x} v z) (run_pass v' h') e y cr le st inv =
-      stuck l _ _ z h' e y.3 cr le st (λ q e' s. elim (one_of (tries x) o q) [ inl a ↦ not_tried us c i x a v' (subst (λ j. Is us j word.LeftBracket) (sym e') s) | inr a ↦ inv a e' s ])
+      stuck l _ _ z h' e y.3 cr le st (λ q e' s. elim (or_cases (tries x) o q) [ inl a ↦ not_tried us c i x a v' (subst (λ j. Is us j word.LeftBracket) (sym e') s) | inr a ↦ inv a e' s ])
   stuck l b o {k' = k'} (end_bar {x = x} {n = n} {d = d} {p = p} v) (run_free v' h') e y cr le st inv = by (st x n d refl) y.1
     where
       by : Stand n → Replaced n d o p → ⊥
@@ -238,8 +220,8 @@ module _ (ts us : List Lexeme) (limit top : Limit) (k m : ℕ) (alike : (n : ℕ
       gives_none h' q (omega arith) y.0
   stuck l b o (end_unseen x z) (run_unseen x' h') e y cr le st inv = stuck l _ _ z h' e y.3 cr le st inv
   stuck l b o (end_yes x z) (run_yes x' h') e y cr le st inv = stuck l _ _ z h' e (y.0 x) cr le st inv
-  stuck l b o (end_yes x z) (run_no x' h') e y cr le st inv = apart x x'
-  stuck l b o (end_no x z) (run_yes x' h') e y cr le st inv = apart x' x
+  stuck l b o (end_yes x z) (run_no x' h') e y cr le st inv = both_ways _ x' x
+  stuck l b o (end_no x z) (run_yes x' h') e y cr le st inv = both_ways _ x x'
   stuck l b o (end_no x z) (run_no x' h') e y cr le st inv = stuck l _ _ z h' e (y.1 x) cr le st inv
   stuck l b o (end_here z) (run_here h') e y cr le st inv = stuck l _ _ z h' e y cr le st inv
   stuck l b o (end_look z) (run_look h') e y cr le st inv = stuck l _ _ z h' e y cr le st inv
