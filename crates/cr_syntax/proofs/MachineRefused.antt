@@ -1,14 +1,17 @@
 -- What the machine's refusal of a token says of texts: at the levels where it stopped none leaves room, the tokens before
 -- spell nothing, and the bracket that stands in a refused one's place has no room either.
-use Rattle.std.proofs.Common.{◌≡◌, ℕ, zero, suc, ◌+◌, ◌<◌, ◌≤◌, true, false, not, List, [], ◌∷◌, length, Option, None, Some, refl, sym, ap, subst, ◌∙◌, arith}
+use Rattle.std.proofs.Common.{◌≡◌, ℕ, ◌+◌, ◌<◌, ◌≤◌, true, false, not, List, [], length, Option, None, Some, refl, sym, ap, subst, ◌∙◌, arith}
 use Rattle.std.specs.Prelude.{slice_get, set}
 use Rattle.std.proofs.lemmas.Bool.{both_ways}
+use Rattle.std.proofs.lemmas.List.{length-set}
 use Rattle.cr_syntax.specs.declared.word.Word.{Word}
 use Rattle.cr_syntax.specs.declared.word.Word.TheVariants as word
+use Rattle.cr_syntax.specs.declared.symbol.Part.{Part}
+use Rattle.cr_syntax.specs.declared.symbol.Context.{Context}
 use Rattle.cr_syntax.specs.Words.{Lexeme}
 use Rattle.cr_syntax.specs.Scopes.{Scopes}
 use Rattle.cr_syntax.specs.Trees.{Trees}
-use Rattle.cr_syntax.specs.Spells.{Limit, Free, Upto, Leaving, Is}
+use Rattle.cr_syntax.specs.Spells.{Limit, Free, Upto, Leaving, Is, Spells, a}
 use Rattle.cr_syntax.specs.Units.{is_unused, with_word, StandsIn, list_for_designator, group_for_literal, subscript_for_call, block_for_body}
 use Rattle.cr_syntax.specs.Machine.{Manner, Test, plain, opens, reopens, the, has, ordinary, type_identifier, declared, or, Allows, passes, levels_at, is_bracket}
 use Rattle.cr_syntax.specs.MachineBody.{body, start_goal}
@@ -18,29 +21,21 @@ use Rattle.cr_syntax.proofs.Tests.{both, not_true, some_one}
 use Rattle.cr_syntax.proofs.MachineGives.{holds}
 use Rattle.cr_syntax.proofs.MachineFirst.{none_true}
 use Rattle.cr_syntax.proofs.MachineComplete.{spelled_is_read, free_at_end, get_some}
-use Rattle.cr_syntax.proofs.MachineEnds.{stopped, barring, Ends}
+use Rattle.cr_syntax.proofs.MachineEnds.{Way, stopped, barring, Ends}
+use Rattle.cr_syntax.proofs.MachineViable.{word_before, word_there}
 use Rattle.cr_syntax.proofs.MachineSteady.{enters, leaves, fits, steady}
-use Rattle.cr_syntax.proofs.MachineStuck.{stuck}
+use Rattle.cr_syntax.proofs.MachineStuck.{levels_by, is_crowded, Stand, stuck}
 use Rattle.cr_syntax.proofs.MachineClosed.{closed, closed_before, closed_at, spelled_closed}
 
 -- A test of a token in the grammar's programs and the token's word.
 
--- no unused keyword passes
 no_keyword : (g : Manner) (w : Word) → fits g (the w) ≡ true → is_unused w ≡ false
 no_keyword plain w f = not_true (is_unused w) (both (not (is_unused w)) (not (is_bracket w)) f).0
 no_keyword opens w f = not_true (is_unused w) f
 no_keyword reopens w f = not_true (is_unused w) (both (not (is_unused w)) (not (is_bracket w)) f).0
 
-pub passes_no_keyword : (us : List Lexeme) (c : Scopes) (i : ℕ) (g : Manner) (x : Test) (v : Word) → fits g x ≡ true → passes us c i x ≡ true → Is us i v → is_unused v ≡ false
-passes_no_keyword us c i g (the w) v f q z = subst (λ y. is_unused y ≡ false) (some_one (sym (holds us c i (the w) q) ∙ z)) (no_keyword g w f)
-passes_no_keyword us c i g (has t) v f q z = none_true f
-passes_no_keyword us c i g ordinary v f q z = subst (λ y. is_unused y ≡ false) (some_one (sym (holds us c i ordinary q).0 ∙ z)) refl
-passes_no_keyword us c i g (type_identifier typed) v f q z = subst (λ y. is_unused y ≡ false) (some_one (sym (holds us c i (type_identifier typed) q).0.0 ∙ z)) refl
-passes_no_keyword us c i g (declared typed) v f q z = subst (λ y. is_unused y ≡ false) (some_one (sym (holds us c i (declared typed) q).0 ∙ z)) refl
-passes_no_keyword us c i g (or x y) v f q z = none_true f
-
--- nor a bracket, where it opens no level
-pub data IsFlat : Manner → Type 0 where
+-- tokens that open no level
+data IsFlat : Manner → Type 0 where
   flat_plain : IsFlat plain
   flat_reopens : IsFlat reopens
 
@@ -48,22 +43,20 @@ no_bracket : {g : Manner} → IsFlat g → (w : Word) → fits g (the w) ≡ tru
 no_bracket flat_plain w f = not_true (is_bracket w) (both (not (is_unused w)) (not (is_bracket w)) f).1
 no_bracket flat_reopens w f = not_true (is_bracket w) (both (not (is_unused w)) (not (is_bracket w)) f).1
 
-pub passes_no_bracket : (us : List Lexeme) (c : Scopes) (i : ℕ) {g : Manner} → IsFlat g → (x : Test) (v : Word) → fits g x ≡ true → passes us c i x ≡ true → Is us i v → is_bracket v ≡ false
-passes_no_bracket us c i l (the w) v f q z = subst (λ y. is_bracket y ≡ false) (some_one (sym (holds us c i (the w) q) ∙ z)) (no_bracket l w f)
-passes_no_bracket us c i l (has t) v f q z = none_true f
-passes_no_bracket us c i l ordinary v f q z = subst (λ y. is_bracket y ≡ false) (some_one (sym (holds us c i ordinary q).0 ∙ z)) refl
-passes_no_bracket us c i l (type_identifier typed) v f q z = subst (λ y. is_bracket y ≡ false) (some_one (sym (holds us c i (type_identifier typed) q).0.0 ∙ z)) refl
-passes_no_bracket us c i l (declared typed) v f q z = subst (λ y. is_bracket y ≡ false) (some_one (sym (holds us c i (declared typed) q).0 ∙ z)) refl
-passes_no_bracket us c i l (or x y) v f q z = none_true f
+-- a token that passes is no unused keyword, nor a bracket that opens no level
+record Passed (us : List Lexeme) (i : ℕ) (g : Manner) : Type 0 where
+  word : Word
+  is : Is us i word
+  used : is_unused word ≡ false
+  flat : IsFlat g → is_bracket word ≡ false
 
--- a passed test has a token
-passes_some : (us : List Lexeme) (c : Scopes) (i : ℕ) (g : Manner) (x : Test) → fits g x ≡ true → passes us c i x ≡ true → (v : Word) × Is us i v
-passes_some us c i g (the w) f q = (w, holds us c i (the w) q)
-passes_some us c i g (has t) f q = none_true f
-passes_some us c i g ordinary f q = (word.Identifier, (holds us c i ordinary q).0)
-passes_some us c i g (type_identifier typed) f q = (word.Identifier, (holds us c i (type_identifier typed) q).0.0)
-passes_some us c i g (declared typed) f q = (word.Identifier, (holds us c i (declared typed) q).0)
-passes_some us c i g (or x y) f q = none_true f
+passed : (us : List Lexeme) (c : Scopes) (i : ℕ) (g : Manner) (x : Test) → fits g x ≡ true → passes us c i x ≡ true → Passed us i g
+passed us c i g (the w) f q = record { word = w; is = holds us c i (the w) q; used = no_keyword g w f; flat = λ l. no_bracket l w f }
+passed us c i g (has t) f q = none_true f
+passed us c i g ordinary f q = record { word = word.Identifier; is = (holds us c i ordinary q).0; used = refl; flat = λ l. refl }
+passed us c i g (type_identifier typed) f q = record { word = word.Identifier; is = (holds us c i (type_identifier typed) q).0.0; used = refl; flat = λ l. refl }
+passed us c i g (declared typed) f q = record { word = word.Identifier; is = (holds us c i (declared typed) q).0; used = refl; flat = λ l. refl }
+passed us c i g (or x y) f q = none_true f
 
 -- Texts.
 
@@ -71,27 +64,17 @@ passes_some us c i g (or x y) f q = none_true f
 same_tokens : (ts us : List Lexeme) (k : ℕ) → k ≤ length ts → ((i : ℕ) (x : Lexeme) → i < k → slice_get ts i ≡ Some x → slice_get us i ≡ Some x) → (n : ℕ) → n < k → slice_get us n ≡ slice_get ts n
 same_tokens ts us k le f n lt = let w = get_some ts n (omega arith) in f n w.0 lt w.1 ∙ sym w.1
 
-set_length : (ts : List Lexeme) (k : ℕ) (y : Lexeme) → length (set ts k y) ≡ length ts
-set_length [] zero y = refl
-set_length [] (suc k) y = refl
-set_length (x ∷ ts) zero y = refl
-set_length (x ∷ ts) (suc k) y = ap suc (set_length ts k y)
-
-set_other : (ts : List Lexeme) (k : ℕ) (y : Lexeme) (n : ℕ) → n < k → slice_get (set ts k y) n ≡ slice_get ts n
-set_other [] zero y n lt = refl
-set_other [] (suc k) y n lt = refl
-set_other (x ∷ ts) zero y n lt = absurd (omega arith)
-set_other (x ∷ ts) (suc k) y zero lt = refl
-set_other (x ∷ ts) (suc k) y (suc n) lt = set_other ts k y n (omega arith)
-
-set_there : (ts : List Lexeme) (k : ℕ) (y : Lexeme) → k < length ts → slice_get (set ts k y) k ≡ Some y
-set_there [] k y lt = absurd (omega arith)
-set_there (x ∷ ts) zero y lt = refl
-set_there (x ∷ ts) (suc k) y lt = set_there ts k y (omega arith)
+-- a text that is blocked where another one is refused is spelled by no trees
+module _ {ts us : List Lexeme} {limit top : Limit} {k : ℕ} (m : ℕ) (alike : (n : ℕ) → n < k → slice_get us n ≡ slice_get ts n)
+    (block : (g : Manner) (x : Test) (d : ℕ) (c : Scopes) (i : ℕ) → i ≡ k → m ≤ levels_at g d → fits g x ≡ true → passes us c i x ≡ true → Allows top g i d → ⊥) where
+  unspelled : {p : Part} {h : Context} {c e : Scopes} {d i n : ℕ} {w : Way} {t : Trees} → IsStart p → Ends body ts limit (body (start_goal p d)) c i w k → is_crowded w ≡ false → m ≤ levels_by w →
+      ((x : Test) (n d : ℕ) → w ≡ barring x n d → Stand us k n) → Spells us top (a p) h c e d t i n → IsFree us 13 n → ⊥
+  unspelled {p = p} {c = c} {d = d} {i = i} z y cr le st s f =
+      stuck ts us limit top k m alike block (leaves (start_goal p d)) (enters (start_goal p d)) false y (spelled_is_read us top z s f) refl (steady ts (start_goal p d) c i) cr le st (λ q. none_true q)
 
 -- Refusals.
 
-no_bar : {d : ℕ} {A : Type 0} (x : Test) (n e : ℕ) → stopped d ≡ barring x n e → A
+no_bar : {us : List Lexeme} {d k : ℕ} (x : Test) (n e : ℕ) → stopped d ≡ barring x n e → Stand us k n
 no_bar x n e q = cc
 
 -- at the levels where it stopped or with more none leaves room
@@ -102,26 +85,21 @@ allows_none most k reopens i d q le w = let n = w.0 q in absurd (omega arith)
 
 pub no_room : {ts : List Lexeme} {limit : Limit} (most : ℕ) (s : Start) {d k : ℕ} → IsStart s.part → k ≤ length ts → most ≤ d →
     Ends body ts limit (body (start_goal s.part s.depth)) s.scopes s.at (stopped d) k → BeginsFrom (Leaving k most) ts s k → ⊥
-no_room {ts = ts} {limit = limit} most s {d = d} {k = k} z le up h b =
-    let us = b.continues.text in
-    stuck ts us limit (Leaving k most) k most (same_tokens ts us k le b.continues.alike) (λ g x d c i q low f v w. allows_none most k g i d q low w)
-    (leaves (start_goal s.part s.depth)) (enters (start_goal s.part s.depth)) false h
-    (spelled_is_read us (Leaving k most) z b.continues.spelled.spells (free_at_end us 13)) refl (steady ts (start_goal s.part s.depth) s.scopes s.at) refl up (λ x n d q. no_bar x n d q) (λ q. none_true q)
+no_room {ts = ts} most s {k = k} z le up y b =
+    unspelled most (same_tokens ts b.continues.text k le b.continues.alike) (λ g x d c i q low f v w. allows_none most k g i d q low w) z y refl up no_bar b.continues.spelled.spells (free_at_end b.continues.text 13)
 
 -- the tokens before spell nothing
 closed_blocks : (ts : List Lexeme) (k : ℕ) (c : Scopes) (g : Manner) (x : Test) (i : ℕ) → i ≡ k → fits g x ≡ true → passes (closed k ts) c i x ≡ true → ⊥
 closed_blocks ts k c g x i q f v =
-    let w = passes_some (closed k ts) c i g x f v in
-    both_ways (is_unused w.0) (passes_no_keyword (closed k ts) c i g x w.0 f v w.1) (subst (λ y. is_unused y ≡ true) (closed_at k ts w.0 (subst (λ y. Is (closed k ts) y w.0) q w.1)) refl)
+    let w = passed (closed k ts) c i g x f v in
+    both_ways (is_unused w.word) w.used (subst (λ y. is_unused y ≡ true) (closed_at k ts w.word (subst (λ y. Is (closed k ts) y w.word) q w.is)) refl)
 
 closed_free : (ts : List Lexeme) (k : ℕ) → IsFree (closed k ts) 13 k
 closed_free ts k = record { all = λ w q. subst (λ y. 13 < rank_of y) (closed_at k ts w q) (omega arith) }
 
 pub spells_none : {ts : List Lexeme} {limit : Limit} (s : Start) {d k : ℕ} {t : Trees} → IsStart s.part → Ends body ts limit (body (start_goal s.part s.depth)) s.scopes s.at (stopped d) k → Spelled Free ts s k t → ⊥
-spells_none {ts = ts} {limit = limit} s {k = k} z h y =
-    stuck ts (closed k ts) limit Free k 0 (closed_before k ts) (λ g x d c i q low f v w. closed_blocks ts k c g x i q f v)
-    (leaves (start_goal s.part s.depth)) (enters (start_goal s.part s.depth)) false h
-    (spelled_is_read (closed k ts) Free z (spelled_closed k y.spells) (closed_free ts k)) refl (steady ts (start_goal s.part s.depth) s.scopes s.at) refl (omega arith) (λ x n d q. no_bar x n d q) (λ q. none_true q)
+spells_none {ts = ts} s {k = k} z y t =
+    unspelled 0 (closed_before k ts) (λ g x d c i q low f v w. closed_blocks ts k c g x i q f v) z y refl (omega arith) no_bar (spelled_closed k t.spells) (closed_free ts k)
 
 -- the bracket in a refused one's place
 stands_bracket : {n : ℕ} {v : Word} → StandsIn n v → is_bracket v ≡ true
@@ -132,30 +110,33 @@ stands_bracket block_for_body = refl
 
 allows_bracket : (us : List Lexeme) (most k : ℕ) (v : Word) → is_bracket v ≡ true → Is us k v → (g : Manner) (x : Test) (d : ℕ) (c : Scopes) (i : ℕ) → i ≡ k → most ≤ levels_at g d → fits g x ≡ true → passes us c i x ≡ true →
     Allows (Upto (k + 1) most) g i d → ⊥
-allows_bracket us most k v b s plain x d c i q le f y w = both_ways (is_bracket v) (passes_no_bracket us c i flat_plain x v f y (subst (λ j. Is us j v) (sym q) s)) b
-allows_bracket us most k v b s opens x d c i q le f y w = let n = w (omega arith) in absurd (omega arith)
-allows_bracket us most k v b s reopens x d c i q le f y w = both_ways (is_bracket v) (passes_no_bracket us c i flat_reopens x v f y (subst (λ j. Is us j v) (sym q) s)) b
+allows_bracket us most k v b s = by
+  where
+    flat : (g : Manner) (x : Test) (c : Scopes) (i : ℕ) → IsFlat g → i ≡ k → fits g x ≡ true → passes us c i x ≡ true → ⊥
+    flat g x c i l q f y = let w = passed us c i g x f y in both_ways (is_bracket v) (subst (λ u. is_bracket u ≡ false) (some_one (sym w.is ∙ subst (λ j. Is us j v) (sym q) s)) (w.flat l)) b
+
+    by : (g : Manner) (x : Test) (d : ℕ) (c : Scopes) (i : ℕ) → i ≡ k → most ≤ levels_at g d → fits g x ≡ true → passes us c i x ≡ true → Allows (Upto (k + 1) most) g i d → ⊥
+    by plain x d c i q le f y w = flat plain x c i flat_plain q f y
+    by opens x d c i q le f y w = let n = w (omega arith) in absurd (omega arith)
+    by reopens x d c i q le f y w = flat reopens x c i flat_reopens q f y
 
 same_row : {x y : Test} {n n' d d' : ℕ} → barring x n d ≡ barring y n' d' → n ≡ n'
 same_row q = cc
 
 pub no_room_instead : {ts : List Lexeme} {limit : Limit} (most : ℕ) (s : Start) {x : Test} {n d k : ℕ} {v : Word} → IsStart s.part → k < length ts → most ≤ d → StandsIn n v →
     Ends body ts limit (body (start_goal s.part s.depth)) s.scopes s.at (barring x n d) k → BeginsFrom (Upto (k + 1) most) (with_word ts k v) s (k + 1) → ⊥
-no_room_instead {ts = ts} {limit = limit} most s {n = n} {k = k} {v = v} z lt up r h b =
-    let us = b.continues.text in
-    stuck ts us limit (Upto (k + 1) most) k most alike (allows_bracket us most k v (stands_bracket r) there)
-    (leaves (start_goal s.part s.depth)) (enters (start_goal s.part s.depth)) false h
-    (spelled_is_read us (Upto (k + 1) most) z b.continues.spelled.spells (free_at_end us 13)) refl (steady ts (start_goal s.part s.depth) s.scopes s.at) refl up
-    (λ x n' d' q. record { word = v; stands = subst (λ y. StandsIn y v) (same_row q) r; is = there }) (λ q. none_true q)
+no_room_instead {ts = ts} most s {k = k} {v = v} z lt up r y b =
+    unspelled most (λ n lt'. tokens n (omega arith) ∙ word_before ts k n new lt') (allows_bracket us most k v (stands_bracket r) there) z y refl up
+    (λ x n d q. record { word = v; stands = subst (λ n. StandsIn n v) (same_row q) r; is = there }) b.continues.spelled.spells (free_at_end us 13)
   where
+    us : List Lexeme
+    us = b.continues.text
+
     new : Lexeme
     new = record { word = v; spelling = [] }
 
-    tokens : (n : ℕ) → n < k + 1 → slice_get b.continues.text n ≡ slice_get (set ts k new) n
-    tokens = let q = set_length ts k new in same_tokens (set ts k new) b.continues.text (k + 1) (omega arith) b.continues.alike
+    tokens : (n : ℕ) → n < k + 1 → slice_get us n ≡ slice_get (set ts k new) n
+    tokens = let q = length-set ts k new in same_tokens (set ts k new) us (k + 1) (omega arith) b.continues.alike
 
-    alike : (n : ℕ) → n < k → slice_get b.continues.text n ≡ slice_get ts n
-    alike n lt' = tokens n (omega arith) ∙ set_other ts k new n lt'
-
-    there : Is b.continues.text k v
-    there = ap (λ o. elim o as (λ _. Option Word) [ None ↦ None | Some t ↦ Some t.word ]) (tokens k (omega arith) ∙ set_there ts k new lt)
+    there : Is us k v
+    there = ap (λ o. elim o as (λ _. Option Word) [ None ↦ None | Some t ↦ Some t.word ]) (tokens k (omega arith) ∙ word_there ts k new lt)

@@ -104,6 +104,12 @@ not_tried : (us : List Lexeme) (c : Scopes) (i : ℕ) (x : Test) → tries x ≡
 not_tried us c i (the word.LeftBracket) q n z = both_ways _ n (yes z)
 not_tried us c i _ q n z = none_true q
 
+-- a bracket that stands at token k in the place of a refused one
+pub record Stand (us : List Lexeme) (k n : ℕ) : Type 0 where
+  pub word : Word
+  pub stands : StandsIn n word
+  pub is : Is us k word
+
 -- The other text, its limit, and the levels from which on there is no room at token k.
 module _ (ts us : List Lexeme) (limit top : Limit) (k m : ℕ) (alike : (n : ℕ) → n < k → slice_get us n ≡ slice_get ts n)
     (block : (g : Manner) (x : Test) (d : ℕ) (c : Scopes) (i : ℕ) → i ≡ k → m ≤ levels_at g d → fits g x ≡ true → passes us c i x ≡ true → Allows top g i d → ⊥) where
@@ -178,15 +184,9 @@ module _ (ts us : List Lexeme) (limit top : Limit) (k m : ℕ) (alike : (n : ℕ
           let lt' = low_done l (leaves g) false h1 (omega arith) w in
           omega arith
 
-  -- A bracket that stands at token k in the place of the refused one.
-  pub record Stand (n : ℕ) : Type 0 where
-    pub word : Word
-    pub stands : StandsIn n word
-    pub is : Is us k word
-
   -- where one text is refused at token k, with so many levels or more, nothing is read in the other
   pub stuck : (l b : ℕ) (o : Bool) {p : Prog} {c f : Scopes} {i k' n : ℕ} {w : Way} {u : Trees} → Ends body ts limit p c i w k' → Runs body us top p c i (Done u f n) → k' ≡ k → Goes ts p l b o c i → is_crowded w ≡ false → m ≤ levels_by w →
-      ((x : Test) (n d : ℕ) → w ≡ barring x n d → Stand n) → (o ≡ true → i ≡ k → Is us k word.LeftBracket → ⊥) → ⊥
+      ((x : Test) (n d : ℕ) → w ≡ barring x n d → Stand us k n) → (o ≡ true → i ≡ k → Is us k word.LeftBracket → ⊥) → ⊥
   stuck l b o end_stop h' e y cr le st inv = elim h' [ ]
   stuck l b o (end_take x a z) (run_take x' a' h') e y cr le st inv = stuck l _ _ z h' e y.2 cr le st (λ q. none_true q)
   stuck l b o {c = c} {i = i} (end_take {x = x} v a z) (run_pass v' h') e y cr le st inv =
@@ -203,7 +203,7 @@ module _ (ts us : List Lexeme) (limit top : Limit) (k m : ℕ) (alike : (n : ℕ
       stuck l _ _ z h' e y.3 cr le st (λ q e' s. elim (or_cases (tries x) o q) [ inl a ↦ not_tried us c i x a v' (subst (λ j. Is us j word.LeftBracket) (sym e') s) | inr a ↦ inv a e' s ])
   stuck l b o {k' = k'} (end_bar {x = x} {n = n} {d = d} {p = p} v) (run_free v' h') e y cr le st inv = by (st x n d refl) y.1
     where
-      by : Stand n → Replaced n d o p → ⊥
+      by : Stand us k n → Replaced n d o p → ⊥
       by s (by_none f) = f s.word s.stands
       by s (by_trial f q) = inv q e (subst (λ v. Is us k v) (f s.word s.stands) s.is)
       by s (by_take q) = gives_none h' e le q

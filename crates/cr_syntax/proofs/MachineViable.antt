@@ -61,13 +61,13 @@ token_is ts i x = by (slice_get ts i)
     by (Some y) q r = ap (λ w. Some (record { word = w; spelling = y.spelling })) (some_word q) ∙ ap (λ s. Some (record { word = x.word; spelling = s })) r
 
 -- the list with another word at token k, before that token and there
-word_before : (ts : List Lexeme) (k i : ℕ) (x : Lexeme) → i < k → slice_get (set ts k x) i ≡ slice_get ts i
+pub word_before : (ts : List Lexeme) (k i : ℕ) (x : Lexeme) → i < k → slice_get (set ts k x) i ≡ slice_get ts i
 word_before [] k i x lt = refl
 word_before (y ∷ ts) zero i x lt = absurd (omega arith)
 word_before (y ∷ ts) (suc k) zero x lt = refl
 word_before (y ∷ ts) (suc k) (suc i) x lt = word_before ts k i x (omega arith)
 
-word_there : (ts : List Lexeme) (k : ℕ) (x : Lexeme) → k < length ts → slice_get (set ts k x) k ≡ Some x
+pub word_there : (ts : List Lexeme) (k : ℕ) (x : Lexeme) → k < length ts → slice_get (set ts k x) k ≡ Some x
 word_there [] k x lt = absurd (omega arith)
 word_there (y ∷ ts) zero x lt = refl
 word_there (y ∷ ts) (suc k) x lt = word_there ts k x (omega arith)
