@@ -15,8 +15,8 @@ use Rattle.cr_syntax.specs.Spells.{Limit, Free, AtMost, Upto, Is, Spells, a}
 use Rattle.cr_syntax.specs.Units.{most_levels, is_unused, IsBracket, parenthesis, bracket, brace, StandsIn, group_for_literal, subscript_for_call}
 use Rattle.cr_syntax.specs.Machine.{Prog, Test, whole, Reply, Cause, Done, Failed, Runs, passes, has, barred, refusal_of, overflows, is_bracket, too_deep, ended, outside, unexpected, run_give, run_stop, run_take, run_deep, run_pass, run_bar, run_free, run_seen, run_unseen, run_yes, run_no, run_here, run_look, run_set, run_bring, run_call, run_fail}
 use Rattle.cr_syntax.specs.MachineBody.{body, start_goal}
-use Rattle.cr_syntax.specs.MachineLaws.{end_of, IsStart, start_expression, start_assignment, start_conditional}
-use Rattle.cr_syntax.specs.Expressions.{Start, Spelled, BeginsFrom, OutsideFrom, unused_keyword, compound_literal, called_expression, bit_field, IsTooDeepFrom, IsFineFrom, RunEnds, Outcome, Read, Refused, IsReading}
+use Rattle.cr_syntax.specs.MachineLaws.{end_of, outcome_of, IsStart, start_expression, start_assignment, start_conditional}
+use Rattle.cr_syntax.specs.Expressions.{Start, Spelled, BeginsFrom, OutsideFrom, unused_keyword, compound_literal, called_expression, bit_field, IsTooDeepFrom, IsFineFrom, RunEnds, Read, Refused, IsReading}
 use Rattle.cr_syntax.specs.Expressions as expressions
 use Rattle.cr_syntax.proofs.Tests.{both, not_true, some_one}
 use Rattle.cr_syntax.proofs.MachineRuns.{same, local}
@@ -137,11 +137,6 @@ at_end ts k le q = elim (eq-or-lt_of_le {n = k} {m = length ts} le) [ inl e ↦ 
   where
     by : {A : Type 0} {v : Word} → word_at ts k ≡ Some v → word_at ts k ≡ None → A
     by x y = cc
-
--- what an answer is as an outcome
-abbrev pub outcome_of : Reply → Outcome
-outcome_of (Done t e j) = Read t j
-outcome_of (Failed x k) = Refused (refusal_of x k)
 
 module _ (ts : List Lexeme) (s : Start) (z : IsStart s.part) (le : s.at ≤ length ts) where
   abbrev Answers : Reply → Type 0
