@@ -31,7 +31,7 @@ use Rattle.cr_syntax.proofs.MachineViable.{prefix, prefix_length, prefix_get, pa
 use Rattle.cr_syntax.proofs.MachineWays.{at}
 use Rattle.cr_syntax.proofs.MachineForms.{within, IsBarring, by_row, outside_is_end, outside_is_refused}
 use Rattle.cr_syntax.proofs.MachineUnused.{begun_is_used}
-use Rattle.cr_syntax.proofs.MachineParts.{given, refused_or_free, within_or_refused}
+use Rattle.cr_syntax.proofs.MachineParts.{given, refused_or_free, answered_or_refused}
 use Rattle.cr_syntax.proofs.MachineStuck.{is_crowded}
 use Rattle.cr_syntax.proofs.MachineRefused.{no_room, spells_none, no_room_instead}
 
@@ -337,7 +337,7 @@ module _ (ts : List Lexeme) (s : Start) (z : IsStart s.part) (le : s.at ≤ leng
 
 -- what the machine answers is what reading promises
 pub is_reading : (ts : List Lexeme) (s : Start) (r : Reply) → IsStart s.part → s.at ≤ length ts → Runs body ts (AtMost most_levels) (body (whole s.part s.depth)) s.scopes s.at r → IsReading ts s (outcome_of r)
-is_reading ts s r z le h = elim (within_or_refused h) [
+is_reading ts s r z le h = elim (answered_or_refused h) [
   | inl w ↦
       elim (refused_or_free w.others) [
         | inl (q, e) ↦ subst (λ r. IsReading ts s (outcome_of r)) e (keyword_is_reading ts s z le w.goal q)

@@ -1,4 +1,4 @@
--- What the machine's refusal of a token says of texts: at the levels where it stopped none leaves room, the tokens before
+-- What the machine's refusal of a token says of texts: at the levels where it stopped none levels_out room, the tokens before
 -- spell nothing, and the bracket that stands in a refused one's place has no room either.
 use Rattle.std.proofs.Common.{◌≡◌, ℕ, ◌+◌, ◌<◌, ◌≤◌, true, false, not, List, [], length, Option, None, Some, refl, sym, ap, subst, ◌∙◌, arith}
 use Rattle.std.specs.Prelude.{slice_get, set}
@@ -23,7 +23,7 @@ use Rattle.cr_syntax.proofs.MachineFirst.{none_true}
 use Rattle.cr_syntax.proofs.MachineComplete.{spelled_is_read, free_at_end, get_some}
 use Rattle.cr_syntax.proofs.MachineEnds.{Way, stopped, barring, Ends}
 use Rattle.cr_syntax.proofs.MachineViable.{word_before, word_there}
-use Rattle.cr_syntax.proofs.MachineSteady.{enters, leaves, fits, steady}
+use Rattle.cr_syntax.proofs.MachineSteady.{levels_in, levels_out, start_levels, fits, steady}
 use Rattle.cr_syntax.proofs.MachineStuck.{levels_by, is_crowded, Stand, stuck}
 use Rattle.cr_syntax.proofs.MachineClosed.{closed, closed_before, closed_at, spelled_closed}
 
@@ -70,14 +70,14 @@ module _ {ts us : List Lexeme} {limit top : Limit} {k : ℕ} (m : ℕ) (alike : 
   unspelled : {p : Part} {h : Context} {c e : Scopes} {d i n : ℕ} {w : Way} {t : Trees} → IsStart p → Ends body ts limit (body (start_goal p d)) c i w k → is_crowded w ≡ false → m ≤ levels_by w →
       ((x : Test) (n d : ℕ) → w ≡ barring x n d → Stand us k n) → Spells us top (a p) h c e d t i n → IsFree us 13 n → ⊥
   unspelled {p = p} {c = c} {d = d} {i = i} z y cr le st s f =
-      stuck ts us limit top k m alike block (leaves (start_goal p d)) (enters (start_goal p d)) false y (spelled_is_read us top z s f) refl (steady ts (start_goal p d) c i) cr le st (λ q. none_true q)
+      stuck ts us limit top k 0 m (omega arith) alike block (levels_out (start_goal p d)) (levels_in (start_goal p d)) false y (spelled_is_read us top z s f) refl (steady ts 0 (start_goal p d) c i (start_levels 0 p d).0) cr le st (λ q. none_true q)
 
 -- Refusals.
 
 no_bar : {us : List Lexeme} {d k : ℕ} (x : Test) (n e : ℕ) → stopped d ≡ barring x n e → Stand us k n
 no_bar x n e q = cc
 
--- at the levels where it stopped or with more none leaves room
+-- at the levels where it stopped or with more none levels_out room
 allows_none : (most k : ℕ) (g : Manner) (i d : ℕ) → i ≡ k → most ≤ levels_at g d → Allows (Leaving k most) g i d → ⊥
 allows_none most k plain i d q le w = let n = w q in absurd (omega arith)
 allows_none most k opens i d q le w = let n = w (omega arith) in absurd (omega arith)

@@ -1,6 +1,6 @@
 -- At one token the levels of a program's tests never rise: each has the levels of the one before it or fewer, and where
 -- the program stops it says no more than the last of them. So says `Steady`, of a program and then goal by goal.
-use Rattle.std.proofs.Common.{◌≡◌, ℕ, ◌+◌, ◌≤◌, Bool, true, false, not, ◌&&◌, ◌||◌, List, [], ◌∷◌, Option, None, Some, refl, sym, ap, subst, ◌∙◌, arith, inl, inr}
+use Rattle.std.proofs.Common.{◌≡◌, ℕ, ◌+◌, ◌<◌, ◌≤◌, Bool, true, false, not, ◌&&◌, ◌||◌, List, [], ◌∷◌, Option, None, Some, refl, sym, ap, subst, ◌∙◌, arith, ◌⊎◌, inl, inr}
 use Rattle.std.proofs.lemmas.Bool.{both_ways, or_cases, or_from}
 use Rattle.cr_syntax.specs.declared.word.Word.{Word}
 use Rattle.cr_syntax.specs.declared.word.Word.TheVariants as word
@@ -62,23 +62,31 @@ depth_of (more_parameters d s a) = d
 depth_of (parameter d) = d
 
 -- those open at a goal's first token
-abbrev pub enters : Goal → ℕ
-enters (measured d s) = d + 1
-enters (grouped d s) = d + 1
-enters (arguments d a) = d + 1
-enters (members d s a) = d + 1
-enters (enumerators d s a) = d + 1
-enters (size d) = d + 1
-enters g = depth_of g
+abbrev pub levels_in : Goal → ℕ
+levels_in (measured d s) = d + 1
+levels_in (grouped d s) = d + 1
+levels_in (arguments d a) = d + 1
+levels_in (members d s a) = d + 1
+levels_in (enumerators d s a) = d + 1
+levels_in (size d) = d + 1
+levels_in g = depth_of g
 
 -- at the token that a goal answers at, it tests none with fewer
-abbrev pub leaves : Goal → ℕ
-leaves (measured d s) = d + 1
-leaves (arguments d a) = d + 1
-leaves (members d s a) = d + 1
-leaves (enumerators d s a) = d + 1
-leaves (size d) = d + 1
-leaves g = depth_of g
+abbrev pub levels_out : Goal → ℕ
+levels_out (measured d s) = d + 1
+levels_out (arguments d a) = d + 1
+levels_out (members d s a) = d + 1
+levels_out (enumerators d s a) = d + 1
+levels_out (size d) = d + 1
+levels_out g = depth_of g
+
+-- A goal may be called where the last test had b levels: it begins with no more. The floor is a level below which all that
+-- is to be refused is refused otherwise.
+abbrev pub Enters : ℕ → Goal → ℕ → Type 0
+Enters floor g b = levels_in g ≤ b
+
+pub enters_low : (floor : ℕ) (g : Goal) (b : ℕ) → Enters floor g b → levels_in g ≤ b
+enters_low floor g b x = x
 
 -- those open behind a token
 abbrev pub levels_behind : Manner → ℕ → ℕ
@@ -132,7 +140,7 @@ IsEager b (here p) = (i : ℕ) → IsEager b (p i)
 IsEager b (look p) = (c : Scopes) → IsEager b (p c)
 IsEager b (set e p) = IsEager b p
 IsEager b (bring k v p) = IsEager b p
-IsEager b (call g p) = (is_eager g ≡ true) × (b ≤ enters g)
+IsEager b (call g p) = (is_eager g ≡ true) × (b ≤ levels_in g)
 
 eager_choose : (g : Manner) (rs : Words) (b d : ℕ) (p : Kind → Prog) (q : Prog) → b ≤ levels_at g d → all_fit g rs ≡ true → IsEager b q → IsEager b (choose g rs d p q)
 eager_choose g [] b d p q le f x = x
@@ -144,7 +152,7 @@ specifiers_fit : (p : Part) → all_fit plain (specifier_words p) ≡ true
 specifiers_fit part.Specifiers = refl
 specifiers_fit _ = refl
 
-pub eager : (g : Goal) → is_eager g ≡ true → IsEager (enters g) (body g)
+pub eager : (g : Goal) → is_eager g ≡ true → IsEager (levels_in g) (body g)
 eager (cast d) q = λ i. (omega arith, refl, (refl, omega arith))
 eager (unary d) q = λ i.
     eager_choose opens unary_prefixes d d (prefixed (unary (d + 1)) i) (choose opens cast_prefixes d (prefixed (cast (d + 1)) i) (sized d i)) (omega arith) refl
@@ -319,7 +327,7 @@ pub data Replaced (n d : ℕ) (o : Bool) (p : Prog) : Type 0 where
   by_trial : ((v : Word) → StandsIn n v → v ≡ word.LeftBracket) → o ≡ true → Replaced n d o p
   by_take : IsEager d p → Replaced n d o p
 
-module _ (ts : List Lexeme) (known : Goal → Scopes → ℕ → Trees → Scopes → ℕ → Type 0) where
+module _ (ts : List Lexeme) (known : Goal → Scopes → ℕ → Trees → Scopes → ℕ → Type 0) (floor : ℕ) where
   -- Tests at one token: those before had b levels or more, and so has each before an answer at least l. A `[` was asked
   -- for where o says so.
   abbrev pub Steady : Prog → ℕ → ℕ → Bool → Scopes → ℕ → Type 0
@@ -327,13 +335,13 @@ module _ (ts : List Lexeme) (known : Goal → Scopes → ℕ → Trees → Scope
   Steady (stop d) l b o c i = d ≤ b
   Steady (take g x d p q) l b o c i = (levels_at g d ≤ b) × (fits g x ≡ true) × Steady p l (levels_behind g d) false c (i + 1) × Steady q l (levels_at g d) (tries x || o) c i
   Steady (bar x n d p) l b o c i = (d ≤ b) × Replaced n d o p × Steady p l b o c i
-  Steady (peek x p q) l b o c i = IsEager b p × (passes ts c i x ≡ true → Finds ts p c i) × Steady p l b o c i × Steady q l b o c i
+  Steady (peek x p q) l b o c i = IsEager b p × ((passes ts c i x ≡ true → Finds ts p c i) ⊎ (b < floor)) × Steady p l b o c i × Steady q l b o c i
   Steady (when v p q) l b o c i = (v ≡ true → Steady p l b o c i) × (v ≡ false → Steady q l b o c i)
   Steady (here p) l b o c i = Steady (p i) l b o c i
   Steady (look p) l b o c i = Steady (p c) l b o c i
   Steady (set e p) l b o c i = Steady p l b o e i
   Steady (bring k v p) l b o c i = Steady p l b o (enter (brought ts i k v) c) i
-  Steady (call g p) l b o c i = (enters g ≤ b) × ((t : Trees) (e : Scopes) (j : ℕ) → known g c i t e j → Steady (p t) l (leaves g) false e j)
+  Steady (call g p) l b o c i = Enters floor g b × ((t : Trees) (e : Scopes) (j : ℕ) → known g c i t e j → Steady (p t) l (levels_out g) false e j)
 
   steady_choose : (g : Manner) (rs : Words) (d : ℕ) (p : Kind → Prog) (q : Prog) (l : ℕ) (o : Bool) (c : Scopes) (i : ℕ) → all_fit g rs ≡ true → ((k : Kind) → Steady (p k) l (levels_behind g d) false c (i + 1)) →
       Steady q l (levels_at g d) o c i → Steady (choose g rs d p q) l (levels_at g d) o c i
@@ -343,22 +351,22 @@ module _ (ts : List Lexeme) (known : Goal → Scopes → ℕ → Trees → Scope
       let u = both (not (tries (the r.0))) (all_fit g rs) v.1 in
       (omega arith, v.0, x r.1, subst (λ z. Steady (choose g rs d p q) l (levels_at g d) (z || o) c i) (sym (not_true (tries (the r.0)) u.0)) (steady_choose g rs d p q l o c i u.1 x y))
 
-start_levels : (p : Part) (d : ℕ) → (enters (start_goal p d) ≤ d) × (d ≤ leaves (start_goal p d))
-start_levels part.Expression d = (omega arith, omega arith)
-start_levels part.Assignment d = (omega arith, omega arith)
-start_levels _ d = (omega arith, omega arith)
+pub start_levels : (floor : ℕ) (p : Part) (d : ℕ) → Enters floor (start_goal p d) d × (d ≤ levels_out (start_goal p d))
+start_levels floor part.Expression d = (omega arith, omega arith)
+start_levels floor part.Assignment d = (omega arith, omega arith)
+start_levels floor _ d = (omega arith, omega arith)
 
-tighter_levels : (p : Part) (d : ℕ) → (enters (tighter p d) ≤ d) × (d ≤ leaves (tighter p d))
-tighter_levels part.LogicalOr d = (omega arith, omega arith)
-tighter_levels part.LogicalAnd d = (omega arith, omega arith)
-tighter_levels part.Or d = (omega arith, omega arith)
-tighter_levels part.Xor d = (omega arith, omega arith)
-tighter_levels part.And d = (omega arith, omega arith)
-tighter_levels part.Equality d = (omega arith, omega arith)
-tighter_levels part.Relational d = (omega arith, omega arith)
-tighter_levels part.Shift d = (omega arith, omega arith)
-tighter_levels part.Additive d = (omega arith, omega arith)
-tighter_levels _ d = (omega arith, omega arith)
+tighter_levels : (floor : ℕ) (p : Part) (d : ℕ) → Enters floor (tighter p d) d × (d ≤ levels_out (tighter p d))
+tighter_levels floor part.LogicalOr d = (omega arith, omega arith)
+tighter_levels floor part.LogicalAnd d = (omega arith, omega arith)
+tighter_levels floor part.Or d = (omega arith, omega arith)
+tighter_levels floor part.Xor d = (omega arith, omega arith)
+tighter_levels floor part.And d = (omega arith, omega arith)
+tighter_levels floor part.Equality d = (omega arith, omega arith)
+tighter_levels floor part.Relational d = (omega arith, omega arith)
+tighter_levels floor part.Shift d = (omega arith, omega arith)
+tighter_levels floor part.Additive d = (omega arith, omega arith)
+tighter_levels floor _ d = (omega arith, omega arith)
 
 operators_fit : (p : Part) → all_fit plain (operators p) ≡ true
 operators_fit part.LogicalOr = refl
@@ -387,69 +395,69 @@ abbrev pub Known : List Lexeme → Goal → Scopes → ℕ → Trees → Scopes 
 Known ts (row p h d) c i t e j = passes ts e j (type_identifier (past_part h t).typed) ≡ false
 Known ts g c i t e j = Unit {0}
 
-module _ (ts : List Lexeme) where
+module _ (ts : List Lexeme) (floor : ℕ) where
   abbrev pub Goes : Prog → ℕ → ℕ → Bool → Scopes → ℕ → Type 0
-  Goes = Steady ts (Known ts)
+  Goes = Steady ts (Known ts) floor
 
   -- the words of a table, each with its program
   words : (g : Manner) (rs : Words) (d : ℕ) (p : Kind → Prog) (q : Prog) (l : ℕ) (o : Bool) (c : Scopes) (i : ℕ) → all_fit g rs ≡ true → ((k : Kind) → Goes (p k) l (levels_behind g d) false c (i + 1)) →
       Goes q l (levels_at g d) o c i → Goes (choose g rs d p q) l (levels_at g d) o c i
-  words = steady_choose ts (Known ts)
+  words = steady_choose ts (Known ts) floor
 
-  pub steady : (g : Goal) (c : Scopes) (i : ℕ) → Goes (body g) (leaves g) (enters g) false c i
-  steady (whole p d) c i = let v = start_levels p d in (v.0, λ t e j _. (v.1, by_none none_for_keyword, v.1))
-  steady (expression d) c i = (omega arith, λ t e j _. (omega arith, λ t' e' j' _. omega arith))
-  steady (commas d s a) c i = (omega arith, refl, (omega arith, λ t e j _. (omega arith, λ t' e' j' _. omega arith)), omega arith)
-  steady (assignment d) c i = (
+  pub steady : (g : Goal) (c : Scopes) (i : ℕ) {b : ℕ} → Enters floor g b → Goes (body g) (levels_out g) (levels_in g) false c i
+  steady (whole p d) c i y = let v = start_levels floor p d in (v.0, λ t e j _. (v.1, by_none none_for_keyword, v.1))
+  steady (expression d) c i y = (omega arith, λ t e j _. (omega arith, λ t' e' j' _. omega arith))
+  steady (commas d s a) c i y = (omega arith, refl, (omega arith, λ t e j _. (omega arith, λ t' e' j' _. omega arith)), omega arith)
+  steady (assignment d) c i y = (
     omega arith,
     λ t e j _. (λ u. words opens assignment_operators d (assigned d i t) (give t) d false e j refl (λ k. (omega arith, λ t' e' j' _. omega arith)) (omega arith), λ u. omega arith),
   )
-  steady (conditional d) c i = (
+  steady (conditional d) c i y = (
     omega arith,
     λ t e j _. (omega arith, refl, (omega arith, λ t' e' j' _. (omega arith, refl, (omega arith, λ t'' e'' j'' _. omega arith), omega arith)), omega arith),
   )
-  steady (binary p d) c i = let v = tighter_levels p d in (v.0, λ t e j _. (v.1, λ t' e' j' _. omega arith))
-  steady (operands p d s a) c i =
-      let v = tighter_levels p d in
+  steady (binary p d) c i y = let v = tighter_levels floor p d in (v.0, λ t e j _. (v.1, λ t' e' j' _. omega arith))
+  steady (operands p d s a) c i y =
+      let v = tighter_levels floor p d in
       words plain (operators p) d (operated p d s a) (give a) d false c i (operators_fit p) (λ k. (v.0, λ t e j _. (v.1, λ t' e' j' _. omega arith))) (omega arith)
-  steady (cast d) c i = (
+  steady (cast d) c i y = (
     omega arith,
     refl,
     (
       (refl, omega arith),
-      λ q. q,
+      inl (λ q. q),
       (omega arith, λ t e j _. (omega arith, refl, (omega arith, by_take (refl, omega arith), (omega arith, λ t' e' j' _. omega arith)), omega arith)),
       (omega arith, λ t e j _. omega arith),
     ),
     (omega arith, λ t e j _. omega arith),
   )
-  steady (unary d) c i =
+  steady (unary d) c i y =
       words opens unary_prefixes d (prefixed (unary (d + 1)) i) (choose opens cast_prefixes d (prefixed (cast (d + 1)) i) (sized d i)) d false c i refl (λ k. (omega arith, λ t e j _. omega arith))
       (words opens cast_prefixes d (prefixed (cast (d + 1)) i) (sized d i) d false c i refl (λ k. (omega arith, λ t e j _. omega arith))
       (omega arith, refl, (omega arith, λ t e j _. omega arith), (omega arith, λ t e j _. omega arith)))
-  steady (measured d s) c i = (
+  steady (measured d s) c i y = (
     omega arith,
     refl,
-    ((refl, omega arith), λ q. q, (omega arith, λ t e j _. (omega arith, refl, omega arith, omega arith)), (omega arith, λ t e j _. omega arith)),
+    ((refl, omega arith), inl (λ q. q), (omega arith, λ t e j _. (omega arith, refl, omega arith, omega arith)), (omega arith, λ t e j _. omega arith)),
     (omega arith, λ t e j _. omega arith),
   )
-  steady (postfix d) c i = (
+  steady (postfix d) c i y = (
     omega arith,
     refl,
     (omega arith, λ t e j _. omega arith),
     words plain constants d (suffixed d i none) (other_primary d i) d false c i refl (λ k. (omega arith, λ t e j _. omega arith))
         (omega arith, refl, (omega arith, λ t e j _. (omega arith, λ t' e' j' _. omega arith)), (omega arith, refl, (omega arith, λ t e j _. omega arith), omega arith)),
   )
-  steady (called d s) c i = (
+  steady (called d s) c i y = (
     omega arith,
     refl,
     (omega arith, refl, (omega arith, λ t e j _. omega arith), (omega arith, λ t e j _. (omega arith, λ t' e' j' _. omega arith))),
     (omega arith, λ t e j _. omega arith),
   )
-  steady (grouped d s) c i = (omega arith, λ t e j _. (omega arith, refl, (omega arith, λ t' e' j' _. omega arith), omega arith))
-  steady (texts d) c i = (omega arith, refl, (omega arith, λ t e j _. omega arith), omega arith)
-  steady (arguments d a) c i = (omega arith, λ t e j _. (omega arith, refl, (omega arith, λ t' e' j' _. omega arith), (omega arith, refl, omega arith, omega arith)))
-  steady (suffixes d s a) c i = (
+  steady (grouped d s) c i y = (omega arith, λ t e j _. (omega arith, refl, (omega arith, λ t' e' j' _. omega arith), omega arith))
+  steady (texts d) c i y = (omega arith, refl, (omega arith, λ t e j _. omega arith), omega arith)
+  steady (arguments d a) c i y = (omega arith, λ t e j _. (omega arith, refl, (omega arith, λ t' e' j' _. omega arith), (omega arith, refl, omega arith, omega arith)))
+  steady (suffixes d s a) c i y = (
     omega arith,
     refl,
     (omega arith, λ t e j _. (omega arith, refl, (omega arith, λ t' e' j' _. omega arith), omega arith)),
@@ -465,32 +473,32 @@ module _ (ts : List Lexeme) where
       ),
     ),
   )
-  steady (type_name d) c i = (omega arith, λ t e j _. ((refl, omega arith), λ q. q, (omega arith, λ t' e' j' _. omega arith), omega arith))
-  steady (row p h d) c i = (omega arith, λ t e j _. (omega arith, λ t' e' j' _. omega arith))
-  steady (more p h d s a) c i = ((refl, omega arith), λ q. q, (omega arith, λ t e j _. (omega arith, λ t' e' j' _. omega arith)), omega arith)
-  steady (element p h d) c i = words plain (specifier_words p) d (λ k. made k i none) (other_element h d i) d false c i (specifiers_fit p) (λ k. omega arith)
+  steady (type_name d) c i y = (omega arith, λ t e j _. ((refl, omega arith), inl (λ q. q), (omega arith, λ t' e' j' _. omega arith), omega arith))
+  steady (row p h d) c i y = (omega arith, λ t e j _. (omega arith, λ t' e' j' _. omega arith))
+  steady (more p h d s a) c i y = ((refl, omega arith), inl (λ q. q), (omega arith, λ t e j _. (omega arith, λ t' e' j' _. omega arith)), omega arith)
+  steady (element p h d) c i y = words plain (specifier_words p) d (λ k. made k i none) (other_element h d i) d false c i (specifiers_fit p) (λ k. omega arith)
       (omega arith, refl, (omega arith, λ t e j _. omega arith), (omega arith, refl, (omega arith, λ t e j _. omega arith), (omega arith, refl, omega arith, omega arith)))
-  steady (structure d s) c i = (omega arith, refl, (omega arith, refl, (omega arith, λ t e j _. omega arith), omega arith), (omega arith, refl, (omega arith, λ t e j _. omega arith), omega arith))
-  steady (members d s a) c i = (omega arith, λ t e j _. (omega arith, refl, omega arith, (omega arith, λ t' e' j' _. omega arith)))
-  steady (member d) c i = (omega arith, λ t e j _. (omega arith, λ t' e' j' _. omega arith))
-  steady (member_declarators h d s a) c i = (
+  steady (structure d s) c i y = (omega arith, refl, (omega arith, refl, (omega arith, λ t e j _. omega arith), omega arith), (omega arith, refl, (omega arith, λ t e j _. omega arith), omega arith))
+  steady (members d s a) c i y = (omega arith, λ t e j _. (omega arith, refl, omega arith, (omega arith, λ t' e' j' _. omega arith)))
+  steady (member d) c i y = (omega arith, λ t e j _. (omega arith, λ t' e' j' _. omega arith))
+  steady (member_declarators h d s a) c i y = (
     omega arith,
     λ t e j _. (omega arith, by_none none_for_field, (omega arith, refl, (omega arith, λ t' e' j' _. omega arith), (omega arith, refl, omega arith, omega arith))),
   )
-  steady (enumeration d s) c i = (omega arith, refl, (omega arith, refl, (omega arith, λ t e j _. omega arith), omega arith), (omega arith, refl, (omega arith, λ t e j _. omega arith), omega arith))
-  steady (enumerators d s a) c i = (
+  steady (enumeration d s) c i y = (omega arith, refl, (omega arith, refl, (omega arith, λ t e j _. omega arith), omega arith), (omega arith, refl, (omega arith, λ t e j _. omega arith), omega arith))
+  steady (enumerators d s a) c i y = (
     omega arith,
     λ t e j _. (omega arith, refl, (omega arith, refl, omega arith, (omega arith, λ t' e' j' _. omega arith)), (omega arith, refl, omega arith, omega arith)),
   )
-  steady (enumerator d) c i = (omega arith, refl, (omega arith, refl, (omega arith, λ t e j _. omega arith), omega arith), omega arith)
-  steady (consts d) c i = (omega arith, refl, (omega arith, λ t e j _. omega arith), omega arith)
-  steady (declarator w h d) c i = (
+  steady (enumerator d) c i y = (omega arith, refl, (omega arith, refl, (omega arith, λ t e j _. omega arith), omega arith), omega arith)
+  steady (consts d) c i y = (omega arith, refl, (omega arith, λ t e j _. omega arith), omega arith)
+  steady (declarator w h d) c i y = (
     omega arith,
     refl,
     (
       omega arith,
       λ t e j _. (
-        λ o. ((refl, omega arith), behind_star ts w h (d + 1) e j o, (omega arith, λ t' e' j' _. (λ y. omega arith, λ y. omega arith)), omega arith),
+        λ o. ((refl, omega arith), inl (behind_star ts w h (d + 1) e j o), (omega arith, λ t' e' j' _. (λ y. omega arith, λ y. omega arith)), omega arith),
         λ o. (omega arith, λ t' e' j' _. (λ y. omega arith, λ y. omega arith)),
       ),
     ),
@@ -504,7 +512,7 @@ module _ (ts : List Lexeme) where
     where
       arrays : Goes (array_start w d i) d d false c i
       arrays = (λ o. (omega arith, refl, (omega arith, λ t e j _. (omega arith, λ t' e' j' _. omega arith)), omega arith), λ o. omega arith)
-  steady (declarator_suffixes d s a) c i = (
+  steady (declarator_suffixes d s a) c i y = (
     omega arith,
     refl,
     (omega arith, λ t e j _. (omega arith, λ t' e' j' _. omega arith)),
@@ -515,8 +523,8 @@ module _ (ts : List Lexeme) where
       omega arith,
     ),
   )
-  steady (abstract_suffixes d s a) c i = (omega arith, refl, (omega arith, λ t e j _. (omega arith, λ t' e' j' _. omega arith)), omega arith)
-  steady (size d) c i = (omega arith, refl, omega arith, (omega arith, λ t e j _. (omega arith, refl, omega arith, omega arith)))
-  steady (parameters d) c i = (omega arith, λ t e j _. (omega arith, λ t' e' j' _. omega arith))
-  steady (more_parameters d s a) c i = (omega arith, refl, (omega arith, refl, omega arith, (omega arith, λ t e j _. (omega arith, λ t' e' j' _. omega arith))), omega arith)
-  steady (parameter d) c i = (omega arith, λ t e j y. ((refl, omega arith), λ q. (q, y), (omega arith, λ t' e' j' _. (λ u. omega arith, λ u. omega arith)), omega arith))
+  steady (abstract_suffixes d s a) c i y = (omega arith, refl, (omega arith, λ t e j _. (omega arith, λ t' e' j' _. omega arith)), omega arith)
+  steady (size d) c i y = (omega arith, refl, omega arith, (omega arith, λ t e j _. (omega arith, refl, omega arith, omega arith)))
+  steady (parameters d) c i y = (omega arith, λ t e j _. (omega arith, λ t' e' j' _. omega arith))
+  steady (more_parameters d s a) c i y = (omega arith, refl, (omega arith, refl, omega arith, (omega arith, λ t e j _. (omega arith, λ t' e' j' _. omega arith))), omega arith)
+  steady (parameter d) c i y = (omega arith, λ t e j z. ((refl, omega arith), inl (λ q. (q, z)), (omega arith, λ t' e' j' _. (λ u. omega arith, λ u. omega arith)), omega arith))
