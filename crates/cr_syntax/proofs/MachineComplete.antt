@@ -104,6 +104,7 @@ allows_free m.reopens i d = (tt, tt)
 unlimited : {ts : List Lexeme} {limit : Limit} {p : Prog} {c : Scopes} {i : ℕ} {r : Reply} → Runs body ts limit p c i r → IsNotDeep r → Runs body ts Free p c i r
 unlimited m.run_give n = m.run_give
 unlimited m.run_stop n = m.run_stop
+unlimited m.run_refuse n = m.run_refuse
 unlimited {i = i} (m.run_take {m = g} {d = d} x w h) n = m.run_take x (allows_free g i d) (unlimited h n)
 unlimited (m.run_deep x w) n = absurd (n refl)
 unlimited (m.run_pass x h) n = m.run_pass x (unlimited h n)
@@ -157,6 +158,7 @@ refuses_upto n most m.reopens i d lt w v = w (tt, v.1 lt)
 upto : {ts : List Lexeme} {most : ℕ} {p : Prog} {c : Scopes} {i : ℕ} {r : Reply} (n : ℕ) → end_of r < n → Runs body ts (AtMost most) p c i r → Runs body ts (Upto n most) p c i r
 upto n lt m.run_give = m.run_give
 upto n lt m.run_stop = m.run_stop
+upto n lt m.run_refuse = m.run_refuse
 upto {most = most} {i = i} n lt (m.run_take {m = g} {d = d} x w h) = m.run_take x (allows_upto n most g i d w) (upto n lt h)
 upto {most = most} {i = i} n lt (m.run_deep {m = g} {d = d} x w) = m.run_deep x (refuses_upto n most g i d lt w)
 upto n lt (m.run_pass x h) = m.run_pass x (upto n lt h)

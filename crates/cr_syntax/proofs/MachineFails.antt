@@ -7,7 +7,7 @@ use Rattle.cr_syntax.specs.Words.{Lexeme}
 use Rattle.cr_syntax.specs.Scopes.{Scopes, enter}
 use Rattle.cr_syntax.specs.Trees.{Trees}
 use Rattle.cr_syntax.specs.Spells.{Limit, Is}
-use Rattle.cr_syntax.specs.Machine.{Goal, Prog, Manner, plain, opens, reopens, Cause, Done, Failed, Runs, Allows, brought, choose, give, stop, take, bar, peek, when, here, look, set, bring, call, run_stop, run_take, run_deep, run_pass, run_bar, run_free, run_seen, run_unseen, run_yes, run_no, run_here, run_look, run_set, run_bring, run_call, run_fail}
+use Rattle.cr_syntax.specs.Machine.{Goal, Prog, Manner, plain, opens, reopens, Cause, Done, Failed, Runs, Allows, brought, choose, give, stop, refuse, take, bar, peek, when, here, look, set, bring, call, run_stop, run_refuse, run_take, run_deep, run_pass, run_bar, run_free, run_seen, run_unseen, run_yes, run_no, run_here, run_look, run_set, run_bring, run_call, run_fail}
 use Rattle.cr_syntax.specs.MachineBody.{Words}
 use Rattle.cr_syntax.proofs.MachineRuns.{reach, passes_same, brought_same}
 use Rattle.cr_syntax.proofs.MachineGives.{Holds, holds, Gives, gives, AllRows, no_rows, also}
@@ -23,6 +23,7 @@ module _ (us : List Lexeme) (top : Limit) (known means : Goal → Scopes → ℕ
   abbrev pub Fails : Prog → Type 0 → Scopes → ℕ → Type 0
   Fails (give t) f c i = Unit {0}
   Fails (stop d) f c i = i ≡ length us → f
+  Fails (refuse n) f c i = i ≡ length us → f
   Fails (take g x d p q) f c i = Deep g (i ≡ length us → f) × (Holds us c i x → Allows top g i d → Fails p f c (i + 1)) × Fails q f c i
   Fails (bar x n d p) f c i = (i ≡ length us → f) × Fails p f c i
   Fails (peek x p q) f c i = Fails p f c i × Fails q f c i
@@ -46,6 +47,7 @@ module _ (body : Goal → Prog) (ts us : List Lexeme) (limit top : Limit) (known
   pub viable : {p : Prog} {c : Scopes} {i : ℕ} {x : Cause} {k : ℕ} → Runs body ts limit p c i (Failed x k) → (f : Type 0) → k ≡ length us → ((n : ℕ) → n < k → slice_get us n ≡ slice_get ts n) →
       ((g : Manner) (n d : ℕ) → n < k → Allows limit g n d → Allows top g n d) → Fails us top known means via p f c i → f
   viable run_stop f e al lim y = y e
+  viable run_refuse f e al lim y = y e
   viable {c = c} {i = i} (run_take {m = g} {x = t} {d = d} v w h) f e al lim y =
       let n = reach h in
       viable h f e al lim (y.1 (holds us c i t (passes_same ts us i (al i (omega arith)) c t ∙ v)) (lim g i d (omega arith) w))

@@ -9,7 +9,7 @@ use Rattle.cr_syntax.specs.Scopes.{Scopes, is_type, enter}
 use Rattle.cr_syntax.specs.Trees.{Trees}
 use Rattle.cr_syntax.specs.Spells.{Limit, Is, IsIdentifier}
 use Rattle.cr_syntax.specs.Reads.{is_word}
-use Rattle.cr_syntax.specs.Machine.{Goal, Prog, Manner, Test, Reply, Runs, Allows, passes, brought, choose, give, stop, take, bar, peek, when, here, look, set, bring, call, run_give, run_stop, run_take, run_deep, run_pass, run_bar, run_free, run_seen, run_unseen, run_yes, run_no, run_here, run_look, run_set, run_bring, run_call, run_fail}
+use Rattle.cr_syntax.specs.Machine.{Goal, Prog, Manner, Test, Reply, Runs, Allows, passes, brought, choose, give, stop, refuse, take, bar, peek, when, here, look, set, bring, call, run_give, run_stop, run_refuse, run_take, run_deep, run_pass, run_bar, run_free, run_seen, run_unseen, run_yes, run_no, run_here, run_look, run_set, run_bring, run_call, run_fail}
 use Rattle.cr_syntax.specs.Machine as m
 use Rattle.cr_syntax.specs.MachineBody.{Words}
 use Rattle.cr_syntax.specs.MachineLaws.{end_of}
@@ -41,6 +41,7 @@ module _ (us : List Lexeme) (top : Limit) (known means : Goal → Scopes → ℕ
   abbrev pub Gives : Prog → (Trees → Scopes → ℕ → Type 0) → Scopes → ℕ → Type 0
   Gives (give t) f c i = f t c i
   Gives (stop d) f c i = Unit {0}
+  Gives (refuse n) f c i = Unit {0}
   Gives (take a x d p q) f c i = (Holds us c i x → Allows top a i d → Gives p f c (i + 1)) × Gives q f c i
   Gives (bar x n d p) f c i = Gives p f c i
   Gives (peek x p q) f c i = Gives p f c i × Gives q f c i
@@ -61,6 +62,7 @@ module _ (body : Goal → Prog) (ts us : List Lexeme) (limit top : Limit) (known
       Gives us top known means p f c i → OnDone r f
   gives run_give f al lim x = x
   gives run_stop f al lim x = tt
+  gives run_refuse f al lim x = tt
   gives {c = c} {i = i} (run_take {m = a} {x = y} {d = d} t w h) f al lim x =
       let n = reach h in
       gives h f al lim (x.0 (holds us c i y (passes_same ts us i (al i (omega arith)) c y ∙ t)) (lim a i d (omega arith) w))
