@@ -12,6 +12,7 @@ pub mod Spans
 pub mod Turns
 pub mod Examples
 pub mod MachineExamples
+pub mod MachineUnitExamples
 pub mod MachineRuns
 pub mod MachineEnds
 pub mod MachineSpells

@@ -22,7 +22,7 @@ allows opens d = nat_lt d most_levels
 allows reopens d = nat_lt d most_levels
 
 -- a run of so many steps at most
-run : ℕ → List Lexeme → Prog → Scopes → ℕ → Option Reply
+unfoldable pub run : ℕ → List Lexeme → Prog → Scopes → ℕ → Option Reply
 run zero ts p c i = None
 run (suc n) ts (m.give t) c i = Some (Done t c i)
 run (suc n) ts (m.stop d) c i = Some (Failed (verdict ts i d) i)
@@ -98,10 +98,10 @@ module _ (ts : List Lexeme) where
       by (Some (Done t e j)) y h h' q = m.run_call (h (Done t e j) y) (h' t e j q)
       by (Some (Failed x k)) y h h' q = subst (λ v. IsRun (m.call g f) c i v) (some_of q) (m.run_fail (h (Failed x k) y))
 
-abbrev w : Word → Lexeme
+abbrev pub w : Word → Lexeme
 w x = record { word = x; spelling = [] }
 
-abbrev id : List ℕ → Lexeme
+abbrev pub id : List ℕ → Lexeme
 id s = record { word = word.Identifier; spelling = s }
 
 -- T is a type, and nothing else is declared

@@ -34,6 +34,26 @@ module _ (us : List Lexeme) (top : Limit) (known means : Goal → Scopes → ℕ
   Fails (bring k b p) f c i = Fails p f (enter (brought us i k b) c) i
   Fails (call g p) f c i = (via g c i → f) × ((t : Trees) (e : Scopes) (j : ℕ) → i ≤ j → known g c i t e j → means g c i t e j → Fails (p t) f e j)
 
+  -- where nothing is owed, all is
+  deep_idle : (g : Manner) (i : ℕ) → Deep g (i ≡ length us → Unit {0})
+  deep_idle plain i = tt
+  deep_idle opens i = λ z. tt
+  deep_idle reopens i = λ z. tt
+
+  pub owes_idle : (p : Prog) (c : Scopes) (i : ℕ) → Fails p (Unit {0}) c i
+  owes_idle (give t) c i = tt
+  owes_idle (stop d) c i = λ z. tt
+  owes_idle (refuse n) c i = λ z. tt
+  owes_idle (take g x d p q) c i = (deep_idle g i, λ h w. owes_idle p c (i + 1), owes_idle q c i)
+  owes_idle (bar x n d p) c i = (λ z. tt, owes_idle p c i)
+  owes_idle (peek x p q) c i = (owes_idle p c i, owes_idle q c i)
+  owes_idle (when b p q) c i = (λ h. owes_idle p c i, λ h. owes_idle q c i)
+  owes_idle (here p) c i = owes_idle (p i) c i
+  owes_idle (look p) c i = owes_idle (p c) c i
+  owes_idle (set e p) c i = owes_idle p e i
+  owes_idle (bring k b p) c i = owes_idle p (enter (brought us i k b) c) i
+  owes_idle (call g p) c i = (λ v. tt, λ t e j _ _ _. owes_idle (p t) e j)
+
   pub words_fail : (g : Manner) (d : ℕ) (p : Kind → Prog) (q : Prog) (f : Type 0) (c : Scopes) (i : ℕ) (r : Word → Kind → Type 0) {rs : Words} → AllRows r rs → Deep g (i ≡ length us → f) →
       ((w : Word) (k : Kind) → r w k → Is us i w → Allows top g i d → Fails (p k) f c (i + 1)) → Fails q f c i → Fails (choose g rs d p q) f c i
   words_fail g d p q f c i r no_rows z x y = y

@@ -28,7 +28,7 @@ use Rattle.cr_syntax.proofs.MachineGives.{AllRows, no_rows, also}
 use Rattle.cr_syntax.proofs.MachineKept.{Kept, runs_kept}
 use Rattle.cr_syntax.proofs.MachineMeans.{Means, Reads, Behind, IsDeclared, with_name, without, IsSize, unsized, IsParameterRow, first_one, next_one, IsRowBegin, IsOpen, has_some, start_part, is_level, row_part, element_part}
 use Rattle.cr_syntax.proofs.MachineSound.{Declared, group_named, group_unnamed, Assigns, assignment_rows, Prefixes, unary_rows, cast_rows, IsConstant, constant_rows, Follows, postfix_rows, open_of, part_some, pushed_some, many_of, start_means, level_up, plain_up, specifier_rows, Specifies, dropped_member, array_of, array_size, parameters_of, at_end, hears_nothing, row_of_parameters, row_alone, row_made}
-use Rattle.cr_syntax.proofs.MachineFails.{Fails, words_fail}
+use Rattle.cr_syntax.proofs.MachineFails.{Fails, owes_idle, words_fail}
 use Rattle.cr_syntax.proofs.MachineExtend.{Front, front_itself, front_then, longer, weaken, weaken_consts, weaken_name}
 use Rattle.cr_syntax.proofs.MachineTasks.{below}
 use Rattle.cr_syntax.proofs.MachineTasks as task
@@ -227,6 +227,7 @@ module _ (us : List Lexeme) (top : Limit) (late : (g : Manner) (i d : ℕ) → l
   Via (parameters d) c i = G part.Parameters d c i
   Via (more_parameters d s x) c i = (c0 : Scopes) → IsParameterRow us top d c0 s x c i → G part.Parameters d c0 s
   Via (parameter d) c i = G part.Parameter d c i
+  Via g c i = Unit {0}
 
   abbrev pub Owes : Prog → Type 0 → Scopes → ℕ → Type 0
   Owes = Fails us top Kept (Means us top) Via
@@ -963,3 +964,4 @@ module _ (us : List Lexeme) (top : Limit) (late : (g : Manner) (i d : ℕ) → l
   owes (parameters d) c i = owes_parameters d c i
   owes (more_parameters d s y) c i = owes_more_parameters d s y c i
   owes (parameter d) c i = owes_parameter d c i
+  owes g c i = owes_idle us top Kept (Means us top) Via (body g) c i

@@ -127,3 +127,5 @@ module _ (us : List Lexeme) (top : Limit) where
   Means (parameters d) c i t e j = Reads part.Parameters d c i t e j
   Means (more_parameters d s x) c i t e j = (c0 : Scopes) → IsParameterRow d c0 s x c i → Reads part.Parameters d c0 s t e j
   Means (parameter d) c i t e j = Reads part.Parameter d c i t e j
+  -- not said yet of declarations and statements
+  Means g c i t e j = Unit {0}

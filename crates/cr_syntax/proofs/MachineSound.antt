@@ -27,7 +27,7 @@ use Rattle.cr_syntax.specs.MachineBody.{body, assigned, operated, prefixed, suff
 use Rattle.cr_syntax.proofs.MachineMeans as means
 use Rattle.cr_syntax.proofs.MachineSpells as facts
 use Rattle.cr_syntax.proofs.MachineSpells.{and_none, and_and, pushed, is_one, named_before, unary_in}
-use Rattle.cr_syntax.proofs.MachineGives.{Gives, gives, AllRows, no_rows, also, gives_choose}
+use Rattle.cr_syntax.proofs.MachineGives.{Gives, gives, idle, AllRows, no_rows, also, gives_choose}
 use Rattle.cr_syntax.proofs.MachineKept.{Kept, runs_kept, not_both}
 use Rattle.cr_syntax.proofs.MachineMeans.{Means, Reads, Behind, IsDeclared, with_name, without, IsSize, unsized, IsParameterRow, first_one, next_one, IsRowBegin, IsOpen, has_some, start_part, is_level, row_part, element_part}
 
@@ -594,6 +594,7 @@ module _ (us : List Lexeme) (top : Limit) where
           subst (λ v. Spells us top (a part.Parameter) h c (enter v (around f)) d (one kind.Parameter i k (t & u & none)) i k)
           (sym (brought_is us k (past_part (past_part fresh t) u).name (past_part (past_part fresh t) u).type_name (omega arith)))
           (spells.of_alternative grammar.parameter_declaration refl (spells.part x (spells.part (spells.parameter_declarator (subst (λ v. Spells us top (a part.Declarator) (past_part fresh t) e v d u j k) o s)) spells.done)))
+  each g c i = idle us top Kept (Means us top) (body g) c i
 
 -- what a goal's program answers is spelled
 pub runs_sound : {ts : List Lexeme} {limit : Limit} (g : Goal) (c e : Scopes) (i j : ℕ) (t : Trees) → Runs body ts limit (body g) c i (Done t e j) → Means ts limit g c i t e j

@@ -1,5 +1,5 @@
 -- The programs of the machine, one for each goal.
-use Rattle.std.specs.Prelude.{ℕ, ◌+◌, ◌-◌, Bool, true, false, not, ◌||◌, if◌then◌else◌, List, [], ◌∷◌, ◌++◌}
+use Rattle.std.specs.Prelude.{ℕ, ◌+◌, ◌-◌, Bool, true, false, not, if◌then◌else◌, List, [], ◌∷◌, ◌++◌}
 use Rattle.cr_syntax.specs.declared.word.Word.{Word}
 use Rattle.cr_syntax.specs.declared.word.Word.TheVariants as word
 use Rattle.cr_syntax.specs.declared.node.Kind.{Kind}
@@ -9,7 +9,7 @@ use Rattle.cr_syntax.specs.declared.symbol.Part.TheVariants as part
 use Rattle.cr_syntax.specs.declared.shape.Base.TheVariants.{ItsName, InBrackets, Derived, NoDeclarator}
 use Rattle.cr_syntax.specs.declared.symbol.Context.{Context}
 use Rattle.cr_syntax.specs.Trees.{Trees, none, node, one, ◌&◌}
-use Rattle.cr_syntax.specs.Context.{fresh, past_token, past_part, is_bare, base_of}
+use Rattle.cr_syntax.specs.Context.{fresh, past_token, past_part, is_bare, base_of, ends_open}
 use Rattle.cr_syntax.specs.Units.{is_unused, own_parameters}
 use Rattle.cr_syntax.specs.Machine.{Goal, Prog, Test, Wanted, named, unnamed, either, Labels, anywhere, own_block, nowhere, plain, opens, reopens, the, has, ordinary, type_identifier, declared, or, give, stop, refuse, take, bar, peek, when, here, look, set, bring, call, expect, choose, into, made, begins, drops, innermost_of, around}
 use Rattle.cr_syntax.specs.Machine.{whole, expression, commas, assignment, conditional, binary, operands, cast, unary, measured, postfix, called, grouped, texts, arguments, suffixes, type_name, row, more, element, structure, members, member, member_declarators, enumeration, enumerators, enumerator, consts, declarator, declarator_suffixes, abstract_suffixes, size, parameters, more_parameters, parameter}
@@ -392,6 +392,17 @@ declaration_end h d s x t =
 abbrev pub declared_on : Context → ℕ → ℕ → Trees → ℕ → Trees → Prog
 declared_on h d s x q a = declares h a (call (initialized d q a) (λ t. declaration_end h d s x t))
 
+-- an `if` with a condition a and a branch b, at whose end its scope ends
+abbrev pub without_else : ℕ → Trees → Trees → Prog
+without_else s a b = drops (made kind.If s (a & b & none))
+
+-- an `if` whose condition a and first branch b were read: an `else` that comes is its own, but behind a branch that ends in
+-- an `if` without one (6.8.4.1p3)
+abbrev pub if_end : Labels → ℕ → ℕ → Trees → Trees → Prog
+if_end l d s a b = when (ends_open b) (without_else s a b) (take opens (the word.Else) d
+    (call (block (inside l) (d + 1)) (λ c. drops (made kind.If s (a & b & c & none))))
+    (without_else s a b))
+
 -- a switch whose controlling expression a was read: its body is a block
 abbrev pub switch_body : Labels → ℕ → ℕ → Trees → Prog
 switch_body l d s a = bar (has is_label) 6 (d + 1) (bar statement_start 7 (d + 1)
@@ -419,7 +430,7 @@ unlabelled l d s =
     (take plain (the word.Continue) d (expect plain word.Semicolon d (made kind.Continue s none))
     (take plain (the word.Return) d (call (return_rest d s) give)
     (take plain (the word.Semicolon) d (made kind.ExpressionStatement s none)
-    (call (expression d) (λ a. expect plain word.Semicolon d (made kind.ExpressionStatement s (a & none))))))))))))
+    (call (expression d) (λ a. expect plain word.Semicolon d (made kind.ExpressionStatement s (a & none)))))))))))))
 
 abbrev pub body : Goal → Prog
 body (whole p d) = call (start_goal p d) (λ t. bar (has is_unused) 1 d (give t))
@@ -558,9 +569,7 @@ body (statement l d) = here (λ s. when (may_label l) (labelled l d s (unlabelle
 body (block l d) = begins (call (statement l d) (λ t. drops (give t)))
 -- 6.8.4
 body (if_rest l d s) = begins (expect opens word.LeftParen d (call (expression (d + 1)) (λ a. expect reopens word.RightParen d
-    (call (block (inside l) (d + 1)) (λ b. take opens (the word.Else) d
-    (call (block (inside l) (d + 1)) (λ c. drops (made kind.If s (a & b & c & none))))
-    (drops (made kind.If s (a & b & none))))))))
+    (call (block (inside l) (d + 1)) (λ b. if_end l d s a b)))))
 body (switch_rest l d s) = begins (expect opens word.LeftParen d (call (expression (d + 1)) (λ a. expect reopens word.RightParen d (switch_body l d s a))))
 -- 6.8.5
 body (while_rest l d s) = begins (expect opens word.LeftParen d (call (expression (d + 1)) (λ a. expect reopens word.RightParen d
