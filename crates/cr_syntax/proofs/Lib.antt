@@ -19,6 +19,7 @@ pub mod MachineSpells
 pub mod MachineGives
 pub mod MachineKept
 pub mod MachineMeans
+pub mod MachineUnitSound
 pub mod MachineSound
 pub mod MachineFirst
 pub mod MachineTasks
