@@ -3,6 +3,7 @@ pub mod Tests
 pub mod Sound
 pub mod Equations
 pub mod Ranks
+pub mod Grades
 pub mod Complete
 pub mod Arena
 pub mod Statements
@@ -21,6 +22,7 @@ pub mod MachineKept
 pub mod MachineMeans
 pub mod MachineUnitSound
 pub mod MachineSound
+pub mod MachineLabels
 pub mod MachineFirst
 pub mod MachineTasks
 pub mod MachineExpressions
