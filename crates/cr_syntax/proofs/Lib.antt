@@ -21,12 +21,16 @@ pub mod MachineKept
 pub mod MachineMeans
 pub mod MachineSound
 pub mod MachineFirst
+pub mod MachineFits
 pub mod MachineTasks
 pub mod MachineExpressions
 pub mod MachineBegins
 pub mod MachineTypes
 pub mod MachineDeclarators
+pub mod MachineDeclarations
+pub mod MachineStatements
 pub mod MachineComplete
+pub mod MachineUnits
 pub mod MachineExtend
 pub mod MachineFails
 pub mod MachineGrows
