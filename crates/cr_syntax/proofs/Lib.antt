@@ -35,3 +35,10 @@ pub mod MachineWays
 pub mod MachineMarks
 pub mod MachineForms
 pub mod MachineUnused
+pub mod MachineSteady
+pub mod MachineParts
+pub mod MachineRows
+pub mod MachineStuck
+pub mod MachineClosed
+pub mod MachineRefused
+pub mod MachineReading

@@ -33,17 +33,17 @@ use Rattle.cr_syntax.proofs.MachineFails.{AtRefusal, viable}
 use Rattle.cr_syntax.proofs.MachineGrows.{Grown, Via, Stops, Bars, Crowds, start_via, owes}
 
 -- the first k tokens
-abbrev prefix : ℕ → List Lexeme → List Lexeme
+abbrev pub prefix : ℕ → List Lexeme → List Lexeme
 prefix zero ts = []
 prefix (suc k) [] = []
 prefix (suc k) (x ∷ ts) = x ∷ prefix k ts
 
-prefix_length : (k : ℕ) (ts : List Lexeme) → k ≤ length ts → k ≡ length (prefix k ts)
+pub prefix_length : (k : ℕ) (ts : List Lexeme) → k ≤ length ts → k ≡ length (prefix k ts)
 prefix_length zero ts le = refl
 prefix_length (suc k) [] le = absurd (omega arith)
 prefix_length (suc k) (x ∷ ts) le = ap suc (prefix_length k ts (omega arith))
 
-prefix_get : (k : ℕ) (ts : List Lexeme) (n : ℕ) → n < k → slice_get (prefix k ts) n ≡ slice_get ts n
+pub prefix_get : (k : ℕ) (ts : List Lexeme) (n : ℕ) → n < k → slice_get (prefix k ts) n ≡ slice_get ts n
 prefix_get zero ts n lt = absurd (omega arith)
 prefix_get (suc k) [] n lt = refl
 prefix_get (suc k) (x ∷ ts) zero lt = refl
@@ -61,13 +61,13 @@ token_is ts i x = by (slice_get ts i)
     by (Some y) q r = ap (λ w. Some (record { word = w; spelling = y.spelling })) (some_word q) ∙ ap (λ s. Some (record { word = x.word; spelling = s })) r
 
 -- the list with another word at token k, before that token and there
-word_before : (ts : List Lexeme) (k i : ℕ) (x : Lexeme) → i < k → slice_get (set ts k x) i ≡ slice_get ts i
+pub word_before : (ts : List Lexeme) (k i : ℕ) (x : Lexeme) → i < k → slice_get (set ts k x) i ≡ slice_get ts i
 word_before [] k i x lt = refl
 word_before (y ∷ ts) zero i x lt = absurd (omega arith)
 word_before (y ∷ ts) (suc k) zero x lt = refl
 word_before (y ∷ ts) (suc k) (suc i) x lt = word_before ts k i x (omega arith)
 
-word_there : (ts : List Lexeme) (k : ℕ) (x : Lexeme) → k < length ts → slice_get (set ts k x) k ≡ Some x
+pub word_there : (ts : List Lexeme) (k : ℕ) (x : Lexeme) → k < length ts → slice_get (set ts k x) k ≡ Some x
 word_there [] k x lt = absurd (omega arith)
 word_there (y ∷ ts) zero x lt = refl
 word_there (y ∷ ts) (suc k) x lt = word_there ts k x (omega arith)
@@ -137,7 +137,7 @@ none_passes c i (m.type_identifier typed) = refl
 none_passes c i (m.declared typed) = refl
 none_passes c i (m.or x y) = subst (λ b. (b || passes [] c i y) ≡ false) (sym (none_passes c i x)) (none_passes c i y)
 
-passes_inside : (ts : List Lexeme) (c : Scopes) (i : ℕ) (x : Test) → passes ts c i x ≡ true → i < length ts
+pub passes_inside : (ts : List Lexeme) (c : Scopes) (i : ℕ) (x : Test) → passes ts c i x ≡ true → i < length ts
 passes_inside ts c i x v = elim (cases_lt i (length ts)) [
   | inl y ↦ y
   | inr y ↦ absurd (by (sym v ∙ (sym (passes_same ts [] i (sym (slice_get_past ts i y)) c x) ∙ none_passes c i x)))
