@@ -31,3 +31,7 @@ pub mod MachineExtend
 pub mod MachineFails
 pub mod MachineGrows
 pub mod MachineViable
+pub mod MachineWays
+pub mod MachineMarks
+pub mod MachineForms
+pub mod MachineUnused
