@@ -35,3 +35,4 @@ pub mod MachineWays
 pub mod MachineMarks
 pub mod MachineForms
 pub mod MachineUnused
+pub mod MachineLoose
