@@ -50,3 +50,4 @@ pub mod MachineStuck
 pub mod MachineClosed
 pub mod MachineRefused
 pub mod MachineReading
+pub mod MachineLoose
