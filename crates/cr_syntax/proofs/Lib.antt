@@ -51,3 +51,4 @@ pub mod MachineClosed
 pub mod MachineRefused
 pub mod MachineReading
 pub mod MachineLoose
+pub mod MachineUnitStuck

@@ -13,21 +13,21 @@ use Rattle.cr_syntax.specs.Trees.{Trees}
 use Rattle.cr_syntax.specs.Context.{fresh}
 use Rattle.cr_syntax.specs.Spells.{Limit, Free, AtMost, Upto, Is, Spells, a}
 use Rattle.cr_syntax.specs.Units.{most_levels, is_unused, IsBracket, parenthesis, bracket, brace, StandsIn, group_for_literal, subscript_for_call}
-use Rattle.cr_syntax.specs.Machine.{Prog, Test, whole, Reply, Cause, Done, Failed, Runs, passes, has, barred, refusal_of, overflows, is_bracket, too_deep, ended, outside, unexpected, run_give, run_stop, run_take, run_deep, run_pass, run_bar, run_free, run_seen, run_unseen, run_yes, run_no, run_here, run_look, run_set, run_bring, run_call, run_fail}
+use Rattle.cr_syntax.specs.Machine.{Prog, Test, whole, Reply, Cause, Done, Failed, Runs, passes, has, barred, refusal_of, overflows, is_bracket, too_deep, ended, outside, unexpected, run_give, run_stop, run_refuse, run_take, run_deep, run_pass, run_bar, run_free, run_seen, run_unseen, run_yes, run_no, run_here, run_look, run_set, run_bring, run_call, run_fail}
 use Rattle.cr_syntax.specs.MachineBody.{body, start_goal}
 use Rattle.cr_syntax.specs.MachineLaws.{end_of, IsStart, start_expression, start_assignment, start_conditional}
 use Rattle.cr_syntax.specs.Expressions.{Start, Spelled, BeginsFrom, OutsideFrom, unused_keyword, compound_literal, called_expression, bit_field, IsTooDeepFrom, IsFineFrom, RunEnds, Outcome, Read, Refused, IsReading}
 use Rattle.cr_syntax.specs.Expressions as expressions
 use Rattle.cr_syntax.proofs.Tests.{both, not_true, some_one}
 use Rattle.cr_syntax.proofs.MachineRuns.{same, local}
-use Rattle.cr_syntax.proofs.MachineEnds.{Way, stopped, barring, crowded, Ends, end_stop, end_take, end_crowded, end_pass, end_bar, end_free, end_seen, end_unseen, end_yes, end_no, end_here, end_look, end_set, end_bring, end_behind, end_inside, ends_so, refused_so, cause_by}
+use Rattle.cr_syntax.proofs.MachineEnds.{Way, stopped, barring, crowded, defining, Ends, end_stop, end_refuse, end_take, end_crowded, end_pass, end_bar, end_free, end_seen, end_unseen, end_yes, end_no, end_here, end_look, end_set, end_bring, end_behind, end_inside, ends_so, refused_so, cause_by}
 use Rattle.cr_syntax.proofs.MachineGives.{gives}
 use Rattle.cr_syntax.proofs.MachineKept.{Kept, runs_kept}
 use Rattle.cr_syntax.proofs.MachineMeans.{Means}
 use Rattle.cr_syntax.proofs.MachineSound.{each}
 use Rattle.cr_syntax.proofs.MachineFirst.{none_true, true_false}
 use Rattle.cr_syntax.proofs.MachineComplete.{spelled_is_read, read_is_spelled, free_at_end, get_some, unlimited, allows_free, allows_upto, longest, refused_within}
-use Rattle.cr_syntax.proofs.MachineViable.{prefix, prefix_length, prefix_get, passes_inside, stopped_leaves, barred_stands, barred_leaves, crowded_begins, barred_outside, barred_inside, crowded_inside, begins_before}
+use Rattle.cr_syntax.proofs.MachineViable.{prefix, prefix_length, prefix_get, passes_inside, stopped_leaves, barred_stands, barred_leaves, crowded_begins, barred_outside, barred_inside, crowded_inside, begins_before, never_defining}
 use Rattle.cr_syntax.proofs.MachineWays.{at}
 use Rattle.cr_syntax.proofs.MachineForms.{within, IsBarring, by_row, outside_is_end, outside_is_refused}
 use Rattle.cr_syntax.proofs.MachineUnused.{begun_is_used}
@@ -39,6 +39,7 @@ use Rattle.cr_syntax.proofs.MachineRefused.{no_room, spells_none, no_room_instea
 ends_inside : {ts : List Lexeme} {limit : Limit} {p : Prog} {c : Scopes} {i : ℕ} {r : Reply} → Runs body ts limit p c i r → i ≤ length ts → end_of r ≤ length ts
 ends_inside run_give le = le
 ends_inside run_stop le = le
+ends_inside run_refuse le = le
 ends_inside {ts = ts} {c = c} {i = i} (run_take {x = x} q w h) le = let n = passes_inside ts c i x q in ends_inside h (omega arith)
 ends_inside (run_deep q w) le = le
 ends_inside (run_pass q h) le = ends_inside h le
@@ -58,6 +59,7 @@ ends_inside (run_fail h) le = ends_inside h le
 -- Where no level wants room, a limit is none.
 unlimited_end : {ts : List Lexeme} {limit : Limit} {p : Prog} {c : Scopes} {i k : ℕ} {w : Way} → Ends body ts limit p c i w k → is_crowded w ≡ false → Ends body ts Free p c i w k
 unlimited_end end_stop n = end_stop
+unlimited_end end_refuse n = end_refuse
 unlimited_end {i = i} (end_take {g = g} {d = d} q w z) n = end_take q (allows_free g i d) (unlimited_end z n)
 unlimited_end (end_crowded q w) n = true_false n
 unlimited_end (end_pass q z) n = end_pass q (unlimited_end z n)
@@ -294,6 +296,7 @@ module _ (ts : List Lexeme) (s : Start) (z : IsStart s.part) (le : s.at ≤ leng
   read_end (stopped m) k y le' = read_stop m k y le' (word_at ts k) refl
   read_end (barring x n m) k y le' = read_bar x n m k y le' (word_at ts k) refl
   read_end crowded k y le' = read_crowd k y le'
+  read_end (defining m) k y le' = absurd (never_defining ts most_levels k le' s z m y)
 
   refused_is_reading : {x : Cause} {k : ℕ} → Answers (Failed x k) → IsReading ts s (Refused (refusal_of x k))
   refused_is_reading {k = k} h = let y = ends_so h in subst (λ x. IsReading ts s (Refused (refusal_of x k))) (sym y.cause) (read_end y.way k y.ends (ends_inside h le))

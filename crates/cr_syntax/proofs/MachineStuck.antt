@@ -15,8 +15,8 @@ use Rattle.cr_syntax.specs.Machine.{Prog, Manner, Test, the, Done, Runs, Allows,
 use Rattle.cr_syntax.specs.MachineBody.{body}
 use Rattle.cr_syntax.proofs.MachineFirst.{none_true, true_false, yes}
 use Rattle.cr_syntax.proofs.MachineRuns.{reach, again, passes_same, brought_same}
-use Rattle.cr_syntax.proofs.MachineEnds.{Way, stopped, barring, crowded, Ends, end_stop, end_take, end_crowded, end_pass, end_bar, end_free, end_seen, end_unseen, end_yes, end_no, end_here, end_look, end_set, end_bring, end_behind, end_inside, refused_so}
-use Rattle.cr_syntax.proofs.MachineSteady.{enters, leaves, fits, tries, IsEager, eager, Finds, finds, Replaced, by_none, by_trial, by_take, Goes, steady}
+use Rattle.cr_syntax.proofs.MachineEnds.{Way, stopped, barring, crowded, defining, Ends, end_stop, end_refuse, end_take, end_crowded, end_pass, end_bar, end_free, end_seen, end_unseen, end_yes, end_no, end_here, end_look, end_set, end_bring, end_behind, end_inside, refused_so}
+use Rattle.cr_syntax.proofs.MachineSteady.{enters, leaves, fits, tries, IsEager, eager, Under, under, Finds, finds, Replaced, by_none, by_trial, by_take, Goes, steady}
 use Rattle.cr_syntax.proofs.MachineRows.{knows, beyond_done}
 
 -- the levels where a run is refused
@@ -24,13 +24,15 @@ abbrev pub levels_by : Way → ℕ
 levels_by (stopped d) = d
 levels_by (barring x n d) = d
 levels_by crowded = 0
+levels_by (defining n) = 0
 
--- whether a token was expected and only room was wanting
+-- whether only room was wanting for a token, or one before it is refused
 abbrev pub is_crowded : Way → Bool
 is_crowded crowded = true
+is_crowded (defining n) = true
 is_crowded _ = false
 
-end_reach : {ts : List Lexeme} {limit : Limit} {p : Prog} {c : Scopes} {i k : ℕ} {w : Way} → Ends body ts limit p c i w k → i ≤ k
+pub end_reach : {ts : List Lexeme} {limit : Limit} {p : Prog} {c : Scopes} {i k : ℕ} {w : Way} → Ends body ts limit p c i w k → i ≤ k
 end_reach z = reach (refused_so z)
 
 module _ {ts : List Lexeme} {limit : Limit} where
@@ -52,12 +54,13 @@ module _ {ts : List Lexeme} {limit : Limit} where
       let n = reach h in
       let n' = reach k in
       let v = low_done l _ _ k (omega arith) (y.1 _ _ _ (knows g c _ i _ _ h)) in
-      let v' = low_done (leaves g) (enters g) false h (omega arith) (steady ts g c i) in
-      let v'' = y.0 in
+      let v' = low_done (leaves g) (enters g) false h (omega arith) (steady ts g b y.0 c i) in
+      let v'' = under g b y.0 in
       omega arith
 
-  low_end : (l b : ℕ) (o : Bool) {p : Prog} {c : Scopes} {i k : ℕ} {w : Way} → Ends body ts limit p c i w k → k ≤ i → Goes ts p l b o c i → levels_by w ≤ b
+  pub low_end : (l b : ℕ) (o : Bool) {p : Prog} {c : Scopes} {i k : ℕ} {w : Way} → Ends body ts limit p c i w k → k ≤ i → Goes ts p l b o c i → levels_by w ≤ b
   low_end l b o end_stop le y = y
+  low_end l b o end_refuse le y = omega arith
   low_end l b o (end_take x a z) le y = let n = end_reach z in absurd (omega arith)
   low_end l b o (end_crowded x a) le y = omega arith
   low_end l b o (end_pass x z) le y = let n = low_end l _ _ z le y.3 in let n' = y.0 in omega arith
@@ -75,14 +78,15 @@ module _ {ts : List Lexeme} {limit : Limit} where
       let n = reach h in
       let n' = end_reach z in
       let v = low_end l _ _ z (omega arith) (y.1 _ _ _ (knows g c _ i _ _ h)) in
-      let v' = low_done (leaves g) (enters g) false h (omega arith) (steady ts g c i) in
-      let v'' = y.0 in
+      let v' = low_done (leaves g) (enters g) false h (omega arith) (steady ts g b y.0 c i) in
+      let v'' = under g b y.0 in
       omega arith
-  low_end l b o {c = c} {i = i} (end_inside {g = g} z) le y = let v = low_end (leaves g) (enters g) false z le (steady ts g c i) in let v' = y.0 in omega arith
+  low_end l b o {c = c} {i = i} (end_inside {g = g} z) le y = let v = low_end (leaves g) (enters g) false z le (steady ts g b y.0 c i) in let v' = under g b y.0 in omega arith
 
   -- A program that finds its first token goes on behind it, where it isn't refused there for want of room.
   beyond_end : {p : Prog} {c : Scopes} {i k : ℕ} {w : Way} → Ends body ts limit p c i w k → is_crowded w ≡ false → Finds ts p c i → i < k
   beyond_end end_stop q y = absurd y
+  beyond_end end_refuse q y = true_false q
   beyond_end (end_take x a z) q y = let n = end_reach z in omega arith
   beyond_end (end_crowded x a) q y = true_false q
   beyond_end (end_pass x z) q y = beyond_end z q (y x)
@@ -114,7 +118,7 @@ pub record Stand (us : List Lexeme) (k n : ℕ) : Type 0 where
 module _ (ts us : List Lexeme) (limit top : Limit) (k m : ℕ) (alike : (n : ℕ) → n < k → slice_get us n ≡ slice_get ts n)
     (block : (g : Manner) (x : Test) (d : ℕ) (c : Scopes) (i : ℕ) → i ≡ k → m ≤ levels_at g d → fits g x ≡ true → passes us c i x ≡ true → Allows top g i d → ⊥) where
   -- where a test says two things of the texts, it is asked at token k
-  at_last : (c : Scopes) (i : ℕ) (x : Test) {b b' : Bool} → i ≤ k → passes ts c i x ≡ b → passes us c i x ≡ b' → (b ≡ b' → ⊥) → i ≡ k
+  pub at_last : (c : Scopes) (i : ℕ) (x : Test) {b b' : Bool} → i ≤ k → passes ts c i x ≡ b → passes us c i x ≡ b' → (b ≡ b' → ⊥) → i ≡ k
   at_last c i x le q q' f = elim (eq-or-lt_of_le {n = i} {m = k} le) [ inl e ↦ e | inr lt ↦ absurd (f (sym q ∙ sym (passes_same ts us i (alike i lt) c x) ∙ q')) ]
 
   -- a program that must consume token k gives nothing
@@ -175,7 +179,7 @@ module _ (ts us : List Lexeme) (limit top : Limit) (k m : ℕ) (alike : (n : ℕ
       let n = reach h in
       let n1 = reach h1 in
       let w = y.1 x e' j' (knows g c e' i j' x h) in
-      let q = same_done (leaves g) (enters g) false h h' (steady ts g c i) (omega arith) (λ q. by j' (omega arith) q w h1) in
+      let q = same_done (leaves g) (enters g) false h h' (steady ts g b y.0 c i) (omega arith) (λ q. by j' (omega arith) q w h1) in
       same_done l _ _ h1 (again (λ t e j. Runs body us top (p t) e j (Done u f n')) q h1') w le z
     where
       by : (j' : ℕ) → j' ≤ j → j' ≡ k → {q : Prog} {d e' : Scopes} {v : Trees} → Goes ts q l (leaves g) false d j' → Runs body ts limit q d j' (Done v e' j) → m ≤ leaves g
@@ -188,6 +192,7 @@ module _ (ts us : List Lexeme) (limit top : Limit) (k m : ℕ) (alike : (n : ℕ
   pub stuck : (l b : ℕ) (o : Bool) {p : Prog} {c f : Scopes} {i k' n : ℕ} {w : Way} {u : Trees} → Ends body ts limit p c i w k' → Runs body us top p c i (Done u f n) → k' ≡ k → Goes ts p l b o c i → is_crowded w ≡ false → m ≤ levels_by w →
       ((x : Test) (n d : ℕ) → w ≡ barring x n d → Stand us k n) → (o ≡ true → i ≡ k → Is us k word.LeftBracket → ⊥) → ⊥
   stuck l b o end_stop h' e y cr le st inv = elim h' [ ]
+  stuck l b o end_refuse h' e y cr le st inv = true_false cr
   stuck l b o (end_take x a z) (run_take x' a' h') e y cr le st inv = stuck l _ _ z h' e y.2 cr le st (λ q. none_true q)
   stuck l b o {c = c} {i = i} (end_take {x = x} v a z) (run_pass v' h') e y cr le st inv =
       let n = end_reach z in
@@ -233,9 +238,9 @@ module _ (ts us : List Lexeme) (limit top : Limit) (k m : ℕ) (alike : (n : ℕ
       let n = reach h in
       let n1 = end_reach z in
       let v = y.1 x e' j' (knows g c e' i j' x h) in
-      let q = same_done (leaves g) (enters g) false h h' (steady ts g c i) (omega arith) (λ q. by j' q v z) in
+      let q = same_done (leaves g) (enters g) false h h' (steady ts g b y.0 c i) (omega arith) (λ q. by j' q v z) in
       stuck l _ _ z (again (λ t e j. Runs body us top (p t) e j (Done u f n')) q h1') e v cr le st (λ q. none_true q)
     where
       by : (j' : ℕ) → j' ≡ k → {q : Prog} {d : Scopes} → Goes ts q l (leaves g) false d j' → Ends body ts limit q d j' w k' → m ≤ leaves g
       by j' q v z = let lt = low_end l (leaves g) false z (omega arith) v in omega arith
-  stuck l b o {c = c} {i = i} (end_inside {g = g} z) (run_call h' h1') e y cr le st inv = stuck (leaves g) (enters g) false z h' e (steady ts g c i) cr le st (λ q. none_true q)
+  stuck l b o {c = c} {i = i} (end_inside {g = g} z) (run_call h' h1') e y cr le st inv = stuck (leaves g) (enters g) false z h' e (steady ts g b y.0 c i) cr le st (λ q. none_true q)

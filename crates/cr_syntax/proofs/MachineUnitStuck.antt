@@ -1,0 +1,150 @@
+-- What a refusal of a unit's token says of other texts: at the levels where it stopped none leaves room, and the bracket
+-- that stands in a refused one's place has none either. A unit and its external definitions begin where no level is open.
+use Rattle.std.proofs.Common.{◌≡◌, ℕ, ◌+◌, ◌<◌, ◌≤◌, Bool, true, false, List, [], length, Option, None, Some, refl, sym, ap, subst, ◌∙◌, arith}
+use Rattle.std.specs.Prelude.{slice_get, set}
+use Rattle.std.proofs.lemmas.List.{length-set}
+use Rattle.cr_syntax.specs.declared.word.Word.{Word}
+use Rattle.cr_syntax.specs.declared.word.Word.TheVariants as word
+use Rattle.cr_syntax.specs.Words.{Lexeme, word_at}
+use Rattle.cr_syntax.specs.Scopes.{Scopes}
+use Rattle.cr_syntax.specs.Trees.{Trees, none, ◌&◌}
+use Rattle.cr_syntax.specs.Context.{fresh}
+use Rattle.cr_syntax.specs.Spells.{Limit, Free, Upto, Leaving, Is}
+use Rattle.cr_syntax.specs.Units.{IsUnit, Begins, BeginsWithin, file_scope, most_levels, is_unused, with_word, StandsIn}
+use Rattle.cr_syntax.specs.Machine.{Goal, Prog, Labels, anywhere, Manner, Test, plain, opens, reopens, Allows, Done, Runs, passes, levels_at, give, call, run_give, run_take, run_pass, run_free, run_seen, run_unseen, run_yes, run_no, run_here, run_look, run_set, run_bring, run_call}
+use Rattle.cr_syntax.specs.Machine.{unit, externals, external}
+use Rattle.cr_syntax.specs.MachineBody.{body}
+use Rattle.cr_syntax.proofs.MachineFirst.{none_true, true_false}
+use Rattle.cr_syntax.proofs.MachineRuns.{reach, again, word_same}
+use Rattle.cr_syntax.proofs.MachineEnds.{Way, stopped, barring, Ends, end_seen, end_unseen, end_behind, end_inside}
+use Rattle.cr_syntax.proofs.MachineComplete.{get_some}
+use Rattle.cr_syntax.proofs.MachineUnits.{unit_is_read}
+use Rattle.cr_syntax.proofs.MachineSound.{runs_sound}
+use Rattle.cr_syntax.proofs.MachineParts.{within_last}
+use Rattle.cr_syntax.proofs.MachineViable.{word_before, word_there}
+use Rattle.cr_syntax.proofs.MachineForms.{within}
+use Rattle.cr_syntax.proofs.MachineUnused.{used}
+use Rattle.cr_syntax.proofs.MachineSteady.{enters, leaves, fits, Goes, steady}
+use Rattle.cr_syntax.proofs.MachineRows.{knows}
+use Rattle.cr_syntax.proofs.MachineStuck.{levels_by, is_crowded, Stand, end_reach, low_end, at_last, same_done, stuck}
+use Rattle.cr_syntax.proofs.MachineRefused.{same_tokens, no_bar, allows_none, allows_bracket, stands_bracket, same_row}
+
+-- external definitions that are refused at their first token are refused there with no more levels
+low_externals : {ts : List Lexeme} {limit : Limit} (l : Labels) (d : ℕ) (x : Trees) {c : Scopes} {i k : ℕ} {w : Way} → Ends body ts limit (body (externals l d x)) c i w k → k ≤ i → levels_by w ≤ d
+low_externals {ts = ts} l d x {c = c} {i = i} (end_seen v (end_inside z)) le = low_end (leaves (external l d)) (enters (external l d)) false z le (steady ts (external l d) d (omega arith) c i)
+low_externals l d x (end_seen v (end_behind {t = t} h (end_inside z))) le =
+    let n = reach h in
+    let n' = end_reach z in
+    low_externals l d (x & t & none) z (omega arith)
+low_externals l d x (end_seen v (end_behind h (end_behind h' z))) le = elim z [ ]
+low_externals l d x (end_unseen v z) le = elim z [ ]
+
+-- The other text, its limit, and the levels from which on there is no room at token k.
+module _ (ts us : List Lexeme) (limit top : Limit) (k m : ℕ) (alike : (n : ℕ) → n < k → slice_get us n ≡ slice_get ts n)
+    (block : (g : Manner) (x : Test) (d : ℕ) (c : Scopes) (i : ℕ) → i ≡ k → m ≤ levels_at g d → fits g x ≡ true → passes us c i x ≡ true → Allows top g i d → ⊥) where
+  abbrev Stands : Way → Type 0
+  Stands w = (x : Test) (n d : ℕ) → w ≡ barring x n d → Stand us k n
+
+  -- one external definition
+  stuck_external : (l : Labels) (d : ℕ) {c f : Scopes} {i n : ℕ} {w : Way} {u : Trees} → Ends body ts limit (body (external l d)) c i w k → Runs body us top (body (external l d)) c i (Done u f n) → is_crowded w ≡ false → m ≤ levels_by w →
+      Stands w → ⊥
+  stuck_external l d {c = c} {i = i} z h cr le st = stuck ts us limit top k m alike block (leaves (external l d)) (enters (external l d)) false z h refl (steady ts (external l d) d (omega arith) c i) cr le st (λ q. none_true q)
+
+  -- where one text goes on with external definitions and is refused, the other one goes on as that one does
+  same_external : (l : Labels) (d : ℕ) (x : Trees) {c e f : Scopes} {i j n : ℕ} {w : Way} {t u : Trees} → d < m → Runs body ts limit (body (external l d)) c i (Done t e j) → Runs body us top (body (external l d)) c i (Done u f n) →
+      Ends body ts limit (body (externals l d x)) e j w k → m ≤ levels_by w → Done t e j ≡ Done u f n
+  same_external l d x {c = c} {i = i} lt h h' z le =
+      let n = end_reach z in
+      same_done ts us limit top k m alike block (leaves (external l d)) (enters (external l d)) false h h' (steady ts (external l d) d (omega arith) c i) (omega arith)
+      (λ q. let v = low_externals l d x z (omega arith) in absurd (omega arith))
+
+  stuck_externals : (l : Labels) (d : ℕ) (x : Trees) {c f : Scopes} {i n : ℕ} {w : Way} {u : Trees} → d < m → Ends body ts limit (body (externals l d x)) c i w k → Runs body us top (body (externals l d x)) c i (Done u f n) →
+      is_crowded w ≡ false → m ≤ levels_by w → Stands w → ⊥
+  stuck_externals l d x lt (end_seen v (end_inside z)) (run_seen v' (run_call h h')) cr le st = stuck_external l d z h cr le st
+  stuck_externals l d x {f = f} {n = n} {u = u} lt (end_seen v (end_behind {t = t} h (end_inside z))) (run_seen v' (run_call h' h1')) cr le st =
+      let q = same_external l d (x & t & none) lt h h' z le in
+      stuck_externals l d (x & t & none) lt z (within_last (again (λ t e j. Runs body us top (call (externals l d (x & t & none)) give) e j (Done u f n)) q h1')) cr le st
+  stuck_externals l d x lt (end_seen v (end_behind h (end_behind h1 z))) h' cr le st = elim z [ ]
+  stuck_externals l d x {c = c} {i = i} lt (end_seen {x = y} v z) (run_unseen v' h') cr le st =
+      let n = end_reach z in
+      let q = at_last ts us limit top k m alike block c i y n v v' (λ q. true_false q) in
+      let b = low_externals l d x (end_seen v z) (omega arith) in
+      absurd (omega arith)
+  stuck_externals l d x lt (end_unseen v z) h' cr le st = elim z [ ]
+
+  stuck_unit : (l : Labels) (d : ℕ) {c f : Scopes} {i n : ℕ} {w : Way} {u : Trees} → d < m → Ends body ts limit (body (unit l d)) c i w k → Runs body us top (body (unit l d)) c i (Done u f n) → is_crowded w ≡ false → m ≤ levels_by w → Stands w → ⊥
+  stuck_unit l d lt (end_inside z) (run_call h h') cr le st = stuck_external l d z h cr le st
+  stuck_unit l d {f = f} {n = n} {u = u} lt (end_behind {t = t} h (end_inside z)) (run_call h' h1') cr le st =
+      let q = same_external l d (t & none) lt h h' z le in
+      stuck_externals l d (t & none) lt z (within_last (again (λ t e j. Runs body us top (call (externals l d (t & none)) give) e j (Done u f n)) q h1')) cr le st
+  stuck_unit l d lt (end_behind h (end_behind h1 z)) h' cr le st = elim z [ ]
+
+  no_unit : {w : Way} {t : Trees} → 0 < m → Ends body ts limit (body (unit anywhere 0)) file_scope 0 w k → is_crowded w ≡ false → m ≤ levels_by w → Stands w → IsUnit top us t → ⊥
+  no_unit lt z cr le st y = stuck_unit anywhere 0 lt z (unit_is_read anywhere y refl refl) cr le st
+
+-- at the levels where it stopped or with more none leaves room
+pub no_room_in_unit : {ts : List Lexeme} {limit : Limit} (most : ℕ) {d k : ℕ} → 0 < most → k ≤ length ts → most ≤ d → Ends body ts limit (body (unit anywhere 0)) file_scope 0 (stopped d) k → Begins (Leaving k most) ts k → ⊥
+no_room_in_unit {ts = ts} {limit = limit} most {k = k} some le up y b =
+    no_unit ts b.completes.text limit (Leaving k most) k most (same_tokens ts b.completes.text k le b.completes.alike) (λ g x d c i q low f v w. allows_none most k g i d q low w) some y refl up no_bar b.completes.is_unit
+
+-- the bracket in a refused one's place
+pub no_room_instead_in_unit : {ts : List Lexeme} {limit : Limit} (most : ℕ) {x : Test} {n d k : ℕ} {v : Word} → 0 < most → k < length ts → most ≤ d → StandsIn n v →
+    Ends body ts limit (body (unit anywhere 0)) file_scope 0 (barring x n d) k → Begins (Upto (k + 1) most) (with_word ts k v) (k + 1) → ⊥
+no_room_instead_in_unit {ts = ts} {limit = limit} most {k = k} {v = v} some lt up r y b =
+    no_unit ts us limit (Upto (k + 1) most) k most (λ n lt'. tokens n (omega arith) ∙ word_before ts k n new lt') (allows_bracket us most k v (stands_bracket r) there) some y refl up
+    (λ x n d q. record { word = v; stands = subst (λ n. StandsIn n v) (same_row q) r; is = there }) b.completes.is_unit
+  where
+    us : List Lexeme
+    us = b.completes.text
+
+    new : Lexeme
+    new = record { word = v; spelling = [] }
+
+    tokens : (n : ℕ) → n < k + 1 → slice_get us n ≡ slice_get (set ts k new) n
+    tokens = let q = length-set ts k new in same_tokens (set ts k new) us (k + 1) (omega arith) b.completes.alike
+
+    there : Is us k v
+    there = ap (λ o. elim o as (λ _. Option Word) [ None ↦ None | Some t ↦ Some t.word ]) (tokens k (omega arith) ∙ word_there ts k new lt)
+
+-- a unit that is read is spelled
+pub read_is_unit : {ts : List Lexeme} {limit : Limit} {t : Trees} {e : Scopes} (l : Labels) → Runs body ts limit (body (unit l 0)) file_scope 0 (Done t e (length ts)) → IsUnit limit ts t
+read_is_unit {ts = ts} {t = t} {e = e} l h = record { after = e; spells = runs_sound (unit l 0) file_scope e 0 (length ts) t h fresh }
+
+-- the tokens that begin a unit are no unused keywords
+pub begun_unit_is_used : {limit : Limit} {ts : List Lexeme} {i k : ℕ} {w : Word} → Begins limit ts k → i < k → Is ts i w → is_unused w ≡ false
+begun_unit_is_used {ts = ts} {i = i} {w = w} b lt q =
+    let x = get_some ts i (within ts i q) in
+    let us = b.completes.text in
+    let q' : Is us i w = word_same ts us i (b.completes.alike i x.0 lt x.1 ∙ sym x.1) ∙ q in
+    (used b.completes.is_unit.spells refl).all i w (omega arith) (within us i q') q'
+
+-- Where another limit lets each token stand that a text's run takes, the text is one within that limit.
+module _ {us : List Lexeme} {limit top : Limit}
+    (lim : (g : Manner) (x : Test) (c : Scopes) (i d : ℕ) → fits g x ≡ true → passes us c i x ≡ true → Allows limit g i d → Allows top g i d) where
+  relimit : (l b : ℕ) (o : Bool) {p : Prog} {c e : Scopes} {i j : ℕ} {t : Trees} → Runs body us limit p c i (Done t e j) → Goes us p l b o c i → Runs body us top p c i (Done t e j)
+  relimit l b o run_give y = run_give
+  relimit l b o {c = c} {i = i} (run_take {m = g} {x = x} {d = d} v a h) y = run_take v (lim g x c i d y.1 v a) (relimit l _ _ h y.2)
+  relimit l b o (run_pass x h) y = run_pass x (relimit l _ _ h y.3)
+  relimit l b o (run_free x h) y = run_free x (relimit l _ _ h y.2)
+  relimit l b o (run_seen x h) y = run_seen x (relimit l _ _ h y.2)
+  relimit l b o (run_unseen x h) y = run_unseen x (relimit l _ _ h y.3)
+  relimit l b o (run_yes x h) y = run_yes x (relimit l _ _ h (y.0 x))
+  relimit l b o (run_no x h) y = run_no x (relimit l _ _ h (y.1 x))
+  relimit l b o (run_here h) y = run_here (relimit l _ _ h y)
+  relimit l b o (run_look h) y = run_look (relimit l _ _ h y)
+  relimit l b o (run_set h) y = run_set (relimit l _ _ h y)
+  relimit l b o (run_bring h) y = run_bring (relimit l _ _ h y)
+  relimit l b o {c = c} {i = i} (run_call {g = g} h k) y = run_call (relimit (leaves g) (enters g) false h (steady us g b y.0 c i)) (relimit l _ _ k (y.1 _ _ _ (knows g c _ i _ _ h)))
+
+  relimit_external : (l : Labels) (d : ℕ) {c e : Scopes} {i j : ℕ} {t : Trees} → Runs body us limit (body (external l d)) c i (Done t e j) → Runs body us top (body (external l d)) c i (Done t e j)
+  relimit_external l d {c = c} {i = i} h = relimit (leaves (external l d)) (enters (external l d)) false h (steady us (external l d) d (omega arith) c i)
+
+  relimit_externals : (l : Labels) (d : ℕ) (x : Trees) {c e : Scopes} {i j : ℕ} {t : Trees} → Runs body us limit (body (externals l d x)) c i (Done t e j) → Runs body us top (body (externals l d x)) c i (Done t e j)
+  relimit_externals l d x (run_seen v (run_call {t = t} h (run_call h' run_give))) = run_seen v (run_call (relimit_external l d h) (run_call (relimit_externals l d (x & t & none) h') run_give))
+  relimit_externals l d x (run_unseen v run_give) = run_unseen v run_give
+
+  relimit_run : (l : Labels) (d : ℕ) {c e : Scopes} {i j : ℕ} {t : Trees} → Runs body us limit (body (unit l d)) c i (Done t e j) → Runs body us top (body (unit l d)) c i (Done t e j)
+  relimit_run l d (run_call {t = t} h (run_call h' run_give)) = run_call (relimit_external l d h) (run_call (relimit_externals l d (t & none) h') run_give)
+
+  pub relimit_unit : {t : Trees} → IsUnit limit us t → IsUnit top us t
+  relimit_unit y = read_is_unit anywhere (relimit_run anywhere 0 (unit_is_read anywhere y refl refl))
