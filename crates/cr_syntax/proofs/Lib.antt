@@ -52,3 +52,4 @@ pub mod MachineRefused
 pub mod MachineReading
 pub mod MachineLoose
 pub mod MachineUnitStuck
+pub mod MachineUnit

@@ -167,7 +167,7 @@ refuses_upto n most m.plain i d lt w v = w tt
 refuses_upto n most m.opens i d lt w v = w (v lt)
 refuses_upto n most m.reopens i d lt w v = w (tt, v.1 lt)
 
-upto : {ts : List Lexeme} {most : ℕ} {p : Prog} {c : Scopes} {i : ℕ} {r : Reply} (n : ℕ) → end_of r < n → Runs body ts (AtMost most) p c i r → Runs body ts (Upto n most) p c i r
+pub upto : {ts : List Lexeme} {most : ℕ} {p : Prog} {c : Scopes} {i : ℕ} {r : Reply} (n : ℕ) → end_of r < n → Runs body ts (AtMost most) p c i r → Runs body ts (Upto n most) p c i r
 upto n lt m.run_give = m.run_give
 upto n lt m.run_stop = m.run_stop
 upto n lt m.run_refuse = m.run_refuse

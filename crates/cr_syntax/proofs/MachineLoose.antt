@@ -110,7 +110,7 @@ pub record Departs (ts : List Lexeme) (limit : Limit) (p : Prog) (c : Scopes) (i
   pub ends : Ends body ts limit p c i way at
   pub by : at ≤ j
 
-label_is : (o : Option Word) → elim o as (λ _. Bool) [ None ↦ false | Some v ↦ is_label v ] ≡ true → (o ≡ Some word.Case) ⊎ (o ≡ Some word.Default)
+pub label_is : (o : Option Word) → elim o as (λ _. Bool) [ None ↦ false | Some v ↦ is_label v ] ≡ true → (o ≡ Some word.Case) ⊎ (o ≡ Some word.Default)
 label_is None q = none_true q
 label_is (Some word.Case) q = inl refl
 label_is (Some word.Default) q = inr refl

@@ -36,7 +36,7 @@ use Rattle.cr_syntax.proofs.MachineStuck.{is_crowded}
 use Rattle.cr_syntax.proofs.MachineRefused.{no_room, spells_none, no_room_instead}
 
 -- A run consumes tokens of the text alone.
-ends_inside : {ts : List Lexeme} {limit : Limit} {p : Prog} {c : Scopes} {i : ℕ} {r : Reply} → Runs body ts limit p c i r → i ≤ length ts → end_of r ≤ length ts
+pub ends_inside : {ts : List Lexeme} {limit : Limit} {p : Prog} {c : Scopes} {i : ℕ} {r : Reply} → Runs body ts limit p c i r → i ≤ length ts → end_of r ≤ length ts
 ends_inside run_give le = le
 ends_inside run_stop le = le
 ends_inside run_refuse le = le
@@ -57,7 +57,7 @@ ends_inside (run_call h k) le = ends_inside k (ends_inside h le)
 ends_inside (run_fail h) le = ends_inside h le
 
 -- Where no level wants room, a limit is none.
-unlimited_end : {ts : List Lexeme} {limit : Limit} {p : Prog} {c : Scopes} {i k : ℕ} {w : Way} → Ends body ts limit p c i w k → is_crowded w ≡ false → Ends body ts Free p c i w k
+pub unlimited_end : {ts : List Lexeme} {limit : Limit} {p : Prog} {c : Scopes} {i k : ℕ} {w : Way} → Ends body ts limit p c i w k → is_crowded w ≡ false → Ends body ts Free p c i w k
 unlimited_end end_stop n = end_stop
 unlimited_end end_refuse n = end_refuse
 unlimited_end {i = i} (end_take {g = g} {d = d} q w z) n = end_take q (allows_free g i d) (unlimited_end z n)
@@ -78,31 +78,31 @@ unlimited_end (end_inside z) n = end_inside (unlimited_end z n)
 
 -- Words.
 
-bracket_is : (w : Word) → is_bracket w ≡ true → IsBracket w
+pub bracket_is : (w : Word) → is_bracket w ≡ true → IsBracket w
 bracket_is word.LeftParen q = parenthesis
 bracket_is word.LeftBracket q = bracket
 bracket_is word.LeftBrace q = brace
 bracket_is _ q = none_true q
 
-is_of_bracket : {w : Word} → IsBracket w → is_bracket w ≡ true
+pub is_of_bracket : {w : Word} → IsBracket w → is_bracket w ≡ true
 is_of_bracket parenthesis = refl
 is_of_bracket bracket = refl
 is_of_bracket brace = refl
 
-bracket_is_used : {w : Word} → IsBracket w → is_unused w ≡ false
+pub bracket_is_used : {w : Word} → IsBracket w → is_unused w ≡ false
 bracket_is_used parenthesis = refl
 bracket_is_used bracket = refl
 bracket_is_used brace = refl
 
 -- a token is no unused keyword and another word
-not_both : {o : Option Word} {v w : Word} → o ≡ Some v → is_unused v ≡ true → o ≡ Some w → is_unused w ≡ false → ⊥
+pub not_both : {o : Option Word} {v w : Word} → o ≡ Some v → is_unused v ≡ true → o ≡ Some w → is_unused w ≡ false → ⊥
 not_both {v = v} q u q' u' = both_ways (is_unused v) (subst (λ w. is_unused w ≡ false) (some_one (sym q' ∙ q)) u') u
 
 -- a bracket overflows where so many levels are open
-at_most : (m most : ℕ) → not (nat_lt m most) ≡ true → most ≤ m
+pub at_most : (m most : ℕ) → not (nat_lt m most) ≡ true → most ≤ m
 at_most m most q = ltb-false m most (not_true (nat_lt m most) q)
 
-below : (w : Word) (m : ℕ) → is_bracket w ≡ true → overflows w m ≡ false → m < most_levels
+pub below : (w : Word) (m : ℕ) → is_bracket w ≡ true → overflows w m ≡ false → m < most_levels
 below w m b q = ltb-true m most_levels (by (is_bracket w) (nat_lt m most_levels) b q)
   where
     by : (x y : Bool) → x ≡ true → x && not y ≡ false → y ≡ true
@@ -124,7 +124,7 @@ in_place (compound_literal q x) y b = (word.LeftParen, group_for_literal)
 in_place (called_expression q x) y b = (word.LeftBracket, subscript_for_call)
 in_place (bit_field q x) y b = absurd (both_ways (is_bracket word.Colon) refl (subst (λ w. is_bracket w ≡ true) (some_one (sym y ∙ q)) (is_of_bracket b)))
 
-not_keyword_row : {n : ℕ} {v : Word} → StandsIn n v → n ≡ 1 → ⊥
+pub not_keyword_row : {n : ℕ} {v : Word} → StandsIn n v → n ≡ 1 → ⊥
 not_keyword_row {v = v} x e = by (subst (λ n. StandsIn n v) e x)
   where
     by : {v : Word} → StandsIn 1 v → ⊥
@@ -134,7 +134,7 @@ not_keyword_row {v = v} x e = by (subst (λ n. StandsIn n v) e x)
 barring_at : {n i k : ℕ} {w : Way} → IsBarring n i (at w k) → (i ≡ k) × (x : Test) × (d : ℕ) × (w ≡ barring x n d)
 barring_at (by_row {x = x} {d = d}) = (refl, x, d, refl)
 
-at_end : (ts : List Lexeme) (k : ℕ) → k ≤ length ts → word_at ts k ≡ None → k ≡ length ts
+pub at_end : (ts : List Lexeme) (k : ℕ) → k ≤ length ts → word_at ts k ≡ None → k ≡ length ts
 at_end ts k le q = elim (eq-or-lt_of_le {n = k} {m = length ts} le) [ inl e ↦ e | inr lt ↦ (let w = get_some ts k lt in by (ap (λ o. elim o as (λ _. Option Word) [ None ↦ None | Some t ↦ Some t.word ]) w.1) q) ]
   where
     by : {A : Type 0} {v : Word} → word_at ts k ≡ Some v → word_at ts k ≡ None → A
