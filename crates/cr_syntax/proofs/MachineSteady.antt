@@ -484,15 +484,47 @@ module _ (ts : List Lexeme) where
     (refl, omega arith),
     λ q. q,
     (omega arith, λ t e j _. omega arith),
-    (omega arith, refl, (omega arith, λ t e j _. omega arith),
-    (omega arith, refl, (omega arith, λ t e j _. omega arith),
-    (omega arith, refl, (omega arith, λ t e j _. omega arith),
-    (omega arith, refl, (omega arith, λ t e j _. omega arith),
-    (omega arith, refl, (omega arith, λ t e j _. omega arith),
-    (omega arith, refl, (omega arith, refl, omega arith, omega arith),
-    (omega arith, refl, (omega arith, refl, omega arith, omega arith),
-    (omega arith, refl, (omega arith, λ t e j _. omega arith),
-    (omega arith, refl, omega arith, (omega arith, λ t e j _. (omega arith, refl, omega arith, omega arith))))))))))),
+    (
+      omega arith,
+      refl,
+      (omega arith, λ t e j _. omega arith),
+      (
+        omega arith,
+        refl,
+        (omega arith, λ t e j _. omega arith),
+        (
+          omega arith,
+          refl,
+          (omega arith, λ t e j _. omega arith),
+          (
+            omega arith,
+            refl,
+            (omega arith, λ t e j _. omega arith),
+            (
+              omega arith,
+              refl,
+              (omega arith, λ t e j _. omega arith),
+              (
+                omega arith,
+                refl,
+                (omega arith, refl, omega arith, omega arith),
+                (
+                  omega arith,
+                  refl,
+                  (omega arith, refl, omega arith, omega arith),
+                  (
+                    omega arith,
+                    refl,
+                    (omega arith, λ t e j _. omega arith),
+                    (omega arith, refl, omega arith, (omega arith, λ t e j _. (omega arith, refl, omega arith, omega arith))),
+                  ),
+                ),
+              ),
+            ),
+          ),
+        ),
+      ),
+    ),
   )
 
   labelled_steady : (l : Labels) (d s : ℕ) (c : Scopes) (i : ℕ) → Goes (labelled l d s (unlabelled l d s)) d d false c i

@@ -16,7 +16,7 @@ use Rattle.cr_syntax.specs.MachineBody.{body}
 use Rattle.cr_syntax.proofs.MachineFirst.{none_true, true_false, yes}
 use Rattle.cr_syntax.proofs.MachineRuns.{reach, again, passes_same, brought_same}
 use Rattle.cr_syntax.proofs.MachineEnds.{Way, stopped, barring, crowded, defining, Ends, end_stop, end_refuse, end_take, end_crowded, end_pass, end_bar, end_free, end_seen, end_unseen, end_yes, end_no, end_here, end_look, end_set, end_bring, end_behind, end_inside, refused_so}
-use Rattle.cr_syntax.proofs.MachineSteady.{enters, leaves, fits, tries, IsEager, eager, Under, under, Finds, finds, Replaced, by_none, by_trial, by_take, Goes, steady}
+use Rattle.cr_syntax.proofs.MachineSteady.{enters, leaves, fits, tries, IsEager, eager, under, Finds, finds, Replaced, by_none, by_trial, by_take, Goes, steady}
 use Rattle.cr_syntax.proofs.MachineRows.{knows, beyond_done}
 
 -- the levels where a run is refused

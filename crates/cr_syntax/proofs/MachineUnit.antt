@@ -10,9 +10,9 @@ use Rattle.cr_syntax.specs.Trees.{Trees}
 use Rattle.cr_syntax.specs.Spells.{Limit, Free, AtMost, Upto, Leaving, Is}
 use Rattle.cr_syntax.specs.Units.{most_levels, file_scope, is_unused, IsBracket, StandsIn, list_for_designator, group_for_literal, subscript_for_call, block_for_body, IsUnit, Completes, Begins, BeginsWithin, with_word, Outside, IsTooDeep, IsFineBefore, FirstRefusal, IsTreeOf}
 use Rattle.cr_syntax.specs.Units as units
-use Rattle.cr_syntax.specs.Machine.{Manner, Test, plain, opens, reopens, Allows, Labels, anywhere, nowhere, unit, Reply, Cause, Done, Failed, Runs, passes, has_word, barred, refusal_of, overflows, is_bracket, too_deep, ended, outside, unexpected}
+use Rattle.cr_syntax.specs.Machine.{Manner, Test, plain, opens, reopens, Allows, anywhere, nowhere, unit, Reply, Cause, Done, Failed, Runs, has_word, barred, refusal_of, overflows, is_bracket, too_deep, ended, outside, unexpected}
 use Rattle.cr_syntax.specs.MachineBody.{body, is_any, is_label}
-use Rattle.cr_syntax.specs.MachineLaws.{end_of}
+use Rattle.cr_syntax.specs.MachineLaws.{IsParsed}
 use Rattle.cr_syntax.proofs.Tests.{both, some_one}
 use Rattle.cr_syntax.proofs.MachineFirst.{none_true, true_false}
 use Rattle.cr_syntax.proofs.MachineRuns.{same, local, word_same}
@@ -21,7 +21,7 @@ use Rattle.cr_syntax.proofs.MachineComplete.{get_some, allows_free, upto}
 use Rattle.cr_syntax.proofs.MachineUnits.{unit_is_read}
 use Rattle.cr_syntax.proofs.MachineViable.{barred_inside, crowded_inside}
 use Rattle.cr_syntax.proofs.MachineForms.{within}
-use Rattle.cr_syntax.proofs.MachineLoose.{looser, followed, Follows, so_too, departs, IsOwn, own_label, label_is}
+use Rattle.cr_syntax.proofs.MachineLoose.{looser, followed, Follows, so_too, departs, own_label, label_is}
 use Rattle.cr_syntax.proofs.MachineStuck.{is_crowded}
 use Rattle.cr_syntax.proofs.MachineReading.{unlimited_end, ends_inside, bracket_is, is_of_bracket, bracket_is_used, not_both, at_most, below, not_keyword_row, at_end}
 use Rattle.cr_syntax.proofs.MachineUnitStuck.{no_room_in_unit, no_room_instead_in_unit, read_is_unit, begun_unit_is_used, relimit_unit, unit_ends, label_within}
@@ -141,7 +141,7 @@ module _ (ts : List Lexeme) where
   -- What is known of the tokens that rows of the refused forms name, and of the texts that begin before a refused token.
   module _
       (row_before : (w : Way) (i n k : ℕ) → EndsBy w k → Outside ts i n → (n ≡ 1 → ⊥) → i < k → (w ≡ defining i) × (n ≡ 8))
-      (row_there : (w : Way) (n k : ℕ) → EndsBy w k → Outside ts k n → (n ≡ 1 → ⊥) → ((m : ℕ) → w ≡ defining m → ⊥) → (x : Test) × (d : ℕ) × (w ≡ barring x n d))
+      (row_there : (w : Way) (n k : ℕ) → k < length ts → EndsBy w k → Outside ts k n → (n ≡ 1 → ⊥) → ((m : ℕ) → w ≡ defining m → ⊥) → (x : Test) × (d : ℕ) × (w ≡ barring x n d))
       (row_read : (t : Trees) (e : Scopes) (i j n : ℕ) → Answers (Done t e j) → Outside ts i n → (n ≡ 1 → ⊥) → i < j → ⊥)
       (stopped_begins : (m k : ℕ) → k ≤ length ts → EndsBy (stopped m) k → BeginsWithin ts k)
       (stopped_leaves : (m k : ℕ) → k ≤ length ts → EndsBy (stopped m) k → m < most_levels → Begins (Leaving k most_levels) ts k)
@@ -171,7 +171,7 @@ module _ (ts : List Lexeme) where
       stop_fine = fine y no_definition (stopped_begins m k le y)
 
       not_outside : {w : Word} → Is ts k w → is_unused w ≡ false → (n : ℕ) → Outside ts k n → ⊥
-      not_outside q u n o = elim (keyword_or_form o) [ inl (v, q', u') ↦ not_both q' u' q u | inr f ↦ no_row (row_there _ _ _ y o f no_definition).2 ]
+      not_outside q u n o = elim (keyword_or_form o) [ inl (v, q', u') ↦ not_both q' u' q u | inr f ↦ no_row (row_there _ _ _ (within ts k q) y o f no_definition).2 ]
         where
           no_row : {x : Test} {n d : ℕ} → stopped m ≡ barring x n d → ⊥
           no_row q = cc
@@ -212,7 +212,7 @@ module _ (ts : List Lexeme) where
       form_not_deep : {w : Word} → Is ts k w → overflows w m ≡ false → IsTooDeep ts k → ⊥
       form_not_deep q v (units.expected o) = bar_ends (begins_free o.begins)
       form_not_deep {w = w} q v (units.refused {v = v'} q' b o x' d) =
-          let r = row_there _ _ _ y o (not_keyword_row x') (λ m q. cc) in
+          let r = row_there _ _ _ (within ts k q) y o (not_keyword_row x') (λ m q. cc) in
           d.too_deep (barred_leaves x n m k (barred_inside y) y v' (subst (λ n. StandsIn n v') (same_row r.2) x') (below w m (subst (λ w. is_bracket w ≡ true) (some_one (sym q' ∙ q)) (is_of_bracket b)) v))
       form_not_deep q v (units.unexpected q' b c f o x') = o n (bar_outside y)
 
@@ -315,3 +315,7 @@ module _ (ts : List Lexeme) where
 
         inside : (i n : ℕ) → i < length ts → Outside ts i n → ⊥
         inside i n lt o = elim (keyword_or_form o) [ inl (w, q, v) ↦ both_ways (is_unused w) (begun_unit_is_used all lt q) v | inr f ↦ (let e = read_to_end h in row_read _ _ _ _ _ h o f (omega arith)) ]
+
+    pub is_parsed : (r : Reply) → Answers r → IsParsed ts r
+    is_parsed (Done t e j) h = (unit_is_tree h, read_to_end h)
+    is_parsed (Failed x k) h = unit_is_refused h

@@ -6,14 +6,13 @@ use Rattle.std.proofs.Math.Nat.{eq-or-lt_of_le}
 use Rattle.std.proofs.lemmas.Bool.{both_ways}
 use Rattle.std.proofs.lemmas.List.{length-set}
 use Rattle.cr_syntax.specs.declared.word.Word.{Word}
-use Rattle.cr_syntax.specs.declared.word.Word.TheVariants as word
-use Rattle.cr_syntax.specs.Words.{Lexeme, word_at}
+use Rattle.cr_syntax.specs.Words.{Lexeme}
 use Rattle.cr_syntax.specs.Scopes.{Scopes}
-use Rattle.cr_syntax.specs.Trees.{Trees, none, ◌&◌}
+use Rattle.cr_syntax.specs.Trees.{Trees}
 use Rattle.cr_syntax.specs.Context.{fresh}
-use Rattle.cr_syntax.specs.Spells.{Limit, Free, Upto, Leaving, Is}
-use Rattle.cr_syntax.specs.Units.{IsUnit, Begins, BeginsWithin, file_scope, most_levels, is_unused, with_word, StandsIn}
-use Rattle.cr_syntax.specs.Machine.{Goal, Prog, Labels, anywhere, Manner, Test, plain, opens, reopens, the, has, ordinary, type_identifier, declared, or, Allows, Done, Runs, passes, has_word, levels_at, is_bracket, give, peek, call, run_give, run_take, run_pass, run_free, run_seen, run_unseen, run_yes, run_no, run_here, run_look, run_set, run_bring, run_call}
+use Rattle.cr_syntax.specs.Spells.{Limit, Upto, Leaving, Is}
+use Rattle.cr_syntax.specs.Units.{IsUnit, Begins, file_scope, is_unused, with_word, StandsIn}
+use Rattle.cr_syntax.specs.Machine.{Prog, Labels, anywhere, Manner, Test, plain, opens, reopens, the, has, ordinary, type_identifier, declared, or, Allows, Done, Runs, passes, has_word, levels_at, is_bracket, give, peek, call, run_give, run_take, run_pass, run_free, run_seen, run_unseen, run_yes, run_no, run_here, run_look, run_set, run_bring, run_call}
 use Rattle.cr_syntax.specs.Machine.{unit, externals, external}
 use Rattle.cr_syntax.specs.MachineBody.{body, is_any, is_label}
 use Rattle.cr_syntax.proofs.Tests.{both, not_true, some_one}

@@ -9,8 +9,8 @@ use Rattle.cr_syntax.specs.Trees.{Trees}
 use Rattle.cr_syntax.specs.Words.{Lexeme}
 use Rattle.cr_syntax.specs.Scopes.{Scopes}
 use Rattle.cr_syntax.specs.Spells.{Limit, Free, AtMost, Upto, Is, Spells, a}
-use Rattle.cr_syntax.specs.Units.{IsUnit}
-use Rattle.cr_syntax.specs.Machine.{Prog, Reply, Cause, Done, Failed, Runs, too_deep}
+use Rattle.cr_syntax.specs.Units.{IsUnit, most_levels, file_scope, IsTreeOf, FirstRefusal}
+use Rattle.cr_syntax.specs.Machine.{Prog, Reply, Cause, Done, Failed, Runs, too_deep, refusal_of, nowhere, unit}
 use Rattle.cr_syntax.specs.Expressions.{Start, Spelled, BeginsFrom, RunEnds}
 use Rattle.cr_syntax.specs.MachineBody.{body, start_goal}
 
@@ -128,3 +128,12 @@ BeginsBefore = (ts : List Lexeme) (most : ℕ) (s : Start) (x : Cause) (k : ℕ)
 abbrev pub EndedIsNone : Type 0
 EndedIsNone = (ts : List Lexeme) (limit : Limit) (s : Start) (x : Cause) (t : Trees) → IsStart s.part → (x ≡ too_deep → ⊥) →
     Runs body ts limit (body (start_goal s.part s.depth)) s.scopes s.at (Failed x (length ts)) → Spelled Free ts s (length ts) t → ⊥
+
+-- what an answer says of a unit's tokens: that the trees are theirs, or that this is the first refusal
+abbrev pub IsParsed : List Lexeme → Reply → Type 0
+IsParsed ts (Done t e j) = IsTreeOf ts t × (j ≡ length ts)
+IsParsed ts (Failed x k) = FirstRefusal ts (refusal_of x k)
+
+-- what the machine of the subset answers of a unit
+abbrev pub MachineReadsUnits : Type 0
+MachineReadsUnits = (ts : List Lexeme) (r : Reply) → Runs body ts (AtMost most_levels) (body (unit nowhere 0)) file_scope 0 r → IsParsed ts r
