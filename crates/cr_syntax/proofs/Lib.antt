@@ -36,3 +36,4 @@ pub mod MachineMarks
 pub mod MachineForms
 pub mod MachineUnused
 pub mod MachineLoose
+pub mod MachineUnitForms

@@ -245,7 +245,7 @@ module _ {ts : List Lexeme} {limit : Limit} where
 
   -- What the bare grammar's machine reads, the subset's reads or refuses in a way of its own.
 
-  part_way : {p q : Prog} {c e : Scopes} {i i' j j' : ℕ} → Departs ts limit p c i j → j ≤ j' → ((w : Way) (k : ℕ) → Ends body ts limit p c i w k → Ends body ts limit q e i' w k) →
+  pub part_way : {p q : Prog} {c e : Scopes} {i i' j j' : ℕ} → Departs ts limit p c i j → j ≤ j' → ((w : Way) (k : ℕ) → Ends body ts limit p c i w k → Ends body ts limit q e i' w k) →
       Departs ts limit q e i' j'
   part_way d le f = let n = d.by in record { way = d.way; at = d.at; own = d.own; ends = f d.way d.at d.ends; by = omega arith }
 
