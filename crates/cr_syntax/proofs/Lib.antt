@@ -37,3 +37,5 @@ pub mod MachineForms
 pub mod MachineUnused
 pub mod MachineLoose
 pub mod MachineUnitForms
+pub mod MachineTraces
+pub mod MachineLabels

@@ -110,7 +110,7 @@ pub record Departs (ts : List Lexeme) (limit : Limit) (p : Prog) (c : Scopes) (i
   pub ends : Ends body ts limit p c i way at
   pub by : at ≤ j
 
-label_is : (o : Option Word) → elim o as (λ _. Bool) [ None ↦ false | Some v ↦ is_label v ] ≡ true → (o ≡ Some word.Case) ⊎ (o ≡ Some word.Default)
+pub label_is : (o : Option Word) → elim o as (λ _. Bool) [ None ↦ false | Some v ↦ is_label v ] ≡ true → (o ≡ Some word.Case) ⊎ (o ≡ Some word.Default)
 label_is None q = none_true q
 label_is (Some word.Case) q = inl refl
 label_is (Some word.Default) q = inr refl
@@ -119,10 +119,10 @@ label_is (Some _) q = none_true q
 pub label_yes : (ts : List Lexeme) (i : ℕ) (w : Word) → is_label w ≡ true → is_word ts i w ≡ true → has_word ts i is_label ≡ true
 label_yes ts i w l y = sorted is_label true (is_of ts i w y) l
 
-label_no : (ts : List Lexeme) (i : ℕ) (w : Word) → is_label w ≡ true → has_word ts i is_label ≡ false → is_word ts i w ≡ false
+pub label_no : (ts : List Lexeme) (i : ℕ) (w : Word) → is_label w ≡ true → has_word ts i is_label ≡ false → is_word ts i w ≡ false
 label_no ts i w l y = false_by (is_word ts i w) (λ y'. both_ways (has_word ts i is_label) y (label_yes ts i w l y'))
 
-label_none : (ts : List Lexeme) (i : ℕ) → is_word ts i word.Case ≡ false → is_word ts i word.Default ≡ false → has_word ts i is_label ≡ false
+pub label_none : (ts : List Lexeme) (i : ℕ) → is_word ts i word.Case ≡ false → is_word ts i word.Default ≡ false → has_word ts i is_label ≡ false
 label_none ts i y y' = false_by (has_word ts i is_label)
     (λ q. ⊎_elim (λ z. both_ways (is_word ts i word.Case) y (yes z)) (λ z. both_ways (is_word ts i word.Default) y' (yes z)) (label_is (word_at ts i) q))
 
