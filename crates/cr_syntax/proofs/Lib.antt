@@ -39,3 +39,4 @@ pub mod MachineLoose
 pub mod MachineUnitForms
 pub mod MachineTraces
 pub mod MachineLabels
+pub mod MachineDefinitions

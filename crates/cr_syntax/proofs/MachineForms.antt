@@ -307,7 +307,7 @@ row_unmarked _ = refl
 
 -- Which of a row's trees begin or end at a token.
 
-or_none : (b : Bool) → b || false ≡ b
+pub or_none : (b : Bool) → b || false ≡ b
 or_none true = refl
 or_none false = refl
 
@@ -389,7 +389,7 @@ module _ (r : Form) (k : ℕ) where
   clean_by n x (has_inside h) = x h
   clean_by n x (has_after h) = clean_none h
 
-  clean_one : {l : Kind} {i j : ℕ} {b : Trees} → is_unmarked l ≡ true → Clean b → Clean (one l i j b)
+  pub clean_one : {l : Kind} {i j : ℕ} {b : Trees} → is_unmarked l ≡ true → Clean b → Clean (one l i j b)
   clean_one {l = l} {i = i} {j = j} {b = b} q x = clean_by (unmarked r k l q i j b) x
 
   clean_row : (p : Part) (s e : ℕ) (t : Trees) → Clean t → Clean (in_row p s e t)
@@ -903,6 +903,24 @@ module _ (ts us : List Lexeme) (limit top : Limit) (r : Form) (k : ℕ) (stands 
 
   pub barred_there : (g : Goal) {c e : Scopes} {i j : ℕ} {t : Trees} → Reads g c i t e j → Unmarked r k g c i t e j ⊎ (i < k) × Bars (body g) c i
   barred_there g {c = c} {i = i} h = marked body ts us limit top (row_of r) k (Unmarked r k) alike allowed owes h (Unmarked r k g c i) (owes g c i)
+
+-- A form that names no token bars none, so no tree that is read bears its mark.
+module _ (r : Form) (none_named : token_of r ≡ None) (us : List Lexeme) (limit : Limit) where
+  named_none : {A : Type 0} {w : Word} → token_of r ≡ Some w → A
+  named_none q = cc
+
+  pub unmarked_by : (g : Goal) {c e : Scopes} {i j : ℕ} {t : Trees} → Runs body us limit (body g) c i (Done t e j) → Unmarked r 0 g c i t e j
+  unmarked_by g h = ⊎_elim (λ x. x) (λ x. absurd (omega arith)) (barred_there us us limit limit r 0 (λ w q. named_none q) (λ n lt. refl) (λ a n d lt w. w) g h)
+
+  pub declarator_is_one : {h : Context} {d i j : ℕ} {c e : Scopes} {t : Trees} → Runs body us limit (body (declarator named h d)) c i (Done t e j) → IsOne t
+  declarator_is_one h = declarator_alone us us limit limit r 0 (λ w q. named_none q) (λ n lt. refl) (λ a n d lt w. w) h
+
+  -- the parts of a declaration with a declarator
+  pub declaration_parts : {d q : ℕ} {t t' t1 : Trees} {c c' c1 e e' e1 : Scopes} {i i' i1 j j' j1 : ℕ} → Runs body us limit (body (row part.Specifiers fresh d)) c i (Done t e j) →
+      Runs body us limit (body (declarator named (past_part fresh t) d)) c' i' (Done t' e' j') → Runs body us limit (body (initialized d q t')) c1 i1 (Done t1 e1 j1) →
+      Clean r 0 ((t & none) & t1 & none)
+  declaration_parts {d = d} {q = q} {t = t} {t' = t'} h h' h1 = clean_two r 0 (clean_alone r 0 (unmarked_by (row part.Specifiers fresh d) h))
+      (unmarked_by (initialized d q t') h1 (unmarked_by (declarator named (past_part fresh t) d) h') (declarator_is_one h'))
 
 -- the list goes on to its tokens
 pub within : (ts : List Lexeme) (k : ℕ) {w : Word} → Is ts k w → k < length ts

@@ -1,5 +1,5 @@
 -- A label in the bare grammar's trees that is misplaced in the subset: the subset's machine doesn't get past its first token.
-use Rattle.std.proofs.Common.{◌≡◌, ℕ, ◌+◌, ◌<◌, ◌≤◌, Bool, true, false, ◌&&◌, ◌||◌, ◌==◌, List, [], ◌∷◌, None, Some, ◌⊎◌, inl, inr, ⊎_elim, refl, sym, ap, subst, arith}
+use Rattle.std.proofs.Common.{◌≡◌, ℕ, ◌+◌, ◌<◌, ◌≤◌, Bool, true, false, ◌&&◌, ◌||◌, ◌==◌, List, [], ◌∷◌, ◌⊎◌, inl, inr, ⊎_elim, refl, sym, ap, subst, arith}
 use Rattle.std.proofs.lemmas.Bool.{eqb-true, or_parts, or_from, cases_Bool, cases_lt}
 use Rattle.cr_syntax.specs.declared.word.Word.TheVariants as word
 use Rattle.cr_syntax.specs.declared.node.Kind.{Kind}
@@ -19,7 +19,7 @@ use Rattle.cr_syntax.specs.MachineBody.{body, is_label, unlabelled, labelled, de
 use Rattle.cr_syntax.proofs.MachineRuns.{reach}
 use Rattle.cr_syntax.proofs.MachineFirst.{true_false}
 use Rattle.cr_syntax.proofs.MachineEnds.{Way, barring, defining, Ends, refused_so, end_refuse, end_take, end_pass, end_bar, end_free, end_seen, end_unseen, end_yes, end_no, end_here, end_look, end_set, end_bring, end_behind, end_inside}
-use Rattle.cr_syntax.proofs.MachineForms.{some_label, mark, Clean, Unmarked, barred_there, clean_alone, clean_two, declarator_alone}
+use Rattle.cr_syntax.proofs.MachineForms.{some_label, mark, Clean, Unmarked, unmarked_by, declaration_parts}
 use Rattle.cr_syntax.proofs.MachineLoose.{loose, looser, own_label, own_definition, Departs, part_way, tightened, label_yes, label_none}
 use Rattle.cr_syntax.proofs.MachineTraces.{Traces, traces_idle, traced}
 
@@ -59,9 +59,6 @@ no_and false = refl
 
 same_number : (i k : ℕ) → (i ≡ k → ⊥) → (i == k) ≡ false
 same_number i k f = ⊎_elim (λ y. absurd (f (eqb-true i k y))) (λ y. y) (cases_Bool (i == k))
-
-none_some : {A B : Type 0} {x : B} → None ≡ Some x → A
-none_some q = cc
 
 module _ (k : ℕ) where
   -- no misplaced label begins at token k
@@ -125,10 +122,6 @@ module _ (k : ℕ) where
     passed : (g : Goal) {f : Trees → Prog} {c e : Scopes} {i j : ℕ} {t : Trees} → Reads (loose g) c i t e j → Caught (f t) e j → Caught (call g f) c i
     passed g h x = let n = starts_by x in ⊎_elim (λ h'. caught_on x (λ w n. end_behind h')) (λ d. part_way d n (λ w n. end_inside)) (tightened (looser g) h)
 
-    -- what is read of an expression or a declaration has no label
-    labels_none : (g : Goal) {c e : Scopes} {i j : ℕ} {t : Trees} → Reads g c i t e j → Unmarked some_label 0 g c i t e j
-    labels_none g h = ⊎_elim (λ x. x) (λ x. absurd (omega arith)) (barred_there us us limit limit some_label 0 (λ w q. none_some q) (λ n lt. refl) (λ a n d lt w. w) g h)
-
     -- What a goal of the bare grammar reads, and the subset's goal in its place.
     abbrev pub Placed : Goal → Scopes → ℕ → Trees → Scopes → ℕ → Type 0
     Placed (unit anywhere d) c i t e j = (l : Labels) → IsSub l → Fine elsewhere t ⊎ Caught (body (unit l d)) c i
@@ -160,7 +153,7 @@ module _ (k : ℕ) where
     inside_fine t o x = subst (λ z. Fine z t) (place_inside o) x
 
     free : (g : Goal) {c e : Scopes} {i j : ℕ} {t : Trees} → Reads g c i t e j → (Unmarked some_label 0 g c i t e j → Clean some_label 0 t) → (at : Place) → Fine at t
-    free g {t = t} h f at = clean_fine t (f (labels_none g h)) at
+    free g {t = t} h f at = clean_fine t (f (unmarked_by some_label refl us limit g h)) at
 
     free_expression : {d : ℕ} {c e : Scopes} {i j : ℕ} {t : Trees} → Reads (expression d) c i t e j → (at : Place) → Fine at t
     free_expression {d = d} h = free (expression d) h (λ x. x)
@@ -407,17 +400,11 @@ module _ (k : ℕ) where
           λ _. tt,
         ),
         λ y' t1 e1 j1 h1 _. (
-          λ y2 a2 t2 e2 j2 h2 _ l o. inl (free (init_declarators (past_token (past_part fresh t)) d i ((t & none) & t1 & none)) h2 (λ f. f (parts h h' h1)) elsewhere),
-          λ y2. (λ y3 a3 l o. inl (made_by kind.Declaration i (j1 + 1) ((t & none) & t1 & none) elsewhere refl refl (clean_fine ((t & none) & t1 & none) (parts h h' h1) elsewhere)), λ y3. tt),
+          λ y2 a2 t2 e2 j2 h2 _ l o. inl (free (init_declarators (past_token (past_part fresh t)) d i ((t & none) & t1 & none)) h2 (λ f. f (declaration_parts some_label refl us limit h h' h1)) elsewhere),
+          λ y2. (λ y3 a3 l o. inl (made_by kind.Declaration i (j1 + 1) ((t & none) & t1 & none) elsewhere refl refl (clean_fine ((t & none) & t1 & none) (declaration_parts some_label refl us limit h h' h1) elsewhere)), λ y3. tt),
         ),
       ),
     )
-      where
-        parts : {t t' t1 : Trees} {e e' e0 e1 : Scopes} {j j' j0 j1 q : ℕ} → Reads (row part.Specifiers fresh d) c i t e j → Reads (declarator named (past_part fresh t) d) e q t' e' j' →
-            Reads (initialized d q t') e0 j0 t1 e1 j1 → Clean some_label 0 ((t & none) & t1 & none)
-        parts {t = t} {t' = t'} {q = q} h h' h1 = clean_two some_label 0 (clean_alone some_label 0 (labels_none (row part.Specifiers fresh d) h))
-            (labels_none (initialized d q t') h1 (labels_none (declarator named (past_part fresh t) d) h')
-            (declarator_alone us us limit limit some_label 0 (λ w q. none_some q) (λ n lt. refl) (λ a n d lt w. w) h'))
 
     owes : (g : Goal) (c : Scopes) (i : ℕ) → Owes (body g) (Placed g c i) c i
     owes (unit anywhere d) c i = unit_owes d c i
