@@ -22,7 +22,7 @@ pub mod MachineKept
 pub mod MachineMeans
 pub mod MachineUnitSound
 pub mod MachineSound
-pub mod MachineLabels
+pub mod MachineTidy
 pub mod MachineFirst
 pub mod MachineFits
 pub mod MachineTasks
@@ -51,5 +51,9 @@ pub mod MachineClosed
 pub mod MachineRefused
 pub mod MachineReading
 pub mod MachineLoose
+pub mod MachineUnitForms
+pub mod MachineTraces
+pub mod MachineLabels
+pub mod MachineDefinitions
 pub mod MachineUnitStuck
 pub mod MachineUnit

@@ -76,34 +76,34 @@ token_of (case_body s) = Some word.Case
 token_of (default_body s) = Some word.Default
 token_of _ = None
 
-abbrev is_literal : Form → Bool
+abbrev pub is_literal : Form → Bool
 is_literal literal = true
 is_literal _ = false
 
-abbrev is_calling : Form → Bool
+abbrev pub is_calling : Form → Bool
 is_calling calling = true
 is_calling _ = false
 
-abbrev is_field : Form → Bool
+abbrev pub is_field : Form → Bool
 is_field field = true
 is_field _ = false
 
-abbrev is_designating : Form → Bool
+abbrev pub is_designating : Form → Bool
 is_designating dotted = true
 is_designating indexed = true
 is_designating _ = false
 
 -- of the switch that begins at token i
-abbrev is_switching : Form → ℕ → Bool
+abbrev pub is_switching : Form → ℕ → Bool
 is_switching (case_body s) i = i == s
 is_switching (default_body s) i = i == s
 is_switching _ i = false
 
-abbrev is_labelling : Form → Bool
+abbrev pub is_labelling : Form → Bool
 is_labelling some_label = true
 is_labelling _ = false
 
-abbrev is_defining : Form → Bool
+abbrev pub is_defining : Form → Bool
 is_defining some_definition = true
 is_defining _ = false
 
@@ -140,16 +140,16 @@ mark r k _ i j b = false
 
 -- Each form's test is the one of its row.
 
-has_all : {test other : Kind → ℕ → ℕ → Trees → Bool} {t : Trees} → ((l : Kind) (i j : ℕ) (b : Trees) → test l i j b ≡ true → other l i j b ≡ true) → Has test t → Has other t
+pub has_all : {test other : Kind → ℕ → ℕ → Trees → Bool} {t : Trees} → ((l : Kind) (i j : ℕ) (b : Trees) → test l i j b ≡ true → other l i j b ≡ true) → Has test t → Has other t
 has_all f (has_here {k = l} {i = i} {j = j} {a = b} q) = has_here (f l i j b q)
 has_all f (has_inside h) = has_inside (has_all f h)
 has_all f (has_after h) = has_after (has_all f h)
 
-literal_mark : (k : ℕ) (l : Kind) (i j : ℕ) (b : Trees) → cast_operand_at k l i j b ≡ true → mark literal k l i j b ≡ true
+pub literal_mark : (k : ℕ) (l : Kind) (i j : ℕ) (b : Trees) → cast_operand_at k l i j b ≡ true → mark literal k l i j b ≡ true
 literal_mark k kind.Cast i j b q = q
 literal_mark k _ i j b q = none_true q
 
-calling_mark : (k : ℕ) (l : Kind) (i j : ℕ) (b : Trees) → postfix_before k l i j b ≡ true → mark calling k l i j b ≡ true
+pub calling_mark : (k : ℕ) (l : Kind) (i j : ℕ) (b : Trees) → postfix_before k l i j b ≡ true → mark calling k l i j b ≡ true
 calling_mark k kind.Call i j b q = q
 calling_mark k kind.Subscript i j b q = q
 calling_mark k kind.Member i j b q = q
@@ -162,7 +162,7 @@ calling_mark k kind.Text i j b q = q
 calling_mark k kind.Group i j b q = q
 calling_mark k _ i j b q = none_true q
 
-field_mark : (k : ℕ) (l : Kind) (i j : ℕ) (b : Trees) → member_before k l i j b ≡ true → mark field k l i j b ≡ true
+pub field_mark : (k : ℕ) (l : Kind) (i j : ℕ) (b : Trees) → member_before k l i j b ≡ true → mark field k l i j b ≡ true
 field_mark k kind.MemberDeclaration i j b q = q
 field_mark k _ i j b q = none_true q
 
@@ -208,7 +208,7 @@ unit_facts _ q = (refl, refl)
 
 -- Kinds that bear no mark, and those of postfix expressions that do.
 
-abbrev is_unmarked : Kind → Bool
+abbrev pub is_unmarked : Kind → Bool
 is_unmarked kind.Cast = false
 is_unmarked kind.Call = false
 is_unmarked kind.Subscript = false
@@ -229,7 +229,7 @@ is_unmarked kind.Default = false
 is_unmarked kind.FunctionDefinition = false
 is_unmarked _ = true
 
-abbrev is_joined : Kind → Bool
+abbrev pub is_joined : Kind → Bool
 is_joined kind.Call = true
 is_joined kind.Subscript = true
 is_joined kind.Member = true
@@ -307,7 +307,7 @@ row_unmarked _ = refl
 
 -- Which of a row's trees begin or end at a token.
 
-or_none : (b : Bool) → b || false ≡ b
+pub or_none : (b : Bool) → b || false ≡ b
 or_none true = refl
 or_none false = refl
 
@@ -369,19 +369,19 @@ module _ (r : Form) (k : ℕ) where
   abbrev pub Clean : Trees → Type 0
   Clean t = Has (mark r k) t → ⊥
 
-  clean_none : Clean none
+  pub clean_none : Clean none
   clean_none h = elim h [ ]
 
-  clean_and : (t u : Trees) → Clean t → Clean u → Clean (t & u)
+  pub clean_and : (t u : Trees) → Clean t → Clean u → Clean (t & u)
   clean_and none u x y h = y h
   clean_and (node l i j b n) u x y (has_here q) = x (has_here q)
   clean_and (node l i j b n) u x y (has_inside h) = x (has_inside h)
   clean_and (node l i j b n) u x y (has_after h) = clean_and n u (λ h'. x (has_after h')) y h
 
-  clean_alone : {t : Trees} → Clean t → Clean (t & none)
+  pub clean_alone : {t : Trees} → Clean t → Clean (t & none)
   clean_alone {t = t} x = clean_and t none x clean_none
 
-  clean_two : {t u : Trees} → Clean t → Clean u → Clean (t & u & none)
+  pub clean_two : {t u : Trees} → Clean t → Clean u → Clean (t & u & none)
   clean_two {t = t} {u = u} x y = clean_and t (u & none) x (clean_alone {t = u} y)
 
   clean_by : {l : Kind} {i j : ℕ} {b : Trees} → mark r k l i j b ≡ false → Clean b → Clean (one l i j b)
@@ -389,7 +389,7 @@ module _ (r : Form) (k : ℕ) where
   clean_by n x (has_inside h) = x h
   clean_by n x (has_after h) = clean_none h
 
-  clean_one : {l : Kind} {i j : ℕ} {b : Trees} → is_unmarked l ≡ true → Clean b → Clean (one l i j b)
+  pub clean_one : {l : Kind} {i j : ℕ} {b : Trees} → is_unmarked l ≡ true → Clean b → Clean (one l i j b)
   clean_one {l = l} {i = i} {j = j} {b = b} q x = clean_by (unmarked r k l q i j b) x
 
   clean_row : (p : Part) (s e : ℕ) (t : Trees) → Clean t → Clean (in_row p s e t)
@@ -638,7 +638,7 @@ module _ (ts us : List Lexeme) (limit top : Limit) (r : Form) (k : ℕ) (stands 
 
   -- A declarator in a declaration, which has an initializer or none.
 
-  declarator_alone : {h : Context} {d i j : ℕ} {c e : Scopes} {t : Trees} → Reads (declarator named h d) c i t e j → IsOne t
+  pub declarator_alone : {h : Context} {d i j : ℕ} {c e : Scopes} {t : Trees} → Reads (declarator named h d) c i t e j → IsOne t
   declarator_alone {h = h} {d = d} {i = i} {j = j} {c = c} {e = e} {t = t} g =
       let w = declarator_one (runs_sound (declarator named h d) c e i j t g) in record { kind = w.0; first = i; past = j; parts = w.1; is = w.2 }
 
@@ -904,13 +904,31 @@ module _ (ts us : List Lexeme) (limit top : Limit) (r : Form) (k : ℕ) (stands 
   pub barred_there : (g : Goal) {c e : Scopes} {i j : ℕ} {t : Trees} → Reads g c i t e j → Unmarked r k g c i t e j ⊎ (i < k) × Bars (body g) c i
   barred_there g {c = c} {i = i} h = marked body ts us limit top (row_of r) k (Unmarked r k) alike allowed owes h (Unmarked r k g c i) (owes g c i)
 
+-- A form that names no token bars none, so no tree that is read bears its mark.
+module _ (r : Form) (none_named : token_of r ≡ None) (us : List Lexeme) (limit : Limit) where
+  named_none : {A : Type 0} {w : Word} → token_of r ≡ Some w → A
+  named_none q = cc
+
+  pub unmarked_by : (g : Goal) {c e : Scopes} {i j : ℕ} {t : Trees} → Runs body us limit (body g) c i (Done t e j) → Unmarked r 0 g c i t e j
+  unmarked_by g h = ⊎_elim (λ x. x) (λ x. absurd (omega arith)) (barred_there us us limit limit r 0 (λ w q. named_none q) (λ n lt. refl) (λ a n d lt w. w) g h)
+
+  pub declarator_is_one : {h : Context} {d i j : ℕ} {c e : Scopes} {t : Trees} → Runs body us limit (body (declarator named h d)) c i (Done t e j) → IsOne t
+  declarator_is_one h = declarator_alone us us limit limit r 0 (λ w q. named_none q) (λ n lt. refl) (λ a n d lt w. w) h
+
+  -- the parts of a declaration with a declarator
+  pub declaration_parts : {d q : ℕ} {t t' t1 : Trees} {c c' c1 e e' e1 : Scopes} {i i' i1 j j' j1 : ℕ} → Runs body us limit (body (row part.Specifiers fresh d)) c i (Done t e j) →
+      Runs body us limit (body (declarator named (past_part fresh t) d)) c' i' (Done t' e' j') → Runs body us limit (body (initialized d q t')) c1 i1 (Done t1 e1 j1) →
+      Clean r 0 ((t & none) & t1 & none)
+  declaration_parts {d = d} {q = q} {t = t} {t' = t'} h h' h1 = clean_two r 0 (clean_alone r 0 (unmarked_by (row part.Specifiers fresh d) h))
+      (unmarked_by (initialized d q t') h1 (unmarked_by (declarator named (past_part fresh t) d) h') (declarator_is_one h'))
+
 -- the list goes on to its tokens
 pub within : (ts : List Lexeme) (k : ℕ) {w : Word} → Is ts k w → k < length ts
 within [] k q = cc
 within (x ∷ ts) zero q = omega arith
 within (x ∷ ts) (suc k) q = let n = within ts k q in omega arith
 
-allows_before : (k most : ℕ) (g : Manner) (n d : ℕ) → n < k → Allows (Upto k most) g n d → Allows (AtMost most) g n d
+pub allows_before : (k most : ℕ) (g : Manner) (n d : ℕ) → n < k → Allows (Upto k most) g n d → Allows (AtMost most) g n d
 allows_before k most plain n d lt w = tt
 allows_before k most opens n d lt w = w lt
 allows_before k most reopens n d lt w = (tt, w.1 lt)

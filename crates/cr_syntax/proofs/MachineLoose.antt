@@ -119,10 +119,10 @@ label_is (Some _) q = none_true q
 pub label_yes : (ts : List Lexeme) (i : ℕ) (w : Word) → is_label w ≡ true → is_word ts i w ≡ true → has_word ts i is_label ≡ true
 label_yes ts i w l y = sorted is_label true (is_of ts i w y) l
 
-label_no : (ts : List Lexeme) (i : ℕ) (w : Word) → is_label w ≡ true → has_word ts i is_label ≡ false → is_word ts i w ≡ false
+pub label_no : (ts : List Lexeme) (i : ℕ) (w : Word) → is_label w ≡ true → has_word ts i is_label ≡ false → is_word ts i w ≡ false
 label_no ts i w l y = false_by (is_word ts i w) (λ y'. both_ways (has_word ts i is_label) y (label_yes ts i w l y'))
 
-label_none : (ts : List Lexeme) (i : ℕ) → is_word ts i word.Case ≡ false → is_word ts i word.Default ≡ false → has_word ts i is_label ≡ false
+pub label_none : (ts : List Lexeme) (i : ℕ) → is_word ts i word.Case ≡ false → is_word ts i word.Default ≡ false → has_word ts i is_label ≡ false
 label_none ts i y y' = false_by (has_word ts i is_label)
     (λ q. ⊎_elim (λ z. both_ways (is_word ts i word.Case) y (yes z)) (λ z. both_ways (is_word ts i word.Default) y' (yes z)) (label_is (word_at ts i) q))
 
@@ -245,7 +245,7 @@ module _ {ts : List Lexeme} {limit : Limit} where
 
   -- What the bare grammar's machine reads, the subset's reads or refuses in a way of its own.
 
-  part_way : {p q : Prog} {c e : Scopes} {i i' j j' : ℕ} → Departs ts limit p c i j → j ≤ j' → ((w : Way) (k : ℕ) → Ends body ts limit p c i w k → Ends body ts limit q e i' w k) →
+  pub part_way : {p q : Prog} {c e : Scopes} {i i' j j' : ℕ} → Departs ts limit p c i j → j ≤ j' → ((w : Way) (k : ℕ) → Ends body ts limit p c i w k → Ends body ts limit q e i' w k) →
       Departs ts limit q e i' j'
   part_way d le f = let n = d.by in record { way = d.way; at = d.at; own = d.own; ends = f d.way d.at d.ends; by = omega arith }
 
