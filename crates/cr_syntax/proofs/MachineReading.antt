@@ -27,13 +27,13 @@ use Rattle.cr_syntax.proofs.MachineMeans.{Means}
 use Rattle.cr_syntax.proofs.MachineSound.{each}
 use Rattle.cr_syntax.proofs.MachineFirst.{none_true, true_false}
 use Rattle.cr_syntax.proofs.MachineComplete.{spelled_is_read, read_is_spelled, free_at_end, get_some, unlimited, allows_free, allows_upto, longest, refused_within}
-use Rattle.cr_syntax.proofs.MachineViable.{prefix, prefix_length, prefix_get, passes_inside, stopped_leaves, barred_stands, barred_leaves, crowded_begins, barred_outside, barred_inside, crowded_inside, begins_before, never_defining}
+use Rattle.cr_syntax.proofs.MachineViable.{prefix, prefix_length, prefix_get, passes_inside, stopped_leaves, barred_stands, barred_leaves, crowded_begins, barred_outside, barred_inside, crowded_inside, begins_before}
 use Rattle.cr_syntax.proofs.MachineWays.{at}
 use Rattle.cr_syntax.proofs.MachineForms.{within, IsBarring, by_row, outside_is_end, outside_is_refused}
 use Rattle.cr_syntax.proofs.MachineUnused.{begun_is_used}
 use Rattle.cr_syntax.proofs.MachineParts.{given, refused_or_free, within_or_refused}
 use Rattle.cr_syntax.proofs.MachineStuck.{is_crowded}
-use Rattle.cr_syntax.proofs.MachineRefused.{no_room, spells_none, no_room_instead}
+use Rattle.cr_syntax.proofs.MachineRefused.{no_room, spells_none, no_room_instead, defines_none}
 
 -- A run consumes tokens of the text alone.
 pub ends_inside : {ts : List Lexeme} {limit : Limit} {p : Prog} {c : Scopes} {i : ℕ} {r : Reply} → Runs body ts limit p c i r → i ≤ length ts → end_of r ≤ length ts
@@ -296,7 +296,7 @@ module _ (ts : List Lexeme) (s : Start) (z : IsStart s.part) (le : s.at ≤ leng
   read_end (stopped m) k y le' = read_stop m k y le' (word_at ts k) refl
   read_end (barring x n m) k y le' = read_bar x n m k y le' (word_at ts k) refl
   read_end crowded k y le' = read_crowd k y le'
-  read_end (defining m) k y le' = absurd (never_defining ts most_levels k le' s z m y)
+  read_end (defining m) k y le' = absurd (defines_none s.part s.depth y)
 
   refused_is_reading : {x : Cause} {k : ℕ} → Answers (Failed x k) → IsReading ts s (Refused (refusal_of x k))
   refused_is_reading {k = k} h = let y = ends_so h in subst (λ x. IsReading ts s (Refused (refusal_of x k))) (sym y.cause) (read_end y.way k y.ends (ends_inside h le))

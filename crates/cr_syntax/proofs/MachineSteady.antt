@@ -108,15 +108,17 @@ leaves (initializers d s x) = d + 1
 leaves (items l d s x) = d + 1
 leaves g = depth_of g
 
--- a goal that may begin where so many are open; a unit and its external definitions are none of these
+-- a goal that begins where so many are open, or fewer; a unit and its external definitions are none of these
 abbrev pub Under : Goal → ℕ → Type 0
 Under (unit l d) b = ⊥
 Under (externals l d x) b = ⊥
+Under (external l d) b = ⊥
 Under g b = enters g ≤ b
 
 pub under : (g : Goal) (b : ℕ) → Under g b → enters g ≤ b
 under (unit l d) b y = absurd y
 under (externals l d x) b y = absurd y
+under (external l d) b y = absurd y
 under _ b y = y
 
 -- those open behind a token
@@ -390,28 +392,28 @@ pub data Replaced (n d : ℕ) (o : Bool) (p : Prog) : Type 0 where
 
 module _ (ts : List Lexeme) (known : Goal → Scopes → ℕ → Trees → Scopes → ℕ → Type 0) where
   -- Tests at one token: those before had b levels or more, and so has each before an answer at least l. A `[` was asked
-  -- for where o says so.
-  abbrev pub Steady : Prog → ℕ → ℕ → Bool → Scopes → ℕ → Type 0
-  Steady (give t) l b o c i = l ≤ b
-  Steady (stop d) l b o c i = d ≤ b
-  Steady (refuse n) l b o c i = Unit {0}
-  Steady (take g x d p q) l b o c i = (levels_at g d ≤ b) × (fits g x ≡ true) × Steady p l (levels_behind g d) false c (i + 1) × Steady q l (levels_at g d) (tries x || o) c i
-  Steady (bar x n d p) l b o c i = (d ≤ b) × Replaced n d o p × Steady p l b o c i
-  Steady (peek x p q) l b o c i = IsEager b p × (passes ts c i x ≡ true → Finds ts p c i) × Steady p l b o c i × Steady q l b o c i
-  Steady (when v p q) l b o c i = (v ≡ true → Steady p l b o c i) × (v ≡ false → Steady q l b o c i)
-  Steady (here p) l b o c i = Steady (p i) l b o c i
-  Steady (look p) l b o c i = Steady (p c) l b o c i
-  Steady (set e p) l b o c i = Steady p l b o e i
-  Steady (bring k v p) l b o c i = Steady p l b o (enter (brought ts i k v) c) i
-  Steady (call g p) l b o c i = Under g b × ((t : Trees) (e : Scopes) (j : ℕ) → known g c i t e j → Steady (p t) l (leaves g) false e j)
+  -- for where o says so, and a token before may be refused where r says so.
+  abbrev pub Steady : Bool → Prog → ℕ → ℕ → Bool → Scopes → ℕ → Type 0
+  Steady r (give t) l b o c i = l ≤ b
+  Steady r (stop d) l b o c i = d ≤ b
+  Steady r (refuse n) l b o c i = r ≡ true
+  Steady r (take g x d p q) l b o c i = (levels_at g d ≤ b) × (fits g x ≡ true) × Steady r p l (levels_behind g d) false c (i + 1) × Steady r q l (levels_at g d) (tries x || o) c i
+  Steady r (bar x n d p) l b o c i = (d ≤ b) × Replaced n d o p × Steady r p l b o c i
+  Steady r (peek x p q) l b o c i = IsEager b p × (passes ts c i x ≡ true → Finds ts p c i) × Steady r p l b o c i × Steady r q l b o c i
+  Steady r (when v p q) l b o c i = (v ≡ true → Steady r p l b o c i) × (v ≡ false → Steady r q l b o c i)
+  Steady r (here p) l b o c i = Steady r (p i) l b o c i
+  Steady r (look p) l b o c i = Steady r (p c) l b o c i
+  Steady r (set e p) l b o c i = Steady r p l b o e i
+  Steady r (bring k v p) l b o c i = Steady r p l b o (enter (brought ts i k v) c) i
+  Steady r (call g p) l b o c i = Under g b × ((t : Trees) (e : Scopes) (j : ℕ) → known g c i t e j → Steady r (p t) l (leaves g) false e j)
 
-  steady_choose : (g : Manner) (rs : Words) (d : ℕ) (p : Kind → Prog) (q : Prog) (l : ℕ) (o : Bool) (c : Scopes) (i : ℕ) → all_fit g rs ≡ true → ((k : Kind) → Steady (p k) l (levels_behind g d) false c (i + 1)) →
-      Steady q l (levels_at g d) o c i → Steady (choose g rs d p q) l (levels_at g d) o c i
+  steady_choose : (g : Manner) (rs : Words) (d : ℕ) (p : Kind → Prog) (q : Prog) (l : ℕ) (o : Bool) (c : Scopes) (i : ℕ) → all_fit g rs ≡ true → ((k : Kind) → Steady false (p k) l (levels_behind g d) false c (i + 1)) →
+      Steady false q l (levels_at g d) o c i → Steady false (choose g rs d p q) l (levels_at g d) o c i
   steady_choose g [] d p q l o c i f x y = y
   steady_choose g (r ∷ rs) d p q l o c i f x y =
       let v = both (fits g (the r.0)) (not (tries (the r.0)) && all_fit g rs) f in
       let u = both (not (tries (the r.0))) (all_fit g rs) v.1 in
-      (omega arith, v.0, x r.1, subst (λ z. Steady (choose g rs d p q) l (levels_at g d) (z || o) c i) (sym (not_true (tries (the r.0)) u.0)) (steady_choose g rs d p q l o c i u.1 x y))
+      (omega arith, v.0, x r.1, subst (λ z. Steady false (choose g rs d p q) l (levels_at g d) (z || o) c i) (sym (not_true (tries (the r.0)) u.0)) (steady_choose g rs d p q l o c i u.1 x y))
 
 start_levels : (p : Part) (d : ℕ) → Under (start_goal p d) d × (d ≤ leaves (start_goal p d))
 start_levels part.Expression d = (omega arith, omega arith)
@@ -466,20 +468,20 @@ Known ts (row p h d) c i t e j = passes ts e j (type_identifier (past_part h t).
 Known ts g c i t e j = Unit {0}
 
 module _ (ts : List Lexeme) where
-  abbrev pub Goes : Prog → ℕ → ℕ → Bool → Scopes → ℕ → Type 0
+  abbrev pub Goes : Bool → Prog → ℕ → ℕ → Bool → Scopes → ℕ → Type 0
   Goes = Steady ts (Known ts)
 
   -- the words of a table, each with its program
-  words : (g : Manner) (rs : Words) (d : ℕ) (p : Kind → Prog) (q : Prog) (l : ℕ) (o : Bool) (c : Scopes) (i : ℕ) → all_fit g rs ≡ true → ((k : Kind) → Goes (p k) l (levels_behind g d) false c (i + 1)) →
-      Goes q l (levels_at g d) o c i → Goes (choose g rs d p q) l (levels_at g d) o c i
+  words : (g : Manner) (rs : Words) (d : ℕ) (p : Kind → Prog) (q : Prog) (l : ℕ) (o : Bool) (c : Scopes) (i : ℕ) → all_fit g rs ≡ true → ((k : Kind) → Goes false (p k) l (levels_behind g d) false c (i + 1)) →
+      Goes false q l (levels_at g d) o c i → Goes false (choose g rs d p q) l (levels_at g d) o c i
   words = steady_choose ts (Known ts)
 
   -- a declarator of a declaration, and what stands behind it
-  declared_steady : (h : Context) (d s : ℕ) (x : Trees) (q : ℕ) (a : Trees) (c : Scopes) (i : ℕ) → Goes (declared_on h d s x q a) d d false c i
-  declared_steady h d s x q a c i = (omega arith, λ t e j _. (omega arith, refl, (omega arith, λ t' e' j' _. omega arith), (omega arith, refl, omega arith, omega arith)))
+  declared_steady : (r : Bool) (h : Context) (d s : ℕ) (x : Trees) (q : ℕ) (a : Trees) (c : Scopes) (i : ℕ) → Goes r (declared_on h d s x q a) d d false c i
+  declared_steady r h d s x q a c i = (omega arith, λ t e j _. (omega arith, refl, (omega arith, λ t' e' j' _. omega arith), (omega arith, refl, omega arith, omega arith)))
 
   -- a statement without a label
-  unlabelled_steady : (l : Labels) (d s : ℕ) (c : Scopes) (i : ℕ) → Goes (unlabelled l d s) d d false c i
+  unlabelled_steady : (l : Labels) (d s : ℕ) (c : Scopes) (i : ℕ) → Goes false (unlabelled l d s) d d false c i
   unlabelled_steady l d s c i = (
     (refl, omega arith),
     λ q. q,
@@ -527,7 +529,7 @@ module _ (ts : List Lexeme) where
     ),
   )
 
-  labelled_steady : (l : Labels) (d s : ℕ) (c : Scopes) (i : ℕ) → Goes (labelled l d s (unlabelled l d s)) d d false c i
+  labelled_steady : (l : Labels) (d s : ℕ) (c : Scopes) (i : ℕ) → Goes false (labelled l d s (unlabelled l d s)) d d false c i
   labelled_steady l d s c i = (
     omega arith,
     refl,
@@ -535,7 +537,7 @@ module _ (ts : List Lexeme) where
     (omega arith, refl, (omega arith, refl, (omega arith, λ t' e' j' _. omega arith), omega arith), unlabelled_steady l d s c i),
   )
 
-  pub steady : (g : Goal) (b : ℕ) → Under g b → (c : Scopes) (i : ℕ) → Goes (body g) (leaves g) (enters g) false c i
+  pub steady : (g : Goal) (b : ℕ) → Under g b → (c : Scopes) (i : ℕ) → Goes false (body g) (leaves g) (enters g) false c i
   steady (whole p d) _ _ c i = let v = start_levels p d in (v.0, λ t e j _. (v.1, by_none none_for_keyword, v.1))
   steady (expression d) _ _ c i = (omega arith, λ t e j _. (omega arith, λ t' e' j' _. omega arith))
   steady (commas d s a) _ _ c i = (omega arith, refl, (omega arith, λ t e j _. (omega arith, λ t' e' j' _. omega arith)), omega arith)
@@ -641,7 +643,7 @@ module _ (ts : List Lexeme) where
     ),
   )
     where
-      arrays : Goes (array_start w d i) d d false c i
+      arrays : Goes false (array_start w d i) d d false c i
       arrays = (λ o. (omega arith, refl, (omega arith, λ t e j _. (omega arith, λ t' e' j' _. omega arith)), omega arith), λ o. omega arith)
   steady (declarator_suffixes d s a) _ _ c i = (
     omega arith,
@@ -661,25 +663,9 @@ module _ (ts : List Lexeme) where
   steady (parameter d) _ _ c i = (omega arith, λ t e j y. ((refl, omega arith), λ q. (q, y), (omega arith, λ t' e' j' _. (λ u. omega arith, λ u. omega arith)), omega arith))
   steady (unit l d) b y c i = absurd y
   steady (externals l d x) b y c i = absurd y
-  steady (external l d) _ _ c i = (
-    omega arith,
-    λ t e j _. (
-      omega arith,
-      refl,
-      omega arith,
-      (
-        omega arith,
-        λ t' e' j' _. (
-          (λ v c' f. (refl, omega arith), λ v. tt),
-          λ q. (λ v. q, λ v. tt),
-          (λ v. (omega arith, λ t'' e'' j'' _. omega arith), λ v. tt),
-          declared_steady (past_part fresh t) d i (t & none) j t' e' j',
-        ),
-      ),
-    ),
-  )
+  steady (external l d) b y c i = absurd y
   steady (declaration d) _ _ c i = (omega arith, λ t e j _. (omega arith, refl, omega arith, (omega arith, λ t' e' j' _. omega arith)))
-  steady (init_declarators h d s x) _ _ c i = (omega arith, λ t e j _. declared_steady h d s x i t e j)
+  steady (init_declarators h d s x) _ _ c i = (omega arith, λ t e j _. declared_steady false h d s x i t e j)
   steady (initialized d q x) _ _ c i = (omega arith, refl, (omega arith, λ t e j _. omega arith), omega arith)
   steady (initializer d) _ _ c i = (omega arith, by_take (omega arith, refl, (refl, omega arith)), (omega arith, refl, (omega arith, λ t e j _. omega arith), (omega arith, λ t e j _. omega arith)))
   steady (initializers d s x) _ _ c i = (
@@ -751,3 +737,23 @@ module _ (ts : List Lexeme) where
   steady (compound l d) _ _ c i = (omega arith, refl, (omega arith, λ t e j _. omega arith), omega arith)
   steady (items l d s x) _ _ c i = (omega arith, refl, omega arith, (omega arith, λ t e j _. (omega arith, λ t' e' j' _. omega arith)))
   steady (item l d) _ _ c i = ((refl, omega arith), λ q. q, (omega arith, λ t e j _. omega arith), (omega arith, λ t e j _. omega arith))
+
+  -- an external definition, in which the `...` of a function may be refused
+  pub steady_external : (l : Labels) (d : ℕ) (c : Scopes) (i : ℕ) → Goes true (body (external l d)) (leaves (external l d)) (enters (external l d)) false c i
+  steady_external l d c i = (
+    omega arith,
+    λ t e j _. (
+      omega arith,
+      refl,
+      omega arith,
+      (
+        omega arith,
+        λ t' e' j' _. (
+          (λ v c' f. (refl, omega arith), λ v. tt),
+          λ q. (λ v. q, λ v. tt),
+          (λ v. (omega arith, λ t'' e'' j'' _. omega arith), λ v. refl),
+          declared_steady true (past_part fresh t) d i (t & none) j t' e' j',
+        ),
+      ),
+    ),
+  )
