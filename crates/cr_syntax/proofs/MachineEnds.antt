@@ -4,25 +4,28 @@ use Rattle.cr_syntax.specs.Words.{Lexeme}
 use Rattle.cr_syntax.specs.Scopes.{Scopes, enter}
 use Rattle.cr_syntax.specs.Trees.{Trees}
 use Rattle.cr_syntax.specs.Spells.{Limit}
-use Rattle.cr_syntax.specs.Machine.{Goal, Prog, Test, Manner, Reply, Done, Failed, Cause, Runs, Allows, passes, verdict, barred, brought, run_give, run_stop, run_take, run_deep, run_pass, run_bar, run_free, run_seen, run_unseen, run_yes, run_no, run_here, run_look, run_set, run_bring, run_call, run_fail}
+use Rattle.cr_syntax.specs.Machine.{Goal, Prog, Test, Manner, Reply, Done, Failed, Cause, Runs, Allows, passes, verdict, barred, brought, run_give, run_stop, run_refuse, run_take, run_deep, run_pass, run_bar, run_free, run_seen, run_unseen, run_yes, run_no, run_here, run_look, run_set, run_bring, run_call, run_fail}
 use Rattle.cr_syntax.specs.Machine as m
 
 -- which instruction refuses a token: `stop`, with its levels; `bar`, with its test, its row and its levels; a `take` that
--- finds no room
+-- finds no room; `refuse`, with the token before that it names
 pub data Way : Type 0 where
   stopped : ℕ → Way
   barring : Test → ℕ → ℕ → Way
   crowded : Way
+  defining : ℕ → Way
 
 -- the cause that it gives
 abbrev pub cause_by : List Lexeme → ℕ → Way → Cause
 cause_by ts k (stopped d) = verdict ts k d
 cause_by ts k (barring x n d) = barred ts n k d
 cause_by ts k crowded = m.too_deep
+cause_by ts k (defining n) = m.variadic n
 
 -- Ends body ts limit p c i w k: from token i on, the program p is refused at token k in the way w.
 pub data Ends (body : Goal → Prog) (ts : List Lexeme) (limit : Limit) : Prog → Scopes → ℕ → Way → ℕ → Type 0 where
   end_stop : {d : ℕ} {c : Scopes} {i : ℕ} → Ends body ts limit (m.stop d) c i (stopped d) i
+  end_refuse : {n : ℕ} {c : Scopes} {i : ℕ} → Ends body ts limit (m.refuse n) c i (defining n) i
   end_take : {g : Manner} {x : Test} {d : ℕ} {p q : Prog} {c : Scopes} {i k : ℕ} {w : Way} →
       passes ts c i x ≡ true → Allows limit g i d → Ends body ts limit p c (i + 1) w k → Ends body ts limit (m.take g x d p q) c i w k
   end_crowded : {g : Manner} {x : Test} {d : ℕ} {p q : Prog} {c : Scopes} {i : ℕ} →
@@ -65,6 +68,7 @@ module _ {body : Goal → Prog} {ts : List Lexeme} {limit : Limit} where
   -- a refused run ends in some way
   pub ends_so : {p : Prog} {c : Scopes} {i k : ℕ} {x : Cause} → Runs body ts limit p c i (Failed x k) → EndsSo body ts limit p c i x k
   ends_so (run_stop {d = d}) = record { way = stopped d; ends = end_stop; cause = refl }
+  ends_so (run_refuse {k = n}) = record { way = defining n; ends = end_refuse; cause = refl }
   ends_so (run_take x a h) = onward (ends_so h) (λ w z. end_take x a z)
   ends_so (run_deep x a) = record { way = crowded; ends = end_crowded x a; cause = refl }
   ends_so (run_pass x h) = onward (ends_so h) (λ w z. end_pass x z)
@@ -84,6 +88,7 @@ module _ {body : Goal → Prog} {ts : List Lexeme} {limit : Limit} where
   -- and what ends so is refused
   pub refused_so : {p : Prog} {c : Scopes} {i k : ℕ} {w : Way} → Ends body ts limit p c i w k → Runs body ts limit p c i (Failed (cause_by ts k w) k)
   refused_so end_stop = run_stop
+  refused_so end_refuse = run_refuse
   refused_so (end_take x a z) = run_take x a (refused_so z)
   refused_so (end_crowded x a) = run_deep x a
   refused_so (end_pass x z) = run_pass x (refused_so z)

@@ -22,10 +22,11 @@ allows opens d = nat_lt d most_levels
 allows reopens d = nat_lt d most_levels
 
 -- a run of so many steps at most
-run : ℕ → List Lexeme → Prog → Scopes → ℕ → Option Reply
+unfoldable pub run : ℕ → List Lexeme → Prog → Scopes → ℕ → Option Reply
 run zero ts p c i = None
 run (suc n) ts (m.give t) c i = Some (Done t c i)
 run (suc n) ts (m.stop d) c i = Some (Failed (verdict ts i d) i)
+run (suc n) ts (m.refuse k) c i = Some (Failed (m.variadic k) i)
 run (suc n) ts (m.take a x d p q) c i = if passes ts c i x then (if allows a d then run n ts p c (i + 1) else Some (Failed too_deep i)) else run n ts q c i
 run (suc n) ts (m.bar x k d p) c i = if passes ts c i x then Some (Failed (barred ts k i d) i) else run n ts p c i
 run (suc n) ts (m.peek x p q) c i = if passes ts c i x then run n ts p c i else run n ts q c i
@@ -63,6 +64,7 @@ module _ (ts : List Lexeme) where
   run_is zero p c i r q = cc
   run_is (suc n) (m.give t) c i r q = subst (λ x. IsRun (m.give t) c i x) (some_of q) m.run_give
   run_is (suc n) (m.stop d) c i r q = subst (λ x. IsRun (m.stop d) c i x) (some_of q) m.run_stop
+  run_is (suc n) (m.refuse k) c i r q = subst (λ x. IsRun (m.refuse k) c i x) (some_of q) m.run_refuse
   run_is (suc n) (m.take g x d p p') c i r q = by (passes ts c i x) (allows g d) refl refl (λ z. run_is n p c (i + 1) r z) (λ z. run_is n p' c i r z) q
     where
       by : (b b' : Bool) → passes ts c i x ≡ b → allows g d ≡ b' → (run n ts p c (i + 1) ≡ Some r → IsRun p c (i + 1) r) → (run n ts p' c i ≡ Some r → IsRun p' c i r) →
@@ -96,10 +98,10 @@ module _ (ts : List Lexeme) where
       by (Some (Done t e j)) y h h' q = m.run_call (h (Done t e j) y) (h' t e j q)
       by (Some (Failed x k)) y h h' q = subst (λ v. IsRun (m.call g f) c i v) (some_of q) (m.run_fail (h (Failed x k) y))
 
-abbrev w : Word → Lexeme
+abbrev pub w : Word → Lexeme
 w x = record { word = x; spelling = [] }
 
-abbrev id : List ℕ → Lexeme
+abbrev pub id : List ℕ → Lexeme
 id s = record { word = word.Identifier; spelling = s }
 
 -- T is a type, and nothing else is declared

@@ -1,5 +1,5 @@
 -- What a program owes for what it refuses: that the tokens before the refused one can go on to a text.
-use Rattle.std.proofs.Common.{◌≡◌, ℕ, ◌+◌, ◌<◌, ◌≤◌, true, false, List, refl, subst, ◌∙◌, arith}
+use Rattle.std.proofs.Common.{◌≡◌, ℕ, ◌+◌, ◌<◌, ◌≤◌, true, false, List, length, ◌⊎◌, inl, inr, refl, subst, ◌∙◌, arith}
 use Rattle.std.specs.Prelude.{slice_get}
 use Rattle.cr_syntax.specs.declared.word.Word.{Word}
 use Rattle.cr_syntax.specs.declared.node.Kind.{Kind}
@@ -7,11 +7,11 @@ use Rattle.cr_syntax.specs.Words.{Lexeme}
 use Rattle.cr_syntax.specs.Scopes.{Scopes, enter}
 use Rattle.cr_syntax.specs.Trees.{Trees}
 use Rattle.cr_syntax.specs.Spells.{Limit, Is}
-use Rattle.cr_syntax.specs.Machine.{Goal, Prog, Test, Manner, plain, opens, reopens, Done, Runs, Allows, brought, choose, give, stop, take, bar, peek, when, here, look, set, bring, call}
+use Rattle.cr_syntax.specs.Machine.{Goal, Prog, Test, Manner, plain, opens, reopens, Done, Runs, Allows, brought, choose, give, stop, refuse, take, bar, peek, when, here, look, set, bring, call}
 use Rattle.cr_syntax.specs.MachineBody.{Words}
 use Rattle.cr_syntax.proofs.MachineRuns.{reach, passes_same, brought_same}
 use Rattle.cr_syntax.proofs.MachineGives.{Holds, holds, Gives, gives, AllRows, no_rows, also}
-use Rattle.cr_syntax.proofs.MachineEnds.{Way, stopped, barring, crowded, Ends, end_stop, end_take, end_crowded, end_pass, end_bar, end_free, end_seen, end_unseen, end_yes, end_no, end_here, end_look, end_set, end_bring, end_behind, end_inside}
+use Rattle.cr_syntax.proofs.MachineEnds.{Way, stopped, barring, crowded, defining, Ends, end_stop, end_refuse, end_take, end_crowded, end_pass, end_bar, end_free, end_seen, end_unseen, end_yes, end_no, end_here, end_look, end_set, end_bring, end_behind, end_inside}
 
 -- what is owed where a token opens a level
 abbrev pub Deep : Manner → Type 0 → Type 0
@@ -27,6 +27,7 @@ module _ (us : List Lexeme) (top : Limit) (known means : Goal → Scopes → ℕ
   abbrev pub Onward : Prog → Scopes → ℕ → Type 0
   Onward (give t) c i = ⊥
   Onward (stop d) c i = ⊥
+  Onward (refuse n) c i = ⊥
   Onward (take g x d p q) c i = Onward q c i
   Onward (bar x n d p) c i = Onward p c i
   Onward (peek x p q) c i = Onward p c i
@@ -41,6 +42,7 @@ module _ (us : List Lexeme) (top : Limit) (known means : Goal → Scopes → ℕ
   abbrev pub Fails : Prog → Type 0 → Scopes → ℕ → Type 0
   Fails (give t) f c i = Unit {0}
   Fails (stop d) f c i = stops i d → f
+  Fails (refuse n) f c i = i ≡ length us → f
   Fails (take g x d p q) f c i = Deep g (crowds (i + 1) → Onward p c (i + 1)) × (Holds us c i x → Allows top g i d → Fails p f c (i + 1)) × Fails q f c i
   Fails (bar x n d p) f c i = (bars x n i d → f) × Fails p f c i
   Fails (peek x p q) f c i = Fails p f c i × Fails q f c i
@@ -61,6 +63,7 @@ module _ (us : List Lexeme) (top : Limit) (known means : Goal → Scopes → ℕ
   onward : (p : Prog) (f : Type 0) (c : Scopes) (i : ℕ) → Onward p c i → Fails p f c i → f
   onward (give t) f c i z y = absurd z
   onward (stop d) f c i z y = absurd z
+  onward (refuse n) f c i z y = absurd z
   onward (take g x d p q) f c i z y = onward q f c i z y.2
   onward (bar x n d p) f c i z y = onward p f c i z y.1
   onward (peek x p q) f c i z y = onward p f c i z y.0
@@ -76,6 +79,7 @@ module _ (us : List Lexeme) (top : Limit) (known means : Goal → Scopes → ℕ
   abbrev pub AtRefusal : List Lexeme → Way → ℕ → Type 0
   AtRefusal ts (stopped d) k = stops k d
   AtRefusal ts (barring x n d) k = bars x n k d
+  AtRefusal ts (defining n) k = k ≡ length us
   AtRefusal ts crowded k = (slice_get us k ≡ slice_get ts k) × ((g : Manner) (d : ℕ) → Allows top g k d) × crowds (k + 1)
 
 module _ (body : Goal → Prog) (ts us : List Lexeme) (limit top : Limit) (known means : Goal → Scopes → ℕ → Trees → Scopes → ℕ → Type 0) (via : Goal → Scopes → ℕ → Type 0)
@@ -83,13 +87,14 @@ module _ (body : Goal → Prog) (ts us : List Lexeme) (limit top : Limit) (known
     (keeps : (g : Goal) (c e : Scopes) (i j : ℕ) (t : Trees) → Runs body ts limit (body g) c i (Done t e j) → known g c i t e j)
     (each : (g : Goal) (c : Scopes) (i : ℕ) → Gives us top known means (body g) (means g c i) c i)
     (stands : (i d : ℕ) → Allows limit plain i d)
-    (owes : (g : Goal) (c : Scopes) (i : ℕ) → Fails us top known means via stops bars crowds (body g) (via g c i) c i) where
+    (owes : (g : Goal) (c : Scopes) (i : ℕ) → via g c i ⊎ Fails us top known means via stops bars crowds (body g) (via g c i) c i) where
   abbrev Owes : Prog → Type 0 → Scopes → ℕ → Type 0
   Owes = Fails us top known means via stops bars crowds
 
   -- a refused token is none before the first
   not_before : {p : Prog} {c : Scopes} {i k : ℕ} {w : Way} → Ends body ts limit p c i w k → i ≤ k
   not_before end_stop = omega arith
+  not_before end_refuse = omega arith
   not_before (end_take v w h) = let n = not_before h in omega arith
   not_before (end_crowded v w) = omega arith
   not_before (end_pass v h) = not_before h
@@ -109,6 +114,7 @@ module _ (body : Goal → Prog) (ts us : List Lexeme) (limit top : Limit) (known
   pub viable : {p : Prog} {c : Scopes} {i : ℕ} {w : Way} {k : ℕ} → Ends body ts limit p c i w k → (f : Type 0) → AtRefusal us top known means via stops bars crowds ts w k →
       ((n : ℕ) → n < k → slice_get us n ≡ slice_get ts n) → ((g : Manner) (n d : ℕ) → n < k → Allows limit g n d → Allows top g n d) → Owes p f c i → f
   viable end_stop f z al lim y = y z
+  viable end_refuse f z al lim y = y z
   viable {c = c} {i = i} (end_take {g = g} {x = x} {d = d} v w h) f z al lim y =
       let n = not_before h in
       viable h f z al lim (y.1 (holds us c i x (passes_same ts us i (al i (omega arith)) c x ∙ v)) (lim g i d (omega arith) w))
@@ -135,4 +141,4 @@ module _ (body : Goal → Prog) (ts us : List Lexeme) (limit top : Limit) (known
       let n' = not_before h' in
       viable h' f z al lim (y.1 _ _ _ n (keeps g c _ i _ _ h)
       (gives body ts us limit top known means keeps each h (means g c i) (λ j lt. al j (omega arith)) (λ b j d lt. lim b j d (omega arith)) (each g c i)))
-  viable {c = c} {i = i} (end_inside {g = g} h) f z al lim y = y.0 (viable h (via g c i) z al lim (owes g c i))
+  viable {c = c} {i = i} (end_inside {g = g} h) f z al lim y = y.0 (elim (owes g c i) [ inl v ↦ v | inr o ↦ viable h (via g c i) z al lim o ])

@@ -9,7 +9,7 @@ use Rattle.cr_syntax.specs.Scopes.{Scopes, is_type, enter}
 use Rattle.cr_syntax.specs.Trees.{Trees}
 use Rattle.cr_syntax.specs.Spells.{Limit, Is, IsIdentifier}
 use Rattle.cr_syntax.specs.Reads.{is_word}
-use Rattle.cr_syntax.specs.Machine.{Goal, Prog, Manner, Test, Reply, Runs, Allows, passes, brought, choose, give, stop, take, bar, peek, when, here, look, set, bring, call, run_give, run_stop, run_take, run_deep, run_pass, run_bar, run_free, run_seen, run_unseen, run_yes, run_no, run_here, run_look, run_set, run_bring, run_call, run_fail}
+use Rattle.cr_syntax.specs.Machine.{Goal, Prog, Manner, Test, Reply, Runs, Allows, passes, brought, choose, give, stop, refuse, take, bar, peek, when, here, look, set, bring, call, run_give, run_stop, run_refuse, run_take, run_deep, run_pass, run_bar, run_free, run_seen, run_unseen, run_yes, run_no, run_here, run_look, run_set, run_bring, run_call, run_fail}
 use Rattle.cr_syntax.specs.Machine as m
 use Rattle.cr_syntax.specs.MachineBody.{Words}
 use Rattle.cr_syntax.specs.MachineLaws.{end_of}
@@ -41,6 +41,7 @@ module _ (us : List Lexeme) (top : Limit) (known means : Goal → Scopes → ℕ
   abbrev pub Gives : Prog → (Trees → Scopes → ℕ → Type 0) → Scopes → ℕ → Type 0
   Gives (give t) f c i = f t c i
   Gives (stop d) f c i = Unit {0}
+  Gives (refuse n) f c i = Unit {0}
   Gives (take a x d p q) f c i = (Holds us c i x → Allows top a i d → Gives p f c (i + 1)) × Gives q f c i
   Gives (bar x n d p) f c i = Gives p f c i
   Gives (peek x p q) f c i = Gives p f c i × Gives q f c i
@@ -50,6 +51,21 @@ module _ (us : List Lexeme) (top : Limit) (known means : Goal → Scopes → ℕ
   Gives (set e p) f c i = Gives p f e i
   Gives (bring k b p) f c i = Gives p f (enter (brought us i k b) c) i
   Gives (call g p) f c i = (t : Trees) (e : Scopes) (j : ℕ) → i ≤ j → known g c i t e j → means g c i t e j → Gives (p t) f e j
+
+  -- where nothing is to be given, all is
+  pub idle : (p : Prog) (c : Scopes) (i : ℕ) → Gives p (λ t e j. Unit {0}) c i
+  idle (give t) c i = tt
+  idle (stop d) c i = tt
+  idle (refuse n) c i = tt
+  idle (take a x d p q) c i = (λ h w. idle p c (i + 1), idle q c i)
+  idle (bar x n d p) c i = idle p c i
+  idle (peek x p q) c i = (idle p c i, idle q c i)
+  idle (when b p q) c i = (λ h. idle p c i, λ h. idle q c i)
+  idle (here p) c i = idle (p i) c i
+  idle (look p) c i = idle (p c) c i
+  idle (set e p) c i = idle p e i
+  idle (bring k b p) c i = idle p (enter (brought us i k b) c) i
+  idle (call g p) c i = λ t e j _ _ _. idle (p t) e j
 
 -- The text may be another one that has the same tokens before the answer's, and the limit one that lets them stand.
 module _ (body : Goal → Prog) (ts us : List Lexeme) (limit top : Limit) (known means : Goal → Scopes → ℕ → Trees → Scopes → ℕ → Type 0)
@@ -61,6 +77,7 @@ module _ (body : Goal → Prog) (ts us : List Lexeme) (limit top : Limit) (known
       Gives us top known means p f c i → OnDone r f
   gives run_give f al lim x = x
   gives run_stop f al lim x = tt
+  gives run_refuse f al lim x = tt
   gives {c = c} {i = i} (run_take {m = a} {x = y} {d = d} t w h) f al lim x =
       let n = reach h in
       gives h f al lim (x.0 (holds us c i y (passes_same ts us i (al i (omega arith)) c y ∙ t)) (lim a i d (omega arith) w))

@@ -1,6 +1,6 @@
 -- What the machine refuses can go on before the refused token: each goal's program owes a text for each place where a token can be
 -- refused, and where a row of the refused forms refuses it, the text shows the row's node.
-use Rattle.std.proofs.Common.{◌≡◌, ℕ, ◌+◌, ◌<◌, ◌≤◌, true, false, List, [], ◌∷◌, length, refl, sym, subst, arith}
+use Rattle.std.proofs.Common.{◌≡◌, ℕ, ◌+◌, ◌<◌, ◌≤◌, true, false, List, [], ◌∷◌, length, ◌⊎◌, inl, inr, refl, sym, subst, arith}
 use Rattle.cr_syntax.specs.declared.word.Word.{Word}
 use Rattle.cr_syntax.specs.declared.word.Word.TheVariants as word
 use Rattle.cr_syntax.specs.declared.node.Kind.{Kind}
@@ -301,6 +301,7 @@ module _ (us : List Lexeme) (top : Limit) (way : Way) (late : (g : Manner) (i d 
   Via (parameters d) c i = G part.Parameters d c i
   Via (more_parameters d s x) c i = (c0 : Scopes) → IsParameterRow us top d c0 s x c i → G part.Parameters d c0 s
   Via (parameter d) c i = G part.Parameter d c i
+  Via g c i = Unit {0}
 
   abbrev pub Stops : ℕ → ℕ → Type 0
   Stops i d = Room us top way i d
@@ -1230,39 +1231,40 @@ module _ (us : List Lexeme) (top : Limit) (way : Way) (late : (g : Manner) (i d 
         second t shown _,
       ))
 
-  pub owes : (g : Goal) (c : Scopes) (i : ℕ) → Owes (body g) (Via g c i) c i
-  owes (whole p d) c i = (λ v. tt, λ t e j _ _ _. (λ z. tt, tt))
-  owes (expression d) c i = owes_expression d c i
-  owes (commas d s y) c i = owes_commas d s y c i
-  owes (assignment d) c i = owes_assignment d c i
-  owes (conditional d) c i = owes_conditional d c i
-  owes (m.binary p d) c i = owes_binary p d c i
-  owes (operands p d s y) c i = owes_operands p d s y c i
-  owes (cast d) c i = owes_cast d c i
-  owes (unary d) c i = owes_unary d c i
-  owes (measured d s) c i = owes_measured d s c i
-  owes (postfix d) c i = owes_postfix d c i
-  owes (called d s) c i = owes_called d s c i
-  owes (grouped d s) c i = owes_grouped d s c i
-  owes (texts d) c i = (tt, λ q w. (λ v. v, λ t e j _ _ _. tt), tt)
-  owes (arguments d y) c i = owes_arguments d y c i
-  owes (suffixes d s y) c i = owes_suffixes d s y c i
-  owes (type_name d) c i = owes_type_name d c i
-  owes (row p h d) c i = owes_row p h d c i
-  owes (more p h d s y) c i = owes_more p h d s y c i
-  owes (element p h d) c i = owes_element p h d c i
-  owes (structure d s) c i = owes_structure d s c i
-  owes (members d s y) c i = owes_members d s y c i
-  owes (member d) c i = owes_member d c i
-  owes (member_declarators h d s y) c i = owes_member_declarators h d s y c i
-  owes (enumeration d s) c i = owes_enumeration d s c i
-  owes (enumerators d s y) c i = owes_enumerators d s y c i
-  owes (enumerator d) c i = owes_enumerator d c i
-  owes (consts d) c i = (tt, λ q w. (λ v. record { at = v.at; consts = const_more q w v.consts; declared = v.declared }, λ t e j _ _ _. tt), tt)
-  owes (declarator w h d) c i = owes_declarator w h d c i
-  owes (declarator_suffixes d s y) c i = owes_declarator_suffixes d s y c i
-  owes (abstract_suffixes d s y) c i = owes_abstract_suffixes d s y c i
-  owes (size d) c i = owes_size d c i
-  owes (parameters d) c i = owes_parameters d c i
-  owes (more_parameters d s y) c i = owes_more_parameters d s y c i
-  owes (parameter d) c i = owes_parameter d c i
+  pub owes : (g : Goal) (c : Scopes) (i : ℕ) → Via g c i ⊎ Owes (body g) (Via g c i) c i
+  owes (whole p d) c i = inr (λ v. tt, λ t e j _ _ _. (λ z. tt, tt))
+  owes (expression d) c i = inr (owes_expression d c i)
+  owes (commas d s y) c i = inr (owes_commas d s y c i)
+  owes (assignment d) c i = inr (owes_assignment d c i)
+  owes (conditional d) c i = inr (owes_conditional d c i)
+  owes (m.binary p d) c i = inr (owes_binary p d c i)
+  owes (operands p d s y) c i = inr (owes_operands p d s y c i)
+  owes (cast d) c i = inr (owes_cast d c i)
+  owes (unary d) c i = inr (owes_unary d c i)
+  owes (measured d s) c i = inr (owes_measured d s c i)
+  owes (postfix d) c i = inr (owes_postfix d c i)
+  owes (called d s) c i = inr (owes_called d s c i)
+  owes (grouped d s) c i = inr (owes_grouped d s c i)
+  owes (texts d) c i = inr (tt, λ q w. (λ v. v, λ t e j _ _ _. tt), tt)
+  owes (arguments d y) c i = inr (owes_arguments d y c i)
+  owes (suffixes d s y) c i = inr (owes_suffixes d s y c i)
+  owes (type_name d) c i = inr (owes_type_name d c i)
+  owes (row p h d) c i = inr (owes_row p h d c i)
+  owes (more p h d s y) c i = inr (owes_more p h d s y c i)
+  owes (element p h d) c i = inr (owes_element p h d c i)
+  owes (structure d s) c i = inr (owes_structure d s c i)
+  owes (members d s y) c i = inr (owes_members d s y c i)
+  owes (member d) c i = inr (owes_member d c i)
+  owes (member_declarators h d s y) c i = inr (owes_member_declarators h d s y c i)
+  owes (enumeration d s) c i = inr (owes_enumeration d s c i)
+  owes (enumerators d s y) c i = inr (owes_enumerators d s y c i)
+  owes (enumerator d) c i = inr (owes_enumerator d c i)
+  owes (consts d) c i = inr (tt, λ q w. (λ v. record { at = v.at; consts = const_more q w v.consts; declared = v.declared }, λ t e j _ _ _. tt), tt)
+  owes (declarator w h d) c i = inr (owes_declarator w h d c i)
+  owes (declarator_suffixes d s y) c i = inr (owes_declarator_suffixes d s y c i)
+  owes (abstract_suffixes d s y) c i = inr (owes_abstract_suffixes d s y c i)
+  owes (size d) c i = inr (owes_size d c i)
+  owes (parameters d) c i = inr (owes_parameters d c i)
+  owes (more_parameters d s y) c i = inr (owes_more_parameters d s y c i)
+  owes (parameter d) c i = inr (owes_parameter d c i)
+  owes g c i = inl tt

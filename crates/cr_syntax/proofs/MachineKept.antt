@@ -4,15 +4,17 @@ use Rattle.cr_syntax.specs.declared.word.Word.{Word}
 use Rattle.cr_syntax.specs.declared.node.Kind.{Kind}
 use Rattle.cr_syntax.specs.declared.symbol.Part.{Part}
 use Rattle.cr_syntax.specs.declared.symbol.Part.TheVariants as part
+use Rattle.cr_syntax.specs.declared.symbol.Context.{Context}
 use Rattle.cr_syntax.specs.declared.scopes.TypeName.{TypeName}
 use Rattle.cr_syntax.specs.Words.{Lexeme}
 use Rattle.cr_syntax.specs.Scopes.{Scopes, enter}
 use Rattle.cr_syntax.specs.Trees.{Trees, none, ◌&◌}
 use Rattle.cr_syntax.specs.Context.{fresh, past_part}
 use Rattle.cr_syntax.specs.Spells.{Limit}
-use Rattle.cr_syntax.specs.Machine.{Goal, Prog, Manner, choose, Runs, Done, plain, opens, give, made, around, brought}
+use Rattle.cr_syntax.specs.Machine.{Goal, Prog, Manner, Labels, choose, Runs, Done, plain, opens, give, made, around, brought}
 use Rattle.cr_syntax.specs.Machine.{whole, expression, commas, assignment, conditional, binary, operands, cast, unary, measured, postfix, called, grouped, texts, arguments, suffixes, type_name, row, more, element, structure, members, member, member_declarators, enumeration, enumerators, enumerator, consts, declarator, declarator_suffixes, abstract_suffixes, size, parameters, more_parameters, parameter}
-use Rattle.cr_syntax.specs.MachineBody.{body, assigned, operated, prefixed, suffixed, sized, other_primary, suffixes_end, other_element, array_start, Words, is_declarator, may_omit, start_goal, tighter, assignment_operators, operators, unary_prefixes, cast_prefixes, constants, postfix_operators, specifier_words}
+use Rattle.cr_syntax.specs.Machine.{unit, externals, external, declaration, init_declarators, initialized, initializer, initializers, statement, block, if_rest, switch_rest, while_rest, do_rest, for_rest, return_rest, for_clauses, clause, compound, items, item}
+use Rattle.cr_syntax.specs.MachineBody.{body, assigned, operated, prefixed, suffixed, sized, other_primary, suffixes_end, other_element, array_start, declared_on, unlabelled, Words, is_declarator, may_omit, start_goal, tighter, assignment_operators, operators, unary_prefixes, cast_prefixes, constants, postfix_operators, specifier_words}
 use Rattle.cr_syntax.proofs.MachineGives.{Gives, gives, AllRows, no_rows, also, gives_choose}
 
 -- nothing is known before
@@ -23,6 +25,8 @@ abbrev pub Kept : Goal → Scopes → ℕ → Trees → Scopes → ℕ → Type 
 Kept (declarator w h d) c i t e j = (length c ≤ length e) × (is_declarator t ≡ true → suc (length c) ≤ length e) × (may_omit w ≡ false → is_declarator t ≡ true)
 Kept (declarator_suffixes d s a) c i t e j = (length c ≤ length e) × (is_declarator a ≡ true → is_declarator t ≡ true)
 Kept (abstract_suffixes d s a) c i t e j = (length c ≤ length e) × (is_declarator a ≡ false → is_declarator t ≡ false)
+-- the scope of a `for` ends behind its clauses
+Kept (for_clauses l d s x) c i t e j = length c ≤ suc (length e)
 Kept g c i t e j = length c ≤ length e
 
 start_kept : (p : Part) (d : ℕ) (c : Scopes) (i : ℕ) (t : Trees) (e : Scopes) (j : ℕ) → Kept (start_goal p d) c i t e j → length c ≤ length e
@@ -67,6 +71,34 @@ module _ (us : List Lexeme) (top : Limit) where
   words_kept : (a : Manner) (rs : Words) (d : ℕ) (p : Kind → Prog) (q : Prog) (f : Trees → Scopes → ℕ → Type 0) (c : Scopes) (i : ℕ) →
       ((k : Kind) → Keeps (p k) f c (i + 1)) → Keeps q f c i → Keeps (choose a rs d p q) f c i
   words_kept a rs d p q f c i x y = gives_choose us top Nothing Kept a d p q f c i Any (any_rows rs) (λ w k r v z. x k) y
+
+  -- behind a declarator, where its own scope is open
+  declared_kept : (n : ℕ) (h : Context) (d s : ℕ) (x : Trees) (q : ℕ) (a : Trees) (c : Scopes) (i : ℕ) → suc n ≤ length c → Keeps (declared_on h d s x q a) (λ t e j. n ≤ length e) c i
+  declared_kept n h d s x q a c i le =
+      let o = around_less c in
+      let m = entered_more n (brought us i (past_part h a).name (past_part h a).type_name) (around c) (omega arith) in
+      λ t e j _ _ m'. (λ q' w t' e' j' _ _ m''. omega arith, (λ q' w. omega arith, tt))
+
+  unlabelled_kept : (l : Labels) (d s : ℕ) (c : Scopes) (i : ℕ) → Keeps (unlabelled l d s) (λ t e j. length c ≤ length e) c i
+  unlabelled_kept l d s c i = (
+    λ t e j _ _ m. m,
+    (
+      λ q w t e j _ _ m. m,
+      (
+        λ q w t e j _ _ m. m,
+        (
+          λ q w t e j _ _ m. m,
+          (
+            λ q w t e j _ _ m. m,
+            (
+              λ q w t e j _ _ m. m,
+              ((λ q w. (λ q' w'. omega arith, tt)), ((λ q w. (λ q' w'. omega arith, tt)), (λ q w t e j _ _ m. m, ((λ q w. omega arith), λ t e j _ _ m. (λ q w. m, tt))))),
+            ),
+          ),
+        ),
+      ),
+    ),
+  )
 
   pub kept : (g : Goal) (c : Scopes) (i : ℕ) → Keeps (body g) (Kept g c i) c i
   kept (whole p d) c i = λ t e j _ _ m. start_kept p d c i t e j m
@@ -159,6 +191,49 @@ module _ (us : List Lexeme) (top : Limit) where
         (λ y. let n = m'.1 y in entered_more (length c) (brought us j' (past_part (past_part fresh t) t').name (past_part (past_part fresh t) t').type_name) (around e') (omega arith), λ y. omega arith),
     m,
   )
+  kept (unit l d) c i = λ t e j _ _ m t' e' j' _ _ m'. omega arith
+  kept (externals l d x) c i = (λ t e j _ _ m t' e' j' _ _ m'. omega arith, omega arith)
+  kept (external l d) c i = λ t e j _ _ m. (
+    λ q w. m,
+    λ a e' j' _ _ m'.
+        let n = m'.1 (m'.2 refl) in
+        let o = around_less e' in
+        let k = entered_more (length c) (brought us j' (past_part (past_part fresh t) a).name (past_part (past_part fresh t) a).type_name) (around e') (omega arith) in
+        ((λ y b f k' _ _ m''. let o' = around_less f in omega arith, λ y. tt), declared_kept (length c) (past_part fresh t) d i (t & none) j a e' j' (omega arith)),
+  )
+  kept (declaration d) c i = λ t e j _ _ m. (λ q w. m, λ t' e' j' _ _ m'. omega arith)
+  kept (init_declarators h d s x) c i = λ a e j _ _ m. declared_kept (length c) h d s x i a e j (m.1 (m.2 refl))
+  kept (initialized d q a) c i = (λ q' w t e j _ _ m. m, omega arith)
+  kept (initializer d) c i = (λ q w t e j _ _ m. m, λ t e j _ _ m. m)
+  kept (initializers d s x) c i = λ t e j _ _ m. (λ q w. (λ q' w'. m, λ t' e' j' _ _ m'. omega arith), (λ q w. m, tt))
+  kept (statement l d) c i = (
+    λ y. (
+      λ q w t e j _ _ m. (λ q' w' t' e' j' _ _ m'. omega arith, tt),
+      ((λ q w. (λ q' w' t' e' j' _ _ m'. m', tt)), unlabelled_kept l d i c i),
+    ),
+    λ y. unlabelled_kept l d i c i,
+  )
+  kept (block l d) c i = λ t e j _ _ m. let o = around_less e in omega arith
+  kept (if_rest l d s) c i = (
+    λ q w t e j _ _ m. (
+      λ q' w' b e' j' _ _ m'. let o = around_less e' in (λ y. omega arith, λ y. (λ q'' w'' b' e'' j'' _ _ m''. let o' = around_less e'' in omega arith, omega arith)),
+      tt,
+    ),
+    tt,
+  )
+  kept (switch_rest l d s) c i = (λ q w t e j _ _ m. (λ q' w' b f k _ _ m'. let o = around_less f in let o' = around_less (around f) in omega arith, tt), tt)
+  kept (while_rest l d s) c i = (λ q w t e j _ _ m. (λ q' w' b f k _ _ m'. let o = around_less f in omega arith, tt), tt)
+  kept (do_rest l d s) c i = λ a e j _ _ m. (λ q w. (λ q' w' b f k _ _ m'. (λ q1 w1. (λ q2 w2. let o = around_less f in omega arith, tt), tt), tt), tt)
+  kept (for_rest l d s) c i = (λ q w. (λ t e j _ _ m t' e' j' _ _ m'. omega arith, λ t e j _ _ m t' e' j' _ _ m'. omega arith), tt)
+  kept (for_clauses l d s x) c i = λ t e j _ _ m. (
+    λ q w b f k _ _ m'. let o = around_less f in omega arith,
+    λ u e' j' _ _ m'. (λ q w b f k _ _ m''. let o = around_less f in omega arith, tt),
+  )
+  kept (clause d) c i = (λ q w. omega arith, λ t e j _ _ m. (λ q w. m, tt))
+  kept (return_rest d s) c i = (λ q w. omega arith, λ t e j _ _ m. (λ q w. m, tt))
+  kept (compound l d) c i = (λ q w t e j _ _ m. let o = around_less e in omega arith, tt)
+  kept (items l d s x) c i = (λ q w. omega arith, λ t e j _ _ m t' e' j' _ _ m'. omega arith)
+  kept (item l d) c i = (λ t e j _ _ m. m, λ t e j _ _ m. m)
 
 pub runs_kept : {ts : List Lexeme} {limit : Limit} (g : Goal) (c e : Scopes) (i j : ℕ) (t : Trees) → Runs body ts limit (body g) c i (Done t e j) → Kept g c i t e j
 runs_kept {ts = ts} {limit = limit} g c e i j t h =

@@ -8,7 +8,7 @@ use Rattle.cr_syntax.specs.Words.{Lexeme}
 use Rattle.cr_syntax.specs.Scopes.{Scopes, enter}
 use Rattle.cr_syntax.specs.Trees.{Trees}
 use Rattle.cr_syntax.specs.Spells.{Limit}
-use Rattle.cr_syntax.specs.Machine.{Goal, Prog, Manner, Test, Reply, Done, Failed, Runs, Allows, passes, brought, choose, give, stop, take, bar, peek, when, here, look, set, bring, call, run_give, run_stop, run_take, run_deep, run_pass, run_bar, run_free, run_seen, run_unseen, run_yes, run_no, run_here, run_look, run_set, run_bring, run_call, run_fail}
+use Rattle.cr_syntax.specs.Machine.{Goal, Prog, Manner, Test, Reply, Done, Failed, Runs, Allows, passes, brought, choose, give, stop, refuse, take, bar, peek, when, here, look, set, bring, call, run_give, run_stop, run_refuse, run_take, run_deep, run_pass, run_bar, run_free, run_seen, run_unseen, run_yes, run_no, run_here, run_look, run_set, run_bring, run_call, run_fail}
 use Rattle.cr_syntax.specs.MachineBody.{Words}
 use Rattle.cr_syntax.specs.MachineLaws.{end_of}
 use Rattle.cr_syntax.proofs.MachineRuns.{OnDone, reach, passes_same, brought_same}
@@ -34,6 +34,7 @@ module _ (body : Goal → Prog) (ts us : List Lexeme) (limit top : Limit) (n k :
   abbrev pub Marks : Prog → (Trees → Scopes → ℕ → Type 0) → Scopes → ℕ → Type 0
   Marks (give t) f c i = f t c i
   Marks (stop d) f c i = Unit {0}
+  Marks (refuse m) f c i = Unit {0}
   Marks (take g x d p q) f c i = (Marks p f c (i + 1) ⊎ (i + 1 ≤ k) × Barred body ts top n k p c (i + 1)) × Marks q f c i
   Marks (bar x m d p) f c i = Marks p f c i
   Marks (peek x p q) f c i = Marks p f c i × Marks q f c i
@@ -70,6 +71,7 @@ module _ (body : Goal → Prog) (ts us : List Lexeme) (limit top : Limit) (n k :
   pub along : {p : Prog} {c : Scopes} {i : ℕ} {r : Reply} → Runs body us limit p c i r → end_of r < k → IsDone r → Runs body ts top p c i r
   along run_give lt y = run_give
   along run_stop lt y = absurd y
+  along run_refuse lt y = absurd y
   along {c = c} {i = i} (run_take {m = g} {x = x} {d = d} t w h) lt y = let m = reach h in run_take (same_test c i x (omega arith) t) (allowed g i d (omega arith) w) (along h lt y)
   along (run_deep t w) lt y = absurd y
   along {c = c} {i = i} (run_pass {x = x} t h) lt y = let m = reach h in run_pass (same_test c i x (omega arith) t) (along h lt y)
@@ -93,6 +95,7 @@ module _ (body : Goal → Prog) (ts us : List Lexeme) (limit top : Limit) (n k :
         Marks body ts us limit top n k means p f c i → OnDone r f ⊎ (i < k) × Barred body ts top n k p c i
     marked run_give f y = inl y
     marked run_stop f y = inl tt
+    marked run_refuse f y = inl tt
     marked {c = c} {i = i} {r = r} (run_take {m = g} {x = x} {d = d} {p = p} {q = q} t w h) f y =
         ⊎_elim (λ z. or_so (marked h f z) (λ b. taken (omega arith) b.1)) (λ b. inr (taken b.0 b.1)) y.0
       where

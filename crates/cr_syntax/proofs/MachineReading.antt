@@ -13,14 +13,14 @@ use Rattle.cr_syntax.specs.Trees.{Trees}
 use Rattle.cr_syntax.specs.Context.{fresh}
 use Rattle.cr_syntax.specs.Spells.{Limit, Free, AtMost, Upto, Is, Spells, a}
 use Rattle.cr_syntax.specs.Units.{most_levels, is_unused, IsBracket, parenthesis, bracket, brace, StandsIn, group_for_literal, subscript_for_call}
-use Rattle.cr_syntax.specs.Machine.{Prog, Test, whole, Reply, Cause, Done, Failed, Runs, passes, has, barred, refusal_of, overflows, is_bracket, too_deep, ended, outside, unexpected, run_give, run_stop, run_take, run_deep, run_pass, run_bar, run_free, run_seen, run_unseen, run_yes, run_no, run_here, run_look, run_set, run_bring, run_call, run_fail}
+use Rattle.cr_syntax.specs.Machine.{Prog, Test, whole, Reply, Cause, Done, Failed, Runs, passes, has, barred, refusal_of, overflows, is_bracket, too_deep, ended, outside, unexpected, run_give, run_stop, run_refuse, run_take, run_deep, run_pass, run_bar, run_free, run_seen, run_unseen, run_yes, run_no, run_here, run_look, run_set, run_bring, run_call, run_fail}
 use Rattle.cr_syntax.specs.MachineBody.{body, start_goal}
 use Rattle.cr_syntax.specs.MachineLaws.{end_of, outcome_of, IsStart, start_expression, start_assignment, start_conditional}
 use Rattle.cr_syntax.specs.Expressions.{Start, Spelled, BeginsFrom, OutsideFrom, unused_keyword, compound_literal, called_expression, bit_field, IsTooDeepFrom, IsFineFrom, RunEnds, Read, Refused, IsReading}
 use Rattle.cr_syntax.specs.Expressions as expressions
 use Rattle.cr_syntax.proofs.Tests.{both, not_true, some_one}
 use Rattle.cr_syntax.proofs.MachineRuns.{same, local}
-use Rattle.cr_syntax.proofs.MachineEnds.{Way, stopped, barring, crowded, Ends, end_stop, end_take, end_crowded, end_pass, end_bar, end_free, end_seen, end_unseen, end_yes, end_no, end_here, end_look, end_set, end_bring, end_behind, end_inside, ends_so, refused_so, cause_by}
+use Rattle.cr_syntax.proofs.MachineEnds.{Way, stopped, barring, crowded, defining, Ends, end_stop, end_refuse, end_take, end_crowded, end_pass, end_bar, end_free, end_seen, end_unseen, end_yes, end_no, end_here, end_look, end_set, end_bring, end_behind, end_inside, ends_so, refused_so, cause_by}
 use Rattle.cr_syntax.proofs.MachineGives.{gives}
 use Rattle.cr_syntax.proofs.MachineKept.{Kept, runs_kept}
 use Rattle.cr_syntax.proofs.MachineMeans.{Means}
@@ -33,12 +33,13 @@ use Rattle.cr_syntax.proofs.MachineForms.{within, IsBarring, by_row, outside_is_
 use Rattle.cr_syntax.proofs.MachineUnused.{begun_is_used}
 use Rattle.cr_syntax.proofs.MachineParts.{given, refused_or_free, answered_or_refused}
 use Rattle.cr_syntax.proofs.MachineStuck.{is_crowded}
-use Rattle.cr_syntax.proofs.MachineRefused.{no_room, spells_none, no_room_instead}
+use Rattle.cr_syntax.proofs.MachineRefused.{no_room, spells_none, no_room_instead, defines_none}
 
 -- A run consumes tokens of the text alone.
-ends_inside : {ts : List Lexeme} {limit : Limit} {p : Prog} {c : Scopes} {i : ℕ} {r : Reply} → Runs body ts limit p c i r → i ≤ length ts → end_of r ≤ length ts
+pub ends_inside : {ts : List Lexeme} {limit : Limit} {p : Prog} {c : Scopes} {i : ℕ} {r : Reply} → Runs body ts limit p c i r → i ≤ length ts → end_of r ≤ length ts
 ends_inside run_give le = le
 ends_inside run_stop le = le
+ends_inside run_refuse le = le
 ends_inside {ts = ts} {c = c} {i = i} (run_take {x = x} q w h) le = let n = passes_inside ts c i x q in ends_inside h (omega arith)
 ends_inside (run_deep q w) le = le
 ends_inside (run_pass q h) le = ends_inside h le
@@ -56,8 +57,9 @@ ends_inside (run_call h k) le = ends_inside k (ends_inside h le)
 ends_inside (run_fail h) le = ends_inside h le
 
 -- Where no level wants room, a limit is none.
-unlimited_end : {ts : List Lexeme} {limit : Limit} {p : Prog} {c : Scopes} {i k : ℕ} {w : Way} → Ends body ts limit p c i w k → is_crowded w ≡ false → Ends body ts Free p c i w k
+pub unlimited_end : {ts : List Lexeme} {limit : Limit} {p : Prog} {c : Scopes} {i k : ℕ} {w : Way} → Ends body ts limit p c i w k → is_crowded w ≡ false → Ends body ts Free p c i w k
 unlimited_end end_stop n = end_stop
+unlimited_end end_refuse n = end_refuse
 unlimited_end {i = i} (end_take {g = g} {d = d} q w z) n = end_take q (allows_free g i d) (unlimited_end z n)
 unlimited_end (end_crowded q w) n = true_false n
 unlimited_end (end_pass q z) n = end_pass q (unlimited_end z n)
@@ -76,31 +78,31 @@ unlimited_end (end_inside z) n = end_inside (unlimited_end z n)
 
 -- Words.
 
-bracket_is : (w : Word) → is_bracket w ≡ true → IsBracket w
+pub bracket_is : (w : Word) → is_bracket w ≡ true → IsBracket w
 bracket_is word.LeftParen q = parenthesis
 bracket_is word.LeftBracket q = bracket
 bracket_is word.LeftBrace q = brace
 bracket_is _ q = none_true q
 
-is_of_bracket : {w : Word} → IsBracket w → is_bracket w ≡ true
+pub is_of_bracket : {w : Word} → IsBracket w → is_bracket w ≡ true
 is_of_bracket parenthesis = refl
 is_of_bracket bracket = refl
 is_of_bracket brace = refl
 
-bracket_is_used : {w : Word} → IsBracket w → is_unused w ≡ false
+pub bracket_is_used : {w : Word} → IsBracket w → is_unused w ≡ false
 bracket_is_used parenthesis = refl
 bracket_is_used bracket = refl
 bracket_is_used brace = refl
 
 -- a token is no unused keyword and another word
-not_both : {o : Option Word} {v w : Word} → o ≡ Some v → is_unused v ≡ true → o ≡ Some w → is_unused w ≡ false → ⊥
+pub not_both : {o : Option Word} {v w : Word} → o ≡ Some v → is_unused v ≡ true → o ≡ Some w → is_unused w ≡ false → ⊥
 not_both {v = v} q u q' u' = both_ways (is_unused v) (subst (λ w. is_unused w ≡ false) (some_one (sym q' ∙ q)) u') u
 
 -- a bracket overflows where so many levels are open
-at_most : (m most : ℕ) → not (nat_lt m most) ≡ true → most ≤ m
+pub at_most : (m most : ℕ) → not (nat_lt m most) ≡ true → most ≤ m
 at_most m most q = ltb-false m most (not_true (nat_lt m most) q)
 
-below : (w : Word) (m : ℕ) → is_bracket w ≡ true → overflows w m ≡ false → m < most_levels
+pub below : (w : Word) (m : ℕ) → is_bracket w ≡ true → overflows w m ≡ false → m < most_levels
 below w m b q = ltb-true m most_levels (by (is_bracket w) (nat_lt m most_levels) b q)
   where
     by : (x y : Bool) → x ≡ true → x && not y ≡ false → y ≡ true
@@ -122,7 +124,7 @@ in_place (compound_literal q x) y b = (word.LeftParen, group_for_literal)
 in_place (called_expression q x) y b = (word.LeftBracket, subscript_for_call)
 in_place (bit_field q x) y b = absurd (both_ways (is_bracket word.Colon) refl (subst (λ w. is_bracket w ≡ true) (some_one (sym y ∙ q)) (is_of_bracket b)))
 
-not_keyword_row : {n : ℕ} {v : Word} → StandsIn n v → n ≡ 1 → ⊥
+pub not_keyword_row : {n : ℕ} {v : Word} → StandsIn n v → n ≡ 1 → ⊥
 not_keyword_row {v = v} x e = by (subst (λ n. StandsIn n v) e x)
   where
     by : {v : Word} → StandsIn 1 v → ⊥
@@ -132,7 +134,7 @@ not_keyword_row {v = v} x e = by (subst (λ n. StandsIn n v) e x)
 barring_at : {n i k : ℕ} {w : Way} → IsBarring n i (at w k) → (i ≡ k) × (x : Test) × (d : ℕ) × (w ≡ barring x n d)
 barring_at (by_row {x = x} {d = d}) = (refl, x, d, refl)
 
-at_end : (ts : List Lexeme) (k : ℕ) → k ≤ length ts → word_at ts k ≡ None → k ≡ length ts
+pub at_end : (ts : List Lexeme) (k : ℕ) → k ≤ length ts → word_at ts k ≡ None → k ≡ length ts
 at_end ts k le q = elim (eq-or-lt_of_le {n = k} {m = length ts} le) [ inl e ↦ e | inr lt ↦ (let w = get_some ts k lt in by (ap (λ o. elim o as (λ _. Option Word) [ None ↦ None | Some t ↦ Some t.word ]) w.1) q) ]
   where
     by : {A : Type 0} {v : Word} → word_at ts k ≡ Some v → word_at ts k ≡ None → A
@@ -289,6 +291,7 @@ module _ (ts : List Lexeme) (s : Start) (z : IsStart s.part) (le : s.at ≤ leng
   read_end (stopped m) k y le' = read_stop m k y le' (word_at ts k) refl
   read_end (barring x n m) k y le' = read_bar x n m k y le' (word_at ts k) refl
   read_end crowded k y le' = read_crowd k y le'
+  read_end (defining m) k y le' = absurd (defines_none s.part s.depth y)
 
   refused_is_reading : {x : Cause} {k : ℕ} → Answers (Failed x k) → IsReading ts s (Refused (refusal_of x k))
   refused_is_reading {k = k} h = let y = ends_so h in subst (λ x. IsReading ts s (Refused (refusal_of x k))) (sym y.cause) (read_end y.way k y.ends (ends_inside h le))

@@ -10,7 +10,7 @@ use Rattle.cr_syntax.specs.Trees.{Trees}
 use Rattle.cr_syntax.specs.Spells.{Limit}
 use Rattle.cr_syntax.specs.Reads.{is_word, same_word}
 use Rattle.cr_syntax.specs.Units.{is_unused}
-use Rattle.cr_syntax.specs.Machine.{Goal, Prog, Test, Reply, Done, Failed, Cause, Runs, passes, has_word, verdict, barred, name_before, brought, run_give, run_stop, run_take, run_deep, run_pass, run_bar, run_free, run_seen, run_unseen, run_yes, run_no, run_here, run_look, run_set, run_bring, run_call, run_fail}
+use Rattle.cr_syntax.specs.Machine.{Goal, Prog, Test, Reply, Done, Failed, Cause, Runs, passes, has_word, verdict, barred, name_before, brought, run_give, run_stop, run_refuse, run_take, run_deep, run_pass, run_bar, run_free, run_seen, run_unseen, run_yes, run_no, run_here, run_look, run_set, run_bring, run_call, run_fail}
 use Rattle.cr_syntax.specs.Machine as m
 use Rattle.cr_syntax.specs.MachineLaws.{end_of, AreAlike}
 
@@ -26,6 +26,7 @@ pub same : {body : Goal → Prog} {ts : List Lexeme} {limit : Limit} {p : Prog} 
     Runs body ts limit p c i r → Runs body ts limit p c i r' → r ≡ r'
 same run_give run_give = refl
 same run_stop run_stop = refl
+same run_refuse run_refuse = refl
 same (run_take x a h) (run_take x' a' h') = same h h'
 same (run_take x a h) (run_deep x' a') = absurd (a' a)
 same (run_take x a h) (run_pass x' h') = cc
@@ -62,6 +63,7 @@ pub reach : {body : Goal → Prog} {ts : List Lexeme} {limit : Limit} {p : Prog}
     Runs body ts limit p c i r → i ≤ end_of r
 reach run_give = omega arith
 reach run_stop = omega arith
+reach run_refuse = omega arith
 reach (run_take x a h) = let n = reach h in omega arith
 reach (run_deep x a) = omega arith
 reach (run_pass x h) = reach h
@@ -122,6 +124,7 @@ pub local : {body : Goal → Prog} {ts us : List Lexeme} {limit : Limit} {p : Pr
 local run_give f = run_give
 local {body = body} {ts = ts} {us = us} {limit = limit} {c = c} {i = i} (run_stop {d = d}) f =
     subst (λ x. Runs body us limit (m.stop d) c i (Failed x i)) (verdict_same ts us i (f i (omega arith)) d) run_stop
+local run_refuse f = run_refuse
 local {ts = ts} {us = us} {c = c} {i = i} (run_take {x = y} x a h) f = let n = reach h in run_take (test_of ts us c i y (f i (omega arith)) x) a (local h f)
 local {ts = ts} {us = us} {c = c} {i = i} (run_deep {x = y} x a) f = run_deep (test_of ts us c i y (f i (omega arith)) x) a
 local {ts = ts} {us = us} {c = c} {i = i} (run_pass {x = y} x h) f = let n = reach h in run_pass (test_of ts us c i y (f i n) x) (local h f)

@@ -1,6 +1,6 @@
 -- At one token the levels of a program's tests never rise: each has the levels of the one before it or fewer, and where
 -- the program stops it says no more than the last of them. So says `Steady`, of a program and then goal by goal.
-use Rattle.std.proofs.Common.{◌≡◌, ℕ, ◌+◌, ◌<◌, ◌≤◌, Bool, true, false, not, ◌&&◌, ◌||◌, List, [], ◌∷◌, Option, None, Some, refl, sym, ap, subst, ◌∙◌, arith, ◌⊎◌, inl, inr}
+use Rattle.std.proofs.Common.{◌≡◌, ℕ, ◌+◌, ◌≤◌, Bool, true, false, not, ◌&&◌, ◌||◌, List, [], ◌∷◌, Option, None, Some, refl, sym, ap, subst, ◌∙◌, arith, inl, inr}
 use Rattle.std.proofs.lemmas.Bool.{both_ways, or_cases, or_from}
 use Rattle.cr_syntax.specs.declared.word.Word.{Word}
 use Rattle.cr_syntax.specs.declared.word.Word.TheVariants as word
@@ -11,13 +11,14 @@ use Rattle.cr_syntax.specs.declared.symbol.Context.{Context}
 use Rattle.cr_syntax.specs.Words.{Lexeme, word_at, spelling_at}
 use Rattle.cr_syntax.specs.Scopes.{Scopes, is_type, enter}
 use Rattle.cr_syntax.specs.Trees.{Trees, none, ◌&◌}
-use Rattle.cr_syntax.specs.Context.{past_token, past_part}
+use Rattle.cr_syntax.specs.Context.{fresh, past_token, past_part}
 use Rattle.cr_syntax.specs.Spells.{Is}
 use Rattle.cr_syntax.specs.Reads.{is_word, same_word}
 use Rattle.cr_syntax.specs.Units.{is_unused, StandsIn, subscript_for_call}
-use Rattle.cr_syntax.specs.Machine.{Goal, Prog, Manner, Test, Wanted, named, unnamed, either, plain, opens, reopens, the, has, ordinary, type_identifier, declared, or, passes, has_word, is_bracket, levels_at, brought, choose, give, stop, take, bar, peek, when, here, look, set, bring, call, made}
+use Rattle.cr_syntax.specs.Machine.{Goal, Prog, Manner, Test, Wanted, named, unnamed, either, plain, opens, reopens, the, has, ordinary, type_identifier, declared, or, passes, has_word, is_bracket, levels_at, brought, choose, give, stop, refuse, take, bar, peek, when, here, look, set, bring, call, made, Labels}
 use Rattle.cr_syntax.specs.Machine.{whole, expression, commas, assignment, conditional, binary, operands, cast, unary, measured, postfix, called, grouped, texts, arguments, suffixes, type_name, row, more, element, structure, members, member, member_declarators, enumeration, enumerators, enumerator, consts, declarator, declarator_suffixes, abstract_suffixes, size, parameters, more_parameters, parameter}
-use Rattle.cr_syntax.specs.MachineBody.{Words, body, assigned, operated, prefixed, suffixed, sized, other_primary, suffixes_end, other_element, array_start, may_omit, start_goal, tighter, assignment_operators, operators, unary_prefixes, cast_prefixes, constants, postfix_operators, specifier_words, plain_words, element_start, is_plain_start, is_specifier_start, is_abstract_start, is_declarator_start, declarator_start}
+use Rattle.cr_syntax.specs.Machine.{unit, externals, external, declaration, init_declarators, initialized, initializer, initializers, statement, block, if_rest, switch_rest, while_rest, do_rest, for_rest, return_rest, for_clauses, clause, compound, items, item}
+use Rattle.cr_syntax.specs.MachineBody.{Words, body, declared_on, unlabelled, labelled, is_label, assigned, operated, prefixed, suffixed, sized, other_primary, suffixes_end, other_element, array_start, may_omit, start_goal, tighter, assignment_operators, operators, unary_prefixes, cast_prefixes, constants, postfix_operators, specifier_words, plain_words, element_start, is_plain_start, is_specifier_start, is_abstract_start, is_declarator_start, declarator_start}
 use Rattle.cr_syntax.proofs.Tests.{both, not_true}
 use Rattle.cr_syntax.proofs.MachineFirst.{none_true, true_false}
 
@@ -60,33 +61,65 @@ depth_of (size d) = d
 depth_of (parameters d) = d
 depth_of (more_parameters d s a) = d
 depth_of (parameter d) = d
+depth_of (unit l d) = d
+depth_of (externals l d x) = d
+depth_of (external l d) = d
+depth_of (declaration d) = d
+depth_of (init_declarators h d s x) = d
+depth_of (initialized d q x) = d
+depth_of (initializer d) = d
+depth_of (initializers d s x) = d
+depth_of (statement l d) = d
+depth_of (block l d) = d
+depth_of (if_rest l d s) = d
+depth_of (switch_rest l d s) = d
+depth_of (while_rest l d s) = d
+depth_of (do_rest l d s) = d
+depth_of (for_rest l d s) = d
+depth_of (return_rest d s) = d
+depth_of (for_clauses l d s x) = d
+depth_of (clause d) = d
+depth_of (compound l d) = d
+depth_of (items l d s x) = d
+depth_of (item l d) = d
 
 -- those open at a goal's first token
-abbrev pub levels_in : Goal → ℕ
-levels_in (measured d s) = d + 1
-levels_in (grouped d s) = d + 1
-levels_in (arguments d a) = d + 1
-levels_in (members d s a) = d + 1
-levels_in (enumerators d s a) = d + 1
-levels_in (size d) = d + 1
-levels_in g = depth_of g
+abbrev pub enters : Goal → ℕ
+enters (measured d s) = d + 1
+enters (grouped d s) = d + 1
+enters (arguments d a) = d + 1
+enters (members d s a) = d + 1
+enters (enumerators d s a) = d + 1
+enters (size d) = d + 1
+enters (initializers d s x) = d + 1
+enters (do_rest l d s) = d + 1
+enters (for_clauses l d s x) = d + 1
+enters (items l d s x) = d + 1
+enters g = depth_of g
 
 -- at the token that a goal answers at, it tests none with fewer
-abbrev pub levels_out : Goal → ℕ
-levels_out (measured d s) = d + 1
-levels_out (arguments d a) = d + 1
-levels_out (members d s a) = d + 1
-levels_out (enumerators d s a) = d + 1
-levels_out (size d) = d + 1
-levels_out g = depth_of g
+abbrev pub leaves : Goal → ℕ
+leaves (measured d s) = d + 1
+leaves (arguments d a) = d + 1
+leaves (members d s a) = d + 1
+leaves (enumerators d s a) = d + 1
+leaves (size d) = d + 1
+leaves (initializers d s x) = d + 1
+leaves (items l d s x) = d + 1
+leaves g = depth_of g
 
--- A goal may be called where the last test had b levels: it begins with no more. The floor is a level below which all that
--- is to be refused is refused otherwise.
-abbrev pub Enters : ℕ → Goal → ℕ → Type 0
-Enters floor g b = levels_in g ≤ b
+-- a goal that begins where so many are open, or fewer; a unit and its external definitions are none of these
+abbrev pub Under : Goal → ℕ → Type 0
+Under (unit l d) b = ⊥
+Under (externals l d x) b = ⊥
+Under (external l d) b = ⊥
+Under g b = enters g ≤ b
 
-pub enters_low : (floor : ℕ) (g : Goal) (b : ℕ) → Enters floor g b → levels_in g ≤ b
-enters_low floor g b x = x
+pub under : (g : Goal) (b : ℕ) → Under g b → enters g ≤ b
+under (unit l d) b y = absurd y
+under (externals l d x) b y = absurd y
+under (external l d) b y = absurd y
+under _ b y = y
 
 -- those open behind a token
 abbrev pub levels_behind : Manner → ℕ → ℕ
@@ -96,10 +129,12 @@ levels_behind reopens d = d + 1
 
 -- Tests.
 
--- whether a test lets no unused keyword pass, and a bracket only where it opens a level
+-- whether a test lets no unused keyword pass, a bracket only where it opens a level, and a switch's label only where it
+-- opens none
 abbrev pub fits : Manner → Test → Bool
-fits opens (the w) = not (is_unused w)
-fits g (the w) = not (is_unused w) && not (is_bracket w)
+fits plain (the w) = not (is_unused w) && not (is_bracket w)
+fits opens (the w) = not (is_unused w) && not (is_label w)
+fits reopens (the w) = not (is_unused w) && (not (is_bracket w) && not (is_label w))
 fits g (has f) = false
 fits g ordinary = true
 fits g (type_identifier typed) = true
@@ -126,12 +161,18 @@ is_eager (type_name d) = true
 is_eager (row p h d) = true
 is_eager (element p h d) = true
 is_eager (declarator w h d) = true
+is_eager (assignment d) = true
+is_eager (conditional d) = true
+is_eager (binary p d) = true
+is_eager (declaration d) = true
+is_eager (compound l d) = true
 is_eager _ = false
 
 -- and test it with so many levels or more
 abbrev pub IsEager : ℕ → Prog → Type 0
 IsEager b (give t) = ⊥
 IsEager b (stop d) = Unit {0}
+IsEager b (refuse n) = Unit {0}
 IsEager b (take g x d p q) = (b ≤ levels_at g d) × (fits g x ≡ true) × IsEager b q
 IsEager b (bar x n d p) = IsEager b p
 IsEager b (peek x p q) = IsEager b p × IsEager b q
@@ -140,7 +181,7 @@ IsEager b (here p) = (i : ℕ) → IsEager b (p i)
 IsEager b (look p) = (c : Scopes) → IsEager b (p c)
 IsEager b (set e p) = IsEager b p
 IsEager b (bring k v p) = IsEager b p
-IsEager b (call g p) = (is_eager g ≡ true) × (b ≤ levels_in g)
+IsEager b (call g p) = (is_eager g ≡ true) × (b ≤ enters g)
 
 eager_choose : (g : Manner) (rs : Words) (b d : ℕ) (p : Kind → Prog) (q : Prog) → b ≤ levels_at g d → all_fit g rs ≡ true → IsEager b q → IsEager b (choose g rs d p q)
 eager_choose g [] b d p q le f x = x
@@ -152,7 +193,19 @@ specifiers_fit : (p : Part) → all_fit plain (specifier_words p) ≡ true
 specifiers_fit part.Specifiers = refl
 specifiers_fit _ = refl
 
-pub eager : (g : Goal) → is_eager g ≡ true → IsEager (levels_in g) (body g)
+tighter_eager : (p : Part) (d : ℕ) → (is_eager (tighter p d) ≡ true) × (d ≤ enters (tighter p d))
+tighter_eager part.LogicalOr d = (refl, omega arith)
+tighter_eager part.LogicalAnd d = (refl, omega arith)
+tighter_eager part.Or d = (refl, omega arith)
+tighter_eager part.Xor d = (refl, omega arith)
+tighter_eager part.And d = (refl, omega arith)
+tighter_eager part.Equality d = (refl, omega arith)
+tighter_eager part.Relational d = (refl, omega arith)
+tighter_eager part.Shift d = (refl, omega arith)
+tighter_eager part.Additive d = (refl, omega arith)
+tighter_eager _ d = (refl, omega arith)
+
+pub eager : (g : Goal) → is_eager g ≡ true → IsEager (enters g) (body g)
 eager (cast d) q = λ i. (omega arith, refl, (refl, omega arith))
 eager (unary d) q = λ i.
     eager_choose opens unary_prefixes d d (prefixed (unary (d + 1)) i) (choose opens cast_prefixes d (prefixed (cast (d + 1)) i) (sized d i)) (omega arith) refl
@@ -170,6 +223,11 @@ eager (declarator w h d) q = λ i. (omega arith, refl, (omega arith, refl, (λ y
   where
     arrays : (i : ℕ) → IsEager d (array_start w d i)
     arrays i = (λ y. (omega arith, refl, tt), λ y. tt)
+eager (assignment d) q = λ i. (refl, omega arith)
+eager (conditional d) q = λ i. (refl, omega arith)
+eager (binary p d) q = λ i. tighter_eager p d
+eager (declaration d) q = λ i. (refl, omega arith)
+eager (compound l d) q = λ i c. (omega arith, refl, tt)
 eager _ q = none_true q
 
 -- Programs that find the next token: a test before which nothing is given or refused lets it pass.
@@ -181,12 +239,15 @@ IsFound ts (row p h d) c i = passes ts c i (element_start p h.typed) ≡ true
 IsFound ts (element p h d) c i = passes ts c i (element_start p h.typed) ≡ true
 IsFound ts (declarator unnamed h d) c i = passes ts c i (has is_abstract_start) ≡ true
 IsFound ts (declarator either h d) c i = (passes ts c i (has is_declarator_start) ≡ true) × (passes ts c i (type_identifier h.typed) ≡ false)
+IsFound ts (declaration d) c i = passes ts c i (element_start part.Specifiers false) ≡ true
+IsFound ts (compound l d) c i = is_word ts i word.LeftBrace ≡ true
 IsFound ts _ c i = ⊥
 
 module _ (ts : List Lexeme) where
   abbrev pub Finds : Prog → Scopes → ℕ → Type 0
   Finds (give t) c i = ⊥
   Finds (stop d) c i = ⊥
+  Finds (refuse n) c i = Unit {0}
   Finds (take g x d p q) c i = passes ts c i x ≡ false → Finds q c i
   Finds (bar x n d p) c i = (passes ts c i x ≡ false) × Finds p c i
   Finds (peek x p q) c i = (passes ts c i x ≡ true → Finds p c i) × (passes ts c i x ≡ false → Finds q c i)
@@ -306,6 +367,8 @@ finds ts (row p h d) c i q = q
 finds ts (element p h d) c i q = finds_choose ts i plain (specifier_words p) d (λ k. made k i none) (other_element h d i) c (λ n s e t. element_found ts i p c h.typed q n s e t)
 finds ts (declarator unnamed h d) c i q = λ s p. (λ y. none_true y, λ y. (λ z b. abstract_found ts i q s p b, λ z. true_false z))
 finds ts (declarator either h d) c i q = λ s p. (λ y n. (λ z b. declarator_found ts i c h.typed q.0 q.1 s p n b, λ z. true_false z), λ y. true_false y)
+finds ts (declaration d) c i q = q
+finds ts (compound l d) c i q = λ n. both_ways (is_word ts i word.LeftBrace) n q
 finds ts _ c i q = absurd q
 
 -- behind a `*` each identifier may be declared
@@ -327,46 +390,52 @@ pub data Replaced (n d : ℕ) (o : Bool) (p : Prog) : Type 0 where
   by_trial : ((v : Word) → StandsIn n v → v ≡ word.LeftBracket) → o ≡ true → Replaced n d o p
   by_take : IsEager d p → Replaced n d o p
 
-module _ (ts : List Lexeme) (known : Goal → Scopes → ℕ → Trees → Scopes → ℕ → Type 0) (floor : ℕ) where
+module _ (ts : List Lexeme) (known : Goal → Scopes → ℕ → Trees → Scopes → ℕ → Type 0) where
   -- Tests at one token: those before had b levels or more, and so has each before an answer at least l. A `[` was asked
-  -- for where o says so.
-  abbrev pub Steady : Prog → ℕ → ℕ → Bool → Scopes → ℕ → Type 0
-  Steady (give t) l b o c i = l ≤ b
-  Steady (stop d) l b o c i = d ≤ b
-  Steady (take g x d p q) l b o c i = (levels_at g d ≤ b) × (fits g x ≡ true) × Steady p l (levels_behind g d) false c (i + 1) × Steady q l (levels_at g d) (tries x || o) c i
-  Steady (bar x n d p) l b o c i = (d ≤ b) × Replaced n d o p × Steady p l b o c i
-  Steady (peek x p q) l b o c i = IsEager b p × ((passes ts c i x ≡ true → Finds ts p c i) ⊎ (b < floor)) × Steady p l b o c i × Steady q l b o c i
-  Steady (when v p q) l b o c i = (v ≡ true → Steady p l b o c i) × (v ≡ false → Steady q l b o c i)
-  Steady (here p) l b o c i = Steady (p i) l b o c i
-  Steady (look p) l b o c i = Steady (p c) l b o c i
-  Steady (set e p) l b o c i = Steady p l b o e i
-  Steady (bring k v p) l b o c i = Steady p l b o (enter (brought ts i k v) c) i
-  Steady (call g p) l b o c i = Enters floor g b × ((t : Trees) (e : Scopes) (j : ℕ) → known g c i t e j → Steady (p t) l (levels_out g) false e j)
+  -- for where o says so, and a token before may be refused where r says so.
+  abbrev pub Steady : Bool → Prog → ℕ → ℕ → Bool → Scopes → ℕ → Type 0
+  Steady r (give t) l b o c i = l ≤ b
+  Steady r (stop d) l b o c i = d ≤ b
+  Steady r (refuse n) l b o c i = r ≡ true
+  Steady r (take g x d p q) l b o c i = (levels_at g d ≤ b) × (fits g x ≡ true) × Steady r p l (levels_behind g d) false c (i + 1) × Steady r q l (levels_at g d) (tries x || o) c i
+  Steady r (bar x n d p) l b o c i = (d ≤ b) × Replaced n d o p × Steady r p l b o c i
+  Steady r (peek x p q) l b o c i = IsEager b p × (passes ts c i x ≡ true → Finds ts p c i) × Steady r p l b o c i × Steady r q l b o c i
+  Steady r (when v p q) l b o c i = (v ≡ true → Steady r p l b o c i) × (v ≡ false → Steady r q l b o c i)
+  Steady r (here p) l b o c i = Steady r (p i) l b o c i
+  Steady r (look p) l b o c i = Steady r (p c) l b o c i
+  Steady r (set e p) l b o c i = Steady r p l b o e i
+  Steady r (bring k v p) l b o c i = Steady r p l b o (enter (brought ts i k v) c) i
+  Steady r (call g p) l b o c i = Under g b × ((t : Trees) (e : Scopes) (j : ℕ) → known g c i t e j → Steady r (p t) l (leaves g) false e j)
 
-  steady_choose : (g : Manner) (rs : Words) (d : ℕ) (p : Kind → Prog) (q : Prog) (l : ℕ) (o : Bool) (c : Scopes) (i : ℕ) → all_fit g rs ≡ true → ((k : Kind) → Steady (p k) l (levels_behind g d) false c (i + 1)) →
-      Steady q l (levels_at g d) o c i → Steady (choose g rs d p q) l (levels_at g d) o c i
+  steady_choose : (g : Manner) (rs : Words) (d : ℕ) (p : Kind → Prog) (q : Prog) (l : ℕ) (o : Bool) (c : Scopes) (i : ℕ) → all_fit g rs ≡ true → ((k : Kind) → Steady false (p k) l (levels_behind g d) false c (i + 1)) →
+      Steady false q l (levels_at g d) o c i → Steady false (choose g rs d p q) l (levels_at g d) o c i
   steady_choose g [] d p q l o c i f x y = y
   steady_choose g (r ∷ rs) d p q l o c i f x y =
       let v = both (fits g (the r.0)) (not (tries (the r.0)) && all_fit g rs) f in
       let u = both (not (tries (the r.0))) (all_fit g rs) v.1 in
-      (omega arith, v.0, x r.1, subst (λ z. Steady (choose g rs d p q) l (levels_at g d) (z || o) c i) (sym (not_true (tries (the r.0)) u.0)) (steady_choose g rs d p q l o c i u.1 x y))
+      (omega arith, v.0, x r.1, subst (λ z. Steady false (choose g rs d p q) l (levels_at g d) (z || o) c i) (sym (not_true (tries (the r.0)) u.0)) (steady_choose g rs d p q l o c i u.1 x y))
 
-pub start_levels : (floor : ℕ) (p : Part) (d : ℕ) → Enters floor (start_goal p d) d × (d ≤ levels_out (start_goal p d))
-start_levels floor part.Expression d = (omega arith, omega arith)
-start_levels floor part.Assignment d = (omega arith, omega arith)
-start_levels floor _ d = (omega arith, omega arith)
+start_levels : (p : Part) (d : ℕ) → Under (start_goal p d) d × (d ≤ leaves (start_goal p d))
+start_levels part.Expression d = (omega arith, omega arith)
+start_levels part.Assignment d = (omega arith, omega arith)
+start_levels _ d = (omega arith, omega arith)
 
-tighter_levels : (floor : ℕ) (p : Part) (d : ℕ) → Enters floor (tighter p d) d × (d ≤ levels_out (tighter p d))
-tighter_levels floor part.LogicalOr d = (omega arith, omega arith)
-tighter_levels floor part.LogicalAnd d = (omega arith, omega arith)
-tighter_levels floor part.Or d = (omega arith, omega arith)
-tighter_levels floor part.Xor d = (omega arith, omega arith)
-tighter_levels floor part.And d = (omega arith, omega arith)
-tighter_levels floor part.Equality d = (omega arith, omega arith)
-tighter_levels floor part.Relational d = (omega arith, omega arith)
-tighter_levels floor part.Shift d = (omega arith, omega arith)
-tighter_levels floor part.Additive d = (omega arith, omega arith)
-tighter_levels floor _ d = (omega arith, omega arith)
+pub start_under : (p : Part) (d : ℕ) → Under (start_goal p d) (enters (start_goal p d))
+start_under part.Expression d = omega arith
+start_under part.Assignment d = omega arith
+start_under _ d = omega arith
+
+tighter_levels : (p : Part) (d : ℕ) → Under (tighter p d) d × (d ≤ leaves (tighter p d))
+tighter_levels part.LogicalOr d = (omega arith, omega arith)
+tighter_levels part.LogicalAnd d = (omega arith, omega arith)
+tighter_levels part.Or d = (omega arith, omega arith)
+tighter_levels part.Xor d = (omega arith, omega arith)
+tighter_levels part.And d = (omega arith, omega arith)
+tighter_levels part.Equality d = (omega arith, omega arith)
+tighter_levels part.Relational d = (omega arith, omega arith)
+tighter_levels part.Shift d = (omega arith, omega arith)
+tighter_levels part.Additive d = (omega arith, omega arith)
+tighter_levels _ d = (omega arith, omega arith)
 
 operators_fit : (p : Part) → all_fit plain (operators p) ≡ true
 operators_fit part.LogicalOr = refl
@@ -387,6 +456,9 @@ bracket_for_call v subscript_for_call = refl
 none_for_keyword : (v : Word) → StandsIn 1 v → ⊥
 none_for_keyword v z = elim z [ ]
 
+none_for_label : (v : Word) → StandsIn 6 v → ⊥
+none_for_label v z = elim z [ ]
+
 none_for_field : (v : Word) → StandsIn 5 v → ⊥
 none_for_field v z = elim z [ ]
 
@@ -395,69 +467,130 @@ abbrev pub Known : List Lexeme → Goal → Scopes → ℕ → Trees → Scopes 
 Known ts (row p h d) c i t e j = passes ts e j (type_identifier (past_part h t).typed) ≡ false
 Known ts g c i t e j = Unit {0}
 
-module _ (ts : List Lexeme) (floor : ℕ) where
-  abbrev pub Goes : Prog → ℕ → ℕ → Bool → Scopes → ℕ → Type 0
-  Goes = Steady ts (Known ts) floor
+module _ (ts : List Lexeme) where
+  abbrev pub Goes : Bool → Prog → ℕ → ℕ → Bool → Scopes → ℕ → Type 0
+  Goes = Steady ts (Known ts)
 
   -- the words of a table, each with its program
-  words : (g : Manner) (rs : Words) (d : ℕ) (p : Kind → Prog) (q : Prog) (l : ℕ) (o : Bool) (c : Scopes) (i : ℕ) → all_fit g rs ≡ true → ((k : Kind) → Goes (p k) l (levels_behind g d) false c (i + 1)) →
-      Goes q l (levels_at g d) o c i → Goes (choose g rs d p q) l (levels_at g d) o c i
-  words = steady_choose ts (Known ts) floor
+  words : (g : Manner) (rs : Words) (d : ℕ) (p : Kind → Prog) (q : Prog) (l : ℕ) (o : Bool) (c : Scopes) (i : ℕ) → all_fit g rs ≡ true → ((k : Kind) → Goes false (p k) l (levels_behind g d) false c (i + 1)) →
+      Goes false q l (levels_at g d) o c i → Goes false (choose g rs d p q) l (levels_at g d) o c i
+  words = steady_choose ts (Known ts)
 
-  pub steady : (g : Goal) (c : Scopes) (i : ℕ) {b : ℕ} → Enters floor g b → Goes (body g) (levels_out g) (levels_in g) false c i
-  steady (whole p d) c i y = let v = start_levels floor p d in (v.0, λ t e j _. (v.1, by_none none_for_keyword, v.1))
-  steady (expression d) c i y = (omega arith, λ t e j _. (omega arith, λ t' e' j' _. omega arith))
-  steady (commas d s a) c i y = (omega arith, refl, (omega arith, λ t e j _. (omega arith, λ t' e' j' _. omega arith)), omega arith)
-  steady (assignment d) c i y = (
+  -- a declarator of a declaration, and what stands behind it
+  declared_steady : (r : Bool) (h : Context) (d s : ℕ) (x : Trees) (q : ℕ) (a : Trees) (c : Scopes) (i : ℕ) → Goes r (declared_on h d s x q a) d d false c i
+  declared_steady r h d s x q a c i = (omega arith, λ t e j _. (omega arith, refl, (omega arith, λ t' e' j' _. omega arith), (omega arith, refl, omega arith, omega arith)))
+
+  -- a statement without a label
+  unlabelled_steady : (l : Labels) (d s : ℕ) (c : Scopes) (i : ℕ) → Goes false (unlabelled l d s) d d false c i
+  unlabelled_steady l d s c i = (
+    (refl, omega arith),
+    λ q. q,
+    (omega arith, λ t e j _. omega arith),
+    (
+      omega arith,
+      refl,
+      (omega arith, λ t e j _. omega arith),
+      (
+        omega arith,
+        refl,
+        (omega arith, λ t e j _. omega arith),
+        (
+          omega arith,
+          refl,
+          (omega arith, λ t e j _. omega arith),
+          (
+            omega arith,
+            refl,
+            (omega arith, λ t e j _. omega arith),
+            (
+              omega arith,
+              refl,
+              (omega arith, λ t e j _. omega arith),
+              (
+                omega arith,
+                refl,
+                (omega arith, refl, omega arith, omega arith),
+                (
+                  omega arith,
+                  refl,
+                  (omega arith, refl, omega arith, omega arith),
+                  (
+                    omega arith,
+                    refl,
+                    (omega arith, λ t e j _. omega arith),
+                    (omega arith, refl, omega arith, (omega arith, λ t e j _. (omega arith, refl, omega arith, omega arith))),
+                  ),
+                ),
+              ),
+            ),
+          ),
+        ),
+      ),
+    ),
+  )
+
+  labelled_steady : (l : Labels) (d s : ℕ) (c : Scopes) (i : ℕ) → Goes false (labelled l d s (unlabelled l d s)) d d false c i
+  labelled_steady l d s c i = (
+    omega arith,
+    refl,
+    (omega arith, λ t e j _. (omega arith, refl, (omega arith, λ t' e' j' _. omega arith), omega arith)),
+    (omega arith, refl, (omega arith, refl, (omega arith, λ t' e' j' _. omega arith), omega arith), unlabelled_steady l d s c i),
+  )
+
+  pub steady : (g : Goal) (b : ℕ) → Under g b → (c : Scopes) (i : ℕ) → Goes false (body g) (leaves g) (enters g) false c i
+  steady (whole p d) _ _ c i = let v = start_levels p d in (v.0, λ t e j _. (v.1, by_none none_for_keyword, v.1))
+  steady (expression d) _ _ c i = (omega arith, λ t e j _. (omega arith, λ t' e' j' _. omega arith))
+  steady (commas d s a) _ _ c i = (omega arith, refl, (omega arith, λ t e j _. (omega arith, λ t' e' j' _. omega arith)), omega arith)
+  steady (assignment d) _ _ c i = (
     omega arith,
     λ t e j _. (λ u. words opens assignment_operators d (assigned d i t) (give t) d false e j refl (λ k. (omega arith, λ t' e' j' _. omega arith)) (omega arith), λ u. omega arith),
   )
-  steady (conditional d) c i y = (
+  steady (conditional d) _ _ c i = (
     omega arith,
     λ t e j _. (omega arith, refl, (omega arith, λ t' e' j' _. (omega arith, refl, (omega arith, λ t'' e'' j'' _. omega arith), omega arith)), omega arith),
   )
-  steady (binary p d) c i y = let v = tighter_levels floor p d in (v.0, λ t e j _. (v.1, λ t' e' j' _. omega arith))
-  steady (operands p d s a) c i y =
-      let v = tighter_levels floor p d in
+  steady (binary p d) _ _ c i = let v = tighter_levels p d in (v.0, λ t e j _. (v.1, λ t' e' j' _. omega arith))
+  steady (operands p d s a) _ _ c i =
+      let v = tighter_levels p d in
       words plain (operators p) d (operated p d s a) (give a) d false c i (operators_fit p) (λ k. (v.0, λ t e j _. (v.1, λ t' e' j' _. omega arith))) (omega arith)
-  steady (cast d) c i y = (
+  steady (cast d) _ _ c i = (
     omega arith,
     refl,
     (
       (refl, omega arith),
-      inl (λ q. q),
+      λ q. q,
       (omega arith, λ t e j _. (omega arith, refl, (omega arith, by_take (refl, omega arith), (omega arith, λ t' e' j' _. omega arith)), omega arith)),
       (omega arith, λ t e j _. omega arith),
     ),
     (omega arith, λ t e j _. omega arith),
   )
-  steady (unary d) c i y =
+  steady (unary d) _ _ c i =
       words opens unary_prefixes d (prefixed (unary (d + 1)) i) (choose opens cast_prefixes d (prefixed (cast (d + 1)) i) (sized d i)) d false c i refl (λ k. (omega arith, λ t e j _. omega arith))
       (words opens cast_prefixes d (prefixed (cast (d + 1)) i) (sized d i) d false c i refl (λ k. (omega arith, λ t e j _. omega arith))
       (omega arith, refl, (omega arith, λ t e j _. omega arith), (omega arith, λ t e j _. omega arith)))
-  steady (measured d s) c i y = (
+  steady (measured d s) _ _ c i = (
     omega arith,
     refl,
-    ((refl, omega arith), inl (λ q. q), (omega arith, λ t e j _. (omega arith, refl, omega arith, omega arith)), (omega arith, λ t e j _. omega arith)),
+    ((refl, omega arith), λ q. q, (omega arith, λ t e j _. (omega arith, refl, omega arith, omega arith)), (omega arith, λ t e j _. omega arith)),
     (omega arith, λ t e j _. omega arith),
   )
-  steady (postfix d) c i y = (
+  steady (postfix d) _ _ c i = (
     omega arith,
     refl,
     (omega arith, λ t e j _. omega arith),
     words plain constants d (suffixed d i none) (other_primary d i) d false c i refl (λ k. (omega arith, λ t e j _. omega arith))
         (omega arith, refl, (omega arith, λ t e j _. (omega arith, λ t' e' j' _. omega arith)), (omega arith, refl, (omega arith, λ t e j _. omega arith), omega arith)),
   )
-  steady (called d s) c i y = (
+  steady (called d s) _ _ c i = (
     omega arith,
     refl,
     (omega arith, refl, (omega arith, λ t e j _. omega arith), (omega arith, λ t e j _. (omega arith, λ t' e' j' _. omega arith))),
     (omega arith, λ t e j _. omega arith),
   )
-  steady (grouped d s) c i y = (omega arith, λ t e j _. (omega arith, refl, (omega arith, λ t' e' j' _. omega arith), omega arith))
-  steady (texts d) c i y = (omega arith, refl, (omega arith, λ t e j _. omega arith), omega arith)
-  steady (arguments d a) c i y = (omega arith, λ t e j _. (omega arith, refl, (omega arith, λ t' e' j' _. omega arith), (omega arith, refl, omega arith, omega arith)))
-  steady (suffixes d s a) c i y = (
+  steady (grouped d s) _ _ c i = (omega arith, λ t e j _. (omega arith, refl, (omega arith, λ t' e' j' _. omega arith), omega arith))
+  steady (texts d) _ _ c i = (omega arith, refl, (omega arith, λ t e j _. omega arith), omega arith)
+  steady (arguments d a) _ _ c i = (omega arith, λ t e j _. (omega arith, refl, (omega arith, λ t' e' j' _. omega arith), (omega arith, refl, omega arith, omega arith)))
+  steady (suffixes d s a) _ _ c i = (
     omega arith,
     refl,
     (omega arith, λ t e j _. (omega arith, refl, (omega arith, λ t' e' j' _. omega arith), omega arith)),
@@ -473,32 +606,32 @@ module _ (ts : List Lexeme) (floor : ℕ) where
       ),
     ),
   )
-  steady (type_name d) c i y = (omega arith, λ t e j _. ((refl, omega arith), inl (λ q. q), (omega arith, λ t' e' j' _. omega arith), omega arith))
-  steady (row p h d) c i y = (omega arith, λ t e j _. (omega arith, λ t' e' j' _. omega arith))
-  steady (more p h d s a) c i y = ((refl, omega arith), inl (λ q. q), (omega arith, λ t e j _. (omega arith, λ t' e' j' _. omega arith)), omega arith)
-  steady (element p h d) c i y = words plain (specifier_words p) d (λ k. made k i none) (other_element h d i) d false c i (specifiers_fit p) (λ k. omega arith)
+  steady (type_name d) _ _ c i = (omega arith, λ t e j _. ((refl, omega arith), λ q. q, (omega arith, λ t' e' j' _. omega arith), omega arith))
+  steady (row p h d) _ _ c i = (omega arith, λ t e j _. (omega arith, λ t' e' j' _. omega arith))
+  steady (more p h d s a) _ _ c i = ((refl, omega arith), λ q. q, (omega arith, λ t e j _. (omega arith, λ t' e' j' _. omega arith)), omega arith)
+  steady (element p h d) _ _ c i = words plain (specifier_words p) d (λ k. made k i none) (other_element h d i) d false c i (specifiers_fit p) (λ k. omega arith)
       (omega arith, refl, (omega arith, λ t e j _. omega arith), (omega arith, refl, (omega arith, λ t e j _. omega arith), (omega arith, refl, omega arith, omega arith)))
-  steady (structure d s) c i y = (omega arith, refl, (omega arith, refl, (omega arith, λ t e j _. omega arith), omega arith), (omega arith, refl, (omega arith, λ t e j _. omega arith), omega arith))
-  steady (members d s a) c i y = (omega arith, λ t e j _. (omega arith, refl, omega arith, (omega arith, λ t' e' j' _. omega arith)))
-  steady (member d) c i y = (omega arith, λ t e j _. (omega arith, λ t' e' j' _. omega arith))
-  steady (member_declarators h d s a) c i y = (
+  steady (structure d s) _ _ c i = (omega arith, refl, (omega arith, refl, (omega arith, λ t e j _. omega arith), omega arith), (omega arith, refl, (omega arith, λ t e j _. omega arith), omega arith))
+  steady (members d s a) _ _ c i = (omega arith, λ t e j _. (omega arith, refl, omega arith, (omega arith, λ t' e' j' _. omega arith)))
+  steady (member d) _ _ c i = (omega arith, λ t e j _. (omega arith, λ t' e' j' _. omega arith))
+  steady (member_declarators h d s a) _ _ c i = (
     omega arith,
     λ t e j _. (omega arith, by_none none_for_field, (omega arith, refl, (omega arith, λ t' e' j' _. omega arith), (omega arith, refl, omega arith, omega arith))),
   )
-  steady (enumeration d s) c i y = (omega arith, refl, (omega arith, refl, (omega arith, λ t e j _. omega arith), omega arith), (omega arith, refl, (omega arith, λ t e j _. omega arith), omega arith))
-  steady (enumerators d s a) c i y = (
+  steady (enumeration d s) _ _ c i = (omega arith, refl, (omega arith, refl, (omega arith, λ t e j _. omega arith), omega arith), (omega arith, refl, (omega arith, λ t e j _. omega arith), omega arith))
+  steady (enumerators d s a) _ _ c i = (
     omega arith,
     λ t e j _. (omega arith, refl, (omega arith, refl, omega arith, (omega arith, λ t' e' j' _. omega arith)), (omega arith, refl, omega arith, omega arith)),
   )
-  steady (enumerator d) c i y = (omega arith, refl, (omega arith, refl, (omega arith, λ t e j _. omega arith), omega arith), omega arith)
-  steady (consts d) c i y = (omega arith, refl, (omega arith, λ t e j _. omega arith), omega arith)
-  steady (declarator w h d) c i y = (
+  steady (enumerator d) _ _ c i = (omega arith, refl, (omega arith, refl, (omega arith, λ t e j _. omega arith), omega arith), omega arith)
+  steady (consts d) _ _ c i = (omega arith, refl, (omega arith, λ t e j _. omega arith), omega arith)
+  steady (declarator w h d) _ _ c i = (
     omega arith,
     refl,
     (
       omega arith,
       λ t e j _. (
-        λ o. ((refl, omega arith), inl (behind_star ts w h (d + 1) e j o), (omega arith, λ t' e' j' _. (λ y. omega arith, λ y. omega arith)), omega arith),
+        λ o. ((refl, omega arith), behind_star ts w h (d + 1) e j o, (omega arith, λ t' e' j' _. (λ y. omega arith, λ y. omega arith)), omega arith),
         λ o. (omega arith, λ t' e' j' _. (λ y. omega arith, λ y. omega arith)),
       ),
     ),
@@ -510,9 +643,9 @@ module _ (ts : List Lexeme) (floor : ℕ) where
     ),
   )
     where
-      arrays : Goes (array_start w d i) d d false c i
+      arrays : Goes false (array_start w d i) d d false c i
       arrays = (λ o. (omega arith, refl, (omega arith, λ t e j _. (omega arith, λ t' e' j' _. omega arith)), omega arith), λ o. omega arith)
-  steady (declarator_suffixes d s a) c i y = (
+  steady (declarator_suffixes d s a) _ _ c i = (
     omega arith,
     refl,
     (omega arith, λ t e j _. (omega arith, λ t' e' j' _. omega arith)),
@@ -523,8 +656,104 @@ module _ (ts : List Lexeme) (floor : ℕ) where
       omega arith,
     ),
   )
-  steady (abstract_suffixes d s a) c i y = (omega arith, refl, (omega arith, λ t e j _. (omega arith, λ t' e' j' _. omega arith)), omega arith)
-  steady (size d) c i y = (omega arith, refl, omega arith, (omega arith, λ t e j _. (omega arith, refl, omega arith, omega arith)))
-  steady (parameters d) c i y = (omega arith, λ t e j _. (omega arith, λ t' e' j' _. omega arith))
-  steady (more_parameters d s a) c i y = (omega arith, refl, (omega arith, refl, omega arith, (omega arith, λ t e j _. (omega arith, λ t' e' j' _. omega arith))), omega arith)
-  steady (parameter d) c i y = (omega arith, λ t e j z. ((refl, omega arith), inl (λ q. (q, z)), (omega arith, λ t' e' j' _. (λ u. omega arith, λ u. omega arith)), omega arith))
+  steady (abstract_suffixes d s a) _ _ c i = (omega arith, refl, (omega arith, λ t e j _. (omega arith, λ t' e' j' _. omega arith)), omega arith)
+  steady (size d) _ _ c i = (omega arith, refl, omega arith, (omega arith, λ t e j _. (omega arith, refl, omega arith, omega arith)))
+  steady (parameters d) _ _ c i = (omega arith, λ t e j _. (omega arith, λ t' e' j' _. omega arith))
+  steady (more_parameters d s a) _ _ c i = (omega arith, refl, (omega arith, refl, omega arith, (omega arith, λ t e j _. (omega arith, λ t' e' j' _. omega arith))), omega arith)
+  steady (parameter d) _ _ c i = (omega arith, λ t e j y. ((refl, omega arith), λ q. (q, y), (omega arith, λ t' e' j' _. (λ u. omega arith, λ u. omega arith)), omega arith))
+  steady (unit l d) b y c i = absurd y
+  steady (externals l d x) b y c i = absurd y
+  steady (external l d) b y c i = absurd y
+  steady (declaration d) _ _ c i = (omega arith, λ t e j _. (omega arith, refl, omega arith, (omega arith, λ t' e' j' _. omega arith)))
+  steady (init_declarators h d s x) _ _ c i = (omega arith, λ t e j _. declared_steady false h d s x i t e j)
+  steady (initialized d q x) _ _ c i = (omega arith, refl, (omega arith, λ t e j _. omega arith), omega arith)
+  steady (initializer d) _ _ c i = (omega arith, by_take (omega arith, refl, (refl, omega arith)), (omega arith, refl, (omega arith, λ t e j _. omega arith), (omega arith, λ t e j _. omega arith)))
+  steady (initializers d s x) _ _ c i = (
+    omega arith,
+    λ t e j _. (omega arith, refl, (omega arith, refl, omega arith, (omega arith, λ t' e' j' _. omega arith)), (omega arith, refl, omega arith, omega arith)),
+  )
+  steady (statement l d) _ _ c i = (λ v. labelled_steady l d i c i, λ v. (omega arith, by_none none_for_label, unlabelled_steady l d i c i))
+  steady (block l d) _ _ c i = (omega arith, λ t e j _. omega arith)
+  steady (if_rest l d s) _ _ c i = (
+    omega arith,
+    refl,
+    (
+      omega arith,
+      λ t e j _. (
+        omega arith,
+        refl,
+        (omega arith, λ t' e' j' _. (λ v. omega arith, λ v. (omega arith, refl, (omega arith, λ t'' e'' j'' _. omega arith), omega arith))),
+        omega arith,
+      ),
+    ),
+    omega arith,
+  )
+  steady (switch_rest l d s) _ _ c i = (
+    omega arith,
+    refl,
+    (
+      omega arith,
+      λ t e j _. (
+        omega arith,
+        refl,
+        (omega arith, by_none none_for_label, (omega arith, by_take (λ c'. (refl, omega arith)), (omega arith, λ t' e' j' _. omega arith))),
+        omega arith,
+      ),
+    ),
+    omega arith,
+  )
+  steady (while_rest l d s) _ _ c i = (omega arith, refl, (omega arith, λ t e j _. (omega arith, refl, (omega arith, λ t' e' j' _. omega arith), omega arith)), omega arith)
+  steady (do_rest l d s) _ _ c i = (
+    omega arith,
+    λ t e j _. (
+      omega arith,
+      refl,
+      (omega arith, refl, (omega arith, λ t' e' j' _. (omega arith, refl, (omega arith, refl, omega arith, omega arith), omega arith)), omega arith),
+      omega arith,
+    ),
+  )
+  steady (for_rest l d s) _ _ c i = (
+    omega arith,
+    refl,
+    (
+      (refl, omega arith),
+      λ q. q,
+      (omega arith, λ t e j _. (omega arith, λ t' e' j' _. omega arith)),
+      (omega arith, λ t e j _. (omega arith, λ t' e' j' _. omega arith)),
+    ),
+    omega arith,
+  )
+  steady (return_rest d s) _ _ c i = (omega arith, refl, omega arith, (omega arith, λ t e j _. (omega arith, refl, omega arith, omega arith)))
+  steady (for_clauses l d s x) _ _ c i = (
+    omega arith,
+    λ t e j _. (
+      omega arith,
+      refl,
+      (omega arith, λ t' e' j' _. omega arith),
+      (omega arith, λ t' e' j' _. (omega arith, refl, (omega arith, λ t'' e'' j'' _. omega arith), omega arith)),
+    ),
+  )
+  steady (clause d) _ _ c i = (omega arith, refl, omega arith, (omega arith, λ t e j _. (omega arith, refl, omega arith, omega arith)))
+  steady (compound l d) _ _ c i = (omega arith, refl, (omega arith, λ t e j _. omega arith), omega arith)
+  steady (items l d s x) _ _ c i = (omega arith, refl, omega arith, (omega arith, λ t e j _. (omega arith, λ t' e' j' _. omega arith)))
+  steady (item l d) _ _ c i = ((refl, omega arith), λ q. q, (omega arith, λ t e j _. omega arith), (omega arith, λ t e j _. omega arith))
+
+  -- an external definition, in which the `...` of a function may be refused
+  pub steady_external : (l : Labels) (d : ℕ) (c : Scopes) (i : ℕ) → Goes true (body (external l d)) (leaves (external l d)) (enters (external l d)) false c i
+  steady_external l d c i = (
+    omega arith,
+    λ t e j _. (
+      omega arith,
+      refl,
+      omega arith,
+      (
+        omega arith,
+        λ t' e' j' _. (
+          (λ v c' f. (refl, omega arith), λ v. tt),
+          λ q. (λ v. q, λ v. tt),
+          (λ v. (omega arith, λ t'' e'' j'' _. omega arith), λ v. refl),
+          declared_steady true (past_part fresh t) d i (t & none) j t' e' j',
+        ),
+      ),
+    ),
+  )

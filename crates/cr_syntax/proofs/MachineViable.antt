@@ -25,7 +25,7 @@ use Rattle.cr_syntax.proofs.MachineKept.{Kept, runs_kept}
 use Rattle.cr_syntax.proofs.MachineMeans.{Means, start_part}
 use Rattle.cr_syntax.proofs.MachineSound.{each}
 use Rattle.cr_syntax.proofs.MachineComplete.{allows_upto}
-use Rattle.cr_syntax.proofs.MachineEnds.{Way, stopped, barring, crowded, Ends, end_stop, end_take, end_crowded, end_pass, end_bar, end_free, end_seen, end_unseen, end_yes, end_no, end_here, end_look, end_set, end_bring, end_behind, end_inside, ends_so}
+use Rattle.cr_syntax.proofs.MachineEnds.{Way, stopped, barring, crowded, defining, Ends, end_stop, end_refuse, end_take, end_crowded, end_pass, end_bar, end_free, end_seen, end_unseen, end_yes, end_no, end_here, end_look, end_set, end_bring, end_behind, end_inside, ends_so}
 use Rattle.cr_syntax.proofs.MachineExtend.{Front}
 use Rattle.cr_syntax.proofs.MachineRuns.{passes_same}
 use Rattle.cr_syntax.proofs.MachineShown.{Next, next_literal, next_call, next_field, Shown, shown_literal, shown_call, shown_field, by_stop, by_level}
@@ -107,11 +107,13 @@ leaving_before k most reopens i d lt w = (λ e. absurd (omega arith), λ lt'. w.
 -- a token that a row or a level refuses passes a test
 abbrev Tested : List Lexeme → ℕ → Way → Type 0
 Tested ts k (stopped d) = Unit {0}
+Tested ts k (defining m) = Unit {0}
 Tested ts k (barring x n d) = (e : Scopes) × (passes ts e k x ≡ true)
 Tested ts k crowded = (x : Test) × (e : Scopes) × (passes ts e k x ≡ true)
 
 tested : {ts : List Lexeme} {limit : Limit} {p : Prog} {c : Scopes} {i k : ℕ} {w : Way} → Ends body ts limit p c i w k → Tested ts k w
 tested end_stop = tt
+tested end_refuse = tt
 tested (end_take v w h) = tested h
 tested {c = c} (end_crowded {x = x} v w) = (x, c, v)
 tested (end_pass v h) = tested h
@@ -171,8 +173,12 @@ module _ (ts : List Lexeme) (most n : ℕ) (le : n ≤ length ts) (top : Limit) 
       ((g : Manner) (i d : ℕ) → i < k → Allows (AtMost most) g i d → Allows top g i d) → Grown us top way (a s.part) fresh s.scopes s.depth s.at
   goes_on s k z h far r lim = subst (λ p. Grown us top way (a p) fresh s.scopes s.depth s.at) (start_is z)
       (start_via us top way late s.part s.depth s.scopes s.at
-      (viable body ts us (AtMost most) top Kept (Means us top) (Via us top way late) (Stops us top way late) (Bars us top way late) (Crowds us top way late) runs_kept (each us top) (λ i d. tt) (owes us top way late)
-      h (Via us top way late (start_goal s.part s.depth) s.scopes s.at) r (λ i lt. prefix_get n ts i (omega arith)) lim (owes us top way late (start_goal s.part s.depth) s.scopes s.at)) fresh)
+      (elim (owes us top way late (start_goal s.part s.depth) s.scopes s.at) [
+        | inl v ↦ v
+        | inr o ↦
+            viable body ts us (AtMost most) top Kept (Means us top) (Via us top way late) (Stops us top way late) (Bars us top way late) (Crowds us top way late) runs_kept (each us top) (λ i d. tt) (owes us top way late)
+            h (Via us top way late (start_goal s.part s.depth) s.scopes s.at) r (λ i lt. prefix_get n ts i (omega arith)) lim o
+      ]) fresh)
 
   -- the text has the same tokens before token n
   alike : (all : List Lexeme) → Front us all → (i : ℕ) (x : Lexeme) → i < n → slice_get ts i ≡ Some x → slice_get all i ≡ Some x
@@ -231,6 +237,12 @@ module _ (ts : List Lexeme) (most k : ℕ) (le : k ≤ length ts) (s : Start) (z
   -- where the program stops: a text goes on, with as many levels as it says
   pub stopped_begins : (m : ℕ) → EndsBy (stopped m) → BeginsFrom (Upto k most) ts s k
   stopped_begins m h = let g = stop_grown m h in record { trees = g.built.0; continues = continues ts most k le (Upto k most) (stopped m) (upto_late k (omega arith)) s g }
+
+  -- no expression is refused for a definition
+  pub never_defining : (m : ℕ) → EndsBy (defining m) → ⊥
+  never_defining m h =
+      let g = goes_on ts most k le (Upto k most) (defining m) (upto_late k (omega arith)) s k z h (omega arith) (prefix_length k ts le) (λ g i d lt w. allows_upto k most g i d w) in
+      elim g.next [ ]
 
   pub stopped_leaves : (m : ℕ) → EndsBy (stopped m) → m < most → BeginsFrom (Leaving k most) ts s k
   stopped_leaves m h y =
@@ -307,4 +319,5 @@ begins_before ts most k le s x z h = let y = ends_so h in by y.way y.ends
     by : (w : Way) → Ends body ts (AtMost most) (body (start_goal s.part s.depth)) s.scopes s.at w k → BeginsFrom (Upto k most) ts s k
     by (stopped d) y = stopped_begins ts most k le s z d y
     by (barring t n d) y = barred_begins ts most k le s z t n d y
+    by (defining m) y = absurd (never_defining ts most k le s z m y)
     by crowded y = begins_less (crowded_begins ts most k le s z y (crowded_inside y))

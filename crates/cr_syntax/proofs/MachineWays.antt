@@ -5,7 +5,7 @@ use Rattle.cr_syntax.specs.Scopes.{Scopes}
 use Rattle.cr_syntax.specs.Spells.{Limit}
 use Rattle.cr_syntax.specs.Machine.{Goal, Prog}
 use Rattle.cr_syntax.proofs.MachineRuns.{again, same}
-use Rattle.cr_syntax.proofs.MachineEnds.{Way, Ends, refused_so, end_stop, end_take, end_crowded, end_pass, end_bar, end_free, end_seen, end_unseen, end_yes, end_no, end_here, end_look, end_set, end_bring, end_behind, end_inside}
+use Rattle.cr_syntax.proofs.MachineEnds.{Way, Ends, refused_so, end_stop, end_refuse, end_take, end_crowded, end_pass, end_bar, end_free, end_seen, end_unseen, end_yes, end_no, end_here, end_look, end_set, end_bring, end_behind, end_inside}
 
 -- a way and its token
 pub data Point : Type 0 where
@@ -14,6 +14,7 @@ pub data Point : Type 0 where
 pub same_way : {body : Goal → Prog} {ts : List Lexeme} {limit : Limit} {p : Prog} {c : Scopes} {i k k' : ℕ} {w w' : Way} →
     Ends body ts limit p c i w k → Ends body ts limit p c i w' k' → at w k ≡ at w' k'
 same_way end_stop end_stop = refl
+same_way end_refuse end_refuse = refl
 same_way (end_take x v z) (end_take x' v' z') = same_way z z'
 same_way (end_take x v z) (end_crowded x' v') = absurd (v' v)
 same_way (end_take x v z) (end_pass x' z') = cc

@@ -13,6 +13,7 @@
 --   call      another function, and what to do with its trees; the first refusal ends all
 --   look, set, begins, drops, bring     the scopes, which the code keeps in one list
 --   give, stop     the answer, or the refusal of the next token where so many levels are open
+--   refuse    the `...` that was read belongs to a function definition
 -- A loop of the grammar is a goal that has what was read so far as an argument, and the code writes it as a loop.
 -- There is no fuel: the code ends, so a run exists, and no goal has two.
 use Rattle.std.specs.Prelude.{◌≡◌, ℕ, ◌+◌, Bool, true, false, not, ◌||◌, ◌&&◌, if◌then◌else◌, nat_lt, List, [], ◌∷◌, None, Some}
@@ -34,6 +35,13 @@ pub data Wanted : Type 0 where
   named : Wanted
   unnamed : Wanted
   either : Wanted
+
+-- Where `case` and `default` may label a statement: anywhere, as the grammar alone has it; or, as the subset has it, here,
+-- among the items of a switch's own block; or not here.
+pub data Labels : Type 0 where
+  anywhere : Labels
+  own_block : Labels
+  nowhere : Labels
 
 -- What a function of the parser reads. The first number is that of the levels open where it begins; of a loop, and of the
 -- rest of a node, it is that of the levels open at the node. Then come the node's first token and the trees read so far.
@@ -86,6 +94,34 @@ pub data Goal : Type 0 where
   parameters : ℕ → Goal
   more_parameters : ℕ → ℕ → Trees → Goal
   parameter : ℕ → Goal
+  -- external definitions (6.9): a unit, those behind the ones read, one of them
+  unit : Labels → ℕ → Goal
+  externals : Labels → ℕ → Trees → Goal
+  external : Labels → ℕ → Goal
+  -- declarations (6.7): one, its declarators, and behind a declarator an initializer or none (6.7.9)
+  declaration : ℕ → Goal
+  init_declarators : Context → ℕ → ℕ → Trees → Goal
+  initialized : ℕ → ℕ → Trees → Goal
+  initializer : ℕ → Goal
+  -- behind the `{` of a list of initializers
+  initializers : ℕ → ℕ → Trees → Goal
+  -- statements (6.8), and a statement that is a block by itself
+  statement : Labels → ℕ → Goal
+  block : Labels → ℕ → Goal
+  -- behind the keyword of a statement (6.8.4, 6.8.5, 6.8.6)
+  if_rest : Labels → ℕ → ℕ → Goal
+  switch_rest : Labels → ℕ → ℕ → Goal
+  while_rest : Labels → ℕ → ℕ → Goal
+  do_rest : Labels → ℕ → ℕ → Goal
+  for_rest : Labels → ℕ → ℕ → Goal
+  return_rest : ℕ → ℕ → Goal
+  -- of a `for`: what stands behind its first clause, and a clause with its `;`
+  for_clauses : Labels → ℕ → ℕ → Trees → Goal
+  clause : ℕ → Goal
+  -- a block, its items, and one of them (6.8.2)
+  compound : Labels → ℕ → Goal
+  items : Labels → ℕ → ℕ → Trees → Goal
+  item : Labels → ℕ → Goal
 
 -- A test of the next token in the scopes.
 pub data Test : Type 0 where
@@ -129,6 +165,8 @@ Allows limit reopens i d = Stands limit i (d + 1) × Within limit i d
 pub data Prog : Type 0 where
   give : Trees → Prog
   stop : ℕ → Prog
+  -- a token before is refused, since the next one shows that a function with `...` is defined
+  refuse : ℕ → Prog
   take : Manner → Test → ℕ → Prog → Prog → Prog
   bar : Test → ℕ → ℕ → Prog → Prog
   peek : Test → Prog → Prog → Prog
@@ -146,6 +184,8 @@ pub data Cause : Type 0 where
   ended : Cause
   too_deep : Cause
   outside : ℕ → Cause
+  -- the `...` with this number, seen only at a token behind it
+  variadic : ℕ → Cause
 
 -- What a program answers: the trees, the scopes after them and the token after them, or a refusal and its token.
 pub data Reply : Type 0 where
@@ -157,6 +197,7 @@ refusal_of unexpected k = Unexpected k
 refusal_of ended k = Ended
 refusal_of too_deep k = TooDeep k
 refusal_of (outside n) k = OutsideSubset k n
+refusal_of (variadic m) k = OutsideSubset m 8
 
 abbrev pub is_bracket : Word → Bool
 is_bracket word.LeftParen = true
@@ -190,6 +231,7 @@ brought ts i k type = record { name = name_before ts i k; is_type = type }
 pub data Runs (body : Goal → Prog) (ts : List Lexeme) (limit : Limit) : Prog → Scopes → ℕ → Reply → Type 0 where
   run_give : {t : Trees} {c : Scopes} {i : ℕ} → Runs body ts limit (give t) c i (Done t c i)
   run_stop : {d : ℕ} {c : Scopes} {i : ℕ} → Runs body ts limit (stop d) c i (Failed (verdict ts i d) i)
+  run_refuse : {k : ℕ} {c : Scopes} {i : ℕ} → Runs body ts limit (refuse k) c i (Failed (variadic k) i)
   -- a token
   run_take : {m : Manner} {x : Test} {d : ℕ} {p q : Prog} {c : Scopes} {i : ℕ} {r : Reply} →
       passes ts c i x ≡ true → Allows limit m i d → Runs body ts limit p c (i + 1) r → Runs body ts limit (take m x d p q) c i r

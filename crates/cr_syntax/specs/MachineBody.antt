@@ -1,6 +1,5 @@
--- The programs of the machine for expressions and all that they draw in. Statements and external declarations are to
--- follow as further goals.
-use Rattle.std.specs.Prelude.{ℕ, ◌+◌, Bool, true, false, if◌then◌else◌, List, [], ◌∷◌, ◌++◌}
+-- The programs of the machine, one for each goal.
+use Rattle.std.specs.Prelude.{ℕ, ◌+◌, ◌-◌, Bool, true, false, not, if◌then◌else◌, List, [], ◌∷◌, ◌++◌}
 use Rattle.cr_syntax.specs.declared.word.Word.{Word}
 use Rattle.cr_syntax.specs.declared.word.Word.TheVariants as word
 use Rattle.cr_syntax.specs.declared.node.Kind.{Kind}
@@ -10,10 +9,11 @@ use Rattle.cr_syntax.specs.declared.symbol.Part.TheVariants as part
 use Rattle.cr_syntax.specs.declared.shape.Base.TheVariants.{ItsName, InBrackets, Derived, NoDeclarator}
 use Rattle.cr_syntax.specs.declared.symbol.Context.{Context}
 use Rattle.cr_syntax.specs.Trees.{Trees, none, node, one, ◌&◌}
-use Rattle.cr_syntax.specs.Context.{fresh, past_token, past_part, is_bare, base_of}
-use Rattle.cr_syntax.specs.Units.{is_unused}
-use Rattle.cr_syntax.specs.Machine.{Goal, Prog, Test, Wanted, named, unnamed, either, plain, opens, reopens, the, has, ordinary, type_identifier, declared, or, give, stop, take, bar, peek, when, here, look, set, bring, call, expect, choose, into, made, begins, drops, innermost_of, around}
+use Rattle.cr_syntax.specs.Context.{fresh, past_token, past_part, is_bare, base_of, ends_open}
+use Rattle.cr_syntax.specs.Units.{is_unused, own_parameters}
+use Rattle.cr_syntax.specs.Machine.{Goal, Prog, Test, Wanted, named, unnamed, either, Labels, anywhere, own_block, nowhere, plain, opens, reopens, the, has, ordinary, type_identifier, declared, or, give, stop, refuse, take, bar, peek, when, here, look, set, bring, call, expect, choose, into, made, begins, drops, innermost_of, around}
 use Rattle.cr_syntax.specs.Machine.{whole, expression, commas, assignment, conditional, binary, operands, cast, unary, measured, postfix, called, grouped, texts, arguments, suffixes, type_name, row, more, element, structure, members, member, member_declarators, enumeration, enumerators, enumerator, consts, declarator, declarator_suffixes, abstract_suffixes, size, parameters, more_parameters, parameter}
+use Rattle.cr_syntax.specs.Machine.{unit, externals, external, declaration, init_declarators, initialized, initializer, initializers, statement, block, if_rest, switch_rest, while_rest, do_rest, for_rest, return_rest, for_clauses, clause, compound, items, item}
 
 -- a table of words and the kinds of node that they make
 abbrev pub Words : Type 0
@@ -288,6 +288,150 @@ member_end h d s a t = bar (the word.Colon) 5 d
     (take plain (the word.Comma) d (call (member_declarators (past_token h) d s (a & t & none)) give)
     (expect plain word.Semicolon d (made kind.MemberDeclaration s (a & t & none))))
 
+-- Declarations and statements.
+
+-- the word with which a declaration begins, where a statement may begin too
+abbrev pub declaration_start : Test
+declaration_start = element_start part.Specifiers false
+
+-- the words of a designator (6.7.9)
+abbrev pub is_designator : Word → Bool
+is_designator word.Dot = true
+is_designator word.LeftBracket = true
+is_designator _ = false
+
+-- the keywords of a switch's labels (6.8.1)
+abbrev pub is_label : Word → Bool
+is_label word.Case = true
+is_label word.Default = true
+is_label _ = false
+
+-- the words with which another statement than a block, a label or one that begins with an identifier begins (6.8, 6.5)
+abbrev pub is_statement_start : Word → Bool
+is_statement_start word.Semicolon = true
+is_statement_start word.If = true
+is_statement_start word.Switch = true
+is_statement_start word.While = true
+is_statement_start word.Do = true
+is_statement_start word.For = true
+is_statement_start word.Break = true
+is_statement_start word.Continue = true
+is_statement_start word.Return = true
+is_statement_start word.PlusPlus = true
+is_statement_start word.MinusMinus = true
+is_statement_start word.Ampersand = true
+is_statement_start word.Star = true
+is_statement_start word.Plus = true
+is_statement_start word.Minus = true
+is_statement_start word.Tilde = true
+is_statement_start word.Bang = true
+is_statement_start word.Sizeof = true
+is_statement_start word.Integer = true
+is_statement_start word.Character = true
+is_statement_start word.Text = true
+is_statement_start word.LeftParen = true
+is_statement_start _ = false
+
+abbrev pub statement_start : Test
+statement_start = or (has is_statement_start) ordinary
+
+-- whether some token stands there
+abbrev pub is_any : Word → Bool
+is_any w = true
+
+-- where labels may stand in the parts of a statement, and in a switch's own block
+abbrev pub inside : Labels → Labels
+inside anywhere = anywhere
+inside _ = nowhere
+
+abbrev pub in_switch : Labels → Labels
+in_switch anywhere = anywhere
+in_switch _ = own_block
+
+abbrev pub may_label : Labels → Bool
+may_label nowhere = false
+may_label _ = true
+
+-- whether a function's own parameters end in `...`, and which token that is
+abbrev pub ends_variadic : Trees → Bool
+ends_variadic (node kind.VariadicParameters i j a n) = true
+ends_variadic _ = false
+
+abbrev pub is_variadic : Trees → Bool
+is_variadic a = ends_variadic (own_parameters a)
+
+abbrev pub last_token : Trees → ℕ
+last_token none = 0
+last_token (node k i j a n) = j - 1
+
+-- A function definition may have `...` only where the grammar alone is asked.
+abbrev pub may_define : Labels → Trees → Bool
+may_define anywhere a = true
+may_define _ a = not (is_variadic a)
+
+-- the name of a declarator a enters the scope around that of its own parameters, which ends, or goes on
+abbrev pub declares : Context → Trees → Prog → Prog
+declares h a p = drops (bring (past_part h a).name (past_part h a).type_name p)
+
+abbrev pub enters : Context → Trees → Prog → Prog
+enters h a p = look (λ c. set (around c) (bring (past_part h a).name (past_part h a).type_name (look (λ e. set (innermost_of c ∷ e) p))))
+
+-- the body of a function whose specifiers t and declarator a were read
+abbrev pub defined : Labels → ℕ → ℕ → Trees → Trees → Prog
+defined l d s t a = when (may_define l a)
+    (enters (past_part fresh t) a (call (compound (inside l) d) (λ b. drops (made kind.FunctionDefinition s (t & a & b & none)))))
+    (refuse (last_token (own_parameters a)))
+
+-- behind a declarator with its initializer: another one, or the end of the declaration
+abbrev pub declaration_end : Context → ℕ → ℕ → Trees → Trees → Prog
+declaration_end h d s x t =
+    take plain (the word.Comma) d (call (init_declarators (past_token h) d s (x & t & none)) give)
+    (expect plain word.Semicolon d (made kind.Declaration s (x & t & none)))
+
+-- a declarator a from token q on, in a declaration from token s on: its name enters, and what stands behind it
+abbrev pub declared_on : Context → ℕ → ℕ → Trees → ℕ → Trees → Prog
+declared_on h d s x q a = declares h a (call (initialized d q a) (λ t. declaration_end h d s x t))
+
+-- an `if` with a condition a and a branch b, at whose end its scope ends
+abbrev pub without_else : ℕ → Trees → Trees → Prog
+without_else s a b = drops (made kind.If s (a & b & none))
+
+-- an `if` whose condition a and first branch b were read: an `else` that comes is its own, but behind a branch that ends in
+-- an `if` without one (6.8.4.1p3)
+abbrev pub if_end : Labels → ℕ → ℕ → Trees → Trees → Prog
+if_end l d s a b = when (ends_open b) (without_else s a b) (take opens (the word.Else) d
+    (call (block (inside l) (d + 1)) (λ c. drops (made kind.If s (a & b & c & none))))
+    (without_else s a b))
+
+-- a switch whose controlling expression a was read: its body is a block
+abbrev pub switch_body : Labels → ℕ → ℕ → Trees → Prog
+switch_body l d s a = bar (has is_label) 6 (d + 1) (bar statement_start 7 (d + 1)
+    (begins (call (compound (in_switch l) (d + 1)) (λ b. drops (drops (made kind.Switch s (a & b & none)))))))
+
+-- a `for` whose clauses x were read: its body
+abbrev pub for_body : Labels → ℕ → ℕ → Trees → Prog
+for_body l d s x = call (block (inside l) (d + 1)) (λ b. drops (made kind.For s (x & b & none)))
+
+-- a labelled statement, or another one
+abbrev pub labelled : Labels → ℕ → ℕ → Prog → Prog
+labelled l d s p =
+    take plain (the word.Case) d (call (conditional d) (λ a. expect opens word.Colon d (call (statement l (d + 1)) (λ b. made kind.Case s (a & b & none)))))
+    (take plain (the word.Default) d (expect opens word.Colon d (call (statement l (d + 1)) (λ b. made kind.Default s (b & none)))) p)
+
+abbrev pub unlabelled : Labels → ℕ → ℕ → Prog
+unlabelled l d s =
+    peek (the word.LeftBrace) (call (compound (inside l) d) give)
+    (take plain (the word.If) d (call (if_rest l d s) give)
+    (take plain (the word.Switch) d (call (switch_rest l d s) give)
+    (take plain (the word.While) d (call (while_rest l d s) give)
+    (take opens (the word.Do) d (call (do_rest l d s) give)
+    (take plain (the word.For) d (call (for_rest l d s) give)
+    (take plain (the word.Break) d (expect plain word.Semicolon d (made kind.Break s none))
+    (take plain (the word.Continue) d (expect plain word.Semicolon d (made kind.Continue s none))
+    (take plain (the word.Return) d (call (return_rest d s) give)
+    (take plain (the word.Semicolon) d (made kind.ExpressionStatement s none)
+    (call (expression d) (λ a. expect plain word.Semicolon d (made kind.ExpressionStatement s (a & none)))))))))))))
+
 abbrev pub body : Goal → Prog
 body (whole p d) = call (start_goal p d) (λ t. bar (has is_unused) 1 d (give t))
 -- 6.5.17
@@ -402,3 +546,45 @@ body (parameter d) = here (λ s. call (row part.Specifiers fresh d) (λ t. peek 
     (drops (bring (past_part (past_part fresh t) a).name (past_part (past_part fresh t) a).type_name (made kind.Parameter s (t & a & none))))
     (made kind.Parameter s (t & a & none))))
     (give t)))
+-- 6.9
+body (unit l d) = call (external l d) (λ t. call (externals l d (t & none)) give)
+body (externals l d x) = peek (has is_any) (call (external l d) (λ t. call (externals l d (x & t & none)) give)) (give x)
+body (external l d) = here (λ s. call (row part.Specifiers fresh d) (λ t.
+    take plain (the word.Semicolon) d (made kind.Declaration s (t & none))
+    (here (λ q. call (declarator named (past_part fresh t) d) (λ a.
+    peek (the word.LeftBrace) (defined l d s t a) (declared_on (past_part fresh t) d s (t & none) q a))))))
+-- 6.7
+body (declaration d) = here (λ s. call (row part.Specifiers fresh d) (λ t.
+    take plain (the word.Semicolon) d (made kind.Declaration s (t & none)) (call (init_declarators (past_part fresh t) d s (t & none)) give)))
+body (init_declarators h d s x) = here (λ q. call (declarator named h d) (λ a. declared_on h d s x q a))
+body (initialized d q a) = take plain (the word.Equal) d (call (initializer d) (λ t. made kind.InitDeclarator q (a & t & none))) (give a)
+-- 6.7.9
+body (initializer d) = here (λ s. bar (has is_designator) 2 d (take opens (the word.LeftBrace) d (call (initializers d s none) give) (call (assignment d) give)))
+body (initializers d s x) = call (initializer (d + 1)) (λ t.
+    take plain (the word.Comma) (d + 1)
+    (take plain (the word.RightBrace) (d + 1) (made kind.InitializerList s (x & t & none)) (call (initializers d s (x & t & none)) give))
+    (expect plain word.RightBrace (d + 1) (made kind.InitializerList s (x & t & none))))
+-- 6.8, 6.8.1, 6.8.3
+body (statement l d) = here (λ s. when (may_label l) (labelled l d s (unlabelled l d s)) (bar (has is_label) 6 d (unlabelled l d s)))
+body (block l d) = begins (call (statement l d) (λ t. drops (give t)))
+-- 6.8.4
+body (if_rest l d s) = begins (expect opens word.LeftParen d (call (expression (d + 1)) (λ a. expect reopens word.RightParen d
+    (call (block (inside l) (d + 1)) (λ b. if_end l d s a b)))))
+body (switch_rest l d s) = begins (expect opens word.LeftParen d (call (expression (d + 1)) (λ a. expect reopens word.RightParen d (switch_body l d s a))))
+-- 6.8.5
+body (while_rest l d s) = begins (expect opens word.LeftParen d (call (expression (d + 1)) (λ a. expect reopens word.RightParen d
+    (call (block (inside l) (d + 1)) (λ b. drops (made kind.While s (a & b & none)))))))
+body (do_rest l d s) = begins (call (block (inside l) (d + 1)) (λ a. expect plain word.While d (expect opens word.LeftParen d (call (expression (d + 1)) (λ b.
+    expect plain word.RightParen (d + 1) (expect plain word.Semicolon d (drops (made kind.Do s (a & b & none)))))))))
+body (for_rest l d s) = begins (expect opens word.LeftParen d (peek declaration_start
+    (call (declaration (d + 1)) (λ t. call (for_clauses l d s (t & none)) give))
+    (call (clause (d + 1)) (λ t. call (for_clauses l d s t) give))))
+body (for_clauses l d s x) = call (clause (d + 1)) (λ t. take reopens (the word.RightParen) d (for_body l d s (x & t))
+    (call (expression (d + 1)) (λ u. expect reopens word.RightParen d (for_body l d s (x & t & u & none)))))
+body (clause d) = take plain (the word.Semicolon) d (give none) (call (expression d) (λ t. expect plain word.Semicolon d (give (t & none))))
+-- 6.8.6
+body (return_rest d s) = take plain (the word.Semicolon) d (made kind.Return s none) (call (expression d) (λ a. expect plain word.Semicolon d (made kind.Return s (a & none))))
+-- 6.8.2
+body (compound l d) = here (λ s. begins (expect opens word.LeftBrace d (call (items l d s none) (λ t. drops (give t)))))
+body (items l d s x) = take plain (the word.RightBrace) (d + 1) (made kind.Compound s x) (call (item l (d + 1)) (λ t. call (items l d s (x & t & none)) give))
+body (item l d) = peek declaration_start (call (declaration d) give) (call (statement l d) give)

@@ -9,8 +9,8 @@ use Rattle.cr_syntax.specs.Trees.{Trees}
 use Rattle.cr_syntax.specs.Words.{Lexeme}
 use Rattle.cr_syntax.specs.Scopes.{Scopes}
 use Rattle.cr_syntax.specs.Spells.{Limit, Free, AtMost, Upto, Is, Spells, a}
-use Rattle.cr_syntax.specs.Units.{most_levels}
-use Rattle.cr_syntax.specs.Machine.{Prog, Reply, Cause, Done, Failed, Runs, whole, too_deep, refusal_of}
+use Rattle.cr_syntax.specs.Units.{IsUnit, most_levels, file_scope, IsTreeOf, FirstRefusal}
+use Rattle.cr_syntax.specs.Machine.{Prog, Reply, Cause, Done, Failed, Runs, whole, too_deep, refusal_of, nowhere, unit}
 use Rattle.cr_syntax.specs.Expressions.{Start, Spelled, BeginsFrom, RunEnds, Outcome, Read, Refused, IsReading}
 use Rattle.cr_syntax.specs.MachineBody.{body, start_goal}
 
@@ -105,6 +105,10 @@ abbrev pub OneTree : Type 0
 OneTree = (ts : List Lexeme) (limit : Limit) (p : Part) (h : Context) (c e f : Scopes) (d i : ℕ) (t u : Trees) → IsStart p →
     Spells ts limit (a p) h c e d t i (length ts) → Spells ts limit (a p) h c f d u i (length ts) → (t ≡ u) × (e ≡ f)
 
+-- the tokens of a unit have one tree
+abbrev pub OneUnit : Type 0
+OneUnit = (ts : List Lexeme) (limit : Limit) (t u : Trees) → IsUnit limit ts t → IsUnit limit ts u → t ≡ u
+
 -- what is read is the longest run that begins a text
 abbrev pub ReadIsLongest : Type 0
 ReadIsLongest = (ts : List Lexeme) (limit : Limit) (s : Start) (e : Scopes) (j : ℕ) (t : Trees) → IsStart s.part →
@@ -134,3 +138,12 @@ EndedIsNone = (ts : List Lexeme) (limit : Limit) (s : Start) (x : Cause) (t : Tr
 abbrev pub AnswersAreReadings : Type 0
 AnswersAreReadings = (ts : List Lexeme) (s : Start) (r : Reply) → IsStart s.part → s.at ≤ length ts →
     Runs body ts (AtMost most_levels) (body (whole s.part s.depth)) s.scopes s.at r → IsReading ts s (outcome_of r)
+
+-- what an answer says of a unit's tokens: that the trees are theirs, or that this is the first refusal
+abbrev pub IsParsed : List Lexeme → Reply → Type 0
+IsParsed ts (Done t e j) = IsTreeOf ts t × (j ≡ length ts)
+IsParsed ts (Failed x k) = FirstRefusal ts (refusal_of x k)
+
+-- what the machine of the subset answers of a unit
+abbrev pub MachineReadsUnits : Type 0
+MachineReadsUnits = (ts : List Lexeme) (r : Reply) → Runs body ts (AtMost most_levels) (body (unit nowhere 0)) file_scope 0 r → IsParsed ts r
