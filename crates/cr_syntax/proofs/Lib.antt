@@ -30,6 +30,7 @@ pub mod MachineDeclarators
 pub mod MachineDeclarations
 pub mod MachineStatements
 pub mod MachineComplete
+pub mod MachineLoose
 pub mod MachineUnits
 pub mod MachineExtend
 pub mod MachineFails

@@ -104,7 +104,7 @@ one_tree {ts = ts} {limit = limit} k s s' = done_alike (same (spelled_is_read ts
 
 -- A run that no level stops is one without a limit.
 
-abbrev IsNotDeep : Reply → Type 0
+abbrev pub IsNotDeep : Reply → Type 0
 IsNotDeep (Done t e j) = Unit {0}
 IsNotDeep (Failed x k) = x ≡ m.too_deep → ⊥
 
@@ -113,7 +113,7 @@ allows_free m.plain i d = tt
 allows_free m.opens i d = tt
 allows_free m.reopens i d = (tt, tt)
 
-unlimited : {ts : List Lexeme} {limit : Limit} {p : Prog} {c : Scopes} {i : ℕ} {r : Reply} → Runs body ts limit p c i r → IsNotDeep r → Runs body ts Free p c i r
+pub unlimited : {ts : List Lexeme} {limit : Limit} {p : Prog} {c : Scopes} {i : ℕ} {r : Reply} → Runs body ts limit p c i r → IsNotDeep r → Runs body ts Free p c i r
 unlimited m.run_give n = m.run_give
 unlimited m.run_stop n = m.run_stop
 unlimited m.run_refuse n = m.run_refuse
@@ -133,7 +133,7 @@ unlimited (m.run_bring h) n = m.run_bring (unlimited h n)
 unlimited (m.run_call h k) n = m.run_call (unlimited h tt) (unlimited k n)
 unlimited (m.run_fail h) n = m.run_fail (unlimited h n)
 
-get_some : (ts : List Lexeme) (i : ℕ) → i < length ts → (x : Lexeme) × (slice_get ts i ≡ Some x)
+pub get_some : (ts : List Lexeme) (i : ℕ) → i < length ts → (x : Lexeme) × (slice_get ts i ≡ Some x)
 get_some [] i lt = absurd (omega arith)
 get_some (x ∷ ts) zero lt = (x, refl)
 get_some (x ∷ ts) (suc i) lt = get_some ts i (omega arith)
@@ -167,7 +167,7 @@ refuses_upto n most m.plain i d lt w v = w tt
 refuses_upto n most m.opens i d lt w v = w (v lt)
 refuses_upto n most m.reopens i d lt w v = w (tt, v.1 lt)
 
-upto : {ts : List Lexeme} {most : ℕ} {p : Prog} {c : Scopes} {i : ℕ} {r : Reply} (n : ℕ) → end_of r < n → Runs body ts (AtMost most) p c i r → Runs body ts (Upto n most) p c i r
+pub upto : {ts : List Lexeme} {most : ℕ} {p : Prog} {c : Scopes} {i : ℕ} {r : Reply} (n : ℕ) → end_of r < n → Runs body ts (AtMost most) p c i r → Runs body ts (Upto n most) p c i r
 upto n lt m.run_give = m.run_give
 upto n lt m.run_stop = m.run_stop
 upto n lt m.run_refuse = m.run_refuse
