@@ -30,8 +30,8 @@ pub mod MachineDeclarators
 pub mod MachineDeclarations
 pub mod MachineStatements
 pub mod MachineComplete
-pub mod MachineLoose
-pub mod MachineUnits
+pub mod MachineVariadic
+pub mod MachineUnitComplete
 pub mod MachineExtend
 pub mod MachineFails
 pub mod MachineGrows

@@ -8,18 +8,19 @@ use Rattle.cr_syntax.specs.Scopes.{Scopes}
 use Rattle.cr_syntax.specs.Trees.{Trees, none, ◌&◌}
 use Rattle.cr_syntax.specs.Spells.{Limit, Free, AtMost, Upto, Spells, rest}
 use Rattle.cr_syntax.specs.Spells as spells
-use Rattle.cr_syntax.specs.Units.{IsUnit, Begins, unit_side, file_scope}
-use Rattle.cr_syntax.specs.Machine.{Labels, anywhere, Runs, Reply, Cause, Done, Failed, has_word, run_call}
+use Rattle.cr_syntax.specs.Units.{IsUnit, Begins, unit_side, file_scope, elsewhere, misplaced_at, Has, variadic_definition}
+use Rattle.cr_syntax.specs.Machine.{Labels, anywhere, nowhere, Runs, Reply, Cause, Done, Failed, has_word, run_call}
 use Rattle.cr_syntax.specs.Machine as m
 use Rattle.cr_syntax.specs.MachineBody.{body, is_any}
 use Rattle.cr_syntax.specs.MachineLaws.{end_of}
 use Rattle.cr_syntax.proofs.MachineRuns.{same, local}
 use Rattle.cr_syntax.proofs.MachineSpells.{and_and}
 use Rattle.cr_syntax.proofs.MachineFirst.{tail}
-use Rattle.cr_syntax.proofs.MachineFits.{fits, fits_left, fits_right, may_stand, may_left, may_right}
+use Rattle.cr_syntax.proofs.MachineSound.{many_of}
+use Rattle.cr_syntax.proofs.MachineFits.{fits, fits_left, fits_right, may_stand, may_left, may_right, placed_by}
+use Rattle.cr_syntax.proofs.MachineVariadic.{none_defined}
 use Rattle.cr_syntax.proofs.MachineTasks as task
 use Rattle.cr_syntax.proofs.MachineComplete.{completes, get_past, get_some, done_alike, IsNotDeep, unlimited, upto}
-use Rattle.cr_syntax.proofs.MachineLoose.{IsLoose, EndsLoose, runs_anywhere}
 
 -- behind the last token stands no word
 none_past : (ts : List Lexeme) → has_word ts (length ts) is_any ≡ false
@@ -39,31 +40,36 @@ unit_reads {ts = ts} {limit = limit} {c = c} {e = e} {d = d} {i = i} l (spells.p
 pub unit_is_read : {ts : List Lexeme} {limit : Limit} {t : Trees} (l : Labels) (x : IsUnit limit ts t) → fits l t ≡ true → may_stand l t ≡ true → Runs body ts limit (body (m.unit l 0)) file_scope 0 (Done t x.after (length ts))
 unit_is_read l x f g = unit_reads l x.spells f g
 
--- What is refused for another cause than a label's place or a function with `...`.
+-- the subset's machine reads a unit with no misplaced label and no definition of a function with `...`
+pub clean_is_read : {ts : List Lexeme} {limit : Limit} {t : Trees} (x : IsUnit limit ts t) → ((k : ℕ) → misplaced_at k elsewhere t ≡ true → ⊥) → ((k m : ℕ) → Has (variadic_definition k m) t → ⊥) →
+    Runs body ts limit (body (m.unit nowhere 0)) file_scope 0 (Done t x.after (length ts))
+clean_is_read {t = t} x f g = unit_is_read nowhere x (placed_by elsewhere t f) (none_defined (many_of x.spells) g)
+
+-- the tokens of a unit have one tree
+pub one_unit : {ts : List Lexeme} {limit : Limit} {t u : Trees} → IsUnit limit ts t → IsUnit limit ts u → t ≡ u
+one_unit x y = (done_alike (same (unit_is_read anywhere x refl refl) (unit_is_read anywhere y refl refl))).0
+
+-- What the machine of the bare grammar refuses, no unit has.
 
 -- a unit that goes on with token k is read to its end, so the answer isn't at k
-goes_on : {ts : List Lexeme} {limit : Limit} (l : Labels) {r : Reply} → EndsLoose r → IsNotDeep r → Runs body ts limit (body (m.unit l 0)) file_scope 0 r → end_of r < length ts → (b : Begins Free ts (end_of r + 1)) →
+goes_on : {ts : List Lexeme} {limit : Limit} {r : Reply} → IsNotDeep r → Runs body ts limit (body (m.unit anywhere 0)) file_scope 0 r → end_of r < length ts → (b : Begins Free ts (end_of r + 1)) →
     r ≡ Done b.trees b.completes.is_unit.after (length b.completes.text)
-goes_on {ts = ts} l {r = r} o n h lt b = same (local (unlimited (runs_anywhere (m.unit l 0) h o) n) alike) (unit_is_read anywhere b.completes.is_unit refl refl)
+goes_on {ts = ts} {r = r} n h lt b = same (local (unlimited h n) alike) (unit_is_read anywhere b.completes.is_unit refl refl)
   where
     alike : (i : ℕ) → i ≤ end_of r → slice_get b.completes.text i ≡ slice_get ts i
     alike i le = let w = get_some ts i (omega arith) in b.completes.alike i w.0 (omega arith) w.1 ∙ sym w.1
 
--- no unit goes on with it
-pub unit_refused : {ts : List Lexeme} {limit : Limit} (l : Labels) {x : Cause} {k : ℕ} → IsLoose x → (x ≡ m.too_deep → ⊥) → Runs body ts limit (body (m.unit l 0)) file_scope 0 (Failed x k) → k < length ts → Begins Free ts (k + 1) → ⊥
-unit_refused l o n h lt b = let q = goes_on l o n h lt b in cc
+-- no unit goes on with a token that is refused for another cause than the level's number
+pub unit_refused : {ts : List Lexeme} {limit : Limit} {x : Cause} {k : ℕ} → (x ≡ m.too_deep → ⊥) → Runs body ts limit (body (m.unit anywhere 0)) file_scope 0 (Failed x k) → k < length ts → Begins Free ts (k + 1) → ⊥
+unit_refused n h lt b = let q = goes_on n h lt b in cc
 
 -- no unit within the limit goes on with it, whatever the cause
-pub unit_refused_within : {ts : List Lexeme} {most : ℕ} (l : Labels) {x : Cause} {k : ℕ} → IsLoose x → k < length ts → Runs body ts (AtMost most) (body (m.unit l 0)) file_scope 0 (Failed x k) → Begins (Upto (k + 1) most) ts (k + 1) → ⊥
-unit_refused_within {ts = ts} {most = most} l {k = k} o lt h b =
-    let q = same (local (upto (k + 1) (omega arith) (runs_anywhere (m.unit l 0) h o)) alike) (unit_is_read anywhere b.completes.is_unit refl refl) in cc
+pub unit_refused_within : {ts : List Lexeme} {most : ℕ} {x : Cause} {k : ℕ} → k < length ts → Runs body ts (AtMost most) (body (m.unit anywhere 0)) file_scope 0 (Failed x k) → Begins (Upto (k + 1) most) ts (k + 1) → ⊥
+unit_refused_within {ts = ts} {k = k} lt h b = let q = same (local (upto (k + 1) (omega arith) h) alike) (unit_is_read anywhere b.completes.is_unit refl refl) in cc
   where
     alike : (i : ℕ) → i ≤ k → slice_get b.completes.text i ≡ slice_get ts i
     alike i le = let w = get_some ts i (omega arith) in b.completes.alike i w.0 (omega arith) w.1 ∙ sym w.1
 
 -- a list that is refused at its end is no unit
-pub unit_ended : {ts : List Lexeme} {limit : Limit} (l : Labels) {x : Cause} {t : Trees} → IsLoose x → (x ≡ m.too_deep → ⊥) → Runs body ts limit (body (m.unit l 0)) file_scope 0 (Failed x (length ts)) → IsUnit Free ts t → ⊥
-unit_ended l o n h y = let q = same (unlimited (runs_anywhere (m.unit l 0) h o) n) (unit_is_read anywhere y refl refl) in cc
-
-pub one_unit : {ts : List Lexeme} {limit : Limit} {t u : Trees} → IsUnit limit ts t → IsUnit limit ts u → t ≡ u
-one_unit x y = (done_alike (same (unit_is_read anywhere x refl refl) (unit_is_read anywhere y refl refl))).0
+pub unit_ended : {ts : List Lexeme} {limit : Limit} {x : Cause} {t : Trees} → (x ≡ m.too_deep → ⊥) → Runs body ts limit (body (m.unit anywhere 0)) file_scope 0 (Failed x (length ts)) → IsUnit Free ts t → ⊥
+unit_ended n h y = let q = same (unlimited h n) (unit_is_read anywhere y refl refl) in cc
