@@ -33,7 +33,8 @@ pub mod MachineDeclarators
 pub mod MachineDeclarations
 pub mod MachineStatements
 pub mod MachineComplete
-pub mod MachineUnits
+pub mod MachineVariadic
+pub mod MachineUnitComplete
 pub mod MachineExtend
 pub mod MachineShown
 pub mod MachineFails

@@ -1,5 +1,7 @@
 -- Where the labels of a tree stand, and which functions it defines: what the subset asks besides the grammar.
-use Rattle.std.proofs.Common.{◌≡◌, ℕ, Bool, true, false, not, ◌&&◌, List, refl, sym, ap, subst, ◌∙◌}
+use Rattle.std.proofs.Common.{◌≡◌, ℕ, Bool, true, false, not, ◌&&◌, ◌||◌, List, refl, sym, ap, subst, ◌∙◌}
+use Rattle.std.specs.Prelude.{◌==◌}
+use borrow.Author.Tests.{eq-eqb}
 use Rattle.cr_syntax.specs.declared.node.Kind.{Kind}
 use Rattle.cr_syntax.specs.declared.node.Kind.TheVariants as kind
 use Rattle.cr_syntax.specs.declared.symbol.Part.{Part}
@@ -17,7 +19,7 @@ use Rattle.cr_syntax.specs.Machine.{Labels, anywhere, own_block, nowhere}
 use Rattle.cr_syntax.specs.MachineBody.{inside, in_switch, may_label, ends_variadic, is_variadic, may_define}
 use Rattle.cr_syntax.proofs.Tests.{both, not_true}
 use Rattle.cr_syntax.proofs.MachineSpells.{and_none, is_one}
-use Rattle.cr_syntax.proofs.MachineFirst.{true_false}
+use Rattle.cr_syntax.proofs.MachineFirst.{true_false, false_by}
 
 -- no label in the trees is misplaced, where the trees stand so
 abbrev pub are_placed : Place → Trees → Bool
@@ -139,10 +141,10 @@ own_in : (k : Kind) (i j : ℕ) (b n : Trees) → own_parameters (node k i j b n
 own_in kind.FunctionDeclarator i j b n = refl
 own_in _ i j b n = refl
 
-own_behind : {ts : List Lexeme} {limit : Limit} {p : Part} {h : Context} {c e : Scopes} {d i j : ℕ} {t : Trees} → Spells ts limit (a p) h c e d t i j → (u : Trees) → own_parameters (t & u) ≡ own_parameters t
+pub own_behind : {ts : List Lexeme} {limit : Limit} {p : Part} {h : Context} {c e : Scopes} {d i j : ℕ} {t : Trees} → Spells ts limit (a p) h c e d t i j → (u : Trees) → own_parameters (t & u) ≡ own_parameters t
 own_behind {i = i} {j = j} s u = let w = is_one s in subst (λ x. own_parameters (x & u) ≡ own_parameters x) (sym w.2) (own_in w.0 i j w.1 u)
 
-behind_first : {ts : List Lexeme} {limit : Limit} {p : Part} {h : Context} {c e : Scopes} {d i j : ℕ} {t : Trees} → Spells ts limit (a p) h c e d t i j → (u : Trees) → after_first (t & u) ≡ u
+pub behind_first : {ts : List Lexeme} {limit : Limit} {p : Part} {h : Context} {c e : Scopes} {d i j : ℕ} {t : Trees} → Spells ts limit (a p) h c e d t i j → (u : Trees) → after_first (t & u) ≡ u
 behind_first s u = let w = is_one s in subst (λ x. after_first (x & u) ≡ u) (sym w.2) refl
 
 pub may_left : (l : Labels) (t u : Trees) → may_stand l (t & u) ≡ true → may_stand l t ≡ true
@@ -177,3 +179,29 @@ pub body_fits : {ts : List Lexeme} {limit : Limit} {h : Context} {c e : Scopes} 
 body_fits {v = v} l s o t u x f =
     let g = fits_right (inside l) u (v & none) (fits_right (inside l) t (u & (v & none)) (parts_fit l kind.FunctionDefinition s o (t & (u & (v & none))) none refl refl f)) in
     subst (λ z. fits z (parts_of v) ≡ true) (inside_twice l) (compound_fits (inside l) x (subst (λ z. fits (inside l) z ≡ true) (and_none v) g))
+
+-- Trees without a misplaced label fit.
+
+pub placed_by : (at : Place) (t : Trees) → ((k : ℕ) → misplaced_at k at t ≡ true → ⊥) → are_placed at t ≡ true
+placed_by at none f = refl
+placed_by at (node k i j b n) f =
+    all_true (not (is_misplaced k at)) (are_placed (place_in k at) b) (are_placed at n)
+    (ap (λ z. not z) (false_by (is_misplaced k at) (λ q. f i (or_left (own i || inner i) (behind i) (or_left (own i) (inner i) (ap (λ z. z && is_misplaced k at) (eq-eqb i i refl) ∙ q))))))
+    (placed_by (place_in k at) b (λ s q. f s (or_left (own s || inner s) (behind s) (or_right (own s) (inner s) q))))
+    (placed_by at n (λ s q. f s (or_right (own s || inner s) (behind s) q)))
+  where
+    own : ℕ → Bool
+    own s = (i == s) && is_misplaced k at
+
+    inner : ℕ → Bool
+    inner s = misplaced_at s (place_in k at) b
+
+    behind : ℕ → Bool
+    behind s = misplaced_at s at n
+
+    or_left : (x y : Bool) → x ≡ true → x || y ≡ true
+    or_left x y q = ap (λ z. z || y) q
+
+    or_right : (x y : Bool) → y ≡ true → x || y ≡ true
+    or_right true y q = refl
+    or_right false y q = q
