@@ -90,7 +90,8 @@ ends_all (run_call h k) to_last = given_end k (ends_all h (to_seen (to_behind (�
 ends_all (run_fail h) z = tt
 ends_all _ z = elim z [ ]
 
-unit_ends : {ts : List Lexeme} {limit : Limit} (l : Labels) (d : ℕ) {c e : Scopes} {i j : ℕ} {t : Trees} → Runs body ts limit (body (unit l d)) c i (Done t e j) → i ≤ length ts → j ≡ length ts
+-- a unit ends where the text does
+pub unit_ends : {ts : List Lexeme} {limit : Limit} (l : Labels) (d : ℕ) {c e : Scopes} {i j : ℕ} {t : Trees} → Runs body ts limit (body (unit l d)) c i (Done t e j) → i ≤ length ts → j ≡ length ts
 unit_ends l d h le = let n = runs_within h le in let n' = ends_all h (to_behind (λ x. to_last)) in omega arith
 
 -- what is read as a unit spells one
