@@ -22,6 +22,7 @@ pub mod MachineKept
 pub mod MachineMeans
 pub mod MachineUnitSound
 pub mod MachineSound
+pub mod MachineUnits
 pub mod MachineTidy
 pub mod MachineFirst
 pub mod MachineFits

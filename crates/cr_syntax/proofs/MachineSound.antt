@@ -19,8 +19,7 @@ use Rattle.cr_syntax.specs.Grammar.{Side, Alternative, prefix, token, assignment
 use Rattle.cr_syntax.specs.Grammar as grammar
 use Rattle.cr_syntax.specs.Spells.{Limit, Is, Stands, Within, Spells, a, rest, AreConst, const_none, const_more}
 use Rattle.cr_syntax.specs.Spells as spells
-use Rattle.cr_syntax.specs.Units.{file_scope, unit_side}
-use Rattle.cr_syntax.specs.Machine.{Goal, Prog, Manner, Labels, Wanted, named, unnamed, either, Runs, Done, Reply, Allows, plain, opens, reopens, give, stop, take, when, call, into, made, choose, the, around, innermost_of, brought, name_before}
+use Rattle.cr_syntax.specs.Machine.{Goal, Prog, Manner, Wanted, named, unnamed, either, Runs, Done, Reply, Allows, plain, opens, reopens, give, stop, take, when, call, into, made, choose, the, around, innermost_of, brought, name_before}
 use Rattle.cr_syntax.specs.Machine.{whole, expression, commas, assignment, conditional, operands, cast, unary, measured, postfix, called, grouped, texts, arguments, suffixes, type_name, row, more, element, structure, members, member, member_declarators, enumeration, enumerators, enumerator, consts, declarator, declarator_suffixes, abstract_suffixes, size, parameters, more_parameters, parameter}
 use Rattle.cr_syntax.specs.Machine.{unit, externals, external, declaration, init_declarators, initialized, initializer, initializers, statement, block, if_rest, switch_rest, while_rest, do_rest, for_rest, return_rest, for_clauses, clause, compound, items, item}
 use Rattle.cr_syntax.specs.Machine as m
@@ -611,8 +610,3 @@ module _ (us : List Lexeme) (top : Limit) where
 pub runs_sound : {ts : List Lexeme} {limit : Limit} (g : Goal) (c e : Scopes) (i j : ℕ) (t : Trees) → Runs body ts limit (body g) c i (Done t e j) → Means ts limit g c i t e j
 runs_sound {ts = ts} {limit = limit} g c e i j t h =
     gives body ts ts limit limit Kept (Means ts limit) runs_kept (each ts limit) h (Means ts limit g c i) (λ n lt. refl) (λ x n d lt w. w) (each ts limit g c i)
-
--- what is read as a unit is one
-pub unit_is_spelled : {ts : List Lexeme} {limit : Limit} (l : Labels) (e : Scopes) (j : ℕ) (t : Trees) (h : Context) → Runs body ts limit (body (unit l 0)) file_scope 0 (Done t e j) →
-    Spells ts limit (rest unit_side) h file_scope e 0 t 0 j
-unit_is_spelled l e j t h r = runs_sound (unit l 0) file_scope e 0 j t r h

@@ -18,7 +18,7 @@ use Rattle.cr_syntax.proofs.MachineFirst.{none_true, true_false}
 use Rattle.cr_syntax.proofs.MachineRuns.{same, local, word_same}
 use Rattle.cr_syntax.proofs.MachineEnds.{Way, stopped, barring, crowded, defining, Ends, ends_so, refused_so, cause_by}
 use Rattle.cr_syntax.proofs.MachineComplete.{get_some, allows_free, upto}
-use Rattle.cr_syntax.proofs.MachineUnits.{unit_is_read}
+use Rattle.cr_syntax.proofs.MachineUnitComplete.{unit_is_read}
 use Rattle.cr_syntax.proofs.MachineViable.{barred_inside, crowded_inside}
 use Rattle.cr_syntax.proofs.MachineForms.{within}
 use Rattle.cr_syntax.proofs.MachineLoose.{looser, followed, Follows, so_too, departs, own_label, label_is}

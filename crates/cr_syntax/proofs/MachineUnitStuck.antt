@@ -21,7 +21,7 @@ use Rattle.cr_syntax.proofs.MachineFirst.{none_true, true_false}
 use Rattle.cr_syntax.proofs.MachineRuns.{reach, again, word_same}
 use Rattle.cr_syntax.proofs.MachineEnds.{Way, stopped, barring, Ends, end_seen, end_unseen, end_behind, end_inside}
 use Rattle.cr_syntax.proofs.MachineComplete.{get_some}
-use Rattle.cr_syntax.proofs.MachineUnits.{unit_is_read}
+use Rattle.cr_syntax.proofs.MachineUnitComplete.{unit_is_read}
 use Rattle.cr_syntax.proofs.MachineSound.{runs_sound}
 use Rattle.cr_syntax.proofs.MachineViable.{word_before, word_there}
 use Rattle.cr_syntax.proofs.MachineForms.{within}
