@@ -40,3 +40,4 @@ pub mod MachineUnitForms
 pub mod MachineTraces
 pub mod MachineLabels
 pub mod MachineDefinitions
+pub mod MachineRefusals
