@@ -59,3 +59,4 @@ pub mod MachineLabels
 pub mod MachineDefinitions
 pub mod MachineUnitStuck
 pub mod MachineUnit
+pub mod MachineRefusals
