@@ -46,6 +46,12 @@ abbrev cause_in : ℕ → Option Word → Cause
 cause_in d None = ended
 cause_in d (Some w) = if is_unused w then outside 1 else (if overflows w d then m.too_deep else m.unexpected)
 
+-- the causes that the end of the text may have too
+abbrev may_end : Cause → Bool
+may_end ended = true
+may_end (m.variadic k) = true
+may_end _ = false
+
 read_inside : (ts : List Lexeme) (i : ℕ) (o : Option Lexeme) (f : Word → Bool) → slice_get ts i ≡ o → test_in f (word_in o) ≡ true → i < length ts
 read_inside ts i None f q h = absurd cc
 read_inside ts i (Some t) f q h = slice_get_within ts i t q
@@ -70,18 +76,19 @@ passes_inside ts c i (m.declared b) h = read_inside ts i (slice_get ts i) _ refl
 passes_inside ts c i (m.or x y) h = elim (one_true _ _ h) [ inl a ↦ passes_inside ts c i x a | inr a ↦ passes_inside ts c i y a ]
 
 verdict_of : (ts : List Lexeme) (i d : ℕ) (o : Option Lexeme) → slice_get ts i ≡ o →
-    (cause_in d (word_in o) ≡ ended) ⊎ (i < length ts)
+    (may_end (cause_in d (word_in o)) ≡ true) ⊎ (i < length ts)
 verdict_of ts i d None q = inl refl
 verdict_of ts i d (Some t) q = inr (slice_get_within ts i t q)
 
 -- where a run that begins in the text ends
 abbrev Inside : ℕ → Reply → Type 0
 Inside n (Done t e j) = j ≤ n
-Inside n (Failed x k) = (k ≤ n) × ((x ≡ ended) ⊎ (k < n))
+Inside n (Failed x k) = (k ≤ n) × ((may_end x ≡ true) ⊎ (k < n))
 
 inside : {ts : List Lexeme} {limit : Limit} {p : Prog} {c : Scopes} {i : ℕ} {r : Reply} → Runs body ts limit p c i r → i ≤ length ts → Inside (length ts) r
 inside m.run_give le = le
 inside {ts = ts} {i = i} (m.run_stop {d = d}) le = (le, verdict_of ts i d (slice_get ts i) refl)
+inside (m.run_refuse) le = (le, inl refl)
 inside {ts = ts} {c = c} {i = i} (m.run_take {x = x} h w k) le = inside k (let lt = passes_inside ts c i x h in omega arith)
 inside {ts = ts} {c = c} {i = i} (m.run_deep {x = x} h w) le = (le, inr (passes_inside ts c i x h))
 inside (m.run_pass h k) le = inside k le
@@ -102,10 +109,10 @@ inside (m.run_fail h) le = inside h le
 pub read_longest : {ts : List Lexeme} {e : Scopes} {k : ℕ} {t : Trees} (s : Start) → IsStart s.part → RunsTo ts (body (start_goal s.part s.depth)) s.scopes s.at (Done t e k) → IsLongest ts s t k
 read_longest {ts} {e} s z h = record { spelled = record { after = e; spells = read_is_spelled ts (AtMost most_levels) fresh z h }; ends = longest s z h }
 
-not_ended : (n k : ℕ) (x : Cause) → (x ≡ ended → ⊥) → Inside n (Failed x k) → k < n
+not_ended : (n k : ℕ) (x : Cause) → (may_end x ≡ true → ⊥) → Inside n (Failed x k) → k < n
 not_ended n k x f h = elim (h.1) [ inl q ↦ absurd (f q) | inr lt ↦ lt ]
 
-stops_at : {ts : List Lexeme} (s : Start) (x : Cause) (k : ℕ) → IsStart s.part → s.at ≤ length ts → (x ≡ ended → ⊥) → (x ≡ m.too_deep → ⊥) → RunsTo ts (body (start_goal s.part s.depth)) s.scopes s.at (Failed x k) → StopsAt ts s k
+stops_at : {ts : List Lexeme} (s : Start) (x : Cause) (k : ℕ) → IsStart s.part → s.at ≤ length ts → (may_end x ≡ true → ⊥) → (x ≡ m.too_deep → ⊥) → RunsTo ts (body (start_goal s.part s.depth)) s.scopes s.at (Failed x k) → StopsAt ts s k
 stops_at {ts} s x k z le n d h =
     let within = inside h le in
     record { inside = not_ended (length ts) k x n within; begins = begins_before ts most_levels k (within.0) s x z h; ends = refused s z d h }

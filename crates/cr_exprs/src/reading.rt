@@ -40,7 +40,7 @@ use std::collections::LinkedList;
 
 /// Which declarators may come.
 #[derive(Clone, Copy)]
-enum Wanted {
+pub(crate) enum Wanted {
     /// One with a name.
     Named,
     /// One without a name.
@@ -114,7 +114,7 @@ pub fn whole(
 }
 
 /// What is to be read.
-fn started(
+pub(crate) fn started(
     alloc: Global,
     source: &Source,
     goal: Goal,
@@ -878,7 +878,7 @@ fn type_name(
 
 /// A row of specifiers, with storage classes or without.
 #[cycle(grammar)]
-fn row(
+pub(crate) fn row(
     alloc: Global,
     source: &Source,
     part: Part,
@@ -1204,7 +1204,7 @@ fn enumerator(
 
 /// A declarator with a name or without.
 #[cycle(grammar)]
-fn declarator(
+pub(crate) fn declarator(
     alloc: Global,
     source: &Source,
     wanted: Wanted,
