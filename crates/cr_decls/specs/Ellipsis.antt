@@ -2,7 +2,7 @@
 use Rattle.std.specs.Prelude.{ℕ, ◌-◌, Option, None, Some}
 use Rattle.cr_syntax.specs.declared.node.Kind.{Kind}
 use Rattle.cr_syntax.specs.declared.node.Kind.TheVariants as kind
-use Rattle.cr_syntax.specs.Trees.{Trees, node}
+use Rattle.cr_syntax.specs.Trees.{Trees, none, node}
 use Rattle.cr_decls.specs.declared.ellipsis.Built.{Built}
 use Rattle.cr_decls.specs.declared.ellipsis.Built.TheVariants.{Function, Derived, Name}
 
@@ -14,7 +14,11 @@ built_of kind.PointerDeclarator = Derived
 built_of kind.ArrayDeclarator = Derived
 built_of _ = Name
 
--- the token `...` in which a list of parameters ends, if it does
+-- the last token of a list of parameters, where it is `...`
+abbrev pub ellipsis_at : Kind → ℕ → Option ℕ
+ellipsis_at kind.VariadicParameters last = Some last
+ellipsis_at _ last = None
+
 abbrev pub ellipsis_of : Trees → Option ℕ
-ellipsis_of (node kind.VariadicParameters i j a n) = Some (j - 1)
-ellipsis_of _ = None
+ellipsis_of none = None
+ellipsis_of (node k i j a n) = ellipsis_at k (j - 1)

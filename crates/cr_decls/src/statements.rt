@@ -429,12 +429,14 @@ fn items(
 {
     let mut parts = Row::new(alloc);
     let mut next = start + 1;
-    'items: while !stands(source, next, Word::RightBrace) {
+    'items: loop {
+        if stands(source, next, Word::RightBrace) {
+            return push(nodes, Kind::Compound, start, next + 1, parts);
+        }
         let one = item(alloc, source, labels, next, depth + 1, scopes, nodes)?;
         parts.push(one.node)?;
         next = one.next;
     }
-    push(nodes, Kind::Compound, start, next + 1, parts)
 }
 
 /// An item of a block.
