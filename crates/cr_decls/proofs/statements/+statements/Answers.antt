@@ -1,5 +1,5 @@
 use Rattle.std.proofs.Common.{◌≡◌, ◌+◌, refl, sym, ap, ◌∙◌, arith, rules}
-use Rattle.cr_syntax.specs.Machine.{plain, opens, give, made, run_give, run_stop, run_take, run_deep, run_pass, run_bar, run_free, run_seen, run_unseen, run_yes, run_no, run_here, run_look, run_set, run_bring, run_call, run_fail}
+use Rattle.cr_syntax.specs.Machine.{plain, opens, call, give, made, run_give, run_stop, run_take, run_deep, run_pass, run_bar, run_free, run_seen, run_unseen, run_yes, run_no, run_here, run_look, run_set, run_bring, run_call, run_fail}
 use Rattle.cr_syntax.specs.Machine as m
 use Rattle.cr_syntax.specs.MachineBody.{body}
 use Rattle.cr_exprs.specs.Answers.{tree}
@@ -159,10 +159,10 @@ pub for_rest-returns-in_err-room-clause-reads : goal.for_rest-returns-in_err-roo
 for_rest-returns-in_err-room-clause-reads t c = exit c.from_residual-in_err-room.result _ c.from_residual-in_err-room.ensures.1 (deep c.in_err-room.ensures.err (run_look (run_set (run_deep c.in_ok-expect.ensures.ok (no_room c.in_err-room.ensures.full)))))
 
 pub for_rest-returns-in_err-first-clause-reads : goal.for_rest-returns-in_err-first-clause-reads
-for_rest-returns-in_err-first-clause-reads t c = exit c.from_residual-in_err-first.result _ c.from_residual-in_err-first.ensures.1 (fails (c.in_err-first.ensures.reads _).is (λ x k h. run_look (run_set (run_take c.in_ok-expect.ensures.ok c.in_ok-room.ensures.ok (run_in c.in_ok-begin.ensures h)))))
+for_rest-returns-in_err-first-clause-reads t c = exit c.from_residual-in_err-first.result _ c.from_residual-in_err-first.ensures.1 (fails (c.in_err-first.ensures.reads (λ t. call (m.for_clauses m.nowhere c.args.depth c.args.start t) give)).is (λ x k h. run_look (run_set (run_take c.in_ok-expect.ensures.ok c.in_ok-room.ensures.ok (run_in c.in_ok-begin.ensures h)))))
 
 pub for_rest-returns-clause-reads : goal.for_rest-returns-clause-reads
-for_rest-returns-clause-reads t c = through c.for_clauses.result (λ y h. run_look (run_set (run_take c.in_ok-expect.ensures.ok c.in_ok-room.ensures.ok (run_in c.in_ok-begin.ensures ((c.in_ok-first.ensures.reads _).is.on y (handed y h)))))) c.for_clauses.ensures.reads
+for_rest-returns-clause-reads t c = through c.for_clauses.result (λ y h. run_look (run_set (run_take c.in_ok-expect.ensures.ok c.in_ok-room.ensures.ok (run_in c.in_ok-begin.ensures ((c.in_ok-first.ensures.reads (λ t. call (m.for_clauses m.nowhere c.args.depth c.args.start t) give)).is.on y (handed y h)))))) c.for_clauses.ensures.reads
 
 pub for_clauses-returns-in_err-test-clause-reads : goal.for_clauses-returns-in_err-test-clause-reads
 for_clauses-returns-in_err-test-clause-reads t c = exit c.from_residual.result _ c.from_residual.ensures.1 (fails (c.in_err-test.ensures.reads.is) (λ x k h. run_fail h))
