@@ -1,11 +1,10 @@
 -- What a run of the machine says of the grammar.
-use Rattle.std.proofs.Common.{◌≡◌, ℕ, zero, suc, ◌+◌, ◌<◌, ◌≤◌, Bool, true, false, not, ◌&&◌, ◌||◌, List, [], ◌∷◌, Option, None, Some, Result, Ok, Err, length, slice_get, refl, sym, subst, inl, inr, arith}
+use Rattle.std.proofs.Common.{◌≡◌, ℕ, ◌<◌, ◌≤◌, Bool, true, false, ◌&&◌, ◌||◌, List, [], ◌∷◌, Option, None, Some, Result, Ok, Err, length, slice_get, refl, sym, subst, inl, inr, arith}
 use Rattle.std.specs.Prelude.{◌⊎◌, IfErr, IsErrAnd, if◌then◌else◌}
 use Rattle.std.proofs.lemmas.Option.{slice_get_within}
 use Rattle.cr_tokens.specs.declared.token.Token.{Token}
 use Rattle.cr_syntax.specs.declared.word.Word.{Word}
 use Rattle.cr_syntax.specs.declared.word.Word.TheVariants as word
-use Rattle.cr_syntax.specs.declared.symbol.Part.TheVariants as part
 use Rattle.cr_syntax.specs.Words.{Lexeme, word_at, lexemes_of}
 use Rattle.cr_syntax.specs.Scopes.{Scopes}
 use Rattle.cr_syntax.specs.Trees.{Trees}
@@ -25,7 +24,7 @@ use Rattle.cr_exprs.specs.declared.goal.Goal.{Goal}
 use Rattle.cr_exprs.specs.declared.goal.Goal.TheVariants.{Expression, Assignment, Conditional}
 use Rattle.cr_exprs.specs.Parts.{part_of}
 use Rattle.cr_exprs.specs.Answers.{RunsTo, Refuses}
-use Rattle.cr_exprs.specs.Expression.{start_of, IsLongest, StopsAt, StopsAtEnd, IsTooDeepAt, FollowsRun, IsRefused}
+use Rattle.cr_exprs.specs.Expression.{IsLongest, StopsAt, IsRefused}
 
 pub is_start : (g : Goal) → IsStart (part_of g)
 is_start Expression = start_expression

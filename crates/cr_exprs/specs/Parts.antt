@@ -1,5 +1,5 @@
 -- Parts of the machine's programs, as the parser's functions begin in them.
-use Rattle.std.specs.Prelude.{◌≡◌, ℕ, ◌+◌, Bool, true, false, List, if◌then◌else◌}
+use Rattle.std.specs.Prelude.{◌≡◌, ℕ, ◌+◌, true, false, List, if◌then◌else◌}
 use Rattle.cr_syntax.specs.declared.word.Word.TheVariants as word
 use Rattle.cr_syntax.specs.declared.node.Kind.TheVariants as kind
 use Rattle.cr_syntax.specs.Words.{Lexeme}

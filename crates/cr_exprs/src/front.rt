@@ -1,4 +1,4 @@
-ghost use Rattle.std.specs.Prelude.{◌≡◌, false, ◌<◌, ◌≤◌, ◌^◌, IfOk, IfErr, length};
+ghost use Rattle.std.specs.Prelude.{◌≡◌, [], false, ◌<◌, ◌≤◌, ◌^◌, IfOk, IfErr, length};
 ghost use Rattle.cr_syntax.specs.Words.{AreSpans, lexemes_of};
 ghost use Rattle.cr_syntax.specs.Kept.{PartsAreBelow};
 ghost use Rattle.cr_syntax.specs.Machine.{has_word};
@@ -37,7 +37,7 @@ pub fn expression(
     ensures longest { IfOk result (λ x. IsLongest (lexemes_of file.now tokens.now.list.items) (start_of goal (scopes_of scope.now) depth at) (tree nodes.new x.0) x.1) }
     ensures free { IfOk result (λ x. has_word (lexemes_of file.now tokens.now.list.items) x.1 is_unused ≡ false) }
     ensures refused { IfErr result (IsRefused (lexemes_of file.now tokens.now.list.items) (start_of goal (scopes_of scope.now) depth at)) }
-    ensures placed { IfOk result (λ x. IsPlaced (length tokens.now.list.items) at nodes.old nodes.new (record { node = x.0; next = x.1 })) }
+    ensures placed { IfOk result (λ x. IsPlaced (length tokens.now.list.items) at nodes.old nodes.new [] (record { node = x.0; next = x.1 })) }
 {
     let words = words_of(alloc, file, tokens.list.as_slice())?;
     let source = Source {

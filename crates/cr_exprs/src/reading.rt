@@ -106,7 +106,7 @@ pub fn whole(
     ensures longest { IfOk result (λ x. IsLongest (text_of source.now) (start_of goal scopes.old depth at) (tree nodes.new x.node) x.next) }
     ensures free { IfOk result (λ x. has_word (text_of source.now) x.next is_unused ≡ false) }
     ensures refused { IfErr result (IsRefused (text_of source.now) (start_of goal scopes.old depth at)) }
-    ensures placed { IfOk result (λ x. IsPlaced (length source.now.tokens.now) at nodes.old nodes.new x) }
+    ensures placed { IfOk result (λ x. IsPlaced (length source.now.tokens.now) at nodes.old nodes.new [] x) }
 {
     let found = started(alloc, source, goal, at, depth, scopes, nodes)?;
     bar_unused(source, found.next, depth)?;
@@ -128,7 +128,7 @@ pub(crate) fn started(
     requires depth { depth ≤ 128 }
     requires below { PartsAreBelow nodes.old }
     ensures reads { Reads (text_of source.now) (body (start_goal (part_of goal) depth)) scopes.old at nodes.new scopes.new result }
-    ensures placed { IfOk result (λ x. IsPlaced (length source.now.tokens.now) at nodes.old nodes.new x) }
+    ensures placed { IfOk result (λ x. IsPlaced (length source.now.tokens.now) at nodes.old nodes.new [] x) }
 {
     match goal {
         Goal::Expression => expression(alloc, source, at, depth, scopes, nodes),
@@ -154,7 +154,7 @@ fn expression(
     requires depth { depth ≤ 128 }
     requires below { PartsAreBelow nodes.old }
     ensures reads { Reads (text_of source.now) (body (expression depth)) scopes.old at nodes.new scopes.new result }
-    ensures placed { IfOk result (λ x. IsPlaced (length source.now.tokens.now) at nodes.old nodes.new x) }
+    ensures placed { IfOk result (λ x. IsPlaced (length source.now.tokens.now) at nodes.old nodes.new [] x) }
 {
     let mut left = assignment(alloc, source, at, depth, scopes, nodes)?;
     'commas: while stands(source, left.next, Word::Comma) {
@@ -187,7 +187,7 @@ fn assignment(
     requires depth { depth ≤ 128 }
     requires below { PartsAreBelow nodes.old }
     ensures reads { Reads (text_of source.now) (body (assignment depth)) scopes.old at nodes.new scopes.new result }
-    ensures placed { IfOk result (λ x. IsPlaced (length source.now.tokens.now) at nodes.old nodes.new x) }
+    ensures placed { IfOk result (λ x. IsPlaced (length source.now.tokens.now) at nodes.old nodes.new [] x) }
 {
     let left = conditional(alloc, source, at, depth, scopes, nodes)?;
     if !is_unary(nodes, left.node) {
@@ -216,7 +216,7 @@ fn conditional(
     requires depth { depth ≤ 128 }
     requires below { PartsAreBelow nodes.old }
     ensures reads { Reads (text_of source.now) (body (conditional depth)) scopes.old at nodes.new scopes.new result }
-    ensures placed { IfOk result (λ x. IsPlaced (length source.now.tokens.now) at nodes.old nodes.new x) }
+    ensures placed { IfOk result (λ x. IsPlaced (length source.now.tokens.now) at nodes.old nodes.new [] x) }
 {
     let test = binary(alloc, source, Part::LogicalOr, at, depth, scopes, nodes)?;
     if !stands(source, test.next, Word::Question) {
@@ -244,7 +244,7 @@ fn chosen(
     requires start { start < test.next }
     requires node { test.node < length nodes.old }
     ensures reads { Reads (text_of source.now) (chosen depth start (tree nodes.old test.node)) scopes.old (test.next + 1) nodes.new scopes.new result }
-    ensures placed { IfOk result (λ x. IsPlaced (length source.now.tokens.now) start nodes.old nodes.new x) }
+    ensures placed { IfOk result (λ x. IsPlaced (length source.now.tokens.now) start nodes.old nodes.new (test.node ∷ []) x) }
 {
     let yes = expression(alloc, source, test.next + 1, depth + 1, scopes, nodes)?;
     expect(source, yes.next, Word::Colon, depth + 1)?;
@@ -277,7 +277,7 @@ fn binary(
     requires depth { depth ≤ 128 }
     requires below { PartsAreBelow nodes.old }
     ensures reads { Reads (text_of source.now) (body (binary part depth)) scopes.old at nodes.new scopes.new result }
-    ensures placed { IfOk result (λ x. IsPlaced (length source.now.tokens.now) at nodes.old nodes.new x) }
+    ensures placed { IfOk result (λ x. IsPlaced (length source.now.tokens.now) at nodes.old nodes.new [] x) }
 {
     let mut left = operand(alloc, source, part, at, depth, scopes, nodes)?;
     'operands: while let Some(kind) = operator_in(part, source, left.next) {
@@ -303,7 +303,7 @@ fn operand(
     requires depth { depth ≤ 128 }
     requires below { PartsAreBelow nodes.old }
     ensures reads { Reads (text_of source.now) (body (tighter part depth)) scopes.old at nodes.new scopes.new result }
-    ensures placed { IfOk result (λ x. IsPlaced (length source.now.tokens.now) at nodes.old nodes.new x) }
+    ensures placed { IfOk result (λ x. IsPlaced (length source.now.tokens.now) at nodes.old nodes.new [] x) }
 {
     match tighter(part) {
         Some(next) => binary(alloc, source, next, at, depth, scopes, nodes),
@@ -326,7 +326,7 @@ fn cast(
     requires depth { depth ≤ 128 }
     requires below { PartsAreBelow nodes.old }
     ensures reads { Reads (text_of source.now) (body (cast depth)) scopes.old at nodes.new scopes.new result }
-    ensures placed { IfOk result (λ x. IsPlaced (length source.now.tokens.now) at nodes.old nodes.new x) }
+    ensures placed { IfOk result (λ x. IsPlaced (length source.now.tokens.now) at nodes.old nodes.new [] x) }
 {
     if !stands(source, at, Word::LeftParen) {
         return unary(alloc, source, at, depth, scopes, nodes);
@@ -355,7 +355,7 @@ fn converted(
     requires starts { passes (text_of source.now) scopes.old (start + 1) type_start ≡ true }
     requires at { start + 1 ≤ length source.now.tokens.now }
     ensures reads { Reads (text_of source.now) (body (cast depth)) scopes.old start nodes.new scopes.new result }
-    ensures placed { IfOk result (λ x. IsPlaced (length source.now.tokens.now) start nodes.old nodes.new x) }
+    ensures placed { IfOk result (λ x. IsPlaced (length source.now.tokens.now) start nodes.old nodes.new [] x) }
 {
     let to = type_name(alloc, source, start + 1, depth + 1, scopes, nodes)?;
     expect(source, to.next, Word::RightParen, depth + 1)?;
@@ -387,7 +387,7 @@ fn unary(
     requires depth { depth ≤ 128 }
     requires below { PartsAreBelow nodes.old }
     ensures reads { Reads (text_of source.now) (body (unary depth)) scopes.old at nodes.new scopes.new result }
-    ensures placed { IfOk result (λ x. IsPlaced (length source.now.tokens.now) at nodes.old nodes.new x) }
+    ensures placed { IfOk result (λ x. IsPlaced (length source.now.tokens.now) at nodes.old nodes.new [] x) }
 {
     if let Some(kind) = kind_in(&UNARY_PREFIXES, source, at) {
         return stepped(alloc, source, kind, at, depth, scopes, nodes);
@@ -419,7 +419,7 @@ fn stepped(
     requires below { PartsAreBelow nodes.old }
     requires kind { kind_of unary_prefixes (word_at (text_of source.now) start) ≡ Some kind }
     ensures reads { Reads (text_of source.now) (body (unary depth)) scopes.old start nodes.new scopes.new result }
-    ensures placed { IfOk result (λ x. IsPlaced (length source.now.tokens.now) start nodes.old nodes.new x) }
+    ensures placed { IfOk result (λ x. IsPlaced (length source.now.tokens.now) start nodes.old nodes.new [] x) }
 {
     room(start, depth)?;
     let operand = unary(alloc, source, start + 1, depth + 1, scopes, nodes)?;
@@ -444,7 +444,7 @@ fn prefixed(
     requires other { kind_of unary_prefixes (word_at (text_of source.now) start) ≡ None }
     requires kind { kind_of cast_prefixes (word_at (text_of source.now) start) ≡ Some kind }
     ensures reads { Reads (text_of source.now) (body (unary depth)) scopes.old start nodes.new scopes.new result }
-    ensures placed { IfOk result (λ x. IsPlaced (length source.now.tokens.now) start nodes.old nodes.new x) }
+    ensures placed { IfOk result (λ x. IsPlaced (length source.now.tokens.now) start nodes.old nodes.new [] x) }
 {
     room(start, depth)?;
     let operand = cast(alloc, source, start + 1, depth + 1, scopes, nodes)?;
@@ -466,7 +466,7 @@ fn measured(
     requires depth { depth < 128 }
     requires below { PartsAreBelow nodes.old }
     ensures reads { Reads (text_of source.now) (body (measured depth start)) scopes.old (start + 1) nodes.new scopes.new result }
-    ensures placed { IfOk result (λ x. IsPlaced (length source.now.tokens.now) start nodes.old nodes.new x) }
+    ensures placed { IfOk result (λ x. IsPlaced (length source.now.tokens.now) start nodes.old nodes.new [] x) }
 {
     if !stands(source, start + 1, Word::LeftParen) {
         let operand = unary(alloc, source, start + 1, depth + 1, scopes, nodes)?;
@@ -499,7 +499,7 @@ fn sized(
     requires part { operand.node < length nodes.old }
     requires first { start < operand.next }
     requires next { operand.next < 2 ^ 32 }
-    ensures ok { IfOk result (λ x. IsPushed nodes.old nodes.new x) }
+    ensures ok { IfOk result (λ x. IsPushed nodes.old nodes.new (operand.node ∷ []) x) }
     ensures next { IfOk result (λ x. x.next ≡ operand.next) }
     ensures tree { IfOk result (λ x. tree nodes.new x.node ≡ one Kind.SizeofExpression start operand.next (tree nodes.old operand.node & none)) }
     ensures err { IfErr result (λ fault. fault ≡ ParseFault.NoMemory) }
@@ -531,7 +531,7 @@ fn measured_type(
     requires bracket { is_word (text_of source.now) (start + 1) Word.LeftParen ≡ true }
     requires starts { passes (text_of source.now) scopes.old (start + 1 + 1) type_start ≡ true }
     ensures reads { Reads (text_of source.now) (body (measured depth start)) scopes.old (start + 1) nodes.new scopes.new result }
-    ensures placed { IfOk result (λ x. IsPlaced (length source.now.tokens.now) start nodes.old nodes.new x) }
+    ensures placed { IfOk result (λ x. IsPlaced (length source.now.tokens.now) start nodes.old nodes.new [] x) }
 {
     let named = type_name(alloc, source, start + 1 + 1, depth + 1 + 1, scopes, nodes)?;
     expect(source, named.next, Word::RightParen, depth + 1 + 1)?;
@@ -560,7 +560,7 @@ fn postfix(
     requires depth { depth ≤ 128 }
     requires below { PartsAreBelow nodes.old }
     ensures reads { Reads (text_of source.now) (body (postfix depth)) scopes.old at nodes.new scopes.new result }
-    ensures placed { IfOk result (λ x. IsPlaced (length source.now.tokens.now) at nodes.old nodes.new x) }
+    ensures placed { IfOk result (λ x. IsPlaced (length source.now.tokens.now) at nodes.old nodes.new [] x) }
 {
     if is_ordinary(source, at, scopes) {
         return called(alloc, source, at, depth, scopes, nodes);
@@ -595,7 +595,7 @@ fn called(
     requires depth { depth ≤ 128 }
     requires below { PartsAreBelow nodes.old }
     ensures reads { Reads (text_of source.now) (body (called depth start)) scopes.old (start + 1) nodes.new scopes.new result }
-    ensures placed { IfOk result (λ x. IsPlaced (length source.now.tokens.now) start nodes.old nodes.new x) }
+    ensures placed { IfOk result (λ x. IsPlaced (length source.now.tokens.now) start nodes.old nodes.new [] x) }
 {
     if !stands(source, start + 1, Word::LeftParen) {
         let first = leaf(alloc, nodes, Kind::Identifier, start, start + 1)?;
@@ -658,7 +658,7 @@ fn grouped(
     requires below { PartsAreBelow nodes.old }
     requires start { start < at }
     ensures reads { Reads (text_of source.now) (body (grouped depth start)) scopes.old at nodes.new scopes.new result }
-    ensures placed { IfOk result (λ x. IsPlaced (length source.now.tokens.now) start nodes.old nodes.new x) }
+    ensures placed { IfOk result (λ x. IsPlaced (length source.now.tokens.now) start nodes.old nodes.new [] x) }
 {
     let inner = expression(alloc, source, at, depth + 1, scopes, nodes)?;
     expect(source, inner.next, Word::RightParen, depth + 1)?;
@@ -684,7 +684,7 @@ fn suffixes(
     requires start { start < first.next }
     requires node { first.node + 1 ≡ length nodes.old }
     ensures reads { Reads (text_of source.now) (body (suffixes depth start (tree nodes.old first.node))) scopes.old first.next nodes.new scopes.new result }
-    ensures grown { IfOk result (λ x. IsGrown (length source.now.tokens.now) start nodes.old nodes.new x) }
+    ensures grown { IfOk result (λ x. IsGrown (length source.now.tokens.now) start nodes.old nodes.new (first.node ∷ []) x) }
 {
     let mut left = first;
     'suffixes: while let Some(longer) = suffix(alloc, source, start, left, depth, scopes, nodes)? {
@@ -715,7 +715,7 @@ fn suffix(
     requires start { start < left.next }
     requires node { left.node + 1 ≡ length nodes.old }
     ensures reads { MayLengthen (text_of source.now) (λ t. body (suffixes depth start t)) (tree nodes.old left.node) (suffixes_end depth (tree nodes.old left.node)) scopes.old left.next nodes.new scopes.new result }
-    ensures placed { IfOk result (λ o. IfSome o (IsPlaced (length source.now.tokens.now) left.next nodes.old nodes.new)) }
+    ensures placed { IfOk result (λ o. IfSome o (IsPlaced (length source.now.tokens.now) left.next nodes.old nodes.new (left.node ∷ []))) }
     ensures none { IfOk result (λ o. IfNone o ((nodes.new ≡ nodes.old) × (scopes.new ≡ scopes.old))) }
 {
     if stands(source, left.next, Word::LeftBracket) {
@@ -741,7 +741,7 @@ fn plain_suffix(
     requires node { left.node + 1 ≡ length nodes.old }
     requires other { is_word (text_of source.now) left.next Word.LeftBracket ≡ false }
     ensures reads { (c : Scopes) → MayLengthen (text_of source.now) (λ t. body (suffixes depth start t)) (tree nodes.old left.node) (suffixes_end depth (tree nodes.old left.node)) c left.next nodes.new c result }
-    ensures placed { IfOk result (λ o. IfSome o (IsPlaced (length source.now.tokens.now) left.next nodes.old nodes.new)) }
+    ensures placed { IfOk result (λ o. IfSome o (IsPlaced (length source.now.tokens.now) left.next nodes.old nodes.new (left.node ∷ []))) }
     ensures none { IfOk result (λ o. IfNone o (nodes.new ≡ nodes.old)) }
 {
     if stands(source, left.next, Word::Dot) {
@@ -783,7 +783,7 @@ fn member(
     requires start { start < left.next }
     requires node { left.node + 1 ≡ length nodes.old }
     ensures reads { (c : Scopes) → Finishes (text_of source.now) (expect plain Word.Identifier depth (suffixed depth start (tree nodes.old left.node & none) kind)) (λ t. body (suffixes depth start t)) c (left.next + 1) nodes.new result }
-    ensures placed { IfOk result (λ x. IsPlaced (length source.now.tokens.now) left.next nodes.old nodes.new x) }
+    ensures placed { IfOk result (λ x. IsPlaced (length source.now.tokens.now) left.next nodes.old nodes.new (left.node ∷ []) x) }
 {
     expect(source, left.next + 1, Word::Identifier, depth)?;
     over(alloc, nodes, kind, start, left.next + 1 + 1, left.node)
@@ -808,7 +808,7 @@ fn subscript(
     requires node { left.node + 1 ≡ length nodes.old }
     requires bracket { is_word (text_of source.now) left.next Word.LeftBracket ≡ true }
     ensures reads { Lengthens (text_of source.now) (λ t. body (suffixes depth start t)) (tree nodes.old left.node) scopes.old left.next nodes.new scopes.new result }
-    ensures placed { IfOk result (λ x. IsPlaced (length source.now.tokens.now) left.next nodes.old nodes.new x) }
+    ensures placed { IfOk result (λ x. IsPlaced (length source.now.tokens.now) left.next nodes.old nodes.new (left.node ∷ []) x) }
 {
     room(left.next, depth)?;
     let inner = expression(alloc, source, left.next + 1, depth + 1, scopes, nodes)?;
@@ -841,7 +841,7 @@ fn type_name(
     requires depth { depth ≤ 128 }
     requires below { PartsAreBelow nodes.old }
     ensures reads { Reads (text_of source.now) (body (type_name depth)) scopes.old at nodes.new scopes.new result }
-    ensures placed { IfOk result (λ x. IsPlaced (length source.now.tokens.now) at nodes.old nodes.new x) }
+    ensures placed { IfOk result (λ x. IsPlaced (length source.now.tokens.now) at nodes.old nodes.new [] x) }
 {
     let specifiers = row(
         alloc,
@@ -892,7 +892,7 @@ pub(crate) fn row(
     requires depth { depth ≤ 128 }
     requires below { PartsAreBelow nodes.old }
     ensures reads { Reads (text_of source.now) (body (row part fresh depth)) scopes.old at nodes.new scopes.new result }
-    ensures placed { IfOk result (λ x. IsPlaced (length source.now.tokens.now) at nodes.old nodes.new x) }
+    ensures placed { IfOk result (λ x. IsPlaced (length source.now.tokens.now) at nodes.old nodes.new [] x) }
 {
     let first = element(alloc, source, part, FRESH, at, depth, scopes, nodes)?;
     let mut context = past(nodes, FRESH, first.node);
@@ -941,7 +941,7 @@ fn element(
     requires depth { depth ≤ 128 }
     requires below { PartsAreBelow nodes.old }
     ensures reads { Reads (text_of source.now) (body (element part context depth)) scopes.old at nodes.new scopes.new result }
-    ensures placed { IfOk result (λ x. IsPlaced (length source.now.tokens.now) at nodes.old nodes.new x) }
+    ensures placed { IfOk result (λ x. IsPlaced (length source.now.tokens.now) at nodes.old nodes.new [] x) }
 {
     if let Some(kind) = specifier_in(part, source, at) {
         return leaf(alloc, nodes, kind, at, at + 1);
@@ -973,7 +973,7 @@ fn structure(
     requires depth { depth ≤ 128 }
     requires below { PartsAreBelow nodes.old }
     ensures reads { Reads (text_of source.now) (body (structure depth start)) scopes.old (start + 1) nodes.new scopes.new result }
-    ensures placed { IfOk result (λ x. IsPlaced (length source.now.tokens.now) start nodes.old nodes.new x) }
+    ensures placed { IfOk result (λ x. IsPlaced (length source.now.tokens.now) start nodes.old nodes.new [] x) }
 {
     if stands(source, start + 1, Word::Identifier) {
         if !stands(source, start + 1 + 1, Word::LeftBrace) {
@@ -1012,7 +1012,7 @@ fn members(
     requires below { PartsAreBelow nodes.old }
     requires start { start < at }
     ensures reads { Reads (text_of source.now) (body (members depth start none)) scopes.old at nodes.new scopes.new result }
-    ensures placed { IfOk result (λ x. IsPlaced (length source.now.tokens.now) start nodes.old nodes.new x) }
+    ensures placed { IfOk result (λ x. IsPlaced (length source.now.tokens.now) start nodes.old nodes.new [] x) }
 {
     let mut parts = Row::new(alloc);
     let mut next = at;
@@ -1041,7 +1041,7 @@ fn member_declaration(
     requires depth { depth ≤ 128 }
     requires below { PartsAreBelow nodes.old }
     ensures reads { Reads (text_of source.now) (body (member depth)) scopes.old at nodes.new scopes.new result }
-    ensures placed { IfOk result (λ x. IsPlaced (length source.now.tokens.now) at nodes.old nodes.new x) }
+    ensures placed { IfOk result (λ x. IsPlaced (length source.now.tokens.now) at nodes.old nodes.new [] x) }
 {
     let specifiers = row(
         alloc,
@@ -1073,7 +1073,7 @@ fn member_declarators(
     requires start { start < specifiers.next }
     requires node { specifiers.node + 1 ≡ length nodes.old }
     ensures reads { Reads (text_of source.now) (body (member_declarators (past_part fresh (tree nodes.old specifiers.node)) depth start (tree nodes.old specifiers.node & none))) scopes.old specifiers.next nodes.new scopes.new result }
-    ensures placed { IfOk result (λ x. IsPlaced (length source.now.tokens.now) start nodes.old nodes.new x) }
+    ensures placed { IfOk result (λ x. IsPlaced (length source.now.tokens.now) start nodes.old nodes.new (specifiers.node ∷ []) x) }
 {
     let mut context = past(nodes, FRESH, specifiers.node);
     let mut parts = row_of(alloc, specifiers.node)?;
@@ -1116,7 +1116,7 @@ fn enumeration(
     requires depth { depth ≤ 128 }
     requires below { PartsAreBelow nodes.old }
     ensures reads { Reads (text_of source.now) (body (enumeration depth start)) scopes.old (start + 1) nodes.new scopes.new result }
-    ensures placed { IfOk result (λ x. IsPlaced (length source.now.tokens.now) start nodes.old nodes.new x) }
+    ensures placed { IfOk result (λ x. IsPlaced (length source.now.tokens.now) start nodes.old nodes.new [] x) }
 {
     if stands(source, start + 1, Word::Identifier) {
         if !stands(source, start + 1 + 1, Word::LeftBrace) {
@@ -1155,7 +1155,7 @@ fn enumerators(
     requires below { PartsAreBelow nodes.old }
     requires start { start < at }
     ensures reads { Reads (text_of source.now) (body (enumerators depth start none)) scopes.old at nodes.new scopes.new result }
-    ensures placed { IfOk result (λ x. IsPlaced (length source.now.tokens.now) start nodes.old nodes.new x) }
+    ensures placed { IfOk result (λ x. IsPlaced (length source.now.tokens.now) start nodes.old nodes.new [] x) }
 {
     let mut parts = Row::new(alloc);
     let mut next = at;
@@ -1188,7 +1188,7 @@ fn enumerator(
     requires depth { depth ≤ 128 }
     requires below { PartsAreBelow nodes.old }
     ensures reads { Reads (text_of source.now) (body (enumerator depth)) scopes.old at nodes.new scopes.new result }
-    ensures placed { IfOk result (λ x. IsPlaced (length source.now.tokens.now) at nodes.old nodes.new x) }
+    ensures placed { IfOk result (λ x. IsPlaced (length source.now.tokens.now) at nodes.old nodes.new [] x) }
 {
     expect(source, at, Word::Identifier, depth)?;
     if !stands(source, at + 1, Word::Equal) {
@@ -1219,7 +1219,7 @@ pub(crate) fn declarator(
     requires depth { depth ≤ 128 }
     requires below { PartsAreBelow nodes.old }
     ensures reads { Reads (text_of source.now) (body (declarator (wanted_of wanted) context depth)) scopes.old at nodes.new scopes.new result }
-    ensures placed { IfOk result (λ x. IsPlaced (length source.now.tokens.now) at nodes.old nodes.new x) }
+    ensures placed { IfOk result (λ x. IsPlaced (length source.now.tokens.now) at nodes.old nodes.new [] x) }
 {
     if stands(source, at, Word::Star) {
         return pointer(alloc, source, wanted, context, at, depth, scopes, nodes);
@@ -1256,7 +1256,7 @@ fn pointer(
     requires below { PartsAreBelow nodes.old }
     requires star { is_word (text_of source.now) start Word.Star ≡ true }
     ensures reads { Reads (text_of source.now) (body (declarator (wanted_of wanted) context depth)) scopes.old start nodes.new scopes.new result }
-    ensures placed { IfOk result (λ x. IsPlaced (length source.now.tokens.now) start nodes.old nodes.new x) }
+    ensures placed { IfOk result (λ x. IsPlaced (length source.now.tokens.now) start nodes.old nodes.new [] x) }
 {
     room(start, depth)?;
     let next = consts(source, start + 1);
@@ -1318,7 +1318,7 @@ fn bracketed(
     requires other { is_word (text_of source.now) start Word.Star ≡ false }
     requires bracket { is_word (text_of source.now) start Word.LeftParen ≡ true }
     ensures reads { Reads (text_of source.now) (body (declarator (wanted_of wanted) context depth)) scopes.old start nodes.new scopes.new result }
-    ensures placed { IfOk result (λ x. IsPlaced (length source.now.tokens.now) start nodes.old nodes.new x) }
+    ensures placed { IfOk result (λ x. IsPlaced (length source.now.tokens.now) start nodes.old nodes.new [] x) }
 {
     room(start, depth)?;
     let inner = declarator(
@@ -1370,7 +1370,7 @@ fn array_start(
     requires depth { depth ≤ 128 }
     requires below { PartsAreBelow nodes.old }
     ensures reads { Reads (text_of source.now) (array_start (wanted_of wanted) depth at) scopes.old at nodes.new scopes.new result }
-    ensures placed { IfOk result (λ x. IsPlaced (length source.now.tokens.now) at nodes.old nodes.new x) }
+    ensures placed { IfOk result (λ x. IsPlaced (length source.now.tokens.now) at nodes.old nodes.new [] x) }
 {
     if !may_omit(wanted) {
         return Err(refused(source, at, depth));
@@ -1402,7 +1402,7 @@ fn declarator_suffixes(
     requires start { start < first.next }
     requires node { first.node + 1 ≡ length nodes.old }
     ensures reads { Reads (text_of source.now) (body (declarator_suffixes depth start (tree nodes.old first.node))) scopes.old first.next nodes.new scopes.new result }
-    ensures grown { IfOk result (λ x. IsGrown (length source.now.tokens.now) start nodes.old nodes.new x) }
+    ensures grown { IfOk result (λ x. IsGrown (length source.now.tokens.now) start nodes.old nodes.new (first.node ∷ []) x) }
 {
     let mut left = first;
     'suffixes: while let Some(longer) = declarator_suffix(
@@ -1431,7 +1431,7 @@ fn declarator_suffix(
     requires start { start < left.next }
     requires node { left.node + 1 ≡ length nodes.old }
     ensures reads { MayLengthen (text_of source.now) (λ t. body (declarator_suffixes depth start t)) (tree nodes.old left.node) (give (tree nodes.old left.node)) scopes.old left.next nodes.new scopes.new result }
-    ensures placed { IfOk result (λ o. IfSome o (IsPlaced (length source.now.tokens.now) left.next nodes.old nodes.new)) }
+    ensures placed { IfOk result (λ o. IfSome o (IsPlaced (length source.now.tokens.now) left.next nodes.old nodes.new (left.node ∷ []))) }
     ensures none { IfOk result (λ o. IfNone o ((nodes.new ≡ nodes.old) × (scopes.new ≡ scopes.old))) }
 {
     if stands(source, left.next, Word::LeftBracket) {
@@ -1464,7 +1464,7 @@ fn array(
     requires node { left.node + 1 ≡ length nodes.old }
     requires bracket { is_word (text_of source.now) left.next Word.LeftBracket ≡ true }
     ensures reads { Lengthens (text_of source.now) (λ t. body (declarator_suffixes depth start t)) (tree nodes.old left.node) scopes.old left.next nodes.new scopes.new result }
-    ensures placed { IfOk result (λ x. IsPlaced (length source.now.tokens.now) left.next nodes.old nodes.new x) }
+    ensures placed { IfOk result (λ x. IsPlaced (length source.now.tokens.now) left.next nodes.old nodes.new (left.node ∷ []) x) }
 {
     room(left.next, depth)?;
     let own = taken(alloc, scopes);
@@ -1493,7 +1493,7 @@ fn function(
     requires other { is_word (text_of source.now) left.next Word.LeftBracket ≡ false }
     requires bracket { is_word (text_of source.now) left.next Word.LeftParen ≡ true }
     ensures reads { Lengthens (text_of source.now) (λ t. body (declarator_suffixes depth start t)) (tree nodes.old left.node) scopes.old left.next nodes.new scopes.new result }
-    ensures placed { IfOk result (λ x. IsPlaced (length source.now.tokens.now) left.next nodes.old nodes.new x) }
+    ensures placed { IfOk result (λ x. IsPlaced (length source.now.tokens.now) left.next nodes.old nodes.new (left.node ∷ []) x) }
 {
     room(left.next, depth)?;
     if stands(source, left.next + 1, Word::RightParen) {
@@ -1541,7 +1541,7 @@ fn abstract_suffixes(
     requires start { start < first.next }
     requires node { first.node + 1 ≡ length nodes.old }
     ensures reads { Reads (text_of source.now) (body (abstract_suffixes depth start (tree nodes.old first.node))) scopes.old first.next nodes.new scopes.new result }
-    ensures grown { IfOk result (λ x. IsGrown (length source.now.tokens.now) start nodes.old nodes.new x) }
+    ensures grown { IfOk result (λ x. IsGrown (length source.now.tokens.now) start nodes.old nodes.new (first.node ∷ []) x) }
 {
     let mut left = first;
     'suffixes: while stands(source, left.next, Word::LeftBracket) {
@@ -1598,8 +1598,9 @@ fn parameters(
     requires depth { depth ≤ 128 }
     requires below { PartsAreBelow nodes.old }
     ensures reads { Reads (text_of source.now) (body (parameters depth)) scopes.old at nodes.new scopes.new result }
-    ensures placed { IfOk result (λ x. IsPlaced (length source.now.tokens.now) at nodes.old nodes.new x) }
+    ensures placed { IfOk result (λ x. IsPlaced (length source.now.tokens.now) at nodes.old nodes.new [] x) }
 {
+    let before = nodes.len();
     let first = parameter(alloc, source, at, depth, scopes, nodes)?;
     let mut parts = row_of(alloc, first.node)?;
     let mut next = first.next;
@@ -1611,7 +1612,7 @@ fn parameters(
         parts.push(more.node)?;
         next = more.next;
     }
-    gathered_parameters(alloc, nodes, at, Listed { parts, next })
+    gathered_parameters(alloc, nodes, before, at, Listed { parts, next })
 }
 
 /// A parameter.
@@ -1629,7 +1630,7 @@ fn parameter(
     requires depth { depth ≤ 128 }
     requires below { PartsAreBelow nodes.old }
     ensures reads { Reads (text_of source.now) (body (parameter depth)) scopes.old at nodes.new scopes.new result }
-    ensures placed { IfOk result (λ x. IsPlaced (length source.now.tokens.now) at nodes.old nodes.new x) }
+    ensures placed { IfOk result (λ x. IsPlaced (length source.now.tokens.now) at nodes.old nodes.new [] x) }
 {
     let specifiers = row(alloc, source, Part::Specifiers, at, depth, scopes, nodes)?;
     if !starts_declarator(source, specifiers.next) {

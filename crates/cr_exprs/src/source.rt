@@ -79,7 +79,8 @@ pub fn is_type_identifier(
     scopes: &LinkedList<Scope>,
 ) -> bool
     requires { IsReadable source.now }
-    ensures { result ≡ passes (text_of source.now) scopes.now at (type_identifier typed) }
+    ensures answer { result ≡ passes (text_of source.now) scopes.now at (type_identifier typed) }
+    ensures inside { IsTrue result → at < length source.now.tokens.now }
 {
     stands(source, at, Word::Identifier) && is_type(scopes, spelling(source, at)) && !typed
 }
@@ -92,7 +93,8 @@ pub fn is_declared(
     scopes: &LinkedList<Scope>,
 ) -> bool
     requires { IsReadable source.now }
-    ensures { result ≡ passes (text_of source.now) scopes.now at (declared typed) }
+    ensures answer { result ≡ passes (text_of source.now) scopes.now at (declared typed) }
+    ensures inside { IsTrue result → at < length source.now.tokens.now }
 {
     stands(source, at, Word::Identifier) && (typed || !is_type(scopes, spelling(source, at)))
 }

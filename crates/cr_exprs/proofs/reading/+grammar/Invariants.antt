@@ -1,4 +1,4 @@
-use Rattle.std.proofs.Common.{◌≡◌, ◌+◌, ◌-◌, ◌*◌, ◌<◌, ◌≤◌, length}
+use Rattle.std.proofs.Common.{◌+◌, ◌-◌, ◌*◌, ◌<◌, ◌≤◌, [], ◌∷◌, length}
 use Rattle.cr_syntax.specs.Trees.{none, ◌&◌}
 use Rattle.cr_syntax.specs.Kept.{PartsAreBelow, AreBelow, row_in}
 use Rattle.cr_syntax.specs.Context.{fresh, past_part}
@@ -6,6 +6,7 @@ use Rattle.cr_syntax.specs.Machine as m
 use Rattle.cr_syntax.specs.MachineBody.{body}
 use Rattle.cr_exprs.specs.Source.{text_of}
 use Rattle.cr_exprs.specs.Tables.{level_of}
+use Rattle.cr_exprs.specs.Loose.{Replaces}
 use Rattle.cr_exprs.specs.Answers.{Goes, IsPlaced, IsGrown, IsRow, Keeps, tree}
 use Rattle.cr_exprs.proofs.reading.+grammar.Given as goal
 
@@ -138,7 +139,7 @@ decreases-unary l = (length l.source.now.tokens.now - l.at) * 64 + 18
 abbrev pub invariant-expression-commas : goal.invariant-expression-commas
 invariant-expression-commas l = record {
   goes : Goes (text_of l.source) (body (m.expression l.depth)) l.fn.scopes l.at (body (m.commas l.depth l.at (tree l.nodes l.left.node))) l.scopes l.left.next;
-  placed : IsPlaced (length l.source.tokens.now) l.at l.fn.nodes l.nodes l.left;
+  placed : IsPlaced (length l.source.tokens.now) l.at l.fn.nodes l.nodes [] l.left;
 }
 
 abbrev pub decreases-expression-commas : goal.decreases-expression-commas
@@ -147,7 +148,7 @@ decreases-expression-commas l = length l.source.tokens.now - l.left.next
 abbrev pub invariant-binary-operands : goal.invariant-binary-operands
 invariant-binary-operands l = record {
   goes : Goes (text_of l.source) (body (m.binary l.part l.depth)) l.fn.scopes l.at (body (m.operands l.part l.depth l.at (tree l.nodes l.left.node))) l.scopes l.left.next;
-  placed : IsPlaced (length l.source.tokens.now) l.at l.fn.nodes l.nodes l.left;
+  placed : IsPlaced (length l.source.tokens.now) l.at l.fn.nodes l.nodes [] l.left;
 }
 
 abbrev pub decreases-binary-operands : goal.decreases-binary-operands
@@ -156,7 +157,7 @@ decreases-binary-operands l = length l.source.tokens.now - l.left.next
 abbrev pub invariant-suffixes-suffixes : goal.invariant-suffixes-suffixes
 invariant-suffixes-suffixes l = record {
   goes : Goes (text_of l.source) (body (m.suffixes l.depth l.start (tree l.fn.nodes l.fn.first.node))) l.fn.scopes l.fn.first.next (body (m.suffixes l.depth l.start (tree l.nodes l.left.node))) l.scopes l.left.next;
-  grown : IsGrown (length l.source.tokens.now) l.start l.fn.nodes l.nodes l.left;
+  grown : IsGrown (length l.source.tokens.now) l.start l.fn.nodes l.nodes (l.fn.first.node ∷ []) l.left;
   far : l.fn.first.next ≤ l.left.next;
 }
 
@@ -166,7 +167,7 @@ decreases-suffixes-suffixes l = length l.source.tokens.now - l.left.next
 abbrev pub invariant-declarator_suffixes-suffixes : goal.invariant-declarator_suffixes-suffixes
 invariant-declarator_suffixes-suffixes l = record {
   goes : Goes (text_of l.source) (body (m.declarator_suffixes l.depth l.start (tree l.fn.nodes l.fn.first.node))) l.fn.scopes l.fn.first.next (body (m.declarator_suffixes l.depth l.start (tree l.nodes l.left.node))) l.scopes l.left.next;
-  grown : IsGrown (length l.source.tokens.now) l.start l.fn.nodes l.nodes l.left;
+  grown : IsGrown (length l.source.tokens.now) l.start l.fn.nodes l.nodes (l.fn.first.node ∷ []) l.left;
   far : l.fn.first.next ≤ l.left.next;
 }
 
@@ -176,7 +177,7 @@ decreases-declarator_suffixes-suffixes l = length l.source.tokens.now - l.left.n
 abbrev pub invariant-abstract_suffixes-suffixes : goal.invariant-abstract_suffixes-suffixes
 invariant-abstract_suffixes-suffixes l = record {
   goes : Goes (text_of l.source) (body (m.abstract_suffixes l.depth l.start (tree l.fn.nodes l.fn.first.node))) l.fn.scopes l.fn.first.next (body (m.abstract_suffixes l.depth l.start (tree l.nodes l.left.node))) l.scopes l.left.next;
-  grown : IsGrown (length l.source.tokens.now) l.start l.fn.nodes l.nodes l.left;
+  grown : IsGrown (length l.source.tokens.now) l.start l.fn.nodes l.nodes (l.fn.first.node ∷ []) l.left;
   far : l.fn.first.next ≤ l.left.next;
 }
 
@@ -188,6 +189,7 @@ invariant-arguments-arguments l = record {
   goes : Goes (text_of l.source) (body (m.arguments l.depth none)) l.fn.scopes l.at (body (m.arguments l.depth (row_in l.nodes l.parts))) l.scopes l.next;
   keeps : Keeps l.fn.nodes l.nodes;
   below : PartsAreBelow l.nodes;
+  kept : Replaces (length l.source.tokens.now) l.fn.nodes l.nodes [] l.parts;
   parts : AreBelow l.parts (length l.nodes);
   from : l.at ≤ l.next;
   to : l.next ≤ length l.source.tokens.now;
@@ -201,6 +203,7 @@ invariant-members-members l = record {
   goes : Goes (text_of l.source) (body (m.members l.depth l.start none)) l.fn.scopes l.at (body (m.members l.depth l.start (row_in l.nodes l.parts))) l.scopes l.next;
   keeps : Keeps l.fn.nodes l.nodes;
   below : PartsAreBelow l.nodes;
+  kept : Replaces (length l.source.tokens.now) l.fn.nodes l.nodes [] l.parts;
   parts : AreBelow l.parts (length l.nodes);
   from : l.at ≤ l.next;
   to : l.next ≤ length l.source.tokens.now;
@@ -214,6 +217,7 @@ invariant-enumerators-enumerators l = record {
   goes : Goes (text_of l.source) (body (m.enumerators l.depth l.start none)) l.fn.scopes l.at (body (m.enumerators l.depth l.start (row_in l.nodes l.parts))) l.scopes l.next;
   keeps : Keeps l.fn.nodes l.nodes;
   below : PartsAreBelow l.nodes;
+  kept : Replaces (length l.source.tokens.now) l.fn.nodes l.nodes [] l.parts;
   parts : AreBelow l.parts (length l.nodes);
   from : l.at ≤ l.next;
   to : l.next ≤ length l.source.tokens.now;
@@ -227,6 +231,7 @@ invariant-member_declarators-declarators l = record {
   goes : Goes (text_of l.source) (body (m.member_declarators (past_part fresh (tree l.fn.nodes l.fn.specifiers.node)) l.depth l.start (tree l.fn.nodes l.fn.specifiers.node & none))) l.fn.scopes l.fn.specifiers.next (body (m.member_declarators l.context l.depth l.start (row_in l.nodes l.parts))) l.scopes l.next;
   keeps : Keeps l.fn.nodes l.nodes;
   below : PartsAreBelow l.nodes;
+  kept : Replaces (length l.source.tokens.now) l.fn.nodes l.nodes (l.fn.specifiers.node ∷ []) l.parts;
   parts : AreBelow l.parts (length l.nodes);
   from : l.fn.specifiers.next ≤ l.next;
   to : l.next ≤ length l.source.tokens.now;
@@ -240,6 +245,7 @@ invariant-parameters-parameters l = record {
   goes : Goes (text_of l.source) (body (m.parameters l.depth)) l.fn.scopes l.at (body (m.more_parameters l.depth l.at (row_in l.nodes l.parts))) l.scopes l.next;
   keeps : Keeps l.fn.nodes l.nodes;
   below : PartsAreBelow l.nodes;
+  kept : Replaces (length l.source.tokens.now) l.fn.nodes l.nodes [] l.parts;
   row : IsRow l.parts (length l.nodes);
   grows : length l.fn.nodes < length l.nodes;
   from : l.at < l.next;
@@ -254,6 +260,7 @@ invariant-row-more l = record {
   goes : Goes (text_of l.source) (body (m.row l.part fresh l.depth)) l.fn.scopes l.at (body (m.more l.part l.context l.depth l.at (row_in l.nodes l.parts))) l.scopes l.next;
   keeps : Keeps l.fn.nodes l.nodes;
   below : PartsAreBelow l.nodes;
+  kept : Replaces (length l.source.tokens.now) l.fn.nodes l.nodes [] l.parts;
   row : IsRow l.parts (length l.nodes);
   grows : length l.fn.nodes < length l.nodes;
   from : l.at < l.next;

@@ -1,5 +1,8 @@
-use Rattle.cr_exprs.proofs.Runs.{exit, fails, stops, deep, no_memory, finish, goes_on, through, handed}
-use Rattle.cr_syntax.specs.Machine.{suffixes, run_here, run_take, run_pass, run_stop, run_call}
+use Rattle.std.proofs.Common.{[], ◌∷◌, arith}
+use Rattle.cr_exprs.proofs.Nodes.{keeps_none}
+use Rattle.cr_exprs.proofs.Loose.{placed_push}
+use Rattle.cr_exprs.proofs.Runs.{exit, stops, goes_on, handed}
+use Rattle.cr_syntax.specs.Machine.{suffixes, run_here, run_take, run_pass, run_stop}
 use Rattle.cr_syntax.specs.MachineBody.{body}
 use Rattle.cr_exprs.proofs.reading.member.Goals as goal
 
@@ -9,3 +12,6 @@ returns-in_err-expect-clause-reads c = λ c'. exit c.from_residual.result _ c.fr
 pub returns-clause-reads : goal.returns-clause-reads
 returns-clause-reads c = λ c'. goes_on (λ t. body (suffixes c.args.depth c.args.start t)) c.over.new.nodes c.over.result c.over.ensures.err c.over.ensures.next c.over.ensures.tree
     (record { on = λ y r. run_take c.in_ok-expect.ensures.ok tt (run_here (handed y r)) })
+
+pub returns-clause-placed : goal.returns-clause-placed
+returns-clause-placed c = placed_push c.over.new.nodes (c.args.left.node ∷ []) (c.args.left.node ∷ []) c.over.result c.over.ensures.ok c.over.ensures.next (omega arith) (omega (arith, c.in_ok-expect.ensures.inside)) (keeps_none _) (λ loose h. h)

@@ -1,4 +1,4 @@
-use Rattle.std.proofs.Common.{arith, refl, sym, ◌∙◌}
+use Rattle.std.proofs.Common.{arith}
 use Rattle.cr_syntax.specs.Machine.{run_give, run_call, run_fail, run_bar, run_free}
 use Rattle.cr_exprs.specs.Expression.{start_of}
 use Rattle.cr_exprs.proofs.Runs.{exit, fails, stops}
