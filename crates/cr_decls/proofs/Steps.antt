@@ -1,6 +1,6 @@
 -- Steps of the machine's runs as the functions of declarations and statements take them.
 use Rattle.std.proofs.Common.{◌≡◌, ℕ, zero, suc, ◌+◌, ◌-◌, ◌<◌, ◌≤◌, Bool, true, false, List, [], ◌∷◌, ◌++◌, Option, None, Some, Result, Ok, Err, length, slice_index, refl, sym, ap, subst, ◌∙◌, arith, length-append}
-use Rattle.std.specs.Prelude.{option_to_list}
+use Rattle.std.specs.Prelude.{IfOk, option_to_list}
 use Rattle.cr_syntax.specs.declared.node.Node.{Node}
 use Rattle.cr_syntax.specs.declared.symbol.Context.{Context}
 use Rattle.cr_syntax.specs.Words.{Lexeme}
@@ -11,8 +11,11 @@ use Rattle.cr_syntax.specs.Machine as m
 use Rattle.cr_syntax.specs.Machine.{Goal, Prog, Test, Manner, Reply, call, give, take, run_look, run_set, run_take, run_deep, run_pass, run_seen, run_unseen, run_call, run_fail}
 use Rattle.cr_syntax.specs.MachineBody.{body, unlabelled, declared_on, for_body}
 use Rattle.cr_exprs.specs.declared.fault.ParseFault.{ParseFault}
-use Rattle.cr_exprs.specs.Answers.{RunsTo, Comes, Gives, Goes, Refuses, Keeps, tree}
+use Rattle.cr_exprs.specs.declared.found.Found.{Found}
+use Rattle.cr_exprs.specs.Loose.{AreKept}
+use Rattle.cr_exprs.specs.Answers.{RunsTo, Comes, Gives, Goes, Keeps, IsPlaced, IsGrown, tree}
 use Rattle.cr_exprs.proofs.Nodes.{row_kept, trees_append, trees_none, is_row_more}
+use Rattle.cr_exprs.proofs.Loose.{times_append, kept_as}
 use Rattle.cr_decls.specs.declared.labels.Labels.{Labels}
 use Rattle.cr_decls.specs.declared.labels.Labels.TheVariants.{OwnBlock, Nowhere}
 use Rattle.cr_decls.specs.Programs.{labels_of, with_step}
@@ -84,6 +87,29 @@ row_below ps p n q lt = subst (λ x. AreBelow x n) (sym q) (below_one p n lt)
 pub loop_below : (f g h ps : List ℕ) (k n : ℕ) {a b c : ℕ} → AreBelow f a → AreBelow g b → AreBelow h c → a ≤ n → b ≤ n → c ≤ n → k < n → ps ≡ f ++ g ++ h ++ k ∷ [] → AreBelow ps n
 loop_below f g h ps k n {a} {b} {c} x y z la lb lc lt q =
     subst (λ r. AreBelow r n) (sym q) (below_append (f ++ g ++ h) (k ∷ []) n (below_append (f ++ g) h n (below_append f g n (below_longer f a n x la) (below_longer g b n y lb)) (below_longer h c n z lc)) (below_one k n lt))
+
+-- they are loose until then, the last one first
+pub loop_kept : (tokens : ℕ) (ns : List Node) (f g h ps : List ℕ) (k : ℕ) (loose : List ℕ) → ps ≡ f ++ g ++ h ++ k ∷ [] → AreKept tokens ns (k ∷ h ++ (g ++ (f ++ loose))) → AreKept tokens ns (ps ++ loose)
+loop_kept tokens ns f g h ps k loose q kept =
+    subst (λ x. AreKept tokens ns (x ++ loose)) (sym q) (kept_as tokens ns (k ∷ h ++ (g ++ (f ++ loose))) ((f ++ g ++ h ++ k ∷ []) ++ loose) (λ p.
+        let a = times_append (k ∷ h) (g ++ (f ++ loose)) p in
+        let b = times_append (k ∷ []) h p in
+        let c = times_append g (f ++ loose) p in
+        let d = times_append f loose p in
+        let e = times_append (f ++ g ++ h ++ k ∷ []) loose p in
+        let u = times_append (f ++ g ++ h) (k ∷ []) p in
+        let v = times_append (f ++ g) h p in
+        let w = times_append f g p in
+        omega arith) kept)
+
+-- a declaration's first declarator and its specifiers are loose
+pub kept_first : (tokens : ℕ) (ns : List Node) (p q : ℕ) (ps loose : List ℕ) → ps ≡ q ∷ [] → AreKept tokens ns (p ∷ q ∷ loose) → AreKept tokens ns (p ∷ ps ++ loose)
+kept_first tokens ns p q ps loose e h = subst (λ x. AreKept tokens ns (p ∷ x ++ loose)) (sym e) h
+
+-- a node that was read may be said to have grown
+pub grown_as : (tokens at : ℕ) (old new : List Node) (taken : List ℕ) (r : Result Found ParseFault) → IfOk r (IsPlaced tokens at old new taken) → IfOk r (IsGrown tokens at old new taken)
+grown_as tokens at old new taken (Ok x) h = record { last = h.last; keeps = h.keeps; below = h.below; kept = h.kept; from = h.from; to = h.to }
+grown_as tokens at old new taken (Err f) h = tt
 
 -- the declarators of a declaration go on, in what is said so far and with the trees so far
 pub declared_shift : {ts : List Lexeme} {h k : Context} {t u : Trees} {e : Scopes} {i : ℕ} {y : Reply} (d s q : ℕ) (a : Trees) → h ≡ k → t ≡ u → RunsTo ts (declared_on h d s t q a) e i y → RunsTo ts (declared_on k d s u q a) e i y

@@ -30,9 +30,9 @@ pub(crate) fn controlling(
     requires at { at ≤ length source.now.tokens.now }
     requires depth { depth ≤ 128 }
     requires below { PartsAreBelow nodes.old }
-    ensures reads { (f : Trees → Prog) → Comes (text_of source.now) (controlling depth f) scopes.old (at) (λ x. Goes (text_of source.now) (controlling depth f) scopes.old (at) (f (tree nodes.new x.node)) scopes.new x.next) result }
+    ensures reads { (f : Trees → Prog) → Comes (text_of source.now) (controlling depth f) scopes.old at (λ x. Goes (text_of source.now) (controlling depth f) scopes.old at (f (tree nodes.new x.node)) scopes.new x.next) result }
     ensures room { OnOk result (depth < 128) }
-    ensures placed { IfOk result (λ x. IsPlaced (length source.now.tokens.now) (at) nodes.old nodes.new x) }
+    ensures placed { IfOk result (λ x. IsPlaced (length source.now.tokens.now) at nodes.old nodes.new [] x) }
 {
     begin(alloc, scopes)?;
     expect(source, at, Word::LeftParen, depth)?;
@@ -58,8 +58,8 @@ pub(crate) fn repeated(
     requires at { at ≤ length source.now.tokens.now }
     requires depth { depth < 128 }
     requires below { PartsAreBelow nodes.old }
-    ensures reads { (f : Trees → Prog) → Comes (text_of source.now) (repeated depth f) scopes.old (at) (λ x. Goes (text_of source.now) (repeated depth f) scopes.old (at) (f (tree nodes.new x.node)) scopes.new x.next) result }
-    ensures placed { IfOk result (λ x. IsPlaced (length source.now.tokens.now) (at) nodes.old nodes.new x) }
+    ensures reads { (f : Trees → Prog) → Comes (text_of source.now) (repeated depth f) scopes.old at (λ x. Goes (text_of source.now) (repeated depth f) scopes.old at (f (tree nodes.new x.node)) scopes.new x.next) result }
+    ensures placed { IfOk result (λ x. IsPlaced (length source.now.tokens.now) at nodes.old nodes.new [] x) }
 {
     expect(source, at, Word::LeftParen, depth)?;
     let test = read(alloc, source, Goal::Expression, at + 1, depth + 1, scopes, nodes)?;
@@ -84,8 +84,8 @@ pub(crate) fn first_clause(
     requires at { at ≤ length source.now.tokens.now }
     requires depth { depth < 128 }
     requires below { PartsAreBelow nodes.old }
-    ensures reads { (f : Trees → Prog) → Comes (text_of source.now) (first_clause depth f) scopes.old (at) (λ x. Goes (text_of source.now) (first_clause depth f) scopes.old (at) (f (row_in nodes.new (option_to_list x.node))) scopes.new x.next) result }
-    ensures placed { IfOk result (λ x. IsOptional (length source.now.tokens.now) (at) nodes.old nodes.new x) }
+    ensures reads { (f : Trees → Prog) → Comes (text_of source.now) (first_clause depth f) scopes.old at (λ x. Goes (text_of source.now) (first_clause depth f) scopes.old at (f (row_in nodes.new (option_to_list x.node))) scopes.new x.next) result }
+    ensures placed { IfOk result (λ x. IsOptional (length source.now.tokens.now) at nodes.old nodes.new x) }
 {
     if !starts_specifier(source, at, false, scopes) {
         return clause(alloc, source, at, depth + 1, scopes, nodes);
@@ -111,7 +111,7 @@ pub(crate) fn clause(
     requires depth { depth ≤ 128 }
     requires below { PartsAreBelow nodes.old }
     ensures reads { Answers (text_of source.now) (body (clause depth)) scopes.old at (λ x. row_in nodes.new (option_to_list x.node)) scopes.new (λ x. x.next) result }
-    ensures placed { IfOk result (λ x. IsOptional (length source.now.tokens.now) (at) nodes.old nodes.new x) }
+    ensures placed { IfOk result (λ x. IsOptional (length source.now.tokens.now) at nodes.old nodes.new x) }
 {
     if stands(source, at, Word::Semicolon) {
         return Ok(Optional {
@@ -141,7 +141,7 @@ pub(crate) fn last_clause(
     requires depth { depth < 128 }
     requires below { PartsAreBelow nodes.old }
     ensures reads { (p : Prog) (f : Trees → Prog) → Comes (text_of source.now) (last_clause depth p f) scopes.old at (λ x. Goes (text_of source.now) (last_clause depth p f) scopes.old at (with_step p f nodes.new x.node) scopes.new x.next) result }
-    ensures placed { IfOk result (λ x. IsOptional (length source.now.tokens.now) (at) nodes.old nodes.new x) }
+    ensures placed { IfOk result (λ x. IsOptional (length source.now.tokens.now) at nodes.old nodes.new x) }
 {
     if stands(source, at, Word::RightParen) {
         return Ok(Optional {

@@ -1,6 +1,6 @@
 //! Declarations and initializers (C11 6.7, 6.7.9), one function a goal of the machine.
 
-ghost use Rattle.std.specs.Prelude.{◌≡◌, ◌+◌, ◌<◌, ◌≤◌, IfOk, length};
+ghost use Rattle.std.specs.Prelude.{◌≡◌, ◌+◌, ◌<◌, ◌≤◌, ◌∷◌, [], IfOk, length};
 ghost use Rattle.cr_syntax.specs.Trees.{none, ◌&◌};
 ghost use Rattle.cr_syntax.specs.Kept.{PartsAreBelow};
 ghost use Rattle.cr_syntax.specs.Context.{fresh, past_part};
@@ -31,8 +31,8 @@ pub(crate) fn initializer(
     requires at { at ≤ length source.now.tokens.now }
     requires depth { depth ≤ 128 }
     requires below { PartsAreBelow nodes.old }
-    ensures reads { Reads (text_of source.now) (body (initializer depth)) scopes.old (at) nodes.new scopes.new result }
-    ensures placed { IfOk result (λ x. IsPlaced (length source.now.tokens.now) (at) nodes.old nodes.new x) }
+    ensures reads { Reads (text_of source.now) (body (initializer depth)) scopes.old at nodes.new scopes.new result }
+    ensures placed { IfOk result (λ x. IsPlaced (length source.now.tokens.now) at nodes.old nodes.new [] x) }
 {
     bar_designator(source, at, depth)?;
     if !stands(source, at, Word::LeftBrace) {
@@ -57,7 +57,7 @@ fn initializers(
     requires depth { depth < 128 }
     requires below { PartsAreBelow nodes.old }
     ensures reads { Reads (text_of source.now) (body (initializers depth start none)) scopes.old (start + 1) nodes.new scopes.new result }
-    ensures placed { IfOk result (λ x. IsPlaced (length source.now.tokens.now) (start) nodes.old nodes.new x) }
+    ensures placed { IfOk result (λ x. IsPlaced (length source.now.tokens.now) start nodes.old nodes.new [] x) }
 {
     let mut parts = Row::new(alloc);
     let mut next = start + 1;
@@ -91,8 +91,8 @@ fn initialized(
     requires below { PartsAreBelow nodes.old }
     requires start { start < declarator.next }
     requires node { declarator.node + 1 ≡ length nodes.old }
-    ensures reads { Reads (text_of source.now) (body (initialized depth start (tree nodes.old declarator.node))) scopes.old (declarator.next) nodes.new scopes.new result }
-    ensures grown { IfOk result (λ x. IsGrown (length source.now.tokens.now) start nodes.old nodes.new x) }
+    ensures reads { Reads (text_of source.now) (body (initialized depth start (tree nodes.old declarator.node))) scopes.old declarator.next nodes.new scopes.new result }
+    ensures grown { IfOk result (λ x. IsGrown (length source.now.tokens.now) start nodes.old nodes.new (declarator.node ∷ []) x) }
     ensures far { IfOk result (λ x. declarator.next ≤ x.next) }
 {
     if !stands(source, declarator.next, Word::Equal) {
@@ -123,8 +123,8 @@ pub(crate) fn declaration(
     requires at { at ≤ length source.now.tokens.now }
     requires depth { depth ≤ 128 }
     requires below { PartsAreBelow nodes.old }
-    ensures reads { Reads (text_of source.now) (body (declaration depth)) scopes.old (at) nodes.new scopes.new result }
-    ensures placed { IfOk result (λ x. IsPlaced (length source.now.tokens.now) (at) nodes.old nodes.new x) }
+    ensures reads { Reads (text_of source.now) (body (declaration depth)) scopes.old at nodes.new scopes.new result }
+    ensures placed { IfOk result (λ x. IsPlaced (length source.now.tokens.now) at nodes.old nodes.new [] x) }
 {
     let specifiers = specifiers(alloc, source, at, depth, scopes, nodes)?;
     if stands(source, specifiers.next, Word::Semicolon) {
@@ -161,8 +161,8 @@ pub(crate) fn declarators(
     requires from { specifiers.next < first.next }
     requires specifiers { specifiers.node < length nodes.old }
     requires node { first.node + 1 ≡ length nodes.old }
-    ensures reads { Reads (text_of source.now) (declared_on (past_part fresh (tree nodes.old specifiers.node)) depth start (tree nodes.old specifiers.node & none) specifiers.next (tree nodes.old first.node)) scopes.old (first.next) nodes.new scopes.new result }
-    ensures placed { IfOk result (λ x. IsPlaced (length source.now.tokens.now) (start) nodes.old nodes.new x) }
+    ensures reads { Reads (text_of source.now) (declared_on (past_part fresh (tree nodes.old specifiers.node)) depth start (tree nodes.old specifiers.node & none) specifiers.next (tree nodes.old first.node)) scopes.old first.next nodes.new scopes.new result }
+    ensures placed { IfOk result (λ x. IsPlaced (length source.now.tokens.now) start nodes.old nodes.new (first.node ∷ specifiers.node ∷ []) x) }
 {
     let mut context = past(nodes, FRESH, specifiers.node);
     let mut parts = row_of(alloc, specifiers.node)?;

@@ -1,12 +1,12 @@
 //! External declarations (C11 6.9), one function a goal of the machine.
 
-ghost use Rattle.std.specs.Prelude.{◌≡◌, ◌+◌, ◌<◌, ◌≤◌, IfOk, length};
-ghost use Rattle.cr_syntax.specs.Trees.{none, ◌&◌};
-ghost use Rattle.cr_syntax.specs.Kept.{PartsAreBelow, AreBelow, row_in};
+ghost use Rattle.std.specs.Prelude.{◌≡◌, ◌+◌, ◌<◌, ◌≤◌, ◌∷◌, [], IfOk, length};
+ghost use Rattle.cr_syntax.specs.Kept.{PartsAreBelow, row_in};
 ghost use Rattle.cr_syntax.specs.Machine.{nowhere, unit, external};
 ghost use Rattle.cr_syntax.specs.MachineBody.{body, defined};
 ghost use Rattle.cr_exprs.specs.Source.{IsReadable, text_of};
-ghost use Rattle.cr_exprs.specs.Answers.{IsPlaced, Keeps, tree};
+ghost use Rattle.cr_exprs.specs.Loose.{Replaces};
+ghost use Rattle.cr_exprs.specs.Answers.{IsPlaced, tree};
 ghost use Rattle.cr_decls.specs.Answers.{Settles};
 
 use crate::declarations::declarators;
@@ -32,7 +32,7 @@ pub(crate) fn unit(
     requires below { PartsAreBelow nodes.old }
     ensures reads { Settles (text_of source.now) (body (unit nowhere 0)) scopes.old 0 (λ x. row_in nodes.new x) scopes.new (λ x. length source.now.tokens.now) result }
     ensures below { IfOk result (λ x. PartsAreBelow nodes.new) }
-    ensures items { IfOk result (λ x. AreBelow x (length nodes.new)) }
+    ensures kept { IfOk result (λ x. Replaces (length source.now.tokens.now) nodes.old nodes.new [] x) }
 {
     let first = external(alloc, source, 0, scopes, nodes)?;
     let mut items = row_of(alloc, first.node)?;
@@ -57,7 +57,7 @@ fn external(
     requires at { at ≤ length source.now.tokens.now }
     requires below { PartsAreBelow nodes.old }
     ensures reads { Settles (text_of source.now) (body (external nowhere 0)) scopes.old at (λ x. tree nodes.new x.node) scopes.new (λ x. x.next) result }
-    ensures placed { IfOk result (λ x. IsPlaced (length source.now.tokens.now) at nodes.old nodes.new x) }
+    ensures placed { IfOk result (λ x. IsPlaced (length source.now.tokens.now) at nodes.old nodes.new [] x) }
 {
     let specifiers = specifiers(alloc, source, at, 0, scopes, nodes)?;
     if stands(source, specifiers.next, Word::Semicolon) {
@@ -95,7 +95,7 @@ fn defined(
     requires specifiers { specifiers.node < length nodes.old }
     requires node { declarator.node + 1 ≡ length nodes.old }
     ensures reads { Settles (text_of source.now) (defined nowhere 0 start (tree nodes.old specifiers.node) (tree nodes.old declarator.node)) scopes.old declarator.next (λ x. tree nodes.new x.node) scopes.new (λ x. x.next) result }
-    ensures placed { IfOk result (λ x. IsPlaced (length source.now.tokens.now) start nodes.old nodes.new x) }
+    ensures placed { IfOk result (λ x. IsPlaced (length source.now.tokens.now) start nodes.old nodes.new (declarator.node ∷ specifiers.node ∷ []) x) }
 {
     if let Some(dots) = own_ellipsis(nodes, declarator.node) {
         return Err(ParseFault::OutsideSubset(dots, 8));

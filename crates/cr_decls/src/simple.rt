@@ -1,6 +1,6 @@
 //! Statements without other statements in them: jumps and expressions (C11 6.8.3, 6.8.6).
 
-ghost use Rattle.std.specs.Prelude.{◌≡◌, ◌+◌, ◌<◌, ◌≤◌, IfOk, length};
+ghost use Rattle.std.specs.Prelude.{◌≡◌, ◌+◌, ◌<◌, ◌≤◌, [], IfOk, length};
 ghost use Rattle.cr_syntax.specs.Scopes.{Scopes};
 ghost use Rattle.cr_syntax.specs.Trees.{none};
 ghost use Rattle.cr_syntax.specs.Kept.{PartsAreBelow};
@@ -29,8 +29,8 @@ pub(crate) fn simple(
     requires at { at ≤ length source.now.tokens.now }
     requires depth { depth ≤ 128 }
     requires below { PartsAreBelow nodes.old }
-    ensures reads { Reads (text_of source.now) (simple depth at) scopes.old (at) nodes.new scopes.new result }
-    ensures placed { IfOk result (λ x. IsPlaced (length source.now.tokens.now) (at) nodes.old nodes.new x) }
+    ensures reads { Reads (text_of source.now) (simple depth at) scopes.old at nodes.new scopes.new result }
+    ensures placed { IfOk result (λ x. IsPlaced (length source.now.tokens.now) at nodes.old nodes.new [] x) }
 {
     if stands(source, at, Word::Break) {
         return jump(alloc, source, Kind::Break, at, depth, nodes);
@@ -70,7 +70,7 @@ fn return_rest(
     requires depth { depth ≤ 128 }
     requires below { PartsAreBelow nodes.old }
     ensures reads { Reads (text_of source.now) (body (return_rest depth start)) scopes.old (start + 1) nodes.new scopes.new result }
-    ensures placed { IfOk result (λ x. IsPlaced (length source.now.tokens.now) (start) nodes.old nodes.new x) }
+    ensures placed { IfOk result (λ x. IsPlaced (length source.now.tokens.now) start nodes.old nodes.new [] x) }
 {
     if stands(source, start + 1, Word::Semicolon) {
         return leaf(alloc, nodes, Kind::Return, start, start + 1 + 1);
@@ -93,7 +93,7 @@ fn jump(
     requires at { start + 1 ≤ length source.now.tokens.now }
     requires below { PartsAreBelow nodes.old }
     ensures reads { (c : Scopes) → Reads (text_of source.now) (expect plain Word.Semicolon depth (made kind start none)) c (start + 1) nodes.new c result }
-    ensures placed { IfOk result (λ x. IsPlaced (length source.now.tokens.now) start nodes.old nodes.new x) }
+    ensures placed { IfOk result (λ x. IsPlaced (length source.now.tokens.now) start nodes.old nodes.new [] x) }
 {
     expect(source, start + 1, Word::Semicolon, depth)?;
     leaf(alloc, nodes, kind, start, start + 1 + 1)

@@ -1,6 +1,6 @@
 //! Statements that hold statements (C11 6.8), one function a goal of the machine. All of them call one another.
 
-ghost use Rattle.std.specs.Prelude.{◌≡◌, ◌+◌, ◌<◌, ◌≤◌, ◌^◌, true, IfOk, IfErr, length, option_to_list};
+ghost use Rattle.std.specs.Prelude.{◌≡◌, ◌+◌, ◌<◌, ◌≤◌, ◌^◌, ◌∷◌, [], true, IfOk, IfErr, length, option_to_list};
 ghost use Rattle.cr_syntax.specs.Trees.{none, one, ◌&◌};
 ghost use Rattle.cr_syntax.specs.Context.{ends_open};
 ghost use Rattle.cr_syntax.specs.Kept.{PartsAreBelow, AreBelow, row_in};
@@ -36,8 +36,8 @@ fn statement(
     requires at { at ≤ length source.now.tokens.now }
     requires depth { depth ≤ 128 }
     requires below { PartsAreBelow nodes.old }
-    ensures reads { Reads (text_of source.now) (body (statement (labels_of labels) depth)) scopes.old (at) nodes.new scopes.new result }
-    ensures placed { IfOk result (λ x. IsPlaced (length source.now.tokens.now) (at) nodes.old nodes.new x) }
+    ensures reads { Reads (text_of source.now) (body (statement (labels_of labels) depth)) scopes.old at nodes.new scopes.new result }
+    ensures placed { IfOk result (λ x. IsPlaced (length source.now.tokens.now) at nodes.old nodes.new [] x) }
 {
     if may_label(labels) {
         return labelled(alloc, source, labels, at, depth, scopes, nodes);
@@ -62,8 +62,8 @@ fn labelled(
     requires depth { depth ≤ 128 }
     requires below { PartsAreBelow nodes.old }
     requires may { may_label (labels_of labels) ≡ true }
-    ensures reads { Reads (text_of source.now) (body (statement (labels_of labels) depth)) scopes.old (at) nodes.new scopes.new result }
-    ensures placed { IfOk result (λ x. IsPlaced (length source.now.tokens.now) (at) nodes.old nodes.new x) }
+    ensures reads { Reads (text_of source.now) (body (statement (labels_of labels) depth)) scopes.old at nodes.new scopes.new result }
+    ensures placed { IfOk result (λ x. IsPlaced (length source.now.tokens.now) at nodes.old nodes.new [] x) }
 {
     if stands(source, at, Word::Case) {
         return case(alloc, source, labels, at, depth, scopes, nodes);
@@ -90,7 +90,7 @@ fn case(
     requires depth { depth ≤ 128 }
     requires below { PartsAreBelow nodes.old }
     ensures reads { Reads (text_of source.now) (case_rest (labels_of labels) depth start) scopes.old (start + 1) nodes.new scopes.new result }
-    ensures placed { IfOk result (λ x. IsPlaced (length source.now.tokens.now) (start) nodes.old nodes.new x) }
+    ensures placed { IfOk result (λ x. IsPlaced (length source.now.tokens.now) start nodes.old nodes.new [] x) }
 {
     let value = read(alloc, source, Goal::Conditional, start + 1, depth, scopes, nodes)?;
     expect(source, value.next, Word::Colon, depth)?;
@@ -123,7 +123,7 @@ fn default(
     requires depth { depth ≤ 128 }
     requires below { PartsAreBelow nodes.old }
     ensures reads { Reads (text_of source.now) (default_rest (labels_of labels) depth start) scopes.old (start + 1) nodes.new scopes.new result }
-    ensures placed { IfOk result (λ x. IsPlaced (length source.now.tokens.now) (start) nodes.old nodes.new x) }
+    ensures placed { IfOk result (λ x. IsPlaced (length source.now.tokens.now) start nodes.old nodes.new [] x) }
 {
     expect(source, start + 1, Word::Colon, depth)?;
     room(start + 1, depth)?;
@@ -145,8 +145,8 @@ fn unlabelled(
     requires at { at ≤ length source.now.tokens.now }
     requires depth { depth ≤ 128 }
     requires below { PartsAreBelow nodes.old }
-    ensures reads { Reads (text_of source.now) (unlabelled nowhere depth at) scopes.old (at) nodes.new scopes.new result }
-    ensures placed { IfOk result (λ x. IsPlaced (length source.now.tokens.now) (at) nodes.old nodes.new x) }
+    ensures reads { Reads (text_of source.now) (unlabelled nowhere depth at) scopes.old at nodes.new scopes.new result }
+    ensures placed { IfOk result (λ x. IsPlaced (length source.now.tokens.now) at nodes.old nodes.new [] x) }
 {
     if stands(source, at, Word::LeftBrace) {
         return compound(alloc, source, Labels::Nowhere, at, depth, scopes, nodes);
@@ -184,8 +184,8 @@ fn block(
     requires at { at ≤ length source.now.tokens.now }
     requires depth { depth ≤ 128 }
     requires below { PartsAreBelow nodes.old }
-    ensures reads { Reads (text_of source.now) (body (block nowhere depth)) scopes.old (at) nodes.new scopes.new result }
-    ensures placed { IfOk result (λ x. IsPlaced (length source.now.tokens.now) (at) nodes.old nodes.new x) }
+    ensures reads { Reads (text_of source.now) (body (block nowhere depth)) scopes.old at nodes.new scopes.new result }
+    ensures placed { IfOk result (λ x. IsPlaced (length source.now.tokens.now) at nodes.old nodes.new [] x) }
 {
     begin(alloc, scopes)?;
     let inner = statement(alloc, source, Labels::Nowhere, at, depth, scopes, nodes)?;
@@ -208,7 +208,7 @@ fn if_rest(
     requires depth { depth ≤ 128 }
     requires below { PartsAreBelow nodes.old }
     ensures reads { Reads (text_of source.now) (body (if_rest nowhere depth start)) scopes.old (start + 1) nodes.new scopes.new result }
-    ensures placed { IfOk result (λ x. IsPlaced (length source.now.tokens.now) (start) nodes.old nodes.new x) }
+    ensures placed { IfOk result (λ x. IsPlaced (length source.now.tokens.now) start nodes.old nodes.new [] x) }
 {
     let test = controlling(alloc, source, start + 1, depth, scopes, nodes)?;
     let yes = block(alloc, source, test.next, depth + 1, scopes, nodes)?;
@@ -247,7 +247,7 @@ fn switch_rest(
     requires depth { depth ≤ 128 }
     requires below { PartsAreBelow nodes.old }
     ensures reads { Reads (text_of source.now) (body (switch_rest nowhere depth start)) scopes.old (start + 1) nodes.new scopes.new result }
-    ensures placed { IfOk result (λ x. IsPlaced (length source.now.tokens.now) (start) nodes.old nodes.new x) }
+    ensures placed { IfOk result (λ x. IsPlaced (length source.now.tokens.now) start nodes.old nodes.new [] x) }
 {
     let test = controlling(alloc, source, start + 1, depth, scopes, nodes)?;
     bar_label(source, test.next, depth + 1)?;
@@ -282,7 +282,7 @@ fn while_rest(
     requires depth { depth ≤ 128 }
     requires below { PartsAreBelow nodes.old }
     ensures reads { Reads (text_of source.now) (body (while_rest nowhere depth start)) scopes.old (start + 1) nodes.new scopes.new result }
-    ensures placed { IfOk result (λ x. IsPlaced (length source.now.tokens.now) (start) nodes.old nodes.new x) }
+    ensures placed { IfOk result (λ x. IsPlaced (length source.now.tokens.now) start nodes.old nodes.new [] x) }
 {
     let test = controlling(alloc, source, start + 1, depth, scopes, nodes)?;
     let inner = block(alloc, source, test.next, depth + 1, scopes, nodes)?;
@@ -313,7 +313,7 @@ fn do_rest(
     requires depth { depth < 128 }
     requires below { PartsAreBelow nodes.old }
     ensures reads { Reads (text_of source.now) (body (do_rest nowhere depth start)) scopes.old (start + 1) nodes.new scopes.new result }
-    ensures placed { IfOk result (λ x. IsPlaced (length source.now.tokens.now) (start) nodes.old nodes.new x) }
+    ensures placed { IfOk result (λ x. IsPlaced (length source.now.tokens.now) start nodes.old nodes.new [] x) }
 {
     begin(alloc, scopes)?;
     let inner = block(alloc, source, start + 1, depth + 1, scopes, nodes)?;
@@ -346,7 +346,7 @@ fn for_rest(
     requires depth { depth ≤ 128 }
     requires below { PartsAreBelow nodes.old }
     ensures reads { Reads (text_of source.now) (body (for_rest nowhere depth start)) scopes.old (start + 1) nodes.new scopes.new result }
-    ensures placed { IfOk result (λ x. IsPlaced (length source.now.tokens.now) (start) nodes.old nodes.new x) }
+    ensures placed { IfOk result (λ x. IsPlaced (length source.now.tokens.now) start nodes.old nodes.new [] x) }
 {
     begin(alloc, scopes)?;
     expect(source, start + 1, Word::LeftParen, depth)?;
@@ -372,8 +372,8 @@ fn for_clauses(
     requires below { PartsAreBelow nodes.old }
     requires start { start < first.next }
     requires node { AreBelow (option_to_list first.node) (length nodes.old) }
-    ensures reads { Reads (text_of source.now) (body (for_clauses nowhere depth start (row_in nodes.old (option_to_list first.node)))) scopes.old (first.next) nodes.new scopes.new result }
-    ensures placed { IfOk result (λ x. IsPlaced (length source.now.tokens.now) (start) nodes.old nodes.new x) }
+    ensures reads { Reads (text_of source.now) (body (for_clauses nowhere depth start (row_in nodes.old (option_to_list first.node)))) scopes.old first.next nodes.new scopes.new result }
+    ensures placed { IfOk result (λ x. IsPlaced (length source.now.tokens.now) start nodes.old nodes.new (option_to_list first.node) x) }
 {
     let test = clause(alloc, source, first.next, depth + 1, scopes, nodes)?;
     let step = last_clause(alloc, source, test.next, depth, scopes, nodes)?;
@@ -398,8 +398,8 @@ pub(crate) fn compound(
     requires at { at ≤ length source.now.tokens.now }
     requires depth { depth ≤ 128 }
     requires below { PartsAreBelow nodes.old }
-    ensures reads { Reads (text_of source.now) (body (compound (labels_of labels) depth)) scopes.old (at) nodes.new scopes.new result }
-    ensures placed { IfOk result (λ x. IsPlaced (length source.now.tokens.now) (at) nodes.old nodes.new x) }
+    ensures reads { Reads (text_of source.now) (body (compound (labels_of labels) depth)) scopes.old at nodes.new scopes.new result }
+    ensures placed { IfOk result (λ x. IsPlaced (length source.now.tokens.now) at nodes.old nodes.new [] x) }
 {
     begin(alloc, scopes)?;
     expect(source, at, Word::LeftBrace, depth)?;
@@ -425,7 +425,7 @@ fn items(
     requires depth { depth < 128 }
     requires below { PartsAreBelow nodes.old }
     ensures reads { Reads (text_of source.now) (body (items (labels_of labels) depth start none)) scopes.old (start + 1) nodes.new scopes.new result }
-    ensures placed { IfOk result (λ x. IsPlaced (length source.now.tokens.now) (start) nodes.old nodes.new x) }
+    ensures placed { IfOk result (λ x. IsPlaced (length source.now.tokens.now) start nodes.old nodes.new [] x) }
 {
     let mut parts = Row::new(alloc);
     let mut next = start + 1;
@@ -454,8 +454,8 @@ fn item(
     requires at { at ≤ length source.now.tokens.now }
     requires depth { depth ≤ 128 }
     requires below { PartsAreBelow nodes.old }
-    ensures reads { Reads (text_of source.now) (body (item (labels_of labels) depth)) scopes.old (at) nodes.new scopes.new result }
-    ensures placed { IfOk result (λ x. IsPlaced (length source.now.tokens.now) (at) nodes.old nodes.new x) }
+    ensures reads { Reads (text_of source.now) (body (item (labels_of labels) depth)) scopes.old at nodes.new scopes.new result }
+    ensures placed { IfOk result (λ x. IsPlaced (length source.now.tokens.now) at nodes.old nodes.new [] x) }
 {
     if starts_specifier(source, at, false, scopes) {
         return declaration(alloc, source, at, depth, scopes, nodes);
@@ -487,7 +487,7 @@ fn without_else(
     requires start { start < yes.next }
     requires next { yes.next < 2 ^ 32 }
     ensures scopes { scopes.new ≡ around scopes.old }
-    ensures ok { IfOk result (λ x. IsPushed nodes.old nodes.new x) }
+    ensures ok { IfOk result (λ x. IsPushed nodes.old nodes.new (yes.node ∷ test.node ∷ []) x) }
     ensures next { IfOk result (λ x. x.next ≡ yes.next) }
     ensures tree { IfOk result (λ x. tree nodes.new x.node ≡ one Kind.If start yes.next (tree nodes.old test.node & tree nodes.old yes.node & none)) }
     ensures err { IfErr result (λ fault. fault ≡ ParseFault.NoMemory) }

@@ -229,7 +229,7 @@ fn row_kind(part: Part) -> Kind
 
 /// The list of these parameters, for which the nodes from number `before` on were read: one alone makes no node, and `void`
 /// alone is none.
-pub(crate) fn gathered_parameters(
+pub fn gathered_parameters(
     alloc: Global,
     nodes: &mut Row<Node>,
     before: usize,
