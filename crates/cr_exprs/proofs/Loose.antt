@@ -18,7 +18,7 @@ use Rattle.cr_exprs.proofs.Nodes.{keeps_all, keeps_none, get_front}
 abbrev pub times : List ℕ → ℕ → ℕ
 times ps k = count_by (λ p. p == k) ps
 
-times_append : (a b : List ℕ) (k : ℕ) → times (a ++ b) k ≡ times a k + times b k
+pub times_append : (a b : List ℕ) (k : ℕ) → times (a ++ b) k ≡ times a k + times b k
 times_append a b k = sum_by-append (λ p. cond (p == k) 1 0) a b
 
 differs : (a b : ℕ) (t : Bool) → (a == b) ≡ t → (a ≡ b → ⊥) → t ≡ false

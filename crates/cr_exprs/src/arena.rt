@@ -13,7 +13,7 @@ use cr_syntax::{Context, Kind, Node, Part, past_node};
 use std::alloc::Global;
 
 /// Appends a node with these parts, from token `first` to before token `next`.
-pub(crate) fn push(
+pub fn push(
     nodes: &mut Row<Node>,
     kind: Kind,
     first: usize,
@@ -42,7 +42,7 @@ pub(crate) fn push(
 }
 
 /// Appends a node without parts.
-pub(crate) fn leaf(
+pub fn leaf(
     alloc: Global,
     nodes: &mut Row<Node>,
     kind: Kind,
@@ -61,7 +61,7 @@ pub(crate) fn leaf(
 }
 
 /// Appends a node with one part.
-pub(crate) fn over(
+pub fn over(
     alloc: Global,
     nodes: &mut Row<Node>,
     kind: Kind,
@@ -82,7 +82,7 @@ pub(crate) fn over(
 }
 
 /// Appends a node with two parts.
-pub(crate) fn pair(
+pub fn pair(
     alloc: Global,
     nodes: &mut Row<Node>,
     kind: Kind,
@@ -107,7 +107,7 @@ pub(crate) fn pair(
 }
 
 /// Appends a node with three parts.
-pub(crate) fn triple(
+pub fn triple(
     alloc: Global,
     nodes: &mut Row<Node>,
     kind: Kind,
@@ -135,7 +135,7 @@ pub(crate) fn triple(
 }
 
 /// Appends a node with one part or none.
-pub(crate) fn over_optional(
+pub fn over_optional(
     alloc: Global,
     nodes: &mut Row<Node>,
     kind: Kind,
@@ -158,7 +158,7 @@ pub(crate) fn over_optional(
 }
 
 /// Appends a node with one part or two.
-pub(crate) fn pair_optional(
+pub fn pair_optional(
     alloc: Global,
     nodes: &mut Row<Node>,
     kind: Kind,
@@ -183,7 +183,7 @@ pub(crate) fn pair_optional(
 }
 
 /// A row of one number.
-pub(crate) fn row_of(alloc: Global, part: u32) -> Result<Row<u32>, ParseFault>
+pub fn row_of(alloc: Global, part: u32) -> Result<Row<u32>, ParseFault>
     ensures ok { IfOk result (λ parts. parts ≡ part ∷ []) }
     ensures err { IfErr result (λ fault. fault ≡ ParseFault.NoMemory) }
 {
@@ -193,7 +193,7 @@ pub(crate) fn row_of(alloc: Global, part: u32) -> Result<Row<u32>, ParseFault>
 }
 
 /// The row of specifiers of these parts: one alone makes no node.
-pub(crate) fn gathered(
+pub fn gathered(
     nodes: &mut Row<Node>,
     part: Part,
     first: usize,
@@ -229,7 +229,7 @@ fn row_kind(part: Part) -> Kind
 
 /// The list of these parameters, for which the nodes from number `before` on were read: one alone makes no node, and `void`
 /// alone is none.
-pub(crate) fn gathered_parameters(
+pub fn gathered_parameters(
     alloc: Global,
     nodes: &mut Row<Node>,
     before: usize,
@@ -283,7 +283,7 @@ fn drop_to(nodes: &mut Row<Node>, count: usize)
 }
 
 /// What is said after a node.
-pub(crate) fn past(nodes: &Row<Node>, context: Context, node: u32) -> Context
+pub fn past(nodes: &Row<Node>, context: Context, node: u32) -> Context
     requires below { PartsAreBelow nodes.now }
     requires node { node < length nodes.now }
     ensures { result ≡ past_part context (tree nodes.now node) }
@@ -293,7 +293,7 @@ pub(crate) fn past(nodes: &Row<Node>, context: Context, node: u32) -> Context
 }
 
 /// Whether an assignment operator can stand behind a node.
-pub(crate) fn is_unary(nodes: &Row<Node>, node: u32) -> bool
+pub fn is_unary(nodes: &Row<Node>, node: u32) -> bool
     requires below { PartsAreBelow nodes.now }
     requires node { node < length nodes.now }
     ensures { result ≡ is_unary (tree nodes.now node) }
@@ -331,7 +331,7 @@ fn is_unary_kind(kind: Kind) -> bool
 }
 
 /// Whether a node is an identifier.
-pub(crate) fn is_identifier(nodes: &Row<Node>, node: u32) -> bool
+pub fn is_identifier(nodes: &Row<Node>, node: u32) -> bool
     requires below { PartsAreBelow nodes.now }
     requires node { node < length nodes.now }
     ensures { result ≡ is_identifier (tree nodes.now node) }
@@ -349,7 +349,7 @@ fn is_identifier_kind(kind: Kind) -> bool
 }
 
 /// Whether a node is a declarator with a name.
-pub(crate) fn is_declarator(nodes: &Row<Node>, node: u32) -> bool
+pub fn is_declarator(nodes: &Row<Node>, node: u32) -> bool
     requires below { PartsAreBelow nodes.now }
     requires node { node < length nodes.now }
     ensures { result ≡ is_declarator (tree nodes.now node) }

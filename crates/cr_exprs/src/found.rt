@@ -16,7 +16,7 @@ pub(crate) struct Listed {
 
 /// A node or none that was read, and the token after it.
 #[derive(Clone, Copy, Debug)]
-pub(crate) struct Optional {
+pub struct Optional {
     pub node: Option<u32>,
     pub next: usize,
 }

@@ -8,6 +8,7 @@
 #![tactic(auto)]
 
 mod arena;
+mod calls;
 mod declarators;
 mod expressions;
 mod fault;
@@ -24,10 +25,13 @@ mod tables;
 #[cfg(test)]
 mod tests;
 
+pub use arena::{leaf, over, pair, past, push, row_of, triple};
+pub use calls::{named_declarator, read, specifiers};
 pub use fault::ParseFault;
-pub use found::Found;
+pub use found::{Found, Optional};
 pub use front::expression;
 pub use goal::Goal;
 pub use names::TypeNames;
 pub use reading::whole;
-pub use source::{Source, words_of};
+pub use scopes::{bring, drop_scope, taken};
+pub use source::{Source, barred, expect, is_ordinary, room, stands, starts_specifier, words_of};

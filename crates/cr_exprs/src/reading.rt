@@ -42,7 +42,7 @@ pub fn whole(
 }
 
 /// What is to be read.
-fn started(
+pub(crate) fn started(
     alloc: Global,
     source: &Source,
     goal: Goal,

@@ -17,7 +17,7 @@ use std::alloc::{AllocError, Global};
 use std::collections::LinkedList;
 
 /// The identifier with number `name`, one before token `at`, enters the innermost scope.
-pub(crate) fn bring(
+pub fn bring(
     alloc: Global,
     source: &Source,
     at: usize,
@@ -39,7 +39,7 @@ pub(crate) fn bring(
 }
 
 /// Takes the innermost scope off, an empty one where none is open.
-pub(crate) fn taken(alloc: Global, scopes: &mut LinkedList<Scope>) -> Scope
+pub fn taken(alloc: Global, scopes: &mut LinkedList<Scope>) -> Scope
     ensures value { result ≡ innermost_of scopes.old }
     ensures rest { scopes.new ≡ around scopes.old }
 {
@@ -50,14 +50,14 @@ pub(crate) fn taken(alloc: Global, scopes: &mut LinkedList<Scope>) -> Scope
 }
 
 /// Ends the innermost scope.
-pub(crate) fn drop_scope(scopes: &mut LinkedList<Scope>)
+pub fn drop_scope(scopes: &mut LinkedList<Scope>)
     ensures { scopes.new ≡ around scopes.old }
 {
     let _ = scopes.pop_front();
 }
 
 /// The name of a parameter's declarator enters the scope of the parameters, and the declarator's own scope ends.
-pub(crate) fn enter_parameter(
+pub fn enter_parameter(
     alloc: Global,
     source: &Source,
     context: Context,
@@ -87,7 +87,7 @@ pub(crate) fn enter_parameter(
 }
 
 /// The scope that stays on a declarator of a function: its parameters' where it is a name itself.
-pub(crate) fn kept(nodes: &Row<Node>, declarator: u32, names: Scope, own: Scope) -> Scope
+pub fn kept(nodes: &Row<Node>, declarator: u32, names: Scope, own: Scope) -> Scope
     requires below { PartsAreBelow nodes.now }
     requires node { declarator < length nodes.now }
     ensures { result ≡ (if is_bare (tree nodes.now declarator) then names else own) }

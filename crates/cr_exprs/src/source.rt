@@ -50,7 +50,7 @@ fn here(source: &Source, at: usize) -> Option<Word>
 }
 
 /// Whether the token with this number is this word.
-pub(crate) fn stands(source: &Source, at: usize, word: Word) -> bool
+pub fn stands(source: &Source, at: usize, word: Word) -> bool
     requires { IsReadable source.now }
     ensures answer { result ≡ is_word (text_of source.now) at word }
     ensures inside { IsTrue result → at < length source.now.tokens.now }
@@ -62,7 +62,7 @@ pub(crate) fn stands(source: &Source, at: usize, word: Word) -> bool
 }
 
 /// The bytes of the token with this number, none where there is no token.
-pub(crate) fn spelling<'a>(source: &'a Source, at: usize) -> &'a [u8]
+pub fn spelling<'a>(source: &'a Source, at: usize) -> &'a [u8]
     requires { IsReadable source.now }
     ensures { result.now ≡ spelling_at (text_of source.now) at }
 {
@@ -73,7 +73,7 @@ pub(crate) fn spelling<'a>(source: &'a Source, at: usize) -> &'a [u8]
 }
 
 /// Whether an identifier stands here that is no type.
-pub(crate) fn is_ordinary(source: &Source, at: usize, scopes: &LinkedList<Scope>) -> bool
+pub fn is_ordinary(source: &Source, at: usize, scopes: &LinkedList<Scope>) -> bool
     requires { IsReadable source.now }
     ensures { result ≡ passes (text_of source.now) scopes.now at ordinary }
 {
@@ -81,7 +81,7 @@ pub(crate) fn is_ordinary(source: &Source, at: usize, scopes: &LinkedList<Scope>
 }
 
 /// Whether an identifier stands here that is a type, where no type specifier stands before it.
-pub(crate) fn is_type_identifier(
+pub fn is_type_identifier(
     source: &Source,
     at: usize,
     typed: bool,
@@ -95,7 +95,7 @@ pub(crate) fn is_type_identifier(
 }
 
 /// Whether an identifier stands here that may be declared, behind a type specifier or another token, or not.
-pub(crate) fn is_declared(
+pub fn is_declared(
     source: &Source,
     at: usize,
     typed: bool,
@@ -109,7 +109,7 @@ pub(crate) fn is_declared(
 }
 
 /// Whether a specifier without storage classes begins here, where a type specifier stands before it or doesn't.
-pub(crate) fn starts_plain(
+pub fn starts_plain(
     source: &Source,
     at: usize,
     typed: bool,
@@ -122,7 +122,7 @@ pub(crate) fn starts_plain(
 }
 
 /// Whether a specifier begins here, where a type specifier stands before it or doesn't.
-pub(crate) fn starts_specifier(
+pub fn starts_specifier(
     source: &Source,
     at: usize,
     typed: bool,
@@ -136,7 +136,7 @@ pub(crate) fn starts_specifier(
 }
 
 /// Whether a declarator without a name begins here.
-pub(crate) fn starts_abstract(source: &Source, at: usize) -> bool
+pub fn starts_abstract(source: &Source, at: usize) -> bool
     requires { IsReadable source.now }
     ensures { result ≡ has_word (text_of source.now) at is_abstract_start }
 {
@@ -144,7 +144,7 @@ pub(crate) fn starts_abstract(source: &Source, at: usize) -> bool
 }
 
 /// Whether a declarator with or without a name begins here.
-pub(crate) fn starts_declarator(source: &Source, at: usize) -> bool
+pub fn starts_declarator(source: &Source, at: usize) -> bool
     requires { IsReadable source.now }
     ensures { result ≡ has_word (text_of source.now) at is_declarator_start }
 {
@@ -233,7 +233,7 @@ fn overflows(word: Word, depth: usize) -> bool
 }
 
 /// The refusal of a token that nothing fits, where so many levels are open.
-pub(crate) fn refused(source: &Source, at: usize, depth: usize) -> ParseFault
+pub fn refused(source: &Source, at: usize, depth: usize) -> ParseFault
     requires readable { IsReadable source.now }
     requires at { at ≤ length source.now.tokens.now }
     ensures { IsRefusal (text_of source.now) result (verdict (text_of source.now) at depth) at }
@@ -251,7 +251,7 @@ pub(crate) fn refused(source: &Source, at: usize, depth: usize) -> ParseFault
 }
 
 /// The refusal of a token that a row of the refused forms names, where so many levels are open.
-fn barred(source: &Source, at: usize, row: u8, depth: usize) -> ParseFault
+pub fn barred(source: &Source, at: usize, row: u8, depth: usize) -> ParseFault
     requires readable { IsReadable source.now }
     requires at { at ≤ length source.now.tokens.now }
     ensures { IsRefusal (text_of source.now) result (barred (text_of source.now) row at depth) at }
@@ -266,7 +266,7 @@ fn barred(source: &Source, at: usize, row: u8, depth: usize) -> ParseFault
 }
 
 /// Refuses the token that opens a level where there is no room for one.
-pub(crate) fn room(at: usize, depth: usize) -> Result<(), ParseFault>
+pub fn room(at: usize, depth: usize) -> Result<(), ParseFault>
     requires { at < 2 ^ 32 }
     ensures ok { OnOk result (depth < 128) }
     ensures full { OnErr result (128 ≤ depth) }
@@ -279,7 +279,7 @@ pub(crate) fn room(at: usize, depth: usize) -> Result<(), ParseFault>
 }
 
 /// Refuses another token than this word, where so many levels are open.
-pub(crate) fn expect(source: &Source, at: usize, word: Word, depth: usize) -> Result<(), ParseFault>
+pub fn expect(source: &Source, at: usize, word: Word, depth: usize) -> Result<(), ParseFault>
     requires readable { IsReadable source.now }
     requires at { at ≤ length source.now.tokens.now }
     ensures ok { OnOk result (is_word (text_of source.now) at word ≡ true) }
@@ -294,7 +294,7 @@ pub(crate) fn expect(source: &Source, at: usize, word: Word, depth: usize) -> Re
 }
 
 /// Refuses this word, by a row of the refused forms, where so many levels are open.
-pub(crate) fn bar(
+pub fn bar(
     source: &Source,
     at: usize,
     word: Word,
@@ -314,7 +314,7 @@ pub(crate) fn bar(
 }
 
 /// Refuses a keyword that the grammar has nowhere.
-pub(crate) fn bar_unused(source: &Source, at: usize, depth: usize) -> Result<(), ParseFault>
+pub fn bar_unused(source: &Source, at: usize, depth: usize) -> Result<(), ParseFault>
     requires readable { IsReadable source.now }
     requires at { at ≤ length source.now.tokens.now }
     ensures ok { OnOk result (has_word (text_of source.now) at is_unused ≡ false) }
@@ -329,7 +329,7 @@ pub(crate) fn bar_unused(source: &Source, at: usize, depth: usize) -> Result<(),
 }
 
 /// The token after string literals side by side.
-pub(crate) fn texts(source: &Source, at: usize) -> usize
+pub fn texts(source: &Source, at: usize) -> usize
     requires readable { IsReadable source.now }
     requires at { at ≤ length source.now.tokens.now }
     ensures from { at ≤ result }
@@ -340,7 +340,7 @@ pub(crate) fn texts(source: &Source, at: usize) -> usize
 }
 
 /// The token after any number of `const`.
-pub(crate) fn consts(source: &Source, at: usize) -> usize
+pub fn consts(source: &Source, at: usize) -> usize
     requires readable { IsReadable source.now }
     requires at { at ≤ length source.now.tokens.now }
     ensures from { at ≤ result }

@@ -39,7 +39,7 @@ pub use laws::{reading_is_spelling, table_is_grammar, tokens_are_spans};
 pub use machine::{machine_is_grammar, one_tree, one_unit};
 pub use node::{Kind, Node};
 pub use scopes::{Scope, TypeName, begin, enter, is_type};
-pub use shape::{FRESH, past_node, past_token};
+pub use shape::{FRESH, ends_open, first, is_bare, past_node, past_token, rest_of};
 pub use symbol::{Context, Depth, Part, Symbol};
 pub use typed::{CType, Shape, Typed};
 pub use unit::Unit;

@@ -165,7 +165,8 @@ fn base_of(kind: Kind) -> Base
     }
 }
 
-fn is_bare(nodes: &[Node], row: &[u32], bound: usize) -> bool
+/// Whether a declarator is an identifier, in brackets or not.
+pub fn is_bare(nodes: &[Node], row: &[u32], bound: usize) -> bool
     requires parts { PartsAreBelow nodes.now }
     requires row { AreBelow row.now bound }
     requires bound { bound ≤ length nodes.now }
@@ -266,8 +267,9 @@ fn has_else(nodes: &[Node], row: &[u32]) -> bool
     }
 }
 
+/// Whether the last node of a row ends in an `if` without `else`.
 #[cycle(open)]
-fn ends_open(nodes: &[Node], row: &[u32], bound: usize) -> bool
+pub fn ends_open(nodes: &[Node], row: &[u32], bound: usize) -> bool
     requires parts { PartsAreBelow nodes.now }
     requires row { AreBelow row.now bound }
     requires bound { bound ≤ length nodes.now }

@@ -1,0 +1,19 @@
+use Rattle.std.proofs.Common.{◌≡◌, ◌+◌, refl, sym, ap, ◌∙◌, arith, rules}
+use Rattle.cr_syntax.specs.Machine.{plain, opens, call, give, made, run_give, run_stop, run_take, run_deep, run_pass, run_bar, run_free, run_seen, run_unseen, run_yes, run_no, run_here, run_look, run_set, run_bring, run_call, run_fail}
+use Rattle.cr_syntax.specs.Machine as m
+use Rattle.cr_syntax.specs.MachineBody.{body}
+use Rattle.std.proofs.Common.{[], ◌∷◌}
+use Rattle.cr_exprs.specs.Answers.{tree}
+use Rattle.cr_exprs.proofs.Loose.{placed_push, placed_behind, kept_row, kept_more}
+use Rattle.cr_exprs.proofs.Nodes.{tree_kept, keeps_all, keeps_none, below_empty, row_empty, row_single, is_row_single, row_more, is_row_more, row_kept, of_row}
+use Rattle.cr_exprs.proofs.Runs.{exit, fails, stops, deep, no_memory, memory, finish, through, handed, shift, done_as, done_in, run_in, no_room}
+use Rattle.cr_decls.proofs.simple.jump.Goals as goal
+
+pub returns-in_err-expect-clause-reads : goal.returns-in_err-expect-clause-reads
+returns-in_err-expect-clause-reads c = λ c'. exit c.from_residual.result _ c.from_residual.ensures.1 (stops c.in_err-expect.ensures.err (run_pass c.in_err-expect.ensures.other run_stop))
+
+pub returns-clause-reads : goal.returns-clause-reads
+returns-clause-reads c = λ c'. finish c.leaf.new.nodes c.leaf.result c.leaf.ensures.err c.leaf.ensures.next c.leaf.ensures.tree (run_take c.in_ok-expect.ensures.ok tt (run_here run_give))
+
+pub returns-clause-placed : goal.returns-clause-placed
+returns-clause-placed c = placed_push c.leaf.new.nodes [] [] c.leaf.result c.leaf.ensures.ok c.leaf.ensures.next (omega arith) (omega (arith, c.in_ok-expect.ensures.inside)) (keeps_none _) (λ loose h. h)

@@ -1,0 +1,4 @@
+pub mod Programs
+pub mod Ellipsis
+pub mod Answers
+pub mod Unit

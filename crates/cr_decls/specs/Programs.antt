@@ -1,0 +1,58 @@
+-- Parts of the machine's programs, as the parser's functions begin in them.
+use Rattle.std.specs.Prelude.{ℕ, ◌+◌, List, Option, None, Some}
+use Rattle.cr_syntax.specs.declared.word.Word.TheVariants as word
+use Rattle.cr_syntax.specs.declared.node.Kind.TheVariants as kind
+use Rattle.cr_syntax.specs.declared.node.Node.{Node}
+use Rattle.cr_syntax.specs.declared.symbol.Context.{Context}
+use Rattle.cr_syntax.specs.Words.{Lexeme}
+use Rattle.cr_syntax.specs.Scopes.{Scopes, enter}
+use Rattle.cr_syntax.specs.Trees.{Trees, none, ◌&◌}
+use Rattle.cr_syntax.specs.Context.{past_part}
+use Rattle.cr_syntax.specs.Machine as m
+use Rattle.cr_syntax.specs.Machine.{Prog, plain, opens, reopens, the, give, take, peek, call, expect, made, begins, around, brought, expression, conditional, declaration, statement, return_rest, clause}
+use Rattle.cr_syntax.specs.MachineBody.{declaration_start}
+use Rattle.cr_exprs.specs.Answers.{tree}
+use Rattle.cr_decls.specs.declared.labels.Labels.{Labels}
+use Rattle.cr_decls.specs.declared.labels.Labels.TheVariants.{OwnBlock, Nowhere}
+
+abbrev pub labels_of : Labels → m.Labels
+labels_of OwnBlock = m.own_block
+labels_of Nowhere = m.nowhere
+
+-- behind `case` and behind `default`
+abbrev pub case_rest : m.Labels → ℕ → ℕ → Prog
+case_rest l d s = call (conditional d) (λ a. expect opens word.Colon d (call (statement l (d + 1)) (λ b. made kind.Case s (a & b & none))))
+
+abbrev pub default_rest : m.Labels → ℕ → ℕ → Prog
+default_rest l d s = expect opens word.Colon d (call (statement l (d + 1)) (λ b. made kind.Default s (b & none)))
+
+-- a statement without another one in it
+abbrev pub simple : ℕ → ℕ → Prog
+simple d s =
+    take plain (the word.Break) d (expect plain word.Semicolon d (made kind.Break s none))
+    (take plain (the word.Continue) d (expect plain word.Semicolon d (made kind.Continue s none))
+    (take plain (the word.Return) d (call (return_rest d s) give)
+    (take plain (the word.Semicolon) d (made kind.ExpressionStatement s none)
+    (call (expression d) (λ a. expect plain word.Semicolon d (made kind.ExpressionStatement s (a & none)))))))
+
+-- a controlling expression in its brackets, at the beginning of a scope, and in those of a `do`; then what goes on with it
+abbrev pub controlling : ℕ → (Trees → Prog) → Prog
+controlling d f = begins (expect opens word.LeftParen d (call (expression (d + 1)) (λ a. expect reopens word.RightParen d (f a))))
+
+abbrev pub repeated : ℕ → (Trees → Prog) → Prog
+repeated d f = expect opens word.LeftParen d (call (expression (d + 1)) (λ a. expect plain word.RightParen (d + 1) (expect plain word.Semicolon d (f a))))
+
+-- the first clause of a `for`, and the last one with its `)`: without an expression p goes on, and with one f
+abbrev pub first_clause : ℕ → (Trees → Prog) → Prog
+first_clause d f = peek declaration_start (call (declaration (d + 1)) (λ t. f (t & none))) (call (clause (d + 1)) f)
+
+abbrev pub last_clause : ℕ → Prog → (Trees → Prog) → Prog
+last_clause d p f = take reopens (the word.RightParen) d p (call (expression (d + 1)) (λ t. expect reopens word.RightParen d (f t)))
+
+abbrev pub with_step : Prog → (Trees → Prog) → List Node → Option ℕ → Prog
+with_step p f nodes None = p
+with_step p f nodes (Some n) = f (tree nodes n)
+
+-- the scopes behind a declarator a, where token i stands: its name enters, and its own scope ends
+abbrev pub declared : List Lexeme → ℕ → Context → Trees → Scopes → Scopes
+declared ts i h a c = enter (brought ts i (past_part h a).name (past_part h a).type_name) (around c)

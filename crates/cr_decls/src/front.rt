@@ -1,0 +1,35 @@
+ghost use Rattle.std.specs.Prelude.{◌≡◌, ◌<◌, ◌^◌, IfOk, IfErr, length};
+ghost use Rattle.cr_syntax.specs.Words.{AreSpans, lexemes_of};
+ghost use Rattle.cr_syntax.specs.Kept.{row_in};
+ghost use Rattle.cr_decls.specs.Unit.{IsRead, IsRefused};
+
+use crate::externals::unit;
+use cr_exprs::{ParseFault, Source, words_of};
+use cr_rows::Row;
+use cr_syntax::{Unit, begin};
+use cr_tokens::Tokens;
+use std::alloc::Global;
+use std::collections::LinkedList;
+
+/// The one unit that spells the tokens of a file, or the first refusal.
+pub fn parse(alloc: Global, file: &[u8], tokens: &Tokens) -> Result<Unit, ParseFault>
+    requires spans { AreSpans file.now tokens.now.list.items }
+    requires few { length tokens.now.list.items < 2 ^ 32 }
+    ensures read { IfOk result (λ u. IsRead (lexemes_of file.now tokens.now.list.items) (row_in u.nodes u.items)) }
+    ensures refused { IfErr result (IsRefused (lexemes_of file.now tokens.now.list.items)) }
+    ensures tokens { IfOk result (λ u. u.tokens.list.items ≡ tokens.now.list.items) }
+{
+    let list = tokens.list.as_slice();
+    let words = words_of(alloc, file, list)?;
+    let source = Source {
+        file,
+        tokens: list,
+        words: words.as_slice(),
+    };
+    let mut scopes = LinkedList::new(alloc);
+    begin(alloc, &mut scopes)?;
+    let mut nodes = Row::new(alloc);
+    let items = unit(alloc, &source, &mut scopes, &mut nodes)?;
+    let list = list.to_vec(alloc)?;
+    Ok(Unit::new(Tokens { list }, nodes, items))
+}

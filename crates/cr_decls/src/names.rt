@@ -1,0 +1,70 @@
+//! How declared names enter their scopes (C11 6.2.1).
+
+ghost use Rattle.std.specs.Prelude.{◌≡◌, ◌<◌, ◌∷◌, OnOk, IfErr, length};
+ghost use Rattle.cr_syntax.specs.Kept.{PartsAreBelow};
+ghost use Rattle.cr_syntax.specs.Machine.{innermost_of};
+ghost use Rattle.cr_exprs.specs.Source.{IsReadable, text_of};
+ghost use Rattle.cr_exprs.specs.Answers.{tree};
+ghost use Rattle.cr_decls.specs.Programs.{declared};
+
+use cr_exprs::{Found, ParseFault, Source, bring, drop_scope, past, taken};
+use cr_rows::Row;
+use cr_syntax::{Context, Node, Scope};
+use std::alloc::Global;
+use std::collections::LinkedList;
+
+/// The name of a declarator enters the scope around that of its own parameters, which ends.
+pub(crate) fn declare(
+    alloc: Global,
+    source: &Source,
+    context: Context,
+    declarator: Found,
+    scopes: &mut LinkedList<Scope>,
+    nodes: &Row<Node>,
+) -> Result<(), ParseFault>
+    requires readable { IsReadable source.now }
+    requires below { PartsAreBelow nodes.now }
+    requires node { declarator.node < length nodes.now }
+    ensures ok { OnOk result (scopes.new ≡ declared (text_of source.now) declarator.next context (tree nodes.now declarator.node) scopes.old) }
+    ensures err { IfErr result (λ fault. fault ≡ ParseFault.NoMemory) }
+{
+    let said = past(nodes, context, declarator.node);
+    drop_scope(scopes);
+    bring(
+        alloc,
+        source,
+        declarator.next,
+        said.name as usize,
+        said.type_name,
+        scopes,
+    )
+}
+
+/// The same, where that scope goes on: it is the one of a function's body.
+pub(crate) fn define(
+    alloc: Global,
+    source: &Source,
+    context: Context,
+    declarator: Found,
+    scopes: &mut LinkedList<Scope>,
+    nodes: &Row<Node>,
+) -> Result<(), ParseFault>
+    requires readable { IsReadable source.now }
+    requires below { PartsAreBelow nodes.now }
+    requires node { declarator.node < length nodes.now }
+    ensures ok { OnOk result (scopes.new ≡ innermost_of scopes.old ∷ declared (text_of source.now) declarator.next context (tree nodes.now declarator.node) scopes.old) }
+    ensures err { IfErr result (λ fault. fault ≡ ParseFault.NoMemory) }
+{
+    let said = past(nodes, context, declarator.node);
+    let own = taken(alloc, scopes);
+    bring(
+        alloc,
+        source,
+        declarator.next,
+        said.name as usize,
+        said.type_name,
+        scopes,
+    )?;
+    scopes.push_front(own)?;
+    Ok(())
+}

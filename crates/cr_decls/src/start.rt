@@ -1,0 +1,149 @@
+//! Tests of the next token, and the refusals by rows of the refused forms.
+
+ghost use Rattle.std.specs.Prelude.{◌≡◌, ◌≤◌, ◌<◌, IsTrue, true, false, OnOk, OnErr, IfErr, length};
+ghost use Rattle.cr_syntax.specs.Machine.{has_word, passes, barred};
+ghost use Rattle.cr_syntax.specs.MachineBody.{is_designator, is_label, is_statement_start, is_any, statement_start};
+ghost use Rattle.cr_exprs.specs.Source.{IsReadable, text_of};
+ghost use Rattle.cr_exprs.specs.Answers.{IsRefusal};
+
+use cr_exprs::{ParseFault, Source, barred, is_ordinary};
+use cr_syntax::{Scope, Word};
+use std::collections::LinkedList;
+
+/// Whether some token stands here.
+pub(crate) fn stands_any(source: &Source, at: usize) -> bool
+    requires { IsReadable source.now }
+    ensures answer { result ≡ has_word (text_of source.now) at is_any }
+    ensures inside { IsTrue result → at < length source.now.tokens.now }
+    ensures end { result ≡ false → length source.now.tokens.now ≤ at }
+{
+    match source.words.get(at) {
+        Some(_) => true,
+        None => false,
+    }
+}
+
+/// Refuses a designator (C11 6.7.9), where so many levels are open.
+pub(crate) fn bar_designator(source: &Source, at: usize, depth: usize) -> Result<(), ParseFault>
+    requires readable { IsReadable source.now }
+    requires at { at ≤ length source.now.tokens.now }
+    ensures ok { OnOk result (has_word (text_of source.now) at is_designator ≡ false) }
+    ensures stands { OnErr result (has_word (text_of source.now) at is_designator ≡ true) }
+    ensures err { IfErr result (λ fault. IsRefusal (text_of source.now) fault (barred (text_of source.now) 2 at depth) at) }
+{
+    if has_designator(source, at) {
+        return Err(barred(source, at, 2, depth));
+    }
+    Ok(())
+}
+
+/// Refuses the label of a switch (6.8.1), where so many levels are open.
+pub(crate) fn bar_label(source: &Source, at: usize, depth: usize) -> Result<(), ParseFault>
+    requires readable { IsReadable source.now }
+    requires at { at ≤ length source.now.tokens.now }
+    ensures ok { OnOk result (has_word (text_of source.now) at is_label ≡ false) }
+    ensures stands { OnErr result (has_word (text_of source.now) at is_label ≡ true) }
+    ensures err { IfErr result (λ fault. IsRefusal (text_of source.now) fault (barred (text_of source.now) 6 at depth) at) }
+{
+    if has_label(source, at) {
+        return Err(barred(source, at, 6, depth));
+    }
+    Ok(())
+}
+
+/// Refuses the first word of another statement than a block or a label, where so many levels are open.
+pub(crate) fn bar_statement(
+    source: &Source,
+    at: usize,
+    depth: usize,
+    scopes: &LinkedList<Scope>,
+) -> Result<(), ParseFault>
+    requires readable { IsReadable source.now }
+    requires at { at ≤ length source.now.tokens.now }
+    ensures ok { OnOk result (passes (text_of source.now) scopes.now at statement_start ≡ false) }
+    ensures stands { OnErr result (passes (text_of source.now) scopes.now at statement_start ≡ true) }
+    ensures err { IfErr result (λ fault. IsRefusal (text_of source.now) fault (barred (text_of source.now) 7 at depth) at) }
+{
+    if has_statement_start(source, at) || is_ordinary(source, at, scopes) {
+        return Err(barred(source, at, 7, depth));
+    }
+    Ok(())
+}
+
+fn has_designator(source: &Source, at: usize) -> bool
+    requires { IsReadable source.now }
+    ensures { result ≡ has_word (text_of source.now) at is_designator }
+{
+    match source.words.get(at) {
+        Some(word) => is_designator(*word),
+        None => false,
+    }
+}
+
+fn has_label(source: &Source, at: usize) -> bool
+    requires { IsReadable source.now }
+    ensures { result ≡ has_word (text_of source.now) at is_label }
+{
+    match source.words.get(at) {
+        Some(word) => is_label(*word),
+        None => false,
+    }
+}
+
+fn has_statement_start(source: &Source, at: usize) -> bool
+    requires { IsReadable source.now }
+    ensures { result ≡ has_word (text_of source.now) at is_statement_start }
+{
+    match source.words.get(at) {
+        Some(word) => is_statement_start(*word),
+        None => false,
+    }
+}
+
+fn is_designator(word: Word) -> bool
+    ensures { result ≡ is_designator word }
+{
+    match word {
+        Word::Dot | Word::LeftBracket => true,
+        _ => false,
+    }
+}
+
+fn is_label(word: Word) -> bool
+    ensures { result ≡ is_label word }
+{
+    match word {
+        Word::Case | Word::Default => true,
+        _ => false,
+    }
+}
+
+fn is_statement_start(word: Word) -> bool
+    ensures { result ≡ is_statement_start word }
+{
+    match word {
+        Word::Semicolon
+        | Word::If
+        | Word::Switch
+        | Word::While
+        | Word::Do
+        | Word::For
+        | Word::Break
+        | Word::Continue
+        | Word::Return
+        | Word::PlusPlus
+        | Word::MinusMinus
+        | Word::Ampersand
+        | Word::Star
+        | Word::Plus
+        | Word::Minus
+        | Word::Tilde
+        | Word::Bang
+        | Word::Sizeof
+        | Word::Integer
+        | Word::Character
+        | Word::Text
+        | Word::LeftParen => true,
+        _ => false,
+    }
+}

@@ -1,0 +1,90 @@
+//! What the parser of declarations and statements reads by.
+
+ghost use Rattle.std.specs.Prelude.{[], ◌≤◌, IfOk, length};
+ghost use Rattle.cr_syntax.specs.Kept.{PartsAreBelow};
+ghost use Rattle.cr_syntax.specs.Context.{fresh};
+ghost use Rattle.cr_syntax.specs.Machine.{named, row, declarator};
+ghost use Rattle.cr_syntax.specs.MachineBody.{body, start_goal};
+ghost use Rattle.cr_exprs.specs.Source.{IsReadable, text_of};
+ghost use Rattle.cr_exprs.specs.Answers.{Reads, IsPlaced};
+ghost use Rattle.cr_exprs.specs.Parts.{part_of};
+
+use crate::fault::ParseFault;
+use crate::found::Found;
+use crate::goal::Goal;
+use crate::reading::started;
+use crate::declarators::{Wanted, declarator};
+use crate::source::Source;
+use crate::specifiers::row;
+use cr_rows::Row;
+use cr_syntax::{Context, Node, Part, Scope};
+use std::alloc::Global;
+use std::collections::LinkedList;
+
+/// An expression, an assignment or a conditional, whatever stands behind it.
+pub fn read(
+    alloc: Global,
+    source: &Source,
+    goal: Goal,
+    at: usize,
+    depth: usize,
+    scopes: &mut LinkedList<Scope>,
+    nodes: &mut Row<Node>,
+) -> Result<Found, ParseFault>
+    requires readable { IsReadable source.now }
+    requires at { at ≤ length source.now.tokens.now }
+    requires depth { depth ≤ 128 }
+    requires below { PartsAreBelow nodes.old }
+    ensures reads { Reads (text_of source.now) (body (start_goal (part_of goal) depth)) scopes.old at nodes.new scopes.new result }
+    ensures placed { IfOk result (λ x. IsPlaced (length source.now.tokens.now) at nodes.old nodes.new [] x) }
+{
+    started(alloc, source, goal, at, depth, scopes, nodes)
+}
+
+/// Specifiers, with storage classes.
+pub fn specifiers(
+    alloc: Global,
+    source: &Source,
+    at: usize,
+    depth: usize,
+    scopes: &mut LinkedList<Scope>,
+    nodes: &mut Row<Node>,
+) -> Result<Found, ParseFault>
+    requires readable { IsReadable source.now }
+    requires at { at ≤ length source.now.tokens.now }
+    requires depth { depth ≤ 128 }
+    requires below { PartsAreBelow nodes.old }
+    ensures reads { Reads (text_of source.now) (body (row Part.Specifiers fresh depth)) scopes.old at nodes.new scopes.new result }
+    ensures placed { IfOk result (λ x. IsPlaced (length source.now.tokens.now) at nodes.old nodes.new [] x) }
+{
+    row(alloc, source, Part::Specifiers, at, depth, scopes, nodes)
+}
+
+/// A declarator with a name, where so much is said before.
+pub fn named_declarator(
+    alloc: Global,
+    source: &Source,
+    context: Context,
+    at: usize,
+    depth: usize,
+    scopes: &mut LinkedList<Scope>,
+    nodes: &mut Row<Node>,
+) -> Result<Found, ParseFault>
+    requires readable { IsReadable source.now }
+    requires at { at ≤ length source.now.tokens.now }
+    requires depth { depth ≤ 128 }
+    requires below { PartsAreBelow nodes.old }
+    ensures reads { Reads (text_of source.now) (body (declarator named context depth)) scopes.old at nodes.new scopes.new result }
+    ensures placed { IfOk result (λ x. IsPlaced (length source.now.tokens.now) at nodes.old nodes.new [] x) }
+{
+    declarator(
+        alloc,
+        source,
+        Wanted::Named,
+        context,
+        at,
+        depth,
+        scopes,
+        nodes,
+    )
+}
