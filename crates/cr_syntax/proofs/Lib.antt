@@ -55,5 +55,6 @@ pub mod MachineUnitForms
 pub mod MachineTraces
 pub mod MachineLabels
 pub mod MachineDefinitions
+pub mod MachineRefusals
 pub mod MachineUnitStuck
 pub mod MachineUnit

@@ -1,5 +1,5 @@
 -- A definition in the bare grammar's trees whose own parameters end in `...`: the subset's machine doesn't get past the brace of its body.
-use Rattle.std.proofs.Common.{◌≡◌, ℕ, ◌+◌, ◌≤◌, Bool, true, false, not, ◌&&◌, ◌==◌, List, ◌∷◌, ◌⊎◌, inl, inr, ⊎_elim, refl, sym, ap, subst, ◌∙◌, arith}
+use Rattle.std.proofs.Common.{◌≡◌, ℕ, ◌+◌, ◌<◌, ◌≤◌, Bool, true, false, not, ◌&&◌, ◌==◌, List, ◌∷◌, ◌⊎◌, inl, inr, ⊎_elim, refl, sym, ap, subst, ◌∙◌, arith}
 use Rattle.std.specs.Prelude.{if◌then◌else◌}
 use Rattle.std.proofs.lemmas.Bool.{eqb-true, both_ways, cases_Bool}
 use Rattle.cr_syntax.specs.declared.node.Kind.{Kind}
@@ -29,7 +29,7 @@ use Rattle.cr_syntax.proofs.MachineFirst.{none_true}
 use Rattle.cr_syntax.proofs.MachineEnds.{Way, defining, Ends, end_refuse, end_pass, end_seen, end_no, end_here, end_behind, end_inside}
 use Rattle.cr_syntax.proofs.MachineMeans.{IsDeclared, with_name, without}
 use Rattle.cr_syntax.proofs.MachineSound.{runs_sound}
-use Rattle.cr_syntax.proofs.MachineForms.{some_definition, mark, has_all, Clean, IsOne, Begun, or_none, unmarked_by, declarator_is_one, declaration_parts}
+use Rattle.cr_syntax.proofs.MachineForms.{some_definition, mark, has_all, Clean, IsOne, Begun, direct_later, or_none, unmarked_by, declarator_is_one, declaration_parts}
 use Rattle.cr_syntax.proofs.MachineLoose.{loose, looser, IsOwn, own_definition, tightened}
 use Rattle.cr_syntax.proofs.MachineTraces.{Traces, traces_idle, traced}
 
@@ -66,7 +66,7 @@ module _ (us : List Lexeme) (limit : Limit) (k : ℕ) where
   prototype_own (spells.prototype_none s) q = none_true q
   prototype_own (spells.prototype_some {u = u} x s) q = let n = forth x in let e = ellipsis_behind k u (is_one x).2 q in omega arith
 
-  pub own_later : {p : Part} {h : Context} {c e : Scopes} {d i j : ℕ} {t : Trees} → Names p → Spells us limit (a p) h c e d t i j → ellipsis_at k (own_parameters t) ≡ true → i ≤ k
+  pub own_later : {p : Part} {h : Context} {c e : Scopes} {d i j : ℕ} {t : Trees} → Names p → Spells us limit (a p) h c e d t i j → ellipsis_at k (own_parameters t) ≡ true → i < k
   own_later by_declarator (spells.of_chain grammar.declarator_direct f s) q = own_later by_direct s q
   own_later by_declarator (spells.of_alternative grammar.pointer_declarator f (spells.opens q' w (spells.qualified y x))) q =
       let n = consts_forth y in let n' = own_later by_declarator x q in omega arith
@@ -76,11 +76,17 @@ module _ (us : List Lexeme) (limit : Limit) (k : ℕ) where
       let n = own_later by_declarator x (subst (λ y. ellipsis_at k y ≡ true) (own_first (is_one x).2 u) q) in omega arith
   own_later by_direct (spells.of_alternative grammar.array_declarator f (spells.part {u = u} x s)) q = own_later by_direct x (subst (λ y. ellipsis_at k y ≡ true) (own_first (is_one x).2 u) q)
   own_later by_direct (spells.of_alternative grammar.function_declarator f (spells.part {t = t} {u = u} x (spells.opens q' w s))) q = ⊎_elim
-      (λ y. let n = forth x in let n' = prototype_own s (subst (λ z. ellipsis_at k z ≡ true) (after_one (is_one x).2 u) y) in omega arith)
+      (λ y. let n = direct_later x in let n' = prototype_own s (subst (λ z. ellipsis_at k z ≡ true) (after_one (is_one x).2 u) y) in omega arith)
       (λ y. own_later by_direct x (subst (λ z. ellipsis_at k z ≡ true) (own_first (is_one x).2 u) y))
       (choose_one k (is_bare (t & u)) (after_first (t & u)) (own_parameters (t & u)) q)
 
 -- Token k is the `...`, token m the brace of the body.
+
+-- where the subset's machine may be refused: before token k, or at the brace for the `...`
+pub data Fits (k m : ℕ) : Way → ℕ → Type 0 where
+  before : {w : Way} {n : ℕ} → n < k → Fits k m w n
+  at_brace : Fits k m (defining k) m
+
 module _ (us : List Lexeme) (limit : Limit) (k m : ℕ) where
   abbrev Reads : Goal → Scopes → ℕ → Trees → Scopes → ℕ → Type 0
   Reads g c i t e j = Runs body us limit (body g) c i (Done t e j)
@@ -89,19 +95,14 @@ module _ (us : List Lexeme) (limit : Limit) (k m : ℕ) where
   abbrev pub Lacks : Trees → Type 0
   Lacks t = Has (variadic_definition k m) t → ⊥
 
-  -- where the subset's machine may be refused: in its own way at token k or before, or at the brace for the `...`
-  pub data Fits : Way → ℕ → Type 0 where
-    before : {w : Way} {n : ℕ} → n ≤ k → Fits w n
-    at_brace : Fits (defining k) m
-
-  -- it is refused so, and begins at token k or before
+  -- it is refused so, in a way of its own, and begins before token k
   pub record Caught (p : Prog) (c : Scopes) (i : ℕ) : Type 0 where
     pub way : Way
     pub at : ℕ
     pub own : IsOwn us at way
     pub ends : Ends body us limit p c i way at
-    pub fits : Fits way at
-    pub starts : i ≤ k
+    pub fits : Fits k m way at
+    pub starts : i < k
 
   caught_on : {p q : Prog} {c e : Scopes} {i j : ℕ} → Caught p c i → j ≤ i → ((w : Way) (n : ℕ) → Ends body us limit p c i w n → Ends body us limit q e j w n) → Caught q e j
   caught_on x le f = let n = x.starts in record { way = x.way; at = x.at; own = x.own; ends = f x.way x.at x.ends; fits = x.fits; starts = omega arith }
@@ -171,10 +172,10 @@ module _ (us : List Lexeme) (limit : Limit) (k m : ℕ) where
       (subst (λ n. Ends body us limit (machine.when (may_define nowhere t) p (machine.refuse (last_token (own_parameters t)))) c i (defining n) i) v.last
       (end_no (ap not v.ends) end_refuse))
 
-  declared_later : {h : Context} {d i j : ℕ} {c e : Scopes} {t : Trees} → Reads (declarator named h d) c i t e j → ellipsis_at k (own_parameters t) ≡ true → i ≤ k
+  declared_later : {h : Context} {d i j : ℕ} {c e : Scopes} {t : Trees} → Reads (declarator named h d) c i t e j → ellipsis_at k (own_parameters t) ≡ true → i < k
   declared_later {h = h} {d = d} {i = i} {j = j} {c = c} {e = e} {t = t} g q = by (runs_sound (declarator named h d) c e i j t g)
     where
-      by : IsDeclared us limit named h d c i t e j → i ≤ k
+      by : IsDeclared us limit named h d c i t e j → i < k
       by (with_name z z' o s) = own_later us limit k by_declarator s q
       by (without z z' s) = none_true z'
 

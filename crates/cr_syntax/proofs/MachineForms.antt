@@ -465,7 +465,7 @@ arguments_later : {ts : List Lexeme} {limit : Limit} {h : Context} {c e : Scopes
 arguments_later (spells.list_last x (spells.token q w s)) = let n = forth x in let n' = forth s in omega arith
 arguments_later (spells.list_more x q w s) = let n = forth x in let n' = arguments_later s in omega arith
 
-direct_later : {ts : List Lexeme} {limit : Limit} {h : Context} {c e : Scopes} {d i j : ℕ} {t : Trees} → Spells ts limit (a part.DirectDeclarator) h c e d t i j → i < j
+pub direct_later : {ts : List Lexeme} {limit : Limit} {h : Context} {c e : Scopes} {d i j : ℕ} {t : Trees} → Spells ts limit (a part.DirectDeclarator) h c e d t i j → i < j
 direct_later (spells.of_chain x f s) = elim x [ ]
 direct_later (spells.of_alternative grammar.name_declarator f (spells.declared q g w s)) = let n = forth s in omega arith
 direct_later (spells.of_alternative grammar.group_declarator f (spells.opens q w s)) = let n = forth s in omega arith
