@@ -1,5 +1,5 @@
 -- What the subset's machine reads as a unit has no misplaced label, and defines no function with `...`.
-use Rattle.std.proofs.Common.{◌≡◌, ℕ, ◌+◌, Bool, true, false, ◌&&◌, List, [], ◌∷◌, refl, sym, subst, ◌∙◌}
+use Rattle.std.proofs.Common.{◌≡◌, ℕ, ◌+◌, Bool, true, false, List, refl, sym, subst}
 use Rattle.cr_syntax.specs.declared.node.Kind.{Kind}
 use Rattle.cr_syntax.specs.declared.node.Kind.TheVariants as kind
 use Rattle.cr_syntax.specs.declared.symbol.Part.TheVariants as part
@@ -9,7 +9,7 @@ use Rattle.cr_syntax.specs.Scopes.{Scopes}
 use Rattle.cr_syntax.specs.Trees.{Trees, none, node, one, ◌&◌}
 use Rattle.cr_syntax.specs.Context.{fresh, past_part}
 use Rattle.cr_syntax.specs.Spells.{Limit, Spells, a}
-use Rattle.cr_syntax.specs.Units.{Place, in_switch, own_item, elsewhere, is_misplaced, place_in, own_parameters, ellipsis_at, after_first, one_begins_at, variadic_definition}
+use Rattle.cr_syntax.specs.Units.{Place, own_item, elsewhere, is_misplaced, place_in, own_parameters, ellipsis_at, one_begins_at, variadic_definition}
 use Rattle.cr_syntax.specs.Machine.{Goal, Prog, Labels, anywhere, own_block, nowhere, named, Runs, Done, unit, externals, external, init_declarators, initialized, statement, block, if_rest, switch_rest, while_rest, do_rest, for_rest, return_rest, for_clauses, compound, items, item}
 use Rattle.cr_syntax.specs.MachineBody as programs
 use Rattle.cr_syntax.specs.MachineBody.{body, inside, may_label, may_define, ends_variadic, is_variadic, declared_on, defined, unlabelled}
