@@ -22,9 +22,9 @@ use Rattle.cr_syntax.specs.Machine.{Goal, Prog, Manner, Runs, Done, Allows, plai
 use Rattle.cr_syntax.specs.Machine.{whole, expression, commas, assignment, conditional, operands, cast, unary, measured, postfix, called, grouped, texts, arguments, suffixes, type_name, row, more, element, structure, members, member, member_declarators, enumeration, enumerators, enumerator, consts, declarator, declarator_suffixes, abstract_suffixes, size, parameters, more_parameters, parameter}
 use Rattle.cr_syntax.specs.Machine.{unit, externals, external, declaration, init_declarators, initialized, initializer, initializers, statement, block, if_rest, switch_rest, while_rest, do_rest, for_rest, return_rest, for_clauses, clause, compound, items, item}
 use Rattle.cr_syntax.specs.Machine as m
-use Rattle.cr_syntax.specs.MachineBody.{body, assigned, operated, prefixed, suffixed, sized, other_primary, suffixes_end, other_element, array_start, member_end, declared_on, labelled, unlabelled, switch_body, is_designator, is_label, Words, is_identifier, start_goal, tighter, assignment_operators, operators, unary_prefixes, cast_prefixes, constants, postfix_operators, specifier_words, row_kind, in_row, in_parameters}
+use Rattle.cr_syntax.specs.MachineBody.{body, assigned, operated, prefixed, suffixed, sized, other_primary, suffixes_end, other_element, array_start, member_end, declared_on, labelled, unlabelled, switch_body, is_designator, is_label, label_start, Words, is_identifier, start_goal, tighter, assignment_operators, operators, unary_prefixes, cast_prefixes, constants, postfix_operators, specifier_words, row_kind, in_row, in_parameters}
 use Rattle.cr_syntax.specs.MachineLaws.{IsStart}
-use Rattle.cr_syntax.specs.Reads.{same_word}
+use Rattle.cr_syntax.specs.Reads.{same_word, is_word}
 use Rattle.cr_syntax.specs.Expressions.{Start, ShowsFrom, OutsideFrom, compound_literal, called_expression, bit_field, unused_keyword}
 use Rattle.cr_syntax.proofs.Tests.{both, some_one}
 use Rattle.cr_syntax.proofs.MachineRuns.{reach, same}
@@ -196,6 +196,12 @@ switching_facts : (r : Form) (s : ℕ) → is_switching r s ≡ true → (w : Wo
 switching_facts (case_body s') s q = (word.Case, refl, refl, refl)
 switching_facts (default_body s') s q = (word.Default, refl, refl, refl)
 switching_facts _ s q = none_true q
+
+-- a label where a switch's body is wanted
+label_starts : (ts : List Lexeme) (i : ℕ) (w : Word) → is_label w ≡ true → Is ts i w → is_word ts i word.Case || is_word ts i word.Default ≡ true
+label_starts ts i word.Case l q = subst (λ b. b || is_word ts i word.Default ≡ true) (sym (yes q)) refl
+label_starts ts i word.Default l q = subst (λ b. b || is_word ts i word.Default ≡ true) (sym (differs q word.Case refl)) (yes q)
+label_starts ts i _ l q = none_true l
 
 no_labelling : (r : Form) → asks_block r ≡ true → is_labelling r ≡ false
 no_labelling some_label q = none_true q
@@ -652,7 +658,7 @@ module _ (ts us : List Lexeme) (limit top : Limit) (r : Form) (k : ℕ) (stands 
   -- The body of a switch, which begins here.
 
   switches : (l : m.Labels) (d s : ℕ) (x : Trees) (c : Scopes) (i : ℕ) → is_switching r s ≡ true → i ≡ k → Bars (switch_body l d s x) c i
-  switches l d s x c i y e = let w = switching_facts r s y in ends_at 6 (has is_label) (d + 1) w.2 e (end_bar (sorted is_label true (at_token w.0 w.1 e) w.3))
+  switches l d s x c i y e = let w = switching_facts r s y in ends_at 6 label_start (d + 1) w.2 e (end_bar (label_starts ts i w.0 w.3 (at_token w.0 w.1 e)))
 
   switch_owes : (l : m.Labels) (d s : ℕ) (x : Trees) (c : Scopes) (i : ℕ) {l' : Kind} {s' e' : ℕ} {b : Trees} → x ≡ one l' s' e' b → Clean r k x →
       There (switch_body l d s x) (λ t e j. asks_block r ≡ true → Clean r k t) c i
