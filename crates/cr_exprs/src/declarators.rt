@@ -4,7 +4,6 @@ ghost use Rattle.std.specs.Prelude.{◌≡◌, ◌+◌, ◌<◌, ◌≤◌, ◌�
 ghost use Rattle.cr_syntax.specs.Scopes.{Scopes};
 ghost use Rattle.cr_syntax.specs.Trees.{none};
 ghost use Rattle.cr_syntax.specs.Kept.{PartsAreBelow, row_in};
-ghost use Rattle.cr_syntax.specs.Context.{past_token};
 ghost use Rattle.cr_syntax.specs.Reads.{is_word};
 ghost use Rattle.cr_syntax.specs.Machine.{passes, give, declarator, declarator_suffixes, abstract_suffixes, size, parameters, parameter};
 ghost use Rattle.cr_syntax.specs.MachineBody.{body, declarator_start, may_name, may_omit, is_declarator, array_start};
@@ -25,7 +24,7 @@ use crate::source::{
 };
 use crate::specifiers::row;
 use cr_rows::Row;
-use cr_syntax::{Context, FRESH, Kind, Node, Part, Scope, Word, begin};
+use cr_syntax::{Context, FRESH, Kind, Node, Part, Scope, Word, begin, past_token};
 use std::alloc::Global;
 use std::collections::LinkedList;
 
@@ -38,16 +37,6 @@ pub(crate) enum Wanted {
     Unnamed,
     /// Either.
     Either,
-}
-
-/// What is said behind a token.
-pub(crate) fn named(context: Context) -> Context
-    ensures { result ≡ past_token context }
-{
-    Context {
-        typed: true,
-        ..context
-    }
 }
 
 fn may_name(wanted: Wanted) -> bool
@@ -144,7 +133,7 @@ fn pointer(
         alloc,
         source,
         wanted,
-        named(context),
+        past_token(context),
         next,
         depth + 1,
         scopes,
@@ -202,7 +191,7 @@ fn bracketed(
         alloc,
         source,
         wanted,
-        named(context),
+        past_token(context),
         start + 1,
         depth + 1,
         scopes,

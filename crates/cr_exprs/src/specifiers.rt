@@ -10,7 +10,7 @@ ghost use Rattle.cr_exprs.specs.Source.{IsReadable, text_of};
 ghost use Rattle.cr_exprs.specs.Answers.{Reads, IsPlaced, tree};
 
 use crate::arena::{gathered, leaf, over, pair, past, push, row_of};
-use crate::declarators::{Wanted, declarator, named};
+use crate::declarators::{Wanted, declarator};
 use crate::expressions::conditional;
 use crate::fault::ParseFault;
 use crate::found::{Found, Listed};
@@ -21,7 +21,7 @@ use crate::source::{
 };
 use crate::tables::specifier_in;
 use cr_rows::Row;
-use cr_syntax::{Context, FRESH, Kind, Node, Part, Scope, Word};
+use cr_syntax::{Context, FRESH, Kind, Node, Part, Scope, Word, past_token};
 use std::alloc::Global;
 use std::collections::LinkedList;
 
@@ -296,7 +296,7 @@ fn member_declarators(
             expect(source, one.next, Word::Semicolon, depth)?;
             return push(nodes, Kind::MemberDeclaration, start, next, parts);
         }
-        context = named(context);
+        context = past_token(context);
     }
 }
 

@@ -514,7 +514,7 @@ pub specifiers::member_declarators-push-requires-then-not-stands-clause-parts : 
 specifiers::member_declarators-push-requires-then-not-stands-clause-parts t c = (is_row_more _ _ _ _ _ c.declarators.invariant.parts c.in_ok-one.ensures.placed.keeps.longer c.in_ok-one.ensures.placed.last c.in_ok-push.ensures.ok).below
 
 pub specifiers::member_declarators-declarators-preserved : goal.specifiers::member_declarators-declarators-preserved
-specifiers::member_declarators-declarators-preserved t c = record { goes = record { on = λ y r. c.declarators.invariant.goes.on y (run_call c.in_ok-one.ensures.reads.is.run (run_look (run_set (run_free c.in_ok-bar.ensures.ok (run_take (sym c.stands.ensures.answer ∙ c.if-not-stands.false) tt (handed y (run_in c.drop_scope.ensures (members_shift c.named-context.ensures (row_more _ _ _ _ _ c.in_ok-one.ensures.placed.keeps c.declarators.invariant.parts c.in_ok-push.ensures.ok) r)))))))) }; keeps = keeps_all _ _ _ c.declarators.invariant.keeps c.in_ok-one.ensures.placed.keeps; below = c.in_ok-one.ensures.placed.below; kept = λ loose h. kept_more _ _ _ _ _ loose c.in_ok-push.ensures.ok (c.in_ok-one.ensures.placed.kept _ (c.declarators.invariant.kept loose h)); parts = (is_row_more _ _ _ _ _ c.declarators.invariant.parts c.in_ok-one.ensures.placed.keeps.longer c.in_ok-one.ensures.placed.last c.in_ok-push.ensures.ok).below; from = omega (arith, c.declarators.invariant.from, c.in_ok-one.ensures.placed.from); to = search rules }
+specifiers::member_declarators-declarators-preserved t c = record { goes = record { on = λ y r. c.declarators.invariant.goes.on y (run_call c.in_ok-one.ensures.reads.is.run (run_look (run_set (run_free c.in_ok-bar.ensures.ok (run_take (sym c.stands.ensures.answer ∙ c.if-not-stands.false) tt (handed y (run_in c.drop_scope.ensures (members_shift c.past_token-context.ensures (row_more _ _ _ _ _ c.in_ok-one.ensures.placed.keeps c.declarators.invariant.parts c.in_ok-push.ensures.ok) r)))))))) }; keeps = keeps_all _ _ _ c.declarators.invariant.keeps c.in_ok-one.ensures.placed.keeps; below = c.in_ok-one.ensures.placed.below; kept = λ loose h. kept_more _ _ _ _ _ loose c.in_ok-push.ensures.ok (c.in_ok-one.ensures.placed.kept _ (c.declarators.invariant.kept loose h)); parts = (is_row_more _ _ _ _ _ c.declarators.invariant.parts c.in_ok-one.ensures.placed.keeps.longer c.in_ok-one.ensures.placed.last c.in_ok-push.ensures.ok).below; from = omega (arith, c.declarators.invariant.from, c.in_ok-one.ensures.placed.from); to = search rules }
 
 pub declarators::declarator-returns-then-not-may_name-clause-reads : goal.declarators::declarator-returns-then-not-may_name-clause-reads
 declarators::declarator-returns-then-not-may_name-clause-reads t c = through c.array_start.result (λ y h. run_here (run_pass (sym c.stands.ensures.answer ∙ c.if-stands.false) (run_pass (sym c.stands-2.ensures.answer ∙ c.if-stands-2.false) (run_no (sym c.may_name.ensures ∙ c.if-not-may_name.true) h)))) c.array_start.ensures.reads
@@ -544,10 +544,10 @@ pub declarators::pointer-returns-then-ends_pointer-clause-placed : goal.declarat
 declarators::pointer-returns-then-ends_pointer-clause-placed t c = placed_push c.leaf.new.nodes [] [] c.leaf.result c.leaf.ensures.ok c.leaf.ensures.next (omega (arith, c.consts-next.ensures.from)) c.consts-next.ensures.to (keeps_none _) (λ loose h. h)
 
 pub declarators::pointer-returns-in_err-to-clause-reads : goal.declarators::pointer-returns-in_err-to-clause-reads
-declarators::pointer-returns-in_err-to-clause-reads t c = exit c.from_residual-in_err-to.result _ c.from_residual-in_err-to.ensures.1 (fails (rw c.named.ensures at c.in_err-to.ensures.reads.is) (λ x k h. run_here (run_take c.requires.star c.in_ok-room.ensures.ok (run_call (c.consts-next.ensures.read _ _).run (points_on _ (c.ends_pointer.ensures.goes c.if-ends_pointer.false) (run_fail h))))))
+declarators::pointer-returns-in_err-to-clause-reads t c = exit c.from_residual-in_err-to.result _ c.from_residual-in_err-to.ensures.1 (fails (rw c.past_token.ensures at c.in_err-to.ensures.reads.is) (λ x k h. run_here (run_take c.requires.star c.in_ok-room.ensures.ok (run_call (c.consts-next.ensures.read _ _).run (points_on _ (c.ends_pointer.ensures.goes c.if-ends_pointer.false) (run_fail h))))))
 
 pub declarators::pointer-returns-clause-reads : goal.declarators::pointer-returns-clause-reads
-declarators::pointer-returns-clause-reads t c = finish c.over.new.nodes c.over.result c.over.ensures.err c.over.ensures.next c.over.ensures.tree (run_here (run_take c.requires.star c.in_ok-room.ensures.ok (run_call (c.consts-next.ensures.read _ _).run (points_on _ (c.ends_pointer.ensures.goes c.if-ends_pointer.false) (run_call (rw c.named.ensures at c.in_ok-to.ensures.reads.is).run (pointer_ends _ c.pointer_kind-kind.ensures))))))
+declarators::pointer-returns-clause-reads t c = finish c.over.new.nodes c.over.result c.over.ensures.err c.over.ensures.next c.over.ensures.tree (run_here (run_take c.requires.star c.in_ok-room.ensures.ok (run_call (c.consts-next.ensures.read _ _).run (points_on _ (c.ends_pointer.ensures.goes c.if-ends_pointer.false) (run_call (rw c.past_token.ensures at c.in_ok-to.ensures.reads.is).run (pointer_ends _ c.pointer_kind-kind.ensures))))))
 
 pub declarators::pointer-returns-clause-placed : goal.declarators::pointer-returns-clause-placed
 declarators::pointer-returns-clause-placed t c = placed_push c.over.new.nodes [] (c.in_ok-to.to.node ∷ []) c.over.result c.over.ensures.ok c.over.ensures.next (omega (arith, c.consts-next.ensures.from, c.in_ok-to.ensures.placed.from)) (omega (arith, c.in_ok-to.ensures.placed.to)) c.in_ok-to.ensures.placed.keeps c.in_ok-to.ensures.placed.kept
@@ -556,16 +556,16 @@ pub declarators::bracketed-returns-in_err-room-clause-reads : goal.declarators::
 declarators::bracketed-returns-in_err-room-clause-reads t c = exit c.from_residual.result _ c.from_residual.ensures.1 (deep c.in_err-room.ensures.err (run_here (run_pass c.requires.other (run_deep c.requires.bracket (no_room c.in_err-room.ensures.full)))))
 
 pub declarators::bracketed-returns-in_err-inner-clause-reads : goal.declarators::bracketed-returns-in_err-inner-clause-reads
-declarators::bracketed-returns-in_err-inner-clause-reads t c = exit c.from_residual-in_err-inner.result _ c.from_residual-in_err-inner.ensures.1 (fails (rw c.named.ensures at c.in_err-inner.ensures.reads.is) (λ x k h. run_here (run_pass c.requires.other (run_take c.requires.bracket c.in_ok-room.ensures.ok (run_fail h)))))
+declarators::bracketed-returns-in_err-inner-clause-reads t c = exit c.from_residual-in_err-inner.result _ c.from_residual-in_err-inner.ensures.1 (fails (rw c.past_token.ensures at c.in_err-inner.ensures.reads.is) (λ x k h. run_here (run_pass c.requires.other (run_take c.requires.bracket c.in_ok-room.ensures.ok (run_fail h)))))
 
 pub declarators::bracketed-returns-in_err-expect-clause-reads : goal.declarators::bracketed-returns-in_err-expect-clause-reads
-declarators::bracketed-returns-in_err-expect-clause-reads t c = exit c.from_residual-in_err-expect.result _ c.from_residual-in_err-expect.ensures.1 (stops c.in_err-expect.ensures.err (run_here (run_pass c.requires.other (run_take c.requires.bracket c.in_ok-room.ensures.ok (run_call (rw c.named.ensures at c.in_ok-inner.ensures.reads.is).run (run_pass c.in_err-expect.ensures.other run_stop))))))
+declarators::bracketed-returns-in_err-expect-clause-reads t c = exit c.from_residual-in_err-expect.result _ c.from_residual-in_err-expect.ensures.1 (stops c.in_err-expect.ensures.err (run_here (run_pass c.requires.other (run_take c.requires.bracket c.in_ok-room.ensures.ok (run_call (rw c.past_token.ensures at c.in_ok-inner.ensures.reads.is).run (run_pass c.in_err-expect.ensures.other run_stop))))))
 
 pub declarators::bracketed-returns-in_err-group-clause-reads : goal.declarators::bracketed-returns-in_err-group-clause-reads
 declarators::bracketed-returns-in_err-group-clause-reads t c = exit c.from_residual-in_err-group.result _ c.from_residual-in_err-group.ensures.1 (no_memory c.in_err-group.ensures.err)
 
 pub declarators::bracketed-returns-then-is_declarator-clause-reads : goal.declarators::bracketed-returns-then-is_declarator-clause-reads
-declarators::bracketed-returns-then-is_declarator-clause-reads t c = through c.declarator_suffixes.result (λ y h. run_here (run_pass c.requires.other (run_take c.requires.bracket c.in_ok-room.ensures.ok (run_call (rw c.named.ensures at c.in_ok-inner.ensures.reads.is).run (run_take c.in_ok-expect.ensures.ok tt (run_yes (sym c.is_declarator.ensures ∙ c.if-is_declarator.true) (run_here (handed y (shift (λ u. body (m.declarator_suffixes c.args.depth c.args.start u)) c.in_ok-group.ensures.tree c.in_ok-group.ensures.next h))))))))) c.declarator_suffixes.ensures.reads
+declarators::bracketed-returns-then-is_declarator-clause-reads t c = through c.declarator_suffixes.result (λ y h. run_here (run_pass c.requires.other (run_take c.requires.bracket c.in_ok-room.ensures.ok (run_call (rw c.past_token.ensures at c.in_ok-inner.ensures.reads.is).run (run_take c.in_ok-expect.ensures.ok tt (run_yes (sym c.is_declarator.ensures ∙ c.if-is_declarator.true) (run_here (handed y (shift (λ u. body (m.declarator_suffixes c.args.depth c.args.start u)) c.in_ok-group.ensures.tree c.in_ok-group.ensures.next h))))))))) c.declarator_suffixes.ensures.reads
 
 pub declarators::bracketed-returns-then-is_declarator-clause-placed : goal.declarators::bracketed-returns-then-is_declarator-clause-placed
 declarators::bracketed-returns-then-is_declarator-clause-placed t c = placed_grown c.args.start c.declarator_suffixes.new.nodes [] (c.in_ok-group.group.node ∷ []) c.declarator_suffixes.result c.declarator_suffixes.ensures.grown (omega (arith, c.in_ok-group.ensures.ok.grows, c.in_ok-inner.ensures.placed.keeps.longer)) (keeps_all _ _ _ c.in_ok-inner.ensures.placed.keeps c.in_ok-group.ensures.ok.keeps) (λ loose h. c.in_ok-group.ensures.ok.kept _ (omega (arith, c.in_ok-group.ensures.next, c.in_ok-expect.ensures.inside)) loose (c.in_ok-inner.ensures.placed.kept loose h))
@@ -574,7 +574,7 @@ pub declarators::bracketed-returns-in_err-group-2-clause-reads : goal.declarator
 declarators::bracketed-returns-in_err-group-2-clause-reads t c = exit c.from_residual-in_err-group-2.result _ c.from_residual-in_err-group-2.ensures.1 (no_memory c.in_err-group-2.ensures.err)
 
 pub declarators::bracketed-returns-clause-reads : goal.declarators::bracketed-returns-clause-reads
-declarators::bracketed-returns-clause-reads t c = through c.abstract_suffixes.result (λ y h. run_here (run_pass c.requires.other (run_take c.requires.bracket c.in_ok-room.ensures.ok (run_call (rw c.named.ensures at c.in_ok-inner.ensures.reads.is).run (run_take c.in_ok-expect.ensures.ok tt (run_no (sym c.is_declarator.ensures ∙ c.if-is_declarator.false) (run_here (handed y (shift (λ u. body (m.abstract_suffixes c.args.depth c.args.start u)) c.in_ok-group-2.ensures.tree c.in_ok-group-2.ensures.next h))))))))) c.abstract_suffixes.ensures.reads
+declarators::bracketed-returns-clause-reads t c = through c.abstract_suffixes.result (λ y h. run_here (run_pass c.requires.other (run_take c.requires.bracket c.in_ok-room.ensures.ok (run_call (rw c.past_token.ensures at c.in_ok-inner.ensures.reads.is).run (run_take c.in_ok-expect.ensures.ok tt (run_no (sym c.is_declarator.ensures ∙ c.if-is_declarator.false) (run_here (handed y (shift (λ u. body (m.abstract_suffixes c.args.depth c.args.start u)) c.in_ok-group-2.ensures.tree c.in_ok-group-2.ensures.next h))))))))) c.abstract_suffixes.ensures.reads
 
 pub declarators::bracketed-returns-clause-placed : goal.declarators::bracketed-returns-clause-placed
 declarators::bracketed-returns-clause-placed t c = placed_grown c.args.start c.abstract_suffixes.new.nodes [] (c.in_ok-group-2.group.node ∷ []) c.abstract_suffixes.result c.abstract_suffixes.ensures.grown (omega (arith, c.in_ok-group-2.ensures.ok.grows, c.in_ok-inner.ensures.placed.keeps.longer)) (keeps_all _ _ _ c.in_ok-inner.ensures.placed.keeps c.in_ok-group-2.ensures.ok.keeps) (λ loose h. c.in_ok-group-2.ensures.ok.kept _ (omega (arith, c.in_ok-group-2.ensures.next, c.in_ok-expect.ensures.inside)) loose (c.in_ok-inner.ensures.placed.kept loose h))
