@@ -1,5 +1,5 @@
 -- The trees of nodes, where nodes are appended.
-use Rattle.std.proofs.Common.{◌≡◌, ℕ, zero, suc, ◌+◌, ◌-◌, ◌<◌, ◌≤◌, Bool, true, false, List, [], ◌∷◌, ◌++◌, Option, None, Some, length, get_or, slice_get, slice_index, refl, sym, ap, subst, ◌∙◌, arith, length-append}
+use Rattle.std.proofs.Common.{◌≡◌, ℕ, zero, suc, ◌+◌, ◌-◌, ◌<◌, ◌≤◌, true, false, List, [], ◌∷◌, ◌++◌, Option, None, Some, length, get_or, slice_get, slice_index, refl, sym, ap, subst, ◌∙◌, arith, length-append}
 use Rattle.std.proofs.Math.ListN.{get_or-append}
 use Rattle.std.proofs.Math.Seq.{get_or-append_seam}
 use Rattle.std.proofs.lemmas.Option.{slice_get_within, slice_get_read}
@@ -11,7 +11,7 @@ use Rattle.cr_syntax.specs.MachineBody.{row_kind, in_row, in_parameters}
 use Rattle.cr_exprs.specs.Tables.{is_void}
 use Rattle.cr_syntax.specs.declared.node.Node.{Node}
 use Rattle.cr_syntax.specs.Kept.{PartsAreBelow, AreBelow, row_in}
-use Rattle.cr_syntax.specs.Trees.{Trees, none, node, one, ◌&◌, row_of, tree_of, grown, trees_of}
+use Rattle.cr_syntax.specs.Trees.{Trees, none, node, one, ◌&◌, tree_of, grown, trees_of}
 use Rattle.cr_syntax.proofs.Arena.{tree_at}
 use Rattle.cr_exprs.specs.declared.fault.ParseFault.{ParseFault}
 use Rattle.cr_exprs.specs.declared.found.Found.{Found}
@@ -101,15 +101,15 @@ get_front (n ∷ a) b zero lt = refl
 get_front (n ∷ a) b (suc k) lt = get_front a b k (omega arith)
 
 -- the nodes but the last one
-pub front_keeps : (old new : List Node) (o : Option Node) → old ≡ new ++ option_to_list o → (k : ℕ) → k < length new → slice_get new k ≡ slice_get old k
-front_keeps old new o q k lt = rw q (sym (get_front new (option_to_list o) k lt))
+pub keeps_front : (old new : List Node) (o : Option Node) → old ≡ new ++ option_to_list o → Keeps new old
+keeps_front old new o q = record { longer = omega (arith, ap length q, length-append new (option_to_list o)); same = λ k lt. rw q (get_front new (option_to_list o) k lt) }
 
 pub front_length : (old new : List Node) (o : Option Node) → 0 < length old → old ≡ new ++ option_to_list o → IfNone o (old ≡ []) → length new + 1 ≡ length old
 front_length old new None lt q n = absurd (omega (arith, ap length n))
 front_length old new (Some x) lt q n = omega (arith, ap length q, length-append new (x ∷ []))
 
-pub front_below : (old new : List Node) (o : Option Node) → old ≡ new ++ option_to_list o → PartsAreBelow old → PartsAreBelow new
-front_below old new o q f k n h = f k n (sym (front_keeps old new o q k (slice_get_within new k n h)) ∙ h)
+pub below_front : (new old : List Node) → Keeps new old → PartsAreBelow old → PartsAreBelow new
+below_front new old h f k n q = f k n (h.same k (slice_get_within new k n q) ∙ q)
 
 -- rows of one number, and of more
 pub lone : (ns : List Node) (ps : List ℕ) (d : ℕ) → length ps ≡ 1 → row_in ns ps ≡ tree ns (get_or ps 0 d) & none

@@ -1,15 +1,15 @@
 -- What the parser's functions answer, in terms of the machine's programs.
-use Rattle.std.specs.Prelude.{◌≡◌, ℕ, ◌+◌, ◌-◌, ◌<◌, ◌≤◌, Bool, List, Option, None, Some, Result, Ok, Err, length, slice_get, slice_index, slice_index_or, option_to_list}
-use Rattle.cr_syntax.specs.declared.node.Kind.{Kind}
+use Rattle.std.specs.Prelude.{◌≡◌, ℕ, ◌+◌, ◌-◌, ◌<◌, ◌≤◌, List, [], ◌∷◌, Option, None, Some, Result, Ok, Err, length, slice_get, slice_index, slice_index_or, option_to_list}
 use Rattle.cr_syntax.specs.declared.node.Node.{Node}
 use Rattle.cr_syntax.specs.Words.{Lexeme}
 use Rattle.cr_syntax.specs.Scopes.{Scopes}
-use Rattle.cr_syntax.specs.Trees.{Trees, none, one, trees_of}
+use Rattle.cr_syntax.specs.Trees.{Trees, none, trees_of}
 use Rattle.cr_syntax.specs.Kept.{PartsAreBelow, AreBelow}
 use Rattle.cr_syntax.specs.Spells.{AtMost}
 use Rattle.cr_syntax.specs.Units.{most_levels}
 use Rattle.cr_syntax.specs.Machine.{Prog, Reply, Done, Failed, Cause, unexpected, ended, too_deep, outside, Runs}
 use Rattle.cr_syntax.specs.MachineBody.{body}
+use Rattle.cr_exprs.specs.Loose.{Replaces}
 use Rattle.cr_exprs.specs.declared.fault.ParseFault.{ParseFault}
 use Rattle.cr_exprs.specs.declared.fault.ParseFault.TheVariants.{NoMemory, Unexpected, Ended, TooDeep, OutsideSubset}
 use Rattle.cr_exprs.specs.declared.found.Found.{Found}
@@ -77,19 +77,22 @@ pub record Keeps (old new : List Node) : Type 0 where
   pub longer : length old ≤ length new
   pub same : (k : ℕ) → k < length old → slice_get new k ≡ slice_get old k
 
--- one node more, the last of all; the parts of each are below it
-pub record IsPushed (old new : List Node) (x : Found) : Type 0 where
+-- one node more, the last of all, with the loose nodes that are taken for its parts; the parts of each are below it
+pub record IsPushed (old new : List Node) (taken : List ℕ) (x : Found) : Type 0 where
   pub last : x.node ≡ length old
   pub grows : length new ≡ length old + 1
   pub keeps : Keeps old new
   pub below : PartsAreBelow new
+  pub kept : (tokens : ℕ) → x.next ≤ tokens → Replaces tokens old new taken (x.node ∷ [])
 
--- A node that was read of so many tokens, from token `at` on: the last of all nodes, the old ones being kept.
-pub record IsPlaced (tokens at : ℕ) (old new : List Node) (x : Found) : Type 0 where
+-- A node that was read of so many tokens, from token `at` on: the last of all nodes, the old ones being kept. It is loose, in the
+-- place of the old nodes that are taken.
+pub record IsPlaced (tokens at : ℕ) (old new : List Node) (taken : List ℕ) (x : Found) : Type 0 where
   pub last : x.node + 1 ≡ length new
   pub grows : length old < length new
   pub keeps : Keeps old new
   pub below : PartsAreBelow new
+  pub kept : Replaces tokens old new taken (x.node ∷ [])
   pub from : at < x.next
   pub to : x.next ≤ tokens
 
@@ -99,18 +102,27 @@ pub record IsRow (row : List ℕ) (nodes : ℕ) : Type 0 where
   pub some : 0 < length row
   pub last : slice_index row (length row - 1) + 1 ≡ nodes
 
--- the last of all nodes, where all but the last one stay at least
-pub record IsGathered (old new : List Node) (x : Found) : Type 0 where
-  pub last : x.node + 1 ≡ length new
-  pub longer : length old ≤ length new
-  pub same : (k : ℕ) → k + 1 < length old → slice_get new k ≡ slice_get old k
-  pub below : PartsAreBelow new
-
--- as `IsPlaced`, where the node may be one of the old ones
-pub record IsGrown (tokens at : ℕ) (old new : List Node) (x : Found) : Type 0 where
+-- the last of all nodes, in the place of those that are taken
+pub record IsGathered (old new : List Node) (taken : List ℕ) (x : Found) : Type 0 where
   pub last : x.node + 1 ≡ length new
   pub keeps : Keeps old new
   pub below : PartsAreBelow new
+  pub kept : (tokens : ℕ) → x.next ≤ tokens → Replaces tokens old new taken (x.node ∷ [])
+
+-- the same of what stood before so many nodes were read, all of which may go
+pub record IsRegathered (before : ℕ) (old new : List Node) (taken : List ℕ) (x : Found) : Type 0 where
+  pub last : x.node + 1 ≡ length new
+  pub grows : before < length new
+  pub below : PartsAreBelow new
+  pub keeps : (start : List Node) → length start ≡ before → Keeps start old → Keeps start new
+  pub kept : (start : List Node) → length start ≡ before → Keeps start old → (tokens : ℕ) → x.next ≤ tokens → Replaces tokens start old [] taken → Replaces tokens start new [] (x.node ∷ [])
+
+-- as `IsPlaced`, where the node may be one of the old ones
+pub record IsGrown (tokens at : ℕ) (old new : List Node) (taken : List ℕ) (x : Found) : Type 0 where
+  pub last : x.node + 1 ≡ length new
+  pub keeps : Keeps old new
+  pub below : PartsAreBelow new
+  pub kept : Replaces tokens old new taken (x.node ∷ [])
   pub from : at < x.next
   pub to : x.next ≤ tokens
 
@@ -119,6 +131,7 @@ pub record IsListed (tokens at : ℕ) (old new : List Node) (x : Listed) : Type 
   pub row : IsRow x.parts (length new)
   pub keeps : Keeps old new
   pub below : PartsAreBelow new
+  pub kept : Replaces tokens old new [] x.parts
   pub from : at < x.next
   pub to : x.next ≤ tokens
 
@@ -126,6 +139,7 @@ pub record IsOptional (tokens at : ℕ) (old new : List Node) (x : Optional) : T
   pub row : AreBelow (option_to_list x.node) (length new)
   pub keeps : Keeps old new
   pub below : PartsAreBelow new
+  pub kept : Replaces tokens old new [] (option_to_list x.node)
   pub from : at < x.next
   pub to : x.next ≤ tokens
 

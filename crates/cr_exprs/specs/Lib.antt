@@ -1,5 +1,6 @@
 pub mod Source
 pub mod Tables
+pub mod Loose
 pub mod Answers
 pub mod Parts
 pub mod Names

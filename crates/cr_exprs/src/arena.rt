@@ -1,10 +1,10 @@
-ghost use Rattle.std.specs.Prelude.{◌≡◌, ℕ, ◌+◌, ◌<◌, ◌^◌, ◌∷◌, [], IfOk, IfErr, length, option_to_list, slice_get};
+ghost use Rattle.std.specs.Prelude.{◌≡◌, ℕ, ◌+◌, ◌<◌, ◌^◌, ◌∷◌, [], ◌++◌, ◌≤◌, IfOk, IfErr, length, option_to_list};
 ghost use Rattle.cr_syntax.specs.Trees.{Trees, none, node, one, ◌&◌};
 ghost use Rattle.cr_syntax.specs.Kept.{AreBelow, PartsAreBelow, row_in};
 ghost use Rattle.cr_syntax.specs.Context.{past_part};
 ghost use Rattle.cr_syntax.specs.MachineBody.{is_unary, is_unary_kind, is_identifier, is_declarator, row_kind, in_row, in_parameters};
 ghost use Rattle.cr_exprs.specs.Tables.{is_void};
-ghost use Rattle.cr_exprs.specs.Answers.{IsPushed, IsGathered, IsRow, Keeps, tree};
+ghost use Rattle.cr_exprs.specs.Answers.{IsPushed, IsGathered, IsRegathered, IsRow, Keeps, tree};
 
 use crate::fault::ParseFault;
 use crate::found::{Found, Listed, Optional};
@@ -24,7 +24,7 @@ pub(crate) fn push(
     requires below { PartsAreBelow nodes.old }
     requires first { first < next }
     requires next { next < 2 ^ 32 }
-    ensures ok { IfOk result (λ x. IsPushed nodes.old nodes.new x) }
+    ensures ok { IfOk result (λ x. IsPushed nodes.old nodes.new parts x) }
     ensures next { IfOk result (λ x. x.next ≡ next) }
     ensures tree { IfOk result (λ x. tree nodes.new x.node ≡ one kind first next (row_in nodes.old parts)) }
     ensures err { IfErr result (λ fault. fault ≡ ParseFault.NoMemory) }
@@ -52,7 +52,7 @@ pub(crate) fn leaf(
     requires below { PartsAreBelow nodes.old }
     requires first { first < next }
     requires next { next < 2 ^ 32 }
-    ensures ok { IfOk result (λ x. IsPushed nodes.old nodes.new x) }
+    ensures ok { IfOk result (λ x. IsPushed nodes.old nodes.new [] x) }
     ensures next { IfOk result (λ x. x.next ≡ next) }
     ensures tree { IfOk result (λ x. tree nodes.new x.node ≡ one kind first next (none)) }
     ensures err { IfErr result (λ fault. fault ≡ ParseFault.NoMemory) }
@@ -73,7 +73,7 @@ pub(crate) fn over(
     requires below { PartsAreBelow nodes.old }
     requires first { first < next }
     requires next { next < 2 ^ 32 }
-    ensures ok { IfOk result (λ x. IsPushed nodes.old nodes.new x) }
+    ensures ok { IfOk result (λ x. IsPushed nodes.old nodes.new (part ∷ []) x) }
     ensures next { IfOk result (λ x. x.next ≡ next) }
     ensures tree { IfOk result (λ x. tree nodes.new x.node ≡ one kind first next (tree nodes.old part & none)) }
     ensures err { IfErr result (λ fault. fault ≡ ParseFault.NoMemory) }
@@ -96,7 +96,7 @@ pub(crate) fn pair(
     requires below { PartsAreBelow nodes.old }
     requires first { first < next }
     requires next { next < 2 ^ 32 }
-    ensures ok { IfOk result (λ x. IsPushed nodes.old nodes.new x) }
+    ensures ok { IfOk result (λ x. IsPushed nodes.old nodes.new (right ∷ left ∷ []) x) }
     ensures next { IfOk result (λ x. x.next ≡ next) }
     ensures tree { IfOk result (λ x. tree nodes.new x.node ≡ one kind first next (tree nodes.old left & tree nodes.old right & none)) }
     ensures err { IfErr result (λ fault. fault ≡ ParseFault.NoMemory) }
@@ -123,7 +123,7 @@ pub(crate) fn triple(
     requires below { PartsAreBelow nodes.old }
     requires first { first < next }
     requires next { next < 2 ^ 32 }
-    ensures ok { IfOk result (λ x. IsPushed nodes.old nodes.new x) }
+    ensures ok { IfOk result (λ x. IsPushed nodes.old nodes.new (right ∷ middle ∷ left ∷ []) x) }
     ensures next { IfOk result (λ x. x.next ≡ next) }
     ensures tree { IfOk result (λ x. tree nodes.new x.node ≡ one kind first next (tree nodes.old left & tree nodes.old middle & tree nodes.old right & none)) }
     ensures err { IfErr result (λ fault. fault ≡ ParseFault.NoMemory) }
@@ -146,7 +146,7 @@ pub(crate) fn over_optional(
     requires below { PartsAreBelow nodes.old }
     requires first { first < part.next }
     requires next { part.next < 2 ^ 32 }
-    ensures ok { IfOk result (λ x. IsPushed nodes.old nodes.new x) }
+    ensures ok { IfOk result (λ x. IsPushed nodes.old nodes.new (option_to_list part.node) x) }
     ensures next { IfOk result (λ x. x.next ≡ part.next) }
     ensures tree { IfOk result (λ x. tree nodes.new x.node ≡ one kind first part.next (row_in nodes.old (option_to_list part.node))) }
     ensures err { IfErr result (λ fault. fault ≡ ParseFault.NoMemory) }
@@ -171,7 +171,7 @@ pub(crate) fn pair_optional(
     requires below { PartsAreBelow nodes.old }
     requires first { first < right.next }
     requires next { right.next < 2 ^ 32 }
-    ensures ok { IfOk result (λ x. IsPushed nodes.old nodes.new x) }
+    ensures ok { IfOk result (λ x. IsPushed nodes.old nodes.new (option_to_list right.node ++ left ∷ []) x) }
     ensures next { IfOk result (λ x. x.next ≡ right.next) }
     ensures tree { IfOk result (λ x. tree nodes.new x.node ≡ one kind first right.next (tree nodes.old left & row_in nodes.old (option_to_list right.node))) }
     ensures err { IfErr result (λ fault. fault ≡ ParseFault.NoMemory) }
@@ -203,8 +203,7 @@ pub(crate) fn gathered(
     requires below { PartsAreBelow nodes.old }
     requires first { first < list.next }
     requires next { list.next < 2 ^ 32 }
-    ensures ok { IfOk result (λ x. IsGathered nodes.old nodes.new x) }
-    ensures keeps { IfOk result (λ x. Keeps nodes.old nodes.new) }
+    ensures ok { IfOk result (λ x. IsGathered nodes.old nodes.new list.parts x) }
     ensures tree { IfOk result (λ x. tree nodes.new x.node ≡ in_row part first list.next (row_in nodes.old list.parts)) }
     ensures next { IfOk result (λ x. x.next ≡ list.next) }
     ensures err { IfErr result (λ fault. fault ≡ ParseFault.NoMemory) }
@@ -228,18 +227,21 @@ fn row_kind(part: Part) -> Kind
     }
 }
 
-/// The list of these parameters: one alone makes no node, and `void` alone is none.
+/// The list of these parameters, for which the nodes from number `before` on were read: one alone makes no node, and `void`
+/// alone is none.
 pub(crate) fn gathered_parameters(
     alloc: Global,
     nodes: &mut Row<Node>,
+    before: usize,
     first: usize,
     list: Listed,
 ) -> Result<Found, ParseFault>
     requires row { IsRow list.parts (length nodes.old) }
+    requires before { before < length nodes.old }
     requires below { PartsAreBelow nodes.old }
     requires first { first < list.next }
     requires next { list.next < 2 ^ 32 }
-    ensures ok { IfOk result (λ x. IsGathered nodes.old nodes.new x) }
+    ensures ok { IfOk result (λ x. IsRegathered before nodes.old nodes.new list.parts x) }
     ensures tree { IfOk result (λ x. tree nodes.new x.node ≡ in_parameters first list.next (row_in nodes.old list.parts)) }
     ensures next { IfOk result (λ x. x.next ≡ list.next) }
     ensures err { IfErr result (λ fault. fault ≡ ParseFault.NoMemory) }
@@ -254,7 +256,7 @@ pub(crate) fn gathered_parameters(
             next: list.next,
         });
     }
-    drop_last(nodes);
+    drop_to(nodes, before);
     leaf(alloc, nodes, Kind::VoidParameters, first, list.next)
 }
 
@@ -267,15 +269,17 @@ fn is_void(kind: Kind) -> bool
     }
 }
 
-/// Takes the last node off.
-fn drop_last(nodes: &mut Row<Node>)
+/// Takes the last nodes off, down to so many.
+fn drop_to(nodes: &mut Row<Node>, count: usize)
+    requires count { count ≤ length nodes.old }
     requires below { PartsAreBelow nodes.old }
-    requires some { 0 < length nodes.old }
-    ensures length { length nodes.new + 1 ≡ length nodes.old }
-    ensures same { (k : ℕ) → k < length nodes.new → slice_get nodes.new k ≡ slice_get nodes.old k }
+    ensures length { length nodes.new ≡ count }
+    ensures keeps { Keeps nodes.new nodes.old }
     ensures below { PartsAreBelow nodes.new }
 {
-    let _ = nodes.pop();
+    'dropped: while nodes.len() > count {
+        let _ = nodes.pop();
+    }
 }
 
 /// What is said after a node.

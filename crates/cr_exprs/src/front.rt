@@ -1,11 +1,10 @@
-ghost use Rattle.std.specs.Prelude.{◌≡◌, false, ◌<◌, ◌≤◌, ◌^◌, IfOk, IfErr, length};
+ghost use Rattle.std.specs.Prelude.{◌≡◌, [], false, ◌<◌, ◌≤◌, ◌^◌, IfOk, IfErr, length};
 ghost use Rattle.cr_syntax.specs.Words.{AreSpans, lexemes_of};
 ghost use Rattle.cr_syntax.specs.Kept.{PartsAreBelow};
-ghost use Rattle.cr_syntax.specs.Machine.{has_word};
-ghost use Rattle.cr_syntax.specs.Units.{is_unused};
+ghost use Rattle.cr_syntax.specs.Expressions.{Read, IsReading};
 ghost use Rattle.cr_exprs.specs.Answers.{IsPlaced, tree};
 ghost use Rattle.cr_exprs.specs.Names.{scopes_of};
-ghost use Rattle.cr_exprs.specs.Expression.{start_of, IsLongest, IsRefused};
+ghost use Rattle.cr_exprs.specs.Expression.{start_of, IsRefused};
 
 use crate::fault::ParseFault;
 use crate::goal::Goal;
@@ -18,7 +17,8 @@ use cr_tokens::Tokens;
 use std::alloc::Global;
 
 /// Reads the longest run of tokens from `at` on that begins a text of the goal in these scopes, where so many levels are
-/// open, and appends its nodes. It gives the node and the token after it.
+/// open, and appends its nodes. It gives the node and the token after it, or the first refusal in the run or directly
+/// behind it. After a refusal the old nodes are still the first ones.
 pub fn expression(
     alloc: Global,
     file: &[u8],
@@ -34,10 +34,9 @@ pub fn expression(
     requires at { at ≤ length tokens.now.list.items }
     requires depth { depth ≤ 128 }
     requires below { PartsAreBelow nodes.old }
-    ensures longest { IfOk result (λ x. IsLongest (lexemes_of file.now tokens.now.list.items) (start_of goal (scopes_of scope.now) depth at) (tree nodes.new x.0) x.1) }
-    ensures free { IfOk result (λ x. has_word (lexemes_of file.now tokens.now.list.items) x.1 is_unused ≡ false) }
+    ensures read { IfOk result (λ x. IsReading (lexemes_of file.now tokens.now.list.items) (start_of goal (scopes_of scope.now) depth at) (Read (tree nodes.new x.0) x.1)) }
     ensures refused { IfErr result (IsRefused (lexemes_of file.now tokens.now.list.items) (start_of goal (scopes_of scope.now) depth at)) }
-    ensures placed { IfOk result (λ x. IsPlaced (length tokens.now.list.items) at nodes.old nodes.new (record { node = x.0; next = x.1 })) }
+    ensures placed { IfOk result (λ x. IsPlaced (length tokens.now.list.items) at nodes.old nodes.new [] (record { node = x.0; next = x.1 })) }
 {
     let words = words_of(alloc, file, tokens.list.as_slice())?;
     let source = Source {

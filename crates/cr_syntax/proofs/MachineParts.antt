@@ -8,7 +8,7 @@ use Rattle.cr_syntax.specs.Machine.{Goal, Prog, Test, Reply, Cause, Done, Failed
 use Rattle.cr_syntax.specs.Machine as m
 
 -- what a goal that is called answers, and the rest
-pub record Within (body : Goal → Prog) (ts : List Lexeme) (limit : Limit) (g : Goal) (f : Trees → Prog) (c : Scopes) (i : ℕ) (r : Reply) : Type 0 where
+pub record Answered (body : Goal → Prog) (ts : List Lexeme) (limit : Limit) (g : Goal) (f : Trees → Prog) (c : Scopes) (i : ℕ) (r : Reply) : Type 0 where
   pub trees : Trees
   pub after : Scopes
   pub end : ℕ
@@ -39,12 +39,12 @@ module _ {body : Goal → Prog} {ts : List Lexeme} {limit : Limit} where
   pub at_place : {f : ℕ → Prog} {c : Scopes} {i : ℕ} {r : Reply} → Runs body ts limit (m.here f) c i r → Runs body ts limit (f i) c i r
   at_place (run_here h) = h
 
-  pub within_or_refused : {g : Goal} {f : Trees → Prog} {c : Scopes} {i : ℕ} {r : Reply} → Runs body ts limit (m.call g f) c i r → Within body ts limit g f c i r ⊎ Refusing body ts limit g c i r
-  within_or_refused (run_call h k) = inl (record { trees = _; after = _; end = _; goal = h; others = k })
-  within_or_refused (run_fail h) = inr (record { cause = _; token = _; reply = refl; goal = h })
+  pub answered_or_refused : {g : Goal} {f : Trees → Prog} {c : Scopes} {i : ℕ} {r : Reply} → Runs body ts limit (m.call g f) c i r → Answered body ts limit g f c i r ⊎ Refusing body ts limit g c i r
+  answered_or_refused (run_call h k) = inl (record { trees = _; after = _; end = _; goal = h; others = k })
+  answered_or_refused (run_fail h) = inr (record { cause = _; token = _; reply = refl; goal = h })
 
-  pub within : {g : Goal} {f : Trees → Prog} {c e : Scopes} {i j : ℕ} {t : Trees} → Runs body ts limit (m.call g f) c i (Done t e j) → Within body ts limit g f c i (Done t e j)
-  within (run_call h k) = record { trees = _; after = _; end = _; goal = h; others = k }
+  pub answered : {g : Goal} {f : Trees → Prog} {c e : Scopes} {i j : ℕ} {t : Trees} → Runs body ts limit (m.call g f) c i (Done t e j) → Answered body ts limit g f c i (Done t e j)
+  answered (run_call h k) = record { trees = _; after = _; end = _; goal = h; others = k }
 
-  pub within_last : {g : Goal} {c e : Scopes} {i j : ℕ} {t : Trees} → Runs body ts limit (m.call g m.give) c i (Done t e j) → Runs body ts limit (body g) c i (Done t e j)
-  within_last {g = g} {c = c} {i = i} h = let w = within h in subst (λ r. Runs body ts limit (body g) c i r) (given w.others) w.goal
+  pub answered_last : {g : Goal} {c e : Scopes} {i j : ℕ} {t : Trees} → Runs body ts limit (m.call g m.give) c i (Done t e j) → Runs body ts limit (body g) c i (Done t e j)
+  answered_last {g = g} {c = c} {i = i} h = let w = answered h in subst (λ r. Runs body ts limit (body g) c i r) (given w.others) w.goal

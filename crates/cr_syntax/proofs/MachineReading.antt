@@ -15,8 +15,8 @@ use Rattle.cr_syntax.specs.Spells.{Limit, Free, AtMost, Upto, Is, Spells, a}
 use Rattle.cr_syntax.specs.Units.{most_levels, is_unused, IsBracket, parenthesis, bracket, brace, StandsIn, group_for_literal, subscript_for_call}
 use Rattle.cr_syntax.specs.Machine.{Prog, Test, whole, Reply, Cause, Done, Failed, Runs, passes, has, barred, refusal_of, overflows, is_bracket, too_deep, ended, outside, unexpected, run_give, run_stop, run_refuse, run_take, run_deep, run_pass, run_bar, run_free, run_seen, run_unseen, run_yes, run_no, run_here, run_look, run_set, run_bring, run_call, run_fail}
 use Rattle.cr_syntax.specs.MachineBody.{body, start_goal}
-use Rattle.cr_syntax.specs.MachineLaws.{end_of, IsStart, start_expression, start_assignment, start_conditional}
-use Rattle.cr_syntax.specs.Expressions.{Start, Spelled, BeginsFrom, OutsideFrom, unused_keyword, compound_literal, called_expression, bit_field, IsTooDeepFrom, IsFineFrom, RunEnds, Outcome, Read, Refused, IsReading}
+use Rattle.cr_syntax.specs.MachineLaws.{end_of, outcome_of, IsStart, start_expression, start_assignment, start_conditional}
+use Rattle.cr_syntax.specs.Expressions.{Start, Spelled, BeginsFrom, OutsideFrom, unused_keyword, compound_literal, called_expression, bit_field, IsTooDeepFrom, IsFineFrom, RunEnds, Read, Refused, IsReading}
 use Rattle.cr_syntax.specs.Expressions as expressions
 use Rattle.cr_syntax.proofs.Tests.{both, not_true, some_one}
 use Rattle.cr_syntax.proofs.MachineRuns.{same, local}
@@ -31,7 +31,7 @@ use Rattle.cr_syntax.proofs.MachineViable.{prefix, prefix_length, prefix_get, pa
 use Rattle.cr_syntax.proofs.MachineWays.{at}
 use Rattle.cr_syntax.proofs.MachineForms.{within, IsBarring, by_row, outside_is_end, outside_is_refused}
 use Rattle.cr_syntax.proofs.MachineUnused.{begun_is_used}
-use Rattle.cr_syntax.proofs.MachineParts.{given, refused_or_free, within_or_refused}
+use Rattle.cr_syntax.proofs.MachineParts.{given, refused_or_free, answered_or_refused}
 use Rattle.cr_syntax.proofs.MachineStuck.{is_crowded}
 use Rattle.cr_syntax.proofs.MachineRefused.{no_room, spells_none, no_room_instead, defines_none}
 
@@ -139,11 +139,6 @@ at_end ts k le q = elim (eq-or-lt_of_le {n = k} {m = length ts} le) [ inl e ↦ 
   where
     by : {A : Type 0} {v : Word} → word_at ts k ≡ Some v → word_at ts k ≡ None → A
     by x y = cc
-
--- what an answer is as an outcome
-abbrev pub outcome_of : Reply → Outcome
-outcome_of (Done t e j) = Read t j
-outcome_of (Failed x k) = Refused (refusal_of x k)
 
 module _ (ts : List Lexeme) (s : Start) (z : IsStart s.part) (le : s.at ≤ length ts) where
   abbrev Answers : Reply → Type 0
@@ -345,7 +340,7 @@ module _ (ts : List Lexeme) (s : Start) (z : IsStart s.part) (le : s.at ≤ leng
 
 -- what the machine answers is what reading promises
 pub is_reading : (ts : List Lexeme) (s : Start) (r : Reply) → IsStart s.part → s.at ≤ length ts → Runs body ts (AtMost most_levels) (body (whole s.part s.depth)) s.scopes s.at r → IsReading ts s (outcome_of r)
-is_reading ts s r z le h = elim (within_or_refused h) [
+is_reading ts s r z le h = elim (answered_or_refused h) [
   | inl w ↦
       elim (refused_or_free w.others) [
         | inl (q, e) ↦ subst (λ r. IsReading ts s (outcome_of r)) e (keyword_is_reading ts s z le w.goal q)

@@ -22,7 +22,7 @@ use Rattle.cr_syntax.proofs.MachineTasks.{past_row}
 use Rattle.cr_syntax.proofs.MachineBegins.{past_one, row_typed}
 use Rattle.cr_syntax.proofs.MachineSteady.{Finds, finds, Known}
 use Rattle.cr_syntax.proofs.MachineRuns.{reach, again}
-use Rattle.cr_syntax.proofs.MachineParts.{Within, peeked, at_place, given, within, within_last}
+use Rattle.cr_syntax.proofs.MachineParts.{Answered, peeked, at_place, given, answered, answered_last}
 
 -- A program that finds its first token goes on behind it.
 pub beyond_done : {ts : List Lexeme} {limit : Limit} {p : Prog} {c e : Scopes} {i j : ℕ} {t : Trees} → Runs body ts limit p c i (Done t e j) → Finds ts p c i → i < j
@@ -53,7 +53,7 @@ module _ (ts : List Lexeme) (limit : Limit) where
   no_further {p = p} {h = h} {d = d} {s = s} {x = x} {c = c} {i = i} q y =
       again (λ t e j. Further p h d s x c i t e j) (sym y) (record { trees = none; in_a_row = ap (λ y. in_row p s i y) (sym (and_none x)); ended = q; spelled = spells.many_none spells.done })
 
-  one_more : {p : Part} {h : Context} {d s : ℕ} {x : Trees} {c : Scopes} {i : ℕ} {t : Trees} {e : Scopes} {j : ℕ} (y : Within body ts limit (m.element p h d) (λ t. m.call (m.more p (past_part h t) d s (x & t & none)) m.give) c i (Done t e j)) →
+  one_more : {p : Part} {h : Context} {d s : ℕ} {x : Trees} {c : Scopes} {i : ℕ} {t : Trees} {e : Scopes} {j : ℕ} (y : Answered body ts limit (m.element p h d) (λ t. m.call (m.more p (past_part h t) d s (x & t & none)) m.give) c i (Done t e j)) →
       Further p (past_part h y.trees) d s (x & y.trees & none) y.after y.end t e j → Further p h d s x c i t e j
   one_more {p = p} {h = h} {d = d} {s = s} {x = x} {c = c} {i = i} {e = f} {j = j} y w =
       let v : Spells ts limit (a (element_part p)) h c y.after d y.trees i y.end = runs_sound (m.element p h d) c y.after i y.end y.trees y.goal in
@@ -67,7 +67,7 @@ module _ (ts : List Lexeme) (limit : Limit) where
   further : (l : ℕ) {p : Part} {h : Context} {d s : ℕ} {x : Trees} {c : Scopes} {i : ℕ} {t : Trees} {e : Scopes} {j : ℕ} → j ≤ i + l → Runs body ts limit (body (m.more p h d s x)) c i (Done t e j) → Further p h d s x c i t e j
   further zero {p = p} {h = h} {d = d} {c = c} {i = i} le z = elim (peeked z) [
     | inl (q, y) ↦
-        (let w = within y in
+        (let w = answered y in
         let n = beyond_done w.goal (finds ts (m.element p h d) c i q) in
         let n' = reach w.others in
         absurd (omega arith))
@@ -75,9 +75,9 @@ module _ (ts : List Lexeme) (limit : Limit) where
   ]
   further (suc l) {p = p} {h = h} {d = d} {c = c} {i = i} le z = elim (peeked z) [
     | inl (q, y) ↦
-        (let w = within y in
+        (let w = answered y in
         let n = beyond_done w.goal (finds ts (m.element p h d) c i q) in
-        one_more w (further l (omega arith) (within_last w.others)))
+        one_more w (further l (omega arith) (answered_last w.others)))
     | inr (q, y) ↦ no_further q (given (at_place y))
   ]
 
@@ -101,9 +101,9 @@ no_type_behind _ ts c i typed q = (or_parts (has_word ts i is_plain_start) (pass
 
 row_ends : {ts : List Lexeme} {limit : Limit} (p : Part) (h : Context) (d : ℕ) {c e : Scopes} {i j : ℕ} {t : Trees} → Runs body ts limit (body (m.row p h d)) c i (Done t e j) → passes ts e j (type_identifier (past_part h t).typed) ≡ false
 row_ends {ts = ts} {limit = limit} p h d {c = c} {e = f} {i = i} {j = j} {t = t} y =
-    let x = within (at_place y) in
+    let x = answered (at_place y) in
     let l : Spells ts limit (a (element_part p)) h c x.after d x.trees i x.end = runs_sound (m.element p h d) c x.after i x.end x.trees x.goal in
-    let w = further ts limit j (omega arith) (within_last x.others) in
+    let w = further ts limit j (omega arith) (answered_last x.others) in
     let o = is_one l in
     let q : t ≡ in_row p i j (x.trees & w.trees) = w.in_a_row ∙ ap (λ y. in_row p i j y) (and_and x.trees none w.trees) in
     no_type_behind p ts f j (past_part h t).typed

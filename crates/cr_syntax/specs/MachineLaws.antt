@@ -10,14 +10,19 @@ use Rattle.cr_syntax.specs.Words.{Lexeme}
 use Rattle.cr_syntax.specs.Scopes.{Scopes}
 use Rattle.cr_syntax.specs.Spells.{Limit, Free, AtMost, Upto, Is, Spells, a}
 use Rattle.cr_syntax.specs.Units.{IsUnit, most_levels, file_scope, IsTreeOf, FirstRefusal}
-use Rattle.cr_syntax.specs.Machine.{Prog, Reply, Cause, Done, Failed, Runs, too_deep, refusal_of, nowhere, unit}
-use Rattle.cr_syntax.specs.Expressions.{Start, Spelled, BeginsFrom, RunEnds}
+use Rattle.cr_syntax.specs.Machine.{Prog, Reply, Cause, Done, Failed, Runs, whole, unit, nowhere, too_deep, refusal_of}
+use Rattle.cr_syntax.specs.Expressions.{Start, Spelled, BeginsFrom, RunEnds, Outcome, Read, Refused, IsReading}
 use Rattle.cr_syntax.specs.MachineBody.{body, start_goal}
 
 -- the token at which a program answers
 abbrev pub end_of : Reply → ℕ
 end_of (Done t e j) = j
 end_of (Failed x k) = k
+
+-- an answer as its reader is told it: the scopes and the token of the end are left out
+abbrev pub outcome_of : Reply → Outcome
+outcome_of (Done t e j) = Read t j
+outcome_of (Failed x k) = Refused (refusal_of x k)
 
 -- two texts with the same tokens up to this one, itself included
 abbrev pub AreAlike : ℕ → List Lexeme → List Lexeme → Type 0
@@ -128,6 +133,11 @@ BeginsBefore = (ts : List Lexeme) (most : ℕ) (s : Start) (x : Cause) (k : ℕ)
 abbrev pub EndedIsNone : Type 0
 EndedIsNone = (ts : List Lexeme) (limit : Limit) (s : Start) (x : Cause) (t : Trees) → IsStart s.part → (x ≡ too_deep → ⊥) →
     Runs body ts limit (body (start_goal s.part s.depth)) s.scopes s.at (Failed x (length ts)) → Spelled Free ts s (length ts) t → ⊥
+
+-- what the machine answers is what reading in the middle of a text promises
+abbrev pub AnswersAreReadings : Type 0
+AnswersAreReadings = (ts : List Lexeme) (s : Start) (r : Reply) → IsStart s.part → s.at ≤ length ts →
+    Runs body ts (AtMost most_levels) (body (whole s.part s.depth)) s.scopes s.at r → IsReading ts s (outcome_of r)
 
 -- what an answer says of a unit's tokens: that the trees are theirs, or that this is the first refusal
 abbrev pub IsParsed : List Lexeme → Reply → Type 0

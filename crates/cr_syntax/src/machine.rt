@@ -1,11 +1,12 @@
-ghost use Rattle.cr_syntax.specs.MachineLaws.{OneAnswer, LooksNoFurther, ReadIsSpelled, SpelledIsRead, OneTree, OneUnit, ReadIsLongest, RefusedEndsRun, RefusedWithin, BeginsBefore, EndedIsNone};
+ghost use Rattle.cr_syntax.specs.MachineLaws.{OneAnswer, LooksNoFurther, ReadIsSpelled, SpelledIsRead, OneTree, OneUnit, ReadIsLongest, RefusedEndsRun, RefusedWithin, BeginsBefore, EndedIsNone, AnswersAreReadings};
 
 /// A law: the parser's machine reads the grammar's expressions, and nothing else.
 ///
 /// A program has one answer, and looks at no token behind the one at which it answers. What it reads is spelled; what is
 /// spelled it reads, where no token behind goes on with an expression. What it reads is the longest run of tokens that
 /// begins a text. No text goes on with a token that it refuses: where a level too many is the cause, none within the limit.
-/// The tokens before a refused one begin a text within the limit, and where the end is refused they spell no tree.
+/// The tokens before a refused one begin a text within the limit, and where the end is refused they spell no tree. All in
+/// all what it answers is what reading an expression in the middle of a text promises.
 pub fn machine_is_grammar()
     ensures one_answer { OneAnswer }
     ensures no_further { LooksNoFurther }
@@ -16,6 +17,7 @@ pub fn machine_is_grammar()
     ensures within { RefusedWithin }
     ensures viable { BeginsBefore }
     ensures ended { EndedIsNone }
+    ensures readings { AnswersAreReadings }
 {}
 
 /// A law: the tokens up to the end of a list spell at most one expression.

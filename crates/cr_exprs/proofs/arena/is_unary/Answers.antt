@@ -1,4 +1,4 @@
-use Rattle.std.proofs.Common.{◌≡◌, ◌+◌, ◌∷◌, [], refl, sym, ◌∙◌, ap, arith, rules}
+use Rattle.std.proofs.Common.{sym}
 use Rattle.cr_syntax.specs.MachineBody.{is_unary}
 use Rattle.cr_exprs.proofs.Nodes.{read_as}
 use Rattle.cr_exprs.proofs.arena.is_unary.Goals as goal

@@ -1,4 +1,4 @@
-use Rattle.std.proofs.Common.{◌≡◌, ◌+◌, ◌∷◌, [], refl, sym, ◌∙◌, ap, arith, rules}
+use Rattle.std.proofs.Common.{refl}
 use Rattle.cr_syntax.specs.Context.{past_part}
 use Rattle.cr_exprs.proofs.Nodes.{read_as}
 use Rattle.cr_exprs.proofs.arena.past.Goals as goal

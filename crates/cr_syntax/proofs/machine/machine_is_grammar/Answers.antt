@@ -1,6 +1,7 @@
 use Rattle.cr_syntax.proofs.MachineRuns.{same, local}
 use Rattle.cr_syntax.proofs.MachineComplete.{read_is_spelled, spelled_is_read, longest, refused, refused_within, ended_is_none}
 use Rattle.cr_syntax.proofs.MachineViable.{begins_before}
+use Rattle.cr_syntax.proofs.MachineReading.{is_reading}
 use Rattle.cr_syntax.proofs.machine.machine_is_grammar.Goals as goal
 
 pub returns : goal.returns
@@ -13,5 +14,6 @@ returns c = record {
   refused = λ ts limit s x k z n h. refused s z n h;
   within = λ ts most s x k z lt h. refused_within s z lt h;
   viable = λ ts most s x k z le h. begins_before ts most k le s x z h;
+  readings = λ ts s r k le h. is_reading ts s r k le h;
   ended = λ ts limit s x t z n h y. ended_is_none s z n h y;
 }

@@ -1,0 +1,22 @@
+use Rattle.std.proofs.Common.{arith, subst}
+use Rattle.cr_syntax.specs.Words.{lexemes_of}
+use Rattle.cr_syntax.specs.Machine.{Done, whole}
+use Rattle.cr_syntax.specs.MachineBody.{body}
+use Rattle.cr_syntax.proofs.MachineReading.{is_reading}
+use Rattle.cr_exprs.specs.Answers.{RunsTo, Refuses, tree}
+use Rattle.cr_exprs.specs.Names.{scopes_of}
+use Rattle.cr_exprs.specs.Parts.{part_of}
+use Rattle.cr_exprs.specs.Expression.{start_of}
+use Rattle.cr_exprs.proofs.Grammar.{is_start, refused_is, refusal_on, text_length}
+use Rattle.cr_exprs.proofs.front.expression.Goals as goal
+
+pub returns-in_err-found-clause-refused : goal.returns-in_err-found-clause-refused
+returns-in_err-found-clause-refused c = refusal_on c.from_residual-in_err-found.result _ _ c.from_residual-in_err-found.ensures.1 (refused_is (start_of c.args.goal (scopes_of c.args.scope.now) c.args.depth c.args.at) _ (is_start c.args.goal) (omega (arith, c.requires.at, text_length c.args.file.now c.args.tokens.now.list.items))
+    (rw c.in_ok-scopes.ensures at (rw c.as_slice-2.ensures.value at c.in_err-found.ensures.reads.is)))
+
+pub returns-clause-read : goal.returns-clause-read
+returns-clause-read c = is_reading _ (start_of c.args.goal (scopes_of c.args.scope.now) c.args.depth c.args.at) (Done _ _ c.in_ok-found.found.next) (is_start c.args.goal) (omega (arith, c.requires.at, text_length c.args.file.now c.args.tokens.now.list.items))
+    (rw c.in_ok-scopes.ensures at (rw c.as_slice-2.ensures.value at c.in_ok-found.ensures.reads.is.run))
+
+pub returns-clause-placed : goal.returns-clause-placed
+returns-clause-placed c = rw c.as_slice-2.ensures.value at c.in_ok-found.ensures.placed
