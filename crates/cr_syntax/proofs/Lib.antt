@@ -40,4 +40,5 @@ pub mod MachineUnitForms
 pub mod MachineTraces
 pub mod MachineLabels
 pub mod MachineDefinitions
+pub mod MachineBeside
 pub mod MachineRefusals
