@@ -57,6 +57,7 @@ pub mod MachineUnitForms
 pub mod MachineTraces
 pub mod MachineLabels
 pub mod MachineDefinitions
+pub mod MachineBeside
+pub mod MachineRefusals
 pub mod MachineUnitStuck
 pub mod MachineUnit
-pub mod MachineRefusals

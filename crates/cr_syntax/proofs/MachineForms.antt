@@ -22,9 +22,9 @@ use Rattle.cr_syntax.specs.Machine.{Goal, Prog, Manner, Runs, Done, Allows, plai
 use Rattle.cr_syntax.specs.Machine.{whole, expression, commas, assignment, conditional, operands, cast, unary, measured, postfix, called, grouped, texts, arguments, suffixes, type_name, row, more, element, structure, members, member, member_declarators, enumeration, enumerators, enumerator, consts, declarator, declarator_suffixes, abstract_suffixes, size, parameters, more_parameters, parameter}
 use Rattle.cr_syntax.specs.Machine.{unit, externals, external, declaration, init_declarators, initialized, initializer, initializers, statement, block, if_rest, switch_rest, while_rest, do_rest, for_rest, return_rest, for_clauses, clause, compound, items, item}
 use Rattle.cr_syntax.specs.Machine as m
-use Rattle.cr_syntax.specs.MachineBody.{body, assigned, operated, prefixed, suffixed, sized, other_primary, suffixes_end, other_element, array_start, member_end, declared_on, labelled, unlabelled, switch_body, is_designator, is_label, Words, is_identifier, start_goal, tighter, assignment_operators, operators, unary_prefixes, cast_prefixes, constants, postfix_operators, specifier_words, row_kind, in_row, in_parameters}
+use Rattle.cr_syntax.specs.MachineBody.{body, assigned, operated, prefixed, suffixed, sized, other_primary, suffixes_end, other_element, array_start, member_end, declared_on, labelled, unlabelled, switch_body, is_designator, is_label, label_start, Words, is_identifier, start_goal, tighter, assignment_operators, operators, unary_prefixes, cast_prefixes, constants, postfix_operators, specifier_words, row_kind, in_row, in_parameters}
 use Rattle.cr_syntax.specs.MachineLaws.{IsStart}
-use Rattle.cr_syntax.specs.Reads.{same_word}
+use Rattle.cr_syntax.specs.Reads.{same_word, is_word}
 use Rattle.cr_syntax.specs.Expressions.{Start, ShowsFrom, OutsideFrom, compound_literal, called_expression, bit_field, unused_keyword}
 use Rattle.cr_syntax.proofs.Tests.{both, some_one}
 use Rattle.cr_syntax.proofs.MachineRuns.{reach, same}
@@ -37,14 +37,14 @@ use Rattle.cr_syntax.proofs.MachineMeans.{Means, IsDeclared, with_name, without,
 use Rattle.cr_syntax.proofs.MachineSound.{each, runs_sound, part_some}
 use Rattle.cr_syntax.proofs.MachineFirst.{none_true, yes, differs, sorted}
 use Rattle.cr_syntax.proofs.MachineTasks as task
-use Rattle.cr_syntax.proofs.MachineBegins.{named_first, is_named}
+use Rattle.cr_syntax.proofs.MachineBegins.{named_first, is_named, or_right}
 use Rattle.cr_syntax.proofs.MachineDeclarators.{consts_go, named_const}
 use Rattle.cr_syntax.proofs.MachineComplete.{completes, spelled_is_read, free_at_end, get_some}
 use Rattle.cr_syntax.proofs.MachineWays.{Point, at, same_way}
 use Rattle.cr_syntax.proofs.MachineMarks.{Barred, barred_on, or_so, Marks, Behind, marks_choose, same_test, marked}
 
 -- The brace of a compound literal, the bracket of a called expression, the colon of a bit-field; the dot and the bracket of
--- a designator; a label as the body of the switch that begins at token s. Two more name no token: a label, a definition.
+-- a designator; a label as the body of the switch that begins at token s. Two more name no token: a label or a switch, a definition.
 pub data Form : Type 0 where
   literal : Form
   calling : Form
@@ -132,7 +132,7 @@ mark r k kind.Group i j b = is_calling r && (j == k)
 mark r k kind.MemberDeclaration i j b = is_field r && one_ends_at k (after_first b)
 mark r k kind.InitDeclarator i j b = is_designating r && one_begins_at k (after_first b)
 mark r k kind.InitializerList i j b = is_designating r && one_begins_at k b
-mark r k kind.Switch i j b = is_switching r i && one_begins_at k (after_first b)
+mark r k kind.Switch i j b = is_labelling r || is_switching r i && one_begins_at k (after_first b)
 mark r k kind.Case i j b = is_labelling r
 mark r k kind.Default i j b = is_labelling r
 mark r k kind.FunctionDefinition i j b = is_defining r
@@ -172,7 +172,7 @@ designator_mark r n k kind.InitializerList i j b q = and_from (is_designating r)
 designator_mark r n k _ i j b q = none_true q
 
 pub switch_mark : (r : Form) (s : ℕ) → ((i : ℕ) → is_switching r i ≡ (i == s)) → (k : ℕ) (l : Kind) (i j : ℕ) (b : Trees) → switch_body_at s k l i j b ≡ true → mark r k l i j b ≡ true
-switch_mark r s f k kind.Switch i j b q = subst (λ x. x && one_begins_at k (after_first b) ≡ true) (sym (f i)) q
+switch_mark r s f k kind.Switch i j b q = or_right (is_labelling r) (is_switching r i && one_begins_at k (after_first b)) (subst (λ x. x && one_begins_at k (after_first b) ≡ true) (sym (f i)) q)
 switch_mark r s f k _ i j b q = none_true q
 
 literal_facts : (r : Form) → is_literal r ≡ true → (token_of r ≡ Some word.LeftBrace) × (3 ≡ row_of r)
@@ -196,6 +196,12 @@ switching_facts : (r : Form) (s : ℕ) → is_switching r s ≡ true → (w : Wo
 switching_facts (case_body s') s q = (word.Case, refl, refl, refl)
 switching_facts (default_body s') s q = (word.Default, refl, refl, refl)
 switching_facts _ s q = none_true q
+
+-- a label where a switch's body is wanted
+label_starts : (ts : List Lexeme) (i : ℕ) (w : Word) → is_label w ≡ true → Is ts i w → is_word ts i word.Case || is_word ts i word.Default ≡ true
+label_starts ts i word.Case l q = subst (λ b. b || is_word ts i word.Default ≡ true) (sym (yes q)) refl
+label_starts ts i word.Default l q = subst (λ b. b || is_word ts i word.Default ≡ true) (sym (differs q word.Case refl)) (yes q)
+label_starts ts i _ l q = none_true l
 
 no_labelling : (r : Form) → asks_block r ≡ true → is_labelling r ≡ false
 no_labelling some_label q = none_true q
@@ -652,13 +658,15 @@ module _ (ts us : List Lexeme) (limit top : Limit) (r : Form) (k : ℕ) (stands 
   -- The body of a switch, which begins here.
 
   switches : (l : m.Labels) (d s : ℕ) (x : Trees) (c : Scopes) (i : ℕ) → is_switching r s ≡ true → i ≡ k → Bars (switch_body l d s x) c i
-  switches l d s x c i y e = let w = switching_facts r s y in ends_at 6 (has is_label) (d + 1) w.2 e (end_bar (sorted is_label true (at_token w.0 w.1 e) w.3))
+  switches l d s x c i y e = let w = switching_facts r s y in ends_at 6 label_start (d + 1) w.2 e (end_bar (label_starts ts i w.0 w.3 (at_token w.0 w.1 e)))
 
   switch_owes : (l : m.Labels) (d s : ℕ) (x : Trees) (c : Scopes) (i : ℕ) {l' : Kind} {s' e' : ℕ} {b : Trees} → x ≡ one l' s' e' b → Clean r k x →
       There (switch_body l d s x) (λ t e j. asks_block r ≡ true → Clean r k t) c i
   switch_owes l d s x c i q z = ⊎_elim
       (λ y. let v = both (is_switching r s) (i == k) y in let e : i ≡ k = eqb-true i k v.1 in inr (omega arith, switches l d s x c i v.0 e))
-      (λ y. inl (λ t e j _ _ z'. inl (λ o. clean_by r k ((ap (λ b. is_switching r s && b) (begins_second k q z'.1.is)) ∙ y) (clean_two r k z (z'.0 o)))))
+      (λ y. inl (λ t e j _ _ z'. inl (λ o. clean_by r k
+      (or_from (is_labelling r) (is_switching r s && one_begins_at k (after_first (x & t & none))) (no_labelling r o) ((ap (λ b. is_switching r s && b) (begins_second k q z'.1.is)) ∙ y))
+      (clean_two r k z (z'.0 o)))))
       (cases_Bool (is_switching r s && (i == k)))
 
   -- Statements.

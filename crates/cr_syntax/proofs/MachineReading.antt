@@ -131,7 +131,7 @@ not_keyword_row {v = v} x e = by (subst (λ n. StandsIn n v) e x)
     by x = elim x [ ]
 
 -- the way in which a token that a row names is refused
-barring_at : {n i k : ℕ} {w : Way} → IsBarring n i (at w k) → (i ≡ k) × (x : Test) × (d : ℕ) × (w ≡ barring x n d)
+pub barring_at : {n i k : ℕ} {w : Way} → IsBarring n i (at w k) → (i ≡ k) × (x : Test) × (d : ℕ) × (w ≡ barring x n d)
 barring_at (by_row {x = x} {d = d}) = (refl, x, d, refl)
 
 pub at_end : (ts : List Lexeme) (k : ℕ) → k ≤ length ts → word_at ts k ≡ None → k ≡ length ts

@@ -1,6 +1,6 @@
 -- The rows of the refused forms and the subset's machine on a unit: where it is refused no row names a token before, and one
 -- that names the refused token is the machine's; where it reads a unit, no row names a token of it.
-use Rattle.std.proofs.Common.{◌≡◌, ℕ, ◌+◌, ◌<◌, ◌≤◌, Bool, true, false, ◌||◌, List, [], length, Option, None, Some, ⊎_elim, refl, sym, subst, ◌∙◌, arith}
+use Rattle.std.proofs.Common.{◌≡◌, ℕ, ◌+◌, ◌<◌, ◌≤◌, true, false, List, [], length, ⊎_elim, refl, sym, subst, ◌∙◌, arith}
 use Rattle.std.specs.Prelude.{slice_get}
 use Rattle.std.proofs.lemmas.Bool.{both_ways}
 use Rattle.cr_syntax.specs.declared.word.Word.{Word}
@@ -8,65 +8,22 @@ use Rattle.cr_syntax.specs.declared.word.Word.TheVariants as word
 use Rattle.cr_syntax.specs.Words.{Lexeme, word_at}
 use Rattle.cr_syntax.specs.Scopes.{Scopes}
 use Rattle.cr_syntax.specs.Trees.{Trees}
-use Rattle.cr_syntax.specs.Spells.{Limit, AtMost, Upto, Is}
+use Rattle.cr_syntax.specs.Spells.{AtMost, Upto, Is}
 use Rattle.cr_syntax.specs.Units.{file_scope, most_levels, Completes, Begins, Shows, Has, switch_body_at, with_word, variadic_definition, elsewhere, misplaced_at, Outside, unused_keyword, designator, compound_literal, called_expression, bit_field, deep_label, label_as_body, switch_body, variadic_function}
-use Rattle.cr_syntax.specs.Machine.{Prog, Test, Reply, unit, anywhere, nowhere, Done, Failed, Runs, has_word, has, passes}
-use Rattle.cr_syntax.specs.Machine as m
+use Rattle.cr_syntax.specs.Machine.{unit, anywhere, nowhere, Done, Runs, has_word, has}
 use Rattle.cr_syntax.specs.MachineBody.{body, is_label}
-use Rattle.cr_syntax.specs.MachineLaws.{end_of}
-use Rattle.cr_syntax.proofs.Tests.{is_of, both}
 use Rattle.cr_syntax.proofs.MachineRuns.{same, passes_same}
-use Rattle.cr_syntax.proofs.MachineFirst.{none_true, sorted}
+use Rattle.cr_syntax.proofs.MachineFirst.{sorted}
 use Rattle.cr_syntax.proofs.MachineEnds.{Way, barring, defining, crowded, refused_so}
 use Rattle.cr_syntax.proofs.MachineWays.{Point, at, same_way}
 use Rattle.cr_syntax.proofs.MachineForms.{within, allows_before, IsBarring, by_row}
 use Rattle.cr_syntax.proofs.MachineLoose.{IsOwn, own_label, own_definition, Departs, label_is}
+use Rattle.cr_syntax.proofs.MachineReading.{ends_inside}
 use Rattle.cr_syntax.proofs.MachineUnitForms.{ReadsUnits, same_token, IsBarred, UnitEnds, designator_is_barred, literal_is_barred, call_is_barred, field_is_barred, body_label_is_barred, by_that_row, by_its_own, bars_too, bars_none}
 use Rattle.cr_syntax.proofs.MachineTraces.{end_there}
 use Rattle.cr_syntax.proofs.MachineLabels.{labels_caught}
 use Rattle.cr_syntax.proofs.MachineDefinitions.{Fits, before, at_brace, definitions_caught}
 use Rattle.cr_syntax.proofs.MachineDefinitions as definitions
-
--- A run goes no further than the list's end.
-
-or_true : (x y : Bool) {A : Type 0} → (x ≡ true → A) → (y ≡ true → A) → x || y ≡ true → A
-or_true true y f g q = f refl
-or_true false y f g q = g q
-
-has_some : (ts : List Lexeme) (i : ℕ) (f : Word → Bool) → has_word ts i f ≡ true → i < length ts
-has_some ts i f q = by (word_at ts i) refl q
-  where
-    by : (o : Option Word) → word_at ts i ≡ o → elim o as (λ _. Bool) [ None ↦ false | Some v ↦ f v ] ≡ true → i < length ts
-    by None e q = none_true q
-    by (Some w) e q = within ts i e
-
-pub passes_within : (ts : List Lexeme) (c : Scopes) (i : ℕ) (x : Test) → passes ts c i x ≡ true → i < length ts
-passes_within ts c i (m.the w) q = within ts i (is_of ts i w q)
-passes_within ts c i (m.has f) q = has_some ts i f q
-passes_within ts c i m.ordinary q = let v = both _ _ q in within ts i (is_of ts i word.Identifier v.0)
-passes_within ts c i (m.type_identifier typed) q = let v = both _ _ q in let v' = both _ _ v.0 in within ts i (is_of ts i word.Identifier v'.0)
-passes_within ts c i (m.declared typed) q = let v = both _ _ q in within ts i (is_of ts i word.Identifier v.0)
-passes_within ts c i (m.or x y) q = or_true (passes ts c i x) (passes ts c i y) (passes_within ts c i x) (passes_within ts c i y) q
-
-pub ends_within : {body : m.Goal → Prog} {ts : List Lexeme} {limit : Limit} {p : Prog} {c : Scopes} {i : ℕ} {r : Reply} → Runs body ts limit p c i r → i ≤ length ts → end_of r ≤ length ts
-ends_within m.run_give le = le
-ends_within m.run_stop le = le
-ends_within m.run_refuse le = le
-ends_within {ts = ts} {c = c} {i = i} (m.run_take {x = x} y a h) le = let n = passes_within ts c i x y in ends_within h (omega arith)
-ends_within (m.run_deep y a) le = le
-ends_within (m.run_pass y h) le = ends_within h le
-ends_within (m.run_bar y) le = le
-ends_within (m.run_free y h) le = ends_within h le
-ends_within (m.run_seen y h) le = ends_within h le
-ends_within (m.run_unseen y h) le = ends_within h le
-ends_within (m.run_yes y h) le = ends_within h le
-ends_within (m.run_no y h) le = ends_within h le
-ends_within (m.run_here h) le = ends_within h le
-ends_within (m.run_look h) le = ends_within h le
-ends_within (m.run_set h) le = ends_within h le
-ends_within (m.run_bring h) le = ends_within h le
-ends_within (m.run_call h h') le = ends_within h' (ends_within h le)
-ends_within (m.run_fail h) le = ends_within h le
 
 -- A refusal in a way of its own, on another text with the same tokens.
 
@@ -202,10 +159,10 @@ names_none h (by_definition e x) = let q = same h (refused_so x.ends) in cc
 -- The same of `Outside`.
 module _ (complete : ReadsUnits) (bodies : RefusesBodies) {ts : List Lexeme} {n : ℕ} (f : n ≡ 1 → ⊥) where
   pub outside_before_end : {k j : ℕ} {w : Way} → UnitEnds ts nowhere w j → k < j → Outside ts k n → SeesLater n k w
-  outside_before_end z lt o = let le = ends_within (refused_so z) (omega arith) in names_none_before z lt (refusing complete bodies (omega arith) f o)
+  outside_before_end z lt o = let le = ends_inside (refused_so z) (omega arith) in names_none_before z lt (refusing complete bodies (omega arith) f o)
 
   pub outside_at_end : {j : ℕ} {w : Way} → j < length ts → UnitEnds ts nowhere w j → ((i : ℕ) → w ≡ defining i → ⊥) → Outside ts j n → IsBarring n j (at w j)
   outside_at_end lt z g o = names_refused z g (refusing complete bodies lt f o)
 
   pub outside_of_unit : {k j : ℕ} {t : Trees} {e : Scopes} → Runs body ts (AtMost most_levels) (body (unit nowhere 0)) file_scope 0 (Done t e j) → k < j → Outside ts k n → ⊥
-  outside_of_unit h lt o = let le = ends_within h (omega arith) in names_none h (refusing complete bodies (omega arith) f o)
+  outside_of_unit h lt o = let le = ends_inside h (omega arith) in names_none h (refusing complete bodies (omega arith) f o)

@@ -19,12 +19,12 @@ use Rattle.cr_syntax.specs.MachineLaws.{IsStart, IsFree, rank_of}
 use Rattle.cr_syntax.specs.Expressions.{Start, Spelled, BeginsFrom}
 use Rattle.cr_syntax.proofs.Tests.{both, not_true, some_one}
 use Rattle.cr_syntax.proofs.MachineGives.{holds}
-use Rattle.cr_syntax.proofs.MachineFirst.{none_true, true_false}
+use Rattle.cr_syntax.proofs.MachineFirst.{none_true}
 use Rattle.cr_syntax.proofs.MachineRows.{knows}
 use Rattle.cr_syntax.proofs.MachineComplete.{spelled_is_read, free_at_end, get_some}
 use Rattle.cr_syntax.proofs.MachineEnds.{Way, stopped, barring, defining, Ends, end_refuse, end_take, end_pass, end_free, end_seen, end_unseen, end_yes, end_no, end_here, end_look, end_set, end_bring, end_behind, end_inside}
 use Rattle.cr_syntax.proofs.MachineViable.{word_before, word_there}
-use Rattle.cr_syntax.proofs.MachineSteady.{enters, leaves, fits, start_under, Goes, steady}
+use Rattle.cr_syntax.proofs.MachineSteady.{levels_in, levels_out, start_levels, fits, Goes, steady}
 use Rattle.cr_syntax.proofs.MachineStuck.{levels_by, is_crowded, Stand, stuck}
 use Rattle.cr_syntax.proofs.MachineClosed.{closed, closed_before, closed_at, spelled_closed}
 
@@ -71,7 +71,7 @@ module _ {ts us : List Lexeme} {limit top : Limit} {k : ℕ} (m : ℕ) (alike : 
   unspelled : {p : Part} {h : Context} {c e : Scopes} {d i n : ℕ} {w : Way} {t : Trees} → IsStart p → Ends body ts limit (body (start_goal p d)) c i w k → is_crowded w ≡ false → m ≤ levels_by w →
       ((x : Test) (n d : ℕ) → w ≡ barring x n d → Stand us k n) → Spells us top (a p) h c e d t i n → IsFree us 13 n → ⊥
   unspelled {p = p} {c = c} {d = d} {i = i} z y cr le st s f =
-      stuck ts us limit top k m alike block false (leaves (start_goal p d)) (enters (start_goal p d)) false y (spelled_is_read us top z s f) refl (steady ts (start_goal p d) (enters (start_goal p d)) (start_under p d) c i) cr le st (λ q. none_true q)
+      stuck ts us limit top k 0 m (omega arith) alike block (levels_out (start_goal p d)) (levels_in (start_goal p d)) false y (spelled_is_read us top z s f) refl (steady ts 0 (start_goal p d) c i d (start_levels 0 p d).0) cr le st (λ q. none_true q)
 
 -- Refusals.
 
@@ -143,8 +143,8 @@ no_room_instead {ts = ts} most s {k = k} {v = v} z lt up r y b =
     there = ap (λ o. elim o as (λ _. Option Word) [ None ↦ None | Some t ↦ Some t.word ]) (tokens k (omega arith) ∙ word_there ts k new lt)
 
 -- No goal but an external definition is refused for a token before.
-no_definition : {ts : List Lexeme} {limit : Limit} (l b : ℕ) (o : Bool) {p : Prog} {c : Scopes} {i k m : ℕ} → Ends body ts limit p c i (defining m) k → Goes ts false p l b o c i → ⊥
-no_definition l b o end_refuse y = true_false (sym y)
+no_definition : {ts : List Lexeme} {limit : Limit} (l b : ℕ) (o : Bool) {p : Prog} {c : Scopes} {i k m : ℕ} → Ends body ts limit p c i (defining m) k → Goes ts 0 p l b o c i → ⊥
+no_definition l b o end_refuse y = omega arith
 no_definition l b o (end_take x w z) y = no_definition l _ _ z y.2
 no_definition l b o (end_pass x z) y = no_definition l _ _ z y.3
 no_definition l b o (end_free x z) y = no_definition l _ _ z y.2
@@ -157,7 +157,7 @@ no_definition l b o (end_look z) y = no_definition l _ _ z y
 no_definition l b o (end_set z) y = no_definition l _ _ z y
 no_definition l b o (end_bring z) y = no_definition l _ _ z y
 no_definition l b o {c = c} {i = i} (end_behind {g = g} h z) y = no_definition l _ _ z (y.1 _ _ _ (knows g c _ i _ _ h))
-no_definition {ts = ts} l b o {c = c} {i = i} (end_inside {g = g} z) y = no_definition (leaves g) (enters g) false z (steady ts g b y.0 c i)
+no_definition {ts = ts} l b o {c = c} {i = i} (end_inside {g = g} z) y = no_definition (levels_out g) (levels_in g) false z (steady ts 0 g c i b y.0)
 
 pub defines_none : {ts : List Lexeme} {limit : Limit} (p : Part) (d : ℕ) {c : Scopes} {i k m : ℕ} → Ends body ts limit (body (start_goal p d)) c i (defining m) k → ⊥
-defines_none {ts = ts} p d {c = c} {i = i} z = no_definition (leaves (start_goal p d)) (enters (start_goal p d)) false z (steady ts (start_goal p d) (enters (start_goal p d)) (start_under p d) c i)
+defines_none {ts = ts} p d {c = c} {i = i} z = no_definition (levels_out (start_goal p d)) (levels_in (start_goal p d)) false z (steady ts 0 (start_goal p d) c i d (start_levels 0 p d).0)

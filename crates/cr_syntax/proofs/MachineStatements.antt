@@ -363,7 +363,7 @@ module _ (ts : List Lexeme) (limit : Limit) where
         (l : Labels) (k : ℕ) → fits l (one kind.Switch k j (t & v)) ≡ true → Goes ts limit (switch_body l d k t) c i (Done (one kind.Switch k j (t & v)) e j)
     switch_goes {c = c} {i = i} {j = j} t (spells.begins (spells.part y (spells.ends (spells.ends spells.done)))) lt l k ft =
         let o = compound_first ts limit y in
-        run_free (sorted is_label false o refl) (run_free (no_statement_start c i o) (run_look (run_set
+        run_free (or_false (is_word ts i word.Case) (is_word ts i word.Default) (differs o word.Case refl) (differs o word.Default refl)) (run_free (no_statement_start c i o) (run_look (run_set
         (run_call (b.read task.compound y (omega arith) (in_switch l) (switch_fits l k j t y ft)) (run_look (run_set (run_look (run_set (run_here run_give)))))))))
 
     switch_reads : {h : Context} {c e : Scopes} {d i j : ℕ} {t : Trees} (s : Spells ts limit (rest (symbol.Begins ∷ token word.Switch ∷ opening word.LeftParen ∷ inner part.Expression ∷ reopening word.RightParen ∷ symbol.Begins ∷ inner part.Compound ∷

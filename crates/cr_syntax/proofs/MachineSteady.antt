@@ -1,6 +1,6 @@
 -- At one token the levels of a program's tests never rise: each has the levels of the one before it or fewer, and where
 -- the program stops it says no more than the last of them. So says `Steady`, of a program and then goal by goal.
-use Rattle.std.proofs.Common.{◌≡◌, ℕ, ◌+◌, ◌≤◌, Bool, true, false, not, ◌&&◌, ◌||◌, List, [], ◌∷◌, Option, None, Some, refl, sym, ap, subst, ◌∙◌, arith, inl, inr}
+use Rattle.std.proofs.Common.{◌≡◌, ℕ, ◌+◌, ◌<◌, ◌≤◌, Bool, true, false, not, ◌&&◌, ◌||◌, List, [], ◌∷◌, Option, None, Some, refl, sym, ap, subst, ◌∙◌, arith, ◌⊎◌, inl, inr}
 use Rattle.std.proofs.lemmas.Bool.{both_ways, or_cases, or_from}
 use Rattle.cr_syntax.specs.declared.word.Word.{Word}
 use Rattle.cr_syntax.specs.declared.word.Word.TheVariants as word
@@ -84,42 +84,43 @@ depth_of (items l d s x) = d
 depth_of (item l d) = d
 
 -- those open at a goal's first token
-abbrev pub enters : Goal → ℕ
-enters (measured d s) = d + 1
-enters (grouped d s) = d + 1
-enters (arguments d a) = d + 1
-enters (members d s a) = d + 1
-enters (enumerators d s a) = d + 1
-enters (size d) = d + 1
-enters (initializers d s x) = d + 1
-enters (do_rest l d s) = d + 1
-enters (for_clauses l d s x) = d + 1
-enters (items l d s x) = d + 1
-enters g = depth_of g
+abbrev pub levels_in : Goal → ℕ
+levels_in (measured d s) = d + 1
+levels_in (grouped d s) = d + 1
+levels_in (arguments d a) = d + 1
+levels_in (members d s a) = d + 1
+levels_in (enumerators d s a) = d + 1
+levels_in (size d) = d + 1
+levels_in (initializers d s x) = d + 1
+levels_in (do_rest l d s) = d + 1
+levels_in (for_clauses l d s x) = d + 1
+levels_in (items l d s x) = d + 1
+levels_in g = depth_of g
 
 -- at the token that a goal answers at, it tests none with fewer
-abbrev pub leaves : Goal → ℕ
-leaves (measured d s) = d + 1
-leaves (arguments d a) = d + 1
-leaves (members d s a) = d + 1
-leaves (enumerators d s a) = d + 1
-leaves (size d) = d + 1
-leaves (initializers d s x) = d + 1
-leaves (items l d s x) = d + 1
-leaves g = depth_of g
+abbrev pub levels_out : Goal → ℕ
+levels_out (measured d s) = d + 1
+levels_out (arguments d a) = d + 1
+levels_out (members d s a) = d + 1
+levels_out (enumerators d s a) = d + 1
+levels_out (size d) = d + 1
+levels_out (initializers d s x) = d + 1
+levels_out (items l d s x) = d + 1
+levels_out g = depth_of g
 
--- a goal that begins where so many are open, or fewer; a unit and its external definitions are none of these
-abbrev pub Under : Goal → ℕ → Type 0
-Under (unit l d) b = ⊥
-Under (externals l d x) b = ⊥
-Under (external l d) b = ⊥
-Under g b = enters g ≤ b
+-- A goal may be called where the last test had b levels: it begins with no more. The floor is a level below which all that
+-- is to be refused is refused otherwise; a unit and its external definitions stand below it.
+abbrev pub Enters : ℕ → Goal → ℕ → Type 0
+Enters floor (unit l d) b = (d ≤ b) × (d < floor)
+Enters floor (externals l d x) b = (d ≤ b) × (d < floor)
+Enters floor (external l d) b = (d ≤ b) × (d < floor)
+Enters floor g b = levels_in g ≤ b
 
-pub under : (g : Goal) (b : ℕ) → Under g b → enters g ≤ b
-under (unit l d) b y = absurd y
-under (externals l d x) b y = absurd y
-under (external l d) b y = absurd y
-under _ b y = y
+pub enters_low : (floor : ℕ) (g : Goal) (b : ℕ) → Enters floor g b → levels_in g ≤ b
+enters_low floor (unit l d) b x = x.0
+enters_low floor (externals l d y) b x = x.0
+enters_low floor (external l d) b x = x.0
+enters_low floor _ b x = x
 
 -- those open behind a token
 abbrev pub levels_behind : Manner → ℕ → ℕ
@@ -164,6 +165,7 @@ is_eager (declarator w h d) = true
 is_eager (assignment d) = true
 is_eager (conditional d) = true
 is_eager (binary p d) = true
+is_eager (external l d) = true
 is_eager (declaration d) = true
 is_eager (compound l d) = true
 is_eager _ = false
@@ -181,7 +183,7 @@ IsEager b (here p) = (i : ℕ) → IsEager b (p i)
 IsEager b (look p) = (c : Scopes) → IsEager b (p c)
 IsEager b (set e p) = IsEager b p
 IsEager b (bring k v p) = IsEager b p
-IsEager b (call g p) = (is_eager g ≡ true) × (b ≤ enters g)
+IsEager b (call g p) = (is_eager g ≡ true) × (b ≤ levels_in g)
 
 eager_choose : (g : Manner) (rs : Words) (b d : ℕ) (p : Kind → Prog) (q : Prog) → b ≤ levels_at g d → all_fit g rs ≡ true → IsEager b q → IsEager b (choose g rs d p q)
 eager_choose g [] b d p q le f x = x
@@ -193,7 +195,7 @@ specifiers_fit : (p : Part) → all_fit plain (specifier_words p) ≡ true
 specifiers_fit part.Specifiers = refl
 specifiers_fit _ = refl
 
-tighter_eager : (p : Part) (d : ℕ) → (is_eager (tighter p d) ≡ true) × (d ≤ enters (tighter p d))
+tighter_eager : (p : Part) (d : ℕ) → (is_eager (tighter p d) ≡ true) × (d ≤ levels_in (tighter p d))
 tighter_eager part.LogicalOr d = (refl, omega arith)
 tighter_eager part.LogicalAnd d = (refl, omega arith)
 tighter_eager part.Or d = (refl, omega arith)
@@ -205,7 +207,7 @@ tighter_eager part.Shift d = (refl, omega arith)
 tighter_eager part.Additive d = (refl, omega arith)
 tighter_eager _ d = (refl, omega arith)
 
-pub eager : (g : Goal) → is_eager g ≡ true → IsEager (enters g) (body g)
+pub eager : (g : Goal) → is_eager g ≡ true → IsEager (levels_in g) (body g)
 eager (cast d) q = λ i. (omega arith, refl, (refl, omega arith))
 eager (unary d) q = λ i.
     eager_choose opens unary_prefixes d d (prefixed (unary (d + 1)) i) (choose opens cast_prefixes d (prefixed (cast (d + 1)) i) (sized d i)) (omega arith) refl
@@ -226,6 +228,7 @@ eager (declarator w h d) q = λ i. (omega arith, refl, (omega arith, refl, (λ y
 eager (assignment d) q = λ i. (refl, omega arith)
 eager (conditional d) q = λ i. (refl, omega arith)
 eager (binary p d) q = λ i. tighter_eager p d
+eager (external l d) q = λ i. (refl, omega arith)
 eager (declaration d) q = λ i. (refl, omega arith)
 eager (compound l d) q = λ i c. (omega arith, refl, tt)
 eager _ q = none_true q
@@ -390,52 +393,47 @@ pub data Replaced (n d : ℕ) (o : Bool) (p : Prog) : Type 0 where
   by_trial : ((v : Word) → StandsIn n v → v ≡ word.LeftBracket) → o ≡ true → Replaced n d o p
   by_take : IsEager d p → Replaced n d o p
 
-module _ (ts : List Lexeme) (known : Goal → Scopes → ℕ → Trees → Scopes → ℕ → Type 0) where
+module _ (ts : List Lexeme) (known : Goal → Scopes → ℕ → Trees → Scopes → ℕ → Type 0) (floor : ℕ) where
   -- Tests at one token: those before had b levels or more, and so has each before an answer at least l. A `[` was asked
-  -- for where o says so, and a token before may be refused where r says so.
-  abbrev pub Steady : Bool → Prog → ℕ → ℕ → Bool → Scopes → ℕ → Type 0
-  Steady r (give t) l b o c i = l ≤ b
-  Steady r (stop d) l b o c i = d ≤ b
-  Steady r (refuse n) l b o c i = r ≡ true
-  Steady r (take g x d p q) l b o c i = (levels_at g d ≤ b) × (fits g x ≡ true) × Steady r p l (levels_behind g d) false c (i + 1) × Steady r q l (levels_at g d) (tries x || o) c i
-  Steady r (bar x n d p) l b o c i = (d ≤ b) × Replaced n d o p × Steady r p l b o c i
-  Steady r (peek x p q) l b o c i = IsEager b p × (passes ts c i x ≡ true → Finds ts p c i) × Steady r p l b o c i × Steady r q l b o c i
-  Steady r (when v p q) l b o c i = (v ≡ true → Steady r p l b o c i) × (v ≡ false → Steady r q l b o c i)
-  Steady r (here p) l b o c i = Steady r (p i) l b o c i
-  Steady r (look p) l b o c i = Steady r (p c) l b o c i
-  Steady r (set e p) l b o c i = Steady r p l b o e i
-  Steady r (bring k v p) l b o c i = Steady r p l b o (enter (brought ts i k v) c) i
-  Steady r (call g p) l b o c i = Under g b × ((t : Trees) (e : Scopes) (j : ℕ) → known g c i t e j → Steady r (p t) l (leaves g) false e j)
+  -- for where o says so.
+  abbrev pub Steady : Prog → ℕ → ℕ → Bool → Scopes → ℕ → Type 0
+  Steady (give t) l b o c i = l ≤ b
+  Steady (stop d) l b o c i = d ≤ b
+  Steady (refuse n) l b o c i = b < floor
+  Steady (take g x d p q) l b o c i = (levels_at g d ≤ b) × (fits g x ≡ true) × Steady p l (levels_behind g d) false c (i + 1) × Steady q l (levels_at g d) (tries x || o) c i
+  Steady (bar x n d p) l b o c i = (d ≤ b) × Replaced n d o p × Steady p l b o c i
+  Steady (peek x p q) l b o c i = IsEager b p × ((passes ts c i x ≡ true → Finds ts p c i) ⊎ (b < floor)) × Steady p l b o c i × Steady q l b o c i
+  Steady (when v p q) l b o c i = (v ≡ true → Steady p l b o c i) × (v ≡ false → Steady q l b o c i)
+  Steady (here p) l b o c i = Steady (p i) l b o c i
+  Steady (look p) l b o c i = Steady (p c) l b o c i
+  Steady (set e p) l b o c i = Steady p l b o e i
+  Steady (bring k v p) l b o c i = Steady p l b o (enter (brought ts i k v) c) i
+  Steady (call g p) l b o c i = Enters floor g b × ((t : Trees) (e : Scopes) (j : ℕ) → known g c i t e j → Steady (p t) l (levels_out g) false e j)
 
-  steady_choose : (g : Manner) (rs : Words) (d : ℕ) (p : Kind → Prog) (q : Prog) (l : ℕ) (o : Bool) (c : Scopes) (i : ℕ) → all_fit g rs ≡ true → ((k : Kind) → Steady false (p k) l (levels_behind g d) false c (i + 1)) →
-      Steady false q l (levels_at g d) o c i → Steady false (choose g rs d p q) l (levels_at g d) o c i
+  steady_choose : (g : Manner) (rs : Words) (d : ℕ) (p : Kind → Prog) (q : Prog) (l : ℕ) (o : Bool) (c : Scopes) (i : ℕ) → all_fit g rs ≡ true → ((k : Kind) → Steady (p k) l (levels_behind g d) false c (i + 1)) →
+      Steady q l (levels_at g d) o c i → Steady (choose g rs d p q) l (levels_at g d) o c i
   steady_choose g [] d p q l o c i f x y = y
   steady_choose g (r ∷ rs) d p q l o c i f x y =
       let v = both (fits g (the r.0)) (not (tries (the r.0)) && all_fit g rs) f in
       let u = both (not (tries (the r.0))) (all_fit g rs) v.1 in
-      (omega arith, v.0, x r.1, subst (λ z. Steady false (choose g rs d p q) l (levels_at g d) (z || o) c i) (sym (not_true (tries (the r.0)) u.0)) (steady_choose g rs d p q l o c i u.1 x y))
+      (omega arith, v.0, x r.1, subst (λ z. Steady (choose g rs d p q) l (levels_at g d) (z || o) c i) (sym (not_true (tries (the r.0)) u.0)) (steady_choose g rs d p q l o c i u.1 x y))
 
-start_levels : (p : Part) (d : ℕ) → Under (start_goal p d) d × (d ≤ leaves (start_goal p d))
-start_levels part.Expression d = (omega arith, omega arith)
-start_levels part.Assignment d = (omega arith, omega arith)
-start_levels _ d = (omega arith, omega arith)
+pub start_levels : (floor : ℕ) (p : Part) (d : ℕ) → Enters floor (start_goal p d) d × (d ≤ levels_out (start_goal p d))
+start_levels floor part.Expression d = (omega arith, omega arith)
+start_levels floor part.Assignment d = (omega arith, omega arith)
+start_levels floor _ d = (omega arith, omega arith)
 
-pub start_under : (p : Part) (d : ℕ) → Under (start_goal p d) (enters (start_goal p d))
-start_under part.Expression d = omega arith
-start_under part.Assignment d = omega arith
-start_under _ d = omega arith
-
-tighter_levels : (p : Part) (d : ℕ) → Under (tighter p d) d × (d ≤ leaves (tighter p d))
-tighter_levels part.LogicalOr d = (omega arith, omega arith)
-tighter_levels part.LogicalAnd d = (omega arith, omega arith)
-tighter_levels part.Or d = (omega arith, omega arith)
-tighter_levels part.Xor d = (omega arith, omega arith)
-tighter_levels part.And d = (omega arith, omega arith)
-tighter_levels part.Equality d = (omega arith, omega arith)
-tighter_levels part.Relational d = (omega arith, omega arith)
-tighter_levels part.Shift d = (omega arith, omega arith)
-tighter_levels part.Additive d = (omega arith, omega arith)
-tighter_levels _ d = (omega arith, omega arith)
+tighter_levels : (floor : ℕ) (p : Part) (d : ℕ) → Enters floor (tighter p d) d × (d ≤ levels_out (tighter p d))
+tighter_levels floor part.LogicalOr d = (omega arith, omega arith)
+tighter_levels floor part.LogicalAnd d = (omega arith, omega arith)
+tighter_levels floor part.Or d = (omega arith, omega arith)
+tighter_levels floor part.Xor d = (omega arith, omega arith)
+tighter_levels floor part.And d = (omega arith, omega arith)
+tighter_levels floor part.Equality d = (omega arith, omega arith)
+tighter_levels floor part.Relational d = (omega arith, omega arith)
+tighter_levels floor part.Shift d = (omega arith, omega arith)
+tighter_levels floor part.Additive d = (omega arith, omega arith)
+tighter_levels floor _ d = (omega arith, omega arith)
 
 operators_fit : (p : Part) → all_fit plain (operators p) ≡ true
 operators_fit part.LogicalOr = refl
@@ -467,24 +465,24 @@ abbrev pub Known : List Lexeme → Goal → Scopes → ℕ → Trees → Scopes 
 Known ts (row p h d) c i t e j = passes ts e j (type_identifier (past_part h t).typed) ≡ false
 Known ts g c i t e j = Unit {0}
 
-module _ (ts : List Lexeme) where
-  abbrev pub Goes : Bool → Prog → ℕ → ℕ → Bool → Scopes → ℕ → Type 0
-  Goes = Steady ts (Known ts)
+module _ (ts : List Lexeme) (floor : ℕ) where
+  abbrev pub Goes : Prog → ℕ → ℕ → Bool → Scopes → ℕ → Type 0
+  Goes = Steady ts (Known ts) floor
 
   -- the words of a table, each with its program
-  words : (g : Manner) (rs : Words) (d : ℕ) (p : Kind → Prog) (q : Prog) (l : ℕ) (o : Bool) (c : Scopes) (i : ℕ) → all_fit g rs ≡ true → ((k : Kind) → Goes false (p k) l (levels_behind g d) false c (i + 1)) →
-      Goes false q l (levels_at g d) o c i → Goes false (choose g rs d p q) l (levels_at g d) o c i
-  words = steady_choose ts (Known ts)
+  words : (g : Manner) (rs : Words) (d : ℕ) (p : Kind → Prog) (q : Prog) (l : ℕ) (o : Bool) (c : Scopes) (i : ℕ) → all_fit g rs ≡ true → ((k : Kind) → Goes (p k) l (levels_behind g d) false c (i + 1)) →
+      Goes q l (levels_at g d) o c i → Goes (choose g rs d p q) l (levels_at g d) o c i
+  words = steady_choose ts (Known ts) floor
 
   -- a declarator of a declaration, and what stands behind it
-  declared_steady : (r : Bool) (h : Context) (d s : ℕ) (x : Trees) (q : ℕ) (a : Trees) (c : Scopes) (i : ℕ) → Goes r (declared_on h d s x q a) d d false c i
-  declared_steady r h d s x q a c i = (omega arith, λ t e j _. (omega arith, refl, (omega arith, λ t' e' j' _. omega arith), (omega arith, refl, omega arith, omega arith)))
+  declared_steady : (h : Context) (d s : ℕ) (x : Trees) (q : ℕ) (a : Trees) (c : Scopes) (i : ℕ) → Goes (declared_on h d s x q a) d d false c i
+  declared_steady h d s x q a c i = (omega arith, λ t e j _. (omega arith, refl, (omega arith, λ t' e' j' _. omega arith), (omega arith, refl, omega arith, omega arith)))
 
   -- a statement without a label
-  unlabelled_steady : (l : Labels) (d s : ℕ) (c : Scopes) (i : ℕ) → Goes false (unlabelled l d s) d d false c i
+  unlabelled_steady : (l : Labels) (d s : ℕ) (c : Scopes) (i : ℕ) → Goes (unlabelled l d s) d d false c i
   unlabelled_steady l d s c i = (
     (refl, omega arith),
-    λ q. q,
+    inl (λ q. q),
     (omega arith, λ t e j _. omega arith),
     (
       omega arith,
@@ -529,7 +527,7 @@ module _ (ts : List Lexeme) where
     ),
   )
 
-  labelled_steady : (l : Labels) (d s : ℕ) (c : Scopes) (i : ℕ) → Goes false (labelled l d s (unlabelled l d s)) d d false c i
+  labelled_steady : (l : Labels) (d s : ℕ) (c : Scopes) (i : ℕ) → Goes (labelled l d s (unlabelled l d s)) d d false c i
   labelled_steady l d s c i = (
     omega arith,
     refl,
@@ -537,60 +535,60 @@ module _ (ts : List Lexeme) where
     (omega arith, refl, (omega arith, refl, (omega arith, λ t' e' j' _. omega arith), omega arith), unlabelled_steady l d s c i),
   )
 
-  pub steady : (g : Goal) (b : ℕ) → Under g b → (c : Scopes) (i : ℕ) → Goes false (body g) (leaves g) (enters g) false c i
-  steady (whole p d) _ _ c i = let v = start_levels p d in (v.0, λ t e j _. (v.1, by_none none_for_keyword, v.1))
-  steady (expression d) _ _ c i = (omega arith, λ t e j _. (omega arith, λ t' e' j' _. omega arith))
-  steady (commas d s a) _ _ c i = (omega arith, refl, (omega arith, λ t e j _. (omega arith, λ t' e' j' _. omega arith)), omega arith)
-  steady (assignment d) _ _ c i = (
+  pub steady : (g : Goal) (c : Scopes) (i b : ℕ) → Enters floor g b → Goes (body g) (levels_out g) (levels_in g) false c i
+  steady (whole p d) c i _ y = let v = start_levels floor p d in (v.0, λ t e j _. (v.1, by_none none_for_keyword, v.1))
+  steady (expression d) c i _ y = (omega arith, λ t e j _. (omega arith, λ t' e' j' _. omega arith))
+  steady (commas d s a) c i _ y = (omega arith, refl, (omega arith, λ t e j _. (omega arith, λ t' e' j' _. omega arith)), omega arith)
+  steady (assignment d) c i _ y = (
     omega arith,
     λ t e j _. (λ u. words opens assignment_operators d (assigned d i t) (give t) d false e j refl (λ k. (omega arith, λ t' e' j' _. omega arith)) (omega arith), λ u. omega arith),
   )
-  steady (conditional d) _ _ c i = (
+  steady (conditional d) c i _ y = (
     omega arith,
     λ t e j _. (omega arith, refl, (omega arith, λ t' e' j' _. (omega arith, refl, (omega arith, λ t'' e'' j'' _. omega arith), omega arith)), omega arith),
   )
-  steady (binary p d) _ _ c i = let v = tighter_levels p d in (v.0, λ t e j _. (v.1, λ t' e' j' _. omega arith))
-  steady (operands p d s a) _ _ c i =
-      let v = tighter_levels p d in
+  steady (binary p d) c i _ y = let v = tighter_levels floor p d in (v.0, λ t e j _. (v.1, λ t' e' j' _. omega arith))
+  steady (operands p d s a) c i _ y =
+      let v = tighter_levels floor p d in
       words plain (operators p) d (operated p d s a) (give a) d false c i (operators_fit p) (λ k. (v.0, λ t e j _. (v.1, λ t' e' j' _. omega arith))) (omega arith)
-  steady (cast d) _ _ c i = (
+  steady (cast d) c i _ y = (
     omega arith,
     refl,
     (
       (refl, omega arith),
-      λ q. q,
+      inl (λ q. q),
       (omega arith, λ t e j _. (omega arith, refl, (omega arith, by_take (refl, omega arith), (omega arith, λ t' e' j' _. omega arith)), omega arith)),
       (omega arith, λ t e j _. omega arith),
     ),
     (omega arith, λ t e j _. omega arith),
   )
-  steady (unary d) _ _ c i =
+  steady (unary d) c i _ y =
       words opens unary_prefixes d (prefixed (unary (d + 1)) i) (choose opens cast_prefixes d (prefixed (cast (d + 1)) i) (sized d i)) d false c i refl (λ k. (omega arith, λ t e j _. omega arith))
       (words opens cast_prefixes d (prefixed (cast (d + 1)) i) (sized d i) d false c i refl (λ k. (omega arith, λ t e j _. omega arith))
       (omega arith, refl, (omega arith, λ t e j _. omega arith), (omega arith, λ t e j _. omega arith)))
-  steady (measured d s) _ _ c i = (
+  steady (measured d s) c i _ y = (
     omega arith,
     refl,
-    ((refl, omega arith), λ q. q, (omega arith, λ t e j _. (omega arith, refl, omega arith, omega arith)), (omega arith, λ t e j _. omega arith)),
+    ((refl, omega arith), inl (λ q. q), (omega arith, λ t e j _. (omega arith, refl, omega arith, omega arith)), (omega arith, λ t e j _. omega arith)),
     (omega arith, λ t e j _. omega arith),
   )
-  steady (postfix d) _ _ c i = (
+  steady (postfix d) c i _ y = (
     omega arith,
     refl,
     (omega arith, λ t e j _. omega arith),
     words plain constants d (suffixed d i none) (other_primary d i) d false c i refl (λ k. (omega arith, λ t e j _. omega arith))
         (omega arith, refl, (omega arith, λ t e j _. (omega arith, λ t' e' j' _. omega arith)), (omega arith, refl, (omega arith, λ t e j _. omega arith), omega arith)),
   )
-  steady (called d s) _ _ c i = (
+  steady (called d s) c i _ y = (
     omega arith,
     refl,
     (omega arith, refl, (omega arith, λ t e j _. omega arith), (omega arith, λ t e j _. (omega arith, λ t' e' j' _. omega arith))),
     (omega arith, λ t e j _. omega arith),
   )
-  steady (grouped d s) _ _ c i = (omega arith, λ t e j _. (omega arith, refl, (omega arith, λ t' e' j' _. omega arith), omega arith))
-  steady (texts d) _ _ c i = (omega arith, refl, (omega arith, λ t e j _. omega arith), omega arith)
-  steady (arguments d a) _ _ c i = (omega arith, λ t e j _. (omega arith, refl, (omega arith, λ t' e' j' _. omega arith), (omega arith, refl, omega arith, omega arith)))
-  steady (suffixes d s a) _ _ c i = (
+  steady (grouped d s) c i _ y = (omega arith, λ t e j _. (omega arith, refl, (omega arith, λ t' e' j' _. omega arith), omega arith))
+  steady (texts d) c i _ y = (omega arith, refl, (omega arith, λ t e j _. omega arith), omega arith)
+  steady (arguments d a) c i _ y = (omega arith, λ t e j _. (omega arith, refl, (omega arith, λ t' e' j' _. omega arith), (omega arith, refl, omega arith, omega arith)))
+  steady (suffixes d s a) c i _ y = (
     omega arith,
     refl,
     (omega arith, λ t e j _. (omega arith, refl, (omega arith, λ t' e' j' _. omega arith), omega arith)),
@@ -606,32 +604,32 @@ module _ (ts : List Lexeme) where
       ),
     ),
   )
-  steady (type_name d) _ _ c i = (omega arith, λ t e j _. ((refl, omega arith), λ q. q, (omega arith, λ t' e' j' _. omega arith), omega arith))
-  steady (row p h d) _ _ c i = (omega arith, λ t e j _. (omega arith, λ t' e' j' _. omega arith))
-  steady (more p h d s a) _ _ c i = ((refl, omega arith), λ q. q, (omega arith, λ t e j _. (omega arith, λ t' e' j' _. omega arith)), omega arith)
-  steady (element p h d) _ _ c i = words plain (specifier_words p) d (λ k. made k i none) (other_element h d i) d false c i (specifiers_fit p) (λ k. omega arith)
+  steady (type_name d) c i _ y = (omega arith, λ t e j _. ((refl, omega arith), inl (λ q. q), (omega arith, λ t' e' j' _. omega arith), omega arith))
+  steady (row p h d) c i _ y = (omega arith, λ t e j _. (omega arith, λ t' e' j' _. omega arith))
+  steady (more p h d s a) c i _ y = ((refl, omega arith), inl (λ q. q), (omega arith, λ t e j _. (omega arith, λ t' e' j' _. omega arith)), omega arith)
+  steady (element p h d) c i _ y = words plain (specifier_words p) d (λ k. made k i none) (other_element h d i) d false c i (specifiers_fit p) (λ k. omega arith)
       (omega arith, refl, (omega arith, λ t e j _. omega arith), (omega arith, refl, (omega arith, λ t e j _. omega arith), (omega arith, refl, omega arith, omega arith)))
-  steady (structure d s) _ _ c i = (omega arith, refl, (omega arith, refl, (omega arith, λ t e j _. omega arith), omega arith), (omega arith, refl, (omega arith, λ t e j _. omega arith), omega arith))
-  steady (members d s a) _ _ c i = (omega arith, λ t e j _. (omega arith, refl, omega arith, (omega arith, λ t' e' j' _. omega arith)))
-  steady (member d) _ _ c i = (omega arith, λ t e j _. (omega arith, λ t' e' j' _. omega arith))
-  steady (member_declarators h d s a) _ _ c i = (
+  steady (structure d s) c i _ y = (omega arith, refl, (omega arith, refl, (omega arith, λ t e j _. omega arith), omega arith), (omega arith, refl, (omega arith, λ t e j _. omega arith), omega arith))
+  steady (members d s a) c i _ y = (omega arith, λ t e j _. (omega arith, refl, omega arith, (omega arith, λ t' e' j' _. omega arith)))
+  steady (member d) c i _ y = (omega arith, λ t e j _. (omega arith, λ t' e' j' _. omega arith))
+  steady (member_declarators h d s a) c i _ y = (
     omega arith,
     λ t e j _. (omega arith, by_none none_for_field, (omega arith, refl, (omega arith, λ t' e' j' _. omega arith), (omega arith, refl, omega arith, omega arith))),
   )
-  steady (enumeration d s) _ _ c i = (omega arith, refl, (omega arith, refl, (omega arith, λ t e j _. omega arith), omega arith), (omega arith, refl, (omega arith, λ t e j _. omega arith), omega arith))
-  steady (enumerators d s a) _ _ c i = (
+  steady (enumeration d s) c i _ y = (omega arith, refl, (omega arith, refl, (omega arith, λ t e j _. omega arith), omega arith), (omega arith, refl, (omega arith, λ t e j _. omega arith), omega arith))
+  steady (enumerators d s a) c i _ y = (
     omega arith,
     λ t e j _. (omega arith, refl, (omega arith, refl, omega arith, (omega arith, λ t' e' j' _. omega arith)), (omega arith, refl, omega arith, omega arith)),
   )
-  steady (enumerator d) _ _ c i = (omega arith, refl, (omega arith, refl, (omega arith, λ t e j _. omega arith), omega arith), omega arith)
-  steady (consts d) _ _ c i = (omega arith, refl, (omega arith, λ t e j _. omega arith), omega arith)
-  steady (declarator w h d) _ _ c i = (
+  steady (enumerator d) c i _ y = (omega arith, refl, (omega arith, refl, (omega arith, λ t e j _. omega arith), omega arith), omega arith)
+  steady (consts d) c i _ y = (omega arith, refl, (omega arith, λ t e j _. omega arith), omega arith)
+  steady (declarator w h d) c i _ y = (
     omega arith,
     refl,
     (
       omega arith,
       λ t e j _. (
-        λ o. ((refl, omega arith), behind_star ts w h (d + 1) e j o, (omega arith, λ t' e' j' _. (λ y. omega arith, λ y. omega arith)), omega arith),
+        λ o. ((refl, omega arith), inl (behind_star ts w h (d + 1) e j o), (omega arith, λ t' e' j' _. (λ y. omega arith, λ y. omega arith)), omega arith),
         λ o. (omega arith, λ t' e' j' _. (λ y. omega arith, λ y. omega arith)),
       ),
     ),
@@ -643,9 +641,9 @@ module _ (ts : List Lexeme) where
     ),
   )
     where
-      arrays : Goes false (array_start w d i) d d false c i
+      arrays : Goes (array_start w d i) d d false c i
       arrays = (λ o. (omega arith, refl, (omega arith, λ t e j _. (omega arith, λ t' e' j' _. omega arith)), omega arith), λ o. omega arith)
-  steady (declarator_suffixes d s a) _ _ c i = (
+  steady (declarator_suffixes d s a) c i _ y = (
     omega arith,
     refl,
     (omega arith, λ t e j _. (omega arith, λ t' e' j' _. omega arith)),
@@ -656,25 +654,41 @@ module _ (ts : List Lexeme) where
       omega arith,
     ),
   )
-  steady (abstract_suffixes d s a) _ _ c i = (omega arith, refl, (omega arith, λ t e j _. (omega arith, λ t' e' j' _. omega arith)), omega arith)
-  steady (size d) _ _ c i = (omega arith, refl, omega arith, (omega arith, λ t e j _. (omega arith, refl, omega arith, omega arith)))
-  steady (parameters d) _ _ c i = (omega arith, λ t e j _. (omega arith, λ t' e' j' _. omega arith))
-  steady (more_parameters d s a) _ _ c i = (omega arith, refl, (omega arith, refl, omega arith, (omega arith, λ t e j _. (omega arith, λ t' e' j' _. omega arith))), omega arith)
-  steady (parameter d) _ _ c i = (omega arith, λ t e j y. ((refl, omega arith), λ q. (q, y), (omega arith, λ t' e' j' _. (λ u. omega arith, λ u. omega arith)), omega arith))
-  steady (unit l d) b y c i = absurd y
-  steady (externals l d x) b y c i = absurd y
-  steady (external l d) b y c i = absurd y
-  steady (declaration d) _ _ c i = (omega arith, λ t e j _. (omega arith, refl, omega arith, (omega arith, λ t' e' j' _. omega arith)))
-  steady (init_declarators h d s x) _ _ c i = (omega arith, λ t e j _. declared_steady false h d s x i t e j)
-  steady (initialized d q x) _ _ c i = (omega arith, refl, (omega arith, λ t e j _. omega arith), omega arith)
-  steady (initializer d) _ _ c i = (omega arith, by_take (omega arith, refl, (refl, omega arith)), (omega arith, refl, (omega arith, λ t e j _. omega arith), (omega arith, λ t e j _. omega arith)))
-  steady (initializers d s x) _ _ c i = (
+  steady (abstract_suffixes d s a) c i _ y = (omega arith, refl, (omega arith, λ t e j _. (omega arith, λ t' e' j' _. omega arith)), omega arith)
+  steady (size d) c i _ y = (omega arith, refl, omega arith, (omega arith, λ t e j _. (omega arith, refl, omega arith, omega arith)))
+  steady (parameters d) c i _ y = (omega arith, λ t e j _. (omega arith, λ t' e' j' _. omega arith))
+  steady (more_parameters d s a) c i _ y = (omega arith, refl, (omega arith, refl, omega arith, (omega arith, λ t e j _. (omega arith, λ t' e' j' _. omega arith))), omega arith)
+  steady (parameter d) c i _ y = (omega arith, λ t e j z. ((refl, omega arith), inl (λ q. (q, z)), (omega arith, λ t' e' j' _. (λ u. omega arith, λ u. omega arith)), omega arith))
+  steady (unit l d) c i _ y = ((omega arith, y.1), λ t e j _. ((omega arith, y.1), λ t' e' j' _. omega arith))
+  steady (externals l d x) c i _ y = ((refl, omega arith), inr y.1, ((omega arith, y.1), λ t e j _. ((omega arith, y.1), λ t' e' j' _. omega arith)), omega arith)
+  steady (external l d) c i _ y = (
+    omega arith,
+    λ t e j _. (
+      omega arith,
+      refl,
+      omega arith,
+      (
+        omega arith,
+        λ t' e' j' _. (
+          (λ v c' f. (refl, omega arith), λ v. tt),
+          inl (λ q. (λ v. q, λ v. tt)),
+          (λ v. (omega arith, λ t'' e'' j'' _. omega arith), λ v. y.1),
+          declared_steady (past_part fresh t) d i (t & none) j t' e' j',
+        ),
+      ),
+    ),
+  )
+  steady (declaration d) c i _ y = (omega arith, λ t e j _. (omega arith, refl, omega arith, (omega arith, λ t' e' j' _. omega arith)))
+  steady (init_declarators h d s x) c i _ y = (omega arith, λ t e j _. declared_steady h d s x i t e j)
+  steady (initialized d q x) c i _ y = (omega arith, refl, (omega arith, λ t e j _. omega arith), omega arith)
+  steady (initializer d) c i _ y = (omega arith, by_take (omega arith, refl, (refl, omega arith)), (omega arith, refl, (omega arith, λ t e j _. omega arith), (omega arith, λ t e j _. omega arith)))
+  steady (initializers d s x) c i _ y = (
     omega arith,
     λ t e j _. (omega arith, refl, (omega arith, refl, omega arith, (omega arith, λ t' e' j' _. omega arith)), (omega arith, refl, omega arith, omega arith)),
   )
-  steady (statement l d) _ _ c i = (λ v. labelled_steady l d i c i, λ v. (omega arith, by_none none_for_label, unlabelled_steady l d i c i))
-  steady (block l d) _ _ c i = (omega arith, λ t e j _. omega arith)
-  steady (if_rest l d s) _ _ c i = (
+  steady (statement l d) c i _ y = (λ v. labelled_steady l d i c i, λ v. (omega arith, by_none none_for_label, unlabelled_steady l d i c i))
+  steady (block l d) c i _ y = (omega arith, λ t e j _. omega arith)
+  steady (if_rest l d s) c i _ y = (
     omega arith,
     refl,
     (
@@ -688,7 +702,7 @@ module _ (ts : List Lexeme) where
     ),
     omega arith,
   )
-  steady (switch_rest l d s) _ _ c i = (
+  steady (switch_rest l d s) c i _ y = (
     omega arith,
     refl,
     (
@@ -702,8 +716,8 @@ module _ (ts : List Lexeme) where
     ),
     omega arith,
   )
-  steady (while_rest l d s) _ _ c i = (omega arith, refl, (omega arith, λ t e j _. (omega arith, refl, (omega arith, λ t' e' j' _. omega arith), omega arith)), omega arith)
-  steady (do_rest l d s) _ _ c i = (
+  steady (while_rest l d s) c i _ y = (omega arith, refl, (omega arith, λ t e j _. (omega arith, refl, (omega arith, λ t' e' j' _. omega arith), omega arith)), omega arith)
+  steady (do_rest l d s) c i _ y = (
     omega arith,
     λ t e j _. (
       omega arith,
@@ -712,19 +726,19 @@ module _ (ts : List Lexeme) where
       omega arith,
     ),
   )
-  steady (for_rest l d s) _ _ c i = (
+  steady (for_rest l d s) c i _ y = (
     omega arith,
     refl,
     (
       (refl, omega arith),
-      λ q. q,
+      inl (λ q. q),
       (omega arith, λ t e j _. (omega arith, λ t' e' j' _. omega arith)),
       (omega arith, λ t e j _. (omega arith, λ t' e' j' _. omega arith)),
     ),
     omega arith,
   )
-  steady (return_rest d s) _ _ c i = (omega arith, refl, omega arith, (omega arith, λ t e j _. (omega arith, refl, omega arith, omega arith)))
-  steady (for_clauses l d s x) _ _ c i = (
+  steady (return_rest d s) c i _ y = (omega arith, refl, omega arith, (omega arith, λ t e j _. (omega arith, refl, omega arith, omega arith)))
+  steady (for_clauses l d s x) c i _ y = (
     omega arith,
     λ t e j _. (
       omega arith,
@@ -733,27 +747,7 @@ module _ (ts : List Lexeme) where
       (omega arith, λ t' e' j' _. (omega arith, refl, (omega arith, λ t'' e'' j'' _. omega arith), omega arith)),
     ),
   )
-  steady (clause d) _ _ c i = (omega arith, refl, omega arith, (omega arith, λ t e j _. (omega arith, refl, omega arith, omega arith)))
-  steady (compound l d) _ _ c i = (omega arith, refl, (omega arith, λ t e j _. omega arith), omega arith)
-  steady (items l d s x) _ _ c i = (omega arith, refl, omega arith, (omega arith, λ t e j _. (omega arith, λ t' e' j' _. omega arith)))
-  steady (item l d) _ _ c i = ((refl, omega arith), λ q. q, (omega arith, λ t e j _. omega arith), (omega arith, λ t e j _. omega arith))
-
-  -- an external definition, in which the `...` of a function may be refused
-  pub steady_external : (l : Labels) (d : ℕ) (c : Scopes) (i : ℕ) → Goes true (body (external l d)) (leaves (external l d)) (enters (external l d)) false c i
-  steady_external l d c i = (
-    omega arith,
-    λ t e j _. (
-      omega arith,
-      refl,
-      omega arith,
-      (
-        omega arith,
-        λ t' e' j' _. (
-          (λ v c' f. (refl, omega arith), λ v. tt),
-          λ q. (λ v. q, λ v. tt),
-          (λ v. (omega arith, λ t'' e'' j'' _. omega arith), λ v. refl),
-          declared_steady true (past_part fresh t) d i (t & none) j t' e' j',
-        ),
-      ),
-    ),
-  )
+  steady (clause d) c i _ y = (omega arith, refl, omega arith, (omega arith, λ t e j _. (omega arith, refl, omega arith, omega arith)))
+  steady (compound l d) c i _ y = (omega arith, refl, (omega arith, λ t e j _. omega arith), omega arith)
+  steady (items l d s x) c i _ y = (omega arith, refl, omega arith, (omega arith, λ t e j _. (omega arith, λ t' e' j' _. omega arith)))
+  steady (item l d) c i _ y = ((refl, omega arith), inl (λ q. q), (omega arith, λ t e j _. omega arith), (omega arith, λ t e j _. omega arith))

@@ -18,12 +18,14 @@ use Rattle.cr_syntax.proofs.MachineFirst.{none_true, true_false}
 use Rattle.cr_syntax.proofs.MachineRuns.{same, local, word_same}
 use Rattle.cr_syntax.proofs.MachineEnds.{Way, stopped, barring, crowded, defining, Ends, ends_so, refused_so, cause_by}
 use Rattle.cr_syntax.proofs.MachineComplete.{get_some, allows_free, upto}
-use Rattle.cr_syntax.proofs.MachineUnitComplete.{unit_is_read}
+use Rattle.cr_syntax.proofs.MachineUnitComplete.{unit_reads, unit_is_read}
+use Rattle.cr_syntax.proofs.MachineUnitForms.{ReadsUnits}
+use Rattle.cr_syntax.proofs.MachineRefusals.{RefusesBodies, outside_before_end, outside_at_end, outside_of_unit}
 use Rattle.cr_syntax.proofs.MachineViable.{barred_inside, crowded_inside}
 use Rattle.cr_syntax.proofs.MachineForms.{within}
 use Rattle.cr_syntax.proofs.MachineLoose.{looser, followed, Follows, so_too, departs, own_label, label_is}
 use Rattle.cr_syntax.proofs.MachineStuck.{is_crowded}
-use Rattle.cr_syntax.proofs.MachineReading.{unlimited_end, ends_inside, bracket_is, is_of_bracket, bracket_is_used, not_both, at_most, below, not_keyword_row, at_end}
+use Rattle.cr_syntax.proofs.MachineReading.{unlimited_end, ends_inside, bracket_is, is_of_bracket, bracket_is_used, not_both, at_most, below, not_keyword_row, barring_at, at_end}
 use Rattle.cr_syntax.proofs.MachineUnitStuck.{no_room_in_unit, no_room_instead_in_unit, read_is_unit, begun_unit_is_used, relimit_unit, unit_ends, label_within}
 
 -- Texts that begin as a list does.
@@ -86,6 +88,10 @@ in_place (units.label_as_body s (inr q) c) y b f = absurd (no_bracket q refl y b
 in_place (units.switch_body s c n0 n1 n2 d) y b f = (word.LeftBrace, block_for_body)
 in_place (units.variadic_function {t = t} m lt q c s) y b f = absurd (f (begins_free (begins_definition (units.variadic_function {t = t} m lt q c s))))
 
+-- a unit is read by the machine of the bare grammar
+reads_units : ReadsUnits
+reads_units us limit t e s = unit_reads anywhere s refl refl
+
 module _ (ts : List Lexeme) where
   abbrev pub Answers : Reply → Type 0
   Answers r = Runs body ts (AtMost most_levels) (body (unit nowhere 0)) file_scope 0 r
@@ -138,11 +144,9 @@ module _ (ts : List Lexeme) where
   label_not_deep {v = v} q l (units.refused y b o x d) = no_bracket q (label_flat v l) y b
   label_not_deep {v = v} q l (units.unexpected y b c n o x) = no_bracket q (label_flat v l) y b
 
-  -- What is known of the tokens that rows of the refused forms name, and of the texts that begin before a refused token.
+  -- What is known of a switch's body that is no block, and of the texts that begin before a refused token.
   module _
-      (row_before : (w : Way) (i n k : ℕ) → EndsBy w k → Outside ts i n → (n ≡ 1 → ⊥) → i < k → (w ≡ defining i) × (n ≡ 8))
-      (row_there : (w : Way) (n k : ℕ) → k < length ts → EndsBy w k → Outside ts k n → (n ≡ 1 → ⊥) → ((m : ℕ) → w ≡ defining m → ⊥) → (x : Test) × (d : ℕ) × (w ≡ barring x n d))
-      (row_read : (t : Trees) (e : Scopes) (i j n : ℕ) → Answers (Done t e j) → Outside ts i n → (n ≡ 1 → ⊥) → i < j → ⊥)
+      (bodies : RefusesBodies)
       (stopped_begins : (m k : ℕ) → k ≤ length ts → EndsBy (stopped m) k → BeginsWithin ts k)
       (stopped_leaves : (m k : ℕ) → k ≤ length ts → EndsBy (stopped m) k → m < most_levels → Begins (Leaving k most_levels) ts k)
       (barred_begins : (x : Test) (n m k : ℕ) → k ≤ length ts → EndsBy (barring x n m) k → BeginsWithin ts k)
@@ -152,9 +156,18 @@ module _ (ts : List Lexeme) where
       (crowded_begins : (k : ℕ) → k < length ts → EndsBy crowded k → Begins (Upto k most_levels) ts (k + 1))
       (defining_behind : (m k : ℕ) → k ≤ length ts → EndsBy (defining m) k → m < k)
       (defining_outside : (m k : ℕ) → k ≤ length ts → EndsBy (defining m) k → Outside ts m 8) where
+    row_before : {w : Way} {i n k : ℕ} → EndsBy w k → Outside ts i n → (n ≡ 1 → ⊥) → i < k → (w ≡ defining i) × (n ≡ 8)
+    row_before y o f lt = outside_before_end reads_units bodies f y lt o
+
+    row_there : {w : Way} {n k : ℕ} → k < length ts → EndsBy w k → Outside ts k n → (n ≡ 1 → ⊥) → ((m : ℕ) → w ≡ defining m → ⊥) → (x : Test) × (d : ℕ) × (w ≡ barring x n d)
+    row_there lt y o f g = let b = barring_at (outside_at_end reads_units bodies f lt y g o) in (b.1, b.2, b.3)
+
+    row_read : {t : Trees} {e : Scopes} {i j n : ℕ} → Answers (Done t e j) → Outside ts i n → (n ≡ 1 → ⊥) → i < j → ⊥
+    row_read h o f lt = outside_of_unit reads_units bodies f h lt o
+
     -- the tokens before a refused one
     fine : {w : Way} {k : ℕ} → EndsBy w k → ((m : ℕ) → w ≡ defining m → ⊥) → BeginsWithin ts k → IsFineBefore ts k
-    fine y other b = record { begins = b; inside = λ i n lt o. elim (keyword_or_form o) [ inl (w, q, u) ↦ both_ways (is_unused w) (begun_unit_is_used b lt q) u | inr f ↦ other i (row_before _ _ _ _ y o f lt).0 ] }
+    fine y other b = record { begins = b; inside = λ i n lt o. elim (keyword_or_form o) [ inl (w, q, u) ↦ both_ways (is_unused w) (begun_unit_is_used b lt q) u | inr f ↦ other i (row_before y o f lt).0 ] }
 
     -- A token at which the machine stops.
     module _ (m k : ℕ) (y : EndsBy (stopped m) k) (le : k ≤ length ts) where
@@ -171,7 +184,7 @@ module _ (ts : List Lexeme) where
       stop_fine = fine y no_definition (stopped_begins m k le y)
 
       not_outside : {w : Word} → Is ts k w → is_unused w ≡ false → (n : ℕ) → Outside ts k n → ⊥
-      not_outside q u n o = elim (keyword_or_form o) [ inl (v, q', u') ↦ not_both q' u' q u | inr f ↦ no_row (row_there _ _ _ (within ts k q) y o f no_definition).2 ]
+      not_outside q u n o = elim (keyword_or_form o) [ inl (v, q', u') ↦ not_both q' u' q u | inr f ↦ no_row (row_there (within ts k q) y o f no_definition).2 ]
         where
           no_row : {x : Test} {n d : ℕ} → stopped m ≡ barring x n d → ⊥
           no_row q = cc
@@ -212,7 +225,7 @@ module _ (ts : List Lexeme) where
       form_not_deep : {w : Word} → Is ts k w → overflows w m ≡ false → IsTooDeep ts k → ⊥
       form_not_deep q v (units.expected o) = bar_ends (begins_free o.begins)
       form_not_deep {w = w} q v (units.refused {v = v'} q' b o x' d) =
-          let r = row_there _ _ _ (within ts k q) y o (not_keyword_row x') (λ m q. cc) in
+          let r = row_there (within ts k q) y o (not_keyword_row x') (λ m q. cc) in
           d.too_deep (barred_leaves x n m k (barred_inside y) y v' (subst (λ n. StandsIn n v') (same_row r.2) x') (below w m (subst (λ w. is_bracket w ≡ true) (some_one (sym q' ∙ q)) (is_of_bracket b)) v))
       form_not_deep q v (units.unexpected q' b c f o x') = o n (bar_outside y)
 
@@ -269,11 +282,11 @@ module _ (ts : List Lexeme) where
           b = begins_by (upto_less most_levels (omega arith)) (begins_less (omega arith) (begins_definition named))
 
           inside : (i n : ℕ) → i < m → Outside ts i n → ⊥
-          inside i n lt o = elim (keyword_or_form o) [ inl (w, q, u) ↦ both_ways (is_unused w) (begun_unit_is_used b lt q) u | inr f ↦ (let before = defining_behind m k le y in let e = same_definition (row_before _ _ _ _ y o f (omega arith)).0 in absurd (omega arith)) ]
+          inside i n lt o = elim (keyword_or_form o) [ inl (w, q, u) ↦ both_ways (is_unused w) (begun_unit_is_used b lt q) u | inr f ↦ (let before = defining_behind m k le y in let e = same_definition (row_before y o f (omega arith)).0 in absurd (omega arith)) ]
 
       named_not_deep : IsTooDeep ts m → ⊥
       named_not_deep (units.expected o) = o.too_deep (begins_definition named)
-      named_not_deep (units.refused {v = v} q b o x d) = none_stands (subst (λ n. StandsIn n v) (row_before _ _ _ _ y o (not_keyword_row x) (defining_behind m k le y)).1 x)
+      named_not_deep (units.refused {v = v} q b o x d) = none_stands (subst (λ n. StandsIn n v) (row_before y o (not_keyword_row x) (defining_behind m k le y)).1 x)
         where
           none_stands : {v : Word} → StandsIn 8 v → ⊥
           none_stands x = elim x [ ]
@@ -314,7 +327,7 @@ module _ (ts : List Lexeme) where
         all = record { trees = t; completes = record { text = ts; alike = λ i x lt q. q; is_unit = u } }
 
         inside : (i n : ℕ) → i < length ts → Outside ts i n → ⊥
-        inside i n lt o = elim (keyword_or_form o) [ inl (w, q, v) ↦ both_ways (is_unused w) (begun_unit_is_used all lt q) v | inr f ↦ (let e = read_to_end h in row_read _ _ _ _ _ h o f (omega arith)) ]
+        inside i n lt o = elim (keyword_or_form o) [ inl (w, q, v) ↦ both_ways (is_unused w) (begun_unit_is_used all lt q) v | inr f ↦ (let e = read_to_end h in row_read h o f (omega arith)) ]
 
     pub is_parsed : (r : Reply) → Answers r → IsParsed ts r
     is_parsed (Done t e j) h = (unit_is_tree h, read_to_end h)

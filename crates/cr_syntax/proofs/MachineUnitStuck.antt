@@ -17,18 +17,18 @@ use Rattle.cr_syntax.specs.Machine.{unit, externals, external}
 use Rattle.cr_syntax.specs.MachineBody.{body, is_any, is_label}
 use Rattle.cr_syntax.proofs.Tests.{both, not_true, some_one}
 use Rattle.cr_syntax.proofs.MachineGives.{holds}
-use Rattle.cr_syntax.proofs.MachineFirst.{none_true, true_false}
-use Rattle.cr_syntax.proofs.MachineRuns.{reach, again, word_same}
-use Rattle.cr_syntax.proofs.MachineEnds.{Way, stopped, barring, Ends, end_seen, end_unseen, end_behind, end_inside}
+use Rattle.cr_syntax.proofs.MachineFirst.{none_true}
+use Rattle.cr_syntax.proofs.MachineRuns.{word_same}
+use Rattle.cr_syntax.proofs.MachineEnds.{Way, stopped, barring, Ends}
 use Rattle.cr_syntax.proofs.MachineComplete.{get_some}
 use Rattle.cr_syntax.proofs.MachineUnitComplete.{unit_is_read}
 use Rattle.cr_syntax.proofs.MachineSound.{runs_sound}
 use Rattle.cr_syntax.proofs.MachineViable.{word_before, word_there}
 use Rattle.cr_syntax.proofs.MachineForms.{within}
 use Rattle.cr_syntax.proofs.MachineUnused.{used}
-use Rattle.cr_syntax.proofs.MachineSteady.{enters, leaves, fits, Goes, steady, steady_external}
+use Rattle.cr_syntax.proofs.MachineSteady.{levels_in, levels_out, fits, Goes, steady}
 use Rattle.cr_syntax.proofs.MachineRows.{knows}
-use Rattle.cr_syntax.proofs.MachineStuck.{levels_by, is_crowded, Stand, end_reach, low_end, at_last, same_done, stuck}
+use Rattle.cr_syntax.proofs.MachineStuck.{levels_by, is_crowded, Stand, stuck}
 use Rattle.cr_syntax.proofs.MachineRefused.{same_tokens, no_bar, allows_none, allows_bracket, stands_bracket, same_row}
 
 -- The programs of a unit and of external definitions.
@@ -53,46 +53,14 @@ outer_ends {l = l} {d = d} (outer_rest {x = x}) (run_call h run_give) = outer_en
 pub unit_ends : {ts : List Lexeme} {limit : Limit} {l : Labels} {d : ℕ} {c e : Scopes} {i j : ℕ} {t : Trees} → Runs body ts limit (body (unit l d)) c i (Done t e j) → has_word ts j is_any ≡ false
 unit_ends {l = l} {d = d} h = outer_ends (outer_unit l d) h
 
--- where one is refused at its first token, it is with no more levels
-low_outer : {ts : List Lexeme} {limit : Limit} {l : Labels} {d : ℕ} {p : Prog} {c : Scopes} {i k : ℕ} {w : Way} → Outer l d p → Ends body ts limit p c i w k → k ≤ i → levels_by w ≤ d
-low_outer (outer_peek y) (end_seen v z) le = low_outer y z le
-low_outer (outer_peek y) (end_unseen v z) le = elim z [ ]
-low_outer {ts = ts} {l = l} {d = d} {c = c} {i = i} (outer_call y) (end_inside z) le = low_end true (leaves (external l d)) (enters (external l d)) false z le (steady_external ts l d c i)
-low_outer (outer_call y) (end_behind {t = t} h z) le = let n = reach h in low_outer (y t) z (omega arith)
-low_outer {l = l} {d = d} (outer_rest {x = x}) (end_inside z) le = low_outer (outer_externals l d x) z le
-low_outer outer_rest (end_behind h z) le = elim z [ ]
-
 -- The other text, its limit, and the levels from which on there is no room at token k.
 module _ (ts us : List Lexeme) (limit top : Limit) (k m : ℕ) (alike : (n : ℕ) → n < k → slice_get us n ≡ slice_get ts n)
     (block : (g : Manner) (x : Test) (d : ℕ) (c : Scopes) (i : ℕ) → i ≡ k → m ≤ levels_at g d → fits g x ≡ true → passes us c i x ≡ true → Allows top g i d → ⊥) where
   abbrev Stands : Way → Type 0
   Stands w = (x : Test) (n d : ℕ) → w ≡ barring x n d → Stand us k n
 
-  -- one external definition
-  stuck_external : (l : Labels) (d : ℕ) {c f : Scopes} {i n : ℕ} {w : Way} {u : Trees} → Ends body ts limit (body (external l d)) c i w k → Runs body us top (body (external l d)) c i (Done u f n) → is_crowded w ≡ false → m ≤ levels_by w →
-      Stands w → ⊥
-  stuck_external l d {c = c} {i = i} z h cr le st = stuck ts us limit top k m alike block true (leaves (external l d)) (enters (external l d)) false z h refl (steady_external ts l d c i) cr le st (λ q. none_true q)
-
-  stuck_outer : {l : Labels} {d : ℕ} {p : Prog} {c f : Scopes} {i n : ℕ} {w : Way} {u : Trees} → d < m → Outer l d p → Ends body ts limit p c i w k → Runs body us top p c i (Done u f n) → is_crowded w ≡ false → m ≤ levels_by w →
-      Stands w → ⊥
-  stuck_outer lt (outer_peek y) (end_seen v z) (run_seen v' h) cr le st = stuck_outer lt y z h cr le st
-  stuck_outer {c = c} {i = i} lt (outer_peek y) (end_seen v z) (run_unseen v' h) cr le st =
-      let n = end_reach z in
-      let q = at_last ts us limit top k m alike block c i (has is_any) n v v' (λ q. true_false q) in
-      let b = low_outer y z (omega arith) in
-      absurd (omega arith)
-  stuck_outer lt (outer_peek y) (end_unseen v z) h cr le st = elim z [ ]
-  stuck_outer {l = l} {d = d} lt (outer_call y) (end_inside z) (run_call h h') cr le st = stuck_external l d z h cr le st
-  stuck_outer {l = l} {d = d} {c = c} {f = f} {i = i} {n = n} {u = u} lt (outer_call {f = p} y) (end_behind {t = t} {e = e} {j = j} h z) (run_call h1 h1') cr le st =
-      let n' = end_reach z in
-      let q = same_done ts us limit top k m alike block true (leaves (external l d)) (enters (external l d)) false h h1 (steady_external ts l d c i) n'
-      (λ q. let v = low_outer (y t) z (omega arith) in absurd (omega arith)) in
-      stuck_outer lt (y t) z (again (λ t e j. Runs body us top (p t) e j (Done u f n)) q h1') cr le st
-  stuck_outer {l = l} {d = d} lt (outer_rest {x = x}) (end_inside z) (run_call h h') cr le st = stuck_outer lt (outer_externals l d x) z h cr le st
-  stuck_outer lt outer_rest (end_behind h z) h' cr le st = elim z [ ]
-
   no_unit : {w : Way} {t : Trees} → 0 < m → Ends body ts limit (body (unit anywhere 0)) file_scope 0 w k → is_crowded w ≡ false → m ≤ levels_by w → Stands w → IsUnit top us t → ⊥
-  no_unit lt z cr le st y = stuck_outer lt (outer_unit anywhere 0) z (unit_is_read anywhere y refl refl) cr le st
+  no_unit lt z cr le st y = stuck ts us limit top k 1 m (omega arith) alike block 0 0 false z (unit_is_read anywhere y refl refl) refl (steady ts 1 (unit anywhere 0) file_scope 0 0 (omega arith, omega arith)) cr le st (λ q. none_true q)
 
 -- at the levels where it stopped or with more none leaves room
 pub no_room_in_unit : {ts : List Lexeme} {limit : Limit} (most : ℕ) {d k : ℕ} → 0 < most → k ≤ length ts → most ≤ d → Ends body ts limit (body (unit anywhere 0)) file_scope 0 (stopped d) k → Begins (Leaving k most) ts k → ⊥
@@ -133,32 +101,23 @@ begun_unit_is_used {ts = ts} {i = i} {w = w} b lt q =
 -- Where another limit lets each token stand that a text's run takes, the text is one within that limit.
 module _ {us : List Lexeme} {limit top : Limit}
     (lim : (g : Manner) (x : Test) (c : Scopes) (i d : ℕ) → fits g x ≡ true → passes us c i x ≡ true → Allows limit g i d → Allows top g i d) where
-  relimit : (r : Bool) (l b : ℕ) (o : Bool) {p : Prog} {c e : Scopes} {i j : ℕ} {t : Trees} → Runs body us limit p c i (Done t e j) → Goes us r p l b o c i → Runs body us top p c i (Done t e j)
-  relimit r l b o run_give y = run_give
-  relimit r l b o {c = c} {i = i} (run_take {m = g} {x = x} {d = d} v a h) y = run_take v (lim g x c i d y.1 v a) (relimit r l _ _ h y.2)
-  relimit r l b o (run_pass x h) y = run_pass x (relimit r l _ _ h y.3)
-  relimit r l b o (run_free x h) y = run_free x (relimit r l _ _ h y.2)
-  relimit r l b o (run_seen x h) y = run_seen x (relimit r l _ _ h y.2)
-  relimit r l b o (run_unseen x h) y = run_unseen x (relimit r l _ _ h y.3)
-  relimit r l b o (run_yes x h) y = run_yes x (relimit r l _ _ h (y.0 x))
-  relimit r l b o (run_no x h) y = run_no x (relimit r l _ _ h (y.1 x))
-  relimit r l b o (run_here h) y = run_here (relimit r l _ _ h y)
-  relimit r l b o (run_look h) y = run_look (relimit r l _ _ h y)
-  relimit r l b o (run_set h) y = run_set (relimit r l _ _ h y)
-  relimit r l b o (run_bring h) y = run_bring (relimit r l _ _ h y)
-  relimit r l b o {c = c} {i = i} (run_call {g = g} h k) y = run_call (relimit false (leaves g) (enters g) false h (steady us g b y.0 c i)) (relimit r l _ _ k (y.1 _ _ _ (knows g c _ i _ _ h)))
-
-  relimit_external : (l : Labels) (d : ℕ) {c e : Scopes} {i j : ℕ} {t : Trees} → Runs body us limit (body (external l d)) c i (Done t e j) → Runs body us top (body (external l d)) c i (Done t e j)
-  relimit_external l d {c = c} {i = i} h = relimit true (leaves (external l d)) (enters (external l d)) false h (steady_external us l d c i)
-
-  relimit_outer : {l : Labels} {d : ℕ} {p : Prog} {c e : Scopes} {i j : ℕ} {t : Trees} → Outer l d p → Runs body us limit p c i (Done t e j) → Runs body us top p c i (Done t e j)
-  relimit_outer (outer_peek y) (run_seen v h) = run_seen v (relimit_outer y h)
-  relimit_outer (outer_peek y) (run_unseen v run_give) = run_unseen v run_give
-  relimit_outer {l = l} {d = d} (outer_call y) (run_call {t = t} h k) = run_call (relimit_external l d h) (relimit_outer (y t) k)
-  relimit_outer {l = l} {d = d} (outer_rest {x = x}) (run_call h run_give) = run_call (relimit_outer (outer_externals l d x) h) run_give
+  relimit : (l b : ℕ) (o : Bool) {p : Prog} {c e : Scopes} {i j : ℕ} {t : Trees} → Runs body us limit p c i (Done t e j) → Goes us 1 p l b o c i → Runs body us top p c i (Done t e j)
+  relimit l b o run_give y = run_give
+  relimit l b o {c = c} {i = i} (run_take {m = g} {x = x} {d = d} v a h) y = run_take v (lim g x c i d y.1 v a) (relimit l _ _ h y.2)
+  relimit l b o (run_pass x h) y = run_pass x (relimit l _ _ h y.3)
+  relimit l b o (run_free x h) y = run_free x (relimit l _ _ h y.2)
+  relimit l b o (run_seen x h) y = run_seen x (relimit l _ _ h y.2)
+  relimit l b o (run_unseen x h) y = run_unseen x (relimit l _ _ h y.3)
+  relimit l b o (run_yes x h) y = run_yes x (relimit l _ _ h (y.0 x))
+  relimit l b o (run_no x h) y = run_no x (relimit l _ _ h (y.1 x))
+  relimit l b o (run_here h) y = run_here (relimit l _ _ h y)
+  relimit l b o (run_look h) y = run_look (relimit l _ _ h y)
+  relimit l b o (run_set h) y = run_set (relimit l _ _ h y)
+  relimit l b o (run_bring h) y = run_bring (relimit l _ _ h y)
+  relimit l b o {c = c} {i = i} (run_call {g = g} h k) y = run_call (relimit (levels_out g) (levels_in g) false h (steady us 1 g c i b y.0)) (relimit l _ _ k (y.1 _ _ _ (knows g c _ i _ _ h)))
 
   pub relimit_unit : {t : Trees} → IsUnit limit us t → IsUnit top us t
-  relimit_unit y = read_is_unit anywhere (relimit_outer (outer_unit anywhere 0) (unit_is_read anywhere y refl refl))
+  relimit_unit y = read_is_unit anywhere (relimit 0 0 false (unit_is_read anywhere y refl refl) (steady us 1 (unit anywhere 0) file_scope 0 0 (omega arith, omega arith)))
 
 -- A token that opens a level is no label of a switch.
 

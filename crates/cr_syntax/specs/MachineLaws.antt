@@ -10,7 +10,7 @@ use Rattle.cr_syntax.specs.Words.{Lexeme}
 use Rattle.cr_syntax.specs.Scopes.{Scopes}
 use Rattle.cr_syntax.specs.Spells.{Limit, Free, AtMost, Upto, Is, Spells, a}
 use Rattle.cr_syntax.specs.Units.{IsUnit, most_levels, file_scope, IsTreeOf, FirstRefusal}
-use Rattle.cr_syntax.specs.Machine.{Prog, Reply, Cause, Done, Failed, Runs, whole, too_deep, refusal_of, nowhere, unit}
+use Rattle.cr_syntax.specs.Machine.{Prog, Reply, Cause, Done, Failed, Runs, whole, unit, nowhere, too_deep, refusal_of}
 use Rattle.cr_syntax.specs.Expressions.{Start, Spelled, BeginsFrom, RunEnds, Outcome, Read, Refused, IsReading}
 use Rattle.cr_syntax.specs.MachineBody.{body, start_goal}
 
