@@ -29,6 +29,14 @@ pub mod MachineTypes
 pub mod MachineDeclarators
 pub mod MachineComplete
 pub mod MachineExtend
+pub mod MachineScopes
+pub mod MachineShown
 pub mod MachineFails
 pub mod MachineGrows
+pub mod MachineUnitGrows
 pub mod MachineViable
+pub mod MachineUnitViable
+pub mod MachineWays
+pub mod MachineMarks
+pub mod MachineForms
+pub mod MachineUnused

@@ -121,7 +121,7 @@ unlimited (m.run_bring h) n = m.run_bring (unlimited h n)
 unlimited (m.run_call h k) n = m.run_call (unlimited h tt) (unlimited k n)
 unlimited (m.run_fail h) n = m.run_fail (unlimited h n)
 
-get_some : (ts : List Lexeme) (i : ℕ) → i < length ts → (x : Lexeme) × (slice_get ts i ≡ Some x)
+pub get_some : (ts : List Lexeme) (i : ℕ) → i < length ts → (x : Lexeme) × (slice_get ts i ≡ Some x)
 get_some [] i lt = absurd (omega arith)
 get_some (x ∷ ts) zero lt = (x, refl)
 get_some (x ∷ ts) (suc i) lt = get_some ts i (omega arith)

@@ -66,7 +66,7 @@ named_sorted (by_star q) = sorted is_declarator_start true q refl
 named_sorted (begin.by_paren q) = sorted is_declarator_start true q refl
 named_sorted (by_name q g) = sorted is_declarator_start true q refl
 
-named_const : {ts : List Lexeme} {c : Scopes} {i : ℕ} {typed : Bool} → NamedFirst ts c i typed → is_word ts i word.Const ≡ false
+pub named_const : {ts : List Lexeme} {c : Scopes} {i : ℕ} {typed : Bool} → NamedFirst ts c i typed → is_word ts i word.Const ≡ false
 named_const (by_star q) = differs q word.Const refl
 named_const (begin.by_paren q) = differs q word.Const refl
 named_const (by_name q g) = differs q word.Const refl
@@ -97,7 +97,7 @@ module _ (ts : List Lexeme) (limit : Limit) where
   then_give : {g : Goal} {c : Scopes} {i : ℕ} {r : Reply} → Goes ts limit (body g) c i r → Goes ts limit (call g give) c i r
   then_give h = tail body ts limit h
 
-  consts_go : {c : Scopes} {d i j : ℕ} → AreConst ts limit d i j → is_word ts j word.Const ≡ false → Answers ts limit (m.consts d) c i none c j
+  pub consts_go : {c : Scopes} {d i j : ℕ} → AreConst ts limit d i j → is_word ts j word.Const ≡ false → Answers ts limit (m.consts d) c i none c j
   consts_go const_none n = run_pass n run_give
   consts_go (const_more q w k) n = run_take (yes q) w (then_give (consts_go k n))
 

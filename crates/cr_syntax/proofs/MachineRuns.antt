@@ -19,7 +19,7 @@ abbrev pub OnDone : Reply → (Trees → Scopes → ℕ → Type 0) → Type 0
 OnDone (Done t e j) f = f t e j
 OnDone (Failed x k) f = Unit {0}
 
-again : (f : Trees → Scopes → ℕ → Type 0) {t t' : Trees} {e e' : Scopes} {j j' : ℕ} → Done t e j ≡ Done t' e' j' → f t' e' j' → f t e j
+pub again : (f : Trees → Scopes → ℕ → Type 0) {t t' : Trees} {e e' : Scopes} {j j' : ℕ} → Done t e j ≡ Done t' e' j' → f t' e' j' → f t e j
 again f q x = subst (λ r. OnDone r f) (sym q) x
 
 pub same : {body : Goal → Prog} {ts : List Lexeme} {limit : Limit} {p : Prog} {c : Scopes} {i : ℕ} {r r' : Reply} →

@@ -335,6 +335,10 @@ is_statement_start _ = false
 abbrev pub statement_start : Test
 statement_start = or (has is_statement_start) ordinary
 
+-- the same keywords where a switch's body is wanted
+abbrev pub label_start : Test
+label_start = or (the word.Case) (the word.Default)
+
 -- whether some token stands there
 abbrev pub is_any : Word → Bool
 is_any w = true
@@ -405,7 +409,7 @@ if_end l d s a b = when (ends_open b) (without_else s a b) (take opens (the word
 
 -- a switch whose controlling expression a was read: its body is a block
 abbrev pub switch_body : Labels → ℕ → ℕ → Trees → Prog
-switch_body l d s a = bar (has is_label) 6 (d + 1) (bar statement_start 7 (d + 1)
+switch_body l d s a = bar label_start 6 (d + 1) (bar statement_start 7 (d + 1)
     (begins (call (compound (in_switch l) (d + 1)) (λ b. drops (drops (made kind.Switch s (a & b & none)))))))
 
 -- a `for` whose clauses x were read: its body
