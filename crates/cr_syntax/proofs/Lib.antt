@@ -37,10 +37,13 @@ pub mod MachineComplete
 pub mod MachineVariadic
 pub mod MachineUnitComplete
 pub mod MachineExtend
+pub mod MachineScopes
 pub mod MachineShown
 pub mod MachineFails
 pub mod MachineGrows
+pub mod MachineUnitGrows
 pub mod MachineViable
+pub mod MachineUnitViable
 pub mod MachineWays
 pub mod MachineMarks
 pub mod MachineForms
