@@ -35,10 +35,13 @@ pub mod MachineStatements
 pub mod MachineComplete
 pub mod MachineUnits
 pub mod MachineExtend
+pub mod MachineScopes
 pub mod MachineShown
 pub mod MachineFails
 pub mod MachineGrows
+pub mod MachineUnitGrows
 pub mod MachineViable
+pub mod MachineUnitViable
 pub mod MachineWays
 pub mod MachineMarks
 pub mod MachineForms

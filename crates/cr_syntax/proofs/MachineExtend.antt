@@ -1,5 +1,5 @@
 -- A text that goes on: what is spelled in it stays spelled in a longer one, whose further tokens have no spelling to tell.
-use Rattle.std.proofs.Common.{◌≡◌, ℕ, zero, suc, ◌+◌, Bool, true, false, not, ◌||◌, List, [], ◌∷◌, length, refl, sym, ap, subst, ◌∙◌, arith}
+use Rattle.std.proofs.Common.{◌≡◌, ℕ, zero, suc, ◌+◌, ◌≤◌, Bool, true, false, not, ◌||◌, List, [], ◌∷◌, length, refl, sym, ap, subst, ◌∙◌, arith}
 use Rattle.std.specs.Prelude.{◌++◌}
 use Rattle.cr_syntax.specs.declared.word.Word.{Word}
 use Rattle.cr_syntax.specs.declared.symbol.Part.TheVariants as part
@@ -59,6 +59,33 @@ longer us i q w = record {
   word = subst (λ k. Is (us ++ unnamed w ∷ []) k w) (sym q) (last_word us w);
   size = ap (λ k. k + 1) q ∙ last_length us w;
 }
+
+-- these words stand from token i on, and the token behind them
+abbrev pub Stand : List Lexeme → ℕ → List Word → Type 0
+Stand all i [] = Unit {0}
+Stand all i (w ∷ ws) = Is all i w × Stand all (i + 1) ws
+
+abbrev pub past : ℕ → List Word → ℕ
+past i [] = i
+past i (w ∷ ws) = past (i + 1) ws
+
+pub past_more : (ws : List Word) (i : ℕ) → i ≤ past i ws
+past_more [] i = omega arith
+past_more (w ∷ ws) i = let n = past_more ws (i + 1) in omega arith
+
+-- a text with these tokens more
+pub record LongerBy (us : List Lexeme) (i : ℕ) (ws : List Word) : Type 0 where
+  pub all : List Lexeme
+  pub front : Front us all
+  pub words : Stand all i ws
+  pub size : past i ws ≡ length all
+
+pub longer_by : (ws : List Word) (us : List Lexeme) (i : ℕ) → i ≡ length us → LongerBy us i ws
+longer_by [] us i e = record { all = us; front = front_itself us; words = tt; size = e }
+longer_by (w ∷ ws) us i e =
+    let x = longer us i e w in
+    let y = longer_by ws x.all (i + 1) x.size in
+    record { all = y.all; front = front_then x.front y.front; words = (y.front.words _ _ x.word, y.words); size = y.size }
 
 pub weaken_consts : {us all : List Lexeme} {limit : Limit} {d i j : ℕ} → Front us all → AreConst us limit d i j → AreConst all limit d i j
 weaken_consts y const_none = const_none

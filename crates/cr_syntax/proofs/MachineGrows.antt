@@ -1,6 +1,7 @@
 -- What the machine refuses can go on before the refused token: each goal's program owes a text for each place where a token can be
 -- refused, and where a row of the refused forms refuses it, the text shows the row's node.
-use Rattle.std.proofs.Common.{◌≡◌, ℕ, ◌+◌, ◌<◌, ◌≤◌, true, false, List, [], ◌∷◌, length, ◌⊎◌, inl, inr, refl, sym, subst, arith}
+use Rattle.std.specs.Prelude.{◌==◌}
+use Rattle.std.proofs.Common.{◌≡◌, ℕ, ◌+◌, ◌<◌, ◌≤◌, Bool, true, false, List, [], ◌∷◌, length, refl, sym, subst, arith}
 use Rattle.cr_syntax.specs.declared.word.Word.{Word}
 use Rattle.cr_syntax.specs.declared.word.Word.TheVariants as word
 use Rattle.cr_syntax.specs.declared.node.Kind.{Kind}
@@ -11,29 +12,31 @@ use Rattle.cr_syntax.specs.declared.symbol.Symbol.{Symbol}
 use Rattle.cr_syntax.specs.declared.symbol.Symbol.TheVariants as symbol
 use Rattle.cr_syntax.specs.declared.symbol.Context.{Context}
 use Rattle.cr_syntax.specs.Words.{Lexeme}
-use Rattle.cr_syntax.specs.Scopes.{Scopes}
+use Rattle.cr_syntax.specs.Scopes.{Scopes, enter}
 use Rattle.cr_syntax.specs.Trees.{Trees, none, one, ◌&◌}
-use Rattle.cr_syntax.specs.Context.{fresh, past_token, past_part}
+use Rattle.cr_syntax.specs.Context.{fresh, past_token, past_part, declared_name}
 use Rattle.cr_syntax.specs.Grammar.{Side, Alternative, prefix, token, assignment_by, inner_optional, inner_list, closing, many, list, part, binary}
 use Rattle.cr_syntax.specs.Grammar as grammar
 use Rattle.cr_syntax.specs.Spells.{Limit, Phrase, Is, Stands, Within, Spells, a, rest, AreConst, const_none, const_more}
 use Rattle.cr_syntax.specs.Spells as spells
 use Rattle.cr_syntax.specs.Machine.{Goal, Prog, Test, Manner, Wanted, named, unnamed, either, Runs, Done, Reply, Allows, plain, opens, reopens, give, stop, take, when, call, into, made, choose, the, around, innermost_of, brought, name_before}
 use Rattle.cr_syntax.specs.Machine.{whole, expression, commas, assignment, conditional, operands, cast, unary, measured, postfix, called, grouped, texts, arguments, suffixes, type_name, row, more, element, structure, members, member, member_declarators, enumeration, enumerators, enumerator, consts, declarator, declarator_suffixes, abstract_suffixes, size, parameters, more_parameters, parameter}
+use Rattle.cr_syntax.specs.Machine.{Labels, anywhere, own_block, nowhere, unit, externals, external, declaration, init_declarators, initialized, initializer, initializers, statement, block, if_rest, switch_rest, while_rest, do_rest, for_rest, return_rest, for_clauses, clause, compound, items, item}
 use Rattle.cr_syntax.specs.Machine as m
-use Rattle.cr_syntax.specs.Units.{has_here, has_inside}
+use Rattle.cr_syntax.specs.Units.{has_here, has_inside, unit_side, Place, in_switch, own_item, elsewhere}
 use Rattle.cr_syntax.specs.MachineBody.{body, is_identifier, assigned, operated, prefixed, suffixed, sized, other_primary, suffixes_end, other_element, array_start, may_name, may_omit, start_goal, tighter, operators, cast_prefixes}
+use Rattle.cr_syntax.specs.MachineBody as program
 use Rattle.cr_syntax.proofs.MachineMeans as means
 use Rattle.cr_syntax.proofs.MachineSpells as facts
 use Rattle.cr_syntax.proofs.MachineSpells.{and_none, and_and, pushed, is_one, named_before, unary_in}
 use Rattle.cr_syntax.proofs.MachineGives.{AllRows, no_rows, also}
 use Rattle.cr_syntax.proofs.MachineKept.{Kept, runs_kept}
-use Rattle.cr_syntax.proofs.MachineMeans.{Means, Reads, Behind, IsDeclared, with_name, without, IsSize, unsized, IsParameterRow, first_one, next_one, IsRowBegin, IsOpen, has_some, start_part, is_level, row_part, element_part}
+use Rattle.cr_syntax.proofs.MachineMeans.{Means, Reads, Behind, Begun, IsDeclared, with_name, without, IsSize, unsized, IsParameterRow, first_one, next_one, IsRowBegin, IsOpen, has_some, start_part, is_level, row_part, element_part, after_init}
 use Rattle.cr_syntax.proofs.MachineSound.{Declared, group_named, group_unnamed, Assigns, assignment_rows, Prefixes, unary_rows, cast_rows, IsConstant, constant_rows, Follows, postfix_rows, open_of, part_some, pushed_some, many_of, level_up, plain_up, specifier_rows, Specifies, dropped_member, array_of, array_size, parameters_of, at_end, hears_nothing, row_of_parameters, row_alone, row_made}
 use Rattle.cr_syntax.proofs.MachineFails.{Fails, words_fail}
 use Rattle.cr_syntax.proofs.MachineEnds.{Way}
-use Rattle.cr_syntax.proofs.MachineShown.{Next, next_literal, next_call, next_field, next_free, next_more, next_so, Shown, shown_literal, shown_call, shown_field, shown_free, shown_so, Room, Barred, has_left, left, right, inside, first, second, third, row_shown, parameter_shown, parameters_shown, operand_begins, postfix_ends, declarator_ends}
-use Rattle.cr_syntax.proofs.MachineExtend.{Front, front_itself, front_then, longer, weaken, weaken_consts, weaken_name}
+use Rattle.cr_syntax.proofs.MachineShown.{Next, next_literal, next_call, next_field, next_free, next_more, next_so, ShownIn, Shown, seen, every, Started, shown_literal, shown_call, shown_field, shown_free, shown_so, Room, Barred, Labelled, Defined, has_left, left, right, inside, first, second, third, row_shown, parameter_shown, parameters_shown, operand_begins, postfix_ends, declarator_ends}
+use Rattle.cr_syntax.proofs.MachineExtend.{Front, front_itself, front_then, longer, Stand, past, past_more, longer_by, weaken, weaken_consts, weaken_name}
 use Rattle.cr_syntax.proofs.MachineTasks.{below}
 use Rattle.cr_syntax.proofs.MachineTasks as task
 use Rattle.cr_syntax.proofs.MachineComplete.{completes}
@@ -44,19 +47,27 @@ use Rattle.cr_syntax.proofs.MachineFirst.{none_true}
 abbrev pub Built : List Lexeme → Limit → Phrase → Context → Scopes → ℕ → ℕ → ℕ → Type 0
 Built all top q h c d s j = (t : Trees) × (e : Scopes) × Spells all top q h c e d t s j
 
--- and shows what is asked of token k
-abbrev pub Shows : List Lexeme → Limit → Way → ℕ → Phrase → Context → Scopes → ℕ → ℕ → ℕ → Type 0
-Shows all top way k q h c d s j = (t : Trees) × (e : Scopes) × Spells all top q h c e d t s j × Shown k t way
+-- with trees of which something holds
+abbrev pub Shows : List Lexeme → Limit → (Trees → Type 0) → Phrase → Context → Scopes → ℕ → ℕ → ℕ → Type 0
+Shows all top x q h c d s j = (t : Trees) × (e : Scopes) × Spells all top q h c e d t s j × x t
 
--- a longer text that spells a phrase from token s to its end
-pub record Grown (us : List Lexeme) (top : Limit) (way : Way) (q : Phrase) (h : Context) (c : Scopes) (d s : ℕ) : Type 0 where
+-- a longer text that spells a phrase from token s to its end, with trees of which something holds
+pub record GrownBy (us : List Lexeme) (top : Limit) (way : Way) (x : Trees → Type 0) (q : Phrase) (h : Context) (c : Scopes) (d s : ℕ) : Type 0 where
   pub all : List Lexeme
   pub front : Front us all
   pub end : ℕ
   pub size : end ≡ length all
   pub late : length us < end
   pub next : Next all (length us) way
-  pub built : Shows all top way (length us) q h c d s end
+  pub built : Shows all top x q h c d s end
+
+-- and which show what is asked of the token behind us
+abbrev pub Grown : List Lexeme → Limit → Way → Phrase → Context → Scopes → ℕ → ℕ → Type 0
+Grown us top way q h c d s = GrownBy us top way (λ t. Shown (length us) t way) q h c d s
+
+-- where they stand in some places
+abbrev pub GrownIn : List Lexeme → Limit → Way → (Place → Bool) → Phrase → Context → Scopes → ℕ → ℕ → Type 0
+GrownIn us top way at q h c d s = GrownBy us top way (λ t. ShownIn at (length us) t way) q h c d s
 
 -- an operand of a level is one of the level
 level_chain : (p : Part) → is_level p ≡ true → {all : List Lexeme} {top : Limit} {c e : Scopes} {d i j : ℕ} {t : Trees} → Spells all top (a (below p)) fresh c e d t i j → (h : Context) → Spells all top (a p) h c e d t i j
@@ -90,6 +101,21 @@ join_rows part.Additive = also (λ all top d c0 c e s i j t u x q w y h. spells.
 join_rows part.Multiplicative = also (λ all top d c0 c e s i j t u x q w y h. spells.of_alternative grammar.multiply refl (spells.part (x _) (spells.token q w (spells.part (y _) spells.done)))) (also (λ all top d c0 c e s i j t u x q w y h. spells.of_alternative grammar.divide refl (spells.part (x _) (spells.token q w (spells.part (y _) spells.done)))) (also (λ all top d c0 c e s i j t u x q w y h. spells.of_alternative grammar.remainder refl (spells.part (x _) (spells.token q w (spells.part (y _) spells.done)))) no_rows))
 join_rows _ = no_rows
 
+-- where a statement stands whose labels may stand so, and a block of such statements
+abbrev pub placed : Labels → Place → Bool
+placed anywhere p = true
+placed own_block own_item = true
+placed own_block _ = false
+placed nowhere elsewhere = true
+placed nowhere _ = false
+
+abbrev pub blocked : Labels → Place → Bool
+blocked anywhere p = true
+blocked own_block in_switch = true
+blocked own_block _ = false
+blocked nowhere in_switch = false
+blocked nowhere _ = true
+
 module _ (us : List Lexeme) (top : Limit) (way : Way) (late : (g : Manner) (i d : ℕ) → length us < i → Allows top g i d) where
   -- Building.
 
@@ -98,14 +124,14 @@ module _ (us : List Lexeme) (top : Limit) (way : Way) (late : (g : Manner) (i d 
 
   -- up to three tokens at the end of the first ones, by what the word of the first of them tells
 
-  grown1 : {q : Phrase} {h : Context} {c : Scopes} {d s i : ℕ} → i ≡ length us → (w : Word) → ((all : List Lexeme) → Is all (length us) w → Next all (length us) way) →
-      ((all : List Lexeme) → Front us all → Is all i w → length us ≤ i → Shows all top way (length us) q h c d s (i + 1)) → Grown us top way q h c d s
+  pub grown1 : {x : Trees → Type 0} {q : Phrase} {h : Context} {c : Scopes} {d s i : ℕ} → i ≡ length us → (w : Word) → ((all : List Lexeme) → Is all (length us) w → Next all (length us) way) →
+      ((all : List Lexeme) → Front us all → Is all i w → length us ≤ i → Shows all top x q h c d s (i + 1)) → GrownBy us top way x q h c d s
   grown1 {i = i} e w n k =
       let x = longer us i e w in
       record { all = x.all; front = x.front; end = i + 1; size = x.size; late = omega arith; next = n x.all (subst (λ j. Is x.all j w) e x.word); built = k x.all x.front x.word (omega arith) }
 
-  grown3 : {q : Phrase} {h : Context} {c : Scopes} {d s i : ℕ} → i ≡ length us → (w w' w'' : Word) → ((all : List Lexeme) → Is all (length us) w → Next all (length us) way) →
-      ((all : List Lexeme) → Front us all → Is all i w → Is all (i + 1) w' → Is all (i + 1 + 1) w'' → length us ≤ i → Shows all top way (length us) q h c d s (i + 1 + 1 + 1)) → Grown us top way q h c d s
+  pub grown3 : {x : Trees → Type 0} {q : Phrase} {h : Context} {c : Scopes} {d s i : ℕ} → i ≡ length us → (w w' w'' : Word) → ((all : List Lexeme) → Is all (length us) w → Next all (length us) way) →
+      ((all : List Lexeme) → Front us all → Is all i w → Is all (i + 1) w' → Is all (i + 1 + 1) w'' → length us ≤ i → Shows all top x q h c d s (i + 1 + 1 + 1)) → GrownBy us top way x q h c d s
   grown3 {i = i} e w w' w'' n k =
       let x = longer us i e w in
       let y = longer x.all (i + 1) x.size w' in
@@ -114,10 +140,10 @@ module _ (us : List Lexeme) (top : Limit) (way : Way) (late : (g : Manner) (i d 
       let q = z.front.words _ _ (y.front.words _ _ x.word) in
       record { all = z.all; front = f; end = i + 1 + 1 + 1; size = z.size; late = omega arith; next = n z.all (subst (λ j. Is z.all j w) e q); built = k z.all f q (z.front.words _ _ y.word) z.word (omega arith) }
 
-  put1 : {q : Phrase} {h : Context} {c : Scopes} {d s i n : ℕ} → Room us top way i n → (w : Word) → ((all : List Lexeme) → Front us all → Is all i w → length us ≤ i → Built all top q h c d s (i + 1)) → Grown us top way q h c d s
+  pub put1 : {q : Phrase} {h : Context} {c : Scopes} {d s i n : ℕ} → Room us top way i n → (w : Word) → ((all : List Lexeme) → Front us all → Is all i w → length us ≤ i → Built all top q h c d s (i + 1)) → Grown us top way q h c d s
   put1 z w k = grown1 z.here w (λ all q. next_free z.free) (λ all f q le. let b = k all f q le in (b.0, b.1, b.2, shown_free z.free))
 
-  put2 : {q : Phrase} {h : Context} {c : Scopes} {d s i n : ℕ} → Room us top way i n → (w w' : Word) → ((all : List Lexeme) → Front us all → Is all i w → Is all (i + 1) w' → length us ≤ i → Built all top q h c d s (i + 1 + 1)) → Grown us top way q h c d s
+  pub put2 : {q : Phrase} {h : Context} {c : Scopes} {d s i n : ℕ} → Room us top way i n → (w w' : Word) → ((all : List Lexeme) → Front us all → Is all i w → Is all (i + 1) w' → length us ≤ i → Built all top q h c d s (i + 1 + 1)) → Grown us top way q h c d s
   put2 {i = i} r w w' k =
       let e = r.here in
       let x = longer us i e w in
@@ -126,19 +152,31 @@ module _ (us : List Lexeme) (top : Limit) (way : Way) (late : (g : Manner) (i d 
       let b = k y.all f (y.front.words _ _ x.word) y.word (omega arith) in
       record { all = y.all; front = f; end = i + 1 + 1; size = y.size; late = omega arith; next = next_free r.free; built = (b.0, b.1, b.2, shown_free r.free) }
 
-  put3 : {q : Phrase} {h : Context} {c : Scopes} {d s i n : ℕ} → Room us top way i n → (w w' w'' : Word) →
+  pub put3 : {q : Phrase} {h : Context} {c : Scopes} {d s i n : ℕ} → Room us top way i n → (w w' w'' : Word) →
       ((all : List Lexeme) → Front us all → Is all i w → Is all (i + 1) w' → Is all (i + 1 + 1) w'' → length us ≤ i → Built all top q h c d s (i + 1 + 1 + 1)) → Grown us top way q h c d s
   put3 z w w' w'' k = grown3 z.here w w' w'' (λ all q. next_free z.free) (λ all f q q' q'' le. let b = k all f q q' q'' le in (b.0, b.1, b.2, shown_free z.free))
 
+  -- any number of tokens
+  pub grown : {x : Trees → Type 0} {q : Phrase} {h : Context} {c : Scopes} {d s i : ℕ} → i ≡ length us → (w : Word) (ws : List Word) → ((all : List Lexeme) → Front us all → Is all (length us) w → Next all (length us) way) →
+      ((all : List Lexeme) → Front us all → Stand all i (w ∷ ws) → length us ≤ i → Shows all top x q h c d s (past i (w ∷ ws))) → GrownBy us top way x q h c d s
+  grown {i = i} e w ws n k =
+      let y = longer_by (w ∷ ws) us i e in
+      let m = past_more ws (i + 1) in
+      record { all = y.all; front = y.front; end = past i (w ∷ ws); size = y.size; late = omega arith; next = n y.all y.front (subst (λ j. Is y.all j w) e y.words.0); built = k y.all y.front y.words (omega arith) }
+
+  pub puts : {at : Place → Bool} {q : Phrase} {h : Context} {c : Scopes} {d s i n : ℕ} → Room us top way i n → (w : Word) (ws : List Word) →
+      ((all : List Lexeme) → Front us all → Stand all i (w ∷ ws) → length us ≤ i → Built all top q h c d s (past i (w ∷ ws))) → GrownIn us top way at q h c d s
+  puts z w ws k = grown z.here w ws (λ all f q. next_free z.free) (λ all f q le. let b = k all f q le in (b.0, b.1, b.2, seen (shown_free z.free)))
+
   -- some tokens, or none, behind a phrase that is grown
 
-  more0 : {q q' : Phrase} {h h' : Context} {c c' : Scopes} {d d' s s' : ℕ} → Grown us top way q h c d s →
-      ((all : List Lexeme) (f : Front us all) (t : Trees) (e : Scopes) (j : ℕ) → length us < j → Spells all top q h c e d t s j → Shown (length us) t way → Shows all top way (length us) q' h' c' d' s' j) → Grown us top way q' h' c' d' s'
+  pub more0 : {x y : Trees → Type 0} {q q' : Phrase} {h h' : Context} {c c' : Scopes} {d d' s s' : ℕ} → GrownBy us top way x q h c d s →
+      ((all : List Lexeme) (f : Front us all) (t : Trees) (e : Scopes) (j : ℕ) → length us < j → Spells all top q h c e d t s j → x t → Shows all top y q' h' c' d' s' j) → GrownBy us top way y q' h' c' d' s'
   more0 g k = record { all = g.all; front = g.front; end = g.end; size = g.size; late = g.late; next = g.next; built = k g.all g.front g.built.0 g.built.1 g.end g.late g.built.2 g.built.3 }
 
-  more1 : {q q' : Phrase} {h h' : Context} {c c' : Scopes} {d d' s s' : ℕ} → Grown us top way q h c d s → (w : Word) →
-      ((all : List Lexeme) (f : Front us all) (t : Trees) (e : Scopes) (j : ℕ) → length us < j → Spells all top q h c e d t s j → Is all j w → Shown (length us) t way → Shows all top way (length us) q' h' c' d' s' (j + 1)) →
-      Grown us top way q' h' c' d' s'
+  pub more1 : {x y : Trees → Type 0} {q q' : Phrase} {h h' : Context} {c c' : Scopes} {d d' s s' : ℕ} → GrownBy us top way x q h c d s → (w : Word) →
+      ((all : List Lexeme) (f : Front us all) (t : Trees) (e : Scopes) (j : ℕ) → length us < j → Spells all top q h c e d t s j → Is all j w → x t → Shows all top y q' h' c' d' s' (j + 1)) →
+      GrownBy us top way y q' h' c' d' s'
   more1 g w k =
       let le = g.late in
       let x = longer g.all g.end g.size w in
@@ -152,9 +190,9 @@ module _ (us : List Lexeme) (top : Limit) (way : Way) (late : (g : Manner) (i d 
         built = k x.all (front_then g.front x.front) g.built.0 g.built.1 g.end g.late (weaken x.front g.built.2) x.word g.built.3;
       }
 
-  more2 : {q q' : Phrase} {h h' : Context} {c c' : Scopes} {d d' s s' : ℕ} → Grown us top way q h c d s → (w w' : Word) →
-      ((all : List Lexeme) (f : Front us all) (t : Trees) (e : Scopes) (j : ℕ) → length us < j → Spells all top q h c e d t s j → Is all j w → Is all (j + 1) w' → Shown (length us) t way →
-      Shows all top way (length us) q' h' c' d' s' (j + 1 + 1)) → Grown us top way q' h' c' d' s'
+  pub more2 : {x y : Trees → Type 0} {q q' : Phrase} {h h' : Context} {c c' : Scopes} {d d' s s' : ℕ} → GrownBy us top way x q h c d s → (w w' : Word) →
+      ((all : List Lexeme) (f : Front us all) (t : Trees) (e : Scopes) (j : ℕ) → length us < j → Spells all top q h c e d t s j → Is all j w → Is all (j + 1) w' → x t →
+      Shows all top y q' h' c' d' s' (j + 1 + 1)) → GrownBy us top way y q' h' c' d' s'
   more2 g w w' k =
       let le = g.late in
       let x = longer g.all g.end g.size w in
@@ -170,9 +208,26 @@ module _ (us : List Lexeme) (top : Limit) (way : Way) (late : (g : Manner) (i d 
         built = k y.all f g.built.0 g.built.1 g.end g.late (weaken (front_then x.front y.front) g.built.2) (y.front.words _ _ x.word) y.word g.built.3;
       }
 
-  more4 : {q q' : Phrase} {h h' : Context} {c c' : Scopes} {d d' s s' : ℕ} → Grown us top way q h c d s → (w1 w2 w3 w4 : Word) →
+  pub mores : {x y : Trees → Type 0} {q q' : Phrase} {h h' : Context} {c c' : Scopes} {d d' s s' : ℕ} → GrownBy us top way x q h c d s → (ws : List Word) →
+      ((all : List Lexeme) (f : Front us all) (t : Trees) (e : Scopes) (j : ℕ) → length us < j → Spells all top q h c e d t s j → Stand all j ws → x t → Shows all top y q' h' c' d' s' (past j ws)) →
+      GrownBy us top way y q' h' c' d' s'
+  mores g ws k =
+      let le = g.late in
+      let y = longer_by ws g.all g.end g.size in
+      let m = past_more ws g.end in
+      record {
+        all = y.all;
+        front = front_then g.front y.front;
+        end = past g.end ws;
+        size = y.size;
+        late = omega arith;
+        next = next_more y.front g.next;
+        built = k y.all (front_then g.front y.front) g.built.0 g.built.1 g.end g.late (weaken y.front g.built.2) y.words g.built.3;
+      }
+
+  pub more4 : {x y : Trees → Type 0} {q q' : Phrase} {h h' : Context} {c c' : Scopes} {d d' s s' : ℕ} → GrownBy us top way x q h c d s → (w1 w2 w3 w4 : Word) →
       ((all : List Lexeme) (f : Front us all) (t : Trees) (e : Scopes) (j : ℕ) → length us < j → Spells all top q h c e d t s j → Is all j w1 → Is all (j + 1) w2 → Is all (j + 1 + 1) w3 → Is all (j + 1 + 1 + 1) w4 →
-      Shown (length us) t way → Shows all top way (length us) q' h' c' d' s' (j + 1 + 1 + 1 + 1)) → Grown us top way q' h' c' d' s'
+      x t → Shows all top y q' h' c' d' s' (j + 1 + 1 + 1 + 1)) → GrownBy us top way y q' h' c' d' s'
   more4 g w1 w2 w3 w4 k =
       let le = g.late in
       let x1 = longer g.all g.end g.size w1 in
@@ -206,14 +261,14 @@ module _ (us : List Lexeme) (top : Limit) (way : Way) (late : (g : Manner) (i d 
     number_cast : (h : Context) → Spells all top (a part.Cast) h c c d number i (i + 1)
     number_cast h = spells.of_chain grammar.cast_unary refl (number_unary _)
 
-    number_conditional : (h : Context) → Spells all top (a part.Conditional) h c c d number i (i + 1)
+    pub number_conditional : (h : Context) → Spells all top (a part.Conditional) h c c d number i (i + 1)
     number_conditional h = spells.of_chain grammar.conditional_binary refl (spells.of_chain grammar.binary_14 refl (spells.of_chain grammar.binary_13 refl (spells.of_chain grammar.binary_12 refl (spells.of_chain grammar.binary_11 refl (spells.of_chain grammar.binary_10 refl
         (spells.of_chain grammar.binary_9 refl (spells.of_chain grammar.binary_8 refl (spells.of_chain grammar.binary_7 refl (spells.of_chain grammar.binary_6 refl (spells.of_chain grammar.binary_5 refl (number_cast _)))))))))))
 
-    number_assignment : (h : Context) → Spells all top (a part.Assignment) h c c d number i (i + 1)
+    pub number_assignment : (h : Context) → Spells all top (a part.Assignment) h c c d number i (i + 1)
     number_assignment h = spells.of_chain grammar.assignment_conditional refl (number_conditional _)
 
-    number_expression : (h : Context) → Spells all top (a part.Expression) h c c d number i (i + 1)
+    pub number_expression : (h : Context) → Spells all top (a part.Expression) h c c d number i (i + 1)
     number_expression h = spells.of_chain grammar.expression_assignment refl (number_assignment _)
 
   -- a constant in brackets as an operand of a cast
@@ -265,6 +320,24 @@ module _ (us : List Lexeme) (top : Limit) (way : Way) (late : (g : Manner) (i d 
     pub is_size : IsSize all top d c i trees after end
     pub shown : Shown (length us) trees way
 
+  -- declarators of a declaration with their initializers, and its end, with the trees x before them
+  abbrev pub IsDeclarationBegin : List Lexeme → ℕ → Scopes → ℕ → Trees → Context → Scopes → ℕ → Type 0
+  IsDeclarationBegin all d c0 s x h c i = (h0 : Context) (u : Trees) (f : Scopes) (k : ℕ) → Spells all top (rest (list part.InitDeclarator ∷ token word.Semicolon ∷ [])) h c f d u i k →
+      Spells all top (a part.Declaration) h0 c0 f d (one kind.Declaration s k (x & u)) s k
+
+  abbrev pub U : Part → ℕ → Scopes → ℕ → Type 0
+  U p d c s = (h : Context) → GrownIn us top way every (a p) h c d s
+
+  -- an initializer, or a list of them
+  abbrev pub Lists : Phrase → ℕ → Scopes → ℕ → Type 0
+  Lists q d c s = (h : Context) → GrownBy us top way (λ t. Started (length us) t way) q h c d s
+
+  abbrev pub Stated : Labels → ℕ → Scopes → ℕ → Type 0
+  Stated l d c s = (h : Context) → GrownIn us top way (placed l) (a part.Statement) h c d s
+
+  abbrev pub BegunOn : Symbol → ℕ → ℕ → ℕ → Type 0
+  BegunOn x d s i = (all : List Lexeme) → Front us all → Begun all top x d s i
+
   abbrev pub Via : Goal → Scopes → ℕ → Type 0
   Via (whole p d) c i = Unit {0}
   Via (expression d) c i = G part.Expression d c i
@@ -301,19 +374,49 @@ module _ (us : List Lexeme) (top : Limit) (way : Way) (late : (g : Manner) (i d 
   Via (parameters d) c i = G part.Parameters d c i
   Via (more_parameters d s x) c i = (c0 : Scopes) → IsParameterRow us top d c0 s x c i → G part.Parameters d c0 s
   Via (parameter d) c i = G part.Parameter d c i
-  Via g c i = Unit {0}
+  Via (unit l d) c i = (h : Context) → GrownIn us top way every (rest unit_side) h c d i
+  Via (externals l d x) c i = (h : Context) → GrownIn us top way every (rest (many part.External ∷ [])) h c d i
+  Via (external l d) c i = U part.External d c i
+  Via (declaration d) c i = U part.Declaration d c i
+  Via (init_declarators h d s x) c i = (c0 : Scopes) → ((all : List Lexeme) → Front us all → IsDeclarationBegin all d c0 s x h c i) → U part.Declaration d c0 s
+  Via (initialized d q x) c i = (h : Context) (c0 e0 : Scopes) → IsOpen e0 → c ≡ enter (declared_name us (past_part h x)) (around e0) →
+      Spells us top (a part.Declarator) h c0 e0 d x q i → GrownIn us top way every (a part.InitDeclarator) h c0 d q
+  Via (initializer d) c i = Lists (a part.Initializer) d c i
+  Via (initializers d s x) c i = Lists (rest (inner_list part.Initializer ∷ symbol.TrailingComma ∷ [])) d c i
+  Via (statement l d) c i = Stated l d c i
+  Via (block l d) c i = Stated l d ([] ∷ c) i
+  Via (if_rest l d s) c i = BegunOn (token word.If) d s i → Stated l d c s
+  Via (switch_rest l d s) c i = BegunOn (token word.Switch) d s i → Stated l d c s
+  Via (while_rest l d s) c i = BegunOn (token word.While) d s i → Stated l d c s
+  Via (do_rest l d s) c i = BegunOn (grammar.opening word.Do) d s i → Stated l d c s
+  Via (for_rest l d s) c i = BegunOn (token word.For) d s i → Stated l d c s
+  Via (return_rest d s) c i = BehindOn (token word.Return) d s c i → U part.Statement d c s
+  Via (for_clauses l d s x) c i = 0 < length c → (h : Context) → GrownIn us top way (placed (program.inside l)) (rest after_init) h c d i
+  Via (clause d) c i = (d' : ℕ) → d ≡ d' + 1 → (h : Context) → GrownIn us top way every (rest (symbol.Clause ∷ [])) h c d' i
+  Via (compound l d) c i = (h : Context) → GrownIn us top way (blocked l) (a part.Compound) h c d i
+  Via (items l d s x) c i = 0 < length c → (h : Context) → GrownIn us top way (placed l) (rest (grammar.inner_many part.BlockItem ∷ closing word.RightBrace ∷ symbol.Ends ∷ [])) h c d i
+  Via (item l d) c i = (h : Context) → GrownIn us top way (placed l) (a part.BlockItem) h c d i
 
   abbrev pub Stops : ℕ → ℕ → Type 0
   Stops i d = Room us top way i d
 
+  -- a label stands before the place that is refused there
+  abbrev pub BarsBy : Bool → (Word → Bool) → ℕ → ℕ → ℕ → Type 0
+  BarsBy true f n i d = Labelled us top way f n i d
+  BarsBy false f n i d = Barred us top way (m.has f) n i d
+
   abbrev pub Bars : Test → ℕ → ℕ → ℕ → Type 0
+  Bars (m.has f) n i d = BarsBy (n == 6) f n i d
   Bars x n i d = Barred us top way x n i d
+
+  abbrev pub Refuses : ℕ → ℕ → Type 0
+  Refuses i n = Defined us top way n i
 
   abbrev pub Crowds : ℕ → Type 0
   Crowds i = (d : ℕ) → Room us top way i d
 
   abbrev pub Owes : Prog → Type 0 → Scopes → ℕ → Type 0
-  Owes = Fails us top Kept (Means us top) Via Stops Bars Crowds
+  Owes = Fails us top Kept (Means us top) Via Stops Bars Refuses Crowds
 
   pub start_via : (p : Part) (d : ℕ) (c : Scopes) (i : ℕ) → Via (start_goal p d) c i → G (start_part p) d c i
   start_via part.Expression d c i v = v
@@ -412,13 +515,13 @@ module _ (us : List Lexeme) (top : Limit) (way : Way) (late : (g : Manner) (i d 
   some_cast : (c : Scopes) (d i : ℕ) → Room us top way i d → G part.Cast d c i
   some_cast c d i z h = put1 z word.Integer (λ all f q le. (_, _, number_cast all c d i q (z.fits plain d (omega arith)) h))
 
-  some_conditional : (c : Scopes) (d i : ℕ) → Room us top way i d → G part.Conditional d c i
+  pub some_conditional : (c : Scopes) (d i : ℕ) → Room us top way i d → G part.Conditional d c i
   some_conditional c d i z h = put1 z word.Integer (λ all f q le. (_, _, number_conditional all c d i q (z.fits plain d (omega arith)) h))
 
-  some_assignment : (c : Scopes) (d i : ℕ) → Room us top way i d → G part.Assignment d c i
+  pub some_assignment : (c : Scopes) (d i : ℕ) → Room us top way i d → G part.Assignment d c i
   some_assignment c d i z h = put1 z word.Integer (λ all f q le. (_, _, number_assignment all c d i q (z.fits plain d (omega arith)) h))
 
-  some_expression : (c : Scopes) (d i : ℕ) → Room us top way i d → G part.Expression d c i
+  pub some_expression : (c : Scopes) (d i : ℕ) → Room us top way i d → G part.Expression d c i
   some_expression c d i z h = put1 z word.Integer (λ all f q le. (_, _, number_expression all c d i q (z.fits plain d (omega arith)) h))
 
   some_measured : (c : Scopes) (d s i : ℕ) → Room us top way i (d + 1) → BehindOn (grammar.opening word.Sizeof) d s c i → G part.Unary d c s
@@ -440,7 +543,7 @@ module _ (us : List Lexeme) (top : Limit) (way : Way) (late : (g : Manner) (i d 
     spells.list_last (number_assignment all c (d + 1) i q (z.fits plain (d + 1) (omega arith)) _) (spells.token q' (late plain (i + 1) (d + 1) (omega arith)) spells.done),
   ))
 
-  some_row : (h : Context) (c : Scopes) (d i : ℕ) → Room us top way i d → Grown us top way (a part.PlainSpecifiers) h c d i
+  pub some_row : (h : Context) (c : Scopes) (d i : ℕ) → Room us top way i d → Grown us top way (a part.PlainSpecifiers) h c d i
   some_row h c d i z = put1 z word.Int (λ all f q le. (_, _, spells.of_chain grammar.plain_one refl (spells.of_alternative grammar.type_int refl (spells.token q (z.fits plain d (omega arith)) spells.done))))
 
   some_type_name : (c : Scopes) (d i : ℕ) → Room us top way i d → G part.TypeName d c i
@@ -472,7 +575,7 @@ module _ (us : List Lexeme) (top : Limit) (way : Way) (late : (g : Manner) (i d 
   some_enumerators c d i z h = more1 (some_enumerator c (d + 1) i z _) word.RightBrace (λ all f t e j le x q1 shown. (_, _, spells.list_last x (spells.comma_none q1 (late plain j (d + 1) le) spells.done), shown))
 
   -- a declarator with a name or without one
-  one_from : (w : Wanted) (h : Context) (c : Scopes) (d i : ℕ) → Room us top way i d → OneDeclared w h c d i
+  pub one_from : (w : Wanted) (h : Context) (c : Scopes) (d i : ℕ) → Room us top way i d → OneDeclared w h c d i
   one_from named h c d i z = one_named refl (put3 z word.LeftParen word.Identifier word.RightParen (λ all f q q' q'' le. bracketed all h c d i q q' q'' (z.fits opens d (omega arith)) le))
   one_from either h c d i z = one_named refl (put3 z word.LeftParen word.Identifier word.RightParen (λ all f q q' q'' le. bracketed all h c d i q q' q'' (z.fits opens d (omega arith)) le))
   one_from unnamed h c d i z = one_unnamed refl (λ h'. put1 z word.Star (λ all f q le. (_, _, spells.of_alternative grammar.abstract_pointer refl (spells.opens q (z.fits opens d (omega arith)) (spells.qualified_none const_none)))))
@@ -504,13 +607,13 @@ module _ (us : List Lexeme) (top : Limit) (way : Way) (late : (g : Manner) (i d 
 
   -- Expressions.
 
-  owes_expression : (d : ℕ) (c : Scopes) (i : ℕ) → Owes (body (expression d)) (Via (expression d) c i) c i
+  pub owes_expression : (d : ℕ) (c : Scopes) (i : ℕ) → Owes (body (expression d)) (Via (expression d) c i) c i
   owes_expression d c i = (
     λ v h. more0 (v _) (λ all f t e j le s shown. (_, _, spells.of_chain grammar.expression_assignment refl s, shown)),
     λ t e j _ _ x. (λ v. v c (λ h. spells.of_chain grammar.expression_assignment refl (x _)), λ t' e' j' _ _ _. tt),
   )
 
-  owes_commas : (d s : ℕ) (y : Trees) (c : Scopes) (i : ℕ) → Owes (body (commas d s y)) (Via (commas d s y) c i) c i
+  pub owes_commas : (d s : ℕ) (y : Trees) (c : Scopes) (i : ℕ) → Owes (body (commas d s y)) (Via (commas d s y) c i) c i
   owes_commas d s y c i = (
     tt,
     λ q w. (
@@ -520,11 +623,11 @@ module _ (us : List Lexeme) (top : Limit) (way : Way) (late : (g : Manner) (i d 
     tt,
   )
 
-  owes_assignment : (d : ℕ) (c : Scopes) (i : ℕ) → Owes (body (assignment d)) (Via (assignment d) c i) c i
+  pub owes_assignment : (d : ℕ) (c : Scopes) (i : ℕ) → Owes (body (assignment d)) (Via (assignment d) c i) c i
   owes_assignment d c i = (
     λ v h. more0 (v _) (λ all f t e j le s shown. (_, _, spells.of_chain grammar.assignment_conditional refl s, shown)),
     λ t e j _ _ x. (
-      λ u. words_fail us top Kept (Means us top) Via Stops Bars Crowds opens d (assigned d i t) (give t) (G part.Assignment d c i) e j Assigns assignment_rows
+      λ u. words_fail us top Kept (Means us top) Via Stops Bars Refuses Crowds opens d (assigned d i t) (give t) (G part.Assignment d c i) e j Assigns assignment_rows
           (λ k z. some_assignment e (d + 1) (j + 1) (z (d + 1)))
           (λ w k r q v. (
             λ y h. more0 (y _) (λ all f t' e' j' le s shown. (
@@ -539,7 +642,7 @@ module _ (us : List Lexeme) (top : Limit) (way : Way) (late : (g : Manner) (i d 
     ),
   )
 
-  owes_conditional : (d : ℕ) (c : Scopes) (i : ℕ) → Owes (body (conditional d)) (Via (conditional d) c i) c i
+  pub owes_conditional : (d : ℕ) (c : Scopes) (i : ℕ) → Owes (body (conditional d)) (Via (conditional d) c i) c i
   owes_conditional d c i = (
     λ v h. more0 (v refl _) (λ all f t e j le s shown. (_, _, spells.of_chain grammar.conditional_binary refl s, shown)),
     λ t e j _ _ x. (
@@ -576,14 +679,14 @@ module _ (us : List Lexeme) (top : Limit) (way : Way) (late : (g : Manner) (i d 
     ),
   )
 
-  owes_binary : (p : Part) (d : ℕ) (c : Scopes) (i : ℕ) → Owes (body (m.binary p d)) (Via (m.binary p d) c i) c i
+  pub owes_binary : (p : Part) (d : ℕ) (c : Scopes) (i : ℕ) → Owes (body (m.binary p d)) (Via (m.binary p d) c i) c i
   owes_binary p d c i = (
     λ v l h. more0 (tight_via p l d c i v fresh) (λ all f t e j le s shown. (_, _, level_chain p l s h, shown)),
     λ t e j _ _ x. (λ v l. v l c (level_up us top p d c i t e j l x), λ t' e' j' _ _ _. tt),
   )
 
-  owes_operands : (p : Part) (d s : ℕ) (y : Trees) (c : Scopes) (i : ℕ) → Owes (body (operands p d s y)) (Via (operands p d s y) c i) c i
-  owes_operands p d s y c i = words_fail us top Kept (Means us top) Via Stops Bars Crowds plain d (operated p d s y) (give y) (Via (operands p d s y) c i) c i (Joins p) (join_rows p) (λ k. tt)
+  pub owes_operands : (p : Part) (d s : ℕ) (y : Trees) (c : Scopes) (i : ℕ) → Owes (body (operands p d s y)) (Via (operands p d s y) c i) c i
+  owes_operands p d s y c i = words_fail us top Kept (Means us top) Via Stops Bars Refuses Crowds plain d (operated p d s y) (give y) (Via (operands p d s y) c i) c i (Joins p) (join_rows p) (λ k. tt)
       (λ w k r q v. (
         λ z l c0 x h. more0 (tight_via p l d c (i + 1) z fresh) (λ all f t e j le u shown. (
           _,
@@ -594,11 +697,11 @@ module _ (us : List Lexeme) (top : Limit) (way : Way) (late : (g : Manner) (i d 
         λ t e j _ _ x. (λ z l c0 g. z l c0 (r us top d c0 c e s i j y t g q v (tight_means p l d c (i + 1) t e j x)), λ t' e' j' _ _ _. tt),
       )) tt
 
-  owes_cast : (d : ℕ) (c : Scopes) (i : ℕ) → Owes (body (cast d)) (Via (cast d) c i) c i
+  pub owes_cast : (d : ℕ) (c : Scopes) (i : ℕ) → Owes (body (cast d)) (Via (cast d) c i) c i
   owes_cast d c i = (
     λ z. some_type_name c (d + 1) (i + 1) (z (d + 1)),
     λ q w. (
-      (
+      λ _. (
         λ v h. more2 (v _) word.RightParen word.Integer (λ all f t e j le s q1 q2 shown. (
           _,
           _,
@@ -643,11 +746,11 @@ module _ (us : List Lexeme) (top : Limit) (way : Way) (late : (g : Manner) (i d 
     (λ v h. more0 (v _) (λ all f t e j le s shown. (_, _, spells.of_chain grammar.cast_unary refl s, shown)), λ t e j _ _ _. tt),
   )
 
-  owes_unary : (d : ℕ) (c : Scopes) (i : ℕ) → Owes (body (unary d)) (Via (unary d) c i) c i
-  owes_unary d c i = words_fail us top Kept (Means us top) Via Stops Bars Crowds opens d (prefixed (unary (d + 1)) i) (choose opens cast_prefixes d (prefixed (cast (d + 1)) i) (sized d i)) (Via (unary d) c i) c i (Prefixes part.Unary) unary_rows
+  pub owes_unary : (d : ℕ) (c : Scopes) (i : ℕ) → Owes (body (unary d)) (Via (unary d) c i) c i
+  owes_unary d c i = words_fail us top Kept (Means us top) Via Stops Bars Refuses Crowds opens d (prefixed (unary (d + 1)) i) (choose opens cast_prefixes d (prefixed (cast (d + 1)) i) (sized d i)) (Via (unary d) c i) c i (Prefixes part.Unary) unary_rows
       (λ k z. some_unary c (d + 1) (i + 1) (z (d + 1)))
       (λ w k r q v. (λ y h. more0 (y _) (λ all f t e j le s shown. (_, _, spells.of_alternative r.0 (r.1 _) (spells.opens (f.words _ _ q) v (spells.part s spells.done)), first shown _)), λ t e j _ _ _. tt))
-      (words_fail us top Kept (Means us top) Via Stops Bars Crowds opens d (prefixed (cast (d + 1)) i) (sized d i) (Via (unary d) c i) c i (Prefixes part.Cast) cast_rows
+      (words_fail us top Kept (Means us top) Via Stops Bars Refuses Crowds opens d (prefixed (cast (d + 1)) i) (sized d i) (Via (unary d) c i) c i (Prefixes part.Cast) cast_rows
       (λ k z. some_cast c (d + 1) (i + 1) (z (d + 1)))
       (λ w k r q v. (λ y h. more0 (y _) (λ all f t e j le s shown. (_, _, spells.of_alternative r.0 (r.1 _) (spells.opens (f.words _ _ q) v (spells.part s spells.done)), first shown _)), λ t e j _ _ _. tt)) (
         λ z. some_measured c d i (i + 1) (z (d + 1)),
@@ -655,11 +758,11 @@ module _ (us : List Lexeme) (top : Limit) (way : Way) (late : (g : Manner) (i d 
         (λ v h. more0 (v _) (λ all f t e j le s shown. (_, _, spells.of_chain grammar.unary_postfix refl s, shown)), λ t e j _ _ _. tt),
       ))
 
-  owes_measured : (d s : ℕ) (c : Scopes) (i : ℕ) → Owes (body (measured d s)) (Via (measured d s) c i) c i
+  pub owes_measured : (d s : ℕ) (c : Scopes) (i : ℕ) → Owes (body (measured d s)) (Via (measured d s) c i) c i
   owes_measured d s c i = (
     λ z. some_type_name c (d + 1 + 1) (i + 1) (z (d + 1 + 1)),
     λ q w. (
-      (
+      λ _. (
         λ v b h. more1 (v _) word.RightParen (λ all f t e j le x q1 shown. (
           _,
           _,
@@ -690,11 +793,11 @@ module _ (us : List Lexeme) (top : Limit) (way : Way) (late : (g : Manner) (i d 
     (λ v b h. more0 (v _) (λ all f t e j le x shown. (_, _, spells.of_alternative grammar.sizeof_expression refl (b all f _ _ _ _ _ (spells.part x spells.done)), first shown _)), λ t e j _ _ _. tt),
   )
 
-  owes_postfix : (d : ℕ) (c : Scopes) (i : ℕ) → Owes (body (postfix d)) (Via (postfix d) c i) c i
+  pub owes_postfix : (d : ℕ) (c : Scopes) (i : ℕ) → Owes (body (postfix d)) (Via (postfix d) c i) c i
   owes_postfix d c i = (
     tt,
     λ q w. (λ v. v (λ all f r h e t j z. spells.ordinary (weaken_name c i f q) w z), λ t e j _ _ _. tt),
-    words_fail us top Kept (Means us top) Via Stops Bars Crowds plain d (suffixed d i none) (other_primary d i) (Via (postfix d) c i) c i IsConstant constant_rows (λ k. tt)
+    words_fail us top Kept (Means us top) Via Stops Bars Refuses Crowds plain d (suffixed d i none) (other_primary d i) (Via (postfix d) c i) c i IsConstant constant_rows (λ k. tt)
         (λ w k r q v. (λ y. y c (λ h. spells.of_chain grammar.postfix_primary refl (spells.of_alternative r.0 (r.1 _) (spells.token q v spells.done))), λ t e j _ _ _. tt)) (
           tt,
           λ q w. (
@@ -713,7 +816,7 @@ module _ (us : List Lexeme) (top : Limit) (way : Way) (late : (g : Manner) (i d 
         ),
   )
 
-  owes_called : (d s : ℕ) (c : Scopes) (i : ℕ) → Owes (body (called d s)) (Via (called d s) c i) c i
+  pub owes_called : (d s : ℕ) (c : Scopes) (i : ℕ) → Owes (body (called d s)) (Via (called d s) c i) c i
   owes_called d s c i = (
     λ z. some_arguments c d (i + 1) (z (d + 1)),
     λ q w. (
@@ -731,7 +834,7 @@ module _ (us : List Lexeme) (top : Limit) (way : Way) (late : (g : Manner) (i d 
     (λ v b. v c (λ h. spells.of_chain grammar.postfix_primary refl (spells.of_alternative grammar.identifier refl (b us (front_itself us) _ _ _ _ _ spells.done))), λ t e j _ _ _. tt),
   )
 
-  owes_grouped : (d s : ℕ) (c : Scopes) (i : ℕ) → Owes (body (grouped d s)) (Via (grouped d s) c i) c i
+  pub owes_grouped : (d s : ℕ) (c : Scopes) (i : ℕ) → Owes (body (grouped d s)) (Via (grouped d s) c i) c i
   owes_grouped d s c i = (
     λ v b h. more1 (v _) word.RightParen (λ all f t e j le x q1 shown. (
       _,
@@ -750,7 +853,7 @@ module _ (us : List Lexeme) (top : Limit) (way : Way) (late : (g : Manner) (i d 
     ),
   )
 
-  owes_arguments : (d : ℕ) (y : Trees) (c : Scopes) (i : ℕ) → Owes (body (arguments d y)) (Via (arguments d y) c i) c i
+  pub owes_arguments : (d : ℕ) (y : Trees) (c : Scopes) (i : ℕ) → Owes (body (arguments d y)) (Via (arguments d y) c i) c i
   owes_arguments d y c i = (
     λ v h. more1 (v _) word.RightParen (λ all f t e j le x q1 shown. (_, _, spells.list_last x (spells.token q1 (late plain j (d + 1) le) spells.done), shown)),
     λ t e j _ _ x. (
@@ -760,7 +863,7 @@ module _ (us : List Lexeme) (top : Limit) (way : Way) (late : (g : Manner) (i d 
     ),
   )
 
-  owes_suffixes : (d s : ℕ) (y : Trees) (c : Scopes) (i : ℕ) → Owes (body (suffixes d s y)) (Via (suffixes d s y) c i) c i
+  pub owes_suffixes : (d s : ℕ) (y : Trees) (c : Scopes) (i : ℕ) → Owes (body (suffixes d s y)) (Via (suffixes d s y) c i) c i
   owes_suffixes d s y c i = (
     λ z. some_expression c (d + 1) (i + 1) (z (d + 1)),
     λ q w. (
@@ -794,7 +897,7 @@ module _ (us : List Lexeme) (top : Limit) (way : Way) (late : (g : Manner) (i d 
           λ q' w'. (λ v c0 z. v c0 (λ h. spells.of_alternative grammar.pointer_member refl (spells.part (z _) (spells.token q w (spells.token q' w' spells.done)))), λ t e j _ _ _. tt),
           λ z c0 g h. put1 z word.Identifier (λ all f q1 le. (_, _, spells.of_alternative grammar.pointer_member refl (spells.part (weaken f (g _)) (spells.token (f.words _ _ q) w (spells.token q1 (z.fits plain d (omega arith)) spells.done))))),
         ),
-        words_fail us top Kept (Means us top) Via Stops Bars Crowds plain d (suffixed d s (y & none)) (suffixes_end d y) (Via (suffixes d s y) c i) c i Follows postfix_rows (λ k. tt)
+        words_fail us top Kept (Means us top) Via Stops Bars Refuses Crowds plain d (suffixed d s (y & none)) (suffixes_end d y) (Via (suffixes d s y) c i) c i Follows postfix_rows (λ k. tt)
             (λ w k r q v. (λ z c0 g. z c0 (λ h. spells.of_alternative r.0 (r.1 _) (spells.part (g _) (spells.token q v spells.done))), λ t e j _ _ _. tt))
             (λ u. tt, λ u. (λ z c0 g h. subscripted u z g h, tt)),
       ),
@@ -817,15 +920,15 @@ module _ (us : List Lexeme) (top : Limit) (way : Way) (late : (g : Manner) (i d 
   one_abstract (one_named y g) = none_true y
   one_abstract (one_unnamed y g) = g
 
-  one_declarator : {h : Context} {c : Scopes} {d i : ℕ} → OneDeclared named h c d i → Grown us top way (a part.Declarator) h c d i
+  pub one_declarator : {h : Context} {c : Scopes} {d i : ℕ} → OneDeclared named h c d i → Grown us top way (a part.Declarator) h c d i
   one_declarator (one_named y g) = g
   one_declarator (one_unnamed y g) = none_true y
 
-  owes_type_name : (d : ℕ) (c : Scopes) (i : ℕ) → Owes (body (type_name d)) (Via (type_name d) c i) c i
+  pub owes_type_name : (d : ℕ) (c : Scopes) (i : ℕ) → Owes (body (type_name d)) (Via (type_name d) c i) c i
   owes_type_name d c i = (
     λ v h. more0 v (λ all f t e j le s shown. (_, _, spells.of_chain grammar.type_name_plain refl s, shown)),
     λ t e j _ _ x. (
-      (λ v h. more0 (one_abstract v _) (λ all f t' e' j' le s shown. (_, _, spells.of_alternative grammar.type_name refl (spells.part (weaken f x) (spells.part s spells.done)), second t shown _)), λ t' e' j' _ _ _. tt),
+      λ _. (λ v h. more0 (one_abstract v _) (λ all f t' e' j' le s shown. (_, _, spells.of_alternative grammar.type_name refl (spells.part (weaken f x) (spells.part s spells.done)), second t shown _)), λ t' e' j' _ _ _. tt),
       tt,
     ),
   )
@@ -836,15 +939,15 @@ module _ (us : List Lexeme) (top : Limit) (way : Way) (late : (g : Manner) (i d 
   row_more p y {all = all} {h0 = h0} {c0 = c0} {f = f} {d = d} {s = s} {k = k} {t = t} {u = u} b x z =
       subst (λ v. Spells all top (rest (many (element_part p) ∷ [])) h0 c0 f d v s k) (sym (pushed y t u)) (b _ _ _ (spells.many_more x z))
 
-  owes_row : (p : Part) (h : Context) (d : ℕ) (c : Scopes) (i : ℕ) → Owes (body (row p h d)) (Via (row p h d) c i) c i
+  pub owes_row : (p : Part) (h : Context) (d : ℕ) (c : Scopes) (i : ℕ) → Owes (body (row p h d)) (Via (row p h d) c i) c i
   owes_row p h d c i = (
     λ v. more0 v (λ all f t e j le s shown. (_, _, row_alone all top p s, shown)),
     λ t e j _ _ x. (λ v. v h c (part_some x none) (λ all f u g k z. subst (λ y. Spells all top (rest (many (element_part p) ∷ [])) h c g d y i k) (sym (and_and t none u)) (spells.many_more (weaken f x) z)), λ t' e' j' _ _ _. tt),
   )
 
-  owes_more : (p : Part) (h : Context) (d s : ℕ) (y : Trees) (c : Scopes) (i : ℕ) → Owes (body (more p h d s y)) (Via (more p h d s y) c i) c i
+  pub owes_more : (p : Part) (h : Context) (d s : ℕ) (y : Trees) (c : Scopes) (i : ℕ) → Owes (body (more p h d s y)) (Via (more p h d s y) c i) c i
   owes_more p h d s y c i = (
-    (
+    λ _. (
       λ v h0 c0 n b. more0 v (λ all f t e j le x shown. (
         _,
         _,
@@ -857,8 +960,8 @@ module _ (us : List Lexeme) (top : Limit) (way : Way) (late : (g : Manner) (i d 
     tt,
   )
 
-  owes_element : (p : Part) (h : Context) (d : ℕ) (c : Scopes) (i : ℕ) → Owes (body (element p h d)) (Via (element p h d) c i) c i
-  owes_element p h d c i = words_fail us top Kept (Means us top) Via Stops Bars Crowds plain d (λ k. made k i none) (other_element h d i) (Via (element p h d) c i) c i (Specifies us top p) (specifier_rows us top p) (λ k. tt) (λ w k r q v. tt) (
+  pub owes_element : (p : Part) (h : Context) (d : ℕ) (c : Scopes) (i : ℕ) → Owes (body (element p h d)) (Via (element p h d) c i) c i
+  owes_element p h d c i = words_fail us top Kept (Means us top) Via Stops Bars Refuses Crowds plain d (λ k. made k i none) (other_element h d i) (Via (element p h d) c i) c i (Specifies us top p) (specifier_rows us top p) (λ k. tt) (λ w k r q v. tt) (
     tt,
     λ q w. (λ v. more0 (v (λ all f r h e t j z. spells.token (f.words _ _ q) w z) h) (λ all f t e j le s shown. (_, _, plain_up all top p s, shown)), λ t e j _ _ _. tt),
     (
@@ -868,7 +971,7 @@ module _ (us : List Lexeme) (top : Limit) (way : Way) (late : (g : Manner) (i d 
     ),
   )
 
-  owes_structure : (d s : ℕ) (c : Scopes) (i : ℕ) → Owes (body (structure d s)) (Via (structure d s) c i) c i
+  pub owes_structure : (d s : ℕ) (c : Scopes) (i : ℕ) → Owes (body (structure d s)) (Via (structure d s) c i) c i
   owes_structure d s c i = (
     tt,
     λ q w. (
@@ -886,13 +989,13 @@ module _ (us : List Lexeme) (top : Limit) (way : Way) (late : (g : Manner) (i d 
     ),
   )
 
-  owes_members : (d s : ℕ) (y : Trees) (c : Scopes) (i : ℕ) → Owes (body (members d s y)) (Via (members d s y) c i) c i
+  pub owes_members : (d s : ℕ) (y : Trees) (c : Scopes) (i : ℕ) → Owes (body (members d s y)) (Via (members d s y) c i) c i
   owes_members d s y c i = (
     λ v h. more1 (v _) word.RightBrace (λ all f t e j le x q1 shown. (_, _, spells.part x (spells.many_none (spells.token q1 (late plain j (d + 1) le) spells.done)), left shown _)),
     λ t e j _ _ x. (tt, λ q w. tt, (λ v h. more0 (v _) (λ all f t' e' j' le z shown. (_, _, spells.part (weaken f (x _)) (many_of z), right t shown)), λ t' e' j' _ _ _. tt)),
   )
 
-  owes_member : (d : ℕ) (c : Scopes) (i : ℕ) → Owes (body (member d)) (Via (member d) c i) c i
+  pub owes_member : (d : ℕ) (c : Scopes) (i : ℕ) → Owes (body (member d)) (Via (member d) c i) c i
   owes_member d c i = (
     λ v h. with_member v,
     λ t e j _ _ x. (
@@ -902,7 +1005,7 @@ module _ (us : List Lexeme) (top : Limit) (way : Way) (late : (g : Manner) (i d 
     ),
   )
 
-  owes_member_declarators : (h : Context) (d s : ℕ) (y : Trees) (c : Scopes) (i : ℕ) → Owes (body (member_declarators h d s y)) (Via (member_declarators h d s y) c i) c i
+  pub owes_member_declarators : (h : Context) (d s : ℕ) (y : Trees) (c : Scopes) (i : ℕ) → Owes (body (member_declarators h d s y)) (Via (member_declarators h d s y) c i) c i
   owes_member_declarators h d s y c i = (
     λ v c0 n b h0. more1 (one_declarator v) word.Semicolon (λ all f t e j le x q1 shown. (_, _, b all f h0 _ _ _ (spells.list_last (as_member x) (spells.token q1 (late plain j d le) spells.done)), inside (right y shown))),
     λ t e j _ _ x. (
@@ -924,7 +1027,7 @@ module _ (us : List Lexeme) (top : Limit) (way : Way) (late : (g : Manner) (i d 
     ),
   )
 
-  owes_enumeration : (d s : ℕ) (c : Scopes) (i : ℕ) → Owes (body (enumeration d s)) (Via (enumeration d s) c i) c i
+  pub owes_enumeration : (d s : ℕ) (c : Scopes) (i : ℕ) → Owes (body (enumeration d s)) (Via (enumeration d s) c i) c i
   owes_enumeration d s c i = (
     tt,
     λ q w. (
@@ -942,7 +1045,7 @@ module _ (us : List Lexeme) (top : Limit) (way : Way) (late : (g : Manner) (i d 
     ),
   )
 
-  owes_enumerators : (d s : ℕ) (y : Trees) (c : Scopes) (i : ℕ) → Owes (body (enumerators d s y)) (Via (enumerators d s y) c i) c i
+  pub owes_enumerators : (d s : ℕ) (y : Trees) (c : Scopes) (i : ℕ) → Owes (body (enumerators d s y)) (Via (enumerators d s y) c i) c i
   owes_enumerators d s y c i = (
     λ v h. more1 (v _) word.RightBrace (λ all f t e j le x q1 shown. (_, _, spells.list_last x (spells.comma_none q1 (late plain j (d + 1) le) spells.done), shown)),
     λ t e j _ _ x. (
@@ -952,7 +1055,7 @@ module _ (us : List Lexeme) (top : Limit) (way : Way) (late : (g : Manner) (i d 
     ),
   )
 
-  owes_enumerator : (d : ℕ) (c : Scopes) (i : ℕ) → Owes (body (enumerator d)) (Via (enumerator d) c i) c i
+  pub owes_enumerator : (d : ℕ) (c : Scopes) (i : ℕ) → Owes (body (enumerator d)) (Via (enumerator d) c i) c i
   owes_enumerator d c i = (
     tt,
     λ q w. (
@@ -1013,15 +1116,15 @@ module _ (us : List Lexeme) (top : Limit) (way : Way) (late : (g : Manner) (i d 
   )))
 
   sized_grown : {q : Phrase} {h : Context} {c c' : Scopes} {d s i : ℕ} → OneSize c' d i →
-      ((all : List Lexeme) (f : Front us all) (t : Trees) (e : Scopes) (j : ℕ) → IsSize all top d c' i t e j → Shown (length us) t way → Shows all top way (length us) q h c d s j) → Grown us top way q h c d s
+      ((all : List Lexeme) (f : Front us all) (t : Trees) (e : Scopes) (j : ℕ) → IsSize all top d c' i t e j → Shown (length us) t way → Shows all top (λ t. Shown (length us) t way) q h c d s j) → Grown us top way q h c d s
   sized_grown g k = record { all = g.all; front = g.front; end = g.end; size = g.size; late = g.beyond; next = g.next; built = k g.all g.front g.trees g.after g.end g.is_size g.shown }
 
-  owes_declarator : (w : Wanted) (h : Context) (d : ℕ) (c : Scopes) (i : ℕ) → Owes (body (declarator w h d)) (Via (declarator w h d) c i) c i
+  pub owes_declarator : (w : Wanted) (h : Context) (d : ℕ) (c : Scopes) (i : ℕ) → Owes (body (declarator w h d)) (Via (declarator w h d) c i) c i
   owes_declarator w h d c i = (
     λ z. record { at = i + 1; consts = const_none; declared = λ w h. one_from w h c (d + 1) (i + 1) (z (d + 1)) },
     λ q v. (
       λ y. one_pointer w h d c i q v (refl, y.consts) (y.declared w (past_token h)),
-      λ t e j _ _ x. (λ o. ((λ y. one_pointer w h d c i q v x y, λ t' e' j' _ _ _. (λ y. tt, λ y. tt)), tt), λ o. (λ y. one_pointer w h d c i q v x y, λ t' e' j' _ _ _. (λ y. tt, λ y. tt))),
+      λ t e j _ _ x. (λ o. (λ _. (λ y. one_pointer w h d c i q v x y, λ t' e' j' _ _ _. (λ y. tt, λ y. tt)), tt), λ o. (λ y. one_pointer w h d c i q v x y, λ t' e' j' _ _ _. (λ y. tt, λ y. tt))),
     ),
     (
       λ z. one_from w (past_token h) c (d + 1) (i + 1) (z (d + 1)),
@@ -1083,7 +1186,7 @@ module _ (us : List Lexeme) (top : Limit) (way : Way) (late : (g : Manner) (i d 
   array_opened {all = all} {h = h} {c = c} {e = e} {d = d} {i = i} {j = j} {t = t} o q w x =
       subst (λ v. Spells all top (rest (grammar.opening word.LeftBracket ∷ symbol.Size ∷ closing word.RightBracket ∷ [])) h v (innermost_of c ∷ e) d t i j) (sym o) (spells.opens q w (array_size all top x _ (innermost_of c)))
 
-  owes_declarator_suffixes : (d s : ℕ) (y : Trees) (c : Scopes) (i : ℕ) → Owes (body (declarator_suffixes d s y)) (Via (declarator_suffixes d s y) c i) c i
+  pub owes_declarator_suffixes : (d s : ℕ) (y : Trees) (c : Scopes) (i : ℕ) → Owes (body (declarator_suffixes d s y)) (Via (declarator_suffixes d s y) c i) c i
   owes_declarator_suffixes d s y c i = (
     λ z. some_size (around c) d (i + 1) (z (d + 1)),
     λ q w. (
@@ -1123,7 +1226,7 @@ module _ (us : List Lexeme) (top : Limit) (way : Way) (late : (g : Manner) (i d 
       parameters_anywhere (spells.of_alternative x f s) h' = spells.of_alternative x f s
       parameters_anywhere (spells.of_chain x f s) h' = spells.of_chain x f s
 
-  owes_abstract_suffixes : (d s : ℕ) (y : Trees) (c : Scopes) (i : ℕ) → Owes (body (abstract_suffixes d s y)) (Via (abstract_suffixes d s y) c i) c i
+  pub owes_abstract_suffixes : (d s : ℕ) (y : Trees) (c : Scopes) (i : ℕ) → Owes (body (abstract_suffixes d s y)) (Via (abstract_suffixes d s y) c i) c i
   owes_abstract_suffixes d s y c i = (
     λ z. some_size c d (i + 1) (z (d + 1)),
     λ q w. (
@@ -1133,7 +1236,7 @@ module _ (us : List Lexeme) (top : Limit) (way : Way) (late : (g : Manner) (i d 
     tt,
   )
 
-  owes_size : (d : ℕ) (c : Scopes) (i : ℕ) → Owes (body (size d)) (Via (size d) c i) c i
+  pub owes_size : (d : ℕ) (c : Scopes) (i : ℕ) → Owes (body (size d)) (Via (size d) c i) c i
   owes_size d c i = (tt, λ q w. tt, (λ v. from v, λ t e j _ _ x. (tt, λ q w. tt, λ z. ends x z)))
     where
       from : G part.Conditional (d + 1) c i → OneSize c d i
@@ -1185,13 +1288,13 @@ module _ (us : List Lexeme) (top : Limit) (way : Way) (late : (g : Manner) (i d 
   row_some (first_one x) = part_some (x fresh) none
   row_some (next_one {t = t} {u = u} r q w x) = pushed_some t (u & none) (row_some r)
 
-  owes_parameters : (d : ℕ) (c : Scopes) (i : ℕ) → Owes (body (parameters d)) (Via (parameters d) c i) c i
+  pub owes_parameters : (d : ℕ) (c : Scopes) (i : ℕ) → Owes (body (parameters d)) (Via (parameters d) c i) c i
   owes_parameters d c i = (
     λ v h. more0 (v fresh) (λ all f t e j le s shown. (_, _, row_of_parameters all top (spells.list_last s spells.done), parameter_shown s shown)),
     λ t e j _ _ x. (λ v. v c (first_one x), λ t' e' j' _ _ _. tt),
   )
 
-  owes_more_parameters : (d s : ℕ) (y : Trees) (c : Scopes) (i : ℕ) → Owes (body (more_parameters d s y)) (Via (more_parameters d s y) c i) c i
+  pub owes_more_parameters : (d s : ℕ) (y : Trees) (c : Scopes) (i : ℕ) → Owes (body (more_parameters d s y)) (Via (more_parameters d s y) c i) c i
   owes_more_parameters d s y c i = (
     tt,
     λ q w. (
@@ -1210,10 +1313,10 @@ module _ (us : List Lexeme) (top : Limit) (way : Way) (late : (g : Manner) (i d 
     tt,
   )
 
-  owes_parameter : (d : ℕ) (c : Scopes) (i : ℕ) → Owes (body (parameter d)) (Via (parameter d) c i) c i
+  pub owes_parameter : (d : ℕ) (c : Scopes) (i : ℕ) → Owes (body (parameter d)) (Via (parameter d) c i) c i
   owes_parameter d c i = (
     λ v h. more0 v (λ all f t e j le s shown. (_, _, spells.of_chain grammar.parameter_unnamed refl s, shown)),
-    λ t e j _ _ x. ((λ v h. with_declarator x v, λ t' e' j' _ _ _. (λ y. tt, λ y. tt)), tt),
+    λ t e j _ _ x. (λ _. (λ v h. with_declarator x v, λ t' e' j' _ _ _. (λ y. tt, λ y. tt)), tt),
   )
     where
       with_declarator : {h : Context} {t : Trees} {e : Scopes} {j : ℕ} → Spells us top (a part.Specifiers) fresh c e d t i j → OneDeclared either (past_part fresh t) e d j → Grown us top way (a part.Parameter) h c d i
@@ -1230,41 +1333,3 @@ module _ (us : List Lexeme) (top : Limit) (way : Way) (late : (g : Manner) (i d 
         spells.of_alternative grammar.parameter_declaration refl (spells.part (weaken f x) (spells.part (spells.of_chain grammar.parameter_abstract refl s) spells.done)),
         second t shown _,
       ))
-
-  pub owes : (g : Goal) (c : Scopes) (i : ℕ) → Via g c i ⊎ Owes (body g) (Via g c i) c i
-  owes (whole p d) c i = inr (λ v. tt, λ t e j _ _ _. (λ z. tt, tt))
-  owes (expression d) c i = inr (owes_expression d c i)
-  owes (commas d s y) c i = inr (owes_commas d s y c i)
-  owes (assignment d) c i = inr (owes_assignment d c i)
-  owes (conditional d) c i = inr (owes_conditional d c i)
-  owes (m.binary p d) c i = inr (owes_binary p d c i)
-  owes (operands p d s y) c i = inr (owes_operands p d s y c i)
-  owes (cast d) c i = inr (owes_cast d c i)
-  owes (unary d) c i = inr (owes_unary d c i)
-  owes (measured d s) c i = inr (owes_measured d s c i)
-  owes (postfix d) c i = inr (owes_postfix d c i)
-  owes (called d s) c i = inr (owes_called d s c i)
-  owes (grouped d s) c i = inr (owes_grouped d s c i)
-  owes (texts d) c i = inr (tt, λ q w. (λ v. v, λ t e j _ _ _. tt), tt)
-  owes (arguments d y) c i = inr (owes_arguments d y c i)
-  owes (suffixes d s y) c i = inr (owes_suffixes d s y c i)
-  owes (type_name d) c i = inr (owes_type_name d c i)
-  owes (row p h d) c i = inr (owes_row p h d c i)
-  owes (more p h d s y) c i = inr (owes_more p h d s y c i)
-  owes (element p h d) c i = inr (owes_element p h d c i)
-  owes (structure d s) c i = inr (owes_structure d s c i)
-  owes (members d s y) c i = inr (owes_members d s y c i)
-  owes (member d) c i = inr (owes_member d c i)
-  owes (member_declarators h d s y) c i = inr (owes_member_declarators h d s y c i)
-  owes (enumeration d s) c i = inr (owes_enumeration d s c i)
-  owes (enumerators d s y) c i = inr (owes_enumerators d s y c i)
-  owes (enumerator d) c i = inr (owes_enumerator d c i)
-  owes (consts d) c i = inr (tt, λ q w. (λ v. record { at = v.at; consts = const_more q w v.consts; declared = v.declared }, λ t e j _ _ _. tt), tt)
-  owes (declarator w h d) c i = inr (owes_declarator w h d c i)
-  owes (declarator_suffixes d s y) c i = inr (owes_declarator_suffixes d s y c i)
-  owes (abstract_suffixes d s y) c i = inr (owes_abstract_suffixes d s y c i)
-  owes (size d) c i = inr (owes_size d c i)
-  owes (parameters d) c i = inr (owes_parameters d c i)
-  owes (more_parameters d s y) c i = inr (owes_more_parameters d s y c i)
-  owes (parameter d) c i = inr (owes_parameter d c i)
-  owes g c i = inl tt

@@ -46,11 +46,11 @@ tighter_kept part.Shift d c i t e j m = m
 tighter_kept part.Additive d c i t e j m = m
 tighter_kept _ d c i t e j m = m
 
-around_less : (c : Scopes) → length c ≤ suc (length (around c))
+pub around_less : (c : Scopes) → length c ≤ suc (length (around c))
 around_less [] = omega arith
 around_less (names ∷ c) = omega arith
 
-entered_more : (l : ℕ) (n : TypeName) (c : Scopes) → l ≤ length c → l ≤ length (enter n c)
+pub entered_more : (l : ℕ) (n : TypeName) (c : Scopes) → l ≤ length c → l ≤ length (enter n c)
 entered_more l n [] q = omega arith
 entered_more l n (names ∷ c) q = omega arith
 

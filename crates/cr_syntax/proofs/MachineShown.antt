@@ -1,8 +1,9 @@
 -- What a text that goes on behind a refused token's place shows: the word that stands there in the place of a refused
 -- form's, and the node that the form's row asks for. Where no row refuses, it need show nothing.
-use Rattle.std.proofs.Common.{◌≡◌, ℕ, ◌≤◌, Bool, true, false, List, length, refl, sym, subst, inl, inr}
-use Rattle.std.specs.Prelude.{◌==◌, ◌||◌}
+use Rattle.std.proofs.Common.{◌≡◌, ℕ, ◌+◌, ◌<◌, ◌≤◌, Bool, true, false, List, length, refl, sym, subst, inl, inr}
+use Rattle.std.specs.Prelude.{◌==◌, ◌||◌, ◌&&◌}
 use Rattle.std.proofs.lemmas.Bool.Decides.{eqb_tells}
+use Rattle.cr_syntax.specs.declared.word.Word.{Word}
 use Rattle.cr_syntax.specs.declared.word.Word.TheVariants as word
 use Rattle.cr_syntax.specs.declared.node.Kind.{Kind}
 use Rattle.cr_syntax.specs.declared.node.Kind.TheVariants as kind
@@ -15,10 +16,11 @@ use Rattle.cr_syntax.specs.Trees.{Trees, none, node, one, ◌&◌}
 use Rattle.cr_syntax.specs.Grammar as grammar
 use Rattle.cr_syntax.specs.Spells.{Limit, Is, Spells, a}
 use Rattle.cr_syntax.specs.Spells as spells
-use Rattle.cr_syntax.specs.Units.{Has, has_here, has_inside, has_after, one_begins_at, one_ends_at, cast_operand_at, postfix_before, member_before}
-use Rattle.cr_syntax.specs.Machine.{Manner, Test, the, Allows, levels_at}
-use Rattle.cr_syntax.specs.MachineBody.{is_identifier, in_row, in_parameters}
-use Rattle.cr_syntax.proofs.MachineEnds.{Way, stopped, barring, crowded}
+use Rattle.cr_syntax.specs.Units.{Has, has_here, has_inside, has_after, one_begins_at, one_ends_at, initializer_at, cast_operand_at, postfix_before, member_before, switch_body_at, variadic_definition}
+use Rattle.cr_syntax.specs.Units.{Place, place_in, is_misplaced, misplaced_at}
+use Rattle.cr_syntax.specs.Machine.{Manner, Test, the, has, Allows, levels_at}
+use Rattle.cr_syntax.specs.MachineBody.{is_identifier, in_row, in_parameters, is_designator, is_label, label_start, statement_start}
+use Rattle.cr_syntax.proofs.MachineEnds.{Way, stopped, barring, crowded, defining}
 use Rattle.cr_syntax.proofs.MachineExtend.{Front}
 use Rattle.cr_syntax.proofs.MachineMeans.{has_some}
 use Rattle.cr_syntax.proofs.MachineSpells.{is_one}
@@ -28,17 +30,41 @@ use Rattle.cr_syntax.proofs.MachineSound.{two_parameters}
 pub data Next (all : List Lexeme) (k : ℕ) : Way → Type 0 where
   next_stopped : {d : ℕ} → Next all k (stopped d)
   next_crowded : Next all k crowded
+  next_designator : {d : ℕ} → Is all k word.LeftBrace → Next all k (barring (has is_designator) 2 d)
   next_literal : {d : ℕ} → Is all k word.LeftParen → Next all k (barring (the word.LeftBrace) 3 d)
   next_call : {d : ℕ} → Is all k word.LeftBracket → Next all k (barring (the word.LeftParen) 4 d)
   next_field : {d : ℕ} → Is all k word.Semicolon → Next all k (barring (the word.Colon) 5 d)
+  next_label : {d : ℕ} → Next all k (barring (has is_label) 6 d)
+  next_block : {d : ℕ} → Next all k (barring label_start 6 d)
+  next_body : {d : ℕ} → Is all k word.LeftBrace → Next all k (barring statement_start 7 d)
+  next_definition : {n : ℕ} (m : ℕ) → m + 1 ≡ k → Is all m word.LeftBrace → Next all k (defining n)
 
--- the node in the trees
+-- the node in the trees of an expression or a type
 pub data Shown (k : ℕ) (t : Trees) : Way → Type 0 where
   shown_stopped : {d : ℕ} → Shown k t (stopped d)
   shown_crowded : Shown k t crowded
   shown_literal : {d : ℕ} → Has (cast_operand_at k) t → Shown k t (barring (the word.LeftBrace) 3 d)
   shown_call : {d : ℕ} → Has (postfix_before k) t → Shown k t (barring (the word.LeftParen) 4 d)
   shown_field : {d : ℕ} → Has (member_before k) t → Shown k t (barring (the word.Colon) 5 d)
+
+-- The same in the trees of a unit, which stand in one of these places. A label and a definition's brace are the token
+-- before k.
+pub data ShownIn (at : Place → Bool) (k : ℕ) (t : Trees) : Way → Type 0 where
+  seen : {w : Way} → Shown k t w → ShownIn at k t w
+  shown_designator : {d : ℕ} → Has (initializer_at k) t → ShownIn at k t (barring (has is_designator) 2 d)
+  shown_label : {d : ℕ} (n : ℕ) → n + 1 ≡ k → ((p : Place) → at p ≡ true → misplaced_at n p t ≡ true) → ShownIn at k t (barring (has is_label) 6 d)
+  shown_block : {d : ℕ} (s : ℕ) → Has (switch_body_at s k) t → ShownIn at k t (barring label_start 6 d)
+  shown_body : {d : ℕ} (s : ℕ) → Has (switch_body_at s k) t → ShownIn at k t (barring statement_start 7 d)
+  shown_definition : {n : ℕ} (m : ℕ) → m + 1 ≡ k → n < m → Has (variadic_definition n m) t → ShownIn at k t (defining n)
+
+-- wherever the trees stand
+abbrev pub every : Place → Bool
+every p = true
+
+-- the same of a list of initializers or of an initializer alone, of which the node that shows it is still to come
+pub data Started (k : ℕ) (t : Trees) : Way → Type 0 where
+  started : {w : Way} → ShownIn every k t w → Started k t w
+  started_here : {d : ℕ} → one_begins_at k t ≡ true → Started k t (barring (has is_designator) 2 d)
 
 -- no row refuses
 pub data Unbarred : Way → Type 0 where
@@ -57,6 +83,21 @@ pub record Barred (us : List Lexeme) (top : Limit) (way : Way) (x : Test) (n i d
   pub fits : (g : Manner) (m : ℕ) → levels_at g m ≤ d → Allows top g i m
   pub so : barring x n d ≡ way
 
+-- the same where a label before it stands deeper than a switch's own block
+pub record Labelled (us : List Lexeme) (top : Limit) (way : Way) (f : Word → Bool) (n i d : ℕ) : Type 0 where
+  pub here : i + 1 ≡ length us
+  pub fits : (g : Manner) (j m : ℕ) → i ≤ j → Allows top g j m
+  pub word : Word
+  pub is : Is us i word
+  pub passes : f word ≡ true
+  pub so : barring (has f) n d ≡ way
+
+-- the same where the brace of a definition with `...` stands before it
+pub record Defined (us : List Lexeme) (top : Limit) (way : Way) (n i : ℕ) : Type 0 where
+  pub here : i + 1 ≡ length us
+  pub fits : (g : Manner) (j m : ℕ) → i ≤ j → Allows top g j m
+  pub so : defining n ≡ way
+
 pub next_free : {all : List Lexeme} {k : ℕ} {w : Way} → Unbarred w → Next all k w
 next_free by_stop = next_stopped
 next_free by_level = next_crowded
@@ -68,9 +109,14 @@ shown_free by_level = shown_crowded
 pub next_more : {us all : List Lexeme} {k : ℕ} {w : Way} → Front us all → Next us k w → Next all k w
 next_more f next_stopped = next_stopped
 next_more f next_crowded = next_crowded
+next_more f (next_designator q) = next_designator (f.words _ _ q)
 next_more f (next_literal q) = next_literal (f.words _ _ q)
 next_more f (next_call q) = next_call (f.words _ _ q)
 next_more f (next_field q) = next_field (f.words _ _ q)
+next_more f next_label = next_label
+next_more f next_block = next_block
+next_more f (next_body q) = next_body (f.words _ _ q)
+next_more f (next_definition m e q) = next_definition m e (f.words _ _ q)
 
 -- A node stays in larger trees.
 
@@ -160,6 +206,60 @@ parameter_shown {ts = ts} {limit = limit} {h = h} {c = c} {e = e} {d = d} {i = i
 pub parameters_shown : {k : ℕ} {w : Way} (s e : ℕ) (t u : Trees) → has_some t ≡ true → has_some u ≡ true → Shown k (t & u) w → Shown k (in_parameters s e (t & u)) w
 parameters_shown {k = k} {w = w} s e t u y z x = subst (λ v. Shown k v w) (sym (two_parameters s e t u y z)) (inside x)
 
+-- In the trees of a unit, where a label stands where its statement does.
+
+or_last : (x y z z' : Bool) → x || y || z ≡ true → (z ≡ true → z' ≡ true) → x || y || z' ≡ true
+or_last true y z z' q f = refl
+or_last false true z z' q f = refl
+or_last false false z z' q f = f q
+
+or_third : (x y z : Bool) → z ≡ true → x || y || z ≡ true
+or_third true y z q = refl
+or_third false true z q = refl
+or_third false false z q = q
+
+or_second : (x y z : Bool) → y ≡ true → x || y || z ≡ true
+or_second true y z q = refl
+or_second false true z q = refl
+or_second false false z q = cc
+
+misplaced_left : (n : ℕ) (p : Place) (t u : Trees) → misplaced_at n p t ≡ true → misplaced_at n p (t & u) ≡ true
+misplaced_left n p none u x = cc
+misplaced_left n p (node q i j b m) u x = or_last ((i == n) && is_misplaced q p) (misplaced_at n (place_in q p) b) (misplaced_at n p m) (misplaced_at n p (m & u)) x (λ y. misplaced_left n p m u y)
+
+misplaced_right : (n : ℕ) (p : Place) (t u : Trees) → misplaced_at n p u ≡ true → misplaced_at n p (t & u) ≡ true
+misplaced_right n p none u x = x
+misplaced_right n p (node q i j b m) u x = or_third ((i == n) && is_misplaced q p) (misplaced_at n (place_in q p) b) (misplaced_at n p (m & u)) (misplaced_right n p m u x)
+
+carried_in : {at at' : Place → Bool} {k : ℕ} {t u : Trees} {w : Way} → ((test : Kind → ℕ → ℕ → Trees → Bool) → Has test t → Has test u) →
+    ((n : ℕ) → ((p : Place) → at p ≡ true → misplaced_at n p t ≡ true) → (p : Place) → at' p ≡ true → misplaced_at n p u ≡ true) → ShownIn at k t w → ShownIn at' k u w
+carried_in f g (seen x) = seen (carried f x)
+carried_in {k = k} f g (shown_designator x) = shown_designator (f (initializer_at k) x)
+carried_in f g (shown_label n e x) = shown_label n e (g n x)
+carried_in {k = k} f g (shown_block s x) = shown_block s (f (switch_body_at s k) x)
+carried_in {k = k} f g (shown_body s x) = shown_body s (f (switch_body_at s k) x)
+carried_in f g (shown_definition {n = n} m e l x) = shown_definition m e l (f (variadic_definition n m) x)
+
+-- in other places, if those are some of these
+pub moved : {at at' : Place → Bool} {k : ℕ} {t : Trees} {w : Way} → ((p : Place) → at' p ≡ true → at p ≡ true) → ShownIn at k t w → ShownIn at' k t w
+moved f x = carried_in (λ test y. y) (λ n g p y. g p (f p y)) x
+
+pub anywhere : {at : Place → Bool} {k : ℕ} {t : Trees} {w : Way} → ShownIn every k t w → ShownIn at k t w
+anywhere x = moved (λ p y. refl) x
+
+pub left_in : {at : Place → Bool} {k : ℕ} {t : Trees} {w : Way} → ShownIn at k t w → (u : Trees) → ShownIn at k (t & u) w
+left_in {t = t} x u = carried_in (λ test y. has_left y u) (λ n g p y. misplaced_left n p t u (g p y)) x
+
+pub right_in : {at : Place → Bool} {k : ℕ} (t : Trees) {u : Trees} {w : Way} → ShownIn at k u w → ShownIn at k (t & u) w
+right_in t {u = u} x = carried_in (λ test y. has_right t y) (λ n g p y. misplaced_right n p t u (g p y)) x
+
+-- in a node whose parts stand so where it stands so
+pub within : {at at' : Place → Bool} {k : ℕ} {q : Kind} {i j : ℕ} {t : Trees} {w : Way} → ((p : Place) → at' p ≡ true → at (place_in q p) ≡ true) → ShownIn at k t w → ShownIn at' k (one q i j t) w
+within {q = q} {i = i} {t = t} f x = carried_in (λ test y. has_inside y) (λ n g p y. or_second ((i == n) && is_misplaced q p) (misplaced_at n (place_in q p) t) false (g (place_in q p) (f p y))) x
+
+pub wherever : {at : Place → Bool} {k : ℕ} {q : Kind} {i j : ℕ} {t : Trees} {w : Way} → ShownIn every k t w → ShownIn at k (one q i j t) w
+wherever x = within (λ p y. refl) x
+
 -- The nodes of the refused forms' rows.
 
 pub next_so : {all : List Lexeme} {k : ℕ} {v w : Way} → v ≡ w → Next all k v → Next all k w
@@ -168,14 +268,20 @@ next_so {all = all} {k = k} e x = subst (λ w. Next all k w) e x
 pub shown_so : {k : ℕ} {t : Trees} {v w : Way} → v ≡ w → Shown k t v → Shown k t w
 shown_so {k = k} {t = t} e x = subst (λ w. Shown k t w) e x
 
-same_number : (i k : ℕ) → i ≡ k → (i == k) ≡ true
+pub shown_in_so : {at : Place → Bool} {k : ℕ} {t : Trees} {v w : Way} → v ≡ w → ShownIn at k t v → ShownIn at k t w
+shown_in_so {at = at} {k = k} {t = t} e x = subst (λ w. ShownIn at k t w) e x
+
+pub started_so : {k : ℕ} {t : Trees} {v w : Way} → v ≡ w → Started k t v → Started k t w
+started_so {k = k} {t = t} e x = subst (λ w. Started k t w) e x
+
+pub same_number : (i k : ℕ) → i ≡ k → (i == k) ≡ true
 same_number i k e = elim (eqb_tells i k) [ inl y ↦ y.0 | inr y ↦ absurd (y.1 e) ]
 
 or_true : (b : Bool) → (b || true) ≡ true
 or_true true = refl
 or_true false = refl
 
-true_or : (b d : Bool) → b ≡ true → (b || d) ≡ true
+pub true_or : (b d : Bool) → b ≡ true → (b || d) ≡ true
 true_or true d q = refl
 true_or false d q = cc
 
@@ -206,3 +312,34 @@ declarator_ends {q = q} {i = i} {j = j} {k = k} {b = b} (node z l' m' v r) n x e
     behind : (r : Trees) → one_ends_at k (r & one q i j b) ≡ true
     behind none = true_or (j == k) false (same_number j k e)
     behind (node z l m v r) = subst (λ x. ((m == k) || x) ≡ true) (sym (behind r)) (or_true (m == k))
+
+-- A list of initializers goes on, and ends in its node.
+
+begins_left : (k : ℕ) (t u : Trees) → one_begins_at k t ≡ true → one_begins_at k (t & u) ≡ true
+begins_left k none u x = cc
+begins_left k (node q i j b n) u x = two_or (i == k) (one_begins_at k n) (one_begins_at k (n & u)) x (λ y. begins_left k n u y)
+  where
+    two_or : (x y y' : Bool) → (x || y) ≡ true → (y ≡ true → y' ≡ true) → (x || y') ≡ true
+    two_or true y y' q f = refl
+    two_or false y y' q f = f q
+
+begins_right : (k : ℕ) (t u : Trees) → one_begins_at k u ≡ true → one_begins_at k (t & u) ≡ true
+begins_right k none u x = x
+begins_right k (node q i j b n) u x = subst (λ y. ((i == k) || y) ≡ true) (sym (begins_right k n u x)) (or_true (i == k))
+
+pub started_left : {k : ℕ} {t : Trees} {w : Way} → Started k t w → (u : Trees) → Started k (t & u) w
+started_left (started x) u = started (left_in x u)
+started_left {k = k} {t = t} (started_here b) u = started_here (begins_left k t u b)
+
+pub started_right : {k : ℕ} (t : Trees) {u : Trees} {w : Way} → Started k u w → Started k (t & u) w
+started_right t (started x) = started (right_in t x)
+started_right {k = k} t {u = u} (started_here b) = started_here (begins_right k t u b)
+
+pub in_list : {k i j : ℕ} {t : Trees} {w : Way} → Started k t w → Started k (one kind.InitializerList i j t) w
+in_list (started x) = started (wherever x)
+in_list (started_here b) = started (shown_designator (has_here b))
+
+pub in_declarator : {k i j : ℕ} {t u : Trees} {q : Kind} {i' j' : ℕ} {b : Trees} {w : Way} → t ≡ one q i' j' b → Started k u w → ShownIn every k (one kind.InitDeclarator i j (t & u & none)) w
+in_declarator {t = t} y (started x) = wherever (right_in t (left_in x none))
+in_declarator {k = k} {i = i} {j = j} {u = u} {w = w} y (started_here b) =
+    subst (λ z. ShownIn every k (one kind.InitDeclarator i j (z & u & none)) w) (sym y) (shown_designator (has_here (begins_left k u none b)))

@@ -23,14 +23,14 @@ use Rattle.cr_syntax.proofs.MachineKept.{Kept}
 use Rattle.cr_syntax.proofs.MachineMeans.{Means, Reads, IsDeclared, with_name, without, IsClause, no_clause, one_clause, IsOpen, open_of}
 
 -- an `if` with one branch, and with two of which the first ends in no `if` without `else`
-nearest_one : {ts : List Lexeme} {limit : Limit} {p p' : Part} {h h' : Context} {c c' e e' : Scopes} {d d' i i' j j' : ℕ} {t u : Trees} →
+pub nearest_one : {ts : List Lexeme} {limit : Limit} {p p' : Part} {h h' : Context} {c c' e e' : Scopes} {d d' i i' j j' : ℕ} {t u : Trees} →
     Spells ts limit (a p) h c e d t i j → Spells ts limit (a p') h' c' e' d' u i' j' → else_is_nearest (t & u & none) ≡ true
 nearest_one {i = i} {i' = i'} {j = j} {j' = j'} {u = u} x y =
     let w = is_one x in
     let v = is_one y in
     subst (λ z. else_is_nearest (z & u & none) ≡ true) (sym w.2) (subst (λ z. else_is_nearest (one w.0 i j w.1 & z & none) ≡ true) (sym v.2) refl)
 
-nearest_two : {ts : List Lexeme} {limit : Limit} {p p' p'' : Part} {h h' h'' : Context} {c c' c'' e e' e'' : Scopes} {d d' d'' i i' i'' j j' j'' : ℕ} {t u v : Trees} →
+pub nearest_two : {ts : List Lexeme} {limit : Limit} {p p' p'' : Part} {h h' h'' : Context} {c c' c'' e e' e'' : Scopes} {d d' d'' i i' i'' j j' j'' : ℕ} {t u v : Trees} →
     Spells ts limit (a p) h c e d t i j → Spells ts limit (a p') h' c' e' d' u i' j' → Spells ts limit (a p'') h'' c'' e'' d'' v i'' j'' → ends_open u ≡ false → else_is_nearest (t & u & v & none) ≡ true
 nearest_two {i = i} {i' = i'} {j = j} {j' = j'} {u = u} {v = v} x y z q =
     let w = is_one x in
@@ -51,11 +51,11 @@ module _ (us : List Lexeme) (top : Limit) where
   -- Scopes.
 
   -- a scope ends
-  ended : {s : Side} {h : Context} {c e : Scopes} {d i j : ℕ} {t : Trees} → IsOpen c → Spells us top (rest s) h (around c) e d t i j → Spells us top (rest (symbol.Ends ∷ s)) h c e d t i j
+  pub ended : {s : Side} {h : Context} {c e : Scopes} {d i j : ℕ} {t : Trees} → IsOpen c → Spells us top (rest s) h (around c) e d t i j → Spells us top (rest (symbol.Ends ∷ s)) h c e d t i j
   ended {s = s} {h = h} {e = e} {d = d} {i = i} {j = j} {t = t} o x = subst (λ v. Spells us top (rest (symbol.Ends ∷ s)) h v e d t i j) (sym o) (spells.ends x)
 
   -- a declarator's name enters
-  entered : {s : Side} {h : Context} {c e : Scopes} {d i j : ℕ} {t : Trees} → IsOpen c → Spells us top (rest s) h (innermost_of c ∷ enter (declared_name us h) (around c)) e d t i j →
+  pub entered : {s : Side} {h : Context} {c e : Scopes} {d i j : ℕ} {t : Trees} → IsOpen c → Spells us top (rest s) h (innermost_of c ∷ enter (declared_name us h) (around c)) e d t i j →
       Spells us top (rest (symbol.Enters ∷ s)) h c e d t i j
   entered {s = s} {h = h} {e = e} {d = d} {i = i} {j = j} {t = t} o x = subst (λ v. Spells us top (rest (symbol.Enters ∷ s)) h v e d t i j) (sym o) (spells.enters x)
 
@@ -78,7 +78,7 @@ module _ (us : List Lexeme) (top : Limit) where
       subst (λ v. Spells us top (a part.Declaration) h c f d v i k) (sym (m.1 ∙ ap (λ z. one kind.Declaration i k z) (and_and t none m.0)))
       (spells.of_alternative grammar.declaration refl (spells.part x (spells.list_some m.2)))
 
-  bare_declaration : {c e : Scopes} {d i j : ℕ} {t : Trees} → Spells us top (a part.Specifiers) fresh c e d t i j → Is us j word.Semicolon → Stands top j d →
+  pub bare_declaration : {c e : Scopes} {d i j : ℕ} {t : Trees} → Spells us top (a part.Specifiers) fresh c e d t i j → Is us j word.Semicolon → Stands top j d →
       Reads us top part.Declaration d c i (one kind.Declaration i (j + 1) (t & none)) e (j + 1)
   bare_declaration x q w h = spells.of_alternative grammar.declaration refl (spells.part x (spells.list_none (spells.token q w spells.done)))
 
@@ -248,7 +248,7 @@ module _ (us : List Lexeme) (top : Limit) where
   )
 
   -- a clause, and what follows
-  clause_of : {s : Side} {h : Context} {c e f : Scopes} {d i j k : ℕ} {t u : Trees} → IsClause us top (d + 1) c i t e j → Spells us top (rest s) (past_token h) e f d u j k →
+  pub clause_of : {s : Side} {h : Context} {c e f : Scopes} {d i j k : ℕ} {t u : Trees} → IsClause us top (d + 1) c i t e j → Spells us top (rest s) (past_token h) e f d u j k →
       Spells us top (rest (symbol.Clause ∷ s)) h c f d (t & u) i k
   clause_of (no_clause q w) z = spells.clause_none q w z
   clause_of {s = s} {h = h} {c = c} {f = f} {d = d} {i = i} {k = k} {u = u} (one_clause {t = t} x q w) z =
