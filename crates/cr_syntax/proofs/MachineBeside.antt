@@ -14,7 +14,7 @@ use Rattle.cr_syntax.specs.Reads.{is_word, same_word}
 use Rattle.cr_syntax.specs.Machine.{Goal, Prog, Test, anywhere, Reply, Done, Runs, passes, brought, bring, the, has, ordinary, type_identifier, declared, or, run_give, run_take, run_pass, run_free, run_seen, run_unseen, run_yes, run_no, run_here, run_look, run_set, run_bring, run_call}
 use Rattle.cr_syntax.specs.Machine.{expression, external, declaration, init_declarators, statement, block, if_rest, switch_rest, while_rest, do_rest, for_rest, return_rest, for_clauses, compound, items, item}
 use Rattle.cr_syntax.specs.Machine.{plain, take, expect, made, call, give}
-use Rattle.cr_syntax.specs.MachineBody.{body, unlabelled, declaration_start, statement_start, is_label}
+use Rattle.cr_syntax.specs.MachineBody.{body, unlabelled, declaration_start, statement_start, label_start}
 use Rattle.cr_syntax.proofs.MachineRuns.{reach, passes_same, brought_same}
 use Rattle.cr_syntax.proofs.MachineFirst.{true_false, differs, sorted}
 use Rattle.cr_syntax.proofs.MachineTraces.{Traces, traces_idle, traced, run_there}
@@ -277,7 +277,7 @@ module _ (us vs : List Lexeme) (s : ℕ) (limit : Limit) (same_before : (n : ℕ
           let n = reach h in
           let n' = compound_later h' in
           run_look (run_set (run_take (near i word.LeftParen (omega arith) y) a (run_call (goes_before h (omega arith)) (run_take (near j word.RightParen (omega arith) y') a'
-          (run_free (near_test e (j + 1) (has is_label) (omega arith) n0) (run_free (near_test e (j + 1) statement_start (omega arith) n1)
+          (run_free (near_test e (j + 1) label_start (omega arith) n0) (run_free (near_test e (j + 1) statement_start (omega arith) n1)
           (run_look (run_set (run_call (z le) (run_look (run_set (run_look (run_set (run_here run_give)))))))))))))),
       λ y'. tt,
     ),

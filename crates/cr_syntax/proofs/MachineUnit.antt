@@ -1,13 +1,13 @@
 -- What the machine answers of a unit is what reading one promises: its trees, or the first refusal.
-use Rattle.std.proofs.Common.{◌≡◌, ℕ, ◌+◌, ◌<◌, ◌≤◌, Bool, true, false, not, ◌&&◌, List, length, Option, None, Some, refl, sym, ap, subst, ◌∙◌, arith, ◌⊎◌, inl, inr}
+use Rattle.std.proofs.Common.{◌≡◌, ℕ, ◌+◌, ◌<◌, ◌≤◌, Bool, true, false, not, ◌&&◌, List, length, Option, None, Some, refl, sym, ap, subst, ◌∙◌, arith, ◌==◌, ◌⊎◌, inl, inr, ⊎_elim}
 use Rattle.std.specs.Prelude.{slice_get, nat_lt, if◌then◌else◌}
-use Rattle.std.proofs.lemmas.Bool.{both_ways}
+use Rattle.std.proofs.lemmas.Bool.{both_ways, eqb-true, eq-eqb, cases_Bool}
 use Rattle.cr_syntax.specs.declared.word.Word.{Word}
 use Rattle.cr_syntax.specs.declared.word.Word.TheVariants as word
 use Rattle.cr_syntax.specs.Words.{Lexeme, word_at}
 use Rattle.cr_syntax.specs.Scopes.{Scopes}
 use Rattle.cr_syntax.specs.Trees.{Trees}
-use Rattle.cr_syntax.specs.Spells.{Limit, Free, AtMost, Upto, Leaving, Is}
+use Rattle.cr_syntax.specs.Spells.{Limit, Free, AtMost, Upto, Is}
 use Rattle.cr_syntax.specs.Units.{most_levels, file_scope, is_unused, IsBracket, StandsIn, list_for_designator, group_for_literal, subscript_for_call, block_for_body, IsUnit, Completes, Begins, BeginsWithin, with_word, Outside, IsTooDeep, IsFineBefore, FirstRefusal, IsTreeOf}
 use Rattle.cr_syntax.specs.Units as units
 use Rattle.cr_syntax.specs.Machine.{Manner, Test, plain, opens, reopens, Allows, anywhere, nowhere, unit, Reply, Cause, Done, Failed, Runs, has_word, barred, refusal_of, overflows, is_bracket, too_deep, ended, outside, unexpected}
@@ -22,6 +22,7 @@ use Rattle.cr_syntax.proofs.MachineUnitComplete.{unit_reads, unit_is_read}
 use Rattle.cr_syntax.proofs.MachineUnitForms.{ReadsUnits}
 use Rattle.cr_syntax.proofs.MachineRefusals.{RefusesBodies, outside_before_end, outside_at_end, outside_of_unit}
 use Rattle.cr_syntax.proofs.MachineViable.{barred_inside, crowded_inside}
+use Rattle.cr_syntax.proofs.MachineUnitViable.{unit_begins, unit_leaves, unit_barred_begins, unit_stands, unit_stands_leaving, unit_crowded_begins, definition_completes, definition_outside, unit_outside}
 use Rattle.cr_syntax.proofs.MachineForms.{within}
 use Rattle.cr_syntax.proofs.MachineLoose.{looser, followed, Follows, so_too, departs, own_label, label_is}
 use Rattle.cr_syntax.proofs.MachineStuck.{is_crowded}
@@ -88,6 +89,10 @@ in_place (units.label_as_body s (inr q) c) y b f = absurd (no_bracket q refl y b
 in_place (units.switch_body s c n0 n1 n2 d) y b f = (word.LeftBrace, block_for_body)
 in_place (units.variadic_function {t = t} m lt q c s) y b f = absurd (f (begins_free (begins_definition (units.variadic_function {t = t} m lt q c s))))
 
+-- the row of a switch's body, or another one
+is_seventh : (n : ℕ) → (n ≡ 7) ⊎ (n ≡ 7 → ⊥)
+is_seventh n = ⊎_elim (λ q. inl (eqb-true n 7 q)) (λ q. inr (λ e. both_ways (n == 7) q (eq-eqb n 7 e))) (cases_Bool (n == 7))
+
 -- a unit is read by the machine of the bare grammar
 reads_units : ReadsUnits
 reads_units us limit t e s = unit_reads anywhere s refl refl
@@ -144,18 +149,10 @@ module _ (ts : List Lexeme) where
   label_not_deep {v = v} q l (units.refused y b o x d) = no_bracket q (label_flat v l) y b
   label_not_deep {v = v} q l (units.unexpected y b c n o x) = no_bracket q (label_flat v l) y b
 
-  -- What is known of a switch's body that is no block, and of the texts that begin before a refused token.
+  -- What is known of a switch's body that is no block.
   module _
       (bodies : RefusesBodies)
-      (stopped_begins : (m k : ℕ) → k ≤ length ts → EndsBy (stopped m) k → BeginsWithin ts k)
-      (stopped_leaves : (m k : ℕ) → k ≤ length ts → EndsBy (stopped m) k → m < most_levels → Begins (Leaving k most_levels) ts k)
-      (barred_begins : (x : Test) (n m k : ℕ) → k ≤ length ts → EndsBy (barring x n m) k → BeginsWithin ts k)
-      (barred_outside : (x : Test) (n m k : ℕ) → k ≤ length ts → EndsBy (barring x n m) k → Outside ts k n)
-      (barred_stands : (x : Test) (n m k : ℕ) → k < length ts → EndsBy (barring x n m) k → (v : Word) → StandsIn n v → Begins (Upto k most_levels) (with_word ts k v) (k + 1))
-      (barred_leaves : (x : Test) (n m k : ℕ) → k < length ts → EndsBy (barring x n m) k → (v : Word) → StandsIn n v → m < most_levels → BeginsWithin (with_word ts k v) (k + 1))
-      (crowded_begins : (k : ℕ) → k < length ts → EndsBy crowded k → Begins (Upto k most_levels) ts (k + 1))
-      (defining_behind : (m k : ℕ) → k ≤ length ts → EndsBy (defining m) k → m < k)
-      (defining_outside : (m k : ℕ) → k ≤ length ts → EndsBy (defining m) k → Outside ts m 8) where
+      (other_body : (x : Test) (m k : ℕ) → EndsBy (barring x 7 m) k → Outside ts k 7) where
     row_before : {w : Way} {i n k : ℕ} → EndsBy w k → Outside ts i n → (n ≡ 1 → ⊥) → i < k → (w ≡ defining i) × (n ≡ 8)
     row_before y o f lt = outside_before_end reads_units bodies f y lt o
 
@@ -181,7 +178,7 @@ module _ (ts : List Lexeme) where
       no_definition n q = cc
 
       stop_fine : IsFineBefore ts k
-      stop_fine = fine y no_definition (stopped_begins m k le y)
+      stop_fine = fine y no_definition (unit_begins ts most_levels k le nowhere m y)
 
       not_outside : {w : Word} → Is ts k w → is_unused w ≡ false → (n : ℕ) → Outside ts k n → ⊥
       not_outside q u n o = elim (keyword_or_form o) [ inl (v, q', u') ↦ not_both q' u' q u | inr f ↦ no_row (row_there (within ts k q) y o f no_definition).2 ]
@@ -192,14 +189,14 @@ module _ (ts : List Lexeme) where
       not_deep : {w : Word} → Is ts k w → is_unused w ≡ false → overflows w m ≡ false → IsTooDeep ts k → ⊥
       not_deep q u v (units.expected o) = stop_ends (within ts k q) (begins_free o.begins)
       not_deep q u v (units.refused {row = n} q' b o x d) = not_outside q u n o
-      not_deep {w = w} q u v (units.unexpected q' b c n o x) = x (stopped_leaves m k le y (below w m (subst (λ w. is_bracket w ≡ true) (some_one (sym q' ∙ q)) (is_of_bracket b)) v))
+      not_deep {w = w} q u v (units.unexpected q' b c n o x) = x (unit_leaves ts most_levels k le nowhere m y (below w m (subst (λ w. is_bracket w ≡ true) (some_one (sym q' ∙ q)) (is_of_bracket b)) v))
 
       read_stop_word : {w : Word} → Is ts k w → (u o : Bool) → is_unused w ≡ u → overflows w m ≡ o → FirstRefusal ts (refusal_of (if u then outside 1 else (if o then too_deep else unexpected)) k)
       read_stop_word q true o u v = units.outside (within ts k q) stop_fine (keyword_not_deep q u stop_ends) (units.unused_keyword q u)
       read_stop_word {w = w} q false true u v =
           let b = both (is_bracket w) (not (nat_lt m most_levels)) v in
           units.too_deep (within ts k q) stop_fine
-          (units.unexpected q (bracket_is w b.0) (stopped_begins m k le y) (stop_ends (within ts k q)) (not_outside q u) (no_room_in_unit most_levels (omega arith) le (at_most m most_levels b.1) loosely))
+          (units.unexpected q (bracket_is w b.0) (unit_begins ts most_levels k le nowhere m y) (stop_ends (within ts k q)) (not_outside q u) (no_room_in_unit most_levels (omega arith) le (at_most m most_levels b.1) loosely))
       read_stop_word q false false u v = units.unexpected_token (within ts k q) stop_fine (not_deep q u v) (not_outside q u) (stop_ends (within ts k q))
 
       read_stop : (o : Option Word) → word_at ts k ≡ o →
@@ -209,10 +206,13 @@ module _ (ts : List Lexeme) where
 
     -- A token that a row of the refused forms refuses.
     bar_fine : {x : Test} {n m k : ℕ} → EndsBy (barring x n m) k → IsFineBefore ts k
-    bar_fine {x = x} {n = n} {m = m} {k = k} y = let lt = barred_inside y in fine y (λ m q. cc) (barred_begins x n m k (omega arith) y)
+    bar_fine {x = x} {n = n} {m = m} {k = k} y = let lt = barred_inside y in fine y (λ m q. cc) (unit_barred_begins ts most_levels k (omega arith) nowhere x n m y)
 
     bar_outside : {x : Test} {n m k : ℕ} → EndsBy (barring x n m) k → Outside ts k n
-    bar_outside {x = x} {n = n} {m = m} {k = k} y = let lt = barred_inside y in barred_outside x n m k (omega arith) y
+    bar_outside {x = x} {n = n} {m = m} {k = k} y = elim (is_seventh n) [
+      | inl e ↦ subst (λ n. Outside ts k n) (sym e) (other_body x m k (subst (λ n. EndsBy (barring x n m) k) e y))
+      | inr f ↦ (let lt = barred_inside y in unit_outside ts k (omega arith) nowhere x n m y f)
+    ]
 
     -- in the bare grammar too
     module _ (x : Test) (n m k : ℕ) (y : EndsBy (barring x n m) k) (z : Loosely (barring x n m) k) where
@@ -226,7 +226,7 @@ module _ (ts : List Lexeme) where
       form_not_deep q v (units.expected o) = bar_ends (begins_free o.begins)
       form_not_deep {w = w} q v (units.refused {v = v'} q' b o x' d) =
           let r = row_there (within ts k q) y o (not_keyword_row x') (λ m q. cc) in
-          d.too_deep (barred_leaves x n m k (barred_inside y) y v' (subst (λ n. StandsIn n v') (same_row r.2) x') (below w m (subst (λ w. is_bracket w ≡ true) (some_one (sym q' ∙ q)) (is_of_bracket b)) v))
+          d.too_deep (unit_stands_leaving ts most_levels k (let lt = barred_inside y in omega arith) nowhere x n m y (barred_inside y) (subst (λ n. StandsIn n v') (same_row r.2) x') (below w m (subst (λ w. is_bracket w ≡ true) (some_one (sym q' ∙ q)) (is_of_bracket b)) v))
       form_not_deep q v (units.unexpected q' b c f o x') = o n (bar_outside y)
 
       read_bar_word : {w : Word} → Is ts k w → (o : Bool) → overflows w m ≡ o → FirstRefusal ts (refusal_of (if o then too_deep else outside n) k)
@@ -237,7 +237,7 @@ module _ (ts : List Lexeme) where
           let r = in_place o q (bracket_is w b.0) bar_ends in
           units.too_deep lt (bar_fine y)
           (units.refused q (bracket_is w b.0) o r.1
-          (record { begins = barred_stands x n m k lt y r.0 r.1; too_deep = no_room_instead_in_unit most_levels (omega arith) lt (at_most m most_levels b.1) r.1 z }))
+          (record { begins = unit_stands ts most_levels k (omega arith) nowhere x n m y lt r.1; too_deep = no_room_instead_in_unit most_levels (omega arith) lt (at_most m most_levels b.1) r.1 z }))
       read_bar_word q false v = units.outside (within ts k q) (bar_fine y) (form_not_deep q v) (bar_outside y)
 
       read_bar : (o : Option Word) → word_at ts k ≡ o → FirstRefusal ts (refusal_of (elim o as (λ _. Cause) [ None ↦ ended | Some w ↦ if overflows w m then too_deep else outside n ]) k)
@@ -261,13 +261,13 @@ module _ (ts : List Lexeme) where
     read_crowd : (k : ℕ) → EndsBy crowded k → FirstRefusal ts (refusal_of too_deep k)
     read_crowd k y =
         let lt = crowded_inside y in
-        let b = crowded_begins k lt y in
+        let b = unit_crowded_begins ts most_levels k (omega arith) nowhere y lt in
         units.too_deep lt (fine y (λ m q. cc) (begins_less (omega arith) b)) (units.expected (record { begins = b; too_deep = within_ends (loose_crowd (follows y)) lt }))
 
     -- The `...` of a definition, which is refused at the body's brace.
     module _ (m k : ℕ) (y : EndsBy (defining m) k) (le : k ≤ length ts) where
       named : Outside ts m 8
-      named = defining_outside m k le y
+      named = definition_outside ts k le nowhere m y
 
       same_definition : {i : ℕ} → defining m ≡ defining i → m ≡ i
       same_definition q = cc
@@ -282,11 +282,11 @@ module _ (ts : List Lexeme) where
           b = begins_by (upto_less most_levels (omega arith)) (begins_less (omega arith) (begins_definition named))
 
           inside : (i n : ℕ) → i < m → Outside ts i n → ⊥
-          inside i n lt o = elim (keyword_or_form o) [ inl (w, q, u) ↦ both_ways (is_unused w) (begun_unit_is_used b lt q) u | inr f ↦ (let before = defining_behind m k le y in let e = same_definition (row_before y o f (omega arith)).0 in absurd (omega arith)) ]
+          inside i n lt o = elim (keyword_or_form o) [ inl (w, q, u) ↦ both_ways (is_unused w) (begun_unit_is_used b lt q) u | inr f ↦ (let before = (definition_completes ts most_levels k le nowhere m y).0 in let e = same_definition (row_before y o f (omega arith)).0 in absurd (omega arith)) ]
 
       named_not_deep : IsTooDeep ts m → ⊥
       named_not_deep (units.expected o) = o.too_deep (begins_definition named)
-      named_not_deep (units.refused {v = v} q b o x d) = none_stands (subst (λ n. StandsIn n v) (row_before y o (not_keyword_row x) (defining_behind m k le y)).1 x)
+      named_not_deep (units.refused {v = v} q b o x d) = none_stands (subst (λ n. StandsIn n v) (row_before y o (not_keyword_row x) ((definition_completes ts most_levels k le nowhere m y).0)).1 x)
         where
           none_stands : {v : Word} → StandsIn 8 v → ⊥
           none_stands x = elim x [ ]
