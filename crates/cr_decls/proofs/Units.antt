@@ -1,5 +1,5 @@
 -- What the nodes of a whole unit keep.
-use Rattle.std.proofs.Common.{◌≡◌, ℕ, ◌<◌, List, [], ◌∷◌, ◌++◌, refl, sym, ap, subst, arith}
+use Rattle.std.proofs.Common.{◌≡◌, ℕ, List, [], ◌∷◌, ◌++◌, refl, sym, ap, subst, arith}
 use Rattle.cr_syntax.specs.declared.node.Node.{Node}
 use Rattle.cr_exprs.specs.Loose.{AreKept, Replaces}
 

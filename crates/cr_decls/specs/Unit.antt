@@ -1,10 +1,10 @@
 -- What parsing a file answers, in terms of the machine.
-use Rattle.std.specs.Prelude.{ℕ, List, length}
+use Rattle.std.specs.Prelude.{List, length}
 use Rattle.cr_syntax.specs.Words.{Lexeme}
 use Rattle.cr_syntax.specs.Scopes.{Scopes}
 use Rattle.cr_syntax.specs.Trees.{Trees}
 use Rattle.cr_syntax.specs.Units.{file_scope}
-use Rattle.cr_syntax.specs.Machine.{Prog, Done, nowhere, unit}
+use Rattle.cr_syntax.specs.Machine.{Done, nowhere, unit}
 use Rattle.cr_syntax.specs.MachineBody.{body}
 use Rattle.cr_exprs.specs.declared.fault.ParseFault.{ParseFault}
 use Rattle.cr_exprs.specs.Answers.{RunsTo}

@@ -15,7 +15,10 @@ use crate::labels::Labels;
 use crate::names::define;
 use crate::start::stands_any;
 use crate::statements::compound;
-use cr_exprs::{Found, ParseFault, Source, drop_scope, named_declarator, over, past, row_of, specifiers, stands, triple};
+use cr_exprs::{
+    Found, ParseFault, Source, drop_scope, named_declarator, over, past, row_of, specifiers,
+    stands, triple,
+};
 use cr_rows::Row;
 use cr_syntax::{FRESH, Kind, Node, Scope, Word};
 use std::alloc::Global;
@@ -102,7 +105,15 @@ fn defined(
     }
     let context = past(nodes, FRESH, specifiers.node);
     define(alloc, source, context, declarator, scopes, nodes)?;
-    let body = compound(alloc, source, Labels::Nowhere, declarator.next, 0, scopes, nodes)?;
+    let body = compound(
+        alloc,
+        source,
+        Labels::Nowhere,
+        declarator.next,
+        0,
+        scopes,
+        nodes,
+    )?;
     drop_scope(scopes);
     triple(
         alloc,

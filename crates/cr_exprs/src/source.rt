@@ -86,12 +86,7 @@ pub fn is_type_identifier(
 }
 
 /// Whether an identifier stands here that may be declared, behind a type specifier or another token, or not.
-pub fn is_declared(
-    source: &Source,
-    at: usize,
-    typed: bool,
-    scopes: &LinkedList<Scope>,
-) -> bool
+pub fn is_declared(source: &Source, at: usize, typed: bool, scopes: &LinkedList<Scope>) -> bool
     requires { IsReadable source.now }
     ensures answer { result ≡ passes (text_of source.now) scopes.now at (declared typed) }
     ensures inside { IsTrue result → at < length source.now.tokens.now }
@@ -100,12 +95,7 @@ pub fn is_declared(
 }
 
 /// Whether a specifier without storage classes begins here, where a type specifier stands before it or doesn't.
-pub fn starts_plain(
-    source: &Source,
-    at: usize,
-    typed: bool,
-    scopes: &LinkedList<Scope>,
-) -> bool
+pub fn starts_plain(source: &Source, at: usize, typed: bool, scopes: &LinkedList<Scope>) -> bool
     requires { IsReadable source.now }
     ensures { result ≡ passes (text_of source.now) scopes.now at (or (has is_plain_start) (type_identifier typed)) }
 {
@@ -113,12 +103,7 @@ pub fn starts_plain(
 }
 
 /// Whether a specifier begins here, where a type specifier stands before it or doesn't.
-pub fn starts_specifier(
-    source: &Source,
-    at: usize,
-    typed: bool,
-    scopes: &LinkedList<Scope>,
-) -> bool
+pub fn starts_specifier(source: &Source, at: usize, typed: bool, scopes: &LinkedList<Scope>) -> bool
     requires { IsReadable source.now }
     ensures { result ≡ passes (text_of source.now) scopes.now at (or (has is_specifier_start) (type_identifier typed)) }
 {
@@ -320,13 +305,7 @@ pub fn expect(source: &Source, at: usize, word: Word, depth: usize) -> Result<()
 }
 
 /// Refuses this word, by a row of the refused forms, where so many levels are open.
-pub fn bar(
-    source: &Source,
-    at: usize,
-    word: Word,
-    row: u8,
-    depth: usize,
-) -> Result<(), ParseFault>
+pub fn bar(source: &Source, at: usize, word: Word, row: u8, depth: usize) -> Result<(), ParseFault>
     requires readable { IsReadable source.now }
     requires at { at ≤ length source.now.tokens.now }
     ensures ok { OnOk result (is_word (text_of source.now) at word ≡ false) }
