@@ -14,8 +14,8 @@ use Rattle.cr_syntax.specs.declared.symbol.Part.{Part}
 use Rattle.cr_syntax.specs.declared.symbol.Part.TheVariants as part
 use Rattle.cr_exprs.specs.declared.goal.Goal.{Goal}
 use Rattle.cr_exprs.specs.declared.goal.Goal.TheVariants.{Expression, Assignment, Conditional}
-use Rattle.cr_exprs.specs.declared.reading.Wanted.{Wanted}
-use Rattle.cr_exprs.specs.declared.reading.Wanted.TheVariants.{Named, Unnamed, Either}
+use Rattle.cr_exprs.specs.declared.declarators.Wanted.{Wanted}
+use Rattle.cr_exprs.specs.declared.declarators.Wanted.TheVariants.{Named, Unnamed, Either}
 
 -- behind the `?` of a conditional whose test is read
 abbrev pub chosen : ℕ → ℕ → Trees → Prog

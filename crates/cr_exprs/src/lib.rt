@@ -8,15 +8,18 @@
 #![tactic(auto)]
 
 mod arena;
-mod calls;
+mod declarators;
+mod expressions;
 mod fault;
 mod found;
 mod front;
 mod goal;
 mod names;
+mod operands;
 mod reading;
 mod scopes;
 mod source;
+mod specifiers;
 mod tables;
 #[cfg(test)]
 mod tests;

@@ -1,5 +1,5 @@
 ghost use Rattle.std.specs.Prelude.{◌≡◌, ℕ, ◌≤◌, ◌<◌, ◌^◌, IsTrue, IfOk, IfErr, OnOk, OnErr, true, false, length};
-ghost use Rattle.cr_syntax.specs.Words.{AreSpans, spelling_at};
+ghost use Rattle.cr_syntax.specs.Words.{AreSpans, spelling_at, word_at};
 ghost use Rattle.cr_syntax.specs.Reads.{is_word};
 ghost use Rattle.cr_syntax.specs.Units.{is_unused};
 ghost use Rattle.cr_syntax.specs.Machine.{has_word, passes, has, or, ordinary, type_identifier, declared, verdict, barred, overflows, too_deep};
@@ -38,6 +38,15 @@ pub fn words_of(alloc: Global, file: &[u8], tokens: &[Token]) -> Result<Vec<Word
         words.push(word_at(file, token))?;
     }
     Ok(words)
+}
+
+/// What the token with this number is to the grammar, none where there is no token.
+fn here(source: &Source, at: usize) -> Option<Word>
+    requires { IsReadable source.now }
+    ensures { result ≡ word_at (text_of source.now) at }
+{
+    let word = source.words.get(at)?;
+    Some(*word)
 }
 
 /// Whether the token with this number is this word.
@@ -99,7 +108,7 @@ pub fn starts_plain(source: &Source, at: usize, typed: bool, scopes: &LinkedList
     requires { IsReadable source.now }
     ensures { result ≡ passes (text_of source.now) scopes.now at (or (has is_plain_start) (type_identifier typed)) }
 {
-    has_plain_start(source, at) || is_type_identifier(source, at, typed, scopes)
+    here(source, at).is_some_and(is_plain_start) || is_type_identifier(source, at, typed, scopes)
 }
 
 /// Whether a specifier begins here, where a type specifier stands before it or doesn't.
@@ -107,7 +116,8 @@ pub fn starts_specifier(source: &Source, at: usize, typed: bool, scopes: &Linked
     requires { IsReadable source.now }
     ensures { result ≡ passes (text_of source.now) scopes.now at (or (has is_specifier_start) (type_identifier typed)) }
 {
-    has_specifier_start(source, at) || is_type_identifier(source, at, typed, scopes)
+    here(source, at).is_some_and(is_specifier_start)
+        || is_type_identifier(source, at, typed, scopes)
 }
 
 /// Whether a declarator without a name begins here.
@@ -115,10 +125,7 @@ pub fn starts_abstract(source: &Source, at: usize) -> bool
     requires { IsReadable source.now }
     ensures { result ≡ has_word (text_of source.now) at is_abstract_start }
 {
-    match source.words.get(at) {
-        Some(word) => is_abstract_start(*word),
-        None => false,
-    }
+    here(source, at).is_some_and(is_abstract_start)
 }
 
 /// Whether a declarator with or without a name begins here.
@@ -126,40 +133,7 @@ pub fn starts_declarator(source: &Source, at: usize) -> bool
     requires { IsReadable source.now }
     ensures { result ≡ has_word (text_of source.now) at is_declarator_start }
 {
-    match source.words.get(at) {
-        Some(word) => is_declarator_start(*word),
-        None => false,
-    }
-}
-
-fn has_plain_start(source: &Source, at: usize) -> bool
-    requires { IsReadable source.now }
-    ensures { result ≡ has_word (text_of source.now) at is_plain_start }
-{
-    match source.words.get(at) {
-        Some(word) => is_plain_start(*word),
-        None => false,
-    }
-}
-
-fn has_specifier_start(source: &Source, at: usize) -> bool
-    requires { IsReadable source.now }
-    ensures { result ≡ has_word (text_of source.now) at is_specifier_start }
-{
-    match source.words.get(at) {
-        Some(word) => is_specifier_start(*word),
-        None => false,
-    }
-}
-
-fn has_unused(source: &Source, at: usize) -> bool
-    requires { IsReadable source.now }
-    ensures { result ≡ has_word (text_of source.now) at is_unused }
-{
-    match source.words.get(at) {
-        Some(word) => is_unused(*word),
-        None => false,
-    }
+    here(source, at).is_some_and(is_declarator_start)
 }
 
 fn is_plain_start(word: Word) -> bool
@@ -327,7 +301,7 @@ pub fn bar_unused(source: &Source, at: usize, depth: usize) -> Result<(), ParseF
     ensures row { IfErr result (λ fault. fault ≡ ParseFault.OutsideSubset at 1) }
     ensures err { IfErr result (λ fault. IsRefusal (text_of source.now) fault (barred (text_of source.now) 1 at depth) at) }
 {
-    if has_unused(source, at) {
+    if here(source, at).is_some_and(is_unused) {
         return Err(ParseFault::OutsideSubset(at as u32, 1));
     }
     Ok(())

@@ -86,7 +86,7 @@ pub(crate) const POSTFIX: [(Word, Kind); 2] = [
     (Word::MinusMinus, Kind::PostDecrement),
 ];
 
-/// The words that are a specifier by themselves (6.7.1 to 6.7.4), and those without storage classes.
+/// The words that are a specifier by themselves (6.7.1 to 6.7.4), the plain ones last.
 const SPECIFIERS: [(Word, Kind); 15] = [
     (Word::Typedef, Kind::Typedef),
     (Word::Extern, Kind::Extern),
@@ -105,17 +105,8 @@ const SPECIFIERS: [(Word, Kind); 15] = [
     (Word::Bool, Kind::Bool),
 ];
 
-const PLAIN: [(Word, Kind); 9] = [
-    (Word::Const, Kind::Const),
-    (Word::Void, Kind::Void),
-    (Word::Char, Kind::Char),
-    (Word::Short, Kind::Short),
-    (Word::Int, Kind::Int),
-    (Word::Long, Kind::Long),
-    (Word::Signed, Kind::Signed),
-    (Word::Unsigned, Kind::Unsigned),
-    (Word::Bool, Kind::Bool),
-];
+/// Where the plain specifiers begin.
+const FIRST_PLAIN: usize = 6;
 
 /// The kind that a table gives the word that stands here.
 pub(crate) fn kind_in(table: &[(Word, Kind)], source: &Source, at: usize) -> Option<Kind>
@@ -188,6 +179,6 @@ pub(crate) fn specifier_in(part: Part, source: &Source, at: usize) -> Option<Kin
 {
     match part {
         Part::Specifiers => kind_in(&SPECIFIERS, source, at),
-        _ => kind_in(&PLAIN, source, at),
+        _ => kind_in(&SPECIFIERS[FIRST_PLAIN..], source, at),
     }
 }

@@ -4,7 +4,7 @@ use Rattle.cr_exprs.proofs.Loose.{placed_push}
 use Rattle.cr_exprs.proofs.Runs.{exit, stops, goes_on, handed}
 use Rattle.cr_syntax.specs.Machine.{suffixes, run_here, run_take, run_pass, run_stop}
 use Rattle.cr_syntax.specs.MachineBody.{body}
-use Rattle.cr_exprs.proofs.reading.member.Goals as goal
+use Rattle.cr_exprs.proofs.operands.member.Goals as goal
 
 pub returns-in_err-expect-clause-reads : goal.returns-in_err-expect-clause-reads
 returns-in_err-expect-clause-reads c = λ c'. exit c.from_residual.result _ c.from_residual.ensures.1 (stops c.in_err-expect.ensures.err (run_pass c.in_err-expect.ensures.other run_stop))

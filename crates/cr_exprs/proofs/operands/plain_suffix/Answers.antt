@@ -7,7 +7,7 @@ use Rattle.cr_exprs.specs.Answers.{tree}
 use Rattle.cr_exprs.proofs.Nodes.{keeps_none}
 use Rattle.cr_exprs.proofs.Loose.{placed_over}
 use Rattle.cr_exprs.proofs.Runs.{exit, fails, no_memory, handed, chosen_here, chosen_none, shift}
-use Rattle.cr_exprs.proofs.reading.plain_suffix.Goals as goal
+use Rattle.cr_exprs.proofs.operands.plain_suffix.Goals as goal
 
 pub returns-in_err-longer-clause-reads : goal.returns-in_err-longer-clause-reads
 returns-in_err-longer-clause-reads c = λ c'. exit c.from_residual.result _ c.from_residual.ensures.1 (fails (c.in_err-longer.ensures.reads c').is (λ x k h. run_pass c.requires.other (run_take (sym c.stands.ensures.answer ∙ c.if-stands.true) tt h)))
