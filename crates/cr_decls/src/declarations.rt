@@ -13,7 +13,7 @@ use crate::names::declare;
 use crate::start::bar_designator;
 use cr_exprs::{
     Found, Goal, ParseFault, Source, expect, named_declarator, over, pair, past, push, read, room,
-    row_of, specifiers, stands,
+    row_of, specifier_row, stands,
 };
 use cr_rows::Row;
 use cr_syntax::{FRESH, Kind, Node, Scope, Word, past_token};
@@ -129,7 +129,7 @@ pub(crate) fn declaration(
     ensures reads { Reads (text_of source.now) (body (declaration depth)) scopes.old at nodes.new scopes.new result }
     ensures placed { IfOk result (λ x. IsPlaced (length source.now.tokens.now) at nodes.old nodes.new [] x) }
 {
-    let specifiers = specifiers(alloc, source, at, depth, scopes, nodes)?;
+    let specifiers = specifier_row(alloc, source, at, depth, scopes, nodes)?;
     if stands(source, specifiers.next, Word::Semicolon) {
         return over(
             alloc,

@@ -16,7 +16,7 @@ use crate::names::define;
 use crate::start::stands_any;
 use crate::statements::compound;
 use cr_exprs::{
-    Found, ParseFault, Source, drop_scope, named_declarator, over, past, row_of, specifiers,
+    Found, ParseFault, Source, drop_scope, named_declarator, over, past, row_of, specifier_row,
     stands, triple,
 };
 use cr_rows::Row;
@@ -62,7 +62,7 @@ fn external(
     ensures reads { Settles (text_of source.now) (body (external nowhere 0)) scopes.old at (λ x. tree nodes.new x.node) scopes.new (λ x. x.next) result }
     ensures placed { IfOk result (λ x. IsPlaced (length source.now.tokens.now) at nodes.old nodes.new [] x) }
 {
-    let specifiers = specifiers(alloc, source, at, 0, scopes, nodes)?;
+    let specifiers = specifier_row(alloc, source, at, 0, scopes, nodes)?;
     if stands(source, specifiers.next, Word::Semicolon) {
         return over(
             alloc,

@@ -9,11 +9,13 @@ ghost use Rattle.cr_exprs.specs.Source.{IsReadable, text_of};
 ghost use Rattle.cr_exprs.specs.Answers.{Reads, IsPlaced};
 ghost use Rattle.cr_exprs.specs.Parts.{part_of};
 
+use crate::declarators::{Wanted, declarator};
 use crate::fault::ParseFault;
 use crate::found::Found;
 use crate::goal::Goal;
-use crate::reading::{Wanted, declarator, row, started};
+use crate::reading::started;
 use crate::source::Source;
+use crate::specifiers::row;
 use cr_rows::Row;
 use cr_syntax::{Context, Node, Part, Scope};
 use std::alloc::Global;
@@ -40,7 +42,7 @@ pub fn read(
 }
 
 /// Specifiers, with storage classes.
-pub fn specifiers(
+pub fn specifier_row(
     alloc: Global,
     source: &Source,
     at: usize,
