@@ -3,6 +3,7 @@ pub mod Tests
 pub mod Sound
 pub mod Equations
 pub mod Ranks
+pub mod Grades
 pub mod Complete
 pub mod Arena
 pub mod Statements
@@ -19,7 +20,10 @@ pub mod MachineSpells
 pub mod MachineGives
 pub mod MachineKept
 pub mod MachineMeans
+pub mod MachineUnitSound
 pub mod MachineSound
+pub mod MachineUnits
+pub mod MachineLabels
 pub mod MachineFirst
 pub mod MachineTasks
 pub mod MachineExpressions

@@ -1,7 +1,6 @@
 -- What the machine reads is spelled: each goal's program gives what its meaning says.
-use Rattle.std.proofs.Common.{◌≡◌, ℕ, ◌+◌, ◌<◌, Bool, true, false, List, [], ◌∷◌, length, refl, sym, ap, subst, ◌∙◌, arith}
+use Rattle.std.proofs.Common.{◌≡◌, ℕ, ◌+◌, true, false, List, [], ◌∷◌, refl, sym, ap, subst, ◌∙◌, arith}
 use Rattle.std.specs.Prelude.{if◌then◌else◌}
-use borrow.Author.Tests.{lt-ltb}
 use Rattle.cr_syntax.specs.declared.word.Word.{Word}
 use Rattle.cr_syntax.specs.declared.word.Word.TheVariants as word
 use Rattle.cr_syntax.specs.declared.node.Kind.{Kind}
@@ -12,22 +11,26 @@ use Rattle.cr_syntax.specs.declared.symbol.Part.TheVariants as part
 use Rattle.cr_syntax.specs.declared.symbol.Symbol.TheVariants as symbol
 use Rattle.cr_syntax.specs.declared.symbol.Context.{Context}
 use Rattle.cr_syntax.specs.declared.scopes.TypeName.{TypeName}
-use Rattle.cr_syntax.specs.Words.{Lexeme, spelling_at}
+use Rattle.cr_syntax.specs.Words.{Lexeme}
 use Rattle.cr_syntax.specs.Scopes.{Scopes, enter}
 use Rattle.cr_syntax.specs.Trees.{Trees, none, node, one, ◌&◌}
-use Rattle.cr_syntax.specs.Context.{fresh, past_token, past_part, declared_in, fits_together, is_bare}
+use Rattle.cr_syntax.specs.Context.{fresh, past_token, past_part, fits_together, is_bare}
 use Rattle.cr_syntax.specs.Grammar.{Side, Alternative, prefix, token, assignment_by, inner_optional, closing, many, list, part, binary}
 use Rattle.cr_syntax.specs.Grammar as grammar
 use Rattle.cr_syntax.specs.Spells.{Limit, Is, Stands, Within, Spells, a, rest, AreConst, const_none, const_more}
 use Rattle.cr_syntax.specs.Spells as spells
 use Rattle.cr_syntax.specs.Machine.{Goal, Prog, Manner, Wanted, named, unnamed, either, Runs, Done, Reply, Allows, plain, opens, reopens, give, stop, take, when, call, into, made, choose, the, around, innermost_of, brought, name_before}
 use Rattle.cr_syntax.specs.Machine.{whole, expression, commas, assignment, conditional, operands, cast, unary, measured, postfix, called, grouped, texts, arguments, suffixes, type_name, row, more, element, structure, members, member, member_declarators, enumeration, enumerators, enumerator, consts, declarator, declarator_suffixes, abstract_suffixes, size, parameters, more_parameters, parameter}
+use Rattle.cr_syntax.specs.Machine.{unit, externals, external, declaration, init_declarators, initialized, initializer, initializers, statement, block, if_rest, switch_rest, while_rest, do_rest, for_rest, return_rest, for_clauses, clause, compound, items, item}
 use Rattle.cr_syntax.specs.Machine as m
 use Rattle.cr_syntax.specs.MachineBody.{body, assigned, operated, prefixed, suffixed, sized, other_primary, suffixes_end, other_element, array_start, Words, is_declarator, may_name, may_omit, start_goal, tighter, assignment_operators, operators, unary_prefixes, cast_prefixes, constants, postfix_operators, specifier_words, plain_words, row_kind, in_row, in_parameters}
 use Rattle.cr_syntax.proofs.MachineMeans as means
 use Rattle.cr_syntax.proofs.MachineSpells as facts
+pub use Rattle.cr_syntax.proofs.MachineSpells.{brought_is, name_is}
+pub use Rattle.cr_syntax.proofs.MachineMeans.{open_of}
+use Rattle.cr_syntax.proofs.MachineUnitSound.{gives_unit, gives_externals, gives_external, gives_declaration, gives_init_declarators, gives_initialized, gives_initializer, gives_initializers, gives_statement, gives_block, gives_if_rest, gives_switch_rest, gives_while_rest, gives_do_rest, gives_for_rest, gives_return_rest, gives_for_clauses, gives_clause, gives_compound, gives_items, gives_item}
 use Rattle.cr_syntax.proofs.MachineSpells.{and_none, and_and, pushed, is_one, named_before, unary_in}
-use Rattle.cr_syntax.proofs.MachineGives.{Gives, gives, idle, AllRows, no_rows, also, gives_choose}
+use Rattle.cr_syntax.proofs.MachineGives.{Gives, gives, AllRows, no_rows, also, gives_choose}
 use Rattle.cr_syntax.proofs.MachineKept.{Kept, runs_kept, not_both}
 use Rattle.cr_syntax.proofs.MachineMeans.{Means, Reads, Behind, IsDeclared, with_name, without, IsSize, unsized, IsParameterRow, first_one, next_one, IsRowBegin, IsOpen, has_some, start_part, is_level, row_part, element_part}
 
@@ -71,15 +74,6 @@ Follows w k = Makes part.Postfix (part part.Postfix ∷ token w ∷ []) k
 pub postfix_rows : AllRows Follows postfix_operators
 postfix_rows = also (makes grammar.post_increment (λ t. refl)) (also (makes grammar.post_decrement (λ t. refl)) no_rows)
 
--- a scope is open where there is one
-pub open_of : (c : Scopes) → 0 < length c → IsOpen c
-open_of [] q = absurd (omega arith)
-open_of (names ∷ c) q = refl
-
--- a name that enters behind it
-pub brought_is : (ts : List Lexeme) (i k : ℕ) (b : Bool) → k < i → brought ts i k b ≡ record { name = spelling_at ts k; is_type = b }
-brought_is ts i k b lt = ap (λ x. record { name = if x then spelling_at ts k else []; is_type = b }) (lt-ltb k i lt)
-
 -- Rows.
 
 pub part_some : {ts : List Lexeme} {limit : Limit} {p : Part} {h : Context} {c e : Scopes} {d i j : ℕ} {t : Trees} →
@@ -113,10 +107,6 @@ two_parameters s e (node k i j b (node k'' i'' j'' b'' n'')) (node k' i' j' b' n
 pub bare_is : {ts : List Lexeme} {limit : Limit} {p : Part} {h' : Context} {c e : Scopes} {d i j : ℕ} {t : Trees} →
     Spells ts limit (a p) h' c e d t i j → (h : Context) → (past_part h t).bare ≡ is_bare t
 bare_is s h = let w = is_one s in subst (λ x. (past_part h x).bare ≡ is_bare x) (sym w.2) refl
-
-pub name_is : {ts : List Lexeme} {limit : Limit} {p : Part} {h' : Context} {c e : Scopes} {d i j : ℕ} {t : Trees} →
-    Spells ts limit (a p) h' c e d t i j → (h : Context) → (past_part h t).name ≡ declared_in t
-name_is s h = let w = is_one s in subst (λ x. (past_part h x).name ≡ declared_in x) (sym w.2) refl
 
 pub many_of : {ts : List Lexeme} {limit : Limit} {l : Depth} {p : Part} {r : Side} {h : Context} {c e : Scopes} {d i j : ℕ} {t : Trees} →
     Spells ts limit (rest (symbol.Part l p ∷ symbol.Many l p ∷ r)) h c e d t i j → Spells ts limit (rest (symbol.Many l p ∷ r)) h c e d t i j
@@ -594,7 +584,27 @@ module _ (us : List Lexeme) (top : Limit) where
           subst (λ v. Spells us top (a part.Parameter) h c (enter v (around f)) d (one kind.Parameter i k (t & u & none)) i k)
           (sym (brought_is us k (past_part (past_part fresh t) u).name (past_part (past_part fresh t) u).type_name (omega arith)))
           (spells.of_alternative grammar.parameter_declaration refl (spells.part x (spells.part (spells.parameter_declarator (subst (λ v. Spells us top (a part.Declarator) (past_part fresh t) e v d u j k) o s)) spells.done)))
-  each g c i = idle us top Kept (Means us top) (body g) c i
+  each (unit l d) c i = gives_unit us top l d c i
+  each (externals l d y) c i = gives_externals us top l d y c i
+  each (external l d) c i = gives_external us top l d c i
+  each (declaration d) c i = gives_declaration us top d c i
+  each (init_declarators h d s y) c i = gives_init_declarators us top h d s y c i
+  each (initialized d q y) c i = gives_initialized us top d q y c i
+  each (initializer d) c i = gives_initializer us top d c i
+  each (initializers d s y) c i = gives_initializers us top d s y c i
+  each (statement l d) c i = gives_statement us top l d c i
+  each (block l d) c i = gives_block us top l d c i
+  each (if_rest l d s) c i = gives_if_rest us top l d s c i
+  each (switch_rest l d s) c i = gives_switch_rest us top l d s c i
+  each (while_rest l d s) c i = gives_while_rest us top l d s c i
+  each (do_rest l d s) c i = gives_do_rest us top l d s c i
+  each (for_rest l d s) c i = gives_for_rest us top l d s c i
+  each (return_rest d s) c i = gives_return_rest us top d s c i
+  each (for_clauses l d s y) c i = gives_for_clauses us top l d s y c i
+  each (clause d) c i = gives_clause us top d c i
+  each (compound l d) c i = gives_compound us top l d c i
+  each (items l d s y) c i = gives_items us top l d s y c i
+  each (item l d) c i = gives_item us top l d c i
 
 -- what a goal's program answers is spelled
 pub runs_sound : {ts : List Lexeme} {limit : Limit} (g : Goal) (c e : Scopes) (i j : ℕ) (t : Trees) → Runs body ts limit (body g) c i (Done t e j) → Means ts limit g c i t e j

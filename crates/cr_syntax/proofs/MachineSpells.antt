@@ -1,17 +1,20 @@
 -- What the machine's laws need of spelling: a part is one tree, its tokens go on to the right, a declarator's name stands
 -- in it, and an expression that an assignment operator can stand behind is a unary one.
-use Rattle.std.proofs.Common.{◌≡◌, ℕ, ◌<◌, ◌≤◌, true, List, refl, sym, ap, subst, ◌∙◌, arith}
+use Rattle.std.proofs.Common.{◌≡◌, ℕ, ◌<◌, ◌≤◌, Bool, true, List, [], refl, sym, ap, subst, ◌∙◌, arith}
+use Rattle.std.specs.Prelude.{if◌then◌else◌}
+use borrow.Author.Tests.{lt-ltb}
 use Rattle.cr_syntax.specs.declared.node.Kind.{Kind}
 use Rattle.cr_syntax.specs.declared.symbol.Part.{Part}
 use Rattle.cr_syntax.specs.declared.symbol.Part.TheVariants as part
 use Rattle.cr_syntax.specs.declared.symbol.Context.{Context}
-use Rattle.cr_syntax.specs.Words.{Lexeme}
+use Rattle.cr_syntax.specs.Words.{Lexeme, spelling_at}
 use Rattle.cr_syntax.specs.Scopes.{Scopes}
 use Rattle.cr_syntax.specs.Trees.{Trees, none, node, one, ◌&◌}
-use Rattle.cr_syntax.specs.Context.{fresh, declared_in}
+use Rattle.cr_syntax.specs.Context.{fresh, past_part, declared_in, declared_name}
 use Rattle.cr_syntax.specs.Grammar as grammar
 use Rattle.cr_syntax.specs.Spells.{Limit, Phrase, a, rest, Spells, AreConst, const_none, const_more}
 use Rattle.cr_syntax.specs.Spells as spells
+use Rattle.cr_syntax.specs.Machine.{brought}
 use Rattle.cr_syntax.specs.MachineBody.{is_unary}
 
 -- Rows of trees.
@@ -116,6 +119,23 @@ named_before by_direct (spells.of_alternative grammar.name_declarator f (spells.
 named_before by_direct (spells.of_alternative grammar.group_declarator f (spells.opens q w (spells.part {u = u} x s))) = later_name x u (named_before by_declarator x) (forth s)
 named_before by_direct (spells.of_alternative grammar.array_declarator f (spells.part {u = u} x s)) = later_name x u (named_before by_direct x) (forth s)
 named_before by_direct (spells.of_alternative grammar.function_declarator f (spells.part {u = u} x s)) = later_name x u (named_before by_direct x) (forth s)
+
+-- it is the one that is said after it
+pub name_is : {ts : List Lexeme} {limit : Limit} {p : Part} {h' : Context} {c e : Scopes} {d i j : ℕ} {t : Trees} →
+    Spells ts limit (a p) h' c e d t i j → (h : Context) → (past_part h t).name ≡ declared_in t
+name_is s h = let w = is_one s in subst (λ x. (past_part h x).name ≡ declared_in x) (sym w.2) refl
+
+-- a name that enters behind it
+pub brought_is : (ts : List Lexeme) (i k : ℕ) (b : Bool) → k < i → brought ts i k b ≡ record { name = spelling_at ts k; is_type = b }
+brought_is ts i k b lt = ap (λ x. record { name = if x then spelling_at ts k else []; is_type = b }) (lt-ltb k i lt)
+
+-- a declared name that enters behind its declarator
+pub name_brought : {ts : List Lexeme} {limit : Limit} {h' : Context} {c e : Scopes} {d i j : ℕ} {t : Trees} →
+    Spells ts limit (a part.Declarator) h' c e d t i j → (h : Context) → brought ts j (past_part h t).name (past_part h t).type_name ≡ declared_name ts (past_part h t)
+name_brought {ts = ts} {j = j} {t = t} s h =
+    let n = named_before by_declarator s in
+    let m = name_is s h in
+    brought_is ts j (past_part h t).name (past_part h t).type_name (omega arith)
 
 -- the parts that a unary expression can be alone, up to a conditional one
 pub data Looser : Part → Type 0 where
