@@ -25,12 +25,17 @@ pub mod MachineSound
 pub mod MachineUnits
 pub mod MachineLabels
 pub mod MachineFirst
+pub mod MachineFits
 pub mod MachineTasks
 pub mod MachineExpressions
 pub mod MachineBegins
 pub mod MachineTypes
 pub mod MachineDeclarators
+pub mod MachineDeclarations
+pub mod MachineStatements
 pub mod MachineComplete
+pub mod MachineVariadic
+pub mod MachineUnitComplete
 pub mod MachineExtend
 pub mod MachineFails
 pub mod MachineGrows

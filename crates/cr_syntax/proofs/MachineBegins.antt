@@ -94,7 +94,7 @@ plain_yes : {ts : List Lexeme} {c : Scopes} {i : ℕ} {typed : Bool} → PlainFi
 plain_yes {ts = ts} {c = c} {i = i} {typed = typed} (by_plain q n) = or_left (m.has_word ts i is_plain_start) (m.passes ts c i (m.type_identifier typed)) (sorted is_plain_start true q n)
 plain_yes {ts = ts} {c = c} {i = i} {typed = typed} (by_type q n) = or_right (m.has_word ts i is_plain_start) (m.passes ts c i (m.type_identifier typed)) (type_test ts c i typed q n)
 
-specifier_yes : {ts : List Lexeme} {c : Scopes} {i : ℕ} {typed : Bool} → ElementFirst ts c i typed → m.passes ts c i (m.or (m.has is_specifier_start) (m.type_identifier typed)) ≡ true
+pub specifier_yes : {ts : List Lexeme} {c : Scopes} {i : ℕ} {typed : Bool} → ElementFirst ts c i typed → m.passes ts c i (m.or (m.has is_specifier_start) (m.type_identifier typed)) ≡ true
 specifier_yes {ts = ts} {c = c} {i = i} {typed = typed} (by_storage q n) = or_left (m.has_word ts i is_specifier_start) (m.passes ts c i (m.type_identifier typed)) (sorted is_specifier_start true q n)
 specifier_yes {ts = ts} {c = c} {i = i} {typed = typed} (of_plain (by_plain {w = w} q n)) =
     or_left (m.has_word ts i is_specifier_start) (m.passes ts c i (m.type_identifier typed)) (sorted is_specifier_start true q (plain_is_specifier w n))
@@ -106,6 +106,7 @@ pub data NoSpecifier : Word → Type 0 where
   no_right_brace : NoSpecifier word.RightBrace
   no_ellipsis : NoSpecifier word.Ellipsis
   no_right_paren : NoSpecifier word.RightParen
+  no_else : NoSpecifier word.Else
 
 same_is : (v w : Word) → same_word v w ≡ true → v ≡ w
 same_is v w q = same_true word_type.the_type tt v w q
@@ -118,6 +119,7 @@ not_specifier v w n s = false_by (same_word v w) (λ q. by n (subst (λ x. is_sp
     by no_right_brace q = none_true q
     by no_ellipsis q = none_true q
     by no_right_paren q = none_true q
+    by no_else q = none_true q
 
 pub never_element : {ts : List Lexeme} {c : Scopes} {i : ℕ} {typed : Bool} {w : Word} → ElementFirst ts c i typed → NoSpecifier w → is_word ts i w ≡ false
 never_element {w = w} (by_storage {w = v} q s) n = differs q w (not_specifier v w n s)
@@ -126,6 +128,7 @@ never_element (of_plain (by_type q s)) no_left_brace = differs q.0 word.LeftBrac
 never_element (of_plain (by_type q s)) no_right_brace = differs q.0 word.RightBrace refl
 never_element (of_plain (by_type q s)) no_ellipsis = differs q.0 word.Ellipsis refl
 never_element (of_plain (by_type q s)) no_right_paren = differs q.0 word.RightParen refl
+never_element (of_plain (by_type q s)) no_else = differs q.0 word.Else refl
 
 pub element_first : (p : Part) {ts : List Lexeme} {limit : Limit} {h : Context} {c e : Scopes} {d i j : ℕ} {t : Trees} → Spells ts limit (a (element_part p)) h c e d t i j → ElementFirst ts c i h.typed
 element_first part.Specifiers s = specifier_first s

@@ -22,6 +22,8 @@ use Rattle.cr_syntax.proofs.MachineTasks as task
 use Rattle.cr_syntax.proofs.MachineExpressions.{level_reads, expression_reads, assignment_reads, conditional_reads, cast_reads, unary_reads, postfix_reads, arguments_read, at_level, at_assignment, at_unary, whole_expression}
 use Rattle.cr_syntax.proofs.MachineTypes.{element_reads, elements_read, specifiers_read, plain_specifiers_read, type_name_reads, member_list_reads, member_reads, members_read, enumerators_read, enumerator_reads}
 use Rattle.cr_syntax.proofs.MachineDeclarators.{declarator_reads, direct_reads, abstract_reads, direct_abstract_reads, parameters_read, parameter_list_reads, variadic_list_reads, parameter_reads}
+use Rattle.cr_syntax.proofs.MachineDeclarations.{initializer_reads, initializers_read, init_declarators_read, declaration_reads, external_reads, externals_read}
+use Rattle.cr_syntax.proofs.MachineStatements.{statement_reads, compound_reads, items_read, item_reads}
 
 module _ (ts : List Lexeme) (limit : Limit) where
   reads : (n : ℕ) → Smaller ts limit n → {p : Phrase} {h : Context} {c e : Scopes} {d i j : ℕ} {t : Trees} (k : Task p) (s : Spells ts limit p h c e d t i j) → measure s < suc n →
@@ -52,6 +54,16 @@ module _ (ts : List Lexeme) (limit : Limit) where
   reads n b task.parameter s lt = parameter_reads ts limit n b s lt
   reads n b task.parameter_list s lt = parameter_list_reads ts limit n b s lt
   reads n b task.variadic_list s lt = variadic_list_reads ts limit n b s lt
+  reads n b task.external s lt = external_reads ts limit n b s lt
+  reads n b task.externals s lt = externals_read ts limit n b s lt
+  reads n b task.declaration s lt = declaration_reads ts limit n b s lt
+  reads n b task.init_declarators s lt = init_declarators_read ts limit n b s lt
+  reads n b task.initializer s lt = initializer_reads ts limit n b s lt
+  reads n b task.initializers s lt = initializers_read ts limit n b s lt
+  reads n b task.statement s lt = statement_reads ts limit n b s lt
+  reads n b task.compound s lt = compound_reads ts limit n b s lt
+  reads n b task.items s lt = items_read ts limit n b s lt
+  reads n b task.item s lt = item_reads ts limit n b s lt
 
   smaller : (n : ℕ) → Smaller ts limit n
   smaller zero = record { read = λ k s lt. absurd (omega arith) }
@@ -73,7 +85,7 @@ module _ (ts : List Lexeme) (limit : Limit) where
   read_is_spelled h {c = c} {e = e} {d = d} {i = i} {j = j} {t = t} start_conditional x = runs_sound (start_goal part.Conditional d) c e i j t x h
 
 -- behind the last token nothing goes on
-get_past : (ts : List Lexeme) → slice_get ts (length ts) ≡ None
+pub get_past : (ts : List Lexeme) → slice_get ts (length ts) ≡ None
 get_past [] = refl
 get_past (x ∷ ts) = get_past ts
 
@@ -83,7 +95,7 @@ free_at_end ts n = record { all = λ w q. none_some (sym (ap (λ o. elim o as (�
     none_some : {A : Type 0} {w : Word} → None ≡ Some w → A
     none_some q = cc
 
-done_alike : {t u : Trees} {e f : Scopes} {i j : ℕ} → Done t e i ≡ Done u f j → (t ≡ u) × (e ≡ f)
+pub done_alike : {t u : Trees} {e f : Scopes} {i j : ℕ} → Done t e i ≡ Done u f j → (t ≡ u) × (e ≡ f)
 done_alike {t = t} {e = e} q = subst (λ r. OnDone r (λ u f k. (t ≡ u) × (e ≡ f))) q (refl, refl)
 
 pub one_tree : {ts : List Lexeme} {limit : Limit} {p : Part} {h h' : Context} {c e f : Scopes} {d i : ℕ} {t u : Trees} → IsStart p →
@@ -92,7 +104,7 @@ one_tree {ts = ts} {limit = limit} k s s' = done_alike (same (spelled_is_read ts
 
 -- A run that no level stops is one without a limit.
 
-abbrev IsNotDeep : Reply → Type 0
+abbrev pub IsNotDeep : Reply → Type 0
 IsNotDeep (Done t e j) = Unit {0}
 IsNotDeep (Failed x k) = x ≡ m.too_deep → ⊥
 
@@ -101,7 +113,7 @@ allows_free m.plain i d = tt
 allows_free m.opens i d = tt
 allows_free m.reopens i d = (tt, tt)
 
-unlimited : {ts : List Lexeme} {limit : Limit} {p : Prog} {c : Scopes} {i : ℕ} {r : Reply} → Runs body ts limit p c i r → IsNotDeep r → Runs body ts Free p c i r
+pub unlimited : {ts : List Lexeme} {limit : Limit} {p : Prog} {c : Scopes} {i : ℕ} {r : Reply} → Runs body ts limit p c i r → IsNotDeep r → Runs body ts Free p c i r
 unlimited m.run_give n = m.run_give
 unlimited m.run_stop n = m.run_stop
 unlimited m.run_refuse n = m.run_refuse
@@ -121,7 +133,7 @@ unlimited (m.run_bring h) n = m.run_bring (unlimited h n)
 unlimited (m.run_call h k) n = m.run_call (unlimited h tt) (unlimited k n)
 unlimited (m.run_fail h) n = m.run_fail (unlimited h n)
 
-get_some : (ts : List Lexeme) (i : ℕ) → i < length ts → (x : Lexeme) × (slice_get ts i ≡ Some x)
+pub get_some : (ts : List Lexeme) (i : ℕ) → i < length ts → (x : Lexeme) × (slice_get ts i ≡ Some x)
 get_some [] i lt = absurd (omega arith)
 get_some (x ∷ ts) zero lt = (x, refl)
 get_some (x ∷ ts) (suc i) lt = get_some ts i (omega arith)
@@ -155,7 +167,7 @@ refuses_upto n most m.plain i d lt w v = w tt
 refuses_upto n most m.opens i d lt w v = w (v lt)
 refuses_upto n most m.reopens i d lt w v = w (tt, v.1 lt)
 
-upto : {ts : List Lexeme} {most : ℕ} {p : Prog} {c : Scopes} {i : ℕ} {r : Reply} (n : ℕ) → end_of r < n → Runs body ts (AtMost most) p c i r → Runs body ts (Upto n most) p c i r
+pub upto : {ts : List Lexeme} {most : ℕ} {p : Prog} {c : Scopes} {i : ℕ} {r : Reply} (n : ℕ) → end_of r < n → Runs body ts (AtMost most) p c i r → Runs body ts (Upto n most) p c i r
 upto n lt m.run_give = m.run_give
 upto n lt m.run_stop = m.run_stop
 upto n lt m.run_refuse = m.run_refuse

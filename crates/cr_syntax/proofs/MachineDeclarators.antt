@@ -26,7 +26,7 @@ use Rattle.cr_syntax.proofs.MachineFirst.{none_true, yes, differs, sorted, free_
 use Rattle.cr_syntax.proofs.MachineSound.{brought_is, part_some, pushed_some, two_parameters, bare_is, name_is}
 use Rattle.cr_syntax.proofs.MachineSpells.{is_one, named_before}
 use Rattle.cr_syntax.proofs.MachineSpells as facts
-use Rattle.cr_syntax.proofs.MachineTasks.{measure, Lone, lone_by, lone_free, Closes, by_paren, by_comma, by_semicolon, past_row, Task, Goes, Answers, Completes, Smaller}
+use Rattle.cr_syntax.proofs.MachineTasks.{measure, Lone, lone_by, lone_free, Closes, by_paren, by_comma, by_semicolon, EndsName, by_closing, by_equal, by_brace, past_row, Task, Goes, Answers, Completes, Smaller}
 use Rattle.cr_syntax.proofs.MachineTasks as task
 use Rattle.cr_syntax.proofs.MachineBegins.{or_left, or_right, type_test, ElementFirst, never_element, no_ellipsis, no_right_paren, element_first, element_yes, member_first, parameter_first, past_one, row_typed, NamedFirst, by_star, by_name, named_first, UnnamedFirst, at_star, at_paren, at_bracket, unnamed_first, owned, is_named, is_unnamed}
 use Rattle.cr_syntax.proofs.MachineBegins as begin
@@ -36,10 +36,17 @@ use Rattle.cr_syntax.proofs.MachineTypes.{closes_row, closes_apart, unnamed_row,
 
 -- Tokens around declarators.
 
-closes_other : {ts : List Lexeme} {j : ℕ} → Closes ts j → (w : Word) → same_word word.RightParen w ≡ false → same_word word.Comma w ≡ false → same_word word.Semicolon w ≡ false → is_word ts j w ≡ false
+pub closes_other : {ts : List Lexeme} {j : ℕ} → Closes ts j → (w : Word) → same_word word.RightParen w ≡ false → same_word word.Comma w ≡ false → same_word word.Semicolon w ≡ false → is_word ts j w ≡ false
 closes_other (by_paren q) w x y z = differs q w x
 closes_other (by_comma q) w x y z = differs q w y
 closes_other (by_semicolon q) w x y z = differs q w z
+
+-- an end of a declarator with a name is none of its suffixes
+ends_other : {ts : List Lexeme} {j : ℕ} → EndsName ts j → (w : Word) → same_word word.RightParen w ≡ false → same_word word.Comma w ≡ false → same_word word.Semicolon w ≡ false → same_word word.Equal w ≡ false →
+    same_word word.LeftBrace w ≡ false → is_word ts j w ≡ false
+ends_other (by_closing o) w x y z u v = closes_other o w x y z
+ends_other (by_equal q) w x y z u v = differs q w u
+ends_other (by_brace q) w x y z u v = differs q w v
 
 closes_sorted : {ts : List Lexeme} {j : ℕ} → Closes ts j → (f : Word → Bool) → f word.RightParen ≡ false → f word.Comma ≡ false → f word.Semicolon ≡ false → m.has_word ts j f ≡ false
 closes_sorted (by_paren q) f x y z = sorted f false q x
@@ -139,7 +146,7 @@ module _ (ts : List Lexeme) (limit : Limit) where
 
     pub declarator_reads : {h : Context} {c e : Scopes} {d i j : ℕ} {t : Trees} (s : Spells ts limit (a part.Declarator) h c e d t i j) → measure s < suc n → Completes ts limit task.declarator h c e d t i j
     declarator_reads (spells.of_chain grammar.declarator_direct f s) lt = λ w y o.
-        b.read task.direct s (omega arith) w y _ (run_pass (closes_other o word.LeftBracket refl refl refl) (run_pass (closes_other o word.LeftParen refl refl refl) run_give))
+        b.read task.direct s (omega arith) w y _ (run_pass (ends_other o word.LeftBracket refl refl refl refl refl) (run_pass (ends_other o word.LeftParen refl refl refl refl refl) run_give))
     declarator_reads {h = h} {c = c} {e = e} {d = d} {i = i} {j = j} (spells.of_alternative grammar.pointer_declarator f (spells.opens q v (spells.qualified {j = k} {t = t} x s))) lt = λ w y o.
         subst (λ z. Answers ts limit (m.declarator w h d) c i (one kind.PointerDeclarator i j z) e j) (and_none t)
         (run_here (run_take (yes q) v (run_call (consts_go x (named_const (named_first facts.by_declarator s))) (by w y (b.read task.declarator s (omega arith) w y o)))))
@@ -158,7 +165,7 @@ module _ (ts : List Lexeme) (limit : Limit) where
         run_here (run_pass (differs q word.Star refl) (run_pass (differs q word.LeftParen refl) (run_yes y (run_take (declared_yes ts c i h.typed q g) v (run_look (run_set (run_here (then_give z))))))))
     direct_reads {h = h} {c = c} {d = d} {i = i} (spells.of_alternative grammar.group_declarator f (spells.opens q v (spells.part {t = t} x s))) lt =
         closing_run ts limit s (λ e u j. Completes ts limit task.direct h c e d (one kind.GroupDeclarator i j (t & u)) i j) (λ q' v' w y r z.
-        run_here (run_pass (differs q word.Star refl) (run_take (yes q) v (run_call (b.read task.declarator x (omega arith) w y (by_paren q'))
+        run_here (run_pass (differs q word.Star refl) (run_take (yes q) v (run_call (b.read task.declarator x (omega arith) w y (by_closing (by_paren q')))
         (run_take (yes q') v' (run_yes (is_named facts.by_declarator x) (run_here (then_give z))))))))
     direct_reads {d = d} {i = i} (spells.of_alternative grammar.array_declarator f (spells.part {t = t} x (spells.opens q v s))) lt = λ w y r z.
         b.read task.direct x (omega arith) w y r (run_take (yes q) v
@@ -256,6 +263,6 @@ module _ (ts : List Lexeme) (limit : Limit) where
         let w = named_before facts.by_declarator s in
         let y = name_is s (past_part fresh t) in
         run_here (run_call (b.read task.specifiers x (omega arith) (named_row part.Specifiers ts c' k (past_part fresh t).typed v) (named_apart v))
-        (run_seen (named_sorted v) (run_call (b.read task.declarator s (omega arith) m.either refl o) (run_yes (is_named facts.by_declarator s) (run_look (run_set (run_bring (run_here
+        (run_seen (named_sorted v) (run_call (b.read task.declarator s (omega arith) m.either refl (by_closing o)) (run_yes (is_named facts.by_declarator s) (run_look (run_set (run_bring (run_here
         (subst (λ z. Goes ts limit (give (one kind.Parameter i j (t & u & none))) (enter (m.brought ts j (past_part (past_part fresh t) u).name (past_part (past_part fresh t) u).type_name) e') j (Done (one kind.Parameter i j (t & u & none)) (enter z e') j))
         (brought_is ts j (past_part (past_part fresh t) u).name (past_part (past_part fresh t) u).type_name (omega arith)) run_give)))))))))

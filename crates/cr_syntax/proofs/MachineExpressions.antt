@@ -32,7 +32,7 @@ use Rattle.cr_syntax.proofs.MachineBegins.{type_yes}
 ordinary_yes : (ts : List Lexeme) (c : Scopes) (i : ℕ) → IsIdentifier ts c i false → m.passes ts c i m.ordinary ≡ true
 ordinary_yes ts c i q = (ap (λ b. b && not (is_type c (spelling_at ts i))) (yes q.0)) ∙ (ap (λ b. not b) q.1)
 
-ordinary_no : (ts : List Lexeme) (c : Scopes) (i : ℕ) → is_word ts i word.Identifier ≡ false → m.passes ts c i m.ordinary ≡ false
+pub ordinary_no : (ts : List Lexeme) (c : Scopes) (i : ℕ) → is_word ts i word.Identifier ≡ false → m.passes ts c i m.ordinary ≡ false
 ordinary_no ts c i q = ap (λ b. b && not (is_type c (spelling_at ts i))) q
 
 module _ (ts : List Lexeme) (limit : Limit) where

@@ -150,6 +150,10 @@ never (by_name q) never_bracket = differs q.0 word.RightBracket refl
 never (by_name q) never_paren = differs q.0 word.RightParen refl
 never (by_name q) never_brace = differs q.0 word.LeftBrace refl
 
+pub not_first : {ts : List Lexeme} {c : Scopes} {i : ℕ} → First ts c i → (w : Word) → starts w ≡ false → same_word word.Identifier w ≡ false → is_word ts i w ≡ false
+not_first (by_word {w = v} q s) w n z = differs q w (false_by (same_word v w) (λ x. true_false (sym s ∙ ap starts (same_true word_type.the_type tt v w x) ∙ n)))
+not_first (by_name q) w n z = differs q.0 w z
+
 plain_start : (w : Word) → starts w ≡ true → is_plain_start w ≡ false
 plain_start word.Const q = none_true q
 plain_start word.Void q = none_true q
@@ -164,7 +168,7 @@ plain_start word.Struct q = none_true q
 plain_start word.Enum q = none_true q
 plain_start _ q = refl
 
-name_start : (w : Word) → starts w ≡ true → same_word w word.Identifier ≡ false
+pub name_start : (w : Word) → starts w ≡ true → same_word w word.Identifier ≡ false
 name_start word.Identifier q = none_true q
 name_start _ q = refl
 

@@ -6,21 +6,23 @@ use Rattle.cr_syntax.specs.declared.node.Kind.TheVariants as kind
 use Rattle.cr_syntax.specs.declared.symbol.Part.{Part}
 use Rattle.cr_syntax.specs.declared.symbol.Part.TheVariants as part
 use Rattle.cr_syntax.specs.declared.symbol.Symbol.TheVariants as symbol
+use Rattle.cr_syntax.specs.declared.scopes.TypeName.{TypeName}
 use Rattle.cr_syntax.specs.declared.symbol.Context.{Context}
 use Rattle.cr_syntax.specs.Words.{Lexeme}
 use Rattle.cr_syntax.specs.Scopes.{Scopes}
 use Rattle.cr_syntax.specs.Trees.{Trees, none, node, one, ◌&◌}
-use Rattle.cr_syntax.specs.Context.{past_part}
+use Rattle.cr_syntax.specs.Context.{past_part, ends_open}
 use Rattle.cr_syntax.specs.Grammar.{inner_many, inner_list, list, many, closing, token}
 use Rattle.cr_syntax.specs.Spells.{Limit, Is, IsIdentifier, Stands, Within, Phrase, Spells, a, rest}
 use Rattle.cr_syntax.specs.Spells as spells
 use Rattle.cr_syntax.specs.Reads.{is_word, same_word}
-use Rattle.cr_syntax.specs.Machine.{Goal, Prog, Wanted, Reply, Done, Runs, plain, opens, reopens, give, take, call, made, the, run_give, run_stop, run_take, run_pass, run_free, run_seen, run_unseen, run_yes, run_no, run_here, run_look, run_set, run_bring, run_call, run_fail}
+use Rattle.cr_syntax.specs.Machine.{Goal, Prog, Wanted, Labels, Reply, Done, Runs, has_word, plain, opens, reopens, give, take, call, made, the, run_give, run_stop, run_take, run_pass, run_free, run_seen, run_unseen, run_yes, run_no, run_here, run_look, run_set, run_bring, run_call, run_fail}
 use Rattle.cr_syntax.specs.Machine as m
-use Rattle.cr_syntax.specs.MachineBody.{body, element_start, type_start, in_row, may_name, may_omit}
+use Rattle.cr_syntax.specs.MachineBody.{body, element_start, type_start, in_row, may_name, may_omit, is_any, declared_on}
 use Rattle.cr_syntax.specs.MachineLaws.{IsFree}
 use Rattle.cr_syntax.proofs.MachineMeans.{is_level, element_part, has_some}
 use Rattle.cr_syntax.proofs.MachineFirst.{differs, fails}
+use Rattle.cr_syntax.proofs.MachineFits.{fits, may_stand, parts_of}
 
 -- how much stands in a spelling
 abbrev pub measure : {ts : List Lexeme} {limit : Limit} {p : Phrase} {h : Context} {c e : Scopes} {d i j : ℕ} {t : Trees} → Spells ts limit p h c e d t i j → ℕ
@@ -90,6 +92,12 @@ pub data Closes (ts : List Lexeme) (j : ℕ) : Type 0 where
   by_comma : Is ts j word.Comma → Closes ts j
   by_semicolon : Is ts j word.Semicolon → Closes ts j
 
+-- a token stands at j that ends each declarator with a name, one before an initializer or a body too
+pub data EndsName (ts : List Lexeme) (j : ℕ) : Type 0 where
+  by_closing : Closes ts j → EndsName ts j
+  by_equal : Is ts j word.Equal → EndsName ts j
+  by_brace : Is ts j word.LeftBrace → EndsName ts j
+
 -- what is said after a row of parts
 abbrev pub past_row : Context → Trees → Context
 past_row h none = h
@@ -149,6 +157,16 @@ pub data Task : Phrase → Type 0 where
   parameter : Task (a part.Parameter)
   parameter_list : Task (rest (list part.Parameter ∷ []))
   variadic_list : Task (rest (list part.Parameter ∷ token word.Comma ∷ token word.Ellipsis ∷ []))
+  external : Task (a part.External)
+  externals : Task (rest (many part.External ∷ []))
+  declaration : Task (a part.Declaration)
+  init_declarators : Task (rest (list part.InitDeclarator ∷ token word.Semicolon ∷ []))
+  initializer : Task (a part.Initializer)
+  initializers : Task (rest (inner_list part.Initializer ∷ symbol.TrailingComma ∷ []))
+  statement : Task (a part.Statement)
+  compound : Task (a part.Compound)
+  items : Task (rest (inner_many part.BlockItem ∷ closing word.RightBrace ∷ symbol.Ends ∷ []))
+  item : Task (a part.BlockItem)
 
 module _ (ts : List Lexeme) (limit : Limit) where
   abbrev pub Goes : Prog → Scopes → ℕ → Reply → Type 0
@@ -183,7 +201,7 @@ module _ (ts : List Lexeme) (limit : Limit) where
   Completes member_list h c e d t i j = (s : ℕ) (x : Trees) → Answers (m.member_declarators h d s x) c i (one kind.MemberDeclaration s j (x & t)) e j
   Completes enumerators h c e d t i j = (s : ℕ) (x : Trees) → Answers (m.enumerators d s x) c i (one kind.EnumContent s j (x & t)) e j
   Completes enumerator h c e d t i j = IsFree ts 12 j → Answers (m.enumerator d) c i t e j
-  Completes declarator h c e d t i j = (w : Wanted) → may_name w ≡ true → Closes ts j → Answers (m.declarator w h d) c i t e j
+  Completes declarator h c e d t i j = (w : Wanted) → may_name w ≡ true → EndsName ts j → Answers (m.declarator w h d) c i t e j
   Completes direct h c e d t i j = (w : Wanted) → may_name w ≡ true → (r : Reply) → Goes (body (m.declarator_suffixes d i t)) e j r → Goes (body (m.declarator w h d)) c i r
   Completes abstract h c e d t i j = (w : Wanted) (h' : Context) → may_omit w ≡ true → Closes ts j → Answers (m.declarator w h' d) c i t e j
   Completes direct_abstract h c e d t i j = (w : Wanted) (h' : Context) → may_omit w ≡ true → (r : Reply) → Goes (body (m.abstract_suffixes d i t)) e j r → Goes (body (m.declarator w h' d)) c i r
@@ -193,6 +211,18 @@ module _ (ts : List Lexeme) (limit : Limit) where
       Goes (call (m.parameter d) (λ u. call (m.more_parameters d s (x & u & none)) give)) c i (Done (one kind.Parameters s j (x & t)) e j)
   Completes variadic_list h c e d t i j = (s : ℕ) (x : Trees) →
       Goes (call (m.parameter d) (λ u. call (m.more_parameters d s (x & u & none)) give)) c i (Done (one kind.VariadicParameters s j (x & t)) e j)
+  Completes external h c e d t i j = (l : Labels) → fits l t ≡ true → may_stand l t ≡ true → Answers (m.external l d) c i t e j
+  Completes externals h c e d t i j = (l : Labels) (x : Trees) → fits l t ≡ true → may_stand l t ≡ true → has_word ts j is_any ≡ false → Answers (m.externals l d x) c i (x & t) e j
+  Completes declaration h c e d t i j = Answers (m.declaration d) c i t e j
+  Completes init_declarators h c e d t i j = (s : ℕ) (x : Trees) (f : Trees → Prog) →
+      ((u : Trees) (e' : Scopes) (k : ℕ) (r : Reply) → is_word ts k word.LeftBrace ≡ false → Goes (declared_on h d s x i u) e' k r → Goes (f u) e' k r) →
+      Goes (call (m.declarator m.named h d) f) c i (Done (one kind.Declaration s j (x & t)) e j)
+  Completes initializer h c e d t i j = IsFree ts 12 j → Answers (m.initializer d) c i t e j
+  Completes initializers h c e d t i j = (s : ℕ) (x : Trees) → Answers (m.initializers d s x) c i (one kind.InitializerList s j (x & t)) e j
+  Completes statement h c e d t i j = (l : Labels) → fits l t ≡ true → (ends_open t ≡ true → is_word ts j word.Else ≡ false) → Answers (m.statement l d) c i t e j
+  Completes compound h c e d t i j = (l : Labels) → fits l (parts_of t) ≡ true → Answers (m.compound l d) c i t e j
+  Completes items h c e d t i j = (l : Labels) (s : ℕ) (x : Trees) → fits l t ≡ true → (names : List TypeName) × Answers (m.items l d s x) c i (one kind.Compound s j (x & t)) (names ∷ e) j
+  Completes item h c e d t i j = (l : Labels) → fits l t ≡ true → (ends_open t ≡ true → is_word ts j word.Else ≡ false) → Answers (m.item l d) c i t e j
 
   -- all that is smaller is read
   pub record Smaller (n : ℕ) : Type 0 where

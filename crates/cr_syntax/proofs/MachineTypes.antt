@@ -27,7 +27,7 @@ use Rattle.cr_syntax.proofs.MachineFirst.{none_true, or_false, and_false, later_
 use Rattle.cr_syntax.proofs.MachineSound.{brought_is, part_some, two_in_row}
 use Rattle.cr_syntax.proofs.MachineSpells.{is_one, forth}
 use Rattle.cr_syntax.proofs.MachineSpells as facts
-use Rattle.cr_syntax.proofs.MachineTasks.{measure, Lone, lone_by, lone_free, Closes, by_paren, by_comma, by_semicolon, past_row, Task, Goes, Answers, Completes, Smaller}
+use Rattle.cr_syntax.proofs.MachineTasks.{measure, Lone, lone_by, lone_free, Closes, by_paren, by_comma, by_semicolon, by_closing, past_row, Task, Goes, Answers, Completes, Smaller}
 use Rattle.cr_syntax.proofs.MachineTasks as task
 use Rattle.cr_syntax.proofs.MachineBegins.{or_left, or_right, type_test, ElementFirst, never_element, no_left_brace, no_right_brace, no_ellipsis, element_first, element_yes, member_first, parameter_first, past_one, row_typed, NamedFirst, by_star, by_name, named_first, UnnamedFirst, at_star, at_paren, at_bracket, unnamed_first}
 use Rattle.cr_syntax.proofs.MachineBegins as begin
@@ -240,7 +240,7 @@ module _ (ts : List Lexeme) (limit : Limit) where
 
     member_goes : {h : Context} {c e : Scopes} {d i j : ℕ} {t : Trees} {r : Reply} (f : Trees → Prog) → MemberRead h c e d i t j → Closes ts j → Goes ts limit (f t) e j r →
         Goes ts limit (call (m.declarator m.named h d) (λ u. m.drops (f u))) c i r
-    member_goes f (member_read own s lt) o y = run_call (b.read task.declarator s lt m.named refl o) (run_look (run_set y))
+    member_goes f (member_read own s lt) o y = run_call (b.read task.declarator s lt m.named refl (by_closing o)) (run_look (run_set y))
 
     pub member_list_reads : {h : Context} {c e : Scopes} {d i j : ℕ} {t : Trees} (s : Spells ts limit (rest (list part.MemberDeclarator ∷ token word.Semicolon ∷ [])) h c e d t i j) → measure s < suc n →
         Completes ts limit task.member_list h c e d t i j
@@ -283,7 +283,7 @@ module _ (ts : List Lexeme) (limit : Limit) where
 
     -- Enumerators.
 
-    trailing_run : {h : Context} {c e : Scopes} {d i j : ℕ} {t : Trees} → Spells ts limit (rest (symbol.TrailingComma ∷ [])) h c e d t i j → (f : Scopes → Trees → ℕ → Type 0) →
+    pub trailing_run : {h : Context} {c e : Scopes} {d i j : ℕ} {t : Trees} → Spells ts limit (rest (symbol.TrailingComma ∷ [])) h c e d t i j → (f : Scopes → Trees → ℕ → Type 0) →
         (Is ts i word.RightBrace → Stands limit i (d + 1) → f c none (i + 1)) →
         (Is ts i word.Comma → Stands limit i (d + 1) → Is ts (i + 1) word.RightBrace → Stands limit (i + 1) (d + 1) → f c none (i + 1 + 1)) → f e t j
     trailing_run (spells.comma_none q w spells.done) f x y = x q w

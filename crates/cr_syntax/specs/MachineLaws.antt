@@ -9,6 +9,7 @@ use Rattle.cr_syntax.specs.Trees.{Trees}
 use Rattle.cr_syntax.specs.Words.{Lexeme}
 use Rattle.cr_syntax.specs.Scopes.{Scopes}
 use Rattle.cr_syntax.specs.Spells.{Limit, Free, AtMost, Upto, Is, Spells, a}
+use Rattle.cr_syntax.specs.Units.{IsUnit}
 use Rattle.cr_syntax.specs.Machine.{Prog, Reply, Cause, Done, Failed, Runs, too_deep}
 use Rattle.cr_syntax.specs.Expressions.{Start, Spelled, BeginsFrom, RunEnds}
 use Rattle.cr_syntax.specs.MachineBody.{body, start_goal}
@@ -98,6 +99,10 @@ SpelledIsRead = (ts : List Lexeme) (limit : Limit) (p : Part) (h : Context) (c e
 abbrev pub OneTree : Type 0
 OneTree = (ts : List Lexeme) (limit : Limit) (p : Part) (h : Context) (c e f : Scopes) (d i : ℕ) (t u : Trees) → IsStart p →
     Spells ts limit (a p) h c e d t i (length ts) → Spells ts limit (a p) h c f d u i (length ts) → (t ≡ u) × (e ≡ f)
+
+-- the tokens of a unit have one tree
+abbrev pub OneUnit : Type 0
+OneUnit = (ts : List Lexeme) (limit : Limit) (t u : Trees) → IsUnit limit ts t → IsUnit limit ts u → t ≡ u
 
 -- what is read is the longest run that begins a text
 abbrev pub ReadIsLongest : Type 0

@@ -36,7 +36,7 @@ mod word;
 
 pub use checker::{NoMemory, spells_unit};
 pub use laws::{reading_is_spelling, table_is_grammar, tokens_are_spans};
-pub use machine::{machine_is_grammar, one_tree};
+pub use machine::{machine_is_grammar, one_tree, one_unit};
 pub use node::{Kind, Node};
 pub use scopes::{Scope, TypeName, begin, enter, is_type};
 pub use shape::{FRESH, ends_open, first, is_bare, past_node, past_token, rest_of};

@@ -1,4 +1,4 @@
-ghost use Rattle.cr_syntax.specs.MachineLaws.{OneAnswer, LooksNoFurther, ReadIsSpelled, SpelledIsRead, OneTree, ReadIsLongest, RefusedEndsRun, RefusedWithin, BeginsBefore, EndedIsNone};
+ghost use Rattle.cr_syntax.specs.MachineLaws.{OneAnswer, LooksNoFurther, ReadIsSpelled, SpelledIsRead, OneTree, OneUnit, ReadIsLongest, RefusedEndsRun, RefusedWithin, BeginsBefore, EndedIsNone};
 
 /// A law: the parser's machine reads the grammar's expressions, and nothing else.
 ///
@@ -21,4 +21,9 @@ pub fn machine_is_grammar()
 /// A law: the tokens up to the end of a list spell at most one expression.
 pub fn one_tree()
     ensures { OneTree }
+{}
+
+/// A law: the tokens of a unit have one tree, whatever the limit.
+pub fn one_unit()
+    ensures { OneUnit }
 {}
