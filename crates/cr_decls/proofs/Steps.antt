@@ -1,5 +1,5 @@
 -- Steps of the machine's runs as the functions of declarations and statements take them.
-use Rattle.std.proofs.Common.{◌≡◌, ℕ, zero, suc, ◌+◌, ◌-◌, ◌<◌, ◌≤◌, Bool, true, false, List, [], ◌∷◌, ◌++◌, Option, None, Some, Result, Ok, Err, length, slice_index, refl, sym, ap, subst, ◌∙◌, arith, length-append}
+use Rattle.std.proofs.Common.{◌≡◌, ℕ, zero, suc, ◌+◌, ◌<◌, ◌≤◌, List, [], ◌∷◌, ◌++◌, Option, None, Some, Result, Ok, Err, length, refl, sym, ap, subst, ◌∙◌, arith}
 use Rattle.std.specs.Prelude.{IfOk, option_to_list}
 use Rattle.cr_syntax.specs.declared.node.Node.{Node}
 use Rattle.cr_syntax.specs.declared.symbol.Context.{Context}
@@ -14,7 +14,7 @@ use Rattle.cr_exprs.specs.declared.fault.ParseFault.{ParseFault}
 use Rattle.cr_exprs.specs.declared.found.Found.{Found}
 use Rattle.cr_exprs.specs.Loose.{AreKept}
 use Rattle.cr_exprs.specs.Answers.{RunsTo, Comes, Gives, Goes, Keeps, IsPlaced, IsGrown, tree}
-use Rattle.cr_exprs.proofs.Nodes.{row_kept, trees_append, trees_none, is_row_more}
+use Rattle.cr_exprs.proofs.Nodes.{row_kept, trees_append, trees_none}
 use Rattle.cr_exprs.proofs.Loose.{times_append, kept_as}
 use Rattle.cr_decls.specs.declared.labels.Labels.{Labels}
 use Rattle.cr_decls.specs.declared.labels.Labels.TheVariants.{OwnBlock, Nowhere}
@@ -92,15 +92,15 @@ loop_below f g h ps k n {a} {b} {c} x y z la lb lc lt q =
 pub loop_kept : (tokens : ℕ) (ns : List Node) (f g h ps : List ℕ) (k : ℕ) (loose : List ℕ) → ps ≡ f ++ g ++ h ++ k ∷ [] → AreKept tokens ns (k ∷ h ++ (g ++ (f ++ loose))) → AreKept tokens ns (ps ++ loose)
 loop_kept tokens ns f g h ps k loose q kept =
     subst (λ x. AreKept tokens ns (x ++ loose)) (sym q) (kept_as tokens ns (k ∷ h ++ (g ++ (f ++ loose))) ((f ++ g ++ h ++ k ∷ []) ++ loose) (λ p.
-        let a = times_append (k ∷ h) (g ++ (f ++ loose)) p in
-        let b = times_append (k ∷ []) h p in
-        let c = times_append g (f ++ loose) p in
-        let d = times_append f loose p in
-        let e = times_append (f ++ g ++ h ++ k ∷ []) loose p in
-        let u = times_append (f ++ g ++ h) (k ∷ []) p in
-        let v = times_append (f ++ g) h p in
-        let w = times_append f g p in
-        omega arith) kept)
+    let a = times_append (k ∷ h) (g ++ (f ++ loose)) p in
+    let b = times_append (k ∷ []) h p in
+    let c = times_append g (f ++ loose) p in
+    let d = times_append f loose p in
+    let e = times_append (f ++ g ++ h ++ k ∷ []) loose p in
+    let u = times_append (f ++ g ++ h) (k ∷ []) p in
+    let v = times_append (f ++ g) h p in
+    let w = times_append f g p in
+    omega arith) kept)
 
 -- a declaration's first declarator and its specifiers are loose
 pub kept_first : (tokens : ℕ) (ns : List Node) (p q : ℕ) (ps loose : List ℕ) → ps ≡ q ∷ [] → AreKept tokens ns (p ∷ q ∷ loose) → AreKept tokens ns (p ∷ ps ++ loose)

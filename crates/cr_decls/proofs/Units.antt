@@ -1,7 +1,47 @@
--- What the nodes of a whole unit keep.
-use Rattle.std.proofs.Common.{◌≡◌, ℕ, ◌<◌, List, [], ◌∷◌, ◌++◌, refl, sym, ap, subst, arith}
+-- What the machine's run of a unit says of the grammar, and what the nodes of a whole unit keep.
+use Rattle.std.proofs.Common.{◌≡◌, ℕ, List, [], ◌∷◌, ◌++◌, refl, sym, ap, subst, arith}
 use Rattle.cr_syntax.specs.declared.node.Node.{Node}
+use Rattle.cr_syntax.specs.Words.{Lexeme}
+use Rattle.cr_syntax.specs.Scopes.{Scopes}
+use Rattle.cr_syntax.specs.Trees.{Trees}
+use Rattle.cr_syntax.specs.Units as u
+use Rattle.cr_syntax.specs.Units.{file_scope}
+use Rattle.cr_syntax.specs.Machine.{Done, nowhere, unit}
+use Rattle.cr_syntax.specs.MachineBody.{body}
+use Rattle.cr_syntax.proofs.MachineRuns.{same}
+use Rattle.cr_syntax.proofs.MachineLabels.{unit_is_clean}
+use Rattle.cr_syntax.proofs.MachineUnits.{unit_is_unit}
+use Rattle.cr_syntax.proofs.MachineUnitComplete.{clean_is_read, one_unit}
+use Rattle.cr_exprs.specs.declared.fault.ParseFault.{ParseFault}
+use Rattle.cr_exprs.specs.declared.fault.ParseFault.TheVariants.{NoMemory, Unexpected, Ended, TooDeep, OutsideSubset}
 use Rattle.cr_exprs.specs.Loose.{AreKept, Replaces}
+use Rattle.cr_exprs.specs.Answers.{RunsTo}
+use Rattle.cr_decls.specs.Answers.{FailsSo, Declines}
+use Rattle.cr_decls.specs.Unit.{IsUnitOfSubset, IsOnlyTree, IsNoUnit}
+
+-- what is read is a unit of the subset, and the only tree
+pub unit_read : {ts : List Lexeme} {e : Scopes} {j : ℕ} {t : Trees} → RunsTo ts (body (unit nowhere 0)) file_scope 0 (Done t e j) → IsUnitOfSubset ts t
+unit_read {e = e} {j = j} {t = t} h =
+    let clean = unit_is_clean nowhere 0 file_scope e 0 j t refl h in
+    record { is_unit = unit_is_unit nowhere e j t h; placed = clean.placed.all; fixed = clean.fixed.none_has }
+
+pub only_read : {ts : List Lexeme} {e : Scopes} {j : ℕ} {t : Trees} → RunsTo ts (body (unit nowhere 0)) file_scope 0 (Done t e j) → IsOnlyTree ts t
+only_read {e = e} {j = j} {t = t} h u y = one_unit y (unit_is_unit nowhere e j t h)
+
+-- and what fails is none
+none_so : {ts : List Lexeme} {x : u.Refusal} → FailsSo ts (body (unit nowhere 0)) file_scope 0 x → (t : Trees) → IsUnitOfSubset ts t → ⊥
+none_so h t y = let q = same h.run (clean_is_read y.is_unit (λ k e. let f = y.placed k in cc) y.fixed) in cc
+
+pub none_read : {ts : List Lexeme} (f : ParseFault) → Declines ts (body (unit nowhere 0)) file_scope 0 f → IsNoUnit ts f
+none_read NoMemory h n t y = n refl
+none_read (Unexpected k) h n t y = none_so (h.run (u.Unexpected k) refl) t y
+none_read Ended h n t y = none_so (h.run u.Ended refl) t y
+none_read (TooDeep k) h n t y = none_so (h.run (u.TooDeep k) refl) t y
+none_read (OutsideSubset k row) h n t y = none_so (h.run (u.OutsideSubset k row) refl) t y
+
+pub none_on : {A : Type 0} {ts : List Lexeme} (r : Result A ParseFault) → IfErr r (Declines ts (body (unit nowhere 0)) file_scope 0) → IfErr r (IsNoUnit ts)
+none_on (Ok x) h = h
+none_on (Err f) h = none_read f h
 
 append_none : (ps : List ℕ) → ps ++ [] ≡ ps
 append_none [] = refl

@@ -1,20 +1,30 @@
--- What parsing a file answers, in terms of the machine.
-use Rattle.std.specs.Prelude.{ℕ, List, length}
+-- What parsing a file answers.
+use Rattle.std.specs.Prelude.{◌≡◌, ℕ, Bool, true, false, List}
 use Rattle.cr_syntax.specs.Words.{Lexeme}
-use Rattle.cr_syntax.specs.Scopes.{Scopes}
 use Rattle.cr_syntax.specs.Trees.{Trees}
-use Rattle.cr_syntax.specs.Units.{file_scope}
-use Rattle.cr_syntax.specs.Machine.{Prog, Done, nowhere, unit}
+use Rattle.cr_syntax.specs.Spells.{AtMost}
+use Rattle.cr_syntax.specs.Units.{IsUnit, most_levels, Has, misplaced_at, elsewhere, variadic_definition, file_scope}
+use Rattle.cr_syntax.specs.Machine.{nowhere, unit}
 use Rattle.cr_syntax.specs.MachineBody.{body}
 use Rattle.cr_exprs.specs.declared.fault.ParseFault.{ParseFault}
-use Rattle.cr_exprs.specs.Answers.{RunsTo}
+use Rattle.cr_exprs.specs.declared.fault.ParseFault.TheVariants.{NoMemory}
 use Rattle.cr_decls.specs.Answers.{Declines}
 
--- the program of a unit, at a file's beginning, reads all tokens as these trees
-pub record IsRead (ts : List Lexeme) (t : Trees) : Type 0 where
-  pub after : Scopes
-  pub run : RunsTo ts (body (unit nowhere 0)) file_scope 0 (Done t after (length ts))
+-- The trees are a unit of the subset: the tokens spell them within the limit, each label of a switch stands among the items
+-- of the switch's own block, and no function is defined with `...`.
+pub record IsUnitOfSubset (ts : List Lexeme) (t : Trees) : Type 0 where
+  pub is_unit : IsUnit (AtMost most_levels) ts t
+  pub placed : (k : ℕ) → misplaced_at k elsewhere t ≡ false
+  pub fixed : (k m : ℕ) → Has (variadic_definition k m) t → ⊥
 
--- it fails with this fault
+-- no other trees are a unit that these tokens spell
+abbrev pub IsOnlyTree : List Lexeme → Trees → Type 0
+IsOnlyTree ts t = (u : Trees) → IsUnit (AtMost most_levels) ts u → u ≡ t
+
+-- What a fault says: where memory wasn't wanting, the tokens are no unit of the subset.
+abbrev pub IsNoUnit : List Lexeme → ParseFault → Type 0
+IsNoUnit ts fault = (fault ≡ NoMemory → ⊥) → (t : Trees) → IsUnitOfSubset ts t → ⊥
+
+-- the machine's program of a unit fails so at a file's beginning
 abbrev pub IsRefused : List Lexeme → ParseFault → Type 0
 IsRefused ts fault = Declines ts (body (unit nowhere 0)) file_scope 0 fault

@@ -10,7 +10,9 @@ ghost use Rattle.cr_exprs.specs.Answers.{Answers, Comes, Goes, IsPlaced, IsOptio
 ghost use Rattle.cr_decls.specs.Programs.{controlling, repeated, first_clause, last_clause, with_step};
 
 use crate::declarations::declaration;
-use cr_exprs::{Found, Goal, Optional, ParseFault, Source, expect, read, room, stands, starts_specifier};
+use cr_exprs::{
+    Found, Goal, Optional, ParseFault, Source, expect, read, room, stands, starts_specifier,
+};
 use cr_rows::Row;
 use cr_syntax::{Node, Scope, Word, begin};
 use std::alloc::{AllocError, Global};
@@ -37,7 +39,15 @@ pub(crate) fn controlling(
     begin(alloc, scopes)?;
     expect(source, at, Word::LeftParen, depth)?;
     room(at, depth)?;
-    let test = read(alloc, source, Goal::Expression, at + 1, depth + 1, scopes, nodes)?;
+    let test = read(
+        alloc,
+        source,
+        Goal::Expression,
+        at + 1,
+        depth + 1,
+        scopes,
+        nodes,
+    )?;
     expect(source, test.next, Word::RightParen, depth + 1)?;
     Ok(Found {
         node: test.node,
@@ -62,7 +72,15 @@ pub(crate) fn repeated(
     ensures placed { IfOk result (λ x. IsPlaced (length source.now.tokens.now) at nodes.old nodes.new [] x) }
 {
     expect(source, at, Word::LeftParen, depth)?;
-    let test = read(alloc, source, Goal::Expression, at + 1, depth + 1, scopes, nodes)?;
+    let test = read(
+        alloc,
+        source,
+        Goal::Expression,
+        at + 1,
+        depth + 1,
+        scopes,
+        nodes,
+    )?;
     expect(source, test.next, Word::RightParen, depth + 1)?;
     expect(source, test.next + 1, Word::Semicolon, depth)?;
     Ok(Found {
@@ -149,7 +167,15 @@ pub(crate) fn last_clause(
             next: at + 1,
         });
     }
-    let step = read(alloc, source, Goal::Expression, at, depth + 1, scopes, nodes)?;
+    let step = read(
+        alloc,
+        source,
+        Goal::Expression,
+        at,
+        depth + 1,
+        scopes,
+        nodes,
+    )?;
     expect(source, step.next, Word::RightParen, depth + 1)?;
     Ok(Optional {
         node: Some(step.node),

@@ -11,7 +11,10 @@ ghost use Rattle.cr_exprs.specs.Answers.{Reads, IsPlaced, IsGrown, tree};
 
 use crate::names::declare;
 use crate::start::bar_designator;
-use cr_exprs::{Found, Goal, ParseFault, Source, expect, named_declarator, over, pair, past, push, read, room, row_of, specifiers, stands};
+use cr_exprs::{
+    Found, Goal, ParseFault, Source, expect, named_declarator, over, pair, past, push, read, room,
+    row_of, specifier_row, stands,
+};
 use cr_rows::Row;
 use cr_syntax::{FRESH, Kind, Node, Scope, Word, past_token};
 use std::alloc::Global;
@@ -126,7 +129,7 @@ pub(crate) fn declaration(
     ensures reads { Reads (text_of source.now) (body (declaration depth)) scopes.old at nodes.new scopes.new result }
     ensures placed { IfOk result (λ x. IsPlaced (length source.now.tokens.now) at nodes.old nodes.new [] x) }
 {
-    let specifiers = specifiers(alloc, source, at, depth, scopes, nodes)?;
+    let specifiers = specifier_row(alloc, source, at, depth, scopes, nodes)?;
     if stands(source, specifiers.next, Word::Semicolon) {
         return over(
             alloc,
@@ -138,7 +141,15 @@ pub(crate) fn declaration(
         );
     }
     let context = past(nodes, FRESH, specifiers.node);
-    let first = named_declarator(alloc, source, context, specifiers.next, depth, scopes, nodes)?;
+    let first = named_declarator(
+        alloc,
+        source,
+        context,
+        specifiers.next,
+        depth,
+        scopes,
+        nodes,
+    )?;
     declarators(alloc, source, at, specifiers, first, depth, scopes, nodes)
 }
 

@@ -15,7 +15,10 @@ use crate::labels::Labels;
 use crate::names::define;
 use crate::start::stands_any;
 use crate::statements::compound;
-use cr_exprs::{Found, ParseFault, Source, drop_scope, named_declarator, over, past, row_of, specifiers, stands, triple};
+use cr_exprs::{
+    Found, ParseFault, Source, drop_scope, named_declarator, over, past, row_of, specifier_row,
+    stands, triple,
+};
 use cr_rows::Row;
 use cr_syntax::{FRESH, Kind, Node, Scope, Word};
 use std::alloc::Global;
@@ -59,7 +62,7 @@ fn external(
     ensures reads { Settles (text_of source.now) (body (external nowhere 0)) scopes.old at (λ x. tree nodes.new x.node) scopes.new (λ x. x.next) result }
     ensures placed { IfOk result (λ x. IsPlaced (length source.now.tokens.now) at nodes.old nodes.new [] x) }
 {
-    let specifiers = specifiers(alloc, source, at, 0, scopes, nodes)?;
+    let specifiers = specifier_row(alloc, source, at, 0, scopes, nodes)?;
     if stands(source, specifiers.next, Word::Semicolon) {
         return over(
             alloc,
@@ -102,7 +105,15 @@ fn defined(
     }
     let context = past(nodes, FRESH, specifiers.node);
     define(alloc, source, context, declarator, scopes, nodes)?;
-    let body = compound(alloc, source, Labels::Nowhere, declarator.next, 0, scopes, nodes)?;
+    let body = compound(
+        alloc,
+        source,
+        Labels::Nowhere,
+        declarator.next,
+        0,
+        scopes,
+        nodes,
+    )?;
     drop_scope(scopes);
     triple(
         alloc,

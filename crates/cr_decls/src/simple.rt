@@ -75,9 +75,24 @@ fn return_rest(
     if stands(source, start + 1, Word::Semicolon) {
         return leaf(alloc, nodes, Kind::Return, start, start + 1 + 1);
     }
-    let value = read(alloc, source, Goal::Expression, start + 1, depth, scopes, nodes)?;
+    let value = read(
+        alloc,
+        source,
+        Goal::Expression,
+        start + 1,
+        depth,
+        scopes,
+        nodes,
+    )?;
     expect(source, value.next, Word::Semicolon, depth)?;
-    over(alloc, nodes, Kind::Return, start, value.next + 1, value.node)
+    over(
+        alloc,
+        nodes,
+        Kind::Return,
+        start,
+        value.next + 1,
+        value.node,
+    )
 }
 
 /// The `;` behind a keyword that is a statement of this kind by itself.

@@ -6,7 +6,7 @@ ghost use Rattle.cr_syntax.specs.MachineBody.{is_designator, is_label, is_statem
 ghost use Rattle.cr_exprs.specs.Source.{IsReadable, text_of};
 ghost use Rattle.cr_exprs.specs.Answers.{IsRefusal};
 
-use cr_exprs::{ParseFault, Source, barred, is_ordinary};
+use cr_exprs::{ParseFault, Source, barred, here, is_ordinary};
 use cr_syntax::{Scope, Word};
 use std::collections::LinkedList;
 
@@ -17,10 +17,7 @@ pub(crate) fn stands_any(source: &Source, at: usize) -> bool
     ensures inside { IsTrue result → at < length source.now.tokens.now }
     ensures end { result ≡ false → length source.now.tokens.now ≤ at }
 {
-    match source.words.get(at) {
-        Some(_) => true,
-        None => false,
-    }
+    here(source, at).is_some()
 }
 
 /// Refuses a designator (C11 6.7.9), where so many levels are open.
@@ -31,7 +28,7 @@ pub(crate) fn bar_designator(source: &Source, at: usize, depth: usize) -> Result
     ensures stands { OnErr result (has_word (text_of source.now) at is_designator ≡ true) }
     ensures err { IfErr result (λ fault. IsRefusal (text_of source.now) fault (barred (text_of source.now) 2 at depth) at) }
 {
-    if has_designator(source, at) {
+    if here(source, at).is_some_and(is_designator) {
         return Err(barred(source, at, 2, depth));
     }
     Ok(())
@@ -45,7 +42,7 @@ pub(crate) fn bar_label(source: &Source, at: usize, depth: usize) -> Result<(), 
     ensures stands { OnErr result (has_word (text_of source.now) at is_label ≡ true) }
     ensures err { IfErr result (λ fault. IsRefusal (text_of source.now) fault (barred (text_of source.now) 6 at depth) at) }
 {
-    if has_label(source, at) {
+    if here(source, at).is_some_and(is_label) {
         return Err(barred(source, at, 6, depth));
     }
     Ok(())
@@ -64,40 +61,10 @@ pub(crate) fn bar_statement(
     ensures stands { OnErr result (passes (text_of source.now) scopes.now at statement_start ≡ true) }
     ensures err { IfErr result (λ fault. IsRefusal (text_of source.now) fault (barred (text_of source.now) 7 at depth) at) }
 {
-    if has_statement_start(source, at) || is_ordinary(source, at, scopes) {
+    if here(source, at).is_some_and(is_statement_start) || is_ordinary(source, at, scopes) {
         return Err(barred(source, at, 7, depth));
     }
     Ok(())
-}
-
-fn has_designator(source: &Source, at: usize) -> bool
-    requires { IsReadable source.now }
-    ensures { result ≡ has_word (text_of source.now) at is_designator }
-{
-    match source.words.get(at) {
-        Some(word) => is_designator(*word),
-        None => false,
-    }
-}
-
-fn has_label(source: &Source, at: usize) -> bool
-    requires { IsReadable source.now }
-    ensures { result ≡ has_word (text_of source.now) at is_label }
-{
-    match source.words.get(at) {
-        Some(word) => is_label(*word),
-        None => false,
-    }
-}
-
-fn has_statement_start(source: &Source, at: usize) -> bool
-    requires { IsReadable source.now }
-    ensures { result ≡ has_word (text_of source.now) at is_statement_start }
-{
-    match source.words.get(at) {
-        Some(word) => is_statement_start(*word),
-        None => false,
-    }
 }
 
 fn is_designator(word: Word) -> bool

@@ -15,7 +15,10 @@ use crate::declarations::declaration;
 use crate::labels::{Labels, may_label};
 use crate::simple::simple;
 use crate::start::{bar_label, bar_statement};
-use cr_exprs::{Found, Goal, Optional, ParseFault, Source, drop_scope, expect, over, pair, push, read, room, stands, starts_specifier, triple};
+use cr_exprs::{
+    Found, Goal, Optional, ParseFault, Source, drop_scope, expect, over, pair, push, read, room,
+    stands, starts_specifier, triple,
+};
 use cr_rows::Row;
 use cr_syntax::{Kind, Node, Scope, Word, begin, ends_open};
 use std::alloc::Global;
@@ -92,10 +95,26 @@ fn case(
     ensures reads { Reads (text_of source.now) (case_rest (labels_of labels) depth start) scopes.old (start + 1) nodes.new scopes.new result }
     ensures placed { IfOk result (λ x. IsPlaced (length source.now.tokens.now) start nodes.old nodes.new [] x) }
 {
-    let value = read(alloc, source, Goal::Conditional, start + 1, depth, scopes, nodes)?;
+    let value = read(
+        alloc,
+        source,
+        Goal::Conditional,
+        start + 1,
+        depth,
+        scopes,
+        nodes,
+    )?;
     expect(source, value.next, Word::Colon, depth)?;
     room(value.next, depth)?;
-    let inner = statement(alloc, source, labels, value.next + 1, depth + 1, scopes, nodes)?;
+    let inner = statement(
+        alloc,
+        source,
+        labels,
+        value.next + 1,
+        depth + 1,
+        scopes,
+        nodes,
+    )?;
     pair(
         alloc,
         nodes,
@@ -127,7 +146,15 @@ fn default(
 {
     expect(source, start + 1, Word::Colon, depth)?;
     room(start + 1, depth)?;
-    let inner = statement(alloc, source, labels, start + 1 + 1, depth + 1, scopes, nodes)?;
+    let inner = statement(
+        alloc,
+        source,
+        labels,
+        start + 1 + 1,
+        depth + 1,
+        scopes,
+        nodes,
+    )?;
     over(alloc, nodes, Kind::Default, start, inner.next, inner.node)
 }
 
@@ -253,7 +280,15 @@ fn switch_rest(
     bar_label(source, test.next, depth + 1)?;
     bar_statement(source, test.next, depth + 1, scopes)?;
     begin(alloc, scopes)?;
-    let inner = compound(alloc, source, Labels::OwnBlock, test.next, depth + 1, scopes, nodes)?;
+    let inner = compound(
+        alloc,
+        source,
+        Labels::OwnBlock,
+        test.next,
+        depth + 1,
+        scopes,
+        nodes,
+    )?;
     drop_scope(scopes);
     drop_scope(scopes);
     pair(
@@ -493,13 +528,5 @@ fn without_else(
     ensures err { IfErr result (λ fault. fault ≡ ParseFault.NoMemory) }
 {
     drop_scope(scopes);
-    pair(
-        alloc,
-        nodes,
-        Kind::If,
-        start,
-        yes.next,
-        test.node,
-        yes.node,
-    )
+    pair(alloc, nodes, Kind::If, start, yes.next, test.node, yes.node)
 }

@@ -221,10 +221,7 @@ const TREES: [(&str, &str); 64] = [
     ),
     ("{for(;;);}", "Compound[For[ExpressionStatement]]"),
     ("{for(;a;);}", "Compound[For[a ExpressionStatement]]"),
-    (
-        "{for(a;;a)continue;}",
-        "Compound[For[a a Continue]]",
-    ),
+    ("{for(a;;a)continue;}", "Compound[For[a a Continue]]"),
     (
         "{for(int i=0;i<3;i++){}}",
         "Compound[For[Declaration[Int InitDeclarator[i 0]] Less[i 3] PostIncrement[i] Compound]]",
@@ -317,7 +314,8 @@ const FAULTS: [(&str, ParseFault); 75] = [
 ];
 
 // p.c: every alternative that its program needs.
-const PROGRAM: &str = "# 1 \"p.c\"\ntypedef int T;\nextern int printf(const char *, ...);\nenum color { RED, GREEN = 5, BLUE };\nstruct pair { T left; T right; };\nstatic struct pair table[2] = { { 1, 2 }, { 3, 4 } };\nstatic T sum(struct pair *p, int n)\n{\n  T s = 0;\n  int i;\n  for (i = 0; i < n; i++)\n    s += p[i].left * p[i].right;\n  return s;\n}\nint main(void)\n{\n  long T = BLUE;\n  printf(\"%d %ld\\n\", sum(table, 2), T);\n  return 0;\n}\n";
+const PROGRAM: &str =
+    "# 1 \"p.c\"\ntypedef int T;\nextern int printf(const char *, ...);\nenum color { RED, GREEN = 5, BLUE };\nstruct pair { T left; T right; };\nstatic struct pair table[2] = { { 1, 2 }, { 3, 4 } };\nstatic T sum(struct pair *p, int n)\n{\n  T s = 0;\n  int i;\n  for (i = 0; i < n; i++)\n    s += p[i].left * p[i].right;\n  return s;\n}\nint main(void)\n{\n  long T = BLUE;\n  printf(\"%d %ld\\n\", sum(table, 2), T);\n  return 0;\n}\n";
 
 // What stands before a block.
 const HEAD: &str = "typedef int T;void f(int a)";
@@ -327,7 +325,9 @@ fn whole_tree(alloc: Global, text: &str, tree: &str) -> Result<String, AllocErro
     if !is_block(text) {
         return String::from_str(alloc, tree);
     }
-    format!(in alloc; "Declaration[Specifiers[Typedef Int] T] FunctionDefinition[Void FunctionDeclarator[f Parameter[Int a]] {tree}]")
+    format!(in alloc;
+        "Declaration[Specifiers[Typedef Int] T] FunctionDefinition[Void FunctionDeclarator[f Parameter[Int a]] {tree}]"
+    )
 }
 
 fn whole(alloc: Global, text: &str) -> Result<String, AllocError> {
@@ -422,13 +422,7 @@ fn levels_are_counted_to_128(rt: HostRuntime) -> Result<(), Fail> {
 
 fn end_of(before: &str) -> &str {
     match before.as_bytes().last() {
-        Some(b'{') => {
-            if before.len() > 9 {
-                "}}"
-            } else {
-                "}"
-            }
-        }
+        Some(b'{') => { if before.len() > 9 { "}}" } else { "}" } }
         Some(b')') => "",
         _ => ";",
     }

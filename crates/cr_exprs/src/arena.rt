@@ -135,7 +135,7 @@ pub fn triple(
 }
 
 /// Appends a node with one part or none.
-pub fn over_optional(
+pub(crate) fn over_optional(
     alloc: Global,
     nodes: &mut Row<Node>,
     kind: Kind,
@@ -158,7 +158,7 @@ pub fn over_optional(
 }
 
 /// Appends a node with one part or two.
-pub fn pair_optional(
+pub(crate) fn pair_optional(
     alloc: Global,
     nodes: &mut Row<Node>,
     kind: Kind,
@@ -193,7 +193,7 @@ pub fn row_of(alloc: Global, part: u32) -> Result<Row<u32>, ParseFault>
 }
 
 /// The row of specifiers of these parts: one alone makes no node.
-pub fn gathered(
+pub(crate) fn gathered(
     nodes: &mut Row<Node>,
     part: Part,
     first: usize,
@@ -229,7 +229,7 @@ fn row_kind(part: Part) -> Kind
 
 /// The list of these parameters, for which the nodes from number `before` on were read: one alone makes no node, and `void`
 /// alone is none.
-pub fn gathered_parameters(
+pub(crate) fn gathered_parameters(
     alloc: Global,
     nodes: &mut Row<Node>,
     before: usize,
@@ -293,7 +293,7 @@ pub fn past(nodes: &Row<Node>, context: Context, node: u32) -> Context
 }
 
 /// Whether an assignment operator can stand behind a node.
-pub fn is_unary(nodes: &Row<Node>, node: u32) -> bool
+pub(crate) fn is_unary(nodes: &Row<Node>, node: u32) -> bool
     requires below { PartsAreBelow nodes.now }
     requires node { node < length nodes.now }
     ensures { result ≡ is_unary (tree nodes.now node) }
@@ -331,7 +331,7 @@ fn is_unary_kind(kind: Kind) -> bool
 }
 
 /// Whether a node is an identifier.
-pub fn is_identifier(nodes: &Row<Node>, node: u32) -> bool
+pub(crate) fn is_identifier(nodes: &Row<Node>, node: u32) -> bool
     requires below { PartsAreBelow nodes.now }
     requires node { node < length nodes.now }
     ensures { result ≡ is_identifier (tree nodes.now node) }
@@ -349,7 +349,7 @@ fn is_identifier_kind(kind: Kind) -> bool
 }
 
 /// Whether a node is a declarator with a name.
-pub fn is_declarator(nodes: &Row<Node>, node: u32) -> bool
+pub(crate) fn is_declarator(nodes: &Row<Node>, node: u32) -> bool
     requires below { PartsAreBelow nodes.now }
     requires node { node < length nodes.now }
     ensures { result ≡ is_declarator (tree nodes.now node) }

@@ -9,11 +9,11 @@ ghost use Rattle.cr_exprs.specs.Source.{IsReadable, text_of};
 ghost use Rattle.cr_exprs.specs.Answers.{Reads, IsPlaced};
 ghost use Rattle.cr_exprs.specs.Parts.{part_of};
 
+use crate::declarators::{Wanted, declarator};
 use crate::fault::ParseFault;
 use crate::found::Found;
 use crate::goal::Goal;
 use crate::reading::started;
-use crate::declarators::{Wanted, declarator};
 use crate::source::Source;
 use crate::specifiers::row;
 use cr_rows::Row;
@@ -42,7 +42,7 @@ pub fn read(
 }
 
 /// Specifiers, with storage classes.
-pub fn specifiers(
+pub fn specifier_row(
     alloc: Global,
     source: &Source,
     at: usize,

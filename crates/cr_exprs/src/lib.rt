@@ -26,12 +26,11 @@ mod tables;
 mod tests;
 
 pub use arena::{leaf, over, pair, past, push, row_of, triple};
-pub use calls::{named_declarator, read, specifiers};
+pub use calls::{named_declarator, read, specifier_row};
 pub use fault::ParseFault;
 pub use found::{Found, Optional};
 pub use front::expression;
 pub use goal::Goal;
 pub use names::TypeNames;
-pub use reading::whole;
 pub use scopes::{bring, drop_scope, taken};
-pub use source::{Source, barred, expect, is_ordinary, room, stands, starts_specifier, words_of};
+pub use source::{Source, barred, expect, here, is_ordinary, room, stands, starts_specifier, words_of};

@@ -19,8 +19,8 @@ use cr_syntax::{Node, Scope};
 use std::alloc::Global;
 use std::collections::LinkedList;
 
-/// What is to be read, with no unused keyword behind it, for a caller who reads declarations and statements.
-pub fn whole(
+/// What is to be read, with no unused keyword behind it.
+pub(crate) fn whole(
     alloc: Global,
     source: &Source,
     goal: Goal,

@@ -57,7 +57,7 @@ pub fn drop_scope(scopes: &mut LinkedList<Scope>)
 }
 
 /// The name of a parameter's declarator enters the scope of the parameters, and the declarator's own scope ends.
-pub fn enter_parameter(
+pub(crate) fn enter_parameter(
     alloc: Global,
     source: &Source,
     context: Context,
@@ -87,7 +87,7 @@ pub fn enter_parameter(
 }
 
 /// The scope that stays on a declarator of a function: its parameters' where it is a name itself.
-pub fn kept(nodes: &Row<Node>, declarator: u32, names: Scope, own: Scope) -> Scope
+pub(crate) fn kept(nodes: &Row<Node>, declarator: u32, names: Scope, own: Scope) -> Scope
     requires below { PartsAreBelow nodes.now }
     requires node { declarator < length nodes.now }
     ensures { result ≡ (if is_bare (tree nodes.now declarator) then names else own) }

@@ -41,7 +41,7 @@ pub fn words_of(alloc: Global, file: &[u8], tokens: &[Token]) -> Result<Vec<Word
 }
 
 /// What the token with this number is to the grammar, none where there is no token.
-fn here(source: &Source, at: usize) -> Option<Word>
+pub fn here(source: &Source, at: usize) -> Option<Word>
     requires { IsReadable source.now }
     ensures { result ≡ word_at (text_of source.now) at }
 {
@@ -62,7 +62,7 @@ pub fn stands(source: &Source, at: usize, word: Word) -> bool
 }
 
 /// The bytes of the token with this number, none where there is no token.
-pub fn spelling<'a>(source: &'a Source, at: usize) -> &'a [u8]
+pub(crate) fn spelling<'a>(source: &'a Source, at: usize) -> &'a [u8]
     requires { IsReadable source.now }
     ensures { result.now ≡ spelling_at (text_of source.now) at }
 {
@@ -81,7 +81,7 @@ pub fn is_ordinary(source: &Source, at: usize, scopes: &LinkedList<Scope>) -> bo
 }
 
 /// Whether an identifier stands here that is a type, where no type specifier stands before it.
-pub fn is_type_identifier(
+pub(crate) fn is_type_identifier(
     source: &Source,
     at: usize,
     typed: bool,
@@ -95,7 +95,7 @@ pub fn is_type_identifier(
 }
 
 /// Whether an identifier stands here that may be declared, behind a type specifier or another token, or not.
-pub fn is_declared(
+pub(crate) fn is_declared(
     source: &Source,
     at: usize,
     typed: bool,
@@ -109,7 +109,7 @@ pub fn is_declared(
 }
 
 /// Whether a specifier without storage classes begins here, where a type specifier stands before it or doesn't.
-pub fn starts_plain(
+pub(crate) fn starts_plain(
     source: &Source,
     at: usize,
     typed: bool,
@@ -122,12 +122,7 @@ pub fn starts_plain(
 }
 
 /// Whether a specifier begins here, where a type specifier stands before it or doesn't.
-pub fn starts_specifier(
-    source: &Source,
-    at: usize,
-    typed: bool,
-    scopes: &LinkedList<Scope>,
-) -> bool
+pub fn starts_specifier(source: &Source, at: usize, typed: bool, scopes: &LinkedList<Scope>) -> bool
     requires { IsReadable source.now }
     ensures { result ≡ passes (text_of source.now) scopes.now at (or (has is_specifier_start) (type_identifier typed)) }
 {
@@ -136,7 +131,7 @@ pub fn starts_specifier(
 }
 
 /// Whether a declarator without a name begins here.
-pub fn starts_abstract(source: &Source, at: usize) -> bool
+pub(crate) fn starts_abstract(source: &Source, at: usize) -> bool
     requires { IsReadable source.now }
     ensures { result ≡ has_word (text_of source.now) at is_abstract_start }
 {
@@ -144,7 +139,7 @@ pub fn starts_abstract(source: &Source, at: usize) -> bool
 }
 
 /// Whether a declarator with or without a name begins here.
-pub fn starts_declarator(source: &Source, at: usize) -> bool
+pub(crate) fn starts_declarator(source: &Source, at: usize) -> bool
     requires { IsReadable source.now }
     ensures { result ≡ has_word (text_of source.now) at is_declarator_start }
 {
@@ -233,7 +228,7 @@ fn overflows(word: Word, depth: usize) -> bool
 }
 
 /// The refusal of a token that nothing fits, where so many levels are open.
-pub fn refused(source: &Source, at: usize, depth: usize) -> ParseFault
+pub(crate) fn refused(source: &Source, at: usize, depth: usize) -> ParseFault
     requires readable { IsReadable source.now }
     requires at { at ≤ length source.now.tokens.now }
     ensures { IsRefusal (text_of source.now) result (verdict (text_of source.now) at depth) at }
@@ -294,7 +289,7 @@ pub fn expect(source: &Source, at: usize, word: Word, depth: usize) -> Result<()
 }
 
 /// Refuses this word, by a row of the refused forms, where so many levels are open.
-pub fn bar(
+pub(crate) fn bar(
     source: &Source,
     at: usize,
     word: Word,
@@ -314,7 +309,7 @@ pub fn bar(
 }
 
 /// Refuses a keyword that the grammar has nowhere.
-pub fn bar_unused(source: &Source, at: usize, depth: usize) -> Result<(), ParseFault>
+pub(crate) fn bar_unused(source: &Source, at: usize, depth: usize) -> Result<(), ParseFault>
     requires readable { IsReadable source.now }
     requires at { at ≤ length source.now.tokens.now }
     ensures ok { OnOk result (has_word (text_of source.now) at is_unused ≡ false) }
@@ -329,7 +324,7 @@ pub fn bar_unused(source: &Source, at: usize, depth: usize) -> Result<(), ParseF
 }
 
 /// The token after string literals side by side.
-pub fn texts(source: &Source, at: usize) -> usize
+pub(crate) fn texts(source: &Source, at: usize) -> usize
     requires readable { IsReadable source.now }
     requires at { at ≤ length source.now.tokens.now }
     ensures from { at ≤ result }
@@ -340,7 +335,7 @@ pub fn texts(source: &Source, at: usize) -> usize
 }
 
 /// The token after any number of `const`.
-pub fn consts(source: &Source, at: usize) -> usize
+pub(crate) fn consts(source: &Source, at: usize) -> usize
     requires readable { IsReadable source.now }
     requires at { at ≤ length source.now.tokens.now }
     ensures from { at ≤ result }

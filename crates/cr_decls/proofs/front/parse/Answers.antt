@@ -1,4 +1,4 @@
-use Rattle.std.proofs.Common.{◌≡◌, ◌∙◌, arith, length}
+use Rattle.std.proofs.Common.{arith, length}
 use Rattle.cr_decls.proofs.Units.{unit_kept}
 use Rattle.cr_decls.proofs.front.parse.Goals as goal
 

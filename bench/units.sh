@@ -1,0 +1,90 @@
+#!/usr/bin/env bash
+# Prints how many megabytes a second cr_tokens::read and cr_decls::parse read together of C texts, on one core: a program of
+# 407 bytes again and again under other names, up to the limit of 262,144 tokens. Then the times of texts at that limit that
+# are refused or are long rows.
+# It proves and builds a small timer in a folder of its own, which takes some minutes. Run it by hand.
+set -eu
+. "$(dirname "${BASH_SOURCE[0]}")/timer.sh"
+begin_timer 'cr_tokens: thiserror' 'cr_ints:' 'cr_rows:' 'cr_syntax: cr_tokens cr_ints cr_rows' 'cr_exprs: cr_rows cr_syntax cr_tokens thiserror' 'cr_decls: cr_exprs cr_rows cr_syntax cr_tokens'
+mkdir -p specs proofs/are_spans
+touch specs/Lib.antt
+cat >proofs/are_spans/Invariants.antt <<'ANTT'
+use Rattle.std.proofs.Common.{◌≡◌, ℕ, ◌<◌, ◌≤◌, Some, length, slice_get}
+use Rattle.cr_tokens.specs.declared.token.Token.{Token}
+use Rattle.timer.proofs.are_spans.Given as goal
+
+abbrev pub invariant-loop-token : goal.invariant-loop-token
+invariant-loop-token l = (k : ℕ) (t : Token) → k < l.token-index → slice_get l.tokens k ≡ Some t → (t.start ≤ t.end) × (t.end ≤ length l.file)
+ANTT
+cat >src/main.rt <<'RT'
+//! Reads and parses the file on standard input ten times, and prints how long that took.
+#![tactic(auto)]
+
+ghost use Rattle.std.specs.Prelude.{◌≡◌, ◌≤◌, IsTrue, length};
+ghost use Rattle.cr_syntax.specs.Words.{AreSpans};
+
+use cr_decls::parse;
+use cr_tokens::{MAX_TOKENS, Token};
+use std::alloc::Global;
+use std::io::{self, Read};
+use std::time::Instant;
+
+fn main(rt: HostRuntime) -> io::Result<()> {
+    let mut text = Vec::new(rt.alloc());
+    rt.stdin().read_to_end(&mut text)?;
+    let start = Instant::now(&rt)?;
+    let mut seen = (0, 0);
+    for _ in 0..10 {
+        seen = counts(rt.alloc(), &text);
+    }
+    let taken = start.elapsed(&rt)?.as_micros();
+    println!(rt; "{} {} {} {}", text.len(), seen.0, seen.1, taken)?;
+    Ok(())
+}
+
+// How many tokens there are, and how many nodes their unit has.
+fn counts(alloc: Global, text: &[u8]) -> (usize, usize) {
+    let Ok(tokens) = cr_tokens::read(alloc, text) else {
+        return (0, 0);
+    };
+    if !are_spans(text, tokens.list.as_slice()) {
+        return (0, 0);
+    }
+    match parse(alloc, text, &tokens) {
+        Ok(unit) => (tokens.list.len(), unit.nodes.len()),
+        Err(_) => (tokens.list.len(), 0),
+    }
+}
+
+fn are_spans(file: &[u8], tokens: &[Token]) -> bool
+    ensures spans { IsTrue result → AreSpans file.now tokens.now }
+    ensures few { IsTrue result → length tokens.now ≤ 262144 }
+{
+    if tokens.len() > MAX_TOKENS {
+        return false;
+    }
+    for token in tokens {
+        if token.start > token.end || token.end as usize > file.len() {
+            return false;
+        }
+    }
+    true
+}
+RT
+build_timer
+timed() {
+  out/timer | awk -v name="$1" '{ printf "%s: %d bytes, %d tokens, %d nodes: %.1f ms, %.1f MB/s\n", name, $1, $2, $3, $4 / 10000, 10 * $1 / $4 }'
+}
+# a text up to the limit: what stands before, what is repeated how often, what stands behind
+row() { printf '%s' "$1"; yes "$2" | head -n "$3" | tr -d '\n'; printf '%s' "$4"; }
+# the program again and again, each time with a number behind its own names; its typedef and its objects are 143 tokens
+for k in $(seq 1 1830); do
+  printf 'typedef int T%d;\nextern int printf(const char *, ...);\nenum color%d { RED%d, GREEN%d = 5, BLUE%d };\nstruct pair%d { T%d left; T%d right; };\nstatic struct pair%d table%d[2] = { { 1, 2 }, { 3, 4 } };\nstatic T%d sum%d(struct pair%d *p, int n)\n{\n  T%d s = 0;\n  int i;\n  for (i = 0; i < n; i++)\n    s += p[i].left * p[i].right;\n  return s;\n}\nint main%d(void)\n{\n  long T%d = BLUE%d;\n  printf("%%d %%ld\\n", sum%d(table%d, 2), T%d);\n  return 0;\n}\n' $k $k $k $k $k $k $k $k $k $k $k $k $k $k $k $k $k $k $k $k
+done | timed 'the program under other names'
+row '' 'int a;' 87381 '' | timed 'int a;'
+row 'int ' '*' 262142 'a' | timed '*'
+row 'int a=' '(' 262140 '' | timed '('
+row 'int f()' '{' 262139 '' | timed '{'
+row 'int f(){' ';' 262138 '}' | timed ';'
+row 'int a={1' ',1' 131068 '};' | timed ',1'
+awk 'BEGIN { srand(1); split("int ( ) { } [ ] ; , * = a 1 if else for while return + -> . case", w, " "); for (i = 0; i < 262144; i++) printf "%s ", w[int(rand() * 22) + 1] }' | timed 'random tokens'
