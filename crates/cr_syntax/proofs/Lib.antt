@@ -42,3 +42,5 @@ pub mod MachineStuck
 pub mod MachineClosed
 pub mod MachineRefused
 pub mod MachineReading
+pub mod MachineOwn
+pub mod MachineOne

@@ -189,8 +189,9 @@ pub data Outside (ts : List Lexeme) : ℕ → ℕ → Type 0 where
   -- 7: another statement than a block as a switch's body: it could be that of a `while` in the switch's place
   switch_body : {k : ℕ} (s : ℕ) → Shows ts k (switch_body_at s k) → (Is ts k word.LeftBrace → ⊥) → (Is ts k word.Case → ⊥) → (Is ts k word.Default → ⊥) →
       Begins (Upto k most_levels) (with_word ts s word.While) (k + 1) → Outside ts k 7
-  -- 8: the `...` of a function definition's own parameters, where its body begins at token m
-  variadic_function : {k : ℕ} {t : Trees} (m : ℕ) → k < m → Is ts m word.LeftBrace → Completes (Upto k most_levels) ts (m + 1) t → Has (variadic_definition k m) t → Outside ts k 8
+  -- 8: the `...` of a function definition's own parameters, where its body begins at token m: a `...` belongs to a
+  -- definition where the tokens up to the body's brace are within the limit
+  variadic_function : {k : ℕ} {t : Trees} (m : ℕ) → k < m → Is ts m word.LeftBrace → Completes (Upto m most_levels) ts (m + 1) t → Has (variadic_definition k m) t → Outside ts k 8
 
 -- a bracket that opens a level, expected or not
 pub data IsBracket : Word → Type 0 where
