@@ -44,3 +44,4 @@ pub mod MachineRefused
 pub mod MachineReading
 pub mod MachineOwn
 pub mod MachineOne
+pub mod UnitRefusals

@@ -46,18 +46,18 @@ one_row (bit_field q b) (called_expression q' b') = let e = one_word q q' in cc
 one_row (bit_field q b) (bit_field q' b') = refl
 
 -- One number or the other is less, or they are one.
-data Order (k n : ℕ) : Type 0 where
+pub data Order (k n : ℕ) : Type 0 where
   less : k < n → Order k n
   alike : k ≡ n → Order k n
   more : n < k → Order k n
 
-order : (k n : ℕ) → Order k n
+pub order : (k n : ℕ) → Order k n
 order k n = elim (cases_lt k n) [
   | inl lt ↦ less lt
   | inr ge ↦ elim (cases_lt n k) [ inl lt ↦ more lt | inr ge' ↦ alike (omega arith) ]
 ]
 
-module _ (ts : List Lexeme) (s : Start) (z : IsStart s.part) (le : s.at ≤ length ts) where
+module _ (ts : List Lexeme) (s : Start) (z : IsStart s.part) where
   -- Texts.
 
   -- what is spelled in the middle is spelled at a text's end

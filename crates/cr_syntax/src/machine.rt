@@ -1,4 +1,4 @@
-ghost use Rattle.cr_syntax.specs.MachineLaws.{OneAnswer, LooksNoFurther, ReadIsSpelled, SpelledIsRead, OneTree, ReadIsLongest, RefusedEndsRun, RefusedWithin, BeginsBefore, EndedIsNone, AnswersAreReadings};
+ghost use Rattle.cr_syntax.specs.MachineLaws.{OneAnswer, LooksNoFurther, ReadIsSpelled, SpelledIsRead, OneTree, ReadIsLongest, RefusedEndsRun, RefusedWithin, BeginsBefore, EndedIsNone, AnswersAreReadings, OneReading, OneFirstCause, TreeIsNotRefused};
 
 /// A law: the parser's machine reads the grammar's expressions, and nothing else.
 ///
@@ -23,4 +23,15 @@ pub fn machine_is_grammar()
 /// A law: the tokens up to the end of a list spell at most one expression.
 pub fn one_tree()
     ensures { OneTree }
+{}
+
+/// A law: a start has at most one reading.
+pub fn one_reading()
+    ensures { OneReading }
+{}
+
+/// A law: a token list is refused at one token or at its end, for one cause, or it has a tree.
+pub fn one_first_refusal()
+    ensures cause { OneFirstCause }
+    ensures tree { TreeIsNotRefused }
 {}
