@@ -45,3 +45,4 @@ pub mod MachineReading
 pub mod MachineOwn
 pub mod MachineOne
 pub mod UnitRefusals
+pub mod UnitNodes
