@@ -46,3 +46,5 @@ pub mod MachineOwn
 pub mod MachineOne
 pub mod UnitRefusals
 pub mod UnitNodes
+pub mod UnitHeads
+pub mod UnitRows

@@ -23,7 +23,7 @@ use Rattle.cr_syntax.proofs.MachineRuns.{spelling_same}
 use Rattle.cr_syntax.proofs.MachineOwn.{Lets, lets_itself, lets_all, lets_fewer, lets_upto, lets_leaving, own, within_other, later}
 
 -- a token is one word
-one_word : {o : Option Word} {v w : Word} → o ≡ Some v → o ≡ Some w → v ≡ w
+pub one_word : {o : Option Word} {v w : Word} → o ≡ Some v → o ≡ Some w → v ≡ w
 one_word q q' = some_one (sym q ∙ q')
 
 -- At one token one row of an expression's refused forms.

@@ -109,10 +109,10 @@ module _ (ts : List Lexeme) (n : ℕ) (w : Word) (q : Is ts n w) where
 
 -- A node is made by an alternative.
 
-has_none : {test : Kind → ℕ → ℕ → Trees → Bool} {G : Type 0} → Has test none → G
+pub has_none : {test : Kind → ℕ → ℕ → Trees → Bool} {G : Type 0} → Has test none → G
 has_none y = elim y [ ]
 
-has_apart : {test : Kind → ℕ → ℕ → Trees → Bool} (t u : Trees) → Has test (t & u) → Has test t ⊎ Has test u
+pub has_apart : {test : Kind → ℕ → ℕ → Trees → Bool} (t u : Trees) → Has test (t & u) → Has test t ⊎ Has test u
 has_apart none u y = inr y
 has_apart (node k i j b n) u (has_here q) = inl (has_here q)
 has_apart (node k i j b n) u (has_inside y) = inl (has_inside y)
