@@ -1,5 +1,5 @@
 -- No two rows of the refused forms name one token of a unit.
-use Rattle.std.proofs.Common.{◌≡◌, ℕ, zero, suc, ◌+◌, ◌<◌, ◌≤◌, Bool, true, false, ◌||◌, ◌&&◌, ◌==◌, List, [], ◌∷◌, length, Option, Some, refl, sym, ap, subst, ◌∙◌, arith, ◌⊎◌, inl, inr}
+use Rattle.std.proofs.Common.{◌≡◌, ℕ, zero, suc, ◌+◌, ◌<◌, ◌≤◌, Bool, true, false, ◌||◌, ◌&&◌, ◌==◌, List, [], ◌∷◌, length, Option, None, Some, refl, sym, ap, subst, ◌∙◌, arith, ◌⊎◌, inl, inr}
 use Rattle.std.specs.Prelude.{slice_get, set, if◌then◌else◌}
 use Rattle.std.proofs.lemmas.Bool.{both_ways, eqb-true}
 use Rattle.cr_syntax.specs.declared.word.Word.{Word}
@@ -25,7 +25,7 @@ use Rattle.cr_syntax.proofs.MachineFirst.{none_true, First, by_word, by_name, st
 use Rattle.cr_syntax.proofs.MachineForms.{within}
 use Rattle.cr_syntax.proofs.MachineOne.{one_word}
 use Rattle.cr_syntax.proofs.MachineRuns.{word_same}
-use Rattle.cr_syntax.proofs.MachineSpells.{is_one}
+use Rattle.cr_syntax.proofs.MachineSpells.{is_one, forth}
 use Rattle.cr_syntax.proofs.MachineViable.{word_there}
 use Rattle.cr_syntax.proofs.UnitNodes.{used, Made, made, node_shows}
 use Rattle.cr_syntax.proofs.UnitHeads.{switch_tail, IsHead, head_of, same_head, IsFollowed, by_statement, by_semicolon, whiles, switches}
@@ -66,9 +66,13 @@ label_here k _ at i j b y e = none_true y
 
 labels : (k : ℕ) (at : Place) (t : Trees) → misplaced_at k at t ≡ true → Has (label_at k) t
 labels k at none y = none_true y
-labels k at (node l i j b n) y = elim (either ((i == k) && is_misplaced l at) (misplaced_at k (place_in l at) b || misplaced_at k at n) y) [
-  | inl x ↦ (let z = both (i == k) (is_misplaced l at) x in has_here (label_here k l at i j b z.1 z.0))
-  | inr x ↦ elim (either (misplaced_at k (place_in l at) b) (misplaced_at k at n) x) [ inl z ↦ has_inside (labels k (place_in l at) b z) | inr z ↦ has_after (labels k at n z) ]
+labels k at (node l i j b n) y = elim (either (((i == k) && is_misplaced l at) || misplaced_at k (place_in l at) b) (misplaced_at k at n) y) [
+  | inl x ↦
+      elim (either ((i == k) && is_misplaced l at) (misplaced_at k (place_in l at) b) x) [
+        | inl z ↦ (let o = both (i == k) (is_misplaced l at) z in has_here (label_here k l at i j b o.1 o.0))
+        | inr z ↦ has_inside (labels k (place_in l at) b z)
+      ]
+  | inr z ↦ has_after (labels k at n z)
 ]
 
 first_token : {ts : List Lexeme} {limit : Limit} {l : Depth} {w : Word} {s : Side} {h : Context} {c e : Scopes} {d i j : ℕ} {t : Trees} → Spells ts limit (rest (symbol.Token l w ∷ s)) h c e d t i j → Is ts i w
@@ -197,8 +201,11 @@ dots_in k m (has_here {k = l} {i = i} {j = j} {a = b} {n = n} y) = by l y
 dots_in k m (has_inside y) = has_inside (dots_in k m y)
 dots_in k m (has_after y) = has_after (dots_in k m y)
 
+ended : {ts : List Lexeme} {limit : Limit} {h : Context} {c e : Scopes} {d i j : ℕ} {t : Trees} → Spells ts limit (rest []) h c e d t i j → i ≡ j
+ended spells.done = refl
+
 dots_last : {ts : List Lexeme} {limit : Limit} {h : Context} {c e : Scopes} {d i j : ℕ} {t : Trees} → Spells ts limit (rest (list part.Parameter ∷ token word.Comma ∷ token word.Ellipsis ∷ [])) h c e d t i j → (m : ℕ) × (m + 1 ≡ j) × Is ts m word.Ellipsis
-dots_last (spells.list_last x (spells.token q w (spells.token {i = m} q' w' spells.done))) = (m, refl, q')
+dots_last (spells.list_last x (spells.token q w (spells.token {i = m} q' w' s))) = (m, ended s, q')
 dots_last (spells.list_more x q w s) = dots_last s
 
 dots_word : {ts : List Lexeme} {limit : Limit} (k : ℕ) {l : Kind} {i j : ℕ} {b : Trees} → Made ts limit l i j b → dots_at k l i j b ≡ true → Is ts k word.Ellipsis
