@@ -44,7 +44,7 @@ pub mod MachineRefused
 pub mod MachineReading
 pub mod MachineOwn
 pub mod MachineOne
-pub mod UnitRefusals
 pub mod UnitNodes
 pub mod UnitHeads
 pub mod UnitRows
+pub mod UnitRefusals

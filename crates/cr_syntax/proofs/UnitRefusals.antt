@@ -6,9 +6,9 @@ use Rattle.cr_syntax.specs.Trees.{Trees}
 use Rattle.cr_syntax.specs.Spells.{Limit, Free, AtMost, Upto, Leaving, Is}
 use Rattle.cr_syntax.specs.Units.{most_levels, IsUnit, Completes, Begins, Outside, IsTooDeep, IsFineBefore, Refusal, Unexpected, Ended, TooDeep, OutsideSubset, FirstRefusal, IsTreeOf}
 use Rattle.cr_syntax.specs.Units as units
-use Rattle.cr_syntax.specs.MachineLaws.{IsSameCause, same_refusal, same_token}
 use Rattle.cr_syntax.proofs.MachineOwn.{Lets, lets_all, lets_fewer, lets_upto, lets_leaving, within_other}
 use Rattle.cr_syntax.proofs.MachineOne.{Order, less, alike, more, order}
+use Rattle.cr_syntax.proofs.UnitRows.{one_row}
 
 module _ (ts : List Lexeme) where
   -- Units.
@@ -75,26 +75,26 @@ module _ (ts : List Lexeme) where
   cause_of (unexpected lt n n' x) far = by_end x
   cause_of (ended e x) far = absurd (omega arith)
 
-  -- one token has one refusal, but for the row
-  one_stop : {k : ℕ} {r r' : Refusal} → Stops k r → Stops k r' → IsSameCause r r'
-  one_stop (too_deep lt d) (too_deep lt' d') = same_refusal
+  -- one token has one refusal
+  one_stop : {k : ℕ} {r r' : Refusal} → Stops k r → Stops k r' → r ≡ r'
+  one_stop (too_deep lt d) (too_deep lt' d') = refl
   one_stop (too_deep lt d) (outside lt' n o) = absurd (n d)
   one_stop (too_deep lt d) (unexpected lt' n n' x) = absurd (n d)
   one_stop (too_deep lt d) (ended e x) = absurd (omega arith)
   one_stop (outside lt n o) (too_deep lt' d) = absurd (n d)
-  one_stop (outside lt n o) (outside lt' n' o') = same_token
+  one_stop {k = k} (outside {row = row} lt n o) (outside {row = row'} lt' n' o') = ap (OutsideSubset k) (one_row ts k row row' o o')
   one_stop (outside {row = row} lt n o) (unexpected lt' n' n'' x) = absurd (n'' row o)
   one_stop (outside lt n o) (ended e x) = absurd (omega arith)
   one_stop (unexpected lt n n' x) (too_deep lt' d) = absurd (n d)
   one_stop (unexpected lt n n' x) (outside {row = row} lt' n'' o) = absurd (n' row o)
-  one_stop (unexpected lt n n' x) (unexpected lt' n'' n''' x') = same_refusal
+  one_stop (unexpected lt n n' x) (unexpected lt' n'' n''' x') = refl
   one_stop (unexpected lt n n' x) (ended e x') = absurd (omega arith)
   one_stop (ended e x) (too_deep lt d) = absurd (omega arith)
   one_stop (ended e x) (outside lt n o) = absurd (omega arith)
   one_stop (ended e x) (unexpected lt n n' x') = absurd (omega arith)
-  one_stop (ended e x) (ended e' x') = same_refusal
+  one_stop (ended e x) (ended e' x') = refl
 
-  two : {r r' : Refusal} → Refuses r → Refuses r' → IsSameCause r r'
+  two : {r r' : Refusal} → Refuses r → Refuses r' → r ≡ r'
   two {r = r} {r' = r'} x x' = by (order x.token x'.token)
     where
       le : x.token ≤ length ts
@@ -103,21 +103,13 @@ module _ (ts : List Lexeme) where
       le' : x'.token ≤ length ts
       le' = x'.inside
 
-      by : Order x.token x'.token → IsSameCause r r'
+      by : Order x.token x'.token → r ≡ r'
       by (less lt) = absurd (no_cause lt x'.fine (cause_of x.stops (let n = le' in omega arith)))
       by (more lt) = absurd (no_cause lt x.fine (cause_of x'.stops (let n = le in omega arith)))
       by (alike e) = one_stop x.stops (subst (λ n. Stops n r') (sym e) x'.stops)
 
-  pub one_first_cause : {r r' : Refusal} → FirstRefusal ts r → FirstRefusal ts r' → IsSameCause r r'
-  one_first_cause h h' = two (refuses h) (refuses h')
-
-  -- and one refusal, where no two rows of the refused forms name one token
-  pub one_first_refusal : ((k n n' : ℕ) → Outside ts k n → Outside ts k n' → n ≡ n') → {r r' : Refusal} → FirstRefusal ts r → FirstRefusal ts r' → r ≡ r'
-  one_first_refusal f h h' = by (one_first_cause h h') h h'
-    where
-      by : {r r' : Refusal} → IsSameCause r r' → FirstRefusal ts r → FirstRefusal ts r' → r ≡ r'
-      by same_refusal h h' = refl
-      by (same_token {k = k} {n = n} {n' = n'}) (units.outside lt y x o) (units.outside lt' y' x' o') = ap (OutsideSubset k) (f k n n' o o')
+  pub one_first_refusal : {r r' : Refusal} → FirstRefusal ts r → FirstRefusal ts r' → r ≡ r'
+  one_first_refusal h h' = two (refuses h) (refuses h')
 
   -- a list that has a tree holds no cause
   pub tree_is_not_refused : {t : Trees} {r : Refusal} → IsTreeOf ts t → FirstRefusal ts r → ⊥

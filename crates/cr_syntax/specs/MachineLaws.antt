@@ -9,7 +9,7 @@ use Rattle.cr_syntax.specs.Trees.{Trees}
 use Rattle.cr_syntax.specs.Words.{Lexeme}
 use Rattle.cr_syntax.specs.Scopes.{Scopes}
 use Rattle.cr_syntax.specs.Spells.{Limit, Free, AtMost, Upto, Is, Spells, a}
-use Rattle.cr_syntax.specs.Units.{most_levels, Refusal, FirstRefusal, IsTreeOf, OutsideSubset}
+use Rattle.cr_syntax.specs.Units.{most_levels, Refusal, FirstRefusal, IsTreeOf}
 use Rattle.cr_syntax.specs.Machine.{Prog, Reply, Cause, Done, Failed, Runs, whole, too_deep, refusal_of}
 use Rattle.cr_syntax.specs.Expressions.{Start, Spelled, BeginsFrom, RunEnds, Outcome, Read, Refused, IsReading}
 use Rattle.cr_syntax.specs.MachineBody.{body, start_goal}
@@ -139,14 +139,9 @@ AnswersAreReadings = (ts : List Lexeme) (s : Start) (r : Reply) → IsStart s.pa
 abbrev pub OneReading : Type 0
 OneReading = (ts : List Lexeme) (s : Start) (o o' : Outcome) → IsStart s.part → IsReading ts s o → IsReading ts s o' → o ≡ o'
 
--- one refusal, but for the row of the refused forms
-pub data IsSameCause : Refusal → Refusal → Type 0 where
-  same_refusal : {r : Refusal} → IsSameCause r r
-  same_token : {k n n' : ℕ} → IsSameCause (OutsideSubset k n) (OutsideSubset k n')
-
--- a token list has one first refusal at most: a token, or the end, and its cause
-abbrev pub OneFirstCause : Type 0
-OneFirstCause = (ts : List Lexeme) (r r' : Refusal) → FirstRefusal ts r → FirstRefusal ts r' → IsSameCause r r'
+-- a token list has one first refusal at most
+abbrev pub OneFirstRefusal : Type 0
+OneFirstRefusal = (ts : List Lexeme) (r r' : Refusal) → FirstRefusal ts r → FirstRefusal ts r' → r ≡ r'
 
 -- and none where it has a tree
 abbrev pub TreeIsNotRefused : Type 0

@@ -1,4 +1,4 @@
-ghost use Rattle.cr_syntax.specs.MachineLaws.{OneAnswer, LooksNoFurther, ReadIsSpelled, SpelledIsRead, OneTree, ReadIsLongest, RefusedEndsRun, RefusedWithin, BeginsBefore, EndedIsNone, AnswersAreReadings, OneReading, OneFirstCause, TreeIsNotRefused};
+ghost use Rattle.cr_syntax.specs.MachineLaws.{OneAnswer, LooksNoFurther, ReadIsSpelled, SpelledIsRead, OneTree, ReadIsLongest, RefusedEndsRun, RefusedWithin, BeginsBefore, EndedIsNone, AnswersAreReadings, OneReading, OneFirstRefusal, TreeIsNotRefused};
 
 /// A law: the parser's machine reads the grammar's expressions, and nothing else.
 ///
@@ -30,8 +30,8 @@ pub fn one_reading()
     ensures { OneReading }
 {}
 
-/// A law: a token list is refused at one token or at its end, for one cause, or it has a tree.
+/// A law: a token list has at most one first refusal, and none where it has a tree.
 pub fn one_first_refusal()
-    ensures cause { OneFirstCause }
+    ensures only { OneFirstRefusal }
     ensures tree { TreeIsNotRefused }
 {}
