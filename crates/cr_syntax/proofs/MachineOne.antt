@@ -1,16 +1,11 @@
 -- A start has one reading, and a token list one first refusal.
-use Rattle.std.proofs.Common.{◌≡◌, ℕ, zero, suc, ◌+◌, ◌<◌, ◌≤◌, Bool, true, false, List, [], ◌∷◌, length, Option, None, Some, refl, sym, ap, subst, ◌∙◌, arith, ◌⊎◌, inl, inr}
-use Rattle.std.specs.Prelude.{slice_get}
-use Rattle.std.proofs.Math.Nat.{eq-or-lt_of_le}
+use Rattle.std.proofs.Common.{◌≡◌, ℕ, ◌+◌, ◌<◌, ◌≤◌, List, length, Option, Some, refl, sym, ap, subst, ◌∙◌, arith, inl, inr}
 use Rattle.std.proofs.lemmas.Bool.{cases_lt}
 use Rattle.cr_syntax.specs.declared.word.Word.{Word}
-use Rattle.cr_syntax.specs.declared.word.Word.TheVariants as word
-use Rattle.cr_syntax.specs.declared.symbol.Part.{Part}
-use Rattle.cr_syntax.specs.Words.{Lexeme, spelling_at}
-use Rattle.cr_syntax.specs.Scopes.{Scopes}
+use Rattle.cr_syntax.specs.Words.{Lexeme}
 use Rattle.cr_syntax.specs.Trees.{Trees}
 use Rattle.cr_syntax.specs.Context.{fresh}
-use Rattle.cr_syntax.specs.Spells.{Limit, Free, AtMost, Upto, Leaving, Is, Spells, a}
+use Rattle.cr_syntax.specs.Spells.{Limit, Free, AtMost, Upto, Spells, a}
 use Rattle.cr_syntax.specs.Units.{most_levels, Refusal, Unexpected, Ended, TooDeep, OutsideSubset}
 use Rattle.cr_syntax.specs.MachineLaws.{IsStart}
 use Rattle.cr_syntax.specs.Expressions.{Start, Spelled, Continues, BeginsFrom, OutsideFrom, unused_keyword, compound_literal, called_expression, bit_field, IsTooDeepFrom, IsFineFrom, RunEnds, Outcome, Read, Refused, IsReading}

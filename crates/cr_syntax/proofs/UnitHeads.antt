@@ -1,5 +1,5 @@
 -- The heads of statements: the `)` that closes the bracket behind a `while` or a `switch`, and what stands behind it.
-use Rattle.std.proofs.Common.{◌≡◌, ℕ, zero, suc, ◌+◌, ◌<◌, ◌≤◌, Bool, true, false, not, ◌&&◌, List, [], ◌∷◌, length, Option, None, Some, refl, sym, subst, ◌∙◌, arith, ◌⊎◌, inl, inr}
+use Rattle.std.proofs.Common.{◌≡◌, ℕ, zero, suc, ◌+◌, ◌<◌, ◌≤◌, Bool, true, false, not, ◌&&◌, List, [], ◌∷◌, Option, None, Some, refl, sym, subst, ◌∙◌, arith, inl, inr}
 use Rattle.std.proofs.Math.Nat.{eq-or-lt_of_le}
 use Rattle.std.proofs.lemmas.Bool.{cases_lt, both_ways}
 use Rattle.cr_syntax.specs.declared.word.Word.{Word}
@@ -13,7 +13,7 @@ use Rattle.cr_syntax.specs.declared.symbol.Symbol.TheVariants as symbol
 use Rattle.cr_syntax.specs.declared.symbol.Context.{Context}
 use Rattle.cr_syntax.specs.Words.{Lexeme}
 use Rattle.cr_syntax.specs.Scopes.{Scopes}
-use Rattle.cr_syntax.specs.Trees.{Trees, none, node, one, ◌&◌}
+use Rattle.cr_syntax.specs.Trees.{Trees, one, ◌&◌}
 use Rattle.cr_syntax.specs.Grammar.{Side, Alternative, token, opening, reopening, closing, inner}
 use Rattle.cr_syntax.specs.Grammar as grammar
 use Rattle.cr_syntax.specs.Tables.{side_of, declaration_rules, expression_rules}
@@ -23,7 +23,7 @@ use Rattle.cr_syntax.specs.Units.{Has, has_here, has_inside, has_after}
 use Rattle.cr_syntax.proofs.Tests.{both, not_true, some_one}
 use Rattle.cr_syntax.proofs.Alternatives.{side_only}
 use Rattle.cr_syntax.proofs.MachineFirst.{none_true}
-use Rattle.cr_syntax.proofs.MachineSpells.{consts_forth, forth}
+use Rattle.cr_syntax.proofs.MachineSpells.{forth}
 use Rattle.cr_syntax.proofs.MachineOne.{one_word}
 use Rattle.cr_syntax.proofs.MachineOwn.{later, later_parts}
 use Rattle.cr_syntax.proofs.UnitNodes.{Made, made, has_none, has_apart, node_shows}

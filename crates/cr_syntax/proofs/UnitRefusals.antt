@@ -1,12 +1,11 @@
 -- A token list has one first refusal, and none where it has a tree.
 use Rattle.std.proofs.Common.{◌≡◌, ℕ, ◌+◌, ◌<◌, ◌≤◌, List, length, refl, sym, ap, subst, arith}
-use Rattle.std.specs.Prelude.{slice_get}
 use Rattle.cr_syntax.specs.Words.{Lexeme}
 use Rattle.cr_syntax.specs.Trees.{Trees}
-use Rattle.cr_syntax.specs.Spells.{Limit, Free, AtMost, Upto, Leaving, Is}
+use Rattle.cr_syntax.specs.Spells.{Limit, Free, AtMost, Upto}
 use Rattle.cr_syntax.specs.Units.{most_levels, IsUnit, Completes, Begins, Outside, IsTooDeep, IsFineBefore, Refusal, Unexpected, Ended, TooDeep, OutsideSubset, FirstRefusal, IsTreeOf}
 use Rattle.cr_syntax.specs.Units as units
-use Rattle.cr_syntax.proofs.MachineOwn.{Lets, lets_all, lets_fewer, lets_upto, lets_leaving, within_other}
+use Rattle.cr_syntax.proofs.MachineOwn.{Lets, lets_all, lets_fewer, lets_upto, within_other}
 use Rattle.cr_syntax.proofs.MachineOne.{Order, less, alike, more, order}
 use Rattle.cr_syntax.proofs.UnitRows.{one_row}
 
