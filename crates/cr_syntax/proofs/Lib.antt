@@ -48,3 +48,4 @@ pub mod UnitNodes
 pub mod UnitHeads
 pub mod UnitRows
 pub mod UnitRefusals
+pub mod UnitExamples

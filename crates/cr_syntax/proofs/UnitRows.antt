@@ -16,10 +16,10 @@ use Rattle.cr_syntax.specs.Trees.{Trees, none, node, one, ◌&◌}
 use Rattle.cr_syntax.specs.Context.{is_bare}
 use Rattle.cr_syntax.specs.Grammar.{Side, token, list}
 use Rattle.cr_syntax.specs.Grammar as grammar
-use Rattle.cr_syntax.specs.Spells.{Limit, Upto, Is, Spells, a, rest}
+use Rattle.cr_syntax.specs.Spells.{Limit, AtMost, Upto, Is, Spells, a, rest}
 use Rattle.cr_syntax.specs.Spells as spells
-use Rattle.cr_syntax.specs.Units.{most_levels, Completes, Begins, Has, has_here, has_inside, has_after, one_begins_at, after_first, postfix_before, switch_body_at, Place, elsewhere, place_in, is_misplaced, misplaced_at, own_parameters, ellipsis_at, variadic_definition, is_unused, with_word, Shows, Outside, unused_keyword, designator, compound_literal, called_expression, bit_field, deep_label, label_as_body, switch_body, variadic_function}
-use Rattle.cr_syntax.proofs.Tests.{both}
+use Rattle.cr_syntax.specs.Units.{most_levels, IsUnit, IsTreeOf, Completes, Begins, Has, has_here, has_inside, has_after, one_begins_at, after_first, postfix_before, switch_body_at, Place, elsewhere, place_in, is_misplaced, misplaced_at, own_parameters, ellipsis_at, variadic_definition, is_unused, with_word, Shows, Outside, unused_keyword, designator, compound_literal, called_expression, bit_field, deep_label, label_as_body, switch_body, variadic_function}
+use Rattle.cr_syntax.proofs.Tests.{both, some_one}
 use Rattle.cr_syntax.proofs.MachineComplete.{get_some}
 use Rattle.cr_syntax.proofs.MachineFirst.{none_true, First, by_word, by_name, starts, first_expression}
 use Rattle.cr_syntax.proofs.MachineForms.{within}
@@ -346,3 +346,41 @@ module _ (ts : List Lexeme) where
       by (body s lt x f g h y) z o o' = other_body s k lt x y f g h o'
       by (named q e) (body s lt x f g h y) o o' = sym (other_body s k lt x y f g h o)
       by (named q e) (named q' e') o o' = sym e ∙ ap row_by (one_word q q') ∙ e'
+
+-- A unit without the words of the refused forms.
+
+abbrev pub is_plain : Word → Bool
+is_plain word.Switch = false
+is_plain w = row_by w == 0
+
+abbrev pub all_plain : List Lexeme → Bool
+all_plain [] = true
+all_plain (x ∷ ts) = is_plain x.word && all_plain ts
+
+plain_at : (ts : List Lexeme) (k : ℕ) {w : Word} → all_plain ts ≡ true → Is ts k w → is_plain w ≡ true
+plain_at [] k y q = cc
+plain_at (x ∷ ts) zero y q = subst (λ w. is_plain w ≡ true) (some_one q) (both (is_plain x.word) (all_plain ts) y).0
+plain_at (x ∷ ts) (suc k) y q = plain_at ts k (both (is_plain x.word) (all_plain ts) y).1 q
+
+-- its words belong to no row
+plain_row : (w : Word) → is_plain w ≡ true → row_by w ≡ 0
+plain_row word.Switch y = none_true y
+plain_row w y = eqb-true (row_by w) 0 y
+
+-- it has its tree
+pub plain_tree : (ts : List Lexeme) {t : Trees} → all_plain ts ≡ true → IsUnit (AtMost most_levels) ts t → IsTreeOf ts t
+plain_tree ts y u = record { is_unit = u; inside = λ k n o. by k (name_of ts o) o }
+  where
+    none_named : {k n : ℕ} → n ≡ 0 → Outside ts k n → ⊥
+    none_named {k = k} e o = none (subst (λ n. Outside ts k n) e o)
+      where
+        none : {k : ℕ} → Outside ts k 0 → ⊥
+        none o = elim o [ ]
+
+    by : (k : ℕ) {n : ℕ} → IsNamed ts k n → Outside ts k n → ⊥
+    by k (named {w = w} q e) o = none_named (sym e ∙ plain_row w (plain_at ts k y q)) o
+    by k (body s lt b f g h c) o =
+        let x = switch_shown ts b in
+        let e = x.behind in
+        let n = x.before in
+        both_ways (is_plain word.Switch) refl (plain_at ts s y (token_out b.completes s (omega arith) (omega arith) x.word))
