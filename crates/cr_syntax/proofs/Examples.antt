@@ -12,11 +12,11 @@ use Rattle.cr_syntax.specs.Tables.{part_of, side_of, declaration_rules, expressi
 use Rattle.cr_syntax.specs.Reads.{as_part, along, reads}
 use Rattle.cr_syntax.specs.Units.{unit_side, file_scope}
 
-abbrev lexeme : Word → List ℕ → Lexeme
+abbrev pub lexeme : Word → List ℕ → Lexeme
 lexeme w s = record { word = w; spelling = s }
 
 -- a token whose spelling the grammar doesn't ask for
-abbrev plain : Word → Lexeme
+abbrev pub plain : Word → Lexeme
 plain w = lexeme w []
 
 abbrev is_read : List Lexeme → Trees → Bool

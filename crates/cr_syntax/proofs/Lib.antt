@@ -64,3 +64,10 @@ pub mod MachineBeside
 pub mod MachineRefusals
 pub mod MachineUnitStuck
 pub mod MachineUnit
+pub mod MachineOwn
+pub mod MachineOne
+pub mod UnitNodes
+pub mod UnitHeads
+pub mod UnitRows
+pub mod UnitRefusals
+pub mod UnitExamples

@@ -19,7 +19,7 @@ use Rattle.cr_syntax.specs.MachineLaws.{end_of, outcome_of, IsStart, start_expre
 use Rattle.cr_syntax.specs.Expressions.{Start, Spelled, BeginsFrom, OutsideFrom, unused_keyword, compound_literal, called_expression, bit_field, IsTooDeepFrom, IsFineFrom, RunEnds, Read, Refused, IsReading}
 use Rattle.cr_syntax.specs.Expressions as expressions
 use Rattle.cr_syntax.proofs.Tests.{both, not_true, some_one}
-use Rattle.cr_syntax.proofs.MachineRuns.{same, local}
+use Rattle.cr_syntax.proofs.MachineRuns.{same, reach, local}
 use Rattle.cr_syntax.proofs.MachineEnds.{Way, stopped, barring, crowded, defining, Ends, end_stop, end_refuse, end_take, end_crowded, end_pass, end_bar, end_free, end_seen, end_unseen, end_yes, end_no, end_here, end_look, end_set, end_bring, end_behind, end_inside, ends_so, refused_so, cause_by}
 use Rattle.cr_syntax.proofs.MachineGives.{gives}
 use Rattle.cr_syntax.proofs.MachineKept.{Kept, runs_kept}
@@ -211,10 +211,10 @@ module _ (ts : List Lexeme) (s : Start) (z : IsStart s.part) (le : s.at ≤ leng
   inside_read h i n ge lt o = elim (keyword_or_form o) [ inl (w, q, u) ↦ both_ways (is_unused w) (begun_is_used s (read_begins h) ge lt q) u | inr f ↦ outside_is_refused s z h f o ]
 
   fine_read : {t : Trees} {e : Scopes} {j : ℕ} → Answers (Done t e j) → IsFineFrom ts s j
-  fine_read h = record { begins = read_begins h; inside = inside_read h }
+  fine_read h = record { from = reach h; begins = read_begins h; inside = inside_read h }
 
   fine : {w : Way} {k : ℕ} → EndsBy w k → k ≤ length ts → IsFineFrom ts s k
-  fine {w = w} {k = k} y le' = record { begins = begins; inside = inside }
+  fine {w = w} {k = k} y le' = record { from = reach (refused_so y); begins = begins; inside = inside }
     where
       begins : BeginsFrom (Upto k most_levels) ts s k
       begins = begins_before ts most_levels k le' s (cause_by ts k w) z (refused_so y)

@@ -68,8 +68,10 @@ pub data IsTooDeepFrom (ts : List Lexeme) (s : Start) (k : ℕ) : Type 0 where
   unexpected : {w : Word} → Is ts k w → IsBracket w → (BeginsFrom Free ts s (k + 1) → ⊥) → ((row : ℕ) → OutsideFrom ts s k row → ⊥) →
       (BeginsFrom (Leaving k most_levels) ts s k → ⊥) → IsTooDeepFrom ts s k
 
--- The tokens before k are no cause to refuse: they begin a text within the limit, and no row names one of them.
+-- The tokens from the start to before k are no cause to refuse: they begin a text within the limit, and no row names one
+-- of them.
 pub record IsFineFrom (ts : List Lexeme) (s : Start) (k : ℕ) : Type 0 where
+  pub from : s.at ≤ k
   pub begins : BeginsFrom (Upto k most_levels) ts s k
   pub inside : (i row : ℕ) → s.at ≤ i → i < k → OutsideFrom ts s i row → ⊥
 

@@ -9,7 +9,7 @@ use Rattle.cr_syntax.specs.Trees.{Trees}
 use Rattle.cr_syntax.specs.Words.{Lexeme}
 use Rattle.cr_syntax.specs.Scopes.{Scopes}
 use Rattle.cr_syntax.specs.Spells.{Limit, Free, AtMost, Upto, Is, Spells, a}
-use Rattle.cr_syntax.specs.Units.{IsUnit, most_levels, file_scope, IsTreeOf, FirstRefusal}
+use Rattle.cr_syntax.specs.Units.{IsUnit, most_levels, file_scope, IsTreeOf, Refusal, FirstRefusal}
 use Rattle.cr_syntax.specs.Machine.{Prog, Reply, Cause, Done, Failed, Runs, whole, unit, nowhere, too_deep, refusal_of}
 use Rattle.cr_syntax.specs.Expressions.{Start, Spelled, BeginsFrom, RunEnds, Outcome, Read, Refused, IsReading}
 use Rattle.cr_syntax.specs.MachineBody.{body, start_goal}
@@ -147,3 +147,15 @@ IsParsed ts (Failed x k) = FirstRefusal ts (refusal_of x k)
 -- what the machine of the subset answers of a unit
 abbrev pub MachineReadsUnits : Type 0
 MachineReadsUnits = (ts : List Lexeme) (r : Reply) → Runs body ts (AtMost most_levels) (body (unit nowhere 0)) file_scope 0 r → IsParsed ts r
+
+-- a start has one reading at most
+abbrev pub OneReading : Type 0
+OneReading = (ts : List Lexeme) (s : Start) (o o' : Outcome) → IsStart s.part → IsReading ts s o → IsReading ts s o' → o ≡ o'
+
+-- a token list has one first refusal at most
+abbrev pub OneFirstRefusal : Type 0
+OneFirstRefusal = (ts : List Lexeme) (r r' : Refusal) → FirstRefusal ts r → FirstRefusal ts r' → r ≡ r'
+
+-- and none where it has a tree
+abbrev pub TreeIsNotRefused : Type 0
+TreeIsNotRefused = (ts : List Lexeme) (t : Trees) (r : Refusal) → IsTreeOf ts t → FirstRefusal ts r → ⊥

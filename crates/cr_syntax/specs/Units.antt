@@ -184,10 +184,10 @@ pub data Outside (ts : List Lexeme) : ℕ → ℕ → Type 0 where
   -- 5: the colon of a bit-field, after a member's declarator
   bit_field : {k : ℕ} → Is ts k word.Colon → Shows ts k (member_before k) → Outside ts k 5
   -- 6: a label of a switch that stands deeper than the switch's own block, or as a switch's body
-  deep_label : {k : ℕ} {t : Trees} → Completes (Upto k most_levels) ts (k + 1) t → misplaced_at k elsewhere t ≡ true → Outside ts k 6
+  deep_label : {k : ℕ} {t : Trees} → k < length ts → Completes (Upto k most_levels) ts (k + 1) t → misplaced_at k elsewhere t ≡ true → Outside ts k 6
   label_as_body : {k : ℕ} (s : ℕ) → Is ts k word.Case ⊎ Is ts k word.Default → Shows ts k (switch_body_at s k) → Outside ts k 6
   -- 7: another statement than a block as a switch's body: it could be that of a `while` in the switch's place
-  switch_body : {k : ℕ} (s : ℕ) → Shows ts k (switch_body_at s k) → (Is ts k word.LeftBrace → ⊥) → (Is ts k word.Case → ⊥) → (Is ts k word.Default → ⊥) →
+  switch_body : {k : ℕ} (s : ℕ) → k < length ts → Shows ts k (switch_body_at s k) → (Is ts k word.LeftBrace → ⊥) → (Is ts k word.Case → ⊥) → (Is ts k word.Default → ⊥) →
       Begins (Upto k most_levels) (with_word ts s word.While) (k + 1) → Outside ts k 7
   -- 8: the `...` of a function definition's own parameters, where its body begins at token m, and the tokens before that one
   -- are within the limit: it is the body's brace that shows what the declarator belongs to

@@ -1,4 +1,4 @@
-ghost use Rattle.cr_syntax.specs.MachineLaws.{OneAnswer, LooksNoFurther, ReadIsSpelled, SpelledIsRead, OneTree, OneUnit, ReadIsLongest, RefusedEndsRun, RefusedWithin, BeginsBefore, EndedIsNone, AnswersAreReadings};
+ghost use Rattle.cr_syntax.specs.MachineLaws.{OneAnswer, LooksNoFurther, ReadIsSpelled, SpelledIsRead, OneTree, OneUnit, ReadIsLongest, RefusedEndsRun, RefusedWithin, BeginsBefore, EndedIsNone, AnswersAreReadings, OneReading, OneFirstRefusal, TreeIsNotRefused};
 
 /// A law: the parser's machine reads the grammar's expressions, and nothing else.
 ///
@@ -28,4 +28,15 @@ pub fn one_tree()
 /// A law: the tokens of a unit have one tree, whatever the limit.
 pub fn one_unit()
     ensures { OneUnit }
+{}
+
+/// A law: a start has at most one reading.
+pub fn one_reading()
+    ensures { OneReading }
+{}
+
+/// A law: a token list has at most one first refusal, and none where it has a tree.
+pub fn one_first_refusal()
+    ensures only { OneFirstRefusal }
+    ensures tree { TreeIsNotRefused }
 {}
