@@ -62,3 +62,4 @@ pub mod MachineBeside
 pub mod MachineRefusals
 pub mod MachineUnitStuck
 pub mod MachineUnit
+pub mod MachineOneRefusal

@@ -113,7 +113,7 @@ module _ (complete : ReadsUnits) (bodies : RefusesBodies) where
 abbrev OnPoint : (Way → ℕ → Type 0) → Point → Type 0
 OnPoint g (at w n) = g w n
 
-at_end : {ts : List Lexeme} {f : Way → ℕ → Type 0} {w : Way} {j : ℕ} (x : Caught ts f) → UnitEnds ts nowhere w j → (g : Way → ℕ → Type 0) → g x.way x.at → g w j
+pub at_end : {ts : List Lexeme} {f : Way → ℕ → Type 0} {w : Way} {j : ℕ} (x : Caught ts f) → UnitEnds ts nowhere w j → (g : Way → ℕ → Type 0) → g x.way x.at → g w j
 at_end x z g y = subst (λ p. OnPoint g p) (same_way x.ends z) y
 
 behind_bar : {n k j : ℕ} {w : Way} → IsBarring n k (at w j) → j ≡ k

@@ -32,17 +32,17 @@ use Rattle.cr_syntax.proofs.MachineUnitStuck.{no_room_in_unit, no_room_instead_i
 -- Texts that begin as a list does.
 
 -- fewer tokens begin a unit too
-begins_less : {limit : Limit} {ts : List Lexeme} {n k : ℕ} → n ≤ k → Begins limit ts k → Begins limit ts n
+pub begins_less : {limit : Limit} {ts : List Lexeme} {n k : ℕ} → n ≤ k → Begins limit ts k → Begins limit ts n
 begins_less le b = record { trees = b.trees; completes = record { text = b.completes.text; alike = λ i x lt q. b.completes.alike i x (omega arith) q; is_unit = b.completes.is_unit } }
 
 -- within no limit, or one up to fewer tokens
-begins_by : {limit top : Limit} {ts : List Lexeme} {k : ℕ} → ((g : Manner) (i d : ℕ) → Allows limit g i d → Allows top g i d) → Begins limit ts k → Begins top ts k
+pub begins_by : {limit top : Limit} {ts : List Lexeme} {k : ℕ} → ((g : Manner) (i d : ℕ) → Allows limit g i d → Allows top g i d) → Begins limit ts k → Begins top ts k
 begins_by f b = record { trees = b.trees; completes = record { text = b.completes.text; alike = b.completes.alike; is_unit = relimit_unit (λ g x c i d _ _ a. f g i d a) b.completes.is_unit } }
 
-begins_free : {limit : Limit} {ts : List Lexeme} {k : ℕ} → Begins limit ts k → Begins Free ts k
+pub begins_free : {limit : Limit} {ts : List Lexeme} {k : ℕ} → Begins limit ts k → Begins Free ts k
 begins_free b = begins_by (λ g i d a. allows_free g i d) b
 
-upto_less : {n k : ℕ} (most : ℕ) → n ≤ k → (g : Manner) (i d : ℕ) → Allows (Upto k most) g i d → Allows (Upto n most) g i d
+pub upto_less : {n k : ℕ} (most : ℕ) → n ≤ k → (g : Manner) (i d : ℕ) → Allows (Upto k most) g i d → Allows (Upto n most) g i d
 upto_less most le plain i d a = tt
 upto_less most le opens i d a = λ lt. a (omega arith)
 upto_less most le reopens i d a = (tt, λ lt. a.1 (omega arith))
@@ -57,7 +57,7 @@ begun_word {ts = ts} k q b = word_same ts b.completes.text k (begun_alike (withi
 -- Words.
 
 -- a token that a row of the refused forms names is an unused keyword, or the row is another one
-keyword_or_form : {ts : List Lexeme} {k n : ℕ} → Outside ts k n → ((w : Word) × Is ts k w × (is_unused w ≡ true)) ⊎ (n ≡ 1 → ⊥)
+pub keyword_or_form : {ts : List Lexeme} {k n : ℕ} → Outside ts k n → ((w : Word) × Is ts k w × (is_unused w ≡ true)) ⊎ (n ≡ 1 → ⊥)
 keyword_or_form (units.unused_keyword {w = w} q u) = inl (w, q, u)
 keyword_or_form (units.designator q b) = inr (λ e. omega arith)
 keyword_or_form (units.compound_literal q b) = inr (λ e. omega arith)
@@ -73,7 +73,7 @@ no_bracket : {o : Option Word} {v w : Word} → o ≡ Some v → is_bracket v �
 no_bracket {v = v} q f y b = both_ways (is_bracket v) f (subst (λ w. is_bracket w ≡ true) (some_one (sym y ∙ q)) (is_of_bracket b))
 
 -- the tokens up to the `...` of a definition begin a unit
-begins_definition : {ts : List Lexeme} {m : ℕ} → Outside ts m 8 → Begins (Upto (m + 1) most_levels) ts (m + 1)
+pub begins_definition : {ts : List Lexeme} {m : ℕ} → Outside ts m 8 → Begins (Upto (m + 1) most_levels) ts (m + 1)
 begins_definition (units.variadic_function {t = t} m' lt q c b) = begins_by (upto_less most_levels (omega arith)) (begins_less (omega arith) (record { trees = t; completes = c }))
 
 -- A bracket that a row refuses has another one in its place, where no text goes on with it.
@@ -94,7 +94,7 @@ is_seventh : (n : ℕ) → (n ≡ 7) ⊎ (n ≡ 7 → ⊥)
 is_seventh n = ⊎_elim (λ q. inl (eqb-true n 7 q)) (λ q. inr (λ e. both_ways (n == 7) q (eq-eqb n 7 e))) (cases_Bool (n == 7))
 
 -- a unit is read by the machine of the bare grammar
-reads_units : ReadsUnits
+pub reads_units : ReadsUnits
 reads_units us limit t e s = unit_reads anywhere s refl refl
 
 module _ (ts : List Lexeme) where
@@ -121,7 +121,7 @@ module _ (ts : List Lexeme) where
 
   -- No text goes on with a token that is refused.
 
-  run_ends : {w : Way} {k : ℕ} → Loosely w k → is_crowded w ≡ false → k < length ts → Begins Free ts (k + 1) → ⊥
+  pub run_ends : {w : Way} {k : ℕ} → Loosely w k → is_crowded w ≡ false → k < length ts → Begins Free ts (k + 1) → ⊥
   run_ends y n lt b = let q = same (local (refused_so (unlimited_end y n)) (begun_alike lt b)) (unit_is_read anywhere b.completes.is_unit refl refl) in cc
 
   within_ends : {k : ℕ} → Loosely crowded k → k < length ts → BeginsWithin ts (k + 1) → ⊥
@@ -208,7 +208,7 @@ module _ (ts : List Lexeme) where
     bar_fine : {x : Test} {n m k : ℕ} → EndsBy (barring x n m) k → IsFineBefore ts k
     bar_fine {x = x} {n = n} {m = m} {k = k} y = let lt = barred_inside y in fine y (λ m q. cc) (unit_barred_begins ts most_levels k (omega arith) nowhere x n m y)
 
-    bar_outside : {x : Test} {n m k : ℕ} → EndsBy (barring x n m) k → Outside ts k n
+    pub bar_outside : {x : Test} {n m k : ℕ} → EndsBy (barring x n m) k → Outside ts k n
     bar_outside {x = x} {n = n} {m = m} {k = k} y = elim (is_seventh n) [
       | inl e ↦ subst (λ n. Outside ts k n) (sym e) (other_body x m k (subst (λ n. EndsBy (barring x n m) k) e y))
       | inr f ↦ (let lt = barred_inside y in unit_outside ts k (omega arith) nowhere x n m y f)
