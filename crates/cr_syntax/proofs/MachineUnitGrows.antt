@@ -28,13 +28,13 @@ use Rattle.cr_syntax.specs.MachineBody.{body, inside, may_label, may_define, is_
 use Rattle.cr_syntax.specs.MachineBody as program
 use Rattle.cr_syntax.proofs.MachineSpells.{and_none, and_and, pushed, is_one, forth, name_brought, Names, by_declarator, by_direct}
 use Rattle.cr_syntax.proofs.MachineSpells as facts
-use Rattle.cr_syntax.proofs.MachineKept.{Kept, around_less}
-use Rattle.cr_syntax.proofs.MachineMeans.{Means, Reads, Behind, Begun, IsDeclared, with_name, without, IsClause, no_clause, one_clause, IsOpen, open_of, after_init}
+use Rattle.cr_syntax.proofs.MachineKept.{around_less}
+use Rattle.cr_syntax.proofs.MachineMeans.{Reads, Begun, IsDeclared, with_name, without, IsClause, no_clause, one_clause, IsOpen, open_of, after_init}
 use Rattle.cr_syntax.proofs.MachineUnitSound.{nearest_one, nearest_two, ended, entered, bare_declaration, clause_of}
 use Rattle.cr_syntax.proofs.MachineBegins.{owned}
 use Rattle.cr_syntax.proofs.MachineExtend.{Front, Stand, weaken}
 use Rattle.cr_syntax.proofs.MachineScopes.{scopes_kept}
-use Rattle.cr_syntax.proofs.MachineEnds.{Way, barring, defining}
+use Rattle.cr_syntax.proofs.MachineEnds.{Way}
 use Rattle.cr_syntax.proofs.MachineShown.{next_so, next_designator, next_label, next_block, next_body, next_definition, Shown, ShownIn, shown_label, shown_block, shown_body, shown_definition, shown_in_so, seen, every, started, started_here, started_so, started_left, started_right, in_list, in_declarator, Room, Barred, Labelled, Defined, moved, left_in, right_in, within, wherever, left, right, first, second, operand_begins, same_number, true_or}
 use Rattle.cr_syntax.proofs.MachineShown as show
 use Rattle.cr_syntax.proofs.MachineGrows.{Grown, GrownIn, GrownBy, Via, Stated, Lists, BegunOn, BehindOn, IsDeclarationBegin, OneDeclared, U, placed, blocked, grown, grown1, grown3, puts, put1, more0, mores, number_conditional, number_assignment, number_expression, some_expression, one_declarator}
@@ -818,21 +818,24 @@ module _ (us : List Lexeme) (top : Limit) (way : Way) (late : (g : Manner) (i d 
                 (empty_block all ([] ∷ e) (d + 1) (j + 1) q1.0 q1.1.0 (z.fits opens (d + 1) (omega arith)) (late plain (j + 1 + 1) (d + 1 + 1) (omega arith)) _) h,
             shown_in_so z.so (shown_block s (has_here (body_begins (is_one (x fresh)).2 z.here s (j + 1 + 1 + 1) (j + 1 + 1 + 1) kind.Compound none none))),
           )),
-          (λ z b h. grown us top way late z.here word.LeftBrace (word.RightBrace ∷ []) (λ all f r. next_so z.so (next_body r)) (λ all f q1 le. (
-            _,
-            _,
-            switch_of (b all f) (f.words _ _ q) w (λ h. weaken f (x h)) (f.words _ _ q') w'.0 w'.1 (omega arith)
-                (empty_block all ([] ∷ e) (d + 1) (j + 1) q1.0 q1.1.0 (z.fits opens (d + 1) (omega arith)) (late plain (j + 1 + 1) (d + 1 + 1) (omega arith)) _) h,
-            shown_in_so z.so (shown_body s (has_here (body_begins (is_one (x fresh)).2 z.here s (j + 1 + 1 + 1) (j + 1 + 1 + 1) kind.Compound none none))),
-          )), (
-            λ v b h. more0 us top way late (v _) (λ all f u g n le y shown. (
+          (
+            λ z b h. grown us top way late z.here word.LeftBrace (word.RightBrace ∷ []) (λ all f r. next_so z.so (next_body r)) (λ all f q1 le. (
               _,
               _,
-              switch_of (b all f) (f.words _ _ q) w (λ h. weaken f (x h)) (f.words _ _ q') w'.0 w'.1 (omega arith) y h,
-              within (λ p r. switch_stands l) (right_in t (left_in shown none)),
+              switch_of (b all f) (f.words _ _ q) w (λ h. weaken f (x h)) (f.words _ _ q') w'.0 w'.1 (omega arith)
+                  (empty_block all ([] ∷ e) (d + 1) (j + 1) q1.0 q1.1.0 (z.fits opens (d + 1) (omega arith)) (late plain (j + 1 + 1) (d + 1 + 1) (omega arith)) _) h,
+              shown_in_so z.so (shown_body s (has_here (body_begins (is_one (x fresh)).2 z.here s (j + 1 + 1 + 1) (j + 1 + 1 + 1) kind.Compound none none))),
             )),
-            λ u g n _ _ _. tt,
-          )),
+            (
+              λ v b h. more0 us top way late (v _) (λ all f u g n le y shown. (
+                _,
+                _,
+                switch_of (b all f) (f.words _ _ q) w (λ h. weaken f (x h)) (f.words _ _ q') w'.0 w'.1 (omega arith) y h,
+                within (λ p r. switch_stands l) (right_in t (left_in shown none)),
+              )),
+              λ u g n _ _ _. tt,
+            ),
+          ),
         ),
         λ z b h. puts us top way late z word.RightParen (word.LeftBrace ∷ word.RightBrace ∷ []) (λ all f q1 le. (
           _,

@@ -14,15 +14,14 @@ use Rattle.cr_syntax.specs.Spells.{Limit, AtMost, Upto, Leaving, Is, Spells, res
 use Rattle.cr_syntax.specs.Reads.{same_word}
 use Rattle.cr_syntax.specs.Units.{unit_side, file_scope, IsUnit, Completes, Begins, most_levels, with_word, StandsIn, elsewhere, Has, misplaced_at, switch_body_at, variadic_definition, Outside, Shows}
 use Rattle.cr_syntax.specs.Units as units
-use Rattle.cr_syntax.specs.Machine.{Labels, Test, Manner, has, Allows, passes, has_word, unit}
-use Rattle.cr_syntax.specs.MachineBody.{body, is_designator, is_label, is_statement_start, label_start, statement_start}
+use Rattle.cr_syntax.specs.Machine.{Labels, Test, Manner, has, Allows, passes, unit}
+use Rattle.cr_syntax.specs.MachineBody.{body, is_designator, is_statement_start, label_start, statement_start}
 use Rattle.cr_syntax.proofs.Tests.{is_of}
 use Rattle.cr_syntax.proofs.MachineComplete.{allows_upto}
 use Rattle.cr_syntax.proofs.MachineEnds.{Way, stopped, barring, crowded, defining, Ends}
-use Rattle.cr_syntax.proofs.MachineExtend.{Front}
 use Rattle.cr_syntax.proofs.MachineShown.{Next, next_definition, ShownIn, seen, shown_literal, shown_call, shown_field, shown_designator, shown_label, shown_block, shown_body, shown_definition, every, by_stop, by_level}
 use Rattle.cr_syntax.proofs.MachineGrows.{GrownIn}
-use Rattle.cr_syntax.proofs.MachineViable.{prefix, prefix_length, prefix_get, upto_behind, upto_fits, leaving_fits, leaving_before, tested, stands_next, some_word_of, is_labels, no_labels, bars_other, bars_label, at_label, grows, further, further_last, further_length, further_late, further_grows, alike, alike_with, upto_late, leaving_late, behind_late, barred_inside, crowded_inside}
+use Rattle.cr_syntax.proofs.MachineViable.{prefix, prefix_length, upto_behind, upto_fits, leaving_fits, leaving_before, tested, stands_next, some_word_of, is_labels, no_labels, bars_other, bars_label, at_label, grows, further, further_last, further_length, further_grows, alike, alike_with, upto_late, leaving_late, behind_late, barred_inside}
 
 unit_of : {us : List Lexeme} {top : Limit} {way : Way} → (g : GrownIn us top way every (rest unit_side) fresh file_scope 0 0) → IsUnit top g.all g.built.0
 unit_of {top = top} g = record { after = g.built.1; spells = subst (λ j. Spells g.all top (rest unit_side) fresh file_scope g.built.1 0 g.built.0 0 j) g.size g.built.2 }
@@ -117,9 +116,11 @@ module _ (ts : List Lexeme) (most k : ℕ) (le : k ≤ length ts) (l : Labels) w
   label_completes : (f : Word → Bool) (n m : ℕ) → is_labels (has f) n ≡ true → EndsBy (barring (has f) n m) → k < length ts → (t : Trees) × ShownIn every (k + 1) t (barring (has f) n m) × Completes (Upto k most) ts (k + 1) t
   label_completes f n m o h lt =
       let g = label_grown f n m o h lt in
-      let e = prefix_length (k + 1) ts (omega arith) in
-      (g.built.0, subst (λ j. ShownIn every j g.built.0 (barring (has f) n m)) (sym e) g.built.3,
-      completes ts most (k + 1) (omega arith) (Upto k most) (barring (has f) n m) (λ g i d far. behind_late ts most k le k (omega arith) g i d far lt) g)
+      let e = prefix_length (k + 1) ts (omega arith) in (
+        g.built.0,
+        subst (λ j. ShownIn every j g.built.0 (barring (has f) n m)) (sym e) g.built.3,
+        completes ts most (k + 1) (omega arith) (Upto k most) (barring (has f) n m) (λ g i d far. behind_late ts most k le k (omega arith) g i d far lt) g,
+      )
 
   -- where a row of the refused forms refuses a token: a unit goes on, and with the word that stands in
   pub unit_barred_begins : (x : Test) (n m : ℕ) → EndsBy (barring x n m) → Begins (Upto k most) ts k
@@ -254,12 +255,15 @@ module _ (ts : List Lexeme) (k : ℕ) (le : k ≤ length ts) (l : Labels) where
     where
       body_of : {x : Test} {m : ℕ} {t : Trees} → (e : Scopes) × (passes ts e k x ≡ true) → ShownIn every k t (barring x 7 m) → Completes (Upto k most_levels) ts k t → (s : ℕ) × IsBody s
       body_of q (seen y) c = elim y [ ]
-      body_of {t = t} q (shown_body s y) c = (s, record {
-        shows = record { trees = t; completes = c; has = y };
-        no_brace = no_start ts k q.0 word.LeftBrace refl refl q.1;
-        no_case = no_start ts k q.0 word.Case refl refl q.1;
-        no_default = no_start ts k q.0 word.Default refl refl q.1;
-      })
+      body_of {t = t} q (shown_body s y) c = (
+        s,
+        record {
+          shows = record { trees = t; completes = c; has = y };
+          no_brace = no_start ts k q.0 word.LeftBrace refl refl q.1;
+          no_case = no_start ts k q.0 word.Case refl refl q.1;
+          no_default = no_start ts k q.0 word.Default refl refl q.1;
+        },
+      )
 
       none_labels : (x : Test) → is_labels x 7 ≡ false
       none_labels (has f) = refl

@@ -28,7 +28,7 @@ use Rattle.cr_syntax.proofs.MachineComplete.{allows_upto}
 use Rattle.cr_syntax.proofs.MachineEnds.{Way, stopped, barring, crowded, defining, Ends, end_stop, end_refuse, end_take, end_crowded, end_pass, end_bar, end_free, end_seen, end_unseen, end_yes, end_no, end_here, end_look, end_set, end_bring, end_behind, end_inside, ends_so}
 use Rattle.cr_syntax.proofs.MachineExtend.{Front}
 use Rattle.cr_syntax.proofs.MachineRuns.{passes_same}
-use Rattle.cr_syntax.proofs.MachineShown.{Next, next_designator, next_literal, next_call, next_field, next_body, Shown, shown_literal, shown_call, shown_field, by_stop, by_level, Barred, Labelled}
+use Rattle.cr_syntax.proofs.MachineShown.{Next, next_designator, next_literal, next_call, next_body, Shown, shown_literal, shown_call, shown_field, by_stop, by_level, Barred, Labelled}
 use Rattle.cr_syntax.proofs.MachineFails.{AtRefusal, viable}
 use Rattle.cr_syntax.proofs.MachineGrows.{Grown, Via, Stops, Bars, BarsBy, Refuses, Crowds, start_via}
 use Rattle.cr_syntax.proofs.MachineUnitGrows.{owes}
