@@ -41,4 +41,5 @@ pub mod MachineTraces
 pub mod MachineLabels
 pub mod MachineDefinitions
 pub mod MachineBeside
+pub mod MachineBodies
 pub mod MachineRefusals
