@@ -41,5 +41,6 @@ pub mod MachineTraces
 pub mod MachineLabels
 pub mod MachineDefinitions
 pub mod MachineBeside
+pub mod MachineApart
 pub mod MachineBodies
 pub mod MachineRefusals
