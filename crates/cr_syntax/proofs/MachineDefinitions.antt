@@ -1,7 +1,7 @@
 -- A definition in the bare grammar's trees whose own parameters end in `...`: the subset's machine doesn't get past the brace of its body.
 use Rattle.std.proofs.Common.{◌≡◌, ℕ, ◌+◌, ◌<◌, ◌≤◌, Bool, true, false, not, ◌&&◌, ◌==◌, List, ◌∷◌, ◌⊎◌, inl, inr, ⊎_elim, refl, sym, ap, subst, ◌∙◌, arith}
 use Rattle.std.specs.Prelude.{if◌then◌else◌}
-use Rattle.std.proofs.lemmas.Bool.{eqb-true, both_ways, cases_Bool}
+use Rattle.std.proofs.lemmas.Bool.{eqb-true, cases_Bool}
 use Rattle.cr_syntax.specs.declared.node.Kind.{Kind}
 use Rattle.cr_syntax.specs.declared.node.Kind.TheVariants as kind
 use Rattle.cr_syntax.specs.declared.symbol.Part.{Part}
@@ -16,7 +16,7 @@ use Rattle.cr_syntax.specs.Grammar.{Side}
 use Rattle.cr_syntax.specs.Grammar as grammar
 use Rattle.cr_syntax.specs.Spells.{Limit, AreConst, const_none, const_more, Spells, a, rest}
 use Rattle.cr_syntax.specs.Spells as spells
-use Rattle.cr_syntax.specs.Units.{Has, has_here, has_inside, has_after, one_begins_at, after_first, own_parameters, ellipsis_at, variadic_definition}
+use Rattle.cr_syntax.specs.Units.{Has, one_begins_at, after_first, own_parameters, ellipsis_at, variadic_definition}
 use Rattle.cr_syntax.specs.Machine.{Goal, Prog, anywhere, nowhere, named, Done, Runs, passes, the, has, call}
 use Rattle.cr_syntax.specs.Machine.{row, declarator, unit, externals, external, init_declarators, initialized, compound}
 use Rattle.cr_syntax.specs.Machine as machine
@@ -29,7 +29,7 @@ use Rattle.cr_syntax.proofs.MachineFirst.{none_true}
 use Rattle.cr_syntax.proofs.MachineEnds.{Way, defining, Ends, end_refuse, end_pass, end_seen, end_no, end_here, end_behind, end_inside}
 use Rattle.cr_syntax.proofs.MachineMeans.{IsDeclared, with_name, without}
 use Rattle.cr_syntax.proofs.MachineSound.{runs_sound}
-use Rattle.cr_syntax.proofs.MachineForms.{some_definition, mark, has_all, Clean, IsOne, Begun, direct_later, or_none, unmarked_by, declarator_is_one, declaration_parts}
+use Rattle.cr_syntax.proofs.MachineForms.{some_definition, mark, has_all, lacks_none, lacks_and, lacks_one, Clean, IsOne, Begun, direct_later, or_none, unmarked_by, declarator_is_one, declaration_parts}
 use Rattle.cr_syntax.proofs.MachineLoose.{loose, looser, IsOwn, own_definition, tightened}
 use Rattle.cr_syntax.proofs.MachineTraces.{Traces, traces_idle, traced}
 
@@ -120,20 +120,6 @@ module _ (us : List Lexeme) (limit : Limit) (k m : ℕ) where
 
   lacks_all : (t : Trees) → Clean some_definition 0 t → Lacks t
   lacks_all t x h = x (has_all definition_kind h)
-
-  lacks_and : (t u : Trees) → Lacks t → Lacks u → Lacks (t & u)
-  lacks_and none u x y h = y h
-  lacks_and (node l i j b n) u x y (has_here q) = x (has_here q)
-  lacks_and (node l i j b n) u x y (has_inside h) = x (has_inside h)
-  lacks_and (node l i j b n) u x y (has_after h) = lacks_and n u (λ h'. x (has_after h')) y h
-
-  lacks_none : Lacks none
-  lacks_none h = elim h [ ]
-
-  lacks_one : {l : Kind} {i j : ℕ} {b : Trees} → variadic_definition k m l i j b ≡ false → Lacks b → Lacks (one l i j b)
-  lacks_one {l = l} {i = i} {j = j} {b = b} n x (has_here q) = both_ways (variadic_definition k m l i j b) n q
-  lacks_one n x (has_inside h) = x h
-  lacks_one n x (has_after h) = lacks_none h
 
   -- What a goal of the bare grammar reads, and the subset's goal in its place.
   abbrev pub Defines : Goal → Scopes → ℕ → Trees → Scopes → ℕ → Type 0

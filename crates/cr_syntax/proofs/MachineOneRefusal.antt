@@ -19,24 +19,17 @@ use Rattle.cr_syntax.proofs.MachineLoose.{IsOwn, own_label, own_definition}
 use Rattle.cr_syntax.proofs.MachineReading.{not_both}
 use Rattle.cr_syntax.proofs.MachineDefinitions.{Fits, before, at_brace}
 use Rattle.cr_syntax.proofs.MachineUnitForms.{IsBarred, designator_is_barred, literal_is_barred, call_is_barred, field_is_barred, body_label_is_barred}
-use Rattle.cr_syntax.proofs.MachineRefusals.{RefusesBodies, Caught, at_end, label_is_caught, definition_is_caught}
+use Rattle.cr_syntax.proofs.MachineApart.{set_other}
+use Rattle.cr_syntax.proofs.MachineRefusals.{body_is_behind, Caught, at_end, label_is_caught, definition_is_caught}
 use Rattle.cr_syntax.proofs.MachineUnitViable.{definition_completes, definition_outside}
 use Rattle.cr_syntax.proofs.MachineUnitStuck.{begun_unit_is_used}
 use Rattle.cr_syntax.proofs.MachineUnit.{begins_less, begins_by, begins_free, upto_less, begins_definition, keyword_or_form, reads_units, EndsBy, run_ends, bar_outside}
 
 -- a token behind another one that is replaced
-word_beyond : (ts : List Lexeme) (s i : ℕ) (x : Lexeme) → s < i → slice_get (set ts s x) i ≡ slice_get ts i
-word_beyond [] s i x lt = refl
-word_beyond (y ∷ ts) zero zero x lt = absurd (omega arith)
-word_beyond (y ∷ ts) zero (suc i) x lt = refl
-word_beyond (y ∷ ts) (suc s) zero x lt = absurd (omega arith)
-word_beyond (y ∷ ts) (suc s) (suc i) x lt = word_beyond ts s i x (omega arith)
-
 replaced_word : (ts : List Lexeme) (s i : ℕ) (v : Word) {w : Word} → s < i → Is ts i w → Is (with_word ts s v) i w
-replaced_word ts s i v lt q = ap (λ o. elim o as (λ _. Option Word) [ None ↦ None | Some t ↦ Some t.word ]) (word_beyond ts s i (record { word = v; spelling = [] }) lt) ∙ q
+replaced_word ts s i v lt q = ap (λ o. elim o as (λ _. Option Word) [ None ↦ None | Some t ↦ Some t.word ]) (set_other ts s i (record { word = v; spelling = [] }) (λ e. omega arith)) ∙ q
 
-module _ (ts : List Lexeme) (bodies : RefusesBodies) (other_body : (x : Test) (m k : ℕ) → EndsBy ts (barring x 7 m) k → Outside ts k 7)
-    (short : (s k : ℕ) → k < length ts → Shows ts k (switch_body_at s k) → s < k) where
+module _ (ts : List Lexeme) (other_body : (x : Test) (m k : ℕ) → EndsBy ts (barring x 7 m) k → Outside ts k 7) where
   -- Behind a token that is refused nothing is fine.
 
   deep_stops : {k j : ℕ} → k < j → IsFineBefore ts j → IsTooDeep ts k → ⊥
@@ -66,7 +59,7 @@ module _ (ts : List Lexeme) (bodies : RefusesBodies) (other_body : (x : Test) (m
   keyword_alone {w = w} q u (units.deep_label {t = t} c x) = absurd (both_ways (is_unused w) (begun_unit_is_used (record { trees = t; completes = c }) (omega arith) q) u)
   keyword_alone q u (units.label_as_body s (inl q') b) = absurd (not_both q u q' refl)
   keyword_alone q u (units.label_as_body s (inr q') b) = absurd (not_both q u q' refl)
-  keyword_alone {k = k} {w = w} q u (units.switch_body s b n0 n1 n2 c) = absurd (both_ways (is_unused w) (begun_unit_is_used c (omega arith) (replaced_word ts s k word.While (short s k (within ts k q) b) q)) u)
+  keyword_alone {k = k} {w = w} q u (units.switch_body s b n0 n1 n2 c) = absurd (both_ways (is_unused w) (begun_unit_is_used c (omega arith) (replaced_word ts s k word.While (body_is_behind reads_units s (within ts k q) b n0 n1 n2 c).0 q)) u)
   keyword_alone {w = w} q u (units.variadic_function {t = t} m lt q' c b) = absurd (both_ways (is_unused w) (begun_unit_is_used (record { trees = t; completes = c }) (omega arith) q) u)
 
   -- what another row says of a token
@@ -83,7 +76,7 @@ module _ (ts : List Lexeme) (bodies : RefusesBodies) (other_body : (x : Test) (m
   named lt f (units.bit_field q b) = by_bar (field_is_barred reads_units q b)
   named lt f (units.deep_label {t = t} c q) = by_label refl (begins_free (record { trees = t; completes = c })) (label_is_caught reads_units lt c q)
   named lt f (units.label_as_body s q b) = by_bar (body_label_is_barred reads_units s q b)
-  named {k = k} lt f (units.switch_body s b n0 n1 n2 c) = by_bar (bodies ts k s lt b n0 n1 n2 c)
+  named {k = k} lt f (units.switch_body s b n0 n1 n2 c) = by_bar (body_is_behind reads_units s lt b n0 n1 n2 c).1
   named lt f (units.variadic_function {t = t} m lt' q c b) =
       by_definition refl (begins_free (begins_definition (units.variadic_function {t = t} m lt' q c b))) lt' (definition_is_caught reads_units lt' q c b)
 
@@ -95,7 +88,7 @@ module _ (ts : List Lexeme) (bodies : RefusesBodies) (other_body : (x : Test) (m
 
   -- no label is the `...` of a definition
   own_stops : {i k : ℕ} {w : Way} → i < k → k ≤ length ts → IsFineBefore ts k → IsOwn ts i w → EndsBy ts w i → ⊥
-  own_stops {i = i} lt le f (own_label y) z = f.inside i 6 lt (bar_outside ts bodies other_body z)
+  own_stops {i = i} lt le f (own_label y) z = f.inside i 6 lt (bar_outside ts other_body z)
   own_stops {i = i} lt le f (own_definition {n = n}) z =
       let before = (definition_completes ts most_levels i (omega arith) nowhere n z).0 in
       f.inside n 8 (omega arith) (definition_outside ts i (omega arith) nowhere n z)

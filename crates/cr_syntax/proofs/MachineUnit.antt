@@ -20,7 +20,7 @@ use Rattle.cr_syntax.proofs.MachineEnds.{Way, stopped, barring, crowded, definin
 use Rattle.cr_syntax.proofs.MachineComplete.{get_some, allows_free, upto}
 use Rattle.cr_syntax.proofs.MachineUnits.{unit_reads, unit_is_read}
 use Rattle.cr_syntax.proofs.MachineUnitForms.{ReadsUnits}
-use Rattle.cr_syntax.proofs.MachineRefusals.{RefusesBodies, outside_before_end, outside_at_end, outside_of_unit}
+use Rattle.cr_syntax.proofs.MachineRefusals.{outside_before_end, outside_at_end, outside_of_unit}
 use Rattle.cr_syntax.proofs.MachineViable.{barred_inside, crowded_inside}
 use Rattle.cr_syntax.proofs.MachineUnitViable.{unit_begins, unit_leaves, unit_barred_begins, unit_stands, unit_stands_leaving, unit_crowded_begins, definition_completes, definition_outside, unit_outside}
 use Rattle.cr_syntax.proofs.MachineForms.{within}
@@ -151,16 +151,15 @@ module _ (ts : List Lexeme) where
 
   -- What is known of a switch's body that is no block.
   module _
-      (bodies : RefusesBodies)
       (other_body : (x : Test) (m k : ℕ) → EndsBy (barring x 7 m) k → Outside ts k 7) where
     row_before : {w : Way} {i n k : ℕ} → EndsBy w k → Outside ts i n → (n ≡ 1 → ⊥) → i < k → (w ≡ defining i) × (n ≡ 8)
-    row_before y o f lt = outside_before_end reads_units bodies f y lt o
+    row_before y o f lt = outside_before_end reads_units f y lt o
 
     row_there : {w : Way} {n k : ℕ} → k < length ts → EndsBy w k → Outside ts k n → (n ≡ 1 → ⊥) → ((m : ℕ) → w ≡ defining m → ⊥) → (x : Test) × (d : ℕ) × (w ≡ barring x n d)
-    row_there lt y o f g = let b = barring_at (outside_at_end reads_units bodies f lt y g o) in (b.1, b.2, b.3)
+    row_there lt y o f g = let b = barring_at (outside_at_end reads_units f lt y g o) in (b.1, b.2, b.3)
 
     row_read : {t : Trees} {e : Scopes} {i j n : ℕ} → Answers (Done t e j) → Outside ts i n → (n ≡ 1 → ⊥) → i < j → ⊥
-    row_read h o f lt = outside_of_unit reads_units bodies f h lt o
+    row_read h o f lt = outside_of_unit reads_units f h lt o
 
     -- the tokens before a refused one
     fine : {w : Way} {k : ℕ} → EndsBy w k → ((m : ℕ) → w ≡ defining m → ⊥) → BeginsWithin ts k → IsFineBefore ts k
