@@ -14,7 +14,7 @@ use Rattle.cr_syntax.specs.Context.{fresh, past_token, past_part}
 use Rattle.cr_syntax.specs.Spells.{Limit, Is}
 use Rattle.cr_syntax.specs.Reads.{is_word}
 use Rattle.cr_syntax.specs.Units.{Has, one_begins_at, after_first, switch_body_at}
-use Rattle.cr_syntax.specs.Machine.{Goal, Prog, Manner, Test, anywhere, named, Done, Runs, Allows, passes, the, has, or, ordinary, call, take, bar, peek, when, here, look, set, bring, plain, brought, run_call, run_take, run_pass, run_seen, run_unseen, run_yes, run_no, run_here}
+use Rattle.cr_syntax.specs.Machine.{Goal, Prog, Manner, Test, anywhere, named, Done, Runs, Allows, passes, the, has, or, ordinary, call, take, bar, peek, when, here, look, set, bring, plain, brought, run_call, run_take, run_pass, run_seen, run_unseen, run_yes, run_no, run_here, run_look, run_set}
 use Rattle.cr_syntax.specs.Machine.{expression, conditional, row, declarator, unit, externals, external, declaration, init_declarators, initialized, statement, block, if_rest, switch_rest, while_rest, do_rest, for_rest, return_rest, for_clauses, clause, compound, items, item}
 use Rattle.cr_syntax.specs.Machine as machine
 use Rattle.cr_syntax.specs.MachineBody as program
@@ -62,6 +62,10 @@ module _ {vs : List Lexeme} {limit : Limit} where
   goal_done : {g : Goal} {f : Trees → Prog} {c e : Scopes} {i j : ℕ} {t : Trees} → Runs body vs limit (call g f) c i (Done t e j) →
       (t' : Trees) × (e' : Scopes) × (j' : ℕ) × Runs body vs limit (body g) c i (Done t' e' j')
   goal_done (run_call {t = t} {e = e} {j = j} h k) = (t, e, j, h)
+
+  block_statement : {d : ℕ} {f : Trees → Prog} {c e : Scopes} {i j : ℕ} {t : Trees} → Runs body vs limit (call (block anywhere d) f) c i (Done t e j) →
+      (t' : Trees) × (e' : Scopes) × (j' : ℕ) × Runs body vs limit (body (statement anywhere d)) ([] ∷ c) i (Done t' e' j')
+  block_statement (run_call (run_look (run_set (run_call {t = t} {e = e} {j = j} h k))) k') = (t, e, j, h)
 
   statement_begins : {d i j : ℕ} (c : Scopes) {e : Scopes} {t : Trees} → Runs body vs limit (body (statement anywhere d)) ([] ∷ c) i (Done t e j) →
       (Is vs i word.LeftBrace → ⊥) → (Is vs i word.Case → ⊥) → (Is vs i word.Default → ⊥) → passes vs c i statement_start ≡ true
@@ -260,18 +264,25 @@ module _ (ts us vs : List Lexeme) (k s : ℕ) (limit top : Limit)
   not_here : (n : ℕ) (w : Word) → n ≡ k → (Is ts k w → ⊥) → is_word ts n w ≡ false
   not_here n w r f = false_by (is_word ts n w) (λ y. f (subst (λ l. Is ts l w) r (is_of ts n w y)))
 
+  -- the body of the `while`, behind its condition
+  condition_read : (d s0 : ℕ) {c e e0 : Scopes} {i j j0 : ℕ} {t t0 : Trees} → passes us ([] ∷ c) i (the word.LeftParen) ≡ true → Allows limit machine.opens i d → Reads (expression (d + 1)) ([] ∷ c) (i + 1) t e j →
+      passes us e j (the word.RightParen) ≡ true → Allows limit machine.reopens j d → j + 1 ≡ k → s < i → Runs body vs limit (body (while_rest anywhere d s0)) c i (Done t0 e0 j0) →
+      Runs body vs limit (call (block anywhere (d + 1)) (λ u. machine.drops (machine.made kind.While s0 (t & u & none)))) e (j + 1) (Done t0 e0 j0)
+  condition_read d s0 {c = c} {e = e} {i = i} {j = j} {t = t} y a h y' a' r lt g =
+      let n = reach h in
+      behind_take (past_test e j (the word.RightParen) (omega arith) (omega arith) y') a'
+      (behind_goal (condition (d + 1) ([] ∷ c) e (i + 1) j t h (is_of us j word.RightParen y') (omega arith) (omega arith) (omega arith))
+      (behind_take (past_test ([] ∷ c) i (the word.LeftParen) lt (omega arith) y) a (behind_set (behind_look g))))
+
+  -- so a statement begins there
+  begins_there : {d n j : ℕ} {f : Trees → Prog} (c : Scopes) {e : Scopes} {t : Trees} → n ≡ k → s < k → Runs body vs limit (call (block anywhere d) f) c n (Done t e j) → passes vs c n statement_start ≡ true
+  begins_there {n = n} c r lt g = statement_begins c (block_statement g).3 (λ q. no_brace (last_word n word.LeftBrace r lt q)) (λ q. no_case (last_word n word.Case r lt q)) (λ q. no_default (last_word n word.Default r lt q))
+
   turning : (d s0 : ℕ) (c : Scopes) (i : ℕ) {t : Trees} {e : Scopes} {j : ℕ} → passes us ([] ∷ c) i (the word.LeftParen) ≡ true → Allows limit machine.opens i d → Reads (expression (d + 1)) ([] ∷ c) (i + 1) t e j →
       passes us e j (the word.RightParen) ≡ true → Allows limit machine.reopens j d → j + 1 ≡ k → s < i → (t0 : Trees) (e0 : Scopes) (j0 : ℕ) →
       Runs body vs limit (body (while_rest anywhere d s0)) c i (Done t0 e0 j0) → Bars (body (switch_rest anywhere d s0)) c i
-  turning d s0 c i {t = t} {e = e} {j = j} y a h y' a' r lt t0 e0 j0 g =
+  turning d s0 c i {e = e} {j = j} y a h y' a' r lt t0 e0 j0 g =
       let n = reach h in
-      let g1 = behind_take (past_test ([] ∷ c) i (the word.LeftParen) lt (omega arith) y) a (behind_set (behind_look g)) in
-      let g2 = behind_goal (condition (d + 1) ([] ∷ c) e (i + 1) j t h (is_of us j word.RightParen y') (omega arith) (omega arith) (omega arith)) g1 in
-      let g3 = behind_take (past_test e j (the word.RightParen) (omega arith) (omega arith) y') a' g2 in
-      let v = goal_done g3 in
-      let u = goal_done (behind_set (behind_look v.3)) in
-      let x = statement_begins e u.3 (λ q. no_brace (last_word (j + 1) word.LeftBrace r (omega arith) q)) (λ q. no_case (last_word (j + 1) word.Case r (omega arith) q))
-      (λ q. no_default (last_word (j + 1) word.Default r (omega arith) q)) in
       record {
         test = statement_start;
         level = d + 1;
@@ -279,7 +290,8 @@ module _ (ts us vs : List Lexeme) (k s : ℕ) (limit top : Limit)
             (end_look (end_set (end_take (on_list ([] ∷ c) i (the word.LeftParen) (omega arith) y) (allowed machine.opens i d (omega arith) a)
             (end_behind (runs_on_list h (omega arith)) (end_take (on_list e j (the word.RightParen) (omega arith) y') (allowed machine.reopens j d (omega arith) a')
             (end_free (or_false (is_word ts (j + 1) word.Case) (is_word ts (j + 1) word.Default) (not_here (j + 1) word.Case r no_case) (not_here (j + 1) word.Default r no_default))
-            (end_bar (sym (passes_same ts vs (j + 1) (vs_alike (j + 1) (omega arith) (λ q. omega arith)) e statement_start) ∙ x))))))));
+            (end_bar (sym (passes_same ts vs (j + 1) (vs_alike (j + 1) (omega arith) (λ q. omega arith)) e statement_start)
+            ∙ begins_there e r (omega arith) (condition_read d s0 y a h y' a' r lt g)))))))));
       }
 
   turned : (d : ℕ) (c : Scopes) (i : ℕ) → is_word us i word.LeftBrace ≡ false → is_word us i word.If ≡ false → is_word us i word.Switch ≡ true → Allows limit plain i d →

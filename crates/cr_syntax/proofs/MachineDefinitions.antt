@@ -2,6 +2,7 @@
 use Rattle.std.proofs.Common.{◌≡◌, ℕ, ◌+◌, ◌<◌, ◌≤◌, Bool, true, false, not, ◌&&◌, ◌==◌, List, ◌∷◌, ◌⊎◌, inl, inr, ⊎_elim, refl, sym, ap, subst, ◌∙◌, arith}
 use Rattle.std.specs.Prelude.{if◌then◌else◌}
 use Rattle.std.proofs.lemmas.Bool.{eqb-true, cases_Bool}
+use Rattle.cr_syntax.specs.declared.word.Word.TheVariants as word
 use Rattle.cr_syntax.specs.declared.node.Kind.{Kind}
 use Rattle.cr_syntax.specs.declared.node.Kind.TheVariants as kind
 use Rattle.cr_syntax.specs.declared.symbol.Part.{Part}
@@ -165,29 +166,35 @@ module _ (us : List Lexeme) (limit : Limit) (k m : ℕ) where
       by (with_name z z' o s) = own_later us limit k by_declarator s q
       by (without z z' s) = none_true z'
 
+  definition_caught : {d i j j' j'' : ℕ} {t t' t'' : Trees} {c c'' e e' e'' : Scopes} → Reads (row part.Specifiers fresh d) c i t e j → passes us e j (the word.Semicolon) ≡ false →
+      Reads (declarator named (past_part fresh t) d) e j t' e' j' → passes us e' j' (the word.LeftBrace) ≡ true → Reads (compound anywhere d) c'' j' t'' e'' j'' →
+      ellipsis_at k (own_parameters (after_first (t & t' & t'' & none))) && one_begins_at m (after_first (after_first (t & t' & t'' & none))) ≡ true → Caught (body (external nowhere d)) c i
+  definition_caught {d = d} {i = i} {j = j} {t = t} {c = c} {e = e} h y h' y' h'' q =
+      let v = asked (is_one (runs_sound (row part.Specifiers fresh d) c e i j t h)).2 (declarator_is_one some_definition refl us limit h') (unmarked_by some_definition refl us limit (compound anywhere d) h'').1 q in
+      let n = reach h in
+      let n' = declared_later h' v.ellipsis in
+      record {
+        way = defining k;
+        at = m;
+        own = own_definition;
+        ends = end_here (end_behind h (end_pass y (end_here (end_behind h' (end_seen y' (refused_there v))))));
+        fits = at_brace;
+        starts = omega arith;
+      }
+
+  definition_lacks : {d i j j' j'' : ℕ} {t t' t'' : Trees} {c c'' e e' e'' : Scopes} → Reads (row part.Specifiers fresh d) c i t e j → Reads (declarator named (past_part fresh t) d) e j t' e' j' →
+      Reads (compound anywhere d) c'' j' t'' e'' j'' → variadic_definition k m kind.FunctionDefinition i j'' (t & t' & t'' & none) ≡ false → Lacks (one kind.FunctionDefinition i j'' (t & t' & t'' & none))
+  definition_lacks {d = d} {t = t} {t' = t'} {t'' = t''} h h' h'' q = lacks_one q
+      (lacks_and t (t' & t'' & none) (lacks_all t (unmarked_by some_definition refl us limit (row part.Specifiers fresh d) h))
+      (lacks_and t' (t'' & none) (lacks_all t' (unmarked_by some_definition refl us limit (declarator named (past_part fresh t) d) h'))
+      (lacks_and t'' none (lacks_all t'' ((unmarked_by some_definition refl us limit (compound anywhere d) h'').0 refl)) lacks_none)))
+
   external_owes : (d : ℕ) (c : Scopes) (i : ℕ) → Owes (body (external anywhere d)) (Defines (external anywhere d) c i) c i
   external_owes d c i = λ t e j h _. (
     λ y a. inl (lacks_one refl (lacks_and t none (lacks_all t (unmarked_by some_definition refl us limit (row part.Specifiers fresh d) h)) lacks_none)),
     λ y t' e' j' h' _. (
       λ y'. (
-        λ _ t'' e'' j'' h'' _.
-            let x = unmarked_by some_definition refl us limit (row part.Specifiers fresh d) h in
-            let x' = unmarked_by some_definition refl us limit (declarator named (past_part fresh t) d) h' in
-            let x'' = unmarked_by some_definition refl us limit (compound anywhere d) h'' in
-            ⊎_elim
-            (λ q. inr (let v = asked (is_one (runs_sound (row part.Specifiers fresh d) c e i j t h)).2 (declarator_is_one some_definition refl us limit h') x''.1 q in
-            let n = reach h in
-            let n' = declared_later h' v.ellipsis in
-            record {
-              way = defining k;
-              at = m;
-              own = own_definition;
-              ends = end_here (end_behind h (end_pass y (end_here (end_behind h' (end_seen y' (refused_there v))))));
-              fits = at_brace;
-              starts = omega arith;
-            }))
-            (λ q. inl (lacks_one q (lacks_and t (t' & t'' & none) (lacks_all t x) (lacks_and t' (t'' & none) (lacks_all t' x') (lacks_and t'' none (lacks_all t'' (x''.0 refl)) lacks_none)))))
-            (cases_Bool (variadic_definition k m kind.FunctionDefinition i j'' (t & t' & t'' & none))),
+        λ _ t'' e'' j'' h'' _. ⊎_elim (λ q. inr (definition_caught h y h' y' h'' q)) (λ q. inl (definition_lacks h h' h'' q)) (cases_Bool (variadic_definition k m kind.FunctionDefinition i j'' (t & t' & t'' & none))),
         λ _. tt,
       ),
       λ y' t1 e1 j1 h1 _. (

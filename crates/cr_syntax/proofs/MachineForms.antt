@@ -1,4 +1,4 @@
--- A row of the refused forms that names a token behind a tree: the machine refuses the token there by that row.
+-- A row of the refused forms that names a token behind a tree, or where one begins: the machine refuses the token there by that row.
 use Rattle.std.proofs.Common.{◌≡◌, ℕ, zero, suc, ◌+◌, ◌<◌, ◌≤◌, Bool, true, false, ◌&&◌, ◌||◌, ◌==◌, List, [], ◌∷◌, length, Option, None, Some, ◌⊎◌, inl, inr, ⊎_elim, refl, sym, ap, subst, ◌∙◌, arith}
 use Rattle.std.specs.Prelude.{slice_get}
 use Rattle.std.proofs.lemmas.Bool.{eqb-true, eq-eqb, both_ways, and_from, or_parts, or_from, cases_Bool, cases_lt}
