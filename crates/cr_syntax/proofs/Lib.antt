@@ -61,6 +61,8 @@ pub mod MachineTraces
 pub mod MachineLabels
 pub mod MachineDefinitions
 pub mod MachineBeside
+pub mod MachineApart
+pub mod MachineBodies
 pub mod MachineRefusals
 pub mod MachineUnitStuck
 pub mod MachineUnit

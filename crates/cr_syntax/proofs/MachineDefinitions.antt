@@ -1,7 +1,8 @@
 -- A definition in the bare grammar's trees whose own parameters end in `...`: the subset's machine doesn't get past the brace of its body.
 use Rattle.std.proofs.Common.{◌≡◌, ℕ, ◌+◌, ◌<◌, ◌≤◌, Bool, true, false, not, ◌&&◌, ◌==◌, List, ◌∷◌, ◌⊎◌, inl, inr, ⊎_elim, refl, sym, ap, subst, ◌∙◌, arith}
 use Rattle.std.specs.Prelude.{if◌then◌else◌}
-use Rattle.std.proofs.lemmas.Bool.{eqb-true, both_ways, cases_Bool}
+use Rattle.std.proofs.lemmas.Bool.{eqb-true, cases_Bool}
+use Rattle.cr_syntax.specs.declared.word.Word.TheVariants as word
 use Rattle.cr_syntax.specs.declared.node.Kind.{Kind}
 use Rattle.cr_syntax.specs.declared.node.Kind.TheVariants as kind
 use Rattle.cr_syntax.specs.declared.symbol.Part.{Part}
@@ -16,7 +17,7 @@ use Rattle.cr_syntax.specs.Grammar.{Side}
 use Rattle.cr_syntax.specs.Grammar as grammar
 use Rattle.cr_syntax.specs.Spells.{Limit, AreConst, const_none, const_more, Spells, a, rest}
 use Rattle.cr_syntax.specs.Spells as spells
-use Rattle.cr_syntax.specs.Units.{Has, has_here, has_inside, has_after, one_begins_at, after_first, own_parameters, ellipsis_at, variadic_definition}
+use Rattle.cr_syntax.specs.Units.{Has, one_begins_at, after_first, own_parameters, ellipsis_at, variadic_definition}
 use Rattle.cr_syntax.specs.Machine.{Goal, Prog, anywhere, nowhere, named, Done, Runs, passes, the, has, call}
 use Rattle.cr_syntax.specs.Machine.{row, declarator, unit, externals, external, init_declarators, initialized, compound}
 use Rattle.cr_syntax.specs.Machine as machine
@@ -29,7 +30,7 @@ use Rattle.cr_syntax.proofs.MachineFirst.{none_true}
 use Rattle.cr_syntax.proofs.MachineEnds.{Way, defining, Ends, end_refuse, end_pass, end_seen, end_no, end_here, end_behind, end_inside}
 use Rattle.cr_syntax.proofs.MachineMeans.{IsDeclared, with_name, without}
 use Rattle.cr_syntax.proofs.MachineSound.{runs_sound}
-use Rattle.cr_syntax.proofs.MachineForms.{some_definition, mark, has_all, Clean, IsOne, Begun, direct_later, or_none, unmarked_by, declarator_is_one, declaration_parts}
+use Rattle.cr_syntax.proofs.MachineForms.{some_definition, mark, has_all, lacks_none, lacks_and, lacks_one, Clean, IsOne, Begun, direct_later, or_none, unmarked_by, declarator_is_one, declaration_parts}
 use Rattle.cr_syntax.proofs.MachineLoose.{loose, looser, IsOwn, own_definition, tightened}
 use Rattle.cr_syntax.proofs.MachineTraces.{Traces, traces_idle, traced}
 
@@ -121,20 +122,6 @@ module _ (us : List Lexeme) (limit : Limit) (k m : ℕ) where
   lacks_all : (t : Trees) → Clean some_definition 0 t → Lacks t
   lacks_all t x h = x (has_all definition_kind h)
 
-  lacks_and : (t u : Trees) → Lacks t → Lacks u → Lacks (t & u)
-  lacks_and none u x y h = y h
-  lacks_and (node l i j b n) u x y (has_here q) = x (has_here q)
-  lacks_and (node l i j b n) u x y (has_inside h) = x (has_inside h)
-  lacks_and (node l i j b n) u x y (has_after h) = lacks_and n u (λ h'. x (has_after h')) y h
-
-  lacks_none : Lacks none
-  lacks_none h = elim h [ ]
-
-  lacks_one : {l : Kind} {i j : ℕ} {b : Trees} → variadic_definition k m l i j b ≡ false → Lacks b → Lacks (one l i j b)
-  lacks_one {l = l} {i = i} {j = j} {b = b} n x (has_here q) = both_ways (variadic_definition k m l i j b) n q
-  lacks_one n x (has_inside h) = x h
-  lacks_one n x (has_after h) = lacks_none h
-
   -- What a goal of the bare grammar reads, and the subset's goal in its place.
   abbrev pub Defines : Goal → Scopes → ℕ → Trees → Scopes → ℕ → Type 0
   Defines (unit anywhere d) c i t e j = Lacks t ⊎ Caught (body (unit nowhere d)) c i
@@ -179,29 +166,35 @@ module _ (us : List Lexeme) (limit : Limit) (k m : ℕ) where
       by (with_name z z' o s) = own_later us limit k by_declarator s q
       by (without z z' s) = none_true z'
 
+  definition_caught : {d i j j' j'' : ℕ} {t t' t'' : Trees} {c c'' e e' e'' : Scopes} → Reads (row part.Specifiers fresh d) c i t e j → passes us e j (the word.Semicolon) ≡ false →
+      Reads (declarator named (past_part fresh t) d) e j t' e' j' → passes us e' j' (the word.LeftBrace) ≡ true → Reads (compound anywhere d) c'' j' t'' e'' j'' →
+      ellipsis_at k (own_parameters (after_first (t & t' & t'' & none))) && one_begins_at m (after_first (after_first (t & t' & t'' & none))) ≡ true → Caught (body (external nowhere d)) c i
+  definition_caught {d = d} {i = i} {j = j} {t = t} {c = c} {e = e} h y h' y' h'' q =
+      let v = asked (is_one (runs_sound (row part.Specifiers fresh d) c e i j t h)).2 (declarator_is_one some_definition refl us limit h') (unmarked_by some_definition refl us limit (compound anywhere d) h'').1 q in
+      let n = reach h in
+      let n' = declared_later h' v.ellipsis in
+      record {
+        way = defining k;
+        at = m;
+        own = own_definition;
+        ends = end_here (end_behind h (end_pass y (end_here (end_behind h' (end_seen y' (refused_there v))))));
+        fits = at_brace;
+        starts = omega arith;
+      }
+
+  definition_lacks : {d i j j' j'' : ℕ} {t t' t'' : Trees} {c c'' e e' e'' : Scopes} → Reads (row part.Specifiers fresh d) c i t e j → Reads (declarator named (past_part fresh t) d) e j t' e' j' →
+      Reads (compound anywhere d) c'' j' t'' e'' j'' → variadic_definition k m kind.FunctionDefinition i j'' (t & t' & t'' & none) ≡ false → Lacks (one kind.FunctionDefinition i j'' (t & t' & t'' & none))
+  definition_lacks {d = d} {t = t} {t' = t'} {t'' = t''} h h' h'' q = lacks_one q
+      (lacks_and t (t' & t'' & none) (lacks_all t (unmarked_by some_definition refl us limit (row part.Specifiers fresh d) h))
+      (lacks_and t' (t'' & none) (lacks_all t' (unmarked_by some_definition refl us limit (declarator named (past_part fresh t) d) h'))
+      (lacks_and t'' none (lacks_all t'' ((unmarked_by some_definition refl us limit (compound anywhere d) h'').0 refl)) lacks_none)))
+
   external_owes : (d : ℕ) (c : Scopes) (i : ℕ) → Owes (body (external anywhere d)) (Defines (external anywhere d) c i) c i
   external_owes d c i = λ t e j h _. (
     λ y a. inl (lacks_one refl (lacks_and t none (lacks_all t (unmarked_by some_definition refl us limit (row part.Specifiers fresh d) h)) lacks_none)),
     λ y t' e' j' h' _. (
       λ y'. (
-        λ _ t'' e'' j'' h'' _.
-            let x = unmarked_by some_definition refl us limit (row part.Specifiers fresh d) h in
-            let x' = unmarked_by some_definition refl us limit (declarator named (past_part fresh t) d) h' in
-            let x'' = unmarked_by some_definition refl us limit (compound anywhere d) h'' in
-            ⊎_elim
-            (λ q. inr (let v = asked (is_one (runs_sound (row part.Specifiers fresh d) c e i j t h)).2 (declarator_is_one some_definition refl us limit h') x''.1 q in
-            let n = reach h in
-            let n' = declared_later h' v.ellipsis in
-            record {
-              way = defining k;
-              at = m;
-              own = own_definition;
-              ends = end_here (end_behind h (end_pass y (end_here (end_behind h' (end_seen y' (refused_there v))))));
-              fits = at_brace;
-              starts = omega arith;
-            }))
-            (λ q. inl (lacks_one q (lacks_and t (t' & t'' & none) (lacks_all t x) (lacks_and t' (t'' & none) (lacks_all t' x') (lacks_and t'' none (lacks_all t'' (x''.0 refl)) lacks_none)))))
-            (cases_Bool (variadic_definition k m kind.FunctionDefinition i j'' (t & t' & t'' & none))),
+        λ _ t'' e'' j'' h'' _. ⊎_elim (λ q. inr (definition_caught h y h' y' h'' q)) (λ q. inl (definition_lacks h h' h'' q)) (cases_Bool (variadic_definition k m kind.FunctionDefinition i j'' (t & t' & t'' & none))),
         λ _. tt,
       ),
       λ y' t1 e1 j1 h1 _. (

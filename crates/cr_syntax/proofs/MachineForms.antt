@@ -1,4 +1,4 @@
--- A row of the refused forms that names a token behind a tree: the machine refuses the token there by that row.
+-- A row of the refused forms that names a token behind a tree, or where one begins: the machine refuses the token there by that row.
 use Rattle.std.proofs.Common.{◌≡◌, ℕ, zero, suc, ◌+◌, ◌<◌, ◌≤◌, Bool, true, false, ◌&&◌, ◌||◌, ◌==◌, List, [], ◌∷◌, length, Option, None, Some, ◌⊎◌, inl, inr, ⊎_elim, refl, sym, ap, subst, ◌∙◌, arith}
 use Rattle.std.specs.Prelude.{slice_get}
 use Rattle.std.proofs.lemmas.Bool.{eqb-true, eq-eqb, both_ways, and_from, or_parts, or_from, cases_Bool, cases_lt}
@@ -144,6 +144,21 @@ pub has_all : {test other : Kind → ℕ → ℕ → Trees → Bool} {t : Trees}
 has_all f (has_here {k = l} {i = i} {j = j} {a = b} q) = has_here (f l i j b q)
 has_all f (has_inside h) = has_inside (has_all f h)
 has_all f (has_after h) = has_after (has_all f h)
+
+-- trees without such a node
+pub lacks_none : {test : Kind → ℕ → ℕ → Trees → Bool} → Has test none → ⊥
+lacks_none h = elim h [ ]
+
+pub lacks_and : {test : Kind → ℕ → ℕ → Trees → Bool} (t u : Trees) → (Has test t → ⊥) → (Has test u → ⊥) → Has test (t & u) → ⊥
+lacks_and none u x y h = y h
+lacks_and (node l i j b n) u x y (has_here q) = x (has_here q)
+lacks_and (node l i j b n) u x y (has_inside h) = x (has_inside h)
+lacks_and (node l i j b n) u x y (has_after h) = lacks_and n u (λ h'. x (has_after h')) y h
+
+pub lacks_one : {test : Kind → ℕ → ℕ → Trees → Bool} {l : Kind} {i j : ℕ} {b : Trees} → test l i j b ≡ false → (Has test b → ⊥) → Has test (one l i j b) → ⊥
+lacks_one {test = test} {l = l} {i = i} {j = j} {b = b} n x (has_here q) = both_ways (test l i j b) n q
+lacks_one n x (has_inside h) = x h
+lacks_one n x (has_after h) = lacks_none h
 
 pub literal_mark : (k : ℕ) (l : Kind) (i j : ℕ) (b : Trees) → cast_operand_at k l i j b ≡ true → mark literal k l i j b ≡ true
 literal_mark k kind.Cast i j b q = q
@@ -317,7 +332,7 @@ pub or_none : (b : Bool) → b || false ≡ b
 or_none true = refl
 or_none false = refl
 
-begins_second : (k : ℕ) {l l' : Kind} {s e i j : ℕ} {b b' t u : Trees} → t ≡ one l s e b → u ≡ one l' i j b' → one_begins_at k (after_first (t & u & none)) ≡ (i == k)
+pub begins_second : (k : ℕ) {l l' : Kind} {s e i j : ℕ} {b b' t u : Trees} → t ≡ one l s e b → u ≡ one l' i j b' → one_begins_at k (after_first (t & u & none)) ≡ (i == k)
 begins_second k {i = i} {u = u} q q' =
     subst (λ x. one_begins_at k (after_first (x & u & none)) ≡ (i == k)) (sym q) (subst (λ y. one_begins_at k (y & none) ≡ (i == k)) (sym q') (or_none (i == k)))
 

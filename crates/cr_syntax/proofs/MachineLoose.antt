@@ -141,36 +141,36 @@ module _ {ts : List Lexeme} {limit : Limit} where
   behind_pass y (run_deep y' a') = cc
   behind_pass y (run_pass y' h) = h
 
-  behind_free : {x : Test} {n d : ℕ} {p : Prog} {c : Scopes} {i : ℕ} {r : Reply} → passes ts c i x ≡ false → Runs body ts limit (bar x n d p) c i r → Runs body ts limit p c i r
+  pub behind_free : {x : Test} {n d : ℕ} {p : Prog} {c : Scopes} {i : ℕ} {r : Reply} → passes ts c i x ≡ false → Runs body ts limit (bar x n d p) c i r → Runs body ts limit p c i r
   behind_free y (run_bar y') = cc
   behind_free y (run_free y' h) = h
 
-  behind_seen : {x : Test} {p q : Prog} {c : Scopes} {i : ℕ} {r : Reply} → passes ts c i x ≡ true → Runs body ts limit (peek x p q) c i r → Runs body ts limit p c i r
+  pub behind_seen : {x : Test} {p q : Prog} {c : Scopes} {i : ℕ} {r : Reply} → passes ts c i x ≡ true → Runs body ts limit (peek x p q) c i r → Runs body ts limit p c i r
   behind_seen y (run_seen y' h) = h
   behind_seen y (run_unseen y' h) = cc
 
-  behind_unseen : {x : Test} {p q : Prog} {c : Scopes} {i : ℕ} {r : Reply} → passes ts c i x ≡ false → Runs body ts limit (peek x p q) c i r → Runs body ts limit q c i r
+  pub behind_unseen : {x : Test} {p q : Prog} {c : Scopes} {i : ℕ} {r : Reply} → passes ts c i x ≡ false → Runs body ts limit (peek x p q) c i r → Runs body ts limit q c i r
   behind_unseen y (run_seen y' h) = cc
   behind_unseen y (run_unseen y' h) = h
 
-  behind_yes : {b : Bool} {p q : Prog} {c : Scopes} {i : ℕ} {r : Reply} → b ≡ true → Runs body ts limit (when b p q) c i r → Runs body ts limit p c i r
+  pub behind_yes : {b : Bool} {p q : Prog} {c : Scopes} {i : ℕ} {r : Reply} → b ≡ true → Runs body ts limit (when b p q) c i r → Runs body ts limit p c i r
   behind_yes y (run_yes y' h) = h
   behind_yes y (run_no y' h) = cc
 
-  behind_no : {b : Bool} {p q : Prog} {c : Scopes} {i : ℕ} {r : Reply} → b ≡ false → Runs body ts limit (when b p q) c i r → Runs body ts limit q c i r
+  pub behind_no : {b : Bool} {p q : Prog} {c : Scopes} {i : ℕ} {r : Reply} → b ≡ false → Runs body ts limit (when b p q) c i r → Runs body ts limit q c i r
   behind_no y (run_yes y' h) = cc
   behind_no y (run_no y' h) = h
 
-  behind_here : {f : ℕ → Prog} {c : Scopes} {i : ℕ} {r : Reply} → Runs body ts limit (here f) c i r → Runs body ts limit (f i) c i r
+  pub behind_here : {f : ℕ → Prog} {c : Scopes} {i : ℕ} {r : Reply} → Runs body ts limit (here f) c i r → Runs body ts limit (f i) c i r
   behind_here (run_here h) = h
 
-  behind_look : {f : Scopes → Prog} {c : Scopes} {i : ℕ} {r : Reply} → Runs body ts limit (look f) c i r → Runs body ts limit (f c) c i r
+  pub behind_look : {f : Scopes → Prog} {c : Scopes} {i : ℕ} {r : Reply} → Runs body ts limit (look f) c i r → Runs body ts limit (f c) c i r
   behind_look (run_look h) = h
 
-  behind_set : {p : Prog} {c e : Scopes} {i : ℕ} {r : Reply} → Runs body ts limit (set e p) c i r → Runs body ts limit p e i r
+  pub behind_set : {p : Prog} {c e : Scopes} {i : ℕ} {r : Reply} → Runs body ts limit (set e p) c i r → Runs body ts limit p e i r
   behind_set (run_set h) = h
 
-  behind_bring : {n : ℕ} {b : Bool} {p : Prog} {c : Scopes} {i : ℕ} {r : Reply} → Runs body ts limit (bring n b p) c i r → Runs body ts limit p (enter (brought ts i n b) c) i r
+  pub behind_bring : {n : ℕ} {b : Bool} {p : Prog} {c : Scopes} {i : ℕ} {r : Reply} → Runs body ts limit (bring n b p) c i r → Runs body ts limit p (enter (brought ts i n b) c) i r
   behind_bring (run_bring h) = h
 
   pub behind_goal : {g : Goal} {f : Trees → Prog} {t : Trees} {c e : Scopes} {i j : ℕ} {r : Reply} → Runs body ts limit (body g) c i (Done t e j) →

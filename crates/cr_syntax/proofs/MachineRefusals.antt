@@ -1,26 +1,34 @@
 -- The rows of the refused forms and the subset's machine on a unit: where it is refused no row names a token before, and one
 -- that names the refused token is the machine's; where it reads a unit, no row names a token of it.
-use Rattle.std.proofs.Common.{◌≡◌, ℕ, ◌+◌, ◌<◌, ◌≤◌, true, false, List, [], length, ⊎_elim, refl, sym, subst, ◌∙◌, arith}
-use Rattle.std.specs.Prelude.{slice_get}
-use Rattle.std.proofs.lemmas.Bool.{both_ways}
+use Rattle.std.proofs.Common.{◌≡◌, ℕ, ◌+◌, ◌<◌, ◌≤◌, Bool, true, false, ◌||◌, List, [], length, Option, None, Some, ◌⊎◌, inl, inr, ⊎_elim, refl, sym, ap, subst, ◌∙◌, arith}
+use Rattle.std.specs.Prelude.{slice_get, set}
+use Rattle.std.proofs.lemmas.Bool.{both_ways, cases_lt}
 use Rattle.cr_syntax.specs.declared.word.Word.{Word}
 use Rattle.cr_syntax.specs.declared.word.Word.TheVariants as word
 use Rattle.cr_syntax.specs.Words.{Lexeme, word_at}
 use Rattle.cr_syntax.specs.Scopes.{Scopes}
 use Rattle.cr_syntax.specs.Trees.{Trees}
-use Rattle.cr_syntax.specs.Spells.{AtMost, Upto, Is}
+use Rattle.cr_syntax.specs.Context.{fresh}
+use Rattle.cr_syntax.specs.Spells.{Limit, AtMost, Upto, Is}
 use Rattle.cr_syntax.specs.Units.{file_scope, most_levels, Completes, Begins, Shows, Has, switch_body_at, with_word, variadic_definition, elsewhere, misplaced_at, Outside, unused_keyword, designator, compound_literal, called_expression, bit_field, deep_label, label_as_body, switch_body, variadic_function}
-use Rattle.cr_syntax.specs.Machine.{unit, anywhere, nowhere, Done, Runs, has_word, has}
+use Rattle.cr_syntax.specs.Machine.{Prog, Test, Reply, unit, expression, anywhere, nowhere, Done, Failed, Runs, has_word, has, passes}
+use Rattle.cr_syntax.specs.Machine as m
 use Rattle.cr_syntax.specs.MachineBody.{body, is_label}
-use Rattle.cr_syntax.proofs.MachineRuns.{same, passes_same}
-use Rattle.cr_syntax.proofs.MachineFirst.{sorted}
+use Rattle.cr_syntax.specs.MachineLaws.{end_of, start_expression}
+use Rattle.cr_syntax.proofs.Tests.{is_of, both}
+use Rattle.cr_syntax.proofs.MachineRuns.{reach, same, passes_same, word_same, spelling_same}
+use Rattle.cr_syntax.proofs.MachineFirst.{none_true, sorted, free_by}
 use Rattle.cr_syntax.proofs.MachineEnds.{Way, barring, defining, crowded, refused_so}
 use Rattle.cr_syntax.proofs.MachineWays.{Point, at, same_way}
 use Rattle.cr_syntax.proofs.MachineForms.{within, allows_before, IsBarring, by_row}
 use Rattle.cr_syntax.proofs.MachineLoose.{IsOwn, own_label, own_definition, Departs, label_is}
 use Rattle.cr_syntax.proofs.MachineReading.{ends_inside}
 use Rattle.cr_syntax.proofs.MachineUnitForms.{ReadsUnits, same_token, IsBarred, UnitEnds, designator_is_barred, literal_is_barred, call_is_barred, field_is_barred, body_label_is_barred, by_that_row, by_its_own, bars_too, bars_none}
-use Rattle.cr_syntax.proofs.MachineTraces.{end_there}
+use Rattle.cr_syntax.proofs.MachineTraces.{run_there, end_there}
+use Rattle.cr_syntax.proofs.MachineApart.{Apart, moved, set_there, set_other}
+use Rattle.cr_syntax.proofs.MachineBodies.{sought}
+use Rattle.cr_syntax.proofs.MachineComplete.{get_some, spelled_is_read}
+use Rattle.cr_syntax.proofs.MachineSound.{runs_sound}
 use Rattle.cr_syntax.proofs.MachineLabels.{labels_caught}
 use Rattle.cr_syntax.proofs.MachineDefinitions.{Fits, before, at_brace, definitions_caught}
 use Rattle.cr_syntax.proofs.MachineDefinitions as definitions
@@ -92,28 +100,90 @@ no_label ts k q l y = absurd (both_ways (has_word ts k is_label) (sorted is_labe
 neither_label : (ts : List Lexeme) (k : ℕ) {A : Type 0} → (Is ts k word.Case → ⊥) → (Is ts k word.Default → ⊥) → has_word ts k is_label ≡ true → A
 neither_label ts k f g y = absurd (⊎_elim f g (label_is (word_at ts k) y))
 
--- another statement than a block, as the body of a switch, is refused by its row
-abbrev pub RefusesBodies : Type 0
-RefusesBodies = (ts : List Lexeme) (k s : ℕ) → k < length ts → Shows ts k (switch_body_at s k) → (Is ts k word.LeftBrace → ⊥) → (Is ts k word.Case → ⊥) → (Is ts k word.Default → ⊥) →
-    Begins (Upto k most_levels) (with_word ts s word.While) (k + 1) → IsBarred ts anywhere 7 k
+decide_is : (n s : ℕ) → (n ≡ s) ⊎ (n ≡ s → ⊥)
+decide_is n s = ⊎_elim (λ lt. inr (λ q. omega arith)) (λ ge. ⊎_elim (λ lt. inr (λ q. omega arith)) (λ le. inl (omega arith)) (cases_lt s n)) (cases_lt n s)
 
-module _ (complete : ReadsUnits) (bodies : RefusesBodies) where
+-- An expression behind a token, read where that token is another one.
+module _ (us vs : List Lexeme) (limit : Limit) (k s : ℕ) (alike : (n : ℕ) → n < k → (n ≡ s → ⊥) → slice_get vs n ≡ slice_get us n) (x : Lexeme) (here : slice_get vs s ≡ Some x) where
+  changed : (n : ℕ) → (n ≡ s → ⊥) → slice_get (set us s x) n ≡ slice_get us n
+  changed n f = set_other us s n x f
+
+  apart : Apart us (set us s x) (s + 1)
+  apart = record {
+    words = λ i w le q. word_same us (set us s x) i (changed i (λ r. omega arith)) ∙ q;
+    names = λ i le. spelling_same us (set us s x) i (changed i (λ r. omega arith));
+  }
+
+  unchanged : s < length us → (n : ℕ) → n < k → slice_get (set us s x) n ≡ slice_get vs n
+  unchanged lt n lt' = by (decide_is n s)
+    where
+      by : (n ≡ s) ⊎ (n ≡ s → ⊥) → slice_get (set us s x) n ≡ slice_get vs n
+      by (inl q) = subst (λ l. slice_get (set us s x) l ≡ slice_get vs l) (sym q) (set_there us s x lt ∙ sym here)
+      by (inr f) = changed n f ∙ sym (alike n lt' f)
+
+  condition_there : (d : ℕ) (c e : Scopes) (i j : ℕ) (t : Trees) → Runs body us limit (body (expression d)) c i (Done t e j) → Is us j word.RightParen → s < i → j < k →
+      Runs body vs limit (body (expression d)) c i (Done t e j)
+  condition_there d c e i j t h q lt lt' =
+      let n = reach h in
+      let n' = within us j q in
+      let s' = moved apart (runs_sound (expression d) c e i j t h fresh) (omega arith) refl in
+      let q' = word_same us (set us s x) j (changed j (λ r. omega arith)) ∙ q in
+      run_there body vs (set us s x) limit limit j (λ l le. unchanged (omega arith) l (omega arith)) (λ g l d' lt'' w. w)
+      (spelled_is_read (set us s x) limit start_expression s' (free_by q' (omega arith))) (omega arith) tt
+
+-- another statement than a block, as the body of a switch, stands behind it and is refused by its row
+pub body_is_behind : ReadsUnits → {ts : List Lexeme} {k : ℕ} (s : ℕ) → k < length ts → Shows ts k (switch_body_at s k) → (Is ts k word.LeftBrace → ⊥) → (Is ts k word.Case → ⊥) → (Is ts k word.Default → ⊥) →
+    Begins (Upto k most_levels) (with_word ts s word.While) (k + 1) → (s < k) × IsBarred ts anywhere 7 k
+body_is_behind complete {ts = ts} {k = k} s lt b g g' g'' r = ⊎_elim (λ x. absurd (x b.has))
+    (λ x. (x.short, x.leads r.trees r.completes.is_unit.after (length vs) (complete vs limit r.trees r.completes.is_unit.after r.completes.is_unit.spells)))
+    (sought ts us vs k s limit (AtMost most_levels) us_alike vs_alike a_while (allows_before k most_levels) g g' g''
+    (λ d c e i j t h q lt' short lt''. condition_there us vs limit k s both_alike (while_lexeme short).0 (while_lexeme short).1 d c e i j t h q lt' lt'')
+    (complete us limit b.trees b.completes.is_unit.after b.completes.is_unit.spells))
+  where
+    limit : Limit
+    limit = Upto k most_levels
+
+    us : List Lexeme
+    us = b.completes.text
+
+    vs : List Lexeme
+    vs = r.completes.text
+
+    us_alike : (n : ℕ) → n < k → slice_get us n ≡ slice_get ts n
+    us_alike n lt' = same_token b.completes n lt' (omega arith)
+
+    while_word : Lexeme
+    while_word = record { word = word.While; spelling = [] }
+
+    vs_alike : (n : ℕ) → n ≤ k → (n ≡ s → ⊥) → slice_get vs n ≡ slice_get ts n
+    vs_alike n le f = let w = get_some ts n (omega arith) in r.completes.alike n w.0 (omega arith) (set_other ts s n while_word f ∙ w.1) ∙ sym w.1
+
+    a_while : s < k → Is vs s word.While
+    a_while lt' = ap (λ o. elim o as (λ _. Option Word) [ None ↦ None | Some x ↦ Some x.word ]) (r.completes.alike s while_word (omega arith) (set_there ts s while_word (omega arith)))
+
+    while_lexeme : s < k → (x : Lexeme) × (slice_get vs s ≡ Some x)
+    while_lexeme lt' = (while_word, r.completes.alike s while_word (omega arith) (set_there ts s while_word (omega arith)))
+
+    both_alike : (n : ℕ) → n < k → (n ≡ s → ⊥) → slice_get vs n ≡ slice_get us n
+    both_alike n lt' f = vs_alike n (omega arith) f ∙ sym (us_alike n lt')
+
+module _ (complete : ReadsUnits) where
   pub refusing : {ts : List Lexeme} {n k : ℕ} → k < length ts → (n ≡ 1 → ⊥) → Outside ts k n → Refusing ts n k
   refusing lt f (unused_keyword q u) = absurd (f refl)
   refusing {ts = ts} {k = k} lt f (designator q b) = by_bar (designator_is_barred complete q b) (⊎_elim (λ x. no_label ts k x refl) (λ x. no_label ts k x refl) q)
   refusing {ts = ts} {k = k} lt f (compound_literal q b) = by_bar (literal_is_barred complete q b) (no_label ts k q refl)
   refusing {ts = ts} {k = k} lt f (called_expression q b) = by_bar (call_is_barred complete q b) (no_label ts k q refl)
   refusing {ts = ts} {k = k} lt f (bit_field q b) = by_bar (field_is_barred complete q b) (no_label ts k q refl)
-  refusing lt f (deep_label b q) = by_label refl (label_is_caught complete lt b q)
+  refusing lt f (deep_label _ b q) = by_label refl (label_is_caught complete lt b q)
   refusing lt f (label_as_body s q b) = by_bar (body_label_is_barred complete s q b) (λ y. refl)
-  refusing {ts = ts} {k = k} lt f (switch_body s b g g' g'' c) = by_bar (bodies ts k s lt b g g' g'' c) (neither_label ts k g' g'')
+  refusing {ts = ts} {k = k} lt f (switch_body s _ b g g' g'' c) = by_bar (body_is_behind complete s lt b g g' g'' c).1 (neither_label ts k g' g'')
   refusing lt f (variadic_function m lt' y b h) = by_definition refl (definition_is_caught complete lt' y b h)
 
 -- what is said of a way and its token
 abbrev OnPoint : (Way → ℕ → Type 0) → Point → Type 0
 OnPoint g (at w n) = g w n
 
-at_end : {ts : List Lexeme} {f : Way → ℕ → Type 0} {w : Way} {j : ℕ} (x : Caught ts f) → UnitEnds ts nowhere w j → (g : Way → ℕ → Type 0) → g x.way x.at → g w j
+pub at_end : {ts : List Lexeme} {f : Way → ℕ → Type 0} {w : Way} {j : ℕ} (x : Caught ts f) → UnitEnds ts nowhere w j → (g : Way → ℕ → Type 0) → g x.way x.at → g w j
 at_end x z g y = subst (λ p. OnPoint g p) (same_way x.ends z) y
 
 behind_bar : {n k j : ℕ} {w : Way} → IsBarring n k (at w j) → j ≡ k
@@ -157,12 +227,12 @@ names_none h (by_label e x) = let q = same h (refused_so x.ends) in cc
 names_none h (by_definition e x) = let q = same h (refused_so x.ends) in cc
 
 -- The same of `Outside`.
-module _ (complete : ReadsUnits) (bodies : RefusesBodies) {ts : List Lexeme} {n : ℕ} (f : n ≡ 1 → ⊥) where
+module _ (complete : ReadsUnits) {ts : List Lexeme} {n : ℕ} (f : n ≡ 1 → ⊥) where
   pub outside_before_end : {k j : ℕ} {w : Way} → UnitEnds ts nowhere w j → k < j → Outside ts k n → SeesLater n k w
-  outside_before_end z lt o = let le = ends_inside (refused_so z) (omega arith) in names_none_before z lt (refusing complete bodies (omega arith) f o)
+  outside_before_end z lt o = let le = ends_inside (refused_so z) (omega arith) in names_none_before z lt (refusing complete (omega arith) f o)
 
   pub outside_at_end : {j : ℕ} {w : Way} → j < length ts → UnitEnds ts nowhere w j → ((i : ℕ) → w ≡ defining i → ⊥) → Outside ts j n → IsBarring n j (at w j)
-  outside_at_end lt z g o = names_refused z g (refusing complete bodies lt f o)
+  outside_at_end lt z g o = names_refused z g (refusing complete lt f o)
 
   pub outside_of_unit : {k j : ℕ} {t : Trees} {e : Scopes} → Runs body ts (AtMost most_levels) (body (unit nowhere 0)) file_scope 0 (Done t e j) → k < j → Outside ts k n → ⊥
-  outside_of_unit h lt o = let le = ends_inside h (omega arith) in names_none h (refusing complete bodies (omega arith) f o)
+  outside_of_unit h lt o = let le = ends_inside h (omega arith) in names_none h (refusing complete (omega arith) f o)

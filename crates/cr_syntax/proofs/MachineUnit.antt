@@ -20,7 +20,7 @@ use Rattle.cr_syntax.proofs.MachineEnds.{Way, stopped, barring, crowded, definin
 use Rattle.cr_syntax.proofs.MachineComplete.{get_some, allows_free, upto}
 use Rattle.cr_syntax.proofs.MachineUnitComplete.{unit_reads, unit_is_read}
 use Rattle.cr_syntax.proofs.MachineUnitForms.{ReadsUnits}
-use Rattle.cr_syntax.proofs.MachineRefusals.{RefusesBodies, outside_before_end, outside_at_end, outside_of_unit}
+use Rattle.cr_syntax.proofs.MachineRefusals.{outside_before_end, outside_at_end, outside_of_unit}
 use Rattle.cr_syntax.proofs.MachineViable.{barred_inside, crowded_inside}
 use Rattle.cr_syntax.proofs.MachineUnitViable.{unit_begins, unit_leaves, unit_barred_begins, unit_stands, unit_stands_leaving, unit_crowded_begins, definition_completes, definition_outside, unit_outside}
 use Rattle.cr_syntax.proofs.MachineForms.{within}
@@ -32,17 +32,17 @@ use Rattle.cr_syntax.proofs.MachineUnitStuck.{no_room_in_unit, no_room_instead_i
 -- Texts that begin as a list does.
 
 -- fewer tokens begin a unit too
-begins_less : {limit : Limit} {ts : List Lexeme} {n k : ℕ} → n ≤ k → Begins limit ts k → Begins limit ts n
+pub begins_less : {limit : Limit} {ts : List Lexeme} {n k : ℕ} → n ≤ k → Begins limit ts k → Begins limit ts n
 begins_less le b = record { trees = b.trees; completes = record { text = b.completes.text; alike = λ i x lt q. b.completes.alike i x (omega arith) q; is_unit = b.completes.is_unit } }
 
 -- within no limit, or one up to fewer tokens
-begins_by : {limit top : Limit} {ts : List Lexeme} {k : ℕ} → ((g : Manner) (i d : ℕ) → Allows limit g i d → Allows top g i d) → Begins limit ts k → Begins top ts k
+pub begins_by : {limit top : Limit} {ts : List Lexeme} {k : ℕ} → ((g : Manner) (i d : ℕ) → Allows limit g i d → Allows top g i d) → Begins limit ts k → Begins top ts k
 begins_by f b = record { trees = b.trees; completes = record { text = b.completes.text; alike = b.completes.alike; is_unit = relimit_unit (λ g x c i d _ _ a. f g i d a) b.completes.is_unit } }
 
-begins_free : {limit : Limit} {ts : List Lexeme} {k : ℕ} → Begins limit ts k → Begins Free ts k
+pub begins_free : {limit : Limit} {ts : List Lexeme} {k : ℕ} → Begins limit ts k → Begins Free ts k
 begins_free b = begins_by (λ g i d a. allows_free g i d) b
 
-upto_less : {n k : ℕ} (most : ℕ) → n ≤ k → (g : Manner) (i d : ℕ) → Allows (Upto k most) g i d → Allows (Upto n most) g i d
+pub upto_less : {n k : ℕ} (most : ℕ) → n ≤ k → (g : Manner) (i d : ℕ) → Allows (Upto k most) g i d → Allows (Upto n most) g i d
 upto_less most le plain i d a = tt
 upto_less most le opens i d a = λ lt. a (omega arith)
 upto_less most le reopens i d a = (tt, λ lt. a.1 (omega arith))
@@ -56,16 +56,30 @@ begun_word {ts = ts} k q b = word_same ts b.completes.text k (begun_alike (withi
 
 -- Words.
 
+-- a row of the refused forms names a token of the list
+names_token : {ts : List Lexeme} {k n : ℕ} → Outside ts k n → k < length ts
+names_token {ts = ts} {k = k} (units.unused_keyword q u) = within ts k q
+names_token {ts = ts} {k = k} (units.designator (inl q) b) = within ts k q
+names_token {ts = ts} {k = k} (units.designator (inr q) b) = within ts k q
+names_token {ts = ts} {k = k} (units.compound_literal q b) = within ts k q
+names_token {ts = ts} {k = k} (units.called_expression q b) = within ts k q
+names_token {ts = ts} {k = k} (units.bit_field q b) = within ts k q
+names_token (units.deep_label lt c q) = lt
+names_token {ts = ts} {k = k} (units.label_as_body s (inl q) b) = within ts k q
+names_token {ts = ts} {k = k} (units.label_as_body s (inr q) b) = within ts k q
+names_token (units.switch_body s lt b n0 n1 n2 c) = lt
+names_token {ts = ts} (units.variadic_function m lt q c b) = let n = within ts m q in omega arith
+
 -- a token that a row of the refused forms names is an unused keyword, or the row is another one
-keyword_or_form : {ts : List Lexeme} {k n : ℕ} → Outside ts k n → ((w : Word) × Is ts k w × (is_unused w ≡ true)) ⊎ (n ≡ 1 → ⊥)
+pub keyword_or_form : {ts : List Lexeme} {k n : ℕ} → Outside ts k n → ((w : Word) × Is ts k w × (is_unused w ≡ true)) ⊎ (n ≡ 1 → ⊥)
 keyword_or_form (units.unused_keyword {w = w} q u) = inl (w, q, u)
 keyword_or_form (units.designator q b) = inr (λ e. omega arith)
 keyword_or_form (units.compound_literal q b) = inr (λ e. omega arith)
 keyword_or_form (units.called_expression q b) = inr (λ e. omega arith)
 keyword_or_form (units.bit_field q b) = inr (λ e. omega arith)
-keyword_or_form (units.deep_label c q) = inr (λ e. omega arith)
+keyword_or_form (units.deep_label lt c q) = inr (λ e. omega arith)
 keyword_or_form (units.label_as_body s q b) = inr (λ e. omega arith)
-keyword_or_form (units.switch_body s b n0 n1 n2 c) = inr (λ e. omega arith)
+keyword_or_form (units.switch_body s lt b n0 n1 n2 c) = inr (λ e. omega arith)
 keyword_or_form (units.variadic_function m lt q c b) = inr (λ e. omega arith)
 
 -- a token is a bracket and another word
@@ -73,7 +87,7 @@ no_bracket : {o : Option Word} {v w : Word} → o ≡ Some v → is_bracket v �
 no_bracket {v = v} q f y b = both_ways (is_bracket v) f (subst (λ w. is_bracket w ≡ true) (some_one (sym y ∙ q)) (is_of_bracket b))
 
 -- the tokens up to the `...` of a definition begin a unit
-begins_definition : {ts : List Lexeme} {m : ℕ} → Outside ts m 8 → Begins (Upto (m + 1) most_levels) ts (m + 1)
+pub begins_definition : {ts : List Lexeme} {m : ℕ} → Outside ts m 8 → Begins (Upto (m + 1) most_levels) ts (m + 1)
 begins_definition (units.variadic_function {t = t} m' lt q c b) = begins_by (upto_less most_levels (omega arith)) (begins_less (omega arith) (record { trees = t; completes = c }))
 
 -- A bracket that a row refuses has another one in its place, where no text goes on with it.
@@ -83,10 +97,10 @@ in_place (units.designator q s) y b f = (word.LeftBrace, list_for_designator)
 in_place (units.compound_literal q s) y b f = (word.LeftParen, group_for_literal)
 in_place (units.called_expression q s) y b f = (word.LeftBracket, subscript_for_call)
 in_place (units.bit_field q s) y b f = absurd (no_bracket q refl y b)
-in_place (units.deep_label {t = t} c q) y b f = absurd (f (begins_free (record { trees = t; completes = c })))
+in_place (units.deep_label {t = t} lt c q) y b f = absurd (f (begins_free (record { trees = t; completes = c })))
 in_place (units.label_as_body s (inl q) c) y b f = absurd (no_bracket q refl y b)
 in_place (units.label_as_body s (inr q) c) y b f = absurd (no_bracket q refl y b)
-in_place (units.switch_body s c n0 n1 n2 d) y b f = (word.LeftBrace, block_for_body)
+in_place (units.switch_body s lt c n0 n1 n2 d) y b f = (word.LeftBrace, block_for_body)
 in_place (units.variadic_function {t = t} m lt q c s) y b f = absurd (f (begins_free (begins_definition (units.variadic_function {t = t} m lt q c s))))
 
 -- the row of a switch's body, or another one
@@ -94,7 +108,7 @@ is_seventh : (n : ℕ) → (n ≡ 7) ⊎ (n ≡ 7 → ⊥)
 is_seventh n = ⊎_elim (λ q. inl (eqb-true n 7 q)) (λ q. inr (λ e. both_ways (n == 7) q (eq-eqb n 7 e))) (cases_Bool (n == 7))
 
 -- a unit is read by the machine of the bare grammar
-reads_units : ReadsUnits
+pub reads_units : ReadsUnits
 reads_units us limit t e s = unit_reads anywhere s refl refl
 
 module _ (ts : List Lexeme) where
@@ -121,7 +135,7 @@ module _ (ts : List Lexeme) where
 
   -- No text goes on with a token that is refused.
 
-  run_ends : {w : Way} {k : ℕ} → Loosely w k → is_crowded w ≡ false → k < length ts → Begins Free ts (k + 1) → ⊥
+  pub run_ends : {w : Way} {k : ℕ} → Loosely w k → is_crowded w ≡ false → k < length ts → Begins Free ts (k + 1) → ⊥
   run_ends y n lt b = let q = same (local (refused_so (unlimited_end y n)) (begun_alike lt b)) (unit_is_read anywhere b.completes.is_unit refl refl) in cc
 
   within_ends : {k : ℕ} → Loosely crowded k → k < length ts → BeginsWithin ts (k + 1) → ⊥
@@ -151,16 +165,15 @@ module _ (ts : List Lexeme) where
 
   -- What is known of a switch's body that is no block.
   module _
-      (bodies : RefusesBodies)
       (other_body : (x : Test) (m k : ℕ) → EndsBy (barring x 7 m) k → Outside ts k 7) where
     row_before : {w : Way} {i n k : ℕ} → EndsBy w k → Outside ts i n → (n ≡ 1 → ⊥) → i < k → (w ≡ defining i) × (n ≡ 8)
-    row_before y o f lt = outside_before_end reads_units bodies f y lt o
+    row_before y o f lt = outside_before_end reads_units f y lt o
 
     row_there : {w : Way} {n k : ℕ} → k < length ts → EndsBy w k → Outside ts k n → (n ≡ 1 → ⊥) → ((m : ℕ) → w ≡ defining m → ⊥) → (x : Test) × (d : ℕ) × (w ≡ barring x n d)
-    row_there lt y o f g = let b = barring_at (outside_at_end reads_units bodies f lt y g o) in (b.1, b.2, b.3)
+    row_there lt y o f g = let b = barring_at (outside_at_end reads_units f lt y g o) in (b.1, b.2, b.3)
 
     row_read : {t : Trees} {e : Scopes} {i j n : ℕ} → Answers (Done t e j) → Outside ts i n → (n ≡ 1 → ⊥) → i < j → ⊥
-    row_read h o f lt = outside_of_unit reads_units bodies f h lt o
+    row_read h o f lt = outside_of_unit reads_units f h lt o
 
     -- the tokens before a refused one
     fine : {w : Way} {k : ℕ} → EndsBy w k → ((m : ℕ) → w ≡ defining m → ⊥) → BeginsWithin ts k → IsFineBefore ts k
@@ -208,7 +221,7 @@ module _ (ts : List Lexeme) where
     bar_fine : {x : Test} {n m k : ℕ} → EndsBy (barring x n m) k → IsFineBefore ts k
     bar_fine {x = x} {n = n} {m = m} {k = k} y = let lt = barred_inside y in fine y (λ m q. cc) (unit_barred_begins ts most_levels k (omega arith) nowhere x n m y)
 
-    bar_outside : {x : Test} {n m k : ℕ} → EndsBy (barring x n m) k → Outside ts k n
+    pub bar_outside : {x : Test} {n m k : ℕ} → EndsBy (barring x n m) k → Outside ts k n
     bar_outside {x = x} {n = n} {m = m} {k = k} y = elim (is_seventh n) [
       | inl e ↦ subst (λ n. Outside ts k n) (sym e) (other_body x m k (subst (λ n. EndsBy (barring x n m) k) e y))
       | inr f ↦ (let lt = barred_inside y in unit_outside ts k (omega arith) nowhere x n m y f)
@@ -272,9 +285,6 @@ module _ (ts : List Lexeme) where
       same_definition : {i : ℕ} → defining m ≡ defining i → m ≡ i
       same_definition q = cc
 
-      named_inside : {i : ℕ} → Outside ts i 8 → i < length ts
-      named_inside (units.variadic_function m' lt q c b) = let n = within ts m' q in omega arith
-
       named_fine : IsFineBefore ts m
       named_fine = record { begins = b; inside = inside }
         where
@@ -293,7 +303,7 @@ module _ (ts : List Lexeme) where
       named_not_deep (units.unexpected q b c f o x) = f (begins_free (begins_definition named))
 
       read_definition : FirstRefusal ts (units.OutsideSubset m 8)
-      read_definition = units.outside (named_inside named) named_fine named_not_deep named
+      read_definition = units.outside (names_token named) named_fine named_not_deep named
 
     read_end : (w : Way) (k : ℕ) → EndsBy w k → k ≤ length ts → FirstRefusal ts (refusal_of (cause_by ts k w) k)
     read_end (stopped m) k y le = read_stop m k y le (word_at ts k) refl
@@ -326,8 +336,8 @@ module _ (ts : List Lexeme) where
         all : Begins (AtMost most_levels) ts (length ts)
         all = record { trees = t; completes = record { text = ts; alike = λ i x lt q. q; is_unit = u } }
 
-        inside : (i n : ℕ) → i < length ts → Outside ts i n → ⊥
-        inside i n lt o = elim (keyword_or_form o) [ inl (w, q, v) ↦ both_ways (is_unused w) (begun_unit_is_used all lt q) v | inr f ↦ (let e = read_to_end h in row_read h o f (omega arith)) ]
+        inside : (i n : ℕ) → Outside ts i n → ⊥
+        inside i n o = let lt = names_token o in elim (keyword_or_form o) [ inl (w, q, v) ↦ both_ways (is_unused w) (begun_unit_is_used all lt q) v | inr f ↦ (let e = read_to_end h in row_read h o f (omega arith)) ]
 
     pub is_parsed : (r : Reply) → Answers r → IsParsed ts r
     is_parsed (Done t e j) h = (unit_is_tree h, read_to_end h)

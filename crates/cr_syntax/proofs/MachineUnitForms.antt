@@ -76,5 +76,13 @@ bars_too {ts = ts} {n = n} {k = k} {j = j} {w = w} b z = elim (followed (looser 
   | departs o f ↦ by_its_own o (f (Failed (cause_by ts k (barring b.test n b.level)) k) (refused_so b.ends))
 ]
 
+-- what the subset's machine reads the bare grammar's reads, and what it refuses, but in a way of its own, that refuses so
+pub reads_loosely : {ts : List Lexeme} {limit : Limit} {t : Trees} {e : Scopes} {j : ℕ} → Runs body ts limit (body (unit nowhere 0)) file_scope 0 (Done t e j) →
+    Runs body ts limit (body (unit anywhere 0)) file_scope 0 (Done t e j)
+reads_loosely h = loosened (looser (unit nowhere 0)) h
+
+pub ends_loosely : {ts : List Lexeme} {k : ℕ} {w : Way} → UnitEnds ts nowhere w k → (IsOwn ts k w → ⊥) → UnitEnds ts anywhere w k
+ends_loosely z f = elim (followed (looser (unit nowhere 0)) z) [ so_too z' ↦ z' | departs o g ↦ absurd (f o) ]
+
 pub bars_none : {ts : List Lexeme} {n k j : ℕ} {t : Trees} {e : Scopes} → IsBarred ts anywhere n k → Runs body ts (AtMost most_levels) (body (unit nowhere 0)) file_scope 0 (Done t e j) → ⊥
-bars_none b h = let q = same (loosened (looser (unit nowhere 0)) h) (refused_so b.ends) in cc
+bars_none b h = let q = same (reads_loosely h) (refused_so b.ends) in cc

@@ -219,10 +219,10 @@ module _ (ts : List Lexeme) (k : ℕ) (le : k ≤ length ts) (l : Labels) where
   pub definition_outside : (n : ℕ) → EndsSo (defining n) → Outside ts n 8
   definition_outside n h = let d = definition_completes ts most_levels k le l n h in units.variadic_function k d.0 d.1 d.3 d.4
 
-  deep : {f : Word → Bool} {n m : ℕ} {t : Trees} → is_labels (has f) n ≡ true → ShownIn every (k + 1) t (barring (has f) n m) → Completes (Upto k most_levels) ts (k + 1) t → Outside ts k n
-  deep o (seen y) c = elim y [ ]
-  deep o (shown_designator y) c = cc
-  deep {t = t} o (shown_label n e y) c = let i : n ≡ k = omega arith in units.deep_label c (subst (λ j. misplaced_at j elsewhere t ≡ true) i (y elsewhere refl))
+  deep : {f : Word → Bool} {n m : ℕ} {t : Trees} → is_labels (has f) n ≡ true → k < length ts → ShownIn every (k + 1) t (barring (has f) n m) → Completes (Upto k most_levels) ts (k + 1) t → Outside ts k n
+  deep o lt (seen y) c = elim y [ ]
+  deep o lt (shown_designator y) c = cc
+  deep {t = t} o lt (shown_label n e y) c = let i : n ≡ k = omega arith in units.deep_label lt c (subst (λ j. misplaced_at j elsewhere t ≡ true) i (y elsewhere refl))
 
   -- what else may be said of a switch's body that another statement begins
   pub record IsBody (s : ℕ) : Type 0 where
@@ -246,7 +246,7 @@ module _ (ts : List Lexeme) (k : ℕ) (le : k ≤ length ts) (l : Labels) where
     where
       by : (x : Test) (b : Bool) → is_labels x n ≡ b → EndsSo (barring x n m) → Outside ts k n
       by x false o h = let g = bar_completes ts most_levels k le l x n m o h in named o u (tested h) g.1 g.2
-      by (has f) true o h = let g = label_completes ts most_levels k le l f n m o h (barred_inside h) in deep o g.1 g.2
+      by (has f) true o h = let g = label_completes ts most_levels k le l f n m o h (barred_inside h) in deep o (barred_inside h) g.1 g.2
       by _ true o h = cc
 
   -- where it is a switch's body

@@ -245,4 +245,4 @@ pub data FirstRefusal (ts : List Lexeme) : Refusal → Type 0 where
 -- The trees are those of the tokens: they spell them within the limit, and no row of the refused forms names one of them.
 pub record IsTreeOf (ts : List Lexeme) (t : Trees) : Type 0 where
   pub is_unit : IsUnit (AtMost most_levels) ts t
-  pub inside : (i row : ℕ) → i < length ts → Outside ts i row → ⊥
+  pub inside : (i row : ℕ) → Outside ts i row → ⊥
