@@ -15,7 +15,7 @@ use Rattle.cr_exprs.specs.Answers.{Keeps, IsPushed, IsPlaced, IsGathered, IsRega
 use Rattle.cr_exprs.proofs.Nodes.{keeps_all, keeps_none, get_front}
 
 -- how often a number stands in a list
-abbrev pub times : List ℕ → ℕ → ℕ
+abbrev times : List ℕ → ℕ → ℕ
 times ps k = count_by (λ p. p == k) ps
 
 pub times_append : (a b : List ℕ) (k : ℕ) → times (a ++ b) k ≡ times a k + times b k
@@ -140,7 +140,7 @@ is_pushed old new n next k q l f b s e =
     subst (λ x. IsPushed old x n.parts (record { node = k; next = next })) (sym q) (subst (λ x. IsPushed old (old ++ n ∷ []) n.parts (record { node = x; next = next })) (sym l) (pushed_last old n next f b s e))
 
 -- the order of the loose nodes is nothing to them
-pub kept_as : (tokens : ℕ) (ns : List Node) (a b : List ℕ) → ((k : ℕ) → times a k ≡ times b k) → AreKept tokens ns a → AreKept tokens ns b
+kept_as : (tokens : ℕ) (ns : List Node) (a b : List ℕ) → ((k : ℕ) → times a k ≡ times b k) → AreKept tokens ns a → AreKept tokens ns b
 kept_as tokens ns a b same h = record {
   within = h.within;
   named_once = λ k lt. omega (arith, h.named_once k lt, same k, times_append (names ns) a k, times_append (names ns) b k);
@@ -164,7 +164,7 @@ kept_more tokens ns ps qs p loose e h = kept_row tokens ns qs (ps ++ p ∷ []) l
 pub kept_behind : (tokens : ℕ) (ns : List Node) (os loose : List ℕ) (p : ℕ) → AreKept tokens ns (os ++ p ∷ loose) → AreKept tokens ns ((os ++ p ∷ []) ++ loose)
 kept_behind tokens ns os loose p h = subst (λ x. AreKept tokens ns x) (sym (append_assoc os (p ∷ []) loose)) h
 
-pub kept_lone : (tokens : ℕ) (ns : List Node) (ps loose : List ℕ) → length ps ≡ 1 → AreKept tokens ns (ps ++ loose) → AreKept tokens ns (slice_index ps 0 ∷ loose)
+kept_lone : (tokens : ℕ) (ns : List Node) (ps loose : List ℕ) → length ps ≡ 1 → AreKept tokens ns (ps ++ loose) → AreKept tokens ns (slice_index ps 0 ∷ loose)
 kept_lone tokens ns [] loose e h = absurd (omega arith)
 kept_lone tokens ns (p ∷ []) loose e h = h
 kept_lone tokens ns (p ∷ q ∷ ps) loose e h = absurd (omega arith)
@@ -185,7 +185,7 @@ nodes_same (m ∷ a) (n ∷ b) q f =
     let rest : a ≡ b = nodes_same a b (omega arith) (λ k l. f (suc k) (omega arith)) in
     cc
 
-pub before_same : (a b all : List Node) → length a ≡ length b → Keeps a all → Keeps b all → a ≡ b
+before_same : (a b all : List Node) → length a ≡ length b → Keeps a all → Keeps b all → a ≡ b
 before_same a b all q f g = nodes_same a b q (λ k lt. sym (f.same k lt) ∙ g.same k (omega arith))
 
 -- Nodes that are pushed behind others, as parts of what was read.

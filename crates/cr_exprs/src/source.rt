@@ -12,13 +12,10 @@ ghost use Rattle.cr_syntax.specs.MachineBody.{body};
 ghost use Rattle.cr_exprs.specs.Answers.{IsRefusal, Gives};
 
 use crate::fault::ParseFault;
-use cr_syntax::{Scope, Word, is_type, word_at};
+use cr_syntax::{MOST_LEVELS, Scope, Word, is_type, word_at};
 use cr_tokens::Token;
 use std::alloc::{AllocError, Global};
 use std::collections::LinkedList;
-
-/// The most levels of nesting.
-const MOST_LEVELS: usize = 128;
 
 /// What is read: a file, its tokens, and what each token is to the grammar.
 #[derive(Clone, Copy)]

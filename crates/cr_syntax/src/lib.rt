@@ -38,6 +38,7 @@ pub use checker::{NoMemory, spells_unit};
 pub use laws::{reading_is_spelling, table_is_grammar, tokens_are_spans};
 pub use machine::{machine_is_grammar, one_tree, one_unit};
 pub use node::{Kind, Node};
+pub use place::MOST_LEVELS;
 pub use scopes::{Scope, TypeName, begin, enter, is_type};
 pub use shape::{FRESH, ends_open, first, is_bare, past_node, past_token, rest_of};
 pub use symbol::{Context, Depth, Part, Symbol};
