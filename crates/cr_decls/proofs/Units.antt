@@ -6,7 +6,7 @@ use Rattle.cr_syntax.specs.Scopes.{Scopes}
 use Rattle.cr_syntax.specs.Trees.{Trees}
 use Rattle.cr_syntax.specs.Units as u
 use Rattle.cr_syntax.specs.Units.{file_scope}
-use Rattle.cr_syntax.specs.Machine.{Done, nowhere, unit}
+use Rattle.cr_syntax.specs.Machine.{Prog, Reply, Done, nowhere, unit}
 use Rattle.cr_syntax.specs.MachineBody.{body}
 use Rattle.cr_syntax.proofs.MachineRuns.{same}
 use Rattle.cr_syntax.proofs.MachineLabels.{unit_is_clean}
@@ -39,9 +39,18 @@ none_read Ended h n t y = none_so (h.run u.Ended refl) t y
 none_read (TooDeep k) h n t y = none_so (h.run (u.TooDeep k) refl) t y
 none_read (OutsideSubset k row) h n t y = none_so (h.run (u.OutsideSubset k row) refl) t y
 
-pub none_on : {A : Type 0} {ts : List Lexeme} (r : Result A ParseFault) → IfErr r (Declines ts (body (unit nowhere 0)) file_scope 0) → IfErr r (IsNoUnit ts)
-none_on (Ok x) h = h
-none_on (Err f) h = none_read f h
+-- the same, where text, scopes and trees are spelled otherwise
+run_as : {ts us : List Lexeme} {p : Prog} {c d : Scopes} {r y : Reply} → ts ≡ us → c ≡ d → r ≡ y → RunsTo ts p c 0 r → RunsTo us p d 0 y
+run_as {ts} {us} {p} {c} {d} {r} {y} q v w h = subst (λ x. RunsTo us p d 0 x) w (subst (λ x. RunsTo us p x 0 r) v (subst (λ x. RunsTo x p c 0 r) q h))
+
+pub unit_of : {ts us : List Lexeme} {c e : Scopes} {j : ℕ} {t v : Trees} → ts ≡ us → c ≡ file_scope → t ≡ v → RunsTo ts (body (unit nowhere 0)) c 0 (Done t e j) → IsUnitOfSubset us v
+unit_of {e = e} {j = j} q w x h = unit_read (run_as q w (ap (λ z. Done z e j) x) h)
+
+pub only_of : {ts us : List Lexeme} {c e : Scopes} {j : ℕ} {t v : Trees} → ts ≡ us → c ≡ file_scope → t ≡ v → RunsTo ts (body (unit nowhere 0)) c 0 (Done t e j) → IsOnlyTree us v
+only_of {e = e} {j = j} q w x h = only_read (run_as q w (ap (λ z. Done z e j) x) h)
+
+pub none_of : {ts us : List Lexeme} {c : Scopes} {f : ParseFault} → ts ≡ us → c ≡ file_scope → Declines ts (body (unit nowhere 0)) c 0 f → IsNoUnit us f
+none_of {ts} {us} {c} {f} q w h = none_read f (subst (λ x. Declines us (body (unit nowhere 0)) x 0 f) w (subst (λ x. Declines x (body (unit nowhere 0)) c 0 f) q h))
 
 append_none : (ps : List ℕ) → ps ++ [] ≡ ps
 append_none [] = refl
