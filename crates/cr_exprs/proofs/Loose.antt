@@ -118,6 +118,10 @@ loose_push ps loose n m e h = below_by (n ∷ loose) m (λ k le.
     let none = times_out (ps ++ loose) n k h (omega arith) in
     omega (arith, times_append (n ∷ []) loose k, times_append ps loose k))
 
+-- no nodes, with which the reading of a file begins
+pub kept_none : (tokens : ℕ) → AreKept tokens [] []
+kept_none tokens = record { within = λ k n q. absurd cc; named_once = λ k lt. absurd (omega arith); are_nodes = λ i lt. absurd (omega arith) }
+
 -- a node that takes its parts is loose itself
 kept_push : (tokens : ℕ) (ns : List Node) (n : Node) (loose : List ℕ) → PartsAreBelow ns → n.first ≤ n.last → n.last < tokens → AreKept tokens ns (n.parts ++ loose) → AreKept tokens (ns ++ n ∷ []) (length ns ∷ loose)
 kept_push tokens ns n loose f s e h = record {
