@@ -9,13 +9,14 @@ use Rattle.cr_syntax.specs.Units.{file_scope}
 use Rattle.cr_syntax.specs.Machine.{Prog, Reply, Done, nowhere, unit}
 use Rattle.cr_syntax.specs.MachineBody.{body}
 use Rattle.cr_syntax.proofs.MachineRuns.{same}
-use Rattle.cr_syntax.proofs.MachineLabels.{unit_is_clean}
+use Rattle.cr_syntax.proofs.MachineTidy.{unit_is_clean}
 use Rattle.cr_syntax.proofs.MachineUnits.{unit_is_unit}
 use Rattle.cr_syntax.proofs.MachineUnitComplete.{clean_is_read, one_unit}
 use Rattle.cr_exprs.specs.declared.fault.ParseFault.{ParseFault}
 use Rattle.cr_exprs.specs.declared.fault.ParseFault.TheVariants.{NoMemory, Unexpected, Ended, TooDeep, OutsideSubset}
 use Rattle.cr_exprs.specs.Loose.{AreKept, Replaces}
 use Rattle.cr_exprs.specs.Answers.{RunsTo}
+use Rattle.cr_exprs.proofs.Loose.{kept_none}
 use Rattle.cr_decls.specs.Answers.{FailsSo, Declines}
 use Rattle.cr_decls.specs.Unit.{IsUnitOfSubset, IsOnlyTree, IsNoUnit}
 
@@ -56,11 +57,8 @@ append_none : (ps : List ℕ) → ps ++ [] ≡ ps
 append_none [] = refl
 append_none (p ∷ ps) = ap (λ x. p ∷ x) (append_none ps)
 
-none_kept : (tokens : ℕ) → AreKept tokens [] []
-none_kept tokens = record { within = λ k n q. absurd cc; named_once = λ k lt. absurd (omega arith); are_nodes = λ i lt. absurd (omega arith) }
-
 -- all nodes of a unit stand under a parent, but for its items
 pub unit_kept : (count tokens : ℕ) (old new : List Node) (items : List ℕ) → old ≡ [] → count ≡ tokens → Replaces tokens old new [] items → AreKept count new items
 unit_kept count tokens old new items e q f =
-    let start : AreKept tokens old [] = subst (λ x. AreKept tokens x []) (sym e) (none_kept tokens) in
+    let start : AreKept tokens old [] = subst (λ x. AreKept tokens x []) (sym e) (kept_none tokens) in
     subst (λ x. AreKept x new items) (sym q) (subst (λ x. AreKept tokens new x) (append_none items) (f [] start))

@@ -2,11 +2,12 @@
 
 ghost use Rattle.std.specs.Prelude.{◌≡◌, ◌≤◌, ◌<◌, IsTrue, true, false, OnOk, OnErr, IfErr, length};
 ghost use Rattle.cr_syntax.specs.Machine.{has_word, passes, barred};
-ghost use Rattle.cr_syntax.specs.MachineBody.{is_designator, is_label, is_statement_start, is_any, statement_start};
+ghost use Rattle.cr_syntax.specs.Scopes.{Scopes};
+ghost use Rattle.cr_syntax.specs.MachineBody.{is_designator, is_label, is_statement_start, is_any, label_start, statement_start};
 ghost use Rattle.cr_exprs.specs.Source.{IsReadable, text_of};
 ghost use Rattle.cr_exprs.specs.Answers.{IsRefusal};
 
-use cr_exprs::{ParseFault, Source, barred, here, is_ordinary};
+use cr_exprs::{ParseFault, Source, barred, here, is_ordinary, stands};
 use cr_syntax::{Scope, Word};
 use std::collections::LinkedList;
 
@@ -43,6 +44,20 @@ pub(crate) fn bar_label(source: &Source, at: usize, depth: usize) -> Result<(), 
     ensures err { IfErr result (λ fault. IsRefusal (text_of source.now) fault (barred (text_of source.now) 6 at depth) at) }
 {
     if here(source, at).is_some_and(is_label) {
+        return Err(barred(source, at, 6, depth));
+    }
+    Ok(())
+}
+
+/// Refuses the label of a switch in the place of a switch's body (6.8.4.2), where so many levels are open.
+pub(crate) fn bar_body_label(source: &Source, at: usize, depth: usize) -> Result<(), ParseFault>
+    requires readable { IsReadable source.now }
+    requires at { at ≤ length source.now.tokens.now }
+    ensures ok { OnOk result ((c : Scopes) → passes (text_of source.now) c at label_start ≡ false) }
+    ensures stands { OnErr result ((c : Scopes) → passes (text_of source.now) c at label_start ≡ true) }
+    ensures err { IfErr result (λ fault. IsRefusal (text_of source.now) fault (barred (text_of source.now) 6 at depth) at) }
+{
+    if stands(source, at, Word::Case) || stands(source, at, Word::Default) {
         return Err(barred(source, at, 6, depth));
     }
     Ok(())

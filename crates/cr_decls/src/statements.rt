@@ -14,7 +14,7 @@ use crate::clauses::{clause, controlling, first_clause, last_clause, loop_parts,
 use crate::declarations::declaration;
 use crate::labels::{Labels, may_label};
 use crate::simple::simple;
-use crate::start::{bar_label, bar_statement};
+use crate::start::{bar_body_label, bar_label, bar_statement};
 use cr_exprs::{
     Found, Goal, Optional, ParseFault, Source, drop_scope, expect, over, pair, push, read, room,
     stands, starts_specifier, triple,
@@ -277,7 +277,7 @@ fn switch_rest(
     ensures placed { IfOk result (λ x. IsPlaced (length source.now.tokens.now) start nodes.old nodes.new [] x) }
 {
     let test = controlling(alloc, source, start + 1, depth, scopes, nodes)?;
-    bar_label(source, test.next, depth + 1)?;
+    bar_body_label(source, test.next, depth + 1)?;
     bar_statement(source, test.next, depth + 1, scopes)?;
     begin(alloc, scopes)?;
     let inner = compound(

@@ -144,7 +144,7 @@ is_pushed old new n next k q l f b s e =
     subst (λ x. IsPushed old x n.parts (record { node = k; next = next })) (sym q) (subst (λ x. IsPushed old (old ++ n ∷ []) n.parts (record { node = x; next = next })) (sym l) (pushed_last old n next f b s e))
 
 -- the order of the loose nodes is nothing to them
-kept_as : (tokens : ℕ) (ns : List Node) (a b : List ℕ) → ((k : ℕ) → times a k ≡ times b k) → AreKept tokens ns a → AreKept tokens ns b
+pub kept_as : (tokens : ℕ) (ns : List Node) (a b : List ℕ) → ((k : ℕ) → times a k ≡ times b k) → AreKept tokens ns a → AreKept tokens ns b
 kept_as tokens ns a b same h = record {
   within = h.within;
   named_once = λ k lt. omega (arith, h.named_once k lt, same k, times_append (names ns) a k, times_append (names ns) b k);

@@ -126,20 +126,20 @@ if_rest-returns-clause-placed t c = placed_push c.triple.new.nodes [] (c.in_ok-n
 pub switch_rest-returns-in_err-test-clause-reads : goal.switch_rest-returns-in_err-test-clause-reads
 switch_rest-returns-in_err-test-clause-reads t c = exit c.from_residual.result _ c.from_residual.ensures.1 (fails (c.in_err-test.ensures.reads _).is (λ x k h. h))
 
-pub switch_rest-returns-in_err-bar_label-clause-reads : goal.switch_rest-returns-in_err-bar_label-clause-reads
-switch_rest-returns-in_err-bar_label-clause-reads t c = exit c.from_residual-in_err-bar_label.result _ c.from_residual-in_err-bar_label.ensures.1 (stops c.in_err-bar_label.ensures.err ((c.in_ok-test.ensures.reads _).is.on _ (run_bar c.in_err-bar_label.ensures.stands)))
+pub switch_rest-returns-in_err-bar_body_label-clause-reads : goal.switch_rest-returns-in_err-bar_body_label-clause-reads
+switch_rest-returns-in_err-bar_body_label-clause-reads t c = exit c.from_residual-in_err-bar_body_label.result _ c.from_residual-in_err-bar_body_label.ensures.1 (stops c.in_err-bar_body_label.ensures.err ((c.in_ok-test.ensures.reads _).is.on _ (run_bar (c.in_err-bar_body_label.ensures.stands c.args.scopes.now))))
 
 pub switch_rest-returns-in_err-bar_statement-clause-reads : goal.switch_rest-returns-in_err-bar_statement-clause-reads
-switch_rest-returns-in_err-bar_statement-clause-reads t c = exit c.from_residual-in_err-bar_statement.result _ c.from_residual-in_err-bar_statement.ensures.1 (stops c.in_err-bar_statement.ensures.err ((c.in_ok-test.ensures.reads _).is.on _ (run_free c.in_ok-bar_label.ensures.ok (run_bar c.in_err-bar_statement.ensures.stands))))
+switch_rest-returns-in_err-bar_statement-clause-reads t c = exit c.from_residual-in_err-bar_statement.result _ c.from_residual-in_err-bar_statement.ensures.1 (stops c.in_err-bar_statement.ensures.err ((c.in_ok-test.ensures.reads _).is.on _ (run_free (c.in_ok-bar_body_label.ensures.ok c.args.scopes.now) (run_bar c.in_err-bar_statement.ensures.stands))))
 
 pub switch_rest-returns-in_err-begin-clause-reads : goal.switch_rest-returns-in_err-begin-clause-reads
 switch_rest-returns-in_err-begin-clause-reads t c = memory c.from_residual-in_err-begin.result c.from_residual-in_err-begin.ensures.1
 
 pub switch_rest-returns-in_err-inner-clause-reads : goal.switch_rest-returns-in_err-inner-clause-reads
-switch_rest-returns-in_err-inner-clause-reads t c = exit c.from_residual-in_err-inner.result _ c.from_residual-in_err-inner.ensures.1 (fails (c.in_err-inner.ensures.reads.is) (λ x k h. (c.in_ok-test.ensures.reads _).is.on _ (run_free c.in_ok-bar_label.ensures.ok (run_free c.in_ok-bar_statement.ensures.ok (run_look (run_set (run_fail (run_in c.in_ok-begin.ensures h))))))))
+switch_rest-returns-in_err-inner-clause-reads t c = exit c.from_residual-in_err-inner.result _ c.from_residual-in_err-inner.ensures.1 (fails (c.in_err-inner.ensures.reads.is) (λ x k h. (c.in_ok-test.ensures.reads _).is.on _ (run_free (c.in_ok-bar_body_label.ensures.ok c.args.scopes.now) (run_free c.in_ok-bar_statement.ensures.ok (run_look (run_set (run_fail (run_in c.in_ok-begin.ensures h))))))))
 
 pub switch_rest-returns-clause-reads : goal.switch_rest-returns-clause-reads
-switch_rest-returns-clause-reads t c = finish c.pair.new.nodes c.pair.result c.pair.ensures.err c.pair.ensures.next c.pair.ensures.tree (done_in (c.drop_scope-2.ensures ∙ ap m.around c.drop_scope.ensures) ((c.in_ok-test.ensures.reads _).is.on _ (run_free c.in_ok-bar_label.ensures.ok (run_free c.in_ok-bar_statement.ensures.ok (run_look (run_set (run_call (run_in c.in_ok-begin.ensures c.in_ok-inner.ensures.reads.is.run) (run_look (run_set (run_look (run_set (run_here (done_as (let e0 = tree_kept _ _ c.in_ok-test.test.node c.in_ok-inner.ensures.placed.keeps (omega (arith, c.in_ok-test.ensures.placed.last)) in cc) run_give)))))))))))))
+switch_rest-returns-clause-reads t c = finish c.pair.new.nodes c.pair.result c.pair.ensures.err c.pair.ensures.next c.pair.ensures.tree (done_in (c.drop_scope-2.ensures ∙ ap m.around c.drop_scope.ensures) ((c.in_ok-test.ensures.reads _).is.on _ (run_free (c.in_ok-bar_body_label.ensures.ok c.args.scopes.now) (run_free c.in_ok-bar_statement.ensures.ok (run_look (run_set (run_call (run_in c.in_ok-begin.ensures c.in_ok-inner.ensures.reads.is.run) (run_look (run_set (run_look (run_set (run_here (done_as (let e0 = tree_kept _ _ c.in_ok-test.test.node c.in_ok-inner.ensures.placed.keeps (omega (arith, c.in_ok-test.ensures.placed.last)) in cc) run_give)))))))))))))
 
 pub switch_rest-returns-clause-placed : goal.switch_rest-returns-clause-placed
 switch_rest-returns-clause-placed t c = placed_push c.pair.new.nodes [] (c.in_ok-inner.inner.node ∷ c.in_ok-test.test.node ∷ []) c.pair.result c.pair.ensures.ok c.pair.ensures.next (omega (arith, c.in_ok-test.ensures.placed.from, c.in_ok-inner.ensures.placed.from)) c.in_ok-inner.ensures.placed.to (keeps_all _ _ _ c.in_ok-test.ensures.placed.keeps c.in_ok-inner.ensures.placed.keeps) (λ loose h. c.in_ok-inner.ensures.placed.kept _ (c.in_ok-test.ensures.placed.kept loose h))
