@@ -29,6 +29,7 @@ pub mod MachineTypes
 pub mod MachineDeclarators
 pub mod MachineComplete
 pub mod MachineExtend
+pub mod MachineElsewhere
 pub mod MachineScopes
 pub mod MachineShown
 pub mod MachineFails

@@ -40,7 +40,7 @@ is_one (spells.init_declarator_alone s) = is_one s
 is_one (spells.parameter_declarator s) = is_one s
 is_one (spells.member_declarator s) = is_one s
 
-consts_forth : {ts : List Lexeme} {limit : Limit} {d i j : ℕ} → AreConst ts limit d i j → i ≤ j
+pub consts_forth : {ts : List Lexeme} {limit : Limit} {d i j : ℕ} → AreConst ts limit d i j → i ≤ j
 consts_forth const_none = omega arith
 consts_forth (const_more q w k) = let n = consts_forth k in omega arith
 
