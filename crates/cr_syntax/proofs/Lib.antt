@@ -35,6 +35,7 @@ pub mod MachineStatements
 pub mod MachineComplete
 pub mod MachineUnits
 pub mod MachineExtend
+pub mod MachineElsewhere
 pub mod MachineScopes
 pub mod MachineShown
 pub mod MachineFails
