@@ -43,6 +43,7 @@ pub mod MachineGrows
 pub mod MachineUnitGrows
 pub mod MachineViable
 pub mod MachineUnitViable
+pub mod MachineTurned
 pub mod MachineWays
 pub mod MachineMarks
 pub mod MachineForms
