@@ -37,6 +37,7 @@ pub mod MachineComplete
 pub mod MachineVariadic
 pub mod MachineUnitComplete
 pub mod MachineExtend
+pub mod MachineElsewhere
 pub mod MachineScopes
 pub mod MachineShown
 pub mod MachineFails
@@ -44,6 +45,7 @@ pub mod MachineGrows
 pub mod MachineUnitGrows
 pub mod MachineViable
 pub mod MachineUnitViable
+pub mod MachineTurned
 pub mod MachineWays
 pub mod MachineMarks
 pub mod MachineForms
