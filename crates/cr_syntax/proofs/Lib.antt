@@ -42,3 +42,12 @@ pub mod MachineWays
 pub mod MachineMarks
 pub mod MachineForms
 pub mod MachineUnused
+pub mod MachineLoose
+pub mod MachineUnitForms
+pub mod MachineTraces
+pub mod MachineLabels
+pub mod MachineDefinitions
+pub mod MachineBeside
+pub mod MachineApart
+pub mod MachineBodies
+pub mod MachineRefusals

@@ -1,5 +1,5 @@
--- A row of the refused forms that names a token behind a tree: the machine refuses the token there by that row.
-use Rattle.std.proofs.Common.{◌≡◌, ℕ, zero, suc, ◌+◌, ◌<◌, ◌≤◌, Bool, true, false, ◌&&◌, ◌||◌, ◌==◌, List, [], ◌∷◌, length, ◌⊎◌, inl, inr, ⊎_elim, refl, sym, ap, subst, ◌∙◌, arith}
+-- A row of the refused forms that names a token behind a tree, or where one begins: the machine refuses the token there by that row.
+use Rattle.std.proofs.Common.{◌≡◌, ℕ, zero, suc, ◌+◌, ◌<◌, ◌≤◌, Bool, true, false, ◌&&◌, ◌||◌, ◌==◌, List, [], ◌∷◌, length, Option, None, Some, ◌⊎◌, inl, inr, ⊎_elim, refl, sym, ap, subst, ◌∙◌, arith}
 use Rattle.std.specs.Prelude.{slice_get}
 use Rattle.std.proofs.lemmas.Bool.{eqb-true, eq-eqb, both_ways, and_from, or_parts, or_from, cases_Bool, cases_lt}
 use Rattle.cr_syntax.specs.declared.word.Word.{Word}
@@ -12,19 +12,21 @@ use Rattle.cr_syntax.specs.declared.symbol.Context.{Context}
 use Rattle.cr_syntax.specs.Words.{Lexeme}
 use Rattle.cr_syntax.specs.Scopes.{Scopes}
 use Rattle.cr_syntax.specs.Trees.{Trees, none, node, one, ◌&◌}
-use Rattle.cr_syntax.specs.Context.{fresh}
+use Rattle.cr_syntax.specs.Context.{fresh, past_part}
 use Rattle.cr_syntax.specs.Grammar.{inner_list, closing}
 use Rattle.cr_syntax.specs.Grammar as grammar
 use Rattle.cr_syntax.specs.Spells.{Limit, AtMost, Upto, Is, Spells, a, rest}
 use Rattle.cr_syntax.specs.Spells as spells
-use Rattle.cr_syntax.specs.Units.{most_levels, Has, has_here, has_inside, has_after, one_begins_at, one_ends_at, after_first, cast_operand_at, postfix_before, member_before}
-use Rattle.cr_syntax.specs.Machine.{Goal, Prog, Manner, Runs, Done, Allows, plain, opens, reopens, named, the, give, call, choose, bar, take, made, around, drops, run_give, run_take, run_pass, run_no, run_yes, run_here, run_call}
+use Rattle.cr_syntax.specs.Units.{most_levels, Has, has_here, has_inside, has_after, one_begins_at, one_ends_at, after_first, initializer_at, cast_operand_at, postfix_before, member_before, switch_body_at}
+use Rattle.cr_syntax.specs.Machine.{Goal, Prog, Manner, Runs, Done, Allows, passes, plain, opens, reopens, named, the, has, give, call, choose, bar, take, made, around, drops, run_give, run_take, run_pass, run_no, run_yes, run_here, run_call}
 use Rattle.cr_syntax.specs.Machine.{whole, expression, commas, assignment, conditional, operands, cast, unary, measured, postfix, called, grouped, texts, arguments, suffixes, type_name, row, more, element, structure, members, member, member_declarators, enumeration, enumerators, enumerator, consts, declarator, declarator_suffixes, abstract_suffixes, size, parameters, more_parameters, parameter}
+use Rattle.cr_syntax.specs.Machine.{unit, externals, external, declaration, init_declarators, initialized, initializer, initializers, statement, block, if_rest, switch_rest, while_rest, do_rest, for_rest, return_rest, for_clauses, clause, compound, items, item}
 use Rattle.cr_syntax.specs.Machine as m
-use Rattle.cr_syntax.specs.MachineBody.{body, assigned, operated, prefixed, suffixed, sized, other_primary, suffixes_end, other_element, array_start, member_end, Words, is_identifier, start_goal, tighter, assignment_operators, operators, unary_prefixes, cast_prefixes, constants, postfix_operators, specifier_words, row_kind, in_row, in_parameters}
+use Rattle.cr_syntax.specs.MachineBody.{body, assigned, operated, prefixed, suffixed, sized, other_primary, suffixes_end, other_element, array_start, member_end, declared_on, labelled, unlabelled, switch_body, is_designator, is_label, label_start, Words, is_identifier, start_goal, tighter, assignment_operators, operators, unary_prefixes, cast_prefixes, constants, postfix_operators, specifier_words, row_kind, in_row, in_parameters}
 use Rattle.cr_syntax.specs.MachineLaws.{IsStart}
+use Rattle.cr_syntax.specs.Reads.{same_word, is_word}
 use Rattle.cr_syntax.specs.Expressions.{Start, ShowsFrom, OutsideFrom, compound_literal, called_expression, bit_field, unused_keyword}
-use Rattle.cr_syntax.proofs.Tests.{both}
+use Rattle.cr_syntax.proofs.Tests.{both, some_one}
 use Rattle.cr_syntax.proofs.MachineRuns.{reach, same}
 use Rattle.cr_syntax.proofs.MachineEnds.{Way, barring, Ends, refused_so, end_pass, end_no, end_bar, end_here, end_look, end_set, end_behind, end_inside}
 use Rattle.cr_syntax.proofs.MachineSpells as facts
@@ -33,43 +35,88 @@ use Rattle.cr_syntax.proofs.MachineGives.{AllRows, no_rows, also, gives}
 use Rattle.cr_syntax.proofs.MachineKept.{Kept, runs_kept}
 use Rattle.cr_syntax.proofs.MachineMeans.{Means, IsDeclared, with_name, without, has_some}
 use Rattle.cr_syntax.proofs.MachineSound.{each, runs_sound, part_some}
-use Rattle.cr_syntax.proofs.MachineFirst.{none_true, yes, differs}
+use Rattle.cr_syntax.proofs.MachineFirst.{none_true, yes, differs, sorted}
 use Rattle.cr_syntax.proofs.MachineTasks as task
-use Rattle.cr_syntax.proofs.MachineBegins.{named_first, is_named}
+use Rattle.cr_syntax.proofs.MachineBegins.{named_first, is_named, or_left, or_right}
 use Rattle.cr_syntax.proofs.MachineDeclarators.{consts_go, named_const}
 use Rattle.cr_syntax.proofs.MachineComplete.{completes, spelled_is_read, free_at_end, get_some}
 use Rattle.cr_syntax.proofs.MachineWays.{Point, at, same_way}
 use Rattle.cr_syntax.proofs.MachineMarks.{Barred, barred_on, or_so, Marks, Behind, marks_choose, same_test, marked}
 
--- the brace of a compound literal, the bracket of a called expression, the colon of a bit-field
+-- The brace of a compound literal, the bracket of a called expression, the colon of a bit-field; the dot and the bracket of
+-- a designator; a label as the body of the switch that begins at token s. Two more name no token: a label or a switch, a definition.
 pub data Form : Type 0 where
   literal : Form
   calling : Form
   field : Form
+  dotted : Form
+  indexed : Form
+  case_body : ℕ → Form
+  default_body : ℕ → Form
+  some_label : Form
+  some_definition : Form
 
 abbrev pub row_of : Form → ℕ
 row_of literal = 3
 row_of calling = 4
 row_of field = 5
+row_of dotted = 2
+row_of indexed = 2
+row_of (case_body s) = 6
+row_of (default_body s) = 6
+row_of _ = 0
 
-abbrev pub token_of : Form → Word
-token_of literal = word.LeftBrace
-token_of calling = word.LeftParen
-token_of field = word.Colon
+abbrev pub token_of : Form → Option Word
+token_of literal = Some word.LeftBrace
+token_of calling = Some word.LeftParen
+token_of field = Some word.Colon
+token_of dotted = Some word.Dot
+token_of indexed = Some word.LeftBracket
+token_of (case_body s) = Some word.Case
+token_of (default_body s) = Some word.Default
+token_of _ = None
 
-abbrev is_literal : Form → Bool
+abbrev pub is_literal : Form → Bool
 is_literal literal = true
 is_literal _ = false
 
-abbrev is_calling : Form → Bool
+abbrev pub is_calling : Form → Bool
 is_calling calling = true
 is_calling _ = false
 
-abbrev is_field : Form → Bool
+abbrev pub is_field : Form → Bool
 is_field field = true
 is_field _ = false
 
--- a node behind which, or behind a part of which, the form's token stands
+abbrev pub is_designating : Form → Bool
+is_designating dotted = true
+is_designating indexed = true
+is_designating _ = false
+
+-- of the switch that begins at token i
+abbrev pub is_switching : Form → ℕ → Bool
+is_switching (case_body s) i = i == s
+is_switching (default_body s) i = i == s
+is_switching _ i = false
+
+abbrev pub is_labelling : Form → Bool
+is_labelling some_label = true
+is_labelling _ = false
+
+abbrev pub is_defining : Form → Bool
+is_defining some_definition = true
+is_defining _ = false
+
+-- statements, and units, are asked for the form's mark
+abbrev pub asks_block : Form → Bool
+asks_block some_label = false
+asks_block _ = true
+
+abbrev pub asks_unit : Form → Bool
+asks_unit some_definition = false
+asks_unit r = asks_block r
+
+-- a node behind which, or behind a part of which, the form's token stands, or a part of which begins with it
 abbrev pub mark : Form → ℕ → Kind → ℕ → ℕ → Trees → Bool
 mark r k kind.Cast i j b = is_literal r && one_begins_at k (after_first b)
 mark r k kind.Call i j b = is_calling r && (j == k)
@@ -83,20 +130,41 @@ mark r k kind.Character i j b = is_calling r && (j == k)
 mark r k kind.Text i j b = is_calling r && (j == k)
 mark r k kind.Group i j b = is_calling r && (j == k)
 mark r k kind.MemberDeclaration i j b = is_field r && one_ends_at k (after_first b)
+mark r k kind.InitDeclarator i j b = is_designating r && one_begins_at k (after_first b)
+mark r k kind.InitializerList i j b = is_designating r && one_begins_at k b
+mark r k kind.Switch i j b = is_labelling r || is_switching r i && one_begins_at k (after_first b)
+mark r k kind.Case i j b = is_labelling r
+mark r k kind.Default i j b = is_labelling r
+mark r k kind.FunctionDefinition i j b = is_defining r
 mark r k _ i j b = false
 
 -- Each form's test is the one of its row.
 
-has_all : {test other : Kind → ℕ → ℕ → Trees → Bool} {t : Trees} → ((l : Kind) (i j : ℕ) (b : Trees) → test l i j b ≡ true → other l i j b ≡ true) → Has test t → Has other t
+pub has_all : {test other : Kind → ℕ → ℕ → Trees → Bool} {t : Trees} → ((l : Kind) (i j : ℕ) (b : Trees) → test l i j b ≡ true → other l i j b ≡ true) → Has test t → Has other t
 has_all f (has_here {k = l} {i = i} {j = j} {a = b} q) = has_here (f l i j b q)
 has_all f (has_inside h) = has_inside (has_all f h)
 has_all f (has_after h) = has_after (has_all f h)
 
-literal_mark : (k : ℕ) (l : Kind) (i j : ℕ) (b : Trees) → cast_operand_at k l i j b ≡ true → mark literal k l i j b ≡ true
+-- trees without such a node
+pub lacks_none : {test : Kind → ℕ → ℕ → Trees → Bool} → Has test none → ⊥
+lacks_none h = elim h [ ]
+
+pub lacks_and : {test : Kind → ℕ → ℕ → Trees → Bool} (t u : Trees) → (Has test t → ⊥) → (Has test u → ⊥) → Has test (t & u) → ⊥
+lacks_and none u x y h = y h
+lacks_and (node l i j b n) u x y (has_here q) = x (has_here q)
+lacks_and (node l i j b n) u x y (has_inside h) = x (has_inside h)
+lacks_and (node l i j b n) u x y (has_after h) = lacks_and n u (λ h'. x (has_after h')) y h
+
+pub lacks_one : {test : Kind → ℕ → ℕ → Trees → Bool} {l : Kind} {i j : ℕ} {b : Trees} → test l i j b ≡ false → (Has test b → ⊥) → Has test (one l i j b) → ⊥
+lacks_one {test = test} {l = l} {i = i} {j = j} {b = b} n x (has_here q) = both_ways (test l i j b) n q
+lacks_one n x (has_inside h) = x h
+lacks_one n x (has_after h) = lacks_none h
+
+pub literal_mark : (k : ℕ) (l : Kind) (i j : ℕ) (b : Trees) → cast_operand_at k l i j b ≡ true → mark literal k l i j b ≡ true
 literal_mark k kind.Cast i j b q = q
 literal_mark k _ i j b q = none_true q
 
-calling_mark : (k : ℕ) (l : Kind) (i j : ℕ) (b : Trees) → postfix_before k l i j b ≡ true → mark calling k l i j b ≡ true
+pub calling_mark : (k : ℕ) (l : Kind) (i j : ℕ) (b : Trees) → postfix_before k l i j b ≡ true → mark calling k l i j b ≡ true
 calling_mark k kind.Call i j b q = q
 calling_mark k kind.Subscript i j b q = q
 calling_mark k kind.Member i j b q = q
@@ -109,25 +177,53 @@ calling_mark k kind.Text i j b q = q
 calling_mark k kind.Group i j b q = q
 calling_mark k _ i j b q = none_true q
 
-field_mark : (k : ℕ) (l : Kind) (i j : ℕ) (b : Trees) → member_before k l i j b ≡ true → mark field k l i j b ≡ true
+pub field_mark : (k : ℕ) (l : Kind) (i j : ℕ) (b : Trees) → member_before k l i j b ≡ true → mark field k l i j b ≡ true
 field_mark k kind.MemberDeclaration i j b q = q
 field_mark k _ i j b q = none_true q
 
-literal_facts : (r : Form) → is_literal r ≡ true → (token_of r ≡ word.LeftBrace) × (3 ≡ row_of r)
+pub designator_mark : (r : Form) → is_designating r ≡ true → (k : ℕ) (l : Kind) (i j : ℕ) (b : Trees) → initializer_at k l i j b ≡ true → mark r k l i j b ≡ true
+designator_mark r n k kind.InitDeclarator i j b q = and_from (is_designating r) (one_begins_at k (after_first b)) n q
+designator_mark r n k kind.InitializerList i j b q = and_from (is_designating r) (one_begins_at k b) n q
+designator_mark r n k _ i j b q = none_true q
+
+pub switch_mark : (r : Form) (s : ℕ) → ((i : ℕ) → is_switching r i ≡ (i == s)) → (k : ℕ) (l : Kind) (i j : ℕ) (b : Trees) → switch_body_at s k l i j b ≡ true → mark r k l i j b ≡ true
+switch_mark r s f k kind.Switch i j b q = or_right (is_labelling r) (is_switching r i && one_begins_at k (after_first b)) (subst (λ x. x && one_begins_at k (after_first b) ≡ true) (sym (f i)) q)
+switch_mark r s f k _ i j b q = none_true q
+
+literal_facts : (r : Form) → is_literal r ≡ true → (token_of r ≡ Some word.LeftBrace) × (3 ≡ row_of r)
 literal_facts literal q = (refl, refl)
 literal_facts _ q = none_true q
 
-calling_facts : (r : Form) → is_calling r ≡ true → (token_of r ≡ word.LeftParen) × (4 ≡ row_of r)
+calling_facts : (r : Form) → is_calling r ≡ true → (token_of r ≡ Some word.LeftParen) × (4 ≡ row_of r)
 calling_facts calling q = (refl, refl)
 calling_facts _ q = none_true q
 
-field_facts : (r : Form) → is_field r ≡ true → (token_of r ≡ word.Colon) × (5 ≡ row_of r)
+field_facts : (r : Form) → is_field r ≡ true → (token_of r ≡ Some word.Colon) × (5 ≡ row_of r)
 field_facts field q = (refl, refl)
 field_facts _ q = none_true q
 
+designator_facts : (r : Form) → is_designating r ≡ true → (w : Word) × (token_of r ≡ Some w) × (2 ≡ row_of r) × (is_designator w ≡ true) × (same_word w word.RightBrace ≡ false)
+designator_facts dotted q = (word.Dot, refl, refl, refl, refl)
+designator_facts indexed q = (word.LeftBracket, refl, refl, refl, refl)
+designator_facts _ q = none_true q
+
+switching_facts : (r : Form) (s : ℕ) → is_switching r s ≡ true → (w : Word) × (token_of r ≡ Some w) × (6 ≡ row_of r) × (is_label w ≡ true)
+switching_facts (case_body s') s q = (word.Case, refl, refl, refl)
+switching_facts (default_body s') s q = (word.Default, refl, refl, refl)
+switching_facts _ s q = none_true q
+
+no_labelling : (r : Form) → asks_block r ≡ true → is_labelling r ≡ false
+no_labelling some_label q = none_true q
+no_labelling _ q = refl
+
+unit_facts : (r : Form) → asks_unit r ≡ true → (asks_block r ≡ true) × (is_defining r ≡ false)
+unit_facts some_definition q = none_true q
+unit_facts some_label q = none_true q
+unit_facts _ q = (refl, refl)
+
 -- Kinds that bear no mark, and those of postfix expressions that do.
 
-abbrev is_unmarked : Kind → Bool
+abbrev pub is_unmarked : Kind → Bool
 is_unmarked kind.Cast = false
 is_unmarked kind.Call = false
 is_unmarked kind.Subscript = false
@@ -140,9 +236,15 @@ is_unmarked kind.Character = false
 is_unmarked kind.Text = false
 is_unmarked kind.Group = false
 is_unmarked kind.MemberDeclaration = false
+is_unmarked kind.InitDeclarator = false
+is_unmarked kind.InitializerList = false
+is_unmarked kind.Switch = false
+is_unmarked kind.Case = false
+is_unmarked kind.Default = false
+is_unmarked kind.FunctionDefinition = false
 is_unmarked _ = true
 
-abbrev is_joined : Kind → Bool
+abbrev pub is_joined : Kind → Bool
 is_joined kind.Call = true
 is_joined kind.Subscript = true
 is_joined kind.Member = true
@@ -168,6 +270,12 @@ unmarked r k kind.Character q i j b = none_true q
 unmarked r k kind.Text q i j b = none_true q
 unmarked r k kind.Group q i j b = none_true q
 unmarked r k kind.MemberDeclaration q i j b = none_true q
+unmarked r k kind.InitDeclarator q i j b = none_true q
+unmarked r k kind.InitializerList q i j b = none_true q
+unmarked r k kind.Switch q i j b = none_true q
+unmarked r k kind.Case q i j b = none_true q
+unmarked r k kind.Default q i j b = none_true q
+unmarked r k kind.FunctionDefinition q i j b = none_true q
 unmarked r k _ q i j b = refl
 
 joined : (r : Form) (k : ℕ) (l : Kind) → is_joined l ≡ true → (i j : ℕ) (b : Trees) → (mark r k l i j b ≡ is_calling r && (j == k)) × (is_identifier (one l i j b) ≡ false)
@@ -214,11 +322,11 @@ row_unmarked _ = refl
 
 -- Which of a row's trees begin or end at a token.
 
-or_none : (b : Bool) → b || false ≡ b
+pub or_none : (b : Bool) → b || false ≡ b
 or_none true = refl
 or_none false = refl
 
-begins_second : (k : ℕ) {l l' : Kind} {s e i j : ℕ} {b b' t u : Trees} → t ≡ one l s e b → u ≡ one l' i j b' → one_begins_at k (after_first (t & u & none)) ≡ (i == k)
+pub begins_second : (k : ℕ) {l l' : Kind} {s e i j : ℕ} {b b' t u : Trees} → t ≡ one l s e b → u ≡ one l' i j b' → one_begins_at k (after_first (t & u & none)) ≡ (i == k)
 begins_second k {i = i} {u = u} q q' =
     subst (λ x. one_begins_at k (after_first (x & u & none)) ≡ (i == k)) (sym q) (subst (λ y. one_begins_at k (y & none) ≡ (i == k)) (sym q') (or_none (i == k)))
 
@@ -229,6 +337,33 @@ ends_nowhere k (node l i j b n) u x y = let v = or_parts (j == k) (one_ends_at k
 ends_later : (k : ℕ) (t u : Trees) → has_some t ≡ true → one_ends_at k (after_first t) ≡ false → one_ends_at k u ≡ false → one_ends_at k (after_first (t & u)) ≡ false
 ends_later k none u q x y = cc
 ends_later k (node l i j b n) u q x y = ends_nowhere k n u x y
+
+begins_nowhere : (k : ℕ) (t u : Trees) → one_begins_at k t ≡ false → one_begins_at k u ≡ false → one_begins_at k (t & u) ≡ false
+begins_nowhere k none u x y = y
+begins_nowhere k (node l i j b n) u x y = let v = or_parts (i == k) (one_begins_at k n) x in or_from (i == k) (one_begins_at k (n & u)) v.0 (begins_nowhere k n u v.1 y)
+
+-- an initializer more in a list
+begins_more : (f : Bool) (k : ℕ) (t : Trees) {l : Kind} {i j : ℕ} {b u : Trees} → f && one_begins_at k t ≡ false → u ≡ one l i j b → f && (i == k) ≡ false → f && one_begins_at k (t & u & none) ≡ false
+begins_more false k t x e y = refl
+begins_more true k t {i = i} {u = u} x e y = begins_nowhere k t (u & none) x (subst (λ z. one_begins_at k (z & none) ≡ false) (sym e) (or_from (i == k) false y refl))
+
+begins_none : (f : Bool) (k : ℕ) → f && one_begins_at k none ≡ false
+begins_none true k = refl
+begins_none false k = refl
+
+-- a tree alone, and one that begins at token i
+pub record IsOne (t : Trees) : Type 0 where
+  pub kind : Kind
+  pub first : ℕ
+  pub past : ℕ
+  pub parts : Trees
+  pub is : t ≡ one kind first past parts
+
+pub record Begun (i : ℕ) (t : Trees) : Type 0 where
+  pub kind : Kind
+  pub past : ℕ
+  pub parts : Trees
+  pub is : t ≡ one kind i past parts
 
 some_more : (t u : Trees) → has_some t ≡ true → has_some (t & u & none) ≡ true
 some_more none u q = cc
@@ -249,19 +384,19 @@ module _ (r : Form) (k : ℕ) where
   abbrev pub Clean : Trees → Type 0
   Clean t = Has (mark r k) t → ⊥
 
-  clean_none : Clean none
+  pub clean_none : Clean none
   clean_none h = elim h [ ]
 
-  clean_and : (t u : Trees) → Clean t → Clean u → Clean (t & u)
+  pub clean_and : (t u : Trees) → Clean t → Clean u → Clean (t & u)
   clean_and none u x y h = y h
   clean_and (node l i j b n) u x y (has_here q) = x (has_here q)
   clean_and (node l i j b n) u x y (has_inside h) = x (has_inside h)
   clean_and (node l i j b n) u x y (has_after h) = clean_and n u (λ h'. x (has_after h')) y h
 
-  clean_alone : {t : Trees} → Clean t → Clean (t & none)
+  pub clean_alone : {t : Trees} → Clean t → Clean (t & none)
   clean_alone {t = t} x = clean_and t none x clean_none
 
-  clean_two : {t u : Trees} → Clean t → Clean u → Clean (t & u & none)
+  pub clean_two : {t u : Trees} → Clean t → Clean u → Clean (t & u & none)
   clean_two {t = t} {u = u} x y = clean_and t (u & none) x (clean_alone {t = u} y)
 
   clean_by : {l : Kind} {i j : ℕ} {b : Trees} → mark r k l i j b ≡ false → Clean b → Clean (one l i j b)
@@ -269,7 +404,7 @@ module _ (r : Form) (k : ℕ) where
   clean_by n x (has_inside h) = x h
   clean_by n x (has_after h) = clean_none h
 
-  clean_one : {l : Kind} {i j : ℕ} {b : Trees} → is_unmarked l ≡ true → Clean b → Clean (one l i j b)
+  pub clean_one : {l : Kind} {i j : ℕ} {b : Trees} → is_unmarked l ≡ true → Clean b → Clean (one l i j b)
   clean_one {l = l} {i = i} {j = j} {b = b} q x = clean_by (unmarked r k l q i j b) x
 
   clean_row : (p : Part) (s e : ℕ) (t : Trees) → Clean t → Clean (in_row p s e t)
@@ -303,6 +438,24 @@ module _ (r : Form) (k : ℕ) where
   Unmarked (declarator_suffixes d s x) c i t e j = Clean x → Clean t
   Unmarked (abstract_suffixes d s x) c i t e j = Clean x → Clean t
   Unmarked (more_parameters d s x) c i t e j = Clean x → Clean t
+  Unmarked (unit l d) c i t e j = asks_unit r ≡ true → Clean t
+  Unmarked (externals l d x) c i t e j = Clean x → asks_unit r ≡ true → Clean t
+  Unmarked (external l d) c i t e j = asks_unit r ≡ true → Clean t
+  Unmarked (init_declarators h d s x) c i t e j = Clean x → Clean t
+  Unmarked (initialized d q x) c i t e j = Clean x → IsOne x → Clean t
+  Unmarked (initializer d) c i t e j = Clean t × Begun i t
+  Unmarked (initializers d s x) c i t e j = (Clean x → is_designating r && one_begins_at k x ≡ false → is_designating r && (i == k) ≡ false → Clean t) × Begun s t
+  Unmarked (statement l d) c i t e j = asks_block r ≡ true → Clean t
+  Unmarked (block l d) c i t e j = asks_block r ≡ true → Clean t
+  Unmarked (if_rest l d s) c i t e j = asks_block r ≡ true → Clean t
+  Unmarked (switch_rest l d s) c i t e j = asks_block r ≡ true → Clean t
+  Unmarked (while_rest l d s) c i t e j = asks_block r ≡ true → Clean t
+  Unmarked (do_rest l d s) c i t e j = asks_block r ≡ true → Clean t
+  Unmarked (for_rest l d s) c i t e j = asks_block r ≡ true → Clean t
+  Unmarked (for_clauses l d s x) c i t e j = Clean x → asks_block r ≡ true → Clean t
+  Unmarked (compound l d) c i t e j = (asks_block r ≡ true → Clean t) × Begun i t
+  Unmarked (items l d s x) c i t e j = (Clean x → asks_block r ≡ true → Clean t) × Begun s t
+  Unmarked (item l d) c i t e j = asks_block r ≡ true → Clean t
   Unmarked g c i t e j = Clean t
 
   clean_start : (p : Part) (d : ℕ) (c : Scopes) (i : ℕ) (t : Trees) (e : Scopes) (j : ℕ) → Unmarked (start_goal p d) c i t e j → Clean t
@@ -327,7 +480,7 @@ arguments_later : {ts : List Lexeme} {limit : Limit} {h : Context} {c e : Scopes
 arguments_later (spells.list_last x (spells.token q w s)) = let n = forth x in let n' = forth s in omega arith
 arguments_later (spells.list_more x q w s) = let n = forth x in let n' = arguments_later s in omega arith
 
-direct_later : {ts : List Lexeme} {limit : Limit} {h : Context} {c e : Scopes} {d i j : ℕ} {t : Trees} → Spells ts limit (a part.DirectDeclarator) h c e d t i j → i < j
+pub direct_later : {ts : List Lexeme} {limit : Limit} {h : Context} {c e : Scopes} {d i j : ℕ} {t : Trees} → Spells ts limit (a part.DirectDeclarator) h c e d t i j → i < j
 direct_later (spells.of_chain x f s) = elim x [ ]
 direct_later (spells.of_alternative grammar.name_declarator f (spells.declared q g w s)) = let n = forth s in omega arith
 direct_later (spells.of_alternative grammar.group_declarator f (spells.opens q w s)) = let n = forth s in omega arith
@@ -348,7 +501,7 @@ before_colon {ts = ts} {limit = limit} {h = h} {c = c} {e = e} {d = d} {i = i} {
     (run_here (run_take (yes q') v (run_call (consts_go ts limit x (named_const (named_first facts.by_declarator s)))
     (run_no refl (run_call (before_colon s q) (run_yes (is_named facts.by_declarator s) (run_here run_give)))))))
 
-module _ (ts us : List Lexeme) (limit top : Limit) (r : Form) (k : ℕ) (stands : Is ts k (token_of r))
+module _ (ts us : List Lexeme) (limit top : Limit) (r : Form) (k : ℕ) (stands : (w : Word) → token_of r ≡ Some w → Is ts k w)
     (alike : (n : ℕ) → n < k → slice_get us n ≡ slice_get ts n)
     (allowed : (g : Manner) (n d : ℕ) → n < k → Allows limit g n d → Allows top g n d) where
   abbrev Owes : Prog → (Trees → Scopes → ℕ → Type 0) → Scopes → ℕ → Type 0
@@ -373,8 +526,8 @@ module _ (ts us : List Lexeme) (limit top : Limit) (r : Form) (k : ℕ) (stands 
       (λ n lt. sym (alike n (omega arith))) (λ x n d lt w. allowed x n d (omega arith) w) (each ts top g c i)
 
   -- the form's token, where its row is known
-  at_token : {i : ℕ} (w : Word) → token_of r ≡ w → i ≡ k → Is ts i w
-  at_token {i = i} w q e = subst (λ j. Is ts j w) (sym e) (subst (λ v. Is ts k v) q stands)
+  at_token : {i : ℕ} (w : Word) → token_of r ≡ Some w → i ≡ k → Is ts i w
+  at_token {i = i} w q e = subst (λ j. Is ts j w) (sym e) (stands w q)
 
   ends_at : {p : Prog} {c : Scopes} {i : ℕ} (n : ℕ) (x : m.Test) (d : ℕ) → n ≡ row_of r → i ≡ k → Ends body ts top p c i (barring x n d) i → Bars p c i
   ends_at {p = p} {c = c} {i = i} n x d q e z =
@@ -465,6 +618,108 @@ module _ (ts us : List Lexeme) (limit top : Limit) (r : Form) (k : ℕ) (stands 
         (inl (λ q o f. clean_by r k (declares_more (is_field r) k x o f w.2 z) (clean_two r k q y)), tt),
       ))
       (cases_Bool (is_field r && (j == k)))
+
+  -- An initializer, which begins here.
+
+  designates : (d : ℕ) (f : Trees → Prog) (c : Scopes) (i : ℕ) → is_designating r ≡ true → i ≡ k → Bars (call (initializer d) f) c i
+  designates d f c i y e =
+      let w = designator_facts r y in
+      ends_at 2 (has is_designator) d w.2 e (end_inside (end_here (end_bar (sorted is_designator true (at_token w.0 w.1 e) w.3))))
+
+  or_designates : (i : ℕ) {A B : Type 0} → (is_designating r ≡ true → i ≡ k → B) → (is_designating r && (i == k) ≡ false → A) → A ⊎ B
+  or_designates i f g = ⊎_elim (λ y. let v = both (is_designating r) (i == k) y in inr (f v.0 (eqb-true i k v.1))) (λ y. inl (g y)) (cases_Bool (is_designating r && (i == k)))
+
+  initial_owes : (d q : ℕ) (x : Trees) (c : Scopes) (i : ℕ) →
+      There (call (initializer d) (λ t. made kind.InitDeclarator q (x & t & none))) (λ t e j. Clean r k x → IsOne x → Clean r k t) c i
+  initial_owes d q x c i = or_designates i (λ y e. (omega arith, designates d _ c i y e))
+      (λ y t e j _ _ z. inl (λ v o. clean_by r k ((ap (λ b. is_designating r && b) (begins_second k o.is z.1.is)) ∙ y) (clean_two r k v z.0)))
+
+  begun_list : (s p : ℕ) (b : Trees) → Begun s (one kind.InitializerList s p b)
+  begun_list s p b = record { kind = kind.InitializerList; past = p; parts = b; is = refl }
+
+  list_owes : (d s : ℕ) (c : Scopes) (i : ℕ) → There (call (initializers d s none) give) (λ t e j. Clean r k t × Begun s t) c i
+  list_owes d s c i = or_designates i (λ y e. (omega arith, barred_on (designates (d + 1) _ c i y e) (λ x n z. end_inside z)))
+      (λ y t e j _ _ z. inl (z.0 (clean_none r k) (begins_none (is_designating r) k) y, z.1))
+
+  initializers_owe : (d s : ℕ) (x : Trees) (c : Scopes) (i : ℕ) → Owes (body (initializers d s x)) (Unmarked r k (initializers d s x) c i) c i
+  initializers_owe d s x c i = λ t e j _ _ z. inl (
+    or_designates (j + 1) (λ y e'. (omega arith, barred_on (designates (d + 1) _ e (j + 1) y e') (λ x' n z'. let w = designator_facts r y in end_pass (differs (at_token w.0 w.1 e') word.RightBrace w.4) (end_inside z'))))
+        (λ y. (
+          inl (λ v b o. clean_by r k (begins_more (is_designating r) k x b z.1.is o) (clean_two r k v z.0), begun_list s (j + 1 + 1) (x & t & none)),
+          λ t' e' j' _ _ z'. inl (λ v b o. z'.0 (clean_two r k v z.0) (begins_more (is_designating r) k x b z.1.is o) y, z'.1),
+        )),
+    (inl (λ v b o. clean_by r k (begins_more (is_designating r) k x b z.1.is o) (clean_two r k v z.0), begun_list s (j + 1) (x & t & none)), tt),
+  )
+
+  -- A declarator in a declaration, which has an initializer or none.
+
+  pub declarator_alone : {h : Context} {d i j : ℕ} {c e : Scopes} {t : Trees} → Reads (declarator named h d) c i t e j → IsOne t
+  declarator_alone {h = h} {d = d} {i = i} {j = j} {c = c} {e = e} {t = t} g =
+      let w = declarator_one (runs_sound (declarator named h d) c e i j t g) in record { kind = w.0; first = i; past = j; parts = w.1; is = w.2 }
+
+  declared_owes : (h : Context) (d s : ℕ) (x : Trees) (q : ℕ) (y : Trees) (c : Scopes) (i : ℕ) (f : Trees → Scopes → ℕ → Type 0) → Clean r k y → IsOne y →
+      ((t : Trees) (e : Scopes) (j : ℕ) → (Clean r k x → Clean r k t) → f t e j) → Owes (declared_on h d s x q y) f c i
+  declared_owes h d s x q y c i f v o g = λ t e j _ _ z. let w = z v o in inl (
+    inl (λ t' e' j' _ _ z'. inl (g t' e' j' (λ u. z' (clean_two r k u w)))),
+    (inl (g (one kind.Declaration s (j + 1) (x & t & none)) e (j + 1) (λ u. clean_one r k refl (clean_two r k u w))), tt),
+  )
+
+  -- The body of a switch, which begins here.
+
+  label_passes : (c : Scopes) (i : ℕ) (w : Word) → is_label w ≡ true → Is ts i w → passes ts c i label_start ≡ true
+  label_passes c i word.Case l q = or_left (is_word ts i word.Case) (is_word ts i word.Default) (yes q)
+  label_passes c i word.Default l q = or_right (is_word ts i word.Case) (is_word ts i word.Default) (yes q)
+  label_passes c i _ l q = none_true l
+
+  switches : (l : m.Labels) (d s : ℕ) (x : Trees) (c : Scopes) (i : ℕ) → is_switching r s ≡ true → i ≡ k → Bars (switch_body l d s x) c i
+  switches l d s x c i y e = let w = switching_facts r s y in ends_at 6 label_start (d + 1) w.2 e (end_bar (label_passes c i w.0 w.3 (at_token w.0 w.1 e)))
+
+  switch_owes : (l : m.Labels) (d s : ℕ) (x : Trees) (c : Scopes) (i : ℕ) {l' : Kind} {s' e' : ℕ} {b : Trees} → x ≡ one l' s' e' b → Clean r k x →
+      There (switch_body l d s x) (λ t e j. asks_block r ≡ true → Clean r k t) c i
+  switch_owes l d s x c i q z = ⊎_elim
+      (λ y. let v = both (is_switching r s) (i == k) y in let e : i ≡ k = eqb-true i k v.1 in inr (omega arith, switches l d s x c i v.0 e))
+      (λ y. inl (λ t e j _ _ z'. inl (λ o. clean_by r k
+      (or_from (is_labelling r) (is_switching r s && one_begins_at k (after_first (x & t & none))) (no_labelling r o) ((ap (λ b. is_switching r s && b) (begins_second k q z'.1.is)) ∙ y))
+      (clean_two r k z (z'.0 o)))))
+      (cases_Bool (is_switching r s && (i == k)))
+
+  -- Statements.
+
+  unlabelled_owes : (l : m.Labels) (d s : ℕ) (c : Scopes) (i : ℕ) → Owes (unlabelled l d s) (λ t e j. asks_block r ≡ true → Clean r k t) c i
+  unlabelled_owes l d s c i = (
+    λ t e j _ _ x. inl x.0,
+    (
+      inl (λ t e j _ _ x. inl x),
+      (
+        inl (λ t e j _ _ x. inl x),
+        (
+          inl (λ t e j _ _ x. inl x),
+          (
+            inl (λ t e j _ _ x. inl x),
+            (
+              inl (λ t e j _ _ x. inl x),
+              (
+                inl (inl (λ o. clean_one r k refl (clean_none r k)), tt),
+                (
+                  inl (inl (λ o. clean_one r k refl (clean_none r k)), tt),
+                  (
+                    inl (λ t e j _ _ x. inl (λ o. x)),
+                    (inl (λ o. clean_one r k refl (clean_none r k)), λ t e j _ _ x. inl (inl (λ o. clean_one r k refl (clean_alone r k x)), tt)),
+                  ),
+                ),
+              ),
+            ),
+          ),
+        ),
+      ),
+    ),
+  )
+
+  labelled_owes : (l : m.Labels) (d s : ℕ) (c : Scopes) (i : ℕ) → Owes (labelled l d s (unlabelled l d s)) (λ t e j. asks_block r ≡ true → Clean r k t) c i
+  labelled_owes l d s c i = (
+    inl (λ t e j _ _ x. inl (inl (λ t' e' j' _ _ x'. inl (λ o. clean_by r k (no_labelling r o) (clean_two r k x (x' o)))), tt)),
+    (inl (inl (λ t e j _ _ x. inl (λ o. clean_by r k (no_labelling r o) (clean_alone r k (x o)))), tt), unlabelled_owes l d s c i),
+  )
 
   -- What the goals owe.
 
@@ -604,9 +859,90 @@ module _ (ts us : List Lexeme) (limit top : Limit) (r : Form) (k : ℕ) (stands 
     λ t' e' j' _ _ x'. inl (λ u. clean_one r k refl (clean_two r k x x'), λ u. clean_one r k refl (clean_two r k x x')),
     x,
   )
+  owes (unit l d) c i = λ t e j _ _ x. inl (λ t' e' j' _ _ x'. inl (λ o. x' (clean_alone r k (x o)) o))
+  owes (externals l d y) c i = (λ t e j _ _ x. inl (λ t' e' j' _ _ x'. inl (λ q o. x' (clean_two r k q (x o)) o)), λ q o. q)
+  owes (external l d) c i = λ t e j _ _ x. inl (
+    inl (λ o. clean_one r k refl (clean_alone r k x)),
+    λ t' e' j' _ g x'. inl (
+      (λ u t'' e'' j'' _ _ x''. inl (λ o. let w = unit_facts r o in clean_by r k w.1 (clean_and r k t (t' & t'' & none) x (clean_two r k x' (x''.0 w.0)))), λ u. tt),
+      declared_owes (past_part fresh t) d i (t & none) j t' e' j' (Unmarked r k (external l d) c i) x' (declarator_alone g) (λ u e j z o. z (clean_alone r k x)),
+    ),
+  )
+  owes (declaration d) c i = λ t e j _ _ x. inl (inl (clean_one r k refl (clean_alone r k x)), λ t' e' j' _ _ x'. inl (x' (clean_alone r k x)))
+  owes (init_declarators h d s y) c i = λ t e j _ g x. inl (declared_owes h d s y i t e j (Unmarked r k (init_declarators h d s y) c i) x (declarator_alone g) (λ u e j z. z))
+  owes (initialized d q y) c i = (initial_owes d q y c (i + 1), λ v o. v)
+  owes (initializer d) c i = (
+    list_owes d i c (i + 1),
+    λ t e j _ g x. inl (x, let w = is_one (runs_sound (assignment d) c e i j t g fresh) in record { kind = w.0; past = j; parts = w.1; is = w.2 }),
+  )
+  owes (initializers d s y) c i = initializers_owe d s y c i
+  owes (statement l d) c i = (λ u. labelled_owes l d i c i, λ u. unlabelled_owes l d i c i)
+  owes (block l d) c i = λ t e j _ _ x. inl x
+  owes (if_rest l d s) c i = (
+    inl (λ t e j _ _ x. inl (
+      inl (λ t' e' j' _ _ x'. inl (
+        λ u o. clean_one r k refl (clean_two r k x (x' o)),
+        λ u. (
+          inl (λ t'' e'' j'' _ _ x''. inl (λ o. clean_one r k refl (clean_and r k t (t' & t'' & none) x (clean_two r k (x' o) (x'' o))))),
+          λ o. clean_one r k refl (clean_two r k x (x' o)),
+        ),
+      )),
+      tt,
+    )),
+    tt,
+  )
+  owes (switch_rest l d s) c i = (
+    inl (λ t e j _ g x. inl (switch_owes l d s t e (j + 1) (is_one (runs_sound (expression (d + 1)) ([] ∷ c) e (i + 1) j t g fresh)).2 x, tt)),
+    tt,
+  )
+  owes (while_rest l d s) c i = (inl (λ t e j _ _ x. inl (inl (λ t' e' j' _ _ x'. inl (λ o. clean_one r k refl (clean_two r k x (x' o)))), tt)), tt)
+  owes (do_rest l d s) c i = λ t e j _ _ x. inl (
+    inl (inl (λ t' e' j' _ _ x'. inl (inl (inl (λ o. clean_one r k refl (clean_two r k (x o) x')), tt), tt)), tt),
+    tt,
+  )
+  owes (for_rest l d s) c i = (
+    inl (
+      λ t e j _ _ x. inl (λ t' e' j' _ _ x'. inl (λ o. x' (clean_alone r k x) o)),
+      λ t e j _ _ x. inl (λ t' e' j' _ _ x'. inl (λ o. x' x o)),
+    ),
+    tt,
+  )
+  owes (return_rest d s) c i = (inl (clean_one r k refl (clean_none r k)), λ t e j _ _ x. inl (inl (clean_one r k refl (clean_alone r k x)), tt))
+  owes (for_clauses l d s y) c i = λ t e j _ _ x. inl (
+    inl (λ t' e' j' _ _ x'. inl (λ q o. clean_one r k refl (clean_and r k (y & t) (t' & none) (clean_and r k y t q x) (clean_alone r k (x' o))))),
+    λ t' e' j' _ _ x'. inl (
+      inl (λ t'' e'' j'' _ _ x''. inl (λ q o. clean_one r k refl (clean_and r k (y & t & t' & none) (t'' & none) (clean_and r k y (t & t' & none) q (clean_two r k x x')) (clean_alone r k (x'' o))))),
+      tt,
+    ),
+  )
+  owes (clause d) c i = (inl (clean_none r k), λ t e j _ _ x. inl (inl (clean_alone r k x), tt))
+  owes (compound l d) c i = (inl (λ t e j _ _ x. inl (λ o. x.0 (clean_none r k) o, x.1)), tt)
+  owes (items l d s y) c i = (
+    inl (λ q o. clean_one r k refl q, record { kind = kind.Compound; past = i + 1; parts = y; is = refl }),
+    λ t e j _ _ x. inl (λ t' e' j' _ _ x'. inl (λ q o. x'.0 (clean_two r k q (x o)) o, x'.1)),
+  )
+  owes (item l d) c i = (λ t e j _ _ x. inl (λ o. x), λ t e j _ _ x. inl x)
 
   pub barred_there : (g : Goal) {c e : Scopes} {i j : ℕ} {t : Trees} → Reads g c i t e j → Unmarked r k g c i t e j ⊎ (i < k) × Bars (body g) c i
   barred_there g {c = c} {i = i} h = marked body ts us limit top (row_of r) k (Unmarked r k) alike allowed owes h (Unmarked r k g c i) (owes g c i)
+
+-- A form that names no token bars none, so no tree that is read bears its mark.
+module _ (r : Form) (none_named : token_of r ≡ None) (us : List Lexeme) (limit : Limit) where
+  named_none : {A : Type 0} {w : Word} → token_of r ≡ Some w → A
+  named_none q = cc
+
+  pub unmarked_by : (g : Goal) {c e : Scopes} {i j : ℕ} {t : Trees} → Runs body us limit (body g) c i (Done t e j) → Unmarked r 0 g c i t e j
+  unmarked_by g h = ⊎_elim (λ x. x) (λ x. absurd (omega arith)) (barred_there us us limit limit r 0 (λ w q. named_none q) (λ n lt. refl) (λ a n d lt w. w) g h)
+
+  pub declarator_is_one : {h : Context} {d i j : ℕ} {c e : Scopes} {t : Trees} → Runs body us limit (body (declarator named h d)) c i (Done t e j) → IsOne t
+  declarator_is_one h = declarator_alone us us limit limit r 0 (λ w q. named_none q) (λ n lt. refl) (λ a n d lt w. w) h
+
+  -- the parts of a declaration with a declarator
+  pub declaration_parts : {d q : ℕ} {t t' t1 : Trees} {c c' c1 e e' e1 : Scopes} {i i' i1 j j' j1 : ℕ} → Runs body us limit (body (row part.Specifiers fresh d)) c i (Done t e j) →
+      Runs body us limit (body (declarator named (past_part fresh t) d)) c' i' (Done t' e' j') → Runs body us limit (body (initialized d q t')) c1 i1 (Done t1 e1 j1) →
+      Clean r 0 ((t & none) & t1 & none)
+  declaration_parts {d = d} {q = q} {t = t} {t' = t'} h h' h1 = clean_two r 0 (clean_alone r 0 (unmarked_by (row part.Specifiers fresh d) h))
+      (unmarked_by (initialized d q t') h1 (unmarked_by (declarator named (past_part fresh t) d) h') (declarator_is_one h'))
 
 -- the list goes on to its tokens
 pub within : (ts : List Lexeme) (k : ℕ) {w : Word} → Is ts k w → k < length ts
@@ -614,19 +950,19 @@ within [] k q = cc
 within (x ∷ ts) zero q = omega arith
 within (x ∷ ts) (suc k) q = let n = within ts k q in omega arith
 
-allows_before : (k most : ℕ) (g : Manner) (n d : ℕ) → n < k → Allows (Upto k most) g n d → Allows (AtMost most) g n d
+pub allows_before : (k most : ℕ) (g : Manner) (n d : ℕ) → n < k → Allows (Upto k most) g n d → Allows (AtMost most) g n d
 allows_before k most plain n d lt w = tt
 allows_before k most opens n d lt w = w lt
 allows_before k most reopens n d lt w = (tt, w.1 lt)
 
 -- a form's token behind its tree is refused by the form's row
-pub form_is_barred : (r : Form) {ts : List Lexeme} (s : Start) {k : ℕ} {test : Kind → ℕ → ℕ → Trees → Bool} → IsStart s.part → Is ts k (token_of r) →
+pub form_is_barred : (r : Form) {ts : List Lexeme} (s : Start) {k : ℕ} {w : Word} {test : Kind → ℕ → ℕ → Trees → Bool} → IsStart s.part → token_of r ≡ Some w → Is ts k w →
     ((l : Kind) (i j : ℕ) (b : Trees) → test l i j b ≡ true → mark r k l i j b ≡ true) → ShowsFrom ts s k test →
     Barred body ts (AtMost most_levels) (row_of r) k (body (start_goal s.part s.depth)) s.scopes s.at
-form_is_barred r {ts = ts} s {k = k} z q f b = ⊎_elim
+form_is_barred r {ts = ts} s {k = k} z o q f b = ⊎_elim
     (λ x. absurd (clean_start r k s.part s.depth s.scopes s.at b.trees b.continues.spelled.after (length b.continues.text) x (has_all f b.has)))
     (λ x. x.1)
-    (barred_there ts b.continues.text (Upto k most_levels) (AtMost most_levels) r k q alike (allows_before k most_levels) (start_goal s.part s.depth)
+    (barred_there ts b.continues.text (Upto k most_levels) (AtMost most_levels) r k (λ v o'. subst (λ x. Is ts k x) (some_one (sym o ∙ o')) q) alike (allows_before k most_levels) (start_goal s.part s.depth)
     (spelled_is_read b.continues.text (Upto k most_levels) z b.continues.spelled.spells (free_at_end b.continues.text 13)))
   where
     alike : (n : ℕ) → n < k → slice_get b.continues.text n ≡ slice_get ts n
@@ -636,9 +972,9 @@ form_is_barred r {ts = ts} s {k = k} z q f b = ⊎_elim
 pub outside_is_barred : {ts : List Lexeme} (s : Start) {k n : ℕ} → IsStart s.part → (n ≡ 1 → ⊥) → OutsideFrom ts s k n →
     Barred body ts (AtMost most_levels) n k (body (start_goal s.part s.depth)) s.scopes s.at
 outside_is_barred s z f (unused_keyword q u) = absurd (f refl)
-outside_is_barred s {k = k} z f (compound_literal q b) = form_is_barred literal s z q (literal_mark k) b
-outside_is_barred s {k = k} z f (called_expression q b) = form_is_barred calling s z q (calling_mark k) b
-outside_is_barred s {k = k} z f (bit_field q b) = form_is_barred field s z q (field_mark k) b
+outside_is_barred s {k = k} z f (compound_literal q b) = form_is_barred literal s z refl q (literal_mark k) b
+outside_is_barred s {k = k} z f (called_expression q b) = form_is_barred calling s z refl q (calling_mark k) b
+outside_is_barred s {k = k} z f (bit_field q b) = form_is_barred field s z refl q (field_mark k) b
 
 -- token k is refused by row n
 pub data IsBarring (n k : ℕ) : Point → Type 0 where

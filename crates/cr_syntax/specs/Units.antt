@@ -189,8 +189,8 @@ pub data Outside (ts : List Lexeme) : ℕ → ℕ → Type 0 where
   -- 7: another statement than a block as a switch's body: it could be that of a `while` in the switch's place
   switch_body : {k : ℕ} (s : ℕ) → Shows ts k (switch_body_at s k) → (Is ts k word.LeftBrace → ⊥) → (Is ts k word.Case → ⊥) → (Is ts k word.Default → ⊥) →
       Begins (Upto k most_levels) (with_word ts s word.While) (k + 1) → Outside ts k 7
-  -- 8: the `...` of a function definition's own parameters, where its body begins at token m, and the tokens before that
-  -- are within the limit
+  -- 8: the `...` of a function definition's own parameters, where its body begins at token m, and the tokens before that one
+  -- are within the limit: it is the body's brace that shows what the declarator belongs to
   variadic_function : {k : ℕ} {t : Trees} (m : ℕ) → k < m → Is ts m word.LeftBrace → Completes (Upto m most_levels) ts (m + 1) t → Has (variadic_definition k m) t → Outside ts k 8
 
 -- a bracket that opens a level, expected or not
