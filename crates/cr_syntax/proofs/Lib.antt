@@ -64,6 +64,7 @@ pub mod MachineLabels
 pub mod MachineDefinitions
 pub mod MachineBeside
 pub mod MachineApart
+pub mod MachineWhile
 pub mod MachineBodies
 pub mod MachineRefusals
 pub mod MachineUnitStuck

@@ -115,7 +115,7 @@ both_true false d x y = cc
 both_true true false x y = cc
 
 -- A switch's body begins at token k.
-body_begins : {t : Trees} {q : Kind} {i j k n : ℕ} {b : Trees} → t ≡ one q i j b → n ≡ k → (s e m : ℕ) (z : Kind) (v u : Trees) → switch_body_at s k kind.Switch s e (t & node z n m v u) ≡ true
+pub body_begins : {t : Trees} {q : Kind} {i j k n : ℕ} {b : Trees} → t ≡ one q i j b → n ≡ k → (s e m : ℕ) (z : Kind) (v u : Trees) → switch_body_at s k kind.Switch s e (t & node z n m v u) ≡ true
 body_begins {t = t} {k = k} {n = n} y e s l m z v u = both_true (s == s) (one_begins_at k (after_first (t & node z n m v u))) (same_number s s refl) (operand_begins y e z m l v u)
 
 -- A declarator's own parameters.
@@ -258,7 +258,7 @@ module _ (us : List Lexeme) (top : Limit) (way : Way) (late : (g : Manner) (i d 
   empty : (all : List Lexeme) (c : Scopes) (d i : ℕ) → Is all i word.Semicolon → Stands top i d → (h : Context) → Spells all top (a part.Statement) h c c d (one kind.ExpressionStatement i (i + 1) none) i (i + 1)
   empty all c d i q w h = spells.of_alternative grammar.expression_statement refl (spells.optional_none (spells.token q w spells.done))
 
-  empty_block : (all : List Lexeme) (c : Scopes) (d i : ℕ) → Is all i word.LeftBrace → Is all (i + 1) word.RightBrace → Within top i d → Stands top (i + 1) (d + 1) → (h : Context) →
+  pub empty_block : (all : List Lexeme) (c : Scopes) (d i : ℕ) → Is all i word.LeftBrace → Is all (i + 1) word.RightBrace → Within top i d → Stands top (i + 1) (d + 1) → (h : Context) →
       Spells all top (a part.Compound) h c c d (one kind.Compound i (i + 1 + 1) none) i (i + 1 + 1)
   empty_block all c d i q q' w w' h = spells.of_alternative grammar.compound_statement refl (spells.begins (spells.opens q w (spells.many_none (spells.token q' w' (spells.ends spells.done)))))
 
@@ -615,7 +615,7 @@ module _ (us : List Lexeme) (top : Limit) (way : Way) (late : (g : Manner) (i d 
   conditional_anywhere (spells.of_chain x f s) h' = spells.of_chain x f s
 
   -- behind the keyword of a statement
-  owes_unlabelled : (l : Labels) (d : ℕ) (c : Scopes) (i : ℕ) → Owes (unlabelled l d i) (Stated us top way late l d c i) c i
+  pub owes_unlabelled : (l : Labels) (d : ℕ) (c : Scopes) (i : ℕ) → Owes (unlabelled l d i) (Stated us top way late l d c i) c i
   owes_unlabelled l d c i = (
     λ _. (λ v h. more0 us top way late (v _) (λ all f t e j le s shown. (_, _, spells.of_chain grammar.statement_compound refl s, moved (λ p r. block_stands l p r) shown)), λ t e j _ _ _. tt),
     (
@@ -796,6 +796,11 @@ module _ (us : List Lexeme) (top : Limit) (way : Way) (late : (g : Manner) (i d 
       if_else_of b q w x q' w' w'' lt y r q1 w1 y' h = spells.of_alternative grammar.if_statement (nearest_two (x fresh) (y fresh) (y' fresh) r) (spells.begins (b _ _ _ _ _ _
           (spells.opens q w (spells.part (x _) (spells.reopens q' w' w'' (two_branches lt (y _) q1 w1 (y' _)))))))
 
+  pub switch_of : {all : List Lexeme} {c e g : Scopes} {d s i j n : ℕ} {t u : Trees} → Begun all top (token word.Switch) d s i → Is all i word.LeftParen → Within top i d → Reads all top part.Expression (d + 1) ([] ∷ c) (i + 1) t e j →
+      Is all j word.RightParen → Stands top j (d + 1) → Within top j d → 0 < length e → Spells all top (a part.Compound) (past_token (past_part (past_token (past_token fresh)) t)) ([] ∷ e) g (d + 1) u (j + 1) n → (h : Context) →
+      Spells all top (a part.Statement) h c (around (around g)) d (one kind.Switch s n (t & u & none)) s n
+  switch_of b q w x q' w' w'' lt y h = spells.of_alternative grammar.switch_statement refl (spells.begins (b _ _ _ _ _ _ (spells.opens q w (spells.part (x _) (spells.reopens q' w' w'' (whole_block lt y))))))
+
   owes_switch_rest : (l : Labels) (d s : ℕ) (c : Scopes) (i : ℕ) → Owed (switch_rest l d s) c i
   owes_switch_rest l d s c i = (
     λ z. some_expression us top way late ([] ∷ c) (d + 1) (i + 1) (z (d + 1)),
@@ -853,11 +858,6 @@ module _ (us : List Lexeme) (top : Limit) (way : Way) (late : (g : Manner) (i d 
           (empty_block all ([] ∷ [] ∷ c) (d + 1) (i + 1 + 1 + 1) q.1.1.1.0 q.1.1.1.1.0 (late opens (i + 1 + 1 + 1) (d + 1) (omega arith)) (late plain (i + 1 + 1 + 1 + 1) (d + 1 + 1) (omega arith)) _) h,
     )),
   )
-    where
-      switch_of : {all : List Lexeme} {e g : Scopes} {j n : ℕ} {t u : Trees} → Begun all top (token word.Switch) d s i → Is all i word.LeftParen → Within top i d → Reads all top part.Expression (d + 1) ([] ∷ c) (i + 1) t e j →
-          Is all j word.RightParen → Stands top j (d + 1) → Within top j d → 0 < length e → Spells all top (a part.Compound) (past_token (past_part (past_token (past_token fresh)) t)) ([] ∷ e) g (d + 1) u (j + 1) n → (h : Context) →
-          Spells all top (a part.Statement) h c (around (around g)) d (one kind.Switch s n (t & u & none)) s n
-      switch_of b q w x q' w' w'' lt y h = spells.of_alternative grammar.switch_statement refl (spells.begins (b _ _ _ _ _ _ (spells.opens q w (spells.part (x _) (spells.reopens q' w' w'' (whole_block lt y))))))
 
   owes_while_rest : (l : Labels) (d s : ℕ) (c : Scopes) (i : ℕ) → Owed (while_rest l d s) c i
   owes_while_rest l d s c i = (

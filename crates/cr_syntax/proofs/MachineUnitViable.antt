@@ -12,24 +12,24 @@ use Rattle.cr_syntax.specs.Trees.{Trees}
 use Rattle.cr_syntax.specs.Context.{fresh}
 use Rattle.cr_syntax.specs.Spells.{Limit, AtMost, Upto, Leaving, Is, Spells, rest}
 use Rattle.cr_syntax.specs.Reads.{same_word}
-use Rattle.cr_syntax.specs.Units.{unit_side, file_scope, IsUnit, Completes, Begins, most_levels, with_word, StandsIn, elsewhere, Has, misplaced_at, switch_body_at, variadic_definition, Outside, Shows}
+use Rattle.cr_syntax.specs.Units.{unit_side, file_scope, IsUnit, Completes, Begins, most_levels, with_word, StandsIn, is_unused, elsewhere, Has, misplaced_at, switch_body_at, variadic_definition, Outside, Shows}
 use Rattle.cr_syntax.specs.Units as units
 use Rattle.cr_syntax.specs.Machine.{Labels, Test, Manner, has, Allows, passes, unit}
 use Rattle.cr_syntax.specs.MachineBody.{body, is_designator, is_statement_start, label_start, statement_start}
 use Rattle.cr_syntax.proofs.Tests.{is_of}
 use Rattle.cr_syntax.proofs.MachineComplete.{allows_upto}
 use Rattle.cr_syntax.proofs.MachineEnds.{Way, stopped, barring, crowded, defining, Ends}
-use Rattle.cr_syntax.proofs.MachineShown.{Next, next_definition, ShownIn, seen, shown_literal, shown_call, shown_field, shown_designator, shown_label, shown_block, shown_body, shown_definition, every, by_stop, by_level}
+use Rattle.cr_syntax.proofs.MachineShown.{Next, next_definition, ShownIn, seen, shown_literal, shown_call, shown_field, shown_designator, shown_label, shown_block, shown_body, shown_definition, shown_empty, shown_switch, every, by_stop, by_level}
 use Rattle.cr_syntax.proofs.MachineGrows.{GrownIn}
 use Rattle.cr_syntax.proofs.MachineViable.{prefix, prefix_length, upto_behind, upto_fits, leaving_fits, leaving_before, tested, stands_next, some_word_of, is_labels, no_labels, bars_other, bars_label, at_label, grows, further, further_last, further_length, further_grows, alike, alike_with, upto_late, leaving_late, behind_late, barred_inside}
 
-unit_of : {us : List Lexeme} {top : Limit} {way : Way} → (g : GrownIn us top way every (rest unit_side) fresh file_scope 0 0) → IsUnit top g.all g.built.0
+pub unit_of : {us : List Lexeme} {top : Limit} {way : Way} → (g : GrownIn us top way every (rest unit_side) fresh file_scope 0 0) → IsUnit top g.all g.built.0
 unit_of {top = top} g = record { after = g.built.1; spells = subst (λ j. Spells g.all top (rest unit_side) fresh file_scope g.built.1 0 g.built.0 0 j) g.size g.built.2 }
 
 -- The first n tokens go on to a unit.
 module _ (ts : List Lexeme) (most n : ℕ) (le : n ≤ length ts) (top : Limit) (way : Way)
     (late : (g : Manner) (i d : ℕ) → length (prefix n ts) < i → Allows top g i d) where
-  completes : (g : GrownIn (prefix n ts) top way every (rest unit_side) fresh file_scope 0 0) → Completes top ts n g.built.0
+  pub completes : (g : GrownIn (prefix n ts) top way every (rest unit_side) fresh file_scope 0 0) → Completes top ts n g.built.0
   completes g = record { text = g.all; alike = alike ts most n le top way late g.all g.front; is_unit = unit_of g }
 
   completes_with : (g : GrownIn (prefix n ts) top way every (rest unit_side) fresh file_scope 0 0) → n < length ts → (v : Word) → Is g.all n v → Completes top (with_word ts n v) (n + 1) g.built.0
@@ -39,7 +39,7 @@ module _ (ts : List Lexeme) (most n : ℕ) (le : n ≤ length ts) (top : Limit) 
 completes_less : {limit : Limit} {ts : List Lexeme} {j k : ℕ} {t : Trees} → j ≤ k → Completes limit ts k t → Completes limit ts j t
 completes_less le c = record { text = c.text; alike = λ i x lt q. c.alike i x (omega arith) q; is_unit = c.is_unit }
 
-token_at : (ts : List Lexeme) (k : ℕ) → k < length ts → (x : Lexeme) × (slice_get ts k ≡ Some x)
+pub token_at : (ts : List Lexeme) (k : ℕ) → k < length ts → (x : Lexeme) × (slice_get ts k ≡ Some x)
 token_at [] k lt = absurd (omega arith)
 token_at (x ∷ ts) zero lt = (x, refl)
 token_at (x ∷ ts) (suc k) lt = token_at ts k (omega arith)
@@ -58,7 +58,7 @@ is_dot ts k word.Dot q r = inl r
 is_dot ts k word.LeftBracket q r = inr r
 is_dot ts k _ q r = cc
 
-one_of_two : (b d : Bool) → b || d ≡ true → (b ≡ true) ⊎ (d ≡ true)
+pub one_of_two : (b d : Bool) → b || d ≡ true → (b ≡ true) ⊎ (d ≡ true)
 one_of_two true d q = inl refl
 one_of_two false d q = inr q
 
@@ -66,7 +66,7 @@ is_switch_label : (ts : List Lexeme) (k : ℕ) (e : Scopes) → passes ts e k la
 is_switch_label ts k e q = elim (one_of_two _ _ q) [ inl x ↦ inl (is_of ts k word.Case x) | inr x ↦ inr (is_of ts k word.Default x) ]
 
 -- no word but those begins a statement
-no_start : (ts : List Lexeme) (k : ℕ) (e : Scopes) (w : Word) → is_statement_start w ≡ false → same_word w word.Identifier ≡ false → passes ts e k statement_start ≡ true → Is ts k w → ⊥
+pub no_start : (ts : List Lexeme) (k : ℕ) (e : Scopes) (w : Word) → is_statement_start w ≡ false → same_word w word.Identifier ≡ false → passes ts e k statement_start ≡ true → Is ts k w → ⊥
 no_start ts k e w x y q r = by (word_at ts k) _ r q
   where
     neither : (p q b : Bool) → p ≡ false → q ≡ false → p || (q && b) ≡ true → ⊥
@@ -222,6 +222,8 @@ module _ (ts : List Lexeme) (k : ℕ) (le : k ≤ length ts) (l : Labels) where
   deep : {f : Word → Bool} {n m : ℕ} {t : Trees} → is_labels (has f) n ≡ true → k < length ts → ShownIn every (k + 1) t (barring (has f) n m) → Completes (Upto k most_levels) ts (k + 1) t → Outside ts k n
   deep o lt (seen y) c = elim y [ ]
   deep o lt (shown_designator y) c = cc
+  deep o lt shown_empty c = cc
+  deep o lt (shown_switch y) c = cc
   deep {t = t} o lt (shown_label n e y) c = let i : n ≡ k = omega arith in units.deep_label lt c (subst (λ j. misplaced_at j elsewhere t ≡ true) i (y elsewhere refl))
 
   -- what else may be said of a switch's body that another statement begins
@@ -239,6 +241,8 @@ module _ (ts : List Lexeme) (k : ℕ) (le : k ≤ length ts) (l : Labels) where
   named o u q (shown_label n e y) c = cc
   named {t = t} o u q (shown_block s y) c = units.label_as_body s (is_switch_label ts k q.0 q.1) (record { trees = t; completes = c; has = y })
   named o u q (shown_body s y) c = absurd (u refl)
+  named o u q shown_empty c = let w = some_word_of ts k is_unused q.1 in units.unused_keyword w.1 w.2
+  named o u q (shown_switch y) c = let w = some_word_of ts k is_unused q.1 in units.unused_keyword w.1 w.2
 
   -- the token is what the row names
   pub unit_outside : (x : Test) (n m : ℕ) → EndsSo (barring x n m) → (n ≡ 7 → ⊥) → Outside ts k n
