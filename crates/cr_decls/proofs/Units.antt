@@ -6,10 +6,12 @@ use Rattle.cr_syntax.specs.Scopes.{Scopes}
 use Rattle.cr_syntax.specs.Trees.{Trees}
 use Rattle.cr_syntax.specs.Units as u
 use Rattle.cr_syntax.specs.Units.{file_scope}
-use Rattle.cr_syntax.specs.Machine.{Prog, Reply, Done, nowhere, unit}
+use Rattle.cr_syntax.specs.Machine.{Prog, Reply, Done, Failed, nowhere, unit}
 use Rattle.cr_syntax.specs.MachineBody.{body}
+use Rattle.cr_syntax.specs.MachineLaws.{IsRefusedSo}
 use Rattle.cr_syntax.proofs.MachineRuns.{same}
 use Rattle.cr_syntax.proofs.MachineTidy.{unit_is_clean}
+use Rattle.cr_syntax.proofs.MachineUnit.{is_parsed}
 use Rattle.cr_syntax.proofs.MachineUnits.{unit_is_unit}
 use Rattle.cr_syntax.proofs.MachineUnitComplete.{clean_is_read, one_unit}
 use Rattle.cr_exprs.specs.declared.fault.ParseFault.{ParseFault}
@@ -18,7 +20,7 @@ use Rattle.cr_exprs.specs.Loose.{AreKept, Replaces}
 use Rattle.cr_exprs.specs.Answers.{RunsTo}
 use Rattle.cr_exprs.proofs.Loose.{kept_none}
 use Rattle.cr_decls.specs.Answers.{FailsSo, Declines}
-use Rattle.cr_decls.specs.Unit.{IsUnitOfSubset, IsOnlyTree, IsNoUnit}
+use Rattle.cr_decls.specs.Unit.{IsUnitOfSubset, IsOnlyTree, IsNoUnit, IsFirst, IsRefused}
 
 -- what is read is a unit of the subset, and the only tree
 pub unit_read : {ts : List Lexeme} {e : Scopes} {j : ℕ} {t : Trees} → RunsTo ts (body (unit nowhere 0)) file_scope 0 (Done t e j) → IsUnitOfSubset ts t
@@ -43,6 +45,27 @@ none_read (OutsideSubset k row) h n t y = none_so (h.run (u.OutsideSubset k row)
 -- the same, where text, scopes and trees are spelled otherwise
 run_as : {ts us : List Lexeme} {p : Prog} {c d : Scopes} {r y : Reply} → ts ≡ us → c ≡ d → r ≡ y → RunsTo ts p c 0 r → RunsTo us p d 0 y
 run_as {ts} {us} {p} {c} {d} {r} {y} q v w h = subst (λ x. RunsTo us p d 0 x) w (subst (λ x. RunsTo us p x 0 r) v (subst (λ x. RunsTo x p c 0 r) q h))
+
+-- the trees are those of the tokens, with no refused form
+tree_read : {ts : List Lexeme} {e : Scopes} {j : ℕ} {t : Trees} → RunsTo ts (body (unit nowhere 0)) file_scope 0 (Done t e j) → u.IsTreeOf ts t
+tree_read {ts} {e} {j} {t} h = (is_parsed ts (Done t e j) h).0
+
+-- and the refusal is the first
+first_so : {ts : List Lexeme} {x : u.Refusal} → FailsSo ts (body (unit nowhere 0)) file_scope 0 x → IsFirst ts x
+first_so {ts} h = record { at = h.at; refused = subst (λ x. IsRefusedSo ts x h.at) h.is (is_parsed ts (Failed h.cause h.at) h.run) }
+
+first_read : {ts : List Lexeme} (f : ParseFault) → Declines ts (body (unit nowhere 0)) file_scope 0 f → IsRefused ts f
+first_read NoMemory h = tt
+first_read (Unexpected k) h = first_so (h.run (u.Unexpected k) refl)
+first_read Ended h = first_so (h.run u.Ended refl)
+first_read (TooDeep k) h = first_so (h.run (u.TooDeep k) refl)
+first_read (OutsideSubset k row) h = first_so (h.run (u.OutsideSubset k row) refl)
+
+pub tree_of : {ts us : List Lexeme} {c e : Scopes} {j : ℕ} {t v : Trees} → ts ≡ us → c ≡ file_scope → t ≡ v → RunsTo ts (body (unit nowhere 0)) c 0 (Done t e j) → u.IsTreeOf us v
+tree_of {e = e} {j = j} q w x h = tree_read (run_as q w (ap (λ z. Done z e j) x) h)
+
+pub first_of : {ts us : List Lexeme} {c : Scopes} {f : ParseFault} → ts ≡ us → c ≡ file_scope → Declines ts (body (unit nowhere 0)) c 0 f → IsRefused us f
+first_of {ts} {us} {c} {f} q w h = first_read f (subst (λ x. Declines us (body (unit nowhere 0)) x 0 f) w (subst (λ x. Declines x (body (unit nowhere 0)) c 0 f) q h))
 
 pub unit_of : {ts us : List Lexeme} {c e : Scopes} {j : ℕ} {t v : Trees} → ts ≡ us → c ≡ file_scope → t ≡ v → RunsTo ts (body (unit nowhere 0)) c 0 (Done t e j) → IsUnitOfSubset us v
 unit_of {e = e} {j = j} q w x h = unit_read (run_as q w (ap (λ z. Done z e j) x) h)

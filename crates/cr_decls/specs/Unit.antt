@@ -3,12 +3,11 @@ use Rattle.std.specs.Prelude.{◌≡◌, ℕ, false, List}
 use Rattle.cr_syntax.specs.Words.{Lexeme}
 use Rattle.cr_syntax.specs.Trees.{Trees}
 use Rattle.cr_syntax.specs.Spells.{AtMost}
-use Rattle.cr_syntax.specs.Units.{IsUnit, most_levels, Has, misplaced_at, elsewhere, variadic_definition, file_scope}
-use Rattle.cr_syntax.specs.Machine.{nowhere, unit}
-use Rattle.cr_syntax.specs.MachineBody.{body}
+use Rattle.cr_syntax.specs.Units.{IsUnit, most_levels, Has, misplaced_at, elsewhere, variadic_definition, Refusal}
+use Rattle.cr_syntax.specs.Units as refusal
+use Rattle.cr_syntax.specs.MachineLaws.{IsRefusedSo}
 use Rattle.cr_exprs.specs.declared.fault.ParseFault.{ParseFault}
-use Rattle.cr_exprs.specs.declared.fault.ParseFault.TheVariants.{NoMemory}
-use Rattle.cr_decls.specs.Answers.{Declines}
+use Rattle.cr_exprs.specs.declared.fault.ParseFault.TheVariants.{NoMemory, Unexpected, Ended, TooDeep, OutsideSubset}
 
 -- The trees are a unit of the subset: the tokens spell them within the limit, each label of a switch stands among the items
 -- of the switch's own block, and no function is defined with `...`.
@@ -25,6 +24,15 @@ IsOnlyTree ts t = (u : Trees) → IsUnit (AtMost most_levels) ts u → u ≡ t
 abbrev pub IsNoUnit : List Lexeme → ParseFault → Type 0
 IsNoUnit ts fault = (fault ≡ NoMemory → ⊥) → (t : Trees) → IsUnitOfSubset ts t → ⊥
 
--- the machine's program of a unit fails so at a file's beginning
+-- the refusal is the first one, or names a token in the place of a switch's body, before which nothing is a cause
+pub record IsFirst (ts : List Lexeme) (r : Refusal) : Type 0 where
+  pub at : ℕ
+  pub refused : IsRefusedSo ts r at
+
+-- What a fault says of the tokens; want of memory says nothing.
 abbrev pub IsRefused : List Lexeme → ParseFault → Type 0
-IsRefused ts fault = Declines ts (body (unit nowhere 0)) file_scope 0 fault
+IsRefused ts NoMemory = Unit {0}
+IsRefused ts (Unexpected k) = IsFirst ts (refusal.Unexpected k)
+IsRefused ts Ended = IsFirst ts refusal.Ended
+IsRefused ts (TooDeep k) = IsFirst ts (refusal.TooDeep k)
+IsRefused ts (OutsideSubset k row) = IsFirst ts (refusal.OutsideSubset k row)

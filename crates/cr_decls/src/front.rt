@@ -1,6 +1,7 @@
 ghost use Rattle.std.specs.Prelude.{◌≡◌, ◌<◌, ◌^◌, IfOk, IfErr, length};
 ghost use Rattle.cr_syntax.specs.Words.{AreSpans, lexemes_of};
 ghost use Rattle.cr_syntax.specs.Kept.{row_in};
+ghost use Rattle.cr_syntax.specs.Units.{IsTreeOf};
 ghost use Rattle.cr_decls.specs.Unit.{IsUnitOfSubset, IsOnlyTree, IsNoUnit, IsRefused};
 
 use crate::externals::unit;
@@ -15,6 +16,7 @@ use std::collections::LinkedList;
 pub fn parse(alloc: Global, file: &[u8], tokens: &Tokens) -> Result<Unit, ParseFault>
     requires spans { AreSpans file.now tokens.now.list.items }
     requires few { length tokens.now.list.items < 2 ^ 32 }
+    ensures tree { IfOk result (λ u. IsTreeOf (lexemes_of file.now tokens.now.list.items) (row_in u.nodes u.items)) }
     ensures unit { IfOk result (λ u. IsUnitOfSubset (lexemes_of file.now tokens.now.list.items) (row_in u.nodes u.items)) }
     ensures only { IfOk result (λ u. IsOnlyTree (lexemes_of file.now tokens.now.list.items) (row_in u.nodes u.items)) }
     ensures none { IfErr result (IsNoUnit (lexemes_of file.now tokens.now.list.items)) }

@@ -33,4 +33,6 @@ pub use front::expression;
 pub use goal::Goal;
 pub use names::TypeNames;
 pub use scopes::{bring, drop_scope, taken};
-pub use source::{Source, barred, expect, here, is_ordinary, room, stands, starts_specifier, words_of};
+pub use source::{
+    Source, barred, expect, here, is_ordinary, room, stands, starts_specifier, words_of,
+};

@@ -36,7 +36,9 @@ mod word;
 
 pub use checker::{NoMemory, spells_unit};
 pub use laws::{reading_is_spelling, table_is_grammar, tokens_are_spans};
-pub use machine::{machine_is_grammar, one_tree, one_unit};
+pub use machine::{
+    machine_is_grammar, machine_is_units, one_first_refusal, one_reading, one_tree, one_unit,
+};
 pub use node::{Kind, Node};
 pub use place::MOST_LEVELS;
 pub use scopes::{Scope, TypeName, begin, enter, is_type};

@@ -1,4 +1,4 @@
-ghost use Rattle.cr_syntax.specs.MachineLaws.{OneAnswer, LooksNoFurther, ReadIsSpelled, SpelledIsRead, OneTree, OneUnit, ReadIsLongest, RefusedEndsRun, RefusedWithin, BeginsBefore, EndedIsNone, AnswersAreReadings, OneReading, OneFirstRefusal, TreeIsNotRefused};
+ghost use Rattle.cr_syntax.specs.MachineLaws.{OneAnswer, LooksNoFurther, ReadIsSpelled, SpelledIsRead, OneTree, OneUnit, ReadIsLongest, RefusedEndsRun, RefusedWithin, BeginsBefore, EndedIsNone, AnswersAreReadings, OneReading, OneFirstRefusal, TreeIsNotRefused, MachineReadsUnits};
 
 /// A law: the parser's machine reads the grammar's expressions, and nothing else.
 ///
@@ -18,6 +18,13 @@ pub fn machine_is_grammar()
     ensures viable { BeginsBefore }
     ensures ended { EndedIsNone }
     ensures readings { AnswersAreReadings }
+{}
+
+/// A law: what the machine of the subset answers of a file is the tree of its tokens, or their first refusal. Of a token in the
+/// place of a switch's body that begins neither a block nor a label it says no more than that, and that no token before is a
+/// cause.
+pub fn machine_is_units()
+    ensures { MachineReadsUnits }
 {}
 
 /// A law: the tokens up to the end of a list spell at most one expression.
