@@ -1,6 +1,6 @@
 -- The rows of the refused forms and the subset's machine on a unit: where it is refused no row names a token before, and one
 -- that names the refused token is the machine's; where it reads a unit, no row names a token of it.
-use Rattle.std.proofs.Common.{◌≡◌, ℕ, ◌+◌, ◌<◌, ◌≤◌, Bool, true, false, ◌||◌, List, [], length, Option, None, Some, ◌⊎◌, inl, inr, ⊎_elim, refl, sym, ap, subst, ◌∙◌, arith}
+use Rattle.std.proofs.Common.{◌≡◌, ℕ, ◌+◌, ◌<◌, ◌≤◌, true, false, List, [], length, Option, None, Some, ◌⊎◌, inl, inr, ⊎_elim, refl, sym, ap, subst, ◌∙◌, arith}
 use Rattle.std.specs.Prelude.{slice_get, set}
 use Rattle.std.proofs.lemmas.Bool.{both_ways, cases_lt}
 use Rattle.cr_syntax.specs.declared.word.Word.{Word}
@@ -11,13 +11,11 @@ use Rattle.cr_syntax.specs.Trees.{Trees}
 use Rattle.cr_syntax.specs.Context.{fresh}
 use Rattle.cr_syntax.specs.Spells.{Limit, AtMost, Upto, Is}
 use Rattle.cr_syntax.specs.Units.{file_scope, most_levels, Completes, Begins, Shows, Has, switch_body_at, with_word, variadic_definition, elsewhere, misplaced_at, Outside, unused_keyword, designator, compound_literal, called_expression, bit_field, deep_label, label_as_body, switch_body, variadic_function}
-use Rattle.cr_syntax.specs.Machine.{Prog, Test, Reply, unit, expression, anywhere, nowhere, Done, Failed, Runs, has_word, has, passes}
-use Rattle.cr_syntax.specs.Machine as m
+use Rattle.cr_syntax.specs.Machine.{unit, expression, anywhere, nowhere, Done, Runs, has_word, has}
 use Rattle.cr_syntax.specs.MachineBody.{body, is_label}
-use Rattle.cr_syntax.specs.MachineLaws.{end_of, start_expression}
-use Rattle.cr_syntax.proofs.Tests.{is_of, both}
+use Rattle.cr_syntax.specs.MachineLaws.{start_expression}
 use Rattle.cr_syntax.proofs.MachineRuns.{reach, same, passes_same, word_same, spelling_same}
-use Rattle.cr_syntax.proofs.MachineFirst.{none_true, sorted, free_by}
+use Rattle.cr_syntax.proofs.MachineFirst.{sorted, free_by}
 use Rattle.cr_syntax.proofs.MachineEnds.{Way, barring, defining, crowded, refused_so}
 use Rattle.cr_syntax.proofs.MachineWays.{Point, at, same_way}
 use Rattle.cr_syntax.proofs.MachineForms.{within, allows_before, IsBarring, by_row}

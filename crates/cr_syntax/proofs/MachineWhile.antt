@@ -1,5 +1,5 @@
 -- Another statement than a block as a switch's body could be that of a `while` in the switch's place.
-use Rattle.std.proofs.Common.{◌≡◌, ℕ, zero, suc, ◌+◌, ◌<◌, ◌≤◌, Bool, true, false, not, ◌&&◌, ◌||◌, List, [], ◌∷◌, length, Option, None, Some, inl, inr, ◌⊎◌, refl, sym, ap, subst, ◌∙◌, arith}
+use Rattle.std.proofs.Common.{◌≡◌, ℕ, ◌+◌, ◌<◌, ◌≤◌, Bool, true, false, not, List, [], ◌∷◌, length, Option, None, Some, inl, inr, ◌⊎◌, refl, sym, ap, subst, ◌∙◌, arith}
 use Rattle.std.specs.Prelude.{slice_get, set}
 use Rattle.std.proofs.lemmas.Bool.{cases_lt}
 use Rattle.std.proofs.lemmas.Bool.Decides.{eqb_tells}
@@ -10,9 +10,9 @@ use Rattle.cr_syntax.specs.declared.word.Word.TheVariants as word
 use Rattle.cr_syntax.specs.declared.node.Kind.TheVariants as kind
 use Rattle.cr_syntax.specs.declared.symbol.Part.TheVariants as part
 use Rattle.cr_syntax.specs.declared.symbol.Context.{Context}
-use Rattle.cr_syntax.specs.Words.{Lexeme, word_at, spelling_at}
+use Rattle.cr_syntax.specs.Words.{Lexeme, spelling_at}
 use Rattle.cr_syntax.specs.Scopes.{Scopes, is_type}
-use Rattle.cr_syntax.specs.Trees.{Trees, none, one, ◌&◌}
+use Rattle.cr_syntax.specs.Trees.{Trees, none, ◌&◌}
 use Rattle.cr_syntax.specs.Context.{fresh}
 use Rattle.cr_syntax.specs.Grammar as grammar
 use Rattle.cr_syntax.specs.Spells.{Limit, AtMost, Upto, Is, IsIdentifier, Spells, a, rest}
@@ -20,27 +20,27 @@ use Rattle.cr_syntax.specs.Spells as spells
 use Rattle.cr_syntax.specs.Reads.{is_word}
 use Rattle.cr_syntax.specs.Units.{Has, has_here, unit_side, file_scope, IsUnit, Completes, Begins, Shows, most_levels, with_word, switch_body_at, Place, Outside}
 use Rattle.cr_syntax.specs.Units as units
-use Rattle.cr_syntax.specs.Machine.{Goal, Prog, Manner, Test, Labels, nowhere, Allows, plain, opens, reopens, the, passes, made, expect, call, the, has}
-use Rattle.cr_syntax.specs.Machine.{expression, cast, unary, measured, grouped, unit, statement, block, if_rest, switch_rest, while_rest, do_rest, for_rest, return_rest}
-use Rattle.cr_syntax.specs.MachineBody.{body, inside, unlabelled, is_statement_start, statement_start}
+use Rattle.cr_syntax.specs.Machine.{Goal, Manner, Test, Labels, nowhere, Allows, plain, opens, reopens, made, expect, call}
+use Rattle.cr_syntax.specs.Machine.{expression, cast, unary, grouped, unit, if_rest, switch_rest, while_rest, for_rest, return_rest}
+use Rattle.cr_syntax.specs.MachineBody.{body, inside, unlabelled, is_statement_start}
 use Rattle.cr_syntax.proofs.Tests.{is_of, both, not_true, some_one}
-use Rattle.cr_syntax.proofs.MachineRuns.{reach}
+use Rattle.cr_syntax.proofs.MachineRuns.{reach, word_same, spelling_same}
 use Rattle.cr_syntax.proofs.MachineGives.{gives}
 use Rattle.cr_syntax.proofs.MachineKept.{Kept, runs_kept}
 use Rattle.cr_syntax.proofs.MachineMeans.{Means, Reads}
 use Rattle.cr_syntax.proofs.MachineSound.{each}
 use Rattle.cr_syntax.proofs.MachineSpells.{is_one}
 use Rattle.cr_syntax.proofs.MachineComplete.{allows_upto}
-use Rattle.cr_syntax.proofs.MachineExtend.{Front, weaken}
+use Rattle.cr_syntax.proofs.MachineExtend.{weaken}
 use Rattle.cr_syntax.proofs.MachineElsewhere.{Alike, there}
 use Rattle.cr_syntax.proofs.MachineApart.{Apart, moved, set_there, set_other}
 use Rattle.cr_syntax.proofs.MachineEnds.{Way, stopped, barring, Ends}
 use Rattle.cr_syntax.proofs.MachineShown.{Next, next_stopped, next_crowded, next_designator, next_literal, next_call, next_field, next_label, next_block, next_body, next_definition, next_empty, next_switch, shown_stopped, shown_crowded, shown_literal, shown_call, shown_field, ShownIn, seen, shown_designator, shown_label, shown_block, shown_body, shown_definition, shown_empty, shown_switch, empty_next, switch_at, every, Room, by_stop}
-use Rattle.cr_syntax.proofs.MachineGrows.{GrownIn, Via, Stated, G, Owes, grown, more0, number_expression, some_expression}
+use Rattle.cr_syntax.proofs.MachineGrows.{GrownIn, Via, Stated, Owes, grown, more0, some_expression}
 use Rattle.cr_syntax.proofs.MachineUnitGrows.{owes, owes_unlabelled, empty_block, switch_of, body_begins}
 use Rattle.cr_syntax.proofs.MachineViable.{prefix, prefix_length, prefix_get, upto_behind, upto_late, some_word_of, alike, barred_inside}
 use Rattle.cr_syntax.proofs.MachineUnitViable.{unit_of, completes, token_at, one_of_two, no_start}
-use Rattle.cr_syntax.proofs.MachineTurned.{Own, Path, found, Found, comes, turns, find, follow, path_switch, path_allows}
+use Rattle.cr_syntax.proofs.MachineTurned.{Own, Path, found, Found, comes, turns, find, follow, path_switch}
 
 -- What an operand spells alone is an expression.
 module _ {all : List Lexeme} {top : Limit} {c e : Scopes} {d i j : ℕ} {t : Trees} where
@@ -153,12 +153,6 @@ switch_has {k = k} {n = n} {t = t} e (shown_switch {s = s} y) = let f : s ≡ n 
 
 -- Texts that differ at one token.
 
-word_same : (us vs : List Lexeme) (i : ℕ) → slice_get us i ≡ slice_get vs i → word_at us i ≡ word_at vs i
-word_same us vs i q = ap (λ o. elim o as (λ _. Option Word) [ None ↦ None | Some t ↦ Some t.word ]) q
-
-spelling_same : (us vs : List Lexeme) (i : ℕ) → slice_get us i ≡ slice_get vs i → spelling_at us i ≡ spelling_at vs i
-spelling_same us vs i q = ap (λ o. elim o as (λ _. List ℕ) [ None ↦ [] | Some t ↦ t.spelling ]) q
-
 abbrev unnamed : Word → Lexeme
 unnamed w = record { word = w; spelling = [] }
 
@@ -177,7 +171,7 @@ module _ (ts : List Lexeme) (n m : ℕ) (le : m ≤ length ts) where
   turned_before i lt f = prefix_get m (with_word ts n word.While) i lt ∙ set_other ts n i (unnamed word.While) f
 
   turned_there : n < m → Is turned n word.While
-  turned_there lt = word_same turned (with_word ts n word.While) n (prefix_get m (with_word ts n word.While) n lt)
+  turned_there lt = word_same (with_word ts n word.While) turned n (prefix_get m (with_word ts n word.While) n lt)
       ∙ ap (λ o. elim o as (λ _. Option Word) [ None ↦ None | Some t ↦ Some t.word ]) (set_there ts n (unnamed word.While) (omega arith))
 
   turned_other : (i : ℕ) → (i ≡ n → ⊥) → slice_get turned i ≡ slice_get (prefix m ts) i
@@ -188,8 +182,8 @@ module _ (ts : List Lexeme) (n m : ℕ) (le : m ≤ length ts) where
 
   turned_apart : Apart (prefix m ts) turned (n + 1)
   turned_apart = record {
-    words = λ i w l q. word_same turned (prefix m ts) i (turned_other i (λ e. omega arith)) ∙ q;
-    names = λ i l. spelling_same turned (prefix m ts) i (turned_other i (λ e. omega arith));
+    words = λ i w l q. word_same (prefix m ts) turned i (turned_other i (λ e. omega arith)) ∙ q;
+    names = λ i l. spelling_same (prefix m ts) turned i (turned_other i (λ e. omega arith));
   }
 
 -- The condition of the switch at token n, on another text with these tokens behind it.
@@ -203,7 +197,7 @@ module _ (ts us : List Lexeme) (most k m n d : ℕ) (c : Scopes) (le : k ≤ m) 
       (λ i lt. prefix_get m ts i (omega arith)) (λ g i d lt w. allows_upto k most g i d w) (each (prefix m ts) (Upto k most) (expression (d + 1)) ([] ∷ c) (n + 1 + 1)) h) (omega arith) refl
 
   token_there : (i : ℕ) (w : Word) → n + 1 ≤ i → i < m → Is ts i w → Is us i w
-  token_there i w l lt q = y.words i w l (word_same (prefix m ts) ts i (prefix_get m ts i lt) ∙ q)
+  token_there i w l lt q = y.words i w l (word_same ts (prefix m ts) i (prefix_get m ts i lt) ∙ q)
 
   opened_there : Is us (n + 1) word.LeftParen
   opened_there = let e = first_there in let e' = o.at in token_there (n + 1) word.LeftParen (omega arith) (omega arith) (is_of ts (n + 1) word.LeftParen o.opened)
@@ -243,20 +237,20 @@ module _ (all : List Lexeme) (k : ℕ) (x : Lexeme) (lt : 0 < k) (s : Is all k w
   respelled_word i w l r = elim (eqb_tells i k) [
     | inl y ↦ (let e = y.1 in subst (λ i. Is (set all k x) i w) (sym e)
         (ap (λ o. elim o as (λ _. Option Word) [ None ↦ None | Some t ↦ Some t.word ]) (set_there all k x (omega arith)) ∙ (ap (λ w. Some w) q ∙ (sym s ∙ subst (λ i. Is all i w) e r))))
-    | inr y ↦ word_same (set all k x) all i (set_other all k i x y.1) ∙ r
+    | inr y ↦ word_same all (set all k x) i (set_other all k i x y.1) ∙ r
   ]
 
   respelled_name : (i : ℕ) → Is all i word.Identifier → spelling_at (set all k x) i ≡ spelling_at all i
   respelled_name i r = elim (eqb_tells i k) [
     | inl y ↦ absurd (no_identifier (subst (λ i. Is all i word.Identifier) y.1 r))
-    | inr y ↦ spelling_same (set all k x) all i (set_other all k i x y.1)
+    | inr y ↦ spelling_same all (set all k x) i (set_other all k i x y.1)
   ]
 
   respelled : Alike all (set all k x) 0 (length all)
   respelled = record {
     words = λ i w l l' r. respelled_word i w l' r;
     names = λ i l l' r. respelled_name i r;
-    zeroth = spelling_same (set all k x) all 0 (set_other all k 0 x (λ e. omega arith));
+    zeroth = spelling_same all (set all k x) 0 (set_other all k 0 x (λ e. omega arith));
   }
 
   respelled_unit : {top : Limit} {t : Trees} → IsUnit top all t → IsUnit top (set all k x) t
@@ -277,7 +271,7 @@ module _ (ts : List Lexeme) (k : ℕ) (lt : k < length ts) (le : k ≤ length ts
   switch_grown = let lt' = before_body in
       (follow ts most_levels k (prefix k ts) (Upto k most_levels) (switch_at n) switch_late z (λ j l. prefix_get k ts j (omega arith)) (λ g j d l w. allows_upto k most_levels g j d w)
       (Via (prefix k ts) (Upto k most_levels) (switch_at n) switch_late (unit nowhere 0) file_scope 0) (owes (prefix k ts) (Upto k most_levels) (switch_at n) switch_late (unit nowhere 0) file_scope 0)).0
-      (word_same (prefix k ts) ts n (prefix_get k ts n lt') ∙ path_switch ts most_levels k z) tt
+      (word_same ts (prefix k ts) n (prefix_get k ts n lt') ∙ path_switch ts most_levels k z) tt
       (switch_via ts (prefix k ts) most_levels k k n d c (omega arith) le o (record { words = λ i w l q. q; names = λ i l. refl }) switch_late l (prefix_length k ts le)) fresh
 
   switch_shows : Shows ts k (switch_body_at n k)
@@ -313,11 +307,11 @@ module _ (ts : List Lexeme) (k : ℕ) (lt : k < length ts) (le : k ≤ length ts
   same_there = let lt' = before_body in turned_before ts n (k + 1) through k (omega arith) (λ e. omega arith)
 
   begins_word : (w : Word) → is_statement_start w ≡ true → (w ≡ word.Semicolon → ⊥) → Is ts k w → Begins (Upto k most_levels) (with_word ts n word.While) (k + 1)
-  begins_word w x f q = begins_by (begun word_there most_levels k (turned_length ts n (k + 1) through) (inside l) (d + 1) ([] ∷ o.after) w x f (word_same word_there ts k same_there ∙ q))
+  begins_word w x f q = begins_by (begun word_there most_levels k (turned_length ts n (k + 1) through) (inside l) (d + 1) ([] ∷ o.after) w x f (word_same ts word_there k same_there ∙ q))
 
   begins_name : IsIdentifier ts o.after k false → Begins (Upto k most_levels) (with_word ts n word.While) (k + 1)
   begins_name q = begins_by (begun_name word_there most_levels k (turned_length ts n (k + 1) through) (inside l) (d + 1) ([] ∷ o.after)
-      (word_same word_there ts k same_there ∙ q.0, subst (λ s. is_type o.after s ≡ false) (sym (spelling_same word_there ts k same_there)) q.1))
+      (word_same ts word_there k same_there ∙ q.0, subst (λ s. is_type o.after s ≡ false) (sym (spelling_same ts word_there k same_there)) q.1))
 
   -- the empty statement, whose one token is the last: in the text it has no spelling at first
   abbrev short : List Lexeme
