@@ -12,7 +12,7 @@ use Rattle.cr_syntax.specs.Units.{most_levels, file_scope, is_unused, IsBracket,
 use Rattle.cr_syntax.specs.Units as units
 use Rattle.cr_syntax.specs.Machine.{Manner, Test, plain, opens, reopens, Allows, anywhere, nowhere, unit, Reply, Cause, Done, Failed, Runs, has_word, barred, refusal_of, overflows, is_bracket, too_deep, ended, outside, unexpected}
 use Rattle.cr_syntax.specs.MachineBody.{body, is_any, is_label}
-use Rattle.cr_syntax.specs.MachineLaws.{IsOtherBody, IsRefusedSo, IsParsed}
+use Rattle.cr_syntax.specs.MachineLaws.{IsParsed}
 use Rattle.cr_syntax.proofs.Tests.{both, some_one}
 use Rattle.cr_syntax.proofs.MachineFirst.{none_true, true_false}
 use Rattle.cr_syntax.proofs.MachineRuns.{same, local, word_same}
@@ -22,7 +22,8 @@ use Rattle.cr_syntax.proofs.MachineUnitComplete.{unit_reads, unit_is_read}
 use Rattle.cr_syntax.proofs.MachineUnitForms.{ReadsUnits}
 use Rattle.cr_syntax.proofs.MachineRefusals.{outside_before_end, outside_at_end, outside_of_unit}
 use Rattle.cr_syntax.proofs.MachineViable.{barred_inside, crowded_inside}
-use Rattle.cr_syntax.proofs.MachineUnitViable.{unit_begins, unit_leaves, unit_barred_begins, unit_stands, unit_stands_leaving, unit_crowded_begins, definition_completes, definition_outside, unit_outside, unit_body}
+use Rattle.cr_syntax.proofs.MachineUnitViable.{unit_begins, unit_leaves, unit_barred_begins, unit_stands, unit_stands_leaving, unit_crowded_begins, definition_completes, definition_outside, unit_outside}
+use Rattle.cr_syntax.proofs.MachineWhile.{other_body}
 use Rattle.cr_syntax.proofs.MachineForms.{within}
 use Rattle.cr_syntax.proofs.MachineLoose.{looser, followed, Follows, so_too, departs, own_label, label_is}
 use Rattle.cr_syntax.proofs.MachineStuck.{is_crowded}
@@ -218,18 +219,14 @@ module _ (ts : List Lexeme) where
   bar_fine : {x : Test} {n m k : ℕ} → EndsBy (barring x n m) k → IsFineBefore ts k
   bar_fine {x = x} {n = n} {m = m} {k = k} y = let lt = barred_inside y in fine y (λ m q. cc) (unit_barred_begins ts most_levels k (omega arith) nowhere x n m y)
 
-  pub bar_outside : {x : Test} {n m k : ℕ} → EndsBy (barring x n m) k → (n ≡ 7 → ⊥) → Outside ts k n
-  bar_outside {x = x} {n = n} {m = m} {k = k} y f = let lt = barred_inside y in unit_outside ts k (omega arith) nowhere x n m y f
-
-  -- where it is the row of a switch's body
-  bar_body : {x : Test} {n m k : ℕ} → EndsBy (barring x n m) k → n ≡ 7 → IsOtherBody ts k
-  bar_body {x = x} {n = n} {m = m} {k = k} y e =
-      let lt = barred_inside y in
-      let b = unit_body ts k (omega arith) nowhere x m (subst (λ n. EndsBy (barring x n m) k) e y) in
-      record { switch = b.0; shows = b.1.shows; no_brace = b.1.no_brace; no_case = b.1.no_case; no_default = b.1.no_default }
+  pub bar_outside : {x : Test} {n m k : ℕ} → EndsBy (barring x n m) k → Outside ts k n
+  bar_outside {x = x} {n = n} {m = m} {k = k} y = elim (is_seventh n) [
+    | inl e ↦ subst (λ n. Outside ts k n) (sym e) (other_body ts x m k (subst (λ n. EndsBy (barring x n m) k) e y))
+    | inr f ↦ (let lt = barred_inside y in unit_outside ts k (omega arith) nowhere x n m y f)
+  ]
 
   -- in the bare grammar too
-  module _ (x : Test) (n m k : ℕ) (f : n ≡ 7 → ⊥) (y : EndsBy (barring x n m) k) (z : Loosely (barring x n m) k) where
+  module _ (x : Test) (n m k : ℕ) (y : EndsBy (barring x n m) k) (z : Loosely (barring x n m) k) where
     bar_ends : Begins Free ts (k + 1) → ⊥
     bar_ends = run_ends z refl (barred_inside y)
 
@@ -241,18 +238,18 @@ module _ (ts : List Lexeme) where
     form_not_deep {w = w} q v (units.refused {v = v'} q' b o x' d) =
         let r = row_there (within ts k q) y o (not_keyword_row x') (λ m q. cc) in
         d.too_deep (unit_stands_leaving ts most_levels k (let lt = barred_inside y in omega arith) nowhere x n m y (barred_inside y) (subst (λ n. StandsIn n v') (same_row r.2) x') (below w m (subst (λ w. is_bracket w ≡ true) (some_one (sym q' ∙ q)) (is_of_bracket b)) v))
-    form_not_deep q v (units.unexpected q' b c f' o x') = o n (bar_outside y f)
+    form_not_deep q v (units.unexpected q' b c f o x') = o n (bar_outside y)
 
     read_bar_word : {w : Word} → Is ts k w → (o : Bool) → overflows w m ≡ o → FirstRefusal ts (refusal_of (if o then too_deep else outside n) k)
     read_bar_word {w = w} q true v =
         let b = both (is_bracket w) (not (nat_lt m most_levels)) v in
-        let o = bar_outside y f in
+        let o = bar_outside y in
         let lt = within ts k q in
         let r = in_place o q (bracket_is w b.0) bar_ends in
         units.too_deep lt (bar_fine y)
         (units.refused q (bracket_is w b.0) o r.1
         (record { begins = unit_stands ts most_levels k (omega arith) nowhere x n m y lt r.1; too_deep = no_room_instead_in_unit most_levels (omega arith) lt (at_most m most_levels b.1) r.1 z }))
-    read_bar_word q false v = units.outside (within ts k q) (bar_fine y) (form_not_deep q v) (bar_outside y f)
+    read_bar_word q false v = units.outside (within ts k q) (bar_fine y) (form_not_deep q v) (bar_outside y)
 
     read_bar : (o : Option Word) → word_at ts k ≡ o → FirstRefusal ts (refusal_of (elim o as (λ _. Cause) [ None ↦ ended | Some w ↦ if overflows w m then too_deep else outside n ]) k)
     read_bar None q = let e = at_end ts k (let lt = barred_inside y in omega arith) q in let lt = barred_inside y in absurd (omega arith)
@@ -265,11 +262,11 @@ module _ (ts : List Lexeme) where
 
   read_label : {x : Test} {d k : ℕ} {v : Word} → EndsBy (barring x 6 d) k → Is ts k v → is_label v ≡ true → FirstRefusal ts (refusal_of (barred ts 6 k d) k)
   read_label {d = d} {k = k} {v = v} y q l =
-      subst (λ x. FirstRefusal ts (refusal_of x k)) (label_barred k d q (label_flat v l)) (units.outside (within ts k q) (bar_fine y) (label_not_deep q l) (bar_outside y (λ e. omega arith)))
+      subst (λ x. FirstRefusal ts (refusal_of x k)) (label_barred k d q (label_flat v l)) (units.outside (within ts k q) (bar_fine y) (label_not_deep q l) (bar_outside y))
 
-  read_barred : {x : Test} {n m k : ℕ} → (n ≡ 7 → ⊥) → EndsBy (barring x n m) k → Follows ts (AtMost most_levels) (body (unit anywhere 0)) file_scope 0 (barring x n m) k → FirstRefusal ts (refusal_of (barred ts n k m) k)
-  read_barred {x = x} {n = n} {m = m} {k = k} f y (so_too z) = read_bar x n m k f y z (word_at ts k) refl
-  read_barred {k = k} f y (departs (own_label v) z) = elim (label_is (word_at ts k) v) [ inl q ↦ read_label y q refl | inr q ↦ read_label y q refl ]
+  read_barred : {x : Test} {n m k : ℕ} → EndsBy (barring x n m) k → Follows ts (AtMost most_levels) (body (unit anywhere 0)) file_scope 0 (barring x n m) k → FirstRefusal ts (refusal_of (barred ts n k m) k)
+  read_barred {x = x} {n = n} {m = m} {k = k} y (so_too z) = read_bar x n m k y z (word_at ts k) refl
+  read_barred {k = k} y (departs (own_label v) z) = elim (label_is (word_at ts k) v) [ inl q ↦ read_label y q refl | inr q ↦ read_label y q refl ]
 
   -- A token for which a level finds no room.
   read_crowd : (k : ℕ) → EndsBy crowded k → FirstRefusal ts (refusal_of too_deep k)
@@ -306,15 +303,15 @@ module _ (ts : List Lexeme) where
     read_definition : FirstRefusal ts (units.OutsideSubset m 8)
     read_definition = units.outside (names_token named) named_fine named_not_deep named
 
-  read_end : (w : Way) (k : ℕ) → EndsBy w k → k ≤ length ts → IsRefusedSo ts (refusal_of (cause_by ts k w) k) k
-  read_end (stopped m) k y le = inl (read_stop m k y le (word_at ts k) refl)
-  read_end (barring x n m) k y le = elim (is_seventh n) [ inl e ↦ inr (bar_fine y, bar_body y e) | inr f ↦ inl (read_barred f y (follows y)) ]
-  read_end crowded k y le = inl (read_crowd k y)
-  read_end (defining m) k y le = inl (read_definition m k y le)
+  read_end : (w : Way) (k : ℕ) → EndsBy w k → k ≤ length ts → FirstRefusal ts (refusal_of (cause_by ts k w) k)
+  read_end (stopped m) k y le = read_stop m k y le (word_at ts k) refl
+  read_end (barring x n m) k y le = read_barred y (follows y)
+  read_end crowded k y le = read_crowd k y
+  read_end (defining m) k y le = read_definition m k y le
 
   -- the first refusal
-  pub unit_is_refused : {x : Cause} {k : ℕ} → Answers (Failed x k) → IsRefusedSo ts (refusal_of x k) k
-  unit_is_refused {k = k} h = let y = ends_so h in subst (λ x. IsRefusedSo ts (refusal_of x k) k) (sym y.cause) (read_end y.way k y.ends (ends_inside h (omega arith)))
+  pub unit_is_refused : {x : Cause} {k : ℕ} → Answers (Failed x k) → FirstRefusal ts (refusal_of x k)
+  unit_is_refused {k = k} h = let y = ends_so h in subst (λ x. FirstRefusal ts (refusal_of x k)) (sym y.cause) (read_end y.way k y.ends (ends_inside h (omega arith)))
 
   -- A unit's end is that of the tokens.
   no_word : (j : ℕ) → has_word ts j is_any ≡ false → word_at ts j ≡ None

@@ -226,13 +226,6 @@ module _ (ts : List Lexeme) (k : ℕ) (le : k ≤ length ts) (l : Labels) where
   deep o lt (shown_switch y) c = cc
   deep {t = t} o lt (shown_label n e y) c = let i : n ≡ k = omega arith in units.deep_label lt c (subst (λ j. misplaced_at j elsewhere t ≡ true) i (y elsewhere refl))
 
-  -- what else may be said of a switch's body that another statement begins
-  pub record IsBody (s : ℕ) : Type 0 where
-    pub shows : Shows ts k (switch_body_at s k)
-    pub no_brace : Is ts k word.LeftBrace → ⊥
-    pub no_case : Is ts k word.Case → ⊥
-    pub no_default : Is ts k word.Default → ⊥
-
   named : {x : Test} {n m : ℕ} {t : Trees} → is_labels x n ≡ false → (n ≡ 7 → ⊥) → (e : Scopes) × (passes ts e k x ≡ true) → ShownIn every k t (barring x n m) → Completes (Upto k most_levels) ts k t → Outside ts k n
   named {t = t} o u q (seen (shown_literal y)) c = units.compound_literal (is_of ts k word.LeftBrace q.1) (record { trees = t; completes = c; has = y })
   named {t = t} o u q (seen (shown_call y)) c = units.called_expression (is_of ts k word.LeftParen q.1) (record { trees = t; completes = c; has = y })
@@ -252,26 +245,3 @@ module _ (ts : List Lexeme) (k : ℕ) (le : k ≤ length ts) (l : Labels) where
       by x false o h = let g = bar_completes ts most_levels k le l x n m o h in named o u (tested h) g.1 g.2
       by (has f) true o h = let g = label_completes ts most_levels k le l f n m o h (barred_inside h) in deep o (barred_inside h) g.1 g.2
       by _ true o h = cc
-
-  -- where it is a switch's body
-  pub unit_body : (x : Test) (m : ℕ) → EndsSo (barring x 7 m) → (s : ℕ) × IsBody s
-  unit_body x m h = by (is_labels x 7) refl
-    where
-      body_of : {x : Test} {m : ℕ} {t : Trees} → (e : Scopes) × (passes ts e k x ≡ true) → ShownIn every k t (barring x 7 m) → Completes (Upto k most_levels) ts k t → (s : ℕ) × IsBody s
-      body_of q (seen y) c = elim y [ ]
-      body_of {t = t} q (shown_body s y) c = (
-        s,
-        record {
-          shows = record { trees = t; completes = c; has = y };
-          no_brace = no_start ts k q.0 word.LeftBrace refl refl q.1;
-          no_case = no_start ts k q.0 word.Case refl refl q.1;
-          no_default = no_start ts k q.0 word.Default refl refl q.1;
-        },
-      )
-
-      none_labels : (x : Test) → is_labels x 7 ≡ false
-      none_labels (has f) = refl
-      none_labels _ = refl
-
-      by : (b : Bool) → is_labels x 7 ≡ b → (s : ℕ) × IsBody s
-      by b o = let g = bar_completes ts most_levels k le l x 7 m (none_labels x) h in body_of (tested h) g.1 g.2

@@ -1,5 +1,5 @@
 -- What is proved of the machine.
-use Rattle.std.specs.Prelude.{◌≡◌, ℕ, ◌+◌, ◌<◌, ◌≤◌, List, length, slice_get, ◌⊎◌}
+use Rattle.std.specs.Prelude.{◌≡◌, ℕ, ◌+◌, ◌<◌, ◌≤◌, List, length, slice_get}
 use Rattle.cr_syntax.specs.declared.word.Word.{Word}
 use Rattle.cr_syntax.specs.declared.word.Word.TheVariants as word
 use Rattle.cr_syntax.specs.declared.symbol.Part.{Part}
@@ -9,7 +9,7 @@ use Rattle.cr_syntax.specs.Trees.{Trees}
 use Rattle.cr_syntax.specs.Words.{Lexeme}
 use Rattle.cr_syntax.specs.Scopes.{Scopes}
 use Rattle.cr_syntax.specs.Spells.{Limit, Free, AtMost, Upto, Is, Spells, a}
-use Rattle.cr_syntax.specs.Units.{IsUnit, most_levels, file_scope, IsTreeOf, Shows, switch_body_at, IsFineBefore, Refusal, FirstRefusal}
+use Rattle.cr_syntax.specs.Units.{IsUnit, most_levels, file_scope, IsTreeOf, Refusal, FirstRefusal}
 use Rattle.cr_syntax.specs.Machine.{Prog, Reply, Cause, Done, Failed, Runs, whole, unit, nowhere, too_deep, refusal_of}
 use Rattle.cr_syntax.specs.Expressions.{Start, Spelled, BeginsFrom, RunEnds, Outcome, Read, Refused, IsReading}
 use Rattle.cr_syntax.specs.MachineBody.{body, start_goal}
@@ -139,22 +139,10 @@ abbrev pub AnswersAreReadings : Type 0
 AnswersAreReadings = (ts : List Lexeme) (s : Start) (r : Reply) → IsStart s.part → s.at ≤ length ts →
     Runs body ts (AtMost most_levels) (body (whole s.part s.depth)) s.scopes s.at r → IsReading ts s (outcome_of r)
 
--- token k stands in the place of a switch's body, and begins neither a block nor a label
-pub record IsOtherBody (ts : List Lexeme) (k : ℕ) : Type 0 where
-  pub switch : ℕ
-  pub shows : Shows ts k (switch_body_at switch k)
-  pub no_brace : Is ts k word.LeftBrace → ⊥
-  pub no_case : Is ts k word.Case → ⊥
-  pub no_default : Is ts k word.Default → ⊥
-
--- it is the first refusal; or token k is refused in the place of a switch's body, and nothing before it is a cause
-abbrev pub IsRefusedSo : List Lexeme → Refusal → ℕ → Type 0
-IsRefusedSo ts r k = FirstRefusal ts r ⊎ (IsFineBefore ts k × IsOtherBody ts k)
-
--- what an answer says of a unit's tokens: that the trees are theirs, or that this is the refusal
+-- what an answer says of a unit's tokens: that the trees are theirs, or that this is the first refusal
 abbrev pub IsParsed : List Lexeme → Reply → Type 0
 IsParsed ts (Done t e j) = IsTreeOf ts t × (j ≡ length ts)
-IsParsed ts (Failed x k) = IsRefusedSo ts (refusal_of x k) k
+IsParsed ts (Failed x k) = FirstRefusal ts (refusal_of x k)
 
 -- what the machine of the subset answers of a unit
 abbrev pub MachineReadsUnits : Type 0

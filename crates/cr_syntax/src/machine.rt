@@ -20,9 +20,7 @@ pub fn machine_is_grammar()
     ensures readings { AnswersAreReadings }
 {}
 
-/// A law: what the machine of the subset answers of a file is the tree of its tokens, or their first refusal. Of a token in the
-/// place of a switch's body that begins neither a block nor a label it says no more than that, and that no token before is a
-/// cause.
+/// A law: what the machine of the subset answers of a file is the tree of its tokens, or their first refusal.
 pub fn machine_is_units()
     ensures { MachineReadsUnits }
 {}
