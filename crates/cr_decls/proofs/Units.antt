@@ -1,5 +1,5 @@
 -- What the machine's run of a unit says of the grammar, and what the nodes of a whole unit keep.
-use Rattle.std.proofs.Common.{◌≡◌, ℕ, List, [], ◌∷◌, ◌++◌, refl, sym, ap, subst, arith}
+use Rattle.std.proofs.Common.{◌≡◌, ℕ, List, [], ◌∷◌, ◌++◌, refl, sym, ap, subst}
 use Rattle.cr_syntax.specs.declared.node.Node.{Node}
 use Rattle.cr_syntax.specs.Words.{Lexeme}
 use Rattle.cr_syntax.specs.Scopes.{Scopes}
@@ -8,7 +8,6 @@ use Rattle.cr_syntax.specs.Units as u
 use Rattle.cr_syntax.specs.Units.{file_scope}
 use Rattle.cr_syntax.specs.Machine.{Prog, Reply, Done, Failed, nowhere, unit}
 use Rattle.cr_syntax.specs.MachineBody.{body}
-use Rattle.cr_syntax.specs.MachineLaws.{IsRefusedSo}
 use Rattle.cr_syntax.proofs.MachineRuns.{same}
 use Rattle.cr_syntax.proofs.MachineTidy.{unit_is_clean}
 use Rattle.cr_syntax.proofs.MachineUnit.{is_parsed}
@@ -20,7 +19,7 @@ use Rattle.cr_exprs.specs.Loose.{AreKept, Replaces}
 use Rattle.cr_exprs.specs.Answers.{RunsTo}
 use Rattle.cr_exprs.proofs.Loose.{kept_none}
 use Rattle.cr_decls.specs.Answers.{FailsSo, Declines}
-use Rattle.cr_decls.specs.Unit.{IsUnitOfSubset, IsOnlyTree, IsNoUnit, IsFirst, IsRefused}
+use Rattle.cr_decls.specs.Unit.{IsUnitOfSubset, IsOnlyTree, IsNoUnit, IsRefused}
 
 -- what is read is a unit of the subset, and the only tree
 pub unit_read : {ts : List Lexeme} {e : Scopes} {j : ℕ} {t : Trees} → RunsTo ts (body (unit nowhere 0)) file_scope 0 (Done t e j) → IsUnitOfSubset ts t
@@ -51,8 +50,8 @@ tree_read : {ts : List Lexeme} {e : Scopes} {j : ℕ} {t : Trees} → RunsTo ts 
 tree_read {ts} {e} {j} {t} h = (is_parsed ts (Done t e j) h).0
 
 -- and the refusal is the first
-first_so : {ts : List Lexeme} {x : u.Refusal} → FailsSo ts (body (unit nowhere 0)) file_scope 0 x → IsFirst ts x
-first_so {ts} h = record { at = h.at; refused = subst (λ x. IsRefusedSo ts x h.at) h.is (is_parsed ts (Failed h.cause h.at) h.run) }
+first_so : {ts : List Lexeme} {x : u.Refusal} → FailsSo ts (body (unit nowhere 0)) file_scope 0 x → u.FirstRefusal ts x
+first_so {ts} h = subst (λ x. u.FirstRefusal ts x) h.is (is_parsed ts (Failed h.cause h.at) h.run)
 
 first_read : {ts : List Lexeme} (f : ParseFault) → Declines ts (body (unit nowhere 0)) file_scope 0 f → IsRefused ts f
 first_read NoMemory h = tt

@@ -3,9 +3,8 @@ use Rattle.std.specs.Prelude.{◌≡◌, ℕ, false, List}
 use Rattle.cr_syntax.specs.Words.{Lexeme}
 use Rattle.cr_syntax.specs.Trees.{Trees}
 use Rattle.cr_syntax.specs.Spells.{AtMost}
-use Rattle.cr_syntax.specs.Units.{IsUnit, most_levels, Has, misplaced_at, elsewhere, variadic_definition, Refusal}
+use Rattle.cr_syntax.specs.Units.{IsUnit, most_levels, Has, misplaced_at, elsewhere, variadic_definition, FirstRefusal}
 use Rattle.cr_syntax.specs.Units as refusal
-use Rattle.cr_syntax.specs.MachineLaws.{IsRefusedSo}
 use Rattle.cr_exprs.specs.declared.fault.ParseFault.{ParseFault}
 use Rattle.cr_exprs.specs.declared.fault.ParseFault.TheVariants.{NoMemory, Unexpected, Ended, TooDeep, OutsideSubset}
 
@@ -24,15 +23,10 @@ IsOnlyTree ts t = (u : Trees) → IsUnit (AtMost most_levels) ts u → u ≡ t
 abbrev pub IsNoUnit : List Lexeme → ParseFault → Type 0
 IsNoUnit ts fault = (fault ≡ NoMemory → ⊥) → (t : Trees) → IsUnitOfSubset ts t → ⊥
 
--- the refusal is the first one, or names a token in the place of a switch's body, before which nothing is a cause
-pub record IsFirst (ts : List Lexeme) (r : Refusal) : Type 0 where
-  pub at : ℕ
-  pub refused : IsRefusedSo ts r at
-
--- What a fault says of the tokens; want of memory says nothing.
+-- The fault is the first refusal of the tokens; want of memory says nothing.
 abbrev pub IsRefused : List Lexeme → ParseFault → Type 0
 IsRefused ts NoMemory = Unit {0}
-IsRefused ts (Unexpected k) = IsFirst ts (refusal.Unexpected k)
-IsRefused ts Ended = IsFirst ts refusal.Ended
-IsRefused ts (TooDeep k) = IsFirst ts (refusal.TooDeep k)
-IsRefused ts (OutsideSubset k row) = IsFirst ts (refusal.OutsideSubset k row)
+IsRefused ts (Unexpected k) = FirstRefusal ts (refusal.Unexpected k)
+IsRefused ts Ended = FirstRefusal ts refusal.Ended
+IsRefused ts (TooDeep k) = FirstRefusal ts (refusal.TooDeep k)
+IsRefused ts (OutsideSubset k row) = FirstRefusal ts (refusal.OutsideSubset k row)
