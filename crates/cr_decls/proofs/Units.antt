@@ -8,38 +8,20 @@ use Rattle.cr_syntax.specs.Units as u
 use Rattle.cr_syntax.specs.Units.{file_scope}
 use Rattle.cr_syntax.specs.Machine.{Prog, Reply, Done, Failed, nowhere, unit}
 use Rattle.cr_syntax.specs.MachineBody.{body}
-use Rattle.cr_syntax.proofs.MachineRuns.{same}
-use Rattle.cr_syntax.proofs.MachineTidy.{unit_is_clean}
 use Rattle.cr_syntax.proofs.MachineUnit.{is_parsed}
 use Rattle.cr_syntax.proofs.MachineUnits.{unit_is_unit}
-use Rattle.cr_syntax.proofs.MachineUnitComplete.{clean_is_read, one_unit}
+use Rattle.cr_syntax.proofs.MachineUnitComplete.{one_unit}
 use Rattle.cr_exprs.specs.declared.fault.ParseFault.{ParseFault}
 use Rattle.cr_exprs.specs.declared.fault.ParseFault.TheVariants.{NoMemory, Unexpected, Ended, TooDeep, OutsideSubset}
 use Rattle.cr_exprs.specs.Loose.{AreKept, Replaces}
 use Rattle.cr_exprs.specs.Answers.{RunsTo}
 use Rattle.cr_exprs.proofs.Loose.{kept_none}
 use Rattle.cr_decls.specs.Answers.{FailsSo, Declines}
-use Rattle.cr_decls.specs.Unit.{IsUnitOfSubset, IsOnlyTree, IsNoUnit, IsRefused}
+use Rattle.cr_decls.specs.Unit.{IsOnlyTree, IsRefused}
 
--- what is read is a unit of the subset, and the only tree
-pub unit_read : {ts : List Lexeme} {e : Scopes} {j : ℕ} {t : Trees} → RunsTo ts (body (unit nowhere 0)) file_scope 0 (Done t e j) → IsUnitOfSubset ts t
-unit_read {e = e} {j = j} {t = t} h =
-    let clean = unit_is_clean nowhere 0 file_scope e 0 j t refl h in
-    record { is_unit = unit_is_unit nowhere e j t h; placed = clean.placed.all; fixed = clean.fixed.none_has }
-
+-- what is read is the only tree
 pub only_read : {ts : List Lexeme} {e : Scopes} {j : ℕ} {t : Trees} → RunsTo ts (body (unit nowhere 0)) file_scope 0 (Done t e j) → IsOnlyTree ts t
 only_read {e = e} {j = j} {t = t} h u y = one_unit y (unit_is_unit nowhere e j t h)
-
--- and what fails is none
-none_so : {ts : List Lexeme} {x : u.Refusal} → FailsSo ts (body (unit nowhere 0)) file_scope 0 x → (t : Trees) → IsUnitOfSubset ts t → ⊥
-none_so h t y = let q = same h.run (clean_is_read y.is_unit (λ k e. let f = y.placed k in cc) y.fixed) in cc
-
-pub none_read : {ts : List Lexeme} (f : ParseFault) → Declines ts (body (unit nowhere 0)) file_scope 0 f → IsNoUnit ts f
-none_read NoMemory h n t y = n refl
-none_read (Unexpected k) h n t y = none_so (h.run (u.Unexpected k) refl) t y
-none_read Ended h n t y = none_so (h.run u.Ended refl) t y
-none_read (TooDeep k) h n t y = none_so (h.run (u.TooDeep k) refl) t y
-none_read (OutsideSubset k row) h n t y = none_so (h.run (u.OutsideSubset k row) refl) t y
 
 -- the same, where text, scopes and trees are spelled otherwise
 run_as : {ts us : List Lexeme} {p : Prog} {c d : Scopes} {r y : Reply} → ts ≡ us → c ≡ d → r ≡ y → RunsTo ts p c 0 r → RunsTo us p d 0 y
@@ -66,14 +48,8 @@ tree_of {e = e} {j = j} q w x h = tree_read (run_as q w (ap (λ z. Done z e j) x
 pub first_of : {ts us : List Lexeme} {c : Scopes} {f : ParseFault} → ts ≡ us → c ≡ file_scope → Declines ts (body (unit nowhere 0)) c 0 f → IsRefused us f
 first_of {ts} {us} {c} {f} q w h = first_read f (subst (λ x. Declines us (body (unit nowhere 0)) x 0 f) w (subst (λ x. Declines x (body (unit nowhere 0)) c 0 f) q h))
 
-pub unit_of : {ts us : List Lexeme} {c e : Scopes} {j : ℕ} {t v : Trees} → ts ≡ us → c ≡ file_scope → t ≡ v → RunsTo ts (body (unit nowhere 0)) c 0 (Done t e j) → IsUnitOfSubset us v
-unit_of {e = e} {j = j} q w x h = unit_read (run_as q w (ap (λ z. Done z e j) x) h)
-
 pub only_of : {ts us : List Lexeme} {c e : Scopes} {j : ℕ} {t v : Trees} → ts ≡ us → c ≡ file_scope → t ≡ v → RunsTo ts (body (unit nowhere 0)) c 0 (Done t e j) → IsOnlyTree us v
 only_of {e = e} {j = j} q w x h = only_read (run_as q w (ap (λ z. Done z e j) x) h)
-
-pub none_of : {ts us : List Lexeme} {c : Scopes} {f : ParseFault} → ts ≡ us → c ≡ file_scope → Declines ts (body (unit nowhere 0)) c 0 f → IsNoUnit us f
-none_of {ts} {us} {c} {f} q w h = none_read f (subst (λ x. Declines us (body (unit nowhere 0)) x 0 f) w (subst (λ x. Declines x (body (unit nowhere 0)) c 0 f) q h))
 
 append_none : (ps : List ℕ) → ps ++ [] ≡ ps
 append_none [] = refl

@@ -2,7 +2,7 @@ ghost use Rattle.std.specs.Prelude.{◌≡◌, ◌<◌, ◌^◌, IfOk, IfErr, le
 ghost use Rattle.cr_syntax.specs.Words.{AreSpans, lexemes_of};
 ghost use Rattle.cr_syntax.specs.Kept.{row_in};
 ghost use Rattle.cr_syntax.specs.Units.{IsTreeOf};
-ghost use Rattle.cr_decls.specs.Unit.{IsUnitOfSubset, IsOnlyTree, IsNoUnit, IsRefused};
+ghost use Rattle.cr_decls.specs.Unit.{IsOnlyTree, IsRefused};
 
 use crate::externals::unit;
 use cr_exprs::{ParseFault, Source, words_of};
@@ -17,9 +17,7 @@ pub fn parse(alloc: Global, file: &[u8], tokens: &Tokens) -> Result<Unit, ParseF
     requires spans { AreSpans file.now tokens.now.list.items }
     requires few { length tokens.now.list.items < 2 ^ 32 }
     ensures tree { IfOk result (λ u. IsTreeOf (lexemes_of file.now tokens.now.list.items) (row_in u.nodes u.items)) }
-    ensures unit { IfOk result (λ u. IsUnitOfSubset (lexemes_of file.now tokens.now.list.items) (row_in u.nodes u.items)) }
     ensures only { IfOk result (λ u. IsOnlyTree (lexemes_of file.now tokens.now.list.items) (row_in u.nodes u.items)) }
-    ensures none { IfErr result (IsNoUnit (lexemes_of file.now tokens.now.list.items)) }
     ensures refused { IfErr result (IsRefused (lexemes_of file.now tokens.now.list.items)) }
     ensures tokens { IfOk result (λ u. u.tokens.list.items ≡ tokens.now.list.items) }
 {

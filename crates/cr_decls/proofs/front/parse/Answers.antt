@@ -1,7 +1,7 @@
 use Rattle.std.proofs.Common.{ap, arith, length}
 use Rattle.cr_syntax.specs.Words.{lexemes_of}
 use Rattle.cr_exprs.proofs.Grammar.{refusal_on}
-use Rattle.cr_decls.proofs.Units.{unit_kept, tree_of, unit_of, only_of, none_of, first_of}
+use Rattle.cr_decls.proofs.Units.{unit_kept, tree_of, only_of, first_of}
 use Rattle.cr_decls.proofs.front.parse.Goals as goal
 
 pub new-requires-clause-within : goal.new-requires-clause-within
@@ -12,12 +12,6 @@ new-requires-clause-named_once c = (unit_kept (length c.in_ok-list.list.items) _
 
 pub new-requires-clause-items_are_nodes : goal.new-requires-clause-items_are_nodes
 new-requires-clause-items_are_nodes c = (unit_kept (length c.in_ok-list.list.items) _ _ _ _ c.new-nodes.ensures (omega (arith, c.in_ok-list.ensures.len)) c.in_ok-items.ensures.kept).are_nodes
-
-pub returns-in_err-items-clause-none : goal.returns-in_err-items-clause-none
-returns-in_err-items-clause-none c = refusal_on c.from_residual-in_err-items.result _ _ c.from_residual-in_err-items.ensures.1 (none_of (ap (lexemes_of c.args.file.now) c.as_slice-list.ensures.value) (let a = c.in_ok-begin.ensures in let b = c.new-scopes.ensures in cc) c.in_err-items.ensures.reads.is)
-
-pub returns-clause-unit : goal.returns-clause-unit
-returns-clause-unit c = unit_of (ap (lexemes_of c.args.file.now) c.as_slice-list.ensures.value) (let a = c.in_ok-begin.ensures in let b = c.new-scopes.ensures in cc) (let a = c.new.ensures.nodes in let b = c.new.ensures.items in cc) c.in_ok-items.ensures.reads.is.run
 
 pub returns-clause-only : goal.returns-clause-only
 returns-clause-only c = only_of (ap (lexemes_of c.args.file.now) c.as_slice-list.ensures.value) (let a = c.in_ok-begin.ensures in let b = c.new-scopes.ensures in cc) (let a = c.new.ensures.nodes in let b = c.new.ensures.items in cc) c.in_ok-items.ensures.reads.is.run
