@@ -11,12 +11,12 @@ ghost use Rattle.cr_decls.specs.Programs.{controlling, repeated, first_clause, l
 
 use crate::declarations::declaration;
 use cr_exprs::{
-    Found, Goal, Optional, ParseFault, Source, expect, read, room, stands, starts_specifier,
+    Found, Goal, OpenScopes, Optional, ParseFault, Source, begin, expect, read, room, stands,
+    starts_specifier,
 };
 use cr_rows::Row;
-use cr_syntax::{Node, Scope, Word, begin};
+use cr_syntax::{Node, Word};
 use std::alloc::{AllocError, Global};
-use std::collections::LinkedList;
 
 /// The controlling expression of a statement in its brackets, where the scope of the statement begins. The token after is
 /// that behind the `)`.
@@ -25,7 +25,7 @@ pub(crate) fn controlling(
     source: &Source,
     at: usize,
     depth: usize,
-    scopes: &mut LinkedList<Scope>,
+    scopes: &mut OpenScopes,
     nodes: &mut Row<Node>,
 ) -> Result<Found, ParseFault>
     requires readable { IsReadable source.now }
@@ -61,7 +61,7 @@ pub(crate) fn repeated(
     source: &Source,
     at: usize,
     depth: usize,
-    scopes: &mut LinkedList<Scope>,
+    scopes: &mut OpenScopes,
     nodes: &mut Row<Node>,
 ) -> Result<Found, ParseFault>
     requires readable { IsReadable source.now }
@@ -95,7 +95,7 @@ pub(crate) fn first_clause(
     source: &Source,
     at: usize,
     depth: usize,
-    scopes: &mut LinkedList<Scope>,
+    scopes: &mut OpenScopes,
     nodes: &mut Row<Node>,
 ) -> Result<Optional, ParseFault>
     requires readable { IsReadable source.now }
@@ -121,7 +121,7 @@ pub(crate) fn clause(
     source: &Source,
     at: usize,
     depth: usize,
-    scopes: &mut LinkedList<Scope>,
+    scopes: &mut OpenScopes,
     nodes: &mut Row<Node>,
 ) -> Result<Optional, ParseFault>
     requires readable { IsReadable source.now }
@@ -151,7 +151,7 @@ pub(crate) fn last_clause(
     source: &Source,
     at: usize,
     depth: usize,
-    scopes: &mut LinkedList<Scope>,
+    scopes: &mut OpenScopes,
     nodes: &mut Row<Node>,
 ) -> Result<Optional, ParseFault>
     requires readable { IsReadable source.now }

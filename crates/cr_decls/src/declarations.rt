@@ -12,13 +12,12 @@ ghost use Rattle.cr_exprs.specs.Answers.{Reads, IsPlaced, IsGrown, tree};
 use crate::names::declare;
 use crate::start::bar_designator;
 use cr_exprs::{
-    Found, Goal, ParseFault, Source, expect, named_declarator, over, pair, past, push, read, room,
-    row_of, specifier_row, stands,
+    Found, Goal, OpenScopes, ParseFault, Source, expect, named_declarator, over, pair, past, push,
+    read, room, row_of, specifier_row, stands,
 };
 use cr_rows::Row;
-use cr_syntax::{FRESH, Kind, Node, Scope, Word, past_token};
+use cr_syntax::{FRESH, Kind, Node, Word, past_token};
 use std::alloc::Global;
-use std::collections::LinkedList;
 
 /// An initializer (6.7.9).
 #[cycle(initializers)]
@@ -27,7 +26,7 @@ pub(crate) fn initializer(
     source: &Source,
     at: usize,
     depth: usize,
-    scopes: &mut LinkedList<Scope>,
+    scopes: &mut OpenScopes,
     nodes: &mut Row<Node>,
 ) -> Result<Found, ParseFault>
     requires readable { IsReadable source.now }
@@ -52,7 +51,7 @@ fn initializers(
     source: &Source,
     start: usize,
     depth: usize,
-    scopes: &mut LinkedList<Scope>,
+    scopes: &mut OpenScopes,
     nodes: &mut Row<Node>,
 ) -> Result<Found, ParseFault>
     requires readable { IsReadable source.now }
@@ -85,7 +84,7 @@ fn initialized(
     start: usize,
     declarator: Found,
     depth: usize,
-    scopes: &mut LinkedList<Scope>,
+    scopes: &mut OpenScopes,
     nodes: &mut Row<Node>,
 ) -> Result<Found, ParseFault>
     requires readable { IsReadable source.now }
@@ -119,7 +118,7 @@ pub(crate) fn declaration(
     source: &Source,
     at: usize,
     depth: usize,
-    scopes: &mut LinkedList<Scope>,
+    scopes: &mut OpenScopes,
     nodes: &mut Row<Node>,
 ) -> Result<Found, ParseFault>
     requires readable { IsReadable source.now }
@@ -161,7 +160,7 @@ pub(crate) fn declarators(
     specifiers: Found,
     first: Found,
     depth: usize,
-    scopes: &mut LinkedList<Scope>,
+    scopes: &mut OpenScopes,
     nodes: &mut Row<Node>,
 ) -> Result<Found, ParseFault>
     requires readable { IsReadable source.now }

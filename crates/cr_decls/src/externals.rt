@@ -16,19 +16,18 @@ use crate::names::define;
 use crate::start::stands_any;
 use crate::statements::compound;
 use cr_exprs::{
-    Found, ParseFault, Source, drop_scope, named_declarator, over, past, row_of, specifier_row,
-    stands, triple,
+    Found, OpenScopes, ParseFault, Source, drop_scope, named_declarator, over, past, row_of,
+    specifier_row, stands, triple,
 };
 use cr_rows::Row;
-use cr_syntax::{FRESH, Kind, Node, Scope, Word};
+use cr_syntax::{FRESH, Kind, Node, Word};
 use std::alloc::Global;
-use std::collections::LinkedList;
 
 /// External declarations up to the last token, one at least.
 pub(crate) fn unit(
     alloc: Global,
     source: &Source,
-    scopes: &mut LinkedList<Scope>,
+    scopes: &mut OpenScopes,
     nodes: &mut Row<Node>,
 ) -> Result<Row<u32>, ParseFault>
     requires readable { IsReadable source.now }
@@ -53,7 +52,7 @@ fn external(
     alloc: Global,
     source: &Source,
     at: usize,
-    scopes: &mut LinkedList<Scope>,
+    scopes: &mut OpenScopes,
     nodes: &mut Row<Node>,
 ) -> Result<Found, ParseFault>
     requires readable { IsReadable source.now }
@@ -88,7 +87,7 @@ fn defined(
     start: usize,
     specifiers: Found,
     declarator: Found,
-    scopes: &mut LinkedList<Scope>,
+    scopes: &mut OpenScopes,
     nodes: &mut Row<Node>,
 ) -> Result<Found, ParseFault>
     requires readable { IsReadable source.now }

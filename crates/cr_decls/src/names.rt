@@ -7,11 +7,10 @@ ghost use Rattle.cr_exprs.specs.Source.{IsReadable, text_of};
 ghost use Rattle.cr_exprs.specs.Answers.{tree};
 ghost use Rattle.cr_decls.specs.Programs.{declared};
 
-use cr_exprs::{Found, ParseFault, Source, bring, drop_scope, past, taken};
+use cr_exprs::{Found, OpenScopes, ParseFault, Source, bring, drop_scope, give_back, past, taken};
 use cr_rows::Row;
-use cr_syntax::{Context, Node, Scope};
+use cr_syntax::{Context, Node};
 use std::alloc::Global;
-use std::collections::LinkedList;
 
 /// The name of a declarator enters the scope around that of its own parameters, which ends.
 pub(crate) fn declare(
@@ -19,7 +18,7 @@ pub(crate) fn declare(
     source: &Source,
     context: Context,
     declarator: Found,
-    scopes: &mut LinkedList<Scope>,
+    scopes: &mut OpenScopes,
     nodes: &Row<Node>,
 ) -> Result<(), ParseFault>
     requires readable { IsReadable source.now }
@@ -46,7 +45,7 @@ pub(crate) fn define(
     source: &Source,
     context: Context,
     declarator: Found,
-    scopes: &mut LinkedList<Scope>,
+    scopes: &mut OpenScopes,
     nodes: &Row<Node>,
 ) -> Result<(), ParseFault>
     requires readable { IsReadable source.now }
@@ -65,6 +64,6 @@ pub(crate) fn define(
         said.type_name,
         scopes,
     )?;
-    scopes.push_front(own)?;
+    give_back(scopes, own)?;
     Ok(())
 }

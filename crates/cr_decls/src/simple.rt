@@ -10,11 +10,10 @@ ghost use Rattle.cr_exprs.specs.Source.{IsReadable, text_of};
 ghost use Rattle.cr_exprs.specs.Answers.{Reads, IsPlaced, tree};
 ghost use Rattle.cr_decls.specs.Programs.{simple};
 
-use cr_exprs::{Found, Goal, ParseFault, Source, expect, leaf, over, read, stands};
+use cr_exprs::{Found, Goal, OpenScopes, ParseFault, Source, expect, leaf, over, read, stands};
 use cr_rows::Row;
-use cr_syntax::{Kind, Node, Scope, Word};
+use cr_syntax::{Kind, Node, Word};
 use std::alloc::Global;
-use std::collections::LinkedList;
 
 /// A statement without another one in it, a jump or an expression (6.8.3, 6.8.6).
 pub(crate) fn simple(
@@ -22,7 +21,7 @@ pub(crate) fn simple(
     source: &Source,
     at: usize,
     depth: usize,
-    scopes: &mut LinkedList<Scope>,
+    scopes: &mut OpenScopes,
     nodes: &mut Row<Node>,
 ) -> Result<Found, ParseFault>
     requires readable { IsReadable source.now }
@@ -62,7 +61,7 @@ fn return_rest(
     source: &Source,
     start: usize,
     depth: usize,
-    scopes: &mut LinkedList<Scope>,
+    scopes: &mut OpenScopes,
     nodes: &mut Row<Node>,
 ) -> Result<Found, ParseFault>
     requires readable { IsReadable source.now }

@@ -4,4 +4,5 @@ pub mod Loose
 pub mod Answers
 pub mod Parts
 pub mod Names
+pub mod Marks
 pub mod Expression

@@ -13,13 +13,13 @@ use crate::declarators::{Wanted, declarator};
 use crate::fault::ParseFault;
 use crate::found::Found;
 use crate::goal::Goal;
+use crate::open_scopes::OpenScopes;
 use crate::reading::started;
 use crate::source::Source;
 use crate::specifiers::row;
 use cr_rows::Row;
-use cr_syntax::{Context, Node, Part, Scope};
+use cr_syntax::{Context, Node, Part};
 use std::alloc::Global;
-use std::collections::LinkedList;
 
 /// An expression, an assignment or a conditional, whatever stands behind it.
 pub fn read(
@@ -28,7 +28,7 @@ pub fn read(
     goal: Goal,
     at: usize,
     depth: usize,
-    scopes: &mut LinkedList<Scope>,
+    scopes: &mut OpenScopes,
     nodes: &mut Row<Node>,
 ) -> Result<Found, ParseFault>
     requires readable { IsReadable source.now }
@@ -47,7 +47,7 @@ pub fn specifier_row(
     source: &Source,
     at: usize,
     depth: usize,
-    scopes: &mut LinkedList<Scope>,
+    scopes: &mut OpenScopes,
     nodes: &mut Row<Node>,
 ) -> Result<Found, ParseFault>
     requires readable { IsReadable source.now }
@@ -67,7 +67,7 @@ pub fn named_declarator(
     context: Context,
     at: usize,
     depth: usize,
-    scopes: &mut LinkedList<Scope>,
+    scopes: &mut OpenScopes,
     nodes: &mut Row<Node>,
 ) -> Result<Found, ParseFault>
     requires readable { IsReadable source.now }

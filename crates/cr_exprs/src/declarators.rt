@@ -18,15 +18,15 @@ use crate::arena::{
 use crate::expressions::conditional;
 use crate::fault::ParseFault;
 use crate::found::{Found, Listed, Optional};
-use crate::scopes::{enter_parameter, kept, taken};
+use crate::open_scopes::{OpenScopes, begin, give_back, taken};
+use crate::scopes::{enter_parameter, kept};
 use crate::source::{
     Source, consts, expect, is_declared, refused, room, stands, starts_abstract, starts_declarator,
 };
 use crate::specifiers::row;
 use cr_rows::Row;
-use cr_syntax::{Context, FRESH, Kind, Node, Part, Scope, Word, begin, past_token};
+use cr_syntax::{Context, FRESH, Kind, Node, Part, Word, past_token};
 use std::alloc::Global;
-use std::collections::LinkedList;
 
 /// Which declarators may come.
 #[derive(Clone, Copy)]
@@ -77,7 +77,7 @@ pub(crate) fn declarator(
     context: Context,
     at: usize,
     depth: usize,
-    scopes: &mut LinkedList<Scope>,
+    scopes: &mut OpenScopes,
     nodes: &mut Row<Node>,
 ) -> Result<Found, ParseFault>
     requires readable { IsReadable source.now }
@@ -113,7 +113,7 @@ fn pointer(
     context: Context,
     start: usize,
     depth: usize,
-    scopes: &mut LinkedList<Scope>,
+    scopes: &mut OpenScopes,
     nodes: &mut Row<Node>,
 ) -> Result<Found, ParseFault>
     requires readable { IsReadable source.now }
@@ -174,7 +174,7 @@ fn bracketed(
     context: Context,
     start: usize,
     depth: usize,
-    scopes: &mut LinkedList<Scope>,
+    scopes: &mut OpenScopes,
     nodes: &mut Row<Node>,
 ) -> Result<Found, ParseFault>
     requires readable { IsReadable source.now }
@@ -228,7 +228,7 @@ fn array_start(
     wanted: Wanted,
     at: usize,
     depth: usize,
-    scopes: &mut LinkedList<Scope>,
+    scopes: &mut OpenScopes,
     nodes: &mut Row<Node>,
 ) -> Result<Found, ParseFault>
     requires readable { IsReadable source.now }
@@ -258,7 +258,7 @@ fn declarator_suffixes(
     start: usize,
     first: Found,
     depth: usize,
-    scopes: &mut LinkedList<Scope>,
+    scopes: &mut OpenScopes,
     nodes: &mut Row<Node>,
 ) -> Result<Found, ParseFault>
     requires readable { IsReadable source.now }
@@ -287,7 +287,7 @@ fn declarator_suffix(
     start: usize,
     left: Found,
     depth: usize,
-    scopes: &mut LinkedList<Scope>,
+    scopes: &mut OpenScopes,
     nodes: &mut Row<Node>,
 ) -> Result<Option<Found>, ParseFault>
     requires readable { IsReadable source.now }
@@ -319,7 +319,7 @@ fn array(
     start: usize,
     left: Found,
     depth: usize,
-    scopes: &mut LinkedList<Scope>,
+    scopes: &mut OpenScopes,
     nodes: &mut Row<Node>,
 ) -> Result<Found, ParseFault>
     requires readable { IsReadable source.now }
@@ -335,7 +335,7 @@ fn array(
     room(left.next, depth)?;
     let own = taken(alloc, scopes);
     let size = size(alloc, source, left.next + 1, depth, scopes, nodes)?;
-    scopes.push_front(own)?;
+    give_back(scopes, own)?;
     pair_optional(alloc, nodes, Kind::ArrayDeclarator, start, left.node, size)
 }
 
@@ -347,7 +347,7 @@ fn function(
     start: usize,
     left: Found,
     depth: usize,
-    scopes: &mut LinkedList<Scope>,
+    scopes: &mut OpenScopes,
     nodes: &mut Row<Node>,
 ) -> Result<Found, ParseFault>
     requires readable { IsReadable source.now }
@@ -376,7 +376,7 @@ fn function(
     begin(alloc, scopes)?;
     let list = parameters(alloc, source, left.next + 1, depth + 1, scopes, nodes)?;
     let names = taken(alloc, scopes);
-    scopes.push_front(kept(nodes, left.node, names, own))?;
+    give_back(scopes, kept(nodes, left.node, names, own))?;
     expect(source, list.next, Word::RightParen, depth + 1)?;
     pair(
         alloc,
@@ -397,7 +397,7 @@ fn abstract_suffixes(
     start: usize,
     first: Found,
     depth: usize,
-    scopes: &mut LinkedList<Scope>,
+    scopes: &mut OpenScopes,
     nodes: &mut Row<Node>,
 ) -> Result<Found, ParseFault>
     requires readable { IsReadable source.now }
@@ -425,7 +425,7 @@ fn size(
     source: &Source,
     at: usize,
     depth: usize,
-    scopes: &mut LinkedList<Scope>,
+    scopes: &mut OpenScopes,
     nodes: &mut Row<Node>,
 ) -> Result<Optional, ParseFault>
     requires readable { IsReadable source.now }
@@ -456,7 +456,7 @@ fn parameters(
     source: &Source,
     at: usize,
     depth: usize,
-    scopes: &mut LinkedList<Scope>,
+    scopes: &mut OpenScopes,
     nodes: &mut Row<Node>,
 ) -> Result<Found, ParseFault>
     requires readable { IsReadable source.now }
@@ -488,7 +488,7 @@ fn parameter(
     source: &Source,
     at: usize,
     depth: usize,
-    scopes: &mut LinkedList<Scope>,
+    scopes: &mut OpenScopes,
     nodes: &mut Row<Node>,
 ) -> Result<Found, ParseFault>
     requires readable { IsReadable source.now }

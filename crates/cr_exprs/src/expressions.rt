@@ -13,14 +13,14 @@ ghost use Rattle.cr_exprs.specs.Parts.{chosen};
 use crate::arena::{is_unary, pair, triple};
 use crate::fault::ParseFault;
 use crate::found::Found;
+use crate::open_scopes::OpenScopes;
 use crate::operands::{grouped, unary};
 use crate::source::{Source, bar, expect, room, stands, starts_plain};
 use crate::specifiers::type_name;
 use crate::tables::{ASSIGNMENT, kind_in, operator_in, tighter};
 use cr_rows::Row;
-use cr_syntax::{Kind, Node, Part, Scope, Word};
+use cr_syntax::{Kind, Node, Part, Word};
 use std::alloc::Global;
-use std::collections::LinkedList;
 
 /// An expression (6.5.17).
 #[cycle(grammar)]
@@ -29,7 +29,7 @@ pub(crate) fn expression(
     source: &Source,
     at: usize,
     depth: usize,
-    scopes: &mut LinkedList<Scope>,
+    scopes: &mut OpenScopes,
     nodes: &mut Row<Node>,
 ) -> Result<Found, ParseFault>
     requires readable { IsReadable source.now }
@@ -62,7 +62,7 @@ pub(crate) fn assignment(
     source: &Source,
     at: usize,
     depth: usize,
-    scopes: &mut LinkedList<Scope>,
+    scopes: &mut OpenScopes,
     nodes: &mut Row<Node>,
 ) -> Result<Found, ParseFault>
     requires readable { IsReadable source.now }
@@ -91,7 +91,7 @@ pub(crate) fn conditional(
     source: &Source,
     at: usize,
     depth: usize,
-    scopes: &mut LinkedList<Scope>,
+    scopes: &mut OpenScopes,
     nodes: &mut Row<Node>,
 ) -> Result<Found, ParseFault>
     requires readable { IsReadable source.now }
@@ -117,7 +117,7 @@ fn chosen(
     start: usize,
     test: Found,
     depth: usize,
-    scopes: &mut LinkedList<Scope>,
+    scopes: &mut OpenScopes,
     nodes: &mut Row<Node>,
 ) -> Result<Found, ParseFault>
     requires readable { IsReadable source.now }
@@ -152,7 +152,7 @@ fn binary(
     part: Part,
     at: usize,
     depth: usize,
-    scopes: &mut LinkedList<Scope>,
+    scopes: &mut OpenScopes,
     nodes: &mut Row<Node>,
 ) -> Result<Found, ParseFault>
     requires readable { IsReadable source.now }
@@ -178,7 +178,7 @@ fn operand(
     part: Part,
     at: usize,
     depth: usize,
-    scopes: &mut LinkedList<Scope>,
+    scopes: &mut OpenScopes,
     nodes: &mut Row<Node>,
 ) -> Result<Found, ParseFault>
     requires readable { IsReadable source.now }
@@ -201,7 +201,7 @@ pub(crate) fn cast(
     source: &Source,
     at: usize,
     depth: usize,
-    scopes: &mut LinkedList<Scope>,
+    scopes: &mut OpenScopes,
     nodes: &mut Row<Node>,
 ) -> Result<Found, ParseFault>
     requires readable { IsReadable source.now }
@@ -228,7 +228,7 @@ fn converted(
     source: &Source,
     start: usize,
     depth: usize,
-    scopes: &mut LinkedList<Scope>,
+    scopes: &mut OpenScopes,
     nodes: &mut Row<Node>,
 ) -> Result<Found, ParseFault>
     requires readable { IsReadable source.now }

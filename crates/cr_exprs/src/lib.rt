@@ -16,6 +16,7 @@ mod found;
 mod front;
 mod goal;
 mod names;
+mod open_scopes;
 mod operands;
 mod reading;
 mod scopes;
@@ -32,7 +33,8 @@ pub use found::{Found, Optional};
 pub use front::expression;
 pub use goal::Goal;
 pub use names::TypeNames;
-pub use scopes::{bring, drop_scope, taken};
+pub use open_scopes::{OpenScopes, begin, drop_scope, give_back, taken};
+pub use scopes::bring;
 pub use source::{
     Source, barred, expect, here, is_ordinary, room, stands, starts_specifier, words_of,
 };

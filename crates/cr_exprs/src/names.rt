@@ -1,6 +1,7 @@
 ghost use Rattle.std.specs.Prelude.{◌≡◌, [], IfOk};
 ghost use Rattle.cr_exprs.specs.Names.{names_onto, scopes_of};
 
+use crate::open_scopes::{OpenScopes, give_back};
 use cr_rows::Row;
 use cr_syntax::{Scope, TypeName};
 use std::alloc::{AllocError, Global};
@@ -14,12 +15,12 @@ pub struct TypeNames {
 
 impl TypeNames {
     /// The scopes as the grammar has them, the innermost first. The error is want of memory.
-    pub fn to_scopes(&self, alloc: Global) -> Result<LinkedList<Scope>, AllocError>
+    pub fn to_scopes(&self, alloc: Global) -> Result<OpenScopes, AllocError>
         ensures { IfOk result (λ scopes. scopes ≡ scopes_of self.now) }
     {
-        let mut scopes = LinkedList::new(alloc);
+        let mut scopes = OpenScopes::new(alloc)?;
         for names in self.scopes.as_slice() {
-            scopes.push_front(scope_of(alloc, names.as_slice())?)?;
+            give_back(&mut scopes, scope_of(alloc, names.as_slice())?)?;
         }
         Ok(scopes)
     }

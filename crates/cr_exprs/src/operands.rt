@@ -16,13 +16,13 @@ use crate::arena::{is_identifier, leaf, over, pair, push};
 use crate::expressions::{assignment, cast, expression};
 use crate::fault::ParseFault;
 use crate::found::{Found, Listed};
+use crate::open_scopes::OpenScopes;
 use crate::source::{Source, bar, expect, is_ordinary, refused, room, stands, starts_plain, texts};
 use crate::specifiers::type_name;
 use crate::tables::{CAST_PREFIXES, CONSTANTS, POSTFIX, UNARY_PREFIXES, kind_in};
 use cr_rows::Row;
-use cr_syntax::{Kind, Node, Scope, Word};
+use cr_syntax::{Kind, Node, Word};
 use std::alloc::Global;
-use std::collections::LinkedList;
 
 /// A unary expression (6.5.3).
 #[cycle(grammar)]
@@ -31,7 +31,7 @@ pub(crate) fn unary(
     source: &Source,
     at: usize,
     depth: usize,
-    scopes: &mut LinkedList<Scope>,
+    scopes: &mut OpenScopes,
     nodes: &mut Row<Node>,
 ) -> Result<Found, ParseFault>
     requires readable { IsReadable source.now }
@@ -62,7 +62,7 @@ fn stepped(
     kind: Kind,
     start: usize,
     depth: usize,
-    scopes: &mut LinkedList<Scope>,
+    scopes: &mut OpenScopes,
     nodes: &mut Row<Node>,
 ) -> Result<Found, ParseFault>
     requires readable { IsReadable source.now }
@@ -86,7 +86,7 @@ fn prefixed(
     kind: Kind,
     start: usize,
     depth: usize,
-    scopes: &mut LinkedList<Scope>,
+    scopes: &mut OpenScopes,
     nodes: &mut Row<Node>,
 ) -> Result<Found, ParseFault>
     requires readable { IsReadable source.now }
@@ -110,7 +110,7 @@ fn measured(
     source: &Source,
     start: usize,
     depth: usize,
-    scopes: &mut LinkedList<Scope>,
+    scopes: &mut OpenScopes,
     nodes: &mut Row<Node>,
 ) -> Result<Found, ParseFault>
     requires readable { IsReadable source.now }
@@ -173,7 +173,7 @@ fn measured_type(
     source: &Source,
     start: usize,
     depth: usize,
-    scopes: &mut LinkedList<Scope>,
+    scopes: &mut OpenScopes,
     nodes: &mut Row<Node>,
 ) -> Result<Found, ParseFault>
     requires readable { IsReadable source.now }
@@ -204,7 +204,7 @@ fn postfix(
     source: &Source,
     at: usize,
     depth: usize,
-    scopes: &mut LinkedList<Scope>,
+    scopes: &mut OpenScopes,
     nodes: &mut Row<Node>,
 ) -> Result<Found, ParseFault>
     requires readable { IsReadable source.now }
@@ -239,7 +239,7 @@ fn called(
     source: &Source,
     start: usize,
     depth: usize,
-    scopes: &mut LinkedList<Scope>,
+    scopes: &mut OpenScopes,
     nodes: &mut Row<Node>,
 ) -> Result<Found, ParseFault>
     requires readable { IsReadable source.now }
@@ -270,7 +270,7 @@ fn arguments(
     source: &Source,
     at: usize,
     depth: usize,
-    scopes: &mut LinkedList<Scope>,
+    scopes: &mut OpenScopes,
     nodes: &mut Row<Node>,
 ) -> Result<Listed, ParseFault>
     requires readable { IsReadable source.now }
@@ -301,7 +301,7 @@ pub(crate) fn grouped(
     start: usize,
     at: usize,
     depth: usize,
-    scopes: &mut LinkedList<Scope>,
+    scopes: &mut OpenScopes,
     nodes: &mut Row<Node>,
 ) -> Result<Found, ParseFault>
     requires readable { IsReadable source.now }
@@ -326,7 +326,7 @@ fn suffixes(
     start: usize,
     first: Found,
     depth: usize,
-    scopes: &mut LinkedList<Scope>,
+    scopes: &mut OpenScopes,
     nodes: &mut Row<Node>,
 ) -> Result<Found, ParseFault>
     requires readable { IsReadable source.now }
@@ -357,7 +357,7 @@ fn suffix(
     start: usize,
     left: Found,
     depth: usize,
-    scopes: &mut LinkedList<Scope>,
+    scopes: &mut OpenScopes,
     nodes: &mut Row<Node>,
 ) -> Result<Option<Found>, ParseFault>
     requires readable { IsReadable source.now }
@@ -449,7 +449,7 @@ fn subscript(
     start: usize,
     left: Found,
     depth: usize,
-    scopes: &mut LinkedList<Scope>,
+    scopes: &mut OpenScopes,
     nodes: &mut Row<Node>,
 ) -> Result<Found, ParseFault>
     requires readable { IsReadable source.now }

@@ -13,11 +13,11 @@ use crate::expressions::{assignment, conditional, expression};
 use crate::fault::ParseFault;
 use crate::found::Found;
 use crate::goal::Goal;
+use crate::open_scopes::OpenScopes;
 use crate::source::{Source, bar_unused};
 use cr_rows::Row;
-use cr_syntax::{Node, Scope};
+use cr_syntax::Node;
 use std::alloc::Global;
-use std::collections::LinkedList;
 
 /// What is to be read, with no unused keyword behind it.
 pub(crate) fn whole(
@@ -26,7 +26,7 @@ pub(crate) fn whole(
     goal: Goal,
     at: usize,
     depth: usize,
-    scopes: &mut LinkedList<Scope>,
+    scopes: &mut OpenScopes,
     nodes: &mut Row<Node>,
 ) -> Result<Found, ParseFault>
     requires readable { IsReadable source.now }
@@ -48,7 +48,7 @@ pub(crate) fn started(
     goal: Goal,
     at: usize,
     depth: usize,
-    scopes: &mut LinkedList<Scope>,
+    scopes: &mut OpenScopes,
     nodes: &mut Row<Node>,
 ) -> Result<Found, ParseFault>
     requires readable { IsReadable source.now }

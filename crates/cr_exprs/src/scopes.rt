@@ -2,7 +2,7 @@ ghost use Rattle.std.specs.Prelude.{◌≡◌, ◌<◌, OnOk, IfErr, length, if�
 ghost use Rattle.cr_syntax.specs.Scopes.{enter};
 ghost use Rattle.cr_syntax.specs.Kept.{PartsAreBelow};
 ghost use Rattle.cr_syntax.specs.Context.{is_bare};
-ghost use Rattle.cr_syntax.specs.Machine.{brought, innermost_of, around};
+ghost use Rattle.cr_syntax.specs.Machine.{brought};
 ghost use Rattle.cr_exprs.specs.Source.{IsReadable, text_of};
 ghost use Rattle.cr_exprs.specs.Answers.{tree};
 ghost use Rattle.cr_exprs.specs.Parts.{entered};
@@ -10,11 +10,11 @@ ghost use Rattle.cr_exprs.specs.Parts.{entered};
 use crate::arena::{is_declarator, past};
 use crate::fault::ParseFault;
 use crate::found::Found;
+use crate::open_scopes::{OpenScopes, drop_scope, enter};
 use crate::source::{Source, spelling};
 use cr_rows::Row;
-use cr_syntax::{Context, Node, Scope, enter};
-use std::alloc::{AllocError, Global};
-use std::collections::LinkedList;
+use cr_syntax::{Context, Node, Scope};
+use std::alloc::Global;
 
 /// The identifier with number `name`, one before token `at`, enters the innermost scope.
 pub fn bring(
@@ -23,7 +23,7 @@ pub fn bring(
     at: usize,
     name: usize,
     is_type: bool,
-    scopes: &mut LinkedList<Scope>,
+    scopes: &mut OpenScopes,
 ) -> Result<(), ParseFault>
     requires { IsReadable source.now }
     ensures ok { OnOk result (scopes.new ≡ enter (brought (text_of source.now) at name is_type) scopes.old) }
@@ -38,31 +38,13 @@ pub fn bring(
     Ok(())
 }
 
-/// Takes the innermost scope off, an empty one where none is open.
-pub fn taken(alloc: Global, scopes: &mut LinkedList<Scope>) -> Scope
-    ensures value { result ≡ innermost_of scopes.old }
-    ensures rest { scopes.new ≡ around scopes.old }
-{
-    match scopes.pop_front() {
-        Some(scope) => scope,
-        None => LinkedList::new(alloc),
-    }
-}
-
-/// Ends the innermost scope.
-pub fn drop_scope(scopes: &mut LinkedList<Scope>)
-    ensures { scopes.new ≡ around scopes.old }
-{
-    let _ = scopes.pop_front();
-}
-
 /// The name of a parameter's declarator enters the scope of the parameters, and the declarator's own scope ends.
 pub(crate) fn enter_parameter(
     alloc: Global,
     source: &Source,
     context: Context,
     declarator: Found,
-    scopes: &mut LinkedList<Scope>,
+    scopes: &mut OpenScopes,
     nodes: &Row<Node>,
 ) -> Result<(), ParseFault>
     requires readable { IsReadable source.now }

@@ -12,10 +12,10 @@ ghost use Rattle.cr_syntax.specs.MachineBody.{body};
 ghost use Rattle.cr_exprs.specs.Answers.{IsRefusal, Gives};
 
 use crate::fault::ParseFault;
-use cr_syntax::{MOST_LEVELS, Scope, Word, is_type, word_at};
+use crate::open_scopes::{OpenScopes, is_type};
+use cr_syntax::{MOST_LEVELS, Word, word_at};
 use cr_tokens::Token;
 use std::alloc::{AllocError, Global};
-use std::collections::LinkedList;
 
 /// What is read: a file, its tokens, and what each token is to the grammar.
 #[derive(Clone, Copy)]
@@ -70,7 +70,7 @@ pub(crate) fn spelling<'a>(source: &'a Source, at: usize) -> &'a [u8]
 }
 
 /// Whether an identifier stands here that is no type.
-pub fn is_ordinary(source: &Source, at: usize, scopes: &LinkedList<Scope>) -> bool
+pub fn is_ordinary(source: &Source, at: usize, scopes: &OpenScopes) -> bool
     requires { IsReadable source.now }
     ensures { result ≡ passes (text_of source.now) scopes.now at ordinary }
 {
@@ -82,7 +82,7 @@ pub(crate) fn is_type_identifier(
     source: &Source,
     at: usize,
     typed: bool,
-    scopes: &LinkedList<Scope>,
+    scopes: &OpenScopes,
 ) -> bool
     requires { IsReadable source.now }
     ensures answer { result ≡ passes (text_of source.now) scopes.now at (type_identifier typed) }
@@ -92,12 +92,7 @@ pub(crate) fn is_type_identifier(
 }
 
 /// Whether an identifier stands here that may be declared, behind a type specifier or another token, or not.
-pub(crate) fn is_declared(
-    source: &Source,
-    at: usize,
-    typed: bool,
-    scopes: &LinkedList<Scope>,
-) -> bool
+pub(crate) fn is_declared(source: &Source, at: usize, typed: bool, scopes: &OpenScopes) -> bool
     requires { IsReadable source.now }
     ensures answer { result ≡ passes (text_of source.now) scopes.now at (declared typed) }
     ensures inside { IsTrue result → at < length source.now.tokens.now }
@@ -106,12 +101,7 @@ pub(crate) fn is_declared(
 }
 
 /// Whether a specifier without storage classes begins here, where a type specifier stands before it or doesn't.
-pub(crate) fn starts_plain(
-    source: &Source,
-    at: usize,
-    typed: bool,
-    scopes: &LinkedList<Scope>,
-) -> bool
+pub(crate) fn starts_plain(source: &Source, at: usize, typed: bool, scopes: &OpenScopes) -> bool
     requires { IsReadable source.now }
     ensures { result ≡ passes (text_of source.now) scopes.now at (or (has is_plain_start) (type_identifier typed)) }
 {
@@ -119,7 +109,7 @@ pub(crate) fn starts_plain(
 }
 
 /// Whether a specifier begins here, where a type specifier stands before it or doesn't.
-pub fn starts_specifier(source: &Source, at: usize, typed: bool, scopes: &LinkedList<Scope>) -> bool
+pub fn starts_specifier(source: &Source, at: usize, typed: bool, scopes: &OpenScopes) -> bool
     requires { IsReadable source.now }
     ensures { result ≡ passes (text_of source.now) scopes.now at (or (has is_specifier_start) (type_identifier typed)) }
 {

@@ -14,16 +14,16 @@ use crate::declarators::{Wanted, declarator};
 use crate::expressions::conditional;
 use crate::fault::ParseFault;
 use crate::found::{Found, Listed};
-use crate::scopes::{bring, drop_scope};
+use crate::open_scopes::{OpenScopes, drop_scope};
+use crate::scopes::bring;
 use crate::source::{
     Source, bar, expect, is_type_identifier, refused, room, stands, starts_abstract, starts_plain,
     starts_specifier,
 };
 use crate::tables::specifier_in;
 use cr_rows::Row;
-use cr_syntax::{Context, FRESH, Kind, Node, Part, Scope, Word, past_token};
+use cr_syntax::{Context, FRESH, Kind, Node, Part, Word, past_token};
 use std::alloc::Global;
-use std::collections::LinkedList;
 
 /// A type name (6.7.7).
 #[cycle(grammar)]
@@ -32,7 +32,7 @@ pub(crate) fn type_name(
     source: &Source,
     at: usize,
     depth: usize,
-    scopes: &mut LinkedList<Scope>,
+    scopes: &mut OpenScopes,
     nodes: &mut Row<Node>,
 ) -> Result<Found, ParseFault>
     requires readable { IsReadable source.now }
@@ -83,7 +83,7 @@ pub(crate) fn row(
     part: Part,
     at: usize,
     depth: usize,
-    scopes: &mut LinkedList<Scope>,
+    scopes: &mut OpenScopes,
     nodes: &mut Row<Node>,
 ) -> Result<Found, ParseFault>
     requires readable { IsReadable source.now }
@@ -107,13 +107,7 @@ pub(crate) fn row(
 }
 
 /// Whether a row of specifiers goes on here.
-fn starts_element(
-    source: &Source,
-    part: Part,
-    at: usize,
-    typed: bool,
-    scopes: &LinkedList<Scope>,
-) -> bool
+fn starts_element(source: &Source, part: Part, at: usize, typed: bool, scopes: &OpenScopes) -> bool
     requires { IsReadable source.now }
     ensures { result ≡ passes (text_of source.now) scopes.now at (element_start part typed) }
 {
@@ -132,7 +126,7 @@ fn element(
     context: Context,
     at: usize,
     depth: usize,
-    scopes: &mut LinkedList<Scope>,
+    scopes: &mut OpenScopes,
     nodes: &mut Row<Node>,
 ) -> Result<Found, ParseFault>
     requires readable { IsReadable source.now }
@@ -164,7 +158,7 @@ fn structure(
     source: &Source,
     start: usize,
     depth: usize,
-    scopes: &mut LinkedList<Scope>,
+    scopes: &mut OpenScopes,
     nodes: &mut Row<Node>,
 ) -> Result<Found, ParseFault>
     requires readable { IsReadable source.now }
@@ -202,7 +196,7 @@ fn members(
     start: usize,
     at: usize,
     depth: usize,
-    scopes: &mut LinkedList<Scope>,
+    scopes: &mut OpenScopes,
     nodes: &mut Row<Node>,
 ) -> Result<Found, ParseFault>
     requires readable { IsReadable source.now }
@@ -232,7 +226,7 @@ fn member_declaration(
     source: &Source,
     at: usize,
     depth: usize,
-    scopes: &mut LinkedList<Scope>,
+    scopes: &mut OpenScopes,
     nodes: &mut Row<Node>,
 ) -> Result<Found, ParseFault>
     requires readable { IsReadable source.now }
@@ -262,7 +256,7 @@ fn member_declarators(
     start: usize,
     specifiers: Found,
     depth: usize,
-    scopes: &mut LinkedList<Scope>,
+    scopes: &mut OpenScopes,
     nodes: &mut Row<Node>,
 ) -> Result<Found, ParseFault>
     requires readable { IsReadable source.now }
@@ -307,7 +301,7 @@ fn enumeration(
     source: &Source,
     start: usize,
     depth: usize,
-    scopes: &mut LinkedList<Scope>,
+    scopes: &mut OpenScopes,
     nodes: &mut Row<Node>,
 ) -> Result<Found, ParseFault>
     requires readable { IsReadable source.now }
@@ -345,7 +339,7 @@ fn enumerators(
     start: usize,
     at: usize,
     depth: usize,
-    scopes: &mut LinkedList<Scope>,
+    scopes: &mut OpenScopes,
     nodes: &mut Row<Node>,
 ) -> Result<Found, ParseFault>
     requires readable { IsReadable source.now }
@@ -379,7 +373,7 @@ fn enumerator(
     source: &Source,
     at: usize,
     depth: usize,
-    scopes: &mut LinkedList<Scope>,
+    scopes: &mut OpenScopes,
     nodes: &mut Row<Node>,
 ) -> Result<Found, ParseFault>
     requires readable { IsReadable source.now }

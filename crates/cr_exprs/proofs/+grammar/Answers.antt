@@ -693,11 +693,11 @@ declarators::array-returns-in_err-room-clause-reads t c = exit c.from_residual.r
 pub declarators::array-returns-in_err-size-clause-reads : goal.declarators::array-returns-in_err-size-clause-reads
 declarators::array-returns-in_err-size-clause-reads t c = exit c.from_residual-in_err-size.result _ c.from_residual-in_err-size.ensures.1 (fails (c.in_err-size.ensures.reads.is) (λ x k h. run_take c.requires.bracket c.in_ok-room.ensures.ok (run_look (run_set (run_fail (run_in c.taken-own.ensures.rest h))))))
 
-pub declarators::array-returns-in_err-push_front-clause-reads : goal.declarators::array-returns-in_err-push_front-clause-reads
-declarators::array-returns-in_err-push_front-clause-reads t c = memory c.from_residual-in_err-push_front.result c.from_residual-in_err-push_front.ensures.1
+pub declarators::array-returns-in_err-give_back-clause-reads : goal.declarators::array-returns-in_err-give_back-clause-reads
+declarators::array-returns-in_err-give_back-clause-reads t c = memory c.from_residual-in_err-give_back.result c.from_residual-in_err-give_back.ensures.1
 
 pub declarators::array-returns-clause-reads : goal.declarators::array-returns-clause-reads
-declarators::array-returns-clause-reads t c = goes_on (λ u. body (m.declarator_suffixes c.args.depth c.args.start u)) c.pair_optional.new.nodes c.pair_optional.result c.pair_optional.ensures.err c.pair_optional.ensures.next c.pair_optional.ensures.tree (record { on = λ y r. run_take c.requires.bracket c.in_ok-room.ensures.ok (run_look (run_set (run_call (run_in c.taken-own.ensures.rest c.in_ok-size.ensures.reads.is.run) (run_look (run_set (run_here (handed y (run_in (own_scopes c.args.scopes.now c.in_ok-push_front.ensures.items c.taken-own.ensures.value) (shift (λ u. body (m.declarator_suffixes c.args.depth c.args.start u)) (ap (λ (x : Trees). one kind.ArrayDeclarator c.args.start c.in_ok-size.size.next (x & row_in c.size.new.nodes (option_to_list c.in_ok-size.size.node))) (tree_kept _ _ c.args.left.node c.in_ok-size.ensures.placed.keeps (omega (arith, c.requires.node)))) refl r))))))))) })
+declarators::array-returns-clause-reads t c = goes_on (λ u. body (m.declarator_suffixes c.args.depth c.args.start u)) c.pair_optional.new.nodes c.pair_optional.result c.pair_optional.ensures.err c.pair_optional.ensures.next c.pair_optional.ensures.tree (record { on = λ y r. run_take c.requires.bracket c.in_ok-room.ensures.ok (run_look (run_set (run_call (run_in c.taken-own.ensures.rest c.in_ok-size.ensures.reads.is.run) (run_look (run_set (run_here (handed y (run_in (own_scopes c.args.scopes.now c.in_ok-give_back.ensures c.taken-own.ensures.value) (shift (λ u. body (m.declarator_suffixes c.args.depth c.args.start u)) (ap (λ (x : Trees). one kind.ArrayDeclarator c.args.start c.in_ok-size.size.next (x & row_in c.size.new.nodes (option_to_list c.in_ok-size.size.node))) (tree_kept _ _ c.args.left.node c.in_ok-size.ensures.placed.keeps (omega (arith, c.requires.node)))) refl r))))))))) })
 
 pub declarators::array-returns-clause-placed : goal.declarators::array-returns-clause-placed
 declarators::array-returns-clause-placed t c = placed_push c.pair_optional.new.nodes (c.args.left.node ∷ []) (option_to_list c.in_ok-size.size.node ++ c.args.left.node ∷ []) c.pair_optional.result c.pair_optional.ensures.ok c.pair_optional.ensures.next (omega (arith, c.in_ok-size.ensures.placed.from)) c.in_ok-size.ensures.placed.to c.in_ok-size.ensures.placed.keeps (λ loose h. kept_behind _ _ _ loose _ (c.in_ok-size.ensures.placed.kept _ h))
@@ -717,14 +717,14 @@ declarators::function-returns-in_err-begin-clause-reads t c = memory c.from_resi
 pub declarators::function-returns-in_err-list-clause-reads : goal.declarators::function-returns-in_err-list-clause-reads
 declarators::function-returns-in_err-list-clause-reads t c = exit c.from_residual-in_err-list.result _ c.from_residual-in_err-list.ensures.1 (fails (c.in_err-list.ensures.reads.is) (λ x k h. run_pass c.requires.other (run_take c.requires.bracket c.in_ok-room.ensures.ok (run_pass (sym c.stands.ensures.answer ∙ c.if-stands.false) (run_look (run_set (run_fail (run_in (let e = c.in_ok-begin.ensures in let g = c.taken-own.ensures.rest in cc) h))))))))
 
-pub declarators::function-returns-in_err-push_front-clause-reads : goal.declarators::function-returns-in_err-push_front-clause-reads
-declarators::function-returns-in_err-push_front-clause-reads t c = memory c.from_residual-in_err-push_front.result c.from_residual-in_err-push_front.ensures.1
+pub declarators::function-returns-in_err-give_back-clause-reads : goal.declarators::function-returns-in_err-give_back-clause-reads
+declarators::function-returns-in_err-give_back-clause-reads t c = memory c.from_residual-in_err-give_back.result c.from_residual-in_err-give_back.ensures.1
 
 pub declarators::function-returns-in_err-expect-clause-reads : goal.declarators::function-returns-in_err-expect-clause-reads
 declarators::function-returns-in_err-expect-clause-reads t c = exit c.from_residual-in_err-expect.result _ c.from_residual-in_err-expect.ensures.1 (stops c.in_err-expect.ensures.err (run_pass c.requires.other (run_take c.requires.bracket c.in_ok-room.ensures.ok (run_pass (sym c.stands.ensures.answer ∙ c.if-stands.false) (run_look (run_set (run_call (run_in (let e = c.in_ok-begin.ensures in let g = c.taken-own.ensures.rest in cc) c.in_ok-list.ensures.reads.is.run) (run_look (run_set (run_pass c.in_err-expect.ensures.other run_stop))))))))))
 
 pub declarators::function-returns-clause-reads : goal.declarators::function-returns-clause-reads
-declarators::function-returns-clause-reads t c = goes_on (λ u. body (m.declarator_suffixes c.args.depth c.args.start u)) c.pair.new.nodes c.pair.result c.pair.ensures.err c.pair.ensures.next c.pair.ensures.tree (record { on = λ y r. run_pass c.requires.other (run_take c.requires.bracket c.in_ok-room.ensures.ok (run_pass (sym c.stands.ensures.answer ∙ c.if-stands.false) (run_look (run_set (run_call (run_in (let e = c.in_ok-begin.ensures in let g = c.taken-own.ensures.rest in cc) c.in_ok-list.ensures.reads.is.run) (run_look (run_set (run_take c.in_ok-expect.ensures.ok tt (run_here (handed y (run_in (kept_scopes (tree c.parameters.new.nodes c.args.left.node) (tree c.args.nodes.now c.args.left.node) c.parameters.new.scopes c.args.scopes.now c.in_ok-push_front.ensures.items c.kept.ensures (tree_kept _ _ c.args.left.node c.in_ok-list.ensures.placed.keeps (omega (arith, c.requires.node))) c.taken-names.ensures.value c.taken-own.ensures.value c.taken-names.ensures.rest) (shift (λ u. body (m.declarator_suffixes c.args.depth c.args.start u)) (ap (λ (x : Trees). one kind.FunctionDeclarator c.args.start (c.in_ok-list.list.next + 1) (x & tree c.parameters.new.nodes c.in_ok-list.list.node & none)) (tree_kept _ _ c.args.left.node c.in_ok-list.ensures.placed.keeps (omega (arith, c.requires.node)))) refl r)))))))))))) })
+declarators::function-returns-clause-reads t c = goes_on (λ u. body (m.declarator_suffixes c.args.depth c.args.start u)) c.pair.new.nodes c.pair.result c.pair.ensures.err c.pair.ensures.next c.pair.ensures.tree (record { on = λ y r. run_pass c.requires.other (run_take c.requires.bracket c.in_ok-room.ensures.ok (run_pass (sym c.stands.ensures.answer ∙ c.if-stands.false) (run_look (run_set (run_call (run_in (let e = c.in_ok-begin.ensures in let g = c.taken-own.ensures.rest in cc) c.in_ok-list.ensures.reads.is.run) (run_look (run_set (run_take c.in_ok-expect.ensures.ok tt (run_here (handed y (run_in (kept_scopes (tree c.parameters.new.nodes c.args.left.node) (tree c.args.nodes.now c.args.left.node) c.parameters.new.scopes c.args.scopes.now c.in_ok-give_back.ensures c.kept.ensures (tree_kept _ _ c.args.left.node c.in_ok-list.ensures.placed.keeps (omega (arith, c.requires.node))) c.taken-names.ensures.value c.taken-own.ensures.value c.taken-names.ensures.rest) (shift (λ u. body (m.declarator_suffixes c.args.depth c.args.start u)) (ap (λ (x : Trees). one kind.FunctionDeclarator c.args.start (c.in_ok-list.list.next + 1) (x & tree c.parameters.new.nodes c.in_ok-list.list.node & none)) (tree_kept _ _ c.args.left.node c.in_ok-list.ensures.placed.keeps (omega (arith, c.requires.node)))) refl r)))))))))))) })
 
 pub declarators::function-returns-clause-placed : goal.declarators::function-returns-clause-placed
 declarators::function-returns-clause-placed t c = placed_push c.pair.new.nodes (c.args.left.node ∷ []) (c.in_ok-list.list.node ∷ c.args.left.node ∷ []) c.pair.result c.pair.ensures.ok c.pair.ensures.next (omega (arith, c.in_ok-list.ensures.placed.from)) (omega (arith, c.in_ok-expect.ensures.inside)) c.in_ok-list.ensures.placed.keeps (λ loose h. c.in_ok-list.ensures.placed.kept _ h)
