@@ -5,16 +5,6 @@
 set -eu
 . "$(dirname "${BASH_SOURCE[0]}")/timer.sh"
 begin_timer 'cr_tokens: thiserror' 'cr_ints:' 'cr_rows:' 'cr_syntax: cr_tokens cr_ints cr_rows' 'cr_exprs: cr_rows cr_syntax cr_tokens thiserror'
-mkdir -p specs proofs/are_spans
-touch specs/Lib.antt
-cat >proofs/are_spans/Invariants.antt <<'ANTT'
-use Rattle.std.proofs.Common.{◌≡◌, ℕ, ◌<◌, ◌≤◌, Some, length, slice_get}
-use Rattle.cr_tokens.specs.declared.token.Token.{Token}
-use Rattle.timer.proofs.are_spans.Given as goal
-
-abbrev pub invariant-loop-token : goal.invariant-loop-token
-invariant-loop-token l = (k : ℕ) (t : Token) → k < l.token-index → slice_get l.tokens k ≡ Some t → (t.start ≤ t.end) × (t.end ≤ length l.file)
-ANTT
 cat >src/main.rt <<'RT'
 //! Reads the expression on standard input twenty times, and prints how long that took.
 #![tactic(auto)]
@@ -58,22 +48,8 @@ fn end_of(alloc: Global, file: &[u8], tokens: &Tokens) -> u32 {
         Err(_) => 0,
     }
 }
-
-fn are_spans(file: &[u8], tokens: &[Token]) -> bool
-    ensures spans { IsTrue result → AreSpans file.now tokens.now }
-    ensures few { IsTrue result → length tokens.now ≤ 262144 }
-{
-    if tokens.len() > MAX_TOKENS {
-        return false;
-    }
-    for token in tokens {
-        if token.start > token.end || token.end as usize > file.len() {
-            return false;
-        }
-    }
-    true
-}
 RT
+add_are_spans
 build_timer
 chain=$(printf 'a%.0s' 1; printf '+1%.0s' $(seq 1 131000))
 mixed=$(printf 'x'; for _ in $(seq 1 7900); do printf ' + first_pair[index].left * value(second, 3)\n  - (int)total->part / (1 << count ? -4 : ~mask)'; done)

@@ -6,16 +6,6 @@
 set -eu
 . "$(dirname "${BASH_SOURCE[0]}")/timer.sh"
 begin_timer 'cr_tokens: thiserror' 'cr_ints:' 'cr_rows:' 'cr_syntax: cr_tokens cr_ints cr_rows' 'cr_exprs: cr_rows cr_syntax cr_tokens thiserror' 'cr_decls: cr_exprs cr_rows cr_syntax cr_tokens'
-mkdir -p specs proofs/are_spans
-touch specs/Lib.antt
-cat >proofs/are_spans/Invariants.antt <<'ANTT'
-use Rattle.std.proofs.Common.{◌≡◌, ℕ, ◌<◌, ◌≤◌, Some, length, slice_get}
-use Rattle.cr_tokens.specs.declared.token.Token.{Token}
-use Rattle.timer.proofs.are_spans.Given as goal
-
-abbrev pub invariant-loop-token : goal.invariant-loop-token
-invariant-loop-token l = (k : ℕ) (t : Token) → k < l.token-index → slice_get l.tokens k ≡ Some t → (t.start ≤ t.end) × (t.end ≤ length l.file)
-ANTT
 cat >src/main.rt <<'RT'
 //! Reads and parses the file on standard input ten times, and prints how long that took.
 #![tactic(auto)]
@@ -55,22 +45,8 @@ fn counts(alloc: Global, text: &[u8]) -> (usize, usize) {
         Err(_) => (tokens.list.len(), 0),
     }
 }
-
-fn are_spans(file: &[u8], tokens: &[Token]) -> bool
-    ensures spans { IsTrue result → AreSpans file.now tokens.now }
-    ensures few { IsTrue result → length tokens.now ≤ 262144 }
-{
-    if tokens.len() > MAX_TOKENS {
-        return false;
-    }
-    for token in tokens {
-        if token.start > token.end || token.end as usize > file.len() {
-            return false;
-        }
-    }
-    true
-}
 RT
+add_are_spans
 build_timer
 timed() {
   out/timer | awk -v name="$1" '{ printf "%s: %d bytes, %d tokens, %d nodes: %.1f ms, %.1f MB/s\n", name, $1, $2, $3, $4 / 10000, 10 * $1 / $4 }'
