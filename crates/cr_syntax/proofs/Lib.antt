@@ -3,7 +3,6 @@ pub mod Tests
 pub mod Sound
 pub mod Equations
 pub mod Ranks
-pub mod Grades
 pub mod Complete
 pub mod Arena
 pub mod Statements
@@ -23,7 +22,6 @@ pub mod MachineMeans
 pub mod MachineUnitSound
 pub mod MachineSound
 pub mod MachineUnits
-pub mod MachineTidy
 pub mod MachineFirst
 pub mod MachineFits
 pub mod MachineTasks
@@ -34,7 +32,6 @@ pub mod MachineDeclarators
 pub mod MachineDeclarations
 pub mod MachineStatements
 pub mod MachineComplete
-pub mod MachineVariadic
 pub mod MachineUnitComplete
 pub mod MachineExtend
 pub mod MachineElsewhere

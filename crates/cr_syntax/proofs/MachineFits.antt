@@ -1,7 +1,5 @@
 -- Where the labels of a tree stand, and which functions it defines: what the subset asks besides the grammar.
-use Rattle.std.proofs.Common.{◌≡◌, ℕ, Bool, true, false, not, ◌&&◌, ◌||◌, List, refl, sym, ap, subst, ◌∙◌}
-use Rattle.std.specs.Prelude.{◌==◌}
-use borrow.Author.Tests.{eq-eqb}
+use Rattle.std.proofs.Common.{◌≡◌, ℕ, Bool, true, false, not, ◌&&◌, List, refl, sym, ap, subst, ◌∙◌}
 use Rattle.cr_syntax.specs.declared.node.Kind.{Kind}
 use Rattle.cr_syntax.specs.declared.node.Kind.TheVariants as kind
 use Rattle.cr_syntax.specs.declared.symbol.Part.{Part}
@@ -13,13 +11,13 @@ use Rattle.cr_syntax.specs.Trees.{Trees, none, node, one, ◌&◌}
 use Rattle.cr_syntax.specs.Grammar as grammar
 use Rattle.cr_syntax.specs.Spells.{Limit, Spells, a}
 use Rattle.cr_syntax.specs.Spells as spells
-use Rattle.cr_syntax.specs.Units.{Place, own_item, elsewhere, place_in, is_misplaced, misplaced_at, own_parameters, after_first}
+use Rattle.cr_syntax.specs.Units.{Place, own_item, elsewhere, place_in, is_misplaced, own_parameters, after_first}
 use Rattle.cr_syntax.specs.Units as units
 use Rattle.cr_syntax.specs.Machine.{Labels, anywhere, own_block, nowhere}
 use Rattle.cr_syntax.specs.MachineBody.{inside, in_switch, may_label, ends_variadic, is_variadic, may_define}
 use Rattle.cr_syntax.proofs.Tests.{both, not_true}
 use Rattle.cr_syntax.proofs.MachineSpells.{and_none, is_one}
-use Rattle.cr_syntax.proofs.MachineFirst.{true_false, false_by}
+use Rattle.cr_syntax.proofs.MachineFirst.{true_false}
 
 -- no label in the trees is misplaced, where the trees stand so
 abbrev pub are_placed : Place → Trees → Bool
@@ -179,29 +177,3 @@ pub body_fits : {ts : List Lexeme} {limit : Limit} {h : Context} {c e : Scopes} 
 body_fits {v = v} l s o t u x f =
     let g = fits_right (inside l) u (v & none) (fits_right (inside l) t (u & (v & none)) (parts_fit l kind.FunctionDefinition s o (t & (u & (v & none))) none refl refl f)) in
     subst (λ z. fits z (parts_of v) ≡ true) (inside_twice l) (compound_fits (inside l) x (subst (λ z. fits (inside l) z ≡ true) (and_none v) g))
-
--- Trees without a misplaced label fit.
-
-pub placed_by : (at : Place) (t : Trees) → ((k : ℕ) → misplaced_at k at t ≡ true → ⊥) → are_placed at t ≡ true
-placed_by at none f = refl
-placed_by at (node k i j b n) f =
-    all_true (not (is_misplaced k at)) (are_placed (place_in k at) b) (are_placed at n)
-    (ap (λ z. not z) (false_by (is_misplaced k at) (λ q. f i (or_left (own i || inner i) (behind i) (or_left (own i) (inner i) (ap (λ z. z && is_misplaced k at) (eq-eqb i i refl) ∙ q))))))
-    (placed_by (place_in k at) b (λ s q. f s (or_left (own s || inner s) (behind s) (or_right (own s) (inner s) q))))
-    (placed_by at n (λ s q. f s (or_right (own s || inner s) (behind s) q)))
-  where
-    own : ℕ → Bool
-    own s = (i == s) && is_misplaced k at
-
-    inner : ℕ → Bool
-    inner s = misplaced_at s (place_in k at) b
-
-    behind : ℕ → Bool
-    behind s = misplaced_at s at n
-
-    or_left : (x y : Bool) → x ≡ true → x || y ≡ true
-    or_left x y q = ap (λ z. z || y) q
-
-    or_right : (x y : Bool) → y ≡ true → x || y ≡ true
-    or_right true y q = refl
-    or_right false y q = q

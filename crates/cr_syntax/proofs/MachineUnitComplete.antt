@@ -8,17 +8,15 @@ use Rattle.cr_syntax.specs.Scopes.{Scopes}
 use Rattle.cr_syntax.specs.Trees.{Trees, none, ◌&◌}
 use Rattle.cr_syntax.specs.Spells.{Limit, Free, AtMost, Upto, Spells, rest}
 use Rattle.cr_syntax.specs.Spells as spells
-use Rattle.cr_syntax.specs.Units.{IsUnit, Begins, unit_side, file_scope, elsewhere, misplaced_at, Has, variadic_definition}
-use Rattle.cr_syntax.specs.Machine.{Labels, anywhere, nowhere, Runs, Reply, Cause, Done, Failed, has_word, run_call}
+use Rattle.cr_syntax.specs.Units.{IsUnit, Begins, unit_side, file_scope}
+use Rattle.cr_syntax.specs.Machine.{Labels, anywhere, Runs, Reply, Cause, Done, Failed, has_word, run_call}
 use Rattle.cr_syntax.specs.Machine as m
 use Rattle.cr_syntax.specs.MachineBody.{body, is_any}
 use Rattle.cr_syntax.specs.MachineLaws.{end_of}
 use Rattle.cr_syntax.proofs.MachineRuns.{same, local}
 use Rattle.cr_syntax.proofs.MachineSpells.{and_and}
 use Rattle.cr_syntax.proofs.MachineFirst.{tail}
-use Rattle.cr_syntax.proofs.MachineSound.{many_of}
-use Rattle.cr_syntax.proofs.MachineFits.{fits, fits_left, fits_right, may_stand, may_left, may_right, placed_by}
-use Rattle.cr_syntax.proofs.MachineVariadic.{none_defined}
+use Rattle.cr_syntax.proofs.MachineFits.{fits, fits_left, fits_right, may_stand, may_left, may_right}
 use Rattle.cr_syntax.proofs.MachineTasks as task
 use Rattle.cr_syntax.proofs.MachineComplete.{completes, get_past, get_some, done_alike, IsNotDeep, unlimited, upto}
 
@@ -39,11 +37,6 @@ unit_reads {ts = ts} {limit = limit} {c = c} {e = e} {d = d} {i = i} l (spells.p
 
 pub unit_is_read : {ts : List Lexeme} {limit : Limit} {t : Trees} (l : Labels) (x : IsUnit limit ts t) → fits l t ≡ true → may_stand l t ≡ true → Runs body ts limit (body (m.unit l 0)) file_scope 0 (Done t x.after (length ts))
 unit_is_read l x f g = unit_reads l x.spells f g
-
--- the subset's machine reads a unit with no misplaced label and no definition of a function with `...`
-pub clean_is_read : {ts : List Lexeme} {limit : Limit} {t : Trees} (x : IsUnit limit ts t) → ((k : ℕ) → misplaced_at k elsewhere t ≡ true → ⊥) → ((k m : ℕ) → Has (variadic_definition k m) t → ⊥) →
-    Runs body ts limit (body (m.unit nowhere 0)) file_scope 0 (Done t x.after (length ts))
-clean_is_read {t = t} x f g = unit_is_read nowhere x (placed_by elsewhere t f) (none_defined (many_of x.spells) g)
 
 -- the tokens of a unit have one tree
 pub one_unit : {ts : List Lexeme} {limit : Limit} {t u : Trees} → IsUnit limit ts t → IsUnit limit ts u → t ≡ u
