@@ -8,9 +8,9 @@ use Rattle.cr_syntax.specs.Words.{Lexeme}
 use Rattle.cr_syntax.specs.Scopes.{Scopes, enter}
 use Rattle.cr_syntax.specs.Trees.{Trees, none, ◌&◌}
 use Rattle.cr_syntax.specs.Context.{past_part}
-use Rattle.cr_syntax.specs.Machine as m
-use Rattle.cr_syntax.specs.Machine.{Prog, plain, opens, reopens, the, give, take, peek, call, expect, made, begins, around, brought, expression, conditional, declaration, statement, return_rest, clause}
-use Rattle.cr_syntax.specs.MachineBody.{declaration_start}
+use Rattle.cr_machine.specs.Machine as m
+use Rattle.cr_machine.specs.Machine.{Prog, plain, opens, reopens, the, give, take, peek, call, expect, made, begins, around, brought, expression, conditional, declaration, statement, return_rest, clause}
+use Rattle.cr_machine.specs.MachineBody.{declaration_start}
 use Rattle.cr_exprs.specs.Answers.{tree}
 use Rattle.cr_decls.specs.declared.labels.Labels.{Labels}
 use Rattle.cr_decls.specs.declared.labels.Labels.TheVariants.{OwnBlock, Nowhere}

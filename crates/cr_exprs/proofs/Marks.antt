@@ -5,7 +5,7 @@ use Rattle.std.specs.Str.{bytes_eq}
 use Rattle.std.proofs.lemmas.Slice.Eq.{bytes_eq-Decides}
 use Rattle.cr_syntax.specs.declared.scopes.TypeName.{TypeName}
 use Rattle.cr_syntax.specs.Scopes.{Scopes, said_of, is_type, enter}
-use Rattle.cr_syntax.specs.Machine.{innermost_of, around}
+use Rattle.cr_machine.specs.Machine.{innermost_of, around}
 use Rattle.cr_exprs.specs.Marks.{mark_of, IsMarked, NamesMarked, ScopesMarked, AreMarked, Spread}
 
 set_there : (marks : List Bool) (i : ℕ) → i < length marks → slice_get (set marks i true) i ≡ Some true

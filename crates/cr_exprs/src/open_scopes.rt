@@ -3,7 +3,7 @@
 
 ghost use Rattle.std.specs.Prelude.{◌≡◌, ◌<◌, ◌∷◌, [], IfOk, OnOk, OnErr, length};
 ghost use Rattle.cr_syntax.specs.Scopes.{is_type, enter};
-ghost use Rattle.cr_syntax.specs.Machine.{innermost_of, around};
+ghost use Rattle.cr_machine.specs.Machine.{innermost_of, around};
 ghost use Rattle.cr_exprs.specs.Marks.{mark_of, IsMarked, NamesMarked, Spread};
 
 use cr_rows::Row;
