@@ -20,7 +20,6 @@ use Rattle.cr_syntax.specs.Spells.{Limit, Is, IsIdentifier, Spells, a, rest}
 use Rattle.cr_syntax.specs.Spells as spells
 use Rattle.cr_syntax.specs.Reads.{is_word, same_word}
 use Rattle.cr_machine.specs.Machine as m
-use Rattle.cr_machine.specs.Machine.{around, innermost_of}
 use Rattle.cr_machine.specs.MachineBody.{is_plain_start, is_specifier_start, is_declarator, element_start, type_start}
 use Rattle.cr_machine.proofs.MachineMeans.{element_part, IsOpen}
 use Rattle.cr_machine.proofs.MachineSpells.{is_one, Names, by_declarator, by_direct}

@@ -14,11 +14,11 @@ use Rattle.cr_syntax.specs.Context.{fresh, past_token, past_part}
 use Rattle.cr_syntax.specs.Spells.{Limit, Is}
 use Rattle.cr_syntax.specs.Reads.{is_word}
 use Rattle.cr_syntax.specs.Units.{Has, one_begins_at, after_first, switch_body_at}
-use Rattle.cr_machine.specs.Machine.{Goal, Prog, Manner, Test, anywhere, named, Done, Runs, Allows, passes, the, has, or, ordinary, call, take, bar, peek, when, here, look, set, bring, plain, brought, run_call, run_take, run_pass, run_seen, run_unseen, run_yes, run_no, run_here, run_look, run_set}
-use Rattle.cr_machine.specs.Machine.{expression, conditional, row, declarator, unit, externals, external, declaration, init_declarators, initialized, statement, block, if_rest, switch_rest, while_rest, do_rest, for_rest, return_rest, for_clauses, clause, compound, items, item}
+use Rattle.cr_machine.specs.Machine.{Goal, Prog, Manner, Test, anywhere, named, Done, Runs, Allows, passes, the, has, ordinary, call, take, bar, peek, when, here, look, set, bring, plain, brought, run_call, run_take, run_pass, run_seen, run_unseen, run_yes, run_no, run_here, run_look, run_set}
+use Rattle.cr_machine.specs.Machine.{expression, conditional, row, declarator, unit, externals, external, declaration, init_declarators, statement, block, if_rest, switch_rest, while_rest, do_rest, for_rest, return_rest, for_clauses, clause, compound, items, item}
 use Rattle.cr_machine.specs.Machine as machine
 use Rattle.cr_machine.specs.MachineBody as program
-use Rattle.cr_machine.specs.MachineBody.{body, unlabelled, labelled, declaration_start, statement_start, is_statement_start, is_label}
+use Rattle.cr_machine.specs.MachineBody.{body, unlabelled, statement_start, is_statement_start}
 use Rattle.cr_syntax.proofs.Tests.{is_of, both}
 use Rattle.cr_machine.proofs.MachineRuns.{reach, passes_same, brought_same, word_same}
 use Rattle.cr_machine.proofs.MachineSpells.{is_one}

@@ -16,7 +16,7 @@ use Rattle.cr_syntax.specs.Grammar as grammar
 use Rattle.cr_syntax.specs.Spells.{Limit, Is, Spells, a, rest}
 use Rattle.cr_syntax.specs.Spells as spells
 use Rattle.cr_syntax.specs.Reads.{is_word}
-use Rattle.cr_machine.specs.Machine.{Goal, Prog, Reply, Done, Runs, has_word, give, call, the, run_give, run_take, run_pass, run_free, run_seen, run_unseen, run_yes, run_here, run_look, run_set, run_bring, run_call}
+use Rattle.cr_machine.specs.Machine.{Goal, Prog, Reply, Done, has_word, give, call, the, run_give, run_take, run_pass, run_free, run_seen, run_unseen, run_yes, run_here, run_look, run_set, run_bring, run_call}
 use Rattle.cr_machine.specs.Machine as m
 use Rattle.cr_machine.specs.MachineBody.{body, is_designator, is_any, inside, declares, enters, defined, declared_on, declaration_end}
 use Rattle.cr_machine.specs.MachineLaws.{IsFree}

@@ -13,12 +13,12 @@ use Rattle.cr_syntax.specs.Words.{Lexeme, spelling_at}
 use Rattle.cr_syntax.specs.Scopes.{Scopes, is_type, enter}
 use Rattle.cr_syntax.specs.Trees.{Trees, none, one, ◌&◌}
 use Rattle.cr_syntax.specs.Context.{fresh, past_token, past_part, may_stand}
-use Rattle.cr_syntax.specs.Grammar.{Side, inner, inner_many, inner_list, list, many, closing, token, binary, prefix, assignment_by}
+use Rattle.cr_syntax.specs.Grammar.{Side, list, closing, token}
 use Rattle.cr_syntax.specs.Grammar as grammar
-use Rattle.cr_syntax.specs.Spells.{Limit, Is, IsIdentifier, Stands, Within, levels, AreConst, const_none, const_more, Phrase, Spells, a, rest}
+use Rattle.cr_syntax.specs.Spells.{Limit, Is, Stands, AreConst, const_none, const_more, Spells, a, rest}
 use Rattle.cr_syntax.specs.Spells as spells
 use Rattle.cr_syntax.specs.Reads.{is_word, same_word}
-use Rattle.cr_machine.specs.Machine.{Goal, Prog, Wanted, Reply, Done, Runs, plain, opens, reopens, give, take, call, made, the, run_give, run_stop, run_take, run_pass, run_free, run_seen, run_unseen, run_yes, run_no, run_here, run_look, run_set, run_bring, run_call, run_fail}
+use Rattle.cr_machine.specs.Machine.{Goal, Prog, Wanted, Reply, Done, plain, opens, give, take, call, made, run_give, run_take, run_pass, run_seen, run_unseen, run_yes, run_no, run_here, run_look, run_set, run_bring, run_call}
 use Rattle.cr_machine.specs.Machine as m
 use Rattle.cr_machine.specs.MachineBody.{body, is_abstract_start, is_declarator_start, in_parameters, declarator_start, array_start, pointer_end, may_name, may_omit}
 use Rattle.cr_machine.proofs.MachineSpells.{and_none, and_and, pushed}
@@ -26,9 +26,9 @@ use Rattle.cr_machine.proofs.MachineFirst.{none_true, yes, differs, sorted, free
 use Rattle.cr_machine.proofs.MachineSound.{brought_is, part_some, pushed_some, two_parameters, bare_is, name_is}
 use Rattle.cr_machine.proofs.MachineSpells.{is_one, named_before}
 use Rattle.cr_machine.proofs.MachineSpells as facts
-use Rattle.cr_machine.proofs.MachineTasks.{measure, Lone, lone_by, lone_free, Closes, by_paren, by_comma, by_semicolon, EndsName, by_closing, by_equal, by_brace, past_row, Task, Goes, Answers, Completes, Smaller}
+use Rattle.cr_machine.proofs.MachineTasks.{measure, Closes, by_paren, by_comma, by_semicolon, EndsName, by_closing, by_equal, by_brace, Goes, Answers, Completes, Smaller}
 use Rattle.cr_machine.proofs.MachineTasks as task
-use Rattle.cr_machine.proofs.MachineBegins.{or_left, or_right, type_test, ElementFirst, never_element, no_ellipsis, no_right_paren, element_first, element_yes, member_first, parameter_first, past_one, row_typed, NamedFirst, by_star, by_name, named_first, UnnamedFirst, at_star, at_paren, at_bracket, unnamed_first, owned, is_named, is_unnamed}
+use Rattle.cr_machine.proofs.MachineBegins.{ElementFirst, never_element, no_ellipsis, no_right_paren, parameter_first, NamedFirst, by_star, by_name, named_first, UnnamedFirst, at_star, at_paren, at_bracket, unnamed_first, owned, is_named, is_unnamed}
 use Rattle.cr_machine.proofs.MachineBegins as begin
 use Rattle.cr_machine.proofs.MachineExpressions.{closing_run}
 use Rattle.cr_machine.proofs.MachineMeans.{IsOpen}

@@ -15,11 +15,11 @@ use Rattle.cr_syntax.specs.Trees.{Trees, none, node, one, ◌&◌}
 use Rattle.cr_syntax.specs.Context.{fresh, past_token, past_part, is_bare}
 use Rattle.cr_syntax.specs.Grammar.{Side}
 use Rattle.cr_syntax.specs.Grammar as grammar
-use Rattle.cr_syntax.specs.Spells.{Limit, AreConst, const_none, const_more, Spells, a, rest}
+use Rattle.cr_syntax.specs.Spells.{Limit, Spells, a, rest}
 use Rattle.cr_syntax.specs.Spells as spells
 use Rattle.cr_syntax.specs.Units.{Has, one_begins_at, after_first, own_parameters, ellipsis_at, variadic_definition}
 use Rattle.cr_machine.specs.Machine.{Goal, Prog, anywhere, nowhere, named, Done, Runs, passes, the, has, call}
-use Rattle.cr_machine.specs.Machine.{row, declarator, unit, externals, external, init_declarators, initialized, compound}
+use Rattle.cr_machine.specs.Machine.{row, declarator, unit, externals, external, init_declarators, compound}
 use Rattle.cr_machine.specs.Machine as machine
 use Rattle.cr_machine.specs.MachineBody as program
 use Rattle.cr_machine.specs.MachineBody.{body, is_variadic, ends_variadic, last_token, may_define}

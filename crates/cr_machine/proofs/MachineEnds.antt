@@ -4,7 +4,7 @@ use Rattle.cr_syntax.specs.Words.{Lexeme}
 use Rattle.cr_syntax.specs.Scopes.{Scopes, enter}
 use Rattle.cr_syntax.specs.Trees.{Trees}
 use Rattle.cr_syntax.specs.Spells.{Limit}
-use Rattle.cr_machine.specs.Machine.{Goal, Prog, Test, Manner, Reply, Done, Failed, Cause, Runs, Allows, passes, verdict, barred, brought, run_give, run_stop, run_refuse, run_take, run_deep, run_pass, run_bar, run_free, run_seen, run_unseen, run_yes, run_no, run_here, run_look, run_set, run_bring, run_call, run_fail}
+use Rattle.cr_machine.specs.Machine.{Goal, Prog, Test, Manner, Done, Failed, Cause, Runs, Allows, passes, verdict, barred, brought, run_stop, run_refuse, run_take, run_deep, run_pass, run_bar, run_free, run_seen, run_unseen, run_yes, run_no, run_here, run_look, run_set, run_bring, run_call, run_fail}
 use Rattle.cr_machine.specs.Machine as m
 
 -- which instruction refuses a token: `stop`, with its levels; `bar`, with its test, its row and its levels; a `take` that

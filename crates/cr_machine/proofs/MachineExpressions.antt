@@ -12,19 +12,19 @@ use Rattle.cr_syntax.specs.declared.symbol.Context.{Context}
 use Rattle.cr_syntax.specs.Words.{Lexeme, spelling_at}
 use Rattle.cr_syntax.specs.Scopes.{Scopes, is_type}
 use Rattle.cr_syntax.specs.Trees.{Trees, none, one, ◌&◌}
-use Rattle.cr_syntax.specs.Grammar.{Side, inner, inner_many, inner_list, list, many, closing, token, binary, prefix, assignment_by}
+use Rattle.cr_syntax.specs.Grammar.{Side, inner_list, closing, token, binary, prefix, assignment_by}
 use Rattle.cr_syntax.specs.Grammar as grammar
-use Rattle.cr_syntax.specs.Spells.{Limit, Is, IsIdentifier, Stands, Within, levels, Phrase, Spells, a, rest}
+use Rattle.cr_syntax.specs.Spells.{Limit, Is, IsIdentifier, Stands, levels, Spells, a, rest}
 use Rattle.cr_syntax.specs.Spells as spells
 use Rattle.cr_syntax.specs.Reads.{is_word, same_word}
-use Rattle.cr_machine.specs.Machine.{Goal, Prog, Wanted, Reply, Done, Runs, plain, opens, reopens, give, take, call, made, the, run_give, run_stop, run_take, run_pass, run_free, run_seen, run_unseen, run_yes, run_no, run_here, run_look, run_set, run_bring, run_call, run_fail}
+use Rattle.cr_machine.specs.Machine.{Goal, Reply, Done, plain, opens, reopens, give, call, the, run_give, run_take, run_pass, run_free, run_seen, run_unseen, run_yes, run_no, run_here, run_call}
 use Rattle.cr_machine.specs.Machine as m
 use Rattle.cr_machine.specs.MachineBody.{body, assigned, operated, prefixed, suffixed, sized, other_primary, suffixes_end, is_unary, is_identifier, tighter, assignment_operators, operators, unary_prefixes, cast_prefixes, constants, postfix_operators}
 use Rattle.cr_machine.specs.MachineLaws.{rank_of, IsFree}
 use Rattle.cr_machine.proofs.MachineMeans.{is_level}
 use Rattle.cr_machine.proofs.MachineSpells.{and_none, pushed}
 use Rattle.cr_machine.proofs.MachineFirst.{none_true, yes, differs, free_by, lower, fails, all_differ, Row, row_here, row_next, takes, skips, ends, tail, First, never, never_paren, never_brace, not_type, first_expression, first_assignment, first_cast, unary_is, a_unary}
-use Rattle.cr_machine.proofs.MachineTasks.{measure, Lone, lone_by, lone_free, Closes, base, below, Task, Goes, Answers, Started, by_group, by_others, Completes, Smaller}
+use Rattle.cr_machine.proofs.MachineTasks.{measure, lone_by, lone_free, base, below, Goes, Answers, Started, by_group, by_others, Completes, Smaller}
 use Rattle.cr_machine.proofs.MachineTasks as task
 use Rattle.cr_machine.proofs.MachineBegins.{type_yes}
 
@@ -86,9 +86,6 @@ module _ (ts : List Lexeme) (limit : Limit) where
   as_measured : (d s : ℕ) {i j : ℕ} {c e : Scopes} {t : Trees} → Started ts limit (d + 1) c i (Done t e j) → Answers ts limit (m.measured d s) c i (one kind.SizeofExpression s j (t & none)) e j
   as_measured d s (by_group q w v x) = run_here (run_take (yes q) w (run_unseen v (run_call x (run_here run_give))))
   as_measured d s (by_others n x) = run_here (run_pass n (run_call x (run_here run_give)))
-
-  alone : {p : Part} {d i j : ℕ} {c e : Scopes} {t : Trees} {r : Reply} → Answers ts limit (tighter p d) c i t e j → Goes ts limit (body (m.operands p d i t)) e j r → Goes ts limit (body (m.binary p d)) c i r
-  alone x y = run_here (run_call x (then_give y))
 
   climbs : {d i j : ℕ} {c e : Scopes} {t : Trees} → Started ts limit d c i (Done t e j) → IsFree ts 11 j → Answers ts limit (m.conditional d) c i t e j
   climbs {d = d} {i = i} {j = j} {c = c} {e = e} {t = t} x f =

@@ -14,10 +14,10 @@ use Rattle.cr_syntax.specs.Words.{Lexeme, spelling_at}
 use Rattle.cr_syntax.specs.Scopes.{Scopes, is_type}
 use Rattle.cr_syntax.specs.Trees.{Trees}
 use Rattle.cr_syntax.specs.Grammar as grammar
-use Rattle.cr_syntax.specs.Spells.{Limit, Is, IsIdentifier, Spells, a, rest}
+use Rattle.cr_syntax.specs.Spells.{Limit, Is, IsIdentifier, Spells, a}
 use Rattle.cr_syntax.specs.Spells as spells
 use Rattle.cr_syntax.specs.Reads.{is_word, same_word}
-use Rattle.cr_machine.specs.Machine.{Goal, Prog, Manner, Test, Reply, Runs, Allows, Done, Failed, choose, call, give, has_word, passes, run_give, run_take, run_pass, run_call, run_fail}
+use Rattle.cr_machine.specs.Machine.{Goal, Prog, Manner, Reply, Runs, Allows, Done, Failed, choose, call, give, has_word, passes, run_give, run_take, run_pass, run_call, run_fail}
 use Rattle.cr_machine.specs.Machine as m
 use Rattle.cr_machine.specs.MachineBody.{Words, is_plain_start, type_start, is_unary}
 use Rattle.cr_machine.specs.MachineLaws.{rank_of, IsFree}

@@ -18,7 +18,7 @@ use Rattle.cr_syntax.specs.Grammar as grammar
 use Rattle.cr_syntax.specs.Spells.{Limit, AtMost, Upto, Is, Spells, a, rest}
 use Rattle.cr_syntax.specs.Spells as spells
 use Rattle.cr_syntax.specs.Units.{most_levels, Has, has_here, has_inside, has_after, one_begins_at, one_ends_at, after_first, initializer_at, cast_operand_at, postfix_before, member_before, switch_body_at}
-use Rattle.cr_machine.specs.Machine.{Goal, Prog, Manner, Runs, Done, Allows, plain, opens, reopens, named, the, has, give, call, choose, bar, take, made, around, drops, run_give, run_take, run_pass, run_no, run_yes, run_here, run_call}
+use Rattle.cr_machine.specs.Machine.{Goal, Prog, Manner, Runs, Done, Allows, plain, opens, reopens, named, the, has, give, call, choose, bar, made, drops, run_give, run_take, run_pass, run_no, run_yes, run_here, run_call}
 use Rattle.cr_machine.specs.Machine.{whole, expression, commas, assignment, conditional, operands, cast, unary, measured, postfix, called, grouped, texts, arguments, suffixes, type_name, row, more, element, structure, members, member, member_declarators, enumeration, enumerators, enumerator, consts, declarator, declarator_suffixes, abstract_suffixes, size, parameters, more_parameters, parameter}
 use Rattle.cr_machine.specs.Machine.{unit, externals, external, declaration, init_declarators, initialized, initializer, initializers, statement, block, if_rest, switch_rest, while_rest, do_rest, for_rest, return_rest, for_clauses, clause, compound, items, item}
 use Rattle.cr_machine.specs.Machine as m

@@ -52,21 +52,6 @@ module _ (us : List Lexeme) (top : Limit) (known means : Goal → Scopes → ℕ
   Gives (bring k b p) f c i = Gives p f (enter (brought us i k b) c) i
   Gives (call g p) f c i = (t : Trees) (e : Scopes) (j : ℕ) → i ≤ j → known g c i t e j → means g c i t e j → Gives (p t) f e j
 
-  -- where nothing is to be given, all is
-  pub idle : (p : Prog) (c : Scopes) (i : ℕ) → Gives p (λ t e j. Unit {0}) c i
-  idle (give t) c i = tt
-  idle (stop d) c i = tt
-  idle (refuse n) c i = tt
-  idle (take a x d p q) c i = (λ h w. idle p c (i + 1), idle q c i)
-  idle (bar x n d p) c i = idle p c i
-  idle (peek x p q) c i = (idle p c i, idle q c i)
-  idle (when b p q) c i = (λ h. idle p c i, λ h. idle q c i)
-  idle (here p) c i = idle (p i) c i
-  idle (look p) c i = idle (p c) c i
-  idle (set e p) c i = idle p e i
-  idle (bring k b p) c i = idle p (enter (brought us i k b) c) i
-  idle (call g p) c i = λ t e j _ _ _. idle (p t) e j
-
 -- The text may be another one that has the same tokens before the answer's, and the limit one that lets them stand.
 module _ (body : Goal → Prog) (ts us : List Lexeme) (limit top : Limit) (known means : Goal → Scopes → ℕ → Trees → Scopes → ℕ → Type 0)
     (keeps : (g : Goal) (c e : Scopes) (i j : ℕ) (t : Trees) → Runs body ts limit (body g) c i (m.Done t e j) → known g c i t e j)

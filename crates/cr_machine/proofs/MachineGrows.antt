@@ -15,11 +15,11 @@ use Rattle.cr_syntax.specs.Words.{Lexeme}
 use Rattle.cr_syntax.specs.Scopes.{Scopes, enter}
 use Rattle.cr_syntax.specs.Trees.{Trees, none, one, ◌&◌}
 use Rattle.cr_syntax.specs.Context.{fresh, past_token, past_part, declared_name}
-use Rattle.cr_syntax.specs.Grammar.{Side, Alternative, prefix, token, assignment_by, inner_optional, inner_list, closing, many, list, part, binary}
+use Rattle.cr_syntax.specs.Grammar.{token, inner_list, closing, many, list, part, binary}
 use Rattle.cr_syntax.specs.Grammar as grammar
-use Rattle.cr_syntax.specs.Spells.{Limit, Phrase, Is, Stands, Within, Spells, a, rest, AreConst, const_none, const_more}
+use Rattle.cr_syntax.specs.Spells.{Limit, Phrase, Is, Stands, Within, Spells, a, rest, AreConst, const_none}
 use Rattle.cr_syntax.specs.Spells as spells
-use Rattle.cr_machine.specs.Machine.{Goal, Prog, Test, Manner, Wanted, named, unnamed, either, Runs, Done, Reply, Allows, plain, opens, reopens, give, stop, take, when, call, into, made, choose, the, around, innermost_of, brought, name_before}
+use Rattle.cr_machine.specs.Machine.{Goal, Prog, Test, Manner, Wanted, named, unnamed, either, Allows, plain, opens, reopens, give, call, made, choose, the, around, innermost_of}
 use Rattle.cr_machine.specs.Machine.{whole, expression, commas, assignment, conditional, operands, cast, unary, measured, postfix, called, grouped, texts, arguments, suffixes, type_name, row, more, element, structure, members, member, member_declarators, enumeration, enumerators, enumerator, consts, declarator, declarator_suffixes, abstract_suffixes, size, parameters, more_parameters, parameter}
 use Rattle.cr_machine.specs.Machine.{Labels, anywhere, own_block, nowhere, unit, externals, external, declaration, init_declarators, initialized, initializer, initializers, statement, block, if_rest, switch_rest, while_rest, do_rest, for_rest, return_rest, for_clauses, clause, compound, items, item}
 use Rattle.cr_machine.specs.Machine as m
@@ -28,10 +28,10 @@ use Rattle.cr_machine.specs.MachineBody.{body, is_identifier, assigned, operated
 use Rattle.cr_machine.specs.MachineBody as program
 use Rattle.cr_machine.proofs.MachineMeans as means
 use Rattle.cr_machine.proofs.MachineSpells as facts
-use Rattle.cr_machine.proofs.MachineSpells.{and_none, and_and, pushed, is_one, named_before, unary_in}
+use Rattle.cr_machine.proofs.MachineSpells.{and_none, and_and, pushed, is_one, unary_in}
 use Rattle.cr_machine.proofs.MachineGives.{AllRows, no_rows, also}
 use Rattle.cr_machine.proofs.MachineKept.{Kept, runs_kept}
-use Rattle.cr_machine.proofs.MachineMeans.{Means, Reads, Behind, Begun, IsDeclared, with_name, without, IsSize, unsized, IsParameterRow, first_one, next_one, IsRowBegin, IsOpen, has_some, start_part, is_level, row_part, element_part, after_init}
+use Rattle.cr_machine.proofs.MachineMeans.{Means, Reads, Behind, Begun, with_name, without, IsSize, unsized, IsParameterRow, first_one, next_one, IsRowBegin, IsOpen, has_some, start_part, is_level, row_part, element_part, after_init}
 use Rattle.cr_machine.proofs.MachineSound.{Declared, group_named, group_unnamed, Assigns, assignment_rows, Prefixes, unary_rows, cast_rows, IsConstant, constant_rows, Follows, postfix_rows, open_of, part_some, pushed_some, many_of, level_up, plain_up, specifier_rows, Specifies, dropped_member, array_of, array_size, parameters_of, at_end, hears_nothing, row_of_parameters, row_alone, row_made}
 use Rattle.cr_machine.proofs.MachineFails.{Fails, words_fail}
 use Rattle.cr_machine.proofs.MachineEnds.{Way}

@@ -11,11 +11,11 @@ use Rattle.cr_syntax.specs.Trees.{Trees, none, node, one, ◌&◌}
 use Rattle.cr_syntax.specs.Context.{fresh, past_token, past_part, ends_open}
 use Rattle.cr_syntax.specs.Spells.{Limit}
 use Rattle.cr_syntax.specs.Units.{has_here, has_inside, has_after, Place, in_switch, own_item, elsewhere, place_in, is_misplaced, misplaced_at, own_parameters}
-use Rattle.cr_machine.specs.Machine.{Goal, Prog, Manner, Labels, anywhere, own_block, nowhere, named, Done, Failed, Runs, Allows, passes, the, has, call, has_word}
-use Rattle.cr_machine.specs.Machine.{expression, conditional, row, declarator, unit, externals, external, declaration, init_declarators, initialized, statement, block, if_rest, switch_rest, while_rest, do_rest, for_rest, return_rest, for_clauses, clause, compound, items, item}
+use Rattle.cr_machine.specs.Machine.{Goal, Prog, Labels, anywhere, own_block, nowhere, named, Done, Runs, Allows, passes, the, has, call, has_word}
+use Rattle.cr_machine.specs.Machine.{expression, conditional, row, declarator, unit, externals, external, declaration, init_declarators, statement, block, if_rest, switch_rest, while_rest, do_rest, for_rest, return_rest, for_clauses, clause, compound, items, item}
 use Rattle.cr_machine.specs.Machine as m
 use Rattle.cr_machine.specs.MachineBody as program
-use Rattle.cr_machine.specs.MachineBody.{body, is_label, unlabelled, labelled, defined, may_define}
+use Rattle.cr_machine.specs.MachineBody.{body, is_label, unlabelled, defined, may_define}
 use Rattle.cr_machine.proofs.MachineRuns.{reach}
 use Rattle.cr_machine.proofs.MachineFirst.{true_false}
 use Rattle.cr_machine.proofs.MachineEnds.{Way, barring, defining, Ends, refused_so, end_refuse, end_take, end_pass, end_bar, end_free, end_seen, end_unseen, end_yes, end_no, end_here, end_look, end_set, end_bring, end_behind, end_inside}

@@ -8,7 +8,7 @@ use Rattle.cr_syntax.specs.Context.{fresh}
 use Rattle.cr_syntax.specs.Spells.{Limit, Free, AtMost, Upto, Spells, a}
 use Rattle.cr_syntax.specs.Units.{most_levels, Refusal, Unexpected, Ended, TooDeep, OutsideSubset}
 use Rattle.cr_machine.specs.MachineLaws.{IsStart}
-use Rattle.cr_syntax.specs.Expressions.{Start, Spelled, Continues, BeginsFrom, OutsideFrom, unused_keyword, compound_literal, called_expression, bit_field, IsTooDeepFrom, IsFineFrom, RunEnds, Outcome, Read, Refused, IsReading}
+use Rattle.cr_syntax.specs.Expressions.{Start, Spelled, BeginsFrom, OutsideFrom, unused_keyword, compound_literal, called_expression, bit_field, IsTooDeepFrom, IsFineFrom, RunEnds, Outcome, Read, Refused, IsReading}
 use Rattle.cr_syntax.specs.Expressions as expressions
 use Rattle.cr_syntax.proofs.Tests.{some_one}
 use Rattle.cr_machine.proofs.MachineComplete as complete

@@ -10,7 +10,7 @@ use Rattle.cr_syntax.specs.Trees.{Trees}
 use Rattle.cr_syntax.specs.Spells.{Limit}
 use Rattle.cr_syntax.specs.Reads.{is_word, same_word}
 use Rattle.cr_syntax.specs.Units.{is_unused}
-use Rattle.cr_machine.specs.Machine.{Goal, Prog, Test, Reply, Done, Failed, Cause, Runs, passes, has_word, verdict, barred, name_before, brought, run_give, run_stop, run_refuse, run_take, run_deep, run_pass, run_bar, run_free, run_seen, run_unseen, run_yes, run_no, run_here, run_look, run_set, run_bring, run_call, run_fail}
+use Rattle.cr_machine.specs.Machine.{Goal, Prog, Test, Reply, Done, Failed, Cause, Runs, passes, verdict, barred, name_before, brought, run_give, run_stop, run_refuse, run_take, run_deep, run_pass, run_bar, run_free, run_seen, run_unseen, run_yes, run_no, run_here, run_look, run_set, run_bring, run_call, run_fail}
 use Rattle.cr_machine.specs.Machine as m
 use Rattle.cr_machine.specs.MachineLaws.{end_of, AreAlike}
 

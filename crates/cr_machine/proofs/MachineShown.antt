@@ -343,10 +343,6 @@ begins_right : (k : ℕ) (t u : Trees) → one_begins_at k u ≡ true → one_be
 begins_right k none u x = x
 begins_right k (node q i j b n) u x = subst (λ y. ((i == k) || y) ≡ true) (sym (begins_right k n u x)) (or_true (i == k))
 
-pub started_left : {k : ℕ} {t : Trees} {w : Way} → Started k t w → (u : Trees) → Started k (t & u) w
-started_left (started x) u = started (left_in x u)
-started_left {k = k} {t = t} (started_here b) u = started_here (begins_left k t u b)
-
 pub started_right : {k : ℕ} (t : Trees) {u : Trees} {w : Way} → Started k u w → Started k (t & u) w
 started_right t (started x) = started (right_in t x)
 started_right {k = k} t {u = u} (started_here b) = started_here (begins_right k t u b)

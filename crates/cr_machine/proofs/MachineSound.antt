@@ -19,7 +19,7 @@ use Rattle.cr_syntax.specs.Grammar.{Side, Alternative, prefix, token, assignment
 use Rattle.cr_syntax.specs.Grammar as grammar
 use Rattle.cr_syntax.specs.Spells.{Limit, Is, Stands, Within, Spells, a, rest, AreConst, const_none, const_more}
 use Rattle.cr_syntax.specs.Spells as spells
-use Rattle.cr_machine.specs.Machine.{Goal, Prog, Manner, Wanted, named, unnamed, either, Runs, Done, Reply, Allows, plain, opens, reopens, give, stop, take, when, call, into, made, choose, the, around, innermost_of, brought, name_before}
+use Rattle.cr_machine.specs.Machine.{Goal, Prog, Manner, Wanted, named, unnamed, either, Runs, Done, Allows, plain, opens, reopens, give, call, made, choose, around, innermost_of, brought}
 use Rattle.cr_machine.specs.Machine.{whole, expression, commas, assignment, conditional, operands, cast, unary, measured, postfix, called, grouped, texts, arguments, suffixes, type_name, row, more, element, structure, members, member, member_declarators, enumeration, enumerators, enumerator, consts, declarator, declarator_suffixes, abstract_suffixes, size, parameters, more_parameters, parameter}
 use Rattle.cr_machine.specs.Machine.{unit, externals, external, declaration, init_declarators, initialized, initializer, initializers, statement, block, if_rest, switch_rest, while_rest, do_rest, for_rest, return_rest, for_clauses, clause, compound, items, item}
 use Rattle.cr_machine.specs.Machine as m
@@ -32,7 +32,7 @@ use Rattle.cr_machine.proofs.MachineUnitSound.{gives_unit, gives_externals, give
 use Rattle.cr_machine.proofs.MachineSpells.{and_none, and_and, pushed, is_one, named_before, unary_in}
 use Rattle.cr_machine.proofs.MachineGives.{Gives, gives, AllRows, no_rows, also, gives_choose}
 use Rattle.cr_machine.proofs.MachineKept.{Kept, runs_kept, not_both}
-use Rattle.cr_machine.proofs.MachineMeans.{Means, Reads, Behind, IsDeclared, with_name, without, IsSize, unsized, IsParameterRow, first_one, next_one, IsRowBegin, IsOpen, has_some, start_part, is_level, row_part, element_part}
+use Rattle.cr_machine.proofs.MachineMeans.{Means, Reads, IsDeclared, with_name, without, IsSize, unsized, IsParameterRow, first_one, next_one, IsOpen, has_some, start_part, is_level, row_part, element_part}
 
 -- an alternative for a kind, with any parts
 abbrev pub Makes : Part → Side → Kind → Type 0

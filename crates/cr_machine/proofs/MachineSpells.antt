@@ -12,7 +12,7 @@ use Rattle.cr_syntax.specs.Scopes.{Scopes}
 use Rattle.cr_syntax.specs.Trees.{Trees, none, node, one, ◌&◌}
 use Rattle.cr_syntax.specs.Context.{fresh, past_part, declared_in, declared_name}
 use Rattle.cr_syntax.specs.Grammar as grammar
-use Rattle.cr_syntax.specs.Spells.{Limit, Phrase, a, rest, Spells, AreConst, const_none, const_more}
+use Rattle.cr_syntax.specs.Spells.{Limit, Phrase, a, Spells, AreConst, const_none, const_more}
 use Rattle.cr_syntax.specs.Spells as spells
 use Rattle.cr_machine.specs.Machine.{brought}
 use Rattle.cr_machine.specs.MachineBody.{is_unary}

@@ -17,7 +17,7 @@ use Rattle.cr_syntax.specs.Grammar as grammar
 use Rattle.cr_syntax.specs.Spells.{Limit, Is, Stands, Within, Spells, a, rest}
 use Rattle.cr_syntax.specs.Spells as spells
 use Rattle.cr_syntax.specs.Reads.{is_word, same_word}
-use Rattle.cr_machine.specs.Machine.{Goal, Prog, Reply, Done, Runs, Labels, anywhere, own_block, nowhere, plain, opens, reopens, has_word, passes, give, take, call, made, expect, the, run_give, run_take, run_pass, run_free, run_seen, run_unseen, run_yes, run_no, run_here, run_look, run_set, run_call}
+use Rattle.cr_machine.specs.Machine.{Goal, Prog, Reply, Done, Labels, anywhere, own_block, nowhere, plain, opens, reopens, has_word, passes, give, take, call, made, expect, the, run_give, run_take, run_pass, run_free, run_seen, run_unseen, run_yes, run_no, run_here, run_look, run_set, run_call}
 use Rattle.cr_machine.specs.Machine as m
 use Rattle.cr_machine.specs.MachineBody.{body, is_specifier_start, is_label, is_statement_start, declaration_start, statement_start, inside, in_switch, may_label, labelled, unlabelled, without_else, if_end, switch_body, for_body}
 use Rattle.cr_machine.specs.MachineLaws.{IsFree}

@@ -13,10 +13,10 @@ use Rattle.cr_syntax.specs.Scopes.{Scopes}
 use Rattle.cr_syntax.specs.Trees.{Trees, none, node, one, ◌&◌}
 use Rattle.cr_syntax.specs.Context.{past_part, ends_open}
 use Rattle.cr_syntax.specs.Grammar.{inner_many, inner_list, list, many, closing, token}
-use Rattle.cr_syntax.specs.Spells.{Limit, Is, IsIdentifier, Stands, Within, Phrase, Spells, a, rest}
+use Rattle.cr_syntax.specs.Spells.{Limit, Is, Within, Phrase, Spells, a, rest}
 use Rattle.cr_syntax.specs.Spells as spells
 use Rattle.cr_syntax.specs.Reads.{is_word, same_word}
-use Rattle.cr_machine.specs.Machine.{Goal, Prog, Wanted, Labels, Reply, Done, Runs, has_word, plain, opens, reopens, give, take, call, made, the, run_give, run_stop, run_take, run_pass, run_free, run_seen, run_unseen, run_yes, run_no, run_here, run_look, run_set, run_bring, run_call, run_fail}
+use Rattle.cr_machine.specs.Machine.{Goal, Prog, Wanted, Labels, Reply, Done, Runs, has_word, plain, opens, reopens, give, take, call, made, the}
 use Rattle.cr_machine.specs.Machine as m
 use Rattle.cr_machine.specs.MachineBody.{body, element_start, type_start, in_row, may_name, may_omit, is_any, declared_on}
 use Rattle.cr_machine.specs.MachineLaws.{IsFree}

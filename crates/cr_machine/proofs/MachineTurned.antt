@@ -300,22 +300,6 @@ module _ (ts : List Lexeme) (most k : ℕ) where
   path_switch (path_behind h z) = path_switch z
   path_switch (path_inside z) = path_switch z
 
-  pub path_allows : {p : Prog} {c c' : Scopes} {i n d : ℕ} {l : Labels} → Path ts most k p c i l d c' n → Allows (AtMost most) plain n d
-  path_allows (path_turn v w) = w
-  path_allows (path_take v w z) = path_allows z
-  path_allows (path_pass z) = path_allows z
-  path_allows (path_free z) = path_allows z
-  path_allows (path_seen o v z) = path_allows z
-  path_allows (path_unseen z) = path_allows z
-  path_allows (path_yes v z) = path_allows z
-  path_allows (path_no v z) = path_allows z
-  path_allows (path_here z) = path_allows z
-  path_allows (path_look z) = path_allows z
-  path_allows (path_set z) = path_allows z
-  path_allows (path_bring z) = path_allows z
-  path_allows (path_behind h z) = path_allows z
-  path_allows (path_inside z) = path_allows z
-
   module _ (us : List Lexeme) (top : Limit) (way : Way) (late : (g : Manner) (i d : ℕ) → length us < i → Allows top g i d) where
     -- what a look that no switch passes says, where it is passed
     look_holds : (c : Scopes) (i n : ℕ) (x : Test) → i ≤ n → ((m : ℕ) → m < n → slice_get us m ≡ slice_get ts m) → Is ts n word.Switch → Looks x → passes ts c i x ≡ true → Holds us c i x

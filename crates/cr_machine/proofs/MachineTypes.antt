@@ -13,12 +13,12 @@ use Rattle.cr_syntax.specs.Words.{Lexeme, spelling_at}
 use Rattle.cr_syntax.specs.Scopes.{Scopes, is_type, enter}
 use Rattle.cr_syntax.specs.Trees.{Trees, none, one, ◌&◌}
 use Rattle.cr_syntax.specs.Context.{fresh, past_part, any_kind, is_type_specifier}
-use Rattle.cr_syntax.specs.Grammar.{Side, inner, inner_many, inner_list, list, many, closing, token, binary, prefix, assignment_by}
+use Rattle.cr_syntax.specs.Grammar.{inner, inner_many, inner_list, list, many, closing, token}
 use Rattle.cr_syntax.specs.Grammar as grammar
-use Rattle.cr_syntax.specs.Spells.{Limit, Is, IsIdentifier, Stands, Within, levels, Phrase, Spells, a, rest}
+use Rattle.cr_syntax.specs.Spells.{Limit, Is, Stands, Spells, a, rest}
 use Rattle.cr_syntax.specs.Spells as spells
 use Rattle.cr_syntax.specs.Reads.{is_word, same_word}
-use Rattle.cr_machine.specs.Machine.{Goal, Prog, Wanted, Reply, Done, Runs, plain, opens, reopens, give, take, call, made, the, run_give, run_stop, run_take, run_pass, run_free, run_seen, run_unseen, run_yes, run_no, run_here, run_look, run_set, run_bring, run_call, run_fail}
+use Rattle.cr_machine.specs.Machine.{Goal, Prog, Reply, Done, plain, give, take, call, made, the, run_give, run_take, run_pass, run_free, run_seen, run_unseen, run_here, run_look, run_set, run_bring, run_call}
 use Rattle.cr_machine.specs.Machine as m
 use Rattle.cr_machine.specs.MachineBody.{body, member_end, other_element, specifier_words, plain_words, storage_words, row_kind, is_plain_start, is_specifier_start, is_abstract_start, element_start, in_row}
 use Rattle.cr_machine.proofs.MachineMeans.{element_part, has_some}
@@ -27,9 +27,9 @@ use Rattle.cr_machine.proofs.MachineFirst.{none_true, or_false, and_false, later
 use Rattle.cr_machine.proofs.MachineSound.{brought_is, part_some, two_in_row}
 use Rattle.cr_machine.proofs.MachineSpells.{is_one, forth}
 use Rattle.cr_machine.proofs.MachineSpells as facts
-use Rattle.cr_machine.proofs.MachineTasks.{measure, Lone, lone_by, lone_free, Closes, by_paren, by_comma, by_semicolon, by_closing, past_row, Task, Goes, Answers, Completes, Smaller}
+use Rattle.cr_machine.proofs.MachineTasks.{measure, Closes, by_paren, by_comma, by_semicolon, by_closing, past_row, Goes, Answers, Completes, Smaller}
 use Rattle.cr_machine.proofs.MachineTasks as task
-use Rattle.cr_machine.proofs.MachineBegins.{or_left, or_right, type_test, ElementFirst, never_element, no_left_brace, no_right_brace, no_ellipsis, element_first, element_yes, member_first, parameter_first, past_one, row_typed, NamedFirst, by_star, by_name, named_first, UnnamedFirst, at_star, at_paren, at_bracket, unnamed_first}
+use Rattle.cr_machine.proofs.MachineBegins.{type_test, never_element, no_left_brace, no_right_brace, element_first, element_yes, member_first, past_one, row_typed, NamedFirst, by_star, by_name, named_first, UnnamedFirst, at_star, at_paren, at_bracket, unnamed_first}
 use Rattle.cr_machine.proofs.MachineBegins as begin
 use Rattle.cr_machine.proofs.MachineExpressions.{closing_run}
 

@@ -8,7 +8,7 @@ use Rattle.cr_syntax.specs.Words.{Lexeme, word_at}
 use Rattle.cr_syntax.specs.Scopes.{Scopes}
 use Rattle.cr_syntax.specs.Trees.{Trees}
 use Rattle.cr_syntax.specs.Spells.{Limit, Free, AtMost, Upto, Is}
-use Rattle.cr_syntax.specs.Units.{most_levels, file_scope, is_unused, IsBracket, StandsIn, list_for_designator, group_for_literal, subscript_for_call, block_for_body, IsUnit, Completes, Begins, BeginsWithin, with_word, Outside, IsTooDeep, IsFineBefore, FirstRefusal, IsTreeOf}
+use Rattle.cr_syntax.specs.Units.{most_levels, file_scope, is_unused, IsBracket, StandsIn, list_for_designator, group_for_literal, subscript_for_call, block_for_body, IsUnit, Begins, BeginsWithin, Outside, IsTooDeep, IsFineBefore, FirstRefusal, IsTreeOf}
 use Rattle.cr_syntax.specs.Units as units
 use Rattle.cr_machine.specs.Machine.{Manner, Test, plain, opens, reopens, Allows, anywhere, nowhere, unit, Reply, Cause, Done, Failed, Runs, has_word, barred, refusal_of, overflows, is_bracket, too_deep, ended, outside, unexpected}
 use Rattle.cr_machine.specs.MachineBody.{body, is_any, is_label}

@@ -1,24 +1,22 @@
 -- The machine reads each unit, and so the tokens of a unit have one tree.
-use Rattle.std.proofs.Common.{◌≡◌, ℕ, ◌+◌, ◌<◌, ◌≤◌, Bool, true, false, List, length, Option, None, Some, refl, sym, ap, subst, ◌∙◌, arith}
-use Rattle.std.specs.Prelude.{slice_get}
+use Rattle.std.proofs.Common.{◌≡◌, ℕ, Bool, true, false, List, length, Option, None, Some, refl, ap, subst}
 use Rattle.cr_syntax.specs.declared.word.Word.{Word}
 use Rattle.cr_syntax.specs.declared.symbol.Context.{Context}
 use Rattle.cr_syntax.specs.Words.{Lexeme, word_at}
 use Rattle.cr_syntax.specs.Scopes.{Scopes}
 use Rattle.cr_syntax.specs.Trees.{Trees, none, ◌&◌}
-use Rattle.cr_syntax.specs.Spells.{Limit, Free, AtMost, Upto, Spells, rest}
+use Rattle.cr_syntax.specs.Spells.{Limit, Spells, rest}
 use Rattle.cr_syntax.specs.Spells as spells
-use Rattle.cr_syntax.specs.Units.{IsUnit, Begins, unit_side, file_scope}
-use Rattle.cr_machine.specs.Machine.{Labels, anywhere, Runs, Reply, Cause, Done, Failed, has_word, run_call}
+use Rattle.cr_syntax.specs.Units.{IsUnit, unit_side, file_scope}
+use Rattle.cr_machine.specs.Machine.{Labels, anywhere, Runs, Done, has_word, run_call}
 use Rattle.cr_machine.specs.Machine as m
 use Rattle.cr_machine.specs.MachineBody.{body, is_any}
-use Rattle.cr_machine.specs.MachineLaws.{end_of}
-use Rattle.cr_machine.proofs.MachineRuns.{same, local}
+use Rattle.cr_machine.proofs.MachineRuns.{same}
 use Rattle.cr_machine.proofs.MachineSpells.{and_and}
 use Rattle.cr_machine.proofs.MachineFirst.{tail}
 use Rattle.cr_machine.proofs.MachineFits.{fits, fits_left, fits_right, may_stand, may_left, may_right}
 use Rattle.cr_machine.proofs.MachineTasks as task
-use Rattle.cr_machine.proofs.MachineComplete.{completes, get_past, get_some, done_alike, IsNotDeep, unlimited, upto}
+use Rattle.cr_machine.proofs.MachineComplete.{completes, get_past, done_alike}
 
 -- behind the last token stands no word
 none_past : (ts : List Lexeme) → has_word ts (length ts) is_any ≡ false
@@ -41,28 +39,3 @@ unit_is_read l x f g = unit_reads l x.spells f g
 -- the tokens of a unit have one tree
 pub one_unit : {ts : List Lexeme} {limit : Limit} {t u : Trees} → IsUnit limit ts t → IsUnit limit ts u → t ≡ u
 one_unit x y = (done_alike (same (unit_is_read anywhere x refl refl) (unit_is_read anywhere y refl refl))).0
-
--- What the machine of the bare grammar refuses, no unit has.
-
--- a unit that goes on with token k is read to its end, so the answer isn't at k
-goes_on : {ts : List Lexeme} {limit : Limit} {r : Reply} → IsNotDeep r → Runs body ts limit (body (m.unit anywhere 0)) file_scope 0 r → end_of r < length ts → (b : Begins Free ts (end_of r + 1)) →
-    r ≡ Done b.trees b.completes.is_unit.after (length b.completes.text)
-goes_on {ts = ts} {r = r} n h lt b = same (local (unlimited h n) alike) (unit_is_read anywhere b.completes.is_unit refl refl)
-  where
-    alike : (i : ℕ) → i ≤ end_of r → slice_get b.completes.text i ≡ slice_get ts i
-    alike i le = let w = get_some ts i (omega arith) in b.completes.alike i w.0 (omega arith) w.1 ∙ sym w.1
-
--- no unit goes on with a token that is refused for another cause than the level's number
-pub unit_refused : {ts : List Lexeme} {limit : Limit} {x : Cause} {k : ℕ} → (x ≡ m.too_deep → ⊥) → Runs body ts limit (body (m.unit anywhere 0)) file_scope 0 (Failed x k) → k < length ts → Begins Free ts (k + 1) → ⊥
-unit_refused n h lt b = let q = goes_on n h lt b in cc
-
--- no unit within the limit goes on with it, whatever the cause
-pub unit_refused_within : {ts : List Lexeme} {most : ℕ} {x : Cause} {k : ℕ} → k < length ts → Runs body ts (AtMost most) (body (m.unit anywhere 0)) file_scope 0 (Failed x k) → Begins (Upto (k + 1) most) ts (k + 1) → ⊥
-unit_refused_within {ts = ts} {k = k} lt h b = let q = same (local (upto (k + 1) (omega arith) h) alike) (unit_is_read anywhere b.completes.is_unit refl refl) in cc
-  where
-    alike : (i : ℕ) → i ≤ k → slice_get b.completes.text i ≡ slice_get ts i
-    alike i le = let w = get_some ts i (omega arith) in b.completes.alike i w.0 (omega arith) w.1 ∙ sym w.1
-
--- a list that is refused at its end is no unit
-pub unit_ended : {ts : List Lexeme} {limit : Limit} {x : Cause} {t : Trees} → (x ≡ m.too_deep → ⊥) → Runs body ts limit (body (m.unit anywhere 0)) file_scope 0 (Failed x (length ts)) → IsUnit Free ts t → ⊥
-unit_ended n h y = let q = same (unlimited h n) (unit_is_read anywhere y refl refl) in cc

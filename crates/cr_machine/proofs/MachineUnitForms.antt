@@ -81,8 +81,5 @@ pub reads_loosely : {ts : List Lexeme} {limit : Limit} {t : Trees} {e : Scopes} 
     Runs body ts limit (body (unit anywhere 0)) file_scope 0 (Done t e j)
 reads_loosely h = loosened (looser (unit nowhere 0)) h
 
-pub ends_loosely : {ts : List Lexeme} {k : ℕ} {w : Way} → UnitEnds ts nowhere w k → (IsOwn ts k w → ⊥) → UnitEnds ts anywhere w k
-ends_loosely z f = elim (followed (looser (unit nowhere 0)) z) [ so_too z' ↦ z' | departs o g ↦ absurd (f o) ]
-
 pub bars_none : {ts : List Lexeme} {n k j : ℕ} {t : Trees} {e : Scopes} → IsBarred ts anywhere n k → Runs body ts (AtMost most_levels) (body (unit nowhere 0)) file_scope 0 (Done t e j) → ⊥
 bars_none b h = let q = same (reads_loosely h) (refused_so b.ends) in cc

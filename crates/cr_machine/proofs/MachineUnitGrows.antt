@@ -14,19 +14,19 @@ use Rattle.cr_syntax.specs.Words.{Lexeme}
 use Rattle.cr_syntax.specs.Scopes.{Scopes, enter}
 use Rattle.cr_syntax.specs.Trees.{Trees, none, node, one, ◌&◌}
 use Rattle.cr_syntax.specs.Context.{fresh, past_token, past_part, declared_name, is_bare, ends_open}
-use Rattle.cr_syntax.specs.Grammar.{opening, closing, inner, inner_many, inner_list, token, part, many, list}
+use Rattle.cr_syntax.specs.Grammar.{opening, closing, inner, token, part}
 use Rattle.cr_syntax.specs.Grammar as grammar
 use Rattle.cr_syntax.specs.Spells.{Limit, Is, Stands, Within, Spells, a, rest}
 use Rattle.cr_syntax.specs.Spells as spells
 use Rattle.cr_syntax.specs.Units.{Place, own_item, elsewhere, place_in, is_misplaced, misplaced_at, has_here, after_first, own_parameters, ellipsis_at, one_begins_at, switch_body_at, variadic_definition}
 use Rattle.cr_syntax.specs.Units as units
-use Rattle.cr_machine.specs.Machine.{Goal, Prog, Manner, Labels, anywhere, own_block, nowhere, named, Allows, plain, opens, reopens, the, has, around, innermost_of, brought}
+use Rattle.cr_machine.specs.Machine.{Goal, Prog, Manner, Labels, anywhere, own_block, nowhere, named, Allows, plain, opens, reopens, around, innermost_of}
 use Rattle.cr_machine.specs.Machine.{whole, expression, commas, assignment, conditional, operands, cast, unary, measured, postfix, called, grouped, texts, arguments, suffixes, type_name, row, more, element, structure, members, member, member_declarators, enumeration, enumerators, enumerator, consts, declarator, declarator_suffixes, abstract_suffixes, size, parameters, more_parameters, parameter}
 use Rattle.cr_machine.specs.Machine.{unit, externals, external, declaration, init_declarators, initialized, initializer, initializers, statement, block, if_rest, switch_rest, while_rest, do_rest, for_rest, return_rest, for_clauses, clause, compound, items, item}
 use Rattle.cr_machine.specs.Machine as m
-use Rattle.cr_machine.specs.MachineBody.{body, inside, may_label, may_define, is_label, label_start, statement_start, is_designator, ends_variadic, is_variadic, last_token, defined, declared_on, unlabelled}
+use Rattle.cr_machine.specs.MachineBody.{body, inside, may_label, may_define, is_label, ends_variadic, last_token, defined, declared_on, unlabelled}
 use Rattle.cr_machine.specs.MachineBody as program
-use Rattle.cr_machine.proofs.MachineSpells.{and_none, and_and, pushed, is_one, forth, name_brought, Names, by_declarator, by_direct}
+use Rattle.cr_machine.proofs.MachineSpells.{and_and, pushed, is_one, forth, name_brought, Names, by_declarator, by_direct}
 use Rattle.cr_machine.proofs.MachineSpells as facts
 use Rattle.cr_machine.proofs.MachineKept.{around_less}
 use Rattle.cr_machine.proofs.MachineMeans.{Reads, Begun, IsDeclared, with_name, without, IsClause, no_clause, one_clause, IsOpen, open_of, after_init}
@@ -35,9 +35,9 @@ use Rattle.cr_machine.proofs.MachineBegins.{owned}
 use Rattle.cr_machine.proofs.MachineExtend.{Front, Stand, weaken}
 use Rattle.cr_machine.proofs.MachineScopes.{scopes_kept}
 use Rattle.cr_machine.proofs.MachineEnds.{Way}
-use Rattle.cr_machine.proofs.MachineShown.{next_so, next_designator, next_label, next_block, next_body, next_definition, Shown, ShownIn, shown_label, shown_block, shown_body, shown_definition, shown_in_so, seen, every, started, started_here, started_so, started_left, started_right, in_list, in_declarator, Room, Barred, Labelled, Defined, moved, left_in, right_in, within, wherever, left, right, first, second, operand_begins, same_number, true_or}
+use Rattle.cr_machine.proofs.MachineShown.{next_so, next_designator, next_label, next_block, next_body, next_definition, shown_label, shown_block, shown_body, shown_definition, shown_in_so, seen, every, started, started_here, started_so, started_right, in_list, in_declarator, Room, Labelled, moved, left_in, right_in, within, wherever, left, right, first, second, operand_begins, same_number, true_or}
 use Rattle.cr_machine.proofs.MachineShown as show
-use Rattle.cr_machine.proofs.MachineGrows.{Grown, GrownIn, GrownBy, Via, Stated, Lists, BegunOn, BehindOn, IsDeclarationBegin, OneDeclared, U, placed, blocked, grown, grown1, grown3, puts, put1, more0, mores, number_conditional, number_assignment, number_expression, some_expression, one_declarator}
+use Rattle.cr_machine.proofs.MachineGrows.{GrownIn, GrownBy, Via, Stated, IsDeclarationBegin, OneDeclared, U, placed, blocked, grown, puts, more0, mores, number_conditional, number_assignment, number_expression, some_expression, one_declarator}
 use Rattle.cr_machine.proofs.MachineGrows as grows
 
 -- Places: where the parts of a node stand, by the labels that they may have.

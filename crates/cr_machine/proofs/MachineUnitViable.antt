@@ -12,7 +12,7 @@ use Rattle.cr_syntax.specs.Trees.{Trees}
 use Rattle.cr_syntax.specs.Context.{fresh}
 use Rattle.cr_syntax.specs.Spells.{Limit, AtMost, Upto, Leaving, Is, Spells, rest}
 use Rattle.cr_syntax.specs.Reads.{same_word}
-use Rattle.cr_syntax.specs.Units.{unit_side, file_scope, IsUnit, Completes, Begins, most_levels, with_word, StandsIn, is_unused, elsewhere, Has, misplaced_at, switch_body_at, variadic_definition, Outside, Shows}
+use Rattle.cr_syntax.specs.Units.{unit_side, file_scope, IsUnit, Completes, Begins, most_levels, with_word, StandsIn, is_unused, elsewhere, Has, misplaced_at, variadic_definition, Outside}
 use Rattle.cr_syntax.specs.Units as units
 use Rattle.cr_machine.specs.Machine.{Labels, Test, Manner, has, Allows, passes, unit}
 use Rattle.cr_machine.specs.MachineBody.{body, is_designator, is_statement_start, label_start, statement_start}
@@ -200,16 +200,6 @@ module _ (ts : List Lexeme) (most k : ℕ) (le : k ≤ length ts) (l : Labels) w
           let i : m ≡ k = omega arith in
           let i' : m' ≡ k = omega arith in
           (omega arith, word_back ts all k word.LeftBrace al lt (subst (λ j. Is all j word.LeftBrace) i q), t, c, subst (λ j. Has (variadic_definition n j) t) i' y)
-
-  pub definition_begins : (n : ℕ) → EndsBy (defining n) → Begins (Upto n most) ts n
-  definition_begins n h =
-      let lt = defining_inside n h in
-      let lt' = (definition_completes n h).0 in
-      let g = definition_grown n n (omega arith) h lt in
-      record {
-        trees = g.built.0;
-        completes = completes_less (omega arith) (completes ts most (k + 1) (omega arith) (Upto n most) (defining n) (λ g i d far. behind_late ts most k le n (omega arith) g i d far lt) g);
-      }
 
 module _ (ts : List Lexeme) (k : ℕ) (le : k ≤ length ts) (l : Labels) where
   abbrev EndsSo : Way → Type 0

@@ -18,7 +18,7 @@ use Rattle.cr_syntax.specs.Grammar as grammar
 use Rattle.cr_syntax.specs.Spells.{Limit, AtMost, Upto, Is, IsIdentifier, Spells, a, rest}
 use Rattle.cr_syntax.specs.Spells as spells
 use Rattle.cr_syntax.specs.Reads.{is_word}
-use Rattle.cr_syntax.specs.Units.{Has, has_here, unit_side, file_scope, IsUnit, Completes, Begins, Shows, most_levels, with_word, switch_body_at, Place, Outside}
+use Rattle.cr_syntax.specs.Units.{Has, has_here, unit_side, file_scope, IsUnit, Begins, Shows, most_levels, with_word, switch_body_at, Place, Outside}
 use Rattle.cr_syntax.specs.Units as units
 use Rattle.cr_machine.specs.Machine.{Goal, Manner, Test, Labels, nowhere, Allows, plain, opens, reopens, made, expect, call}
 use Rattle.cr_machine.specs.Machine.{expression, cast, unary, grouped, unit, if_rest, switch_rest, while_rest, for_rest, return_rest}

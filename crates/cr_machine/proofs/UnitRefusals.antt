@@ -3,7 +3,7 @@ use Rattle.std.proofs.Common.{◌≡◌, ℕ, ◌+◌, ◌<◌, ◌≤◌, List,
 use Rattle.cr_syntax.specs.Words.{Lexeme}
 use Rattle.cr_syntax.specs.Trees.{Trees}
 use Rattle.cr_syntax.specs.Spells.{Limit, Free, AtMost, Upto}
-use Rattle.cr_syntax.specs.Units.{most_levels, IsUnit, Completes, Begins, Outside, IsTooDeep, IsFineBefore, Refusal, Unexpected, Ended, TooDeep, OutsideSubset, FirstRefusal, IsTreeOf}
+use Rattle.cr_syntax.specs.Units.{most_levels, IsUnit, Begins, Outside, IsTooDeep, IsFineBefore, Refusal, Unexpected, Ended, TooDeep, OutsideSubset, FirstRefusal, IsTreeOf}
 use Rattle.cr_syntax.specs.Units as units
 use Rattle.cr_machine.proofs.MachineOwn.{Lets, lets_all, lets_fewer, lets_upto, within_other}
 use Rattle.cr_machine.proofs.MachineOne.{Order, less, alike, more, order}
