@@ -20,12 +20,11 @@ use Rattle.cr_machine.specs.Machine.{Goal, Prog, Reply, Done, has_word, give, ca
 use Rattle.cr_machine.specs.Machine as m
 use Rattle.cr_machine.specs.MachineBody.{body, is_designator, is_any, inside, declares, enters, defined, declared_on, declaration_end}
 use Rattle.cr_machine.specs.MachineLaws.{IsFree}
-use Rattle.cr_machine.proofs.MachineSpells.{and_none, and_and, pushed, named_before}
+use Rattle.cr_machine.proofs.MachineSpells.{and_none, and_and, pushed, name_brought}
 use Rattle.cr_machine.proofs.MachineSpells as facts
 use Rattle.cr_machine.proofs.MachineFirst.{none_true, yes, differs, sorted, free_by, tail, starts, First, by_word, never, never_brace, not_first, first_assignment}
 use Rattle.cr_machine.proofs.MachineFirst as first
 use Rattle.cr_machine.proofs.MachineFits.{fits_left, fits_right, may_left, may_right, may_define_so, body_fits}
-use Rattle.cr_machine.proofs.MachineSound.{brought_is, name_is}
 use Rattle.cr_machine.proofs.MachineTasks.{measure, Closes, by_paren, by_comma, by_semicolon, by_closing, by_equal, by_brace, Goes, Answers, Completes, Smaller}
 use Rattle.cr_machine.proofs.MachineTasks as task
 use Rattle.cr_machine.proofs.MachineBegins.{ElementFirst, by_storage, of_plain, by_plain, by_type, specifiers_first, NamedFirst, by_star, by_name, named_first}
@@ -95,21 +94,13 @@ module _ (ts : List Lexeme) (limit : Limit) where
 
   -- Names.
 
-  -- the name of a declarator is one of its tokens
-  name_in : {h : Context} {c e : Scopes} {d i j : ℕ} {t : Trees} (h' : Context) → Spells ts limit (a part.Declarator) h c e d t i j →
-      m.brought ts j (past_part h' t).name (past_part h' t).type_name ≡ declared_name ts (past_part h' t)
-  name_in {j = j} {t = t} h' s =
-      let q = name_is s h' in
-      let lt = named_before facts.by_declarator s in
-      brought_is ts j (past_part h' t).name (past_part h' t).type_name (omega arith)
-
   declares_goes : {h : Context} {c e : Scopes} {own : List TypeName} {d i j : ℕ} {t : Trees} {r : Reply} (p : Prog) (h' : Context) → Spells ts limit (a part.Declarator) h c (own ∷ e) d t i j →
       Goes ts limit p (enter (declared_name ts (past_part h' t)) e) j r → Goes ts limit (declares h' t p) (own ∷ e) j r
-  declares_goes {e = e} {j = j} {r = r} p h' s z = run_look (run_set (run_bring (subst (λ y. Goes ts limit p (enter y e) j r) (sym (name_in h' s)) z)))
+  declares_goes {e = e} {j = j} {r = r} p h' s z = run_look (run_set (run_bring (subst (λ y. Goes ts limit p (enter y e) j r) (sym (name_brought s h')) z)))
 
   enters_goes : {h : Context} {c e : Scopes} {own : List TypeName} {d i j : ℕ} {t : Trees} {r : Reply} (p : Prog) (h' : Context) → Spells ts limit (a part.Declarator) h c (own ∷ e) d t i j →
       Goes ts limit p (own ∷ enter (declared_name ts (past_part h' t)) e) j r → Goes ts limit (enters h' t p) (own ∷ e) j r
-  enters_goes {e = e} {own = own} {j = j} {r = r} p h' s z = run_look (run_set (run_bring (run_look (run_set (subst (λ y. Goes ts limit p (own ∷ enter y e) j r) (sym (name_in h' s)) z)))))
+  enters_goes {e = e} {own = own} {j = j} {r = r} p h' s z = run_look (run_set (run_bring (run_look (run_set (subst (λ y. Goes ts limit p (own ∷ enter y e) j r) (sym (name_brought s h')) z)))))
 
   module _ (n : ℕ) (b : Smaller ts limit n) where
     -- Initializers.

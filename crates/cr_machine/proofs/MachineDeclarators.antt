@@ -23,8 +23,8 @@ use Rattle.cr_machine.specs.Machine as m
 use Rattle.cr_machine.specs.MachineBody.{body, is_abstract_start, is_declarator_start, in_parameters, declarator_start, array_start, pointer_end, may_name, may_omit}
 use Rattle.cr_machine.proofs.MachineSpells.{and_none, and_and, pushed}
 use Rattle.cr_machine.proofs.MachineFirst.{none_true, yes, differs, sorted, free_by, row_here, row_next, tail, never, never_bracket, first_conditional}
-use Rattle.cr_machine.proofs.MachineSound.{brought_is, part_some, pushed_some, two_parameters, bare_is, name_is}
-use Rattle.cr_machine.proofs.MachineSpells.{is_one, named_before}
+use Rattle.cr_machine.proofs.MachineSound.{part_some, pushed_some, two_parameters, bare_is}
+use Rattle.cr_machine.proofs.MachineSpells.{is_one, name_brought}
 use Rattle.cr_machine.proofs.MachineSpells as facts
 use Rattle.cr_machine.proofs.MachineTasks.{measure, Closes, by_paren, by_comma, by_semicolon, EndsName, by_closing, by_equal, by_brace, Goes, Answers, Completes, Smaller}
 use Rattle.cr_machine.proofs.MachineTasks as task
@@ -260,9 +260,7 @@ module _ (ts : List Lexeme) (limit : Limit) where
         (run_seen (unnamed_sorted u) (run_call (b.read task.abstract s (omega arith) m.either (past_part fresh t) refl o) (run_no (is_unnamed begin.by_abstract s) (run_here run_give)))))
     parameter_reads {i = i} {j = j} (spells.of_alternative grammar.parameter_declaration f (spells.part {e = c'} {j = k} {t = t} x (spells.part (spells.parameter_declarator {e = e'} {t = u} s) spells.done))) lt = λ o.
         let v = named_first facts.by_declarator s in
-        let w = named_before facts.by_declarator s in
-        let y = name_is s (past_part fresh t) in
         run_here (run_call (b.read task.specifiers x (omega arith) (named_row part.Specifiers ts c' k (past_part fresh t).typed v) (named_apart v))
         (run_seen (named_sorted v) (run_call (b.read task.declarator s (omega arith) m.either refl (by_closing o)) (run_yes (is_named facts.by_declarator s) (run_look (run_set (run_bring (run_here
         (subst (λ z. Goes ts limit (give (one kind.Parameter i j (t & u & none))) (enter (m.brought ts j (past_part (past_part fresh t) u).name (past_part (past_part fresh t) u).type_name) e') j (Done (one kind.Parameter i j (t & u & none)) (enter z e') j))
-        (brought_is ts j (past_part (past_part fresh t) u).name (past_part (past_part fresh t) u).type_name (omega arith)) run_give)))))))))
+        (name_brought s (past_part fresh t)) run_give)))))))))

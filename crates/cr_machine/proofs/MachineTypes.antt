@@ -22,10 +22,9 @@ use Rattle.cr_machine.specs.Machine.{Goal, Prog, Reply, Done, plain, give, take,
 use Rattle.cr_machine.specs.Machine as m
 use Rattle.cr_machine.specs.MachineBody.{body, member_end, other_element, specifier_words, plain_words, storage_words, row_kind, is_plain_start, is_specifier_start, is_abstract_start, element_start, in_row}
 use Rattle.cr_machine.proofs.MachineMeans.{element_part, has_some}
-use Rattle.cr_machine.proofs.MachineSpells.{and_none, and_and, pushed}
+use Rattle.cr_machine.proofs.MachineSpells.{and_none, and_and, pushed, is_one, forth, brought_is}
 use Rattle.cr_machine.proofs.MachineFirst.{none_true, or_false, and_false, later_row, yes, differs, sorted, free_by, lower, fails, all_differ, Row, row_here, row_next, takes, skips, tail}
-use Rattle.cr_machine.proofs.MachineSound.{brought_is, part_some, two_in_row}
-use Rattle.cr_machine.proofs.MachineSpells.{is_one, forth}
+use Rattle.cr_machine.proofs.MachineSound.{part_some, two_in_row}
 use Rattle.cr_machine.proofs.MachineSpells as facts
 use Rattle.cr_machine.proofs.MachineTasks.{measure, Closes, by_paren, by_comma, by_semicolon, by_closing, past_row, Goes, Answers, Completes, Smaller}
 use Rattle.cr_machine.proofs.MachineTasks as task
