@@ -34,6 +34,7 @@ use Rattle.cr_machine.proofs.MachineUnused.{begun_is_used}
 use Rattle.cr_machine.proofs.MachineParts.{given, refused_or_free, answered_or_refused}
 use Rattle.cr_machine.proofs.MachineStuck.{is_crowded}
 use Rattle.cr_machine.proofs.MachineRefused.{no_room, spells_none, no_room_instead, defines_none}
+use Rattle.cr_machine.proofs.MachineSteady.{none_for_keyword}
 
 -- A run consumes tokens of the text alone.
 pub ends_inside : {ts : List Lexeme} {limit : Limit} {p : Prog} {c : Scopes} {i : ℕ} {r : Reply} → Runs body ts limit p c i r → i ≤ length ts → end_of r ≤ length ts
@@ -125,10 +126,7 @@ in_place (called_expression q x) y b = (word.LeftBracket, subscript_for_call)
 in_place (bit_field q x) y b = absurd (both_ways (is_bracket word.Colon) refl (subst (λ w. is_bracket w ≡ true) (some_one (sym y ∙ q)) (is_of_bracket b)))
 
 pub not_keyword_row : {n : ℕ} {v : Word} → StandsIn n v → n ≡ 1 → ⊥
-not_keyword_row {v = v} x e = by (subst (λ n. StandsIn n v) e x)
-  where
-    by : {v : Word} → StandsIn 1 v → ⊥
-    by x = elim x [ ]
+not_keyword_row {v = v} x e = none_for_keyword v (subst (λ n. StandsIn n v) e x)
 
 -- the way in which a token that a row names is refused
 pub barring_at : {n i k : ℕ} {w : Way} → IsBarring n i (at w k) → (i ≡ k) × (x : Test) × (d : ℕ) × (w ≡ barring x n d)

@@ -23,10 +23,10 @@ use Rattle.cr_machine.proofs.MachineFirst.{none_true}
 use Rattle.cr_machine.proofs.MachineRows.{knows}
 use Rattle.cr_machine.proofs.MachineComplete.{spelled_is_read, free_at_end, get_some}
 use Rattle.cr_machine.proofs.MachineEnds.{Way, stopped, barring, defining, Ends, end_refuse, end_take, end_pass, end_free, end_seen, end_unseen, end_yes, end_no, end_here, end_look, end_set, end_bring, end_behind, end_inside}
-use Rattle.cr_machine.proofs.MachineViable.{word_before, word_there}
 use Rattle.cr_machine.proofs.MachineSteady.{levels_in, levels_out, start_levels, fits, Goes, steady}
 use Rattle.cr_machine.proofs.MachineStuck.{levels_by, is_crowded, Stand, stuck}
 use Rattle.cr_machine.proofs.MachineClosed.{closed, closed_before, closed_at, spelled_closed}
+use Rattle.cr_machine.proofs.MachineOwn.{set_other, set_there}
 
 -- A test of a token in the grammar's programs and the token's word.
 
@@ -127,7 +127,7 @@ same_row q = cc
 pub no_room_instead : {ts : List Lexeme} {limit : Limit} (most : ℕ) (s : Start) {x : Test} {n d k : ℕ} {v : Word} → IsStart s.part → k < length ts → most ≤ d → StandsIn n v →
     Ends body ts limit (body (start_goal s.part s.depth)) s.scopes s.at (barring x n d) k → BeginsFrom (Upto (k + 1) most) (with_word ts k v) s (k + 1) → ⊥
 no_room_instead {ts = ts} most s {k = k} {v = v} z lt up r y b =
-    unspelled most (λ n lt'. tokens n (omega arith) ∙ word_before ts k n new lt') (allows_bracket us most k v (stands_bracket r) there) z y refl up
+    unspelled most (λ n lt'. tokens n (omega arith) ∙ set_other ts k n new (λ e. omega arith)) (allows_bracket us most k v (stands_bracket r) there) z y refl up
     (λ x n d q. record { word = v; stands = subst (λ n. StandsIn n v) (same_row q) r; is = there }) b.continues.spelled.spells (free_at_end us 13)
   where
     us : List Lexeme
@@ -140,7 +140,7 @@ no_room_instead {ts = ts} most s {k = k} {v = v} z lt up r y b =
     tokens = let q = length-set ts k new in same_tokens (set ts k new) us (k + 1) (omega arith) b.continues.alike
 
     there : Is us k v
-    there = ap (λ o. elim o as (λ _. Option Word) [ None ↦ None | Some t ↦ Some t.word ]) (tokens k (omega arith) ∙ word_there ts k new lt)
+    there = ap (λ o. elim o as (λ _. Option Word) [ None ↦ None | Some t ↦ Some t.word ]) (tokens k (omega arith) ∙ set_there ts k new lt)
 
 -- No goal but an external definition is refused for a token before.
 no_definition : {ts : List Lexeme} {limit : Limit} (l b : ℕ) (o : Bool) {p : Prog} {c : Scopes} {i k m : ℕ} → Ends body ts limit p c i (defining m) k → Goes ts 0 p l b o c i → ⊥

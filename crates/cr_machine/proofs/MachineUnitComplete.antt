@@ -31,7 +31,7 @@ pub unit_reads : {ts : List Lexeme} {limit : Limit} {h : Context} {c e : Scopes}
 unit_reads {ts = ts} {limit = limit} {c = c} {e = e} {d = d} {i = i} l (spells.part {t = t} {u = u} x s) f g =
     subst (λ z. Runs body ts limit (body (m.unit l d)) c i (Done z e (length ts))) (and_and t none u)
     (run_call (completes ts limit task.external x l (fits_left l t u f) (may_left l t u g))
-    (tail body ts limit (completes ts limit task.externals s l (t & none) (fits_right l t u f) (may_right l t u g) (none_past ts))))
+    (tail (completes ts limit task.externals s l (t & none) (fits_right l t u f) (may_right l t u g) (none_past ts))))
 
 pub unit_is_read : {ts : List Lexeme} {limit : Limit} {t : Trees} (l : Labels) (x : IsUnit limit ts t) → fits l t ≡ true → may_stand l t ≡ true → Runs body ts limit (body (m.unit l 0)) file_scope 0 (Done t x.after (length ts))
 unit_is_read l x f g = unit_reads l x.spells f g

@@ -23,13 +23,13 @@ use Rattle.cr_machine.proofs.MachineEnds.{Way, stopped, barring, Ends}
 use Rattle.cr_machine.proofs.MachineComplete.{get_some}
 use Rattle.cr_machine.proofs.MachineUnitComplete.{unit_is_read}
 use Rattle.cr_machine.proofs.MachineSound.{runs_sound}
-use Rattle.cr_machine.proofs.MachineViable.{word_before, word_there}
 use Rattle.cr_machine.proofs.MachineForms.{within}
 use Rattle.cr_machine.proofs.MachineUnused.{used}
 use Rattle.cr_machine.proofs.MachineSteady.{levels_in, levels_out, fits, Goes, steady}
 use Rattle.cr_machine.proofs.MachineRows.{knows}
 use Rattle.cr_machine.proofs.MachineStuck.{levels_by, is_crowded, Stand, stuck}
 use Rattle.cr_machine.proofs.MachineRefused.{same_tokens, no_bar, allows_none, allows_bracket, stands_bracket, same_row}
+use Rattle.cr_machine.proofs.MachineOwn.{set_other, set_there}
 
 -- The programs of a unit and of external definitions.
 data Outer (l : Labels) (d : ℕ) : Prog → Type 0 where
@@ -71,7 +71,7 @@ no_room_in_unit {ts = ts} {limit = limit} most {k = k} some le up y b =
 pub no_room_instead_in_unit : {ts : List Lexeme} {limit : Limit} (most : ℕ) {x : Test} {n d k : ℕ} {v : Word} → 0 < most → k < length ts → most ≤ d → StandsIn n v →
     Ends body ts limit (body (unit anywhere 0)) file_scope 0 (barring x n d) k → Begins (Upto (k + 1) most) (with_word ts k v) (k + 1) → ⊥
 no_room_instead_in_unit {ts = ts} {limit = limit} most {k = k} {v = v} some lt up r y b =
-    no_unit ts us limit (Upto (k + 1) most) k most (λ n lt'. tokens n (omega arith) ∙ word_before ts k n new lt') (allows_bracket us most k v (stands_bracket r) there) some y refl up
+    no_unit ts us limit (Upto (k + 1) most) k most (λ n lt'. tokens n (omega arith) ∙ set_other ts k n new (λ e. omega arith)) (allows_bracket us most k v (stands_bracket r) there) some y refl up
     (λ x n d q. record { word = v; stands = subst (λ n. StandsIn n v) (same_row q) r; is = there }) b.completes.is_unit
   where
     us : List Lexeme
@@ -84,7 +84,7 @@ no_room_instead_in_unit {ts = ts} {limit = limit} most {k = k} {v = v} some lt u
     tokens = let q = length-set ts k new in same_tokens (set ts k new) us (k + 1) (omega arith) b.completes.alike
 
     there : Is us k v
-    there = ap (λ o. elim o as (λ _. Option Word) [ None ↦ None | Some t ↦ Some t.word ]) (tokens k (omega arith) ∙ word_there ts k new lt)
+    there = ap (λ o. elim o as (λ _. Option Word) [ None ↦ None | Some t ↦ Some t.word ]) (tokens k (omega arith) ∙ set_there ts k new lt)
 
 -- a unit that is read is spelled
 pub read_is_unit : {ts : List Lexeme} {limit : Limit} {t : Trees} {e : Scopes} (l : Labels) → Runs body ts limit (body (unit l 0)) file_scope 0 (Done t e (length ts)) → IsUnit limit ts t

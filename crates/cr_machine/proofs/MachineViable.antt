@@ -2,7 +2,7 @@
 -- program stops, it leaves room for so many levels; where a row of the refused forms refuses, it shows the row's node, and
 -- the word that stands in can come next; where a level finds no room, the opening token itself can.
 use Rattle.std.proofs.Common.{◌≡◌, ℕ, zero, suc, ◌+◌, ◌<◌, ◌≤◌, Bool, true, false, ◌||◌, List, [], ◌∷◌, length, Option, None, Some, refl, sym, ap, subst, ◌∙◌, inl, inr, arith}
-use Rattle.std.specs.Prelude.{slice_get, set, ◌==◌, ◌++◌}
+use Rattle.std.specs.Prelude.{slice_get, ◌==◌, ◌++◌}
 use Rattle.std.proofs.Math.Nat.{eq-or-lt_of_le}
 use Rattle.std.proofs.lemmas.Bool.{cases_lt}
 use Rattle.std.proofs.lemmas.Option.{slice_get_past}
@@ -15,12 +15,12 @@ use Rattle.cr_syntax.specs.Trees.{Trees}
 use Rattle.cr_syntax.specs.Context.{fresh}
 use Rattle.cr_syntax.specs.Spells.{Limit, AtMost, Upto, Leaving, Is, Spells, a}
 use Rattle.cr_syntax.specs.Units.{most_levels, with_word, StandsIn, list_for_designator, group_for_literal, subscript_for_call, block_for_body}
-use Rattle.cr_machine.specs.Machine.{Goal, Prog, Test, Manner, plain, opens, reopens, Allows, levels_at, has, passes, has_word, Cause, Failed, Runs}
+use Rattle.cr_machine.specs.Machine.{Goal, Prog, Test, Manner, plain, opens, reopens, Allows, levels_at, has, passes, Cause, Failed, Runs}
 use Rattle.cr_machine.specs.Machine as m
 use Rattle.cr_machine.specs.MachineBody.{body, start_goal}
 use Rattle.cr_machine.specs.MachineLaws.{IsStart, start_expression, start_assignment, start_conditional}
 use Rattle.cr_syntax.specs.Expressions.{Start, Spelled, Continues, BeginsFrom, OutsideFrom, compound_literal, called_expression, bit_field}
-use Rattle.cr_syntax.proofs.Tests.{is_of}
+use Rattle.cr_syntax.proofs.Tests.{is_of, some_one}
 use Rattle.cr_machine.proofs.MachineKept.{Kept, runs_kept}
 use Rattle.cr_machine.proofs.MachineMeans.{Means, start_part}
 use Rattle.cr_machine.proofs.MachineSound.{each}
@@ -32,6 +32,8 @@ use Rattle.cr_machine.proofs.MachineShown.{Next, next_designator, next_literal, 
 use Rattle.cr_machine.proofs.MachineFails.{AtRefusal, viable}
 use Rattle.cr_machine.proofs.MachineGrows.{Grown, Via, Stops, Bars, BarsBy, Refuses, Crowds, start_via}
 use Rattle.cr_machine.proofs.MachineUnitGrows.{owes}
+use Rattle.cr_machine.proofs.MachineOwn.{set_other, set_there}
+use Rattle.cr_machine.proofs.MachineFirst.{some_word_of}
 
 -- the first k tokens
 abbrev pub prefix : ℕ → List Lexeme → List Lexeme
@@ -54,24 +56,9 @@ prefix_get (suc k) (x ∷ ts) (suc n) lt = prefix_get k ts n (omega arith)
 pub token_is : (ts : List Lexeme) (i : ℕ) (x : Lexeme) → word_at ts i ≡ Some x.word → spelling_at ts i ≡ x.spelling → slice_get ts i ≡ Some x
 token_is ts i x = by (slice_get ts i)
   where
-    some_word : {v w : Word} → Some v ≡ Some w → v ≡ w
-    some_word q = cc
-
     by : (o : Option Lexeme) → elim o as (λ _. Option Word) [ None ↦ None | Some t ↦ Some t.word ] ≡ Some x.word → elim o as (λ _. List ℕ) [ None ↦ [] | Some t ↦ t.spelling ] ≡ x.spelling → o ≡ Some x
     by None q r = cc
-    by (Some y) q r = ap (λ w. Some (record { word = w; spelling = y.spelling })) (some_word q) ∙ ap (λ s. Some (record { word = x.word; spelling = s })) r
-
--- the list with another word at token k, before that token and there
-pub word_before : (ts : List Lexeme) (k i : ℕ) (x : Lexeme) → i < k → slice_get (set ts k x) i ≡ slice_get ts i
-word_before [] k i x lt = refl
-word_before (y ∷ ts) zero i x lt = absurd (omega arith)
-word_before (y ∷ ts) (suc k) zero x lt = refl
-word_before (y ∷ ts) (suc k) (suc i) x lt = word_before ts k i x (omega arith)
-
-pub word_there : (ts : List Lexeme) (k : ℕ) (x : Lexeme) → k < length ts → slice_get (set ts k x) k ≡ Some x
-word_there [] k x lt = absurd (omega arith)
-word_there (y ∷ ts) zero x lt = refl
-word_there (y ∷ ts) (suc k) x lt = word_there ts k x (omega arith)
+    by (Some y) q r = ap (λ w. Some (record { word = w; spelling = y.spelling })) (some_one q) ∙ ap (λ s. Some (record { word = x.word; spelling = s })) r
 
 start_is : {p : Part} → IsStart p → start_part p ≡ p
 start_is start_expression = refl
@@ -162,14 +149,6 @@ stands_next group_for_literal (next_literal q) = q
 stands_next subscript_for_call (next_call q) = q
 stands_next list_for_designator (next_designator q) = q
 stands_next block_for_body (next_body q) = q
-
--- a word that passes stands there
-pub some_word_of : (ts : List Lexeme) (k : ℕ) (f : Word → Bool) → has_word ts k f ≡ true → (w : Word) × Is ts k w × (f w ≡ true)
-some_word_of ts k f = by (word_at ts k)
-  where
-    by : (o : Option Word) → elim o as (λ _. Bool) [ None ↦ false | Some w ↦ f w ] ≡ true → (w : Word) × (o ≡ Some w) × (f w ≡ true)
-    by None q = cc
-    by (Some w) q = (w, refl, q)
 
 -- a row that refuses a label that stands too deep
 abbrev pub is_labels : Test → ℕ → Bool
@@ -264,13 +243,13 @@ module _ (ts : List Lexeme) (most n : ℕ) (le : n ≤ length ts) (top : Limit) 
   pub alike_with : (all : List Lexeme) → Front us all → n < length ts → (v : Word) → Is all n v → (i : ℕ) (x : Lexeme) → i < n + 1 → slice_get (with_word ts n v) i ≡ Some x → slice_get all i ≡ Some x
   alike_with all f lt v q i x l r = elim (eq-or-lt_of_le {n = i} {m = n} (omega arith)) [
     | inl e ↦ subst (λ j. slice_get all j ≡ Some x) (sym e) (there (subst (λ j. slice_get (with_word ts n v) j ≡ Some x) e r))
-    | inr y ↦ alike all f i x y (sym (word_before ts n i (record { word = v; spelling = [] }) y) ∙ r)
+    | inr y ↦ alike all f i x y (sym (set_other ts n i (record { word = v; spelling = [] }) (λ e. omega arith)) ∙ r)
   ]
     where
       there : slice_get (with_word ts n v) n ≡ Some x → slice_get all n ≡ Some x
       there r =
           let e = prefix_length n ts le in
-          let y : Some (record { word = v; spelling = [] }) ≡ Some x = sym (word_there ts n (record { word = v; spelling = [] }) lt) ∙ r in
+          let y : Some (record { word = v; spelling = [] }) ≡ Some x = sym (set_there ts n (record { word = v; spelling = [] }) lt) ∙ r in
           token_is all n (record { word = v; spelling = [] }) q
           (f.names n ∙ ap (λ o. elim o as (λ _. List ℕ) [ None ↦ [] | Some t ↦ t.spelling ]) (slice_get_past us n (omega arith))) ∙ y
 

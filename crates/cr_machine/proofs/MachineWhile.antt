@@ -29,16 +29,16 @@ use Rattle.cr_machine.proofs.MachineKept.{Kept, runs_kept}
 use Rattle.cr_machine.proofs.MachineMeans.{Means, Reads}
 use Rattle.cr_machine.proofs.MachineSound.{each}
 use Rattle.cr_machine.proofs.MachineSpells.{is_one}
-use Rattle.cr_machine.proofs.MachineComplete.{allows_upto}
+use Rattle.cr_machine.proofs.MachineComplete.{allows_upto, get_some}
 use Rattle.cr_machine.proofs.MachineExtend.{weaken}
-use Rattle.cr_machine.proofs.MachineFirst.{none_true}
+use Rattle.cr_machine.proofs.MachineFirst.{none_true, some_word_of, one_of_two}
 use Rattle.cr_machine.proofs.MachineOwn.{Alike, same_tokens, lets_itself, ready, carried, set_there, set_other}
 use Rattle.cr_machine.proofs.MachineEnds.{Way, stopped, barring, Ends}
 use Rattle.cr_machine.proofs.MachineShown.{Next, next_stopped, next_crowded, next_designator, next_literal, next_call, next_field, next_label, next_block, next_body, next_definition, next_empty, next_switch, shown_stopped, shown_crowded, shown_literal, shown_call, shown_field, ShownIn, seen, shown_designator, shown_label, shown_block, shown_body, shown_definition, shown_empty, shown_switch, empty_next, switch_at, every, Room, by_stop}
 use Rattle.cr_machine.proofs.MachineGrows.{GrownIn, Via, Stated, Owes, grown, more0, some_expression}
 use Rattle.cr_machine.proofs.MachineUnitGrows.{owes, owes_unlabelled, empty_block, switch_of, body_begins}
-use Rattle.cr_machine.proofs.MachineViable.{prefix, prefix_length, prefix_get, upto_behind, upto_late, some_word_of, alike, barred_inside}
-use Rattle.cr_machine.proofs.MachineUnitViable.{unit_of, completes, token_at, one_of_two, no_start}
+use Rattle.cr_machine.proofs.MachineViable.{prefix, prefix_length, prefix_get, upto_behind, upto_late, alike, barred_inside}
+use Rattle.cr_machine.proofs.MachineUnitViable.{unit_of, completes, no_start}
 use Rattle.cr_machine.proofs.MachineTurned.{Own, Path, found, Found, comes, turns, find, follow, path_switch}
 
 -- What an operand spells alone is an expression.
@@ -318,7 +318,7 @@ module _ (ts : List Lexeme) (k : ℕ) (lt : k < length ts) (le : k ≤ length ts
   begins_empty q =
       let lt' = before_body in
       let g = empty_grown in
-      let x = token_at ts k lt in
+      let x = get_some ts k lt in
       let size = turned_length ts n k le in
       let far = g.late in
       let e = g.size in
