@@ -1,6 +1,6 @@
 -- The rows of the refused forms and the subset's machine on a unit: where it is refused no row names a token before, and one
 -- that names the refused token is the machine's; where it reads a unit, no row names a token of it.
-use Rattle.std.proofs.Common.{◌≡◌, ℕ, ◌+◌, ◌<◌, ◌≤◌, true, false, List, [], length, Option, None, Some, ◌⊎◌, inl, inr, ⊎_elim, refl, sym, ap, subst, ◌∙◌, arith}
+use Rattle.std.proofs.Common.{◌≡◌, ℕ, ◌+◌, ◌<◌, ◌≤◌, true, false, List, [], length, Some, ◌⊎◌, inl, inr, ⊎_elim, refl, sym, ap, subst, ◌∙◌, arith}
 use Rattle.std.specs.Prelude.{slice_get, set}
 use Rattle.std.proofs.lemmas.Bool.{both_ways, cases_lt}
 use Rattle.cr_syntax.specs.declared.word.Word.{Word}
@@ -14,7 +14,7 @@ use Rattle.cr_syntax.specs.Units.{file_scope, most_levels, Completes, Begins, Sh
 use Rattle.cr_machine.specs.Machine.{unit, expression, anywhere, nowhere, Done, Runs, has_word, has}
 use Rattle.cr_machine.specs.MachineBody.{body, is_label}
 use Rattle.cr_machine.specs.MachineLaws.{start_expression}
-use Rattle.cr_machine.proofs.MachineRuns.{reach, same, passes_same, word_same}
+use Rattle.cr_machine.proofs.MachineRuns.{reach, same, passes_same, word_same, word_in}
 use Rattle.cr_machine.proofs.MachineFirst.{sorted, free_by}
 use Rattle.cr_machine.proofs.MachineEnds.{Way, barring, defining, crowded, refused_so}
 use Rattle.cr_machine.proofs.MachineWays.{Point, at, same_way}
@@ -151,7 +151,7 @@ body_is_behind complete {ts = ts} {k = k} s lt b g g' g'' r = ⊎_elim (λ x. ab
     vs_alike n le f = let w = get_some ts n (omega arith) in r.completes.alike n w.0 (omega arith) (set_other ts s n while_word f ∙ w.1) ∙ sym w.1
 
     a_while : s < k → Is vs s word.While
-    a_while lt' = ap (λ o. elim o as (λ _. Option Word) [ None ↦ None | Some x ↦ Some x.word ]) (r.completes.alike s while_word (omega arith) (set_there ts s while_word (omega arith)))
+    a_while lt' = ap word_in (r.completes.alike s while_word (omega arith) (set_there ts s while_word (omega arith)))
 
     while_lexeme : s < k → (x : Lexeme) × (slice_get vs s ≡ Some x)
     while_lexeme lt' = (while_word, r.completes.alike s while_word (omega arith) (set_there ts s while_word (omega arith)))

@@ -23,6 +23,7 @@ use Rattle.cr_machine.proofs.MachineShown.{Next, next_definition, ShownIn, seen,
 use Rattle.cr_machine.proofs.MachineGrows.{GrownIn}
 use Rattle.cr_machine.proofs.MachineViable.{prefix, prefix_length, upto_behind, upto_fits, leaving_fits, leaving_before, tested, stands_next, is_labels, no_labels, bars_other, bars_label, at_label, grows, further, further_last, further_length, further_grows, alike, alike_with, upto_late, leaving_late, behind_late, barred_inside}
 use Rattle.cr_machine.proofs.MachineFirst.{some_word_of, one_of_two}
+use Rattle.cr_machine.proofs.MachineRuns.{word_in}
 
 pub unit_of : {us : List Lexeme} {top : Limit} {way : Way} → (g : GrownIn us top way every (rest unit_side) fresh file_scope 0 0) → IsUnit top g.all g.built.0
 unit_of {top = top} g = record { after = g.built.1; spells = subst (λ j. Spells g.all top (rest unit_side) fresh file_scope g.built.1 0 g.built.0 0 j) g.size g.built.2 }
@@ -44,8 +45,8 @@ completes_less le c = record { text = c.text; alike = λ i x lt q. c.alike i x (
 word_back : (ts all : List Lexeme) (k : ℕ) (w : Word) → ((i : ℕ) (x : Lexeme) → i < k + 1 → slice_get ts i ≡ Some x → slice_get all i ≡ Some x) → k < length ts → Is all k w → Is ts k w
 word_back ts all k w al lt q =
     let x = get_some ts k lt in
-    let y : word_at all k ≡ Some (x.0).word = ap (λ o. elim o as (λ _. Option Word) [ None ↦ None | Some t ↦ Some t.word ]) (al k x.0 (omega arith) x.1) in
-    ap (λ o. elim o as (λ _. Option Word) [ None ↦ None | Some t ↦ Some t.word ]) x.1 ∙ (sym y ∙ q)
+    let y : word_at all k ≡ Some (x.0).word = ap word_in (al k x.0 (omega arith) x.1) in
+    ap word_in x.1 ∙ (sym y ∙ q)
 
 -- What a row's test says of the word.
 

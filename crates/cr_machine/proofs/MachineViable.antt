@@ -27,13 +27,15 @@ use Rattle.cr_machine.proofs.MachineSound.{each}
 use Rattle.cr_machine.proofs.MachineComplete.{allows_upto}
 use Rattle.cr_machine.proofs.MachineEnds.{Way, stopped, barring, crowded, defining, Ends, end_stop, end_refuse, end_take, end_crowded, end_pass, end_bar, end_free, end_seen, end_unseen, end_yes, end_no, end_here, end_look, end_set, end_bring, end_behind, end_inside, ends_so}
 use Rattle.cr_machine.proofs.MachineExtend.{Front}
-use Rattle.cr_machine.proofs.MachineRuns.{passes_same}
+use Rattle.cr_machine.proofs.MachineRuns.{passes_same, word_in}
 use Rattle.cr_machine.proofs.MachineShown.{Next, next_designator, next_literal, next_call, next_body, Shown, shown_literal, shown_call, shown_field, by_stop, by_level, Barred, Labelled}
 use Rattle.cr_machine.proofs.MachineFails.{AtRefusal, viable}
 use Rattle.cr_machine.proofs.MachineGrows.{Grown, Via, Stops, Bars, BarsBy, Refuses, Crowds, start_via}
 use Rattle.cr_machine.proofs.MachineUnitGrows.{owes}
 use Rattle.cr_machine.proofs.MachineOwn.{set_other, set_there}
 use Rattle.cr_machine.proofs.MachineFirst.{some_word_of}
+use Rattle.cr_machine.proofs.MachineRows.{knows}
+use Rattle.cr_machine.proofs.MachineSteady.{levels_in, levels_out, start_levels, Goes, steady}
 
 -- the first k tokens
 abbrev pub prefix : ℕ → List Lexeme → List Lexeme
@@ -225,7 +227,7 @@ module _ (ts : List Lexeme) (most n : ℕ) (le : n ≤ length ts) (top : Limit) 
   pub alike : (all : List Lexeme) → Front us all → (i : ℕ) (x : Lexeme) → i < n → slice_get ts i ≡ Some x → slice_get all i ≡ Some x
   alike all f i x lt q =
       let q' : slice_get us i ≡ Some x = prefix_get n ts i lt ∙ q in
-      token_is all i x (f.words i x.word (ap (λ o. elim o as (λ _. Option Word) [ None ↦ None | Some t ↦ Some t.word ]) q'))
+      token_is all i x (f.words i x.word (ap word_in q'))
       (f.names i ∙ ap (λ o. elim o as (λ _. List ℕ) [ None ↦ [] | Some t ↦ t.spelling ]) q')
 
   spelled : (s : Start) → (g : Grown us top way (a s.part) fresh s.scopes s.depth s.at) → Spelled top g.all s (length g.all) g.built.0
@@ -270,7 +272,7 @@ at_label ts most k lt f n m e q =
       here = prefix_length (k + 1) ts (omega arith);
       fits = λ g j d le. upto_behind k most g j d le;
       word = w.0;
-      is = ap (λ o. elim o as (λ _. Option Word) [ None ↦ None | Some t ↦ Some t.word ]) (prefix_get (k + 1) ts k (omega arith)) ∙ w.1;
+      is = ap word_in (prefix_get (k + 1) ts k (omega arith)) ∙ w.1;
       passes = w.2;
       so = refl;
     }
@@ -370,22 +372,6 @@ module _ (ts : List Lexeme) (most k : ℕ) (le : k ≤ length ts) (s : Start) (z
       ) (λ g i d lt w. allows_upto k most g i d w) in
       record { trees = g.built.0; continues = continues ts most (k + 1) (omega arith) (Upto k most) crowded (λ g i d far. behind_late ts most k le k (omega arith) g i d far lt) s g }
 
-  -- no expression has a definition in it
-  pub no_definition : (n : ℕ) → EndsBy (defining n) → ⊥
-  no_definition n h = elim (eq-or-lt_of_le {n = k} {m = length ts} le) [ inl e ↦ at_end e h | inr lt ↦ inside lt ]
-    where
-      none_shown : {j : ℕ} {t : Trees} → Shown j t (defining n) → ⊥
-      none_shown x = elim x [ ]
-
-      at_end : {k : ℕ} → k ≡ length ts → Ends body ts (AtMost most) (body (start_goal s.part s.depth)) s.scopes s.at (defining n) k → ⊥
-      at_end e h =
-          let h' = subst (λ j. Ends body ts (AtMost most) (body (start_goal s.part s.depth)) s.scopes s.at (defining n) j) e h in
-          none_shown (start_via (further ts) (Upto (length ts) most) (defining n) (further_late ts most n) s.part s.depth s.scopes s.at (further_grows ts most n (start_goal s.part s.depth) s.scopes s.at h') fresh).built.3
-
-      inside : k < length ts → ⊥
-      inside lt = none_shown (goes_on ts most (k + 1) (omega arith) (Upto k most) (defining n) (λ g i d far. behind_late ts most k le k (omega arith) g i d far lt) s k z h (omega arith)
-          (record { here = prefix_length (k + 1) ts (omega arith); fits = λ g j d le. upto_behind k most g j d le; so = refl }) (λ g i d lt w. allows_upto k most g i d w)).built.3
-
 module _ (ts : List Lexeme) (k : ℕ) (le : k ≤ length ts) (s : Start) (z : IsStart s.part) where
   shows : {x : Test} {n m : ℕ} {t : Trees} → (e : Scopes) × (passes ts e k x ≡ true) → Shown k t (barring x n m) → Continues (Upto k most_levels) ts s k t → OutsideFrom ts s k n
   shows {t = t} q (shown_literal y) c = compound_literal (is_of ts k word.LeftBrace q.1) (record { trees = t; continues = c; has = y })
@@ -408,6 +394,26 @@ module _ (ts : List Lexeme) (k : ℕ) (le : k ≤ length ts) (s : Start) (z : Is
       by (has f) true o h = let g = label_grown ts most_levels k le s z f n m o h (barred_inside h) in no_label g.built.3
       by _ true o h = cc
 
+-- No goal but an external definition is refused for a token before.
+no_definition : {ts : List Lexeme} {limit : Limit} (l b : ℕ) (o : Bool) {p : Prog} {c : Scopes} {i k m : ℕ} → Ends body ts limit p c i (defining m) k → Goes ts 0 p l b o c i → ⊥
+no_definition l b o end_refuse y = omega arith
+no_definition l b o (end_take x w z) y = no_definition l _ _ z y.2
+no_definition l b o (end_pass x z) y = no_definition l _ _ z y.3
+no_definition l b o (end_free x z) y = no_definition l _ _ z y.2
+no_definition l b o (end_seen x z) y = no_definition l _ _ z y.2
+no_definition l b o (end_unseen x z) y = no_definition l _ _ z y.3
+no_definition l b o (end_yes x z) y = no_definition l _ _ z (y.0 x)
+no_definition l b o (end_no x z) y = no_definition l _ _ z (y.1 x)
+no_definition l b o (end_here z) y = no_definition l _ _ z y
+no_definition l b o (end_look z) y = no_definition l _ _ z y
+no_definition l b o (end_set z) y = no_definition l _ _ z y
+no_definition l b o (end_bring z) y = no_definition l _ _ z y
+no_definition l b o {c = c} {i = i} (end_behind {g = g} h z) y = no_definition l _ _ z (y.1 _ _ _ (knows g c _ i _ _ h))
+no_definition {ts = ts} l b o {c = c} {i = i} (end_inside {g = g} z) y = no_definition (levels_out g) (levels_in g) false z (steady ts 0 g c i b y.0)
+
+pub defines_none : {ts : List Lexeme} {limit : Limit} (p : Part) (d : ℕ) {c : Scopes} {i k m : ℕ} → Ends body ts limit (body (start_goal p d)) c i (defining m) k → ⊥
+defines_none {ts = ts} p d {c = c} {i = i} z = no_definition (levels_out (start_goal p d)) (levels_in (start_goal p d)) false z (steady ts 0 (start_goal p d) c i d (start_levels 0 p d).0)
+
 -- whatever the cause
 pub begins_before : (ts : List Lexeme) (most k : ℕ) → k ≤ length ts → (s : Start) (x : Cause) → IsStart s.part → Runs body ts (AtMost most) (body (start_goal s.part s.depth)) s.scopes s.at (Failed x k) → BeginsFrom (Upto k most) ts s k
 begins_before ts most k le s x z h = let y = ends_so h in by y.way y.ends
@@ -416,4 +422,4 @@ begins_before ts most k le s x z h = let y = ends_so h in by y.way y.ends
     by (stopped d) y = stopped_begins ts most k le s z d y
     by (barring t n d) y = barred_begins ts most k le s z t n d y
     by crowded y = begins_less (crowded_begins ts most k le s z y (crowded_inside y))
-    by (defining n) y = absurd (no_definition ts most k le s z n y)
+    by (defining n) y = absurd (defines_none s.part s.depth y)

@@ -1,5 +1,5 @@
 -- Another statement than a block as a switch's body could be that of a `while` in the switch's place.
-use Rattle.std.proofs.Common.{◌≡◌, ℕ, ◌+◌, ◌<◌, ◌≤◌, Bool, true, false, not, List, [], ◌∷◌, length, Option, None, Some, inl, inr, ◌⊎◌, refl, sym, ap, subst, ◌∙◌, arith}
+use Rattle.std.proofs.Common.{◌≡◌, ℕ, ◌+◌, ◌<◌, ◌≤◌, Bool, true, false, not, List, [], ◌∷◌, length, Some, inl, inr, ◌⊎◌, refl, sym, ap, subst, ◌∙◌, arith}
 use Rattle.std.specs.Prelude.{slice_get, set}
 use Rattle.std.proofs.lemmas.Bool.{cases_lt}
 use Rattle.std.proofs.lemmas.Bool.Decides.{eqb_tells}
@@ -23,7 +23,7 @@ use Rattle.cr_machine.specs.Machine.{Goal, Manner, Test, Labels, nowhere, Allows
 use Rattle.cr_machine.specs.Machine.{expression, cast, unary, grouped, unit, if_rest, switch_rest, while_rest, for_rest, return_rest}
 use Rattle.cr_machine.specs.MachineBody.{body, inside, unlabelled, is_statement_start}
 use Rattle.cr_syntax.proofs.Tests.{is_of, both, not_true, some_one}
-use Rattle.cr_machine.proofs.MachineRuns.{reach, word_same, spelling_same}
+use Rattle.cr_machine.proofs.MachineRuns.{reach, word_same, spelling_same, word_in}
 use Rattle.cr_machine.proofs.MachineGives.{gives}
 use Rattle.cr_machine.proofs.MachineKept.{Kept, runs_kept}
 use Rattle.cr_machine.proofs.MachineMeans.{Means, Reads}
@@ -171,7 +171,7 @@ module _ (ts : List Lexeme) (n m : ℕ) (le : m ≤ length ts) where
 
   turned_there : n < m → Is turned n word.While
   turned_there lt = word_same (with_word ts n word.While) turned n (prefix_get m (with_word ts n word.While) n lt)
-      ∙ ap (λ o. elim o as (λ _. Option Word) [ None ↦ None | Some t ↦ Some t.word ]) (set_there ts n (unnamed word.While) (omega arith))
+      ∙ ap word_in (set_there ts n (unnamed word.While) (omega arith))
 
   turned_alike : Alike (prefix m ts) turned (n + 1) m false
   turned_alike = same_tokens (λ i ge lt. turned_before i lt (λ e. omega arith) ∙ sym (prefix_get m ts i lt))
@@ -226,7 +226,7 @@ module _ (all : List Lexeme) (k : ℕ) (x : Lexeme) (s : Is all k word.Semicolon
   respelled_word : (i : ℕ) (w : Word) → i < length all → Is all i w → Is (set all k x) i w
   respelled_word i w l r = elim (eqb_tells i k) [
     | inl y ↦ (let e = y.1 in subst (λ i. Is (set all k x) i w) (sym e)
-        (ap (λ o. elim o as (λ _. Option Word) [ None ↦ None | Some t ↦ Some t.word ]) (set_there all k x (omega arith)) ∙ (ap (λ w. Some w) q ∙ (sym s ∙ subst (λ i. Is all i w) e r))))
+        (ap word_in (set_there all k x (omega arith)) ∙ (ap (λ w. Some w) q ∙ (sym s ∙ subst (λ i. Is all i w) e r))))
     | inr y ↦ word_same all (set all k x) i (set_other all k i x y.1) ∙ r
   ]
 
@@ -323,7 +323,7 @@ module _ (ts : List Lexeme) (k : ℕ) (lt : k < length ts) (le : k ≤ length ts
       let far = g.late in
       let e = g.size in
       let s = subst (λ j. Is g.all j word.Semicolon) (sym size) (empty_word refl g.next) in
-      let r : (x.0).word ≡ word.Semicolon = some_one (sym (ap (λ o. elim o as (λ _. Option Word) [ None ↦ None | Some t ↦ Some t.word ]) x.1) ∙ q) in
+      let r : (x.0).word ≡ word.Semicolon = some_one (sym (ap word_in x.1) ∙ q) in
       record {
         trees = g.built.0;
         completes = record {

@@ -1,5 +1,5 @@
 -- No two rows of the refused forms name one token of a unit.
-use Rattle.std.proofs.Common.{◌≡◌, ℕ, zero, suc, ◌+◌, ◌<◌, Bool, true, false, ◌||◌, ◌&&◌, ◌==◌, List, [], ◌∷◌, length, Option, None, Some, refl, sym, ap, subst, ◌∙◌, arith, ◌⊎◌, inl, inr}
+use Rattle.std.proofs.Common.{◌≡◌, ℕ, zero, suc, ◌+◌, ◌<◌, Bool, true, false, ◌||◌, ◌&&◌, ◌==◌, List, [], ◌∷◌, length, refl, sym, ap, subst, ◌∙◌, arith, ◌⊎◌, inl, inr}
 use Rattle.std.specs.Prelude.{if◌then◌else◌}
 use Rattle.std.proofs.lemmas.Bool.{both_ways, eqb-true}
 use Rattle.cr_syntax.specs.declared.word.Word.{Word}
@@ -20,26 +20,21 @@ use Rattle.cr_syntax.specs.Spells.{Limit, AtMost, Upto, Is, Spells, a, rest}
 use Rattle.cr_syntax.specs.Spells as spells
 use Rattle.cr_syntax.specs.Units.{most_levels, IsUnit, IsTreeOf, Completes, Begins, Has, has_here, has_inside, has_after, one_begins_at, after_first, postfix_before, switch_body_at, Place, elsewhere, place_in, is_misplaced, misplaced_at, own_parameters, ellipsis_at, variadic_definition, is_unused, with_word, Shows, Outside, unused_keyword, designator, compound_literal, called_expression, bit_field, deep_label, label_as_body, switch_body, variadic_function}
 use Rattle.cr_syntax.proofs.Tests.{both, some_one}
-use Rattle.cr_machine.proofs.MachineComplete.{get_some}
 use Rattle.cr_machine.proofs.MachineFirst.{none_true, First, by_word, by_name, starts, first_expression, one_of_two}
 use Rattle.cr_machine.proofs.MachineForms.{within}
 use Rattle.cr_machine.proofs.MachineOne.{one_word}
-use Rattle.cr_machine.proofs.MachineRuns.{word_same}
+use Rattle.cr_machine.proofs.MachineRuns.{word_same, word_in}
 use Rattle.cr_machine.proofs.MachineSpells.{is_one, forth}
-use Rattle.cr_machine.proofs.UnitNodes.{used, Made, made, node_shows}
+use Rattle.cr_machine.proofs.UnitNodes.{Made, made, node_shows}
 use Rattle.cr_machine.proofs.UnitHeads.{switch_tail, IsHead, head_of, same_head, IsFollowed, by_statement, by_semicolon, whiles, switches}
 use Rattle.cr_machine.proofs.MachineOwn.{set_other, set_there}
+use Rattle.cr_machine.proofs.MachineUnitStuck.{begun_unit_is_used}
+use Rattle.cr_machine.proofs.MachineUnitForms.{same_token, token_in}
 
 -- Tokens of a text that begins with the list's.
 
-token_in : {limit : Limit} {ts : List Lexeme} {k : ℕ} {t : Trees} (c : Completes limit ts k t) (n : ℕ) {w : Word} → n < k → Is ts n w → Is c.text n w
-token_in {ts = ts} c n lt q = let x = get_some ts n (within ts n q) in word_same ts c.text n (c.alike n x.0 lt x.1 ∙ sym x.1) ∙ q
-
 token_out : {limit : Limit} {ts : List Lexeme} {k : ℕ} {t : Trees} (c : Completes limit ts k t) (n : ℕ) {w : Word} → n < k → n < length ts → Is c.text n w → Is ts n w
-token_out {ts = ts} c n lt far q = let x = get_some ts n far in sym (word_same ts c.text n (c.alike n x.0 lt x.1 ∙ sym x.1)) ∙ q
-
-used_in : {limit : Limit} {ts : List Lexeme} {k : ℕ} {t : Trees} (c : Completes limit ts k t) (n : ℕ) {w : Word} → n < k → Is ts n w → is_unused w ≡ false
-used_in c n {w = w} lt q = let q' = token_in c n lt q in used c.text n w q' refl c.is_unit.spells (omega arith) (within c.text n q')
+token_out {ts = ts} c n lt far q = sym (word_same ts c.text n (same_token c n lt far)) ∙ q
 
 -- A label at a place where it is refused.
 
@@ -265,7 +260,7 @@ module _ (ts : List Lexeme) where
     in_while : Is c.completes.text s word.While
     in_while =
         let n = near in
-        token_in c.completes s (omega arith) (ap (λ o. elim o as (λ _. Option Word) [ None ↦ None | Some x ↦ Some x.word ]) (set_there ts s (record { word = word.While; spelling = [] }) (omega arith)))
+        token_in c.completes s (omega arith) (ap word_in (set_there ts s (record { word = word.While; spelling = [] }) (omega arith)))
 
     -- no statement begins with such a word
     no_statement : {w : Word} → Is ts k w → begins_statement w ≡ false → ⊥
@@ -281,7 +276,7 @@ module _ (ts : List Lexeme) where
         by (begun {w = v} q' u') = both_ways (begins_statement w) u (subst (λ x. begins_statement x ≡ true) (one_word q' (token_in c.completes k (omega arith) (from_list k near q))) u')
 
     no_keyword : {w : Word} → Is ts k w → is_unused w ≡ true → ⊥
-    no_keyword {w = w} q u = both_ways (is_unused w) (used_in c.completes k (omega arith) (from_list k near q)) u
+    no_keyword {w = w} q u = both_ways (is_unused w) (begun_unit_is_used c (omega arith) (from_list k near q)) u
 
     -- and no postfix expression ends before it
     no_postfix : Shows ts k (postfix_before k) → ⊥
