@@ -1,6 +1,6 @@
 -- What the machine's laws need of spelling: a part is one tree, its tokens go on to the right, a declarator's name stands
 -- in it, and an expression that an assignment operator can stand behind is a unary one.
-use Rattle.std.proofs.Common.{◌≡◌, ℕ, ◌<◌, ◌≤◌, Bool, true, List, [], refl, sym, ap, subst, ◌∙◌, arith}
+use Rattle.std.proofs.Common.{◌≡◌, ℕ, ◌<◌, ◌≤◌, Bool, true, List, [], refl, sym, ap, subst, ◌∙◌, arith, false}
 use Rattle.std.specs.Prelude.{if◌then◌else◌}
 use borrow.Author.Tests.{lt-ltb}
 use Rattle.cr_syntax.specs.declared.word.Word.TheVariants as word
@@ -11,9 +11,9 @@ use Rattle.cr_syntax.specs.declared.symbol.Context.{Context}
 use Rattle.cr_syntax.specs.Words.{Lexeme, spelling_at}
 use Rattle.cr_syntax.specs.Scopes.{Scopes}
 use Rattle.cr_syntax.specs.Trees.{Trees, none, node, one, ◌&◌}
-use Rattle.cr_syntax.specs.Context.{fresh, past_part, declared_in, declared_name}
+use Rattle.cr_syntax.specs.Context.{fresh, past_part, declared_in, declared_name, hears, at_start}
 use Rattle.cr_syntax.specs.Grammar as grammar
-use Rattle.cr_syntax.specs.Spells.{Limit, Is, Phrase, a, Spells, AreConst, const_none, const_more}
+use Rattle.cr_syntax.specs.Spells.{Limit, Is, Phrase, a, Spells, AreConst, const_none, const_more, rest}
 use Rattle.cr_syntax.specs.Spells as spells
 use Rattle.cr_machine.specs.Machine.{brought}
 use Rattle.cr_machine.specs.MachineBody.{is_unary}
@@ -96,6 +96,20 @@ forth (spells.step_none q w v s) = let n = forth s in omega arith
 forth (spells.step_some x q w v s) = let n = forth x in let m = forth s in omega arith
 forth (spells.else_none s) = forth s
 forth (spells.else_some q w x s) = let n = forth x in let m = forth s in omega arith
+
+quiet_start : (p : Part) (h h' : Context) → hears p ≡ false → at_start p h ≡ at_start p h'
+quiet_start p h h' q = ap (λ b. elim b as (λ _. Context) [ true ↦ h | false ↦ fresh ]) q ∙ sym (ap (λ b. elim b as (λ _. Context) [ true ↦ h' | false ↦ fresh ]) q)
+
+-- a part that hears nothing of what stands before is spelled behind anything
+pub unheard : {ts : List Lexeme} {limit : Limit} {p : Part} {h : Context} {c e : Scopes} {d i j : ℕ} {t : Trees} →
+    hears p ≡ false → Spells ts limit (a p) h c e d t i j → (h' : Context) → Spells ts limit (a p) h' c e d t i j
+unheard {ts = ts} {limit = limit} {p = p} {h = h} {c = c} {e = e} {d = d} {i = i} {j = j} q (spells.of_alternative {s = r} {t = t} m f s) h' =
+    spells.of_alternative m f (subst (λ g. Spells ts limit (rest r) g c e d t i j) (quiet_start p h h' q) s)
+unheard {ts = ts} {limit = limit} {p = p} {h = h} {c = c} {e = e} {d = d} {i = i} {j = j} {t = t} q (spells.of_chain {q = r} m f s) h' =
+    spells.of_chain m f (subst (λ g. Spells ts limit (a r) g c e d t i j) (quiet_start p h h' q) s)
+unheard q (spells.init_declarator_alone s) h' = cc
+unheard q (spells.parameter_declarator s) h' = cc
+unheard q (spells.member_declarator s) h' = cc
 
 -- the parts that have a name
 pub data Names : Part → Type 0 where
