@@ -40,16 +40,66 @@ one_row (bit_field q b) (called_expression q' b') = let e = one_word q q' in cc
 one_row (bit_field q b) (bit_field q' b') = refl
 
 -- One number or the other is less, or they are one.
-pub data Order (k n : ℕ) : Type 0 where
+data Order (k n : ℕ) : Type 0 where
   less : k < n → Order k n
   alike : k ≡ n → Order k n
   more : n < k → Order k n
 
-pub order : (k n : ℕ) → Order k n
+order : (k n : ℕ) → Order k n
 order k n = elim (cases_lt k n) [
   | inl lt ↦ less lt
   | inr ge ↦ elim (cases_lt n k) [ inl lt ↦ more lt | inr ge' ↦ alike (omega arith) ]
 ]
+
+-- A refusal at a token or at the end, by what is too deep, what a row names, and what goes on with no text. A token, and a
+-- list whose tokens before it are no cause, has one.
+module _ (size : ℕ) (Deep : ℕ → Type 0) (Row : ℕ → ℕ → Type 0) (Unfit None : ℕ → Type 0) where
+  -- what makes token k a cause to refuse
+  pub data IsCause (k : ℕ) : Type 0 where
+    by_level : Deep k → IsCause k
+    by_row : {n : ℕ} → Row k n → IsCause k
+    by_end : Unfit k → IsCause k
+
+  -- a refusal, and the token or the end that it names
+  pub data Stops (k : ℕ) : Refusal → Type 0 where
+    too_deep : k < size → Deep k → Stops k (TooDeep k)
+    outside : {row : ℕ} → k < size → (Deep k → ⊥) → Row k row → Stops k (OutsideSubset k row)
+    unexpected : k < size → (Deep k → ⊥) → ((row : ℕ) → Row k row → ⊥) → Unfit k → Stops k (Unexpected k)
+    ended : k ≡ size → None k → Stops k Ended
+
+  pub cause_of : {k : ℕ} {r : Refusal} → Stops k r → k < size → IsCause k
+  cause_of (too_deep lt d) far = by_level d
+  cause_of (outside lt n o) far = by_row o
+  cause_of (unexpected lt n n' x) far = by_end x
+  cause_of (ended e x) far = absurd (omega arith)
+
+  module _ (one_row : (k n n' : ℕ) → Row k n → Row k n' → n ≡ n') where
+    one_stop : {k : ℕ} {r r' : Refusal} → Stops k r → Stops k r' → r ≡ r'
+    one_stop (too_deep lt d) (too_deep lt' d') = refl
+    one_stop (too_deep lt d) (outside lt' n o) = absurd (n d)
+    one_stop (too_deep lt d) (unexpected lt' n n' x) = absurd (n d)
+    one_stop (too_deep lt d) (ended e x) = absurd (omega arith)
+    one_stop (outside lt n o) (too_deep lt' d) = absurd (n d)
+    one_stop {k = k} (outside {row = row} lt n o) (outside {row = row'} lt' n' o') = ap (OutsideSubset k) (one_row k row row' o o')
+    one_stop (outside {row = row} lt n o) (unexpected lt' m m' x) = absurd (m' row o)
+    one_stop (outside lt n o) (ended e x) = absurd (omega arith)
+    one_stop (unexpected lt n n' x) (too_deep lt' d) = absurd (n d)
+    one_stop (unexpected lt n n' x) (outside {row = row} lt' m o) = absurd (n' row o)
+    one_stop (unexpected lt n n' x) (unexpected lt' m m' x') = refl
+    one_stop (unexpected lt n n' x) (ended e x') = absurd (omega arith)
+    one_stop (ended e x) (too_deep lt d) = absurd (omega arith)
+    one_stop (ended e x) (outside lt n o) = absurd (omega arith)
+    one_stop (ended e x) (unexpected lt n n' x') = absurd (omega arith)
+    one_stop (ended e x) (ended e' x') = refl
+
+    pub two_stops : (fine : ℕ → Type 0) → ((k n : ℕ) → fine k → fine n → k < n → k < size → IsCause k → ⊥) →
+        (k k' : ℕ) {r r' : Refusal} → k ≤ size → k' ≤ size → fine k → fine k' → Stops k r → Stops k' r' → r ≡ r'
+    two_stops fine no_cause k k' {r = r} {r' = r'} far far' f f' x x' = by (order k k')
+      where
+        by : Order k k' → r ≡ r'
+        by (less lt) = absurd (no_cause k k' f f' lt (omega arith) (cause_of x (omega arith)))
+        by (more lt) = absurd (no_cause k' k f' f lt (omega arith) (cause_of x' (omega arith)))
+        by (alike e) = one_stop x (subst (λ n. Stops n r') (sym e) x')
 
 module _ (ts : List Lexeme) (s : Start) (z : IsStart s.part) where
   -- Texts.
@@ -89,63 +139,37 @@ module _ (ts : List Lexeme) (s : Start) (z : IsStart s.part) where
 
   -- Causes.
 
-  -- what makes token k a cause to refuse
-  data IsCause (k : ℕ) : Type 0 where
-    by_level : IsTooDeepFrom ts s k → IsCause k
-    by_row : {n : ℕ} → OutsideFrom ts s k n → IsCause k
-    by_end : RunEnds ts s k → IsCause k
+  abbrev IsUnread : ℕ → Type 0
+  IsUnread k = (t : Trees) → Spelled Free ts s k t → ⊥
+
+  abbrev IsUnfit : ℕ → Type 0
+  IsUnfit k = RunEnds ts s k × IsUnread k
+
+  abbrev Causes : ℕ → Type 0
+  Causes = IsCause (length ts) (IsTooDeepFrom ts s) (OutsideFrom ts s) IsUnfit IsUnread
+
+  abbrev StopsAt : ℕ → Refusal → Type 0
+  StopsAt = Stops (length ts) (IsTooDeepFrom ts s) (OutsideFrom ts s) IsUnfit IsUnread
 
   -- tokens before another one that are no cause hold none
-  no_cause : {k n : ℕ} → s.at ≤ k → k < length ts → k < n → IsFineFrom ts s n → IsCause k → ⊥
-  no_cause {k = k} {n = n} ge far lt f (by_level (expressions.expected o)) = o.too_deep (fewer (lets_fewer n (k + 1) most_levels (omega arith)) (omega arith) f.begins)
-  no_cause {k = k} ge far lt f (by_level (expressions.refused {row = row} q b o x d)) = f.inside k row ge lt o
-  no_cause {n = n} ge far lt f (by_level (expressions.unexpected q b x o y)) = x (fewer (lets_all (Upto n most_levels)) (omega arith) f.begins)
-  no_cause {k = k} ge far lt f (by_row {n = row} o) = f.inside k row ge lt o
-  no_cause {n = n} ge far lt f (by_end x) = x far (fewer (lets_all (Upto n most_levels)) (omega arith) f.begins)
-
-  -- a refusal, and the token or the end that it names
-  data Stops (k : ℕ) : Refusal → Type 0 where
-    too_deep : k < length ts → IsTooDeepFrom ts s k → Stops k (TooDeep k)
-    outside : {row : ℕ} → k < length ts → (IsTooDeepFrom ts s k → ⊥) → OutsideFrom ts s k row → Stops k (OutsideSubset k row)
-    unexpected : k < length ts → (IsTooDeepFrom ts s k → ⊥) → ((row : ℕ) → OutsideFrom ts s k row → ⊥) → RunEnds ts s k → ((t : Trees) → Spelled Free ts s k t → ⊥) → Stops k (Unexpected k)
-    ended : k ≡ length ts → ((t : Trees) → Spelled Free ts s k t → ⊥) → Stops k Ended
+  no_cause : (k n : ℕ) → IsFineFrom ts s k → IsFineFrom ts s n → k < n → k < length ts → Causes k → ⊥
+  no_cause k n f' f lt far (by_level (expressions.expected o)) = o.too_deep (fewer (lets_fewer n (k + 1) most_levels (omega arith)) (omega arith) f.begins)
+  no_cause k n f' f lt far (by_level (expressions.refused {row = row} q b o x d)) = f.inside k row f'.from lt o
+  no_cause k n f' f lt far (by_level (expressions.unexpected q b x o y)) = x (fewer (lets_all (Upto n most_levels)) (omega arith) f.begins)
+  no_cause k n f' f lt far (by_row {n = row} o) = f.inside k row f'.from lt o
+  no_cause k n f' f lt far (by_end x) = x.0 far (fewer (lets_all (Upto n most_levels)) (omega arith) f.begins)
 
   -- a reading, by the token at which it ends
   data Reads : Outcome → Type 0 where
     whole : {k : ℕ} {t : Trees} → k ≤ length ts → Spelled (AtMost most_levels) ts s k t → RunEnds ts s k → ((i row : ℕ) → s.at ≤ i → i ≤ k → OutsideFrom ts s i row → ⊥) → Reads (Read t k)
-    part : (k : ℕ) {r : Refusal} → k ≤ length ts → IsFineFrom ts s k → Stops k r → Reads (Refused r)
+    part : (k : ℕ) {r : Refusal} → k ≤ length ts → IsFineFrom ts s k → StopsAt k r → Reads (Refused r)
 
   reads : {o : Outcome} → IsReading ts s o → Reads o
   reads (expressions.read far x y n) = whole far x y n
   reads (expressions.too_deep {k = k} lt f d) = part k (omega arith) f (too_deep lt d)
   reads (expressions.outside {k = k} lt f n o) = part k (omega arith) f (outside lt n o)
-  reads (expressions.unexpected_token {k = k} lt f n n' y x) = part k (omega arith) f (unexpected lt n n' y x)
+  reads (expressions.unexpected_token {k = k} lt f n n' y x) = part k (omega arith) f (unexpected lt n n' (y, x))
   reads (expressions.end f x) = part (length ts) (omega arith) f (ended refl x)
-
-  cause_of : {k : ℕ} {r : Refusal} → Stops k r → k < length ts → IsCause k
-  cause_of (too_deep lt d) far = by_level d
-  cause_of (outside lt n o) far = by_row o
-  cause_of (unexpected lt n n' y x) far = by_end y
-  cause_of (ended e x) far = absurd (omega arith)
-
-  -- one token has one refusal
-  one_stop : {k : ℕ} {r r' : Refusal} → Stops k r → Stops k r' → r ≡ r'
-  one_stop (too_deep lt d) (too_deep lt' d') = refl
-  one_stop (too_deep lt d) (outside lt' n o) = absurd (n d)
-  one_stop (too_deep lt d) (unexpected lt' n n' y x) = absurd (n d)
-  one_stop (too_deep lt d) (ended e x) = absurd (omega arith)
-  one_stop (outside lt n o) (too_deep lt' d) = absurd (n d)
-  one_stop {k = k} (outside lt n o) (outside lt' n' o') = ap (OutsideSubset k) (one_row o o')
-  one_stop (outside {row = row} lt n o) (unexpected lt' n' n'' y x) = absurd (n'' row o)
-  one_stop (outside lt n o) (ended e x) = absurd (omega arith)
-  one_stop (unexpected lt n n' y x) (too_deep lt' d) = absurd (n d)
-  one_stop (unexpected lt n n' y x) (outside {row = row} lt' n'' o) = absurd (n' row o)
-  one_stop (unexpected lt n n' y x) (unexpected lt' n'' n''' y' x') = refl
-  one_stop (unexpected lt n n' y x) (ended e x') = absurd (omega arith)
-  one_stop (ended e x) (too_deep lt d) = absurd (omega arith)
-  one_stop (ended e x) (outside lt n o) = absurd (omega arith)
-  one_stop (ended e x) (unexpected lt n n' y x') = absurd (omega arith)
-  one_stop (ended e x) (ended e' x') = refl
 
   -- tokens that are read are no cause
   read_fine : {k : ℕ} {t : Trees} → k ≤ length ts → Spelled (AtMost most_levels) ts s k t → ((i row : ℕ) → s.at ≤ i → i ≤ k → OutsideFrom ts s i row → ⊥) → IsFineFrom ts s k
@@ -156,12 +180,12 @@ module _ (ts : List Lexeme) (s : Start) (z : IsStart s.part) where
   }
 
   -- and the token behind them is none where the run that spells the part ends
-  read_stops : {k : ℕ} {t : Trees} {r : Refusal} → k ≤ length ts → Spelled (AtMost most_levels) ts s k t → RunEnds ts s k → ((i row : ℕ) → s.at ≤ i → i ≤ k → OutsideFrom ts s i row → ⊥) → Stops k r → ⊥
+  read_stops : {k : ℕ} {t : Trees} {r : Refusal} → k ≤ length ts → Spelled (AtMost most_levels) ts s k t → RunEnds ts s k → ((i row : ℕ) → s.at ≤ i → i ≤ k → OutsideFrom ts s i row → ⊥) → StopsAt k r → ⊥
   read_stops {k = k} far x y n (too_deep lt (expressions.expected o)) = y lt (fewer (lets_all (Upto k most_levels)) (omega arith) o.begins)
   read_stops {k = k} far x y n (too_deep lt (expressions.refused {row = row} q b o v d)) = let lt' = later tt x.spells in n k row (omega arith) (omega arith) o
   read_stops {k = k} far x y n (too_deep lt (expressions.unexpected q b v o f)) = f (spelled_begins (lets_leaving k most_levels) far x)
   read_stops {k = k} far x y n (outside {row = row} lt n' o) = let lt' = later tt x.spells in n k row (omega arith) (omega arith) o
-  read_stops {k = k} {t = t} far x y n (unexpected lt n' n'' y' f) = f t (record { after = x.after; spells = within_other (lets_all (AtMost most_levels) k) x.spells })
+  read_stops {k = k} {t = t} far x y n (unexpected lt n' n'' x') = x'.1 t (record { after = x.after; spells = within_other (lets_all (AtMost most_levels) k) x.spells })
   read_stops {k = k} {t = t} far x y n (ended e f) = f t (record { after = x.after; spells = within_other (lets_all (AtMost most_levels) k) x.spells })
 
   -- Two readings.
@@ -182,27 +206,19 @@ module _ (ts : List Lexeme) (s : Start) (z : IsStart s.part) where
       by (more lt) = absurd (no_longer lt far y' x)
       by (alike e) = let q = same_trees far x (subst (λ n. Spelled (AtMost most_levels) ts s n t') (sym e) x') in cc
 
-  two_stops : {k k' : ℕ} {r r' : Refusal} → k ≤ length ts → k' ≤ length ts → IsFineFrom ts s k → IsFineFrom ts s k' → Stops k r → Stops k' r' → r ≡ r'
-  two_stops {k = k} {k' = k'} {r = r} {r' = r'} far far' f f' x x' = by (order k k')
-    where
-      by : Order k k' → r ≡ r'
-      by (less lt) = absurd (no_cause f.from (omega arith) lt f' (cause_of x (omega arith)))
-      by (more lt) = absurd (no_cause f'.from (omega arith) lt f (cause_of x' (omega arith)))
-      by (alike e) = one_stop x (subst (λ n. Stops n r') (sym e) x')
-
-  read_or_refused : {k k' : ℕ} {t : Trees} {r : Refusal} → k ≤ length ts → k' ≤ length ts → Spelled (AtMost most_levels) ts s k t → RunEnds ts s k → ((i row : ℕ) → s.at ≤ i → i ≤ k → OutsideFrom ts s i row → ⊥) → IsFineFrom ts s k' → Stops k' r → ⊥
+  read_or_refused : {k k' : ℕ} {t : Trees} {r : Refusal} → k ≤ length ts → k' ≤ length ts → Spelled (AtMost most_levels) ts s k t → RunEnds ts s k → ((i row : ℕ) → s.at ≤ i → i ≤ k → OutsideFrom ts s i row → ⊥) → IsFineFrom ts s k' → StopsAt k' r → ⊥
   read_or_refused {k = k} {k' = k'} {r = r} far far' x y n f v = by (order k k')
     where
       by : Order k k' → ⊥
       by (less lt) = y (omega arith) (fewer (lets_all (Upto k' most_levels)) (omega arith) f.begins)
-      by (more lt) = no_cause f.from (omega arith) lt (read_fine far x n) (cause_of v (omega arith))
-      by (alike e) = read_stops far x y n (subst (λ i. Stops i r) (sym e) v)
+      by (more lt) = no_cause k' k f (read_fine far x n) lt (omega arith) (cause_of (length ts) (IsTooDeepFrom ts s) (OutsideFrom ts s) IsUnfit IsUnread v (omega arith))
+      by (alike e) = read_stops far x y n (subst (λ i. StopsAt i r) (sym e) v)
 
   two : {o o' : Outcome} → Reads o → Reads o' → o ≡ o'
   two (whole far x y n) (whole far' x' y' n') = two_reads far far' x x' y y'
   two (whole far x y n) (part k far' f v) = absurd (read_or_refused far far' x y n f v)
   two (part k far f v) (whole far' x y n) = absurd (read_or_refused far' far x y n f v)
-  two (part k far f v) (part k' far' f' v') = ap Refused (two_stops far far' f f' v v')
+  two (part k far f v) (part k' far' f' v') = ap Refused (two_stops (length ts) (IsTooDeepFrom ts s) (OutsideFrom ts s) IsUnfit IsUnread (λ k n n' o o'. one_row o o') (IsFineFrom ts s) no_cause k k' far far' f f' v v')
 
   pub one_reading : {o o' : Outcome} → IsReading ts s o → IsReading ts s o' → o ≡ o'
   one_reading h h' = two (reads h) (reads h')

@@ -1,12 +1,12 @@
 -- A token list has one first refusal, and none where it has a tree.
-use Rattle.std.proofs.Common.{◌≡◌, ℕ, ◌+◌, ◌<◌, ◌≤◌, List, length, refl, sym, ap, subst, arith}
+use Rattle.std.proofs.Common.{◌≡◌, ℕ, ◌+◌, ◌<◌, ◌≤◌, List, length, refl, arith}
 use Rattle.cr_syntax.specs.Words.{Lexeme}
 use Rattle.cr_syntax.specs.Trees.{Trees}
 use Rattle.cr_syntax.specs.Spells.{Limit, Free, AtMost, Upto}
-use Rattle.cr_syntax.specs.Units.{most_levels, IsUnit, Begins, Outside, IsTooDeep, IsFineBefore, Refusal, Unexpected, Ended, TooDeep, OutsideSubset, FirstRefusal, IsTreeOf}
+use Rattle.cr_syntax.specs.Units.{most_levels, IsUnit, Begins, Outside, IsTooDeep, IsFineBefore, Refusal, FirstRefusal, IsTreeOf}
 use Rattle.cr_syntax.specs.Units as units
 use Rattle.cr_machine.proofs.MachineOwn.{Lets, lets_all, lets_fewer, lets_upto, within_other}
-use Rattle.cr_machine.proofs.MachineOne.{Order, less, alike, more, order}
+use Rattle.cr_machine.proofs.MachineOne.{IsCause, by_level, by_row, by_end, Stops, too_deep, outside, unexpected, ended, two_stops}
 use Rattle.cr_machine.proofs.UnitRows.{one_row}
 
 module _ (ts : List Lexeme) where
@@ -34,33 +34,26 @@ module _ (ts : List Lexeme) where
 
   -- Causes.
 
-  -- what makes token k a cause to refuse
-  data IsCause (k : ℕ) : Type 0 where
-    by_level : IsTooDeep ts k → IsCause k
-    by_row : {n : ℕ} → Outside ts k n → IsCause k
-    by_end : (Begins Free ts (k + 1) → ⊥) → IsCause k
+  abbrev IsUnfit : ℕ → Type 0
+  IsUnfit k = Begins Free ts (k + 1) → ⊥
+
+  abbrev IsUnread : ℕ → Type 0
+  IsUnread k = (t : Trees) → IsUnit (AtMost most_levels) ts t → ⊥
 
   -- tokens before another one that are no cause hold none
-  no_cause : {k n : ℕ} → k < n → IsFineBefore ts n → IsCause k → ⊥
-  no_cause {k = k} {n = n} lt f (by_level (units.expected o)) = o.too_deep (fewer (lets_fewer n (k + 1) most_levels (omega arith)) (omega arith) f.begins)
-  no_cause {k = k} lt f (by_level (units.refused {row = row} q b o x d)) = f.inside k row lt o
-  no_cause {n = n} lt f (by_level (units.unexpected q b g x o y)) = x (fewer (lets_all (Upto n most_levels)) (omega arith) f.begins)
-  no_cause {k = k} lt f (by_row {n = row} o) = f.inside k row lt o
-  no_cause {n = n} lt f (by_end x) = x (fewer (lets_all (Upto n most_levels)) (omega arith) f.begins)
-
-  -- a refusal, and the token or the end that it names
-  data Stops (k : ℕ) : Refusal → Type 0 where
-    too_deep : k < length ts → IsTooDeep ts k → Stops k (TooDeep k)
-    outside : {row : ℕ} → k < length ts → (IsTooDeep ts k → ⊥) → Outside ts k row → Stops k (OutsideSubset k row)
-    unexpected : k < length ts → (IsTooDeep ts k → ⊥) → ((row : ℕ) → Outside ts k row → ⊥) → (Begins Free ts (k + 1) → ⊥) → Stops k (Unexpected k)
-    ended : k ≡ length ts → ((t : Trees) → IsUnit (AtMost most_levels) ts t → ⊥) → Stops k Ended
+  no_cause : (k n : ℕ) → IsFineBefore ts k → IsFineBefore ts n → k < n → k < length ts → IsCause (length ts) (IsTooDeep ts) (Outside ts) IsUnfit IsUnread k → ⊥
+  no_cause k n f' f lt far (by_level (units.expected o)) = o.too_deep (fewer (lets_fewer n (k + 1) most_levels (omega arith)) (omega arith) f.begins)
+  no_cause k n f' f lt far (by_level (units.refused {row = row} q b o x d)) = f.inside k row lt o
+  no_cause k n f' f lt far (by_level (units.unexpected q b g x o y)) = x (fewer (lets_all (Upto n most_levels)) (omega arith) f.begins)
+  no_cause k n f' f lt far (by_row {n = row} o) = f.inside k row lt o
+  no_cause k n f' f lt far (by_end x) = x (fewer (lets_all (Upto n most_levels)) (omega arith) f.begins)
 
   -- a first refusal, by the token that it names
   record Refuses (r : Refusal) : Type 0 where
     token : ℕ
     inside : token ≤ length ts
     fine : IsFineBefore ts token
-    stops : Stops token r
+    stops : Stops (length ts) (IsTooDeep ts) (Outside ts) IsUnfit IsUnread token r
 
   refuses : {r : Refusal} → FirstRefusal ts r → Refuses r
   refuses (units.too_deep {k = k} lt f d) = record { token = k; inside = omega arith; fine = f; stops = too_deep lt d }
@@ -68,47 +61,11 @@ module _ (ts : List Lexeme) where
   refuses (units.unexpected_token {k = k} lt f n n' x) = record { token = k; inside = omega arith; fine = f; stops = unexpected lt n n' x }
   refuses (units.end f x) = record { token = length ts; inside = omega arith; fine = f; stops = ended refl x }
 
-  cause_of : {k : ℕ} {r : Refusal} → Stops k r → k < length ts → IsCause k
-  cause_of (too_deep lt d) far = by_level d
-  cause_of (outside lt n o) far = by_row o
-  cause_of (unexpected lt n n' x) far = by_end x
-  cause_of (ended e x) far = absurd (omega arith)
-
-  -- one token has one refusal
-  one_stop : {k : ℕ} {r r' : Refusal} → Stops k r → Stops k r' → r ≡ r'
-  one_stop (too_deep lt d) (too_deep lt' d') = refl
-  one_stop (too_deep lt d) (outside lt' n o) = absurd (n d)
-  one_stop (too_deep lt d) (unexpected lt' n n' x) = absurd (n d)
-  one_stop (too_deep lt d) (ended e x) = absurd (omega arith)
-  one_stop (outside lt n o) (too_deep lt' d) = absurd (n d)
-  one_stop {k = k} (outside {row = row} lt n o) (outside {row = row'} lt' n' o') = ap (OutsideSubset k) (one_row ts k row row' o o')
-  one_stop (outside {row = row} lt n o) (unexpected lt' n' n'' x) = absurd (n'' row o)
-  one_stop (outside lt n o) (ended e x) = absurd (omega arith)
-  one_stop (unexpected lt n n' x) (too_deep lt' d) = absurd (n d)
-  one_stop (unexpected lt n n' x) (outside {row = row} lt' n'' o) = absurd (n' row o)
-  one_stop (unexpected lt n n' x) (unexpected lt' n'' n''' x') = refl
-  one_stop (unexpected lt n n' x) (ended e x') = absurd (omega arith)
-  one_stop (ended e x) (too_deep lt d) = absurd (omega arith)
-  one_stop (ended e x) (outside lt n o) = absurd (omega arith)
-  one_stop (ended e x) (unexpected lt n n' x') = absurd (omega arith)
-  one_stop (ended e x) (ended e' x') = refl
-
-  two : {r r' : Refusal} → Refuses r → Refuses r' → r ≡ r'
-  two {r = r} {r' = r'} x x' = by (order x.token x'.token)
-    where
-      le : x.token ≤ length ts
-      le = x.inside
-
-      le' : x'.token ≤ length ts
-      le' = x'.inside
-
-      by : Order x.token x'.token → r ≡ r'
-      by (less lt) = absurd (no_cause lt x'.fine (cause_of x.stops (let n = le' in omega arith)))
-      by (more lt) = absurd (no_cause lt x.fine (cause_of x'.stops (let n = le in omega arith)))
-      by (alike e) = one_stop x.stops (subst (λ n. Stops n r') (sym e) x'.stops)
-
   pub one_first_refusal : {r r' : Refusal} → FirstRefusal ts r → FirstRefusal ts r' → r ≡ r'
-  one_first_refusal h h' = two (refuses h) (refuses h')
+  one_first_refusal h h' =
+      let x = refuses h in
+      let x' = refuses h' in
+      two_stops (length ts) (IsTooDeep ts) (Outside ts) IsUnfit IsUnread (one_row ts) (IsFineBefore ts) no_cause x.token x'.token x.inside x'.inside x.fine x'.fine x.stops x'.stops
 
   -- a list that has a tree holds no cause
   pub tree_is_not_refused : {t : Trees} {r : Refusal} → IsTreeOf ts t → FirstRefusal ts r → ⊥
