@@ -14,7 +14,7 @@ use Rattle.cr_machine.specs.Machine as m
 use Rattle.cr_syntax.specs.Expressions.{Start, Spelled, BeginsFrom, RunEnds}
 use Rattle.cr_machine.specs.MachineBody.{body, start_goal}
 use Rattle.cr_machine.specs.MachineLaws.{end_of, IsFree, IsStart, start_expression, start_assignment, start_conditional}
-use Rattle.cr_machine.proofs.MachineRuns.{same, local, reach, OnDone, word_in}
+use Rattle.cr_machine.proofs.MachineRuns.{same, local, OnDone, word_in, relimited, StaysRefused}
 use Rattle.cr_machine.proofs.MachineFirst.{lower}
 use Rattle.cr_machine.proofs.MachineSound.{runs_sound}
 use Rattle.cr_machine.proofs.MachineTasks.{Task, Completes, Smaller, measure}
@@ -114,24 +114,11 @@ allows_free m.opens i d = tt
 allows_free m.reopens i d = (tt, tt)
 
 pub unlimited : {ts : List Lexeme} {limit : Limit} {p : Prog} {c : Scopes} {i : ℕ} {r : Reply} → Runs body ts limit p c i r → IsNotDeep r → Runs body ts Free p c i r
-unlimited m.run_give n = m.run_give
-unlimited m.run_stop n = m.run_stop
-unlimited m.run_refuse n = m.run_refuse
-unlimited {i = i} (m.run_take {m = g} {d = d} x w h) n = m.run_take x (allows_free g i d) (unlimited h n)
-unlimited (m.run_deep x w) n = absurd (n refl)
-unlimited (m.run_pass x h) n = m.run_pass x (unlimited h n)
-unlimited (m.run_bar x) n = m.run_bar x
-unlimited (m.run_free x h) n = m.run_free x (unlimited h n)
-unlimited (m.run_seen x h) n = m.run_seen x (unlimited h n)
-unlimited (m.run_unseen x h) n = m.run_unseen x (unlimited h n)
-unlimited (m.run_yes x h) n = m.run_yes x (unlimited h n)
-unlimited (m.run_no x h) n = m.run_no x (unlimited h n)
-unlimited (m.run_here h) n = m.run_here (unlimited h n)
-unlimited (m.run_look h) n = m.run_look (unlimited h n)
-unlimited (m.run_set h) n = m.run_set (unlimited h n)
-unlimited (m.run_bring h) n = m.run_bring (unlimited h n)
-unlimited (m.run_call h k) n = m.run_call (unlimited h tt) (unlimited k n)
-unlimited (m.run_fail h) n = m.run_fail (unlimited h n)
+unlimited {limit = limit} {r = r} h n = relimited (λ g i d lt w. allows_free g i d) (by r n) h
+  where
+    by : (r : Reply) → IsNotDeep r → StaysRefused limit Free r
+    by (Done t e j) n = tt
+    by (Failed x k) n = λ e. absurd (n e)
 
 pub get_some : (ts : List Lexeme) (i : ℕ) → i < length ts → (x : Lexeme) × (slice_get ts i ≡ Some x)
 get_some [] i lt = absurd (omega arith)
@@ -172,24 +159,11 @@ refuses_upto n most m.opens i d lt w v = w (v lt)
 refuses_upto n most m.reopens i d lt w v = w (tt, v.1 lt)
 
 pub upto : {ts : List Lexeme} {most : ℕ} {p : Prog} {c : Scopes} {i : ℕ} {r : Reply} (n : ℕ) → end_of r < n → Runs body ts (AtMost most) p c i r → Runs body ts (Upto n most) p c i r
-upto n lt m.run_give = m.run_give
-upto n lt m.run_stop = m.run_stop
-upto n lt m.run_refuse = m.run_refuse
-upto {most = most} {i = i} n lt (m.run_take {m = g} {d = d} x w h) = m.run_take x (allows_upto n most g i d w) (upto n lt h)
-upto {most = most} {i = i} n lt (m.run_deep {m = g} {d = d} x w) = m.run_deep x (refuses_upto n most g i d lt w)
-upto n lt (m.run_pass x h) = m.run_pass x (upto n lt h)
-upto n lt (m.run_bar x) = m.run_bar x
-upto n lt (m.run_free x h) = m.run_free x (upto n lt h)
-upto n lt (m.run_seen x h) = m.run_seen x (upto n lt h)
-upto n lt (m.run_unseen x h) = m.run_unseen x (upto n lt h)
-upto n lt (m.run_yes x h) = m.run_yes x (upto n lt h)
-upto n lt (m.run_no x h) = m.run_no x (upto n lt h)
-upto n lt (m.run_here h) = m.run_here (upto n lt h)
-upto n lt (m.run_look h) = m.run_look (upto n lt h)
-upto n lt (m.run_set h) = m.run_set (upto n lt h)
-upto n lt (m.run_bring h) = m.run_bring (upto n lt h)
-upto n lt (m.run_call h k) = let le = reach k in m.run_call (upto n (omega arith) h) (upto n lt k)
-upto n lt (m.run_fail h) = m.run_fail (upto n lt h)
+upto {most = most} {r = r} n lt h = relimited (λ g i d lt' w. allows_upto n most g i d w) (by r lt) h
+  where
+    by : (r : Reply) → end_of r < n → StaysRefused (AtMost most) (Upto n most) r
+    by (Done t e j) lt = tt
+    by (Failed x k) lt = λ e g d w. refuses_upto n most g k d lt w
 
 pub refused_within : {ts : List Lexeme} {most : ℕ} (s : Start) {x : Cause} {k : ℕ} → IsStart s.part → k < length ts →
     Runs body ts (AtMost most) (body (start_goal s.part s.depth)) s.scopes s.at (Failed x k) → BeginsFrom (Upto (k + 1) most) ts s (k + 1) → ⊥

@@ -20,7 +20,7 @@ use Rattle.cr_syntax.specs.Expressions.{Start, Spelled, BeginsFrom, OutsideFrom,
 use Rattle.cr_syntax.specs.Expressions as expressions
 use Rattle.cr_syntax.proofs.Tests.{both, not_true, some_one}
 use Rattle.cr_machine.proofs.MachineRuns.{same, reach, local, word_in}
-use Rattle.cr_machine.proofs.MachineEnds.{Way, stopped, barring, crowded, defining, Ends, end_stop, end_refuse, end_take, end_crowded, end_pass, end_bar, end_free, end_seen, end_unseen, end_yes, end_no, end_here, end_look, end_set, end_bring, end_behind, end_inside, ends_so, refused_so, cause_by}
+use Rattle.cr_machine.proofs.MachineEnds.{Way, stopped, barring, crowded, defining, Ends, ends_so, refused_so, cause_by}
 use Rattle.cr_machine.proofs.MachineGives.{gives}
 use Rattle.cr_machine.proofs.MachineKept.{Kept, runs_kept}
 use Rattle.cr_machine.proofs.MachineMeans.{Means}
@@ -35,6 +35,7 @@ use Rattle.cr_machine.proofs.MachineParts.{given, refused_or_free, answered_or_r
 use Rattle.cr_machine.proofs.MachineStuck.{is_crowded}
 use Rattle.cr_machine.proofs.MachineRefused.{no_room, spells_none, no_room_instead}
 use Rattle.cr_machine.proofs.MachineSteady.{none_for_keyword}
+use Rattle.cr_machine.proofs.MachineTraces.{end_there}
 
 -- A run consumes tokens of the text alone.
 pub ends_inside : {ts : List Lexeme} {limit : Limit} {p : Prog} {c : Scopes} {i : ℕ} {r : Reply} → Runs body ts limit p c i r → i ≤ length ts → end_of r ≤ length ts
@@ -59,23 +60,7 @@ ends_inside (run_fail h) le = ends_inside h le
 
 -- Where no level wants room, a limit is none.
 pub unlimited_end : {ts : List Lexeme} {limit : Limit} {p : Prog} {c : Scopes} {i k : ℕ} {w : Way} → Ends body ts limit p c i w k → is_crowded w ≡ false → Ends body ts Free p c i w k
-unlimited_end end_stop n = end_stop
-unlimited_end end_refuse n = end_refuse
-unlimited_end {i = i} (end_take {g = g} {d = d} q w z) n = end_take q (allows_free g i d) (unlimited_end z n)
-unlimited_end (end_crowded q w) n = true_false n
-unlimited_end (end_pass q z) n = end_pass q (unlimited_end z n)
-unlimited_end (end_bar q) n = end_bar q
-unlimited_end (end_free q z) n = end_free q (unlimited_end z n)
-unlimited_end (end_seen q z) n = end_seen q (unlimited_end z n)
-unlimited_end (end_unseen q z) n = end_unseen q (unlimited_end z n)
-unlimited_end (end_yes q z) n = end_yes q (unlimited_end z n)
-unlimited_end (end_no q z) n = end_no q (unlimited_end z n)
-unlimited_end (end_here z) n = end_here (unlimited_end z n)
-unlimited_end (end_look z) n = end_look (unlimited_end z n)
-unlimited_end (end_set z) n = end_set (unlimited_end z n)
-unlimited_end (end_bring z) n = end_bring (unlimited_end z n)
-unlimited_end (end_behind h z) n = end_behind (unlimited h tt) (unlimited_end z n)
-unlimited_end (end_inside z) n = end_inside (unlimited_end z n)
+unlimited_end {ts = ts} {limit = limit} {k = k} z n = end_there body ts ts limit Free k (λ n le. refl) (λ g n d lt w. allows_free g n d) z (λ e. true_false (sym (ap is_crowded e) ∙ n)) (omega arith)
 
 -- Words.
 

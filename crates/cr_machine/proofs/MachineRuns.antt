@@ -10,7 +10,7 @@ use Rattle.cr_syntax.specs.Trees.{Trees}
 use Rattle.cr_syntax.specs.Spells.{Limit}
 use Rattle.cr_syntax.specs.Reads.{is_word, same_word}
 use Rattle.cr_syntax.specs.Units.{is_unused}
-use Rattle.cr_machine.specs.Machine.{Goal, Prog, Test, Reply, Done, Failed, Cause, Runs, passes, verdict, barred, name_before, brought, run_give, run_stop, run_refuse, run_take, run_deep, run_pass, run_bar, run_free, run_seen, run_unseen, run_yes, run_no, run_here, run_look, run_set, run_bring, run_call, run_fail}
+use Rattle.cr_machine.specs.Machine.{Goal, Prog, Test, Reply, Done, Failed, Cause, Runs, passes, verdict, barred, name_before, brought, run_give, run_stop, run_refuse, run_take, run_deep, run_pass, run_bar, run_free, run_seen, run_unseen, run_yes, run_no, run_here, run_look, run_set, run_bring, run_call, run_fail, Manner, Allows}
 use Rattle.cr_machine.specs.Machine as m
 use Rattle.cr_machine.specs.MachineLaws.{end_of, AreAlike}
 
@@ -148,3 +148,30 @@ local {body = body} {ts = ts} {us = us} {limit = limit} {c = c} {i = i} {r = r} 
     run_bring (subst (λ x. Runs body us limit p (enter x c) i r) (sym (brought_same ts us i k b (λ j lt. f j (omega arith)))) (local h f))
 local (run_call h k) f = let n = reach k in run_call (local h (λ i le. f i (omega arith))) (local k f)
 local (run_fail h) f = run_fail (local h f)
+
+-- Where a refusal for want of room stays one, a run is one within each limit that lets its tokens stand.
+
+abbrev pub StaysRefused : Limit → Limit → Reply → Type 0
+StaysRefused limit top (Done t e j) = Unit {0}
+StaysRefused limit top (Failed x k) = x ≡ m.too_deep → (g : Manner) (d : ℕ) → (Allows limit g k d → ⊥) → Allows top g k d → ⊥
+
+pub relimited : {body : Goal → Prog} {ts : List Lexeme} {limit top : Limit} {p : Prog} {c : Scopes} {i : ℕ} {r : Reply} → ((g : Manner) (n d : ℕ) → n < end_of r → Allows limit g n d → Allows top g n d) →
+    StaysRefused limit top r → Runs body ts limit p c i r → Runs body ts top p c i r
+relimited f n run_give = run_give
+relimited f n run_stop = run_stop
+relimited f n run_refuse = run_refuse
+relimited {i = i} f n (run_take {m = g} {d = d} x w h) = let le = reach h in run_take x (f g i d (omega arith) w) (relimited f n h)
+relimited f n (run_deep {m = g} {d = d} x w) = run_deep x (n refl g d w)
+relimited f n (run_pass x h) = run_pass x (relimited f n h)
+relimited f n (run_bar x) = run_bar x
+relimited f n (run_free x h) = run_free x (relimited f n h)
+relimited f n (run_seen x h) = run_seen x (relimited f n h)
+relimited f n (run_unseen x h) = run_unseen x (relimited f n h)
+relimited f n (run_yes x h) = run_yes x (relimited f n h)
+relimited f n (run_no x h) = run_no x (relimited f n h)
+relimited f n (run_here h) = run_here (relimited f n h)
+relimited f n (run_look h) = run_look (relimited f n h)
+relimited f n (run_set h) = run_set (relimited f n h)
+relimited f n (run_bring h) = run_bring (relimited f n h)
+relimited f n (run_call h k) = let le = reach k in run_call (relimited (λ g j d lt w. f g j d (omega arith) w) tt h) (relimited f n k)
+relimited f n (run_fail h) = run_fail (relimited f n h)

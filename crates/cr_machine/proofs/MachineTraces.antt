@@ -7,7 +7,7 @@ use Rattle.cr_syntax.specs.Trees.{Trees}
 use Rattle.cr_syntax.specs.Spells.{Limit}
 use Rattle.cr_machine.specs.Machine.{Goal, Prog, Manner, Test, Reply, Done, Failed, Runs, Allows, passes, brought, give, stop, refuse, take, bar, peek, when, here, look, set, bring, call, run_give, run_stop, run_refuse, run_take, run_deep, run_pass, run_bar, run_free, run_seen, run_unseen, run_yes, run_no, run_here, run_look, run_set, run_bring, run_call, run_fail}
 use Rattle.cr_machine.specs.MachineLaws.{end_of}
-use Rattle.cr_machine.proofs.MachineRuns.{OnDone, reach, passes_same, brought_same}
+use Rattle.cr_machine.proofs.MachineRuns.{OnDone, reach, passes_same, brought_same, local, relimited}
 use Rattle.cr_machine.proofs.MachineEnds.{Way, crowded, Ends, refused_so, end_stop, end_refuse, end_take, end_crowded, end_pass, end_bar, end_free, end_seen, end_unseen, end_yes, end_no, end_here, end_look, end_set, end_bring, end_behind, end_inside}
 
 module _ (body : Goal → Prog) (us : List Lexeme) (limit : Limit) (means : Goal → Scopes → ℕ → Trees → Scopes → ℕ → Type 0) where
@@ -72,26 +72,8 @@ module _ (body : Goal → Prog) (ts us : List Lexeme) (limit top : Limit) (k : �
   IsDone (Failed x j) = ⊥
 
   pub run_there : {p : Prog} {c : Scopes} {i : ℕ} {r : Reply} → Runs body us limit p c i r → end_of r ≤ k → IsDone r → Runs body ts top p c i r
-  run_there run_give le y = run_give
-  run_there run_stop le y = absurd y
-  run_there run_refuse le y = absurd y
-  run_there {c = c} {i = i} (run_take {m = g} {x = x} {d = d} t w h) le y = let n = reach h in run_take (there c i x (omega arith) t) (allowed g i d (omega arith) w) (run_there h le y)
-  run_there (run_deep t w) le y = absurd y
-  run_there {c = c} {i = i} (run_pass {x = x} t h) le y = let n = reach h in run_pass (there c i x (omega arith) t) (run_there h le y)
-  run_there (run_bar t) le y = absurd y
-  run_there {c = c} {i = i} (run_free {x = x} t h) le y = let n = reach h in run_free (there c i x (omega arith) t) (run_there h le y)
-  run_there {c = c} {i = i} (run_seen {x = x} t h) le y = let n = reach h in run_seen (there c i x (omega arith) t) (run_there h le y)
-  run_there {c = c} {i = i} (run_unseen {x = x} t h) le y = let n = reach h in run_unseen (there c i x (omega arith) t) (run_there h le y)
-  run_there (run_yes t h) le y = run_yes t (run_there h le y)
-  run_there (run_no t h) le y = run_no t (run_there h le y)
-  run_there (run_here h) le y = run_here (run_there h le y)
-  run_there (run_look h) le y = run_look (run_there h le y)
-  run_there (run_set h) le y = run_set (run_there h le y)
-  run_there {c = c} {i = i} {r = r} (run_bring {k = n} {b = b} {p = p} h) le y =
-      let l = reach h in
-      run_bring (subst (λ z. Runs body ts top p (enter z c) i r) (brought_same ts us i n b (λ j lt. alike j (omega arith))) (run_there h le y))
-  run_there (run_call h h') le y = let n = reach h' in run_call (run_there h (omega arith) tt) (run_there h' le y)
-  run_there (run_fail h) le y = absurd y
+  run_there {r = Done t e j} h le y = relimited (λ g n d lt w. allowed g n d (omega arith) w) tt (local h (λ n le'. sym (alike n (omega arith))))
+  run_there {r = Failed x j} h le y = absurd y
 
   -- a refusal at one of these tokens that isn't for want of room
   pub end_there : {p : Prog} {c : Scopes} {i n : ℕ} {w : Way} → Ends body us limit p c i w n → (w ≡ crowded → ⊥) → n ≤ k → Ends body ts top p c i w n
