@@ -170,44 +170,6 @@ module _ (us : List Lexeme) (top : Limit) (way : Way) (late : (g : Manner) (i d 
 
   -- some tokens, or none, behind a phrase that is grown
 
-  pub more0 : {x y : Trees → Type 0} {q q' : Phrase} {h h' : Context} {c c' : Scopes} {d d' s s' : ℕ} → GrownBy us top way x q h c d s →
-      ((all : List Lexeme) (f : Front us all) (t : Trees) (e : Scopes) (j : ℕ) → length us < j → Spells all top q h c e d t s j → x t → Shows all top y q' h' c' d' s' j) → GrownBy us top way y q' h' c' d' s'
-  more0 g k = record { all = g.all; front = g.front; end = g.end; size = g.size; late = g.late; next = g.next; built = k g.all g.front g.built.0 g.built.1 g.end g.late g.built.2 g.built.3 }
-
-  pub more1 : {x y : Trees → Type 0} {q q' : Phrase} {h h' : Context} {c c' : Scopes} {d d' s s' : ℕ} → GrownBy us top way x q h c d s → (w : Word) →
-      ((all : List Lexeme) (f : Front us all) (t : Trees) (e : Scopes) (j : ℕ) → length us < j → Spells all top q h c e d t s j → Is all j w → x t → Shows all top y q' h' c' d' s' (j + 1)) →
-      GrownBy us top way y q' h' c' d' s'
-  more1 g w k =
-      let le = g.late in
-      let x = longer g.all g.end g.size w in
-      record {
-        all = x.all;
-        front = front_then g.front x.front;
-        end = g.end + 1;
-        size = x.size;
-        late = omega arith;
-        next = next_more x.front g.next;
-        built = k x.all (front_then g.front x.front) g.built.0 g.built.1 g.end g.late (weaken x.front g.built.2) x.word g.built.3;
-      }
-
-  pub more2 : {x y : Trees → Type 0} {q q' : Phrase} {h h' : Context} {c c' : Scopes} {d d' s s' : ℕ} → GrownBy us top way x q h c d s → (w w' : Word) →
-      ((all : List Lexeme) (f : Front us all) (t : Trees) (e : Scopes) (j : ℕ) → length us < j → Spells all top q h c e d t s j → Is all j w → Is all (j + 1) w' → x t →
-      Shows all top y q' h' c' d' s' (j + 1 + 1)) → GrownBy us top way y q' h' c' d' s'
-  more2 g w w' k =
-      let le = g.late in
-      let x = longer g.all g.end g.size w in
-      let y = longer x.all (g.end + 1) x.size w' in
-      let f = front_then g.front (front_then x.front y.front) in
-      record {
-        all = y.all;
-        front = f;
-        end = g.end + 1 + 1;
-        size = y.size;
-        late = omega arith;
-        next = next_more (front_then x.front y.front) g.next;
-        built = k y.all f g.built.0 g.built.1 g.end g.late (weaken (front_then x.front y.front) g.built.2) (y.front.words _ _ x.word) y.word g.built.3;
-      }
-
   pub mores : {x y : Trees → Type 0} {q q' : Phrase} {h h' : Context} {c c' : Scopes} {d d' s s' : ℕ} → GrownBy us top way x q h c d s → (ws : List Word) →
       ((all : List Lexeme) (f : Front us all) (t : Trees) (e : Scopes) (j : ℕ) → length us < j → Spells all top q h c e d t s j → Stand all j ws → x t → Shows all top y q' h' c' d' s' (past j ws)) →
       GrownBy us top way y q' h' c' d' s'
@@ -225,27 +187,24 @@ module _ (us : List Lexeme) (top : Limit) (way : Way) (late : (g : Manner) (i d 
         built = k y.all (front_then g.front y.front) g.built.0 g.built.1 g.end g.late (weaken y.front g.built.2) y.words g.built.3;
       }
 
+  pub more0 : {x y : Trees → Type 0} {q q' : Phrase} {h h' : Context} {c c' : Scopes} {d d' s s' : ℕ} → GrownBy us top way x q h c d s →
+      ((all : List Lexeme) (f : Front us all) (t : Trees) (e : Scopes) (j : ℕ) → length us < j → Spells all top q h c e d t s j → x t → Shows all top y q' h' c' d' s' j) → GrownBy us top way y q' h' c' d' s'
+  more0 g k = mores g [] (λ all f t e j le s u y. k all f t e j le s y)
+
+  pub more1 : {x y : Trees → Type 0} {q q' : Phrase} {h h' : Context} {c c' : Scopes} {d d' s s' : ℕ} → GrownBy us top way x q h c d s → (w : Word) →
+      ((all : List Lexeme) (f : Front us all) (t : Trees) (e : Scopes) (j : ℕ) → length us < j → Spells all top q h c e d t s j → Is all j w → x t → Shows all top y q' h' c' d' s' (j + 1)) →
+      GrownBy us top way y q' h' c' d' s'
+  more1 g w k = mores g (w ∷ []) (λ all f t e j le s u y. k all f t e j le s u.0 y)
+
+  pub more2 : {x y : Trees → Type 0} {q q' : Phrase} {h h' : Context} {c c' : Scopes} {d d' s s' : ℕ} → GrownBy us top way x q h c d s → (w w' : Word) →
+      ((all : List Lexeme) (f : Front us all) (t : Trees) (e : Scopes) (j : ℕ) → length us < j → Spells all top q h c e d t s j → Is all j w → Is all (j + 1) w' → x t →
+      Shows all top y q' h' c' d' s' (j + 1 + 1)) → GrownBy us top way y q' h' c' d' s'
+  more2 g w w' k = mores g (w ∷ w' ∷ []) (λ all f t e j le s u y. k all f t e j le s u.0 u.1.0 y)
+
   pub more4 : {x y : Trees → Type 0} {q q' : Phrase} {h h' : Context} {c c' : Scopes} {d d' s s' : ℕ} → GrownBy us top way x q h c d s → (w1 w2 w3 w4 : Word) →
       ((all : List Lexeme) (f : Front us all) (t : Trees) (e : Scopes) (j : ℕ) → length us < j → Spells all top q h c e d t s j → Is all j w1 → Is all (j + 1) w2 → Is all (j + 1 + 1) w3 → Is all (j + 1 + 1 + 1) w4 →
       x t → Shows all top y q' h' c' d' s' (j + 1 + 1 + 1 + 1)) → GrownBy us top way y q' h' c' d' s'
-  more4 g w1 w2 w3 w4 k =
-      let le = g.late in
-      let x1 = longer g.all g.end g.size w1 in
-      let x2 = longer x1.all (g.end + 1) x1.size w2 in
-      let x3 = longer x2.all (g.end + 1 + 1) x2.size w3 in
-      let x4 = longer x3.all (g.end + 1 + 1 + 1) x3.size w4 in
-      let f34 = front_then x3.front x4.front in
-      let f24 = front_then x2.front f34 in
-      let f14 = front_then x1.front f24 in
-      record {
-        all = x4.all;
-        front = front_then g.front f14;
-        end = g.end + 1 + 1 + 1 + 1;
-        size = x4.size;
-        late = omega arith;
-        next = next_more f14 g.next;
-        built = k x4.all (front_then g.front f14) g.built.0 g.built.1 g.end g.late (weaken f14 g.built.2) (f24.words _ _ x1.word) (f34.words _ _ x2.word) (x4.front.words _ _ x3.word) x4.word g.built.3;
-      }
+  more4 g w1 w2 w3 w4 k = mores g (w1 ∷ w2 ∷ w3 ∷ w4 ∷ []) (λ all f t e j le s u y. k all f t e j le s u.0 u.1.0 u.1.1.0 u.1.1.1.0 y)
 
   -- a constant as each part of an expression
   module _ (all : List Lexeme) (c : Scopes) (d i : ℕ) (q : Is all i word.Integer) (w : Stands top i d) where
