@@ -122,47 +122,32 @@ module _ (us : List Lexeme) (top : Limit) (way : Way) (late : (g : Manner) (i d 
   abbrev pub G : Part → ℕ → Scopes → ℕ → Type 0
   G p d c s = (h : Context) → Grown us top way (a p) h c d s
 
-  -- up to three tokens at the end of the first ones, by what the word of the first of them tells
+  -- tokens at the end of the first ones, by what the word of the first of them tells
 
-  pub grown1 : {x : Trees → Type 0} {q : Phrase} {h : Context} {c : Scopes} {d s i : ℕ} → i ≡ length us → (w : Word) → ((all : List Lexeme) → Is all (length us) w → Next all (length us) way) →
-      ((all : List Lexeme) → Front us all → Is all i w → length us ≤ i → Shows all top x q h c d s (i + 1)) → GrownBy us top way x q h c d s
-  grown1 {i = i} e w n k =
-      let x = longer us i e w in
-      record { all = x.all; front = x.front; end = i + 1; size = x.size; late = omega arith; next = n x.all (subst (λ j. Is x.all j w) e x.word); built = k x.all x.front x.word (omega arith) }
-
-  pub grown3 : {x : Trees → Type 0} {q : Phrase} {h : Context} {c : Scopes} {d s i : ℕ} → i ≡ length us → (w w' w'' : Word) → ((all : List Lexeme) → Is all (length us) w → Next all (length us) way) →
-      ((all : List Lexeme) → Front us all → Is all i w → Is all (i + 1) w' → Is all (i + 1 + 1) w'' → length us ≤ i → Shows all top x q h c d s (i + 1 + 1 + 1)) → GrownBy us top way x q h c d s
-  grown3 {i = i} e w w' w'' n k =
-      let x = longer us i e w in
-      let y = longer x.all (i + 1) x.size w' in
-      let z = longer y.all (i + 1 + 1) y.size w'' in
-      let f = front_then x.front (front_then y.front z.front) in
-      let q = z.front.words _ _ (y.front.words _ _ x.word) in
-      record { all = z.all; front = f; end = i + 1 + 1 + 1; size = z.size; late = omega arith; next = n z.all (subst (λ j. Is z.all j w) e q); built = k z.all f q (z.front.words _ _ y.word) z.word (omega arith) }
-
-  pub put1 : {q : Phrase} {h : Context} {c : Scopes} {d s i n : ℕ} → Room us top way i n → (w : Word) → ((all : List Lexeme) → Front us all → Is all i w → length us ≤ i → Built all top q h c d s (i + 1)) → Grown us top way q h c d s
-  put1 z w k = grown1 z.here w (λ all q. next_free z.free) (λ all f q le. let b = k all f q le in (b.0, b.1, b.2, shown_free z.free))
-
-  pub put2 : {q : Phrase} {h : Context} {c : Scopes} {d s i n : ℕ} → Room us top way i n → (w w' : Word) → ((all : List Lexeme) → Front us all → Is all i w → Is all (i + 1) w' → length us ≤ i → Built all top q h c d s (i + 1 + 1)) → Grown us top way q h c d s
-  put2 {i = i} r w w' k =
-      let e = r.here in
-      let x = longer us i e w in
-      let y = longer x.all (i + 1) x.size w' in
-      let f = front_then x.front y.front in
-      let b = k y.all f (y.front.words _ _ x.word) y.word (omega arith) in
-      record { all = y.all; front = f; end = i + 1 + 1; size = y.size; late = omega arith; next = next_free r.free; built = (b.0, b.1, b.2, shown_free r.free) }
-
-  pub put3 : {q : Phrase} {h : Context} {c : Scopes} {d s i n : ℕ} → Room us top way i n → (w w' w'' : Word) →
-      ((all : List Lexeme) → Front us all → Is all i w → Is all (i + 1) w' → Is all (i + 1 + 1) w'' → length us ≤ i → Built all top q h c d s (i + 1 + 1 + 1)) → Grown us top way q h c d s
-  put3 z w w' w'' k = grown3 z.here w w' w'' (λ all q. next_free z.free) (λ all f q q' q'' le. let b = k all f q q' q'' le in (b.0, b.1, b.2, shown_free z.free))
-
-  -- any number of tokens
   pub grown : {x : Trees → Type 0} {q : Phrase} {h : Context} {c : Scopes} {d s i : ℕ} → i ≡ length us → (w : Word) (ws : List Word) → ((all : List Lexeme) → Front us all → Is all (length us) w → Next all (length us) way) →
       ((all : List Lexeme) → Front us all → Stand all i (w ∷ ws) → length us ≤ i → Shows all top x q h c d s (past i (w ∷ ws))) → GrownBy us top way x q h c d s
   grown {i = i} e w ws n k =
       let y = longer_by (w ∷ ws) us i e in
       let m = past_more ws (i + 1) in
       record { all = y.all; front = y.front; end = past i (w ∷ ws); size = y.size; late = omega arith; next = n y.all y.front (subst (λ j. Is y.all j w) e y.words.0); built = k y.all y.front y.words (omega arith) }
+
+  pub grown1 : {x : Trees → Type 0} {q : Phrase} {h : Context} {c : Scopes} {d s i : ℕ} → i ≡ length us → (w : Word) → ((all : List Lexeme) → Is all (length us) w → Next all (length us) way) →
+      ((all : List Lexeme) → Front us all → Is all i w → length us ≤ i → Shows all top x q h c d s (i + 1)) → GrownBy us top way x q h c d s
+  grown1 e w n k = grown e w [] (λ all f q. n all q) (λ all f q le. k all f q.0 le)
+
+  pub grown3 : {x : Trees → Type 0} {q : Phrase} {h : Context} {c : Scopes} {d s i : ℕ} → i ≡ length us → (w w' w'' : Word) → ((all : List Lexeme) → Is all (length us) w → Next all (length us) way) →
+      ((all : List Lexeme) → Front us all → Is all i w → Is all (i + 1) w' → Is all (i + 1 + 1) w'' → length us ≤ i → Shows all top x q h c d s (i + 1 + 1 + 1)) → GrownBy us top way x q h c d s
+  grown3 e w w' w'' n k = grown e w (w' ∷ w'' ∷ []) (λ all f q. n all q) (λ all f q le. k all f q.0 q.1.0 q.1.1.0 le)
+
+  pub put1 : {q : Phrase} {h : Context} {c : Scopes} {d s i n : ℕ} → Room us top way i n → (w : Word) → ((all : List Lexeme) → Front us all → Is all i w → length us ≤ i → Built all top q h c d s (i + 1)) → Grown us top way q h c d s
+  put1 z w k = grown1 z.here w (λ all q. next_free z.free) (λ all f q le. let b = k all f q le in (b.0, b.1, b.2, shown_free z.free))
+
+  pub put2 : {q : Phrase} {h : Context} {c : Scopes} {d s i n : ℕ} → Room us top way i n → (w w' : Word) → ((all : List Lexeme) → Front us all → Is all i w → Is all (i + 1) w' → length us ≤ i → Built all top q h c d s (i + 1 + 1)) → Grown us top way q h c d s
+  put2 z w w' k = grown z.here w (w' ∷ []) (λ all f q. next_free z.free) (λ all f q le. let b = k all f q.0 q.1.0 le in (b.0, b.1, b.2, shown_free z.free))
+
+  pub put3 : {q : Phrase} {h : Context} {c : Scopes} {d s i n : ℕ} → Room us top way i n → (w w' w'' : Word) →
+      ((all : List Lexeme) → Front us all → Is all i w → Is all (i + 1) w' → Is all (i + 1 + 1) w'' → length us ≤ i → Built all top q h c d s (i + 1 + 1 + 1)) → Grown us top way q h c d s
+  put3 z w w' w'' k = grown3 z.here w w' w'' (λ all q. next_free z.free) (λ all f q q' q'' le. let b = k all f q q' q'' le in (b.0, b.1, b.2, shown_free z.free))
 
   pub puts : {at : Place → Bool} {q : Phrase} {h : Context} {c : Scopes} {d s i n : ℕ} → Room us top way i n → (w : Word) (ws : List Word) →
       ((all : List Lexeme) → Front us all → Stand all i (w ∷ ws) → length us ≤ i → Built all top q h c d s (past i (w ∷ ws))) → GrownIn us top way at q h c d s
