@@ -25,7 +25,7 @@ use Rattle.cr_machine.specs.MachineBody as program
 use Rattle.cr_machine.specs.MachineBody.{body, is_variadic, ends_variadic, last_token, may_define}
 use Rattle.cr_syntax.proofs.Tests.{both}
 use Rattle.cr_machine.proofs.MachineRuns.{reach}
-use Rattle.cr_machine.proofs.MachineSpells.{Names, by_declarator, by_direct, is_one, forth, consts_forth}
+use Rattle.cr_machine.proofs.MachineSpells.{Names, by_declarator, by_direct, is_one, forth, consts_forth, own_first, after_one}
 use Rattle.cr_machine.proofs.MachineFirst.{none_true}
 use Rattle.cr_machine.proofs.MachineEnds.{Way, defining, Ends, end_refuse, end_pass, end_seen, end_no, end_here, end_behind, end_inside}
 use Rattle.cr_machine.proofs.MachineMeans.{IsDeclared, with_name, without}
@@ -35,13 +35,6 @@ use Rattle.cr_machine.proofs.MachineLoose.{loose, looser, IsOwn, own_definition,
 use Rattle.cr_machine.proofs.MachineTraces.{Traces, traces_idle, traced}
 
 -- Where a declarator's own parameters stand.
-
-own_alone : (l : Kind) (i j : ℕ) (b t : Trees) → own_parameters (one l i j b & t) ≡ own_parameters (one l i j b)
-own_alone kind.FunctionDeclarator i j b t = refl
-own_alone _ i j b t = refl
-
-pub own_first : {l : Kind} {i j : ℕ} {b t : Trees} → t ≡ one l i j b → (u : Trees) → own_parameters (t & u) ≡ own_parameters t
-own_first {l = l} {i = i} {j = j} {b = b} q u = subst (λ x. own_parameters (x & u) ≡ own_parameters x) (sym q) (own_alone l i j b u)
 
 pub ellipsis_ends : (k : ℕ) (t : Trees) → ellipsis_at k t ≡ true → (ends_variadic t ≡ true) × (last_token t ≡ k)
 ellipsis_ends k (node kind.VariadicParameters i j b n) q = let e : j ≡ k + 1 = eqb-true j (k + 1) q in (refl, omega arith)
@@ -58,9 +51,6 @@ ellipsis_behind k {l = l} {i = i} {j = j} {b = b} u e q = by l (subst (λ x. ell
 choose_one : (k : ℕ) (b : Bool) (t u : Trees) → ellipsis_at k (if b then t else u) ≡ true → (ellipsis_at k t ≡ true) ⊎ (ellipsis_at k u ≡ true)
 choose_one k true t u q = inl q
 choose_one k false t u q = inr q
-
-after_one : {l : Kind} {i j : ℕ} {b t : Trees} → t ≡ one l i j b → (u : Trees) → after_first (t & u) ≡ u
-after_one q u = subst (λ x. after_first (x & u) ≡ u) (sym q) refl
 
 module _ (us : List Lexeme) (limit : Limit) (k : ℕ) where
   prototype_own : {r : Side} {h : Context} {c e : Scopes} {d i j : ℕ} {t : Trees} → Spells us limit (rest (symbol.Prototype ∷ r)) h c e d t i j → ellipsis_at k t ≡ true → i ≤ k + 1

@@ -11,12 +11,12 @@ use Rattle.cr_syntax.specs.Trees.{Trees, none, node, one, ◌&◌}
 use Rattle.cr_syntax.specs.Grammar as grammar
 use Rattle.cr_syntax.specs.Spells.{Limit, Spells, a}
 use Rattle.cr_syntax.specs.Spells as spells
-use Rattle.cr_syntax.specs.Units.{Place, own_item, elsewhere, place_in, is_misplaced, own_parameters, after_first}
+use Rattle.cr_syntax.specs.Units.{Place, own_item, elsewhere, place_in, is_misplaced, after_first}
 use Rattle.cr_syntax.specs.Units as units
 use Rattle.cr_machine.specs.Machine.{Labels, anywhere, own_block, nowhere}
 use Rattle.cr_machine.specs.MachineBody.{inside, in_switch, may_label, ends_variadic, is_variadic, may_define}
 use Rattle.cr_syntax.proofs.Tests.{both, not_true}
-use Rattle.cr_machine.proofs.MachineSpells.{and_none, is_one}
+use Rattle.cr_machine.proofs.MachineSpells.{and_none, is_one, own_first, after_one}
 use Rattle.cr_machine.proofs.MachineFirst.{true_false}
 
 -- no label in the trees is misplaced, where the trees stand so
@@ -134,17 +134,6 @@ variadic_and (node k i j b n) u q =
     let y = variadic_and n u x.1 in
     (ap (λ z. z && none_variadic n) x.0 ∙ y.0, y.1)
 
--- a declarator's own parameters stand in it, whatever stands behind
-own_in : (k : Kind) (i j : ℕ) (b n : Trees) → own_parameters (node k i j b n) ≡ own_parameters (node k i j b none)
-own_in kind.FunctionDeclarator i j b n = refl
-own_in _ i j b n = refl
-
-pub own_behind : {ts : List Lexeme} {limit : Limit} {p : Part} {h : Context} {c e : Scopes} {d i j : ℕ} {t : Trees} → Spells ts limit (a p) h c e d t i j → (u : Trees) → own_parameters (t & u) ≡ own_parameters t
-own_behind {i = i} {j = j} s u = let w = is_one s in subst (λ x. own_parameters (x & u) ≡ own_parameters x) (sym w.2) (own_in w.0 i j w.1 u)
-
-pub behind_first : {ts : List Lexeme} {limit : Limit} {p : Part} {h : Context} {c e : Scopes} {d i j : ℕ} {t : Trees} → Spells ts limit (a p) h c e d t i j → (u : Trees) → after_first (t & u) ≡ u
-behind_first s u = let w = is_one s in subst (λ x. after_first (x & u) ≡ u) (sym w.2) refl
-
 pub may_left : (l : Labels) (t u : Trees) → may_stand l (t & u) ≡ true → may_stand l t ≡ true
 may_left anywhere t u q = refl
 may_left own_block t u q = (variadic_and t u q).0
@@ -161,7 +150,7 @@ pub may_define_so : {ts : List Lexeme} {limit : Limit} {p q : Part} {h h' : Cont
 may_define_so {t = t} {u = u} l s o v x y f = by l f
   where
     same : is_variadic (after_first (t & (u & v))) ≡ is_variadic u
-    same = ap (λ z. is_variadic z) (behind_first x (u & v)) ∙ ap (λ z. ends_variadic z) (own_behind y v)
+    same = ap (λ z. is_variadic z) (after_one (is_one x).2 (u & v)) ∙ ap (λ z. ends_variadic z) (own_first (is_one y).2 v)
 
     named : none_variadic (one kind.FunctionDefinition s o (t & (u & v))) ≡ true → not (is_variadic u) ≡ true
     named f = ap (λ z. not z) (sym same) ∙ (both (not (is_variadic (after_first (t & (u & v))))) true f).0

@@ -5,6 +5,7 @@ use Rattle.std.specs.Prelude.{if◌then◌else◌}
 use borrow.Author.Tests.{lt-ltb}
 use Rattle.cr_syntax.specs.declared.word.Word.TheVariants as word
 use Rattle.cr_syntax.specs.declared.node.Kind.{Kind}
+use Rattle.cr_syntax.specs.declared.node.Kind.TheVariants as kind
 use Rattle.cr_syntax.specs.declared.symbol.Part.{Part}
 use Rattle.cr_syntax.specs.declared.symbol.Part.TheVariants as part
 use Rattle.cr_syntax.specs.declared.symbol.Context.{Context}
@@ -17,6 +18,7 @@ use Rattle.cr_syntax.specs.Spells.{Limit, Is, Phrase, a, Spells, AreConst, const
 use Rattle.cr_syntax.specs.Spells as spells
 use Rattle.cr_machine.specs.Machine.{brought}
 use Rattle.cr_machine.specs.MachineBody.{is_unary}
+use Rattle.cr_syntax.specs.Units.{own_parameters, after_first}
 
 -- Rows of trees.
 
@@ -31,6 +33,18 @@ and_and (node k i j b n) u v = ap (λ x. node k i j b x) (and_and n u v)
 -- a tree behind a row, and a row behind both
 pub pushed : (t u v : Trees) → (t & u & none) & v ≡ t & (u & v)
 pushed t u v = and_and t (u & none) v ∙ ap (λ x. t & x) (and_and u none v)
+
+-- a declarator's own parameters stand in it, whatever stands behind, and what stands behind the first tree is the rest
+
+pub own_alone : (k : Kind) (i j : ℕ) (b n : Trees) → own_parameters (node k i j b n) ≡ own_parameters (one k i j b)
+own_alone kind.FunctionDeclarator i j b n = refl
+own_alone _ i j b n = refl
+
+pub own_first : {k : Kind} {i j : ℕ} {b t : Trees} → t ≡ one k i j b → (u : Trees) → own_parameters (t & u) ≡ own_parameters t
+own_first {k = k} {i = i} {j = j} {b = b} q u = subst (λ x. own_parameters (x & u) ≡ own_parameters x) (sym q) (own_alone k i j b u)
+
+pub after_one : {k : Kind} {i j : ℕ} {b t : Trees} → t ≡ one k i j b → (u : Trees) → after_first (t & u) ≡ u
+after_one q u = subst (λ x. after_first (x & u) ≡ u) (sym q) refl
 
 -- A part is one tree, from its first token to the one behind it.
 pub is_one : {ts : List Lexeme} {limit : Limit} {p : Part} {h : Context} {c e : Scopes} {d i j : ℕ} {t : Trees} →

@@ -26,7 +26,7 @@ use Rattle.cr_machine.specs.Machine.{unit, externals, external, declaration, ini
 use Rattle.cr_machine.specs.Machine as m
 use Rattle.cr_machine.specs.MachineBody.{body, inside, may_label, may_define, is_label, ends_variadic, last_token, defined, declared_on, unlabelled}
 use Rattle.cr_machine.specs.MachineBody as program
-use Rattle.cr_machine.proofs.MachineSpells.{and_and, pushed, is_one, forth, name_brought, Names, by_declarator, by_direct, unheard}
+use Rattle.cr_machine.proofs.MachineSpells.{and_and, pushed, is_one, forth, name_brought, Names, by_declarator, by_direct, unheard, own_alone, own_first, after_one}
 use Rattle.cr_machine.proofs.MachineSpells as facts
 use Rattle.cr_machine.proofs.MachineKept.{around_less}
 use Rattle.cr_machine.proofs.MachineMeans.{Reads, Begun, IsDeclared, with_name, without, IsClause, no_clause, one_clause, IsOpen, open_of, after_init}
@@ -120,14 +120,6 @@ body_begins {t = t} {k = k} {n = n} y e s l m z v u = both_true (s == s) (one_be
 
 -- A declarator's own parameters.
 
--- other trees behind a declarator change nothing
-own_alone : (q : Kind) (i j : ℕ) (b n : Trees) → own_parameters (node q i j b n) ≡ own_parameters (one q i j b)
-own_alone kind.FunctionDeclarator i j b n = refl
-own_alone _ i j b n = refl
-
-own_and : {t : Trees} {q : Kind} {i j : ℕ} {b : Trees} → t ≡ one q i j b → (u : Trees) → own_parameters t ≡ own_parameters (t & u)
-own_and {q = q} {i = i} {j = j} {b = b} y u = subst (λ x. own_parameters x ≡ own_parameters (x & u)) (sym y) (sym (own_alone q i j b u))
-
 -- a list of parameters that ends in `...` does so before token k
 record EndsBefore (k : ℕ) (y : Trees) : Type 0 where
   pub ends : ends_variadic y ≡ true → (ellipsis_at (last_token y) y ≡ true) × (last_token y < k)
@@ -154,7 +146,7 @@ abbrev IsOne : ℕ → ℕ → Trees → Type 0
 IsOne i j t = (q : Kind) × (b : Trees) × (t ≡ one q i j b)
 
 ends_base : (i j k : ℕ) (t u : Trees) → IsOne i j t → j ≤ k → OwnEnds j t → EndsBefore k (own_parameters (t & u))
-ends_base i j k t u x le y = subst (λ y. EndsBefore k y) (own_and x.2 u) (ends_later _ le y.own)
+ends_base i j k t u x le y = subst (λ y. EndsBefore k y) (sym (own_first x.2 u)) (ends_later _ le y.own)
 
 prototype_ends : {ts : List Lexeme} {limit : Limit} {h : Context} {c e : Scopes} {d i j : ℕ} {u : Trees} →
     Spells ts limit (rest (opening word.LeftParen ∷ symbol.Prototype ∷ closing word.RightParen ∷ [])) h c e d u i j → EndsBefore j u
@@ -164,9 +156,6 @@ prototype_ends {i = i} {j = j} (spells.opens q w (spells.prototype_some {j = j'}
     let n' = forth s in
     let y = is_one x in
     subst (λ z. EndsBefore j (z & u)) (sym y.2) (ends_one y.0 (i + 1) j' j y.1 u (omega arith) (omega arith))
-
-after_one : {t : Trees} {q : Kind} {i j : ℕ} {b : Trees} → t ≡ one q i j b → (u : Trees) → u ≡ after_first (t & u)
-after_one y u = subst (λ x. u ≡ after_first (x & u)) (sym y) refl
 
 -- what holds of each declarator that is built on others
 module _ (holds : ℕ → Trees → Type 0) (of_name : (i j : ℕ) (b : Trees) → holds j (one kind.NameDeclarator i j b)) (of_pointer : (i j : ℕ) (b : Trees) → holds j b → holds j (one kind.PointerDeclarator i j b))
@@ -185,7 +174,7 @@ module _ (holds : ℕ → Trees → Type 0) (of_name : (i j : ℕ) (b : Trees) �
 own_ends : {ts : List Lexeme} {limit : Limit} {h : Context} {c e : Scopes} {d i j : ℕ} {t : Trees} → Spells ts limit (a part.Declarator) h c e d t i j → OwnEnds j t
 own_ends s = each_declarator OwnEnds (λ i j b. record { own = ends_none j }) (λ i j b y. record { own = y.own })
     (λ i j n k t u x le y. record { own = ends_base i j k t u x le y }) (λ i j n k t u x le y. record { own = ends_base i j k t u x le y })
-    (λ i j n k t u x le z y. record { own = ends_either k (is_bare (t & u)) (after_first (t & u)) (own_parameters (t & u)) (subst (λ y. EndsBefore k y) (after_one x.2 u) z) (ends_base i j k t u x le y) })
+    (λ i j n k t u x le z y. record { own = ends_either k (is_bare (t & u)) (after_first (t & u)) (own_parameters (t & u)) (subst (λ y. EndsBefore k y) (sym (after_one x.2 u)) z) (ends_base i j k t u x le y) })
     by_declarator s
 
 -- a definition with `...`, whose body begins at token m
