@@ -21,23 +21,10 @@ use Rattle.cr_machine.specs.Machine as m
 use Rattle.cr_machine.specs.MachineBody.{is_plain_start, is_specifier_start, is_declarator, element_start, type_start}
 use Rattle.cr_machine.proofs.MachineMeans.{element_part, IsOpen}
 use Rattle.cr_machine.proofs.MachineSpells.{is_one, Names, by_declarator, by_direct}
-use Rattle.cr_machine.proofs.MachineFirst.{none_true, false_by, yes, differs, sorted, same_is}
+use Rattle.cr_machine.proofs.MachineFirst.{none_true, yes, differs, sorted, same_is}
 use Rattle.cr_machine.proofs.MachineTasks.{past_row}
-
-pub or_left : (x y : Bool) → x ≡ true → x || y ≡ true
-or_left x y q = ap (λ b. b || y) q
-
-pub or_right : (x y : Bool) → y ≡ true → x || y ≡ true
-or_right true y q = refl
-or_right false y q = q
-
-or_none : (x : Bool) → x ≡ x || false
-or_none true = refl
-or_none false = refl
-
-or_or : (x y z : Bool) → (x || y) || z ≡ x || (y || z)
-or_or true y z = refl
-or_or false y z = refl
+use Rattle.std.proofs.lemmas.Bool.{false_from_ne_true, or_left, or_right}
+use Rattle.std.proofs.Math.Bool.{or-false, or_assoc}
 
 -- Specifiers.
 
@@ -106,7 +93,7 @@ pub data NoSpecifier : Word → Type 0 where
   no_else : NoSpecifier word.Else
 
 not_specifier : (v w : Word) → NoSpecifier w → is_specifier_start v ≡ true → same_word v w ≡ false
-not_specifier v w n s = false_by (same_word v w) (λ q. by n (subst (λ x. is_specifier_start x ≡ true) (same_is v w q) s))
+not_specifier v w n s = false_from_ne_true (same_word v w) (λ q. by n (subst (λ x. is_specifier_start x ≡ true) (same_is v w q) s))
   where
     by : {x : Word} → NoSpecifier x → is_specifier_start x ≡ true → ⊥
     by no_left_brace q = none_true q
@@ -199,10 +186,10 @@ any_one s u = let w = is_one s in subst (λ x. any_kind is_type_specifier (x & u
 any_typed : {ts : List Lexeme} {limit : Limit} {q : Part}
     (f : (h' : Context) (c e : Scopes) (d i j : ℕ) (t : Trees) → Spells ts limit (a q) h' c e d t i j → (h : Context) → (past_part h t).typed ≡ h.typed || one_typed t)
     {h' : Context} {c e : Scopes} {d i j : ℕ} {t : Trees} → Spells ts limit (rest (many q ∷ [])) h' c e d t i j → (h : Context) → (past_row h t).typed ≡ h.typed || any_kind is_type_specifier t
-any_typed f (spells.many_none spells.done) h = or_none h.typed
+any_typed f (spells.many_none spells.done) h = sym (or-false h.typed)
 any_typed f (spells.many_more {t = t} {u = u} x s) h =
     ap (λ y. y.typed) (past_one x h u) ∙ any_typed f s (past_part h t) ∙ ap (λ y. y || any_kind is_type_specifier u) (f _ _ _ _ _ _ _ x h)
-    ∙ or_or h.typed (one_typed t) (any_kind is_type_specifier u) ∙ ap (λ y. h.typed || y) (sym (any_one x u))
+    ∙ or_assoc h.typed (one_typed t) (any_kind is_type_specifier u) ∙ ap (λ y. h.typed || y) (sym (any_one x u))
 
 pub row_typed : (p : Part) {ts : List Lexeme} {limit : Limit} {h' : Context} {c e : Scopes} {d i j : ℕ} {t : Trees} → Spells ts limit (rest (many (element_part p) ∷ [])) h' c e d t i j → (h : Context) →
     (past_row h t).typed ≡ h.typed || any_kind is_type_specifier t

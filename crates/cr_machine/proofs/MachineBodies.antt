@@ -1,7 +1,7 @@
 -- Another statement than a block as the body of a switch, one that could be the body of a `while`: it is refused by its row.
 use Rattle.std.proofs.Common.{◌≡◌, ℕ, ◌+◌, ◌<◌, ◌≤◌, Bool, true, false, not, ◌&&◌, ◌==◌, List, [], ◌∷◌, ◌⊎◌, inl, inr, ⊎_elim, refl, sym, ap, subst, ◌∙◌, arith}
 use Rattle.std.specs.Prelude.{slice_get}
-use Rattle.std.proofs.lemmas.Bool.{eqb-true, both_ways, and_from, cases_Bool, cases_lt}
+use Rattle.std.proofs.lemmas.Bool.{eqb-true, both_ways, and_from, cases_Bool, cases_lt, false_from_ne_true, or_from, or_left, or_right}
 use Rattle.cr_syntax.specs.declared.word.Word.{Word}
 use Rattle.cr_syntax.specs.declared.word.Word.TheVariants as word
 use Rattle.cr_syntax.specs.declared.node.Kind.{Kind}
@@ -22,8 +22,7 @@ use Rattle.cr_machine.specs.MachineBody.{body, unlabelled, statement_start, is_s
 use Rattle.cr_syntax.proofs.Tests.{is_of, both}
 use Rattle.cr_machine.proofs.MachineRuns.{reach, passes_same, brought_same, word_same}
 use Rattle.cr_machine.proofs.MachineSpells.{is_one}
-use Rattle.cr_machine.proofs.MachineFirst.{none_true, true_false, false_by, or_false, yes, differs, sorted, starts, First, by_word, by_name, first_expression}
-use Rattle.cr_machine.proofs.MachineBegins.{or_left, or_right}
+use Rattle.cr_machine.proofs.MachineFirst.{none_true, true_false, yes, differs, sorted, starts, First, by_word, by_name, first_expression}
 use Rattle.cr_machine.proofs.MachineSound.{runs_sound}
 use Rattle.cr_machine.proofs.MachineEnds.{barring, Ends, end_take, end_pass, end_bar, end_free, end_seen, end_unseen, end_yes, end_no, end_here, end_look, end_set, end_bring, end_behind, end_inside}
 use Rattle.cr_machine.proofs.MachineMarks.{Barred, barred_on}
@@ -262,7 +261,7 @@ module _ (ts us vs : List Lexeme) (k s : ℕ) (limit top : Limit)
   last_word n w r lt q = sym (word_same ts vs k (vs_alike k (omega arith) (λ r'. omega arith))) ∙ subst (λ l. Is vs l w) r q
 
   not_here : (n : ℕ) (w : Word) → n ≡ k → (Is ts k w → ⊥) → is_word ts n w ≡ false
-  not_here n w r f = false_by (is_word ts n w) (λ y. f (subst (λ l. Is ts l w) r (is_of ts n w y)))
+  not_here n w r f = false_from_ne_true (is_word ts n w) (λ y. f (subst (λ l. Is ts l w) r (is_of ts n w y)))
 
   -- the body of the `while`, behind its condition
   condition_read : (d s0 : ℕ) {c e e0 : Scopes} {i j j0 : ℕ} {t t0 : Trees} → passes us ([] ∷ c) i (the word.LeftParen) ≡ true → Allows limit machine.opens i d → Reads (expression (d + 1)) ([] ∷ c) (i + 1) t e j →
@@ -289,7 +288,7 @@ module _ (ts us vs : List Lexeme) (k s : ℕ) (limit top : Limit)
         ends = subst (λ l. Ends body ts top (body (switch_rest anywhere d s0)) c i (barring statement_start 7 (d + 1)) l) r
             (end_look (end_set (end_take (on_list ([] ∷ c) i (the word.LeftParen) (omega arith) y) (allowed machine.opens i d (omega arith) a)
             (end_behind (runs_on_list h (omega arith)) (end_take (on_list e j (the word.RightParen) (omega arith) y') (allowed machine.reopens j d (omega arith) a')
-            (end_free (or_false (is_word ts (j + 1) word.Case) (is_word ts (j + 1) word.Default) (not_here (j + 1) word.Case r no_case) (not_here (j + 1) word.Default r no_default))
+            (end_free (or_from (is_word ts (j + 1) word.Case) (is_word ts (j + 1) word.Default) (not_here (j + 1) word.Case r no_case) (not_here (j + 1) word.Default r no_default))
             (end_bar (sym (passes_same ts vs (j + 1) (vs_alike (j + 1) (omega arith) (λ q. omega arith)) e statement_start)
             ∙ begins_there e r (omega arith) (condition_read d s0 y a h y' a' r lt g)))))))));
       }

@@ -30,9 +30,10 @@ use Rattle.cr_machine.proofs.MachineFirst.{none_true}
 use Rattle.cr_machine.proofs.MachineEnds.{Way, defining, Ends, end_refuse, end_pass, end_seen, end_no, end_here, end_behind, end_inside}
 use Rattle.cr_machine.proofs.MachineMeans.{IsDeclared, with_name, without}
 use Rattle.cr_machine.proofs.MachineSound.{runs_sound}
-use Rattle.cr_machine.proofs.MachineForms.{some_definition, mark, has_all, lacks_none, lacks_and, lacks_one, Clean, IsOne, Begun, direct_later, or_none, unmarked_by, declarator_is_one, declaration_parts}
+use Rattle.cr_machine.proofs.MachineForms.{some_definition, mark, has_all, lacks_none, lacks_and, lacks_one, Clean, IsOne, Begun, direct_later, unmarked_by, declarator_is_one, declaration_parts}
 use Rattle.cr_machine.proofs.MachineLoose.{loose, looser, IsOwn, own_definition, tightened}
 use Rattle.cr_machine.proofs.MachineTraces.{Traces, traces_idle, traced}
+use Rattle.std.proofs.Math.Bool.{or-false}
 
 -- Where a declarator's own parameters stand.
 
@@ -140,7 +141,7 @@ module _ (us : List Lexeme) (limit : Limit) (k m : ℕ) where
         ends = x'.0;
         last = x'.1;
         ellipsis = x;
-        brace = eqb-true i m (sym (or_none (i == m)) ∙ subst (λ z. one_begins_at m (z & none) ≡ true) v.is (subst (λ z. one_begins_at m z ≡ true) (after_one o.is (u & none)) w.1));
+        brace = eqb-true i m (sym (or-false (i == m)) ∙ subst (λ z. one_begins_at m (z & none) ≡ true) v.is (subst (λ z. one_begins_at m z ≡ true) (after_one o.is (u & none)) w.1));
       }
 
   refused_there : {t : Trees} {c : Scopes} {i : ℕ} {p : Prog} → IsVariadic t i → Ends body us limit (machine.when (may_define nowhere t) p (machine.refuse (last_token (own_parameters t)))) c i (defining k) m

@@ -1,5 +1,5 @@
 -- First tokens, the tokens that go on with an expression, and what the machine's tests say of them.
-use Rattle.std.proofs.Common.{◌≡◌, ℕ, ◌+◌, ◌<◌, ◌≤◌, Bool, true, false, not, ◌&&◌, ◌||◌, List, [], ◌∷◌, Option, None, Some, refl, sym, ap, subst, ◌∙◌, arith, ◌⊎◌, inl, inr}
+use Rattle.std.proofs.Common.{◌≡◌, ℕ, ◌+◌, ◌<◌, ◌≤◌, Bool, true, false, not, ◌&&◌, List, [], ◌∷◌, Option, None, Some, refl, sym, ap, subst, ◌∙◌, arith}
 use Rattle.std.specs.Prelude.{nat_le, ◌++◌}
 use borrow.Author.Tests.{leb-true}
 use denote.Enum.Bare.{true_same, same_true}
@@ -22,20 +22,13 @@ use Rattle.cr_machine.specs.Machine as m
 use Rattle.cr_machine.specs.MachineBody.{Words, is_plain_start, type_start, is_unary}
 use Rattle.cr_machine.specs.MachineLaws.{rank_of, IsFree}
 use Rattle.cr_syntax.proofs.Tests.{is_of, both, not_true, some_one}
+use Rattle.std.proofs.lemmas.Bool.{false_from_ne_true, or_from}
 
 pub none_true : {A : Type 0} → false ≡ true → A
 none_true q = cc
 
 pub true_false : {A : Type 0} → true ≡ false → A
 true_false q = cc
-
-pub one_of_two : (b d : Bool) → b || d ≡ true → (b ≡ true) ⊎ (d ≡ true)
-one_of_two true d q = inl refl
-one_of_two false d q = inr q
-
-pub false_by : (b : Bool) → (b ≡ true → ⊥) → b ≡ false
-false_by true f = absurd (f refl)
-false_by false f = refl
 
 -- A token and another word.
 
@@ -66,7 +59,7 @@ pub lower : {ts : List Lexeme} {m n j : ℕ} → IsFree ts n j → m ≤ n → I
 lower f le = record { all = λ w q. let lt = f.all w q in omega arith }
 
 pub fails : {ts : List Lexeme} {n j : ℕ} → IsFree ts n j → (w : Word) → rank_of w ≤ n → is_word ts j w ≡ false
-fails {ts = ts} {j = j} f w le = false_by (is_word ts j w) (λ q. let lt = f.all w (is_of ts j w q) in omega arith)
+fails {ts = ts} {j = j} f w le = false_from_ne_true (is_word ts j w) (λ q. let lt = f.all w (is_of ts j w q) in omega arith)
 
 -- Tables of words.
 
@@ -139,7 +132,7 @@ pub data Never : Word → Type 0 where
   never_brace : Never word.LeftBrace
 
 no_start : (v w : Word) → Never w → starts v ≡ true → same_word v w ≡ false
-no_start v w n s = false_by (same_word v w) (λ q. by n (subst (λ x. starts x ≡ true) (same_is v w q) s))
+no_start v w n s = false_from_ne_true (same_word v w) (λ q. by n (subst (λ x. starts x ≡ true) (same_is v w q) s))
   where
     by : {x : Word} → Never x → starts x ≡ true → ⊥
     by never_bracket q = none_true q
@@ -153,7 +146,7 @@ never (by_name q) never_paren = differs q.0 word.RightParen refl
 never (by_name q) never_brace = differs q.0 word.LeftBrace refl
 
 pub not_first : {ts : List Lexeme} {c : Scopes} {i : ℕ} → First ts c i → (w : Word) → starts w ≡ false → same_word word.Identifier w ≡ false → is_word ts i w ≡ false
-not_first (by_word {w = v} q s) w n z = differs q w (false_by (same_word v w) (λ x. true_false (sym s ∙ ap starts (same_is v w x) ∙ n)))
+not_first (by_word {w = v} q s) w n z = differs q w (false_from_ne_true (same_word v w) (λ x. true_false (sym s ∙ ap starts (same_is v w x) ∙ n)))
 not_first (by_name q) w n z = differs q.0 w z
 
 plain_start : (w : Word) → starts w ≡ true → is_plain_start w ≡ false
@@ -174,9 +167,6 @@ pub name_start : (w : Word) → starts w ≡ true → same_word w word.Identifie
 name_start word.Identifier q = none_true q
 name_start _ q = refl
 
-pub or_false : (x y : Bool) → x ≡ false → y ≡ false → x || y ≡ false
-or_false x y p q = (ap (λ b. b || y) p) ∙ q
-
 pub and_false : (x y z : Bool) → x ≡ false → x && y && z ≡ false
 and_false x y z p = ap (λ b. b && y && z) p
 
@@ -187,10 +177,10 @@ and_first false y z p = refl
 -- no type name begins there
 pub not_type : {ts : List Lexeme} {c : Scopes} {i : ℕ} → First ts c i → passes ts c i type_start ≡ false
 not_type {ts = ts} {c = c} {i = i} (by_word {w = w} q s) =
-    or_false (has_word ts i is_plain_start) (passes ts c i (m.type_identifier false)) (sorted is_plain_start false q (plain_start w s))
+    or_from (has_word ts i is_plain_start) (passes ts c i (m.type_identifier false)) (sorted is_plain_start false q (plain_start w s))
     (and_false (is_word ts i word.Identifier) (is_type c (spelling_at ts i)) true (differs q word.Identifier (name_start w s)))
 not_type {ts = ts} {c = c} {i = i} (by_name q) =
-    or_false (has_word ts i is_plain_start) (passes ts c i (m.type_identifier false)) (sorted is_plain_start false q.0 refl)
+    or_from (has_word ts i is_plain_start) (passes ts c i (m.type_identifier false)) (sorted is_plain_start false q.0 refl)
     (and_first (is_word ts i word.Identifier) (is_type c (spelling_at ts i)) true q.1)
 
 -- Part by part, from the tightest on.

@@ -18,6 +18,7 @@ use Rattle.cr_machine.specs.MachineBody.{inside, in_switch, may_label, ends_vari
 use Rattle.cr_syntax.proofs.Tests.{both, not_true}
 use Rattle.cr_machine.proofs.MachineSpells.{and_none, is_one, own_first, after_one}
 use Rattle.cr_machine.proofs.MachineFirst.{true_false}
+use Rattle.std.proofs.lemmas.Bool.{and_from}
 
 -- no label in the trees is misplaced, where the trees stand so
 abbrev pub are_placed : Place → Trees → Bool
@@ -49,9 +50,6 @@ abbrev pub parts_of : Trees → Trees
 parts_of none = none
 parts_of (node k i j b n) = b
 
-all_true : (x y z : Bool) → x ≡ true → y ≡ true → z ≡ true → x && (y && z) ≡ true
-all_true x y z p q r = ap (λ b. b && (y && z)) p ∙ ap (λ b. b && z) q ∙ r
-
 -- A row fits where each of its trees does.
 
 placed_node : (at : Place) (k : Kind) (i j : ℕ) (b n : Trees) → are_placed at (node k i j b n) ≡ true →
@@ -66,7 +64,7 @@ placed_and at none u q = (refl, q)
 placed_and at (node k i j b n) u q =
     let x = placed_node at k i j b (n & u) q in
     let y = placed_and at n u x.2 in
-    (all_true (not (is_misplaced k at)) (are_placed (place_in k at) b) (are_placed at n) (ap (λ z. not z) x.0) x.1 y.0, y.1)
+    (and_from (not (is_misplaced k at)) (are_placed (place_in k at) b && are_placed at n) (ap (λ z. not z) x.0) (and_from (are_placed (place_in k at) b) (are_placed at n) x.1 y.0), y.1)
 
 pub fits_and : (l : Labels) (t u : Trees) → fits l (t & u) ≡ true → (fits l t ≡ true) × (fits l u ≡ true)
 fits_and anywhere t u q = (refl, refl)

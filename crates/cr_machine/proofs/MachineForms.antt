@@ -1,7 +1,7 @@
 -- A row of the refused forms that names a token behind a tree, or where one begins: the machine refuses the token there by that row.
 use Rattle.std.proofs.Common.{◌≡◌, ℕ, zero, suc, ◌+◌, ◌<◌, ◌≤◌, Bool, true, false, ◌&&◌, ◌||◌, ◌==◌, List, [], ◌∷◌, length, Option, None, Some, ◌⊎◌, inl, inr, ⊎_elim, refl, sym, ap, subst, ◌∙◌, arith}
 use Rattle.std.specs.Prelude.{slice_get}
-use Rattle.std.proofs.lemmas.Bool.{eqb-true, eq-eqb, both_ways, and_from, or_parts, or_from, cases_Bool, cases_lt}
+use Rattle.std.proofs.lemmas.Bool.{eqb-true, eq-eqb, both_ways, and_from, or_parts, or_from, cases_Bool, cases_lt, or_right}
 use Rattle.cr_syntax.specs.declared.word.Word.{Word}
 use Rattle.cr_syntax.specs.declared.word.Word.TheVariants as word
 use Rattle.cr_syntax.specs.declared.node.Kind.{Kind}
@@ -37,11 +37,12 @@ use Rattle.cr_machine.proofs.MachineMeans.{Means, IsDeclared, with_name, without
 use Rattle.cr_machine.proofs.MachineSound.{each, runs_sound, part_some}
 use Rattle.cr_machine.proofs.MachineFirst.{none_true, yes, differs, sorted}
 use Rattle.cr_machine.proofs.MachineTasks as task
-use Rattle.cr_machine.proofs.MachineBegins.{named_first, is_named, or_right}
+use Rattle.cr_machine.proofs.MachineBegins.{named_first, is_named}
 use Rattle.cr_machine.proofs.MachineDeclarators.{consts_go, named_const}
 use Rattle.cr_machine.proofs.MachineComplete.{completes, spelled_is_read, free_at_end, begun_same}
 use Rattle.cr_machine.proofs.MachineWays.{Point, at, same_way}
 use Rattle.cr_machine.proofs.MachineMarks.{Barred, barred_on, or_so, Marks, Behind, marks_choose, same_test, marked}
+use Rattle.std.proofs.Math.Bool.{or-false}
 
 -- The brace of a compound literal, the bracket of a called expression, the colon of a bit-field; the dot and the bracket of
 -- a designator; a label as the body of the switch that begins at token s. Two more name no token: a label or a switch, a definition.
@@ -328,13 +329,9 @@ row_unmarked _ = refl
 
 -- Which of a row's trees begin or end at a token.
 
-pub or_none : (b : Bool) → b || false ≡ b
-or_none true = refl
-or_none false = refl
-
 pub begins_second : (k : ℕ) {l l' : Kind} {s e i j : ℕ} {b b' t u : Trees} → t ≡ one l s e b → u ≡ one l' i j b' → one_begins_at k (after_first (t & u & none)) ≡ (i == k)
 begins_second k {i = i} {u = u} q q' =
-    subst (λ x. one_begins_at k (after_first (x & u & none)) ≡ (i == k)) (sym q) (subst (λ y. one_begins_at k (y & none) ≡ (i == k)) (sym q') (or_none (i == k)))
+    subst (λ x. one_begins_at k (after_first (x & u & none)) ≡ (i == k)) (sym q) (subst (λ y. one_begins_at k (y & none) ≡ (i == k)) (sym q') (or-false (i == k)))
 
 ends_nowhere : (k : ℕ) (t u : Trees) → one_ends_at k t ≡ false → one_ends_at k u ≡ false → one_ends_at k (t & u) ≡ false
 ends_nowhere k none u x y = y

@@ -1,6 +1,6 @@
 -- A label in the bare grammar's trees that is misplaced in the subset: the subset's machine doesn't get past its first token.
-use Rattle.std.proofs.Common.{◌≡◌, ℕ, ◌+◌, ◌<◌, ◌≤◌, Bool, true, false, ◌&&◌, ◌||◌, ◌==◌, List, [], ◌∷◌, ◌⊎◌, inl, inr, ⊎_elim, refl, sym, ap, subst, arith}
-use Rattle.std.proofs.lemmas.Bool.{eqb-true, or_parts, or_from, cases_Bool, cases_lt}
+use Rattle.std.proofs.Common.{◌≡◌, ℕ, ◌+◌, ◌<◌, ◌≤◌, true, false, ◌&&◌, ◌||◌, ◌==◌, List, [], ◌∷◌, ◌⊎◌, inl, inr, ⊎_elim, refl, sym, ap, subst, arith}
+use Rattle.std.proofs.lemmas.Bool.{eqb-true, or_parts, or_from, cases_Bool, cases_lt, and_right}
 use Rattle.cr_syntax.specs.declared.word.Word.TheVariants as word
 use Rattle.cr_syntax.specs.declared.node.Kind.{Kind}
 use Rattle.cr_syntax.specs.declared.node.Kind.TheVariants as kind
@@ -53,10 +53,6 @@ place_block : {l : Labels} → IsSub l → place_in kind.Compound (place_of l) �
 place_block sub_own = refl
 place_block sub_nowhere = refl
 
-no_and : (b : Bool) → b && false ≡ false
-no_and true = refl
-no_and false = refl
-
 same_number : (i k : ℕ) → (i ≡ k → ⊥) → (i == k) ≡ false
 same_number i k f = ⊎_elim (λ y. absurd (f (eqb-true i k y))) (λ y. y) (cases_Bool (i == k))
 
@@ -82,7 +78,7 @@ module _ (k : ℕ) where
 
   -- a node that is no label, in any place
   fine_one : (q : Kind) (i j : ℕ) (a : Trees) (at : Place) → is_misplaced q at ≡ false → Fine (place_in q at) a → Fine at (one q i j a)
-  fine_one q i j a at n x = fine_by q i j a at (subst (λ b. (i == k) && b ≡ false) (sym n) (no_and (i == k))) x
+  fine_one q i j a at n x = fine_by q i j a at (subst (λ b. (i == k) && b ≡ false) (sym n) (and_right (i == k) false refl)) x
 
   -- trees without a label
   no_label_kind : (q : Kind) (at : Place) (i j : ℕ) (a : Trees) → (mark some_label 0 q i j a ≡ true → ⊥) → is_misplaced q at ≡ false
@@ -95,7 +91,7 @@ module _ (k : ℕ) where
   clean_fine (node q i j a n) x at =
       or_from ((i == k) && is_misplaced q at || misplaced_at k (place_in q at) a) (misplaced_at k at n)
       (or_from ((i == k) && is_misplaced q at) (misplaced_at k (place_in q at) a)
-      (subst (λ b. (i == k) && b ≡ false) (sym (no_label_kind q at i j a (λ y. x (has_here y)))) (no_and (i == k)))
+      (subst (λ b. (i == k) && b ≡ false) (sym (no_label_kind q at i j a (λ y. x (has_here y)))) (and_right (i == k) false refl))
       (clean_fine a (λ y. x (has_inside y)) (place_in q at)))
       (clean_fine n (λ y. x (has_after y)) at)
 

@@ -1,7 +1,7 @@
 -- What the subset's machine does, the bare grammar's does too, but where the subset's refuses a label in its place, or a
 -- definition with `...`.
 use Rattle.std.proofs.Common.{◌≡◌, ℕ, ◌+◌, ◌≤◌, Bool, true, false, List, Option, None, Some, ◌⊎◌, inl, inr, ⊎_elim, refl, arith}
-use Rattle.std.proofs.lemmas.Bool.{cases_Bool, both_ways}
+use Rattle.std.proofs.lemmas.Bool.{cases_Bool, both_ways, false_from_ne_true}
 use Rattle.cr_syntax.specs.declared.word.Word.{Word}
 use Rattle.cr_syntax.specs.declared.word.Word.TheVariants as word
 use Rattle.cr_syntax.specs.Words.{Lexeme, word_at}
@@ -15,7 +15,7 @@ use Rattle.cr_machine.specs.MachineBody.{body, is_label, unlabelled, labelled, d
 use Rattle.cr_machine.specs.MachineLaws.{end_of}
 use Rattle.cr_machine.proofs.MachineRuns.{reach, same, again}
 use Rattle.cr_syntax.proofs.Tests.{is_of}
-use Rattle.cr_machine.proofs.MachineFirst.{none_true, true_false, false_by, yes, sorted}
+use Rattle.cr_machine.proofs.MachineFirst.{none_true, true_false, yes, sorted}
 use Rattle.cr_machine.proofs.MachineEnds.{Way, barring, defining, Ends, end_refuse, end_take, end_crowded, end_pass, end_bar, end_free, end_seen, end_unseen, end_yes, end_no, end_here, end_look, end_set, end_bring, end_behind, end_inside}
 
 -- the goal of the bare grammar
@@ -120,10 +120,10 @@ pub label_yes : (ts : List Lexeme) (i : ℕ) (w : Word) → is_label w ≡ true 
 label_yes ts i w l y = sorted is_label true (is_of ts i w y) l
 
 pub label_no : (ts : List Lexeme) (i : ℕ) (w : Word) → is_label w ≡ true → has_word ts i is_label ≡ false → is_word ts i w ≡ false
-label_no ts i w l y = false_by (is_word ts i w) (λ y'. both_ways (has_word ts i is_label) y (label_yes ts i w l y'))
+label_no ts i w l y = false_from_ne_true (is_word ts i w) (λ y'. both_ways (has_word ts i is_label) y (label_yes ts i w l y'))
 
 pub label_none : (ts : List Lexeme) (i : ℕ) → is_word ts i word.Case ≡ false → is_word ts i word.Default ≡ false → has_word ts i is_label ≡ false
-label_none ts i y y' = false_by (has_word ts i is_label)
+label_none ts i y y' = false_from_ne_true (has_word ts i is_label)
     (λ q. ⊎_elim (λ z. both_ways (is_word ts i word.Case) y (yes z)) (λ z. both_ways (is_word ts i word.Default) y' (yes z)) (label_is (word_at ts i) q))
 
 module _ {ts : List Lexeme} {limit : Limit} where

@@ -25,6 +25,7 @@ use Rattle.cr_machine.proofs.MachineExtend.{Front}
 use Rattle.cr_machine.proofs.MachineMeans.{has_some}
 use Rattle.cr_machine.proofs.MachineSpells.{is_one}
 use Rattle.cr_machine.proofs.MachineSound.{two_parameters}
+use Rattle.std.proofs.lemmas.Bool.{or_left, or_right}
 
 -- Two ways in which no token of a unit is refused stand for what else a text may be asked for: an empty statement at token k,
 -- and the switch at token s with its body at token k.
@@ -227,23 +228,13 @@ or_last true y z z' q f = refl
 or_last false true z z' q f = refl
 or_last false false z z' q f = f q
 
-or_third : (x y z : Bool) → z ≡ true → x || y || z ≡ true
-or_third true y z q = refl
-or_third false true z q = refl
-or_third false false z q = q
-
-or_second : (x y z : Bool) → y ≡ true → x || y || z ≡ true
-or_second true y z q = refl
-or_second false true z q = refl
-or_second false false z q = cc
-
 misplaced_left : (n : ℕ) (p : Place) (t u : Trees) → misplaced_at n p t ≡ true → misplaced_at n p (t & u) ≡ true
 misplaced_left n p none u x = cc
 misplaced_left n p (node q i j b m) u x = or_last ((i == n) && is_misplaced q p) (misplaced_at n (place_in q p) b) (misplaced_at n p m) (misplaced_at n p (m & u)) x (λ y. misplaced_left n p m u y)
 
 misplaced_right : (n : ℕ) (p : Place) (t u : Trees) → misplaced_at n p u ≡ true → misplaced_at n p (t & u) ≡ true
 misplaced_right n p none u x = x
-misplaced_right n p (node q i j b m) u x = or_third ((i == n) && is_misplaced q p) (misplaced_at n (place_in q p) b) (misplaced_at n p (m & u)) (misplaced_right n p m u x)
+misplaced_right n p (node q i j b m) u x = or_right ((i == n) && is_misplaced q p || misplaced_at n (place_in q p) b) (misplaced_at n p (m & u)) (misplaced_right n p m u x)
 
 carried_in : {at at' : Place → Bool} {k : ℕ} {t u : Trees} {w : Way} → ((test : Kind → ℕ → ℕ → Trees → Bool) → Has test t → Has test u) →
     ((n : ℕ) → ((p : Place) → at p ≡ true → misplaced_at n p t ≡ true) → (p : Place) → at' p ≡ true → misplaced_at n p u ≡ true) → ShownIn at k t w → ShownIn at' k u w
@@ -271,7 +262,7 @@ right_in t {u = u} x = carried_in (λ test y. has_right t y) (λ n g p y. mispla
 
 -- in a node whose parts stand so where it stands so
 pub within : {at at' : Place → Bool} {k : ℕ} {q : Kind} {i j : ℕ} {t : Trees} {w : Way} → ((p : Place) → at' p ≡ true → at (place_in q p) ≡ true) → ShownIn at k t w → ShownIn at' k (one q i j t) w
-within {q = q} {i = i} {t = t} f x = carried_in (λ test y. has_inside y) (λ n g p y. or_second ((i == n) && is_misplaced q p) (misplaced_at n (place_in q p) t) false (g (place_in q p) (f p y))) x
+within {q = q} {i = i} {t = t} f x = carried_in (λ test y. has_inside y) (λ n g p y. or_left ((i == n) && is_misplaced q p || misplaced_at n (place_in q p) t) false (or_right ((i == n) && is_misplaced q p) (misplaced_at n (place_in q p) t) (g (place_in q p) (f p y)))) x
 
 pub wherever : {at : Place → Bool} {k : ℕ} {q : Kind} {i j : ℕ} {t : Trees} {w : Way} → ShownIn every k t w → ShownIn at k (one q i j t) w
 wherever x = within (λ p y. refl) x
@@ -293,17 +284,9 @@ started_so {k = k} {t = t} e x = subst (λ w. Started k t w) e x
 pub same_number : (i k : ℕ) → i ≡ k → (i == k) ≡ true
 same_number i k e = elim (eqb_tells i k) [ inl y ↦ y.0 | inr y ↦ absurd (y.1 e) ]
 
-or_true : (b : Bool) → (b || true) ≡ true
-or_true true = refl
-or_true false = refl
-
-pub true_or : (b d : Bool) → b ≡ true → (b || d) ≡ true
-true_or true d q = refl
-true_or false d q = cc
-
 -- a cast's operand begins at token k
 pub operand_begins : {t : Trees} {q : Kind} {i j k n : ℕ} {b : Trees} → t ≡ one q i j b → n ≡ k → (z : Kind) (m l : ℕ) (v u : Trees) → cast_operand_at k kind.Cast l m (t & node z n m v u) ≡ true
-operand_begins {k = k} {n = n} y e z m l v u = subst (λ x. cast_operand_at k kind.Cast l m (x & node z n m v u) ≡ true) (sym y) (true_or (n == k) (one_begins_at k u) (same_number n k e))
+operand_begins {k = k} {n = n} y e z m l v u = subst (λ x. cast_operand_at k kind.Cast l m (x & node z n m v u) ≡ true) (sym y) (or_left (n == k) (one_begins_at k u) (same_number n k e))
 
 -- a postfix expression ends before token k
 pub postfix_ends : {ts : List Lexeme} {limit : Limit} {h : Context} {c e : Scopes} {d i j k : ℕ} {t : Trees} → Spells ts limit (a part.Postfix) h c e d t i j → is_identifier t ≡ false → j ≡ k → Has (postfix_before k) t
@@ -326,8 +309,8 @@ declarator_ends none n x e l m = cc
 declarator_ends {q = q} {i = i} {j = j} {k = k} {b = b} (node z l' m' v r) n x e l m = subst (λ t. one_ends_at k (r & t) ≡ true) (sym x) (behind r)
   where
     behind : (r : Trees) → one_ends_at k (r & one q i j b) ≡ true
-    behind none = true_or (j == k) false (same_number j k e)
-    behind (node z l m v r) = subst (λ x. ((m == k) || x) ≡ true) (sym (behind r)) (or_true (m == k))
+    behind none = or_left (j == k) false (same_number j k e)
+    behind (node z l m v r) = subst (λ x. ((m == k) || x) ≡ true) (sym (behind r)) (or_right (m == k) true refl)
 
 -- A list of initializers goes on, and ends in its node.
 
@@ -341,7 +324,7 @@ begins_left k (node q i j b n) u x = two_or (i == k) (one_begins_at k n) (one_be
 
 begins_right : (k : ℕ) (t u : Trees) → one_begins_at k u ≡ true → one_begins_at k (t & u) ≡ true
 begins_right k none u x = x
-begins_right k (node q i j b n) u x = subst (λ y. ((i == k) || y) ≡ true) (sym (begins_right k n u x)) (or_true (i == k))
+begins_right k (node q i j b n) u x = subst (λ y. ((i == k) || y) ≡ true) (sym (begins_right k n u x)) (or_right (i == k) true refl)
 
 pub started_right : {k : ℕ} (t : Trees) {u : Trees} {w : Way} → Started k u w → Started k (t & u) w
 started_right t (started x) = started (right_in t x)

@@ -23,13 +23,14 @@ use Rattle.cr_machine.specs.MachineBody.{body, is_specifier_start, is_label, is_
 use Rattle.cr_machine.specs.MachineLaws.{IsFree}
 use Rattle.cr_syntax.proofs.Tests.{not_true}
 use Rattle.cr_machine.proofs.MachineSpells.{and_none, and_and, pushed, is_one}
-use Rattle.cr_machine.proofs.MachineFirst.{none_true, true_false, yes, differs, sorted, free_by, tail, or_false, and_false, and_first, starts, First, by_word, by_name, not_first, name_start, first_expression}
+use Rattle.cr_machine.proofs.MachineFirst.{none_true, true_false, yes, differs, sorted, free_by, tail, and_false, and_first, starts, First, by_word, by_name, not_first, name_start, first_expression}
 use Rattle.cr_machine.proofs.MachineFits.{fits, fits_left, fits_right, parts_fit, label_fits, compound_fits, switch_fits}
 use Rattle.cr_machine.proofs.MachineTasks.{measure, Goes, Answers, Completes, Smaller}
 use Rattle.cr_machine.proofs.MachineTasks as task
-use Rattle.cr_machine.proofs.MachineBegins.{or_right, never_element, no_else, no_right_brace, specifier_yes}
+use Rattle.cr_machine.proofs.MachineBegins.{never_element, no_else, no_right_brace, specifier_yes}
 use Rattle.cr_machine.proofs.MachineExpressions.{closing_run, whole_expression, ordinary_no}
 use Rattle.cr_machine.proofs.MachineDeclarations.{declaration_first, compound_first}
+use Rattle.std.proofs.lemmas.Bool.{or_from, or_right}
 
 -- The first token of a statement: a word that only a statement begins with, or that of an expression.
 
@@ -75,7 +76,7 @@ statement_apart (by_expression o) no_item_else = not_first o word.Else refl refl
 statement_apart (by_expression o) no_item_brace = not_first o word.RightBrace refl refl
 
 not_type : {w : Word} (ts : List Lexeme) (c : Scopes) (i : ℕ) → Is ts i w → is_specifier_start w ≡ false → same_word w word.Identifier ≡ false → passes ts c i declaration_start ≡ false
-not_type ts c i q x y = or_false (has_word ts i is_specifier_start) (passes ts c i (m.type_identifier false)) (sorted is_specifier_start false q x)
+not_type ts c i q x y = or_from (has_word ts i is_specifier_start) (passes ts c i (m.type_identifier false)) (sorted is_specifier_start false q x)
     (and_false (is_word ts i word.Identifier) (is_type c (spelling_at ts i)) true (differs q word.Identifier y))
 
 -- no declaration begins so
@@ -127,7 +128,7 @@ not_declaration {ts = ts} {c = c} {i = i} (by_expression (by_word {w = w} q s)) 
     by word.Enum s = none_true s
     by _ s = refl
 not_declaration {ts = ts} {c = c} {i = i} (by_expression (by_name q)) =
-    or_false (has_word ts i is_specifier_start) (passes ts c i (m.type_identifier false)) (sorted is_specifier_start false q.0 refl)
+    or_from (has_word ts i is_specifier_start) (passes ts c i (m.type_identifier false)) (sorted is_specifier_start false q.0 refl)
     (and_first (is_word ts i word.Identifier) (is_type c (spelling_at ts i)) true q.1)
 
 expression_no_label : {ts : List Lexeme} {c : Scopes} {i : ℕ} → First ts c i → has_word ts i is_label ≡ false
@@ -217,7 +218,7 @@ module _ (ts : List Lexeme) (limit : Limit) where
   block_goes x = run_look (run_set (run_call x (run_look (run_set run_give))))
 
   no_statement_start : (c : Scopes) (i : ℕ) → Is ts i word.LeftBrace → passes ts c i statement_start ≡ false
-  no_statement_start c i q = or_false (has_word ts i is_statement_start) (passes ts c i m.ordinary) (sorted is_statement_start false q refl) (ordinary_no ts c i (differs q word.Identifier refl))
+  no_statement_start c i q = or_from (has_word ts i is_statement_start) (passes ts c i m.ordinary) (sorted is_statement_start false q refl) (ordinary_no ts c i (differs q word.Identifier refl))
 
   module _ (n : ℕ) (b : Smaller ts limit n) where
     -- Blocks.
@@ -360,7 +361,7 @@ module _ (ts : List Lexeme) (limit : Limit) where
         (l : Labels) (k : ℕ) → fits l (one kind.Switch k j (t & v)) ≡ true → Goes ts limit (switch_body l d k t) c i (Done (one kind.Switch k j (t & v)) e j)
     switch_goes {c = c} {i = i} {j = j} t (spells.begins (spells.part y (spells.ends (spells.ends spells.done)))) lt l k ft =
         let o = compound_first ts limit y in
-        run_free (or_false (is_word ts i word.Case) (is_word ts i word.Default) (differs o word.Case refl) (differs o word.Default refl)) (run_free (no_statement_start c i o) (run_look (run_set
+        run_free (or_from (is_word ts i word.Case) (is_word ts i word.Default) (differs o word.Case refl) (differs o word.Default refl)) (run_free (no_statement_start c i o) (run_look (run_set
         (run_call (b.read task.compound y (omega arith) (in_switch l) (switch_fits l k j t y ft)) (run_look (run_set (run_look (run_set (run_here run_give)))))))))
 
     switch_reads : {h : Context} {c e : Scopes} {d i j : ℕ} {t : Trees} (s : Spells ts limit (rest (symbol.Begins ∷ token word.Switch ∷ opening word.LeftParen ∷ inner part.Expression ∷ reopening word.RightParen ∷ symbol.Begins ∷ inner part.Compound ∷

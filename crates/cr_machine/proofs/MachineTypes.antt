@@ -23,7 +23,7 @@ use Rattle.cr_machine.specs.Machine as m
 use Rattle.cr_machine.specs.MachineBody.{body, member_end, other_element, specifier_words, plain_words, storage_words, row_kind, is_plain_start, is_specifier_start, is_abstract_start, element_start, in_row}
 use Rattle.cr_machine.proofs.MachineMeans.{element_part, has_some}
 use Rattle.cr_machine.proofs.MachineSpells.{and_none, and_and, pushed, is_one, forth, brought_is}
-use Rattle.cr_machine.proofs.MachineFirst.{none_true, or_false, and_false, later_row, yes, differs, sorted, free_by, lower, fails, all_differ, Row, row_here, row_next, takes, skips, tail}
+use Rattle.cr_machine.proofs.MachineFirst.{none_true, and_false, later_row, yes, differs, sorted, free_by, lower, fails, all_differ, Row, row_here, row_next, takes, skips, tail}
 use Rattle.cr_machine.proofs.MachineSound.{part_some, two_in_row}
 use Rattle.cr_machine.proofs.MachineSpells as facts
 use Rattle.cr_machine.proofs.MachineTasks.{measure, Closes, by_paren, by_comma, by_semicolon, by_closing, past_row, Goes, Answers, Completes, Smaller}
@@ -31,6 +31,7 @@ use Rattle.cr_machine.proofs.MachineTasks as task
 use Rattle.cr_machine.proofs.MachineBegins.{type_test, never_element, no_left_brace, no_right_brace, element_first, element_yes, member_first, past_one, row_typed, NamedFirst, by_star, by_name, named_first, UnnamedFirst, at_star, at_paren, at_bracket, unnamed_first}
 use Rattle.cr_machine.proofs.MachineBegins as begin
 use Rattle.cr_machine.proofs.MachineExpressions.{closing_run}
+use Rattle.std.proofs.lemmas.Bool.{or_from}
 
 -- Tokens behind a row of specifiers.
 
@@ -39,8 +40,8 @@ no_type ts c i typed q = and_false (is_word ts i word.Identifier) (is_type c (sp
 
 ends_row : {w : Word} (p : Part) (ts : List Lexeme) (c : Scopes) (i : ℕ) (typed : Bool) → Is ts i w → is_specifier_start w ≡ false → is_plain_start w ≡ false → same_word w word.Identifier ≡ false →
     m.passes ts c i (element_start p typed) ≡ false
-ends_row part.Specifiers ts c i typed q x y z = or_false (m.has_word ts i is_specifier_start) (m.passes ts c i (m.type_identifier typed)) (sorted is_specifier_start false q x) (no_type ts c i typed (differs q word.Identifier z))
-ends_row _ ts c i typed q x y z = or_false (m.has_word ts i is_plain_start) (m.passes ts c i (m.type_identifier typed)) (sorted is_plain_start false q y) (no_type ts c i typed (differs q word.Identifier z))
+ends_row part.Specifiers ts c i typed q x y z = or_from (m.has_word ts i is_specifier_start) (m.passes ts c i (m.type_identifier typed)) (sorted is_specifier_start false q x) (no_type ts c i typed (differs q word.Identifier z))
+ends_row _ ts c i typed q x y z = or_from (m.has_word ts i is_plain_start) (m.passes ts c i (m.type_identifier typed)) (sorted is_plain_start false q y) (no_type ts c i typed (differs q word.Identifier z))
 
 pub closes_row : (p : Part) (ts : List Lexeme) (c : Scopes) (i : ℕ) (typed : Bool) → Closes ts i → m.passes ts c i (element_start p typed) ≡ false
 closes_row p ts c i typed (by_paren q) = ends_row p ts c i typed q refl refl refl
@@ -79,8 +80,8 @@ name_no_type ts c i typed g = by (is_word ts i word.Identifier) (is_type c (spel
 pub named_row : (p : Part) (ts : List Lexeme) (c : Scopes) (i : ℕ) (typed : Bool) → NamedFirst ts c i typed → m.passes ts c i (element_start p typed) ≡ false
 named_row p ts c i typed (by_star q) = ends_row p ts c i typed q refl refl refl
 named_row p ts c i typed (begin.by_paren q) = ends_row p ts c i typed q refl refl refl
-named_row part.Specifiers ts c i typed (by_name q g) = or_false (m.has_word ts i is_specifier_start) (m.passes ts c i (m.type_identifier typed)) (sorted is_specifier_start false q refl) (name_no_type ts c i typed g)
-named_row _ ts c i typed (by_name q g) = or_false (m.has_word ts i is_plain_start) (m.passes ts c i (m.type_identifier typed)) (sorted is_plain_start false q refl) (name_no_type ts c i typed g)
+named_row part.Specifiers ts c i typed (by_name q g) = or_from (m.has_word ts i is_specifier_start) (m.passes ts c i (m.type_identifier typed)) (sorted is_specifier_start false q refl) (name_no_type ts c i typed g)
+named_row _ ts c i typed (by_name q g) = or_from (m.has_word ts i is_plain_start) (m.passes ts c i (m.type_identifier typed)) (sorted is_plain_start false q refl) (name_no_type ts c i typed g)
 
 pub named_apart : {ts : List Lexeme} {c : Scopes} {i : ℕ} {typed : Bool} → NamedFirst ts c i typed → is_word ts i word.LeftBrace ≡ false
 named_apart (by_star q) = differs q word.LeftBrace refl

@@ -1,6 +1,6 @@
 -- What the machine refuses in a unit can go on before the refused token: what the programs of declarations, statements and
 -- units owe. A least declaration is `int ;`, and a least statement is `;`.
-use Rattle.std.proofs.Common.{◌≡◌, ℕ, ◌+◌, ◌-◌, ◌<◌, ◌≤◌, Bool, true, false, not, ◌||◌, List, [], ◌∷◌, length, refl, sym, ap, subst, ◌∙◌, arith}
+use Rattle.std.proofs.Common.{◌≡◌, ℕ, ◌+◌, ◌-◌, ◌<◌, ◌≤◌, Bool, true, false, ◌||◌, List, [], ◌∷◌, length, refl, sym, ap, subst, ◌∙◌, arith}
 use Rattle.std.specs.Prelude.{◌==◌, ◌&&◌, if◌then◌else◌}
 use Rattle.cr_syntax.specs.declared.word.Word.{Word}
 use Rattle.cr_syntax.specs.declared.word.Word.TheVariants as word
@@ -35,10 +35,11 @@ use Rattle.cr_machine.proofs.MachineBegins.{owned}
 use Rattle.cr_machine.proofs.MachineExtend.{Front, Stand, weaken}
 use Rattle.cr_machine.proofs.MachineScopes.{scopes_kept}
 use Rattle.cr_machine.proofs.MachineEnds.{Way}
-use Rattle.cr_machine.proofs.MachineShown.{next_so, next_designator, next_label, next_block, next_body, next_definition, shown_label, shown_block, shown_body, shown_definition, shown_in_so, seen, every, started, started_here, started_so, started_right, in_list, in_declarator, Room, Labelled, moved, left_in, right_in, within, wherever, left, right, first, second, operand_begins, same_number, true_or}
+use Rattle.cr_machine.proofs.MachineShown.{next_so, next_designator, next_label, next_block, next_body, next_definition, shown_label, shown_block, shown_body, shown_definition, shown_in_so, seen, every, started, started_here, started_so, started_right, in_list, in_declarator, Room, Labelled, moved, left_in, right_in, within, wherever, left, right, first, second, operand_begins, same_number}
 use Rattle.cr_machine.proofs.MachineShown as show
 use Rattle.cr_machine.proofs.MachineGrows.{GrownIn, GrownBy, Via, Stated, IsDeclarationBegin, OneDeclared, U, placed, blocked, grown, puts, more0, mores, number_conditional, number_assignment, number_expression, some_expression, one_declarator}
 use Rattle.cr_machine.proofs.MachineGrows as grows
+use Rattle.std.proofs.lemmas.Bool.{or_left, and_from, not-false}
 
 -- Places: where the parts of a node stand, by the labels that they may have.
 
@@ -109,14 +110,9 @@ label_here n q p j t x = by (n == n) (is_misplaced q p) (misplaced_at n (place_i
     by false d y z q r = cc
     by true false y z q r = cc
 
-both_true : (b d : Bool) → b ≡ true → d ≡ true → b && d ≡ true
-both_true true true x y = refl
-both_true false d x y = cc
-both_true true false x y = cc
-
 -- A switch's body begins at token k.
 pub body_begins : {t : Trees} {q : Kind} {i j k n : ℕ} {b : Trees} → t ≡ one q i j b → n ≡ k → (s e m : ℕ) (z : Kind) (v u : Trees) → switch_body_at s k kind.Switch s e (t & node z n m v u) ≡ true
-body_begins {t = t} {k = k} {n = n} y e s l m z v u = both_true (s == s) (one_begins_at k (after_first (t & node z n m v u))) (same_number s s refl) (operand_begins y e z m l v u)
+body_begins {t = t} {k = k} {n = n} y e s l m z v u = and_from (s == s) (one_begins_at k (after_first (t & node z n m v u))) (same_number s s refl) (operand_begins y e z m l v u)
 
 -- A declarator's own parameters.
 
@@ -183,9 +179,9 @@ definition_ends : {t y : Trees} {q q' : Kind} {i i' j j' : ℕ} {b b' : Trees} �
 definition_ends {y = y} {q = q} {q' = q'} {i = i} {i' = i'} {j = j} {j' = j'} {b = b} {b' = b'} x x' n m s e l z v u r =
     subst (λ t. variadic_definition n m kind.FunctionDefinition s e (t & y & node z m l v u) ≡ true) (sym x)
     (subst (λ y. variadic_definition n m kind.FunctionDefinition s e (one q i j b & y & node z m l v u) ≡ true) (sym x')
-    (both_true (ellipsis_at n (own_parameters (node q' i' j' b' (node z m l v u)))) (one_begins_at m (node z m l v u))
+    (and_from (ellipsis_at n (own_parameters (node q' i' j' b' (node z m l v u)))) (one_begins_at m (node z m l v u))
     (ap (λ y. ellipsis_at n y) (own_alone q' i' j' b' (node z m l v u)) ∙ subst (λ y. ellipsis_at n (own_parameters y) ≡ true) x' r)
-    (true_or (m == m) (one_begins_at m u) (same_number m m refl))))
+    (or_left (m == m) (one_begins_at m u) (same_number m m refl))))
 
 -- the words of labels
 label_is : {A : Type 0} (us : List Lexeme) (i : ℕ) (w : Word) → is_label w ≡ true → Is us i w → (Is us i word.Case → A) → (Is us i word.Default → A) → A
@@ -193,14 +189,10 @@ label_is us i word.Case q r f g = f r
 label_is us i word.Default q r f g = g r
 label_is us i _ q r f g = cc
 
-not_variadic : (b : Bool) → not b ≡ false → b ≡ true
-not_variadic true q = refl
-not_variadic false q = cc
-
 defines_variadic : (l : Labels) (y : Trees) → may_define l y ≡ false → ends_variadic (own_parameters y) ≡ true
 defines_variadic anywhere y q = cc
-defines_variadic own_block y q = not_variadic (ends_variadic (own_parameters y)) q
-defines_variadic nowhere y q = not_variadic (ends_variadic (own_parameters y)) q
+defines_variadic own_block y q = not-false (ends_variadic (own_parameters y)) q
+defines_variadic nowhere y q = not-false (ends_variadic (own_parameters y)) q
 
 -- What a clause of a `for` is followed by.
 
@@ -442,7 +434,7 @@ module _ (us : List Lexeme) (top : Limit) (way : Way) (late : (g : Manner) (i d 
       spells.of_alternative grammar.initializer_list refl (spells.opens q.0 (z.fits opens d (omega arith))
           (spells.list_last (spells.of_chain grammar.initializer_expression refl (number_assignment us top way late all c (d + 1) (i + 1) q.1.0 (late plain (i + 1) (d + 1) (omega arith)) _))
           (spells.comma_none q.1.1.0 (late plain (i + 1 + 1) (d + 1) (omega arith)) spells.done))),
-      started_so z.so (started_here (true_or (i == length us) false (same_number i (length us) z.here))),
+      started_so z.so (started_here (or_left (i == length us) false (same_number i (length us) z.here))),
     )),
     (
       λ z. some_initializers c d i (i + 1) none (z (d + 1)),

@@ -22,8 +22,9 @@ use Rattle.cr_machine.proofs.MachineEnds.{Way, stopped, barring, crowded, defini
 use Rattle.cr_machine.proofs.MachineShown.{Next, next_definition, ShownIn, seen, shown_literal, shown_call, shown_field, shown_designator, shown_label, shown_block, shown_body, shown_definition, shown_empty, shown_switch, every, by_stop, by_level}
 use Rattle.cr_machine.proofs.MachineGrows.{GrownIn}
 use Rattle.cr_machine.proofs.MachineViable.{prefix, prefix_length, upto_behind, upto_fits, leaving_fits, leaving_before, tested, stands_next, is_labels, no_labels, bars_other, bars_label, at_label, grows, further, further_last, further_length, further_grows, alike, alike_with, upto_late, leaving_late, behind_late, barred_inside}
-use Rattle.cr_machine.proofs.MachineFirst.{some_word_of, one_of_two}
+use Rattle.cr_machine.proofs.MachineFirst.{some_word_of}
 use Rattle.cr_machine.proofs.MachineRuns.{word_in}
+use Rattle.std.proofs.lemmas.Bool.{or_cases}
 
 pub unit_of : {us : List Lexeme} {top : Limit} {way : Way} → (g : GrownIn us top way every (rest unit_side) fresh file_scope 0 0) → IsUnit top g.all g.built.0
 unit_of {top = top} g = record { after = g.built.1; spells = subst (λ j. Spells g.all top (rest unit_side) fresh file_scope g.built.1 0 g.built.0 0 j) g.size g.built.2 }
@@ -56,7 +57,7 @@ is_dot ts k word.LeftBracket q r = inr r
 is_dot ts k _ q r = cc
 
 is_switch_label : (ts : List Lexeme) (k : ℕ) (e : Scopes) → passes ts e k label_start ≡ true → Is ts k word.Case ⊎ Is ts k word.Default
-is_switch_label ts k e q = elim (one_of_two _ _ q) [ inl x ↦ inl (is_of ts k word.Case x) | inr x ↦ inr (is_of ts k word.Default x) ]
+is_switch_label ts k e q = elim (or_cases _ _ q) [ inl x ↦ inl (is_of ts k word.Case x) | inr x ↦ inr (is_of ts k word.Default x) ]
 
 -- no word but those begins a statement
 pub no_start : (ts : List Lexeme) (k : ℕ) (e : Scopes) (w : Word) → is_statement_start w ≡ false → same_word w word.Identifier ≡ false → passes ts e k statement_start ≡ true → Is ts k w → ⊥

@@ -1,7 +1,7 @@
 -- Another statement than a block as a switch's body could be that of a `while` in the switch's place.
 use Rattle.std.proofs.Common.{◌≡◌, ℕ, ◌+◌, ◌<◌, ◌≤◌, Bool, true, false, not, List, [], ◌∷◌, length, Some, inl, inr, ◌⊎◌, refl, sym, ap, subst, ◌∙◌, arith}
 use Rattle.std.specs.Prelude.{slice_get, set}
-use Rattle.std.proofs.lemmas.Bool.{cases_lt}
+use Rattle.std.proofs.lemmas.Bool.{cases_lt, or_cases}
 use Rattle.std.proofs.lemmas.Bool.Decides.{eqb_tells}
 use Rattle.std.proofs.lemmas.List.{length-set}
 use Rattle.cr_syntax.specs.declared.word.Word.{Word}
@@ -31,7 +31,7 @@ use Rattle.cr_machine.proofs.MachineSound.{each}
 use Rattle.cr_machine.proofs.MachineSpells.{is_one}
 use Rattle.cr_machine.proofs.MachineComplete.{allows_upto, get_some}
 use Rattle.cr_machine.proofs.MachineExtend.{weaken}
-use Rattle.cr_machine.proofs.MachineFirst.{none_true, some_word_of, one_of_two}
+use Rattle.cr_machine.proofs.MachineFirst.{none_true, some_word_of}
 use Rattle.cr_machine.proofs.MachineOwn.{Alike, same_tokens, lets_itself, ready, carried, set_there, set_other}
 use Rattle.cr_machine.proofs.MachineEnds.{Way, stopped, barring, Ends}
 use Rattle.cr_machine.proofs.MachineShown.{Next, next_stopped, next_crowded, next_designator, next_literal, next_call, next_field, next_label, next_block, next_body, next_definition, next_empty, next_switch, shown_stopped, shown_crowded, shown_literal, shown_call, shown_field, ShownIn, seen, shown_designator, shown_label, shown_block, shown_body, shown_definition, shown_empty, shown_switch, empty_next, switch_at, every, Room, by_stop}
@@ -346,7 +346,7 @@ module _ (ts : List Lexeme) (k : ℕ) (lt : k < length ts) (le : k ≤ length ts
   begins_start w x q = elim (semicolon_or w) [ inl e ↦ begins_empty (subst (λ w. Is ts k w) e q) | inr f ↦ begins_word w x f q ]
 
   while_begins : Begins (Upto k most_levels) (with_word ts n word.While) (k + 1)
-  while_begins = elim (one_of_two _ _ o.starts) [
+  while_begins = elim (or_cases _ _ o.starts) [
     | inl y ↦ (let w = some_word_of ts k is_statement_start y in begins_start w.0 w.2 w.1)
     | inr y ↦ (let v = both (is_word ts k word.Identifier) (not (is_type o.after (spelling_at ts k))) y in begins_name (is_of ts k word.Identifier v.0, not_true _ v.1))
   ]

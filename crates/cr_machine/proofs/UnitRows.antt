@@ -1,7 +1,7 @@
 -- No two rows of the refused forms name one token of a unit.
 use Rattle.std.proofs.Common.{◌≡◌, ℕ, zero, suc, ◌+◌, ◌<◌, Bool, true, false, ◌||◌, ◌&&◌, ◌==◌, List, [], ◌∷◌, length, refl, sym, ap, subst, ◌∙◌, arith, ◌⊎◌, inl, inr}
 use Rattle.std.specs.Prelude.{if◌then◌else◌}
-use Rattle.std.proofs.lemmas.Bool.{both_ways, eqb-true}
+use Rattle.std.proofs.lemmas.Bool.{both_ways, eqb-true, or_cases}
 use Rattle.cr_syntax.specs.declared.word.Word.{Word}
 use Rattle.cr_syntax.specs.declared.word.Word.TheVariants as word
 use Rattle.cr_syntax.specs.declared.node.Kind.{Kind}
@@ -20,7 +20,7 @@ use Rattle.cr_syntax.specs.Spells.{Limit, AtMost, Upto, Is, Spells, a, rest}
 use Rattle.cr_syntax.specs.Spells as spells
 use Rattle.cr_syntax.specs.Units.{most_levels, IsUnit, IsTreeOf, Completes, Begins, Has, has_here, has_inside, has_after, one_begins_at, after_first, postfix_before, switch_body_at, Place, elsewhere, place_in, is_misplaced, misplaced_at, own_parameters, ellipsis_at, variadic_definition, is_unused, with_word, Shows, Outside, unused_keyword, designator, compound_literal, called_expression, bit_field, deep_label, label_as_body, switch_body, variadic_function}
 use Rattle.cr_syntax.proofs.Tests.{both, some_one}
-use Rattle.cr_machine.proofs.MachineFirst.{none_true, First, by_word, by_name, starts, first_expression, one_of_two}
+use Rattle.cr_machine.proofs.MachineFirst.{none_true, First, by_word, by_name, starts, first_expression}
 use Rattle.cr_machine.proofs.MachineForms.{within}
 use Rattle.cr_machine.proofs.MachineOne.{one_word}
 use Rattle.cr_machine.proofs.MachineRuns.{word_same, word_in}
@@ -50,9 +50,9 @@ label_here k _ at i j b y e = none_true y
 
 labels : (k : ℕ) (at : Place) (t : Trees) → misplaced_at k at t ≡ true → Has (label_at k) t
 labels k at none y = none_true y
-labels k at (node l i j b n) y = elim (one_of_two (((i == k) && is_misplaced l at) || misplaced_at k (place_in l at) b) (misplaced_at k at n) y) [
+labels k at (node l i j b n) y = elim (or_cases (((i == k) && is_misplaced l at) || misplaced_at k (place_in l at) b) (misplaced_at k at n) y) [
   | inl x ↦
-      elim (one_of_two ((i == k) && is_misplaced l at) (misplaced_at k (place_in l at) b) x) [
+      elim (or_cases ((i == k) && is_misplaced l at) (misplaced_at k (place_in l at) b) x) [
         | inl z ↦ (let o = both (i == k) (is_misplaced l at) z in has_here (label_here k l at i j b o.1 o.0))
         | inr z ↦ has_inside (labels k (place_in l at) b z)
       ]
@@ -78,7 +78,7 @@ record IsSwitch (ts : List Lexeme) (s k : ℕ) : Type 0 where
 second_begins : (k : ℕ) {l l' : Kind} {s e i j : ℕ} {b b' t u : Trees} → t ≡ one l s e b → u ≡ one l' i j b' → one_begins_at k (after_first (t & u & none)) ≡ true → i ≡ k
 second_begins k {l = l} {s = s} {e = e} {i = i} {b = b} {u = u} q q' y =
     let y' = subst (λ u. one_begins_at k (after_first (one l s e b & u & none)) ≡ true) q' (subst (λ t. one_begins_at k (after_first (t & u & none)) ≡ true) q y) in
-    elim (one_of_two (i == k) false y') [ inl x ↦ eqb-true i k x | inr x ↦ none_true x ]
+    elim (or_cases (i == k) false y') [ inl x ↦ eqb-true i k x | inr x ↦ none_true x ]
 
 switch_of : {ts : List Lexeme} {limit : Limit} (s k : ℕ) {h : Context} {c e : Scopes} {d i j : ℕ} {b : Trees} → Spells ts limit (rest (symbol.Begins ∷ token word.Switch ∷ switch_tail)) h c e d b i j →
     (i == s) && one_begins_at k (after_first b) ≡ true → IsSwitch ts s k

@@ -1,6 +1,7 @@
 -- Taking apart the checker's tests, and what its small functions say of a row.
-use Rattle.std.proofs.Common.{◌≡◌, ℕ, Bool, true, false, not, ◌&&◌, List, Option, None, Some, refl, sym, ap}
+use Rattle.std.proofs.Common.{◌≡◌, ℕ, Bool, true, false, List, Option, None, Some, refl, sym, ap}
 use Rattle.std.specs.Prelude.{if◌then◌else◌}
+pub use Rattle.std.proofs.lemmas.Bool.{and_parts as both, not-true as not_true}
 use denote.Enum.Bare.{same_true}
 use Rattle.cr_syntax.specs.contracts.word.Word as word_type
 use Rattle.cr_syntax.specs.declared.word.Word.{Word}
@@ -13,20 +14,12 @@ pub if_some : {A : Type 0} {e : A} (b : Bool) (o : Option A) → (if b then o el
 if_some true o q = (refl, q)
 if_some false o q = cc
 
-pub both : (b d : Bool) → b && d ≡ true → (b ≡ true) × (d ≡ true)
-both true d q = (refl, q)
-both false d q = cc
-
 pub some_one : {A : Type 0} {c e : A} → Some c ≡ Some e → c ≡ e
 some_one q = cc
 
 pub some_of : {A B : Type 0} {r : B} (o : Option A) (f : A → Option B) → elim o as (λ _. Option B) [ None ↦ None | Some x ↦ f x ] ≡ Some r → (x : A) × (o ≡ Some x) × (f x ≡ Some r)
 some_of None f q = cc
 some_of (Some x) f q = (x, refl, q)
-
-pub not_true : (b : Bool) → not b ≡ true → b ≡ false
-not_true true q = cc
-not_true false q = refl
 
 pub is_of : (ts : List Lexeme) (i : ℕ) (w : Word) → is_word ts i w ≡ true → Is ts i w
 is_of ts i w = at (word_at ts i)
