@@ -6,6 +6,8 @@ pub mod Ranks
 pub mod Grades
 pub mod Complete
 pub mod Arena
+pub mod Names
+pub mod Latest
 pub mod Statements
 pub mod Readings
 pub mod Checked
