@@ -7,9 +7,9 @@ use Rattle.cr_syntax.specs.Words.{Lexeme}
 use Rattle.cr_syntax.specs.Scopes.{Scopes}
 use Rattle.cr_syntax.specs.Kept.{AreBelow, row_in}
 use Rattle.cr_syntax.specs.Trees.{Trees, none, ◌&◌}
-use Rattle.cr_syntax.specs.Machine as m
-use Rattle.cr_syntax.specs.Machine.{Goal, Prog, Test, Manner, Reply, call, give, take, run_look, run_set, run_take, run_deep, run_pass, run_seen, run_unseen, run_call, run_fail}
-use Rattle.cr_syntax.specs.MachineBody.{body, unlabelled, declared_on, for_body}
+use Rattle.cr_machine.specs.Machine as m
+use Rattle.cr_machine.specs.Machine.{Goal, Prog, Test, Manner, Reply, call, give, take, run_look, run_set, run_take, run_deep, run_pass, run_seen, run_unseen, run_call, run_fail}
+use Rattle.cr_machine.specs.MachineBody.{body, unlabelled, declared_on, for_body}
 use Rattle.cr_exprs.specs.declared.fault.ParseFault.{ParseFault}
 use Rattle.cr_exprs.specs.declared.found.Found.{Found}
 use Rattle.cr_exprs.specs.Loose.{AreKept}

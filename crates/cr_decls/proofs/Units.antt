@@ -6,11 +6,11 @@ use Rattle.cr_syntax.specs.Scopes.{Scopes}
 use Rattle.cr_syntax.specs.Trees.{Trees}
 use Rattle.cr_syntax.specs.Units as u
 use Rattle.cr_syntax.specs.Units.{file_scope}
-use Rattle.cr_syntax.specs.Machine.{Prog, Reply, Done, Failed, nowhere, unit}
-use Rattle.cr_syntax.specs.MachineBody.{body}
-use Rattle.cr_syntax.proofs.MachineUnit.{is_parsed}
-use Rattle.cr_syntax.proofs.MachineUnits.{unit_is_unit}
-use Rattle.cr_syntax.proofs.MachineUnitComplete.{one_unit}
+use Rattle.cr_machine.specs.Machine.{Prog, Reply, Done, Failed, nowhere, unit}
+use Rattle.cr_machine.specs.MachineBody.{body}
+use Rattle.cr_machine.proofs.MachineUnit.{is_parsed}
+use Rattle.cr_machine.proofs.MachineUnits.{unit_is_unit}
+use Rattle.cr_machine.proofs.MachineUnitComplete.{one_unit}
 use Rattle.cr_exprs.specs.declared.fault.ParseFault.{ParseFault}
 use Rattle.cr_exprs.specs.declared.fault.ParseFault.TheVariants.{NoMemory, Unexpected, Ended, TooDeep, OutsideSubset}
 use Rattle.cr_exprs.specs.Loose.{AreKept, Replaces}

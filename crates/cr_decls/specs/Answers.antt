@@ -5,7 +5,7 @@ use Rattle.cr_syntax.specs.Scopes.{Scopes}
 use Rattle.cr_syntax.specs.Trees.{Trees}
 use Rattle.cr_syntax.specs.Units as u
 use Rattle.cr_syntax.specs.Units.{Refusal}
-use Rattle.cr_syntax.specs.Machine.{Prog, Failed, Cause, refusal_of}
+use Rattle.cr_machine.specs.Machine.{Prog, Failed, Cause, refusal_of}
 use Rattle.cr_exprs.specs.declared.fault.ParseFault.{ParseFault}
 use Rattle.cr_exprs.specs.declared.fault.ParseFault.TheVariants.{NoMemory, Unexpected, Ended, TooDeep, OutsideSubset}
 use Rattle.cr_exprs.specs.Answers.{RunsTo, Gives}

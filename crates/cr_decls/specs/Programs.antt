@@ -4,9 +4,9 @@ use Rattle.cr_syntax.specs.declared.word.Word.TheVariants as word
 use Rattle.cr_syntax.specs.declared.node.Kind.TheVariants as kind
 use Rattle.cr_syntax.specs.declared.node.Node.{Node}
 use Rattle.cr_syntax.specs.Trees.{Trees, none, ◌&◌}
-use Rattle.cr_syntax.specs.Machine as m
-use Rattle.cr_syntax.specs.Machine.{Prog, plain, opens, reopens, the, give, take, peek, call, expect, made, begins, expression, conditional, declaration, statement, return_rest, clause}
-use Rattle.cr_syntax.specs.MachineBody.{declaration_start}
+use Rattle.cr_machine.specs.Machine as m
+use Rattle.cr_machine.specs.Machine.{Prog, plain, opens, reopens, the, give, take, peek, call, expect, made, begins, expression, conditional, declaration, statement, return_rest, clause}
+use Rattle.cr_machine.specs.MachineBody.{declaration_start}
 use Rattle.cr_exprs.specs.Answers.{tree}
 use Rattle.cr_decls.specs.declared.labels.Labels.{Labels}
 use Rattle.cr_decls.specs.declared.labels.Labels.TheVariants.{OwnBlock, Nowhere}

@@ -1,5 +1,5 @@
 ghost use Rattle.std.specs.Prelude.{◌≡◌};
-ghost use Rattle.cr_syntax.specs.MachineBody.{may_label};
+ghost use Rattle.cr_machine.specs.MachineBody.{may_label};
 ghost use Rattle.cr_decls.specs.Programs.{labels_of};
 
 /// Where `case` and `default` may label a statement.

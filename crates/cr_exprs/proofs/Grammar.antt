@@ -6,12 +6,12 @@ use Rattle.cr_syntax.specs.declared.word.Word.{Word}
 use Rattle.cr_syntax.specs.declared.word.Word.TheVariants as word
 use Rattle.cr_syntax.specs.Words.{Lexeme, word_at, lexemes_of}
 use Rattle.cr_syntax.specs.Units.{is_unused}
-use Rattle.cr_syntax.specs.Machine as m
-use Rattle.cr_syntax.specs.Machine.{Failed, ended, outside, whole, barred, is_bracket, overflows, has_word}
-use Rattle.cr_syntax.specs.MachineBody.{body}
-use Rattle.cr_syntax.specs.MachineLaws.{IsStart, start_expression, start_assignment, start_conditional}
+use Rattle.cr_machine.specs.Machine as m
+use Rattle.cr_machine.specs.Machine.{Failed, ended, outside, whole, barred, is_bracket, overflows, has_word}
+use Rattle.cr_machine.specs.MachineBody.{body}
+use Rattle.cr_machine.specs.MachineLaws.{IsStart, start_expression, start_assignment, start_conditional}
 use Rattle.cr_syntax.specs.Expressions.{Start}
-use Rattle.cr_syntax.proofs.MachineReading.{is_reading}
+use Rattle.cr_machine.proofs.MachineReading.{is_reading}
 use Rattle.cr_exprs.specs.declared.fault.ParseFault.{ParseFault}
 use Rattle.cr_exprs.specs.declared.fault.ParseFault.TheVariants.{NoMemory, Unexpected, Ended, TooDeep, OutsideSubset}
 use Rattle.cr_exprs.specs.declared.goal.Goal.{Goal}

@@ -7,8 +7,8 @@ use Rattle.cr_syntax.specs.Trees.{Trees, none, trees_of}
 use Rattle.cr_syntax.specs.Kept.{PartsAreBelow, AreBelow}
 use Rattle.cr_syntax.specs.Spells.{AtMost}
 use Rattle.cr_syntax.specs.Units.{most_levels}
-use Rattle.cr_syntax.specs.Machine.{Prog, Reply, Done, Failed, Cause, unexpected, ended, too_deep, outside, Runs}
-use Rattle.cr_syntax.specs.MachineBody.{body}
+use Rattle.cr_machine.specs.Machine.{Prog, Reply, Done, Failed, Cause, unexpected, ended, too_deep, outside, Runs}
+use Rattle.cr_machine.specs.MachineBody.{body}
 use Rattle.cr_exprs.specs.Loose.{Replaces}
 use Rattle.cr_exprs.specs.declared.fault.ParseFault.{ParseFault}
 use Rattle.cr_exprs.specs.declared.fault.ParseFault.TheVariants.{NoMemory, Unexpected, Ended, TooDeep, OutsideSubset}

@@ -5,7 +5,7 @@ use Rattle.cr_syntax.specs.contracts.symbol.Part as part_type
 use Rattle.cr_syntax.specs.declared.symbol.Part.{Part}
 use Rattle.cr_syntax.specs.declared.symbol.Part.TheVariants as part
 use Rattle.cr_syntax.specs.declared.chains.Link.TheVariants.{Makes, Chains, Enters}
-use Rattle.cr_syntax.specs.Grammar.{Side, Alternative, Chain}
+use Rattle.cr_syntax.specs.Grammar.{Chain}
 use Rattle.cr_syntax.specs.Grammar as grammar
 use Rattle.cr_syntax.specs.Chains.{link_of, step_past}
 use Rattle.cr_syntax.specs.Reads.{most_links}

@@ -22,7 +22,7 @@ use Rattle.cr_syntax.specs.Grammar.{Side, Alternative, Chain}
 use Rattle.cr_syntax.specs.Grammar as grammar
 use Rattle.cr_syntax.specs.Tables.{side_of, part_of}
 use Rattle.cr_syntax.specs.Chains.{step_of, link_of, step_past, same_part}
-use Rattle.cr_syntax.specs.Spells.{Limit, AtMost, Spells, a, rest, levels, Is, AreConst, const_none, const_more}
+use Rattle.cr_syntax.specs.Spells.{Limit, AtMost, Spells, a, rest, levels, AreConst, const_none, const_more}
 use Rattle.cr_syntax.specs.Spells as spells
 use Rattle.cr_syntax.specs.Reads.{Reader, is_word, are_words, span_is, has_room, is_none, first_of, after_of, is_last, alone, begins_at, leads_declaration, entered, dropped, most_links, as_part, lead, list_on, along, reads, no_reader, next_of}
 use Rattle.cr_syntax.specs.Units.{most_levels}

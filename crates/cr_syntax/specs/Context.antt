@@ -42,12 +42,6 @@ abbrev pub is_typedef : Kind → Bool
 is_typedef kind.Typedef = true
 is_typedef _ = false
 
--- whether a node is a row of specifiers
-abbrev pub is_specifier_row : Kind → Bool
-is_specifier_row kind.Specifiers = true
-is_specifier_row kind.PlainSpecifiers = true
-is_specifier_row _ = false
-
 -- whether one of a row's nodes has such a kind
 abbrev pub any_kind : (Kind → Bool) → Trees → Bool
 any_kind test none = false

@@ -13,7 +13,4 @@ pub mod Steps
 pub mod Answers
 pub mod Laws
 pub mod Checked
-pub mod Machine
-pub mod MachineBody
 pub mod Expressions
-pub mod MachineLaws

@@ -2,11 +2,10 @@
 //!
 //! It has the types of the tree, what every unit keeps of its nodes, the word that a token is to the grammar, and the
 //! grammar itself: one constructor an alternative in `specs/Grammar.antt`, what its symbols mean in `specs/Spells.antt`,
-//! and units, viable prefixes and the first refusal in `specs/Units.antt`. It promises that the table of right sides in
-//! `rules` is that grammar, that reading a tree by recursion takes exactly the grammar's units, and that `spells_unit`,
-//! the plain checker of a unit, answers true exactly where the unit's tree spells its tokens. The parser of expressions
-//! stands in `specs/Machine.antt` as a machine, and reads exactly the grammar. It stands on the tokens, the integer types
-//! and the rows.
+//! units, viable prefixes and the first refusal in `specs/Units.antt`, and the same of an expression in the middle of a
+//! text in `specs/Expressions.antt`. It promises that the table of right sides in `rules` is that grammar, that reading a
+//! tree by recursion takes exactly the grammar's units, and that `spells_unit`, the plain checker of a unit, answers true
+//! exactly where the unit's tree spells its tokens. It stands on the tokens, the integer types and the rows.
 #![tactic(auto)]
 
 mod ahead;
@@ -15,7 +14,6 @@ mod built;
 mod chains;
 mod checker;
 mod laws;
-mod machine;
 mod node;
 mod operators;
 mod place;
@@ -37,9 +35,6 @@ mod word;
 pub use checker::{NoMemory, spells_unit};
 pub use laws::{
     latest_declaration_decides, reading_is_spelling, table_is_grammar, tokens_are_spans,
-};
-pub use machine::{
-    machine_is_grammar, machine_is_units, one_first_refusal, one_reading, one_tree, one_unit,
 };
 pub use node::{Kind, Node};
 pub use place::MOST_LEVELS;

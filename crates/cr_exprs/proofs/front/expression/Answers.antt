@@ -1,8 +1,8 @@
 use Rattle.std.proofs.Common.{arith, subst}
 use Rattle.cr_syntax.specs.Words.{lexemes_of}
-use Rattle.cr_syntax.specs.Machine.{Done, whole}
-use Rattle.cr_syntax.specs.MachineBody.{body}
-use Rattle.cr_syntax.proofs.MachineReading.{is_reading}
+use Rattle.cr_machine.specs.Machine.{Done, whole}
+use Rattle.cr_machine.specs.MachineBody.{body}
+use Rattle.cr_machine.proofs.MachineReading.{is_reading}
 use Rattle.cr_exprs.specs.Answers.{RunsTo, Refuses, tree}
 use Rattle.cr_exprs.specs.Names.{scopes_of}
 use Rattle.cr_exprs.specs.Parts.{part_of}

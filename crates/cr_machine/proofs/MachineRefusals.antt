@@ -1,0 +1,236 @@
+-- The rows of the refused forms and the subset's machine on a unit: where it is refused no row names a token before, and one
+-- that names the refused token is the machine's; where it reads a unit, no row names a token of it.
+use Rattle.std.proofs.Common.{◌≡◌, ℕ, ◌+◌, ◌<◌, ◌≤◌, true, false, List, [], length, Option, None, Some, ◌⊎◌, inl, inr, ⊎_elim, refl, sym, ap, subst, ◌∙◌, arith}
+use Rattle.std.specs.Prelude.{slice_get, set}
+use Rattle.std.proofs.lemmas.Bool.{both_ways, cases_lt}
+use Rattle.cr_syntax.specs.declared.word.Word.{Word}
+use Rattle.cr_syntax.specs.declared.word.Word.TheVariants as word
+use Rattle.cr_syntax.specs.Words.{Lexeme, word_at}
+use Rattle.cr_syntax.specs.Scopes.{Scopes}
+use Rattle.cr_syntax.specs.Trees.{Trees}
+use Rattle.cr_syntax.specs.Context.{fresh}
+use Rattle.cr_syntax.specs.Spells.{Limit, AtMost, Upto, Is}
+use Rattle.cr_syntax.specs.Units.{file_scope, most_levels, Completes, Begins, Shows, Has, switch_body_at, with_word, variadic_definition, elsewhere, misplaced_at, Outside, unused_keyword, designator, compound_literal, called_expression, bit_field, deep_label, label_as_body, switch_body, variadic_function}
+use Rattle.cr_machine.specs.Machine.{unit, expression, anywhere, nowhere, Done, Runs, has_word, has}
+use Rattle.cr_machine.specs.MachineBody.{body, is_label}
+use Rattle.cr_machine.specs.MachineLaws.{start_expression}
+use Rattle.cr_machine.proofs.MachineRuns.{reach, same, passes_same, word_same, spelling_same}
+use Rattle.cr_machine.proofs.MachineFirst.{sorted, free_by}
+use Rattle.cr_machine.proofs.MachineEnds.{Way, barring, defining, crowded, refused_so}
+use Rattle.cr_machine.proofs.MachineWays.{Point, at, same_way}
+use Rattle.cr_machine.proofs.MachineForms.{within, allows_before, IsBarring, by_row}
+use Rattle.cr_machine.proofs.MachineLoose.{IsOwn, own_label, own_definition, Departs, label_is}
+use Rattle.cr_machine.proofs.MachineReading.{ends_inside}
+use Rattle.cr_machine.proofs.MachineUnitForms.{ReadsUnits, same_token, IsBarred, UnitEnds, designator_is_barred, literal_is_barred, call_is_barred, field_is_barred, body_label_is_barred, by_that_row, by_its_own, bars_too, bars_none}
+use Rattle.cr_machine.proofs.MachineTraces.{run_there, end_there}
+use Rattle.cr_machine.proofs.MachineApart.{Apart, moved, set_there, set_other}
+use Rattle.cr_machine.proofs.MachineBodies.{sought}
+use Rattle.cr_machine.proofs.MachineComplete.{get_some, spelled_is_read}
+use Rattle.cr_machine.proofs.MachineSound.{runs_sound}
+use Rattle.cr_machine.proofs.MachineLabels.{labels_caught}
+use Rattle.cr_machine.proofs.MachineDefinitions.{Fits, before, at_brace, definitions_caught}
+use Rattle.cr_machine.proofs.MachineDefinitions as definitions
+
+-- A refusal in a way of its own, on another text with the same tokens.
+
+not_crowded : {ts : List Lexeme} {n : ℕ} {w : Way} → IsOwn ts n w → w ≡ crowded → ⊥
+not_crowded (own_label y) q = cc
+not_crowded own_definition q = cc
+
+own_there : (ts us : List Lexeme) {n : ℕ} {w : Way} → slice_get us n ≡ slice_get ts n → IsOwn us n w → IsOwn ts n w
+own_there ts us {n = n} q (own_label y) = own_label (sym (passes_same ts us n q [] (has is_label)) ∙ y)
+own_there ts us q own_definition = own_definition
+
+-- the subset's machine is refused in a way of its own at a token, as said
+pub record Caught (ts : List Lexeme) (fits : Way → ℕ → Type 0) : Type 0 where
+  pub way : Way
+  pub at : ℕ
+  pub own : IsOwn ts at way
+  pub ends : UnitEnds ts nowhere way at
+  pub fits_so : fits way at
+
+pub label_is_caught : ReadsUnits → {ts : List Lexeme} {k : ℕ} {t : Trees} → k < length ts → Completes (Upto k most_levels) ts (k + 1) t → misplaced_at k elsewhere t ≡ true → Caught ts (λ w n. n ≤ k)
+label_is_caught complete {ts = ts} {k = k} {t = t} lt b q = ⊎_elim (λ x. absurd (both_ways (misplaced_at k elsewhere t) x q)) (λ x. caught x)
+    (labels_caught k b.text (Upto k most_levels) (complete b.text (Upto k most_levels) t b.is_unit.after b.is_unit.spells))
+  where
+    alike : (n : ℕ) → n ≤ k → slice_get b.text n ≡ slice_get ts n
+    alike n le = same_token b n (omega arith) (omega arith)
+
+    caught : Departs b.text (Upto k most_levels) (body (unit nowhere 0)) file_scope 0 k → Caught ts (λ w n. n ≤ k)
+    caught x = record {
+      way = x.way;
+      at = x.at;
+      own = own_there ts b.text (alike x.at x.by) x.own;
+      ends = end_there body ts b.text (Upto k most_levels) (AtMost most_levels) k alike (allows_before k most_levels) x.ends (not_crowded x.own) x.by;
+      fits_so = x.by;
+    }
+
+fits_by : {k m n : ℕ} {w : Way} → k < m → Fits k m w n → n ≤ m
+fits_by lt (before lt') = omega arith
+fits_by lt at_brace = omega arith
+
+pub definition_is_caught : ReadsUnits → {ts : List Lexeme} {k m : ℕ} {t : Trees} → k < m → Is ts m word.LeftBrace → Completes (Upto m most_levels) ts (m + 1) t → Has (variadic_definition k m) t → Caught ts (Fits k m)
+definition_is_caught complete {ts = ts} {k = k} {m = m} {t = t} lt y b h = ⊎_elim (λ x. absurd (x h)) (λ x. caught x)
+    (definitions_caught b.text (Upto m most_levels) k m (complete b.text (Upto m most_levels) t b.is_unit.after b.is_unit.spells))
+  where
+    alike : (n : ℕ) → n ≤ m → slice_get b.text n ≡ slice_get ts n
+    alike n le = let le' = within ts m y in same_token b n (omega arith) (omega arith)
+
+    caught : definitions.Caught b.text (Upto m most_levels) k m (body (unit nowhere 0)) file_scope 0 → Caught ts (Fits k m)
+    caught x = record {
+      way = x.way;
+      at = x.at;
+      own = own_there ts b.text (alike x.at (fits_by lt x.fits)) x.own;
+      ends = end_there body ts b.text (Upto m most_levels) (AtMost most_levels) m alike (allows_before m most_levels) x.ends (not_crowded x.own) (fits_by lt x.fits);
+      fits_so = x.fits;
+    }
+
+-- What a row that names token k says of the machine: the bare grammar's is refused there by it; or the subset's is refused in
+-- a way of its own.
+pub data Refusing (ts : List Lexeme) (n k : ℕ) : Type 0 where
+  by_bar : IsBarred ts anywhere n k → (has_word ts k is_label ≡ true → n ≡ 6) → Refusing ts n k
+  by_label : n ≡ 6 → Caught ts (λ w j. j ≤ k) → Refusing ts n k
+  by_definition : {m : ℕ} → n ≡ 8 → Caught ts (Fits k m) → Refusing ts n k
+
+no_label : (ts : List Lexeme) (k : ℕ) {w : Word} {A : Type 0} → Is ts k w → is_label w ≡ false → has_word ts k is_label ≡ true → A
+no_label ts k q l y = absurd (both_ways (has_word ts k is_label) (sorted is_label false q l) y)
+
+neither_label : (ts : List Lexeme) (k : ℕ) {A : Type 0} → (Is ts k word.Case → ⊥) → (Is ts k word.Default → ⊥) → has_word ts k is_label ≡ true → A
+neither_label ts k f g y = absurd (⊎_elim f g (label_is (word_at ts k) y))
+
+decide_is : (n s : ℕ) → (n ≡ s) ⊎ (n ≡ s → ⊥)
+decide_is n s = ⊎_elim (λ lt. inr (λ q. omega arith)) (λ ge. ⊎_elim (λ lt. inr (λ q. omega arith)) (λ le. inl (omega arith)) (cases_lt s n)) (cases_lt n s)
+
+-- An expression behind a token, read where that token is another one.
+module _ (us vs : List Lexeme) (limit : Limit) (k s : ℕ) (alike : (n : ℕ) → n < k → (n ≡ s → ⊥) → slice_get vs n ≡ slice_get us n) (x : Lexeme) (here : slice_get vs s ≡ Some x) where
+  changed : (n : ℕ) → (n ≡ s → ⊥) → slice_get (set us s x) n ≡ slice_get us n
+  changed n f = set_other us s n x f
+
+  apart : Apart us (set us s x) (s + 1)
+  apart = record {
+    words = λ i w le q. word_same us (set us s x) i (changed i (λ r. omega arith)) ∙ q;
+    names = λ i le. spelling_same us (set us s x) i (changed i (λ r. omega arith));
+  }
+
+  unchanged : s < length us → (n : ℕ) → n < k → slice_get (set us s x) n ≡ slice_get vs n
+  unchanged lt n lt' = by (decide_is n s)
+    where
+      by : (n ≡ s) ⊎ (n ≡ s → ⊥) → slice_get (set us s x) n ≡ slice_get vs n
+      by (inl q) = subst (λ l. slice_get (set us s x) l ≡ slice_get vs l) (sym q) (set_there us s x lt ∙ sym here)
+      by (inr f) = changed n f ∙ sym (alike n lt' f)
+
+  condition_there : (d : ℕ) (c e : Scopes) (i j : ℕ) (t : Trees) → Runs body us limit (body (expression d)) c i (Done t e j) → Is us j word.RightParen → s < i → j < k →
+      Runs body vs limit (body (expression d)) c i (Done t e j)
+  condition_there d c e i j t h q lt lt' =
+      let n = reach h in
+      let n' = within us j q in
+      let s' = moved apart (runs_sound (expression d) c e i j t h fresh) (omega arith) refl in
+      let q' = word_same us (set us s x) j (changed j (λ r. omega arith)) ∙ q in
+      run_there body vs (set us s x) limit limit j (λ l le. unchanged (omega arith) l (omega arith)) (λ g l d' lt'' w. w)
+      (spelled_is_read (set us s x) limit start_expression s' (free_by q' (omega arith))) (omega arith) tt
+
+-- another statement than a block, as the body of a switch, stands behind it and is refused by its row
+pub body_is_behind : ReadsUnits → {ts : List Lexeme} {k : ℕ} (s : ℕ) → k < length ts → Shows ts k (switch_body_at s k) → (Is ts k word.LeftBrace → ⊥) → (Is ts k word.Case → ⊥) → (Is ts k word.Default → ⊥) →
+    Begins (Upto k most_levels) (with_word ts s word.While) (k + 1) → (s < k) × IsBarred ts anywhere 7 k
+body_is_behind complete {ts = ts} {k = k} s lt b g g' g'' r = ⊎_elim (λ x. absurd (x b.has))
+    (λ x. (x.short, x.leads r.trees r.completes.is_unit.after (length vs) (complete vs limit r.trees r.completes.is_unit.after r.completes.is_unit.spells)))
+    (sought ts us vs k s limit (AtMost most_levels) us_alike vs_alike a_while (allows_before k most_levels) g g' g''
+    (λ d c e i j t h q lt' short lt''. condition_there us vs limit k s both_alike (while_lexeme short).0 (while_lexeme short).1 d c e i j t h q lt' lt'')
+    (complete us limit b.trees b.completes.is_unit.after b.completes.is_unit.spells))
+  where
+    limit : Limit
+    limit = Upto k most_levels
+
+    us : List Lexeme
+    us = b.completes.text
+
+    vs : List Lexeme
+    vs = r.completes.text
+
+    us_alike : (n : ℕ) → n < k → slice_get us n ≡ slice_get ts n
+    us_alike n lt' = same_token b.completes n lt' (omega arith)
+
+    while_word : Lexeme
+    while_word = record { word = word.While; spelling = [] }
+
+    vs_alike : (n : ℕ) → n ≤ k → (n ≡ s → ⊥) → slice_get vs n ≡ slice_get ts n
+    vs_alike n le f = let w = get_some ts n (omega arith) in r.completes.alike n w.0 (omega arith) (set_other ts s n while_word f ∙ w.1) ∙ sym w.1
+
+    a_while : s < k → Is vs s word.While
+    a_while lt' = ap (λ o. elim o as (λ _. Option Word) [ None ↦ None | Some x ↦ Some x.word ]) (r.completes.alike s while_word (omega arith) (set_there ts s while_word (omega arith)))
+
+    while_lexeme : s < k → (x : Lexeme) × (slice_get vs s ≡ Some x)
+    while_lexeme lt' = (while_word, r.completes.alike s while_word (omega arith) (set_there ts s while_word (omega arith)))
+
+    both_alike : (n : ℕ) → n < k → (n ≡ s → ⊥) → slice_get vs n ≡ slice_get us n
+    both_alike n lt' f = vs_alike n (omega arith) f ∙ sym (us_alike n lt')
+
+module _ (complete : ReadsUnits) where
+  pub refusing : {ts : List Lexeme} {n k : ℕ} → k < length ts → (n ≡ 1 → ⊥) → Outside ts k n → Refusing ts n k
+  refusing lt f (unused_keyword q u) = absurd (f refl)
+  refusing {ts = ts} {k = k} lt f (designator q b) = by_bar (designator_is_barred complete q b) (⊎_elim (λ x. no_label ts k x refl) (λ x. no_label ts k x refl) q)
+  refusing {ts = ts} {k = k} lt f (compound_literal q b) = by_bar (literal_is_barred complete q b) (no_label ts k q refl)
+  refusing {ts = ts} {k = k} lt f (called_expression q b) = by_bar (call_is_barred complete q b) (no_label ts k q refl)
+  refusing {ts = ts} {k = k} lt f (bit_field q b) = by_bar (field_is_barred complete q b) (no_label ts k q refl)
+  refusing lt f (deep_label _ b q) = by_label refl (label_is_caught complete lt b q)
+  refusing lt f (label_as_body s q b) = by_bar (body_label_is_barred complete s q b) (λ y. refl)
+  refusing {ts = ts} {k = k} lt f (switch_body s _ b g g' g'' c) = by_bar (body_is_behind complete s lt b g g' g'' c).1 (neither_label ts k g' g'')
+  refusing lt f (variadic_function m lt' y b h) = by_definition refl (definition_is_caught complete lt' y b h)
+
+-- what is said of a way and its token
+abbrev OnPoint : (Way → ℕ → Type 0) → Point → Type 0
+OnPoint g (at w n) = g w n
+
+pub at_end : {ts : List Lexeme} {f : Way → ℕ → Type 0} {w : Way} {j : ℕ} (x : Caught ts f) → UnitEnds ts nowhere w j → (g : Way → ℕ → Type 0) → g x.way x.at → g w j
+at_end x z g y = subst (λ p. OnPoint g p) (same_way x.ends z) y
+
+behind_bar : {n k j : ℕ} {w : Way} → IsBarring n k (at w j) → j ≡ k
+behind_bar by_row = refl
+
+-- a row that names a token before the refused one is that of the `...` of a definition, which the machine sees at the brace
+abbrev pub SeesLater : ℕ → ℕ → Way → Type 0
+SeesLater n k w = (w ≡ defining k) × (n ≡ 8)
+
+pub names_none_before : {ts : List Lexeme} {n k j : ℕ} {w : Way} → UnitEnds ts nowhere w j → k < j → Refusing ts n k → SeesLater n k w
+names_none_before z lt (by_bar b f) = elim (bars_too b z) [
+  | by_that_row q ↦ let e = behind_bar q in absurd (omega arith)
+  | by_its_own o le ↦ absurd (omega arith)
+]
+names_none_before {k = k} {j = j} z lt (by_label e x) = let le : j ≤ k = at_end x z (λ w n. n ≤ k) x.fits_so in absurd (omega arith)
+names_none_before {n = n} {k = k} z lt (by_definition {m = m} e x) = by (at_end x z (Fits k m) x.fits_so) lt
+  where
+    by : {w : Way} {j : ℕ} → Fits k m w j → k < j → SeesLater n k w
+    by (before lt') lt = absurd (omega arith)
+    by at_brace lt = (refl, e)
+
+own_is_six : {ts : List Lexeme} {n j : ℕ} {w : Way} → IsOwn ts j w → ((i : ℕ) → w ≡ defining i → ⊥) → (has_word ts j is_label ≡ true → n ≡ 6) → IsBarring n j (at w j)
+own_is_six {j = j} (own_label {d = d} y) f g = subst (λ n. IsBarring n j (at (barring (has is_label) 6 d) j)) (sym (g y)) by_row
+own_is_six (own_definition {n = i}) f g = absurd (f i refl)
+
+pub names_refused : {ts : List Lexeme} {n j : ℕ} {w : Way} → UnitEnds ts nowhere w j → ((i : ℕ) → w ≡ defining i → ⊥) → Refusing ts n j → IsBarring n j (at w j)
+names_refused z f (by_bar b g) = elim (bars_too b z) [
+  | by_that_row q ↦ q
+  | by_its_own o le ↦ own_is_six o f g
+]
+names_refused {ts = ts} z f (by_label e x) = own_is_six (at_end x z (λ w j. IsOwn ts j w) x.own) f (λ y. e)
+names_refused {j = j} z f (by_definition {m = m} e x) = absurd (by (at_end x z (Fits j m) x.fits_so) refl f)
+  where
+    by : {w : Way} {n : ℕ} → Fits j m w n → n ≡ j → ((i : ℕ) → w ≡ defining i → ⊥) → ⊥
+    by (before lt) q f = omega arith
+    by at_brace q f = f j refl
+
+pub names_none : {ts : List Lexeme} {n k j : ℕ} {t : Trees} {e : Scopes} → Runs body ts (AtMost most_levels) (body (unit nowhere 0)) file_scope 0 (Done t e j) → Refusing ts n k → ⊥
+names_none h (by_bar b f) = bars_none b h
+names_none h (by_label e x) = let q = same h (refused_so x.ends) in cc
+names_none h (by_definition e x) = let q = same h (refused_so x.ends) in cc
+
+-- The same of `Outside`.
+module _ (complete : ReadsUnits) {ts : List Lexeme} {n : ℕ} (f : n ≡ 1 → ⊥) where
+  pub outside_before_end : {k j : ℕ} {w : Way} → UnitEnds ts nowhere w j → k < j → Outside ts k n → SeesLater n k w
+  outside_before_end z lt o = let le = ends_inside (refused_so z) (omega arith) in names_none_before z lt (refusing complete (omega arith) f o)
+
+  pub outside_at_end : {j : ℕ} {w : Way} → j < length ts → UnitEnds ts nowhere w j → ((i : ℕ) → w ≡ defining i → ⊥) → Outside ts j n → IsBarring n j (at w j)
+  outside_at_end lt z g o = names_refused z g (refusing complete lt f o)
+
+  pub outside_of_unit : {k j : ℕ} {t : Trees} {e : Scopes} → Runs body ts (AtMost most_levels) (body (unit nowhere 0)) file_scope 0 (Done t e j) → k < j → Outside ts k n → ⊥
+  outside_of_unit h lt o = let le = ends_inside h (omega arith) in names_none h (refusing complete (omega arith) f o)
