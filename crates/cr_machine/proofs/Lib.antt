@@ -21,7 +21,6 @@ pub mod MachineStatements
 pub mod MachineComplete
 pub mod MachineUnitComplete
 pub mod MachineExtend
-pub mod MachineElsewhere
 pub mod MachineScopes
 pub mod MachineShown
 pub mod MachineFails
@@ -47,7 +46,6 @@ pub mod MachineTraces
 pub mod MachineLabels
 pub mod MachineDefinitions
 pub mod MachineBeside
-pub mod MachineApart
 pub mod MachineWhile
 pub mod MachineBodies
 pub mod MachineRefusals

@@ -1,7 +1,5 @@
 -- First tokens of specifiers and declarators, and what is said after a row of specifiers.
 use Rattle.std.proofs.Common.{◌≡◌, ℕ, Bool, true, false, not, ◌&&◌, ◌||◌, List, [], ◌∷◌, refl, sym, ap, subst, ◌∙◌}
-use denote.Enum.Bare.{same_true}
-use Rattle.cr_syntax.specs.contracts.word.Word as word_type
 use Rattle.cr_syntax.specs.declared.word.Word.{Word}
 use Rattle.cr_syntax.specs.declared.word.Word.TheVariants as word
 use Rattle.cr_syntax.specs.declared.symbol.Depth.{Depth}
@@ -23,7 +21,7 @@ use Rattle.cr_machine.specs.Machine as m
 use Rattle.cr_machine.specs.MachineBody.{is_plain_start, is_specifier_start, is_declarator, element_start, type_start}
 use Rattle.cr_machine.proofs.MachineMeans.{element_part, IsOpen}
 use Rattle.cr_machine.proofs.MachineSpells.{is_one, Names, by_declarator, by_direct}
-use Rattle.cr_machine.proofs.MachineFirst.{none_true, false_by, yes, differs, sorted}
+use Rattle.cr_machine.proofs.MachineFirst.{none_true, false_by, yes, differs, sorted, same_is}
 use Rattle.cr_machine.proofs.MachineTasks.{past_row}
 
 pub or_left : (x y : Bool) → x ≡ true → x || y ≡ true
@@ -106,9 +104,6 @@ pub data NoSpecifier : Word → Type 0 where
   no_ellipsis : NoSpecifier word.Ellipsis
   no_right_paren : NoSpecifier word.RightParen
   no_else : NoSpecifier word.Else
-
-same_is : (v w : Word) → same_word v w ≡ true → v ≡ w
-same_is v w q = same_true word_type.the_type tt v w q
 
 not_specifier : (v w : Word) → NoSpecifier w → is_specifier_start v ≡ true → same_word v w ≡ false
 not_specifier v w n s = false_by (same_word v w) (λ q. by n (subst (λ x. is_specifier_start x ≡ true) (same_is v w q) s))

@@ -1,5 +1,5 @@
 -- What is spelled, the machine reads; and so the tokens of an expression have one tree.
-use Rattle.std.proofs.Common.{◌≡◌, ℕ, zero, suc, ◌+◌, ◌<◌, ◌≤◌, List, [], ◌∷◌, length, Option, None, Some, refl, sym, ap, subst, ◌∙◌, arith}
+use Rattle.std.proofs.Common.{◌≡◌, ℕ, zero, suc, ◌+◌, ◌<◌, ◌≤◌, List, [], ◌∷◌, length, None, Some, refl, sym, ap, subst, ◌∙◌, arith}
 use Rattle.std.specs.Prelude.{slice_get}
 use Rattle.cr_syntax.specs.declared.word.Word.{Word}
 use Rattle.cr_syntax.specs.declared.symbol.Part.{Part}
@@ -14,7 +14,7 @@ use Rattle.cr_machine.specs.Machine as m
 use Rattle.cr_syntax.specs.Expressions.{Start, Spelled, BeginsFrom, RunEnds}
 use Rattle.cr_machine.specs.MachineBody.{body, start_goal}
 use Rattle.cr_machine.specs.MachineLaws.{end_of, IsFree, IsStart, start_expression, start_assignment, start_conditional}
-use Rattle.cr_machine.proofs.MachineRuns.{same, local, reach, OnDone}
+use Rattle.cr_machine.proofs.MachineRuns.{same, local, reach, OnDone, word_in}
 use Rattle.cr_machine.proofs.MachineFirst.{lower}
 use Rattle.cr_machine.proofs.MachineSound.{runs_sound}
 use Rattle.cr_machine.proofs.MachineTasks.{Task, Completes, Smaller, measure}
@@ -90,7 +90,7 @@ get_past [] = refl
 get_past (x ∷ ts) = get_past ts
 
 pub free_at_end : (ts : List Lexeme) (n : ℕ) → IsFree ts n (length ts)
-free_at_end ts n = record { all = λ w q. none_some (sym (ap (λ o. elim o as (λ _. Option Word) [ None ↦ None | Some t ↦ Some t.word ]) (get_past ts)) ∙ q) }
+free_at_end ts n = record { all = λ w q. none_some (sym (ap word_in (get_past ts)) ∙ q) }
   where
     none_some : {A : Type 0} {w : Word} → None ≡ Some w → A
     none_some q = cc
@@ -138,6 +138,10 @@ get_some [] i lt = absurd (omega arith)
 get_some (x ∷ ts) zero lt = (x, refl)
 get_some (x ∷ ts) (suc i) lt = get_some ts i (omega arith)
 
+-- the tokens of a list, in a text that begins with them
+pub begun_same : (ts us : List Lexeme) (k : ℕ) → ((i : ℕ) (x : Lexeme) → i < k → slice_get ts i ≡ Some x → slice_get us i ≡ Some x) → (n : ℕ) → n < k → n < length ts → slice_get us n ≡ slice_get ts n
+begun_same ts us k f n lt far = let w = get_some ts n far in f n w.0 lt w.1 ∙ sym w.1
+
 -- a text that goes on with token k is read to its end, so the answer isn't at k
 goes_on : {ts : List Lexeme} {limit : Limit} (s : Start) {r : Reply} → IsStart s.part → IsNotDeep r → Runs body ts limit (body (start_goal s.part s.depth)) s.scopes s.at r →
     end_of r < length ts → (b : BeginsFrom Free ts s (end_of r + 1)) → r ≡ Done b.trees b.continues.spelled.after (length b.continues.text)
@@ -145,7 +149,7 @@ goes_on {ts = ts} s {r = r} k n h lt b =
     same (local (unlimited h n) alike) (spelled_is_read b.continues.text Free k b.continues.spelled.spells (free_at_end b.continues.text 13))
   where
     alike : (i : ℕ) → i ≤ end_of r → slice_get b.continues.text i ≡ slice_get ts i
-    alike i le = let w = get_some ts i (omega arith) in b.continues.alike i w.0 (omega arith) w.1 ∙ sym w.1
+    alike i le = begun_same ts b.continues.text (end_of r + 1) b.continues.alike i (omega arith) (omega arith)
 
 pub longest : {ts : List Lexeme} {limit : Limit} (s : Start) {e : Scopes} {j : ℕ} {t : Trees} → IsStart s.part →
     Runs body ts limit (body (start_goal s.part s.depth)) s.scopes s.at (Done t e j) → RunEnds ts s j
@@ -193,7 +197,7 @@ refused_within {ts = ts} {most = most} s {k = k} z lt h b =
     let q = same (local (upto (k + 1) (omega arith) h) alike) (spelled_is_read b.continues.text (Upto (k + 1) most) z b.continues.spelled.spells (free_at_end b.continues.text 13)) in cc
   where
     alike : (i : ℕ) → i ≤ k → slice_get b.continues.text i ≡ slice_get ts i
-    alike i le = let w = get_some ts i (omega arith) in b.continues.alike i w.0 (omega arith) w.1 ∙ sym w.1
+    alike i le = begun_same ts b.continues.text (k + 1) b.continues.alike i (omega arith) (omega arith)
 
 -- a list that is refused at its end spells no tree
 pub ended_is_none : {ts : List Lexeme} {limit : Limit} (s : Start) {x : Cause} {t : Trees} → IsStart s.part → (x ≡ m.too_deep → ⊥) →

@@ -16,16 +16,15 @@ use Rattle.cr_syntax.specs.Grammar as grammar
 use Rattle.cr_syntax.specs.Spells.{Limit, Is, Spells, a, rest}
 use Rattle.cr_syntax.specs.Spells as spells
 use Rattle.cr_syntax.specs.Reads.{is_word}
-use Rattle.cr_machine.specs.Machine.{Goal, Prog, Reply, Done, has_word, give, call, the, run_give, run_take, run_pass, run_free, run_seen, run_unseen, run_yes, run_here, run_look, run_set, run_bring, run_call}
+use Rattle.cr_machine.specs.Machine.{Prog, Reply, Done, has_word, give, call, the, run_give, run_take, run_pass, run_free, run_seen, run_unseen, run_yes, run_here, run_look, run_set, run_bring, run_call}
 use Rattle.cr_machine.specs.Machine as m
-use Rattle.cr_machine.specs.MachineBody.{body, is_designator, is_any, inside, declares, enters, defined, declared_on, declaration_end}
+use Rattle.cr_machine.specs.MachineBody.{is_designator, is_any, inside, declares, enters, defined, declared_on, declaration_end}
 use Rattle.cr_machine.specs.MachineLaws.{IsFree}
-use Rattle.cr_machine.proofs.MachineSpells.{and_none, and_and, pushed, named_before}
+use Rattle.cr_machine.proofs.MachineSpells.{and_none, and_and, pushed, name_brought}
 use Rattle.cr_machine.proofs.MachineSpells as facts
 use Rattle.cr_machine.proofs.MachineFirst.{none_true, yes, differs, sorted, free_by, tail, starts, First, by_word, never, never_brace, not_first, first_assignment}
 use Rattle.cr_machine.proofs.MachineFirst as first
 use Rattle.cr_machine.proofs.MachineFits.{fits_left, fits_right, may_left, may_right, may_define_so, body_fits}
-use Rattle.cr_machine.proofs.MachineSound.{brought_is, name_is}
 use Rattle.cr_machine.proofs.MachineTasks.{measure, Closes, by_paren, by_comma, by_semicolon, by_closing, by_equal, by_brace, Goes, Answers, Completes, Smaller}
 use Rattle.cr_machine.proofs.MachineTasks as task
 use Rattle.cr_machine.proofs.MachineBegins.{ElementFirst, by_storage, of_plain, by_plain, by_type, specifiers_first, NamedFirst, by_star, by_name, named_first}
@@ -61,9 +60,6 @@ closes_free (by_comma q) = free_by q (omega arith)
 closes_free (by_semicolon q) = free_by q (omega arith)
 
 module _ (ts : List Lexeme) (limit : Limit) where
-  then_give : {g : Goal} {c : Scopes} {i : ℕ} {r : Reply} → Goes ts limit (body g) c i r → Goes ts limit (call g give) c i r
-  then_give h = tail body ts limit h
-
   initializer_apart : {h : Context} {c e : Scopes} {d i j : ℕ} {t : Trees} → Spells ts limit (a part.Initializer) h c e d t i j → is_word ts i word.RightBrace ≡ false
   initializer_apart (spells.of_chain grammar.initializer_expression f s) = not_first (first_assignment s) word.RightBrace refl refl
   initializer_apart (spells.of_alternative grammar.initializer_list f (spells.opens q w s)) = differs q word.RightBrace refl
@@ -95,30 +91,22 @@ module _ (ts : List Lexeme) (limit : Limit) where
 
   -- Names.
 
-  -- the name of a declarator is one of its tokens
-  name_in : {h : Context} {c e : Scopes} {d i j : ℕ} {t : Trees} (h' : Context) → Spells ts limit (a part.Declarator) h c e d t i j →
-      m.brought ts j (past_part h' t).name (past_part h' t).type_name ≡ declared_name ts (past_part h' t)
-  name_in {j = j} {t = t} h' s =
-      let q = name_is s h' in
-      let lt = named_before facts.by_declarator s in
-      brought_is ts j (past_part h' t).name (past_part h' t).type_name (omega arith)
-
   declares_goes : {h : Context} {c e : Scopes} {own : List TypeName} {d i j : ℕ} {t : Trees} {r : Reply} (p : Prog) (h' : Context) → Spells ts limit (a part.Declarator) h c (own ∷ e) d t i j →
       Goes ts limit p (enter (declared_name ts (past_part h' t)) e) j r → Goes ts limit (declares h' t p) (own ∷ e) j r
-  declares_goes {e = e} {j = j} {r = r} p h' s z = run_look (run_set (run_bring (subst (λ y. Goes ts limit p (enter y e) j r) (sym (name_in h' s)) z)))
+  declares_goes {e = e} {j = j} {r = r} p h' s z = run_look (run_set (run_bring (subst (λ y. Goes ts limit p (enter y e) j r) (sym (name_brought s h')) z)))
 
   enters_goes : {h : Context} {c e : Scopes} {own : List TypeName} {d i j : ℕ} {t : Trees} {r : Reply} (p : Prog) (h' : Context) → Spells ts limit (a part.Declarator) h c (own ∷ e) d t i j →
       Goes ts limit p (own ∷ enter (declared_name ts (past_part h' t)) e) j r → Goes ts limit (enters h' t p) (own ∷ e) j r
-  enters_goes {e = e} {own = own} {j = j} {r = r} p h' s z = run_look (run_set (run_bring (run_look (run_set (subst (λ y. Goes ts limit p (own ∷ enter y e) j r) (sym (name_in h' s)) z)))))
+  enters_goes {e = e} {own = own} {j = j} {r = r} p h' s z = run_look (run_set (run_bring (run_look (run_set (subst (λ y. Goes ts limit p (own ∷ enter y e) j r) (sym (name_brought s h')) z)))))
 
   module _ (n : ℕ) (b : Smaller ts limit n) where
     -- Initializers.
 
     pub initializer_reads : {h : Context} {c e : Scopes} {d i j : ℕ} {t : Trees} (s : Spells ts limit (a part.Initializer) h c e d t i j) → measure s < suc n → Completes ts limit task.initializer h c e d t i j
     initializer_reads (spells.of_chain grammar.initializer_expression f s) lt = λ fr.
-        run_here (run_free (no_designator (first_assignment s)) (run_pass (never (first_assignment s) never_brace) (then_give (b.read task.assignment s (omega arith) fr))))
+        run_here (run_free (no_designator (first_assignment s)) (run_pass (never (first_assignment s) never_brace) (tail (b.read task.assignment s (omega arith) fr))))
     initializer_reads {i = i} (spells.of_alternative grammar.initializer_list f (spells.opens q w s)) lt = λ fr.
-        run_here (run_free (sorted is_designator false q refl) (run_take (yes q) w (then_give (b.read task.initializers s (omega arith) i none))))
+        run_here (run_free (sorted is_designator false q refl) (run_take (yes q) w (tail (b.read task.initializers s (omega arith) i none))))
 
     pub initializers_read : {h : Context} {c e : Scopes} {d i j : ℕ} {t : Trees} (s : Spells ts limit (rest (inner_list part.Initializer ∷ symbol.TrailingComma ∷ [])) h c e d t i j) → measure s < suc n →
         Completes ts limit task.initializers h c e d t i j
@@ -131,7 +119,7 @@ module _ (ts : List Lexeme) (limit : Limit) where
     initializers_read {c = c} {e = e} {d = d} {i = i} {j = j} (spells.list_more {t = t} {u = u} x q w k) lt = λ s y.
         subst (λ z. Answers ts limit (m.initializers d s y) c i (one kind.InitializerList s j z) e j) (pushed y t u)
         (run_call (b.read task.initializer x (omega arith) (free_by q (omega arith))) (run_take (yes q) w (run_pass (initializers_apart k)
-        (then_give (b.read task.initializers k (omega arith) s (y & t & none))))))
+        (tail (b.read task.initializers k (omega arith) s (y & t & none))))))
 
     -- Declarations.
 
@@ -156,7 +144,7 @@ module _ (ts : List Lexeme) (limit : Limit) where
         (subst (λ z. Goes ts limit (give (one kind.Declaration s (k + 1) (y & t & none))) c' (k + 1) (Done (one kind.Declaration s (k + 1) (y & z)) c' (k + 1))) (and_none t) run_give)))))
     init_declarators_read {h = h} {c = c} {e = e} {d = d} {i = i} {j = j} (spells.list_more {j = k} {t = t} {u = u} x q w l) lt = λ s y f g.
         subst (λ z. Goes ts limit (call (m.declarator m.named h d) f) c i (Done (one kind.Declaration s j z) e j)) (pushed y t u)
-        (init_goes x (omega arith) (by_comma q) s y f g (run_take (yes q) w (then_give (run_here
+        (init_goes x (omega arith) (by_comma q) s y f g (run_take (yes q) w (tail (run_here
         (b.read task.init_declarators l (omega arith) s (y & t & none) (declared_on (past_token h) d s (y & t & none) (k + 1)) (λ u e k r n z. z))))))
 
     pub declaration_reads : {h : Context} {c e : Scopes} {d i j : ℕ} {t : Trees} (s : Spells ts limit (a part.Declaration) h c e d t i j) → measure s < suc n → Completes ts limit task.declaration h c e d t i j
@@ -169,7 +157,7 @@ module _ (ts : List Lexeme) (limit : Limit) where
         let o = init_list_first s in
         subst (λ z. Answers ts limit (m.declaration d) c i (one kind.Declaration i j z) e j) (and_and t none u)
         (run_here (run_call (b.read task.specifiers x (omega arith) (named_row part.Specifiers ts c' k (past_part fresh t).typed o) (named_apart o))
-        (run_pass (named_other o) (then_give (run_here
+        (run_pass (named_other o) (tail (run_here
         (b.read task.init_declarators s (omega arith) i (t & none) (declared_on (past_part fresh t) d i (t & none) k) (λ u e k r n z. z)))))))
 
     -- External definitions.
@@ -199,4 +187,4 @@ module _ (ts : List Lexeme) (limit : Limit) where
     externals_read {c = c} {e = e} {d = d} {i = i} {j = j} (spells.many_more {t = t} {u = u} x k) lt = λ l y ft vf no.
         subst (λ z. Answers ts limit (m.externals l d y) c i z e j) (pushed y t u)
         (run_seen (element_any (external_first x)) (run_call (b.read task.external x (omega arith) l (fits_left l t u ft) (may_left l t u vf))
-        (then_give (b.read task.externals k (omega arith) l (y & t & none) (fits_right l t u ft) (may_right l t u vf) no))))
+        (tail (b.read task.externals k (omega arith) l (y & t & none) (fits_right l t u ft) (may_right l t u vf) no))))

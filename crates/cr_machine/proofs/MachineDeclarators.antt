@@ -18,13 +18,13 @@ use Rattle.cr_syntax.specs.Grammar as grammar
 use Rattle.cr_syntax.specs.Spells.{Limit, Is, Stands, AreConst, const_none, const_more, Spells, a, rest}
 use Rattle.cr_syntax.specs.Spells as spells
 use Rattle.cr_syntax.specs.Reads.{is_word, same_word}
-use Rattle.cr_machine.specs.Machine.{Goal, Prog, Wanted, Reply, Done, plain, opens, give, take, call, made, run_give, run_take, run_pass, run_seen, run_unseen, run_yes, run_no, run_here, run_look, run_set, run_bring, run_call}
+use Rattle.cr_machine.specs.Machine.{Prog, Wanted, Reply, Done, plain, opens, give, take, call, made, run_give, run_take, run_pass, run_seen, run_unseen, run_yes, run_no, run_here, run_look, run_set, run_bring, run_call}
 use Rattle.cr_machine.specs.Machine as m
-use Rattle.cr_machine.specs.MachineBody.{body, is_abstract_start, is_declarator_start, in_parameters, declarator_start, array_start, pointer_end, may_name, may_omit}
+use Rattle.cr_machine.specs.MachineBody.{is_abstract_start, is_declarator_start, in_parameters, declarator_start, array_start, pointer_end, may_name, may_omit}
 use Rattle.cr_machine.proofs.MachineSpells.{and_none, and_and, pushed}
 use Rattle.cr_machine.proofs.MachineFirst.{none_true, yes, differs, sorted, free_by, row_here, row_next, tail, never, never_bracket, first_conditional}
-use Rattle.cr_machine.proofs.MachineSound.{brought_is, part_some, pushed_some, two_parameters, bare_is, name_is}
-use Rattle.cr_machine.proofs.MachineSpells.{is_one, named_before}
+use Rattle.cr_machine.proofs.MachineSound.{part_some, pushed_some, two_parameters, bare_is}
+use Rattle.cr_machine.proofs.MachineSpells.{is_one, name_brought}
 use Rattle.cr_machine.proofs.MachineSpells as facts
 use Rattle.cr_machine.proofs.MachineTasks.{measure, Closes, by_paren, by_comma, by_semicolon, EndsName, by_closing, by_equal, by_brace, Goes, Answers, Completes, Smaller}
 use Rattle.cr_machine.proofs.MachineTasks as task
@@ -101,12 +101,9 @@ in_parameters_one {t = t} x f s k =
     by _ b f = refl
 
 module _ (ts : List Lexeme) (limit : Limit) where
-  then_give : {g : Goal} {c : Scopes} {i : ℕ} {r : Reply} → Goes ts limit (body g) c i r → Goes ts limit (call g give) c i r
-  then_give h = tail body ts limit h
-
   pub consts_go : {c : Scopes} {d i j : ℕ} → AreConst ts limit d i j → is_word ts j word.Const ≡ false → Answers ts limit (m.consts d) c i none c j
   consts_go const_none n = run_pass n run_give
-  consts_go (const_more q w k) n = run_take (yes q) w (then_give (consts_go k n))
+  consts_go (const_more q w k) n = run_take (yes q) w (tail (consts_go k n))
 
   list_first : {r : Side} {h : Context} {c e : Scopes} {d i j : ℕ} {t : Trees} → Spells ts limit (rest (list part.Parameter ∷ r)) h c e d t i j → ElementFirst ts c i false
   list_first (spells.list_last x s) = parameter_first x
@@ -162,22 +159,22 @@ module _ (ts : List Lexeme) (limit : Limit) where
     pub direct_reads : {h : Context} {c e : Scopes} {d i j : ℕ} {t : Trees} (s : Spells ts limit (a part.DirectDeclarator) h c e d t i j) → measure s < suc n → Completes ts limit task.direct h c e d t i j
     direct_reads (spells.of_chain x f s) lt = elim x [ ]
     direct_reads {h = h} {c = c} {i = i} (spells.of_alternative grammar.name_declarator f (spells.declared q g v spells.done)) lt = λ w y r z.
-        run_here (run_pass (differs q word.Star refl) (run_pass (differs q word.LeftParen refl) (run_yes y (run_take (declared_yes ts c i h.typed q g) v (run_look (run_set (run_here (then_give z))))))))
+        run_here (run_pass (differs q word.Star refl) (run_pass (differs q word.LeftParen refl) (run_yes y (run_take (declared_yes ts c i h.typed q g) v (run_look (run_set (run_here (tail z))))))))
     direct_reads {h = h} {c = c} {d = d} {i = i} (spells.of_alternative grammar.group_declarator f (spells.opens q v (spells.part {t = t} x s))) lt =
         closing_run ts limit s (λ e u j. Completes ts limit task.direct h c e d (one kind.GroupDeclarator i j (t & u)) i j) (λ q' v' w y r z.
         run_here (run_pass (differs q word.Star refl) (run_take (yes q) v (run_call (b.read task.declarator x (omega arith) w y (by_closing (by_paren q')))
-        (run_take (yes q') v' (run_yes (is_named facts.by_declarator x) (run_here (then_give z))))))))
+        (run_take (yes q') v' (run_yes (is_named facts.by_declarator x) (run_here (tail z))))))))
     direct_reads {d = d} {i = i} (spells.of_alternative grammar.array_declarator f (spells.part {t = t} x (spells.opens q v s))) lt = λ w y r z.
         b.read task.direct x (omega arith) w y r (run_take (yes q) v
-        (size_goes s (omega arith) (owned facts.by_direct x) (λ u. m.into kind.ArrayDeclarator i (t & u) (λ k. call (m.declarator_suffixes d i k) give)) r (run_here (then_give z))))
+        (size_goes s (omega arith) (owned facts.by_direct x) (λ u. m.into kind.ArrayDeclarator i (t & u) (λ k. call (m.declarator_suffixes d i k) give)) r (run_here (tail z))))
     direct_reads {h = h} {c = c} {d = d} {i = i} (spells.of_alternative grammar.function_declarator f (spells.part {t = t} x (spells.opens q v (spells.prototype_none s)))) lt =
         closing_run ts limit s (λ e u j. Completes ts limit task.direct h c e d (one kind.FunctionDeclarator i j (t & none)) i j) (λ q' v' w y r z.
-        b.read task.direct x (omega arith) w y r (run_pass (differs q word.LeftBracket refl) (run_take (yes q) v (run_take (yes q') v' (run_here (then_give z))))))
+        b.read task.direct x (omega arith) w y r (run_pass (differs q word.LeftBracket refl) (run_take (yes q) v (run_take (yes q') v' (run_here (tail z))))))
     direct_reads {h = h} {c = c} {d = d} {i = i} (spells.of_alternative grammar.function_declarator f (spells.part {t = t} x (spells.opens q v (spells.prototype_some {e = e'} {own = own} {names = names} {j = k} {t = u} p s)))) lt =
         closing_run ts limit s (λ e v' j. Completes ts limit task.direct h c e d (one kind.FunctionDeclarator i j (t & u & v')) i j) (λ q' v' w y r z.
         b.read task.direct x (omega arith) w y r (run_pass (differs q word.LeftBracket refl) (run_take (yes q) v (run_pass (parameters_apart p)
         (run_look (run_set (run_call (b.read task.parameters p (omega arith) q') (run_look (run_set (run_take (yes q') v' (run_here
-        (subst (λ y. Goes ts limit (call (m.declarator_suffixes d i (one kind.FunctionDeclarator i (k + 1) (t & u & none))) give) ((if y then names else own) ∷ e') (k + 1) r) (bare_is x h) (then_give z)))))))))))))
+        (subst (λ y. Goes ts limit (call (m.declarator_suffixes d i (one kind.FunctionDeclarator i (k + 1) (t & u & none))) give) ((if y then names else own) ∷ e') (k + 1) r) (bare_is x h) (tail z)))))))))))))
 
     -- Declarators without a name.
 
@@ -197,45 +194,45 @@ module _ (ts : List Lexeme) (limit : Limit) where
     direct_abstract_reads {h = h} {c = c} {d = d} {i = i} (spells.of_alternative grammar.abstract_group f (spells.opens q v (spells.part {t = t} x s))) lt =
         closing_run ts limit s (λ e u j. Completes ts limit task.direct_abstract h c e d (one kind.AbstractGroup i j (t & u)) i j) (λ q' v' w h' y r z.
         run_here (run_pass (differs q word.Star refl) (run_take (yes q) v (run_call (b.read task.abstract x (omega arith) w (past_token h') y (by_paren q'))
-        (run_take (yes q') v' (run_no (is_unnamed begin.by_abstract x) (run_here (then_give z))))))))
+        (run_take (yes q') v' (run_no (is_unnamed begin.by_abstract x) (run_here (tail z))))))))
     direct_abstract_reads {c = c} {d = d} {i = i} (spells.of_alternative {t = t} grammar.abstract_array f (spells.opens q v s)) lt = λ w h' y r z.
         run_here (run_pass (differs q word.Star refl) (run_pass (differs q word.LeftParen refl)
-        (by w h' r (may_name w) (run_yes y (run_take (yes q) v (run_call (option_goes s (omega arith)) (run_here (then_give z))))))))
+        (by w h' r (may_name w) (run_yes y (run_take (yes q) v (run_call (option_goes s (omega arith)) (run_here (tail z))))))))
       where
         by : (w : Wanted) (h' : Context) (r : Reply) (k : Bool) → Goes ts limit (array_start w d i) c i r →
             Goes ts limit (m.when k (take plain (m.declared h'.typed) d (m.begins (m.into kind.NameDeclarator i none (λ t. call (m.declarator_suffixes d i t) give))) (array_start w d i)) (array_start w d i)) c i r
         by w h' r true g = run_yes refl (run_pass (declared_no ts c i h'.typed (differs q word.Identifier refl)) g)
         by w h' r false g = run_no refl g
     direct_abstract_reads {d = d} {i = i} (spells.of_alternative grammar.abstract_array_of f (spells.part x (spells.opens q v s))) lt = λ w h' y r z.
-        b.read task.direct_abstract x (omega arith) w h' y r (run_take (yes q) v (run_call (option_goes s (omega arith)) (run_here (then_give z))))
+        b.read task.direct_abstract x (omega arith) w h' y r (run_take (yes q) v (run_call (option_goes s (omega arith)) (run_here (tail z))))
 
     -- Parameters.
 
     void_goes : {c : Scopes} {d i : ℕ} → Is ts i word.Void → Stands limit i d → Closes ts (i + 1) → Answers ts limit (m.parameter d) c i (one kind.Void i (i + 1) none) c (i + 1)
     void_goes {c = c} {d = d} {i = i} q w o = run_here (run_call (run_here (run_call (word_reads ts limit n b part.Specifiers fresh d (plain_row part.Specifiers refl (row_next refl row_here)) q w)
-        (then_give (run_unseen (closes_row part.Specifiers ts c (i + 1) true o) (run_here run_give)))))
+        (tail (run_unseen (closes_row part.Specifiers ts c (i + 1) true o) (run_here run_give)))))
         (run_unseen (closes_sorted o is_declarator_start refl refl refl) run_give))
 
     pub parameters_read : {h : Context} {c e : Scopes} {d i j : ℕ} {t : Trees} (s : Spells ts limit (a part.Parameters) h c e d t i j) → measure s < suc n → Completes ts limit task.parameters h c e d t i j
     parameters_read {e = e} {i = i} {j = j} {t = t} (spells.of_chain grammar.parameters_one f s) lt = λ q.
-        run_here (run_call (b.read task.parameter s (omega arith) (by_paren q)) (then_give (run_pass (differs q word.Comma refl) (run_here
+        run_here (run_call (b.read task.parameter s (omega arith) (by_paren q)) (tail (run_pass (differs q word.Comma refl) (run_here
         (subst (λ y. Goes ts limit (give (in_parameters i j (t & none))) e j (Done y e j)) (in_parameters_one s f i j) run_give)))))
     parameters_read (spells.of_alternative grammar.void_parameters f (spells.token q w spells.done)) lt = λ q'.
-        run_here (run_call (void_goes q w (by_paren q')) (then_give (run_pass (differs q' word.Comma refl) (run_here run_give))))
+        run_here (run_call (void_goes q w (by_paren q')) (tail (run_pass (differs q' word.Comma refl) (run_here run_give))))
     parameters_read {c = c} {e = e} {d = d} {i = i} {j = j} (spells.of_alternative grammar.parameter_list f (spells.part {t = t} {u = u} x (spells.token q w s))) lt = λ q'.
         subst (λ z. Answers ts limit (m.parameters d) c i (one kind.Parameters i j z) e j) (and_and t none u)
-        (run_here (run_call (b.read task.parameter x (omega arith) (by_comma q)) (then_give (run_take (yes q) w (run_pass (never_element (list_first s) no_ellipsis)
+        (run_here (run_call (b.read task.parameter x (omega arith) (by_comma q)) (tail (run_take (yes q) w (run_pass (never_element (list_first s) no_ellipsis)
         (b.read task.parameter_list s (omega arith) i (t & none) (part_some x none) q'))))))
     parameters_read {i = i} (spells.of_alternative grammar.variadic_parameters f s) lt = λ q. run_here (b.read task.variadic_list s (omega arith) i none)
 
     pub parameter_list_reads : {h : Context} {c e : Scopes} {d i j : ℕ} {t : Trees} (s : Spells ts limit (rest (list part.Parameter ∷ [])) h c e d t i j) → measure s < suc n → Completes ts limit task.parameter_list h c e d t i j
     parameter_list_reads {e = e} {i = i} {j = j} {t = t} (spells.list_last x spells.done) lt = λ s y some q.
-        run_call (b.read task.parameter x (omega arith) (by_paren q)) (then_give (run_pass (differs q word.Comma refl) (run_here
+        run_call (b.read task.parameter x (omega arith) (by_paren q)) (tail (run_pass (differs q word.Comma refl) (run_here
         (subst (λ z. Goes ts limit (give (in_parameters s j (y & t & none))) e j (Done z e j))
         (two_parameters s j y (t & none) some (part_some x none) ∙ ap (λ z. one kind.Parameters s j (y & z)) (and_none t)) run_give))))
     parameter_list_reads {c = c} {e = e} {d = d} {i = i} {j = j} (spells.list_more {t = t} {u = u} x q w k) lt = λ s y some q'.
         subst (λ z. Goes ts limit (call (m.parameter d) (λ u. call (m.more_parameters d s (y & u & none)) give)) c i (Done (one kind.Parameters s j z) e j)) (pushed y t u)
-        (run_call (b.read task.parameter x (omega arith) (by_comma q)) (then_give (run_take (yes q) w (run_pass (never_element (list_first k) no_ellipsis)
+        (run_call (b.read task.parameter x (omega arith) (by_comma q)) (tail (run_take (yes q) w (run_pass (never_element (list_first k) no_ellipsis)
         (b.read task.parameter_list k (omega arith) s (y & t & none) (pushed_some y (t & none) some) q')))))
 
     pub variadic_list_reads : {h : Context} {c e : Scopes} {d i j : ℕ} {t : Trees} (s : Spells ts limit (rest (list part.Parameter ∷ token word.Comma ∷ token word.Ellipsis ∷ [])) h c e d t i j) → measure s < suc n →
@@ -243,10 +240,10 @@ module _ (ts : List Lexeme) (limit : Limit) where
     variadic_list_reads {c = c} {d = d} {i = i} (spells.list_last {e = e'} {j = k} {t = t} x s) lt =
         ellipsis_run s (λ e v j. (s : ℕ) (y : Trees) → Goes ts limit (call (m.parameter d) (λ u. call (m.more_parameters d s (y & u & none)) give)) c i (Done (one kind.VariadicParameters s j (y & t)) e j)) (λ q w q' w' s y.
         subst (λ z. Goes ts limit (call (m.parameter d) (λ u. call (m.more_parameters d s (y & u & none)) give)) c i (Done (one kind.VariadicParameters s (k + 1 + 1) (y & z)) e' (k + 1 + 1))) (and_none t)
-        (run_call (b.read task.parameter x (omega arith) (by_comma q)) (then_give (run_take (yes q) w (run_take (yes q') w' (run_here run_give))))))
+        (run_call (b.read task.parameter x (omega arith) (by_comma q)) (tail (run_take (yes q) w (run_take (yes q') w' (run_here run_give))))))
     variadic_list_reads {c = c} {e = e} {d = d} {i = i} {j = j} (spells.list_more {t = t} {u = u} x q w k) lt = λ s y.
         subst (λ z. Goes ts limit (call (m.parameter d) (λ u. call (m.more_parameters d s (y & u & none)) give)) c i (Done (one kind.VariadicParameters s j z) e j)) (pushed y t u)
-        (run_call (b.read task.parameter x (omega arith) (by_comma q)) (then_give (run_take (yes q) w (run_pass (never_element (list_first k) no_ellipsis)
+        (run_call (b.read task.parameter x (omega arith) (by_comma q)) (tail (run_take (yes q) w (run_pass (never_element (list_first k) no_ellipsis)
         (b.read task.variadic_list k (omega arith) s (y & t & none))))))
 
     pub parameter_reads : {h : Context} {c e : Scopes} {d i j : ℕ} {t : Trees} (s : Spells ts limit (a part.Parameter) h c e d t i j) → measure s < suc n → Completes ts limit task.parameter h c e d t i j
@@ -260,9 +257,7 @@ module _ (ts : List Lexeme) (limit : Limit) where
         (run_seen (unnamed_sorted u) (run_call (b.read task.abstract s (omega arith) m.either (past_part fresh t) refl o) (run_no (is_unnamed begin.by_abstract s) (run_here run_give)))))
     parameter_reads {i = i} {j = j} (spells.of_alternative grammar.parameter_declaration f (spells.part {e = c'} {j = k} {t = t} x (spells.part (spells.parameter_declarator {e = e'} {t = u} s) spells.done))) lt = λ o.
         let v = named_first facts.by_declarator s in
-        let w = named_before facts.by_declarator s in
-        let y = name_is s (past_part fresh t) in
         run_here (run_call (b.read task.specifiers x (omega arith) (named_row part.Specifiers ts c' k (past_part fresh t).typed v) (named_apart v))
         (run_seen (named_sorted v) (run_call (b.read task.declarator s (omega arith) m.either refl (by_closing o)) (run_yes (is_named facts.by_declarator s) (run_look (run_set (run_bring (run_here
         (subst (λ z. Goes ts limit (give (one kind.Parameter i j (t & u & none))) (enter (m.brought ts j (past_part (past_part fresh t) u).name (past_part (past_part fresh t) u).type_name) e') j (Done (one kind.Parameter i j (t & u & none)) (enter z e') j))
-        (brought_is ts j (past_part (past_part fresh t) u).name (past_part (past_part fresh t) u).type_name (omega arith)) run_give)))))))))
+        (name_brought s (past_part fresh t)) run_give)))))))))

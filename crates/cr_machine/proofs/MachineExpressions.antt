@@ -17,7 +17,7 @@ use Rattle.cr_syntax.specs.Grammar as grammar
 use Rattle.cr_syntax.specs.Spells.{Limit, Is, IsIdentifier, Stands, levels, Spells, a, rest}
 use Rattle.cr_syntax.specs.Spells as spells
 use Rattle.cr_syntax.specs.Reads.{is_word, same_word}
-use Rattle.cr_machine.specs.Machine.{Goal, Reply, Done, plain, opens, reopens, give, call, the, run_give, run_take, run_pass, run_free, run_seen, run_unseen, run_yes, run_no, run_here, run_call}
+use Rattle.cr_machine.specs.Machine.{Reply, Done, plain, opens, reopens, give, call, the, run_give, run_take, run_pass, run_free, run_seen, run_unseen, run_yes, run_no, run_here, run_call}
 use Rattle.cr_machine.specs.Machine as m
 use Rattle.cr_machine.specs.MachineBody.{body, assigned, operated, prefixed, suffixed, sized, other_primary, suffixes_end, is_unary, is_identifier, tighter, assignment_operators, operators, unary_prefixes, cast_prefixes, constants, postfix_operators}
 use Rattle.cr_machine.specs.MachineLaws.{rank_of, IsFree}
@@ -36,9 +36,6 @@ pub ordinary_no : (ts : List Lexeme) (c : Scopes) (i : ℕ) → is_word ts i wor
 ordinary_no ts c i q = ap (λ b. b && not (is_type c (spelling_at ts i))) q
 
 module _ (ts : List Lexeme) (limit : Limit) where
-  then_give : {g : Goal} {c : Scopes} {i : ℕ} {r : Reply} → Goes ts limit (body g) c i r → Goes ts limit (call g give) c i r
-  then_give h = tail body ts limit h
-
   -- Ends of loops.
 
   suffixes_done : (d s : ℕ) (t : Trees) (e : Scopes) (j : ℕ) → IsFree ts 0 j → Answers ts limit (m.suffixes d s t) e j t e j
@@ -89,16 +86,16 @@ module _ (ts : List Lexeme) (limit : Limit) where
 
   climbs : {d i j : ℕ} {c e : Scopes} {t : Trees} → Started ts limit d c i (Done t e j) → IsFree ts 11 j → Answers ts limit (m.conditional d) c i t e j
   climbs {d = d} {i = i} {j = j} {c = c} {e = e} {t = t} x f =
-      let y5 : Answers ts limit (m.binary part.Multiplicative d) c i t e j = run_here (run_call (as_cast x) (then_give (operands_done part.Multiplicative refl d i t e j (lower f (omega arith))))) in
-      let y6 : Answers ts limit (m.binary part.Additive d) c i t e j = run_here (run_call y5 (then_give (operands_done part.Additive refl d i t e j (lower f (omega arith))))) in
-      let y7 : Answers ts limit (m.binary part.Shift d) c i t e j = run_here (run_call y6 (then_give (operands_done part.Shift refl d i t e j (lower f (omega arith))))) in
-      let y8 : Answers ts limit (m.binary part.Relational d) c i t e j = run_here (run_call y7 (then_give (operands_done part.Relational refl d i t e j (lower f (omega arith))))) in
-      let y9 : Answers ts limit (m.binary part.Equality d) c i t e j = run_here (run_call y8 (then_give (operands_done part.Equality refl d i t e j (lower f (omega arith))))) in
-      let y10 : Answers ts limit (m.binary part.And d) c i t e j = run_here (run_call y9 (then_give (operands_done part.And refl d i t e j (lower f (omega arith))))) in
-      let y11 : Answers ts limit (m.binary part.Xor d) c i t e j = run_here (run_call y10 (then_give (operands_done part.Xor refl d i t e j (lower f (omega arith))))) in
-      let y12 : Answers ts limit (m.binary part.Or d) c i t e j = run_here (run_call y11 (then_give (operands_done part.Or refl d i t e j (lower f (omega arith))))) in
-      let y13 : Answers ts limit (m.binary part.LogicalAnd d) c i t e j = run_here (run_call y12 (then_give (operands_done part.LogicalAnd refl d i t e j (lower f (omega arith))))) in
-      let y14 : Answers ts limit (m.binary part.LogicalOr d) c i t e j = run_here (run_call y13 (then_give (operands_done part.LogicalOr refl d i t e j (lower f (omega arith))))) in
+      let y5 : Answers ts limit (m.binary part.Multiplicative d) c i t e j = run_here (run_call (as_cast x) (tail (operands_done part.Multiplicative refl d i t e j (lower f (omega arith))))) in
+      let y6 : Answers ts limit (m.binary part.Additive d) c i t e j = run_here (run_call y5 (tail (operands_done part.Additive refl d i t e j (lower f (omega arith))))) in
+      let y7 : Answers ts limit (m.binary part.Shift d) c i t e j = run_here (run_call y6 (tail (operands_done part.Shift refl d i t e j (lower f (omega arith))))) in
+      let y8 : Answers ts limit (m.binary part.Relational d) c i t e j = run_here (run_call y7 (tail (operands_done part.Relational refl d i t e j (lower f (omega arith))))) in
+      let y9 : Answers ts limit (m.binary part.Equality d) c i t e j = run_here (run_call y8 (tail (operands_done part.Equality refl d i t e j (lower f (omega arith))))) in
+      let y10 : Answers ts limit (m.binary part.And d) c i t e j = run_here (run_call y9 (tail (operands_done part.And refl d i t e j (lower f (omega arith))))) in
+      let y11 : Answers ts limit (m.binary part.Xor d) c i t e j = run_here (run_call y10 (tail (operands_done part.Xor refl d i t e j (lower f (omega arith))))) in
+      let y12 : Answers ts limit (m.binary part.Or d) c i t e j = run_here (run_call y11 (tail (operands_done part.Or refl d i t e j (lower f (omega arith))))) in
+      let y13 : Answers ts limit (m.binary part.LogicalAnd d) c i t e j = run_here (run_call y12 (tail (operands_done part.LogicalAnd refl d i t e j (lower f (omega arith))))) in
+      let y14 : Answers ts limit (m.binary part.LogicalOr d) c i t e j = run_here (run_call y13 (tail (operands_done part.LogicalOr refl d i t e j (lower f (omega arith))))) in
       run_here (run_call y14 (run_pass (fails f word.Question (omega arith)) run_give))
 
   -- a primary expression is read through `unary`
@@ -107,7 +104,7 @@ module _ (ts : List Lexeme) (limit : Limit) where
   through {d = d} {i = i} q x y z n h = by_others (differs q word.LeftParen n) (run_here
       (skips body ts limit unary_prefixes opens d (prefixed (m.unary (d + 1)) i) (m.choose opens cast_prefixes d (prefixed (m.cast (d + 1)) i) (sized d i)) q x
       (skips body ts limit cast_prefixes opens d (prefixed (m.cast (d + 1)) i) (sized d i) q y
-      (run_pass (differs q word.Sizeof z) (then_give h)))))
+      (run_pass (differs q word.Sizeof z) (tail h)))))
 
   -- a level's operand alone, or an operator between two
   pub data AtLevel (n : ℕ) (p : Part) (c e : Scopes) (d i j : ℕ) : Trees → Type 0 where
@@ -199,7 +196,7 @@ module _ (ts : List Lexeme) (limit : Limit) where
   texts_go : {h : Context} {c e : Scopes} {d i j : ℕ} {t : Trees} → Spells ts limit (rest (symbol.Texts ∷ [])) h c e d t i j → is_word ts j word.Text ≡ false →
       Is ts i word.Text × Stands limit i d × (none ≡ t) × Answers ts limit (m.texts d) c (i + 1) none e j
   texts_go (spells.texts_one q w) n = (q, w, refl, run_pass n run_give)
-  texts_go (spells.texts_more q w s) n = let r = texts_go s n in (q, w, refl, run_take (yes r.0) r.1 (then_give r.3))
+  texts_go (spells.texts_more q w s) n = let r = texts_go s n in (q, w, refl, run_take (yes r.0) r.1 (tail r.3))
 
   arguments_first : {r : Side} {h : Context} {c e : Scopes} {d i j : ℕ} {t : Trees} → Spells ts limit (rest (inner_list part.Assignment ∷ r)) h c e d t i j → First ts c i
   arguments_first (spells.list_last x s) = first_assignment x
@@ -229,15 +226,15 @@ module _ (ts : List Lexeme) (limit : Limit) where
     operand _ l s lt f = none_true l
 
     pub level_reads : (p : Part) (l : is_level p ≡ true) (h : Context) {c e : Scopes} {d i j : ℕ} {t : Trees} → AtLevel n p c e d i j t → Completes ts limit (task.level p l) h c e d t i j
-    level_reads p l h (level_alone s lt) f r y = run_here (run_call (operand p l s lt f) (then_give y))
+    level_reads p l h (level_alone s lt) f r y = run_here (run_call (operand p l s lt f) (tail y))
     level_reads p l h {d = d} {i = i} (level_node row lt' (spells.part {t = t} x (spells.token q w (spells.part y spells.done))) lt) f r z =
         b.read (task.level p l) x (omega arith) (free_by q lt') r
-        (takes body ts limit row plain d (operated p d i t) (give t) q w (run_call (operand p l y (omega arith) f) (run_here (then_give z))))
+        (takes body ts limit row plain d (operated p d i t) (give t) q w (run_call (operand p l y (omega arith) f) (run_here (tail z))))
 
     pub expression_reads : {h : Context} {c e : Scopes} {d i j : ℕ} {t : Trees} (s : Spells ts limit (a part.Expression) h c e d t i j) → measure s < suc n → Completes ts limit task.expression h c e d t i j
-    expression_reads (spells.of_chain grammar.expression_assignment f s) lt fr r y = run_here (run_call (b.read task.assignment s (omega arith) fr) (then_give y))
+    expression_reads (spells.of_chain grammar.expression_assignment f s) lt fr r y = run_here (run_call (b.read task.assignment s (omega arith) fr) (tail y))
     expression_reads (spells.of_alternative grammar.comma f (spells.part x (spells.token q w (spells.part y spells.done)))) lt fr r z =
-        b.read task.expression x (omega arith) (free_by q (omega arith)) r (run_take (yes q) w (run_call (b.read task.assignment y (omega arith) fr) (run_here (then_give z))))
+        b.read task.expression x (omega arith) (free_by q (omega arith)) r (run_take (yes q) w (run_call (b.read task.assignment y (omega arith) fr) (run_here (tail z))))
 
     pub assignment_reads : (h : Context) {c e : Scopes} {d i j : ℕ} {t : Trees} → AtAssignment n c e d i j t → Completes ts limit task.assignment h c e d t i j
     assignment_reads h {e = e} {d = d} {i = i} {j = j} {t = t} (assign_alone s lt) fr =
@@ -275,34 +272,34 @@ module _ (ts : List Lexeme) (limit : Limit) where
         (skips body ts limit unary_prefixes opens d (prefixed (m.unary (d + 1)) i) (m.choose opens cast_prefixes d (prefixed (m.cast (d + 1)) i) (sized d i)) q other
         (takes body ts limit row opens d (prefixed (m.cast (d + 1)) i) (sized d i) q w (run_call (b.read task.cast x (omega arith) fr) (run_here run_give)))))
     unary_reads h {d = d} {i = i} (of_expression (spells.opens q w (spells.part x spells.done)) lt) = λ fr.
-        by_others (differs q word.LeftParen refl) (before q refl refl (run_take (yes q) w (then_give (as_measured d i (b.read task.unary x (omega arith) fr)))))
+        by_others (differs q word.LeftParen refl) (before q refl refl (run_take (yes q) w (tail (as_measured d i (b.read task.unary x (omega arith) fr)))))
     unary_reads h {c = c} {e = e} {d = d} {i = i} {j = j} (of_type (spells.opens q w (spells.opens q' w' (spells.part {t = t} x s))) lt) =
         closing_run s (λ e u j. Completes ts limit task.unary h c e d (one kind.SizeofType i j (t & u)) i j) (λ q'' w'' fr.
-        by_others (differs q word.LeftParen refl) (before q refl refl (run_take (yes q) w (then_give
+        by_others (differs q word.LeftParen refl) (before q refl refl (run_take (yes q) w (tail
         (run_here (run_take (yes q') w' (run_seen (type_yes x) (run_call (b.read task.type_name x (omega arith) q'') (run_take (yes q'') w'' (run_here run_give))))))))))
 
     -- an identifier before its suffixes
     by_identifier : {d i : ℕ} {c : Scopes} {r : Reply} → IsIdentifier ts c i false → Stands limit i d → Goes ts limit (body (m.called d i)) c (i + 1) r → Started ts limit d c i r
-    by_identifier {i = i} {c = c} q w h = through q.0 refl refl refl refl (run_here (run_take (ordinary_yes ts c i q) w (then_give h)))
+    by_identifier {i = i} {c = c} q w h = through q.0 refl refl refl refl (run_here (run_take (ordinary_yes ts c i q) w (tail h)))
 
     by_constant : {w : Word} {k : Kind} {d i : ℕ} {c : Scopes} {r : Reply} → Row w k constants → Is ts i w → Stands limit i d → all_differ w unary_prefixes ≡ true → all_differ w cast_prefixes ≡ true →
         same_word w word.Sizeof ≡ false → same_word w word.LeftParen ≡ false → same_word w word.Identifier ≡ false → Goes ts limit (body (m.suffixes d i (one k i (i + 1) none))) c (i + 1) r → Started ts limit d c i r
     by_constant {d = d} {i = i} {c = c} row q w x y z p other h = through q x y z p (run_here (run_pass (ordinary_no ts c i (differs q word.Identifier other))
-        (takes body ts limit row plain d (suffixed d i none) (other_primary d i) q w (run_here (then_give h)))))
+        (takes body ts limit row plain d (suffixed d i none) (other_primary d i) q w (run_here (tail h)))))
 
     pub primary_reads : {h : Context} {c e : Scopes} {d i j : ℕ} {t : Trees} (s : Spells ts limit (a part.Primary) h c e d t i j) → measure s < suc n → Completes ts limit task.postfix h c e d t i j
     primary_reads (spells.of_chain x f s) lt = elim x [ ]
-    primary_reads (spells.of_alternative grammar.identifier f (spells.ordinary q w spells.done)) lt = λ lo r z. by_identifier q w (run_pass lo.paren (run_here (then_give z)))
+    primary_reads (spells.of_alternative grammar.identifier f (spells.ordinary q w spells.done)) lt = λ lo r z. by_identifier q w (run_pass lo.paren (run_here (tail z)))
     primary_reads (spells.of_alternative grammar.integer_constant f (spells.token q w spells.done)) lt = λ lo r z. by_constant row_here q w refl refl refl refl refl z
     primary_reads (spells.of_alternative grammar.character_constant f (spells.token q w spells.done)) lt = λ lo r z. by_constant (row_next refl row_here) q w refl refl refl refl refl z
     primary_reads {e = e} {d = d} {i = i} {j = j} {t = t} (spells.of_alternative {c = c} grammar.string_literal f s) lt = λ lo r z.
         let x = texts_go s lo.text in
         through x.0 refl refl refl refl (run_here (run_pass (ordinary_no ts c i (differs x.0 word.Identifier refl))
         (skips body ts limit constants plain d (suffixed d i none) (other_primary d i) x.0 refl
-        (run_take (yes x.0) x.1 (run_call x.3 (run_here (then_give (subst (λ y. Goes ts limit (body (m.suffixes d i (one kind.Text i j y))) e j r) (sym x.2) z))))))))
+        (run_take (yes x.0) x.1 (run_call x.3 (run_here (tail (subst (λ y. Goes ts limit (body (m.suffixes d i (one kind.Text i j y))) e j r) (sym x.2) z))))))))
     primary_reads {h = h} {c = c} {d = d} {i = i} (spells.of_alternative grammar.parenthesized f (spells.opens q w (spells.part {t = t} x s))) lt =
         closing_run s (λ e u j. Completes ts limit task.postfix h c e d (one kind.Group i j (t & u)) i j) (λ q' w' lo r z.
-        by_group q w (not_type (first_expression x)) (run_call (whole_expression x (omega arith) (free_by q' (omega arith))) (run_take (yes q') w' (run_here (then_give z)))))
+        by_group q w (not_type (first_expression x)) (run_call (whole_expression x (omega arith) (free_by q' (omega arith))) (run_take (yes q') w' (run_here (tail z)))))
 
     stepped : {w : Word} {k : Kind} (d s : ℕ) (t : Trees) {i : ℕ} {c : Scopes} {r : Reply} → Row w k postfix_operators → Is ts i w → Stands limit i d → same_word w word.LeftBracket ≡ false → same_word w word.Dot ≡ false →
         same_word w word.Arrow ≡ false → Goes ts limit (suffixed d s (t & none) k) c (i + 1) r → Goes ts limit (body (m.suffixes d s t)) c i r
@@ -313,26 +310,26 @@ module _ (ts : List Lexeme) (limit : Limit) where
     postfix_reads (spells.of_chain grammar.postfix_primary f s) lt = primary_reads s (omega arith)
     postfix_reads {h = h} {c = c} {d = d} {i = i} (spells.of_alternative grammar.call f (spells.ordinary q w (spells.opens q' w' (spells.list_none s)))) lt =
         closing_run s (λ e u j. Completes ts limit task.postfix h c e d (one kind.Call i j u) i j) (λ q'' w'' lo r z.
-        by_identifier q w (run_take (yes q') w' (run_take (yes q'') w'' (run_here (then_give z)))))
+        by_identifier q w (run_take (yes q') w' (run_take (yes q'') w'' (run_here (tail z)))))
     postfix_reads (spells.of_alternative grammar.call f (spells.ordinary q w (spells.opens q' w' (spells.list_some s)))) lt = λ lo r z.
-        by_identifier q w (run_take (yes q') w' (run_pass (never (arguments_first s) never_paren) (run_call (b.read task.arguments s (omega arith) none) (run_here (then_give z)))))
+        by_identifier q w (run_take (yes q') w' (run_pass (never (arguments_first s) never_paren) (run_call (b.read task.arguments s (omega arith) none) (run_here (tail z)))))
     postfix_reads {h = h} {c = c} {d = d} {i = i} (spells.of_alternative grammar.subscript f (spells.part {t = t} x (spells.opens q w (spells.part {t = u} y s)))) lt =
         closing_run s (λ e v j. Completes ts limit task.postfix h c e d (one kind.Subscript i j (t & u & v)) i j) (λ q' w' lo r z.
         b.read task.postfix x (omega arith) (lone_by q refl refl) r
-        (run_take (yes q) w (run_call (whole_expression y (omega arith) (free_by q' (omega arith))) (run_take (yes q') w' (run_here (then_give z))))))
+        (run_take (yes q) w (run_call (whole_expression y (omega arith) (free_by q' (omega arith))) (run_take (yes q') w' (run_here (tail z))))))
     postfix_reads {h = h} {c = c} {d = d} {i = i} (spells.of_alternative grammar.member f (spells.part {t = t} x (spells.token q w s))) lt =
         closing_run s (λ e v j. Completes ts limit task.postfix h c e d (one kind.Member i j (t & v)) i j) (λ q' w' lo r z.
-        b.read task.postfix x (omega arith) (lone_by q refl refl) r (run_pass (differs q word.LeftBracket refl) (run_take (yes q) w (run_take (yes q') w' (run_here (then_give z))))))
+        b.read task.postfix x (omega arith) (lone_by q refl refl) r (run_pass (differs q word.LeftBracket refl) (run_take (yes q) w (run_take (yes q') w' (run_here (tail z))))))
     postfix_reads {h = h} {c = c} {d = d} {i = i} (spells.of_alternative grammar.pointer_member f (spells.part {t = t} x (spells.token q w s))) lt =
         closing_run s (λ e v j. Completes ts limit task.postfix h c e d (one kind.PointerMember i j (t & v)) i j) (λ q' w' lo r z.
         b.read task.postfix x (omega arith) (lone_by q refl refl) r
-        (run_pass (differs q word.LeftBracket refl) (run_pass (differs q word.Dot refl) (run_take (yes q) w (run_take (yes q') w' (run_here (then_give z)))))))
+        (run_pass (differs q word.LeftBracket refl) (run_pass (differs q word.Dot refl) (run_take (yes q) w (run_take (yes q') w' (run_here (tail z)))))))
     postfix_reads {h = h} {c = c} {d = d} {i = i} (spells.of_alternative grammar.post_increment f (spells.part {t = t} x s)) lt =
         closing_run s (λ e v j. Completes ts limit task.postfix h c e d (one kind.PostIncrement i j (t & v)) i j) (λ q w lo r z.
-        b.read task.postfix x (omega arith) (lone_by q refl refl) r (stepped d i t row_here q w refl refl refl (run_here (then_give z))))
+        b.read task.postfix x (omega arith) (lone_by q refl refl) r (stepped d i t row_here q w refl refl refl (run_here (tail z))))
     postfix_reads {h = h} {c = c} {d = d} {i = i} (spells.of_alternative grammar.post_decrement f (spells.part {t = t} x s)) lt =
         closing_run s (λ e v j. Completes ts limit task.postfix h c e d (one kind.PostDecrement i j (t & v)) i j) (λ q w lo r z.
-        b.read task.postfix x (omega arith) (lone_by q refl refl) r (stepped d i t (row_next refl row_here) q w refl refl refl (run_here (then_give z))))
+        b.read task.postfix x (omega arith) (lone_by q refl refl) r (stepped d i t (row_next refl row_here) q w refl refl refl (run_here (tail z))))
 
     pub arguments_read : {h : Context} {c e : Scopes} {d i j : ℕ} {t : Trees} (s : Spells ts limit (rest (inner_list part.Assignment ∷ closing word.RightParen ∷ [])) h c e d t i j) → measure s < suc n →
         Completes ts limit task.arguments h c e d t i j
@@ -342,4 +339,4 @@ module _ (ts : List Lexeme) (limit : Limit) where
         (run_call (b.read task.assignment x (omega arith) (free_by q (omega arith))) (run_pass (differs q word.Comma refl) (run_take (yes q) w run_give))))
     arguments_read {c = c} {e = e} {d = d} {i = i} {j = j} (spells.list_more {t = u} {u = v} x q w s) lt = λ y.
         subst (λ z. Answers ts limit (m.arguments d y) c i z e j) (pushed y u v)
-        (run_call (b.read task.assignment x (omega arith) (free_by q (omega arith))) (run_take (yes q) w (then_give (b.read task.arguments s (omega arith) (y & u & none)))))
+        (run_call (b.read task.assignment x (omega arith) (free_by q (omega arith))) (run_take (yes q) w (tail (b.read task.arguments s (omega arith) (y & u & none)))))

@@ -1,16 +1,13 @@
 -- A text that goes on: what is spelled in it stays spelled in a longer one, whose further tokens have no spelling to tell.
-use Rattle.std.proofs.Common.{◌≡◌, ℕ, zero, suc, ◌+◌, ◌≤◌, Bool, true, false, not, ◌||◌, List, [], ◌∷◌, length, refl, sym, ap, subst, ◌∙◌, arith}
+use Rattle.std.proofs.Common.{◌≡◌, ℕ, zero, suc, ◌+◌, ◌≤◌, Bool, List, [], ◌∷◌, length, refl, sym, ap, subst, ◌∙◌, arith}
 use Rattle.std.specs.Prelude.{◌++◌}
 use Rattle.cr_syntax.specs.declared.word.Word.{Word}
-use Rattle.cr_syntax.specs.declared.symbol.Part.TheVariants as part
-use Rattle.cr_syntax.specs.declared.symbol.Symbol.TheVariants as symbol
 use Rattle.cr_syntax.specs.declared.symbol.Context.{Context}
 use Rattle.cr_syntax.specs.Words.{Lexeme, spelling_at}
-use Rattle.cr_syntax.specs.Scopes.{Scopes, is_type, enter}
+use Rattle.cr_syntax.specs.Scopes.{Scopes, is_type}
 use Rattle.cr_syntax.specs.Trees.{Trees}
-use Rattle.cr_syntax.specs.Context.{past_part}
-use Rattle.cr_syntax.specs.Spells.{Limit, Is, IsIdentifier, Phrase, Spells, a, rest, AreConst, const_none, const_more}
-use Rattle.cr_syntax.specs.Spells as spells
+use Rattle.cr_syntax.specs.Spells.{Limit, Is, IsIdentifier, Phrase, Spells, AreConst, const_none, const_more}
+use Rattle.cr_machine.proofs.MachineOwn.{lets_itself, carried_whole}
 
 -- the first text's tokens are the second's, and the second tells no more names
 pub record Front (us all : List Lexeme) : Type 0 where
@@ -95,51 +92,4 @@ pub weaken_name : {us all : List Lexeme} (c : Scopes) (i : ℕ) {b : Bool} → F
 weaken_name c i {b = b} y q = (y.words _ _ q.0, subst (λ z. is_type c z ≡ b) (sym (y.names i)) q.1)
 
 pub weaken : {us all : List Lexeme} {limit : Limit} {p : Phrase} {h : Context} {c e : Scopes} {d i j : ℕ} {t : Trees} → Front us all → Spells us limit p h c e d t i j → Spells all limit p h c e d t i j
-weaken y (spells.of_alternative m f s) = spells.of_alternative m f (weaken y s)
-weaken y (spells.of_chain m f s) = spells.of_chain m f (weaken y s)
-weaken {all = all} {limit = limit} {h = h} {c = c} {d = d} {i = i} {j = j} {t = t} y (spells.init_declarator_alone {e = e} s) = subst (λ z. Spells all limit (a part.InitDeclarator) h c (enter (record { name = z; is_type = (past_part h t).type_name }) e) d t i j) (y.names (past_part h t).name) (spells.init_declarator_alone (weaken y s))
-weaken {all = all} {limit = limit} {h = h} {c = c} {d = d} {i = i} {j = j} {t = t} y (spells.parameter_declarator {e = e} s) = subst (λ z. Spells all limit (a part.ParameterDeclarator) h c (enter (record { name = z; is_type = (past_part h t).type_name }) e) d t i j) (y.names (past_part h t).name) (spells.parameter_declarator (weaken y s))
-weaken y (spells.member_declarator s) = spells.member_declarator (weaken y s)
-weaken y spells.done = spells.done
-weaken y (spells.token q w s) = spells.token (y.words _ _ q) w (weaken y s)
-weaken y (spells.opens q w s) = spells.opens (y.words _ _ q) w (weaken y s)
-weaken y (spells.reopens q w v s) = spells.reopens (y.words _ _ q) w v (weaken y s)
-weaken y (spells.part x s) = spells.part (weaken y x) (weaken y s)
-weaken y (spells.optional_none s) = spells.optional_none (weaken y s)
-weaken y (spells.optional_some x s) = spells.optional_some (weaken y x) (weaken y s)
-weaken y (spells.many_none s) = spells.many_none (weaken y s)
-weaken y (spells.many_more x s) = spells.many_more (weaken y x) (weaken y s)
-weaken y (spells.list_last x s) = spells.list_last (weaken y x) (weaken y s)
-weaken y (spells.list_more x q w s) = spells.list_more (weaken y x) (y.words _ _ q) w (weaken y s)
-weaken y (spells.list_none s) = spells.list_none (weaken y s)
-weaken y (spells.list_some s) = spells.list_some (weaken y s)
-weaken y (spells.tag_none q w s) = spells.tag_none (y.words _ _ q) w (weaken y s)
-weaken y (spells.tag_some q w q' w' s) = spells.tag_some (y.words _ _ q) w (y.words _ _ q') w' (weaken y s)
-weaken y (spells.comma_none q w s) = spells.comma_none (y.words _ _ q) w (weaken y s)
-weaken y (spells.comma_some q w q' w' s) = spells.comma_some (y.words _ _ q) w (y.words _ _ q') w' (weaken y s)
-weaken y (spells.qualified k x) = spells.qualified (weaken_consts y k) (weaken y x)
-weaken y (spells.qualified_none k) = spells.qualified_none (weaken_consts y k)
-weaken y (spells.qualified_some k x) = spells.qualified_some (weaken_consts y k) (weaken y x)
-weaken {c = c} {i = i} y (spells.ordinary q w s) = spells.ordinary (weaken_name c i y q) w (weaken y s)
-weaken {c = c} {i = i} y (spells.type_identifier q f w s) = spells.type_identifier (weaken_name c i y q) f w (weaken y s)
-weaken {h = h} {c = c} {i = i} y (spells.declared q f w s) = spells.declared (y.words _ _ q) (subst (λ z. h.typed || not (is_type c z) ≡ true) (sym (y.names i)) f) w (weaken y s)
-weaken {all = all} {limit = limit} {h = h} {c = c} {d = d} {i = i} {j = j} {t = t} y (spells.enumerates {s = r} {e = e} q w s) = subst (λ z. Spells all limit (rest (symbol.Enumerates ∷ r)) h c (enter (record { name = z; is_type = false }) e) d t i j) (y.names i) (spells.enumerates (y.words _ _ q) w (weaken y s))
-weaken y (spells.value_none s) = spells.value_none (weaken y s)
-weaken y (spells.value_some q w x s) = spells.value_some (y.words _ _ q) w (weaken y x) (weaken y s)
-weaken {all = all} {limit = limit} {h = h} {e = e} {d = d} {i = i} {j = j} {t = t} y (spells.enters {s = r} {c = c} {own = own} s) = spells.enters (subst (λ z. Spells all limit (rest r) h (own ∷ enter (record { name = z; is_type = h.type_name }) c) e d t i j) (sym (y.names h.name)) (weaken y s))
-weaken y (spells.begins s) = spells.begins (weaken y s)
-weaken y (spells.ends s) = spells.ends (weaken y s)
-weaken y (spells.prototype_none s) = spells.prototype_none (weaken y s)
-weaken y (spells.prototype_some x s) = spells.prototype_some (weaken y x) (weaken y s)
-weaken y (spells.size_none s) = spells.size_none (weaken y s)
-weaken y (spells.size_some x s) = spells.size_some (weaken y x) (weaken y s)
-weaken y (spells.texts_one q w) = spells.texts_one (y.words _ _ q) w
-weaken y (spells.texts_more q w s) = spells.texts_more (y.words _ _ q) w (weaken y s)
-weaken y (spells.init_declaration x s) = spells.init_declaration (weaken y x) (weaken y s)
-weaken y (spells.init_clause s) = spells.init_clause (weaken y s)
-weaken y (spells.clause_none q w s) = spells.clause_none (y.words _ _ q) w (weaken y s)
-weaken y (spells.clause_some x q w s) = spells.clause_some (weaken y x) (y.words _ _ q) w (weaken y s)
-weaken y (spells.step_none q w v s) = spells.step_none (y.words _ _ q) w v (weaken y s)
-weaken y (spells.step_some x q w v s) = spells.step_some (weaken y x) (y.words _ _ q) w v (weaken y s)
-weaken y (spells.else_none s) = spells.else_none (weaken y s)
-weaken y (spells.else_some q w x s) = spells.else_some (y.words _ _ q) w (weaken y x) (weaken y s)
+weaken {limit = limit} {j = j} y s = carried_whole (record { words = λ i w q ge lt. y.words i w q; names = λ i q ge lt. y.names i; every = λ q k. y.names k }) (lets_itself limit j) s

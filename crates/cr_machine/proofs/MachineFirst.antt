@@ -1,5 +1,5 @@
 -- First tokens, the tokens that go on with an expression, and what the machine's tests say of them.
-use Rattle.std.proofs.Common.{◌≡◌, ℕ, ◌+◌, ◌<◌, ◌≤◌, Bool, true, false, not, ◌&&◌, ◌||◌, List, [], ◌∷◌, Option, None, Some, refl, sym, ap, subst, ◌∙◌, arith}
+use Rattle.std.proofs.Common.{◌≡◌, ℕ, ◌+◌, ◌<◌, ◌≤◌, Bool, true, false, not, ◌&&◌, ◌||◌, List, [], ◌∷◌, Option, None, Some, refl, sym, ap, subst, ◌∙◌, arith, ◌⊎◌, inl, inr}
 use Rattle.std.specs.Prelude.{nat_le, ◌++◌}
 use borrow.Author.Tests.{leb-true}
 use denote.Enum.Bare.{true_same, same_true}
@@ -10,7 +10,7 @@ use Rattle.cr_syntax.specs.declared.node.Kind.{Kind}
 use Rattle.cr_syntax.specs.declared.symbol.Part.{Part}
 use Rattle.cr_syntax.specs.declared.symbol.Part.TheVariants as part
 use Rattle.cr_syntax.specs.declared.symbol.Context.{Context}
-use Rattle.cr_syntax.specs.Words.{Lexeme, spelling_at}
+use Rattle.cr_syntax.specs.Words.{Lexeme, spelling_at, word_at}
 use Rattle.cr_syntax.specs.Scopes.{Scopes, is_type}
 use Rattle.cr_syntax.specs.Trees.{Trees}
 use Rattle.cr_syntax.specs.Grammar as grammar
@@ -21,7 +21,7 @@ use Rattle.cr_machine.specs.Machine.{Goal, Prog, Manner, Reply, Runs, Allows, Do
 use Rattle.cr_machine.specs.Machine as m
 use Rattle.cr_machine.specs.MachineBody.{Words, is_plain_start, type_start, is_unary}
 use Rattle.cr_machine.specs.MachineLaws.{rank_of, IsFree}
-use Rattle.cr_syntax.proofs.Tests.{is_of, both}
+use Rattle.cr_syntax.proofs.Tests.{is_of, both, not_true, some_one}
 
 pub none_true : {A : Type 0} → false ≡ true → A
 none_true q = cc
@@ -29,11 +29,19 @@ none_true q = cc
 pub true_false : {A : Type 0} → true ≡ false → A
 true_false q = cc
 
+pub one_of_two : (b d : Bool) → b || d ≡ true → (b ≡ true) ⊎ (d ≡ true)
+one_of_two true d q = inl refl
+one_of_two false d q = inr q
+
 pub false_by : (b : Bool) → (b ≡ true → ⊥) → b ≡ false
 false_by true f = absurd (f refl)
 false_by false f = refl
 
 -- A token and another word.
+
+pub same_is : (v w : Word) → same_word v w ≡ true → v ≡ w
+same_is v w q = same_true word_type.the_type tt v w q
+
 pub yes : {o : Option Word} {w : Word} → o ≡ Some w → elim o as (λ _. Bool) [ None ↦ false | Some v ↦ same_word v w ] ≡ true
 yes {w = w} q = subst (λ o. elim o as (λ _. Bool) [ None ↦ false | Some v ↦ same_word v w ] ≡ true) (sym q) (true_same word_type.the_type w w refl)
 
@@ -43,11 +51,16 @@ differs q w n = subst (λ o. elim o as (λ _. Bool) [ None ↦ false | Some v �
 pub sorted : {o : Option Word} {w : Word} (f : Word → Bool) (b : Bool) → o ≡ Some w → f w ≡ b → elim o as (λ _. Bool) [ None ↦ false | Some v ↦ f v ] ≡ b
 sorted f b q n = subst (λ o. elim o as (λ _. Bool) [ None ↦ false | Some v ↦ f v ] ≡ b) (sym q) n
 
-some_word : {v w : Word} → Some v ≡ Some w → v ≡ w
-some_word q = cc
+-- the word that passes a test
+pub some_word_of : (ts : List Lexeme) (i : ℕ) (f : Word → Bool) → has_word ts i f ≡ true → (w : Word) × Is ts i w × (f w ≡ true)
+some_word_of ts i f = by (word_at ts i)
+  where
+    by : (o : Option Word) → elim o as (λ _. Bool) [ None ↦ false | Some w ↦ f w ] ≡ true → (w : Word) × (o ≡ Some w) × (f w ≡ true)
+    by None q = none_true q
+    by (Some w) q = (w, refl, q)
 
 pub free_by : {ts : List Lexeme} {n j : ℕ} {w : Word} → Is ts j w → n < rank_of w → IsFree ts n j
-free_by {n = n} {w = w} q lt = record { all = λ v q'. subst (λ x. n < rank_of x) (some_word (sym q ∙ q')) lt }
+free_by {n = n} {w = w} q lt = record { all = λ v q'. subst (λ x. n < rank_of x) (some_one (sym q ∙ q')) lt }
 
 pub lower : {ts : List Lexeme} {m n j : ℕ} → IsFree ts n j → m ≤ n → IsFree ts m j
 lower f le = record { all = λ w q. let lt = f.all w q in omega arith }
@@ -72,17 +85,13 @@ pub data Row (w : Word) (k : Kind) : Words → Type 0 where
 
 pub later_row : {w : Word} {k : Kind} (qs rs : Words) → all_differ w qs ≡ true → Row w k rs → Row w k (qs ++ rs)
 later_row [] rs q x = x
-later_row {w = w} (r ∷ qs) rs q x = let n = both (not (same_word w r.0)) (all_differ w qs) q in row_next {v = r.0} {l = r.1} (is_false (same_word w r.0) n.0) (later_row qs rs n.1 x)
-  where
-    is_false : (b : Bool) → not b ≡ true → b ≡ false
-    is_false true q = cc
-    is_false false q = refl
+later_row {w = w} (r ∷ qs) rs q x = let n = both (not (same_word w r.0)) (all_differ w qs) q in row_next {v = r.0} {l = r.1} (not_true (same_word w r.0) n.0) (later_row qs rs n.1 x)
+
+pub tail : {body : Goal → Prog} {ts : List Lexeme} {limit : Limit} {g : Goal} {c : Scopes} {i : ℕ} {r : Reply} → Runs body ts limit (body g) c i r → Runs body ts limit (call g give) c i r
+tail {r = Done t e j} h = run_call h run_give
+tail {r = Failed x k} h = run_fail h
 
 module _ (body : Goal → Prog) (ts : List Lexeme) (limit : Limit) where
-  pub tail : {g : Goal} {c : Scopes} {i : ℕ} {r : Reply} → Runs body ts limit (body g) c i r → Runs body ts limit (call g give) c i r
-  tail {r = Done t e j} h = run_call h run_give
-  tail {r = Failed x k} h = run_fail h
-
   pub takes : {w : Word} {k : Kind} {rs : Words} → Row w k rs → (g : Manner) (d : ℕ) (p : Kind → Prog) (q : Prog) {c : Scopes} {i : ℕ} {r : Reply} → Is ts i w → Allows limit g i d →
       Runs body ts limit (p k) c (i + 1) r → Runs body ts limit (choose g rs d p q) c i r
   takes row_here g d p q x y h = run_take (yes x) y h
@@ -93,11 +102,7 @@ module _ (body : Goal → Prog) (ts : List Lexeme) (limit : Limit) where
   skips [] g d p q x y h = h
   skips {w = w} (r ∷ rs) g d p q x y h =
       let n = both (not (same_word w r.0)) (all_differ w rs) y in
-      run_pass (differs x r.0 (is_false (same_word w r.0) n.0)) (skips rs g d p q x n.1 h)
-    where
-      is_false : (b : Bool) → not b ≡ true → b ≡ false
-      is_false true q = cc
-      is_false false q = refl
+      run_pass (differs x r.0 (not_true (same_word w r.0) n.0)) (skips rs g d p q x n.1 h)
 
   pub ends : {n : ℕ} (rs : Words) (g : Manner) (d : ℕ) (p : Kind → Prog) (q : Prog) {c : Scopes} {i : ℕ} {r : Reply} → IsFree ts n i → all_below n rs ≡ true →
       Runs body ts limit q c i r → Runs body ts limit (choose g rs d p q) c i r
@@ -134,15 +139,12 @@ pub data Never : Word → Type 0 where
   never_brace : Never word.LeftBrace
 
 no_start : (v w : Word) → Never w → starts v ≡ true → same_word v w ≡ false
-no_start v w n s = false_by (same_word v w) (λ q. by n (subst (λ x. starts x ≡ true) (same v w q) s))
+no_start v w n s = false_by (same_word v w) (λ q. by n (subst (λ x. starts x ≡ true) (same_is v w q) s))
   where
     by : {x : Word} → Never x → starts x ≡ true → ⊥
     by never_bracket q = none_true q
     by never_paren q = none_true q
     by never_brace q = none_true q
-
-    same : (v w : Word) → same_word v w ≡ true → v ≡ w
-    same v w q = same_true word_type.the_type tt v w q
 
 pub never : {ts : List Lexeme} {c : Scopes} {i : ℕ} {w : Word} → First ts c i → Never w → is_word ts i w ≡ false
 never {w = w} (by_word {w = v} q s) n = differs q w (no_start v w n s)
@@ -151,7 +153,7 @@ never (by_name q) never_paren = differs q.0 word.RightParen refl
 never (by_name q) never_brace = differs q.0 word.LeftBrace refl
 
 pub not_first : {ts : List Lexeme} {c : Scopes} {i : ℕ} → First ts c i → (w : Word) → starts w ≡ false → same_word word.Identifier w ≡ false → is_word ts i w ≡ false
-not_first (by_word {w = v} q s) w n z = differs q w (false_by (same_word v w) (λ x. true_false (sym s ∙ ap starts (same_true word_type.the_type tt v w x) ∙ n)))
+not_first (by_word {w = v} q s) w n z = differs q w (false_by (same_word v w) (λ x. true_false (sym s ∙ ap starts (same_is v w x) ∙ n)))
 not_first (by_name q) w n z = differs q.0 w z
 
 plain_start : (w : Word) → starts w ≡ true → is_plain_start w ≡ false

@@ -39,7 +39,7 @@ use Rattle.cr_machine.proofs.MachineFirst.{none_true, yes, differs, sorted}
 use Rattle.cr_machine.proofs.MachineTasks as task
 use Rattle.cr_machine.proofs.MachineBegins.{named_first, is_named, or_right}
 use Rattle.cr_machine.proofs.MachineDeclarators.{consts_go, named_const}
-use Rattle.cr_machine.proofs.MachineComplete.{completes, spelled_is_read, free_at_end, get_some}
+use Rattle.cr_machine.proofs.MachineComplete.{completes, spelled_is_read, free_at_end, begun_same}
 use Rattle.cr_machine.proofs.MachineWays.{Point, at, same_way}
 use Rattle.cr_machine.proofs.MachineMarks.{Barred, barred_on, or_so, Marks, Behind, marks_choose, same_test, marked}
 
@@ -967,7 +967,7 @@ form_is_barred r {ts = ts} s {k = k} z o q f b = ⊎_elim
     (spelled_is_read b.continues.text (Upto k most_levels) z b.continues.spelled.spells (free_at_end b.continues.text 13)))
   where
     alike : (n : ℕ) → n < k → slice_get b.continues.text n ≡ slice_get ts n
-    alike n lt = let le = within ts k q in let w = get_some ts n (omega arith) in b.continues.alike n w.0 lt w.1 ∙ sym w.1
+    alike n lt = let le = within ts k q in begun_same ts b.continues.text k b.continues.alike n lt (omega arith)
 
 -- where a row of the refused forms other than that of the keywords names a token, the machine refuses it by that row
 pub outside_is_barred : {ts : List Lexeme} (s : Start) {k n : ℕ} → IsStart s.part → (n ≡ 1 → ⊥) → OutsideFrom ts s k n →

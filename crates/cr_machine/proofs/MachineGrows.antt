@@ -14,7 +14,7 @@ use Rattle.cr_syntax.specs.declared.symbol.Context.{Context}
 use Rattle.cr_syntax.specs.Words.{Lexeme}
 use Rattle.cr_syntax.specs.Scopes.{Scopes, enter}
 use Rattle.cr_syntax.specs.Trees.{Trees, none, one, ◌&◌}
-use Rattle.cr_syntax.specs.Context.{fresh, past_token, past_part, declared_name}
+use Rattle.cr_syntax.specs.Context.{fresh, past_token, past_part, declared_name, hears}
 use Rattle.cr_syntax.specs.Grammar.{token, inner_list, closing, many, list, part, binary}
 use Rattle.cr_syntax.specs.Grammar as grammar
 use Rattle.cr_syntax.specs.Spells.{Limit, Phrase, Is, Stands, Within, Spells, a, rest, AreConst, const_none}
@@ -28,11 +28,11 @@ use Rattle.cr_machine.specs.MachineBody.{body, is_identifier, assigned, operated
 use Rattle.cr_machine.specs.MachineBody as program
 use Rattle.cr_machine.proofs.MachineMeans as means
 use Rattle.cr_machine.proofs.MachineSpells as facts
-use Rattle.cr_machine.proofs.MachineSpells.{and_none, and_and, pushed, is_one, unary_in}
+use Rattle.cr_machine.proofs.MachineSpells.{and_none, and_and, pushed, is_one, unary_in, unheard}
 use Rattle.cr_machine.proofs.MachineGives.{AllRows, no_rows, also}
 use Rattle.cr_machine.proofs.MachineKept.{Kept, runs_kept}
 use Rattle.cr_machine.proofs.MachineMeans.{Means, Reads, Behind, Begun, with_name, without, IsSize, unsized, IsParameterRow, first_one, next_one, IsRowBegin, IsOpen, has_some, start_part, is_level, row_part, element_part, after_init}
-use Rattle.cr_machine.proofs.MachineSound.{Declared, group_named, group_unnamed, Assigns, assignment_rows, Prefixes, unary_rows, cast_rows, IsConstant, constant_rows, Follows, postfix_rows, open_of, part_some, pushed_some, many_of, level_up, plain_up, specifier_rows, Specifies, dropped_member, array_of, array_size, parameters_of, at_end, hears_nothing, row_of_parameters, row_alone, row_made}
+use Rattle.cr_machine.proofs.MachineSound.{Declared, group_named, group_unnamed, Assigns, assignment_rows, Prefixes, unary_rows, cast_rows, IsConstant, constant_rows, Follows, postfix_rows, open_of, part_some, pushed_some, many_of, level_up, plain_up, specifier_rows, Specifies, dropped_member, array_of, array_size, parameters_of, at_end, row_of_parameters, row_alone, row_made}
 use Rattle.cr_machine.proofs.MachineFails.{Fails, words_fail}
 use Rattle.cr_machine.proofs.MachineEnds.{Way}
 use Rattle.cr_machine.proofs.MachineShown.{Next, next_literal, next_call, next_field, next_free, next_more, next_so, ShownIn, Shown, seen, every, Started, shown_literal, shown_call, shown_field, shown_free, shown_so, Room, Barred, Labelled, Defined, has_left, left, right, inside, first, second, third, row_shown, parameter_shown, parameters_shown, operand_begins, postfix_ends, declarator_ends}
@@ -451,58 +451,9 @@ module _ (us : List Lexeme) (top : Limit) (way : Way) (late : (g : Manner) (i d 
   tight_means _ l d c i t e j x = none_true l
 
   -- an operand hears nothing of what stands before
-  at_and : {all : List Lexeme} {h : Context} {c e : Scopes} {d i j : ℕ} {t : Trees} → Spells all top (a part.LogicalAnd) h c e d t i j → (h' : Context) → Spells all top (a part.LogicalAnd) h' c e d t i j
-  at_and (spells.of_alternative x f s) h' = spells.of_alternative x f s
-  at_and (spells.of_chain x f s) h' = spells.of_chain x f s
-
-  at_or : {all : List Lexeme} {h : Context} {c e : Scopes} {d i j : ℕ} {t : Trees} → Spells all top (a part.Or) h c e d t i j → (h' : Context) → Spells all top (a part.Or) h' c e d t i j
-  at_or (spells.of_alternative x f s) h' = spells.of_alternative x f s
-  at_or (spells.of_chain x f s) h' = spells.of_chain x f s
-
-  at_xor : {all : List Lexeme} {h : Context} {c e : Scopes} {d i j : ℕ} {t : Trees} → Spells all top (a part.Xor) h c e d t i j → (h' : Context) → Spells all top (a part.Xor) h' c e d t i j
-  at_xor (spells.of_alternative x f s) h' = spells.of_alternative x f s
-  at_xor (spells.of_chain x f s) h' = spells.of_chain x f s
-
-  at_bits : {all : List Lexeme} {h : Context} {c e : Scopes} {d i j : ℕ} {t : Trees} → Spells all top (a part.And) h c e d t i j → (h' : Context) → Spells all top (a part.And) h' c e d t i j
-  at_bits (spells.of_alternative x f s) h' = spells.of_alternative x f s
-  at_bits (spells.of_chain x f s) h' = spells.of_chain x f s
-
-  at_equality : {all : List Lexeme} {h : Context} {c e : Scopes} {d i j : ℕ} {t : Trees} → Spells all top (a part.Equality) h c e d t i j → (h' : Context) → Spells all top (a part.Equality) h' c e d t i j
-  at_equality (spells.of_alternative x f s) h' = spells.of_alternative x f s
-  at_equality (spells.of_chain x f s) h' = spells.of_chain x f s
-
-  at_relational : {all : List Lexeme} {h : Context} {c e : Scopes} {d i j : ℕ} {t : Trees} → Spells all top (a part.Relational) h c e d t i j → (h' : Context) → Spells all top (a part.Relational) h' c e d t i j
-  at_relational (spells.of_alternative x f s) h' = spells.of_alternative x f s
-  at_relational (spells.of_chain x f s) h' = spells.of_chain x f s
-
-  at_shift : {all : List Lexeme} {h : Context} {c e : Scopes} {d i j : ℕ} {t : Trees} → Spells all top (a part.Shift) h c e d t i j → (h' : Context) → Spells all top (a part.Shift) h' c e d t i j
-  at_shift (spells.of_alternative x f s) h' = spells.of_alternative x f s
-  at_shift (spells.of_chain x f s) h' = spells.of_chain x f s
-
-  at_additive : {all : List Lexeme} {h : Context} {c e : Scopes} {d i j : ℕ} {t : Trees} → Spells all top (a part.Additive) h c e d t i j → (h' : Context) → Spells all top (a part.Additive) h' c e d t i j
-  at_additive (spells.of_alternative x f s) h' = spells.of_alternative x f s
-  at_additive (spells.of_chain x f s) h' = spells.of_chain x f s
-
-  at_multiplicative : {all : List Lexeme} {h : Context} {c e : Scopes} {d i j : ℕ} {t : Trees} → Spells all top (a part.Multiplicative) h c e d t i j → (h' : Context) → Spells all top (a part.Multiplicative) h' c e d t i j
-  at_multiplicative (spells.of_alternative x f s) h' = spells.of_alternative x f s
-  at_multiplicative (spells.of_chain x f s) h' = spells.of_chain x f s
-
-  at_cast : {all : List Lexeme} {h : Context} {c e : Scopes} {d i j : ℕ} {t : Trees} → Spells all top (a part.Cast) h c e d t i j → (h' : Context) → Spells all top (a part.Cast) h' c e d t i j
-  at_cast (spells.of_alternative x f s) h' = spells.of_alternative x f s
-  at_cast (spells.of_chain x f s) h' = spells.of_chain x f s
-
-  operand_anywhere : (p : Part) → is_level p ≡ true → {all : List Lexeme} {h : Context} {c e : Scopes} {d i j : ℕ} {t : Trees} → Spells all top (a (below p)) h c e d t i j → (h' : Context) → Spells all top (a (below p)) h' c e d t i j
-  operand_anywhere part.LogicalOr l s h = at_and s h
-  operand_anywhere part.LogicalAnd l s h = at_or s h
-  operand_anywhere part.Or l s h = at_xor s h
-  operand_anywhere part.Xor l s h = at_bits s h
-  operand_anywhere part.And l s h = at_equality s h
-  operand_anywhere part.Equality l s h = at_relational s h
-  operand_anywhere part.Relational l s h = at_shift s h
-  operand_anywhere part.Shift l s h = at_additive s h
-  operand_anywhere part.Additive l s h = at_multiplicative s h
-  operand_anywhere part.Multiplicative l s h = at_cast s h
-  operand_anywhere _ l s h = none_true l
+  level_hears : (p : Part) → hears (below p) ≡ false
+  level_hears part.LogicalOr = refl
+  level_hears _ = refl
 
   -- A least text of each part.
 
@@ -691,7 +642,7 @@ module _ (us : List Lexeme) (top : Limit) (way : Way) (late : (g : Manner) (i d 
         λ z l c0 x h. more0 (tight_via p l d c (i + 1) z fresh) (λ all f t e j le u shown. (
           _,
           _,
-          r all top d c0 c e s i j y t (λ h'. weaken f (x h')) (f.words _ _ q) v (λ h'. operand_anywhere p l u h') h,
+          r all top d c0 c e s i j y t (λ h'. weaken f (x h')) (f.words _ _ q) v (λ h'. unheard (level_hears p) u h') h,
           second y shown _,
         )),
         λ t e j _ _ x. (λ z l c0 g. z l c0 (r us top d c0 c e s i j y t g q v (tight_means p l d c (i + 1) t e j x)), λ t' e' j' _ _ _. tt),
@@ -1203,7 +1154,7 @@ module _ (us : List Lexeme) (top : Limit) (way : Way) (late : (g : Manner) (i d 
               let n = runs_kept (parameters (d + 1)) ([] ∷ around c) e (i + 1) j t (completes all top task.parameters x q1) in (
                 _,
                 _,
-                spells.of_alternative grammar.function_declarator refl (spells.part (weaken f z) (parameters_of all top h (weaken f z) o (open_of e (omega arith)) (λ h'. parameters_anywhere x h') (f.words _ _ q) w q1 (late plain j (d + 1) le))),
+                spells.of_alternative grammar.function_declarator refl (spells.part (weaken f z) (parameters_of all top h (weaken f z) o (open_of e (omega arith)) (λ h'. unheard refl x h') (f.words _ _ q) w q1 (late plain j (d + 1) le))),
                 second y shown _,
               )),
           λ t e j _ k x. (
@@ -1221,10 +1172,6 @@ module _ (us : List Lexeme) (top : Limit) (way : Way) (late : (g : Manner) (i d 
       tt,
     ),
   )
-    where
-      parameters_anywhere : {all : List Lexeme} {h : Context} {c e : Scopes} {d i j : ℕ} {t : Trees} → Spells all top (a part.Parameters) h c e d t i j → (h' : Context) → Spells all top (a part.Parameters) h' c e d t i j
-      parameters_anywhere (spells.of_alternative x f s) h' = spells.of_alternative x f s
-      parameters_anywhere (spells.of_chain x f s) h' = spells.of_chain x f s
 
   pub owes_abstract_suffixes : (d s : ℕ) (y : Trees) (c : Scopes) (i : ℕ) → Owes (body (abstract_suffixes d s y)) (Via (abstract_suffixes d s y) c i) c i
   owes_abstract_suffixes d s y c i = (
@@ -1253,13 +1200,9 @@ module _ (us : List Lexeme) (top : Limit) (way : Way) (late : (g : Manner) (i d 
             size = x.size;
             beyond = omega arith;
             next = next_more x.front g.next;
-            is_size = means.sized (λ h. conditional_anywhere (weaken x.front g.built.2) h) x.word (late plain g.end (d + 1) g.late);
+            is_size = means.sized (λ h. unheard refl (weaken x.front g.built.2) h) x.word (late plain g.end (d + 1) g.late);
             shown = left g.built.3 none;
           }
-        where
-          conditional_anywhere : {all : List Lexeme} {h : Context} {c e : Scopes} {d i j : ℕ} {t : Trees} → Spells all top (a part.Conditional) h c e d t i j → (h' : Context) → Spells all top (a part.Conditional) h' c e d t i j
-          conditional_anywhere (spells.of_alternative x f s) h' = spells.of_alternative x f s
-          conditional_anywhere (spells.of_chain x f s) h' = spells.of_chain x f s
 
       ends : {t : Trees} {e : Scopes} {j : ℕ} → Reads us top part.Conditional (d + 1) c i t e j → Room us top way j (d + 1) → OneSize c d i
       ends {t = t} {e = e} {j = j} y z =
@@ -1304,7 +1247,7 @@ module _ (us : List Lexeme) (top : Limit) (way : Way) (late : (g : Manner) (i d 
         λ v c0 r h. more0 (v fresh) (λ all f t e j le x shown. (
           _,
           _,
-          row_of_parameters all top (at_end all top (next_one (weaken_row f r) (f.words _ _ q) w (λ h'. hears_nothing all top x)) (λ h'. spells.done) fresh),
+          row_of_parameters all top (at_end all top (next_one (weaken_row f r) (f.words _ _ q) w (λ h'. unheard refl x h')) (λ h'. spells.done) fresh),
           parameters_shown s j y (t & none) (row_some r) (part_some x none) (right y (left shown none)),
         )),
         λ t e j _ _ x. (λ v c0 r. v c0 (next_one r q w x), λ t' e' j' _ _ _. tt),

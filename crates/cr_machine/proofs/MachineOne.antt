@@ -1,5 +1,5 @@
 -- A start has one reading, and a token list one first refusal.
-use Rattle.std.proofs.Common.{◌≡◌, ℕ, ◌+◌, ◌<◌, ◌≤◌, List, length, Option, Some, refl, sym, ap, subst, ◌∙◌, arith, inl, inr}
+use Rattle.std.proofs.Common.{◌≡◌, ℕ, false, ◌+◌, ◌<◌, ◌≤◌, List, length, Option, Some, refl, sym, ap, subst, ◌∙◌, arith, inl, inr}
 use Rattle.std.proofs.lemmas.Bool.{cases_lt}
 use Rattle.cr_syntax.specs.declared.word.Word.{Word}
 use Rattle.cr_syntax.specs.Words.{Lexeme}
@@ -14,8 +14,7 @@ use Rattle.cr_syntax.proofs.Tests.{some_one}
 use Rattle.cr_machine.proofs.MachineComplete as complete
 use Rattle.cr_machine.proofs.MachineReading.{not_both}
 use Rattle.cr_machine.proofs.MachineViable.{prefix, prefix_length, prefix_get}
-use Rattle.cr_machine.proofs.MachineRuns.{spelling_same}
-use Rattle.cr_machine.proofs.MachineOwn.{Lets, lets_itself, lets_all, lets_fewer, lets_upto, lets_leaving, own, within_other, later}
+use Rattle.cr_machine.proofs.MachineOwn.{Lets, lets_itself, lets_all, lets_fewer, lets_upto, lets_leaving, same_tokens, carried, within_other, later}
 
 -- a token is one word
 pub one_word : {o : Option Word} {v w : Word} → o ≡ Some v → o ≡ Some w → v ≡ w
@@ -58,13 +57,10 @@ module _ (ts : List Lexeme) (s : Start) (z : IsStart s.part) where
   -- what is spelled in the middle is spelled at a text's end
   own_text : {limit top : Limit} {k : ℕ} {t : Trees} → Lets limit top k → k ≤ length ts → Spelled limit ts s k t → Spelled top (prefix k ts) s (length (prefix k ts)) t
   own_text {limit = limit} {top = top} {k = k} {t = t} l far x =
-      let us = prefix k ts in
-      let lt = later tt x.spells in
       record {
         after = x.after;
-        spells = subst (λ j. Spells us top (a s.part) fresh s.scopes x.after s.depth t s.at j) (prefix_length k ts far)
-            (own ts us limit top k (λ n lt'. prefix_get k ts n lt') (spelling_same ts us 0 (prefix_get k ts 0 (omega arith))) l
-            (spelling_same ts us 0 (prefix_get k ts 0 (omega arith))) (omega arith) x.spells);
+        spells = subst (λ j. Spells (prefix k ts) top (a s.part) fresh s.scopes x.after s.depth t s.at j) (prefix_length k ts far)
+            (carried ts (prefix k ts) limit top 0 k false (same_tokens (λ n ge lt. prefix_get k ts n lt)) l tt (omega arith) (omega arith) x.spells);
       }
 
   -- and begins one

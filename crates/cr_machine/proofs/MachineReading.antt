@@ -1,5 +1,5 @@
 -- What the machine answers is what reading an expression in the middle of a text promises.
-use Rattle.std.proofs.Common.{◌≡◌, ℕ, ◌<◌, ◌≤◌, Bool, true, false, not, ◌&&◌, List, length, Option, None, Some, refl, sym, ap, subst, ◌∙◌, arith, ◌⊎◌, inl, inr}
+use Rattle.std.proofs.Common.{◌≡◌, ℕ, ◌<◌, ◌≤◌, Bool, true, false, not, ◌&&◌, List, length, Option, None, Some, refl, sym, ap, subst, ◌∙◌, arith, ◌⊎◌, inl, inr, ◌+◌}
 use Rattle.std.specs.Prelude.{slice_get, nat_lt, if◌then◌else◌}
 use Rattle.std.proofs.Math.Nat.{eq-or-lt_of_le}
 use Rattle.std.proofs.lemmas.Bool.{both_ways, ltb-true, ltb-false}
@@ -19,21 +19,22 @@ use Rattle.cr_machine.specs.MachineLaws.{end_of, outcome_of, IsStart, start_expr
 use Rattle.cr_syntax.specs.Expressions.{Start, Spelled, BeginsFrom, OutsideFrom, unused_keyword, compound_literal, called_expression, bit_field, IsTooDeepFrom, IsFineFrom, RunEnds, Read, Refused, IsReading}
 use Rattle.cr_syntax.specs.Expressions as expressions
 use Rattle.cr_syntax.proofs.Tests.{both, not_true, some_one}
-use Rattle.cr_machine.proofs.MachineRuns.{same, reach, local}
+use Rattle.cr_machine.proofs.MachineRuns.{same, reach, local, word_in}
 use Rattle.cr_machine.proofs.MachineEnds.{Way, stopped, barring, crowded, defining, Ends, end_stop, end_refuse, end_take, end_crowded, end_pass, end_bar, end_free, end_seen, end_unseen, end_yes, end_no, end_here, end_look, end_set, end_bring, end_behind, end_inside, ends_so, refused_so, cause_by}
 use Rattle.cr_machine.proofs.MachineGives.{gives}
 use Rattle.cr_machine.proofs.MachineKept.{Kept, runs_kept}
 use Rattle.cr_machine.proofs.MachineMeans.{Means}
 use Rattle.cr_machine.proofs.MachineSound.{each}
 use Rattle.cr_machine.proofs.MachineFirst.{none_true, true_false}
-use Rattle.cr_machine.proofs.MachineComplete.{spelled_is_read, read_is_spelled, free_at_end, get_some, unlimited, allows_free, allows_upto, longest, refused_within}
-use Rattle.cr_machine.proofs.MachineViable.{prefix, prefix_length, prefix_get, passes_inside, stopped_leaves, barred_stands, barred_leaves, crowded_begins, barred_outside, barred_inside, crowded_inside, begins_before}
+use Rattle.cr_machine.proofs.MachineComplete.{spelled_is_read, read_is_spelled, free_at_end, get_some, unlimited, allows_free, allows_upto, longest, refused_within, begun_same}
+use Rattle.cr_machine.proofs.MachineViable.{prefix, prefix_length, prefix_get, passes_inside, stopped_leaves, barred_stands, barred_leaves, crowded_begins, barred_outside, barred_inside, crowded_inside, begins_before, defines_none}
 use Rattle.cr_machine.proofs.MachineWays.{at}
 use Rattle.cr_machine.proofs.MachineForms.{within, IsBarring, by_row, outside_is_end, outside_is_refused}
 use Rattle.cr_machine.proofs.MachineUnused.{begun_is_used}
 use Rattle.cr_machine.proofs.MachineParts.{given, refused_or_free, answered_or_refused}
 use Rattle.cr_machine.proofs.MachineStuck.{is_crowded}
-use Rattle.cr_machine.proofs.MachineRefused.{no_room, spells_none, no_room_instead, defines_none}
+use Rattle.cr_machine.proofs.MachineRefused.{no_room, spells_none, no_room_instead}
+use Rattle.cr_machine.proofs.MachineSteady.{none_for_keyword}
 
 -- A run consumes tokens of the text alone.
 pub ends_inside : {ts : List Lexeme} {limit : Limit} {p : Prog} {c : Scopes} {i : ℕ} {r : Reply} → Runs body ts limit p c i r → i ≤ length ts → end_of r ≤ length ts
@@ -125,17 +126,14 @@ in_place (called_expression q x) y b = (word.LeftBracket, subscript_for_call)
 in_place (bit_field q x) y b = absurd (both_ways (is_bracket word.Colon) refl (subst (λ w. is_bracket w ≡ true) (some_one (sym y ∙ q)) (is_of_bracket b)))
 
 pub not_keyword_row : {n : ℕ} {v : Word} → StandsIn n v → n ≡ 1 → ⊥
-not_keyword_row {v = v} x e = by (subst (λ n. StandsIn n v) e x)
-  where
-    by : {v : Word} → StandsIn 1 v → ⊥
-    by x = elim x [ ]
+not_keyword_row {v = v} x e = none_for_keyword v (subst (λ n. StandsIn n v) e x)
 
 -- the way in which a token that a row names is refused
 pub barring_at : {n i k : ℕ} {w : Way} → IsBarring n i (at w k) → (i ≡ k) × (x : Test) × (d : ℕ) × (w ≡ barring x n d)
 barring_at (by_row {x = x} {d = d}) = (refl, x, d, refl)
 
 pub at_end : (ts : List Lexeme) (k : ℕ) → k ≤ length ts → word_at ts k ≡ None → k ≡ length ts
-at_end ts k le q = elim (eq-or-lt_of_le {n = k} {m = length ts} le) [ inl e ↦ e | inr lt ↦ (let w = get_some ts k lt in by (ap (λ o. elim o as (λ _. Option Word) [ None ↦ None | Some t ↦ Some t.word ]) w.1) q) ]
+at_end ts k le q = elim (eq-or-lt_of_le {n = k} {m = length ts} le) [ inl e ↦ e | inr lt ↦ (let w = get_some ts k lt in by (ap word_in w.1) q) ]
   where
     by : {A : Type 0} {v : Word} → word_at ts k ≡ Some v → word_at ts k ≡ None → A
     by x y = cc
@@ -174,7 +172,7 @@ module _ (ts : List Lexeme) (s : Start) (z : IsStart s.part) (le : s.at ≤ leng
       cc
     where
       alike : (i : ℕ) → i ≤ k → slice_get b.continues.text i ≡ slice_get ts i
-      alike i le = let w = get_some ts i (omega arith) in b.continues.alike i w.0 (omega arith) w.1 ∙ sym w.1
+      alike i le = begun_same ts b.continues.text (k + 1) b.continues.alike i (omega arith) (omega arith)
 
   -- what is read is a text
   start_spells : {p : Part} {us : List Lexeme} {top : Limit} {d : ℕ} {c e : Scopes} {i j : ℕ} {t : Trees} → IsStart p → Means us top (start_goal p d) c i t e j → (h : Context) → Spells us top (a p) h c e d t i j

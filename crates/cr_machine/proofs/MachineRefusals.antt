@@ -1,6 +1,6 @@
 -- The rows of the refused forms and the subset's machine on a unit: where it is refused no row names a token before, and one
 -- that names the refused token is the machine's; where it reads a unit, no row names a token of it.
-use Rattle.std.proofs.Common.{◌≡◌, ℕ, ◌+◌, ◌<◌, ◌≤◌, true, false, List, [], length, Option, None, Some, ◌⊎◌, inl, inr, ⊎_elim, refl, sym, ap, subst, ◌∙◌, arith}
+use Rattle.std.proofs.Common.{◌≡◌, ℕ, ◌+◌, ◌<◌, ◌≤◌, true, false, List, [], length, Some, ◌⊎◌, inl, inr, ⊎_elim, refl, sym, ap, subst, ◌∙◌, arith}
 use Rattle.std.specs.Prelude.{slice_get, set}
 use Rattle.std.proofs.lemmas.Bool.{both_ways, cases_lt}
 use Rattle.cr_syntax.specs.declared.word.Word.{Word}
@@ -14,7 +14,7 @@ use Rattle.cr_syntax.specs.Units.{file_scope, most_levels, Completes, Begins, Sh
 use Rattle.cr_machine.specs.Machine.{unit, expression, anywhere, nowhere, Done, Runs, has_word, has}
 use Rattle.cr_machine.specs.MachineBody.{body, is_label}
 use Rattle.cr_machine.specs.MachineLaws.{start_expression}
-use Rattle.cr_machine.proofs.MachineRuns.{reach, same, passes_same, word_same, spelling_same}
+use Rattle.cr_machine.proofs.MachineRuns.{reach, same, passes_same, word_same, word_in}
 use Rattle.cr_machine.proofs.MachineFirst.{sorted, free_by}
 use Rattle.cr_machine.proofs.MachineEnds.{Way, barring, defining, crowded, refused_so}
 use Rattle.cr_machine.proofs.MachineWays.{Point, at, same_way}
@@ -23,7 +23,7 @@ use Rattle.cr_machine.proofs.MachineLoose.{IsOwn, own_label, own_definition, Dep
 use Rattle.cr_machine.proofs.MachineReading.{ends_inside}
 use Rattle.cr_machine.proofs.MachineUnitForms.{ReadsUnits, same_token, IsBarred, UnitEnds, designator_is_barred, literal_is_barred, call_is_barred, field_is_barred, body_label_is_barred, by_that_row, by_its_own, bars_too, bars_none}
 use Rattle.cr_machine.proofs.MachineTraces.{run_there, end_there}
-use Rattle.cr_machine.proofs.MachineApart.{Apart, moved, set_there, set_other}
+use Rattle.cr_machine.proofs.MachineOwn.{same_tokens, lets_itself, carried, set_there, set_other}
 use Rattle.cr_machine.proofs.MachineBodies.{sought}
 use Rattle.cr_machine.proofs.MachineComplete.{get_some, spelled_is_read}
 use Rattle.cr_machine.proofs.MachineSound.{runs_sound}
@@ -106,12 +106,6 @@ module _ (us vs : List Lexeme) (limit : Limit) (k s : ℕ) (alike : (n : ℕ) �
   changed : (n : ℕ) → (n ≡ s → ⊥) → slice_get (set us s x) n ≡ slice_get us n
   changed n f = set_other us s n x f
 
-  apart : Apart us (set us s x) (s + 1)
-  apart = record {
-    words = λ i w le q. word_same us (set us s x) i (changed i (λ r. omega arith)) ∙ q;
-    names = λ i le. spelling_same us (set us s x) i (changed i (λ r. omega arith));
-  }
-
   unchanged : s < length us → (n : ℕ) → n < k → slice_get (set us s x) n ≡ slice_get vs n
   unchanged lt n lt' = by (decide_is n s)
     where
@@ -124,7 +118,7 @@ module _ (us vs : List Lexeme) (limit : Limit) (k s : ℕ) (alike : (n : ℕ) �
   condition_there d c e i j t h q lt lt' =
       let n = reach h in
       let n' = within us j q in
-      let s' = moved apart (runs_sound (expression d) c e i j t h fresh) (omega arith) refl in
+      let s' = carried us (set us s x) limit limit (s + 1) j false (same_tokens (λ n ge l. changed n (λ r. omega arith))) (lets_itself limit j) tt (omega arith) (omega arith) (runs_sound (expression d) c e i j t h fresh) in
       let q' = word_same us (set us s x) j (changed j (λ r. omega arith)) ∙ q in
       run_there body vs (set us s x) limit limit j (λ l le. unchanged (omega arith) l (omega arith)) (λ g l d' lt'' w. w)
       (spelled_is_read (set us s x) limit start_expression s' (free_by q' (omega arith))) (omega arith) tt
@@ -157,7 +151,7 @@ body_is_behind complete {ts = ts} {k = k} s lt b g g' g'' r = ⊎_elim (λ x. ab
     vs_alike n le f = let w = get_some ts n (omega arith) in r.completes.alike n w.0 (omega arith) (set_other ts s n while_word f ∙ w.1) ∙ sym w.1
 
     a_while : s < k → Is vs s word.While
-    a_while lt' = ap (λ o. elim o as (λ _. Option Word) [ None ↦ None | Some x ↦ Some x.word ]) (r.completes.alike s while_word (omega arith) (set_there ts s while_word (omega arith)))
+    a_while lt' = ap word_in (r.completes.alike s while_word (omega arith) (set_there ts s while_word (omega arith)))
 
     while_lexeme : s < k → (x : Lexeme) × (slice_get vs s ≡ Some x)
     while_lexeme lt' = (while_word, r.completes.alike s while_word (omega arith) (set_there ts s while_word (omega arith)))

@@ -1,6 +1,6 @@
 -- What the machine's refusal of a token says of texts: at the levels where it stopped none leaves room, the tokens before
 -- spell nothing, and the bracket that stands in a refused one's place has no room either.
-use Rattle.std.proofs.Common.{◌≡◌, ℕ, Bool, ◌+◌, ◌<◌, ◌≤◌, true, false, not, ◌&&◌, List, [], length, Option, None, Some, refl, sym, ap, subst, ◌∙◌, arith}
+use Rattle.std.proofs.Common.{◌≡◌, ℕ, ◌+◌, ◌<◌, ◌≤◌, true, false, not, ◌&&◌, List, [], length, refl, sym, ap, subst, ◌∙◌, arith}
 use Rattle.std.specs.Prelude.{slice_get, set}
 use Rattle.std.proofs.lemmas.Bool.{both_ways}
 use Rattle.std.proofs.lemmas.List.{length-set}
@@ -13,20 +13,20 @@ use Rattle.cr_syntax.specs.Scopes.{Scopes}
 use Rattle.cr_syntax.specs.Trees.{Trees}
 use Rattle.cr_syntax.specs.Spells.{Limit, Free, Upto, Leaving, Is, Spells, a}
 use Rattle.cr_syntax.specs.Units.{is_unused, with_word, StandsIn, list_for_designator, group_for_literal, subscript_for_call, block_for_body}
-use Rattle.cr_machine.specs.Machine.{Prog, Manner, Test, plain, opens, reopens, the, has, ordinary, type_identifier, declared, or, Allows, passes, levels_at, is_bracket}
+use Rattle.cr_machine.specs.Machine.{Manner, Test, plain, opens, reopens, the, has, ordinary, type_identifier, declared, or, Allows, passes, levels_at, is_bracket}
 use Rattle.cr_machine.specs.MachineBody.{body, start_goal, is_label}
 use Rattle.cr_machine.specs.MachineLaws.{IsStart, IsFree, rank_of}
 use Rattle.cr_syntax.specs.Expressions.{Start, Spelled, BeginsFrom}
 use Rattle.cr_syntax.proofs.Tests.{both, not_true, some_one}
 use Rattle.cr_machine.proofs.MachineGives.{holds}
 use Rattle.cr_machine.proofs.MachineFirst.{none_true}
-use Rattle.cr_machine.proofs.MachineRows.{knows}
-use Rattle.cr_machine.proofs.MachineComplete.{spelled_is_read, free_at_end, get_some}
-use Rattle.cr_machine.proofs.MachineEnds.{Way, stopped, barring, defining, Ends, end_refuse, end_take, end_pass, end_free, end_seen, end_unseen, end_yes, end_no, end_here, end_look, end_set, end_bring, end_behind, end_inside}
-use Rattle.cr_machine.proofs.MachineViable.{word_before, word_there}
-use Rattle.cr_machine.proofs.MachineSteady.{levels_in, levels_out, start_levels, fits, Goes, steady}
+use Rattle.cr_machine.proofs.MachineComplete.{spelled_is_read, free_at_end, begun_same}
+use Rattle.cr_machine.proofs.MachineEnds.{Way, stopped, barring, Ends}
+use Rattle.cr_machine.proofs.MachineSteady.{levels_in, levels_out, start_levels, fits, steady}
 use Rattle.cr_machine.proofs.MachineStuck.{levels_by, is_crowded, Stand, stuck}
 use Rattle.cr_machine.proofs.MachineClosed.{closed, closed_before, closed_at, spelled_closed}
+use Rattle.cr_machine.proofs.MachineOwn.{set_other, set_there}
+use Rattle.cr_machine.proofs.MachineRuns.{word_in}
 
 -- A test of a token in the grammar's programs and the token's word.
 
@@ -61,10 +61,6 @@ passed us c i g (or x y) f q = none_true f
 
 -- Texts.
 
--- the tokens of a text that begins as the list does
-pub same_tokens : (ts us : List Lexeme) (k : ℕ) → k ≤ length ts → ((i : ℕ) (x : Lexeme) → i < k → slice_get ts i ≡ Some x → slice_get us i ≡ Some x) → (n : ℕ) → n < k → slice_get us n ≡ slice_get ts n
-same_tokens ts us k le f n lt = let w = get_some ts n (omega arith) in f n w.0 lt w.1 ∙ sym w.1
-
 -- a text that is blocked where another one is refused is spelled by no trees
 module _ {ts us : List Lexeme} {limit top : Limit} {k : ℕ} (m : ℕ) (alike : (n : ℕ) → n < k → slice_get us n ≡ slice_get ts n)
     (block : (g : Manner) (x : Test) (d : ℕ) (c : Scopes) (i : ℕ) → i ≡ k → m ≤ levels_at g d → fits g x ≡ true → passes us c i x ≡ true → Allows top g i d → ⊥) where
@@ -87,7 +83,7 @@ allows_none most k reopens i d q le w = let n = w.0 q in absurd (omega arith)
 pub no_room : {ts : List Lexeme} {limit : Limit} (most : ℕ) (s : Start) {d k : ℕ} → IsStart s.part → k ≤ length ts → most ≤ d →
     Ends body ts limit (body (start_goal s.part s.depth)) s.scopes s.at (stopped d) k → BeginsFrom (Leaving k most) ts s k → ⊥
 no_room {ts = ts} most s {k = k} z le up y b =
-    unspelled most (same_tokens ts b.continues.text k le b.continues.alike) (λ g x d c i q low f v w. allows_none most k g i d q low w) z y refl up no_bar b.continues.spelled.spells (free_at_end b.continues.text 13)
+    unspelled most (λ n lt. begun_same ts b.continues.text k b.continues.alike n lt (omega arith)) (λ g x d c i q low f v w. allows_none most k g i d q low w) z y refl up no_bar b.continues.spelled.spells (free_at_end b.continues.text 13)
 
 -- the tokens before spell nothing
 closed_blocks : (ts : List Lexeme) (k : ℕ) (c : Scopes) (g : Manner) (x : Test) (i : ℕ) → i ≡ k → fits g x ≡ true → passes (closed k ts) c i x ≡ true → ⊥
@@ -127,7 +123,7 @@ same_row q = cc
 pub no_room_instead : {ts : List Lexeme} {limit : Limit} (most : ℕ) (s : Start) {x : Test} {n d k : ℕ} {v : Word} → IsStart s.part → k < length ts → most ≤ d → StandsIn n v →
     Ends body ts limit (body (start_goal s.part s.depth)) s.scopes s.at (barring x n d) k → BeginsFrom (Upto (k + 1) most) (with_word ts k v) s (k + 1) → ⊥
 no_room_instead {ts = ts} most s {k = k} {v = v} z lt up r y b =
-    unspelled most (λ n lt'. tokens n (omega arith) ∙ word_before ts k n new lt') (allows_bracket us most k v (stands_bracket r) there) z y refl up
+    unspelled most (λ n lt'. tokens n (omega arith) ∙ set_other ts k n new (λ e. omega arith)) (allows_bracket us most k v (stands_bracket r) there) z y refl up
     (λ x n d q. record { word = v; stands = subst (λ n. StandsIn n v) (same_row q) r; is = there }) b.continues.spelled.spells (free_at_end us 13)
   where
     us : List Lexeme
@@ -137,27 +133,7 @@ no_room_instead {ts = ts} most s {k = k} {v = v} z lt up r y b =
     new = record { word = v; spelling = [] }
 
     tokens : (n : ℕ) → n < k + 1 → slice_get us n ≡ slice_get (set ts k new) n
-    tokens = let q = length-set ts k new in same_tokens (set ts k new) us (k + 1) (omega arith) b.continues.alike
+    tokens n lt' = let q = length-set ts k new in begun_same (set ts k new) us (k + 1) b.continues.alike n lt' (omega arith)
 
     there : Is us k v
-    there = ap (λ o. elim o as (λ _. Option Word) [ None ↦ None | Some t ↦ Some t.word ]) (tokens k (omega arith) ∙ word_there ts k new lt)
-
--- No goal but an external definition is refused for a token before.
-no_definition : {ts : List Lexeme} {limit : Limit} (l b : ℕ) (o : Bool) {p : Prog} {c : Scopes} {i k m : ℕ} → Ends body ts limit p c i (defining m) k → Goes ts 0 p l b o c i → ⊥
-no_definition l b o end_refuse y = omega arith
-no_definition l b o (end_take x w z) y = no_definition l _ _ z y.2
-no_definition l b o (end_pass x z) y = no_definition l _ _ z y.3
-no_definition l b o (end_free x z) y = no_definition l _ _ z y.2
-no_definition l b o (end_seen x z) y = no_definition l _ _ z y.2
-no_definition l b o (end_unseen x z) y = no_definition l _ _ z y.3
-no_definition l b o (end_yes x z) y = no_definition l _ _ z (y.0 x)
-no_definition l b o (end_no x z) y = no_definition l _ _ z (y.1 x)
-no_definition l b o (end_here z) y = no_definition l _ _ z y
-no_definition l b o (end_look z) y = no_definition l _ _ z y
-no_definition l b o (end_set z) y = no_definition l _ _ z y
-no_definition l b o (end_bring z) y = no_definition l _ _ z y
-no_definition l b o {c = c} {i = i} (end_behind {g = g} h z) y = no_definition l _ _ z (y.1 _ _ _ (knows g c _ i _ _ h))
-no_definition {ts = ts} l b o {c = c} {i = i} (end_inside {g = g} z) y = no_definition (levels_out g) (levels_in g) false z (steady ts 0 g c i b y.0)
-
-pub defines_none : {ts : List Lexeme} {limit : Limit} (p : Part) (d : ℕ) {c : Scopes} {i k m : ℕ} → Ends body ts limit (body (start_goal p d)) c i (defining m) k → ⊥
-defines_none {ts = ts} p d {c = c} {i = i} z = no_definition (levels_out (start_goal p d)) (levels_in (start_goal p d)) false z (steady ts 0 (start_goal p d) c i d (start_levels 0 p d).0)
+    there = ap word_in (tokens k (omega arith) ∙ set_there ts k new lt)

@@ -80,9 +80,14 @@ reach (run_bring h) = reach h
 reach (run_call h k) = let n = reach h in let n' = reach k in omega arith
 reach (run_fail h) = reach h
 
+-- the word of a token, if there is one
+abbrev pub word_in : Option Lexeme → Option Word
+word_in None = None
+word_in (Some t) = Some t.word
+
 module _ (ts us : List Lexeme) (i : ℕ) (q : slice_get us i ≡ slice_get ts i) where
   pub word_same : word_at us i ≡ word_at ts i
-  word_same = ap (λ o. elim o as (λ _. Option Word) [ None ↦ None | Some t ↦ Some t.word ]) q
+  word_same = ap word_in q
 
   pub spelling_same : spelling_at us i ≡ spelling_at ts i
   spelling_same = ap (λ o. elim o as (λ _. List ℕ) [ None ↦ [] | Some t ↦ t.spelling ]) q

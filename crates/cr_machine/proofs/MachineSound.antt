@@ -26,10 +26,9 @@ use Rattle.cr_machine.specs.Machine as m
 use Rattle.cr_machine.specs.MachineBody.{body, assigned, operated, prefixed, suffixed, sized, other_primary, suffixes_end, other_element, array_start, Words, is_declarator, may_name, may_omit, start_goal, tighter, assignment_operators, operators, unary_prefixes, cast_prefixes, constants, postfix_operators, specifier_words, plain_words, row_kind, in_row, in_parameters}
 use Rattle.cr_machine.proofs.MachineMeans as means
 use Rattle.cr_machine.proofs.MachineSpells as facts
-pub use Rattle.cr_machine.proofs.MachineSpells.{brought_is, name_is}
 pub use Rattle.cr_machine.proofs.MachineMeans.{open_of}
 use Rattle.cr_machine.proofs.MachineUnitSound.{gives_unit, gives_externals, gives_external, gives_declaration, gives_init_declarators, gives_initialized, gives_initializer, gives_initializers, gives_statement, gives_block, gives_if_rest, gives_switch_rest, gives_while_rest, gives_do_rest, gives_for_rest, gives_return_rest, gives_for_clauses, gives_clause, gives_compound, gives_items, gives_item}
-use Rattle.cr_machine.proofs.MachineSpells.{and_none, and_and, pushed, is_one, named_before, unary_in}
+use Rattle.cr_machine.proofs.MachineSpells.{and_none, and_and, pushed, is_one, name_brought, brought_is, unary_in, unheard}
 use Rattle.cr_machine.proofs.MachineGives.{Gives, gives, AllRows, no_rows, also, gives_choose}
 use Rattle.cr_machine.proofs.MachineKept.{Kept, runs_kept, not_both}
 use Rattle.cr_machine.proofs.MachineMeans.{Means, Reads, IsDeclared, with_name, without, IsSize, unsized, IsParameterRow, first_one, next_one, IsOpen, has_some, start_part, is_level, row_part, element_part}
@@ -313,21 +312,17 @@ module _ (us : List Lexeme) (top : Limit) where
   list_some (spells.list_more {u = u} x q w k) = part_some x u
 
   -- a parameter, and a list of them, hear nothing of what stands before
-  pub hears_nothing : {h h' : Context} {d i j : ℕ} {c e : Scopes} {t : Trees} → Spells us top (a part.Parameter) h c e d t i j → Spells us top (a part.Parameter) h' c e d t i j
-  hears_nothing (spells.of_alternative x f s) = spells.of_alternative x f s
-  hears_nothing (spells.of_chain x f s) = spells.of_chain x f s
-
   anywhere : {h : Context} {d i j : ℕ} {c e : Scopes} {t : Trees} → Spells us top (rest (list part.Parameter ∷ [])) h c e d t i j → (h' : Context) →
       Spells us top (rest (list part.Parameter ∷ [])) h' c e d t i j
-  anywhere (spells.list_last x spells.done) h' = spells.list_last (hears_nothing x) spells.done
-  anywhere (spells.list_more x q w k) h' = spells.list_more (hears_nothing x) q w (anywhere k _)
+  anywhere (spells.list_last x spells.done) h' = spells.list_last (unheard refl x _) spells.done
+  anywhere (spells.list_more x q w k) h' = spells.list_more (unheard refl x _) q w (anywhere k _)
 
   pub row_of_parameters : {h : Context} {d i j : ℕ} {c e : Scopes} {t : Trees} → Spells us top (rest (list part.Parameter ∷ [])) fresh c e d t i j →
       Spells us top (a part.Parameters) h c e d (in_parameters i j t) i j
   row_of_parameters {h = h} {d = d} {i = i} {j = j} {c = c} {e = e} {t = t} (spells.list_last x spells.done) =
       let w = is_one x in
       subst (λ y. Spells us top (a part.Parameters) h c e d (in_parameters i j y) i j) (sym w.2)
-      (lone w.0 (subst (λ y. Spells us top (a part.Parameter) fresh c e d y i j) w.2 (hears_nothing x)))
+      (lone w.0 (subst (λ y. Spells us top (a part.Parameter) fresh c e d y i j) w.2 (unheard refl x _)))
   row_of_parameters {h = h} {d = d} {i = i} {j = j} {c = c} {e = e} (spells.list_more {t = t} {u = u} x q w k) =
       subst (λ y. Spells us top (a part.Parameters) h c e d y i j) (sym (two_parameters i j t u (subst (λ y. has_some y ≡ true) (and_none t) (part_some x none)) (list_some k)))
       (spells.of_alternative grammar.parameter_list refl (spells.part x (spells.token q w (anywhere k _))))
@@ -579,10 +574,8 @@ module _ (us : List Lexeme) (top : Limit) where
           Spells us top (a part.Parameter) h c (enter (brought us k (past_part (past_part fresh t) u).name (past_part (past_part fresh t) u).type_name) (around f)) d (one kind.Parameter i k (t & u & none)) i k
       named_parameter {u = u} x (without y z s) y' = not_both (is_declarator u) y' y
       named_parameter {h = h} {e = e} {f = f} {j = j} {k = k} {t = t} {u = u} x (with_name y z o s) y' =
-          let n = named_before facts.by_declarator s in
-          let m = name_is s (past_part fresh t) in
           subst (λ v. Spells us top (a part.Parameter) h c (enter v (around f)) d (one kind.Parameter i k (t & u & none)) i k)
-          (sym (brought_is us k (past_part (past_part fresh t) u).name (past_part (past_part fresh t) u).type_name (omega arith)))
+          (sym (name_brought s (past_part fresh t)))
           (spells.of_alternative grammar.parameter_declaration refl (spells.part x (spells.part (spells.parameter_declarator (subst (λ v. Spells us top (a part.Declarator) (past_part fresh t) e v d u j k) o s)) spells.done)))
   each (unit l d) c i = gives_unit us top l d c i
   each (externals l d y) c i = gives_externals us top l d y c i

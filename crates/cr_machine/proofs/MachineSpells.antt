@@ -1,8 +1,9 @@
 -- What the machine's laws need of spelling: a part is one tree, its tokens go on to the right, a declarator's name stands
 -- in it, and an expression that an assignment operator can stand behind is a unary one.
-use Rattle.std.proofs.Common.{◌≡◌, ℕ, ◌<◌, ◌≤◌, Bool, true, List, [], refl, sym, ap, subst, ◌∙◌, arith}
+use Rattle.std.proofs.Common.{◌≡◌, ℕ, ◌<◌, ◌≤◌, Bool, true, List, [], refl, sym, ap, subst, ◌∙◌, arith, false}
 use Rattle.std.specs.Prelude.{if◌then◌else◌}
 use borrow.Author.Tests.{lt-ltb}
+use Rattle.cr_syntax.specs.declared.word.Word.TheVariants as word
 use Rattle.cr_syntax.specs.declared.node.Kind.{Kind}
 use Rattle.cr_syntax.specs.declared.symbol.Part.{Part}
 use Rattle.cr_syntax.specs.declared.symbol.Part.TheVariants as part
@@ -10,9 +11,9 @@ use Rattle.cr_syntax.specs.declared.symbol.Context.{Context}
 use Rattle.cr_syntax.specs.Words.{Lexeme, spelling_at}
 use Rattle.cr_syntax.specs.Scopes.{Scopes}
 use Rattle.cr_syntax.specs.Trees.{Trees, none, node, one, ◌&◌}
-use Rattle.cr_syntax.specs.Context.{fresh, past_part, declared_in, declared_name}
+use Rattle.cr_syntax.specs.Context.{fresh, past_part, declared_in, declared_name, hears, at_start}
 use Rattle.cr_syntax.specs.Grammar as grammar
-use Rattle.cr_syntax.specs.Spells.{Limit, Phrase, a, Spells, AreConst, const_none, const_more}
+use Rattle.cr_syntax.specs.Spells.{Limit, Is, Phrase, a, Spells, AreConst, const_none, const_more, rest}
 use Rattle.cr_syntax.specs.Spells as spells
 use Rattle.cr_machine.specs.Machine.{brought}
 use Rattle.cr_machine.specs.MachineBody.{is_unary}
@@ -96,29 +97,46 @@ forth (spells.step_some x q w v s) = let n = forth x in let m = forth s in omega
 forth (spells.else_none s) = forth s
 forth (spells.else_some q w x s) = let n = forth x in let m = forth s in omega arith
 
+quiet_start : (p : Part) (h h' : Context) → hears p ≡ false → at_start p h ≡ at_start p h'
+quiet_start p h h' q = ap (λ b. elim b as (λ _. Context) [ true ↦ h | false ↦ fresh ]) q ∙ sym (ap (λ b. elim b as (λ _. Context) [ true ↦ h' | false ↦ fresh ]) q)
+
+-- a part that hears nothing of what stands before is spelled behind anything
+pub unheard : {ts : List Lexeme} {limit : Limit} {p : Part} {h : Context} {c e : Scopes} {d i j : ℕ} {t : Trees} →
+    hears p ≡ false → Spells ts limit (a p) h c e d t i j → (h' : Context) → Spells ts limit (a p) h' c e d t i j
+unheard {ts = ts} {limit = limit} {p = p} {h = h} {c = c} {e = e} {d = d} {i = i} {j = j} q (spells.of_alternative {s = r} {t = t} m f s) h' =
+    spells.of_alternative m f (subst (λ g. Spells ts limit (rest r) g c e d t i j) (quiet_start p h h' q) s)
+unheard {ts = ts} {limit = limit} {p = p} {h = h} {c = c} {e = e} {d = d} {i = i} {j = j} {t = t} q (spells.of_chain {q = r} m f s) h' =
+    spells.of_chain m f (subst (λ g. Spells ts limit (a r) g c e d t i j) (quiet_start p h h' q) s)
+unheard q (spells.init_declarator_alone s) h' = cc
+unheard q (spells.parameter_declarator s) h' = cc
+unheard q (spells.member_declarator s) h' = cc
+
 -- the parts that have a name
 pub data Names : Part → Type 0 where
   by_declarator : Names part.Declarator
   by_direct : Names part.DirectDeclarator
 
--- it does so where other trees stand behind
-later_name : {ts : List Lexeme} {limit : Limit} {p : Part} {h : Context} {c e : Scopes} {d i j k : ℕ} {t : Trees} →
-    Spells ts limit (a p) h c e d t i j → (u : Trees) → declared_in t < j → j ≤ k → declared_in (t & u) < k
-later_name {k = k} {t = t} s u n le =
-    let w = is_one s in
-    let q : declared_in (t & u) ≡ declared_in t = subst (λ x. declared_in (x & u) ≡ declared_in x) (sym w.2) refl in
-    omega arith
+-- token k is an identifier, among those from i to before j
+abbrev pub IsAmong : List Lexeme → ℕ → ℕ → ℕ → Type 0
+IsAmong ts i j k = (i ≤ k) × (k < j) × Is ts k word.Identifier
+
+-- they have the same one where other trees stand behind
+among_row : {ts : List Lexeme} {limit : Limit} {p : Part} {h : Context} {c e : Scopes} {d i i' j k : ℕ} {t : Trees} →
+    Spells ts limit (a p) h c e d t i' j → (u : Trees) → i ≤ i' → j ≤ k → IsAmong ts i' j (declared_in t) → IsAmong ts i k (declared_in (t & u))
+among_row {ts = ts} {i = i} {k = k} {t = t} s u ge le n =
+    subst (λ m. IsAmong ts i k m) (subst (λ x. declared_in x ≡ declared_in (x & u)) (sym (is_one s).2) refl) (omega arith, omega arith, n.2)
 
 -- the identifier that a declarator declares is one of its tokens
-pub named_before : {ts : List Lexeme} {limit : Limit} {p : Part} {h : Context} {c e : Scopes} {d i j : ℕ} {t : Trees} →
-    Names p → Spells ts limit (a p) h c e d t i j → declared_in t < j
-named_before by_declarator (spells.of_chain grammar.declarator_direct f s) = named_before by_direct s
-named_before by_declarator (spells.of_alternative grammar.pointer_declarator f (spells.opens q w (spells.qualified k s))) = named_before by_declarator s
-named_before by_direct (spells.of_chain x f s) = elim x [ ]
-named_before by_direct (spells.of_alternative grammar.name_declarator f (spells.declared q g w s)) = let n = forth s in omega arith
-named_before by_direct (spells.of_alternative grammar.group_declarator f (spells.opens q w (spells.part {u = u} x s))) = later_name x u (named_before by_declarator x) (forth s)
-named_before by_direct (spells.of_alternative grammar.array_declarator f (spells.part {u = u} x s)) = later_name x u (named_before by_direct x) (forth s)
-named_before by_direct (spells.of_alternative grammar.function_declarator f (spells.part {u = u} x s)) = later_name x u (named_before by_direct x) (forth s)
+pub named_within : {ts : List Lexeme} {limit : Limit} {p : Part} {h : Context} {c e : Scopes} {d i j : ℕ} {t : Trees} →
+    Names p → Spells ts limit (a p) h c e d t i j → IsAmong ts i j (declared_in t)
+named_within by_declarator (spells.of_chain grammar.declarator_direct f s) = named_within by_direct s
+named_within by_declarator (spells.of_alternative grammar.pointer_declarator f (spells.opens q w (spells.qualified k s))) =
+    let n = consts_forth k in let x = named_within by_declarator s in (omega arith, omega arith, x.2)
+named_within by_direct (spells.of_chain x f s) = elim x [ ]
+named_within by_direct (spells.of_alternative grammar.name_declarator f (spells.declared q g w s)) = let n = forth s in (omega arith, omega arith, q)
+named_within by_direct (spells.of_alternative grammar.group_declarator f (spells.opens q w (spells.part {u = u} x s))) = among_row x u (omega arith) (forth s) (named_within by_declarator x)
+named_within by_direct (spells.of_alternative grammar.array_declarator f (spells.part {u = u} x s)) = among_row x u (omega arith) (forth s) (named_within by_direct x)
+named_within by_direct (spells.of_alternative grammar.function_declarator f (spells.part {u = u} x s)) = among_row x u (omega arith) (forth s) (named_within by_direct x)
 
 -- it is the one that is said after it
 pub name_is : {ts : List Lexeme} {limit : Limit} {p : Part} {h' : Context} {c e : Scopes} {d i j : ℕ} {t : Trees} →
@@ -133,7 +151,7 @@ brought_is ts i k b lt = ap (λ x. record { name = if x then spelling_at ts k el
 pub name_brought : {ts : List Lexeme} {limit : Limit} {h' : Context} {c e : Scopes} {d i j : ℕ} {t : Trees} →
     Spells ts limit (a part.Declarator) h' c e d t i j → (h : Context) → brought ts j (past_part h t).name (past_part h t).type_name ≡ declared_name ts (past_part h t)
 name_brought {ts = ts} {j = j} {t = t} s h =
-    let n = named_before by_declarator s in
+    let n = named_within by_declarator s in
     let m = name_is s h in
     brought_is ts j (past_part h t).name (past_part h t).type_name (omega arith)
 

@@ -17,7 +17,7 @@ use Rattle.cr_syntax.specs.Grammar as grammar
 use Rattle.cr_syntax.specs.Spells.{Limit, Is, Stands, Within, Spells, a, rest}
 use Rattle.cr_syntax.specs.Spells as spells
 use Rattle.cr_syntax.specs.Reads.{is_word, same_word}
-use Rattle.cr_machine.specs.Machine.{Goal, Prog, Reply, Done, Labels, anywhere, own_block, nowhere, plain, opens, reopens, has_word, passes, give, take, call, made, expect, the, run_give, run_take, run_pass, run_free, run_seen, run_unseen, run_yes, run_no, run_here, run_look, run_set, run_call}
+use Rattle.cr_machine.specs.Machine.{Prog, Reply, Done, Labels, anywhere, own_block, nowhere, plain, opens, reopens, has_word, passes, give, take, call, made, expect, the, run_give, run_take, run_pass, run_free, run_seen, run_unseen, run_yes, run_no, run_here, run_look, run_set, run_call}
 use Rattle.cr_machine.specs.Machine as m
 use Rattle.cr_machine.specs.MachineBody.{body, is_specifier_start, is_label, is_statement_start, declaration_start, statement_start, inside, in_switch, may_label, labelled, unlabelled, without_else, if_end, switch_body, for_body}
 use Rattle.cr_machine.specs.MachineLaws.{IsFree}
@@ -169,9 +169,6 @@ module _ {ts : List Lexeme} {limit : Limit} {p p' : Part} {h h' : Context} {c c'
       (subst (λ w. fits_together kind.If (w & (u & (v & none))) ≡ true) k.2 f))))
 
 module _ (ts : List Lexeme) (limit : Limit) where
-  then_give : {g : Goal} {c : Scopes} {i : ℕ} {r : Reply} → Goes ts limit (body g) c i r → Goes ts limit (call g give) c i r
-  then_give h = tail body ts limit h
-
   statement_first : {h : Context} {c e : Scopes} {d i j : ℕ} {t : Trees} → Spells ts limit (a part.Statement) h c e d t i j → StatementFirst ts c i
   statement_first (spells.of_chain grammar.statement_compound f s) = by_keyword (compound_first ts limit s) refl
   statement_first (spells.of_alternative grammar.expression_statement f (spells.optional_none (spells.token q w s))) = by_keyword q refl
@@ -233,7 +230,7 @@ module _ (ts : List Lexeme) (limit : Limit) where
 
     item_goes : {l : Labels} {c e f : Scopes} {d s i j k : ℕ} {t u y : Trees} → is_word ts i word.RightBrace ≡ false → Answers ts limit (m.item l (d + 1)) c i t e j →
         (names : List TypeName) × Answers ts limit (m.items l d s (y & t & none)) e j u (names ∷ f) k → (names : List TypeName) × Answers ts limit (m.items l d s y) c i u (names ∷ f) k
-    item_goes q x r = (r.0, run_pass q (run_call x (then_give r.1)))
+    item_goes q x r = (r.0, run_pass q (run_call x (tail r.1)))
 
     pub items_read : {h : Context} {c e : Scopes} {d i j : ℕ} {t : Trees} (s : Spells ts limit (rest item_side) h c e d t i j) → measure s < suc n → Completes ts limit task.items h c e d t i j
     items_read {d = d} {i = i} (spells.many_none (spells.token {c = c} q w (spells.ends {own = own} spells.done))) lt = λ l s x ft.
@@ -245,9 +242,9 @@ module _ (ts : List Lexeme) (limit : Limit) where
     pub item_reads : {h : Context} {c e : Scopes} {d i j : ℕ} {t : Trees} (s : Spells ts limit (a part.BlockItem) h c e d t i j) → measure s < suc n → Completes ts limit task.item h c e d t i j
     item_reads (spells.of_alternative x f s) lt = elim x [ ]
     item_reads (spells.of_chain grammar.item_declaration f s) lt = λ l ft el.
-        run_seen (specifier_yes (declaration_first ts limit s)) (then_give (b.read task.declaration s (omega arith)))
+        run_seen (specifier_yes (declaration_first ts limit s)) (tail (b.read task.declaration s (omega arith)))
     item_reads (spells.of_chain grammar.item_statement f s) lt = λ l ft el.
-        run_unseen (not_declaration (statement_first s)) (then_give (b.read task.statement s (omega arith) l ft el))
+        run_unseen (not_declaration (statement_first s)) (tail (b.read task.statement s (omega arith) l ft el))
 
     -- The rest of a `for`, by its parts.
 
@@ -289,13 +286,13 @@ module _ (ts : List Lexeme) (limit : Limit) where
         (ends_open t ≡ true → is_word ts j word.Else ≡ false) → (k : ℕ) →
         Goes ts limit (m.peek declaration_start (call (m.declaration (d + 1)) (λ u. call (m.for_clauses l d k (u & none)) give)) (call (m.clause (d + 1)) (λ u. call (m.for_clauses l d k u) give))) c i (Done (one kind.For k j t) e j)
     for_goes (spells.init_declaration {t = t} z s) lt l ft el k =
-        run_seen (specifier_yes (declaration_first ts limit z)) (run_call (b.read task.declaration z (omega arith)) (then_give (further t s (omega arith) l ft el k)))
+        run_seen (specifier_yes (declaration_first ts limit z)) (run_call (b.read task.declaration z (omega arith)) (tail (further t s (omega arith) l ft el k)))
     for_goes {c = c} {i = i} (spells.init_clause (spells.clause_none q w s)) lt l ft el k =
-        run_unseen (not_type ts c i q refl refl) (run_call (run_take (yes q) w run_give) (then_give (clauses_go s (omega arith) l ft el k none)))
+        run_unseen (not_type ts c i q refl refl) (run_call (run_take (yes q) w run_give) (tail (clauses_go s (omega arith) l ft el k none)))
     for_goes (spells.init_clause (spells.clause_some {t = t} z q w s)) lt l ft el k =
         run_unseen (not_declaration (by_expression (first_expression z)))
         (run_call (run_pass (not_first (first_expression z) word.Semicolon refl refl) (run_call (whole_expression ts limit n b z (omega arith) (free_by q (omega arith))) (run_take (yes q) w run_give)))
-        (then_give (further t s (omega arith) l ft el k)))
+        (tail (further t s (omega arith) l ft el k)))
 
     -- Statements.
 
@@ -320,7 +317,7 @@ module _ (ts : List Lexeme) (limit : Limit) where
     return_goes : (l : Labels) {d i : ℕ} {c : Scopes} {r : Reply} → Is ts i word.Return → Stands limit i d → Goes ts limit (body (m.return_rest d i)) c (i + 1) r → Goes ts limit (body (m.statement l d)) c i r
     return_goes l q w h =
         by_word_goes l q refl refl refl (run_unseen (differs q word.LeftBrace refl) (run_pass (differs q word.If refl) (run_pass (differs q word.Switch refl) (run_pass (differs q word.While refl)
-        (run_pass (differs q word.Do refl) (run_pass (differs q word.For refl) (run_pass (differs q word.Break refl) (run_pass (differs q word.Continue refl) (run_take (yes q) w (then_give h))))))))))
+        (run_pass (differs q word.Do refl) (run_pass (differs q word.For refl) (run_pass (differs q word.Break refl) (run_pass (differs q word.Continue refl) (run_take (yes q) w (tail h))))))))))
 
     expression_reads : {h : Context} {c e : Scopes} {d i j : ℕ} {t : Trees} (s : Spells ts limit (rest (optional part.Expression ∷ token word.Semicolon ∷ [])) h c e d t i j) → measure s < n →
         Completes ts limit task.statement h c e d (one kind.ExpressionStatement i j t) i j
@@ -354,7 +351,7 @@ module _ (ts : List Lexeme) (limit : Limit) where
     if_reads : {h : Context} {c e : Scopes} {d i j : ℕ} {t : Trees} (s : Spells ts limit (rest (symbol.Begins ∷ token word.If ∷ opening word.LeftParen ∷ inner part.Expression ∷ reopening word.RightParen ∷ symbol.Begins ∷ inner part.Statement ∷
         symbol.Ends ∷ symbol.Else ∷ symbol.Ends ∷ [])) h c e d t i j) → measure s < n → fits_together kind.If t ≡ true → Completes ts limit task.statement h c e d (one kind.If i j t) i j
     if_reads {d = d} {i = i} {j = j} (spells.begins (spells.token q w (spells.opens q' w' (spells.part {t = t} {u = v} z (spells.reopens q'' w'' v'' s))))) lt f = λ l ft el.
-        by_word_goes l q refl refl refl (run_unseen (differs q word.LeftBrace refl) (run_take (yes q) w (then_give (run_look (run_set
+        by_word_goes l q refl refl refl (run_unseen (differs q word.LeftBrace refl) (run_take (yes q) w (tail (run_look (run_set
         (condition_goes (λ u. call (m.block (inside l) (d + 1)) (λ y. if_end l d i u y)) q' w' z (omega arith) q'' w'' v''
         (branches_go s (omega arith) z f l i (fits_right (inside l) t v (parts_fit l kind.If i j (t & v) none refl refl ft)) el)))))))
 
@@ -369,7 +366,7 @@ module _ (ts : List Lexeme) (limit : Limit) where
     switch_reads : {h : Context} {c e : Scopes} {d i j : ℕ} {t : Trees} (s : Spells ts limit (rest (symbol.Begins ∷ token word.Switch ∷ opening word.LeftParen ∷ inner part.Expression ∷ reopening word.RightParen ∷ symbol.Begins ∷ inner part.Compound ∷
         symbol.Ends ∷ symbol.Ends ∷ [])) h c e d t i j) → measure s < n → Completes ts limit task.statement h c e d (one kind.Switch i j t) i j
     switch_reads {d = d} {i = i} (spells.begins (spells.token q w (spells.opens q' w' (spells.part {t = t} z (spells.reopens q'' w'' v'' s))))) lt = λ l ft el.
-        by_word_goes l q refl refl refl (run_unseen (differs q word.LeftBrace refl) (run_pass (differs q word.If refl) (run_take (yes q) w (then_give (run_look (run_set
+        by_word_goes l q refl refl refl (run_unseen (differs q word.LeftBrace refl) (run_pass (differs q word.If refl) (run_take (yes q) w (tail (run_look (run_set
         (condition_goes (λ u. switch_body l d i u) q' w' z (omega arith) q'' w'' v'' (switch_goes t s (omega arith) l i ft))))))))
 
     -- the body of a `while` behind its condition
@@ -382,7 +379,7 @@ module _ (ts : List Lexeme) (limit : Limit) where
     while_reads : {h : Context} {c e : Scopes} {d i j : ℕ} {t : Trees} (s : Spells ts limit (rest (symbol.Begins ∷ token word.While ∷ opening word.LeftParen ∷ inner part.Expression ∷ reopening word.RightParen ∷ symbol.Begins ∷ inner part.Statement ∷
         symbol.Ends ∷ symbol.Ends ∷ [])) h c e d t i j) → measure s < n → Completes ts limit task.statement h c e d (one kind.While i j t) i j
     while_reads {d = d} {i = i} {j = j} (spells.begins (spells.token q w (spells.opens q' w' (spells.part {t = t} {u = v} z (spells.reopens q'' w'' v'' s))))) lt = λ l ft el.
-        by_word_goes l q refl refl refl (run_unseen (differs q word.LeftBrace refl) (run_pass (differs q word.If refl) (run_pass (differs q word.Switch refl) (run_take (yes q) w (then_give (run_look (run_set
+        by_word_goes l q refl refl refl (run_unseen (differs q word.LeftBrace refl) (run_pass (differs q word.If refl) (run_pass (differs q word.Switch refl) (run_take (yes q) w (tail (run_look (run_set
         (condition_goes (λ y. call (m.block (inside l) (d + 1)) (λ u. m.drops (made kind.While i (y & u & none)))) q' w' z (omega arith) q'' w'' v''
         (while_goes s (omega arith) l i t (fits_right (inside l) t v (parts_fit l kind.While i j (t & v) none refl refl ft)) el)))))))))
 
@@ -395,7 +392,7 @@ module _ (ts : List Lexeme) (limit : Limit) where
         closing word.RightParen ∷ token word.Semicolon ∷ symbol.Ends ∷ [])) h c e d t i j) → measure s < n → Completes ts limit task.statement h c e d (one kind.Do i j t) i j
     do_reads {i = i} {j = j} (spells.begins (spells.opens q w (spells.begins (spells.part {t = t} y (spells.ends (spells.token q' w' (spells.opens p k (spells.part {t = u} {u = v} z s)))))))) lt = λ l ft el.
         let g = parts_fit l kind.Do i j (t & u & v) none refl refl ft in
-        by_word_goes l q refl refl refl (run_unseen (differs q word.LeftBrace refl) (run_pass (differs q word.If refl) (run_pass (differs q word.Switch refl) (run_pass (differs q word.While refl) (run_take (yes q) w (then_give (run_look (run_set
+        by_word_goes l q refl refl refl (run_unseen (differs q word.LeftBrace refl) (run_pass (differs q word.If refl) (run_pass (differs q word.Switch refl) (run_pass (differs q word.While refl) (run_take (yes q) w (tail (run_look (run_set
         (run_call (block_goes (b.read task.statement y (omega arith) (inside l) (fits_left (inside l) t (u & v) g) (λ o. differs q' word.Else refl))) (run_take (yes q') w' (run_take (yes p) k
         (run_call (whole_expression ts limit n b z (omega arith) (free_by (do_ends s).0 (omega arith))) ((do_ends s).1 i t u)))))))))))))
 
@@ -403,7 +400,7 @@ module _ (ts : List Lexeme) (limit : Limit) where
         Completes ts limit task.statement h c e d (one kind.For i j t) i j
     for_reads {i = i} {j = j} {t = t} (spells.begins (spells.token q w (spells.opens q' w' s))) lt = λ l ft el.
         by_word_goes l q refl refl refl (run_unseen (differs q word.LeftBrace refl) (run_pass (differs q word.If refl) (run_pass (differs q word.Switch refl) (run_pass (differs q word.While refl) (run_pass (differs q word.Do refl)
-        (run_take (yes q) w (then_give (run_look (run_set (run_take (yes q') w' (for_goes s (omega arith) l (parts_fit l kind.For i j t none refl refl ft) el i)))))))))))
+        (run_take (yes q) w (tail (run_look (run_set (run_take (yes q') w' (for_goes s (omega arith) l (parts_fit l kind.For i j t none refl refl ft) el i)))))))))))
 
     case_reads : {h : Context} {c e : Scopes} {d i j : ℕ} {t : Trees} (s : Spells ts limit (rest (token word.Case ∷ grammar.part part.Conditional ∷ opening word.Colon ∷ inner part.Statement ∷ [])) h c e d t i j) → measure s < n →
         Completes ts limit task.statement h c e d (one kind.Case i j t) i j
@@ -443,7 +440,7 @@ module _ (ts : List Lexeme) (limit : Limit) where
     pub statement_reads : {h : Context} {c e : Scopes} {d i j : ℕ} {t : Trees} (s : Spells ts limit (a part.Statement) h c e d t i j) → measure s < suc n → Completes ts limit task.statement h c e d t i j
     statement_reads (spells.of_chain grammar.statement_compound f s) lt = λ l ft el.
         let q = compound_first ts limit s in
-        by_word_goes l q refl refl refl (run_seen (yes q) (then_give (b.read task.compound s (omega arith) (inside l) (compound_fits l s ft))))
+        by_word_goes l q refl refl refl (run_seen (yes q) (tail (b.read task.compound s (omega arith) (inside l) (compound_fits l s ft))))
     statement_reads (spells.of_alternative grammar.expression_statement f s) lt = expression_reads s (omega arith)
     statement_reads (spells.of_alternative grammar.if_statement f s) lt = if_reads s (omega arith) f
     statement_reads (spells.of_alternative grammar.switch_statement f s) lt = switch_reads s (omega arith)

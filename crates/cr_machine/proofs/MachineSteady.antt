@@ -1,6 +1,6 @@
 -- At one token the levels of a program's tests never rise: each has the levels of the one before it or fewer, and where
 -- the program stops it says no more than the last of them. So says `Steady`, of a program and then goal by goal.
-use Rattle.std.proofs.Common.{◌≡◌, ℕ, ◌+◌, ◌<◌, ◌≤◌, Bool, true, false, not, ◌&&◌, ◌||◌, List, [], ◌∷◌, Option, None, Some, refl, sym, ap, subst, ◌∙◌, arith, ◌⊎◌, inl, inr}
+use Rattle.std.proofs.Common.{◌≡◌, ℕ, ◌+◌, ◌<◌, ◌≤◌, Bool, true, false, not, ◌&&◌, ◌||◌, List, [], ◌∷◌, None, Some, refl, sym, ap, subst, ◌∙◌, arith, ◌⊎◌, inl, inr}
 use Rattle.std.proofs.lemmas.Bool.{both_ways, or_cases, or_from}
 use Rattle.cr_syntax.specs.declared.word.Word.{Word}
 use Rattle.cr_syntax.specs.declared.word.Word.TheVariants as word
@@ -8,7 +8,7 @@ use Rattle.cr_syntax.specs.declared.node.Kind.{Kind}
 use Rattle.cr_syntax.specs.declared.symbol.Part.{Part}
 use Rattle.cr_syntax.specs.declared.symbol.Part.TheVariants as part
 use Rattle.cr_syntax.specs.declared.symbol.Context.{Context}
-use Rattle.cr_syntax.specs.Words.{Lexeme, word_at, spelling_at}
+use Rattle.cr_syntax.specs.Words.{Lexeme, spelling_at}
 use Rattle.cr_syntax.specs.Scopes.{Scopes, is_type, enter}
 use Rattle.cr_syntax.specs.Trees.{Trees, none, ◌&◌}
 use Rattle.cr_syntax.specs.Context.{fresh, past_token, past_part}
@@ -20,7 +20,7 @@ use Rattle.cr_machine.specs.Machine.{whole, expression, commas, assignment, cond
 use Rattle.cr_machine.specs.Machine.{unit, externals, external, declaration, init_declarators, initialized, initializer, initializers, statement, block, if_rest, switch_rest, while_rest, do_rest, for_rest, return_rest, for_clauses, clause, compound, items, item}
 use Rattle.cr_machine.specs.MachineBody.{Words, body, declared_on, unlabelled, labelled, is_label, assigned, operated, prefixed, suffixed, sized, other_primary, suffixes_end, other_element, array_start, may_omit, start_goal, tighter, assignment_operators, operators, unary_prefixes, cast_prefixes, constants, postfix_operators, specifier_words, plain_words, element_start, is_plain_start, is_specifier_start, is_abstract_start, is_declarator_start, declarator_start}
 use Rattle.cr_syntax.proofs.Tests.{both, not_true}
-use Rattle.cr_machine.proofs.MachineFirst.{none_true, true_false}
+use Rattle.cr_machine.proofs.MachineFirst.{none_true, true_false, some_word_of}
 
 -- Levels.
 
@@ -317,14 +317,6 @@ declarator_among _ q v x y z = none_true q
 apart : (ts : List Lexeme) (i : ℕ) (w v : Word) → Is ts i w → is_word ts i v ≡ false → same_word w v ≡ false
 apart ts i w v z n = sym (ap (λ o. elim o as (λ _. Bool) [ None ↦ false | Some u ↦ same_word u v ]) z) ∙ n
 
--- the token's word, where a test of words passes
-word_of_test : (ts : List Lexeme) (i : ℕ) (f : Word → Bool) → has_word ts i f ≡ true → (w : Word) × Is ts i w × (f w ≡ true)
-word_of_test ts i f = at (word_at ts i)
-  where
-    at : (o : Option Word) → elim o as (λ _. Bool) [ None ↦ false | Some w ↦ f w ] ≡ true → (w : Word) × (o ≡ Some w) × (f w ≡ true)
-    at None q = none_true q
-    at (Some w) q = (w, refl, q)
-
 -- an identifier may be declared or is a type
 no_name : (x y z : Bool) → x && (z || not y) ≡ false → x && y && not z ≡ false → x ≡ false
 no_name false y z a b = refl
@@ -344,23 +336,23 @@ module _ (ts : List Lexeme) (i : ℕ) where
   element_found : (p : Part) (c : Scopes) (typed : Bool) → passes ts c i (element_start p typed) ≡ true → NoRow (specifier_words p) → is_word ts i word.Struct ≡ false → is_word ts i word.Enum ≡ false →
       passes ts c i (type_identifier typed) ≡ false → ⊥
   element_found part.Specifiers c typed q n s e t = elim (or_cases (has_word ts i is_specifier_start) (passes ts c i (type_identifier typed)) q) [
-    | inl y ↦ (let w = word_of_test ts i is_specifier_start y in specifier_among w.0 w.2 (n w.0 w.1) (apart ts i w.0 word.Struct w.1 s) (apart ts i w.0 word.Enum w.1 e))
+    | inl y ↦ (let w = some_word_of ts i is_specifier_start y in specifier_among w.0 w.2 (n w.0 w.1) (apart ts i w.0 word.Struct w.1 s) (apart ts i w.0 word.Enum w.1 e))
     | inr y ↦ both_ways (passes ts c i (type_identifier typed)) t y
   ]
   element_found _ c typed q n s e t = elim (or_cases (has_word ts i is_plain_start) (passes ts c i (type_identifier typed)) q) [
-    | inl y ↦ (let w = word_of_test ts i is_plain_start y in plain_among w.0 w.2 (n w.0 w.1) (apart ts i w.0 word.Struct w.1 s) (apart ts i w.0 word.Enum w.1 e))
+    | inl y ↦ (let w = some_word_of ts i is_plain_start y in plain_among w.0 w.2 (n w.0 w.1) (apart ts i w.0 word.Struct w.1 s) (apart ts i w.0 word.Enum w.1 e))
     | inr y ↦ both_ways (passes ts c i (type_identifier typed)) t y
   ]
 
   abstract_found : has_word ts i is_abstract_start ≡ true → is_word ts i word.Star ≡ false → is_word ts i word.LeftParen ≡ false → is_word ts i word.LeftBracket ≡ false → ⊥
   abstract_found q s p b =
-      let w = word_of_test ts i is_abstract_start q in
+      let w = some_word_of ts i is_abstract_start q in
       abstract_among w.0 w.2 (apart ts i w.0 word.Star w.1 s) (apart ts i w.0 word.LeftParen w.1 p) (apart ts i w.0 word.LeftBracket w.1 b)
 
   declarator_found : (c : Scopes) (typed : Bool) → has_word ts i is_declarator_start ≡ true → passes ts c i (type_identifier typed) ≡ false → is_word ts i word.Star ≡ false → is_word ts i word.LeftParen ≡ false →
       passes ts c i (declared typed) ≡ false → is_word ts i word.LeftBracket ≡ false → ⊥
   declarator_found c typed q t s p n b =
-      let w = word_of_test ts i is_declarator_start q in
+      let w = some_word_of ts i is_declarator_start q in
       declarator_among w.0 w.2 (apart ts i w.0 word.Identifier w.1 (no_name (is_word ts i word.Identifier) (is_type c (spelling_at ts i)) typed n t))
       (apart ts i w.0 word.Star w.1 s) (apart ts i w.0 word.LeftParen w.1 p) (apart ts i w.0 word.LeftBracket w.1 b)
 
@@ -451,7 +443,7 @@ operators_fit _ = refl
 bracket_for_call : (v : Word) → StandsIn 4 v → v ≡ word.LeftBracket
 bracket_for_call v subscript_for_call = refl
 
-none_for_keyword : (v : Word) → StandsIn 1 v → ⊥
+pub none_for_keyword : (v : Word) → StandsIn 1 v → ⊥
 none_for_keyword v z = elim z [ ]
 
 none_for_label : (v : Word) → StandsIn 6 v → ⊥

@@ -18,14 +18,13 @@ use Rattle.cr_syntax.specs.Grammar as grammar
 use Rattle.cr_syntax.specs.Spells.{Limit, Is, Stands, Spells, a, rest}
 use Rattle.cr_syntax.specs.Spells as spells
 use Rattle.cr_syntax.specs.Reads.{is_word, same_word}
-use Rattle.cr_machine.specs.Machine.{Goal, Prog, Reply, Done, plain, give, take, call, made, the, run_give, run_take, run_pass, run_free, run_seen, run_unseen, run_here, run_look, run_set, run_bring, run_call}
+use Rattle.cr_machine.specs.Machine.{Prog, Reply, Done, plain, give, take, call, made, the, run_give, run_take, run_pass, run_free, run_seen, run_unseen, run_here, run_look, run_set, run_bring, run_call}
 use Rattle.cr_machine.specs.Machine as m
 use Rattle.cr_machine.specs.MachineBody.{body, member_end, other_element, specifier_words, plain_words, storage_words, row_kind, is_plain_start, is_specifier_start, is_abstract_start, element_start, in_row}
 use Rattle.cr_machine.proofs.MachineMeans.{element_part, has_some}
-use Rattle.cr_machine.proofs.MachineSpells.{and_none, and_and, pushed}
+use Rattle.cr_machine.proofs.MachineSpells.{and_none, and_and, pushed, is_one, forth, brought_is}
 use Rattle.cr_machine.proofs.MachineFirst.{none_true, or_false, and_false, later_row, yes, differs, sorted, free_by, lower, fails, all_differ, Row, row_here, row_next, takes, skips, tail}
-use Rattle.cr_machine.proofs.MachineSound.{brought_is, part_some, two_in_row}
-use Rattle.cr_machine.proofs.MachineSpells.{is_one, forth}
+use Rattle.cr_machine.proofs.MachineSound.{part_some, two_in_row}
 use Rattle.cr_machine.proofs.MachineSpells as facts
 use Rattle.cr_machine.proofs.MachineTasks.{measure, Closes, by_paren, by_comma, by_semicolon, by_closing, past_row, Goes, Answers, Completes, Smaller}
 use Rattle.cr_machine.proofs.MachineTasks as task
@@ -111,9 +110,6 @@ in_row_one : {ts : List Lexeme} {limit : Limit} {q : Part} {h : Context} {c e : 
 in_row_one x p s k = let w = is_one x in subst (λ y. in_row p s k (y & none) ≡ y) (sym w.2) refl
 
 module _ (ts : List Lexeme) (limit : Limit) where
-  then_give : {g : Goal} {c : Scopes} {i : ℕ} {r : Reply} → Goes ts limit (body g) c i r → Goes ts limit (call g give) c i r
-  then_give h = tail body ts limit h
-
   module _ (n : ℕ) (b : Smaller ts limit n) where
     -- a word that is a specifier by itself
     pub word_reads : (p : Part) (h : Context) (d : ℕ) {w : Word} {k : Kind} {c : Scopes} {i : ℕ} → Row w k (specifier_words p) → Is ts i w → Stands limit i d → Answers ts limit (m.element p h d) c i (one k i (i + 1) none) c (i + 1)
@@ -127,10 +123,10 @@ module _ (ts : List Lexeme) (limit : Limit) where
         (run_call (b.read task.member x (omega arith)) (b.read task.members y (omega arith) s (t & none)))
 
     in_struct : (p : Part) (h : Context) {c e : Scopes} {d i j : ℕ} {t : Trees} → Is ts i word.Struct → Stands limit i d → Answers ts limit (m.structure d i) c (i + 1) t e j → Answers ts limit (m.element p h d) c i t e j
-    in_struct p h {d = d} {i = i} q w x = run_here (skips body ts limit (specifier_words p) plain d (λ k. made k i none) (other_element h d i) q (struct_apart p) (run_take (yes q) w (then_give x)))
+    in_struct p h {d = d} {i = i} q w x = run_here (skips body ts limit (specifier_words p) plain d (λ k. made k i none) (other_element h d i) q (struct_apart p) (run_take (yes q) w (tail x)))
 
     in_enum : (p : Part) (h : Context) {c e : Scopes} {d i j : ℕ} {t : Trees} → Is ts i word.Enum → Stands limit i d → Answers ts limit (m.enumeration d i) c (i + 1) t e j → Answers ts limit (m.element p h d) c i t e j
-    in_enum p h {d = d} {i = i} q w x = run_here (skips body ts limit (specifier_words p) plain d (λ k. made k i none) (other_element h d i) q (enum_apart p) (run_pass (differs q word.Struct refl) (run_take (yes q) w (then_give x))))
+    in_enum p h {d = d} {i = i} q w x = run_here (skips body ts limit (specifier_words p) plain d (λ k. made k i none) (other_element h d i) q (enum_apart p) (run_pass (differs q word.Struct refl) (run_take (yes q) w (tail x))))
 
     plain_reads : (p : Part) {h : Context} {c e : Scopes} {d i j : ℕ} {t : Trees} (s : Spells ts limit (a part.Plain) h c e d t i j) → measure s < suc n → is_word ts j word.LeftBrace ≡ false → Answers ts limit (m.element p h d) c i t e j
     plain_reads p (spells.of_chain x f s) lt nb = elim x [ ]
@@ -144,15 +140,15 @@ module _ (ts : List Lexeme) (limit : Limit) where
     plain_reads p {h = h} {d = d} (spells.of_alternative grammar.type_unsigned f (spells.token q w spells.done)) lt nb = word_reads p h d (plain_row p refl (row_next refl (row_next refl (row_next refl (row_next refl (row_next refl (row_next refl (row_next refl row_here)))))))) q w
     plain_reads p {h = h} {d = d} (spells.of_alternative grammar.type_bool f (spells.token q w spells.done)) lt nb = word_reads p h d (plain_row p refl (row_next refl (row_next refl (row_next refl (row_next refl (row_next refl (row_next refl (row_next refl (row_next refl row_here))))))))) q w
     plain_reads p {h = h} (spells.of_alternative grammar.struct_content f (spells.token q w (spells.tag_none q' w' s))) lt nb =
-        in_struct p h q w (run_pass (differs q' word.Identifier refl) (run_take (yes q') w' (then_give (members_go s (omega arith)))))
+        in_struct p h q w (run_pass (differs q' word.Identifier refl) (run_take (yes q') w' (tail (members_go s (omega arith)))))
     plain_reads p {h = h} (spells.of_alternative grammar.struct_content f (spells.token q w (spells.tag_some q' w' q'' w'' s))) lt nb =
-        in_struct p h q w (run_take (yes q') w' (run_take (yes q'') w'' (then_give (members_go s (omega arith)))))
+        in_struct p h q w (run_take (yes q') w' (run_take (yes q'') w'' (tail (members_go s (omega arith)))))
     plain_reads p {h = h} (spells.of_alternative grammar.struct_tag f (spells.token q w (spells.token q' w' spells.done))) lt nb =
         in_struct p h q w (run_take (yes q') w' (run_pass nb (run_here run_give)))
     plain_reads p {h = h} {i = i} (spells.of_alternative grammar.enum_content f (spells.token q w (spells.tag_none q' w' s))) lt nb =
-        in_enum p h q w (run_pass (differs q' word.Identifier refl) (run_take (yes q') w' (then_give (b.read task.enumerators s (omega arith) i none))))
+        in_enum p h q w (run_pass (differs q' word.Identifier refl) (run_take (yes q') w' (tail (b.read task.enumerators s (omega arith) i none))))
     plain_reads p {h = h} {i = i} (spells.of_alternative grammar.enum_content f (spells.token q w (spells.tag_some q' w' q'' w'' s))) lt nb =
-        in_enum p h q w (run_take (yes q') w' (run_take (yes q'') w'' (then_give (b.read task.enumerators s (omega arith) i none))))
+        in_enum p h q w (run_take (yes q') w' (run_take (yes q'') w'' (tail (b.read task.enumerators s (omega arith) i none))))
     plain_reads p {h = h} (spells.of_alternative grammar.enum_tag f (spells.token q w (spells.token q' w' spells.done))) lt nb =
         in_enum p h q w (run_take (yes q') w' (run_pass nb (run_here run_give)))
     plain_reads p {h = h} {c = c} {d = d} {i = i} (spells.of_alternative grammar.typedef_name f (spells.type_identifier q v w spells.done)) lt nb =
@@ -184,7 +180,7 @@ module _ (ts : List Lexeme) (limit : Limit) where
     elements_read p {h = h} {c = c} {e = e} {d = d} {i = i} {j = j} (spells.many_more {t = t} {u = u} x k) lt = λ s y fo nb.
         subst (λ z. Answers ts limit (m.more p h d s y) c i (in_row p s j z) e j) (pushed y t u)
         (run_seen (element_yes p x) (run_call (b.read (task.element p) x (omega arith) (elements_apart p k nb))
-        (then_give (b.read (task.elements p) k (omega arith) s (y & t & none) (subst (λ z. m.passes ts e j (element_start p z.typed) ≡ false) (past_one x h u) fo) nb))))
+        (tail (b.read (task.elements p) k (omega arith) s (y & t & none) (subst (λ z. m.passes ts e j (element_start p z.typed) ≡ false) (past_one x h u) fo) nb))))
 
     -- a row of two or more
     row_node_reads : (p : Part) {h : Context} {c e : Scopes} {d i j : ℕ} {t : Trees} (s : Spells ts limit (rest (grammar.part (element_part p) ∷ grammar.part (element_part p) ∷ many (element_part p) ∷ [])) h c e d t i j) → measure s < n →
@@ -193,8 +189,8 @@ module _ (ts : List Lexeme) (limit : Limit) where
         subst (λ z. Answers ts limit (m.row p h d) c i z e j)
         (ap (λ z. in_row p i j z) (pushed (t & none) u v ∙ and_and t none (u & v)) ∙ two_in_row p i j t u v (subst (λ z. has_some z ≡ true) (and_none t) (part_some x none)) (subst (λ z. has_some z ≡ true) (and_none u) (part_some y none)))
         (run_here (run_call (b.read (task.element p) x (omega arith) (never_element (element_first p y) no_left_brace))
-        (then_give (run_seen (element_yes p y) (run_call (b.read (task.element p) y (omega arith) (elements_apart p k nb))
-        (then_give (b.read (task.elements p) k (omega arith) i ((t & none) & u & none)
+        (tail (run_seen (element_yes p y) (run_call (b.read (task.element p) y (omega arith) (elements_apart p k nb))
+        (tail (b.read (task.elements p) k (omega arith) i ((t & none) & u & none)
         (subst (λ z. m.passes ts e j (element_start p z.typed) ≡ false) (past_one x h (u & v) ∙ past_one y (past_part h t) v) fo) nb)))))))
 
     -- what is said after a row of two or more
@@ -205,7 +201,7 @@ module _ (ts : List Lexeme) (limit : Limit) where
     row_alone_reads : (p : Part) {h : Context} {c e : Scopes} {d i j : ℕ} {t : Trees} (s : Spells ts limit (a (element_part p)) h c e d t i j) → measure s < n →
         m.passes ts e j (element_start p (past_part h t).typed) ≡ false → is_word ts j word.LeftBrace ≡ false → Answers ts limit (m.row p h d) c i t e j
     row_alone_reads p {h = h} {c = c} {e = e} {d = d} {i = i} {j = j} {t = t} s lt fo nb =
-        run_here (run_call (b.read (task.element p) s lt nb) (then_give (run_unseen fo (run_here
+        run_here (run_call (b.read (task.element p) s lt nb) (tail (run_unseen fo (run_here
         (subst (λ y. Goes ts limit (give (in_row p i j (t & none))) e j (Done y e j)) (in_row_one s p i j) run_give)))))
 
     pub specifiers_read : {h : Context} {c e : Scopes} {d i j : ℕ} {t : Trees} (s : Spells ts limit (a part.Specifiers) h c e d t i j) → measure s < suc n → Completes ts limit task.specifiers h c e d t i j
@@ -252,7 +248,7 @@ module _ (ts : List Lexeme) (limit : Limit) where
     member_list_reads {h = h} {c = c} {e = e} {d = d} {i = i} {j = j} (spells.list_more {t = t} {u = u} x q w k) lt = λ s y.
         subst (λ z. Answers ts limit (m.member_declarators h d s y) c i (one kind.MemberDeclaration s j z) e j) (pushed y t u)
         (member_goes (member_end h d s y) (member_of x (omega arith)) (by_comma q)
-        (run_free (differs q word.Colon refl) (run_take (yes q) w (then_give (b.read task.member_list k (omega arith) s (y & t & none))))))
+        (run_free (differs q word.Colon refl) (run_take (yes q) w (tail (b.read task.member_list k (omega arith) s (y & t & none))))))
 
     member_named : {h : Context} {c e : Scopes} {d i j : ℕ} {t : Trees} → Spells ts limit (a part.MemberDeclarator) h c e d t i j → NamedFirst ts c i h.typed
     member_named (spells.of_alternative x f s) = elim x [ ]
@@ -269,7 +265,7 @@ module _ (ts : List Lexeme) (limit : Limit) where
         let o = member_list_first s in
         subst (λ z. Answers ts limit (m.member d) c i (one kind.MemberDeclaration i j z) e j) (and_and t none u)
         (run_here (run_call (b.read task.plain_specifiers x (omega arith) (named_row part.PlainSpecifiers ts c' k (past_part fresh t).typed o) (named_apart o))
-        (then_give (b.read task.member_list s (omega arith) i (t & none)))))
+        (tail (b.read task.member_list s (omega arith) i (t & none)))))
 
     pub members_read : {h : Context} {c e : Scopes} {d i j : ℕ} {t : Trees} (s : Spells ts limit (rest (inner_many part.MemberDeclaration ∷ closing word.RightBrace ∷ [])) h c e d t i j) → measure s < suc n →
         Completes ts limit task.members h c e d t i j
@@ -279,7 +275,7 @@ module _ (ts : List Lexeme) (limit : Limit) where
         (run_take (yes q) w (run_here run_give)))
     members_read {c = c} {e = e} {d = d} {i = i} {j = j} (spells.many_more {t = t} {u = u} x k) lt = λ s y.
         subst (λ z. Goes ts limit (take plain (the word.RightBrace) (d + 1) (made kind.StructContent s y) (call (m.members d s y) give)) c i (Done (one kind.StructContent s j z) e j)) (pushed y t u)
-        (run_pass (never_element (member_first x) no_right_brace) (then_give (run_call (b.read task.member x (omega arith)) (b.read task.members k (omega arith) s (y & t & none)))))
+        (run_pass (never_element (member_first x) no_right_brace) (tail (run_call (b.read task.member x (omega arith)) (b.read task.members k (omega arith) s (y & t & none)))))
 
     -- Enumerators.
 
@@ -308,7 +304,7 @@ module _ (ts : List Lexeme) (limit : Limit) where
     enumerators_read {c = c} {e = e} {d = d} {i = i} {j = j} (spells.list_more {t = t} {u = u} x q w k) lt = λ s y.
         subst (λ z. Answers ts limit (m.enumerators d s y) c i (one kind.EnumContent s j z) e j) (pushed y t u)
         (run_call (b.read task.enumerator x (omega arith) (free_by q (omega arith))) (run_take (yes q) w (run_pass (differs (enumerators_first k) word.RightBrace refl)
-        (then_give (b.read task.enumerators k (omega arith) s (y & t & none))))))
+        (tail (b.read task.enumerators k (omega arith) s (y & t & none))))))
 
     pub enumerator_reads : {h : Context} {c e : Scopes} {d i j : ℕ} {t : Trees} (s : Spells ts limit (a part.Enumerator) h c e d t i j) → measure s < suc n → Completes ts limit task.enumerator h c e d t i j
     enumerator_reads (spells.of_chain x f s) lt = elim x [ ]

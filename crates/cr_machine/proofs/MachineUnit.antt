@@ -1,6 +1,6 @@
 -- What the machine answers of a unit is what reading one promises: its trees, or the first refusal.
 use Rattle.std.proofs.Common.{◌≡◌, ℕ, ◌+◌, ◌<◌, ◌≤◌, Bool, true, false, not, ◌&&◌, List, length, Option, None, Some, refl, sym, ap, subst, ◌∙◌, arith, ◌==◌, ◌⊎◌, inl, inr, ⊎_elim}
-use Rattle.std.specs.Prelude.{slice_get, nat_lt, if◌then◌else◌}
+use Rattle.std.specs.Prelude.{nat_lt, if◌then◌else◌}
 use Rattle.std.proofs.lemmas.Bool.{both_ways, eqb-true, eq-eqb, cases_Bool}
 use Rattle.cr_syntax.specs.declared.word.Word.{Word}
 use Rattle.cr_syntax.specs.declared.word.Word.TheVariants as word
@@ -15,11 +15,11 @@ use Rattle.cr_machine.specs.MachineBody.{body, is_any, is_label}
 use Rattle.cr_machine.specs.MachineLaws.{IsParsed}
 use Rattle.cr_syntax.proofs.Tests.{both, some_one}
 use Rattle.cr_machine.proofs.MachineFirst.{none_true, true_false}
-use Rattle.cr_machine.proofs.MachineRuns.{same, local, word_same}
+use Rattle.cr_machine.proofs.MachineRuns.{same, local}
 use Rattle.cr_machine.proofs.MachineEnds.{Way, stopped, barring, crowded, defining, Ends, ends_so, refused_so, cause_by}
-use Rattle.cr_machine.proofs.MachineComplete.{get_some, allows_free, upto}
+use Rattle.cr_machine.proofs.MachineComplete.{allows_free, upto}
 use Rattle.cr_machine.proofs.MachineUnitComplete.{unit_reads, unit_is_read}
-use Rattle.cr_machine.proofs.MachineUnitForms.{ReadsUnits}
+use Rattle.cr_machine.proofs.MachineUnitForms.{ReadsUnits, same_token, token_in}
 use Rattle.cr_machine.proofs.MachineRefusals.{outside_before_end, outside_at_end, outside_of_unit}
 use Rattle.cr_machine.proofs.MachineViable.{barred_inside, crowded_inside}
 use Rattle.cr_machine.proofs.MachineUnitViable.{unit_begins, unit_leaves, unit_barred_begins, unit_stands, unit_stands_leaving, unit_crowded_begins, definition_completes, definition_outside, unit_outside}
@@ -47,13 +47,6 @@ pub upto_less : {n k : ℕ} (most : ℕ) → n ≤ k → (g : Manner) (i d : ℕ
 upto_less most le plain i d a = tt
 upto_less most le opens i d a = λ lt. a (omega arith)
 upto_less most le reopens i d a = (tt, λ lt. a.1 (omega arith))
-
--- the tokens of a text that begins as the list does
-begun_alike : {limit : Limit} {ts : List Lexeme} {k : ℕ} → k < length ts → (b : Begins limit ts (k + 1)) → (i : ℕ) → i ≤ k → slice_get b.completes.text i ≡ slice_get ts i
-begun_alike {ts = ts} lt b i le = let w = get_some ts i (omega arith) in b.completes.alike i w.0 (omega arith) w.1 ∙ sym w.1
-
-begun_word : {limit : Limit} {ts : List Lexeme} (k : ℕ) {w : Word} → Is ts k w → (b : Begins limit ts (k + 1)) → Is b.completes.text k w
-begun_word {ts = ts} k q b = word_same ts b.completes.text k (begun_alike (within ts k q) b k (omega arith)) ∙ q
 
 -- Words.
 
@@ -137,10 +130,10 @@ module _ (ts : List Lexeme) where
   -- No text goes on with a token that is refused.
 
   pub run_ends : {w : Way} {k : ℕ} → Loosely w k → is_crowded w ≡ false → k < length ts → Begins Free ts (k + 1) → ⊥
-  run_ends y n lt b = let q = same (local (refused_so (unlimited_end y n)) (begun_alike lt b)) (unit_is_read anywhere b.completes.is_unit refl refl) in cc
+  run_ends y n lt b = let q = same (local (refused_so (unlimited_end y n)) (λ i le. same_token b.completes i (omega arith) (omega arith))) (unit_is_read anywhere b.completes.is_unit refl refl) in cc
 
   within_ends : {k : ℕ} → Loosely crowded k → k < length ts → BeginsWithin ts (k + 1) → ⊥
-  within_ends {k = k} y lt b = let q = same (local (upto (k + 1) (omega arith) (refused_so y)) (begun_alike lt b)) (unit_is_read anywhere b.completes.is_unit refl refl) in cc
+  within_ends {k = k} y lt b = let q = same (local (upto (k + 1) (omega arith) (refused_so y)) (λ i le. same_token b.completes i (omega arith) (omega arith))) (unit_is_read anywhere b.completes.is_unit refl refl) in cc
 
   no_tree : {w : Way} {k : ℕ} {t : Trees} → Loosely w k → IsUnit (AtMost most_levels) ts t → ⊥
   no_tree y x = let q = same (refused_so y) (unit_is_read anywhere x refl refl) in cc
@@ -160,7 +153,7 @@ module _ (ts : List Lexeme) where
   label_not_deep : {k : ℕ} {v : Word} → Is ts k v → is_label v ≡ true → IsTooDeep ts k → ⊥
   label_not_deep {k = k} {v = v} q l (units.expected o) =
       let b = o.begins in
-      o.too_deep (record { trees = b.trees; completes = record { text = b.completes.text; alike = b.completes.alike; is_unit = label_within (begun_word k q b) l b.completes.is_unit } })
+      o.too_deep (record { trees = b.trees; completes = record { text = b.completes.text; alike = b.completes.alike; is_unit = label_within (token_in b.completes k (omega arith) q) l b.completes.is_unit } })
   label_not_deep {v = v} q l (units.refused y b o x d) = no_bracket q (label_flat v l) y b
   label_not_deep {v = v} q l (units.unexpected y b c n o x) = no_bracket q (label_flat v l) y b
 

@@ -1,6 +1,5 @@
 -- The machine reads each unit, and so the tokens of a unit have one tree.
-use Rattle.std.proofs.Common.{◌≡◌, ℕ, Bool, true, false, List, length, Option, None, Some, refl, ap, subst}
-use Rattle.cr_syntax.specs.declared.word.Word.{Word}
+use Rattle.std.proofs.Common.{◌≡◌, ℕ, Bool, true, false, List, length, None, Some, refl, ap, subst}
 use Rattle.cr_syntax.specs.declared.symbol.Context.{Context}
 use Rattle.cr_syntax.specs.Words.{Lexeme, word_at}
 use Rattle.cr_syntax.specs.Scopes.{Scopes}
@@ -11,7 +10,7 @@ use Rattle.cr_syntax.specs.Units.{IsUnit, unit_side, file_scope}
 use Rattle.cr_machine.specs.Machine.{Labels, anywhere, Runs, Done, has_word, run_call}
 use Rattle.cr_machine.specs.Machine as m
 use Rattle.cr_machine.specs.MachineBody.{body, is_any}
-use Rattle.cr_machine.proofs.MachineRuns.{same}
+use Rattle.cr_machine.proofs.MachineRuns.{same, word_in}
 use Rattle.cr_machine.proofs.MachineSpells.{and_and}
 use Rattle.cr_machine.proofs.MachineFirst.{tail}
 use Rattle.cr_machine.proofs.MachineFits.{fits, fits_left, fits_right, may_stand, may_left, may_right}
@@ -23,7 +22,7 @@ none_past : (ts : List Lexeme) → has_word ts (length ts) is_any ≡ false
 none_past ts = ap (λ o. elim o as (λ _. Bool) [ None ↦ false | Some w ↦ is_any w ]) word_past
   where
     word_past : word_at ts (length ts) ≡ None
-    word_past = ap (λ o. elim o as (λ _. Option Word) [ None ↦ None | Some t ↦ Some t.word ]) (get_past ts)
+    word_past = ap word_in (get_past ts)
 
 -- external definitions up to the end are read, where labels may stand as in them
 pub unit_reads : {ts : List Lexeme} {limit : Limit} {h : Context} {c e : Scopes} {d i : ℕ} {t : Trees} (l : Labels) → Spells ts limit (rest unit_side) h c e d t i (length ts) → fits l t ≡ true → may_stand l t ≡ true →
@@ -31,7 +30,7 @@ pub unit_reads : {ts : List Lexeme} {limit : Limit} {h : Context} {c e : Scopes}
 unit_reads {ts = ts} {limit = limit} {c = c} {e = e} {d = d} {i = i} l (spells.part {t = t} {u = u} x s) f g =
     subst (λ z. Runs body ts limit (body (m.unit l d)) c i (Done z e (length ts))) (and_and t none u)
     (run_call (completes ts limit task.external x l (fits_left l t u f) (may_left l t u g))
-    (tail body ts limit (completes ts limit task.externals s l (t & none) (fits_right l t u f) (may_right l t u g) (none_past ts))))
+    (tail (completes ts limit task.externals s l (t & none) (fits_right l t u f) (may_right l t u g) (none_past ts))))
 
 pub unit_is_read : {ts : List Lexeme} {limit : Limit} {t : Trees} (l : Labels) (x : IsUnit limit ts t) → fits l t ≡ true → may_stand l t ≡ true → Runs body ts limit (body (m.unit l 0)) file_scope 0 (Done t x.after (length ts))
 unit_is_read l x f g = unit_reads l x.spells f g

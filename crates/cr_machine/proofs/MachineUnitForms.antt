@@ -13,8 +13,8 @@ use Rattle.cr_syntax.specs.Units.{unit_side, file_scope, most_levels, Completes,
 use Rattle.cr_machine.specs.Machine.{unit, anywhere, nowhere, Labels, Done, Failed, Runs}
 use Rattle.cr_machine.specs.MachineBody.{body}
 use Rattle.cr_syntax.proofs.Tests.{some_one}
-use Rattle.cr_machine.proofs.MachineRuns.{same}
-use Rattle.cr_machine.proofs.MachineComplete.{get_some}
+use Rattle.cr_machine.proofs.MachineRuns.{same, word_same}
+use Rattle.cr_machine.proofs.MachineComplete.{begun_same}
 use Rattle.cr_machine.proofs.MachineEnds.{Way, barring, Ends, refused_so, cause_by}
 use Rattle.cr_machine.proofs.MachineWays.{at, same_way}
 use Rattle.cr_machine.proofs.MachineMarks.{Barred}
@@ -28,7 +28,10 @@ ReadsUnits = (us : List Lexeme) (limit : Limit) (t : Trees) (e : Scopes) → Spe
 
 -- the tokens of a list, as the text has them that it begins
 pub same_token : {limit : Limit} {ts : List Lexeme} {k : ℕ} {t : Trees} (b : Completes limit ts k t) (n : ℕ) → n < k → n < length ts → slice_get b.text n ≡ slice_get ts n
-same_token {ts = ts} b n lt lt' = let w = get_some ts n lt' in b.alike n w.0 lt w.1 ∙ sym w.1
+same_token {ts = ts} {k = k} b n lt far = begun_same ts b.text k b.alike n lt far
+
+pub token_in : {limit : Limit} {ts : List Lexeme} {k : ℕ} {t : Trees} (b : Completes limit ts k t) (n : ℕ) {w : Word} → n < k → Is ts n w → Is b.text n w
+token_in {ts = ts} b n lt q = word_same ts b.text n (same_token b n lt (within ts n q)) ∙ q
 
 -- token k of a unit is refused by row n
 abbrev pub IsBarred : List Lexeme → Labels → ℕ → ℕ → Type 0

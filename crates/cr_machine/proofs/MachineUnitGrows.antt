@@ -26,7 +26,7 @@ use Rattle.cr_machine.specs.Machine.{unit, externals, external, declaration, ini
 use Rattle.cr_machine.specs.Machine as m
 use Rattle.cr_machine.specs.MachineBody.{body, inside, may_label, may_define, is_label, ends_variadic, last_token, defined, declared_on, unlabelled}
 use Rattle.cr_machine.specs.MachineBody as program
-use Rattle.cr_machine.proofs.MachineSpells.{and_and, pushed, is_one, forth, name_brought, Names, by_declarator, by_direct}
+use Rattle.cr_machine.proofs.MachineSpells.{and_and, pushed, is_one, forth, name_brought, Names, by_declarator, by_direct, unheard}
 use Rattle.cr_machine.proofs.MachineSpells as facts
 use Rattle.cr_machine.proofs.MachineKept.{around_less}
 use Rattle.cr_machine.proofs.MachineMeans.{Reads, Begun, IsDeclared, with_name, without, IsClause, no_clause, one_clause, IsOpen, open_of, after_init}
@@ -602,18 +602,6 @@ module _ (us : List Lexeme) (top : Limit) (way : Way) (late : (g : Manner) (i d 
         shown_in_so z.so (shown_label i z.here (λ p r. label_here i kind.Default p (i + 1 + 1 + 1) (one kind.ExpressionStatement (i + 1 + 1) (i + 1 + 1 + 1) none & none) (no_label l y p r).1)),
       ))
 
-  statement_anywhere : {all : List Lexeme} {h : Context} {c e : Scopes} {d i j : ℕ} {t : Trees} → Spells all top (a part.Statement) h c e d t i j → (h' : Context) → Spells all top (a part.Statement) h' c e d t i j
-  statement_anywhere (spells.of_alternative x f s) h' = spells.of_alternative x f s
-  statement_anywhere (spells.of_chain x f s) h' = spells.of_chain x f s
-
-  expression_anywhere : {all : List Lexeme} {h : Context} {c e : Scopes} {d i j : ℕ} {t : Trees} → Spells all top (a part.Expression) h c e d t i j → (h' : Context) → Spells all top (a part.Expression) h' c e d t i j
-  expression_anywhere (spells.of_alternative x f s) h' = spells.of_alternative x f s
-  expression_anywhere (spells.of_chain x f s) h' = spells.of_chain x f s
-
-  conditional_anywhere : {all : List Lexeme} {h : Context} {c e : Scopes} {d i j : ℕ} {t : Trees} → Spells all top (a part.Conditional) h c e d t i j → (h' : Context) → Spells all top (a part.Conditional) h' c e d t i j
-  conditional_anywhere (spells.of_alternative x f s) h' = spells.of_alternative x f s
-  conditional_anywhere (spells.of_chain x f s) h' = spells.of_chain x f s
-
   -- behind the keyword of a statement
   pub owes_unlabelled : (l : Labels) (d : ℕ) (c : Scopes) (i : ℕ) → Owes (unlabelled l d i) (Stated us top way late l d c i) c i
   owes_unlabelled l d c i = (
@@ -685,7 +673,7 @@ module _ (us : List Lexeme) (top : Limit) (way : Way) (late : (g : Manner) (i d 
         λ v h. mores us top way late (v fresh) (word.Colon ∷ word.Semicolon ∷ []) (λ all f t e j le s q1 shown. (
           _,
           _,
-          case_of (f.words _ _ q) w (λ h. conditional_anywhere s h) q1.0 (late opens j d le) (λ h. empty all e (d + 1) (j + 1) q1.1.0 (late plain (j + 1) (d + 1) (omega arith)) h) h,
+          case_of (f.words _ _ q) w (λ h. unheard refl s h) q1.0 (late opens j d le) (λ h. empty all e (d + 1) (j + 1) q1.1.0 (late plain (j + 1) (d + 1) (omega arith)) h) h,
           seen (first shown _),
         )),
         λ t e j _ _ x. (
@@ -694,7 +682,7 @@ module _ (us : List Lexeme) (top : Limit) (way : Way) (late : (g : Manner) (i d 
             λ v h. more0 us top way late (v fresh) (λ all f u e' j' le s shown. (
               _,
               _,
-              case_of (f.words _ _ q) w (λ h. weaken f (x h)) (f.words _ _ q') w' (λ h. statement_anywhere s h) h,
+              case_of (f.words _ _ q) w (λ h. weaken f (x h)) (f.words _ _ q') w' (λ h. unheard refl s h) h,
               within (λ p r. case_stands l p r) (right_in t (left_in shown none)),
             )),
             λ u e' j' _ _ _. tt,
@@ -714,7 +702,7 @@ module _ (us : List Lexeme) (top : Limit) (way : Way) (late : (g : Manner) (i d 
             λ v h. more0 us top way late (v fresh) (λ all f u e' j' le s shown. (
               _,
               _,
-              default_of (f.words _ _ q) w (f.words _ _ q') w' (λ h. statement_anywhere s h) h,
+              default_of (f.words _ _ q) w (f.words _ _ q') w' (λ h. unheard refl s h) h,
               within (λ p r. default_stands l p r) (left_in shown none),
             )),
             λ u e' j' _ _ _. tt,
@@ -740,7 +728,7 @@ module _ (us : List Lexeme) (top : Limit) (way : Way) (late : (g : Manner) (i d 
           let y = empty all ([] ∷ e) (d + 1) (j + 1) q1.1.0 (late plain (j + 1) (d + 1) (omega arith)) in (
             _,
             _,
-            if_of (b all f) (f.words _ _ q) w (λ h. expression_anywhere x h) q1.0 (late plain j (d + 1) le) (late opens j d le) (omega arith) y h,
+            if_of (b all f) (f.words _ _ q) w (λ h. unheard refl x h) q1.0 (late plain j (d + 1) le) (late opens j d le) (omega arith) y h,
             seen (first shown _),
           )),
       λ t e j _ k x. (
@@ -749,7 +737,7 @@ module _ (us : List Lexeme) (top : Limit) (way : Way) (late : (g : Manner) (i d 
           λ v b h. more0 us top way late (v fresh) (λ all f u g n le y shown. (
             _,
             _,
-            if_of (b all f) (f.words _ _ q) w (λ h. weaken f (x h)) (f.words _ _ q') w'.0 w'.1 (omega arith) (λ h. statement_anywhere y h) h,
+            if_of (b all f) (f.words _ _ q) w (λ h. weaken f (x h)) (f.words _ _ q') w'.0 w'.1 (omega arith) (λ h. unheard refl y h) h,
             within (λ p r. parts_stand l) (right_in t (left_in shown none)),
           )),
           λ u g n _ k' y. (
@@ -760,7 +748,7 @@ module _ (us : List Lexeme) (top : Limit) (way : Way) (late : (g : Manner) (i d 
                 λ v b h. more0 us top way late (v fresh) (λ all f u' g' n' le y' shown. (
                   _,
                   _,
-                  if_else_of (b all f) (f.words _ _ q) w (λ h. weaken f (x h)) (f.words _ _ q') w'.0 w'.1 (omega arith) (λ h. weaken f (y.1 h)) r (f.words _ _ q1) w1 (λ h. statement_anywhere y' h) h,
+                  if_else_of (b all f) (f.words _ _ q) w (λ h. weaken f (x h)) (f.words _ _ q') w'.0 w'.1 (omega arith) (λ h. weaken f (y.1 h)) r (f.words _ _ q1) w1 (λ h. unheard refl y' h) h,
                   within (λ p r. parts_stand l) (right_in t (right_in u (left_in shown none))),
                 )),
                 λ u' g' n' _ _ _. tt,
@@ -809,7 +797,7 @@ module _ (us : List Lexeme) (top : Limit) (way : Way) (late : (g : Manner) (i d 
           let k = scopes_kept x in (
             _,
             _,
-            switch_of (b all f) (f.words _ _ q) w (λ h. expression_anywhere x h) q1.0 (late plain j (d + 1) le) (late opens j d le) (omega arith)
+            switch_of (b all f) (f.words _ _ q) w (λ h. unheard refl x h) q1.0 (late plain j (d + 1) le) (late opens j d le) (omega arith)
                 (empty_block all ([] ∷ e) (d + 1) (j + 1) q1.1.0 q1.1.1.0 (late opens (j + 1) (d + 1) (omega arith)) (late plain (j + 1 + 1) (d + 1 + 1) (omega arith)) _) h,
             seen (first shown _),
           )),
@@ -867,7 +855,7 @@ module _ (us : List Lexeme) (top : Limit) (way : Way) (late : (g : Manner) (i d 
           let k = scopes_kept x in (
             _,
             _,
-            while_of (b all f) (f.words _ _ q) w (λ h. expression_anywhere x h) q1.0 (late plain j (d + 1) le) (late opens j d le) (omega arith)
+            while_of (b all f) (f.words _ _ q) w (λ h. unheard refl x h) q1.0 (late plain j (d + 1) le) (late opens j d le) (omega arith)
                 (empty all ([] ∷ e) (d + 1) (j + 1) q1.1.0 (late plain (j + 1) (d + 1) (omega arith))) h,
             seen (first shown _),
           )),
@@ -877,7 +865,7 @@ module _ (us : List Lexeme) (top : Limit) (way : Way) (late : (g : Manner) (i d 
           λ v b h. more0 us top way late (v fresh) (λ all f u g n le y shown. (
             _,
             _,
-            while_of (b all f) (f.words _ _ q) w (λ h. weaken f (x h)) (f.words _ _ q') w'.0 w'.1 (omega arith) (λ h. statement_anywhere y h) h,
+            while_of (b all f) (f.words _ _ q) w (λ h. weaken f (x h)) (f.words _ _ q') w'.0 w'.1 (omega arith) (λ h. unheard refl y h) h,
             within (λ p r. parts_stand l) (right_in t (left_in shown none)),
           )),
           λ u g n _ _ _. tt,
@@ -908,7 +896,7 @@ module _ (us : List Lexeme) (top : Limit) (way : Way) (late : (g : Manner) (i d 
     λ v b h. mores us top way late (v fresh) (word.While ∷ word.LeftParen ∷ word.Integer ∷ word.RightParen ∷ word.Semicolon ∷ []) (λ all f u g j le y q shown. (
       _,
       _,
-      do_of (b all f) (λ h. statement_anywhere y h) q.0 (late plain j d le) q.1.0 (late opens (j + 1) d (omega arith))
+      do_of (b all f) (λ h. unheard refl y h) q.0 (late plain j d le) q.1.0 (late opens (j + 1) d (omega arith))
           (λ h. number_expression us top way late all (around g) (d + 1) (j + 1 + 1) q.1.1.0 (late plain (j + 1 + 1) (d + 1) (omega arith)) h)
           q.1.1.1.0 (late plain (j + 1 + 1 + 1) (d + 1) (omega arith)) q.1.1.1.1.0 (late plain (j + 1 + 1 + 1 + 1) d (omega arith)) h,
       within (λ p r. parts_stand l) (left_in shown _),
@@ -921,7 +909,7 @@ module _ (us : List Lexeme) (top : Limit) (way : Way) (late : (g : Manner) (i d 
           λ v b h. mores us top way late (v fresh) (word.RightParen ∷ word.Semicolon ∷ []) (λ all f t e k le x q1 shown. (
             _,
             _,
-            do_of (b all f) (λ h. weaken f (y.1 h)) (f.words _ _ q) w (f.words _ _ q') w' (λ h. expression_anywhere x h) q1.0 (late plain k (d + 1) le) q1.1.0 (late plain (k + 1) d (omega arith)) h,
+            do_of (b all f) (λ h. weaken f (y.1 h)) (f.words _ _ q) w (f.words _ _ q') w' (λ h. unheard refl x h) q1.0 (late plain k (d + 1) le) q1.1.0 (late plain (k + 1) d (omega arith)) h,
             seen (second u shown _),
           )),
           λ t e k _ _ x. (
@@ -1033,7 +1021,7 @@ module _ (us : List Lexeme) (top : Limit) (way : Way) (late : (g : Manner) (i d 
         λ v o h. more0 us top way late (v fresh) (λ all f u g n le z shown. (
           _,
           _,
-          clause_of all top (front_clause f x) (spells.step_none (f.words _ _ q) w.0 w.1 (whole_body (omega arith) (statement_anywhere z _))),
+          clause_of all top (front_clause f x) (spells.step_none (f.words _ _ q) w.0 w.1 (whole_body (omega arith) (unheard refl z _))),
           right_in t (left_in shown none),
         )),
         λ u g n _ _ _. tt,
@@ -1043,7 +1031,7 @@ module _ (us : List Lexeme) (top : Limit) (way : Way) (late : (g : Manner) (i d 
             let k' = scopes_kept x' in (
               _,
               _,
-              clause_of all top (front_clause f x) (spells.step_some (expression_anywhere x' _) q1.0 (late plain j' (d + 1) le) (late opens j' d le)
+              clause_of all top (front_clause f x) (spells.step_some (unheard refl x' _) q1.0 (late plain j' (d + 1) le) (late opens j' d le)
                   (whole_body (omega arith) (empty all ([] ∷ e') (d + 1) (j' + 1) q1.1.0 (late plain (j' + 1) (d + 1) (omega arith)) _))),
               seen (right t (left shown _)),
             )),
@@ -1053,7 +1041,7 @@ module _ (us : List Lexeme) (top : Limit) (way : Way) (late : (g : Manner) (i d 
             λ v o h. more0 us top way late (v fresh) (λ all f u' g n le z shown. (
               _,
               _,
-              clause_of all top (front_clause f x) (spells.step_some (weaken f (x' _)) (f.words _ _ q) w.0 w.1 (whole_body (omega arith) (statement_anywhere z _))),
+              clause_of all top (front_clause f x) (spells.step_some (weaken f (x' _)) (f.words _ _ q) w.0 w.1 (whole_body (omega arith) (unheard refl z _))),
               right_in t (right_in u (left_in shown none)),
             )),
             λ u' g n _ _ _. tt,
@@ -1077,7 +1065,7 @@ module _ (us : List Lexeme) (top : Limit) (way : Way) (late : (g : Manner) (i d 
       λ v d' e h. mores us top way late (v fresh) (word.Semicolon ∷ []) (λ all f t g j le s q1 shown. (
         _,
         _,
-        spells.clause_some (subst (λ n. Spells all top (a part.Expression) h c g n t i j) e (expression_anywhere s h)) q1.0 (late plain j (d' + 1) le) spells.done,
+        spells.clause_some (subst (λ n. Spells all top (a part.Expression) h c g n t i j) e (unheard refl s h)) q1.0 (late plain j (d' + 1) le) spells.done,
         seen (left shown none),
       )),
       λ t g j _ _ x. (

@@ -1,6 +1,6 @@
 -- What a refusal of a unit's token says of other texts: at the levels where it stopped none leaves room, and the bracket
 -- that stands in a refused one's place has none either. A unit and its external definitions begin where no level is open.
-use Rattle.std.proofs.Common.{◌≡◌, ℕ, ◌+◌, ◌<◌, ◌≤◌, Bool, true, false, not, ◌&&◌, List, [], length, Option, None, Some, inl, inr, refl, sym, ap, subst, ◌∙◌, arith}
+use Rattle.std.proofs.Common.{◌≡◌, ℕ, ◌+◌, ◌<◌, ◌≤◌, Bool, true, false, not, ◌&&◌, List, [], length, Option, Some, inl, inr, refl, sym, ap, subst, ◌∙◌, arith}
 use Rattle.std.specs.Prelude.{slice_get, set}
 use Rattle.std.proofs.Math.Nat.{eq-or-lt_of_le}
 use Rattle.std.proofs.lemmas.Bool.{both_ways}
@@ -18,18 +18,18 @@ use Rattle.cr_machine.specs.MachineBody.{body, is_any, is_label}
 use Rattle.cr_syntax.proofs.Tests.{both, not_true, some_one}
 use Rattle.cr_machine.proofs.MachineGives.{holds}
 use Rattle.cr_machine.proofs.MachineFirst.{none_true}
-use Rattle.cr_machine.proofs.MachineRuns.{word_same}
+use Rattle.cr_machine.proofs.MachineRuns.{word_in}
 use Rattle.cr_machine.proofs.MachineEnds.{Way, stopped, barring, Ends}
-use Rattle.cr_machine.proofs.MachineComplete.{get_some}
 use Rattle.cr_machine.proofs.MachineUnitComplete.{unit_is_read}
 use Rattle.cr_machine.proofs.MachineSound.{runs_sound}
-use Rattle.cr_machine.proofs.MachineViable.{word_before, word_there}
 use Rattle.cr_machine.proofs.MachineForms.{within}
 use Rattle.cr_machine.proofs.MachineUnused.{used}
 use Rattle.cr_machine.proofs.MachineSteady.{levels_in, levels_out, fits, Goes, steady}
 use Rattle.cr_machine.proofs.MachineRows.{knows}
 use Rattle.cr_machine.proofs.MachineStuck.{levels_by, is_crowded, Stand, stuck}
-use Rattle.cr_machine.proofs.MachineRefused.{same_tokens, no_bar, allows_none, allows_bracket, stands_bracket, same_row}
+use Rattle.cr_machine.proofs.MachineRefused.{no_bar, allows_none, allows_bracket, stands_bracket, same_row}
+use Rattle.cr_machine.proofs.MachineOwn.{set_other, set_there}
+use Rattle.cr_machine.proofs.MachineUnitForms.{same_token, token_in}
 
 -- The programs of a unit and of external definitions.
 data Outer (l : Labels) (d : ℕ) : Prog → Type 0 where
@@ -65,13 +65,13 @@ module _ (ts us : List Lexeme) (limit top : Limit) (k m : ℕ) (alike : (n : ℕ
 -- at the levels where it stopped or with more none leaves room
 pub no_room_in_unit : {ts : List Lexeme} {limit : Limit} (most : ℕ) {d k : ℕ} → 0 < most → k ≤ length ts → most ≤ d → Ends body ts limit (body (unit anywhere 0)) file_scope 0 (stopped d) k → Begins (Leaving k most) ts k → ⊥
 no_room_in_unit {ts = ts} {limit = limit} most {k = k} some le up y b =
-    no_unit ts b.completes.text limit (Leaving k most) k most (same_tokens ts b.completes.text k le b.completes.alike) (λ g x d c i q low f v w. allows_none most k g i d q low w) some y refl up no_bar b.completes.is_unit
+    no_unit ts b.completes.text limit (Leaving k most) k most (λ n lt. same_token b.completes n lt (omega arith)) (λ g x d c i q low f v w. allows_none most k g i d q low w) some y refl up no_bar b.completes.is_unit
 
 -- the bracket in a refused one's place
 pub no_room_instead_in_unit : {ts : List Lexeme} {limit : Limit} (most : ℕ) {x : Test} {n d k : ℕ} {v : Word} → 0 < most → k < length ts → most ≤ d → StandsIn n v →
     Ends body ts limit (body (unit anywhere 0)) file_scope 0 (barring x n d) k → Begins (Upto (k + 1) most) (with_word ts k v) (k + 1) → ⊥
 no_room_instead_in_unit {ts = ts} {limit = limit} most {k = k} {v = v} some lt up r y b =
-    no_unit ts us limit (Upto (k + 1) most) k most (λ n lt'. tokens n (omega arith) ∙ word_before ts k n new lt') (allows_bracket us most k v (stands_bracket r) there) some y refl up
+    no_unit ts us limit (Upto (k + 1) most) k most (λ n lt'. tokens n (omega arith) ∙ set_other ts k n new (λ e. omega arith)) (allows_bracket us most k v (stands_bracket r) there) some y refl up
     (λ x n d q. record { word = v; stands = subst (λ n. StandsIn n v) (same_row q) r; is = there }) b.completes.is_unit
   where
     us : List Lexeme
@@ -81,10 +81,10 @@ no_room_instead_in_unit {ts = ts} {limit = limit} most {k = k} {v = v} some lt u
     new = record { word = v; spelling = [] }
 
     tokens : (n : ℕ) → n < k + 1 → slice_get us n ≡ slice_get (set ts k new) n
-    tokens = let q = length-set ts k new in same_tokens (set ts k new) us (k + 1) (omega arith) b.completes.alike
+    tokens n lt' = let q = length-set ts k new in same_token b.completes n lt' (omega arith)
 
     there : Is us k v
-    there = ap (λ o. elim o as (λ _. Option Word) [ None ↦ None | Some t ↦ Some t.word ]) (tokens k (omega arith) ∙ word_there ts k new lt)
+    there = ap word_in (tokens k (omega arith) ∙ set_there ts k new lt)
 
 -- a unit that is read is spelled
 pub read_is_unit : {ts : List Lexeme} {limit : Limit} {t : Trees} {e : Scopes} (l : Labels) → Runs body ts limit (body (unit l 0)) file_scope 0 (Done t e (length ts)) → IsUnit limit ts t
@@ -92,11 +92,7 @@ read_is_unit {ts = ts} {t = t} {e = e} l h = record { after = e; spells = runs_s
 
 -- the tokens that begin a unit are no unused keywords
 pub begun_unit_is_used : {limit : Limit} {ts : List Lexeme} {i k : ℕ} {w : Word} → Begins limit ts k → i < k → Is ts i w → is_unused w ≡ false
-begun_unit_is_used {ts = ts} {i = i} {w = w} b lt q =
-    let x = get_some ts i (within ts i q) in
-    let us = b.completes.text in
-    let q' : Is us i w = word_same ts us i (b.completes.alike i x.0 lt x.1 ∙ sym x.1) ∙ q in
-    (used b.completes.is_unit.spells refl).all i w (omega arith) (within us i q') q'
+begun_unit_is_used {i = i} {w = w} b lt q = let q' = token_in b.completes i lt q in (used b.completes.is_unit.spells refl).all i w (omega arith) (within b.completes.text i q') q'
 
 -- Where another limit lets each token stand that a text's run takes, the text is one within that limit.
 module _ {us : List Lexeme} {limit top : Limit}

@@ -1,7 +1,7 @@
 -- The tokens of a unit before a refused one begin a unit, and by the way in which it is refused more is known of that unit:
 -- where the program stops, it leaves room for so many levels; where a row of the refused forms refuses, it shows the row's
 -- node, and the word that stands in can come next; where a level finds no room, the opening token itself can.
-use Rattle.std.proofs.Common.{◌≡◌, ℕ, zero, suc, ◌+◌, ◌<◌, ◌≤◌, Bool, true, false, ◌||◌, ◌&&◌, List, [], ◌∷◌, length, Option, None, Some, refl, sym, ap, subst, ◌∙◌, inl, inr, ◌⊎◌, arith}
+use Rattle.std.proofs.Common.{◌≡◌, ℕ, ◌+◌, ◌<◌, ◌≤◌, Bool, true, false, ◌||◌, ◌&&◌, List, length, Option, None, Some, refl, sym, ap, subst, ◌∙◌, inl, inr, ◌⊎◌, arith}
 use Rattle.std.specs.Prelude.{slice_get}
 use Rattle.std.proofs.Math.Nat.{eq-or-lt_of_le}
 use Rattle.cr_syntax.specs.declared.word.Word.{Word}
@@ -17,11 +17,13 @@ use Rattle.cr_syntax.specs.Units as units
 use Rattle.cr_machine.specs.Machine.{Labels, Test, Manner, has, Allows, passes, unit}
 use Rattle.cr_machine.specs.MachineBody.{body, is_designator, is_statement_start, label_start, statement_start}
 use Rattle.cr_syntax.proofs.Tests.{is_of}
-use Rattle.cr_machine.proofs.MachineComplete.{allows_upto}
+use Rattle.cr_machine.proofs.MachineComplete.{allows_upto, get_some}
 use Rattle.cr_machine.proofs.MachineEnds.{Way, stopped, barring, crowded, defining, Ends}
 use Rattle.cr_machine.proofs.MachineShown.{Next, next_definition, ShownIn, seen, shown_literal, shown_call, shown_field, shown_designator, shown_label, shown_block, shown_body, shown_definition, shown_empty, shown_switch, every, by_stop, by_level}
 use Rattle.cr_machine.proofs.MachineGrows.{GrownIn}
-use Rattle.cr_machine.proofs.MachineViable.{prefix, prefix_length, upto_behind, upto_fits, leaving_fits, leaving_before, tested, stands_next, some_word_of, is_labels, no_labels, bars_other, bars_label, at_label, grows, further, further_last, further_length, further_grows, alike, alike_with, upto_late, leaving_late, behind_late, barred_inside}
+use Rattle.cr_machine.proofs.MachineViable.{prefix, prefix_length, upto_behind, upto_fits, leaving_fits, leaving_before, tested, stands_next, is_labels, no_labels, bars_other, bars_label, at_label, grows, further, further_last, further_length, further_grows, alike, alike_with, upto_late, leaving_late, behind_late, barred_inside}
+use Rattle.cr_machine.proofs.MachineFirst.{some_word_of, one_of_two}
+use Rattle.cr_machine.proofs.MachineRuns.{word_in}
 
 pub unit_of : {us : List Lexeme} {top : Limit} {way : Way} → (g : GrownIn us top way every (rest unit_side) fresh file_scope 0 0) → IsUnit top g.all g.built.0
 unit_of {top = top} g = record { after = g.built.1; spells = subst (λ j. Spells g.all top (rest unit_side) fresh file_scope g.built.1 0 g.built.0 0 j) g.size g.built.2 }
@@ -39,17 +41,12 @@ module _ (ts : List Lexeme) (most n : ℕ) (le : n ≤ length ts) (top : Limit) 
 completes_less : {limit : Limit} {ts : List Lexeme} {j k : ℕ} {t : Trees} → j ≤ k → Completes limit ts k t → Completes limit ts j t
 completes_less le c = record { text = c.text; alike = λ i x lt q. c.alike i x (omega arith) q; is_unit = c.is_unit }
 
-pub token_at : (ts : List Lexeme) (k : ℕ) → k < length ts → (x : Lexeme) × (slice_get ts k ≡ Some x)
-token_at [] k lt = absurd (omega arith)
-token_at (x ∷ ts) zero lt = (x, refl)
-token_at (x ∷ ts) (suc k) lt = token_at ts k (omega arith)
-
 -- a word of the text is one of the tokens'
 word_back : (ts all : List Lexeme) (k : ℕ) (w : Word) → ((i : ℕ) (x : Lexeme) → i < k + 1 → slice_get ts i ≡ Some x → slice_get all i ≡ Some x) → k < length ts → Is all k w → Is ts k w
 word_back ts all k w al lt q =
-    let x = token_at ts k lt in
-    let y : word_at all k ≡ Some (x.0).word = ap (λ o. elim o as (λ _. Option Word) [ None ↦ None | Some t ↦ Some t.word ]) (al k x.0 (omega arith) x.1) in
-    ap (λ o. elim o as (λ _. Option Word) [ None ↦ None | Some t ↦ Some t.word ]) x.1 ∙ (sym y ∙ q)
+    let x = get_some ts k lt in
+    let y : word_at all k ≡ Some (x.0).word = ap word_in (al k x.0 (omega arith) x.1) in
+    ap word_in x.1 ∙ (sym y ∙ q)
 
 -- What a row's test says of the word.
 
@@ -57,10 +54,6 @@ is_dot : (ts : List Lexeme) (k : ℕ) (w : Word) → is_designator w ≡ true �
 is_dot ts k word.Dot q r = inl r
 is_dot ts k word.LeftBracket q r = inr r
 is_dot ts k _ q r = cc
-
-pub one_of_two : (b d : Bool) → b || d ≡ true → (b ≡ true) ⊎ (d ≡ true)
-one_of_two true d q = inl refl
-one_of_two false d q = inr q
 
 is_switch_label : (ts : List Lexeme) (k : ℕ) (e : Scopes) → passes ts e k label_start ≡ true → Is ts k word.Case ⊎ Is ts k word.Default
 is_switch_label ts k e q = elim (one_of_two _ _ q) [ inl x ↦ inl (is_of ts k word.Case x) | inr x ↦ inr (is_of ts k word.Default x) ]

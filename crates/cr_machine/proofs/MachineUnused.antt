@@ -20,7 +20,7 @@ use Rattle.cr_syntax.specs.Expressions.{Start, BeginsFrom}
 use Rattle.cr_syntax.proofs.Alternatives.{side_only}
 use Rattle.cr_syntax.proofs.Tests.{both, not_true, some_one}
 use Rattle.cr_machine.proofs.MachineRuns.{word_same}
-use Rattle.cr_machine.proofs.MachineComplete.{get_some}
+use Rattle.cr_machine.proofs.MachineComplete.{begun_same}
 use Rattle.cr_machine.proofs.MachineForms.{within}
 
 abbrev is_used : Symbol → Bool
@@ -123,7 +123,6 @@ module _ {ts : List Lexeme} where
 
 -- the tokens that begin a text have none
 pub begun_is_used : {limit : Limit} {ts : List Lexeme} (s : Start) {i k : ℕ} {w : Word} → BeginsFrom limit ts s k → s.at ≤ i → i < k → Is ts i w → is_unused w ≡ false
-begun_is_used {ts = ts} s {i = i} {w = w} b ge lt q =
-    let x = get_some ts i (within ts i q) in
+begun_is_used {ts = ts} s {i = i} {k = k} {w = w} b ge lt q =
     let le = b.continues.reaches in
-    (used b.continues.spelled.spells tt).all i w ge (omega arith) (word_same ts b.continues.text i (b.continues.alike i x.0 lt x.1 ∙ sym x.1) ∙ q)
+    (used b.continues.spelled.spells tt).all i w ge (omega arith) (word_same ts b.continues.text i (begun_same ts b.continues.text k b.continues.alike i lt (within ts i q)) ∙ q)

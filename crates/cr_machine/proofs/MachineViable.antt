@@ -2,7 +2,7 @@
 -- program stops, it leaves room for so many levels; where a row of the refused forms refuses, it shows the row's node, and
 -- the word that stands in can come next; where a level finds no room, the opening token itself can.
 use Rattle.std.proofs.Common.{◌≡◌, ℕ, zero, suc, ◌+◌, ◌<◌, ◌≤◌, Bool, true, false, ◌||◌, List, [], ◌∷◌, length, Option, None, Some, refl, sym, ap, subst, ◌∙◌, inl, inr, arith}
-use Rattle.std.specs.Prelude.{slice_get, set, ◌==◌, ◌++◌}
+use Rattle.std.specs.Prelude.{slice_get, ◌==◌, ◌++◌}
 use Rattle.std.proofs.Math.Nat.{eq-or-lt_of_le}
 use Rattle.std.proofs.lemmas.Bool.{cases_lt}
 use Rattle.std.proofs.lemmas.Option.{slice_get_past}
@@ -15,23 +15,27 @@ use Rattle.cr_syntax.specs.Trees.{Trees}
 use Rattle.cr_syntax.specs.Context.{fresh}
 use Rattle.cr_syntax.specs.Spells.{Limit, AtMost, Upto, Leaving, Is, Spells, a}
 use Rattle.cr_syntax.specs.Units.{most_levels, with_word, StandsIn, list_for_designator, group_for_literal, subscript_for_call, block_for_body}
-use Rattle.cr_machine.specs.Machine.{Goal, Prog, Test, Manner, plain, opens, reopens, Allows, levels_at, has, passes, has_word, Cause, Failed, Runs}
+use Rattle.cr_machine.specs.Machine.{Goal, Prog, Test, Manner, plain, opens, reopens, Allows, levels_at, has, passes, Cause, Failed, Runs}
 use Rattle.cr_machine.specs.Machine as m
 use Rattle.cr_machine.specs.MachineBody.{body, start_goal}
 use Rattle.cr_machine.specs.MachineLaws.{IsStart, start_expression, start_assignment, start_conditional}
 use Rattle.cr_syntax.specs.Expressions.{Start, Spelled, Continues, BeginsFrom, OutsideFrom, compound_literal, called_expression, bit_field}
-use Rattle.cr_syntax.proofs.Tests.{is_of}
+use Rattle.cr_syntax.proofs.Tests.{is_of, some_one}
 use Rattle.cr_machine.proofs.MachineKept.{Kept, runs_kept}
 use Rattle.cr_machine.proofs.MachineMeans.{Means, start_part}
 use Rattle.cr_machine.proofs.MachineSound.{each}
 use Rattle.cr_machine.proofs.MachineComplete.{allows_upto}
 use Rattle.cr_machine.proofs.MachineEnds.{Way, stopped, barring, crowded, defining, Ends, end_stop, end_refuse, end_take, end_crowded, end_pass, end_bar, end_free, end_seen, end_unseen, end_yes, end_no, end_here, end_look, end_set, end_bring, end_behind, end_inside, ends_so}
 use Rattle.cr_machine.proofs.MachineExtend.{Front}
-use Rattle.cr_machine.proofs.MachineRuns.{passes_same}
+use Rattle.cr_machine.proofs.MachineRuns.{passes_same, word_in}
 use Rattle.cr_machine.proofs.MachineShown.{Next, next_designator, next_literal, next_call, next_body, Shown, shown_literal, shown_call, shown_field, by_stop, by_level, Barred, Labelled}
 use Rattle.cr_machine.proofs.MachineFails.{AtRefusal, viable}
 use Rattle.cr_machine.proofs.MachineGrows.{Grown, Via, Stops, Bars, BarsBy, Refuses, Crowds, start_via}
 use Rattle.cr_machine.proofs.MachineUnitGrows.{owes}
+use Rattle.cr_machine.proofs.MachineOwn.{set_other, set_there}
+use Rattle.cr_machine.proofs.MachineFirst.{some_word_of}
+use Rattle.cr_machine.proofs.MachineRows.{knows}
+use Rattle.cr_machine.proofs.MachineSteady.{levels_in, levels_out, start_levels, Goes, steady}
 
 -- the first k tokens
 abbrev pub prefix : ℕ → List Lexeme → List Lexeme
@@ -54,24 +58,9 @@ prefix_get (suc k) (x ∷ ts) (suc n) lt = prefix_get k ts n (omega arith)
 pub token_is : (ts : List Lexeme) (i : ℕ) (x : Lexeme) → word_at ts i ≡ Some x.word → spelling_at ts i ≡ x.spelling → slice_get ts i ≡ Some x
 token_is ts i x = by (slice_get ts i)
   where
-    some_word : {v w : Word} → Some v ≡ Some w → v ≡ w
-    some_word q = cc
-
     by : (o : Option Lexeme) → elim o as (λ _. Option Word) [ None ↦ None | Some t ↦ Some t.word ] ≡ Some x.word → elim o as (λ _. List ℕ) [ None ↦ [] | Some t ↦ t.spelling ] ≡ x.spelling → o ≡ Some x
     by None q r = cc
-    by (Some y) q r = ap (λ w. Some (record { word = w; spelling = y.spelling })) (some_word q) ∙ ap (λ s. Some (record { word = x.word; spelling = s })) r
-
--- the list with another word at token k, before that token and there
-pub word_before : (ts : List Lexeme) (k i : ℕ) (x : Lexeme) → i < k → slice_get (set ts k x) i ≡ slice_get ts i
-word_before [] k i x lt = refl
-word_before (y ∷ ts) zero i x lt = absurd (omega arith)
-word_before (y ∷ ts) (suc k) zero x lt = refl
-word_before (y ∷ ts) (suc k) (suc i) x lt = word_before ts k i x (omega arith)
-
-pub word_there : (ts : List Lexeme) (k : ℕ) (x : Lexeme) → k < length ts → slice_get (set ts k x) k ≡ Some x
-word_there [] k x lt = absurd (omega arith)
-word_there (y ∷ ts) zero x lt = refl
-word_there (y ∷ ts) (suc k) x lt = word_there ts k x (omega arith)
+    by (Some y) q r = ap (λ w. Some (record { word = w; spelling = y.spelling })) (some_one q) ∙ ap (λ s. Some (record { word = x.word; spelling = s })) r
 
 start_is : {p : Part} → IsStart p → start_part p ≡ p
 start_is start_expression = refl
@@ -163,14 +152,6 @@ stands_next subscript_for_call (next_call q) = q
 stands_next list_for_designator (next_designator q) = q
 stands_next block_for_body (next_body q) = q
 
--- a word that passes stands there
-pub some_word_of : (ts : List Lexeme) (k : ℕ) (f : Word → Bool) → has_word ts k f ≡ true → (w : Word) × Is ts k w × (f w ≡ true)
-some_word_of ts k f = by (word_at ts k)
-  where
-    by : (o : Option Word) → elim o as (λ _. Bool) [ None ↦ false | Some w ↦ f w ] ≡ true → (w : Word) × (o ≡ Some w) × (f w ≡ true)
-    by None q = cc
-    by (Some w) q = (w, refl, q)
-
 -- a row that refuses a label that stands too deep
 abbrev pub is_labels : Test → ℕ → Bool
 is_labels (has f) n = n == 6
@@ -246,7 +227,7 @@ module _ (ts : List Lexeme) (most n : ℕ) (le : n ≤ length ts) (top : Limit) 
   pub alike : (all : List Lexeme) → Front us all → (i : ℕ) (x : Lexeme) → i < n → slice_get ts i ≡ Some x → slice_get all i ≡ Some x
   alike all f i x lt q =
       let q' : slice_get us i ≡ Some x = prefix_get n ts i lt ∙ q in
-      token_is all i x (f.words i x.word (ap (λ o. elim o as (λ _. Option Word) [ None ↦ None | Some t ↦ Some t.word ]) q'))
+      token_is all i x (f.words i x.word (ap word_in q'))
       (f.names i ∙ ap (λ o. elim o as (λ _. List ℕ) [ None ↦ [] | Some t ↦ t.spelling ]) q')
 
   spelled : (s : Start) → (g : Grown us top way (a s.part) fresh s.scopes s.depth s.at) → Spelled top g.all s (length g.all) g.built.0
@@ -264,13 +245,13 @@ module _ (ts : List Lexeme) (most n : ℕ) (le : n ≤ length ts) (top : Limit) 
   pub alike_with : (all : List Lexeme) → Front us all → n < length ts → (v : Word) → Is all n v → (i : ℕ) (x : Lexeme) → i < n + 1 → slice_get (with_word ts n v) i ≡ Some x → slice_get all i ≡ Some x
   alike_with all f lt v q i x l r = elim (eq-or-lt_of_le {n = i} {m = n} (omega arith)) [
     | inl e ↦ subst (λ j. slice_get all j ≡ Some x) (sym e) (there (subst (λ j. slice_get (with_word ts n v) j ≡ Some x) e r))
-    | inr y ↦ alike all f i x y (sym (word_before ts n i (record { word = v; spelling = [] }) y) ∙ r)
+    | inr y ↦ alike all f i x y (sym (set_other ts n i (record { word = v; spelling = [] }) (λ e. omega arith)) ∙ r)
   ]
     where
       there : slice_get (with_word ts n v) n ≡ Some x → slice_get all n ≡ Some x
       there r =
           let e = prefix_length n ts le in
-          let y : Some (record { word = v; spelling = [] }) ≡ Some x = sym (word_there ts n (record { word = v; spelling = [] }) lt) ∙ r in
+          let y : Some (record { word = v; spelling = [] }) ≡ Some x = sym (set_there ts n (record { word = v; spelling = [] }) lt) ∙ r in
           token_is all n (record { word = v; spelling = [] }) q
           (f.names n ∙ ap (λ o. elim o as (λ _. List ℕ) [ None ↦ [] | Some t ↦ t.spelling ]) (slice_get_past us n (omega arith))) ∙ y
 
@@ -291,7 +272,7 @@ at_label ts most k lt f n m e q =
       here = prefix_length (k + 1) ts (omega arith);
       fits = λ g j d le. upto_behind k most g j d le;
       word = w.0;
-      is = ap (λ o. elim o as (λ _. Option Word) [ None ↦ None | Some t ↦ Some t.word ]) (prefix_get (k + 1) ts k (omega arith)) ∙ w.1;
+      is = ap word_in (prefix_get (k + 1) ts k (omega arith)) ∙ w.1;
       passes = w.2;
       so = refl;
     }
@@ -391,22 +372,6 @@ module _ (ts : List Lexeme) (most k : ℕ) (le : k ≤ length ts) (s : Start) (z
       ) (λ g i d lt w. allows_upto k most g i d w) in
       record { trees = g.built.0; continues = continues ts most (k + 1) (omega arith) (Upto k most) crowded (λ g i d far. behind_late ts most k le k (omega arith) g i d far lt) s g }
 
-  -- no expression has a definition in it
-  pub no_definition : (n : ℕ) → EndsBy (defining n) → ⊥
-  no_definition n h = elim (eq-or-lt_of_le {n = k} {m = length ts} le) [ inl e ↦ at_end e h | inr lt ↦ inside lt ]
-    where
-      none_shown : {j : ℕ} {t : Trees} → Shown j t (defining n) → ⊥
-      none_shown x = elim x [ ]
-
-      at_end : {k : ℕ} → k ≡ length ts → Ends body ts (AtMost most) (body (start_goal s.part s.depth)) s.scopes s.at (defining n) k → ⊥
-      at_end e h =
-          let h' = subst (λ j. Ends body ts (AtMost most) (body (start_goal s.part s.depth)) s.scopes s.at (defining n) j) e h in
-          none_shown (start_via (further ts) (Upto (length ts) most) (defining n) (further_late ts most n) s.part s.depth s.scopes s.at (further_grows ts most n (start_goal s.part s.depth) s.scopes s.at h') fresh).built.3
-
-      inside : k < length ts → ⊥
-      inside lt = none_shown (goes_on ts most (k + 1) (omega arith) (Upto k most) (defining n) (λ g i d far. behind_late ts most k le k (omega arith) g i d far lt) s k z h (omega arith)
-          (record { here = prefix_length (k + 1) ts (omega arith); fits = λ g j d le. upto_behind k most g j d le; so = refl }) (λ g i d lt w. allows_upto k most g i d w)).built.3
-
 module _ (ts : List Lexeme) (k : ℕ) (le : k ≤ length ts) (s : Start) (z : IsStart s.part) where
   shows : {x : Test} {n m : ℕ} {t : Trees} → (e : Scopes) × (passes ts e k x ≡ true) → Shown k t (barring x n m) → Continues (Upto k most_levels) ts s k t → OutsideFrom ts s k n
   shows {t = t} q (shown_literal y) c = compound_literal (is_of ts k word.LeftBrace q.1) (record { trees = t; continues = c; has = y })
@@ -429,6 +394,26 @@ module _ (ts : List Lexeme) (k : ℕ) (le : k ≤ length ts) (s : Start) (z : Is
       by (has f) true o h = let g = label_grown ts most_levels k le s z f n m o h (barred_inside h) in no_label g.built.3
       by _ true o h = cc
 
+-- No goal but an external definition is refused for a token before.
+no_definition : {ts : List Lexeme} {limit : Limit} (l b : ℕ) (o : Bool) {p : Prog} {c : Scopes} {i k m : ℕ} → Ends body ts limit p c i (defining m) k → Goes ts 0 p l b o c i → ⊥
+no_definition l b o end_refuse y = omega arith
+no_definition l b o (end_take x w z) y = no_definition l _ _ z y.2
+no_definition l b o (end_pass x z) y = no_definition l _ _ z y.3
+no_definition l b o (end_free x z) y = no_definition l _ _ z y.2
+no_definition l b o (end_seen x z) y = no_definition l _ _ z y.2
+no_definition l b o (end_unseen x z) y = no_definition l _ _ z y.3
+no_definition l b o (end_yes x z) y = no_definition l _ _ z (y.0 x)
+no_definition l b o (end_no x z) y = no_definition l _ _ z (y.1 x)
+no_definition l b o (end_here z) y = no_definition l _ _ z y
+no_definition l b o (end_look z) y = no_definition l _ _ z y
+no_definition l b o (end_set z) y = no_definition l _ _ z y
+no_definition l b o (end_bring z) y = no_definition l _ _ z y
+no_definition l b o {c = c} {i = i} (end_behind {g = g} h z) y = no_definition l _ _ z (y.1 _ _ _ (knows g c _ i _ _ h))
+no_definition {ts = ts} l b o {c = c} {i = i} (end_inside {g = g} z) y = no_definition (levels_out g) (levels_in g) false z (steady ts 0 g c i b y.0)
+
+pub defines_none : {ts : List Lexeme} {limit : Limit} (p : Part) (d : ℕ) {c : Scopes} {i k m : ℕ} → Ends body ts limit (body (start_goal p d)) c i (defining m) k → ⊥
+defines_none {ts = ts} p d {c = c} {i = i} z = no_definition (levels_out (start_goal p d)) (levels_in (start_goal p d)) false z (steady ts 0 (start_goal p d) c i d (start_levels 0 p d).0)
+
 -- whatever the cause
 pub begins_before : (ts : List Lexeme) (most k : ℕ) → k ≤ length ts → (s : Start) (x : Cause) → IsStart s.part → Runs body ts (AtMost most) (body (start_goal s.part s.depth)) s.scopes s.at (Failed x k) → BeginsFrom (Upto k most) ts s k
 begins_before ts most k le s x z h = let y = ends_so h in by y.way y.ends
@@ -437,4 +422,4 @@ begins_before ts most k le s x z h = let y = ends_so h in by y.way y.ends
     by (stopped d) y = stopped_begins ts most k le s z d y
     by (barring t n d) y = barred_begins ts most k le s z t n d y
     by crowded y = begins_less (crowded_begins ts most k le s z y (crowded_inside y))
-    by (defining n) y = absurd (no_definition ts most k le s z n y)
+    by (defining n) y = absurd (defines_none s.part s.depth y)

@@ -1,10 +1,9 @@
 -- Another statement than a block as a switch's body could be that of a `while` in the switch's place.
-use Rattle.std.proofs.Common.{◌≡◌, ℕ, ◌+◌, ◌<◌, ◌≤◌, Bool, true, false, not, List, [], ◌∷◌, length, Option, None, Some, inl, inr, ◌⊎◌, refl, sym, ap, subst, ◌∙◌, arith}
+use Rattle.std.proofs.Common.{◌≡◌, ℕ, ◌+◌, ◌<◌, ◌≤◌, Bool, true, false, not, List, [], ◌∷◌, length, Some, inl, inr, ◌⊎◌, refl, sym, ap, subst, ◌∙◌, arith}
 use Rattle.std.specs.Prelude.{slice_get, set}
 use Rattle.std.proofs.lemmas.Bool.{cases_lt}
 use Rattle.std.proofs.lemmas.Bool.Decides.{eqb_tells}
 use Rattle.std.proofs.lemmas.List.{length-set}
-use Rattle.std.proofs.lemmas.Option.{slice_get_past}
 use Rattle.cr_syntax.specs.declared.word.Word.{Word}
 use Rattle.cr_syntax.specs.declared.word.Word.TheVariants as word
 use Rattle.cr_syntax.specs.declared.node.Kind.TheVariants as kind
@@ -24,22 +23,22 @@ use Rattle.cr_machine.specs.Machine.{Goal, Manner, Test, Labels, nowhere, Allows
 use Rattle.cr_machine.specs.Machine.{expression, cast, unary, grouped, unit, if_rest, switch_rest, while_rest, for_rest, return_rest}
 use Rattle.cr_machine.specs.MachineBody.{body, inside, unlabelled, is_statement_start}
 use Rattle.cr_syntax.proofs.Tests.{is_of, both, not_true, some_one}
-use Rattle.cr_machine.proofs.MachineRuns.{reach, word_same, spelling_same}
+use Rattle.cr_machine.proofs.MachineRuns.{reach, word_same, spelling_same, word_in}
 use Rattle.cr_machine.proofs.MachineGives.{gives}
 use Rattle.cr_machine.proofs.MachineKept.{Kept, runs_kept}
 use Rattle.cr_machine.proofs.MachineMeans.{Means, Reads}
 use Rattle.cr_machine.proofs.MachineSound.{each}
 use Rattle.cr_machine.proofs.MachineSpells.{is_one}
-use Rattle.cr_machine.proofs.MachineComplete.{allows_upto}
+use Rattle.cr_machine.proofs.MachineComplete.{allows_upto, get_some}
 use Rattle.cr_machine.proofs.MachineExtend.{weaken}
-use Rattle.cr_machine.proofs.MachineElsewhere.{Alike, there}
-use Rattle.cr_machine.proofs.MachineApart.{Apart, moved, set_there, set_other}
+use Rattle.cr_machine.proofs.MachineFirst.{none_true, some_word_of, one_of_two}
+use Rattle.cr_machine.proofs.MachineOwn.{Alike, same_tokens, lets_itself, ready, carried, set_there, set_other}
 use Rattle.cr_machine.proofs.MachineEnds.{Way, stopped, barring, Ends}
 use Rattle.cr_machine.proofs.MachineShown.{Next, next_stopped, next_crowded, next_designator, next_literal, next_call, next_field, next_label, next_block, next_body, next_definition, next_empty, next_switch, shown_stopped, shown_crowded, shown_literal, shown_call, shown_field, ShownIn, seen, shown_designator, shown_label, shown_block, shown_body, shown_definition, shown_empty, shown_switch, empty_next, switch_at, every, Room, by_stop}
 use Rattle.cr_machine.proofs.MachineGrows.{GrownIn, Via, Stated, Owes, grown, more0, some_expression}
 use Rattle.cr_machine.proofs.MachineUnitGrows.{owes, owes_unlabelled, empty_block, switch_of, body_begins}
-use Rattle.cr_machine.proofs.MachineViable.{prefix, prefix_length, prefix_get, upto_behind, upto_late, some_word_of, alike, barred_inside}
-use Rattle.cr_machine.proofs.MachineUnitViable.{unit_of, completes, token_at, one_of_two, no_start}
+use Rattle.cr_machine.proofs.MachineViable.{prefix, prefix_length, prefix_get, upto_behind, upto_late, alike, barred_inside}
+use Rattle.cr_machine.proofs.MachineUnitViable.{unit_of, completes, no_start}
 use Rattle.cr_machine.proofs.MachineTurned.{Own, Path, found, Found, comes, turns, find, follow, path_switch}
 
 -- What an operand spells alone is an expression.
@@ -172,32 +171,23 @@ module _ (ts : List Lexeme) (n m : ℕ) (le : m ≤ length ts) where
 
   turned_there : n < m → Is turned n word.While
   turned_there lt = word_same (with_word ts n word.While) turned n (prefix_get m (with_word ts n word.While) n lt)
-      ∙ ap (λ o. elim o as (λ _. Option Word) [ None ↦ None | Some t ↦ Some t.word ]) (set_there ts n (unnamed word.While) (omega arith))
+      ∙ ap word_in (set_there ts n (unnamed word.While) (omega arith))
 
-  turned_other : (i : ℕ) → (i ≡ n → ⊥) → slice_get turned i ≡ slice_get (prefix m ts) i
-  turned_other i f = elim (cases_lt i m) [
-    | inl lt ↦ turned_before i lt f ∙ sym (prefix_get m ts i lt)
-    | inr ge ↦ (let e = turned_length in let e' = prefix_length m ts le in slice_get_past turned i (omega arith) ∙ sym (slice_get_past (prefix m ts) i (omega arith)))
-  ]
-
-  turned_apart : Apart (prefix m ts) turned (n + 1)
-  turned_apart = record {
-    words = λ i w l q. word_same (prefix m ts) turned i (turned_other i (λ e. omega arith)) ∙ q;
-    names = λ i l. spelling_same (prefix m ts) turned i (turned_other i (λ e. omega arith));
-  }
+  turned_alike : Alike (prefix m ts) turned (n + 1) m false
+  turned_alike = same_tokens (λ i ge lt. turned_before i lt (λ e. omega arith) ∙ sym (prefix_get m ts i lt))
 
 -- The condition of the switch at token n, on another text with these tokens behind it.
-module _ (ts us : List Lexeme) (most k m n d : ℕ) (c : Scopes) (le : k ≤ m) (inner : m ≤ length ts) (o : Own ts most k d c (n + 1)) (y : Apart (prefix m ts) us (n + 1)) where
+module _ (ts us : List Lexeme) (most k m n d : ℕ) (c : Scopes) (le : k ≤ m) (inner : m ≤ length ts) (o : Own ts most k d c (n + 1)) (y : Alike (prefix m ts) us (n + 1) m false) where
   first_there : n + 1 + 1 ≤ o.end
   first_there = reach o.condition
 
   condition_read : Reads us (Upto k most) part.Expression (d + 1) ([] ∷ c) (n + 1 + 1) o.trees o.after o.end
   condition_read h = let e = first_there in let e' = o.at in
-      moved y (gives body ts (prefix m ts) (AtMost most) (Upto k most) Kept (Means (prefix m ts) (Upto k most)) runs_kept (each (prefix m ts) (Upto k most)) o.condition (Means (prefix m ts) (Upto k most) (expression (d + 1)) ([] ∷ c) (n + 1 + 1))
-      (λ i lt. prefix_get m ts i (omega arith)) (λ g i d lt w. allows_upto k most g i d w) (each (prefix m ts) (Upto k most) (expression (d + 1)) ([] ∷ c) (n + 1 + 1)) h) (omega arith) refl
+      carried (prefix m ts) us (Upto k most) (Upto k most) (n + 1) m false y (lets_itself (Upto k most) m) tt (omega arith) (omega arith) (gives body ts (prefix m ts) (AtMost most) (Upto k most) Kept (Means (prefix m ts) (Upto k most)) runs_kept (each (prefix m ts) (Upto k most)) o.condition (Means (prefix m ts) (Upto k most) (expression (d + 1)) ([] ∷ c) (n + 1 + 1))
+      (λ i lt. prefix_get m ts i (omega arith)) (λ g i d lt w. allows_upto k most g i d w) (each (prefix m ts) (Upto k most) (expression (d + 1)) ([] ∷ c) (n + 1 + 1)) h)
 
   token_there : (i : ℕ) (w : Word) → n + 1 ≤ i → i < m → Is ts i w → Is us i w
-  token_there i w l lt q = y.words i w l (word_same ts (prefix m ts) i (prefix_get m ts i lt) ∙ q)
+  token_there i w l lt q = y.words i w (word_same ts (prefix m ts) i (prefix_get m ts i lt) ∙ q) l lt
 
   opened_there : Is us (n + 1) word.LeftParen
   opened_there = let e = first_there in let e' = o.at in token_there (n + 1) word.LeftParen (omega arith) (omega arith) (is_of ts (n + 1) word.LeftParen o.opened)
@@ -229,14 +219,14 @@ module _ (ts us : List Lexeme) (most k m n d : ℕ) (c : Scopes) (le : k ≤ m) 
       ))
 
 -- A token that is one semicolon or another.
-module _ (all : List Lexeme) (k : ℕ) (x : Lexeme) (lt : 0 < k) (s : Is all k word.Semicolon) (q : x.word ≡ word.Semicolon) where
+module _ (all : List Lexeme) (k : ℕ) (x : Lexeme) (s : Is all k word.Semicolon) (q : x.word ≡ word.Semicolon) where
   no_identifier : Is all k word.Identifier → ⊥
   no_identifier r = let e : Some word.Semicolon ≡ Some word.Identifier = sym s ∙ r in cc
 
   respelled_word : (i : ℕ) (w : Word) → i < length all → Is all i w → Is (set all k x) i w
   respelled_word i w l r = elim (eqb_tells i k) [
     | inl y ↦ (let e = y.1 in subst (λ i. Is (set all k x) i w) (sym e)
-        (ap (λ o. elim o as (λ _. Option Word) [ None ↦ None | Some t ↦ Some t.word ]) (set_there all k x (omega arith)) ∙ (ap (λ w. Some w) q ∙ (sym s ∙ subst (λ i. Is all i w) e r))))
+        (ap word_in (set_there all k x (omega arith)) ∙ (ap (λ w. Some w) q ∙ (sym s ∙ subst (λ i. Is all i w) e r))))
     | inr y ↦ word_same all (set all k x) i (set_other all k i x y.1) ∙ r
   ]
 
@@ -246,17 +236,17 @@ module _ (all : List Lexeme) (k : ℕ) (x : Lexeme) (lt : 0 < k) (s : Is all k w
     | inr y ↦ spelling_same all (set all k x) i (set_other all k i x y.1)
   ]
 
-  respelled : Alike all (set all k x) 0 (length all)
+  respelled : Alike all (set all k x) 0 (length all) false
   respelled = record {
-    words = λ i w l l' r. respelled_word i w l' r;
-    names = λ i l l' r. respelled_name i r;
-    zeroth = spelling_same all (set all k x) 0 (set_other all k 0 x (λ e. omega arith));
+    words = λ i w r ge lt. respelled_word i w lt r;
+    names = λ i r ge lt. respelled_name i r;
+    every = λ r. none_true r;
   }
 
   respelled_unit : {top : Limit} {t : Trees} → IsUnit top all t → IsUnit top (set all k x) t
   respelled_unit {top = top} {t = t} u = record {
     after = u.after;
-    spells = subst (λ j. Spells (set all k x) top (rest unit_side) fresh file_scope u.after 0 t 0 j) (sym (length-set all k x)) (there respelled respelled.zeroth u.spells);
+    spells = subst (λ j. Spells (set all k x) top (rest unit_side) fresh file_scope u.after 0 t 0 j) (sym (length-set all k x)) (carried all (set all k x) top top 0 (length all) false respelled (lets_itself top (length all)) (ready refl) (omega arith) (omega arith) u.spells);
   }
 
 module _ (ts : List Lexeme) (k : ℕ) (lt : k < length ts) (le : k ≤ length ts) {l : Labels} {d : ℕ} {c : Scopes} {n : ℕ} (z : Path ts most_levels k (body (unit nowhere 0)) file_scope 0 l d c n) (o : Own ts most_levels k d c (n + 1)) where
@@ -272,7 +262,7 @@ module _ (ts : List Lexeme) (k : ℕ) (lt : k < length ts) (le : k ≤ length ts
       (follow ts most_levels k (prefix k ts) (Upto k most_levels) (switch_at n) switch_late z (λ j l. prefix_get k ts j (omega arith)) (λ g j d l w. allows_upto k most_levels g j d w)
       (Via (prefix k ts) (Upto k most_levels) (switch_at n) switch_late (unit nowhere 0) file_scope 0) (owes (prefix k ts) (Upto k most_levels) (switch_at n) switch_late (unit nowhere 0) file_scope 0)).0
       (word_same ts (prefix k ts) n (prefix_get k ts n lt') ∙ path_switch ts most_levels k z) tt
-      (switch_via ts (prefix k ts) most_levels k k n d c (omega arith) le o (record { words = λ i w l q. q; names = λ i l. refl }) switch_late l (prefix_length k ts le)) fresh
+      (switch_via ts (prefix k ts) most_levels k k n d c (omega arith) le o (same_tokens (λ i ge lt. refl)) switch_late l (prefix_length k ts le)) fresh
 
   switch_shows : Shows ts k (switch_body_at n k)
   switch_shows = let g = switch_grown in record {
@@ -288,7 +278,7 @@ module _ (ts : List Lexeme) (k : ℕ) (lt : k < length ts) (le : k ≤ length ts
       (follow ts most_levels k (turned ts n m inner) (Upto k most_levels) way late z (λ j l. turned_before ts n m inner j (omega arith) (λ e. omega arith)) (λ g j d l w. allows_upto k most_levels g j d w)
       (Via (turned ts n m inner) (Upto k most_levels) way late (unit nowhere 0) file_scope 0) (owes (turned ts n m inner) (Upto k most_levels) way late (unit nowhere 0) file_scope 0)).1
       (turned_there ts n m inner (omega arith)) tt
-      (while_via ts (turned ts n m inner) most_levels k m n d c le' inner o (turned_apart ts n m inner) way late l v) fresh
+      (while_via ts (turned ts n m inner) most_levels k m n d c le' inner o (turned_alike ts n m inner) way late l v) fresh
 
   -- a statement that goes on behind its first token
   through : k + 1 ≤ length ts
@@ -328,18 +318,18 @@ module _ (ts : List Lexeme) (k : ℕ) (lt : k < length ts) (le : k ≤ length ts
   begins_empty q =
       let lt' = before_body in
       let g = empty_grown in
-      let x = token_at ts k lt in
+      let x = get_some ts k lt in
       let size = turned_length ts n k le in
       let far = g.late in
       let e = g.size in
       let s = subst (λ j. Is g.all j word.Semicolon) (sym size) (empty_word refl g.next) in
-      let r : (x.0).word ≡ word.Semicolon = some_one (sym (ap (λ o. elim o as (λ _. Option Word) [ None ↦ None | Some t ↦ Some t.word ]) x.1) ∙ q) in
+      let r : (x.0).word ≡ word.Semicolon = some_one (sym (ap word_in x.1) ∙ q) in
       record {
         trees = g.built.0;
         completes = record {
           text = set g.all k x.0;
           alike = alike_at g.all (alike (with_word ts n word.While) most_levels k (turned_size ts n k le) (Upto k most_levels) empty_next short_late g.all g.front) x.0 x.1 (omega arith);
-          is_unit = respelled_unit g.all k x.0 (omega arith) s r (unit_of g);
+          is_unit = respelled_unit g.all k x.0 s r (unit_of g);
         };
       }
     where

@@ -1,6 +1,6 @@
 -- No two rows of the refused forms name one token of a unit.
-use Rattle.std.proofs.Common.{◌≡◌, ℕ, zero, suc, ◌+◌, ◌<◌, Bool, true, false, ◌||◌, ◌&&◌, ◌==◌, List, [], ◌∷◌, length, Option, None, Some, refl, sym, ap, subst, ◌∙◌, arith, ◌⊎◌, inl, inr}
-use Rattle.std.specs.Prelude.{slice_get, set, if◌then◌else◌}
+use Rattle.std.proofs.Common.{◌≡◌, ℕ, zero, suc, ◌+◌, ◌<◌, Bool, true, false, ◌||◌, ◌&&◌, ◌==◌, List, [], ◌∷◌, length, refl, sym, ap, subst, ◌∙◌, arith, ◌⊎◌, inl, inr}
+use Rattle.std.specs.Prelude.{if◌then◌else◌}
 use Rattle.std.proofs.lemmas.Bool.{both_ways, eqb-true}
 use Rattle.cr_syntax.specs.declared.word.Word.{Word}
 use Rattle.cr_syntax.specs.declared.word.Word.TheVariants as word
@@ -20,37 +20,21 @@ use Rattle.cr_syntax.specs.Spells.{Limit, AtMost, Upto, Is, Spells, a, rest}
 use Rattle.cr_syntax.specs.Spells as spells
 use Rattle.cr_syntax.specs.Units.{most_levels, IsUnit, IsTreeOf, Completes, Begins, Has, has_here, has_inside, has_after, one_begins_at, after_first, postfix_before, switch_body_at, Place, elsewhere, place_in, is_misplaced, misplaced_at, own_parameters, ellipsis_at, variadic_definition, is_unused, with_word, Shows, Outside, unused_keyword, designator, compound_literal, called_expression, bit_field, deep_label, label_as_body, switch_body, variadic_function}
 use Rattle.cr_syntax.proofs.Tests.{both, some_one}
-use Rattle.cr_machine.proofs.MachineComplete.{get_some}
-use Rattle.cr_machine.proofs.MachineFirst.{none_true, First, by_word, by_name, starts, first_expression}
+use Rattle.cr_machine.proofs.MachineFirst.{none_true, First, by_word, by_name, starts, first_expression, one_of_two}
 use Rattle.cr_machine.proofs.MachineForms.{within}
 use Rattle.cr_machine.proofs.MachineOne.{one_word}
-use Rattle.cr_machine.proofs.MachineRuns.{word_same}
+use Rattle.cr_machine.proofs.MachineRuns.{word_same, word_in}
 use Rattle.cr_machine.proofs.MachineSpells.{is_one, forth}
-use Rattle.cr_machine.proofs.MachineViable.{word_there}
-use Rattle.cr_machine.proofs.UnitNodes.{used, Made, made, node_shows}
+use Rattle.cr_machine.proofs.UnitNodes.{Made, made, node_shows}
 use Rattle.cr_machine.proofs.UnitHeads.{switch_tail, IsHead, head_of, same_head, IsFollowed, by_statement, by_semicolon, whiles, switches}
+use Rattle.cr_machine.proofs.MachineOwn.{set_other, set_there}
+use Rattle.cr_machine.proofs.MachineUnitStuck.{begun_unit_is_used}
+use Rattle.cr_machine.proofs.MachineUnitForms.{same_token, token_in}
 
 -- Tokens of a text that begins with the list's.
 
-token_in : {limit : Limit} {ts : List Lexeme} {k : ℕ} {t : Trees} (c : Completes limit ts k t) (n : ℕ) {w : Word} → n < k → Is ts n w → Is c.text n w
-token_in {ts = ts} c n lt q = let x = get_some ts n (within ts n q) in word_same ts c.text n (c.alike n x.0 lt x.1 ∙ sym x.1) ∙ q
-
 token_out : {limit : Limit} {ts : List Lexeme} {k : ℕ} {t : Trees} (c : Completes limit ts k t) (n : ℕ) {w : Word} → n < k → n < length ts → Is c.text n w → Is ts n w
-token_out {ts = ts} c n lt far q = let x = get_some ts n far in sym (word_same ts c.text n (c.alike n x.0 lt x.1 ∙ sym x.1)) ∙ q
-
-used_in : {limit : Limit} {ts : List Lexeme} {k : ℕ} {t : Trees} (c : Completes limit ts k t) (n : ℕ) {w : Word} → n < k → Is ts n w → is_unused w ≡ false
-used_in c n {w = w} lt q = let q' = token_in c n lt q in used c.text n w q' refl c.is_unit.spells (omega arith) (within c.text n q')
-
-word_behind : (ts : List Lexeme) (k i : ℕ) (x : Lexeme) → k < i → slice_get (set ts k x) i ≡ slice_get ts i
-word_behind [] k i x lt = refl
-word_behind (y ∷ ts) zero zero x lt = absurd (omega arith)
-word_behind (y ∷ ts) zero (suc i) x lt = refl
-word_behind (y ∷ ts) (suc k) zero x lt = absurd (omega arith)
-word_behind (y ∷ ts) (suc k) (suc i) x lt = word_behind ts k i x (omega arith)
-
-either : (x y : Bool) → x || y ≡ true → (x ≡ true) ⊎ (y ≡ true)
-either true y q = inl refl
-either false y q = inr q
+token_out {ts = ts} c n lt far q = sym (word_same ts c.text n (same_token c n lt far)) ∙ q
 
 -- A label at a place where it is refused.
 
@@ -66,9 +50,9 @@ label_here k _ at i j b y e = none_true y
 
 labels : (k : ℕ) (at : Place) (t : Trees) → misplaced_at k at t ≡ true → Has (label_at k) t
 labels k at none y = none_true y
-labels k at (node l i j b n) y = elim (either (((i == k) && is_misplaced l at) || misplaced_at k (place_in l at) b) (misplaced_at k at n) y) [
+labels k at (node l i j b n) y = elim (one_of_two (((i == k) && is_misplaced l at) || misplaced_at k (place_in l at) b) (misplaced_at k at n) y) [
   | inl x ↦
-      elim (either ((i == k) && is_misplaced l at) (misplaced_at k (place_in l at) b) x) [
+      elim (one_of_two ((i == k) && is_misplaced l at) (misplaced_at k (place_in l at) b) x) [
         | inl z ↦ (let o = both (i == k) (is_misplaced l at) z in has_here (label_here k l at i j b o.1 o.0))
         | inr z ↦ has_inside (labels k (place_in l at) b z)
       ]
@@ -94,7 +78,7 @@ record IsSwitch (ts : List Lexeme) (s k : ℕ) : Type 0 where
 second_begins : (k : ℕ) {l l' : Kind} {s e i j : ℕ} {b b' t u : Trees} → t ≡ one l s e b → u ≡ one l' i j b' → one_begins_at k (after_first (t & u & none)) ≡ true → i ≡ k
 second_begins k {l = l} {s = s} {e = e} {i = i} {b = b} {u = u} q q' y =
     let y' = subst (λ u. one_begins_at k (after_first (one l s e b & u & none)) ≡ true) q' (subst (λ t. one_begins_at k (after_first (t & u & none)) ≡ true) q y) in
-    elim (either (i == k) false y') [ inl x ↦ eqb-true i k x | inr x ↦ none_true x ]
+    elim (one_of_two (i == k) false y') [ inl x ↦ eqb-true i k x | inr x ↦ none_true x ]
 
 switch_of : {ts : List Lexeme} {limit : Limit} (s k : ℕ) {h : Context} {c e : Scopes} {d i j : ℕ} {b : Trees} → Spells ts limit (rest (symbol.Begins ∷ token word.Switch ∷ switch_tail)) h c e d b i j →
     (i == s) && one_begins_at k (after_first b) ≡ true → IsSwitch ts s k
@@ -268,7 +252,7 @@ module _ (ts : List Lexeme) where
     near = let e = shown.behind in let n = shown.before in omega arith
 
     from_list : (l : ℕ) {w : Word} → s < l → Is ts l w → Is (with_word ts s word.While) l w
-    from_list l lt q = word_same ts (with_word ts s word.While) l (word_behind ts s l (record { word = word.While; spelling = [] }) lt) ∙ q
+    from_list l lt q = word_same ts (with_word ts s word.While) l (set_other ts s l (record { word = word.While; spelling = [] }) (λ e. omega arith)) ∙ q
 
     to_text : (l : ℕ) (w : Word) → s < l → l < k → Is b.completes.text l w → Is c.completes.text l w
     to_text l w lt lt' q = token_in c.completes l (omega arith) (from_list l lt (token_out b.completes l lt' (omega arith) q))
@@ -276,7 +260,7 @@ module _ (ts : List Lexeme) where
     in_while : Is c.completes.text s word.While
     in_while =
         let n = near in
-        token_in c.completes s (omega arith) (ap (λ o. elim o as (λ _. Option Word) [ None ↦ None | Some x ↦ Some x.word ]) (word_there ts s (record { word = word.While; spelling = [] }) (omega arith)))
+        token_in c.completes s (omega arith) (ap word_in (set_there ts s (record { word = word.While; spelling = [] }) (omega arith)))
 
     -- no statement begins with such a word
     no_statement : {w : Word} → Is ts k w → begins_statement w ≡ false → ⊥
@@ -292,7 +276,7 @@ module _ (ts : List Lexeme) where
         by (begun {w = v} q' u') = both_ways (begins_statement w) u (subst (λ x. begins_statement x ≡ true) (one_word q' (token_in c.completes k (omega arith) (from_list k near q))) u')
 
     no_keyword : {w : Word} → Is ts k w → is_unused w ≡ true → ⊥
-    no_keyword {w = w} q u = both_ways (is_unused w) (used_in c.completes k (omega arith) (from_list k near q)) u
+    no_keyword {w = w} q u = both_ways (is_unused w) (begun_unit_is_used c (omega arith) (from_list k near q)) u
 
     -- and no postfix expression ends before it
     no_postfix : Shows ts k (postfix_before k) → ⊥
