@@ -220,11 +220,7 @@ fn enters_turn(
     }
 }
 
-fn begins_turn(
-    alloc: Global,
-    place: Place,
-    scopes: &mut OpenScopes,
-) -> Result<Turn, AllocError>
+fn begins_turn(alloc: Global, place: Place, scopes: &mut OpenScopes) -> Result<Turn, AllocError>
     ensures { IfOk result (λ r. (s : Source) (a : Ahead) → TurnsTo s Symbol.Begins a place scopes.old scopes.new r) }
 {
     begin(alloc, scopes)?;
