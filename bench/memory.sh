@@ -3,7 +3,7 @@
 # It proves and builds a small timer in a folder of its own, which takes a few minutes. Run it by hand.
 set -eu
 . "$(dirname "${BASH_SOURCE[0]}")/timer.sh"
-begin_timer 'cr_ints:' 'cr_memory: cr_ints'
+begin_timer cr_ints cr_memory
 mkdir -p specs proofs/saves
 touch specs/Lib.antt
 

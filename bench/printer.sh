@@ -3,7 +3,7 @@
 # It proves and builds a small timer in a folder of its own, which takes a few minutes. Run it by hand.
 set -eu
 . "$(dirname "${BASH_SOURCE[0]}")/timer.sh"
-begin_timer 'cr_tokens: thiserror' 'cr_ints:' 'cr_rows:' 'cr_syntax: cr_tokens cr_ints cr_rows' 'cr_printer: cr_syntax cr_tokens cr_rows'
+begin_timer cr_tokens cr_ints cr_rows cr_syntax cr_printer
 cat >src/main.rt <<'RT'
 //! Prints the tokens of standard input a hundred times, and says how long that took.
 #![tactic(auto)]

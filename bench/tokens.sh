@@ -3,7 +3,7 @@
 # It proves and builds a small timer in a folder of its own, which takes a few minutes. Run it by hand.
 set -eu
 . "$(dirname "${BASH_SOURCE[0]}")/timer.sh"
-begin_timer 'cr_tokens: thiserror'
+begin_timer cr_tokens
 cat >src/main.rt <<'RT'
 //! Reads the tokens of standard input a hundred times, and prints how long that took.
 #![tactic(auto)]

@@ -1,11 +1,11 @@
 #!/usr/bin/env bash
 # Prints how many megabytes a second cr_tokens::read and cr_decls::parse read together of C texts, on one core: a program of
 # 407 bytes again and again under other names, up to the limit of 262,144 tokens. Then the times of texts at that limit that
-# are refused or are long rows.
+# are refused, are long rows, or have a great many names.
 # It proves and builds a small timer in a folder of its own, which takes some minutes. Run it by hand.
 set -eu
 . "$(dirname "${BASH_SOURCE[0]}")/timer.sh"
-begin_timer 'cr_tokens: thiserror' 'cr_ints:' 'cr_rows:' 'cr_syntax: cr_tokens cr_ints cr_rows' 'cr_machine: cr_syntax' 'cr_exprs: cr_machine cr_rows cr_syntax cr_tokens thiserror' 'cr_decls: cr_exprs cr_machine cr_rows cr_syntax cr_tokens'
+begin_timer cr_tokens cr_ints cr_rows cr_syntax cr_machine cr_exprs cr_decls
 cat >src/main.rt <<'RT'
 //! Reads and parses the file on standard input ten times, and prints how long that took.
 #![tactic(auto)]
@@ -63,4 +63,7 @@ row 'int a=' '(' 262140 '' | timed '('
 row 'int f()' '{' 262139 '' | timed '{'
 row 'int f(){' ';' 262138 '}' | timed ';'
 row 'int a={1' ',1' 131068 '};' | timed ',1'
+awk 'BEGIN { printf "typedef int T;"; for (i = 0; i < 87379; i++) printf "T a%d;", i }' | timed 'a type, and names behind it'
+awk 'BEGIN { printf "int f(int a"; for (i = 1; i < 60000; i++) printf ",int a%d", i; printf ")"; for (i = 0; i < 27000; i++) printf "[1]"; printf ";" }' | timed 'parameters, and suffixes behind them'
+awk 'BEGIN { printf "int a;int f(){"; for (i = 0; i < 120; i++) printf "{int b%d;", i; for (i = 0; i < 130600; i++) printf "a;"; for (i = 0; i <= 120; i++) printf "}" }' | timed 'a name looked for in 122 scopes'
 awk 'BEGIN { srand(1); split("int ( ) { } [ ] ; , * = a 1 if else for while return + -> . case", w, " "); for (i = 0; i < 262144; i++) printf "%s ", w[int(rand() * 22) + 1] }' | timed 'random tokens'

@@ -3,13 +3,9 @@ use Rattle.std.specs.Prelude.{ℕ, ◌+◌, List, Option, None, Some}
 use Rattle.cr_syntax.specs.declared.word.Word.TheVariants as word
 use Rattle.cr_syntax.specs.declared.node.Kind.TheVariants as kind
 use Rattle.cr_syntax.specs.declared.node.Node.{Node}
-use Rattle.cr_syntax.specs.declared.symbol.Context.{Context}
-use Rattle.cr_syntax.specs.Words.{Lexeme}
-use Rattle.cr_syntax.specs.Scopes.{Scopes, enter}
 use Rattle.cr_syntax.specs.Trees.{Trees, none, ◌&◌}
-use Rattle.cr_syntax.specs.Context.{past_part}
 use Rattle.cr_machine.specs.Machine as m
-use Rattle.cr_machine.specs.Machine.{Prog, plain, opens, reopens, the, give, take, peek, call, expect, made, begins, around, brought, expression, conditional, declaration, statement, return_rest, clause}
+use Rattle.cr_machine.specs.Machine.{Prog, plain, opens, reopens, the, give, take, peek, call, expect, made, begins, expression, conditional, declaration, statement, return_rest, clause}
 use Rattle.cr_machine.specs.MachineBody.{declaration_start}
 use Rattle.cr_exprs.specs.Answers.{tree}
 use Rattle.cr_decls.specs.declared.labels.Labels.{Labels}
@@ -52,7 +48,3 @@ last_clause d p f = take reopens (the word.RightParen) d p (call (expression (d 
 abbrev pub with_step : Prog → (Trees → Prog) → List Node → Option ℕ → Prog
 with_step p f nodes None = p
 with_step p f nodes (Some n) = f (tree nodes n)
-
--- the scopes behind a declarator a, where token i stands: its name enters, and its own scope ends
-abbrev pub declared : List Lexeme → ℕ → Context → Trees → Scopes → Scopes
-declared ts i h a c = enter (brought ts i (past_part h a).name (past_part h a).type_name) (around c)

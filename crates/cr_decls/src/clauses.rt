@@ -11,11 +11,10 @@ ghost use Rattle.cr_decls.specs.Programs.{controlling, repeated, first_clause, l
 
 use crate::declarations::declaration;
 use cr_exprs::{
-    Found, Goal, OpenScopes, Optional, ParseFault, Source, begin, expect, read, room, stands,
-    starts_specifier,
+    Found, Goal, Optional, ParseFault, Source, expect, read, room, stands, starts_specifier,
 };
 use cr_rows::Row;
-use cr_syntax::{Node, Word};
+use cr_syntax::{Node, OpenScopes, Word, begin};
 use std::alloc::{AllocError, Global};
 
 /// The controlling expression of a statement in its brackets, where the scope of the statement begins. The token after is

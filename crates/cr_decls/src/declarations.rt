@@ -9,14 +9,13 @@ ghost use Rattle.cr_machine.specs.MachineBody.{body, declared_on};
 ghost use Rattle.cr_exprs.specs.Source.{IsReadable, text_of};
 ghost use Rattle.cr_exprs.specs.Answers.{Reads, IsPlaced, IsGrown, tree};
 
-use crate::names::declare;
 use crate::start::bar_designator;
 use cr_exprs::{
-    Found, Goal, OpenScopes, ParseFault, Source, expect, named_declarator, over, pair, past, push,
+    Found, Goal, ParseFault, Source, declare, expect, named_declarator, over, pair, past, push,
     read, room, row_of, specifier_row, stands,
 };
 use cr_rows::Row;
-use cr_syntax::{FRESH, Kind, Node, Word, past_token};
+use cr_syntax::{FRESH, Kind, Node, OpenScopes, Word, past_token};
 use std::alloc::Global;
 
 /// An initializer (6.7.9).

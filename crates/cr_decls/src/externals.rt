@@ -16,11 +16,11 @@ use crate::names::define;
 use crate::start::stands_any;
 use crate::statements::compound;
 use cr_exprs::{
-    Found, OpenScopes, ParseFault, Source, drop_scope, named_declarator, over, past, row_of,
-    specifier_row, stands, triple,
+    Found, ParseFault, Source, drop_scope, named_declarator, over, past, row_of, specifier_row,
+    stands, triple,
 };
 use cr_rows::Row;
-use cr_syntax::{FRESH, Kind, Node, Word};
+use cr_syntax::{FRESH, Kind, Node, OpenScopes, Word};
 use std::alloc::Global;
 
 /// External declarations up to the last token, one at least.

@@ -5,11 +5,12 @@ ghost use Rattle.cr_syntax.specs.Units.{IsTreeOf};
 ghost use Rattle.cr_decls.specs.Unit.{IsOnlyTree, IsRefused};
 
 use crate::externals::unit;
-use cr_exprs::{OpenScopes, ParseFault, Source, begin, words_of};
+use cr_exprs::{ParseFault, Source, words_of};
 use cr_rows::Row;
-use cr_syntax::Unit;
+use cr_syntax::{Unit, begin};
 use cr_tokens::Tokens;
 use std::alloc::Global;
+use std::collections::LinkedList;
 
 /// The one unit that spells the tokens of a file, or the first refusal.
 pub fn parse(alloc: Global, file: &[u8], tokens: &Tokens) -> Result<Unit, ParseFault>
@@ -27,7 +28,7 @@ pub fn parse(alloc: Global, file: &[u8], tokens: &Tokens) -> Result<Unit, ParseF
         tokens: list,
         words: words.as_slice(),
     };
-    let mut scopes = OpenScopes::new(alloc)?;
+    let mut scopes = LinkedList::new(alloc);
     begin(alloc, &mut scopes)?;
     let mut nodes = Row::new(alloc);
     let items = unit(alloc, &source, &mut scopes, &mut nodes)?;

@@ -5,41 +5,14 @@ ghost use Rattle.cr_syntax.specs.Kept.{PartsAreBelow};
 ghost use Rattle.cr_machine.specs.Machine.{innermost_of};
 ghost use Rattle.cr_exprs.specs.Source.{IsReadable, text_of};
 ghost use Rattle.cr_exprs.specs.Answers.{tree};
-ghost use Rattle.cr_decls.specs.Programs.{declared};
+ghost use Rattle.cr_exprs.specs.Parts.{declared};
 
-use cr_exprs::{Found, OpenScopes, ParseFault, Source, bring, drop_scope, give_back, past, taken};
+use cr_exprs::{Found, ParseFault, Source, bring, give_back, past, taken};
 use cr_rows::Row;
-use cr_syntax::{Context, Node};
+use cr_syntax::{Context, Node, OpenScopes};
 use std::alloc::Global;
 
-/// The name of a declarator enters the scope around that of its own parameters, which ends.
-pub(crate) fn declare(
-    alloc: Global,
-    source: &Source,
-    context: Context,
-    declarator: Found,
-    scopes: &mut OpenScopes,
-    nodes: &Row<Node>,
-) -> Result<(), ParseFault>
-    requires readable { IsReadable source.now }
-    requires below { PartsAreBelow nodes.now }
-    requires node { declarator.node < length nodes.now }
-    ensures ok { OnOk result (scopes.new ≡ declared (text_of source.now) declarator.next context (tree nodes.now declarator.node) scopes.old) }
-    ensures err { IfErr result (λ fault. fault ≡ ParseFault.NoMemory) }
-{
-    let said = past(nodes, context, declarator.node);
-    drop_scope(scopes);
-    bring(
-        alloc,
-        source,
-        declarator.next,
-        said.name as usize,
-        said.type_name,
-        scopes,
-    )
-}
-
-/// The same, where that scope goes on: it is the one of a function's body.
+/// The name of a declarator enters the scope around that of its own parameters, which goes on: it is the one of a function's body.
 pub(crate) fn define(
     alloc: Global,
     source: &Source,

@@ -10,9 +10,9 @@ ghost use Rattle.cr_exprs.specs.Source.{IsReadable, text_of};
 ghost use Rattle.cr_exprs.specs.Answers.{Reads, IsPlaced, tree};
 ghost use Rattle.cr_decls.specs.Programs.{simple};
 
-use cr_exprs::{Found, Goal, OpenScopes, ParseFault, Source, expect, leaf, over, read, stands};
+use cr_exprs::{Found, Goal, ParseFault, Source, expect, leaf, over, read, stands};
 use cr_rows::Row;
-use cr_syntax::{Kind, Node, Word};
+use cr_syntax::{Kind, Node, OpenScopes, Word};
 use std::alloc::Global;
 
 /// A statement without another one in it, a jump or an expression (6.8.3, 6.8.6).

@@ -7,8 +7,8 @@ ghost use Rattle.cr_machine.specs.MachineBody.{is_designator, is_label, is_state
 ghost use Rattle.cr_exprs.specs.Source.{IsReadable, text_of};
 ghost use Rattle.cr_exprs.specs.Answers.{IsRefusal};
 
-use cr_exprs::{OpenScopes, ParseFault, Source, barred, here, is_ordinary, stands};
-use cr_syntax::Word;
+use cr_exprs::{ParseFault, Source, barred, here, is_ordinary, stands};
+use cr_syntax::{OpenScopes, Word};
 
 /// Whether some token stands here.
 pub(crate) fn stands_any(source: &Source, at: usize) -> bool

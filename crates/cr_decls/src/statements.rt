@@ -16,11 +16,11 @@ use crate::labels::{Labels, may_label};
 use crate::simple::simple;
 use crate::start::{bar_body_label, bar_label, bar_statement};
 use cr_exprs::{
-    Found, Goal, OpenScopes, Optional, ParseFault, Source, begin, drop_scope, expect, over, pair,
-    push, read, room, stands, starts_specifier, triple,
+    Found, Goal, Optional, ParseFault, Source, drop_scope, expect, over, pair, push, read, room,
+    stands, starts_specifier, triple,
 };
 use cr_rows::Row;
-use cr_syntax::{Kind, Node, Word, ends_open};
+use cr_syntax::{Kind, Node, OpenScopes, Word, begin, ends_open};
 use std::alloc::Global;
 
 /// A statement (6.8).

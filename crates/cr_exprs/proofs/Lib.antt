@@ -2,4 +2,3 @@ pub mod Nodes
 pub mod Runs
 pub mod Grammar
 pub mod Loose
-pub mod Marks

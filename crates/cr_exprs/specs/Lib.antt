@@ -4,5 +4,4 @@ pub mod Loose
 pub mod Answers
 pub mod Parts
 pub mod Names
-pub mod Marks
 pub mod Expression

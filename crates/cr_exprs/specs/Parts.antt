@@ -34,9 +34,13 @@ pub record EndsPointer (ts : List Lexeme) (w : m.Wanted) (i : ℕ) : Type 0 wher
 pub record PointsOn (ts : List Lexeme) (w : m.Wanted) (i : ℕ) : Type 0 where
   pub starts : may_omit w ≡ true → (c : Scopes) → passes ts c i (declarator_start w) ≡ true
 
--- the scopes behind a parameter's declarator a, where token i stands: its name enters, and its own scope ends
+-- the scopes behind a declarator a, where token i stands: its name enters, and its own scope ends
+abbrev pub declared : List Lexeme → ℕ → Context → Trees → Scopes → Scopes
+declared ts i h a c = enter (brought ts i (past_part h a).name (past_part h a).type_name) (around c)
+
+-- the same behind a parameter's declarator, which may have no name
 abbrev pub entered : List Lexeme → ℕ → Context → Trees → Scopes → Scopes
-entered ts i h a c = if is_declarator a then enter (brought ts i (past_part h a).name (past_part h a).type_name) (around c) else c
+entered ts i h a c = if is_declarator a then declared ts i h a c else c
 
 -- the part of the grammar that is to be read
 abbrev pub part_of : Goal → Part

@@ -4,42 +4,18 @@ ghost use Rattle.std.specs.Prelude.{[], ◌≤◌, IfOk, length};
 ghost use Rattle.cr_syntax.specs.Kept.{PartsAreBelow};
 ghost use Rattle.cr_syntax.specs.Context.{fresh};
 ghost use Rattle.cr_machine.specs.Machine.{named, row, declarator};
-ghost use Rattle.cr_machine.specs.MachineBody.{body, start_goal};
+ghost use Rattle.cr_machine.specs.MachineBody.{body};
 ghost use Rattle.cr_exprs.specs.Source.{IsReadable, text_of};
 ghost use Rattle.cr_exprs.specs.Answers.{Reads, IsPlaced};
-ghost use Rattle.cr_exprs.specs.Parts.{part_of};
 
 use crate::declarators::{Wanted, declarator};
 use crate::fault::ParseFault;
 use crate::found::Found;
-use crate::goal::Goal;
-use crate::open_scopes::OpenScopes;
-use crate::reading::started;
 use crate::source::Source;
 use crate::specifiers::row;
 use cr_rows::Row;
-use cr_syntax::{Context, Node, Part};
+use cr_syntax::{Context, Node, OpenScopes, Part};
 use std::alloc::Global;
-
-/// An expression, an assignment or a conditional, whatever stands behind it.
-pub fn read(
-    alloc: Global,
-    source: &Source,
-    goal: Goal,
-    at: usize,
-    depth: usize,
-    scopes: &mut OpenScopes,
-    nodes: &mut Row<Node>,
-) -> Result<Found, ParseFault>
-    requires readable { IsReadable source.now }
-    requires at { at ≤ length source.now.tokens.now }
-    requires depth { depth ≤ 128 }
-    requires below { PartsAreBelow nodes.old }
-    ensures reads { Reads (text_of source.now) (body (start_goal (part_of goal) depth)) scopes.old at nodes.new scopes.new result }
-    ensures placed { IfOk result (λ x. IsPlaced (length source.now.tokens.now) at nodes.old nodes.new [] x) }
-{
-    started(alloc, source, goal, at, depth, scopes, nodes)
-}
 
 /// Specifiers, with storage classes.
 pub fn specifier_row(

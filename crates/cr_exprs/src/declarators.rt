@@ -18,14 +18,13 @@ use crate::arena::{
 use crate::expressions::conditional;
 use crate::fault::ParseFault;
 use crate::found::{Found, Listed, Optional};
-use crate::open_scopes::{OpenScopes, begin, give_back, taken};
-use crate::scopes::{enter_parameter, kept};
+use crate::scopes::{enter_parameter, give_back, kept, taken};
 use crate::source::{
     Source, consts, expect, is_declared, refused, room, stands, starts_abstract, starts_declarator,
 };
 use crate::specifiers::row;
 use cr_rows::Row;
-use cr_syntax::{Context, FRESH, Kind, Node, Part, Word, past_token};
+use cr_syntax::{Context, FRESH, Kind, Node, OpenScopes, Part, Word, begin, past_token};
 use std::alloc::Global;
 
 /// Which declarators may come.

@@ -13,13 +13,12 @@ ghost use Rattle.cr_exprs.specs.Parts.{chosen};
 use crate::arena::{is_unary, pair, triple};
 use crate::fault::ParseFault;
 use crate::found::Found;
-use crate::open_scopes::OpenScopes;
 use crate::operands::{grouped, unary};
 use crate::source::{Source, bar, expect, room, stands, starts_plain};
 use crate::specifiers::type_name;
 use crate::tables::{ASSIGNMENT, kind_in, operator_in, tighter};
 use cr_rows::Row;
-use cr_syntax::{Kind, Node, Part, Word};
+use cr_syntax::{Kind, Node, OpenScopes, Part, Word};
 use std::alloc::Global;
 
 /// An expression (6.5.17).

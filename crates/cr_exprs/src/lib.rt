@@ -16,7 +16,6 @@ mod found;
 mod front;
 mod goal;
 mod names;
-mod open_scopes;
 mod operands;
 mod reading;
 mod scopes;
@@ -27,14 +26,14 @@ mod tables;
 mod tests;
 
 pub use arena::{leaf, over, pair, past, push, row_of, triple};
-pub use calls::{named_declarator, read, specifier_row};
+pub use calls::{named_declarator, specifier_row};
 pub use fault::ParseFault;
 pub use found::{Found, Optional};
 pub use front::expression;
 pub use goal::Goal;
 pub use names::TypeNames;
-pub use open_scopes::{OpenScopes, begin, drop_scope, give_back, taken};
-pub use scopes::bring;
+pub use reading::read;
+pub use scopes::{bring, declare, drop_scope, give_back, taken};
 pub use source::{
     Source, barred, expect, here, is_ordinary, room, stands, starts_specifier, words_of,
 };

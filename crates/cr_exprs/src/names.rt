@@ -1,9 +1,9 @@
 ghost use Rattle.std.specs.Prelude.{◌≡◌, [], IfOk};
 ghost use Rattle.cr_exprs.specs.Names.{names_onto, scopes_of};
 
-use crate::open_scopes::{OpenScopes, give_back};
+use crate::scopes::give_back;
 use cr_rows::Row;
-use cr_syntax::{Scope, TypeName};
+use cr_syntax::{OpenScopes, Scope, TypeName};
 use std::alloc::{AllocError, Global};
 use std::collections::LinkedList;
 
@@ -18,7 +18,7 @@ impl TypeNames {
     pub fn to_scopes(&self, alloc: Global) -> Result<OpenScopes, AllocError>
         ensures { IfOk result (λ scopes. scopes ≡ scopes_of self.now) }
     {
-        let mut scopes = OpenScopes::new(alloc)?;
+        let mut scopes = LinkedList::new(alloc);
         for names in self.scopes.as_slice() {
             give_back(&mut scopes, scope_of(alloc, names.as_slice())?)?;
         }
@@ -29,13 +29,9 @@ impl TypeNames {
 fn scope_of(alloc: Global, names: &[TypeName]) -> Result<Scope, AllocError>
     ensures { IfOk result (λ scope. scope ≡ names_onto names.now []) }
 {
-    let mut scope = LinkedList::new(alloc);
+    let mut scope = Scope::new(alloc);
     for entry in names {
-        let name = Row::from_vec(entry.name.as_slice().to_vec(alloc)?);
-        scope.push_front(TypeName {
-            name,
-            is_type: entry.is_type,
-        })?;
+        scope.enter(alloc, entry.name.as_slice(), entry.is_type)?;
     }
     Ok(scope)
 }

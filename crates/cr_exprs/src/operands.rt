@@ -16,12 +16,11 @@ use crate::arena::{is_identifier, leaf, over, pair, push};
 use crate::expressions::{assignment, cast, expression};
 use crate::fault::ParseFault;
 use crate::found::{Found, Listed};
-use crate::open_scopes::OpenScopes;
 use crate::source::{Source, bar, expect, is_ordinary, refused, room, stands, starts_plain, texts};
 use crate::specifiers::type_name;
 use crate::tables::{CAST_PREFIXES, CONSTANTS, POSTFIX, UNARY_PREFIXES, kind_in};
 use cr_rows::Row;
-use cr_syntax::{Kind, Node, Word};
+use cr_syntax::{Kind, Node, OpenScopes, Word};
 use std::alloc::Global;
 
 /// A unary expression (6.5.3).

@@ -13,10 +13,9 @@ use crate::expressions::{assignment, conditional, expression};
 use crate::fault::ParseFault;
 use crate::found::Found;
 use crate::goal::Goal;
-use crate::open_scopes::OpenScopes;
 use crate::source::{Source, bar_unused};
 use cr_rows::Row;
-use cr_syntax::Node;
+use cr_syntax::{Node, OpenScopes};
 use std::alloc::Global;
 
 /// What is to be read, with no unused keyword behind it.
@@ -36,13 +35,13 @@ pub(crate) fn whole(
     ensures reads { Reads (text_of source.now) (body (whole (part_of goal) depth)) scopes.old at nodes.new scopes.new result }
     ensures placed { IfOk result (λ x. IsPlaced (length source.now.tokens.now) at nodes.old nodes.new [] x) }
 {
-    let found = started(alloc, source, goal, at, depth, scopes, nodes)?;
+    let found = read(alloc, source, goal, at, depth, scopes, nodes)?;
     bar_unused(source, found.next, depth)?;
     Ok(found)
 }
 
-/// What is to be read.
-pub(crate) fn started(
+/// What is to be read, whatever stands behind it.
+pub fn read(
     alloc: Global,
     source: &Source,
     goal: Goal,

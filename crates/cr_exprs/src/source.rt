@@ -12,8 +12,7 @@ ghost use Rattle.cr_machine.specs.MachineBody.{body};
 ghost use Rattle.cr_exprs.specs.Answers.{IsRefusal, Gives};
 
 use crate::fault::ParseFault;
-use crate::open_scopes::{OpenScopes, is_type};
-use cr_syntax::{MOST_LEVELS, Word, word_at};
+use cr_syntax::{MOST_LEVELS, OpenScopes, Word, is_type, word_at};
 use cr_tokens::Token;
 use std::alloc::{AllocError, Global};
 

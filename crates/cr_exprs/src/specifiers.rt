@@ -14,15 +14,14 @@ use crate::declarators::{Wanted, declarator};
 use crate::expressions::conditional;
 use crate::fault::ParseFault;
 use crate::found::{Found, Listed};
-use crate::open_scopes::{OpenScopes, drop_scope};
-use crate::scopes::bring;
+use crate::scopes::{bring, drop_scope};
 use crate::source::{
     Source, bar, expect, is_type_identifier, refused, room, stands, starts_abstract, starts_plain,
     starts_specifier,
 };
 use crate::tables::specifier_in;
 use cr_rows::Row;
-use cr_syntax::{Context, FRESH, Kind, Node, Part, Word, past_token};
+use cr_syntax::{Context, FRESH, Kind, Node, OpenScopes, Part, Word, past_token};
 use std::alloc::Global;
 
 /// A type name (6.7.7).

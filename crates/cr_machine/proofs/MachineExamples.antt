@@ -149,7 +149,7 @@ reads_6 = refl
 
 -- sizeof ( enum { T } ) + T : the enumerator is in scope behind itself
 reads_7 : reply (w word.Sizeof ∷ w word.LeftParen ∷ w word.Enum ∷ w word.LeftBrace ∷ id (codes "T") ∷ w word.RightBrace ∷ w word.RightParen ∷ w word.Plus ∷ id (codes "T") ∷ []) ≡
-    Some (Done (one kind.Add 0 9 (node kind.SizeofType 0 7 (one kind.EnumContent 2 6 (one kind.Enumerator 4 5 none)) (one kind.Identifier 8 9 none))) ((record { name = codes "T"; is_type = false } ∷ record { name = codes "T"; is_type = true } ∷ []) ∷ []) 9)
+    Some (Done (one kind.Add 0 9 (node kind.SizeofType 0 7 (one kind.EnumContent 2 6 (one kind.Enumerator 4 5 none)) (one kind.Identifier 8 9 none))) ((record { name = codes "T"; is_type = false } ∷ []) ∷ []) 9)
 unfolding run
 reads_7 = refl
 

@@ -31,22 +31,22 @@ unfolding run
 read_2 = refl
 
 -- typedef int T ; T x ;
-read_3 : whole nowhere (w word.Typedef ∷ w word.Int ∷ id (codes "T") ∷ w word.Semicolon ∷ id (codes "T") ∷ id (codes "x") ∷ w word.Semicolon ∷ []) ≡ Some (Done (node kind.Declaration 0 4 (node kind.Specifiers 0 2 (node kind.Typedef 0 1 none (one kind.Int 1 2 none)) (one kind.NameDeclarator 2 3 none)) (one kind.Declaration 4 7 (node kind.TypedefName 4 5 none (one kind.NameDeclarator 5 6 none)))) (in_file ((codes "x", false) ∷ (codes "T", true) ∷ [])) 7)
+read_3 : whole nowhere (w word.Typedef ∷ w word.Int ∷ id (codes "T") ∷ w word.Semicolon ∷ id (codes "T") ∷ id (codes "x") ∷ w word.Semicolon ∷ []) ≡ Some (Done (node kind.Declaration 0 4 (node kind.Specifiers 0 2 (node kind.Typedef 0 1 none (one kind.Int 1 2 none)) (one kind.NameDeclarator 2 3 none)) (one kind.Declaration 4 7 (node kind.TypedefName 4 5 none (one kind.NameDeclarator 5 6 none)))) (in_file ((codes "T", true) ∷ (codes "x", false) ∷ [])) 7)
 unfolding run
 read_3 = refl
 
 -- typedef int T ; void f ( ) { T T ; T ; }
-read_4 : whole nowhere (w word.Typedef ∷ w word.Int ∷ id (codes "T") ∷ w word.Semicolon ∷ w word.Void ∷ id (codes "f") ∷ w word.LeftParen ∷ w word.RightParen ∷ w word.LeftBrace ∷ id (codes "T") ∷ id (codes "T") ∷ w word.Semicolon ∷ id (codes "T") ∷ w word.Semicolon ∷ w word.RightBrace ∷ []) ≡ Some (Done (node kind.Declaration 0 4 (node kind.Specifiers 0 2 (node kind.Typedef 0 1 none (one kind.Int 1 2 none)) (one kind.NameDeclarator 2 3 none)) (one kind.FunctionDefinition 4 15 (node kind.Void 4 5 none (node kind.FunctionDeclarator 5 8 (one kind.NameDeclarator 5 6 none) (one kind.Compound 8 15 (node kind.Declaration 9 12 (node kind.TypedefName 9 10 none (one kind.NameDeclarator 10 11 none)) (one kind.ExpressionStatement 12 14 (one kind.Identifier 12 13 none)))))))) (in_file ((codes "f", false) ∷ (codes "T", true) ∷ [])) 15)
+read_4 : whole nowhere (w word.Typedef ∷ w word.Int ∷ id (codes "T") ∷ w word.Semicolon ∷ w word.Void ∷ id (codes "f") ∷ w word.LeftParen ∷ w word.RightParen ∷ w word.LeftBrace ∷ id (codes "T") ∷ id (codes "T") ∷ w word.Semicolon ∷ id (codes "T") ∷ w word.Semicolon ∷ w word.RightBrace ∷ []) ≡ Some (Done (node kind.Declaration 0 4 (node kind.Specifiers 0 2 (node kind.Typedef 0 1 none (one kind.Int 1 2 none)) (one kind.NameDeclarator 2 3 none)) (one kind.FunctionDefinition 4 15 (node kind.Void 4 5 none (node kind.FunctionDeclarator 5 8 (one kind.NameDeclarator 5 6 none) (one kind.Compound 8 15 (node kind.Declaration 9 12 (node kind.TypedefName 9 10 none (one kind.NameDeclarator 10 11 none)) (one kind.ExpressionStatement 12 14 (one kind.Identifier 12 13 none)))))))) (in_file ((codes "T", true) ∷ (codes "f", false) ∷ [])) 15)
 unfolding run
 read_4 = refl
 
 -- typedef int T ; void f ( int T ) { T ; }
-read_5 : whole nowhere (w word.Typedef ∷ w word.Int ∷ id (codes "T") ∷ w word.Semicolon ∷ w word.Void ∷ id (codes "f") ∷ w word.LeftParen ∷ w word.Int ∷ id (codes "T") ∷ w word.RightParen ∷ w word.LeftBrace ∷ id (codes "T") ∷ w word.Semicolon ∷ w word.RightBrace ∷ []) ≡ Some (Done (node kind.Declaration 0 4 (node kind.Specifiers 0 2 (node kind.Typedef 0 1 none (one kind.Int 1 2 none)) (one kind.NameDeclarator 2 3 none)) (one kind.FunctionDefinition 4 14 (node kind.Void 4 5 none (node kind.FunctionDeclarator 5 10 (node kind.NameDeclarator 5 6 none (one kind.Parameter 7 9 (node kind.Int 7 8 none (one kind.NameDeclarator 8 9 none)))) (one kind.Compound 10 14 (one kind.ExpressionStatement 11 13 (one kind.Identifier 11 12 none))))))) (in_file ((codes "f", false) ∷ (codes "T", true) ∷ [])) 14)
+read_5 : whole nowhere (w word.Typedef ∷ w word.Int ∷ id (codes "T") ∷ w word.Semicolon ∷ w word.Void ∷ id (codes "f") ∷ w word.LeftParen ∷ w word.Int ∷ id (codes "T") ∷ w word.RightParen ∷ w word.LeftBrace ∷ id (codes "T") ∷ w word.Semicolon ∷ w word.RightBrace ∷ []) ≡ Some (Done (node kind.Declaration 0 4 (node kind.Specifiers 0 2 (node kind.Typedef 0 1 none (one kind.Int 1 2 none)) (one kind.NameDeclarator 2 3 none)) (one kind.FunctionDefinition 4 14 (node kind.Void 4 5 none (node kind.FunctionDeclarator 5 10 (node kind.NameDeclarator 5 6 none (one kind.Parameter 7 9 (node kind.Int 7 8 none (one kind.NameDeclarator 8 9 none)))) (one kind.Compound 10 14 (one kind.ExpressionStatement 11 13 (one kind.Identifier 11 12 none))))))) (in_file ((codes "T", true) ∷ (codes "f", false) ∷ [])) 14)
 unfolding run
 read_5 = refl
 
 -- typedef int T ; int T = sizeof ( T ) ;
-read_6 : whole nowhere (w word.Typedef ∷ w word.Int ∷ id (codes "T") ∷ w word.Semicolon ∷ w word.Int ∷ id (codes "T") ∷ w word.Equal ∷ w word.Sizeof ∷ w word.LeftParen ∷ id (codes "T") ∷ w word.RightParen ∷ w word.Semicolon ∷ []) ≡ Some (Done (node kind.Declaration 0 4 (node kind.Specifiers 0 2 (node kind.Typedef 0 1 none (one kind.Int 1 2 none)) (one kind.NameDeclarator 2 3 none)) (one kind.Declaration 4 12 (node kind.Int 4 5 none (one kind.InitDeclarator 5 11 (node kind.NameDeclarator 5 6 none (one kind.SizeofExpression 7 11 (one kind.Group 8 11 (one kind.Identifier 9 10 none)))))))) (in_file ((codes "T", false) ∷ (codes "T", true) ∷ [])) 12)
+read_6 : whole nowhere (w word.Typedef ∷ w word.Int ∷ id (codes "T") ∷ w word.Semicolon ∷ w word.Int ∷ id (codes "T") ∷ w word.Equal ∷ w word.Sizeof ∷ w word.LeftParen ∷ id (codes "T") ∷ w word.RightParen ∷ w word.Semicolon ∷ []) ≡ Some (Done (node kind.Declaration 0 4 (node kind.Specifiers 0 2 (node kind.Typedef 0 1 none (one kind.Int 1 2 none)) (one kind.NameDeclarator 2 3 none)) (one kind.Declaration 4 12 (node kind.Int 4 5 none (one kind.InitDeclarator 5 11 (node kind.NameDeclarator 5 6 none (one kind.SizeofExpression 7 11 (one kind.Group 8 11 (one kind.Identifier 9 10 none)))))))) (in_file ((codes "T", false) ∷ [])) 12)
 unfolding run
 read_6 = refl
 
@@ -81,7 +81,7 @@ unfolding run
 read_12 = refl
 
 -- int * p , q = 1 ;
-read_13 : whole nowhere (w word.Int ∷ w word.Star ∷ id (codes "p") ∷ w word.Comma ∷ id (codes "q") ∷ w word.Equal ∷ w word.Integer ∷ w word.Semicolon ∷ []) ≡ Some (Done (one kind.Declaration 0 8 (node kind.Int 0 1 none (node kind.PointerDeclarator 1 3 (one kind.NameDeclarator 2 3 none) (one kind.InitDeclarator 4 7 (node kind.NameDeclarator 4 5 none (one kind.Integer 6 7 none)))))) (in_file ((codes "q", false) ∷ (codes "p", false) ∷ [])) 8)
+read_13 : whole nowhere (w word.Int ∷ w word.Star ∷ id (codes "p") ∷ w word.Comma ∷ id (codes "q") ∷ w word.Equal ∷ w word.Integer ∷ w word.Semicolon ∷ []) ≡ Some (Done (one kind.Declaration 0 8 (node kind.Int 0 1 none (node kind.PointerDeclarator 1 3 (one kind.NameDeclarator 2 3 none) (one kind.InitDeclarator 4 7 (node kind.NameDeclarator 4 5 none (one kind.Integer 6 7 none)))))) (in_file ((codes "p", false) ∷ (codes "q", false) ∷ [])) 8)
 unfolding run
 read_13 = refl
 

@@ -5,6 +5,8 @@ pub mod Equations
 pub mod Ranks
 pub mod Complete
 pub mod Arena
+pub mod Names
+pub mod Latest
 pub mod Statements
 pub mod Readings
 pub mod Checked

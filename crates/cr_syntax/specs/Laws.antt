@@ -1,11 +1,12 @@
 -- What is proved of the grammar's table, of reading a tree by it, and of the tokens that it is read against.
-use Rattle.std.specs.Prelude.{◌≡◌, ℕ, List, Some, length}
+use Rattle.std.specs.Prelude.{◌≡◌, ◌≢◌, ℕ, List, Some, length}
 use Rattle.cr_tokens.specs.declared.token.Token.{Token}
 use Rattle.cr_tokens.specs.Tokens.{Tokenizes}
 use Rattle.cr_syntax.specs.declared.node.Kind.{Kind}
 use Rattle.cr_syntax.specs.declared.symbol.Part.{Part}
 use Rattle.cr_syntax.specs.Words.{Lexeme, AreSpans}
-use Rattle.cr_syntax.specs.Scopes.{Scopes}
+use Rattle.cr_syntax.specs.declared.scopes.TypeName.{TypeName}
+use Rattle.cr_syntax.specs.Scopes.{Scopes, is_type, enter}
 use Rattle.cr_syntax.specs.Trees.{Trees}
 use Rattle.cr_syntax.specs.Context.{fresh}
 use Rattle.cr_syntax.specs.Grammar.{Side, Alternative}
@@ -33,6 +34,14 @@ ReadIsUnit = (ts : List Lexeme) (t : Trees) (after : Scopes) → IsRead ts t aft
 -- a unit is read
 abbrev pub UnitIsRead : Type 0
 UnitIsRead = (ts : List Lexeme) (t : Trees) → IsUnit (AtMost most_levels) ts t → (after : Scopes) × IsRead ts t after
+
+-- the latest declaration of a name in the innermost scope decides whether it is a type
+abbrev pub LatestDecides : Type 0
+LatestDecides = (n : TypeName) (c : Scopes) → is_type (enter n c) n.name ≡ n.is_type
+
+-- a declaration bears on no other name
+abbrev pub OthersStay : Type 0
+OthersStay = (n : TypeName) (c : Scopes) (s : List ℕ) → s ≢ n.name → is_type (enter n c) s ≡ is_type c s
 
 -- the tokens of a file are parts of it
 abbrev pub TokensAreSpans : Type 0

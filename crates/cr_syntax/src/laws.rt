@@ -1,4 +1,4 @@
-ghost use Rattle.cr_syntax.specs.Laws.{TableIsGrammar, GrammarIsTable, ReadIsUnit, UnitIsRead, TokensAreSpans};
+ghost use Rattle.cr_syntax.specs.Laws.{TableIsGrammar, GrammarIsTable, ReadIsUnit, UnitIsRead, LatestDecides, OthersStay, TokensAreSpans};
 
 /// A law: the table of right sides is the grammar, alternative by alternative.
 pub fn table_is_grammar()
@@ -10,6 +10,12 @@ pub fn table_is_grammar()
 pub fn reading_is_spelling()
     ensures sound { ReadIsUnit }
     ensures complete { UnitIsRead }
+{}
+
+/// A law: of the declarations of a name in one scope the latest decides whether it is a type, and it bears on no other name.
+pub fn latest_declaration_decides()
+    ensures latest { LatestDecides }
+    ensures others { OthersStay }
 {}
 
 /// A law: the tokens of a file are parts of it, as `word_at` and `spells_unit` ask.

@@ -33,10 +33,12 @@ mod unit_tests;
 mod word;
 
 pub use checker::{NoMemory, spells_unit};
-pub use laws::{reading_is_spelling, table_is_grammar, tokens_are_spans};
+pub use laws::{
+    latest_declaration_decides, reading_is_spelling, table_is_grammar, tokens_are_spans,
+};
 pub use node::{Kind, Node};
 pub use place::MOST_LEVELS;
-pub use scopes::{Scope, TypeName, begin, enter, is_type};
+pub use scopes::{OpenScopes, Scope, TypeName, begin, enter, is_type};
 pub use shape::{FRESH, ends_open, first, is_bare, past_node, past_token, rest_of};
 pub use symbol::{Context, Depth, Part, Symbol};
 pub use typed::{CType, Shape, Typed};

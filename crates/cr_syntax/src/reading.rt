@@ -10,14 +10,13 @@ use crate::chains::{Link, step};
 use crate::node::Node;
 use crate::place::Place;
 use crate::rules::side;
-use crate::scopes::{Scope, begin, enter};
+use crate::scopes::{OpenScopes, Scope, begin, enter};
 use crate::shape::{first, fits_together, may_stand, past_node};
 use crate::source::{Source, is_word, spelling};
 use crate::symbol::{Depth, Part, Symbol};
 use crate::turn::{Turn, enter_declared, turn_at};
 use crate::word::Word;
 use std::alloc::{AllocError, Global};
-use std::collections::LinkedList;
 
 /// More links than any chain of parts has.
 const MOST_LINKS: usize = 20;
@@ -30,7 +29,7 @@ pub fn read(
     source: &Source,
     ahead: &Ahead,
     place: Place,
-    scopes: &mut LinkedList<Scope>,
+    scopes: &mut OpenScopes,
 ) -> Result<bool, AllocError>
     requires { CanRead source.now ahead.now.row.now ahead.now.bound place.depth }
     ensures { Agrees result scopes.new (read_of source.now ahead.now place scopes.old) }
@@ -56,7 +55,7 @@ fn follow(
     symbol: Symbol,
     ahead: &Ahead,
     place: Place,
-    scopes: &mut LinkedList<Scope>,
+    scopes: &mut OpenScopes,
 ) -> Result<bool, AllocError>
     requires { CanRead source.now ahead.now.row.now ahead.now.bound place.depth }
     ensures { Agrees result scopes.new (read_from source.now symbol ahead.now place scopes.old) }
@@ -96,7 +95,7 @@ fn part(
     at: usize,
     ahead: &Ahead,
     place: Place,
-    scopes: &mut LinkedList<Scope>,
+    scopes: &mut OpenScopes,
 ) -> Result<bool, AllocError>
     requires { CanRead source.now ahead.now.row.now ahead.now.bound place.depth }
     ensures { Agrees result scopes.new (part_on (text_of source.now) (trees_in source.now ahead.now) ahead.now.side.now place.context place.depth place.end
@@ -125,7 +124,7 @@ fn many(
     p: Part,
     ahead: &Ahead,
     place: Place,
-    scopes: &mut LinkedList<Scope>,
+    scopes: &mut OpenScopes,
 ) -> Result<bool, AllocError>
     requires { CanRead source.now ahead.now.row.now ahead.now.bound place.depth }
     ensures { Agrees result scopes.new (read_from source.now (Symbol.Many depth p) ahead.now place scopes.old) }
@@ -151,7 +150,7 @@ fn list(
     p: Part,
     ahead: &Ahead,
     place: Place,
-    scopes: &mut LinkedList<Scope>,
+    scopes: &mut OpenScopes,
 ) -> Result<bool, AllocError>
     requires { CanRead source.now ahead.now.row.now ahead.now.bound place.depth }
     ensures { Agrees result scopes.new (read_from source.now (Symbol.List depth p) ahead.now place scopes.old) }
@@ -181,7 +180,7 @@ fn clause(
     fits: bool,
     ahead: &Ahead,
     place: Place,
-    scopes: &mut LinkedList<Scope>,
+    scopes: &mut OpenScopes,
 ) -> Result<bool, AllocError>
     requires { CanRead source.now ahead.now.row.now ahead.now.bound place.depth }
     ensures { Agrees result scopes.new (before_on (text_of source.now) (trees_in source.now ahead.now) word fits ahead.now.side.now place.context place.depth place.end
@@ -215,7 +214,7 @@ fn enumerator(
     source: &Source,
     ahead: &Ahead,
     place: Place,
-    scopes: &mut LinkedList<Scope>,
+    scopes: &mut OpenScopes,
 ) -> Result<bool, AllocError>
     requires { CanRead source.now ahead.now.row.now ahead.now.bound place.depth }
     ensures { Agrees result scopes.new (read_from source.now Symbol.Enumerates ahead.now place scopes.old) }
@@ -238,7 +237,7 @@ fn otherwise(
     at: usize,
     ahead: &Ahead,
     place: Place,
-    scopes: &mut LinkedList<Scope>,
+    scopes: &mut OpenScopes,
 ) -> Result<bool, AllocError>
     requires { CanRead source.now ahead.now.row.now ahead.now.bound place.depth }
     ensures { Agrees result scopes.new (else_on (text_of source.now) (trees_in source.now ahead.now) ahead.now.side.now place.context place.depth place.end
@@ -269,7 +268,7 @@ fn prototype(
     source: &Source,
     ahead: &Ahead,
     place: Place,
-    scopes: &mut LinkedList<Scope>,
+    scopes: &mut OpenScopes,
 ) -> Result<bool, AllocError>
     requires { CanRead source.now ahead.now.row.now ahead.now.bound place.depth }
     ensures { Agrees result scopes.new (prototype_from (text_of source.now) (trees_in source.now ahead.now) ahead.now.side.now place.context scopes.old place.depth place.at place.end) }
@@ -310,7 +309,7 @@ fn size(
     source: &Source,
     ahead: &Ahead,
     place: Place,
-    scopes: &mut LinkedList<Scope>,
+    scopes: &mut OpenScopes,
 ) -> Result<bool, AllocError>
     requires { CanRead source.now ahead.now.row.now ahead.now.bound place.depth }
     ensures { Agrees result scopes.new (size_from (text_of source.now) (trees_in source.now ahead.now) ahead.now.side.now place.context scopes.old place.depth place.at place.end) }
@@ -341,7 +340,7 @@ fn lead(
     p: Part,
     ahead: &Ahead,
     place: Place,
-    scopes: &mut LinkedList<Scope>,
+    scopes: &mut OpenScopes,
 ) -> Result<bool, AllocError>
     requires readable { IsReadable source.now }
     requires row { AreBelow ahead.now.row.now ahead.now.bound }
@@ -379,7 +378,7 @@ fn as_part(
     links: usize,
     p: Part,
     place: Place,
-    scopes: &mut LinkedList<Scope>,
+    scopes: &mut OpenScopes,
 ) -> Result<bool, AllocError>
     requires { CanRead source.now node.now.parts bound place.depth }
     ensures { Agrees result scopes.new (part_of_node source.now node.now links p place scopes.old) }
@@ -426,7 +425,7 @@ fn declarator(
     bound: usize,
     links: usize,
     place: Place,
-    scopes: &mut LinkedList<Scope>,
+    scopes: &mut OpenScopes,
 ) -> Result<bool, AllocError>
     requires { CanRead source.now node.now.parts bound place.depth }
     ensures { Agrees result scopes.new (dropped (part_of_node source.now node.now links Part.Declarator place scopes.old)) }
@@ -454,7 +453,7 @@ fn made(
     node: &Node,
     bound: usize,
     place: Place,
-    scopes: &mut LinkedList<Scope>,
+    scopes: &mut OpenScopes,
 ) -> Result<bool, AllocError>
     requires { CanRead source.now node.now.parts bound place.depth }
     ensures { Agrees result scopes.new (made_of source.now node.now place scopes.old) }

@@ -1,9 +1,11 @@
 ghost use Rattle.std.specs.Prelude.{◌≡◌, ◌∷◌, [], OnOk, IfSome, IfNone, ◌++◌, option_to_list};
-ghost use Rattle.cr_syntax.specs.Scopes.{is_type, said_of, enter};
+ghost use Rattle.cr_syntax.specs.Scopes.{is_type, said_of, put, enter};
 
 use cr_rows::Row;
+use indexmap::IndexMap;
 use std::alloc::{AllocError, Global};
 use std::collections::LinkedList;
+use std::marker::Model;
 
 /// An identifier that a scope declares, and whether it is a typedef name there.
 #[derive(Drop, Debug)]
@@ -12,57 +14,86 @@ pub struct TypeName {
     pub is_type: bool,
 }
 
-/// The names that a scope declares, the latest first.
-pub type Scope = LinkedList<TypeName>;
+/// The names that a scope declares, each once, in the order of their first declarations. A clause sees the list of them.
+#[derive(Drop)]
+pub struct Scope {
+    names: IndexMap<Vec<u8>, bool>,
+}
 
-/// Whether the scopes, the innermost first, make an identifier a type.
-pub fn is_type(scopes: &LinkedList<Scope>, spelling: &[u8]) -> bool
+impl Model for Scope {
+    ghost use Rattle.std.specs.Prelude.{List};
+    ghost use Rattle.std.specs.Coded.{coded_list};
+    ghost use Rattle.cr_syntax.specs.declared.scopes.TypeName as type_name;
+    ghost use Rattle.cr_syntax.specs.Scopes.{names_in};
+
+    ghost Value = { List type_name.TypeName };
+
+    ghost view = { λ scope. names_in scope.names.entries };
+}
+
+/// The scopes that are open, the innermost first.
+pub type OpenScopes = LinkedList<Scope>;
+
+impl Scope {
+    /// A scope with nothing declared.
+    pub fn new(alloc: Global) -> Scope
+        ensures { result ≡ [] }
+    {
+        Scope {
+            names: IndexMap::new(alloc),
+        }
+    }
+
+    /// Declares a name. The error is want of memory.
+    pub fn enter(&mut self, alloc: Global, spelling: &[u8], is_type: bool) -> Result<(), AllocError>
+        ensures { OnOk result (self.new ≡ put (record { name = spelling.now; is_type = is_type }) self.old) }
+    {
+        self.names.insert(spelling.to_vec(alloc)?, is_type)?;
+        Ok(())
+    }
+
+    fn said(&self, spelling: &[u8]) -> Option<bool>
+        ensures { result ≡ said_of self.now spelling.now }
+    {
+        self.names.get(spelling).copied()
+    }
+}
+
+/// Whether the scopes make an identifier a type.
+pub fn is_type(scopes: &OpenScopes, spelling: &[u8]) -> bool
     ensures { result ≡ is_type scopes.now spelling.now }
 {
     let mut left = scopes.iter();
     while let Some(scope) = left.next() {
-        if let Some(found) = said(scope, spelling) {
+        if let Some(found) = scope.said(spelling) {
             return found;
         }
     }
     false
 }
 
-fn said(scope: &Scope, spelling: &[u8]) -> Option<bool>
-    ensures { result ≡ said_of scope.now spelling.now }
-{
-    let mut left = scope.iter();
-    while let Some(entry) = left.next() {
-        if entry.name.as_slice() == spelling {
-            return Some(entry.is_type);
-        }
-    }
-    None
-}
-
 /// Puts a name into the innermost scope. The error is want of memory.
 pub fn enter(
     alloc: Global,
-    scopes: &mut LinkedList<Scope>,
+    scopes: &mut OpenScopes,
     spelling: &[u8],
     is_type: bool,
 ) -> Result<(), AllocError>
     ensures { OnOk result (scopes.new ≡ enter (record { name = spelling.now; is_type = is_type }) scopes.old) }
 {
-    let name = Row::from_vec(spelling.to_vec(alloc)?);
     let mut scope = match scopes.pop_front() {
         Some(scope) => scope,
-        None => LinkedList::new(alloc),
+        None => Scope::new(alloc),
     };
-    scope.push_front(TypeName { name, is_type })?;
+    scope.enter(alloc, spelling, is_type)?;
     scopes.push_front(scope)?;
     Ok(())
 }
 
 /// Opens a scope with nothing declared. The error is want of memory.
-pub fn begin(alloc: Global, scopes: &mut LinkedList<Scope>) -> Result<(), AllocError>
+pub fn begin(alloc: Global, scopes: &mut OpenScopes) -> Result<(), AllocError>
     ensures { OnOk result (scopes.new ≡ [] ∷ scopes.old) }
 {
-    scopes.push_front(LinkedList::new(alloc))?;
+    scopes.push_front(Scope::new(alloc))?;
     Ok(())
 }

@@ -10,13 +10,12 @@ ghost use Rattle.cr_syntax.specs.Answers.{IsReadable, TurnsTo, text_of, trees_in
 
 use crate::ahead::{Ahead, first_of, is_none, leads_declaration};
 use crate::place::Place;
-use crate::scopes::{Scope, begin, enter, is_type};
+use crate::scopes::{OpenScopes, begin, enter, is_type};
 use crate::shape::begins_at;
 use crate::source::{Source, is_word, span_is, spelling};
 use crate::symbol::{Context, Depth, Part, Symbol};
 use crate::word::Word;
 use std::alloc::{AllocError, Global};
-use std::collections::LinkedList;
 
 /// What a symbol comes to before a part is read.
 #[derive(Clone, Copy)]
@@ -130,7 +129,7 @@ fn comma_turn(source: &Source, place: Place) -> Turn
     past(next, is_word(source, next.at, Word::RightBrace), true)
 }
 
-fn ordinary_turn(source: &Source, place: Place, scopes: &LinkedList<Scope>) -> Turn
+fn ordinary_turn(source: &Source, place: Place, scopes: &OpenScopes) -> Turn
     requires { IsReadable source.now }
     ensures { (a : Ahead) → TurnsTo source.now Symbol.Ordinary a place scopes.now scopes.now result }
 {
@@ -138,7 +137,7 @@ fn ordinary_turn(source: &Source, place: Place, scopes: &LinkedList<Scope>) -> T
     past(place, is_word(source, place.at, Word::Identifier), !is_type)
 }
 
-fn type_turn(source: &Source, place: Place, scopes: &LinkedList<Scope>) -> Turn
+fn type_turn(source: &Source, place: Place, scopes: &OpenScopes) -> Turn
     requires { IsReadable source.now }
     ensures { (a : Ahead) → TurnsTo source.now Symbol.TypeIdentifier a place scopes.now scopes.now result }
 {
@@ -151,7 +150,7 @@ fn type_turn(source: &Source, place: Place, scopes: &LinkedList<Scope>) -> Turn
 }
 
 /// Whether an identifier here is a type: the scopes make it one, and nothing before it says that it is a name.
-fn names_type(source: &Source, place: Place, scopes: &LinkedList<Scope>) -> bool
+fn names_type(source: &Source, place: Place, scopes: &OpenScopes) -> bool
     requires { IsReadable source.now }
     ensures { result ≡ is_type scopes.now (spelling_at (text_of source.now) place.at) && not place.context.typed }
 {
@@ -162,7 +161,7 @@ fn declared_turn(
     alloc: Global,
     source: &Source,
     place: Place,
-    scopes: &mut LinkedList<Scope>,
+    scopes: &mut OpenScopes,
 ) -> Result<Turn, AllocError>
     requires { IsReadable source.now }
     ensures { IfOk result (λ r. (a : Ahead) → TurnsTo source.now Symbol.Declared a place scopes.old scopes.new r) }
@@ -177,7 +176,7 @@ fn declared_turn(
 }
 
 /// Whether an identifier here can be declared: something before it says that it is a name, or no scope makes it a type.
-fn may_declare(source: &Source, place: Place, scopes: &LinkedList<Scope>) -> bool
+fn may_declare(source: &Source, place: Place, scopes: &OpenScopes) -> bool
     requires { IsReadable source.now }
     ensures { result ≡ place.context.typed || not (is_type scopes.now (spelling_at (text_of source.now) place.at)) }
 {
@@ -189,7 +188,7 @@ pub fn enter_declared(
     alloc: Global,
     source: &Source,
     context: Context,
-    scopes: &mut LinkedList<Scope>,
+    scopes: &mut OpenScopes,
 ) -> Result<(), AllocError>
     requires { IsReadable source.now }
     ensures { OnOk result (scopes.new ≡ enter (declared_name (text_of source.now) context) scopes.old) }
@@ -206,7 +205,7 @@ fn enters_turn(
     alloc: Global,
     source: &Source,
     place: Place,
-    scopes: &mut LinkedList<Scope>,
+    scopes: &mut OpenScopes,
 ) -> Result<Turn, AllocError>
     requires { IsReadable source.now }
     ensures { IfOk result (λ r. (a : Ahead) → TurnsTo source.now Symbol.Enters a place scopes.old scopes.new r) }
@@ -221,18 +220,14 @@ fn enters_turn(
     }
 }
 
-fn begins_turn(
-    alloc: Global,
-    place: Place,
-    scopes: &mut LinkedList<Scope>,
-) -> Result<Turn, AllocError>
+fn begins_turn(alloc: Global, place: Place, scopes: &mut OpenScopes) -> Result<Turn, AllocError>
     ensures { IfOk result (λ r. (s : Source) (a : Ahead) → TurnsTo s Symbol.Begins a place scopes.old scopes.new r) }
 {
     begin(alloc, scopes)?;
     Ok(Turn::Goes(place.context, place.at))
 }
 
-fn ends_turn(place: Place, scopes: &mut LinkedList<Scope>) -> Turn
+fn ends_turn(place: Place, scopes: &mut OpenScopes) -> Turn
     ensures { (s : Source) (a : Ahead) → TurnsTo s Symbol.Ends a place scopes.old scopes.new result }
 {
     match scopes.pop_front() {
@@ -381,7 +376,7 @@ pub fn turn_at(
     symbol: Symbol,
     ahead: &Ahead,
     place: Place,
-    scopes: &mut LinkedList<Scope>,
+    scopes: &mut OpenScopes,
 ) -> Result<Turn, AllocError>
     requires readable { IsReadable source.now }
     requires row { AreBelow ahead.now.row.now (length source.now.nodes.now) }

@@ -4,20 +4,20 @@ use Rattle.cr_exprs.proofs.Grammar.{refusal_on}
 use Rattle.cr_decls.proofs.Units.{unit_kept, tree_of, only_of, first_of}
 use Rattle.cr_decls.proofs.front.parse.Goals as goal
 
-pub new-requires-2-clause-within : goal.new-requires-2-clause-within
-new-requires-2-clause-within c = (unit_kept (length c.in_ok-list.list.items) _ _ _ _ c.new-nodes.ensures (omega (arith, c.in_ok-list.ensures.len)) c.in_ok-items.ensures.kept).within
+pub new-requires-clause-within : goal.new-requires-clause-within
+new-requires-clause-within c = (unit_kept (length c.in_ok-list.list.items) _ _ _ _ c.new-nodes.ensures (omega (arith, c.in_ok-list.ensures.len)) c.in_ok-items.ensures.kept).within
 
-pub new-requires-2-clause-named_once : goal.new-requires-2-clause-named_once
-new-requires-2-clause-named_once c = (unit_kept (length c.in_ok-list.list.items) _ _ _ _ c.new-nodes.ensures (omega (arith, c.in_ok-list.ensures.len)) c.in_ok-items.ensures.kept).named_once
+pub new-requires-clause-named_once : goal.new-requires-clause-named_once
+new-requires-clause-named_once c = (unit_kept (length c.in_ok-list.list.items) _ _ _ _ c.new-nodes.ensures (omega (arith, c.in_ok-list.ensures.len)) c.in_ok-items.ensures.kept).named_once
 
-pub new-requires-2-clause-items_are_nodes : goal.new-requires-2-clause-items_are_nodes
-new-requires-2-clause-items_are_nodes c = (unit_kept (length c.in_ok-list.list.items) _ _ _ _ c.new-nodes.ensures (omega (arith, c.in_ok-list.ensures.len)) c.in_ok-items.ensures.kept).are_nodes
+pub new-requires-clause-items_are_nodes : goal.new-requires-clause-items_are_nodes
+new-requires-clause-items_are_nodes c = (unit_kept (length c.in_ok-list.list.items) _ _ _ _ c.new-nodes.ensures (omega (arith, c.in_ok-list.ensures.len)) c.in_ok-items.ensures.kept).are_nodes
 
 pub returns-clause-only : goal.returns-clause-only
-returns-clause-only c = only_of (ap (lexemes_of c.args.file.now) c.as_slice-list.ensures.value) (let a = c.in_ok-begin.ensures in let b = c.in_ok-scopes.ensures in cc) (let a = c.new-2.ensures.nodes in let b = c.new-2.ensures.items in cc) c.in_ok-items.ensures.reads.is.run
+returns-clause-only c = only_of (ap (lexemes_of c.args.file.now) c.as_slice-list.ensures.value) (let a = c.in_ok-begin.ensures in let b = c.new-scopes.ensures in cc) (let a = c.new.ensures.nodes in let b = c.new.ensures.items in cc) c.in_ok-items.ensures.reads.is.run
 
 pub returns-in_err-items-clause-refused : goal.returns-in_err-items-clause-refused
-returns-in_err-items-clause-refused c = refusal_on c.from_residual-in_err-items.result _ _ c.from_residual-in_err-items.ensures.1 (first_of (ap (lexemes_of c.args.file.now) c.as_slice-list.ensures.value) (let a = c.in_ok-begin.ensures in let b = c.in_ok-scopes.ensures in cc) c.in_err-items.ensures.reads.is)
+returns-in_err-items-clause-refused c = refusal_on c.from_residual-in_err-items.result _ _ c.from_residual-in_err-items.ensures.1 (first_of (ap (lexemes_of c.args.file.now) c.as_slice-list.ensures.value) (let a = c.in_ok-begin.ensures in let b = c.new-scopes.ensures in cc) c.in_err-items.ensures.reads.is)
 
 pub returns-clause-tree : goal.returns-clause-tree
-returns-clause-tree c = tree_of (ap (lexemes_of c.args.file.now) c.as_slice-list.ensures.value) (let a = c.in_ok-begin.ensures in let b = c.in_ok-scopes.ensures in cc) (let a = c.new-2.ensures.nodes in let b = c.new-2.ensures.items in cc) c.in_ok-items.ensures.reads.is.run
+returns-clause-tree c = tree_of (ap (lexemes_of c.args.file.now) c.as_slice-list.ensures.value) (let a = c.in_ok-begin.ensures in let b = c.new-scopes.ensures in cc) (let a = c.new.ensures.nodes in let b = c.new.ensures.items in cc) c.in_ok-items.ensures.reads.is.run
