@@ -1,11 +1,10 @@
 -- What a map of names says and takes is what the list of its names does.
-use Rattle.std.proofs.Common.{◌≡◌, ap, refl, sym, ◌∙◌, ℕ, nat_eq, Bool, true, false, List, [], ◌∷◌}
+use Rattle.std.proofs.Common.{◌≡◌, ap, refl, sym, ℕ, Bool, true, false, List, [], ◌∷◌}
 use Rattle.std.specs.Str.{bytes_eq}
 use Rattle.std.specs.Map.{lookup}
 use Rattle.std.specs.declared.vec.Vec.{Vec}
 use Rattle.std.proofs.lemmas.Slice.Eq.{bytes_eq-Decides}
 use Rattle.indexmap.specs.IndexMap.{insert_entry}
-use Rattle.cr_syntax.specs.declared.scopes.TypeName.{TypeName}
 use Rattle.cr_syntax.specs.Scopes.{said_of, put, names_in}
 
 module _ {A : Type 0} where
