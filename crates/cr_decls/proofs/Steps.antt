@@ -14,7 +14,8 @@ use Rattle.cr_exprs.specs.declared.fault.ParseFault.{ParseFault}
 use Rattle.cr_exprs.specs.declared.found.Found.{Found}
 use Rattle.cr_exprs.specs.Loose.{AreKept}
 use Rattle.cr_exprs.specs.Answers.{RunsTo, Comes, Gives, Goes, Keeps, IsPlaced, IsGrown, tree}
-use Rattle.cr_exprs.proofs.Nodes.{row_kept, trees_append, trees_none}
+use Rattle.cr_exprs.proofs.Nodes.{row_kept}
+use Rattle.cr_machine.proofs.MachineSpells.{and_none, and_and}
 use Rattle.cr_exprs.proofs.Loose.{times_append, kept_as}
 use Rattle.cr_decls.specs.declared.labels.Labels.{Labels}
 use Rattle.cr_decls.specs.declared.labels.Labels.TheVariants.{OwnBlock, Nowhere}
@@ -49,12 +50,12 @@ unlabelled_in OwnBlock (run_unseen h r) =
 -- the last clause of a `for`: an expression or none
 pub step_shift : {ts : List Lexeme} {c : Scopes} {i : ℕ} {y : Reply} (d s : ℕ) (x t : Trees) (nodes : List Node) (o : Option ℕ) →
     RunsTo ts (for_body m.nowhere d s (x & t & row_in nodes (option_to_list o))) c i y → RunsTo ts (with_step (for_body m.nowhere d s (x & t)) (λ u. for_body m.nowhere d s (x & t & u & none)) nodes o) c i y
-step_shift {ts} {c} {i} {y} d s x t nodes None h = subst (λ u. RunsTo ts (for_body m.nowhere d s (x & u)) c i y) (trees_none t) h
+step_shift {ts} {c} {i} {y} d s x t nodes None h = subst (λ u. RunsTo ts (for_body m.nowhere d s (x & u)) c i y) (and_none t) h
 step_shift d s x t nodes (Some n) h = h
 
 row_append : (ns : List Node) (ps qs : List ℕ) → row_in ns (ps ++ qs) ≡ row_in ns ps & row_in ns qs
 row_append ns [] qs = refl
-row_append ns (p ∷ ps) qs = ap (λ x. tree ns p & x) (row_append ns ps qs) ∙ sym (trees_append (tree ns p) (row_in ns ps) (row_in ns qs))
+row_append ns (p ∷ ps) qs = ap (λ x. tree ns p & x) (row_append ns ps qs) ∙ sym (and_and (tree ns p) (row_in ns ps) (row_in ns qs))
 
 -- the parts of a `for`
 pub loop_row : (n0 n1 n2 n3 : List Node) (f g h : List ℕ) (k : ℕ) (ps : List ℕ) → Keeps n0 n3 → Keeps n1 n3 → Keeps n2 n3 → AreBelow f (length n0) → AreBelow g (length n1) → AreBelow h (length n2) → ps ≡ f ++ g ++ h ++ k ∷ [] →
@@ -66,7 +67,7 @@ loop_row n0 n1 n2 n3 f g h k ps k0 k1 k2 b0 b1 b2 q =
     let all = row_append n3 (f ++ g ++ h) (k ∷ []) in
     let three = row_append n3 (f ++ g) h in
     let two = row_append n3 f g in
-    let u = trees_append (row_in n0 f) (row_in n1 g) (row_in n2 h) in
+    let u = and_and (row_in n0 f) (row_in n1 g) (row_in n2 h) in
     rw q (all ∙ ap (λ x. x & tree n3 k & none) (three ∙ rw (two, e0, e1, e2) u))
 
 below_append : (ps qs : List ℕ) (n : ℕ) → AreBelow ps n → AreBelow qs n → AreBelow (ps ++ qs) n

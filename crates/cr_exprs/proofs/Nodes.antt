@@ -13,6 +13,7 @@ use Rattle.cr_syntax.specs.declared.node.Node.{Node}
 use Rattle.cr_syntax.specs.Kept.{PartsAreBelow, AreBelow, row_in}
 use Rattle.cr_syntax.specs.Trees.{Trees, none, node, one, ◌&◌, tree_of, grown, trees_of}
 use Rattle.cr_syntax.proofs.Arena.{tree_at}
+use Rattle.cr_machine.proofs.MachineSpells.{and_and}
 use Rattle.cr_exprs.specs.declared.fault.ParseFault.{ParseFault}
 use Rattle.cr_exprs.specs.declared.found.Found.{Found}
 use Rattle.cr_exprs.specs.Answers.{tree, Keeps, IsRow}
@@ -70,21 +71,10 @@ keeps_none ns = record { longer = omega arith; same = λ k lt. refl }
 pub tree_read : (ns : List Node) (k : ℕ) (n : Node) → PartsAreBelow ns → k < length ns → n ≡ get_or ns k n → tree ns k ≡ one n.kind n.first (n.last + 1) (row_in ns n.parts)
 tree_read ns k n f lt q = tree_at ns f k n (slice_get_read ns (length ns) k n refl lt q)
 
-pub parts_read : (ns : List Node) (k : ℕ) (n : Node) → PartsAreBelow ns → k < length ns → n ≡ get_or ns k n → AreBelow n.parts (length ns)
-parts_read ns k n f lt q i h = let below = f k n (slice_get_read ns (length ns) k n refl lt q) i h in omega arith
-
-pub trees_append : (a b c : Trees) → (a & b) & c ≡ a & (b & c)
-trees_append none b c = refl
-trees_append (node k i j a n) b c = ap (node k i j a) (trees_append n b c)
-
-pub trees_none : (a : Trees) → a & none ≡ a
-trees_none none = refl
-trees_none (node k i j a n) = ap (node k i j a) (trees_none n)
-
 -- the trees of a row with one number more
 pub row_push : (ns : List Node) (ps : List ℕ) (p : ℕ) → row_in ns (ps ++ p ∷ []) ≡ row_in ns ps & tree ns p & none
 row_push ns [] p = refl
-row_push ns (q ∷ ps) p = let h = row_push ns ps p in let e = trees_append (tree ns q) (row_in ns ps) (tree ns p & none) in cc
+row_push ns (q ∷ ps) p = let h = row_push ns ps p in let e = and_and (tree ns q) (row_in ns ps) (tree ns p & none) in cc
 
 pub node_at : (ns : List Node) (k : ℕ) → k < length ns → (n : Node) × (slice_get ns k ≡ Some n)
 node_at [] k lt = absurd (omega arith)
@@ -112,11 +102,6 @@ pub below_front : (new old : List Node) → Keeps new old → PartsAreBelow old 
 below_front new old h f k n q = f k n (h.same k (slice_get_within new k n q) ∙ q)
 
 -- rows of one number, and of more
-pub lone : (ns : List Node) (ps : List ℕ) (d : ℕ) → length ps ≡ 1 → row_in ns ps ≡ tree ns (get_or ps 0 d) & none
-lone ns [] d q = absurd (omega arith)
-lone ns (p ∷ []) d q = refl
-lone ns (p ∷ r ∷ ps) d q = absurd (omega arith)
-
 pub in_row_lone : (part : Part) (s e : ℕ) (ns : List Node) (ps : List ℕ) (d : ℕ) → PartsAreBelow ns → length ps ≡ 1 → AreBelow ps (length ns) → tree ns (get_or ps 0 d) ≡ in_row part s e (row_in ns ps)
 in_row_lone part s e ns [] d f q b = absurd (omega arith)
 in_row_lone part s e ns (p ∷ []) d f q b = let w = tree_is ns p f (b 0 (omega arith)) in rw (w.1) refl
