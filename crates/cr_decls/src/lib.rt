@@ -16,7 +16,5 @@ mod names;
 mod simple;
 mod start;
 mod statements;
-#[cfg(test)]
-mod tests;
 
 pub use front::parse;

@@ -22,8 +22,6 @@ mod scopes;
 mod source;
 mod specifiers;
 mod tables;
-#[cfg(test)]
-mod tests;
 
 pub use arena::{leaf, over, pair, past, push, row_of, triple};
 pub use calls::{named_declarator, specifier_row};

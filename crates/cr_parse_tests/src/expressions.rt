@@ -1,18 +1,16 @@
-ghost use Rattle.std.specs.Prelude.{◌≡◌, ◌≤◌, IsTrue, length};
-ghost use Rattle.cr_syntax.specs.Words.{AreSpans};
-
-use crate::Goal::{Assignment, Conditional, Expression};
-use crate::ParseFault::{Ended, OutsideSubset, TooDeep, Unexpected};
-use crate::{Goal, ParseFault, TypeNames, expression};
+use crate::shown::shown;
+use crate::texts::{are_spans, nested};
+use cr_exprs::Goal::{Assignment, Conditional, Expression};
+use cr_exprs::ParseFault::{Ended, OutsideSubset, TooDeep, Unexpected};
+use cr_exprs::{Goal, ParseFault, TypeNames, expression};
 use cr_rows::Row;
-use cr_syntax::{Kind, Node, TypeName};
-use cr_tokens::{MAX_TOKENS, Token, Tokens, read};
+use cr_syntax::{Node, TypeName};
+use cr_tokens::read;
 use std::alloc::{AllocError, Global};
 use std::test::Fail;
 
-// Expressions, the token after them, and their trees: a node is its kind and its parts in brackets; an identifier, a
-// constant or a text is its spelling. `T` and `V` are types, but an inner scope makes `V` an object. Worked out by hand
-// from C11 6.5 and 6.7 and the rules of docs/DEFINITIONS.md.
+// Expressions, the token after them, and their trees as `shown` writes them. `T` and `V` are types, but an inner scope makes
+// `V` an object. Worked out by hand from C11 6.5 and 6.7 and the rules of docs/DEFINITIONS.md.
 const TREES: [(&str, usize, &str); 98] = [
     ("a", 1, "a"),
     ("1", 1, "1"),
@@ -91,15 +89,15 @@ const TREES: [(&str, usize, &str); 98] = [
     ("f((a,b))", 8, "Call[Group[Comma[a b]]]"),
     ("f(g(a),b)", 9, "Call[Call[a] b]"),
     // casts and `sizeof`
-    ("(T)a", 4, "Cast[TypedefName a]"),
+    ("(T)a", 4, "Cast[T a]"),
     ("(int)-a", 5, "Cast[Int Minus[a]]"),
-    ("(T)(a)", 6, "Cast[TypedefName Group[a]]"),
-    ("(T)(int)a", 7, "Cast[TypedefName Cast[Int a]]"),
+    ("(T)(a)", 6, "Cast[T Group[a]]"),
+    ("(T)(int)a", 7, "Cast[T Cast[Int a]]"),
     ("(V)+a", 5, "Add[Group[V] a]"),
-    ("(T)+a", 5, "Cast[TypedefName Plus[a]]"),
-    ("(T)a*b", 6, "Multiply[Cast[TypedefName a] b]"),
+    ("(T)+a", 5, "Cast[T Plus[a]]"),
+    ("(T)a*b", 6, "Multiply[Cast[T a] b]"),
     ("(const)a", 4, "Cast[Const a]"),
-    ("(T*)p", 5, "Cast[TypeName[TypedefName AbstractPointer] p]"),
+    ("(T*)p", 5, "Cast[TypeName[T AbstractPointer] p]"),
     (
         "(const char*const*)p",
         8,
@@ -112,7 +110,7 @@ const TREES: [(&str, usize, &str); 98] = [
     ),
     ("sizeof a", 2, "SizeofExpression[a]"),
     ("sizeof(a)", 4, "SizeofExpression[Group[a]]"),
-    ("sizeof(T)", 4, "SizeofType[TypedefName]"),
+    ("sizeof(T)", 4, "SizeofType[T]"),
     (
         "sizeof(int[3])",
         7,
@@ -133,8 +131,8 @@ const TREES: [(&str, usize, &str); 98] = [
         7,
         "Multiply[SizeofType[PlainSpecifiers[Unsigned Long]] 2]",
     ),
-    ("sizeof(T)-1", 6, "Subtract[SizeofType[TypedefName] 1]"),
-    ("sizeof(T){", 4, "SizeofType[TypedefName]"),
+    ("sizeof(T)-1", 6, "Subtract[SizeofType[T] 1]"),
+    ("sizeof(T){", 4, "SizeofType[T]"),
     ("sizeof(a)[0]", 7, "SizeofExpression[Subscript[Group[a] 0]]"),
     (
         "sizeof sizeof a",
@@ -145,12 +143,12 @@ const TREES: [(&str, usize, &str); 98] = [
     (
         "sizeof(struct S{int x;T y,*z;})",
         16,
-        "SizeofType[StructContent[MemberDeclaration[Int NameDeclarator] MemberDeclaration[TypedefName NameDeclarator PointerDeclarator[NameDeclarator]]]]",
+        "SizeofType[StructContent[MemberDeclaration[Int x] MemberDeclaration[T y PointerDeclarator[z]]]]",
     ),
     (
         "sizeof(struct{int T;})",
         9,
-        "SizeofType[StructContent[MemberDeclaration[Int NameDeclarator]]]",
+        "SizeofType[StructContent[MemberDeclaration[Int T]]]",
     ),
     ("sizeof(enum E)", 5, "SizeofType[EnumTag]"),
     (
@@ -166,27 +164,27 @@ const TREES: [(&str, usize, &str); 98] = [
     (
         "sizeof(struct{int(*f)(T,int x,...);})",
         20,
-        "SizeofType[StructContent[MemberDeclaration[Int FunctionDeclarator[GroupDeclarator[PointerDeclarator[NameDeclarator]] VariadicParameters[TypedefName Parameter[Int NameDeclarator]]]]]]",
+        "SizeofType[StructContent[MemberDeclaration[Int FunctionDeclarator[GroupDeclarator[PointerDeclarator[f]] VariadicParameters[T Parameter[Int x]]]]]]",
     ),
     (
         "sizeof(struct{int f(void);})",
         12,
-        "SizeofType[StructContent[MemberDeclaration[Int FunctionDeclarator[NameDeclarator VoidParameters]]]]",
+        "SizeofType[StructContent[MemberDeclaration[Int FunctionDeclarator[f VoidParameters]]]]",
     ),
     (
         "sizeof(struct{int f();})",
         11,
-        "SizeofType[StructContent[MemberDeclaration[Int FunctionDeclarator[NameDeclarator]]]]",
+        "SizeofType[StructContent[MemberDeclaration[Int FunctionDeclarator[f]]]]",
     ),
     (
         "sizeof(struct{int f(int*,int[2],T(*)[3]);})",
         26,
-        "SizeofType[StructContent[MemberDeclaration[Int FunctionDeclarator[NameDeclarator Parameters[Parameter[Int AbstractPointer] Parameter[Int AbstractArray[2]] Parameter[TypedefName AbstractArrayOf[AbstractGroup[AbstractPointer] 3]]]]]]]",
+        "SizeofType[StructContent[MemberDeclaration[Int FunctionDeclarator[f Parameters[Parameter[Int AbstractPointer] Parameter[Int AbstractArray[2]] Parameter[T AbstractArrayOf[AbstractGroup[AbstractPointer] 3]]]]]]]",
     ),
     (
         "sizeof(struct{int a[2],b[];})",
         16,
-        "SizeofType[StructContent[MemberDeclaration[Int ArrayDeclarator[NameDeclarator 2] ArrayDeclarator[NameDeclarator]]]]",
+        "SizeofType[StructContent[MemberDeclaration[Int ArrayDeclarator[a 2] ArrayDeclarator[b]]]]",
     ),
     // what follows a run
     ("a b", 1, "a"),
@@ -196,7 +194,7 @@ const TREES: [(&str, usize, &str); 98] = [
     ("a=b+c=d", 5, "Assign[a Add[b c]]"),
     ("a?b:c=d", 5, "Conditional[a b c]"),
     ("(a)=b", 5, "Assign[Group[a] b]"),
-    ("(T)a=b", 4, "Cast[TypedefName a]"),
+    ("(T)a=b", 4, "Cast[T a]"),
 ];
 
 // Texts that are refused, where so many levels are open.
@@ -289,7 +287,7 @@ fn expressions_have_their_trees(rt: HostRuntime) -> Result<(), Fail> {
         let outcome = read_text(alloc, text, 0, Expression)?;
         let after = outcome.found.ok().map_or(0, |x| x.1 as usize);
         assert_eq!(rt; (text, after), (text, *next));
-        let shown = shown(alloc, text, &outcome)?;
+        let shown = shown_outcome(alloc, text, &outcome)?;
         assert_eq!(rt; (text, shown.as_str()), (text, *tree));
     }
     Ok(())
@@ -337,10 +335,10 @@ const NESTS: [(&str, &str); 6] = [
 fn levels_are_counted_to_128(rt: HostRuntime) -> Result<(), Fail> {
     let alloc = rt.alloc();
     for (open, close) in &NESTS {
-        let fits = repeated(alloc, open, 128, close)?;
+        let fits = nested(alloc, "", open, 128, "a", close, "")?;
         let found = read_text(alloc, fits.as_str(), 0, Expression)?.found;
         assert_eq!(rt; (open, found.is_ok()), (open, true));
-        let deep = repeated(alloc, open, 129, close)?;
+        let deep = nested(alloc, "", open, 129, "a", close, "")?;
         let found = read_text(alloc, deep.as_str(), 0, Expression)?.found;
         assert_eq!(rt; (open, is_too_deep(found)), (open, true));
     }
@@ -371,18 +369,6 @@ fn chains_cost_no_levels(rt: HostRuntime) -> Result<(), Fail> {
         assert_eq!(rt; (link, found.is_ok()), (link, *fits));
     }
     Ok(())
-}
-
-fn repeated(alloc: Global, open: &str, count: u32, close: &str) -> Result<String, AllocError> {
-    let mut text = String::new(alloc);
-    for _ in 0..count {
-        text.push_str(open)?;
-    }
-    text.push('a')?;
-    for _ in 0..count {
-        text.push_str(close)?;
-    }
-    Ok(text)
 }
 
 // What reading a text answers, and the nodes.
@@ -416,21 +402,6 @@ fn read_text(alloc: Global, text: &str, depth: u32, goal: Goal) -> Result<Outcom
     Ok(Outcome { found, nodes })
 }
 
-fn are_spans(file: &[u8], tokens: &[Token]) -> bool
-    ensures spans { IsTrue result → AreSpans file.now tokens.now }
-    ensures few { IsTrue result → length tokens.now ≤ 262144 }
-{
-    if tokens.len() > MAX_TOKENS {
-        return false;
-    }
-    for token in tokens {
-        if token.start > token.end || token.end as usize > file.len() {
-            return false;
-        }
-    }
-    true
-}
-
 fn names(alloc: Global) -> Result<TypeNames, AllocError> {
     let mut outer = Row::new(alloc);
     outer.push(name(alloc, "T", true)?)?;
@@ -451,63 +422,8 @@ fn name(alloc: Global, spelling: &str, is_type: bool) -> Result<TypeName, AllocE
 }
 
 // The node that was read and its parts in words.
-fn shown(alloc: Global, text: &str, outcome: &Outcome) -> Result<String, Fail> {
+fn shown_outcome(alloc: Global, text: &str, outcome: &Outcome) -> Result<String, Fail> {
     let tokens = read(alloc, text.as_bytes())?;
-    let mut shown: Vec<String> = Vec::new(alloc);
-    for node in outcome.nodes.as_slice() {
-        let mut out = String::new(alloc);
-        push_kind(alloc, &mut out, text, &tokens, node)?;
-        for (k, part) in node.parts.as_slice().iter().enumerate() {
-            out.push_str(if k == 0 { "[" } else { " " })?;
-            if let Some(inner) = shown.get(*part as usize) {
-                out.push_str(inner.as_str())?;
-            }
-        }
-        if !node.parts.is_empty() {
-            out.push(']')?;
-        }
-        shown.push(out)?;
-    }
-    let top = outcome.found.ok().map_or(0, |x| x.0 as usize);
-    match shown.get(top) {
-        Some(out) => Ok(out.clone()?),
-        None => Ok(String::new(alloc)),
-    }
-}
-
-fn push_kind(
-    alloc: Global,
-    out: &mut String,
-    text: &str,
-    tokens: &Tokens,
-    node: &Node,
-) -> Result<(), AllocError> {
-    match node.kind {
-        Kind::Identifier | Kind::Integer | Kind::Character | Kind::Text => {
-            push_tokens(out, text, tokens, node)
-        }
-        kind => {
-            let word = format!(in alloc; "{kind:?}")?;
-            out.push_str(word.as_str())
-        }
-    }
-}
-
-fn push_tokens(
-    out: &mut String,
-    text: &str,
-    tokens: &Tokens,
-    node: &Node,
-) -> Result<(), AllocError> {
-    for (k, token) in tokens.list.iter().enumerate() {
-        if (node.first as usize) <= k && k <= node.last as usize {
-            if k > node.first as usize {
-                out.push(' ')?;
-            }
-            if let Some(piece) = text.get(token.start as usize..token.end as usize) {
-                out.push_str(piece)?;
-            }
-        }
-    }
-    Ok(())
+    let top = outcome.found.ok().map_or(0, |x| x.0);
+    Ok(shown(alloc, text, &tokens, outcome.nodes.as_slice(), &[top])?)
 }

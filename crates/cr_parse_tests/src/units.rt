@@ -1,16 +1,14 @@
-ghost use Rattle.std.specs.Prelude.{◌≡◌, ◌≤◌, IsTrue, length};
-ghost use Rattle.cr_syntax.specs.Words.{AreSpans};
-
-use crate::parse;
+use crate::shown::shown;
+use crate::texts::{are_spans, nested};
+use cr_decls::parse;
 use cr_exprs::ParseFault;
 use cr_exprs::ParseFault::{Ended, NoMemory, OutsideSubset, TooDeep, Unexpected};
-use cr_syntax::{Kind, Node, Unit, spells_unit};
-use cr_tokens::{MAX_TOKENS, Token, Tokens, read};
+use cr_syntax::{Unit, spells_unit};
+use cr_tokens::read;
 use std::alloc::{AllocError, Global};
 use std::test::Fail;
 
-// Units and their trees: a node is its kind and its parts in brackets; an identifier, a constant, a text, a declared name
-// and a typedef name is its spelling. Worked out by hand from C11 6.7 to 6.9 and the rules of docs/DEFINITIONS.md.
+// Units and their trees as `shown` writes them. Worked out by hand from C11 6.7 to 6.9 and the rules of docs/DEFINITIONS.md.
 const TREES: [(&str, &str); 64] = [
     // declarations
     ("int x;", "Declaration[Int x]"),
@@ -351,7 +349,7 @@ fn units_have_their_trees(rt: HostRuntime) -> Result<(), Fail> {
         let unit = parsed(alloc, file.as_str())?;
         assert_eq!(rt; (text, unit.as_ref().err()), (text, None));
         if let Ok(unit) = unit {
-            let shown = shown(alloc, file.as_str(), &unit)?;
+            let shown = shown_unit(alloc, file.as_str(), &unit)?;
             let wanted = whole_tree(alloc, text, tree)?;
             assert_eq!(rt; (text, shown.as_str()), (text, wanted.as_str()));
             assert_eq!(rt; (text, spells(alloc, file.as_str(), &unit)?), (text, true));
@@ -428,27 +426,6 @@ fn end_of(before: &str) -> &str {
     }
 }
 
-fn nested(
-    alloc: Global,
-    before: &str,
-    open: &str,
-    count: usize,
-    inner: &str,
-    close: &str,
-    end: &str,
-) -> Result<String, AllocError> {
-    let mut text = String::from_str(alloc, before)?;
-    for _ in 0..count {
-        text.push_str(open)?;
-    }
-    text.push_str(inner)?;
-    for _ in 0..count {
-        text.push_str(close)?;
-    }
-    text.push_str(end)?;
-    Ok(text)
-}
-
 // Rows that may be long, and what stands before and behind.
 const CHAINS: [(&str, &str, &str); 5] = [
     ("", "int a;", ""),
@@ -486,87 +463,13 @@ fn spells(alloc: Global, text: &str, unit: &Unit) -> Result<bool, Fail> {
     Ok(spells_unit(alloc, text.as_bytes(), unit)?)
 }
 
-fn are_spans(file: &[u8], tokens: &[Token]) -> bool
-    ensures spans { IsTrue result → AreSpans file.now tokens.now }
-    ensures few { IsTrue result → length tokens.now ≤ 262144 }
-{
-    if tokens.len() > MAX_TOKENS {
-        return false;
-    }
-    for token in tokens {
-        if token.start > token.end || token.end as usize > file.len() {
-            return false;
-        }
-    }
-    true
-}
-
 // The items of a unit in words.
-fn shown(alloc: Global, text: &str, unit: &Unit) -> Result<String, Fail> {
-    let mut shown: Vec<String> = Vec::new(alloc);
-    for node in unit.nodes.as_slice() {
-        let mut out = String::new(alloc);
-        push_kind(alloc, &mut out, text, &unit.tokens, node)?;
-        if !node.parts.is_empty() {
-            out.push('[')?;
-            push_all(&mut out, &shown, node.parts.as_slice())?;
-            out.push(']')?;
-        }
-        shown.push(out)?;
-    }
-    let mut out = String::new(alloc);
-    push_all(&mut out, &shown, unit.items.as_slice())?;
-    Ok(out)
-}
-
-fn push_all(out: &mut String, shown: &Vec<String>, numbers: &[u32]) -> Result<(), AllocError> {
-    for (k, part) in numbers.iter().enumerate() {
-        if k > 0 {
-            out.push(' ')?;
-        }
-        if let Some(inner) = shown.get(*part as usize) {
-            out.push_str(inner.as_str())?;
-        }
-    }
-    Ok(())
-}
-
-fn push_kind(
-    alloc: Global,
-    out: &mut String,
-    text: &str,
-    tokens: &Tokens,
-    node: &Node,
-) -> Result<(), AllocError> {
-    match node.kind {
-        Kind::Identifier
-        | Kind::Integer
-        | Kind::Character
-        | Kind::Text
-        | Kind::NameDeclarator
-        | Kind::TypedefName => push_tokens(out, text, tokens, node),
-        kind => {
-            let word = format!(in alloc; "{kind:?}")?;
-            out.push_str(word.as_str())
-        }
-    }
-}
-
-fn push_tokens(
-    out: &mut String,
-    text: &str,
-    tokens: &Tokens,
-    node: &Node,
-) -> Result<(), AllocError> {
-    for (k, token) in tokens.list.iter().enumerate() {
-        if (node.first as usize) <= k && k <= node.last as usize {
-            if k > node.first as usize {
-                out.push(' ')?;
-            }
-            if let Some(piece) = text.get(token.start as usize..token.end as usize) {
-                out.push_str(piece)?;
-            }
-        }
-    }
-    Ok(())
+fn shown_unit(alloc: Global, text: &str, unit: &Unit) -> Result<String, AllocError> {
+    shown(
+        alloc,
+        text,
+        &unit.tokens,
+        unit.nodes.as_slice(),
+        unit.items.as_slice(),
+    )
 }
