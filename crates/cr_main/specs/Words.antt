@@ -71,10 +71,14 @@ pub data IsNoName (word : Word) : Type 0 where
   here : HasLastPart word (codes ".") → IsNoName word
   above : HasLastPart word (codes "..") → IsNoName word
 
+-- no byte of it is /
+abbrev pub NoSlash : List ℕ → Type 0
+NoSlash part = (i : ℕ) → i < length part → get_or part i 0 ≢ 47
+
 -- The file's own name, under which a test sees it: the part after the last /.
 pub record IsOwnName (name own : List ℕ) : Type 0 where
   pub last : HasLastPart name own
-  pub plain : (i : ℕ) → i < length own → get_or own i 0 ≢ 47
+  pub plain : NoSlash own
 
 -- the name of a source
 abbrev pub name_of : Source → List ℕ
