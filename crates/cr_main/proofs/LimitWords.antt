@@ -1,7 +1,6 @@
 -- What a word of digits parses to.
-use Rattle.std.proofs.Common.{◌≡◌, ◌≢◌, ℕ, ◌<◌, ◌≤◌, List, [], ◌∷◌, length, get_or, Option, Some, None, Result, Ok, Err, arith, subst, ◌∙◌}
+use Rattle.std.proofs.Common.{◌≡◌, ◌≢◌, ℕ, ◌<◌, ◌≤◌, List, length, get_or, Option, Some, None, Result, Ok, Err, arith, subst, ◌∙◌}
 use Rattle.std.specs.Option.{MatchOption}
-use Rattle.std.specs.Char.{digit_value}
 use Rattle.std.specs.Str.Parse.{AllDigits, ParsesUnsigned, digits_value}
 use Rattle.std.proofs.lemmas.Str.Parse.{IsNumeralModel, numerals_by_value, parse_plain, tells_digits}
 use Rattle.cr_main.specs.Words.{IsLimitWord}
@@ -33,11 +32,3 @@ pub unparsed : {E : Type 0} (word : List ℕ) (e : E) (n : ℕ) (parsed : Result
 unparsed {E} word e n parsed plain h is limit =
     let P : Result ℕ E → Type 0 = λ x. ParsesUnsigned 64 10 word x in
     parse_plain own {E = E} 64 word (Err e) (subst P is h) plain (limit.digits, limit.some, omega (arith, limit.is, limit.most))
-
--- nor is what begins with a plus
-unsigned : (word : List ℕ) → AllDigits 10 word → get_or word 0 0 ≡ 43 → ⊥
-unsigned [] digits plus = cc
-unsigned (b ∷ bs) digits plus = let d = subst (λ x. digit_value x < 10) plus digits.0 in absurd (omega (arith, d))
-
-pub signed : (word : List ℕ) (n : ℕ) → get_or word 0 0 ≡ 43 → IsLimitWord word n → ⊥
-signed word n plus limit = unsigned word limit.digits plus

@@ -1,11 +1,11 @@
 -- Calls in a run: lists of calls that go on, and answers that stay given.
-use Rattle.std.proofs.Common.{◌≡◌, ◌≢◌, inl, inr, ℕ, Bool, true, List, [], ◌∷◌, ◌++◌, Option, Some, None, subst, sym, ap, ◌∙◌, refl, append_assoc}
+use Rattle.std.proofs.Common.{◌≡◌, ◌≢◌, ℕ, Bool, true, List, [], ◌∷◌, ◌++◌, Option, Some, None, subst, sym, ap, ◌∙◌, refl, append_assoc}
 use Rattle.std.proofs.lemmas.List.{append-nil}
 use Rattle.cr_outside.specs.declared.judge.Answer.{Answer}
 use Rattle.cr_outside.specs.declared.judge.Answer.TheVariants.{Yes, No, Failed, NoMemory}
 use Rattle.cr_outside.specs.Judge.{Call, call_of, with_call}
 use Rattle.cr_outside.specs.Question.{AnswersAsTold, AsksOnce}
-use Rattle.cr_reduce.specs.Trials.{GoesOn, HasCalled, AnswerInRun, CallsAbout}
+use Rattle.cr_reduce.specs.Trials.{GoesOn, HasCalled, AnswerInRun}
 
 pub goes_on-refl : (calls : Option (List Call)) → GoesOn calls calls
 goes_on-refl None = refl
@@ -50,10 +50,6 @@ answered_once asks Tells name old new file answer given once told = record { ask
 pub with_call-goes_on : (old : Option (List Call)) (call : Call) → GoesOn old (with_call call old)
 with_call-goes_on None call = refl
 with_call-goes_on (Some list) call = (call ∷ [], refl)
-
-pub calls_about-goes_on : (old new : Option (List Call)) (name file : List ℕ) → CallsAbout old new name file → GoesOn old new
-calls_about-goes_on old new name file (inl same) = subst (GoesOn old) (sym same) (goes_on-refl old)
-calls_about-goes_on old new name file (inr made) = subst (GoesOn old) (sym made.2) (with_call-goes_on old (call_of made.0 name file made.1))
 
 -- An answer stays given.
 pub answer_in_run-later : (asks : Bool) (Tells : List ℕ → Bool → Type 0) (name : List ℕ) (before now later : Option (List Call)) (variant : List ℕ) (answer : Answer)
