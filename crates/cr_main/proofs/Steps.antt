@@ -1,6 +1,6 @@
 -- The steps of telling words apart.
 use Rattle.std.proofs.Common.{◌≡◌, List, [], ◌∷◌, ◌++◌, codes, append_assoc, append-nil, refl, sym, ap, ◌∙◌, subst}
-use Rattle.cr_main.specs.Words.{IsOption, Sorts, StartsWithDash, Word}
+use Rattle.cr_main.specs.Words.{BeginsWith, IsOption, Sorts, Word}
 use Rattle.cr_main.specs.Words.Sorts.{no_word, dashes, joined, apart, place}
 use Rattle.cr_main.specs.Sorting.{Passes}
 
@@ -29,7 +29,7 @@ joined_back word value _ _ _ same (apart is plain rest) = cc
 joined_back word value _ _ _ same (place named rest) = absurd (named (option_joined word value same))
 
 pub apart_back : (word value : Word) (words : List Word) (U Q : List Word) → word ≡ codes "--limit" → Sorts (word ∷ (value ∷ words)) U Q
-    → (V : List Word) × (P : List Word) × Sorts words V P × (U ≡ value ∷ V) × (Q ≡ P) × (StartsWithDash value → ⊥)
+    → (V : List Word) × (P : List Word) × Sorts words V P × (U ≡ value ∷ V) × (Q ≡ P) × (BeginsWith value 45 → ⊥)
 apart_back word value _ _ _ same (dashes is) = cc
 apart_back word value _ _ _ same (joined other is rest) = cc
 apart_back word value _ _ Q same (apart {limits = V} is plain rest) = (V, Q, rest, refl, refl, plain)
@@ -80,7 +80,7 @@ pass_joined word value words limits places is = record {
       (it.0, it.1, it.2, ap (λ x. limits ++ x) it.3 ∙ onto_end limits value it.0, ap (λ x. places ++ x) it.4);
 }
 
-pub pass_apart : (word value : Word) (words limits places : List Word) → word ≡ codes "--limit" → (StartsWithDash value → ⊥)
+pub pass_apart : (word value : Word) (words limits places : List Word) → word ≡ codes "--limit" → (BeginsWith value 45 → ⊥)
     → Passes (word ∷ (value ∷ words)) words limits (limits ++ value ∷ []) places places
 pass_apart word value words limits places is plain = record {
   onto = λ V P rest. (value ∷ V, P, apart is plain rest, onto_end limits value V, refl);
