@@ -37,22 +37,25 @@ returns-in-No g c =
     let handed = c.deref.result.now in
     let asked = is_asked t files before after bytes handed c.deref.ensures.value No c.in-No.ensures.once
     c.requires.has c.requires.lawful (λ quiet. ap (first_calls g.J.Judge.calls) (c.in-No.ensures.silent quiet)) c.in-No.ensures.later in
-    uninteresting bytes (is_answered t files before after bytes handed c.deref.ensures.value No c.in-No.ensures.once (λ none. cc) c.in-No.ensures.told asked) refl c.refuse.ensures
+    uninteresting bytes (is_answered t files before after bytes handed c.deref.ensures.value No c.in-No.ensures.once (λ none. cc) c.in-No.ensures.told asked) (refl {a = files}) c.refuse.ensures
 
 pub returns-in-Failed : goal.returns-in-Failed
 returns-in-Failed g c =
     let t = task_for c.args.request (first_says g.J.Judge.key g.J.Judge.says c.args.bench.now) in
+    let files = g.F.Files.told c.args.files.now in
     let before = judging_of (first_calls g.J.Judge.calls c.args.bench.now) (first_count g.J.Judge.faults c.args.bench.now) in
     let after = judging_of (first_calls g.J.Judge.calls c.ask_first.new.self) (first_count g.J.Judge.faults c.ask_first.new.self) in
-    let asked = is_asked t (g.F.Files.told c.args.files.now) before after c.args.bytes.items c.deref.result.now c.deref.ensures.value Failed c.in-Failed.ensures.once
+    let asked = is_asked t files before after c.args.bytes.items c.deref.result.now c.deref.ensures.value Failed c.in-Failed.ensures.once
     c.requires.has c.requires.lawful (λ quiet. ap (first_calls g.J.Judge.calls) (c.in-Failed.ensures.silent quiet)) c.in-Failed.ensures.later in
-    test_failed c.args.bytes.items asked (must_ask (asks_test t.test) c.in-Failed.ensures.unfailing) (c.in-Failed.ensures.failed refl) refl c.refuse-in-Failed.ensures
+    test_failed c.args.bytes.items asked (must_ask (asks_test t.test) c.in-Failed.ensures.unfailing) (c.in-Failed.ensures.failed refl) (refl {a = files}) c.refuse-in-Failed.ensures
 
 pub returns-in-NoMemory : goal.returns-in-NoMemory
 returns-in-NoMemory g c =
     let t = task_for c.args.request (first_says g.J.Judge.key g.J.Judge.says c.args.bench.now) in
+    let files = g.F.Files.told c.args.files.now in
+    let old = outside_of files (g.F.Files.faults c.args.files.now) (g.O.Sink.told c.args.out.now) (g.O.Sink.faults c.args.out.now) in
     let before = judging_of (first_calls g.J.Judge.calls c.args.bench.now) (first_count g.J.Judge.faults c.args.bench.now) in
     let after = judging_of (first_calls g.J.Judge.calls c.ask_first.new.self) (first_count g.J.Judge.faults c.ask_first.new.self) in
-    let asked = is_asked t (g.F.Files.told c.args.files.now) before after c.args.bytes.items c.deref.result.now c.deref.ensures.value NoMemory c.in-NoMemory.ensures.once
+    let asked = is_asked t files before after c.args.bytes.items c.deref.result.now c.deref.ensures.value NoMemory c.in-NoMemory.ensures.once
     c.requires.has c.requires.lawful (λ quiet. ap (first_calls g.J.Judge.calls) (c.in-NoMemory.ensures.silent quiet)) c.in-NoMemory.ensures.later in
-    unanswered c.args.bytes.items asked refl refl
+    unanswered c.args.bytes.items asked (refl {a = old}) refl
