@@ -1,10 +1,13 @@
 -- What a word of digits parses to.
-use Rattle.std.proofs.Common.{◌≡◌, ◌≢◌, ℕ, ◌<◌, ◌≤◌, List, [], ◌∷◌, length, get_or, Option, Some, None, Result, Ok, Err, arith, subst, ◌∙◌}
+use Rattle.std.proofs.Common.{◌≡◌, ◌≢◌, ℕ, ◌<◌, ◌≤◌, List, [], ◌∷◌, length, get_or, Option, Some, None, Result, Ok, Err, arith, ap, subst, ◌∙◌}
 use Rattle.std.specs.Option.{MatchOption}
-use Rattle.std.specs.Char.{digit_value}
 use Rattle.std.specs.Str.Parse.{AllDigits, ParsesUnsigned, digits_value}
 use Rattle.std.proofs.lemmas.Str.Parse.{IsNumeralModel, numerals_by_value, parse_plain, tells_digits}
-use Rattle.cr_main.specs.Words.{IsLimitWord}
+use Rattle.cr_main.specs.Words.{BeginsWith, IsLimitWord}
+
+no_plus : (word : List ℕ) → (BeginsWith word 43 → ⊥) → get_or word 0 0 ≢ 43
+no_plus [] plain = λ plus. cc
+no_plus (b ∷ bs) plain = λ plus. plain (bs, ap (λ x. x ∷ bs) plus)
 
 own : IsNumeralModel (AllDigits 10) (digits_value 10)
 own = numerals_by_value (AllDigits 10) tells_digits
@@ -19,25 +22,17 @@ above_or_within word n (Some same) digits some short is kept =
     record { digits = digits; some = some; short = short; is = kept.0 ∙ is; most = omega (arith, kept.0, kept.1) }
 
 -- a number within the bound is the limit, and one above it is none
-pub within_bound : {E : Type 0} (word : List ℕ) (n : ℕ) (r : Option ℕ) (parsed : Result ℕ E) → get_or word 0 0 ≢ 43 → length word ≤ 19
+pub within_bound : {E : Type 0} (word : List ℕ) (n : ℕ) (r : Option ℕ) (parsed : Result ℕ E) → (BeginsWith word 43 → ⊥) → length word ≤ 19
     → ParsesUnsigned 64 10 word parsed → parsed ≡ Ok n
     → MatchOption r (9223372036854775807 < n) (λ same. (same ≡ n) × (n ≤ 9223372036854775807)) → Gives word r
 within_bound {E} word n r parsed plain short h is kept =
     let P : Result ℕ E → Type 0 = λ x. ParsesUnsigned 64 10 word x in
-    let it = parse_plain own {E = E} 64 word (Ok n) (subst P is h) plain in
+    let it = parse_plain own {E = E} 64 word (Ok n) (subst P is h) (no_plus word plain) in
     above_or_within word n r it.0.0 it.0.1 short it.1 kept
 
 -- what doesn't parse is no limit
-pub unparsed : {E : Type 0} (word : List ℕ) (e : E) (n : ℕ) (parsed : Result ℕ E) → get_or word 0 0 ≢ 43 → ParsesUnsigned 64 10 word parsed → parsed ≡ Err e
+pub unparsed : {E : Type 0} (word : List ℕ) (e : E) (n : ℕ) (parsed : Result ℕ E) → (BeginsWith word 43 → ⊥) → ParsesUnsigned 64 10 word parsed → parsed ≡ Err e
     → IsLimitWord word n → ⊥
 unparsed {E} word e n parsed plain h is limit =
     let P : Result ℕ E → Type 0 = λ x. ParsesUnsigned 64 10 word x in
-    parse_plain own {E = E} 64 word (Err e) (subst P is h) plain (limit.digits, limit.some, omega (arith, limit.is, limit.most))
-
--- nor is what begins with a plus
-unsigned : (word : List ℕ) → AllDigits 10 word → get_or word 0 0 ≡ 43 → ⊥
-unsigned [] digits plus = cc
-unsigned (b ∷ bs) digits plus = let d = subst (λ x. digit_value x < 10) plus digits.0 in absurd (omega (arith, d))
-
-pub signed : (word : List ℕ) (n : ℕ) → get_or word 0 0 ≡ 43 → IsLimitWord word n → ⊥
-signed word n plus limit = unsigned word limit.digits plus
+    parse_plain own {E = E} 64 word (Err e) (subst P is h) (no_plus word plain) (limit.digits, limit.some, omega (arith, limit.is, limit.most))

@@ -3,15 +3,12 @@ use Rattle.std.proofs.Common.{◌≡◌, inl, inr, ◌<◌, ℕ, List, [], ◌�
 use Rattle.std.proofs.lemmas.List.{append_cancel_right, take-append-drop}
 use Rattle.std.specs.Str.Pattern.{HasCharAt}
 use Rattle.std.proofs.lemmas.Str.Pattern.{drop_at_char}
-use Rattle.cr_main.specs.Words.{EndsFolder, HasLastPart, IsOption}
+use Rattle.cr_main.specs.Words.{BeginsWith, EndsFolder, HasLastPart, IsOption}
 
-pub option_shape : (word : List ℕ) → 1 < length word → get_or word 0 0 ≡ 45 → IsOption word
-option_shape [] more first = absurd (omega arith)
-option_shape (x ∷ []) more first = absurd (omega arith)
-option_shape (x ∷ (y ∷ rest)) more first = (y, rest, ap (λ b. b ∷ y ∷ rest) first)
-
-pub option_first : (word : List ℕ) → IsOption word → get_or word 0 0 ≡ 45
-option_first word it = ap (λ w. get_or w 0 0) it.2
+pub option_shape : (word : List ℕ) → 1 < length word → BeginsWith word 45 → IsOption word
+option_shape [] more dash = absurd (omega arith)
+option_shape (x ∷ []) more dash = absurd (omega arith)
+option_shape (x ∷ (y ∷ rest)) more dash = (y, rest, ap (λ w. get_or w 0 0 ∷ y ∷ rest) dash.1)
 
 -- one front fits a name and its last part
 pub same_front : (name part front : List ℕ) → name ≡ front ++ part → HasLastPart name part → EndsFolder front

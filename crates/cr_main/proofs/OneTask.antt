@@ -1,5 +1,5 @@
 -- The words ask for one thing: two tasks that they give have one limit, one name, and the same answers.
-use Rattle.std.proofs.Common.{◌≡◌, ◌≢◌, inl, inr, ◌<◌, ◌==◌, ℕ, suc, Bool, true, false, List, [], ◌∷◌, ◌++◌, length, get_or, Option, Some, None, Ok, if◌then◌else◌, append_assoc, refl, sym, ap, subst, ◌∙◌, arith}
+use Rattle.std.proofs.Common.{◌≡◌, ◌≢◌, inl, inr, ◌==◌, ℕ, suc, Bool, true, false, List, [], ◌∷◌, ◌++◌, Option, Some, None, Ok, if◌then◌else◌, append_assoc, refl, sym, ap, subst, ◌∙◌, arith}
 use Rattle.std.proofs.lemmas.Bool.{eqb-true}
 use Rattle.std.proofs.lemmas.List.{append_cancel_left}
 use Rattle.cr_outside.specs.Question.{Says as Telling}
@@ -11,7 +11,7 @@ use Rattle.cr_main.specs.declared.settings.Settings.{Settings}
 use Rattle.cr_main.specs.Headline.{IsTask}
 use Rattle.cr_main.specs.Laws.{Agree, SameSettings}
 use Rattle.cr_main.specs.Run.{Task, task_of, tells_for}
-use Rattle.cr_main.specs.Words.{GivesSettings, HasSettings, IsLimit, IsOwnName, Word, name_of}
+use Rattle.cr_main.specs.Words.{GivesSettings, HasSettings, IsLimit, IsOwnName, NoSlash, Word, name_of}
 use Rattle.cr_main.specs.Words.IsLimit.{no_limit, one_limit}
 use Rattle.cr_main.proofs.Giving.{one_telling}
 
@@ -28,9 +28,6 @@ behind (b ∷ bs) = elim (behind bs) [ Some own ↦ Some own | None ↦ if b == 
 own_of : List ℕ → List ℕ
 own_of name = elim (behind name) [ Some own ↦ own | None ↦ name ]
 
-NoSlash : List ℕ → Type 0
-NoSlash own = (i : ℕ) → i < length own → get_or own i 0 ≢ 47
-
 not_slash : (b : ℕ) → b ≢ 47 → (b == 47) ≡ false
 not_slash b other = elim (b == 47) as (λ t. (b == 47) ≡ t → t ≡ false) [
   | true ↦ λ is. absurd (other (eqb-true b 47 is))
@@ -38,7 +35,7 @@ not_slash b other = elim (b == 47) as (λ t. (b == 47) ≡ t → t ≡ false) [
 ] refl
 
 plain_behind : (own : List ℕ) → NoSlash own → behind own ≡ None
-unfolding behind NoSlash
+unfolding behind
 plain_behind [] plain = refl
 plain_behind (b ∷ bs) plain = rw (plain_behind bs (λ i below. plain (suc i) (omega arith)), not_slash b (plain 0 (omega arith))) refl
 
@@ -48,7 +45,7 @@ folder_behind [] own plain = rw (plain_behind own plain) refl
 folder_behind (b ∷ bs) own plain = rw (folder_behind bs own plain) refl
 
 own_is : (name own : List ℕ) → IsOwnName name own → own ≡ own_of name
-unfolding own_of behind NoSlash
+unfolding own_of behind
 own_is name own it = elim it.last.ends [
   | inl none ↦ subst (λ n. own ≡ own_of n) (sym (it.last.is ∙ ap (λ f. f ++ own) none)) (rw (own_of, plain_behind own it.plain) refl)
   | inr folder ↦ subst (λ n. own ≡ own_of n) (sym (it.last.is ∙ ap (λ f. f ++ own) folder.1 ∙ append_assoc folder.0 (47 ∷ []) own)) (rw (own_of, folder_behind folder.0 own it.plain) refl)

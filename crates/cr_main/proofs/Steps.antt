@@ -1,6 +1,6 @@
 -- The steps of telling words apart.
-use Rattle.std.proofs.Common.{◌≡◌, ◌≢◌, List, [], ◌∷◌, ◌++◌, codes, append_assoc, append-nil, refl, sym, ap, ◌∙◌, subst}
-use Rattle.cr_main.specs.Words.{IsOption, Sorts, StartsWithDash, Word}
+use Rattle.std.proofs.Common.{◌≡◌, List, [], ◌∷◌, ◌++◌, codes, append_assoc, append-nil, refl, sym, ap, ◌∙◌, subst}
+use Rattle.cr_main.specs.Words.{BeginsWith, IsOption, Sorts, Word}
 use Rattle.cr_main.specs.Words.Sorts.{no_word, dashes, joined, apart, place}
 use Rattle.cr_main.specs.Sorting.{Passes}
 
@@ -29,7 +29,7 @@ joined_back word value _ _ _ same (apart is plain rest) = cc
 joined_back word value _ _ _ same (place named rest) = absurd (named (option_joined word value same))
 
 pub apart_back : (word value : Word) (words : List Word) (U Q : List Word) → word ≡ codes "--limit" → Sorts (word ∷ (value ∷ words)) U Q
-    → (V : List Word) × (P : List Word) × Sorts words V P × (U ≡ value ∷ V) × (Q ≡ P) × (StartsWithDash value → ⊥)
+    → (V : List Word) × (P : List Word) × Sorts words V P × (U ≡ value ∷ V) × (Q ≡ P) × (BeginsWith value 45 → ⊥)
 apart_back word value _ _ _ same (dashes is) = cc
 apart_back word value _ _ _ same (joined other is rest) = cc
 apart_back word value _ _ Q same (apart {limits = V} is plain rest) = (V, Q, rest, refl, refl, plain)
@@ -80,7 +80,7 @@ pass_joined word value words limits places is = record {
       (it.0, it.1, it.2, ap (λ x. limits ++ x) it.3 ∙ onto_end limits value it.0, ap (λ x. places ++ x) it.4);
 }
 
-pub pass_apart : (word value : Word) (words limits places : List Word) → word ≡ codes "--limit" → (StartsWithDash value → ⊥)
+pub pass_apart : (word value : Word) (words limits places : List Word) → word ≡ codes "--limit" → (BeginsWith value 45 → ⊥)
     → Passes (word ∷ (value ∷ words)) words limits (limits ++ value ∷ []) places places
 pass_apart word value words limits places is plain = record {
   onto = λ V P rest. (value ∷ V, P, apart is plain rest, onto_end limits value V, refl);
@@ -101,23 +101,6 @@ pass_dashes word words limits places is = record {
       let it = dashes_back word words U Q is all in
       ([], [], no_word, ap (λ x. limits ++ x) it.0, ap (λ x. places ++ x) it.1 ∙ sym (append-nil (places ++ words)));
 }
-
--- words that can't be told apart
-
-pub unknown : (word : Word) (words U Q : List Word) → IsOption word → (word ≢ codes "--") → (word ≢ codes "--limit") → ((value : Word) → word ≢ codes "--limit=" ++ value)
-    → Sorts (word ∷ words) U Q → ⊥
-unknown word _ _ _ option no_dashes no_limit no_joined (dashes is) = no_dashes is
-unknown word _ _ _ option no_dashes no_limit no_joined (joined value is rest) = no_joined value is
-unknown word _ _ _ option no_dashes no_limit no_joined (apart is plain rest) = no_limit is
-unknown word _ _ _ option no_dashes no_limit no_joined (place named rest) = named option
-
-pub without_value : (word : Word) (U Q : List Word) → word ≡ codes "--limit" → Sorts (word ∷ []) U Q → ⊥
-without_value word _ _ same (dashes is) = cc
-without_value word _ _ same (joined other is rest) = cc
-without_value word _ _ same (place named rest) = named (option_limit word same)
-
-pub dash_value : (word value : Word) (words U Q : List Word) → word ≡ codes "--limit" → StartsWithDash value → Sorts (word ∷ (value ∷ words)) U Q → ⊥
-dash_value word value words U Q same dash all = (apart_back word value words U Q same all).5 dash
 
 -- once no word is left, all are told apart
 pub all_told : (words rest limits places : List Word) → rest ≡ [] → Passes words rest [] limits [] places → Sorts words limits places

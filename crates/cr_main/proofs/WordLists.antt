@@ -44,10 +44,6 @@ pub length-texts_of : (list : List (String Global)) → length (texts_of list) �
 length-texts_of [] = refl
 length-texts_of (x ∷ more) = ap suc (length-texts_of more)
 
-pub texts-append : (xs ys : List (String Global)) → texts_of (xs ++ ys) ≡ texts_of xs ++ texts_of ys
-texts-append [] ys = refl
-texts-append (x ∷ xs) ys = ap (λ rest. string_bytes x ∷ rest) (texts-append xs ys)
-
 -- one word more
 take_suc : (list : List (String Global)) (i : ℕ) (a : String Global) → i < length list → a ≡ get_or list i a
     → texts_of (take (suc i) list) ≡ texts_of (take i list) ++ string_bytes a ∷ []

@@ -14,9 +14,9 @@ Word = List ℕ
 abbrev pub texts_of : List (String Global) → List Word
 texts_of words = map string_bytes words
 
--- the word begins with -
-abbrev pub StartsWithDash : Word → Type 0
-StartsWithDash word = (more : List ℕ) × (word ≡ 45 ∷ more)
+-- the word begins with this byte
+abbrev pub BeginsWith : Word → ℕ → Type 0
+BeginsWith word byte = (more : List ℕ) × (word ≡ byte ∷ more)
 
 -- a word that begins with - and is longer than one byte
 abbrev pub IsOption : Word → Type 0
@@ -32,7 +32,7 @@ pub data Sorts : List Word → List Word → List Word → Type 0 where
   joined : {word : Word} {words limits places : List Word} (value : Word) → word ≡ codes "--limit=" ++ value
       → Sorts words limits places → Sorts (word ∷ words) (value ∷ limits) places
   -- --limit and a value word, which doesn't begin with -
-  apart : {word value : Word} {words limits places : List Word} → word ≡ codes "--limit" → (StartsWithDash value → ⊥)
+  apart : {word value : Word} {words limits places : List Word} → word ≡ codes "--limit" → (BeginsWith value 45 → ⊥)
       → Sorts words limits places → Sorts (word ∷ (value ∷ words)) (value ∷ limits) places
   place : {word : Word} {words limits places : List Word} → (IsOption word → ⊥)
       → Sorts words limits places → Sorts (word ∷ words) limits (word ∷ places)
@@ -71,10 +71,14 @@ pub data IsNoName (word : Word) : Type 0 where
   here : HasLastPart word (codes ".") → IsNoName word
   above : HasLastPart word (codes "..") → IsNoName word
 
+-- no byte of it is /
+abbrev pub NoSlash : List ℕ → Type 0
+NoSlash part = (i : ℕ) → i < length part → get_or part i 0 ≢ 47
+
 -- The file's own name, under which a test sees it: the part after the last /.
 pub record IsOwnName (name own : List ℕ) : Type 0 where
   pub last : HasLastPart name own
-  pub plain : (i : ℕ) → i < length own → get_or own i 0 ≢ 47
+  pub plain : NoSlash own
 
 -- the name of a source
 abbrev pub name_of : Source → List ℕ

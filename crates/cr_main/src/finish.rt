@@ -15,8 +15,7 @@ use crate::names::beside;
 use crate::top::Request;
 use cr_log::{log_text, summary_text};
 use cr_outside::{FileFault, Files, Judge, NoMemory, Sink};
-use cr_reduce::{Bench, End, Plan, TokenLaw, Why, reduce};
-use cr_tokens::{read, size};
+use cr_reduce::{Bench, End, Plan, TokenLaw, Why, reduce, size_of};
 use std::alloc::{AllocError, Global};
 
 /// The most workers that are used where the words name no number.
@@ -64,17 +63,6 @@ pub fn copy_and_reduce<F: Files, J: Judge, O: Sink>(
         &plan,
     );
     conclude(alloc, request.name, &end, old_size, files, out)
-}
-
-// The size of a file that tokenises.
-fn size_of(alloc: Global, file: &[u8]) -> Result<u64, NoMemory>
-    requires { IsTokenized file.now }
-    ensures { IfOk result (HasSize file.now) }
-{
-    match read(alloc, file) {
-        Ok(tokens) => Ok(size(file, &tokens)),
-        Err(_) => Err(AllocError),
-    }
 }
 
 // Writes the result and the log, and puts the summary.

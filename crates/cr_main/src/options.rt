@@ -1,7 +1,7 @@
 // The words of the command line, told apart.
 ghost use Rattle.std.specs.Prelude.{string_bytes, ◌≡◌, ◌≢◌, ◌<◌, ◌++◌, ◌∷◌, List, ℕ, [], IfOk, IsTrue, ◌↔◌, MatchOption, OnOk, OnErr, codes, length};
 ghost use Rattle.cr_main.specs.Sorting.{IsKind, Passes};
-ghost use Rattle.cr_main.specs.Words.{IsOption, Sorts, StartsWithDash, Word, texts_of};
+ghost use Rattle.cr_main.specs.Words.{BeginsWith, IsOption, Sorts, Word, texts_of};
 
 use crate::settings::WordFault;
 use std::alloc::{AllocError, Global};
@@ -90,13 +90,14 @@ fn kind_of(word: &str) -> WordKind<'_>
 fn is_option(word: &[u8]) -> bool
     ensures { IsTrue result ↔ IsOption word.now }
 {
-    word.len() > 1 && word[0] == b'-'
+    word.len() > 1 && begins_with(word, b'-')
 }
 
-fn starts_with_dash(word: &[u8]) -> bool
-    ensures { IsTrue result ↔ StartsWithDash word.now }
+/// Whether a word begins with this byte.
+pub fn begins_with(word: &[u8], byte: u8) -> bool
+    ensures { IsTrue result ↔ BeginsWith word.now byte }
 {
-    !word.is_empty() && word[0] == b'-'
+    !word.is_empty() && word[0] == byte
 }
 
 // Takes `--limit` and the value word behind it.
@@ -115,7 +116,7 @@ fn take_value<'a>(
         return Err(WordFault::Usage);
     }
     let value = words[1].as_str();
-    if starts_with_dash(value.as_bytes()) {
+    if begins_with(value.as_bytes(), b'-') {
         return Err(WordFault::Usage);
     }
     push(alloc, limits, value)?;

@@ -1,11 +1,11 @@
 // The command line.
-ghost use Rattle.std.specs.Prelude.{◌≡◌, ◌≤◌, ◌<◌, Option, ◌↔◌, ◌⊎◌, ◌++◌, ◌∷◌, List, ℕ, [], IfOk, IsTrue, MatchOption, codes, slice_index, Some, Ok};
+ghost use Rattle.std.specs.Prelude.{◌≡◌, ◌≤◌, ◌<◌, Option, ◌↔◌, ◌⊎◌, ◌++◌, ◌∷◌, List, ℕ, [], IfOk, IsTrue, MatchOption, codes, Some, Ok};
 ghost use Rattle.cr_outside.specs.Test.{ReadsTest};
 ghost use Rattle.cr_main.specs.Words.{EndsFolder, GivesSettings, HasLastPart, HasNone, HasSettings, IsLimit, IsLimitWord, IsMade, IsNoName, name_of, texts_of};
 ghost use Rattle.cr_outside.specs.declared.test.Test.{Test};
 ghost use Rattle.cr_main.specs.declared.settings.Settings.{Settings};
 
-use crate::options::{Sorted, sort};
+use crate::options::{Sorted, begins_with, sort};
 use cr_outside::{Test, TestFault};
 use std::alloc::Global;
 
@@ -85,7 +85,8 @@ fn limit_of(values: &[String]) -> Result<Option<u64>, WordFault>
 fn number_of(word: &str) -> Option<u64>
     ensures { MatchOption result ((n : ℕ) → IsLimitWord word.now n → ⊥) (IsLimitWord word.now) }
 {
-    if word.len() > MOST_DIGITS || has_plus(word.as_bytes()) {
+    // A plus stands for no digit, though `parse` would take it.
+    if word.len() > MOST_DIGITS || begins_with(word.as_bytes(), b'+') {
         return None;
     }
     match word.parse::<u64>() {
@@ -98,13 +99,6 @@ fn within(n: u64) -> Option<u64>
     ensures { MatchOption result (MOST_TURNS < n) (λ same. (same ≡ n) × (n ≤ MOST_TURNS)) }
 {
     if n > MOST_TURNS { None } else { Some(n) }
-}
-
-// Whether a plus stands first, which `parse` would take.
-fn has_plus(word: &[u8]) -> bool
-    ensures { IsTrue result ↔ (slice_index word.now 0 ≡ 43) }
-{
-    !word.is_empty() && word[0] == b'+'
 }
 
 fn test_of(alloc: Global, word: &str) -> Result<Test, WordFault>

@@ -1,6 +1,6 @@
 -- A reduction with turns enough doesn't end by its limit.
 use Rattle.std.proofs.Common.{◌≡◌, ℕ, zero, suc, ◌+◌, ◌-◌, ◌*◌, ◌<◌, ◌≤◌, Bool, true, false, List, length, Option, Some, get_or, subst, ap, refl, arith}
-use Rattle.std.proofs.Math.Nat.{mul-le-mul, mul-le-mul_left, mul-le-mul_right, suc-mul}
+use Rattle.std.proofs.Math.Nat.{mul-le-mul_right, suc-mul}
 use Rattle.std.proofs.lemmas.Option.{slice_get-get_or, slice_get_within}
 use Rattle.std.specs.List.{slice_get}
 use Rattle.cr_reduce.specs.declared.traits.passes.Cursor.{Cursor}
@@ -150,13 +150,6 @@ not_by_limit p A R levels size limit has smaller st out n low sized small ahead 
 
 from_start : (k size : ℕ) → 0 + (size * (k * size + 1) + (k * size - 0)) ≤ k * size * (size + 1) + size
 from_start k size = omega arith
-
--- what is enough for a size is enough for a lesser one
-pub enough_rises : (levels : ℕ → ℕ) (m n : ℕ) → m ≤ n → enough_turns levels m ≤ enough_turns levels n
-enough_rises levels m n less =
-    let rounds : levels_below levels 10 * m ≤ levels_below levels 10 * n = mul-le-mul_left (levels_below levels 10) less in
-    let more : m + 1 ≤ n + 1 = omega arith in
-    omega (arith, mul-le-mul rounds more)
 
 -- With turns enough, or without a limit, a reduction ends for another reason.
 pub ends_in_time : (p : Proposals) (A R : Trial) (levels : ℕ → ℕ) (size : ℕ) (limit : Option ℕ) → HasLevels p.widths levels → ((file variant : List ℕ) → A file variant → IsSmaller variant file)

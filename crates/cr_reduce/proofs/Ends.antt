@@ -10,7 +10,7 @@ use Rattle.cr_reduce.specs.Reduction.{State, Outcome, Within, cursors_of, start_
 use Rattle.cr_reduce.specs.Reduction.Reduces.{fixed, spent}
 use Rattle.cr_reduce.specs.Search.{Search, AcceptsInRun, RejectsInRun, AcceptsAsTold, RejectsAsTold, ReducesInRun, ReducesAsTold, IsAllTold}
 use Rattle.cr_reduce.specs.Walk.{EndsHere, Walked, state_of}
-use Rattle.cr_reduce.specs.Ends.{end_of_walk, outcome_of, StopsAt, EndsBy, EndsInRun, EndsAsTold, IsFixedInRun, IsFixedAsTold, FaultsWithCause}
+use Rattle.cr_reduce.specs.Ends.{end_of_walk, outcome_of, StopsAt, EndsBy, EndsInRun, EndsAsTold, IsFixedInRun, IsFixedAsTold}
 use Rattle.cr_reduce.proofs.Reductions.{stops_here, reduces-map, fixed_point}
 use Rattle.cr_reduce.proofs.Runs.{goes_on-refl}
 
@@ -63,12 +63,6 @@ fixed_in_run s now limit file e NoMemory run is = cc
 
 pub fixed_as_told : (s : Search) (now : Option (List Call)) (file : List ℕ) → IsAllTold s → IsFixedInRun s now file → IsFixedAsTold s file
 fixed_as_told s now file told all i at low high there = rejects_told s now told file (s.proposals.bytes file at) (all i at low high there)
-
-pub faults_with_cause : (s : Search) (limit : Option ℕ) (before now : ℕ) (st : State) (why : Why) → EndsHere s limit before now st why → FaultsWithCause s before now why
-faults_with_cause s limit before now st Fixed ended = tt
-faults_with_cause s limit before now st Limit ended = tt
-faults_with_cause s limit before now st (Fault turn worker) ended = (ended.0, ended.1)
-faults_with_cause s limit before now st NoMemory ended = tt
 
 -- the end of a walk from the file that was given
 pub chain_of_walk : {T : Type 0} (s : Search) (now : Option (List Call)) (limit : Option ℕ) (before count : ℕ) (file : List ℕ) (from : State) (w : Walk T) (why : Why) (e : End) → from ≡ start_of file → e ≡ end_of_walk w why

@@ -1,11 +1,11 @@
 -- Calls in a run: lists of calls that go on, and answers that stay given.
-use Rattle.std.proofs.Common.{◌≡◌, inl, inr, ℕ, Bool, List, [], ◌∷◌, ◌++◌, Option, Some, None, subst, sym, ap, ◌∙◌, refl, append_assoc}
+use Rattle.std.proofs.Common.{◌≡◌, ◌≢◌, ℕ, Bool, true, List, [], ◌∷◌, ◌++◌, Option, Some, None, subst, sym, ap, ◌∙◌, refl, append_assoc}
 use Rattle.std.proofs.lemmas.List.{append-nil}
 use Rattle.cr_outside.specs.declared.judge.Answer.{Answer}
-use Rattle.cr_outside.specs.declared.judge.Answer.TheVariants.{Yes, No}
+use Rattle.cr_outside.specs.declared.judge.Answer.TheVariants.{Yes, No, Failed, NoMemory}
 use Rattle.cr_outside.specs.Judge.{Call, call_of, with_call}
-use Rattle.cr_outside.specs.Question.{AsksOnce}
-use Rattle.cr_reduce.specs.Trials.{GoesOn, HasCalled, AnswerInRun, CallsAbout}
+use Rattle.cr_outside.specs.Question.{AnswersAsTold, AsksOnce}
+use Rattle.cr_reduce.specs.Trials.{GoesOn, HasCalled, AnswerInRun}
 
 pub goes_on-refl : (calls : Option (List Call)) → GoesOn calls calls
 goes_on-refl None = refl
@@ -34,20 +34,22 @@ called : (old new : Option (List Call)) (call : Call) → new ≡ with_call call
 called None new call is = tt
 called (Some list) new call is = ([], [], is ∙ ap (λ front. Some (front ++ call ∷ [])) (sym (append-nil list)))
 
-pub called_yes : (old new : Option (List Call)) (name file : List ℕ) → AsksOnce old new name file Yes → (test : List ℕ) × HasCalled old new (call_of test name file Yes)
-called_yes old new name file once = (once.0, called old new (call_of once.0 name file Yes) once.1)
+called_once : (old new : Option (List Call)) (name file : List ℕ) (answer : Answer) → answer ≢ NoMemory → AsksOnce old new name file answer
+    → (test : List ℕ) × HasCalled old new (call_of test name file answer)
+called_once old new name file Yes given once = (once.0, called old new (call_of once.0 name file Yes) once.1)
+called_once old new name file No given once = (once.0, called old new (call_of once.0 name file No) once.1)
+called_once old new name file Failed given once = (once.0, called old new (call_of once.0 name file Failed) once.1)
+called_once old new name file NoMemory given once = absurd (given refl)
 
-pub called_no : (old new : Option (List Call)) (name file : List ℕ) → AsksOnce old new name file No → (test : List ℕ) × HasCalled old new (call_of test name file No)
-called_no old new name file once = (once.0, called old new (call_of once.0 name file No) once.1)
+-- The answer to the one question.
+pub answered_once : (asks : Bool) (Tells : List ℕ → Bool → Type 0) (name : List ℕ) (old new : Option (List Call)) (file : List ℕ) (answer : Answer) → answer ≢ NoMemory
+    → (asks ≡ true → AsksOnce old new name file answer) → AnswersAsTold asks (Tells file) answer → AnswerInRun asks Tells name old new file answer
+answered_once asks Tells name old new file answer given once told = record { asked = λ uses. called_once old new name file answer given (once uses); told = told }
 
 -- one call more goes on
 pub with_call-goes_on : (old : Option (List Call)) (call : Call) → GoesOn old (with_call call old)
 with_call-goes_on None call = refl
 with_call-goes_on (Some list) call = (call ∷ [], refl)
-
-pub calls_about-goes_on : (old new : Option (List Call)) (name file : List ℕ) → CallsAbout old new name file → GoesOn old new
-calls_about-goes_on old new name file (inl same) = subst (GoesOn old) (sym same) (goes_on-refl old)
-calls_about-goes_on old new name file (inr made) = subst (GoesOn old) (sym made.2) (with_call-goes_on old (call_of made.0 name file made.1))
 
 -- An answer stays given.
 pub answer_in_run-later : (asks : Bool) (Tells : List ℕ → Bool → Type 0) (name : List ℕ) (before now later : Option (List Call)) (variant : List ℕ) (answer : Answer)

@@ -1,5 +1,5 @@
 -- The reasons against a file that doesn't tokenise.
-use Rattle.std.proofs.Common.{◌≡◌, ◌≤◌, ◌⊎◌, inl, inr, ℕ, List, length, refl, subst}
+use Rattle.std.proofs.Common.{◌≡◌, ◌⊎◌, inl, inr, ℕ, List, subst}
 use Rattle.cr_tokens.specs.declared.token.TokenFault.{TokenFault}
 use Rattle.cr_tokens.specs.declared.token.TokenFault.TheVariants as fault
 use Rattle.cr_tokens.specs.Faults.{FirstTokenFault}
@@ -8,13 +8,6 @@ use Rattle.cr_reduce.specs.declared.traits.law.Reason.{Reason}
 use Rattle.cr_reduce.specs.declared.traits.law.Ruling.{Ruling}
 use Rattle.cr_reduce.specs.declared.traits.law.Ruling.TheVariants as ruling
 use Rattle.cr_reduce.specs.TokenLaw.{IsTokenized, IsTokenReason, RulesOn, reason_of}
-
--- a file whose fault has a place is short
-pub short_file : (file : List ℕ) (f : TokenFault) → (f ≡ fault.NoMemory) ⊎ FirstTokenFault file f → (f ≡ fault.NoMemory → ⊥) → (f ≡ fault.TooLong → ⊥) → length file ≤ 1048576
-short_file file f (inl none) memory long = absurd (memory none)
-short_file file f (inr (FirstTokenFault.too_long h)) memory long = absurd (long refl)
-short_file file f (inr (FirstTokenFault.first at tokens short falls few it)) memory long = short
-short_file file f (inr (FirstTokenFault.too_many t tokens short falls many it)) memory long = short
 
 rules_memory : (file : List ℕ) (f : TokenFault) (r : Ruling) (reason : Reason) → f ≡ fault.NoMemory → RulesOn file f r → r ≡ ruling.Unlawful reason → ⊥
 rules_memory file f r reason none rules is = let ends : r ≡ ruling.NoMemory = subst (λ x. RulesOn file x r) none rules in cc

@@ -30,15 +30,6 @@ pub left_falls : (changed : Bool) (old_size old_count old_position size count po
     → left_of true size count position < left_of changed old_size old_count old_position
 left_falls changed old_size old_count old_position size count position less few = omega (arith, left_low changed old_size old_count old_position)
 
--- so does a rejected position
-pub left_moves : (changed : Bool) (size count position : ℕ) → position < count → left_of changed size count (position + 1) < left_of changed size count position
-left_moves true size count position below = omega arith
-left_moves false size count position below = omega arith
-
--- and a new round
-pub left_rounds : (size count position : ℕ) → count ≤ 167772160 → left_of false size count 0 < left_of true size count position
-left_rounds size count position few = omega arith
-
 -- from the verdict on a variant to the definition
 
 smaller : (file variant : List ℕ) (size n : ℕ) → HasSize file size → HasSize variant n → n < size → IsSmaller variant file

@@ -11,10 +11,10 @@ ghost use Rattle.cr_reduce.specs.Walk.{IsSound, state_of};
 use crate::advance::walk_on;
 use crate::bench::Bench;
 use crate::end::{End, Plan, Why};
+use crate::measure::size_of;
 use crate::traits::law::Law;
 use crate::traits::passes::Passes;
 use crate::traits::positions::positions;
-use crate::trial::measure;
 use crate::walk::Walk;
 use cr_outside::{Judge, Question};
 use std::alloc::Global;
@@ -83,10 +83,8 @@ fn begin<P: Passes>(alloc: Global, passes: &P, file: Vec<u8>) -> Result<Walk<P::
     ensures start { IfOk result (λ walk. state_of walk ≡ start_of file.items) }
     ensures back { IfErr result (λ given. given ≡ file) }
 {
-    let size = match measure(alloc, &file) {
-        Ok(Some(size)) => size,
-        Ok(None) => unreachable!(),
-        Err(_) => return Err(file),
+    let Ok(size) = size_of(alloc, &file) else {
+        return Err(file);
     };
     let Ok(prep) = passes.prepare(alloc, &file) else {
         return Err(file);

@@ -1,7 +1,7 @@
 //! The greedy reduction: passes propose variants of a file, the first accepted one becomes the file, and rounds are
 //! repeated until one round accepts nothing. Here stand the traits that it is generic over (passes of variants, the law
-//! that a file must obey, a stop for long rulings), the flat numbering of a file's variants, and `reduce`, whose contract
-//! is the one-thread first-accepted reduction. Stands on `cr_tokens` and `cr_outside`.
+//! that a file must obey, a stop for long rulings), the size of a file, the flat numbering of its variants, and `reduce`,
+//! whose contract is the one-thread first-accepted reduction. Stands on `cr_tokens` and `cr_outside`.
 #![tactic(auto)]
 
 mod advance;
@@ -10,6 +10,7 @@ mod end;
 mod greedy;
 pub mod laws;
 mod look;
+mod measure;
 mod take;
 pub mod traits;
 mod trial;
@@ -18,6 +19,7 @@ mod walk;
 pub use bench::Bench;
 pub use end::{Accepted, End, Plan, Why};
 pub use greedy::reduce;
+pub use measure::size_of;
 pub use traits::law::{Law, Reason, Ruling, TokenLaw};
 pub use traits::passes::{Cursor, Passes};
 pub use traits::positions::{cursor_at, position_of, positions};

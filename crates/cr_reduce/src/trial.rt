@@ -3,14 +3,14 @@ ghost use Rattle.std.specs.Prelude.{◌≡◌, ◌≢◌, ◌≤◌, ◌<◌, �
 ghost use Rattle.cr_outside.specs.Faults.{Rose};
 ghost use Rattle.cr_outside.specs.declared.judge.Answer.TheVariants.{Yes as AnswerYes, No as AnswerNo};
 ghost use Rattle.cr_reduce.specs.Bench.{first_calls, first_count, first_says, others};
-ghost use Rattle.cr_reduce.specs.Sizes.{HasSize, IsMeasured};
+ghost use Rattle.cr_reduce.specs.Sizes.{HasSize};
 ghost use Rattle.cr_reduce.specs.Trials.{AnswerInRun, CallsAbout, IsBad, IsGood};
 
 use crate::bench::Bench;
+use crate::measure::measure;
 use crate::traits::law::{Law, Ruling};
 use crate::traits::stop::Never;
 use cr_outside::{Answer, Judge, NoMemory, Question};
-use cr_tokens::{read, size};
 use std::alloc::{AllocError, Global};
 
 /// What the trial of a variant came to.
@@ -22,21 +22,6 @@ pub enum Verdict {
     /// The judge answered that the test failed.
     Failed,
     NoMemory,
-}
-
-/// The size of a file, where it tokenises.
-pub fn measure(alloc: Global, file: &[u8]) -> Result<Option<u64>, NoMemory>
-    ensures { IfOk result (λ found. MatchOption found ((n : ℕ) → HasSize file.now n → ⊥) (IsMeasured file.now)) }
-{
-    match read(alloc, file) {
-        Ok(tokens) => Ok(Some(size(file, &tokens))),
-        Err(fault) => {
-            if fault.is_want() {
-                return Err(AllocError);
-            }
-            Ok(None)
-        }
-    }
 }
 
 /// Whether a file is lawful.

@@ -23,7 +23,7 @@ conclude-requires-clause-sized g c =
     let s : Search = search_for (task_for c.args.request (first_says g.J.Judge.key g.J.Judge.says c.args.bench.now)) (first_calls g.J.Judge.calls c.args.bench.now) in
     let now = first_calls g.J.Judge.calls c.reduce-end.new.bench in
     let some = some_reduction (λ most out. ReducesInRun s now most (start_of c.args.bytes.items) out) c.args.request.limit c.reduce-end.result c.reduce-end.result.why c.reduce-end.ensures.chain in
-    out_sized s.proposals (AcceptsInRun s now) (RejectsInRun s now) some.0 (start_of c.args.bytes.items) (outcome_of c.reduce-end.result some.1) (c.in-Ok.old_size, subst (λ b. HasSize b c.in-Ok.old_size) c.deref.ensures.value c.in-Ok.ensures) some.2
+    out_sized s.proposals (AcceptsInRun s now) (RejectsInRun s now) some.0 (start_of c.args.bytes.items) (outcome_of c.reduce-end.result some.1) (c.in-Ok.old_size, subst (λ b. HasSize b c.in-Ok.old_size) c.deref.ensures.value c.in-Ok.ensures.has) some.2
 
 pub conclude-requires-clause-passes : goal.conclude-requires-clause-passes
 conclude-requires-clause-passes g c =
@@ -48,4 +48,4 @@ returns g c = reduced
       asks_only = c.reduce-end.ensures.asks_only;
       cause = c.reduce-end.ensures.cause;
     })
-    (subst (λ b. HasSize b c.in-Ok.old_size) c.deref.ensures.value c.in-Ok.ensures) c.conclude.ensures.1 c.conclude.ensures.2
+    (subst (λ b. HasSize b c.in-Ok.old_size) c.deref.ensures.value c.in-Ok.ensures.has) c.conclude.ensures.1 c.conclude.ensures.2

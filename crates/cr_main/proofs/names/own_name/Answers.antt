@@ -1,13 +1,10 @@
-use Rattle.std.proofs.Common.{◌≢◌, ℕ, List, ◌<◌, drop, get_or, length, arith, subst, sym}
+use Rattle.std.proofs.Common.{drop, arith, subst, sym}
 use Rattle.std.proofs.lemmas.Str.Pattern.{NoCharPasses-char}
+use Rattle.cr_main.specs.Words.{NoSlash}
 use Rattle.cr_main.proofs.NameLemmas.{behind_slash, whole_name}
 use Rattle.cr_main.proofs.names.own_name.Goals as goal
 
-NoSlash : List ℕ → Type 0
-NoSlash own = (i : ℕ) → i < length own → get_or own i 0 ≢ 47
-
 pub returns-in-Some : goal.returns-in-Some
-unfolding NoSlash
 returns-in-Some c =
     let cut = c.in-Some.ensures.cases in record {
       last = behind_slash c.args.name.now c.in-Some.own.now cut.0 cut.1 cut.2.1 cut.4;

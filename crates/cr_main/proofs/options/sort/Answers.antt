@@ -1,8 +1,7 @@
-use Rattle.std.proofs.Common.{◌≡◌, [], Err, ap, length, subst, sym}
-use Rattle.std.specs.Result.{IsErrAnd}
+use Rattle.std.proofs.Common.{[], Err, ap, length, sym}
 use Rattle.std.proofs.lemmas.Bool.{eqb-true}
-use Rattle.cr_main.specs.declared.settings.WordFault.TheVariants.{Usage}
 use Rattle.cr_main.specs.Words.{texts_of}
+use Rattle.cr_main.proofs.Giving.{same_fault}
 use Rattle.cr_main.proofs.WordLists.{no_text}
 use Rattle.cr_main.proofs.Steps.{all_told, pass_none, pass_on}
 use Rattle.cr_main.proofs.options.sort.Goals as goal
@@ -13,7 +12,7 @@ loop-rest-init c = rw (c.new-limits.ensures.items, c.new-places.ensures.items) (
 pub returns-in_err-rest-clause-usage : goal.returns-in_err-rest-clause-usage
 returns-in_err-rest-clause-usage c = λ is limits places sorts.
     let back = c.loop-rest.invariant.back limits places sorts in
-    c.in_err-rest.ensures.usage (let u : IsErrAnd c.from_residual.result (λ x. x ≡ c.in_err-rest.field-0.0) = c.from_residual.ensures.1 in let v : Usage ≡ c.in_err-rest.field-0.0 = subst (λ r. IsErrAnd r (λ x. x ≡ c.in_err-rest.field-0.0)) is u in ap Err (sym v)) back.0 back.1 back.2
+    c.in_err-rest.ensures.usage (ap Err (same_fault c.from_residual.result c.in_err-rest.field-0.0 c.from_residual.ensures.1 is)) back.0 back.1 back.2
 
 pub loop-rest-preserved : goal.loop-rest-preserved
 loop-rest-preserved c = pass_on (texts_of c.args.words.now) (texts_of c.loop-rest.rest.now) (texts_of c.in_ok-rest.rest.now)

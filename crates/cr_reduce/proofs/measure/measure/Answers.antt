@@ -1,6 +1,6 @@
 use Rattle.std.proofs.Common.{arith}
 use Rattle.cr_reduce.proofs.Sizes.{no_size}
-use Rattle.cr_reduce.proofs.trial.measure.Goals as goal
+use Rattle.cr_reduce.proofs.measure.measure.Goals as goal
 
 pub returns-in-Ok : goal.returns-in-Ok
 returns-in-Ok c = record {
