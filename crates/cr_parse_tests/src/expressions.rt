@@ -1,5 +1,5 @@
-use crate::shown::shown;
-use crate::texts::{are_spans, nested};
+use crate::are_spans;
+use crate::texts::{nested, shown};
 use cr_exprs::Goal::{Assignment, Conditional, Expression};
 use cr_exprs::ParseFault::{Ended, OutsideSubset, TooDeep, Unexpected};
 use cr_exprs::{Goal, ParseFault, TypeNames, expression};

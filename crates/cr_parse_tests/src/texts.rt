@@ -1,27 +1,9 @@
-ghost use Rattle.std.specs.Prelude.{◌≡◌, ◌≤◌, IsTrue, length};
-ghost use Rattle.cr_syntax.specs.Words.{AreSpans};
-
-use cr_tokens::{MAX_TOKENS, Token};
+use cr_syntax::{Kind, Node};
+use cr_tokens::Tokens;
 use std::alloc::{AllocError, Global};
 
-/// Whether tokens are parts of a file, as the parsers ask of their caller.
-pub fn are_spans(file: &[u8], tokens: &[Token]) -> bool
-    ensures spans { IsTrue result → AreSpans file.now tokens.now }
-    ensures few { IsTrue result → length tokens.now ≤ 262144 }
-{
-    if tokens.len() > MAX_TOKENS {
-        return false;
-    }
-    for token in tokens {
-        if token.start > token.end || token.end as usize > file.len() {
-            return false;
-        }
-    }
-    true
-}
-
 /// A text with something repeated before and behind its middle.
-pub fn nested(
+pub(crate) fn nested(
     alloc: Global,
     before: &str,
     open: &str,
@@ -40,4 +22,81 @@ pub fn nested(
     }
     text.push_str(end)?;
     Ok(text)
+}
+
+/// The nodes with these numbers in words, with a space between them: a node is its kind and its parts in brackets, and an
+/// identifier, a constant, a text, a declared name and a typedef name is its spelling.
+pub(crate) fn shown(
+    alloc: Global,
+    text: &str,
+    tokens: &Tokens,
+    nodes: &[Node],
+    numbers: &[u32],
+) -> Result<String, AllocError> {
+    let mut shown: Vec<String> = Vec::new(alloc);
+    for node in nodes {
+        let mut out = String::new(alloc);
+        push_kind(alloc, &mut out, text, tokens, node)?;
+        if !node.parts.is_empty() {
+            out.push('[')?;
+            push_all(&mut out, &shown, node.parts.as_slice())?;
+            out.push(']')?;
+        }
+        shown.push(out)?;
+    }
+    let mut out = String::new(alloc);
+    push_all(&mut out, &shown, numbers)?;
+    Ok(out)
+}
+
+fn push_all(out: &mut String, shown: &Vec<String>, numbers: &[u32]) -> Result<(), AllocError> {
+    for (k, part) in numbers.iter().enumerate() {
+        if k > 0 {
+            out.push(' ')?;
+        }
+        if let Some(inner) = shown.get(*part as usize) {
+            out.push_str(inner.as_str())?;
+        }
+    }
+    Ok(())
+}
+
+fn push_kind(
+    alloc: Global,
+    out: &mut String,
+    text: &str,
+    tokens: &Tokens,
+    node: &Node,
+) -> Result<(), AllocError> {
+    match node.kind {
+        Kind::Identifier
+        | Kind::Integer
+        | Kind::Character
+        | Kind::Text
+        | Kind::NameDeclarator
+        | Kind::TypedefName => push_tokens(out, text, tokens, node),
+        kind => {
+            let word = format!(in alloc; "{kind:?}")?;
+            out.push_str(word.as_str())
+        }
+    }
+}
+
+fn push_tokens(
+    out: &mut String,
+    text: &str,
+    tokens: &Tokens,
+    node: &Node,
+) -> Result<(), AllocError> {
+    for (k, token) in tokens.list.iter().enumerate() {
+        if (node.first as usize) <= k && k <= node.last as usize {
+            if k > node.first as usize {
+                out.push(' ')?;
+            }
+            if let Some(piece) = text.get(token.start as usize..token.end as usize) {
+                out.push_str(piece)?;
+            }
+        }
+    }
+    Ok(())
 }

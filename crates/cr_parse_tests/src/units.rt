@@ -1,5 +1,5 @@
-use crate::shown::shown;
-use crate::texts::{are_spans, nested};
+use crate::are_spans;
+use crate::texts::{nested, shown};
 use cr_decls::parse;
 use cr_exprs::ParseFault;
 use cr_exprs::ParseFault::{Ended, NoMemory, OutsideSubset, TooDeep, Unexpected};

@@ -1,6 +1,6 @@
 use Rattle.std.proofs.Common.{◌≡◌, ℕ, ◌<◌, ◌≤◌, Some, length, slice_get}
 use Rattle.cr_tokens.specs.declared.token.Token.{Token}
-use Rattle.cr_parse_tests.proofs.texts.are_spans.Given as goal
+use Rattle.cr_parse_tests.proofs.spans.are_spans.Given as goal
 
 -- the tokens looked at are of the file
 abbrev pub invariant-loop-token : goal.invariant-loop-token
