@@ -1,5 +1,5 @@
 -- Steps of the machine's runs as the functions of declarations and statements take them.
-use Rattle.std.proofs.Common.{◌≡◌, ℕ, zero, suc, ◌+◌, ◌<◌, ◌≤◌, List, [], ◌∷◌, ◌++◌, Option, None, Some, Result, Ok, Err, length, refl, sym, ap, subst, ◌∙◌, arith}
+use Rattle.std.proofs.Common.{◌≡◌, ℕ, zero, suc, true, true≢false, ◌+◌, ◌<◌, ◌≤◌, List, [], ◌∷◌, ◌++◌, Option, None, Some, Result, Ok, Err, length, refl, sym, ap, subst, ◌∙◌, arith}
 use Rattle.std.specs.Prelude.{IfOk, option_to_list}
 use Rattle.cr_syntax.specs.declared.node.Node.{Node}
 use Rattle.cr_syntax.specs.declared.symbol.Context.{Context}
@@ -9,7 +9,7 @@ use Rattle.cr_syntax.specs.Kept.{AreBelow, row_in}
 use Rattle.cr_syntax.specs.Trees.{Trees, none, ◌&◌}
 use Rattle.cr_machine.specs.Machine as m
 use Rattle.cr_machine.specs.Machine.{Goal, Prog, Test, Manner, Reply, call, give, take, run_look, run_set, run_take, run_deep, run_pass, run_seen, run_unseen, run_call, run_fail}
-use Rattle.cr_machine.specs.MachineBody.{body, unlabelled, declared_on, for_body}
+use Rattle.cr_machine.specs.MachineBody.{body, may_label, unlabelled, declared_on, for_body}
 use Rattle.cr_exprs.specs.declared.fault.ParseFault.{ParseFault}
 use Rattle.cr_exprs.specs.declared.found.Found.{Found}
 use Rattle.cr_exprs.specs.Loose.{AreKept}
@@ -40,6 +40,12 @@ for_in (run_look (run_set (run_take h w (run_seen g (run_call a r))))) = run_loo
 for_in (run_look (run_set (run_take h w (run_seen g (run_fail a))))) = run_look (run_set (run_take h w (run_seen g (run_fail a))))
 for_in (run_look (run_set (run_take h w (run_unseen g (run_call a r))))) = run_look (run_set (run_take h w (run_unseen g (run_call a (other_goal (λ z x. x) r)))))
 for_in (run_look (run_set (run_take h w (run_unseen g (run_fail a))))) = run_look (run_set (run_take h w (run_unseen g (run_fail a))))
+
+-- labels may stand in a switch's own block alone
+pub in_own_block : {ts : List Lexeme} {d : ℕ} {c : Scopes} {i : ℕ} {y : Reply} (l : Labels) → may_label (labels_of l) ≡ true →
+    RunsTo ts (body (m.statement m.own_block d)) c i y → RunsTo ts (body (m.statement (labels_of l) d)) c i y
+in_own_block OwnBlock q h = h
+in_own_block Nowhere q h = absurd (true≢false (sym q))
 
 pub unlabelled_in : {ts : List Lexeme} {d s : ℕ} {c : Scopes} {i : ℕ} {y : Reply} (l : Labels) → RunsTo ts (unlabelled m.nowhere d s) c i y → RunsTo ts (unlabelled (labels_of l) d s) c i y
 unlabelled_in Nowhere h = h

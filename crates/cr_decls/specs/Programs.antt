@@ -15,12 +15,12 @@ abbrev pub labels_of : Labels → m.Labels
 labels_of OwnBlock = m.own_block
 labels_of Nowhere = m.nowhere
 
--- behind `case` and behind `default`
-abbrev pub case_rest : m.Labels → ℕ → ℕ → Prog
-case_rest l d s = call (conditional d) (λ a. expect opens word.Colon d (call (statement l (d + 1)) (λ b. made kind.Case s (a & b & none))))
+-- behind `case` and behind `default`, where they may stand
+abbrev pub case_rest : ℕ → ℕ → Prog
+case_rest d s = call (conditional d) (λ a. expect opens word.Colon d (call (statement m.own_block (d + 1)) (λ b. made kind.Case s (a & b & none))))
 
-abbrev pub default_rest : m.Labels → ℕ → ℕ → Prog
-default_rest l d s = expect opens word.Colon d (call (statement l (d + 1)) (λ b. made kind.Default s (b & none)))
+abbrev pub default_rest : ℕ → ℕ → Prog
+default_rest d s = expect opens word.Colon d (call (statement m.own_block (d + 1)) (λ b. made kind.Default s (b & none)))
 
 -- a statement without another one in it
 abbrev pub simple : ℕ → ℕ → Prog

@@ -4,8 +4,8 @@ ghost use Rattle.std.specs.Prelude.{◌≡◌, ◌+◌, ◌<◌, ◌≤◌, ◌^
 ghost use Rattle.cr_syntax.specs.Trees.{none, one, ◌&◌};
 ghost use Rattle.cr_syntax.specs.Context.{ends_open};
 ghost use Rattle.cr_syntax.specs.Kept.{PartsAreBelow, AreBelow, row_in};
-ghost use Rattle.cr_machine.specs.Machine.{nowhere, around, statement, block, if_rest, switch_rest, while_rest, do_rest, for_rest, for_clauses, compound, items, item};
-ghost use Rattle.cr_machine.specs.MachineBody.{body, may_label, unlabelled};
+ghost use Rattle.cr_machine.specs.Machine.{own_block, nowhere, around, statement, block, if_rest, switch_rest, while_rest, do_rest, for_rest, for_clauses, compound, items, item};
+ghost use Rattle.cr_machine.specs.MachineBody.{body, unlabelled};
 ghost use Rattle.cr_exprs.specs.Source.{IsReadable, text_of};
 ghost use Rattle.cr_exprs.specs.Answers.{Reads, IsPlaced, IsPushed, tree};
 ghost use Rattle.cr_decls.specs.Programs.{labels_of, case_rest, default_rest};
@@ -42,7 +42,7 @@ fn statement(
     ensures placed { IfOk result (λ x. IsPlaced (length source.now.tokens.now) at nodes.old nodes.new [] x) }
 {
     if may_label(labels) {
-        return labelled(alloc, source, labels, at, depth, scopes, nodes);
+        return labelled(alloc, source, at, depth, scopes, nodes);
     }
     bar_label(source, at, depth)?;
     unlabelled(alloc, source, at, depth, scopes, nodes)
@@ -53,7 +53,6 @@ fn statement(
 fn labelled(
     alloc: Global,
     source: &Source,
-    labels: Labels,
     at: usize,
     depth: usize,
     scopes: &mut OpenScopes,
@@ -63,15 +62,14 @@ fn labelled(
     requires at { at ≤ length source.now.tokens.now }
     requires depth { depth ≤ 128 }
     requires below { PartsAreBelow nodes.old }
-    requires may { may_label (labels_of labels) ≡ true }
-    ensures reads { Reads (text_of source.now) (body (statement (labels_of labels) depth)) scopes.old at nodes.new scopes.new result }
+    ensures reads { Reads (text_of source.now) (body (statement own_block depth)) scopes.old at nodes.new scopes.new result }
     ensures placed { IfOk result (λ x. IsPlaced (length source.now.tokens.now) at nodes.old nodes.new [] x) }
 {
     if stands(source, at, Word::Case) {
-        return case(alloc, source, labels, at, depth, scopes, nodes);
+        return case(alloc, source, at, depth, scopes, nodes);
     }
     if stands(source, at, Word::Default) {
-        return default(alloc, source, labels, at, depth, scopes, nodes);
+        return default(alloc, source, at, depth, scopes, nodes);
     }
     unlabelled(alloc, source, at, depth, scopes, nodes)
 }
@@ -81,7 +79,6 @@ fn labelled(
 fn case(
     alloc: Global,
     source: &Source,
-    labels: Labels,
     start: usize,
     depth: usize,
     scopes: &mut OpenScopes,
@@ -91,7 +88,7 @@ fn case(
     requires at { start + 1 ≤ length source.now.tokens.now }
     requires depth { depth ≤ 128 }
     requires below { PartsAreBelow nodes.old }
-    ensures reads { Reads (text_of source.now) (case_rest (labels_of labels) depth start) scopes.old (start + 1) nodes.new scopes.new result }
+    ensures reads { Reads (text_of source.now) (case_rest depth start) scopes.old (start + 1) nodes.new scopes.new result }
     ensures placed { IfOk result (λ x. IsPlaced (length source.now.tokens.now) start nodes.old nodes.new [] x) }
 {
     let value = read(
@@ -108,7 +105,7 @@ fn case(
     let inner = statement(
         alloc,
         source,
-        labels,
+        Labels::OwnBlock,
         value.next + 1,
         depth + 1,
         scopes,
@@ -130,7 +127,6 @@ fn case(
 fn default(
     alloc: Global,
     source: &Source,
-    labels: Labels,
     start: usize,
     depth: usize,
     scopes: &mut OpenScopes,
@@ -140,7 +136,7 @@ fn default(
     requires at { start + 1 ≤ length source.now.tokens.now }
     requires depth { depth ≤ 128 }
     requires below { PartsAreBelow nodes.old }
-    ensures reads { Reads (text_of source.now) (default_rest (labels_of labels) depth start) scopes.old (start + 1) nodes.new scopes.new result }
+    ensures reads { Reads (text_of source.now) (default_rest depth start) scopes.old (start + 1) nodes.new scopes.new result }
     ensures placed { IfOk result (λ x. IsPlaced (length source.now.tokens.now) start nodes.old nodes.new [] x) }
 {
     expect(source, start + 1, Word::Colon, depth)?;
@@ -148,7 +144,7 @@ fn default(
     let inner = statement(
         alloc,
         source,
-        labels,
+        Labels::OwnBlock,
         start + 1 + 1,
         depth + 1,
         scopes,

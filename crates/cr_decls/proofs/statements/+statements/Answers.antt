@@ -8,12 +8,13 @@ use Rattle.cr_exprs.proofs.Nodes.{tree_kept, keeps_all, keeps_none, below_empty,
 use Rattle.cr_exprs.proofs.Runs.{exit, fails, stops, deep, no_memory, memory, finish, through, handed, shift, done_as, done_in, run_in, no_room}
 use Rattle.std.specs.Prelude.{option_to_list}
 use Rattle.cr_syntax.specs.Kept.{row_in}
+use Rattle.cr_decls.specs.declared.labels.Labels.TheVariants.{OwnBlock}
 use Rattle.cr_decls.specs.Programs.{labels_of}
-use Rattle.cr_decls.proofs.Steps.{unlabelled_in, step_shift, loop_row, loop_below, loop_kept}
+use Rattle.cr_decls.proofs.Steps.{in_own_block, unlabelled_in, step_shift, loop_row, loop_below, loop_kept}
 use Rattle.cr_decls.proofs.statements.+statements.Goals as goal
 
 pub statement-returns-then-may_label-clause-reads : goal.statement-returns-then-may_label-clause-reads
-statement-returns-then-may_label-clause-reads t c = through c.labelled.result (λ y h. h) c.labelled.ensures.reads
+statement-returns-then-may_label-clause-reads t c = through c.labelled.result (λ y h. in_own_block c.args.labels (sym c.may_label.ensures ∙ c.if-may_label.true) h) c.labelled.ensures.reads
 
 pub statement-returns-in_err-bar_label-clause-reads : goal.statement-returns-in_err-bar_label-clause-reads
 statement-returns-in_err-bar_label-clause-reads t c = exit c.from_residual.result _ c.from_residual.ensures.1 (stops c.in_err-bar_label.ensures.err (run_here (run_no (sym c.may_label.ensures ∙ c.if-may_label.false) (run_bar c.in_err-bar_label.ensures.stands))))
@@ -22,13 +23,13 @@ pub statement-returns-clause-reads : goal.statement-returns-clause-reads
 statement-returns-clause-reads t c = through c.unlabelled.result (λ y h. run_here (run_no (sym c.may_label.ensures ∙ c.if-may_label.false) (run_free c.in_ok-bar_label.ensures.ok (unlabelled_in c.args.labels h)))) c.unlabelled.ensures.reads
 
 pub labelled-returns-then-stands-clause-reads : goal.labelled-returns-then-stands-clause-reads
-labelled-returns-then-stands-clause-reads t c = through c.case.result (λ y h. run_here (run_yes c.requires.may (run_take (sym c.stands.ensures.answer ∙ c.if-stands.true) tt h))) c.case.ensures.reads
+labelled-returns-then-stands-clause-reads t c = through c.case.result (λ y h. run_here (run_yes refl (run_take (sym c.stands.ensures.answer ∙ c.if-stands.true) tt h))) c.case.ensures.reads
 
 pub labelled-returns-then-stands-2-clause-reads : goal.labelled-returns-then-stands-2-clause-reads
-labelled-returns-then-stands-2-clause-reads t c = through c.default.result (λ y h. run_here (run_yes c.requires.may (run_pass (sym c.stands.ensures.answer ∙ c.if-stands.false) (run_take (sym c.stands-2.ensures.answer ∙ c.if-stands-2.true) tt h)))) c.default.ensures.reads
+labelled-returns-then-stands-2-clause-reads t c = through c.default.result (λ y h. run_here (run_yes refl (run_pass (sym c.stands.ensures.answer ∙ c.if-stands.false) (run_take (sym c.stands-2.ensures.answer ∙ c.if-stands-2.true) tt h)))) c.default.ensures.reads
 
 pub labelled-returns-clause-reads : goal.labelled-returns-clause-reads
-labelled-returns-clause-reads t c = through c.unlabelled.result (λ y h. run_here (run_yes c.requires.may (run_pass (sym c.stands.ensures.answer ∙ c.if-stands.false) (run_pass (sym c.stands-2.ensures.answer ∙ c.if-stands-2.false) (unlabelled_in c.args.labels h))))) c.unlabelled.ensures.reads
+labelled-returns-clause-reads t c = through c.unlabelled.result (λ y h. run_here (run_yes refl (run_pass (sym c.stands.ensures.answer ∙ c.if-stands.false) (run_pass (sym c.stands-2.ensures.answer ∙ c.if-stands-2.false) (unlabelled_in OwnBlock h))))) c.unlabelled.ensures.reads
 
 pub case-returns-in_err-value-clause-reads : goal.case-returns-in_err-value-clause-reads
 case-returns-in_err-value-clause-reads t c = exit c.from_residual.result _ c.from_residual.ensures.1 (fails (c.in_err-value.ensures.reads.is) (λ x k h. run_fail h))
