@@ -1,5 +1,5 @@
 use crate::are_spans;
-use crate::texts::{nested, shown};
+use crate::texts::{Names, nested, shown};
 use cr_exprs::Goal::{Assignment, Conditional, Expression};
 use cr_exprs::ParseFault::{Ended, OutsideSubset, TooDeep, Unexpected};
 use cr_exprs::{Goal, ParseFault, TypeNames, expression};
@@ -9,8 +9,8 @@ use cr_tokens::read;
 use std::alloc::{AllocError, Global};
 use std::test::Fail;
 
-// Expressions, the token after them, and their trees as `shown` writes them. `T` and `V` are types, but an inner scope makes
-// `V` an object. Worked out by hand from C11 6.5 and 6.7 and the rules of docs/DEFINITIONS.md.
+// Expressions, the token after them, and their trees as `shown` writes them, with names by their kinds. `T` and `V` are types,
+// but an inner scope makes `V` an object. Worked out by hand from C11 6.5 and 6.7 and the rules of docs/DEFINITIONS.md.
 const TREES: [(&str, usize, &str); 98] = [
     ("a", 1, "a"),
     ("1", 1, "1"),
@@ -89,15 +89,15 @@ const TREES: [(&str, usize, &str); 98] = [
     ("f((a,b))", 8, "Call[Group[Comma[a b]]]"),
     ("f(g(a),b)", 9, "Call[Call[a] b]"),
     // casts and `sizeof`
-    ("(T)a", 4, "Cast[T a]"),
+    ("(T)a", 4, "Cast[TypedefName a]"),
     ("(int)-a", 5, "Cast[Int Minus[a]]"),
-    ("(T)(a)", 6, "Cast[T Group[a]]"),
-    ("(T)(int)a", 7, "Cast[T Cast[Int a]]"),
+    ("(T)(a)", 6, "Cast[TypedefName Group[a]]"),
+    ("(T)(int)a", 7, "Cast[TypedefName Cast[Int a]]"),
     ("(V)+a", 5, "Add[Group[V] a]"),
-    ("(T)+a", 5, "Cast[T Plus[a]]"),
-    ("(T)a*b", 6, "Multiply[Cast[T a] b]"),
+    ("(T)+a", 5, "Cast[TypedefName Plus[a]]"),
+    ("(T)a*b", 6, "Multiply[Cast[TypedefName a] b]"),
     ("(const)a", 4, "Cast[Const a]"),
-    ("(T*)p", 5, "Cast[TypeName[T AbstractPointer] p]"),
+    ("(T*)p", 5, "Cast[TypeName[TypedefName AbstractPointer] p]"),
     (
         "(const char*const*)p",
         8,
@@ -110,7 +110,7 @@ const TREES: [(&str, usize, &str); 98] = [
     ),
     ("sizeof a", 2, "SizeofExpression[a]"),
     ("sizeof(a)", 4, "SizeofExpression[Group[a]]"),
-    ("sizeof(T)", 4, "SizeofType[T]"),
+    ("sizeof(T)", 4, "SizeofType[TypedefName]"),
     (
         "sizeof(int[3])",
         7,
@@ -131,8 +131,8 @@ const TREES: [(&str, usize, &str); 98] = [
         7,
         "Multiply[SizeofType[PlainSpecifiers[Unsigned Long]] 2]",
     ),
-    ("sizeof(T)-1", 6, "Subtract[SizeofType[T] 1]"),
-    ("sizeof(T){", 4, "SizeofType[T]"),
+    ("sizeof(T)-1", 6, "Subtract[SizeofType[TypedefName] 1]"),
+    ("sizeof(T){", 4, "SizeofType[TypedefName]"),
     ("sizeof(a)[0]", 7, "SizeofExpression[Subscript[Group[a] 0]]"),
     (
         "sizeof sizeof a",
@@ -143,12 +143,12 @@ const TREES: [(&str, usize, &str); 98] = [
     (
         "sizeof(struct S{int x;T y,*z;})",
         16,
-        "SizeofType[StructContent[MemberDeclaration[Int x] MemberDeclaration[T y PointerDeclarator[z]]]]",
+        "SizeofType[StructContent[MemberDeclaration[Int NameDeclarator] MemberDeclaration[TypedefName NameDeclarator PointerDeclarator[NameDeclarator]]]]",
     ),
     (
         "sizeof(struct{int T;})",
         9,
-        "SizeofType[StructContent[MemberDeclaration[Int T]]]",
+        "SizeofType[StructContent[MemberDeclaration[Int NameDeclarator]]]",
     ),
     ("sizeof(enum E)", 5, "SizeofType[EnumTag]"),
     (
@@ -164,27 +164,27 @@ const TREES: [(&str, usize, &str); 98] = [
     (
         "sizeof(struct{int(*f)(T,int x,...);})",
         20,
-        "SizeofType[StructContent[MemberDeclaration[Int FunctionDeclarator[GroupDeclarator[PointerDeclarator[f]] VariadicParameters[T Parameter[Int x]]]]]]",
+        "SizeofType[StructContent[MemberDeclaration[Int FunctionDeclarator[GroupDeclarator[PointerDeclarator[NameDeclarator]] VariadicParameters[TypedefName Parameter[Int NameDeclarator]]]]]]",
     ),
     (
         "sizeof(struct{int f(void);})",
         12,
-        "SizeofType[StructContent[MemberDeclaration[Int FunctionDeclarator[f VoidParameters]]]]",
+        "SizeofType[StructContent[MemberDeclaration[Int FunctionDeclarator[NameDeclarator VoidParameters]]]]",
     ),
     (
         "sizeof(struct{int f();})",
         11,
-        "SizeofType[StructContent[MemberDeclaration[Int FunctionDeclarator[f]]]]",
+        "SizeofType[StructContent[MemberDeclaration[Int FunctionDeclarator[NameDeclarator]]]]",
     ),
     (
         "sizeof(struct{int f(int*,int[2],T(*)[3]);})",
         26,
-        "SizeofType[StructContent[MemberDeclaration[Int FunctionDeclarator[f Parameters[Parameter[Int AbstractPointer] Parameter[Int AbstractArray[2]] Parameter[T AbstractArrayOf[AbstractGroup[AbstractPointer] 3]]]]]]]",
+        "SizeofType[StructContent[MemberDeclaration[Int FunctionDeclarator[NameDeclarator Parameters[Parameter[Int AbstractPointer] Parameter[Int AbstractArray[2]] Parameter[TypedefName AbstractArrayOf[AbstractGroup[AbstractPointer] 3]]]]]]]",
     ),
     (
         "sizeof(struct{int a[2],b[];})",
         16,
-        "SizeofType[StructContent[MemberDeclaration[Int ArrayDeclarator[a 2] ArrayDeclarator[b]]]]",
+        "SizeofType[StructContent[MemberDeclaration[Int ArrayDeclarator[NameDeclarator 2] ArrayDeclarator[NameDeclarator]]]]",
     ),
     // what follows a run
     ("a b", 1, "a"),
@@ -194,7 +194,7 @@ const TREES: [(&str, usize, &str); 98] = [
     ("a=b+c=d", 5, "Assign[a Add[b c]]"),
     ("a?b:c=d", 5, "Conditional[a b c]"),
     ("(a)=b", 5, "Assign[Group[a] b]"),
-    ("(T)a=b", 4, "Cast[T a]"),
+    ("(T)a=b", 4, "Cast[TypedefName a]"),
 ];
 
 // Texts that are refused, where so many levels are open.
@@ -425,5 +425,12 @@ fn name(alloc: Global, spelling: &str, is_type: bool) -> Result<TypeName, AllocE
 fn shown_outcome(alloc: Global, text: &str, outcome: &Outcome) -> Result<String, Fail> {
     let tokens = read(alloc, text.as_bytes())?;
     let top = outcome.found.ok().map_or(0, |x| x.0);
-    Ok(shown(alloc, text, &tokens, outcome.nodes.as_slice(), &[top])?)
+    Ok(shown(
+        alloc,
+        text,
+        &tokens,
+        outcome.nodes.as_slice(),
+        &[top],
+        Names::ByKind,
+    )?)
 }

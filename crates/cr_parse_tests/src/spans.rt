@@ -3,7 +3,7 @@ ghost use Rattle.cr_syntax.specs.Words.{AreSpans};
 
 use cr_tokens::{MAX_TOKENS, Token};
 
-/// Whether tokens are parts of a file and as many as a file may have, as the parsers ask of their caller.
+/// Whether tokens are parts of a file and no more than a file may have. The parsers ask no more of their caller.
 pub fn are_spans(file: &[u8], tokens: &[Token]) -> bool
     ensures { IsTrue result ↔ (AreSpans file.now tokens.now × (length tokens.now ≤ 262144)) }
 {

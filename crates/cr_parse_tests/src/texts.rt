@@ -24,19 +24,27 @@ pub(crate) fn nested(
     Ok(text)
 }
 
+/// How a declared name and a typedef name are shown.
+#[derive(Clone, Copy)]
+pub(crate) enum Names {
+    ByKind,
+    BySpelling,
+}
+
 /// The nodes with these numbers in words, with a space between them: a node is its kind and its parts in brackets, and an
-/// identifier, a constant, a text, a declared name and a typedef name is its spelling.
+/// identifier, a constant or a text is its spelling.
 pub(crate) fn shown(
     alloc: Global,
     text: &str,
     tokens: &Tokens,
     nodes: &[Node],
     numbers: &[u32],
+    names: Names,
 ) -> Result<String, AllocError> {
     let mut shown: Vec<String> = Vec::new(alloc);
     for node in nodes {
         let mut out = String::new(alloc);
-        push_kind(alloc, &mut out, text, tokens, node)?;
+        push_kind(alloc, &mut out, text, tokens, node, names)?;
         if !node.parts.is_empty() {
             out.push('[')?;
             push_all(&mut out, &shown, node.parts.as_slice())?;
@@ -67,18 +75,20 @@ fn push_kind(
     text: &str,
     tokens: &Tokens,
     node: &Node,
+    names: Names,
 ) -> Result<(), AllocError> {
-    match node.kind {
-        Kind::Identifier
-        | Kind::Integer
-        | Kind::Character
-        | Kind::Text
-        | Kind::NameDeclarator
-        | Kind::TypedefName => push_tokens(out, text, tokens, node),
-        kind => {
-            let word = format!(in alloc; "{kind:?}")?;
-            out.push_str(word.as_str())
-        }
+    if is_spelled(node.kind, names) {
+        return push_tokens(out, text, tokens, node);
+    }
+    let word = format!(in alloc; "{:?}", node.kind)?;
+    out.push_str(word.as_str())
+}
+
+fn is_spelled(kind: Kind, names: Names) -> bool {
+    match kind {
+        Kind::Identifier | Kind::Integer | Kind::Character | Kind::Text => true,
+        Kind::NameDeclarator | Kind::TypedefName => matches!(names, Names::BySpelling),
+        _ => false,
     }
 }
 

@@ -1,5 +1,5 @@
 use crate::are_spans;
-use crate::texts::{nested, shown};
+use crate::texts::{Names, nested, shown};
 use cr_decls::parse;
 use cr_exprs::ParseFault;
 use cr_exprs::ParseFault::{Ended, NoMemory, OutsideSubset, TooDeep, Unexpected};
@@ -8,7 +8,8 @@ use cr_tokens::read;
 use std::alloc::{AllocError, Global};
 use std::test::Fail;
 
-// Units and their trees as `shown` writes them. Worked out by hand from C11 6.7 to 6.9 and the rules of docs/DEFINITIONS.md.
+// Units and their trees as `shown` writes them, with names by their spelling. Worked out by hand from C11 6.7 to 6.9 and the
+// rules of docs/DEFINITIONS.md.
 const TREES: [(&str, &str); 64] = [
     // declarations
     ("int x;", "Declaration[Int x]"),
@@ -471,5 +472,6 @@ fn shown_unit(alloc: Global, text: &str, unit: &Unit) -> Result<String, AllocErr
         &unit.tokens,
         unit.nodes.as_slice(),
         unit.items.as_slice(),
+        Names::BySpelling,
     )
 }
