@@ -4,17 +4,15 @@
 # It proves and builds a small timer in a folder of its own, which takes some minutes. Run it by hand.
 set -eu
 . "$(dirname "${BASH_SOURCE[0]}")/timer.sh"
-begin_timer cr_tokens cr_ints cr_rows cr_syntax cr_machine cr_exprs
+begin_timer cr_tokens cr_ints cr_rows cr_syntax cr_machine cr_exprs cr_decls cr_parse_tests
 cat >src/main.rt <<'RT'
 //! Reads the expression on standard input twenty times, and prints how long that took.
 #![tactic(auto)]
 
-ghost use Rattle.std.specs.Prelude.{◌≡◌, ◌≤◌, IsTrue, length};
-ghost use Rattle.cr_syntax.specs.Words.{AreSpans};
-
 use cr_exprs::{Goal, TypeNames, expression};
+use cr_parse_tests::are_spans;
 use cr_rows::Row;
-use cr_tokens::{MAX_TOKENS, Token, Tokens};
+use cr_tokens::Tokens;
 use std::io::{self, Read};
 use std::time::Instant;
 use std::alloc::Global;
@@ -49,7 +47,6 @@ fn end_of(alloc: Global, file: &[u8], tokens: &Tokens) -> u32 {
     }
 }
 RT
-add_are_spans
 build_timer
 chain=$(printf 'a%.0s' 1; printf '+1%.0s' $(seq 1 131000))
 mixed=$(printf 'x'; for _ in $(seq 1 7900); do printf ' + first_pair[index].left * value(second, 3)\n  - (int)total->part / (1 << count ? -4 : ~mask)'; done)

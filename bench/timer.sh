@@ -22,37 +22,6 @@ begin_timer() {
   rm -rf src/* specs proofs stdin stdout BUILD.bazel
 }
 
-# add_are_spans: adds to src/main.rt the test that the parsers ask of a caller, whether tokens are parts of a file, with its proof.
-add_are_spans() {
-  mkdir -p specs proofs/are_spans
-  touch specs/Lib.antt
-  cat >proofs/are_spans/Invariants.antt <<'ANTT'
-use Rattle.std.proofs.Common.{◌≡◌, ℕ, ◌<◌, ◌≤◌, Some, length, slice_get}
-use Rattle.cr_tokens.specs.declared.token.Token.{Token}
-use Rattle.timer.proofs.are_spans.Given as goal
-
-abbrev pub invariant-loop-token : goal.invariant-loop-token
-invariant-loop-token l = (k : ℕ) (t : Token) → k < l.token-index → slice_get l.tokens k ≡ Some t → (t.start ≤ t.end) × (t.end ≤ length l.file)
-ANTT
-  cat >>src/main.rt <<'RT'
-
-fn are_spans(file: &[u8], tokens: &[Token]) -> bool
-    ensures spans { IsTrue result → AreSpans file.now tokens.now }
-    ensures few { IsTrue result → length tokens.now ≤ 262144 }
-{
-    if tokens.len() > MAX_TOKENS {
-        return false;
-    }
-    for token in tokens {
-        if token.start > token.end || token.end as usize > file.len() {
-            return false;
-        }
-    }
-    true
-}
-RT
-}
-
 # Proves and builds the timer, which is then out/timer.
 build_timer() {
   echo "proving and building the timer" >&2

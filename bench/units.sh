@@ -5,16 +5,13 @@
 # It proves and builds a small timer in a folder of its own, which takes some minutes. Run it by hand.
 set -eu
 . "$(dirname "${BASH_SOURCE[0]}")/timer.sh"
-begin_timer cr_tokens cr_ints cr_rows cr_syntax cr_machine cr_exprs cr_decls
+begin_timer cr_tokens cr_ints cr_rows cr_syntax cr_machine cr_exprs cr_decls cr_parse_tests
 cat >src/main.rt <<'RT'
 //! Reads and parses the file on standard input ten times, and prints how long that took.
 #![tactic(auto)]
 
-ghost use Rattle.std.specs.Prelude.{◌≡◌, ◌≤◌, IsTrue, length};
-ghost use Rattle.cr_syntax.specs.Words.{AreSpans};
-
 use cr_decls::parse;
-use cr_tokens::{MAX_TOKENS, Token};
+use cr_parse_tests::are_spans;
 use std::alloc::Global;
 use std::io::{self, Read};
 use std::time::Instant;
@@ -46,7 +43,6 @@ fn counts(alloc: Global, text: &[u8]) -> (usize, usize) {
     }
 }
 RT
-add_are_spans
 build_timer
 timed() {
   out/timer | awk -v name="$1" '{ printf "%s: %d bytes, %d tokens, %d nodes: %.1f ms, %.1f MB/s\n", name, $1, $2, $3, $4 / 10000, 10 * $1 / $4 }'
