@@ -2,7 +2,7 @@ use Rattle.std.proofs.Common.{◌≡◌, ◌≢◌, ◌-◌, [], false}
 use Rattle.cr_core.specs.declared.marks.Mark.TheVariants.{Open}
 use Rattle.cr_core.specs.Row.{last_position, last_mark}
 use Rattle.cr_claims.specs.Pass.{view_of, IsOf}
-use Rattle.cr_claims.proofs.tests.Worker.claim_all.Given as goal
+use Rattle.cr_worker_tests.proofs.claiming.Worker.claim_all.Given as goal
 
 abbrev pub invariant-loop-at : goal.invariant-loop-at
 invariant-loop-at l =
