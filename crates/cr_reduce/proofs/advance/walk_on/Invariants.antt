@@ -7,9 +7,9 @@ use Rattle.cr_reduce.proofs.advance.walk_on.Given as goal
 
 abbrev pub invariant-loop-why : goal.invariant-loop-why
 invariant-loop-why g l = record {
-  sound : IsSound (g.P.Passes.widths l.passes) (g.P.Passes.is_of l.passes) l.walk;
-  walked : Walked (search_of (g.P.Passes.widths l.passes) (g.P.Passes.bytes l.passes) (g.L.Law.lawful l.law) (g.Q.Question.asks l.question) (g.Q.Question.tells l.question) (first_says g.J.Judge.key g.J.Judge.says l.fn.bench) l.name (first_calls g.J.Judge.calls l.fn.bench))
-      (first_calls g.J.Judge.calls l.bench) (state_of l.fn.walk) (state_of l.walk);
+  sound : IsSound (g.P.Passes.offers l.passes) (g.P.Passes.offer l.passes) l.walk;
+  walked : Walked (search_of (g.P.Passes.offers l.passes) (g.L.Law.lawful l.law) (g.Q.Question.asks l.question) (g.Q.Question.tells l.question) (first_says g.J.Judge.key g.J.Judge.says l.fn.bench) l.name (first_calls g.J.Judge.calls l.fn.bench))
+      (first_calls g.J.Judge.calls l.bench) (state_of (g.P.Passes.offer l.passes) l.fn.walk) (state_of (g.P.Passes.offer l.passes) l.walk);
   within : Within l.limit l.walk.turns;
   key : first_says g.J.Judge.key g.J.Judge.says l.bench ≡ first_says g.J.Judge.key g.J.Judge.says l.fn.bench;
   others : others l.bench ≡ others l.fn.bench;
