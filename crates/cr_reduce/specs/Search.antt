@@ -1,11 +1,16 @@
 -- What a reduction searches: what the passes propose, which files are lawful, and what is asked about them.
 use Rattle.std.specs.Prelude.{◌≡◌, ℕ, Bool, List, [], ◌∷◌, ◌++◌, Option, Some, None}
 use Rattle.std.specs.List.{slice_get}
+use Rattle.cr_cursor.specs.declared.law.Law.{Ghosts as LawGhosts}
+use Rattle.cr_cursor.specs.declared.passes.Passes.{Ghosts as PassesGhosts}
+use Rattle.cr_outside.specs.declared.judge.Judge.{Ghosts as JudgeGhosts}
+use Rattle.cr_outside.specs.declared.question.Question.{Ghosts as QuestionGhosts}
 use Rattle.cr_outside.specs.Judge.{Call}
 use Rattle.cr_outside.specs.Question.{Says, IsTold}
 use Rattle.cr_reduce.specs.declared.end.Accepted.{Accepted}
 use Rattle.cr_cursor.specs.declared.passes.Cursor.{Cursor}
 use Rattle.cr_cursor.specs.Variants.{Offer}
+use Rattle.cr_reduce.specs.Bench.{first_calls, first_says}
 use Rattle.cr_reduce.specs.Sizes.{IsSmaller}
 use Rattle.cr_reduce.specs.Trials.{IsAccepted, IsRejected, ToldAnswer, AnswerInRun}
 use Rattle.cr_reduce.specs.Reduction.{Proposals, Trial, State, Outcome, Reduces, cursors_of, start_of}
@@ -32,6 +37,11 @@ search_of Offers Lawful asks tells says name before = record {
   name = name;
   before = before;
 }
+
+-- The search of passes, a law, a question and a name with a bench of judges: what each of these traits tells of them.
+abbrev pub searching : {P I L Q J K : Type 0} → PassesGhosts P I → P → LawGhosts L → L → QuestionGhosts Q → Q → List ℕ → JudgeGhosts J K → List J → Search
+searching passes p law l question q name judge bench =
+    search_of (passes.offers p) (law.lawful l) (question.asks q) (question.tells q) (first_says judge.key judge.says bench) name (first_calls judge.calls bench)
 
 -- with the answers that were given in the run so far
 abbrev pub AcceptsInRun : Search → Option (List Call) → Trial

@@ -3,7 +3,7 @@ ghost use Rattle.std.specs.Prelude.{◌≡◌, ◌≢◌, ◌<◌, ◌≤◌, �
 ghost use Rattle.cr_reduce.specs.Bench.{first_calls, first_count, first_says, others};
 ghost use Rattle.cr_reduce.specs.Bound.{HasLevels, enough_turns};
 ghost use Rattle.cr_reduce.specs.Ends.{end_of_walk, EndsAsTold, EndsInRun, FaultsWithCause, IsFixedAsTold, IsFixedInRun};
-ghost use Rattle.cr_reduce.specs.Search.{AsksOnlyCandidates, IsAllTold, search_of};
+ghost use Rattle.cr_reduce.specs.Search.{AsksOnlyCandidates, IsAllTold, searching};
 ghost use Rattle.cr_reduce.specs.Reduction.{Within, start_of};
 ghost use Rattle.cr_reduce.specs.Sizes.{HasSize};
 ghost use Rattle.cr_reduce.specs.Walk.{IsSound, state_of};
@@ -34,21 +34,21 @@ pub fn reduce<P: Passes, L: Law, Q: Question, J: Judge>(
     requires window { (0 < plan.now.window) × (plan.now.window ≤ 4096) }
 
     // The reduction by the answers given in this run, whatever the judge is.
-    ensures chain { EndsInRun (search_of (P.offers passes.now) (L.lawful law.now) (Q.asks question.now) (Q.tells question.now) (first_says J.key J.says bench.old) name.now (first_calls J.calls bench.old))
+    ensures chain { EndsInRun (searching P.Passes passes.now L.Law law.now Q.Question question.now name.now J.Judge bench.old)
         (first_calls J.calls bench.new) plan.now.limit file.items result }
-    ensures all_rejected { result.why ≡ Why.Fixed → IsFixedInRun (search_of (P.offers passes.now) (L.lawful law.now) (Q.asks question.now) (Q.tells question.now) (first_says J.key J.says bench.old) name.now (first_calls J.calls bench.old))
+    ensures all_rejected { result.why ≡ Why.Fixed → IsFixedInRun (searching P.Passes passes.now L.Law law.now Q.Question question.now name.now J.Judge bench.old)
         (first_calls J.calls bench.new) result.file.items }
 
     // Where the answers are told, it is the one-thread first-accepted reduction.
-    ensures reduction { IsAllTold (search_of (P.offers passes.now) (L.lawful law.now) (Q.asks question.now) (Q.tells question.now) (first_says J.key J.says bench.old) name.now (first_calls J.calls bench.old))
-        → EndsAsTold (search_of (P.offers passes.now) (L.lawful law.now) (Q.asks question.now) (Q.tells question.now) (first_says J.key J.says bench.old) name.now (first_calls J.calls bench.old)) plan.now.limit file.items result }
-    ensures fixed_point { IsAllTold (search_of (P.offers passes.now) (L.lawful law.now) (Q.asks question.now) (Q.tells question.now) (first_says J.key J.says bench.old) name.now (first_calls J.calls bench.old))
-        → result.why ≡ Why.Fixed → IsFixedAsTold (search_of (P.offers passes.now) (L.lawful law.now) (Q.asks question.now) (Q.tells question.now) (first_says J.key J.says bench.old) name.now (first_calls J.calls bench.old)) result.file.items }
+    ensures reduction { IsAllTold (searching P.Passes passes.now L.Law law.now Q.Question question.now name.now J.Judge bench.old)
+        → EndsAsTold (searching P.Passes passes.now L.Law law.now Q.Question question.now name.now J.Judge bench.old) plan.now.limit file.items result }
+    ensures fixed_point { IsAllTold (searching P.Passes passes.now L.Law law.now Q.Question question.now name.now J.Judge bench.old)
+        → result.why ≡ Why.Fixed → IsFixedAsTold (searching P.Passes passes.now L.Law law.now Q.Question question.now name.now J.Judge bench.old) result.file.items }
 
     // The test is asked about nothing but smaller, lawful variants of the chain's files.
-    ensures asks_only { AsksOnlyCandidates (search_of (P.offers passes.now) (L.lawful law.now) (Q.asks question.now) (Q.tells question.now) (first_says J.key J.says bench.old) name.now (first_calls J.calls bench.old))
+    ensures asks_only { AsksOnlyCandidates (searching P.Passes passes.now L.Law law.now Q.Question question.now name.now J.Judge bench.old)
         file.items result.accepted.items (first_calls J.calls bench.old) (first_calls J.calls bench.new) }
-    ensures cause { FaultsWithCause (search_of (P.offers passes.now) (L.lawful law.now) (Q.asks question.now) (Q.tells question.now) (first_says J.key J.says bench.old) name.now (first_calls J.calls bench.old))
+    ensures cause { FaultsWithCause (searching P.Passes passes.now L.Law law.now Q.Question question.now name.now J.Judge bench.old)
         (first_count J.faults bench.old) (first_count J.faults bench.new) result.why }
 
     // With turns enough it ends for another reason.
