@@ -2,8 +2,9 @@
 ghost use Rattle.std.specs.Prelude.{◌≡◌, ◌≢◌, ◌≤◌, IfOk, All};
 ghost use Rattle.cr_reduce.specs.declared.end.Why.{Why};
 
-use crate::{LogFault, log_text, read_log, summary_text};
+use crate::rows::{bytes_of, expect, pair, rows};
 use cr_cursor::Cursor;
+use cr_log::{LogFault, log_text, read_log, summary_text};
 use cr_outside::NoMemory;
 use cr_reduce::{Accepted, End, Why};
 use std::alloc::Global;
@@ -38,30 +39,30 @@ fn end(alloc: Global, accepted: &[Accepted], turns: u64, why: Why) -> Result<End
 fn expect_texts(
     rt: &impl Abort,
     alloc: Global,
-    end: &End,
+    ended: (&[Accepted], u64, Why),
     size: u64,
     log: &str,
     summary: &str,
 ) -> Result<(), NoMemory>
-    requires passes { All (λ one. one.at.pass ≤ 9) end.now.accepted.items }
-    requires ended { end.now.why ≢ Why.NoMemory }
+    requires passes { All (λ one. one.at.pass ≤ 9) ended.0.now }
+    requires ended { ended.2 ≢ Why.NoMemory }
 {
-    let text = log_text(alloc, end, size)?;
-    assert_eq!(rt; text.as_slice(), log.as_bytes());
-    let text = summary_text(alloc, "abc.c", 102, size, end)?;
-    assert_eq!(rt; text.as_slice(), summary.as_bytes());
+    let end = end(alloc, ended.0, ended.1, ended.2)?;
+    let text = log_text(alloc, &end, size)?;
+    expect(rt, &text, log.as_bytes(), log);
+    let text = summary_text(alloc, "abc.c", 102, size, &end)?;
+    expect(rt, &text, summary.as_bytes(), summary);
     Ok(())
 }
 
 #[test]
 fn the_three_line_file_has_its_log_and_its_summary(rt: HostRuntime) -> Result<(), Fail> {
     let alloc = rt.alloc();
-    let first = accepted(0, 13, 1, 68, 15);
-    let second = accepted(0, 14, 0, 34, 16);
+    let both = [accepted(0, 13, 1, 68, 15), accepted(0, 14, 0, 34, 16)];
     expect_texts(
         &rt,
         alloc,
-        &end(alloc, &[first, second], 32, Why::Fixed)?,
+        (&both, 32, Why::Fixed),
         34,
         "l 13 1 68 15\nl 14 0 34 16\nend fixed 34 32\n",
         "abc.c size 102 to 34 accepted 2 turns 32 fixed\n",
@@ -69,7 +70,7 @@ fn the_three_line_file_has_its_log_and_its_summary(rt: HostRuntime) -> Result<()
     expect_texts(
         &rt,
         alloc,
-        &end(alloc, &[first, second], 31, Why::Limit)?,
+        (&both, 31, Why::Limit),
         34,
         "l 13 1 68 15\nl 14 0 34 16\nend limit 34 31\n",
         "abc.c size 102 to 34 accepted 2 turns 31 limit\n",
@@ -77,7 +78,7 @@ fn the_three_line_file_has_its_log_and_its_summary(rt: HostRuntime) -> Result<()
     expect_texts(
         &rt,
         alloc,
-        &end(alloc, &[first], 15, Why::Limit)?,
+        (&both[..1], 15, Why::Limit),
         68,
         "l 13 1 68 15\nend limit 68 15\n",
         "abc.c size 102 to 68 accepted 1 turns 15 limit\n",
@@ -85,7 +86,7 @@ fn the_three_line_file_has_its_log_and_its_summary(rt: HostRuntime) -> Result<()
     expect_texts(
         &rt,
         alloc,
-        &end(alloc, &[], 0, Why::Limit)?,
+        (&both[..0], 0, Why::Limit),
         102,
         "end limit 102 0\n",
         "abc.c size 102 to 102 accepted 0 turns 0 limit\n",
@@ -93,7 +94,7 @@ fn the_three_line_file_has_its_log_and_its_summary(rt: HostRuntime) -> Result<()
     expect_texts(
         &rt,
         alloc,
-        &end(alloc, &[], 13, Why::Fault(14, 0))?,
+        (&both[..0], 13, Why::Fault(14, 0)),
         102,
         "end fault 102 13\n",
         "abc.c size 102 to 102 accepted 0 turns 13 fault\n",
@@ -108,7 +109,7 @@ fn each_pass_has_its_letter(rt: HostRuntime) -> Result<(), Fail> {
         let one = accepted(pass as u8, 0, 1, 2, 3);
         let log = log_text(alloc, &end(alloc, &[one], 4, Why::Fixed)?, 2)?;
         let wanted = format!(in alloc; "{letter} 0 1 2 3\nend fixed 2 4\n")?;
-        assert_eq!(rt; log.as_slice(), wanted.as_bytes());
+        expect(&rt, &log, wanted.as_bytes(), &wanted);
     }
     Ok(())
 }
@@ -157,34 +158,42 @@ fn these_texts_are_logs(rt: HostRuntime) -> Result<(), Fail> {
     Ok(())
 }
 
+// Texts that are no logs, and the first line that isn't in the form.
+const NO_LOGS: &str = "
+l 13 01 68 15␊¦1
+¦1
+end fixed 1 2¦1
+␊end fixed 1 2␊¦1
+l 13 1 68 15␊¦2
+l 13 1 68 15␊l 14 0 34 16¦2
+l 13 1 68 15␊end fixed 34 32␊␊¦3
+end fixed 1 2␊end fixed 1 2␊¦2
+l 13 1 68 15␍␊end fixed 34 32␊¦1
+a 13 1 68 15␊end fixed 34 32␊¦1
+l 256 1 68 15␊end fixed 34 32␊¦1
+l 13 18446744073709551616 68 15␊end fixed 34 32␊¦1
+l 13 +1 68 15␊end fixed 34 32␊¦1
+l 13  1 68 15␊end fixed 34 32␊¦1
+l 13 1 68 15 ␊end fixed 34 32␊¦1
+l 13 1 68␊end fixed 34 32␊¦1
+l 13 1 68 15␊end done 34 32␊¦2
+l 13 1 68 15␊end fixed 34 00␊¦2
+l 13 1 68 15␊end memory 34 32␊¦2
+";
+
 #[test]
-fn the_first_line_out_of_the_form_is_named(rt: HostRuntime) {
-    for (text, line) in [
-        ("l 13 01 68 15\n", 1),
-        ("", 1),
-        ("end fixed 1 2", 1),
-        ("\nend fixed 1 2\n", 1),
-        ("l 13 1 68 15\n", 2),
-        ("l 13 1 68 15\nl 14 0 34 16", 2),
-        ("l 13 1 68 15\nend fixed 34 32\n\n", 3),
-        ("end fixed 1 2\nend fixed 1 2\n", 2),
-        ("l 13 1 68 15\r\nend fixed 34 32\n", 1),
-        ("a 13 1 68 15\nend fixed 34 32\n", 1),
-        ("l 256 1 68 15\nend fixed 34 32\n", 1),
-        ("l 13 18446744073709551616 68 15\nend fixed 34 32\n", 1),
-        ("l 13 +1 68 15\nend fixed 34 32\n", 1),
-        ("l 13  1 68 15\nend fixed 34 32\n", 1),
-        ("l 13 1 68 15 \nend fixed 34 32\n", 1),
-        ("l 13 1 68\nend fixed 34 32\n", 1),
-        ("l 13 1 68 15\nend done 34 32\n", 2),
-        ("l 13 1 68 15\nend fixed 34 00\n", 2),
-        ("l 13 1 68 15\nend memory 34 32\n", 2),
-    ] {
+fn the_first_line_out_of_the_form_is_named(rt: HostRuntime) -> Result<(), Fail> {
+    let alloc = rt.alloc();
+    for row in rows(NO_LOGS) {
+        let (text, line) = pair(row);
+        let text = bytes_of(alloc, text)?;
         assert!(rt; text.len() <= 100);
-        let answer = read_log(rt.alloc(), text.as_bytes());
-        assert!(rt;
-            matches!(answer, Err(LogFault::Line(n)) if n == line),
-            "in {text:?}"
-        );
+        let found = match read_log(alloc, &text) {
+            Ok(_) => String::from_str(alloc, "a log")?,
+            Err(fault) => format!(in alloc; "{fault:?}")?,
+        };
+        let wanted = format!(in alloc; "Line({line})")?;
+        expect(&rt, found.as_bytes(), wanted.as_bytes(), row);
     }
+    Ok(())
 }
