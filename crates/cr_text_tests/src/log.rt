@@ -3,9 +3,10 @@ ghost use Rattle.std.specs.Prelude.{◌≡◌, ◌≢◌, ◌≤◌, IfOk, All};
 ghost use Rattle.cr_reduce.specs.declared.end.Why.{Why};
 
 use crate::rows::{bytes_of, expect, pair, rows};
+use cr_cursor::Cursor;
 use cr_log::{LogFault, log_text, read_log, summary_text};
 use cr_outside::NoMemory;
-use cr_reduce::{Accepted, Cursor, End, Why};
+use cr_reduce::{Accepted, End, Why};
 use std::alloc::Global;
 use std::process::Abort;
 use std::test::Fail;
