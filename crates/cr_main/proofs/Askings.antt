@@ -80,7 +80,7 @@ module _ (words : List Word) (says : Telling) (t : Task) (is_task : IsTask words
   bytes_ask read new before after status same (ruled_out r out files quiet said) = asks_nothing (ap (λ j. j.calls) quiet)
   bytes_ask read new before after status same (unruled unmoved quiet is) = asks_nothing (ap (λ j. j.calls) quiet)
   bytes_ask read new before after status same (uninteresting bytes answered files said) = about_file read.files before after after bytes same answered.asked refl
-  bytes_ask read new before after status same (test_failed bytes asked asks rose files said) = about_file read.files before after after bytes same asked refl
+  bytes_ask read new before after status same (test_failed bytes answered asks rose files said) = about_file read.files before after after bytes same answered.asked refl
   bytes_ask read new before after status same (unanswered bytes asked unmoved is) = about_file read.files before after after bytes same asked refl
   bytes_ask read new before after status same (interesting bytes since answered finishes) = finish_asks read new before since after bytes status same answered.asked finishes
 

@@ -6,7 +6,7 @@ use Rattle.cr_outside.specs.Judge.{Call}
 use Rattle.cr_outside.specs.Question.{Says}
 use Rattle.cr_outside.specs.Test.{asks_test, tells_test}
 use Rattle.cr_outside.specs.declared.judge.Answer.{Answer}
-use Rattle.cr_outside.specs.declared.judge.Answer.TheVariants.{Yes, No}
+use Rattle.cr_outside.specs.declared.judge.Answer.TheVariants.{Yes, No, Failed}
 use Rattle.cr_outside.specs.declared.test.Test.{Test}
 use Rattle.cr_reduce.specs.declared.end.End.{End}
 use Rattle.cr_reduce.specs.declared.end.Why.{Why}
@@ -131,7 +131,7 @@ pub data RunsBytes (t : Task) (old new : Outside) (before after : Judging) (stat
   uninteresting : (bytes : List ℕ) → IsAnswered t old.files before after bytes No → new.files ≡ old.files
       → Refuses old new (no_line t.name) 6 status → RunsBytes t old new before after status
   -- 8: the test failed on it
-  test_failed : (bytes : List ℕ) → IsAsked t old.files before after bytes → asks_test t.test ≡ true → Rose before.faults after.faults → new.files ≡ old.files
+  test_failed : (bytes : List ℕ) → IsAnswered t old.files before after bytes Failed → asks_test t.test ≡ true → Rose before.faults after.faults → new.files ≡ old.files
       → Refuses old new (failed_line t.name) 8 status → RunsBytes t old new before after status
   -- 11: no memory was left for the test
   unanswered : (bytes : List ℕ) → IsAsked t old.files before after bytes → new ≡ old → status ≡ 11 → RunsBytes t old new before after status

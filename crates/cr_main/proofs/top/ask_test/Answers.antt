@@ -47,7 +47,7 @@ returns-in-Failed g c =
     let after = judging_of (first_calls g.J.Judge.calls c.ask_first.new.self) (first_count g.J.Judge.faults c.ask_first.new.self) in
     let asked = is_asked t files before after c.args.bytes.items c.deref.result.now c.deref.ensures.value Failed c.in-Failed.ensures.once
     c.requires.has c.requires.lawful (λ quiet. ap (first_calls g.J.Judge.calls) (c.in-Failed.ensures.silent quiet)) c.in-Failed.ensures.later in
-    test_failed c.args.bytes.items asked (must_ask (asks_test t.test) c.in-Failed.ensures.unfailing) (c.in-Failed.ensures.failed refl) (refl {a = files}) c.refuse-in-Failed.ensures
+    test_failed c.args.bytes.items (is_answered t files before after c.args.bytes.items c.deref.result.now c.deref.ensures.value Failed c.in-Failed.ensures.once (λ none. cc) c.in-Failed.ensures.told asked) (must_ask (asks_test t.test) c.in-Failed.ensures.unfailing) (c.in-Failed.ensures.failed refl) (refl {a = files}) c.refuse-in-Failed.ensures
 
 pub returns-in-NoMemory : goal.returns-in-NoMemory
 returns-in-NoMemory g c =
