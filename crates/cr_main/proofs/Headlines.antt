@@ -89,9 +89,9 @@ said_done old new line n status (said_starved m put is) done = absurd (starved_n
 
 concluded : (name : List ℕ) (old new : Outside) (end : End) (old_size size status : ℕ) → Concludes name old new end old_size size status → IsDone status → IsDoneBy name old new end old_size size status
 concluded name old new end old_size size status (unfinished same is) done = absurd (starved_not_done status is done)
-concluded name old new end old_size size status (unwritten fails) done = absurd (fails_not_done old new name status fails.fails done)
-concluded name old new end old_size size status (unlogged written first fails) done = absurd (fails_not_done written new (log_name name) status fails.fails done)
-concluded name old new end old_size size status (summed_up files said) done =
+concluded name old new end old_size size status (unwritten ended fails) done = absurd (fails_not_done old new name status fails.fails done)
+concluded name old new end old_size size status (unlogged written ended first fails) done = absurd (fails_not_done written new (log_name name) status fails.fails done)
+concluded name old new end old_size size status (summed_up ended files said) done =
     let it = said_done old new (summary_text_of name old_size size end) (end_status end.why) status said done in
     record { files = files; output = it.0; is = it.1 }
 
