@@ -10,7 +10,7 @@ use Rattle.cr_cursor.specs.Variants.{Offer}
 use Rattle.cr_reduce.specs.Trials.IsRejected.{not_smaller, unlawful, answered_no}
 use Rattle.cr_reduce.specs.Reduction.{State, Outcome, Within, cursors_of, none_fails, start_of, ends}
 use Rattle.cr_reduce.specs.Reduction.Reduces.{fixed, spent, fails}
-use Rattle.cr_reduce.specs.Search.{Search, AcceptsInRun, FailsInRun, RejectsInRun, AcceptsAsTold, RejectsAsTold, ReducesInRun, ReducesAsTold, ReducesFileInRun, ReducesFileAsTold, IsAllTold}
+use Rattle.cr_reduce.specs.Search.{Search, AcceptsInRun, FailsInRun, RejectsInRun, AcceptsAsTold, RejectsAsTold, ReducesInRun, ReducesFileInRun, ReducesFileAsTold, IsAllTold}
 use Rattle.cr_reduce.specs.Walk.{EndsHere, Walked, state_of}
 use Rattle.cr_reduce.specs.Ends.{end_of_walk, outcome_of, StopsAt, EndsBy, EndsToldBy, EndsInRun, EndsAsTold, IsFixedInRun, IsFixedAsTold}
 use Rattle.cr_reduce.proofs.Reductions.{IsCut, cut_short, fixed_point, none_between, reduces-map, stops_here}
@@ -46,7 +46,7 @@ module _ {T : Type 0} (s : Search) (now : Option (List Call)) (make : T → List
   ends_in_run limit before count (Fault turn worker) ended placed within =
       let here = ended.2 in
       completes limit (Fault turn worker) within (fails w.position here.at w.turns worker (omega arith) here.there (none_between (make w.prep w.file.items) (RejectsInRun s now) w.file.items w.position) here.failed refl
-          (one_left limit w.turns ended.1 within) (ap (λ t. ends (state_of make w) (Fault t worker)) ended.0))
+      (one_left limit w.turns ended.1 within) (ap (λ t. ends (state_of make w) (Fault t worker)) ended.0))
   ends_in_run limit before count NoMemory ended placed within = (within, inr (stops NoMemory placed))
 
 -- where the answers are told
@@ -72,8 +72,8 @@ fault_told : (s : Search) (now : Option (List Call)) (limit : Option ℕ) (file 
     → EndsToldBy (ReducesFileAsTold s file) file limit e (Fault turn worker)
 fault_told s now limit file e turn worker told run =
     let cut : IsCut s.Offers (FailsInRun s now) (AcceptsAsTold s) (RejectsAsTold s) none_fails limit (start_of file run.0) (outcome_of e (Fault turn worker)) turn worker =
-        cut_short s.Offers (AcceptsInRun s now) (AcceptsAsTold s) (RejectsInRun s now) (RejectsAsTold s) (FailsInRun s now) none_fails limit (accepts_told s now told) (rejects_told s now told)
-        (start_of file run.0) (outcome_of e (Fault turn worker)) turn worker run.2 refl in
+    cut_short s.Offers (AcceptsInRun s now) (AcceptsAsTold s) (RejectsInRun s now) (RejectsAsTold s) (FailsInRun s now) none_fails limit (accepts_told s now told) (rejects_told s now told)
+    (start_of file run.0) (outcome_of e (Fault turn worker)) turn worker run.2 refl in
     (cut.next, cut.failed.0, within_less limit e.turns (e.turns + 1) (omega arith) cut.within, (cut.why, (run.0, run.1, cut.run)))
 
 -- Want of memory leaves no fault where the reduction is cut short.
@@ -88,7 +88,7 @@ ends_as_told : (s : Search) (now : Option (List Call)) (limit : Option ℕ) (fil
 ends_as_told s now limit file e Fixed told run = file_told s now file limit (outcome_of e Fixed) told (λ turn worker is. cc) run
 ends_as_told s now limit file e Limit told run = file_told s now file limit (outcome_of e Limit) told (λ turn worker is. cc) run
 ends_as_told s now limit file e (Fault turn worker) told run = fault_told s now limit file e turn worker told run
-ends_as_told s now limit file e NoMemory told run = (run.0, elim run.1 [ | inl untouched ↦ inl untouched | inr at ↦ inr (stops_told s now file e at.0 told at.1) ])
+ends_as_told s now limit file e NoMemory told run = (run.0, elim run.1 [ inl untouched ↦ inl untouched | inr at ↦ inr (stops_told s now file e at.0 told at.1) ])
 
 -- the fixed point
 

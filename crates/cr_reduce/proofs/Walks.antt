@@ -154,11 +154,15 @@ ends_earlier s middle calls limit first before now st Fixed on less ended = ende
 ends_earlier s middle calls limit first before now st Limit on less ended = ended
 ends_earlier s middle calls limit first before now st (Fault turn worker) on less ended =
     let here = ended.2 in
-    let it = here.failed.1 in (ended.0, ended.1, record {
-      at = here.at;
-      there = here.there;
-      asks = here.asks;
-      rose = rose_earlier first before now less here.rose;
-      failed = (here.failed.0, record { smaller = it.smaller; lawful = it.lawful; answered = answer_in_run-earlier s.asks s.Tells s.name s.before middle calls (st.offer.bytes here.at) Failed on it.answered });
-    })
+    let it = here.failed.1 in (
+      ended.0,
+      ended.1,
+      record {
+        at = here.at;
+        there = here.there;
+        asks = here.asks;
+        rose = rose_earlier first before now less here.rose;
+        failed = (here.failed.0, record { smaller = it.smaller; lawful = it.lawful; answered = answer_in_run-earlier s.asks s.Tells s.name s.before middle calls (st.offer.bytes here.at) Failed on it.answered });
+      },
+    )
 ends_earlier s middle calls limit first before now st NoMemory on less ended = ended

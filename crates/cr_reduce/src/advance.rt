@@ -1,5 +1,5 @@
 // The steps of the walk, up to its end.
-ghost use Rattle.std.specs.Prelude.{◌≡◌, ◌<◌, ◌≤◌, ℕ, List, IsSome, Some, None, length};
+ghost use Rattle.std.specs.Prelude.{◌≡◌, ◌<◌, ◌≤◌, ℕ, List, IsSome, Some, None, length, false};
 ghost use Rattle.cr_reduce.specs.declared.end.Why.{Why};
 ghost use Rattle.cr_reduce.specs.Bench.{first_calls, first_count, first_says, others};
 ghost use Rattle.cr_reduce.specs.Reduction.{Within, cursors_of};
@@ -38,6 +38,7 @@ fn advance<P: Passes, L: Law, Q: Question, J: Judge>(
     ensures asks { AsksAtMostOnce (searching P.Passes passes.now L.Law law.now Q.Question question.now name.now J.Judge bench.old)
         (first_calls J.calls bench.new) (state_of (P.offer passes.now) walk.old) }
     ensures key { first_says J.key J.says bench.new ≡ first_says J.key J.says bench.old }
+    ensures silent { Q.asks question.now ≡ false → bench.new ≡ bench.old }
     ensures others { others bench.new ≡ others bench.old }
     ensures count { length bench.new ≡ length bench.old }
     ensures later { first_count J.faults bench.old ≤ first_count J.faults bench.new }
@@ -76,6 +77,7 @@ pub fn walk_on<P: Passes, L: Law, Q: Question, J: Judge>(
     ensures placed { walk.new.position ≤ length (cursors_of (P.offer passes.now walk.new.prep walk.new.file.items)) }
     ensures within { Within limit walk.new.turns }
     ensures key { first_says J.key J.says bench.new ≡ first_says J.key J.says bench.old }
+    ensures silent { Q.asks question.now ≡ false → bench.new ≡ bench.old }
     ensures others { others bench.new ≡ others bench.old }
     ensures count { length bench.new ≡ length bench.old }
     ensures later { first_count J.faults bench.old ≤ first_count J.faults bench.new }

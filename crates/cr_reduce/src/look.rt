@@ -1,5 +1,5 @@
 // One position of the walk.
-ghost use Rattle.std.specs.Prelude.{◌≡◌, ◌<◌, ◌≤◌, ◌+◌, ◌⊎◌, ℕ, List, IsSome, OnOk, OnErr, IfOk, Some, None, true, slice_get, length};
+ghost use Rattle.std.specs.Prelude.{◌≡◌, ◌<◌, ◌≤◌, ◌+◌, ◌⊎◌, ℕ, List, IsSome, OnOk, OnErr, IfOk, Some, None, true, slice_get, length, false};
 ghost use Rattle.cr_outside.specs.Faults.{Rose};
 ghost use Rattle.cr_reduce.specs.declared.end.Why.{Why};
 ghost use Rattle.cr_cursor.specs.declared.passes.Cursor.{Cursor};
@@ -66,6 +66,7 @@ fn consider<P: Passes, L: Law, Q: Question, J: Judge>(
     ensures asks { AsksAtMostOnce (searching P.Passes passes.now L.Law law.now Q.Question question.now name.now J.Judge bench.old)
         (first_calls J.calls bench.new) (state_of (P.offer passes.now) walk.now) }
     ensures key { first_says J.key J.says bench.new ≡ first_says J.key J.says bench.old }
+    ensures silent { Q.asks question.now ≡ false → bench.new ≡ bench.old }
     ensures others { others bench.new ≡ others bench.old }
     ensures count { length bench.new ≡ length bench.old }
     ensures later { first_count J.faults bench.old ≤ first_count J.faults bench.new }
@@ -113,6 +114,7 @@ pub fn look<P: Passes, L: Law, Q: Question, J: Judge>(
     ensures asks { AsksAtMostOnce (searching P.Passes passes.now L.Law law.now Q.Question question.now name.now J.Judge bench.old)
         (first_calls J.calls bench.new) (state_of (P.offer passes.now) walk.old) }
     ensures key { first_says J.key J.says bench.new ≡ first_says J.key J.says bench.old }
+    ensures silent { Q.asks question.now ≡ false → bench.new ≡ bench.old }
     ensures others { others bench.new ≡ others bench.old }
     ensures count { length bench.new ≡ length bench.old }
     ensures later { first_count J.faults bench.old ≤ first_count J.faults bench.new }

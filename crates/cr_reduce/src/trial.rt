@@ -96,6 +96,7 @@ pub fn try_variant<L: Law, Q: Question, J: Judge>(
     ensures calls { CallsAbout (first_calls J.calls bench.old) (first_calls J.calls bench.new) name.now variant.now }
     ensures only_good { (first_calls J.calls bench.new ≡ first_calls J.calls bench.old) ⊎ ((n : ℕ) × IsGood (L.lawful law.now) variant.now limit n) }
     ensures key { first_says J.key J.says bench.new ≡ first_says J.key J.says bench.old }
+    ensures silent { Q.asks question.now ≡ false → bench.new ≡ bench.old }
     ensures others { others bench.new ≡ others bench.old }
     ensures count { length bench.new ≡ length bench.old }
     ensures later { first_count J.faults bench.old ≤ first_count J.faults bench.new }

@@ -13,6 +13,7 @@ loop-why-init g c = record {
   walked = walked-refl (searching g.P.Passes c.args.passes.now g.L.Law c.args.law.now g.Q.Question c.args.question.now c.args.name.now g.J.Judge c.args.bench.now) (state_of (g.P.Passes.offer c.args.passes.now) c.args.walk.now) c.requires.sound.offered;
   within = c.requires.within;
   key = refl;
+  silent = λ _. refl;
   others = refl;
   count = refl;
   later = omega arith;
@@ -33,6 +34,7 @@ loop-why-preserved g c =
           (subst (λ says. Advances (search says) now st to) key (c.in_default.ensures.advances refl));
       within = c.in_default.ensures.within refl c.loop-why.invariant.within;
       key = c.advance-step.ensures.key ∙ key;
+      silent = λ quiet. c.advance-step.ensures.silent quiet ∙ c.loop-why.invariant.silent quiet;
       others = c.advance-step.ensures.others ∙ c.loop-why.invariant.others;
       count = c.advance-step.ensures.count ∙ c.loop-why.invariant.count;
       later = omega (arith, c.advance-step.ensures.later, c.loop-why.invariant.later);
