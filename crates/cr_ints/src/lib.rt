@@ -9,8 +9,6 @@ mod conversion;
 mod end;
 mod kind;
 pub mod laws;
-#[cfg(test)]
-mod tests;
 
 pub use arithmetic::{add, div, mul, rem, shl, shr, sub};
 pub use conversion::{common, convert, promote};

@@ -9,8 +9,6 @@ mod flat;
 mod lifetime;
 mod span;
 mod store;
-#[cfg(test)]
-mod tests;
 mod value;
 
 pub use store::Store;
