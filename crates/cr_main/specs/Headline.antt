@@ -1,11 +1,12 @@
 -- What a run promises, in a few words: each follows from what it comes to, step by step.
-use Rattle.std.specs.Prelude.{◌≡◌, ◌⊎◌, ◌+◌, ◌*◌, ℕ, true, List, Option, Some, None, length}
+use Rattle.std.specs.Prelude.{◌≡◌, ◌≢◌, ◌⊎◌, ◌+◌, ◌*◌, ℕ, true, List, Option, Some, None, length}
 use Rattle.cr_outside.specs.Faults.{Rose}
 use Rattle.cr_outside.specs.Files.{Names, content_of, put_told}
 use Rattle.cr_outside.specs.Question.{Says}
 use Rattle.cr_outside.specs.Sink.{appended}
 use Rattle.cr_reduce.specs.declared.end.End.{End}
-use Rattle.cr_reduce.specs.Ends.{IsFixedAsTold, outcome_of}
+use Rattle.cr_reduce.specs.declared.end.Why.TheVariants as why
+use Rattle.cr_reduce.specs.Ends.{EndsAsTold, IsFixedAsTold, outcome_of}
 use Rattle.cr_reduce.specs.Reduction.{Within}
 use Rattle.cr_reduce.specs.Search.{AsksOnlyCandidates, IsAllTold, ReducesFileAsTold}
 use Rattle.cr_reduce.specs.Sizes.{HasSize}
@@ -14,7 +15,7 @@ use Rattle.cr_reduce.specs.Trials.{CallsAbout}
 use Rattle.cr_log.specs.Texts.{log_text_of, summary_text_of}
 use Rattle.cr_main.specs.declared.settings.Settings.{Settings}
 use Rattle.cr_main.specs.Messages.{copy_name, log_name}
-use Rattle.cr_main.specs.Outside.{Judging, Outside}
+use Rattle.cr_main.specs.Outside.{Judging, Outside, Puts}
 use Rattle.cr_main.specs.Run.{FileHas, IsReduction, Task, end_status, search_for, task_of, tells_for}
 use Rattle.cr_main.specs.Words.{HasSettings, IsOwnName, Word, name_of}
 
@@ -45,6 +46,33 @@ pub record IsHeadline (words : List Word) (says : Says) (old new : Outside) (sta
   pub fixed_point : IsAllTold (search_for t None) → status ≡ 0 → IsFixedAsTold (search_for t None) end.file.items
   pub files : new.files ≡ put_told (log_name t.name) (log_text_of end size) (put_told t.name end.file.items (put_told (copy_name t.name) bytes old.files))
   pub output : new.output ≡ appended (summary_text_of t.name old_size size end) old.output
+
+-- What stands where a run has written its three files, at 0, 7, 8 from the reduction, and 10: they are those of the
+-- reduction as it ended, at a fault those of the first-accepted reduction after the turns that were made. The summary was
+-- put whole, or at 10 a prefix of it.
+pub record IsFinished (words : List Word) (says : Says) (old new : Outside) (status : ℕ) : Type 0 where
+  pub t : Task
+  pub is_task : IsTask words says t
+  pub bytes : List ℕ
+  pub end : End
+  pub old_size : ℕ
+  pub size : ℕ
+  pub read : FileHas old.files t.name bytes
+  pub lawful : IsTokenized bytes
+  pub old_sized : HasSize bytes old_size
+  pub sized : HasSize end.file.items size
+  pub remembered : end.why ≢ why.NoMemory
+  pub reduction : IsAllTold (search_for t None) → EndsAsTold (search_for t None) t.limit bytes end
+  pub fixed_point : IsAllTold (search_for t None) → end.why ≡ why.Fixed → IsFixedAsTold (search_for t None) end.file.items
+  pub files : new.files ≡ put_told (log_name t.name) (log_text_of end size) (put_told t.name end.file.items (put_told (copy_name t.name) bytes old.files))
+  pub output : Puts old new (summary_text_of t.name old_size size end) (end_status end.why) 10 status
+
+-- What stands at 8 and 10.
+pub data HasEnded (words : List Word) (says : Says) (old new : Outside) (status : ℕ) : Type 0 where
+  -- 8: the test failed on the file
+  untested : status ≡ 8 → new.files ≡ old.files → HasEnded words says old new status
+  -- 8 from the reduction, and 10
+  finished : IsFinished words says old new status → HasEnded words says old new status
 
 -- The writes, in their order, as far as they were made.
 pub data Wrote (name bytes result log : List ℕ) (old new : Option Names) : Type 0 where

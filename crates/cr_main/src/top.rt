@@ -5,7 +5,7 @@ ghost use Rattle.cr_outside.specs.Files.{Reads};
 ghost use Rattle.cr_outside.specs.Test.{asks_test};
 ghost use Rattle.cr_reduce.specs.Bench.{first_calls, first_count, first_says, others};
 ghost use Rattle.cr_cursor.specs.TokenLaw.{IsTokenized};
-ghost use Rattle.cr_main.specs.Headline.{AsksOnly, Completes, IsHeadline, IsTask, KeepsFiles};
+ghost use Rattle.cr_main.specs.Headline.{AsksOnly, Completes, HasEnded, IsHeadline, IsTask, KeepsFiles};
 ghost use Rattle.cr_main.specs.Outside.{judging_of, outside_of};
 ghost use Rattle.cr_main.specs.Requests.{task_for};
 ghost use Rattle.cr_main.specs.Run.{FileHas, Runs, RunsBytes, RunsFile, Task, task_of};
@@ -51,6 +51,11 @@ pub fn run<F: Files, J: Judge, O: Sink>(
 
     // At 0 and 7 the headline holds.
     ensures headline { (result ≡ 0) ⊎ (result ≡ 7) → IsHeadline (texts_of list.now) (first_says J.key J.says bench.old)
+        (outside_of (F.told files.old) (F.faults files.old) (O.told out.old) (O.faults out.old))
+        (outside_of (F.told files.new) (F.faults files.new) (O.told out.new) (O.faults out.new)) result }
+
+    // At 8 from the reduction, and at 10, the files are those of the reduction as far as it went.
+    ensures finished { (result ≡ 8) ⊎ (result ≡ 10) → HasEnded (texts_of list.now) (first_says J.key J.says bench.old)
         (outside_of (F.told files.old) (F.faults files.old) (O.told out.old) (O.faults out.old))
         (outside_of (F.told files.new) (F.faults files.new) (O.told out.new) (O.faults out.new)) result }
 

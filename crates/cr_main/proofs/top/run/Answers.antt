@@ -5,6 +5,7 @@ use Rattle.cr_main.specs.Run.{task_of}
 use Rattle.cr_main.specs.Run.Runs.{on_file, refused}
 use Rattle.cr_main.specs.Words.{texts_of}
 use Rattle.cr_main.proofs.Headlines.{headline_of}
+use Rattle.cr_main.proofs.Endings.{has_ended}
 use Rattle.cr_main.proofs.Keeping.{keeps_files}
 use Rattle.cr_main.proofs.Askings.{asks_only}
 use Rattle.cr_main.proofs.Completing.{completes}
@@ -16,6 +17,14 @@ returns-in-Ok-clause-runs g c = on_file c.in-Ok.settings c.run_settings.ensures.
 
 pub returns-in-Ok-clause-headline : goal.returns-in-Ok-clause-headline
 returns-in-Ok-clause-headline g c = headline_of (texts_of c.args.list.now) (first_says g.J.Judge.key g.J.Judge.says c.args.bench.now)
+    (outside_of (g.F.Files.told c.args.files.now) (g.F.Files.faults c.args.files.now) (g.O.Sink.told c.args.out.now) (g.O.Sink.faults c.args.out.now))
+    (outside_of (g.F.Files.told c.run_settings.new.files) (g.F.Files.faults c.run_settings.new.files) (g.O.Sink.told c.run_settings.new.out) (g.O.Sink.faults c.run_settings.new.out))
+    (judging_of (first_calls g.J.Judge.calls c.args.bench.now) (first_count g.J.Judge.faults c.args.bench.now))
+    (judging_of (first_calls g.J.Judge.calls c.run_settings.new.bench) (first_count g.J.Judge.faults c.run_settings.new.bench))
+    c.run_settings.result (returns-in-Ok-clause-runs g c)
+
+pub returns-in-Ok-clause-finished : goal.returns-in-Ok-clause-finished
+returns-in-Ok-clause-finished g c = has_ended (texts_of c.args.list.now) (first_says g.J.Judge.key g.J.Judge.says c.args.bench.now)
     (outside_of (g.F.Files.told c.args.files.now) (g.F.Files.faults c.args.files.now) (g.O.Sink.told c.args.out.now) (g.O.Sink.faults c.args.out.now))
     (outside_of (g.F.Files.told c.run_settings.new.files) (g.F.Files.faults c.run_settings.new.files) (g.O.Sink.told c.run_settings.new.out) (g.O.Sink.faults c.run_settings.new.out))
     (judging_of (first_calls g.J.Judge.calls c.args.bench.now) (first_count g.J.Judge.faults c.args.bench.now))
