@@ -11,6 +11,7 @@ pub mod Outcomes
 pub mod Asking
 pub mod Files
 pub mod Headlines
+pub mod Endings
 pub mod Keeping
 pub mod OneTask
 pub mod Completing
