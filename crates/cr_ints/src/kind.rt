@@ -1,5 +1,5 @@
-ghost use Rattle.std.specs.Prelude.{◌≡◌, ◌↔◌, IsTrue};
-ghost use Rattle.cr_ints.specs.IntKind.{width_of, is_signed, least_of, greatest_of, Represents, can_represent, can_represent_all, rank_of, unsigned_of, modulus_of};
+ghost use Rattle.std.specs.Prelude.{◌≡◌, ◌↔◌, ◌-◌, ◌^◌, IsTrue};
+ghost use Rattle.cr_ints.specs.IntKind.{width_of, is_signed, least_of, greatest_of, Represents, can_represent, can_represent_all, rank_of, unsigned_of};
 
 /// An integer type of the subset (C11 6.2.5). An enumerated type is `Int` or `UInt` itself.
 #[derive(Clone, Copy, PartialEq, Eq, Debug)]
@@ -129,10 +129,10 @@ impl IntKind {
         }
     }
 
-    // How many values a kind of this width has.
-    pub(crate) fn modulus(self) -> i128
-        ensures { result ≡ modulus_of self }
+    // All bits of a kind of this width, as the lowest bits of a number.
+    pub(crate) fn mask(self) -> u128
+        ensures { result ≡ 2 ^ width_of self - 1 }
     {
-        1 << self.width()
+        (1 << self.width()) - 1
     }
 }
