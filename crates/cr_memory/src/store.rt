@@ -1,6 +1,6 @@
 ghost use Rattle.std.specs.Prelude.{◌≡◌, ◌<◌, ◌≤◌, ◌↔◌, [], ◌∷◌, false, length, is_some, IsSome, IsTrue, IfSome, IfNone, ◌⊎◌, IfOk, IfErr, OnErr};
 ghost use Rattle.cr_memory.specs.Memory.{IsPointer, Holds, AllHold, KeepsPointers, live_object, count_of, has_room, new_object, with_object, without_object};
-ghost use Rattle.cr_memory.specs.Access.{load_of, save_of, copy_of, cells_of, shape_in, with_cells, Writes, Reads, HasStride};
+ghost use Rattle.cr_memory.specs.Access.{reach_of, load_of, save_of, put_of, copy_of, cells_of, shape_in, with_cells, Writes, Reads, HasStride};
 ghost use Rattle.cr_memory.specs.Pointers.{shift_of, differ_of, less_of, same_of};
 
 use crate::span::Span;
@@ -65,6 +65,15 @@ impl Store {
         flat::cells(alloc, &self.spans, &self.cells, &self.shape, from, kinds)
     }
 
+    /// Whether the pointer points to a cell of a live object: what `.`, `->` and the change of an array into a pointer ask
+    /// of it (C11 6.5.2.3, 6.3.2.1p3): U9, U10.
+    pub fn reach(&self, at: Pointer) -> Result<(), Trap>
+        requires { IsPointer self.now at }
+        ensures { result ≡ reach_of self.now at }
+    {
+        flat::reach(&self.spans, at)
+    }
+
     /// The pointer moved by so many elements (6.5.6p8): U6, U10.
     pub fn shift(&self, at: Pointer, by: i128) -> Result<Pointer, Trap>
         requires { IsPointer self.now at }
@@ -121,6 +130,18 @@ impl Store {
         ensures kept { KeepsPointers self.old self.new }
     {
         flat::copy(&self.spans, &mut self.cells, &self.shape, from, to, count)
+    }
+
+    /// Stores values in a structure's cells, one for each kind (6.5.16.1p2): U9, U10, U13, U14, N5. A case is looked for in
+    /// all cells before the next case.
+    pub fn put(&mut self, to: Pointer, kinds: &[Scalar], values: &[Cell]) -> Result<(), Trap>
+        requires pointer { IsPointer self.old to }
+        requires stride { HasStride to (length kinds.now) }
+        requires values { AllHold self.old kinds.now values.now }
+        ensures written { Writes (put_of self.old to kinds.now values.now) result self.old self.new }
+        ensures kept { KeepsPointers self.old self.new }
+    {
+        flat::put(&self.spans, &mut self.cells, &self.shape, to, kinds, values)
     }
 
     /// Initialises a cell of a live object, whatever its guard (6.7.9).
