@@ -17,6 +17,8 @@ use Rattle.cr_memory.specs.Kind.{is_same}
 use Rattle.cr_memory.specs.Memory.{Memory, AllHold, KeepsPointers, has_ended}
 use Rattle.cr_memory.specs.Access.{is_null_or_end, is_literal, is_constant, number_of, cell_of, shape_run_at, have_kinds, have_same_kinds, overwritten, with_cells, writing, save_of, put_of, copy_of, Writes, HasStride}
 use Rattle.cr_memory.specs.Flat.{span_at, memory_of, ended_in, index_of, cell_or, shape_or, PointerIn, HoldsIn, HasRoom, IsStored, flat_save, flat_put, flat_copy}
+use Rattle.cr_memory.specs.Continues.{Continues}
+use Rattle.cr_memory.proofs.Continuing.{written-continues}
 use Rattle.cr_memory.proofs.View.{has_ended-memory_of, holds_seen}
 use Rattle.cr_memory.proofs.Overwriting.{length-overwritten}
 use Rattle.cr_memory.proofs.Reaching.{alive_from, same_kinds, reached, reached_run, stride_fits, both_true}
@@ -132,6 +134,7 @@ flat_save-stored most live top spans cells shape at kind value s h held =
 pub record WriteDone (most live top : ℕ) (spans : List Span) (cells written : List Cell) (shape : List (Scalar × Guard)) (wanted : Result Memory Trap) (result : Result (Unit {0}) Trap) : Type 0 where
   pub stored : IsStored most live top spans written shape
   pub kept : KeepsPointers (memory_of most spans cells shape) (memory_of most spans written shape)
+  pub continues : Continues (memory_of most spans cells shape) (memory_of most spans written shape)
   pub seen : Writes wanted result (memory_of most spans cells shape) (memory_of most spans written shape)
 
 write_done : (most live top : ℕ) (spans : List Span) (cells written : List Cell) (shape : List (Scalar × Guard)) (flat : Result (List Cell) Trap) (wanted : Result Memory Trap) (result : Result (Unit {0}) Trap)
@@ -143,6 +146,7 @@ write_done most live top spans cells written shape flat wanted result s e ok w =
     record {
       stored = kept.0;
       kept = same_pointers most spans cells written shape s.room kept.1;
+      continues = written-continues most spans cells written shape s.room kept.1;
       seen = writes_seen (λ xs. memory_of most spans xs shape) flat wanted result cells written e w;
     }
 

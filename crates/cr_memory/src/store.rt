@@ -2,6 +2,8 @@ ghost use Rattle.std.specs.Prelude.{◌≡◌, ◌<◌, ◌≤◌, ◌↔◌, []
 ghost use Rattle.cr_memory.specs.Memory.{IsPointer, Holds, AllHold, KeepsPointers, live_object, count_of, has_room, new_object, with_object, without_object};
 ghost use Rattle.cr_memory.specs.Access.{reach_of, load_of, save_of, put_of, copy_of, cells_of, shape_in, with_cells, Writes, Reads, HasStride};
 ghost use Rattle.cr_memory.specs.Pointers.{shift_of, differ_of, less_of, same_of};
+ghost use Rattle.cr_memory.specs.Continues.{Continues, ContinuesBeside};
+ghost use Rattle.cr_memory.specs.Laws.{HoldsKinds};
 
 use crate::span::Span;
 use crate::value::{Cell, Guard, NO_ROOM, Pointer, Scalar, Trap};
@@ -116,6 +118,7 @@ impl Store {
         requires value { Holds self.old kind value }
         ensures written { Writes (save_of self.old at kind value) result self.old self.new }
         ensures kept { KeepsPointers self.old self.new }
+        ensures continues { Continues self.old self.new }
     {
         flat::save(&self.spans, &mut self.cells, &self.shape, at, kind, value)
     }
@@ -128,6 +131,7 @@ impl Store {
         requires to_stride { HasStride to count }
         ensures written { Writes (copy_of self.old from to count) result self.old self.new }
         ensures kept { KeepsPointers self.old self.new }
+        ensures continues { Continues self.old self.new }
     {
         flat::copy(&self.spans, &mut self.cells, &self.shape, from, to, count)
     }
@@ -140,6 +144,7 @@ impl Store {
         requires values { AllHold self.old kinds.now values.now }
         ensures written { Writes (put_of self.old to kinds.now values.now) result self.old self.new }
         ensures kept { KeepsPointers self.old self.new }
+        ensures continues { Continues self.old self.new }
     {
         flat::put(&self.spans, &mut self.cells, &self.shape, to, kinds, values)
     }
@@ -150,6 +155,7 @@ impl Store {
         requires value { Holds self.old (shape_in self.old object cell).0 value }
         ensures begun { self.new ≡ with_cells self.old object cell (value ∷ []) }
         ensures kept { KeepsPointers self.old self.new }
+        ensures continues { Continues self.old self.new }
     {
         flat::begin(&self.spans, &mut self.cells, object, cell, value)
     }
@@ -164,6 +170,7 @@ impl Store {
         ensures refused { OnErr result (self.new ≡ self.old) }
 
         ensures kept { KeepsPointers self.old self.new }
+        ensures continues { Continues self.old self.new }
     {
         let count = shape.len();
         if !lifetime::has_room(&self.spans, self.most, self.live, count) {
@@ -191,6 +198,7 @@ impl Store {
         requires { IsSome (live_object self.old object) }
         ensures ended { self.new ≡ without_object self.old object }
         ensures kept { KeepsPointers self.old self.new }
+        ensures others { ContinuesBeside object self.old self.new }
     {
         self.live -= lifetime::end_object(&mut self.spans, object);
         self.top = lifetime::top_below(&self.spans, self.top);
@@ -227,6 +235,15 @@ impl Store {
         ensures none { IfNone result (count_of (live_object self.now object) ≤ cell) }
     {
         flat::kind_of(&self.spans, &self.shape, object, cell)
+    }
+
+    /// Each live object has a cell for each kind and guard, and each cell holds a value of its kind. The program doesn't
+    /// call this law.
+    pub fn cells_hold_their_kinds(&self)
+        ensures { HoldsKinds self.now }
+    {
+        // The proof sees what every store keeps only where a field is read.
+        let _read = self.most;
     }
 
     // Bounds the idle cells by the live ones and one for each object, at a cost that the calls of `leave` before have paid.

@@ -1,6 +1,7 @@
 use Rattle.std.proofs.Common.{subst}
 use Rattle.cr_memory.specs.Memory.{Memory, KeepsPointers}
 use Rattle.cr_memory.specs.Access.{put_of, Writes}
+use Rattle.cr_memory.specs.Continues.{Continues}
 use Rattle.cr_memory.specs.Flat.{memory_of}
 use Rattle.cr_memory.proofs.View.{pointer_seen}
 use Rattle.cr_memory.proofs.Storing.{all_hold_seen, as_many, put_done}
@@ -43,3 +44,13 @@ returns-clause-kept c =
     let P : Memory → Type 0 = λ m. KeepsPointers m (memory_of i.most i.spans.items c.put.new.cells.items i.shape.items) in
     subst P c.self.view_is
     (put_done i.most i.live i.top i.spans.items i.cells.items _ i.shape.items c.args.to c.args.kinds.now c.args.values.now c.put.result s at c.requires.stride held c.put.ensures).kept
+
+pub returns-clause-continues : goal.returns-clause-continues
+returns-clause-continues c =
+    let i = c.self.inside in
+    let s = c.self.invariant in
+    let at = pointer_seen i.most i.spans.items i.cells.items i.shape.items _ c.args.to c.self.view_is s.room c.requires.pointer in
+    let held = all_hold_seen i.most i.spans.items i.cells.items i.shape.items _ c.args.kinds.now c.args.values.now c.self.view_is s.room c.requires.values in
+    let P : Memory → Type 0 = λ m. Continues m (memory_of i.most i.spans.items c.put.new.cells.items i.shape.items) in
+    subst P c.self.view_is
+    (put_done i.most i.live i.top i.spans.items i.cells.items _ i.shape.items c.args.to c.args.kinds.now c.args.values.now c.put.result s at c.requires.stride held c.put.ensures).continues
