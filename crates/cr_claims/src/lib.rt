@@ -9,8 +9,6 @@
 mod laws;
 mod plays;
 mod seats;
-#[cfg(test)]
-mod tests;
 mod view;
 
 pub use laws::{each_step_is_an_event, words_and_passes_are_a_core};

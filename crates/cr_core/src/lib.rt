@@ -12,8 +12,6 @@ mod laws;
 mod machine;
 mod marks;
 mod settling;
-#[cfg(test)]
-mod tests;
 
 pub use events::{Event, First, Settle};
 pub use laws::{

@@ -7,8 +7,6 @@
 mod cells;
 mod end;
 mod foot;
-#[cfg(test)]
-mod tests;
 
 pub use end::FootEnd;
 pub use foot::{Foot, NoMemory};

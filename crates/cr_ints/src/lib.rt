@@ -10,8 +10,6 @@ mod conversion;
 mod end;
 mod kind;
 pub mod laws;
-#[cfg(test)]
-mod tests;
 
 pub use arithmetic::{add, div, mul, neg, rem, shl, shr, sub};
 pub use bits::{bitand, bitor, bitxor, not};

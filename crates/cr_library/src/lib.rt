@@ -8,8 +8,6 @@ mod argument;
 mod cut;
 pub mod laws;
 mod piece;
-#[cfg(test)]
-mod tests;
 
 pub use argument::{ShowEnd, show};
 pub use cut::{FormatEnd, pieces};

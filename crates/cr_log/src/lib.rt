@@ -8,8 +8,6 @@ mod laws;
 mod line;
 mod number;
 mod reader;
-#[cfg(test)]
-mod tests;
 mod text;
 
 pub use laws::{a_log_text_is_a_log, a_text_is_read_in_one_way};

@@ -5,7 +5,8 @@ ghost use Rattle.cr_log.specs.Forms.{IsAcceptedLine, IsInForm, IsLastLine, Start
 ghost use Rattle.cr_log.specs.Reading.{IsLetter, Says, StartsWithLine, StartsWithPass, StartsWithWhy};
 
 use crate::number::{cut, pair, take_number};
-use cr_reduce::{Accepted, Cursor};
+use cr_cursor::Cursor;
+use cr_reduce::Accepted;
 
 /// What a last line says.
 #[derive(Clone, Copy)]

@@ -5,8 +5,9 @@ ghost use Rattle.cr_reduce.specs.declared.end.Why.{Why};
 ghost use Rattle.cr_log.specs.Forms.{IsLog, IsLoggable};
 ghost use Rattle.cr_log.specs.Texts.{accepted_line, letter_of, line_text, log_text_of, summary_text_of, why_number, why_word};
 
+use cr_cursor::Cursor;
 use cr_outside::NoMemory;
-use cr_reduce::{Accepted, Cursor, End, Why};
+use cr_reduce::{Accepted, End, Why};
 use std::alloc::Global;
 
 /// The log of a reduction: a line for each accepted variant, in order, and a last line on the end. `size` is the size of

@@ -6,7 +6,7 @@ use Rattle.cr_outside.specs.Files.{Names}
 use Rattle.cr_outside.specs.Judge.{Call}
 use Rattle.cr_outside.specs.Question.{AnswersAsTold, AsksOnce}
 use Rattle.cr_outside.specs.Test.{asks_test}
-use Rattle.cr_reduce.specs.TokenLaw.{IsTokenized}
+use Rattle.cr_cursor.specs.TokenLaw.{IsTokenized}
 use Rattle.cr_reduce.specs.Trials.{AnswerInRun, CallsAbout}
 use Rattle.cr_reduce.proofs.Runs.{answered_once}
 use Rattle.cr_main.specs.Outside.{Judging}

@@ -20,11 +20,15 @@ use Rattle.cr_main.specs.Words.{Word}
 same_candidate : (t : Task) (before : Option (List Call)) (bytes : List ℕ) (accepted : List Accepted) (file : List ℕ) → IsCandidate (search_for t before) bytes accepted file
     → IsCandidate (search_for t None) bytes accepted file
 same_candidate t before bytes accepted file it = record {
-  place = it.place;
+  some = it.some;
+  rest = it.rest;
   file = it.file;
+  offer = it.offer;
   position = it.position;
   at = it.at;
+  front = it.front;
   in_chain = it.in_chain;
+  offered = it.offered;
   there = it.there;
   is = it.is;
   smaller = it.smaller;

@@ -16,12 +16,12 @@ use Rattle.cr_reduce.specs.Ends.{FaultsWithCause}
 use Rattle.cr_reduce.specs.Reduction.{Within}
 use Rattle.cr_reduce.specs.Search.{Search}
 use Rattle.cr_reduce.specs.Sizes.{HasSize}
-use Rattle.cr_reduce.specs.TokenLaw.{IsTokenized}
+use Rattle.cr_cursor.specs.TokenLaw.{IsTokenized}
 use Rattle.cr_reduce.proofs.Bounds.{in_time}
 use Rattle.cr_reduce.proofs.Sizes.{size_by_length}
 use Rattle.cr_main.specs.Headline.{Completes, HasAll, enough_for}
-use Rattle.cr_main.specs.Lines.{lines_widths}
-use Rattle.cr_main.specs.LineLaws.{widths_few}
+use Rattle.cr_main.specs.Lines.{OffersLines, lines_widths}
+use Rattle.cr_main.specs.LineLaws.{offers_few}
 use Rattle.cr_main.specs.Messages.{copy_name, log_name}
 use Rattle.cr_main.specs.Outside.{Fails, IsUnchanged, Judging, Outside, Says}
 use Rattle.cr_main.specs.Outside.Fails.{call_failed, starved}
@@ -43,9 +43,12 @@ IsFree status = (status ≡ 0) ⊎ (status ≡ 11)
 line_levels : ℕ → ℕ
 line_levels pass = if pass == 0 then 15 else 0
 
-lines_levels : HasLevels lines_widths line_levels
+lines_levels : HasLevels OffersLines line_levels
 unfolding line_levels
-lines_levels = record { none_above = λ file pass level above. grind (arith, nat_tests); few = λ file pass level. widths_few file pass level }
+lines_levels = record { none_above = λ file o pass level is above. subst (λ x. x.widths pass level ≡ 0) (sym is) (none file pass level above); few = offers_few }
+  where
+    none : (file : List ℕ) (pass level : ℕ) → line_levels pass ≤ level → lines_widths file pass level ≡ 0
+    none file pass level above = grind (arith, nat_tests)
 
 -- what is enough for the size is enough for the bytes
 bytes_enough : (n size : ℕ) → size ≤ 12 * n → enough_turns line_levels size ≤ enough_for n

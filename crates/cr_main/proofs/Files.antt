@@ -8,8 +8,8 @@ use Rattle.cr_tokens.specs.Faults.{FirstTokenFault}
 use Rattle.cr_tokens.specs.Faults.FirstTokenFault.{too_long, first, too_many}
 use Rattle.cr_outside.specs.Files.{Names, content_of, Reads, Shows}
 use Rattle.cr_outside.specs.declared.files.ReadAnswer.TheVariants.{Bytes, Absent}
-use Rattle.cr_reduce.specs.declared.traits.law.Reason.{Reason}
-use Rattle.cr_reduce.specs.TokenLaw.{IsTokenized, IsTokenReason, reason_of}
+use Rattle.cr_cursor.specs.declared.law.Reason.{Reason}
+use Rattle.cr_cursor.specs.TokenLaw.{IsTokenized, IsTokenReason, reason_of}
 use Rattle.cr_main.specs.Run.{FileHas, FileLacks, IsRuledOut}
 
 whole_of : (content : Option (List ℕ)) (bytes : List ℕ) → Shows content 1048577 bytes → length bytes ≤ 1048576 → content ≡ Some bytes

@@ -6,12 +6,12 @@ use Rattle.cr_outside.specs.Sink.{appended}
 use Rattle.cr_reduce.specs.declared.end.End.{End}
 use Rattle.cr_reduce.specs.declared.end.Why.{Why}
 use Rattle.cr_reduce.specs.declared.end.Why.TheVariants.{Fixed, Limit, Fault, NoMemory}
-use Rattle.cr_reduce.specs.declared.traits.law.Reason.{Reason}
-use Rattle.cr_reduce.specs.declared.traits.law.Reason.TheVariants as reason
+use Rattle.cr_cursor.specs.declared.law.Reason.{Reason}
+use Rattle.cr_cursor.specs.declared.law.Reason.TheVariants as reason
 use Rattle.cr_reduce.specs.Ends.{EndsBy, outcome_of}
-use Rattle.cr_reduce.specs.Reduction.{Outcome, start_of}
-use Rattle.cr_reduce.specs.Search.{ReducesAsTold}
-use Rattle.cr_reduce.specs.TokenLaw.{IsTokenized}
+use Rattle.cr_reduce.specs.Reduction.{Outcome}
+use Rattle.cr_reduce.specs.Search.{ReducesFileAsTold}
+use Rattle.cr_cursor.specs.TokenLaw.{IsTokenized}
 use Rattle.cr_log.specs.Texts.{log_text_of, summary_text_of}
 use Rattle.cr_main.specs.Headline.{IsHeadline, IsTask}
 use Rattle.cr_main.specs.Messages.{copy_name, log_name, reason_status}
@@ -64,11 +64,11 @@ reason_not_7 (reason.Undefined n l) e = omega (arith, e)
 reason_not_7 (reason.Left n l) e = omega (arith, e)
 
 -- how the reduction ended, by the status
-told_whole : (reduction : Option ℕ → Outcome → Type 0) (limit : Option ℕ) (end : End) (why : Why) → IsDone (end_status why) → EndsBy reduction limit end why → reduction limit (outcome_of end why)
-told_whole reduction limit end Fixed done it = it
-told_whole reduction limit end Limit done it = it
-told_whole reduction limit end (Fault turn worker) done it = absurd (not_done 8 8 refl (λ e. omega (arith, e)) (λ e. omega (arith, e)) done)
-told_whole reduction limit end NoMemory done it = absurd (starved_not_done 11 refl done)
+told_whole : (reduction : Option ℕ → Outcome → Type 0) (file : List ℕ) (limit : Option ℕ) (end : End) (why : Why) → IsDone (end_status why) → EndsBy reduction file limit end why → reduction limit (outcome_of end why)
+told_whole reduction file limit end Fixed done it = it
+told_whole reduction file limit end Limit done it = it
+told_whole reduction file limit end (Fault turn worker) done it = absurd (not_done 8 8 refl (λ e. omega (arith, e)) (λ e. omega (arith, e)) done)
+told_whole reduction file limit end NoMemory done it = absurd (starved_not_done 11 refl done)
 
 is_fixed : (why : Why) → end_status why ≡ 0 → why ≡ Fixed
 is_fixed Fixed e = refl
@@ -114,7 +114,7 @@ module _ (words : List Word) (says : Telling) (t : Task) (is_task : IsTask words
         old_sized = old_sized;
         sized = sized;
         ended = it.is;
-        reduction = λ told. told_whole (λ most out. ReducesAsTold (search_for t None) most (start_of bytes) out) t.limit end end.why (subst IsDone it.is done) (reduction.reduction told);
+        reduction = λ told. told_whole (ReducesFileAsTold (search_for t None) bytes) bytes t.limit end end.why (subst IsDone it.is done) (reduction.reduction told);
         fixed_point = λ told is. reduction.fixed_point told (is_fixed end.why (sym it.is ∙ is));
         files = it.files ∙ ap (λ m. put_told (log_name t.name) (log_text_of end size) (put_told t.name end.file.items m)) (copy.files ∙ ap (λ m. put_told (copy_name t.name) bytes m) same.files);
         output = it.output ∙ ap (λ o. appended (summary_text_of t.name old_size size end) o) (copy.output ∙ same.output);

@@ -8,10 +8,10 @@ use Rattle.cr_outside.specs.Sink.{appended}
 use Rattle.cr_reduce.specs.declared.end.Accepted.{Accepted}
 use Rattle.cr_reduce.specs.declared.end.End.{End}
 use Rattle.cr_reduce.specs.Ends.{IsFixedAsTold, outcome_of}
-use Rattle.cr_reduce.specs.Reduction.{Within, start_of}
-use Rattle.cr_reduce.specs.Search.{IsAllTold, IsCandidate, ReducesAsTold}
+use Rattle.cr_reduce.specs.Reduction.{Within}
+use Rattle.cr_reduce.specs.Search.{IsAllTold, IsCandidate, ReducesFileAsTold}
 use Rattle.cr_reduce.specs.Sizes.{HasSize}
-use Rattle.cr_reduce.specs.TokenLaw.{IsTokenized}
+use Rattle.cr_cursor.specs.TokenLaw.{IsTokenized}
 use Rattle.cr_log.specs.Texts.{log_text_of, summary_text_of}
 use Rattle.cr_main.specs.declared.settings.Settings.{Settings}
 use Rattle.cr_main.specs.Messages.{copy_name, log_name}
@@ -42,7 +42,7 @@ pub record IsHeadline (words : List Word) (says : Says) (old new : Outside) (sta
   pub old_sized : HasSize bytes old_size
   pub sized : HasSize end.file.items size
   pub ended : status ≡ end_status end.why
-  pub reduction : IsAllTold (search_for t None) → ReducesAsTold (search_for t None) t.limit (start_of bytes) (outcome_of end end.why)
+  pub reduction : IsAllTold (search_for t None) → ReducesFileAsTold (search_for t None) bytes t.limit (outcome_of end end.why)
   pub fixed_point : IsAllTold (search_for t None) → status ≡ 0 → IsFixedAsTold (search_for t None) end.file.items
   pub files : new.files ≡ put_told (log_name t.name) (log_text_of end size) (put_told t.name end.file.items (put_told (copy_name t.name) bytes old.files))
   pub output : new.output ≡ appended (summary_text_of t.name old_size size end) old.output

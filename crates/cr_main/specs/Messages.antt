@@ -1,7 +1,7 @@
 -- What the program puts on its output, line by line.
 use Rattle.std.specs.Prelude.{ℕ, List, [], ◌∷◌, ◌++◌, codes, decimal}
-use Rattle.cr_reduce.specs.declared.traits.law.Reason.{Reason}
-use Rattle.cr_reduce.specs.declared.traits.law.Reason.TheVariants as reason
+use Rattle.cr_cursor.specs.declared.law.Reason.{Reason}
+use Rattle.cr_cursor.specs.declared.law.Reason.TheVariants as reason
 
 abbrev pub usage_line : List ℕ
 usage_line = codes "creduce: usage: creduce [--workers N] [--window N] [--limit N] [--steps N] [--passes LETTERS] TEST FILE\n"

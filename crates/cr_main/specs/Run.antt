@@ -11,15 +11,15 @@ use Rattle.cr_outside.specs.declared.test.Test.{Test}
 use Rattle.cr_reduce.specs.declared.end.End.{End}
 use Rattle.cr_reduce.specs.declared.end.Why.{Why}
 use Rattle.cr_reduce.specs.declared.end.Why.TheVariants as why
-use Rattle.cr_reduce.specs.declared.traits.law.Reason.{Reason}
+use Rattle.cr_cursor.specs.declared.law.Reason.{Reason}
 use Rattle.cr_reduce.specs.Ends.{EndsAsTold, EndsInRun, FaultsWithCause, IsFixedAsTold, IsFixedInRun}
 use Rattle.cr_reduce.specs.Search.{AsksOnlyCandidates, IsAllTold, Search}
 use Rattle.cr_reduce.specs.Sizes.{HasSize}
-use Rattle.cr_reduce.specs.TokenLaw.{IsTokenized, IsTokenReason}
+use Rattle.cr_cursor.specs.TokenLaw.{IsTokenized, IsTokenReason}
 use Rattle.cr_reduce.specs.Trials.{AnswerInRun, CallsAbout}
 use Rattle.cr_log.specs.Texts.{log_text_of, summary_text_of}
 use Rattle.cr_main.specs.declared.settings.Settings.{Settings}
-use Rattle.cr_main.specs.Lines.{lines_bytes, lines_widths}
+use Rattle.cr_main.specs.Lines.{OffersLines}
 use Rattle.cr_main.specs.Messages.{copy_name, failed_line, log_name, no_file_line, no_line, reason_line, reason_status, usage_line}
 use Rattle.cr_main.specs.Outside.{Fails, IsUnchanged, IsWritten, Judging, Outside, Puts, Refuses, WriteFails}
 use Rattle.cr_main.specs.Words.{HasNone, HasSettings, IsOwnName, Word, name_of}
@@ -39,7 +39,7 @@ tells_for t file answer = tells_test t.test t.says t.own file answer
 -- The lines pass, the law that a file tokenises, and the test.
 abbrev pub search_for : Task → Option (List Call) → Search
 search_for t before = record {
-  proposals = record { widths = lines_widths; bytes = lines_bytes };
+  Offers = OffersLines;
   Lawful = IsTokenized;
   asks = asks_test t.test;
   Tells = tells_for t;

@@ -2,7 +2,7 @@
 ghost use Rattle.std.specs.Prelude.{◌≡◌, ◌≢◌, ◌≤◌, ℕ, ◌++◌, All, IfOk, None, Some};
 ghost use Rattle.cr_reduce.specs.Bench.{first_calls, first_count, first_says};
 ghost use Rattle.cr_reduce.specs.Sizes.{HasSize};
-ghost use Rattle.cr_reduce.specs.TokenLaw.{IsTokenized};
+ghost use Rattle.cr_cursor.specs.TokenLaw.{IsTokenized};
 ghost use Rattle.cr_reduce.specs.declared.end.Why.{Why};
 ghost use Rattle.cr_log.specs.Texts.{log_text_of, summary_text_of};
 ghost use Rattle.cr_main.specs.Outside.{IsWritten, WriteFails, judging_of, outside_of};
@@ -13,9 +13,10 @@ use crate::lines::LinesPass;
 use crate::messages::{put, refuse};
 use crate::names::beside;
 use crate::top::Request;
+use cr_cursor::TokenLaw;
 use cr_log::{log_text, summary_text};
 use cr_outside::{FileFault, Files, Judge, NoMemory, Sink};
-use cr_reduce::{Bench, End, Plan, TokenLaw, Why, reduce, size_of};
+use cr_reduce::{Bench, End, Plan, Why, reduce, size_of};
 use std::alloc::{AllocError, Global};
 
 /// The most workers that are used where the words name no number.

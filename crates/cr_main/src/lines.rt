@@ -1,10 +1,9 @@
 // The lines pass.
-ghost use Rattle.std.specs.Prelude.{◌≡◌, ◌≤◌, ◌<◌, ◌*◌, ◌^◌, ◌++◌, ◌-◌, List, ℕ, [], ◌+◌, length, take, drop, OnOk, OnErr};
-ghost use Rattle.cr_main.specs.Lines.{chunk_of, first_len, joined, lines_bytes, lines_of, lines_widths};
-ghost use Rattle.cr_main.specs.LineLaws.{widths_few, widths_of_pass, widths_of_level};
+ghost use Rattle.std.specs.Prelude.{◌≡◌, ◌≤◌, ◌<◌, ◌*◌, ◌^◌, ◌++◌, ◌-◌, List, ℕ, [], ◌+◌, length, take, drop, vec_capacity, vec_len, OnOk, OnErr};
+ghost use Rattle.cr_main.specs.Lines.{OffersLines, chunk_of, chunks_offered, first_len, joined, lines_of};
+ghost use Rattle.cr_main.specs.LineLaws.{offers_few, offers_levels, offers_passes, one_offer};
 
-use cr_outside::NoMemory;
-use cr_reduce::{Cursor, Passes};
+use cr_cursor::{Cursor, NoMemory, Passes};
 use std::alloc::Global;
 
 /// Pass 0: each level removes chunks of lines, the later levels shorter ones.
@@ -23,17 +22,17 @@ const LAST_LEVEL: u8 = 14;
 impl Passes for LinesPass {
     type Prep = LineCount;
 
-    ghost widths = { λ _ file. lines_widths file };
+    ghost offers = { λ _ file o. OffersLines file o };
 
-    ghost bytes = { λ _ file at. lines_bytes file at };
+    ghost offer = { λ _ prep file. chunks_offered prep.lines file };
 
-    ghost is_of = { λ _ prep file. prep.lines ≡ length (lines_of file) };
+    ghost one = { λ _ file o other is also. one_offer file o other is also };
 
-    ghost few = { λ _ file pass level. widths_few file pass level };
+    ghost few = { λ _ file o pass level is. offers_few file o pass level is };
 
-    ghost ten_passes = { λ _ file pass level above. widths_of_pass file pass level above };
+    ghost ten_passes = { λ _ file o pass level is above. offers_passes file o pass level is above };
 
-    ghost sixteen_levels = { λ _ file pass level above. widths_of_level file pass level above };
+    ghost sixteen_levels = { λ _ file o pass level is above. offers_levels file o pass level is above };
 
     fn prepare(&self, _alloc: Global, file: &[u8]) -> Result<LineCount, NoMemory> {
         Ok(LineCount {
@@ -123,10 +122,11 @@ fn first_line(file: &[u8]) -> usize
     len
 }
 
-// Sets the text to two parts put together.
+// Sets the text to two parts put together. Where it has room for them it takes no memory.
 fn set(out: &mut Vec<u8>, front: &[u8], back: &[u8]) -> Result<(), NoMemory>
     ensures ok { OnOk result (out.new.items ≡ front.now ++ back.now) }
     ensures err { OnErr result (out.new.items ≡ []) }
+    ensures full { OnErr result (vec_capacity out.old < length front.now + length back.now) }
 {
     out.clear();
     if let Err(fault) = append(out, front, back) {
@@ -137,7 +137,8 @@ fn set(out: &mut Vec<u8>, front: &[u8], back: &[u8]) -> Result<(), NoMemory>
 }
 
 fn append(out: &mut Vec<u8>, front: &[u8], back: &[u8]) -> Result<(), NoMemory>
-    ensures { OnOk result (out.new.items ≡ out.old.items ++ front.now ++ back.now) }
+    ensures ok { OnOk result (out.new.items ≡ out.old.items ++ front.now ++ back.now) }
+    ensures full { OnErr result (vec_capacity out.old < vec_len out.old + length front.now + length back.now) }
 {
     out.extend_from_slice(front)?;
     out.extend_from_slice(back)

@@ -3,8 +3,8 @@ ghost use Rattle.std.specs.Prelude.{◌≡◌, ◌++◌, ◌∷◌, ℕ, List, [
 ghost use Rattle.cr_main.specs.Messages.{name_line, reason_line, reason_line_of, reason_status};
 ghost use Rattle.cr_main.specs.Outside.{Says};
 
+use cr_cursor::Reason;
 use cr_outside::{NoMemory, Sink, SinkFault};
-use cr_reduce::Reason;
 use std::alloc::Global;
 
 /// The line for words that give no settings.

@@ -1,7 +1,8 @@
 // Reductions by the lines pass. What is wanted was found by hand from the rules of the pass and of the reduction.
 use super::LinesPass;
+use cr_cursor::{Cursor, TokenLaw};
 use cr_outside::{Answer, Scripted, Test};
-use cr_reduce::{Accepted, Bench, Cursor, End, Plan, TokenLaw, Why, reduce};
+use cr_reduce::{Accepted, Bench, End, Plan, Why, reduce};
 use cr_tokens::read;
 use std::alloc::{AllocError, Global};
 

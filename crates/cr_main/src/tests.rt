@@ -2,9 +2,10 @@
 // of the lines pass and of the reduction.
 use super::rehearsed::{Calls, Rehearsed};
 use super::run;
+use cr_cursor::Cursor;
 use cr_log::read_log;
 use cr_outside::{Answer, Files, Judge, MemFiles, MemSink, ReadAnswer, Scripted};
-use cr_reduce::{Accepted, Bench, Cursor};
+use cr_reduce::{Accepted, Bench};
 use std::alloc::{AllocError, Global};
 use std::process::Abort;
 use std::test::Fail;

@@ -3,7 +3,7 @@ ghost use Rattle.std.specs.Prelude.{◌≡◌, ◌⊎◌, ℕ, List};
 ghost use Rattle.cr_outside.specs.declared.files.ReadAnswer.TheVariants.{Bytes};
 ghost use Rattle.cr_outside.specs.Files.{Reads};
 ghost use Rattle.cr_reduce.specs.Bench.{first_calls, first_count, first_says};
-ghost use Rattle.cr_reduce.specs.TokenLaw.{IsTokenized};
+ghost use Rattle.cr_cursor.specs.TokenLaw.{IsTokenized};
 ghost use Rattle.cr_main.specs.Headline.{AsksOnly, Completes, IsHeadline, KeepsFiles};
 ghost use Rattle.cr_main.specs.Outside.{judging_of, outside_of};
 ghost use Rattle.cr_main.specs.Requests.{task_for};
@@ -14,8 +14,9 @@ use crate::finish::copy_and_reduce;
 use crate::messages::{USAGE, put, refusal_status, refuse, refuse_file};
 use crate::names::own_name;
 use crate::settings::{Settings, Source, WordFault, words};
+use cr_cursor::{Law, Never, Ruling, TokenLaw};
 use cr_outside::{Answer, Files, Judge, ReadAnswer, Sink, Test};
-use cr_reduce::{Bench, Law, Never, Ruling, TokenLaw};
+use cr_reduce::Bench;
 use std::alloc::Global;
 
 /// What is read of a file at most: one byte more than a file may have, so that a longer one is refused.

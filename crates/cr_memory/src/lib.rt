@@ -10,8 +10,6 @@ pub mod laws;
 mod lifetime;
 mod span;
 mod store;
-#[cfg(test)]
-mod tests;
 mod value;
 
 pub use store::Store;

@@ -15,8 +15,6 @@ mod script;
 mod scripted;
 mod sink;
 mod test;
-#[cfg(test)]
-mod tests;
 
 pub use files::{FileFault, Files, NoMemory, ReadAnswer};
 pub use has::Has;

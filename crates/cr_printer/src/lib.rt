@@ -8,8 +8,6 @@
 
 mod laws;
 mod seam;
-#[cfg(test)]
-mod tests;
 mod text;
 
 pub use laws::{

@@ -3,19 +3,19 @@ use Rattle.std.proofs.Common.{◌≡◌, ℕ, zero, suc, ◌+◌, ◌-◌, ◌*�
 use Rattle.std.proofs.Math.Nat.{mul-le-mul_right, suc-mul}
 use Rattle.std.proofs.lemmas.Option.{slice_get-get_or, slice_get_within}
 use Rattle.std.specs.List.{slice_get}
-use Rattle.cr_reduce.specs.declared.traits.passes.Cursor.{Cursor}
+use Rattle.cr_cursor.specs.declared.passes.Cursor.{Cursor}
 use Rattle.cr_outside.specs.Judge.{Call}
 use Rattle.cr_reduce.specs.declared.end.End.{End}
 use Rattle.cr_reduce.specs.declared.end.Why.{Why}
 use Rattle.cr_reduce.specs.declared.end.Why.TheVariants.{Fixed, Limit, Fault, NoMemory}
-use Rattle.cr_reduce.specs.Search.{Search, AcceptsInRun, RejectsInRun, ReducesInRun}
+use Rattle.cr_reduce.specs.Search.{Search, AcceptsInRun, RejectsInRun, ReducesFileInRun}
 use Rattle.cr_reduce.specs.Ends.{EndsBy, outcome_of}
-use Rattle.cr_reduce.specs.Variants.{Widths, cursor, cursors, place_of}
+use Rattle.cr_cursor.specs.Variants.{Offer, Widths, cursor, cursors, place_of}
 use Rattle.cr_reduce.specs.Sizes.{HasSize, IsSmaller}
 use Rattle.cr_reduce.specs.Reduction.{Proposals, Trial, State, Outcome, Reduces, Within, cursors_of, moved, next_round, start_of, taken}
 use Rattle.cr_reduce.specs.Reduction.Reduces.{new_round, fixed, spent, short, accepts, rejects}
 use Rattle.cr_reduce.specs.Bound.{HasLevels, enough_turns, levels_below}
-use Rattle.cr_reduce.proofs.Members.{of_cursors}
+use Rattle.cr_cursor.proofs.Members.{of_cursors}
 use Rattle.cr_reduce.proofs.Ranks.{is_level, rank_below, rank_of, rises}
 use Rattle.cr_reduce.proofs.Sizes.{one_size}
 use Rattle.cr_reduce.proofs.OneOutcome.{at_most}
@@ -26,10 +26,10 @@ record IsNarrow (levels : ℕ → ℕ) (size : ℕ) (w : Widths) : Type 0 where
   none_above : (pass level : ℕ) → levels pass ≤ level → w pass level ≡ 0
   few : (pass level : ℕ) → w pass level ≤ size
 
-narrow : (p : Proposals) (levels : ℕ → ℕ) (size n : ℕ) (file : List ℕ) → HasLevels p.widths levels → HasSize file n → n ≤ size → IsNarrow levels size (p.widths file)
-narrow p levels size n file has sized small = record {
-  none_above = λ pass level above. has.none_above file pass level above;
-  few = λ pass level. omega (arith, has.few file pass level, sized.is);
+narrow : (p : Proposals) (levels : ℕ → ℕ) (size n : ℕ) (file : List ℕ) (o : Offer) → HasLevels p levels → p file o → HasSize file n → n ≤ size → IsNarrow levels size o.widths
+narrow p levels size n file o has offered sized small = record {
+  none_above = λ pass level above. has.none_above file o pass level offered above;
+  few = λ pass level. omega (arith, has.few file o pass level offered, sized.is);
 }
 
 -- Each variant from a position on has at least this rank, which is at most that of a round's end.
@@ -112,57 +112,57 @@ not_limit : (out : Outcome) (st : State) → out ≡ record { file = st.file; ac
 not_limit out st is is_limit = let e = ap (λ o. o.why) is in cc
 
 -- Where a bound on the turns that are left is within the limit, the reduction from a state on doesn't end by it.
-not_by_limit : (p : Proposals) (A R : Trial) (levels : ℕ → ℕ) (size : ℕ) (limit : Option ℕ) → HasLevels p.widths levels → ((file variant : List ℕ) → A file variant → IsSmaller variant file)
-    → (st : State) (out : Outcome) (n low : ℕ) → HasSize st.file n → n ≤ size → IsAhead levels size (p.widths st.file) st.position low
+not_by_limit : (p : Proposals) (A R : Trial) (levels : ℕ → ℕ) (size : ℕ) (limit : Option ℕ) → HasLevels p levels → ((file variant : List ℕ) → A file variant → IsSmaller variant file)
+    → (st : State) (out : Outcome) (n low : ℕ) → p st.file st.offer → HasSize st.file n → n ≤ size → IsAhead levels size st.offer.widths st.position low
     → Within limit (st.turns + left_of st.changed (levels_below levels 10 * size) n low)
     → Reduces p A R limit st out → out.why ≡ Limit → ⊥
-not_by_limit p A R levels size limit has smaller st out n low sized small ahead bound (new_round end changed rest) is_limit =
-    not_by_limit p A R levels size limit has smaller (next_round st) out n 0 sized small (at_start levels size (p.widths st.file))
+not_by_limit p A R levels size limit has smaller st out n low offered sized small ahead bound (new_round end changed rest) is_limit =
+    not_by_limit p A R levels size limit has smaller (next_round st) out n 0 offered sized small (at_start levels size st.offer.widths)
     (within_less limit _ _ (omega (arith, left_rounds st.changed (levels_below levels 10 * size) n low changed)) bound) rest is_limit
-not_by_limit p A R levels size limit has smaller st out n low sized small ahead bound (fixed end same is) is_limit = not_limit out st is is_limit
-not_by_limit p A R levels size limit has smaller st out n low sized small ahead bound (spent below limit_is is) is_limit =
-    let next = next_ahead levels size (p.widths st.file) st.position low (narrow p levels size n st.file has sized small) ahead below in
+not_by_limit p A R levels size limit has smaller st out n low offered sized small ahead bound (fixed end same is) is_limit = not_limit out st is is_limit
+not_by_limit p A R levels size limit has smaller st out n low offered sized small ahead bound (spent below limit_is is) is_limit =
+    let next = next_ahead levels size st.offer.widths st.position low (narrow p levels size n st.file st.offer has offered sized small) ahead below in
     absurd (omega (arith, next.within, left_least st.changed (levels_below levels 10 * size) n low, at_most limit st.turns _ limit_is bound))
-not_by_limit p A R levels size limit has smaller st out n low sized small ahead bound (short to turns some below all count limit_is is) is_limit =
-    let fits = narrow p levels size n st.file has sized small in
-    let here = ahead_on levels size (p.widths st.file) (to - st.position) st.position low to (low + (to - st.position)) (omega arith) refl fits ahead (omega arith) in
-    let next = next_ahead levels size (p.widths st.file) to (low + (to - st.position)) fits here below in
+not_by_limit p A R levels size limit has smaller st out n low offered sized small ahead bound (short to turns some below all count limit_is is) is_limit =
+    let fits = narrow p levels size n st.file st.offer has offered sized small in
+    let here = ahead_on levels size st.offer.widths (to - st.position) st.position low to (low + (to - st.position)) (omega arith) refl fits ahead (omega arith) in
+    let next = next_ahead levels size st.offer.widths to (low + (to - st.position)) fits here below in
     absurd (omega (arith, next.within, left_least st.changed (levels_below levels 10 * size) n low, at_most limit turns _ limit_is bound))
-not_by_limit p A R levels size limit has smaller st out n low sized small ahead bound (accepts position at m turns first sized' count within rest) is_limit =
-    let fits = narrow p levels size n st.file has sized small in
+not_by_limit p A R levels size limit has smaller st out n low offered sized small ahead bound (accepts position at m turns new first sized' count within offered' rest) is_limit =
+    let fits = narrow p levels size n st.file st.offer has offered sized small in
     let d = position - st.position in
-    let inside = slice_get_within (cursors_of p st.file) position at first.there in
-    let here = ahead_on levels size (p.widths st.file) d st.position low position (low + d) (omega (arith, first.after)) refl fits ahead (omega (arith, inside)) in
-    let it = smaller st.file (p.bytes st.file at) first.accepted in
-    let less : m < n = omega (arith, it.less, one_size (p.bytes st.file at) m it.new_size sized' it.new_is, one_size st.file n it.old_size sized it.old_is) in
-    let fits' = narrow p levels size m (p.bytes st.file at) has sized' (omega arith) in
-    let later = ahead_in levels size (p.widths st.file) (p.widths (p.bytes st.file at)) position (low + d) at fits fits' here first.there in
+    let inside = slice_get_within (cursors_of st.offer) position at first.there in
+    let here = ahead_on levels size st.offer.widths d st.position low position (low + d) (omega (arith, first.after)) refl fits ahead (omega (arith, inside)) in
+    let it = smaller st.file (st.offer.bytes at) first.accepted in
+    let less : m < n = omega (arith, it.less, one_size (st.offer.bytes at) m it.new_size sized' it.new_is, one_size st.file n it.old_size sized it.old_is) in
+    let fits' = narrow p levels size m (st.offer.bytes at) new has offered' sized' (omega arith) in
+    let later = ahead_in levels size st.offer.widths new.widths position (low + d) at fits fits' here first.there in
     let falls = left_falls st.changed (levels_below levels 10 * size) n m (low + d) less in
-    not_by_limit p A R levels size limit has smaller (taken p st at m turns) out m (low + d) sized' (omega arith) later
+    not_by_limit p A R levels size limit has smaller (taken st at m turns new) out m (low + d) offered' sized' (omega arith) later
     (within_less limit _ _ (omega (arith, first.after, left_moves st.changed (levels_below levels 10 * size) n low d here.within, falls)) bound) rest is_limit
-not_by_limit p A R levels size limit has smaller st out n low sized small ahead bound (rejects turns below all count within rest) is_limit =
-    let fits = narrow p levels size n st.file has sized small in
-    let end = length (cursors_of p st.file) in
+not_by_limit p A R levels size limit has smaller st out n low offered sized small ahead bound (rejects turns below all count within rest) is_limit =
+    let fits = narrow p levels size n st.file st.offer has offered sized small in
+    let end = length (cursors_of st.offer) in
     let d = end - st.position in
-    let here = ahead_on levels size (p.widths st.file) d st.position low end (low + d) (omega arith) refl fits ahead (omega arith) in
-    not_by_limit p A R levels size limit has smaller (moved st end turns) out n (low + d) sized small here
+    let here = ahead_on levels size st.offer.widths d st.position low end (low + d) (omega arith) refl fits ahead (omega arith) in
+    not_by_limit p A R levels size limit has smaller (moved st end turns) out n (low + d) offered sized small here
     (within_less limit _ _ (omega (arith, left_moves st.changed (levels_below levels 10 * size) n low d here.within)) bound) rest is_limit
 
 from_start : (k size : ℕ) → 0 + (size * (k * size + 1) + (k * size - 0)) ≤ k * size * (size + 1) + size
 from_start k size = omega arith
 
 -- With turns enough, or without a limit, a reduction ends for another reason.
-pub ends_in_time : (p : Proposals) (A R : Trial) (levels : ℕ → ℕ) (size : ℕ) (limit : Option ℕ) → HasLevels p.widths levels → ((file variant : List ℕ) → A file variant → IsSmaller variant file)
-    → (file : List ℕ) (out : Outcome) → HasSize file size → Within limit (enough_turns levels size) → Reduces p A R limit (start_of file) out → out.why ≡ Limit → ⊥
-ends_in_time p A R levels size limit has smaller file out sized enough run is_limit =
-    not_by_limit p A R levels size limit has smaller (start_of file) out size 0 sized (omega arith) (at_start levels size (p.widths file))
+pub ends_in_time : (p : Proposals) (A R : Trial) (levels : ℕ → ℕ) (size : ℕ) (limit : Option ℕ) → HasLevels p levels → ((file variant : List ℕ) → A file variant → IsSmaller variant file)
+    → (file : List ℕ) (offer : Offer) (out : Outcome) → p file offer → HasSize file size → Within limit (enough_turns levels size) → Reduces p A R limit (start_of file offer) out → out.why ≡ Limit → ⊥
+ends_in_time p A R levels size limit has smaller file offer out offered sized enough run is_limit =
+    not_by_limit p A R levels size limit has smaller (start_of file offer) out size 0 offered sized (omega arith) (at_start levels size offer.widths)
     (within_less limit _ _ (from_start (levels_below levels 10) size) enough) run is_limit
 
 -- so does the end of a chain
-pub in_time : (s : Search) (now : Option (List Call)) (limit : Option ℕ) (file : List ℕ) (e : End) (why : Why) → EndsBy (λ most out. ReducesInRun s now most (start_of file) out) limit e why
-    → (levels : ℕ → ℕ) (size : ℕ) → HasLevels s.proposals.widths levels → HasSize file size → Within limit (enough_turns levels size) → why ≡ Limit → ⊥
+pub in_time : (s : Search) (now : Option (List Call)) (limit : Option ℕ) (file : List ℕ) (e : End) (why : Why) → EndsBy (ReducesFileInRun s now file) file limit e why
+    → (levels : ℕ → ℕ) (size : ℕ) → HasLevels s.Offers levels → HasSize file size → Within limit (enough_turns levels size) → why ≡ Limit → ⊥
 in_time s now limit file e Fixed run levels size has sized enough is = cc
 in_time s now limit file e Limit run levels size has sized enough is =
-    ends_in_time s.proposals (AcceptsInRun s now) (RejectsInRun s now) levels size limit has (λ f v it. it.smaller) file (outcome_of e Limit) sized enough run refl
+    ends_in_time s.Offers (AcceptsInRun s now) (RejectsInRun s now) levels size limit has (λ f v it. it.smaller) file run.0 (outcome_of e Limit) run.1 sized enough run.2 refl
 in_time s now limit file e (Fault turn worker) run levels size has sized enough is = cc
 in_time s now limit file e NoMemory run levels size has sized enough is = cc

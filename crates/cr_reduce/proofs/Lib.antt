@@ -1,5 +1,3 @@
-pub mod Numbering
-pub mod Members
 pub mod Ranks
 pub mod Reductions
 pub mod OneOutcome
@@ -10,4 +8,3 @@ pub mod Verdicts
 pub mod Traces
 pub mod Ends
 pub mod Bounds
-pub mod TokenReasons

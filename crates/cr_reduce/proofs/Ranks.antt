@@ -2,11 +2,11 @@
 use Rattle.std.proofs.Common.{◌≡◌, ℕ, zero, suc, ◌+◌, ◌*◌, ◌<◌, ◌≤◌, inl, inr, length, subst, sym, ap, ◌∙◌, arith}
 use Rattle.std.proofs.Math.Nat.{mul-le-mul_right, suc-mul}
 use Rattle.std.proofs.lemmas.Bool.{cases_lt, cases_order}
-use Rattle.cr_reduce.specs.declared.traits.passes.Cursor.{Cursor}
-use Rattle.cr_reduce.specs.Variants.{Widths, cursors_below, pass_cursors, place_of}
+use Rattle.cr_cursor.specs.declared.passes.Cursor.{Cursor}
+use Rattle.cr_cursor.specs.Variants.{Widths, cursors_below, pass_cursors, place_of}
 use Rattle.cr_reduce.specs.Bound.{levels_below}
-use Rattle.cr_reduce.proofs.Numbering.{below_or_last}
-use Rattle.cr_reduce.proofs.Members.{IsBelow, level_fits, pass_fits}
+use Rattle.cr_cursor.proofs.Numbering.{below_or_last}
+use Rattle.cr_cursor.proofs.Members.{IsBelow, level_fits, pass_fits}
 
 -- the number of a cursor's level among those of all passes
 abbrev pub step_of : (ℕ → ℕ) → Cursor → ℕ

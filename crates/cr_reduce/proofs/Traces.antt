@@ -1,12 +1,12 @@
 -- The chain of files that a walk goes through, and the calls made on the way.
-use Rattle.std.proofs.Common.{◌≡◌, ℕ, zero, suc, ◌+◌, List, [], ◌∷◌, ◌++◌, length, Option, Some, None, subst, sym, ap, ◌∙◌, refl, append_assoc}
+use Rattle.std.proofs.Common.{◌≡◌, ℕ, ◌+◌, List, [], ◌∷◌, ◌++◌, Option, Some, None, subst, sym, ap, ◌∙◌, refl, append_assoc}
 use Rattle.std.proofs.lemmas.List.{append-nil}
-use Rattle.std.specs.List.{slice_get}
 use Rattle.cr_outside.specs.Judge.{Call, call_of, with_call}
 use Rattle.cr_reduce.specs.declared.end.Accepted.{Accepted}
+use Rattle.cr_cursor.specs.Variants.{Offer}
 use Rattle.cr_reduce.specs.Trials.{GoesOn}
 use Rattle.cr_reduce.specs.Reduction.{Proposals, State}
-use Rattle.cr_reduce.specs.Search.{Search, chain_of, IsCandidate, AboutCandidates, AsksOnlyCandidates}
+use Rattle.cr_reduce.specs.Search.{Search, ChainsTo, IsCandidate, AboutCandidates, AsksOnlyCandidates}
 use Rattle.cr_reduce.specs.Walk.{AsksAtMostOnce, Advances, Traces, Walked}
 use Rattle.cr_reduce.specs.Walk.MovesOn.{rejected, accepted}
 use Rattle.cr_reduce.specs.Walk.AsksAtMostOnce.{not_asked, asked}
@@ -14,24 +14,21 @@ use Rattle.cr_reduce.specs.Walk.Advances.{moves, round}
 use Rattle.cr_reduce.proofs.Runs.{goes_on-refl, goes_on-trans, with_call-goes_on}
 use Rattle.cr_reduce.proofs.Walks.{leads-refl, leads-trans, leads-advances}
 
-chain_keeps : (p : Proposals) (file : List ℕ) (more : List Accepted) (a : Accepted) (i : ℕ) (x : List ℕ) → slice_get (chain_of p file more) i ≡ Some x → slice_get (chain_of p file (more ++ a ∷ [])) i ≡ Some x
-chain_keeps p file [] a zero x h = h
-chain_keeps p file [] a (suc i) x h = cc
-chain_keeps p file (b ∷ more) a zero x h = h
-chain_keeps p file (b ∷ more) a (suc i) x h = chain_keeps p (p.bytes file b.at) more a i x h
-
-chain_grows : (p : Proposals) (file last : List ℕ) (more : List Accepted) (a : Accepted) → slice_get (chain_of p file more) (length more) ≡ Some last
-    → slice_get (chain_of p file (more ++ a ∷ [])) (length (more ++ a ∷ [])) ≡ Some (p.bytes last a.at)
-chain_grows p file last [] a h = let e : file ≡ last = cc in ap (λ f. Some (p.bytes f a.at)) e
-chain_grows p file last (b ∷ more) a h = chain_grows p (p.bytes file b.at) last more a h
+chain_grows : (p : Proposals) (file last : List ℕ) (offer : Offer) (more : List Accepted) (a : Accepted) → ChainsTo p file more last → p last offer → ChainsTo p file (more ++ a ∷ []) (offer.bytes a.at)
+chain_grows p file last offer [] a h offered = (offer, subst (λ f. p f offer) h offered, refl)
+chain_grows p file last offer (b ∷ more) a h offered = (h.0, h.1, chain_grows p (h.0.bytes b.at) last offer more a h.2 offered)
 
 candidate_keeps : (s : Search) (start : List ℕ) (more : List Accepted) (a : Accepted) (v : List ℕ) → IsCandidate s start more v → IsCandidate s start (more ++ a ∷ []) v
 candidate_keeps s start more a v it = record {
-  place = it.place;
+  some = it.some;
+  rest = it.rest ++ a ∷ [];
   file = it.file;
+  offer = it.offer;
   position = it.position;
   at = it.at;
-  in_chain = chain_keeps s.proposals start more a it.place it.file it.in_chain;
+  front = ap (λ list. list ++ a ∷ []) it.front ∙ append_assoc it.some it.rest (a ∷ []);
+  in_chain = it.in_chain;
+  offered = it.offered;
   there = it.there;
   is = it.is;
   smaller = it.smaller;
@@ -62,48 +59,64 @@ asks_one s start more call (Some list) middle now asks named it is =
 asks_step : (s : Search) (from st : State) (middle now : Option (List Call)) (t : Traces s middle from st) → AsksAtMostOnce (record s { before = middle }) now st → AsksOnlyCandidates s from.file t.more s.before now
 asks_step s from st middle now t (not_asked same) = subst (AsksOnlyCandidates s from.file t.more s.before) (sym same) t.asks
 asks_step s from st middle now t (asked at test answer there less lawful is) =
-    asks_one s from.file t.more (call_of test s.name (s.proposals.bytes st.file at) answer) s.before middle now t.asks refl
-    (record { place = length t.more; file = st.file; position = st.position; at = at; in_chain = t.last; there = there; is = refl; smaller = less; lawful = lawful }) is
+    asks_one s from.file t.more (call_of test s.name (st.offer.bytes at) answer) s.before middle now t.asks refl
+    (record {
+      some = t.more;
+      rest = [];
+      file = st.file;
+      offer = st.offer;
+      position = st.position;
+      at = at;
+      front = sym (append-nil t.more);
+      in_chain = t.last;
+      offered = t.offered;
+      there = there;
+      is = refl;
+      smaller = less;
+      lawful = lawful;
+    }) is
 
 asks-goes_on : (s : Search) (now : Option (List Call)) (st : State) → AsksAtMostOnce s now st → GoesOn s.before now
 asks-goes_on s now st (not_asked same) = subst (GoesOn s.before) (sym same) (goes_on-refl s.before)
-asks-goes_on s now st (asked at test answer there less lawful is) = subst (GoesOn s.before) (sym is) (with_call-goes_on s.before (call_of test s.name (s.proposals.bytes st.file at) answer))
+asks-goes_on s now st (asked at test answer there less lawful is) = subst (GoesOn s.before) (sym is) (with_call-goes_on s.before (call_of test s.name (st.offer.bytes at) answer))
 
-traces_stay : (s : Search) (from st to : State) (middle now : Option (List Call)) (t : Traces s middle from st) → AsksOnlyCandidates s from.file t.more s.before now → to.file ≡ st.file → to.accepted ≡ st.accepted
+traces_stay : (s : Search) (from st to : State) (middle now : Option (List Call)) (t : Traces s middle from st) → AsksOnlyCandidates s from.file t.more s.before now → to.file ≡ st.file → to.offer ≡ st.offer → to.accepted ≡ st.accepted
     → Traces s now from to
-traces_stay s from st to middle now t asks file listed = record {
+traces_stay s from st to middle now t asks file offer listed = record {
   more = t.more;
   accepted_is = listed ∙ t.accepted_is;
-  last = t.last ∙ ap Some (sym file);
+  last = subst (ChainsTo s.Offers from.file t.more) (sym file) t.last;
+  offered = subst (s.Offers to.file) (sym offer) (subst (λ f. s.Offers f st.offer) (sym file) t.offered);
   asks = asks;
 }
 
 traces_take : (s : Search) (from st to : State) (middle now : Option (List Call)) (a : Accepted) (t : Traces s middle from st) → AsksOnlyCandidates s from.file t.more s.before now
-    → to.file ≡ s.proposals.bytes st.file a.at → to.accepted ≡ st.accepted ++ a ∷ [] → Traces s now from to
-traces_take s from st to middle now a t asks file listed = record {
+    → to.file ≡ st.offer.bytes a.at → s.Offers to.file to.offer → to.accepted ≡ st.accepted ++ a ∷ [] → Traces s now from to
+traces_take s from st to middle now a t asks file offered listed = record {
   more = t.more ++ a ∷ [];
   accepted_is = listed ∙ ap (λ list. list ++ a ∷ []) t.accepted_is ∙ append_assoc from.accepted t.more (a ∷ []);
-  last = chain_grows s.proposals from.file st.file t.more a t.last ∙ ap Some (sym file);
+  last = subst (ChainsTo s.Offers from.file (t.more ++ a ∷ [])) (sym file) (chain_grows s.Offers from.file st.file st.offer t.more a t.last t.offered);
+  offered = offered;
   asks = asks_keeps s from.file t.more a s.before now asks;
 }
 
 traces_step : (s : Search) (from st to : State) (middle now : Option (List Call)) (t : Traces s middle from st) → AsksOnlyCandidates s from.file t.more s.before now
     → Advances (record s { before = middle }) now st to → Traces s now from to
-traces_step s from st to middle now t asks (moves (rejected at there refused is)) = traces_stay s from st to middle now t asks (ap (λ x. x.file) is) (ap (λ x. x.accepted) is)
-traces_step s from st to middle now t asks (moves (accepted at size there good has is)) =
-    traces_take s from st to middle now (record { at = at; size = size; turn = st.turns + 1 }) t asks (ap (λ x. x.file) is) (ap (λ x. x.accepted) is)
-traces_step s from st to middle now t asks (round end changed is) = traces_stay s from st to middle now t asks (ap (λ x. x.file) is) (ap (λ x. x.accepted) is)
+traces_step s from st to middle now t asks (moves (rejected at there refused is)) = traces_stay s from st to middle now t asks (ap (λ x. x.file) is) (ap (λ x. x.offer) is) (ap (λ x. x.accepted) is)
+traces_step s from st to middle now t asks (moves (accepted at size next there good has offered is)) =
+    traces_take s from st to middle now (record { at = at; size = size; turn = st.turns + 1 }) t asks (ap (λ x. x.file) is) (subst (λ x. s.Offers x.file x.offer) (sym is) offered) (ap (λ x. x.accepted) is)
+traces_step s from st to middle now t asks (round end changed is) = traces_stay s from st to middle now t asks (ap (λ x. x.file) is) (ap (λ x. x.offer) is) (ap (λ x. x.accepted) is)
 
 no_calls : (s : Search) (start : List ℕ) (calls : Option (List Call)) → AsksOnlyCandidates s start [] calls calls
 no_calls s start None = tt
 no_calls s start (Some list) = ([], ap Some (sym (append-nil list)), tt)
 
 -- a walk that hasn't begun
-pub walked-refl : (s : Search) (st : State) → Walked s s.before st st
-walked-refl s st = record {
+pub walked-refl : (s : Search) (st : State) → s.Offers st.file st.offer → Walked s s.before st st
+walked-refl s st offered = record {
   goes_on = goes_on-refl s.before;
   leads = leads-refl s s.before st;
-  traces = record { more = []; accepted_is = sym (append-nil st.accepted); last = refl; asks = no_calls s st.file s.before };
+  traces = record { more = []; accepted_is = sym (append-nil st.accepted); last = refl; offered = offered; asks = no_calls s st.file s.before };
 }
 
 -- and one step more
@@ -124,5 +137,5 @@ walked-end s middle now from st to w asks same =
     subst (Walked s now from) (sym same) (record {
       goes_on = goes_on-trans s.before middle now w.goes_on on;
       leads = leads-trans s middle now from st st w.leads on (leads-refl s now st);
-      traces = traces_stay s from st st middle now w.traces (asks_step s from st middle now w.traces asks) refl refl;
+      traces = traces_stay s from st st middle now w.traces (asks_step s from st middle now w.traces asks) refl refl refl;
     })

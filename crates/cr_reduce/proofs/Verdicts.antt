@@ -1,6 +1,6 @@
 -- From what a position came to, back to the verdict on its variant.
 use Rattle.std.proofs.Common.{◌≡◌, ℕ, refl}
-use Rattle.cr_reduce.specs.declared.traits.passes.Cursor.{Cursor}
+use Rattle.cr_cursor.specs.declared.passes.Cursor.{Cursor}
 use Rattle.cr_reduce.specs.declared.look.Considered.{Considered}
 use Rattle.cr_reduce.specs.declared.look.Considered.TheVariants as considered
 use Rattle.cr_reduce.specs.declared.trial.Verdict.{Verdict}

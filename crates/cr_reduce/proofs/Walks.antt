@@ -4,7 +4,8 @@ use Rattle.std.specs.List.{slice_get}
 use Rattle.cr_outside.specs.declared.judge.Answer.TheVariants.{Yes, No}
 use Rattle.cr_outside.proofs.Counts.{rose_earlier}
 use Rattle.cr_outside.specs.Judge.{Call, call_of, with_call}
-use Rattle.cr_reduce.specs.declared.traits.passes.Cursor.{Cursor}
+use Rattle.cr_cursor.specs.declared.passes.Cursor.{Cursor}
+use Rattle.cr_cursor.specs.Variants.{Offer}
 use Rattle.cr_reduce.specs.Sizes.{HasSize, IsSmaller}
 use Rattle.cr_reduce.specs.Trials.{AnswerInRun, CallsAbout, IsBad, IsGood, GoesOn}
 use Rattle.cr_reduce.specs.Trials.IsRejected.{not_smaller, unlawful, answered_no}
@@ -45,21 +46,21 @@ rejected_so s now file variant size has (inl (inr against)) = unlawful against
 rejected_so s now file variant size has (inr answer) = answered_no answer
 
 pub moves_rejected : (s : Search) (now : Option (List Call)) (st : State) (at : Cursor) (variant : List ℕ) (size : ℕ)
-    → slice_get (cursors_of s.proposals st.file) st.position ≡ Some at → variant ≡ s.proposals.bytes st.file at → HasSize st.file size
+    → slice_get (cursors_of st.offer) st.position ≡ Some at → variant ≡ st.offer.bytes at → HasSize st.file size
     → IsBad s.Lawful variant size ⊎ AnswerInRun s.asks s.Tells s.name s.before now variant No → MovesOn s now st (moved st (st.position + 1) (st.turns + 1))
 moves_rejected s now st at variant size there is has why =
     rejected at there (subst (λ v. RejectsInRun s now st.file v) is (rejected_so s now st.file variant size has why)) refl
 
 pub moves_accepted : (s : Search) (now : Option (List Call)) (st : State) (at : Cursor) (variant : List ℕ) (size n : ℕ)
-    → slice_get (cursors_of s.proposals st.file) st.position ≡ Some at → variant ≡ s.proposals.bytes st.file at → HasSize st.file size
-    → IsGood s.Lawful variant size n → AnswerInRun s.asks s.Tells s.name s.before now variant Yes → MovesOn s now st (taken s.proposals st at n (st.turns + 1))
-moves_accepted s now st at variant size n there is has good answer =
-    accepted at n there
+    → slice_get (cursors_of st.offer) st.position ≡ Some at → variant ≡ st.offer.bytes at → HasSize st.file size
+    → IsGood s.Lawful variant size n → AnswerInRun s.asks s.Tells s.name s.before now variant Yes → (next : Offer) → s.Offers variant next → MovesOn s now st (taken st at n (st.turns + 1) next)
+moves_accepted s now st at variant size n there is has good answer next offered =
+    accepted at n next there
     (subst (λ v. AcceptsInRun s now st.file v) is (record { smaller = smaller st.file variant size n has good.has good.less; lawful = good.lawful; answered = answer }))
-    (subst (λ v. HasSize v n) is good.has) refl
+    (subst (λ v. HasSize v n) is good.has) (subst (λ v. s.Offers v next) is offered) refl
 
 pub asks_at_most_once : (s : Search) (now : Option (List Call)) (st : State) (at : Cursor) (variant : List ℕ) (size : ℕ)
-    → slice_get (cursors_of s.proposals st.file) st.position ≡ Some at → variant ≡ s.proposals.bytes st.file at → HasSize st.file size
+    → slice_get (cursors_of st.offer) st.position ≡ Some at → variant ≡ st.offer.bytes at → HasSize st.file size
     → CallsAbout s.before now s.name variant → (now ≡ s.before) ⊎ ((n : ℕ) × IsGood s.Lawful variant size n) → AsksAtMostOnce s now st
 asks_at_most_once s now st at variant size there is has calls (inl same) = not_asked same
 asks_at_most_once s now st at variant size there is has (inl same) (inr good) = not_asked same
@@ -84,7 +85,7 @@ leads-trans s middle now a b c first on second = record {
   leads = λ after limit out later within rest. first.leads after limit out (goes_on-trans middle now after on later) (within_less limit b.turns c.turns second.later within) (second.leads after limit out later within rest);
 }
 
-pub leads-round : (s : Search) (now : Option (List Call)) (st : State) → st.position ≡ length (cursors_of s.proposals st.file) → st.changed ≡ true → Leads s now st (next_round st)
+pub leads-round : (s : Search) (now : Option (List Call)) (st : State) → st.position ≡ length (cursors_of st.offer) → st.changed ≡ true → Leads s now st (next_round st)
 leads-round s now st end changed = record { later = omega arith; leads = λ after limit out on within rest. new_round end changed rest }
 
 -- one step, whose trial was made since `before`
@@ -108,15 +109,15 @@ leads-moves s before now st to earlier (rejected at there refused is) =
     let run = record s { before = before } in
     subst (Leads run now st) (sym is) (record {
       later = omega arith;
-      leads = λ after limit out on within rest. skip s.proposals (AcceptsInRun run after) (RejectsInRun run after) limit st out at there
-          (rejects_later s before now after st.file (s.proposals.bytes st.file at) earlier on refused) within rest;
+      leads = λ after limit out on within rest. skip s.Offers (AcceptsInRun run after) (RejectsInRun run after) limit st out at there
+          (rejects_later s before now after st.file (st.offer.bytes at) earlier on refused) within rest;
     })
-leads-moves s before now st to earlier (accepted at size there taken_so has is) =
+leads-moves s before now st to earlier (accepted at size next there taken_so has offered is) =
     let run = record s { before = before } in
     subst (Leads run now st) (sym is) (record {
       later = omega arith;
-      leads = λ after limit out on within rest. take_next s.proposals (AcceptsInRun run after) (RejectsInRun run after) limit st out at size there
-          (accepts_later s before now after st.file (s.proposals.bytes st.file at) earlier on taken_so) has within rest;
+      leads = λ after limit out on within rest. take_next s.Offers (AcceptsInRun run after) (RejectsInRun run after) limit st out at size next there
+          (accepts_later s before now after st.file (st.offer.bytes at) earlier on taken_so) has within offered rest;
     })
 
 -- A position that ends the walk ends it here.

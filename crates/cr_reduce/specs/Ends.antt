@@ -1,13 +1,14 @@
 -- What a reduction's end says.
-use Rattle.std.specs.Prelude.{◌≡◌, ℕ, ◌+◌, true, List, length, Option, Some}
+use Rattle.std.specs.Prelude.{◌≡◌, ◌⊎◌, ℕ, ◌+◌, true, List, [], length, Option, Some}
 use Rattle.cr_outside.specs.Judge.{Call}
 use Rattle.cr_outside.specs.Faults.{Rose}
 use Rattle.cr_reduce.specs.declared.end.End.{End}
 use Rattle.cr_reduce.specs.declared.walk.Walk.{Walk}
 use Rattle.cr_reduce.specs.declared.end.Why.{Why}
 use Rattle.cr_reduce.specs.declared.end.Why.TheVariants.{Fixed, Limit, Fault, NoMemory}
-use Rattle.cr_reduce.specs.Reduction.{AllRejected, Outcome, Within, cursors_of, start_of}
-use Rattle.cr_reduce.specs.Search.{Search, ReducesInRun, ReducesAsTold, RejectsInRun, RejectsAsTold}
+use Rattle.cr_cursor.specs.Variants.{Offer}
+use Rattle.cr_reduce.specs.Reduction.{AllRejected, Outcome, Within, cursors_of}
+use Rattle.cr_reduce.specs.Search.{Search, ReducesFileInRun, ReducesFileAsTold, RejectsInRun, RejectsAsTold}
 
 abbrev pub outcome_of : End → Why → Outcome
 outcome_of e why = record { file = e.file.items; accepted = e.accepted.items; turns = e.turns; why = why }
@@ -19,29 +20,36 @@ end_of_walk w why = record { file = w.file; accepted = w.accepted; turns = w.tur
 abbrev pub StopsAt : (Option ℕ → Outcome → Type 0) → End → Type 0
 StopsAt reduction e = (why : Why) × reduction (Some e.turns) (outcome_of e why)
 
+-- The file is as it was, and nothing was looked at.
+pub record IsUntouched (file : List ℕ) (e : End) : Type 0 where
+  pub same : e.file.items ≡ file
+  pub none : e.accepted.items ≡ []
+  pub unturned : e.turns ≡ 0
+
 -- At Fixed and Limit the end is the reduction's, whole. A fault is one of the turn after the last, and it and want of
--- memory leave what the reduction comes to after the turns that were made.
-abbrev pub EndsBy : (Option ℕ → Outcome → Type 0) → Option ℕ → End → Why → Type 0
-EndsBy reduction limit e Fixed = reduction limit (outcome_of e Fixed)
-EndsBy reduction limit e Limit = reduction limit (outcome_of e Limit)
-EndsBy reduction limit e (Fault turn worker) = (turn ≡ e.turns + 1) × (worker ≡ 0) × Within limit e.turns × StopsAt reduction e
-EndsBy reduction limit e NoMemory = Within limit e.turns × StopsAt reduction e
+-- memory leave what the reduction comes to after the turns that were made. Without memory for what is offered nothing
+-- was done.
+abbrev pub EndsBy : (Option ℕ → Outcome → Type 0) → List ℕ → Option ℕ → End → Why → Type 0
+EndsBy reduction file limit e Fixed = reduction limit (outcome_of e Fixed)
+EndsBy reduction file limit e Limit = reduction limit (outcome_of e Limit)
+EndsBy reduction file limit e (Fault turn worker) = (turn ≡ e.turns + 1) × (worker ≡ 0) × Within limit e.turns × StopsAt reduction e
+EndsBy reduction file limit e NoMemory = Within limit e.turns × (IsUntouched file e ⊎ StopsAt reduction e)
 
 -- by the answers given in the run
 abbrev pub EndsInRun : Search → Option (List Call) → Option ℕ → List ℕ → End → Type 0
-EndsInRun s now limit file e = EndsBy (λ most out. ReducesInRun s now most (start_of file) out) limit e e.why
+EndsInRun s now limit file e = EndsBy (ReducesFileInRun s now file) file limit e e.why
 
 -- by the told answers: the one-thread first-accepted reduction
 abbrev pub EndsAsTold : Search → Option ℕ → List ℕ → End → Type 0
-EndsAsTold s limit file e = EndsBy (λ most out. ReducesAsTold s most (start_of file) out) limit e e.why
+EndsAsTold s limit file e = EndsBy (ReducesFileAsTold s file) file limit e e.why
 
 -- No pass has an acceptable variant of the result left: in the run each was rejected.
 abbrev pub IsFixedInRun : Search → Option (List Call) → List ℕ → Type 0
-IsFixedInRun s now file = AllRejected s.proposals (RejectsInRun s now) file 0 (length (cursors_of s.proposals file))
+IsFixedInRun s now file = (offer : Offer) × s.Offers file offer × AllRejected offer (RejectsInRun s now) file 0 (length (cursors_of offer))
 
 -- and by the told answers
 abbrev pub IsFixedAsTold : Search → List ℕ → Type 0
-IsFixedAsTold s file = AllRejected s.proposals (RejectsAsTold s) file 0 (length (cursors_of s.proposals file))
+IsFixedAsTold s file = (offer : Offer) × s.Offers file offer × AllRejected offer (RejectsAsTold s) file 0 (length (cursors_of offer))
 
 -- A fault comes only where the question asks, and the judge's count of faults rose.
 abbrev pub FaultsWithCause : Search → ℕ → ℕ → Why → Type 0

@@ -2,10 +2,8 @@
 use Rattle.std.specs.Prelude.{◌≡◌, ℕ, Bool, List, Option}
 use Rattle.cr_outside.specs.Judge.{Call}
 use Rattle.cr_outside.specs.Question.{Says}
-use Rattle.cr_reduce.specs.declared.traits.passes.Cursor.{Cursor}
-use Rattle.cr_reduce.specs.Variants.{Widths}
-use Rattle.cr_reduce.specs.Reduction.{Trial, State, Outcome}
-use Rattle.cr_reduce.specs.Search.{Search, AcceptsAsTold, RejectsAsTold, ReducesAsTold, search_of}
+use Rattle.cr_reduce.specs.Reduction.{Proposals, Trial, State, Outcome}
+use Rattle.cr_reduce.specs.Search.{Search, AcceptsAsTold, RejectsAsTold, ReducesAsTold, ReducesFileAsTold, search_of}
 
 -- no variant is both accepted and rejected
 abbrev pub ExcludeEachOther : Trial → Trial → Type 0
@@ -18,7 +16,11 @@ ToldTrialsExclude s = ExcludeEachOther (AcceptsAsTold s) (RejectsAsTold s)
 abbrev pub HasOneOutcome : Search → Type 0
 HasOneOutcome s = (limit : Option ℕ) (st : State) (out other : Outcome) → ReducesAsTold s limit st out → ReducesAsTold s limit st other → out ≡ other
 
+-- and so of each file
+abbrev pub HasOneReduction : Search → Type 0
+HasOneReduction s = (limit : Option ℕ) (file : List ℕ) (out other : Outcome) → ReducesFileAsTold s file limit out → ReducesFileAsTold s file limit other → out ≡ other
+
 -- whatever the judge says, and whatever it was asked before
-abbrev pub ForAnyJudge : (List ℕ → Widths) → (List ℕ → Cursor → List ℕ) → (List ℕ → Type 0) → Bool → (Says → List ℕ → List ℕ → Bool → Type 0) → (Search → Type 0) → Type 0
-ForAnyJudge widths bytes Lawful asks tells Holds =
-    (says : Says) (name : List ℕ) (before : Option (List Call)) → Holds (search_of widths bytes Lawful asks tells says name before)
+abbrev pub ForAnyJudge : Proposals → (List ℕ → Type 0) → Bool → (Says → List ℕ → List ℕ → Bool → Type 0) → (Search → Type 0) → Type 0
+ForAnyJudge Offers Lawful asks tells Holds =
+    (says : Says) (name : List ℕ) (before : Option (List Call)) → Holds (search_of Offers Lawful asks tells says name before)

@@ -1,4 +1,3 @@
-pub mod Variants
 pub mod Sizes
 pub mod Trials
 pub mod Reduction
@@ -7,5 +6,4 @@ pub mod Search
 pub mod Walk
 pub mod Ends
 pub mod Bound
-pub mod TokenLaw
 pub mod Laws

@@ -1,17 +1,23 @@
 -- What a reduction searches: what the passes propose, which files are lawful, and what is asked about them.
 use Rattle.std.specs.Prelude.{◌≡◌, ℕ, Bool, List, [], ◌∷◌, ◌++◌, Option, Some, None}
 use Rattle.std.specs.List.{slice_get}
+use Rattle.cr_cursor.specs.declared.law.Law.{Ghosts as LawGhosts}
+use Rattle.cr_cursor.specs.declared.passes.Passes.{Ghosts as PassesGhosts}
+use Rattle.cr_outside.specs.declared.judge.Judge.{Ghosts as JudgeGhosts}
+use Rattle.cr_outside.specs.declared.question.Question.{Ghosts as QuestionGhosts}
 use Rattle.cr_outside.specs.Judge.{Call}
 use Rattle.cr_outside.specs.Question.{Says, IsTold}
 use Rattle.cr_reduce.specs.declared.end.Accepted.{Accepted}
-use Rattle.cr_reduce.specs.declared.traits.passes.Cursor.{Cursor}
-use Rattle.cr_reduce.specs.Variants.{Widths}
+use Rattle.cr_cursor.specs.declared.passes.Cursor.{Cursor}
+use Rattle.cr_cursor.specs.Variants.{Offer}
+use Rattle.cr_reduce.specs.Bench.{first_calls, first_says}
 use Rattle.cr_reduce.specs.Sizes.{IsSmaller}
 use Rattle.cr_reduce.specs.Trials.{IsAccepted, IsRejected, ToldAnswer, AnswerInRun}
-use Rattle.cr_reduce.specs.Reduction.{Proposals, Trial, State, Outcome, Reduces, cursors_of}
+use Rattle.cr_reduce.specs.Reduction.{Proposals, Trial, State, Outcome, Reduces, cursors_of, start_of}
 
 pub record Search : Type 1 where
-  pub proposals : Proposals
+  -- what is offered for a file
+  pub Offers : Proposals
   pub Lawful : List ℕ → Type 0
   -- whether the question uses a judge
   pub asks : Bool
@@ -22,15 +28,20 @@ pub record Search : Type 1 where
   -- the calls of the judge before the run
   pub before : Option (List Call)
 
-abbrev pub search_of : (List ℕ → Widths) → (List ℕ → Cursor → List ℕ) → (List ℕ → Type 0) → Bool → (Says → List ℕ → List ℕ → Bool → Type 0) → Says → List ℕ → Option (List Call) → Search
-search_of widths bytes Lawful asks tells says name before = record {
-  proposals = record { widths = widths; bytes = bytes };
+abbrev pub search_of : Proposals → (List ℕ → Type 0) → Bool → (Says → List ℕ → List ℕ → Bool → Type 0) → Says → List ℕ → Option (List Call) → Search
+search_of Offers Lawful asks tells says name before = record {
+  Offers = Offers;
   Lawful = Lawful;
   asks = asks;
   Tells = λ file answer. tells says name file answer;
   name = name;
   before = before;
 }
+
+-- The search of passes, a law, a question and a name with a bench of judges: what each of these traits tells of them.
+abbrev pub searching : {P I L Q J K : Type 0} → PassesGhosts P I → P → LawGhosts L → L → QuestionGhosts Q → Q → List ℕ → JudgeGhosts J K → List J → Search
+searching passes p law l question q name judge bench =
+    search_of (passes.offers p) (law.lawful l) (question.asks q) (question.tells q) (first_says judge.key judge.says bench) name (first_calls judge.calls bench)
 
 -- with the answers that were given in the run so far
 abbrev pub AcceptsInRun : Search → Option (List Call) → Trial
@@ -40,7 +51,11 @@ abbrev pub RejectsInRun : Search → Option (List Call) → Trial
 RejectsInRun s now = IsRejected s.Lawful (AnswerInRun s.asks s.Tells s.name s.before now)
 
 abbrev pub ReducesInRun : Search → Option (List Call) → Option ℕ → State → Outcome → Type 0
-ReducesInRun s now limit st out = Reduces s.proposals (AcceptsInRun s now) (RejectsInRun s now) limit st out
+ReducesInRun s now limit st out = Reduces s.Offers (AcceptsInRun s now) (RejectsInRun s now) limit st out
+
+-- the whole reduction of a file
+abbrev pub ReducesFileInRun : Search → Option (List Call) → List ℕ → Option ℕ → Outcome → Type 0
+ReducesFileInRun s now file limit out = (offer : Offer) × s.Offers file offer × ReducesInRun s now limit (start_of file offer) out
 
 -- with the told answers
 abbrev pub AcceptsAsTold : Search → Trial
@@ -50,26 +65,33 @@ abbrev pub RejectsAsTold : Search → Trial
 RejectsAsTold s = IsRejected s.Lawful (ToldAnswer s.Tells)
 
 abbrev pub ReducesAsTold : Search → Option ℕ → State → Outcome → Type 0
-ReducesAsTold s limit st out = Reduces s.proposals (AcceptsAsTold s) (RejectsAsTold s) limit st out
+ReducesAsTold s limit st out = Reduces s.Offers (AcceptsAsTold s) (RejectsAsTold s) limit st out
+
+abbrev pub ReducesFileAsTold : Search → List ℕ → Option ℕ → Outcome → Type 0
+ReducesFileAsTold s file limit out = (offer : Offer) × s.Offers file offer × ReducesAsTold s limit (start_of file offer) out
 
 -- The answer about every file is told.
 abbrev pub IsAllTold : Search → Type 0
 IsAllTold s = (file : List ℕ) → IsTold s.asks (s.Tells file)
 
--- the files of a chain: the first one, and each accepted variant of the one before
-abbrev pub chain_of : Proposals → List ℕ → List Accepted → List (List ℕ)
-chain_of p file [] = file ∷ []
-chain_of p file (a ∷ more) = file ∷ chain_of p (p.bytes file a.at) more
+-- A chain leads from a file to another by these accepted variants, each of the file before.
+abbrev pub ChainsTo : Proposals → List ℕ → List Accepted → List ℕ → Type 0
+ChainsTo p file [] last = last ≡ file
+ChainsTo p file (a ∷ more) last = (offer : Offer) × p file offer × ChainsTo p (offer.bytes a.at) more last
 
 -- A smaller, lawful variant of a file of the chain: only about such ones the test is asked.
 pub record IsCandidate (s : Search) (start : List ℕ) (accepted : List Accepted) (variant : List ℕ) : Type 0 where
-  pub place : ℕ
+  pub some : List Accepted
+  pub rest : List Accepted
   pub file : List ℕ
+  pub offer : Offer
   pub position : ℕ
   pub at : Cursor
-  pub in_chain : slice_get (chain_of s.proposals start accepted) place ≡ Some file
-  pub there : slice_get (cursors_of s.proposals file) position ≡ Some at
-  pub is : variant ≡ s.proposals.bytes file at
+  pub front : accepted ≡ some ++ rest
+  pub in_chain : ChainsTo s.Offers start some file
+  pub offered : s.Offers file offer
+  pub there : slice_get (cursors_of offer) position ≡ Some at
+  pub is : variant ≡ offer.bytes at
   pub smaller : IsSmaller variant file
   pub lawful : s.Lawful variant
 

@@ -2,17 +2,15 @@
 ghost use Rattle.std.specs.Prelude.{◌≡◌, ◌<◌, ◌≤◌, ℕ, List, IsSome, Some, None, length};
 ghost use Rattle.cr_reduce.specs.declared.end.Why.{Why};
 ghost use Rattle.cr_reduce.specs.Bench.{first_calls, first_count, first_says, others};
-ghost use Rattle.cr_reduce.specs.Reduction.{Within};
-ghost use Rattle.cr_reduce.specs.Search.{search_of};
-ghost use Rattle.cr_reduce.specs.Variants.{cursors};
+ghost use Rattle.cr_reduce.specs.Reduction.{Within, cursors_of};
+ghost use Rattle.cr_reduce.specs.Search.{searching};
 ghost use Rattle.cr_reduce.specs.Walk.{Advances, AsksAtMostOnce, EndsHere, IsSound, Walked, state_of, work_of};
 
 use crate::bench::Bench;
 use crate::end::Why;
 use crate::look::look;
-use crate::traits::law::Law;
-use crate::traits::passes::Passes;
 use crate::walk::Walk;
+use cr_cursor::{Law, Passes};
 use cr_outside::{Judge, Question};
 use std::alloc::Global;
 
@@ -28,17 +26,17 @@ fn advance<P: Passes, L: Law, Q: Question, J: Judge>(
     walk: &mut Walk<P::Prep>,
     variant: &mut Vec<u8>,
 ) -> Option<Why>
-    requires sound { IsSound (P.widths passes.now) (P.is_of passes.now) walk.old }
-    ensures advances { result ≡ None → Advances (search_of (P.widths passes.now) (P.bytes passes.now) (L.lawful law.now) (Q.asks question.now) (Q.tells question.now) (first_says J.key J.says bench.old) name.now (first_calls J.calls bench.old))
-        (first_calls J.calls bench.new) (state_of walk.old) (state_of walk.new) }
-    ensures sound { result ≡ None → IsSound (P.widths passes.now) (P.is_of passes.now) walk.new }
+    requires sound { IsSound (P.offers passes.now) (P.offer passes.now) walk.old }
+    ensures advances { result ≡ None → Advances (searching P.Passes passes.now L.Law law.now Q.Question question.now name.now J.Judge bench.old)
+        (first_calls J.calls bench.new) (state_of (P.offer passes.now) walk.old) (state_of (P.offer passes.now) walk.new) }
+    ensures sound { result ≡ None → IsSound (P.offers passes.now) (P.offer passes.now) walk.new }
     ensures less { result ≡ None → work_of walk.new < work_of walk.old }
     ensures within { result ≡ None → Within limit walk.old.turns → Within limit walk.new.turns }
-    ensures same { IsSome result → state_of walk.new ≡ state_of walk.old }
-    ensures ended { (why : Why) → result ≡ Some why → EndsHere (search_of (P.widths passes.now) (P.bytes passes.now) (L.lawful law.now) (Q.asks question.now) (Q.tells question.now) (first_says J.key J.says bench.old) name.now (first_calls J.calls bench.old))
-        limit (first_count J.faults bench.old) (first_count J.faults bench.new) (state_of walk.old) why }
-    ensures asks { AsksAtMostOnce (search_of (P.widths passes.now) (P.bytes passes.now) (L.lawful law.now) (Q.asks question.now) (Q.tells question.now) (first_says J.key J.says bench.old) name.now (first_calls J.calls bench.old))
-        (first_calls J.calls bench.new) (state_of walk.old) }
+    ensures same { IsSome result → state_of (P.offer passes.now) walk.new ≡ state_of (P.offer passes.now) walk.old }
+    ensures ended { (why : Why) → result ≡ Some why → EndsHere (searching P.Passes passes.now L.Law law.now Q.Question question.now name.now J.Judge bench.old)
+        limit (first_count J.faults bench.old) (first_count J.faults bench.new) (state_of (P.offer passes.now) walk.old) why }
+    ensures asks { AsksAtMostOnce (searching P.Passes passes.now L.Law law.now Q.Question question.now name.now J.Judge bench.old)
+        (first_calls J.calls bench.new) (state_of (P.offer passes.now) walk.old) }
     ensures key { first_says J.key J.says bench.new ≡ first_says J.key J.says bench.old }
     ensures others { others bench.new ≡ others bench.old }
     ensures count { length bench.new ≡ length bench.old }
@@ -69,13 +67,13 @@ pub fn walk_on<P: Passes, L: Law, Q: Question, J: Judge>(
     limit: Option<u64>,
     walk: &mut Walk<P::Prep>,
 ) -> Why
-    requires sound { IsSound (P.widths passes.now) (P.is_of passes.now) walk.old }
+    requires sound { IsSound (P.offers passes.now) (P.offer passes.now) walk.old }
     requires within { Within limit walk.old.turns }
-    ensures walked { Walked (search_of (P.widths passes.now) (P.bytes passes.now) (L.lawful law.now) (Q.asks question.now) (Q.tells question.now) (first_says J.key J.says bench.old) name.now (first_calls J.calls bench.old))
-        (first_calls J.calls bench.new) (state_of walk.old) (state_of walk.new) }
-    ensures ended { EndsHere (search_of (P.widths passes.now) (P.bytes passes.now) (L.lawful law.now) (Q.asks question.now) (Q.tells question.now) (first_says J.key J.says bench.old) name.now (first_calls J.calls bench.old))
-        limit (first_count J.faults bench.old) (first_count J.faults bench.new) (state_of walk.new) result }
-    ensures placed { (state_of walk.new).position ≤ length (cursors (P.widths passes.now (state_of walk.new).file)) }
+    ensures walked { Walked (searching P.Passes passes.now L.Law law.now Q.Question question.now name.now J.Judge bench.old)
+        (first_calls J.calls bench.new) (state_of (P.offer passes.now) walk.old) (state_of (P.offer passes.now) walk.new) }
+    ensures ended { EndsHere (searching P.Passes passes.now L.Law law.now Q.Question question.now name.now J.Judge bench.old)
+        limit (first_count J.faults bench.old) (first_count J.faults bench.new) (state_of (P.offer passes.now) walk.new) result }
+    ensures placed { walk.new.position ≤ length (cursors_of (P.offer passes.now walk.new.prep walk.new.file.items)) }
     ensures within { Within limit walk.new.turns }
     ensures key { first_says J.key J.says bench.new ≡ first_says J.key J.says bench.old }
     ensures others { others bench.new ≡ others bench.old }

@@ -1,5 +1,5 @@
 // How a reduction is bounded, and what comes of it.
-use crate::traits::passes::Cursor;
+use cr_cursor::Cursor;
 
 /// One accepted variant.
 #[derive(Clone, Copy, Debug, PartialEq, Eq)]

@@ -3,7 +3,7 @@ ghost use Rattle.std.specs.Prelude.{◌≡◌, ◌≢◌, ◌<◌, ◌≤◌, �
 ghost use Rattle.cr_reduce.specs.Bench.{first_calls, first_count, first_says, others};
 ghost use Rattle.cr_reduce.specs.Bound.{HasLevels, enough_turns};
 ghost use Rattle.cr_reduce.specs.Ends.{end_of_walk, EndsAsTold, EndsInRun, FaultsWithCause, IsFixedAsTold, IsFixedInRun};
-ghost use Rattle.cr_reduce.specs.Search.{AsksOnlyCandidates, IsAllTold, search_of};
+ghost use Rattle.cr_reduce.specs.Search.{AsksOnlyCandidates, IsAllTold, searching};
 ghost use Rattle.cr_reduce.specs.Reduction.{Within, start_of};
 ghost use Rattle.cr_reduce.specs.Sizes.{HasSize};
 ghost use Rattle.cr_reduce.specs.Walk.{IsSound, state_of};
@@ -12,10 +12,8 @@ use crate::advance::walk_on;
 use crate::bench::Bench;
 use crate::end::{End, Plan, Why};
 use crate::measure::size_of;
-use crate::traits::law::Law;
-use crate::traits::passes::Passes;
-use crate::traits::positions::positions;
 use crate::walk::Walk;
+use cr_cursor::{Law, Passes, positions};
 use cr_outside::{Judge, Question};
 use std::alloc::Global;
 
@@ -36,25 +34,25 @@ pub fn reduce<P: Passes, L: Law, Q: Question, J: Judge>(
     requires window { (0 < plan.now.window) × (plan.now.window ≤ 4096) }
 
     // The reduction by the answers given in this run, whatever the judge is.
-    ensures chain { EndsInRun (search_of (P.widths passes.now) (P.bytes passes.now) (L.lawful law.now) (Q.asks question.now) (Q.tells question.now) (first_says J.key J.says bench.old) name.now (first_calls J.calls bench.old))
+    ensures chain { EndsInRun (searching P.Passes passes.now L.Law law.now Q.Question question.now name.now J.Judge bench.old)
         (first_calls J.calls bench.new) plan.now.limit file.items result }
-    ensures all_rejected { result.why ≡ Why.Fixed → IsFixedInRun (search_of (P.widths passes.now) (P.bytes passes.now) (L.lawful law.now) (Q.asks question.now) (Q.tells question.now) (first_says J.key J.says bench.old) name.now (first_calls J.calls bench.old))
+    ensures all_rejected { result.why ≡ Why.Fixed → IsFixedInRun (searching P.Passes passes.now L.Law law.now Q.Question question.now name.now J.Judge bench.old)
         (first_calls J.calls bench.new) result.file.items }
 
     // Where the answers are told, it is the one-thread first-accepted reduction.
-    ensures reduction { IsAllTold (search_of (P.widths passes.now) (P.bytes passes.now) (L.lawful law.now) (Q.asks question.now) (Q.tells question.now) (first_says J.key J.says bench.old) name.now (first_calls J.calls bench.old))
-        → EndsAsTold (search_of (P.widths passes.now) (P.bytes passes.now) (L.lawful law.now) (Q.asks question.now) (Q.tells question.now) (first_says J.key J.says bench.old) name.now (first_calls J.calls bench.old)) plan.now.limit file.items result }
-    ensures fixed_point { IsAllTold (search_of (P.widths passes.now) (P.bytes passes.now) (L.lawful law.now) (Q.asks question.now) (Q.tells question.now) (first_says J.key J.says bench.old) name.now (first_calls J.calls bench.old))
-        → result.why ≡ Why.Fixed → IsFixedAsTold (search_of (P.widths passes.now) (P.bytes passes.now) (L.lawful law.now) (Q.asks question.now) (Q.tells question.now) (first_says J.key J.says bench.old) name.now (first_calls J.calls bench.old)) result.file.items }
+    ensures reduction { IsAllTold (searching P.Passes passes.now L.Law law.now Q.Question question.now name.now J.Judge bench.old)
+        → EndsAsTold (searching P.Passes passes.now L.Law law.now Q.Question question.now name.now J.Judge bench.old) plan.now.limit file.items result }
+    ensures fixed_point { IsAllTold (searching P.Passes passes.now L.Law law.now Q.Question question.now name.now J.Judge bench.old)
+        → result.why ≡ Why.Fixed → IsFixedAsTold (searching P.Passes passes.now L.Law law.now Q.Question question.now name.now J.Judge bench.old) result.file.items }
 
     // The test is asked about nothing but smaller, lawful variants of the chain's files.
-    ensures asks_only { AsksOnlyCandidates (search_of (P.widths passes.now) (P.bytes passes.now) (L.lawful law.now) (Q.asks question.now) (Q.tells question.now) (first_says J.key J.says bench.old) name.now (first_calls J.calls bench.old))
+    ensures asks_only { AsksOnlyCandidates (searching P.Passes passes.now L.Law law.now Q.Question question.now name.now J.Judge bench.old)
         file.items result.accepted.items (first_calls J.calls bench.old) (first_calls J.calls bench.new) }
-    ensures cause { FaultsWithCause (search_of (P.widths passes.now) (P.bytes passes.now) (L.lawful law.now) (Q.asks question.now) (Q.tells question.now) (first_says J.key J.says bench.old) name.now (first_calls J.calls bench.old))
+    ensures cause { FaultsWithCause (searching P.Passes passes.now L.Law law.now Q.Question question.now name.now J.Judge bench.old)
         (first_count J.faults bench.old) (first_count J.faults bench.new) result.why }
 
     // With turns enough it ends for another reason.
-    ensures in_time { (levels : ℕ → ℕ) (size : ℕ) → HasLevels (P.widths passes.now) levels → HasSize file.items size → Within plan.now.limit (enough_turns levels size) → result.why ≢ Why.Limit }
+    ensures in_time { (levels : ℕ → ℕ) (size : ℕ) → HasLevels (P.offers passes.now) levels → HasSize file.items size → Within plan.now.limit (enough_turns levels size) → result.why ≢ Why.Limit }
     ensures key { first_says J.key J.says bench.new ≡ first_says J.key J.says bench.old }
     ensures others { others bench.new ≡ others bench.old }
     ensures count { length bench.new ≡ length bench.old }
@@ -79,8 +77,9 @@ pub fn reduce<P: Passes, L: Law, Q: Question, J: Judge>(
 // The walk before its first position, or the file back where no memory is left.
 fn begin<P: Passes>(alloc: Global, passes: &P, file: Vec<u8>) -> Result<Walk<P::Prep>, Vec<u8>>
     requires { (n : ℕ) × HasSize file.items n }
-    ensures sound { IfOk result (IsSound (P.widths passes.now) (P.is_of passes.now)) }
-    ensures start { IfOk result (λ walk. state_of walk ≡ start_of file.items) }
+    ensures sound { IfOk result (IsSound (P.offers passes.now) (P.offer passes.now)) }
+    ensures offered { IfOk result (λ walk. P.offers passes.now file.items (P.offer passes.now walk.prep file.items)) }
+    ensures start { IfOk result (λ walk. state_of (P.offer passes.now) walk ≡ start_of file.items (P.offer passes.now walk.prep file.items)) }
     ensures back { IfErr result (λ given. given ≡ file) }
 {
     let Ok(size) = size_of(alloc, &file) else {

@@ -1,8 +1,7 @@
 //! What always holds of the reduction by told answers: each law is the clause of a function that does nothing.
-ghost use Rattle.cr_reduce.specs.Laws.{ForAnyJudge, HasOneOutcome, ToldTrialsExclude};
+ghost use Rattle.cr_reduce.specs.Laws.{ForAnyJudge, HasOneOutcome, HasOneReduction, ToldTrialsExclude};
 
-use crate::traits::law::Law;
-use crate::traits::passes::Passes;
+use cr_cursor::{Law, Passes};
 use cr_outside::Question;
 
 /// By told answers no variant is both accepted and rejected.
@@ -11,7 +10,7 @@ pub fn told_trials_exclude_each_other<P: Passes, L: Law, Q: Question>(
     law: &L,
     question: &Q,
 )
-    ensures { ForAnyJudge (P.widths passes.now) (P.bytes passes.now) (L.lawful law.now) (Q.asks question.now) (Q.tells question.now) ToldTrialsExclude }
+    ensures { ForAnyJudge (P.offers passes.now) (L.lawful law.now) (Q.asks question.now) (Q.tells question.now) ToldTrialsExclude }
 {}
 
 /// By told answers a reduction has one outcome at most: its file, what it accepted, its turns and why it ended.
@@ -20,5 +19,9 @@ pub fn a_told_reduction_has_one_outcome<P: Passes, L: Law, Q: Question>(
     law: &L,
     question: &Q,
 )
-    ensures { ForAnyJudge (P.widths passes.now) (P.bytes passes.now) (L.lawful law.now) (Q.asks question.now) (Q.tells question.now) HasOneOutcome }
+    // from each state on
+    ensures outcome { ForAnyJudge (P.offers passes.now) (L.lawful law.now) (Q.asks question.now) (Q.tells question.now) HasOneOutcome }
+
+    // and so of each file
+    ensures reduction { ForAnyJudge (P.offers passes.now) (L.lawful law.now) (Q.asks question.now) (Q.tells question.now) HasOneReduction }
 {}

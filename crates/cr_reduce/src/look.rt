@@ -2,22 +2,19 @@
 ghost use Rattle.std.specs.Prelude.{◌≡◌, ◌<◌, ◌≤◌, ◌+◌, ◌⊎◌, ℕ, List, IsSome, OnOk, OnErr, IfOk, Some, None, true, slice_get, length};
 ghost use Rattle.cr_outside.specs.Faults.{Rose};
 ghost use Rattle.cr_reduce.specs.declared.end.Why.{Why};
-ghost use Rattle.cr_reduce.specs.declared.traits.passes.Cursor.{Cursor};
-ghost use Rattle.cr_reduce.specs.Reduction.{moved};
+ghost use Rattle.cr_cursor.specs.declared.passes.Cursor.{Cursor};
+ghost use Rattle.cr_reduce.specs.Reduction.{cursors_of, moved};
 ghost use Rattle.cr_reduce.specs.Bench.{first_calls, first_count, first_says, others};
-ghost use Rattle.cr_reduce.specs.Variants.{cursors};
 ghost use Rattle.cr_reduce.specs.Trials.{GoesOn};
-ghost use Rattle.cr_reduce.specs.Search.{search_of};
+ghost use Rattle.cr_reduce.specs.Search.{searching};
 ghost use Rattle.cr_reduce.specs.Walk.{AsksAtMostOnce, Considers, IsHalt, IsSound, IsTakable, MovesOn, state_of, work_of};
 
 use crate::bench::Bench;
 use crate::end::Why;
 use crate::take::take;
-use crate::traits::law::Law;
-use crate::traits::passes::{Cursor, Passes};
-use crate::traits::positions::cursor_at;
 use crate::trial::{Verdict, try_variant};
 use crate::walk::Walk;
+use cr_cursor::{Cursor, Law, Passes, cursor_at};
 use cr_outside::{Judge, NoMemory, Question};
 use std::alloc::Global;
 
@@ -37,10 +34,10 @@ fn propose<P: Passes>(
     walk: &Walk<P::Prep>,
     variant: &mut Vec<u8>,
 ) -> Result<Cursor, NoMemory>
-    requires sound { IsSound (P.widths passes.now) (P.is_of passes.now) walk.now }
+    requires sound { IsSound (P.offers passes.now) (P.offer passes.now) walk.now }
     requires below { walk.now.position < walk.now.count }
-    ensures there { IfOk result (λ at. slice_get (cursors (P.widths passes.now walk.now.file.items)) walk.now.position ≡ Some at) }
-    ensures variant { IfOk result (λ at. variant.new.items ≡ P.bytes passes.now walk.now.file.items at) }
+    ensures there { IfOk result (λ at. slice_get (cursors_of (P.offer passes.now walk.now.prep walk.now.file.items)) walk.now.position ≡ Some at) }
+    ensures variant { IfOk result (λ at. variant.new.items ≡ (P.offer passes.now walk.now.prep walk.now.file.items).bytes at) }
 {
     let at = cursor_at(passes, &walk.prep, walk.position);
     passes.variant(&walk.prep, &walk.file, at, variant)?;
@@ -58,15 +55,15 @@ fn consider<P: Passes, L: Law, Q: Question, J: Judge>(
     walk: &Walk<P::Prep>,
     variant: &mut Vec<u8>,
 ) -> Considered
-    requires sound { IsSound (P.widths passes.now) (P.is_of passes.now) walk.now }
+    requires sound { IsSound (P.offers passes.now) (P.offer passes.now) walk.now }
     requires below { walk.now.position < walk.now.count }
-    ensures rejected { result ≡ Considered.Rejected → MovesOn (search_of (P.widths passes.now) (P.bytes passes.now) (L.lawful law.now) (Q.asks question.now) (Q.tells question.now) (first_says J.key J.says bench.old) name.now (first_calls J.calls bench.old))
-        (first_calls J.calls bench.new) (state_of walk.now) (moved (state_of walk.now) (walk.now.position + 1) (walk.now.turns + 1)) }
-    ensures accepted { (at : Cursor) (size : ℕ) → result ≡ Considered.Accepted at size → IsTakable (search_of (P.widths passes.now) (P.bytes passes.now) (L.lawful law.now) (Q.asks question.now) (Q.tells question.now) (first_says J.key J.says bench.old) name.now (first_calls J.calls bench.old))
-        (first_calls J.calls bench.new) (state_of walk.now) walk.now.size variant.new.items at size }
+    ensures rejected { result ≡ Considered.Rejected → MovesOn (searching P.Passes passes.now L.Law law.now Q.Question question.now name.now J.Judge bench.old)
+        (first_calls J.calls bench.new) (state_of (P.offer passes.now) walk.now) (moved (state_of (P.offer passes.now) walk.now) (walk.now.position + 1) (walk.now.turns + 1)) }
+    ensures accepted { (at : Cursor) (size : ℕ) → result ≡ Considered.Accepted at size → IsTakable (searching P.Passes passes.now L.Law law.now Q.Question question.now name.now J.Judge bench.old)
+        (first_calls J.calls bench.new) (state_of (P.offer passes.now) walk.now) walk.now.size variant.new.items at size }
     ensures failed { result ≡ Considered.Failed → (Q.asks question.now ≡ true) × Rose (first_count J.faults bench.old) (first_count J.faults bench.new) }
-    ensures asks { AsksAtMostOnce (search_of (P.widths passes.now) (P.bytes passes.now) (L.lawful law.now) (Q.asks question.now) (Q.tells question.now) (first_says J.key J.says bench.old) name.now (first_calls J.calls bench.old))
-        (first_calls J.calls bench.new) (state_of walk.now) }
+    ensures asks { AsksAtMostOnce (searching P.Passes passes.now L.Law law.now Q.Question question.now name.now J.Judge bench.old)
+        (first_calls J.calls bench.new) (state_of (P.offer passes.now) walk.now) }
     ensures key { first_says J.key J.says bench.new ≡ first_says J.key J.says bench.old }
     ensures others { others bench.new ≡ others bench.old }
     ensures count { length bench.new ≡ length bench.old }
@@ -103,16 +100,16 @@ pub fn look<P: Passes, L: Law, Q: Question, J: Judge>(
     walk: &mut Walk<P::Prep>,
     variant: &mut Vec<u8>,
 ) -> Option<Why>
-    requires sound { IsSound (P.widths passes.now) (P.is_of passes.now) walk.old }
+    requires sound { IsSound (P.offers passes.now) (P.offer passes.now) walk.old }
     requires below { walk.old.position < walk.old.count }
-    ensures moved { result ≡ None → MovesOn (search_of (P.widths passes.now) (P.bytes passes.now) (L.lawful law.now) (Q.asks question.now) (Q.tells question.now) (first_says J.key J.says bench.old) name.now (first_calls J.calls bench.old))
-        (first_calls J.calls bench.new) (state_of walk.old) (state_of walk.new) }
-    ensures sound { result ≡ None → IsSound (P.widths passes.now) (P.is_of passes.now) walk.new }
+    ensures moved { result ≡ None → MovesOn (searching P.Passes passes.now L.Law law.now Q.Question question.now name.now J.Judge bench.old)
+        (first_calls J.calls bench.new) (state_of (P.offer passes.now) walk.old) (state_of (P.offer passes.now) walk.new) }
+    ensures sound { result ≡ None → IsSound (P.offers passes.now) (P.offer passes.now) walk.new }
     ensures less { result ≡ None → work_of walk.new < work_of walk.old }
-    ensures same { IsSome result → state_of walk.new ≡ state_of walk.old }
+    ensures same { IsSome result → state_of (P.offer passes.now) walk.new ≡ state_of (P.offer passes.now) walk.old }
     ensures halted { (why : Why) → result ≡ Some why → IsHalt (Q.asks question.now) (first_count J.faults bench.old) (first_count J.faults bench.new) walk.old.turns why }
-    ensures asks { AsksAtMostOnce (search_of (P.widths passes.now) (P.bytes passes.now) (L.lawful law.now) (Q.asks question.now) (Q.tells question.now) (first_says J.key J.says bench.old) name.now (first_calls J.calls bench.old))
-        (first_calls J.calls bench.new) (state_of walk.old) }
+    ensures asks { AsksAtMostOnce (searching P.Passes passes.now L.Law law.now Q.Question question.now name.now J.Judge bench.old)
+        (first_calls J.calls bench.new) (state_of (P.offer passes.now) walk.old) }
     ensures key { first_says J.key J.says bench.new ≡ first_says J.key J.says bench.old }
     ensures others { others bench.new ≡ others bench.old }
     ensures count { length bench.new ≡ length bench.old }

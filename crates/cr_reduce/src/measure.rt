@@ -1,7 +1,7 @@
 // The size of a file, by its tokens.
 ghost use Rattle.std.specs.Prelude.{ℕ, IfOk, MatchOption};
 ghost use Rattle.cr_reduce.specs.Sizes.{HasSize, IsMeasured};
-ghost use Rattle.cr_reduce.specs.TokenLaw.{IsTokenized};
+ghost use Rattle.cr_cursor.specs.TokenLaw.{IsTokenized};
 
 use cr_outside::NoMemory;
 use cr_tokens::{read, size};

@@ -1,14 +1,13 @@
 // An accepted variant becomes the file.
 ghost use Rattle.std.specs.Prelude.{◌≡◌, ◌<◌, ◌+◌, OnOk, OnErr, Some, slice_get};
-ghost use Rattle.cr_reduce.specs.Variants.{cursors};
+ghost use Rattle.cr_cursor.specs.Variants.{Offer};
 ghost use Rattle.cr_reduce.specs.Sizes.{HasSize};
-ghost use Rattle.cr_reduce.specs.Reduction.{taken};
+ghost use Rattle.cr_reduce.specs.Reduction.{cursors_of, taken};
 ghost use Rattle.cr_reduce.specs.Walk.{IsSound, state_of, work_of};
 
 use crate::end::Accepted;
-use crate::traits::passes::{Cursor, Passes};
-use crate::traits::positions::{position_of, positions};
 use crate::walk::Walk;
+use cr_cursor::{Cursor, Passes, position_of, positions};
 use cr_outside::NoMemory;
 use std::alloc::Global;
 use std::mem;
@@ -22,15 +21,15 @@ pub fn take<P: Passes>(
     size: u64,
     variant: &mut Vec<u8>,
 ) -> Result<(), NoMemory>
-    requires sound { IsSound (P.widths passes.now) (P.is_of passes.now) walk.old }
-    requires there { slice_get (cursors (P.widths passes.now walk.old.file.items)) walk.old.position ≡ Some at }
-    requires variant { variant.old.items ≡ P.bytes passes.now walk.old.file.items at }
+    requires sound { IsSound (P.offers passes.now) (P.offer passes.now) walk.old }
+    requires there { slice_get (cursors_of (P.offer passes.now walk.old.prep walk.old.file.items)) walk.old.position ≡ Some at }
+    requires variant { variant.old.items ≡ (P.offer passes.now walk.old.prep walk.old.file.items).bytes at }
     requires has { HasSize variant.old.items size }
     requires smaller { size < walk.old.size }
-    ensures taken { OnOk result (state_of walk.new ≡ taken (record { widths = P.widths passes.now; bytes = P.bytes passes.now }) (state_of walk.old) at size (walk.old.turns + 1)) }
-    ensures sound { OnOk result (IsSound (P.widths passes.now) (P.is_of passes.now) walk.new) }
+    ensures taken { OnOk result ((next : Offer) × P.offers passes.now variant.old.items next × (state_of (P.offer passes.now) walk.new ≡ taken (state_of (P.offer passes.now) walk.old) at size (walk.old.turns + 1) next)) }
+    ensures sound { OnOk result (IsSound (P.offers passes.now) (P.offer passes.now) walk.new) }
     ensures less { OnOk result (work_of walk.new < work_of walk.old) }
-    ensures same { OnErr result (state_of walk.new ≡ state_of walk.old) }
+    ensures same { OnErr result (state_of (P.offer passes.now) walk.new ≡ state_of (P.offer passes.now) walk.old) }
 {
     let prep = passes.prepare(alloc, variant)?;
     let turn = walk.turns + 1;

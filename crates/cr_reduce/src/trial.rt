@@ -8,8 +8,7 @@ ghost use Rattle.cr_reduce.specs.Trials.{AnswerInRun, CallsAbout, IsBad, IsGood}
 
 use crate::bench::Bench;
 use crate::measure::measure;
-use crate::traits::law::{Law, Ruling};
-use crate::traits::stop::Never;
+use cr_cursor::{Law, Never, Ruling};
 use cr_outside::{Answer, Judge, NoMemory, Question};
 use std::alloc::{AllocError, Global};
 

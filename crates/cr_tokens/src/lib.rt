@@ -16,8 +16,6 @@ mod number;
 mod punctuator;
 mod reader;
 mod run;
-#[cfg(test)]
-mod tests;
 mod token;
 mod word;
 

@@ -1,15 +1,19 @@
 //! `creduce [--limit N] TEST FILE`: reduces FILE while the test says yes, and ends with the status of `run`, which see.
 #![tactic(auto)]
 
+mod process_judge;
 mod std_files;
 mod std_out;
 #[cfg(test)]
 mod tests;
+mod trial;
+
+ghost use Rattle.std.specs.Prelude.{◌≡◌, IfOk, length};
 
 use cr_main::run;
-use cr_outside::{Answer, Scripted};
 use cr_reduce::Bench;
-use std::alloc::{AllocError, Global};
+use process_judge::ProcessJudge;
+use std::alloc::AllocError;
 use std::process::ExitCode;
 use std::{env, io};
 use std_files::StdFiles;
@@ -18,11 +22,14 @@ use std_out::StdOut;
 /// Status 11: no memory is left.
 const NO_MEMORY: u8 = 11;
 
-// No program is run as a test yet: the one judge fails at each call.
-fn bench(alloc: Global) -> Result<Bench<Scripted>, AllocError> {
-    let judge = Scripted::new(alloc, Vec::new(alloc), Answer::Failed, Vec::new(alloc));
-    let mut judges = Vec::new(alloc);
-    judges.push(judge)?;
+/// As many judges as there may be workers.
+const JUDGES: u32 = 32;
+
+fn bench(rt: &HostRuntime) -> Result<Bench<ProcessJudge<'_, HostRuntime>>, AllocError> {
+    let mut judges = Vec::new(rt.alloc());
+    for number in 0..JUDGES {
+        judges.push(ProcessJudge::new(rt, number))?;
+    }
     Bench::new(judges)
 }
 
@@ -45,7 +52,7 @@ fn words(rt: &HostRuntime) -> Result<Vec<String>, AllocError> {
 
 fn reduce(rt: &HostRuntime) -> Result<u8, AllocError> {
     let words = words(rt)?;
-    let mut bench = bench(rt.alloc())?;
+    let mut bench = bench(rt)?;
     let mut files = StdFiles::new(rt);
     let mut out = StdOut::new(rt);
     Ok(run(rt.alloc(), &words, &mut files, &mut bench, &mut out))

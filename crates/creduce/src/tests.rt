@@ -1,8 +1,9 @@
 use crate::bench;
+use crate::process_judge::ProcessJudge;
 use crate::std_files::StdFiles;
 use crate::std_out::StdOut;
 use cr_main::run;
-use cr_outside::{Files, ReadAnswer, Sink};
+use cr_outside::{Answer, Files, Judge, ReadAnswer, Sink};
 use std::alloc::{AllocError, Global};
 use std::{fs, io};
 
@@ -58,7 +59,7 @@ fn a_real_file_is_reduced_beside_its_copy_and_its_log(rt: HostRuntime) -> io::Re
     let alloc = rt.alloc();
     let mut files = StdFiles::new(&rt);
     let mut out = StdOut::new(&rt);
-    let mut bench = bench(alloc)?;
+    let mut bench = bench(&rt)?;
     let list = words(alloc, &["has:b", AFTER[0].0])?;
     assert_eq!(rt;
         files.write(alloc, AFTER[0].0, AFTER[1].1.as_bytes()),
@@ -70,4 +71,24 @@ fn a_real_file_is_reduced_beside_its_copy_and_its_log(rt: HostRuntime) -> io::Re
         fs::remove_file(&rt, name)?;
     }
     Ok(())
+}
+
+/// Tests that stand on every system, and what they answer.
+const TESTS: [(&str, Answer); 3] = [
+    ("/bin/true", Answer::Yes),
+    ("/bin/false", Answer::No),
+    ("/bin/there-is-no-such-test", Answer::Failed),
+];
+
+#[test]
+fn a_process_answers_by_its_exit_status(rt: HostRuntime) -> io::Result<()> {
+    let mut judge = ProcessJudge::new(&rt, 7);
+    for (test, wanted) in TESTS {
+        let answer = judge.ask(rt.alloc(), test, "judged.c", b"int a;\n");
+        assert!(rt; answer == wanted, "{test}");
+    }
+    assert!(rt; judge.asked == 3 && judge.faults == 1);
+    assert!(rt; fs::read(&rt, "creduce-trial-7/judged.c")?.as_slice() == b"int a;\n".as_slice());
+    fs::remove_file(&rt, "creduce-trial-7/judged.c")?;
+    fs::remove_dir(&rt, "creduce-trial-7")
 }

@@ -1,15 +1,12 @@
-use Rattle.std.proofs.Common.{arith, refl, subst}
+use Rattle.std.proofs.Common.{refl, subst}
 use Rattle.cr_reduce.specs.Bench.{first_calls, first_says}
-use Rattle.cr_reduce.specs.Reduction.{start_of}
-use Rattle.cr_reduce.specs.Search.{AcceptsInRun, ReducesInRun, RejectsInRun, Search}
-use Rattle.cr_reduce.specs.Ends.{outcome_of}
 use Rattle.cr_reduce.specs.Sizes.{HasSize}
 use Rattle.cr_main.specs.Messages.{copy_name}
 use Rattle.cr_main.specs.Outside.{IsWritten, WriteFails, outside_of}
 use Rattle.cr_main.specs.Requests.{task_for}
 use Rattle.cr_main.specs.Run.{search_for}
 use Rattle.cr_main.specs.Run.Finishes.{uncopied, reduced}
-use Rattle.cr_main.proofs.Outcomes.{out_passes, out_sized, some_reduction}
+use Rattle.cr_main.proofs.Outcomes.{end_passes, end_sized}
 use Rattle.cr_main.proofs.finish.copy_and_reduce.Goals as goal
 
 pub returns-in-Some : goal.returns-in-Some
@@ -20,17 +17,14 @@ returns-in-Some g c = uncopied (subst (λ b. WriteFails
 
 pub conclude-requires-clause-sized : goal.conclude-requires-clause-sized
 conclude-requires-clause-sized g c =
-    let s : Search = search_for (task_for c.args.request (first_says g.J.Judge.key g.J.Judge.says c.args.bench.now)) (first_calls g.J.Judge.calls c.args.bench.now) in
-    let now = first_calls g.J.Judge.calls c.reduce-end.new.bench in
-    let some = some_reduction (λ most out. ReducesInRun s now most (start_of c.args.bytes.items) out) c.args.request.limit c.reduce-end.result c.reduce-end.result.why c.reduce-end.ensures.chain in
-    out_sized s.proposals (AcceptsInRun s now) (RejectsInRun s now) some.0 (start_of c.args.bytes.items) (outcome_of c.reduce-end.result some.1) (c.in-Ok.old_size, subst (λ b. HasSize b c.in-Ok.old_size) c.deref.ensures.value c.in-Ok.ensures.has) some.2
+    end_sized (search_for (task_for c.args.request (first_says g.J.Judge.key g.J.Judge.says c.args.bench.now)) (first_calls g.J.Judge.calls c.args.bench.now))
+    (first_calls g.J.Judge.calls c.reduce-end.new.bench) c.args.request.limit c.args.bytes.items c.reduce-end.result c.reduce-end.ensures.chain
+    (c.in-Ok.old_size, subst (λ b. HasSize b c.in-Ok.old_size) c.deref.ensures.value c.in-Ok.ensures.has)
 
 pub conclude-requires-clause-passes : goal.conclude-requires-clause-passes
 conclude-requires-clause-passes g c =
-    let s : Search = search_for (task_for c.args.request (first_says g.J.Judge.key g.J.Judge.says c.args.bench.now)) (first_calls g.J.Judge.calls c.args.bench.now) in
-    let now = first_calls g.J.Judge.calls c.reduce-end.new.bench in
-    let some = some_reduction (λ most out. ReducesInRun s now most (start_of c.args.bytes.items) out) c.args.request.limit c.reduce-end.result c.reduce-end.result.why c.reduce-end.ensures.chain in
-    out_passes s.proposals (AcceptsInRun s now) (RejectsInRun s now) some.0 (start_of c.args.bytes.items) (outcome_of c.reduce-end.result some.1) (λ k d below. absurd (omega arith)) some.2
+    end_passes (search_for (task_for c.args.request (first_says g.J.Judge.key g.J.Judge.says c.args.bench.now)) (first_calls g.J.Judge.calls c.args.bench.now))
+    (first_calls g.J.Judge.calls c.reduce-end.new.bench) c.args.request.limit c.args.bytes.items c.reduce-end.result c.reduce-end.ensures.chain
 
 pub returns : goal.returns
 returns g c = reduced

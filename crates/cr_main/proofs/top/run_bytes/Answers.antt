@@ -1,5 +1,5 @@
 use Rattle.std.proofs.Common.{refl, subst}
-use Rattle.cr_reduce.specs.TokenLaw.{IsTokenized, IsTokenReason}
+use Rattle.cr_cursor.specs.TokenLaw.{IsTokenized, IsTokenReason}
 use Rattle.cr_main.specs.Messages.{reason_line}
 use Rattle.cr_main.specs.Outside.{Says}
 use Rattle.cr_main.specs.Run.RunsBytes.{ruled_out}

@@ -1,5 +1,5 @@
-use Rattle.cr_reduce.specs.Bench.{first_calls, first_count, first_says}
-use Rattle.cr_reduce.specs.Search.{search_of}
+use Rattle.cr_reduce.specs.Bench.{first_count}
+use Rattle.cr_reduce.specs.Search.{searching}
 use Rattle.cr_reduce.specs.Walk.{state_of}
 use Rattle.cr_reduce.specs.Walk.Advances.{moves}
 use Rattle.cr_reduce.proofs.Walks.{halt_ends}
@@ -10,5 +10,5 @@ returns-clause-advances g c = λ is. moves (c.look.ensures.moved is)
 
 pub returns-clause-ended : goal.returns-clause-ended
 returns-clause-ended g c = λ why is.
-    halt_ends (search_of (g.P.Passes.widths c.args.passes.now) (g.P.Passes.bytes c.args.passes.now) (g.L.Law.lawful c.args.law.now) (g.Q.Question.asks c.args.question.now) (g.Q.Question.tells c.args.question.now) (first_says g.J.Judge.key g.J.Judge.says c.args.bench.now) c.args.name.now (first_calls g.J.Judge.calls c.args.bench.now))
-    c.args.limit (first_count g.J.Judge.faults c.args.bench.now) (first_count g.J.Judge.faults c.look.new.bench) (state_of c.args.walk.now) why (c.look.ensures.halted why is)
+    halt_ends (searching g.P.Passes c.args.passes.now g.L.Law c.args.law.now g.Q.Question c.args.question.now c.args.name.now g.J.Judge c.args.bench.now)
+    c.args.limit (first_count g.J.Judge.faults c.args.bench.now) (first_count g.J.Judge.faults c.look.new.bench) (state_of (g.P.Passes.offer c.args.passes.now) c.args.walk.now) why (c.look.ensures.halted why is)

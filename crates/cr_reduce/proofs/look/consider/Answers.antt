@@ -1,7 +1,7 @@
-use Rattle.std.proofs.Common.{subst}
-use Rattle.cr_reduce.specs.Bench.{first_calls, first_says}
+use Rattle.std.proofs.Common.{subst, sym}
+use Rattle.cr_reduce.specs.Bench.{first_calls}
 use Rattle.cr_reduce.specs.Sizes.{HasSize}
-use Rattle.cr_reduce.specs.Search.{search_of}
+use Rattle.cr_reduce.specs.Search.{searching}
 use Rattle.cr_reduce.specs.Walk.{state_of, IsTakable}
 use Rattle.cr_reduce.proofs.Verdicts.{was_rejected, was_accepted}
 use Rattle.cr_reduce.proofs.Walks.{moves_rejected, moves_accepted, asks_at_most_once}
@@ -9,29 +9,29 @@ use Rattle.cr_reduce.proofs.look.consider.Goals as goal
 
 pub returns-in-Ok-clause-rejected : goal.returns-in-Ok-clause-rejected
 returns-in-Ok-clause-rejected g c = λ is.
-    let s = search_of (g.P.Passes.widths c.args.passes.now) (g.P.Passes.bytes c.args.passes.now) (g.L.Law.lawful c.args.law.now) (g.Q.Question.asks c.args.question.now) (g.Q.Question.tells c.args.question.now) (first_says g.J.Judge.key g.J.Judge.says c.args.bench.now) c.args.name.now (first_calls g.J.Judge.calls c.args.bench.now) in
+    let s = searching g.P.Passes c.args.passes.now g.L.Law c.args.law.now g.Q.Question c.args.question.now c.args.name.now g.J.Judge c.args.bench.now in
     let verdict = was_rejected c.in-Ok.at c.try_variant.result c.with_cursor.result c.with_cursor.ensures is in
-    moves_rejected s (first_calls g.J.Judge.calls c.try_variant.new.bench) (state_of c.args.walk.now) c.in-Ok.at c.deref.result.now c.args.walk.now.size c.in-Ok.ensures.there
+    moves_rejected s (first_calls g.J.Judge.calls c.try_variant.new.bench) (state_of (g.P.Passes.offer c.args.passes.now) c.args.walk.now) c.in-Ok.at c.deref.result.now c.args.walk.now.size c.in-Ok.ensures.there
     (rw c.deref.ensures.value c.in-Ok.ensures.variant) c.requires.sound.sized (c.try_variant.ensures.rejected verdict)
 
 pub returns-in-Ok-clause-accepted : goal.returns-in-Ok-clause-accepted
 returns-in-Ok-clause-accepted g c = λ at size is.
-    let s = search_of (g.P.Passes.widths c.args.passes.now) (g.P.Passes.bytes c.args.passes.now) (g.L.Law.lawful c.args.law.now) (g.Q.Question.asks c.args.question.now) (g.Q.Question.tells c.args.question.now) (first_says g.J.Judge.key g.J.Judge.says c.args.bench.now) c.args.name.now (first_calls g.J.Judge.calls c.args.bench.now) in
+    let s = searching g.P.Passes c.args.passes.now g.L.Law c.args.law.now g.Q.Question c.args.question.now c.args.name.now g.J.Judge c.args.bench.now in
     let now = first_calls g.J.Judge.calls c.try_variant.new.bench in
     let verdict = was_accepted c.in-Ok.at at size c.try_variant.result c.with_cursor.result c.with_cursor.ensures is in
     let good = c.try_variant.ensures.accepted size verdict.0 in
-    let moves = moves_accepted s now (state_of c.args.walk.now) c.in-Ok.at c.deref.result.now c.args.walk.now.size size c.in-Ok.ensures.there
+    let moves = moves_accepted s now (state_of (g.P.Passes.offer c.args.passes.now) c.args.walk.now) c.in-Ok.at c.deref.result.now c.args.walk.now.size size c.in-Ok.ensures.there
     (rw c.deref.ensures.value c.in-Ok.ensures.variant) c.requires.sound.sized good.0 good.1 in
-    subst (λ k. IsTakable s now (state_of c.args.walk.now) c.args.walk.now.size c.propose.new.variant.items k size) verdict.1 (record {
+    subst (λ k. IsTakable s now (state_of (g.P.Passes.offer c.args.passes.now) c.args.walk.now) c.args.walk.now.size c.propose.new.variant.items k size) verdict.1 (record {
       there = c.in-Ok.ensures.there;
       is = c.in-Ok.ensures.variant;
       has = subst (λ v. HasSize v size) c.deref.ensures.value good.0.has;
       less = good.0.less;
-      moves = moves;
+      moves = λ next offered. moves next (subst (λ v. s.Offers v next) (sym c.deref.ensures.value) offered);
     })
 
 pub returns-in-Ok-clause-asks : goal.returns-in-Ok-clause-asks
 returns-in-Ok-clause-asks g c =
-    let s = search_of (g.P.Passes.widths c.args.passes.now) (g.P.Passes.bytes c.args.passes.now) (g.L.Law.lawful c.args.law.now) (g.Q.Question.asks c.args.question.now) (g.Q.Question.tells c.args.question.now) (first_says g.J.Judge.key g.J.Judge.says c.args.bench.now) c.args.name.now (first_calls g.J.Judge.calls c.args.bench.now) in
-    asks_at_most_once s (first_calls g.J.Judge.calls c.try_variant.new.bench) (state_of c.args.walk.now) c.in-Ok.at c.deref.result.now c.args.walk.now.size c.in-Ok.ensures.there
+    let s = searching g.P.Passes c.args.passes.now g.L.Law c.args.law.now g.Q.Question c.args.question.now c.args.name.now g.J.Judge c.args.bench.now in
+    asks_at_most_once s (first_calls g.J.Judge.calls c.try_variant.new.bench) (state_of (g.P.Passes.offer c.args.passes.now) c.args.walk.now) c.in-Ok.at c.deref.result.now c.args.walk.now.size c.in-Ok.ensures.there
     (rw c.deref.ensures.value c.in-Ok.ensures.variant) c.requires.sound.sized c.try_variant.ensures.calls c.try_variant.ensures.only_good

@@ -1,6 +1,6 @@
 use Rattle.std.proofs.Common.{refl, subst, sym}
-use Rattle.cr_reduce.specs.Bench.{first_calls, first_says}
-use Rattle.cr_reduce.specs.Search.{search_of}
+use Rattle.cr_reduce.specs.Bench.{first_calls}
+use Rattle.cr_reduce.specs.Search.{searching}
 use Rattle.cr_reduce.specs.Walk.{state_of, MovesOn}
 use Rattle.cr_reduce.proofs.look.look.Goals as goal
 
@@ -21,5 +21,5 @@ returns-in-Rejected-clause-moved g c = λ _. c.in-Rejected.ensures.rejected refl
 
 pub returns-in-Ok-clause-moved : goal.returns-in-Ok-clause-moved
 returns-in-Ok-clause-moved g c = λ _.
-    let s = search_of (g.P.Passes.widths c.args.passes.now) (g.P.Passes.bytes c.args.passes.now) (g.L.Law.lawful c.args.law.now) (g.Q.Question.asks c.args.question.now) (g.Q.Question.tells c.args.question.now) (first_says g.J.Judge.key g.J.Judge.says c.args.bench.now) c.args.name.now (first_calls g.J.Judge.calls c.args.bench.now) in
-    subst (MovesOn s (first_calls g.J.Judge.calls c.consider.new.bench) (state_of c.args.walk.now)) (sym c.in-Ok.ensures.taken) (c.in-Accepted.ensures.accepted c.in-Accepted.at c.in-Accepted.size refl).moves
+    let s = searching g.P.Passes c.args.passes.now g.L.Law c.args.law.now g.Q.Question c.args.question.now c.args.name.now g.J.Judge c.args.bench.now in
+    subst (MovesOn s (first_calls g.J.Judge.calls c.consider.new.bench) (state_of (g.P.Passes.offer c.args.passes.now) c.args.walk.now)) (sym c.in-Ok.ensures.taken.2) ((c.in-Accepted.ensures.accepted c.in-Accepted.at c.in-Accepted.size refl).moves c.in-Ok.ensures.taken.0 c.in-Ok.ensures.taken.1)

@@ -1,0 +1,6 @@
+use Rattle.std.proofs.Common.{◌≡◌, ◌+◌, ℕ, List, length}
+use Rattle.cr_cursor.specs.Variants.{pass_cursors}
+use Rattle.cr_cursor.proofs.places.cursor_in.Given as goal
+
+abbrev pub invariant-loop-level : goal.invariant-loop-level
+invariant-loop-level g l = (file : List ℕ) → l.place ≡ length (pass_cursors (g.P.Passes.offer l.passes l.prep file).widths l.pass l.level) + l.left

@@ -1,0 +1,2 @@
+pub mod Glues
+pub mod Spans

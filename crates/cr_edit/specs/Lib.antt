@@ -1,0 +1,4 @@
+pub mod Glue
+pub mod Edit
+pub mod Menu
+pub mod Laws

@@ -1,0 +1,439 @@
+ghost use Rattle.std.specs.Prelude.{◌≡◌, ◌↔◌, IsTrue};
+ghost use Rattle.cr_memory.specs.Access.{HasStride};
+
+use crate::rows::{expect, number, rows, triple};
+use cr_ints::IntKind;
+use cr_memory::{Cell, Guard, Pointer, Scalar, Store, Trap};
+use std::process::Abort;
+use std::str::SplitWhitespace;
+use std::test::Fail;
+
+const CHAR: Scalar = Scalar::Int(IntKind::Char);
+
+const INT: Scalar = Scalar::Int(IntKind::Int);
+
+const TO_INT: Scalar = Scalar::Pointer(0);
+
+// The objects of `several_objects` have the numbers from 0 on. A place is `null`, or the numbers of its object and its cell,
+// where its array begins and ends, and the cells of an element.
+//
+// Places, kinds, and what a load answers. In the last four rows two cases hold: U10 and U9, U10 and N5, U9 and N5, N5 and U11.
+const LOADS: &str = "
+0 5 3 6 1¦int¦Ok(Number(0))
+3 0 0 1 1¦int*¦Ok(Pointer(Null))
+null¦int¦Err(Undefined(9))
+0 3 0 3 1¦int¦Err(Undefined(9))
+5 0 0 1 1¦int¦Err(Undefined(10))
+6 0 0 1 1¦int*¦Err(Undefined(10))
+4 0 0 1 1¦int¦Err(Undefined(11))
+0 0 0 3 1¦long¦Err(Left(5))
+3 0 0 1 1¦long*¦Err(Left(5))
+5 1 0 1 1¦int¦Err(Undefined(10))
+6 0 0 1 1¦int¦Err(Undefined(10))
+0 6 3 6 1¦long¦Err(Undefined(9))
+4 0 0 1 1¦long¦Err(Left(5))
+";
+
+// The same for a write. From the seventh row on two cases hold: U10 and U9, U9 and U13, U13 and N5, U14 and N5; the last is done.
+const WRITES: &str = "
+null¦int¦Err(Undefined(9))
+0 6 3 6 1¦int¦Err(Undefined(9))
+5 0 0 1 1¦int¦Err(Undefined(10))
+2 0 0 2 1¦char¦Err(Undefined(13))
+1 0 0 1 1¦int¦Err(Undefined(14))
+0 0 0 3 1¦long¦Err(Left(5))
+5 1 0 1 1¦int¦Err(Undefined(10))
+2 2 0 2 1¦char¦Err(Undefined(9))
+2 0 0 2 1¦int¦Err(Undefined(13))
+1 0 0 1 1¦long¦Err(Undefined(14))
+0 4 3 6 1¦int¦Ok(())
+";
+
+// Two places, and what a copy of one cell from the first to the second answers.
+const COPIES: &str = "
+4 0 0 1 1¦0 0 0 6 1¦Ok(())
+6 0 0 1 1¦3 0 0 1 1¦Ok(())
+null¦0 0 0 6 1¦Err(Undefined(9))
+0 0 0 6 1¦5 1 0 1 1¦Err(Undefined(10))
+0 0 0 6 1¦2 0 0 2 1¦Err(Undefined(13))
+3 0 0 1 1¦1 0 0 1 1¦Err(Undefined(14))
+3 0 0 1 1¦0 0 0 6 1¦Err(Left(5))
+";
+
+// Places, the elements by which they move, and where they are then.
+const MOVES: &str = "
+0 0 0 3 1¦3¦Ok(At { object: 0, cell: 3, low: 0, high: 3, stride: 1 })
+0 0 0 3 1¦4¦Err(Undefined(6))
+0 0 0 3 1¦-1¦Err(Undefined(6))
+0 0 0 3 1¦170141183460469231731687303715884105727¦Err(Undefined(6))
+0 0 0 6 3¦1¦Ok(At { object: 0, cell: 3, low: 0, high: 6, stride: 3 })
+0 0 0 6 3¦2¦Ok(At { object: 0, cell: 6, low: 0, high: 6, stride: 3 })
+0 0 0 6 3¦3¦Err(Undefined(6))
+null¦0¦Err(Undefined(6))
+5 0 0 1 1¦9¦Err(Undefined(10))
+";
+
+// Two places, whether the first is less, and whether they are equal.
+const COMPARISONS: &str = "
+0 2 0 3 1¦0 0 0 3 1¦Ok(false) Ok(false)
+0 0 0 3 1¦0 2 0 3 1¦Ok(true) Ok(false)
+0 0 0 3 1¦0 0 0 6 3¦Ok(false) Ok(true)
+0 0 0 3 1¦0 6 3 6 1¦Ok(true) Ok(false)
+0 0 0 3 1¦1 0 0 1 1¦Err(Undefined(8)) Ok(false)
+null¦null¦Err(Undefined(8)) Ok(true)
+null¦1 0 0 1 1¦Err(Undefined(8)) Ok(false)
+0 6 3 6 1¦1 0 0 1 1¦Err(Undefined(8)) Err(Left(6))
+1 0 0 1 1¦0 6 3 6 1¦Err(Undefined(8)) Err(Left(6))
+5 0 0 1 1¦5 0 0 1 1¦Err(Undefined(10)) Err(Undefined(10))
+0 6 3 6 1¦5 0 0 1 1¦Err(Undefined(10)) Err(Undefined(10))
+";
+
+// Two places, and how many elements the first is behind the second.
+const DISTANCES: &str = "
+0 2 0 3 1¦0 0 0 3 1¦Ok(2)
+0 0 0 3 1¦0 2 0 3 1¦Ok(-2)
+0 6 0 6 3¦0 0 0 6 3¦Ok(2)
+0 0 0 3 1¦0 3 3 6 1¦Err(Undefined(7))
+0 0 0 3 1¦1 0 0 1 1¦Err(Undefined(7))
+null¦null¦Err(Undefined(7))
+5 0 0 1 1¦0 0 0 3 1¦Err(Undefined(10))
+";
+
+// The next number of a place; a word that is none is in no memory.
+fn next(words: &mut SplitWhitespace<'_>) -> u32 {
+    match words.next() {
+        Some(word) => word.parse().unwrap_or(u32::MAX),
+        None => u32::MAX,
+    }
+}
+
+fn place_of(cell: &str) -> Pointer {
+    if cell == "null" {
+        return Pointer::Null;
+    }
+    let mut words = cell.split_whitespace();
+    Pointer::At {
+        object: next(&mut words),
+        cell: next(&mut words),
+        low: next(&mut words),
+        high: next(&mut words),
+        stride: next(&mut words),
+    }
+}
+
+fn kind_of(cell: &str) -> Scalar {
+    match cell {
+        "char" => CHAR,
+        "int" => INT,
+        "long" => Scalar::Int(IntKind::Long),
+        "int*" => TO_INT,
+        _ => Scalar::Pointer(1),
+    }
+}
+
+/// A place in an array of elements of `stride` cells, from `low` to below `high`.
+fn place(object: u32, cell: u32, low: u32, high: u32, stride: u32) -> Pointer
+    ensures { result ≡ Pointer.At object cell low high stride }
+{
+    Pointer::At {
+        object,
+        cell,
+        low,
+        high,
+        stride,
+    }
+}
+
+fn enter(rt: &impl Abort, store: &mut Store, shape: &[(Scalar, Guard)], zero: bool) -> u32 {
+    let entered = store.enter(shape, zero);
+    assert!(rt; entered.is_ok());
+    entered.unwrap_or(0)
+}
+
+fn leave(rt: &impl Abort, store: &mut Store, object: u32) {
+    assert!(rt; store.is_live(object));
+    store.leave(object);
+}
+
+fn begin(rt: &impl Abort, store: &mut Store, object: u32, cell: u32, value: Cell) {
+    let kind = store.kind_of(object, cell);
+    assert!(rt; kind.is_some());
+    if let Some(kind) = kind {
+        assert!(rt; store.holds(kind, value));
+        store.begin(object, cell, value);
+    }
+}
+
+fn load(rt: &impl Abort, store: &Store, at: Pointer, kind: Scalar) -> Result<Cell, Trap> {
+    assert!(rt; store.is_pointer(at));
+    store.load(at, kind)
+}
+
+fn save(
+    rt: &impl Abort,
+    store: &mut Store,
+    at: Pointer,
+    kind: Scalar,
+    value: Cell,
+) -> Result<(), Trap> {
+    assert!(rt; store.is_pointer(at));
+    assert!(rt; store.holds(kind, value));
+    store.save(at, kind, value)
+}
+
+fn has_stride(at: Pointer, count: u32) -> bool
+    ensures { IsTrue result ↔ HasStride at count }
+{
+    match at {
+        Pointer::Null => true,
+        Pointer::At { stride, .. } => stride == count,
+    }
+}
+
+fn copy(
+    rt: &impl Abort,
+    store: &mut Store,
+    from: Pointer,
+    to: Pointer,
+    count: u32,
+) -> Result<(), Trap> {
+    assert!(rt; store.is_pointer(from));
+    assert!(rt; store.is_pointer(to));
+    assert!(rt; has_stride(from, count));
+    assert!(rt; has_stride(to, count));
+    store.copy(from, to, count)
+}
+
+fn expect_load(rt: &impl Abort, store: &Store, at: Pointer, wanted: Result<Cell, Trap>) {
+    let found = load(rt, store, at, INT);
+    assert!(rt; found == wanted, "{at:?}");
+}
+
+fn expect_full(rt: &impl Abort, store: &mut Store, shape: &[(Scalar, Guard)], zero: bool) {
+    assert!(rt; store.enter(shape, zero) == Err(Trap::Left(3)));
+}
+
+#[test]
+fn six_cells_fit_and_seven_do_not(rt: HostRuntime) -> Result<(), Fail> {
+    let mut store = Store::new(rt.alloc(), 6);
+    let seven = [(INT, Guard::Free); 7];
+    let six = [(INT, Guard::Free); 6];
+    expect_full(&rt, &mut store, &seven, false);
+    let object = enter(&rt, &mut store, &six, false);
+    expect_full(&rt, &mut store, &[(INT, Guard::Free)], false);
+    let whole = place(object, 0, 0, 6, 6);
+    assert!(rt; store.is_pointer(whole));
+    let kinds = [INT; 6];
+    assert!(rt; has_stride(whole, 6));
+    let cells = store
+        .cells(rt.alloc(), whole, &kinds)
+        .ok()
+        .ok_or("no cells")?;
+    assert!(rt; cells.as_slice() == [Cell::Unset; 6].as_slice());
+    expect_load(
+        &rt,
+        &store,
+        place(object, 0, 0, 6, 1),
+        Err(Trap::Undefined(11)),
+    );
+    expect_load(
+        &rt,
+        &store,
+        place(object, 6, 0, 6, 1),
+        Err(Trap::Undefined(9)),
+    );
+    leave(&rt, &mut store, object);
+    expect_load(
+        &rt,
+        &store,
+        place(object, 0, 0, 6, 1),
+        Err(Trap::Undefined(10)),
+    );
+    Ok(())
+}
+
+/// `int a[2][3]`, `const int k`, `"x"`, `int *p`, an unset `int u`, an `int e` that has ended, and `int *q` with `&e`.
+fn several_objects(rt: &impl Abort, store: &mut Store) {
+    enter(rt, store, &[(INT, Guard::Free); 6], true);
+    enter(rt, store, &[(INT, Guard::Constant)], true);
+    enter(rt, store, &[(CHAR, Guard::Literal); 2], true);
+    enter(rt, store, &[(TO_INT, Guard::Free)], true);
+    enter(rt, store, &[(INT, Guard::Free)], false);
+    enter(rt, store, &[(INT, Guard::Free)], true);
+    enter(rt, store, &[(TO_INT, Guard::Free)], true);
+    let to_e = Cell::Pointer(place(5, 0, 0, 1, 1));
+    assert!(rt; save(rt, store, place(6, 0, 0, 1, 1), TO_INT, to_e).is_ok());
+    leave(rt, store, 5);
+}
+
+#[test]
+fn a_load_answers_the_first_case(rt: HostRuntime) -> Result<(), Fail> {
+    let mut store = Store::new(rt.alloc(), 100);
+    several_objects(&rt, &mut store);
+    for row in rows(LOADS) {
+        let (at, kind, wanted) = triple(row);
+        let found = load(&rt, &store, place_of(at), kind_of(kind));
+        let found = format!(in rt.alloc(); "{found:?}")?;
+        expect(&rt, found.as_str(), wanted, row);
+    }
+    Ok(())
+}
+
+#[test]
+fn a_write_answers_the_first_case(rt: HostRuntime) -> Result<(), Fail> {
+    let mut store = Store::new(rt.alloc(), 100);
+    several_objects(&rt, &mut store);
+    let seven = Cell::Number(7);
+    for row in rows(WRITES) {
+        let (at, kind, wanted) = triple(row);
+        let found = save(&rt, &mut store, place_of(at), kind_of(kind), seven);
+        let found = format!(in rt.alloc(); "{found:?}")?;
+        expect(&rt, found.as_str(), wanted, row);
+    }
+    expect_load(&rt, &store, place(0, 4, 0, 6, 1), Ok(seven));
+    expect_load(&rt, &store, place(0, 3, 0, 6, 1), Ok(Cell::Number(0)));
+    begin(&rt, &mut store, 1, 0, seven);
+    expect_load(&rt, &store, place(1, 0, 0, 1, 1), Ok(seven));
+    Ok(())
+}
+
+#[test]
+fn a_copy_reads_all_cells_before_it_writes_one(rt: HostRuntime) {
+    let mut store = Store::new(rt.alloc(), 100);
+    several_objects(&rt, &mut store);
+    for (cell, value) in [(0, 1), (1, 2), (2, 3)] {
+        let at = place(0, cell, 0, 6, 1);
+        assert!(rt; save(&rt, &mut store, at, INT, Cell::Number(value)) == Ok(()));
+    }
+    // The structures of two cells at 0 and at 1 overlap, in one array each.
+    let (from, to) = (place(0, 0, 0, 6, 2), place(0, 1, 1, 5, 2));
+    assert!(rt; copy(&rt, &mut store, from, to, 2) == Ok(()));
+    for (cell, value) in [(0, 1), (1, 1), (2, 2), (3, 0)] {
+        let at = place(0, cell, 0, 6, 1);
+        expect_load(&rt, &store, at, Ok(Cell::Number(value)));
+    }
+}
+
+#[test]
+fn a_copy_answers_the_first_case(rt: HostRuntime) -> Result<(), Fail> {
+    let mut store = Store::new(rt.alloc(), 100);
+    several_objects(&rt, &mut store);
+    for row in rows(COPIES) {
+        let (from, to, wanted) = triple(row);
+        let found = copy(&rt, &mut store, place_of(from), place_of(to), 1);
+        let found = format!(in rt.alloc(); "{found:?}")?;
+        expect(&rt, found.as_str(), wanted, row);
+    }
+    // The unset cell and the pointer to an ended object were copied as they are.
+    expect_load(&rt, &store, place(0, 0, 0, 6, 1), Err(Trap::Undefined(11)));
+    let ended = load(&rt, &store, place(3, 0, 0, 1, 1), TO_INT);
+    assert!(rt; ended == Err(Trap::Undefined(10)));
+    Ok(())
+}
+
+#[test]
+fn a_pointer_moves_in_its_array(rt: HostRuntime) -> Result<(), Fail> {
+    let mut store = Store::new(rt.alloc(), 100);
+    several_objects(&rt, &mut store);
+    for row in rows(MOVES) {
+        let (at, by, wanted) = triple(row);
+        let found = shift(&rt, &store, place_of(at), number(by)?);
+        let found = format!(in rt.alloc(); "{found:?}")?;
+        expect(&rt, found.as_str(), wanted, row);
+    }
+    Ok(())
+}
+
+fn shift(rt: &impl Abort, store: &Store, at: Pointer, by: i128) -> Result<Pointer, Trap> {
+    assert!(rt; store.is_pointer(at));
+    store.shift(at, by)
+}
+
+#[test]
+fn pointers_compare_in_their_object(rt: HostRuntime) -> Result<(), Fail> {
+    let mut store = Store::new(rt.alloc(), 100);
+    several_objects(&rt, &mut store);
+    for row in rows(COMPARISONS) {
+        let (left, right, wanted) = triple(row);
+        let (order, equality) = compare(&rt, &store, place_of(left), place_of(right));
+        let found = format!(in rt.alloc(); "{order:?} {equality:?}")?;
+        expect(&rt, found.as_str(), wanted, row);
+    }
+    Ok(())
+}
+
+fn compare(
+    rt: &impl Abort,
+    store: &Store,
+    left: Pointer,
+    right: Pointer,
+) -> (Result<bool, Trap>, Result<bool, Trap>) {
+    assert!(rt; store.is_pointer(left) && store.is_pointer(right));
+    (store.less(left, right), store.same(left, right))
+}
+
+#[test]
+fn pointers_have_a_distance_in_one_array(rt: HostRuntime) -> Result<(), Fail> {
+    let mut store = Store::new(rt.alloc(), 100);
+    several_objects(&rt, &mut store);
+    for row in rows(DISTANCES) {
+        let (left, right, wanted) = triple(row);
+        let found = differ(&rt, &store, place_of(left), place_of(right));
+        let found = format!(in rt.alloc(); "{found:?}")?;
+        expect(&rt, found.as_str(), wanted, row);
+    }
+    Ok(())
+}
+
+fn differ(rt: &impl Abort, store: &Store, left: Pointer, right: Pointer) -> Result<i128, Trap> {
+    assert!(rt; store.is_pointer(left) && store.is_pointer(right));
+    store.differ(left, right)
+}
+
+#[test]
+fn many_objects_come_and_go(rt: HostRuntime) {
+    let mut store = Store::new(rt.alloc(), 100);
+    several_objects(&rt, &mut store);
+    for number in 7..50_007 {
+        let object = enter(&rt, &mut store, &[(INT, Guard::Free); 3], false);
+        assert!(rt; object == number);
+        leave(&rt, &mut store, object);
+    }
+    // Objects may be left in the order in which they were entered, too.
+    let first = enter(&rt, &mut store, &[(INT, Guard::Free); 44], true);
+    let second = enter(&rt, &mut store, &[(INT, Guard::Free); 44], true);
+    expect_full(&rt, &mut store, &[(INT, Guard::Free)], true);
+    leave(&rt, &mut store, first);
+    expect_load(
+        &rt,
+        &store,
+        place(second, 43, 0, 44, 1),
+        Ok(Cell::Number(0)),
+    );
+    expect_load(
+        &rt,
+        &store,
+        place(first, 0, 0, 44, 1),
+        Err(Trap::Undefined(10)),
+    );
+    leave(&rt, &mut store, second);
+    expect_load(&rt, &store, place(0, 0, 0, 6, 1), Ok(Cell::Number(0)));
+}
+
+#[test]
+fn lifetimes_need_not_nest(rt: HostRuntime) {
+    let mut store = Store::new(rt.alloc(), 100);
+    several_objects(&rt, &mut store);
+    let mut last = enter(&rt, &mut store, &[(INT, Guard::Free); 3], true);
+    for round in 0..500u32 {
+        let value = Cell::Number(i128::from(round));
+        let next = enter(&rt, &mut store, &[(INT, Guard::Free); 3], false);
+        begin(&rt, &mut store, next, 1, value);
+        leave(&rt, &mut store, last);
+        last = next;
+        let at = place(last, 1, 0, 3, 1);
+        expect_load(&rt, &store, at, Ok(value));
+    }
+    expect_load(&rt, &store, place(0, 5, 3, 6, 1), Ok(Cell::Number(0)));
+    expect_load(&rt, &store, place(4, 0, 0, 1, 1), Err(Trap::Undefined(11)));
+}

@@ -1,0 +1,10 @@
+pub mod Forms
+pub mod Scan
+pub mod Rows
+pub mod Steps
+pub mod Walks
+pub mod App
+pub mod Results
+pub mod Uses
+pub mod NameLemmas
+pub mod Giving

@@ -1,0 +1,89 @@
+use cr_core::{Core, Entry, Event, First, HitKind, Mark, NoMemory, Settle, run};
+use std::alloc::Global;
+use std::process::Abort;
+use std::test::Fail;
+
+fn entry(position: u64, mark: Mark) -> Entry {
+    Entry { position, mark }
+}
+
+// Two workers over three positions: worker 1 hits position 1 while worker 0 is at 0, which is rejected, and leaves at 2.
+const ROW: [Event; 5] = [
+    Event::Claim(0, Settle::Nothing),
+    Event::Claim(1, Settle::Nothing),
+    Event::Hit(1, HitKind::Yes),
+    Event::Claim(0, Settle::No),
+    Event::Leave(0, Settle::Skipped),
+];
+
+fn expect_list(rt: &impl Abort, core: &Core, worker: usize, wanted: &[Entry]) {
+    assert!(rt; worker < core.lists.len());
+    assert!(rt; core.lists[worker].as_slice() == wanted, "worker {worker}");
+}
+
+fn expect_step(
+    rt: &impl Abort,
+    core: &mut Core,
+    event: Event,
+    wanted: bool,
+) -> Result<(), NoMemory> {
+    assert!(rt; core.next < 4);
+    assert!(rt; core.len == 3);
+    let found = core.step(event)?;
+    assert!(rt; found == wanted, "{event:?}");
+    Ok(())
+}
+
+fn after(alloc: Global, count: usize) -> Result<Core, NoMemory> {
+    run(alloc, 3, 2, &ROW[..count.min(5)])
+}
+
+#[test]
+fn the_row_ends_at_the_hit(rt: HostRuntime) -> Result<(), Fail> {
+    let core = run(rt.alloc(), 3, 2, &ROW)?;
+    assert!(rt; (core.next, core.least) == (3, 4));
+    assert!(rt; core.lists.len() == 2);
+    expect_list(
+        &rt,
+        &core,
+        0,
+        &[entry(0, Mark::No), entry(2, Mark::Skipped)],
+    );
+    expect_list(&rt, &core, 1, &[entry(1, Mark::Hit(HitKind::Yes))]);
+    assert!(rt; core.first() == First::At(1, HitKind::Yes));
+    Ok(())
+}
+
+#[test]
+fn each_event_of_the_row_is_allowed(rt: HostRuntime) -> Result<(), Fail> {
+    for n in 0..ROW.len() {
+        let mut core = after(rt.alloc(), n)?;
+        expect_step(&rt, &mut core, ROW[n], true)?;
+    }
+    Ok(())
+}
+
+#[test]
+fn what_is_not_allowed_changes_nothing(rt: HostRuntime) -> Result<(), Fail> {
+    for event in [
+        Event::Claim(0, Settle::Skipped),
+        Event::Leave(1, Settle::Nothing),
+        Event::Look(1),
+        Event::Look(2),
+    ] {
+        let mut core = after(rt.alloc(), 1)?;
+        expect_step(&rt, &mut core, event, false)?;
+        assert!(rt; (core.next, core.least, core.lists.len()) == (1, 15, 2));
+        expect_list(&rt, &core, 0, &[entry(0, Mark::Open)]);
+        expect_list(&rt, &core, 1, &[]);
+    }
+    Ok(())
+}
+
+#[test]
+fn a_later_hit_leaves_the_least(rt: HostRuntime) -> Result<(), Fail> {
+    let mut core = after(rt.alloc(), 4)?;
+    expect_step(&rt, &mut core, Event::Hit(0, HitKind::Failed), true)?;
+    assert!(rt; core.least == 4);
+    Ok(())
+}

@@ -1,0 +1,10 @@
+//! The tests of `cr_core` and `cr_claims`, by public names alone.
+//!
+//! They stand above these crates, so that neither proves its functions once more for its tests. It promises nothing, and
+//! stands on the crates that it tests.
+#![tactic(auto)]
+
+#[cfg(test)]
+mod claiming;
+#[cfg(test)]
+mod events;
