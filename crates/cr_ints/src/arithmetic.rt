@@ -40,7 +40,7 @@ pub fn mul(kind: IntKind, left: i128, right: i128) -> IntEnd
     } else {
         // The product of two unsigned operands can pass the greatest `i128`.
         let product = left as u128 * right as u128;
-        IntEnd::Value((product & kind.mask()) as i128)
+        IntEnd::Value((product & u128::from(kind.mask())) as i128)
     }
 }
 

@@ -11,11 +11,8 @@ pub fn convert(value: i128, to: IntKind) -> i128
     ensures value { result ≡ convert_of value to }
     ensures representable { Represents to result }
 {
-    if to.can_represent(value) {
-        return value;
-    }
     match to {
-        IntKind::Bool => 1,
+        IntKind::Bool => i128::from(value != 0),
         _ => wrap(value, to),
     }
 }
@@ -29,11 +26,11 @@ fn wrap(value: i128, to: IntKind) -> i128
     least + residue(value - least, to)
 }
 
-// What is left of an integer modulo the number of the kind's values: its low bits, without a division.
+// What is left of an integer modulo the number of the kind's values: its low bits, without a division or a branch.
 pub(crate) fn residue(value: i128, kind: IntKind) -> i128
     ensures { result ≡ modulo_of kind value }
 {
-    (value.cast_unsigned() & kind.mask()) as i128
+    (value.cast_unsigned() & u128::from(kind.mask())) as i128
 }
 
 /// The kind that the integer promotions give (6.3.1.1p2).

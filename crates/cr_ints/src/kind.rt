@@ -130,9 +130,15 @@ impl IntKind {
     }
 
     // All bits of a kind of this width, as the lowest bits of a number.
-    pub(crate) fn mask(self) -> u128
+    pub(crate) fn mask(self) -> u64
         ensures { result ≡ 2 ^ width_of self - 1 }
     {
-        (1 << self.width()) - 1
+        match self {
+            IntKind::Bool => 1,
+            IntKind::Char | IntKind::SChar | IntKind::UChar => u64::from(u8::MAX),
+            IntKind::Short | IntKind::UShort => u64::from(u16::MAX),
+            IntKind::Int | IntKind::UInt => u64::from(u32::MAX),
+            IntKind::Long | IntKind::ULong | IntKind::LLong | IntKind::ULLong => u64::MAX,
+        }
     }
 }
