@@ -14,7 +14,7 @@ use Rattle.cr_main.specs.Run.Finishes.{unstarted, uncopied, reduced}
 use Rattle.cr_main.specs.Run.Runs.{on_file, refused, unsorted}
 use Rattle.cr_main.specs.Run.RunsBytes.{interesting, ruled_out, test_failed, unanswered, uninteresting, unruled}
 use Rattle.cr_main.specs.Run.RunsFile.{absent, unread, was_read}
-use Rattle.cr_main.specs.Words.{Word}
+use Rattle.cr_words.specs.Words.{Word}
 
 -- what was asked before has no part in it
 same_candidate : (t : Task) (before : Option (List Call)) (bytes : List ℕ) (accepted : List Accepted) (file : List ℕ) → IsCandidate (search_for t before) bytes accepted file
