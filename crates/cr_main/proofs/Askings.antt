@@ -11,7 +11,7 @@ use Rattle.cr_main.specs.Run.Finishes.{unstarted, uncopied, reduced}
 use Rattle.cr_main.specs.Run.Runs.{on_file, refused, unsorted}
 use Rattle.cr_main.specs.Run.RunsBytes.{interesting, ruled_out, test_failed, unanswered, uninteresting, unruled}
 use Rattle.cr_main.specs.Run.RunsFile.{absent, unread, was_read}
-use Rattle.cr_main.specs.Words.{Word}
+use Rattle.cr_words.specs.Words.{Word}
 
 module _ (words : List Word) (says : Telling) (t : Task) (is_task : IsTask words says t) (old : Outside) where
   about_file : (files : Option Names) (before since after : Judging) (bytes : List ℕ) → files ≡ old.files → IsAsked t files before since bytes → after.calls ≡ since.calls

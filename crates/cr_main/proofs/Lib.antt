@@ -1,10 +1,7 @@
 pub mod LineLemmas
 pub mod NameLemmas
+pub mod Building
 pub mod Puts
-pub mod LimitWords
-pub mod WordLists
-pub mod Steps
-pub mod Giving
 pub mod Writes
 pub mod Conclusions
 pub mod Outcomes

@@ -13,11 +13,13 @@ use Rattle.cr_reduce.specs.Sizes.{HasSize}
 use Rattle.cr_cursor.specs.TokenLaw.{IsTokenized}
 use Rattle.cr_reduce.specs.Trials.{CallsAbout}
 use Rattle.cr_log.specs.Texts.{log_text_of, summary_text_of}
-use Rattle.cr_main.specs.declared.settings.Settings.{Settings}
+use Rattle.cr_words.specs.Names.{IsOwnName, name_of}
+use Rattle.cr_words.specs.Words.{Word}
+use Rattle.cr_words.specs.declared.settings.Settings.{Settings}
 use Rattle.cr_main.specs.Messages.{copy_name, log_name}
 use Rattle.cr_main.specs.Outside.{Judging, Outside, Puts}
 use Rattle.cr_main.specs.Run.{FileHas, IsReduction, Task, end_status, search_for, task_of, tells_for}
-use Rattle.cr_main.specs.Words.{HasSettings, IsOwnName, Word, name_of}
+use Rattle.cr_main.specs.Words.{HasSettings}
 
 -- What is asked of a run: the words give these settings, and the file has this own name.
 pub record IsTask (words : List Word) (says : Says) (t : Task) : Type 0 where

@@ -18,11 +18,13 @@ use Rattle.cr_reduce.specs.Sizes.{HasSize}
 use Rattle.cr_cursor.specs.TokenLaw.{IsTokenized, IsTokenReason}
 use Rattle.cr_reduce.specs.Trials.{AnswerInRun, CallsAbout}
 use Rattle.cr_log.specs.Texts.{log_text_of, summary_text_of}
-use Rattle.cr_main.specs.declared.settings.Settings.{Settings}
+use Rattle.cr_words.specs.Names.{IsOwnName, name_of}
+use Rattle.cr_words.specs.Words.{Word}
+use Rattle.cr_words.specs.declared.settings.Settings.{Settings}
 use Rattle.cr_main.specs.Lines.{OffersLines}
 use Rattle.cr_main.specs.Messages.{copy_name, failed_line, log_name, no_file_line, no_line, reason_line, reason_status, usage_line}
 use Rattle.cr_main.specs.Outside.{Fails, IsUnchanged, IsWritten, Judging, Outside, Puts, Refuses, WriteFails}
-use Rattle.cr_main.specs.Words.{HasNone, HasSettings, IsOwnName, Word, name_of}
+use Rattle.cr_main.specs.Words.{HasNone, HasSettings}
 
 -- What a run is asked to do: the test, the most turns, the file's name, and the name under which the test sees it; and
 -- what the first judge says at its key.

@@ -9,15 +9,17 @@ ghost use Rattle.cr_main.specs.Headline.{AsksOnly, Completes, HasEnded, IsHeadli
 ghost use Rattle.cr_main.specs.Outside.{judging_of, outside_of};
 ghost use Rattle.cr_main.specs.Requests.{task_for};
 ghost use Rattle.cr_main.specs.Run.{FileHas, Runs, RunsBytes, RunsFile, Task, task_of};
-ghost use Rattle.cr_main.specs.Words.{IsOwnName, name_of, texts_of};
+ghost use Rattle.cr_words.specs.Names.{IsOwnName, name_of};
+ghost use Rattle.cr_words.specs.Words.{texts_of};
 
+use crate::built::built_words;
 use crate::finish::copy_and_reduce;
 use crate::messages::{USAGE, put, refusal_status, refuse, refuse_file};
 use crate::names::own_name;
-use crate::settings::{Settings, Source, WordFault, words};
 use cr_cursor::{Law, Never, Ruling, TokenLaw};
 use cr_outside::{Answer, Files, Judge, ReadAnswer, Sink, Test};
 use cr_reduce::Bench;
+use cr_words::{Settings, Source, WordFault};
 use std::alloc::Global;
 
 /// What is read of a file at most: one byte more than a file may have, so that a longer one is refused.
@@ -87,7 +89,7 @@ pub fn run<F: Files, J: Judge, O: Sink>(
     ensures others { others bench.new ≡ others bench.old }
     ensures count { length bench.new ≡ length bench.old }
 {
-    match words(alloc, list, bench.workers()) {
+    match built_words(alloc, list) {
         Ok(settings) => run_settings(alloc, &settings, files, bench, out),
         Err(WordFault::Usage) => put(out, USAGE.as_bytes(), 2, 2),
         Err(WordFault::NoMemory) => 11,
@@ -127,6 +129,7 @@ fn source_name(source: &Source) -> &str
 {
     match source {
         Source::Named(name) => name.as_str(),
+        Source::Made(_, _) => "gen.c",
     }
 }
 

@@ -3,7 +3,7 @@ use Rattle.cr_reduce.specs.Bench.{first_calls, first_count, first_says}
 use Rattle.cr_main.specs.Outside.{Says, judging_of, outside_of}
 use Rattle.cr_main.specs.Run.{task_of}
 use Rattle.cr_main.specs.Run.Runs.{on_file, refused}
-use Rattle.cr_main.specs.Words.{texts_of}
+use Rattle.cr_words.specs.Words.{texts_of}
 use Rattle.cr_main.proofs.Headlines.{headline_of}
 use Rattle.cr_main.proofs.Endings.{has_ended}
 use Rattle.cr_main.proofs.Keeping.{keeps_files}

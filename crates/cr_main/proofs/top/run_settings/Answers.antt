@@ -2,7 +2,7 @@ use Rattle.std.proofs.Common.{subst}
 use Rattle.cr_reduce.specs.Bench.{first_calls, first_count, first_says}
 use Rattle.cr_main.specs.Outside.{judging_of, outside_of}
 use Rattle.cr_main.specs.Run.{RunsFile}
-use Rattle.cr_main.specs.Words.{IsOwnName}
+use Rattle.cr_words.specs.Names.{IsOwnName}
 use Rattle.cr_main.proofs.top.run_settings.Goals as goal
 
 pub returns-clause-runs : goal.returns-clause-runs
