@@ -19,7 +19,7 @@ use Rattle.cr_main.specs.Run.Finishes.{unstarted, uncopied, reduced}
 use Rattle.cr_main.specs.Run.Runs.{on_file, refused, unsorted}
 use Rattle.cr_main.specs.Run.RunsBytes.{interesting, ruled_out, test_failed, unanswered, uninteresting, unruled}
 use Rattle.cr_main.specs.Run.RunsFile.{absent, unread, was_read}
-use Rattle.cr_main.specs.Words.{Word}
+use Rattle.cr_words.specs.Words.{Word}
 
 -- 8 and 10
 abbrev pub IsLate : ℕ → Type 0
