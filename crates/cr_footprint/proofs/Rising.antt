@@ -1,6 +1,7 @@
 -- Lemmas on cells in order, and on lists of them that rise.
 use Rattle.std.proofs.Common.{◌≡◌, ℕ, zero, suc, ◌+◌, ◌<◌, ◌≤◌, Bool, true, false, ◌&&◌, ◌||◌, cond, List, [], ◌∷◌, length, get_or, take, drop, refl, sym, ◌∙◌, ap, subst, arith, nat_eq, ◌⊎◌, inl, inr}
-use Rattle.std.specs.Prelude.{Option, Some, None, find, Result, Ok, Err, is_ok}
+use Rattle.std.specs.Prelude.{Option, Some, None, find, Result, Ok, Err, is_ok, OnOk, OnErr}
+use Rattle.smallvec.specs.SmallVec.{SmallVec}
 use Rattle.std.specs.declared.cmp.Ordering.{Ordering}
 use Rattle.std.specs.declared.cmp.Ordering.TheVariants.{Less, Equal, Greater}
 use Rattle.std.specs.Ordering.{ordering_index, ordering_reverse, is_gt, is_lt, is_eq, ord_min}
@@ -30,7 +31,7 @@ same_cell-equal c d same =
     λ i. (object i, cell i)
 
 -- what is above stands no lower against any cell
-above_below : (a b c : Cell) → cell_cmp a b ≡ Less → cell_cmp b c ≡ Less → cell_cmp a c ≡ Less
+pub above_below : (a b c : Cell) → cell_cmp a b ≡ Less → cell_cmp b c ≡ Less → cell_cmp a c ≡ Less
 above_below a b c = cell_total.trans a b c
 
 above_same : (a b c : Cell) → cell_cmp a b ≡ Less → cell_cmp b c ≡ Equal → cell_cmp a c ≡ Less
@@ -48,7 +49,7 @@ pub index_rises : (a b c : Cell) → cell_cmp a b ≡ Less → ordering_index (c
 index_rises a b c low =
     index_within (cell_cmp a c) (cell_cmp b c) (above_below a b c low) (above_same a b c low)
 
-flipped : (a b : Cell) → cell_cmp a b ≡ Greater → cell_cmp b a ≡ Less
+pub flipped : (a b : Cell) → cell_cmp a b ≡ Greater → cell_cmp b a ≡ Less
 flipped a b high = cell_total.antisymm b a ∙ ap ordering_reverse high
 
 -- what a search finds, or doesn't find, is in the list, or not
@@ -207,9 +208,10 @@ and-swap false true = refl
 and-swap false false = refl
 
 -- an insert that may have failed
-pub IsRising-kept : (done : Bool) (now before : List Cell) → IsRising now → IsRising before → IsRising (cond done now before)
-IsRising-kept true now before first second = first
-IsRising-kept false now before first second = second
+pub IsRising-kept : {A E : Type 0} (before now : SmallVec Cell) (i : ℕ) (cell : Cell) (r : Result A E) → OnOk r (now.items ≡ insert before.items i cell) → OnErr r (now ≡ before)
+    → IsRising (insert before.items i cell) → IsRising before.items → IsRising now.items
+IsRising-kept before now i cell (Ok _) ok err first second = (let P : List Cell → Type 0 = IsRising in subst P (sym ok) first)
+IsRising-kept before now i cell (Err _) ok err first second = (let P : SmallVec Cell → Type 0 = λ v. IsRising v.items in subst P (sym err) second)
 
 -- what a search of a rising list says of the place where it found nothing
 pub IsRising-searched : (cells given : List Cell) (cell : Cell) (i : ℕ) → given ≡ cells → IsRising cells → i ≤ length given → IsBinarySearchResult {X = Cell} (λ d. cell_cmp d cell) given (Err i) → IsRising (insert cells i cell)

@@ -1,3 +1,4 @@
 pub mod Cell
+pub mod Merge
 pub mod Cells
 pub mod Foot

@@ -1,14 +1,55 @@
 ghost use Rattle.std.specs.Prelude.{◌≡◌, ◌&&◌, ◌||◌, false, find, IfOk, OnOk};
 ghost use Rattle.std.proofs.Props.{props};
+ghost use Rattle.cr_footprint.specs.Merge.{merged};
 ghost use Rattle.cr_footprint.specs.Cell.{Cell, holds, same_cell, span, IsRising, IsLeastOf};
 
+use smallvec::SmallVec;
 use std::alloc::{AllocError, Global};
+use std::cmp::Ordering;
 use std::ops::Range;
 
-/// A set of cells, as a list in rising order.
+// Up to so many cells are put to a set one by one.
+const FEW: usize = 8;
+
+type List = SmallVec<(u32, u32), 4>;
+
+/// The cells of two lists.
+fn merge(alloc: Global, first: &[(u32, u32)], second: &[(u32, u32)]) -> Result<List, AllocError>
+    ensures { IfOk result (λ all. all.items ≡ merged first.now second.now) }
+{
+    let mut all = SmallVec::with_capacity(alloc, first.len().saturating_add(second.len()))?;
+    let (mut left, mut right) = (first, second);
+    loop {
+        let [x, xs @ ..] = left else {
+            all.extend_from_slice(right)?;
+            return Ok(all);
+        };
+        let [y, ys @ ..] = right else {
+            all.extend_from_slice(left)?;
+            return Ok(all);
+        };
+        match x.cmp(y) {
+            Ordering::Less => {
+                all.push(*x)?;
+                left = xs;
+            }
+            Ordering::Equal => {
+                all.push(*x)?;
+                left = xs;
+                right = ys;
+            }
+            Ordering::Greater => {
+                all.push(*y)?;
+                right = ys;
+            }
+        }
+    }
+}
+
+/// A set of cells, as a list in rising order. Up to four take no memory.
 #[derive(Drop)]
 pub struct Cells {
-    list: Vec<(u32, u32)>,
+    list: List,
     ghost rising: { IsRising list.items } by { Prim.hlevel props },
 }
 
@@ -20,7 +61,7 @@ impl Cells {
         ensures { (c : Cell) → has result c ≡ false }
     {
         Cells {
-            list: Vec::new(alloc),
+            list: SmallVec::new(alloc),
         }
     }
 
@@ -68,13 +109,21 @@ impl Cells {
     fn insert_all(&mut self, more: &Cells) -> Result<(), AllocError>
         ensures { OnOk result ((c : Cell) → has self.new c ≡ (has self.old c || has more.now c)) }
     {
-        for &cell in &more.list {
+        for &cell in more.list.as_slice() {
             self.insert(cell)?;
         }
         Ok(())
     }
 
-    /// The cells of both: the fewer ones are put to the others.
+    fn merged_with(self, other: Cells) -> Result<Cells, AllocError>
+        ensures { IfOk result (λ cells. (c : Cell) → has cells c ≡ (has self c || has other c)) }
+    {
+        let alloc = *self.list.allocator();
+        let list = merge(alloc, self.list.as_slice(), other.list.as_slice())?;
+        Ok(Cells { list })
+    }
+
+    /// The cells of both. A few are put to the others one by one; more are merged with them in one walk.
     pub fn union(self, other: Cells) -> Result<Cells, AllocError>
         ensures { IfOk result (λ cells. (c : Cell) → has cells c ≡ (has self c || has other c)) }
     {
@@ -83,6 +132,9 @@ impl Cells {
         } else {
             (self, other)
         };
+        if more.list.len() > FEW {
+            return all.merged_with(more);
+        }
         all.insert_all(&more)?;
         Ok(all)
     }

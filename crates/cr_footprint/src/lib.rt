@@ -1,7 +1,8 @@
 //! Footprints: which cells of memory the evaluation of an expression reads and writes, and whether
-//! two unsequenced evaluations conflict (C11 6.5p2). A `Foot` holds the read cells, the writes that a
-//! sequence point has settled and the open ones, and nothing else; joining two operands answers the
-//! least cell on which they conflict exactly where there is one. Stands on `std` alone.
+//! two unsequenced evaluations conflict (C11 6.5p2). A `Foot` holds the read cells, the written or
+//! touched ones, and of these the ones whose write no sequence point has settled yet, and nothing else;
+//! joining two operands answers the least cell on which they conflict exactly where there is one. Up to
+//! four cells of a kind take no memory. Stands on `smallvec`.
 #![tactic(auto)]
 
 mod cells;

@@ -5,4 +5,4 @@ use Rattle.cr_footprint.proofs.cells.Cells.as_slice.Goals as goal
 pub returns-clause-rising : goal.returns-clause-rising
 returns-clause-rising c =
     let P : List Cell → Type 0 = IsRising in
-    subst P (sym c.as_slice.ensures.value) c.args.self.now.rising
+    subst P (sym c.as_slice.ensures) c.args.self.now.rising

@@ -1,0 +1,17 @@
+use Rattle.std.proofs.Common.{List, subst, sym, ap, ◌∙◌}
+use Rattle.cr_footprint.specs.Cell.{Cell, holds, IsRising}
+use Rattle.cr_footprint.proofs.Merging.{merged-holds, merged-rising, merged_as}
+use Rattle.cr_footprint.proofs.cells.Cells.merged_with.Goals as goal
+
+pub invariant_of-result : goal.invariant_of-result
+invariant_of-result c = record {
+  rising =
+      (let P : List Cell → Type 0 = IsRising in
+      subst P (sym (merged_as _ _ _ _ _ c.in_ok-list.ensures c.as_slice.ensures c.as_slice-2.ensures))
+      (merged-rising c.args.self.list.items c.args.other.list.items c.args.self.rising c.args.other.rising));
+}
+
+pub returns : goal.returns
+returns c d =
+    ap (λ l. holds l d) (merged_as _ _ _ _ _ c.in_ok-list.ensures c.as_slice.ensures c.as_slice-2.ensures)
+    ∙ merged-holds c.args.self.list.items c.args.other.list.items d
