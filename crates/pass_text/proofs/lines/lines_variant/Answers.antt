@@ -4,7 +4,7 @@ use Rattle.std.proofs.lemmas.List.{length-append}
 use Rattle.std.proofs.lemmas.Grind.{common_steps}
 use Rattle.pass_text.specs.Lines.{joined, lines_bytes, lines_of}
 use Rattle.pass_text.proofs.LineLemmas.{take_lines, drop_lines}
-use Rattle.pass_text.proofs.lines.LinesPassPasses.variant.Goals as goal
+use Rattle.pass_text.proofs.lines.lines_variant.Goals as goal
 
 -- the parts that are set are those of the definition
 parts : (c : goal.After-set) → take c.skip_lines-start.result c.args.file.now ++ take (length c.args.file.now - c.skip_lines-end.result) (drop c.skip_lines-end.result c.args.file.now) ≡ lines_bytes c.args.file.now c.args.at
