@@ -1,4 +1,4 @@
-//! The tests of what is said of types, constants and places, as texts of C with the answers worked out by hand.
+//! The tests of what is said of constants and places, as texts of C with the answers worked out by hand.
 //!
 //! They stand above those crates, so that none of these proves its functions once more for its tests. It promises that
 //! `unit_of` gives the unit of a text, if it is one, and stands on the parser of units and what is tested.
@@ -6,6 +6,8 @@
 
 #[cfg(test)]
 mod constants;
+#[cfg(test)]
+mod places;
 mod texts;
 
 pub use texts::unit_of;
