@@ -1,5 +1,5 @@
 -- What holds of types: which are compatible (C11 6.2.7), their composite, and whether one is complete (6.2.5p1) at a node.
-use Rattle.std.specs.Prelude.{◌≡◌, ℕ, ◌<◌, ◌≤◌, ◌==◌, ◌&&◌, ◌||◌, List, Bool, true, false, not, Option, Some, None, nat_lt, slice_get, if◌then◌else◌}
+use Rattle.std.specs.Prelude.{◌≡◌, ℕ, ◌<◌, ◌≤◌, ◌==◌, ◌&&◌, ◌||◌, List, Bool, true, false, not, Option, Some, None, nat_lt, slice_get, slice_index, length, if◌then◌else◌}
 use Rattle.cr_ints.specs.declared.kind.IntKind.{IntKind}
 use Rattle.cr_ints.specs.declared.kind.IntKind.TheVariants.{Bool as BoolKind, Char, SChar, UChar, Short, UShort, Int as IntKind_Int, UInt, Long, ULong, LLong, ULLong}
 use Rattle.cr_syntax.specs.declared.typed.CType.{CType}
@@ -9,7 +9,8 @@ use Rattle.cr_syntax.specs.declared.node.Kind.TheVariants.{StructContent}
 use Rattle.cr_syntax.specs.declared.node.Node.{Node}
 use Rattle.cr_types.specs.declared.compatible.Step.{Step}
 use Rattle.cr_types.specs.declared.compatible.Step.TheVariants.{Answer, Below}
-use Rattle.cr_types.specs.Types.{Qualified, plain, pointer, array}
+use Rattle.cr_types.specs.declared.shape.Shape.{Shape}
+use Rattle.cr_types.specs.Types.{Qualified, plain, pointer, array, type_at}
 
 -- ---- compatible types
 
@@ -129,3 +130,19 @@ abbrev pub bare : Qualified → Qualified
 bare (plain of c v) = plain of false false
 bare (pointer c v t) = pointer false false t
 bare (array n t) = array n t
+
+-- a type with more qualifiers: those of an array go to its elements (6.7.3p9)
+abbrev pub qualified : Bool → Bool → Qualified → Qualified
+qualified constant volatile (plain of c v) = plain of (c || constant) (v || volatile)
+qualified constant volatile (pointer c v t) = pointer (c || constant) (v || volatile) t
+qualified constant volatile (array n t) = array n (qualified constant volatile t)
+
+-- the parameters of two functions agree: as many, and compatible without their own qualifiers (6.7.6.3p15)
+pub record AgreeInParameters (shapes : List Shape) (left right : List ℕ) : Type 0 where
+  pub count : length left ≡ length right
+  pub each : (k : ℕ) → k < length left
+      → are_compatible (bare (type_at shapes (slice_index left k))) (bare (type_at shapes (slice_index right k))) ≡ true
+
+-- each number is a row of the table
+abbrev pub AreRows : List Shape → List ℕ → Type 0
+AreRows shapes rows = (k : ℕ) → k < length rows → slice_index rows k < length shapes

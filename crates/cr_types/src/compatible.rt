@@ -1,6 +1,6 @@
-ghost use Rattle.std.specs.Prelude.{◌≡◌, ◌<◌, ◌&&◌, ℕ, length};
+ghost use Rattle.std.specs.Prelude.{◌≡◌, ◌<◌, ◌&&◌, ◌↔◌, IsTrue, ℕ, length};
 ghost use Rattle.cr_types.specs.Types.{type_at, type_of, room_of, Qualified, unknown};
-ghost use Rattle.cr_types.specs.Relations.{number_of, same, are_same, sizes_agree, are_compatible, IsLeastRow, stepped, StaysBelow};
+ghost use Rattle.cr_types.specs.Relations.{number_of, same, are_same, sizes_agree, are_compatible, IsLeastRow, bare, AreRows, AgreeInParameters, stepped, StaysBelow};
 
 use crate::shape::Shape;
 use crate::table::Table;
@@ -33,6 +33,37 @@ impl Table {
                 }
             }
         }
+    }
+
+    /// Whether the types of two rows are compatible without their own qualifiers (6.7.6.3p15, 6.5.16.1p1).
+    pub fn are_compatible_bare(&self, left: u32, right: u32) -> bool
+        requires left { left < length self.now }
+        requires right { right < length self.now }
+        ensures { result ≡ are_compatible (bare (type_at self.now left)) (bare (type_at self.now right)) }
+    {
+        let left = Shape::plain(self.shape(left).of);
+        let right = Shape::plain(self.shape(right).of);
+        match compared(left, right) {
+            Step::Answer(answer) => answer,
+            Step::Below(x, y) => self.are_compatible(x, y),
+        }
+    }
+
+    /// Whether the parameters of two functions agree (6.7.6.3p15); their results and ellipses are the caller's to compare.
+    pub fn agree_in_parameters(&self, left: &[u32], right: &[u32]) -> bool
+        requires left { AreRows self.now left.now }
+        requires right { AreRows self.now right.now }
+        ensures { IsTrue result ↔ AgreeInParameters self.now left.now right.now }
+    {
+        if left.len() != right.len() {
+            return false;
+        }
+        for at in 0..left.len() {
+            if !self.are_compatible_bare(left[at], right[at]) {
+                return false;
+            }
+        }
+        true
     }
 
     /// The first row whose type is compatible with that of the row. Its time is the number of rows.

@@ -1,6 +1,6 @@
-ghost use Rattle.std.specs.Prelude.{◌≡◌, ◌<◌, IfOk, OnOk, length};
+ghost use Rattle.std.specs.Prelude.{◌≡◌, ◌<◌, ◌||◌, IfOk, OnOk, length};
 ghost use Rattle.cr_types.specs.Types.{type_at, IsRow, Grows};
-ghost use Rattle.cr_types.specs.Relations.{turned, bare};
+ghost use Rattle.cr_types.specs.Relations.{turned, bare, qualified};
 
 use crate::shape::Shape;
 use crate::table::Table;
@@ -43,5 +43,39 @@ impl Table {
     {
         let of = self.shape(row).of;
         self.add(Shape::plain(of))
+    }
+
+    /// A row of a type with these qualifiers added (6.7.3); those of an array go to its elements.
+    pub fn qualified(&mut self, row: u32, constant: bool, volatile: bool) -> Result<u32, AllocError>
+        requires { row < length self.old }
+        ensures made { IfOk result (λ r. IsRow self.new r (qualified constant volatile (type_at self.old row))) }
+        ensures grows { OnOk result (Grows self.old self.new) }
+    {
+        let mut inner = row;
+        // The arrays so far, from the innermost outwards.
+        let mut levels = self.add(Shape::plain(CType::Void))?;
+        loop {
+            let shape = self.shape(inner);
+            match shape.of {
+                CType::Array(below, count) => {
+                    levels = self.add(Shape::plain(CType::Array(levels, count)))?;
+                    inner = below;
+                }
+                _ => {
+                    let element = self.add(with_qualifiers(shape, constant, volatile))?;
+                    return self.turned(levels, element);
+                }
+            }
+        }
+    }
+}
+
+fn with_qualifiers(shape: Shape, constant: bool, volatile: bool) -> Shape
+    ensures { result ≡ record shape { constant = shape.constant || constant; volatile = shape.volatile || volatile } }
+{
+    Shape {
+        constant: shape.constant || constant,
+        volatile: shape.volatile || volatile,
+        ..shape
     }
 }
