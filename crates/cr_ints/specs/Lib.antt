@@ -1,4 +1,5 @@
 pub mod IntKind
 pub mod Conversions
 pub mod Operations
+pub mod Bits
 pub mod Laws

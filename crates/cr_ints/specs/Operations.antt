@@ -1,6 +1,6 @@
--- The operations on integers (C11 6.5.5 to 6.5.7): the operation on integers without bounds, and then what the kind
+-- The operations on integers (C11 6.5.3.3p3, 6.5.5 to 6.5.7): the operation on integers without bounds, and then what the kind
 -- makes of its result. Both operands of all but the shifts have the kind.
-use Rattle.std.specs.Prelude.{ℤ, pos, ◌+ℤ◌, ◌-ℤ◌, ◌*ℤ◌, ◌^◌, ◌==◌, Bool, ◌&&◌, int_le, int_lt, int_div, int_rem, unsigned_abs, if◌then◌else◌}
+use Rattle.std.specs.Prelude.{ℤ, pos, neg_ℤ, ◌+ℤ◌, ◌-ℤ◌, ◌*ℤ◌, ◌^◌, ◌==◌, Bool, ◌&&◌, int_le, int_lt, int_div, int_rem, unsigned_abs, if◌then◌else◌}
 use Rattle.std.specs.Int.{int_rem_euclid, int_div_euclid}
 use Rattle.cr_ints.specs.declared.kind.IntKind.{IntKind}
 use Rattle.cr_ints.specs.declared.end.IntEnd.{IntEnd}
@@ -37,6 +37,10 @@ sub_of kind left right = end_of kind (left -ℤ right)
 -- 6.5.5p4
 abbrev pub mul_of : IntKind → ℤ → ℤ → IntEnd
 mul_of kind left right = end_of kind (left *ℤ right)
+
+-- 6.5.3.3p3
+abbrev pub neg_of : IntKind → ℤ → IntEnd
+neg_of kind value = end_of kind (neg_ℤ value)
 
 -- ---- quotients
 

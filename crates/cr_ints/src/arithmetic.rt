@@ -1,7 +1,8 @@
 ghost use Rattle.std.specs.Prelude.{◌≡◌, ◌^◌, pos, ◌*ℤ◌, ◌≤ℤ◌, ◌<ℤ◌, unsigned_abs, ◌≢◌, int_div, int_rem};
 ghost use Rattle.cr_ints.specs.IntKind.{Represents, IsInteger};
-ghost use Rattle.cr_ints.specs.Operations.{IfValue, end_of, add_of, sub_of, mul_of, div_of, rem_of, is_shift_count, shl_of, shr_of};
+ghost use Rattle.cr_ints.specs.Operations.{IfValue, end_of, add_of, sub_of, mul_of, neg_of, div_of, rem_of, is_shift_count, shl_of, shr_of};
 
+use crate::conversion::residue;
 use crate::end::{
     IntEnd, LEFT_SHIFT, NOT_REPRESENTABLE, QUOTIENT_NOT_REPRESENTABLE, SHIFT_COUNT, ZERO_DIVISOR,
 };
@@ -39,7 +40,7 @@ pub fn mul(kind: IntKind, left: i128, right: i128) -> IntEnd
     } else {
         // The product of two unsigned operands can pass the greatest `i128`.
         let product = left as u128 * right as u128;
-        IntEnd::Value((product % kind.modulus() as u128) as i128)
+        IntEnd::Value((product & u128::from(kind.mask())) as i128)
     }
 }
 
@@ -49,12 +50,21 @@ fn end_of(kind: IntKind, exact: i128) -> IntEnd
     ensures representable { IfValue result (Represents kind) }
 {
     if !kind.is_signed() {
-        IntEnd::Value(exact.rem_euclid(kind.modulus()))
+        IntEnd::Value(residue(exact, kind))
     } else if kind.can_represent(exact) {
         IntEnd::Value(exact)
     } else {
         IntEnd::Undefined(NOT_REPRESENTABLE)
     }
+}
+
+/// `-value`, where `kind` is that of the promoted operand (C11 6.5.3.3p3).
+pub fn neg(kind: IntKind, value: i128) -> IntEnd
+    requires { Represents kind value }
+    ensures value { result ≡ neg_of kind value }
+    ensures representable { IfValue result (Represents kind) }
+{
+    end_of(kind, -value)
 }
 
 /// `left / right` (C11 6.5.5p5 and p6).
@@ -93,18 +103,29 @@ pub fn rem(kind: IntKind, left: i128, right: i128) -> IntEnd
 
 fn quotient(left: i128, right: i128) -> i128
     requires left { IsInteger left }
-    requires right { unsigned_abs right ≢ 0 }
+    requires right { IsInteger right }
+    requires not_zero { unsigned_abs right ≢ 0 }
     ensures { result ≡ int_div left right }
 {
-    left / right
+    if left >= 0 && right > 0 {
+        // Both fit in 64 bits, and a division of these costs a fraction of one of 128.
+        i128::from(left as u64 / right as u64)
+    } else {
+        left / right
+    }
 }
 
 fn remainder(left: i128, right: i128) -> i128
     requires left { IsInteger left }
-    requires right { unsigned_abs right ≢ 0 }
+    requires right { IsInteger right }
+    requires not_zero { unsigned_abs right ≢ 0 }
     ensures { result ≡ int_rem left right }
 {
-    left % right
+    if left >= 0 && right > 0 {
+        i128::from(left as u64 % right as u64)
+    } else {
+        left % right
+    }
 }
 
 /// `left << count` (C11 6.5.7p3 and p4), where `kind` is that of the promoted left operand.
@@ -118,7 +139,7 @@ pub fn shl(kind: IntKind, left: i128, count: i128) -> IntEnd
     }
     let exact = times_power_of_two(left, count);
     if !kind.is_signed() {
-        IntEnd::Value(exact.rem_euclid(kind.modulus()))
+        IntEnd::Value(residue(exact, kind))
     } else if left >= 0 && kind.can_represent(exact) {
         IntEnd::Value(exact)
     } else {

@@ -1,6 +1,7 @@
 ghost use Rattle.std.specs.Prelude.{◌≡◌};
 ghost use Rattle.cr_ints.specs.IntKind.{Represents, IsInteger};
 ghost use Rattle.cr_ints.specs.Conversions.{wrapped, convert_of, promote_of, IsPromoted, higher_of, mixed_of, balanced_of, common_of};
+ghost use Rattle.cr_ints.specs.Operations.{modulo_of};
 
 use crate::kind::IntKind;
 
@@ -22,7 +23,14 @@ fn wrap(value: i128, to: IntKind) -> i128
     ensures representable { Represents to result }
 {
     let least = to.least();
-    least + (value - least).rem_euclid(to.modulus())
+    least + residue(value - least, to)
+}
+
+// What is left of an integer modulo the number of the kind's values: its low bits, without a division or a branch.
+pub(crate) fn residue(value: i128, kind: IntKind) -> i128
+    ensures { result ≡ modulo_of kind value }
+{
+    (value.cast_unsigned() & u128::from(kind.mask())) as i128
 }
 
 /// The kind that the integer promotions give (6.3.1.1p2).

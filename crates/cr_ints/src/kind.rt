@@ -1,5 +1,5 @@
-ghost use Rattle.std.specs.Prelude.{◌≡◌, ◌↔◌, IsTrue};
-ghost use Rattle.cr_ints.specs.IntKind.{width_of, is_signed, least_of, greatest_of, Represents, can_represent, can_represent_all, rank_of, unsigned_of, modulus_of};
+ghost use Rattle.std.specs.Prelude.{◌≡◌, ◌↔◌, ◌-◌, ◌^◌, IsTrue};
+ghost use Rattle.cr_ints.specs.IntKind.{width_of, is_signed, least_of, greatest_of, Represents, can_represent, can_represent_all, rank_of, unsigned_of};
 
 /// An integer type of the subset (C11 6.2.5). An enumerated type is `Int` or `UInt` itself.
 #[derive(Clone, Copy, PartialEq, Eq, Debug)]
@@ -129,10 +129,16 @@ impl IntKind {
         }
     }
 
-    // How many values a kind of this width has.
-    pub(crate) fn modulus(self) -> i128
-        ensures { result ≡ modulus_of self }
+    // All bits of a kind of this width, as the lowest bits of a number.
+    pub(crate) fn mask(self) -> u64
+        ensures { result ≡ 2 ^ width_of self - 1 }
     {
-        1 << self.width()
+        match self {
+            IntKind::Bool => 1,
+            IntKind::Char | IntKind::SChar | IntKind::UChar => u64::from(u8::MAX),
+            IntKind::Short | IntKind::UShort => u64::from(u16::MAX),
+            IntKind::Int | IntKind::UInt => u64::from(u32::MAX),
+            IntKind::Long | IntKind::ULong | IntKind::LLong | IntKind::ULLong => u64::MAX,
+        }
     }
 }

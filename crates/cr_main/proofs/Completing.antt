@@ -32,7 +32,7 @@ use Rattle.cr_main.specs.Run.Finishes.{unstarted, uncopied, reduced}
 use Rattle.cr_main.specs.Run.Runs.{on_file, refused, unsorted}
 use Rattle.cr_main.specs.Run.RunsBytes.{interesting, ruled_out, test_failed, unanswered, uninteresting, unruled}
 use Rattle.cr_main.specs.Run.RunsFile.{absent, unread, was_read}
-use Rattle.cr_main.specs.Words.{Word}
+use Rattle.cr_words.specs.Words.{Word}
 use Rattle.cr_main.proofs.OneTask.{SameTask, one_task}
 
 -- 0, or want of memory
@@ -108,10 +108,10 @@ module _ (t u : Task) (same : SameTask t u) (old new : Outside) (before after : 
   conclude_free : (copied : Outside) (end : End) (old_size size status : ℕ) → old.file_faults ≤ copied.file_faults → old.output_faults ≤ copied.output_faults → IsFree (end_status end.why)
       → Concludes u.name copied new end old_size size status → IsFree status
   conclude_free copied end old_size size status files outputs free (unfinished unmoved is) = inr is
-  conclude_free copied end old_size size status files outputs free (unwritten fails) = file_never_fails copied u.name status files fails.fails
-  conclude_free copied end old_size size status files outputs free (unlogged written first fails) =
+  conclude_free copied end old_size size status files outputs free (unwritten ended fails) = file_never_fails copied u.name status files fails.fails
+  conclude_free copied end old_size size status files outputs free (unlogged written ended first fails) =
       file_never_fails written (log_name u.name) status (omega (arith, files, first.file_faults)) fails.fails
-  conclude_free copied end old_size size status files outputs free (summed_up put said) = said_free copied.output_faults copied.output _ (end_status end.why) status outputs free said
+  conclude_free copied end old_size size status files outputs free (summed_up ended put said) = said_free copied.output_faults copied.output _ (end_status end.why) status outputs free said
 
   finish_free : (read : Outside) (since : Judging) (bytes : List ℕ) (status : ℕ) → IsUnchanged old read → before.faults ≤ since.faults → bytes ≡ all.bytes
       → Finishes u read new since after bytes status → IsFree status

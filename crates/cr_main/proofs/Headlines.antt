@@ -8,7 +8,7 @@ use Rattle.cr_reduce.specs.declared.end.Why.{Why}
 use Rattle.cr_reduce.specs.declared.end.Why.TheVariants.{Fixed, Limit, Fault, NoMemory}
 use Rattle.cr_cursor.specs.declared.law.Reason.{Reason}
 use Rattle.cr_cursor.specs.declared.law.Reason.TheVariants as reason
-use Rattle.cr_reduce.specs.Ends.{EndsBy, outcome_of}
+use Rattle.cr_reduce.specs.Ends.{EndsToldBy, outcome_of}
 use Rattle.cr_reduce.specs.Reduction.{Outcome}
 use Rattle.cr_reduce.specs.Search.{ReducesFileAsTold}
 use Rattle.cr_cursor.specs.TokenLaw.{IsTokenized}
@@ -24,7 +24,7 @@ use Rattle.cr_main.specs.Run.Finishes.{unstarted, uncopied, reduced}
 use Rattle.cr_main.specs.Run.Runs.{on_file, refused, unsorted}
 use Rattle.cr_main.specs.Run.RunsBytes.{interesting, ruled_out, test_failed, unanswered, uninteresting, unruled}
 use Rattle.cr_main.specs.Run.RunsFile.{absent, unread, was_read}
-use Rattle.cr_main.specs.Words.{Word}
+use Rattle.cr_words.specs.Words.{Word}
 
 -- 0 and 7
 abbrev pub IsDone : ℕ → Type 0
@@ -64,7 +64,7 @@ reason_not_7 (reason.Undefined n l) e = omega (arith, e)
 reason_not_7 (reason.Left n l) e = omega (arith, e)
 
 -- how the reduction ended, by the status
-told_whole : (reduction : Option ℕ → Outcome → Type 0) (file : List ℕ) (limit : Option ℕ) (end : End) (why : Why) → IsDone (end_status why) → EndsBy reduction file limit end why → reduction limit (outcome_of end why)
+told_whole : (reduction : Option ℕ → Outcome → Type 0) (file : List ℕ) (limit : Option ℕ) (end : End) (why : Why) → IsDone (end_status why) → EndsToldBy reduction file limit end why → reduction limit (outcome_of end why)
 told_whole reduction file limit end Fixed done it = it
 told_whole reduction file limit end Limit done it = it
 told_whole reduction file limit end (Fault turn worker) done it = absurd (not_done 8 8 refl (λ e. omega (arith, e)) (λ e. omega (arith, e)) done)
@@ -89,9 +89,9 @@ said_done old new line n status (said_starved m put is) done = absurd (starved_n
 
 concluded : (name : List ℕ) (old new : Outside) (end : End) (old_size size status : ℕ) → Concludes name old new end old_size size status → IsDone status → IsDoneBy name old new end old_size size status
 concluded name old new end old_size size status (unfinished same is) done = absurd (starved_not_done status is done)
-concluded name old new end old_size size status (unwritten fails) done = absurd (fails_not_done old new name status fails.fails done)
-concluded name old new end old_size size status (unlogged written first fails) done = absurd (fails_not_done written new (log_name name) status fails.fails done)
-concluded name old new end old_size size status (summed_up files said) done =
+concluded name old new end old_size size status (unwritten ended fails) done = absurd (fails_not_done old new name status fails.fails done)
+concluded name old new end old_size size status (unlogged written ended first fails) done = absurd (fails_not_done written new (log_name name) status fails.fails done)
+concluded name old new end old_size size status (summed_up ended files said) done =
     let it = said_done old new (summary_text_of name old_size size end) (end_status end.why) status said done in
     record { files = files; output = it.0; is = it.1 }
 

@@ -15,7 +15,7 @@ use Rattle.cr_main.specs.Run.Finishes.{unstarted, uncopied, reduced}
 use Rattle.cr_main.specs.Run.Runs.{on_file, refused, unsorted}
 use Rattle.cr_main.specs.Run.RunsBytes.{interesting, ruled_out, test_failed, unanswered, uninteresting, unruled}
 use Rattle.cr_main.specs.Run.RunsFile.{absent, unread, was_read}
-use Rattle.cr_main.specs.Words.{Word}
+use Rattle.cr_words.specs.Words.{Word}
 
 -- the writes that a run made once it had reduced
 abbrev pub SoFar : List ℕ → List ℕ → End → ℕ → Outside → Outside → Type 0
@@ -35,15 +35,15 @@ log_stands name bytes end size old copied new copy log = the_log (log ∙ ap (λ
 wrote : (name bytes : List ℕ) (old copied new : Outside) (end : End) (old_size size status : ℕ) → copied.files ≡ put_told (copy_name name) bytes old.files
     → Concludes name copied new end old_size size status → SoFar name bytes end size old new
 wrote name bytes old copied new end old_size size status copy (unfinished same is) = copy_stands name bytes end size old copied new copy (ap (λ o. o.files) same)
-wrote name bytes old copied new end old_size size status copy (unwritten fails) = elim fails.files [
+wrote name bytes old copied new end old_size size status copy (unwritten ended fails) = elim fails.files [
   | inl same ↦ copy_stands name bytes end size old copied new copy same
   | inr result ↦ result_stands name bytes end size old copied new copy result
 ]
-wrote name bytes old copied new end old_size size status copy (unlogged written first fails) = elim fails.files [
+wrote name bytes old copied new end old_size size status copy (unlogged written ended first fails) = elim fails.files [
   | inl same ↦ result_stands name bytes end size old copied new copy (same ∙ first.files)
   | inr log ↦ log_stands name bytes end size old copied new copy (log ∙ ap (λ m. put_told (log_name name) (log_text_of end size) m) first.files)
 ]
-wrote name bytes old copied new end old_size size status copy (summed_up files said) = log_stands name bytes end size old copied new copy files
+wrote name bytes old copied new end old_size size status copy (summed_up ended files said) = log_stands name bytes end size old copied new copy files
 
 module _ (words : List Word) (says : Telling) (t : Task) (is_task : IsTask words says t) (old : Outside) where
   finish_keeps : (read new : Outside) (first since after : Judging) (bytes : List ℕ) (status : ℕ) → read.files ≡ old.files → FileHas old.files t.name bytes

@@ -1,12 +1,12 @@
 -- What a run does, and with which status it ends.
-use Rattle.std.specs.Prelude.{◌≡◌, ◌≤◌, ℕ, Bool, true, List, Option, Some, None}
+use Rattle.std.specs.Prelude.{◌≡◌, ◌≢◌, ◌≤◌, ℕ, Bool, true, List, Option, Some, None}
 use Rattle.cr_outside.specs.Faults.{Rose}
 use Rattle.cr_outside.specs.Files.{Names, content_of, put_told}
 use Rattle.cr_outside.specs.Judge.{Call}
 use Rattle.cr_outside.specs.Question.{Says}
 use Rattle.cr_outside.specs.Test.{asks_test, tells_test}
 use Rattle.cr_outside.specs.declared.judge.Answer.{Answer}
-use Rattle.cr_outside.specs.declared.judge.Answer.TheVariants.{Yes, No}
+use Rattle.cr_outside.specs.declared.judge.Answer.TheVariants.{Yes, No, Failed}
 use Rattle.cr_outside.specs.declared.test.Test.{Test}
 use Rattle.cr_reduce.specs.declared.end.End.{End}
 use Rattle.cr_reduce.specs.declared.end.Why.{Why}
@@ -18,11 +18,13 @@ use Rattle.cr_reduce.specs.Sizes.{HasSize}
 use Rattle.cr_cursor.specs.TokenLaw.{IsTokenized, IsTokenReason}
 use Rattle.cr_reduce.specs.Trials.{AnswerInRun, CallsAbout}
 use Rattle.cr_log.specs.Texts.{log_text_of, summary_text_of}
-use Rattle.cr_main.specs.declared.settings.Settings.{Settings}
+use Rattle.cr_words.specs.Names.{IsOwnName, name_of}
+use Rattle.cr_words.specs.Words.{Word}
+use Rattle.cr_words.specs.declared.settings.Settings.{Settings}
 use Rattle.cr_main.specs.Lines.{OffersLines}
 use Rattle.cr_main.specs.Messages.{copy_name, failed_line, log_name, no_file_line, no_line, reason_line, reason_status, usage_line}
 use Rattle.cr_main.specs.Outside.{Fails, IsUnchanged, IsWritten, Judging, Outside, Puts, Refuses, WriteFails}
-use Rattle.cr_main.specs.Words.{HasNone, HasSettings, IsOwnName, Word, name_of}
+use Rattle.cr_main.specs.Words.{HasNone, HasSettings}
 
 -- What a run is asked to do: the test, the most turns, the file's name, and the name under which the test sees it; and
 -- what the first judge says at its key.
@@ -96,17 +98,17 @@ end_status (why.Fault turn worker) = 8
 end_status why.NoMemory = 11
 
 -- How a run ends once it has reduced: the result and the log are written, and the summary is put. The sizes are those of
--- the bytes read and of the result.
+-- the bytes read and of the result. Where the reduction ended for want of memory, no text is made and none is written.
 pub data Concludes (name : List ℕ) (old new : Outside) (end : End) (old_size size : ℕ) (status : ℕ) : Type 0 where
   -- 11: no memory was left for the reduction, or for the texts
   unfinished : new ≡ old → status ≡ 11 → Concludes name old new end old_size size status
   -- 9: the result was not written
-  unwritten : WriteFails old new name end.file.items status → Concludes name old new end old_size size status
+  unwritten : end.why ≢ why.NoMemory → WriteFails old new name end.file.items status → Concludes name old new end old_size size status
   -- 9: the log was not written
-  unlogged : (written : Outside) → IsWritten old written name end.file.items → WriteFails written new (log_name name) (log_text_of end size) status
+  unlogged : (written : Outside) → end.why ≢ why.NoMemory → IsWritten old written name end.file.items → WriteFails written new (log_name name) (log_text_of end size) status
       → Concludes name old new end old_size size status
   -- 0, 7 or 8 as the reduction ended, and 10 where the summary was not put whole
-  summed_up : new.files ≡ put_told (log_name name) (log_text_of end size) (put_told name end.file.items old.files)
+  summed_up : end.why ≢ why.NoMemory → new.files ≡ put_told (log_name name) (log_text_of end size) (put_told name end.file.items old.files)
       → Puts old new (summary_text_of name old_size size end) (end_status end.why) 10 status → Concludes name old new end old_size size status
 
 -- What comes once the test has said yes to the bytes read.
@@ -131,7 +133,7 @@ pub data RunsBytes (t : Task) (old new : Outside) (before after : Judging) (stat
   uninteresting : (bytes : List ℕ) → IsAnswered t old.files before after bytes No → new.files ≡ old.files
       → Refuses old new (no_line t.name) 6 status → RunsBytes t old new before after status
   -- 8: the test failed on it
-  test_failed : (bytes : List ℕ) → IsAsked t old.files before after bytes → asks_test t.test ≡ true → Rose before.faults after.faults → new.files ≡ old.files
+  test_failed : (bytes : List ℕ) → IsAnswered t old.files before after bytes Failed → asks_test t.test ≡ true → Rose before.faults after.faults → new.files ≡ old.files
       → Refuses old new (failed_line t.name) 8 status → RunsBytes t old new before after status
   -- 11: no memory was left for the test
   unanswered : (bytes : List ℕ) → IsAsked t old.files before after bytes → new ≡ old → status ≡ 11 → RunsBytes t old new before after status

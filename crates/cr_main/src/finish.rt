@@ -1,11 +1,12 @@
 // What comes once the test has said yes to the bytes read: the copy, the reduction, the result, the log, the summary.
-ghost use Rattle.std.specs.Prelude.{◌≡◌, ◌≢◌, ◌≤◌, ℕ, ◌++◌, All, IfOk, None, Some};
-ghost use Rattle.cr_reduce.specs.Bench.{first_calls, first_count, first_says};
+ghost use Rattle.std.specs.Prelude.{◌≡◌, ◌≢◌, ◌≤◌, ℕ, ◌++◌, All, IfOk, None, Some, false, length};
+ghost use Rattle.cr_reduce.specs.Bench.{first_calls, first_count, first_says, others};
 ghost use Rattle.cr_reduce.specs.Sizes.{HasSize};
 ghost use Rattle.cr_cursor.specs.TokenLaw.{IsTokenized};
 ghost use Rattle.cr_reduce.specs.declared.end.Why.{Why};
 ghost use Rattle.cr_log.specs.Texts.{log_text_of, summary_text_of};
 ghost use Rattle.cr_main.specs.Outside.{IsWritten, WriteFails, judging_of, outside_of};
+ghost use Rattle.cr_outside.specs.Test.{asks_test};
 ghost use Rattle.cr_main.specs.Requests.{task_for};
 ghost use Rattle.cr_main.specs.Run.{Concludes, Finishes, end_status};
 
@@ -35,11 +36,15 @@ pub fn copy_and_reduce<F: Files, J: Judge, O: Sink>(
     out: &mut O,
 ) -> u8
     requires lawful { IsTokenized bytes.items }
-    ensures { Finishes (task_for request.entry (first_says J.key J.says bench.old))
+    ensures finishes { Finishes (task_for request.entry (first_says J.key J.says bench.old))
         (outside_of (F.told files.old) (F.faults files.old) (O.told out.old) (O.faults out.old))
         (outside_of (F.told files.new) (F.faults files.new) (O.told out.new) (O.faults out.new))
         (judging_of (first_calls J.calls bench.old) (first_count J.faults bench.old))
         (judging_of (first_calls J.calls bench.new) (first_count J.faults bench.new)) bytes.items result }
+    ensures silent { asks_test request.entry.test.now ≡ false → bench.new ≡ bench.old }
+    ensures key { first_says J.key J.says bench.new ≡ first_says J.key J.says bench.old }
+    ensures others { others bench.new ≡ others bench.old }
+    ensures count { length bench.new ≡ length bench.old }
 {
     let old_size = match size_of(alloc, &bytes) {
         Ok(old_size) => old_size,

@@ -1,8 +1,7 @@
-//! Laws of the command line: each is the clause of a function that does nothing.
-ghost use Rattle.cr_main.specs.Laws.{HasOneOwnName, HasOneSettings};
+//! A law of names: the clause of a function that does nothing.
+ghost use Rattle.cr_main.specs.Laws.{HasOneOwnName};
 
-/// Words give one settings at most, and a name has one own name.
-pub fn words_are_read_in_one_way()
-    ensures settings { HasOneSettings }
-    ensures own_name { HasOneOwnName }
+/// A name has one own name.
+pub fn a_name_has_one_own_name()
+    ensures { HasOneOwnName }
 {}

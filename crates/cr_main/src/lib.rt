@@ -3,18 +3,16 @@
 //! of it too. Stands on `cr_reduce`, and on the passes: so far the lines pass, a private part of this crate.
 #![tactic(auto)]
 
+mod built;
 mod finish;
 mod laws;
 mod lines;
 mod messages;
 mod names;
-mod options;
-mod settings;
 mod top;
 
-pub use laws::words_are_read_in_one_way;
+pub use laws::a_name_has_one_own_name;
 pub use lines::LinesPass;
-pub use settings::{Settings, Source, WordFault, words};
 pub use top::run;
 
 #[cfg(test)]

@@ -1,22 +1,25 @@
 // The top call.
-ghost use Rattle.std.specs.Prelude.{◌≡◌, ◌⊎◌, ℕ, List};
+ghost use Rattle.std.specs.Prelude.{◌≡◌, ◌⊎◌, ℕ, List, false, length};
 ghost use Rattle.cr_outside.specs.declared.files.ReadAnswer.TheVariants.{Bytes};
 ghost use Rattle.cr_outside.specs.Files.{Reads};
-ghost use Rattle.cr_reduce.specs.Bench.{first_calls, first_count, first_says};
+ghost use Rattle.cr_outside.specs.Test.{asks_test};
+ghost use Rattle.cr_reduce.specs.Bench.{first_calls, first_count, first_says, others};
 ghost use Rattle.cr_cursor.specs.TokenLaw.{IsTokenized};
-ghost use Rattle.cr_main.specs.Headline.{AsksOnly, Completes, IsHeadline, KeepsFiles};
+ghost use Rattle.cr_main.specs.Headline.{AsksOnly, Completes, HasEnded, IsHeadline, IsTask, KeepsFiles};
 ghost use Rattle.cr_main.specs.Outside.{judging_of, outside_of};
 ghost use Rattle.cr_main.specs.Requests.{task_for};
-ghost use Rattle.cr_main.specs.Run.{FileHas, Runs, RunsBytes, RunsFile, task_of};
-ghost use Rattle.cr_main.specs.Words.{IsOwnName, name_of, texts_of};
+ghost use Rattle.cr_main.specs.Run.{FileHas, Runs, RunsBytes, RunsFile, Task, task_of};
+ghost use Rattle.cr_words.specs.Names.{IsOwnName, name_of};
+ghost use Rattle.cr_words.specs.Words.{texts_of};
 
+use crate::built::built_words;
 use crate::finish::copy_and_reduce;
 use crate::messages::{USAGE, put, refusal_status, refuse, refuse_file};
 use crate::names::own_name;
-use crate::settings::{Settings, Source, WordFault, words};
 use cr_cursor::{Law, Never, Ruling, TokenLaw};
 use cr_outside::{Answer, Files, Judge, ReadAnswer, Sink, Test};
 use cr_reduce::Bench;
+use cr_words::{Settings, Source, WordFault};
 use std::alloc::Global;
 
 /// What is read of a file at most: one byte more than a file may have, so that a longer one is refused.
@@ -53,6 +56,11 @@ pub fn run<F: Files, J: Judge, O: Sink>(
         (outside_of (F.told files.old) (F.faults files.old) (O.told out.old) (O.faults out.old))
         (outside_of (F.told files.new) (F.faults files.new) (O.told out.new) (O.faults out.new)) result }
 
+    // At 8 from the reduction, and at 10, the files are those of the reduction as far as it went.
+    ensures finished { (result ≡ 8) ⊎ (result ≡ 10) → HasEnded (texts_of list.now) (first_says J.key J.says bench.old)
+        (outside_of (F.told files.old) (F.faults files.old) (O.told out.old) (O.faults out.old))
+        (outside_of (F.told files.new) (F.faults files.new) (O.told out.new) (O.faults out.new)) result }
+
     // At every status the file holds its old bytes, or the result's with the bytes read in its copy.
     ensures files_kept { KeepsFiles (texts_of list.now) (first_says J.key J.says bench.old)
         (outside_of (F.told files.old) (F.faults files.old) (O.told out.old) (O.faults out.old))
@@ -72,8 +80,16 @@ pub fn run<F: Files, J: Judge, O: Sink>(
         (outside_of (F.told files.new) (F.faults files.new) (O.told out.new) (O.faults out.new))
         (judging_of (first_calls J.calls bench.old) (first_count J.faults bench.old))
         (judging_of (first_calls J.calls bench.new) (first_count J.faults bench.new)) result }
+
+    // A test that asks no judge leaves the bench as it was.
+    ensures silent { (t : Task) → IsTask (texts_of list.now) (first_says J.key J.says bench.old) t → asks_test t.test ≡ false → bench.new ≡ bench.old }
+
+    // The first judge alone is asked, and the judges keep their number and what they say.
+    ensures key { first_says J.key J.says bench.new ≡ first_says J.key J.says bench.old }
+    ensures others { others bench.new ≡ others bench.old }
+    ensures count { length bench.new ≡ length bench.old }
 {
-    match words(alloc, list, bench.workers()) {
+    match built_words(alloc, list) {
         Ok(settings) => run_settings(alloc, &settings, files, bench, out),
         Err(WordFault::Usage) => put(out, USAGE.as_bytes(), 2, 2),
         Err(WordFault::NoMemory) => 11,
@@ -87,12 +103,16 @@ fn run_settings<F: Files, J: Judge, O: Sink>(
     bench: &mut Bench<J>,
     out: &mut O,
 ) -> u8
-    ensures { (own : List ℕ) × IsOwnName (name_of settings.now.source) own
+    ensures runs { (own : List ℕ) × IsOwnName (name_of settings.now.source) own
         × RunsFile (task_of settings.now (first_says J.key J.says bench.old) own)
         (outside_of (F.told files.old) (F.faults files.old) (O.told out.old) (O.faults out.old))
         (outside_of (F.told files.new) (F.faults files.new) (O.told out.new) (O.faults out.new))
         (judging_of (first_calls J.calls bench.old) (first_count J.faults bench.old))
         (judging_of (first_calls J.calls bench.new) (first_count J.faults bench.new)) result }
+    ensures silent { asks_test settings.now.test ≡ false → bench.new ≡ bench.old }
+    ensures key { first_says J.key J.says bench.new ≡ first_says J.key J.says bench.old }
+    ensures others { others bench.new ≡ others bench.old }
+    ensures count { length bench.new ≡ length bench.old }
 {
     let name = source_name(&settings.source);
     let request = Request {
@@ -109,6 +129,7 @@ fn source_name(source: &Source) -> &str
 {
     match source {
         Source::Named(name) => name.as_str(),
+        Source::Made(_, _) => "gen.c",
     }
 }
 
@@ -119,11 +140,15 @@ fn run_file<F: Files, J: Judge, O: Sink>(
     bench: &mut Bench<J>,
     out: &mut O,
 ) -> u8
-    ensures { RunsFile (task_for request.entry (first_says J.key J.says bench.old))
+    ensures runs { RunsFile (task_for request.entry (first_says J.key J.says bench.old))
         (outside_of (F.told files.old) (F.faults files.old) (O.told out.old) (O.faults out.old))
         (outside_of (F.told files.new) (F.faults files.new) (O.told out.new) (O.faults out.new))
         (judging_of (first_calls J.calls bench.old) (first_count J.faults bench.old))
         (judging_of (first_calls J.calls bench.new) (first_count J.faults bench.new)) result }
+    ensures silent { asks_test request.entry.test.now ≡ false → bench.new ≡ bench.old }
+    ensures key { first_says J.key J.says bench.new ≡ first_says J.key J.says bench.old }
+    ensures others { others bench.new ≡ others bench.old }
+    ensures count { length bench.new ≡ length bench.old }
 {
     match files.read(alloc, request.name, MOST) {
         ReadAnswer::Bytes(bytes) => run_bytes(alloc, request, bytes, files, bench, out),
@@ -142,11 +167,15 @@ fn run_bytes<F: Files, J: Judge, O: Sink>(
     out: &mut O,
 ) -> u8
     requires read { Reads (F.told files.old) request.name.now 1048577 (Bytes bytes) }
-    ensures { RunsBytes (task_for request.entry (first_says J.key J.says bench.old))
+    ensures runs { RunsBytes (task_for request.entry (first_says J.key J.says bench.old))
         (outside_of (F.told files.old) (F.faults files.old) (O.told out.old) (O.faults out.old))
         (outside_of (F.told files.new) (F.faults files.new) (O.told out.new) (O.faults out.new))
         (judging_of (first_calls J.calls bench.old) (first_count J.faults bench.old))
         (judging_of (first_calls J.calls bench.new) (first_count J.faults bench.new)) result }
+    ensures silent { asks_test request.entry.test.now ≡ false → bench.new ≡ bench.old }
+    ensures key { first_says J.key J.says bench.new ≡ first_says J.key J.says bench.old }
+    ensures others { others bench.new ≡ others bench.old }
+    ensures count { length bench.new ≡ length bench.old }
 {
     let mut never = Never { looks: 0 };
     match TokenLaw.rule(alloc, &bytes, &mut never) {
@@ -169,11 +198,15 @@ fn ask_test<F: Files, J: Judge, O: Sink>(
 ) -> u8
     requires lawful { IsTokenized bytes.items }
     requires has { FileHas (F.told files.old) request.name.now bytes.items }
-    ensures { RunsBytes (task_for request.entry (first_says J.key J.says bench.old))
+    ensures runs { RunsBytes (task_for request.entry (first_says J.key J.says bench.old))
         (outside_of (F.told files.old) (F.faults files.old) (O.told out.old) (O.faults out.old))
         (outside_of (F.told files.new) (F.faults files.new) (O.told out.new) (O.faults out.new))
         (judging_of (first_calls J.calls bench.old) (first_count J.faults bench.old))
         (judging_of (first_calls J.calls bench.new) (first_count J.faults bench.new)) result }
+    ensures silent { asks_test request.entry.test.now ≡ false → bench.new ≡ bench.old }
+    ensures key { first_says J.key J.says bench.new ≡ first_says J.key J.says bench.old }
+    ensures others { others bench.new ≡ others bench.old }
+    ensures count { length bench.new ≡ length bench.old }
 {
     match bench.ask_first(alloc, request.test, request.own, &bytes) {
         Answer::Yes => copy_and_reduce(alloc, request, bytes, files, bench, out),

@@ -1,160 +1,155 @@
 // The command line. What is wanted was found by hand from its rules.
-use super::{Settings, Source, WordFault, words};
+use crate::built::built_words;
 use cr_outside::Test;
+use cr_words::{Settings, Source, WordFault, words};
 use std::alloc::{AllocError, Global};
 use std::test::Fail;
 
-/// Words that ask for a text in the file f.c, and the limit that they give.
-const LIMITS: [(&[&str], Option<u64>); 14] = [
-    (&["has:b", "f.c"], None),
-    (&["--limit=5", "has:b", "f.c"], Some(5)),
-    (&["--limit", "5", "has:b", "f.c"], Some(5)),
-    (&["has:b", "--limit", "5", "f.c"], Some(5)),
-    (&["has:b", "f.c", "--limit", "5"], Some(5)),
-    (&["has:b", "f.c", "--limit=5"], Some(5)),
-    (&["--limit", "0", "has:b", "f.c"], Some(0)),
-    (&["--limit=005", "has:b", "f.c"], Some(5)),
-    (&["--limit=0000000000000000009", "has:b", "f.c"], Some(9)),
-    (
-        &["--limit=9223372036854775807", "has:b", "f.c"],
-        Some(9_223_372_036_854_775_807),
-    ),
-    (&["--", "has:b", "f.c"], None),
-    (&["has:b", "--", "f.c"], None),
-    (&["has:b", "f.c", "--"], None),
-    (&["--limit=8", "--", "has:b", "f.c"], Some(8)),
-];
+/// What lists of words give where there are 32 workers, and behind it the words, each behind a bar: workers, window,
+/// limit, steps, passes, the test and the file, or `no`.
+const LISTS: &str = "\
+4 256 none 1000000 ltbusciprf has f.c|has:b|f.c
+4 256 5 1000000 ltbusciprf has f.c|--limit=5|has:b|f.c
+4 256 5 1000000 ltbusciprf has f.c|--limit|5|has:b|f.c
+4 256 5 1000000 ltbusciprf has f.c|has:b|--limit|5|f.c
+4 256 5 1000000 ltbusciprf has f.c|has:b|f.c|--limit=5
+4 256 0 1000000 ltbusciprf has f.c|--limit|0|has:b|f.c
+4 256 9 1000000 ltbusciprf has f.c|--limit=0000000000000000009|has:b|f.c
+4 256 9223372036854775807 1000000 ltbusciprf has f.c|--limit=9223372036854775807|has:b|f.c
+4 8 none 1000000 ltbusciprf has f.c|--window=8|--|has:b|f.c
+4 1 none 1000000 ltbusciprf has f.c|--window|1|has:b|f.c
+4 4096 none 1000000 ltbusciprf has f.c|has:b|f.c|--window|4096
+1 256 none 1000000 ltbusciprf has f.c|--workers=1|has:b|f.c
+32 256 none 1000000 ltbusciprf has f.c|--workers|32|has:b|f.c
+4 256 none 1 ltbusciprf has f.c|--steps|1|has:b|f.c
+4 256 none 100000000 ltbusciprf has f.c|--steps=100000000|has:b|f.c
+4 256 none 1000000 l has f.c|--passes|l|has:b|f.c
+4 256 none 1000000 tsf has f.c|--passes=fst|has:b|f.c
+4 256 none 1000000 ltbusciprf has f.c|--passes|frpicsubtl|has:b|f.c
+2 16 7 99 bc t.sh f.c|--steps|99|t.sh|--workers=2|--passes|cb|f.c|--limit|7|--window=16
+4 256 none 1000000 ltbusciprf has f.c|has:b|--|f.c
+4 256 none 1000000 ltbusciprf has -x.c|--|has:b|-x.c
+4 256 none 1000000 ltbusciprf has --limit=4|has:b|--|--limit=4
+4 256 none 1000000 ltbusciprf has -|has:b|-
+4 256 none 1000000 ltbusciprf - f.c|-|f.c
+4 256 none 1000000 ltbusciprf -- f.c|--|--|f.c
+4 256 none 1000000 ltbusciprf has d/...c|has:b|d/...c
+4 256 none 1000000 ltbusciprf has /gen:1:1|has:b|/gen:1:1
+4 256 none 1000000 ltbusciprf has gen 7 40|has:b|gen:7:40
+4 256 none 1000000 ltbusciprf has gen 2147483647 10000|has:b|gen:2147483647:10000
+4 256 none 1000000 ltbusciprf has gen 0 1|has:b|gen:000:01
+no
+no|has:b
+no|--limit=5
+no|has:b|f.c|g.c
+no|has:b|f.c|--|g.c
+no|--passes|f|t|w.sh|w.c
+no||f.c
+no|has:|f.c
+no|has:b|
+no|has:b|d/
+no|has:b|d/..
+no|has:b|gen:7:0
+no|has:b|gen:7:10001
+no|has:b|gen:2147483648:1
+no|has:b|gen:7
+no|has:b|gen:1:1:1
+no|--|has:b|gen:
+no|--limit|1|--limit|2|has:b|f.c
+no|--limit=1|has:b|f.c|--limit|1
+no|has:b|f.c|--limit
+no|--limit|-|has:b|f.c
+no|--limit|--|has:b|f.c
+no|--limit=-5|has:b|f.c
+no|--limit=|has:b|f.c
+no|--limit=+5|has:b|f.c
+no|--limit=5x|has:b|f.c
+no|--limit=00000000000000000005|has:b|f.c
+no|--limit=9223372036854775808|has:b|f.c
+no|--limits=5|has:b|f.c
+no|-limit=5|has:b|f.c
+no|--workers|33|has:b|f.c
+no|--workers|0|has:b|f.c
+no|--window|0|has:b|f.c
+no|--window|4097|has:b|f.c
+no|--steps|0|has:b|f.c
+no|--steps|100000001|has:b|f.c
+no|--passes|ll|has:b|f.c
+no|--passes=|has:b|f.c
+no|--passes|lx|has:b|f.c
+no|--help|has:b|f.c
+no|has:b|-x.c
+";
 
-/// Words that ask for a text, and the file that they name.
-const NAMES: [(&[&str], &str); 6] = [
-    (&["--", "has:b", "-x.c"], "-x.c"),
-    (&["has:b", "--", "--limit"], "--limit"),
-    (&["--limit", "3", "has:b", "--", "--limit=4"], "--limit=4"),
-    (&["has:b", "-"], "-"),
-    (&["has:b", "d/...c"], "d/...c"),
-    (&["has:b", "/gen:1:1"], "/gen:1:1"),
-];
+/// Lists of words, each word behind a bar, and whether what they ask for is built.
+const BUILT: &str = "\
+yes|--limit|5|has:b|f.c
+yes|--workers=1|--window=256|--steps=1000000|has:b|f.c
+no|--workers|2|has:b|f.c
+no|--window=8|--|has:b|f.c
+no|--steps|7|has:b|f.c
+no|--passes|l|has:b|f.c
+no|has:b|gen:7:40
+no|has:b
+";
 
-/// Words that name a program as the test.
-const PROGRAMS: [(&[&str], &str); 3] = [
-    (&["t.sh", "f.c"], "t.sh"),
-    (&["-", "f.c"], "-"),
-    (&["--", "--", "f.c"], "--"),
-];
-
-/// Words that give no settings. The options but `--limit` are not built yet, nor are generated programs.
-const REFUSED: [&[&str]; 46] = [
-    &[],
-    &["has:b"],
-    &["f.c"],
-    &["--limit=5"],
-    &["has:b", "f.c", "g.c"],
-    &["has:b", "f.c", "--", "g.c"],
-    &["", "f.c"],
-    &["has:", "f.c"],
-    &["has: ", "f.c"],
-    &["has:\"", "f.c"],
-    &["has:b", ""],
-    &["has:b", "/"],
-    &["has:b", "."],
-    &["has:b", ".."],
-    &["has:b", "d/"],
-    &["has:b", "d/."],
-    &["has:b", "d/.."],
-    &["has:b", "gen:"],
-    &["has:b", "gen:1:1"],
-    &["has:b", "gen:7:0"],
-    &["has:b", "gen:x/f.c"],
-    &["--", "has:b", "gen:1:1"],
-    &["--limit=5", "--limit=5", "has:b", "f.c"],
-    &["--limit", "1", "--limit", "2", "has:b", "f.c"],
-    &["--limit=1", "has:b", "f.c", "--limit", "2"],
-    &["has:b", "f.c", "--limit"],
-    &["--limit", "has:b", "f.c"],
-    &["--limit", "-", "has:b", "f.c"],
-    &["--limit", "-5", "has:b", "f.c"],
-    &["--limit", "--", "has:b", "f.c"],
-    &["--limit", "", "has:b", "f.c"],
-    &["--limit=", "has:b", "f.c"],
-    &["--limit=+5", "has:b", "f.c"],
-    &["--limit", "+5", "has:b", "f.c"],
-    &["--limit=-5", "has:b", "f.c"],
-    &["--limit= 5", "has:b", "f.c"],
-    &["--limit=5x", "has:b", "f.c"],
-    &["--limit=00000000000000000005", "has:b", "f.c"],
-    &["--limit=9223372036854775808", "has:b", "f.c"],
-    &["--limit=9999999999999999999", "has:b", "f.c"],
-    &["--limits=5", "has:b", "f.c"],
-    &["-limit=5", "has:b", "f.c"],
-    &["-x", "has:b", "f.c"],
-    &["has:b", "-x.c"],
-    &["--workers", "33", "has:b", "f.c"],
-    &["--passes", "ll", "has:b", "f.c"],
-];
-
-fn owned(alloc: Global, list: &[&str]) -> Result<Vec<String>, AllocError> {
-    let mut words = Vec::new(alloc);
-    for word in list {
-        words.push(String::from_str(alloc, word)?)?;
+fn list_of(alloc: Global, line: &str) -> Result<Vec<String>, AllocError> {
+    let mut list = Vec::new(alloc);
+    for word in line.split('|').skip(1) {
+        list.push(String::from_str(alloc, word)?)?;
     }
-    Ok(words)
+    Ok(list)
 }
 
-fn settings(alloc: Global, list: &[&str]) -> Result<Settings, WordFault> {
-    let Ok(list) = owned(alloc, list) else {
-        return Err(WordFault::NoMemory);
-    };
-    words(alloc, &list, 32)
-}
-
-fn is_has(test: &Test) -> bool {
-    matches!(test, Test::Has(_))
-}
-
-fn is_program(test: &Test, wanted: &str) -> bool {
-    match test {
-        Test::Has(_) => false,
-        Test::Program(path) => path.as_str() == wanted,
+fn told(alloc: Global, found: &Settings) -> Result<String, Fail> {
+    let mut text = String::new(alloc);
+    write!(text, "{} {} ", found.workers, found.window)?;
+    match found.limit {
+        Some(limit) => write!(text, "{limit} ")?,
+        None => write!(text, "none ")?,
     }
+    write!(text, "{} ", found.steps)?;
+    for (letter, on) in "ltbusciprf".chars().zip(found.enabled.iter()) {
+        if *on {
+            text.push(letter)?;
+        }
+    }
+    match &found.test {
+        Test::Has(_) => write!(text, " has ")?,
+        Test::Program(path) => write!(text, " {} ", path.as_str())?,
+    }
+    match &found.source {
+        Source::Named(name) => write!(text, "{}", name.as_str())?,
+        Source::Made(number, items) => write!(text, "gen {number} {items}")?,
+    }
+    Ok(text)
 }
 
-fn is_named(source: &Source, wanted: &str) -> bool {
-    match source {
-        Source::Named(name) => name.as_str() == wanted,
+fn answer(alloc: Global, line: &str) -> Result<String, Fail> {
+    let list = list_of(alloc, line)?;
+    match words(alloc, &list, 32) {
+        Ok(found) => told(alloc, &found),
+        Err(WordFault::Usage) => Ok(String::from_str(alloc, "no")?),
+        Err(WordFault::NoMemory) => Ok(String::from_str(alloc, "no memory")?),
     }
 }
 
 #[test]
-fn words_give_their_settings(rt: HostRuntime) -> Result<(), Fail> {
-    for (number, (list, limit)) in LIMITS.iter().enumerate() {
-        let found = settings(rt.alloc(), list)?;
-        assert_eq!(rt; found.limit, *limit, "list {number}");
-        assert!(rt;
-            is_has(&found.test) && is_named(&found.source, "f.c"),
-            "list {number}"
-        );
-    }
-    for (list, name) in NAMES {
-        let found = settings(rt.alloc(), list)?;
-        assert!(rt;
-            is_has(&found.test) && is_named(&found.source, name),
-            "{name}"
-        );
-    }
-    for (list, path) in PROGRAMS {
-        let found = settings(rt.alloc(), list)?;
-        assert!(rt;
-            is_program(&found.test, path) && is_named(&found.source, "f.c"),
-            "{path}"
-        );
+fn words_give_their_settings_or_none(rt: HostRuntime) -> Result<(), Fail> {
+    for line in LISTS.lines() {
+        let found = answer(rt.alloc(), line)?;
+        let wanted = line.split('|').next().unwrap_or("");
+        assert!(rt; found.as_str() == wanted, "{line}");
     }
     Ok(())
 }
 
 #[test]
-fn words_in_no_form_are_refused(rt: HostRuntime) {
-    for (number, list) in REFUSED.iter().enumerate() {
-        let refused = matches!(settings(rt.alloc(), list), Err(WordFault::Usage));
-        assert!(rt; refused, "list {number}");
+fn what_is_not_built_is_refused(rt: HostRuntime) -> Result<(), Fail> {
+    for line in BUILT.lines() {
+        let list = list_of(rt.alloc(), line)?;
+        let built = built_words(rt.alloc(), &list).is_ok();
+        assert!(rt; built == line.starts_with("yes"), "{line}");
     }
+    Ok(())
 }

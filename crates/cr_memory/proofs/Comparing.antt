@@ -14,8 +14,8 @@ use Rattle.cr_memory.specs.declared.value.Trap.TheVariants.{Undefined, Left}
 use Rattle.cr_memory.specs.declared.value.TheConstants.{ENDED, SUM_OUTSIDE, END_COMPARED}
 use Rattle.cr_memory.specs.declared.span.Span.{Span}
 use Rattle.cr_memory.specs.Memory.{IsPointer, live_object, count_of, has_ended}
-use Rattle.cr_memory.specs.Pointers.{moved_by, shift_of, differ_of, less_of, equality_of, same_of}
-use Rattle.cr_memory.specs.Flat.{span_at, memory_of, ended_in, PlaceIn, PointerIn, HasRoom, flat_shift, flat_differ, flat_less, flat_equality, flat_same}
+use Rattle.cr_memory.specs.Pointers.{moved_by, shift_by, shift_of, with_both, equality_by}
+use Rattle.cr_memory.specs.Flat.{span_at, memory_of, ended_in, PlaceIn, PointerIn, HasRoom, flat_equality}
 use Rattle.cr_memory.proofs.View.{object_of-live, length-whole_of, live_object-memory_of, has_ended-memory_of, is_pointer}
 use Rattle.cr_memory.proofs.Reaching.{alive_from}
 
@@ -26,30 +26,29 @@ first_case : {A : Type 0} (ended ended' : Bool) (rest rest' : Result A Trap) →
 first_case true ended' rest rest' e same = rw (← e) refl
 first_case false ended' rest rest' e same = rw (← e) (same refl)
 
+pub neither : (a b : Bool) → (a || b) ≡ false → (a ≡ false) × (b ≡ false)
+neither true b e = absurd (cc e)
+neither false b e = (refl, e)
+
 pub either_ended : (most : ℕ) (spans : List Span) (cells : List Cell) (shape : List (Scalar × Guard)) (left right : Pointer)
     → (ended_in spans left || ended_in spans right) ≡ (has_ended (memory_of most spans cells shape) left || has_ended (memory_of most spans cells shape) right)
 either_ended most spans cells shape left right =
     ap (λ b. b || ended_in spans right) (sym (has_ended-memory_of most spans cells shape left))
     ∙ ap (λ b. has_ended (memory_of most spans cells shape) left || b) (sym (has_ended-memory_of most spans cells shape right))
 
-pub flat_shift-is : (most : ℕ) (spans : List Span) (cells : List Cell) (shape : List (Scalar × Guard)) (at : Pointer) (by : ℤ)
-    → flat_shift spans at by ≡ shift_of (memory_of most spans cells shape) at by
-flat_shift-is most spans cells shape at by =
-    first_case (ended_in spans at) (has_ended (memory_of most spans cells shape) at) _ _ (sym (has_ended-memory_of most spans cells shape at)) (λ e. refl)
+pub shift_by-is : (most : ℕ) (spans : List Span) (cells : List Cell) (shape : List (Scalar × Guard)) (at : Pointer) (by : ℤ)
+    → shift_by (ended_in spans) at by ≡ shift_of (memory_of most spans cells shape) at by
+shift_by-is most spans cells shape at by =
+    ap (λ b. if b then Err (Undefined ENDED) else moved_by at by) (sym (has_ended-memory_of most spans cells shape at))
 
-pub flat_differ-is : (most : ℕ) (spans : List Span) (cells : List Cell) (shape : List (Scalar × Guard)) (left right : Pointer)
-    → flat_differ spans left right ≡ differ_of (memory_of most spans cells shape) left right
-flat_differ-is most spans cells shape left right = first_case _ _ _ _ (either_ended most spans cells shape left right) (λ e. refl)
-
-pub flat_less-is : (most : ℕ) (spans : List Span) (cells : List Cell) (shape : List (Scalar × Guard)) (left right : Pointer)
-    → flat_less spans left right ≡ less_of (memory_of most spans cells shape) left right
-flat_less-is most spans cells shape left right = first_case _ _ _ _ (either_ended most spans cells shape left right) (λ e. refl)
+-- the rest may be looked up as well, where both objects live
+pub with_both-is : {A : Type 0} (most : ℕ) (spans : List Span) (cells : List Cell) (shape : List (Scalar × Guard)) (left right : Pointer) (rest rest' : Result A Trap)
+    → (ended_in spans left ≡ false → ended_in spans right ≡ false → rest ≡ rest')
+    → with_both (ended_in spans) left right rest ≡ with_both (has_ended (memory_of most spans cells shape)) left right rest'
+with_both-is most spans cells shape left right rest rest' same =
+    first_case _ _ _ _ (either_ended most spans cells shape left right) (λ e. let n = neither _ _ e in same n.0 n.1)
 
 -- ---- equality
-
-pub neither : (a b : Bool) → (a || b) ≡ false → (a ≡ false) × (b ≡ false)
-neither true b e = absurd (cc e)
-neither false b e = (refl, e)
 
 live_count : (most : ℕ) (spans : List Span) (cells : List Cell) (shape : List (Scalar × Guard)) (number : ℕ) → HasRoom spans (length cells)
     → (span_at spans number).alive ≡ true → count_of (live_object (memory_of most spans cells shape) number) ≡ (span_at spans number).count
@@ -57,9 +56,9 @@ live_count most spans cells shape number room alive =
     ap count_of (live_object-memory_of most spans cells shape number ∙ object_of-live cells shape (span_at spans number) alive)
     ∙ length-whole_of cells shape (span_at spans number) (room.within number alive)
 
-flat_equality-is : (most : ℕ) (spans : List Span) (cells : List Cell) (shape : List (Scalar × Guard)) (left right : Pointer) → HasRoom spans (length cells)
+pub flat_equality-is : (most : ℕ) (spans : List Span) (cells : List Cell) (shape : List (Scalar × Guard)) (left right : Pointer) → HasRoom spans (length cells)
     → ended_in spans left ≡ false → ended_in spans right ≡ false
-    → flat_equality spans left right ≡ equality_of (memory_of most spans cells shape) left right
+    → flat_equality spans left right ≡ equality_by (λ object. count_of (live_object (memory_of most spans cells shape) object)) left right
 flat_equality-is most spans cells shape Null Null room l r = refl
 flat_equality-is most spans cells shape Null (At object cell low high stride) room l r = refl
 flat_equality-is most spans cells shape (At object cell low high stride) Null room l r = refl
@@ -67,12 +66,6 @@ flat_equality-is most spans cells shape (At object cell low high stride) (At obj
     let same : Bool → Bool → Result Bool Trap = λ a b. if object == object' then Ok (cell == cell') else (if a || b then Err (Left END_COMPARED) else Ok false) in
     ap (λ n. same (n == cell) ((span_at spans object').count == cell')) (sym (live_count most spans cells shape object room (alive_from _ l)))
     ∙ ap (λ n. same (count_of (live_object (memory_of most spans cells shape) object) == cell) (n == cell')) (sym (live_count most spans cells shape object' room (alive_from _ r)))
-
-pub flat_same-is : (most : ℕ) (spans : List Span) (cells : List Cell) (shape : List (Scalar × Guard)) (left right : Pointer) → HasRoom spans (length cells)
-    → flat_same spans left right ≡ same_of (memory_of most spans cells shape) left right
-flat_same-is most spans cells shape left right room =
-    first_case _ _ _ _ (either_ended most spans cells shape left right)
-    (λ e. let n = neither _ _ e in flat_equality-is most spans cells shape left right room n.0 n.1)
 
 -- ---- a moved pointer stays among whole elements
 
@@ -126,8 +119,8 @@ each_ok : (result : Result Pointer Trap) (P Q : Pointer → Type 0) → ((p : Po
 each_ok (Ok p) P Q f h = f p h
 each_ok (Err e) P Q f h = tt
 
-pub flat_shift-pointer : (most : ℕ) (spans : List Span) (cells : List Cell) (shape : List (Scalar × Guard)) (at : Pointer) (by : ℤ) → HasRoom spans (length cells)
-    → PointerIn spans at → IfOk (flat_shift spans at by) (IsPointer (memory_of most spans cells shape))
-flat_shift-pointer most spans cells shape at by room h =
-    each_ok (flat_shift spans at by) (PointerIn spans) (IsPointer (memory_of most spans cells shape))
+pub shift_by-pointer : (most : ℕ) (spans : List Span) (cells : List Cell) (shape : List (Scalar × Guard)) (at : Pointer) (by : ℤ) → HasRoom spans (length cells)
+    → PointerIn spans at → IfOk (shift_by (ended_in spans) at by) (IsPointer (memory_of most spans cells shape))
+shift_by-pointer most spans cells shape at by room h =
+    each_ok (shift_by (ended_in spans) at by) (PointerIn spans) (IsPointer (memory_of most spans cells shape))
     (λ p. is_pointer most spans cells shape p room) (within_ok (ended_in spans at) (moved_by at by) (PointerIn spans) (moved_by-pointer spans at by h))

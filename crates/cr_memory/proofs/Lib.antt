@@ -7,3 +7,5 @@ pub mod Storing
 pub mod Lifetimes
 pub mod Ending
 pub mod Moving
+pub mod Continuing
+pub mod Loading

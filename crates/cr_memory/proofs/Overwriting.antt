@@ -34,6 +34,14 @@ set-overwritten xs place at (w ∷ vs) v h =
     set-overwritten (set xs place w) (suc place) at vs v (omega arith)
     ∙ ap (λ ys. overwritten ys (suc place) vs) (set_comm xs place at w v (omega arith))
 
+-- a step of a write of given values
+pub written_over : {X : Type 0} (xs : List X) (target : ℕ) (vs : List X) (i : ℕ) (d : X) → i < length vs
+    → set (overwritten xs target (take i vs)) (target + i) (get_or vs i d) ≡ overwritten xs target (take (i + 1) vs)
+written_over xs target vs i d room =
+    let size : length (take i vs) ≡ i = length-take-le i vs (omega arith) in
+    sym (ap (λ ws. overwritten xs target ws) (take_more vs i d room)
+    ∙ overwritten-append xs target (take i vs) (get_or vs i d) ∙ ap (λ n. set (overwritten xs target (take i vs)) (target + n) (get_or vs i d)) size)
+
 -- a step of a copy to an earlier place
 pub copied_down : {X : Type 0} (xs : List X) (source target i : ℕ) (x : X) → target ≤ source → source + i < length xs
     → x ≡ get_or (overwritten xs target (take i (drop source xs))) (source + i) x

@@ -1,5 +1,5 @@
 -- `save` and `copy`: the flat store's answer is the memory's, and the store stays well formed.
-use Rattle.std.proofs.Common.{◌≡◌, ℕ, zero, suc, ◌+◌, ◌≤◌, Bool, true, false, not, ◌||◌, Result, Ok, Err, IfOk, List, [], ◌∷◌, length, set, take, drop, if◌then◌else◌, refl, sym, ap, ◌∙◌, subst, arith, length-drop, length-set}
+use Rattle.std.proofs.Common.{◌≡◌, ℕ, zero, suc, ◌+◌, ◌≤◌, Bool, true, false, ◌||◌, Result, Ok, Err, IfOk, List, [], ◌∷◌, length, set, take, drop, refl, sym, ap, ◌∙◌, subst, arith, length-drop, length-set}
 use Rattle.std.specs.List.{list_any}
 use Rattle.std.proofs.lemmas.Bool.{leb-false}
 use Rattle.std.proofs.lemmas.List.{drop_more, length-take-le}
@@ -12,14 +12,14 @@ use Rattle.cr_memory.specs.declared.value.Cell.TheVariants.{Unset}
 use Rattle.cr_memory.specs.declared.value.Guard.{Guard}
 use Rattle.cr_memory.specs.declared.value.Guard.TheVariants.{Free}
 use Rattle.cr_memory.specs.declared.value.Trap.{Trap}
-use Rattle.cr_memory.specs.declared.value.Trap.TheVariants.{Undefined, Left}
-use Rattle.cr_memory.specs.declared.value.TheConstants.{NULL_OR_END, ENDED, LITERAL_WRITTEN, CONSTANT_WRITTEN, OTHER_TYPE}
 use Rattle.cr_memory.specs.declared.span.Span.{Span}
 use Rattle.cr_memory.specs.Kind.{is_same}
-use Rattle.cr_memory.specs.Memory.{Memory, KeepsPointers, has_ended}
-use Rattle.cr_memory.specs.Access.{is_null_or_end, is_literal, is_constant, number_of, cell_of, shape_run_at, have_same_kinds, overwritten, with_cells, save_of, copy_of, Writes, HasStride}
-use Rattle.cr_memory.specs.Flat.{span_at, memory_of, ended_in, index_of, cell_or, shape_or, PointerIn, HoldsIn, IsStored, flat_save, flat_copy}
-use Rattle.cr_memory.proofs.View.{has_ended-memory_of}
+use Rattle.cr_memory.specs.Memory.{Memory, AllHold, KeepsPointers, has_ended}
+use Rattle.cr_memory.specs.Access.{is_null_or_end, is_literal, is_constant, number_of, cell_of, shape_run_at, have_kinds, have_same_kinds, overwritten, with_cells, writing, save_of, put_of, copy_of, Writes, HasStride}
+use Rattle.cr_memory.specs.Flat.{span_at, memory_of, ended_in, index_of, cell_or, shape_or, PointerIn, HoldsIn, HasRoom, IsStored, flat_save, flat_put, flat_copy}
+use Rattle.cr_memory.specs.Continues.{Continues}
+use Rattle.cr_memory.proofs.Continuing.{written-continues}
+use Rattle.cr_memory.proofs.View.{has_ended-memory_of, holds_seen}
 use Rattle.cr_memory.proofs.Overwriting.{length-overwritten}
 use Rattle.cr_memory.proofs.Reaching.{alive_from, same_kinds, reached, reached_run, stride_fits, both_true}
 use Rattle.cr_memory.proofs.Comparing.{either_ended, neither}
@@ -27,23 +27,14 @@ use Rattle.cr_memory.proofs.Writing.{memory_of-overwritten, stored_with, same_po
 
 -- ---- the cases of a write, in order
 
-abbrev pub write_case : {A : Type 0} → Bool → Bool → Bool → Bool → Bool → A → Result A Trap
-write_case ended end literal constant same x =
-    if ended then Err (Undefined ENDED)
-    else (if end then Err (Undefined NULL_OR_END)
-    else (if literal then Err (Undefined LITERAL_WRITTEN)
-    else (if constant then Err (Undefined CONSTANT_WRITTEN)
-    else (if not same then Err (Left OTHER_TYPE)
-    else Ok x))))
-
-pub write_case-ok : {A : Type 0} (Q : A → Type 0) (ended end literal constant same : Bool) (x : A) → (ended ≡ false → end ≡ false → same ≡ true → Q x)
-    → IfOk (write_case ended end literal constant same x) Q
-write_case-ok Q true end literal constant same x h = tt
-write_case-ok Q false true literal constant same x h = tt
-write_case-ok Q false false true constant same x h = tt
-write_case-ok Q false false false true same x h = tt
-write_case-ok Q false false false false false x h = tt
-write_case-ok Q false false false false true x h = h refl refl refl
+pub writing-ok : {A : Type 0} (Q : A → Type 0) (ended end literal constant same : Bool) (x : A) → (ended ≡ false → end ≡ false → same ≡ true → Q x)
+    → IfOk (writing ended end literal constant same x) Q
+writing-ok Q true end literal constant same x h = tt
+writing-ok Q false true literal constant same x h = tt
+writing-ok Q false false true constant same x h = tt
+writing-ok Q false false false true same x h = tt
+writing-ok Q false false false false false x h = tt
+writing-ok Q false false false false true x h = h refl refl refl
 
 abbrev pub mapped : {A B : Type 0} → (A → B) → Result A Trap → Result B Trap
 mapped f (Ok x) = Ok (f x)
@@ -58,18 +49,18 @@ pub record Agree (literal literal' constant constant' same same' : Bool) (seen w
 
 agree_by : (F : List Cell → Memory) (literal literal' constant constant' same same' : Bool) (xs : List Cell) (wanted : Memory)
     → Agree literal literal' constant constant' same same' (F xs) wanted
-    → mapped F (write_case false false literal constant same xs) ≡ write_case false false literal' constant' same' wanted
+    → mapped F (writing false false literal constant same xs) ≡ writing false false literal' constant' same' wanted
 agree_by F true literal' constant constant' same same' xs wanted a = rw (← a.literals) refl
 agree_by F false literal' true constant' same same' xs wanted a = rw (← a.literals, ← a.constants) refl
 agree_by F false literal' false constant' false same' xs wanted a = rw (← a.literals, ← a.constants, ← a.kinds) refl
 agree_by F false literal' false constant' true same' xs wanted a = rw (← a.literals, ← a.constants, ← a.kinds) (ap Ok a.result)
 
-pub write_case-mapped : (F : List Cell → Memory) (ended ended' end literal literal' constant constant' same same' : Bool) (xs : List Cell) (wanted : Memory)
+pub writing-mapped : (F : List Cell → Memory) (ended ended' end literal literal' constant constant' same same' : Bool) (xs : List Cell) (wanted : Memory)
     → ended ≡ ended' → (ended ≡ false → end ≡ false → Agree literal literal' constant constant' same same' (F xs) wanted)
-    → mapped F (write_case ended end literal constant same xs) ≡ write_case ended' end literal' constant' same' wanted
-write_case-mapped F true ended' end literal literal' constant constant' same same' xs wanted e a = rw (← e) refl
-write_case-mapped F false ended' true literal literal' constant constant' same same' xs wanted e a = rw (← e) refl
-write_case-mapped F false ended' false literal literal' constant constant' same same' xs wanted e a =
+    → mapped F (writing ended end literal constant same xs) ≡ writing ended' end literal' constant' same' wanted
+writing-mapped F true ended' end literal literal' constant constant' same same' xs wanted e a = rw (← e) refl
+writing-mapped F false ended' true literal literal' constant constant' same same' xs wanted e a = rw (← e) refl
+writing-mapped F false ended' false literal literal' constant constant' same same' xs wanted e a =
     rw (← e) (agree_by F literal literal' constant constant' same same' xs wanted (a refl refl))
 
 -- what the store shows after the write, and what stays true of it
@@ -114,7 +105,7 @@ pub flat_save-is : (most live top : ℕ) (spans : List Span) (cells : List Cell)
     → mapped (λ xs. memory_of most spans xs shape) (flat_save spans cells shape at kind value) ≡ save_of (memory_of most spans cells shape) at kind value
 flat_save-is most live top spans cells shape at kind value s h =
     let own = shape_or shape (index_of spans at) in
-    write_case-mapped (λ xs. memory_of most spans xs shape) (ended_in spans at) (has_ended (memory_of most spans cells shape) at) (is_null_or_end at)
+    writing-mapped (λ xs. memory_of most spans xs shape) (ended_in spans at) (has_ended (memory_of most spans cells shape) at) (is_null_or_end at)
     (is_literal own.1) _ (is_constant own.1) _ (is_same own.0 kind) _ (set cells (index_of spans at) value) _ (sym (has_ended-memory_of most spans cells shape at))
     (λ alive inside. let r = reached most spans cells shape at s.room h alive inside in record {
       literals = ap (λ o. is_literal o.1) (sym r.own);
@@ -128,7 +119,7 @@ pub flat_save-stored : (most live top : ℕ) (spans : List Span) (cells : List C
     → IfOk (flat_save spans cells shape at kind value) (λ xs. IsStored most live top spans xs shape × (length xs ≡ length cells))
 flat_save-stored most live top spans cells shape at kind value s h held =
     let own = shape_or shape (index_of spans at) in
-    write_case-ok (λ xs. IsStored most live top spans xs shape × (length xs ≡ length cells)) (ended_in spans at) (is_null_or_end at)
+    writing-ok (λ xs. IsStored most live top spans xs shape × (length xs ≡ length cells)) (ended_in spans at) (is_null_or_end at)
     (is_literal own.1) (is_constant own.1) (is_same own.0 kind) (set cells (index_of spans at) value)
     (λ alive inside same.
     let P : Scalar → Type 0 = λ k. HoldsIn spans k value in
@@ -143,6 +134,7 @@ flat_save-stored most live top spans cells shape at kind value s h held =
 pub record WriteDone (most live top : ℕ) (spans : List Span) (cells written : List Cell) (shape : List (Scalar × Guard)) (wanted : Result Memory Trap) (result : Result (Unit {0}) Trap) : Type 0 where
   pub stored : IsStored most live top spans written shape
   pub kept : KeepsPointers (memory_of most spans cells shape) (memory_of most spans written shape)
+  pub continues : Continues (memory_of most spans cells shape) (memory_of most spans written shape)
   pub seen : Writes wanted result (memory_of most spans cells shape) (memory_of most spans written shape)
 
 write_done : (most live top : ℕ) (spans : List Span) (cells written : List Cell) (shape : List (Scalar × Guard)) (flat : Result (List Cell) Trap) (wanted : Result Memory Trap) (result : Result (Unit {0}) Trap)
@@ -154,6 +146,7 @@ write_done most live top spans cells written shape flat wanted result s e ok w =
     record {
       stored = kept.0;
       kept = same_pointers most spans cells written shape s.room kept.1;
+      continues = written-continues most spans cells written shape s.room kept.1;
       seen = writes_seen (λ xs. memory_of most spans xs shape) flat wanted result cells written e w;
     }
 
@@ -163,6 +156,89 @@ pub save_done : (most live top : ℕ) (spans : List Span) (cells written : List 
 save_done most live top spans cells written shape at kind value result s h held w =
     write_done most live top spans cells written shape (flat_save spans cells shape at kind value) _ result s
     (flat_save-is most live top spans cells shape at kind value s h) (flat_save-stored most live top spans cells shape at kind value s h held) w
+
+-- ---- put
+
+-- cells that hold values of the kinds, as the spans have their pointers
+abbrev pub AllHoldIn : List Span → List Scalar → List Cell → Type 0
+AllHoldIn spans [] [] = Unit {0}
+AllHoldIn spans [] (value ∷ values) = ⊥
+AllHoldIn spans (kind ∷ kinds) [] = ⊥
+AllHoldIn spans (kind ∷ kinds) (value ∷ values) = HoldsIn spans kind value × AllHoldIn spans kinds values
+
+pub all_hold_seen : (most : ℕ) (spans : List Span) (cells : List Cell) (shape : List (Scalar × Guard)) (memory : Memory) (kinds : List Scalar) (values : List Cell)
+    → memory_of most spans cells shape ≡ memory → HasRoom spans (length cells) → AllHold memory kinds values → AllHoldIn spans kinds values
+all_hold_seen most spans cells shape memory [] [] view room h = tt
+all_hold_seen most spans cells shape memory [] (value ∷ values) view room h = h
+all_hold_seen most spans cells shape memory (kind ∷ kinds) [] view room h = h
+all_hold_seen most spans cells shape memory (kind ∷ kinds) (value ∷ values) view room h =
+    (holds_seen most spans cells shape memory kind value view room h.0, all_hold_seen most spans cells shape memory kinds values view room h.1)
+
+pub as_many : (spans : List Span) (kinds : List Scalar) (values : List Cell) → AllHoldIn spans kinds values → length values ≡ length kinds
+as_many spans [] [] h = refl
+as_many spans [] (value ∷ values) h = absurd h
+as_many spans (kind ∷ kinds) [] h = absurd h
+as_many spans (kind ∷ kinds) (value ∷ values) h = ap suc (as_many spans kinds values h.1)
+
+-- values of the kinds may stand in a run of cells of these kinds
+put_hold : (spans : List Span) (shape : List (Scalar × Guard)) (kinds : List Scalar) (values : List Cell) (target : ℕ)
+    → target + length kinds ≤ length shape → have_kinds (take (length kinds) (drop target shape)) kinds ≡ true → AllHoldIn spans kinds values
+    → RunHolds spans shape target values
+put_hold spans shape [] [] target b e h = tt
+put_hold spans shape [] (value ∷ values) target b e h = absurd h
+put_hold spans shape (kind ∷ kinds) [] target b e h = absurd h
+put_hold spans shape (kind ∷ kinds) (value ∷ values) target b e h =
+    let free : Scalar × Guard = (PointerKind 0, Free) in
+    let first_shape = drop_more shape target free (omega arith) in
+    let rest : target + 1 + length kinds ≤ length shape = omega arith in
+    let next : target + 1 ≡ suc target = omega arith in
+    let tests = both_true _ _ (rw first_shape at e) in
+    let K : Scalar → Type 0 = λ k. HoldsIn spans k value in
+    let R : ℕ → Type 0 = λ n. RunHolds spans shape n values in (
+      subst K (sym (same_kinds _ _ tests.0)) h.0,
+      subst R next (put_hold spans shape kinds values (target + 1) rest tests.1 h.1),
+    )
+
+pub flat_put-is : (most live top : ℕ) (spans : List Span) (cells : List Cell) (shape : List (Scalar × Guard)) (to : Pointer) (kinds : List Scalar) (values : List Cell)
+    → IsStored most live top spans cells shape → PointerIn spans to → HasStride to (length kinds) → length values ≡ length kinds
+    → mapped (λ xs. memory_of most spans xs shape) (flat_put spans cells shape to kinds values) ≡ put_of (memory_of most spans cells shape) to kinds values
+flat_put-is most live top spans cells shape to kinds values s h stride same =
+    let own = take (length kinds) (drop (index_of spans to) shape) in
+    let R : ℕ → Type 0 = λ n. HasRun to n in
+    writing-mapped (λ xs. memory_of most spans xs shape) (ended_in spans to) (has_ended (memory_of most spans cells shape) to) (is_null_or_end to)
+    (list_any (λ g. is_literal g.1) own) _ (list_any (λ g. is_constant g.1) own) _ (have_kinds own kinds) _ (overwritten cells (index_of spans to) values) _
+    (sym (has_ended-memory_of most spans cells shape to))
+    (λ alive inside. let r = reached_run most spans cells shape to (length kinds) s.room h stride alive inside in record {
+      literals = ap (λ x. list_any (λ g. is_literal g.1) x) (sym r.shape_run);
+      constants = ap (λ x. list_any (λ g. is_constant g.1) x) (sym r.shape_run);
+      kinds = ap (λ x. have_kinds x kinds) (sym r.shape_run);
+      result = memory_of-overwritten_at most live top spans cells shape to values s h alive inside (subst R (sym same) (element_before_end spans to (length kinds) h stride inside));
+    })
+
+pub flat_put-stored : (most live top : ℕ) (spans : List Span) (cells : List Cell) (shape : List (Scalar × Guard)) (to : Pointer) (kinds : List Scalar) (values : List Cell)
+    → IsStored most live top spans cells shape → PointerIn spans to → HasStride to (length kinds) → AllHoldIn spans kinds values
+    → IfOk (flat_put spans cells shape to kinds values) (λ xs. IsStored most live top spans xs shape × (length xs ≡ length cells))
+flat_put-stored most live top spans cells shape to kinds values s h stride held =
+    let own = take (length kinds) (drop (index_of spans to) shape) in
+    writing-ok (λ xs. IsStored most live top spans xs shape × (length xs ≡ length cells)) (ended_in spans to) (is_null_or_end to)
+    (list_any (λ g. is_literal g.1) own) (list_any (λ g. is_constant g.1) own) (have_kinds own kinds) (overwritten cells (index_of spans to) values)
+    (λ alive inside same.
+    let r = reached_run most spans cells shape to (length kinds) s.room h stride alive inside in
+    let size = length-overwritten cells (index_of spans to) values in (
+      stored_with most live top spans cells (overwritten cells (index_of spans to) values) shape s size
+          (held_overwritten spans cells shape (index_of spans to) values s.holds
+          (put_hold spans shape kinds values (index_of spans to) (omega (arith, r.inside, s.same_length)) same held)),
+      size,
+    ))
+
+pub put_done : (most live top : ℕ) (spans : List Span) (cells written : List Cell) (shape : List (Scalar × Guard)) (to : Pointer) (kinds : List Scalar) (values : List Cell) (result : Result (Unit {0}) Trap)
+    → IsStored most live top spans cells shape → PointerIn spans to → HasStride to (length kinds) → AllHoldIn spans kinds values
+    → Writes (flat_put spans cells shape to kinds values) result cells written
+    → WriteDone most live top spans cells written shape (put_of (memory_of most spans cells shape) to kinds values) result
+put_done most live top spans cells written shape to kinds values result s h stride held w =
+    write_done most live top spans cells written shape (flat_put spans cells shape to kinds values) _ result s
+    (flat_put-is most live top spans cells shape to kinds values s h stride (as_many spans kinds values held))
+    (flat_put-stored most live top spans cells shape to kinds values s h stride held) w
 
 -- ---- copy
 
@@ -202,7 +278,7 @@ flat_copy-is most live top spans cells shape from to count s f t ws wt =
     let own = take count (drop (index_of spans to) shape) in
     let other = take count (drop (index_of spans from) shape) in
     let run = take count (drop (index_of spans from) cells) in
-    write_case-mapped (λ xs. memory_of most spans xs shape) (ended_in spans from || ended_in spans to)
+    writing-mapped (λ xs. memory_of most spans xs shape) (ended_in spans from || ended_in spans to)
     (has_ended (memory_of most spans cells shape) from || has_ended (memory_of most spans cells shape) to) (is_null_or_end from || is_null_or_end to)
     (list_any (λ g. is_literal g.1) own) _ (list_any (λ g. is_constant g.1) own) _ (have_same_kinds other own) _ (overwritten cells (index_of spans to) run) _
     (either_ended most spans cells shape from to)
@@ -228,7 +304,7 @@ flat_copy-stored most live top spans cells shape from to count s f t ws wt =
     let own = take count (drop (index_of spans to) shape) in
     let other = take count (drop (index_of spans from) shape) in
     let run = take count (drop (index_of spans from) cells) in
-    write_case-ok (λ xs. IsStored most live top spans xs shape × (length xs ≡ length cells)) (ended_in spans from || ended_in spans to)
+    writing-ok (λ xs. IsStored most live top spans xs shape × (length xs ≡ length cells)) (ended_in spans from || ended_in spans to)
     (is_null_or_end from || is_null_or_end to) (list_any (λ g. is_literal g.1) own) (list_any (λ g. is_constant g.1) own) (have_same_kinds other own)
     (overwritten cells (index_of spans to) run)
     (λ live' inside same.

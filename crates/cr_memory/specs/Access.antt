@@ -60,11 +60,14 @@ shape_run_at memory at count = take count (drop (cell_of at) (object_at memory a
 
 -- ---- tests on cells
 
--- the cell holds a pointer to an object whose lifetime has ended
+-- the cell holds a pointer of which the test says that its object's lifetime has ended
+abbrev pub holds_such : (Pointer → Bool) → Cell → Bool
+holds_such ended Unset = false
+holds_such ended (Number value) = false
+holds_such ended (PointerCell pointer) = ended pointer
+
 abbrev pub holds_ended : Memory → Cell → Bool
-holds_ended memory Unset = false
-holds_ended memory (Number value) = false
-holds_ended memory (PointerCell pointer) = has_ended memory pointer
+holds_ended memory = holds_such (has_ended memory)
 
 abbrev pub is_unset : Cell → Bool
 is_unset Unset = true
@@ -102,45 +105,78 @@ with_cells memory number place cells =
     let written : Object = record { cells = overwritten object.cells place cells; shape = object.shape } in
     record { most = memory.most; objects = slice_set memory.objects number (Some written) }
 
--- ---- the operations
+-- ---- the operations, over any look-ups: whether a pointer's object has ended, and what stands where a pointer points to.
+-- The memory has these look-ups, and the store has its own.
+
+-- the pointer points to a cell of a live object; what comes after these two cases stands last
+abbrev pub reaching : {A : Type 0} → Bool → Bool → Result A Trap → Result A Trap
+reaching ended end rest = if ended then Err (Undefined ENDED) else (if end then Err (Undefined NULL_OR_END) else rest)
+
+abbrev pub reach_by : (Pointer → Bool) → Pointer → Result (Unit {0}) Trap
+reach_by ended at = reaching (ended at) (is_null_or_end at) (Ok tt)
 
 -- the value of a scalar object (6.3.2.1p2)
-abbrev pub load_of : Memory → Pointer → Scalar → Result Cell Trap
-load_of memory at kind =
-    if has_ended memory at then Err (Undefined ENDED)
-    else (if is_null_or_end at then Err (Undefined NULL_OR_END)
-    else (if holds_ended memory (cell_at memory at) then Err (Undefined ENDED)
-    else (if not (is_same (shape_at memory at).0 kind) then Err (Left OTHER_TYPE)
-    else (if is_unset (cell_at memory at) then Err (Undefined UNSET)
-    else Ok (cell_at memory at)))))
+abbrev pub load_by : (Pointer → Bool) → (Pointer → Cell) → (Pointer → Scalar × Guard) → Pointer → Scalar → Result Cell Trap
+load_by ended cell own at kind =
+    reaching (ended at) (is_null_or_end at)
+    (if holds_such ended (cell at) then Err (Undefined ENDED)
+    else (if not (is_same (own at).0 kind) then Err (Left OTHER_TYPE)
+    else (if is_unset (cell at) then Err (Undefined UNSET)
+    else Ok (cell at))))
+
+-- a write, after its tests in their order: the state that it leaves
+abbrev pub writing : {State : Type 0} → Bool → Bool → Bool → Bool → Bool → State → Result State Trap
+writing ended end literal constant same state =
+    reaching ended end
+    (if literal then Err (Undefined LITERAL_WRITTEN)
+    else (if constant then Err (Undefined CONSTANT_WRITTEN)
+    else (if not same then Err (Left OTHER_TYPE)
+    else Ok state)))
 
 -- a value stored in a scalar object (6.5.16p3)
-abbrev pub save_of : Memory → Pointer → Scalar → Cell → Result Memory Trap
-save_of memory at kind value =
-    if has_ended memory at then Err (Undefined ENDED)
-    else (if is_null_or_end at then Err (Undefined NULL_OR_END)
-    else (if is_literal (shape_at memory at).1 then Err (Undefined LITERAL_WRITTEN)
-    else (if is_constant (shape_at memory at).1 then Err (Undefined CONSTANT_WRITTEN)
-    else (if not (is_same (shape_at memory at).0 kind) then Err (Left OTHER_TYPE)
-    else Ok (with_cells memory (number_of at) (cell_of at) (value ∷ []))))))
+abbrev pub save_by : {State : Type 0} → (Pointer → Bool) → (Pointer → Scalar × Guard) → Pointer → Scalar → State → Result State Trap
+save_by ended own at kind state =
+    writing (ended at) (is_null_or_end at) (is_literal (own at).1) (is_constant (own at).1) (is_same (own at).0 kind) state
+
+-- values stored in the cells of a structure (6.5.16.1p2): each case is looked for in all cells before the next case
+abbrev pub put_by : {State : Type 0} → (Pointer → Bool) → (Pointer → ℕ → List (Scalar × Guard)) → Pointer → List Scalar → State → Result State Trap
+put_by ended run to kinds state =
+    writing (ended to) (is_null_or_end to) (list_any (λ s. is_literal s.1) (run to (length kinds)))
+    (list_any (λ s. is_constant s.1) (run to (length kinds))) (have_kinds (run to (length kinds)) kinds) state
 
 -- a structure stored in another one of as many cells (6.5.16.1p2, 6.2.6.1p6): all cells are read before one is written
-abbrev pub copy_of : Memory → Pointer → Pointer → ℕ → Result Memory Trap
-copy_of memory from to count =
-    if has_ended memory from || has_ended memory to then Err (Undefined ENDED)
-    else (if is_null_or_end from || is_null_or_end to then Err (Undefined NULL_OR_END)
-    else (if list_any (λ s. is_literal s.1) (shape_run_at memory to count) then Err (Undefined LITERAL_WRITTEN)
-    else (if list_any (λ s. is_constant s.1) (shape_run_at memory to count) then Err (Undefined CONSTANT_WRITTEN)
-    else (if not (have_same_kinds (shape_run_at memory from count) (shape_run_at memory to count)) then Err (Left OTHER_TYPE)
-    else Ok (with_cells memory (number_of to) (cell_of to) (cells_at memory from count))))))
+abbrev pub copy_by : {State : Type 0} → (Pointer → Bool) → (Pointer → ℕ → List (Scalar × Guard)) → Pointer → Pointer → ℕ → State → Result State Trap
+copy_by ended run from to count state =
+    writing (ended from || ended to) (is_null_or_end from || is_null_or_end to) (list_any (λ s. is_literal s.1) (run to count))
+    (list_any (λ s. is_constant s.1) (run to count)) (have_same_kinds (run from count) (run to count)) state
 
 -- the cells of a structure (6.2.6.1p6), as many as there are kinds
+abbrev pub cells_by : (Pointer → Bool) → (Pointer → ℕ → List Cell) → (Pointer → ℕ → List (Scalar × Guard)) → Pointer → List Scalar → Result (List Cell) Trap
+cells_by ended cells run from kinds =
+    reaching (ended from) (is_null_or_end from)
+    (if not (have_kinds (run from (length kinds)) kinds) then Err (Left OTHER_TYPE)
+    else Ok (cells from (length kinds)))
+
+-- ---- the operations on the memory
+
+abbrev pub reach_of : Memory → Pointer → Result (Unit {0}) Trap
+reach_of memory = reach_by (has_ended memory)
+
+abbrev pub load_of : Memory → Pointer → Scalar → Result Cell Trap
+load_of memory = load_by (has_ended memory) (cell_at memory) (shape_at memory)
+
+abbrev pub save_of : Memory → Pointer → Scalar → Cell → Result Memory Trap
+save_of memory at kind value = save_by (has_ended memory) (shape_at memory) at kind (with_cells memory (number_of at) (cell_of at) (value ∷ []))
+
+abbrev pub put_of : Memory → Pointer → List Scalar → List Cell → Result Memory Trap
+put_of memory to kinds values = put_by (has_ended memory) (shape_run_at memory) to kinds (with_cells memory (number_of to) (cell_of to) values)
+
+abbrev pub copy_of : Memory → Pointer → Pointer → ℕ → Result Memory Trap
+copy_of memory from to count =
+    copy_by (has_ended memory) (shape_run_at memory) from to count (with_cells memory (number_of to) (cell_of to) (cells_at memory from count))
+
 abbrev pub cells_of : Memory → Pointer → List Scalar → Result (List Cell) Trap
-cells_of memory from kinds =
-    if has_ended memory from then Err (Undefined ENDED)
-    else (if is_null_or_end from then Err (Undefined NULL_OR_END)
-    else (if not (have_kinds (shape_run_at memory from (length kinds)) kinds) then Err (Left OTHER_TYPE)
-    else Ok (cells_at memory from (length kinds))))
+cells_of memory = cells_by (has_ended memory) (cells_at memory) (shape_run_at memory)
 
 -- a call that writes: it leaves the state that the operation gives, or its case and the state as it was
 abbrev pub Writes : {State : Type 0} → Result State Trap → Result (Unit {0}) Trap → State → State → Type 0

@@ -1,6 +1,5 @@
 -- How the store keeps a memory: the cells of all objects one after another, and for each object the span of its cells.
-use Rattle.std.specs.Prelude.{◌≡◌, ◌==◌, ℤ, ℕ, zero, suc, ◌+◌, ◌-◌, ◌%◌, sum_by, ◌<◌, ◌≤◌, Bool, true, false, ◌||◌, not, Option, Some, None, Result, Ok, Err, List, map, length, take, drop, slice_index_or, slice_set, if◌then◌else◌}
-use Rattle.std.specs.List.{list_any}
+use Rattle.std.specs.Prelude.{◌≡◌, ℕ, zero, suc, ◌+◌, ◌-◌, ◌%◌, sum_by, ◌<◌, ◌≤◌, Bool, true, false, not, Option, Some, None, Result, List, map, length, take, drop, slice_index_or, slice_set, if◌then◌else◌}
 use Rattle.cr_ints.specs.IntKind.{Represents}
 use Rattle.cr_memory.specs.declared.value.Pointer.{Pointer}
 use Rattle.cr_memory.specs.declared.value.Pointer.TheVariants.{Null, At}
@@ -11,13 +10,10 @@ use Rattle.cr_memory.specs.declared.value.Cell.TheVariants.{Unset, Number, Point
 use Rattle.cr_memory.specs.declared.value.Guard.{Guard}
 use Rattle.cr_memory.specs.declared.value.Guard.TheVariants.{Free}
 use Rattle.cr_memory.specs.declared.value.Trap.{Trap}
-use Rattle.cr_memory.specs.declared.value.Trap.TheVariants.{Undefined, Left}
-use Rattle.cr_memory.specs.declared.value.TheConstants.{NULL_OR_END, ENDED, UNSET, LITERAL_WRITTEN, CONSTANT_WRITTEN, OTHER_TYPE, END_COMPARED}
 use Rattle.cr_memory.specs.declared.span.Span.{Span}
-use Rattle.cr_memory.specs.Kind.{is_same}
 use Rattle.cr_memory.specs.Memory.{Object, Memory}
-use Rattle.cr_memory.specs.Pointers.{moved_by, difference_of, order_of}
-use Rattle.cr_memory.specs.Access.{is_null_or_end, is_unset, is_literal, is_constant, have_kinds, have_same_kinds, overwritten}
+use Rattle.cr_memory.specs.Pointers.{equality_by}
+use Rattle.cr_memory.specs.Access.{holds_such, overwritten, load_by, save_by, put_by, copy_by, cells_by}
 
 abbrev pub span_at : List Span → ℕ → Span
 span_at spans number = slice_index_or spans number (record { first = 0; count = 0; below = 0; alive = false })
@@ -39,9 +35,7 @@ ended_in spans Null = false
 ended_in spans (At object cell low high stride) = not (span_at spans object).alive
 
 abbrev pub held_ended_in : List Span → Cell → Bool
-held_ended_in spans Unset = false
-held_ended_in spans (Number value) = false
-held_ended_in spans (PointerCell pointer) = ended_in spans pointer
+held_ended_in spans = holds_such (ended_in spans)
 
 -- where the cell that a pointer points to stands in the flat store
 abbrev pub index_of : List Span → Pointer → ℕ
@@ -128,69 +122,36 @@ pub record IsStored (most live top : ℕ) (spans : List Span) (cells : List Cell
   pub links_down : (number : ℕ) → (span_at spans number).below ≤ number
   pub holds : (index : ℕ) → index < length cells → HoldsIn spans (shape_or shape index).0 (cell_or cells index)
 
--- ---- the operations on the flat store
+-- ---- the operations on the flat store, over its look-ups
+
+-- what stands where a pointer points to, and as many of them from there on
+abbrev pub cell_in : List Span → List Cell → Pointer → Cell
+cell_in spans cells at = cell_or cells (index_of spans at)
+
+abbrev pub own_in : List Span → List (Scalar × Guard) → Pointer → Scalar × Guard
+own_in spans shape at = shape_or shape (index_of spans at)
+
+abbrev pub run_in : {X : Type 0} → List Span → List X → Pointer → ℕ → List X
+run_in spans items at count = take count (drop (index_of spans at) items)
 
 abbrev pub flat_load : List Span → List Cell → List (Scalar × Guard) → Pointer → Scalar → Result Cell Trap
-flat_load spans cells shape at kind =
-    let cell = cell_or cells (index_of spans at) in
-    let own = shape_or shape (index_of spans at) in
-    if ended_in spans at then Err (Undefined ENDED)
-    else (if is_null_or_end at then Err (Undefined NULL_OR_END)
-    else (if held_ended_in spans cell then Err (Undefined ENDED)
-    else (if not (is_same own.0 kind) then Err (Left OTHER_TYPE)
-    else (if is_unset cell then Err (Undefined UNSET)
-    else Ok cell))))
+flat_load spans cells shape = load_by (ended_in spans) (cell_in spans cells) (own_in spans shape)
 
 abbrev pub flat_save : List Span → List Cell → List (Scalar × Guard) → Pointer → Scalar → Cell → Result (List Cell) Trap
-flat_save spans cells shape at kind value =
-    let own = shape_or shape (index_of spans at) in
-    if ended_in spans at then Err (Undefined ENDED)
-    else (if is_null_or_end at then Err (Undefined NULL_OR_END)
-    else (if is_literal own.1 then Err (Undefined LITERAL_WRITTEN)
-    else (if is_constant own.1 then Err (Undefined CONSTANT_WRITTEN)
-    else (if not (is_same own.0 kind) then Err (Left OTHER_TYPE)
-    else Ok (slice_set cells (index_of spans at) value)))))
+flat_save spans cells shape at kind value = save_by (ended_in spans) (own_in spans shape) at kind (slice_set cells (index_of spans at) value)
+
+abbrev pub flat_put : List Span → List Cell → List (Scalar × Guard) → Pointer → List Scalar → List Cell → Result (List Cell) Trap
+flat_put spans cells shape to kinds values = put_by (ended_in spans) (run_in spans shape) to kinds (overwritten cells (index_of spans to) values)
 
 abbrev pub flat_copy : List Span → List Cell → List (Scalar × Guard) → Pointer → Pointer → ℕ → Result (List Cell) Trap
 flat_copy spans cells shape from to count =
-    let own = take count (drop (index_of spans to) shape) in
-    if ended_in spans from || ended_in spans to then Err (Undefined ENDED)
-    else (if is_null_or_end from || is_null_or_end to then Err (Undefined NULL_OR_END)
-    else (if list_any (λ s. is_literal s.1) own then Err (Undefined LITERAL_WRITTEN)
-    else (if list_any (λ s. is_constant s.1) own then Err (Undefined CONSTANT_WRITTEN)
-    else (if not (have_same_kinds (take count (drop (index_of spans from) shape)) own) then Err (Left OTHER_TYPE)
-    else Ok (overwritten cells (index_of spans to) (take count (drop (index_of spans from) cells)))))))
+    copy_by (ended_in spans) (run_in spans shape) from to count (overwritten cells (index_of spans to) (run_in spans cells from count))
 
 abbrev pub flat_cells : List Span → List Cell → List (Scalar × Guard) → Pointer → List Scalar → Result (List Cell) Trap
-flat_cells spans cells shape from kinds =
-    if ended_in spans from then Err (Undefined ENDED)
-    else (if is_null_or_end from then Err (Undefined NULL_OR_END)
-    else (if not (have_kinds (take (length kinds) (drop (index_of spans from) shape)) kinds) then Err (Left OTHER_TYPE)
-    else Ok (take (length kinds) (drop (index_of spans from) cells))))
-
-abbrev pub flat_shift : List Span → Pointer → ℤ → Result Pointer Trap
-flat_shift spans at by = if ended_in spans at then Err (Undefined ENDED) else moved_by at by
-
-abbrev pub flat_differ : List Span → Pointer → Pointer → Result ℤ Trap
-flat_differ spans left right =
-    if ended_in spans left || ended_in spans right then Err (Undefined ENDED) else difference_of left right
-
-abbrev pub flat_less : List Span → Pointer → Pointer → Result Bool Trap
-flat_less spans left right =
-    if ended_in spans left || ended_in spans right then Err (Undefined ENDED) else order_of left right
+flat_cells spans cells shape = cells_by (ended_in spans) (run_in spans cells) (run_in spans shape)
 
 abbrev pub flat_equality : List Span → Pointer → Pointer → Result Bool Trap
-flat_equality spans Null Null = Ok true
-flat_equality spans Null (At object cell low high stride) = Ok false
-flat_equality spans (At object cell low high stride) Null = Ok false
-flat_equality spans (At object cell low high stride) (At object' cell' low' high' stride') =
-    if object == object' then Ok (cell == cell')
-    else (if ((span_at spans object).count == cell) || ((span_at spans object').count == cell') then Err (Left END_COMPARED)
-    else Ok false)
-
-abbrev pub flat_same : List Span → Pointer → Pointer → Result Bool Trap
-flat_same spans left right =
-    if ended_in spans left || ended_in spans right then Err (Undefined ENDED) else flat_equality spans left right
+flat_equality spans = equality_by (λ object. (span_at spans object).count)
 
 -- an object that lives was moved down to a place; one that has ended was not
 pub record MovesDown (spans : List Span) (cells : List Cell) (shape : List (Scalar × Guard)) (number to : ℕ)

@@ -16,8 +16,11 @@ moved_by (At object cell low high stride) by =
     then Ok (At object (unsigned_abs moved) low high stride)
     else Err (Undefined SUM_OUTSIDE)
 
+abbrev pub shift_by : (Pointer → Bool) → Pointer → ℤ → Result Pointer Trap
+shift_by ended at by = if ended at then Err (Undefined ENDED) else moved_by at by
+
 abbrev pub shift_of : Memory → Pointer → ℤ → Result Pointer Trap
-shift_of memory at by = if has_ended memory at then Err (Undefined ENDED) else moved_by at by
+shift_of memory = shift_by (has_ended memory)
 
 -- the difference of the subscripts in one array (6.5.6p9)
 abbrev pub difference_of : Pointer → Pointer → Result ℤ Trap
@@ -29,9 +32,12 @@ difference_of (At object cell low high stride) (At object' cell' low' high' stri
     then Ok (pos ((cell - low) / stride) -ℤ pos ((cell' - low') / stride'))
     else Err (Undefined DIFFERENT_ARRAYS)
 
+-- two operands, each of a live object, before what their operation gives
+abbrev pub with_both : {A : Type 0} → (Pointer → Bool) → Pointer → Pointer → Result A Trap → Result A Trap
+with_both ended left right rest = if ended left || ended right then Err (Undefined ENDED) else rest
+
 abbrev pub differ_of : Memory → Pointer → Pointer → Result ℤ Trap
-differ_of memory left right =
-    if has_ended memory left || has_ended memory right then Err (Undefined ENDED) else difference_of left right
+differ_of memory left right = with_both (has_ended memory) left right (difference_of left right)
 
 -- the order of places in one object (6.5.8p5)
 abbrev pub order_of : Pointer → Pointer → Result Bool Trap
@@ -42,23 +48,19 @@ order_of (At object cell low high stride) (At object' cell' low' high' stride') 
     if object == object' then Ok (nat_lt cell cell') else Err (Undefined DIFFERENT_OBJECTS)
 
 abbrev pub less_of : Memory → Pointer → Pointer → Result Bool Trap
-less_of memory left right =
-    if has_ended memory left || has_ended memory right then Err (Undefined ENDED) else order_of left right
+less_of memory left right = with_both (has_ended memory) left right (order_of left right)
 
--- the cell is the last end of that live object
-abbrev pub is_last_end : Memory → ℕ → ℕ → Bool
-is_last_end memory object cell = count_of (live_object memory object) == cell
-
--- both null, or the same place of one object; the end of one object and a place of another may be one (6.5.9p6)
-abbrev pub equality_of : Memory → Pointer → Pointer → Result Bool Trap
-equality_of memory Null Null = Ok true
-equality_of memory Null (At object cell low high stride) = Ok false
-equality_of memory (At object cell low high stride) Null = Ok false
-equality_of memory (At object cell low high stride) (At object' cell' low' high' stride') =
+-- both null, or the same place of one object; the end of one object and a place of another may be one (6.5.9p6). The
+-- look-up tells how many cells a live object has.
+abbrev pub equality_by : (ℕ → ℕ) → Pointer → Pointer → Result Bool Trap
+equality_by count Null Null = Ok true
+equality_by count Null (At object cell low high stride) = Ok false
+equality_by count (At object cell low high stride) Null = Ok false
+equality_by count (At object cell low high stride) (At object' cell' low' high' stride') =
     if object == object' then Ok (cell == cell')
-    else (if is_last_end memory object cell || is_last_end memory object' cell' then Err (Left END_COMPARED)
+    else (if (count object == cell) || (count object' == cell') then Err (Left END_COMPARED)
     else Ok false)
 
 abbrev pub same_of : Memory → Pointer → Pointer → Result Bool Trap
 same_of memory left right =
-    if has_ended memory left || has_ended memory right then Err (Undefined ENDED) else equality_of memory left right
+    with_both (has_ended memory) left right (equality_by (λ object. count_of (live_object memory object)) left right)

@@ -1,6 +1,6 @@
 ghost use Rattle.std.specs.Prelude.{◌≡◌, ◌<◌, ◌==◌, length};
-ghost use Rattle.cr_memory.specs.Pointers.{moved_by, difference_of, order_of};
-ghost use Rattle.cr_memory.specs.Flat.{span_at, PointerIn, HasSubscript, flat_shift, flat_differ, flat_less, flat_equality, flat_same};
+ghost use Rattle.cr_memory.specs.Pointers.{moved_by, difference_of, order_of, shift_by, with_both};
+ghost use Rattle.cr_memory.specs.Flat.{span_at, ended_in, PointerIn, HasSubscript, flat_equality};
 
 use crate::flat::has_ended;
 use crate::span::Span;
@@ -123,7 +123,7 @@ fn is_last_end(spans: &Vec<Span>, object: u32, cell: u32) -> bool
 /// A pointer moved by a number of elements.
 pub(crate) fn shift(spans: &Vec<Span>, at: Pointer, by: i128) -> Result<Pointer, Trap>
     requires { PointerIn spans.now.items at }
-    ensures { result ≡ flat_shift spans.now.items at by }
+    ensures { result ≡ shift_by (ended_in spans.now.items) at by }
 {
     if has_ended(spans, at) {
         Err(Trap::Undefined(ENDED))
@@ -136,7 +136,7 @@ pub(crate) fn shift(spans: &Vec<Span>, at: Pointer, by: i128) -> Result<Pointer,
 pub(crate) fn differ(spans: &Vec<Span>, left: Pointer, right: Pointer) -> Result<i128, Trap>
     requires left { PointerIn spans.now.items left }
     requires right { PointerIn spans.now.items right }
-    ensures { result ≡ flat_differ spans.now.items left right }
+    ensures { result ≡ with_both (ended_in spans.now.items) left right (difference_of left right) }
 {
     if has_ended(spans, left) || has_ended(spans, right) {
         Err(Trap::Undefined(ENDED))
@@ -149,7 +149,7 @@ pub(crate) fn differ(spans: &Vec<Span>, left: Pointer, right: Pointer) -> Result
 pub(crate) fn less(spans: &Vec<Span>, left: Pointer, right: Pointer) -> Result<bool, Trap>
     requires left { PointerIn spans.now.items left }
     requires right { PointerIn spans.now.items right }
-    ensures { result ≡ flat_less spans.now.items left right }
+    ensures { result ≡ with_both (ended_in spans.now.items) left right (order_of left right) }
 {
     if has_ended(spans, left) || has_ended(spans, right) {
         Err(Trap::Undefined(ENDED))
@@ -162,7 +162,7 @@ pub(crate) fn less(spans: &Vec<Span>, left: Pointer, right: Pointer) -> Result<b
 pub(crate) fn same(spans: &Vec<Span>, left: Pointer, right: Pointer) -> Result<bool, Trap>
     requires left { PointerIn spans.now.items left }
     requires right { PointerIn spans.now.items right }
-    ensures { result ≡ flat_same spans.now.items left right }
+    ensures { result ≡ with_both (ended_in spans.now.items) left right (flat_equality spans.now.items left right) }
 {
     if has_ended(spans, left) || has_ended(spans, right) {
         Err(Trap::Undefined(ENDED))

@@ -1,8 +1,8 @@
 ghost use Rattle.std.specs.Prelude.{◌≡◌, ◌<◌, ◌≤◌, ◌↔◌, ℕ, ◌+◌, length, true, false, map, take, drop, slice_set, IsTrue, IsNone, IfNone, IfSome, IfOk, OnErr};
 ghost use Rattle.std.specs.List.{list_any};
 ghost use Rattle.cr_memory.specs.Kind.{is_same};
-ghost use Rattle.cr_memory.specs.Access.{is_null_or_end, is_literal, is_constant, have_kinds, have_same_kinds, overwritten, Writes, Reads, HasStride};
-ghost use Rattle.cr_memory.specs.Flat.{span_at, ended_in, held_ended_in, index_of, PlaceIn, PointerIn, HoldsIn, CellIn, HasRoom, cell_or, shape_or, flat_load, flat_save, flat_copy, flat_cells};
+ghost use Rattle.cr_memory.specs.Access.{is_null_or_end, is_literal, is_constant, have_kinds, have_same_kinds, overwritten, reach_by, Writes, Reads, HasStride};
+ghost use Rattle.cr_memory.specs.Flat.{span_at, ended_in, held_ended_in, index_of, PlaceIn, PointerIn, HoldsIn, CellIn, HasRoom, cell_or, shape_or, flat_load, flat_save, flat_put, flat_copy, flat_cells};
 
 use crate::span::Span;
 use crate::value::{
@@ -66,6 +66,20 @@ fn first_index(spans: &Vec<Span>, cells: &Vec<Cell>, at: Pointer, count: usize) 
     ensures place { IfSome result (λ i. (i ≡ index_of spans.now.items at) × (i + count ≤ length cells.now.items)) }
 {
     index(spans, cells, at)
+}
+
+/// Whether a pointer points to a cell of a live object.
+pub(crate) fn reach(spans: &Vec<Span>, at: Pointer) -> Result<(), Trap>
+    requires { PointerIn spans.now.items at }
+    ensures { result ≡ reach_by (ended_in spans.now.items) at }
+{
+    if has_ended(spans, at) {
+        return Err(Trap::Undefined(ENDED));
+    }
+    match at {
+        Pointer::At { cell, high, .. } if cell < high => Ok(()),
+        _ => Err(Trap::Undefined(NULL_OR_END)),
+    }
 }
 
 /// The cell at a pointer's place as a value of a kind.
@@ -157,6 +171,52 @@ fn have_kinds(shape: &[(Scalar, Guard)], kinds: &[Scalar]) -> bool
         .iter()
         .zip(kinds)
         .all(|(own, kind)| is_same(own.0, *kind))
+}
+
+/// Writes values over the cells from a place on.
+fn write_over(cells: &mut Vec<Cell>, target: usize, values: &[Cell])
+    requires { target + length values.now ≤ length cells.old.items }
+    ensures { cells.new.items ≡ overwritten cells.old.items target values.now }
+{
+    for i in 0..values.len() {
+        cells[target + i] = values[i];
+    }
+}
+
+/// Writes values of the kinds to the cells of a structure.
+pub(crate) fn put(
+    spans: &Vec<Span>,
+    cells: &mut Vec<Cell>,
+    shape: &Vec<(Scalar, Guard)>,
+    to: Pointer,
+    kinds: &[Scalar],
+    values: &[Cell],
+) -> Result<(), Trap>
+    requires to { PointerIn spans.now.items to }
+    requires stride { HasStride to (length kinds.now) }
+    requires same_number { length values.now ≡ length kinds.now }
+    requires room { HasRoom spans.now.items (length cells.old.items) }
+    requires same_length { length shape.now.items ≡ length cells.old.items }
+    ensures { Writes (flat_put spans.now.items cells.old.items shape.now.items to kinds.now values.now) result cells.old.items cells.new.items }
+{
+    if has_ended(spans, to) {
+        return Err(Trap::Undefined(ENDED));
+    }
+    let Some(target) = first_index(spans, cells, to, kinds.len()) else {
+        return Err(Trap::Undefined(NULL_OR_END));
+    };
+    let own = &shape[target..target + kinds.len()];
+    if has_literal(own) {
+        return Err(Trap::Undefined(LITERAL_WRITTEN));
+    }
+    if has_constant(own) {
+        return Err(Trap::Undefined(CONSTANT_WRITTEN));
+    }
+    if !have_kinds(own, kinds) {
+        return Err(Trap::Left(OTHER_TYPE));
+    }
+    write_over(cells, target, values);
+    Ok(())
 }
 
 /// Copies items to a place before theirs.

@@ -6,6 +6,7 @@
 
 mod arithmetic;
 mod flat;
+pub mod laws;
 mod lifetime;
 mod span;
 mod store;

@@ -1,7 +1,9 @@
 ghost use Rattle.std.specs.Prelude.{◌≡◌, ◌<◌, ◌≤◌, ◌↔◌, [], ◌∷◌, false, length, is_some, IsSome, IsTrue, IfSome, IfNone, ◌⊎◌, IfOk, IfErr, OnErr};
 ghost use Rattle.cr_memory.specs.Memory.{IsPointer, Holds, AllHold, KeepsPointers, live_object, count_of, has_room, new_object, with_object, without_object};
-ghost use Rattle.cr_memory.specs.Access.{load_of, save_of, copy_of, cells_of, shape_in, with_cells, Writes, Reads, HasStride};
+ghost use Rattle.cr_memory.specs.Access.{reach_of, load_of, save_of, put_of, copy_of, cells_of, shape_in, with_cells, Writes, Reads, HasStride};
 ghost use Rattle.cr_memory.specs.Pointers.{shift_of, differ_of, less_of, same_of};
+ghost use Rattle.cr_memory.specs.Continues.{Continues, ContinuesBeside};
+ghost use Rattle.cr_memory.specs.Laws.{HoldsKinds};
 
 use crate::span::Span;
 use crate::value::{Cell, Guard, NO_ROOM, Pointer, Scalar, Trap};
@@ -65,6 +67,15 @@ impl Store {
         flat::cells(alloc, &self.spans, &self.cells, &self.shape, from, kinds)
     }
 
+    /// Whether the pointer points to a cell of a live object: what `.`, `->` and the change of an array into a pointer ask
+    /// of it (C11 6.5.2.3, 6.3.2.1p3): U9, U10.
+    pub fn reach(&self, at: Pointer) -> Result<(), Trap>
+        requires { IsPointer self.now at }
+        ensures { result ≡ reach_of self.now at }
+    {
+        flat::reach(&self.spans, at)
+    }
+
     /// The pointer moved by so many elements (6.5.6p8): U6, U10.
     pub fn shift(&self, at: Pointer, by: i128) -> Result<Pointer, Trap>
         requires { IsPointer self.now at }
@@ -107,6 +118,7 @@ impl Store {
         requires value { Holds self.old kind value }
         ensures written { Writes (save_of self.old at kind value) result self.old self.new }
         ensures kept { KeepsPointers self.old self.new }
+        ensures continues { Continues self.old self.new }
     {
         flat::save(&self.spans, &mut self.cells, &self.shape, at, kind, value)
     }
@@ -119,8 +131,22 @@ impl Store {
         requires to_stride { HasStride to count }
         ensures written { Writes (copy_of self.old from to count) result self.old self.new }
         ensures kept { KeepsPointers self.old self.new }
+        ensures continues { Continues self.old self.new }
     {
         flat::copy(&self.spans, &mut self.cells, &self.shape, from, to, count)
+    }
+
+    /// Stores values in a structure's cells, one for each kind (6.5.16.1p2): U9, U10, U13, U14, N5. A case is looked for in
+    /// all cells before the next case.
+    pub fn put(&mut self, to: Pointer, kinds: &[Scalar], values: &[Cell]) -> Result<(), Trap>
+        requires pointer { IsPointer self.old to }
+        requires stride { HasStride to (length kinds.now) }
+        requires values { AllHold self.old kinds.now values.now }
+        ensures written { Writes (put_of self.old to kinds.now values.now) result self.old self.new }
+        ensures kept { KeepsPointers self.old self.new }
+        ensures continues { Continues self.old self.new }
+    {
+        flat::put(&self.spans, &mut self.cells, &self.shape, to, kinds, values)
     }
 
     /// Initialises a cell of a live object, whatever its guard (6.7.9).
@@ -129,6 +155,7 @@ impl Store {
         requires value { Holds self.old (shape_in self.old object cell).0 value }
         ensures begun { self.new ≡ with_cells self.old object cell (value ∷ []) }
         ensures kept { KeepsPointers self.old self.new }
+        ensures continues { Continues self.old self.new }
     {
         flat::begin(&self.spans, &mut self.cells, object, cell, value)
     }
@@ -143,6 +170,7 @@ impl Store {
         ensures refused { OnErr result (self.new ≡ self.old) }
 
         ensures kept { KeepsPointers self.old self.new }
+        ensures continues { Continues self.old self.new }
     {
         let count = shape.len();
         if !lifetime::has_room(&self.spans, self.most, self.live, count) {
@@ -170,6 +198,7 @@ impl Store {
         requires { IsSome (live_object self.old object) }
         ensures ended { self.new ≡ without_object self.old object }
         ensures kept { KeepsPointers self.old self.new }
+        ensures others { ContinuesBeside object self.old self.new }
     {
         self.live -= lifetime::end_object(&mut self.spans, object);
         self.top = lifetime::top_below(&self.spans, self.top);
@@ -206,6 +235,15 @@ impl Store {
         ensures none { IfNone result (count_of (live_object self.now object) ≤ cell) }
     {
         flat::kind_of(&self.spans, &self.shape, object, cell)
+    }
+
+    /// Each live object has a cell for each kind and guard, and each cell holds a value of its kind. The program doesn't
+    /// call this law.
+    pub fn cells_hold_their_kinds(&self)
+        ensures { HoldsKinds self.now }
+    {
+        // The proof sees what every store keeps only where a field is read.
+        let _read = self.most;
     }
 
     // Bounds the idle cells by the live ones and one for each object, at a cost that the calls of `leave` before have paid.

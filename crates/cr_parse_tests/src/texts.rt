@@ -1,6 +1,40 @@
+use cr_exprs::ParseFault;
 use cr_syntax::{Kind, Node};
 use cr_tokens::Tokens;
 use std::alloc::{AllocError, Global};
+use std::process::Abort;
+
+/// The rows of a table: its lines but the headings, which have no cells.
+pub(crate) fn rows(alloc: Global, table: &'static str) -> Result<Vec<&'static str>, AllocError> {
+    let mut rows = Vec::new(alloc);
+    for line in table.lines() {
+        if line.contains('¦') {
+            rows.push(line)?;
+        }
+    }
+    Ok(rows)
+}
+
+/// The first cell of a row, and the others.
+pub(crate) fn pair(row: &str) -> (&str, &str) {
+    match row.split_once('¦') {
+        Some(cells) => cells,
+        None => (row, "no second cell"),
+    }
+}
+
+/// The one assertion of tables.
+pub(crate) fn expect(rt: &impl Abort, found: &str, wanted: &str, row: &str) {
+    assert!(rt; found == wanted, "{row}: {found}");
+}
+
+/// A fault in words.
+pub(crate) fn fault_text(alloc: Global, fault: Option<ParseFault>) -> Result<String, AllocError> {
+    match fault {
+        Some(fault) => format!(in alloc; "{fault:?}"),
+        None => String::from_str(alloc, "none"),
+    }
+}
 
 /// A text with something repeated before and behind its middle.
 pub(crate) fn nested(

@@ -1,8 +1,8 @@
 use crate::are_spans;
-use crate::texts::{Names, nested, shown};
+use crate::texts::{Names, expect, fault_text, nested, pair, rows, shown};
 use cr_decls::parse;
 use cr_exprs::ParseFault;
-use cr_exprs::ParseFault::{Ended, NoMemory, OutsideSubset, TooDeep, Unexpected};
+use cr_exprs::ParseFault::NoMemory;
 use cr_syntax::{Unit, spells_unit};
 use cr_tokens::read;
 use std::alloc::{AllocError, Global};
@@ -10,307 +10,160 @@ use std::test::Fail;
 
 // Units and their trees as `shown` writes them, with names by their spelling. Worked out by hand from C11 6.7 to 6.9 and the
 // rules of docs/DEFINITIONS.md.
-const TREES: [(&str, &str); 64] = [
-    // declarations
-    ("int x;", "Declaration[Int x]"),
-    ("int;", "Declaration[Int]"),
-    ("const x;", "Declaration[Const x]"),
-    ("int x,*y;", "Declaration[Int x PointerDeclarator[y]]"),
-    ("int a;int b;", "Declaration[Int a] Declaration[Int b]"),
-    ("int x=1;", "Declaration[Int InitDeclarator[x 1]]"),
-    (
-        "int x=1,y,z=(1,2);",
-        "Declaration[Int InitDeclarator[x 1] y InitDeclarator[z Group[Comma[1 2]]]]",
-    ),
-    (
-        "int a[]={1,{2},};",
-        "Declaration[Int InitDeclarator[ArrayDeclarator[a] InitializerList[1 InitializerList[2]]]]",
-    ),
-    (
-        "int a[2]={1,b=2},c;",
-        "Declaration[Int InitDeclarator[ArrayDeclarator[a 2] InitializerList[1 Assign[b 2]]] c]",
-    ),
-    (
-        "int*(*a[3])(int);",
-        "Declaration[Int PointerDeclarator[FunctionDeclarator[GroupDeclarator[PointerDeclarator[ArrayDeclarator[a 3]]] Int]]]",
-    ),
-    (
-        "enum color{RED,GREEN=5,BLUE};",
-        "Declaration[EnumContent[Enumerator Enumerator[5] Enumerator]]",
-    ),
-    (
-        "struct pair{int a;}p={1};",
-        "Declaration[StructContent[MemberDeclaration[Int a]] InitDeclarator[p InitializerList[1]]]",
-    ),
-    // functions
-    (
-        "int f(void);",
-        "Declaration[Int FunctionDeclarator[f VoidParameters]]",
-    ),
-    (
-        "int f(void){}",
-        "FunctionDefinition[Int FunctionDeclarator[f VoidParameters] Compound]",
-    ),
-    (
-        "int f(int x){return x;}",
-        "FunctionDefinition[Int FunctionDeclarator[f Parameter[Int x]] Compound[Return[x]]]",
-    ),
-    (
-        "static inline int*f(){;}",
-        "FunctionDefinition[Specifiers[Static Inline Int] PointerDeclarator[FunctionDeclarator[f]] Compound[ExpressionStatement]]",
-    ),
-    (
-        "int(f)(int a){return;}",
-        "FunctionDefinition[Int FunctionDeclarator[GroupDeclarator[f] Parameter[Int a]] Compound[Return]]",
-    ),
-    ("int f{}", "FunctionDefinition[Int f Compound]"),
-    (
-        "int printf(const char*,...);",
-        "Declaration[Int FunctionDeclarator[printf VariadicParameters[Parameter[Specifiers[Const Char] AbstractPointer]]]]",
-    ),
-    (
-        "int main(){int printf(int,...);}",
-        "FunctionDefinition[Int FunctionDeclarator[main] Compound[Declaration[Int FunctionDeclarator[printf VariadicParameters[Int]]]]]",
-    ),
-    (
-        "int(*f(int a))(int,...){}",
-        "FunctionDefinition[Int FunctionDeclarator[GroupDeclarator[PointerDeclarator[FunctionDeclarator[f Parameter[Int a]]]] VariadicParameters[Int]] Compound]",
-    ),
-    (
-        "int f(int g(int,...)){}",
-        "FunctionDefinition[Int FunctionDeclarator[f Parameter[Int FunctionDeclarator[g VariadicParameters[Int]]]] Compound]",
-    ),
-    // typedef names and identifiers
-    (
-        "typedef int T;T x;",
-        "Declaration[Specifiers[Typedef Int] T] Declaration[T x]",
-    ),
-    (
-        "typedef int T,*P;P p;",
-        "Declaration[Specifiers[Typedef Int] T PointerDeclarator[P]] Declaration[P p]",
-    ),
-    (
-        "typedef int T;const T;",
-        "Declaration[Specifiers[Typedef Int] T] Declaration[Specifiers[Const T]]",
-    ),
-    (
-        "typedef int T;unsigned T;",
-        "Declaration[Specifiers[Typedef Int] T] Declaration[Unsigned T]",
-    ),
-    (
-        "typedef int T;int f(T);",
-        "Declaration[Specifiers[Typedef Int] T] Declaration[Int FunctionDeclarator[f T]]",
-    ),
-    (
-        "typedef int T;T f(T T){return T;}",
-        "Declaration[Specifiers[Typedef Int] T] FunctionDefinition[T FunctionDeclarator[f Parameter[T T]] Compound[Return[T]]]",
-    ),
-    (
-        "typedef int T;T f(int T);T x;",
-        "Declaration[Specifiers[Typedef Int] T] Declaration[T FunctionDeclarator[f Parameter[Int T]]] Declaration[T x]",
-    ),
-    (
-        "typedef int T;T f(int g(int T),T a);",
-        "Declaration[Specifiers[Typedef Int] T] Declaration[T FunctionDeclarator[f Parameters[Parameter[Int FunctionDeclarator[g Parameter[Int T]]] Parameter[T a]]]]",
-    ),
-    (
-        "typedef int T;T f(int T,int a[sizeof(T)]);",
-        "Declaration[Specifiers[Typedef Int] T] Declaration[T FunctionDeclarator[f Parameters[Parameter[Int T] Parameter[Int ArrayDeclarator[a SizeofExpression[Group[T]]]]]]]",
-    ),
-    (
-        "typedef int T;struct T{int T;};T x;",
-        "Declaration[Specifiers[Typedef Int] T] Declaration[StructContent[MemberDeclaration[Int T]]] Declaration[T x]",
-    ),
-    (
-        "typedef int T;struct S{T T;T*p;};",
-        "Declaration[Specifiers[Typedef Int] T] Declaration[StructContent[MemberDeclaration[T T] MemberDeclaration[T PointerDeclarator[p]]]]",
-    ),
-    (
-        "typedef int T;enum T{A};T x;",
-        "Declaration[Specifiers[Typedef Int] T] Declaration[EnumContent[Enumerator]] Declaration[T x]",
-    ),
-    (
-        "typedef int T;T T;",
-        "Declaration[Specifiers[Typedef Int] T] Declaration[T T]",
-    ),
-    (
-        "typedef int T;int x=(T)-1,T=(T)-1;",
-        "Declaration[Specifiers[Typedef Int] T] Declaration[Int InitDeclarator[x Cast[T Minus[1]]] InitDeclarator[T Subtract[Group[T] 1]]]",
-    ),
-    // the same in blocks, behind "typedef int T;void f(int a)"
-    ("{T x;T;}", "Compound[Declaration[T x] Declaration[T]]"),
-    ("{T*p;}", "Compound[Declaration[T PointerDeclarator[p]]]"),
-    (
-        "{T T;T=1;}",
-        "Compound[Declaration[T T] ExpressionStatement[Assign[T 1]]]",
-    ),
-    (
-        "{T(x);a=x;}",
-        "Compound[Declaration[T GroupDeclarator[x]] ExpressionStatement[Assign[a x]]]",
-    ),
-    (
-        "{int T;T(a);}",
-        "Compound[Declaration[Int T] ExpressionStatement[Call[a]]]",
-    ),
-    (
-        "{{int T;T*a;}T*a;}",
-        "Compound[Compound[Declaration[Int T] ExpressionStatement[Multiply[T a]]] Declaration[T PointerDeclarator[a]]]",
-    ),
-    (
-        "{int T=sizeof(T);}",
-        "Compound[Declaration[Int InitDeclarator[T SizeofExpression[Group[T]]]]]",
-    ),
-    (
-        "{enum{T};T;}",
-        "Compound[Declaration[EnumContent[Enumerator]] ExpressionStatement[T]]",
-    ),
-    (
-        "{a=sizeof(enum{T});T;}",
-        "Compound[ExpressionStatement[Assign[a SizeofType[EnumContent[Enumerator]]]] ExpressionStatement[T]]",
-    ),
-    (
-        "{if(sizeof(enum{T}))T;T x;}",
-        "Compound[If[SizeofType[EnumContent[Enumerator]] ExpressionStatement[T]] Declaration[T x]]",
-    ),
-    (
-        "{for(T x;;)x;}",
-        "Compound[For[Declaration[T x] ExpressionStatement[x]]]",
-    ),
-    (
-        "{for(int T;T;T)T;T x;}",
-        "Compound[For[Declaration[Int T] T T ExpressionStatement[T]] Declaration[T x]]",
-    ),
-    (
-        "{a=(T)a;a=sizeof(T);}",
-        "Compound[ExpressionStatement[Assign[a Cast[T a]]] ExpressionStatement[Assign[a SizeofType[T]]]]",
-    ),
-    (
-        "{int g(int T);T x;}",
-        "Compound[Declaration[Int FunctionDeclarator[g Parameter[Int T]]] Declaration[T x]]",
-    ),
-    // statements
-    ("{if(a)a;}", "Compound[If[a ExpressionStatement[a]]]"),
-    (
-        "{if(a)if(a)1;else 2;}",
-        "Compound[If[a If[a ExpressionStatement[1] ExpressionStatement[2]]]]",
-    ),
-    (
-        "{if(a){if(a)1;}else 2;}",
-        "Compound[If[a Compound[If[a ExpressionStatement[1]]] ExpressionStatement[2]]]",
-    ),
-    (
-        "{if(a)1;else if(a)2;else 3;}",
-        "Compound[If[a ExpressionStatement[1] If[a ExpressionStatement[2] ExpressionStatement[3]]]]",
-    ),
-    (
-        "{if(a)while(a)if(a)1;else 2;else 3;}",
-        "Compound[If[a While[a If[a ExpressionStatement[1] ExpressionStatement[2]]] ExpressionStatement[3]]]",
-    ),
-    (
-        "{switch(a){case 1:case 2:a;break;default:;}}",
-        "Compound[Switch[a Compound[Case[1 Case[2 ExpressionStatement[a]]] Break Default[ExpressionStatement]]]]",
-    ),
-    (
-        "{switch(a){case 1?2:3:switch(a){case 2:;}}}",
-        "Compound[Switch[a Compound[Case[Conditional[1 2 3] Switch[a Compound[Case[2 ExpressionStatement]]]]]]]",
-    ),
-    (
-        "{do a++;while(a);}",
-        "Compound[Do[ExpressionStatement[PostIncrement[a]] a]]",
-    ),
-    ("{for(;;);}", "Compound[For[ExpressionStatement]]"),
-    ("{for(;a;);}", "Compound[For[a ExpressionStatement]]"),
-    ("{for(a;;a)continue;}", "Compound[For[a a Continue]]"),
-    (
-        "{for(int i=0;i<3;i++){}}",
-        "Compound[For[Declaration[Int InitDeclarator[i 0]] Less[i 3] PostIncrement[i] Compound]]",
-    ),
-    ("{{}{}}", "Compound[Compound Compound]"),
-    ("{return a,a;}", "Compound[Return[Comma[a a]]]"),
-];
+const TREES: &str = r#"
+-- declarations
+int x;¦Declaration[Int x]
+int;¦Declaration[Int]
+const x;¦Declaration[Const x]
+int x,*y;¦Declaration[Int x PointerDeclarator[y]]
+int a;int b;¦Declaration[Int a] Declaration[Int b]
+int x=1;¦Declaration[Int InitDeclarator[x 1]]
+int x=1,y,z=(1,2);¦Declaration[Int InitDeclarator[x 1] y InitDeclarator[z Group[Comma[1 2]]]]
+int a[]={1,{2},};¦Declaration[Int InitDeclarator[ArrayDeclarator[a] InitializerList[1 InitializerList[2]]]]
+int a[2]={1,b=2},c;¦Declaration[Int InitDeclarator[ArrayDeclarator[a 2] InitializerList[1 Assign[b 2]]] c]
+int*(*a[3])(int);¦Declaration[Int PointerDeclarator[FunctionDeclarator[GroupDeclarator[PointerDeclarator[ArrayDeclarator[a 3]]] Int]]]
+enum color{RED,GREEN=5,BLUE};¦Declaration[EnumContent[Enumerator Enumerator[5] Enumerator]]
+struct pair{int a;}p={1};¦Declaration[StructContent[MemberDeclaration[Int a]] InitDeclarator[p InitializerList[1]]]
+-- functions
+int f(void);¦Declaration[Int FunctionDeclarator[f VoidParameters]]
+int f(void){}¦FunctionDefinition[Int FunctionDeclarator[f VoidParameters] Compound]
+int f(int x){return x;}¦FunctionDefinition[Int FunctionDeclarator[f Parameter[Int x]] Compound[Return[x]]]
+static inline int*f(){;}¦FunctionDefinition[Specifiers[Static Inline Int] PointerDeclarator[FunctionDeclarator[f]] Compound[ExpressionStatement]]
+int(f)(int a){return;}¦FunctionDefinition[Int FunctionDeclarator[GroupDeclarator[f] Parameter[Int a]] Compound[Return]]
+int f{}¦FunctionDefinition[Int f Compound]
+int printf(const char*,...);¦Declaration[Int FunctionDeclarator[printf VariadicParameters[Parameter[Specifiers[Const Char] AbstractPointer]]]]
+int main(){int printf(int,...);}¦FunctionDefinition[Int FunctionDeclarator[main] Compound[Declaration[Int FunctionDeclarator[printf VariadicParameters[Int]]]]]
+int(*f(int a))(int,...){}¦FunctionDefinition[Int FunctionDeclarator[GroupDeclarator[PointerDeclarator[FunctionDeclarator[f Parameter[Int a]]]] VariadicParameters[Int]] Compound]
+int f(int g(int,...)){}¦FunctionDefinition[Int FunctionDeclarator[f Parameter[Int FunctionDeclarator[g VariadicParameters[Int]]]] Compound]
+-- typedef names and identifiers
+typedef int T;T x;¦Declaration[Specifiers[Typedef Int] T] Declaration[T x]
+typedef int T,*P;P p;¦Declaration[Specifiers[Typedef Int] T PointerDeclarator[P]] Declaration[P p]
+typedef int T;const T;¦Declaration[Specifiers[Typedef Int] T] Declaration[Specifiers[Const T]]
+typedef int T;unsigned T;¦Declaration[Specifiers[Typedef Int] T] Declaration[Unsigned T]
+typedef int T;int f(T);¦Declaration[Specifiers[Typedef Int] T] Declaration[Int FunctionDeclarator[f T]]
+typedef int T;T f(T T){return T;}¦Declaration[Specifiers[Typedef Int] T] FunctionDefinition[T FunctionDeclarator[f Parameter[T T]] Compound[Return[T]]]
+typedef int T;T f(int T);T x;¦Declaration[Specifiers[Typedef Int] T] Declaration[T FunctionDeclarator[f Parameter[Int T]]] Declaration[T x]
+typedef int T;T f(int g(int T),T a);¦Declaration[Specifiers[Typedef Int] T] Declaration[T FunctionDeclarator[f Parameters[Parameter[Int FunctionDeclarator[g Parameter[Int T]]] Parameter[T a]]]]
+typedef int T;T f(int T,int a[sizeof(T)]);¦Declaration[Specifiers[Typedef Int] T] Declaration[T FunctionDeclarator[f Parameters[Parameter[Int T] Parameter[Int ArrayDeclarator[a SizeofExpression[Group[T]]]]]]]
+typedef int T;struct T{int T;};T x;¦Declaration[Specifiers[Typedef Int] T] Declaration[StructContent[MemberDeclaration[Int T]]] Declaration[T x]
+typedef int T;struct S{T T;T*p;};¦Declaration[Specifiers[Typedef Int] T] Declaration[StructContent[MemberDeclaration[T T] MemberDeclaration[T PointerDeclarator[p]]]]
+typedef int T;enum T{A};T x;¦Declaration[Specifiers[Typedef Int] T] Declaration[EnumContent[Enumerator]] Declaration[T x]
+typedef int T;T T;¦Declaration[Specifiers[Typedef Int] T] Declaration[T T]
+typedef int T;int x=(T)-1,T=(T)-1;¦Declaration[Specifiers[Typedef Int] T] Declaration[Int InitDeclarator[x Cast[T Minus[1]]] InitDeclarator[T Subtract[Group[T] 1]]]
+-- the same in blocks, behind "typedef int T;void f(int a)"
+{T x;T;}¦Compound[Declaration[T x] Declaration[T]]
+{T*p;}¦Compound[Declaration[T PointerDeclarator[p]]]
+{T T;T=1;}¦Compound[Declaration[T T] ExpressionStatement[Assign[T 1]]]
+{T(x);a=x;}¦Compound[Declaration[T GroupDeclarator[x]] ExpressionStatement[Assign[a x]]]
+{int T;T(a);}¦Compound[Declaration[Int T] ExpressionStatement[Call[a]]]
+{{int T;T*a;}T*a;}¦Compound[Compound[Declaration[Int T] ExpressionStatement[Multiply[T a]]] Declaration[T PointerDeclarator[a]]]
+{int T=sizeof(T);}¦Compound[Declaration[Int InitDeclarator[T SizeofExpression[Group[T]]]]]
+{enum{T};T;}¦Compound[Declaration[EnumContent[Enumerator]] ExpressionStatement[T]]
+{a=sizeof(enum{T});T;}¦Compound[ExpressionStatement[Assign[a SizeofType[EnumContent[Enumerator]]]] ExpressionStatement[T]]
+{if(sizeof(enum{T}))T;T x;}¦Compound[If[SizeofType[EnumContent[Enumerator]] ExpressionStatement[T]] Declaration[T x]]
+{for(T x;;)x;}¦Compound[For[Declaration[T x] ExpressionStatement[x]]]
+{for(int T;T;T)T;T x;}¦Compound[For[Declaration[Int T] T T ExpressionStatement[T]] Declaration[T x]]
+{a=(T)a;a=sizeof(T);}¦Compound[ExpressionStatement[Assign[a Cast[T a]]] ExpressionStatement[Assign[a SizeofType[T]]]]
+{int g(int T);T x;}¦Compound[Declaration[Int FunctionDeclarator[g Parameter[Int T]]] Declaration[T x]]
+-- statements
+{if(a)a;}¦Compound[If[a ExpressionStatement[a]]]
+{if(a)if(a)1;else 2;}¦Compound[If[a If[a ExpressionStatement[1] ExpressionStatement[2]]]]
+{if(a){if(a)1;}else 2;}¦Compound[If[a Compound[If[a ExpressionStatement[1]]] ExpressionStatement[2]]]
+{if(a)1;else if(a)2;else 3;}¦Compound[If[a ExpressionStatement[1] If[a ExpressionStatement[2] ExpressionStatement[3]]]]
+{if(a)while(a)if(a)1;else 2;else 3;}¦Compound[If[a While[a If[a ExpressionStatement[1] ExpressionStatement[2]]] ExpressionStatement[3]]]
+{switch(a){case 1:case 2:a;break;default:;}}¦Compound[Switch[a Compound[Case[1 Case[2 ExpressionStatement[a]]] Break Default[ExpressionStatement]]]]
+{switch(a){case 1?2:3:switch(a){case 2:;}}}¦Compound[Switch[a Compound[Case[Conditional[1 2 3] Switch[a Compound[Case[2 ExpressionStatement]]]]]]]
+{do a++;while(a);}¦Compound[Do[ExpressionStatement[PostIncrement[a]] a]]
+{for(;;);}¦Compound[For[ExpressionStatement]]
+{for(;a;);}¦Compound[For[a ExpressionStatement]]
+{for(a;;a)continue;}¦Compound[For[a a Continue]]
+{for(int i=0;i<3;i++){}}¦Compound[For[Declaration[Int InitDeclarator[i 0]] Less[i 3] PostIncrement[i] Compound]]
+{{}{}}¦Compound[Compound Compound]
+{return a,a;}¦Compound[Return[Comma[a a]]]
+"#;
 
 // Texts that are refused; those that begin with a brace stand behind "typedef int T;void f(int a)", which are ten tokens.
-const FAULTS: [(&str, ParseFault); 75] = [
-    ("", Ended),
-    ("int", Ended),
-    ("int x", Ended),
-    ("int x=", Ended),
-    ("int f(", Ended),
-    ("int f(){", Ended),
-    ("int f(){}int", Ended),
-    ("typedef int T;T", Ended),
-    (";", Unexpected(0)),
-    ("x;", Unexpected(0)),
-    ("int x;}", Unexpected(3)),
-    ("int x y;", Unexpected(2)),
-    ("int x,;", Unexpected(3)),
-    ("int x=;", Unexpected(3)),
-    ("int x={};", Unexpected(4)),
-    ("int x={1,,};", Unexpected(6)),
-    ("int x={1 2};", Unexpected(5)),
-    ("int x,y{}", Unexpected(4)),
-    ("int x=1{}", Unexpected(4)),
-    ("int f(){return}", Unexpected(6)),
-    ("int f(int a,){}", Unexpected(6)),
-    ("int f(void)int x;", Unexpected(5)),
-    ("int T;T x;", Unexpected(3)),
-    ("typedef int T;int T;T x;", Unexpected(7)),
-    ("typedef int T;enum{T};T x;", Unexpected(9)),
-    ("typedef int T;T f(T T,T b);", Unexpected(10)),
-    ("{int x}", Unexpected(13)),
-    ("{a}", Unexpected(12)),
-    ("{a:;}", Unexpected(12)),
-    ("{return T;}", Unexpected(12)),
-    ("{a*T;}", Unexpected(13)),
-    ("{T(x);a=T(x);}", Unexpected(18)),
-    ("{if a;}", Unexpected(12)),
-    ("{if(T x)a;}", Unexpected(13)),
-    ("{if(a)T x;}", Unexpected(15)),
-    ("{else;}", Unexpected(11)),
-    ("{if(a);else;else;}", Unexpected(18)),
-    ("{do;while(a)}", Unexpected(17)),
-    ("{do;a;}", Unexpected(13)),
-    ("{for(;)}", Unexpected(14)),
-    ("{for(;;;);}", Unexpected(15)),
-    ("{for(T x;;)x;x;T y;x}", Unexpected(26)),
-    ("{break}", Unexpected(12)),
-    ("{switch(a){case 1:T x;}}", Unexpected(19)),
-    ("{switch(a){case 1:}}", Unexpected(19)),
-    ("{switch(a)T x;}", Unexpected(15)),
-    ("{switch(a)}", Unexpected(15)),
-    // unused keywords
-    ("float x;", OutsideSubset(0, 1)),
-    ("int x;double", OutsideSubset(3, 1)),
-    ("int volatile x;", OutsideSubset(1, 1)),
-    ("{goto a;}", OutsideSubset(11, 1)),
-    ("{a float", OutsideSubset(12, 1)),
-    ("int x=float", OutsideSubset(3, 1)),
-    // designators, compound literals, calls of what is no identifier, bit-fields
-    ("int a[]={[0]=1};", OutsideSubset(6, 2)),
-    ("int a={1,.b=2};", OutsideSubset(6, 2)),
-    ("int a=.b;", OutsideSubset(3, 2)),
-    ("int a=(int){1};", OutsideSubset(6, 3)),
-    ("int a=f()();", OutsideSubset(6, 4)),
-    ("struct s{int a:3;};", OutsideSubset(5, 5)),
-    // labels, bodies of switches
-    ("{case 1:;}", OutsideSubset(11, 6)),
-    ("{default:;}", OutsideSubset(11, 6)),
-    ("{switch(a){{case 1:;}}}", OutsideSubset(17, 6)),
-    ("{switch(a){if(a)case 1:;}}", OutsideSubset(20, 6)),
-    ("{switch(a){case 1:{case 2:;}}}", OutsideSubset(20, 6)),
-    ("{switch(a)case 1:;}", OutsideSubset(15, 6)),
-    ("{switch(a)a;}", OutsideSubset(15, 7)),
-    ("{switch(a);}", OutsideSubset(15, 7)),
-    ("{switch(a)if(a){}}", OutsideSubset(15, 7)),
-    // functions with `...`
-    ("int f(int a,...){}", OutsideSubset(6, 8)),
-    ("int(f)(int,...){}", OutsideSubset(7, 8)),
-    ("int*f(int,...){", OutsideSubset(6, 8)),
-    ("int(*f(int,...))(int){}", OutsideSubset(7, 8)),
-    ("int f(int,...)}", Unexpected(7)),
-    ("int f(int,...)=[", OutsideSubset(8, 2)),
-    ("typedef int T;T f(int T,...){", OutsideSubset(10, 8)),
-];
+const FAULTS: &str = r#"
+¦Ended
+int¦Ended
+int x¦Ended
+int x=¦Ended
+int f(¦Ended
+int f(){¦Ended
+int f(){}int¦Ended
+typedef int T;T¦Ended
+;¦Unexpected(0)
+x;¦Unexpected(0)
+int x;}¦Unexpected(3)
+int x y;¦Unexpected(2)
+int x,;¦Unexpected(3)
+int x=;¦Unexpected(3)
+int x={};¦Unexpected(4)
+int x={1,,};¦Unexpected(6)
+int x={1 2};¦Unexpected(5)
+int x,y{}¦Unexpected(4)
+int x=1{}¦Unexpected(4)
+int f(){return}¦Unexpected(6)
+int f(int a,){}¦Unexpected(6)
+int f(void)int x;¦Unexpected(5)
+int T;T x;¦Unexpected(3)
+typedef int T;int T;T x;¦Unexpected(7)
+typedef int T;enum{T};T x;¦Unexpected(9)
+typedef int T;T f(T T,T b);¦Unexpected(10)
+{int x}¦Unexpected(13)
+{a}¦Unexpected(12)
+{a:;}¦Unexpected(12)
+{return T;}¦Unexpected(12)
+{a*T;}¦Unexpected(13)
+{T(x);a=T(x);}¦Unexpected(18)
+{if a;}¦Unexpected(12)
+{if(T x)a;}¦Unexpected(13)
+{if(a)T x;}¦Unexpected(15)
+{else;}¦Unexpected(11)
+{if(a);else;else;}¦Unexpected(18)
+{do;while(a)}¦Unexpected(17)
+{do;a;}¦Unexpected(13)
+{for(;)}¦Unexpected(14)
+{for(;;;);}¦Unexpected(15)
+{for(T x;;)x;x;T y;x}¦Unexpected(26)
+{break}¦Unexpected(12)
+{switch(a){case 1:T x;}}¦Unexpected(19)
+{switch(a){case 1:}}¦Unexpected(19)
+{switch(a)T x;}¦Unexpected(15)
+{switch(a)}¦Unexpected(15)
+-- unused keywords
+float x;¦OutsideSubset(0, 1)
+int x;double¦OutsideSubset(3, 1)
+int volatile x;¦OutsideSubset(1, 1)
+{goto a;}¦OutsideSubset(11, 1)
+{a float¦OutsideSubset(12, 1)
+int x=float¦OutsideSubset(3, 1)
+-- designators, compound literals, calls of what is no identifier, bit-fields
+int a[]={[0]=1};¦OutsideSubset(6, 2)
+int a={1,.b=2};¦OutsideSubset(6, 2)
+int a=.b;¦OutsideSubset(3, 2)
+int a=(int){1};¦OutsideSubset(6, 3)
+int a=f()();¦OutsideSubset(6, 4)
+struct s{int a:3;};¦OutsideSubset(5, 5)
+-- labels, bodies of switches
+{case 1:;}¦OutsideSubset(11, 6)
+{default:;}¦OutsideSubset(11, 6)
+{switch(a){{case 1:;}}}¦OutsideSubset(17, 6)
+{switch(a){if(a)case 1:;}}¦OutsideSubset(20, 6)
+{switch(a){case 1:{case 2:;}}}¦OutsideSubset(20, 6)
+{switch(a)case 1:;}¦OutsideSubset(15, 6)
+{switch(a)a;}¦OutsideSubset(15, 7)
+{switch(a);}¦OutsideSubset(15, 7)
+{switch(a)if(a){}}¦OutsideSubset(15, 7)
+-- functions with `...`
+int f(int a,...){}¦OutsideSubset(6, 8)
+int(f)(int,...){}¦OutsideSubset(7, 8)
+int*f(int,...){¦OutsideSubset(6, 8)
+int(*f(int,...))(int){}¦OutsideSubset(7, 8)
+int f(int,...)}¦Unexpected(7)
+int f(int,...)=[¦OutsideSubset(8, 2)
+typedef int T;T f(int T,...){¦OutsideSubset(10, 8)
+"#;
 
 // p.c: every alternative that its program needs.
 const PROGRAM: &str =
@@ -345,16 +198,14 @@ fn is_block(text: &str) -> bool {
 #[test]
 fn units_have_their_trees(rt: HostRuntime) -> Result<(), Fail> {
     let alloc = rt.alloc();
-    for (text, tree) in &TREES {
+    let trees = rows(alloc, TREES)?;
+    assert!(rt; trees.len() == 64);
+    for row in trees {
+        let (text, tree) = pair(row);
         let file = whole(alloc, text)?;
-        let unit = parsed(alloc, file.as_str())?;
-        assert_eq!(rt; (text, unit.as_ref().err()), (text, None));
-        if let Ok(unit) = unit {
-            let shown = shown_unit(alloc, file.as_str(), &unit)?;
-            let wanted = whole_tree(alloc, text, tree)?;
-            assert_eq!(rt; (text, shown.as_str()), (text, wanted.as_str()));
-            assert_eq!(rt; (text, spells(alloc, file.as_str(), &unit)?), (text, true));
-        }
+        let wanted = whole_tree(alloc, text, tree)?;
+        let found = spelled(alloc, file.as_str())?;
+        expect(&rt, found.as_str(), wanted.as_str(), row);
     }
     Ok(())
 }
@@ -362,10 +213,13 @@ fn units_have_their_trees(rt: HostRuntime) -> Result<(), Fail> {
 #[test]
 fn refusals_name_kind_and_token(rt: HostRuntime) -> Result<(), Fail> {
     let alloc = rt.alloc();
-    for (text, fault) in &FAULTS {
+    let faults = rows(alloc, FAULTS)?;
+    assert!(rt; faults.len() == 75);
+    for row in faults {
+        let (text, wanted) = pair(row);
         let file = whole(alloc, text)?;
-        let unit = parsed(alloc, file.as_str())?;
-        assert_eq!(rt; (text, unit.err()), (text, Some(*fault)));
+        let found = fault_of(alloc, file.as_str())?;
+        expect(&rt, found.as_str(), wanted, row);
     }
     Ok(())
 }
@@ -376,7 +230,7 @@ const ENDS: [usize; 7] = [24, 62, 99, 133, 187, 318, 406];
 #[test]
 fn a_program_and_its_prefixes(rt: HostRuntime) -> Result<(), Fail> {
     let alloc = rt.alloc();
-    assert_eq!(rt; PROGRAM.len(), 407);
+    assert!(rt; PROGRAM.len() == 407);
     for end in 0..408 {
         let text = PROGRAM.get(0..end).unwrap_or("");
         let is_unit = match read(alloc, text.as_bytes()) {
@@ -385,36 +239,50 @@ fn a_program_and_its_prefixes(rt: HostRuntime) -> Result<(), Fail> {
         };
         // an external declaration ends there, or one byte before
         let ends = ENDS.contains(&end) || (end > 0 && ENDS.contains(&(end - 1)));
-        assert_eq!(rt; (end, is_unit), (end, ends));
+        assert!(rt; is_unit == ends, "{end}");
     }
     Ok(())
 }
 
-// What opens a level each time, behind what stands before, how many fit, and what closes it.
-const NESTS: [(&str, &str, usize, &str, &str); 10] = [
-    ("void f()", "{", 128, "", "}"),
-    ("void f(){", "if(1)", 127, ";", ""),
-    ("void f(){", "if(1);else ", 127, ";", ""),
-    ("void f(){", "while(1)", 127, ";", ""),
-    ("void f(){", "for(;;)", 127, ";", ""),
-    ("void f(){", "do ", 127, ";", "while(1);"),
-    ("void f(){switch(1){", "case 1:", 125, ";", ""),
-    ("void f(){switch(1){", "default:", 125, ";", ""),
-    ("int a=", "{", 128, "1", "}"),
-    ("int ", "*", 128, "a", ""),
-];
+// How many levels fit, what stands before them, what opens one each time, what stands in them, and what closes one.
+const NESTS: &str = r#"
+128¦void f()¦{¦¦}
+127¦void f(){¦if(1)¦;¦
+127¦void f(){¦if(1);else ¦;¦
+127¦void f(){¦while(1)¦;¦
+127¦void f(){¦for(;;)¦;¦
+127¦void f(){¦do ¦;¦while(1);
+125¦void f(){switch(1){¦case 1:¦;¦
+125¦void f(){switch(1){¦default:¦;¦
+128¦int a=¦{¦1¦}
+128¦int ¦*¦a¦
+"#;
 
 #[test]
 fn levels_are_counted_to_128(rt: HostRuntime) -> Result<(), Fail> {
     let alloc = rt.alloc();
-    for (before, open, fits, inner, close) in &NESTS {
-        let end = end_of(before);
-        let text = nested(alloc, before, open, *fits, inner, close, end)?;
-        assert_eq!(rt; (open, parsed(alloc, text.as_str())?.err()), (open, None));
-        let text = nested(alloc, before, open, *fits + 1, inner, close, end)?;
-        let fault = parsed(alloc, text.as_str())?.err();
-        let is_too_deep = matches!(fault, Some(TooDeep(_)));
-        assert_eq!(rt; (open, is_too_deep), (open, true));
+    let nests = rows(alloc, NESTS)?;
+    assert!(rt; nests.len() == 10);
+    for row in nests {
+        let (most, rest) = pair(row);
+        let (before, rest) = pair(rest);
+        let (open, rest) = pair(rest);
+        let (inner, close) = pair(rest);
+        let most = most.parse::<usize>().ok().ok_or("no number")?;
+        let text = nested(alloc, before, open, most, inner, close, end_of(before))?;
+        let found = fault_of(alloc, text.as_str())?;
+        expect(&rt, found.as_str(), "none", row);
+        let text = nested(
+            alloc,
+            before,
+            open,
+            most.saturating_add(1),
+            inner,
+            close,
+            end_of(before),
+        )?;
+        let found = fault_of(alloc, text.as_str())?;
+        assert!(rt; found.as_str().starts_with("TooDeep("), "{row}");
     }
     Ok(())
 }
@@ -428,23 +296,41 @@ fn end_of(before: &str) -> &str {
 }
 
 // Rows that may be long, and what stands before and behind.
-const CHAINS: [(&str, &str, &str); 5] = [
-    ("", "int a;", ""),
-    ("int a", ",a", ";"),
-    ("int a={1", ",1", "};"),
-    ("void f(){", "int a;", "}"),
-    ("void f(){", "{}", "}"),
-];
+const CHAINS: &str = r#"
+¦int a;¦
+int a¦,a¦;
+int a={1¦,1¦};
+void f(){¦int a;¦}
+void f(){¦{}¦}
+"#;
 
 #[test]
 fn rows_cost_no_levels(rt: HostRuntime) -> Result<(), Fail> {
     let alloc = rt.alloc();
-    for (before, link, behind) in &CHAINS {
+    let chains = rows(alloc, CHAINS)?;
+    assert!(rt; chains.len() == 5);
+    for row in chains {
+        let (before, rest) = pair(row);
+        let (link, behind) = pair(rest);
         let text = nested(alloc, before, link, 3000, "", "", behind)?;
-        let fault = parsed(alloc, text.as_str())?.err();
-        assert_eq!(rt; (link, fault), (link, None));
+        let found = fault_of(alloc, text.as_str())?;
+        expect(&rt, found.as_str(), "none", row);
     }
     Ok(())
+}
+
+// The tree of a text that spells its tokens by the checker of trees, or why there is none.
+fn spelled(alloc: Global, text: &str) -> Result<String, Fail> {
+    match parsed(alloc, text)? {
+        Ok(unit) if spells(alloc, text, &unit)? => Ok(shown_unit(alloc, text, &unit)?),
+        Ok(_) => Ok(String::from_str(alloc, "a tree that doesn't spell the tokens")?),
+        Err(fault) => Ok(fault_text(alloc, Some(fault))?),
+    }
+}
+
+// Why a text is refused, in words.
+fn fault_of(alloc: Global, text: &str) -> Result<String, Fail> {
+    Ok(fault_text(alloc, parsed(alloc, text)?.err())?)
 }
 
 // The unit of a text.

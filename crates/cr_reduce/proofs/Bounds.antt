@@ -1,5 +1,5 @@
 -- A reduction with turns enough doesn't end by its limit.
-use Rattle.std.proofs.Common.{◌≡◌, ℕ, zero, suc, ◌+◌, ◌-◌, ◌*◌, ◌<◌, ◌≤◌, Bool, true, false, List, length, Option, Some, get_or, subst, ap, refl, arith}
+use Rattle.std.proofs.Common.{◌≡◌, ℕ, zero, suc, ◌+◌, ◌-◌, ◌*◌, ◌<◌, ◌≤◌, Bool, true, false, List, length, Option, Some, get_or, subst, sym, ap, ◌∙◌, refl, arith}
 use Rattle.std.proofs.Math.Nat.{mul-le-mul_right, suc-mul}
 use Rattle.std.proofs.lemmas.Option.{slice_get-get_or, slice_get_within}
 use Rattle.std.specs.List.{slice_get}
@@ -8,12 +8,12 @@ use Rattle.cr_outside.specs.Judge.{Call}
 use Rattle.cr_reduce.specs.declared.end.End.{End}
 use Rattle.cr_reduce.specs.declared.end.Why.{Why}
 use Rattle.cr_reduce.specs.declared.end.Why.TheVariants.{Fixed, Limit, Fault, NoMemory}
-use Rattle.cr_reduce.specs.Search.{Search, AcceptsInRun, RejectsInRun, ReducesFileInRun}
+use Rattle.cr_reduce.specs.Search.{Search, AcceptsInRun, FailsInRun, RejectsInRun, ReducesFileInRun}
 use Rattle.cr_reduce.specs.Ends.{EndsBy, outcome_of}
 use Rattle.cr_cursor.specs.Variants.{Offer, Widths, cursor, cursors, place_of}
 use Rattle.cr_reduce.specs.Sizes.{HasSize, IsSmaller}
-use Rattle.cr_reduce.specs.Reduction.{Proposals, Trial, State, Outcome, Reduces, Within, cursors_of, moved, next_round, start_of, taken}
-use Rattle.cr_reduce.specs.Reduction.Reduces.{new_round, fixed, spent, short, accepts, rejects}
+use Rattle.cr_reduce.specs.Reduction.{FailedTrials, Proposals, Trial, State, Outcome, Reduces, Within, cursors_of, moved, next_round, start_of, taken}
+use Rattle.cr_reduce.specs.Reduction.Reduces.{new_round, fixed, spent, short, accepts, rejects, fails}
 use Rattle.cr_reduce.specs.Bound.{HasLevels, enough_turns, levels_below}
 use Rattle.cr_cursor.proofs.Members.{of_cursors}
 use Rattle.cr_reduce.proofs.Ranks.{is_level, rank_below, rank_of, rises}
@@ -112,23 +112,23 @@ not_limit : (out : Outcome) (st : State) → out ≡ record { file = st.file; ac
 not_limit out st is is_limit = let e = ap (λ o. o.why) is in cc
 
 -- Where a bound on the turns that are left is within the limit, the reduction from a state on doesn't end by it.
-not_by_limit : (p : Proposals) (A R : Trial) (levels : ℕ → ℕ) (size : ℕ) (limit : Option ℕ) → HasLevels p levels → ((file variant : List ℕ) → A file variant → IsSmaller variant file)
+not_by_limit : (p : Proposals) (A R : Trial) (F : FailedTrials) (levels : ℕ → ℕ) (size : ℕ) (limit : Option ℕ) → HasLevels p levels → ((file variant : List ℕ) → A file variant → IsSmaller variant file)
     → (st : State) (out : Outcome) (n low : ℕ) → p st.file st.offer → HasSize st.file n → n ≤ size → IsAhead levels size st.offer.widths st.position low
     → Within limit (st.turns + left_of st.changed (levels_below levels 10 * size) n low)
-    → Reduces p A R limit st out → out.why ≡ Limit → ⊥
-not_by_limit p A R levels size limit has smaller st out n low offered sized small ahead bound (new_round end changed rest) is_limit =
-    not_by_limit p A R levels size limit has smaller (next_round st) out n 0 offered sized small (at_start levels size st.offer.widths)
+    → Reduces p A R F limit st out → out.why ≡ Limit → ⊥
+not_by_limit p A R F levels size limit has smaller st out n low offered sized small ahead bound (new_round end changed rest) is_limit =
+    not_by_limit p A R F levels size limit has smaller (next_round st) out n 0 offered sized small (at_start levels size st.offer.widths)
     (within_less limit _ _ (omega (arith, left_rounds st.changed (levels_below levels 10 * size) n low changed)) bound) rest is_limit
-not_by_limit p A R levels size limit has smaller st out n low offered sized small ahead bound (fixed end same is) is_limit = not_limit out st is is_limit
-not_by_limit p A R levels size limit has smaller st out n low offered sized small ahead bound (spent below limit_is is) is_limit =
+not_by_limit p A R F levels size limit has smaller st out n low offered sized small ahead bound (fixed end same is) is_limit = not_limit out st is is_limit
+not_by_limit p A R F levels size limit has smaller st out n low offered sized small ahead bound (spent below limit_is is) is_limit =
     let next = next_ahead levels size st.offer.widths st.position low (narrow p levels size n st.file st.offer has offered sized small) ahead below in
     absurd (omega (arith, next.within, left_least st.changed (levels_below levels 10 * size) n low, at_most limit st.turns _ limit_is bound))
-not_by_limit p A R levels size limit has smaller st out n low offered sized small ahead bound (short to turns some below all count limit_is is) is_limit =
+not_by_limit p A R F levels size limit has smaller st out n low offered sized small ahead bound (short to turns some below all count limit_is is) is_limit =
     let fits = narrow p levels size n st.file st.offer has offered sized small in
     let here = ahead_on levels size st.offer.widths (to - st.position) st.position low to (low + (to - st.position)) (omega arith) refl fits ahead (omega arith) in
     let next = next_ahead levels size st.offer.widths to (low + (to - st.position)) fits here below in
     absurd (omega (arith, next.within, left_least st.changed (levels_below levels 10 * size) n low, at_most limit turns _ limit_is bound))
-not_by_limit p A R levels size limit has smaller st out n low offered sized small ahead bound (accepts position at m turns new first sized' count within offered' rest) is_limit =
+not_by_limit p A R F levels size limit has smaller st out n low offered sized small ahead bound (accepts position at m turns new first sized' count within offered' rest) is_limit =
     let fits = narrow p levels size n st.file st.offer has offered sized small in
     let d = position - st.position in
     let inside = slice_get_within (cursors_of st.offer) position at first.there in
@@ -138,24 +138,26 @@ not_by_limit p A R levels size limit has smaller st out n low offered sized smal
     let fits' = narrow p levels size m (st.offer.bytes at) new has offered' sized' (omega arith) in
     let later = ahead_in levels size st.offer.widths new.widths position (low + d) at fits fits' here first.there in
     let falls = left_falls st.changed (levels_below levels 10 * size) n m (low + d) less in
-    not_by_limit p A R levels size limit has smaller (taken st at m turns new) out m (low + d) offered' sized' (omega arith) later
+    not_by_limit p A R F levels size limit has smaller (taken st at m turns new) out m (low + d) offered' sized' (omega arith) later
     (within_less limit _ _ (omega (arith, first.after, left_moves st.changed (levels_below levels 10 * size) n low d here.within, falls)) bound) rest is_limit
-not_by_limit p A R levels size limit has smaller st out n low offered sized small ahead bound (rejects turns below all count within rest) is_limit =
+not_by_limit p A R F levels size limit has smaller st out n low offered sized small ahead bound (rejects turns below all count within rest) is_limit =
     let fits = narrow p levels size n st.file st.offer has offered sized small in
     let end = length (cursors_of st.offer) in
     let d = end - st.position in
     let here = ahead_on levels size st.offer.widths d st.position low end (low + d) (omega arith) refl fits ahead (omega arith) in
-    not_by_limit p A R levels size limit has smaller (moved st end turns) out n (low + d) offered sized small here
+    not_by_limit p A R F levels size limit has smaller (moved st end turns) out n (low + d) offered sized small here
     (within_less limit _ _ (omega (arith, left_moves st.changed (levels_below levels 10 * size) n low d here.within)) bound) rest is_limit
+not_by_limit p A R F levels size limit has smaller st out n low offered sized small ahead bound (fails position at turns worker after there before failed count within is) is_limit =
+    let other : Fault (turns + 1) worker ≡ Limit = sym (ap (λ o. o.why) is) ∙ is_limit in cc
 
 from_start : (k size : ℕ) → 0 + (size * (k * size + 1) + (k * size - 0)) ≤ k * size * (size + 1) + size
 from_start k size = omega arith
 
 -- With turns enough, or without a limit, a reduction ends for another reason.
-pub ends_in_time : (p : Proposals) (A R : Trial) (levels : ℕ → ℕ) (size : ℕ) (limit : Option ℕ) → HasLevels p levels → ((file variant : List ℕ) → A file variant → IsSmaller variant file)
-    → (file : List ℕ) (offer : Offer) (out : Outcome) → p file offer → HasSize file size → Within limit (enough_turns levels size) → Reduces p A R limit (start_of file offer) out → out.why ≡ Limit → ⊥
-ends_in_time p A R levels size limit has smaller file offer out offered sized enough run is_limit =
-    not_by_limit p A R levels size limit has smaller (start_of file offer) out size 0 offered sized (omega arith) (at_start levels size offer.widths)
+pub ends_in_time : (p : Proposals) (A R : Trial) (F : FailedTrials) (levels : ℕ → ℕ) (size : ℕ) (limit : Option ℕ) → HasLevels p levels → ((file variant : List ℕ) → A file variant → IsSmaller variant file)
+    → (file : List ℕ) (offer : Offer) (out : Outcome) → p file offer → HasSize file size → Within limit (enough_turns levels size) → Reduces p A R F limit (start_of file offer) out → out.why ≡ Limit → ⊥
+ends_in_time p A R F levels size limit has smaller file offer out offered sized enough run is_limit =
+    not_by_limit p A R F levels size limit has smaller (start_of file offer) out size 0 offered sized (omega arith) (at_start levels size offer.widths)
     (within_less limit _ _ (from_start (levels_below levels 10) size) enough) run is_limit
 
 -- so does the end of a chain
@@ -163,6 +165,6 @@ pub in_time : (s : Search) (now : Option (List Call)) (limit : Option ℕ) (file
     → (levels : ℕ → ℕ) (size : ℕ) → HasLevels s.Offers levels → HasSize file size → Within limit (enough_turns levels size) → why ≡ Limit → ⊥
 in_time s now limit file e Fixed run levels size has sized enough is = cc
 in_time s now limit file e Limit run levels size has sized enough is =
-    ends_in_time s.Offers (AcceptsInRun s now) (RejectsInRun s now) levels size limit has (λ f v it. it.smaller) file run.0 (outcome_of e Limit) run.1 sized enough run.2 refl
+    ends_in_time s.Offers (AcceptsInRun s now) (RejectsInRun s now) (FailsInRun s now) levels size limit has (λ f v it. it.smaller) file run.0 (outcome_of e Limit) run.1 sized enough run.2 refl
 in_time s now limit file e (Fault turn worker) run levels size has sized enough is = cc
 in_time s now limit file e NoMemory run levels size has sized enough is = cc

@@ -1,5 +1,6 @@
 -- From the walk to the end.
-use Rattle.std.proofs.Common.{◌≡◌, inl, inr, ℕ, ◌≤◌, List, [], length, Option, Some, None, refl, subst, sym, arith}
+use Rattle.std.proofs.Common.{◌≡◌, ◌≢◌, inl, inr, ℕ, ◌+◌, ◌≤◌, List, [], length, Option, Some, None, refl, subst, sym, ap, arith}
+use Rattle.std.proofs.lemmas.Bool.{cases_lt}
 use Rattle.cr_outside.specs.Judge.{Call}
 use Rattle.cr_reduce.specs.declared.end.End.{End}
 use Rattle.cr_reduce.specs.declared.end.Why.{Why}
@@ -7,16 +8,25 @@ use Rattle.cr_reduce.specs.declared.end.Why.TheVariants.{Fixed, Limit, Fault, No
 use Rattle.cr_reduce.specs.declared.walk.Walk.{Walk}
 use Rattle.cr_cursor.specs.Variants.{Offer}
 use Rattle.cr_reduce.specs.Trials.IsRejected.{not_smaller, unlawful, answered_no}
-use Rattle.cr_reduce.specs.Reduction.{State, Outcome, Within, cursors_of, start_of, ends}
-use Rattle.cr_reduce.specs.Reduction.Reduces.{fixed, spent}
-use Rattle.cr_reduce.specs.Search.{Search, AcceptsInRun, RejectsInRun, AcceptsAsTold, RejectsAsTold, ReducesInRun, ReducesAsTold, ReducesFileInRun, ReducesFileAsTold, IsAllTold}
+use Rattle.cr_reduce.specs.Reduction.{State, Outcome, Within, cursors_of, none_fails, start_of, ends}
+use Rattle.cr_reduce.specs.Reduction.Reduces.{fixed, spent, fails}
+use Rattle.cr_reduce.specs.Search.{Search, AcceptsInRun, FailsInRun, RejectsInRun, AcceptsAsTold, RejectsAsTold, ReducesInRun, ReducesFileInRun, ReducesFileAsTold, IsAllTold}
 use Rattle.cr_reduce.specs.Walk.{EndsHere, Walked, state_of}
-use Rattle.cr_reduce.specs.Ends.{end_of_walk, outcome_of, StopsAt, EndsBy, EndsInRun, EndsAsTold, IsFixedInRun, IsFixedAsTold}
-use Rattle.cr_reduce.proofs.Reductions.{stops_here, reduces-map, fixed_point}
+use Rattle.cr_reduce.specs.Ends.{end_of_walk, outcome_of, StopsAt, EndsBy, EndsToldBy, EndsInRun, EndsAsTold, IsFixedInRun, IsFixedAsTold}
+use Rattle.cr_reduce.proofs.Reductions.{IsCut, cut_short, fixed_point, none_between, reduces-map, stops_here}
 use Rattle.cr_reduce.proofs.Runs.{goes_on-refl}
+use Rattle.cr_reduce.proofs.Walks.{within_less}
 
 within_itself : (turns : ℕ) → turns ≤ turns
 within_itself turns = omega arith
+
+-- short of the limit another turn is within it
+one_left : (limit : Option ℕ) (turns : ℕ) → limit ≢ Some turns → Within limit turns → Within limit (turns + 1)
+one_left None turns more within = tt
+one_left (Some most) turns more within = elim (cases_lt turns most) [
+  | inl less ↦ omega arith
+  | inr least ↦ absurd (more (ap Some (omega arith)))
+]
 
 -- a walk from the start of a file, for which this was offered
 module _ {T : Type 0} (s : Search) (now : Option (List Call)) (make : T → List ℕ → Offer) (file : List ℕ) (first : Offer) (offered : s.Offers file first)
@@ -26,14 +36,17 @@ module _ {T : Type 0} (s : Search) (now : Option (List Call)) (make : T → List
 
   stops : (why : Why) → w.position ≤ length (cursors_of (make w.prep w.file.items)) → StopsAt (ReducesFileInRun s now file) (end_of_walk w why)
   stops why placed =
-      let here = stops_here s.Offers (AcceptsInRun s now) (RejectsInRun s now) (state_of make w) placed in
+      let here = stops_here s.Offers (AcceptsInRun s now) (RejectsInRun s now) (FailsInRun s now) (state_of make w) placed in
       (here.0, completes (Some w.turns) here.0 (within_itself w.turns) here.1)
 
-  ends_in_run : (limit : Option ℕ) (before count : ℕ) (why : Why) → EndsHere s limit before count (state_of make w) why → w.position ≤ length (cursors_of (make w.prep w.file.items)) → Within limit w.turns
+  ends_in_run : (limit : Option ℕ) (before count : ℕ) (why : Why) → EndsHere s now limit before count (state_of make w) why → w.position ≤ length (cursors_of (make w.prep w.file.items)) → Within limit w.turns
       → EndsBy (ReducesFileInRun s now file) file limit (end_of_walk w why) why
   ends_in_run limit before count Fixed ended placed within = completes limit Fixed within (fixed ended.0 ended.1 refl)
   ends_in_run limit before count Limit ended placed within = completes limit Limit within (spent ended.0 ended.1 refl)
-  ends_in_run limit before count (Fault turn worker) ended placed within = (ended.2, ended.3, within, stops (Fault turn worker) placed)
+  ends_in_run limit before count (Fault turn worker) ended placed within =
+      let here = ended.2 in
+      completes limit (Fault turn worker) within (fails w.position here.at w.turns worker (omega arith) here.there (none_between (make w.prep w.file.items) (RejectsInRun s now) w.file.items w.position) here.failed refl
+      (one_left limit w.turns ended.1 within) (ap (λ t. ends (state_of make w) (Fault t worker)) ended.0))
   ends_in_run limit before count NoMemory ended placed within = (within, inr (stops NoMemory placed))
 
 -- where the answers are told
@@ -46,28 +59,43 @@ rejects_told s now told file variant (not_smaller big) = not_smaller big
 rejects_told s now told file variant (unlawful against) = unlawful against
 rejects_told s now told file variant (answered_no answer) = answered_no (answer.told (told variant))
 
-reduces_told : (s : Search) (now : Option (List Call)) (limit : Option ℕ) (st : State) (out : Outcome) → IsAllTold s → ReducesInRun s now limit st out → ReducesAsTold s limit st out
-reduces_told s now limit st out told run = reduces-map s.Offers (AcceptsInRun s now) (AcceptsAsTold s) (RejectsInRun s now) (RejectsAsTold s) limit (accepts_told s now told) (rejects_told s now told) st out run
+file_told : (s : Search) (now : Option (List Call)) (file : List ℕ) (limit : Option ℕ) (out : Outcome) → IsAllTold s → ((turn worker : ℕ) → out.why ≡ Fault turn worker → ⊥)
+    → ReducesFileInRun s now file limit out → ReducesFileAsTold s file limit out
+file_told s now file limit out told never run = (
+  run.0,
+  run.1,
+  reduces-map s.Offers (AcceptsInRun s now) (AcceptsAsTold s) (RejectsInRun s now) (RejectsAsTold s) (FailsInRun s now) none_fails limit (accepts_told s now told) (rejects_told s now told) (start_of file run.0) out never run.2,
+)
 
-file_told : (s : Search) (now : Option (List Call)) (file : List ℕ) (limit : Option ℕ) (out : Outcome) → IsAllTold s → ReducesFileInRun s now file limit out → ReducesFileAsTold s file limit out
-file_told s now file limit out told run = (run.0, run.1, reduces_told s now limit (start_of file run.0) out told run.2)
+-- A fault isn't told: the told reduction comes to this after the turns that were made.
+fault_told : (s : Search) (now : Option (List Call)) (limit : Option ℕ) (file : List ℕ) (e : End) (turn worker : ℕ) → IsAllTold s → ReducesFileInRun s now file limit (outcome_of e (Fault turn worker))
+    → EndsToldBy (ReducesFileAsTold s file) file limit e (Fault turn worker)
+fault_told s now limit file e turn worker told run =
+    let cut : IsCut s.Offers (FailsInRun s now) (AcceptsAsTold s) (RejectsAsTold s) none_fails limit (start_of file run.0) (outcome_of e (Fault turn worker)) turn worker =
+    cut_short s.Offers (AcceptsInRun s now) (AcceptsAsTold s) (RejectsInRun s now) (RejectsAsTold s) (FailsInRun s now) none_fails limit (accepts_told s now told) (rejects_told s now told)
+    (start_of file run.0) (outcome_of e (Fault turn worker)) turn worker run.2 refl in
+    (cut.next, cut.failed.0, within_less limit e.turns (e.turns + 1) (omega arith) cut.within, (cut.why, (run.0, run.1, cut.run)))
 
-stops_told : (s : Search) (now : Option (List Call)) (file : List ℕ) (e : End) → IsAllTold s → StopsAt (ReducesFileInRun s now file) e → StopsAt (ReducesFileAsTold s file) e
-stops_told s now file e told at = (at.0, file_told s now file (Some e.turns) (outcome_of e at.0) told at.1)
+-- Want of memory leaves no fault where the reduction is cut short.
+stops_told : (s : Search) (now : Option (List Call)) (file : List ℕ) (e : End) (why : Why) → IsAllTold s → ReducesFileInRun s now file (Some e.turns) (outcome_of e why) → StopsAt (ReducesFileAsTold s file) e
+stops_told s now file e Fixed told run = (Fixed, file_told s now file (Some e.turns) (outcome_of e Fixed) told (λ turn worker is. cc) run)
+stops_told s now file e Limit told run = (Limit, file_told s now file (Some e.turns) (outcome_of e Limit) told (λ turn worker is. cc) run)
+stops_told s now file e NoMemory told run = (NoMemory, file_told s now file (Some e.turns) (outcome_of e NoMemory) told (λ turn worker is. cc) run)
+stops_told s now file e (Fault turn worker) told run = (fault_told s now (Some e.turns) file e turn worker told run).3
 
 ends_as_told : (s : Search) (now : Option (List Call)) (limit : Option ℕ) (file : List ℕ) (e : End) (why : Why) → IsAllTold s → EndsBy (ReducesFileInRun s now file) file limit e why
-    → EndsBy (ReducesFileAsTold s file) file limit e why
-ends_as_told s now limit file e Fixed told run = file_told s now file limit (outcome_of e Fixed) told run
-ends_as_told s now limit file e Limit told run = file_told s now file limit (outcome_of e Limit) told run
-ends_as_told s now limit file e (Fault turn worker) told run = (run.0, run.1, run.2, stops_told s now file e told run.3)
-ends_as_told s now limit file e NoMemory told run = (run.0, elim run.1 [ inl untouched ↦ inl untouched | inr at ↦ inr (stops_told s now file e told at) ])
+    → EndsToldBy (ReducesFileAsTold s file) file limit e why
+ends_as_told s now limit file e Fixed told run = file_told s now file limit (outcome_of e Fixed) told (λ turn worker is. cc) run
+ends_as_told s now limit file e Limit told run = file_told s now file limit (outcome_of e Limit) told (λ turn worker is. cc) run
+ends_as_told s now limit file e (Fault turn worker) told run = fault_told s now limit file e turn worker told run
+ends_as_told s now limit file e NoMemory told run = (run.0, elim run.1 [ inl untouched ↦ inl untouched | inr at ↦ inr (stops_told s now file e at.0 told at.1) ])
 
 -- the fixed point
 
 fixed_in_run : (s : Search) (now : Option (List Call)) (limit : Option ℕ) (file : List ℕ) (e : End) (why : Why) → EndsBy (ReducesFileInRun s now file) file limit e why → why ≡ Fixed
     → IsFixedInRun s now e.file.items
 fixed_in_run s now limit file e Fixed run is =
-    fixed_point s.Offers (AcceptsInRun s now) (RejectsInRun s now) limit (start_of file run.0) (outcome_of e Fixed) run.2 run.1 (λ _ i at low high there. absurd (omega arith)) refl
+    fixed_point s.Offers (AcceptsInRun s now) (RejectsInRun s now) (FailsInRun s now) limit (start_of file run.0) (outcome_of e Fixed) run.2 run.1 (λ _ i at low high there. absurd (omega arith)) refl
 fixed_in_run s now limit file e Limit run is = cc
 fixed_in_run s now limit file e (Fault turn worker) run is = cc
 fixed_in_run s now limit file e NoMemory run is = cc
@@ -78,7 +106,7 @@ fixed_as_told s now file told all = (all.0, all.1, λ i at low high there. rejec
 -- the end of a walk from the file that was given
 pub chain_of_walk : {T : Type 0} (s : Search) (now : Option (List Call)) (make : T → List ℕ → Offer) (limit : Option ℕ) (before count : ℕ) (file : List ℕ) (first : Offer) (from : State) (w : Walk T) (why : Why) (e : End)
     → s.Offers file first → from ≡ start_of file first → e ≡ end_of_walk w why
-    → Walked s now from (state_of make w) → EndsHere s limit before count (state_of make w) why → w.position ≤ length (cursors_of (make w.prep w.file.items)) → Within limit w.turns → EndsInRun s now limit file e
+    → Walked s now from (state_of make w) → EndsHere s now limit before count (state_of make w) why → w.position ≤ length (cursors_of (make w.prep w.file.items)) → Within limit w.turns → EndsInRun s now limit file e
 chain_of_walk s now make limit before count file first from w why e offered begins is walked ended placed within =
     subst (λ x. EndsInRun s now limit file x) (sym is)
     (ends_in_run s now make file first offered w (subst (λ st. Walked s now st (state_of make w)) begins walked) limit before count why ended placed within)

@@ -6,8 +6,8 @@ use Rattle.std.specs.List.{slice_get}
 use Rattle.cr_cursor.specs.declared.passes.Cursor.{Cursor}
 use Rattle.cr_cursor.specs.Variants.{Offer}
 use Rattle.cr_reduce.specs.Sizes.{HasSize}
-use Rattle.cr_reduce.specs.Reduction.{Proposals, Trial, State, Outcome, Reduces, Within, AllRejected, IsFirstAccepted, cursors_of, ends, moved, next_round, start_of, taken}
-use Rattle.cr_reduce.specs.Reduction.Reduces.{new_round, fixed, spent, short, accepts, rejects}
+use Rattle.cr_reduce.specs.Reduction.{FailedTrials, Proposals, Trial, State, Outcome, Reduces, Within, AllRejected, IsFirstAccepted, cursors_of, ends, moved, next_round, start_of, taken}
+use Rattle.cr_reduce.specs.Reduction.Reduces.{new_round, fixed, spent, short, accepts, rejects, fails}
 use Rattle.cr_reduce.specs.declared.end.Why.TheVariants.{Limit}
 use Rattle.cr_reduce.specs.Trials.{IsAccepted, IsRejected, ToldAnswer}
 use Rattle.cr_reduce.specs.Trials.IsRejected.{not_smaller, unlawful, answered_no}
@@ -52,77 +52,88 @@ one_taken p st at at' size size' turns turns' next next' one same has has' e off
     let offers : next ≡ next' = one (st.offer.bytes at') next next' (subst (λ c. p (st.offer.bytes c) next) same offered) offered' in
     sym (λ i. taken st (same i) (sizes i) (e i) (offers i))
 
-pub one_outcome : (p : Proposals) (A R : Trial) (limit : Option ℕ) (st : State) (out other : Outcome) → OffersOne p → ExcludeEachOther A R
-    → Reduces p A R limit st out → Reduces p A R limit st other → out ≡ other
-one_outcome p A R limit st out other one apart (new_round end changed rest) (new_round end' changed' rest') = one_outcome p A R limit (next_round st) out other one apart rest rest'
-one_outcome p A R limit st out other one apart (new_round end changed rest) (fixed end' same is') = absurd (true≢false (sym changed ∙ same))
-one_outcome p A R limit st out other one apart (new_round end changed rest) (spent below' limit' is') = absurd (omega arith)
-one_outcome p A R limit st out other one apart (new_round end changed rest) (short to' turns' some' below' all' count' limit' is') = absurd (omega arith)
-one_outcome p A R limit st out other one apart (new_round end changed rest) (accepts position' at' size' turns' next' first' has' count' within' offered' rest') =
+-- No trial fails.
+abbrev pub NoneFails : FailedTrials → Type 0
+NoneFails F = (worker : ℕ) (file variant : List ℕ) → F worker file variant → ⊥
+
+pub one_outcome : (p : Proposals) (A R : Trial) (F : FailedTrials) (limit : Option ℕ) (st : State) (out other : Outcome) → OffersOne p → NoneFails F → ExcludeEachOther A R
+    → Reduces p A R F limit st out → Reduces p A R F limit st other → out ≡ other
+one_outcome p A R F limit st out other one never apart (new_round end changed rest) (new_round end' changed' rest') = one_outcome p A R F limit (next_round st) out other one never apart rest rest'
+one_outcome p A R F limit st out other one never apart (new_round end changed rest) (fixed end' same is') = absurd (true≢false (sym changed ∙ same))
+one_outcome p A R F limit st out other one never apart (new_round end changed rest) (spent below' limit' is') = absurd (omega arith)
+one_outcome p A R F limit st out other one never apart (new_round end changed rest) (short to' turns' some' below' all' count' limit' is') = absurd (omega arith)
+one_outcome p A R F limit st out other one never apart (new_round end changed rest) (accepts position' at' size' turns' next' first' has' count' within' offered' rest') =
     absurd (omega (arith, first'.after, inside st.offer A R st.file st.position position' at' first'))
-one_outcome p A R limit st out other one apart (new_round end changed rest) (rejects turns' below' all' count' within' rest') = absurd (omega arith)
-one_outcome p A R limit st out other one apart (fixed end same is) (new_round end' changed' rest') = absurd (true≢false (sym changed' ∙ same))
-one_outcome p A R limit st out other one apart (fixed end same is) (fixed end' same' is') = is ∙ sym is'
-one_outcome p A R limit st out other one apart (fixed end same is) (spent below' limit' is') = absurd (omega arith)
-one_outcome p A R limit st out other one apart (fixed end same is) (short to' turns' some' below' all' count' limit' is') = absurd (omega arith)
-one_outcome p A R limit st out other one apart (fixed end same is) (accepts position' at' size' turns' next' first' has' count' within' offered' rest') =
+one_outcome p A R F limit st out other one never apart (new_round end changed rest) (rejects turns' below' all' count' within' rest') = absurd (omega arith)
+one_outcome p A R F limit st out other one never apart (fixed end same is) (new_round end' changed' rest') = absurd (true≢false (sym changed' ∙ same))
+one_outcome p A R F limit st out other one never apart (fixed end same is) (fixed end' same' is') = is ∙ sym is'
+one_outcome p A R F limit st out other one never apart (fixed end same is) (spent below' limit' is') = absurd (omega arith)
+one_outcome p A R F limit st out other one never apart (fixed end same is) (short to' turns' some' below' all' count' limit' is') = absurd (omega arith)
+one_outcome p A R F limit st out other one never apart (fixed end same is) (accepts position' at' size' turns' next' first' has' count' within' offered' rest') =
     absurd (omega (arith, first'.after, inside st.offer A R st.file st.position position' at' first'))
-one_outcome p A R limit st out other one apart (fixed end same is) (rejects turns' below' all' count' within' rest') = absurd (omega arith)
-one_outcome p A R limit st out other one apart (spent below is_limit is) (new_round end' changed' rest') = absurd (omega arith)
-one_outcome p A R limit st out other one apart (spent below is_limit is) (fixed end' same' is') = absurd (omega arith)
-one_outcome p A R limit st out other one apart (spent below is_limit is) (spent below' limit' is') = is ∙ sym is'
-one_outcome p A R limit st out other one apart (spent below is_limit is) (short to' turns' some' below' all' count' limit' is') =
+one_outcome p A R F limit st out other one never apart (fixed end same is) (rejects turns' below' all' count' within' rest') = absurd (omega arith)
+one_outcome p A R F limit st out other one never apart (spent below is_limit is) (new_round end' changed' rest') = absurd (omega arith)
+one_outcome p A R F limit st out other one never apart (spent below is_limit is) (fixed end' same' is') = absurd (omega arith)
+one_outcome p A R F limit st out other one never apart (spent below is_limit is) (spent below' limit' is') = is ∙ sym is'
+one_outcome p A R F limit st out other one never apart (spent below is_limit is) (short to' turns' some' below' all' count' limit' is') =
     absurd (omega (arith, one_limit limit st.turns turns' is_limit limit'))
-one_outcome p A R limit st out other one apart (spent below is_limit is) (accepts position' at' size' turns' next' first' has' count' within' offered' rest') =
+one_outcome p A R F limit st out other one never apart (spent below is_limit is) (accepts position' at' size' turns' next' first' has' count' within' offered' rest') =
     absurd (omega (arith, first'.after, at_most limit st.turns turns' is_limit within'))
-one_outcome p A R limit st out other one apart (spent below is_limit is) (rejects turns' below' all' count' within' rest') =
+one_outcome p A R F limit st out other one never apart (spent below is_limit is) (rejects turns' below' all' count' within' rest') =
     absurd (omega (arith, at_most limit st.turns turns' is_limit within'))
-one_outcome p A R limit st out other one apart (short to turns some below all count is_limit is) (new_round end' changed' rest') = absurd (omega arith)
-one_outcome p A R limit st out other one apart (short to turns some below all count is_limit is) (fixed end' same' is') = absurd (omega arith)
-one_outcome p A R limit st out other one apart (short to turns some below all count is_limit is) (spent below' limit' is') =
+one_outcome p A R F limit st out other one never apart (short to turns some below all count is_limit is) (new_round end' changed' rest') = absurd (omega arith)
+one_outcome p A R F limit st out other one never apart (short to turns some below all count is_limit is) (fixed end' same' is') = absurd (omega arith)
+one_outcome p A R F limit st out other one never apart (short to turns some below all count is_limit is) (spent below' limit' is') =
     absurd (omega (arith, one_limit limit turns st.turns is_limit limit'))
-one_outcome p A R limit st out other one apart (short to turns some below all count is_limit is) (short to' turns' some' below' all' count' limit' is') =
+one_outcome p A R F limit st out other one never apart (short to turns some below all count is_limit is) (short to' turns' some' below' all' count' limit' is') =
     let same_turns = one_limit limit turns turns' is_limit limit' in
     let same_to : to ≡ to' = omega (arith, same_turns) in
     is ∙ subst (λ n. ends (moved st to turns) Limit ≡ ends (moved st n turns') Limit) same_to (ap (λ n. ends (moved st to n) Limit) same_turns) ∙ sym is'
-one_outcome p A R limit st out other one apart (short to turns some below all count is_limit is) (accepts position' at' size' turns' next' first' has' count' within' offered' rest') =
+one_outcome p A R F limit st out other one never apart (short to turns some below all count is_limit is) (accepts position' at' size' turns' next' first' has' count' within' offered' rest') =
     absurd (omega (arith, at_most limit turns turns' is_limit within', not_among st.offer A R st.file st.position position' to at' apart first' all))
-one_outcome p A R limit st out other one apart (short to turns some below all count is_limit is) (rejects turns' below' all' count' within' rest') =
+one_outcome p A R F limit st out other one never apart (short to turns some below all count is_limit is) (rejects turns' below' all' count' within' rest') =
     absurd (omega (arith, at_most limit turns turns' is_limit within'))
-one_outcome p A R limit st out other one apart (accepts position at size turns next first has count within offered rest) (new_round end' changed' rest') =
+one_outcome p A R F limit st out other one never apart (accepts position at size turns next first has count within offered rest) (new_round end' changed' rest') =
     absurd (omega (arith, first.after, inside st.offer A R st.file st.position position at first))
-one_outcome p A R limit st out other one apart (accepts position at size turns next first has count within offered rest) (fixed end' same' is') =
+one_outcome p A R F limit st out other one never apart (accepts position at size turns next first has count within offered rest) (fixed end' same' is') =
     absurd (omega (arith, first.after, inside st.offer A R st.file st.position position at first))
-one_outcome p A R limit st out other one apart (accepts position at size turns next first has count within offered rest) (spent below' limit' is') =
+one_outcome p A R F limit st out other one never apart (accepts position at size turns next first has count within offered rest) (spent below' limit' is') =
     absurd (omega (arith, first.after, at_most limit st.turns turns limit' within))
-one_outcome p A R limit st out other one apart (accepts position at size turns next first has count within offered rest) (short to' turns' some' below' all' count' limit' is') =
+one_outcome p A R F limit st out other one never apart (accepts position at size turns next first has count within offered rest) (short to' turns' some' below' all' count' limit' is') =
     absurd (omega (arith, at_most limit turns' turns limit' within, not_among st.offer A R st.file st.position position to' at apart first all'))
-one_outcome p A R limit st out other one apart (accepts position at size turns next first has count within offered rest) (accepts position' at' size' turns' next' first' has' count' within' offered' rest') =
+one_outcome p A R F limit st out other one never apart (accepts position at size turns next first has count within offered rest) (accepts position' at' size' turns' next' first' has' count' within' offered' rest') =
     let same = one_position st.offer A R st.file st.position position position' at at' apart first first' in
     let cursors_same = one_cursor st.offer position position' at at' first.there first'.there same in
-    one_outcome p A R limit (taken st at size turns next) out other one apart rest
-    (subst (λ next. Reduces p A R limit next other) (one_taken p st at at' size size' turns turns' next next' one cursors_same has has' (omega (arith, same)) offered offered') rest')
-one_outcome p A R limit st out other one apart (accepts position at size turns next first has count within offered rest) (rejects turns' below' all' count' within' rest') =
+    one_outcome p A R F limit (taken st at size turns next) out other one never apart rest
+    (subst (λ next. Reduces p A R F limit next other) (one_taken p st at at' size size' turns turns' next next' one cursors_same has has' (omega (arith, same)) offered offered') rest')
+one_outcome p A R F limit st out other one never apart (accepts position at size turns next first has count within offered rest) (rejects turns' below' all' count' within' rest') =
     absurd (omega (arith, inside st.offer A R st.file st.position position at first, not_among st.offer A R st.file st.position position (length (cursors_of st.offer)) at apart first all'))
-one_outcome p A R limit st out other one apart (rejects turns below all count within rest) (new_round end' changed' rest') = absurd (omega arith)
-one_outcome p A R limit st out other one apart (rejects turns below all count within rest) (fixed end' same' is') = absurd (omega arith)
-one_outcome p A R limit st out other one apart (rejects turns below all count within rest) (spent below' limit' is') =
+one_outcome p A R F limit st out other one never apart (rejects turns below all count within rest) (new_round end' changed' rest') = absurd (omega arith)
+one_outcome p A R F limit st out other one never apart (rejects turns below all count within rest) (fixed end' same' is') = absurd (omega arith)
+one_outcome p A R F limit st out other one never apart (rejects turns below all count within rest) (spent below' limit' is') =
     absurd (omega (arith, at_most limit st.turns turns limit' within))
-one_outcome p A R limit st out other one apart (rejects turns below all count within rest) (short to' turns' some' below' all' count' limit' is') =
+one_outcome p A R F limit st out other one never apart (rejects turns below all count within rest) (short to' turns' some' below' all' count' limit' is') =
     absurd (omega (arith, at_most limit turns' turns limit' within))
-one_outcome p A R limit st out other one apart (rejects turns below all count within rest) (accepts position' at' size' turns' next' first' has' count' within' offered' rest') =
+one_outcome p A R F limit st out other one never apart (rejects turns below all count within rest) (accepts position' at' size' turns' next' first' has' count' within' offered' rest') =
     absurd (omega (arith, inside st.offer A R st.file st.position position' at' first', not_among st.offer A R st.file st.position position' (length (cursors_of st.offer)) at' apart first' all))
-one_outcome p A R limit st out other one apart (rejects turns below all count within rest) (rejects turns' below' all' count' within' rest') =
+one_outcome p A R F limit st out other one never apart (rejects turns below all count within rest) (rejects turns' below' all' count' within' rest') =
     let same : turns' ≡ turns = omega arith in
-    one_outcome p A R limit (moved st (length (cursors_of st.offer)) turns) out other one apart rest
-    (subst (λ n. Reduces p A R limit (moved st (length (cursors_of st.offer)) n) other) same rest')
+    one_outcome p A R F limit (moved st (length (cursors_of st.offer)) turns) out other one never apart rest
+    (subst (λ n. Reduces p A R F limit (moved st (length (cursors_of st.offer)) n) other) same rest')
+one_outcome p A R F limit st out other one never apart (new_round end changed rest) (fails position' at' turns' worker' low' there' before' failed' count' within' is') = absurd (never worker' st.file (st.offer.bytes at') failed')
+one_outcome p A R F limit st out other one never apart (fixed end same is) (fails position' at' turns' worker' low' there' before' failed' count' within' is') = absurd (never worker' st.file (st.offer.bytes at') failed')
+one_outcome p A R F limit st out other one never apart (spent below is_limit is) (fails position' at' turns' worker' low' there' before' failed' count' within' is') = absurd (never worker' st.file (st.offer.bytes at') failed')
+one_outcome p A R F limit st out other one never apart (short to turns some below all count is_limit is) (fails position' at' turns' worker' low' there' before' failed' count' within' is') = absurd (never worker' st.file (st.offer.bytes at') failed')
+one_outcome p A R F limit st out other one never apart (accepts position at size turns next first has count within offered rest) (fails position' at' turns' worker' low' there' before' failed' count' within' is') = absurd (never worker' st.file (st.offer.bytes at') failed')
+one_outcome p A R F limit st out other one never apart (rejects turns below all count within rest) (fails position' at' turns' worker' low' there' before' failed' count' within' is') = absurd (never worker' st.file (st.offer.bytes at') failed')
+one_outcome p A R F limit st out other one never apart (fails position at turns worker low there before failed count within is) run = absurd (never worker st.file (st.offer.bytes at) failed)
 
 -- so has the reduction of a file
-pub one_reduction : (p : Proposals) (A R : Trial) (limit : Option ℕ) (file : List ℕ) (out other : Outcome) → OffersOne p → ExcludeEachOther A R
-    → (offer : Offer) × p file offer × Reduces p A R limit (start_of file offer) out → (offer : Offer) × p file offer × Reduces p A R limit (start_of file offer) other → out ≡ other
-one_reduction p A R limit file out other one apart first second =
-    one_outcome p A R limit (start_of file first.0) out other one apart first.2
-    (subst (λ o. Reduces p A R limit (start_of file o) other) (one file second.0 first.0 second.1 first.1) second.2)
+pub one_reduction : (p : Proposals) (A R : Trial) (F : FailedTrials) (limit : Option ℕ) (file : List ℕ) (out other : Outcome) → OffersOne p → NoneFails F → ExcludeEachOther A R
+    → (offer : Offer) × p file offer × Reduces p A R F limit (start_of file offer) out → (offer : Offer) × p file offer × Reduces p A R F limit (start_of file offer) other → out ≡ other
+one_reduction p A R F limit file out other one never apart first second =
+    one_outcome p A R F limit (start_of file first.0) out other one never apart first.2
+    (subst (λ o. Reduces p A R F limit (start_of file o) other) (one file second.0 first.0 second.1 first.1) second.2)
 
 -- Where about each file one answer at most is told, no variant is both accepted and rejected.
 pub told_apart : (Lawful : List ℕ → Type 0) (Tells : List ℕ → Bool → Type 0) → ((file : List ℕ) → Tells file true → Tells file false → ⊥)

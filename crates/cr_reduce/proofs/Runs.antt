@@ -1,5 +1,5 @@
 -- Calls in a run: lists of calls that go on, and answers that stay given.
-use Rattle.std.proofs.Common.{◌≡◌, ◌≢◌, ℕ, Bool, true, List, [], ◌∷◌, ◌++◌, Option, Some, None, subst, sym, ap, ◌∙◌, refl, append_assoc}
+use Rattle.std.proofs.Common.{◌≡◌, ◌≢◌, ℕ, Bool, true, false, List, [], ◌∷◌, ◌++◌, Option, Some, None, subst, sym, ap, ◌∙◌, refl, append_assoc}
 use Rattle.std.proofs.lemmas.List.{append-nil}
 use Rattle.cr_outside.specs.declared.judge.Answer.{Answer}
 use Rattle.cr_outside.specs.declared.judge.Answer.TheVariants.{Yes, No, Failed, NoMemory}
@@ -45,6 +45,10 @@ called_once old new name file NoMemory given once = absurd (given refl)
 pub answered_once : (asks : Bool) (Tells : List ℕ → Bool → Type 0) (name : List ℕ) (old new : Option (List Call)) (file : List ℕ) (answer : Answer) → answer ≢ NoMemory
     → (asks ≡ true → AsksOnce old new name file answer) → AnswersAsTold asks (Tells file) answer → AnswerInRun asks Tells name old new file answer
 answered_once asks Tells name old new file answer given once told = record { asked = λ uses. called_once old new name file answer given (once uses); told = told }
+
+pub is_so : (b : Bool) → (b ≡ false → ⊥) → b ≡ true
+is_so true never = refl
+is_so false never = absurd (never refl)
 
 -- one call more goes on
 pub with_call-goes_on : (old : Option (List Call)) (call : Call) → GoesOn old (with_call call old)

@@ -1,7 +1,8 @@
 -- The numbers of a walk, and what its steps complete.
-use Rattle.std.proofs.Common.{◌≡◌, ◌⊎◌, inl, inr, ℕ, ◌+◌, ◌*◌, ◌<◌, ◌≤◌, Bool, true, false, List, length, Option, Some, None, subst, sym, refl, arith}
+use Rattle.std.proofs.Common.{◌≡◌, ◌≢◌, ◌⊎◌, inl, inr, ℕ, ◌+◌, ◌*◌, ◌<◌, ◌≤◌, Bool, true, false, List, length, Option, Some, None, subst, sym, refl, arith}
 use Rattle.std.specs.List.{slice_get}
-use Rattle.cr_outside.specs.declared.judge.Answer.TheVariants.{Yes, No}
+use Rattle.cr_outside.specs.declared.judge.Answer.TheVariants.{Yes, No, Failed}
+use Rattle.cr_outside.specs.Faults.{Rose}
 use Rattle.cr_outside.proofs.Counts.{rose_earlier}
 use Rattle.cr_outside.specs.Judge.{Call, call_of, with_call}
 use Rattle.cr_cursor.specs.declared.passes.Cursor.{Cursor}
@@ -11,10 +12,10 @@ use Rattle.cr_reduce.specs.Trials.{AnswerInRun, CallsAbout, IsBad, IsGood, GoesO
 use Rattle.cr_reduce.specs.Trials.IsRejected.{not_smaller, unlawful, answered_no}
 use Rattle.cr_reduce.specs.Reduction.{State, Within, cursors_of, moved, taken, next_round}
 use Rattle.cr_reduce.specs.Reduction.Reduces.{new_round}
-use Rattle.cr_reduce.specs.Search.{Search, AcceptsInRun, RejectsInRun}
+use Rattle.cr_reduce.specs.Search.{Search, AcceptsInRun, FailsInRun, RejectsInRun}
 use Rattle.cr_reduce.specs.declared.end.Why.{Why}
 use Rattle.cr_reduce.specs.declared.end.Why.TheVariants.{Fixed, Limit, Fault, NoMemory}
-use Rattle.cr_reduce.specs.Walk.{left_of, MovesOn, AsksAtMostOnce, Leads, IsHalt, EndsHere, Advances}
+use Rattle.cr_reduce.specs.Walk.{left_of, MovesOn, AsksAtMostOnce, Leads, FailsHere, IsHalt, EndsHere, Advances}
 use Rattle.cr_reduce.specs.Walk.Advances.{moves, round}
 use Rattle.cr_reduce.specs.Walk.MovesOn.{rejected, accepted}
 use Rattle.cr_reduce.specs.Walk.AsksAtMostOnce.{not_asked, asked}
@@ -109,23 +110,35 @@ leads-moves s before now st to earlier (rejected at there refused is) =
     let run = record s { before = before } in
     subst (Leads run now st) (sym is) (record {
       later = omega arith;
-      leads = λ after limit out on within rest. skip s.Offers (AcceptsInRun run after) (RejectsInRun run after) limit st out at there
+      leads = λ after limit out on within rest. skip s.Offers (AcceptsInRun run after) (RejectsInRun run after) (FailsInRun run after) limit st out at there
           (rejects_later s before now after st.file (st.offer.bytes at) earlier on refused) within rest;
     })
 leads-moves s before now st to earlier (accepted at size next there taken_so has offered is) =
     let run = record s { before = before } in
     subst (Leads run now st) (sym is) (record {
       later = omega arith;
-      leads = λ after limit out on within rest. take_next s.Offers (AcceptsInRun run after) (RejectsInRun run after) limit st out at size next there
+      leads = λ after limit out on within rest. take_next s.Offers (AcceptsInRun run after) (RejectsInRun run after) (FailsInRun run after) limit st out at size next there
           (accepts_later s before now after st.file (st.offer.bytes at) earlier on taken_so) has within offered rest;
     })
 
 -- A position that ends the walk ends it here.
-pub halt_ends : (s : Search) (limit : Option ℕ) (before now : ℕ) (st : State) (why : Why) → IsHalt s.asks before now st.turns why → EndsHere s limit before now st why
-halt_ends s limit before now st Fixed halt = absurd halt
-halt_ends s limit before now st Limit halt = absurd halt
-halt_ends s limit before now st (Fault turn worker) halt = halt
-halt_ends s limit before now st NoMemory halt = halt
+pub halt_ends : (s : Search) (calls : Option (List Call)) (limit : Option ℕ) (before now : ℕ) (st : State) (why : Why) → limit ≢ Some st.turns → IsHalt s calls st before now why → EndsHere s calls limit before now st why
+halt_ends s calls limit before now st Fixed more halt = absurd halt
+halt_ends s calls limit before now st Limit more halt = absurd halt
+halt_ends s calls limit before now st (Fault turn worker) more halt = (halt.0, more, halt.1)
+halt_ends s calls limit before now st NoMemory more halt = tt
+
+-- The failed trial of a variant ends the walk at its position.
+pub fails_here : (s : Search) (calls : Option (List Call)) (st : State) (at : Cursor) (variant : List ℕ) (size n before now : ℕ)
+    → slice_get (cursors_of st.offer) st.position ≡ Some at → variant ≡ st.offer.bytes at → HasSize st.file size
+    → s.asks ≡ true → Rose before now → IsGood s.Lawful variant size n → AnswerInRun s.asks s.Tells s.name s.before calls variant Failed → FailsHere s calls st before now 0
+fails_here s calls st at variant size n before now there is has asks rose good answer = record {
+  at = at;
+  there = there;
+  asks = asks;
+  rose = rose;
+  failed = subst (λ v. FailsInRun s calls 0 st.file v) is (refl, record { smaller = smaller st.file variant size n has good.has good.less; lawful = good.lawful; answered = answer });
+}
 
 -- one step of the walk
 pub leads-advances : (s : Search) (before now : Option (List Call)) (st to : State) → GoesOn before s.before → Advances s now st to → Leads (record s { before = before }) now st to
@@ -135,8 +148,21 @@ leads-advances s before now st to earlier (round end changed is) =
     subst (Leads run now st) (sym is) (leads-round run now st end changed)
 
 -- A fault of the last step is a fault since the beginning.
-pub ends_earlier : (s : Search) (limit : Option ℕ) (first before now : ℕ) (st : State) (why : Why) → first ≤ before → EndsHere s limit before now st why → EndsHere s limit first now st why
-ends_earlier s limit first before now st Fixed less ended = ended
-ends_earlier s limit first before now st Limit less ended = ended
-ends_earlier s limit first before now st (Fault turn worker) less ended = (ended.0, rose_earlier first before now less ended.1, ended.2, ended.3)
-ends_earlier s limit first before now st NoMemory less ended = ended
+pub ends_earlier : (s : Search) (middle calls : Option (List Call)) (limit : Option ℕ) (first before now : ℕ) (st : State) (why : Why) → GoesOn s.before middle → first ≤ before
+    → EndsHere (record s { before = middle }) calls limit before now st why → EndsHere s calls limit first now st why
+ends_earlier s middle calls limit first before now st Fixed on less ended = ended
+ends_earlier s middle calls limit first before now st Limit on less ended = ended
+ends_earlier s middle calls limit first before now st (Fault turn worker) on less ended =
+    let here = ended.2 in
+    let it = here.failed.1 in (
+      ended.0,
+      ended.1,
+      record {
+        at = here.at;
+        there = here.there;
+        asks = here.asks;
+        rose = rose_earlier first before now less here.rose;
+        failed = (here.failed.0, record { smaller = it.smaller; lawful = it.lawful; answered = answer_in_run-earlier s.asks s.Tells s.name s.before middle calls (st.offer.bytes here.at) Failed on it.answered });
+      },
+    )
+ends_earlier s middle calls limit first before now st NoMemory on less ended = ended

@@ -26,14 +26,18 @@ pub record IsUntouched (file : List ℕ) (e : End) : Type 0 where
   pub none : e.accepted.items ≡ []
   pub unturned : e.turns ≡ 0
 
--- At Fixed and Limit the end is the reduction's, whole. A fault is one of the turn after the last, and it and want of
--- memory leave what the reduction comes to after the turns that were made. Without memory for what is offered nothing
--- was done.
+-- By the answers of the run the end is the reduction's, whole, at a fault too. Want of memory leaves what the reduction
+-- comes to after the turns that were made; without memory for what is offered nothing was done.
 abbrev pub EndsBy : (Option ℕ → Outcome → Type 0) → List ℕ → Option ℕ → End → Why → Type 0
 EndsBy reduction file limit e Fixed = reduction limit (outcome_of e Fixed)
 EndsBy reduction file limit e Limit = reduction limit (outcome_of e Limit)
-EndsBy reduction file limit e (Fault turn worker) = (turn ≡ e.turns + 1) × (worker ≡ 0) × Within limit e.turns × StopsAt reduction e
+EndsBy reduction file limit e (Fault turn worker) = reduction limit (outcome_of e (Fault turn worker))
 EndsBy reduction file limit e NoMemory = Within limit e.turns × (IsUntouched file e ⊎ StopsAt reduction e)
+
+-- No fault is told: it is one of the turn after the last, and leaves what the reduction comes to after the turns made.
+abbrev pub EndsToldBy : (Option ℕ → Outcome → Type 0) → List ℕ → Option ℕ → End → Why → Type 0
+EndsToldBy reduction file limit e (Fault turn worker) = (turn ≡ e.turns + 1) × (worker ≡ 0) × Within limit e.turns × StopsAt reduction e
+EndsToldBy reduction file limit e why = EndsBy reduction file limit e why
 
 -- by the answers given in the run
 abbrev pub EndsInRun : Search → Option (List Call) → Option ℕ → List ℕ → End → Type 0
@@ -41,7 +45,7 @@ EndsInRun s now limit file e = EndsBy (ReducesFileInRun s now file) file limit e
 
 -- by the told answers: the one-thread first-accepted reduction
 abbrev pub EndsAsTold : Search → Option ℕ → List ℕ → End → Type 0
-EndsAsTold s limit file e = EndsBy (ReducesFileAsTold s file) file limit e e.why
+EndsAsTold s limit file e = EndsToldBy (ReducesFileAsTold s file) file limit e e.why
 
 -- No pass has an acceptable variant of the result left: in the run each was rejected.
 abbrev pub IsFixedInRun : Search → Option (List Call) → List ℕ → Type 0

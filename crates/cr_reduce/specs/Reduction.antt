@@ -5,7 +5,7 @@ use Rattle.std.specs.List.{slice_get}
 use Rattle.cr_cursor.specs.declared.passes.Cursor.{Cursor}
 use Rattle.cr_reduce.specs.declared.end.Accepted.{Accepted}
 use Rattle.cr_reduce.specs.declared.end.Why.{Why}
-use Rattle.cr_reduce.specs.declared.end.Why.TheVariants.{Fixed, Limit}
+use Rattle.cr_reduce.specs.declared.end.Why.TheVariants.{Fixed, Limit, Fault}
 use Rattle.cr_cursor.specs.Variants.{Offer, cursors, place_of}
 use Rattle.cr_reduce.specs.Sizes.{HasSize}
 
@@ -19,6 +19,13 @@ cursors_of o = cursors o.widths
 -- what a trial says: of a file, a variant
 abbrev pub Trial : Type 1
 Trial = List ℕ → List ℕ → Type 0
+
+-- of each worker's judge, which trials failed
+abbrev pub FailedTrials : Type 1
+FailedTrials = ℕ → Trial
+
+abbrev pub none_fails : FailedTrials
+none_fails worker file variant = ⊥
 
 -- each variant from one position to before another is rejected
 abbrev pub AllRejected : Offer → Trial → List ℕ → ℕ → ℕ → Type 0
@@ -78,27 +85,32 @@ Within None turns = Unit {0}
 Within (Some limit) turns = turns ≤ limit
 
 -- The reduction from a state on has this outcome.
-pub data Reduces (p : Proposals) (Accepts Rejects : Trial) (limit : Option ℕ) : State → Outcome → Type 0 where
+pub data Reduces (p : Proposals) (Accepts Rejects : Trial) (Fails : FailedTrials) (limit : Option ℕ) : State → Outcome → Type 0 where
   -- At the end of a round that accepted something a new round begins.
   new_round : {st : State} {out : Outcome} → st.position ≡ length (cursors_of st.offer) → st.changed ≡ true
-      → Reduces p Accepts Rejects limit (next_round st) out → Reduces p Accepts Rejects limit st out
+      → Reduces p Accepts Rejects Fails limit (next_round st) out → Reduces p Accepts Rejects Fails limit st out
   -- At the end of a round that accepted nothing it is done.
   fixed : {st : State} {out : Outcome} → st.position ≡ length (cursors_of st.offer) → st.changed ≡ false
-      → out ≡ ends st Fixed → Reduces p Accepts Rejects limit st out
+      → out ≡ ends st Fixed → Reduces p Accepts Rejects Fails limit st out
   -- The limit is reached, and a position is left.
   spent : {st : State} {out : Outcome} → st.position < length (cursors_of st.offer) → limit ≡ Some st.turns
-      → out ≡ ends st Limit → Reduces p Accepts Rejects limit st out
+      → out ≡ ends st Limit → Reduces p Accepts Rejects Fails limit st out
   -- The limit is reached before an accepted variant or the end of the round.
   short : {st : State} {out : Outcome} (to turns : ℕ) → st.position < to → to < length (cursors_of st.offer)
       → AllRejected st.offer Rejects st.file st.position to → turns + st.position ≡ st.turns + to → limit ≡ Some turns
-      → out ≡ ends (moved st to turns) Limit → Reduces p Accepts Rejects limit st out
+      → out ≡ ends (moved st to turns) Limit → Reduces p Accepts Rejects Fails limit st out
   -- The first accepted variant becomes the file.
   accepts : {st : State} {out : Outcome} (position : ℕ) (at : Cursor) (size turns : ℕ) (next : Offer)
       → IsFirstAccepted st.offer Accepts Rejects st.file st.position position at → HasSize (st.offer.bytes at) size
       → turns + st.position ≡ st.turns + position + 1 → Within limit turns → p (st.offer.bytes at) next
-      → Reduces p Accepts Rejects limit (taken st at size turns next) out → Reduces p Accepts Rejects limit st out
+      → Reduces p Accepts Rejects Fails limit (taken st at size turns next) out → Reduces p Accepts Rejects Fails limit st out
   -- No variant is accepted up to the end of the round.
   rejects : {st : State} {out : Outcome} (turns : ℕ) → st.position < length (cursors_of st.offer)
       → AllRejected st.offer Rejects st.file st.position (length (cursors_of st.offer))
       → turns + st.position ≡ st.turns + length (cursors_of st.offer) → Within limit turns
-      → Reduces p Accepts Rejects limit (moved st (length (cursors_of st.offer)) turns) out → Reduces p Accepts Rejects limit st out
+      → Reduces p Accepts Rejects Fails limit (moved st (length (cursors_of st.offer)) turns) out → Reduces p Accepts Rejects Fails limit st out
+  -- The trial of a variant failed, after rejected ones: that is no turn.
+  fails : {st : State} {out : Outcome} (position : ℕ) (at : Cursor) (turns worker : ℕ) → st.position ≤ position → slice_get (cursors_of st.offer) position ≡ Some at
+      → AllRejected st.offer Rejects st.file st.position position → Fails worker st.file (st.offer.bytes at)
+      → turns + st.position ≡ st.turns + position → Within limit (turns + 1)
+      → out ≡ ends (moved st position turns) (Fault (turns + 1) worker) → Reduces p Accepts Rejects Fails limit st out

@@ -12,8 +12,8 @@ use Rattle.cr_cursor.specs.declared.passes.Cursor.{Cursor}
 use Rattle.cr_cursor.specs.Variants.{Offer}
 use Rattle.cr_reduce.specs.Bench.{first_calls, first_says}
 use Rattle.cr_reduce.specs.Sizes.{IsSmaller}
-use Rattle.cr_reduce.specs.Trials.{IsAccepted, IsRejected, ToldAnswer, AnswerInRun}
-use Rattle.cr_reduce.specs.Reduction.{Proposals, Trial, State, Outcome, Reduces, cursors_of, start_of}
+use Rattle.cr_reduce.specs.Trials.{IsAccepted, IsFailed, IsRejected, ToldAnswer, AnswerInRun}
+use Rattle.cr_reduce.specs.Reduction.{FailedTrials, Proposals, Trial, State, Outcome, Reduces, cursors_of, none_fails, start_of}
 
 pub record Search : Type 1 where
   -- what is offered for a file
@@ -50,8 +50,12 @@ AcceptsInRun s now = IsAccepted s.Lawful (AnswerInRun s.asks s.Tells s.name s.be
 abbrev pub RejectsInRun : Search → Option (List Call) → Trial
 RejectsInRun s now = IsRejected s.Lawful (AnswerInRun s.asks s.Tells s.name s.before now)
 
+-- so far there is one worker
+abbrev pub FailsInRun : Search → Option (List Call) → FailedTrials
+FailsInRun s now worker file variant = (worker ≡ 0) × IsFailed s.Lawful (AnswerInRun s.asks s.Tells s.name s.before now) file variant
+
 abbrev pub ReducesInRun : Search → Option (List Call) → Option ℕ → State → Outcome → Type 0
-ReducesInRun s now limit st out = Reduces s.Offers (AcceptsInRun s now) (RejectsInRun s now) limit st out
+ReducesInRun s now limit st out = Reduces s.Offers (AcceptsInRun s now) (RejectsInRun s now) (FailsInRun s now) limit st out
 
 -- the whole reduction of a file
 abbrev pub ReducesFileInRun : Search → Option (List Call) → List ℕ → Option ℕ → Outcome → Type 0
@@ -65,7 +69,7 @@ abbrev pub RejectsAsTold : Search → Trial
 RejectsAsTold s = IsRejected s.Lawful (ToldAnswer s.Tells)
 
 abbrev pub ReducesAsTold : Search → Option ℕ → State → Outcome → Type 0
-ReducesAsTold s limit st out = Reduces s.Offers (AcceptsAsTold s) (RejectsAsTold s) limit st out
+ReducesAsTold s limit st out = Reduces s.Offers (AcceptsAsTold s) (RejectsAsTold s) none_fails limit st out
 
 abbrev pub ReducesFileAsTold : Search → List ℕ → Option ℕ → Outcome → Type 0
 ReducesFileAsTold s file limit out = (offer : Offer) × s.Offers file offer × ReducesAsTold s limit (start_of file offer) out

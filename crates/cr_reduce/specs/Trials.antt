@@ -1,7 +1,7 @@
 -- When a variant is accepted, and when its trial is rejected.
 use Rattle.std.specs.Prelude.{◌≡◌, ◌⊎◌, ℕ, ◌<◌, ◌≤◌, Bool, true, false, List, ◌∷◌, ◌++◌, Option, Some, None}
 use Rattle.cr_outside.specs.declared.judge.Answer.{Answer}
-use Rattle.cr_outside.specs.declared.judge.Answer.TheVariants.{Yes, No}
+use Rattle.cr_outside.specs.declared.judge.Answer.TheVariants.{Yes, No, Failed}
 use Rattle.cr_outside.specs.Judge.{Call, call_of, with_call}
 use Rattle.cr_outside.specs.Question.{AnswersAsTold}
 use Rattle.cr_reduce.specs.Sizes.{HasSize, IsSmaller}
@@ -17,6 +17,12 @@ pub data IsRejected (Lawful : List ℕ → Type 0) (Answered : List ℕ → Answ
   not_smaller : (IsSmaller variant file → ⊥) → IsRejected Lawful Answered file variant
   unlawful : (Lawful variant → ⊥) → IsRejected Lawful Answered file variant
   answered_no : Answered variant No → IsRejected Lawful Answered file variant
+
+-- A trial failed where the variant is smaller and lawful, and the answer about it is that the test failed.
+pub record IsFailed (Lawful : List ℕ → Type 0) (Answered : List ℕ → Answer → Type 0) (file variant : List ℕ) : Type 0 where
+  pub smaller : IsSmaller variant file
+  pub lawful : Lawful variant
+  pub answered : Answered variant Failed
 
 -- the told answer about a variant
 abbrev pub ToldAnswer : (List ℕ → Bool → Type 0) → List ℕ → Answer → Type 0

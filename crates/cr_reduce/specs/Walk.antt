@@ -1,5 +1,5 @@
 -- The walk of a reduction, as its loop has it.
-use Rattle.std.specs.Prelude.{◌≡◌, ℕ, ◌+◌, ◌*◌, ◌-◌, ◌<◌, ◌≤◌, Bool, true, false, List, ◌++◌, length, Option, Some}
+use Rattle.std.specs.Prelude.{◌≡◌, ◌≢◌, ℕ, ◌+◌, ◌*◌, ◌-◌, ◌<◌, ◌≤◌, Bool, true, false, List, ◌++◌, length, Option, Some}
 use Rattle.std.specs.List.{slice_get}
 use Rattle.cr_outside.specs.Judge.{Call, call_of, with_call}
 use Rattle.cr_outside.specs.declared.judge.Answer.{Answer}
@@ -17,7 +17,7 @@ use Rattle.cr_cursor.specs.Variants.{Offer}
 use Rattle.cr_reduce.specs.Sizes.{HasSize, IsSmaller}
 use Rattle.cr_reduce.specs.Trials.{GoesOn}
 use Rattle.cr_reduce.specs.Reduction.{Proposals, State, Outcome, Within, cursors_of, moved, next_round, taken}
-use Rattle.cr_reduce.specs.Search.{Search, AcceptsInRun, AsksOnlyCandidates, RejectsInRun, ReducesInRun, ChainsTo}
+use Rattle.cr_reduce.specs.Search.{Search, AcceptsInRun, AsksOnlyCandidates, FailsInRun, RejectsInRun, ReducesInRun, ChainsTo}
 
 -- The state of a walk, where an index and a file's bytes make this offer.
 abbrev pub state_of : {T : Type 0} → (T → List ℕ → Offer) → Walk T → State
@@ -60,13 +60,20 @@ pub record Leads (s : Search) (now : Option (List Call)) (from to : State) : Typ
   pub later : from.turns ≤ to.turns
   pub leads : (after : Option (List Call)) (limit : Option ℕ) (out : Outcome) → GoesOn now after → Within limit to.turns → ReducesInRun s after limit to out → ReducesInRun s after limit from out
 
--- Why a position ended the walk: want of memory, or the first worker's judge failed at this very turn, its count of
--- faults risen.
-abbrev pub IsHalt : Bool → ℕ → ℕ → ℕ → Why → Type 0
-IsHalt asks before now turns NoMemory = Unit {0}
-IsHalt asks before now turns (Fault turn worker) = (asks ≡ true) × Rose before now × (turn ≡ turns + 1) × (worker ≡ 0)
-IsHalt asks before now turns Fixed = ⊥
-IsHalt asks before now turns Limit = ⊥
+-- The trial of the variant at the state's position failed, with a judge that is asked, its count of faults risen.
+pub record FailsHere (s : Search) (calls : Option (List Call)) (st : State) (before now : ℕ) (worker : ℕ) : Type 0 where
+  pub at : Cursor
+  pub there : slice_get (cursors_of st.offer) st.position ≡ Some at
+  pub asks : s.asks ≡ true
+  pub rose : Rose before now
+  pub failed : FailsInRun s calls worker st.file (st.offer.bytes at)
+
+-- Why a position ended the walk: want of memory, or the trial failed at this very turn.
+abbrev pub IsHalt : Search → Option (List Call) → State → ℕ → ℕ → Why → Type 0
+IsHalt s calls st before now NoMemory = Unit {0}
+IsHalt s calls st before now (Fault turn worker) = (turn ≡ st.turns + 1) × FailsHere s calls st before now worker
+IsHalt s calls st before now Fixed = ⊥
+IsHalt s calls st before now Limit = ⊥
 
 -- The variant of this cursor is accepted, and the walk may take it.
 pub record IsTakable (s : Search) (now : Option (List Call)) (from : State) (old_size : ℕ) (variant : List ℕ) (at : Cursor) (size : ℕ) : Type 0 where
@@ -89,10 +96,11 @@ pub data Advances (s : Search) (now : Option (List Call)) (from to : State) : Ty
   round : from.position ≡ length (cursors_of from.offer) → from.changed ≡ true → to ≡ next_round from → Advances s now from to
 
 -- why the walk ends in a state
-abbrev pub EndsHere : Search → Option ℕ → ℕ → ℕ → State → Why → Type 0
-EndsHere s limit before now st Fixed = (st.position ≡ length (cursors_of st.offer)) × (st.changed ≡ false)
-EndsHere s limit before now st Limit = (st.position < length (cursors_of st.offer)) × (limit ≡ Some st.turns)
-EndsHere s limit before now st why = IsHalt s.asks before now st.turns why
+abbrev pub EndsHere : Search → Option (List Call) → Option ℕ → ℕ → ℕ → State → Why → Type 0
+EndsHere s calls limit before now st Fixed = (st.position ≡ length (cursors_of st.offer)) × (st.changed ≡ false)
+EndsHere s calls limit before now st Limit = (st.position < length (cursors_of st.offer)) × (limit ≡ Some st.turns)
+EndsHere s calls limit before now st (Fault turn worker) = (turn ≡ st.turns + 1) × (limit ≢ Some st.turns) × FailsHere s calls st before now worker
+EndsHere s calls limit before now st NoMemory = Unit {0}
 
 -- What was accepted on the way from one state to another, and that the test was asked about nothing but candidates.
 pub record Traces (s : Search) (now : Option (List Call)) (from to : State) : Type 0 where

@@ -1,5 +1,5 @@
 // The steps of the walk, up to its end.
-ghost use Rattle.std.specs.Prelude.{◌≡◌, ◌<◌, ◌≤◌, ℕ, List, IsSome, Some, None, length};
+ghost use Rattle.std.specs.Prelude.{◌≡◌, ◌<◌, ◌≤◌, ℕ, List, IsSome, Some, None, length, false};
 ghost use Rattle.cr_reduce.specs.declared.end.Why.{Why};
 ghost use Rattle.cr_reduce.specs.Bench.{first_calls, first_count, first_says, others};
 ghost use Rattle.cr_reduce.specs.Reduction.{Within, cursors_of};
@@ -34,10 +34,11 @@ fn advance<P: Passes, L: Law, Q: Question, J: Judge>(
     ensures within { result ≡ None → Within limit walk.old.turns → Within limit walk.new.turns }
     ensures same { IsSome result → state_of (P.offer passes.now) walk.new ≡ state_of (P.offer passes.now) walk.old }
     ensures ended { (why : Why) → result ≡ Some why → EndsHere (searching P.Passes passes.now L.Law law.now Q.Question question.now name.now J.Judge bench.old)
-        limit (first_count J.faults bench.old) (first_count J.faults bench.new) (state_of (P.offer passes.now) walk.old) why }
+        (first_calls J.calls bench.new) limit (first_count J.faults bench.old) (first_count J.faults bench.new) (state_of (P.offer passes.now) walk.old) why }
     ensures asks { AsksAtMostOnce (searching P.Passes passes.now L.Law law.now Q.Question question.now name.now J.Judge bench.old)
         (first_calls J.calls bench.new) (state_of (P.offer passes.now) walk.old) }
     ensures key { first_says J.key J.says bench.new ≡ first_says J.key J.says bench.old }
+    ensures silent { Q.asks question.now ≡ false → bench.new ≡ bench.old }
     ensures others { others bench.new ≡ others bench.old }
     ensures count { length bench.new ≡ length bench.old }
     ensures later { first_count J.faults bench.old ≤ first_count J.faults bench.new }
@@ -72,10 +73,11 @@ pub fn walk_on<P: Passes, L: Law, Q: Question, J: Judge>(
     ensures walked { Walked (searching P.Passes passes.now L.Law law.now Q.Question question.now name.now J.Judge bench.old)
         (first_calls J.calls bench.new) (state_of (P.offer passes.now) walk.old) (state_of (P.offer passes.now) walk.new) }
     ensures ended { EndsHere (searching P.Passes passes.now L.Law law.now Q.Question question.now name.now J.Judge bench.old)
-        limit (first_count J.faults bench.old) (first_count J.faults bench.new) (state_of (P.offer passes.now) walk.new) result }
+        (first_calls J.calls bench.new) limit (first_count J.faults bench.old) (first_count J.faults bench.new) (state_of (P.offer passes.now) walk.new) result }
     ensures placed { walk.new.position ≤ length (cursors_of (P.offer passes.now walk.new.prep walk.new.file.items)) }
     ensures within { Within limit walk.new.turns }
     ensures key { first_says J.key J.says bench.new ≡ first_says J.key J.says bench.old }
+    ensures silent { Q.asks question.now ≡ false → bench.new ≡ bench.old }
     ensures others { others bench.new ≡ others bench.old }
     ensures count { length bench.new ≡ length bench.old }
     ensures later { first_count J.faults bench.old ≤ first_count J.faults bench.new }

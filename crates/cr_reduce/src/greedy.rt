@@ -1,5 +1,5 @@
 // The reduction.
-ghost use Rattle.std.specs.Prelude.{◌≡◌, ◌≢◌, ◌<◌, ◌≤◌, ℕ, length, IfErr, IfOk};
+ghost use Rattle.std.specs.Prelude.{◌≡◌, ◌≢◌, ◌<◌, ◌≤◌, ℕ, length, IfErr, IfOk, false};
 ghost use Rattle.cr_reduce.specs.Bench.{first_calls, first_count, first_says, others};
 ghost use Rattle.cr_reduce.specs.Bound.{HasLevels, enough_turns};
 ghost use Rattle.cr_reduce.specs.Ends.{end_of_walk, EndsAsTold, EndsInRun, FaultsWithCause, IsFixedAsTold, IsFixedInRun};
@@ -54,6 +54,9 @@ pub fn reduce<P: Passes, L: Law, Q: Question, J: Judge>(
     // With turns enough it ends for another reason.
     ensures in_time { (levels : ℕ → ℕ) (size : ℕ) → HasLevels (P.offers passes.now) levels → HasSize file.items size → Within plan.now.limit (enough_turns levels size) → result.why ≢ Why.Limit }
     ensures key { first_says J.key J.says bench.new ≡ first_says J.key J.says bench.old }
+
+    // A question that asks no judge leaves the bench as it was.
+    ensures silent { Q.asks question.now ≡ false → bench.new ≡ bench.old }
     ensures others { others bench.new ≡ others bench.old }
     ensures count { length bench.new ≡ length bench.old }
     ensures later { first_count J.faults bench.old ≤ first_count J.faults bench.new }

@@ -1,7 +1,7 @@
 // The trial of one variant.
 ghost use Rattle.std.specs.Prelude.{◌≡◌, ◌≢◌, ◌≤◌, ◌<◌, ◌⊎◌, ℕ, IfOk, MatchOption, true, false, length};
 ghost use Rattle.cr_outside.specs.Faults.{Rose};
-ghost use Rattle.cr_outside.specs.declared.judge.Answer.TheVariants.{Yes as AnswerYes, No as AnswerNo};
+ghost use Rattle.cr_outside.specs.declared.judge.Answer.TheVariants.{Yes as AnswerYes, No as AnswerNo, Failed as AnswerFailed};
 ghost use Rattle.cr_reduce.specs.Bench.{first_calls, first_count, first_says, others};
 ghost use Rattle.cr_reduce.specs.Sizes.{HasSize};
 ghost use Rattle.cr_reduce.specs.Trials.{AnswerInRun, CallsAbout, IsBad, IsGood};
@@ -89,10 +89,14 @@ pub fn try_variant<L: Law, Q: Question, J: Judge>(
     ensures rejected { result ≡ Verdict.Rejected → IsBad (L.lawful law.now) variant.now limit
         ⊎ AnswerInRun (Q.asks question.now) (λ file answer. Q.tells question.now (first_says J.key J.says bench.old) name.now file answer)
         name.now (first_calls J.calls bench.old) (first_calls J.calls bench.new) variant.now AnswerNo }
-    ensures failed { result ≡ Verdict.Failed → (Q.asks question.now ≡ true) × Rose (first_count J.faults bench.old) (first_count J.faults bench.new) }
+    ensures failed { result ≡ Verdict.Failed → (Q.asks question.now ≡ true) × Rose (first_count J.faults bench.old) (first_count J.faults bench.new)
+        × ((n : ℕ) × IsGood (L.lawful law.now) variant.now limit n)
+        × AnswerInRun (Q.asks question.now) (λ file answer. Q.tells question.now (first_says J.key J.says bench.old) name.now file answer)
+        name.now (first_calls J.calls bench.old) (first_calls J.calls bench.new) variant.now AnswerFailed }
     ensures calls { CallsAbout (first_calls J.calls bench.old) (first_calls J.calls bench.new) name.now variant.now }
     ensures only_good { (first_calls J.calls bench.new ≡ first_calls J.calls bench.old) ⊎ ((n : ℕ) × IsGood (L.lawful law.now) variant.now limit n) }
     ensures key { first_says J.key J.says bench.new ≡ first_says J.key J.says bench.old }
+    ensures silent { Q.asks question.now ≡ false → bench.new ≡ bench.old }
     ensures others { others bench.new ≡ others bench.old }
     ensures count { length bench.new ≡ length bench.old }
     ensures later { first_count J.faults bench.old ≤ first_count J.faults bench.new }

@@ -5,6 +5,8 @@
 #![tactic(auto)]
 
 #[cfg(test)]
+mod bits;
+#[cfg(test)]
 mod footprint;
 #[cfg(test)]
 mod ints;
@@ -16,3 +18,5 @@ mod lists;
 mod memory;
 #[cfg(test)]
 mod rows;
+#[cfg(test)]
+mod structures;

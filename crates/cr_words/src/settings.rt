@@ -69,7 +69,7 @@ fn settings_of(alloc: Global, matches: &ArgMatches<'_>, most: u32) -> Result<Set
 }
 
 /// The numbers of the settings.
-#[derive(Clone, Copy, Debug)]
+#[derive(Clone, Copy)]
 pub struct Counts {
     pub workers: u32,
     pub window: u32,
@@ -101,7 +101,7 @@ fn lesser(a: u32, b: u32) -> u32
 }
 
 /// The test and the file.
-#[derive(Debug, Drop)]
+#[derive(Drop)]
 pub struct Asked {
     pub test: Test,
     pub source: Source,

@@ -5,8 +5,7 @@ use Rattle.std.specs.Int.{div_ceil}
 use Rattle.std.proofs.Common.{arith, subst, sym, ◌∙◌}
 use Rattle.std.proofs.lemmas.Nat.{pow_pos}
 use Rattle.std.proofs.lemmas.Bool.Decides.{nat_tests}
-use Rattle.cr_cursor.specs.Variants.{Offer}
-use Rattle.pass_text.specs.Lines.{OffersLines, lines_of, onto_first, lines_widths, chunk_of}
+use Rattle.pass_text.specs.Lines.{lines_of, onto_first, lines_widths, chunk_of}
 
 length-onto_first : (b : ℕ) (lines : List (List ℕ)) → length (onto_first b lines) ≤ 1 + length lines
 length-onto_first b [] = omega arith
@@ -40,15 +39,3 @@ widths_of_pass file pass level above = grind (arith, nat_tests)
 
 pub widths_of_level : (file : List ℕ) (pass level : ℕ) → 15 < level → lines_widths file pass level ≡ 0
 widths_of_level file pass level above = grind (arith, nat_tests)
-
-pub one_offer : (file : List ℕ) (o other : Offer) → OffersLines file o → OffersLines file other → o ≡ other
-one_offer file o other is also = is ∙ sym also
-
-pub offers_few : (file : List ℕ) (o : Offer) (pass level : ℕ) → OffersLines file o → o.widths pass level ≤ length file
-offers_few file o pass level is = subst (λ x. x.widths pass level ≤ length file) (sym is) (widths_few file pass level)
-
-pub offers_passes : (file : List ℕ) (o : Offer) (pass level : ℕ) → OffersLines file o → 9 < pass → o.widths pass level ≡ 0
-offers_passes file o pass level is above = subst (λ x. x.widths pass level ≡ 0) (sym is) (widths_of_pass file pass level above)
-
-pub offers_levels : (file : List ℕ) (o : Offer) (pass level : ℕ) → OffersLines file o → 15 < level → o.widths pass level ≡ 0
-offers_levels file o pass level is above = subst (λ x. x.widths pass level ≡ 0) (sym is) (widths_of_level file pass level above)

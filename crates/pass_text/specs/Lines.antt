@@ -1,8 +1,8 @@
 -- The lines pass: 15 levels, of which level 0 removes chunks of 16,384 lines, and each later one chunks half as long.
-use Rattle.std.specs.Prelude.{◌≡◌, ℕ, ◌+◌, ◌-◌, ◌*◌, ◌^◌, List, [], ◌∷◌, ◌++◌, ◌==◌, nat_le, nat_eq, ◌&&◌, length, take, drop, if◌then◌else◌}
+use Rattle.std.specs.Prelude.{ℕ, ◌+◌, ◌-◌, ◌*◌, ◌^◌, List, [], ◌∷◌, ◌++◌, ◌==◌, nat_le, nat_eq, ◌&&◌, length, take, drop, if◌then◌else◌}
 use Rattle.std.specs.Int.{div_ceil}
 use Rattle.cr_cursor.specs.declared.passes.Cursor.{Cursor}
-use Rattle.cr_cursor.specs.Variants.{Offer, Widths}
+use Rattle.cr_cursor.specs.Variants.{Widths}
 
 -- one byte more before the first line
 abbrev pub onto_first : ℕ → List (List ℕ) → List (List ℕ)
@@ -33,14 +33,6 @@ lines_widths file = chunks_of (length (lines_of file))
 -- the file without the chunk
 abbrev pub lines_bytes : List ℕ → Cursor → List ℕ
 lines_bytes file at = joined (take (at.index * chunk_of at.level) (lines_of file)) ++ joined (drop ((at.index + 1) * chunk_of at.level) (lines_of file))
-
--- what is offered for a file that is said to have so many lines
-abbrev pub chunks_offered : ℕ → List ℕ → Offer
-chunks_offered lines file = record { widths = chunks_of lines; bytes = lines_bytes file }
-
--- What is offered for a file.
-abbrev pub OffersLines : List ℕ → Offer → Type 0
-OffersLines file o = o ≡ chunks_offered (length (lines_of file)) file
 
 -- how many bytes the first line has
 abbrev pub first_len : List ℕ → ℕ

@@ -7,5 +7,5 @@
 mod lines;
 mod runs;
 
-pub use lines::{LineCount, LinesPass};
+pub use lines::{count_lines, lines_variant, lines_width};
 pub use runs::runs_of_tokens;

@@ -1,65 +1,35 @@
-// The lines pass.
+// Pass l: chunks of lines. Level 0 removes chunks of 16,384 lines, each later one chunks half as long, level 14 single lines.
 ghost use Rattle.std.specs.Prelude.{◌≡◌, ◌≤◌, ◌<◌, ◌*◌, ◌^◌, ◌++◌, ◌-◌, List, ℕ, [], ◌+◌, length, take, drop, vec_capacity, vec_len, OnOk, OnErr};
-ghost use Rattle.pass_text.specs.Lines.{OffersLines, chunk_of, chunks_offered, first_len, joined, lines_of};
-ghost use Rattle.pass_text.specs.LineLaws.{offers_few, offers_levels, offers_passes, one_offer};
+ghost use Rattle.pass_text.specs.Lines.{chunk_of, chunks_of, first_len, joined, lines_bytes, lines_of};
 
-use cr_cursor::{Cursor, NoMemory, Passes};
-use std::alloc::Global;
-
-/// Pass 0: each level removes chunks of lines, the later levels shorter ones.
-#[derive(Clone, Copy, Debug, PartialEq, Eq, Default)]
-pub struct LinesPass;
-
-/// How many lines a file has.
-#[derive(Clone, Copy, Debug, PartialEq, Eq)]
-pub struct LineCount {
-    lines: u64,
-    ghost few: { lines ≤ 1048576 },
-}
+use cr_cursor::{Cursor, NoMemory};
 
 const LAST_LEVEL: u8 = 14;
 
-impl Passes for LinesPass {
-    type Prep = LineCount;
-
-    ghost offers = { λ _ file o. OffersLines file o };
-
-    ghost offer = { λ _ prep file. chunks_offered prep.lines file };
-
-    ghost one = { λ _ file o other is also. one_offer file o other is also };
-
-    ghost few = { λ _ file o pass level is. offers_few file o pass level is };
-
-    ghost ten_passes = { λ _ file o pass level is above. offers_passes file o pass level is above };
-
-    ghost sixteen_levels = { λ _ file o pass level is above. offers_levels file o pass level is above };
-
-    fn prepare(&self, _alloc: Global, file: &[u8]) -> Result<LineCount, NoMemory> {
-        Ok(LineCount {
-            lines: count_lines(file),
-        })
+/// How many variants a level has, in a file of so many lines: one for each chunk, the last one maybe shorter.
+pub fn lines_width(lines: u64, level: u8) -> u64
+    ensures width { result ≡ chunks_of lines 0 level }
+    ensures few { result ≤ lines }
+{
+    if level <= LAST_LEVEL {
+        lines.div_ceil(chunk_len(level))
+    } else {
+        0
     }
+}
 
-    fn width(&self, prep: &LineCount, pass: u8, level: u8) -> u64 {
-        if pass == 0 && level <= LAST_LEVEL {
-            prep.lines.div_ceil(chunk_len(level))
-        } else {
-            0
-        }
-    }
-
-    fn variant(
-        &self,
-        _prep: &LineCount,
-        file: &[u8],
-        at: Cursor,
-        out: &mut Vec<u8>,
-    ) -> Result<(), NoMemory> {
-        let chunk = chunk_len(at.level);
-        let start = skip_lines(file, at.index * chunk);
-        let end = skip_lines(file, (at.index + 1) * chunk);
-        set(out, &file[..start], &file[end..])
-    }
+/// Sets `out` to the file without one chunk of lines. It takes no memory where `out` has room; after an error, which is want of memory,
+/// `out` is empty.
+pub fn lines_variant(file: &[u8], at: Cursor, out: &mut Vec<u8>) -> Result<(), NoMemory>
+    requires { at.index ≤ 1048576 }
+    ensures variant { OnOk result (out.new.items ≡ lines_bytes file.now at) }
+    ensures empty { OnErr result (out.new.items ≡ []) }
+    ensures full { OnErr result (vec_capacity out.old < length (lines_bytes file.now at)) }
+{
+    let chunk = chunk_len(at.level);
+    let start = skip_lines(file, at.index * chunk);
+    let end = skip_lines(file, (at.index + 1) * chunk);
+    set(out, &file[..start], &file[end..])
 }
 
 // How many lines a chunk of a level has.
@@ -71,7 +41,8 @@ fn chunk_len(level: u8) -> u64
     1 << LAST_LEVEL.saturating_sub(level)
 }
 
-fn count_lines(file: &[u8]) -> u64
+/// How many lines a file has: each ends with LF, or with the file.
+pub fn count_lines(file: &[u8]) -> u64
     ensures count { result ≡ length (lines_of file.now) }
     ensures few { result ≤ length file.now }
 {

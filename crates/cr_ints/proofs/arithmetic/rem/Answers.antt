@@ -8,6 +8,9 @@ use Rattle.cr_ints.proofs.arithmetic.rem.Goals as goal
 pub remainder-requires-clause-left : goal.remainder-requires-clause-left
 remainder-requires-clause-left c = search (rules, represented_integer)
 
+pub remainder-requires-clause-right : goal.remainder-requires-clause-right
+remainder-requires-clause-right c = search (rules, represented_integer)
+
 pub returns-then-can_represent-clause-representable :
     goal.returns-then-can_represent-clause-representable
 returns-then-can_represent-clause-representable c =

@@ -9,8 +9,8 @@ use Rattle.cr_main.specs.Run.Finishes.{uncopied, reduced}
 use Rattle.cr_main.proofs.Outcomes.{end_passes, end_sized}
 use Rattle.cr_main.proofs.finish.copy_and_reduce.Goals as goal
 
-pub returns-in-Some : goal.returns-in-Some
-returns-in-Some g c = uncopied (subst (λ b. WriteFails
+pub returns-in-Some-clause-finishes : goal.returns-in-Some-clause-finishes
+returns-in-Some-clause-finishes g c = uncopied (subst (λ b. WriteFails
     (outside_of (g.F.Files.told c.args.files.now) (g.F.Files.faults c.args.files.now) (g.O.Sink.told c.args.out.now) (g.O.Sink.faults c.args.out.now))
     (outside_of (g.F.Files.told c.write_beside.new.files) (g.F.Files.faults c.write_beside.new.files) (g.O.Sink.told c.write_beside.new.out) (g.O.Sink.faults c.write_beside.new.out))
     (copy_name c.args.request.name.now) b c.in-Some.status) c.deref-2.ensures.value (c.in-Some.ensures.failed c.in-Some.status refl)) refl
@@ -26,8 +26,8 @@ conclude-requires-clause-passes g c =
     end_passes (search_for (task_for c.args.request (first_says g.J.Judge.key g.J.Judge.says c.args.bench.now)) (first_calls g.J.Judge.calls c.args.bench.now))
     (first_calls g.J.Judge.calls c.reduce-end.new.bench) c.args.request.limit c.args.bytes.items c.reduce-end.result c.reduce-end.ensures.chain
 
-pub returns : goal.returns
-returns g c = reduced
+pub returns-clause-finishes : goal.returns-clause-finishes
+returns-clause-finishes g c = reduced
     (outside_of (g.F.Files.told c.write_beside.new.files) (g.F.Files.faults c.write_beside.new.files) (g.O.Sink.told c.write_beside.new.out) (g.O.Sink.faults c.write_beside.new.out))
     c.reduce-end.result c.in-Ok.old_size c.conclude.ensures.0
     (subst (λ b. IsWritten

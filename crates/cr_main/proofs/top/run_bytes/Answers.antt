@@ -10,8 +10,8 @@ pub ask_test-requires-clause-has : goal.ask_test-requires-clause-has
 ask_test-requires-clause-has g c = read_whole (g.F.Files.told c.args.files.now) c.args.request.name.now c.args.bytes c.requires.read
     (subst IsTokenized c.deref.ensures.value (c.in-Lawful.ensures.lawful refl)).tokenizes.short
 
-pub returns-in-Unlawful : goal.returns-in-Unlawful
-returns-in-Unlawful g c = ruled_out c.in-Unlawful.reason
+pub returns-in-Unlawful-clause-runs : goal.returns-in-Unlawful-clause-runs
+returns-in-Unlawful-clause-runs g c = ruled_out c.in-Unlawful.reason
     (ruled_out_file (g.F.Files.told c.args.files.now) c.args.request.name.now c.args.bytes c.in-Unlawful.reason c.requires.read
     (subst (λ b. IsTokenized b → ⊥) c.deref.ensures.value (c.in-Unlawful.ensures.unlawful c.in-Unlawful.reason refl))
     (subst (λ b. IsTokenReason b c.in-Unlawful.reason) c.deref.ensures.value (c.in-Unlawful.ensures.reason c.in-Unlawful.reason refl)))

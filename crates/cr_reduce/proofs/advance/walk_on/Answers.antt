@@ -13,6 +13,7 @@ loop-why-init g c = record {
   walked = walked-refl (searching g.P.Passes c.args.passes.now g.L.Law c.args.law.now g.Q.Question c.args.question.now c.args.name.now g.J.Judge c.args.bench.now) (state_of (g.P.Passes.offer c.args.passes.now) c.args.walk.now) c.requires.sound.offered;
   within = c.requires.within;
   key = refl;
+  silent = λ _. refl;
   others = refl;
   count = refl;
   later = omega arith;
@@ -33,6 +34,7 @@ loop-why-preserved g c =
           (subst (λ says. Advances (search says) now st to) key (c.in_default.ensures.advances refl));
       within = c.in_default.ensures.within refl c.loop-why.invariant.within;
       key = c.advance-step.ensures.key ∙ key;
+      silent = λ quiet. c.advance-step.ensures.silent quiet ∙ c.loop-why.invariant.silent quiet;
       others = c.advance-step.ensures.others ∙ c.loop-why.invariant.others;
       count = c.advance-step.ensures.count ∙ c.loop-why.invariant.count;
       later = omega (arith, c.advance-step.ensures.later, c.loop-why.invariant.later);
@@ -50,8 +52,14 @@ returns-in-Some-clause-walked g c =
 
 pub returns-in-Some-clause-ended : goal.returns-in-Some-clause-ended
 returns-in-Some-clause-ended g c =
+    let search = λ (says : Says). search_of (g.P.Passes.offers c.args.passes.now) (g.L.Law.lawful c.args.law.now) (g.Q.Question.asks c.args.question.now) (g.Q.Question.tells c.args.question.now) says c.args.name.now (first_calls g.J.Judge.calls c.loop-why.bench) in
     let start = searching g.P.Passes c.args.passes.now g.L.Law c.args.law.now g.Q.Question c.args.question.now c.args.name.now g.J.Judge c.args.bench.now in
-    let same : state_of (g.P.Passes.offer c.args.passes.now) c.advance-step.new.walk ≡ state_of (g.P.Passes.offer c.args.passes.now) c.loop-why.walk = c.in-Some.ensures.same refl in
-    subst (λ st. EndsHere start c.args.limit (first_count g.J.Judge.faults c.args.bench.now) (first_count g.J.Judge.faults c.advance-step.new.bench) st c.in-Some.why) (sym same)
-    (ends_earlier start c.args.limit (first_count g.J.Judge.faults c.args.bench.now) (first_count g.J.Judge.faults c.loop-why.bench) (first_count g.J.Judge.faults c.advance-step.new.bench) (state_of (g.P.Passes.offer c.args.passes.now) c.loop-why.walk) c.in-Some.why c.loop-why.invariant.later
-    (c.advance-step.ensures.ended c.in-Some.why c.in-Some.is))
+    let calls = first_calls g.J.Judge.calls c.advance-step.new.bench in
+    let faults = first_count g.J.Judge.faults c.advance-step.new.bench in
+    let middle = first_count g.J.Judge.faults c.loop-why.bench in
+    let st = state_of (g.P.Passes.offer c.args.passes.now) c.loop-why.walk in
+    let same : state_of (g.P.Passes.offer c.args.passes.now) c.advance-step.new.walk ≡ st = c.in-Some.ensures.same refl in
+    subst (λ x. EndsHere start calls c.args.limit (first_count g.J.Judge.faults c.args.bench.now) faults x c.in-Some.why) (sym same)
+    (ends_earlier start (first_calls g.J.Judge.calls c.loop-why.bench) calls c.args.limit (first_count g.J.Judge.faults c.args.bench.now) middle faults st c.in-Some.why
+    c.loop-why.invariant.walked.goes_on c.loop-why.invariant.later
+    (subst (λ says. EndsHere (search says) calls c.args.limit middle faults st c.in-Some.why) c.loop-why.invariant.key (c.advance-step.ensures.ended c.in-Some.why c.in-Some.is)))

@@ -1,4 +1,4 @@
-use Rattle.std.proofs.Common.{◌≡◌, ◌≤◌, length}
+use Rattle.std.proofs.Common.{◌≡◌, ◌≤◌, false, length}
 use Rattle.cr_reduce.specs.Bench.{first_calls, first_count, first_says, others}
 use Rattle.cr_reduce.specs.Reduction.{Within}
 use Rattle.cr_reduce.specs.Search.{searching}
@@ -12,6 +12,7 @@ invariant-loop-why g l = record {
       (first_calls g.J.Judge.calls l.bench) (state_of (g.P.Passes.offer l.passes) l.fn.walk) (state_of (g.P.Passes.offer l.passes) l.walk);
   within : Within l.limit l.walk.turns;
   key : first_says g.J.Judge.key g.J.Judge.says l.bench ≡ first_says g.J.Judge.key g.J.Judge.says l.fn.bench;
+  silent : g.Q.Question.asks l.question ≡ false → l.bench ≡ l.fn.bench;
   others : others l.bench ≡ others l.fn.bench;
   count : length l.bench ≡ length l.fn.bench;
   later : first_count g.J.Judge.faults l.fn.bench ≤ first_count g.J.Judge.faults l.bench;

@@ -1,10 +1,10 @@
 use Rattle.std.proofs.Common.{subst, sym}
-use Rattle.cr_reduce.specs.Bench.{first_calls}
+use Rattle.cr_reduce.specs.Bench.{first_calls, first_count}
 use Rattle.cr_reduce.specs.Sizes.{HasSize}
 use Rattle.cr_reduce.specs.Search.{searching}
 use Rattle.cr_reduce.specs.Walk.{state_of, IsTakable}
-use Rattle.cr_reduce.proofs.Verdicts.{was_rejected, was_accepted}
-use Rattle.cr_reduce.proofs.Walks.{moves_rejected, moves_accepted, asks_at_most_once}
+use Rattle.cr_reduce.proofs.Verdicts.{was_rejected, was_accepted, was_failed}
+use Rattle.cr_reduce.proofs.Walks.{fails_here, moves_rejected, moves_accepted, asks_at_most_once}
 use Rattle.cr_reduce.proofs.look.consider.Goals as goal
 
 pub returns-in-Ok-clause-rejected : goal.returns-in-Ok-clause-rejected
@@ -35,3 +35,10 @@ returns-in-Ok-clause-asks g c =
     let s = searching g.P.Passes c.args.passes.now g.L.Law c.args.law.now g.Q.Question c.args.question.now c.args.name.now g.J.Judge c.args.bench.now in
     asks_at_most_once s (first_calls g.J.Judge.calls c.try_variant.new.bench) (state_of (g.P.Passes.offer c.args.passes.now) c.args.walk.now) c.in-Ok.at c.deref.result.now c.args.walk.now.size c.in-Ok.ensures.there
     (rw c.deref.ensures.value c.in-Ok.ensures.variant) c.requires.sound.sized c.try_variant.ensures.calls c.try_variant.ensures.only_good
+
+pub returns-in-Ok-clause-failed : goal.returns-in-Ok-clause-failed
+returns-in-Ok-clause-failed g c = λ is.
+    let it = c.try_variant.ensures.failed (was_failed c.in-Ok.at c.try_variant.result c.with_cursor.result c.with_cursor.ensures is) in
+    fails_here (searching g.P.Passes c.args.passes.now g.L.Law c.args.law.now g.Q.Question c.args.question.now c.args.name.now g.J.Judge c.args.bench.now) (first_calls g.J.Judge.calls c.try_variant.new.bench) (state_of (g.P.Passes.offer c.args.passes.now) c.args.walk.now)
+    c.in-Ok.at c.deref.result.now c.args.walk.now.size it.2.0 (first_count g.J.Judge.faults c.args.bench.now) (first_count g.J.Judge.faults c.try_variant.new.bench) c.in-Ok.ensures.there
+    (rw c.deref.ensures.value c.in-Ok.ensures.variant) c.requires.sound.sized it.0 it.1 it.2.1 it.3

@@ -2,6 +2,7 @@ use Rattle.std.proofs.Common.{◌+◌, [], ◌∷◌, arith, length-set, ap, ◌
 use Rattle.cr_memory.specs.Access.{with_cells}
 use Rattle.cr_memory.specs.Flat.{span_at, memory_of}
 use Rattle.cr_memory.proofs.Writing.{live_cell, held_by_live, stored_with, same_pointers, held_overwritten, memory_of-overwritten}
+use Rattle.cr_memory.proofs.Continuing.{written-continues}
 use Rattle.cr_memory.proofs.store.Store.begin.Goals as goal
 
 pub begin-requires-clause-entered : goal.begin-requires-clause-entered
@@ -39,3 +40,9 @@ returns-clause-kept c =
     let i = c.self.inside in
     rw (← c.self.view_is, c.begin.ensures)
     (same_pointers i.most i.spans.items i.cells.items _ i.shape.items c.self.invariant.room (length-set i.cells.items _ c.args.value))
+
+pub returns-clause-continues : goal.returns-clause-continues
+returns-clause-continues c =
+    let i = c.self.inside in
+    rw (← c.self.view_is, c.begin.ensures)
+    (written-continues i.most i.spans.items i.cells.items _ i.shape.items c.self.invariant.room (length-set i.cells.items _ c.args.value))

@@ -1,6 +1,7 @@
 use Rattle.std.proofs.Common.{subst}
 use Rattle.cr_memory.specs.Memory.{Memory, KeepsPointers}
 use Rattle.cr_memory.specs.Access.{copy_of, Writes}
+use Rattle.cr_memory.specs.Continues.{Continues}
 use Rattle.cr_memory.specs.Flat.{memory_of}
 use Rattle.cr_memory.proofs.View.{pointer_seen}
 use Rattle.cr_memory.proofs.Storing.{copy_done}
@@ -41,3 +42,13 @@ returns-clause-kept c =
     let P : Memory → Type 0 = λ m. KeepsPointers m (memory_of i.most i.spans.items c.copy.new.cells.items i.shape.items) in
     subst P c.self.view_is
     (copy_done i.most i.live i.top i.spans.items i.cells.items _ i.shape.items c.args.from c.args.to c.args.count c.copy.result s from to c.requires.from_stride c.requires.to_stride c.copy.ensures).kept
+
+pub returns-clause-continues : goal.returns-clause-continues
+returns-clause-continues c =
+    let i = c.self.inside in
+    let s = c.self.invariant in
+    let from = pointer_seen i.most i.spans.items i.cells.items i.shape.items _ c.args.from c.self.view_is s.room c.requires.from in
+    let to = pointer_seen i.most i.spans.items i.cells.items i.shape.items _ c.args.to c.self.view_is s.room c.requires.to in
+    let P : Memory → Type 0 = λ m. Continues m (memory_of i.most i.spans.items c.copy.new.cells.items i.shape.items) in
+    subst P c.self.view_is
+    (copy_done i.most i.live i.top i.spans.items i.cells.items _ i.shape.items c.args.from c.args.to c.args.count c.copy.result s from to c.requires.from_stride c.requires.to_stride c.copy.ensures).continues

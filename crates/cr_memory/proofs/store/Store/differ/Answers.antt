@@ -1,7 +1,7 @@
-use Rattle.std.proofs.Common.{ap, ◌∙◌}
+use Rattle.std.proofs.Common.{ap, ◌∙◌, refl}
 use Rattle.cr_memory.specs.Pointers.{differ_of}
 use Rattle.cr_memory.proofs.View.{pointer_seen}
-use Rattle.cr_memory.proofs.Comparing.{flat_differ-is}
+use Rattle.cr_memory.proofs.Comparing.{with_both-is}
 use Rattle.cr_memory.proofs.store.Store.differ.Goals as goal
 
 pub differ-requires-clause-left : goal.differ-requires-clause-left
@@ -15,5 +15,5 @@ differ-requires-clause-right c =
 pub returns : goal.returns
 returns c =
     let i = c.self.inside in
-    c.differ.ensures ∙ flat_differ-is i.most i.spans.items i.cells.items i.shape.items c.args.left c.args.right
+    c.differ.ensures ∙ with_both-is i.most i.spans.items i.cells.items i.shape.items c.args.left c.args.right _ _ (λ l r. refl)
     ∙ ap (λ m. differ_of m c.args.left c.args.right) c.self.view_is

@@ -5,6 +5,7 @@ use Rattle.cr_memory.specs.Memory.{has_room}
 use Rattle.cr_memory.specs.Flat.{object_of}
 use Rattle.cr_memory.proofs.Reaching.{both_true}
 use Rattle.cr_memory.proofs.Lifetimes.{has_room-memory_of, entered}
+use Rattle.cr_memory.proofs.Continuing.{continues-refl, with_object-continues}
 use Rattle.cr_memory.proofs.store.Store.enter.Goals as goal
 
 pub returns-then-not-has_room-clause-no_room : goal.returns-then-not-has_room-clause-no_room
@@ -53,3 +54,9 @@ returns-in-Err-clause-no_room c =
     ∙ sym (has_room-memory_of i.most i.live i.top i.spans.items i.cells.items i.shape.items (length c.args.shape.now) c.self.invariant)
     ∙ sym c.has_room.ensures ∙ c.if-not-has_room.false in
     (λ e. absurd (cc e), λ e. absurd (cc (room, e)))
+
+pub returns-in-Ok-clause-continues : goal.returns-in-Ok-clause-continues
+returns-in-Ok-clause-continues c = let e = returns-in-Ok-clause-entered c in rw e.1 (with_object-continues _ _)
+
+pub returns-then-not-has_room-clause-continues : goal.returns-then-not-has_room-clause-continues
+returns-then-not-has_room-clause-continues c = continues-refl _

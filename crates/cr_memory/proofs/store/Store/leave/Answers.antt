@@ -2,6 +2,7 @@ use Rattle.std.proofs.Common.{ap, ◌∙◌}
 use Rattle.cr_memory.specs.Memory.{without_object}
 use Rattle.cr_memory.proofs.Writing.{entered_if_alive}
 use Rattle.cr_memory.proofs.Ending.{left, alive_seen, links_left, down_left, last_found}
+use Rattle.cr_memory.proofs.Continuing.{without_object-continues}
 use Rattle.cr_memory.proofs.store.Store.leave.Goals as goal
 
 pub top_below-self-inside-requires-clause-links : goal.top_below-self-inside-requires-clause-links
@@ -43,3 +44,6 @@ returns-clause-kept c =
     let last = last_found i.top i.spans.items _ c.args.object c.top_below-self-inside.result c.end_object.ensures.ended t.at_most t.ended t.live in
     let done = left i.most i.live i.top i.spans.items i.cells.items i.shape.items c.args.object c.top_below-self-inside.result c.self.invariant a last in
     rw (← c.self.view_is, c.tidy.ensures, c.cut.ensures, c.cut-2.ensures, c.end-end.ensures, c.end_object.ensures.ended) done.kept
+
+pub returns-clause-others : goal.returns-clause-others
+returns-clause-others c = rw (returns-clause-ended c) (without_object-continues _ c.args.object)

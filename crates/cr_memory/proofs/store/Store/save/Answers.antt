@@ -1,6 +1,7 @@
 use Rattle.std.proofs.Common.{subst}
 use Rattle.cr_memory.specs.Memory.{Memory, KeepsPointers}
 use Rattle.cr_memory.specs.Access.{save_of, Writes}
+use Rattle.cr_memory.specs.Continues.{Continues}
 use Rattle.cr_memory.specs.Flat.{memory_of}
 use Rattle.cr_memory.proofs.View.{pointer_seen, holds_seen}
 use Rattle.cr_memory.proofs.Storing.{save_done}
@@ -37,3 +38,13 @@ returns-clause-kept c =
     let P : Memory → Type 0 = λ m. KeepsPointers m (memory_of i.most i.spans.items c.save.new.cells.items i.shape.items) in
     subst P c.self.view_is
     (save_done i.most i.live i.top i.spans.items i.cells.items _ i.shape.items c.args.at c.args.kind c.args.value c.save.result s at held c.save.ensures).kept
+
+pub returns-clause-continues : goal.returns-clause-continues
+returns-clause-continues c =
+    let i = c.self.inside in
+    let s = c.self.invariant in
+    let at = pointer_seen i.most i.spans.items i.cells.items i.shape.items _ c.args.at c.self.view_is s.room c.requires.pointer in
+    let held = holds_seen i.most i.spans.items i.cells.items i.shape.items _ c.args.kind c.args.value c.self.view_is s.room c.requires.value in
+    let P : Memory → Type 0 = λ m. Continues m (memory_of i.most i.spans.items c.save.new.cells.items i.shape.items) in
+    subst P c.self.view_is
+    (save_done i.most i.live i.top i.spans.items i.cells.items _ i.shape.items c.args.at c.args.kind c.args.value c.save.result s at held c.save.ensures).continues

@@ -1,0 +1,51 @@
+// The words of the command line, as far as what they ask for is built. With each part that lands a test goes from here
+// and from `IsBuilt`, until the words alone decide.
+ghost use Rattle.std.specs.Prelude.{◌≡◌, ◌↔◌, Err, IfOk, IsTrue};
+ghost use Rattle.std.specs.List.{list_all};
+ghost use Rattle.cr_main.specs.Words.{HasNone, HasSettings, IsBuilt, IsRead};
+ghost use Rattle.cr_words.specs.Words.{texts_of};
+
+use cr_words::{Settings, Source, WordFault, words};
+use std::alloc::Global;
+
+/// So many workers are built.
+const WORKERS: u32 = 1;
+
+/// Reads the words after the program's name. What asks for what isn't built is `Usage`, as words in no form are.
+pub fn built_words(alloc: Global, list: &[String]) -> Result<Settings, WordFault>
+    ensures settings { IfOk result (HasSettings (texts_of list.now)) }
+    ensures usage { result ≡ Err WordFault.Usage → HasNone (texts_of list.now) }
+{
+    let settings = words(alloc, list, WORKERS)?;
+    if is_built(&settings) {
+        Ok(settings)
+    } else {
+        Err(WordFault::Usage)
+    }
+}
+
+fn is_built(settings: &Settings) -> bool
+    ensures { IsTrue result ↔ IsBuilt settings.now }
+{
+    settings.window == 256
+        && settings.steps == 1_000_000
+        && are_all(&settings.enabled)
+        && is_read(&settings.source)
+}
+
+fn are_all(enabled: &[bool]) -> bool
+    ensures { result ≡ list_all (λ on. on) enabled.now }
+{
+    for on in enabled {
+        if !*on {
+            return false;
+        }
+    }
+    true
+}
+
+fn is_read(source: &Source) -> bool
+    ensures { IsTrue result ↔ IsRead source.now }
+{
+    matches!(source, Source::Named(_))
+}
