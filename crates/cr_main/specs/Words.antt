@@ -21,9 +21,9 @@ abbrev pub is : Bool → Bool → Bool
 is true on = on
 is false on = not on
 
--- all passes are enabled, or only such as are built: the first two
+-- all passes are enabled, or only such as are built: the first three
 abbrev pub are_built : List Bool → Bool
-are_built enabled = list_all (is true) enabled || list_all (is false) (slice_range enabled 2 10)
+are_built enabled = list_all (is true) enabled || list_all (is false) (slice_range enabled 3 10)
 
 -- What is asked for is built: the window and the steps are those that stand without the options, all passes are enabled
 -- or only such as are built, and the file is read.

@@ -34,7 +34,7 @@ fn is_built(settings: &Settings) -> bool
 }
 
 /// The passes with a number below this are built.
-const PASSES: usize = 2;
+const PASSES: usize = 3;
 
 fn are_built(enabled: &[bool; 10]) -> bool
     ensures { result ≡ are_built enabled.now }

@@ -91,7 +91,8 @@ no|--steps|7|has:b|f.c
 yes|--passes|l|has:b|f.c
 yes|--passes=tl|has:b|f.c
 yes|--passes|t|has:b|f.c
-no|--passes|ltb|has:b|f.c
+yes|--passes|ltb|has:b|f.c
+no|--passes|ltbu|has:b|f.c
 no|--passes|f|has:b|f.c
 no|has:b|gen:7:40
 no|has:b

@@ -1,13 +1,13 @@
 // What is made once for a file.
-ghost use Rattle.std.specs.Prelude.{◌≡◌, ◌≤◌, [], ◌∷◌, if◌then◌else◌, IfOk, MatchOption, length};
-ghost use Rattle.cr_passes.specs.Offers.{IsKnown, is_on, menu_at, nothing};
-ghost use Rattle.pass_text.specs.Lines.{lines_of};
+ghost use Rattle.std.specs.Prelude.{◌≡◌, ◌≤◌, IfOk, MatchOption, length};
+ghost use Rattle.cr_passes.specs.Offers.{IfOn, IsKnown, is_on, known_of, menu_at, nothing};
+ghost use Rattle.pass_text.specs.Brackets.{IsBracketOffering};
 ghost use Rattle.pass_text.specs.Runs.{t_offering};
 
 use cr_cursor::NoMemory;
 use cr_edit::Menu;
 use cr_tokens::{Token, TokenFault, Tokens, read};
-use pass_text::{count_lines, runs_of_tokens};
+use pass_text::{brackets, count_lines, runs_of_tokens};
 use std::alloc::{AllocError, Global};
 use std::marker::Model;
 
@@ -52,9 +52,13 @@ pub fn index_of(alloc: Global, enabled: &[bool], file: &[u8]) -> Result<Index, N
     ensures { IfOk result (λ index. IsKnown enabled.now file.now index) }
 {
     match read(alloc, file) {
-        Ok(tokens) => known(alloc, enabled, file, runs(alloc, is_on(enabled, 1), &tokens)?),
+        Ok(tokens) => {
+            let runs = runs(alloc, is_on(enabled, 1), &tokens)?;
+            let brackets = pairs(alloc, is_on(enabled, 2), file, &tokens)?;
+            known(alloc, enabled, file, runs, brackets)
+        }
         Err(TokenFault::NoMemory) => Err(AllocError),
-        Err(_) => known(alloc, enabled, file, nothing(alloc)),
+        Err(_) => known(alloc, enabled, file, nothing(alloc), nothing(alloc)),
     }
 }
 
@@ -74,7 +78,7 @@ fn nothing(alloc: Global) -> Menu
 }
 
 fn runs(alloc: Global, on: bool, tokens: &Tokens) -> Result<Menu, NoMemory>
-    ensures { IfOk result (λ menu. menu ≡ (if on then t_offering tokens.now.list.items else nothing)) }
+    ensures { IfOk result (IfOn on (λ menu. menu ≡ t_offering tokens.now.list.items)) }
 {
     if on {
         runs_of_tokens(alloc, tokens.list.as_slice())
@@ -83,9 +87,25 @@ fn runs(alloc: Global, on: bool, tokens: &Tokens) -> Result<Menu, NoMemory>
     }
 }
 
-fn known(alloc: Global, enabled: &[bool], file: &[u8], runs: Menu) -> Result<Index, NoMemory>
+fn pairs(alloc: Global, on: bool, file: &[u8], tokens: &Tokens) -> Result<Menu, NoMemory>
+    ensures { IfOk result (IfOn on (IsBracketOffering file.now tokens.now.list.items)) }
+{
+    if on {
+        brackets(alloc, file, tokens.list.as_slice())
+    } else {
+        Ok(nothing(alloc))
+    }
+}
+
+fn known(
+    alloc: Global,
+    enabled: &[bool],
+    file: &[u8],
+    runs: Menu,
+    brackets: Menu,
+) -> Result<Index, NoMemory>
     requires { length file.now ≤ 1048576 }
-    ensures { IfOk result (λ index. index ≡ record { lines = if is_on enabled.now 0 then length (lines_of file.now) else 0; menus = nothing ∷ (runs ∷ []) }) }
+    ensures { IfOk result (λ index. index ≡ known_of enabled.now file.now runs brackets) }
 {
     let lines = if is_on(enabled, 0) {
         count_lines(file)
@@ -95,5 +115,6 @@ fn known(alloc: Global, enabled: &[bool], file: &[u8], runs: Menu) -> Result<Ind
     let mut menus = Vec::new(alloc);
     menus.push(nothing(alloc))?;
     menus.push(runs)?;
+    menus.push(brackets)?;
     Ok(Index { lines, menus })
 }

@@ -6,4 +6,4 @@ use Rattle.cr_main.proofs.built.are_built.Goals as goal
 
 pub returns-else-are_all : goal.returns-else-are_all
 returns-else-are_all c =
-    c.are_all-else-are_all.ensures ∙ ap {B = Bool} (λ all. all || list_all (is false) (slice_range c.args.enabled.now 2 10)) (sym (sym c.are_all.ensures ∙ c.if-are_all.false))
+    c.are_all-else-are_all.ensures ∙ ap {B = Bool} (λ all. all || list_all (is false) (slice_range c.args.enabled.now 3 10)) (sym (sym c.are_all.ensures ∙ c.if-are_all.false))
