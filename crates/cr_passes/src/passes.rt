@@ -9,8 +9,18 @@ use pass_text::{lines_variant, lines_width};
 use std::alloc::Global;
 
 /// The ten passes l t b u s c i p r f by their numbers from 0 on, of which some are enabled. So far l and t are built; the others offer nothing.
+#[derive(Clone, Copy, PartialEq, Eq)]
 pub struct CPasses {
     pub enabled: [bool; 10],
+}
+
+impl CPasses {
+    /// Pass l alone.
+    pub fn lines() -> CPasses {
+        let mut enabled = [false; 10];
+        enabled[0] = true;
+        CPasses { enabled }
+    }
 }
 
 impl Passes for CPasses {
