@@ -361,8 +361,9 @@ fn files(alloc: Global, name: &str, text: &[u8], failing: &[u64]) -> Result<MemF
 // The words of a case, whose only pass is l but where it names others.
 fn words(alloc: Global, list: &[&str]) -> Result<Vec<String>, AllocError> {
     let mut words = Vec::new(alloc);
-    if !list[0].starts_with("--passes") {
-        words.push(String::from_str(alloc, "--passes=l")?)?;
+    match list.first() {
+        Some(first) if first.starts_with("--passes") => {}
+        _ => words.push(String::from_str(alloc, "--passes=l")?)?,
     }
     for word in list {
         words.push(String::from_str(alloc, word)?)?;
