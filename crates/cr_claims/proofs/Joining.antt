@@ -7,12 +7,10 @@ use Rattle.atomic_table.specs.Table.{Splits, Joins}
 use Rattle.atomic_table.proofs.Lists.{at_set, at_snoc, set_else}
 use Rattle.cr_core.specs.declared.marks.HitKind.{HitKind}
 use Rattle.cr_core.specs.declared.marks.HitKind.TheVariants.{Yes, Failed, Starved}
-use Rattle.cr_core.specs.Row.{Row, kind_no, opening, placed, last_position}
+use Rattle.cr_core.specs.Row.{Row, kind_no, opening, last_position}
 use Rattle.cr_core.specs.Sound.{Sum, total, IsOver, IsSound}
-use Rattle.cr_core.specs.State.{IsFirst, first_of}
-use Rattle.cr_core.proofs.Rows.{placed-last}
-use Rattle.cr_core.proofs.FirstHit.{IsOverAt, first_is}
-use Rattle.cr_core.proofs.Totals.{total-marks}
+use Rattle.cr_core.specs.State.{State, IsFinished, IsFirst, first_of}
+use Rattle.cr_core.specs.Laws.{TheLeastHitIsFirst}
 use Rattle.cr_claims.specs.declared.view.View.{View}
 use Rattle.cr_claims.specs.View.{new_view, spent_view, one_split_more, with_joined, joins}
 use Rattle.cr_claims.specs.Rule.{live, in_lists, in_views, keeper_count, Fits, IsKept}
@@ -203,14 +201,10 @@ total-ones : (ls : List Row) → total one ls ≡ length ls
 total-ones [] = refl
 total-ones (l ∷ ls) = omega (arith, total-ones ls)
 
-total-get : (f : Row → ℕ) (ls : List Row) (i : ℕ) → f (get_or ls i []) ≤ total f ls + f []
-total-get f [] i = omega arith
-total-get f (l ∷ ls) zero = omega arith
-total-get f (l ∷ ls) (suc i) = omega (arith, total-get f ls i)
-
-placed-there : (l : Row) → l ≢ [] → 0 < placed (last_position l) l
-placed-there [] h = absurd (h refl)
-placed-there (e ∷ es) h = placed-last e es
+inside : (ls : List Row) (i : ℕ) → get_or ls i [] ≢ [] → i < length ls
+inside [] i full = absurd (full refl)
+inside (l ∷ ls) zero full = omega arith
+inside (l ∷ ls) (suc i) full = omega (arith, inside ls i full)
 
 -- a view that counts no list is spent, and counts nothing
 no_lists : (f : Row → ℕ) (u : View) (b : Bool) → u.spent ≡ b → live (in_lists one) u ≡ 0 → live (in_lists f) u ≡ 0
@@ -226,30 +220,20 @@ holds_all len words vs id v k there is_live keeper all f =
     (omega (arith, keeper_splits len words vs id v k there is_live keeper, live-is (in_lists one) v is_live, total-ones v.joined))
     (λ j u at. no_lists f u u.spent refl) ∙ live-is (in_lists f) v is_live
 
-over_at : (len next least : ℕ) (v : View) → IsSound len next least (held v) → Fits len least v → IsDone v → IsOverAt len next least (held v)
-over_at len next least v sound f done =
-    elim done.one_left [
-      | inl left ↦
-          (let q = f.it_left_at_the_end left in
-          record {
-            marks = λ p. total-marks p (v.own ∷ v.joined);
-            sound = sound;
-            closed = done.nothing_is_open;
-            end = last_position v.own;
-            end_claimed = omega (arith, placed-there v.own q.0, sound.each_claimed_number_stands_once (last_position v.own));
-            end_over = q.1;
-          })
-      | inr (i, full) ↦
-          (let l = get_or v.joined i [] in
-          record {
-            marks = λ p. total-marks p (v.own ∷ v.joined);
-            sound = sound;
-            closed = done.nothing_is_open;
-            end = last_position l;
-            end_claimed = omega (arith, placed-there l full, total-get (placed (last_position l)) v.joined i, sound.each_claimed_number_stands_once (last_position l));
-            end_over = elim (f.it_joined_what_is_over i) [ inl none ↦ absurd (full none) | inr over ↦ over ];
-          })
-    ]
+-- the state of the core that the keeper's lists make
+abbrev held_state : ℕ → ℕ → ℕ → View → State
+held_state len next least v = record { len = len; next = next; least = least; lists = v.own ∷ v.joined }
+
+is_finished : (len next least : ℕ) (v : View) → Fits len least v → IsDone v → IsFinished (held_state len next least v)
+is_finished len next least v f done = record {
+  nothing_is_open = done.nothing_is_open;
+  one_saw_the_end =
+      elim done.one_left [
+        | inl left ↦ (let q = f.it_left_at_the_end left in (0, omega arith, q.0, q.1))
+        | inr (i, full) ↦
+            (suc i, omega (arith, inside v.joined i full), full, elim (f.it_joined_what_is_over i) [ inl none ↦ absurd (full none) | inr over ↦ over ])
+      ];
+}
 
 -- once all passes are joined, the keeper's lists are a sound state by themselves
 pub held_is_sound : (len : ℕ) (words : List ℕ) (vs : List View) (id : ℕ) (v : View) (k : IsKept len words vs) → get_elem? vs id ≡ some v → v.spent ≡ false
@@ -260,10 +244,10 @@ held_is_sound len words vs id v k there is_live keeper all =
     subst P (λ j f. from f j) k.is_sound
 
 -- what the word `least` says then
-pub closes : (len : ℕ) (words : List ℕ) (vs : List View) (id : ℕ) (v : View) (n : ℕ) (k : IsKept len words vs) → get_elem? vs id ≡ some v → v.spent ≡ false
+pub closes : TheLeastHitIsFirst → (len : ℕ) (words : List ℕ) (vs : List View) (id : ℕ) (v : View) (n : ℕ) (k : IsKept len words vs) → get_elem? vs id ≡ some v → v.spent ≡ false
     → v.keeper ≡ true → joins v ≡ v.splits → IsDone v → get_elem? words 1 ≡ some n → IsFirst len (held v) (first_of len n)
-closes len words vs id v n k there is_live keeper all done at =
+closes law len words vs id v n k there is_live keeper all done at =
     let sound = held_is_sound len words vs id v k there is_live keeper all in
     let is : k.least ≡ n = some-injective k.least n (sym (ap (λ (ws : List ℕ). get_elem? ws 1) k.two_words) ∙ at) in
     let R : ℕ → Type 0 = λ m. IsFirst len (held v) (first_of len m) in
-    subst R is (first_is len k.next k.least (held v) (over_at len k.next k.least v sound (k.each_fits id v there is_live) done))
+    subst R is (law (held_state len k.next k.least v) sound (is_finished len k.next k.least v (k.each_fits id v there is_live) done))

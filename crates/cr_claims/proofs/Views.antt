@@ -1,14 +1,11 @@
 -- Sums over all views, where one view changes.
-use Rattle.std.proofs.Common.{◌≡◌, ℕ, ◌+◌, ◌≤◌, Bool, true, false, if◌then◌else◌, List, [], ◌∷◌, ◌++◌, set, refl, sym, ap, arith}
+use Rattle.std.proofs.Common.{◌≡◌, ℕ, ◌+◌, ◌≤◌, true, false, List, [], ◌∷◌, ◌++◌, set, refl, sym, ap, arith}
 use Prim.Native.Nat.{zero, suc}
 use mathlib.Core.Option.{some, some-injective, some-ne-none}
 use lib.ListN.{get_elem?}
-use Rattle.cr_core.specs.Row.{placed}
 use Rattle.cr_core.specs.Sound.{total}
-use Rattle.cr_core.proofs.Rows.{with_any_mark, placed-marks}
-use Rattle.cr_core.proofs.Totals.{total-marks}
 use Rattle.cr_claims.specs.declared.view.View.{View}
-use Rattle.cr_claims.specs.Rule.{live, in_lists, in_views}
+use Rattle.cr_claims.specs.Rule.{live}
 
 module _ {A : Type 0} where
   pub total-set : (g : A → ℕ) (ls : List A) (i : ℕ) (a m : A) → get_elem? ls i ≡ some a → total g (set ls i m) + g a ≡ total g ls + g m
@@ -46,15 +43,3 @@ live-is w v h = grind arith
 
 pub live-spent : (w : View → ℕ) (v : View) → v.spent ≡ true → live w v ≡ 0
 live-spent w v h = grind arith
-
--- every position that stands in the lists of the views has a mark there
-live-marks : (p : ℕ) (v : View) → live (in_lists (placed p)) v ≡ with_any_mark (λ f. live (in_lists f) v) p
-live-marks p v = go v.spent
-  where
-    go : (b : Bool) → (if b then 0 else in_lists (placed p) v) ≡ with_any_mark (λ f. if b then 0 else in_lists f v) p
-    go true = refl
-    go false = omega (arith, placed-marks p v.own, total-marks p v.joined)
-
-pub views-marks : (p : ℕ) (vs : List View) → in_views vs (placed p) ≡ with_any_mark (in_views vs) p
-views-marks p [] = refl
-views-marks p (v ∷ vs) = omega (arith, live-marks p v, views-marks p vs)

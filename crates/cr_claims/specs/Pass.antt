@@ -12,9 +12,13 @@ use Rattle.cr_core.specs.Sound.{Sum, total}
 abbrev pub view_of : Pass → View
 view_of p = p.seat.me.0
 
+-- how many positions the epoch of these claims has
+abbrev pub len_of : Claims → ℕ
+len_of c = c.len
+
 -- the pass is one of these claims
 abbrev pub IsOf : Claims → Pass → Type 0
-IsOf c p = (p.seat.table_id ≡ c.table.shared.table_id) × ((view_of p).len ≡ c.len)
+IsOf c p = (p.seat.table_id ≡ c.table.shared.table_id) × ((view_of p).len ≡ len_of c)
 
 -- the pass's seat with its read word and its looks left out: what a look leaves as it was
 abbrev pub steady : Pass → Seat ℕ View

@@ -11,7 +11,9 @@ use crate::plays::{
 };
 use crate::view::View;
 use atomic_table::{Seat, Table};
-use cr_core::{First, HitKind, Mark, NoMemory, Settle, hit_of, word_of};
+use cr_core::{
+    First, HitKind, Mark, NoMemory, Settle, few_are_tried, hit_of, the_least_hit_is_first, word_of,
+};
 use std::alloc::Global;
 
 /// The two words of an epoch, for its workers to share.
@@ -34,12 +36,12 @@ pub struct Pass {
 }
 
 impl Claims {
-    ghost use Rattle.cr_claims.specs.Pass.{view_of, IsOf, steady, held, IsDone};
+    ghost use Rattle.cr_claims.specs.Pass.{view_of, len_of, IsOf, steady, held, IsDone};
 
     /// The words of an epoch of `len` positions, and its first pass, the keeper's.
     pub fn open(alloc: Global, len: u64) -> Result<(Claims, Pass), NoMemory>
         requires { len ≤ 4096 }
-        ensures { IfOk result (λ r. IsOf r.0 r.1 × (r.0.len ≡ len) × (view_of r.1 ≡ first_view len)) }
+        ensures { IfOk result (λ r. IsOf r.0 r.1 × (len_of r.0 ≡ len) × (view_of r.1 ≡ first_view len)) }
     {
         let (table, seat) = Table::of_words(alloc, &[0, 4 * len + 3], &len)?;
         Ok((Claims { table, len }, Pass { seat, last: 0 }))
@@ -61,7 +63,7 @@ impl Claims {
     fn claim_as<D: Done>(&self, pass: &mut Pass) -> u64
         requires of { IsOf self.now pass.old }
         requires in_force { (view_of pass.old).left ≡ false }
-        requires may { MayClaim self.now.len (view_of pass.old).read D.done (view_of pass.old).own }
+        requires may { MayClaim (len_of self.now) (view_of pass.old).read D.done (view_of pass.old).own }
         ensures stays { IsOf self.now pass.new }
         ensures view { view_of pass.new ≡ with_own (claimed result D.done (view_of pass.old).own) (view_of pass.old) }
         ensures last { IsLast (view_of pass.new).own (record { position = result; mark = Mark.Open }) }
@@ -80,7 +82,7 @@ impl Claims {
     pub fn claim(&self, pass: &mut Pass, done: Settle) -> u64
         requires of { IsOf self.now pass.old }
         requires in_force { (view_of pass.old).left ≡ false }
-        requires may { MayClaim self.now.len (view_of pass.old).read done (view_of pass.old).own }
+        requires may { MayClaim (len_of self.now) (view_of pass.old).read done (view_of pass.old).own }
         ensures stays { IsOf self.now pass.new }
         ensures view { view_of pass.new ≡ with_own (claimed result done (view_of pass.old).own) (view_of pass.old) }
         ensures last { IsLast (view_of pass.new).own (record { position = result; mark = Mark.Open }) }
@@ -110,7 +112,7 @@ impl Claims {
     /// The open entry is a hit, by one `fetch_min` on `least`. The pass has then read the lesser of the word found and its own.
     pub fn hit(&self, pass: &mut Pass, kind: HitKind)
         requires of { IsOf self.now pass.old }
-        requires may { MayHit self.now.len (view_of pass.old).own }
+        requires may { MayHit (len_of self.now) (view_of pass.old).own }
         ensures stays { IsOf self.now pass.new }
         ensures view { view_of pass.new ≡ struck (view_of pass.new).read (with_last (Mark.Hit kind) (view_of pass.old).own) (view_of pass.old) }
         ensures falls { (view_of pass.new).read ≤ (view_of pass.old).read }
@@ -124,7 +126,7 @@ impl Claims {
 
     fn leave_as<D: Done>(&self, pass: &mut Pass)
         requires of { IsOf self.now pass.old }
-        requires may { MayLeave self.now.len (view_of pass.old).read D.done (view_of pass.old).own }
+        requires may { MayLeave (len_of self.now) (view_of pass.old).read D.done (view_of pass.old).own }
         ensures stays { IsOf self.now pass.new }
         ensures view { view_of pass.new ≡ gone (settled D.done (view_of pass.old).own) (view_of pass.old) }
     {
@@ -135,7 +137,7 @@ impl Claims {
     /// it has read.
     pub fn leave(&self, pass: &mut Pass, done: Settle)
         requires of { IsOf self.now pass.old }
-        requires may { MayLeave self.now.len (view_of pass.old).read done (view_of pass.old).own }
+        requires may { MayLeave (len_of self.now) (view_of pass.old).read done (view_of pass.old).own }
         ensures stays { IsOf self.now pass.new }
         ensures view { view_of pass.new ≡ gone (settled done (view_of pass.old).own) (view_of pass.old) }
     {
@@ -165,10 +167,12 @@ impl Claims {
         requires keeper { (view_of pass).keeper ≡ true }
         requires all_joined { joins (view_of pass) ≡ (view_of pass).splits }
         requires done { IsDone (view_of pass) }
-        ensures first { IsFirst self.len (held (view_of pass)) result }
+        ensures first { IsFirst (len_of self) (held (view_of pass)) result }
         ensures once { (p : ℕ) → held (view_of pass) (placed p) ≤ 1 }
-        ensures few { held (view_of pass) (under self.len) ≤ self.len }
+        ensures few { held (view_of pass) (under (len_of self)) ≤ len_of self }
     {
+        few_are_tried();
+        the_least_hit_is_first();
         let Claims { table, len } = self;
         let Pass { seat, last: _ } = pass;
         let closed = table.close_with(seat);

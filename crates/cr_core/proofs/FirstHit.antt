@@ -6,10 +6,9 @@ use Rattle.cr_core.specs.declared.marks.HitKind.TheVariants.{Yes, Failed, Starve
 use Rattle.cr_core.specs.declared.marks.Mark.TheVariants.{Open, No, Hit, Skipped}
 use Rattle.cr_core.specs.declared.events.First.{First}
 use Rattle.cr_core.specs.declared.events.First.TheVariants as first
-use Rattle.cr_core.specs.Row.{kind_no, word, opening, placed, marked}
+use Rattle.cr_core.specs.Row.{with_any_mark, kind_no, word, opening, placed, marked}
 use Rattle.cr_core.specs.Sound.{Sum, IsOver, IsSound}
 use Rattle.cr_core.specs.State.{AllRejected, first_of, IsLeastHit, IsFirst}
-use Rattle.cr_core.proofs.Rows.{with_any_mark}
 use Rattle.cr_core.proofs.Steps.{some_or_none}
 
 pub first-none : (len : ℕ) → first_of len (opening len) ≡ first.None

@@ -4,7 +4,7 @@ use Rattle.cr_core.specs.declared.marks.HitKind.TheVariants.{Yes, Failed, Starve
 use Rattle.cr_core.specs.declared.marks.Mark.{Mark}
 use Rattle.cr_core.specs.declared.marks.Mark.TheVariants.{Open, No, Hit, Skipped}
 use Rattle.cr_core.specs.declared.marks.Entry.{Entry}
-use Rattle.cr_core.specs.Row.{Row, mark_no, apart, placed, marked, disorder, early, past, last_position, last_mark, with_last}
+use Rattle.cr_core.specs.Row.{with_any_mark, Row, mark_no, apart, placed, marked, disorder, early, past, last_position, last_mark, with_last}
 
 pub placed-append : (p : ℕ) (a b : Row) → placed p (a ++ b) ≡ placed p a + placed p b
 placed-append p [] b = omega arith
@@ -107,11 +107,6 @@ one_mark d Skipped = omega arith
 one_mark d (Hit Yes) = omega arith
 one_mark d (Hit Failed) = omega arith
 one_mark d (Hit Starved) = omega arith
-
--- how often a position stands in a list, with any mark
-abbrev pub with_any_mark : ((Row → ℕ) → ℕ) → ℕ → ℕ
-with_any_mark sum p = sum (marked p Open) + sum (marked p No) + sum (marked p Skipped)
-    + sum (marked p (Hit Yes)) + sum (marked p (Hit Failed)) + sum (marked p (Hit Starved))
 
 pub placed-marks : (p : ℕ) (l : Row) → placed p l ≡ with_any_mark (λ f. f l) p
 placed-marks p [] = refl

@@ -1,18 +1,18 @@
 -- From all lists to one and the rest, and back.
-use Rattle.std.proofs.Common.{◌≡◌, ◌≢◌, ℕ, ◌+◌, ◌-◌, ◌^◌, ◌<◌, ◌≤◌, List, [], ◌∷◌, ◌++◌, length, get_or, set, take, refl, sym, ap, ◌∙◌, subst, arith, inl, inr, replicate, Bool, true, false}
-use Rattle.std.proofs.Math.ListN.{length-set}
-use Rattle.std.proofs.lemmas.List.{get_or_past, take_more, length-replicate}
+use Rattle.std.proofs.Common.{◌≡◌, ◌≢◌, ℕ, ◌+◌, ◌-◌, ◌^◌, ◌<◌, ◌≤◌, List, [], ◌∷◌, ◌++◌, length, get_or, set, take, refl, sym, ap, subst, arith, ◌⊎◌, inl, inr, replicate, Bool, true, false}
+use Rattle.std.specs.Prelude.{Result, Ok, Err, IfOk, OnErr}
+use Rattle.std.proofs.lemmas.List.{get_or_past, take_more}
 use Prim.Native.Nat.{zero, suc}
 use Rattle.cr_core.specs.declared.events.Event.{Event}
 use Rattle.cr_core.specs.declared.events.Event.TheVariants as event
 use Rattle.cr_core.specs.declared.marks.Mark.TheVariants.{Open, No, Hit, Skipped}
-use Rattle.cr_core.specs.Row.{Row, mark_no, placed, marked, disorder, early, past, last_position}
+use Rattle.cr_core.specs.Row.{with_any_mark, Row, mark_no, placed, marked, disorder, early, past, last_position}
 use Rattle.cr_core.specs.Sound.{Sum, total, IsSound}
 use Rattle.cr_core.specs.State.{State, start, in_lists, IsSoundState, IsFinished, IsFirst, first_of}
 use Rattle.cr_core.specs.Laws.{IsInOrder}
-use Rattle.cr_core.specs.Machine.{IsAllowed, IsInRange, worker_of, list_of, list_after, after, Does, Runs}
+use Rattle.cr_core.specs.Machine.{IsAllowed, after, Does, Runs}
 use Rattle.cr_core.specs.Machine.Runs.{ends, does, passes_over}
-use Rattle.cr_core.proofs.Rows.{placed-marks, placed-last, with_any_mark}
+use Rattle.cr_core.proofs.Rows.{placed-marks, placed-last}
 use Rattle.cr_core.proofs.FirstHit.{IsOverAt, first_is}
 use Rattle.cr_core.proofs.Steps.{some_or_none, with_row, claims, settles, hits}
 
@@ -90,22 +90,6 @@ runs_more s es t e u false (ends _) h =
 runs_more s es t e u b (does _ f fs _ a r) h = does s f (fs ++ e ∷ []) u a (runs_more (after f s) fs t e u b r h)
 runs_more s es t e u b (passes_over _ f fs _ a r) h = passes_over s f (fs ++ e ∷ []) u a (runs_more s fs t e u b r h)
 
--- what stays true along a run: soundness, the length, and the number of lists
-pub record Stays (len workers : ℕ) (s : State) : Type 0 where
-  pub sound : IsSoundState s
-  pub same_len : s.len ≡ len
-  pub same_lists : length s.lists ≡ workers
-
-pub stays : (len workers : ℕ) (e : Event) (s t : State) (b : Bool) → Does e s t b → Stays len workers s → Stays len workers t
-stays len workers e s t true h k =
-    let P : State → Type 0 = Stays len workers in
-    subst P (sym h.1) (record {
-      sound = keeps e s h.0 k.sound;
-      same_len = k.same_len;
-      same_lists = length-set s.lists (worker_of e) (list_after s.next e (list_of s (worker_of e))) ∙ k.same_lists;
-    })
-stays len workers e s t false h k = let P : State → Type 0 = Stays len workers in subst P (sym h.1) k
-
 past-one : (len : ℕ) (l : Row) → past len l ≤ 1
 past-one len [] = omega arith
 past-one len (e ∷ []) = omega arith
@@ -115,11 +99,20 @@ pub total-past : (len : ℕ) (ls : List Row) → total (past len) ls ≤ length 
 total-past len [] = omega arith
 total-past len (l ∷ ls) = omega (arith, past-one len l, total-past len ls)
 
-pub in_range : (len workers : ℕ) (s : State) → len ≤ 4096 → workers < 2 ^ 32 → Stays len workers s → IsInRange s
-in_range len workers s h w k = record {
-  length_is_small = omega (arith, k.same_len);
-  a_claim_fits = omega (arith, k.same_len, k.same_lists, k.sound.next_is_bounded, total-past s.len s.lists);
-}
+-- one more position can be claimed
+pub room : (s : State) → s.len ≤ 4096 → (s.next < 2 ^ 64 - 1) ⊎ IsSoundState s → length s.lists < 2 ^ 63 → s.next + 1 < 2 ^ 64
+room s small (inl there) few = omega arith
+room s small (inr sound) few = omega (arith, sound.next_is_bounded, total-past s.len s.lists)
+
+-- an answer keeps soundness
+pub does_keep : (e : Event) (s t : State) (b : Bool) → Does e s t b → IsSoundState s → IsSoundState t
+does_keep e s t true h sound = subst IsSoundState (sym h.1) (keeps e s h.0 sound)
+does_keep e s t false h sound = subst IsSoundState (sym h.1) sound
+
+-- so does one that memory may be wanting for
+pub answer_keeps : {E : Type 0} (e : Event) (s t : State) (r : Result Bool E) → IfOk r (Does e s t) → OnErr r (t ≡ s) → IsSoundState s → IsSoundState t
+answer_keeps e s t (Ok b) ok err sound = does_keep e s t b ok sound
+answer_keeps e s t (Err _) ok err sound = subst IsSoundState (sym err) sound
 
 placed-there : (l : Row) → l ≢ [] → 0 < placed (last_position l) l
 placed-there [] h = absurd (h refl)
@@ -138,11 +131,14 @@ finished s sound f =
       end_over = over;
     }
 
+pub least_first : (s : State) → IsSoundState s → IsFinished s → IsFirst s.len (in_lists s) (first_of s.len s.least)
+least_first s sound f = first_is _ _ _ _ (finished s sound f)
+
 pub ordered : (len workers : ℕ) (events : List Event) (s : State) → Runs (start len workers) events s
     → IsSoundState s × (IsFinished s → IsFirst s.len (in_lists s) (first_of s.len s.least))
 ordered len workers events s r =
     let sound = runs_keep _ events s r (begins len workers) in
-    (sound, λ f. first_is _ _ _ _ (finished s sound f))
+    (sound, least_first s sound)
 
 in_order : (len low : ℕ) (l : Row) → disorder low l ≡ 0 → early len l ≡ 0 → IsInOrder len low l
 in_order len low [] rise close = tt
@@ -159,18 +155,15 @@ each_in_order s sound i = elim (some_or_none (length s.lists - i)) [
 ]
 
 -- a turn of the loop over a list of events
-pub run_turn : (len workers : ℕ) (es : List Event) (i : ℕ) (d : Event) (t u : State) (b : Bool) → i < length es → Does (get_or es i d) t u b
-    → Runs (start len workers) (take i es) t × Stays len workers t
-    → Runs (start len workers) (take (i + 1) es) u × Stays len workers u
-run_turn len workers es i d t u b short h k =
-    let P : List Event → Type 0 = λ fs. Runs (start len workers) fs u in
-    (subst P (sym (take_more es i d short)) (runs_more _ _ t (get_or es i d) u b k.0 h), stays len workers (get_or es i d) t u b h k.1)
+pub run_turn : (s : State) (es : List Event) (i : ℕ) (d : Event) (t u : State) (b : Bool) → i < length es → Does (get_or es i d) t u b
+    → Runs s (take i es) t → Runs s (take (i + 1) es) u
+run_turn s es i d t u b short h r =
+    let P : List Event → Type 0 = λ fs. Runs s fs u in
+    subst P (sym (take_more es i d short)) (runs_more _ _ t (get_or es i d) u b r h)
 
 -- and its beginning
-pub run_begins : (len workers : ℕ) (s : State) → s ≡ start len workers → Runs (start len workers) [] s × Stays len workers s
-run_begins len workers s e =
-    let P : State → Type 0 = λ x. Runs (start len workers) [] x × Stays len workers x in
-    subst P (sym e) (ends (start len workers), record { sound = begins len workers; same_len = refl; same_lists = length-replicate workers [] })
+pub run_begins : (s t : State) → t ≡ s → Runs s [] t
+run_begins s t e = let P : State → Type 0 = λ x. Runs s [] x in subst P (sym e) (ends s)
 
 -- the events of a list end in one state
 pub one_end : (s : State) (es : List Event) (t u : State) → Runs s es t → Runs s es u → t ≡ u

@@ -3,7 +3,7 @@ use Rattle.std.specs.Prelude.{◌≡◌, ◌≢◌, ℕ, ◌+◌, ◌<◌, ◌�
 use Rattle.cr_core.specs.declared.marks.Mark.{Mark}
 use Rattle.cr_core.specs.declared.marks.Mark.TheVariants.{Open}
 use Rattle.cr_core.specs.declared.events.Event.{Event}
-use Rattle.cr_core.specs.Row.{Row, below, placed, marked, under, early, past}
+use Rattle.cr_core.specs.Row.{Row, below, placed, marked, with_any_mark, under, early, past}
 use Rattle.cr_core.specs.Sound.{total, IsSound}
 use Rattle.cr_core.specs.State.{State, start, in_lists, IsSoundState, IsFinished, IsFirst, first_of}
 use Rattle.cr_core.specs.Machine.{Runs}
@@ -31,6 +31,14 @@ IsMarked s p m = (i : ℕ) × (j : ℕ) × (slice_get (slice_index_or s.lists i 
 -- where a count is above 0 there is an entry
 abbrev pub CountsAreEntries : Type 0
 CountsAreEntries = (s : State) (p : ℕ) (m : Mark) → (0 < in_lists s (marked p m)) ↔ IsMarked s p m
+
+-- an entry has one mark: a position stands in lists as often as it stands there with any mark
+abbrev pub EachEntryHasOneMark : Type 0
+EachEntryHasOneMark = (p : ℕ) (lists : List Row) → total (placed p) lists ≡ with_any_mark (λ f. total f lists) p
+
+-- in a finished sound state, however it came about, the least hit is the first position in order that wasn't rejected
+abbrev pub TheLeastHitIsFirst : Type 0
+TheLeastHitIsFirst = (s : State) → IsSoundState s → IsFinished s → IsFirst s.len (in_lists s) (first_of s.len s.least)
 
 -- the events of a list, from a state on, end in one state
 abbrev pub ARunHasOneEnd : Type 0

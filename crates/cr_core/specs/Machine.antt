@@ -1,5 +1,5 @@
 -- The events of the speculative core: when each is allowed, and what it does.
-use Rattle.std.specs.Prelude.{◌≡◌, ◌≢◌, ℕ, ◌+◌, ◌-◌, ◌<◌, ◌≤◌, ◌^◌, ◌⊎◌, Bool, MatchBool, List, [], ◌∷◌, ◌++◌, length, slice_index_or, slice_set}
+use Rattle.std.specs.Prelude.{◌≡◌, ◌≢◌, ℕ, ◌+◌, ◌<◌, ◌⊎◌, Bool, MatchBool, List, [], ◌∷◌, ◌++◌, length, slice_index_or, slice_set}
 use Prim.Native.Nat.{min}
 use Rattle.cr_core.specs.declared.marks.HitKind.{HitKind}
 use Rattle.cr_core.specs.declared.marks.Mark.TheVariants.{Open, No, Hit, Skipped}
@@ -99,8 +99,3 @@ pub data Runs : State → List Event → State → Type 0 where
   ends : (s : State) → Runs s [] s
   does : (s : State) (e : Event) (es : List Event) (t : State) → IsAllowed e s → Runs (after e s) es t → Runs s (e ∷ es) t
   passes_over : (s : State) (e : Event) (es : List Event) (t : State) → ¬ IsAllowed e s → Runs s es t → Runs s (e ∷ es) t
-
--- the numbers of a state are those of an epoch, and one more position can be claimed
-pub record IsInRange (s : State) : Type 0 where
-  pub length_is_small : s.len ≤ 4096
-  pub a_claim_fits : s.next < 2 ^ 64 - 1

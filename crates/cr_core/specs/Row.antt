@@ -53,6 +53,11 @@ abbrev pub marked : ℕ → Mark → Row → ℕ
 marked p m [] = 0
 marked p m (e ∷ es) = (1 - (apart p e.position + apart (mark_no m) (mark_no e.mark))) + marked p m es
 
+-- how often it stands with any mark, in whatever lists a sum counts
+abbrev pub with_any_mark : ((Row → ℕ) → ℕ) → ℕ → ℕ
+with_any_mark sum p = sum (marked p Open) + sum (marked p No) + sum (marked p Skipped)
+    + sum (marked p (Hit Yes)) + sum (marked p (Hit Failed)) + sum (marked p (Hit Starved))
+
 -- how many entries are out of order: at a position not above the one before (the first: below `low`), or open and not the last
 abbrev pub disorder : ℕ → Row → ℕ
 disorder low [] = 0

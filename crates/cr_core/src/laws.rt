@@ -1,4 +1,4 @@
-ghost use Rattle.cr_core.specs.Laws.{ARunHasOneEnd, CountsAreEntries, EachListIsInOrder, FewAreTried, OrderedCommit, TheBoundFollows};
+ghost use Rattle.cr_core.specs.Laws.{ARunHasOneEnd, CountsAreEntries, EachEntryHasOneMark, EachListIsInOrder, FewAreTried, OrderedCommit, TheBoundFollows, TheLeastHitIsFirst};
 
 /// A position is counted under a mark exactly where an entry of some worker's list has that position and that mark.
 pub fn counts_are_entries()
@@ -14,6 +14,16 @@ pub fn each_list_is_in_order()
 /// rejected.
 pub fn ordered_commit()
     ensures { OrderedCommit }
+{}
+
+/// An entry has one mark, so a position stands in lists as often as it stands there with any mark.
+pub fn each_entry_has_one_mark()
+    ensures { EachEntryHasOneMark }
+{}
+
+/// In a finished sound state, however it came about, the least hit is the first position in order that wasn't rejected.
+pub fn the_least_hit_is_first()
+    ensures { TheLeastHitIsFirst }
 {}
 
 /// The events of a list, from a state on, end in one state.

@@ -1,6 +1,6 @@
-ghost use Rattle.std.specs.Prelude.{◌≡◌, ◌≤◌, ◌<◌, IfOk, OnErr, replicate, []};
+ghost use Rattle.std.specs.Prelude.{◌≡◌, ◌≤◌, ◌<◌, ◌-◌, ◌^◌, ◌⊎◌, IfOk, OnErr, replicate, []};
 ghost use Rattle.cr_core.specs.State.{start, in_lists, IsSoundState, IsFinished, IsFirst, IsLeastHit, first_of};
-ghost use Rattle.cr_core.specs.Machine.{IsInRange, Does, Runs};
+ghost use Rattle.cr_core.specs.Machine.{Does, Runs};
 ghost use Rattle.cr_core.specs.Row.{word};
 ghost use Rattle.cr_core.specs.Core.{state_of};
 
@@ -30,7 +30,8 @@ impl Core {
     /// The core of an epoch of `len` positions before any event.
     pub fn new(alloc: Global, len: u64, workers: u32) -> Result<Core, NoMemory>
         requires { len ≤ 4096 }
-        ensures { IfOk result (λ core. state_of core ≡ start len workers) }
+        ensures start { IfOk result (λ core. state_of core ≡ start len workers) }
+        ensures sound { IfOk result (λ core. IsSoundState (state_of core)) }
     {
         let mut lists = Vec::with_capacity(alloc, workers as usize)?;
         for _ in 0..workers {
@@ -45,10 +46,14 @@ impl Core {
     }
 
     /// Does an event where it is allowed. It answers false where it isn't allowed; then the core is as it was, as after want of memory.
+    /// The number `next` must have room for a claim, as it has in every sound state.
     pub fn step(&mut self, event: Event) -> Result<bool, NoMemory>
-        requires { IsInRange (state_of self.old) }
+        requires small { self.old.len ≤ 4096 }
+        requires room { (self.old.next < 2 ^ 64 - 1) ⊎ IsSoundState (state_of self.old) }
         ensures ok { IfOk result (Does event (state_of self.old) (state_of self.new)) }
         ensures err { OnErr result (state_of self.new ≡ state_of self.old) }
+        ensures sound { IsSoundState (state_of self.old) → IsSoundState (state_of self.new) }
+        ensures length { self.new.len ≡ self.old.len }
     {
         match event {
             Event::Claim(worker, done) => self.claim(worker, done),
@@ -59,7 +64,8 @@ impl Core {
     }
 
     fn claim(&mut self, worker: u32, done: Settle) -> Result<bool, NoMemory>
-        requires { IsInRange (state_of self.old) }
+        requires small { self.old.len ≤ 4096 }
+        requires room { (self.old.next < 2 ^ 64 - 1) ⊎ IsSoundState (state_of self.old) }
         ensures ok { IfOk result (Does (Event.Claim worker done) (state_of self.old) (state_of self.new)) }
         ensures err { OnErr result (state_of self.new ≡ state_of self.old) }
     {
@@ -85,7 +91,7 @@ impl Core {
     }
 
     fn hit(&mut self, worker: u32, kind: HitKind) -> bool
-        requires { IsInRange (state_of self.old) }
+        requires { self.old.len ≤ 4096 }
         ensures { Does (Event.Hit worker kind) (state_of self.old) (state_of self.new) result }
     {
         let at = worker as usize;

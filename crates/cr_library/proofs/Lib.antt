@@ -2,3 +2,4 @@ pub mod Conversions
 pub mod Readings
 pub mod Unique
 pub mod Agreement
+pub mod Integers

@@ -39,7 +39,7 @@ struct Worker {
 }
 
 impl Worker {
-    ghost use Rattle.cr_claims.specs.Pass.{view_of, IsOf};
+    ghost use Rattle.cr_claims.specs.Pass.{view_of, len_of, IsOf};
 
     fn new(alloc: Global, claims: &Claims, keeper: &mut Pass) -> Result<Worker, AllocError>
         requires of { IsOf claims.now keeper.old }
@@ -57,7 +57,7 @@ impl Worker {
 
     // Claims and rejects positions until one is past the end.
     fn claim_all(&mut self, claims: &Claims)
-        requires of { IsOf claims.now self.old.pass × (claims.now.len ≡ 1000) }
+        requires of { IsOf claims.now self.old.pass × (len_of claims.now ≡ 1000) }
         requires new { ((view_of self.old.pass).own ≡ []) × ((view_of self.old.pass).left ≡ false) }
     {
         let mut at = claims.claim(&mut self.pass, Settle::Nothing);

@@ -8,3 +8,5 @@
 mod claiming;
 #[cfg(test)]
 mod events;
+#[cfg(test)]
+mod stepping;
