@@ -1,5 +1,5 @@
 -- Lemmas on cells in order, and on lists of them that rise.
-use Rattle.std.proofs.Common.{◌≡◌, ℕ, suc, ◌<◌, ◌≤◌, Bool, true, false, ◌&&◌, ◌||◌, cond, List, [], ◌∷◌, length, get_or, take, drop, refl, sym, ◌∙◌, ap, subst, arith, nat_eq, ◌⊎◌, inl, inr}
+use Rattle.std.proofs.Common.{◌≡◌, ℕ, suc, ◌+◌, ◌<◌, ◌≤◌, Bool, true, false, ◌&&◌, ◌||◌, cond, List, [], ◌∷◌, length, get_or, take, drop, refl, sym, ◌∙◌, ap, subst, arith, nat_eq, ◌⊎◌, inl, inr}
 use Rattle.std.specs.Prelude.{Option, Some, None, find, Result, Ok, Err, is_ok}
 use Rattle.std.specs.declared.cmp.Ordering.{Ordering}
 use Rattle.std.specs.declared.cmp.Ordering.TheVariants.{Less, Equal, Greater}
@@ -13,7 +13,7 @@ use Rattle.std.proofs.lemmas.Bool.Decides.{nat_tests}
 use Rattle.std.proofs.lemmas.List.{take-append-drop}
 use Rattle.std.proofs.lemmas.List.Folds.{list_any-append, list_any_at, list_any_none}
 use Rattle.std.proofs.lemmas.List.Sorted.{IsNonDecreasingBy-insert}
-use Rattle.cr_footprint.specs.Cell.{Cell, cell_cmp, same_cell, holds, IsRising, IsLeast, IsLeastOf}
+use Rattle.cr_footprint.specs.Cell.{Cell, cell_cmp, same_cell, span, holds, IsRising, IsLeast, IsLeastOf}
 
 pub cell_total : IsTotalOrder cell_cmp
 cell_total = then_total (on_total (λ (c : Cell). c.0) nat_cmp_total) (on_total (λ (c : Cell). c.1) nat_cmp_total)
@@ -215,16 +215,23 @@ least-lesser p q first second a b lesser is_a is_b is_min at_first at_second =
     let R : Cell → Type 0 = IsLeast (λ c. p c || q c) in
     subst R (sym is_min) (either_least p q a b (subst P is_a at_first) (subst Q is_b at_second) (is_lt (cell_cmp b a)) refl)
 
-pub spread : (x r s o : Bool) → (x && r || (x && s || x && o)) ≡ (x && (r || (s || o)))
-spread true r s o = refl
-spread false r s o = refl
+-- the cells that two evaluations share in an event of each, and a write or touch of one, kind by kind
+pub written : (w r v : Bool) → (w && r || w && v) ≡ (w && (r || v))
+written true r v = refl
+written false r v = refl
 
-pub joined : (s o t : Bool) → (s && t || o && t) ≡ ((s || o) && t)
-joined true true true = refl
-joined true true false = refl
-joined true false true = refl
-joined true false false = refl
-joined false true true = refl
-joined false true false = refl
-joined false false true = refl
-joined false false false = refl
+pub met : (r w s v : Bool) → ((w && (s || v)) || r && v) ≡ ((w && (s || v)) || (v && (r || w)))
+met true true s true = refl
+met true true true false = refl
+met true true false false = refl
+met true false s true = refl
+met true false s false = refl
+met false true true v = refl
+met false true false true = refl
+met false true false false = refl
+met false false s true = refl
+met false false s false = refl
+
+-- a range of cells that goes one further
+pub span-more : (object first at : ℕ) (c : Cell) → first ≤ at → (span object first at c || same_cell c (object, at)) ≡ span object first (at + 1) c
+span-more object first at c low = grind (arith, nat_tests)

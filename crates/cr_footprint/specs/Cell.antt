@@ -1,5 +1,5 @@
 -- A cell of memory: the number of its object, and its number in the object.
-use Rattle.std.specs.Prelude.{◌≡◌, ℕ, Bool, true, false, ◌&&◌, ◌==◌, List, Option, MatchOption}
+use Rattle.std.specs.Prelude.{◌≡◌, ℕ, Bool, true, false, ◌&&◌, ◌==◌, nat_lt, not, List, Option, MatchOption}
 use Rattle.std.specs.List.{list_any}
 use Rattle.std.specs.declared.cmp.Ordering.{Ordering}
 use Rattle.std.specs.Ordering.{nat_cmp, ordering_then, ordering_index, is_gt}
@@ -14,6 +14,10 @@ cell_cmp c d = ordering_then (nat_cmp c.0 d.0) (nat_cmp c.1 d.1)
 
 abbrev pub same_cell : Cell → Cell → Bool
 same_cell c d = (c.0 == d.0) && (c.1 == d.1)
+
+-- the cells of one object from the one with the number `first` up to the one before `end`
+abbrev pub span : ℕ → ℕ → ℕ → Cell → Bool
+span object first end c = (c.0 == object) && (not (nat_lt c.1 first) && nat_lt c.1 end)
 
 -- whether a cell stands in a list
 abbrev pub holds : List Cell → Cell → Bool

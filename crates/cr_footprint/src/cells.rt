@@ -1,8 +1,9 @@
 ghost use Rattle.std.specs.Prelude.{◌≡◌, ◌&&◌, ◌||◌, false, find, IfOk, OnOk};
 ghost use Rattle.std.proofs.Props.{props};
-ghost use Rattle.cr_footprint.specs.Cell.{Cell, same_cell, IsRising, IsLeastOf};
+ghost use Rattle.cr_footprint.specs.Cell.{Cell, holds, same_cell, span, IsRising, IsLeastOf};
 
 use std::alloc::{AllocError, Global};
+use std::ops::Range;
 
 /// A set of cells, as a list in rising order.
 #[derive(Drop)]
@@ -23,6 +24,19 @@ impl Cells {
         }
     }
 
+    /// The allocator that the set was made with.
+    pub fn allocator(&self) -> &Global {
+        self.list.allocator()
+    }
+
+    /// The cells, in rising order.
+    pub fn as_slice(&self) -> &[(u32, u32)]
+        ensures rising { IsRising result.now }
+        ensures cells { (c : Cell) → holds result.now c ≡ has self.now c }
+    {
+        self.list.as_slice()
+    }
+
     /// Whether the set has a cell.
     pub fn contains(&self, cell: (u32, u32)) -> bool
         ensures { result ≡ has self.now cell }
@@ -38,6 +52,17 @@ impl Cells {
             Ok(_) => Ok(()),
             Err(place) => Ok(self.list.insert(place, cell)?),
         }
+    }
+
+    /// The cells of an object in a range of numbers.
+    pub fn of_span(alloc: Global, object: u32, cells: Range<u32>) -> Result<Cells, AllocError>
+        ensures { IfOk result (λ set. (c : Cell) → has set c ≡ span object cells.start cells.end c) }
+    {
+        let mut set = Cells::new(alloc);
+        for cell in cells {
+            set.insert((object, cell))?;
+        }
+        Ok(set)
     }
 
     fn insert_all(&mut self, more: &Cells) -> Result<(), AllocError>

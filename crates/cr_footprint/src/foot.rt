@@ -1,19 +1,20 @@
 ghost use Rattle.std.specs.Prelude.{◌≡◌, ℕ, Bool, false, true, Err, ◌&&◌, ◌||◌, IfOk, OnOk, IsTrue};
-ghost use Rattle.cr_footprint.specs.Cell.{Cell, IsLeast, IsLeastOf};
+ghost use Rattle.cr_footprint.specs.Cell.{Cell, holds, span, IsRising, IsLeast, IsLeastOf};
 
 use crate::cells::Cells;
 use crate::end::FootEnd;
 use std::alloc::{AllocError, Global};
+use std::ops::Range;
 
 /// Want of memory.
 pub type NoMemory = AllocError;
 
-/// What the evaluation of an expression reads and writes. It keeps the allocator that it was made
-/// with.
+/// What the evaluation of an expression reads and writes. A touch, the read of a volatile object, counts as a write that is
+/// settled at once. It keeps the allocator that it was made with.
 #[derive(Drop)]
 pub struct Foot {
     reads: Cells,
-    settled: Cells,
+    writes: Cells,
     opens: Cells,
 }
 
@@ -30,7 +31,7 @@ fn lesser(first: Option<(u32, u32)>, second: Option<(u32, u32)>) -> Option<(u32,
 
 impl Foot {
     ghost use Rattle.cr_footprint.specs.Cells.{has};
-    ghost use Rattle.cr_footprint.specs.Foot.{sets, no_events, with_read, with_write, union_of, then_of, writes, touches, meets, IsOpenAt};
+    ghost use Rattle.cr_footprint.specs.Foot.{sets, no_events, with_read, with_touch, with_write, with_reads, with_writes, open_in, union_of, then_of, accesses, meets, IsOpenAt};
 
     /// Nothing is read or written. Takes no memory.
     pub fn none(alloc: Global) -> Foot
@@ -38,7 +39,7 @@ impl Foot {
     {
         Foot {
             reads: Cells::new(alloc),
-            settled: Cells::new(alloc),
+            writes: Cells::new(alloc),
             opens: Cells::new(alloc),
         }
     }
@@ -51,38 +52,62 @@ impl Foot {
         reads.insert((object, cell))?;
         Ok(Foot {
             reads,
-            settled: Cells::new(alloc),
+            writes: Cells::new(alloc),
             opens: Cells::new(alloc),
         })
     }
 
-    /// The least cell that stands in a set and that the other evaluation reads or writes.
-    fn touched(&self, cells: &Cells) -> Option<(u32, u32)>
-        ensures { IsLeastOf (λ c. has cells.now c && touches (sets self.now) c) result }
+    /// One touch: the read of a volatile object (C11 5.1.2.3p2).
+    pub fn touch(alloc: Global, object: u32, cell: u32) -> Result<Foot, NoMemory>
+        ensures { IfOk result (λ foot. sets foot ≡ with_touch no_events (object, cell)) }
     {
-        let written = lesser(
-            cells.first_shared(&self.settled),
-            cells.first_shared(&self.opens),
-        );
-        lesser(cells.first_shared(&self.reads), written)
+        let mut writes = Cells::new(alloc);
+        writes.insert((object, cell))?;
+        Ok(Foot {
+            reads: Cells::new(alloc),
+            writes,
+            opens: Cells::new(alloc),
+        })
+    }
+
+    /// The cells that are read, in rising order. Takes no memory.
+    pub fn reads(&self) -> &[(u32, u32)]
+        ensures rising { IsRising result.now }
+        ensures cells { (c : Cell) → holds result.now c ≡ (sets self.now).reads c }
+    {
+        self.reads.as_slice()
+    }
+
+    /// The cells that are written or touched, in rising order. Takes no memory.
+    pub fn writes(&self) -> &[(u32, u32)]
+        ensures rising { IsRising result.now }
+        ensures cells { (c : Cell) → holds result.now c ≡ (sets self.now).writes c }
+    {
+        self.writes.as_slice()
     }
 
     /// The least cell that this evaluation writes and the other reads or writes.
     fn first_hit(&self, other: &Foot) -> Option<(u32, u32)>
-        ensures { IsLeastOf (λ c. writes (sets self.now) c && touches (sets other.now) c) result }
+        ensures { IsLeastOf (λ c. (sets self.now).writes c && accesses (sets other.now) c) result }
     {
-        lesser(other.touched(&self.settled), other.touched(&self.opens))
+        lesser(
+            self.writes.first_shared(&other.reads),
+            self.writes.first_shared(&other.writes),
+        )
     }
 
     /// The least cell on which a write of one meets a read or a write of the other.
     fn first_conflict(&self, other: &Foot) -> Option<(u32, u32)>
         ensures { IsLeastOf (meets (sets self.now) (sets other.now)) result }
     {
-        lesser(self.first_hit(other), other.first_hit(self))
+        lesser(
+            self.first_hit(other),
+            self.reads.first_shared(&other.writes),
+        )
     }
 
     /// The footprint of two unsequenced evaluations, as the operands of `+`. Conflict names the least
-    /// object and cell on which a write of one, settled or open, meets a read or a write of the other.
+    /// object and cell on which a write or a touch of one, settled or open, meets an event of the other.
     pub fn beside(self, other: Foot) -> Result<Foot, FootEnd>
         ensures joined { IfOk result (λ foot. sets foot ≡ union_of (sets self) (sets other)) }
         ensures apart { OnOk result ((c : Cell) → meets (sets self) (sets other) c ≡ false) }
@@ -93,7 +118,7 @@ impl Foot {
         }
         Ok(Foot {
             reads: self.reads.union(other.reads)?,
-            settled: self.settled.union(other.settled)?,
+            writes: self.writes.union(other.writes)?,
             opens: self.opens.union(other.opens)?,
         })
     }
@@ -105,7 +130,7 @@ impl Foot {
     {
         Ok(Foot {
             reads: self.reads.union(next.reads)?,
-            settled: self.settled.union(self.opens)?.union(next.settled)?,
+            writes: self.writes.union(next.writes)?,
             opens: next.opens,
         })
     }
@@ -120,6 +145,7 @@ impl Foot {
         if self.opens.contains((object, cell)) {
             return Err(FootEnd::Conflict(object, cell));
         }
+        self.writes.insert((object, cell))?;
         self.opens.insert((object, cell))?;
         Ok(self)
     }
@@ -136,5 +162,58 @@ impl Foot {
         }
         self.reads.insert((object, cell))?;
         Ok(self)
+    }
+
+    /// Adds the touch of the expression's own operator on a cell. It conflicts with an open write of its
+    /// operands on that cell.
+    pub fn own_touch(mut self, object: u32, cell: u32) -> Result<Foot, FootEnd>
+        ensures added { IfOk result (λ foot. sets foot ≡ with_touch (sets self) (object, cell)) }
+        ensures apart { OnOk result ((sets self).opens (object, cell) ≡ false) }
+        ensures conflict { (o c : ℕ) → result ≡ Err (FootEnd.Conflict o c) → IsOpenAt (sets self) (object, cell) (o, c) }
+    {
+        let place = (object, cell);
+        if self.opens.contains(place) {
+            return Err(FootEnd::Conflict(object, cell));
+        }
+        self.writes.insert(place)?;
+        Ok(self)
+    }
+
+    /// Adds the side effects of the expression's own operator on the cells of an object in a range of numbers, as the
+    /// assignment of a struct has. It conflicts with an open write of its operands on one of them, and names the least.
+    pub fn own_writes(self, object: u32, cells: Range<u32>) -> Result<Foot, FootEnd>
+        ensures added { IfOk result (λ foot. sets foot ≡ with_writes (sets self) (span object cells.start cells.end)) }
+        ensures apart { OnOk result ((c : Cell) → open_in (sets self) (span object cells.start cells.end) c ≡ false) }
+        ensures conflict { (o c : ℕ) → result ≡ Err (FootEnd.Conflict o c) → IsLeast (open_in (sets self) (span object cells.start cells.end)) (o, c) }
+    {
+        let (first, end) = (cells.start, cells.end);
+        let own = Cells::of_span(*self.opens.allocator(), object, first..end)?;
+        if let Some((object, cell)) = self.opens.first_shared(&own) {
+            return Err(FootEnd::Conflict(object, cell));
+        }
+        let more = Cells::of_span(*self.opens.allocator(), object, first..end)?;
+        Ok(Foot {
+            reads: self.reads,
+            writes: self.writes.union(own)?,
+            opens: self.opens.union(more)?,
+        })
+    }
+
+    /// Adds the reads of the expression's own operator on the cells of an object in a range of numbers, as the value of a struct
+    /// has. It conflicts with an open write of its operands on one of them, and names the least.
+    pub fn own_reads(self, object: u32, cells: Range<u32>) -> Result<Foot, FootEnd>
+        ensures added { IfOk result (λ foot. sets foot ≡ with_reads (sets self) (span object cells.start cells.end)) }
+        ensures apart { OnOk result ((c : Cell) → open_in (sets self) (span object cells.start cells.end) c ≡ false) }
+        ensures conflict { (o c : ℕ) → result ≡ Err (FootEnd.Conflict o c) → IsLeast (open_in (sets self) (span object cells.start cells.end)) (o, c) }
+    {
+        let own = Cells::of_span(*self.opens.allocator(), object, cells)?;
+        if let Some((object, cell)) = self.opens.first_shared(&own) {
+            return Err(FootEnd::Conflict(object, cell));
+        }
+        Ok(Foot {
+            reads: self.reads.union(own)?,
+            writes: self.writes,
+            opens: self.opens,
+        })
     }
 }

@@ -20,3 +20,5 @@ mod memory;
 mod rows;
 #[cfg(test)]
 mod structures;
+#[cfg(test)]
+mod touches;
