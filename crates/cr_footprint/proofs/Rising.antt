@@ -1,5 +1,5 @@
 -- Lemmas on cells in order, and on lists of them that rise.
-use Rattle.std.proofs.Common.{◌≡◌, ℕ, suc, ◌+◌, ◌<◌, ◌≤◌, Bool, true, false, ◌&&◌, ◌||◌, cond, List, [], ◌∷◌, length, get_or, take, drop, refl, sym, ◌∙◌, ap, subst, arith, nat_eq, ◌⊎◌, inl, inr}
+use Rattle.std.proofs.Common.{◌≡◌, ℕ, zero, suc, ◌+◌, ◌<◌, ◌≤◌, Bool, true, false, ◌&&◌, ◌||◌, cond, List, [], ◌∷◌, length, get_or, take, drop, refl, sym, ◌∙◌, ap, subst, arith, nat_eq, ◌⊎◌, inl, inr}
 use Rattle.std.specs.Prelude.{Option, Some, None, find, Result, Ok, Err, is_ok}
 use Rattle.std.specs.declared.cmp.Ordering.{Ordering}
 use Rattle.std.specs.declared.cmp.Ordering.TheVariants.{Less, Equal, Greater}
@@ -12,7 +12,7 @@ use Rattle.std.proofs.lemmas.Bool.{eqb-true, or_cases, or_left, or_right, and_pa
 use Rattle.std.proofs.lemmas.Bool.Decides.{nat_tests}
 use Rattle.std.proofs.lemmas.List.{take-append-drop}
 use Rattle.std.proofs.lemmas.List.Folds.{list_any-append, list_any_at, list_any_none}
-use Rattle.std.proofs.lemmas.List.Sorted.{IsNonDecreasingBy-insert}
+use Rattle.std.specs.List.Sorted.{IsNonDecreasingBy}
 use Rattle.cr_footprint.specs.Cell.{Cell, cell_cmp, same_cell, span, holds, IsRising, IsLeast, IsLeastOf}
 
 pub cell_total : IsTotalOrder cell_cmp
@@ -82,17 +82,72 @@ holds-insert cells i cell c =
     middle false false true = refl
     middle false false false = refl
 
+same_cell-itself : (c : Cell) → same_cell c c ≡ true
+same_cell-itself c = same_cell-cell_cmp c c ∙ ap is_eq (tied_itself cell_total c)
+
+-- where a cell of the list stands
+place_of : (cells : List Cell) (c : Cell) → holds cells c ≡ true → (k : ℕ) × (k < length cells) × ((d : Cell) → get_or cells k d ≡ c)
+place_of [] c there = cc
+place_of (cell ∷ cells) c there =
+    elim (or_cases (same_cell c cell) (holds cells c) there) [
+      | inl here ↦ (0, omega arith, λ d. sym (same_cell-equal c cell here))
+      | inr later ↦ (let (k, within, same) = place_of cells c later in (suc k, omega arith, same))
+    ]
+
+-- a cell below all of a rising list, put before it, and the other way round
+abbrev pub AllAbove : Cell → List Cell → Type 0
+AllAbove cell cells = (d : Cell) → holds cells d ≡ true → cell_cmp cell d ≡ Less
+
+pub IsRising-head : (cell : Cell) (cells : List Cell) → IsRising (cell ∷ cells) → AllAbove cell cells
+IsRising-head cell cells rising d there =
+    let (k, within, same) = place_of cells d there in
+    let P : Cell → Type 0 = λ x. cell_cmp cell x ≡ Less in
+    subst P (same d) (rising 0 (suc k) d (omega arith) (omega arith))
+
+pub IsRising-tail : (cell : Cell) (cells : List Cell) → IsRising (cell ∷ cells) → IsRising cells
+IsRising-tail cell cells rising i j d below within = rising (suc i) (suc j) d (omega arith) (omega arith)
+
+held : (cells : List Cell) (k : ℕ) (d : Cell) → k < length cells → holds cells (get_or cells k d) ≡ true
+held cells k d within = list_any_at (same_cell (get_or cells k d)) cells k d within (same_cell-itself (get_or cells k d))
+
+pub IsRising-cons : (cell : Cell) (cells : List Cell) → AllAbove cell cells → IsRising cells → IsRising (cell ∷ cells)
+IsRising-cons cell cells above rising zero zero d below within = absurd (omega arith)
+IsRising-cons cell cells above rising zero (suc j) d below within = above (get_or cells j d) (held cells j d (omega arith))
+IsRising-cons cell cells above rising (suc i) zero d below within = absurd (omega arith)
+IsRising-cons cell cells above rising (suc i) (suc j) d below within = rising i j d (omega arith) (omega arith)
+
+-- such a list can be searched
+pub searchable : (cells : List Cell) → IsRising cells → (c : Cell) → IsNonDecreasingBy (λ d. ordering_index (cell_cmp d c)) cells
+searchable cells rising c i j d below within =
+    elim (order i j below) [
+      | inl same ↦ (let P : ℕ → Type 0 = λ k. ordering_index (cell_cmp (get_or cells i d) c) ≤ ordering_index (cell_cmp (get_or cells k d) c) in subst P same (omega arith))
+      | inr low ↦ index_rises (get_or cells i d) (get_or cells j d) c (rising i j d low within)
+    ]
+  where
+    order : (i j : ℕ) → i ≤ j → (i ≡ j) ⊎ (i < j)
+    order i j h = grind arith
+
 pub IsRising-insert : (cells : List Cell) (i : ℕ) (cell : Cell) → IsRising cells → i ≤ length cells → AllWithin (λ d. cell_cmp d cell ≡ Less) cells 0 i → AllWithin (λ d. cell_cmp d cell ≡ Greater) cells i (length cells) → IsRising (insert cells i cell)
-IsRising-insert cells i cell rising within below above c =
-    IsNonDecreasingBy-insert (λ d. ordering_index (cell_cmp d c)) cells i cell (rising c) within
-    (λ k d low. index_rises (get_or cells k d) cell c (below k d (omega arith) low))
-    (λ k d high short. index_rises cell (get_or cells k d) c (flipped (get_or cells k d) cell (above k d high short)))
+IsRising-insert cells zero cell rising within below above =
+    IsRising-cons cell cells
+    (λ d there. (let (k, short, same) = place_of cells d there in
+    let P : Cell → Type 0 = λ x. cell_cmp cell x ≡ Less in
+    subst P (same d) (flipped (get_or cells k d) cell (above k d (omega arith) short))))
+    rising
+IsRising-insert [] (suc i) cell rising within below above = absurd (omega arith)
+IsRising-insert (x ∷ cells) (suc i) cell rising within below above =
+    IsRising-cons x (insert cells i cell)
+    (λ d there. elim (or_cases (holds cells d) (same_cell d cell) (sym (holds-insert cells i cell d) ∙ there)) [
+      | inl old ↦ IsRising-head x cells rising d old
+      | inr new ↦ (let P : Cell → Type 0 = λ y. cell_cmp x y ≡ Less in subst P (sym (same_cell-equal d cell new)) (below 0 x (omega arith) (omega arith)))
+    ])
+    (IsRising-insert cells i cell (IsRising-tail x cells rising) (omega arith) (λ k d low short. below (suc k) d (omega arith) (omega arith)) (λ k d low short. above (suc k) d (omega arith) (omega arith)))
 
 -- what a binary search answers of a rising list
 pub held_where_found : (cells : List Cell) (c : Cell) (r : Result ℕ ℕ) → IsRising cells → IsSearchInRange r (length cells) → IsBinarySearchResult (λ d. cell_cmp d c) cells r → is_ok r ≡ holds cells c
 held_where_found cells c (Ok i) rising within position = sym (holds-found cells c i within position)
 held_where_found cells c (Err i) rising within position =
-    let parts : AllWithin (λ d. cell_cmp d c ≡ Less) cells 0 i × AllWithin (λ d. cell_cmp d c ≡ Greater) cells i (length cells) = position (rising c) in
+    let parts : AllWithin (λ d. cell_cmp d c ≡ Less) cells 0 i × AllWithin (λ d. cell_cmp d c ≡ Greater) cells i (length cells) = position (searchable cells rising c) in
     sym (holds-absent cells c i parts.0 parts.1)
 
 -- a set with one more cell that it has
@@ -104,31 +159,16 @@ holds-again cells cell c there = joined (holds cells c) (same_cell c cell) (λ s
     joined false true h = h refl
     joined false false h = refl
 
--- where a cell of the list stands
-place_of : (cells : List Cell) (c : Cell) → holds cells c ≡ true → (k : ℕ) × (k < length cells) × (same_cell c (get_or cells k c) ≡ true)
-place_of [] c there = cc
-place_of (cell ∷ cells) c there =
-    elim (or_cases (same_cell c cell) (holds cells c) there) [
-      | inl here ↦ (0, omega arith, here)
-      | inr later ↦ (let (k, within, same) = place_of cells c later in (suc k, omega arith, same))
-    ]
-
 -- the least cell of a rising list that passes a test is the first that does
-not_above : (x y : Ordering) → ordering_index x ≤ ordering_index y → y ≡ Equal → is_gt x ≡ false
-not_above Less y h e = refl
-not_above Equal y h e = refl
-not_above Greater y h e = absurd (omega (arith, h, ap ordering_index e))
+below_not_above : (a b : Cell) → is_lt (cell_cmp a b) ≡ true → is_gt (cell_cmp a b) ≡ false
+below_not_above a b low = grind (arith, nat_tests)
 
 head_least : (cell : Cell) (cells : List Cell) (d : Cell) → IsRising (cell ∷ cells) → holds (cell ∷ cells) d ≡ true → is_gt (cell_cmp cell d) ≡ false
 head_least cell cells d rising there =
-    let (k, within, same) = place_of (cell ∷ cells) d there in
-    let P : Cell → Type 0 = λ x. ordering_index (cell_cmp cell d) ≤ ordering_index (cell_cmp x d) in
-    not_above (cell_cmp cell d) (cell_cmp d d)
-    (subst P (sym (same_cell-equal d (get_or (cell ∷ cells) k d) same)) (rising d 0 k d (omega arith) within))
-    (tied_itself cell_total d)
-
-IsRising-tail : (cell : Cell) (cells : List Cell) → IsRising (cell ∷ cells) → IsRising cells
-IsRising-tail cell cells rising c i j d below within = rising c (suc i) (suc j) d (omega arith) (omega arith)
+    elim (or_cases (same_cell d cell) (holds cells d) there) [
+      | inl here ↦ (let P : Cell → Type 0 = λ x. is_gt (cell_cmp cell x) ≡ false in subst P (sym (same_cell-equal d cell here)) (ap is_gt (tied_itself cell_total cell)))
+      | inr later ↦ below_not_above cell d (ap is_lt (IsRising-head cell cells rising d later))
+    ]
 
 -- a set that has the same cells has the same least one
 pub IsLeastOf-same : (p q : Cell → Bool) (r : Option Cell) → ((c : Cell) → p c ≡ q c) → IsLeastOf p r → IsLeastOf q r
@@ -146,9 +186,6 @@ skipped p cell cells fails c =
     alike false y z h = refl
     alike true true z h = refl
     alike true false z h = sym (h refl)
-
-same_cell-itself : (c : Cell) → same_cell c c ≡ true
-same_cell-itself c = same_cell-cell_cmp c c ∙ ap is_eq (tied_itself cell_total c)
 
 first_or_later : (p : Cell → Bool) (cell : Cell) (cells : List Cell) → IsRising (cell ∷ cells) → IsLeastOf (λ c. holds cells c && p c) (find p cells) → (b : Bool) → p cell ≡ b → IsLeastOf (λ c. holds (cell ∷ cells) c && p c) (cond b (Some cell) (find p cells))
 first_or_later p cell cells rising later true passes = record {
@@ -179,15 +216,12 @@ pub IsRising-searched : (cells given : List Cell) (cell : Cell) (i : ℕ) → gi
 IsRising-searched cells given cell i same rising within position =
     let P : List Cell → Type 0 = λ l. i ≤ length l in
     let Q : List Cell → Type 0 = λ l. IsBinarySearchResult (λ d. cell_cmp d cell) l (Err i) in
-    let parts : AllWithin (λ d. cell_cmp d cell ≡ Less) cells 0 i × AllWithin (λ d. cell_cmp d cell ≡ Greater) cells i (length cells) = subst Q same position (rising cell) in
+    let parts : AllWithin (λ d. cell_cmp d cell ≡ Less) cells 0 i × AllWithin (λ d. cell_cmp d cell ≡ Greater) cells i (length cells) = subst Q same position (searchable cells rising cell) in
     IsRising-insert cells i cell rising (subst P same within) parts.0 parts.1
 
 -- the lesser of the least cells of two sets is the least of both
 not_above_trans : (a b c : Cell) → is_gt (cell_cmp a b) ≡ false → is_gt (cell_cmp b c) ≡ false → is_gt (cell_cmp a c) ≡ false
 not_above_trans a b c low high = grind (arith, nat_tests)
-
-below_not_above : (a b : Cell) → is_lt (cell_cmp a b) ≡ true → is_gt (cell_cmp a b) ≡ false
-below_not_above a b low = grind (arith, nat_tests)
 
 not_below_above : (a b : Cell) → is_lt (cell_cmp b a) ≡ false → is_gt (cell_cmp a b) ≡ false
 not_below_above a b high = grind (arith, nat_tests)

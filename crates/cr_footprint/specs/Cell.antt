@@ -1,9 +1,9 @@
 -- A cell of memory: the number of its object, and its number in the object.
-use Rattle.std.specs.Prelude.{◌≡◌, ℕ, Bool, true, false, ◌&&◌, ◌==◌, nat_lt, not, List, Option, MatchOption}
+use Rattle.std.specs.Prelude.{◌≡◌, ℕ, Bool, true, false, ◌&&◌, ◌==◌, nat_lt, not, ◌<◌, List, length, slice_index_or, Option, MatchOption}
 use Rattle.std.specs.List.{list_any}
 use Rattle.std.specs.declared.cmp.Ordering.{Ordering}
-use Rattle.std.specs.Ordering.{nat_cmp, ordering_then, ordering_index, is_gt}
-use Rattle.std.specs.List.Sorted.{IsNonDecreasingBy}
+use Rattle.std.specs.declared.cmp.Ordering.TheVariants.{Less}
+use Rattle.std.specs.Ordering.{nat_cmp, ordering_then, is_gt}
 
 abbrev pub Cell : Type 0
 Cell = ℕ × ℕ
@@ -23,9 +23,10 @@ span object first end c = (c.0 == object) && (not (nat_lt c.1 first) && nat_lt c
 abbrev pub holds : List Cell → Cell → Bool
 holds cells c = list_any (same_cell c) cells
 
--- the cells stand in rising order: against any cell, first those below it, then it, then those above
+-- the cells stand in rising order: each is below every later one
 abbrev pub IsRising : List Cell → Type 0
-IsRising cells = (c : Cell) → IsNonDecreasingBy (λ d. ordering_index (cell_cmp d c)) cells
+IsRising cells = (i j : ℕ) (d : Cell) → i < j → j < length cells
+    → cell_cmp (slice_index_or cells i d) (slice_index_or cells j d) ≡ Less
 
 -- c is in the set, and no cell of the set is below it
 pub record IsLeast (set : Cell → Bool) (c : Cell) : Type 0 where
