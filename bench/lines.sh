@@ -41,7 +41,7 @@ for lines in 100 1000 10000; do
         for (i = 1; i <= lines; i++) if (i == wanted) print "int wanted;"; else print "int v" i " = " i " + 1;"
     }' >"$file"
     start=$(date +%s.%N)
-    "$top/creduce" has:wanted "$file"
+    "$top/creduce" --passes l has:wanted "$file"
     end=$(date +%s.%N)
     [ "$(cat "$file")" = "int wanted;" ] || { echo "lines.sh: $file was not reduced to its one line" >&2; exit 1; }
     awk -v lines="$lines" -v turns="$(turns "$lines" "$wanted")" -v seconds="$(echo "$end $start" | awk '{print $1 - $2}')" \

@@ -20,11 +20,11 @@ script() {
 # three NAME: a file of three lines.
 three() { printf 'int a;\nint b;\nint c;\n' >"$1"; }
 
-# says WHAT STATUS TEST FILE WANTED: a run ends with this status, and FILE then has this text.
+# says WHAT STATUS TEST FILE WANTED: a run by lines ends with this status, and FILE then has this text.
 says() {
     local what=$1 status=$2 test=$3 file=$4 wanted=$5 found
     found=0
-    "$top/creduce" "$test" "$file" >out.txt 2>err.txt </dev/null || found=$?
+    "$top/creduce" --passes l "$test" "$file" >out.txt 2>err.txt </dev/null || found=$?
     if [ "$found" = "$status" ] && [ "$(cat "$file")" = "$wanted" ] && [ ! -s err.txt ] && [ "$(wc -l <out.txt)" = 1 ]; then
         echo "ok: $what"
     else

@@ -12,7 +12,7 @@ printf '#!/bin/sh\n[ -e asked ] || exec touch asked\nexec false\n' >only_the_fir
 chmod +x only_the_first.sh
 awk 'BEGIN { for (i = 1; i <= 200; i++) print "int v" i ";" }' >lines.c
 start=$(date +%s.%N)
-"$top/creduce" ./only_the_first.sh lines.c
+"$top/creduce" --passes l ./only_the_first.sh lines.c
 middle=$(date +%s.%N)
 trials=$(awk 'END { print $4 + 1 }' lines.c.log)
 for ((i = 0; i < trials; i++)); do

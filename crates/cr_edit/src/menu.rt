@@ -24,8 +24,7 @@ impl Model for Menu {
 impl Menu {
     /// The edits of each level, and the bytes that they keep.
     pub fn new(levels: Vec<Edits>, kept: Vec<u8>) -> Menu
-        ensures levels { result.levels ≡ levels.items }
-        ensures kept { result.kept ≡ kept.items }
+        ensures { result ≡ record { levels = levels.items; kept = kept.items } }
     {
         Menu { levels, kept }
     }

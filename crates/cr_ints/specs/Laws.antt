@@ -1,9 +1,10 @@
--- What a reader of C11 6.3.1 expects of the conversions, as facts about their definitions.
-use Rattle.std.specs.Prelude.{◌≡◌, ◌≢◌, ℕ, ◌*◌, ◌^◌, ℤ, pos, ◌+ℤ◌, ◌⊎◌}
+-- What a reader of C11 6.3.1 expects of the conversions, and of the operations on bits, as facts about their definitions.
+use Rattle.std.specs.Prelude.{◌≡◌, ◌≢◌, ℕ, ◌*◌, ◌^◌, ℤ, pos, neg_ℤ, ◌+ℤ◌, ◌-ℤ◌, true, ◌⊎◌}
 use Rattle.cr_ints.specs.declared.kind.IntKind.{IntKind}
 use Rattle.cr_ints.specs.declared.kind.IntKind.TheVariants.{Bool as BoolKind}
-use Rattle.cr_ints.specs.IntKind.{width_of, Represents}
+use Rattle.cr_ints.specs.IntKind.{width_of, is_signed, Represents}
 use Rattle.cr_ints.specs.Conversions.{convert_of, promote_of, common_of}
+use Rattle.cr_ints.specs.Bits.{bits_of, of_bits, not_of}
 
 -- the one is the other with the modulus added some number of times (6.3.1.3p2)
 abbrev pub IsCongruent : ℕ → ℤ → ℤ → Type 0
@@ -39,3 +40,11 @@ PromotionIsIdempotent = (kind : IntKind) → promote_of (promote_of kind) ≡ pr
 -- the order of the operands makes no difference to their common kind
 abbrev pub CommonIsSymmetric : Type 0
 CommonIsSymmetric = (left right : IntKind) → common_of left right ≡ common_of right left
+
+-- a value's bits are those of no other value of the kind: the way through the unsigned kind and back loses nothing
+abbrev pub BitsAreKept : Type 0
+BitsAreKept = (kind : IntKind) (value : ℤ) → Represents kind value → of_bits kind (bits_of kind value) ≡ value
+
+-- in two's complement the complement of a signed value is its negation less 1 (6.2.6.2p2)
+abbrev pub ComplementIsNegationLessOne : Type 0
+ComplementIsNegationLessOne = (kind : IntKind) (value : ℤ) → is_signed kind ≡ true → Represents kind value → not_of kind value ≡ neg_ℤ value -ℤ pos 1

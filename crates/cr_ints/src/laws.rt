@@ -1,6 +1,6 @@
-//! What a reader of C11 6.3.1 expects of the conversions. The program calls none of these functions.
+//! What a reader of C11 6.3.1 expects of the conversions, and of the operations on bits. The program calls none of these functions.
 
-ghost use Rattle.cr_ints.specs.Laws.{ConversionKeepsRange, ConversionIsRepresentable, ConversionIsCongruent, ConversionIsUnique, PromotionKeepsValues, PromotionIsIdempotent, CommonIsSymmetric};
+ghost use Rattle.cr_ints.specs.Laws.{ConversionKeepsRange, ConversionIsRepresentable, ConversionIsCongruent, ConversionIsUnique, PromotionKeepsValues, PromotionIsIdempotent, CommonIsSymmetric, BitsAreKept, ComplementIsNegationLessOne};
 
 /// Conversion leaves a value of the kind's range as it is (6.3.1.3p1).
 pub fn conversion_keeps_range()
@@ -35,4 +35,14 @@ pub fn promotion_is_idempotent()
 /// The usual arithmetic conversions don't depend on the order of the operands.
 pub fn common_is_symmetric()
     ensures { CommonIsSymmetric }
+{}
+
+/// A value's bits are those of no other value of its kind.
+pub fn bits_are_kept()
+    ensures { BitsAreKept }
+{}
+
+/// The complement of a signed value is its negation less 1 (6.2.6.2p2).
+pub fn complement_is_negation_less_one()
+    ensures { ComplementIsNegationLessOne }
 {}

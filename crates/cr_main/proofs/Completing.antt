@@ -1,5 +1,5 @@
 -- Completeness, from what a run comes to.
-use Rattle.std.proofs.Common.{◌≡◌, ◌⊎◌, inl, inr, ◌+◌, ◌*◌, ◌≤◌, ◌==◌, ℕ, true, if◌then◌else◌, List, length, Option, Some, None, refl, sym, subst, ◌∙◌, arith}
+use Rattle.std.proofs.Common.{◌≡◌, ◌⊎◌, inl, inr, ◌+◌, ◌*◌, ◌≤◌, ◌==◌, ℕ, Bool, true, if◌then◌else◌, List, length, Option, Some, None, refl, sym, subst, ◌∙◌, arith}
 use Rattle.std.proofs.Math.Nat.{mul-le-mul}
 use Rattle.std.proofs.lemmas.Bool.Decides.{nat_tests}
 use Rattle.cr_outside.specs.Faults.{Rose}
@@ -20,8 +20,8 @@ use Rattle.cr_cursor.specs.TokenLaw.{IsTokenized}
 use Rattle.cr_reduce.proofs.Bounds.{in_time}
 use Rattle.cr_reduce.proofs.Sizes.{size_by_length}
 use Rattle.cr_main.specs.Headline.{Completes, HasAll, enough_for}
-use Rattle.cr_main.specs.Lines.{OffersLines, lines_widths}
-use Rattle.cr_main.specs.LineLaws.{offers_few}
+use Rattle.cr_passes.specs.Offers.{Offers}
+use Rattle.cr_passes.specs.OfferLaws.{few_variants, levels_of, none_above}
 use Rattle.cr_main.specs.Messages.{copy_name, log_name}
 use Rattle.cr_main.specs.Outside.{Fails, IsUnchanged, Judging, Outside, Says}
 use Rattle.cr_main.specs.Outside.Fails.{call_failed, starved}
@@ -39,22 +39,13 @@ use Rattle.cr_main.proofs.OneTask.{SameTask, one_task}
 abbrev pub IsFree : ℕ → Type 0
 IsFree status = (status ≡ 0) ⊎ (status ≡ 11)
 
--- the lines pass has 15 levels
-line_levels : ℕ → ℕ
-line_levels pass = if pass == 0 then 15 else 0
-
-lines_levels : HasLevels OffersLines line_levels
-unfolding line_levels
-lines_levels = record { none_above = λ file o pass level is above. subst (λ x. x.widths pass level ≡ 0) (sym is) (none file pass level above); few = offers_few }
-  where
-    none : (file : List ℕ) (pass level : ℕ) → line_levels pass ≤ level → lines_widths file pass level ≡ 0
-    none file pass level above = grind (arith, nat_tests)
+passes_levels : (enabled : List Bool) → HasLevels (Offers enabled) levels_of
+passes_levels enabled = record { none_above = none_above enabled; few = few_variants enabled }
 
 -- what is enough for the size is enough for the bytes
-bytes_enough : (n size : ℕ) → size ≤ 12 * n → enough_turns line_levels size ≤ enough_for n
-unfolding line_levels
+bytes_enough : (n size : ℕ) → size ≤ 12 * n → enough_turns levels_of size ≤ enough_for n
 bytes_enough n size small =
-    let levels : 15 * size ≤ 492 * n = omega arith in
+    let levels : 23 * size ≤ 492 * n = omega arith in
     let rounds : size + 1 ≤ 12 * n + 1 = omega arith in
     omega (arith, mul-le-mul levels rounds)
 
@@ -89,8 +80,8 @@ module _ (t u : Task) (same : SameTask t u) (old new : Outside) (before after : 
 
   never_limit : (since : Judging) (bytes : List ℕ) (end : End) (size : ℕ) → bytes ≡ all.bytes → HasSize bytes size → IsReduction u since after bytes end → end.why ≡ Limit → ⊥
   never_limit since bytes end size is sized reduction =
-      in_time (search_for u since.calls) after.calls u.limit bytes end end.why reduction.chain line_levels size lines_levels sized
-      (fewer_within u.limit (enough_turns line_levels size) (enough_for (length bytes)) (bytes_enough (length bytes) size (size_by_length bytes size sized))
+      in_time (search_for u since.calls) after.calls u.limit bytes end end.why reduction.chain levels_of size (passes_levels u.enabled) sized
+      (fewer_within u.limit (enough_turns levels_of size) (enough_for (length bytes)) (bytes_enough (length bytes) size (size_by_length bytes size sized))
       (subst (λ l. Within l (enough_for (length bytes))) same.limit (subst (λ b. Within t.limit (enough_for (length b))) (sym is) all.enough)))
 
   end_free : (s : Search) (since : Judging) (reason : Why) → before.faults ≤ since.faults → (reason ≡ Limit → ⊥) → FaultsWithCause s since.faults after.faults reason → IsFree (end_status reason)

@@ -1,4 +1,3 @@
-pub mod LineLemmas
 pub mod NameLemmas
 pub mod Building
 pub mod Puts

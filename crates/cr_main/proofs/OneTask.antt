@@ -58,6 +58,7 @@ same_name (source.Made number items) (source.Made other more) same = refl
 
 pub record SameTask (t u : Task) : Type 0 where
   pub limit : t.limit ≡ u.limit
+  pub enabled : t.enabled ≡ u.enabled
   pub name : t.name ≡ u.name
   pub asks : asks_test t.test ≡ asks_test u.test
   pub tells : (file : List ℕ) (answer : Bool) → tells_for t file answer → tells_for u file answer
@@ -65,6 +66,7 @@ pub record SameTask (t u : Task) : Type 0 where
 tasks_alike : (says : Telling) (a b : Settings) (own other : List ℕ) → SameSettings a b → own ≡ other → SameTask (task_of a says own) (task_of b says other)
 tasks_alike says a b own other same own_same = record {
   limit = same.limit;
+  enabled = same.enabled;
   name = same_name a.source b.source same.source;
   asks = same.tests.asks;
   tells = λ file answer it. subst (λ o. tells_test b.test says o file answer) own_same (same.tests.tells says own file answer it);

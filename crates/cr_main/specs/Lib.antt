@@ -1,5 +1,3 @@
-pub mod Lines
-pub mod LineLaws
 pub mod Words
 pub mod Messages
 pub mod Outside

@@ -21,16 +21,17 @@ use Rattle.cr_log.specs.Texts.{log_text_of, summary_text_of}
 use Rattle.cr_words.specs.Names.{IsOwnName, name_of}
 use Rattle.cr_words.specs.Words.{Word}
 use Rattle.cr_words.specs.declared.settings.Settings.{Settings}
-use Rattle.cr_main.specs.Lines.{OffersLines}
+use Rattle.cr_passes.specs.Offers.{Offers}
 use Rattle.cr_main.specs.Messages.{copy_name, failed_line, log_name, no_file_line, no_line, reason_line, reason_status, usage_line}
 use Rattle.cr_main.specs.Outside.{Fails, IsUnchanged, IsWritten, Judging, Outside, Puts, Refuses, WriteFails}
 use Rattle.cr_main.specs.Words.{HasNone, HasSettings}
 
--- What a run is asked to do: the test, the most turns, the file's name, and the name under which the test sees it; and
+-- What a run is asked to do: the test, the most turns, which passes are enabled, the file's name, and the name under which the test sees it; and
 -- what the first judge says at its key.
 pub record Task : Type 0 where
   pub test : Test
   pub limit : Option ℕ
+  pub enabled : List Bool
   pub name : List ℕ
   pub own : List ℕ
   pub says : Says
@@ -38,10 +39,10 @@ pub record Task : Type 0 where
 abbrev pub tells_for : Task → List ℕ → Bool → Type 0
 tells_for t file answer = tells_test t.test t.says t.own file answer
 
--- The lines pass, the law that a file tokenises, and the test.
+-- The enabled passes, the law that a file tokenises, and the test.
 abbrev pub search_for : Task → Option (List Call) → Search
 search_for t before = record {
-  Offers = OffersLines;
+  Offers = Offers t.enabled;
   Lawful = IsTokenized;
   asks = asks_test t.test;
   Tells = tells_for t;
@@ -152,7 +153,7 @@ pub data RunsFile (t : Task) (old new : Outside) (before after : Judging) (statu
 
 -- the task of settings, for judges who say this, with the file's own name
 abbrev pub task_of : Settings → Says → List ℕ → Task
-task_of settings says own = record { test = settings.test; limit = settings.limit; name = name_of settings.source; own = own; says = says }
+task_of settings says own = record { test = settings.test; limit = settings.limit; enabled = settings.enabled; name = name_of settings.source; own = own; says = says }
 
 -- What a run comes to.
 pub data Runs (words : List Word) (says : Says) (old new : Outside) (before after : Judging) (status : ℕ) : Type 0 where

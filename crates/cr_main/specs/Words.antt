@@ -1,5 +1,5 @@
 -- The words of the command line, as far as what they ask for is built.
-use Rattle.std.specs.Prelude.{◌≡◌, ℕ, true, List}
+use Rattle.std.specs.Prelude.{◌≡◌, ℕ, Bool, true, false, not, ◌||◌, List, slice_range}
 use Rattle.std.specs.List.{list_all}
 use Rattle.cr_words.specs.Giving.{HasSettings as Gives}
 use Rattle.cr_words.specs.Words.{Word}
@@ -16,12 +16,21 @@ abbrev pub IsRead : Source → Type 0
 IsRead (source.Named name) = Unit {0}
 IsRead (source.Made number items) = ⊥
 
--- What is asked for is built: the window and the steps are those that stand without the options, all passes are enabled,
--- and the file is read.
+-- the truth values are the same
+abbrev pub is : Bool → Bool → Bool
+is true on = on
+is false on = not on
+
+-- all passes are enabled, or only such as are built: the first three
+abbrev pub are_built : List Bool → Bool
+are_built enabled = list_all (is true) enabled || list_all (is false) (slice_range enabled 3 10)
+
+-- What is asked for is built: the window and the steps are those that stand without the options, all passes are enabled
+-- or only such as are built, and the file is read.
 pub record IsBuilt (settings : Settings) : Type 0 where
   pub window : settings.window ≡ 256
   pub steps : settings.steps ≡ 1000000
-  pub enabled : list_all (λ on. on) settings.enabled ≡ true
+  pub enabled : are_built settings.enabled ≡ true
   pub source : IsRead settings.source
 
 -- The words give these settings, and what they ask for is built.

@@ -2,7 +2,7 @@
 // and from `IsBuilt`, until the words alone decide.
 ghost use Rattle.std.specs.Prelude.{◌≡◌, ◌↔◌, Err, IfOk, IsTrue};
 ghost use Rattle.std.specs.List.{list_all};
-ghost use Rattle.cr_main.specs.Words.{HasNone, HasSettings, IsBuilt, IsRead};
+ghost use Rattle.cr_main.specs.Words.{HasNone, HasSettings, IsBuilt, IsRead, are_built, is};
 ghost use Rattle.cr_words.specs.Words.{texts_of};
 
 use cr_words::{Settings, Source, WordFault, words};
@@ -29,15 +29,24 @@ fn is_built(settings: &Settings) -> bool
 {
     settings.window == 256
         && settings.steps == 1_000_000
-        && are_all(&settings.enabled)
+        && are_built(&settings.enabled)
         && is_read(&settings.source)
 }
 
-fn are_all(enabled: &[bool]) -> bool
-    ensures { result ≡ list_all (λ on. on) enabled.now }
+/// The passes with a number below this are built.
+const PASSES: usize = 3;
+
+fn are_built(enabled: &[bool; 10]) -> bool
+    ensures { result ≡ are_built enabled.now }
+{
+    are_all(enabled, true) || are_all(&enabled[PASSES..10], false)
+}
+
+fn are_all(enabled: &[bool], wanted: bool) -> bool
+    ensures { result ≡ list_all (is wanted) enabled.now }
 {
     for on in enabled {
-        if !*on {
+        if *on != wanted {
             return false;
         }
     }

@@ -10,13 +10,13 @@ ghost use Rattle.cr_outside.specs.Test.{asks_test};
 ghost use Rattle.cr_main.specs.Requests.{task_for};
 ghost use Rattle.cr_main.specs.Run.{Concludes, Finishes, end_status};
 
-use crate::lines::LinesPass;
 use crate::messages::{put, refuse};
 use crate::names::beside;
 use crate::top::Request;
 use cr_cursor::TokenLaw;
 use cr_log::{log_text, summary_text};
 use cr_outside::{FileFault, Files, Judge, NoMemory, Sink};
+use cr_passes::CPasses;
 use cr_reduce::{Bench, End, Plan, Why, reduce, size_of};
 use std::alloc::{AllocError, Global};
 
@@ -60,7 +60,9 @@ pub fn copy_and_reduce<F: Files, J: Judge, O: Sink>(
     };
     let end = reduce(
         alloc,
-        &LinesPass,
+        &CPasses {
+            enabled: request.enabled,
+        },
         &TokenLaw,
         request.test,
         bench,

@@ -6,13 +6,11 @@
 mod built;
 mod finish;
 mod laws;
-mod lines;
 mod messages;
 mod names;
 mod top;
 
 pub use laws::a_name_has_one_own_name;
-pub use lines::LinesPass;
 pub use top::run;
 
 #[cfg(test)]

@@ -1,7 +1,7 @@
 // Reductions by the lines pass. What is wanted was found by hand from the rules of the pass and of the reduction.
-use super::LinesPass;
 use cr_cursor::{Cursor, TokenLaw};
 use cr_outside::{Answer, Scripted, Test};
+use cr_passes::CPasses;
 use cr_reduce::{Accepted, Bench, End, Plan, Why, reduce};
 use cr_tokens::read;
 use std::alloc::{AllocError, Global};
@@ -242,7 +242,14 @@ fn end_of(alloc: Global, setup: &Setup, limit: Option<u64>) -> Result<Option<End
         limit,
     };
     let end = reduce(
-        alloc, &LinesPass, &TokenLaw, &test, &mut bench, "abc.c", file, &plan,
+        alloc,
+        &CPasses::lines(),
+        &TokenLaw,
+        &test,
+        &mut bench,
+        "abc.c",
+        file,
+        &plan,
     );
     Ok(Some(end))
 }

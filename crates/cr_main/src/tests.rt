@@ -51,6 +51,28 @@ const REDUCED: Case = Case {
     log: Some(STEPS),
 };
 
+/// The three lines, reduced by runs of tokens too.
+const ITS_TOKEN: Case = Case {
+    what: "three lines, by lines and tokens",
+    words: &["--passes=tl", "has:b", "abc.c"],
+    output: "abc.c size 102 to 14 accepted 4 turns 38 fixed\n",
+    after: " b\n",
+    log: Some("l 13 1 68 15\nl 14 0 34 16\nt 4 0 23 20\nt 4 1 14 22\nend fixed 14 38\n"),
+    ..REDUCED
+};
+
+/// Two tokens of one line, of which the second goes.
+const TWO_TOKENS: Case = Case {
+    what: "a line of two tokens",
+    words: &["--passes", "t", "has:a", "abc.c"],
+    before: "a b",
+    output: "abc.c size 25 to 13 accepted 1 turns 4 fixed\n",
+    after: "a ",
+    copy: Some("a b"),
+    log: Some("t 4 1 13 3\nend fixed 13 4\n"),
+    ..REDUCED
+};
+
 /// The three lines, left as they are.
 const KEPT: Case = Case {
     after: THREE,
@@ -59,7 +81,9 @@ const KEPT: Case = Case {
     ..REDUCED
 };
 
-const REDUCTIONS: [Case; 8] = [
+const REDUCTIONS: [Case; 10] = [
+    ITS_TOKEN,
+    TWO_TOKENS,
     REDUCED,
     Case {
         what: "no turn",
@@ -334,8 +358,13 @@ fn files(alloc: Global, name: &str, text: &[u8], failing: &[u64]) -> Result<MemF
     Ok(MemFiles::new(pairs, failing.to_vec(alloc)?))
 }
 
+// The words of a case, whose only pass is l but where it names others.
 fn words(alloc: Global, list: &[&str]) -> Result<Vec<String>, AllocError> {
     let mut words = Vec::new(alloc);
+    match list.first() {
+        Some(first) if first.starts_with("--passes") => {}
+        _ => words.push(String::from_str(alloc, "--passes=l")?)?,
+    }
     for word in list {
         words.push(String::from_str(alloc, word)?)?;
     }

@@ -31,6 +31,8 @@ pub struct Request<'a> {
     pub test: &'a Test,
     /// The most turns.
     pub limit: Option<u64>,
+    /// Which passes are enabled, by their numbers.
+    pub enabled: [bool; 10],
     pub name: &'a str,
     /// The name under which the test sees the file.
     pub own: &'a str,
@@ -118,6 +120,7 @@ fn run_settings<F: Files, J: Judge, O: Sink>(
     let request = Request {
         test: &settings.test,
         limit: settings.limit,
+        enabled: settings.enabled,
         name,
         own: own_name(name),
     };

@@ -88,7 +88,12 @@ yes|--workers=1|--window=256|--steps=1000000|has:b|f.c
 no|--workers|2|has:b|f.c
 no|--window=8|--|has:b|f.c
 no|--steps|7|has:b|f.c
-no|--passes|l|has:b|f.c
+yes|--passes|l|has:b|f.c
+yes|--passes=tl|has:b|f.c
+yes|--passes|t|has:b|f.c
+yes|--passes|ltb|has:b|f.c
+no|--passes|ltbu|has:b|f.c
+no|--passes|f|has:b|f.c
 no|has:b|gen:7:40
 no|has:b
 ";

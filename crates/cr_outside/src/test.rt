@@ -19,7 +19,7 @@ pub enum Test {
 pub enum TestFault {
     #[error("no memory is left")]
     NoMemory,
-    #[error("the test is empty")]
+    #[error("the word is empty")]
     Empty,
     #[error("the text after `has:` has no token, or is no text of C")]
     BadText,

@@ -1,6 +1,5 @@
-ghost use Rattle.std.specs.Prelude.{◌↔◌, IsTrue, length};
+ghost use Rattle.std.specs.Prelude.{◌↔◌, IsTrue};
 ghost use Rattle.cr_memory.specs.Access.{HasStride};
-ghost use Rattle.cr_memory.specs.Memory.{AllHold};
 
 use crate::rows::expect;
 use cr_ints::IntKind;

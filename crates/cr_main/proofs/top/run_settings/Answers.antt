@@ -13,6 +13,7 @@ returns-clause-runs g c = (
       (record {
         test = c.args.settings.now.test;
         limit = c.args.settings.now.limit;
+        enabled = c.args.settings.now.enabled;
         name = name;
         own = c.own_name.result.now;
         says = first_says g.J.Judge.key g.J.Judge.says c.args.bench.now;

@@ -1,0 +1,3 @@
+pub mod Constants
+pub mod Operators
+pub mod Literals

@@ -1,0 +1,4 @@
+pub mod Gathered
+pub mod Order
+pub mod Places
+pub mod Level

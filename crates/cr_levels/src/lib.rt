@@ -1,0 +1,17 @@
+//! What the levels of the passes are made of: edits counted in the order of their places, and runs of tokens that go.
+//!
+//! A level over a tree is what each node gives: a list of counted edits. The loop over the nodes and the order, by the first token and outer
+//! ones first, are here once, so that a level is one function of a node. A level over runs or names is what each number gives, in turn.
+//! It stands on `cr_edit`, `cr_tokens` and `cr_rows`.
+#![tactic(auto)]
+
+mod counted;
+mod level;
+mod order;
+mod place;
+#[cfg(test)]
+mod tests;
+
+pub use counted::Counted;
+pub use level::{Level, Turns, in_turn, list};
+pub use place::{gone, replaced, with_comma};

@@ -1,0 +1,71 @@
+// The passes as one.
+ghost use Rattle.cr_passes.specs.Offers.{Offers, offer_of};
+ghost use Rattle.cr_passes.specs.OfferLaws.{few_variants, no_level, no_pass, one_offer};
+
+use crate::index::{Index, index_of};
+use cr_cursor::{Cursor, NoMemory, Passes};
+use cr_edit::{variant, width};
+use pass_text::{lines_variant, lines_width};
+use std::alloc::Global;
+
+/// The ten passes l t b u s c i p r f by their numbers from 0 on, of which some are enabled. So far l, t and b are built; the others offer nothing.
+#[derive(Clone, Copy, PartialEq, Eq)]
+pub struct CPasses {
+    pub enabled: [bool; 10],
+}
+
+impl CPasses {
+    /// Pass l alone.
+    pub fn lines() -> CPasses {
+        let mut enabled = [false; 10];
+        enabled[0] = true;
+        CPasses { enabled }
+    }
+}
+
+impl Passes for CPasses {
+    type Prep = Index;
+
+    ghost offers = { λ p file o. Offers p.enabled file o };
+
+    ghost offer = { λ _ index file. offer_of index file };
+
+    ghost one = { λ p file o other is also. one_offer p.enabled file o other is also };
+
+    ghost few = { λ p file o pass level is. few_variants p.enabled file o pass level is };
+
+    ghost ten_passes = { λ p file o pass level is above. no_pass p.enabled file o pass level is above };
+
+    ghost sixteen_levels = { λ p file o pass level is above. no_level p.enabled file o pass level is above };
+
+    fn prepare(&self, alloc: Global, file: &[u8]) -> Result<Index, NoMemory> {
+        index_of(alloc, &self.enabled, file)
+    }
+
+    fn width(&self, prep: &Index, pass: u8, level: u8) -> u64 {
+        if pass == 0 {
+            return lines_width(prep.line_count(), level);
+        }
+        match prep.menu(pass) {
+            Some(menu) => width(menu, level),
+            None => 0,
+        }
+    }
+
+    fn variant(
+        &self,
+        prep: &Index,
+        file: &[u8],
+        at: Cursor,
+        out: &mut Vec<u8>,
+    ) -> Result<(), NoMemory> {
+        let _lines = prep.line_count();
+        if at.pass == 0 {
+            return lines_variant(file, at, out);
+        }
+        match prep.menu(at.pass) {
+            Some(menu) => variant(menu, file, at.level, at.index, out),
+            None => Ok(out.clear()),
+        }
+    }
+}

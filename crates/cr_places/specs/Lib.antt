@@ -1,0 +1,3 @@
+pub mod Above
+pub mod Around
+pub mod Repeats

@@ -1,0 +1,3 @@
+pub mod Tables
+pub mod Itself
+pub mod Fitted

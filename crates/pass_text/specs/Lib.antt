@@ -1,0 +1,5 @@
+pub mod Lines
+pub mod LineLaws
+pub mod Runs
+pub mod Brackets
+pub mod Laws
