@@ -1,6 +1,7 @@
 use crate::rows::{expect, pair, rows};
 use cr_footprint::{Foot, FootEnd};
 use std::alloc::{AllocError, Global};
+use std::test::Fail;
 
 // Expressions in postfix, and the conflict in them or the cells that they read and those that they write. `t12` is a touch of
 // cell 2 of object 1, `v12` an operator's own touch of it and `w12` its own write; `R1` and `W1` are an operator's own reads and
@@ -82,5 +83,15 @@ fn a_touch_is_settled_and_conflicts_as_a_write(rt: HostRuntime) -> Result<(), Al
         let found = shown(rt.alloc(), foot_of(rt.alloc(), words))?;
         expect(&rt, found.as_str(), wanted, row);
     }
+    Ok(())
+}
+
+// Ten cells and ten, five of them the same, are more than are put to a set one by one.
+#[test]
+fn the_cells_of_two_structs_are_those_of_either(rt: HostRuntime) -> Result<(), Fail> {
+    let left = Foot::none(rt.alloc()).own_reads(1, 0..10)?;
+    let both = left.beside(Foot::none(rt.alloc()).own_reads(1, 5..15)?)?;
+    assert!(rt; both.reads().len() == 15);
+    assert!(rt; both.writes().is_empty());
     Ok(())
 }
