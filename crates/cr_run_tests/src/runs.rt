@@ -1,9 +1,9 @@
 // Whole runs on files, a sink and judges in memory. What is wanted was found by hand from the rules of the command line,
 // of the lines pass and of the reduction.
 use super::rehearsed::{Calls, Rehearsed};
-use super::run;
 use cr_cursor::Cursor;
 use cr_log::read_log;
+use cr_main::run;
 use cr_outside::{Answer, Files, Judge, MemFiles, MemSink, ReadAnswer, Scripted};
 use cr_reduce::{Accepted, Bench};
 use std::alloc::{AllocError, Global};
@@ -372,7 +372,7 @@ fn words(alloc: Global, list: &[&str]) -> Result<Vec<String>, AllocError> {
 }
 
 // A bench of this judge alone.
-fn bench<J: Drop>(alloc: Global, judge: J) -> Result<Bench<J>, AllocError> {
+fn bench<J: Judge>(alloc: Global, judge: J) -> Result<Bench<J>, AllocError> {
     let mut judges = Vec::new(alloc);
     judges.push(judge)?;
     Bench::new(judges)
@@ -431,11 +431,19 @@ fn expect<J: Judge>(
     expect_files(rt, alloc, &mut files, case)
 }
 
+// A bench of this judge and another one, who fails if it is asked at all.
+fn rehearsed(alloc: Global, judge: Rehearsed) -> Result<Bench<Rehearsed>, AllocError> {
+    let mut judges = Vec::new(alloc);
+    judges.push(judge)?;
+    judges.push(Rehearsed::new("", "", &[]))?;
+    Bench::new(judges)
+}
+
 // Each case with its judge, who fails at any call that it doesn't await.
 fn expect_all(rt: &impl Abort, alloc: Global, cases: &[Case]) -> Result<(), AllocError> {
     for case in cases {
         let judge = Rehearsed::new("w.sh", "abc.c", case.calls);
-        let mut bench = bench(alloc, judge)?;
+        let mut bench = rehearsed(alloc, judge)?;
         expect(rt, alloc, case, &mut bench)?;
     }
     Ok(())
@@ -486,11 +494,36 @@ const SCRIPTED: Case = Case {
 #[test]
 fn a_failure_behind_an_accepted_variant_is_never_met(rt: HostRuntime) -> Result<(), AllocError> {
     let alloc = rt.alloc();
-    let mut judges = Vec::new(alloc);
-    judges.push(scripted(alloc)?)?;
-    judges.push(scripted(alloc)?)?;
-    let mut bench = Bench::new(judges)?;
+    let mut bench = bench(alloc, scripted(alloc)?)?;
     expect(&rt, alloc, &SCRIPTED, &mut bench)
+}
+
+/// A generated program, of which nothing is written. The test says no to it.
+const MADE: Case = Case {
+    what: "a generated program without this text",
+    words: &["has:b1", "gen:7:1"],
+    name: "gen.c",
+    before: "another file",
+    status: 6,
+    output: "creduce: the test says no to gen.c\n",
+    after: "another file",
+    copy: None,
+    log: None,
+    ..REDUCED
+};
+
+/// Its size is its 185 bytes, 8 for each of its 58 tokens, and their weights, which are 45 together.
+const MADE_UNCHANGED: Case = Case {
+    what: "no turn on a generated program",
+    words: &["--limit=0", "has:main", "gen:7:1"],
+    status: 7,
+    output: "gen.c size 694 to 694 accepted 0 turns 0 limit\n",
+    ..MADE
+};
+
+#[test]
+fn a_generated_program_is_never_written(rt: HostRuntime) -> Result<(), AllocError> {
+    expect_all(&rt, rt.alloc(), &[MADE, MADE_UNCHANGED])
 }
 
 #[test]

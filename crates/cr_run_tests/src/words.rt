@@ -1,6 +1,8 @@
 // The command line. What is wanted was found by hand from its rules.
-use crate::built::built_words;
-use cr_outside::Test;
+use super::rehearsed::Rehearsed;
+use cr_main::run;
+use cr_outside::{MemFiles, MemSink, Test};
+use cr_reduce::Bench;
 use cr_words::{Settings, Source, WordFault, words};
 use std::alloc::{AllocError, Global};
 use std::test::Fail;
@@ -81,7 +83,8 @@ no|--help|has:b|f.c
 no|has:b|-x.c
 ";
 
-/// Lists of words, each word behind a bar, and whether what they ask for is built.
+/// Lists of words, each word behind a bar, and whether what they ask for is built: then the run goes on to look for the
+/// file, which isn't there.
 const BUILT: &str = "\
 yes|--limit|5|has:b|f.c
 yes|--workers=1|--window=256|--steps=1000000|has:b|f.c
@@ -94,7 +97,6 @@ yes|--passes|t|has:b|f.c
 yes|--passes|ltb|has:b|f.c
 no|--passes|ltbu|has:b|f.c
 no|--passes|f|has:b|f.c
-no|has:b|gen:7:40
 no|has:b
 ";
 
@@ -149,12 +151,22 @@ fn words_give_their_settings_or_none(rt: HostRuntime) -> Result<(), Fail> {
     Ok(())
 }
 
+fn status_of(alloc: Global, line: &str) -> Result<u8, Fail> {
+    let list = list_of(alloc, line)?;
+    let mut judges = Vec::new(alloc);
+    judges.push(Rehearsed::new("", "", &[]))?;
+    let mut bench = Bench::new(judges)?;
+    let mut files = MemFiles::new(Vec::new(alloc), Vec::new(alloc));
+    let mut out = MemSink::new(alloc, Vec::new(alloc));
+    Ok(run(alloc, &list, &mut files, &mut bench, &mut out))
+}
+
 #[test]
 fn what_is_not_built_is_refused(rt: HostRuntime) -> Result<(), Fail> {
     for line in BUILT.lines() {
-        let list = list_of(rt.alloc(), line)?;
-        let built = built_words(rt.alloc(), &list).is_ok();
-        assert!(rt; built == line.starts_with("yes"), "{line}");
+        let status = status_of(rt.alloc(), line)?;
+        let wanted = if line.starts_with("yes") { 3 } else { 2 };
+        assert_eq!(rt; status, wanted, "{line}");
     }
     Ok(())
 }

@@ -1,7 +1,7 @@
 use Rattle.std.proofs.Common.{refl, subst}
 use Rattle.cr_tokens.specs.Size.{size_of}
 use Rattle.cr_tokens.specs.Tokens.{Tokenizes}
-use Rattle.cr_main.proofs.reduce_tests.end_of.Goals as goal
+use Rattle.cr_run_tests.proofs.reductions.end_of.Goals as goal
 
 pub reduce-end-requires-clause-tokenizes : goal.reduce-end-requires-clause-tokenizes
 reduce-end-requires-clause-tokenizes c =
