@@ -372,7 +372,7 @@ fn words(alloc: Global, list: &[&str]) -> Result<Vec<String>, AllocError> {
 }
 
 // A bench of this judge alone.
-fn bench<J: Judge>(alloc: Global, judge: J) -> Result<Bench<J>, AllocError> {
+fn bench<J: Judge + Drop>(alloc: Global, judge: J) -> Result<Bench<J>, AllocError> {
     let mut judges = Vec::new(alloc);
     judges.push(judge)?;
     Bench::new(judges)
