@@ -7,9 +7,9 @@ use Rattle.cr_syntax.specs.declared.word.Word.{Word}
 use Rattle.cr_syntax.specs.declared.word.Word.TheVariants as word
 use Rattle.cr_syntax.specs.declared.node.Kind.{Kind}
 use Rattle.cr_syntax.specs.declared.node.Kind.TheVariants as kind
-use Rattle.cr_syntax.specs.declared.symbol.Part.{Part}
-use Rattle.cr_syntax.specs.declared.symbol.Part.TheVariants as part
-use Rattle.cr_syntax.specs.declared.symbol.Context.{Context}
+use Rattle.cr_syntax.specs.declared.part.Part.{Part}
+use Rattle.cr_syntax.specs.declared.part.Part.TheVariants as part
+use Rattle.cr_syntax.specs.declared.part.Context.{Context}
 use Rattle.cr_syntax.specs.Words.{Lexeme}
 use Rattle.cr_syntax.specs.Scopes.{Scopes}
 use Rattle.cr_syntax.specs.Trees.{Trees, none, node, one, ◌&◌}
@@ -27,14 +27,6 @@ use Rattle.cr_machine.proofs.MachineSpells.{is_one}
 use Rattle.cr_machine.proofs.MachineSound.{two_parameters}
 use Rattle.std.proofs.lemmas.Bool.{or_left, or_right}
 
--- Two ways in which no token of a unit is refused stand for what else a text may be asked for: an empty statement at token k,
--- and the switch at token s with its body at token k.
-abbrev pub empty_next : Way
-empty_next = barring (has is_unused) 1 0
-
-abbrev pub switch_at : ℕ → Way
-switch_at s = barring (has is_unused) 1 (suc s)
-
 -- the word at token k, by the way in which the token there is refused
 pub data Next (all : List Lexeme) (k : ℕ) : Way → Type 0 where
   next_stopped : {d : ℕ} → Next all k (stopped d)
@@ -47,8 +39,6 @@ pub data Next (all : List Lexeme) (k : ℕ) : Way → Type 0 where
   next_block : {d : ℕ} → Next all k (barring label_start 6 d)
   next_body : {d : ℕ} → Is all k word.LeftBrace → Next all k (barring statement_start 7 d)
   next_definition : {n : ℕ} (m : ℕ) → m + 1 ≡ k → Is all m word.LeftBrace → Next all k (defining n)
-  next_empty : Is all k word.Semicolon → Next all k (barring (has is_unused) 1 0)
-  next_switch : {s : ℕ} → Next all k (barring (has is_unused) 1 (suc s))
 
 -- the node in the trees of an expression or a type
 pub data Shown (k : ℕ) (t : Trees) : Way → Type 0 where
@@ -67,8 +57,6 @@ pub data ShownIn (at : Place → Bool) (k : ℕ) (t : Trees) : Way → Type 0 wh
   shown_block : {d : ℕ} (s : ℕ) → Has (switch_body_at s k) t → ShownIn at k t (barring label_start 6 d)
   shown_body : {d : ℕ} (s : ℕ) → Has (switch_body_at s k) t → ShownIn at k t (barring statement_start 7 d)
   shown_definition : {n : ℕ} (m : ℕ) → m + 1 ≡ k → n < m → Has (variadic_definition n m) t → ShownIn at k t (defining n)
-  shown_empty : ShownIn at k t (barring (has is_unused) 1 0)
-  shown_switch : {s : ℕ} → Has (switch_body_at s k) t → ShownIn at k t (barring (has is_unused) 1 (suc s))
 
 -- wherever the trees stand
 abbrev pub every : Place → Bool
@@ -130,8 +118,6 @@ next_more f next_label = next_label
 next_more f next_block = next_block
 next_more f (next_body q) = next_body (f.words _ _ q)
 next_more f (next_definition m e q) = next_definition m e (f.words _ _ q)
-next_more f (next_empty q) = next_empty (f.words _ _ q)
-next_more f next_switch = next_switch
 
 -- A node stays in larger trees.
 
@@ -244,8 +230,6 @@ carried_in f g (shown_label n e x) = shown_label n e (g n x)
 carried_in {k = k} f g (shown_block s x) = shown_block s (f (switch_body_at s k) x)
 carried_in {k = k} f g (shown_body s x) = shown_body s (f (switch_body_at s k) x)
 carried_in f g (shown_definition {n = n} m e l x) = shown_definition m e l (f (variadic_definition n m) x)
-carried_in f g shown_empty = shown_empty
-carried_in {k = k} f g (shown_switch {s = s} x) = shown_switch (f (switch_body_at s k) x)
 
 -- in other places, if those are some of these
 pub moved : {at at' : Place → Bool} {k : ℕ} {t : Trees} {w : Way} → ((p : Place) → at' p ≡ true → at p ≡ true) → ShownIn at k t w → ShownIn at' k t w

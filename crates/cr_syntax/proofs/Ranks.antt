@@ -1,10 +1,10 @@
 -- Chains of parts: how long they are, and what the checker's steps say of them.
 use Rattle.std.proofs.Common.{◌≡◌, ℕ, ◌<◌, Bool, true, false, refl, ap, arith, lit<}
 use denote.Enum.Bare.{true_same, false_same}
-use Rattle.cr_syntax.specs.contracts.symbol.Part as part_type
-use Rattle.cr_syntax.specs.declared.symbol.Part.{Part}
-use Rattle.cr_syntax.specs.declared.symbol.Part.TheVariants as part
-use Rattle.cr_syntax.specs.declared.chains.Link.TheVariants.{Makes, Chains, Enters}
+use Rattle.cr_syntax.specs.contracts.part.Part as part_type
+use Rattle.cr_syntax.specs.declared.part.Part.{Part}
+use Rattle.cr_syntax.specs.declared.part.Part.TheVariants as part
+use Rattle.cr_syntax.specs.Chains.{Makes, Chains, Enters}
 use Rattle.cr_syntax.specs.Grammar.{Chain}
 use Rattle.cr_syntax.specs.Grammar as grammar
 use Rattle.cr_syntax.specs.Chains.{link_of, step_past}
