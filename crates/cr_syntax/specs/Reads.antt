@@ -1,4 +1,4 @@
--- How the checker reads a tree against the tokens: by recursion on the tree, and along a right side.
+-- Reading a tree against the tokens: by recursion on the tree, and along a right side.
 -- `reads` gives the scopes after the tree, or none where it doesn't spell the tokens.
 use Rattle.std.specs.Prelude.{ℕ, zero, suc, ◌+◌, ◌-◌, Bool, true, false, not, ◌&&◌, ◌||◌, ◌==◌, List, [], ◌∷◌, Option, None, Some, if◌then◌else◌, nat_lt, nat_le}
 use denote.Enum.Bare.{sameb}
