@@ -6,18 +6,18 @@ use Rattle.cr_syntax.specs.declared.word.Word.{Word}
 use Rattle.cr_syntax.specs.declared.word.Word.TheVariants as word
 use Rattle.cr_syntax.specs.declared.node.Kind.{Kind}
 use Rattle.cr_syntax.specs.declared.node.Kind.TheVariants as kind
-use Rattle.cr_syntax.specs.declared.symbol.Part.{Part}
-use Rattle.cr_syntax.specs.declared.symbol.Part.TheVariants as part
-use Rattle.cr_syntax.specs.declared.symbol.Symbol.{Symbol}
-use Rattle.cr_syntax.specs.declared.symbol.Symbol.TheVariants as symbol
-use Rattle.cr_syntax.specs.declared.symbol.Context.{Context}
+use Rattle.cr_syntax.specs.declared.part.Part.{Part}
+use Rattle.cr_syntax.specs.declared.part.Part.TheVariants as part
+use Rattle.cr_syntax.specs.Symbols.{Symbol}
+use Rattle.cr_syntax.specs.Symbols as symbol
+use Rattle.cr_syntax.specs.declared.part.Context.{Context}
 use Rattle.cr_syntax.specs.Words.{Lexeme, spelling_at}
 use Rattle.cr_syntax.specs.Scopes.{Scopes, is_type, enter}
 use Rattle.cr_syntax.specs.Trees.{Trees}
 use Rattle.cr_syntax.specs.Context.{past_part, declared_in}
 use Rattle.cr_syntax.specs.Grammar.{Side, Alternative}
 use Rattle.cr_syntax.specs.Grammar as grammar
-use Rattle.cr_syntax.specs.Tables.{side_of, declaration_rules, expression_rules}
+use Rattle.cr_syntax.specs.Tables.{side_of, rule_of}
 use Rattle.cr_syntax.specs.Spells.{Limit, Free, AtMost, Upto, Leaving, Within, Stands, levels, Is, IsIdentifier, Phrase, Spells, a, rest, AreConst, const_none, const_more}
 use Rattle.cr_syntax.specs.Spells as spells
 use Rattle.cr_syntax.proofs.Alternatives.{side_only}
@@ -260,7 +260,7 @@ HasToken (a p) = Unit {0}
 HasToken (rest s) = has_solid s ≡ true
 
 sides_solid : (k : Kind) → has_solid (side_of k) ≡ true
-unfolding side_of declaration_rules expression_rules
+unfolding rule_of
 sides_solid kind.FunctionDefinition = refl
 sides_solid _ = refl
 
@@ -314,7 +314,3 @@ later y (spells.step_none q w v s) = let n = forth s in omega arith
 later y (spells.step_some x q w v s) = let n = forth x in let n' = forth s in omega arith
 later y (spells.else_none s) = later y s
 later y (spells.else_some q w x s) = let n = forth x in let n' = forth s in omega arith
-
--- and so do the parts of a node
-pub later_parts : {ts : List Lexeme} {limit : Limit} {p : Part} {k : Kind} {s : Side} {h : Context} {c e : Scopes} {d i j : ℕ} {t : Trees} → Alternative p k s → Spells ts limit (rest s) h c e d t i j → i < j
-later_parts {k = k} z s = later (subst (λ s. has_solid s ≡ true) (side_only z) (sides_solid k)) s

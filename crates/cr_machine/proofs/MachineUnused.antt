@@ -4,15 +4,15 @@ use Rattle.std.proofs.lemmas.Bool.{cases_lt}
 use Rattle.cr_syntax.specs.declared.word.Word.{Word}
 use Rattle.cr_syntax.specs.declared.node.Kind.{Kind}
 use Rattle.cr_syntax.specs.declared.node.Kind.TheVariants as kind
-use Rattle.cr_syntax.specs.declared.symbol.Part.{Part}
-use Rattle.cr_syntax.specs.declared.symbol.Symbol.{Symbol}
-use Rattle.cr_syntax.specs.declared.symbol.Symbol.TheVariants as symbol
-use Rattle.cr_syntax.specs.declared.symbol.Context.{Context}
+use Rattle.cr_syntax.specs.declared.part.Part.{Part}
+use Rattle.cr_syntax.specs.Symbols.{Symbol}
+use Rattle.cr_syntax.specs.Symbols as symbol
+use Rattle.cr_syntax.specs.declared.part.Context.{Context}
 use Rattle.cr_syntax.specs.Words.{Lexeme}
 use Rattle.cr_syntax.specs.Scopes.{Scopes}
 use Rattle.cr_syntax.specs.Trees.{Trees}
 use Rattle.cr_syntax.specs.Grammar.{Side, Alternative}
-use Rattle.cr_syntax.specs.Tables.{side_of, declaration_rules, expression_rules}
+use Rattle.cr_syntax.specs.Tables.{side_of, rule_of}
 use Rattle.cr_syntax.specs.Spells.{Limit, Is, Phrase, a, rest, Spells, AreConst, const_none, const_more}
 use Rattle.cr_syntax.specs.Spells as spells
 use Rattle.cr_syntax.specs.Units.{is_unused}
@@ -35,7 +35,7 @@ all_used [] = true
 all_used (x ∷ s) = is_used x && all_used s
 
 side_used : (k : Kind) → all_used (side_of k) ≡ true
-unfolding side_of declaration_rules expression_rules
+unfolding rule_of
 side_used kind.FunctionDefinition = refl
 side_used _ = refl
 

@@ -20,8 +20,8 @@ use Rattle.std.specs.Prelude.{◌≡◌, ℕ, ◌+◌, Bool, true, false, not, �
 use Rattle.cr_syntax.specs.declared.word.Word.{Word}
 use Rattle.cr_syntax.specs.declared.word.Word.TheVariants as word
 use Rattle.cr_syntax.specs.declared.node.Kind.{Kind}
-use Rattle.cr_syntax.specs.declared.symbol.Part.{Part}
-use Rattle.cr_syntax.specs.declared.symbol.Context.{Context}
+use Rattle.cr_syntax.specs.declared.part.Part.{Part}
+use Rattle.cr_syntax.specs.declared.part.Context.{Context}
 use Rattle.cr_syntax.specs.declared.scopes.TypeName.{TypeName}
 use Rattle.cr_syntax.specs.Words.{Lexeme, word_at, spelling_at}
 use Rattle.cr_syntax.specs.Scopes.{Scopes, is_type, enter}

@@ -1,19 +1,19 @@
--- What the checker reads is spelled.
+-- What is read is spelled.
 use Rattle.std.proofs.Common.{◌≡◌, ℕ, zero, suc, ◌+◌, ◌-◌, ◌<◌, ◌≤◌, Bool, true, false, not, ◌&&◌, ◌||◌, List, [], ◌∷◌, Option, None, Some, refl, sym, ap, subst, arith}
 use Rattle.std.specs.Prelude.{if◌then◌else◌, ◌==◌, nat_lt, nat_le}
 use borrow.Author.Tests.{ltb-true, leb-true, eqb-true}
 use denote.Enum.Bare.{same_true}
-use Rattle.cr_syntax.specs.contracts.symbol.Part as part_type
+use Rattle.cr_syntax.specs.contracts.part.Part as part_type
 use Rattle.cr_syntax.specs.declared.word.Word.TheVariants as word
 use Rattle.cr_syntax.specs.declared.node.Kind.{Kind}
 use Rattle.cr_syntax.specs.declared.scopes.TypeName.{TypeName}
-use Rattle.cr_syntax.specs.declared.symbol.Depth.{Depth}
-use Rattle.cr_syntax.specs.declared.symbol.Part.{Part}
-use Rattle.cr_syntax.specs.declared.symbol.Part.TheVariants as part
-use Rattle.cr_syntax.specs.declared.symbol.Symbol.TheVariants as symbol
-use Rattle.cr_syntax.specs.declared.symbol.Context.{Context}
-use Rattle.cr_syntax.specs.declared.chains.Link.{Link}
-use Rattle.cr_syntax.specs.declared.chains.Link.TheVariants.{Makes, Chains, Enters, Drops, Refuses}
+use Rattle.cr_syntax.specs.Symbols.{Depth}
+use Rattle.cr_syntax.specs.declared.part.Part.{Part}
+use Rattle.cr_syntax.specs.declared.part.Part.TheVariants as part
+use Rattle.cr_syntax.specs.Symbols as symbol
+use Rattle.cr_syntax.specs.declared.part.Context.{Context}
+use Rattle.cr_syntax.specs.Chains.{Link}
+use Rattle.cr_syntax.specs.Chains.{Makes, Chains, Enters, Drops, Refuses}
 use Rattle.cr_syntax.specs.Words.{Lexeme, spelling_at}
 use Rattle.cr_syntax.specs.Scopes.{Scopes, is_type, enter}
 use Rattle.cr_syntax.specs.Trees.{Trees, none, node, one, ◌&◌}

@@ -9,11 +9,11 @@ use Rattle.cr_syntax.specs.declared.word.Word.{Word}
 use Rattle.cr_syntax.specs.declared.word.Word.TheVariants as word
 use Rattle.cr_syntax.specs.declared.node.Kind.{Kind}
 use Rattle.cr_syntax.specs.declared.node.Kind.TheVariants as kind
-use Rattle.cr_syntax.specs.declared.symbol.Depth.TheVariants.{Outer, Inner, Innermost}
-use Rattle.cr_syntax.specs.declared.symbol.Part.{Part}
-use Rattle.cr_syntax.specs.declared.symbol.Part.TheVariants.{External, Declaration, InitDeclarator, Initializer, Specifiers, Specifier, PlainSpecifiers, Plain, MemberDeclaration, MemberDeclarator, Enumerator, Declarator, DirectDeclarator, Parameters, Parameter, ParameterDeclarator, Abstract, DirectAbstract, TypeName, BlockItem, Statement, Compound, Expression, Assignment, Conditional, LogicalOr, LogicalAnd, Or, Xor, And, Equality, Relational, Shift, Additive, Multiplicative, Cast, Unary, Postfix, Primary}
-use Rattle.cr_syntax.specs.declared.symbol.Symbol.{Symbol}
-use Rattle.cr_syntax.specs.declared.symbol.Symbol.TheVariants as symbol
+use Rattle.cr_syntax.specs.Symbols.{Outer, Inner, Innermost}
+use Rattle.cr_syntax.specs.declared.part.Part.{Part}
+use Rattle.cr_syntax.specs.declared.part.Part.TheVariants.{External, Declaration, InitDeclarator, Initializer, Specifiers, Specifier, PlainSpecifiers, Plain, MemberDeclaration, MemberDeclarator, Enumerator, Declarator, DirectDeclarator, Parameters, Parameter, ParameterDeclarator, Abstract, DirectAbstract, TypeName, BlockItem, Statement, Compound, Expression, Assignment, Conditional, LogicalOr, LogicalAnd, Or, Xor, And, Equality, Relational, Shift, Additive, Multiplicative, Cast, Unary, Postfix, Primary}
+use Rattle.cr_syntax.specs.Symbols.{Symbol}
+use Rattle.cr_syntax.specs.Symbols as symbol
 
 abbrev pub token : Word → Symbol
 token w = symbol.Token Outer w
