@@ -5,7 +5,7 @@ ghost use Rattle.pass_text.specs.Brackets.{IsBracketOffering};
 ghost use Rattle.pass_text.specs.Runs.{t_offering};
 
 use cr_cursor::NoMemory;
-use cr_edit::Menu;
+use cr_edit::{Kept, Menu};
 use cr_tokens::{Token, TokenFault, Tokens, read};
 use pass_text::{brackets, count_lines, runs_of_tokens};
 use std::alloc::{AllocError, Global};
@@ -74,7 +74,7 @@ fn is_on(enabled: &[bool], pass: usize) -> bool
 fn nothing(alloc: Global) -> Menu
     ensures { result ≡ nothing }
 {
-    Menu::new(Vec::new(alloc), Vec::new(alloc))
+    Menu::new(Vec::new(alloc), Kept::nothing(alloc))
 }
 
 fn runs(alloc: Global, on: bool, tokens: &Tokens) -> Result<Menu, NoMemory>
