@@ -17,8 +17,8 @@ pub enum Text {
     Same(u32, u32),
     /// Bytes that the index keeps, from the first place to before the second: a new name, or a printed text.
     Kept(u32, u32),
-    /// The sign, and behind it the form of the first number, its holes filled by the runs of the second; spelled as the printer does, with a
-    /// space only where two spellings would be read otherwise.
+    /// The sign, and behind it the form of the first number, its holes filled by the runs of the second, with a space where `needs_space`
+    /// asks for one.
     Filled(Sign, u32, u32),
 }
 
