@@ -1,0 +1,3 @@
+mod Sizes
+mod Runs
+mod Tries
