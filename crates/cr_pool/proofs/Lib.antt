@@ -1,3 +1,5 @@
 mod Sizes
 mod Runs
 mod Tries
+mod Lists
+mod Works

@@ -1,5 +1,7 @@
 -- What one worker does in an epoch: its own list of entries is its trials.
 use Rattle.std.specs.Prelude.{◌≡◌, ◌≢◌, ℕ, ◌+◌, ◌-◌, ◌<◌, ◌≤◌, true, List, [], ◌∷◌, Option, Some, None}
+use Rattle.cr_claims.specs.declared.seats.Pass.{Pass}
+use Rattle.cr_claims.specs.Pass.{view_of}
 use Rattle.cr_core.specs.declared.marks.HitKind.{HitKind}
 use Rattle.cr_core.specs.declared.marks.HitKind.TheVariants.{Yes, Failed, Starved}
 use Rattle.cr_core.specs.declared.marks.Mark.{Mark}
@@ -20,10 +22,10 @@ HitSays e before now buffer i Yes = (buffer ≡ variant_of e i) × IsAccepted e.
 HitSays e before now buffer i Failed = (e.asks ≡ true) × IsFailed e.Lawful (AnsweredBy e before now) e.file (variant_of e i) × Rose before.faults now.faults
 HitSays e before now buffer i Starved = Unit {0}
 
--- the same of a worker's hit, if it has one
+-- the same of a worker's hit, if it has one; it is below the length
 abbrev pub HitIsSo : Epoch → Tally → Tally → List ℕ → Option (ℕ × HitKind) → Type 0
 HitIsSo e before now buffer None = Unit {0}
-HitIsSo e before now buffer (Some hit) = HitSays e before now buffer hit.0 hit.1
+HitIsSo e before now buffer (Some hit) = (hit.0 < e.len) × HitSays e before now buffer hit.0 hit.1
 
 -- The trial of one position: its judge is asked about that position at most, and at most once.
 pub record Tries (e : Epoch) (before now : Tally) (i : ℕ) : Type 0 where
@@ -44,6 +46,10 @@ pub record Works (e : Epoch) (before now : Tally) (hit : Option (ℕ × HitKind)
   pub once : (i : ℕ) → times i positions ≤ placed i own
   pub few : now.asked ≤ before.asked + under e.len own
   pub later : before.faults ≤ now.faults
+
+-- a pass has its list still, and has left only if it had
+abbrev pub IsSameList : Pass → Pass → Type 0
+IsSameList old new = ((view_of new).own ≡ (view_of old).own) × ((view_of new).left ≡ (view_of old).left)
 
 -- how many positions below the length a worker may still claim, and one more where it has claimed none
 abbrev pub left_over : ℕ → Row → ℕ

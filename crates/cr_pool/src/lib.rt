@@ -6,6 +6,7 @@ mod job;
 mod looker;
 mod measure;
 mod trial;
+mod worker;
 
 pub use job::{EpochEnd, Job};
 pub use looker::Looker;

@@ -3,7 +3,7 @@ ghost use Rattle.std.specs.Prelude.{◌≡◌, ◌<◌, ◌≤◌, ◌/◌, ◌+
 ghost use Rattle.cr_core.specs.Row.{last_position, last_mark};
 ghost use Rattle.cr_core.specs.declared.marks.Mark.TheVariants.{Open};
 ghost use Rattle.cr_core.specs.declared.marks.HitKind.{HitKind};
-ghost use Rattle.cr_claims.specs.Pass.{view_of, IsOf, steady};
+ghost use Rattle.cr_claims.specs.Pass.{view_of, IsOf};
 ghost use Rattle.cr_cursor.specs.declared.law.Reason.{Reason};
 ghost use Rattle.cr_pool.specs.Answers.{trial_of};
 ghost use Rattle.cr_pool.specs.Epoch.{variant_at};
@@ -11,7 +11,7 @@ ghost use Rattle.cr_pool.specs.Jobs.{IsPlaced, offer_of, trying};
 ghost use Rattle.cr_pool.specs.Sizes.{HasSize};
 ghost use Rattle.cr_pool.specs.Tally.{tally_of};
 ghost use Rattle.cr_pool.specs.Trials.{IsBad, IsGood};
-ghost use Rattle.cr_pool.specs.Works.{Tries, RejectsAt, HitSays};
+ghost use Rattle.cr_pool.specs.Works.{Tries, RejectsAt, HitSays, IsSameList};
 
 use crate::job::Job;
 use crate::looker::Looker;
@@ -63,7 +63,8 @@ fn rule_on<L: Law>(
 ) -> Ruling
     requires of { IsOf claims.now pass.old }
     requires is_open { last_mark (view_of pass.old).own ≡ Open }
-    ensures same { steady pass.new ≡ steady pass.old }
+    ensures stays { IsOf claims.now pass.new }
+    ensures same { IsSameList pass.old pass.new }
     ensures lawful { result ≡ Ruling.Lawful → L.lawful law.now file.now }
     ensures unlawful { (reason : Reason) → result ≡ Ruling.Unlawful reason → L.lawful law.now file.now → ⊥ }
     ensures stopped { result ≡ Ruling.Stopped → (view_of pass.new).read / 4 < last_position (view_of pass.new).own }
@@ -87,7 +88,8 @@ fn screen<L: Law>(
 ) -> Screened
     requires of { IsOf claims.now pass.old }
     requires is_open { last_mark (view_of pass.old).own ≡ Open }
-    ensures same { steady pass.new ≡ steady pass.old }
+    ensures stays { IsOf claims.now pass.new }
+    ensures same { IsSameList pass.old pass.new }
     ensures good { result ≡ Screened.Good → (n : ℕ) × IsGood (L.lawful law.now) variant.now limit n }
     ensures bad { result ≡ Screened.Bad → IsBad (L.lawful law.now) variant.now limit }
     ensures stopped { result ≡ Screened.Stopped → (view_of pass.new).read / 4 < last_position (view_of pass.new).own }
@@ -134,7 +136,8 @@ pub fn try_position<P: Passes, L: Law, Q: Question, J: Judge>(
     requires sized { HasSize job.now.file.now job.now.size }
     requires of { IsOf claims.now pass.old }
     requires is_open { last_mark (view_of pass.old).own ≡ Open }
-    ensures same { steady pass.new ≡ steady pass.old }
+    ensures stays { IsOf claims.now pass.new }
+    ensures same { IsSameList pass.old pass.new }
     ensures tries { Tries (trying P.Passes L.Law Q.Question J.Judge job.now judge.old) (tally_of J.Judge judge.old) (tally_of J.Judge judge.new) at }
     ensures rejected { result ≡ Trial.Rejected → RejectsAt (trying P.Passes L.Law Q.Question J.Judge job.now judge.old) (tally_of J.Judge judge.old) (tally_of J.Judge judge.new) at }
     ensures stopped { result ≡ Trial.Stopped → (view_of pass.new).read / 4 < last_position (view_of pass.new).own }
