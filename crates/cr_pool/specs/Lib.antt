@@ -6,3 +6,4 @@ pub mod Epoch
 pub mod Jobs
 pub mod Works
 pub mod Answers
+pub mod Crew

@@ -2,6 +2,7 @@
 //! worker that tries them in order would end it.
 #![tactic(auto)]
 
+mod crew;
 mod job;
 mod looker;
 mod measure;
