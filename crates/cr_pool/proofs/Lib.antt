@@ -3,3 +3,4 @@ mod Runs
 mod Tries
 mod Lists
 mod Works
+mod Sums
