@@ -1,5 +1,5 @@
 -- The workers of an epoch.
-use Rattle.std.specs.Prelude.{◌≡◌, ◌≢◌, ◌<◌, ℕ, true, false, List, [], ◌∷◌, Option, Some, None, IsSomeAnd, length, slice_index_or}
+use Rattle.std.specs.Prelude.{◌≡◌, ◌≢◌, ◌<◌, ℕ, true, false, List, [], ◌∷◌, Option, Some, None, IsSomeAnd, length, map, slice_index_or}
 use Rattle.cr_claims.specs.declared.seats.Claims.{Claims}
 use Rattle.cr_claims.specs.declared.seats.Pass.{Pass}
 use Rattle.cr_claims.specs.declared.view.View.{View}
@@ -31,8 +31,7 @@ row_of (Some p) = (view_of p).own
 
 -- the lists of the workers' passes
 abbrev pub rows_of : {J : Type 0} → List (Worker J) → List Row
-rows_of [] = []
-rows_of (w ∷ ws) = row_of w.pass ∷ rows_of ws
+rows_of {J} workers = map (λ (w : Worker J). row_of w.pass) workers
 
 -- the keeper's pass, which has split so many passes and joined so many
 pub record Keeps (splits joined : ℕ) (p : Pass) : Type 0 where
