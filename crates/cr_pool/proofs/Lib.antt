@@ -4,3 +4,5 @@ mod Tries
 mod Lists
 mod Works
 mod Sums
+mod Ends
+mod Crews

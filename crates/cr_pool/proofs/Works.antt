@@ -70,7 +70,7 @@ says_earlier e before middle now buffer i Failed on later says = (says.0, record
 }, omega (arith, says.2))
 says_earlier e before middle now buffer i Starved on later says = tt
 
-one_of : (a b : ℕ) → 0 < a + b → (0 < a) ⊎ (0 < b)
+pub one_of : (a b : ℕ) → 0 < a + b → (0 < a) ⊎ (0 < b)
 one_of zero b h = inr (omega arith)
 one_of (suc a) b h = inl (omega arith)
 

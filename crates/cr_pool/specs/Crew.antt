@@ -33,6 +33,10 @@ row_of (Some p) = (view_of p).own
 abbrev pub rows_of : {J : Type 0} → List (Worker J) → List Row
 rows_of {J} workers = map (λ (w : Worker J). row_of w.pass) workers
 
+-- their judges
+abbrev pub judges_in : {J : Type 0} → List (Worker J) → List J
+judges_in {J} workers = map (λ (w : Worker J). w.judge) workers
+
 -- the keeper's pass, which has split so many passes and joined so many
 pub record Keeps (splits joined : ℕ) (p : Pass) : Type 0 where
   pub keeper : (view_of p).keeper ≡ true

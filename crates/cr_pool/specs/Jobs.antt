@@ -1,5 +1,5 @@
 -- The epoch of a job.
-use Rattle.std.specs.Prelude.{ℕ, ◌+◌, ◌^◌, ◌<◌, ◌≤◌, List, [], length}
+use Rattle.std.specs.Prelude.{◌≡◌, ℕ, ◌+◌, ◌^◌, ◌<◌, ◌≤◌, false, List, [], length, slice_index_or}
 use Rattle.cr_cursor.specs.declared.law.Law.{Ghosts as LawGhosts}
 use Rattle.cr_cursor.specs.declared.passes.Passes.{Ghosts as PassesGhosts}
 use Rattle.cr_cursor.specs.Variants.{Offer, cursors}
@@ -7,8 +7,9 @@ use Rattle.cr_outside.specs.declared.judge.Judge.{Ghosts as JudgeGhosts}
 use Rattle.cr_outside.specs.declared.question.Question.{Ghosts as QuestionGhosts}
 use Rattle.cr_outside.specs.Question.{Says}
 use Rattle.cr_pool.specs.declared.job.Job.{Job}
-use Rattle.cr_pool.specs.Epoch.{Epoch}
+use Rattle.cr_pool.specs.Epoch.{Epoch, AsksOnce}
 use Rattle.cr_pool.specs.Kept.{Kept}
+use Rattle.cr_pool.specs.Tally.{tallies_of}
 
 -- what is offered for the file of a job
 abbrev pub offer_of : {P I L Q : Type 0} → PassesGhosts P I → Job P L Q I → Offer
@@ -36,3 +37,12 @@ epoch_of passes law question job says kept = record {
 -- the same with this judge and nothing kept
 abbrev pub trying : {P I L Q J K : Type 0} → PassesGhosts P I → LawGhosts L → QuestionGhosts Q → JudgeGhosts J K → Job P L Q I → J → Epoch
 trying passes law question judge job j = epoch_of passes law question job (judge.says (judge.key j)) []
+
+-- What an epoch does to the judges: each has its key still, and what it is asked is bounded.
+pub record IsJudged {J K : Type 0} (judge : JudgeGhosts J K) (e : Epoch) (old new : List J) : Type 0 where
+  pub asks : AsksOnce e (tallies_of judge old) (tallies_of judge new)
+  pub count : length new ≡ length old
+  pub keys : (i : ℕ) (d : J) → i < length old → judge.key (slice_index_or new i d) ≡ judge.key (slice_index_or old i d)
+  pub later : (i : ℕ) (d : J) → i < length old → judge.faults (slice_index_or old i d) ≤ judge.faults (slice_index_or new i d)
+  -- where the question asks none, they are as they were
+  pub silent : e.asks ≡ false → new ≡ old

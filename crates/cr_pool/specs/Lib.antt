@@ -7,3 +7,4 @@ pub mod Jobs
 pub mod Works
 pub mod Answers
 pub mod Crew
+pub mod Endings

@@ -3,6 +3,8 @@
 #![tactic(auto)]
 
 mod crew;
+mod ending;
+mod epoch;
 mod job;
 mod looker;
 mod measure;
