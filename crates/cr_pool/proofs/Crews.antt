@@ -1,5 +1,5 @@
 -- The workers of an epoch, from what each did to what all did.
-use Rattle.std.proofs.Common.{◌≡◌, ◌⊎◌, inl, inr, ℕ, ◌+◌, ◌<◌, ◌≤◌, Bool, false, List, [], ◌∷◌, Option, Some, None, length, map, slice_index_or, refl, sym, ap, subst, ◌∙◌, arith}
+use Rattle.std.proofs.Common.{◌≡◌, ℕ, ◌+◌, ◌<◌, ◌≤◌, List, [], ◌∷◌, Option, Some, None, length, map, slice_index_or, refl, sym, ap, subst, ◌∙◌, arith}
 use Prim.Native.Nat.{zero, suc}
 use Rattle.std.proofs.lemmas.List.{get_or-map, length-map}
 use Rattle.cr_claims.specs.declared.seats.Claims.{Claims}
@@ -7,7 +7,8 @@ use Rattle.cr_core.specs.declared.events.First.{First}
 use Rattle.cr_core.specs.declared.events.First.TheVariants as first
 use Rattle.cr_core.specs.declared.marks.HitKind.{HitKind}
 use Rattle.cr_core.specs.declared.marks.HitKind.TheVariants.{Yes, Failed, Starved}
-use Rattle.cr_core.specs.Row.{Row, placed, under}
+use Rattle.cr_core.specs.declared.marks.Mark.TheVariants.{Open}
+use Rattle.cr_core.specs.Row.{Row, marked, placed, under}
 use Rattle.cr_core.specs.Sound.{Sum, total}
 use Rattle.cr_core.specs.State.{IsFirst}
 use Rattle.cr_cursor.specs.declared.law.Law.{Ghosts as LawGhosts}
@@ -52,7 +53,13 @@ same_says : {J K : Type 0} (key : J → K) (says : K → Says) (judges : List J)
 same_says key says [] k d one below = absurd (omega arith)
 same_says key says (j ∷ js) k d one below = ap says (one k 0 d below (omega arith))
 
-abbrev nothing : List ℕ
+nowhere : (f : Row → ℕ) (rows : List Row) → ((k : ℕ) → k < length rows → f (row_at rows k) ≡ 0) → total f rows ≡ 0
+nowhere f [] each = refl
+nowhere f (row ∷ rows) each =
+    let first = each zero (omega arith) in
+    omega (arith, first, nowhere f rows (λ k below. each (suc k) (omega arith)))
+
+abbrev pub nothing : List ℕ
 nothing = []
 
 abbrev hit_at : {J : Type 0} → List (Worker J) → ℕ → Option (ℕ × HitKind)
@@ -61,14 +68,14 @@ hit_at {J} workers k = slice_index_or (map (λ (w : Worker J). w.hit) workers) k
 abbrev buffer_at : {J : Type 0} → List (Worker J) → ℕ → List ℕ
 buffer_at {J} workers k = slice_index_or (map (λ (w : Worker J). w.variant.items) workers) k []
 
-no_positions : (k : ℕ) (tallies : List Tally) → slice_index_or (map (λ (t : Tally). nothing) tallies) k [] ≡ []
+pub no_positions : (k : ℕ) (tallies : List Tally) → slice_index_or (map (λ (t : Tally). nothing) tallies) k [] ≡ []
 no_positions k [] = refl
 no_positions zero (t ∷ ts) = refl
 no_positions (suc k) (t ∷ ts) = no_positions k ts
 
-no_times : (i : ℕ) (tallies : List Tally) → total (times i) (map (λ (t : Tally). nothing) tallies) ≡ 0
+pub no_times : (i : ℕ) (tallies : List Tally) → total (times i) (map (λ (t : Tally). nothing) tallies) ≡ 0
 no_times i [] = refl
-no_times i (t ∷ ts) = no_times i ts
+no_times i (t ∷ ts) = omega (arith, no_times i ts)
 
 pub asks_nobody : (e : Epoch) (tallies : List Tally) → AsksOnce e tallies tallies
 asks_nobody e tallies = record {
@@ -84,7 +91,6 @@ module _ {P I L Q J K : Type 0} (passes : PassesGhosts P I) (law : LawGhosts L) 
     (old new after : List (Worker J)) (count : length new ≡ length old) (count_after : length after ≡ length old) (one_key : HaveOneKey judge.key (judges_in old))
     (worked : (k : ℕ) (d : Worker J) → k < length old → IsWorked passes law question judge job claims (slice_index_or old k d) (slice_index_or new k d))
     (taken : (k : ℕ) (d : Worker J) → k < length old → IsSameButPass (slice_index_or new k d) (slice_index_or after k d)) where
-
   abbrev says_all : Says
   says_all = first_says judge.key judge.says (judges_in old)
 
@@ -168,24 +174,29 @@ module _ {P I L Q J K : Type 0} (passes : PassesGhosts P I) (law : LawGhosts L) 
     pub hitter : (i : ℕ) (kind : HitKind) (r : First) → IsFirst epoch.len sum r → r ≡ first.At i kind → (i < epoch.len) × ((k : ℕ) × IsHitter after i kind k)
     hitter i kind r is at =
         let it = hit_by epoch before now (rows_of new) (hit_at after) (buffer_at after) same_count row_count works_at says_at sum sums i kind ((is.at i kind).0 at).0 in
-        let here = below_old it.0 it.1 in
-        (within epoch before now (rows_of new) (hit_at after) (buffer_at after) same_count row_count works_at says_at sum sums it.0 i kind it.1 it.2,
-         (it.0, (omega arith, λ d. sym (get_or-map (λ (w : Worker J). w.hit) after it.0 d None (omega arith)) ∙ it.2)))
+        let here = below_old it.0 it.1 in (
+          within epoch before now (rows_of new) (hit_at after) (buffer_at after) same_count row_count works_at says_at sum sums it.0 i kind it.1 it.2,
+          (it.0, (omega arith, λ d. sym (get_or-map (λ (w : Worker J). w.hit) after it.0 d None (omega arith)) ∙ it.2)),
+        )
 
     hit_is : (i k : ℕ) (kind : HitKind) → IsHitter after i kind k → (k < length before) × (hit_at after k ≡ Some (i, kind))
     hit_is i k kind it =
-        let d = (element after k it.0).0 in
-        (omega (arith, length-map (judges_in old) (tally_of judge), length-map old (λ (w : Worker J). w.judge)),
-         get_or-map (λ (w : Worker J). w.hit) after k d None it.0 ∙ it.1 d)
+        let d = (element after k it.0).0 in (
+          omega (arith, length-map (judges_in old) (tally_of judge), length-map old (λ (w : Worker J). w.judge)),
+          get_or-map (λ (w : Worker J). w.hit) after k d None it.0 ∙ it.1 d,
+        )
 
     ends_at : (i : ℕ) (kind : HitKind) (end : EpochEnd) → IsFirst epoch.len sum (first.At i kind) → IsEndAt job.start after i kind end → EndsBy epoch before now end
     ends_at i Yes (ending.NoneOf n) is it = absurd it
     ends_at i Yes (ending.Found position bytes) is it =
         let hit = hit_is i it.1.0 Yes it.1.1 in
         let d = (element after it.1.0 it.1.1.0).0 in
-        let buffer = get_or-map (λ (w : Worker J). w.variant.items) after it.1.0 d [] it.1.1.0 ∙ it.1.2 d in
-        (i, it.0, subst (IsFound epoch before now i) buffer
-            (found epoch before now (rows_of new) (hit_at after) (buffer_at after) same_count row_count works_at says_at sum sums it.1.0 i hit.0 hit.1 ((is.at i Yes).0 refl).1))
+        let buffer = get_or-map (λ (w : Worker J). w.variant.items) after it.1.0 d [] it.1.1.0 ∙ it.1.2 d in (
+          i,
+          it.0,
+          subst (IsFound epoch before now i) buffer
+              (found epoch before now (rows_of new) (hit_at after) (buffer_at after) same_count row_count works_at says_at sum sums it.1.0 i hit.0 hit.1 ((is.at i Yes).0 refl).1),
+        )
     ends_at i Yes (ending.Fault position worker) is it = absurd it
     ends_at i Yes ending.NoMemory is it = absurd it
     ends_at i Failed (ending.NoneOf n) is it = absurd it
@@ -207,8 +218,25 @@ module _ {P I L Q J K : Type 0} (passes : PassesGhosts P I) (law : LawGhosts L) 
     ends first.None ending.NoMemory is it = absurd it
     ends (first.At i kind) end is it = ends_at i kind end is it
 
-    pub judged : ((i : ℕ) → sum (placed i) ≤ 1) → sum (under epoch.len) ≤ epoch.len → AsksOnce epoch before now
-    judged once few = asks_once epoch before now (rows_of new) (hit_at after) (buffer_at after) same_count row_count works_at says_at sum sums once few
+    -- no trial is open
+    pub nothing_open : (i : ℕ) → sum (marked i Open) ≡ 0
+    nothing_open i = omega (arith, sums (marked i Open), nowhere (marked i Open) (rows_of new) (λ k below. (works_at k (omega (arith, row_count))).closed i))
+
+    pub judged : ((i : ℕ) → sum (placed i) ≤ 1) → sum (under epoch.len) ≤ epoch.len → IsJudged judge epoch (judges_in old) (judges_in new)
+    judged once few = record {
+      asks = asks_once epoch before now (rows_of new) (hit_at after) (buffer_at after) same_count row_count works_at says_at sum sums once few;
+      count = omega (arith, length-map old (λ (w : Worker J). w.judge), length-map new (λ (w : Worker J). w.judge));
+      keys = λ k d below.
+          let h : k < length old = omega (arith, length-map old (λ (w : Worker J). w.judge)) in
+          let w = (element old k h).0 in
+          ap judge.key (get_or-map (λ (w : Worker J). w.judge) new k w d (omega arith)) ∙ (worked k w h).key ∙ sym (ap judge.key (get_or-map (λ (w : Worker J). w.judge) old k w d h));
+      later = λ k d below.
+          let then = ap (λ (t : Tally). t.faults) (tally_of_judge judge (judges_in old) k d below) in
+          let h : k < length (judges_in new) = omega (arith, length-map old (λ (w : Worker J). w.judge), length-map new (λ (w : Worker J). w.judge)) in
+          let later = ap (λ (t : Tally). t.faults) (tally_of_judge judge (judges_in new) k d h) in
+          omega (arith, then, later, (works_at k (omega (arith, length-map (judges_in old) (tally_of judge)))).later);
+      silent = λ quiet. same_judges old new count (λ k d below. (worked k d below).silent quiet);
+    }
 
 -- Nothing was done.
 pub nothing_judged : {J K : Type 0} (judge : JudgeGhosts J K) (e : Epoch) (judges : List J) → IsJudged judge e judges judges

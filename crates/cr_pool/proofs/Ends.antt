@@ -1,20 +1,15 @@
 -- From what the workers did to the end of the epoch.
-use Rattle.std.proofs.Common.{◌≡◌, ◌⊎◌, inl, inr, ℕ, ◌+◌, ◌-◌, ◌<◌, ◌≤◌, List, [], ◌∷◌, ◌++◌, Option, Some, None, length, slice_index_or, refl, sym, ap, subst, ◌∙◌, arith}
+use Rattle.std.proofs.Common.{◌≡◌, ◌⊎◌, inl, inr, ℕ, ◌+◌, ◌<◌, ◌≤◌, List, [], ◌∷◌, Option, Some, length, slice_index_or, refl, subst, arith}
 use Prim.Native.Nat.{zero, suc}
-use Rattle.cr_core.specs.declared.events.First.{First}
-use Rattle.cr_core.specs.declared.events.First.TheVariants as first
 use Rattle.cr_core.specs.declared.marks.HitKind.{HitKind}
-use Rattle.cr_core.specs.declared.marks.HitKind.TheVariants.{Yes, Failed, Starved}
+use Rattle.cr_core.specs.declared.marks.HitKind.TheVariants.{Yes, Failed}
 use Rattle.cr_core.specs.declared.marks.Mark.TheVariants.{No, Hit}
 use Rattle.cr_core.specs.Row.{Row, marked, placed, under}
 use Rattle.cr_core.specs.Sound.{Sum, total}
-use Rattle.cr_core.specs.State.{AllRejected, IsFirst}
-use Rattle.cr_outside.specs.declared.judge.Answer.{Answer}
-use Rattle.cr_outside.specs.declared.judge.Answer.TheVariants.{Yes as AnswerYes, No as AnswerNo}
-use Rattle.cr_pool.specs.Epoch.{Epoch, Answered, AnsweredBy, AsksAt, AsksOnce, IsFault, IsFound, IsRejectedAt, RejectedBelow, times, variant_of}
-use Rattle.cr_pool.specs.Epoch.Answered.{given, was_kept}
-use Rattle.cr_pool.specs.Tally.{Tally, no_tally, tally_at}
-use Rattle.cr_pool.specs.Trials.{IsRejected}
+use Rattle.cr_core.specs.State.{AllRejected}
+use Rattle.cr_pool.specs.Epoch.{Epoch, AsksAt, AsksOnce, IsFault, IsFound, IsRejectedAt, RejectedBelow, times}
+use Rattle.cr_pool.specs.Epoch.Answered.{given}
+use Rattle.cr_pool.specs.Tally.{Tally, tally_at}
 use Rattle.cr_pool.specs.Trials.IsRejected.{not_smaller, unlawful, answered_no}
 use Rattle.cr_pool.proofs.Works.{one_of}
 use Rattle.cr_pool.specs.Works.{HitIsSo, HitSays, RejectsAt, Works}
@@ -73,7 +68,6 @@ module _ (e : Epoch) (before now : List Tally) (rows : List Row) (hits : ℕ →
     (works : (k : ℕ) → k < length before → Works e (tally_at before k) (tally_at now k) (hits k) (row_at rows k))
     (says : (k : ℕ) → k < length before → HitIsSo e (tally_at before k) (tally_at now k) (buffers k) (hits k))
     (sum : Sum) (sums : (f : Row → ℕ) → sum f ≡ f [] + total f rows) where
-
   rejected_by : (k : ℕ) → k < length before → (i : ℕ) → RejectsAt e (tally_at before k) (tally_at now k) i → IsRejectedAt e before now i
   rejected_by k below i (not_smaller large) = not_smaller large
   rejected_by k below i (unlawful bad) = unlawful bad

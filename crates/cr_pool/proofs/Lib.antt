@@ -6,3 +6,4 @@ mod Works
 mod Sums
 mod Ends
 mod Crews
+mod More

@@ -1,15 +1,14 @@
 -- Lists of entries, as a worker's steps leave them.
-use Rattle.std.proofs.Common.{◌≡◌, ◌≢◌, ◌⊎◌, inl, inr, ℕ, ◌+◌, ◌-◌, ◌*◌, ◌/◌, ◌<◌, ◌≤◌, [], ◌∷◌, ◌++◌, refl, ap, arith, sym, ◌∙◌, subst}
+use Rattle.std.proofs.Common.{◌≡◌, ◌≢◌, inl, inr, ℕ, ◌-◌, ◌/◌, ◌<◌, ◌≤◌, [], ◌∷◌, ◌++◌, refl, ap, arith, sym, ◌∙◌, subst}
 use Rattle.cr_core.specs.declared.marks.HitKind.{HitKind}
 use Rattle.cr_core.specs.declared.marks.HitKind.TheVariants.{Yes, Failed, Starved}
 use Rattle.cr_core.specs.declared.marks.Mark.{Mark}
-use Rattle.cr_core.specs.declared.marks.Mark.TheVariants.{Open, No, Hit, Skipped}
+use Rattle.cr_core.specs.declared.marks.Mark.TheVariants.{Open, Hit}
 use Rattle.cr_core.specs.declared.marks.Entry.{Entry}
-use Rattle.cr_core.specs.declared.events.Settle.{Settle}
 use Rattle.cr_core.specs.declared.events.Settle.TheVariants as settle
-use Rattle.cr_core.specs.Row.{Row, word, kind_no, last_position, last_mark, with_last}
+use Rattle.cr_core.specs.Row.{Row, word, last_position, last_mark, with_last}
 use Rattle.cr_core.specs.Sound.{IsOver}
-use Rattle.cr_core.specs.Machine.{MayClaim, MayHit, MayLeave, settled}
+use Rattle.cr_core.specs.Machine.{MayClaim, MayHit, MayLeave}
 use Rattle.atomic_table.specs.declared.shared.Seat.{Seat}
 use Rattle.cr_claims.specs.declared.seats.Claims.{Claims}
 use Rattle.cr_claims.specs.declared.seats.Pass.{Pass}

@@ -1,5 +1,5 @@
 -- A file has one size.
-use Rattle.std.proofs.Common.{◌≡◌, ◌⊎◌, inl, inr, ℕ, ◌≤◌, List, ap, ◌∙◌, sym, arith}
+use Rattle.std.proofs.Common.{◌≡◌, ◌⊎◌, inl, inr, ℕ, List, ap, ◌∙◌, sym, arith}
 use Rattle.cr_tokens.specs.declared.token.TokenFault.{TokenFault}
 use Rattle.cr_tokens.specs.declared.token.TokenFault.TheVariants.{NoMemory}
 use Rattle.cr_tokens.specs.Faults.{FirstTokenFault}

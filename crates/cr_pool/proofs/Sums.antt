@@ -1,5 +1,5 @@
 -- Lists by their places, and sums over them.
-use Rattle.std.proofs.Common.{◌≡◌, ℕ, ◌+◌, ◌<◌, ◌≤◌, List, [], ◌∷◌, ◌++◌, length, map, set, slice_index_or, take, refl, sym, ap, ◌∙◌, arith}
+use Rattle.std.proofs.Common.{◌≡◌, ℕ, ◌+◌, ◌<◌, List, [], ◌∷◌, length, map, set, slice_index_or, take, refl, ap, arith}
 use Prim.Native.Nat.{zero, suc}
 use Rattle.std.proofs.lemmas.List.{map_more}
 use Rattle.cr_core.specs.Row.{Row}

@@ -65,7 +65,6 @@ no_answer NoMemory came = cc
 module _ (e : Epoch) (i : ℕ) (variant : List ℕ) (is : variant ≡ variant_of e i) (within : i < e.len)
     (size n : ℕ) (sized : HasSize e.file size) (good : IsGood e.Lawful variant size n) (unkept : IsKept e.kept variant → ⊥)
     (before now : Tally) (answer : Answer) (once : e.asks ≡ true → AsksOnce before.calls now.calls e.name variant answer) where
-
   about : (test : List ℕ) → IsAbout e i (call_of test e.name variant answer)
   about test = record {
     within = within;
@@ -112,11 +111,14 @@ module _ (e : Epoch) (i : ℕ) (variant : List ℕ) (is : variant ≡ variant_of
       → (answer ≡ Failed → Rose before.faults now.faults) → HitSays e before now variant i k
   says_by_hit Yes eq k came told unfailing rose =
       let same : kind.Yes ≡ k = cc in
-      subst (HitSays e before now variant i) same (is, record {
-        smaller = good_is_smaller e.Lawful e.file variant size n sized good;
-        lawful = good.lawful;
-        answered = subst (AnsweredBy e before now variant) eq (answered (λ none. cc) told);
-      })
+      subst (HitSays e before now variant i) same (
+        is,
+        record {
+          smaller = good_is_smaller e.Lawful e.file variant size n sized good;
+          lawful = good.lawful;
+          answered = subst (AnsweredBy e before now variant) eq (answered (λ none. cc) told);
+        },
+      )
   says_by_hit No eq k came told unfailing rose = cc
   says_by_hit Failed eq k came told unfailing rose =
       let same : kind.Failed ≡ k = cc in

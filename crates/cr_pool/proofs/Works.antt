@@ -1,18 +1,18 @@
 -- What a worker has done, one position further.
-use Rattle.std.proofs.Common.{◌≡◌, ◌≢◌, ◌⊎◌, inl, inr, ℕ, ◌+◌, ◌-◌, ◌<◌, ◌≤◌, List, [], ◌∷◌, ◌++◌, Option, Some, None, refl, sym, ap, subst, ◌∙◌, arith, append_assoc}
+use Rattle.std.proofs.Common.{◌≡◌, ◌≢◌, ◌⊎◌, inl, inr, ℕ, ◌+◌, ◌-◌, ◌<◌, ◌≤◌, List, [], ◌∷◌, ◌++◌, Option, Some, None, refl, ap, subst, ◌∙◌, arith, append_assoc}
 use Prim.Native.Nat.{zero, suc}
 use Rattle.cr_core.specs.declared.marks.HitKind.{HitKind}
 use Rattle.cr_core.specs.declared.marks.HitKind.TheVariants.{Yes, Failed, Starved}
 use Rattle.cr_core.specs.declared.marks.Mark.{Mark}
 use Rattle.cr_core.specs.declared.marks.Mark.TheVariants.{Open, No, Hit, Skipped}
 use Rattle.cr_core.specs.declared.marks.Entry.{Entry}
-use Rattle.cr_core.specs.Row.{Row, apart, kind_no, mark_no, placed, marked, under}
+use Rattle.cr_core.specs.Row.{Row, apart, kind_no, mark_no, marked, under}
 use Rattle.cr_core.proofs.Rows.{placed-append, marked-append, settled_no}
 use Rattle.cr_outside.specs.declared.judge.Answer.TheVariants.{Yes as AnswerYes, No as AnswerNo, Failed as AnswerFailed}
 use Rattle.cr_outside.specs.Judge.{Call}
-use Rattle.cr_pool.specs.Epoch.{Epoch, AnsweredBy, AreAbout, AsksAt, times, variant_of}
+use Rattle.cr_pool.specs.Epoch.{Epoch, AreAbout, AsksAt, times, variant_of}
 use Rattle.cr_pool.specs.Tally.{Tally}
-use Rattle.cr_pool.specs.Trials.{GoesOn, IsRejected}
+use Rattle.cr_pool.specs.Trials.{GoesOn}
 use Rattle.cr_pool.specs.Trials.IsRejected.{not_smaller, unlawful, answered_no}
 use Rattle.cr_pool.specs.Works.{Works, Tries, RejectsAt, HitSays}
 use Rattle.cr_pool.proofs.Runs.{answer_in_run-later, answer_in_run-earlier}
@@ -58,16 +58,23 @@ rejects_earlier e before middle now i on (answered_no it) = answered_no (answer_
 -- What a hit says is so from an earlier moment on.
 pub says_earlier : (e : Epoch) (before middle now : Tally) (buffer : List ℕ) (i : ℕ) (k : HitKind) → GoesOn before.calls middle.calls → before.faults ≤ middle.faults
     → HitSays e middle now buffer i k → HitSays e before now buffer i k
-says_earlier e before middle now buffer i Yes on later says = (says.0, record {
-  smaller = says.1.smaller;
-  lawful = says.1.lawful;
-  answered = answer_in_run-earlier e.asks e.Tells e.name before.calls middle.calls now.calls buffer AnswerYes on says.1.answered;
-})
-says_earlier e before middle now buffer i Failed on later says = (says.0, record {
-  smaller = says.1.smaller;
-  lawful = says.1.lawful;
-  answered = answer_in_run-earlier e.asks e.Tells e.name before.calls middle.calls now.calls (variant_of e i) AnswerFailed on says.1.answered;
-}, omega (arith, says.2))
+says_earlier e before middle now buffer i Yes on later says = (
+  says.0,
+  record {
+    smaller = says.1.smaller;
+    lawful = says.1.lawful;
+    answered = answer_in_run-earlier e.asks e.Tells e.name before.calls middle.calls now.calls buffer AnswerYes on says.1.answered;
+  },
+)
+says_earlier e before middle now buffer i Failed on later says = (
+  says.0,
+  record {
+    smaller = says.1.smaller;
+    lawful = says.1.lawful;
+    answered = answer_in_run-earlier e.asks e.Tells e.name before.calls middle.calls now.calls (variant_of e i) AnswerFailed on says.1.answered;
+  },
+  omega (arith, says.2),
+)
 says_earlier e before middle now buffer i Starved on later says = tt
 
 pub one_of : (a b : ℕ) → 0 < a + b → (0 < a) ⊎ (0 < b)
@@ -129,7 +136,6 @@ works_skips e before now hit l at w = record {
 -- The next position is tried, and settled by what the trial came to.
 module _ (e : Epoch) (before middle now : Tally) (hit : Option (ℕ × HitKind)) (l : Row) (at : ℕ) (m : Mark) (within : at < e.len) (settled : m ≢ Open)
     (no : m ≡ No → RejectsAt e middle now at) (yes : (k : HitKind) → m ≡ Hit k → hit ≡ Some (at, k)) (w : Works e before middle None l) (t : Tries e middle now at) where
-
   rejects_more : (i : ℕ) → ((0 < marked i No l) ⊎ (0 < 1 - (apart i at + apart 1 (mark_no m)))) → RejectsAt e before now i
   rejects_more i (inl h) = rejects_later e before middle now i (asks_goes_on e t.positions middle.calls now.calls t.calls) (w.rejects i h)
   rejects_more i (inr h) =

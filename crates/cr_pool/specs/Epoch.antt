@@ -1,21 +1,18 @@
 -- An epoch: which positions are tried, how it ends, and what the judges are asked.
-use Rattle.std.specs.Prelude.{◌≡◌, ◌⊎◌, ℕ, ◌+◌, ◌-◌, ◌<◌, ◌≤◌, Bool, true, List, [], ◌∷◌, ◌++◌, length, Option, Some, None, slice_index_or}
+use Rattle.std.specs.Prelude.{◌≡◌, ℕ, ◌+◌, ◌-◌, ◌<◌, ◌≤◌, Bool, true, List, [], ◌∷◌, ◌++◌, length, Option, Some, None, slice_index_or}
 use Rattle.std.specs.List.{slice_get}
-use Rattle.cr_cursor.specs.declared.law.Law.{Ghosts as LawGhosts}
-use Rattle.cr_cursor.specs.declared.passes.Passes.{Ghosts as PassesGhosts}
 use Rattle.cr_cursor.specs.declared.passes.Cursor.{Cursor}
 use Rattle.cr_cursor.specs.Variants.{Offer, cursors}
 use Rattle.cr_core.specs.Row.{apart}
 use Rattle.cr_core.specs.Sound.{total}
 use Rattle.cr_outside.specs.declared.judge.Answer.{Answer}
 use Rattle.cr_outside.specs.declared.judge.Answer.TheVariants.{Yes as AnswerYes, No as AnswerNo}
-use Rattle.cr_outside.specs.declared.question.Question.{Ghosts as QuestionGhosts}
 use Rattle.cr_outside.specs.Faults.{Rose}
 use Rattle.cr_outside.specs.Judge.{Call}
-use Rattle.cr_outside.specs.Question.{Says, AnswersAsTold}
+use Rattle.cr_outside.specs.Question.{AnswersAsTold}
 use Rattle.cr_pool.specs.declared.job.EpochEnd.{EpochEnd}
 use Rattle.cr_pool.specs.declared.job.EpochEnd.TheVariants as ending
-use Rattle.cr_pool.specs.Kept.{Kept, Verdict, IsKept, Keeps}
+use Rattle.cr_pool.specs.Kept.{Kept, IsKept, Keeps}
 use Rattle.cr_pool.specs.Kept.Verdict.{Yes, No}
 use Rattle.cr_pool.specs.Sizes.{IsSmaller}
 use Rattle.cr_pool.specs.Tally.{Tally, tally_at}

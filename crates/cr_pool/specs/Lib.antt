@@ -7,4 +7,5 @@ pub mod Jobs
 pub mod Works
 pub mod Answers
 pub mod Crew
+pub mod Bench
 pub mod Endings

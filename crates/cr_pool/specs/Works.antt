@@ -1,10 +1,9 @@
 -- What one worker does in an epoch: its own list of entries is its trials.
-use Rattle.std.specs.Prelude.{◌≡◌, ◌≢◌, ℕ, ◌+◌, ◌-◌, ◌<◌, ◌≤◌, true, List, [], ◌∷◌, Option, Some, None}
+use Rattle.std.specs.Prelude.{◌≡◌, ℕ, ◌+◌, ◌-◌, ◌<◌, ◌≤◌, true, List, [], ◌∷◌, Option, Some, None}
 use Rattle.cr_claims.specs.declared.seats.Pass.{Pass}
 use Rattle.cr_claims.specs.Pass.{view_of}
 use Rattle.cr_core.specs.declared.marks.HitKind.{HitKind}
 use Rattle.cr_core.specs.declared.marks.HitKind.TheVariants.{Yes, Failed, Starved}
-use Rattle.cr_core.specs.declared.marks.Mark.{Mark}
 use Rattle.cr_core.specs.declared.marks.Mark.TheVariants.{Open, No, Hit}
 use Rattle.cr_core.specs.Row.{Row, apart, placed, marked, under, last_position}
 use Rattle.cr_outside.specs.Faults.{Rose}

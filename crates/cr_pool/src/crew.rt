@@ -127,13 +127,13 @@ fn work<P: Passes, L: Law, Q: Question, J: Judge>(
 }
 
 /// Lets all workers do their part, each in a thread of its own where one can be made.
-pub fn run<
-    R: Threads + Sync,
-    P: Passes + Sync,
-    L: Law + Sync,
-    Q: Question + Sync,
-    J: Judge + Send,
->(rt: &R, alloc: Global, claims: &Claims, job: &Job<P, L, Q>, workers: &mut [Worker<J>])
+pub fn run<R: Threads + Sync, P: Passes + Sync, L: Law + Sync, Q: Question + Sync, J: Judge + Send>(
+    rt: &R,
+    alloc: Global,
+    claims: &Claims,
+    job: &Job<P, L, Q>,
+    workers: &mut [Worker<J>],
+)
 where
     P::Prep: Sync,
     requires placed { IsPlaced P.Passes job.now }
@@ -144,7 +144,10 @@ where
     ensures { (k : ℕ) (d : Worker J) → k < length workers.old → IsWorked P.Passes L.Law Q.Question J.Judge job.now claims.now (slice_index_or workers.old k d) (slice_index_or workers.new k d) }
 {
     let threads = workers.len();
-    thread::for_each_mut(rt, workers, threads, &|_, worker| {
-        work(alloc, claims, job, worker)
-    });
+    thread::for_each_mut(
+        rt,
+        workers,
+        threads,
+        &|_, worker| { work(alloc, claims, job, worker) },
+    );
 }

@@ -1,5 +1,5 @@
 // One epoch on the bench's workers.
-ghost use Rattle.std.specs.Prelude.{◌≡◌, ◌<◌, ◌≤◌, [], length};
+ghost use Rattle.std.specs.Prelude.{◌≡◌, ◌<◌, ◌≤◌, [], drop, length};
 ghost use Rattle.cr_pool.specs.Crew.{judges_in};
 ghost use Rattle.cr_pool.specs.Epoch.{EndsBy};
 ghost use Rattle.cr_pool.specs.Jobs.{IsJudged, IsPlaced, epoch_of};
@@ -46,4 +46,28 @@ where
     gather(&claims, &mut keeper, workers);
     let first = claims.close(keeper);
     end_of(alloc, job.start, job.len, first, workers)
+}
+
+/// Tries the positions of a job by as many of these workers as it names.
+pub fn try_by_some<
+    R: Threads + Sync,
+    P: Passes + Sync,
+    L: Law + Sync,
+    Q: Question + Sync,
+    J: Judge + Send,
+>(rt: &R, alloc: Global, job: &Job<P, L, Q>, workers: &mut [Worker<J>]) -> EpochEnd
+where
+    P::Prep: Sync,
+    requires placed { IsPlaced P.Passes job.now }
+    requires sized { HasSize job.now.file.now job.now.size }
+    requires workers { (0 < job.now.workers) × (job.now.workers ≤ length workers.old) }
+    requires few { length workers.old ≤ 32 }
+    requires short { job.now.len ≤ 4096 }
+    requires one_key { HaveOneKey J.key (judges_in workers.old) }
+    ensures end { EndsBy (epoch_of P.Passes L.Law Q.Question job.now (first_says J.key J.says (judges_in workers.old)) []) (tallies_of J.Judge (judges_in workers.old)) (tallies_of J.Judge (judges_in workers.new)) result }
+    ensures judges { IsJudged J.Judge (epoch_of P.Passes L.Law Q.Question job.now (first_says J.key J.says (judges_in workers.old)) []) (judges_in workers.old) (judges_in workers.new) }
+    ensures others { drop job.now.workers (judges_in workers.new) ≡ drop job.now.workers (judges_in workers.old) }
+{
+    let (crew, _) = workers.split_at_mut(job.workers as usize);
+    try_all(rt, alloc, job, crew)
 }

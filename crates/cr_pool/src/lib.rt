@@ -2,6 +2,7 @@
 //! worker that tries them in order would end it.
 #![tactic(auto)]
 
+mod bench;
 mod crew;
 mod ending;
 mod epoch;
@@ -11,5 +12,6 @@ mod measure;
 mod trial;
 mod worker;
 
+pub use bench::Bench;
 pub use job::{EpochEnd, Job};
 pub use looker::Looker;

@@ -54,13 +54,7 @@ fn make<P: Passes, L: Law, Q: Question>(
 }
 
 /// Rules on a file, and gives up once a lower position than the claimed one is a hit.
-fn rule_on<L: Law>(
-    alloc: Global,
-    claims: &Claims,
-    law: &L,
-    file: &[u8],
-    pass: &mut Pass,
-) -> Ruling
+fn rule_on<L: Law>(alloc: Global, claims: &Claims, law: &L, file: &[u8], pass: &mut Pass) -> Ruling
     requires of { IsOf claims.now pass.old }
     requires is_open { last_mark (view_of pass.old).own ≡ Open }
     ensures stays { IsOf claims.now pass.new }

@@ -1,8 +1,7 @@
-use Rattle.std.proofs.Common.{◌≡◌, ◌≢◌, ◌∙◌, ℕ, List, [], ◌∷◌, length, slice_index_or, ap, subst, sym, arith, rules}
+use Rattle.std.proofs.Common.{◌≡◌, ◌≢◌, ◌∙◌, ℕ, List, [], ◌∷◌, length, slice_index_or, ap, subst, sym, arith}
 use Rattle.cr_claims.specs.Pass.{view_of}
 use Rattle.cr_core.specs.Row.{Row}
 use Rattle.cr_core.specs.Sound.{total}
-use Rattle.cr_pool.specs.declared.crew.Worker.{Worker}
 use Rattle.cr_pool.specs.Crew.{IsSameButPass, row_of}
 use Rattle.cr_pool.proofs.Sums.{index_any, set_above, set_each, total-take}
 use Rattle.cr_pool.proofs.crew.gather.Goals as goal

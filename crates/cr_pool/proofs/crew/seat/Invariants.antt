@@ -1,7 +1,6 @@
 use Rattle.std.proofs.Common.{◌≡◌, ◌<◌, ℕ, [], IsSomeAnd, slice_index_or, true}
 use Rattle.cr_claims.specs.Pass.{IsOf, view_of}
-use Rattle.cr_pool.specs.declared.crew.Worker.{Worker}
-use Rattle.cr_pool.specs.Crew.{HaveSameJudges, IsFresh, Keeps}
+use Rattle.cr_pool.specs.Crew.{HaveSameJudges, IsFresh}
 use Rattle.cr_pool.proofs.crew.seat.Given as goal
 
 abbrev pub invariant-loop-worker : goal.invariant-loop-worker

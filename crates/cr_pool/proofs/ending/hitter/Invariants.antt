@@ -1,4 +1,4 @@
-use Rattle.std.proofs.Common.{◌≡◌, ◌≢◌, ◌<◌, ℕ, Some, slice_index_or}
+use Rattle.std.proofs.Common.{◌≢◌, ◌<◌, ℕ, Some, slice_index_or}
 use Rattle.cr_pool.proofs.ending.hitter.Given as goal
 
 abbrev pub invariant-loop-i : goal.invariant-loop-i

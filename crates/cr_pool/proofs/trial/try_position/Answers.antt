@@ -1,4 +1,4 @@
-use Rattle.std.proofs.Common.{◌≡◌, ◌+◌, true, List, ℕ, ◌∙◌, refl, sym, subst, rules}
+use Rattle.std.proofs.Common.{◌≡◌, ◌∙◌, refl, sym, subst, rules}
 use Rattle.cr_outside.specs.Question.{AnswersAsTold, AsksOnce}
 use Rattle.cr_pool.specs.Epoch.{Epoch, AnsweredBy, variant_of}
 use Rattle.cr_pool.specs.Jobs.{trying}

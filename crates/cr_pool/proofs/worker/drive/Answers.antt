@@ -1,7 +1,6 @@
-use Rattle.std.proofs.Common.{◌≡◌, ◌≢◌, ◌++◌, [], ◌∷◌, ℕ, Option, Some, None, refl, sym, ap, subst, ◌∙◌, inl, inr, arith, rules}
-use Rattle.cr_core.specs.declared.events.Settle.TheVariants as settle
+use Rattle.std.proofs.Common.{◌++◌, [], ◌∷◌, ℕ, Option, Some, None, refl, sym, ap, subst, ◌∙◌, inl, inr, arith}
 use Rattle.cr_core.specs.declared.marks.HitKind.{HitKind}
-use Rattle.cr_core.specs.declared.marks.Mark.TheVariants.{Open, No, Hit, Skipped}
+use Rattle.cr_core.specs.declared.marks.Mark.TheVariants.{No, Hit, Skipped}
 use Rattle.cr_core.specs.Row.{Row, last_mark}
 use Rattle.cr_claims.specs.declared.view.View.{View}
 use Rattle.cr_core.specs.Machine.{settled}
