@@ -1,0 +1,9 @@
+mod Sizes
+mod Runs
+mod Tries
+mod Lists
+mod Works
+mod Sums
+mod Ends
+mod Crews
+mod More

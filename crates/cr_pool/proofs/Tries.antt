@@ -1,0 +1,131 @@
+-- The trial of one position, by what the question answered.
+use Rattle.std.proofs.Common.{◌≡◌, ◌≢◌, ◌⊎◌, inl, inr, ℕ, ◌+◌, ◌-◌, ◌<◌, ◌≤◌, Bool, true, false, List, [], ◌∷◌, Option, Some, None, refl, sym, ap, subst, arith}
+use Rattle.std.proofs.lemmas.List.{append-nil}
+use Rattle.cr_core.specs.declared.marks.HitKind.{HitKind}
+use Rattle.cr_core.specs.declared.marks.HitKind.TheVariants as kind
+use Rattle.cr_core.specs.Row.{apart}
+use Rattle.cr_outside.specs.declared.judge.Answer.{Answer}
+use Rattle.cr_outside.specs.declared.judge.Answer.TheVariants.{Yes, No, Failed, NoMemory}
+use Rattle.cr_outside.specs.Faults.{Rose}
+use Rattle.cr_outside.specs.Judge.{Call, call_of, with_call}
+use Rattle.cr_outside.specs.Question.{AnswersAsTold, AsksOnce, CountsOnce}
+use Rattle.cr_pool.specs.declared.trial.Trial.TheVariants.{Rejected, Hit}
+use Rattle.cr_pool.specs.Answers.{trial_of}
+use Rattle.cr_pool.specs.Epoch.{Epoch, AnsweredBy, AsksAt, IsAbout, times, variant_of}
+use Rattle.cr_pool.specs.Kept.{IsKept}
+use Rattle.cr_pool.specs.Sizes.{HasSize}
+use Rattle.cr_pool.specs.Tally.{Tally}
+use Rattle.cr_pool.specs.Trials.{IsFailed, IsGood, IsRejected}
+use Rattle.cr_pool.specs.Trials.IsRejected.{answered_no}
+use Rattle.cr_pool.specs.Works.{Tries, RejectsAt, HitSays}
+use Rattle.cr_pool.proofs.Runs.{answered_once, is_so}
+use Rattle.cr_pool.proofs.Sizes.{good_is_smaller}
+
+pub asks_none : (e : Epoch) (calls : Option (List Call)) → AsksAt e [] calls calls
+asks_none e None = refl
+asks_none e (Some list) = ([], ap Some (sym (append-nil list)), tt)
+
+asks_one : (e : Epoch) (i : ℕ) (call : Call) (calls : Option (List Call)) → IsAbout e i call → AsksAt e (i ∷ []) calls (with_call call calls)
+asks_one e i call None about = refl
+asks_one e i call (Some list) about = (call ∷ [], refl, (about, tt))
+
+one_call : (old new : Option (List Call)) (name file : List ℕ) (answer : Answer) → AsksOnce old new name file answer
+    → (new ≡ old) ⊎ ((test : List ℕ) × (new ≡ with_call (call_of test name file answer) old))
+one_call old new name file Yes once = inr once
+one_call old new name file No once = inr once
+one_call old new name file Failed once = inr once
+one_call old new name file NoMemory (inl same) = inl same
+one_call old new name file NoMemory (inr (test, inl same)) = inl same
+one_call old new name file NoMemory (inr (test, inr gained)) = inr (test, gained)
+
+one_count : (old new : ℕ) (answer : Answer) → CountsOnce old new answer → new ≤ old + 1
+one_count old new Yes once = omega (arith, once)
+one_count old new No once = omega (arith, once)
+one_count old new Failed once = omega (arith, once)
+one_count old new NoMemory (inl same) = omega (arith, same)
+one_count old new NoMemory (inr more) = omega (arith, more)
+
+-- No call was made.
+pub tries_quietly : (e : Epoch) (i : ℕ) (before now : Tally) → now ≡ before → Tries e before now i
+tries_quietly e i before now same =
+    subst (λ t. Tries e before t i) (sym same) (record {
+      positions = [];
+      calls = asks_none e before.calls;
+      once = λ j. omega arith;
+      few = omega arith;
+      later = omega arith;
+    })
+
+no_answer : (answer : Answer) → trial_of answer ≡ Rejected → answer ≡ No
+no_answer Yes came = cc
+no_answer No came = refl
+no_answer Failed came = cc
+no_answer NoMemory came = cc
+
+module _ (e : Epoch) (i : ℕ) (variant : List ℕ) (is : variant ≡ variant_of e i) (within : i < e.len)
+    (size n : ℕ) (sized : HasSize e.file size) (good : IsGood e.Lawful variant size n) (unkept : IsKept e.kept variant → ⊥)
+    (before now : Tally) (answer : Answer) (once : e.asks ≡ true → AsksOnce before.calls now.calls e.name variant answer) where
+  about : (test : List ℕ) → IsAbout e i (call_of test e.name variant answer)
+  about test = record {
+    within = within;
+    name = refl;
+    file = is;
+    smaller = good_is_smaller e.Lawful e.file variant size n sized good;
+    lawful = good.lawful;
+    not_kept = unkept;
+  }
+
+  calls_at : ((now.calls ≡ before.calls) ⊎ ((test : List ℕ) × (now.calls ≡ with_call (call_of test e.name variant answer) before.calls)))
+      → (positions : List ℕ) × AsksAt e positions before.calls now.calls × ((j : ℕ) → times j positions ≤ 1 - apart j i)
+  calls_at (inl same) = ([], subst (AsksAt e [] before.calls) (sym same) (asks_none e before.calls), λ j. omega arith)
+  calls_at (inr (test, gained)) =
+      (i ∷ [], subst (AsksAt e (i ∷ []) before.calls) (sym gained) (asks_one e i (call_of test e.name variant answer) before.calls (about test)), λ j. omega arith)
+
+  -- At most one call was made, about this variant.
+  pub tries_asking : (b : Bool) → e.asks ≡ b → (e.asks ≡ true → CountsOnce before.asked now.asked answer) → (e.asks ≡ false → now ≡ before)
+      → before.faults ≤ now.faults → Tries e before now i
+  tries_asking false uses counted silent later = tries_quietly e i before now (silent uses)
+  tries_asking true uses counted silent later =
+      let it = calls_at (one_call before.calls now.calls e.name variant answer (once uses)) in
+      record {
+        positions = it.0;
+        calls = it.1;
+        once = it.2;
+        few = one_count before.asked now.asked answer (counted uses);
+        later = later;
+      }
+
+  -- It was answered so.
+  answered : answer ≢ NoMemory → AnswersAsTold e.asks (e.Tells variant) answer → AnsweredBy e before now variant answer
+  answered given told = answered_once e.asks e.Tells e.name before.calls now.calls variant answer given once told
+
+  -- It was answered no.
+  pub rejects_by_no : trial_of answer ≡ Rejected → AnswersAsTold e.asks (e.Tells variant) answer → RejectsAt e before now i
+  rejects_by_no came told =
+      let no = no_answer answer came in
+      let by_no = subst (AnsweredBy e before now variant) no (answered (λ none. cc) told) in
+      subst (λ v. IsRejected e.Lawful (AnsweredBy e before now) e.file v) is (answered_no by_no)
+
+  -- It wasn't answered no.
+  pub says_by_hit : (a : Answer) → answer ≡ a → (k : HitKind) → trial_of a ≡ Hit k → AnswersAsTold e.asks (e.Tells variant) answer → (e.asks ≡ false → answer ≢ Failed)
+      → (answer ≡ Failed → Rose before.faults now.faults) → HitSays e before now variant i k
+  says_by_hit Yes eq k came told unfailing rose =
+      let same : kind.Yes ≡ k = cc in
+      subst (HitSays e before now variant i) same (
+        is,
+        record {
+          smaller = good_is_smaller e.Lawful e.file variant size n sized good;
+          lawful = good.lawful;
+          answered = subst (AnsweredBy e before now variant) eq (answered (λ none. cc) told);
+        },
+      )
+  says_by_hit No eq k came told unfailing rose = cc
+  says_by_hit Failed eq k came told unfailing rose =
+      let same : kind.Failed ≡ k = cc in
+      let it : IsFailed e.Lawful (AnsweredBy e before now) e.file variant = record {
+        smaller = good_is_smaller e.Lawful e.file variant size n sized good;
+        lawful = good.lawful;
+        answered = subst (AnsweredBy e before now variant) eq (answered (λ none. cc) told);
+      } in
+      subst (HitSays e before now variant i) same (is_so e.asks (λ quiet. unfailing quiet eq), subst (IsFailed e.Lawful (AnsweredBy e before now) e.file) is it, rose eq)
+  says_by_hit NoMemory eq k came told unfailing rose = let same : kind.Starved ≡ k = cc in subst (HitSays e before now variant i) same tt

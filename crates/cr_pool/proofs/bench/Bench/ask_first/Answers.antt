@@ -1,0 +1,27 @@
+use Rattle.std.proofs.Common.{◌<◌, ◌∙◌, ap, length, set, subst, sym, arith}
+use Rattle.std.proofs.lemmas.List.{length-map}
+use Rattle.cr_outside.specs.Question.{AsksOnce}
+use Rattle.cr_pool.specs.declared.crew.Worker.{Worker}
+use Rattle.cr_pool.specs.Bench.{Benched}
+use Rattle.cr_pool.specs.Crew.{judges_in}
+use Rattle.cr_pool.specs.Tally.{tallies_of, tally_at, tally_of}
+use Rattle.cr_pool.proofs.More.{first_after, first_before, manned_still}
+use Rattle.cr_pool.proofs.bench.Bench.ask_first.Goals as goal
+
+pub invariant_of-self : goal.invariant_of-self
+invariant_of-self g c =
+    let first = c.index_mut-worker.result.now in
+    manned_still g.J.Judge c.self.inside.workers.items (record first { judge = c.ask.new.judge }) first
+    (c.ask.ensures.key ∙ ap (λ (w : Worker g.row.J.Denot). g.J.Judge.key w.judge) c.index_mut-worker.ensures.value) c.self.invariant
+
+pub returns-clause-once : goal.returns-clause-once
+returns-clause-once g c = λ uses.
+    let first = c.index_mut-worker.result.now in
+    let workers = c.self.inside.workers.items in
+    let some : 0 < length workers = omega (arith, c.self.invariant.0, length-map workers (λ (w : Worker g.row.J.Denot). w.judge)) in
+    let before = ap (λ (b : Benched g.row.J.Denot). tally_at (tallies_of g.J.Judge b.judges) 0) (sym c.self.view_is) ∙ first_before g.J.Judge workers first some
+    ∙ ap (λ (w : Worker g.row.J.Denot). tally_of g.J.Judge w.judge) (sym c.index_mut-worker.ensures.value) in
+    let after = first_after g.J.Judge workers (record first { judge = c.ask.new.judge }) some in
+    let changed = judges_in (set workers 0 (record first { judge = c.ask.new.judge })) in
+    subst (λ t. AsksOnce t.calls (tally_at (tallies_of g.J.Judge changed) 0).calls c.args.name.now c.args.file.now c.ask.result) (sym before)
+    (subst (λ t. AsksOnce (g.J.Judge.calls first.judge) t.calls c.args.name.now c.args.file.now c.ask.result) (sym after) (c.ask.ensures.once uses))

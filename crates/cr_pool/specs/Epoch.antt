@@ -1,0 +1,132 @@
+-- An epoch: which positions are tried, how it ends, and what the judges are asked.
+use Rattle.std.specs.Prelude.{◌≡◌, ℕ, ◌+◌, ◌-◌, ◌<◌, ◌≤◌, Bool, true, List, [], ◌∷◌, ◌++◌, length, Option, Some, None, slice_index_or}
+use Rattle.std.specs.List.{slice_get}
+use Rattle.cr_cursor.specs.declared.passes.Cursor.{Cursor}
+use Rattle.cr_cursor.specs.Variants.{Offer, cursors}
+use Rattle.cr_core.specs.Row.{apart}
+use Rattle.cr_core.specs.Sound.{total}
+use Rattle.cr_outside.specs.declared.judge.Answer.{Answer}
+use Rattle.cr_outside.specs.declared.judge.Answer.TheVariants.{Yes as AnswerYes, No as AnswerNo}
+use Rattle.cr_outside.specs.Faults.{Rose}
+use Rattle.cr_outside.specs.Judge.{Call}
+use Rattle.cr_outside.specs.Question.{AnswersAsTold}
+use Rattle.cr_pool.specs.declared.job.EpochEnd.{EpochEnd}
+use Rattle.cr_pool.specs.declared.job.EpochEnd.TheVariants as ending
+use Rattle.cr_pool.specs.Kept.{Kept, IsKept, Keeps}
+use Rattle.cr_pool.specs.Kept.Verdict.{Yes, No}
+use Rattle.cr_pool.specs.Sizes.{IsSmaller}
+use Rattle.cr_pool.specs.Tally.{Tally, tally_at}
+use Rattle.cr_pool.specs.Trials.{AnswerInRun, IsAccepted, IsFailed, IsRejected}
+
+-- What is tried in an epoch, and by what. Positions of an epoch are counted from 0; `start` is the first one's among the file's.
+pub record Epoch : Type 1 where
+  pub offer : Offer
+  pub file : List ℕ
+  pub start : ℕ
+  pub len : ℕ
+  pub Lawful : List ℕ → Type 0
+  -- whether the question uses a judge
+  pub asks : Bool
+  -- the told answer about a file
+  pub Tells : List ℕ → Bool → Type 0
+  -- the name under which a test sees a variant
+  pub name : List ℕ
+  -- the verdicts that were kept before it
+  pub kept : List Kept
+
+-- the variant at a cursor, if there is one
+abbrev pub bytes_at : Offer → Option Cursor → List ℕ
+bytes_at offer None = []
+bytes_at offer (Some at) = offer.bytes at
+
+-- the variant at a position of a file
+abbrev pub variant_at : Offer → ℕ → List ℕ
+variant_at offer position = bytes_at offer (slice_get (cursors offer.widths) position)
+
+-- the variant at a position of an epoch
+abbrev pub variant_of : Epoch → ℕ → List ℕ
+variant_of e i = variant_at e.offer (e.start + i)
+
+-- one judge answered so about a variant in an epoch, of which these are its tallies before and now
+abbrev pub AnsweredBy : Epoch → Tally → Tally → List ℕ → Answer → Type 0
+AnsweredBy e before now variant answer = AnswerInRun e.asks e.Tells e.name before.calls now.calls variant answer
+
+-- a kept verdict gives this answer about a variant
+abbrev pub KeptAnswer : Epoch → List ℕ → Answer → Type 0
+KeptAnswer e variant AnswerYes = Keeps e.kept variant Yes
+KeptAnswer e variant AnswerNo = Keeps e.kept variant No
+KeptAnswer e variant _ = ⊥
+
+-- The answer about a variant in an epoch: one of the judges gave it in a call of the epoch, or it was kept before.
+pub data Answered (e : Epoch) (before now : List Tally) (variant : List ℕ) (answer : Answer) : Type 0 where
+  given : (worker : ℕ) → worker < length before → AnsweredBy e (tally_at before worker) (tally_at now worker) variant answer → Answered e before now variant answer
+  was_kept : KeptAnswer e variant answer → AnswersAsTold e.asks (e.Tells variant) answer → Answered e before now variant answer
+
+abbrev pub IsRejectedAt : Epoch → List Tally → List Tally → ℕ → Type 0
+IsRejectedAt e before now i = IsRejected e.Lawful (Answered e before now) e.file (variant_of e i)
+
+-- Every position of the epoch below n was rejected.
+abbrev pub RejectedBelow : Epoch → List Tally → List Tally → ℕ → Type 0
+RejectedBelow e before now n = (i : ℕ) → i < n → IsRejectedAt e before now i
+
+-- The position i is the first that wasn't rejected: its variant has these bytes and was answered yes.
+pub record IsFound (e : Epoch) (before now : List Tally) (i : ℕ) (bytes : List ℕ) : Type 0 where
+  pub within : i < e.len
+  pub before_it : RejectedBelow e before now i
+  pub is : bytes ≡ variant_of e i
+  pub accepted : IsAccepted e.Lawful (Answered e before now) e.file bytes
+
+-- The position i is the first that wasn't rejected, and this worker's judge failed on it in a call of the epoch, its count risen.
+pub record IsFault (e : Epoch) (before now : List Tally) (i worker : ℕ) : Type 0 where
+  pub within : i < e.len
+  pub before_it : RejectedBelow e before now i
+  pub is_there : worker < length before
+  pub asks : e.asks ≡ true
+  pub failed : IsFailed e.Lawful (AnsweredBy e (tally_at before worker) (tally_at now worker)) e.file (variant_of e i)
+  pub rose : Rose (tally_at before worker).faults (tally_at now worker).faults
+
+-- How an epoch ends: by the first position in order that wasn't rejected. Want of memory is told of nothing.
+abbrev pub EndsBy : Epoch → List Tally → List Tally → EpochEnd → Type 0
+EndsBy e before now (ending.NoneOf n) = (n ≡ e.len) × RejectedBelow e before now e.len
+EndsBy e before now (ending.Found position bytes) = (i : ℕ) × (position ≡ e.start + i) × IsFound e before now i bytes.items
+EndsBy e before now (ending.Fault position worker) = (i : ℕ) × (position ≡ e.start + i) × IsFault e before now i worker
+EndsBy e before now ending.NoMemory = Unit {0}
+
+-- A call is about the variant at a position of the epoch, which is smaller, lawful and not kept.
+pub record IsAbout (e : Epoch) (i : ℕ) (call : Call) : Type 0 where
+  pub within : i < e.len
+  pub name : call.name ≡ e.name
+  pub file : call.file ≡ variant_of e i
+  pub smaller : IsSmaller call.file e.file
+  pub lawful : e.Lawful call.file
+  pub not_kept : IsKept e.kept call.file → ⊥
+
+-- each call is about one of these positions, in their order
+abbrev pub AreAbout : Epoch → List ℕ → List Call → Type 0
+AreAbout e [] [] = Unit {0}
+AreAbout e (i ∷ is) (call ∷ calls) = IsAbout e i call × AreAbout e is calls
+AreAbout e _ _ = ⊥
+
+-- of a judge that tells its calls: those since are about these positions
+abbrev pub AsksAt : Epoch → List ℕ → Option (List Call) → Option (List Call) → Type 0
+AsksAt e positions None now = now ≡ None
+AsksAt e positions (Some before) now = (more : List Call) × (now ≡ Some (before ++ more)) × AreAbout e positions more
+
+-- how often a number stands in a list
+abbrev pub times : ℕ → List ℕ → ℕ
+times n [] = 0
+times n (m ∷ ms) = (1 - apart n m) + times n ms
+
+-- What the judges are asked in an epoch. No position is asked about twice, be it by one judge or by two, and so the calls are no
+-- more than the positions.
+pub record AsksOnce (e : Epoch) (before now : List Tally) : Type 0 where
+  -- the positions that each judge was asked about
+  pub positions : List (List ℕ)
+  pub each : length positions ≡ length before
+  pub calls : (worker : ℕ) → worker < length before → AsksAt e (slice_index_or positions worker []) (tally_at before worker).calls (tally_at now worker).calls
+  pub once : (i : ℕ) → total (times i) positions ≤ 1
+  pub few : total (λ (t : Tally). t.asked) now ≤ total (λ (t : Tally). t.asked) before + e.len
+
+-- Each verdict Yes or No that is kept after an epoch was kept before it, or a judge gave it in the epoch.
+abbrev pub KeepsWhatWasMade : Epoch → List Tally → List Tally → List Kept → Type 0
+KeepsWhatWasMade e before now kept = (file : List ℕ) → (Keeps kept file Yes → Answered e before now file AnswerYes) × (Keeps kept file No → Answered e before now file AnswerNo)

@@ -1,0 +1,35 @@
+-- The verdicts that a bench keeps.
+use Rattle.std.specs.Prelude.{◌≡◌, ◌⊎◌, ℕ, Bool, List, [], ◌∷◌}
+use Rattle.cr_outside.specs.declared.judge.Answer.TheVariants.{Yes as AnswerYes, No as AnswerNo}
+use Rattle.cr_outside.specs.Question.{AnswersAsTold}
+
+pub data Verdict : Type 0 where
+  Unlawful : Verdict
+  Yes : Verdict
+  No : Verdict
+
+-- a file with the verdict on it
+pub record Kept : Type 0 where
+  pub file : List ℕ
+  pub verdict : Verdict
+
+-- the file has a kept verdict
+abbrev pub IsKept : List Kept → List ℕ → Type 0
+IsKept [] file = ⊥
+IsKept (k ∷ ks) file = (k.file ≡ file) ⊎ IsKept ks file
+
+-- this verdict on the file is kept
+abbrev pub Keeps : List Kept → List ℕ → Verdict → Type 0
+Keeps [] file verdict = ⊥
+Keeps (k ∷ ks) file verdict = ((k.file ≡ file) × (k.verdict ≡ verdict)) ⊎ Keeps ks file verdict
+
+-- A verdict is right by a law and a question: Unlawful is said of a file that isn't lawful; Yes and No of one that is, and where
+-- the answer is told, it is that one.
+abbrev pub IsRight : (List ℕ → Type 0) → Bool → (List ℕ → Bool → Type 0) → List ℕ → Verdict → Type 0
+IsRight Lawful asks Tells file Unlawful = Lawful file → ⊥
+IsRight Lawful asks Tells file Yes = Lawful file × AnswersAsTold asks (Tells file) AnswerYes
+IsRight Lawful asks Tells file No = Lawful file × AnswersAsTold asks (Tells file) AnswerNo
+
+-- each kept verdict is right
+abbrev pub AreRight : (List ℕ → Type 0) → Bool → (List ℕ → Bool → Type 0) → List Kept → Type 0
+AreRight Lawful asks Tells kept = (file : List ℕ) (verdict : Verdict) → Keeps kept file verdict → IsRight Lawful asks Tells file verdict

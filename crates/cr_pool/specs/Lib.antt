@@ -1,0 +1,11 @@
+pub mod Sizes
+pub mod Trials
+pub mod Kept
+pub mod Tally
+pub mod Epoch
+pub mod Jobs
+pub mod Works
+pub mod Answers
+pub mod Crew
+pub mod Bench
+pub mod Endings

@@ -1,0 +1,131 @@
+// The judges of a run.
+ghost use Rattle.std.specs.Prelude.{◌≡◌, ◌≢◌, ◌<◌, ◌≤◌, IfOk, [], drop, length, true, false};
+ghost use Rattle.cr_outside.specs.Faults.{Rose};
+ghost use Rattle.cr_outside.specs.Question.{AnswersAsTold, AsksOnce, CountsOnce};
+ghost use Rattle.cr_pool.specs.Bench.{IsManned, epoch_on};
+ghost use Rattle.cr_pool.specs.Epoch.{EndsBy, KeepsWhatWasMade};
+ghost use Rattle.cr_pool.specs.Jobs.{IsJudged, IsPlaced};
+ghost use Rattle.cr_pool.specs.Kept.{AreRight};
+ghost use Rattle.cr_pool.specs.Sizes.{HasSize};
+ghost use Rattle.cr_pool.specs.Tally.{first_says, tallies_of, tally_at};
+
+use crate::crew::Worker;
+use crate::epoch::try_by_some;
+use crate::job::{EpochEnd, Job};
+use cr_cursor::{Law, Passes};
+use cr_outside::{Answer, Judge, NoMemory, Question};
+use std::alloc::Global;
+use std::marker::Model;
+use std::thread::Threads;
+
+/// At least one judge, at most 32, all of one key. Clauses see the list of the judges and the verdicts that are kept.
+#[derive(Drop)]
+pub struct Bench<J: Judge> {
+    workers: Vec<Worker<J>>,
+}
+
+impl<J: Judge> Model for Bench<J> {
+    ghost use Rattle.std.specs.Prelude.{[]};
+    ghost use Rattle.cr_pool.specs.Bench.{Benched, IsManned};
+    ghost use Rattle.cr_pool.specs.Crew.{judges_in};
+
+    ghost Value = { Benched J };
+
+    // No verdict is kept so far.
+    ghost view = { λ b. record { judges = judges_in b.workers.items; kept = [] } };
+
+    ghost invariant = { λ b. IsManned J.key (judges_in b.workers.items) };
+}
+
+impl<J: Judge + Drop> Bench<J> {
+    /// A bench of these judges.
+    pub fn new(alloc: Global, judges: Vec<J>) -> Result<Bench<J>, NoMemory>
+        requires { IsManned J.key judges.items }
+        ensures judges { IfOk result (λ bench. bench.judges ≡ judges.items) }
+        ensures kept { IfOk result (λ bench. bench.kept ≡ []) }
+    {
+        let mut workers = Vec::with_capacity(alloc, judges.len())?;
+        for judge in judges {
+            workers.push(Worker {
+                judge,
+                pass: None,
+                hit: None,
+                variant: Vec::new(alloc),
+            })?;
+        }
+        Ok(Bench { workers })
+    }
+}
+
+impl<J: Judge> Bench<J> {
+    /// How many judges, and so how many workers, there are.
+    pub fn workers(&self) -> u32
+        ensures count { result ≡ length self.now.judges }
+        ensures some { 0 < result }
+        ensures few { result ≤ 32 }
+    {
+        self.workers.len() as u32
+    }
+
+    /// Forgets the kept verdicts.
+    pub fn forget(&mut self)
+        ensures judges { self.new.judges ≡ self.old.judges }
+        ensures kept { self.new.kept ≡ [] }
+    {
+        // None is kept so far.
+        let _ = &self.workers;
+    }
+}
+
+impl<J: Judge> Bench<J> {
+    /// Asks the first worker's judge about a file.
+    pub fn ask_first<Q: Question>(
+        &mut self,
+        alloc: Global,
+        question: &Q,
+        name: &str,
+        file: &[u8],
+    ) -> Answer
+        ensures told { AnswersAsTold (Q.asks question.now) (Q.tells question.now (first_says J.key J.says self.old.judges) name.now file.now) result }
+        ensures once { Q.asks question.now ≡ true → AsksOnce (tally_at (tallies_of J.Judge self.old.judges) 0).calls (tally_at (tallies_of J.Judge self.new.judges) 0).calls name.now file.now result }
+        ensures counted { Q.asks question.now ≡ true → CountsOnce (tally_at (tallies_of J.Judge self.old.judges) 0).asked (tally_at (tallies_of J.Judge self.new.judges) 0).asked result }
+        ensures silent { Q.asks question.now ≡ false → self.new ≡ self.old }
+        ensures unfailing { Q.asks question.now ≡ false → result ≢ Answer.Failed }
+        ensures key { first_says J.key J.says self.new.judges ≡ first_says J.key J.says self.old.judges }
+        ensures others { drop 1 self.new.judges ≡ drop 1 self.old.judges }
+        ensures kept { self.new.kept ≡ self.old.kept }
+        ensures count { length self.new.judges ≡ length self.old.judges }
+        ensures later { (tally_at (tallies_of J.Judge self.old.judges) 0).faults ≤ (tally_at (tallies_of J.Judge self.new.judges) 0).faults }
+        ensures failed { result ≡ Answer.Failed → Rose (tally_at (tallies_of J.Judge self.old.judges) 0).faults (tally_at (tallies_of J.Judge self.new.judges) 0).faults }
+    {
+        let worker = &mut self.workers[0];
+        question.ask(alloc, &mut worker.judge, name, file)
+    }
+}
+
+impl<J: Judge + Send> Bench<J> {
+    /// Tries the positions of a job by its workers, each in a thread of its own where one can be made, and ends as one worker that
+    /// tries them in order would. It wants memory where the words of the claims, the workers' buffers or the first trial that isn't
+    /// rejected find none.
+    pub fn epoch<R: Threads + Sync, P: Passes + Sync, L: Law + Sync, Q: Question + Sync>(
+        &mut self,
+        rt: &R,
+        alloc: Global,
+        job: &Job<P, L, Q>,
+    ) -> EpochEnd
+    where
+        P::Prep: Sync,
+        requires placed { IsPlaced P.Passes job.now }
+        requires sized { HasSize job.now.file.now job.now.size }
+        requires short { job.now.len ≤ 4096 }
+        requires workers { (0 < job.now.workers) × (job.now.workers ≤ length self.old.judges) }
+        requires kept { AreRight (L.lawful job.now.law.now) (Q.asks job.now.question.now) (Q.tells job.now.question.now (first_says J.key J.says self.old.judges) job.now.name.now) self.old.kept }
+        ensures end { EndsBy (epoch_on P.Passes L.Law Q.Question J.Judge job.now self.old) (tallies_of J.Judge self.old.judges) (tallies_of J.Judge self.new.judges) result }
+        ensures judges { IsJudged J.Judge (epoch_on P.Passes L.Law Q.Question J.Judge job.now self.old) self.old.judges self.new.judges }
+        ensures others { drop job.now.workers self.new.judges ≡ drop job.now.workers self.old.judges }
+        ensures kept { AreRight (L.lawful job.now.law.now) (Q.asks job.now.question.now) (Q.tells job.now.question.now (first_says J.key J.says self.old.judges) job.now.name.now) self.new.kept }
+        ensures made { KeepsWhatWasMade (epoch_on P.Passes L.Law Q.Question J.Judge job.now self.old) (tallies_of J.Judge self.old.judges) (tallies_of J.Judge self.new.judges) self.new.kept }
+    {
+        try_by_some(rt, alloc, job, &mut self.workers)
+    }
+}

@@ -1,0 +1,73 @@
+// One epoch on the bench's workers.
+ghost use Rattle.std.specs.Prelude.{◌≡◌, ◌<◌, ◌≤◌, [], drop, length};
+ghost use Rattle.cr_pool.specs.Crew.{judges_in};
+ghost use Rattle.cr_pool.specs.Epoch.{EndsBy};
+ghost use Rattle.cr_pool.specs.Jobs.{IsJudged, IsPlaced, epoch_of};
+ghost use Rattle.cr_pool.specs.Sizes.{HasSize};
+ghost use Rattle.cr_pool.specs.Tally.{HaveOneKey, first_says, tallies_of};
+
+use crate::crew::{Worker, gather, reserve, run, seat};
+use crate::ending::end_of;
+use crate::job::{EpochEnd, Job};
+use cr_claims::Claims;
+use cr_cursor::{Law, Passes};
+use cr_outside::{Judge, Question};
+use std::alloc::Global;
+use std::thread::Threads;
+
+/// Tries the positions of a job by all of these workers.
+pub fn try_all<
+    R: Threads + Sync,
+    P: Passes + Sync,
+    L: Law + Sync,
+    Q: Question + Sync,
+    J: Judge + Send,
+>(rt: &R, alloc: Global, job: &Job<P, L, Q>, workers: &mut [Worker<J>]) -> EpochEnd
+where
+    P::Prep: Sync,
+    requires placed { IsPlaced P.Passes job.now }
+    requires sized { HasSize job.now.file.now job.now.size }
+    requires some { 0 < length workers.old }
+    requires few { length workers.old ≤ 32 }
+    requires short { job.now.len ≤ 4096 }
+    requires one_key { HaveOneKey J.key (judges_in workers.old) }
+    ensures end { EndsBy (epoch_of P.Passes L.Law Q.Question job.now (first_says J.key J.says (judges_in workers.old)) []) (tallies_of J.Judge (judges_in workers.old)) (tallies_of J.Judge (judges_in workers.new)) result }
+    ensures judges { IsJudged J.Judge (epoch_of P.Passes L.Law Q.Question job.now (first_says J.key J.says (judges_in workers.old)) []) (judges_in workers.old) (judges_in workers.new) }
+{
+    if reserve(workers, job.file.len()).is_err() {
+        return EpochEnd::NoMemory;
+    }
+    let (claims, mut keeper) = match Claims::open(alloc, job.len) {
+        Ok(opened) => opened,
+        Err(_) => return EpochEnd::NoMemory,
+    };
+    seat(&claims, &mut keeper, workers);
+    run(rt, alloc, &claims, job, workers);
+    gather(&claims, &mut keeper, workers);
+    let first = claims.close(keeper);
+    end_of(alloc, job.start, job.len, first, workers)
+}
+
+/// Tries the positions of a job by as many of these workers as it names.
+pub fn try_by_some<
+    R: Threads + Sync,
+    P: Passes + Sync,
+    L: Law + Sync,
+    Q: Question + Sync,
+    J: Judge + Send,
+>(rt: &R, alloc: Global, job: &Job<P, L, Q>, workers: &mut [Worker<J>]) -> EpochEnd
+where
+    P::Prep: Sync,
+    requires placed { IsPlaced P.Passes job.now }
+    requires sized { HasSize job.now.file.now job.now.size }
+    requires workers { (0 < job.now.workers) × (job.now.workers ≤ length workers.old) }
+    requires few { length workers.old ≤ 32 }
+    requires short { job.now.len ≤ 4096 }
+    requires one_key { HaveOneKey J.key (judges_in workers.old) }
+    ensures end { EndsBy (epoch_of P.Passes L.Law Q.Question job.now (first_says J.key J.says (judges_in workers.old)) []) (tallies_of J.Judge (judges_in workers.old)) (tallies_of J.Judge (judges_in workers.new)) result }
+    ensures judges { IsJudged J.Judge (epoch_of P.Passes L.Law Q.Question job.now (first_says J.key J.says (judges_in workers.old)) []) (judges_in workers.old) (judges_in workers.new) }
+    ensures others { drop job.now.workers (judges_in workers.new) ≡ drop job.now.workers (judges_in workers.old) }
+{
+    let (crew, _) = workers.split_at_mut(job.workers as usize);
+    try_all(rt, alloc, job, crew)
+}

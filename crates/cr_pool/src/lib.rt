@@ -1,0 +1,23 @@
+//! One epoch of workers over the variants of one file.
+//!
+//! A bench has a judge for each worker. In an epoch each worker claims positions by `cr_claims`, in a thread of its own where one can
+//! be made: it makes the variant there, measures it, has the law rule on it where it is smaller, asks the question where it is lawful
+//! too, and leaves once a lower position is a hit. The crate promises that the epoch ends by the first position in order that wasn't
+//! rejected, whatever order the trials end in, and that no position is asked about twice. It stands on `cr_claims` and `cr_core`, on
+//! `cr_cursor`, whose traits it is generic over, and on `cr_outside` and `cr_tokens`.
+#![tactic(auto)]
+
+mod bench;
+mod crew;
+mod ending;
+mod epoch;
+mod job;
+mod looker;
+mod measuring;
+mod trial;
+mod worker;
+
+pub use bench::Bench;
+pub use job::{EpochEnd, Job};
+pub use looker::Looker;
+pub use measuring::measure;

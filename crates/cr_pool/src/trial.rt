@@ -1,0 +1,151 @@
+// The trial of one position.
+ghost use Rattle.std.specs.Prelude.{◌≡◌, ◌<◌, ◌≤◌, ◌/◌, ◌+◌, ℕ, OnOk, false};
+ghost use Rattle.cr_core.specs.Row.{last_position, last_mark};
+ghost use Rattle.cr_core.specs.declared.marks.Mark.TheVariants.{Open};
+ghost use Rattle.cr_core.specs.declared.marks.HitKind.{HitKind};
+ghost use Rattle.cr_claims.specs.Pass.{view_of, IsOf};
+ghost use Rattle.cr_cursor.specs.declared.law.Reason.{Reason};
+ghost use Rattle.cr_pool.specs.Answers.{trial_of};
+ghost use Rattle.cr_pool.specs.Epoch.{variant_at};
+ghost use Rattle.cr_pool.specs.Jobs.{IsPlaced, offer_of, trying};
+ghost use Rattle.cr_pool.specs.Sizes.{HasSize};
+ghost use Rattle.cr_pool.specs.Tally.{tally_of};
+ghost use Rattle.cr_pool.specs.Trials.{IsBad, IsGood};
+ghost use Rattle.cr_pool.specs.Works.{Tries, RejectsAt, HitSays, IsSameList};
+
+use crate::job::Job;
+use crate::looker::Looker;
+use crate::measuring::measure;
+use cr_claims::{Claims, Pass};
+use cr_core::HitKind;
+use cr_cursor::{Law, Passes, Ruling, cursor_at};
+use cr_outside::{Answer, Judge, NoMemory, Question};
+use std::alloc::Global;
+
+/// What the trial of a position came to.
+pub enum Trial {
+    Rejected,
+    /// A lower position is a hit, so it was given up.
+    Stopped,
+    Hit(HitKind),
+}
+
+/// What was found of a variant before anything is asked about it.
+enum Screened {
+    /// It is smaller and lawful.
+    Good,
+    Bad,
+    Stopped,
+    NoMemory,
+}
+
+/// Makes the variant at a position of the epoch.
+fn make<P: Passes, L: Law, Q: Question>(
+    job: &Job<P, L, Q>,
+    at: u64,
+    variant: &mut Vec<u8>,
+) -> Result<(), NoMemory>
+    requires within { at < job.now.len }
+    requires placed { IsPlaced P.Passes job.now }
+    ensures { OnOk result (variant.new.items ≡ variant_at (offer_of P.Passes job.now) (job.now.start + at)) }
+{
+    let cursor = cursor_at(job.passes, job.prep, job.start + at);
+    job.passes.variant(job.prep, job.file, cursor, variant)
+}
+
+/// Rules on a file, and gives up once a lower position than the claimed one is a hit.
+fn rule_on<L: Law>(alloc: Global, claims: &Claims, law: &L, file: &[u8], pass: &mut Pass) -> Ruling
+    requires of { IsOf claims.now pass.old }
+    requires is_open { last_mark (view_of pass.old).own ≡ Open }
+    ensures stays { IsOf claims.now pass.new }
+    ensures same { IsSameList pass.old pass.new }
+    ensures lawful { result ≡ Ruling.Lawful → L.lawful law.now file.now }
+    ensures unlawful { (reason : Reason) → result ≡ Ruling.Unlawful reason → L.lawful law.now file.now → ⊥ }
+    ensures stopped { result ≡ Ruling.Stopped → (view_of pass.new).read / 4 < last_position (view_of pass.new).own }
+{
+    let mut looker = Looker {
+        claims,
+        pass,
+        raised: false,
+    };
+    law.rule(alloc, file, &mut looker)
+}
+
+/// Measures a variant, and rules on it where it is below the limit.
+fn screen<L: Law>(
+    alloc: Global,
+    claims: &Claims,
+    law: &L,
+    variant: &[u8],
+    limit: u64,
+    pass: &mut Pass,
+) -> Screened
+    requires of { IsOf claims.now pass.old }
+    requires is_open { last_mark (view_of pass.old).own ≡ Open }
+    ensures stays { IsOf claims.now pass.new }
+    ensures same { IsSameList pass.old pass.new }
+    ensures good { result ≡ Screened.Good → (n : ℕ) × IsGood (L.lawful law.now) variant.now limit n }
+    ensures bad { result ≡ Screened.Bad → IsBad (L.lawful law.now) variant.now limit }
+    ensures stopped { result ≡ Screened.Stopped → (view_of pass.new).read / 4 < last_position (view_of pass.new).own }
+{
+    let size = match measure(alloc, variant) {
+        Ok(Some(size)) => size,
+        Ok(None) => return Screened::Bad,
+        Err(_) => return Screened::NoMemory,
+    };
+    if size >= limit {
+        return Screened::Bad;
+    }
+    match rule_on(alloc, claims, law, variant, pass) {
+        Ruling::Lawful => Screened::Good,
+        Ruling::Unlawful(_) => Screened::Bad,
+        Ruling::Stopped => Screened::Stopped,
+        Ruling::NoMemory => Screened::NoMemory,
+    }
+}
+
+fn came_of(answer: Answer) -> Trial
+    ensures { result ≡ trial_of answer }
+{
+    match answer {
+        Answer::Yes => Trial::Hit(HitKind::Yes),
+        Answer::No => Trial::Rejected,
+        Answer::Failed => Trial::Hit(HitKind::Failed),
+        Answer::NoMemory => Trial::Hit(HitKind::Starved),
+    }
+}
+
+/// Tries the claimed position: its variant is made and measured, ruled on where it is smaller, and asked about where it is lawful too.
+pub fn try_position<P: Passes, L: Law, Q: Question, J: Judge>(
+    alloc: Global,
+    claims: &Claims,
+    job: &Job<P, L, Q>,
+    at: u64,
+    pass: &mut Pass,
+    judge: &mut J,
+    variant: &mut Vec<u8>,
+) -> Trial
+    requires within { at < job.now.len }
+    requires placed { IsPlaced P.Passes job.now }
+    requires sized { HasSize job.now.file.now job.now.size }
+    requires of { IsOf claims.now pass.old }
+    requires is_open { last_mark (view_of pass.old).own ≡ Open }
+    ensures stays { IsOf claims.now pass.new }
+    ensures same { IsSameList pass.old pass.new }
+    ensures tries { Tries (trying P.Passes L.Law Q.Question J.Judge job.now judge.old) (tally_of J.Judge judge.old) (tally_of J.Judge judge.new) at }
+    ensures rejected { result ≡ Trial.Rejected → RejectsAt (trying P.Passes L.Law Q.Question J.Judge job.now judge.old) (tally_of J.Judge judge.old) (tally_of J.Judge judge.new) at }
+    ensures stopped { result ≡ Trial.Stopped → (view_of pass.new).read / 4 < last_position (view_of pass.new).own }
+    ensures hit { (kind : HitKind) → result ≡ Trial.Hit kind → HitSays (trying P.Passes L.Law Q.Question J.Judge job.now judge.old) (tally_of J.Judge judge.old) (tally_of J.Judge judge.new) variant.new.items at kind }
+    ensures key { J.key judge.new ≡ J.key judge.old }
+    ensures silent { Q.asks job.now.question.now ≡ false → judge.new ≡ judge.old }
+{
+    if make(job, at, variant).is_err() {
+        return Trial::Hit(HitKind::Starved);
+    }
+    match screen(alloc, claims, job.law, variant, job.size, pass) {
+        Screened::Good => came_of(job.question.ask(alloc, judge, job.name, variant)),
+        Screened::Bad => Trial::Rejected,
+        Screened::Stopped => Trial::Stopped,
+        Screened::NoMemory => Trial::Hit(HitKind::Starved),
+    }
+}
