@@ -315,7 +315,3 @@ later y (spells.step_none q w v s) = let n = forth s in omega arith
 later y (spells.step_some x q w v s) = let n = forth x in let n' = forth s in omega arith
 later y (spells.else_none s) = later y s
 later y (spells.else_some q w x s) = let n = forth x in let n' = forth s in omega arith
-
--- and so do the parts of a node
-pub later_parts : {ts : List Lexeme} {limit : Limit} {p : Part} {k : Kind} {s : Side} {h : Context} {c e : Scopes} {d i j : ℕ} {t : Trees} → Alternative p k s → Spells ts limit (rest s) h c e d t i j → i < j
-later_parts {k = k} z s = later (subst (λ s. has_solid s ≡ true) (side_only z) (sides_solid k)) s

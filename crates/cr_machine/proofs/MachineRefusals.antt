@@ -1,31 +1,26 @@
 -- The rows of the refused forms and the subset's machine on a unit: where it is refused no row names a token before, and one
 -- that names the refused token is the machine's; where it reads a unit, no row names a token of it.
-use Rattle.std.proofs.Common.{◌≡◌, ℕ, ◌+◌, ◌<◌, ◌≤◌, true, false, List, [], length, Some, ◌⊎◌, inl, inr, ⊎_elim, refl, sym, ap, subst, ◌∙◌, arith}
-use Rattle.std.specs.Prelude.{slice_get, set}
-use Rattle.std.proofs.lemmas.Bool.{both_ways, cases_lt}
+use Rattle.std.proofs.Common.{◌≡◌, ℕ, ◌+◌, ◌<◌, ◌≤◌, true, false, List, [], length, ⊎_elim, refl, sym, subst, ◌∙◌, arith}
+use Rattle.std.specs.Prelude.{slice_get}
+use Rattle.std.proofs.lemmas.Bool.{both_ways}
 use Rattle.cr_syntax.specs.declared.word.Word.{Word}
 use Rattle.cr_syntax.specs.declared.word.Word.TheVariants as word
-use Rattle.cr_syntax.specs.Words.{Lexeme, word_at}
+use Rattle.cr_syntax.specs.Words.{Lexeme}
 use Rattle.cr_syntax.specs.Scopes.{Scopes}
 use Rattle.cr_syntax.specs.Trees.{Trees}
-use Rattle.cr_syntax.specs.Context.{fresh}
-use Rattle.cr_syntax.specs.Spells.{Limit, AtMost, Upto, Is}
-use Rattle.cr_syntax.specs.Units.{file_scope, most_levels, Completes, Begins, Shows, Has, switch_body_at, with_word, variadic_definition, elsewhere, misplaced_at, Outside, unused_keyword, designator, compound_literal, called_expression, bit_field, deep_label, label_as_body, switch_body, variadic_function}
-use Rattle.cr_machine.specs.Machine.{unit, expression, anywhere, nowhere, Done, Runs, has_word, has}
+use Rattle.cr_syntax.specs.Spells.{AtMost, Upto, Is}
+use Rattle.cr_syntax.specs.Units.{file_scope, most_levels, Completes, Has, variadic_definition, elsewhere, misplaced_at, Outside, unused_keyword, designator, compound_literal, called_expression, bit_field, deep_label, label_as_body, switch_body, variadic_function}
+use Rattle.cr_machine.specs.Machine.{unit, anywhere, nowhere, Done, Runs, has_word, has}
 use Rattle.cr_machine.specs.MachineBody.{body, is_label}
-use Rattle.cr_machine.specs.MachineLaws.{start_expression}
-use Rattle.cr_machine.proofs.MachineRuns.{reach, same, passes_same, word_same, word_in}
-use Rattle.cr_machine.proofs.MachineFirst.{sorted, free_by}
+use Rattle.cr_machine.proofs.MachineRuns.{same, passes_same}
+use Rattle.cr_machine.proofs.MachineFirst.{sorted}
 use Rattle.cr_machine.proofs.MachineEnds.{Way, barring, defining, crowded, refused_so}
 use Rattle.cr_machine.proofs.MachineWays.{Point, at, same_way}
 use Rattle.cr_machine.proofs.MachineForms.{within, allows_before, IsBarring, by_row, statement_is_no_label}
-use Rattle.cr_machine.proofs.MachineLoose.{IsOwn, own_label, own_definition, Departs, label_is}
+use Rattle.cr_machine.proofs.MachineLoose.{IsOwn, own_label, own_definition, Departs}
 use Rattle.cr_machine.proofs.MachineReading.{ends_inside}
 use Rattle.cr_machine.proofs.MachineUnitForms.{ReadsUnits, same_token, IsBarred, UnitEnds, designator_is_barred, literal_is_barred, call_is_barred, field_is_barred, body_label_is_barred, body_is_barred, by_that_row, by_its_own, bars_too, bars_none}
-use Rattle.cr_machine.proofs.MachineTraces.{run_there, end_there}
-use Rattle.cr_machine.proofs.MachineOwn.{same_tokens, lets_itself, carried, set_there, set_other}
-use Rattle.cr_machine.proofs.MachineComplete.{get_some, spelled_is_read}
-use Rattle.cr_machine.proofs.MachineSound.{runs_sound}
+use Rattle.cr_machine.proofs.MachineTraces.{end_there}
 use Rattle.cr_machine.proofs.MachineLabels.{labels_caught}
 use Rattle.cr_machine.proofs.MachineDefinitions.{Fits, before, at_brace, definitions_caught}
 use Rattle.cr_machine.proofs.MachineDefinitions as definitions

@@ -1,6 +1,6 @@
 -- What a text that goes on behind a refused token's place shows: the word that stands there in the place of a refused
 -- form's, and the node that the form's row asks for. Where no row refuses, it need show nothing.
-use Rattle.std.proofs.Common.{◌≡◌, ℕ, suc, ◌+◌, ◌<◌, ◌≤◌, Bool, true, false, List, length, refl, sym, subst, inl, inr}
+use Rattle.std.proofs.Common.{◌≡◌, ℕ, ◌+◌, ◌<◌, ◌≤◌, Bool, true, false, List, length, refl, sym, subst, inl, inr}
 use Rattle.std.specs.Prelude.{◌==◌, ◌||◌, ◌&&◌}
 use Rattle.std.proofs.lemmas.Bool.Decides.{eqb_tells}
 use Rattle.cr_syntax.specs.declared.word.Word.{Word}
@@ -17,7 +17,7 @@ use Rattle.cr_syntax.specs.Grammar as grammar
 use Rattle.cr_syntax.specs.Spells.{Limit, Is, Spells, a}
 use Rattle.cr_syntax.specs.Spells as spells
 use Rattle.cr_syntax.specs.Units.{Has, has_here, has_inside, has_after, one_begins_at, one_ends_at, initializer_at, cast_operand_at, postfix_before, member_before, switch_body_at, variadic_definition}
-use Rattle.cr_syntax.specs.Units.{Place, place_in, is_misplaced, misplaced_at, is_unused}
+use Rattle.cr_syntax.specs.Units.{Place, place_in, is_misplaced, misplaced_at}
 use Rattle.cr_machine.specs.Machine.{Manner, Test, the, has, Allows, levels_at}
 use Rattle.cr_machine.specs.MachineBody.{is_identifier, in_row, in_parameters, is_designator, is_label, label_start, statement_start}
 use Rattle.cr_machine.proofs.MachineEnds.{Way, stopped, barring, crowded, defining}

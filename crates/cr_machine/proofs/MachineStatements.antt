@@ -29,7 +29,7 @@ use Rattle.cr_machine.proofs.MachineFits.{fits, fits_left, fits_right, parts_fit
 use Rattle.cr_machine.proofs.MachineTasks.{measure, Goes, Answers, Completes, Smaller}
 use Rattle.cr_machine.proofs.MachineTasks as task
 use Rattle.cr_machine.proofs.MachineBegins.{never_element, no_else, no_right_brace, specifier_yes}
-use Rattle.cr_machine.proofs.MachineExpressions.{closing_run, whole_expression, ordinary_no}
+use Rattle.cr_machine.proofs.MachineExpressions.{closing_run, whole_expression}
 use Rattle.cr_machine.proofs.MachineDeclarations.{declaration_first, compound_first}
 use Rattle.std.proofs.lemmas.Bool.{or_from, or_right}
 

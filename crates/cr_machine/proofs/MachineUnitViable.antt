@@ -1,7 +1,7 @@
 -- The tokens of a unit before a refused one begin a unit, and by the way in which it is refused more is known of that unit:
 -- where the program stops, it leaves room for so many levels; where a row of the refused forms refuses, it shows the row's
 -- node, and the word that stands in can come next; where a level finds no room, the opening token itself can.
-use Rattle.std.proofs.Common.{◌≡◌, ℕ, ◌+◌, ◌<◌, ◌≤◌, Bool, true, false, ◌||◌, ◌&&◌, List, length, Option, None, Some, refl, sym, ap, subst, ◌∙◌, inl, inr, ◌⊎◌, arith}
+use Rattle.std.proofs.Common.{◌≡◌, ℕ, ◌+◌, ◌<◌, ◌≤◌, Bool, true, false, List, length, Some, refl, sym, ap, subst, ◌∙◌, inl, inr, ◌⊎◌, arith}
 use Rattle.std.specs.Prelude.{slice_get}
 use Rattle.std.proofs.Math.Nat.{eq-or-lt_of_le}
 use Rattle.cr_syntax.specs.declared.word.Word.{Word}

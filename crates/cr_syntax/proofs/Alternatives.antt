@@ -5,7 +5,7 @@ use Rattle.cr_syntax.specs.declared.node.Kind.TheVariants as kind
 use Rattle.cr_syntax.specs.declared.part.Part.{Part}
 use Rattle.cr_syntax.specs.Grammar.{Side, Alternative}
 use Rattle.cr_syntax.specs.Grammar as grammar
-use Rattle.cr_syntax.specs.Tables.{Rule, rule_of, side_of, part_of}
+use Rattle.cr_syntax.specs.Tables.{rule_of, side_of, part_of}
 
 pub alternative_of : (k : Kind) → Alternative (part_of k) k (side_of k)
 unfolding rule_of

@@ -1,4 +1,4 @@
--- What is spelled, the checker reads.
+-- What is spelled is read.
 use Rattle.std.proofs.lemmas.Bool.{or_left, or_right}
 use Rattle.std.proofs.Common.{◌≡◌, ℕ, zero, suc, ◌+◌, ◌-◌, ◌<◌, ◌≤◌, Bool, true, false, not, ◌&&◌, ◌||◌, List, [], ◌∷◌, Option, None, Some, refl, sym, ap, subst, ◌∙◌, arith, inl, inr}
 use Rattle.std.specs.Prelude.{if◌then◌else◌, nat_lt, nat_le}
@@ -34,7 +34,7 @@ use Rattle.cr_syntax.proofs.Equations.{reads_token, reads_opens, reads_reopens, 
 use Rattle.cr_syntax.proofs.Sound.{the_limit}
 use Rattle.cr_syntax.proofs.Ranks.{lower, under_itself, under_past, past_is, enters_is, member_up, init_up, parameter_up, differ, link_past, link_makes, rank_small, rank, under}
 
--- what the checker reads a node as, where one link is left
+-- what a node is read as, where one link is left
 abbrev on_link : List Lexeme → Reader → ℕ → Part → Context → Scopes → ℕ → Kind → ℕ → ℕ → Trees → Link → Option Scopes
 on_link ts r n p h c d k i j t l = elim l [
   | Makes ↦ if fits_together k t then r (side_of k) (at_start p h) c d i j else None
@@ -49,7 +49,7 @@ module _ (ts : List Lexeme) (r : Reader) (n : ℕ) (p : Part) (h : Context) (c :
   unfolding as_part
   by_link l e q m = subst (λ x. on_link ts r n p h c d k i j t x ≡ Some e) (sym q) m
 
--- the checker's answer to a part: one node, which every number of links above the part's rank is enough to read
+-- the answer to a part: one node, which every number of links above the part's rank is enough to read
 pub data PartAnswer (ts : List Lexeme) : Part → Context → Scopes → Scopes → ℕ → Trees → ℕ → ℕ → Type 0 where
   answer : {p : Part} {h : Context} {c e : Scopes} {d i j : ℕ} (k : Kind) (t : Trees) →
       rank (part_of k) ≤ rank p → under p (part_of k) ≡ true →
@@ -130,7 +130,7 @@ not_yet : (i : ℕ) (t : Trees) → Later (i + 1) t → begins_at t i ≡ false
 not_yet i none f = refl
 not_yet i (node k i' j' b n) f = ne_eqb i' i (λ e. absurd (omega arith))
 
--- the checker's answer to a right side
+-- the answer to a right side
 pub record RowAnswer (ts : List Lexeme) (s : Side) (h : Context) (c e : Scopes) (d : ℕ) (t : Trees) (i j : ℕ) : Type 0 where
   pub read : reads ts t s h c d i j ≡ Some e
   pub later : Later i t

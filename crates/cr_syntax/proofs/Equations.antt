@@ -1,4 +1,4 @@
--- The checker's reading, symbol by symbol, at any row of trees.
+-- Reading, symbol by symbol, at any row of trees.
 use Rattle.std.proofs.Common.{◌≡◌, ℕ, ◌+◌, false, not, ◌&&◌, ◌||◌, List, [], ◌∷◌, Option, None, Some, refl}
 use Rattle.std.specs.Prelude.{if◌then◌else◌, ◌==◌, nat_lt}
 use Rattle.cr_syntax.specs.declared.word.Word.{Word}
