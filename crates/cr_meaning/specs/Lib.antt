@@ -1,0 +1,9 @@
+pub mod Language
+pub mod Events
+pub mod World
+pub mod Values
+pub mod Work
+pub mod Library
+pub mod Turns
+pub mod Nodes
+pub mod Meaning
