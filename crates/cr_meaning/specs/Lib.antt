@@ -7,3 +7,5 @@ pub mod Library
 pub mod Turns
 pub mod Nodes
 pub mod Meaning
+pub mod Playing
+pub mod Laws

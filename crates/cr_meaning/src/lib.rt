@@ -6,6 +6,7 @@
 //! offsets that this work needs. It stands on the memory, the integer operations, the footprints and the library's formats.
 #![tactic(auto)]
 
+pub mod laws;
 mod op;
 mod run;
 mod value;
