@@ -1,8 +1,8 @@
 -- Small programs, their operations built by hand, and what they come to: the proof checker follows each run. By `PlayedIsRun` these
 -- are facts about the meaning. Each is the body of main unless it says more.
 use Rattle.std.proofs.Common.{◌≡◌, refl}
-use Rattle.std.specs.Prelude.{ℕ, ◌==◌, ℤ, pos, neg_ℤ, Bool, true, false, Option, Some, None, List, [], ◌∷◌, if◌then◌else◌}
-use Rattle.cr_ints.specs.declared.kind.IntKind.TheVariants.{Bool as BoolKind, Int, Char, UInt, Long}
+use Rattle.std.specs.Prelude.{ℕ, ◌==◌, ℤ, pos, true, false, Option, Some, None, List, [], ◌∷◌, if◌then◌else◌}
+use Rattle.cr_ints.specs.declared.kind.IntKind.TheVariants.{Bool as BoolKind, Int, Char, UInt}
 use Rattle.cr_memory.specs.declared.value.Scalar.{Scalar}
 use Rattle.cr_memory.specs.declared.value.Scalar.TheVariants as scalar
 use Rattle.cr_memory.specs.declared.value.Guard.{Guard}
@@ -10,7 +10,7 @@ use Rattle.cr_memory.specs.declared.value.Guard.TheVariants as guard
 use Rattle.cr_memory.specs.declared.value.Cell.{Cell}
 use Rattle.cr_memory.specs.declared.value.Cell.TheVariants as cell
 use Rattle.cr_library.specs.declared.piece.Piece.{Piece}
-use Rattle.cr_library.specs.declared.piece.Piece.TheVariants.{Signed, Text, Byte, Hex, Bytes}
+use Rattle.cr_library.specs.declared.piece.Piece.TheVariants.{Signed, Text, Byte, Bytes}
 use Rattle.cr_meaning.specs.World.{Program, World, Answer, Halt}
 use Rattle.cr_meaning.specs.Language.{Reply}
 use Rattle.cr_meaning.specs.Meaning.{body, operands, root_of, start_of, run_of}

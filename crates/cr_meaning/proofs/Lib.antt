@@ -1,2 +1,4 @@
 pub mod Examples
 pub mod Runs
+pub mod Booleans
+pub mod Merging

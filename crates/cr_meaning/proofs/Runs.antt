@@ -2,6 +2,8 @@
 use Rattle.std.proofs.Common.{◌≡◌, refl, sym, ◌∙◌, ap, subst}
 use Rattle.std.specs.Prelude.{ℕ, zero, suc, Option, Some, None}
 use Rattle.cr_meaning.specs.Language.{Acted, went, halts, Reply, gave, ended, Prog, give, act, call, Runs, run_give, run_act, run_halt, run_call, run_end}
+use Rattle.cr_meaning.specs.Meaning.{body as meaning, run_of}
+use Rattle.cr_meaning.specs.Laws
 use Rattle.cr_meaning.specs.Playing.{played, on_acted, on_reply}
 
 -- what is done with the result of work, or of a goal, runs so
@@ -69,3 +71,14 @@ followed body (suc most) (call g k) s = by_goal body g k s (λ v. λ t. played b
 
 pub played_is_run : {G V W H : Type 0} (body : G → Prog G V W H) (most : ℕ) (p : Prog G V W H) (s : W) (r : Reply V W H) → played body most p s ≡ Some r → Runs body p s r
 played_is_run body most p s r e = subst (IsFollowed body p s) e (followed body most p s)
+
+-- ---- meanings
+
+some_is_one : {A : Type 0} {a b : A} → Some a ≡ Some b → a ≡ b
+some_is_one e = cc
+
+pub one_meaning : Laws.OneMeaning
+one_meaning p one other m n = some_is_one (sym m.comes ∙ (ap (run_of p.limits) (one_run (meaning p) _ _ m.reply n.reply m.runs n.runs) ∙ n.comes))
+
+pub followed_is_meant : Laws.FollowedIsMeant
+followed_is_meant p most reply outcome e h = record { reply = reply; runs = played_is_run (meaning p) most _ _ reply e; comes = h }

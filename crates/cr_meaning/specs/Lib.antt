@@ -8,4 +8,5 @@ pub mod Turns
 pub mod Nodes
 pub mod Meaning
 pub mod Playing
+pub mod Merged
 pub mod Laws
