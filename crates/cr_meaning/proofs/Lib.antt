@@ -2,3 +2,4 @@ pub mod Examples
 pub mod Runs
 pub mod Booleans
 pub mod Merging
+pub mod Formats

@@ -1,8 +1,10 @@
 -- What a reader expects of the meaning, as facts about the definitions.
-use Rattle.std.specs.Prelude.{◌≡◌, ◌≢◌, ℕ, ◌==◌, true, false, Some, List, [], ◌∷◌}
+use Rattle.std.specs.Prelude.{◌≡◌, ◌≢◌, ℕ, ◌==◌, true, false, Some, MatchOption, List, [], ◌∷◌}
 use Rattle.std.specs.List.{list_any}
 use Rattle.cr_footprint.specs.Cell.{Cell}
 use Rattle.cr_footprint.specs.Foot.{no_events, with_read, with_touch, with_write, union_of, then_of, meets}
+use Rattle.cr_library.specs.Format.{ArePiecesOf, LeavesProfile}
+use Rattle.cr_meaning.specs.Library.{pieces_of}
 use Rattle.cr_meaning.specs.Language.{Reply}
 use Rattle.cr_meaning.specs.Playing.{played}
 use Rattle.cr_meaning.specs.Events.{Event, Step, Deed, Reads, Touches, Writes, Order, Beside, Sequence, Arguments, is_side_effect, below, own, gathered, clash}
@@ -21,6 +23,10 @@ OneMeaning = (p : Program) (one other : Run) → Means p one → Means p other �
 abbrev pub FollowedIsMeant : Type 0
 FollowedIsMeant = (p : Program) (most : ℕ) (reply : Reply Answer World Halt) (outcome : Run)
     → played (body p) most (body p (operands (root_of p) [])) (start_of p.limits) ≡ Some reply → run_of p.limits reply ≡ Some outcome → Means p outcome
+
+-- the pieces of a format are those of the library's definition, and there are none where the format leaves the profile
+abbrev pub FormatsAreRead : Type 0
+FormatsAreRead = (format : List ℕ) → MatchOption (pieces_of format) (LeavesProfile format) (ArePiecesOf format)
 
 -- ---- events as sets of cells
 

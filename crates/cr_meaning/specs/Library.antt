@@ -6,6 +6,8 @@ use Rattle.cr_ints.specs.declared.kind.IntKind.TheVariants.{Int as IntegerKind, 
 use Rattle.cr_ints.specs.Conversions.{convert_of, promote_of}
 use Rattle.cr_library.specs.declared.piece.Piece.{Piece}
 use Rattle.cr_library.specs.declared.piece.Piece.TheVariants.{Bytes, Text}
+use Rattle.cr_library.specs.Conversion.{converted}
+use Rattle.cr_library.specs.Reading.{ended}
 use Rattle.cr_library.specs.Argument.{wanted_of, agrees, shown}
 use Rattle.cr_memory.specs.declared.value.Pointer.{Pointer}
 use Rattle.cr_memory.specs.declared.value.Pointer.TheVariants.{Null, At}
@@ -52,6 +54,29 @@ room_from (At object place low high stride) = suc (high - place)
 
 abbrev pub text_at : Memory → Pointer → Result (List ℕ) Trap
 text_at memory at = if_fits 1 at (text_by memory (room_from at) at)
+
+-- ---- formats (7.21.6.1p3): `FormatsAreRead` says what is read
+
+-- after a `%`, with whole pieces and a run of plain bytes before it
+abbrev pub at_conversion : (List Piece → List ℕ → List ℕ → Option (List Piece)) → List Piece → List ℕ → Option (Piece × List ℕ) → Option (List Piece)
+at_conversion go pieces run None = None
+at_conversion go pieces run (Some found) = go (ended pieces run ++ found.0 ∷ []) [] found.1
+
+abbrev pub after_percent : (List Piece → List ℕ → List ℕ → Option (List Piece)) → List Piece → List ℕ → List ℕ → Option (List Piece)
+after_percent go pieces run [] = None
+after_percent go pieces run (byte ∷ rest) =
+    if byte == 37 then go pieces (run ++ 37 ∷ []) rest else at_conversion go pieces run (converted (byte ∷ rest))
+
+-- at most so many bytes
+abbrev pub read_by : ℕ → List Piece → List ℕ → List ℕ → Option (List Piece)
+read_by zero pieces run rest = Some (ended pieces run)
+read_by (suc most) pieces run [] = Some (ended pieces run)
+read_by (suc most) pieces run (byte ∷ rest) =
+    if byte == 37 then after_percent (read_by most) pieces run rest else read_by most pieces (run ++ byte ∷ []) rest
+
+-- the pieces of a format, and nothing where it leaves the profile
+unfoldable pub pieces_of : List ℕ → Option (List Piece)
+pieces_of format = read_by (length format) [] [] format
 
 -- ---- printf
 
@@ -104,7 +129,7 @@ formatted p world arguments (Some pieces) =
 abbrev pub printf_of : Program → World → List Bool → List Value → Result Called Trap
 printf_of p world texts (Pointing format ∷ values) =
     if_fits 1 format (if list_any is_nothing values then Err unused_value
-    else then_by (text_at world.memory format) (λ bytes. formatted p world (zip texts values) (p.pieces bytes)))
+    else then_by (text_at world.memory format) (λ bytes. formatted p world (zip texts values) (pieces_of bytes)))
 printf_of p world texts (Nothing ∷ values) = Err unused_value
 printf_of p world texts other = Err untyped
 

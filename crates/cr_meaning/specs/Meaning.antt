@@ -241,7 +241,7 @@ run_of limits (ended (stopped (Undefined number) node)) = Some (run.Undefined nu
 run_of limits (ended (stopped (Left number) node)) = Some (run.Left number node)
 run_of limits other = None
 
--- the meaning of a program: the run that it has from its start, by what `printf` reads in formats
+-- the meaning of a program: what the run from its start comes to
 pub record Means (p : Program) (outcome : Run) : Type 0 where
   pub reply : Reply Answer World Halt
   pub runs : Runs (body p) (body p (operands (root_of p) [])) (start_of p.limits) reply

@@ -10,7 +10,6 @@ use Rattle.cr_memory.specs.declared.value.Trap.{Trap}
 use Rattle.cr_memory.specs.declared.value.Trap.TheVariants.{Undefined, Left, NoMemory}
 use Rattle.cr_memory.specs.Memory.{Object, Memory, new_object, has_room, with_object, without_object, live_object, count_of}
 use Rattle.cr_memory.specs.Access.{with_cells}
-use Rattle.cr_library.specs.declared.piece.Piece.{Piece}
 use Rattle.cr_meaning.specs.Events.{Event}
 use Rattle.cr_meaning.specs.declared.op.Op.{Op}
 use Rattle.cr_meaning.specs.declared.value.Value.{Value}
@@ -20,13 +19,12 @@ use Rattle.cr_meaning.specs.declared.run.Limits.{Limits}
 
 -- the operations of a program's nodes, and of the whole program behind them; for a node that declares an object or is a string
 -- literal the kinds and guards of the object's cells; for a literal its bytes with the closing zero (6.4.5p6); for a row of the
--- table of types the kinds of its cells; what `printf` reads in a format; and the limits
+-- table of types the kinds of its cells; and the limits
 pub record Program : Type 0 where
   pub ops : List Op
   pub shape : ℕ → List (Scalar × Guard)
   pub literal : ℕ → Option (List Cell)
   pub kinds : ℕ → List Scalar
-  pub pieces : List ℕ → Option (List Piece)
   pub limits : Limits
 
 -- ---- the world

@@ -1,5 +1,5 @@
 //! What a reader of C11 5.1.2.3 and 6.5 expects of the meaning. The program calls none of these functions.
-ghost use Rattle.cr_meaning.specs.Laws.{OneMeaning, FollowedIsMeant, ConflictsAreMeetings, SequencedNeverConflict, OwnConflictsAreOpen, ConflictHasCell, ReadsNeverConflict, NothingHasNoSets, OwnReadIsAdded, OwnTouchIsAdded, OwnWriteIsAdded, OperandsBesideAreUnited, SequencedOperandIsSettled, ArgumentIsSettled};
+ghost use Rattle.cr_meaning.specs.Laws.{OneMeaning, FollowedIsMeant, FormatsAreRead, ConflictsAreMeetings, SequencedNeverConflict, OwnConflictsAreOpen, ConflictHasCell, ReadsNeverConflict, NothingHasNoSets, OwnReadIsAdded, OwnTouchIsAdded, OwnWriteIsAdded, OperandsBesideAreUnited, SequencedOperandIsSettled, ArgumentIsSettled};
 
 /// A program has one meaning at most.
 pub fn one_meaning()
@@ -9,6 +9,11 @@ pub fn one_meaning()
 /// A run that was followed to its end is the meaning.
 pub fn followed_is_meant()
     ensures { FollowedIsMeant }
+{}
+
+/// The pieces that `printf` reads in a format are those of the library's definition.
+pub fn formats_are_read()
+    ensures { FormatsAreRead }
 {}
 
 /// Events of two operands conflict exactly on the cells on which their footprints meet.
