@@ -1,0 +1,3 @@
+//! The operations of a typed unit: what each node of its tree does, as a definition. With it the meaning of programs over
+//! operations is the meaning of a unit. It holds no function; it stands on the typed unit and the meaning.
+#![tactic(auto)]
