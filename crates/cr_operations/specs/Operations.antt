@@ -295,7 +295,7 @@ abbrev pub for_by : Typed → List ℕ → ℕ → Option ℕ → Work
 for_by t parts token first =
     let second : Option ℕ = part_from t parts (clause_end t token first + 1) in
     work.For (clause_objects t first) first second
-        (unless_body (last_part parts) (part_from t parts (clause_end t (clause_end t token first + 1) second + 1))) (last_part parts)
+    (unless_body (last_part parts) (part_from t parts (clause_end t (clause_end t token first + 1) second + 1))) (last_part parts)
 
 abbrev pub for_of : Typed → ℕ → Op
 for_of t node = node_op [] (for_by t (parts_at t node) (first_at t node + 2) (part_from t (parts_at t node) (first_at t node + 2)))
@@ -453,7 +453,7 @@ strings_of t other = scalar.Pointer 0
 abbrev pub unit_op : Typed → Op
 unit_op t = node_op (nodes_from (is_static_initialiser t) 0 t.unit.nodes)
     (work.Program (nodes_from (is_lasting t) 0 t.unit.nodes) (map (parameter_of t) (slice_index_or t.parameters t.main []))
-        (strings_of t (slice_index_or t.parameters t.main [])) (part_at t t.main 2))
+    (strings_of t (slice_index_or t.parameters t.main [])) (part_at t t.main 2))
 
 -- a literal's bytes as chars
 abbrev pub byte_cell : ℕ → Cell
