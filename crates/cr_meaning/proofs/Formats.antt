@@ -64,27 +64,29 @@ by_conversion format most go pieces run rest right few plain reading None e = re
 by_conversion format most go pieces run rest right few plain reading (Some found) e =
     let spelled_by : IsSpelledBy 0 rest found.0 found.1 = converted-sound rest found.0 found.1 e in
     right (ended pieces run ++ found.0 ∷ []) [] found.1 (shorter rest found.0 found.1 most spelled_by few)
-        (reading_conversion format pieces run found.0 found.1 spelled_by.in_profile spelled_by.no_run (subst (IsReading format pieces run) spelled_by.spelled reading))
+    (reading_conversion format pieces run found.0 found.1 spelled_by.in_profile spelled_by.no_run (subst (IsReading format pieces run) spelled_by.spelled reading))
 
 by_percent : (format : List ℕ) (most : ℕ) (go : List Piece → List ℕ → List ℕ → Option (List Piece)) (pieces : List Piece) (run rest : List ℕ) → IsRight format most go
     → length rest ≤ most → IsReading format pieces run (37 ∷ rest) → Reads format (after_percent go pieces run rest)
 by_percent format most go pieces run [] right few reading = reading_outside format pieces run [] reading (λ piece after. nothing_spelled [] piece after refl (λ e. cc))
 by_percent format most go pieces run (byte ∷ rest) right few reading =
-    elim (byte == 37) as (λ b. byte == 37 ≡ b → Reads format (if b then go pieces (run ++ 37 ∷ []) rest else at_conversion go pieces run (converted (byte ∷ rest))))
-    [ true ↦ λ e. right pieces (run ++ 37 ∷ []) rest (omega arith)
-        (reading_byte format pieces run 37 rest (subst (IsReading format pieces run) (ap (λ b. 37 ∷ b ∷ rest) (eqb-true byte 37 e)) reading))
-    | false ↦ λ e. by_conversion format most go pieces run (byte ∷ rest) right few (some_first byte rest e) reading (converted (byte ∷ rest)) refl ] refl
+    elim (byte == 37) as (λ b. byte == 37 ≡ b → Reads format (if b then go pieces (run ++ 37 ∷ []) rest else at_conversion go pieces run (converted (byte ∷ rest)))) [
+      | true ↦ λ e. right pieces (run ++ 37 ∷ []) rest (omega arith)
+          (reading_byte format pieces run 37 rest (subst (IsReading format pieces run) (ap (λ b. 37 ∷ b ∷ rest) (eqb-true byte 37 e)) reading))
+      | false ↦ λ e. by_conversion format most go pieces run (byte ∷ rest) right few (some_first byte rest e) reading (converted (byte ∷ rest)) refl
+    ] refl
 
 read_right : (format : List ℕ) (most : ℕ) → IsRight format most (read_by most)
 read_right format zero pieces run [] few reading = reading_done format pieces run reading
 read_right format zero pieces run (byte ∷ rest) few reading = absurd (omega arith)
 read_right format (suc most) pieces run [] few reading = reading_done format pieces run reading
 read_right format (suc most) pieces run (byte ∷ rest) few reading =
-    elim (byte == 37) as (λ b. byte == 37 ≡ b → Reads format (if b then after_percent (read_by most) pieces run rest else read_by most pieces (run ++ byte ∷ []) rest))
-    [ true ↦ λ e. by_percent format most (read_by most) pieces run rest (read_right format most) (omega arith)
-        (subst (IsReading format pieces run) (ap (λ b. b ∷ rest) (eqb-true byte 37 e)) reading)
-    | false ↦ λ e. read_right format most pieces (run ++ byte ∷ []) rest (omega arith)
-        (reading_byte format pieces run byte rest (subst (IsReading format pieces run) (ap (λ s. s ++ rest) (plain_byte byte e)) reading)) ] refl
+    elim (byte == 37) as (λ b. byte == 37 ≡ b → Reads format (if b then after_percent (read_by most) pieces run rest else read_by most pieces (run ++ byte ∷ []) rest)) [
+      | true ↦ λ e. by_percent format most (read_by most) pieces run rest (read_right format most) (omega arith)
+          (subst (IsReading format pieces run) (ap (λ b. b ∷ rest) (eqb-true byte 37 e)) reading)
+      | false ↦ λ e. read_right format most pieces (run ++ byte ∷ []) rest (omega arith)
+          (reading_byte format pieces run byte rest (subst (IsReading format pieces run) (ap (λ s. s ++ rest) (plain_byte byte e)) reading))
+    ] refl
 
 pub formats_are_read : Laws.FormatsAreRead
 unfolding pieces_of

@@ -3,3 +3,4 @@ pub mod Runs
 pub mod Booleans
 pub mod Merging
 pub mod Formats
+pub mod Quiet

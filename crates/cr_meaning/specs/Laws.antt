@@ -1,17 +1,19 @@
 -- What a reader expects of the meaning, as facts about the definitions.
-use Rattle.std.specs.Prelude.{◌≡◌, ◌≢◌, ℕ, ◌==◌, true, false, Some, MatchOption, List, [], ◌∷◌}
+use Rattle.std.specs.Prelude.{◌≡◌, ◌≢◌, ℕ, ◌==◌, Bool, true, false, Some, MatchOption, List, [], ◌∷◌}
 use Rattle.std.specs.List.{list_any}
 use Rattle.cr_footprint.specs.Cell.{Cell}
 use Rattle.cr_footprint.specs.Foot.{no_events, with_read, with_touch, with_write, union_of, then_of, meets}
 use Rattle.cr_library.specs.Format.{ArePiecesOf, LeavesProfile}
 use Rattle.cr_meaning.specs.Library.{pieces_of}
-use Rattle.cr_meaning.specs.Language.{Reply}
+use Rattle.cr_meaning.specs.Language.{Reply, gave, Runs}
 use Rattle.cr_meaning.specs.Playing.{played}
 use Rattle.cr_meaning.specs.Events.{Event, Step, Deed, Reads, Touches, Writes, Order, Beside, Sequence, Arguments, is_side_effect, below, own, gathered, clash}
 use Rattle.cr_meaning.specs.Merged.{sets_of, clash_at}
-use Rattle.cr_meaning.specs.World.{Program, World, Answer, Halt}
-use Rattle.cr_meaning.specs.Meaning.{Means, body, operands, root_of, start_of, run_of}
+use Rattle.cr_meaning.specs.Quiet.{AreQuiet, AreReads}
+use Rattle.cr_meaning.specs.World.{Program, World, Answer, part, Halt}
+use Rattle.cr_meaning.specs.Meaning.{Means, body, reach, operands, root_of, start_of, run_of}
 use Rattle.cr_meaning.specs.declared.run.Run.{Run}
+use Rattle.cr_meaning.specs.declared.value.Value.{Value}
 
 -- ---- runs
 
@@ -54,6 +56,11 @@ ConflictHasCell = (events others : List Event) → clash events others ≡ true 
 abbrev pub ReadsNeverConflict : Type 0
 ReadsNeverConflict = (events others : List Event) → list_any (λ e. is_side_effect e.deed) events ≡ false → list_any (λ e. is_side_effect e.deed) others ≡ false
     → clash events others ≡ false
+
+-- a node without a side effect in it gives reads alone, so it conflicts with no other such node
+abbrev pub QuietNodesRead : Type 0
+QuietNodesRead = (p : Program) (q : ℕ → Bool) → AreQuiet p q → (node : ℕ) → q node ≡ true
+    → (s t : World) (value : Value) (events : List Event) → Runs (body p) (body p (reach node)) s (gave (part value events) t) → AreReads events
 
 -- the sets of no event, of an own event beside others, of two operands, and of arguments before their call
 abbrev pub NothingHasNoSets : Type 0

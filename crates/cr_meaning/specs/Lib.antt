@@ -9,4 +9,5 @@ pub mod Nodes
 pub mod Meaning
 pub mod Playing
 pub mod Merged
+pub mod Quiet
 pub mod Laws

@@ -1,5 +1,5 @@
 //! What a reader of C11 5.1.2.3 and 6.5 expects of the meaning. The program calls none of these functions.
-ghost use Rattle.cr_meaning.specs.Laws.{OneMeaning, FollowedIsMeant, FormatsAreRead, ConflictsAreMeetings, SequencedNeverConflict, OwnConflictsAreOpen, ConflictHasCell, ReadsNeverConflict, NothingHasNoSets, OwnReadIsAdded, OwnTouchIsAdded, OwnWriteIsAdded, OperandsBesideAreUnited, SequencedOperandIsSettled, ArgumentIsSettled};
+ghost use Rattle.cr_meaning.specs.Laws.{OneMeaning, FollowedIsMeant, FormatsAreRead, ConflictsAreMeetings, SequencedNeverConflict, OwnConflictsAreOpen, ConflictHasCell, ReadsNeverConflict, QuietNodesRead, NothingHasNoSets, OwnReadIsAdded, OwnTouchIsAdded, OwnWriteIsAdded, OperandsBesideAreUnited, SequencedOperandIsSettled, ArgumentIsSettled};
 
 /// A program has one meaning at most.
 pub fn one_meaning()
@@ -39,6 +39,11 @@ pub fn conflict_has_cell()
 /// Where no event is a side effect there is no conflict.
 pub fn reads_never_conflict()
     ensures { ReadsNeverConflict }
+{}
+
+/// A node without assignment, `++`, `--`, call and read of a volatile object in it gives reads alone.
+pub fn quiet_nodes_read()
+    ensures { QuietNodesRead }
 {}
 
 /// Without events the footprint is empty.
