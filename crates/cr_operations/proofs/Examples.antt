@@ -3,11 +3,9 @@
 -- beforehand. Each fact holds for any proof of what a unit keeps of its tokens and nodes.
 use Rattle.std.proofs.Common.{◌≡◌, refl}
 use Rattle.cr_syntax.specs.Kept.{AreWithin, PartsAreBelow, NamedOnce, ItemsAreNodes}
-use Rattle.std.specs.Prelude.{ℕ, ◌≤◌, ℤ, pos, neg_ℤ, Bool, true, false, Option, Some, None, List, [], ◌∷◌, length, codes, replicate, slice_index_or, slice_set}
-use Rattle.std.specs.Global.{Vec}
+use Rattle.std.specs.Prelude.{ℕ, ◌≤◌, ℤ, pos, Bool, true, false, Option, Some, None, List, [], ◌∷◌, length, codes, replicate, slice_index_or, slice_set}
 use Rattle.cr_ints.specs.declared.kind.IntKind.TheVariants as ints
 use Rattle.cr_tokens.specs.declared.token.Token.{Token}
-use Rattle.cr_tokens.specs.declared.token.Tokens.{Tokens}
 use Rattle.cr_tokens.specs.declared.token.TokenKind.TheVariants.{Keyword}
 use Rattle.cr_syntax.specs.declared.unit.Unit.{Unit}
 use Rattle.cr_syntax.specs.declared.node.Node.{Node}
@@ -28,7 +26,6 @@ use Rattle.cr_meaning.specs.Language.{Reply}
 use Rattle.cr_meaning.specs.Library.{pieces_of}
 use Rattle.cr_meaning.specs.Meaning.{body, operands, root_of, start_of, run_of}
 use Rattle.cr_meaning.specs.Playing.{played}
-use Rattle.cr_meaning.specs.declared.op.Op.{Op}
 use Rattle.cr_meaning.specs.declared.run.Limits.{Limits}
 use Rattle.cr_meaning.specs.declared.run.Run.{Run}
 use Rattle.cr_meaning.specs.declared.run.Run.TheVariants as run

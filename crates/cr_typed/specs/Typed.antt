@@ -1,8 +1,7 @@
 -- What the columns of a typed unit have to be, beside what the constraints say of their content.
-use Rattle.std.specs.Prelude.{◌≡◌, ℕ, ◌<◌, List, Option, Some, length, slice_get}
+use Rattle.std.specs.Prelude.{◌≡◌, ℕ, ◌<◌, List, Some, length, slice_get}
 use Rattle.cr_types.specs.Types.{IsTable}
 use Rattle.cr_typed.specs.declared.typed.Typed.{Typed}
-use Rattle.cr_typed.specs.declared.typed.Put.{Put}
 
 -- each entry is below a number
 abbrev pub AreBelow : ℕ → List ℕ → Type 0
