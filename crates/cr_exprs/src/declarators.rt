@@ -20,7 +20,8 @@ use crate::fault::ParseFault;
 use crate::found::{Found, Listed, Optional};
 use crate::scopes::{enter_parameter, give_back, kept, taken};
 use crate::source::{
-    Source, qualifiers, expect, is_declared, refused, room, stands, starts_abstract, starts_declarator,
+    Source, expect, is_declared, qualifiers, refused, room, stands, starts_abstract,
+    starts_declarator,
 };
 use crate::specifiers::row;
 use cr_rows::Row;

@@ -15,8 +15,11 @@ use std::thread;
 use std::thread::Threads;
 
 const LINES: &[u8] = b"int a;\nint b;\nint c;\n";
+
 const LAST: &[u8] = b"int c;\n";
+
 const FIRST_TWO: &[u8] = b"int a;\nint b;\n";
+
 const LAST_TWO: &[u8] = b"int b;\nint c;\n";
 
 // The end of the epoch of `len` positions from 13 on, by all of these judges.
