@@ -39,6 +39,7 @@ pub data ElementFirst (ts : List Lexeme) (c : Scopes) (i : ℕ) (typed : Bool) :
 pub plain_first : {ts : List Lexeme} {limit : Limit} {h : Context} {c e : Scopes} {d i j : ℕ} {t : Trees} → Spells ts limit (a part.Plain) h c e d t i j → PlainFirst ts c i h.typed
 plain_first (spells.of_chain x f s) = elim x [ ]
 plain_first (spells.of_alternative grammar.qualifier_const f (spells.token q w s)) = by_plain q refl
+plain_first (spells.of_alternative grammar.qualifier_volatile f (spells.token q w s)) = by_plain q refl
 plain_first (spells.of_alternative grammar.type_void f (spells.token q w s)) = by_plain q refl
 plain_first (spells.of_alternative grammar.type_char f (spells.token q w s)) = by_plain q refl
 plain_first (spells.of_alternative grammar.type_short f (spells.token q w s)) = by_plain q refl
@@ -149,6 +150,7 @@ one_typed (node k i j b n) = is_type_specifier k
 plain_typed : {ts : List Lexeme} {limit : Limit} {h' : Context} {c e : Scopes} {d i j : ℕ} {t : Trees} → Spells ts limit (a part.Plain) h' c e d t i j → (h : Context) → (past_part h t).typed ≡ h.typed || one_typed t
 plain_typed (spells.of_chain x f s) h = elim x [ ]
 plain_typed (spells.of_alternative grammar.qualifier_const f s) h = refl
+plain_typed (spells.of_alternative grammar.qualifier_volatile f s) h = refl
 plain_typed (spells.of_alternative grammar.type_void f s) h = refl
 plain_typed (spells.of_alternative grammar.type_char f s) h = refl
 plain_typed (spells.of_alternative grammar.type_short f s) h = refl

@@ -19,7 +19,7 @@ use Rattle.cr_syntax.specs.Spells.{Limit, AtMost, Upto, Is, Spells, a, rest}
 use Rattle.cr_syntax.specs.Spells as spells
 use Rattle.cr_syntax.specs.Units.{most_levels, Has, has_here, has_inside, has_after, one_begins_at, one_ends_at, after_first, initializer_at, cast_operand_at, postfix_before, member_before, switch_body_at, begins_statement}
 use Rattle.cr_machine.specs.Machine.{Goal, Prog, Manner, Runs, Done, Allows, plain, opens, reopens, named, the, has, give, call, choose, bar, made, drops, run_give, run_take, run_pass, run_no, run_yes, run_here, run_call}
-use Rattle.cr_machine.specs.Machine.{whole, expression, commas, assignment, conditional, operands, cast, unary, measured, postfix, called, grouped, texts, arguments, suffixes, type_name, row, more, element, structure, members, member, member_declarators, enumeration, enumerators, enumerator, consts, declarator, declarator_suffixes, abstract_suffixes, size, parameters, more_parameters, parameter}
+use Rattle.cr_machine.specs.Machine.{whole, expression, commas, assignment, conditional, operands, cast, unary, measured, postfix, called, grouped, texts, arguments, suffixes, type_name, row, more, element, structure, members, member, member_declarators, enumeration, enumerators, enumerator, qualifiers, declarator, declarator_suffixes, abstract_suffixes, size, parameters, more_parameters, parameter}
 use Rattle.cr_machine.specs.Machine.{unit, externals, external, declaration, init_declarators, initialized, initializer, initializers, statement, block, if_rest, switch_rest, while_rest, do_rest, for_rest, return_rest, for_clauses, clause, compound, items, item}
 use Rattle.cr_machine.specs.Machine as m
 use Rattle.cr_machine.specs.MachineBody.{body, assigned, operated, prefixed, suffixed, sized, other_primary, suffixes_end, other_element, array_start, member_end, declared_on, labelled, unlabelled, switch_body, is_designator, is_label, label_start, statement_start, Words, is_identifier, start_goal, tighter, assignment_operators, operators, unary_prefixes, cast_prefixes, constants, postfix_operators, specifier_words, row_kind, in_row, in_parameters}
@@ -38,7 +38,7 @@ use Rattle.cr_machine.proofs.MachineSound.{each, runs_sound, part_some}
 use Rattle.cr_machine.proofs.MachineFirst.{none_true, yes, differs, sorted}
 use Rattle.cr_machine.proofs.MachineTasks as task
 use Rattle.cr_machine.proofs.MachineBegins.{named_first, is_named}
-use Rattle.cr_machine.proofs.MachineDeclarators.{consts_go, named_const}
+use Rattle.cr_machine.proofs.MachineDeclarators.{qualifiers_go, named_qualifier}
 use Rattle.cr_machine.proofs.MachineComplete.{completes, spelled_is_read, free_at_end, begun_same}
 use Rattle.cr_machine.proofs.MachineWays.{Point, at, same_way}
 use Rattle.cr_machine.proofs.MachineMarks.{Barred, barred_on, or_so, Marks, Behind, marks_choose, same_test, marked}
@@ -516,7 +516,7 @@ before_colon {ts = ts} {limit = limit} (spells.of_chain grammar.declarator_direc
     completes ts limit task.direct s named refl _ (run_pass (differs q word.LeftBracket refl) (run_pass (differs q word.LeftParen refl) run_give))
 before_colon {ts = ts} {limit = limit} {h = h} {c = c} {e = e} {d = d} {i = i} {j = j} (spells.of_alternative grammar.pointer_declarator f (spells.opens q' v (spells.qualified {t = t} x s))) q =
     subst (λ z. Runs body ts limit (body (declarator named h d)) c i (Done (one kind.PointerDeclarator i j z) e j)) (and_none t)
-    (run_here (run_take (yes q') v (run_call (consts_go ts limit x (named_const (named_first facts.by_declarator s)))
+    (run_here (run_take (yes q') v (run_call (qualifiers_go ts limit x (named_qualifier c (named_first facts.by_declarator s)))
     (run_no refl (run_call (before_colon s q) (run_yes (is_named facts.by_declarator s) (run_here run_give)))))))
 
 module _ (ts us : List Lexeme) (limit top : Limit) (r : Form) (k : ℕ) (stands : (w : Word) → token_of r ≡ Some w → Is ts k w)
@@ -839,7 +839,7 @@ module _ (ts us : List Lexeme) (limit top : Limit) (r : Form) (k : ℕ) (stands 
     inl (inl (λ t e j _ _ x. inl (clean_one r k refl (clean_alone r k x))), clean_one r k refl (clean_none r k)),
     tt,
   )
-  owes (consts d) c i = (inl (λ t e j _ _ x. inl x), clean_none r k)
+  owes (qualifiers d) c i = (inl (λ t e j _ _ x. inl x), clean_none r k)
   owes (declarator w h d) c i = (
     inl (λ t e j _ _ x. inl (
       λ o. (λ t' e' j' _ _ x'. inl (λ u. clean_one r k refl (clean_alone r k x'), λ u. clean_one r k refl (clean_alone r k x')), clean_one r k refl (clean_none r k)),

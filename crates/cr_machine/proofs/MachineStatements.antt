@@ -92,6 +92,7 @@ not_declaration {ts = ts} {c = c} {i = i} (by_keyword {w = w} q s) = not_type ts
     by word.Register s = none_true s
     by word.Inline s = none_true s
     by word.Const s = none_true s
+    by word.Volatile s = none_true s
     by word.Void s = none_true s
     by word.Char s = none_true s
     by word.Short s = none_true s
@@ -117,6 +118,7 @@ not_declaration {ts = ts} {c = c} {i = i} (by_expression (by_word {w = w} q s)) 
     by word.Register s = none_true s
     by word.Inline s = none_true s
     by word.Const s = none_true s
+    by word.Volatile s = none_true s
     by word.Void s = none_true s
     by word.Char s = none_true s
     by word.Short s = none_true s

@@ -85,7 +85,7 @@ pub data Goal : Type 0 where
   enumerators : ℕ → ℕ → Trees → Goal
   enumerator : ℕ → Goal
   -- declarators (6.7.6, 6.7.7)
-  consts : ℕ → Goal
+  qualifiers : ℕ → Goal
   declarator : Wanted → Context → ℕ → Goal
   declarator_suffixes : ℕ → ℕ → Trees → Goal
   abstract_suffixes : ℕ → ℕ → Trees → Goal

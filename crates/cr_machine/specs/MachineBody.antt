@@ -12,7 +12,7 @@ use Rattle.cr_syntax.specs.Trees.{Trees, none, node, one, ◌&◌}
 use Rattle.cr_syntax.specs.Context.{fresh, past_token, past_part, is_bare, base_of, ends_open}
 use Rattle.cr_syntax.specs.Units.{is_unused, begins_statement, own_parameters}
 use Rattle.cr_machine.specs.Machine.{Goal, Prog, Test, Wanted, named, unnamed, either, Labels, anywhere, own_block, nowhere, plain, opens, reopens, the, has, ordinary, type_identifier, declared, or, give, stop, refuse, take, bar, peek, when, here, look, set, bring, call, expect, choose, into, made, begins, drops, innermost_of, around}
-use Rattle.cr_machine.specs.Machine.{whole, expression, commas, assignment, conditional, binary, operands, cast, unary, measured, postfix, called, grouped, texts, arguments, suffixes, type_name, row, more, element, structure, members, member, member_declarators, enumeration, enumerators, enumerator, consts, declarator, declarator_suffixes, abstract_suffixes, size, parameters, more_parameters, parameter}
+use Rattle.cr_machine.specs.Machine.{whole, expression, commas, assignment, conditional, binary, operands, cast, unary, measured, postfix, called, grouped, texts, arguments, suffixes, type_name, row, more, element, structure, members, member, member_declarators, enumeration, enumerators, enumerator, qualifiers, declarator, declarator_suffixes, abstract_suffixes, size, parameters, more_parameters, parameter}
 use Rattle.cr_machine.specs.Machine.{unit, externals, external, declaration, init_declarators, initialized, initializer, initializers, statement, block, if_rest, switch_rest, while_rest, do_rest, for_rest, return_rest, for_clauses, clause, compound, items, item}
 
 -- a table of words and the kinds of node that they make
@@ -90,6 +90,7 @@ postfix_operators = makes word.PlusPlus kind.PostIncrement ∷ makes word.MinusM
 abbrev pub plain_words : Words
 plain_words =
     makes word.Const kind.Const ∷
+    makes word.Volatile kind.Volatile ∷
     makes word.Void kind.Void ∷
     makes word.Char kind.Char ∷
     makes word.Short kind.Short ∷
@@ -120,9 +121,14 @@ abbrev pub row_kind : Part → Kind
 row_kind part.Specifiers = kind.Specifiers
 row_kind _ = kind.PlainSpecifiers
 
+-- a type qualifier (6.7.3)
+abbrev pub qualifier : Test
+qualifier = or (the word.Const) (the word.Volatile)
+
 -- whether a word begins a plain specifier
 abbrev pub is_plain_start : Word → Bool
 is_plain_start word.Const = true
+is_plain_start word.Volatile = true
 is_plain_start word.Void = true
 is_plain_start word.Char = true
 is_plain_start word.Short = true
@@ -491,10 +497,10 @@ body (enumerator d) = here (λ s. expect plain word.Identifier d (take plain (th
     (call (conditional d) (λ t. bring s false (made kind.Enumerator s (t & none))))
     (bring s false (made kind.Enumerator s none))))
 -- 6.7.6, 6.7.7
-body (consts d) = take plain (the word.Const) d (call (consts d) give) (give none)
+body (qualifiers d) = take plain qualifier d (call (qualifiers d) give) (give none)
 body (declarator w h d) = here (λ s.
     take opens (the word.Star) d
-    (call (consts (d + 1)) (λ _. when (may_omit w)
+    (call (qualifiers (d + 1)) (λ _. when (may_omit w)
     (peek (declarator_start w) (call (declarator w (past_token h) (d + 1)) (λ t. pointer_end s t)) (made kind.AbstractPointer s none))
     (call (declarator w (past_token h) (d + 1)) (λ t. pointer_end s t))))
     (take opens (the word.LeftParen) d

@@ -27,9 +27,7 @@ pub fn built_words(alloc: Global, list: &[String]) -> Result<Settings, WordFault
 fn is_built(settings: &Settings) -> bool
     ensures { IsTrue result ↔ IsBuilt settings.now }
 {
-    settings.window == 256
-        && settings.steps == 1_000_000
-        && are_built(&settings.enabled)
+    settings.window == 256 && settings.steps == 1_000_000 && are_built(&settings.enabled)
 }
 
 /// The passes with a number below this are built.

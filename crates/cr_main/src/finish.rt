@@ -56,7 +56,14 @@ pub fn copy_and_reduce<P: Passes, L: Law, Q: Question, F: Files, J: Judge, O: Si
         limit: task.limit,
     };
     let end = reduce(
-        alloc, task.passes, task.law, task.question, bench, task.own, bytes, &plan,
+        alloc,
+        task.passes,
+        task.law,
+        task.question,
+        bench,
+        task.own,
+        bytes,
+        &plan,
     );
     conclude(alloc, task, &end, old_size, files, out)
 }
@@ -85,7 +92,12 @@ fn conclude<P: Passes, L: Law, Q: Question, F: Files, O: Sink>(
     if let Some(status) = save_beside(alloc, task, files, out, ".log", &texts.log) {
         return status;
     }
-    put(out, &texts.summary, status_of(end.why), status::OUTPUT_FAULT)
+    put(
+        out,
+        &texts.summary,
+        status_of(end.why),
+        status::OUTPUT_FAULT,
+    )
 }
 
 /// The texts of a reduction's end.

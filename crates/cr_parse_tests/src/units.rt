@@ -16,6 +16,7 @@ int x;¦Declaration[Int x]
 int;¦Declaration[Int]
 const x;¦Declaration[Const x]
 int x,*y;¦Declaration[Int x PointerDeclarator[y]]
+volatile int v;int*volatile const p;¦Declaration[Specifiers[Volatile Int] v] Declaration[Int PointerDeclarator[p]]
 int a;int b;¦Declaration[Int a] Declaration[Int b]
 extern short a;auto signed b;register _Bool c;¦Declaration[Specifiers[Extern Short] a] Declaration[Specifiers[Auto Signed] b] Declaration[Specifiers[Register Bool] c]
 int x=1;¦Declaration[Int InitDeclarator[x 1]]
@@ -134,7 +135,7 @@ typedef int T;T f(T T,T b);¦Unexpected(10)
 -- unused keywords
 float x;¦OutsideSubset(0, 1)
 int x;double¦OutsideSubset(3, 1)
-int volatile x;¦OutsideSubset(1, 1)
+int restrict x;¦OutsideSubset(1, 1)
 {goto a;}¦OutsideSubset(11, 1)
 {a float¦OutsideSubset(12, 1)
 int x=float¦OutsideSubset(3, 1)
@@ -200,7 +201,7 @@ fn is_block(text: &str) -> bool {
 fn units_have_their_trees(rt: HostRuntime) -> Result<(), Fail> {
     let alloc = rt.alloc();
     let trees = rows(alloc, TREES)?;
-    assert!(rt; trees.len() == 65);
+    assert!(rt; trees.len() == 66);
     for row in trees {
         let (text, tree) = pair(row);
         let file = whole(alloc, text)?;

@@ -3,6 +3,7 @@ use cr_cursor::{Law, Passes};
 use cr_outside::Question;
 
 /// The variants of a file that an epoch tries, and by what.
+#[derive(Drop)]
 pub struct Job<'a, P: Passes, L: Law, Q: Question> {
     pub passes: &'a P,
     /// The index of the file.

@@ -1,5 +1,10 @@
-//! One epoch of workers over the variants of one file: each worker tries positions in a thread of its own, and the epoch ends as one
-//! worker that tries them in order would end it.
+//! One epoch of workers over the variants of one file.
+//!
+//! A bench has a judge for each worker. In an epoch each worker claims positions by `cr_claims`, in a thread of its own where one can
+//! be made: it makes the variant there, measures it, has the law rule on it where it is smaller, asks the question where it is lawful
+//! too, and leaves once a lower position is a hit. The crate promises that the epoch ends by the first position in order that wasn't
+//! rejected, whatever order the trials end in, and that no position is asked about twice. It stands on `cr_claims` and `cr_core`, on
+//! `cr_cursor`, whose traits it is generic over, and on `cr_outside` and `cr_tokens`.
 #![tactic(auto)]
 
 mod bench;
@@ -8,10 +13,11 @@ mod ending;
 mod epoch;
 mod job;
 mod looker;
-mod measure;
+mod measuring;
 mod trial;
 mod worker;
 
 pub use bench::Bench;
 pub use job::{EpochEnd, Job};
 pub use looker::Looker;
+pub use measuring::measure;

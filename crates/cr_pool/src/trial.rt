@@ -15,7 +15,7 @@ ghost use Rattle.cr_pool.specs.Works.{Tries, RejectsAt, HitSays, IsSameList};
 
 use crate::job::Job;
 use crate::looker::Looker;
-use crate::measure::measure;
+use crate::measuring::measure;
 use cr_claims::{Claims, Pass};
 use cr_core::HitKind;
 use cr_cursor::{Law, Passes, Ruling, cursor_at};

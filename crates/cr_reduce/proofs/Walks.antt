@@ -92,14 +92,17 @@ pub asks_only_tried : (s : Search) (before now : Judging) (st : State) (at : Cur
 asks_only_tried s before now st at variant size there is has calls (inl same) = subst (AllGained (AboutTried s st) before.calls) (sym same) (all_gained-refl (AboutTried s st) before.calls)
 asks_only_tried s before now st at variant size there is has (inl same) (inr good) = subst (AllGained (AboutTried s st) before.calls) (sym same) (all_gained-refl (AboutTried s st) before.calls)
 asks_only_tried s before now st at variant size there is has (inr made) (inr good) =
-    subst (AllGained (AboutTried s st) before.calls) (sym made.2) (gained_first (AboutTried s st) (call_of made.0 s.name variant made.1) before.calls (refl, record {
-      position = st.position;
-      at = at;
-      there = there;
-      is = is;
-      smaller = smaller st.file variant size good.0 has good.1.has good.1.less;
-      lawful = good.1.lawful;
-    }))
+    subst (AllGained (AboutTried s st) before.calls) (sym made.2) (gained_first (AboutTried s st) (call_of made.0 s.name variant made.1) before.calls (
+      refl,
+      record {
+        position = st.position;
+        at = at;
+        there = there;
+        is = is;
+        smaller = smaller st.file variant size good.0 has good.1.has good.1.less;
+        lawful = good.1.lawful;
+      },
+    ))
 
 -- what the steps complete
 

@@ -100,6 +100,7 @@ pub data Alternative : Part → Kind → Side → Type 0 where
   -- 6.7.2 Type specifiers, 6.7.3 type qualifiers
   specifier_qualifier_list : Alternative PlainSpecifiers kind.PlainSpecifiers (part Plain ∷ part Plain ∷ many Plain ∷ [])
   qualifier_const : Alternative Plain kind.Const (token word.Const ∷ [])
+  qualifier_volatile : Alternative Plain kind.Volatile (token word.Volatile ∷ [])
   type_void : Alternative Plain kind.Void (token word.Void ∷ [])
   type_char : Alternative Plain kind.Char (token word.Char ∷ [])
   type_short : Alternative Plain kind.Short (token word.Short ∷ [])

@@ -38,6 +38,17 @@ abbrev pub are_words : List Lexeme → Word → ℕ → ℕ → Bool
 are_words ts w zero i = true
 are_words ts w (suc n) i = is_word ts i w && are_words ts w n (i + 1)
 
+-- token i is a type qualifier, and so are the next n tokens
+abbrev pub is_qualifier : List Lexeme → ℕ → Bool
+is_qualifier ts i = is_word ts i word.Const || is_word ts i word.Volatile
+
+abbrev pub are_qualifiers : List Lexeme → ℕ → ℕ → Bool
+are_qualifiers ts zero i = true
+are_qualifiers ts (suc n) i = is_qualifier ts i && are_qualifiers ts n (i + 1)
+
+abbrev pub span_qualifies : List Lexeme → ℕ → ℕ → Bool
+span_qualifies ts i j = nat_le i j && are_qualifiers ts (j - i) i
+
 abbrev pub span_is : List Lexeme → Word → ℕ → ℕ → Bool
 span_is ts w i j = nat_le i j && are_words ts w (j - i) i
 
@@ -140,13 +151,13 @@ along ts t inside next (symbol.TrailingComma ∷ s) h c d i j =
     then (if is_word ts (i + 1) word.RightBrace then along ts t inside next s (past_token h) c d (i + 1 + 1) j else None)
     else (if is_word ts i word.RightBrace then along ts t inside next s (past_token h) c d (i + 1) j else None)
 along ts t inside next (symbol.Qualified p ∷ []) h c d i j =
-    if span_is ts word.Const i (first_of t)
+    if span_qualifies ts i (first_of t)
     then elim (lead ts inside t p h c (d + 1) (first_of t)) [ None ↦ None | Some e ↦ next [] h e d (after_of t) j ]
     else None
 along ts t inside next (symbol.Qualified p ∷ x ∷ s) h c d i j = None
 along ts t inside next (symbol.OptionalQualified p ∷ []) h c d i j =
-    if is_none t then (if span_is ts word.Const i j then Some c else None)
-    else (if span_is ts word.Const i (first_of t)
+    if is_none t then (if span_qualifies ts i j then Some c else None)
+    else (if span_qualifies ts i (first_of t)
     then elim (lead ts inside t p h c (d + 1) (first_of t)) [ None ↦ None | Some e ↦ next [] h e d (after_of t) j ]
     else None)
 along ts t inside next (symbol.OptionalQualified p ∷ x ∷ s) h c d i j = None

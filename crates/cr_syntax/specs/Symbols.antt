@@ -30,9 +30,9 @@ pub data Symbol : Type 0 where
   Tag : Symbol
   -- `[","] "}"`
   TrailingComma : Symbol
-  -- `{"const"}` and a part, which ends the node
+  -- `{"const" | "volatile"}` and a part, which ends the node
   Qualified : the_part.Part → Symbol
-  -- `{"const"}` and a part or none, which ends the node
+  -- `{"const" | "volatile"}` and a part or none, which ends the node
   OptionalQualified : the_part.Part → Symbol
   -- an identifier that is no type
   Ordinary : Symbol

@@ -149,7 +149,6 @@ is_unused word.Float = true
 is_unused word.Goto = true
 is_unused word.Restrict = true
 is_unused word.Union = true
-is_unused word.Volatile = true
 is_unused word.Alignas = true
 is_unused word.Alignof = true
 is_unused word.Atomic = true

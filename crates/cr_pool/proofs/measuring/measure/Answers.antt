@@ -1,6 +1,6 @@
 use Rattle.std.proofs.Common.{arith}
 use Rattle.cr_pool.proofs.Sizes.{no_size}
-use Rattle.cr_pool.proofs.measure.measure.Goals as goal
+use Rattle.cr_pool.proofs.measuring.measure.Goals as goal
 
 pub returns-in-Ok : goal.returns-in-Ok
 returns-in-Ok c = record {
