@@ -174,25 +174,33 @@ impl<'a> Judge for Following<'a> {
     }
 }
 
+fn waiting_epoch<R: Threads + Abort + Sync>(
+    rt: &R,
+    alloc: Global,
+    flag: &AtomicU64,
+    stopped: &AtomicU64,
+) -> Result<EpochEnd, NoMemory> {
+    let mut judges = Vec::with_capacity(alloc, 2)?;
+    judges.push(Following { flag, asked: 0 })?;
+    judges.push(Following { flag, asked: 0 })?;
+    epoch(
+        rt,
+        alloc,
+        &Waiting {
+            unlawful: FIRST_TWO,
+            flag,
+            stopped,
+        },
+        judges,
+        2,
+    )
+}
+
 #[test]
 fn a_law_is_told_of_a_lower_hit(rt: HostRuntime) -> Result<(), Fail> {
     let flag = AtomicU64::new(0);
     let stopped = AtomicU64::new(0);
-    let law = Waiting {
-        unlawful: FIRST_TWO,
-        flag: &flag,
-        stopped: &stopped,
-    };
-    let mut judges = Vec::with_capacity(rt.alloc(), 2)?;
-    judges.push(Following {
-        flag: &flag,
-        asked: 0,
-    })?;
-    judges.push(Following {
-        flag: &flag,
-        asked: 0,
-    })?;
-    let end = epoch(&rt, rt.alloc(), &law, judges, 2)?;
+    let end = waiting_epoch(&rt, rt.alloc(), &flag, &stopped)?;
     assert!(rt; end == EpochEnd::Found(13, LAST.to_vec(rt.alloc())?));
     assert!(rt; stopped.load(Ordering::SeqCst) == 1);
     Ok(())
