@@ -1,5 +1,5 @@
 #!/usr/bin/env bash
-# Prints how long cr_footprint takes on one core to make two single reads and join them, and to join two footprints of 200,000
+# Prints how long cr_footprint takes on one core to make two single reads, to make and join them, and to join two footprints of 200,000
 # cells that lie between each other: both read; one read and one written; both with half their cells read and half written.
 # It proves and builds a small timer in a folder of its own, which takes a minute or two. Run it by hand.
 set -eu
@@ -24,6 +24,24 @@ fn two_reads(alloc: Global, at: u32) -> Result<bool, FootEnd> {
     let left = Foot::read(alloc, 1, at)?;
     let both = left.beside(Foot::read(alloc, 2, at)?)?;
     Ok(both.reads().len() == 2)
+}
+
+// The two reads alone.
+fn two_made(alloc: Global, at: u32) -> Result<bool, FootEnd> {
+    let left = Foot::read(alloc, 1, at)?;
+    let right = Foot::read(alloc, 2, at)?;
+    Ok(left.reads().len() == right.reads().len())
+}
+
+// How many of them came out right.
+fn made(alloc: Global) -> u32 {
+    let mut right = 0;
+    for at in 0..TIMES {
+        if two_made(alloc, at) == Ok(true) && right < TIMES {
+            right += 1;
+        }
+    }
+    right
 }
 
 // How many of the joins came out right.
@@ -62,6 +80,9 @@ fn pair(alloc: Global, left: (u32, u32), right: (u32, u32)) -> Result<(Foot, Foo
 }
 
 fn main(rt: HostRuntime) -> io::Result<()> {
+    let start = Instant::now(&rt)?;
+    let right = made(rt.alloc());
+    println!(rt; "two single reads made {} {}", right, start.elapsed(&rt)?.as_nanos())?;
     let start = Instant::now(&rt)?;
     let right = small(rt.alloc());
     println!(rt; "two single reads made and joined {} {}", right, start.elapsed(&rt)?.as_nanos())?;

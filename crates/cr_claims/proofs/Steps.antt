@@ -1,5 +1,5 @@
 -- A step of one pass keeps the rule.
-use Rattle.std.proofs.Common.{◌≡◌, ◌≢◌, ℕ, ◌+◌, ◌-◌, ◌%◌, ◌^◌, ◌<◌, ◌≤◌, Bool, true, false, List, [], ◌∷◌, ◌++◌, get_or, set, refl, sym, ap, subst, ◌∙◌, arith, inl, inr}
+use Rattle.std.proofs.Common.{◌≡◌, ◌≢◌, ℕ, ◌+◌, ◌-◌, ◌%◌, ◌^◌, ◌<◌, ◌≤◌, Bool, true, false, List, [], ◌∷◌, get_or, set, refl, sym, ap, subst, ◌∙◌, arith, inl, inr}
 use Prim.Native.Nat.{min}
 use mathlib.Core.Option.{some}
 use lib.ListN.{get_elem?}
@@ -10,14 +10,13 @@ use Rattle.cr_core.specs.declared.marks.HitKind.{HitKind}
 use Rattle.cr_core.specs.declared.marks.HitKind.TheVariants.{Yes, Failed, Starved}
 use Rattle.cr_core.specs.declared.marks.Mark.{Mark}
 use Rattle.cr_core.specs.declared.marks.Mark.TheVariants.{Open, No, Hit, Skipped}
-use Rattle.cr_core.specs.declared.marks.Entry.{Entry}
 use Rattle.cr_core.specs.declared.events.Settle.{Settle}
 use Rattle.cr_core.specs.declared.events.Settle.TheVariants as settle
 use Rattle.cr_core.specs.Row.{Row, word, past, last_position, with_last, IsLast}
 use Rattle.cr_core.specs.Sound.{Sum, total, IsOver, IsSound}
 use Rattle.cr_core.specs.State.{kind_of}
 use Rattle.cr_core.specs.Machine.{MaySettle, MayClaim, MayHit, MayLeave, claimed, settled, lowered}
-use Rattle.cr_core.proofs.Rows.{last_position-with_last, last_position-append, last_mark-append}
+use Rattle.cr_core.specs.Laws.{ANewEntryIsLast, MarksMoveNothing}
 use Rattle.cr_core.proofs.Steps.{with_row, over_falls, last_below, claims, settles, hits}
 use Rattle.cr_claims.specs.declared.view.View.{View}
 use Rattle.cr_claims.specs.View.{moved, with_own, looked, struck, gone}
@@ -205,15 +204,15 @@ settled-some settle.Nothing l h = h
 settled-some settle.No l h = with_last-some No l h
 settled-some settle.Skipped l h = with_last-some Skipped l h
 
-pub last_position-settled : (done : Settle) (l : Row) → last_position (settled done l) ≡ last_position l
-last_position-settled settle.Nothing l = refl
-last_position-settled settle.No l = last_position-with_last No l
-last_position-settled settle.Skipped l = last_position-with_last Skipped l
+pub last_position-settled : MarksMoveNothing → (done : Settle) (l : Row) → last_position (settled done l) ≡ last_position l
+last_position-settled law settle.Nothing l = refl
+last_position-settled law settle.No l = law No l
+last_position-settled law settle.Skipped l = law Skipped l
 
-pub may_hit : (len slots id : ℕ) (me : Me ℕ View) (k : HitKind) (w : ℕ) → me.0.spent ≡ false → MayHit len me.0.own → w ≡ word (last_position me.0.own) k
+pub may_hit : MarksMoveNothing → (len slots id : ℕ) (me : Me ℕ View) (k : HitKind) (w : ℕ) → me.0.spent ≡ false → MayHit len me.0.own → w ≡ word (last_position me.0.own) k
     → Allows (Kept len) slots id me 1 (λ n. min n w)
     (λ n after. (after.0 ≡ struck (min n w) (hit_list w me.0.own) me.0) × (after.1 ≡ me.1) × (n ≤ me.0.read))
-may_hit len slots id me kind w is_live may e s k homes there small =
+may_hit law len slots id me kind w is_live may e s k homes there small =
     let v = me.0 in
     let f = k.each_fits id v there is_live in
     let n = get_or s.words 1 0 in
@@ -231,7 +230,7 @@ may_hit len slots id me kind w is_live may e s k homes there small =
     let Q : ℕ → Type 0 = λ p. IsOver len after p in
     subst P (sym same) (
       with_last-some (Hit kind) v.own g.0,
-      subst Q (sym (last_position-with_last (Hit kind) v.own)) (over_falls len after k.least _ (omega arith) g.1),
+      subst Q (sym (law (Hit kind) v.own)) (over_falls len after k.least _ (omega arith) g.1),
     )) in (
       struck (min n w) new v,
       stays,
@@ -241,9 +240,9 @@ may_hit len slots id me kind w is_live may e s k homes there small =
       (refl, refl, omega arith),
     )
 
-pub may_leave : (len slots id : ℕ) (me : Me ℕ View) (done : Settle) → me.0.spent ≡ false → MayLeave len me.0.read done me.0.own
+pub may_leave : MarksMoveNothing → (len slots id : ℕ) (me : Me ℕ View) (done : Settle) → me.0.spent ≡ false → MayLeave len me.0.read done me.0.own
     → Allows (Kept len) slots id me 1 (λ n. n) (λ n after. (after.0 ≡ gone (settled done me.0.own) me.0) × (after.1 ≡ me.1))
-may_leave len slots id me done is_live may s k homes there small =
+may_leave law len slots id me done is_live may s k homes there small =
     let v = me.0 in
     let f = k.each_fits id v there is_live in
     let n = get_or s.words 1 0 in
@@ -252,7 +251,7 @@ may_leave len slots id me done is_live may s k homes there small =
     let may_now : MaySettle len k.least done v.own = settle_falls len k.least v.read done v.own low may.0 in
     let Q : ℕ → Type 0 = λ p. IsOver len k.least p in
     let over : (settled done v.own ≢ []) × IsOver len k.least (last_position (settled done v.own)) =
-    (settled-some done v.own may.1, subst Q (sym (last_position-settled done v.own)) (over_falls len k.least v.read _ low may.2)) in (
+    (settled-some done v.own may.1, subst Q (sym (last_position-settled law done v.own)) (over_falls len k.least v.read _ low may.2)) in (
       gone (settled done v.own) v,
       stays,
       tt,
@@ -262,15 +261,9 @@ may_leave len slots id me done is_live may s k homes there small =
       (refl, refl),
     )
 
-pub last_position-hit : (w : ℕ) (l : Row) → last_position (hit_list w l) ≡ last_position l
-last_position-hit w l = last_position-with_last (Hit (kind_of (w % 4))) l
-
-append-some : (l : Row) (e : Entry) → l ++ e ∷ [] ≢ []
-append-some [] e = λ (h : e ∷ [] ≡ []). cc
-append-some (x ∷ xs) e = λ (h : x ∷ (xs ++ e ∷ []) ≡ []). cc
+pub last_position-hit : MarksMoveNothing → (w : ℕ) (l : Row) → last_position (hit_list w l) ≡ last_position l
+last_position-hit law w l = law (Hit (kind_of (w % 4))) l
 
 -- the last entry of a list after a claim is the claimed position, open
-pub claimed-last : (n : ℕ) (done : Settle) (l : Row) → IsLast (claimed n done l) (record { position = n; mark = Open })
-claimed-last n done l =
-    let e : Entry = record { position = n; mark = Open } in
-    (append-some (settled done l) e, last_position-append (settled done l) e, last_mark-append (settled done l) e)
+pub claimed-last : ANewEntryIsLast → (n : ℕ) (done : Settle) (l : Row) → IsLast (claimed n done l) (record { position = n; mark = Open })
+claimed-last law n done l = law (settled done l) (record { position = n; mark = Open })

@@ -12,7 +12,8 @@ use crate::plays::{
 use crate::view::View;
 use atomic_table::{Seat, Table};
 use cr_core::{
-    First, HitKind, Mark, NoMemory, Settle, few_are_tried, hit_of, the_least_hit_is_first, word_of,
+    First, HitKind, Mark, NoMemory, Settle, a_new_entry_is_last, few_are_tried, hit_of,
+    marks_move_nothing, the_least_hit_is_first, word_of,
 };
 use std::alloc::Global;
 
@@ -69,6 +70,7 @@ impl Claims {
         ensures last { IsLast (view_of pass.new).own (record { position = result; mark = Mark.Open }) }
         ensures rises { RisesAbove result (view_of pass.old).own }
     {
+        a_new_entry_is_last();
         let position = self
             .table
             .shared
@@ -118,6 +120,7 @@ impl Claims {
         ensures falls { (view_of pass.new).read ≤ (view_of pass.old).read }
         ensures own { (view_of pass.new).read ≤ word (last_position (view_of pass.old).own) kind }
     {
+        marks_move_nothing();
         let hit = word_of(pass.last, kind);
         self.table
             .shared
@@ -130,6 +133,7 @@ impl Claims {
         ensures stays { IsOf self.now pass.new }
         ensures view { view_of pass.new ≡ gone (settled D.done (view_of pass.old).own) (view_of pass.old) }
     {
+        marks_move_nothing();
         self.table.shared.load::<Leave<D>>(&mut pass.seat, 1);
     }
 

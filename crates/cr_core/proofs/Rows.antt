@@ -4,7 +4,7 @@ use Rattle.cr_core.specs.declared.marks.HitKind.TheVariants.{Yes, Failed, Starve
 use Rattle.cr_core.specs.declared.marks.Mark.{Mark}
 use Rattle.cr_core.specs.declared.marks.Mark.TheVariants.{Open, No, Hit, Skipped}
 use Rattle.cr_core.specs.declared.marks.Entry.{Entry}
-use Rattle.cr_core.specs.Row.{with_any_mark, Row, mark_no, apart, placed, marked, disorder, early, past, last_position, last_mark, with_last}
+use Rattle.cr_core.specs.Row.{IsLast, with_any_mark, Row, mark_no, apart, placed, marked, disorder, early, past, last_position, last_mark, with_last}
 
 pub placed-append : (p : ℕ) (a b : Row) → placed p (a ++ b) ≡ placed p a + placed p b
 placed-append p [] b = omega arith
@@ -65,6 +65,13 @@ pub last_mark-append : (l : Row) (n : Entry) → last_mark (l ++ n ∷ []) ≡ n
 last_mark-append [] n = refl
 last_mark-append (e ∷ []) n = refl
 last_mark-append (e ∷ f ∷ es) n = last_mark-append (f ∷ es) n
+
+append-some : (l : Row) (n : Entry) → l ++ n ∷ [] ≢ []
+append-some [] n = λ (h : n ∷ [] ≡ []). cc
+append-some (e ∷ es) n = λ (h : e ∷ (es ++ n ∷ []) ≡ []). cc
+
+pub append-is_last : (l : Row) (n : Entry) → IsLast (l ++ n ∷ []) n
+append-is_last l n = (append-some l n, last_position-append l n, last_mark-append l n)
 
 pub disorder-append : (low : ℕ) (e : Entry) (es : Row) (n : Entry)
     → disorder low ((e ∷ es) ++ n ∷ [])

@@ -1,9 +1,10 @@
 -- What soundness comes to.
-use Rattle.std.specs.Prelude.{◌≡◌, ◌≢◌, ℕ, ◌+◌, ◌<◌, ◌≤◌, ◌↔◌, List, [], ◌∷◌, Some, slice_get, slice_index_or}
+use Rattle.std.specs.Prelude.{◌≡◌, ◌≢◌, ℕ, ◌+◌, ◌<◌, ◌≤◌, ◌↔◌, List, [], ◌∷◌, ◌++◌, Some, slice_get, slice_index_or}
 use Rattle.cr_core.specs.declared.marks.Mark.{Mark}
 use Rattle.cr_core.specs.declared.marks.Mark.TheVariants.{Open}
 use Rattle.cr_core.specs.declared.events.Event.{Event}
-use Rattle.cr_core.specs.Row.{Row, below, placed, marked, with_any_mark, under, early, past}
+use Rattle.cr_core.specs.declared.marks.Entry.{Entry}
+use Rattle.cr_core.specs.Row.{Row, IsLast, below, last_position, placed, marked, with_any_mark, with_last, under, early, past}
 use Rattle.cr_core.specs.Sound.{total, IsSound}
 use Rattle.cr_core.specs.State.{State, start, in_lists, IsSoundState, IsFinished, IsFirst, first_of}
 use Rattle.cr_core.specs.Machine.{Runs}
@@ -52,3 +53,11 @@ FewAreTried = (len next least : ℕ) (lists : List Row) → IsSound len next lea
 abbrev pub TheBoundFollows : Type 0
 TheBoundFollows = (len next : ℕ) (lists : List Row) → ((p : ℕ) → total (placed p) lists ≡ below p next) → total (early len) lists ≡ 0
     → next ≤ len + total (past len) lists
+
+-- a new entry is the last one of its list
+abbrev pub ANewEntryIsLast : Type 0
+ANewEntryIsLast = (l : Row) (e : Entry) → IsLast (l ++ e ∷ []) e
+
+-- where the last entry gets a mark, it keeps its position
+abbrev pub MarksMoveNothing : Type 0
+MarksMoveNothing = (m : Mark) (l : Row) → last_position (with_last m l) ≡ last_position l

@@ -1,4 +1,4 @@
-ghost use Rattle.cr_core.specs.Laws.{ARunHasOneEnd, CountsAreEntries, EachEntryHasOneMark, EachListIsInOrder, FewAreTried, OrderedCommit, TheBoundFollows, TheLeastHitIsFirst};
+ghost use Rattle.cr_core.specs.Laws.{ANewEntryIsLast, ARunHasOneEnd, CountsAreEntries, EachEntryHasOneMark, EachListIsInOrder, FewAreTried, MarksMoveNothing, OrderedCommit, TheBoundFollows, TheLeastHitIsFirst};
 
 /// A position is counted under a mark exactly where an entry of some worker's list has that position and that mark.
 pub fn counts_are_entries()
@@ -39,4 +39,14 @@ pub fn few_are_tried()
 /// The bound on `next` follows from the facts of soundness before it.
 pub fn the_bound_follows()
     ensures { TheBoundFollows }
+{}
+
+/// A new entry is the last one of its list.
+pub fn a_new_entry_is_last()
+    ensures { ANewEntryIsLast }
+{}
+
+/// Where the last entry gets a mark, it keeps its position.
+pub fn marks_move_nothing()
+    ensures { MarksMoveNothing }
 {}

@@ -15,8 +15,9 @@ mod settling;
 
 pub use events::{Event, First, Settle};
 pub use laws::{
-    a_run_has_one_end, counts_are_entries, each_entry_has_one_mark, each_list_is_in_order,
-    few_are_tried, ordered_commit, the_bound_follows, the_least_hit_is_first,
+    a_new_entry_is_last, a_run_has_one_end, counts_are_entries, each_entry_has_one_mark,
+    each_list_is_in_order, few_are_tried, marks_move_nothing, ordered_commit, the_bound_follows,
+    the_least_hit_is_first,
 };
 pub use machine::{Core, NoMemory, hit_of, run, word_of};
 pub use marks::{Entry, HitKind, Mark};

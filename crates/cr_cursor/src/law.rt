@@ -34,11 +34,15 @@ pub enum Reason {
 pub trait Law {
     ghost lawful: { Self → List ℕ → Type 0 };
 
+    /// Why a file is unlawful.
+    ghost reasons: { Self → List ℕ → Reason → Type 0 };
+
     /// Rules on a file, and gives up where the stop says so.
     fn rule<S: Stop>(&self, alloc: Global, file: &[u8], stop: &mut S) -> Ruling
         requires { S.raised stop.old ≡ false }
         ensures lawful { result ≡ Ruling.Lawful → lawful self.now file.now }
         ensures unlawful { (reason : Reason) → result ≡ Ruling.Unlawful reason → lawful self.now file.now → ⊥ }
+        ensures reason { (reason : Reason) → result ≡ Ruling.Unlawful reason → reasons self.now file.now reason }
         ensures stopped { result ≡ Ruling.Stopped → S.raised stop.new ≡ true }
         ensures held { S.held stop.new ≡ S.held stop.old };
 }
@@ -52,14 +56,15 @@ impl Law for TokenLaw {
 
     ghost lawful = { λ _ file. IsTokenized file };
 
+    ghost reasons = { λ _ file reason. IsTokenReason file reason };
+
     fn rule<S: Stop>(&self, alloc: Global, file: &[u8], _stop: &mut S) -> Ruling
         ensures lawful { result ≡ Ruling.Lawful → IsTokenized file.now }
         ensures unlawful { (reason : Reason) → result ≡ Ruling.Unlawful reason → IsTokenized file.now → ⊥ }
-        ensures stopped { result ≡ Ruling.Stopped → S.raised _stop.new ≡ true }
-        ensures held { S.held _stop.new ≡ S.held _stop.old }
-
         // It is the number and the line of the first fault.
         ensures reason { (reason : Reason) → result ≡ Ruling.Unlawful reason → IsTokenReason file.now reason }
+        ensures stopped { result ≡ Ruling.Stopped → S.raised _stop.new ≡ true }
+        ensures held { S.held _stop.new ≡ S.held _stop.old }
         ensures unstopped { result ≢ Ruling.Stopped }
     {
         let fault = match read(alloc, file) {

@@ -1,5 +1,5 @@
 -- What the machine's run of a unit says of the grammar, and what the nodes of a whole unit keep.
-use Rattle.std.proofs.Common.{◌≡◌, ℕ, List, [], ◌∷◌, ◌++◌, refl, sym, ap, subst}
+use Rattle.std.proofs.Common.{◌≡◌, ℕ, List, [], ◌∷◌, ◌++◌, refl, sym, ap, subst, ◌∙◌}
 use Rattle.cr_syntax.specs.declared.node.Node.{Node}
 use Rattle.cr_syntax.specs.Words.{Lexeme}
 use Rattle.cr_syntax.specs.Scopes.{Scopes}
@@ -8,7 +8,7 @@ use Rattle.cr_syntax.specs.Units as u
 use Rattle.cr_syntax.specs.Units.{file_scope}
 use Rattle.cr_machine.specs.Machine.{Prog, Reply, Done, Failed, nowhere, unit}
 use Rattle.cr_machine.specs.MachineBody.{body}
-use Rattle.cr_machine.proofs.MachineUnit.{is_parsed}
+use Rattle.cr_machine.proofs.MachineUnit.{is_parsed, only_refusal}
 use Rattle.cr_machine.proofs.MachineUnits.{unit_is_unit}
 use Rattle.cr_machine.proofs.MachineUnitComplete.{one_unit}
 use Rattle.cr_exprs.specs.declared.fault.ParseFault.{ParseFault}
@@ -17,7 +17,7 @@ use Rattle.cr_exprs.specs.Loose.{AreKept, Replaces}
 use Rattle.cr_exprs.specs.Answers.{RunsTo}
 use Rattle.cr_exprs.proofs.Loose.{kept_none}
 use Rattle.cr_decls.specs.Answers.{FailsSo, Declines}
-use Rattle.cr_decls.specs.Unit.{IsOnlyTree, IsRefused}
+use Rattle.cr_decls.specs.Unit.{IsOnlyTree, IsRefused, IsOnlyRefusal}
 
 -- what is read is the only tree
 pub only_read : {ts : List Lexeme} {e : Scopes} {j : ℕ} {t : Trees} → RunsTo ts (body (unit nowhere 0)) file_scope 0 (Done t e j) → IsOnlyTree ts t
@@ -42,11 +42,18 @@ first_read Ended h = first_so (h.run u.Ended refl)
 first_read (TooDeep k) h = first_so (h.run (u.TooDeep k) refl)
 first_read (OutsideSubset k row) h = first_so (h.run (u.OutsideSubset k row) refl)
 
+-- and no other is
+first_only : {ts : List Lexeme} (f : ParseFault) → Declines ts (body (unit nowhere 0)) file_scope 0 f → IsOnlyRefusal ts f
+first_only {ts} f h x y q o = let r = h.run x q in only_refusal ts r.run o ∙ r.is
+
 pub tree_of : {ts us : List Lexeme} {c e : Scopes} {j : ℕ} {t v : Trees} → ts ≡ us → c ≡ file_scope → t ≡ v → RunsTo ts (body (unit nowhere 0)) c 0 (Done t e j) → u.IsTreeOf us v
 tree_of {e = e} {j = j} q w x h = tree_read (run_as q w (ap (λ z. Done z e j) x) h)
 
 pub first_of : {ts us : List Lexeme} {c : Scopes} {f : ParseFault} → ts ≡ us → c ≡ file_scope → Declines ts (body (unit nowhere 0)) c 0 f → IsRefused us f
 first_of {ts} {us} {c} {f} q w h = first_read f (subst (λ x. Declines us (body (unit nowhere 0)) x 0 f) w (subst (λ x. Declines x (body (unit nowhere 0)) c 0 f) q h))
+
+pub only_first_of : {ts us : List Lexeme} {c : Scopes} {f : ParseFault} → ts ≡ us → c ≡ file_scope → Declines ts (body (unit nowhere 0)) c 0 f → IsOnlyRefusal us f
+only_first_of {ts} {us} {c} {f} q w h = first_only f (subst (λ x. Declines us (body (unit nowhere 0)) x 0 f) w (subst (λ x. Declines x (body (unit nowhere 0)) c 0 f) q h))
 
 pub only_of : {ts us : List Lexeme} {c e : Scopes} {j : ℕ} {t v : Trees} → ts ≡ us → c ≡ file_scope → t ≡ v → RunsTo ts (body (unit nowhere 0)) c 0 (Done t e j) → IsOnlyTree us v
 only_of {e = e} {j = j} q w x h = only_read (run_as q w (ap (λ z. Done z e j) x) h)

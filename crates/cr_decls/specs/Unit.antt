@@ -1,10 +1,11 @@
 -- What parsing a file answers.
-use Rattle.std.specs.Prelude.{◌≡◌, List}
+use Rattle.std.specs.Prelude.{◌≡◌, List, Some}
 use Rattle.cr_syntax.specs.Words.{Lexeme}
 use Rattle.cr_syntax.specs.Trees.{Trees}
 use Rattle.cr_syntax.specs.Spells.{AtMost}
-use Rattle.cr_syntax.specs.Units.{IsUnit, most_levels, FirstRefusal}
+use Rattle.cr_syntax.specs.Units.{IsUnit, most_levels, Refusal, FirstRefusal}
 use Rattle.cr_syntax.specs.Units as refusal
+use Rattle.cr_decls.specs.Answers.{refusal_in}
 use Rattle.cr_exprs.specs.declared.fault.ParseFault.{ParseFault}
 use Rattle.cr_exprs.specs.declared.fault.ParseFault.TheVariants.{NoMemory, Unexpected, Ended, TooDeep, OutsideSubset}
 
@@ -19,3 +20,7 @@ IsRefused ts (Unexpected k) = FirstRefusal ts (refusal.Unexpected k)
 IsRefused ts Ended = FirstRefusal ts refusal.Ended
 IsRefused ts (TooDeep k) = FirstRefusal ts (refusal.TooDeep k)
 IsRefused ts (OutsideSubset k row) = FirstRefusal ts (refusal.OutsideSubset k row)
+
+-- The tokens have no other first refusal than the fault; want of memory says nothing.
+abbrev pub IsOnlyRefusal : List Lexeme → ParseFault → Type 0
+IsOnlyRefusal ts fault = (x y : Refusal) → refusal_in fault ≡ Some x → FirstRefusal ts y → y ≡ x

@@ -2,7 +2,7 @@ ghost use Rattle.std.specs.Prelude.{◌≡◌, ◌<◌, ◌^◌, IfOk, IfErr, le
 ghost use Rattle.cr_syntax.specs.Words.{AreSpans, lexemes_of};
 ghost use Rattle.cr_syntax.specs.Kept.{row_in};
 ghost use Rattle.cr_syntax.specs.Units.{IsTreeOf};
-ghost use Rattle.cr_decls.specs.Unit.{IsOnlyTree, IsRefused};
+ghost use Rattle.cr_decls.specs.Unit.{IsOnlyTree, IsRefused, IsOnlyRefusal};
 
 use crate::externals::unit;
 use cr_exprs::{ParseFault, Source, words_of};
@@ -19,6 +19,7 @@ pub fn parse(alloc: Global, file: &[u8], tokens: &Tokens) -> Result<Unit, ParseF
     ensures tree { IfOk result (λ u. IsTreeOf (lexemes_of file.now tokens.now.list.items) (row_in u.nodes u.items)) }
     ensures only { IfOk result (λ u. IsOnlyTree (lexemes_of file.now tokens.now.list.items) (row_in u.nodes u.items)) }
     ensures refused { IfErr result (IsRefused (lexemes_of file.now tokens.now.list.items)) }
+    ensures first { IfErr result (IsOnlyRefusal (lexemes_of file.now tokens.now.list.items)) }
     ensures tokens { IfOk result (λ u. u.tokens.list.items ≡ tokens.now.list.items) }
 {
     let list = tokens.list.as_slice();

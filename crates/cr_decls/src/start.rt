@@ -3,12 +3,13 @@
 ghost use Rattle.std.specs.Prelude.{◌≡◌, ◌≤◌, ◌<◌, IsTrue, true, false, OnOk, OnErr, IfErr, length};
 ghost use Rattle.cr_machine.specs.Machine.{has_word, passes, barred};
 ghost use Rattle.cr_syntax.specs.Scopes.{Scopes};
-ghost use Rattle.cr_machine.specs.MachineBody.{is_designator, is_label, is_statement_start, is_any, label_start, statement_start};
+ghost use Rattle.cr_machine.specs.MachineBody.{is_designator, is_label, is_any, label_start};
+ghost use Rattle.cr_syntax.specs.Units.{begins_statement};
 ghost use Rattle.cr_exprs.specs.Source.{IsReadable, text_of};
 ghost use Rattle.cr_exprs.specs.Answers.{IsRefusal};
 
-use cr_exprs::{ParseFault, Source, barred, here, is_ordinary, stands};
-use cr_syntax::{OpenScopes, Word};
+use cr_exprs::{ParseFault, Source, barred, here, stands};
+use cr_syntax::Word;
 
 /// Whether some token stands here.
 pub(crate) fn stands_any(source: &Source, at: usize) -> bool
@@ -63,19 +64,14 @@ pub(crate) fn bar_body_label(source: &Source, at: usize, depth: usize) -> Result
 }
 
 /// Refuses the first word of another statement than a block or a label, where so many levels are open.
-pub(crate) fn bar_statement(
-    source: &Source,
-    at: usize,
-    depth: usize,
-    scopes: &OpenScopes,
-) -> Result<(), ParseFault>
+pub(crate) fn bar_statement(source: &Source, at: usize, depth: usize) -> Result<(), ParseFault>
     requires readable { IsReadable source.now }
     requires at { at ≤ length source.now.tokens.now }
-    ensures ok { OnOk result (passes (text_of source.now) scopes.now at statement_start ≡ false) }
-    ensures stands { OnErr result (passes (text_of source.now) scopes.now at statement_start ≡ true) }
+    ensures ok { OnOk result (has_word (text_of source.now) at begins_statement ≡ false) }
+    ensures stands { OnErr result (has_word (text_of source.now) at begins_statement ≡ true) }
     ensures err { IfErr result (λ fault. IsRefusal (text_of source.now) fault (barred (text_of source.now) 7 at depth) at) }
 {
-    if here(source, at).is_some_and(is_statement_start) || is_ordinary(source, at, scopes) {
+    if here(source, at).is_some_and(begins_statement) {
         return Err(barred(source, at, 7, depth));
     }
     Ok(())
@@ -99,8 +95,8 @@ fn is_label(word: Word) -> bool
     }
 }
 
-fn is_statement_start(word: Word) -> bool
-    ensures { result ≡ is_statement_start word }
+fn begins_statement(word: Word) -> bool
+    ensures { result ≡ begins_statement word }
 {
     match word {
         Word::Semicolon
@@ -121,6 +117,7 @@ fn is_statement_start(word: Word) -> bool
         | Word::Tilde
         | Word::Bang
         | Word::Sizeof
+        | Word::Identifier
         | Word::Integer
         | Word::Character
         | Word::Text

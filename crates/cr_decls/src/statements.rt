@@ -273,7 +273,7 @@ fn switch_rest(
 {
     let test = controlling(alloc, source, start + 1, depth, scopes, nodes)?;
     bar_body_label(source, test.next, depth + 1)?;
-    bar_statement(source, test.next, depth + 1, scopes)?;
+    bar_statement(source, test.next, depth + 1)?;
     begin(alloc, scopes)?;
     let inner = compound(
         alloc,

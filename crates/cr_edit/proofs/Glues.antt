@@ -5,6 +5,7 @@ use Rattle.std.proofs.Math.Bool.{and-false}
 use Rattle.std.proofs.lemmas.List.{append_assoc, append-nil, length-append}
 use Rattle.std.specs.Prelude.{nat_le, slice_get, slice_range}
 use Rattle.cr_edit.specs.declared.change.Change.{Change}
+use Rattle.cr_edit.specs.declared.form.Kept.{Kept}
 use Rattle.cr_edit.specs.Edit.{pieces, text_bytes}
 use Rattle.cr_edit.specs.Glue.{first_byte, glued, glued_all, is_word_byte, last_byte, seam}
 
@@ -62,7 +63,7 @@ associative x (b ∷ bs) z =
     ∙ regroup (x ++ seam x (b ∷ bs)) (b ∷ bs) (seam (b ∷ bs) z) z
 
 -- Where there is no room for a change and its text, there is none for what comes behind them either.
-pub full_there : (file kept x : List ℕ) (at : ℕ) (change : Change) (most : ℕ) → nat_le at change.start ≡ true
+pub full_there : (file : List ℕ) (kept : Kept) (x : List ℕ) (at : ℕ) (change : Change) (most : ℕ) → nat_le at change.start ≡ true
     → most < length (glued (glued x (slice_range file at change.start)) (text_bytes file kept change.text))
     → (changes : List Change) → most < length (glued_all x (pieces file kept at (change ∷ changes)))
 full_there file kept x at change most is less changes =

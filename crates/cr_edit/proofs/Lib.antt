@@ -1,2 +1,3 @@
 pub mod Glues
+pub mod Fills
 pub mod Spans

@@ -1,7 +1,12 @@
 -- Laws of edits.
-use Rattle.std.specs.Prelude.{ℕ, ◌≡◌, ◌≤◌, ◌<◌, false, List, [], ◌∷◌, ◌++◌, length, take, slice_range}
+use Rattle.std.specs.Prelude.{ℕ, ◌≡◌, ◌≤◌, ◌<◌, false, List, [], ◌∷◌, ◌++◌, length, map, take, slice_range}
+use Rattle.cr_tokens.specs.declared.token.Token.{Token}
 use Rattle.cr_edit.specs.declared.change.Change.{Change}
 use Rattle.cr_edit.specs.declared.change.Text.TheVariants as text
+use Rattle.cr_edit.specs.declared.form.Bit.{Bit}
+use Rattle.cr_edit.specs.declared.form.Kept.{Kept}
+use Rattle.cr_edit.specs.declared.form.Run.{Run}
+use Rattle.cr_edit.specs.Forms.{form_words, without_hole}
 use Rattle.cr_edit.specs.Glue.{glued, is_word_byte, last_byte}
 use Rattle.cr_edit.specs.Edit.{edited}
 
@@ -11,15 +16,20 @@ GluingIsAssociative = (x y z : List ℕ) → glued (glued x y) z ≡ glued x (gl
 
 -- an edit of no change gives the file
 abbrev pub NothingIsTheFile : Type 0
-NothingIsTheFile = (file kept : List ℕ) → edited file kept [] ≡ file
+NothingIsTheFile = (file : List ℕ) (kept : Kept) → edited file kept [] ≡ file
 
 -- a range that begins where no word byte stands before it goes without a space: so the lines of a file do
 abbrev pub LinesNeedNoSeam : Type 0
-LinesNeedNoSeam = (file kept : List ℕ) (from to : ℕ) → is_word_byte (last_byte (take from file)) ≡ false
+LinesNeedNoSeam = (file : List ℕ) (kept : Kept) (from to : ℕ) → is_word_byte (last_byte (take from file)) ≡ false
     → edited file kept (record { start = from; end = to; text = text.Nothing } ∷ []) ≡ take from file ++ slice_range file to (length file)
 
 -- a change within an earlier one makes no difference
 abbrev pub NestedGoWithTheOuter : Type 0
-NestedGoWithTheOuter = (file kept : List ℕ) (outer inner : Change) (rest : List Change)
+NestedGoWithTheOuter = (file : List ℕ) (kept : Kept) (outer inner : Change) (rest : List Change)
     → inner.start < outer.end → inner.end ≤ outer.end
     → edited file kept (outer ∷ inner ∷ rest) ≡ edited file kept (outer ∷ rest)
+
+-- to fill a hole is to have the tokens of its run in its place
+abbrev pub HolesAreTheirRuns : Type 0
+HolesAreTheirRuns = (file : List ℕ) (tokens : List Token) (runs : List Run) (form : List Bit)
+    → form_words file tokens runs form ≡ form_words file tokens [] (map (without_hole runs) form)

@@ -2,6 +2,7 @@
 use Rattle.std.specs.Prelude.{ℕ, ◌≤◌, List, [], slice_index_or, slice_range}
 use Rattle.cr_edit.specs.declared.change.Change.{Change}
 use Rattle.cr_edit.specs.declared.edits.Span.{Span}
+use Rattle.cr_edit.specs.declared.form.Kept.{Kept}
 use Rattle.cr_edit.specs.Edit.{edited}
 
 -- the changes of one edit among all
@@ -12,10 +13,10 @@ cut changes span = slice_range changes span.from span.to
 abbrev pub LiesIn : ℕ → Span → Type 0
 LiesIn count span = (span.from ≤ span.to) × (span.to ≤ count)
 
--- edits by levels, and the bytes that their texts keep
+-- edits by levels, and what their texts keep
 pub record Offering : Type 0 where
   pub levels : List (List (List Change))
-  pub kept : List ℕ
+  pub kept : Kept
 
 -- the edits of a level; one that isn't there has none
 abbrev pub level_of : Offering → ℕ → List (List Change)

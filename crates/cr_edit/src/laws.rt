@@ -1,5 +1,5 @@
 // Laws of edits: each is the contract of a function that does nothing.
-ghost use Rattle.cr_edit.specs.Laws.{GluingIsAssociative, LinesNeedNoSeam, NestedGoWithTheOuter, NothingIsTheFile};
+ghost use Rattle.cr_edit.specs.Laws.{GluingIsAssociative, HolesAreTheirRuns, LinesNeedNoSeam, NestedGoWithTheOuter, NothingIsTheFile};
 
 /// Where texts are put together first makes no difference.
 pub fn gluing_is_associative()
@@ -19,4 +19,9 @@ pub fn lines_need_no_seam()
 /// A change that lies within an earlier one of its edit makes no difference.
 pub fn nested_changes_go_with_the_outer_one()
     ensures { NestedGoWithTheOuter }
+{}
+
+/// A form whose holes are filled is the form with the runs in their places.
+pub fn holes_are_their_runs()
+    ensures { HolesAreTheirRuns }
 {}

@@ -2,15 +2,15 @@
 ghost use Rattle.std.specs.Prelude.{◌≡◌, ◌<◌, ◌≤◌, [], length, slice_index_or, vec_capacity, OnOk, OnErr};
 ghost use Rattle.cr_edit.specs.Menu.{entry_of, level_of};
 
-use crate::{Change, Edits, apply};
+use crate::{Change, Edits, Kept, apply};
 use std::alloc::AllocError;
 use std::marker::Model;
 
-/// What a pass offers for one file: its edits by levels, level 0 first, and the bytes that are no part of the file which their texts name.
+/// What a pass offers for one file: its edits by levels, level 0 first, and what their texts name beside the file's bytes.
 #[derive(Drop)]
 pub struct Menu {
     levels: Vec<Edits>,
-    kept: Vec<u8>,
+    kept: Kept,
 }
 
 impl Model for Menu {
@@ -18,13 +18,13 @@ impl Model for Menu {
 
     ghost Value = { Offering };
 
-    ghost view = { λ m. record { levels = m.levels.items; kept = m.kept.items } };
+    ghost view = { λ m. record { levels = m.levels.items; kept = m.kept } };
 }
 
 impl Menu {
-    /// The edits of each level, and the bytes that they keep.
-    pub fn new(levels: Vec<Edits>, kept: Vec<u8>) -> Menu
-        ensures { result ≡ record { levels = levels.items; kept = kept.items } }
+    /// The edits of each level, and what they keep.
+    pub fn new(levels: Vec<Edits>, kept: Kept) -> Menu
+        ensures { result ≡ record { levels = levels.items; kept = kept } }
     {
         Menu { levels, kept }
     }
@@ -54,7 +54,7 @@ pub fn variant(
     ensures empty { OnErr result (out.new.items ≡ []) }
     ensures full { OnErr result (vec_capacity out.old < length (entry_of file.now menu.now level at)) }
 {
-    apply(file, menu.kept.as_slice(), edit(menu, level, at), out)
+    apply(file, &menu.kept, edit(menu, level, at), out)
 }
 
 fn edit(menu: &Menu, level: u8, at: u64) -> &[Change]

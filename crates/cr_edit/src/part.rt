@@ -1,8 +1,8 @@
-// A range of a text that may be longer than the text.
+// A range of a list that may end behind the list.
 ghost use Rattle.std.specs.Prelude.{◌≡◌, slice_range};
 
-/// What is there of the bytes from one place to before another.
-pub fn part(text: &[u8], from: usize, to: usize) -> &[u8]
+/// What is there of the items from one place to before another.
+pub fn part<T>(text: &[T], from: usize, to: usize) -> &[T]
     ensures { result.now ≡ slice_range text.now from to }
 {
     let to = to.min(text.len());

@@ -4,16 +4,17 @@ ghost use Rattle.cr_edit.specs.Glue.{glued, glued_all};
 ghost use Rattle.cr_edit.specs.Edit.{edited, pieces, text_bytes};
 ghost use Rattle.cr_edit.specs.declared.change.Change.{Change as SpecChange};
 
+use crate::fill::put_filled;
 use crate::glue::put;
 use crate::part::part;
-use crate::{Change, Text};
+use crate::{Change, Kept, Text};
 use std::alloc::AllocError;
 
 /// Sets `out` to the file after an edit. The changes are taken in the order of the list; one that begins before the end of an earlier one
 /// goes with it. Where `out` has room for the whole text, no memory is taken and the call succeeds; after an error `out` is empty.
 pub fn apply(
     file: &[u8],
-    kept: &[u8],
+    kept: &Kept,
     changes: &[Change],
     out: &mut Vec<u8>,
 ) -> Result<(), AllocError>
@@ -29,7 +30,7 @@ pub fn apply(
     outcome
 }
 
-fn write(file: &[u8], kept: &[u8], changes: &[Change], out: &mut Vec<u8>) -> Result<(), AllocError>
+fn write(file: &[u8], kept: &Kept, changes: &[Change], out: &mut Vec<u8>) -> Result<(), AllocError>
     ensures written { OnOk result (out.new.items ≡ glued_all out.old.items (pieces file.now kept.now 0 changes.now)) }
     ensures capacity { vec_capacity out.old ≤ vec_capacity out.new }
     ensures full { OnErr result (vec_capacity out.old < length (glued_all out.old.items (pieces file.now kept.now 0 changes.now))) }
@@ -44,7 +45,7 @@ fn write(file: &[u8], kept: &[u8], changes: &[Change], out: &mut Vec<u8>) -> Res
 // Puts what stands before a change, and its text. Answers the place from which the file goes on.
 fn put_change(
     file: &[u8],
-    kept: &[u8],
+    kept: &Kept,
     at: usize,
     change: Change,
     out: &mut Vec<u8>,
@@ -58,29 +59,39 @@ fn put_change(
     if at > start {
         return Ok(at.max(end));
     }
-    put_both(out, part(file, at, start), text(file, kept, &change.text))?;
+    put_both(out, part(file, at, start), file, kept, change.text)?;
     Ok(end)
 }
 
-fn put_both(out: &mut Vec<u8>, first: &[u8], second: &[u8]) -> Result<(), AllocError>
-    ensures both { OnOk result (out.new.items ≡ glued (glued out.old.items first.now) second.now) }
+// Puts bytes, and behind them a text.
+fn put_both(
+    out: &mut Vec<u8>,
+    first: &[u8],
+    file: &[u8],
+    kept: &Kept,
+    text: Text,
+) -> Result<(), AllocError>
+    ensures both { OnOk result (out.new.items ≡ glued (glued out.old.items first.now) (text_bytes file.now kept.now text)) }
     ensures capacity { vec_capacity out.old ≤ vec_capacity out.new }
-    ensures full { OnErr result (vec_capacity out.old < length (glued (glued out.old.items first.now) second.now)) }
+    ensures full { OnErr result (vec_capacity out.old < length (glued (glued out.old.items first.now) (text_bytes file.now kept.now text))) }
 {
     put(out, first)?;
-    put(out, second)
+    put_text(out, file, kept, text)
 }
 
-fn text<'a>(file: &'a [u8], kept: &'a [u8], text: &'a Text) -> &'a [u8]
-    ensures { result.now ≡ text_bytes file.now kept.now text.now }
+fn put_text(out: &mut Vec<u8>, file: &[u8], kept: &Kept, text: Text) -> Result<(), AllocError>
+    ensures glued { OnOk result (out.new.items ≡ glued out.old.items (text_bytes file.now kept.now text)) }
+    ensures capacity { vec_capacity out.old ≤ vec_capacity out.new }
+    ensures full { OnErr result (vec_capacity out.old < length (glued out.old.items (text_bytes file.now kept.now text))) }
 {
     match text {
-        Text::Nothing => b"",
-        Text::Zero => b"0",
-        Text::One => b"1",
-        Text::Semicolon => b";",
-        Text::Void => b"void",
-        Text::Same(from, to) => part(file, *from as usize, *to as usize),
-        Text::Kept(from, to) => part(kept, *from as usize, *to as usize),
+        Text::Nothing => put(out, b""),
+        Text::Zero => put(out, b"0"),
+        Text::One => put(out, b"1"),
+        Text::Semicolon => put(out, b";"),
+        Text::Void => put(out, b"void"),
+        Text::Same(from, to) => put(out, part(file, from as usize, to as usize)),
+        Text::Kept(from, to) => put(out, part(kept.bytes.as_slice(), from as usize, to as usize)),
+        Text::Filled(first, form, runs) => put_filled(out, file, kept, first, form, runs),
     }
 }

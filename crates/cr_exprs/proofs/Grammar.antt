@@ -1,5 +1,5 @@
 -- What a run of the machine says of the grammar.
-use Rattle.std.proofs.Common.{◌≡◌, ℕ, ◌≤◌, Bool, true, false, List, [], ◌∷◌, Option, None, Some, Result, Ok, Err, length, refl, sym, subst, arith}
+use Rattle.std.proofs.Common.{◌≡◌, ℕ, ◌≤◌, true, false, List, [], ◌∷◌, Option, None, Some, Result, Ok, Err, length, refl, sym, subst, arith}
 use Rattle.std.specs.Prelude.{IfErr, IsErrAnd, if◌then◌else◌}
 use Rattle.cr_tokens.specs.declared.token.Token.{Token}
 use Rattle.cr_syntax.specs.declared.word.Word.{Word}

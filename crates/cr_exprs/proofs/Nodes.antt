@@ -6,7 +6,7 @@ use Rattle.std.proofs.lemmas.Option.{slice_get_within, slice_get_read}
 use Rattle.std.specs.Prelude.{Result, IfOk, IfNone, option_to_list}
 use Rattle.cr_syntax.specs.declared.node.Kind.{Kind}
 use Rattle.cr_syntax.specs.declared.node.Kind.TheVariants as kind
-use Rattle.cr_syntax.specs.declared.symbol.Part.{Part}
+use Rattle.cr_syntax.specs.declared.part.Part.{Part}
 use Rattle.cr_machine.specs.MachineBody.{row_kind, in_row, in_parameters}
 use Rattle.cr_exprs.specs.Tables.{is_void}
 use Rattle.cr_syntax.specs.declared.node.Node.{Node}

@@ -6,17 +6,17 @@ use Rattle.cr_syntax.specs.declared.word.Word.TheVariants as word
 use Rattle.cr_syntax.specs.declared.node.Kind.{Kind}
 use Rattle.cr_syntax.specs.declared.node.Node.{Node}
 use Rattle.cr_syntax.specs.Words.{Lexeme, word_at}
-use Rattle.cr_syntax.specs.declared.symbol.Part.{Part}
-use Rattle.cr_syntax.specs.declared.symbol.Part.TheVariants as part
-use Rattle.cr_syntax.specs.declared.symbol.Context.{Context}
+use Rattle.cr_syntax.specs.declared.part.Part.{Part}
+use Rattle.cr_syntax.specs.declared.part.Part.TheVariants as part
+use Rattle.cr_syntax.specs.declared.part.Context.{Context}
 use Rattle.cr_syntax.specs.declared.node.Kind.TheVariants as kind
 use Rattle.cr_syntax.specs.Context.{past_part, is_bare}
 use Rattle.cr_syntax.specs.declared.scopes.TypeName.{TypeName}
 use Rattle.cr_syntax.specs.Scopes.{Scopes, enter}
 use Rattle.cr_syntax.specs.Trees.{Trees, none, one, ◌&◌}
-use Rattle.cr_syntax.specs.Reads.{is_word, same_word}
+use Rattle.cr_syntax.specs.Reads.{is_word, is_qualifier, same_word}
 use Rattle.cr_machine.specs.Machine as m
-use Rattle.cr_machine.specs.Machine.{Goal, Prog, Test, Manner, opens, Reply, Done, Failed, Cause, too_deep, Allows, passes, brought, around, choose, made, drops, bring, binary, cast, texts, consts, more, member_declarators, give, call, take, peek, when, the, plain, run_give, run_take, run_pass, run_call, run_fail, run_yes, run_no, run_seen, run_here, run_look, run_set, run_bring}
+use Rattle.cr_machine.specs.Machine.{Goal, Prog, Test, Manner, opens, Reply, Done, Failed, Cause, too_deep, Allows, passes, brought, around, choose, made, drops, bring, binary, cast, texts, qualifiers, more, member_declarators, give, call, take, peek, when, the, plain, run_give, run_take, run_pass, run_call, run_fail, run_yes, run_no, run_seen, run_here, run_look, run_set, run_bring}
 use Rattle.cr_machine.specs.MachineBody.{body, tighter, may_omit, declarator_start, is_declarator, pointer_end}
 use Rattle.cr_exprs.specs.declared.fault.ParseFault.{ParseFault}
 use Rattle.cr_exprs.specs.declared.fault.ParseFault.TheVariants.{NoMemory, TooDeep}
@@ -29,16 +29,19 @@ texts_to : (ts : List Lexeme) (d : ℕ) (c : Scopes) (n i j : ℕ) → i + n ≡
 texts_to ts d c zero i j e f o = let same : j ≡ i = omega arith in run_pass (subst (λ x. is_word ts x word.Text ≡ false) same o) (subst (λ x. RunsTo ts (give none) c i (Done none c x)) (sym same) run_give)
 texts_to ts d c (suc n) i j e f o = run_take (f i (omega arith) (omega arith)) tt (run_call (texts_to ts d c n (i + 1) j (omega arith) (λ k a b. f k (omega arith) b) o) run_give)
 
-consts_to : (ts : List Lexeme) (d : ℕ) (c : Scopes) (n i j : ℕ) → i + n ≡ j → ((k : ℕ) → i ≤ k → k < j → is_word ts k word.Const ≡ true) → is_word ts j word.Const ≡ false → RunsTo ts (body (consts d)) c i (Done none c j)
-consts_to ts d c zero i j e f o = let same : j ≡ i = omega arith in run_pass (subst (λ x. is_word ts x word.Const ≡ false) same o) (subst (λ x. RunsTo ts (give none) c i (Done none c x)) (sym same) run_give)
-consts_to ts d c (suc n) i j e f o = run_take (f i (omega arith) (omega arith)) tt (run_call (consts_to ts d c n (i + 1) j (omega arith) (λ k a b. f k (omega arith) b) o) run_give)
+qualifiers_to : (ts : List Lexeme) (d : ℕ) (c : Scopes) (n i j : ℕ) → i + n ≡ j → ((k : ℕ) → i ≤ k → k < j → is_qualifier ts k ≡ true) → is_qualifier ts j ≡ false → RunsTo ts (body (qualifiers d)) c i (Done none c j)
+qualifiers_to ts d c zero i j e f o = let same : j ≡ i = omega arith in run_pass (subst (λ x. is_qualifier ts x ≡ false) same o) (subst (λ x. RunsTo ts (give none) c i (Done none c x)) (sym same) run_give)
+qualifiers_to ts d c (suc n) i j e f o = run_take (f i (omega arith) (omega arith)) tt (run_call (qualifiers_to ts d c n (i + 1) j (omega arith) (λ k a b. f k (omega arith) b) o) run_give)
 
--- a run of string literals, and one of `const`
+-- a run of string literals, and one of type qualifiers
 pub read_texts : (ts : List Lexeme) (i j : ℕ) → i ≤ j → ((k : ℕ) → i ≤ k → k < j → is_word ts k word.Text ≡ true) → is_word ts j word.Text ≡ false → (d : ℕ) (c : Scopes) → Gives ts (body (texts d)) c i none c j
 read_texts ts i j le f o d c = record { run = texts_to ts d c (j - i) i j (omega arith) f o }
 
-pub read_consts : (ts : List Lexeme) (i j : ℕ) → i ≤ j → ((k : ℕ) → i ≤ k → k < j → is_word ts k word.Const ≡ true) → is_word ts j word.Const ≡ false → (d : ℕ) (c : Scopes) → Gives ts (body (consts d)) c i none c j
-read_consts ts i j le f o d c = record { run = consts_to ts d c (j - i) i j (omega arith) f o }
+pub read_qualifiers : (ts : List Lexeme) (i j : ℕ) → i ≤ j → ((k : ℕ) → i ≤ k → k < j → is_qualifier ts k ≡ true) → is_qualifier ts j ≡ false → (d : ℕ) (c : Scopes) → Gives ts (body (qualifiers d)) c i none c j
+read_qualifiers ts i j le f o d c = record { run = qualifiers_to ts d c (j - i) i j (omega arith) f o }
+
+pub qualifiers_more : (ts : List Lexeme) (i j : ℕ) → ((k : ℕ) → i ≤ k → k < j → is_qualifier ts k ≡ true) → is_qualifier ts j ≡ true → (k : ℕ) → i ≤ k → k < j + 1 → is_qualifier ts k ≡ true
+qualifiers_more ts i j f h k a b = below_more (λ x. i ≤ x → is_qualifier ts x ≡ true) j (λ x lt le. f x le lt) (λ _. h) k b a
 
 pub span_more : (ts : List Lexeme) (i j : ℕ) (w : Word) → ((k : ℕ) → i ≤ k → k < j → is_word ts k w ≡ true) → is_word ts j w ≡ true → (k : ℕ) → i ≤ k → k < j + 1 → is_word ts k w ≡ true
 span_more ts i j w f h k a b = below_more (λ x. i ≤ x → is_word ts x w ≡ true) j (λ x lt le. f x le lt) (λ _. h) k b a

@@ -20,7 +20,7 @@ use crate::fault::ParseFault;
 use crate::found::{Found, Listed, Optional};
 use crate::scopes::{enter_parameter, give_back, kept, taken};
 use crate::source::{
-    Source, consts, expect, is_declared, refused, room, stands, starts_abstract, starts_declarator,
+    Source, qualifiers, expect, is_declared, refused, room, stands, starts_abstract, starts_declarator,
 };
 use crate::specifiers::row;
 use cr_rows::Row;
@@ -124,7 +124,7 @@ fn pointer(
     ensures placed { IfOk result (λ x. IsPlaced (length source.now.tokens.now) start nodes.old nodes.new [] x) }
 {
     room(start, depth)?;
-    let next = consts(source, start + 1);
+    let next = qualifiers(source, start + 1);
     if ends_pointer(source, wanted, next) {
         return leaf(alloc, nodes, Kind::AbstractPointer, start, next);
     }

@@ -1,13 +1,13 @@
 ghost use Rattle.std.specs.Prelude.{◌≡◌, ℕ, ◌≤◌, ◌<◌, ◌^◌, IsTrue, IfOk, IfErr, OnOk, OnErr, true, false, length};
 ghost use Rattle.cr_syntax.specs.Words.{AreSpans, spelling_at, word_at};
-ghost use Rattle.cr_syntax.specs.Reads.{is_word};
+ghost use Rattle.cr_syntax.specs.Reads.{is_word, is_qualifier};
 ghost use Rattle.cr_syntax.specs.Units.{is_unused};
 ghost use Rattle.cr_machine.specs.Machine.{has_word, passes, has, or, ordinary, type_identifier, declared, verdict, barred, overflows, too_deep};
 ghost use Rattle.cr_machine.specs.MachineBody.{is_plain_start, is_specifier_start, is_abstract_start, is_declarator_start};
 ghost use Rattle.cr_exprs.specs.Source.{IsReadable, text_of, words_in};
 ghost use Rattle.cr_syntax.specs.Scopes.{Scopes};
 ghost use Rattle.cr_syntax.specs.Trees.{none};
-ghost use Rattle.cr_machine.specs.Machine.{texts, consts};
+ghost use Rattle.cr_machine.specs.Machine.{texts, qualifiers};
 ghost use Rattle.cr_machine.specs.MachineBody.{body};
 ghost use Rattle.cr_exprs.specs.Answers.{IsRefusal, Gives};
 
@@ -137,6 +137,7 @@ fn is_plain_start(word: Word) -> bool
 {
     match word {
         Word::Const
+        | Word::Volatile
         | Word::Void
         | Word::Char
         | Word::Short
@@ -189,7 +190,6 @@ fn is_unused(word: Word) -> bool
         | Word::Goto
         | Word::Restrict
         | Word::Union
-        | Word::Volatile
         | Word::Alignas
         | Word::Alignof
         | Word::Atomic
@@ -320,15 +320,27 @@ pub(crate) fn texts(source: &Source, at: usize) -> usize
     after(source, at, Word::Text)
 }
 
-/// The token after any number of `const`.
-pub(crate) fn consts(source: &Source, at: usize) -> usize
+/// The token after any number of type qualifiers (6.7.3).
+pub(crate) fn qualifiers(source: &Source, at: usize) -> usize
     requires readable { IsReadable source.now }
     requires at { at ≤ length source.now.tokens.now }
     ensures from { at ≤ result }
     ensures to { result ≤ length source.now.tokens.now }
-    ensures read { (d : ℕ) (c : Scopes) → Gives (text_of source.now) (body (consts d)) c at none c result }
+    ensures read { (d : ℕ) (c : Scopes) → Gives (text_of source.now) (body (qualifiers d)) c at none c result }
 {
-    after(source, at, Word::Const)
+    let mut next = at;
+    'qualifiers: while is_qualifier(source, next) {
+        next += 1;
+    }
+    next
+}
+
+fn is_qualifier(source: &Source, at: usize) -> bool
+    requires { IsReadable source.now }
+    ensures answer { result ≡ is_qualifier (text_of source.now) at }
+    ensures inside { IsTrue result → at < length source.now.tokens.now }
+{
+    stands(source, at, Word::Const) || stands(source, at, Word::Volatile)
 }
 
 fn after(source: &Source, at: usize, word: Word) -> usize

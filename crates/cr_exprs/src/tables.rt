@@ -87,7 +87,7 @@ pub(crate) const POSTFIX: [(Word, Kind); 2] = [
 ];
 
 /// The words that are a specifier by themselves (6.7.1 to 6.7.4), the plain ones last.
-const SPECIFIERS: [(Word, Kind); 15] = [
+const SPECIFIERS: [(Word, Kind); 16] = [
     (Word::Typedef, Kind::Typedef),
     (Word::Extern, Kind::Extern),
     (Word::Static, Kind::Static),
@@ -95,6 +95,7 @@ const SPECIFIERS: [(Word, Kind); 15] = [
     (Word::Register, Kind::Register),
     (Word::Inline, Kind::Inline),
     (Word::Const, Kind::Const),
+    (Word::Volatile, Kind::Volatile),
     (Word::Void, Kind::Void),
     (Word::Char, Kind::Char),
     (Word::Short, Kind::Short),

@@ -1,5 +1,5 @@
 -- Lemmas on cells in order, and on lists of them that rise.
-use Rattle.std.proofs.Common.{◌≡◌, ℕ, zero, suc, ◌+◌, ◌<◌, ◌≤◌, Bool, true, false, ◌&&◌, ◌||◌, cond, List, [], ◌∷◌, length, get_or, take, drop, refl, sym, ◌∙◌, ap, subst, arith, nat_eq, ◌⊎◌, inl, inr}
+use Rattle.std.proofs.Common.{◌≡◌, ℕ, zero, suc, ◌+◌, ◌<◌, ◌≤◌, Bool, true, false, ◌&&◌, ◌||◌, cond, List, [], ◌∷◌, ◌++◌, length, get_or, take, drop, refl, sym, ◌∙◌, ap, subst, arith, nat_eq, ◌⊎◌, inl, inr}
 use Rattle.std.specs.Prelude.{Option, Some, None, find, Result, Ok, Err, is_ok, OnOk, OnErr}
 use Rattle.smallvec.specs.SmallVec.{SmallVec}
 use Rattle.std.specs.declared.cmp.Ordering.{Ordering}
@@ -11,6 +11,7 @@ use Rattle.std.specs.List.{insert, AllWithin, HoldsAt}
 use Rattle.std.specs.List.Sorted.{IsSearchInRange, IsBinarySearchResult}
 use Rattle.std.proofs.lemmas.Bool.{eqb-true, or_cases, or_left, or_right, and_parts}
 use Rattle.std.proofs.lemmas.Bool.Decides.{nat_tests}
+use Rattle.std.proofs.Math.Seq.{drop-length, take-length}
 use Rattle.std.proofs.lemmas.List.{take-append-drop}
 use Rattle.std.proofs.lemmas.List.Folds.{list_any-append, list_any_at, list_any_none}
 use Rattle.std.specs.List.Sorted.{IsNonDecreasingBy}
@@ -271,3 +272,10 @@ met false false s false = refl
 -- a range of cells that goes one further
 pub span-more : (object first at : ℕ) (c : Cell) → first ≤ at → (span object first at c || same_cell c (object, at)) ≡ span object first (at + 1) c
 span-more object first at c low = grind (arith, nat_tests)
+
+pub IsRising-one : (cell : Cell) → IsRising (cell ∷ [])
+IsRising-one cell = IsRising-cons cell [] (λ d (there : false ≡ true). cc there) (λ i j d below within. absurd (omega arith))
+
+-- a cell put behind all
+pub insert-last : (cells : List Cell) (cell : Cell) → insert cells (length cells) cell ≡ cells ++ cell ∷ []
+insert-last cells cell = rw (take-length cells) (rw (drop-length cells) refl)

@@ -1,4 +1,4 @@
-ghost use Rattle.std.specs.Prelude.{◌≡◌, ◌&&◌, ◌||◌, false, find, IfOk, OnOk};
+ghost use Rattle.std.specs.Prelude.{◌≡◌, ◌≤◌, ◌&&◌, ◌||◌, false, find, insert, length, IfOk, IsTrue, OnErr, OnOk};
 ghost use Rattle.std.proofs.Props.{props};
 ghost use Rattle.cr_footprint.specs.Merge.{merged};
 ghost use Rattle.cr_footprint.specs.Cell.{Cell, holds, same_cell, span, IsRising, IsLeastOf};
@@ -6,12 +6,26 @@ ghost use Rattle.cr_footprint.specs.Cell.{Cell, holds, same_cell, span, IsRising
 use smallvec::SmallVec;
 use std::alloc::{AllocError, Global};
 use std::cmp::Ordering;
+use std::mem;
 use std::ops::Range;
 
 // Up to so many cells are put to a set one by one.
 const FEW: usize = 8;
 
 type List = SmallVec<(u32, u32), 4>;
+
+// Puts a cell before the one at a place, or behind all.
+fn put(list: &mut List, place: usize, cell: (u32, u32)) -> Result<(), AllocError>
+    requires { place ≤ length list.old.items }
+    ensures ok { OnOk result (list.new.items ≡ insert list.old.items place cell) }
+    ensures err { OnErr result (list.new ≡ list.old) }
+{
+    if place == list.len() {
+        Ok(list.push(cell)?)
+    } else {
+        Ok(list.insert(place, cell)?)
+    }
+}
 
 /// The cells of two lists.
 fn merge(alloc: Global, first: &[(u32, u32)], second: &[(u32, u32)]) -> Result<List, AllocError>
@@ -65,6 +79,16 @@ impl Cells {
         }
     }
 
+    /// One cell. Takes no memory.
+    #[inline]
+    pub fn one(alloc: Global, cell: (u32, u32)) -> Result<Cells, AllocError>
+        ensures { IfOk result (λ set. (c : Cell) → has set c ≡ same_cell c cell) }
+    {
+        let mut list = SmallVec::new(alloc);
+        list.push(cell)?;
+        Ok(Cells { list })
+    }
+
     /// The allocator that the set was made with.
     pub fn allocator(&self) -> &Global {
         self.list.allocator()
@@ -76,6 +100,14 @@ impl Cells {
         ensures cells { (c : Cell) → holds result.now c ≡ has self.now c }
     {
         self.list.as_slice()
+    }
+
+    /// Whether there is no cell.
+    #[inline]
+    pub fn is_empty(&self) -> bool
+        ensures { IsTrue result → (c : Cell) → has self.now c ≡ false }
+    {
+        self.list.is_empty()
     }
 
     /// Whether the set has a cell.
@@ -91,7 +123,7 @@ impl Cells {
     {
         match self.list.binary_search(&cell) {
             Ok(_) => Ok(()),
-            Err(place) => Ok(self.list.insert(place, cell)?),
+            Err(place) => put(&mut self.list, place, cell),
         }
     }
 
@@ -115,28 +147,43 @@ impl Cells {
         Ok(())
     }
 
-    fn merged_with(self, other: Cells) -> Result<Cells, AllocError>
-        ensures { IfOk result (λ cells. (c : Cell) → has cells c ≡ (has self c || has other c)) }
+    fn merged_with(&self, other: &Cells) -> Result<Cells, AllocError>
+        ensures { IfOk result (λ cells. (c : Cell) → has cells c ≡ (has self.now c || has other.now c)) }
     {
         let alloc = *self.list.allocator();
         let list = merge(alloc, self.list.as_slice(), other.list.as_slice())?;
         Ok(Cells { list })
     }
 
-    /// The cells of both. A few are put to the others one by one; more are merged with them in one walk.
-    pub fn union(self, other: Cells) -> Result<Cells, AllocError>
-        ensures { IfOk result (λ cells. (c : Cell) → has cells c ≡ (has self c || has other c)) }
+    // A few are put to the others one by one; more are merged with them in one walk.
+    fn take_fewer(&mut self, more: &Cells) -> Result<(), AllocError>
+        ensures { OnOk result ((c : Cell) → has self.new c ≡ (has self.old c || has more.now c)) }
     {
-        let (mut all, more) = if self.list.len() < other.list.len() {
-            (other, self)
-        } else {
-            (self, other)
-        };
         if more.list.len() > FEW {
-            return all.merged_with(more);
+            *self = self.merged_with(more)?;
+            return Ok(());
         }
-        all.insert_all(&more)?;
-        Ok(all)
+        self.insert_all(more)
+    }
+
+    fn take_some(&mut self, more: &mut Cells) -> Result<(), AllocError>
+        ensures { OnOk result ((c : Cell) → has self.new c ≡ (has self.old c || has more.old c)) }
+    {
+        if self.list.len() < more.list.len() {
+            mem::swap(self, more);
+        }
+        self.take_fewer(more)
+    }
+
+    /// Takes in the cells of another set, which may have any cells afterwards.
+    #[inline]
+    pub fn take_in(&mut self, more: &mut Cells) -> Result<(), AllocError>
+        ensures { OnOk result ((c : Cell) → has self.new c ≡ (has self.old c || has more.old c)) }
+    {
+        if more.is_empty() {
+            return Ok(());
+        }
+        self.take_some(more)
     }
 
     fn first_within(&self, other: &Cells) -> Option<(u32, u32)>

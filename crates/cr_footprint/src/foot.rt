@@ -45,13 +45,12 @@ impl Foot {
     }
 
     /// One read.
+    #[inline]
     pub fn read(alloc: Global, object: u32, cell: u32) -> Result<Foot, NoMemory>
         ensures { IfOk result (λ foot. sets foot ≡ with_read no_events (object, cell)) }
     {
-        let mut reads = Cells::new(alloc);
-        reads.insert((object, cell))?;
         Ok(Foot {
-            reads,
+            reads: Cells::one(alloc, (object, cell))?,
             writes: Cells::new(alloc),
             opens: Cells::new(alloc),
         })
@@ -61,11 +60,9 @@ impl Foot {
     pub fn touch(alloc: Global, object: u32, cell: u32) -> Result<Foot, NoMemory>
         ensures { IfOk result (λ foot. sets foot ≡ with_touch no_events (object, cell)) }
     {
-        let mut writes = Cells::new(alloc);
-        writes.insert((object, cell))?;
         Ok(Foot {
             reads: Cells::new(alloc),
-            writes,
+            writes: Cells::one(alloc, (object, cell))?,
             opens: Cells::new(alloc),
         })
     }
@@ -97,9 +94,13 @@ impl Foot {
     }
 
     /// The least cell on which a write of one meets a read or a write of the other.
+    #[inline]
     fn first_conflict(&self, other: &Foot) -> Option<(u32, u32)>
         ensures { IsLeastOf (meets (sets self.now) (sets other.now)) result }
     {
+        if self.writes.is_empty() && other.writes.is_empty() {
+            return None;
+        }
         lesser(
             self.first_hit(other),
             self.reads.first_shared(&other.writes),
@@ -108,7 +109,8 @@ impl Foot {
 
     /// The footprint of two unsequenced evaluations, as the operands of `+`. Conflict names the least
     /// object and cell on which a write or a touch of one, settled or open, meets an event of the other.
-    pub fn beside(self, other: Foot) -> Result<Foot, FootEnd>
+    #[inline]
+    pub fn beside(mut self, mut other: Foot) -> Result<Foot, FootEnd>
         ensures joined { IfOk result (λ foot. sets foot ≡ union_of (sets self) (sets other)) }
         ensures apart { OnOk result ((c : Cell) → meets (sets self) (sets other) c ≡ false) }
         ensures conflict { (o c : ℕ) → result ≡ Err (FootEnd.Conflict o c) → IsLeast (meets (sets self) (sets other)) (o, c) }
@@ -116,23 +118,21 @@ impl Foot {
         if let Some((object, cell)) = self.first_conflict(&other) {
             return Err(FootEnd::Conflict(object, cell));
         }
-        Ok(Foot {
-            reads: self.reads.union(other.reads)?,
-            writes: self.writes.union(other.writes)?,
-            opens: self.opens.union(other.opens)?,
-        })
+        self.reads.take_in(&mut other.reads)?;
+        self.writes.take_in(&mut other.writes)?;
+        self.opens.take_in(&mut other.opens)?;
+        Ok(self)
     }
 
     /// The footprint of an evaluation, a sequence point and the next evaluation, as the operands of a
     /// comma. It never conflicts.
-    pub fn then(self, next: Foot) -> Result<Foot, NoMemory>
+    pub fn then(mut self, mut next: Foot) -> Result<Foot, NoMemory>
         ensures { IfOk result (λ foot. sets foot ≡ then_of (sets self) (sets next)) }
     {
-        Ok(Foot {
-            reads: self.reads.union(next.reads)?,
-            writes: self.writes.union(next.writes)?,
-            opens: next.opens,
-        })
+        self.reads.take_in(&mut next.reads)?;
+        self.writes.take_in(&mut next.writes)?;
+        self.opens = next.opens;
+        Ok(self)
     }
 
     /// Adds the side effect of the expression's own operator on a cell. It conflicts with an open
@@ -181,39 +181,34 @@ impl Foot {
 
     /// Adds the side effects of the expression's own operator on the cells of an object in a range of numbers, as the
     /// assignment of a struct has. It conflicts with an open write of its operands on one of them, and names the least.
-    pub fn own_writes(self, object: u32, cells: Range<u32>) -> Result<Foot, FootEnd>
+    pub fn own_writes(mut self, object: u32, cells: Range<u32>) -> Result<Foot, FootEnd>
         ensures added { IfOk result (λ foot. sets foot ≡ with_writes (sets self) (span object cells.start cells.end)) }
         ensures apart { OnOk result ((c : Cell) → open_in (sets self) (span object cells.start cells.end) c ≡ false) }
         ensures conflict { (o c : ℕ) → result ≡ Err (FootEnd.Conflict o c) → IsLeast (open_in (sets self) (span object cells.start cells.end)) (o, c) }
     {
         let (first, end) = (cells.start, cells.end);
-        let own = Cells::of_span(*self.opens.allocator(), object, first..end)?;
+        let mut own = Cells::of_span(*self.opens.allocator(), object, first..end)?;
         if let Some((object, cell)) = self.opens.first_shared(&own) {
             return Err(FootEnd::Conflict(object, cell));
         }
-        let more = Cells::of_span(*self.opens.allocator(), object, first..end)?;
-        Ok(Foot {
-            reads: self.reads,
-            writes: self.writes.union(own)?,
-            opens: self.opens.union(more)?,
-        })
+        let mut more = Cells::of_span(*self.opens.allocator(), object, first..end)?;
+        self.writes.take_in(&mut own)?;
+        self.opens.take_in(&mut more)?;
+        Ok(self)
     }
 
     /// Adds the reads of the expression's own operator on the cells of an object in a range of numbers, as the value of a struct
     /// has. It conflicts with an open write of its operands on one of them, and names the least.
-    pub fn own_reads(self, object: u32, cells: Range<u32>) -> Result<Foot, FootEnd>
+    pub fn own_reads(mut self, object: u32, cells: Range<u32>) -> Result<Foot, FootEnd>
         ensures added { IfOk result (λ foot. sets foot ≡ with_reads (sets self) (span object cells.start cells.end)) }
         ensures apart { OnOk result ((c : Cell) → open_in (sets self) (span object cells.start cells.end) c ≡ false) }
         ensures conflict { (o c : ℕ) → result ≡ Err (FootEnd.Conflict o c) → IsLeast (open_in (sets self) (span object cells.start cells.end)) (o, c) }
     {
-        let own = Cells::of_span(*self.opens.allocator(), object, cells)?;
+        let mut own = Cells::of_span(*self.opens.allocator(), object, cells)?;
         if let Some((object, cell)) = self.opens.first_shared(&own) {
             return Err(FootEnd::Conflict(object, cell));
         }
-        Ok(Foot {
-            reads: self.reads.union(own)?,
-            writes: self.writes,
-            opens: self.opens,
-        })
+        self.reads.take_in(&mut own)?;
+        Ok(self)
     }
 }

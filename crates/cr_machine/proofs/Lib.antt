@@ -28,7 +28,6 @@ pub mod MachineGrows
 pub mod MachineUnitGrows
 pub mod MachineViable
 pub mod MachineUnitViable
-pub mod MachineTurned
 pub mod MachineWays
 pub mod MachineMarks
 pub mod MachineForms
@@ -45,16 +44,9 @@ pub mod MachineUnitForms
 pub mod MachineTraces
 pub mod MachineLabels
 pub mod MachineDefinitions
-pub mod MachineBeside
-pub mod MachineWhile
-pub mod MachineBodies
 pub mod MachineRefusals
 pub mod MachineUnitStuck
 pub mod MachineUnit
 pub mod MachineOwn
 pub mod MachineOne
-pub mod UnitNodes
-pub mod UnitHeads
-pub mod UnitRows
 pub mod UnitRefusals
-pub mod UnitExamples

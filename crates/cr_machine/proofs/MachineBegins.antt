@@ -2,12 +2,12 @@
 use Rattle.std.proofs.Common.{◌≡◌, ℕ, Bool, true, false, not, ◌&&◌, ◌||◌, List, [], ◌∷◌, refl, sym, ap, subst, ◌∙◌}
 use Rattle.cr_syntax.specs.declared.word.Word.{Word}
 use Rattle.cr_syntax.specs.declared.word.Word.TheVariants as word
-use Rattle.cr_syntax.specs.declared.symbol.Depth.{Depth}
-use Rattle.cr_syntax.specs.declared.symbol.Symbol.TheVariants as symbol
+use Rattle.cr_syntax.specs.Symbols.{Depth}
+use Rattle.cr_syntax.specs.Symbols as symbol
 use Rattle.cr_syntax.specs.declared.scopes.TypeName.{TypeName}
-use Rattle.cr_syntax.specs.declared.symbol.Part.{Part}
-use Rattle.cr_syntax.specs.declared.symbol.Part.TheVariants as part
-use Rattle.cr_syntax.specs.declared.symbol.Context.{Context}
+use Rattle.cr_syntax.specs.declared.part.Part.{Part}
+use Rattle.cr_syntax.specs.declared.part.Part.TheVariants as part
+use Rattle.cr_syntax.specs.declared.part.Context.{Context}
 use Rattle.cr_syntax.specs.Words.{Lexeme, spelling_at}
 use Rattle.cr_syntax.specs.Scopes.{Scopes, is_type}
 use Rattle.cr_syntax.specs.Trees.{Trees, none, node, ◌&◌}
@@ -39,6 +39,7 @@ pub data ElementFirst (ts : List Lexeme) (c : Scopes) (i : ℕ) (typed : Bool) :
 pub plain_first : {ts : List Lexeme} {limit : Limit} {h : Context} {c e : Scopes} {d i j : ℕ} {t : Trees} → Spells ts limit (a part.Plain) h c e d t i j → PlainFirst ts c i h.typed
 plain_first (spells.of_chain x f s) = elim x [ ]
 plain_first (spells.of_alternative grammar.qualifier_const f (spells.token q w s)) = by_plain q refl
+plain_first (spells.of_alternative grammar.qualifier_volatile f (spells.token q w s)) = by_plain q refl
 plain_first (spells.of_alternative grammar.type_void f (spells.token q w s)) = by_plain q refl
 plain_first (spells.of_alternative grammar.type_char f (spells.token q w s)) = by_plain q refl
 plain_first (spells.of_alternative grammar.type_short f (spells.token q w s)) = by_plain q refl
@@ -149,6 +150,7 @@ one_typed (node k i j b n) = is_type_specifier k
 plain_typed : {ts : List Lexeme} {limit : Limit} {h' : Context} {c e : Scopes} {d i j : ℕ} {t : Trees} → Spells ts limit (a part.Plain) h' c e d t i j → (h : Context) → (past_part h t).typed ≡ h.typed || one_typed t
 plain_typed (spells.of_chain x f s) h = elim x [ ]
 plain_typed (spells.of_alternative grammar.qualifier_const f s) h = refl
+plain_typed (spells.of_alternative grammar.qualifier_volatile f s) h = refl
 plain_typed (spells.of_alternative grammar.type_void f s) h = refl
 plain_typed (spells.of_alternative grammar.type_char f s) h = refl
 plain_typed (spells.of_alternative grammar.type_short f s) h = refl

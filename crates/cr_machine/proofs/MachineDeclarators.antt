@@ -1,28 +1,29 @@
 -- The machine reads what is spelled as declarators and parameters, where it reads all that is smaller.
-use Rattle.std.proofs.Common.{◌≡◌, ℕ, suc, ◌+◌, ◌<◌, Bool, true, false, not, ◌&&◌, ◌||◌, List, [], ◌∷◌, refl, sym, ap, subst, ◌∙◌, arith}
+use Rattle.std.proofs.lemmas.Bool.{or_left, or_right, or_from}
+use Rattle.std.proofs.Common.{◌≡◌, ℕ, suc, ◌+◌, ◌<◌, Bool, true, false, not, ◌&&◌, ◌||◌, List, [], ◌∷◌, refl, sym, ap, subst, ◌∙◌, arith, inl, inr}
 use Rattle.std.specs.Prelude.{if◌then◌else◌}
 use Rattle.cr_syntax.specs.declared.word.Word.{Word}
 use Rattle.cr_syntax.specs.declared.word.Word.TheVariants as word
 use Rattle.cr_syntax.specs.declared.node.Kind.{Kind}
 use Rattle.cr_syntax.specs.declared.node.Kind.TheVariants as kind
-use Rattle.cr_syntax.specs.declared.symbol.Part.{Part}
-use Rattle.cr_syntax.specs.declared.symbol.Part.TheVariants as part
-use Rattle.cr_syntax.specs.declared.symbol.Symbol.TheVariants as symbol
-use Rattle.cr_syntax.specs.declared.symbol.Context.{Context}
+use Rattle.cr_syntax.specs.declared.part.Part.{Part}
+use Rattle.cr_syntax.specs.declared.part.Part.TheVariants as part
+use Rattle.cr_syntax.specs.Symbols as symbol
+use Rattle.cr_syntax.specs.declared.part.Context.{Context}
 use Rattle.cr_syntax.specs.Words.{Lexeme, spelling_at}
 use Rattle.cr_syntax.specs.Scopes.{Scopes, is_type, enter}
 use Rattle.cr_syntax.specs.Trees.{Trees, none, one, ◌&◌}
 use Rattle.cr_syntax.specs.Context.{fresh, past_token, past_part, may_stand}
 use Rattle.cr_syntax.specs.Grammar.{Side, list, closing, token}
 use Rattle.cr_syntax.specs.Grammar as grammar
-use Rattle.cr_syntax.specs.Spells.{Limit, Is, Stands, AreConst, const_none, const_more, Spells, a, rest}
+use Rattle.cr_syntax.specs.Spells.{Limit, Is, Stands, Qualifies, AreQualifiers, qualifiers_none, qualifiers_more, Spells, a, rest}
 use Rattle.cr_syntax.specs.Spells as spells
 use Rattle.cr_syntax.specs.Reads.{is_word, same_word}
 use Rattle.cr_machine.specs.Machine.{Prog, Wanted, Reply, Done, plain, opens, give, take, call, made, run_give, run_take, run_pass, run_seen, run_unseen, run_yes, run_no, run_here, run_look, run_set, run_bring, run_call}
 use Rattle.cr_machine.specs.Machine as m
-use Rattle.cr_machine.specs.MachineBody.{is_abstract_start, is_declarator_start, in_parameters, declarator_start, array_start, pointer_end, may_name, may_omit}
+use Rattle.cr_machine.specs.MachineBody.{qualifier, plain_words, is_abstract_start, is_declarator_start, in_parameters, declarator_start, array_start, pointer_end, may_name, may_omit}
 use Rattle.cr_machine.proofs.MachineSpells.{and_none, and_and, pushed}
-use Rattle.cr_machine.proofs.MachineFirst.{none_true, yes, differs, sorted, free_by, row_here, row_next, tail, never, never_bracket, first_conditional}
+use Rattle.cr_machine.proofs.MachineFirst.{none_true, yes, differs, sorted, free_by, row_found, tail, never, never_bracket, first_conditional}
 use Rattle.cr_machine.proofs.MachineSound.{part_some, pushed_some, two_parameters, bare_is}
 use Rattle.cr_machine.proofs.MachineSpells.{is_one, name_brought}
 use Rattle.cr_machine.proofs.MachineSpells as facts
@@ -73,15 +74,19 @@ named_sorted (by_star q) = sorted is_declarator_start true q refl
 named_sorted (begin.by_paren q) = sorted is_declarator_start true q refl
 named_sorted (by_name q g) = sorted is_declarator_start true q refl
 
-pub named_const : {ts : List Lexeme} {c : Scopes} {i : ℕ} {typed : Bool} → NamedFirst ts c i typed → is_word ts i word.Const ≡ false
-named_const (by_star q) = differs q word.Const refl
-named_const (begin.by_paren q) = differs q word.Const refl
-named_const (by_name q g) = differs q word.Const refl
+-- no type qualifier stands there
+pub no_qualifier : (ts : List Lexeme) (c : Scopes) (i : ℕ) → is_word ts i word.Const ≡ false → is_word ts i word.Volatile ≡ false → m.passes ts c i qualifier ≡ false
+no_qualifier ts c i x y = or_from (is_word ts i word.Const) (is_word ts i word.Volatile) x y
 
-unnamed_const : {ts : List Lexeme} {i : ℕ} → UnnamedFirst ts i → is_word ts i word.Const ≡ false
-unnamed_const (at_star q) = differs q word.Const refl
-unnamed_const (at_paren q) = differs q word.Const refl
-unnamed_const (at_bracket q) = differs q word.Const refl
+pub named_qualifier : {ts : List Lexeme} {c : Scopes} {i : ℕ} {typed : Bool} (e : Scopes) → NamedFirst ts c i typed → m.passes ts e i qualifier ≡ false
+named_qualifier {ts = ts} {i = i} e (by_star q) = no_qualifier ts e i (differs q word.Const refl) (differs q word.Volatile refl)
+named_qualifier {ts = ts} {i = i} e (begin.by_paren q) = no_qualifier ts e i (differs q word.Const refl) (differs q word.Volatile refl)
+named_qualifier {ts = ts} {i = i} e (by_name q g) = no_qualifier ts e i (differs q word.Const refl) (differs q word.Volatile refl)
+
+unnamed_qualifier : {ts : List Lexeme} {i : ℕ} (e : Scopes) → UnnamedFirst ts i → m.passes ts e i qualifier ≡ false
+unnamed_qualifier {ts = ts} {i = i} e (at_star q) = no_qualifier ts e i (differs q word.Const refl) (differs q word.Volatile refl)
+unnamed_qualifier {ts = ts} {i = i} e (at_paren q) = no_qualifier ts e i (differs q word.Const refl) (differs q word.Volatile refl)
+unnamed_qualifier {ts = ts} {i = i} e (at_bracket q) = no_qualifier ts e i (differs q word.Const refl) (differs q word.Volatile refl)
 
 declared_yes : (ts : List Lexeme) (c : Scopes) (i : ℕ) (typed : Bool) → Is ts i word.Identifier → typed || not (is_type c (spelling_at ts i)) ≡ true → m.passes ts c i (m.declared typed) ≡ true
 declared_yes ts c i typed q g = (ap (λ b. b && (typed || not (is_type c (spelling_at ts i)))) (yes q)) ∙ g
@@ -100,10 +105,14 @@ in_parameters_one {t = t} x f s k =
     by kind.Void b f = none_true f
     by _ b f = refl
 
+qualifier_yes : (ts : List Lexeme) (c : Scopes) (i : ℕ) → Qualifies ts i → m.passes ts c i qualifier ≡ true
+qualifier_yes ts c i (inl q) = or_left (is_word ts i word.Const) (is_word ts i word.Volatile) (yes q)
+qualifier_yes ts c i (inr q) = or_right (is_word ts i word.Const) (is_word ts i word.Volatile) (yes q)
+
 module _ (ts : List Lexeme) (limit : Limit) where
-  pub consts_go : {c : Scopes} {d i j : ℕ} → AreConst ts limit d i j → is_word ts j word.Const ≡ false → Answers ts limit (m.consts d) c i none c j
-  consts_go const_none n = run_pass n run_give
-  consts_go (const_more q w k) n = run_take (yes q) w (tail (consts_go k n))
+  pub qualifiers_go : {c : Scopes} {d i j : ℕ} → AreQualifiers ts limit d i j → m.passes ts c j qualifier ≡ false → Answers ts limit (m.qualifiers d) c i none c j
+  qualifiers_go qualifiers_none n = run_pass n run_give
+  qualifiers_go {c = c} {i = i} (qualifiers_more q w k) n = run_take (qualifier_yes ts c i q) w (tail (qualifiers_go k n))
 
   list_first : {r : Side} {h : Context} {c e : Scopes} {d i j : ℕ} {t : Trees} → Spells ts limit (rest (list part.Parameter ∷ r)) h c e d t i j → ElementFirst ts c i false
   list_first (spells.list_last x s) = parameter_first x
@@ -146,7 +155,7 @@ module _ (ts : List Lexeme) (limit : Limit) where
         b.read task.direct s (omega arith) w y _ (run_pass (ends_other o word.LeftBracket refl refl refl refl refl) (run_pass (ends_other o word.LeftParen refl refl refl refl refl) run_give))
     declarator_reads {h = h} {c = c} {e = e} {d = d} {i = i} {j = j} (spells.of_alternative grammar.pointer_declarator f (spells.opens q v (spells.qualified {j = k} {t = t} x s))) lt = λ w y o.
         subst (λ z. Answers ts limit (m.declarator w h d) c i (one kind.PointerDeclarator i j z) e j) (and_none t)
-        (run_here (run_take (yes q) v (run_call (consts_go x (named_const (named_first facts.by_declarator s))) (by w y (b.read task.declarator s (omega arith) w y o)))))
+        (run_here (run_take (yes q) v (run_call (qualifiers_go x (named_qualifier c (named_first facts.by_declarator s))) (by w y (b.read task.declarator s (omega arith) w y o)))))
       where
         by : (w : Wanted) → may_name w ≡ true → Answers ts limit (m.declarator w (past_token h) (d + 1)) c k t e j →
             Goes ts limit (m.when (may_omit w)
@@ -182,11 +191,11 @@ module _ (ts : List Lexeme) (limit : Limit) where
     abstract_reads (spells.of_chain grammar.abstract_direct f s) lt = λ w h' y o.
         b.read task.direct_abstract s (omega arith) w h' y _ (run_pass (closes_other o word.LeftBracket refl refl refl) run_give)
     abstract_reads {c = c} {j = j} (spells.of_alternative grammar.abstract_pointer f (spells.opens q v (spells.qualified_none x))) lt = λ w h' y o.
-        run_here (run_take (yes q) v (run_call (consts_go x (closes_other o word.Const refl refl refl)) (run_yes y (run_unseen (closes_start w ts c j o) (run_here run_give)))))
+        run_here (run_take (yes q) v (run_call (qualifiers_go x (no_qualifier ts c j (closes_other o word.Const refl refl refl) (closes_other o word.Volatile refl refl refl))) (run_yes y (run_unseen (closes_start w ts c j o) (run_here run_give)))))
     abstract_reads {c = c} {e = e} {d = d} {i = i} {j = j} (spells.of_alternative grammar.abstract_pointer f (spells.opens q v (spells.qualified_some {j = k} {t = t} x s))) lt = λ w h' y o.
         let u = unnamed_first begin.by_abstract s in
         subst (λ z. Answers ts limit (m.declarator w h' d) c i (one kind.AbstractPointer i j z) e j) (and_none t)
-        (run_here (run_take (yes q) v (run_call (consts_go x (unnamed_const u)) (run_yes y (run_seen (start_unnamed w ts c k u)
+        (run_here (run_take (yes q) v (run_call (qualifiers_go x (unnamed_qualifier c u)) (run_yes y (run_seen (start_unnamed w ts c k u)
         (run_call (b.read task.abstract s (omega arith) w (past_token h') y o) (run_no (is_unnamed begin.by_abstract s) (run_here run_give))))))))
 
     pub direct_abstract_reads : {h : Context} {c e : Scopes} {d i j : ℕ} {t : Trees} (s : Spells ts limit (a part.DirectAbstract) h c e d t i j) → measure s < suc n → Completes ts limit task.direct_abstract h c e d t i j
@@ -209,7 +218,7 @@ module _ (ts : List Lexeme) (limit : Limit) where
     -- Parameters.
 
     void_goes : {c : Scopes} {d i : ℕ} → Is ts i word.Void → Stands limit i d → Closes ts (i + 1) → Answers ts limit (m.parameter d) c i (one kind.Void i (i + 1) none) c (i + 1)
-    void_goes {c = c} {d = d} {i = i} q w o = run_here (run_call (run_here (run_call (word_reads ts limit n b part.Specifiers fresh d (plain_row part.Specifiers refl (row_next refl row_here)) q w)
+    void_goes {c = c} {d = d} {i = i} q w o = run_here (run_call (run_here (run_call (word_reads ts limit n b part.Specifiers fresh d (plain_row part.Specifiers refl (row_found plain_words {w = word.Void} {k = kind.Void} refl)) q w)
         (tail (run_unseen (closes_row part.Specifiers ts c (i + 1) true o) (run_here run_give)))))
         (run_unseen (closes_sorted o is_declarator_start refl refl refl) run_give))
 

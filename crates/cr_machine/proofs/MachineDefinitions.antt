@@ -5,10 +5,10 @@ use Rattle.std.proofs.lemmas.Bool.{eqb-true, cases_Bool}
 use Rattle.cr_syntax.specs.declared.word.Word.TheVariants as word
 use Rattle.cr_syntax.specs.declared.node.Kind.{Kind}
 use Rattle.cr_syntax.specs.declared.node.Kind.TheVariants as kind
-use Rattle.cr_syntax.specs.declared.symbol.Part.{Part}
-use Rattle.cr_syntax.specs.declared.symbol.Part.TheVariants as part
-use Rattle.cr_syntax.specs.declared.symbol.Symbol.TheVariants as symbol
-use Rattle.cr_syntax.specs.declared.symbol.Context.{Context}
+use Rattle.cr_syntax.specs.declared.part.Part.{Part}
+use Rattle.cr_syntax.specs.declared.part.Part.TheVariants as part
+use Rattle.cr_syntax.specs.Symbols as symbol
+use Rattle.cr_syntax.specs.declared.part.Context.{Context}
 use Rattle.cr_syntax.specs.Words.{Lexeme}
 use Rattle.cr_syntax.specs.Scopes.{Scopes}
 use Rattle.cr_syntax.specs.Trees.{Trees, none, node, one, ◌&◌}
@@ -25,7 +25,7 @@ use Rattle.cr_machine.specs.MachineBody as program
 use Rattle.cr_machine.specs.MachineBody.{body, is_variadic, ends_variadic, last_token, may_define}
 use Rattle.cr_syntax.proofs.Tests.{both}
 use Rattle.cr_machine.proofs.MachineRuns.{reach}
-use Rattle.cr_machine.proofs.MachineSpells.{Names, by_declarator, by_direct, is_one, forth, consts_forth, own_first, after_one}
+use Rattle.cr_machine.proofs.MachineSpells.{Names, by_declarator, by_direct, is_one, forth, qualifiers_forth, own_first, after_one}
 use Rattle.cr_machine.proofs.MachineFirst.{none_true}
 use Rattle.cr_machine.proofs.MachineEnds.{Way, defining, Ends, end_refuse, end_pass, end_seen, end_no, end_here, end_behind, end_inside}
 use Rattle.cr_machine.proofs.MachineMeans.{IsDeclared, with_name, without}
@@ -61,7 +61,7 @@ module _ (us : List Lexeme) (limit : Limit) (k : ℕ) where
   pub own_later : {p : Part} {h : Context} {c e : Scopes} {d i j : ℕ} {t : Trees} → Names p → Spells us limit (a p) h c e d t i j → ellipsis_at k (own_parameters t) ≡ true → i < k
   own_later by_declarator (spells.of_chain grammar.declarator_direct f s) q = own_later by_direct s q
   own_later by_declarator (spells.of_alternative grammar.pointer_declarator f (spells.opens q' w (spells.qualified y x))) q =
-      let n = consts_forth y in let n' = own_later by_declarator x q in omega arith
+      let n = qualifiers_forth y in let n' = own_later by_declarator x q in omega arith
   own_later by_direct (spells.of_chain m f s) q = elim m [ ]
   own_later by_direct (spells.of_alternative grammar.name_declarator f s) q = none_true q
   own_later by_direct (spells.of_alternative grammar.group_declarator f (spells.opens q' w (spells.part {u = u} x s))) q =

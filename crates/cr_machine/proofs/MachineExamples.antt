@@ -6,7 +6,7 @@ use Rattle.std.specs.Prelude.{if◌then◌else◌, nat_lt}
 use Rattle.cr_syntax.specs.declared.word.Word.{Word}
 use Rattle.cr_syntax.specs.declared.word.Word.TheVariants as word
 use Rattle.cr_syntax.specs.declared.node.Kind.TheVariants as kind
-use Rattle.cr_syntax.specs.declared.symbol.Part.TheVariants as part
+use Rattle.cr_syntax.specs.declared.part.Part.TheVariants as part
 use Rattle.cr_syntax.specs.Words.{Lexeme}
 use Rattle.cr_syntax.specs.Scopes.{Scopes, enter}
 use Rattle.cr_syntax.specs.Trees.{Trees, none, node, one}
@@ -244,10 +244,10 @@ refused_6 :
 unfolding run
 refused_6 = (refl, refl, refl, refl, refl, refl, refl)
 
--- sizeof ( enum { A , , } · sizeof ( struct { int f ( void , ... ) ; } [ volatile · sizeof ( struct { int f ( ... ) ; } · 1 ++ ( x ) · f ( ) ( ) · "s" "s" ( ) · - x at 128 levels
+-- sizeof ( enum { A , , } · sizeof ( struct { int f ( void , ... ) ; } [ restrict · sizeof ( struct { int f ( ... ) ; } · 1 ++ ( x ) · f ( ) ( ) · "s" "s" ( ) · - x at 128 levels
 refused_7 :
     (deep 0 (w word.Sizeof ∷ w word.LeftParen ∷ w word.Enum ∷ w word.LeftBrace ∷ id (codes "A") ∷ w word.Comma ∷ w word.Comma ∷ w word.RightBrace ∷ []) ≡ Some (Failed unexpected 6)) ×
-    (deep 0 (w word.Sizeof ∷ w word.LeftParen ∷ w word.Struct ∷ w word.LeftBrace ∷ w word.Int ∷ id (codes "f") ∷ w word.LeftParen ∷ w word.Void ∷ w word.Comma ∷ w word.Ellipsis ∷ w word.RightParen ∷ w word.Semicolon ∷ w word.RightBrace ∷ w word.LeftBracket ∷ w word.Volatile ∷ []) ≡ Some (Failed (outside 1) 14)) ×
+    (deep 0 (w word.Sizeof ∷ w word.LeftParen ∷ w word.Struct ∷ w word.LeftBrace ∷ w word.Int ∷ id (codes "f") ∷ w word.LeftParen ∷ w word.Void ∷ w word.Comma ∷ w word.Ellipsis ∷ w word.RightParen ∷ w word.Semicolon ∷ w word.RightBrace ∷ w word.LeftBracket ∷ w word.Restrict ∷ []) ≡ Some (Failed (outside 1) 14)) ×
     (deep 0 (w word.Sizeof ∷ w word.LeftParen ∷ w word.Struct ∷ w word.LeftBrace ∷ w word.Int ∷ id (codes "f") ∷ w word.LeftParen ∷ w word.Ellipsis ∷ w word.RightParen ∷ w word.Semicolon ∷ w word.RightBrace ∷ []) ≡ Some (Failed unexpected 7)) ×
     (deep 0 (w word.Integer ∷ w word.PlusPlus ∷ w word.LeftParen ∷ id (codes "x") ∷ w word.RightParen ∷ []) ≡ Some (Failed (outside 4) 2)) ×
     (deep 0 (id (codes "f") ∷ w word.LeftParen ∷ w word.RightParen ∷ w word.LeftParen ∷ w word.RightParen ∷ []) ≡ Some (Failed (outside 4) 3)) ×

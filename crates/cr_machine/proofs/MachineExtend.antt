@@ -1,12 +1,12 @@
 -- A text that goes on: what is spelled in it stays spelled in a longer one, whose further tokens have no spelling to tell.
-use Rattle.std.proofs.Common.{◌≡◌, ℕ, zero, suc, ◌+◌, ◌≤◌, Bool, List, [], ◌∷◌, length, refl, sym, ap, subst, ◌∙◌, arith}
+use Rattle.std.proofs.Common.{◌≡◌, ℕ, zero, suc, ◌+◌, ◌≤◌, Bool, List, [], ◌∷◌, length, refl, sym, ap, subst, ◌∙◌, arith, inl, inr}
 use Rattle.std.specs.Prelude.{◌++◌}
 use Rattle.cr_syntax.specs.declared.word.Word.{Word}
-use Rattle.cr_syntax.specs.declared.symbol.Context.{Context}
+use Rattle.cr_syntax.specs.declared.part.Context.{Context}
 use Rattle.cr_syntax.specs.Words.{Lexeme, spelling_at}
 use Rattle.cr_syntax.specs.Scopes.{Scopes, is_type}
 use Rattle.cr_syntax.specs.Trees.{Trees}
-use Rattle.cr_syntax.specs.Spells.{Limit, Is, IsIdentifier, Phrase, Spells, AreConst, const_none, const_more}
+use Rattle.cr_syntax.specs.Spells.{Limit, Is, IsIdentifier, Phrase, Spells, AreQualifiers, qualifiers_none, qualifiers_more}
 use Rattle.cr_machine.proofs.MachineOwn.{lets_itself, carried_whole}
 
 -- the first text's tokens are the second's, and the second tells no more names
@@ -84,9 +84,10 @@ longer_by (w ∷ ws) us i e =
     let y = longer_by ws x.all (i + 1) x.size in
     record { all = y.all; front = front_then x.front y.front; words = (y.front.words _ _ x.word, y.words); size = y.size }
 
-pub weaken_consts : {us all : List Lexeme} {limit : Limit} {d i j : ℕ} → Front us all → AreConst us limit d i j → AreConst all limit d i j
-weaken_consts y const_none = const_none
-weaken_consts y (const_more q w k) = const_more (y.words _ _ q) w (weaken_consts y k)
+pub weaken_qualifiers : {us all : List Lexeme} {limit : Limit} {d i j : ℕ} → Front us all → AreQualifiers us limit d i j → AreQualifiers all limit d i j
+weaken_qualifiers y qualifiers_none = qualifiers_none
+weaken_qualifiers y (qualifiers_more (inl q) w k) = qualifiers_more (inl (y.words _ _ q)) w (weaken_qualifiers y k)
+weaken_qualifiers y (qualifiers_more (inr q) w k) = qualifiers_more (inr (y.words _ _ q)) w (weaken_qualifiers y k)
 
 pub weaken_name : {us all : List Lexeme} (c : Scopes) (i : ℕ) {b : Bool} → Front us all → IsIdentifier us c i b → IsIdentifier all c i b
 weaken_name c i {b = b} y q = (y.words _ _ q.0, subst (λ z. is_type c z ≡ b) (sym (y.names i)) q.1)

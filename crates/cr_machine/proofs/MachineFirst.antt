@@ -1,15 +1,15 @@
 -- First tokens, the tokens that go on with an expression, and what the machine's tests say of them.
 use Rattle.std.proofs.Common.{◌≡◌, ℕ, ◌+◌, ◌<◌, ◌≤◌, Bool, true, false, not, ◌&&◌, List, [], ◌∷◌, Option, None, Some, refl, sym, ap, subst, ◌∙◌, arith}
-use Rattle.std.specs.Prelude.{nat_le, ◌++◌}
+use Rattle.std.specs.Prelude.{nat_le, ◌++◌, if◌then◌else◌}
 use borrow.Author.Tests.{leb-true}
 use denote.Enum.Bare.{true_same, same_true}
 use Rattle.cr_syntax.specs.contracts.word.Word as word_type
 use Rattle.cr_syntax.specs.declared.word.Word.{Word}
 use Rattle.cr_syntax.specs.declared.word.Word.TheVariants as word
 use Rattle.cr_syntax.specs.declared.node.Kind.{Kind}
-use Rattle.cr_syntax.specs.declared.symbol.Part.{Part}
-use Rattle.cr_syntax.specs.declared.symbol.Part.TheVariants as part
-use Rattle.cr_syntax.specs.declared.symbol.Context.{Context}
+use Rattle.cr_syntax.specs.declared.part.Part.{Part}
+use Rattle.cr_syntax.specs.declared.part.Part.TheVariants as part
+use Rattle.cr_syntax.specs.declared.part.Context.{Context}
 use Rattle.cr_syntax.specs.Words.{Lexeme, spelling_at, word_at}
 use Rattle.cr_syntax.specs.Scopes.{Scopes, is_type}
 use Rattle.cr_syntax.specs.Trees.{Trees}
@@ -75,6 +75,19 @@ all_differ w (r ∷ rs) = not (same_word w r.0) && all_differ w rs
 pub data Row (w : Word) (k : Kind) : Words → Type 0 where
   row_here : {rs : Words} → Row w k ((w, k) ∷ rs)
   row_next : {v : Word} {l : Kind} {rs : Words} → same_word w v ≡ false → Row w k rs → Row w k ((v, l) ∷ rs)
+
+-- the kind that a table gives a word, and its row
+abbrev pub kind_in : Words → Word → Option Kind
+kind_in [] w = None
+kind_in (r ∷ rs) w = if same_word w r.0 then Some r.1 else kind_in rs w
+
+pub row_found : (rs : Words) {w : Word} {k : Kind} → kind_in rs w ≡ Some k → Row w k rs
+row_found [] q = cc
+row_found (r ∷ rs) {w = w} {k = k} q = by (same_word w r.0) refl (λ x. row_found rs x) q
+  where
+    by : (b : Bool) → same_word w r.0 ≡ b → (kind_in rs w ≡ Some k → Row w k rs) → (if b then Some r.1 else kind_in rs w) ≡ Some k → Row w k (r ∷ rs)
+    by true e f q = subst (λ v. Row w k ((v, r.1) ∷ rs)) (same_is w r.0 e) (subst (λ l. Row w k ((w, l) ∷ rs)) (some_one (sym q)) row_here)
+    by false e f q = row_next {v = r.0} {l = r.1} e (f q)
 
 pub later_row : {w : Word} {k : Kind} (qs rs : Words) → all_differ w qs ≡ true → Row w k rs → Row w k (qs ++ rs)
 later_row [] rs q x = x
@@ -151,6 +164,7 @@ not_first (by_name q) w n z = differs q.0 w z
 
 plain_start : (w : Word) → starts w ≡ true → is_plain_start w ≡ false
 plain_start word.Const q = none_true q
+plain_start word.Volatile q = none_true q
 plain_start word.Void q = none_true q
 plain_start word.Char q = none_true q
 plain_start word.Short q = none_true q

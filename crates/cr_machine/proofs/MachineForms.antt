@@ -6,9 +6,9 @@ use Rattle.cr_syntax.specs.declared.word.Word.{Word}
 use Rattle.cr_syntax.specs.declared.word.Word.TheVariants as word
 use Rattle.cr_syntax.specs.declared.node.Kind.{Kind}
 use Rattle.cr_syntax.specs.declared.node.Kind.TheVariants as kind
-use Rattle.cr_syntax.specs.declared.symbol.Part.{Part}
-use Rattle.cr_syntax.specs.declared.symbol.Part.TheVariants as part
-use Rattle.cr_syntax.specs.declared.symbol.Context.{Context}
+use Rattle.cr_syntax.specs.declared.part.Part.{Part}
+use Rattle.cr_syntax.specs.declared.part.Part.TheVariants as part
+use Rattle.cr_syntax.specs.declared.part.Context.{Context}
 use Rattle.cr_syntax.specs.Words.{Lexeme}
 use Rattle.cr_syntax.specs.Scopes.{Scopes}
 use Rattle.cr_syntax.specs.Trees.{Trees, none, node, one, ◌&◌}
@@ -17,18 +17,18 @@ use Rattle.cr_syntax.specs.Grammar.{inner_list, closing}
 use Rattle.cr_syntax.specs.Grammar as grammar
 use Rattle.cr_syntax.specs.Spells.{Limit, AtMost, Upto, Is, Spells, a, rest}
 use Rattle.cr_syntax.specs.Spells as spells
-use Rattle.cr_syntax.specs.Units.{most_levels, Has, has_here, has_inside, has_after, one_begins_at, one_ends_at, after_first, initializer_at, cast_operand_at, postfix_before, member_before, switch_body_at}
+use Rattle.cr_syntax.specs.Units.{most_levels, Has, has_here, has_inside, has_after, one_begins_at, one_ends_at, after_first, initializer_at, cast_operand_at, postfix_before, member_before, switch_body_at, begins_statement}
 use Rattle.cr_machine.specs.Machine.{Goal, Prog, Manner, Runs, Done, Allows, plain, opens, reopens, named, the, has, give, call, choose, bar, made, drops, run_give, run_take, run_pass, run_no, run_yes, run_here, run_call}
-use Rattle.cr_machine.specs.Machine.{whole, expression, commas, assignment, conditional, operands, cast, unary, measured, postfix, called, grouped, texts, arguments, suffixes, type_name, row, more, element, structure, members, member, member_declarators, enumeration, enumerators, enumerator, consts, declarator, declarator_suffixes, abstract_suffixes, size, parameters, more_parameters, parameter}
+use Rattle.cr_machine.specs.Machine.{whole, expression, commas, assignment, conditional, operands, cast, unary, measured, postfix, called, grouped, texts, arguments, suffixes, type_name, row, more, element, structure, members, member, member_declarators, enumeration, enumerators, enumerator, qualifiers, declarator, declarator_suffixes, abstract_suffixes, size, parameters, more_parameters, parameter}
 use Rattle.cr_machine.specs.Machine.{unit, externals, external, declaration, init_declarators, initialized, initializer, initializers, statement, block, if_rest, switch_rest, while_rest, do_rest, for_rest, return_rest, for_clauses, clause, compound, items, item}
 use Rattle.cr_machine.specs.Machine as m
-use Rattle.cr_machine.specs.MachineBody.{body, assigned, operated, prefixed, suffixed, sized, other_primary, suffixes_end, other_element, array_start, member_end, declared_on, labelled, unlabelled, switch_body, is_designator, is_label, label_start, Words, is_identifier, start_goal, tighter, assignment_operators, operators, unary_prefixes, cast_prefixes, constants, postfix_operators, specifier_words, row_kind, in_row, in_parameters}
+use Rattle.cr_machine.specs.MachineBody.{body, assigned, operated, prefixed, suffixed, sized, other_primary, suffixes_end, other_element, array_start, member_end, declared_on, labelled, unlabelled, switch_body, is_designator, is_label, label_start, statement_start, Words, is_identifier, start_goal, tighter, assignment_operators, operators, unary_prefixes, cast_prefixes, constants, postfix_operators, specifier_words, row_kind, in_row, in_parameters}
 use Rattle.cr_machine.specs.MachineLaws.{IsStart}
 use Rattle.cr_syntax.specs.Reads.{same_word, is_word}
 use Rattle.cr_syntax.specs.Expressions.{Start, ShowsFrom, OutsideFrom, compound_literal, called_expression, bit_field, unused_keyword}
 use Rattle.cr_syntax.proofs.Tests.{both, some_one}
 use Rattle.cr_machine.proofs.MachineRuns.{reach, same}
-use Rattle.cr_machine.proofs.MachineEnds.{Way, barring, Ends, refused_so, end_pass, end_no, end_bar, end_here, end_look, end_set, end_behind, end_inside}
+use Rattle.cr_machine.proofs.MachineEnds.{Way, barring, Ends, refused_so, end_pass, end_no, end_bar, end_free, end_here, end_look, end_set, end_behind, end_inside}
 use Rattle.cr_machine.proofs.MachineSpells as facts
 use Rattle.cr_machine.proofs.MachineSpells.{and_none, is_one, forth}
 use Rattle.cr_machine.proofs.MachineGives.{AllRows, no_rows, also, gives}
@@ -38,14 +38,14 @@ use Rattle.cr_machine.proofs.MachineSound.{each, runs_sound, part_some}
 use Rattle.cr_machine.proofs.MachineFirst.{none_true, yes, differs, sorted}
 use Rattle.cr_machine.proofs.MachineTasks as task
 use Rattle.cr_machine.proofs.MachineBegins.{named_first, is_named}
-use Rattle.cr_machine.proofs.MachineDeclarators.{consts_go, named_const}
+use Rattle.cr_machine.proofs.MachineDeclarators.{qualifiers_go, named_qualifier}
 use Rattle.cr_machine.proofs.MachineComplete.{completes, spelled_is_read, free_at_end, begun_same}
 use Rattle.cr_machine.proofs.MachineWays.{Point, at, same_way}
 use Rattle.cr_machine.proofs.MachineMarks.{Barred, barred_on, or_so, Marks, Behind, marks_choose, same_test, marked}
 use Rattle.std.proofs.Math.Bool.{or-false}
 
 -- The brace of a compound literal, the bracket of a called expression, the colon of a bit-field; the dot and the bracket of
--- a designator; a label as the body of the switch that begins at token s. Two more name no token: a label or a switch, a definition.
+-- a designator; a label, or a word that begins another statement, as the body of the switch that begins at token s. Two more name no token: a label or a switch, a definition.
 pub data Form : Type 0 where
   literal : Form
   calling : Form
@@ -54,6 +54,7 @@ pub data Form : Type 0 where
   indexed : Form
   case_body : ℕ → Form
   default_body : ℕ → Form
+  statement_body : ℕ → Word → Form
   some_label : Form
   some_definition : Form
 
@@ -65,6 +66,7 @@ row_of dotted = 2
 row_of indexed = 2
 row_of (case_body s) = 6
 row_of (default_body s) = 6
+row_of (statement_body s w) = 7
 row_of _ = 0
 
 abbrev pub token_of : Form → Option Word
@@ -75,6 +77,7 @@ token_of dotted = Some word.Dot
 token_of indexed = Some word.LeftBracket
 token_of (case_body s) = Some word.Case
 token_of (default_body s) = Some word.Default
+token_of (statement_body s w) = Some w
 token_of _ = None
 
 abbrev pub is_literal : Form → Bool
@@ -98,6 +101,7 @@ is_designating _ = false
 abbrev pub is_switching : Form → ℕ → Bool
 is_switching (case_body s) i = i == s
 is_switching (default_body s) i = i == s
+is_switching (statement_body s w) i = begins_statement w && (i == s)
 is_switching _ i = false
 
 abbrev pub is_labelling : Form → Bool
@@ -208,10 +212,21 @@ designator_facts dotted q = (word.Dot, refl, refl, refl, refl)
 designator_facts indexed q = (word.LeftBracket, refl, refl, refl, refl)
 designator_facts _ q = none_true q
 
-switching_facts : (r : Form) (s : ℕ) → is_switching r s ≡ true → (w : Word) × (token_of r ≡ Some w) × (6 ≡ row_of r) × (is_label w ≡ true)
-switching_facts (case_body s') s q = (word.Case, refl, refl, refl)
-switching_facts (default_body s') s q = (word.Default, refl, refl, refl)
+data Switching (r : Form) : Type 0 where
+  by_label : {w : Word} → token_of r ≡ Some w → 6 ≡ row_of r → is_label w ≡ true → Switching r
+  by_statement : {w : Word} → token_of r ≡ Some w → 7 ≡ row_of r → begins_statement w ≡ true → Switching r
+
+switching_facts : (r : Form) (s : ℕ) → is_switching r s ≡ true → Switching r
+switching_facts (case_body s') s q = by_label {w = word.Case} refl refl refl
+switching_facts (default_body s') s q = by_label {w = word.Default} refl refl refl
+switching_facts (statement_body s' w) s q = by_statement {w = w} refl refl (both (begins_statement w) (s == s') q).0
 switching_facts _ s q = none_true q
+
+-- such a word is no label
+pub statement_is_no_label : (w : Word) → begins_statement w ≡ true → (is_label w ≡ false) × (same_word w word.Case ≡ false) × (same_word w word.Default ≡ false)
+statement_is_no_label word.Case q = none_true q
+statement_is_no_label word.Default q = none_true q
+statement_is_no_label _ q = (refl, refl, refl)
 
 -- a label where a switch's body is wanted
 label_starts : (ts : List Lexeme) (i : ℕ) (w : Word) → is_label w ≡ true → Is ts i w → is_word ts i word.Case || is_word ts i word.Default ≡ true
@@ -501,7 +516,7 @@ before_colon {ts = ts} {limit = limit} (spells.of_chain grammar.declarator_direc
     completes ts limit task.direct s named refl _ (run_pass (differs q word.LeftBracket refl) (run_pass (differs q word.LeftParen refl) run_give))
 before_colon {ts = ts} {limit = limit} {h = h} {c = c} {e = e} {d = d} {i = i} {j = j} (spells.of_alternative grammar.pointer_declarator f (spells.opens q' v (spells.qualified {t = t} x s))) q =
     subst (λ z. Runs body ts limit (body (declarator named h d)) c i (Done (one kind.PointerDeclarator i j z) e j)) (and_none t)
-    (run_here (run_take (yes q') v (run_call (consts_go ts limit x (named_const (named_first facts.by_declarator s)))
+    (run_here (run_take (yes q') v (run_call (qualifiers_go ts limit x (named_qualifier c (named_first facts.by_declarator s)))
     (run_no refl (run_call (before_colon s q) (run_yes (is_named facts.by_declarator s) (run_here run_give)))))))
 
 module _ (ts us : List Lexeme) (limit top : Limit) (r : Form) (k : ℕ) (stands : (w : Word) → token_of r ≡ Some w → Is ts k w)
@@ -670,7 +685,15 @@ module _ (ts us : List Lexeme) (limit top : Limit) (r : Form) (k : ℕ) (stands 
   -- The body of a switch, which begins here.
 
   switches : (l : m.Labels) (d s : ℕ) (x : Trees) (c : Scopes) (i : ℕ) → is_switching r s ≡ true → i ≡ k → Bars (switch_body l d s x) c i
-  switches l d s x c i y e = let w = switching_facts r s y in ends_at 6 label_start (d + 1) w.2 e (end_bar (label_starts ts i w.0 w.3 (at_token w.0 w.1 e)))
+  switches l d s x c i y e = by (switching_facts r s y)
+    where
+      by : Switching r → Bars (switch_body l d s x) c i
+      by (by_label {w = w} q n z) = ends_at 6 label_start (d + 1) n e (end_bar (label_starts ts i w z (at_token w q e)))
+      by (by_statement {w = w} q n z) =
+          let v = at_token w q e in
+          let f = statement_is_no_label w z in
+          ends_at 7 statement_start (d + 1) n e
+          (end_free (or_from (is_word ts i word.Case) (is_word ts i word.Default) (differs v word.Case f.1) (differs v word.Default f.2)) (end_bar (sorted begins_statement true v z)))
 
   switch_owes : (l : m.Labels) (d s : ℕ) (x : Trees) (c : Scopes) (i : ℕ) {l' : Kind} {s' e' : ℕ} {b : Trees} → x ≡ one l' s' e' b → Clean r k x →
       There (switch_body l d s x) (λ t e j. asks_block r ≡ true → Clean r k t) c i
@@ -816,7 +839,7 @@ module _ (ts us : List Lexeme) (limit top : Limit) (r : Form) (k : ℕ) (stands 
     inl (inl (λ t e j _ _ x. inl (clean_one r k refl (clean_alone r k x))), clean_one r k refl (clean_none r k)),
     tt,
   )
-  owes (consts d) c i = (inl (λ t e j _ _ x. inl x), clean_none r k)
+  owes (qualifiers d) c i = (inl (λ t e j _ _ x. inl x), clean_none r k)
   owes (declarator w h d) c i = (
     inl (λ t e j _ _ x. inl (
       λ o. (λ t' e' j' _ _ x'. inl (λ u. clean_one r k refl (clean_alone r k x'), λ u. clean_one r k refl (clean_alone r k x')), clean_one r k refl (clean_none r k)),

@@ -1,5 +1,6 @@
 -- What a program owes for what it answers, and that its runs give no less.
-use Rattle.std.proofs.Common.{◌≡◌, ℕ, ◌+◌, ◌<◌, ◌≤◌, true, false, not, ◌&&◌, ◌||◌, List, [], ◌∷◌, subst, ◌∙◌, arith}
+use Rattle.std.proofs.lemmas.Bool.{or_cases}
+use Rattle.std.proofs.Common.{◌≡◌, ℕ, ◌+◌, ◌<◌, ◌≤◌, true, false, not, ◌&&◌, ◌||◌, List, [], ◌∷◌, subst, ◌∙◌, arith, inl, inr, ◌⊎◌}
 use Rattle.std.specs.Prelude.{slice_get}
 use Rattle.cr_syntax.specs.declared.word.Word.{Word}
 use Rattle.cr_syntax.specs.declared.word.Word.TheVariants as word
@@ -23,7 +24,7 @@ Holds us c i (m.has f) = Unit {0}
 Holds us c i m.ordinary = IsIdentifier us c i false
 Holds us c i (m.type_identifier typed) = IsIdentifier us c i true × (typed ≡ false)
 Holds us c i (m.declared typed) = Is us i word.Identifier × (typed || not (is_type c (spelling_at us i)) ≡ true)
-Holds us c i (m.or x y) = Unit {0}
+Holds us c i (m.or x y) = Holds us c i x ⊎ Holds us c i y
 
 pub holds : (us : List Lexeme) (c : Scopes) (i : ℕ) (x : Test) → passes us c i x ≡ true → Holds us c i x
 holds us c i (m.the w) q = is_of us i w q
@@ -34,7 +35,7 @@ holds us c i (m.type_identifier typed) q =
     let v = both (is_word us i word.Identifier) (is_type c (spelling_at us i)) w.0 in
     ((is_of us i word.Identifier v.0, v.1), not_true typed w.1)
 holds us c i (m.declared typed) q = let w = both (is_word us i word.Identifier) (typed || not (is_type c (spelling_at us i))) q in (is_of us i word.Identifier w.0, w.1)
-holds us c i (m.or x y) q = tt
+holds us c i (m.or x y) q = elim (or_cases (passes us c i x) (passes us c i y) q) [ inl w ↦ inl (holds us c i x w) | inr w ↦ inr (holds us c i y w) ]
 
 -- What holds of a program's answers by the meaning of the goals that it calls. Of a goal's answer something may be known besides.
 module _ (us : List Lexeme) (top : Limit) (known means : Goal → Scopes → ℕ → Trees → Scopes → ℕ → Type 0) where

@@ -6,21 +6,21 @@ use Rattle.cr_syntax.specs.declared.word.Word.{Word}
 use Rattle.cr_syntax.specs.declared.word.Word.TheVariants as word
 use Rattle.cr_syntax.specs.declared.node.Kind.{Kind}
 use Rattle.cr_syntax.specs.declared.node.Kind.TheVariants as kind
-use Rattle.cr_syntax.specs.declared.symbol.Part.{Part}
-use Rattle.cr_syntax.specs.declared.symbol.Part.TheVariants as part
-use Rattle.cr_syntax.specs.declared.symbol.Symbol.{Symbol}
-use Rattle.cr_syntax.specs.declared.symbol.Symbol.TheVariants as symbol
-use Rattle.cr_syntax.specs.declared.symbol.Context.{Context}
+use Rattle.cr_syntax.specs.declared.part.Part.{Part}
+use Rattle.cr_syntax.specs.declared.part.Part.TheVariants as part
+use Rattle.cr_syntax.specs.Symbols.{Symbol}
+use Rattle.cr_syntax.specs.Symbols as symbol
+use Rattle.cr_syntax.specs.declared.part.Context.{Context}
 use Rattle.cr_syntax.specs.Words.{Lexeme}
 use Rattle.cr_syntax.specs.Scopes.{Scopes, enter}
 use Rattle.cr_syntax.specs.Trees.{Trees, none, one, ◌&◌}
 use Rattle.cr_syntax.specs.Context.{fresh, past_token, past_part, declared_name, hears}
 use Rattle.cr_syntax.specs.Grammar.{token, inner_list, closing, many, list, part, binary}
 use Rattle.cr_syntax.specs.Grammar as grammar
-use Rattle.cr_syntax.specs.Spells.{Limit, Phrase, Is, Stands, Within, Spells, a, rest, AreConst, const_none}
+use Rattle.cr_syntax.specs.Spells.{Limit, Phrase, Is, Stands, Within, Spells, a, rest, AreQualifiers, qualifiers_none}
 use Rattle.cr_syntax.specs.Spells as spells
 use Rattle.cr_machine.specs.Machine.{Goal, Prog, Test, Manner, Wanted, named, unnamed, either, Allows, plain, opens, reopens, give, call, made, choose, the, around, innermost_of}
-use Rattle.cr_machine.specs.Machine.{whole, expression, commas, assignment, conditional, operands, cast, unary, measured, postfix, called, grouped, texts, arguments, suffixes, type_name, row, more, element, structure, members, member, member_declarators, enumeration, enumerators, enumerator, consts, declarator, declarator_suffixes, abstract_suffixes, size, parameters, more_parameters, parameter}
+use Rattle.cr_machine.specs.Machine.{whole, expression, commas, assignment, conditional, operands, cast, unary, measured, postfix, called, grouped, texts, arguments, suffixes, type_name, row, more, element, structure, members, member, member_declarators, enumeration, enumerators, enumerator, qualifiers, declarator, declarator_suffixes, abstract_suffixes, size, parameters, more_parameters, parameter}
 use Rattle.cr_machine.specs.Machine.{Labels, anywhere, own_block, nowhere, unit, externals, external, declaration, init_declarators, initialized, initializer, initializers, statement, block, if_rest, switch_rest, while_rest, do_rest, for_rest, return_rest, for_clauses, clause, compound, items, item}
 use Rattle.cr_machine.specs.Machine as m
 use Rattle.cr_syntax.specs.Units.{has_here, has_inside, unit_side, Place, in_switch, own_item, elsewhere}
@@ -36,7 +36,7 @@ use Rattle.cr_machine.proofs.MachineSound.{Declared, group_named, group_unnamed,
 use Rattle.cr_machine.proofs.MachineFails.{Fails, words_fail}
 use Rattle.cr_machine.proofs.MachineEnds.{Way}
 use Rattle.cr_machine.proofs.MachineShown.{Next, next_literal, next_call, next_field, next_free, next_more, next_so, ShownIn, Shown, seen, every, Started, shown_literal, shown_call, shown_field, shown_free, shown_so, Room, Barred, Labelled, Defined, has_left, left, right, inside, first, second, third, row_shown, parameter_shown, parameters_shown, operand_begins, postfix_ends, declarator_ends}
-use Rattle.cr_machine.proofs.MachineExtend.{Front, front_itself, front_then, longer, Stand, past, past_more, longer_by, weaken, weaken_consts, weaken_name}
+use Rattle.cr_machine.proofs.MachineExtend.{Front, front_itself, front_then, longer, Stand, past, past_more, longer_by, weaken, weaken_qualifiers, weaken_name}
 use Rattle.cr_machine.proofs.MachineTasks.{below}
 use Rattle.cr_machine.proofs.MachineTasks as task
 use Rattle.cr_machine.proofs.MachineComplete.{completes}
@@ -249,7 +249,7 @@ module _ (us : List Lexeme) (top : Limit) (way : Way) (late : (g : Manner) (i d 
   -- a declarator behind any number of `const`
   pub record OneQualified (c : Scopes) (d i : ℕ) : Type 0 where
     pub at : ℕ
-    pub consts : AreConst us top d i at
+    pub qualifiers : AreQualifiers us top d i at
     pub declared : (w : Wanted) (h : Context) → OneDeclared w h c d at
 
   pub record OneSize (c : Scopes) (d i : ℕ) : Type 0 where
@@ -310,7 +310,7 @@ module _ (us : List Lexeme) (top : Limit) (way : Way) (late : (g : Manner) (i d 
   Via (enumeration d s) c i = BehindOn (token word.Enum) d s c i → G part.Plain d c s
   Via (enumerators d s x) c i = (h : Context) → Grown us top way (rest (grammar.inner_list part.Enumerator ∷ symbol.TrailingComma ∷ [])) h c d i
   Via (enumerator d) c i = G part.Enumerator d c i
-  Via (consts d) c i = OneQualified c d i
+  Via (qualifiers d) c i = OneQualified c d i
   Via (declarator w h d) c i = OneDeclared w h c d i
   Via (declarator_suffixes d s x) c i = (h : Context) (c0 : Scopes) → IsOpen c → Spells us top (a part.DirectDeclarator) h c0 c d x s i → Grown us top way (a part.DirectDeclarator) h c0 d s
   Via (abstract_suffixes d s x) c i = (c0 : Scopes) → Reads us top part.DirectAbstract d c0 s x c i → G part.DirectAbstract d c0 s
@@ -473,7 +473,7 @@ module _ (us : List Lexeme) (top : Limit) (way : Way) (late : (g : Manner) (i d 
   pub one_from : (w : Wanted) (h : Context) (c : Scopes) (d i : ℕ) → Room us top way i d → OneDeclared w h c d i
   one_from named h c d i z = one_named refl (put3 z word.LeftParen word.Identifier word.RightParen (λ all f q q' q'' le. bracketed all h c d i q q' q'' (z.fits opens d (omega arith)) le))
   one_from either h c d i z = one_named refl (put3 z word.LeftParen word.Identifier word.RightParen (λ all f q q' q'' le. bracketed all h c d i q q' q'' (z.fits opens d (omega arith)) le))
-  one_from unnamed h c d i z = one_unnamed refl (λ h'. put1 z word.Star (λ all f q le. (_, _, spells.of_alternative grammar.abstract_pointer refl (spells.opens q (z.fits opens d (omega arith)) (spells.qualified_none const_none)))))
+  one_from unnamed h c d i z = one_unnamed refl (λ h'. put1 z word.Star (λ all f q le. (_, _, spells.of_alternative grammar.abstract_pointer refl (spells.opens q (z.fits opens d (omega arith)) (spells.qualified_none qualifiers_none)))))
 
   some_size : (c : Scopes) (d i : ℕ) → Room us top way i (d + 1) → OneSize c d i
   some_size c d i z =
@@ -963,19 +963,19 @@ module _ (us : List Lexeme) (top : Limit) (way : Way) (late : (g : Manner) (i d 
 
   -- Declarators.
 
-  one_pointer : (w : Wanted) (h : Context) (d : ℕ) (c : Scopes) (i : ℕ) → Is us i word.Star → Within top i d → {e : Scopes} {j : ℕ} → (c ≡ e) × AreConst us top (d + 1) (i + 1) j → OneDeclared w (past_token h) e (d + 1) j → OneDeclared w h c d i
+  one_pointer : (w : Wanted) (h : Context) (d : ℕ) (c : Scopes) (i : ℕ) → Is us i word.Star → Within top i d → {e : Scopes} {j : ℕ} → (c ≡ e) × AreQualifiers us top (d + 1) (i + 1) j → OneDeclared w (past_token h) e (d + 1) j → OneDeclared w h c d i
   one_pointer w h d c i q v {j = k} x (one_named y g) = one_named y (more0 g (λ all f t e j le s shown. (
     _,
     _,
     spells.of_alternative grammar.pointer_declarator refl (spells.opens (f.words _ _ q) v
-        (spells.qualified (weaken_consts f x.1) (subst (λ z. Spells all top (a part.Declarator) (past_token h) z e (d + 1) t k j) (sym x.0) s))),
+        (spells.qualified (weaken_qualifiers f x.1) (subst (λ z. Spells all top (a part.Declarator) (past_token h) z e (d + 1) t k j) (sym x.0) s))),
     inside shown,
   )))
   one_pointer w h d c i q v {j = k} x (one_unnamed y g) = one_unnamed y (λ h'. more0 (g (past_token fresh)) (λ all f t e j le s shown. (
     _,
     _,
     spells.of_alternative grammar.abstract_pointer refl (spells.opens (f.words _ _ q) v
-        (spells.qualified_some (weaken_consts f x.1) (subst (λ z. Spells all top (a part.Abstract) (past_token fresh) z e (d + 1) t k j) (sym x.0) s))),
+        (spells.qualified_some (weaken_qualifiers f x.1) (subst (λ z. Spells all top (a part.Abstract) (past_token fresh) z e (d + 1) t k j) (sym x.0) s))),
     inside shown,
   )))
 
@@ -1016,9 +1016,9 @@ module _ (us : List Lexeme) (top : Limit) (way : Way) (late : (g : Manner) (i d 
 
   pub owes_declarator : (w : Wanted) (h : Context) (d : ℕ) (c : Scopes) (i : ℕ) → Owes (body (declarator w h d)) (Via (declarator w h d) c i) c i
   owes_declarator w h d c i = (
-    λ z. record { at = i + 1; consts = const_none; declared = λ w h. one_from w h c (d + 1) (i + 1) (z (d + 1)) },
+    λ z. record { at = i + 1; qualifiers = qualifiers_none; declared = λ w h. one_from w h c (d + 1) (i + 1) (z (d + 1)) },
     λ q v. (
-      λ y. one_pointer w h d c i q v (refl, y.consts) (y.declared w (past_token h)),
+      λ y. one_pointer w h d c i q v (refl, y.qualifiers) (y.declared w (past_token h)),
       λ t e j _ _ x. (λ o. (λ _. (λ y. one_pointer w h d c i q v x y, λ t' e' j' _ _ _. (λ y. tt, λ y. tt)), tt), λ o. (λ y. one_pointer w h d c i q v x y, λ t' e' j' _ _ _. (λ y. tt, λ y. tt))),
     ),
     (

@@ -2,9 +2,9 @@
 use Rattle.std.proofs.Common.{◌≡◌, ℕ, suc, ◌+◌, ◌≤◌, Bool, true, false, List, [], ◌∷◌, length, refl, arith}
 use Rattle.cr_syntax.specs.declared.word.Word.{Word}
 use Rattle.cr_syntax.specs.declared.node.Kind.{Kind}
-use Rattle.cr_syntax.specs.declared.symbol.Part.{Part}
-use Rattle.cr_syntax.specs.declared.symbol.Part.TheVariants as part
-use Rattle.cr_syntax.specs.declared.symbol.Context.{Context}
+use Rattle.cr_syntax.specs.declared.part.Part.{Part}
+use Rattle.cr_syntax.specs.declared.part.Part.TheVariants as part
+use Rattle.cr_syntax.specs.declared.part.Context.{Context}
 use Rattle.cr_syntax.specs.declared.scopes.TypeName.{TypeName}
 use Rattle.cr_syntax.specs.Words.{Lexeme}
 use Rattle.cr_syntax.specs.Scopes.{Scopes, enter}
@@ -12,7 +12,7 @@ use Rattle.cr_syntax.specs.Trees.{Trees, none, ◌&◌}
 use Rattle.cr_syntax.specs.Context.{fresh, past_part}
 use Rattle.cr_syntax.specs.Spells.{Limit}
 use Rattle.cr_machine.specs.Machine.{Goal, Prog, Manner, Labels, choose, Runs, Done, plain, opens, give, made, around, brought}
-use Rattle.cr_machine.specs.Machine.{whole, expression, commas, assignment, conditional, binary, operands, cast, unary, measured, postfix, called, grouped, texts, arguments, suffixes, type_name, row, more, element, structure, members, member, member_declarators, enumeration, enumerators, enumerator, consts, declarator, declarator_suffixes, abstract_suffixes, size, parameters, more_parameters, parameter}
+use Rattle.cr_machine.specs.Machine.{whole, expression, commas, assignment, conditional, binary, operands, cast, unary, measured, postfix, called, grouped, texts, arguments, suffixes, type_name, row, more, element, structure, members, member, member_declarators, enumeration, enumerators, enumerator, qualifiers, declarator, declarator_suffixes, abstract_suffixes, size, parameters, more_parameters, parameter}
 use Rattle.cr_machine.specs.Machine.{unit, externals, external, declaration, init_declarators, initialized, initializer, initializers, statement, block, if_rest, switch_rest, while_rest, do_rest, for_rest, return_rest, for_clauses, clause, compound, items, item}
 use Rattle.cr_machine.specs.MachineBody.{body, assigned, operated, prefixed, suffixed, sized, other_primary, suffixes_end, other_element, array_start, declared_on, unlabelled, Words, is_declarator, may_omit, start_goal, tighter, assignment_operators, operators, unary_prefixes, cast_prefixes, constants, postfix_operators, specifier_words}
 use Rattle.cr_machine.proofs.MachineGives.{Gives, gives, AllRows, no_rows, also, gives_choose}
@@ -146,7 +146,7 @@ module _ (us : List Lexeme) (top : Limit) where
   kept (enumeration d s) c i = (λ q w. (λ q' w' t e j _ _ m. m, omega arith), (λ q w t e j _ _ m. m, tt))
   kept (enumerators d s a) c i = λ t e j _ _ m. (λ q w. (λ q' w'. m, λ t' e' j' _ _ m'. omega arith), (λ q w. m, tt))
   kept (enumerator d) c i = (λ q w. (λ q' w' t e j _ _ m. entered_more (length c) (brought us j i false) e m, entered_more (length c) (brought us (i + 1) i false) c (omega arith)), tt)
-  kept (consts d) c i = (λ q w t e j _ _ m. m, omega arith)
+  kept (qualifiers d) c i = (λ q w t e j _ _ m. m, omega arith)
   kept (declarator w h d) c i = (
     λ q v t e j _ _ m. (λ o. (λ t' e' j' _ _ m'. pointer e t' e' m m', (m, λ x. cc, λ x. not_both (may_omit w) o x)), λ o t' e' j' _ _ m'. pointer e t' e' m m'),
     (

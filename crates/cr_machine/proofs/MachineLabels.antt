@@ -4,7 +4,7 @@ use Rattle.std.proofs.lemmas.Bool.{eqb-true, or_parts, or_from, cases_Bool, case
 use Rattle.cr_syntax.specs.declared.word.Word.TheVariants as word
 use Rattle.cr_syntax.specs.declared.node.Kind.{Kind}
 use Rattle.cr_syntax.specs.declared.node.Kind.TheVariants as kind
-use Rattle.cr_syntax.specs.declared.symbol.Part.TheVariants as part
+use Rattle.cr_syntax.specs.declared.part.Part.TheVariants as part
 use Rattle.cr_syntax.specs.Words.{Lexeme}
 use Rattle.cr_syntax.specs.Scopes.{Scopes, enter}
 use Rattle.cr_syntax.specs.Trees.{Trees, none, node, one, ◌&◌}

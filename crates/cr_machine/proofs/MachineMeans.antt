@@ -2,22 +2,22 @@
 use Rattle.std.proofs.Common.{◌≡◌, ℕ, ◌+◌, ◌<◌, Bool, true, false, List, [], ◌∷◌, length, refl, arith}
 use Rattle.cr_syntax.specs.declared.word.Word.TheVariants as word
 use Rattle.cr_syntax.specs.declared.node.Kind.TheVariants as kind
-use Rattle.cr_syntax.specs.declared.symbol.Depth.TheVariants.{Outer}
-use Rattle.cr_syntax.specs.declared.symbol.Part.{Part}
-use Rattle.cr_syntax.specs.declared.symbol.Part.TheVariants as part
-use Rattle.cr_syntax.specs.declared.symbol.Symbol.{Symbol}
-use Rattle.cr_syntax.specs.declared.symbol.Symbol.TheVariants as symbol
-use Rattle.cr_syntax.specs.declared.symbol.Context.{Context}
+use Rattle.cr_syntax.specs.Symbols.{Outer}
+use Rattle.cr_syntax.specs.declared.part.Part.{Part}
+use Rattle.cr_syntax.specs.declared.part.Part.TheVariants as part
+use Rattle.cr_syntax.specs.Symbols.{Symbol}
+use Rattle.cr_syntax.specs.Symbols as symbol
+use Rattle.cr_syntax.specs.declared.part.Context.{Context}
 use Rattle.cr_syntax.specs.declared.scopes.TypeName.{TypeName}
 use Rattle.cr_syntax.specs.Words.{Lexeme}
 use Rattle.cr_syntax.specs.Scopes.{Scopes, enter}
 use Rattle.cr_syntax.specs.Trees.{Trees, none, node, one, ◌&◌}
 use Rattle.cr_syntax.specs.Context.{past_token, past_part, declared_name}
 use Rattle.cr_syntax.specs.Grammar.{Side, inner, inner_many, inner_list, list, many, opening, closing, token}
-use Rattle.cr_syntax.specs.Spells.{Limit, Is, Stands, AreConst, Spells, a, rest}
+use Rattle.cr_syntax.specs.Spells.{Limit, Is, Stands, AreQualifiers, Spells, a, rest}
 use Rattle.cr_syntax.specs.Units.{unit_side}
 use Rattle.cr_machine.specs.Machine.{Goal, Wanted, around, innermost_of}
-use Rattle.cr_machine.specs.Machine.{whole, expression, commas, assignment, conditional, binary, operands, cast, unary, measured, postfix, called, grouped, texts, arguments, suffixes, type_name, row, more, element, structure, members, member, member_declarators, enumeration, enumerators, enumerator, consts, declarator, declarator_suffixes, abstract_suffixes, size, parameters, more_parameters, parameter}
+use Rattle.cr_machine.specs.Machine.{whole, expression, commas, assignment, conditional, binary, operands, cast, unary, measured, postfix, called, grouped, texts, arguments, suffixes, type_name, row, more, element, structure, members, member, member_declarators, enumeration, enumerators, enumerator, qualifiers, declarator, declarator_suffixes, abstract_suffixes, size, parameters, more_parameters, parameter}
 use Rattle.cr_machine.specs.Machine.{unit, externals, external, declaration, init_declarators, initialized, initializer, initializers, statement, block, if_rest, switch_rest, while_rest, do_rest, for_rest, return_rest, for_clauses, clause, compound, items, item}
 use Rattle.cr_machine.specs.MachineBody.{is_declarator, may_name, may_omit}
 
@@ -138,7 +138,7 @@ module _ (us : List Lexeme) (top : Limit) where
   Means (enumerators d s x) c i t e j = (u : Trees) × (t ≡ one kind.EnumContent s j (x & u)) ×
       ((h : Context) → Spells us top (rest (inner_list part.Enumerator ∷ symbol.TrailingComma ∷ [])) h c e d u i j)
   Means (enumerator d) c i t e j = Reads part.Enumerator d c i t e j
-  Means (consts d) c i t e j = (c ≡ e) × AreConst us top d i j
+  Means (qualifiers d) c i t e j = (c ≡ e) × AreQualifiers us top d i j
   Means (declarator w h d) c i t e j = IsDeclared w h d c i t e j
   Means (declarator_suffixes d s x) c i t e j = (h : Context) (c0 : Scopes) → IsOpen c → is_declarator x ≡ true → Spells us top (a part.DirectDeclarator) h c0 c d x s i →
       IsOpen e × (is_declarator t ≡ true) × Spells us top (a part.DirectDeclarator) h c0 e d t s j

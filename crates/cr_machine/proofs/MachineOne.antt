@@ -1,4 +1,4 @@
--- A start has one reading, and a token list one first refusal.
+-- A start has one reading.
 use Rattle.std.proofs.Common.{◌≡◌, ℕ, false, ◌+◌, ◌<◌, ◌≤◌, List, length, Option, Some, refl, sym, ap, subst, ◌∙◌, arith, inl, inr}
 use Rattle.std.proofs.lemmas.Bool.{cases_lt}
 use Rattle.cr_syntax.specs.declared.word.Word.{Word}
@@ -73,33 +73,36 @@ module _ (size : ℕ) (Deep : ℕ → Type 0) (Row : ℕ → ℕ → Type 0) (Un
   cause_of (unexpected lt n n' x) far = by_end x
   cause_of (ended e x) far = absurd (omega arith)
 
-  module _ (one_row : (k n n' : ℕ) → Row k n → Row k n' → n ≡ n') where
-    one_stop : {k : ℕ} {r r' : Refusal} → Stops k r → Stops k r' → r ≡ r'
-    one_stop (too_deep lt d) (too_deep lt' d') = refl
-    one_stop (too_deep lt d) (outside lt' n o) = absurd (n d)
-    one_stop (too_deep lt d) (unexpected lt' n n' x) = absurd (n d)
-    one_stop (too_deep lt d) (ended e x) = absurd (omega arith)
-    one_stop (outside lt n o) (too_deep lt' d) = absurd (n d)
-    one_stop {k = k} (outside {row = row} lt n o) (outside {row = row'} lt' n' o') = ap (OutsideSubset k) (one_row k row row' o o')
-    one_stop (outside {row = row} lt n o) (unexpected lt' m m' x) = absurd (m' row o)
-    one_stop (outside lt n o) (ended e x) = absurd (omega arith)
-    one_stop (unexpected lt n n' x) (too_deep lt' d) = absurd (n d)
-    one_stop (unexpected lt n n' x) (outside {row = row} lt' m o) = absurd (n' row o)
-    one_stop (unexpected lt n n' x) (unexpected lt' m m' x') = refl
-    one_stop (unexpected lt n n' x) (ended e x') = absurd (omega arith)
-    one_stop (ended e x) (too_deep lt d) = absurd (omega arith)
-    one_stop (ended e x) (outside lt n o) = absurd (omega arith)
-    one_stop (ended e x) (unexpected lt n n' x') = absurd (omega arith)
-    one_stop (ended e x) (ended e' x') = refl
+  -- rows that name one token are one
+  abbrev pub OneRow : ℕ → Type 0
+  OneRow k = (n n' : ℕ) → Row k n → Row k n' → n ≡ n'
 
-    pub two_stops : (fine : ℕ → Type 0) → ((k n : ℕ) → fine k → fine n → k < n → k < size → IsCause k → ⊥) →
-        (k k' : ℕ) {r r' : Refusal} → k ≤ size → k' ≤ size → fine k → fine k' → Stops k r → Stops k' r' → r ≡ r'
-    two_stops fine no_cause k k' {r = r} {r' = r'} far far' f f' x x' = by (order k k')
-      where
-        by : Order k k' → r ≡ r'
-        by (less lt) = absurd (no_cause k k' f f' lt (omega arith) (cause_of x (omega arith)))
-        by (more lt) = absurd (no_cause k' k f' f lt (omega arith) (cause_of x' (omega arith)))
-        by (alike e) = one_stop x (subst (λ n. Stops n r') (sym e) x')
+  one_stop : {k : ℕ} {r r' : Refusal} → OneRow k → Stops k r → Stops k r' → r ≡ r'
+  one_stop f (too_deep lt d) (too_deep lt' d') = refl
+  one_stop f (too_deep lt d) (outside lt' n o) = absurd (n d)
+  one_stop f (too_deep lt d) (unexpected lt' n n' x) = absurd (n d)
+  one_stop f (too_deep lt d) (ended e x) = absurd (omega arith)
+  one_stop f (outside lt n o) (too_deep lt' d) = absurd (n d)
+  one_stop {k = k} f (outside {row = row} lt n o) (outside {row = row'} lt' n' o') = ap (OutsideSubset k) (f row row' o o')
+  one_stop f (outside {row = row} lt n o) (unexpected lt' m m' x) = absurd (m' row o)
+  one_stop f (outside lt n o) (ended e x) = absurd (omega arith)
+  one_stop f (unexpected lt n n' x) (too_deep lt' d) = absurd (n d)
+  one_stop f (unexpected lt n n' x) (outside {row = row} lt' m o) = absurd (n' row o)
+  one_stop f (unexpected lt n n' x) (unexpected lt' m m' x') = refl
+  one_stop f (unexpected lt n n' x) (ended e x') = absurd (omega arith)
+  one_stop f (ended e x) (too_deep lt d) = absurd (omega arith)
+  one_stop f (ended e x) (outside lt n o) = absurd (omega arith)
+  one_stop f (ended e x) (unexpected lt n n' x') = absurd (omega arith)
+  one_stop f (ended e x) (ended e' x') = refl
+
+  pub two_stops : (fine : ℕ → Type 0) → ((k n : ℕ) → fine k → fine n → k < n → k < size → IsCause k → ⊥) →
+      (k k' : ℕ) {r r' : Refusal} → OneRow k → k ≤ size → k' ≤ size → fine k → fine k' → Stops k r → Stops k' r' → r ≡ r'
+  two_stops fine no_cause k k' {r = r} {r' = r'} o far far' f f' x x' = by (order k k')
+    where
+      by : Order k k' → r ≡ r'
+      by (less lt) = absurd (no_cause k k' f f' lt (omega arith) (cause_of x (omega arith)))
+      by (more lt) = absurd (no_cause k' k f' f lt (omega arith) (cause_of x' (omega arith)))
+      by (alike e) = one_stop o x (subst (λ n. Stops n r') (sym e) x')
 
 module _ (ts : List Lexeme) (s : Start) (z : IsStart s.part) where
   -- Texts.
@@ -218,7 +221,7 @@ module _ (ts : List Lexeme) (s : Start) (z : IsStart s.part) where
   two (whole far x y n) (whole far' x' y' n') = two_reads far far' x x' y y'
   two (whole far x y n) (part k far' f v) = absurd (read_or_refused far far' x y n f v)
   two (part k far f v) (whole far' x y n) = absurd (read_or_refused far' far x y n f v)
-  two (part k far f v) (part k' far' f' v') = ap Refused (two_stops (length ts) (IsTooDeepFrom ts s) (OutsideFrom ts s) IsUnfit IsUnread (λ k n n' o o'. one_row o o') (IsFineFrom ts s) no_cause k k' far far' f f' v v')
+  two (part k far f v) (part k' far' f' v') = ap Refused (two_stops (length ts) (IsTooDeepFrom ts s) (OutsideFrom ts s) IsUnfit IsUnread (IsFineFrom ts s) no_cause k k' (λ n n' o o'. one_row o o') far far' f f' v v')
 
   pub one_reading : {o o' : Outcome} → IsReading ts s o → IsReading ts s o' → o ≡ o'
   one_reading h h' = two (reads h) (reads h')

@@ -1,30 +1,30 @@
 -- What is spelled depends on its own tokens alone: it is spelled in each text that has their words and spells their names
 -- alike, within each limit that lets them stand. And a part has a token at least.
-use Rattle.std.proofs.Common.{◌≡◌, ℕ, zero, suc, ◌+◌, ◌<◌, ◌≤◌, Bool, true, false, not, ◌&&◌, ◌||◌, List, [], ◌∷◌, length, Some, refl, sym, ap, subst, ◌∙◌, arith}
+use Rattle.std.proofs.Common.{◌≡◌, ℕ, zero, suc, ◌+◌, ◌<◌, ◌≤◌, Bool, true, false, not, ◌&&◌, ◌||◌, List, [], ◌∷◌, length, Some, refl, sym, ap, subst, ◌∙◌, arith, inl, inr}
 use Rattle.std.specs.Prelude.{slice_get, set}
 use Rattle.cr_syntax.specs.declared.word.Word.{Word}
 use Rattle.cr_syntax.specs.declared.word.Word.TheVariants as word
 use Rattle.cr_syntax.specs.declared.node.Kind.{Kind}
 use Rattle.cr_syntax.specs.declared.node.Kind.TheVariants as kind
-use Rattle.cr_syntax.specs.declared.symbol.Part.{Part}
-use Rattle.cr_syntax.specs.declared.symbol.Part.TheVariants as part
-use Rattle.cr_syntax.specs.declared.symbol.Symbol.{Symbol}
-use Rattle.cr_syntax.specs.declared.symbol.Symbol.TheVariants as symbol
-use Rattle.cr_syntax.specs.declared.symbol.Context.{Context}
+use Rattle.cr_syntax.specs.declared.part.Part.{Part}
+use Rattle.cr_syntax.specs.declared.part.Part.TheVariants as part
+use Rattle.cr_syntax.specs.Symbols.{Symbol}
+use Rattle.cr_syntax.specs.Symbols as symbol
+use Rattle.cr_syntax.specs.declared.part.Context.{Context}
 use Rattle.cr_syntax.specs.Words.{Lexeme, spelling_at}
 use Rattle.cr_syntax.specs.Scopes.{Scopes, is_type, enter}
 use Rattle.cr_syntax.specs.Trees.{Trees}
 use Rattle.cr_syntax.specs.Context.{past_part, declared_in}
 use Rattle.cr_syntax.specs.Grammar.{Side, Alternative}
 use Rattle.cr_syntax.specs.Grammar as grammar
-use Rattle.cr_syntax.specs.Tables.{side_of, declaration_rules, expression_rules}
-use Rattle.cr_syntax.specs.Spells.{Limit, Free, AtMost, Upto, Leaving, Within, Stands, levels, Is, IsIdentifier, Phrase, Spells, a, rest, AreConst, const_none, const_more}
+use Rattle.cr_syntax.specs.Tables.{side_of, rule_of}
+use Rattle.cr_syntax.specs.Spells.{Limit, Free, AtMost, Upto, Leaving, Within, Stands, levels, Is, IsIdentifier, Phrase, Spells, a, rest, AreQualifiers, qualifiers_none, qualifiers_more}
 use Rattle.cr_syntax.specs.Spells as spells
 use Rattle.cr_syntax.proofs.Alternatives.{side_only}
 use Rattle.cr_machine.proofs.MachineFirst.{none_true}
 use Rattle.cr_syntax.proofs.Tests.{both}
 use Rattle.cr_machine.proofs.MachineRuns.{word_same, spelling_same}
-use Rattle.cr_machine.proofs.MachineSpells.{consts_forth, forth, by_declarator, named_within, name_is}
+use Rattle.cr_machine.proofs.MachineSpells.{qualifiers_forth, forth, by_declarator, named_within, name_is}
 
 -- A limit that lets stand what another one does, at the tokens before token m.
 pub record Lets (limit top : Limit) (m : ℕ) : Type 0 where
@@ -129,9 +129,10 @@ module _ (ts us : List Lexeme) (limit top : Limit) (low high : ℕ) (all : Bool)
   known_or true k f q = f refl
   known_or false k f q = y.every q k
 
-  carried_consts : {d i j : ℕ} → low ≤ i → j ≤ high → AreConst ts limit d i j → AreConst us top d i j
-  carried_consts ge le const_none = const_none
-  carried_consts {d = d} {i = i} ge le (const_more q w k) = let n = consts_forth k in const_more (token q ge (omega arith)) (lets.stands i d (omega arith) w) (carried_consts (omega arith) le k)
+  carried_qualifiers : {d i j : ℕ} → low ≤ i → j ≤ high → AreQualifiers ts limit d i j → AreQualifiers us top d i j
+  carried_qualifiers ge le qualifiers_none = qualifiers_none
+  carried_qualifiers {d = d} {i = i} ge le (qualifiers_more (inl q) w k) = let n = qualifiers_forth k in qualifiers_more (inl (token q ge (omega arith))) (lets.stands i d (omega arith) w) (carried_qualifiers (omega arith) le k)
+  carried_qualifiers {d = d} {i = i} ge le (qualifiers_more (inr q) w k) = let n = qualifiers_forth k in qualifiers_more (inr (token q ge (omega arith))) (lets.stands i d (omega arith) w) (carried_qualifiers (omega arith) le k)
 
   carried_name : (c : Scopes) (i : ℕ) {b : Bool} → low ≤ i → i < high → IsIdentifier ts c i b → IsIdentifier us c i b
   carried_name c i {b = b} ge lt q = (token q.0 ge lt, subst (λ z. is_type c z ≡ b) (sym (y.names i q.0 ge lt)) q.1)
@@ -174,10 +175,10 @@ module _ (ts us : List Lexeme) (limit top : Limit) (low high : ℕ) (all : Bool)
   carried {d = d} {i = i} r ge le (spells.comma_some q w q' w' s) =
       let n = forth s in spells.comma_some (token q ge (omega arith)) (lets.stands i (d + 1) (omega arith) w) (token q' (omega arith) (omega arith)) (lets.stands (i + 1) (d + 1) (omega arith) w') (carried (ready r.asks) (omega arith) le s)
   carried r ge le (spells.qualified k x) =
-      let n = consts_forth k in let n' = forth x in spells.qualified (carried_consts ge (omega arith) k) (carried tt (omega arith) le x)
-  carried r ge le (spells.qualified_none k) = spells.qualified_none (carried_consts ge le k)
+      let n = qualifiers_forth k in let n' = forth x in spells.qualified (carried_qualifiers ge (omega arith) k) (carried tt (omega arith) le x)
+  carried r ge le (spells.qualified_none k) = spells.qualified_none (carried_qualifiers ge le k)
   carried r ge le (spells.qualified_some k x) =
-      let n = consts_forth k in let n' = forth x in spells.qualified_some (carried_consts ge (omega arith) k) (carried tt (omega arith) le x)
+      let n = qualifiers_forth k in let n' = forth x in spells.qualified_some (carried_qualifiers ge (omega arith) k) (carried tt (omega arith) le x)
   carried {c = c} {d = d} {i = i} r ge le (spells.ordinary q w s) =
       let n = forth s in spells.ordinary (carried_name c i ge (omega arith) q) (lets.stands i d (omega arith) w) (carried (ready r.asks) (omega arith) le s)
   carried {c = c} {d = d} {i = i} r ge le (spells.type_identifier q f w s) =
@@ -260,7 +261,7 @@ HasToken (a p) = Unit {0}
 HasToken (rest s) = has_solid s ≡ true
 
 sides_solid : (k : Kind) → has_solid (side_of k) ≡ true
-unfolding side_of declaration_rules expression_rules
+unfolding rule_of
 sides_solid kind.FunctionDefinition = refl
 sides_solid _ = refl
 
@@ -288,9 +289,9 @@ later y (spells.tag_none q w s) = let n = forth s in omega arith
 later y (spells.tag_some q w q' w' s) = let n = forth s in omega arith
 later y (spells.comma_none q w s) = let n = forth s in omega arith
 later y (spells.comma_some q w q' w' s) = let n = forth s in omega arith
-later y (spells.qualified k x) = let n = consts_forth k in let n' = later tt x in omega arith
+later y (spells.qualified k x) = let n = qualifiers_forth k in let n' = later tt x in omega arith
 later y (spells.qualified_none k) = none_true y
-later y (spells.qualified_some k x) = let n = consts_forth k in let n' = later tt x in omega arith
+later y (spells.qualified_some k x) = let n = qualifiers_forth k in let n' = later tt x in omega arith
 later y (spells.ordinary q w s) = let n = forth s in omega arith
 later y (spells.type_identifier q f w s) = let n = forth s in omega arith
 later y (spells.declared q f w s) = let n = forth s in omega arith
@@ -314,7 +315,3 @@ later y (spells.step_none q w v s) = let n = forth s in omega arith
 later y (spells.step_some x q w v s) = let n = forth x in let n' = forth s in omega arith
 later y (spells.else_none s) = later y s
 later y (spells.else_some q w x s) = let n = forth x in let n' = forth s in omega arith
-
--- and so do the parts of a node
-pub later_parts : {ts : List Lexeme} {limit : Limit} {p : Part} {k : Kind} {s : Side} {h : Context} {c e : Scopes} {d i j : ℕ} {t : Trees} → Alternative p k s → Spells ts limit (rest s) h c e d t i j → i < j
-later_parts {k = k} z s = later (subst (λ s. has_solid s ≡ true) (side_only z) (sides_solid k)) s

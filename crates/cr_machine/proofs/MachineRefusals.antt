@@ -1,32 +1,26 @@
 -- The rows of the refused forms and the subset's machine on a unit: where it is refused no row names a token before, and one
 -- that names the refused token is the machine's; where it reads a unit, no row names a token of it.
-use Rattle.std.proofs.Common.{◌≡◌, ℕ, ◌+◌, ◌<◌, ◌≤◌, true, false, List, [], length, Some, ◌⊎◌, inl, inr, ⊎_elim, refl, sym, ap, subst, ◌∙◌, arith}
-use Rattle.std.specs.Prelude.{slice_get, set}
-use Rattle.std.proofs.lemmas.Bool.{both_ways, cases_lt}
+use Rattle.std.proofs.Common.{◌≡◌, ℕ, ◌+◌, ◌<◌, ◌≤◌, true, false, List, [], length, ⊎_elim, refl, sym, subst, ◌∙◌, arith}
+use Rattle.std.specs.Prelude.{slice_get}
+use Rattle.std.proofs.lemmas.Bool.{both_ways}
 use Rattle.cr_syntax.specs.declared.word.Word.{Word}
 use Rattle.cr_syntax.specs.declared.word.Word.TheVariants as word
-use Rattle.cr_syntax.specs.Words.{Lexeme, word_at}
+use Rattle.cr_syntax.specs.Words.{Lexeme}
 use Rattle.cr_syntax.specs.Scopes.{Scopes}
 use Rattle.cr_syntax.specs.Trees.{Trees}
-use Rattle.cr_syntax.specs.Context.{fresh}
-use Rattle.cr_syntax.specs.Spells.{Limit, AtMost, Upto, Is}
-use Rattle.cr_syntax.specs.Units.{file_scope, most_levels, Completes, Begins, Shows, Has, switch_body_at, with_word, variadic_definition, elsewhere, misplaced_at, Outside, unused_keyword, designator, compound_literal, called_expression, bit_field, deep_label, label_as_body, switch_body, variadic_function}
-use Rattle.cr_machine.specs.Machine.{unit, expression, anywhere, nowhere, Done, Runs, has_word, has}
+use Rattle.cr_syntax.specs.Spells.{AtMost, Upto, Is}
+use Rattle.cr_syntax.specs.Units.{file_scope, most_levels, Completes, Has, variadic_definition, elsewhere, misplaced_at, Outside, unused_keyword, designator, compound_literal, called_expression, bit_field, deep_label, label_as_body, switch_body, variadic_function}
+use Rattle.cr_machine.specs.Machine.{unit, anywhere, nowhere, Done, Runs, has_word, has}
 use Rattle.cr_machine.specs.MachineBody.{body, is_label}
-use Rattle.cr_machine.specs.MachineLaws.{start_expression}
-use Rattle.cr_machine.proofs.MachineRuns.{reach, same, passes_same, word_same, word_in}
-use Rattle.cr_machine.proofs.MachineFirst.{sorted, free_by}
+use Rattle.cr_machine.proofs.MachineRuns.{same, passes_same}
+use Rattle.cr_machine.proofs.MachineFirst.{sorted}
 use Rattle.cr_machine.proofs.MachineEnds.{Way, barring, defining, crowded, refused_so}
 use Rattle.cr_machine.proofs.MachineWays.{Point, at, same_way}
-use Rattle.cr_machine.proofs.MachineForms.{within, allows_before, IsBarring, by_row}
-use Rattle.cr_machine.proofs.MachineLoose.{IsOwn, own_label, own_definition, Departs, label_is}
+use Rattle.cr_machine.proofs.MachineForms.{within, allows_before, IsBarring, by_row, statement_is_no_label}
+use Rattle.cr_machine.proofs.MachineLoose.{IsOwn, own_label, own_definition, Departs}
 use Rattle.cr_machine.proofs.MachineReading.{ends_inside}
-use Rattle.cr_machine.proofs.MachineUnitForms.{ReadsUnits, same_token, IsBarred, UnitEnds, designator_is_barred, literal_is_barred, call_is_barred, field_is_barred, body_label_is_barred, by_that_row, by_its_own, bars_too, bars_none}
-use Rattle.cr_machine.proofs.MachineTraces.{run_there, end_there}
-use Rattle.cr_machine.proofs.MachineOwn.{same_tokens, lets_itself, carried, set_there, set_other}
-use Rattle.cr_machine.proofs.MachineBodies.{sought}
-use Rattle.cr_machine.proofs.MachineComplete.{get_some, spelled_is_read}
-use Rattle.cr_machine.proofs.MachineSound.{runs_sound}
+use Rattle.cr_machine.proofs.MachineUnitForms.{ReadsUnits, same_token, IsBarred, UnitEnds, designator_is_barred, literal_is_barred, call_is_barred, field_is_barred, body_label_is_barred, body_is_barred, by_that_row, by_its_own, bars_too, bars_none}
+use Rattle.cr_machine.proofs.MachineTraces.{end_there}
 use Rattle.cr_machine.proofs.MachineLabels.{labels_caught}
 use Rattle.cr_machine.proofs.MachineDefinitions.{Fits, before, at_brace, definitions_caught}
 use Rattle.cr_machine.proofs.MachineDefinitions as definitions
@@ -95,70 +89,6 @@ pub data Refusing (ts : List Lexeme) (n k : ℕ) : Type 0 where
 no_label : (ts : List Lexeme) (k : ℕ) {w : Word} {A : Type 0} → Is ts k w → is_label w ≡ false → has_word ts k is_label ≡ true → A
 no_label ts k q l y = absurd (both_ways (has_word ts k is_label) (sorted is_label false q l) y)
 
-neither_label : (ts : List Lexeme) (k : ℕ) {A : Type 0} → (Is ts k word.Case → ⊥) → (Is ts k word.Default → ⊥) → has_word ts k is_label ≡ true → A
-neither_label ts k f g y = absurd (⊎_elim f g (label_is (word_at ts k) y))
-
-decide_is : (n s : ℕ) → (n ≡ s) ⊎ (n ≡ s → ⊥)
-decide_is n s = ⊎_elim (λ lt. inr (λ q. omega arith)) (λ ge. ⊎_elim (λ lt. inr (λ q. omega arith)) (λ le. inl (omega arith)) (cases_lt s n)) (cases_lt n s)
-
--- An expression behind a token, read where that token is another one.
-module _ (us vs : List Lexeme) (limit : Limit) (k s : ℕ) (alike : (n : ℕ) → n < k → (n ≡ s → ⊥) → slice_get vs n ≡ slice_get us n) (x : Lexeme) (here : slice_get vs s ≡ Some x) where
-  changed : (n : ℕ) → (n ≡ s → ⊥) → slice_get (set us s x) n ≡ slice_get us n
-  changed n f = set_other us s n x f
-
-  unchanged : s < length us → (n : ℕ) → n < k → slice_get (set us s x) n ≡ slice_get vs n
-  unchanged lt n lt' = by (decide_is n s)
-    where
-      by : (n ≡ s) ⊎ (n ≡ s → ⊥) → slice_get (set us s x) n ≡ slice_get vs n
-      by (inl q) = subst (λ l. slice_get (set us s x) l ≡ slice_get vs l) (sym q) (set_there us s x lt ∙ sym here)
-      by (inr f) = changed n f ∙ sym (alike n lt' f)
-
-  condition_there : (d : ℕ) (c e : Scopes) (i j : ℕ) (t : Trees) → Runs body us limit (body (expression d)) c i (Done t e j) → Is us j word.RightParen → s < i → j < k →
-      Runs body vs limit (body (expression d)) c i (Done t e j)
-  condition_there d c e i j t h q lt lt' =
-      let n = reach h in
-      let n' = within us j q in
-      let s' = carried us (set us s x) limit limit (s + 1) j false (same_tokens (λ n ge l. changed n (λ r. omega arith))) (lets_itself limit j) tt (omega arith) (omega arith) (runs_sound (expression d) c e i j t h fresh) in
-      let q' = word_same us (set us s x) j (changed j (λ r. omega arith)) ∙ q in
-      run_there body vs (set us s x) limit limit j (λ l le. unchanged (omega arith) l (omega arith)) (λ g l d' lt'' w. w)
-      (spelled_is_read (set us s x) limit start_expression s' (free_by q' (omega arith))) (omega arith) tt
-
--- another statement than a block, as the body of a switch, stands behind it and is refused by its row
-pub body_is_behind : ReadsUnits → {ts : List Lexeme} {k : ℕ} (s : ℕ) → k < length ts → Shows ts k (switch_body_at s k) → (Is ts k word.LeftBrace → ⊥) → (Is ts k word.Case → ⊥) → (Is ts k word.Default → ⊥) →
-    Begins (Upto k most_levels) (with_word ts s word.While) (k + 1) → (s < k) × IsBarred ts anywhere 7 k
-body_is_behind complete {ts = ts} {k = k} s lt b g g' g'' r = ⊎_elim (λ x. absurd (x b.has))
-    (λ x. (x.short, x.leads r.trees r.completes.is_unit.after (length vs) (complete vs limit r.trees r.completes.is_unit.after r.completes.is_unit.spells)))
-    (sought ts us vs k s limit (AtMost most_levels) us_alike vs_alike a_while (allows_before k most_levels) g g' g''
-    (λ d c e i j t h q lt' short lt''. condition_there us vs limit k s both_alike (while_lexeme short).0 (while_lexeme short).1 d c e i j t h q lt' lt'')
-    (complete us limit b.trees b.completes.is_unit.after b.completes.is_unit.spells))
-  where
-    limit : Limit
-    limit = Upto k most_levels
-
-    us : List Lexeme
-    us = b.completes.text
-
-    vs : List Lexeme
-    vs = r.completes.text
-
-    us_alike : (n : ℕ) → n < k → slice_get us n ≡ slice_get ts n
-    us_alike n lt' = same_token b.completes n lt' (omega arith)
-
-    while_word : Lexeme
-    while_word = record { word = word.While; spelling = [] }
-
-    vs_alike : (n : ℕ) → n ≤ k → (n ≡ s → ⊥) → slice_get vs n ≡ slice_get ts n
-    vs_alike n le f = let w = get_some ts n (omega arith) in r.completes.alike n w.0 (omega arith) (set_other ts s n while_word f ∙ w.1) ∙ sym w.1
-
-    a_while : s < k → Is vs s word.While
-    a_while lt' = ap word_in (r.completes.alike s while_word (omega arith) (set_there ts s while_word (omega arith)))
-
-    while_lexeme : s < k → (x : Lexeme) × (slice_get vs s ≡ Some x)
-    while_lexeme lt' = (while_word, r.completes.alike s while_word (omega arith) (set_there ts s while_word (omega arith)))
-
-    both_alike : (n : ℕ) → n < k → (n ≡ s → ⊥) → slice_get vs n ≡ slice_get us n
-    both_alike n lt' f = vs_alike n (omega arith) f ∙ sym (us_alike n lt')
-
 module _ (complete : ReadsUnits) where
   pub refusing : {ts : List Lexeme} {n k : ℕ} → k < length ts → (n ≡ 1 → ⊥) → Outside ts k n → Refusing ts n k
   refusing lt f (unused_keyword q u) = absurd (f refl)
@@ -168,7 +98,7 @@ module _ (complete : ReadsUnits) where
   refusing {ts = ts} {k = k} lt f (bit_field q b) = by_bar (field_is_barred complete q b) (no_label ts k q refl)
   refusing lt f (deep_label _ b q) = by_label refl (label_is_caught complete lt b q)
   refusing lt f (label_as_body s q b) = by_bar (body_label_is_barred complete s q b) (λ y. refl)
-  refusing {ts = ts} {k = k} lt f (switch_body s _ b g g' g'' c) = by_bar (body_is_behind complete s lt b g g' g'' c).1 (neither_label ts k g' g'')
+  refusing {ts = ts} {k = k} lt f (switch_body {w = w} s q y b) = by_bar (body_is_barred complete s q y b) (no_label ts k q (statement_is_no_label w y).0)
   refusing lt f (variadic_function m lt' y b h) = by_definition refl (definition_is_caught complete lt' y b h)
 
 -- what is said of a way and its token

@@ -1,13 +1,13 @@
 -- What the machine's refusal of a token says of texts: at the levels where it stopped none leaves room, the tokens before
 -- spell nothing, and the bracket that stands in a refused one's place has no room either.
-use Rattle.std.proofs.Common.{◌≡◌, ℕ, ◌+◌, ◌<◌, ◌≤◌, true, false, not, ◌&&◌, List, [], length, refl, sym, ap, subst, ◌∙◌, arith}
+use Rattle.std.proofs.Common.{◌≡◌, ℕ, ◌+◌, ◌<◌, ◌≤◌, true, false, not, ◌&&◌, List, [], length, refl, sym, ap, subst, ◌∙◌, arith, inl, inr}
 use Rattle.std.specs.Prelude.{slice_get, set}
-use Rattle.std.proofs.lemmas.Bool.{both_ways}
+use Rattle.std.proofs.lemmas.Bool.{both_ways, or_cases}
 use Rattle.std.proofs.lemmas.List.{length-set}
 use Rattle.cr_syntax.specs.declared.word.Word.{Word}
 use Rattle.cr_syntax.specs.declared.word.Word.TheVariants as word
-use Rattle.cr_syntax.specs.declared.symbol.Part.{Part}
-use Rattle.cr_syntax.specs.declared.symbol.Context.{Context}
+use Rattle.cr_syntax.specs.declared.part.Part.{Part}
+use Rattle.cr_syntax.specs.declared.part.Context.{Context}
 use Rattle.cr_syntax.specs.Words.{Lexeme}
 use Rattle.cr_syntax.specs.Scopes.{Scopes}
 use Rattle.cr_syntax.specs.Trees.{Trees}
@@ -57,7 +57,9 @@ passed us c i g (has t) f q = none_true f
 passed us c i g ordinary f q = record { word = word.Identifier; is = (holds us c i ordinary q).0; used = refl; flat = λ l. refl }
 passed us c i g (type_identifier typed) f q = record { word = word.Identifier; is = (holds us c i (type_identifier typed) q).0.0; used = refl; flat = λ l. refl }
 passed us c i g (declared typed) f q = record { word = word.Identifier; is = (holds us c i (declared typed) q).0; used = refl; flat = λ l. refl }
-passed us c i g (or x y) f q = none_true f
+passed us c i g (or x y) f q =
+    let v = both (fits g x) (fits g y) f in
+    elim (or_cases (passes us c i x) (passes us c i y) q) [ inl w ↦ passed us c i g x v.0 w | inr w ↦ passed us c i g y v.1 w ]
 
 -- Texts.
 

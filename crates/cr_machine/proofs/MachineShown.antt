@@ -1,15 +1,15 @@
 -- What a text that goes on behind a refused token's place shows: the word that stands there in the place of a refused
 -- form's, and the node that the form's row asks for. Where no row refuses, it need show nothing.
-use Rattle.std.proofs.Common.{◌≡◌, ℕ, suc, ◌+◌, ◌<◌, ◌≤◌, Bool, true, false, List, length, refl, sym, subst, inl, inr}
+use Rattle.std.proofs.Common.{◌≡◌, ℕ, ◌+◌, ◌<◌, ◌≤◌, Bool, true, false, List, length, refl, sym, subst, inl, inr}
 use Rattle.std.specs.Prelude.{◌==◌, ◌||◌, ◌&&◌}
 use Rattle.std.proofs.lemmas.Bool.Decides.{eqb_tells}
 use Rattle.cr_syntax.specs.declared.word.Word.{Word}
 use Rattle.cr_syntax.specs.declared.word.Word.TheVariants as word
 use Rattle.cr_syntax.specs.declared.node.Kind.{Kind}
 use Rattle.cr_syntax.specs.declared.node.Kind.TheVariants as kind
-use Rattle.cr_syntax.specs.declared.symbol.Part.{Part}
-use Rattle.cr_syntax.specs.declared.symbol.Part.TheVariants as part
-use Rattle.cr_syntax.specs.declared.symbol.Context.{Context}
+use Rattle.cr_syntax.specs.declared.part.Part.{Part}
+use Rattle.cr_syntax.specs.declared.part.Part.TheVariants as part
+use Rattle.cr_syntax.specs.declared.part.Context.{Context}
 use Rattle.cr_syntax.specs.Words.{Lexeme}
 use Rattle.cr_syntax.specs.Scopes.{Scopes}
 use Rattle.cr_syntax.specs.Trees.{Trees, none, node, one, ◌&◌}
@@ -17,7 +17,7 @@ use Rattle.cr_syntax.specs.Grammar as grammar
 use Rattle.cr_syntax.specs.Spells.{Limit, Is, Spells, a}
 use Rattle.cr_syntax.specs.Spells as spells
 use Rattle.cr_syntax.specs.Units.{Has, has_here, has_inside, has_after, one_begins_at, one_ends_at, initializer_at, cast_operand_at, postfix_before, member_before, switch_body_at, variadic_definition}
-use Rattle.cr_syntax.specs.Units.{Place, place_in, is_misplaced, misplaced_at, is_unused}
+use Rattle.cr_syntax.specs.Units.{Place, place_in, is_misplaced, misplaced_at}
 use Rattle.cr_machine.specs.Machine.{Manner, Test, the, has, Allows, levels_at}
 use Rattle.cr_machine.specs.MachineBody.{is_identifier, in_row, in_parameters, is_designator, is_label, label_start, statement_start}
 use Rattle.cr_machine.proofs.MachineEnds.{Way, stopped, barring, crowded, defining}
@@ -26,14 +26,6 @@ use Rattle.cr_machine.proofs.MachineMeans.{has_some}
 use Rattle.cr_machine.proofs.MachineSpells.{is_one}
 use Rattle.cr_machine.proofs.MachineSound.{two_parameters}
 use Rattle.std.proofs.lemmas.Bool.{or_left, or_right}
-
--- Two ways in which no token of a unit is refused stand for what else a text may be asked for: an empty statement at token k,
--- and the switch at token s with its body at token k.
-abbrev pub empty_next : Way
-empty_next = barring (has is_unused) 1 0
-
-abbrev pub switch_at : ℕ → Way
-switch_at s = barring (has is_unused) 1 (suc s)
 
 -- the word at token k, by the way in which the token there is refused
 pub data Next (all : List Lexeme) (k : ℕ) : Way → Type 0 where
@@ -47,8 +39,6 @@ pub data Next (all : List Lexeme) (k : ℕ) : Way → Type 0 where
   next_block : {d : ℕ} → Next all k (barring label_start 6 d)
   next_body : {d : ℕ} → Is all k word.LeftBrace → Next all k (barring statement_start 7 d)
   next_definition : {n : ℕ} (m : ℕ) → m + 1 ≡ k → Is all m word.LeftBrace → Next all k (defining n)
-  next_empty : Is all k word.Semicolon → Next all k (barring (has is_unused) 1 0)
-  next_switch : {s : ℕ} → Next all k (barring (has is_unused) 1 (suc s))
 
 -- the node in the trees of an expression or a type
 pub data Shown (k : ℕ) (t : Trees) : Way → Type 0 where
@@ -67,8 +57,6 @@ pub data ShownIn (at : Place → Bool) (k : ℕ) (t : Trees) : Way → Type 0 wh
   shown_block : {d : ℕ} (s : ℕ) → Has (switch_body_at s k) t → ShownIn at k t (barring label_start 6 d)
   shown_body : {d : ℕ} (s : ℕ) → Has (switch_body_at s k) t → ShownIn at k t (barring statement_start 7 d)
   shown_definition : {n : ℕ} (m : ℕ) → m + 1 ≡ k → n < m → Has (variadic_definition n m) t → ShownIn at k t (defining n)
-  shown_empty : ShownIn at k t (barring (has is_unused) 1 0)
-  shown_switch : {s : ℕ} → Has (switch_body_at s k) t → ShownIn at k t (barring (has is_unused) 1 (suc s))
 
 -- wherever the trees stand
 abbrev pub every : Place → Bool
@@ -130,8 +118,6 @@ next_more f next_label = next_label
 next_more f next_block = next_block
 next_more f (next_body q) = next_body (f.words _ _ q)
 next_more f (next_definition m e q) = next_definition m e (f.words _ _ q)
-next_more f (next_empty q) = next_empty (f.words _ _ q)
-next_more f next_switch = next_switch
 
 -- A node stays in larger trees.
 
@@ -244,8 +230,6 @@ carried_in f g (shown_label n e x) = shown_label n e (g n x)
 carried_in {k = k} f g (shown_block s x) = shown_block s (f (switch_body_at s k) x)
 carried_in {k = k} f g (shown_body s x) = shown_body s (f (switch_body_at s k) x)
 carried_in f g (shown_definition {n = n} m e l x) = shown_definition m e l (f (variadic_definition n m) x)
-carried_in f g shown_empty = shown_empty
-carried_in {k = k} f g (shown_switch {s = s} x) = shown_switch (f (switch_body_at s k) x)
 
 -- in other places, if those are some of these
 pub moved : {at at' : Place → Bool} {k : ℕ} {t : Trees} {w : Way} → ((p : Place) → at' p ≡ true → at p ≡ true) → ShownIn at k t w → ShownIn at' k t w

@@ -5,11 +5,11 @@ use Rattle.cr_syntax.specs.declared.word.Word.{Word}
 use Rattle.cr_syntax.specs.declared.word.Word.TheVariants as word
 use Rattle.cr_syntax.specs.declared.node.Kind.{Kind}
 use Rattle.cr_syntax.specs.declared.node.Kind.TheVariants as kind
-use Rattle.cr_syntax.specs.declared.symbol.Depth.{Depth}
-use Rattle.cr_syntax.specs.declared.symbol.Part.{Part}
-use Rattle.cr_syntax.specs.declared.symbol.Part.TheVariants as part
-use Rattle.cr_syntax.specs.declared.symbol.Symbol.TheVariants as symbol
-use Rattle.cr_syntax.specs.declared.symbol.Context.{Context}
+use Rattle.cr_syntax.specs.Symbols.{Depth}
+use Rattle.cr_syntax.specs.declared.part.Part.{Part}
+use Rattle.cr_syntax.specs.declared.part.Part.TheVariants as part
+use Rattle.cr_syntax.specs.Symbols as symbol
+use Rattle.cr_syntax.specs.declared.part.Context.{Context}
 use Rattle.cr_syntax.specs.declared.scopes.TypeName.{TypeName}
 use Rattle.cr_syntax.specs.Words.{Lexeme}
 use Rattle.cr_syntax.specs.Scopes.{Scopes, enter}
@@ -17,10 +17,10 @@ use Rattle.cr_syntax.specs.Trees.{Trees, none, node, one, ◌&◌}
 use Rattle.cr_syntax.specs.Context.{fresh, past_token, past_part, fits_together, is_bare}
 use Rattle.cr_syntax.specs.Grammar.{Side, Alternative, prefix, token, assignment_by, inner_optional, closing, many, list, part, binary}
 use Rattle.cr_syntax.specs.Grammar as grammar
-use Rattle.cr_syntax.specs.Spells.{Limit, Is, Stands, Within, Spells, a, rest, AreConst, const_none, const_more}
+use Rattle.cr_syntax.specs.Spells.{Limit, Is, Stands, Within, Spells, a, rest, AreQualifiers, qualifiers_none, qualifiers_more}
 use Rattle.cr_syntax.specs.Spells as spells
 use Rattle.cr_machine.specs.Machine.{Goal, Prog, Manner, Wanted, named, unnamed, either, Runs, Done, Allows, plain, opens, reopens, give, call, made, choose, around, innermost_of, brought}
-use Rattle.cr_machine.specs.Machine.{whole, expression, commas, assignment, conditional, operands, cast, unary, measured, postfix, called, grouped, texts, arguments, suffixes, type_name, row, more, element, structure, members, member, member_declarators, enumeration, enumerators, enumerator, consts, declarator, declarator_suffixes, abstract_suffixes, size, parameters, more_parameters, parameter}
+use Rattle.cr_machine.specs.Machine.{whole, expression, commas, assignment, conditional, operands, cast, unary, measured, postfix, called, grouped, texts, arguments, suffixes, type_name, row, more, element, structure, members, member, member_declarators, enumeration, enumerators, enumerator, qualifiers, declarator, declarator_suffixes, abstract_suffixes, size, parameters, more_parameters, parameter}
 use Rattle.cr_machine.specs.Machine.{unit, externals, external, declaration, init_declarators, initialized, initializer, initializers, statement, block, if_rest, switch_rest, while_rest, do_rest, for_rest, return_rest, for_clauses, clause, compound, items, item}
 use Rattle.cr_machine.specs.Machine as m
 use Rattle.cr_machine.specs.MachineBody.{body, assigned, operated, prefixed, suffixed, sized, other_primary, suffixes_end, other_element, array_start, Words, is_declarator, may_name, may_omit, start_goal, tighter, assignment_operators, operators, unary_prefixes, cast_prefixes, constants, postfix_operators, specifier_words, plain_words, row_kind, in_row, in_parameters}
@@ -210,9 +210,9 @@ module _ (us : List Lexeme) (top : Limit) where
 
       plain_rows : (p : Part) → AllRows (Specifies p) plain_words
       plain_rows p =
-          also (plain_by p _ _ grammar.qualifier_const refl) (also (plain_by p _ _ grammar.type_void refl) (also (plain_by p _ _ grammar.type_char refl)
+          also (plain_by p _ _ grammar.qualifier_const refl) (also (plain_by p _ _ grammar.qualifier_volatile refl) (also (plain_by p _ _ grammar.type_void refl) (also (plain_by p _ _ grammar.type_char refl)
           (also (plain_by p _ _ grammar.type_short refl) (also (plain_by p _ _ grammar.type_int refl) (also (plain_by p _ _ grammar.type_long refl)
-          (also (plain_by p _ _ grammar.type_signed refl) (also (plain_by p _ _ grammar.type_unsigned refl) (also (plain_by p _ _ grammar.type_bool refl) no_rows))))))))
+          (also (plain_by p _ _ grammar.type_signed refl) (also (plain_by p _ _ grammar.type_unsigned refl) (also (plain_by p _ _ grammar.type_bool refl) no_rows)))))))))
 
       by : (p : Part) → AllRows (Specifies p) (specifier_words p)
       by part.Specifiers =
@@ -247,21 +247,21 @@ module _ (us : List Lexeme) (top : Limit) where
 
   -- a `*` before a declarator, or before nothing
   module _ (w : Wanted) (h : Context) (d : ℕ) (c : Scopes) (i : ℕ) (q : Is us i word.Star) (v : Within top i d) where
-    pointer_named : {e f : Scopes} {j k : ℕ} {t : Trees} → (c ≡ e) × AreConst us top (d + 1) (i + 1) j → Spells us top (a part.Declarator) (past_token h) e f (d + 1) t j k →
+    pointer_named : {e f : Scopes} {j k : ℕ} {t : Trees} → (c ≡ e) × AreQualifiers us top (d + 1) (i + 1) j → Spells us top (a part.Declarator) (past_token h) e f (d + 1) t j k →
         Spells us top (a part.Declarator) h c f d (one kind.PointerDeclarator i k (t & none)) i k
     pointer_named {f = f} {j = j} {k = k} {t = t} x s = subst (λ y. Spells us top (a part.Declarator) h c f d (one kind.PointerDeclarator i k y) i k) (sym (and_none t))
         (spells.of_alternative grammar.pointer_declarator refl (spells.opens q v (spells.qualified x.1 (subst (λ y. Spells us top (a part.Declarator) (past_token h) y f (d + 1) t j k) (sym x.0) s))))
 
-    pointer_unnamed : {e f : Scopes} {j k : ℕ} {t : Trees} → (c ≡ e) × AreConst us top (d + 1) (i + 1) j → Reads us top part.Abstract (d + 1) e j t f k →
+    pointer_unnamed : {e f : Scopes} {j k : ℕ} {t : Trees} → (c ≡ e) × AreQualifiers us top (d + 1) (i + 1) j → Reads us top part.Abstract (d + 1) e j t f k →
         Reads us top part.Abstract d c i (one kind.AbstractPointer i k (t & none)) f k
     pointer_unnamed {f = f} {j = j} {k = k} {t = t} x s h' = subst (λ y. Spells us top (a part.Abstract) h' c f d (one kind.AbstractPointer i k y) i k) (sym (and_none t))
         (spells.of_alternative grammar.abstract_pointer refl (spells.opens q v (spells.qualified_some x.1 (subst (λ y. Spells us top (a part.Abstract) (past_token fresh) y f (d + 1) t j k) (sym x.0) (s _)))))
 
-    pointer_alone : {e : Scopes} {j : ℕ} → (c ≡ e) × AreConst us top (d + 1) (i + 1) j → Reads us top part.Abstract d c i (one kind.AbstractPointer i j none) e j
+    pointer_alone : {e : Scopes} {j : ℕ} → (c ≡ e) × AreQualifiers us top (d + 1) (i + 1) j → Reads us top part.Abstract d c i (one kind.AbstractPointer i j none) e j
     pointer_alone {j = j} x h' = subst (λ y. Spells us top (a part.Abstract) h' c y d (one kind.AbstractPointer i j none) i j) x.0
         (spells.of_alternative grammar.abstract_pointer refl (spells.opens q v (spells.qualified_none x.1)))
 
-    pointer_means : {e f : Scopes} {j k : ℕ} {t : Trees} → (c ≡ e) × AreConst us top (d + 1) (i + 1) j → Declared w (past_token h) (d + 1) e j t f k →
+    pointer_means : {e f : Scopes} {j k : ℕ} {t : Trees} → (c ≡ e) × AreQualifiers us top (d + 1) (i + 1) j → Declared w (past_token h) (d + 1) e j t f k →
         (is_declarator t ≡ true → Declared w h d c i (one kind.PointerDeclarator i k (t & none)) f k) ×
         (is_declarator t ≡ false → Declared w h d c i (one kind.AbstractPointer i k (t & none)) f k)
     pointer_means {t = t} x (with_name y z o s) = (λ y'. with_name refl z o (pointer_named x s), λ y'. not_both (is_declarator t) y y')
@@ -495,7 +495,7 @@ module _ (us : List Lexeme) (top : Limit) where
     ),
     tt,
   )
-  each (consts d) c i = (λ q w t e j _ _ x. (x.0, const_more q w x.1), (refl, const_none))
+  each (qualifiers d) c i = (λ q w t e j _ _ x. (x.0, qualifiers_more q w x.1), (refl, qualifiers_none))
   each (declarator w h d) c i = (
     λ q v t e j _ _ x. (λ o. (λ t' e' j' _ _ x'. pointer_means w h d c i q v x x', without refl o (pointer_alone w h d c i q v x)), λ o t' e' j' _ _ x'. pointer_means w h d c i q v x x'),
     (

@@ -6,15 +6,15 @@ use borrow.Author.Tests.{lt-ltb}
 use Rattle.cr_syntax.specs.declared.word.Word.TheVariants as word
 use Rattle.cr_syntax.specs.declared.node.Kind.{Kind}
 use Rattle.cr_syntax.specs.declared.node.Kind.TheVariants as kind
-use Rattle.cr_syntax.specs.declared.symbol.Part.{Part}
-use Rattle.cr_syntax.specs.declared.symbol.Part.TheVariants as part
-use Rattle.cr_syntax.specs.declared.symbol.Context.{Context}
+use Rattle.cr_syntax.specs.declared.part.Part.{Part}
+use Rattle.cr_syntax.specs.declared.part.Part.TheVariants as part
+use Rattle.cr_syntax.specs.declared.part.Context.{Context}
 use Rattle.cr_syntax.specs.Words.{Lexeme, spelling_at}
 use Rattle.cr_syntax.specs.Scopes.{Scopes}
 use Rattle.cr_syntax.specs.Trees.{Trees, none, node, one, ◌&◌}
 use Rattle.cr_syntax.specs.Context.{fresh, past_part, declared_in, declared_name, hears, at_start}
 use Rattle.cr_syntax.specs.Grammar as grammar
-use Rattle.cr_syntax.specs.Spells.{Limit, Is, Phrase, a, Spells, AreConst, const_none, const_more, rest}
+use Rattle.cr_syntax.specs.Spells.{Limit, Is, Phrase, a, Spells, AreQualifiers, qualifiers_none, qualifiers_more, rest}
 use Rattle.cr_syntax.specs.Spells as spells
 use Rattle.cr_machine.specs.Machine.{brought}
 use Rattle.cr_machine.specs.MachineBody.{is_unary}
@@ -55,9 +55,9 @@ is_one (spells.init_declarator_alone s) = is_one s
 is_one (spells.parameter_declarator s) = is_one s
 is_one (spells.member_declarator s) = is_one s
 
-pub consts_forth : {ts : List Lexeme} {limit : Limit} {d i j : ℕ} → AreConst ts limit d i j → i ≤ j
-consts_forth const_none = omega arith
-consts_forth (const_more q w k) = let n = consts_forth k in omega arith
+pub qualifiers_forth : {ts : List Lexeme} {limit : Limit} {d i j : ℕ} → AreQualifiers ts limit d i j → i ≤ j
+qualifiers_forth qualifiers_none = omega arith
+qualifiers_forth (qualifiers_more q w k) = let n = qualifiers_forth k in omega arith
 
 -- spelling goes on to the right
 pub forth : {ts : List Lexeme} {limit : Limit} {p : Phrase} {h : Context} {c e : Scopes} {d i j : ℕ} {t : Trees} →
@@ -84,9 +84,9 @@ forth (spells.tag_none q w s) = let n = forth s in omega arith
 forth (spells.tag_some q w q' w' s) = let n = forth s in omega arith
 forth (spells.comma_none q w s) = let n = forth s in omega arith
 forth (spells.comma_some q w q' w' s) = let n = forth s in omega arith
-forth (spells.qualified k x) = let n = consts_forth k in let m = forth x in omega arith
-forth (spells.qualified_none k) = consts_forth k
-forth (spells.qualified_some k x) = let n = consts_forth k in let m = forth x in omega arith
+forth (spells.qualified k x) = let n = qualifiers_forth k in let m = forth x in omega arith
+forth (spells.qualified_none k) = qualifiers_forth k
+forth (spells.qualified_some k x) = let n = qualifiers_forth k in let m = forth x in omega arith
 forth (spells.ordinary q w s) = let n = forth s in omega arith
 forth (spells.type_identifier q f w s) = let n = forth s in omega arith
 forth (spells.declared q f w s) = let n = forth s in omega arith
@@ -145,7 +145,7 @@ pub named_within : {ts : List Lexeme} {limit : Limit} {p : Part} {h : Context} {
     Names p → Spells ts limit (a p) h c e d t i j → IsAmong ts i j (declared_in t)
 named_within by_declarator (spells.of_chain grammar.declarator_direct f s) = named_within by_direct s
 named_within by_declarator (spells.of_alternative grammar.pointer_declarator f (spells.opens q w (spells.qualified k s))) =
-    let n = consts_forth k in let x = named_within by_declarator s in (omega arith, omega arith, x.2)
+    let n = qualifiers_forth k in let x = named_within by_declarator s in (omega arith, omega arith, x.2)
 named_within by_direct (spells.of_chain x f s) = elim x [ ]
 named_within by_direct (spells.of_alternative grammar.name_declarator f (spells.declared q g w s)) = let n = forth s in (omega arith, omega arith, q)
 named_within by_direct (spells.of_alternative grammar.group_declarator f (spells.opens q w (spells.part {u = u} x s))) = among_row x u (omega arith) (forth s) (named_within by_declarator x)

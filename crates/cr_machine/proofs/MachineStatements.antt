@@ -3,10 +3,10 @@ use Rattle.std.proofs.Common.{◌≡◌, ℕ, suc, ◌+◌, ◌<◌, Bool, true,
 use Rattle.cr_syntax.specs.declared.word.Word.{Word}
 use Rattle.cr_syntax.specs.declared.word.Word.TheVariants as word
 use Rattle.cr_syntax.specs.declared.node.Kind.TheVariants as kind
-use Rattle.cr_syntax.specs.declared.symbol.Part.{Part}
-use Rattle.cr_syntax.specs.declared.symbol.Part.TheVariants as part
-use Rattle.cr_syntax.specs.declared.symbol.Symbol.TheVariants as symbol
-use Rattle.cr_syntax.specs.declared.symbol.Context.{Context}
+use Rattle.cr_syntax.specs.declared.part.Part.{Part}
+use Rattle.cr_syntax.specs.declared.part.Part.TheVariants as part
+use Rattle.cr_syntax.specs.Symbols as symbol
+use Rattle.cr_syntax.specs.declared.part.Context.{Context}
 use Rattle.cr_syntax.specs.declared.scopes.TypeName.{TypeName}
 use Rattle.cr_syntax.specs.Words.{Lexeme, spelling_at}
 use Rattle.cr_syntax.specs.Scopes.{Scopes, is_type}
@@ -18,8 +18,9 @@ use Rattle.cr_syntax.specs.Spells.{Limit, Is, Stands, Within, Spells, a, rest}
 use Rattle.cr_syntax.specs.Spells as spells
 use Rattle.cr_syntax.specs.Reads.{is_word, same_word}
 use Rattle.cr_machine.specs.Machine.{Prog, Reply, Done, Labels, anywhere, own_block, nowhere, plain, opens, reopens, has_word, passes, give, take, call, made, expect, the, run_give, run_take, run_pass, run_free, run_seen, run_unseen, run_yes, run_no, run_here, run_look, run_set, run_call}
+use Rattle.cr_syntax.specs.Units.{begins_statement}
 use Rattle.cr_machine.specs.Machine as m
-use Rattle.cr_machine.specs.MachineBody.{body, is_specifier_start, is_label, is_statement_start, declaration_start, statement_start, inside, in_switch, may_label, labelled, unlabelled, without_else, if_end, switch_body, for_body}
+use Rattle.cr_machine.specs.MachineBody.{body, is_specifier_start, is_label, declaration_start, statement_start, inside, in_switch, may_label, labelled, unlabelled, without_else, if_end, switch_body, for_body}
 use Rattle.cr_machine.specs.MachineLaws.{IsFree}
 use Rattle.cr_syntax.proofs.Tests.{not_true}
 use Rattle.cr_machine.proofs.MachineSpells.{and_none, and_and, pushed, is_one}
@@ -28,29 +29,29 @@ use Rattle.cr_machine.proofs.MachineFits.{fits, fits_left, fits_right, parts_fit
 use Rattle.cr_machine.proofs.MachineTasks.{measure, Goes, Answers, Completes, Smaller}
 use Rattle.cr_machine.proofs.MachineTasks as task
 use Rattle.cr_machine.proofs.MachineBegins.{never_element, no_else, no_right_brace, specifier_yes}
-use Rattle.cr_machine.proofs.MachineExpressions.{closing_run, whole_expression, ordinary_no}
+use Rattle.cr_machine.proofs.MachineExpressions.{closing_run, whole_expression}
 use Rattle.cr_machine.proofs.MachineDeclarations.{declaration_first, compound_first}
 use Rattle.std.proofs.lemmas.Bool.{or_from, or_right}
 
 -- The first token of a statement: a word that only a statement begins with, or that of an expression.
 
-abbrev begins_statement : Word → Bool
-begins_statement word.LeftBrace = true
-begins_statement word.Semicolon = true
-begins_statement word.If = true
-begins_statement word.Switch = true
-begins_statement word.While = true
-begins_statement word.Do = true
-begins_statement word.For = true
-begins_statement word.Case = true
-begins_statement word.Default = true
-begins_statement word.Break = true
-begins_statement word.Continue = true
-begins_statement word.Return = true
-begins_statement _ = false
+abbrev has_keyword : Word → Bool
+has_keyword word.LeftBrace = true
+has_keyword word.Semicolon = true
+has_keyword word.If = true
+has_keyword word.Switch = true
+has_keyword word.While = true
+has_keyword word.Do = true
+has_keyword word.For = true
+has_keyword word.Case = true
+has_keyword word.Default = true
+has_keyword word.Break = true
+has_keyword word.Continue = true
+has_keyword word.Return = true
+has_keyword _ = false
 
 data StatementFirst (ts : List Lexeme) (c : Scopes) (i : ℕ) : Type 0 where
-  by_keyword : {w : Word} → Is ts i w → begins_statement w ≡ true → StatementFirst ts c i
+  by_keyword : {w : Word} → Is ts i w → has_keyword w ≡ true → StatementFirst ts c i
   by_expression : First ts c i → StatementFirst ts c i
 
 -- the words that no item of a block begins with
@@ -58,15 +59,15 @@ data NoItem : Word → Type 0 where
   no_item_else : NoItem word.Else
   no_item_brace : NoItem word.RightBrace
 
-not_statement : (v : Word) {w : Word} → NoItem w → begins_statement v ≡ true → same_word v w ≡ false
+not_statement : (v : Word) {w : Word} → NoItem w → has_keyword v ≡ true → same_word v w ≡ false
 not_statement v no_item_else q = by v q
   where
-    by : (v : Word) → begins_statement v ≡ true → same_word v word.Else ≡ false
+    by : (v : Word) → has_keyword v ≡ true → same_word v word.Else ≡ false
     by word.Else q = none_true q
     by _ q = refl
 not_statement v no_item_brace q = by v q
   where
-    by : (v : Word) → begins_statement v ≡ true → same_word v word.RightBrace ≡ false
+    by : (v : Word) → has_keyword v ≡ true → same_word v word.RightBrace ≡ false
     by word.RightBrace q = none_true q
     by _ q = refl
 
@@ -83,7 +84,7 @@ not_type ts c i q x y = or_from (has_word ts i is_specifier_start) (passes ts c 
 not_declaration : {ts : List Lexeme} {c : Scopes} {i : ℕ} → StatementFirst ts c i → passes ts c i declaration_start ≡ false
 not_declaration {ts = ts} {c = c} {i = i} (by_keyword {w = w} q s) = not_type ts c i q (by w s) (name w s)
   where
-    by : (w : Word) → begins_statement w ≡ true → is_specifier_start w ≡ false
+    by : (w : Word) → has_keyword w ≡ true → is_specifier_start w ≡ false
     by word.Typedef s = none_true s
     by word.Extern s = none_true s
     by word.Static s = none_true s
@@ -91,6 +92,7 @@ not_declaration {ts = ts} {c = c} {i = i} (by_keyword {w = w} q s) = not_type ts
     by word.Register s = none_true s
     by word.Inline s = none_true s
     by word.Const s = none_true s
+    by word.Volatile s = none_true s
     by word.Void s = none_true s
     by word.Char s = none_true s
     by word.Short s = none_true s
@@ -103,7 +105,7 @@ not_declaration {ts = ts} {c = c} {i = i} (by_keyword {w = w} q s) = not_type ts
     by word.Enum s = none_true s
     by _ s = refl
 
-    name : (w : Word) → begins_statement w ≡ true → same_word w word.Identifier ≡ false
+    name : (w : Word) → has_keyword w ≡ true → same_word w word.Identifier ≡ false
     name word.Identifier s = none_true s
     name _ s = refl
 not_declaration {ts = ts} {c = c} {i = i} (by_expression (by_word {w = w} q s)) = not_type ts c i q (by w s) (name_start w s)
@@ -116,6 +118,7 @@ not_declaration {ts = ts} {c = c} {i = i} (by_expression (by_word {w = w} q s)) 
     by word.Register s = none_true s
     by word.Inline s = none_true s
     by word.Const s = none_true s
+    by word.Volatile s = none_true s
     by word.Void s = none_true s
     by word.Char s = none_true s
     by word.Short s = none_true s
@@ -218,7 +221,7 @@ module _ (ts : List Lexeme) (limit : Limit) where
   block_goes x = run_look (run_set (run_call x (run_look (run_set run_give))))
 
   no_statement_start : (c : Scopes) (i : ℕ) → Is ts i word.LeftBrace → passes ts c i statement_start ≡ false
-  no_statement_start c i q = or_from (has_word ts i is_statement_start) (passes ts c i m.ordinary) (sorted is_statement_start false q refl) (ordinary_no ts c i (differs q word.Identifier refl))
+  no_statement_start c i q = sorted begins_statement false q refl
 
   module _ (n : ℕ) (b : Smaller ts limit n) where
     -- Blocks.

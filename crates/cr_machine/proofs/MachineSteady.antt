@@ -5,9 +5,9 @@ use Rattle.std.proofs.lemmas.Bool.{both_ways, or_cases, or_from}
 use Rattle.cr_syntax.specs.declared.word.Word.{Word}
 use Rattle.cr_syntax.specs.declared.word.Word.TheVariants as word
 use Rattle.cr_syntax.specs.declared.node.Kind.{Kind}
-use Rattle.cr_syntax.specs.declared.symbol.Part.{Part}
-use Rattle.cr_syntax.specs.declared.symbol.Part.TheVariants as part
-use Rattle.cr_syntax.specs.declared.symbol.Context.{Context}
+use Rattle.cr_syntax.specs.declared.part.Part.{Part}
+use Rattle.cr_syntax.specs.declared.part.Part.TheVariants as part
+use Rattle.cr_syntax.specs.declared.part.Context.{Context}
 use Rattle.cr_syntax.specs.Words.{Lexeme, spelling_at}
 use Rattle.cr_syntax.specs.Scopes.{Scopes, is_type, enter}
 use Rattle.cr_syntax.specs.Trees.{Trees, none, ◌&◌}
@@ -16,7 +16,7 @@ use Rattle.cr_syntax.specs.Spells.{Is}
 use Rattle.cr_syntax.specs.Reads.{is_word, same_word}
 use Rattle.cr_syntax.specs.Units.{is_unused, StandsIn, subscript_for_call}
 use Rattle.cr_machine.specs.Machine.{Goal, Prog, Manner, Test, Wanted, named, unnamed, either, plain, opens, reopens, the, has, ordinary, type_identifier, declared, or, passes, has_word, is_bracket, levels_at, brought, choose, give, stop, refuse, take, bar, peek, when, here, look, set, bring, call, made, Labels}
-use Rattle.cr_machine.specs.Machine.{whole, expression, commas, assignment, conditional, binary, operands, cast, unary, measured, postfix, called, grouped, texts, arguments, suffixes, type_name, row, more, element, structure, members, member, member_declarators, enumeration, enumerators, enumerator, consts, declarator, declarator_suffixes, abstract_suffixes, size, parameters, more_parameters, parameter}
+use Rattle.cr_machine.specs.Machine.{whole, expression, commas, assignment, conditional, binary, operands, cast, unary, measured, postfix, called, grouped, texts, arguments, suffixes, type_name, row, more, element, structure, members, member, member_declarators, enumeration, enumerators, enumerator, qualifiers, declarator, declarator_suffixes, abstract_suffixes, size, parameters, more_parameters, parameter}
 use Rattle.cr_machine.specs.Machine.{unit, externals, external, declaration, init_declarators, initialized, initializer, initializers, statement, block, if_rest, switch_rest, while_rest, do_rest, for_rest, return_rest, for_clauses, clause, compound, items, item}
 use Rattle.cr_machine.specs.MachineBody.{Words, body, declared_on, unlabelled, labelled, is_label, assigned, operated, prefixed, suffixed, sized, other_primary, suffixes_end, other_element, array_start, may_omit, start_goal, tighter, assignment_operators, operators, unary_prefixes, cast_prefixes, constants, postfix_operators, specifier_words, plain_words, element_start, is_plain_start, is_specifier_start, is_abstract_start, is_declarator_start, declarator_start}
 use Rattle.cr_syntax.proofs.Tests.{both, not_true}
@@ -53,7 +53,7 @@ depth_of (member_declarators h d s a) = d
 depth_of (enumeration d s) = d
 depth_of (enumerators d s a) = d
 depth_of (enumerator d) = d
-depth_of (consts d) = d
+depth_of (qualifiers d) = d
 depth_of (declarator w h d) = d
 depth_of (declarator_suffixes d s a) = d
 depth_of (abstract_suffixes d s a) = d
@@ -140,7 +140,7 @@ fits g (has f) = false
 fits g ordinary = true
 fits g (type_identifier typed) = true
 fits g (declared typed) = true
-fits g (or x y) = false
+fits g (or x y) = fits g x && fits g y
 
 -- whether it asks for `[`
 abbrev pub tries : Test → Bool
@@ -268,6 +268,7 @@ has_row w (r ∷ rs) = same_word w r.0 || has_row w rs
 
 plain_among : (w : Word) → is_plain_start w ≡ true → has_row w plain_words ≡ false → same_word w word.Struct ≡ false → same_word w word.Enum ≡ false → ⊥
 plain_among word.Const q x y z = true_false x
+plain_among word.Volatile q x y z = true_false x
 plain_among word.Void q x y z = true_false x
 plain_among word.Char q x y z = true_false x
 plain_among word.Short q x y z = true_false x
@@ -288,6 +289,7 @@ specifier_among word.Auto q x y z = true_false x
 specifier_among word.Register q x y z = true_false x
 specifier_among word.Inline q x y z = true_false x
 specifier_among word.Const q x y z = true_false x
+specifier_among word.Volatile q x y z = true_false x
 specifier_among word.Void q x y z = true_false x
 specifier_among word.Char q x y z = true_false x
 specifier_among word.Short q x y z = true_false x
@@ -614,7 +616,7 @@ module _ (ts : List Lexeme) (floor : ℕ) where
     λ t e j _. (omega arith, refl, (omega arith, refl, omega arith, (omega arith, λ t' e' j' _. omega arith)), (omega arith, refl, omega arith, omega arith)),
   )
   steady (enumerator d) c i _ y = (omega arith, refl, (omega arith, refl, (omega arith, λ t e j _. omega arith), omega arith), omega arith)
-  steady (consts d) c i _ y = (omega arith, refl, (omega arith, λ t e j _. omega arith), omega arith)
+  steady (qualifiers d) c i _ y = (omega arith, refl, (omega arith, λ t e j _. omega arith), omega arith)
   steady (declarator w h d) c i _ y = (
     omega arith,
     refl,

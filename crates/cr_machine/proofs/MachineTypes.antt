@@ -4,11 +4,11 @@ use Rattle.cr_syntax.specs.declared.word.Word.{Word}
 use Rattle.cr_syntax.specs.declared.word.Word.TheVariants as word
 use Rattle.cr_syntax.specs.declared.node.Kind.{Kind}
 use Rattle.cr_syntax.specs.declared.node.Kind.TheVariants as kind
-use Rattle.cr_syntax.specs.declared.symbol.Part.{Part}
-use Rattle.cr_syntax.specs.declared.symbol.Part.TheVariants as part
-use Rattle.cr_syntax.specs.declared.symbol.Symbol.TheVariants as symbol
+use Rattle.cr_syntax.specs.declared.part.Part.{Part}
+use Rattle.cr_syntax.specs.declared.part.Part.TheVariants as part
+use Rattle.cr_syntax.specs.Symbols as symbol
 use Rattle.cr_syntax.specs.declared.scopes.TypeName.{TypeName}
-use Rattle.cr_syntax.specs.declared.symbol.Context.{Context}
+use Rattle.cr_syntax.specs.declared.part.Context.{Context}
 use Rattle.cr_syntax.specs.Words.{Lexeme, spelling_at}
 use Rattle.cr_syntax.specs.Scopes.{Scopes, is_type, enter}
 use Rattle.cr_syntax.specs.Trees.{Trees, none, one, ◌&◌}
@@ -23,7 +23,7 @@ use Rattle.cr_machine.specs.Machine as m
 use Rattle.cr_machine.specs.MachineBody.{body, member_end, other_element, specifier_words, plain_words, storage_words, row_kind, is_plain_start, is_specifier_start, is_abstract_start, element_start, in_row}
 use Rattle.cr_machine.proofs.MachineMeans.{element_part, has_some}
 use Rattle.cr_machine.proofs.MachineSpells.{and_none, and_and, pushed, is_one, forth, brought_is}
-use Rattle.cr_machine.proofs.MachineFirst.{none_true, and_false, later_row, yes, differs, sorted, free_by, lower, fails, all_differ, Row, row_here, row_next, takes, skips, tail}
+use Rattle.cr_machine.proofs.MachineFirst.{none_true, and_false, later_row, yes, differs, sorted, free_by, lower, fails, all_differ, Row, row_here, row_next, row_found, takes, skips, tail}
 use Rattle.cr_machine.proofs.MachineSound.{part_some, two_in_row}
 use Rattle.cr_machine.proofs.MachineSpells as facts
 use Rattle.cr_machine.proofs.MachineTasks.{measure, Closes, by_paren, by_comma, by_semicolon, by_closing, past_row, Goes, Answers, Completes, Smaller}
@@ -129,17 +129,22 @@ module _ (ts : List Lexeme) (limit : Limit) where
     in_enum : (p : Part) (h : Context) {c e : Scopes} {d i j : ℕ} {t : Trees} → Is ts i word.Enum → Stands limit i d → Answers ts limit (m.enumeration d i) c (i + 1) t e j → Answers ts limit (m.element p h d) c i t e j
     in_enum p h {d = d} {i = i} q w x = run_here (skips body ts limit (specifier_words p) plain d (λ k. made k i none) (other_element h d i) q (enum_apart p) (run_pass (differs q word.Struct refl) (run_take (yes q) w (tail x))))
 
+    word_plain : (p : Part) (h : Context) {h' : Context} {c e : Scopes} {d i j : ℕ} {t : Trees} {w : Word} {k : Kind} → Row w k (specifier_words p) → Spells ts limit (rest (token w ∷ [])) h' c e d t i j →
+        Answers ts limit (m.element p h d) c i (one k i j t) e j
+    word_plain p h {d = d} row (spells.token q w spells.done) = word_reads p h d row q w
+
     plain_reads : (p : Part) {h : Context} {c e : Scopes} {d i j : ℕ} {t : Trees} (s : Spells ts limit (a part.Plain) h c e d t i j) → measure s < suc n → is_word ts j word.LeftBrace ≡ false → Answers ts limit (m.element p h d) c i t e j
     plain_reads p (spells.of_chain x f s) lt nb = elim x [ ]
-    plain_reads p {h = h} {d = d} (spells.of_alternative grammar.qualifier_const f (spells.token q w spells.done)) lt nb = word_reads p h d (plain_row p refl row_here) q w
-    plain_reads p {h = h} {d = d} (spells.of_alternative grammar.type_void f (spells.token q w spells.done)) lt nb = word_reads p h d (plain_row p refl (row_next refl row_here)) q w
-    plain_reads p {h = h} {d = d} (spells.of_alternative grammar.type_char f (spells.token q w spells.done)) lt nb = word_reads p h d (plain_row p refl (row_next refl (row_next refl row_here))) q w
-    plain_reads p {h = h} {d = d} (spells.of_alternative grammar.type_short f (spells.token q w spells.done)) lt nb = word_reads p h d (plain_row p refl (row_next refl (row_next refl (row_next refl row_here)))) q w
-    plain_reads p {h = h} {d = d} (spells.of_alternative grammar.type_int f (spells.token q w spells.done)) lt nb = word_reads p h d (plain_row p refl (row_next refl (row_next refl (row_next refl (row_next refl row_here))))) q w
-    plain_reads p {h = h} {d = d} (spells.of_alternative grammar.type_long f (spells.token q w spells.done)) lt nb = word_reads p h d (plain_row p refl (row_next refl (row_next refl (row_next refl (row_next refl (row_next refl row_here)))))) q w
-    plain_reads p {h = h} {d = d} (spells.of_alternative grammar.type_signed f (spells.token q w spells.done)) lt nb = word_reads p h d (plain_row p refl (row_next refl (row_next refl (row_next refl (row_next refl (row_next refl (row_next refl row_here))))))) q w
-    plain_reads p {h = h} {d = d} (spells.of_alternative grammar.type_unsigned f (spells.token q w spells.done)) lt nb = word_reads p h d (plain_row p refl (row_next refl (row_next refl (row_next refl (row_next refl (row_next refl (row_next refl (row_next refl row_here)))))))) q w
-    plain_reads p {h = h} {d = d} (spells.of_alternative grammar.type_bool f (spells.token q w spells.done)) lt nb = word_reads p h d (plain_row p refl (row_next refl (row_next refl (row_next refl (row_next refl (row_next refl (row_next refl (row_next refl (row_next refl row_here))))))))) q w
+    plain_reads p {h = h} (spells.of_alternative grammar.qualifier_const f s) lt nb = word_plain p h (plain_row p refl (row_found plain_words {w = word.Const} {k = kind.Const} refl)) s
+    plain_reads p {h = h} (spells.of_alternative grammar.qualifier_volatile f s) lt nb = word_plain p h (plain_row p refl (row_found plain_words {w = word.Volatile} {k = kind.Volatile} refl)) s
+    plain_reads p {h = h} (spells.of_alternative grammar.type_void f s) lt nb = word_plain p h (plain_row p refl (row_found plain_words {w = word.Void} {k = kind.Void} refl)) s
+    plain_reads p {h = h} (spells.of_alternative grammar.type_char f s) lt nb = word_plain p h (plain_row p refl (row_found plain_words {w = word.Char} {k = kind.Char} refl)) s
+    plain_reads p {h = h} (spells.of_alternative grammar.type_short f s) lt nb = word_plain p h (plain_row p refl (row_found plain_words {w = word.Short} {k = kind.Short} refl)) s
+    plain_reads p {h = h} (spells.of_alternative grammar.type_int f s) lt nb = word_plain p h (plain_row p refl (row_found plain_words {w = word.Int} {k = kind.Int} refl)) s
+    plain_reads p {h = h} (spells.of_alternative grammar.type_long f s) lt nb = word_plain p h (plain_row p refl (row_found plain_words {w = word.Long} {k = kind.Long} refl)) s
+    plain_reads p {h = h} (spells.of_alternative grammar.type_signed f s) lt nb = word_plain p h (plain_row p refl (row_found plain_words {w = word.Signed} {k = kind.Signed} refl)) s
+    plain_reads p {h = h} (spells.of_alternative grammar.type_unsigned f s) lt nb = word_plain p h (plain_row p refl (row_found plain_words {w = word.Unsigned} {k = kind.Unsigned} refl)) s
+    plain_reads p {h = h} (spells.of_alternative grammar.type_bool f s) lt nb = word_plain p h (plain_row p refl (row_found plain_words {w = word.Bool} {k = kind.Bool} refl)) s
     plain_reads p {h = h} (spells.of_alternative grammar.struct_content f (spells.token q w (spells.tag_none q' w' s))) lt nb =
         in_struct p h q w (run_pass (differs q' word.Identifier refl) (run_take (yes q') w' (tail (members_go s (omega arith)))))
     plain_reads p {h = h} (spells.of_alternative grammar.struct_content f (spells.token q w (spells.tag_some q' w' q'' w'' s))) lt nb =

@@ -1,14 +1,14 @@
 -- What the machine answers of a unit is what reading one promises: its trees, or the first refusal.
-use Rattle.std.proofs.Common.{◌≡◌, ℕ, ◌+◌, ◌<◌, ◌≤◌, Bool, true, false, not, ◌&&◌, List, length, Option, None, Some, refl, sym, ap, subst, ◌∙◌, arith, ◌==◌, ◌⊎◌, inl, inr, ⊎_elim}
+use Rattle.std.proofs.Common.{◌≡◌, ℕ, ◌+◌, ◌<◌, ◌≤◌, Bool, true, false, not, ◌&&◌, List, length, Option, None, Some, refl, sym, ap, subst, ◌∙◌, arith, ◌⊎◌, inl, inr}
 use Rattle.std.specs.Prelude.{nat_lt, if◌then◌else◌}
-use Rattle.std.proofs.lemmas.Bool.{both_ways, eqb-true, eq-eqb, cases_Bool}
+use Rattle.std.proofs.lemmas.Bool.{both_ways}
 use Rattle.cr_syntax.specs.declared.word.Word.{Word}
 use Rattle.cr_syntax.specs.declared.word.Word.TheVariants as word
 use Rattle.cr_syntax.specs.Words.{Lexeme, word_at}
 use Rattle.cr_syntax.specs.Scopes.{Scopes}
 use Rattle.cr_syntax.specs.Trees.{Trees}
 use Rattle.cr_syntax.specs.Spells.{Limit, Free, AtMost, Upto, Is}
-use Rattle.cr_syntax.specs.Units.{most_levels, file_scope, is_unused, IsBracket, StandsIn, list_for_designator, group_for_literal, subscript_for_call, block_for_body, IsUnit, Begins, BeginsWithin, Outside, IsTooDeep, IsFineBefore, FirstRefusal, IsTreeOf}
+use Rattle.cr_syntax.specs.Units.{most_levels, file_scope, is_unused, begins_statement, Refusal, IsBracket, StandsIn, list_for_designator, group_for_literal, subscript_for_call, block_for_body, IsUnit, Begins, BeginsWithin, Outside, IsTooDeep, IsFineBefore, FirstRefusal, IsTreeOf}
 use Rattle.cr_syntax.specs.Units as units
 use Rattle.cr_machine.specs.Machine.{Manner, Test, plain, opens, reopens, Allows, anywhere, nowhere, unit, Reply, Cause, Done, Failed, Runs, has_word, barred, refusal_of, overflows, is_bracket, too_deep, ended, outside, unexpected}
 use Rattle.cr_machine.specs.MachineBody.{body, is_any, is_label}
@@ -23,11 +23,11 @@ use Rattle.cr_machine.proofs.MachineUnitForms.{ReadsUnits, same_token, token_in}
 use Rattle.cr_machine.proofs.MachineRefusals.{outside_before_end, outside_at_end, outside_of_unit}
 use Rattle.cr_machine.proofs.MachineViable.{barred_inside, crowded_inside}
 use Rattle.cr_machine.proofs.MachineUnitViable.{unit_begins, unit_leaves, unit_barred_begins, unit_stands, unit_stands_leaving, unit_crowded_begins, definition_completes, definition_outside, unit_outside}
-use Rattle.cr_machine.proofs.MachineWhile.{other_body}
 use Rattle.cr_machine.proofs.MachineForms.{within}
 use Rattle.cr_machine.proofs.MachineLoose.{looser, followed, Follows, so_too, departs, own_label, label_is}
 use Rattle.cr_machine.proofs.MachineStuck.{is_crowded}
 use Rattle.cr_machine.proofs.MachineReading.{unlimited_end, ends_inside, bracket_is, is_of_bracket, bracket_is_used, not_both, at_most, below, not_keyword_row, barring_at, at_end}
+use Rattle.cr_machine.proofs.UnitRefusals.{HasOneRow, token_of, one_first_refusal}
 use Rattle.cr_machine.proofs.MachineUnitStuck.{no_room_in_unit, no_room_instead_in_unit, read_is_unit, begun_unit_is_used, relimit_unit, unit_ends, label_within}
 
 -- Texts that begin as a list does.
@@ -61,19 +61,19 @@ names_token {ts = ts} {k = k} (units.bit_field q b) = within ts k q
 names_token (units.deep_label lt c q) = lt
 names_token {ts = ts} {k = k} (units.label_as_body s (inl q) b) = within ts k q
 names_token {ts = ts} {k = k} (units.label_as_body s (inr q) b) = within ts k q
-names_token (units.switch_body s lt b n0 n1 n2 c) = lt
+names_token {ts = ts} {k = k} (units.switch_body s q y b) = within ts k q
 names_token {ts = ts} (units.variadic_function m lt q c b) = let n = within ts m q in omega arith
 
 -- a token that a row of the refused forms names is an unused keyword, or the row is another one
-pub keyword_or_form : {ts : List Lexeme} {k n : ℕ} → Outside ts k n → ((w : Word) × Is ts k w × (is_unused w ≡ true)) ⊎ (n ≡ 1 → ⊥)
-keyword_or_form (units.unused_keyword {w = w} q u) = inl (w, q, u)
+pub keyword_or_form : {ts : List Lexeme} {k n : ℕ} → Outside ts k n → ((w : Word) × Is ts k w × (is_unused w ≡ true) × (n ≡ 1)) ⊎ (n ≡ 1 → ⊥)
+keyword_or_form (units.unused_keyword {w = w} q u) = inl (w, q, u, refl)
 keyword_or_form (units.designator q b) = inr (λ e. omega arith)
 keyword_or_form (units.compound_literal q b) = inr (λ e. omega arith)
 keyword_or_form (units.called_expression q b) = inr (λ e. omega arith)
 keyword_or_form (units.bit_field q b) = inr (λ e. omega arith)
 keyword_or_form (units.deep_label lt c q) = inr (λ e. omega arith)
 keyword_or_form (units.label_as_body s q b) = inr (λ e. omega arith)
-keyword_or_form (units.switch_body s lt b n0 n1 n2 c) = inr (λ e. omega arith)
+keyword_or_form (units.switch_body s q y b) = inr (λ e. omega arith)
 keyword_or_form (units.variadic_function m lt q c b) = inr (λ e. omega arith)
 
 -- a token is a bracket and another word
@@ -94,12 +94,35 @@ in_place (units.bit_field q s) y b f = absurd (no_bracket q refl y b)
 in_place (units.deep_label {t = t} lt c q) y b f = absurd (f (begins_free (record { trees = t; completes = c })))
 in_place (units.label_as_body s (inl q) c) y b f = absurd (no_bracket q refl y b)
 in_place (units.label_as_body s (inr q) c) y b f = absurd (no_bracket q refl y b)
-in_place (units.switch_body s lt c n0 n1 n2 d) y b f = (word.LeftBrace, block_for_body)
+in_place (units.switch_body s q u c) y b f = (word.LeftBrace, block_for_body)
 in_place (units.variadic_function {t = t} m lt q c s) y b f = absurd (f (begins_free (begins_definition (units.variadic_function {t = t} m lt q c s))))
 
--- the row of a switch's body, or another one
-is_seventh : (n : ℕ) → (n ≡ 7) ⊎ (n ≡ 7 → ⊥)
-is_seventh n = ⊎_elim (λ q. inl (eqb-true n 7 q)) (λ q. inr (λ e. both_ways (n == 7) q (eq-eqb n 7 e))) (cases_Bool (n == 7))
+-- a word that begins a statement is no unused keyword
+statement_is_used : (w : Word) → begins_statement w ≡ true → is_unused w ≡ false
+statement_is_used word.Semicolon q = refl
+statement_is_used word.If q = refl
+statement_is_used word.Switch q = refl
+statement_is_used word.While q = refl
+statement_is_used word.Do q = refl
+statement_is_used word.For q = refl
+statement_is_used word.Break q = refl
+statement_is_used word.Continue q = refl
+statement_is_used word.Return q = refl
+statement_is_used word.PlusPlus q = refl
+statement_is_used word.MinusMinus q = refl
+statement_is_used word.Ampersand q = refl
+statement_is_used word.Star q = refl
+statement_is_used word.Plus q = refl
+statement_is_used word.Minus q = refl
+statement_is_used word.Tilde q = refl
+statement_is_used word.Bang q = refl
+statement_is_used word.Sizeof q = refl
+statement_is_used word.Identifier q = refl
+statement_is_used word.Integer q = refl
+statement_is_used word.Character q = refl
+statement_is_used word.Text q = refl
+statement_is_used word.LeftParen q = refl
+statement_is_used _ q = none_true q
 
 -- a unit is read by the machine of the bare grammar
 pub reads_units : ReadsUnits
@@ -168,7 +191,7 @@ module _ (ts : List Lexeme) where
 
   -- the tokens before a refused one
   fine : {w : Way} {k : ℕ} → EndsBy w k → ((m : ℕ) → w ≡ defining m → ⊥) → BeginsWithin ts k → IsFineBefore ts k
-  fine y other b = record { begins = b; inside = λ i n lt o. elim (keyword_or_form o) [ inl (w, q, u) ↦ both_ways (is_unused w) (begun_unit_is_used b lt q) u | inr f ↦ other i (row_before y o f lt).0 ] }
+  fine y other b = record { begins = b; inside = λ i n lt o. elim (keyword_or_form o) [ inl (w, q, u, e) ↦ both_ways (is_unused w) (begun_unit_is_used b lt q) u | inr f ↦ other i (row_before y o f lt).0 ] }
 
   -- A token at which the machine stops.
   module _ (m k : ℕ) (y : EndsBy (stopped m) k) (le : k ≤ length ts) where
@@ -185,7 +208,7 @@ module _ (ts : List Lexeme) where
     stop_fine = fine y no_definition (unit_begins ts most_levels k le nowhere m y)
 
     not_outside : {w : Word} → Is ts k w → is_unused w ≡ false → (n : ℕ) → Outside ts k n → ⊥
-    not_outside q u n o = elim (keyword_or_form o) [ inl (v, q', u') ↦ not_both q' u' q u | inr f ↦ no_row (row_there (within ts k q) y o f no_definition).2 ]
+    not_outside q u n o = elim (keyword_or_form o) [ inl (v, q', u', e) ↦ not_both q' u' q u | inr f ↦ no_row (row_there (within ts k q) y o f no_definition).2 ]
       where
         no_row : {x : Test} {n d : ℕ} → stopped m ≡ barring x n d → ⊥
         no_row q = cc
@@ -213,10 +236,7 @@ module _ (ts : List Lexeme) where
   bar_fine {x = x} {n = n} {m = m} {k = k} y = let lt = barred_inside y in fine y (λ m q. cc) (unit_barred_begins ts most_levels k (omega arith) nowhere x n m y)
 
   pub bar_outside : {x : Test} {n m k : ℕ} → EndsBy (barring x n m) k → Outside ts k n
-  bar_outside {x = x} {n = n} {m = m} {k = k} y = elim (is_seventh n) [
-    | inl e ↦ subst (λ n. Outside ts k n) (sym e) (other_body ts x m k (subst (λ n. EndsBy (barring x n m) k) e y))
-    | inr f ↦ (let lt = barred_inside y in unit_outside ts k (omega arith) nowhere x n m y f)
-  ]
+  bar_outside {x = x} {n = n} {m = m} {k = k} y = let lt = barred_inside y in unit_outside ts k (omega arith) nowhere x n m y
 
   -- in the bare grammar too
   module _ (x : Test) (n m k : ℕ) (y : EndsBy (barring x n m) k) (z : Loosely (barring x n m) k) where
@@ -283,7 +303,7 @@ module _ (ts : List Lexeme) where
         b = begins_by (upto_less most_levels (omega arith)) (begins_less (omega arith) (begins_definition named))
 
         inside : (i n : ℕ) → i < m → Outside ts i n → ⊥
-        inside i n lt o = elim (keyword_or_form o) [ inl (w, q, u) ↦ both_ways (is_unused w) (begun_unit_is_used b lt q) u | inr f ↦ (let before = (definition_completes ts most_levels k le nowhere m y).0 in let e = same_definition (row_before y o f (omega arith)).0 in absurd (omega arith)) ]
+        inside i n lt o = elim (keyword_or_form o) [ inl (w, q, u, e) ↦ both_ways (is_unused w) (begun_unit_is_used b lt q) u | inr f ↦ (let before = (definition_completes ts most_levels k le nowhere m y).0 in let e = same_definition (row_before y o f (omega arith)).0 in absurd (omega arith)) ]
 
     named_not_deep : IsTooDeep ts m → ⊥
     named_not_deep (units.expected o) = o.too_deep (begins_definition named)
@@ -328,8 +348,85 @@ module _ (ts : List Lexeme) where
       all = record { trees = t; completes = record { text = ts; alike = λ i x lt q. q; is_unit = u } }
 
       inside : (i n : ℕ) → Outside ts i n → ⊥
-      inside i n o = let lt = names_token o in elim (keyword_or_form o) [ inl (w, q, v) ↦ both_ways (is_unused w) (begun_unit_is_used all lt q) v | inr f ↦ (let e = read_to_end h in row_read h o f (omega arith)) ]
+      inside i n o = let lt = names_token o in elim (keyword_or_form o) [ inl (w, q, v, e) ↦ both_ways (is_unused w) (begun_unit_is_used all lt q) v | inr f ↦ (let e = read_to_end h in row_read h o f (omega arith)) ]
 
   pub is_parsed : (r : Reply) → Answers r → IsParsed ts r
   is_parsed (Done t e j) h = (unit_is_tree h, read_to_end h)
   is_parsed (Failed x k) h = unit_is_refused h
+
+  -- At the token that a refusal names one row stands.
+
+  form_is_used : {k n : ℕ} {w : Word} → Outside ts k n → (n ≡ 1 → ⊥) → Is ts k w → is_unused w ≡ true → ⊥
+  form_is_used (units.unused_keyword q' u') f q u = f refl
+  form_is_used (units.designator (inl q') b) f q u = not_both q u q' refl
+  form_is_used (units.designator (inr q') b) f q u = not_both q u q' refl
+  form_is_used (units.compound_literal q' b) f q u = not_both q u q' refl
+  form_is_used (units.called_expression q' b) f q u = not_both q u q' refl
+  form_is_used (units.bit_field q' b) f q u = not_both q u q' refl
+  form_is_used {w = w} (units.deep_label {t = t} lt c y) f q u = both_ways (is_unused w) (begun_unit_is_used (record { trees = t; completes = c }) (omega arith) q) u
+  form_is_used (units.label_as_body s (inl q') b) f q u = not_both q u q' refl
+  form_is_used (units.label_as_body s (inr q') b) f q u = not_both q u q' refl
+  form_is_used (units.switch_body {w = v} s q' y b) f q u = not_both q u q' (statement_is_used v y)
+  form_is_used {w = w} (units.variadic_function {t = t} m lt q' c y) f q u = both_ways (is_unused w) (begun_unit_is_used (record { trees = t; completes = c }) (omega arith) q) u
+
+  one_row_by : {k : ℕ} (m : ℕ) → ((n : ℕ) → Outside ts k n → (n ≡ 1 → ⊥) → n ≡ m) → HasOneRow ts k
+  one_row_by m f n n' o o' = elim (keyword_or_form o) [
+    | inl (w, q, u, e) ↦ elim (keyword_or_form o') [ inl (w', q', u', e') ↦ e ∙ sym e' | inr g' ↦ absurd (form_is_used o' g' q u) ]
+    | inr g ↦ elim (keyword_or_form o') [ inl (w', q', u', e') ↦ absurd (form_is_used o g q' u') | inr g' ↦ f n o g ∙ sym (f n' o' g') ]
+  ]
+
+  none_at_end : HasOneRow ts (length ts)
+  none_at_end n n' o o' = let lt = names_token o in absurd (omega arith)
+
+  no_bar : {x : Test} {m n d : ℕ} → stopped m ≡ barring x n d → ⊥
+  no_bar q = cc
+
+  no_bar_deep : {x : Test} {n d : ℕ} → crowded ≡ barring x n d → ⊥
+  no_bar_deep q = cc
+
+  one_bar : {x x' : Test} {n n' m d : ℕ} → barring x n m ≡ barring x' n' d → n' ≡ n
+  one_bar q = cc
+
+  row_of_stop : {m k : ℕ} → EndsBy (stopped m) k → HasOneRow ts k
+  row_of_stop y = one_row_by 0 (λ n o g. absurd (no_bar (row_there (names_token o) y o g (λ m q. cc)).2))
+
+  row_of_bar : {x : Test} {n m k : ℕ} → EndsBy (barring x n m) k → HasOneRow ts k
+  row_of_bar {n = n} y = one_row_by n (λ n' o g. one_bar (row_there (names_token o) y o g (λ m q. cc)).2)
+
+  row_of_crowd : {k : ℕ} → EndsBy crowded k → HasOneRow ts k
+  row_of_crowd y = one_row_by 0 (λ n o g. absurd (no_bar_deep (row_there (names_token o) y o g (λ m q. cc)).2))
+
+  row_of_definition : {m k : ℕ} → EndsBy (defining m) k → k ≤ length ts → HasOneRow ts m
+  row_of_definition {m = m} {k = k} y le = one_row_by 8 (λ n o g. (row_before y o g (definition_completes ts most_levels k le nowhere m y).0).1)
+
+  abbrev OneRowOf : Cause → ℕ → Type 0
+  OneRowOf x k = HasOneRow ts (token_of ts (refusal_of x k))
+
+  one_row : (w : Way) (k : ℕ) → EndsBy w k → k ≤ length ts → OneRowOf (cause_by ts k w) k
+  one_row (stopped m) k y le = by (word_at ts k)
+    where
+      by_word : (u o : Bool) → OneRowOf (if u then outside 1 else (if o then too_deep else unexpected)) k
+      by_word true o = row_of_stop y
+      by_word false true = row_of_stop y
+      by_word false false = row_of_stop y
+
+      by : (o : Option Word) → OneRowOf (elim o as (λ _. Cause) [ None ↦ ended | Some w ↦ if is_unused w then outside 1 else (if overflows w m then too_deep else unexpected) ]) k
+      by None = none_at_end
+      by (Some w) = by_word (is_unused w) (overflows w m)
+  one_row (barring x n m) k y le = by (word_at ts k)
+    where
+      by_word : (o : Bool) → OneRowOf (if o then too_deep else outside n) k
+      by_word true = row_of_bar y
+      by_word false = row_of_bar y
+
+      by : (o : Option Word) → OneRowOf (elim o as (λ _. Cause) [ None ↦ ended | Some w ↦ if overflows w m then too_deep else outside n ]) k
+      by None = none_at_end
+      by (Some w) = by_word (overflows w m)
+  one_row crowded k y le = row_of_crowd y
+  one_row (defining m) k y le = row_of_definition y le
+
+  -- no other refusal is the first
+  pub only_refusal : {x : Cause} {k : ℕ} {r : Refusal} → Answers (Failed x k) → FirstRefusal ts r → r ≡ refusal_of x k
+  only_refusal {k = k} h o =
+      let y = ends_so h in
+      sym (one_first_refusal ts (subst (λ x. OneRowOf x k) (sym y.cause) (one_row y.way k y.ends (ends_inside h (omega arith)))) (unit_is_refused h) o)

@@ -1,6 +1,6 @@
 -- The machine reads each unit, and so the tokens of a unit have one tree.
 use Rattle.std.proofs.Common.{◌≡◌, ℕ, Bool, true, false, List, length, None, Some, refl, ap, subst}
-use Rattle.cr_syntax.specs.declared.symbol.Context.{Context}
+use Rattle.cr_syntax.specs.declared.part.Context.{Context}
 use Rattle.cr_syntax.specs.Words.{Lexeme, word_at}
 use Rattle.cr_syntax.specs.Scopes.{Scopes}
 use Rattle.cr_syntax.specs.Trees.{Trees, none, ◌&◌}

@@ -1,5 +1,5 @@
 -- A row of the refused forms that names a token of a unit behind a tree, or where one begins: the machine refuses the token there.
-use Rattle.std.proofs.Common.{◌≡◌, ℕ, ◌<◌, ◌≤◌, Bool, true, List, length, Some, ◌⊎◌, ⊎_elim, refl, sym, subst, ◌∙◌, arith}
+use Rattle.std.proofs.Common.{◌≡◌, ℕ, ◌<◌, ◌≤◌, Bool, true, ◌&&◌, ◌==◌, ap, List, length, Some, ◌⊎◌, ⊎_elim, refl, sym, subst, ◌∙◌, arith}
 use Rattle.std.specs.Prelude.{slice_get}
 use Rattle.cr_syntax.specs.declared.word.Word.{Word}
 use Rattle.cr_syntax.specs.declared.word.Word.TheVariants as word
@@ -9,7 +9,7 @@ use Rattle.cr_syntax.specs.Scopes.{Scopes}
 use Rattle.cr_syntax.specs.Trees.{Trees}
 use Rattle.cr_syntax.specs.Context.{fresh}
 use Rattle.cr_syntax.specs.Spells.{Limit, AtMost, Upto, Is, Spells, rest}
-use Rattle.cr_syntax.specs.Units.{unit_side, file_scope, most_levels, Completes, Shows, initializer_at, cast_operand_at, postfix_before, member_before, switch_body_at}
+use Rattle.cr_syntax.specs.Units.{unit_side, file_scope, most_levels, Completes, Shows, initializer_at, cast_operand_at, postfix_before, member_before, switch_body_at, begins_statement}
 use Rattle.cr_machine.specs.Machine.{unit, anywhere, nowhere, Labels, Done, Failed, Runs}
 use Rattle.cr_machine.specs.MachineBody.{body}
 use Rattle.cr_syntax.proofs.Tests.{some_one}
@@ -18,7 +18,7 @@ use Rattle.cr_machine.proofs.MachineComplete.{begun_same}
 use Rattle.cr_machine.proofs.MachineEnds.{Way, barring, Ends, refused_so, cause_by}
 use Rattle.cr_machine.proofs.MachineWays.{at, same_way}
 use Rattle.cr_machine.proofs.MachineMarks.{Barred}
-use Rattle.cr_machine.proofs.MachineForms.{Form, literal, calling, field, dotted, indexed, case_body, default_body, row_of, token_of, mark, asks_unit, has_all, literal_mark, calling_mark, field_mark, designator_mark, switch_mark, barred_there, within, allows_before, IsBarring, by_row}
+use Rattle.cr_machine.proofs.MachineForms.{Form, literal, calling, field, dotted, indexed, case_body, default_body, statement_body, row_of, token_of, mark, asks_unit, has_all, literal_mark, calling_mark, field_mark, designator_mark, switch_mark, barred_there, within, allows_before, IsBarring, by_row}
 use Rattle.cr_machine.proofs.MachineLoose.{IsOwn, so_too, departs, looser, loosened, followed}
 
 -- what is a unit, the bare grammar's machine reads
@@ -67,6 +67,9 @@ module _ (complete : ReadsUnits) {ts : List Lexeme} {k : ℕ} where
   body_label_is_barred s q b = ⊎_elim
       (λ x. unit_form (case_body s) refl refl x (switch_mark (case_body s) s (λ i. refl) k) b)
       (λ x. unit_form (default_body s) refl refl x (switch_mark (default_body s) s (λ i. refl) k) b) q
+
+  pub body_is_barred : (s : ℕ) {w : Word} → Is ts k w → begins_statement w ≡ true → Shows ts k (switch_body_at s k) → IsBarred ts anywhere 7 k
+  body_is_barred s {w = w} q y b = unit_form (statement_body s w) refl refl q (switch_mark (statement_body s w) s (λ i. ap (λ x. x && (i == s)) y) k) b
 
 -- Where the bare grammar's machine refuses token k by a row, the subset's refuses it so, or refuses it, or one before, in a way of its own.
 pub data Refuses (ts : List Lexeme) (n k : ℕ) (w : Way) (j : ℕ) : Type 0 where

@@ -6,10 +6,10 @@ use Rattle.cr_syntax.specs.declared.word.Word.{Word}
 use Rattle.cr_syntax.specs.declared.word.Word.TheVariants as word
 use Rattle.cr_syntax.specs.declared.node.Kind.{Kind}
 use Rattle.cr_syntax.specs.declared.node.Kind.TheVariants as kind
-use Rattle.cr_syntax.specs.declared.symbol.Part.{Part}
-use Rattle.cr_syntax.specs.declared.symbol.Part.TheVariants as part
-use Rattle.cr_syntax.specs.declared.symbol.Symbol.TheVariants as symbol
-use Rattle.cr_syntax.specs.declared.symbol.Context.{Context}
+use Rattle.cr_syntax.specs.declared.part.Part.{Part}
+use Rattle.cr_syntax.specs.declared.part.Part.TheVariants as part
+use Rattle.cr_syntax.specs.Symbols as symbol
+use Rattle.cr_syntax.specs.declared.part.Context.{Context}
 use Rattle.cr_syntax.specs.Words.{Lexeme}
 use Rattle.cr_syntax.specs.Scopes.{Scopes, enter}
 use Rattle.cr_syntax.specs.Trees.{Trees, none, node, one, ◌&◌}
@@ -21,7 +21,7 @@ use Rattle.cr_syntax.specs.Spells as spells
 use Rattle.cr_syntax.specs.Units.{Place, own_item, elsewhere, place_in, is_misplaced, misplaced_at, has_here, after_first, own_parameters, ellipsis_at, one_begins_at, switch_body_at, variadic_definition}
 use Rattle.cr_syntax.specs.Units as units
 use Rattle.cr_machine.specs.Machine.{Goal, Prog, Manner, Labels, anywhere, own_block, nowhere, named, Allows, plain, opens, reopens, around, innermost_of}
-use Rattle.cr_machine.specs.Machine.{whole, expression, commas, assignment, conditional, operands, cast, unary, measured, postfix, called, grouped, texts, arguments, suffixes, type_name, row, more, element, structure, members, member, member_declarators, enumeration, enumerators, enumerator, consts, declarator, declarator_suffixes, abstract_suffixes, size, parameters, more_parameters, parameter}
+use Rattle.cr_machine.specs.Machine.{whole, expression, commas, assignment, conditional, operands, cast, unary, measured, postfix, called, grouped, texts, arguments, suffixes, type_name, row, more, element, structure, members, member, member_declarators, enumeration, enumerators, enumerator, qualifiers, declarator, declarator_suffixes, abstract_suffixes, size, parameters, more_parameters, parameter}
 use Rattle.cr_machine.specs.Machine.{unit, externals, external, declaration, init_declarators, initialized, initializer, initializers, statement, block, if_rest, switch_rest, while_rest, do_rest, for_rest, return_rest, for_clauses, clause, compound, items, item}
 use Rattle.cr_machine.specs.Machine as m
 use Rattle.cr_machine.specs.MachineBody.{body, inside, may_label, may_define, is_label, ends_variadic, last_token, defined, declared_on, unlabelled}
@@ -1112,7 +1112,7 @@ module _ (us : List Lexeme) (top : Limit) (way : Way) (late : (g : Manner) (i d 
   owes (enumeration d s) c i = grows.owes_enumeration us top way late d s c i
   owes (enumerators d s y) c i = grows.owes_enumerators us top way late d s y c i
   owes (enumerator d) c i = grows.owes_enumerator us top way late d c i
-  owes (consts d) c i = (tt, λ q w. (λ v. record { at = v.at; consts = spells.const_more q w v.consts; declared = v.declared }, λ t e j _ _ _. tt), tt)
+  owes (qualifiers d) c i = (tt, λ q w. (λ v. record { at = v.at; qualifiers = spells.qualifiers_more q w v.qualifiers; declared = v.declared }, λ t e j _ _ _. tt), tt)
   owes (declarator w h d) c i = grows.owes_declarator us top way late w h d c i
   owes (declarator_suffixes d s y) c i = grows.owes_declarator_suffixes us top way late d s y c i
   owes (abstract_suffixes d s y) c i = grows.owes_abstract_suffixes us top way late d s y c i

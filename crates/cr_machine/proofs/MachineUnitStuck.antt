@@ -1,5 +1,6 @@
 -- What a refusal of a unit's token says of other texts: at the levels where it stopped none leaves room, and the bracket
 -- that stands in a refused one's place has none either. A unit and its external definitions begin where no level is open.
+use Rattle.std.proofs.lemmas.Bool.{or_cases}
 use Rattle.std.proofs.Common.{◌≡◌, ℕ, ◌+◌, ◌<◌, ◌≤◌, Bool, true, false, not, ◌&&◌, List, [], length, Option, Some, inl, inr, refl, sym, ap, subst, ◌∙◌, arith}
 use Rattle.std.specs.Prelude.{slice_get, set}
 use Rattle.std.proofs.Math.Nat.{eq-or-lt_of_le}
@@ -134,7 +135,9 @@ no_label_opens us i y q l c (has t) f p = none_true f
 no_label_opens us i y q l c ordinary f p = not_that q l (holds us c i ordinary p).0 refl
 no_label_opens us i y q l c (type_identifier typed) f p = not_that q l (holds us c i (type_identifier typed) p).0.0 refl
 no_label_opens us i y q l c (declared typed) f p = not_that q l (holds us c i (declared typed) p).0 refl
-no_label_opens us i y q l c (or x x') f p = none_true f
+no_label_opens us i {g = g} y q l c (or x x') f p =
+    let v = both (fits g x) (fits g x') f in
+    elim (or_cases (passes us c i x) (passes us c i x') p) [ inl w ↦ no_label_opens us i y q l c x v.0 w | inr w ↦ no_label_opens us i y q l c x' v.1 w ]
 
 -- so a label is within the limit where the tokens before it are
 pub label_within : {us : List Lexeme} {most k : ℕ} {v : Word} {t : Trees} → Is us k v → is_label v ≡ true → IsUnit (Upto k most) us t → IsUnit (Upto (k + 1) most) us t

@@ -1,7 +1,7 @@
 -- The tokens of a unit before a refused one begin a unit, and by the way in which it is refused more is known of that unit:
 -- where the program stops, it leaves room for so many levels; where a row of the refused forms refuses, it shows the row's
 -- node, and the word that stands in can come next; where a level finds no room, the opening token itself can.
-use Rattle.std.proofs.Common.{◌≡◌, ℕ, ◌+◌, ◌<◌, ◌≤◌, Bool, true, false, ◌||◌, ◌&&◌, List, length, Option, None, Some, refl, sym, ap, subst, ◌∙◌, inl, inr, ◌⊎◌, arith}
+use Rattle.std.proofs.Common.{◌≡◌, ℕ, ◌+◌, ◌<◌, ◌≤◌, Bool, true, false, List, length, Some, refl, sym, ap, subst, ◌∙◌, inl, inr, ◌⊎◌, arith}
 use Rattle.std.specs.Prelude.{slice_get}
 use Rattle.std.proofs.Math.Nat.{eq-or-lt_of_le}
 use Rattle.cr_syntax.specs.declared.word.Word.{Word}
@@ -11,15 +11,14 @@ use Rattle.cr_syntax.specs.Scopes.{Scopes}
 use Rattle.cr_syntax.specs.Trees.{Trees}
 use Rattle.cr_syntax.specs.Context.{fresh}
 use Rattle.cr_syntax.specs.Spells.{Limit, AtMost, Upto, Leaving, Is, Spells, rest}
-use Rattle.cr_syntax.specs.Reads.{same_word}
-use Rattle.cr_syntax.specs.Units.{unit_side, file_scope, IsUnit, Completes, Begins, most_levels, with_word, StandsIn, is_unused, elsewhere, Has, misplaced_at, variadic_definition, Outside}
+use Rattle.cr_syntax.specs.Units.{unit_side, file_scope, IsUnit, Completes, Begins, most_levels, with_word, StandsIn, begins_statement, elsewhere, Has, misplaced_at, variadic_definition, Outside}
 use Rattle.cr_syntax.specs.Units as units
 use Rattle.cr_machine.specs.Machine.{Labels, Test, Manner, has, Allows, passes, unit}
-use Rattle.cr_machine.specs.MachineBody.{body, is_designator, is_statement_start, label_start, statement_start}
+use Rattle.cr_machine.specs.MachineBody.{body, is_designator, label_start}
 use Rattle.cr_syntax.proofs.Tests.{is_of}
 use Rattle.cr_machine.proofs.MachineComplete.{allows_upto, get_some}
 use Rattle.cr_machine.proofs.MachineEnds.{Way, stopped, barring, crowded, defining, Ends}
-use Rattle.cr_machine.proofs.MachineShown.{Next, next_definition, ShownIn, seen, shown_literal, shown_call, shown_field, shown_designator, shown_label, shown_block, shown_body, shown_definition, shown_empty, shown_switch, every, by_stop, by_level}
+use Rattle.cr_machine.proofs.MachineShown.{Next, next_definition, ShownIn, seen, shown_literal, shown_call, shown_field, shown_designator, shown_label, shown_block, shown_body, shown_definition, every, by_stop, by_level}
 use Rattle.cr_machine.proofs.MachineGrows.{GrownIn}
 use Rattle.cr_machine.proofs.MachineViable.{prefix, prefix_length, upto_behind, upto_fits, leaving_fits, leaving_before, tested, stands_next, is_labels, no_labels, bars_other, bars_label, at_label, grows, further, further_last, further_length, further_grows, alike, alike_with, upto_late, leaving_late, behind_late, barred_inside}
 use Rattle.cr_machine.proofs.MachineFirst.{some_word_of}
@@ -58,19 +57,6 @@ is_dot ts k _ q r = cc
 
 is_switch_label : (ts : List Lexeme) (k : ℕ) (e : Scopes) → passes ts e k label_start ≡ true → Is ts k word.Case ⊎ Is ts k word.Default
 is_switch_label ts k e q = elim (or_cases _ _ q) [ inl x ↦ inl (is_of ts k word.Case x) | inr x ↦ inr (is_of ts k word.Default x) ]
-
--- no word but those begins a statement
-pub no_start : (ts : List Lexeme) (k : ℕ) (e : Scopes) (w : Word) → is_statement_start w ≡ false → same_word w word.Identifier ≡ false → passes ts e k statement_start ≡ true → Is ts k w → ⊥
-no_start ts k e w x y q r = by (word_at ts k) _ r q
-  where
-    neither : (p q b : Bool) → p ≡ false → q ≡ false → p || (q && b) ≡ true → ⊥
-    neither true q b x y z = cc
-    neither false true b x y z = cc
-    neither false false b x y z = cc
-
-    by : (o : Option Word) (b : Bool) → o ≡ Some w → elim o as (λ _. Bool) [ None ↦ false | Some v ↦ is_statement_start v ] || (elim o as (λ _. Bool) [ None ↦ false | Some v ↦ same_word v word.Identifier ] && b) ≡ true → ⊥
-    by o b r q = neither (is_statement_start w) (same_word w word.Identifier) b x y
-        (subst (λ o. elim o as (λ _. Bool) [ None ↦ false | Some v ↦ is_statement_start v ] || (elim o as (λ _. Bool) [ None ↦ false | Some v ↦ same_word v word.Identifier ] && b) ≡ true) r q)
 
 module _ (ts : List Lexeme) (most k : ℕ) (le : k ≤ length ts) (l : Labels) where
   abbrev EndsBy : Way → Type 0
@@ -206,26 +192,23 @@ module _ (ts : List Lexeme) (k : ℕ) (le : k ≤ length ts) (l : Labels) where
   deep : {f : Word → Bool} {n m : ℕ} {t : Trees} → is_labels (has f) n ≡ true → k < length ts → ShownIn every (k + 1) t (barring (has f) n m) → Completes (Upto k most_levels) ts (k + 1) t → Outside ts k n
   deep o lt (seen y) c = elim y [ ]
   deep o lt (shown_designator y) c = cc
-  deep o lt shown_empty c = cc
-  deep o lt (shown_switch y) c = cc
+  deep o lt (shown_body s y) c = cc
   deep {t = t} o lt (shown_label n e y) c = let i : n ≡ k = omega arith in units.deep_label lt c (subst (λ j. misplaced_at j elsewhere t ≡ true) i (y elsewhere refl))
 
-  named : {x : Test} {n m : ℕ} {t : Trees} → is_labels x n ≡ false → (n ≡ 7 → ⊥) → (e : Scopes) × (passes ts e k x ≡ true) → ShownIn every k t (barring x n m) → Completes (Upto k most_levels) ts k t → Outside ts k n
-  named {t = t} o u q (seen (shown_literal y)) c = units.compound_literal (is_of ts k word.LeftBrace q.1) (record { trees = t; completes = c; has = y })
-  named {t = t} o u q (seen (shown_call y)) c = units.called_expression (is_of ts k word.LeftParen q.1) (record { trees = t; completes = c; has = y })
-  named {t = t} o u q (seen (shown_field y)) c = units.bit_field (is_of ts k word.Colon q.1) (record { trees = t; completes = c; has = y })
-  named {t = t} o u q (shown_designator y) c = let w = some_word_of ts k is_designator q.1 in units.designator (is_dot ts k w.0 w.2 w.1) (record { trees = t; completes = c; has = y })
-  named o u q (shown_label n e y) c = cc
-  named {t = t} o u q (shown_block s y) c = units.label_as_body s (is_switch_label ts k q.0 q.1) (record { trees = t; completes = c; has = y })
-  named o u q (shown_body s y) c = absurd (u refl)
-  named o u q shown_empty c = let w = some_word_of ts k is_unused q.1 in units.unused_keyword w.1 w.2
-  named o u q (shown_switch y) c = let w = some_word_of ts k is_unused q.1 in units.unused_keyword w.1 w.2
+  named : {x : Test} {n m : ℕ} {t : Trees} → is_labels x n ≡ false → (e : Scopes) × (passes ts e k x ≡ true) → ShownIn every k t (barring x n m) → Completes (Upto k most_levels) ts k t → Outside ts k n
+  named {t = t} o q (seen (shown_literal y)) c = units.compound_literal (is_of ts k word.LeftBrace q.1) (record { trees = t; completes = c; has = y })
+  named {t = t} o q (seen (shown_call y)) c = units.called_expression (is_of ts k word.LeftParen q.1) (record { trees = t; completes = c; has = y })
+  named {t = t} o q (seen (shown_field y)) c = units.bit_field (is_of ts k word.Colon q.1) (record { trees = t; completes = c; has = y })
+  named {t = t} o q (shown_designator y) c = let w = some_word_of ts k is_designator q.1 in units.designator (is_dot ts k w.0 w.2 w.1) (record { trees = t; completes = c; has = y })
+  named o q (shown_label n e y) c = cc
+  named {t = t} o q (shown_block s y) c = units.label_as_body s (is_switch_label ts k q.0 q.1) (record { trees = t; completes = c; has = y })
+  named {t = t} o q (shown_body s y) c = let w = some_word_of ts k begins_statement q.1 in units.switch_body s w.1 w.2 (record { trees = t; completes = c; has = y })
 
   -- the token is what the row names
-  pub unit_outside : (x : Test) (n m : ℕ) → EndsSo (barring x n m) → (n ≡ 7 → ⊥) → Outside ts k n
-  unit_outside x n m h u = by x (is_labels x n) refl h
+  pub unit_outside : (x : Test) (n m : ℕ) → EndsSo (barring x n m) → Outside ts k n
+  unit_outside x n m h = by x (is_labels x n) refl h
     where
       by : (x : Test) (b : Bool) → is_labels x n ≡ b → EndsSo (barring x n m) → Outside ts k n
-      by x false o h = let g = bar_completes ts most_levels k le l x n m o h in named o u (tested h) g.1 g.2
+      by x false o h = let g = bar_completes ts most_levels k le l x n m o h in named o (tested h) g.1 g.2
       by (has f) true o h = let g = label_completes ts most_levels k le l f n m o h (barred_inside h) in deep o (barred_inside h) g.1 g.2
       by _ true o h = cc

@@ -1,19 +1,19 @@
 -- A text of the grammar has none of the keywords that no alternative has.
-use Rattle.std.proofs.Common.{◌≡◌, ℕ, ◌+◌, ◌<◌, ◌≤◌, Bool, true, false, not, ◌&&◌, List, [], ◌∷◌, ⊎_elim, refl, sym, subst, ◌∙◌, arith}
+use Rattle.std.proofs.Common.{◌≡◌, ℕ, ◌+◌, ◌<◌, ◌≤◌, Bool, true, false, not, ◌&&◌, List, [], ◌∷◌, ⊎_elim, refl, sym, subst, ◌∙◌, arith, inl, inr}
 use Rattle.std.proofs.lemmas.Bool.{cases_lt}
 use Rattle.cr_syntax.specs.declared.word.Word.{Word}
 use Rattle.cr_syntax.specs.declared.node.Kind.{Kind}
 use Rattle.cr_syntax.specs.declared.node.Kind.TheVariants as kind
-use Rattle.cr_syntax.specs.declared.symbol.Part.{Part}
-use Rattle.cr_syntax.specs.declared.symbol.Symbol.{Symbol}
-use Rattle.cr_syntax.specs.declared.symbol.Symbol.TheVariants as symbol
-use Rattle.cr_syntax.specs.declared.symbol.Context.{Context}
+use Rattle.cr_syntax.specs.declared.part.Part.{Part}
+use Rattle.cr_syntax.specs.Symbols.{Symbol}
+use Rattle.cr_syntax.specs.Symbols as symbol
+use Rattle.cr_syntax.specs.declared.part.Context.{Context}
 use Rattle.cr_syntax.specs.Words.{Lexeme}
 use Rattle.cr_syntax.specs.Scopes.{Scopes}
 use Rattle.cr_syntax.specs.Trees.{Trees}
 use Rattle.cr_syntax.specs.Grammar.{Side, Alternative}
-use Rattle.cr_syntax.specs.Tables.{side_of, declaration_rules, expression_rules}
-use Rattle.cr_syntax.specs.Spells.{Limit, Is, Phrase, a, rest, Spells, AreConst, const_none, const_more}
+use Rattle.cr_syntax.specs.Tables.{side_of, rule_of}
+use Rattle.cr_syntax.specs.Spells.{Limit, Is, Phrase, a, rest, Spells, AreQualifiers, qualifiers_none, qualifiers_more}
 use Rattle.cr_syntax.specs.Spells as spells
 use Rattle.cr_syntax.specs.Units.{is_unused}
 use Rattle.cr_syntax.specs.Expressions.{Start, BeginsFrom}
@@ -35,7 +35,7 @@ all_used [] = true
 all_used (x ∷ s) = is_used x && all_used s
 
 side_used : (k : Kind) → all_used (side_of k) ≡ true
-unfolding side_of declaration_rules expression_rules
+unfolding rule_of
 side_used kind.FunctionDefinition = refl
 side_used _ = refl
 
@@ -67,9 +67,10 @@ module _ {ts : List Lexeme} where
   first : {i j : ℕ} {v : Word} → Is ts i v → is_unused v ≡ false → AreUsed ts (i + 1) j → AreUsed ts i j
   first q u x = and_then (one_token q u) x
 
-  consts_used : {limit : Limit} {d i j : ℕ} → AreConst ts limit d i j → AreUsed ts i j
-  consts_used const_none = no_token (omega arith)
-  consts_used (const_more q w k) = first q refl (consts_used k)
+  qualifiers_used : {limit : Limit} {d i j : ℕ} → AreQualifiers ts limit d i j → AreUsed ts i j
+  qualifiers_used qualifiers_none = no_token (omega arith)
+  qualifiers_used (qualifiers_more (inl q) w k) = first q refl (qualifiers_used k)
+  qualifiers_used (qualifiers_more (inr q) w k) = first q refl (qualifiers_used k)
 
   pub used : {limit : Limit} {p : Phrase} {h : Context} {c e : Scopes} {d i j : ℕ} {t : Trees} → Spells ts limit p h c e d t i j → IsUsed p → AreUsed ts i j
   used (spells.of_alternative m f s) u = used s (alternative_used m)
@@ -94,9 +95,9 @@ module _ {ts : List Lexeme} where
   used (spells.tag_some q v q' v' s) u = first q refl (first q' refl (used s u))
   used (spells.comma_none q v s) u = first q refl (used s u)
   used (spells.comma_some q v q' v' s) u = first q refl (first q' refl (used s u))
-  used (spells.qualified k x) u = and_then (consts_used k) (used x tt)
-  used (spells.qualified_none k) u = consts_used k
-  used (spells.qualified_some k x) u = and_then (consts_used k) (used x tt)
+  used (spells.qualified k x) u = and_then (qualifiers_used k) (used x tt)
+  used (spells.qualified_none k) u = qualifiers_used k
+  used (spells.qualified_some k x) u = and_then (qualifiers_used k) (used x tt)
   used (spells.ordinary q v s) u = first q.0 refl (used s u)
   used (spells.type_identifier q f v s) u = first q.0 refl (used s u)
   used (spells.declared q f v s) u = first q refl (used s u)

@@ -1,13 +1,12 @@
--- A token list has one first refusal, and none where it has a tree.
+-- A token list has one first refusal where no two rows name its token, and none where it has a tree.
 use Rattle.std.proofs.Common.{◌≡◌, ℕ, ◌+◌, ◌<◌, ◌≤◌, List, length, refl, arith}
 use Rattle.cr_syntax.specs.Words.{Lexeme}
 use Rattle.cr_syntax.specs.Trees.{Trees}
 use Rattle.cr_syntax.specs.Spells.{Limit, Free, AtMost, Upto}
-use Rattle.cr_syntax.specs.Units.{most_levels, IsUnit, Begins, Outside, IsTooDeep, IsFineBefore, Refusal, FirstRefusal, IsTreeOf}
+use Rattle.cr_syntax.specs.Units.{most_levels, IsUnit, Begins, Outside, IsTooDeep, IsFineBefore, Refusal, Unexpected, Ended, TooDeep, OutsideSubset, FirstRefusal, IsTreeOf}
 use Rattle.cr_syntax.specs.Units as units
 use Rattle.cr_machine.proofs.MachineOwn.{Lets, lets_all, lets_fewer, lets_upto, within_other}
 use Rattle.cr_machine.proofs.MachineOne.{IsCause, by_level, by_row, by_end, Stops, too_deep, outside, unexpected, ended, two_stops}
-use Rattle.cr_machine.proofs.UnitRows.{one_row}
 
 module _ (ts : List Lexeme) where
   -- Units.
@@ -48,24 +47,32 @@ module _ (ts : List Lexeme) where
   no_cause k n f' f lt far (by_row {n = row} o) = f.inside k row lt o
   no_cause k n f' f lt far (by_end x) = x (fewer (lets_all (Upto n most_levels)) (omega arith) f.begins)
 
-  -- a first refusal, by the token that it names
+  -- the token that a refusal names, or the end
+  abbrev pub token_of : Refusal → ℕ
+  token_of (Unexpected k) = k
+  token_of Ended = length ts
+  token_of (TooDeep k) = k
+  token_of (OutsideSubset k n) = k
+
   record Refuses (r : Refusal) : Type 0 where
-    token : ℕ
-    inside : token ≤ length ts
-    fine : IsFineBefore ts token
-    stops : Stops (length ts) (IsTooDeep ts) (Outside ts) IsUnfit IsUnread token r
+    inside : token_of r ≤ length ts
+    fine : IsFineBefore ts (token_of r)
+    stops : Stops (length ts) (IsTooDeep ts) (Outside ts) IsUnfit IsUnread (token_of r) r
 
   refuses : {r : Refusal} → FirstRefusal ts r → Refuses r
-  refuses (units.too_deep {k = k} lt f d) = record { token = k; inside = omega arith; fine = f; stops = too_deep lt d }
-  refuses (units.outside {k = k} lt f n o) = record { token = k; inside = omega arith; fine = f; stops = outside lt n o }
-  refuses (units.unexpected_token {k = k} lt f n n' x) = record { token = k; inside = omega arith; fine = f; stops = unexpected lt n n' x }
-  refuses (units.end f x) = record { token = length ts; inside = omega arith; fine = f; stops = ended refl x }
+  refuses (units.too_deep lt f d) = record { inside = omega arith; fine = f; stops = too_deep lt d }
+  refuses (units.outside lt f n o) = record { inside = omega arith; fine = f; stops = outside lt n o }
+  refuses (units.unexpected_token lt f n n' x) = record { inside = omega arith; fine = f; stops = unexpected lt n n' x }
+  refuses (units.end f x) = record { inside = omega arith; fine = f; stops = ended refl x }
 
-  pub one_first_refusal : {r r' : Refusal} → FirstRefusal ts r → FirstRefusal ts r' → r ≡ r'
-  one_first_refusal h h' =
+  abbrev pub HasOneRow : ℕ → Type 0
+  HasOneRow k = (n n' : ℕ) → Outside ts k n → Outside ts k n' → n ≡ n'
+
+  pub one_first_refusal : {r r' : Refusal} → HasOneRow (token_of r) → FirstRefusal ts r → FirstRefusal ts r' → r ≡ r'
+  one_first_refusal {r = r} {r' = r'} o h h' =
       let x = refuses h in
       let x' = refuses h' in
-      two_stops (length ts) (IsTooDeep ts) (Outside ts) IsUnfit IsUnread (one_row ts) (IsFineBefore ts) no_cause x.token x'.token x.inside x'.inside x.fine x'.fine x.stops x'.stops
+      two_stops (length ts) (IsTooDeep ts) (Outside ts) IsUnfit IsUnread (IsFineBefore ts) no_cause (token_of r) (token_of r') o x.inside x'.inside x.fine x'.fine x.stops x'.stops
 
   -- a list that has a tree holds no cause
   pub tree_is_not_refused : {t : Trees} {r : Refusal} → IsTreeOf ts t → FirstRefusal ts r → ⊥

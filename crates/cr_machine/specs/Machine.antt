@@ -20,8 +20,8 @@ use Rattle.std.specs.Prelude.{◌≡◌, ℕ, ◌+◌, Bool, true, false, not, �
 use Rattle.cr_syntax.specs.declared.word.Word.{Word}
 use Rattle.cr_syntax.specs.declared.word.Word.TheVariants as word
 use Rattle.cr_syntax.specs.declared.node.Kind.{Kind}
-use Rattle.cr_syntax.specs.declared.symbol.Part.{Part}
-use Rattle.cr_syntax.specs.declared.symbol.Context.{Context}
+use Rattle.cr_syntax.specs.declared.part.Part.{Part}
+use Rattle.cr_syntax.specs.declared.part.Context.{Context}
 use Rattle.cr_syntax.specs.declared.scopes.TypeName.{TypeName}
 use Rattle.cr_syntax.specs.Words.{Lexeme, word_at, spelling_at}
 use Rattle.cr_syntax.specs.Scopes.{Scopes, is_type, enter}
@@ -85,7 +85,7 @@ pub data Goal : Type 0 where
   enumerators : ℕ → ℕ → Trees → Goal
   enumerator : ℕ → Goal
   -- declarators (6.7.6, 6.7.7)
-  consts : ℕ → Goal
+  qualifiers : ℕ → Goal
   declarator : Wanted → Context → ℕ → Goal
   declarator_suffixes : ℕ → ℕ → Trees → Goal
   abstract_suffixes : ℕ → ℕ → Trees → Goal

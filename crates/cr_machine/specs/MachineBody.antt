@@ -4,15 +4,15 @@ use Rattle.cr_syntax.specs.declared.word.Word.{Word}
 use Rattle.cr_syntax.specs.declared.word.Word.TheVariants as word
 use Rattle.cr_syntax.specs.declared.node.Kind.{Kind}
 use Rattle.cr_syntax.specs.declared.node.Kind.TheVariants as kind
-use Rattle.cr_syntax.specs.declared.symbol.Part.{Part}
-use Rattle.cr_syntax.specs.declared.symbol.Part.TheVariants as part
+use Rattle.cr_syntax.specs.declared.part.Part.{Part}
+use Rattle.cr_syntax.specs.declared.part.Part.TheVariants as part
 use Rattle.cr_syntax.specs.declared.shape.Base.TheVariants.{ItsName, InBrackets, Derived, NoDeclarator}
-use Rattle.cr_syntax.specs.declared.symbol.Context.{Context}
+use Rattle.cr_syntax.specs.declared.part.Context.{Context}
 use Rattle.cr_syntax.specs.Trees.{Trees, none, node, one, ◌&◌}
 use Rattle.cr_syntax.specs.Context.{fresh, past_token, past_part, is_bare, base_of, ends_open}
-use Rattle.cr_syntax.specs.Units.{is_unused, own_parameters}
+use Rattle.cr_syntax.specs.Units.{is_unused, begins_statement, own_parameters}
 use Rattle.cr_machine.specs.Machine.{Goal, Prog, Test, Wanted, named, unnamed, either, Labels, anywhere, own_block, nowhere, plain, opens, reopens, the, has, ordinary, type_identifier, declared, or, give, stop, refuse, take, bar, peek, when, here, look, set, bring, call, expect, choose, into, made, begins, drops, innermost_of, around}
-use Rattle.cr_machine.specs.Machine.{whole, expression, commas, assignment, conditional, binary, operands, cast, unary, measured, postfix, called, grouped, texts, arguments, suffixes, type_name, row, more, element, structure, members, member, member_declarators, enumeration, enumerators, enumerator, consts, declarator, declarator_suffixes, abstract_suffixes, size, parameters, more_parameters, parameter}
+use Rattle.cr_machine.specs.Machine.{whole, expression, commas, assignment, conditional, binary, operands, cast, unary, measured, postfix, called, grouped, texts, arguments, suffixes, type_name, row, more, element, structure, members, member, member_declarators, enumeration, enumerators, enumerator, qualifiers, declarator, declarator_suffixes, abstract_suffixes, size, parameters, more_parameters, parameter}
 use Rattle.cr_machine.specs.Machine.{unit, externals, external, declaration, init_declarators, initialized, initializer, initializers, statement, block, if_rest, switch_rest, while_rest, do_rest, for_rest, return_rest, for_clauses, clause, compound, items, item}
 
 -- a table of words and the kinds of node that they make
@@ -90,6 +90,7 @@ postfix_operators = makes word.PlusPlus kind.PostIncrement ∷ makes word.MinusM
 abbrev pub plain_words : Words
 plain_words =
     makes word.Const kind.Const ∷
+    makes word.Volatile kind.Volatile ∷
     makes word.Void kind.Void ∷
     makes word.Char kind.Char ∷
     makes word.Short kind.Short ∷
@@ -120,9 +121,14 @@ abbrev pub row_kind : Part → Kind
 row_kind part.Specifiers = kind.Specifiers
 row_kind _ = kind.PlainSpecifiers
 
+-- a type qualifier (6.7.3)
+abbrev pub qualifier : Test
+qualifier = or (the word.Const) (the word.Volatile)
+
 -- whether a word begins a plain specifier
 abbrev pub is_plain_start : Word → Bool
 is_plain_start word.Const = true
+is_plain_start word.Volatile = true
 is_plain_start word.Void = true
 is_plain_start word.Char = true
 is_plain_start word.Short = true
@@ -306,34 +312,9 @@ is_label word.Case = true
 is_label word.Default = true
 is_label _ = false
 
--- the words with which another statement than a block, a label or one that begins with an identifier begins (6.8, 6.5)
-abbrev pub is_statement_start : Word → Bool
-is_statement_start word.Semicolon = true
-is_statement_start word.If = true
-is_statement_start word.Switch = true
-is_statement_start word.While = true
-is_statement_start word.Do = true
-is_statement_start word.For = true
-is_statement_start word.Break = true
-is_statement_start word.Continue = true
-is_statement_start word.Return = true
-is_statement_start word.PlusPlus = true
-is_statement_start word.MinusMinus = true
-is_statement_start word.Ampersand = true
-is_statement_start word.Star = true
-is_statement_start word.Plus = true
-is_statement_start word.Minus = true
-is_statement_start word.Tilde = true
-is_statement_start word.Bang = true
-is_statement_start word.Sizeof = true
-is_statement_start word.Integer = true
-is_statement_start word.Character = true
-is_statement_start word.Text = true
-is_statement_start word.LeftParen = true
-is_statement_start _ = false
-
+-- the first word of another statement than a block or a label
 abbrev pub statement_start : Test
-statement_start = or (has is_statement_start) ordinary
+statement_start = has begins_statement
 
 -- the same keywords where a switch's body is wanted
 abbrev pub label_start : Test
@@ -516,10 +497,10 @@ body (enumerator d) = here (λ s. expect plain word.Identifier d (take plain (th
     (call (conditional d) (λ t. bring s false (made kind.Enumerator s (t & none))))
     (bring s false (made kind.Enumerator s none))))
 -- 6.7.6, 6.7.7
-body (consts d) = take plain (the word.Const) d (call (consts d) give) (give none)
+body (qualifiers d) = take plain qualifier d (call (qualifiers d) give) (give none)
 body (declarator w h d) = here (λ s.
     take opens (the word.Star) d
-    (call (consts (d + 1)) (λ _. when (may_omit w)
+    (call (qualifiers (d + 1)) (λ _. when (may_omit w)
     (peek (declarator_start w) (call (declarator w (past_token h) (d + 1)) (λ t. pointer_end s t)) (made kind.AbstractPointer s none))
     (call (declarator w (past_token h) (d + 1)) (λ t. pointer_end s t))))
     (take opens (the word.LeftParen) d

@@ -2,9 +2,9 @@
 use Rattle.std.specs.Prelude.{◌≡◌, ℕ, ◌+◌, ◌<◌, ◌≤◌, List, length, slice_get}
 use Rattle.cr_syntax.specs.declared.word.Word.{Word}
 use Rattle.cr_syntax.specs.declared.word.Word.TheVariants as word
-use Rattle.cr_syntax.specs.declared.symbol.Part.{Part}
-use Rattle.cr_syntax.specs.declared.symbol.Part.TheVariants as part
-use Rattle.cr_syntax.specs.declared.symbol.Context.{Context}
+use Rattle.cr_syntax.specs.declared.part.Part.{Part}
+use Rattle.cr_syntax.specs.declared.part.Part.TheVariants as part
+use Rattle.cr_syntax.specs.declared.part.Context.{Context}
 use Rattle.cr_syntax.specs.Trees.{Trees}
 use Rattle.cr_syntax.specs.Words.{Lexeme}
 use Rattle.cr_syntax.specs.Scopes.{Scopes}
@@ -152,10 +152,10 @@ MachineReadsUnits = (ts : List Lexeme) (r : Reply) → Runs body ts (AtMost most
 abbrev pub OneReading : Type 0
 OneReading = (ts : List Lexeme) (s : Start) (o o' : Outcome) → IsStart s.part → IsReading ts s o → IsReading ts s o' → o ≡ o'
 
--- a token list has one first refusal at most
+-- where the machine of the subset refuses a token list, no other refusal is the first
 abbrev pub OneFirstRefusal : Type 0
-OneFirstRefusal = (ts : List Lexeme) (r r' : Refusal) → FirstRefusal ts r → FirstRefusal ts r' → r ≡ r'
+OneFirstRefusal = (ts : List Lexeme) (x : Cause) (k : ℕ) (r : Refusal) → Runs body ts (AtMost most_levels) (body (unit nowhere 0)) file_scope 0 (Failed x k) → FirstRefusal ts r → r ≡ refusal_of x k
 
--- and none where it has a tree
+-- a token list that has a tree has no first refusal
 abbrev pub TreeIsNotRefused : Type 0
 TreeIsNotRefused = (ts : List Lexeme) (t : Trees) (r : Refusal) → IsTreeOf ts t → FirstRefusal ts r → ⊥

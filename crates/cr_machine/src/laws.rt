@@ -40,7 +40,7 @@ pub fn one_reading()
     ensures { OneReading }
 {}
 
-/// A law: a token list has at most one first refusal, and none where it has a tree.
+/// A law: a token list that the machine of the subset refuses has no other first refusal, and none where it has a tree.
 pub fn one_first_refusal()
     ensures only { OneFirstRefusal }
     ensures tree { TreeIsNotRefused }

@@ -4,9 +4,9 @@
 //! goal, which is what one function of a parser reads, its program. It promises that the machine's answers are the
 //! grammar's: of an expression in the middle of a text its reading, of a unit the tree of its tokens or their first
 //! refusal (`machine_is_grammar`, `machine_is_units`). From that it promises that the grammar leaves no choice: tokens have
-//! at most one tree, a start at most one reading, and a token list a tree or one first refusal, never both (`one_tree`,
-//! `one_unit`, `one_reading`, `one_first_refusal`). All of these are laws over definitions; no code runs the machine. It
-//! stands on the tree and the grammar of `cr_syntax`.
+//! at most one tree, a start at most one reading, a token list that the machine refuses no other first refusal, and one that
+//! has a tree none (`one_tree`, `one_unit`, `one_reading`, `one_first_refusal`). All of these are laws over definitions; no
+//! code runs the machine. It stands on the tree and the grammar of `cr_syntax`.
 #![tactic(auto)]
 
 mod laws;

@@ -12,3 +12,5 @@ pub mod Keeping
 pub mod OneTask
 pub mod Completing
 pub mod Askings
+pub mod Statuses
+pub mod Sources

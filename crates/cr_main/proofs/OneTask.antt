@@ -1,18 +1,23 @@
--- The words ask for one thing: two tasks that they give have one limit, one name, and the same answers.
-use Rattle.std.proofs.Common.{◌≡◌, ◌≢◌, inl, inr, ◌==◌, ℕ, suc, Bool, true, false, List, [], ◌∷◌, ◌++◌, Option, Some, None, if◌then◌else◌, append_assoc, refl, sym, ap, subst, ◌∙◌, arith}
+-- The words ask for one thing: two tasks that they give have one limit, one file, and the same answers.
+use Rattle.std.proofs.Common.{◌≡◌, ◌≢◌, inl, inr, ◌==◌, ℕ, suc, Bool, true, false, List, [], ◌∷◌, ◌++◌, length, Option, Some, None, if◌then◌else◌, append_assoc, refl, sym, ap, subst, ◌∙◌, arith}
 use Rattle.std.proofs.lemmas.Bool.{eqb-true}
+use Rattle.cr_gen.specs.Program.{generated}
+use Rattle.cr_outside.specs.Files.{Names}
 use Rattle.cr_outside.specs.Question.{Says as Telling}
 use Rattle.cr_outside.specs.Test.{asks_test, tells_test}
+use Rattle.cr_reduce.specs.Bench.{Judging}
+use Rattle.cr_reduce.specs.Reduction.{Within}
 use Rattle.cr_words.specs.Laws.{SameSettings, SameSource}
 use Rattle.cr_words.specs.Names.{IsOwnName, NoSlash, name_of}
 use Rattle.cr_words.specs.Words.{Word}
 use Rattle.cr_words.specs.declared.settings.Settings.{Settings}
 use Rattle.cr_words.specs.declared.source.Source.{Source}
 use Rattle.cr_words.specs.declared.source.Source.TheVariants as source
-use Rattle.cr_main.specs.Headline.{IsTask}
-use Rattle.cr_main.specs.Run.{Task, task_of, tells_for}
-use Rattle.cr_main.specs.Words.{workers_built}
 use Rattle.cr_words.proofs.Giving.{one_settings}
+use Rattle.cr_main.specs.Headline.{HasAll, IsTask, enough_for}
+use Rattle.cr_main.specs.Outside.{Outside}
+use Rattle.cr_main.specs.Task.{FileHas, FileLacks, task_of, text_of}
+use Rattle.cr_main.specs.Words.{workers_built}
 
 -- a name has one own name: what stands behind its last /
 
@@ -49,31 +54,54 @@ own_is name own it = elim it.last.ends [
 pub one_own : (name own other : List ℕ) → IsOwnName name own → IsOwnName name other → own ≡ other
 one_own name own other first second = own_is name own first ∙ sym (own_is name other second)
 
--- the settings that words give are alike, and so are the names of their files
+-- the settings that words give are alike, and so are their files
 same_name : (a b : Source) → SameSource a b → name_of a ≡ name_of b
 same_name (source.Named a) (source.Named b) same = same
 same_name (source.Named a) (source.Made number items) same = absurd same
 same_name (source.Made number items) (source.Named b) same = absurd same
 same_name (source.Made number items) (source.Made other more) same = refl
 
-pub record SameTask (t u : Task) : Type 0 where
-  pub limit : t.limit ≡ u.limit
-  pub enabled : t.enabled ≡ u.enabled
-  pub name : t.name ≡ u.name
-  pub asks : asks_test t.test ≡ asks_test u.test
-  pub tells : (file : List ℕ) (answer : Bool) → tells_for t file answer → tells_for u file answer
+same_has : (files : Option Names) (a b : Source) → SameSource a b → (bytes : List ℕ) → (text_of b files).Has bytes → (text_of a files).Has bytes
+same_has files (source.Named a) (source.Named b) same bytes has = subst (λ n. FileHas files n bytes) (sym same) has
+same_has files (source.Named a) (source.Made number items) same bytes has = absurd same
+same_has files (source.Made number items) (source.Named b) same bytes has = absurd same
+same_has files (source.Made number items) (source.Made other more) same bytes has = has ∙ sym (ap (λ n. generated n items) same.0 ∙ ap (λ n. generated other n) same.1)
 
-tasks_alike : (says : Telling) (a b : Settings) (own other : List ℕ) → SameSettings a b → own ≡ other → SameTask (task_of a says own) (task_of b says other)
-tasks_alike says a b own other same own_same = record {
-  limit = same.limit;
-  enabled = same.enabled;
-  name = same_name a.source b.source same.source;
-  asks = same.tests.asks;
-  tells = λ file answer it. subst (λ o. tells_test b.test says o file answer) own_same (same.tests.tells says own file answer it);
-}
+same_lacks : (files : Option Names) (a b : Source) → SameSource a b → (text_of b files).Lacks → (text_of a files).Lacks
+same_lacks files (source.Named a) (source.Named b) same lacks = subst (λ n. FileLacks files n) (sym same) lacks
+same_lacks files (source.Named a) (source.Made number items) same lacks = absurd same
+same_lacks files (source.Made number items) (source.Named b) same lacks = absurd same
+same_lacks files (source.Made number items) (source.Made other more) same lacks = lacks
 
-pub one_task : (words : List Word) (says : Telling) (t u : Task) → IsTask words says t → IsTask words says u → SameTask t u
-one_task words says t u first second =
-    let same = one_settings words workers_built first.settings second.settings first.gives.gives second.gives.gives in
-    let own = one_own (name_of second.settings.source) first.own second.own (subst (λ n. IsOwnName n first.own) (same_name first.settings.source second.settings.source same.source) first.is_own) second.is_own in
-    subst (λ x. SameTask x u) (sym first.is) (subst (λ y. SameTask (task_of first.settings says first.own) y) (sym second.is) (tasks_alike says first.settings second.settings first.own second.own same own))
+-- two tasks of the same words
+module _ (words : List Word) (a b : Settings) (own other : List ℕ) (first : IsTask words a own) (second : IsTask words b other) where
+  alike : SameSettings a b
+  alike = one_settings words workers_built a b first.gives.gives second.gives.gives
+
+  own_alike : own ≡ other
+  own_alike = one_own (name_of b.source) own other (subst (λ n. IsOwnName n own) (same_name a.source b.source alike.source) first.is_own) second.is_own
+
+  pub same_asks : asks_test a.test ≡ asks_test b.test
+  same_asks = alike.tests.asks
+
+  same_tells : (says : Telling) (file : List ℕ) (answer : Bool) → tells_test a.test says own file answer → tells_test b.test says other file answer
+  same_tells says file answer it = subst (λ o. tells_test b.test says o file answer) own_alike (alike.tests.tells says own file answer it)
+
+  -- what one task has, the other has
+  pub all_alike : (says : Telling) (old new : Outside) (before after : Judging) → HasAll (task_of a says own) (text_of a.source old.files) old new before after
+      → HasAll (task_of b says other) (text_of b.source old.files) old new before after
+  all_alike says old new before after all = record {
+    bytes = all.bytes;
+    there = λ file has. all.there file (same_has old.files a.source b.source alike.source file has);
+    here = λ lacks. all.here (same_lacks old.files a.source b.source alike.source lacks);
+    lawful = all.lawful;
+    all_told = λ file. elim (all.all_told file) [
+      | inl quiet ↦ inl (sym same_asks ∙ quiet)
+      | inr answer ↦ inr (answer.0, same_tells says file answer.0 answer.1)
+    ];
+    yes = same_tells says all.bytes true all.yes;
+    no_file_fault = all.no_file_fault;
+    no_output_fault = all.no_output_fault;
+    no_judge_fault = all.no_judge_fault;
+    enough = subst (λ l. Within l (enough_for (length all.bytes))) alike.limit all.enough;
+  }

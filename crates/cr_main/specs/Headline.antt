@@ -1,72 +1,77 @@
 -- What a run promises, in a few words: each follows from what it comes to, step by step.
-use Rattle.std.specs.Prelude.{◌≡◌, ◌≢◌, ◌⊎◌, ◌+◌, ◌*◌, ℕ, true, List, Option, Some, None, length}
+use Rattle.std.specs.Prelude.{◌≡◌, ◌≢◌, ◌⊎◌, ◌+◌, ◌*◌, ℕ, true, false, List, Option, Some, None, length}
+use Rattle.cr_log.specs.Texts.{log_text_of, summary_text_of}
 use Rattle.cr_outside.specs.Faults.{Rose}
-use Rattle.cr_outside.specs.Files.{Names, content_of, put_told}
+use Rattle.cr_outside.specs.Files.{Names, put_told}
 use Rattle.cr_outside.specs.Question.{Says}
 use Rattle.cr_outside.specs.Sink.{appended}
+use Rattle.cr_reduce.specs.Bench.{CallsAbout, Judging, RoseAt}
 use Rattle.cr_reduce.specs.declared.end.End.{End}
 use Rattle.cr_reduce.specs.declared.end.Why.TheVariants as why
 use Rattle.cr_reduce.specs.Ends.{EndsAsTold, IsFixedAsTold, outcome_of}
 use Rattle.cr_reduce.specs.Reduction.{Within}
 use Rattle.cr_reduce.specs.Search.{AsksOnlyCandidates, IsAllTold, ReducesFileAsTold}
 use Rattle.cr_reduce.specs.Sizes.{HasSize}
-use Rattle.cr_cursor.specs.TokenLaw.{IsTokenized}
-use Rattle.cr_reduce.specs.Trials.{CallsAbout}
-use Rattle.cr_log.specs.Texts.{log_text_of, summary_text_of}
 use Rattle.cr_words.specs.Names.{IsOwnName, name_of}
 use Rattle.cr_words.specs.Words.{Word}
 use Rattle.cr_words.specs.declared.settings.Settings.{Settings}
 use Rattle.cr_main.specs.Messages.{copy_name, log_name}
-use Rattle.cr_main.specs.Outside.{Judging, Outside, Puts}
-use Rattle.cr_main.specs.Run.{FileHas, IsReduction, Task, end_status, search_for, task_of, tells_for}
+use Rattle.cr_main.specs.Outside.{Outside, Puts, saved}
+use Rattle.cr_main.specs.Run.{IsReduction, end_status}
+use Rattle.cr_main.specs.Task.{Task, Text, task_of, text_of}
 use Rattle.cr_main.specs.Words.{HasSettings}
 
 -- What is asked of a run: the words give these settings, and the file has this own name.
-pub record IsTask (words : List Word) (says : Says) (t : Task) : Type 0 where
-  pub settings : Settings
-  pub own : List ℕ
+pub record IsTask (words : List Word) (settings : Settings) (own : List ℕ) : Type 0 where
   pub gives : HasSettings words settings
   pub is_own : IsOwnName (name_of settings.source) own
-  pub is : t ≡ task_of settings says own
 
--- The headline, at the statuses 0 and 7: the file, the log and the summary are those of the one-thread first-accepted
--- reduction of the bytes read, where the test's answer is a function of the file; at 0 no variant of the result is
--- acceptable; the copy holds the bytes read, no other file changes, and the output grows by the summary alone.
-pub record IsHeadline (words : List Word) (says : Says) (old new : Outside) (status : ℕ) : Type 0 where
-  pub t : Task
-  pub is_task : IsTask words says t
+-- The three files of a run of a task, as they stand in the end.
+abbrev pub three_files : Task → List ℕ → End → ℕ → Option Names → Option Names
+three_files t bytes end size files = saved t.saves (log_name t.name) (log_text_of end size) (saved t.saves t.name end.file.items (saved t.saves (copy_name t.name) bytes files))
+
+-- What a run of a task that is done has done: the file, the log and the summary are those of the one-thread
+-- first-accepted reduction of the bytes read, where the test's answer is a function of the file; where it ended by itself no
+-- variant of the result is acceptable; the copy holds the bytes read, no other file changes, and the output grows by
+-- the summary alone.
+pub record HasReduced (t : Task) (text : Text) (old new : Outside) (status : ℕ) : Type 0 where
   pub bytes : List ℕ
   pub end : End
   pub old_size : ℕ
   pub size : ℕ
-  pub read : FileHas old.files t.name bytes
-  pub lawful : IsTokenized bytes
+  pub has : text.Has bytes
+  pub lawful : t.search.Lawful bytes
   pub old_sized : HasSize bytes old_size
   pub sized : HasSize end.file.items size
   pub ended : status ≡ end_status end.why
-  pub reduction : IsAllTold (search_for t None) → ReducesFileAsTold (search_for t None) bytes t.limit (outcome_of end end.why)
-  pub fixed_point : IsAllTold (search_for t None) → status ≡ 0 → IsFixedAsTold (search_for t None) end.file.items
-  pub files : new.files ≡ put_told (log_name t.name) (log_text_of end size) (put_told t.name end.file.items (put_told (copy_name t.name) bytes old.files))
+  pub reduction : IsAllTold t.search → ReducesFileAsTold t.search bytes t.limit (outcome_of end end.why)
+  pub fixed_point : IsAllTold t.search → status ≡ 0 → IsFixedAsTold t.search end.file.items
+  pub files : new.files ≡ three_files t bytes end size old.files
   pub output : new.output ≡ appended (summary_text_of t.name old_size size end) old.output
 
--- What stands where a run has written its three files, at 0, 7, 8 from the reduction, and 10: they are those of the
+-- The headline, at the statuses 0 and 7.
+pub record IsHeadline (words : List Word) (says : Says) (old new : Outside) (status : ℕ) : Type 0 where
+  pub settings : Settings
+  pub own : List ℕ
+  pub is_task : IsTask words settings own
+  pub reduced : HasReduced (task_of settings says own) (text_of settings.source old.files) old new status
+
+-- What stands where a run has saved its three files, at 0, 7, 8 from the reduction, and 10: they are those of the
 -- reduction as it ended, at a fault those of the first-accepted reduction after the turns that were made. The summary was
 -- put whole, or at 10 a prefix of it.
-pub record IsFinished (words : List Word) (says : Says) (old new : Outside) (status : ℕ) : Type 0 where
-  pub t : Task
-  pub is_task : IsTask words says t
+pub record HasFinished (t : Task) (text : Text) (old new : Outside) (status : ℕ) : Type 0 where
   pub bytes : List ℕ
   pub end : End
   pub old_size : ℕ
   pub size : ℕ
-  pub read : FileHas old.files t.name bytes
-  pub lawful : IsTokenized bytes
+  pub has : text.Has bytes
+  pub lawful : t.search.Lawful bytes
   pub old_sized : HasSize bytes old_size
   pub sized : HasSize end.file.items size
   pub remembered : end.why ≢ why.NoMemory
-  pub reduction : IsAllTold (search_for t None) → EndsAsTold (search_for t None) t.limit bytes end
-  pub fixed_point : IsAllTold (search_for t None) → end.why ≡ why.Fixed → IsFixedAsTold (search_for t None) end.file.items
-  pub files : new.files ≡ put_told (log_name t.name) (log_text_of end size) (put_told t.name end.file.items (put_told (copy_name t.name) bytes old.files))
+  pub reduction : IsAllTold t.search → EndsAsTold t.search t.limit bytes end
+  pub fixed_point : IsAllTold t.search → end.why ≡ why.Fixed → IsFixedAsTold t.search end.file.items
+  pub files : new.files ≡ three_files t bytes end size old.files
   pub output : Puts old new (summary_text_of t.name old_size size end) (end_status end.why) 10 status
 
 -- What stands at 8 and 10.
@@ -74,7 +79,8 @@ pub data HasEnded (words : List Word) (says : Says) (old new : Outside) (status 
   -- 8: the test failed on the file
   untested : status ≡ 8 → new.files ≡ old.files → HasEnded words says old new status
   -- 8 from the reduction, and 10
-  finished : IsFinished words says old new status → HasEnded words says old new status
+  finished : (settings : Settings) (own : List ℕ) → IsTask words settings own → HasFinished (task_of settings says own) (text_of settings.source old.files) old new status
+      → HasEnded words says old new status
 
 -- The writes, in their order, as far as they were made.
 pub data Wrote (name bytes result log : List ℕ) (old new : Option Names) : Type 0 where
@@ -82,47 +88,57 @@ pub data Wrote (name bytes result log : List ℕ) (old new : Option Names) : Typ
   the_result : new ≡ put_told name result (put_told (copy_name name) bytes old) → Wrote name bytes result log old new
   the_log : new ≡ put_told (log_name name) log (put_told name result (put_told (copy_name name) bytes old)) → Wrote name bytes result log old new
 
--- What holds of the files at every status: they are as before, or the copy holds the bytes read, and the file its old
--- bytes or the result's. No other file changes.
-pub data KeepsFiles (words : List Word) (says : Says) (old new : Outside) (before after : Judging) : Type 0 where
-  files_unchanged : new.files ≡ old.files → KeepsFiles words says old new before after
-  files_written : (t : Task) (bytes log : List ℕ) (since : Judging) (end : End) → IsTask words says t → FileHas old.files t.name bytes
-      → IsReduction t since after bytes end → Wrote t.name bytes end.file.items log old.files new.files → KeepsFiles words says old new before after
+-- What holds of the files of a task at every status: they are as before, or the copy holds the bytes read, and the file its
+-- old bytes or the result's. No other file changes, and none where the task saves nothing.
+pub data KeepsTask (t : Task) (text : Text) (old new : Outside) (after : Judging) : Type 0 where
+  task_unchanged : new.files ≡ old.files → KeepsTask t text old new after
+  task_written : (bytes log : List ℕ) (since : Judging) (end : End) → t.saves ≡ true → text.Has bytes
+      → IsReduction t since after bytes end → Wrote t.name bytes end.file.items log old.files new.files → KeepsTask t text old new after
   -- the reduction was not begun
-  copy_alone : (t : Task) (bytes : List ℕ) → IsTask words says t → FileHas old.files t.name bytes → new.files ≡ put_told (copy_name t.name) bytes old.files
-      → KeepsFiles words says old new before after
+  task_copied : (bytes : List ℕ) → t.saves ≡ true → text.Has bytes → new.files ≡ put_told (copy_name t.name) bytes old.files → KeepsTask t text old new after
+
+-- So it is of every run.
+pub data KeepsFiles (words : List Word) (says : Says) (old new : Outside) (after : Judging) : Type 0 where
+  files_unchanged : new.files ≡ old.files → KeepsFiles words says old new after
+  files_kept : (settings : Settings) (own : List ℕ) → IsTask words settings own → KeepsTask (task_of settings says own) (text_of settings.source old.files) old new after
+      → KeepsFiles words says old new after
 
 -- so many turns are enough for a file of n bytes
 abbrev pub enough_for : ℕ → ℕ
 enough_for n = 492 * n * (12 * n + 1) + 12 * n
 
--- A run that has all it needs: the file is there and obeys the law, the test's answers are told, and yes to the file, no
--- call on the outside fails, and the limit is absent or large enough.
-pub record HasAll (t : Task) (old new : Outside) (before after : Judging) : Type 0 where
-  pub files : Names
+-- A run of a task that has all it needs: the file is there and obeys the law, the test's answers are told, and yes to the
+-- file, no call on the outside fails, and the limit is absent or large enough.
+pub record HasAll (t : Task) (text : Text) (old new : Outside) (before after : Judging) : Type 0 where
   pub bytes : List ℕ
-  pub told : old.files ≡ Some files
-  pub there : content_of files t.name ≡ Some bytes
-  pub lawful : IsTokenized bytes
-  pub all_told : IsAllTold (search_for t None)
-  pub yes : tells_for t bytes true
+  -- the file has these bytes and no other ones
+  pub there : (other : List ℕ) → text.Has other → other ≡ bytes
+  pub here : text.Lacks → ⊥
+  pub lawful : t.search.Lawful bytes
+  pub all_told : IsAllTold t.search
+  pub yes : t.search.Tells bytes true
   pub no_file_fault : Rose old.file_faults new.file_faults → ⊥
   pub no_output_fault : Rose old.output_faults new.output_faults → ⊥
-  pub no_judge_fault : Rose before.faults after.faults → ⊥
+  pub no_judge_fault : (worker : ℕ) → RoseAt worker before.faults after.faults → ⊥
   pub enough : Within t.limit (enough_for (length bytes))
 
 -- Completeness: then it ends with 0, or for want of memory.
 abbrev pub Completes : List Word → Says → Outside → Outside → Judging → Judging → ℕ → Type 0
-Completes words says old new before after status = (t : Task) → IsTask words says t → HasAll t old new before after → (status ≡ 0) ⊎ (status ≡ 11)
+Completes words says old new before after status = (settings : Settings) (own : List ℕ) → IsTask words settings own
+    → HasAll (task_of settings says own) (text_of settings.source old.files) old new before after → (status ≡ 0) ⊎ (status ≡ 11)
 
--- What the test is asked, at every status: nothing, or once at most about the file, and then about nothing but smaller,
+-- What the test is asked in a run of a task: nothing, or once at most about the file, and then about nothing but smaller,
 -- lawful variants of the files of the run's own chain, each time under the file's own name.
-pub data AsksOnly (words : List Word) (says : Says) (old : Outside) (before after : Judging) : Type 0 where
-  asks_nothing : after.calls ≡ before.calls → AsksOnly words says old before after
+pub data AsksOnlyOf (t : Task) (text : Text) (before after : Judging) : Type 0 where
+  asks_nothing : after ≡ before → AsksOnlyOf t text before after
   -- about the file alone: nothing was reduced
-  asks_file : (t : Task) (bytes : List ℕ) → IsTask words says t → FileHas old.files t.name bytes → IsTokenized bytes
-      → CallsAbout before.calls after.calls t.own bytes → AsksOnly words says old before after
+  asks_file : (bytes : List ℕ) → text.Has bytes → t.search.Lawful bytes → CallsAbout before.calls after.calls t.search.name bytes → AsksOnlyOf t text before after
   -- about the file, and since then about the variants that the reduction has asked about
-  asks_variants : (t : Task) (bytes : List ℕ) (since : Judging) (end : End) → IsTask words says t → FileHas old.files t.name bytes → IsTokenized bytes
-      → CallsAbout before.calls since.calls t.own bytes → IsReduction t since after bytes end
-      → AsksOnlyCandidates (search_for t since.calls) bytes end.accepted.items since.calls after.calls → AsksOnly words says old before after
+  asks_variants : (bytes : List ℕ) (since : Judging) (end : End) → text.Has bytes → t.search.Lawful bytes → CallsAbout before.calls since.calls t.search.name bytes
+      → IsReduction t since after bytes end → AsksOnlyCandidates t.search bytes end.accepted.items since after → AsksOnlyOf t text before after
+
+-- So it is of every run.
+pub data AsksOnly (words : List Word) (says : Says) (old : Outside) (before after : Judging) : Type 0 where
+  run_asks_nothing : after ≡ before → AsksOnly words says old before after
+  run_asks : (settings : Settings) (own : List ℕ) → IsTask words settings own → AsksOnlyOf (task_of settings says own) (text_of settings.source old.files) before after
+      → AsksOnly words says old before after

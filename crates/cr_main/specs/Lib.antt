@@ -1,7 +1,7 @@
 pub mod Words
 pub mod Messages
 pub mod Outside
+pub mod Task
 pub mod Run
-pub mod Requests
 pub mod Headline
 pub mod Laws

@@ -2,6 +2,8 @@
 use Rattle.std.specs.Prelude.{ℕ, List, [], ◌∷◌, ◌++◌, codes, decimal}
 use Rattle.cr_cursor.specs.declared.law.Reason.{Reason}
 use Rattle.cr_cursor.specs.declared.law.Reason.TheVariants as reason
+use Rattle.cr_main.specs.declared.messages.Refusal.{Refusal}
+use Rattle.cr_main.specs.declared.messages.Refusal.TheVariants as refusal
 
 abbrev pub usage_line : List ℕ
 usage_line = codes "creduce: usage: creduce [--workers N] [--window N] [--limit N] [--steps N] [--passes LETTERS] TEST FILE\n"
@@ -9,18 +11,6 @@ usage_line = codes "creduce: usage: creduce [--workers N] [--window N] [--limit 
 -- a line that ends with the file's name
 abbrev pub name_line : List ℕ → List ℕ → List ℕ
 name_line front name = codes "creduce: " ++ front ++ name ++ 10 ∷ []
-
-abbrev pub no_file_line : List ℕ → List ℕ
-no_file_line name = name_line (codes "no file ") name
-
-abbrev pub file_fault_line : List ℕ → List ℕ
-file_fault_line name = name_line (codes "file fault: ") name
-
-abbrev pub no_line : List ℕ → List ℕ
-no_line name = name_line (codes "the test says no to ") name
-
-abbrev pub failed_line : List ℕ → List ℕ
-failed_line name = name_line (codes "the test failed on ") name
 
 -- the line of a file's fault: what it is, and its number
 abbrev pub reason_line_of : List ℕ → ℕ → List ℕ → ℕ → List ℕ
@@ -39,6 +29,22 @@ abbrev pub reason_status : Reason → ℕ
 reason_status (reason.Undefined number line) = 5
 reason_status (reason.Left number line) = 5
 reason_status r = 4
+
+-- the line of a refusal, which names this file
+abbrev pub refusal_line : List ℕ → Refusal → List ℕ
+refusal_line name refusal.NoFile = name_line (codes "no file ") name
+refusal_line name (refusal.Against reason) = reason_line name reason
+refusal_line name refusal.SaysNo = name_line (codes "the test says no to ") name
+refusal_line name refusal.TestFailed = name_line (codes "the test failed on ") name
+refusal_line name refusal.FileFault = name_line (codes "file fault: ") name
+
+-- and its status
+abbrev pub refusal_status : Refusal → ℕ
+refusal_status refusal.NoFile = 3
+refusal_status (refusal.Against reason) = reason_status reason
+refusal_status refusal.SaysNo = 6
+refusal_status refusal.TestFailed = 8
+refusal_status refusal.FileFault = 9
 
 -- the names of the files beside the file
 abbrev pub copy_name : List ℕ → List ℕ

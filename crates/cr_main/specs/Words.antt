@@ -4,17 +4,10 @@ use Rattle.std.specs.List.{list_all}
 use Rattle.cr_words.specs.Giving.{HasSettings as Gives}
 use Rattle.cr_words.specs.Words.{Word}
 use Rattle.cr_words.specs.declared.settings.Settings.{Settings}
-use Rattle.cr_words.specs.declared.source.Source.{Source}
-use Rattle.cr_words.specs.declared.source.Source.TheVariants as source
 
 -- the words are read for so many workers
 abbrev pub workers_built : ℕ
 workers_built = 1
-
--- the file is read, and not generated
-abbrev pub IsRead : Source → Type 0
-IsRead (source.Named name) = Unit {0}
-IsRead (source.Made number items) = ⊥
 
 -- the truth values are the same
 abbrev pub is : Bool → Bool → Bool
@@ -25,13 +18,12 @@ is false on = not on
 abbrev pub are_built : List Bool → Bool
 are_built enabled = list_all (is true) enabled || list_all (is false) (slice_range enabled 3 10)
 
--- What is asked for is built: the window and the steps are those that stand without the options, all passes are enabled
--- or only such as are built, and the file is read.
+-- What is asked for is built: the window and the steps are those that stand without the options, and all passes are
+-- enabled or only such as are built.
 pub record IsBuilt (settings : Settings) : Type 0 where
   pub window : settings.window ≡ 256
   pub steps : settings.steps ≡ 1000000
   pub enabled : are_built settings.enabled ≡ true
-  pub source : IsRead settings.source
 
 -- The words give these settings, and what they ask for is built.
 pub record HasSettings (words : List Word) (settings : Settings) : Type 0 where

@@ -2,10 +2,10 @@
 // and from `IsBuilt`, until the words alone decide.
 ghost use Rattle.std.specs.Prelude.{◌≡◌, ◌↔◌, Err, IfOk, IsTrue};
 ghost use Rattle.std.specs.List.{list_all};
-ghost use Rattle.cr_main.specs.Words.{HasNone, HasSettings, IsBuilt, IsRead, are_built, is};
+ghost use Rattle.cr_main.specs.Words.{HasNone, HasSettings, IsBuilt, are_built, is};
 ghost use Rattle.cr_words.specs.Words.{texts_of};
 
-use cr_words::{Settings, Source, WordFault, words};
+use cr_words::{Settings, WordFault, words};
 use std::alloc::Global;
 
 /// So many workers are built.
@@ -30,7 +30,6 @@ fn is_built(settings: &Settings) -> bool
     settings.window == 256
         && settings.steps == 1_000_000
         && are_built(&settings.enabled)
-        && is_read(&settings.source)
 }
 
 /// The passes with a number below this are built.
@@ -51,10 +50,4 @@ fn are_all(enabled: &[bool], wanted: bool) -> bool
         }
     }
     true
-}
-
-fn is_read(source: &Source) -> bool
-    ensures { IsTrue result ↔ IsRead source.now }
-{
-    matches!(source, Source::Named(_))
 }

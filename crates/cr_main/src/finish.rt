@@ -1,22 +1,21 @@
-// What comes once the test has said yes to the bytes read: the copy, the reduction, the result, the log, the summary.
-ghost use Rattle.std.specs.Prelude.{◌≡◌, ◌≢◌, ◌≤◌, ℕ, ◌++◌, All, IfOk, None, Some, false, length};
-ghost use Rattle.cr_reduce.specs.Bench.{first_calls, first_count, first_says, others};
-ghost use Rattle.cr_reduce.specs.Sizes.{HasSize};
+// What comes once the test has said yes to the bytes: the copy, the reduction, the result, the log, the summary.
+ghost use Rattle.std.specs.Prelude.{◌≡◌, ◌≢◌, ◌≤◌, ℕ, ◌++◌, All, IfOk, None, Some, false};
 ghost use Rattle.cr_cursor.specs.TokenLaw.{IsTokenized};
-ghost use Rattle.cr_reduce.specs.declared.end.Why.{Why};
 ghost use Rattle.cr_log.specs.Texts.{log_text_of, summary_text_of};
-ghost use Rattle.cr_main.specs.Outside.{IsWritten, WriteFails, judging_of, outside_of};
-ghost use Rattle.cr_outside.specs.Test.{asks_test};
-ghost use Rattle.cr_main.specs.Requests.{task_for};
-ghost use Rattle.cr_main.specs.Run.{Concludes, Finishes, end_status};
+ghost use Rattle.cr_reduce.specs.Bench.{judging, keys_of, others, says_of};
+ghost use Rattle.cr_reduce.specs.Sizes.{HasSize};
+ghost use Rattle.cr_reduce.specs.declared.end.Why.{Why};
+ghost use Rattle.cr_main.specs.Outside.{IsSaved, SaveFails, outside};
+ghost use Rattle.cr_main.specs.Run.{Concludes, Finishes, IsReduction, end_status};
+ghost use Rattle.cr_main.specs.Task.{task_for};
 
-use crate::messages::{put, refuse};
+use crate::messages::{Refusal, put, refuse};
 use crate::names::beside;
-use crate::top::Request;
-use cr_cursor::TokenLaw;
+use crate::status;
+use crate::task::Task;
+use cr_cursor::{Law, Passes};
 use cr_log::{log_text, summary_text};
-use cr_outside::{FileFault, Files, Judge, NoMemory, Sink};
-use cr_passes::CPasses;
+use cr_outside::{FileFault, Files, Judge, NoMemory, Question, Sink};
 use cr_reduce::{Bench, End, Plan, Why, reduce, size_of};
 use std::alloc::{AllocError, Global};
 
@@ -26,57 +25,46 @@ const WORKERS: u32 = 4;
 /// How many positions are tried at once, at most.
 const WINDOW: u32 = 256;
 
-/// Writes the copy, reduces, and writes what came of it.
-pub fn copy_and_reduce<F: Files, J: Judge, O: Sink>(
+/// Saves the copy, reduces, and saves what came of it.
+pub fn copy_and_reduce<P: Passes, L: Law, Q: Question, F: Files, J: Judge, O: Sink>(
     alloc: Global,
-    request: Request<'_>,
+    task: &Task<'_, P, L, Q>,
     bytes: Vec<u8>,
     files: &mut F,
     bench: &mut Bench<J>,
     out: &mut O,
 ) -> u8
-    requires lawful { IsTokenized bytes.items }
-    ensures finishes { Finishes (task_for request.entry (first_says J.key J.says bench.old))
-        (outside_of (F.told files.old) (F.faults files.old) (O.told out.old) (O.faults out.old))
-        (outside_of (F.told files.new) (F.faults files.new) (O.told out.new) (O.faults out.new))
-        (judging_of (first_calls J.calls bench.old) (first_count J.faults bench.old))
-        (judging_of (first_calls J.calls bench.new) (first_count J.faults bench.new)) bytes.items result }
-    ensures silent { asks_test request.entry.test.now ≡ false → bench.new ≡ bench.old }
-    ensures key { first_says J.key J.says bench.new ≡ first_says J.key J.says bench.old }
+    requires tokenizes { IsTokenized bytes.items }
+    ensures finishes { Finishes (task_for P.Passes L.Law Q.Question task.now (says_of J.Judge bench.old)) bytes.items
+        (IsReduction (task_for P.Passes L.Law Q.Question task.now (says_of J.Judge bench.old)) (judging J.Judge bench.old) (judging J.Judge bench.new) bytes.items)
+        (outside F.Files files.old O.Sink out.old) (outside F.Files files.new O.Sink out.new)
+        (judging J.Judge bench.old) (judging J.Judge bench.new) result }
+    ensures silent { Q.asks task.now.question.now ≡ false → bench.new ≡ bench.old }
+    ensures keys { keys_of J.Judge bench.new ≡ keys_of J.Judge bench.old }
     ensures others { others bench.new ≡ others bench.old }
-    ensures count { length bench.new ≡ length bench.old }
 {
     let old_size = match size_of(alloc, &bytes) {
         Ok(old_size) => old_size,
-        Err(_) => return 11,
+        Err(_) => return status::NO_MEMORY,
     };
-    if let Some(status) = write_beside(alloc, files, out, request.name, ".orig", &bytes) {
+    if let Some(status) = save_beside(alloc, task, files, out, ".orig", &bytes) {
         return status;
     }
     let plan = Plan {
         workers: bench.workers().min(WORKERS),
         window: WINDOW,
-        limit: request.limit,
+        limit: task.limit,
     };
     let end = reduce(
-        alloc,
-        &CPasses {
-            enabled: request.enabled,
-        },
-        &TokenLaw,
-        request.test,
-        bench,
-        request.own,
-        bytes,
-        &plan,
+        alloc, task.passes, task.law, task.question, bench, task.own, bytes, &plan,
     );
-    conclude(alloc, request.name, &end, old_size, files, out)
+    conclude(alloc, task, &end, old_size, files, out)
 }
 
-// Writes the result and the log, and puts the summary.
-fn conclude<F: Files, O: Sink>(
+// Saves the result and the log, and puts the summary.
+fn conclude<P: Passes, L: Law, Q: Question, F: Files, O: Sink>(
     alloc: Global,
-    name: &str,
+    task: &Task<'_, P, L, Q>,
     end: &End,
     old_size: u64,
     files: &mut F,
@@ -84,21 +72,20 @@ fn conclude<F: Files, O: Sink>(
 ) -> u8
     requires sized { (n : ℕ) × HasSize end.now.file.items n }
     requires passes { All (λ one. one.at.pass ≤ 9) end.now.accepted.items }
-    ensures { (n : ℕ) × HasSize end.now.file.items n × Concludes name.now
-        (outside_of (F.told files.old) (F.faults files.old) (O.told out.old) (O.faults out.old))
-        (outside_of (F.told files.new) (F.faults files.new) (O.told out.new) (O.faults out.new)) end.now old_size n result }
+    ensures { (n : ℕ) × HasSize end.now.file.items n × Concludes task.now.saves task.now.name.now
+        (outside F.Files files.old O.Sink out.old) (outside F.Files files.new O.Sink out.new) end.now old_size n result }
 {
-    let texts = match texts_of(alloc, name, end, old_size) {
+    let texts = match texts_of(alloc, task.name, end, old_size) {
         Ok(texts) => texts,
-        Err(_) => return 11,
+        Err(_) => return status::NO_MEMORY,
     };
-    if let Some(status) = write(alloc, files, out, name, &end.file) {
+    if let Some(status) = save(alloc, task.saves, files, out, task.name, &end.file) {
         return status;
     }
-    if let Some(status) = write_beside(alloc, files, out, name, ".log", &texts.log) {
+    if let Some(status) = save_beside(alloc, task, files, out, ".log", &texts.log) {
         return status;
     }
-    put(out, &texts.summary, status_of(end.why), 10)
+    put(out, &texts.summary, status_of(end.why), status::OUTPUT_FAULT)
 }
 
 /// The texts of a reduction's end.
@@ -130,53 +117,53 @@ fn status_of(why: Why) -> u8
     ensures { result ≡ end_status why }
 {
     match why {
-        Why::Fixed => 0,
-        Why::Limit => 7,
-        Why::Fault(_, _) => 8,
+        Why::Fixed => status::FIXED,
+        Why::Limit => status::LIMIT,
+        Why::Fault(_, _) => status::TEST_FAILED,
         Why::NoMemory => unreachable!(),
     }
 }
 
-// Writes a file. Answers a status where the run ends here.
-fn write<F: Files, O: Sink>(
+// Saves a file. Answers a status where the run ends here.
+fn save<F: Files, O: Sink>(
     alloc: Global,
+    saves: bool,
     files: &mut F,
     out: &mut O,
     name: &str,
     bytes: &[u8],
 ) -> Option<u8>
-    ensures written { result ≡ None → IsWritten
-        (outside_of (F.told files.old) (F.faults files.old) (O.told out.old) (O.faults out.old))
-        (outside_of (F.told files.new) (F.faults files.new) (O.told out.new) (O.faults out.new)) name.now bytes.now }
-    ensures failed { (status : ℕ) → result ≡ Some status → WriteFails
-        (outside_of (F.told files.old) (F.faults files.old) (O.told out.old) (O.faults out.old))
-        (outside_of (F.told files.new) (F.faults files.new) (O.told out.new) (O.faults out.new)) name.now bytes.now status }
+    ensures saved { result ≡ None → IsSaved saves
+        (outside F.Files files.old O.Sink out.old) (outside F.Files files.new O.Sink out.new) name.now bytes.now }
+    ensures failed { (status : ℕ) → result ≡ Some status → SaveFails saves
+        (outside F.Files files.old O.Sink out.old) (outside F.Files files.new O.Sink out.new) name.now bytes.now status }
 {
+    if !saves {
+        return None;
+    }
     match files.write(alloc, name, bytes) {
         Ok(()) => None,
-        Err(FileFault::Failed) => Some(refuse(alloc, out, "file fault: ", name, 9)),
-        Err(FileFault::NoMemory) => Some(11),
+        Err(FileFault::Failed) => Some(refuse(alloc, out, name, Refusal::FileFault)),
+        Err(FileFault::NoMemory) => Some(status::NO_MEMORY),
     }
 }
 
-// Writes a file beside the one of this name.
-fn write_beside<F: Files, O: Sink>(
+// Saves a file beside the task's own.
+fn save_beside<P: Passes, L: Law, Q: Question, F: Files, O: Sink>(
     alloc: Global,
+    task: &Task<'_, P, L, Q>,
     files: &mut F,
     out: &mut O,
-    name: &str,
     ending: &str,
     bytes: &[u8],
 ) -> Option<u8>
-    ensures written { result ≡ None → IsWritten
-        (outside_of (F.told files.old) (F.faults files.old) (O.told out.old) (O.faults out.old))
-        (outside_of (F.told files.new) (F.faults files.new) (O.told out.new) (O.faults out.new)) (name.now ++ ending.now) bytes.now }
-    ensures failed { (status : ℕ) → result ≡ Some status → WriteFails
-        (outside_of (F.told files.old) (F.faults files.old) (O.told out.old) (O.faults out.old))
-        (outside_of (F.told files.new) (F.faults files.new) (O.told out.new) (O.faults out.new)) (name.now ++ ending.now) bytes.now status }
+    ensures saved { result ≡ None → IsSaved task.now.saves
+        (outside F.Files files.old O.Sink out.old) (outside F.Files files.new O.Sink out.new) (task.now.name.now ++ ending.now) bytes.now }
+    ensures failed { (status : ℕ) → result ≡ Some status → SaveFails task.now.saves
+        (outside F.Files files.old O.Sink out.old) (outside F.Files files.new O.Sink out.new) (task.now.name.now ++ ending.now) bytes.now status }
 {
-    match beside(alloc, name, ending) {
-        Ok(made) => write(alloc, files, out, made.as_str(), bytes),
-        Err(_) => Some(11),
+    match beside(alloc, task.name, ending) {
+        Ok(name) => save(alloc, task.saves, files, out, name.as_str(), bytes),
+        Err(_) => Some(status::NO_MEMORY),
     }
 }

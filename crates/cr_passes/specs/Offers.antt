@@ -3,6 +3,7 @@ use Rattle.std.specs.Prelude.{◌≡◌, ℕ, Bool, true, false, List, [], ◌�
 use Rattle.cr_tokens.specs.declared.token.Token.{Token}
 use Rattle.cr_tokens.specs.Tokens.{HasNoTokens, Tokenizes}
 use Rattle.cr_cursor.specs.Variants.{Offer}
+use Rattle.cr_edit.specs.Forms.{nothing_kept}
 use Rattle.cr_edit.specs.Menu.{Offering, entry_of, level_of}
 use Rattle.pass_text.specs.Brackets.{IsBracketOffering}
 use Rattle.pass_text.specs.Lines.{chunks_of, lines_bytes, lines_of}
@@ -15,7 +16,7 @@ pub record Known : Type 0 where
 
 -- a pass that isn't enabled, or isn't there, offers nothing
 abbrev pub nothing : Offering
-nothing = record { levels = []; kept = [] }
+nothing = record { levels = []; kept = nothing_kept }
 
 abbrev pub is_on : List Bool → ℕ → Bool
 is_on enabled pass = slice_index_or enabled pass false

@@ -1,14 +1,17 @@
 // What is made once for a file.
 ghost use Rattle.std.specs.Prelude.{◌≡◌, ◌≤◌, IfOk, MatchOption, length};
+ghost use Rattle.cr_analysis.specs.Analysis.{IsAnalysis};
+ghost use Rattle.cr_tokens.specs.Tokens.{Tokenizes};
 ghost use Rattle.cr_passes.specs.Offers.{IfOn, IsKnown, is_on, known_of, menu_at, nothing};
 ghost use Rattle.pass_text.specs.Brackets.{IsBracketOffering};
 ghost use Rattle.pass_text.specs.Runs.{t_offering};
 
+use cr_analysis::Analysis;
 use cr_cursor::NoMemory;
-use cr_edit::Menu;
-use cr_tokens::{Token, TokenFault, Tokens, read};
+use cr_edit::{Kept, Menu};
+use cr_tokens::Token;
 use pass_text::{brackets, count_lines, runs_of_tokens};
-use std::alloc::{AllocError, Global};
+use std::alloc::Global;
 use std::marker::Model;
 
 /// What the enabled passes offer for a file: how many lines there are, and a menu for each other pass, by its number.
@@ -46,20 +49,35 @@ impl Index {
     }
 }
 
-/// The index of a file of at most 1,048,576 bytes. The error is want of memory.
-pub fn index_of(alloc: Global, enabled: &[bool], file: &[u8]) -> Result<Index, NoMemory>
-    requires { length file.now ≤ 1048576 }
+/// The index of a file of at most 1,048,576 bytes, of which this was read. The error is want of memory.
+pub fn index_of(
+    alloc: Global,
+    enabled: &[bool],
+    file: &[u8],
+    analysis: &Analysis,
+) -> Result<Index, NoMemory>
+    requires short { length file.now ≤ 1048576 }
+    requires analysis { IsAnalysis file.now analysis.now }
     ensures { IfOk result (λ index. IsKnown enabled.now file.now index) }
 {
-    match read(alloc, file) {
-        Ok(tokens) => {
-            let runs = runs(alloc, is_on(enabled, 1), &tokens)?;
-            let brackets = pairs(alloc, is_on(enabled, 2), file, &tokens)?;
-            known(alloc, enabled, file, runs, brackets)
-        }
-        Err(TokenFault::NoMemory) => Err(AllocError),
-        Err(_) => known(alloc, enabled, file, nothing(alloc), nothing(alloc)),
+    match &analysis.tokens {
+        Some(tokens) => of_tokens(alloc, enabled, file, tokens.as_slice()),
+        None => known(alloc, enabled, file, nothing(alloc), nothing(alloc)),
     }
+}
+
+fn of_tokens(
+    alloc: Global,
+    enabled: &[bool],
+    file: &[u8],
+    tokens: &[Token],
+) -> Result<Index, NoMemory>
+    requires { Tokenizes file.now tokens.now }
+    ensures { IfOk result (λ index. IsKnown enabled.now file.now index) }
+{
+    let runs = runs(alloc, is_on(enabled, 1), tokens)?;
+    let brackets = pairs(alloc, is_on(enabled, 2), file, tokens)?;
+    known(alloc, enabled, file, runs, brackets)
 }
 
 fn is_on(enabled: &[bool], pass: usize) -> bool
@@ -74,24 +92,24 @@ fn is_on(enabled: &[bool], pass: usize) -> bool
 fn nothing(alloc: Global) -> Menu
     ensures { result ≡ nothing }
 {
-    Menu::new(Vec::new(alloc), Vec::new(alloc))
+    Menu::new(Vec::new(alloc), Kept::nothing(alloc))
 }
 
-fn runs(alloc: Global, on: bool, tokens: &Tokens) -> Result<Menu, NoMemory>
-    ensures { IfOk result (IfOn on (λ menu. menu ≡ t_offering tokens.now.list.items)) }
+fn runs(alloc: Global, on: bool, tokens: &[Token]) -> Result<Menu, NoMemory>
+    ensures { IfOk result (IfOn on (λ menu. menu ≡ t_offering tokens.now)) }
 {
     if on {
-        runs_of_tokens(alloc, tokens.list.as_slice())
+        runs_of_tokens(alloc, tokens)
     } else {
         Ok(nothing(alloc))
     }
 }
 
-fn pairs(alloc: Global, on: bool, file: &[u8], tokens: &Tokens) -> Result<Menu, NoMemory>
-    ensures { IfOk result (IfOn on (IsBracketOffering file.now tokens.now.list.items)) }
+fn pairs(alloc: Global, on: bool, file: &[u8], tokens: &[Token]) -> Result<Menu, NoMemory>
+    ensures { IfOk result (IfOn on (IsBracketOffering file.now tokens.now)) }
 {
     if on {
-        brackets(alloc, file, tokens.list.as_slice())
+        brackets(alloc, file, tokens)
     } else {
         Ok(nothing(alloc))
     }

@@ -1,7 +1,7 @@
 //! The passes of the product, as one list: each has a number, and those that are enabled offer their variants.
 //!
-//! A file is read once, and what each pass offers is listed then; a variant is made from its number, without memory where there is room. It
-//! promises what `cr_cursor` asks of passes, and stands on the pass crates.
+//! A file is read once, by `cr_analysis`, and what each pass offers is listed from that; a variant is made from its number, without memory where there is room. It
+//! promises what `cr_cursor` asks of passes, and stands on the pass crates and `cr_analysis`.
 #![tactic(auto)]
 
 mod index;

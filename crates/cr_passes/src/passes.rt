@@ -3,6 +3,7 @@ ghost use Rattle.cr_passes.specs.Offers.{Offers, offer_of};
 ghost use Rattle.cr_passes.specs.OfferLaws.{few_variants, no_level, no_pass, one_offer};
 
 use crate::index::{Index, index_of};
+use cr_analysis::analyse;
 use cr_cursor::{Cursor, NoMemory, Passes};
 use cr_edit::{variant, width};
 use pass_text::{lines_variant, lines_width};
@@ -39,7 +40,8 @@ impl Passes for CPasses {
     ghost sixteen_levels = { λ p file o pass level is above. no_level p.enabled file o pass level is above };
 
     fn prepare(&self, alloc: Global, file: &[u8]) -> Result<Index, NoMemory> {
-        index_of(alloc, &self.enabled, file)
+        let analysis = analyse(alloc, file)?;
+        index_of(alloc, &self.enabled, file, &analysis)
     }
 
     fn width(&self, prep: &Index, pass: u8, level: u8) -> u64 {

@@ -6,16 +6,16 @@ use Rattle.cr_syntax.specs.contracts.word.Word as word_type
 use Rattle.cr_syntax.specs.declared.word.Word.{Word}
 use Rattle.cr_syntax.specs.declared.word.Word.TheVariants as word
 use Rattle.cr_syntax.specs.declared.node.Kind.{Kind}
-use Rattle.cr_syntax.specs.declared.symbol.Part.{Part}
-use Rattle.cr_syntax.specs.declared.symbol.Symbol.TheVariants as symbol
-use Rattle.cr_syntax.specs.declared.symbol.Context.{Context}
+use Rattle.cr_syntax.specs.declared.part.Part.{Part}
+use Rattle.cr_syntax.specs.Symbols as symbol
+use Rattle.cr_syntax.specs.declared.part.Context.{Context}
 use Rattle.cr_syntax.specs.Words.{Lexeme}
 use Rattle.cr_syntax.specs.Scopes.{Scopes}
 use Rattle.cr_syntax.specs.Trees.{Trees}
 use Rattle.cr_syntax.specs.Grammar.{Side, Alternative}
 use Rattle.cr_syntax.specs.Grammar as grammar
 use Rattle.cr_syntax.specs.Reads.{same_word}
-use Rattle.cr_syntax.specs.Spells.{Limit, Phrase, a, rest, Is, AreConst, const_none, const_more, Spells}
+use Rattle.cr_syntax.specs.Spells.{Limit, Phrase, a, rest, Is, AreQualifiers, qualifiers_none, qualifiers_more, Spells}
 use Rattle.cr_syntax.specs.Spells as spells
 use Rattle.cr_syntax.specs.Units.{IsUnit}
 use Rattle.cr_syntax.proofs.Tests.{both, some_one}
@@ -79,9 +79,10 @@ named {ts} {i} is x = record {
   ];
 }
 
-consts : {ts : List Lexeme} {limit : Limit} {d i j : ℕ} → AreConst ts limit d i j → Named ts i j
-consts const_none = nothing
-consts (const_more is st more) = token word.Const refl is (consts more)
+qualifiers : {ts : List Lexeme} {limit : Limit} {d i j : ℕ} → AreQualifiers ts limit d i j → Named ts i j
+qualifiers qualifiers_none = nothing
+qualifiers (qualifiers_more (inl is) st more) = token word.Const refl is (qualifiers more)
+qualifiers (qualifiers_more (inr is) st more) = token word.Volatile refl is (qualifiers more)
 
 name_first : {ts : List Lexeme} {limit : Limit} {h : Context} {c e : Scopes} {d i j : ℕ} {t : Trees} (s : Side) →
     Spells ts limit (rest s) h c e d t i j → names s ≡ true → Is ts i word.Identifier
@@ -121,9 +122,9 @@ walk (spells.tag_none is wi x) q = token word.LeftBrace refl is (walk x q)
 walk (spells.tag_some is st is' wi x) q = token word.Identifier refl is (token word.LeftBrace refl is' (walk x q))
 walk (spells.comma_none is st x) q = token word.RightBrace refl is (walk x q)
 walk (spells.comma_some is st is' st' x) q = token word.Comma refl is (token word.RightBrace refl is' (walk x q))
-walk (spells.qualified cs x) q = beside (consts cs) (walk x tt)
-walk (spells.qualified_none cs) q = consts cs
-walk (spells.qualified_some cs x) q = beside (consts cs) (walk x tt)
+walk (spells.qualified cs x) q = beside (qualifiers cs) (walk x tt)
+walk (spells.qualified_none cs) q = qualifiers cs
+walk (spells.qualified_some cs x) q = beside (qualifiers cs) (walk x tt)
 walk (spells.ordinary is st x) q = token word.Identifier refl is.0 (walk x q)
 walk (spells.type_identifier is ht st x) q = token word.Identifier refl is.0 (walk x q)
 walk (spells.declared is ht st x) q = token word.Identifier refl is (walk x q)

@@ -4,7 +4,7 @@ use Rattle.std.proofs.Math.Nat.{mul-le-mul_right, suc-mul}
 use Rattle.std.proofs.lemmas.Option.{slice_get-get_or, slice_get_within}
 use Rattle.std.specs.List.{slice_get}
 use Rattle.cr_cursor.specs.declared.passes.Cursor.{Cursor}
-use Rattle.cr_outside.specs.Judge.{Call}
+use Rattle.cr_reduce.specs.Bench.{Judging}
 use Rattle.cr_reduce.specs.declared.end.End.{End}
 use Rattle.cr_reduce.specs.declared.end.Why.{Why}
 use Rattle.cr_reduce.specs.declared.end.Why.TheVariants.{Fixed, Limit, Fault, NoMemory}
@@ -161,10 +161,10 @@ ends_in_time p A R F levels size limit has smaller file offer out offered sized 
     (within_less limit _ _ (from_start (levels_below levels 10) size) enough) run is_limit
 
 -- so does the end of a chain
-pub in_time : (s : Search) (now : Option (List Call)) (limit : Option ℕ) (file : List ℕ) (e : End) (why : Why) → EndsBy (ReducesFileInRun s now file) file limit e why
+pub in_time : (s : Search) (before now : Judging) (limit : Option ℕ) (file : List ℕ) (e : End) (why : Why) → EndsBy (ReducesFileInRun s before now file) file limit e why
     → (levels : ℕ → ℕ) (size : ℕ) → HasLevels s.Offers levels → HasSize file size → Within limit (enough_turns levels size) → why ≡ Limit → ⊥
-in_time s now limit file e Fixed run levels size has sized enough is = cc
-in_time s now limit file e Limit run levels size has sized enough is =
-    ends_in_time s.Offers (AcceptsInRun s now) (RejectsInRun s now) (FailsInRun s now) levels size limit has (λ f v it. it.smaller) file run.0 (outcome_of e Limit) run.1 sized enough run.2 refl
-in_time s now limit file e (Fault turn worker) run levels size has sized enough is = cc
-in_time s now limit file e NoMemory run levels size has sized enough is = cc
+in_time s before now limit file e Fixed run levels size has sized enough is = cc
+in_time s before now limit file e Limit run levels size has sized enough is =
+    ends_in_time s.Offers (AcceptsInRun s before now) (RejectsInRun s before now) (FailsInRun s before now) levels size limit has (λ f v it. it.smaller) file run.0 (outcome_of e Limit) run.1 sized enough run.2 refl
+in_time s before now limit file e (Fault turn worker) run levels size has sized enough is = cc
+in_time s before now limit file e NoMemory run levels size has sized enough is = cc

@@ -1,7 +1,7 @@
 -- From the walk to the end.
-use Rattle.std.proofs.Common.{◌≡◌, ◌≢◌, inl, inr, ℕ, ◌+◌, ◌≤◌, List, [], length, Option, Some, None, refl, subst, sym, ap, arith}
+use Rattle.std.proofs.Common.{◌≡◌, ◌≢◌, inl, inr, ℕ, ◌+◌, ◌≤◌, List, [], length, Option, Some, None, refl, subst, sym, ap, ◌∙◌, arith}
 use Rattle.std.proofs.lemmas.Bool.{cases_lt}
-use Rattle.cr_outside.specs.Judge.{Call}
+use Rattle.cr_reduce.specs.Bench.{Judging}
 use Rattle.cr_reduce.specs.declared.end.End.{End}
 use Rattle.cr_reduce.specs.declared.end.Why.{Why}
 use Rattle.cr_reduce.specs.declared.end.Why.TheVariants.{Fixed, Limit, Fault, NoMemory}
@@ -10,7 +10,7 @@ use Rattle.cr_cursor.specs.Variants.{Offer}
 use Rattle.cr_reduce.specs.Trials.IsRejected.{not_smaller, unlawful, answered_no}
 use Rattle.cr_reduce.specs.Reduction.{State, Outcome, Within, cursors_of, none_fails, start_of, ends}
 use Rattle.cr_reduce.specs.Reduction.Reduces.{fixed, spent, fails}
-use Rattle.cr_reduce.specs.Search.{Search, AcceptsInRun, FailsInRun, RejectsInRun, AcceptsAsTold, RejectsAsTold, ReducesInRun, ReducesFileInRun, ReducesFileAsTold, IsAllTold}
+use Rattle.cr_reduce.specs.Search.{Search, AcceptsInRun, AsksOnlyCandidates, FailsInRun, RejectsInRun, AcceptsAsTold, RejectsAsTold, ReducesInRun, ReducesFileInRun, ReducesFileAsTold, IsAllTold}
 use Rattle.cr_reduce.specs.Walk.{EndsHere, Walked, state_of}
 use Rattle.cr_reduce.specs.Ends.{end_of_walk, outcome_of, StopsAt, EndsBy, EndsToldBy, EndsInRun, EndsAsTold, IsFixedInRun, IsFixedAsTold}
 use Rattle.cr_reduce.proofs.Reductions.{IsCut, cut_short, fixed_point, none_between, reduces-map, stops_here}
@@ -29,101 +29,108 @@ one_left (Some most) turns more within = elim (cases_lt turns most) [
 ]
 
 -- a walk from the start of a file, for which this was offered
-module _ {T : Type 0} (s : Search) (now : Option (List Call)) (make : T → List ℕ → Offer) (file : List ℕ) (first : Offer) (offered : s.Offers file first)
-    (w : Walk T) (walked : Walked s now (start_of file first) (state_of make w)) where
-  completes : (limit : Option ℕ) (why : Why) → Within limit w.turns → ReducesInRun s now limit (state_of make w) (ends (state_of make w) why) → ReducesFileInRun s now file limit (outcome_of (end_of_walk w why) why)
+module _ {T : Type 0} (s : Search) (before now : Judging) (make : T → List ℕ → Offer) (file : List ℕ) (first : Offer) (offered : s.Offers file first)
+    (w : Walk T) (walked : Walked s before now (start_of file first) (state_of make w)) where
+  completes : (limit : Option ℕ) (why : Why) → Within limit w.turns → ReducesInRun s before now limit (state_of make w) (ends (state_of make w) why) → ReducesFileInRun s before now file limit (outcome_of (end_of_walk w why) why)
   completes limit why within run = (first, offered, walked.leads.leads now limit (ends (state_of make w) why) (goes_on-refl now) within run)
 
-  stops : (why : Why) → w.position ≤ length (cursors_of (make w.prep w.file.items)) → StopsAt (ReducesFileInRun s now file) (end_of_walk w why)
+  stops : (why : Why) → w.position ≤ length (cursors_of (make w.prep w.file.items)) → StopsAt (ReducesFileInRun s before now file) (end_of_walk w why)
   stops why placed =
-      let here = stops_here s.Offers (AcceptsInRun s now) (RejectsInRun s now) (FailsInRun s now) (state_of make w) placed in
+      let here = stops_here s.Offers (AcceptsInRun s before now) (RejectsInRun s before now) (FailsInRun s before now) (state_of make w) placed in
       (here.0, completes (Some w.turns) here.0 (within_itself w.turns) here.1)
 
-  ends_in_run : (limit : Option ℕ) (before count : ℕ) (why : Why) → EndsHere s now limit before count (state_of make w) why → w.position ≤ length (cursors_of (make w.prep w.file.items)) → Within limit w.turns
-      → EndsBy (ReducesFileInRun s now file) file limit (end_of_walk w why) why
-  ends_in_run limit before count Fixed ended placed within = completes limit Fixed within (fixed ended.0 ended.1 refl)
-  ends_in_run limit before count Limit ended placed within = completes limit Limit within (spent ended.0 ended.1 refl)
-  ends_in_run limit before count (Fault turn worker) ended placed within =
+  ends_in_run : (limit : Option ℕ) (why : Why) → EndsHere s before now limit (state_of make w) why → w.position ≤ length (cursors_of (make w.prep w.file.items)) → Within limit w.turns
+      → EndsBy (ReducesFileInRun s before now file) file limit (end_of_walk w why) why
+  ends_in_run limit Fixed ended placed within = completes limit Fixed within (fixed ended.0 ended.1 refl)
+  ends_in_run limit Limit ended placed within = completes limit Limit within (spent ended.0 ended.1 refl)
+  ends_in_run limit (Fault turn worker) ended placed within =
       let here = ended.2 in
-      completes limit (Fault turn worker) within (fails w.position here.at w.turns worker (omega arith) here.there (none_between (make w.prep w.file.items) (RejectsInRun s now) w.file.items w.position) here.failed refl
+      completes limit (Fault turn worker) within (fails w.position here.at w.turns worker (omega arith) here.there (none_between (make w.prep w.file.items) (RejectsInRun s before now) w.file.items w.position) here.failed refl
       (one_left limit w.turns ended.1 within) (ap (λ t. ends (state_of make w) (Fault t worker)) ended.0))
-  ends_in_run limit before count NoMemory ended placed within = (within, inr (stops NoMemory placed))
+  ends_in_run limit NoMemory ended placed within = (within, inr (stops NoMemory placed))
 
 -- where the answers are told
 
-accepts_told : (s : Search) (now : Option (List Call)) → IsAllTold s → (file variant : List ℕ) → AcceptsInRun s now file variant → AcceptsAsTold s file variant
-accepts_told s now told file variant it = record { smaller = it.smaller; lawful = it.lawful; answered = it.answered.told (told variant) }
+accepts_told : (s : Search) (before now : Judging) → IsAllTold s → (file variant : List ℕ) → AcceptsInRun s before now file variant → AcceptsAsTold s file variant
+accepts_told s before now told file variant it = record { smaller = it.smaller; lawful = it.lawful; answered = it.answered.told (told variant) }
 
-rejects_told : (s : Search) (now : Option (List Call)) → IsAllTold s → (file variant : List ℕ) → RejectsInRun s now file variant → RejectsAsTold s file variant
-rejects_told s now told file variant (not_smaller big) = not_smaller big
-rejects_told s now told file variant (unlawful against) = unlawful against
-rejects_told s now told file variant (answered_no answer) = answered_no (answer.told (told variant))
+rejects_told : (s : Search) (before now : Judging) → IsAllTold s → (file variant : List ℕ) → RejectsInRun s before now file variant → RejectsAsTold s file variant
+rejects_told s before now told file variant (not_smaller big) = not_smaller big
+rejects_told s before now told file variant (unlawful against) = unlawful against
+rejects_told s before now told file variant (answered_no answer) = answered_no (answer.told (told variant))
 
-file_told : (s : Search) (now : Option (List Call)) (file : List ℕ) (limit : Option ℕ) (out : Outcome) → IsAllTold s → ((turn worker : ℕ) → out.why ≡ Fault turn worker → ⊥)
-    → ReducesFileInRun s now file limit out → ReducesFileAsTold s file limit out
-file_told s now file limit out told never run = (
+file_told : (s : Search) (before now : Judging) (file : List ℕ) (limit : Option ℕ) (out : Outcome) → IsAllTold s → ((turn worker : ℕ) → out.why ≡ Fault turn worker → ⊥)
+    → ReducesFileInRun s before now file limit out → ReducesFileAsTold s file limit out
+file_told s before now file limit out told never run = (
   run.0,
   run.1,
-  reduces-map s.Offers (AcceptsInRun s now) (AcceptsAsTold s) (RejectsInRun s now) (RejectsAsTold s) (FailsInRun s now) none_fails limit (accepts_told s now told) (rejects_told s now told) (start_of file run.0) out never run.2,
+  reduces-map s.Offers (AcceptsInRun s before now) (AcceptsAsTold s) (RejectsInRun s before now) (RejectsAsTold s) (FailsInRun s before now) none_fails limit (accepts_told s before now told) (rejects_told s before now told) (start_of file run.0) out never run.2,
 )
 
 -- A fault isn't told: the told reduction comes to this after the turns that were made.
-fault_told : (s : Search) (now : Option (List Call)) (limit : Option ℕ) (file : List ℕ) (e : End) (turn worker : ℕ) → IsAllTold s → ReducesFileInRun s now file limit (outcome_of e (Fault turn worker))
+fault_told : (s : Search) (before now : Judging) (limit : Option ℕ) (file : List ℕ) (e : End) (turn worker : ℕ) → IsAllTold s → ReducesFileInRun s before now file limit (outcome_of e (Fault turn worker))
     → EndsToldBy (ReducesFileAsTold s file) file limit e (Fault turn worker)
-fault_told s now limit file e turn worker told run =
-    let cut : IsCut s.Offers (FailsInRun s now) (AcceptsAsTold s) (RejectsAsTold s) none_fails limit (start_of file run.0) (outcome_of e (Fault turn worker)) turn worker =
-    cut_short s.Offers (AcceptsInRun s now) (AcceptsAsTold s) (RejectsInRun s now) (RejectsAsTold s) (FailsInRun s now) none_fails limit (accepts_told s now told) (rejects_told s now told)
+fault_told s before now limit file e turn worker told run =
+    let cut : IsCut s.Offers (FailsInRun s before now) (AcceptsAsTold s) (RejectsAsTold s) none_fails limit (start_of file run.0) (outcome_of e (Fault turn worker)) turn worker =
+    cut_short s.Offers (AcceptsInRun s before now) (AcceptsAsTold s) (RejectsInRun s before now) (RejectsAsTold s) (FailsInRun s before now) none_fails limit (accepts_told s before now told) (rejects_told s before now told)
     (start_of file run.0) (outcome_of e (Fault turn worker)) turn worker run.2 refl in
     (cut.next, cut.failed.0, within_less limit e.turns (e.turns + 1) (omega arith) cut.within, (cut.why, (run.0, run.1, cut.run)))
 
 -- Want of memory leaves no fault where the reduction is cut short.
-stops_told : (s : Search) (now : Option (List Call)) (file : List ℕ) (e : End) (why : Why) → IsAllTold s → ReducesFileInRun s now file (Some e.turns) (outcome_of e why) → StopsAt (ReducesFileAsTold s file) e
-stops_told s now file e Fixed told run = (Fixed, file_told s now file (Some e.turns) (outcome_of e Fixed) told (λ turn worker is. cc) run)
-stops_told s now file e Limit told run = (Limit, file_told s now file (Some e.turns) (outcome_of e Limit) told (λ turn worker is. cc) run)
-stops_told s now file e NoMemory told run = (NoMemory, file_told s now file (Some e.turns) (outcome_of e NoMemory) told (λ turn worker is. cc) run)
-stops_told s now file e (Fault turn worker) told run = (fault_told s now (Some e.turns) file e turn worker told run).3
+stops_told : (s : Search) (before now : Judging) (file : List ℕ) (e : End) (why : Why) → IsAllTold s → ReducesFileInRun s before now file (Some e.turns) (outcome_of e why) → StopsAt (ReducesFileAsTold s file) e
+stops_told s before now file e Fixed told run = (Fixed, file_told s before now file (Some e.turns) (outcome_of e Fixed) told (λ turn worker is. cc) run)
+stops_told s before now file e Limit told run = (Limit, file_told s before now file (Some e.turns) (outcome_of e Limit) told (λ turn worker is. cc) run)
+stops_told s before now file e NoMemory told run = (NoMemory, file_told s before now file (Some e.turns) (outcome_of e NoMemory) told (λ turn worker is. cc) run)
+stops_told s before now file e (Fault turn worker) told run = (fault_told s before now (Some e.turns) file e turn worker told run).3
 
-ends_as_told : (s : Search) (now : Option (List Call)) (limit : Option ℕ) (file : List ℕ) (e : End) (why : Why) → IsAllTold s → EndsBy (ReducesFileInRun s now file) file limit e why
+ends_as_told : (s : Search) (before now : Judging) (limit : Option ℕ) (file : List ℕ) (e : End) (why : Why) → IsAllTold s → EndsBy (ReducesFileInRun s before now file) file limit e why
     → EndsToldBy (ReducesFileAsTold s file) file limit e why
-ends_as_told s now limit file e Fixed told run = file_told s now file limit (outcome_of e Fixed) told (λ turn worker is. cc) run
-ends_as_told s now limit file e Limit told run = file_told s now file limit (outcome_of e Limit) told (λ turn worker is. cc) run
-ends_as_told s now limit file e (Fault turn worker) told run = fault_told s now limit file e turn worker told run
-ends_as_told s now limit file e NoMemory told run = (run.0, elim run.1 [ inl untouched ↦ inl untouched | inr at ↦ inr (stops_told s now file e at.0 told at.1) ])
+ends_as_told s before now limit file e Fixed told run = file_told s before now file limit (outcome_of e Fixed) told (λ turn worker is. cc) run
+ends_as_told s before now limit file e Limit told run = file_told s before now file limit (outcome_of e Limit) told (λ turn worker is. cc) run
+ends_as_told s before now limit file e (Fault turn worker) told run = fault_told s before now limit file e turn worker told run
+ends_as_told s before now limit file e NoMemory told run = (run.0, elim run.1 [ inl untouched ↦ inl untouched | inr at ↦ inr (stops_told s before now file e at.0 told at.1) ])
 
 -- the fixed point
 
-fixed_in_run : (s : Search) (now : Option (List Call)) (limit : Option ℕ) (file : List ℕ) (e : End) (why : Why) → EndsBy (ReducesFileInRun s now file) file limit e why → why ≡ Fixed
-    → IsFixedInRun s now e.file.items
-fixed_in_run s now limit file e Fixed run is =
-    fixed_point s.Offers (AcceptsInRun s now) (RejectsInRun s now) (FailsInRun s now) limit (start_of file run.0) (outcome_of e Fixed) run.2 run.1 (λ _ i at low high there. absurd (omega arith)) refl
-fixed_in_run s now limit file e Limit run is = cc
-fixed_in_run s now limit file e (Fault turn worker) run is = cc
-fixed_in_run s now limit file e NoMemory run is = cc
+fixed_in_run : (s : Search) (before now : Judging) (limit : Option ℕ) (file : List ℕ) (e : End) (why : Why) → EndsBy (ReducesFileInRun s before now file) file limit e why → why ≡ Fixed
+    → IsFixedInRun s before now e.file.items
+fixed_in_run s before now limit file e Fixed run is =
+    fixed_point s.Offers (AcceptsInRun s before now) (RejectsInRun s before now) (FailsInRun s before now) limit (start_of file run.0) (outcome_of e Fixed) run.2 run.1 (λ _ i at low high there. absurd (omega arith)) refl
+fixed_in_run s before now limit file e Limit run is = cc
+fixed_in_run s before now limit file e (Fault turn worker) run is = cc
+fixed_in_run s before now limit file e NoMemory run is = cc
 
-pub fixed_as_told : (s : Search) (now : Option (List Call)) (file : List ℕ) → IsAllTold s → IsFixedInRun s now file → IsFixedAsTold s file
-fixed_as_told s now file told all = (all.0, all.1, λ i at low high there. rejects_told s now told file (all.0.bytes at) (all.2 i at low high there))
+pub fixed_as_told : (s : Search) (before now : Judging) (file : List ℕ) → IsAllTold s → IsFixedInRun s before now file → IsFixedAsTold s file
+fixed_as_told s before now file told all = (all.0, all.1, λ i at low high there. rejects_told s before now told file (all.0.bytes at) (all.2 i at low high there))
 
 -- the end of a walk from the file that was given
-pub chain_of_walk : {T : Type 0} (s : Search) (now : Option (List Call)) (make : T → List ℕ → Offer) (limit : Option ℕ) (before count : ℕ) (file : List ℕ) (first : Offer) (from : State) (w : Walk T) (why : Why) (e : End)
+pub chain_of_walk : {T : Type 0} (s : Search) (before now : Judging) (make : T → List ℕ → Offer) (limit : Option ℕ) (file : List ℕ) (first : Offer) (from : State) (w : Walk T) (why : Why) (e : End)
     → s.Offers file first → from ≡ start_of file first → e ≡ end_of_walk w why
-    → Walked s now from (state_of make w) → EndsHere s now limit before count (state_of make w) why → w.position ≤ length (cursors_of (make w.prep w.file.items)) → Within limit w.turns → EndsInRun s now limit file e
-chain_of_walk s now make limit before count file first from w why e offered begins is walked ended placed within =
-    subst (λ x. EndsInRun s now limit file x) (sym is)
-    (ends_in_run s now make file first offered w (subst (λ st. Walked s now st (state_of make w)) begins walked) limit before count why ended placed within)
+    → Walked s before now from (state_of make w) → EndsHere s before now limit (state_of make w) why → w.position ≤ length (cursors_of (make w.prep w.file.items)) → Within limit w.turns → EndsInRun s before now limit file e
+chain_of_walk s before now make limit file first from w why e offered begins is walked ended placed within =
+    subst (λ x. EndsInRun s before now limit file x) (sym is)
+    (ends_in_run s before now make file first offered w (subst (λ st. Walked s before now st (state_of make w)) begins walked) limit why ended placed within)
+
+-- what was asked on the way
+pub asks_of_walk : {T : Type 0} (s : Search) (before now : Judging) (make : T → List ℕ → Offer) (file : List ℕ) (first : Offer) (from : State) (w : Walk T) (why : Why) (e : End)
+    → from ≡ start_of file first → e ≡ end_of_walk w why → Walked s before now from (state_of make w) → AsksOnlyCandidates s file e.accepted.items before now
+asks_of_walk s before now make file first from w why e begins is walked =
+    let it = (subst (λ st. Walked s before now st (state_of make w)) begins walked).traces in
+    subst (λ list. AsksOnlyCandidates s file list before now) (sym (ap (λ x. x.accepted.items) is ∙ it.accepted_is)) it.asks
 
 -- what a chain is besides
-pub rejected_of_chain : (s : Search) (now : Option (List Call)) (limit : Option ℕ) (file : List ℕ) (e : End) → EndsInRun s now limit file e → e.why ≡ Fixed → IsFixedInRun s now e.file.items
-rejected_of_chain s now limit file e chain is = fixed_in_run s now limit file e e.why chain is
+pub rejected_of_chain : (s : Search) (before now : Judging) (limit : Option ℕ) (file : List ℕ) (e : End) → EndsInRun s before now limit file e → e.why ≡ Fixed → IsFixedInRun s before now e.file.items
+rejected_of_chain s before now limit file e chain is = fixed_in_run s before now limit file e e.why chain is
 
-pub told_of_chain : (s : Search) (now : Option (List Call)) (limit : Option ℕ) (file : List ℕ) (e : End) → EndsInRun s now limit file e → IsAllTold s → EndsAsTold s limit file e
-told_of_chain s now limit file e chain told = ends_as_told s now limit file e e.why told chain
+pub told_of_chain : (s : Search) (before now : Judging) (limit : Option ℕ) (file : List ℕ) (e : End) → EndsInRun s before now limit file e → IsAllTold s → EndsAsTold s limit file e
+told_of_chain s before now limit file e chain told = ends_as_told s before now limit file e e.why told chain
 
 within_zero : (limit : Option ℕ) → Within limit 0
 within_zero None = tt
 within_zero (Some most) = omega arith
 
 -- no memory at the beginning
-pub nothing_done : (s : Search) (now : Option (List Call)) (limit : Option ℕ) (file : List ℕ) (e : End) → e.file.items ≡ file → e.accepted.items ≡ [] → e.turns ≡ 0 → e.why ≡ NoMemory → EndsInRun s now limit file e
-nothing_done s now limit file e same none unturned why_is =
-    subst (λ why. EndsBy (ReducesFileInRun s now file) file limit e why) (sym why_is)
+pub nothing_done : (s : Search) (before now : Judging) (limit : Option ℕ) (file : List ℕ) (e : End) → e.file.items ≡ file → e.accepted.items ≡ [] → e.turns ≡ 0 → e.why ≡ NoMemory → EndsInRun s before now limit file e
+nothing_done s before now limit file e same none unturned why_is =
+    subst (λ why. EndsBy (ReducesFileInRun s before now file) file limit e why) (sym why_is)
     (subst (Within limit) (sym unturned) (within_zero limit), inl (record { same = same; none = none; unturned = unturned }))

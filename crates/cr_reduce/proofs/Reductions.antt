@@ -32,35 +32,45 @@ one_more o Rejects file from to at there rejected after i at' low high there' = 
 pub none_between : (o : Offer) (Rejects : Trial) (file : List ℕ) (from : ℕ) → AllRejected o Rejects file from from
 none_between o Rejects file from i at low high there = absurd (omega arith)
 
--- A rejected position is skipped: what completes the walk behind it completes it before it.
-pub skip : (p : Proposals) (Accepts Rejects : Trial) (Fails : FailedTrials) (limit : Option ℕ) (st : State) (out : Outcome) (at : Cursor)
-    → slice_get (cursors_of st.offer) st.position ≡ Some at → Rejects st.file (st.offer.bytes at) → Within limit (st.turns + 1)
-    → Reduces p Accepts Rejects Fails limit (moved st (st.position + 1) (st.turns + 1)) out → Reduces p Accepts Rejects Fails limit st out
-skip p A R F limit st out at there refused within (new_round end changed rest) =
-    let below : st.position < length (cursors_of st.offer) = omega arith in
-    let all = subst (λ to. AllRejected st.offer R st.file st.position to) end (one_more st.offer R st.file st.position (st.position + 1) at there refused (none_between st.offer R st.file (st.position + 1))) in
-    rejects (st.turns + 1) below all (omega arith) within (new_round refl changed rest)
-skip p A R F limit st out at there refused within (fixed end changed is) =
-    let below : st.position < length (cursors_of st.offer) = omega arith in
-    let all = subst (λ to. AllRejected st.offer R st.file st.position to) end (one_more st.offer R st.file st.position (st.position + 1) at there refused (none_between st.offer R st.file (st.position + 1))) in
-    rejects (st.turns + 1) below all (omega arith) within (fixed refl changed is)
-skip p A R F limit st out at there refused within (spent below is_limit is) =
-    short (st.position + 1) (st.turns + 1) (omega arith) below (one_more st.offer R st.file st.position (st.position + 1) at there refused (none_between st.offer R st.file (st.position + 1))) (omega arith) is_limit is
-skip p A R F limit st out at there refused within (short to turns some below all count is_limit is) =
-    short to turns (omega arith) below (one_more st.offer R st.file st.position to at there refused all) (omega arith) is_limit is
-skip p A R F limit st out at there refused within (accepts position at' size turns next first has count in_limit offered rest) =
-    accepts position at' size turns next (record { after = omega (arith, first.after); there = first.there; accepted = first.accepted; before = one_more st.offer R st.file st.position position at there refused first.before }) has (omega arith) in_limit offered rest
-skip p A R F limit st out at there refused within (rejects turns below all count in_limit rest) =
-    rejects turns (omega arith) (one_more st.offer R st.file st.position (length (cursors_of st.offer)) at there refused all) (omega arith) in_limit rest
-skip p A R F limit st out at there refused within (fails position at' turns worker low there' before failed count in_limit is) =
-    fails position at' turns worker (omega arith) there' (one_more st.offer R st.file st.position position at there refused before) failed (omega arith) in_limit is
+pub joined : (o : Offer) (R : Trial) (file : List ℕ) (from middle to : ℕ) → AllRejected o R file from middle → AllRejected o R file middle to → AllRejected o R file from to
+joined o R file from middle to before after i at low high there = elim (cases_lt i middle) [
+  | inl early ↦ before i at low early there
+  | inr late ↦ after i at late high there
+]
 
--- The variant at the next position is accepted.
-pub take_next : (p : Proposals) (Accepts Rejects : Trial) (Fails : FailedTrials) (limit : Option ℕ) (st : State) (out : Outcome) (at : Cursor) (size : ℕ) (next : Offer)
-    → slice_get (cursors_of st.offer) st.position ≡ Some at → Accepts st.file (st.offer.bytes at) → HasSize (st.offer.bytes at) size → Within limit (st.turns + 1) → p (st.offer.bytes at) next
-    → Reduces p Accepts Rejects Fails limit (taken st at size (st.turns + 1) next) out → Reduces p Accepts Rejects Fails limit st out
-take_next p A R F limit st out at size next there accepted has within offered rest =
-    accepts st.position at size (st.turns + 1) next (record { after = omega arith; there = there; accepted = accepted; before = none_between st.offer R st.file st.position }) has (omega arith) within offered rest
+here_or_later : (i n : ℕ) → i ≤ n → (i ≡ n) ⊎ (i < n)
+here_or_later i n h = search arith
+
+-- Rejected positions are skipped: what completes the walk behind them completes it before them.
+skip_some : (p : Proposals) (Accepts Rejects : Trial) (Fails : FailedTrials) (limit : Option ℕ) (st : State) (out : Outcome) (to turns : ℕ) → st.position < to → to ≤ length (cursors_of st.offer)
+    → AllRejected st.offer Rejects st.file st.position to → turns + st.position ≡ st.turns + to → Within limit turns
+    → Reduces p Accepts Rejects Fails limit (moved st to turns) out → Reduces p Accepts Rejects Fails limit st out
+skip_some p A R F limit st out to turns low high all count within (new_round end changed rest) =
+    rejects turns (omega arith) (subst (λ n. AllRejected st.offer R st.file st.position n) end all) (omega arith) within (new_round refl changed rest)
+skip_some p A R F limit st out to turns low high all count within (fixed end changed is) =
+    rejects turns (omega arith) (subst (λ n. AllRejected st.offer R st.file st.position n) end all) (omega arith) within
+    (fixed refl changed (subst (λ n. out ≡ ends (moved st n turns) Fixed) end is))
+skip_some p A R F limit st out to turns low high all count within (spent below is_limit is) = short to turns low below all count is_limit is
+skip_some p A R F limit st out to turns low high all count within (short last most some below more count' is_limit is) =
+    short last most (omega arith) below (joined st.offer R st.file st.position to last all more) (omega arith) is_limit is
+skip_some p A R F limit st out to turns low high all count within (accepts position at size made next first has count' in_limit offered rest) =
+    accepts position at size made next
+    (record { after = omega (arith, first.after); there = first.there; accepted = first.accepted; before = joined st.offer R st.file st.position to position all first.before })
+    has (omega (arith, first.after)) in_limit offered rest
+skip_some p A R F limit st out to turns low high all count within (rejects made below more count' in_limit rest) =
+    rejects made (omega arith) (joined st.offer R st.file st.position to (length (cursors_of st.offer)) all more) (omega arith) in_limit rest
+skip_some p A R F limit st out to turns low high all count within (fails position at made worker after there before failed count' in_limit is) =
+    fails position at made worker (omega arith) there (joined st.offer R st.file st.position to position all before) failed (omega arith) in_limit is
+
+pub skip : (p : Proposals) (Accepts Rejects : Trial) (Fails : FailedTrials) (limit : Option ℕ) (st : State) (out : Outcome) (to turns : ℕ) → st.position ≤ to → to ≤ length (cursors_of st.offer)
+    → AllRejected st.offer Rejects st.file st.position to → turns + st.position ≡ st.turns + to → Within limit turns
+    → Reduces p Accepts Rejects Fails limit (moved st to turns) out → Reduces p Accepts Rejects Fails limit st out
+skip p A R F limit st out to turns low high all count within rest = elim (here_or_later st.position to low) [
+  | inl here ↦
+      let same : turns ≡ st.turns = omega arith in
+      subst (λ n. Reduces p A R F limit (moved st st.position n) out) same (subst (λ n. Reduces p A R F limit (moved st n turns) out) (sym here) rest)
+  | inr some ↦ skip_some p A R F limit st out to turns some high all count within rest
+]
 
 -- what a trial says, said by another one
 all_rejected-map : (o : Offer) (R S : Trial) (file : List ℕ) (from to : ℕ) → ((f v : List ℕ) → R f v → S f v) → AllRejected o R file from to → AllRejected o S file from to
@@ -106,9 +116,6 @@ pub record IsCut (p : Proposals) (F : FailedTrials) (B S : Trial) (G : FailedTri
   pub failed : F worker file variant
   pub why : Why
   pub run : Reduces p B S G (Some out.turns) st (record { file = out.file; accepted = out.accepted; turns = out.turns; why = why })
-
-here_or_later : (i n : ℕ) → i ≤ n → (i ≡ n) ⊎ (i < n)
-here_or_later i n h = search arith
 
 stops_before : (p : Proposals) (R : Trial) (B S : Trial) (G : FailedTrials) (st : State) (position turns : ℕ) (at : Cursor) → st.position ≤ position → slice_get (cursors_of st.offer) position ≡ Some at
     → AllRejected st.offer S st.file st.position position → turns + st.position ≡ st.turns + position → Reduces p B S G (Some turns) st (ends (moved st position turns) Limit)
@@ -192,12 +199,6 @@ stops_here p A R F st within = elim (below_or_at st.position (length (cursors_of
 abbrev pub IsSwept : Trial → State → Type 0
 IsSwept R st = st.changed ≡ false → AllRejected st.offer R st.file 0 st.position
 
-joined : (o : Offer) (R : Trial) (file : List ℕ) (middle to : ℕ) → AllRejected o R file 0 middle → AllRejected o R file middle to → AllRejected o R file 0 to
-joined o R file middle to before after i at low high there = elim (cases_lt i middle) [
-  | inl early ↦ before i at low early there
-  | inr late ↦ after i at late high there
-]
-
 -- A reduction that ends Fixed has no accepted variant left: each variant of the result is rejected.
 pub fixed_point : (p : Proposals) (A R : Trial) (F : FailedTrials) (limit : Option ℕ) (st : State) (out : Outcome) → Reduces p A R F limit st out → p st.file st.offer → IsSwept R st → out.why ≡ Fixed
     → (offer : Offer) × p out.file offer × AllRejected offer R out.file 0 (length (cursors_of offer))
@@ -210,6 +211,6 @@ fixed_point p A R F limit st out (short to turns some below all count is_limit i
 fixed_point p A R F limit st out (accepts position at size turns next first has count within offered_next rest) offered swept is_fixed =
     fixed_point p A R F limit (taken st at size turns next) out rest offered_next (λ e. absurd (true≢false e)) is_fixed
 fixed_point p A R F limit st out (rejects turns below all count within rest) offered swept is_fixed =
-    fixed_point p A R F limit (moved st (length (cursors_of st.offer)) turns) out rest offered (λ same. joined st.offer R st.file st.position (length (cursors_of st.offer)) (swept same) all) is_fixed
+    fixed_point p A R F limit (moved st (length (cursors_of st.offer)) turns) out rest offered (λ same. joined st.offer R st.file 0 st.position (length (cursors_of st.offer)) (swept same) all) is_fixed
 fixed_point p A R F limit st out (fails position at turns worker low there before failed count within is) offered swept is_fixed =
     let other : Fault (turns + 1) worker ≡ Fixed = sym (ap (λ o. o.why) is) ∙ is_fixed in cc

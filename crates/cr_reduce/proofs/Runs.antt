@@ -1,33 +1,163 @@
 -- Calls in a run: lists of calls that go on, and answers that stay given.
-use Rattle.std.proofs.Common.{◌≡◌, ◌≢◌, ℕ, Bool, true, false, List, [], ◌∷◌, ◌++◌, Option, Some, None, subst, sym, ap, ◌∙◌, refl, append_assoc}
+use Rattle.std.proofs.Common.{◌≡◌, ◌≢◌, ◌≤◌, ℕ, zero, suc, ◌+◌, Bool, true, false, All, List, [], ◌∷◌, ◌++◌, map, length, slice_index_or, slice_set, ◌<◌, Option, Some, None, subst, sym, ap, ◌∙◌, refl, append_assoc, inl, inr, arith}
 use Rattle.std.proofs.lemmas.List.{append-nil}
+use Rattle.std.proofs.lemmas.List.Elements.{All-nil, All-push, All-append}
 use Rattle.cr_outside.specs.declared.judge.Answer.{Answer}
+use Rattle.cr_outside.specs.declared.judge.Judge.{Ghosts as JudgeGhosts}
 use Rattle.cr_outside.specs.declared.judge.Answer.TheVariants.{Yes, No, Failed, NoMemory}
+use Rattle.cr_outside.specs.Faults.{Rose}
 use Rattle.cr_outside.specs.Judge.{Call, call_of, with_call}
 use Rattle.cr_outside.specs.Question.{AnswersAsTold, AsksOnce}
-use Rattle.cr_reduce.specs.Trials.{GoesOn, HasCalled, AnswerInRun}
+use Rattle.cr_outside.proofs.Counts.{rose_earlier}
+use Rattle.cr_reduce.specs.Bench.{AllGained, AnyCall, AsksFirst, CalledBy, Each, Gained, GoesOn, HasCalled, Judging, RoseAt, judging, with_first_call}
+use Rattle.cr_reduce.specs.Trials.{AnswerInRun, HasFailed}
 
-pub goes_on-refl : (calls : Option (List Call)) → GoesOn calls calls
-goes_on-refl None = refl
-goes_on-refl (Some list) = ([], ap Some (sym (append-nil list)))
+-- one judge's calls
 
-pub goes_on-trans : (a b c : Option (List Call)) → GoesOn a b → GoesOn b c → GoesOn a c
-goes_on-trans None b c first second = subst (λ x. GoesOn x c) first second
-goes_on-trans (Some list) b c first second =
-    let next : GoesOn (Some (list ++ first.0)) c = subst (λ x. GoesOn x c) first.1 second in
-    (first.0 ++ next.0, next.1 ∙ ap Some (append_assoc list first.0 next.0))
+gained-refl : (Is : Call → Type 0) (calls : Option (List Call)) → Gained Is calls calls
+gained-refl Is None = refl
+gained-refl Is (Some list) = ([], ap Some (sym (append-nil list)), All-nil Is)
 
-pub has_called-later : (before now later : Option (List Call)) (call : Call) → HasCalled before now call → GoesOn now later → HasCalled before later call
+gained-trans : (Is : Call → Type 0) (a b c : Option (List Call)) → Gained Is a b → Gained Is b c → Gained Is a c
+gained-trans Is None b c first second = subst (λ x. Gained Is x c) first second
+gained-trans Is (Some list) b c first second =
+    let next : Gained Is (Some (list ++ first.0)) c = subst (λ x. Gained Is x c) first.1 second in
+    (first.0 ++ next.0, next.1 ∙ ap Some (append_assoc list first.0 next.0), All-append Is first.0 next.0 first.2 next.2)
+
+gained-map : (Is Was : Call → Type 0) → ((call : Call) → Is call → Was call) → (a b : Option (List Call)) → Gained Is a b → Gained Was a b
+gained-map Is Was says None b it = it
+gained-map Is Was says (Some list) b it = (it.0, it.1, λ k d low. says _ (it.2 k d low))
+
+gained_one : (Is : Call → Type 0) (old : Option (List Call)) (call : Call) → Is call → Gained Is old (with_call call old)
+gained_one Is None call is = refl
+gained_one Is (Some list) call is = (call ∷ [], refl, All-push Is [] call (All-nil Is) is)
+
+-- each judge's
+
+pub all_gained-refl : (Is : Call → Type 0) (a : List (Option (List Call))) → AllGained Is a a
+all_gained-refl Is [] = tt
+all_gained-refl Is (x ∷ xs) = (gained-refl Is x, all_gained-refl Is xs)
+
+pub all_gained-trans : (Is : Call → Type 0) (a b c : List (Option (List Call))) → AllGained Is a b → AllGained Is b c → AllGained Is a c
+all_gained-trans Is [] [] [] first second = tt
+all_gained-trans Is [] [] (z ∷ zs) first second = absurd second
+all_gained-trans Is [] (y ∷ ys) c first second = absurd first
+all_gained-trans Is (x ∷ xs) [] c first second = absurd first
+all_gained-trans Is (x ∷ xs) (y ∷ ys) [] first second = absurd second
+all_gained-trans Is (x ∷ xs) (y ∷ ys) (z ∷ zs) first second = (gained-trans Is x y z first.0 second.0, all_gained-trans Is xs ys zs first.1 second.1)
+
+pub all_gained-map : (Is Was : Call → Type 0) → ((call : Call) → Is call → Was call) → (a b : List (Option (List Call))) → AllGained Is a b → AllGained Was a b
+all_gained-map Is Was says [] [] it = tt
+all_gained-map Is Was says [] (y ∷ ys) it = absurd it
+all_gained-map Is Was says (x ∷ xs) [] it = absurd it
+all_gained-map Is Was says (x ∷ xs) (y ∷ ys) it = (gained-map Is Was says x y it.0, all_gained-map Is Was says xs ys it.1)
+
+pub gained_first : (Is : Call → Type 0) (call : Call) (a : List (Option (List Call))) → Is call → AllGained Is a (with_first_call call a)
+gained_first Is call [] is = tt
+gained_first Is call (x ∷ xs) is = (gained_one Is x call is, all_gained-refl Is xs)
+
+-- counts of faults
+
+later-refl : (a : List ℕ) → Each (λ old new. old ≤ new) a a
+later-refl [] = tt
+later-refl (x ∷ xs) = (omega arith, later-refl xs)
+
+later-trans : (a b c : List ℕ) → Each (λ old new. old ≤ new) a b → Each (λ old new. old ≤ new) b c → Each (λ old new. old ≤ new) a c
+later-trans [] [] [] first second = tt
+later-trans [] [] (z ∷ zs) first second = absurd second
+later-trans [] (y ∷ ys) c first second = absurd first
+later-trans (x ∷ xs) [] c first second = absurd first
+later-trans (x ∷ xs) (y ∷ ys) [] first second = absurd second
+later-trans (x ∷ xs) (y ∷ ys) (z ∷ zs) first second = (omega (arith, first.0, second.0), later-trans xs ys zs first.1 second.1)
+
+rose_later : (before now later : ℕ) → Rose before now → now ≤ later → Rose before later
+rose_later before now later rose less = grind arith
+
+pub rose_at-earlier : (worker : ℕ) (a b c : List ℕ) → Each (λ old new. old ≤ new) a b → RoseAt worker b c → RoseAt worker a c
+rose_at-earlier worker [] [] c less rose = rose
+rose_at-earlier worker [] (y ∷ ys) c less rose = absurd less
+rose_at-earlier worker (x ∷ xs) [] c less rose = absurd less
+rose_at-earlier zero (x ∷ xs) (y ∷ ys) [] less rose = rose
+rose_at-earlier zero (x ∷ xs) (y ∷ ys) (z ∷ zs) less rose = rose_earlier x y z less.0 rose
+rose_at-earlier (suc worker) (x ∷ xs) (y ∷ ys) [] less rose = rose
+rose_at-earlier (suc worker) (x ∷ xs) (y ∷ ys) (z ∷ zs) less rose = rose_at-earlier worker xs ys zs less.1 rose
+
+pub rose_at-later : (worker : ℕ) (a b c : List ℕ) → RoseAt worker a b → Each (λ old new. old ≤ new) b c → RoseAt worker a c
+rose_at-later zero [] b c rose less = absurd rose
+rose_at-later (suc worker) [] b c rose less = absurd rose
+rose_at-later zero (x ∷ xs) [] c rose less = absurd rose
+rose_at-later (suc worker) (x ∷ xs) [] c rose less = absurd rose
+rose_at-later worker (x ∷ xs) (y ∷ ys) [] rose less = absurd less
+rose_at-later zero (x ∷ xs) (y ∷ ys) (z ∷ zs) rose less = rose_later x y z rose less.0
+rose_at-later (suc worker) (x ∷ xs) (y ∷ ys) (z ∷ zs) rose less = rose_at-later worker xs ys zs rose less.1
+
+pub goes_on-refl : (a : Judging) → GoesOn a a
+goes_on-refl a = record { calls = all_gained-refl AnyCall a.calls; faults = later-refl a.faults }
+
+pub goes_on-trans : (a b c : Judging) → GoesOn a b → GoesOn b c → GoesOn a c
+goes_on-trans a b c first second = record {
+  calls = all_gained-trans AnyCall a.calls b.calls c.calls first.calls second.calls;
+  faults = later-trans a.faults b.faults c.faults first.faults second.faults;
+}
+
+-- a call stays made
+
+has_called-later : (before now later : Option (List Call)) (call : Call) → HasCalled before now call → Gained AnyCall now later → HasCalled before later call
 has_called-later None now later call has on = tt
 has_called-later (Some list) now later call has on =
-    let next : GoesOn (Some (list ++ has.0 ++ call ∷ has.1)) later = subst (λ x. GoesOn x later) has.2 on in
+    let next : Gained AnyCall (Some (list ++ has.0 ++ call ∷ has.1)) later = subst (λ x. Gained AnyCall x later) has.2 on in
     (has.0, has.1 ++ next.0, next.1 ∙ ap Some (append_assoc (list ++ has.0) (call ∷ has.1) next.0))
 
-has_called-earlier : (before middle now : Option (List Call)) (call : Call) → GoesOn before middle → HasCalled middle now call → HasCalled before now call
+has_called-earlier : (before middle now : Option (List Call)) (call : Call) → Gained AnyCall before middle → HasCalled middle now call → HasCalled before now call
 has_called-earlier None middle now call on has = tt
 has_called-earlier (Some list) middle now call on has =
     let in_middle : HasCalled (Some (list ++ on.0)) now call = subst (λ x. HasCalled x now call) on.1 has in
     (on.0 ++ in_middle.0, in_middle.1, in_middle.2 ∙ ap (λ front. Some (front ++ call ∷ in_middle.1)) (append_assoc list on.0 in_middle.0))
+
+pub called_by-later : (worker : ℕ) (a b c : List (Option (List Call))) (call : Call) → CalledBy worker a b call → AllGained AnyCall b c → CalledBy worker a c call
+called_by-later zero [] b c call has on = absurd has
+called_by-later (suc worker) [] b c call has on = absurd has
+called_by-later zero (x ∷ xs) [] c call has on = absurd has
+called_by-later (suc worker) (x ∷ xs) [] c call has on = absurd has
+called_by-later worker (x ∷ xs) (y ∷ ys) [] call has on = absurd on
+called_by-later zero (x ∷ xs) (y ∷ ys) (z ∷ zs) call has on = has_called-later x y z call has on.0
+called_by-later (suc worker) (x ∷ xs) (y ∷ ys) (z ∷ zs) call has on = called_by-later worker xs ys zs call has on.1
+
+pub called_by-earlier : (worker : ℕ) (a b c : List (Option (List Call))) (call : Call) → AllGained AnyCall a b → CalledBy worker b c call → CalledBy worker a c call
+called_by-earlier worker [] [] c call on has = has
+called_by-earlier worker [] (y ∷ ys) c call on has = absurd on
+called_by-earlier worker (x ∷ xs) [] c call on has = absurd on
+called_by-earlier zero (x ∷ xs) (y ∷ ys) [] call on has = has
+called_by-earlier zero (x ∷ xs) (y ∷ ys) (z ∷ zs) call on has = has_called-earlier x y z call on.0 has
+called_by-earlier (suc worker) (x ∷ xs) (y ∷ ys) [] call on has = has
+called_by-earlier (suc worker) (x ∷ xs) (y ∷ ys) (z ∷ zs) call on has = called_by-earlier worker xs ys zs call on.1 has
+
+-- a question to one judge, and to the first
+
+gained_call : (old new : Option (List Call)) (call : Call) → new ≡ with_call call old → Gained AnyCall old new
+gained_call old new call is = subst (Gained AnyCall old) (sym is) (gained_one AnyCall old call tt)
+
+gained_once : (old new : Option (List Call)) (name file : List ℕ) (answer : Answer) → AsksOnce old new name file answer → Gained AnyCall old new
+gained_once old new name file Yes once = gained_call old new (call_of once.0 name file Yes) once.1
+gained_once old new name file No once = gained_call old new (call_of once.0 name file No) once.1
+gained_once old new name file Failed once = gained_call old new (call_of once.0 name file Failed) once.1
+gained_once old new name file NoMemory (inl same) = subst (Gained AnyCall old) (sym same) (gained-refl AnyCall old)
+gained_once old new name file NoMemory (inr (test, inl same)) = subst (Gained AnyCall old) (sym same) (gained-refl AnyCall old)
+gained_once old new name file NoMemory (inr (test, inr is)) = gained_call old new (call_of test name file NoMemory) is
+
+gained_or_same : (asks : Bool) (old new : Option (List Call)) (name file : List ℕ) (answer : Answer) → (asks ≡ true → AsksOnce old new name file answer) → (asks ≡ false → new ≡ old) → Gained AnyCall old new
+gained_or_same true old new name file answer once silent = gained_once old new name file answer (once refl)
+gained_or_same false old new name file answer once silent = subst (Gained AnyCall old) (sym (silent refl)) (gained-refl AnyCall old)
+
+-- the first judge was asked
+pub first_goes_on : {J K : Type 0} (judge : JudgeGhosts J K) (bench : List J) (old new : J) (asks : Bool) (name file : List ℕ) (answer : Answer) → 0 < length bench → old ≡ slice_index_or bench 0 old
+    → (asks ≡ true → AsksOnce (judge.calls old) (judge.calls new) name file answer) → (asks ≡ false → new ≡ old) → judge.faults old ≤ judge.faults new
+    → GoesOn (judging judge bench) (judging judge (slice_set bench 0 new))
+first_goes_on judge [] old new asks name file answer some is once silent later = absurd (omega (arith, some))
+first_goes_on judge (x ∷ xs) old new asks name file answer some is once silent later = record {
+  calls = (subst (λ c. Gained AnyCall c (judge.calls new)) (ap judge.calls is) (gained_or_same asks (judge.calls old) (judge.calls new) name file answer once (λ quiet. ap judge.calls (silent quiet))), all_gained-refl AnyCall (map judge.calls xs));
+  faults = (subst (λ f. f ≤ judge.faults new) (ap judge.faults is) later, later-refl (map judge.faults xs));
+}
 
 -- the one call that was made
 called : (old new : Option (List Call)) (call : Call) → new ≡ with_call call old → HasCalled old new call
@@ -41,32 +171,42 @@ called_once old new name file No given once = (once.0, called old new (call_of o
 called_once old new name file Failed given once = (once.0, called old new (call_of once.0 name file Failed) once.1)
 called_once old new name file NoMemory given once = absurd (given refl)
 
+pub called_first : (old new : List (Option (List Call))) (name file : List ℕ) (answer : Answer) → answer ≢ NoMemory → AsksFirst old new name file answer
+    → (test : List ℕ) × CalledBy 0 old new (call_of test name file answer)
+called_first [] new name file answer given once = absurd once
+called_first (x ∷ xs) [] name file answer given once = absurd once
+called_first (x ∷ xs) (y ∷ ys) name file answer given once = called_once x y name file answer given once.0
+
 -- The answer to the one question.
-pub answered_once : (asks : Bool) (Tells : List ℕ → Bool → Type 0) (name : List ℕ) (old new : Option (List Call)) (file : List ℕ) (answer : Answer) → answer ≢ NoMemory
-    → (asks ≡ true → AsksOnce old new name file answer) → AnswersAsTold asks (Tells file) answer → AnswerInRun asks Tells name old new file answer
-answered_once asks Tells name old new file answer given once told = record { asked = λ uses. called_once old new name file answer given (once uses); told = told }
+pub answered_once : (asks : Bool) (Tells : List ℕ → Bool → Type 0) (name : List ℕ) (old new : List (Option (List Call))) (file : List ℕ) (answer : Answer) → answer ≢ NoMemory
+    → (asks ≡ true → AsksFirst old new name file answer) → AnswersAsTold asks (Tells file) answer → AnswerInRun asks Tells name old new file answer
+answered_once asks Tells name old new file answer given once told = record { asked = λ uses. let it = called_first old new name file answer given (once uses) in (0, it.0, it.1); told = told }
 
 pub is_so : (b : Bool) → (b ≡ false → ⊥) → b ≡ true
 is_so true never = refl
 is_so false never = absurd (never refl)
 
--- one call more goes on
-pub with_call-goes_on : (old : Option (List Call)) (call : Call) → GoesOn old (with_call call old)
-with_call-goes_on None call = refl
-with_call-goes_on (Some list) call = (call ∷ [], refl)
-
 -- An answer stays given.
-pub answer_in_run-later : (asks : Bool) (Tells : List ℕ → Bool → Type 0) (name : List ℕ) (before now later : Option (List Call)) (variant : List ℕ) (answer : Answer)
-    → AnswerInRun asks Tells name before now variant answer → GoesOn now later → AnswerInRun asks Tells name before later variant answer
+pub answer_in_run-later : (asks : Bool) (Tells : List ℕ → Bool → Type 0) (name : List ℕ) (before now later : List (Option (List Call))) (variant : List ℕ) (answer : Answer)
+    → AnswerInRun asks Tells name before now variant answer → AllGained AnyCall now later → AnswerInRun asks Tells name before later variant answer
 answer_in_run-later asks Tells name before now later variant answer given on = record {
-  asked = λ uses. let it = given.asked uses in (it.0, has_called-later before now later (call_of it.0 name variant answer) it.1 on);
+  asked = λ uses. let it = given.asked uses in (it.0, it.1, called_by-later it.0 before now later (call_of it.1 name variant answer) it.2 on);
   told = given.told;
 }
 
 -- An answer that was given since a later moment was given since an earlier one.
-pub answer_in_run-earlier : (asks : Bool) (Tells : List ℕ → Bool → Type 0) (name : List ℕ) (before middle now : Option (List Call)) (variant : List ℕ) (answer : Answer)
-    → GoesOn before middle → AnswerInRun asks Tells name middle now variant answer → AnswerInRun asks Tells name before now variant answer
+pub answer_in_run-earlier : (asks : Bool) (Tells : List ℕ → Bool → Type 0) (name : List ℕ) (before middle now : List (Option (List Call))) (variant : List ℕ) (answer : Answer)
+    → AllGained AnyCall before middle → AnswerInRun asks Tells name middle now variant answer → AnswerInRun asks Tells name before now variant answer
 answer_in_run-earlier asks Tells name before middle now variant answer on given = record {
-  asked = λ uses. let it = given.asked uses in (it.0, has_called-earlier before middle now (call_of it.0 name variant answer) on it.1);
+  asked = λ uses. let it = given.asked uses in (it.0, it.1, called_by-earlier it.0 before middle now (call_of it.1 name variant answer) on it.2);
   told = given.told;
+}
+
+-- So is a failed test.
+pub has_failed-earlier : (asks : Bool) (name : List ℕ) (before middle now : Judging) (worker : ℕ) (variant : List ℕ) → GoesOn before middle → HasFailed asks name middle now worker variant
+    → HasFailed asks name before now worker variant
+has_failed-earlier asks name before middle now worker variant on it = record {
+  asked = it.asked;
+  called = (it.called.0, called_by-earlier worker before.calls middle.calls now.calls (call_of it.called.0 name variant Failed) on.calls it.called.1);
+  rose = rose_at-earlier worker before.faults middle.faults now.faults on.faults it.rose;
 }

@@ -1,24 +1,96 @@
--- A bench of judges, seen through what its first judge tells.
-use Rattle.std.specs.Prelude.{ℕ, List, [], ◌∷◌, Option, None}
-use Rattle.cr_outside.specs.Judge.{Call}
-use Rattle.cr_outside.specs.Question.{Says}
+-- A bench of judges, who all have one key, and what they tell at one time.
+use Rattle.std.specs.Prelude.{◌≡◌, ◌⊎◌, ◌≤◌, ℕ, zero, suc, List, [], ◌∷◌, ◌++◌, All, map, Option, None, Some}
+use Rattle.cr_outside.specs.declared.judge.Answer.{Answer}
+use Rattle.cr_outside.specs.declared.judge.Judge.{Ghosts as JudgeGhosts}
+use Rattle.cr_outside.specs.Faults.{Rose}
+use Rattle.cr_outside.specs.Judge.{Call, call_of, with_call}
+use Rattle.cr_outside.specs.Question.{AsksOnce, CountsOnce, Says}
 
--- what the first judge says at its key
-abbrev pub first_says : {J K : Type 0} → (J → K) → (K → Says) → List J → Says
-first_says key says [] = λ test name file. None
-first_says key says (judge ∷ judges) = says (key judge)
+-- all have the first one's key
+abbrev pub HasOneKey : {J K : Type 0} → (J → K) → List J → Type 0
+HasOneKey key [] = Unit {0}
+HasOneKey key (judge ∷ judges) = All (λ other. key other ≡ key judge) judges
 
--- the first judge's calls, where it tells them
-abbrev pub first_calls : {J : Type 0} → (J → Option (List Call)) → List J → Option (List Call)
-first_calls calls [] = None
-first_calls calls (judge ∷ judges) = calls judge
+abbrev pub keys_of : {J K : Type 0} → JudgeGhosts J K → List J → List K
+keys_of judge bench = map judge.key bench
 
--- a count of the first judge: of its calls, or of its faults
-abbrev pub first_count : {J : Type 0} → (J → ℕ) → List J → ℕ
-first_count count [] = 0
-first_count count (judge ∷ judges) = count judge
+-- what is said at the first of some keys
+abbrev pub says_at : {K : Type 0} → (K → Says) → List K → Says
+says_at says [] = λ test name file. None
+says_at says (key ∷ keys) = says key
+
+-- what the judges say at their key
+abbrev pub says_of : {J K : Type 0} → JudgeGhosts J K → List J → Says
+says_of judge bench = says_at judge.says (keys_of judge bench)
 
 -- the judges behind the first one
 abbrev pub others : {J : Type 0} → List J → List J
 others [] = []
 others (judge ∷ judges) = judges
+
+-- What the judges tell at one time: of each its calls, where it tells them, and the count of its faults.
+pub record Judging : Type 0 where
+  pub calls : List (Option (List Call))
+  pub faults : List ℕ
+
+abbrev pub judging : {J K : Type 0} → JudgeGhosts J K → List J → Judging
+judging judge bench = record { calls = map judge.calls bench; faults = map judge.faults bench }
+
+-- Of a judge's calls, where they are told, the later ones go on where the earlier ones stopped, and each since is such a call.
+abbrev pub Gained : (Call → Type 0) → Option (List Call) → Option (List Call) → Type 0
+Gained Is None now = now ≡ None
+Gained Is (Some before) now = (more : List Call) × (now ≡ Some (before ++ more)) × All Is more
+
+-- of each judge, and so of lists of one length
+abbrev pub Each : {A : Type 0} → (A → A → Type 0) → List A → List A → Type 0
+Each R [] [] = Unit {0}
+Each R (x ∷ xs) (y ∷ ys) = R x y × Each R xs ys
+Each R _ _ = ⊥
+
+abbrev pub AllGained : (Call → Type 0) → List (Option (List Call)) → List (Option (List Call)) → Type 0
+AllGained Is before now = Each (Gained Is) before now
+
+-- any call
+abbrev pub AnyCall : Call → Type 0
+AnyCall call = Unit {0}
+
+-- One time comes after another in the same run.
+pub record GoesOn (before now : Judging) : Type 0 where
+  pub calls : AllGained AnyCall before.calls now.calls
+  pub faults : Each (λ old new. old ≤ new) before.faults now.faults
+
+-- Where a judge's calls are told, this call stands among those made since.
+abbrev pub HasCalled : Option (List Call) → Option (List Call) → Call → Type 0
+HasCalled None now call = Unit {0}
+HasCalled (Some before) now call = (some rest : List Call) × (now ≡ Some (before ++ some ++ call ∷ rest))
+
+-- the call was made by the judge of this worker
+abbrev pub CalledBy : ℕ → List (Option (List Call)) → List (Option (List Call)) → Call → Type 0
+CalledBy zero (before ∷ rest) (now ∷ later) call = HasCalled before now call
+CalledBy (suc worker) (before ∷ rest) (now ∷ later) call = CalledBy worker rest later call
+CalledBy _ _ _ call = ⊥
+
+-- the count of faults of this worker's judge rose
+abbrev pub RoseAt : ℕ → List ℕ → List ℕ → Type 0
+RoseAt zero (before ∷ rest) (now ∷ later) = Rose before now
+RoseAt (suc worker) (before ∷ rest) (now ∷ later) = RoseAt worker rest later
+RoseAt _ _ _ = ⊥
+
+-- the first judge is asked as this says
+abbrev pub AsksFirst : List (Option (List Call)) → List (Option (List Call)) → List ℕ → List ℕ → Answer → Type 0
+AsksFirst (before ∷ rest) (now ∷ later) name file answer = AsksOnce before now name file answer × (later ≡ rest)
+AsksFirst _ _ name file answer = ⊥
+
+-- the first judge's number of calls after it
+abbrev pub CountsFirst : List ℕ → List ℕ → Answer → Type 0
+CountsFirst (before ∷ rest) (now ∷ later) answer = CountsOnce before now answer × (later ≡ rest)
+CountsFirst _ _ answer = ⊥
+
+-- with one call more of the first judge
+abbrev pub with_first_call : Call → List (Option (List Call)) → List (Option (List Call))
+with_first_call call [] = []
+with_first_call call (calls ∷ rest) = with_call call calls ∷ rest
+
+-- Nothing was asked, or one call was made, about this file and under this name.
+abbrev pub CallsAbout : List (Option (List Call)) → List (Option (List Call)) → List ℕ → List ℕ → Type 0
+CallsAbout before now name file = (now ≡ before) ⊎ ((test : List ℕ) × (answer : Answer) × (now ≡ with_first_call (call_of test name file answer) before))

@@ -1,7 +1,6 @@
 -- What a reduction's end says.
 use Rattle.std.specs.Prelude.{◌≡◌, ◌⊎◌, ℕ, ◌+◌, true, List, [], length, Option, Some}
-use Rattle.cr_outside.specs.Judge.{Call}
-use Rattle.cr_outside.specs.Faults.{Rose}
+use Rattle.cr_reduce.specs.Bench.{Judging, RoseAt}
 use Rattle.cr_reduce.specs.declared.end.End.{End}
 use Rattle.cr_reduce.specs.declared.walk.Walk.{Walk}
 use Rattle.cr_reduce.specs.declared.end.Why.{Why}
@@ -40,22 +39,22 @@ EndsToldBy reduction file limit e (Fault turn worker) = (turn ≡ e.turns + 1) �
 EndsToldBy reduction file limit e why = EndsBy reduction file limit e why
 
 -- by the answers given in the run
-abbrev pub EndsInRun : Search → Option (List Call) → Option ℕ → List ℕ → End → Type 0
-EndsInRun s now limit file e = EndsBy (ReducesFileInRun s now file) file limit e e.why
+abbrev pub EndsInRun : Search → Judging → Judging → Option ℕ → List ℕ → End → Type 0
+EndsInRun s before now limit file e = EndsBy (ReducesFileInRun s before now file) file limit e e.why
 
 -- by the told answers: the one-thread first-accepted reduction
 abbrev pub EndsAsTold : Search → Option ℕ → List ℕ → End → Type 0
 EndsAsTold s limit file e = EndsToldBy (ReducesFileAsTold s file) file limit e e.why
 
 -- No pass has an acceptable variant of the result left: in the run each was rejected.
-abbrev pub IsFixedInRun : Search → Option (List Call) → List ℕ → Type 0
-IsFixedInRun s now file = (offer : Offer) × s.Offers file offer × AllRejected offer (RejectsInRun s now) file 0 (length (cursors_of offer))
+abbrev pub IsFixedInRun : Search → Judging → Judging → List ℕ → Type 0
+IsFixedInRun s before now file = (offer : Offer) × s.Offers file offer × AllRejected offer (RejectsInRun s before now) file 0 (length (cursors_of offer))
 
 -- and by the told answers
 abbrev pub IsFixedAsTold : Search → List ℕ → Type 0
 IsFixedAsTold s file = (offer : Offer) × s.Offers file offer × AllRejected offer (RejectsAsTold s) file 0 (length (cursors_of offer))
 
--- A fault comes only where the question asks, and the judge's count of faults rose.
-abbrev pub FaultsWithCause : Search → ℕ → ℕ → Why → Type 0
-FaultsWithCause s before now (Fault turn worker) = (s.asks ≡ true) × Rose before now
+-- A fault comes only where the question asks, and the count of faults of that worker's judge rose.
+abbrev pub FaultsWithCause : Search → Judging → Judging → Why → Type 0
+FaultsWithCause s before now (Fault turn worker) = (s.asks ≡ true) × RoseAt worker before.faults now.faults
 FaultsWithCause s before now _ = Unit {0}

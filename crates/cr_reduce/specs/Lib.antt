@@ -1,7 +1,7 @@
 pub mod Sizes
+pub mod Bench
 pub mod Trials
 pub mod Reduction
-pub mod Bench
 pub mod Search
 pub mod Walk
 pub mod Ends

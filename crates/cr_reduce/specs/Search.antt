@@ -1,5 +1,5 @@
 -- What a reduction searches: what the passes propose, which files are lawful, and what is asked about them.
-use Rattle.std.specs.Prelude.{◌≡◌, ℕ, Bool, List, [], ◌∷◌, ◌++◌, Option, Some, None}
+use Rattle.std.specs.Prelude.{◌≡◌, ℕ, Bool, List, [], ◌∷◌, ◌++◌, Option, Some}
 use Rattle.std.specs.List.{slice_get}
 use Rattle.cr_cursor.specs.declared.law.Law.{Ghosts as LawGhosts}
 use Rattle.cr_cursor.specs.declared.passes.Passes.{Ghosts as PassesGhosts}
@@ -10,7 +10,7 @@ use Rattle.cr_outside.specs.Question.{Says, IsTold}
 use Rattle.cr_reduce.specs.declared.end.Accepted.{Accepted}
 use Rattle.cr_cursor.specs.declared.passes.Cursor.{Cursor}
 use Rattle.cr_cursor.specs.Variants.{Offer}
-use Rattle.cr_reduce.specs.Bench.{first_calls, first_says}
+use Rattle.cr_reduce.specs.Bench.{AllGained, Judging, says_of}
 use Rattle.cr_reduce.specs.Sizes.{IsSmaller}
 use Rattle.cr_reduce.specs.Trials.{IsAccepted, IsFailed, IsRejected, ToldAnswer, AnswerInRun}
 use Rattle.cr_reduce.specs.Reduction.{FailedTrials, Proposals, Trial, State, Outcome, Reduces, cursors_of, none_fails, start_of}
@@ -25,41 +25,38 @@ pub record Search : Type 1 where
   pub Tells : List ℕ → Bool → Type 0
   -- the name under which a test sees the file
   pub name : List ℕ
-  -- the calls of the judge before the run
-  pub before : Option (List Call)
 
-abbrev pub search_of : Proposals → (List ℕ → Type 0) → Bool → (Says → List ℕ → List ℕ → Bool → Type 0) → Says → List ℕ → Option (List Call) → Search
-search_of Offers Lawful asks tells says name before = record {
+abbrev pub search_of : Proposals → (List ℕ → Type 0) → Bool → (Says → List ℕ → List ℕ → Bool → Type 0) → Says → List ℕ → Search
+search_of Offers Lawful asks tells says name = record {
   Offers = Offers;
   Lawful = Lawful;
   asks = asks;
   Tells = λ file answer. tells says name file answer;
   name = name;
-  before = before;
 }
 
 -- The search of passes, a law, a question and a name with a bench of judges: what each of these traits tells of them.
 abbrev pub searching : {P I L Q J K : Type 0} → PassesGhosts P I → P → LawGhosts L → L → QuestionGhosts Q → Q → List ℕ → JudgeGhosts J K → List J → Search
 searching passes p law l question q name judge bench =
-    search_of (passes.offers p) (law.lawful l) (question.asks q) (question.tells q) (first_says judge.key judge.says bench) name (first_calls judge.calls bench)
+    search_of (passes.offers p) (law.lawful l) (question.asks q) (question.tells q) (says_of judge bench) name
 
--- with the answers that were given in the run so far
-abbrev pub AcceptsInRun : Search → Option (List Call) → Trial
-AcceptsInRun s now = IsAccepted s.Lawful (AnswerInRun s.asks s.Tells s.name s.before now)
+-- with the answers that were given in the run, from one time to another
+abbrev pub AcceptsInRun : Search → Judging → Judging → Trial
+AcceptsInRun s before now = IsAccepted s.Lawful (AnswerInRun s.asks s.Tells s.name before.calls now.calls)
 
-abbrev pub RejectsInRun : Search → Option (List Call) → Trial
-RejectsInRun s now = IsRejected s.Lawful (AnswerInRun s.asks s.Tells s.name s.before now)
+abbrev pub RejectsInRun : Search → Judging → Judging → Trial
+RejectsInRun s before now = IsRejected s.Lawful (AnswerInRun s.asks s.Tells s.name before.calls now.calls)
 
 -- so far there is one worker
-abbrev pub FailsInRun : Search → Option (List Call) → FailedTrials
-FailsInRun s now worker file variant = (worker ≡ 0) × IsFailed s.Lawful (AnswerInRun s.asks s.Tells s.name s.before now) file variant
+abbrev pub FailsInRun : Search → Judging → Judging → FailedTrials
+FailsInRun s before now worker file variant = (worker ≡ 0) × IsFailed s.Lawful s.asks s.name before now worker file variant
 
-abbrev pub ReducesInRun : Search → Option (List Call) → Option ℕ → State → Outcome → Type 0
-ReducesInRun s now limit st out = Reduces s.Offers (AcceptsInRun s now) (RejectsInRun s now) (FailsInRun s now) limit st out
+abbrev pub ReducesInRun : Search → Judging → Judging → Option ℕ → State → Outcome → Type 0
+ReducesInRun s before now limit st out = Reduces s.Offers (AcceptsInRun s before now) (RejectsInRun s before now) (FailsInRun s before now) limit st out
 
 -- the whole reduction of a file
-abbrev pub ReducesFileInRun : Search → Option (List Call) → List ℕ → Option ℕ → Outcome → Type 0
-ReducesFileInRun s now file limit out = (offer : Offer) × s.Offers file offer × ReducesInRun s now limit (start_of file offer) out
+abbrev pub ReducesFileInRun : Search → Judging → Judging → List ℕ → Option ℕ → Outcome → Type 0
+ReducesFileInRun s before now file limit out = (offer : Offer) × s.Offers file offer × ReducesInRun s before now limit (start_of file offer) out
 
 -- with the told answers
 abbrev pub AcceptsAsTold : Search → Trial
@@ -99,12 +96,10 @@ pub record IsCandidate (s : Search) (start : List ℕ) (accepted : List Accepted
   pub smaller : IsSmaller variant file
   pub lawful : s.Lawful variant
 
--- each call is about such a file, under the file's own name
-abbrev pub AboutCandidates : Search → List ℕ → List Accepted → List Call → Type 0
-AboutCandidates s start accepted [] = Unit {0}
-AboutCandidates s start accepted (call ∷ calls) = (call.name ≡ s.name) × IsCandidate s start accepted call.file × AboutCandidates s start accepted calls
+-- a call about such a file, under the file's own name
+abbrev pub AboutCandidate : Search → List ℕ → List Accepted → Call → Type 0
+AboutCandidate s start accepted call = (call.name ≡ s.name) × IsCandidate s start accepted call.file
 
--- The calls made since the run began are about candidates.
-abbrev pub AsksOnlyCandidates : Search → List ℕ → List Accepted → Option (List Call) → Option (List Call) → Type 0
-AsksOnlyCandidates s start accepted None now = Unit {0}
-AsksOnlyCandidates s start accepted (Some before) now = (more : List Call) × (now ≡ Some (before ++ more)) × AboutCandidates s start accepted more
+-- The calls of all judges made from one time to another are about candidates.
+abbrev pub AsksOnlyCandidates : Search → List ℕ → List Accepted → Judging → Judging → Type 0
+AsksOnlyCandidates s start accepted before now = AllGained (AboutCandidate s start accepted) before.calls now.calls

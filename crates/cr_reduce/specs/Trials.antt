@@ -1,9 +1,10 @@
 -- When a variant is accepted, and when its trial is rejected.
-use Rattle.std.specs.Prelude.{◌≡◌, ◌⊎◌, ℕ, ◌<◌, ◌≤◌, Bool, true, false, List, ◌∷◌, ◌++◌, Option, Some, None}
+use Rattle.std.specs.Prelude.{◌≡◌, ◌⊎◌, ℕ, ◌<◌, ◌≤◌, Bool, true, false, List, Option}
 use Rattle.cr_outside.specs.declared.judge.Answer.{Answer}
 use Rattle.cr_outside.specs.declared.judge.Answer.TheVariants.{Yes, No, Failed}
-use Rattle.cr_outside.specs.Judge.{Call, call_of, with_call}
+use Rattle.cr_outside.specs.Judge.{Call, call_of}
 use Rattle.cr_outside.specs.Question.{AnswersAsTold}
+use Rattle.cr_reduce.specs.Bench.{CalledBy, Judging, RoseAt}
 use Rattle.cr_reduce.specs.Sizes.{HasSize, IsSmaller}
 
 -- A variant is accepted where it is smaller, lawful, and the answer about it is yes.
@@ -18,37 +19,29 @@ pub data IsRejected (Lawful : List ℕ → Type 0) (Answered : List ℕ → Answ
   unlawful : (Lawful variant → ⊥) → IsRejected Lawful Answered file variant
   answered_no : Answered variant No → IsRejected Lawful Answered file variant
 
--- A trial failed where the variant is smaller and lawful, and the answer about it is that the test failed.
-pub record IsFailed (Lawful : List ℕ → Type 0) (Answered : List ℕ → Answer → Type 0) (file variant : List ℕ) : Type 0 where
-  pub smaller : IsSmaller variant file
-  pub lawful : Lawful variant
-  pub answered : Answered variant Failed
-
 -- the told answer about a variant
 abbrev pub ToldAnswer : (List ℕ → Bool → Type 0) → List ℕ → Answer → Type 0
 ToldAnswer Tells variant Yes = Tells variant true
 ToldAnswer Tells variant No = Tells variant false
 ToldAnswer Tells variant _ = ⊥
 
--- Of a told list of calls, the later one goes on where the earlier one stopped.
-abbrev pub GoesOn : Option (List Call) → Option (List Call) → Type 0
-GoesOn None now = now ≡ None
-GoesOn (Some before) now = (more : List Call) × (now ≡ Some (before ++ more))
-
--- Where the calls are told, this call stands among those made since.
-abbrev pub HasCalled : Option (List Call) → Option (List Call) → Call → Type 0
-HasCalled None now call = Unit {0}
-HasCalled (Some before) now call = (some rest : List Call) × (now ≡ Some (before ++ some ++ call ∷ rest))
-
 -- The answer about a variant in one run, of which `before` and `now` are the calls at its beginning and so far: where
--- the question asks, a call of the run answered so; where the answer is told, it is the told one.
-pub record AnswerInRun (asks : Bool) (Tells : List ℕ → Bool → Type 0) (name : List ℕ) (before now : Option (List Call)) (variant : List ℕ) (answer : Answer) : Type 0 where
-  pub asked : asks ≡ true → (test : List ℕ) × HasCalled before now (call_of test name variant answer)
+-- the question asks, a call of some worker's judge answered so; where the answer is told, it is the told one.
+pub record AnswerInRun (asks : Bool) (Tells : List ℕ → Bool → Type 0) (name : List ℕ) (before now : List (Option (List Call))) (variant : List ℕ) (answer : Answer) : Type 0 where
+  pub asked : asks ≡ true → (worker : ℕ) × (test : List ℕ) × CalledBy worker before now (call_of test name variant answer)
   pub told : AnswersAsTold asks (Tells variant) answer
 
--- Nothing was asked, or one call was made, about this file and under this name.
-abbrev pub CallsAbout : Option (List Call) → Option (List Call) → List ℕ → List ℕ → Type 0
-CallsAbout before now name file = (now ≡ before) ⊎ ((test : List ℕ) × (answer : Answer) × (now ≡ with_call (call_of test name file answer) before))
+-- A call of this worker's judge about a variant answered that the test failed, its count of faults risen; so the question asks.
+pub record HasFailed (asks : Bool) (name : List ℕ) (before now : Judging) (worker : ℕ) (variant : List ℕ) : Type 0 where
+  pub asked : asks ≡ true
+  pub called : (test : List ℕ) × CalledBy worker before.calls now.calls (call_of test name variant Failed)
+  pub rose : RoseAt worker before.faults now.faults
+
+-- A trial failed with a worker where the variant is smaller and lawful, and that worker's test failed.
+pub record IsFailed (Lawful : List ℕ → Type 0) (asks : Bool) (name : List ℕ) (before now : Judging) (worker : ℕ) (file variant : List ℕ) : Type 0 where
+  pub smaller : IsSmaller variant file
+  pub lawful : Lawful variant
+  pub failed : HasFailed asks name before now worker variant
 
 -- A lawful variant of this size, below a bound.
 pub record IsGood (Lawful : List ℕ → Type 0) (variant : List ℕ) (bound size : ℕ) : Type 0 where

@@ -1,10 +1,8 @@
 -- The walk of a reduction, as its loop has it.
 use Rattle.std.specs.Prelude.{◌≡◌, ◌≢◌, ℕ, ◌+◌, ◌*◌, ◌-◌, ◌<◌, ◌≤◌, Bool, true, false, List, ◌++◌, length, Option, Some}
 use Rattle.std.specs.List.{slice_get}
-use Rattle.cr_outside.specs.Judge.{Call, call_of, with_call}
-use Rattle.cr_outside.specs.declared.judge.Answer.{Answer}
+use Rattle.cr_outside.specs.Judge.{Call}
 use Rattle.cr_cursor.specs.declared.passes.Cursor.{Cursor}
-use Rattle.cr_outside.specs.Faults.{Rose}
 use Rattle.cr_reduce.specs.declared.end.Accepted.{Accepted}
 use Rattle.cr_reduce.specs.declared.end.Why.{Why}
 use Rattle.cr_reduce.specs.declared.end.Why.TheVariants.{Fixed, Limit, Fault, NoMemory}
@@ -15,8 +13,8 @@ use Rattle.cr_reduce.specs.declared.trial.Verdict.TheVariants as verdict
 use Rattle.cr_reduce.specs.declared.walk.Walk.{Walk}
 use Rattle.cr_cursor.specs.Variants.{Offer}
 use Rattle.cr_reduce.specs.Sizes.{HasSize, IsSmaller}
-use Rattle.cr_reduce.specs.Trials.{GoesOn}
-use Rattle.cr_reduce.specs.Reduction.{Proposals, State, Outcome, Within, cursors_of, moved, next_round, taken}
+use Rattle.cr_reduce.specs.Bench.{AllGained, GoesOn, Judging}
+use Rattle.cr_reduce.specs.Reduction.{AllRejected, IsFirstAccepted, Proposals, State, Outcome, Within, cursors_of, moved, next_round, taken}
 use Rattle.cr_reduce.specs.Search.{Search, AcceptsInRun, AsksOnlyCandidates, FailsInRun, RejectsInRun, ReducesInRun, ChainsTo}
 
 -- The state of a walk, where an index and a file's bytes make this offer.
@@ -41,47 +39,66 @@ pub record IsSound {T : Type 0} (p : Proposals) (offer : T → List ℕ → Offe
   pub placed : w.position ≤ w.count
   pub bounded : w.turns + work_of w ≤ 36028797018963968
 
--- one position further, by a trial
-pub data MovesOn (s : Search) (now : Option (List Call)) (from to : State) : Type 0 where
-  rejected : (at : Cursor) → slice_get (cursors_of from.offer) from.position ≡ Some at → RejectsInRun s now from.file (from.offer.bytes at)
-      → to ≡ moved from (from.position + 1) (from.turns + 1) → MovesOn s now from to
-  accepted : (at : Cursor) (size : ℕ) (next : Offer) → slice_get (cursors_of from.offer) from.position ≡ Some at → AcceptsInRun s now from.file (from.offer.bytes at)
-      → HasSize (from.offer.bytes at) size → s.Offers (from.offer.bytes at) next → to ≡ taken from at size (from.turns + 1) next → MovesOn s now from to
+-- From one state to another over rejected positions, none or more.
+pub record GoesOver (s : Search) (before now : Judging) (from to : State) : Type 0 where
+  pub position : ℕ
+  pub turns : ℕ
+  pub low : from.position ≤ position
+  pub high : position ≤ length (cursors_of from.offer)
+  pub all : AllRejected from.offer (RejectsInRun s before now) from.file from.position position
+  pub count : turns + from.position ≡ from.turns + position
+  pub is : to ≡ moved from position turns
 
--- the calls of one trial: none, or one about the variant, which is smaller and lawful
-pub data AsksAtMostOnce (s : Search) (now : Option (List Call)) (from : State) : Type 0 where
-  not_asked : now ≡ s.before → AsksAtMostOnce s now from
-  asked : (at : Cursor) (test : List ℕ) (answer : Answer) → slice_get (cursors_of from.offer) from.position ≡ Some at
-      → IsSmaller (from.offer.bytes at) from.file → s.Lawful (from.offer.bytes at)
-      → now ≡ with_call (call_of test s.name (from.offer.bytes at) answer) s.before → AsksAtMostOnce s now from
+-- further on, over rejected positions, or to the first accepted one
+pub data MovesOn (s : Search) (before now : Judging) (from to : State) : Type 0 where
+  passed : GoesOver s before now from to → MovesOn s before now from to
+  accepted : (position : ℕ) (at : Cursor) (size turns : ℕ) (next : Offer)
+      → IsFirstAccepted from.offer (AcceptsInRun s before now) (RejectsInRun s before now) from.file from.position position at
+      → HasSize (from.offer.bytes at) size → turns + from.position ≡ from.turns + position + 1 → s.Offers (from.offer.bytes at) next
+      → to ≡ taken from at size turns next → MovesOn s before now from to
+
+-- A smaller, lawful variant of the state's file.
+pub record IsTried (s : Search) (from : State) (variant : List ℕ) : Type 0 where
+  pub position : ℕ
+  pub at : Cursor
+  pub there : slice_get (cursors_of from.offer) position ≡ Some at
+  pub is : variant ≡ from.offer.bytes at
+  pub smaller : IsSmaller variant from.file
+  pub lawful : s.Lawful variant
+
+-- a call about such a variant, under the file's own name
+abbrev pub AboutTried : Search → State → Call → Type 0
+AboutTried s from call = (call.name ≡ s.name) × IsTried s from call.file
+
+-- The calls made from one time to another are about such variants.
+abbrev pub AsksOnlyTried : Search → Judging → Judging → State → Type 0
+AsksOnlyTried s before now from = AllGained (AboutTried s from) before.calls now.calls
 
 -- What completes the walk from one state on completes it from the other on, whatever is answered later.
-pub record Leads (s : Search) (now : Option (List Call)) (from to : State) : Type 0 where
+pub record Leads (s : Search) (before now : Judging) (from to : State) : Type 0 where
   pub later : from.turns ≤ to.turns
-  pub leads : (after : Option (List Call)) (limit : Option ℕ) (out : Outcome) → GoesOn now after → Within limit to.turns → ReducesInRun s after limit to out → ReducesInRun s after limit from out
+  pub leads : (after : Judging) (limit : Option ℕ) (out : Outcome) → GoesOn now after → Within limit to.turns → ReducesInRun s before after limit to out → ReducesInRun s before after limit from out
 
--- The trial of the variant at the state's position failed, with a judge that is asked, its count of faults risen.
-pub record FailsHere (s : Search) (calls : Option (List Call)) (st : State) (before now : ℕ) (worker : ℕ) : Type 0 where
+-- The trial of the variant at the state's position failed with this worker.
+pub record FailsHere (s : Search) (before now : Judging) (st : State) (worker : ℕ) : Type 0 where
   pub at : Cursor
   pub there : slice_get (cursors_of st.offer) st.position ≡ Some at
-  pub asks : s.asks ≡ true
-  pub rose : Rose before now
-  pub failed : FailsInRun s calls worker st.file (st.offer.bytes at)
+  pub failed : FailsInRun s before now worker st.file (st.offer.bytes at)
 
 -- Why a position ended the walk: want of memory, or the trial failed at this very turn.
-abbrev pub IsHalt : Search → Option (List Call) → State → ℕ → ℕ → Why → Type 0
-IsHalt s calls st before now NoMemory = Unit {0}
-IsHalt s calls st before now (Fault turn worker) = (turn ≡ st.turns + 1) × FailsHere s calls st before now worker
-IsHalt s calls st before now Fixed = ⊥
-IsHalt s calls st before now Limit = ⊥
+abbrev pub IsHalt : Search → Judging → Judging → State → Why → Type 0
+IsHalt s before now st NoMemory = Unit {0}
+IsHalt s before now st (Fault turn worker) = (turn ≡ st.turns + 1) × FailsHere s before now st worker
+IsHalt s before now st Fixed = ⊥
+IsHalt s before now st Limit = ⊥
 
 -- The variant of this cursor is accepted, and the walk may take it.
-pub record IsTakable (s : Search) (now : Option (List Call)) (from : State) (old_size : ℕ) (variant : List ℕ) (at : Cursor) (size : ℕ) : Type 0 where
+pub record IsTakable (s : Search) (before now : Judging) (from : State) (old_size : ℕ) (variant : List ℕ) (at : Cursor) (size : ℕ) : Type 0 where
   pub there : slice_get (cursors_of from.offer) from.position ≡ Some at
   pub is : variant ≡ from.offer.bytes at
   pub has : HasSize variant size
   pub less : size < old_size
-  pub moves : (next : Offer) → s.Offers variant next → MovesOn s now from (taken from at size (from.turns + 1) next)
+  pub moves : (next : Offer) → s.Offers variant next → MovesOn s before now from (taken from at size (from.turns + 1) next)
 
 -- the verdict on the variant of a cursor
 abbrev pub Considers : Cursor → Verdict → Considered → Type 0
@@ -90,28 +107,28 @@ Considers at verdict.Rejected outcome = outcome ≡ considered.Rejected
 Considers at verdict.Failed outcome = outcome ≡ considered.Failed
 Considers at verdict.NoMemory outcome = outcome ≡ considered.NoMemory
 
--- one step: a position, or a new round
-pub data Advances (s : Search) (now : Option (List Call)) (from to : State) : Type 0 where
-  moves : MovesOn s now from to → Advances s now from to
-  round : from.position ≡ length (cursors_of from.offer) → from.changed ≡ true → to ≡ next_round from → Advances s now from to
+-- one step: some positions, or a new round
+pub data Advances (s : Search) (before now : Judging) (from to : State) : Type 0 where
+  moves : MovesOn s before now from to → Advances s before now from to
+  round : from.position ≡ length (cursors_of from.offer) → from.changed ≡ true → to ≡ next_round from → Advances s before now from to
 
 -- why the walk ends in a state
-abbrev pub EndsHere : Search → Option (List Call) → Option ℕ → ℕ → ℕ → State → Why → Type 0
-EndsHere s calls limit before now st Fixed = (st.position ≡ length (cursors_of st.offer)) × (st.changed ≡ false)
-EndsHere s calls limit before now st Limit = (st.position < length (cursors_of st.offer)) × (limit ≡ Some st.turns)
-EndsHere s calls limit before now st (Fault turn worker) = (turn ≡ st.turns + 1) × (limit ≢ Some st.turns) × FailsHere s calls st before now worker
-EndsHere s calls limit before now st NoMemory = Unit {0}
+abbrev pub EndsHere : Search → Judging → Judging → Option ℕ → State → Why → Type 0
+EndsHere s before now limit st Fixed = (st.position ≡ length (cursors_of st.offer)) × (st.changed ≡ false)
+EndsHere s before now limit st Limit = (st.position < length (cursors_of st.offer)) × (limit ≡ Some st.turns)
+EndsHere s before now limit st (Fault turn worker) = (turn ≡ st.turns + 1) × (limit ≢ Some st.turns) × FailsHere s before now st worker
+EndsHere s before now limit st NoMemory = Unit {0}
 
 -- What was accepted on the way from one state to another, and that the test was asked about nothing but candidates.
-pub record Traces (s : Search) (now : Option (List Call)) (from to : State) : Type 0 where
+pub record Traces (s : Search) (before now : Judging) (from to : State) : Type 0 where
   pub more : List Accepted
   pub accepted_is : to.accepted ≡ from.accepted ++ more
   pub last : ChainsTo s.Offers from.file more to.file
   pub offered : s.Offers to.file to.offer
-  pub asks : AsksOnlyCandidates s from.file more s.before now
+  pub asks : AsksOnlyCandidates s from.file more before now
 
--- The walk went from one state to another, with the calls made since.
-pub record Walked (s : Search) (now : Option (List Call)) (from to : State) : Type 0 where
-  pub goes_on : GoesOn s.before now
-  pub leads : Leads s now from to
-  pub traces : Traces s now from to
+-- The walk went from one state to another, with the calls made from one time to another.
+pub record Walked (s : Search) (before now : Judging) (from to : State) : Type 0 where
+  pub goes_on : GoesOn before now
+  pub leads : Leads s before now from to
+  pub traces : Traces s before now from to

@@ -1,10 +1,10 @@
 // The steps of the walk, up to its end.
 ghost use Rattle.std.specs.Prelude.{◌≡◌, ◌<◌, ◌≤◌, ℕ, List, IsSome, Some, None, length, false};
 ghost use Rattle.cr_reduce.specs.declared.end.Why.{Why};
-ghost use Rattle.cr_reduce.specs.Bench.{first_calls, first_count, first_says, others};
+ghost use Rattle.cr_reduce.specs.Bench.{GoesOn, judging, keys_of, others};
 ghost use Rattle.cr_reduce.specs.Reduction.{Within, cursors_of};
 ghost use Rattle.cr_reduce.specs.Search.{searching};
-ghost use Rattle.cr_reduce.specs.Walk.{Advances, AsksAtMostOnce, EndsHere, IsSound, Walked, state_of, work_of};
+ghost use Rattle.cr_reduce.specs.Walk.{Advances, AsksOnlyTried, EndsHere, GoesOver, IsSound, Walked, state_of, work_of};
 
 use crate::bench::Bench;
 use crate::end::Why;
@@ -28,20 +28,20 @@ fn advance<P: Passes, L: Law, Q: Question, J: Judge>(
 ) -> Option<Why>
     requires sound { IsSound (P.offers passes.now) (P.offer passes.now) walk.old }
     ensures advances { result ≡ None → Advances (searching P.Passes passes.now L.Law law.now Q.Question question.now name.now J.Judge bench.old)
-        (first_calls J.calls bench.new) (state_of (P.offer passes.now) walk.old) (state_of (P.offer passes.now) walk.new) }
+        (judging J.Judge bench.old) (judging J.Judge bench.new) (state_of (P.offer passes.now) walk.old) (state_of (P.offer passes.now) walk.new) }
     ensures sound { result ≡ None → IsSound (P.offers passes.now) (P.offer passes.now) walk.new }
     ensures less { result ≡ None → work_of walk.new < work_of walk.old }
-    ensures within { result ≡ None → Within limit walk.old.turns → Within limit walk.new.turns }
-    ensures same { IsSome result → state_of (P.offer passes.now) walk.new ≡ state_of (P.offer passes.now) walk.old }
+    ensures within { Within limit walk.old.turns → Within limit walk.new.turns }
+    ensures passed { IsSome result → GoesOver (searching P.Passes passes.now L.Law law.now Q.Question question.now name.now J.Judge bench.old)
+        (judging J.Judge bench.old) (judging J.Judge bench.new) (state_of (P.offer passes.now) walk.old) (state_of (P.offer passes.now) walk.new) }
     ensures ended { (why : Why) → result ≡ Some why → EndsHere (searching P.Passes passes.now L.Law law.now Q.Question question.now name.now J.Judge bench.old)
-        (first_calls J.calls bench.new) limit (first_count J.faults bench.old) (first_count J.faults bench.new) (state_of (P.offer passes.now) walk.old) why }
-    ensures asks { AsksAtMostOnce (searching P.Passes passes.now L.Law law.now Q.Question question.now name.now J.Judge bench.old)
-        (first_calls J.calls bench.new) (state_of (P.offer passes.now) walk.old) }
-    ensures key { first_says J.key J.says bench.new ≡ first_says J.key J.says bench.old }
+        (judging J.Judge bench.old) (judging J.Judge bench.new) limit (state_of (P.offer passes.now) walk.new) why }
+    ensures asks { AsksOnlyTried (searching P.Passes passes.now L.Law law.now Q.Question question.now name.now J.Judge bench.old)
+        (judging J.Judge bench.old) (judging J.Judge bench.new) (state_of (P.offer passes.now) walk.old) }
+    ensures keys { keys_of J.Judge bench.new ≡ keys_of J.Judge bench.old }
     ensures silent { Q.asks question.now ≡ false → bench.new ≡ bench.old }
     ensures others { others bench.new ≡ others bench.old }
-    ensures count { length bench.new ≡ length bench.old }
-    ensures later { first_count J.faults bench.old ≤ first_count J.faults bench.new }
+    ensures goes_on { GoesOn (judging J.Judge bench.old) (judging J.Judge bench.new) }
 {
     if walk.position == walk.count {
         if !walk.changed {
@@ -71,16 +71,14 @@ pub fn walk_on<P: Passes, L: Law, Q: Question, J: Judge>(
     requires sound { IsSound (P.offers passes.now) (P.offer passes.now) walk.old }
     requires within { Within limit walk.old.turns }
     ensures walked { Walked (searching P.Passes passes.now L.Law law.now Q.Question question.now name.now J.Judge bench.old)
-        (first_calls J.calls bench.new) (state_of (P.offer passes.now) walk.old) (state_of (P.offer passes.now) walk.new) }
+        (judging J.Judge bench.old) (judging J.Judge bench.new) (state_of (P.offer passes.now) walk.old) (state_of (P.offer passes.now) walk.new) }
     ensures ended { EndsHere (searching P.Passes passes.now L.Law law.now Q.Question question.now name.now J.Judge bench.old)
-        (first_calls J.calls bench.new) limit (first_count J.faults bench.old) (first_count J.faults bench.new) (state_of (P.offer passes.now) walk.new) result }
+        (judging J.Judge bench.old) (judging J.Judge bench.new) limit (state_of (P.offer passes.now) walk.new) result }
     ensures placed { walk.new.position ≤ length (cursors_of (P.offer passes.now walk.new.prep walk.new.file.items)) }
     ensures within { Within limit walk.new.turns }
-    ensures key { first_says J.key J.says bench.new ≡ first_says J.key J.says bench.old }
+    ensures keys { keys_of J.Judge bench.new ≡ keys_of J.Judge bench.old }
     ensures silent { Q.asks question.now ≡ false → bench.new ≡ bench.old }
     ensures others { others bench.new ≡ others bench.old }
-    ensures count { length bench.new ≡ length bench.old }
-    ensures later { first_count J.faults bench.old ≤ first_count J.faults bench.new }
 {
     let mut variant = Vec::new(alloc);
     loop {

@@ -1,8 +1,7 @@
 // The judges of a run.
-ghost use Rattle.std.specs.Prelude.{◌≡◌, ◌≢◌, ◌<◌, ◌≤◌, IfOk, length, true, false};
-ghost use Rattle.cr_outside.specs.Faults.{Rose};
-ghost use Rattle.cr_outside.specs.Question.{AnswersAsTold, AsksOnce, CountsOnce};
-ghost use Rattle.cr_reduce.specs.Bench.{first_calls, first_count, first_says, others};
+ghost use Rattle.std.specs.Prelude.{◌≡◌, ◌≢◌, ◌<◌, ◌≤◌, IfOk, length, map, true, false};
+ghost use Rattle.cr_outside.specs.Question.{AnswersAsTold};
+ghost use Rattle.cr_reduce.specs.Bench.{AsksFirst, CountsFirst, GoesOn, HasOneKey, RoseAt, judging, keys_of, others, says_of};
 
 use cr_outside::{Answer, Judge, NoMemory, Question};
 use std::alloc::Global;
@@ -10,13 +9,14 @@ use std::marker::Model;
 
 /// At least one judge, at most 32, all of one key. Clauses see the list of the judges.
 #[derive(Debug, Drop)]
-pub struct Bench<J> {
+pub struct Bench<J: Judge> {
     judges: Vec<J>,
 }
 
-impl<J> Model for Bench<J> {
+impl<J: Judge> Model for Bench<J> {
     ghost use Rattle.std.specs.Prelude.{List, length, ◌<◌, ◌≤◌};
     ghost use Rattle.std.specs.Coded.{coded_list};
+    ghost use Rattle.cr_reduce.specs.Bench.{HasOneKey};
 
     ghost Value = { List J };
 
@@ -24,14 +24,15 @@ impl<J> Model for Bench<J> {
 
     ghost view = { λ b. b.judges.items };
 
-    ghost invariant = { λ b. (0 < length b.judges.items) × (length b.judges.items ≤ 32) };
+    ghost invariant = { λ b. (0 < length b.judges.items) × (length b.judges.items ≤ 32) × HasOneKey J.key b.judges.items };
 }
 
-impl<J> Bench<J> {
+impl<J: Judge> Bench<J> {
     /// A bench of these judges.
     pub fn new(judges: Vec<J>) -> Result<Bench<J>, NoMemory>
         requires some { 0 < length judges.items }
         requires few { length judges.items ≤ 32 }
+        requires one_key { HasOneKey J.key judges.items }
         ensures { IfOk result (λ bench. bench ≡ judges.items) }
     {
         Ok(Bench { judges })
@@ -56,16 +57,15 @@ impl<J: Judge> Bench<J> {
         name: &str,
         file: &[u8],
     ) -> Answer
-        ensures told { AnswersAsTold (Q.asks question.now) (Q.tells question.now (first_says J.key J.says self.old) name.now file.now) result }
-        ensures once { Q.asks question.now ≡ true → AsksOnce (first_calls J.calls self.old) (first_calls J.calls self.new) name.now file.now result }
-        ensures counted { Q.asks question.now ≡ true → CountsOnce (first_count J.asked self.old) (first_count J.asked self.new) result }
+        ensures told { AnswersAsTold (Q.asks question.now) (Q.tells question.now (says_of J.Judge self.old) name.now file.now) result }
+        ensures once { Q.asks question.now ≡ true → AsksFirst (map J.calls self.old) (map J.calls self.new) name.now file.now result }
+        ensures counted { Q.asks question.now ≡ true → CountsFirst (map J.asked self.old) (map J.asked self.new) result }
         ensures silent { Q.asks question.now ≡ false → self.new ≡ self.old }
         ensures unfailing { Q.asks question.now ≡ false → result ≢ Answer.Failed }
-        ensures key { first_says J.key J.says self.new ≡ first_says J.key J.says self.old }
+        ensures keys { keys_of J.Judge self.new ≡ keys_of J.Judge self.old }
         ensures others { others self.new ≡ others self.old }
-        ensures count { length self.new ≡ length self.old }
-        ensures later { first_count J.faults self.old ≤ first_count J.faults self.new }
-        ensures failed { result ≡ Answer.Failed → Rose (first_count J.faults self.old) (first_count J.faults self.new) }
+        ensures goes_on { GoesOn (judging J.Judge self.old) (judging J.Judge self.new) }
+        ensures failed { result ≡ Answer.Failed → RoseAt 0 (map J.faults self.old) (map J.faults self.new) }
     {
         let judge = &mut self.judges[0];
         question.ask(alloc, judge, name, file)

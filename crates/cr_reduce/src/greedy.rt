@@ -1,6 +1,6 @@
 // The reduction.
 ghost use Rattle.std.specs.Prelude.{◌≡◌, ◌≢◌, ◌<◌, ◌≤◌, ℕ, length, IfErr, IfOk, false};
-ghost use Rattle.cr_reduce.specs.Bench.{first_calls, first_count, first_says, others};
+ghost use Rattle.cr_reduce.specs.Bench.{GoesOn, judging, keys_of, others};
 ghost use Rattle.cr_reduce.specs.Bound.{HasLevels, enough_turns};
 ghost use Rattle.cr_reduce.specs.Ends.{end_of_walk, EndsAsTold, EndsInRun, FaultsWithCause, IsFixedAsTold, IsFixedInRun};
 ghost use Rattle.cr_reduce.specs.Search.{AsksOnlyCandidates, IsAllTold, searching};
@@ -35,9 +35,9 @@ pub fn reduce<P: Passes, L: Law, Q: Question, J: Judge>(
 
     // The reduction by the answers given in this run, whatever the judge is.
     ensures chain { EndsInRun (searching P.Passes passes.now L.Law law.now Q.Question question.now name.now J.Judge bench.old)
-        (first_calls J.calls bench.new) plan.now.limit file.items result }
+        (judging J.Judge bench.old) (judging J.Judge bench.new) plan.now.limit file.items result }
     ensures all_rejected { result.why ≡ Why.Fixed → IsFixedInRun (searching P.Passes passes.now L.Law law.now Q.Question question.now name.now J.Judge bench.old)
-        (first_calls J.calls bench.new) result.file.items }
+        (judging J.Judge bench.old) (judging J.Judge bench.new) result.file.items }
 
     // Where the answers are told, it is the one-thread first-accepted reduction.
     ensures reduction { IsAllTold (searching P.Passes passes.now L.Law law.now Q.Question question.now name.now J.Judge bench.old)
@@ -47,19 +47,18 @@ pub fn reduce<P: Passes, L: Law, Q: Question, J: Judge>(
 
     // The test is asked about nothing but smaller, lawful variants of the chain's files.
     ensures asks_only { AsksOnlyCandidates (searching P.Passes passes.now L.Law law.now Q.Question question.now name.now J.Judge bench.old)
-        file.items result.accepted.items (first_calls J.calls bench.old) (first_calls J.calls bench.new) }
+        file.items result.accepted.items (judging J.Judge bench.old) (judging J.Judge bench.new) }
     ensures cause { FaultsWithCause (searching P.Passes passes.now L.Law law.now Q.Question question.now name.now J.Judge bench.old)
-        (first_count J.faults bench.old) (first_count J.faults bench.new) result.why }
+        (judging J.Judge bench.old) (judging J.Judge bench.new) result.why }
 
     // With turns enough it ends for another reason.
     ensures in_time { (levels : ℕ → ℕ) (size : ℕ) → HasLevels (P.offers passes.now) levels → HasSize file.items size → Within plan.now.limit (enough_turns levels size) → result.why ≢ Why.Limit }
-    ensures key { first_says J.key J.says bench.new ≡ first_says J.key J.says bench.old }
+    ensures keys { keys_of J.Judge bench.new ≡ keys_of J.Judge bench.old }
 
     // A question that asks no judge leaves the bench as it was.
     ensures silent { Q.asks question.now ≡ false → bench.new ≡ bench.old }
     ensures others { others bench.new ≡ others bench.old }
-    ensures count { length bench.new ≡ length bench.old }
-    ensures later { first_count J.faults bench.old ≤ first_count J.faults bench.new }
+    ensures goes_on { GoesOn (judging J.Judge bench.old) (judging J.Judge bench.new) }
 {
     match begin(alloc, passes, file) {
         Ok(mut walk) => {

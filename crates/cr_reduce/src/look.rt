@@ -1,13 +1,11 @@
 // One position of the walk.
 ghost use Rattle.std.specs.Prelude.{◌≡◌, ◌<◌, ◌≤◌, ◌+◌, ◌⊎◌, ℕ, List, IsSome, OnOk, OnErr, IfOk, Some, None, true, slice_get, length, false};
-ghost use Rattle.cr_outside.specs.Faults.{Rose};
 ghost use Rattle.cr_reduce.specs.declared.end.Why.{Why};
 ghost use Rattle.cr_cursor.specs.declared.passes.Cursor.{Cursor};
 ghost use Rattle.cr_reduce.specs.Reduction.{cursors_of, moved};
-ghost use Rattle.cr_reduce.specs.Bench.{first_calls, first_count, first_says, others};
-ghost use Rattle.cr_reduce.specs.Trials.{GoesOn};
+ghost use Rattle.cr_reduce.specs.Bench.{GoesOn, judging, keys_of, others};
 ghost use Rattle.cr_reduce.specs.Search.{searching};
-ghost use Rattle.cr_reduce.specs.Walk.{AsksAtMostOnce, Considers, FailsHere, IsHalt, IsSound, IsTakable, MovesOn, state_of, work_of};
+ghost use Rattle.cr_reduce.specs.Walk.{AsksOnlyTried, Considers, FailsHere, GoesOver, IsHalt, IsSound, IsTakable, MovesOn, state_of, work_of};
 
 use crate::bench::Bench;
 use crate::end::Why;
@@ -57,19 +55,18 @@ fn consider<P: Passes, L: Law, Q: Question, J: Judge>(
 ) -> Considered
     requires sound { IsSound (P.offers passes.now) (P.offer passes.now) walk.now }
     requires below { walk.now.position < walk.now.count }
-    ensures rejected { result ≡ Considered.Rejected → MovesOn (searching P.Passes passes.now L.Law law.now Q.Question question.now name.now J.Judge bench.old)
-        (first_calls J.calls bench.new) (state_of (P.offer passes.now) walk.now) (moved (state_of (P.offer passes.now) walk.now) (walk.now.position + 1) (walk.now.turns + 1)) }
+    ensures rejected { result ≡ Considered.Rejected → GoesOver (searching P.Passes passes.now L.Law law.now Q.Question question.now name.now J.Judge bench.old)
+        (judging J.Judge bench.old) (judging J.Judge bench.new) (state_of (P.offer passes.now) walk.now) (moved (state_of (P.offer passes.now) walk.now) (walk.now.position + 1) (walk.now.turns + 1)) }
     ensures accepted { (at : Cursor) (size : ℕ) → result ≡ Considered.Accepted at size → IsTakable (searching P.Passes passes.now L.Law law.now Q.Question question.now name.now J.Judge bench.old)
-        (first_calls J.calls bench.new) (state_of (P.offer passes.now) walk.now) walk.now.size variant.new.items at size }
+        (judging J.Judge bench.old) (judging J.Judge bench.new) (state_of (P.offer passes.now) walk.now) walk.now.size variant.new.items at size }
     ensures failed { result ≡ Considered.Failed → FailsHere (searching P.Passes passes.now L.Law law.now Q.Question question.now name.now J.Judge bench.old)
-        (first_calls J.calls bench.new) (state_of (P.offer passes.now) walk.now) (first_count J.faults bench.old) (first_count J.faults bench.new) 0 }
-    ensures asks { AsksAtMostOnce (searching P.Passes passes.now L.Law law.now Q.Question question.now name.now J.Judge bench.old)
-        (first_calls J.calls bench.new) (state_of (P.offer passes.now) walk.now) }
-    ensures key { first_says J.key J.says bench.new ≡ first_says J.key J.says bench.old }
+        (judging J.Judge bench.old) (judging J.Judge bench.new) (state_of (P.offer passes.now) walk.now) 0 }
+    ensures asks { AsksOnlyTried (searching P.Passes passes.now L.Law law.now Q.Question question.now name.now J.Judge bench.old)
+        (judging J.Judge bench.old) (judging J.Judge bench.new) (state_of (P.offer passes.now) walk.now) }
+    ensures keys { keys_of J.Judge bench.new ≡ keys_of J.Judge bench.old }
     ensures silent { Q.asks question.now ≡ false → bench.new ≡ bench.old }
     ensures others { others bench.new ≡ others bench.old }
-    ensures count { length bench.new ≡ length bench.old }
-    ensures later { first_count J.faults bench.old ≤ first_count J.faults bench.new }
+    ensures goes_on { GoesOn (judging J.Judge bench.old) (judging J.Judge bench.new) }
 {
     match propose(passes, walk, variant) {
         Ok(at) => with_cursor(
@@ -105,19 +102,21 @@ pub fn look<P: Passes, L: Law, Q: Question, J: Judge>(
     requires sound { IsSound (P.offers passes.now) (P.offer passes.now) walk.old }
     requires below { walk.old.position < walk.old.count }
     ensures moved { result ≡ None → MovesOn (searching P.Passes passes.now L.Law law.now Q.Question question.now name.now J.Judge bench.old)
-        (first_calls J.calls bench.new) (state_of (P.offer passes.now) walk.old) (state_of (P.offer passes.now) walk.new) }
+        (judging J.Judge bench.old) (judging J.Judge bench.new) (state_of (P.offer passes.now) walk.old) (state_of (P.offer passes.now) walk.new) }
     ensures sound { result ≡ None → IsSound (P.offers passes.now) (P.offer passes.now) walk.new }
+    ensures one_turn { result ≡ None → walk.new.turns ≡ walk.old.turns + 1 }
+    ensures no_turn { IsSome result → walk.new.turns ≡ walk.old.turns }
     ensures less { result ≡ None → work_of walk.new < work_of walk.old }
-    ensures same { IsSome result → state_of (P.offer passes.now) walk.new ≡ state_of (P.offer passes.now) walk.old }
+    ensures passed { IsSome result → GoesOver (searching P.Passes passes.now L.Law law.now Q.Question question.now name.now J.Judge bench.old)
+        (judging J.Judge bench.old) (judging J.Judge bench.new) (state_of (P.offer passes.now) walk.old) (state_of (P.offer passes.now) walk.new) }
     ensures halted { (why : Why) → result ≡ Some why → IsHalt (searching P.Passes passes.now L.Law law.now Q.Question question.now name.now J.Judge bench.old)
-        (first_calls J.calls bench.new) (state_of (P.offer passes.now) walk.old) (first_count J.faults bench.old) (first_count J.faults bench.new) why }
-    ensures asks { AsksAtMostOnce (searching P.Passes passes.now L.Law law.now Q.Question question.now name.now J.Judge bench.old)
-        (first_calls J.calls bench.new) (state_of (P.offer passes.now) walk.old) }
-    ensures key { first_says J.key J.says bench.new ≡ first_says J.key J.says bench.old }
+        (judging J.Judge bench.old) (judging J.Judge bench.new) (state_of (P.offer passes.now) walk.new) why }
+    ensures asks { AsksOnlyTried (searching P.Passes passes.now L.Law law.now Q.Question question.now name.now J.Judge bench.old)
+        (judging J.Judge bench.old) (judging J.Judge bench.new) (state_of (P.offer passes.now) walk.old) }
+    ensures keys { keys_of J.Judge bench.new ≡ keys_of J.Judge bench.old }
     ensures silent { Q.asks question.now ≡ false → bench.new ≡ bench.old }
     ensures others { others bench.new ≡ others bench.old }
-    ensures count { length bench.new ≡ length bench.old }
-    ensures later { first_count J.faults bench.old ≤ first_count J.faults bench.new }
+    ensures goes_on { GoesOn (judging J.Judge bench.old) (judging J.Judge bench.new) }
 {
     match consider(alloc, passes, law, question, bench, name, walk, variant) {
         Considered::Rejected => {

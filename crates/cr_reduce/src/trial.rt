@@ -1,10 +1,9 @@
 // The trial of one variant.
-ghost use Rattle.std.specs.Prelude.{◌≡◌, ◌≢◌, ◌≤◌, ◌<◌, ◌⊎◌, ℕ, IfOk, MatchOption, true, false, length};
-ghost use Rattle.cr_outside.specs.Faults.{Rose};
-ghost use Rattle.cr_outside.specs.declared.judge.Answer.TheVariants.{Yes as AnswerYes, No as AnswerNo, Failed as AnswerFailed};
-ghost use Rattle.cr_reduce.specs.Bench.{first_calls, first_count, first_says, others};
+ghost use Rattle.std.specs.Prelude.{◌≡◌, ◌≢◌, ◌≤◌, ◌<◌, ◌⊎◌, ℕ, IfOk, MatchOption, map, true, false};
+ghost use Rattle.cr_outside.specs.declared.judge.Answer.TheVariants.{Yes as AnswerYes, No as AnswerNo};
+ghost use Rattle.cr_reduce.specs.Bench.{CallsAbout, GoesOn, judging, keys_of, others, says_of};
 ghost use Rattle.cr_reduce.specs.Sizes.{HasSize};
-ghost use Rattle.cr_reduce.specs.Trials.{AnswerInRun, CallsAbout, IsBad, IsGood};
+ghost use Rattle.cr_reduce.specs.Trials.{AnswerInRun, HasFailed, IsBad, IsGood};
 
 use crate::bench::Bench;
 use crate::measure::measure;
@@ -84,22 +83,19 @@ pub fn try_variant<L: Law, Q: Question, J: Judge>(
     limit: u64,
 ) -> Verdict
     ensures accepted { (n : ℕ) → result ≡ Verdict.Accepted n → IsGood (L.lawful law.now) variant.now limit n
-        × AnswerInRun (Q.asks question.now) (λ file answer. Q.tells question.now (first_says J.key J.says bench.old) name.now file answer)
-        name.now (first_calls J.calls bench.old) (first_calls J.calls bench.new) variant.now AnswerYes }
+        × AnswerInRun (Q.asks question.now) (λ file answer. Q.tells question.now (says_of J.Judge bench.old) name.now file answer)
+        name.now (map J.calls bench.old) (map J.calls bench.new) variant.now AnswerYes }
     ensures rejected { result ≡ Verdict.Rejected → IsBad (L.lawful law.now) variant.now limit
-        ⊎ AnswerInRun (Q.asks question.now) (λ file answer. Q.tells question.now (first_says J.key J.says bench.old) name.now file answer)
-        name.now (first_calls J.calls bench.old) (first_calls J.calls bench.new) variant.now AnswerNo }
-    ensures failed { result ≡ Verdict.Failed → (Q.asks question.now ≡ true) × Rose (first_count J.faults bench.old) (first_count J.faults bench.new)
-        × ((n : ℕ) × IsGood (L.lawful law.now) variant.now limit n)
-        × AnswerInRun (Q.asks question.now) (λ file answer. Q.tells question.now (first_says J.key J.says bench.old) name.now file answer)
-        name.now (first_calls J.calls bench.old) (first_calls J.calls bench.new) variant.now AnswerFailed }
-    ensures calls { CallsAbout (first_calls J.calls bench.old) (first_calls J.calls bench.new) name.now variant.now }
-    ensures only_good { (first_calls J.calls bench.new ≡ first_calls J.calls bench.old) ⊎ ((n : ℕ) × IsGood (L.lawful law.now) variant.now limit n) }
-    ensures key { first_says J.key J.says bench.new ≡ first_says J.key J.says bench.old }
+        ⊎ AnswerInRun (Q.asks question.now) (λ file answer. Q.tells question.now (says_of J.Judge bench.old) name.now file answer)
+        name.now (map J.calls bench.old) (map J.calls bench.new) variant.now AnswerNo }
+    ensures failed { result ≡ Verdict.Failed → ((n : ℕ) × IsGood (L.lawful law.now) variant.now limit n)
+        × HasFailed (Q.asks question.now) name.now (judging J.Judge bench.old) (judging J.Judge bench.new) 0 variant.now }
+    ensures calls { CallsAbout (map J.calls bench.old) (map J.calls bench.new) name.now variant.now }
+    ensures only_good { (map J.calls bench.new ≡ map J.calls bench.old) ⊎ ((n : ℕ) × IsGood (L.lawful law.now) variant.now limit n) }
+    ensures keys { keys_of J.Judge bench.new ≡ keys_of J.Judge bench.old }
     ensures silent { Q.asks question.now ≡ false → bench.new ≡ bench.old }
     ensures others { others bench.new ≡ others bench.old }
-    ensures count { length bench.new ≡ length bench.old }
-    ensures later { first_count J.faults bench.old ≤ first_count J.faults bench.new }
+    ensures goes_on { GoesOn (judging J.Judge bench.old) (judging J.Judge bench.new) }
 {
     let size = match screen(alloc, law, variant, limit) {
         Ok(Some(size)) => size,

@@ -3,7 +3,7 @@ use Rattle.std.proofs.Common.{◌≡◌, ℕ, zero, suc, ◌+◌, ◌<◌, List,
 use Rattle.std.proofs.Math.ListN.{get_or-append}
 use Rattle.std.proofs.Math.Seq.{get_or-append_seam}
 use Rattle.std.proofs.lemmas.Option.{slice_get_within, slice_get_read}
-use Rattle.cr_syntax.specs.Answers.{IsFirst}
+use Rattle.cr_syntax.specs.Kept.{IsFirst}
 use Rattle.cr_syntax.specs.declared.node.Node.{Node}
 use Rattle.cr_syntax.specs.Kept.{PartsAreBelow, AreBelow}
 use Rattle.cr_syntax.specs.Trees.{Trees, none, node, one, ◌&◌, row_of, tree_of, grown, trees_of}

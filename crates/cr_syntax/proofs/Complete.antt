@@ -1,5 +1,6 @@
--- What is spelled, the checker reads.
-use Rattle.std.proofs.Common.{◌≡◌, ℕ, zero, suc, ◌+◌, ◌-◌, ◌<◌, ◌≤◌, Bool, true, false, not, ◌&&◌, ◌||◌, List, [], ◌∷◌, Option, None, Some, refl, sym, ap, subst, ◌∙◌, arith}
+-- What is spelled is read.
+use Rattle.std.proofs.lemmas.Bool.{or_left, or_right}
+use Rattle.std.proofs.Common.{◌≡◌, ℕ, zero, suc, ◌+◌, ◌-◌, ◌<◌, ◌≤◌, Bool, true, false, not, ◌&&◌, ◌||◌, List, [], ◌∷◌, Option, None, Some, refl, sym, ap, subst, ◌∙◌, arith, inl, inr}
 use Rattle.std.specs.Prelude.{if◌then◌else◌, nat_lt, nat_le}
 use borrow.Author.Tests.{eq-eqb, ne_eqb, lt-ltb, le-leb, ltb-true}
 use denote.Enum.Bare.{true_same}
@@ -8,13 +9,13 @@ use Rattle.cr_syntax.specs.declared.word.Word.{Word}
 use Rattle.cr_syntax.specs.declared.word.Word.TheVariants as word
 use Rattle.cr_syntax.specs.declared.node.Kind.{Kind}
 use Rattle.cr_syntax.specs.declared.scopes.TypeName.{TypeName}
-use Rattle.cr_syntax.specs.declared.symbol.Depth.{Depth}
-use Rattle.cr_syntax.specs.declared.symbol.Part.{Part}
-use Rattle.cr_syntax.specs.declared.symbol.Part.TheVariants as part
-use Rattle.cr_syntax.specs.declared.symbol.Symbol.TheVariants as symbol
-use Rattle.cr_syntax.specs.declared.symbol.Context.{Context}
-use Rattle.cr_syntax.specs.declared.chains.Link.{Link}
-use Rattle.cr_syntax.specs.declared.chains.Link.TheVariants.{Makes, Chains, Enters, Drops, Refuses}
+use Rattle.cr_syntax.specs.Symbols.{Depth}
+use Rattle.cr_syntax.specs.declared.part.Part.{Part}
+use Rattle.cr_syntax.specs.declared.part.Part.TheVariants as part
+use Rattle.cr_syntax.specs.Symbols as symbol
+use Rattle.cr_syntax.specs.declared.part.Context.{Context}
+use Rattle.cr_syntax.specs.Chains.{Link}
+use Rattle.cr_syntax.specs.Chains.{Makes, Chains, Enters, Drops, Refuses}
 use Rattle.cr_syntax.specs.Words.{Lexeme, spelling_at}
 use Rattle.cr_syntax.specs.Scopes.{Scopes, is_type, enter}
 use Rattle.cr_syntax.specs.Trees.{Trees, none, node, one, ◌&◌}
@@ -22,9 +23,9 @@ use Rattle.cr_syntax.specs.Context.{past_token, past_part, at_start, declared_na
 use Rattle.cr_syntax.specs.Grammar.{Side, Alternative, Chain}
 use Rattle.cr_syntax.specs.Tables.{side_of, part_of}
 use Rattle.cr_syntax.specs.Chains.{link_of, step_past, same_part}
-use Rattle.cr_syntax.specs.Spells.{Spells, Phrase, a, rest, levels, Is, Stands, Within, IsIdentifier, AreConst, const_none, const_more}
+use Rattle.cr_syntax.specs.Spells.{Spells, Phrase, a, rest, levels, Is, Stands, Within, IsIdentifier, Qualifies, AreQualifiers, qualifiers_none, qualifiers_more}
 use Rattle.cr_syntax.specs.Spells as spells
-use Rattle.cr_syntax.specs.Reads.{Reader, is_word, same_word, are_words, span_is, has_room, is_none, first_of, after_of, is_last, alone, begins_at, leads_declaration, entered, dropped, most_links, as_part, list_on, along, reads, next_of, leads}
+use Rattle.cr_syntax.specs.Reads.{Reader, is_word, same_word, are_words, span_is, is_qualifier, are_qualifiers, span_qualifies, has_room, is_none, first_of, after_of, is_last, alone, begins_at, leads_declaration, entered, dropped, most_links, as_part, list_on, along, reads, next_of, leads}
 use Rattle.cr_syntax.specs.Units.{most_levels}
 use Rattle.cr_syntax.proofs.Alternatives.{part_only, side_only}
 use Rattle.cr_syntax.proofs.Tests.{if_some, both}
@@ -33,7 +34,7 @@ use Rattle.cr_syntax.proofs.Equations.{reads_token, reads_opens, reads_reopens, 
 use Rattle.cr_syntax.proofs.Sound.{the_limit}
 use Rattle.cr_syntax.proofs.Ranks.{lower, under_itself, under_past, past_is, enters_is, member_up, init_up, parameter_up, differ, link_past, link_makes, rank_small, rank, under}
 
--- what the checker reads a node as, where one link is left
+-- what a node is read as, where one link is left
 abbrev on_link : List Lexeme → Reader → ℕ → Part → Context → Scopes → ℕ → Kind → ℕ → ℕ → Trees → Link → Option Scopes
 on_link ts r n p h c d k i j t l = elim l [
   | Makes ↦ if fits_together k t then r (side_of k) (at_start p h) c d i j else None
@@ -48,7 +49,7 @@ module _ (ts : List Lexeme) (r : Reader) (n : ℕ) (p : Part) (h : Context) (c :
   unfolding as_part
   by_link l e q m = subst (λ x. on_link ts r n p h c d k i j t x ≡ Some e) (sym q) m
 
--- the checker's answer to a part: one node, which every number of links above the part's rank is enough to read
+-- the answer to a part: one node, which every number of links above the part's rank is enough to read
 pub data PartAnswer (ts : List Lexeme) : Part → Context → Scopes → Scopes → ℕ → Trees → ℕ → ℕ → Type 0 where
   answer : {p : Part} {h : Context} {c e : Scopes} {d i j : ℕ} (k : Kind) (t : Trees) →
       rank (part_of k) ≤ rank p → under p (part_of k) ≡ true →
@@ -129,7 +130,7 @@ not_yet : (i : ℕ) (t : Trees) → Later (i + 1) t → begins_at t i ≡ false
 not_yet i none f = refl
 not_yet i (node k i' j' b n) f = ne_eqb i' i (λ e. absurd (omega arith))
 
--- the checker's answer to a right side
+-- the answer to a right side
 pub record RowAnswer (ts : List Lexeme) (s : Side) (h : Context) (c e : Scopes) (d : ℕ) (t : Trees) (i j : ℕ) : Type 0 where
   pub read : reads ts t s h c d i j ≡ Some e
   pub later : Later i t
@@ -225,17 +226,21 @@ module _ (ts : List Lexeme) where
       qualified_on ts (t & none) h d j (leads ts (t & none) p h c (d + 1) (first_of (t & none))) ≡ Some e
   qualified_is {h = h} {e = e} {j = j} d m = rw (first_is m none) (rw (leads_is m none) (rw (next_is m none, after_is m none) (ends_here h e d j)))
 
-const_le : {ts : List Lexeme} {d i j : ℕ} → AreConst ts the_limit d i j → i ≤ j
-const_le const_none = omega arith
-const_le (const_more h l r) = omega (arith, const_le r)
+const_le : {ts : List Lexeme} {d i j : ℕ} → AreQualifiers ts the_limit d i j → i ≤ j
+const_le qualifiers_none = omega arith
+const_le (qualifiers_more h l r) = omega (arith, const_le r)
 
-words_are : {ts : List Lexeme} {d i j : ℕ} → AreConst ts the_limit d i j → (n : ℕ) → i + n ≡ j → are_words ts word.Const n i ≡ true
-words_are const_none zero e = refl
-words_are const_none (suc n) e = absurd (omega arith)
-words_are {ts = ts} {i = i} (const_more h l r) zero e = absurd (omega (arith, const_le r))
-words_are {ts = ts} {i = i} (const_more h l r) (suc n) e = rw (is_true ts i word.Const h) (words_are r n (omega arith))
+qualifier_true : (ts : List Lexeme) (i : ℕ) → Qualifies ts i → is_qualifier ts i ≡ true
+qualifier_true ts i (inl h) = or_left (is_word ts i word.Const) (is_word ts i word.Volatile) (is_true ts i word.Const h)
+qualifier_true ts i (inr h) = or_right (is_word ts i word.Const) (is_word ts i word.Volatile) (is_true ts i word.Volatile h)
 
-span_true : {ts : List Lexeme} {d i j : ℕ} → AreConst ts the_limit d i j → span_is ts word.Const i j ≡ true
+words_are : {ts : List Lexeme} {d i j : ℕ} → AreQualifiers ts the_limit d i j → (n : ℕ) → i + n ≡ j → are_qualifiers ts n i ≡ true
+words_are qualifiers_none zero e = refl
+words_are qualifiers_none (suc n) e = absurd (omega arith)
+words_are {ts = ts} {i = i} (qualifiers_more h l r) zero e = absurd (omega (arith, const_le r))
+words_are {ts = ts} {i = i} (qualifiers_more h l r) (suc n) e = rw (qualifier_true ts i h) (words_are r n (omega arith))
+
+span_true : {ts : List Lexeme} {d i j : ℕ} → AreQualifiers ts the_limit d i j → span_qualifies ts i j ≡ true
 span_true {i = i} {j = j} m = rw (le-leb i j (const_le m)) (words_are m (j - i) (omega (arith, const_le m)))
 
 some_row : (ts : List Lexeme) (l : Depth) (p : Part) (s : Side) (h : Context) (c f : Scopes) (d i j : ℕ) (u : Trees) → reads ts u (symbol.List l p ∷ s) h c d i j ≡ Some f → is_none u ≡ false
@@ -360,20 +365,20 @@ module _ (ts : List Lexeme) where
     later = later_down _ _ _ (omega arith) r.later;
   }
 
-  qualified_answer : {p : Part} {h : Context} {c e : Scopes} {d i j k : ℕ} {t : Trees} → AreConst ts the_limit (d + 1) i j → Answer ts (a p) h c e (d + 1) t j k → Answer ts (rest (symbol.Qualified p ∷ [])) h c e d t i k
+  qualified_answer : {p : Part} {h : Context} {c e : Scopes} {d i j k : ℕ} {t : Trees} → AreQualifiers ts the_limit (d + 1) i j → Answer ts (a p) h c e (d + 1) t j k → Answer ts (rest (symbol.Qualified p ∷ [])) h c e d t i k
   qualified_answer {p = p} {h = h} {c = c} {e = e} {d = d} {i = i} {j = j} {k = k} m q = let v = q in
       subst (λ x. RowAnswer ts (symbol.Qualified p ∷ []) h c e d x i k) (itself_is ts v) (record {
         read = reads_qualified ts _ _ _ _ _ _ _ ∙ rw (first_is ts v none) (rw (span_true m) (rw (← first_is ts v none) (qualified_is ts d v)));
         later = later_down _ _ _ (const_le m) (later_it ts v none);
       })
 
-  qualified_none_answer : {p : Part} {h : Context} {c : Scopes} {d i j : ℕ} → AreConst ts the_limit (d + 1) i j → Answer ts (rest (symbol.OptionalQualified p ∷ [])) h c c d none i j
+  qualified_none_answer : {p : Part} {h : Context} {c : Scopes} {d i j : ℕ} → AreQualifiers ts the_limit (d + 1) i j → Answer ts (rest (symbol.OptionalQualified p ∷ [])) h c c d none i j
   qualified_none_answer m = record {
     read = reads_optional_qualified ts none _ _ _ _ _ _ ∙ rw (span_true m) refl;
     later = tt;
   }
 
-  qualified_some_answer : {p : Part} {h : Context} {c e : Scopes} {d i j k : ℕ} {t : Trees} → AreConst ts the_limit (d + 1) i j → Answer ts (a p) h c e (d + 1) t j k → Answer ts (rest (symbol.OptionalQualified p ∷ [])) h c e d t i k
+  qualified_some_answer : {p : Part} {h : Context} {c e : Scopes} {d i j k : ℕ} {t : Trees} → AreQualifiers ts the_limit (d + 1) i j → Answer ts (a p) h c e (d + 1) t j k → Answer ts (rest (symbol.OptionalQualified p ∷ [])) h c e d t i k
   qualified_some_answer {p = p} {h = h} {c = c} {e = e} {d = d} {i = i} {j = j} {k = k} m q = let v = q in
       subst (λ x. RowAnswer ts (symbol.OptionalQualified p ∷ []) h c e d x i k) (itself_is ts v) (record {
         read = reads_optional_qualified ts _ _ _ _ _ _ _ ∙ rw (not_none ts v none) (rw (first_is ts v none) (rw (span_true m) (rw (← first_is ts v none) (qualified_is ts d v))));

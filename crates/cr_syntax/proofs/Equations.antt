@@ -1,21 +1,21 @@
--- The checker's reading, symbol by symbol, at any row of trees.
+-- Reading, symbol by symbol, at any row of trees.
 use Rattle.std.proofs.Common.{◌≡◌, ℕ, ◌+◌, false, not, ◌&&◌, ◌||◌, List, [], ◌∷◌, Option, None, Some, refl}
 use Rattle.std.specs.Prelude.{if◌then◌else◌, ◌==◌, nat_lt}
 use Rattle.cr_syntax.specs.declared.word.Word.{Word}
 use Rattle.cr_syntax.specs.declared.word.Word.TheVariants as word
 use Rattle.cr_syntax.specs.declared.scopes.TypeName.{TypeName}
-use Rattle.cr_syntax.specs.declared.symbol.Depth.{Depth}
-use Rattle.cr_syntax.specs.declared.symbol.Part.{Part}
-use Rattle.cr_syntax.specs.declared.symbol.Part.TheVariants as part
-use Rattle.cr_syntax.specs.declared.symbol.Symbol.TheVariants as symbol
-use Rattle.cr_syntax.specs.declared.symbol.Context.{Context}
+use Rattle.cr_syntax.specs.Symbols.{Depth}
+use Rattle.cr_syntax.specs.declared.part.Part.{Part}
+use Rattle.cr_syntax.specs.declared.part.Part.TheVariants as part
+use Rattle.cr_syntax.specs.Symbols as symbol
+use Rattle.cr_syntax.specs.declared.part.Context.{Context}
 use Rattle.cr_syntax.specs.Words.{Lexeme, spelling_at}
 use Rattle.cr_syntax.specs.Scopes.{Scopes, is_type, enter}
 use Rattle.cr_syntax.specs.Trees.{Trees, none, node}
 use Rattle.cr_syntax.specs.Context.{past_token, declared_name}
 use Rattle.cr_syntax.specs.Grammar.{Side}
 use Rattle.cr_syntax.specs.Spells.{levels}
-use Rattle.cr_syntax.specs.Reads.{is_word, span_is, has_room, is_none, first_of, begins_at, leads_declaration, list_on, along, reads, next_of, leads}
+use Rattle.cr_syntax.specs.Reads.{is_word, span_is, span_qualifies, has_room, is_none, first_of, begins_at, leads_declaration, list_on, along, reads, next_of, leads}
 use Rattle.cr_syntax.specs.Steps.{part_on, clause_on, step_on, else_on, prototype_on, size_on, qualified_on}
 
 pub reads_token : (ts : List Lexeme) (t : Trees) (s : Side) (h : Context) (c : Scopes) (d i j : ℕ) (l : Depth) (w : Word) →
@@ -163,13 +163,13 @@ reads_size ts none s h own c d i j = refl
 reads_size ts (node k i' j' b n) s h own c d i j = refl
 
 pub reads_qualified : (ts : List Lexeme) (t : Trees) (p : Part) (h : Context) (c : Scopes) (d i j : ℕ) →
-    reads ts t (symbol.Qualified p ∷ []) h c d i j ≡ (if span_is ts word.Const i (first_of t) then qualified_on ts t h d j (leads ts t p h c (d + 1) (first_of t)) else None)
+    reads ts t (symbol.Qualified p ∷ []) h c d i j ≡ (if span_qualifies ts i (first_of t) then qualified_on ts t h d j (leads ts t p h c (d + 1) (first_of t)) else None)
 unfolding reads along
 reads_qualified ts none p h c d i j = refl
 reads_qualified ts (node k i' j' b n) p h c d i j = refl
 
 pub reads_optional_qualified : (ts : List Lexeme) (t : Trees) (p : Part) (h : Context) (c : Scopes) (d i j : ℕ) →
-    reads ts t (symbol.OptionalQualified p ∷ []) h c d i j ≡ (if is_none t then (if span_is ts word.Const i j then Some c else None) else (if span_is ts word.Const i (first_of t) then qualified_on ts t h d j (leads ts t p h c (d + 1) (first_of t)) else None))
+    reads ts t (symbol.OptionalQualified p ∷ []) h c d i j ≡ (if is_none t then (if span_qualifies ts i j then Some c else None) else (if span_qualifies ts i (first_of t) then qualified_on ts t h d j (leads ts t p h c (d + 1) (first_of t)) else None))
 unfolding reads along
 reads_optional_qualified ts none p h c d i j = refl
 reads_optional_qualified ts (node k i' j' b n) p h c d i j = refl

@@ -8,8 +8,5 @@ pub mod Arena
 pub mod Names
 pub mod Latest
 pub mod Statements
-pub mod Readings
-pub mod Checked
 pub mod Spans
-pub mod Turns
 pub mod Examples

@@ -1,10 +1,10 @@
--- Chains of parts: how long they are, and what the checker's steps say of them.
+-- Chains of parts: how long they are, and what the steps of reading say of them.
 use Rattle.std.proofs.Common.{◌≡◌, ℕ, ◌<◌, Bool, true, false, refl, ap, arith, lit<}
 use denote.Enum.Bare.{true_same, false_same}
-use Rattle.cr_syntax.specs.contracts.symbol.Part as part_type
-use Rattle.cr_syntax.specs.declared.symbol.Part.{Part}
-use Rattle.cr_syntax.specs.declared.symbol.Part.TheVariants as part
-use Rattle.cr_syntax.specs.declared.chains.Link.TheVariants.{Makes, Chains, Enters}
+use Rattle.cr_syntax.specs.contracts.part.Part as part_type
+use Rattle.cr_syntax.specs.declared.part.Part.{Part}
+use Rattle.cr_syntax.specs.declared.part.Part.TheVariants as part
+use Rattle.cr_syntax.specs.Chains.{Makes, Chains, Enters}
 use Rattle.cr_syntax.specs.Grammar.{Chain}
 use Rattle.cr_syntax.specs.Grammar as grammar
 use Rattle.cr_syntax.specs.Chains.{link_of, step_past}
@@ -84,7 +84,7 @@ lower grammar.cast_unary = lit< tt
 lower grammar.unary_postfix = lit< tt
 lower grammar.postfix_primary = lit< tt
 
--- whether an alternative of q can stand for p, as far as the checker's choices need
+-- whether an alternative of q can stand for p, as far as the choices of reading need
 abbrev pub under : Part → Part → Bool
 under part.External q = true
 under part.BlockItem q = true
@@ -203,7 +203,7 @@ under_past grammar.unary_postfix _ u = refl
 under_past grammar.postfix_primary part.Declaration u = u
 under_past grammar.postfix_primary _ u = refl
 
--- the checker's step from a part of the chain is the chain's
+-- the step from a part of the chain is the chain's
 pub past_is : {p q : Part} → Chain p q → (r : Part) → under q r ≡ true → step_past p r ≡ Chains q
 past_is grammar.item_declaration part.Declaration u = refl
 past_is grammar.item_declaration _ u = cc

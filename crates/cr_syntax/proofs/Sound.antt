@@ -1,19 +1,20 @@
--- What the checker reads is spelled.
-use Rattle.std.proofs.Common.{◌≡◌, ℕ, zero, suc, ◌+◌, ◌-◌, ◌<◌, ◌≤◌, Bool, true, false, not, ◌&&◌, ◌||◌, List, [], ◌∷◌, Option, None, Some, refl, sym, ap, subst, arith}
+-- What is read is spelled.
+use Rattle.std.proofs.lemmas.Bool.{or_cases}
+use Rattle.std.proofs.Common.{◌≡◌, ℕ, zero, suc, ◌+◌, ◌-◌, ◌<◌, ◌≤◌, Bool, true, false, not, ◌&&◌, ◌||◌, List, [], ◌∷◌, Option, None, Some, refl, sym, ap, subst, arith, inl, inr}
 use Rattle.std.specs.Prelude.{if◌then◌else◌, ◌==◌, nat_lt, nat_le}
 use borrow.Author.Tests.{ltb-true, leb-true, eqb-true}
 use denote.Enum.Bare.{same_true}
-use Rattle.cr_syntax.specs.contracts.symbol.Part as part_type
+use Rattle.cr_syntax.specs.contracts.part.Part as part_type
 use Rattle.cr_syntax.specs.declared.word.Word.TheVariants as word
 use Rattle.cr_syntax.specs.declared.node.Kind.{Kind}
 use Rattle.cr_syntax.specs.declared.scopes.TypeName.{TypeName}
-use Rattle.cr_syntax.specs.declared.symbol.Depth.{Depth}
-use Rattle.cr_syntax.specs.declared.symbol.Part.{Part}
-use Rattle.cr_syntax.specs.declared.symbol.Part.TheVariants as part
-use Rattle.cr_syntax.specs.declared.symbol.Symbol.TheVariants as symbol
-use Rattle.cr_syntax.specs.declared.symbol.Context.{Context}
-use Rattle.cr_syntax.specs.declared.chains.Link.{Link}
-use Rattle.cr_syntax.specs.declared.chains.Link.TheVariants.{Makes, Chains, Enters, Drops, Refuses}
+use Rattle.cr_syntax.specs.Symbols.{Depth}
+use Rattle.cr_syntax.specs.declared.part.Part.{Part}
+use Rattle.cr_syntax.specs.declared.part.Part.TheVariants as part
+use Rattle.cr_syntax.specs.Symbols as symbol
+use Rattle.cr_syntax.specs.declared.part.Context.{Context}
+use Rattle.cr_syntax.specs.Chains.{Link}
+use Rattle.cr_syntax.specs.Chains.{Makes, Chains, Enters, Drops, Refuses}
 use Rattle.cr_syntax.specs.Words.{Lexeme, spelling_at}
 use Rattle.cr_syntax.specs.Scopes.{Scopes, is_type, enter}
 use Rattle.cr_syntax.specs.Trees.{Trees, none, node, one, ◌&◌}
@@ -22,9 +23,9 @@ use Rattle.cr_syntax.specs.Grammar.{Side, Alternative, Chain}
 use Rattle.cr_syntax.specs.Grammar as grammar
 use Rattle.cr_syntax.specs.Tables.{side_of, part_of}
 use Rattle.cr_syntax.specs.Chains.{step_of, link_of, step_past, same_part}
-use Rattle.cr_syntax.specs.Spells.{Limit, AtMost, Spells, a, rest, levels, AreConst, const_none, const_more}
+use Rattle.cr_syntax.specs.Spells.{Limit, AtMost, Spells, a, rest, levels, Qualifies, AreQualifiers, qualifiers_none, qualifiers_more}
 use Rattle.cr_syntax.specs.Spells as spells
-use Rattle.cr_syntax.specs.Reads.{Reader, is_word, are_words, span_is, has_room, is_none, first_of, after_of, is_last, alone, begins_at, leads_declaration, entered, dropped, most_links, as_part, lead, list_on, along, reads, no_reader, next_of}
+use Rattle.cr_syntax.specs.Reads.{Reader, is_word, are_words, span_is, is_qualifier, are_qualifiers, span_qualifies, has_room, is_none, first_of, after_of, is_last, alone, begins_at, leads_declaration, entered, dropped, most_links, as_part, lead, list_on, along, reads, no_reader, next_of}
 use Rattle.cr_syntax.specs.Units.{most_levels}
 use Rattle.cr_syntax.proofs.Alternatives.{alternative_of}
 use Rattle.cr_syntax.proofs.Tests.{if_some, both, some_one, some_of, not_true, is_of, none_of, rejoined, last_of, last_alone, choose, alone_of}
@@ -139,19 +140,22 @@ module _ (ts : List Lexeme) (r : Reader) (t : Trees) (sound : IsSound ts t r) (k
   part_sound zero p h c e d q = cc
   part_sound (suc n) p h c e d q = at_link n (part_sound n) p h c e d (step_of p k) (link_means p (part_of k)) q
 
-words_of : (ts : List Lexeme) (d n i : ℕ) → are_words ts word.Const n i ≡ true → AreConst ts the_limit d i (i + n)
-words_of ts d zero i q = let e : i ≡ i + 0 = omega arith in subst (λ x. AreConst ts the_limit d i x) e const_none
-words_of ts d (suc n) i q =
-    let w = both (is_word ts i word.Const) (are_words ts word.Const n (i + 1)) q in
-    let e : i + 1 + n ≡ i + suc n = omega arith in
-    const_more (is_of ts i word.Const w.0) tt (subst (λ x. AreConst ts the_limit d (i + 1) x) e (words_of ts d n (i + 1) w.1))
+qualifier_of : (ts : List Lexeme) (i : ℕ) → is_qualifier ts i ≡ true → Qualifies ts i
+qualifier_of ts i q = elim (or_cases (is_word ts i word.Const) (is_word ts i word.Volatile) q) [ inl x ↦ inl (is_of ts i word.Const x) | inr x ↦ inr (is_of ts i word.Volatile x) ]
 
-consts_of : (ts : List Lexeme) (d i j : ℕ) → span_is ts word.Const i j ≡ true → AreConst ts the_limit d i j
-consts_of ts d i j q =
-    let w = both (nat_le i j) (are_words ts word.Const (j - i) i) q in
+words_of : (ts : List Lexeme) (d n i : ℕ) → are_qualifiers ts n i ≡ true → AreQualifiers ts the_limit d i (i + n)
+words_of ts d zero i q = let e : i ≡ i + 0 = omega arith in subst (λ x. AreQualifiers ts the_limit d i x) e qualifiers_none
+words_of ts d (suc n) i q =
+    let w = both (is_qualifier ts i) (are_qualifiers ts n (i + 1)) q in
+    let e : i + 1 + n ≡ i + suc n = omega arith in
+    qualifiers_more (qualifier_of ts i w.0) tt (subst (λ x. AreQualifiers ts the_limit d (i + 1) x) e (words_of ts d n (i + 1) w.1))
+
+qualifiers_of : (ts : List Lexeme) (d i j : ℕ) → span_qualifies ts i j ≡ true → AreQualifiers ts the_limit d i j
+qualifiers_of ts d i j q =
+    let w = both (nat_le i j) (are_qualifiers ts (j - i) i) q in
     let le : i ≤ j = leb-true i j w.0 in
     let e : i + (j - i) ≡ j = omega arith in
-    subst (λ x. AreConst ts the_limit d i x) e (words_of ts d (j - i) i w.1)
+    subst (λ x. AreQualifiers ts the_limit d i x) e (words_of ts d (j - i) i w.1)
 
 texts_from : (ts : List Lexeme) (h : Context) (c : Scopes) (d n i : ℕ) → are_words ts word.Text (suc n) i ≡ true → Spells ts the_limit (rest (symbol.Texts ∷ [])) h c c d none i (i + suc n)
 texts_from ts h c d zero i q =
@@ -337,19 +341,19 @@ module _ (ts : List Lexeme) (t : Trees) (inside next : Reader)
       (λ b r. let v = if_some (is_word ts i word.RightBrace) (along ts t inside next s (past_token h) c d (i + 1) j) r in
       spells.comma_none (is_of ts i word.RightBrace v.0) tt (along_sound s _ c e d (i + 1) j v.1)) q
   along_sound (symbol.Qualified p ∷ []) h c e d i j q =
-      let u = if_some (span_is ts word.Const i (first_of t)) _ q in
+      let u = if_some (span_qualifies ts i (first_of t)) _ q in
       let v = some_of (lead ts inside t p h c (d + 1) (first_of t)) (λ x. next [] h x d (after_of t) j) u.1 in
       let w = done_is (after _ _ _ _ _ _ _ v.2) in
-      closed_by _ h c v.0 e d i (after_of t) j w.0 w.1 w.2 (spells.qualified (consts_of ts (d + 1) i (first_of t) u.0) (first p h c v.0 (d + 1) (first_of t) v.1))
+      closed_by _ h c v.0 e d i (after_of t) j w.0 w.1 w.2 (spells.qualified (qualifiers_of ts (d + 1) i (first_of t) u.0) (first p h c v.0 (d + 1) (first_of t) v.1))
   along_sound (symbol.Qualified p ∷ x ∷ s) h c e d i j q = cc
   along_sound (symbol.OptionalQualified p ∷ []) h c e d i j q =
       choose (is_none t) _ _
-      (λ n r. let u = if_some (span_is ts word.Const i j) (Some c) r in
-      from_none _ _ _ _ _ _ _ n (subst (λ x. Spells ts the_limit (rest (symbol.OptionalQualified p ∷ [])) h c x d none i j) (some_one u.1) (spells.qualified_none (consts_of ts (d + 1) i j u.0))))
-      (λ _ r. let u = if_some (span_is ts word.Const i (first_of t)) _ r in
+      (λ n r. let u = if_some (span_qualifies ts i j) (Some c) r in
+      from_none _ _ _ _ _ _ _ n (subst (λ x. Spells ts the_limit (rest (symbol.OptionalQualified p ∷ [])) h c x d none i j) (some_one u.1) (spells.qualified_none (qualifiers_of ts (d + 1) i j u.0))))
+      (λ _ r. let u = if_some (span_qualifies ts i (first_of t)) _ r in
       let v = some_of (lead ts inside t p h c (d + 1) (first_of t)) (λ x. next [] h x d (after_of t) j) u.1 in
       let w = done_is (after _ _ _ _ _ _ _ v.2) in
-      closed_by _ h c v.0 e d i (after_of t) j w.0 w.1 w.2 (spells.qualified_some (consts_of ts (d + 1) i (first_of t) u.0) (first p h c v.0 (d + 1) (first_of t) v.1))) q
+      closed_by _ h c v.0 e d i (after_of t) j w.0 w.1 w.2 (spells.qualified_some (qualifiers_of ts (d + 1) i (first_of t) u.0) (first p h c v.0 (d + 1) (first_of t) v.1))) q
   along_sound (symbol.OptionalQualified p ∷ x ∷ s) h c e d i j q = cc
   along_sound (symbol.Ordinary ∷ s) h c e d i j q =
       let v = if_some (is_word ts i word.Identifier && not (is_type c (spelling_at ts i))) (along ts t inside next s (past_token h) c d (i + 1) j) q in

@@ -1,4 +1,4 @@
--- Taking apart the checker's tests, and what its small functions say of a row.
+-- Taking apart the tests of reading, and what its small functions say of a row.
 use Rattle.std.proofs.Common.{◌≡◌, ℕ, Bool, true, false, List, Option, None, Some, refl, sym, ap}
 use Rattle.std.specs.Prelude.{if◌then◌else◌}
 pub use Rattle.std.proofs.lemmas.Bool.{and_parts as both, not-true as not_true}

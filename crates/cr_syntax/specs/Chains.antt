@@ -1,13 +1,24 @@
--- How the checker goes from a part to the kind of a node that stands for it.
+-- How reading goes from a part to the kind of a node that stands for it.
 use Rattle.std.specs.Prelude.{Bool, if◌then◌else◌}
 use denote.Enum.Bare.{sameb}
-use Rattle.cr_syntax.specs.contracts.symbol.Part as part_type
+use Rattle.cr_syntax.specs.contracts.part.Part as part_type
 use Rattle.cr_syntax.specs.declared.node.Kind.{Kind}
-use Rattle.cr_syntax.specs.declared.symbol.Part.{Part}
-use Rattle.cr_syntax.specs.declared.symbol.Part.TheVariants as part
-use Rattle.cr_syntax.specs.declared.chains.Link.{Link}
-use Rattle.cr_syntax.specs.declared.chains.Link.TheVariants.{Makes, Chains, Enters, Drops, Refuses}
+use Rattle.cr_syntax.specs.declared.part.Part.{Part}
+use Rattle.cr_syntax.specs.declared.part.Part.TheVariants as part
 use Rattle.cr_syntax.specs.Tables.{part_of}
+
+-- how a node of some kind can stand for a part
+pub data Link : Type 0 where
+  -- by an alternative of the part itself
+  Makes : Link
+  -- as another part, which is an alternative alone
+  Chains : Part → Link
+  -- as a declarator whose name enters its scope
+  Enters : Link
+  -- as a declarator whose name enters no scope
+  Drops : Link
+  -- in no way
+  Refuses : Link
 
 abbrev pub same_part : Part → Part → Bool
 same_part p q = sameb part_type.the_type p q

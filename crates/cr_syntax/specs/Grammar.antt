@@ -9,11 +9,11 @@ use Rattle.cr_syntax.specs.declared.word.Word.{Word}
 use Rattle.cr_syntax.specs.declared.word.Word.TheVariants as word
 use Rattle.cr_syntax.specs.declared.node.Kind.{Kind}
 use Rattle.cr_syntax.specs.declared.node.Kind.TheVariants as kind
-use Rattle.cr_syntax.specs.declared.symbol.Depth.TheVariants.{Outer, Inner, Innermost}
-use Rattle.cr_syntax.specs.declared.symbol.Part.{Part}
-use Rattle.cr_syntax.specs.declared.symbol.Part.TheVariants.{External, Declaration, InitDeclarator, Initializer, Specifiers, Specifier, PlainSpecifiers, Plain, MemberDeclaration, MemberDeclarator, Enumerator, Declarator, DirectDeclarator, Parameters, Parameter, ParameterDeclarator, Abstract, DirectAbstract, TypeName, BlockItem, Statement, Compound, Expression, Assignment, Conditional, LogicalOr, LogicalAnd, Or, Xor, And, Equality, Relational, Shift, Additive, Multiplicative, Cast, Unary, Postfix, Primary}
-use Rattle.cr_syntax.specs.declared.symbol.Symbol.{Symbol}
-use Rattle.cr_syntax.specs.declared.symbol.Symbol.TheVariants as symbol
+use Rattle.cr_syntax.specs.Symbols.{Outer, Inner, Innermost}
+use Rattle.cr_syntax.specs.declared.part.Part.{Part}
+use Rattle.cr_syntax.specs.declared.part.Part.TheVariants.{External, Declaration, InitDeclarator, Initializer, Specifiers, Specifier, PlainSpecifiers, Plain, MemberDeclaration, MemberDeclarator, Enumerator, Declarator, DirectDeclarator, Parameters, Parameter, ParameterDeclarator, Abstract, DirectAbstract, TypeName, BlockItem, Statement, Compound, Expression, Assignment, Conditional, LogicalOr, LogicalAnd, Or, Xor, And, Equality, Relational, Shift, Additive, Multiplicative, Cast, Unary, Postfix, Primary}
+use Rattle.cr_syntax.specs.Symbols.{Symbol}
+use Rattle.cr_syntax.specs.Symbols as symbol
 
 abbrev pub token : Word → Symbol
 token w = symbol.Token Outer w
@@ -100,6 +100,7 @@ pub data Alternative : Part → Kind → Side → Type 0 where
   -- 6.7.2 Type specifiers, 6.7.3 type qualifiers
   specifier_qualifier_list : Alternative PlainSpecifiers kind.PlainSpecifiers (part Plain ∷ part Plain ∷ many Plain ∷ [])
   qualifier_const : Alternative Plain kind.Const (token word.Const ∷ [])
+  qualifier_volatile : Alternative Plain kind.Volatile (token word.Volatile ∷ [])
   type_void : Alternative Plain kind.Void (token word.Void ∷ [])
   type_char : Alternative Plain kind.Char (token word.Char ∷ [])
   type_short : Alternative Plain kind.Short (token word.Short ∷ [])

@@ -1,8 +1,8 @@
 -- What every unit keeps of its nodes.
-use Rattle.std.specs.Prelude.{◌≡◌, ℕ, ◌<◌, ◌≤◌, ◌==◌, List, ◌++◌, Some, length, slice_get, slice_index, count_by}
+use Rattle.std.specs.Prelude.{◌≡◌, ℕ, ◌+◌, ◌<◌, ◌≤◌, ◌==◌, List, ◌++◌, Some, drop, length, slice_get, slice_index, count_by}
 use Rattle.std.specs.List.{flat_map}
 use Rattle.cr_syntax.specs.declared.node.Node.{Node}
-use Rattle.cr_syntax.specs.Trees.{Trees, row_of, trees_of}
+use Rattle.cr_syntax.specs.Trees.{Trees, node, row_of, trees_of}
 
 -- the numbers that the nodes name as their parts, and those of the items
 abbrev pub named_in : List Node → List ℕ → List ℕ
@@ -31,3 +31,9 @@ AreBelow ps bound = (i : ℕ) → i < length ps → slice_index ps i < bound
 -- the trees of a row of nodes
 abbrev pub row_in : List Node → List ℕ → Trees
 row_in nodes row = row_of (trees_of nodes) row
+
+-- the first node of a row that isn't empty: its tree begins the row's, its parts are below it, and it is one of the row
+pub record IsFirst (nodes : List Node) (row : List ℕ) (n : Node) : Type 0 where
+  pub some : 0 < length row
+  pub tree : row_in nodes row ≡ node n.kind n.first (n.last + 1) (row_in nodes n.parts) (row_in nodes (drop 1 row))
+  pub below : AreBelow n.parts (slice_index row 0)

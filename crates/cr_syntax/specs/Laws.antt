@@ -3,7 +3,7 @@ use Rattle.std.specs.Prelude.{◌≡◌, ◌≢◌, ℕ, List, Some, length}
 use Rattle.cr_tokens.specs.declared.token.Token.{Token}
 use Rattle.cr_tokens.specs.Tokens.{Tokenizes}
 use Rattle.cr_syntax.specs.declared.node.Kind.{Kind}
-use Rattle.cr_syntax.specs.declared.symbol.Part.{Part}
+use Rattle.cr_syntax.specs.declared.part.Part.{Part}
 use Rattle.cr_syntax.specs.Words.{Lexeme, AreSpans}
 use Rattle.cr_syntax.specs.declared.scopes.TypeName.{TypeName}
 use Rattle.cr_syntax.specs.Scopes.{Scopes, is_type, enter}

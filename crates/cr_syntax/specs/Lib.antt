@@ -1,6 +1,7 @@
 pub mod Words
 pub mod Trees
 pub mod Scopes
+pub mod Symbols
 pub mod Grammar
 pub mod Context
 pub mod Spells
@@ -10,7 +11,5 @@ pub mod Tables
 pub mod Chains
 pub mod Reads
 pub mod Steps
-pub mod Answers
 pub mod Laws
-pub mod Checked
 pub mod Expressions

@@ -1,4 +1,4 @@
--- How the checker reads a tree against the tokens: by recursion on the tree, and along a right side.
+-- Reading a tree against the tokens: by recursion on the tree, and along a right side.
 -- `reads` gives the scopes after the tree, or none where it doesn't spell the tokens.
 use Rattle.std.specs.Prelude.{ℕ, zero, suc, ◌+◌, ◌-◌, Bool, true, false, not, ◌&&◌, ◌||◌, ◌==◌, List, [], ◌∷◌, Option, None, Some, if◌then◌else◌, nat_lt, nat_le}
 use denote.Enum.Bare.{sameb}
@@ -6,12 +6,12 @@ use Rattle.cr_syntax.specs.contracts.word.Word as word_type
 use Rattle.cr_syntax.specs.declared.word.Word.{Word}
 use Rattle.cr_syntax.specs.declared.word.Word.TheVariants as word
 use Rattle.cr_syntax.specs.declared.node.Kind.{Kind}
-use Rattle.cr_syntax.specs.declared.symbol.Depth.{Depth}
-use Rattle.cr_syntax.specs.declared.symbol.Part.{Part}
-use Rattle.cr_syntax.specs.declared.symbol.Part.TheVariants as part
-use Rattle.cr_syntax.specs.declared.symbol.Symbol.TheVariants as symbol
-use Rattle.cr_syntax.specs.declared.symbol.Context.{Context}
-use Rattle.cr_syntax.specs.declared.chains.Link.TheVariants.{Makes, Chains, Enters, Drops, Refuses}
+use Rattle.cr_syntax.specs.Symbols.{Depth}
+use Rattle.cr_syntax.specs.declared.part.Part.{Part}
+use Rattle.cr_syntax.specs.declared.part.Part.TheVariants as part
+use Rattle.cr_syntax.specs.Symbols as symbol
+use Rattle.cr_syntax.specs.declared.part.Context.{Context}
+use Rattle.cr_syntax.specs.Chains.{Makes, Chains, Enters, Drops, Refuses}
 use Rattle.cr_syntax.specs.Words.{Lexeme, word_at, spelling_at}
 use Rattle.cr_syntax.specs.Scopes.{Scopes, is_type, enter}
 use Rattle.cr_syntax.specs.Trees.{Trees, none, node, one}
@@ -37,6 +37,17 @@ is_word ts i w = elim (word_at ts i) [ None ↦ false | Some v ↦ same_word v w
 abbrev pub are_words : List Lexeme → Word → ℕ → ℕ → Bool
 are_words ts w zero i = true
 are_words ts w (suc n) i = is_word ts i w && are_words ts w n (i + 1)
+
+-- token i is a type qualifier, and so are the next n tokens
+abbrev pub is_qualifier : List Lexeme → ℕ → Bool
+is_qualifier ts i = is_word ts i word.Const || is_word ts i word.Volatile
+
+abbrev pub are_qualifiers : List Lexeme → ℕ → ℕ → Bool
+are_qualifiers ts zero i = true
+are_qualifiers ts (suc n) i = is_qualifier ts i && are_qualifiers ts n (i + 1)
+
+abbrev pub span_qualifies : List Lexeme → ℕ → ℕ → Bool
+span_qualifies ts i j = nat_le i j && are_qualifiers ts (j - i) i
 
 abbrev pub span_is : List Lexeme → Word → ℕ → ℕ → Bool
 span_is ts w i j = nat_le i j && are_words ts w (j - i) i
@@ -140,13 +151,13 @@ along ts t inside next (symbol.TrailingComma ∷ s) h c d i j =
     then (if is_word ts (i + 1) word.RightBrace then along ts t inside next s (past_token h) c d (i + 1 + 1) j else None)
     else (if is_word ts i word.RightBrace then along ts t inside next s (past_token h) c d (i + 1) j else None)
 along ts t inside next (symbol.Qualified p ∷ []) h c d i j =
-    if span_is ts word.Const i (first_of t)
+    if span_qualifies ts i (first_of t)
     then elim (lead ts inside t p h c (d + 1) (first_of t)) [ None ↦ None | Some e ↦ next [] h e d (after_of t) j ]
     else None
 along ts t inside next (symbol.Qualified p ∷ x ∷ s) h c d i j = None
 along ts t inside next (symbol.OptionalQualified p ∷ []) h c d i j =
-    if is_none t then (if span_is ts word.Const i j then Some c else None)
-    else (if span_is ts word.Const i (first_of t)
+    if is_none t then (if span_qualifies ts i j then Some c else None)
+    else (if span_qualifies ts i (first_of t)
     then elim (lead ts inside t p h c (d + 1) (first_of t)) [ None ↦ None | Some e ↦ next [] h e d (after_of t) j ]
     else None)
 along ts t inside next (symbol.OptionalQualified p ∷ x ∷ s) h c d i j = None

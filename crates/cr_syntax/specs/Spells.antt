@@ -1,14 +1,14 @@
 -- What the grammar's symbols mean, and which trees spell which tokens.
-use Rattle.std.specs.Prelude.{◌≡◌, ℕ, ◌+◌, ◌<◌, Bool, true, false, not, ◌||◌, List, [], ◌∷◌, Some, if◌then◌else◌}
+use Rattle.std.specs.Prelude.{◌≡◌, ℕ, ◌+◌, ◌<◌, Bool, true, false, not, ◌||◌, ◌⊎◌, List, [], ◌∷◌, Some, if◌then◌else◌}
 use Rattle.cr_syntax.specs.declared.word.Word.{Word}
 use Rattle.cr_syntax.specs.declared.word.Word.TheVariants as word
 use Rattle.cr_syntax.specs.declared.node.Kind.{Kind}
-use Rattle.cr_syntax.specs.declared.symbol.Depth.{Depth}
-use Rattle.cr_syntax.specs.declared.symbol.Depth.TheVariants.{Outer, Inner, Innermost}
-use Rattle.cr_syntax.specs.declared.symbol.Part.{Part}
-use Rattle.cr_syntax.specs.declared.symbol.Part.TheVariants.{InitDeclarator, Declarator, MemberDeclarator, ParameterDeclarator, Parameters, Expression, Conditional, Statement, Declaration}
-use Rattle.cr_syntax.specs.declared.symbol.Symbol.TheVariants as symbol
-use Rattle.cr_syntax.specs.declared.symbol.Context.{Context}
+use Rattle.cr_syntax.specs.Symbols.{Depth}
+use Rattle.cr_syntax.specs.Symbols.{Outer, Inner, Innermost}
+use Rattle.cr_syntax.specs.declared.part.Part.{Part}
+use Rattle.cr_syntax.specs.declared.part.Part.TheVariants.{InitDeclarator, Declarator, MemberDeclarator, ParameterDeclarator, Parameters, Expression, Conditional, Statement, Declaration}
+use Rattle.cr_syntax.specs.Symbols as symbol
+use Rattle.cr_syntax.specs.declared.part.Context.{Context}
 use Rattle.cr_syntax.specs.Words.{Lexeme, word_at, spelling_at}
 use Rattle.cr_syntax.specs.declared.scopes.TypeName.{TypeName}
 use Rattle.cr_syntax.specs.Scopes.{Scopes, is_type, enter}
@@ -52,10 +52,14 @@ Is ts i w = word_at ts i ≡ Some w
 abbrev pub IsIdentifier : List Lexeme → Scopes → ℕ → Bool → Type 0
 IsIdentifier ts c i type = Is ts i word.Identifier × (is_type c (spelling_at ts i) ≡ type)
 
--- the tokens from i to before j are each `const`
-pub data AreConst (ts : List Lexeme) (limit : Limit) (d : ℕ) : ℕ → ℕ → Type 0 where
-  const_none : {i : ℕ} → AreConst ts limit d i i
-  const_more : {i j : ℕ} → Is ts i word.Const → Stands limit i d → AreConst ts limit d (i + 1) j → AreConst ts limit d i j
+-- token i is a type qualifier (6.7.3)
+abbrev pub Qualifies : List Lexeme → ℕ → Type 0
+Qualifies ts i = Is ts i word.Const ⊎ Is ts i word.Volatile
+
+-- the tokens from i to before j are each a type qualifier
+pub data AreQualifiers (ts : List Lexeme) (limit : Limit) (d : ℕ) : ℕ → ℕ → Type 0 where
+  qualifiers_none : {i : ℕ} → AreQualifiers ts limit d i i
+  qualifiers_more : {i j : ℕ} → Qualifies ts i → Stands limit i d → AreQualifiers ts limit d (i + 1) j → AreQualifiers ts limit d i j
 
 -- what is spelled: a part, or the rest of an alternative's right side
 pub data Phrase : Type 0 where
@@ -143,14 +147,14 @@ pub data Spells (ts : List Lexeme) (limit : Limit) : Phrase → Context → Scop
       Is ts i word.Comma → Stands limit i (d + 1) → Is ts (i + 1) word.RightBrace → Stands limit (i + 1) (d + 1) →
       Spells ts limit (rest s) (past_token h) c e d t (i + 1 + 1) j →
       Spells ts limit (rest (symbol.TrailingComma ∷ s)) h c e d t i j
-  -- {"const"} in the level of a `*`, and what it points to
+  -- {"const" | "volatile"} in the level of a `*`, and what it points to
   qualified : {p : Part} {h : Context} {c e : Scopes} {d i j k : ℕ} {t : Trees} →
-      AreConst ts limit (d + 1) i j → Spells ts limit (a p) h c e (d + 1) t j k →
+      AreQualifiers ts limit (d + 1) i j → Spells ts limit (a p) h c e (d + 1) t j k →
       Spells ts limit (rest (symbol.Qualified p ∷ [])) h c e d t i k
   qualified_none : {p : Part} {h : Context} {c : Scopes} {d i j : ℕ} →
-      AreConst ts limit (d + 1) i j → Spells ts limit (rest (symbol.OptionalQualified p ∷ [])) h c c d none i j
+      AreQualifiers ts limit (d + 1) i j → Spells ts limit (rest (symbol.OptionalQualified p ∷ [])) h c c d none i j
   qualified_some : {p : Part} {h : Context} {c e : Scopes} {d i j k : ℕ} {t : Trees} →
-      AreConst ts limit (d + 1) i j → Spells ts limit (a p) h c e (d + 1) t j k →
+      AreQualifiers ts limit (d + 1) i j → Spells ts limit (a p) h c e (d + 1) t j k →
       Spells ts limit (rest (symbol.OptionalQualified p ∷ [])) h c e d t i k
   -- An identifier in an expression is none that the scopes make a type, and a typedef name is one with no type specifier
   -- before it in its specifiers (6.7.8, 6.5.1).

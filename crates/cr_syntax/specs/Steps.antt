@@ -1,26 +1,19 @@
 -- How a reading goes on after a part, for each symbol that has one. Each takes what the part left: its scopes, or none.
-use Rattle.std.specs.Prelude.{ℕ, ◌+◌, Bool, ◌&&◌, List, [], ◌∷◌, Option, None, Some, if◌then◌else◌}
-use Rattle.cr_syntax.specs.declared.word.Word.{Word}
+use Rattle.std.specs.Prelude.{ℕ, ◌+◌, ◌&&◌, List, [], ◌∷◌, Option, None, Some, if◌then◌else◌}
 use Rattle.cr_syntax.specs.declared.word.Word.TheVariants as word
 use Rattle.cr_syntax.specs.declared.scopes.TypeName.{TypeName}
-use Rattle.cr_syntax.specs.declared.symbol.Part.TheVariants as part
-use Rattle.cr_syntax.specs.declared.symbol.Context.{Context}
+use Rattle.cr_syntax.specs.declared.part.Context.{Context}
 use Rattle.cr_syntax.specs.Words.{Lexeme}
 use Rattle.cr_syntax.specs.Scopes.{Scopes}
 use Rattle.cr_syntax.specs.Trees.{Trees}
 use Rattle.cr_syntax.specs.Context.{past_token, past_part}
 use Rattle.cr_syntax.specs.Grammar.{Side}
-use Rattle.cr_syntax.specs.Reads.{is_word, has_room, after_of, alone, reads, next_of, leads}
+use Rattle.cr_syntax.specs.Reads.{is_word, has_room, after_of, alone, reads, next_of}
 
 -- a part
 abbrev pub part_on : List Lexeme → Trees → Side → Context → ℕ → ℕ → Option Scopes → Option Scopes
 part_on ts t s h d j None = None
 part_on ts t s h d j (Some e) = reads ts (next_of t) s (past_part h (alone t)) e d (after_of t) j
-
--- an expression before a token, which is refused where it doesn't fit
-abbrev pub before_on : List Lexeme → Trees → Word → Bool → Side → Context → ℕ → ℕ → Option Scopes → Option Scopes
-before_on ts t w fits s h d j None = None
-before_on ts t w fits s h d j (Some e) = if is_word ts (after_of t) w && fits then reads ts (next_of t) s (past_token h) e d (after_of t + 1) j else None
 
 -- the expressions of a `for`
 abbrev pub clause_on : List Lexeme → Trees → Side → Context → ℕ → ℕ → Option Scopes → Option Scopes
@@ -43,20 +36,10 @@ prototype_on ts t s h own d j None = None
 prototype_on ts t s h own d j (Some []) = None
 prototype_on ts t s h own d j (Some (names ∷ e)) = reads ts (next_of t) s (past_part h (alone t)) ((if h.bare then names else own) ∷ e) d (after_of t) j
 
--- the parameters of a declarator, read outside its own scope
-abbrev pub prototype_from : List Lexeme → Trees → Side → Context → Scopes → ℕ → ℕ → ℕ → Option Scopes
-prototype_from ts t s h [] d i j = None
-prototype_from ts t s h (own ∷ c) d i j = prototype_on ts t s h own d j (leads ts t part.Parameters h ([] ∷ c) (d + 1) i)
-
 -- the size of an array declarator
 abbrev pub size_on : List Lexeme → Trees → Side → Context → List TypeName → ℕ → ℕ → Option Scopes → Option Scopes
 size_on ts t s h own d j None = None
 size_on ts t s h own d j (Some e) = reads ts (next_of t) s (past_part h (alone t)) (own ∷ e) d (after_of t) j
-
--- the size, read outside the declarator's own scope
-abbrev pub size_from : List Lexeme → Trees → Side → Context → Scopes → ℕ → ℕ → ℕ → Option Scopes
-size_from ts t s h [] d i j = None
-size_from ts t s h (own ∷ c) d i j = size_on ts t s h own d j (leads ts t part.Conditional h c (d + 1) i)
 
 -- a qualified part, which ends its right side
 abbrev pub qualified_on : List Lexeme → Trees → Context → ℕ → ℕ → Option Scopes → Option Scopes

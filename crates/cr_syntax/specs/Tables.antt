@@ -1,44 +1,133 @@
--- The grammar as the checker's table has it. It is the grammar: see `alternative_of` in proofs.
-use Rattle.std.specs.Prelude.{List, [], ◌∷◌, Bool, map, if◌then◌else◌}
-use Rattle.std.specs.Borrow.{Bor}
-use denote.Enum.Bare.{sameb}
-use Rattle.cr_syntax.specs.contracts.node.Kind as kind_type
+-- The grammar as a table, which gives each kind of node its alternative. It is the grammar: the law `table_is_grammar`.
+use Rattle.std.specs.Prelude.{[], ◌∷◌}
+use Rattle.cr_syntax.specs.declared.word.Word.TheVariants as word
 use Rattle.cr_syntax.specs.declared.node.Kind.{Kind}
-use Rattle.cr_syntax.specs.declared.symbol.Part.{Part}
-use Rattle.cr_syntax.specs.declared.symbol.Part.TheVariants.{External}
-use Rattle.cr_syntax.specs.declared.symbol.Symbol.{Symbol}
-use Rattle.cr_syntax.specs.declared.operators.TheConstants.{EXPRESSIONS}
-use Rattle.cr_syntax.specs.declared.rules.TheConstants.{DECLARATIONS}
-use Rattle.cr_syntax.specs.Grammar.{Side}
+use Rattle.cr_syntax.specs.declared.node.Kind.TheVariants as kind
+use Rattle.cr_syntax.specs.declared.part.Part.{Part}
+use Rattle.cr_syntax.specs.declared.part.Part.TheVariants.{External, Declaration, InitDeclarator, Initializer, Specifiers, Specifier, PlainSpecifiers, Plain, MemberDeclaration, MemberDeclarator, Enumerator, Declarator, DirectDeclarator, Parameters, Parameter, ParameterDeclarator, Abstract, DirectAbstract, TypeName, BlockItem, Statement, Compound, Expression, Assignment, Conditional, LogicalOr, LogicalAnd, Or, Xor, And, Equality, Relational, Shift, Additive, Multiplicative, Cast, Unary, Postfix, Primary}
+use Rattle.cr_syntax.specs.Symbols as symbol
+use Rattle.cr_syntax.specs.Grammar.{Side, inner, innermost, optional, many, list, optional_list, token, closing, inner_closing, opening, inner_opening, reopening, part, inner_optional, inner_many, inner_list, inner_optional_list, binary, prefix, assignment_by}
 
--- a kind, what it is an alternative of, and its right side
-abbrev pub Rule : Type 0
-Rule = Kind × Part × Side
+-- what a kind is an alternative of, and its right side
+pub record Rule : Type 0 where
+  pub part : Part
+  pub side : Side
 
--- a table as the program has it
-abbrev pub plain : List (Kind × Part × Bor (List Symbol)) → List Rule
-plain = map (λ r. (r.0, r.1, r.2.now))
+abbrev row : Part → Side → Rule
+row p s = record { part = p; side = s }
 
-unfoldable pub declaration_rules : List Rule
-declaration_rules = map (λ r. (r.0, r.1, r.2.now)) DECLARATIONS
+unfoldable pub rule_of : Kind → Rule
+rule_of kind.FunctionDefinition = row External (part Specifiers ∷ part Declarator ∷ symbol.Enters ∷ part Compound ∷ symbol.Ends ∷ [])
+rule_of kind.Declaration = row Declaration (part Specifiers ∷ optional_list InitDeclarator ∷ token word.Semicolon ∷ [])
+rule_of kind.InitDeclarator = row InitDeclarator (part Declarator ∷ symbol.Enters ∷ symbol.Ends ∷ token word.Equal ∷ part Initializer ∷ [])
+rule_of kind.InitializerList = row Initializer (opening word.LeftBrace ∷ inner_list Initializer ∷ symbol.TrailingComma ∷ [])
+rule_of kind.Specifiers = row Specifiers (part Specifier ∷ part Specifier ∷ many Specifier ∷ [])
+rule_of kind.Typedef = row Specifier (token word.Typedef ∷ [])
+rule_of kind.Extern = row Specifier (token word.Extern ∷ [])
+rule_of kind.Static = row Specifier (token word.Static ∷ [])
+rule_of kind.Auto = row Specifier (token word.Auto ∷ [])
+rule_of kind.Register = row Specifier (token word.Register ∷ [])
+rule_of kind.Inline = row Specifier (token word.Inline ∷ [])
+rule_of kind.PlainSpecifiers = row PlainSpecifiers (part Plain ∷ part Plain ∷ many Plain ∷ [])
+rule_of kind.Const = row Plain (token word.Const ∷ [])
+rule_of kind.Volatile = row Plain (token word.Volatile ∷ [])
+rule_of kind.Void = row Plain (token word.Void ∷ [])
+rule_of kind.Char = row Plain (token word.Char ∷ [])
+rule_of kind.Short = row Plain (token word.Short ∷ [])
+rule_of kind.Int = row Plain (token word.Int ∷ [])
+rule_of kind.Long = row Plain (token word.Long ∷ [])
+rule_of kind.Signed = row Plain (token word.Signed ∷ [])
+rule_of kind.Unsigned = row Plain (token word.Unsigned ∷ [])
+rule_of kind.Bool = row Plain (token word.Bool ∷ [])
+rule_of kind.TypedefName = row Plain (symbol.TypeIdentifier ∷ [])
+rule_of kind.StructContent = row Plain (token word.Struct ∷ symbol.Tag ∷ inner MemberDeclaration ∷ inner_many MemberDeclaration ∷ closing word.RightBrace ∷ [])
+rule_of kind.StructTag = row Plain (token word.Struct ∷ token word.Identifier ∷ [])
+rule_of kind.MemberDeclaration = row MemberDeclaration (part PlainSpecifiers ∷ list MemberDeclarator ∷ token word.Semicolon ∷ [])
+rule_of kind.EnumContent = row Plain (token word.Enum ∷ symbol.Tag ∷ inner_list Enumerator ∷ symbol.TrailingComma ∷ [])
+rule_of kind.EnumTag = row Plain (token word.Enum ∷ token word.Identifier ∷ [])
+rule_of kind.Enumerator = row Enumerator (symbol.Enumerates ∷ symbol.Value ∷ [])
+rule_of kind.PointerDeclarator = row Declarator (opening word.Star ∷ symbol.Qualified Declarator ∷ [])
+rule_of kind.NameDeclarator = row DirectDeclarator (symbol.Declared ∷ [])
+rule_of kind.GroupDeclarator = row DirectDeclarator (opening word.LeftParen ∷ inner Declarator ∷ closing word.RightParen ∷ [])
+rule_of kind.ArrayDeclarator = row DirectDeclarator (part DirectDeclarator ∷ opening word.LeftBracket ∷ symbol.Size ∷ closing word.RightBracket ∷ [])
+rule_of kind.FunctionDeclarator = row DirectDeclarator (part DirectDeclarator ∷ opening word.LeftParen ∷ symbol.Prototype ∷ closing word.RightParen ∷ [])
+rule_of kind.VoidParameters = row Parameters (token word.Void ∷ [])
+rule_of kind.Parameters = row Parameters (part Parameter ∷ token word.Comma ∷ list Parameter ∷ [])
+rule_of kind.VariadicParameters = row Parameters (list Parameter ∷ token word.Comma ∷ token word.Ellipsis ∷ [])
+rule_of kind.Parameter = row Parameter (part Specifiers ∷ part ParameterDeclarator ∷ [])
+rule_of kind.AbstractPointer = row Abstract (opening word.Star ∷ symbol.OptionalQualified Abstract ∷ [])
+rule_of kind.AbstractGroup = row DirectAbstract (opening word.LeftParen ∷ inner Abstract ∷ closing word.RightParen ∷ [])
+rule_of kind.AbstractArray = row DirectAbstract (opening word.LeftBracket ∷ inner_optional Conditional ∷ closing word.RightBracket ∷ [])
+rule_of kind.AbstractArrayOf = row DirectAbstract (part DirectAbstract ∷ opening word.LeftBracket ∷ inner_optional Conditional ∷ closing word.RightBracket ∷ [])
+rule_of kind.TypeName = row TypeName (part PlainSpecifiers ∷ part Abstract ∷ [])
+rule_of kind.Compound = row Compound (symbol.Begins ∷ opening word.LeftBrace ∷ inner_many BlockItem ∷ closing word.RightBrace ∷ symbol.Ends ∷ [])
+rule_of kind.ExpressionStatement = row Statement (optional Expression ∷ token word.Semicolon ∷ [])
+rule_of kind.If = row Statement (symbol.Begins ∷ token word.If ∷ opening word.LeftParen ∷ inner Expression ∷ reopening word.RightParen ∷ symbol.Begins ∷ inner Statement ∷ symbol.Ends ∷ symbol.Else ∷ symbol.Ends ∷ [])
+rule_of kind.Switch = row Statement (symbol.Begins ∷ token word.Switch ∷ opening word.LeftParen ∷ inner Expression ∷ reopening word.RightParen ∷ symbol.Begins ∷ inner Compound ∷ symbol.Ends ∷ symbol.Ends ∷ [])
+rule_of kind.While = row Statement (symbol.Begins ∷ token word.While ∷ opening word.LeftParen ∷ inner Expression ∷ reopening word.RightParen ∷ symbol.Begins ∷ inner Statement ∷ symbol.Ends ∷ symbol.Ends ∷ [])
+rule_of kind.Do = row Statement (symbol.Begins ∷ opening word.Do ∷ symbol.Begins ∷ inner Statement ∷ symbol.Ends ∷ token word.While ∷ opening word.LeftParen ∷ inner Expression ∷ closing word.RightParen ∷ token word.Semicolon ∷ symbol.Ends ∷ [])
+rule_of kind.For = row Statement (symbol.Begins ∷ token word.For ∷ opening word.LeftParen ∷ symbol.Init ∷ symbol.Clause ∷ symbol.Step ∷ symbol.Begins ∷ inner Statement ∷ symbol.Ends ∷ symbol.Ends ∷ [])
+rule_of kind.Case = row Statement (token word.Case ∷ part Conditional ∷ opening word.Colon ∷ inner Statement ∷ [])
+rule_of kind.Default = row Statement (token word.Default ∷ opening word.Colon ∷ inner Statement ∷ [])
+rule_of kind.Break = row Statement (token word.Break ∷ token word.Semicolon ∷ [])
+rule_of kind.Continue = row Statement (token word.Continue ∷ token word.Semicolon ∷ [])
+rule_of kind.Return = row Statement (token word.Return ∷ optional Expression ∷ token word.Semicolon ∷ [])
+rule_of kind.Comma = row Expression (binary Expression word.Comma Assignment)
+rule_of kind.Assign = row Assignment (assignment_by word.Equal)
+rule_of kind.MultiplyAssign = row Assignment (assignment_by word.StarEqual)
+rule_of kind.DivideAssign = row Assignment (assignment_by word.SlashEqual)
+rule_of kind.RemainderAssign = row Assignment (assignment_by word.PercentEqual)
+rule_of kind.AddAssign = row Assignment (assignment_by word.PlusEqual)
+rule_of kind.SubtractAssign = row Assignment (assignment_by word.MinusEqual)
+rule_of kind.ShiftLeftAssign = row Assignment (assignment_by word.LessLessEqual)
+rule_of kind.ShiftRightAssign = row Assignment (assignment_by word.GreaterGreaterEqual)
+rule_of kind.AndAssign = row Assignment (assignment_by word.AmpersandEqual)
+rule_of kind.XorAssign = row Assignment (assignment_by word.CaretEqual)
+rule_of kind.OrAssign = row Assignment (assignment_by word.BarEqual)
+rule_of kind.Conditional = row Conditional (part LogicalOr ∷ opening word.Question ∷ inner Expression ∷ reopening word.Colon ∷ inner Conditional ∷ [])
+rule_of kind.LogicalOr = row LogicalOr (binary LogicalOr word.BarBar LogicalAnd)
+rule_of kind.LogicalAnd = row LogicalAnd (binary LogicalAnd word.AndAnd Or)
+rule_of kind.Or = row Or (binary Or word.Bar Xor)
+rule_of kind.Xor = row Xor (binary Xor word.Caret And)
+rule_of kind.And = row And (binary And word.Ampersand Equality)
+rule_of kind.Equal = row Equality (binary Equality word.EqualEqual Relational)
+rule_of kind.NotEqual = row Equality (binary Equality word.BangEqual Relational)
+rule_of kind.Less = row Relational (binary Relational word.Less Shift)
+rule_of kind.Greater = row Relational (binary Relational word.Greater Shift)
+rule_of kind.LessEqual = row Relational (binary Relational word.LessEqual Shift)
+rule_of kind.GreaterEqual = row Relational (binary Relational word.GreaterEqual Shift)
+rule_of kind.ShiftLeft = row Shift (binary Shift word.LessLess Additive)
+rule_of kind.ShiftRight = row Shift (binary Shift word.GreaterGreater Additive)
+rule_of kind.Add = row Additive (binary Additive word.Plus Multiplicative)
+rule_of kind.Subtract = row Additive (binary Additive word.Minus Multiplicative)
+rule_of kind.Multiply = row Multiplicative (binary Multiplicative word.Star Cast)
+rule_of kind.Divide = row Multiplicative (binary Multiplicative word.Slash Cast)
+rule_of kind.Remainder = row Multiplicative (binary Multiplicative word.Percent Cast)
+rule_of kind.Cast = row Cast (opening word.LeftParen ∷ inner TypeName ∷ reopening word.RightParen ∷ inner Cast ∷ [])
+rule_of kind.PreIncrement = row Unary (prefix word.PlusPlus Unary)
+rule_of kind.PreDecrement = row Unary (prefix word.MinusMinus Unary)
+rule_of kind.AddressOf = row Unary (prefix word.Ampersand Cast)
+rule_of kind.Dereference = row Unary (prefix word.Star Cast)
+rule_of kind.Plus = row Unary (prefix word.Plus Cast)
+rule_of kind.Minus = row Unary (prefix word.Minus Cast)
+rule_of kind.Complement = row Unary (prefix word.Tilde Cast)
+rule_of kind.Not = row Unary (prefix word.Bang Cast)
+rule_of kind.SizeofExpression = row Unary (prefix word.Sizeof Unary)
+rule_of kind.SizeofType = row Unary (opening word.Sizeof ∷ inner_opening word.LeftParen ∷ innermost TypeName ∷ inner_closing word.RightParen ∷ [])
+rule_of kind.Call = row Postfix (symbol.Ordinary ∷ opening word.LeftParen ∷ inner_optional_list Assignment ∷ closing word.RightParen ∷ [])
+rule_of kind.Subscript = row Postfix (part Postfix ∷ opening word.LeftBracket ∷ inner Expression ∷ closing word.RightBracket ∷ [])
+rule_of kind.Member = row Postfix (part Postfix ∷ token word.Dot ∷ token word.Identifier ∷ [])
+rule_of kind.PointerMember = row Postfix (part Postfix ∷ token word.Arrow ∷ token word.Identifier ∷ [])
+rule_of kind.PostIncrement = row Postfix (part Postfix ∷ token word.PlusPlus ∷ [])
+rule_of kind.PostDecrement = row Postfix (part Postfix ∷ token word.MinusMinus ∷ [])
+rule_of kind.Identifier = row Primary (symbol.Ordinary ∷ [])
+rule_of kind.Integer = row Primary (token word.Integer ∷ [])
+rule_of kind.Character = row Primary (token word.Character ∷ [])
+rule_of kind.Text = row Primary (symbol.Texts ∷ [])
+rule_of kind.Group = row Primary (opening word.LeftParen ∷ inner Expression ∷ closing word.RightParen ∷ [])
 
-unfoldable pub expression_rules : List Rule
-expression_rules = map (λ r. (r.0, r.1, r.2.now)) EXPRESSIONS
+abbrev pub part_of : Kind → Part
+part_of k = (rule_of k).part
 
-abbrev pub same_kind : Kind → Kind → Bool
-same_kind k q = sameb kind_type.the_type k q
-
--- the first row of a kind, or what stands for it where there is none
-abbrev pub side_in : List Rule → Kind → Side → Side
-side_in [] k other = other
-side_in (r ∷ rs) k other = if same_kind r.0 k then r.2 else side_in rs k other
-
-abbrev pub part_in : List Rule → Kind → Part → Part
-part_in [] k other = other
-part_in (r ∷ rs) k other = if same_kind r.0 k then r.1 else part_in rs k other
-
-unfoldable pub side_of : Kind → Side
-side_of k = side_in declaration_rules k (side_in expression_rules k [])
-
-unfoldable pub part_of : Kind → Part
-part_of k = part_in declaration_rules k (part_in expression_rules k External)
+abbrev pub side_of : Kind → Side
+side_of k = (rule_of k).side

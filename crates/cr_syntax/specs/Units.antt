@@ -4,7 +4,7 @@ use Rattle.cr_syntax.specs.declared.word.Word.{Word}
 use Rattle.cr_syntax.specs.declared.word.Word.TheVariants as word
 use Rattle.cr_syntax.specs.declared.node.Kind.{Kind}
 use Rattle.cr_syntax.specs.declared.node.Kind.TheVariants as kind
-use Rattle.cr_syntax.specs.declared.symbol.Part.TheVariants.{External}
+use Rattle.cr_syntax.specs.declared.part.Part.TheVariants.{External}
 use Rattle.cr_syntax.specs.declared.shape.Base.TheVariants.{ItsName, InBrackets, Derived, NoDeclarator}
 use Rattle.cr_syntax.specs.Words.{Lexeme}
 use Rattle.cr_syntax.specs.Scopes.{Scopes}
@@ -149,7 +149,6 @@ is_unused word.Float = true
 is_unused word.Goto = true
 is_unused word.Restrict = true
 is_unused word.Union = true
-is_unused word.Volatile = true
 is_unused word.Alignas = true
 is_unused word.Alignof = true
 is_unused word.Atomic = true
@@ -160,6 +159,33 @@ is_unused word.Noreturn = true
 is_unused word.StaticAssert = true
 is_unused word.ThreadLocal = true
 is_unused _ = false
+
+-- the words with which a statement begins, but for the brace of a block and the labels of a switch (6.8, 6.5)
+abbrev pub begins_statement : Word → Bool
+begins_statement word.Semicolon = true
+begins_statement word.If = true
+begins_statement word.Switch = true
+begins_statement word.While = true
+begins_statement word.Do = true
+begins_statement word.For = true
+begins_statement word.Break = true
+begins_statement word.Continue = true
+begins_statement word.Return = true
+begins_statement word.PlusPlus = true
+begins_statement word.MinusMinus = true
+begins_statement word.Ampersand = true
+begins_statement word.Star = true
+begins_statement word.Plus = true
+begins_statement word.Minus = true
+begins_statement word.Tilde = true
+begins_statement word.Bang = true
+begins_statement word.Sizeof = true
+begins_statement word.Identifier = true
+begins_statement word.Integer = true
+begins_statement word.Character = true
+begins_statement word.Text = true
+begins_statement word.LeftParen = true
+begins_statement _ = false
 
 -- the list with this word at token k
 abbrev pub with_word : List Lexeme → ℕ → Word → List Lexeme
@@ -186,9 +212,8 @@ pub data Outside (ts : List Lexeme) : ℕ → ℕ → Type 0 where
   -- 6: a label of a switch that stands deeper than the switch's own block, or as a switch's body
   deep_label : {k : ℕ} {t : Trees} → k < length ts → Completes (Upto k most_levels) ts (k + 1) t → misplaced_at k elsewhere t ≡ true → Outside ts k 6
   label_as_body : {k : ℕ} (s : ℕ) → Is ts k word.Case ⊎ Is ts k word.Default → Shows ts k (switch_body_at s k) → Outside ts k 6
-  -- 7: another statement than a block as a switch's body: it could be that of a `while` in the switch's place
-  switch_body : {k : ℕ} (s : ℕ) → k < length ts → Shows ts k (switch_body_at s k) → (Is ts k word.LeftBrace → ⊥) → (Is ts k word.Case → ⊥) → (Is ts k word.Default → ⊥) →
-      Begins (Upto k most_levels) (with_word ts s word.While) (k + 1) → Outside ts k 7
+  -- 7: another statement than a block as a switch's body: its first word
+  switch_body : {k : ℕ} {w : Word} (s : ℕ) → Is ts k w → begins_statement w ≡ true → Shows ts k (switch_body_at s k) → Outside ts k 7
   -- 8: the `...` of a function definition's own parameters, where its body begins at token m, and the tokens before that one
   -- are within the limit: it is the body's brace that shows what the declarator belongs to
   variadic_function : {k : ℕ} {t : Trees} (m : ℕ) → k < m → Is ts m word.LeftBrace → Completes (Upto m most_levels) ts (m + 1) t → Has (variadic_definition k m) t → Outside ts k 8

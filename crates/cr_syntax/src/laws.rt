@@ -1,6 +1,6 @@
 ghost use Rattle.cr_syntax.specs.Laws.{TableIsGrammar, GrammarIsTable, ReadIsUnit, UnitIsRead, LatestDecides, OthersStay, TokensAreSpans};
 
-/// A law: the table of right sides is the grammar, alternative by alternative.
+/// A law: each kind of node has one alternative, which a table gives.
 pub fn table_is_grammar()
     ensures each { TableIsGrammar }
     ensures only { GrammarIsTable }
@@ -18,7 +18,7 @@ pub fn latest_declaration_decides()
     ensures others { OthersStay }
 {}
 
-/// A law: the tokens of a file are parts of it, as `word_at` and `spells_unit` ask.
+/// A law: the tokens of a file are parts of it, as `word_at` asks.
 pub fn tokens_are_spans()
     ensures { TokensAreSpans }
 {}

@@ -33,6 +33,7 @@ pub enum Kind {
     PlainSpecifiers,
     /// `const`
     Const,
+    Volatile,
     /// `void`
     Void,
     /// `char`

@@ -1,12 +1,11 @@
 ghost use Rattle.std.specs.Prelude.{◌≡◌, ℕ, ◌<◌, ◌≤◌, MatchOption, length, drop};
-ghost use Rattle.cr_syntax.specs.Trees.{Trees, none, one};
-ghost use Rattle.cr_syntax.specs.Kept.{PartsAreBelow, AreBelow, row_in};
-ghost use Rattle.cr_syntax.specs.Context.{past_token, past_part, is_type_specifier, is_typedef, any_kind, specifies, base_of, is_bare, declared_in, ending_of, has_else, ends_open, else_is_nearest, fits_together, may_stand, at_start};
-ghost use Rattle.cr_syntax.specs.Reads.{begins_at};
-ghost use Rattle.cr_syntax.specs.Answers.{IsFirst};
+ghost use Rattle.cr_syntax.specs.Trees.{none, one};
+ghost use Rattle.cr_syntax.specs.Kept.{PartsAreBelow, AreBelow, IsFirst, row_in};
+ghost use Rattle.cr_syntax.specs.Context.{past_token, past_part, is_type_specifier, is_typedef, any_kind, specifies, base_of, is_bare, declared_in, ending_of, has_else, ends_open};
+ghost use Rattle.cr_syntax.specs.Kept.{IsFirst};
 
 use crate::node::{Kind, Node};
-use crate::symbol::{Context, Part};
+use crate::part::Context;
 
 /// What is said where nothing stands before.
 pub const FRESH: Context = Context {
@@ -23,24 +22,6 @@ pub fn past_token(context: Context) -> Context
     Context {
         typed: true,
         ..context
-    }
-}
-
-/// What is said at the beginning of a part.
-pub fn at_start(p: Part, context: Context) -> Context
-    ensures { result ≡ at_start p context }
-{
-    match p {
-        Part::InitDeclarator
-        | Part::Specifiers
-        | Part::Specifier
-        | Part::PlainSpecifiers
-        | Part::Plain
-        | Part::MemberDeclarator
-        | Part::Declarator
-        | Part::DirectDeclarator
-        | Part::ParameterDeclarator => context,
-        _ => FRESH,
     }
 }
 
@@ -299,62 +280,5 @@ fn leaves_open(nodes: &[Node], node: &Node, bound: usize) -> bool
         Ending::InBranch => !has_else(nodes, parts) || ends_open(nodes, parts, bound),
         Ending::InBody => ends_open(nodes, parts, bound),
         Ending::Closed => false,
-    }
-}
-
-/// Whether a node's parts meet the test that its kind makes besides its right side.
-pub fn fits_together(nodes: &[Node], node: &Node) -> bool
-    requires parts { PartsAreBelow nodes.now }
-    requires row { AreBelow node.now.parts (length nodes.now) }
-    ensures { result ≡ fits_together node.now.kind (row_in nodes.now node.now.parts) }
-{
-    match node.kind {
-        Kind::If => else_is_nearest(nodes, node.parts.as_slice()),
-        _ => true,
-    }
-}
-
-fn else_is_nearest(nodes: &[Node], row: &[u32]) -> bool
-    requires parts { PartsAreBelow nodes.now }
-    requires row { AreBelow row.now (length nodes.now) }
-    ensures { result ≡ else_is_nearest (row_in nodes.now row.now) }
-{
-    match first(nodes, row) {
-        None => true,
-        Some(_) => {
-            let rest = rest_of(row);
-            match first(nodes, rest) {
-                None => true,
-                Some(branch) => {
-                    let last = rest_of(rest);
-                    match first(nodes, last) {
-                        None => true,
-                        Some(_) => !leaves_open(nodes, branch, rest[0] as usize),
-                    }
-                }
-            }
-        }
-    }
-}
-
-/// Whether a part may stand alone as another: the one token `void` is no parameter.
-pub fn may_stand(p: Part, kind: Kind) -> bool
-    ensures { (i j : ℕ) (t : Trees) → result ≡ may_stand p (one kind i j t) }
-{
-    match p {
-        Part::Parameters => !matches!(kind, Kind::Void),
-        _ => true,
-    }
-}
-
-/// Whether a row's first node begins at this token.
-pub fn begins_at(nodes: &[Node], row: &[u32], at: usize) -> bool
-    requires parts { PartsAreBelow nodes.now }
-    requires row { AreBelow row.now (length nodes.now) }
-    ensures { result ≡ begins_at (row_in nodes.now row.now) at }
-{
-    match first(nodes, row) {
-        None => false,
-        Some(node) => node.first as usize == at,
     }
 }

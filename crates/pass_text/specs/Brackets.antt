@@ -2,6 +2,7 @@
 use Rattle.std.specs.Prelude.{◌≡◌, ℕ, ◌+◌, ◌-◌, ◌==◌, List, [], ◌∷◌, map, slice_index, if◌then◌else◌}
 use Rattle.cr_tokens.specs.declared.token.Token.{Token}
 use Rattle.cr_edit.specs.declared.change.Change.{Change}
+use Rattle.cr_edit.specs.Forms.{nothing_kept}
 use Rattle.cr_edit.specs.Menu.{Offering}
 use Rattle.cr_levels.specs.Places.{gone}
 use Rattle.cr_brackets.specs.declared.pair.Pair.{Pair}
@@ -22,7 +23,7 @@ pairs_gone tokens pairs level = map (pair_gone tokens level) pairs
 
 -- one edit for each pair at each of the three levels
 abbrev pub b_offering : List Token → List Pair → Offering
-b_offering tokens pairs = record { levels = map (pairs_gone tokens pairs) (0 ∷ (1 ∷ (2 ∷ []))); kept = [] }
+b_offering tokens pairs = record { levels = map (pairs_gone tokens pairs) (0 ∷ (1 ∷ (2 ∷ []))); kept = nothing_kept }
 
 -- What pass b offers: the edits of the pairs, in the order of the opening brackets, and none where some bracket has no partner.
 pub data IsBracketOffering (file : List ℕ) (tokens : List Token) (menu : Offering) : Type 0 where

@@ -3,6 +3,8 @@ use Rattle.std.specs.Prelude.{ℕ, ◌+◌, ◌-◌, ◌*◌, ◌^◌, List, [],
 use Rattle.std.specs.Int.{div_ceil}
 use Rattle.cr_cursor.specs.declared.passes.Cursor.{Cursor}
 use Rattle.cr_cursor.specs.Variants.{Widths}
+use Rattle.cr_edit.specs.declared.change.Change.{Change}
+use Rattle.cr_edit.specs.declared.change.Text.TheVariants.{Nothing}
 
 -- one byte more before the first line
 abbrev pub onto_first : ℕ → List (List ℕ) → List (List ℕ)
@@ -33,6 +35,14 @@ lines_widths file = chunks_of (length (lines_of file))
 -- the file without the chunk
 abbrev pub lines_bytes : List ℕ → Cursor → List ℕ
 lines_bytes file at = joined (take (at.index * chunk_of at.level) (lines_of file)) ++ joined (drop ((at.index + 1) * chunk_of at.level) (lines_of file))
+
+-- the chunk as a change: the bytes from where the lines before it end to where its own last one does
+abbrev pub lines_gone : List ℕ → Cursor → Change
+lines_gone file at = record {
+  start = length (joined (take (at.index * chunk_of at.level) (lines_of file)));
+  end = length (joined (take ((at.index + 1) * chunk_of at.level) (lines_of file)));
+  text = Nothing;
+}
 
 -- how many bytes the first line has
 abbrev pub first_len : List ℕ → ℕ

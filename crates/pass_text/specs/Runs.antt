@@ -2,6 +2,7 @@
 use Rattle.std.specs.Prelude.{ℕ, ◌+◌, ◌-◌, List, [], ◌∷◌, length, map}
 use Rattle.cr_tokens.specs.declared.token.Token.{Token}
 use Rattle.cr_edit.specs.declared.change.Change.{Change}
+use Rattle.cr_edit.specs.Forms.{nothing_kept}
 use Rattle.cr_edit.specs.Menu.{Offering}
 use Rattle.cr_levels.specs.Gathered.{gathered}
 use Rattle.cr_levels.specs.Places.{gone}
@@ -16,4 +17,4 @@ runs_gone tokens more = gathered (run_gone tokens more) (length tokens - more)
 
 -- What pass t offers: at each level one edit for each run, of 16 tokens at level 0, and half as many at each next one.
 abbrev pub t_offering : List Token → Offering
-t_offering tokens = record { levels = map (runs_gone tokens) (15 ∷ (7 ∷ (3 ∷ (1 ∷ (0 ∷ []))))); kept = [] }
+t_offering tokens = record { levels = map (runs_gone tokens) (15 ∷ (7 ∷ (3 ∷ (1 ∷ (0 ∷ []))))); kept = nothing_kept }

@@ -9,7 +9,7 @@ mod lines;
 mod pairs;
 mod runs;
 
-pub use laws::{few_brackets, one_bracket_offering};
+pub use laws::{few_brackets, lines_go_by_a_change, one_bracket_offering};
 pub use lines::{count_lines, lines_variant, lines_width};
 pub use pairs::brackets;
 pub use runs::runs_of_tokens;

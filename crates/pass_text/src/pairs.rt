@@ -4,7 +4,7 @@ ghost use Rattle.pass_text.specs.Brackets.{IsBracketOffering, b_offering, pair_g
 
 use cr_brackets::{Pair, partners};
 use cr_cursor::NoMemory;
-use cr_edit::{Edits, Menu};
+use cr_edit::{Edits, Kept, Menu};
 use cr_levels::gone;
 use cr_tokens::Token;
 use std::alloc::Global;
@@ -50,7 +50,7 @@ fn menu(alloc: Global, tokens: &[Token], pairs: &[Pair]) -> Result<Menu, NoMemor
     for level in LEVELS {
         levels.push(edits(alloc, tokens, pairs, level)?)?;
     }
-    Ok(Menu::new(levels, Vec::new(alloc)))
+    Ok(Menu::new(levels, Kept::nothing(alloc)))
 }
 
 fn edits(alloc: Global, tokens: &[Token], pairs: &[Pair], level: u8) -> Result<Edits, NoMemory>

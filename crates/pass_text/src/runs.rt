@@ -4,7 +4,7 @@ ghost use Rattle.cr_edit.specs.declared.change.Change.{Change as SpecChange};
 ghost use Rattle.pass_text.specs.Runs.{run_gone, runs_gone, t_offering};
 
 use cr_cursor::NoMemory;
-use cr_edit::{Edits, Menu};
+use cr_edit::{Edits, Kept, Menu};
 use cr_levels::{Turns, gone, in_turn};
 use cr_tokens::Token;
 use std::alloc::Global;
@@ -43,5 +43,5 @@ pub fn runs_of_tokens(alloc: Global, tokens: &[Token]) -> Result<Menu, NoMemory>
     for more in MORE {
         levels.push(level(alloc, tokens, more)?)?;
     }
-    Ok(Menu::new(levels, Vec::new(alloc)))
+    Ok(Menu::new(levels, Kept::nothing(alloc)))
 }

@@ -538,19 +538,19 @@ pub declarators::pointer-returns-in_err-room-clause-reads : goal.declarators::po
 declarators::pointer-returns-in_err-room-clause-reads t c = exit c.from_residual.result _ c.from_residual.ensures.1 (deep c.in_err-room.ensures.err (run_here (run_deep c.requires.star (no_room c.in_err-room.ensures.full))))
 
 pub declarators::pointer-returns-then-ends_pointer-clause-reads : goal.declarators::pointer-returns-then-ends_pointer-clause-reads
-declarators::pointer-returns-then-ends_pointer-clause-reads t c = finish c.leaf.new.nodes c.leaf.result c.leaf.ensures.err c.leaf.ensures.next c.leaf.ensures.tree (run_here (run_take c.requires.star c.in_ok-room.ensures.ok (run_call (c.consts-next.ensures.read _ _).run (run_yes (c.ends_pointer.ensures.ends c.if-ends_pointer.true).omits (run_unseen ((c.ends_pointer.ensures.ends c.if-ends_pointer.true).other c.args.scopes.now) (run_here run_give))))))
+declarators::pointer-returns-then-ends_pointer-clause-reads t c = finish c.leaf.new.nodes c.leaf.result c.leaf.ensures.err c.leaf.ensures.next c.leaf.ensures.tree (run_here (run_take c.requires.star c.in_ok-room.ensures.ok (run_call (c.qualifiers-next.ensures.read _ _).run (run_yes (c.ends_pointer.ensures.ends c.if-ends_pointer.true).omits (run_unseen ((c.ends_pointer.ensures.ends c.if-ends_pointer.true).other c.args.scopes.now) (run_here run_give))))))
 
 pub declarators::pointer-returns-then-ends_pointer-clause-placed : goal.declarators::pointer-returns-then-ends_pointer-clause-placed
-declarators::pointer-returns-then-ends_pointer-clause-placed t c = placed_push c.leaf.new.nodes [] [] c.leaf.result c.leaf.ensures.ok c.leaf.ensures.next (omega (arith, c.consts-next.ensures.from)) c.consts-next.ensures.to (keeps_none _) (λ loose h. h)
+declarators::pointer-returns-then-ends_pointer-clause-placed t c = placed_push c.leaf.new.nodes [] [] c.leaf.result c.leaf.ensures.ok c.leaf.ensures.next (omega (arith, c.qualifiers-next.ensures.from)) c.qualifiers-next.ensures.to (keeps_none _) (λ loose h. h)
 
 pub declarators::pointer-returns-in_err-to-clause-reads : goal.declarators::pointer-returns-in_err-to-clause-reads
-declarators::pointer-returns-in_err-to-clause-reads t c = exit c.from_residual-in_err-to.result _ c.from_residual-in_err-to.ensures.1 (fails (rw c.past_token.ensures at c.in_err-to.ensures.reads.is) (λ x k h. run_here (run_take c.requires.star c.in_ok-room.ensures.ok (run_call (c.consts-next.ensures.read _ _).run (points_on _ (c.ends_pointer.ensures.goes c.if-ends_pointer.false) (run_fail h))))))
+declarators::pointer-returns-in_err-to-clause-reads t c = exit c.from_residual-in_err-to.result _ c.from_residual-in_err-to.ensures.1 (fails (rw c.past_token.ensures at c.in_err-to.ensures.reads.is) (λ x k h. run_here (run_take c.requires.star c.in_ok-room.ensures.ok (run_call (c.qualifiers-next.ensures.read _ _).run (points_on _ (c.ends_pointer.ensures.goes c.if-ends_pointer.false) (run_fail h))))))
 
 pub declarators::pointer-returns-clause-reads : goal.declarators::pointer-returns-clause-reads
-declarators::pointer-returns-clause-reads t c = finish c.over.new.nodes c.over.result c.over.ensures.err c.over.ensures.next c.over.ensures.tree (run_here (run_take c.requires.star c.in_ok-room.ensures.ok (run_call (c.consts-next.ensures.read _ _).run (points_on _ (c.ends_pointer.ensures.goes c.if-ends_pointer.false) (run_call (rw c.past_token.ensures at c.in_ok-to.ensures.reads.is).run (pointer_ends _ c.pointer_kind-kind.ensures))))))
+declarators::pointer-returns-clause-reads t c = finish c.over.new.nodes c.over.result c.over.ensures.err c.over.ensures.next c.over.ensures.tree (run_here (run_take c.requires.star c.in_ok-room.ensures.ok (run_call (c.qualifiers-next.ensures.read _ _).run (points_on _ (c.ends_pointer.ensures.goes c.if-ends_pointer.false) (run_call (rw c.past_token.ensures at c.in_ok-to.ensures.reads.is).run (pointer_ends _ c.pointer_kind-kind.ensures))))))
 
 pub declarators::pointer-returns-clause-placed : goal.declarators::pointer-returns-clause-placed
-declarators::pointer-returns-clause-placed t c = placed_push c.over.new.nodes [] (c.in_ok-to.to.node ∷ []) c.over.result c.over.ensures.ok c.over.ensures.next (omega (arith, c.consts-next.ensures.from, c.in_ok-to.ensures.placed.from)) (omega (arith, c.in_ok-to.ensures.placed.to)) c.in_ok-to.ensures.placed.keeps c.in_ok-to.ensures.placed.kept
+declarators::pointer-returns-clause-placed t c = placed_push c.over.new.nodes [] (c.in_ok-to.to.node ∷ []) c.over.result c.over.ensures.ok c.over.ensures.next (omega (arith, c.qualifiers-next.ensures.from, c.in_ok-to.ensures.placed.from)) (omega (arith, c.in_ok-to.ensures.placed.to)) c.in_ok-to.ensures.placed.keeps c.in_ok-to.ensures.placed.kept
 
 pub declarators::bracketed-returns-in_err-room-clause-reads : goal.declarators::bracketed-returns-in_err-room-clause-reads
 declarators::bracketed-returns-in_err-room-clause-reads t c = exit c.from_residual.result _ c.from_residual.ensures.1 (deep c.in_err-room.ensures.err (run_here (run_pass c.requires.other (run_deep c.requires.bracket (no_room c.in_err-room.ensures.full)))))

@@ -1,11 +1,7 @@
-use Rattle.std.proofs.Common.{arith, subst}
-use Rattle.cr_syntax.specs.Words.{lexemes_of}
-use Rattle.cr_machine.specs.Machine.{Done, whole}
-use Rattle.cr_machine.specs.MachineBody.{body}
+use Rattle.std.proofs.Common.{arith}
+use Rattle.cr_machine.specs.Machine.{Done}
 use Rattle.cr_machine.proofs.MachineReading.{is_reading}
-use Rattle.cr_exprs.specs.Answers.{RunsTo, Refuses, tree}
 use Rattle.cr_exprs.specs.Names.{scopes_of}
-use Rattle.cr_exprs.specs.Parts.{part_of}
 use Rattle.cr_exprs.specs.Expression.{start_of}
 use Rattle.cr_exprs.proofs.Grammar.{is_start, refused_is, refusal_on, text_length}
 use Rattle.cr_exprs.proofs.front.expression.Goals as goal

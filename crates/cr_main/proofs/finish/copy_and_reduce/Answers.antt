@@ -1,39 +1,36 @@
 use Rattle.std.proofs.Common.{refl, subst}
-use Rattle.cr_reduce.specs.Bench.{first_calls, first_says}
+use Rattle.cr_reduce.specs.Bench.{judging, says_of}
+use Rattle.cr_reduce.specs.Search.{searching}
 use Rattle.cr_reduce.specs.Sizes.{HasSize}
 use Rattle.cr_main.specs.Messages.{copy_name}
-use Rattle.cr_main.specs.Outside.{IsWritten, WriteFails, outside_of}
-use Rattle.cr_main.specs.Requests.{task_for}
-use Rattle.cr_main.specs.Run.{search_for}
+use Rattle.cr_main.specs.Outside.{IsSaved, SaveFails, outside}
 use Rattle.cr_main.specs.Run.Finishes.{uncopied, reduced}
 use Rattle.cr_main.proofs.Outcomes.{end_passes, end_sized}
 use Rattle.cr_main.proofs.finish.copy_and_reduce.Goals as goal
 
 pub returns-in-Some-clause-finishes : goal.returns-in-Some-clause-finishes
-returns-in-Some-clause-finishes g c = uncopied (subst (λ b. WriteFails
-    (outside_of (g.F.Files.told c.args.files.now) (g.F.Files.faults c.args.files.now) (g.O.Sink.told c.args.out.now) (g.O.Sink.faults c.args.out.now))
-    (outside_of (g.F.Files.told c.write_beside.new.files) (g.F.Files.faults c.write_beside.new.files) (g.O.Sink.told c.write_beside.new.out) (g.O.Sink.faults c.write_beside.new.out))
-    (copy_name c.args.request.name.now) b c.in-Some.status) c.deref-2.ensures.value (c.in-Some.ensures.failed c.in-Some.status refl)) refl
+returns-in-Some-clause-finishes g c = uncopied (subst (λ b. SaveFails c.args.task.now.saves
+    (outside g.F.Files c.args.files.now g.O.Sink c.args.out.now) (outside g.F.Files c.save_beside.new.files g.O.Sink c.save_beside.new.out)
+    (copy_name c.args.task.now.name.now) b c.in-Some.status) c.deref-2.ensures.value (c.in-Some.ensures.failed c.in-Some.status refl)) refl
 
 pub conclude-requires-clause-sized : goal.conclude-requires-clause-sized
 conclude-requires-clause-sized g c =
-    end_sized (search_for (task_for c.args.request (first_says g.J.Judge.key g.J.Judge.says c.args.bench.now)) (first_calls g.J.Judge.calls c.args.bench.now))
-    (first_calls g.J.Judge.calls c.reduce-end.new.bench) c.args.request.limit c.args.bytes.items c.reduce-end.result c.reduce-end.ensures.chain
+    end_sized (searching g.P.Passes c.args.task.now.passes.now g.L.Law c.args.task.now.law.now g.Q.Question c.args.task.now.question.now c.args.task.now.own.now g.J.Judge c.args.bench.now)
+    (judging g.J.Judge c.args.bench.now) (judging g.J.Judge c.reduce-end.new.bench) c.args.task.now.limit c.args.bytes.items c.reduce-end.result c.reduce-end.ensures.chain
     (c.in-Ok.old_size, subst (λ b. HasSize b c.in-Ok.old_size) c.deref.ensures.value c.in-Ok.ensures.has)
 
 pub conclude-requires-clause-passes : goal.conclude-requires-clause-passes
 conclude-requires-clause-passes g c =
-    end_passes (search_for (task_for c.args.request (first_says g.J.Judge.key g.J.Judge.says c.args.bench.now)) (first_calls g.J.Judge.calls c.args.bench.now))
-    (first_calls g.J.Judge.calls c.reduce-end.new.bench) c.args.request.limit c.args.bytes.items c.reduce-end.result c.reduce-end.ensures.chain
+    end_passes (searching g.P.Passes c.args.task.now.passes.now g.L.Law c.args.task.now.law.now g.Q.Question c.args.task.now.question.now c.args.task.now.own.now g.J.Judge c.args.bench.now)
+    (judging g.J.Judge c.args.bench.now) (judging g.J.Judge c.reduce-end.new.bench) c.args.task.now.limit c.args.bytes.items c.reduce-end.result c.reduce-end.ensures.chain
 
 pub returns-clause-finishes : goal.returns-clause-finishes
 returns-clause-finishes g c = reduced
-    (outside_of (g.F.Files.told c.write_beside.new.files) (g.F.Files.faults c.write_beside.new.files) (g.O.Sink.told c.write_beside.new.out) (g.O.Sink.faults c.write_beside.new.out))
+    (outside g.F.Files c.save_beside.new.files g.O.Sink c.save_beside.new.out)
     c.reduce-end.result c.in-Ok.old_size c.conclude.ensures.0
-    (subst (λ b. IsWritten
-    (outside_of (g.F.Files.told c.args.files.now) (g.F.Files.faults c.args.files.now) (g.O.Sink.told c.args.out.now) (g.O.Sink.faults c.args.out.now))
-    (outside_of (g.F.Files.told c.write_beside.new.files) (g.F.Files.faults c.write_beside.new.files) (g.O.Sink.told c.write_beside.new.out) (g.O.Sink.faults c.write_beside.new.out))
-    (copy_name c.args.request.name.now) b) c.deref-2.ensures.value (c.in_default.ensures.written refl))
+    (subst (λ b. IsSaved c.args.task.now.saves
+    (outside g.F.Files c.args.files.now g.O.Sink c.args.out.now) (outside g.F.Files c.save_beside.new.files g.O.Sink c.save_beside.new.out)
+    (copy_name c.args.task.now.name.now) b) c.deref-2.ensures.value (c.in_default.ensures.saved refl))
     (record {
       chain = c.reduce-end.ensures.chain;
       all_rejected = c.reduce-end.ensures.all_rejected;

@@ -1,26 +1,35 @@
 use Rattle.std.proofs.Common.{subst}
-use Rattle.cr_reduce.specs.Bench.{first_calls, first_count, first_says}
-use Rattle.cr_main.specs.Outside.{judging_of, outside_of}
-use Rattle.cr_main.specs.Run.{RunsFile}
+use Rattle.cr_reduce.specs.Bench.{judging, says_of}
 use Rattle.cr_words.specs.Names.{IsOwnName}
+use Rattle.cr_main.specs.Outside.{outside}
+use Rattle.cr_main.proofs.Files.{token_law_is_of_programs}
+use Rattle.cr_main.proofs.Sources.{made_runs, stored_runs}
 use Rattle.cr_main.proofs.top.run_settings.Goals as goal
 
-pub returns-clause-runs : goal.returns-clause-runs
-returns-clause-runs g c = (
+pub run_stored-requires : goal.run_stored-requires
+run_stored-requires g c = token_law_is_of_programs
+
+pub run_bytes-requires : goal.run_bytes-requires
+run_bytes-requires g c = token_law_is_of_programs
+
+pub returns-in-Named-clause-runs : goal.returns-in-Named-clause-runs
+returns-in-Named-clause-runs g c = (
   c.own_name.result.now,
   subst (λ name. IsOwnName name c.own_name.result.now) c.source_name-name.ensures c.own_name.ensures,
-  subst (λ name. RunsFile
-      (record {
-        test = c.args.settings.now.test;
-        limit = c.args.settings.now.limit;
-        enabled = c.args.settings.now.enabled;
-        name = name;
-        own = c.own_name.result.now;
-        says = first_says g.J.Judge.key g.J.Judge.says c.args.bench.now;
-      })
-      (outside_of (g.F.Files.told c.args.files.now) (g.F.Files.faults c.args.files.now) (g.O.Sink.told c.args.out.now) (g.O.Sink.faults c.args.out.now))
-      (outside_of (g.F.Files.told c.run_file.new.files) (g.F.Files.faults c.run_file.new.files) (g.O.Sink.told c.run_file.new.out) (g.O.Sink.faults c.run_file.new.out))
-      (judging_of (first_calls g.J.Judge.calls c.args.bench.now) (first_count g.J.Judge.faults c.args.bench.now))
-      (judging_of (first_calls g.J.Judge.calls c.run_file.new.bench) (first_count g.J.Judge.faults c.run_file.new.bench))
-      c.run_file.result) c.source_name-name.ensures c.run_file.ensures.runs,
+  stored_runs c.args.settings.now (says_of g.J.Judge c.args.bench.now) c.own_name.result.now c.source_name-name.result.now c.is_saved.result c.source_name-name.ensures c.is_saved.ensures
+      (g.F.Files.told c.args.files.now)
+      (outside g.F.Files c.args.files.now g.O.Sink c.args.out.now) (outside g.F.Files c.run_stored.new.files g.O.Sink c.run_stored.new.out)
+      (judging g.J.Judge c.args.bench.now) (judging g.J.Judge c.run_stored.new.bench) c.run_stored.result
+      c.in-Named.field-0 c.in-Named.is c.run_stored.ensures.runs,
+)
+
+pub returns-in-Ok-clause-runs : goal.returns-in-Ok-clause-runs
+returns-in-Ok-clause-runs g c = (
+  c.own_name.result.now,
+  subst (λ name. IsOwnName name c.own_name.result.now) c.source_name-name.ensures c.own_name.ensures,
+  made_runs c.args.settings.now (says_of g.J.Judge c.args.bench.now) c.own_name.result.now c.source_name-name.result.now c.is_saved.result c.source_name-name.ensures c.is_saved.ensures
+      (g.F.Files.told c.args.files.now)
+      (outside g.F.Files c.args.files.now g.O.Sink c.args.out.now) (outside g.F.Files c.run_bytes.new.files g.O.Sink c.run_bytes.new.out)
+      (judging g.J.Judge c.args.bench.now) (judging g.J.Judge c.run_bytes.new.bench) c.run_bytes.result
+      c.in-Made.number c.in-Made.items c.in-Ok.text.items c.in-Made.is c.in-Ok.ensures.text c.run_bytes.ensures.runs,
 )

@@ -12,7 +12,7 @@ fetch_min-requires c =
     c.word_of-hit.ensures ∙ ap (λ (p : ℕ). word p c.args.kind) pass.last_is in (
       c.requires.of.0,
       omega (arith, claims.two_words.0),
-      rw claims.about.0 (may_hit claims.len claims.table.shared.table_id.slots pass.seat.id pass.seat.me c.args.kind c.word_of-hit.result pass.in_force.1 c.requires.may is),
+      rw claims.about.0 (may_hit c.marks_move_nothing.ensures claims.len claims.table.shared.table_id.slots pass.seat.id pass.seat.me c.args.kind c.word_of-hit.result pass.in_force.1 c.requires.may is),
     )
 
 pub invariant_of-pass : goal.invariant_of-pass
@@ -21,5 +21,5 @@ invariant_of-pass c =
     let (view, slots, _) = c.fetch_min.ensures.2 in
     record {
       in_force = (slots ∙ pass.in_force.0, ap (λ (v : View). v.spent) view ∙ pass.in_force.1);
-      last_is = pass.last_is ∙ sym (ap (λ (v : View). last_position v.own) view ∙ last_position-hit c.word_of-hit.result pass.seat.me.0.own);
+      last_is = pass.last_is ∙ sym (ap (λ (v : View). last_position v.own) view ∙ last_position-hit c.marks_move_nothing.ensures c.word_of-hit.result pass.seat.me.0.own);
     }

@@ -1,4 +1,5 @@
 use Rattle.std.proofs.Common.{◌∙◌, ap}
+use Rattle.std.proofs.lemmas.Result.{on_ok_weaker}
 use Rattle.cr_footprint.specs.Cell.{holds}
 use Rattle.cr_footprint.proofs.Rising.{IsRising-searched, IsRising-kept, holds-insert, holds-again, holds-found}
 use Rattle.cr_footprint.proofs.cells.Cells.insert.Goals as goal
@@ -7,7 +8,7 @@ pub invariant_of-self : goal.invariant_of-self
 invariant_of-self c = record {
   rising =
       (let before = c.args.self.now.list in
-      IsRising-kept before c.insert.new.self c.in-Err.place c.args.cell c.insert.result c.insert.ensures.ok c.insert.ensures.err
+      IsRising-kept before c.put.new.list c.in-Err.place c.args.cell c.put.result c.put.ensures.ok c.put.ensures.err
       (IsRising-searched before.items c.deref.result.now c.args.cell c.in-Err.place c.deref.ensures c.args.self.now.rising c.in-Err.ensures.bound c.in-Err.ensures.position)
       c.args.self.now.rising);
 }
@@ -19,7 +20,7 @@ returns-in-Ok c = λ cell.
     (rw c.deref.ensures at c.in-Ok.ensures.bound)
     (rw c.deref.ensures at c.in-Ok.ensures.ok))
 
-pub returns-in_ok-insert-in-Err : goal.returns-in_ok-insert-in-Err
-returns-in_ok-insert-in-Err c = λ cell.
-    ap (λ l. holds l cell) c.in_ok-insert-in-Err.ensures.ok
-    ∙ holds-insert c.args.self.now.list.items c.in-Err.place c.args.cell cell
+pub returns-in-Err : goal.returns-in-Err
+returns-in-Err c = on_ok_weaker c.put.result (λ is cell.
+    ap (λ l. holds l cell) is
+    ∙ holds-insert c.args.self.now.list.items c.in-Err.place c.args.cell cell) c.put.ensures.ok

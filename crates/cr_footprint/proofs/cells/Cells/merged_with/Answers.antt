@@ -8,10 +8,10 @@ invariant_of-result c = record {
   rising =
       (let P : List Cell → Type 0 = IsRising in
       subst P (sym (merged_as _ _ _ _ _ c.in_ok-list.ensures c.as_slice.ensures c.as_slice-2.ensures))
-      (merged-rising c.args.self.list.items c.args.other.list.items c.args.self.rising c.args.other.rising));
+      (merged-rising c.args.self.now.list.items c.args.other.now.list.items c.args.self.now.rising c.args.other.now.rising));
 }
 
 pub returns : goal.returns
 returns c d =
     ap (λ l. holds l d) (merged_as _ _ _ _ _ c.in_ok-list.ensures c.as_slice.ensures c.as_slice-2.ensures)
-    ∙ merged-holds c.args.self.list.items c.args.other.list.items d
+    ∙ merged-holds c.args.self.now.list.items c.args.other.now.list.items d

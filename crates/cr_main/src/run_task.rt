@@ -1,0 +1,96 @@
+// The steps of a run behind the words, for any passes, law and question.
+ghost use Rattle.std.specs.Prelude.{◌≡◌, ◌<◌, ℕ, false};
+ghost use Rattle.cr_outside.specs.Files.{Reads};
+ghost use Rattle.cr_outside.specs.declared.files.ReadAnswer.TheVariants.{Bytes};
+ghost use Rattle.cr_reduce.specs.Bench.{judging, keys_of, others, says_of};
+ghost use Rattle.cr_main.specs.Outside.{outside};
+ghost use Rattle.cr_main.specs.Run.{RunsTask};
+ghost use Rattle.cr_main.specs.Task.{IsOfPrograms, given, stored, task_for};
+
+use crate::finish::copy_and_reduce;
+use crate::messages::{Refusal, refuse};
+use crate::status;
+use crate::task::Task;
+use cr_cursor::{Law, Never, Passes, Ruling};
+use cr_outside::{Answer, Files, Judge, Question, ReadAnswer, Sink};
+use cr_reduce::Bench;
+use std::alloc::Global;
+
+/// What is read of a file at most: one byte more than a file may have, so that a longer one is refused.
+const MOST: usize = 1_048_577;
+
+/// Reads the file, and runs on its bytes.
+pub fn run_stored<P: Passes, L: Law, Q: Question, F: Files, J: Judge, O: Sink>(
+    alloc: Global,
+    task: &Task<'_, P, L, Q>,
+    files: &mut F,
+    bench: &mut Bench<J>,
+    out: &mut O,
+) -> u8
+    requires { IsOfPrograms (L.lawful task.now.law.now) (L.reasons task.now.law.now) }
+    ensures runs { RunsTask (task_for P.Passes L.Law Q.Question task.now (says_of J.Judge bench.old)) (stored (F.told files.old) task.now.name.now)
+        (outside F.Files files.old O.Sink out.old) (outside F.Files files.new O.Sink out.new)
+        (judging J.Judge bench.old) (judging J.Judge bench.new) result }
+    ensures silent { Q.asks task.now.question.now ≡ false → bench.new ≡ bench.old }
+    ensures keys { keys_of J.Judge bench.new ≡ keys_of J.Judge bench.old }
+    ensures others { others bench.new ≡ others bench.old }
+{
+    match files.read(alloc, task.name, MOST) {
+        ReadAnswer::Bytes(bytes) => run_bytes(alloc, task, bytes, files, bench, out),
+        ReadAnswer::Absent => refuse(alloc, out, task.name, Refusal::NoFile),
+        ReadAnswer::Failed => refuse(alloc, out, task.name, Refusal::FileFault),
+        ReadAnswer::NoMemory => status::NO_MEMORY,
+    }
+}
+
+/// Runs on these bytes.
+pub fn run_bytes<P: Passes, L: Law, Q: Question, F: Files, J: Judge, O: Sink>(
+    alloc: Global,
+    task: &Task<'_, P, L, Q>,
+    bytes: Vec<u8>,
+    files: &mut F,
+    bench: &mut Bench<J>,
+    out: &mut O,
+) -> u8
+    requires { IsOfPrograms (L.lawful task.now.law.now) (L.reasons task.now.law.now) }
+    ensures runs { RunsTask (task_for P.Passes L.Law Q.Question task.now (says_of J.Judge bench.old)) (given bytes.items)
+        (outside F.Files files.old O.Sink out.old) (outside F.Files files.new O.Sink out.new)
+        (judging J.Judge bench.old) (judging J.Judge bench.new) result }
+    ensures silent { Q.asks task.now.question.now ≡ false → bench.new ≡ bench.old }
+    ensures keys { keys_of J.Judge bench.new ≡ keys_of J.Judge bench.old }
+    ensures others { others bench.new ≡ others bench.old }
+{
+    let mut never = Never { looks: 0 };
+    match task.law.rule(alloc, &bytes, &mut never) {
+        Ruling::Lawful => ask_test(alloc, task, bytes, files, bench, out),
+        Ruling::Unlawful(reason) => refuse(alloc, out, task.name, Refusal::Against(reason)),
+        Ruling::Stopped => unreachable!(),
+        Ruling::NoMemory => status::NO_MEMORY,
+    }
+}
+
+// Asks the test about lawful bytes, and reduces them where it says yes.
+fn ask_test<P: Passes, L: Law, Q: Question, F: Files, J: Judge, O: Sink>(
+    alloc: Global,
+    task: &Task<'_, P, L, Q>,
+    bytes: Vec<u8>,
+    files: &mut F,
+    bench: &mut Bench<J>,
+    out: &mut O,
+) -> u8
+    requires law { IsOfPrograms (L.lawful task.now.law.now) (L.reasons task.now.law.now) }
+    requires lawful { L.lawful task.now.law.now bytes.items }
+    ensures runs { RunsTask (task_for P.Passes L.Law Q.Question task.now (says_of J.Judge bench.old)) (given bytes.items)
+        (outside F.Files files.old O.Sink out.old) (outside F.Files files.new O.Sink out.new)
+        (judging J.Judge bench.old) (judging J.Judge bench.new) result }
+    ensures silent { Q.asks task.now.question.now ≡ false → bench.new ≡ bench.old }
+    ensures keys { keys_of J.Judge bench.new ≡ keys_of J.Judge bench.old }
+    ensures others { others bench.new ≡ others bench.old }
+{
+    match bench.ask_first(alloc, task.question, task.own, &bytes) {
+        Answer::Yes => copy_and_reduce(alloc, task, bytes, files, bench, out),
+        Answer::No => refuse(alloc, out, task.name, Refusal::SaysNo),
+        Answer::Failed => refuse(alloc, out, task.name, Refusal::TestFailed),
+        Answer::NoMemory => status::NO_MEMORY,
+    }
+}

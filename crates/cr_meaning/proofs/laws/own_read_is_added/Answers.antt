@@ -1,0 +1,5 @@
+use Rattle.cr_meaning.proofs.Merging.{own_read_is_added}
+use Rattle.cr_meaning.proofs.laws.own_read_is_added.Goals as goal
+
+pub returns : goal.returns
+returns c = own_read_is_added

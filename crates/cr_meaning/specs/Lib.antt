@@ -1,0 +1,13 @@
+pub mod Language
+pub mod Events
+pub mod World
+pub mod Values
+pub mod Work
+pub mod Library
+pub mod Turns
+pub mod Nodes
+pub mod Meaning
+pub mod Playing
+pub mod Merged
+pub mod Quiet
+pub mod Laws

@@ -1,0 +1,4 @@
+pub mod Occurs
+pub mod Made
+pub mod Numbers
+pub mod Counts
