@@ -128,6 +128,8 @@ struct Waiting<'a> {
 impl<'a> Law for Waiting<'a> {
     ghost lawful = { λ law file. law.unlawful.now ≡ file → ⊥ };
 
+    ghost reasons = { λ _ _ _. Unit {0} };
+
     fn rule<S: Stop>(&self, _alloc: Global, file: &[u8], stop: &mut S) -> Ruling {
         if self.unlawful != file {
             return Ruling::Lawful;
