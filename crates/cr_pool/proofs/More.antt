@@ -158,3 +158,7 @@ module _ {J K : Type 0} (judge : JudgeGhosts J K) where
       → IsManned judge.key (judges_in (set ws 0 w))
   manned_still [] w d same it = it
   manned_still (v ∷ ws) w d same it = (omega arith, omega (arith, it.1), one_with v.judge w.judge (judges_in ws) same it.2)
+
+  pub keys_still : (ws : List (Worker J)) (w d : Worker J) → judge.key w.judge ≡ judge.key (slice_index_or ws 0 d).judge → map judge.key (judges_in (set ws 0 w)) ≡ map judge.key (judges_in ws)
+  keys_still [] w d same = refl
+  keys_still (v ∷ ws) w d same = ap (λ k. k ∷ map judge.key (judges_in ws)) same

@@ -1,5 +1,5 @@
 // The judges of a run.
-ghost use Rattle.std.specs.Prelude.{◌≡◌, ◌≢◌, ◌<◌, ◌≤◌, IfOk, [], drop, length, true, false};
+ghost use Rattle.std.specs.Prelude.{◌≡◌, ◌≢◌, ◌<◌, ◌≤◌, IfOk, [], drop, length, map, true, false};
 ghost use Rattle.cr_outside.specs.Faults.{Rose};
 ghost use Rattle.cr_outside.specs.Question.{AnswersAsTold, AsksOnce, CountsOnce};
 ghost use Rattle.cr_pool.specs.Bench.{IsManned, epoch_on};
@@ -92,6 +92,8 @@ impl<J: Judge> Bench<J> {
         ensures silent { Q.asks question.now ≡ false → self.new ≡ self.old }
         ensures unfailing { Q.asks question.now ≡ false → result ≢ Answer.Failed }
         ensures key { first_says J.key J.says self.new.judges ≡ first_says J.key J.says self.old.judges }
+        ensures keys { map J.key self.new.judges ≡ map J.key self.old.judges }
+        ensures some { 0 < length self.old.judges }
         ensures others { drop 1 self.new.judges ≡ drop 1 self.old.judges }
         ensures kept { self.new.kept ≡ self.old.kept }
         ensures count { length self.new.judges ≡ length self.old.judges }

@@ -7,7 +7,7 @@ use Rattle.cr_reduce.specs.declared.end.Why.{Why}
 use Rattle.cr_reduce.specs.declared.end.Why.TheVariants.{Fixed, Limit, Fault, NoMemory}
 use Rattle.cr_reduce.specs.declared.walk.Walk.{Walk}
 use Rattle.cr_cursor.specs.Variants.{Offer}
-use Rattle.cr_reduce.specs.Trials.IsRejected.{not_smaller, unlawful, answered_no}
+use Rattle.cr_pool.specs.Trials.IsRejected.{not_smaller, unlawful, answered_no}
 use Rattle.cr_reduce.specs.Reduction.{State, Outcome, Within, cursors_of, none_fails, start_of, ends}
 use Rattle.cr_reduce.specs.Reduction.Reduces.{fixed, spent, fails}
 use Rattle.cr_reduce.specs.Search.{Search, AcceptsInRun, AsksOnlyCandidates, FailsInRun, RejectsInRun, AcceptsAsTold, RejectsAsTold, ReducesInRun, ReducesFileInRun, ReducesFileAsTold, IsAllTold}
@@ -74,14 +74,14 @@ fault_told s before now limit file e turn worker told run =
     let cut : IsCut s.Offers (FailsInRun s before now) (AcceptsAsTold s) (RejectsAsTold s) none_fails limit (start_of file run.0) (outcome_of e (Fault turn worker)) turn worker =
     cut_short s.Offers (AcceptsInRun s before now) (AcceptsAsTold s) (RejectsInRun s before now) (RejectsAsTold s) (FailsInRun s before now) none_fails limit (accepts_told s before now told) (rejects_told s before now told)
     (start_of file run.0) (outcome_of e (Fault turn worker)) turn worker run.2 refl in
-    (cut.next, cut.failed.0, within_less limit e.turns (e.turns + 1) (omega arith) cut.within, (cut.why, (run.0, run.1, cut.run)))
+    (cut.next, within_less limit e.turns (e.turns + 1) (omega arith) cut.within, (cut.why, (run.0, run.1, cut.run)))
 
 -- Want of memory leaves no fault where the reduction is cut short.
 stops_told : (s : Search) (before now : Judging) (file : List ℕ) (e : End) (why : Why) → IsAllTold s → ReducesFileInRun s before now file (Some e.turns) (outcome_of e why) → StopsAt (ReducesFileAsTold s file) e
 stops_told s before now file e Fixed told run = (Fixed, file_told s before now file (Some e.turns) (outcome_of e Fixed) told (λ turn worker is. cc) run)
 stops_told s before now file e Limit told run = (Limit, file_told s before now file (Some e.turns) (outcome_of e Limit) told (λ turn worker is. cc) run)
 stops_told s before now file e NoMemory told run = (NoMemory, file_told s before now file (Some e.turns) (outcome_of e NoMemory) told (λ turn worker is. cc) run)
-stops_told s before now file e (Fault turn worker) told run = (fault_told s before now (Some e.turns) file e turn worker told run).3
+stops_told s before now file e (Fault turn worker) told run = (fault_told s before now (Some e.turns) file e turn worker told run).2
 
 ends_as_told : (s : Search) (before now : Judging) (limit : Option ℕ) (file : List ℕ) (e : End) (why : Why) → IsAllTold s → EndsBy (ReducesFileInRun s before now file) file limit e why
     → EndsToldBy (ReducesFileAsTold s file) file limit e why

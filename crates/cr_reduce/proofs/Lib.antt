@@ -4,7 +4,7 @@ pub mod OneOutcome
 pub mod Runs
 pub mod Sizes
 pub mod Walks
-pub mod Verdicts
 pub mod Traces
 pub mod Ends
 pub mod Bounds
+pub mod Epochs

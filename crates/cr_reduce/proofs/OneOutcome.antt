@@ -10,7 +10,7 @@ use Rattle.cr_reduce.specs.Reduction.{FailedTrials, Proposals, Trial, State, Out
 use Rattle.cr_reduce.specs.Reduction.Reduces.{new_round, fixed, spent, short, accepts, rejects, fails}
 use Rattle.cr_reduce.specs.declared.end.Why.TheVariants.{Limit}
 use Rattle.cr_reduce.specs.Trials.{IsAccepted, IsRejected, ToldAnswer}
-use Rattle.cr_reduce.specs.Trials.IsRejected.{not_smaller, unlawful, answered_no}
+use Rattle.cr_pool.specs.Trials.IsRejected.{not_smaller, unlawful, answered_no}
 use Rattle.cr_reduce.specs.Laws.{ExcludeEachOther}
 use Rattle.cr_reduce.proofs.Sizes.{one_size}
 

@@ -1,5 +1,5 @@
 -- Calls in a run: lists of calls that go on, and answers that stay given.
-use Rattle.std.proofs.Common.{◌≡◌, ◌≢◌, ◌≤◌, ℕ, zero, suc, ◌+◌, Bool, true, false, All, List, [], ◌∷◌, ◌++◌, map, length, slice_index_or, slice_set, ◌<◌, Option, Some, None, subst, sym, ap, ◌∙◌, refl, append_assoc, inl, inr, arith}
+use Rattle.std.proofs.Common.{◌≡◌, ◌≢◌, ◌≤◌, ℕ, zero, suc, ◌+◌, Bool, true, false, All, List, [], ◌∷◌, ◌++◌, map, length, drop, ◌<◌, Option, Some, None, subst, sym, ap, ◌∙◌, refl, append_assoc, inl, inr, arith}
 use Rattle.std.proofs.lemmas.List.{append-nil}
 use Rattle.std.proofs.lemmas.List.Elements.{All-nil, All-push, All-append}
 use Rattle.cr_outside.specs.declared.judge.Answer.{Answer}
@@ -7,9 +7,11 @@ use Rattle.cr_outside.specs.declared.judge.Judge.{Ghosts as JudgeGhosts}
 use Rattle.cr_outside.specs.declared.judge.Answer.TheVariants.{Yes, No, Failed, NoMemory}
 use Rattle.cr_outside.specs.Faults.{Rose}
 use Rattle.cr_outside.specs.Judge.{Call, call_of, with_call}
-use Rattle.cr_outside.specs.Question.{AnswersAsTold, AsksOnce}
+use Rattle.cr_outside.specs.Question.{AnswersAsTold, AsksOnce, Says}
+use Rattle.cr_pool.specs.Tally.{first_says, tallies_of, tally_at}
+use Rattle.cr_pool.specs.Trials.{HasCalled}
 use Rattle.cr_outside.proofs.Counts.{rose_earlier}
-use Rattle.cr_reduce.specs.Bench.{AllGained, AnyCall, AsksFirst, CalledBy, Each, Gained, GoesOn, HasCalled, Judging, RoseAt, judging, with_first_call}
+use Rattle.cr_reduce.specs.Bench.{AllGained, AnyCall, AsksFirst, CalledBy, Each, Gained, GoesOn, Judging, RoseAt}
 use Rattle.cr_reduce.specs.Trials.{AnswerInRun, HasFailed}
 
 -- one judge's calls
@@ -51,10 +53,6 @@ all_gained-map Is Was says [] [] it = tt
 all_gained-map Is Was says [] (y ∷ ys) it = absurd it
 all_gained-map Is Was says (x ∷ xs) [] it = absurd it
 all_gained-map Is Was says (x ∷ xs) (y ∷ ys) it = (gained-map Is Was says x y it.0, all_gained-map Is Was says xs ys it.1)
-
-pub gained_first : (Is : Call → Type 0) (call : Call) (a : List (Option (List Call))) → Is call → AllGained Is a (with_first_call call a)
-gained_first Is call [] is = tt
-gained_first Is call (x ∷ xs) is = (gained_one Is x call is, all_gained-refl Is xs)
 
 -- counts of faults
 
@@ -132,33 +130,6 @@ called_by-earlier zero (x ∷ xs) (y ∷ ys) (z ∷ zs) call on has = has_called
 called_by-earlier (suc worker) (x ∷ xs) (y ∷ ys) [] call on has = has
 called_by-earlier (suc worker) (x ∷ xs) (y ∷ ys) (z ∷ zs) call on has = called_by-earlier worker xs ys zs call on.1 has
 
--- a question to one judge, and to the first
-
-gained_call : (old new : Option (List Call)) (call : Call) → new ≡ with_call call old → Gained AnyCall old new
-gained_call old new call is = subst (Gained AnyCall old) (sym is) (gained_one AnyCall old call tt)
-
-gained_once : (old new : Option (List Call)) (name file : List ℕ) (answer : Answer) → AsksOnce old new name file answer → Gained AnyCall old new
-gained_once old new name file Yes once = gained_call old new (call_of once.0 name file Yes) once.1
-gained_once old new name file No once = gained_call old new (call_of once.0 name file No) once.1
-gained_once old new name file Failed once = gained_call old new (call_of once.0 name file Failed) once.1
-gained_once old new name file NoMemory (inl same) = subst (Gained AnyCall old) (sym same) (gained-refl AnyCall old)
-gained_once old new name file NoMemory (inr (test, inl same)) = subst (Gained AnyCall old) (sym same) (gained-refl AnyCall old)
-gained_once old new name file NoMemory (inr (test, inr is)) = gained_call old new (call_of test name file NoMemory) is
-
-gained_or_same : (asks : Bool) (old new : Option (List Call)) (name file : List ℕ) (answer : Answer) → (asks ≡ true → AsksOnce old new name file answer) → (asks ≡ false → new ≡ old) → Gained AnyCall old new
-gained_or_same true old new name file answer once silent = gained_once old new name file answer (once refl)
-gained_or_same false old new name file answer once silent = subst (Gained AnyCall old) (sym (silent refl)) (gained-refl AnyCall old)
-
--- the first judge was asked
-pub first_goes_on : {J K : Type 0} (judge : JudgeGhosts J K) (bench : List J) (old new : J) (asks : Bool) (name file : List ℕ) (answer : Answer) → 0 < length bench → old ≡ slice_index_or bench 0 old
-    → (asks ≡ true → AsksOnce (judge.calls old) (judge.calls new) name file answer) → (asks ≡ false → new ≡ old) → judge.faults old ≤ judge.faults new
-    → GoesOn (judging judge bench) (judging judge (slice_set bench 0 new))
-first_goes_on judge [] old new asks name file answer some is once silent later = absurd (omega (arith, some))
-first_goes_on judge (x ∷ xs) old new asks name file answer some is once silent later = record {
-  calls = (subst (λ c. Gained AnyCall c (judge.calls new)) (ap judge.calls is) (gained_or_same asks (judge.calls old) (judge.calls new) name file answer once (λ quiet. ap judge.calls (silent quiet))), all_gained-refl AnyCall (map judge.calls xs));
-  faults = (subst (λ f. f ≤ judge.faults new) (ap judge.faults is) later, later-refl (map judge.faults xs));
-}
-
 -- the one call that was made
 called : (old new : Option (List Call)) (call : Call) → new ≡ with_call call old → HasCalled old new call
 called None new call is = tt
@@ -210,3 +181,60 @@ has_failed-earlier asks name before middle now worker variant on it = record {
   called = (it.called.0, called_by-earlier worker before.calls middle.calls now.calls (call_of it.called.0 name variant Failed) on.calls it.called.1);
   rose = rose_at-earlier worker before.faults middle.faults now.faults on.faults it.rose;
 }
+
+-- the first judge was asked, and the others are as they were
+module _ {J K : Type 0} (judge : JudgeGhosts J K) where
+  pub asks_first : (old new : List J) (name file : List ℕ) (answer : Answer) → 0 < length old → length new ≡ length old → drop 1 new ≡ drop 1 old
+      → AsksOnce (tally_at (tallies_of judge old) 0).calls (tally_at (tallies_of judge new) 0).calls name file answer → AsksFirst (map judge.calls old) (map judge.calls new) name file answer
+  asks_first [] new name file answer some count others once = absurd (omega arith)
+  asks_first (x ∷ xs) [] name file answer some count others once = absurd (omega arith)
+  asks_first (x ∷ xs) (y ∷ ys) name file answer some count others once = (once, ap (λ js. map judge.calls js) others)
+
+  pub rose_first : (old new : List J) → 0 < length old → length new ≡ length old → Rose (tally_at (tallies_of judge old) 0).faults (tally_at (tallies_of judge new) 0).faults
+      → RoseAt 0 (map judge.faults old) (map judge.faults new)
+  rose_first [] new some count rose = absurd (omega arith)
+  rose_first (x ∷ xs) [] some count rose = absurd (omega arith)
+  rose_first (x ∷ xs) (y ∷ ys) some count rose = rose
+
+  gained_call : (old new : Option (List Call)) (call : Call) → new ≡ with_call call old → Gained AnyCall old new
+  gained_call old new call is = subst (Gained AnyCall old) (sym is) (gained_one AnyCall old call tt)
+
+  gained_once : (old new : Option (List Call)) (name file : List ℕ) (answer : Answer) → AsksOnce old new name file answer → Gained AnyCall old new
+  gained_once old new name file Yes once = gained_call old new (call_of once.0 name file Yes) once.1
+  gained_once old new name file No once = gained_call old new (call_of once.0 name file No) once.1
+  gained_once old new name file Failed once = gained_call old new (call_of once.0 name file Failed) once.1
+  gained_once old new name file NoMemory (inl same) = subst (Gained AnyCall old) (sym same) (gained-refl AnyCall old)
+  gained_once old new name file NoMemory (inr (test, inl same)) = subst (Gained AnyCall old) (sym same) (gained-refl AnyCall old)
+  gained_once old new name file NoMemory (inr (test, inr is)) = gained_call old new (call_of test name file NoMemory) is
+
+  later_asked : (old new : List J) (name file : List ℕ) (answer : Answer) → 0 < length old → length new ≡ length old → drop 1 new ≡ drop 1 old
+      → AsksOnce (tally_at (tallies_of judge old) 0).calls (tally_at (tallies_of judge new) 0).calls name file answer
+      → (tally_at (tallies_of judge old) 0).faults ≤ (tally_at (tallies_of judge new) 0).faults
+      → GoesOn (record { calls = map judge.calls old; faults = map judge.faults old }) (record { calls = map judge.calls new; faults = map judge.faults new })
+  later_asked [] new name file answer some count others once later = absurd (omega arith)
+  later_asked (x ∷ xs) [] name file answer some count others once later = absurd (omega arith)
+  later_asked (x ∷ xs) (y ∷ ys) name file answer some count others once later = record {
+    calls = (gained_once (judge.calls x) (judge.calls y) name file answer once, subst (λ js. AllGained AnyCall (map judge.calls xs) (map judge.calls js)) (sym others) (all_gained-refl AnyCall (map judge.calls xs)));
+    faults = (later, subst (λ js. Each (λ a b. a ≤ b) (map judge.faults xs) (map judge.faults js)) (sym others) (later-refl (map judge.faults xs)));
+  }
+
+  pub goes_on_first : (asks : Bool) (old new : List J) (name file : List ℕ) (answer : Answer) → 0 < length old → length new ≡ length old → drop 1 new ≡ drop 1 old
+      → (asks ≡ true → AsksOnce (tally_at (tallies_of judge old) 0).calls (tally_at (tallies_of judge new) 0).calls name file answer) → (asks ≡ false → new ≡ old)
+      → (tally_at (tallies_of judge old) 0).faults ≤ (tally_at (tallies_of judge new) 0).faults
+      → GoesOn (record { calls = map judge.calls old; faults = map judge.faults old }) (record { calls = map judge.calls new; faults = map judge.faults new })
+  goes_on_first true old new name file answer some count others once silent later = later_asked old new name file answer some count others (once refl) later
+  goes_on_first false old new name file answer some count others once silent later =
+      subst (λ js. GoesOn (record { calls = map judge.calls old; faults = map judge.faults old }) (record { calls = map judge.calls js; faults = map judge.faults js })) (sym (silent refl))
+      (goes_on-refl (record { calls = map judge.calls old; faults = map judge.faults old }))
+
+  -- judges of the same keys say the same
+  pub says_kept : (old new : List J) → map judge.key new ≡ map judge.key old → first_says judge.key judge.says new ≡ first_says judge.key judge.says old
+  says_kept old new same = first_of new ∙ ap (says_at judge.says) same ∙ sym (first_of old)
+    where
+      says_at : (K → Says) → List K → Says
+      says_at says [] = λ test name file. None
+      says_at says (key ∷ keys) = says key
+
+      first_of : (js : List J) → first_says judge.key judge.says js ≡ says_at judge.says (map judge.key js)
+      first_of [] = refl
+      first_of (j ∷ js) = refl

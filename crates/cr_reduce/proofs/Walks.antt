@@ -1,27 +1,19 @@
 -- The numbers of a walk, and what its steps complete.
 use Rattle.std.proofs.Common.{◌≡◌, ◌≢◌, ◌⊎◌, inl, inr, ℕ, ◌+◌, ◌*◌, ◌<◌, ◌≤◌, Bool, true, false, IsSome, List, length, Option, Some, None, ap, subst, sym, refl, arith}
-use Rattle.std.proofs.lemmas.Bool.{cases_lt}
-use Rattle.std.proofs.lemmas.Option.{slice_get_within}
-use Rattle.std.specs.List.{slice_get}
 use Rattle.cr_outside.specs.declared.judge.Answer.TheVariants.{Yes, No}
-use Rattle.cr_outside.specs.Judge.{call_of}
-use Rattle.cr_cursor.specs.declared.passes.Cursor.{Cursor}
 use Rattle.cr_cursor.specs.Variants.{Offer}
-use Rattle.cr_reduce.specs.Bench.{AllGained, CallsAbout, GoesOn, Judging}
-use Rattle.cr_reduce.specs.Sizes.{HasSize, IsSmaller}
-use Rattle.cr_reduce.specs.Trials.{AnswerInRun, HasFailed, IsBad, IsGood}
-use Rattle.cr_reduce.specs.Trials.IsRejected.{not_smaller, unlawful, answered_no}
+use Rattle.cr_reduce.specs.Bench.{GoesOn, Judging}
+use Rattle.cr_pool.specs.Trials.IsRejected.{not_smaller, unlawful, answered_no}
 use Rattle.cr_reduce.specs.Reduction.{AllRejected, State, Within, cursors_of, moved, taken, next_round}
 use Rattle.cr_reduce.specs.Reduction.Reduces.{accepts, new_round}
 use Rattle.cr_reduce.specs.Search.{Search, AcceptsInRun, FailsInRun, RejectsInRun}
 use Rattle.cr_reduce.specs.declared.end.Why.{Why}
 use Rattle.cr_reduce.specs.declared.end.Why.TheVariants.{Fixed, Limit, Fault, NoMemory}
-use Rattle.cr_reduce.specs.Walk.{AboutTried, Advances, AsksOnlyTried, EndsHere, FailsHere, GoesOver, IsHalt, Leads, MovesOn, left_of}
+use Rattle.cr_reduce.specs.Walk.{Advances, EndsHere, GoesOver, IsHalt, Leads, MovesOn, left_of}
 use Rattle.cr_reduce.specs.Walk.Advances.{moves, round}
 use Rattle.cr_reduce.specs.Walk.MovesOn.{passed, accepted}
-use Rattle.cr_reduce.proofs.Sizes.{one_size}
-use Rattle.cr_reduce.proofs.Runs.{all_gained-refl, answer_in_run-later, answer_in_run-earlier, gained_first, goes_on-trans, has_failed-earlier}
-use Rattle.cr_reduce.proofs.Reductions.{none_between, one_more, skip}
+use Rattle.cr_reduce.proofs.Runs.{answer_in_run-later, answer_in_run-earlier, goes_on-trans, has_failed-earlier}
+use Rattle.cr_reduce.proofs.Reductions.{none_between, skip}
 
 pub left_low : (changed : Bool) (size count position : ℕ) → size * 1073741824 ≤ left_of changed size count position
 left_low true size count position = omega arith
@@ -32,21 +24,7 @@ pub left_falls : (changed : Bool) (old_size old_count old_position size count po
     → left_of true size count position < left_of changed old_size old_count old_position
 left_falls changed old_size old_count old_position size count position less few = omega (arith, left_low changed old_size old_count old_position)
 
--- from the verdict on a variant to the definition
-
-smaller : (file variant : List ℕ) (size n : ℕ) → HasSize file size → HasSize variant n → n < size → IsSmaller variant file
-smaller file variant size n has new less = record { new_size = n; old_size = size; new_is = new; old_is = has; less = less }
-
-not_less : (file variant : List ℕ) (size : ℕ) → HasSize file size → ((n : ℕ) → HasSize variant n → size ≤ n) → IsSmaller variant file → ⊥
-not_less file variant size has big it = absurd (omega (arith, big it.new_size it.new_is, one_size file size it.old_size has it.old_is, it.less))
-
-rejected_so : (s : Search) (before now : Judging) (file variant : List ℕ) (size : ℕ) → HasSize file size
-    → IsBad s.Lawful variant size ⊎ AnswerInRun s.asks s.Tells s.name before.calls now.calls variant No → RejectsInRun s before now file variant
-rejected_so s before now file variant size has (inl (inl big)) = not_smaller (not_less file variant size has big)
-rejected_so s before now file variant size has (inl (inr against)) = unlawful against
-rejected_so s before now file variant size has (inr answer) = answered_no answer
-
--- no position, or one
+-- no position
 pub goes_nowhere : (s : Search) (before now : Judging) (st : State) → st.position ≤ length (cursors_of st.offer) → GoesOver s before now st st
 goes_nowhere s before now st placed = record {
   position = st.position;
@@ -57,52 +35,6 @@ goes_nowhere s before now st placed = record {
   count = refl;
   is = refl;
 }
-
-pub goes_over_one : (s : Search) (before now : Judging) (st : State) (at : Cursor) (variant : List ℕ) (size : ℕ)
-    → slice_get (cursors_of st.offer) st.position ≡ Some at → variant ≡ st.offer.bytes at → HasSize st.file size
-    → IsBad s.Lawful variant size ⊎ AnswerInRun s.asks s.Tells s.name before.calls now.calls variant No → GoesOver s before now st (moved st (st.position + 1) (st.turns + 1))
-goes_over_one s before now st at variant size there is has why = record {
-  position = st.position + 1;
-  turns = st.turns + 1;
-  low = omega arith;
-  high = omega (arith, slice_get_within (cursors_of st.offer) st.position at there);
-  all = one_more st.offer (RejectsInRun s before now) st.file st.position (st.position + 1) at there
-      (subst (λ v. RejectsInRun s before now st.file v) is (rejected_so s before now st.file variant size has why))
-      (none_between st.offer (RejectsInRun s before now) st.file (st.position + 1));
-  count = omega arith;
-  is = refl;
-}
-
-pub moves_accepted : (s : Search) (before now : Judging) (st : State) (at : Cursor) (variant : List ℕ) (size n : ℕ)
-    → slice_get (cursors_of st.offer) st.position ≡ Some at → variant ≡ st.offer.bytes at → HasSize st.file size
-    → IsGood s.Lawful variant size n → AnswerInRun s.asks s.Tells s.name before.calls now.calls variant Yes → (next : Offer) → s.Offers variant next → MovesOn s before now st (taken st at n (st.turns + 1) next)
-moves_accepted s before now st at variant size n there is has good answer next offered =
-    accepted st.position at n (st.turns + 1) next
-    (record {
-      after = omega arith;
-      there = there;
-      accepted = subst (λ v. AcceptsInRun s before now st.file v) is (record { smaller = smaller st.file variant size n has good.has good.less; lawful = good.lawful; answered = answer });
-      before = none_between st.offer (RejectsInRun s before now) st.file st.position;
-    })
-    (subst (λ v. HasSize v n) is good.has) (omega arith) (subst (λ v. s.Offers v next) is offered) refl
-
-pub asks_only_tried : (s : Search) (before now : Judging) (st : State) (at : Cursor) (variant : List ℕ) (size : ℕ)
-    → slice_get (cursors_of st.offer) st.position ≡ Some at → variant ≡ st.offer.bytes at → HasSize st.file size
-    → CallsAbout before.calls now.calls s.name variant → (now.calls ≡ before.calls) ⊎ ((n : ℕ) × IsGood s.Lawful variant size n) → AsksOnlyTried s before now st
-asks_only_tried s before now st at variant size there is has calls (inl same) = subst (AllGained (AboutTried s st) before.calls) (sym same) (all_gained-refl (AboutTried s st) before.calls)
-asks_only_tried s before now st at variant size there is has (inl same) (inr good) = subst (AllGained (AboutTried s st) before.calls) (sym same) (all_gained-refl (AboutTried s st) before.calls)
-asks_only_tried s before now st at variant size there is has (inr made) (inr good) =
-    subst (AllGained (AboutTried s st) before.calls) (sym made.2) (gained_first (AboutTried s st) (call_of made.0 s.name variant made.1) before.calls (
-      refl,
-      record {
-        position = st.position;
-        at = at;
-        there = there;
-        is = is;
-        smaller = smaller st.file variant size good.0 has good.1.has good.1.less;
-        lawful = good.1.lawful;
-      },
-    ))
 
 -- what the steps complete
 
@@ -167,31 +99,12 @@ leads-moves s before middle now st to earlier (accepted position at size turns n
           }) has count within offered rest;
     })
 
--- A look short of the limit stays within it.
-pub still_within : (limit : Option ℕ) (stop : Option Why) (old new : ℕ) → limit ≢ Some old → (stop ≡ None → new ≡ old + 1) → (IsSome stop → new ≡ old) → Within limit old → Within limit new
-still_within None stop old new more one none within = tt
-still_within (Some most) None old new more one none within = elim (cases_lt old most) [
-  | inl less ↦ omega (arith, one refl)
-  | inr least ↦ absurd (more (ap Some (omega arith)))
-]
-still_within (Some most) (Some why) old new more one none within = omega (arith, none cc)
-
--- A position that ends the walk ends it here.
-pub halt_ends : (s : Search) (before now : Judging) (limit : Option ℕ) (st : State) (why : Why) → limit ≢ Some st.turns → IsHalt s before now st why → EndsHere s before now limit st why
-halt_ends s before now limit st Fixed more halt = absurd halt
-halt_ends s before now limit st Limit more halt = absurd halt
-halt_ends s before now limit st (Fault turn worker) more halt = (halt.0, more, halt.1)
-halt_ends s before now limit st NoMemory more halt = tt
-
--- The failed trial of a variant ends the walk at its position.
-pub fails_here : (s : Search) (before now : Judging) (st : State) (at : Cursor) (variant : List ℕ) (size n : ℕ)
-    → slice_get (cursors_of st.offer) st.position ≡ Some at → variant ≡ st.offer.bytes at → HasSize st.file size
-    → IsGood s.Lawful variant size n → HasFailed s.asks s.name before now 0 variant → FailsHere s before now st 0
-fails_here s before now st at variant size n there is has good failed = record {
-  at = at;
-  there = there;
-  failed = subst (λ v. FailsInRun s before now 0 st.file v) is (refl, record { smaller = smaller st.file variant size n has good.has good.less; lawful = good.lawful; failed = failed });
-}
+-- What ends the walk in an epoch ends it.
+pub halt_ends : (s : Search) (before now : Judging) (limit : Option ℕ) (st : State) (why : Why) → IsHalt s before now limit st why → EndsHere s before now limit st why
+halt_ends s before now limit st Fixed halt = absurd halt
+halt_ends s before now limit st Limit halt = absurd halt
+halt_ends s before now limit st (Fault turn worker) halt = halt
+halt_ends s before now limit st NoMemory halt = tt
 
 -- one step of the walk
 pub leads-advances : (s : Search) (before middle now : Judging) (st to : State) → GoesOn before middle → Advances s middle now st to → Leads s before now st to
@@ -204,13 +117,13 @@ ends_earlier s before middle now limit st Fixed on ended = ended
 ends_earlier s before middle now limit st Limit on ended = ended
 ends_earlier s before middle now limit st (Fault turn worker) on ended =
     let here = ended.2 in
-    let it = here.failed.1 in (
+    let it = here.failed in (
       ended.0,
       ended.1,
       record {
         at = here.at;
         there = here.there;
-        failed = (here.failed.0, record { smaller = it.smaller; lawful = it.lawful; failed = has_failed-earlier s.asks s.name before middle now worker (st.offer.bytes here.at) on it.failed });
+        failed = record { smaller = it.smaller; lawful = it.lawful; failed = has_failed-earlier s.asks s.name before middle now worker (st.offer.bytes here.at) on it.failed };
       },
     )
 ends_earlier s before middle now limit st NoMemory on ended = ended

@@ -1,40 +1,28 @@
--- A bench of judges, who all have one key, and what they tell at one time.
+-- What the judges of a bench tell at one time, and what they are asked from one time to another.
 use Rattle.std.specs.Prelude.{◌≡◌, ◌⊎◌, ◌≤◌, ℕ, zero, suc, List, [], ◌∷◌, ◌++◌, All, map, Option, None, Some}
 use Rattle.cr_outside.specs.declared.judge.Answer.{Answer}
 use Rattle.cr_outside.specs.declared.judge.Judge.{Ghosts as JudgeGhosts}
 use Rattle.cr_outside.specs.Faults.{Rose}
 use Rattle.cr_outside.specs.Judge.{Call, call_of, with_call}
-use Rattle.cr_outside.specs.Question.{AsksOnce, CountsOnce, Says}
+use Rattle.cr_outside.specs.Question.{AsksOnce, Says}
+use Rattle.cr_pool.specs.Bench.{Benched}
+use Rattle.cr_pool.specs.Tally.{first_says}
+use Rattle.cr_pool.specs.Trials.{HasCalled}
 
--- all have the first one's key
-abbrev pub HasOneKey : {J K : Type 0} → (J → K) → List J → Type 0
-HasOneKey key [] = Unit {0}
-HasOneKey key (judge ∷ judges) = All (λ other. key other ≡ key judge) judges
-
-abbrev pub keys_of : {J K : Type 0} → JudgeGhosts J K → List J → List K
-keys_of judge bench = map judge.key bench
-
--- what is said at the first of some keys
-abbrev pub says_at : {K : Type 0} → (K → Says) → List K → Says
-says_at says [] = λ test name file. None
-says_at says (key ∷ keys) = says key
+abbrev pub keys_of : {J K : Type 0} → JudgeGhosts J K → Benched J → List K
+keys_of judge bench = map judge.key bench.judges
 
 -- what the judges say at their key
-abbrev pub says_of : {J K : Type 0} → JudgeGhosts J K → List J → Says
-says_of judge bench = says_at judge.says (keys_of judge bench)
-
--- the judges behind the first one
-abbrev pub others : {J : Type 0} → List J → List J
-others [] = []
-others (judge ∷ judges) = judges
+abbrev pub says_of : {J K : Type 0} → JudgeGhosts J K → Benched J → Says
+says_of judge bench = first_says judge.key judge.says bench.judges
 
 -- What the judges tell at one time: of each its calls, where it tells them, and the count of its faults.
 pub record Judging : Type 0 where
   pub calls : List (Option (List Call))
   pub faults : List ℕ
 
-abbrev pub judging : {J K : Type 0} → JudgeGhosts J K → List J → Judging
-judging judge bench = record { calls = map judge.calls bench; faults = map judge.faults bench }
+abbrev pub judging : {J K : Type 0} → JudgeGhosts J K → Benched J → Judging
+judging judge bench = record { calls = map judge.calls bench.judges; faults = map judge.faults bench.judges }
 
 -- Of a judge's calls, where they are told, the later ones go on where the earlier ones stopped, and each since is such a call.
 abbrev pub Gained : (Call → Type 0) → Option (List Call) → Option (List Call) → Type 0
@@ -59,11 +47,6 @@ pub record GoesOn (before now : Judging) : Type 0 where
   pub calls : AllGained AnyCall before.calls now.calls
   pub faults : Each (λ old new. old ≤ new) before.faults now.faults
 
--- Where a judge's calls are told, this call stands among those made since.
-abbrev pub HasCalled : Option (List Call) → Option (List Call) → Call → Type 0
-HasCalled None now call = Unit {0}
-HasCalled (Some before) now call = (some rest : List Call) × (now ≡ Some (before ++ some ++ call ∷ rest))
-
 -- the call was made by the judge of this worker
 abbrev pub CalledBy : ℕ → List (Option (List Call)) → List (Option (List Call)) → Call → Type 0
 CalledBy zero (before ∷ rest) (now ∷ later) call = HasCalled before now call
@@ -80,11 +63,6 @@ RoseAt _ _ _ = ⊥
 abbrev pub AsksFirst : List (Option (List Call)) → List (Option (List Call)) → List ℕ → List ℕ → Answer → Type 0
 AsksFirst (before ∷ rest) (now ∷ later) name file answer = AsksOnce before now name file answer × (later ≡ rest)
 AsksFirst _ _ name file answer = ⊥
-
--- the first judge's number of calls after it
-abbrev pub CountsFirst : List ℕ → List ℕ → Answer → Type 0
-CountsFirst (before ∷ rest) (now ∷ later) answer = CountsOnce before now answer × (later ≡ rest)
-CountsFirst _ _ answer = ⊥
 
 -- with one call more of the first judge
 abbrev pub with_first_call : Call → List (Option (List Call)) → List (Option (List Call))

@@ -35,7 +35,7 @@ EndsBy reduction file limit e NoMemory = Within limit e.turns × (IsUntouched fi
 
 -- No fault is told: it is one of the turn after the last, and leaves what the reduction comes to after the turns made.
 abbrev pub EndsToldBy : (Option ℕ → Outcome → Type 0) → List ℕ → Option ℕ → End → Why → Type 0
-EndsToldBy reduction file limit e (Fault turn worker) = (turn ≡ e.turns + 1) × (worker ≡ 0) × Within limit e.turns × StopsAt reduction e
+EndsToldBy reduction file limit e (Fault turn worker) = (turn ≡ e.turns + 1) × Within limit e.turns × StopsAt reduction e
 EndsToldBy reduction file limit e why = EndsBy reduction file limit e why
 
 -- by the answers given in the run

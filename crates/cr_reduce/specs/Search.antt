@@ -10,6 +10,7 @@ use Rattle.cr_outside.specs.Question.{Says, IsTold}
 use Rattle.cr_reduce.specs.declared.end.Accepted.{Accepted}
 use Rattle.cr_cursor.specs.declared.passes.Cursor.{Cursor}
 use Rattle.cr_cursor.specs.Variants.{Offer}
+use Rattle.cr_pool.specs.Bench.{Benched}
 use Rattle.cr_reduce.specs.Bench.{AllGained, Judging, says_of}
 use Rattle.cr_reduce.specs.Sizes.{IsSmaller}
 use Rattle.cr_reduce.specs.Trials.{IsAccepted, IsFailed, IsRejected, ToldAnswer, AnswerInRun}
@@ -36,7 +37,7 @@ search_of Offers Lawful asks tells says name = record {
 }
 
 -- The search of passes, a law, a question and a name with a bench of judges: what each of these traits tells of them.
-abbrev pub searching : {P I L Q J K : Type 0} → PassesGhosts P I → P → LawGhosts L → L → QuestionGhosts Q → Q → List ℕ → JudgeGhosts J K → List J → Search
+abbrev pub searching : {P I L Q J K : Type 0} → PassesGhosts P I → P → LawGhosts L → L → QuestionGhosts Q → Q → List ℕ → JudgeGhosts J K → Benched J → Search
 searching passes p law l question q name judge bench =
     search_of (passes.offers p) (law.lawful l) (question.asks q) (question.tells q) (says_of judge bench) name
 
@@ -47,9 +48,8 @@ AcceptsInRun s before now = IsAccepted s.Lawful (AnswerInRun s.asks s.Tells s.na
 abbrev pub RejectsInRun : Search → Judging → Judging → Trial
 RejectsInRun s before now = IsRejected s.Lawful (AnswerInRun s.asks s.Tells s.name before.calls now.calls)
 
--- so far there is one worker
 abbrev pub FailsInRun : Search → Judging → Judging → FailedTrials
-FailsInRun s before now worker file variant = (worker ≡ 0) × IsFailed s.Lawful s.asks s.name before now worker file variant
+FailsInRun s before now worker file variant = IsFailed s.Lawful s.asks s.name before now worker file variant
 
 abbrev pub ReducesInRun : Search → Judging → Judging → Option ℕ → State → Outcome → Type 0
 ReducesInRun s before now limit st out = Reduces s.Offers (AcceptsInRun s before now) (RejectsInRun s before now) (FailsInRun s before now) limit st out

@@ -6,11 +6,9 @@ use Rattle.cr_cursor.specs.declared.passes.Cursor.{Cursor}
 use Rattle.cr_reduce.specs.declared.end.Accepted.{Accepted}
 use Rattle.cr_reduce.specs.declared.end.Why.{Why}
 use Rattle.cr_reduce.specs.declared.end.Why.TheVariants.{Fixed, Limit, Fault, NoMemory}
-use Rattle.cr_reduce.specs.declared.look.Considered.{Considered}
-use Rattle.cr_reduce.specs.declared.look.Considered.TheVariants as considered
-use Rattle.cr_reduce.specs.declared.trial.Verdict.{Verdict}
-use Rattle.cr_reduce.specs.declared.trial.Verdict.TheVariants as verdict
 use Rattle.cr_reduce.specs.declared.walk.Walk.{Walk}
+use Rattle.cr_pool.specs.declared.job.EpochEnd.{EpochEnd}
+use Rattle.cr_pool.specs.declared.job.EpochEnd.TheVariants as ending
 use Rattle.cr_cursor.specs.Variants.{Offer}
 use Rattle.cr_reduce.specs.Sizes.{HasSize, IsSmaller}
 use Rattle.cr_reduce.specs.Bench.{AllGained, GoesOn, Judging}
@@ -85,27 +83,41 @@ pub record FailsHere (s : Search) (before now : Judging) (st : State) (worker : 
   pub there : slice_get (cursors_of st.offer) st.position ≡ Some at
   pub failed : FailsInRun s before now worker st.file (st.offer.bytes at)
 
--- Why a position ended the walk: want of memory, or the trial failed at this very turn.
-abbrev pub IsHalt : Search → Judging → Judging → State → Why → Type 0
-IsHalt s before now st NoMemory = Unit {0}
-IsHalt s before now st (Fault turn worker) = (turn ≡ st.turns + 1) × FailsHere s before now st worker
-IsHalt s before now st Fixed = ⊥
-IsHalt s before now st Limit = ⊥
+-- What an epoch says of so many positions of the state's file, from the state's own on.
+abbrev pub EpochSays : Search → Judging → Judging → State → ℕ → EpochEnd → Type 0
+EpochSays s before now st len (ending.NoneOf n) = (n ≡ len) × AllRejected st.offer (RejectsInRun s before now) st.file st.position (st.position + len)
+EpochSays s before now st len (ending.Found position variant) = (position < st.position + len)
+    × ((at : Cursor) × (variant.items ≡ st.offer.bytes at) × IsFirstAccepted st.offer (AcceptsInRun s before now) (RejectsInRun s before now) st.file st.position position at)
+EpochSays s before now st len (ending.Fault position worker) = (st.position ≤ position) × (position < st.position + len)
+    × AllRejected st.offer (RejectsInRun s before now) st.file st.position position
+    × ((at : Cursor) × (slice_get (cursors_of st.offer) position ≡ Some at) × FailsInRun s before now worker st.file (st.offer.bytes at))
+EpochSays s before now st len ending.NoMemory = Unit {0}
 
--- The variant of this cursor is accepted, and the walk may take it.
-pub record IsTakable (s : Search) (before now : Judging) (from : State) (old_size : ℕ) (variant : List ℕ) (at : Cursor) (size : ℕ) : Type 0 where
-  pub there : slice_get (cursors_of from.offer) from.position ≡ Some at
-  pub is : variant ≡ from.offer.bytes at
-  pub has : HasSize variant size
-  pub less : size < old_size
-  pub moves : (next : Offer) → s.Offers variant next → MovesOn s before now from (taken from at size (from.turns + 1) next)
+-- Why an epoch ended the walk: want of memory, or the trial of the state's position failed, short of the limit.
+abbrev pub IsHalt : Search → Judging → Judging → Option ℕ → State → Why → Type 0
+IsHalt s before now limit st NoMemory = Unit {0}
+IsHalt s before now limit st (Fault turn worker) = (turn ≡ st.turns + 1) × (limit ≢ Some st.turns) × FailsHere s before now st worker
+IsHalt s before now limit st Fixed = ⊥
+IsHalt s before now limit st Limit = ⊥
 
--- the verdict on the variant of a cursor
-abbrev pub Considers : Cursor → Verdict → Considered → Type 0
-Considers at (verdict.Accepted size) outcome = outcome ≡ considered.Accepted at size
-Considers at verdict.Rejected outcome = outcome ≡ considered.Rejected
-Considers at verdict.Failed outcome = outcome ≡ considered.Failed
-Considers at verdict.NoMemory outcome = outcome ≡ considered.NoMemory
+-- The variant of a position has become the file.
+pub record IsTaken (p : Proposals) (from : State) (position : ℕ) (to : State) : Type 0 where
+  pub at : Cursor
+  pub size : ℕ
+  pub turns : ℕ
+  pub next : Offer
+  pub there : slice_get (cursors_of from.offer) position ≡ Some at
+  pub has : HasSize (from.offer.bytes at) size
+  pub count : turns + from.position ≡ from.turns + position + 1
+  pub offered : p (from.offer.bytes at) next
+  pub is : to ≡ taken from at size turns next
+
+-- So many positions are tried at once: some, no more than are left in the round, and than the limit leaves.
+pub record IsLength (limit : Option ℕ) (left turns len : ℕ) : Type 0 where
+  pub some : 0 < len
+  pub few : len ≤ 4096
+  pub placed : len ≤ left
+  pub within : Within limit (turns + len)
 
 -- one step: some positions, or a new round
 pub data Advances (s : Search) (before now : Judging) (from to : State) : Type 0 where

@@ -1,6 +1,6 @@
 // The reduction.
 ghost use Rattle.std.specs.Prelude.{◌≡◌, ◌≢◌, ◌<◌, ◌≤◌, ℕ, length, IfErr, IfOk, false};
-ghost use Rattle.cr_reduce.specs.Bench.{GoesOn, judging, keys_of, others};
+ghost use Rattle.cr_reduce.specs.Bench.{GoesOn, judging, keys_of};
 ghost use Rattle.cr_reduce.specs.Bound.{HasLevels, enough_turns};
 ghost use Rattle.cr_reduce.specs.Ends.{end_of_walk, EndsAsTold, EndsInRun, FaultsWithCause, IsFixedAsTold, IsFixedInRun};
 ghost use Rattle.cr_reduce.specs.Search.{AsksOnlyCandidates, IsAllTold, searching};
@@ -9,17 +9,19 @@ ghost use Rattle.cr_reduce.specs.Sizes.{HasSize};
 ghost use Rattle.cr_reduce.specs.Walk.{IsSound, state_of};
 
 use crate::advance::walk_on;
-use crate::bench::Bench;
 use crate::end::{End, Plan, Why};
 use crate::measure::size_of;
 use crate::walk::Walk;
 use cr_cursor::{Law, Passes, positions};
 use cr_outside::{Judge, Question};
+use cr_pool::Bench;
 use std::alloc::Global;
+use std::thread::Threads;
 
 /// Reduces a lawful file: each accepted variant becomes the file, until a round accepts nothing, the turns reach the
 /// limit, the test fails, or no memory is left.
-pub fn reduce<P: Passes, L: Law, Q: Question, J: Judge>(
+pub fn reduce<R: Threads + Sync, P: Passes + Sync, L: Law + Sync, Q: Question + Sync, J: Judge + Send>(
+    rt: &R,
     alloc: Global,
     passes: &P,
     law: &L,
@@ -29,8 +31,10 @@ pub fn reduce<P: Passes, L: Law, Q: Question, J: Judge>(
     file: Vec<u8>,
     plan: &Plan,
 ) -> End
+where
+    P::Prep: Sync,
     requires tokenizes { (n : ℕ) × HasSize file.items n }
-    requires workers { (0 < plan.now.workers) × (plan.now.workers ≤ length bench.old) }
+    requires workers { (0 < plan.now.workers) × (plan.now.workers ≤ length bench.old.judges) }
     requires window { (0 < plan.now.window) × (plan.now.window ≤ 4096) }
 
     // The reduction by the answers given in this run, whatever the judge is.
@@ -55,15 +59,14 @@ pub fn reduce<P: Passes, L: Law, Q: Question, J: Judge>(
     ensures in_time { (levels : ℕ → ℕ) (size : ℕ) → HasLevels (P.offers passes.now) levels → HasSize file.items size → Within plan.now.limit (enough_turns levels size) → result.why ≢ Why.Limit }
     ensures keys { keys_of J.Judge bench.new ≡ keys_of J.Judge bench.old }
 
-    // A question that asks no judge leaves the bench as it was.
-    ensures silent { Q.asks question.now ≡ false → bench.new ≡ bench.old }
-    ensures others { others bench.new ≡ others bench.old }
+    // A question that asks no judge leaves the judges as they were.
+    ensures silent { Q.asks question.now ≡ false → bench.new.judges ≡ bench.old.judges }
     ensures goes_on { GoesOn (judging J.Judge bench.old) (judging J.Judge bench.new) }
 {
     match begin(alloc, passes, file) {
         Ok(mut walk) => {
             let why = walk_on(
-                alloc, passes, law, question, bench, name, plan.limit, &mut walk,
+                rt, alloc, passes, law, question, bench, name, plan, &mut walk,
             );
             end_of(walk, why)
         }

@@ -1,134 +1,141 @@
-// One position of the walk.
-ghost use Rattle.std.specs.Prelude.{◌≡◌, ◌<◌, ◌≤◌, ◌+◌, ◌⊎◌, ℕ, List, IsSome, OnOk, OnErr, IfOk, Some, None, true, slice_get, length, false};
-ghost use Rattle.cr_reduce.specs.declared.end.Why.{Why};
-ghost use Rattle.cr_cursor.specs.declared.passes.Cursor.{Cursor};
-ghost use Rattle.cr_reduce.specs.Reduction.{cursors_of, moved};
-ghost use Rattle.cr_reduce.specs.Bench.{GoesOn, judging, keys_of, others};
+// The positions of one epoch.
+ghost use Rattle.std.specs.Prelude.{◌≡◌, ◌≢◌, ◌<◌, ◌≤◌, ◌+◌, ◌-◌, ℕ, IsSome, Some, None, false, length};
+ghost use Rattle.cr_reduce.specs.Bench.{GoesOn, judging, keys_of};
+ghost use Rattle.cr_reduce.specs.Reduction.{Within};
 ghost use Rattle.cr_reduce.specs.Search.{searching};
-ghost use Rattle.cr_reduce.specs.Walk.{AsksOnlyTried, Considers, FailsHere, GoesOver, IsHalt, IsSound, IsTakable, MovesOn, state_of, work_of};
+ghost use Rattle.cr_reduce.specs.Walk.{AsksOnlyTried, EpochSays, GoesOver, IsHalt, IsLength, IsSound, MovesOn, state_of, work_of};
+ghost use Rattle.cr_reduce.specs.declared.end.Why.{Why};
 
-use crate::bench::Bench;
-use crate::end::Why;
+use crate::end::{Plan, Why};
 use crate::take::take;
-use crate::trial::{Verdict, try_variant};
 use crate::walk::Walk;
-use cr_cursor::{Cursor, Law, Passes, cursor_at};
-use cr_outside::{Judge, NoMemory, Question};
+use cr_cursor::{Law, Passes};
+use cr_outside::{Judge, Question};
+use cr_pool::{Bench, EpochEnd, Job};
 use std::alloc::Global;
+use std::thread::Threads;
 
-/// What the trial at the walk's position came to.
-#[derive(Clone, Copy, Debug, PartialEq, Eq)]
-enum Considered {
-    /// The variant of this cursor and size is accepted.
-    Accepted(Cursor, u64),
-    Rejected,
-    Failed,
-    NoMemory,
-}
-
-/// Makes the variant at the walk's position, and says its cursor.
-fn propose<P: Passes>(
-    passes: &P,
-    walk: &Walk<P::Prep>,
-    variant: &mut Vec<u8>,
-) -> Result<Cursor, NoMemory>
-    requires sound { IsSound (P.offers passes.now) (P.offer passes.now) walk.now }
-    requires below { walk.now.position < walk.now.count }
-    ensures there { IfOk result (λ at. slice_get (cursors_of (P.offer passes.now walk.now.prep walk.now.file.items)) walk.now.position ≡ Some at) }
-    ensures variant { IfOk result (λ at. variant.new.items ≡ (P.offer passes.now walk.now.prep walk.now.file.items).bytes at) }
+/// How many positions are tried at once: as many as the window allows, as are left in the round, and as the limit leaves.
+fn length_of(plan: &Plan, left: u64, turns: u64) -> u64
+    requires some { 0 < left }
+    requires window { (0 < plan.now.window) × (plan.now.window ≤ 4096) }
+    requires more { plan.now.limit ≢ Some turns }
+    requires within { Within plan.now.limit turns }
+    ensures { IsLength plan.now.limit left turns result }
 {
-    let at = cursor_at(passes, &walk.prep, walk.position);
-    passes.variant(&walk.prep, &walk.file, at, variant)?;
-    Ok(at)
+    let most = left.min(u64::from(plan.window));
+    match plan.limit {
+        Some(limit) => most.min(limit - turns),
+        None => most,
+    }
 }
 
-/// Tries the variant at the walk's position.
-fn consider<P: Passes, L: Law, Q: Question, J: Judge>(
+/// Tries the walk's next positions by the workers.
+fn try_next<R: Threads + Sync, P: Passes + Sync, L: Law + Sync, Q: Question + Sync, J: Judge + Send>(
+    rt: &R,
     alloc: Global,
     passes: &P,
     law: &L,
     question: &Q,
     bench: &mut Bench<J>,
     name: &str,
+    workers: u32,
     walk: &Walk<P::Prep>,
-    variant: &mut Vec<u8>,
-) -> Considered
+    len: u64,
+) -> EpochEnd
+where
+    P::Prep: Sync,
     requires sound { IsSound (P.offers passes.now) (P.offer passes.now) walk.now }
-    requires below { walk.now.position < walk.now.count }
-    ensures rejected { result ≡ Considered.Rejected → GoesOver (searching P.Passes passes.now L.Law law.now Q.Question question.now name.now J.Judge bench.old)
-        (judging J.Judge bench.old) (judging J.Judge bench.new) (state_of (P.offer passes.now) walk.now) (moved (state_of (P.offer passes.now) walk.now) (walk.now.position + 1) (walk.now.turns + 1)) }
-    ensures accepted { (at : Cursor) (size : ℕ) → result ≡ Considered.Accepted at size → IsTakable (searching P.Passes passes.now L.Law law.now Q.Question question.now name.now J.Judge bench.old)
-        (judging J.Judge bench.old) (judging J.Judge bench.new) (state_of (P.offer passes.now) walk.now) walk.now.size variant.new.items at size }
-    ensures failed { result ≡ Considered.Failed → FailsHere (searching P.Passes passes.now L.Law law.now Q.Question question.now name.now J.Judge bench.old)
-        (judging J.Judge bench.old) (judging J.Judge bench.new) (state_of (P.offer passes.now) walk.now) 0 }
+    requires workers { (0 < workers) × (workers ≤ length bench.old.judges) }
+    requires placed { walk.now.position + len ≤ walk.now.count }
+    requires few { len ≤ 4096 }
+    ensures says { EpochSays (searching P.Passes passes.now L.Law law.now Q.Question question.now name.now J.Judge bench.old)
+        (judging J.Judge bench.old) (judging J.Judge bench.new) (state_of (P.offer passes.now) walk.now) len result }
     ensures asks { AsksOnlyTried (searching P.Passes passes.now L.Law law.now Q.Question question.now name.now J.Judge bench.old)
         (judging J.Judge bench.old) (judging J.Judge bench.new) (state_of (P.offer passes.now) walk.now) }
     ensures keys { keys_of J.Judge bench.new ≡ keys_of J.Judge bench.old }
-    ensures silent { Q.asks question.now ≡ false → bench.new ≡ bench.old }
-    ensures others { others bench.new ≡ others bench.old }
+    ensures silent { Q.asks question.now ≡ false → bench.new.judges ≡ bench.old.judges }
     ensures goes_on { GoesOn (judging J.Judge bench.old) (judging J.Judge bench.new) }
 {
-    match propose(passes, walk, variant) {
-        Ok(at) => with_cursor(
-            at,
-            try_variant(alloc, law, question, bench, name, variant, walk.size),
-        ),
-        Err(_) => Considered::NoMemory,
-    }
+    // No verdict is kept from one epoch to the next so far.
+    bench.forget();
+    let job = Job {
+        passes,
+        prep: &walk.prep,
+        law,
+        question,
+        name,
+        file: &walk.file,
+        size: walk.size,
+        start: walk.position,
+        len,
+        workers,
+    };
+    bench.epoch(rt, alloc, &job)
 }
 
-fn with_cursor(at: Cursor, verdict: Verdict) -> Considered
-    ensures { Considers at verdict result }
-{
-    match verdict {
-        Verdict::Accepted(size) => Considered::Accepted(at, size),
-        Verdict::Rejected => Considered::Rejected,
-        Verdict::Failed => Considered::Failed,
-        Verdict::NoMemory => Considered::NoMemory,
-    }
-}
-
-/// Tries the variant at the walk's position, and goes one position on, or says why not.
-pub fn look<P: Passes, L: Law, Q: Question, J: Judge>(
+/// Looks at the walk's next positions, and goes on to where the epoch ended, or says why the walk ends.
+pub fn look<R: Threads + Sync, P: Passes + Sync, L: Law + Sync, Q: Question + Sync, J: Judge + Send>(
+    rt: &R,
     alloc: Global,
     passes: &P,
     law: &L,
     question: &Q,
     bench: &mut Bench<J>,
     name: &str,
+    plan: &Plan,
     walk: &mut Walk<P::Prep>,
-    variant: &mut Vec<u8>,
 ) -> Option<Why>
+where
+    P::Prep: Sync,
     requires sound { IsSound (P.offers passes.now) (P.offer passes.now) walk.old }
     requires below { walk.old.position < walk.old.count }
+    requires workers { (0 < plan.now.workers) × (plan.now.workers ≤ length bench.old.judges) }
+    requires window { (0 < plan.now.window) × (plan.now.window ≤ 4096) }
+    requires more { plan.now.limit ≢ Some walk.old.turns }
+    requires within { Within plan.now.limit walk.old.turns }
     ensures moved { result ≡ None → MovesOn (searching P.Passes passes.now L.Law law.now Q.Question question.now name.now J.Judge bench.old)
         (judging J.Judge bench.old) (judging J.Judge bench.new) (state_of (P.offer passes.now) walk.old) (state_of (P.offer passes.now) walk.new) }
     ensures sound { result ≡ None → IsSound (P.offers passes.now) (P.offer passes.now) walk.new }
-    ensures one_turn { result ≡ None → walk.new.turns ≡ walk.old.turns + 1 }
-    ensures no_turn { IsSome result → walk.new.turns ≡ walk.old.turns }
     ensures less { result ≡ None → work_of walk.new < work_of walk.old }
+    ensures within { Within plan.now.limit walk.new.turns }
     ensures passed { IsSome result → GoesOver (searching P.Passes passes.now L.Law law.now Q.Question question.now name.now J.Judge bench.old)
         (judging J.Judge bench.old) (judging J.Judge bench.new) (state_of (P.offer passes.now) walk.old) (state_of (P.offer passes.now) walk.new) }
     ensures halted { (why : Why) → result ≡ Some why → IsHalt (searching P.Passes passes.now L.Law law.now Q.Question question.now name.now J.Judge bench.old)
-        (judging J.Judge bench.old) (judging J.Judge bench.new) (state_of (P.offer passes.now) walk.new) why }
+        (judging J.Judge bench.old) (judging J.Judge bench.new) plan.now.limit (state_of (P.offer passes.now) walk.new) why }
     ensures asks { AsksOnlyTried (searching P.Passes passes.now L.Law law.now Q.Question question.now name.now J.Judge bench.old)
         (judging J.Judge bench.old) (judging J.Judge bench.new) (state_of (P.offer passes.now) walk.old) }
     ensures keys { keys_of J.Judge bench.new ≡ keys_of J.Judge bench.old }
-    ensures silent { Q.asks question.now ≡ false → bench.new ≡ bench.old }
-    ensures others { others bench.new ≡ others bench.old }
+    ensures silent { Q.asks question.now ≡ false → bench.new.judges ≡ bench.old.judges }
     ensures goes_on { GoesOn (judging J.Judge bench.old) (judging J.Judge bench.new) }
 {
-    match consider(alloc, passes, law, question, bench, name, walk, variant) {
-        Considered::Rejected => {
-            walk.position += 1;
-            walk.turns += 1;
+    let len = length_of(plan, walk.count - walk.position, walk.turns);
+    match try_next(
+        rt,
+        alloc,
+        passes,
+        law,
+        question,
+        bench,
+        name,
+        plan.workers,
+        walk,
+        len,
+    ) {
+        EpochEnd::NoneOf(passed) => {
+            walk.position += passed;
+            walk.turns += passed;
             None
         }
-        Considered::Accepted(at, size) => match take(alloc, passes, walk, at, size, variant) {
+        EpochEnd::Found(position, variant) => match take(alloc, passes, walk, position, variant) {
             Ok(()) => None,
             Err(_) => Some(Why::NoMemory),
         },
-        Considered::Failed => Some(Why::Fault(walk.turns + 1, 0)),
-        Considered::NoMemory => Some(Why::NoMemory),
+        EpochEnd::Fault(position, worker) => {
+            walk.turns += position - walk.position;
+            walk.position = position;
+            Some(Why::Fault(walk.turns + 1, worker))
+        }
+        EpochEnd::NoMemory => Some(Why::NoMemory),
     }
 }

@@ -1,23 +1,19 @@
-use Rattle.std.proofs.Common.{◌≡◌, ◌≢◌, IsSome, None, Some, length, subst, sym, ap, ◌∙◌, refl, rules, arith}
+use Rattle.std.proofs.Common.{refl}
 use Rattle.cr_reduce.specs.Bench.{judging}
 use Rattle.cr_reduce.specs.Search.{searching}
 use Rattle.cr_reduce.specs.Walk.{AboutTried, state_of}
 use Rattle.cr_reduce.specs.Walk.Advances.{moves}
 use Rattle.cr_reduce.proofs.Runs.{all_gained-refl, goes_on-refl}
-use Rattle.cr_reduce.proofs.Walks.{halt_ends, still_within}
+use Rattle.cr_reduce.proofs.Walks.{halt_ends}
 use Rattle.cr_reduce.proofs.advance.advance.Goals as goal
 
 pub returns-clause-advances : goal.returns-clause-advances
 returns-clause-advances g c = λ is. moves (c.look.ensures.moved is)
 
-pub returns-clause-within : goal.returns-clause-within
-returns-clause-within g c = still_within c.args.limit c.look.result c.args.walk.now.turns c.look.new.walk.turns (λ spent. search rules) c.look.ensures.one_turn c.look.ensures.no_turn
-
 pub returns-clause-ended : goal.returns-clause-ended
 returns-clause-ended g c = λ why is.
     halt_ends (searching g.P.Passes c.args.passes.now g.L.Law c.args.law.now g.Q.Question c.args.question.now c.args.name.now g.J.Judge c.args.bench.now)
-    (judging g.J.Judge c.args.bench.now) (judging g.J.Judge c.look.new.bench) c.args.limit (state_of (g.P.Passes.offer c.args.passes.now) c.look.new.walk) why
-    (subst (λ n. c.args.limit ≢ Some n) (sym (c.look.ensures.no_turn (subst IsSome (sym is) refl))) (λ spent. search rules)) (c.look.ensures.halted why is)
+    (judging g.J.Judge c.args.bench.now) (judging g.J.Judge c.look.new.bench) c.args.plan.now.limit (state_of (g.P.Passes.offer c.args.passes.now) c.look.new.walk) why (c.look.ensures.halted why is)
 
 pub returns-then-not-walk-clause-asks : goal.returns-then-not-walk-clause-asks
 returns-then-not-walk-clause-asks g c = all_gained-refl (AboutTried (searching g.P.Passes c.args.passes.now g.L.Law c.args.law.now g.Q.Question c.args.question.now c.args.name.now g.J.Judge c.args.bench.now) (state_of (g.P.Passes.offer c.args.passes.now) c.args.walk.now)) (judging g.J.Judge c.args.bench.now).calls

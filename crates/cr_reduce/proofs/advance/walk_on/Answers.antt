@@ -1,10 +1,11 @@
 use Rattle.std.proofs.Common.{◌≡◌, ap, refl, subst, sym, ◌∙◌, arith}
 use Rattle.cr_outside.specs.Question.{Says}
-use Rattle.cr_reduce.specs.Bench.{judging, says_at}
+use Rattle.cr_reduce.specs.Bench.{judging}
 use Rattle.cr_reduce.specs.Reduction.{cursors_of}
 use Rattle.cr_reduce.specs.Search.{search_of, searching}
 use Rattle.cr_reduce.specs.Walk.{Advances, AsksOnlyTried, EndsHere, GoesOver, state_of}
 use Rattle.cr_reduce.proofs.Traces.{walked-refl, walked-step, walked-end}
+use Rattle.cr_reduce.proofs.Runs.{says_kept}
 use Rattle.cr_reduce.proofs.Walks.{ends_earlier}
 use Rattle.cr_reduce.proofs.advance.walk_on.Goals as goal
 
@@ -15,7 +16,6 @@ loop-why-init g c = record {
   within = c.requires.within;
   keys = refl;
   silent = λ _. refl;
-  others = refl;
 }
 
 pub loop-why-preserved : goal.loop-why-preserved
@@ -26,17 +26,16 @@ loop-why-preserved g c =
     let now = judging g.J.Judge c.advance-step.new.bench in
     let st = state_of (g.P.Passes.offer c.args.passes.now) c.loop-why.walk in
     let to = state_of (g.P.Passes.offer c.args.passes.now) c.advance-step.new.walk in
-    let says = ap (says_at g.J.Judge.says) c.loop-why.invariant.keys in
+    let says = says_kept g.J.Judge c.args.bench.now.judges c.loop-why.bench.judges c.loop-why.invariant.keys in
     record {
       sound = c.in_default.ensures.sound refl;
       walked = walked-step start (judging g.J.Judge c.args.bench.now) middle now (state_of (g.P.Passes.offer c.args.passes.now) c.args.walk.now) st to c.loop-why.invariant.walked
           c.advance-step.ensures.goes_on
           (subst (λ s. AsksOnlyTried (search s) middle now st) says c.advance-step.ensures.asks)
           (subst (λ s. Advances (search s) middle now st to) says (c.in_default.ensures.advances refl));
-      within = c.advance-step.ensures.within c.loop-why.invariant.within;
+      within = c.advance-step.ensures.within;
       keys = c.advance-step.ensures.keys ∙ c.loop-why.invariant.keys;
       silent = λ quiet. c.advance-step.ensures.silent quiet ∙ c.loop-why.invariant.silent quiet;
-      others = c.advance-step.ensures.others ∙ c.loop-why.invariant.others;
     }
 
 pub returns-in-Some-clause-walked : goal.returns-in-Some-clause-walked
@@ -47,7 +46,7 @@ returns-in-Some-clause-walked g c =
     let now = judging g.J.Judge c.advance-step.new.bench in
     let st = state_of (g.P.Passes.offer c.args.passes.now) c.loop-why.walk in
     let to = state_of (g.P.Passes.offer c.args.passes.now) c.advance-step.new.walk in
-    let says = ap (says_at g.J.Judge.says) c.loop-why.invariant.keys in
+    let says = says_kept g.J.Judge c.args.bench.now.judges c.loop-why.bench.judges c.loop-why.invariant.keys in
     walked-end start (judging g.J.Judge c.args.bench.now) middle now (state_of (g.P.Passes.offer c.args.passes.now) c.args.walk.now) st to c.loop-why.invariant.walked
     c.advance-step.ensures.goes_on
     (subst (λ s. AsksOnlyTried (search s) middle now st) says c.advance-step.ensures.asks)
@@ -60,6 +59,6 @@ returns-in-Some-clause-ended g c =
     let middle = judging g.J.Judge c.loop-why.bench in
     let now = judging g.J.Judge c.advance-step.new.bench in
     let to = state_of (g.P.Passes.offer c.args.passes.now) c.advance-step.new.walk in
-    ends_earlier start (judging g.J.Judge c.args.bench.now) middle now c.args.limit to c.in-Some.why
+    ends_earlier start (judging g.J.Judge c.args.bench.now) middle now c.args.plan.now.limit to c.in-Some.why
     c.loop-why.invariant.walked.goes_on
-    (subst (λ s. EndsHere (search s) middle now c.args.limit to c.in-Some.why) (ap (says_at g.J.Judge.says) c.loop-why.invariant.keys) (c.advance-step.ensures.ended c.in-Some.why c.in-Some.is))
+    (subst (λ s. EndsHere (search s) middle now c.args.plan.now.limit to c.in-Some.why) (says_kept g.J.Judge c.args.bench.now.judges c.loop-why.bench.judges c.loop-why.invariant.keys) (c.advance-step.ensures.ended c.in-Some.why c.in-Some.is))

@@ -1,5 +1,5 @@
 use Rattle.std.proofs.Common.{◌≡◌, false}
-use Rattle.cr_reduce.specs.Bench.{judging, keys_of, others}
+use Rattle.cr_reduce.specs.Bench.{judging, keys_of}
 use Rattle.cr_reduce.specs.Reduction.{Within}
 use Rattle.cr_reduce.specs.Search.{searching}
 use Rattle.cr_reduce.specs.Walk.{IsSound, Walked, state_of, work_of}
@@ -10,10 +10,9 @@ invariant-loop-why g l = record {
   sound : IsSound (g.P.Passes.offers l.passes) (g.P.Passes.offer l.passes) l.walk;
   walked : Walked (searching g.P.Passes l.passes g.L.Law l.law g.Q.Question l.question l.name g.J.Judge l.fn.bench)
       (judging g.J.Judge l.fn.bench) (judging g.J.Judge l.bench) (state_of (g.P.Passes.offer l.passes) l.fn.walk) (state_of (g.P.Passes.offer l.passes) l.walk);
-  within : Within l.limit l.walk.turns;
+  within : Within l.plan.limit l.walk.turns;
   keys : keys_of g.J.Judge l.bench ≡ keys_of g.J.Judge l.fn.bench;
-  silent : g.Q.Question.asks l.question ≡ false → l.bench ≡ l.fn.bench;
-  others : others l.bench ≡ others l.fn.bench;
+  silent : g.Q.Question.asks l.question ≡ false → l.bench.judges ≡ l.fn.bench.judges;
 }
 
 abbrev pub decreases-loop-why : goal.decreases-loop-why

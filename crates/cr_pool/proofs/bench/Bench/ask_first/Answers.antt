@@ -1,11 +1,11 @@
-use Rattle.std.proofs.Common.{◌<◌, ◌∙◌, ap, length, set, subst, sym, arith}
+use Rattle.std.proofs.Common.{◌≡◌, ◌<◌, ◌∙◌, ap, length, map, set, subst, sym, arith}
 use Rattle.std.proofs.lemmas.List.{length-map}
 use Rattle.cr_outside.specs.Question.{AsksOnce}
 use Rattle.cr_pool.specs.declared.crew.Worker.{Worker}
 use Rattle.cr_pool.specs.Bench.{Benched}
 use Rattle.cr_pool.specs.Crew.{judges_in}
 use Rattle.cr_pool.specs.Tally.{tallies_of, tally_at, tally_of}
-use Rattle.cr_pool.proofs.More.{first_after, first_before, manned_still}
+use Rattle.cr_pool.proofs.More.{first_after, first_before, keys_still, manned_still}
 use Rattle.cr_pool.proofs.bench.Bench.ask_first.Goals as goal
 
 pub invariant_of-self : goal.invariant_of-self
@@ -25,3 +25,10 @@ returns-clause-once g c = λ uses.
     let changed = judges_in (set workers 0 (record first { judge = c.ask.new.judge })) in
     subst (λ t. AsksOnce t.calls (tally_at (tallies_of g.J.Judge changed) 0).calls c.args.name.now c.args.file.now c.ask.result) (sym before)
     (subst (λ t. AsksOnce (g.J.Judge.calls first.judge) t.calls c.args.name.now c.args.file.now c.ask.result) (sym after) (c.ask.ensures.once uses))
+
+pub returns-clause-keys : goal.returns-clause-keys
+returns-clause-keys g c =
+    let first = c.index_mut-worker.result.now in
+    let workers = c.self.inside.workers.items in
+    subst (λ (b : Benched g.row.J.Denot). map g.J.Judge.key (judges_in (set workers 0 (record first { judge = c.ask.new.judge }))) ≡ map g.J.Judge.key b.judges) c.self.view_is
+    (keys_still g.J.Judge workers (record first { judge = c.ask.new.judge }) first (c.ask.ensures.key ∙ ap (λ (w : Worker g.row.J.Denot). g.J.Judge.key w.judge) c.index_mut-worker.ensures.value))
