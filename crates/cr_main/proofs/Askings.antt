@@ -34,9 +34,9 @@ module _ (t : Task) (text : Text) where
   task_asks old new before after status (starves asked files silent is) = asked_first before after asked
   task_asks old new before after status (reduces bytes read since same answered finishes) = finish_asks read new before since after bytes status answered.asked finishes
 
-pub asks_only : (words : List Word) (says : Telling) (old new : Outside) (before after : Judging) (status : ℕ) → Runs words says old new before after status
-    → AsksOnly words says old before after
-asks_only words says old new before after status (no_settings none files quiet said) = run_asks_nothing quiet
-asks_only words says old new before after status (unsorted unmoved quiet is) = run_asks_nothing quiet
-asks_only words says old new before after status (on_task settings own gives is_own run) =
+pub asks_only : (words : List Word) (most : ℕ) (says : Telling) (old new : Outside) (before after : Judging) (status : ℕ) → Runs words most says old new before after status
+    → AsksOnly words most says old before after
+asks_only words most says old new before after status (no_settings none files quiet said) = run_asks_nothing quiet
+asks_only words most says old new before after status (unsorted unmoved quiet is) = run_asks_nothing quiet
+asks_only words most says old new before after status (on_task settings own gives is_own run) =
     run_asks settings own (record { gives = gives; is_own = is_own }) (task_asks (task_of settings says own) (text_of settings.source old.files) old new before after status run)

@@ -1,17 +1,18 @@
--- What is built, of settings that are alike, and what can be made.
-use Rattle.std.proofs.Common.{◌≡◌, true, List, subst, sym, ◌∙◌, arith}
+-- What is built, of settings that are alike, and what can be run.
+use Rattle.std.proofs.Common.{◌≡◌, ◌<◌, ◌≤◌, ℕ, true, List, Option, min, unwrap_or, subst, sym, ◌∙◌, arith}
 use Rattle.cr_words.specs.Laws.{SameSettings}
 use Rattle.cr_words.specs.declared.settings.Settings.{Settings}
 use Rattle.cr_words.specs.Names.{IsSource}
+use Rattle.cr_words.specs.Numbers.{IsOptional}
+use Rattle.cr_words.specs.Numbers.IsOptional.{no_value, one_value}
 use Rattle.cr_words.specs.Words.{Word}
 use Rattle.cr_words.specs.declared.source.Source.{Source}
 use Rattle.cr_words.specs.declared.source.Source.TheVariants as source
-use Rattle.cr_main.specs.Task.{IsMakeable}
+use Rattle.cr_main.specs.Task.{IsMakeable, IsRunnable}
 use Rattle.cr_main.specs.Words.{HasSettings, IsBuilt, are_built}
 
 pub same_built : (a b : Settings) → SameSettings a b → IsBuilt a → IsBuilt b
 same_built a b same built = record {
-  window = sym same.window ∙ built.window;
   steps = sym same.steps ∙ built.steps;
   enabled = subst (λ enabled. are_built enabled ≡ true) same.enabled built.enabled;
 }
@@ -21,5 +22,14 @@ source_makeable : (word : Word) (source : Source) → IsSource word source → I
 source_makeable word (source.Named name) is = tt
 source_makeable word (source.Made number items) is = (omega (arith, is.is_number.to), is.is_items.from, is.is_items.to)
 
-pub is_makeable : (words : List Word) (settings : Settings) → HasSettings words settings → IsMakeable settings.source
-is_makeable words settings has = source_makeable has.gives.gives.file settings.source has.gives.gives.source
+-- a number within its bounds, or what stands without it
+bounded : (least high without n : ℕ) (values : List Word) (given : Option ℕ) → IsOptional least high values given → n ≡ unwrap_or given without → least ≤ without → without ≤ high → (least ≤ n) × (n ≤ high)
+bounded least high without n _ _ no_value is low fits = (omega (arith, is, low), omega (arith, is, fits))
+bounded least high without n _ _ (one_value it) is low fits = (omega (arith, is, it.from), omega (arith, is, it.to))
+
+pub is_runnable : (words : List Word) (most : ℕ) (settings : Settings) → 0 < most → HasSettings words most settings → IsRunnable most settings
+is_runnable words most settings some has =
+    let it = has.gives.gives in
+    let workers = bounded 1 (min 32 most) (min 4 most) settings.workers _ it.workers.0 it.workers.1 it.workers.2 (omega arith) (omega arith) in
+    let window = bounded 1 4096 256 settings.window _ it.window.0 it.window.1 it.window.2 (omega arith) (omega arith) in
+    record { workers = (omega (arith, workers.0), omega (arith, workers.1)); window = (omega (arith, window.0), window.1); makeable = source_makeable it.file settings.source it.source }

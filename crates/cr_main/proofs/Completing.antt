@@ -114,11 +114,11 @@ module _ (t : Task) (text : Text) (old new : Outside) (before after : Judging) (
   task_free status (starves asked files silent is) = inr is
   task_free status (reduces bytes read since unmoved answered finishes) = finish_free read since bytes status unmoved answered.asked.goes_on (all.there bytes answered.asked.has) finishes
 
-pub completes : (words : List Word) (says : Telling) (old new : Outside) (before after : Judging) (status : ℕ) → Runs words says old new before after status
-    → Completes words says old new before after status
-completes words says old new before after status (no_settings none files quiet said) = λ settings own is_task all. absurd (none settings is_task.gives)
-completes words says old new before after status (unsorted unmoved quiet is) = λ settings own is_task all. inr is
-completes words says old new before after status (on_task given name gives is_own run) = λ settings own is_task all.
+pub completes : (words : List Word) (most : ℕ) (says : Telling) (old new : Outside) (before after : Judging) (status : ℕ) → Runs words most says old new before after status
+    → Completes words most says old new before after status
+completes words most says old new before after status (no_settings none files quiet said) = λ settings own is_task all. absurd (none settings is_task.gives)
+completes words most says old new before after status (unsorted unmoved quiet is) = λ settings own is_task all. inr is
+completes words most says old new before after status (on_task given name gives is_own run) = λ settings own is_task all.
     task_free (task_of given says name) (text_of given.source old.files) old new before after
-    (all_alike words settings given own name is_task (record { gives = gives; is_own = is_own }) says old new before after all)
+    (all_alike words most settings given own name is_task (record { gives = gives; is_own = is_own }) says old new before after all)
     (passes_levels given.enabled) (λ file. one_test_answer given.test says name file) status run

@@ -65,20 +65,20 @@ module _ (t : Task) (text : Text) (old new : Outside) (status : ℕ) (late : IsL
   }
 
 -- a refusal at one of these statuses is that of the failed test
-refused_ends : (words : List Word) (says : Telling) (old new : Outside) (status : ℕ) → ((status ≡ 10) → ⊥) → new.files ≡ old.files → IsLate status → HasEnded words says old new status
-refused_ends words says old new status not_10 files (inl eight) = untested eight files
-refused_ends words says old new status not_10 files (inr ten) = absurd (not_10 ten)
+refused_ends : (words : List Word) (most : ℕ) (says : Telling) (old new : Outside) (status : ℕ) → ((status ≡ 10) → ⊥) → new.files ≡ old.files → IsLate status → HasEnded words most says old new status
+refused_ends words most says old new status not_10 files (inl eight) = untested eight files
+refused_ends words most says old new status not_10 files (inr ten) = absurd (not_10 ten)
 
-pub has_ended : (words : List Word) (says : Telling) (old new : Outside) (before after : Judging) (status : ℕ) → Runs words says old new before after status → IsLate status
-    → HasEnded words says old new status
-has_ended words says old new before after status (no_settings none files quiet said) late = elim (put_status old new _ 2 status said) [
+pub has_ended : (words : List Word) (most : ℕ) (says : Telling) (old new : Outside) (before after : Judging) (status : ℕ) → Runs words most says old new before after status → IsLate status
+    → HasEnded words most says old new status
+has_ended words most says old new before after status (no_settings none files quiet said) late = elim (put_status old new _ 2 status said) [
   | inl is ↦ absurd (not_late status 2 is (λ e. omega (arith, e)) (λ e. omega (arith, e)) late)
   | inr is ↦ absurd (starved_not_late status is late)
 ]
-has_ended words says old new before after status (unsorted same quiet is) late = absurd (starved_not_late status is late)
-has_ended words says old new before after status (on_task settings own gives is_own (refuses r causes asked files said)) late =
-    refused_ends words says old new status (λ ten. refused_is old new _ r status said (inr (inr ten))) files late
-has_ended words says old new before after status (on_task settings own gives is_own (starves asked files silent is)) late = absurd (starved_not_late status is late)
-has_ended words says old new before after status (on_task settings own gives is_own (reduces bytes read since same answered finishes)) late =
+has_ended words most says old new before after status (unsorted same quiet is) late = absurd (starved_not_late status is late)
+has_ended words most says old new before after status (on_task settings own gives is_own (refuses r causes asked files said)) late =
+    refused_ends words most says old new status (λ ten. refused_is old new _ r status said (inr (inr ten))) files late
+has_ended words most says old new before after status (on_task settings own gives is_own (starves asked files silent is)) late = absurd (starved_not_late status is late)
+has_ended words most says old new before after status (on_task settings own gives is_own (reduces bytes read since same answered finishes)) late =
     finished settings own (record { gives = gives; is_own = is_own })
     (finish_ends (task_of settings says own) (text_of settings.source old.files) old new status late read since after bytes same answered.asked.has answered.asked.lawful finishes)

@@ -96,14 +96,14 @@ module _ (t : Task) (text : Text) (old new : Outside) (status : ℕ) (done : IsD
   task_done before after (starves asked files silent is) = absurd (starved_is status is (is_of_ends status done))
   task_done before after (reduces bytes read since same answered finishes) = finished read since after bytes same answered.asked.has answered.asked.lawful finishes
 
-pub headline_of : (words : List Word) (says : Telling) (old new : Outside) (before after : Judging) (status : ℕ) → Runs words says old new before after status → IsDone status
-    → IsHeadline words says old new status
-headline_of words says old new before after status (no_settings none files quiet said) done = elim (put_status old new _ 2 status said) [
+pub headline_of : (words : List Word) (most : ℕ) (says : Telling) (old new : Outside) (before after : Judging) (status : ℕ) → Runs words most says old new before after status → IsDone status
+    → IsHeadline words most says old new status
+headline_of words most says old new before after status (no_settings none files quiet said) done = elim (put_status old new _ 2 status said) [
   | inl is ↦ absurd (not_done status 2 is (λ e. omega (arith, e)) (λ e. omega (arith, e)) done)
   | inr is ↦ absurd (starved_is status is (is_of_ends status done))
 ]
-headline_of words says old new before after status (unsorted same quiet is) done = absurd (starved_is status is (is_of_ends status done))
-headline_of words says old new before after status (on_task settings own gives is_own run) done = record {
+headline_of words most says old new before after status (unsorted same quiet is) done = absurd (starved_is status is (is_of_ends status done))
+headline_of words most says old new before after status (on_task settings own gives is_own run) done = record {
   settings = settings;
   own = own;
   is_task = record { gives = gives; is_own = is_own };

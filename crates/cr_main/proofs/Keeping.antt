@@ -73,9 +73,9 @@ module _ (t : Task) (text : Text) (old new : Outside) where
   task_keeps before after status (starves asked files silent is) = task_unchanged files
   task_keeps before after status (reduces bytes read since same answered finishes) = finish_keeps read since after bytes status same.files answered.asked.has finishes
 
-pub keeps_files : (words : List Word) (says : Telling) (old new : Outside) (before after : Judging) (status : ℕ) → Runs words says old new before after status
-    → KeepsFiles words says old new after
-keeps_files words says old new before after status (no_settings none files quiet said) = files_unchanged files
-keeps_files words says old new before after status (unsorted same quiet is) = files_unchanged (ap (λ o. o.files) same)
-keeps_files words says old new before after status (on_task settings own gives is_own run) =
+pub keeps_files : (words : List Word) (most : ℕ) (says : Telling) (old new : Outside) (before after : Judging) (status : ℕ) → Runs words most says old new before after status
+    → KeepsFiles words most says old new after
+keeps_files words most says old new before after status (no_settings none files quiet said) = files_unchanged files
+keeps_files words most says old new before after status (unsorted same quiet is) = files_unchanged (ap (λ o. o.files) same)
+keeps_files words most says old new before after status (on_task settings own gives is_own run) =
     files_kept settings own (record { gives = gives; is_own = is_own }) (task_keeps (task_of settings says own) (text_of settings.source old.files) old new before after status run)

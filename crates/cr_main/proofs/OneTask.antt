@@ -17,7 +17,6 @@ use Rattle.cr_words.proofs.Giving.{one_settings}
 use Rattle.cr_main.specs.Headline.{HasAll, IsTask, enough_for}
 use Rattle.cr_main.specs.Outside.{Outside}
 use Rattle.cr_main.specs.Task.{FileHas, FileLacks, task_of, text_of}
-use Rattle.cr_main.specs.Words.{workers_built}
 
 -- a name has one own name: what stands behind its last /
 
@@ -74,9 +73,9 @@ same_lacks files (source.Made number items) (source.Named b) same lacks = absurd
 same_lacks files (source.Made number items) (source.Made other more) same lacks = lacks
 
 -- two tasks of the same words
-module _ (words : List Word) (a b : Settings) (own other : List ℕ) (first : IsTask words a own) (second : IsTask words b other) where
+module _ (words : List Word) (most : ℕ) (a b : Settings) (own other : List ℕ) (first : IsTask words most a own) (second : IsTask words most b other) where
   alike : SameSettings a b
-  alike = one_settings words workers_built a b first.gives.gives second.gives.gives
+  alike = one_settings words most a b first.gives.gives second.gives.gives
 
   own_alike : own ≡ other
   own_alike = one_own (name_of b.source) own other (subst (λ n. IsOwnName n own) (same_name a.source b.source alike.source) first.is_own) second.is_own

@@ -22,8 +22,8 @@ use Rattle.cr_main.specs.Task.{Task, Text, task_of, text_of}
 use Rattle.cr_main.specs.Words.{HasSettings}
 
 -- What is asked of a run: the words give these settings, and the file has this own name.
-pub record IsTask (words : List Word) (settings : Settings) (own : List ℕ) : Type 0 where
-  pub gives : HasSettings words settings
+pub record IsTask (words : List Word) (most : ℕ) (settings : Settings) (own : List ℕ) : Type 0 where
+  pub gives : HasSettings words most settings
   pub is_own : IsOwnName (name_of settings.source) own
 
 -- The three files of a run of a task, as they stand in the end.
@@ -50,10 +50,10 @@ pub record HasReduced (t : Task) (text : Text) (old new : Outside) (status : ℕ
   pub output : new.output ≡ appended (summary_text_of t.name old_size size end) old.output
 
 -- The headline, at the statuses 0 and 7.
-pub record IsHeadline (words : List Word) (says : Says) (old new : Outside) (status : ℕ) : Type 0 where
+pub record IsHeadline (words : List Word) (most : ℕ) (says : Says) (old new : Outside) (status : ℕ) : Type 0 where
   pub settings : Settings
   pub own : List ℕ
-  pub is_task : IsTask words settings own
+  pub is_task : IsTask words most settings own
   pub reduced : HasReduced (task_of settings says own) (text_of settings.source old.files) old new status
 
 -- What stands where a run has saved its three files, at 0, 7, 8 from the reduction, and 10: they are those of the
@@ -75,12 +75,12 @@ pub record HasFinished (t : Task) (text : Text) (old new : Outside) (status : �
   pub output : Puts old new (summary_text_of t.name old_size size end) (end_status end.why) 10 status
 
 -- What stands at 8 and 10.
-pub data HasEnded (words : List Word) (says : Says) (old new : Outside) (status : ℕ) : Type 0 where
+pub data HasEnded (words : List Word) (most : ℕ) (says : Says) (old new : Outside) (status : ℕ) : Type 0 where
   -- 8: the test failed on the file
-  untested : status ≡ 8 → new.files ≡ old.files → HasEnded words says old new status
+  untested : status ≡ 8 → new.files ≡ old.files → HasEnded words most says old new status
   -- 8 from the reduction, and 10
-  finished : (settings : Settings) (own : List ℕ) → IsTask words settings own → HasFinished (task_of settings says own) (text_of settings.source old.files) old new status
-      → HasEnded words says old new status
+  finished : (settings : Settings) (own : List ℕ) → IsTask words most settings own → HasFinished (task_of settings says own) (text_of settings.source old.files) old new status
+      → HasEnded words most says old new status
 
 -- The writes, in their order, as far as they were made.
 pub data Wrote (name bytes result log : List ℕ) (old new : Option Names) : Type 0 where
@@ -98,10 +98,10 @@ pub data KeepsTask (t : Task) (text : Text) (old new : Outside) (after : Judging
   task_copied : (bytes : List ℕ) → t.saves ≡ true → text.Has bytes → new.files ≡ put_told (copy_name t.name) bytes old.files → KeepsTask t text old new after
 
 -- So it is of every run.
-pub data KeepsFiles (words : List Word) (says : Says) (old new : Outside) (after : Judging) : Type 0 where
-  files_unchanged : new.files ≡ old.files → KeepsFiles words says old new after
-  files_kept : (settings : Settings) (own : List ℕ) → IsTask words settings own → KeepsTask (task_of settings says own) (text_of settings.source old.files) old new after
-      → KeepsFiles words says old new after
+pub data KeepsFiles (words : List Word) (most : ℕ) (says : Says) (old new : Outside) (after : Judging) : Type 0 where
+  files_unchanged : new.files ≡ old.files → KeepsFiles words most says old new after
+  files_kept : (settings : Settings) (own : List ℕ) → IsTask words most settings own → KeepsTask (task_of settings says own) (text_of settings.source old.files) old new after
+      → KeepsFiles words most says old new after
 
 -- so many turns are enough for a file of n bytes
 abbrev pub enough_for : ℕ → ℕ
@@ -123,8 +123,8 @@ pub record HasAll (t : Task) (text : Text) (old new : Outside) (before after : J
   pub enough : Within t.limit (enough_for (length bytes))
 
 -- Completeness: then it ends with 0, or for want of memory.
-abbrev pub Completes : List Word → Says → Outside → Outside → Judging → Judging → ℕ → Type 0
-Completes words says old new before after status = (settings : Settings) (own : List ℕ) → IsTask words settings own
+abbrev pub Completes : List Word → ℕ → Says → Outside → Outside → Judging → Judging → ℕ → Type 0
+Completes words most says old new before after status = (settings : Settings) (own : List ℕ) → IsTask words most settings own
     → HasAll (task_of settings says own) (text_of settings.source old.files) old new before after → (status ≡ 0) ⊎ (status ≡ 11)
 
 -- What the test is asked in a run of a task: nothing, or once at most about the file, and then about nothing but smaller,
@@ -138,7 +138,7 @@ pub data AsksOnlyOf (t : Task) (text : Text) (before after : Judging) : Type 0 w
       → IsReduction t since after bytes end → AsksOnlyCandidates t.search bytes end.accepted.items since after → AsksOnlyOf t text before after
 
 -- So it is of every run.
-pub data AsksOnly (words : List Word) (says : Says) (old : Outside) (before after : Judging) : Type 0 where
-  run_asks_nothing : after ≡ before → AsksOnly words says old before after
-  run_asks : (settings : Settings) (own : List ℕ) → IsTask words settings own → AsksOnlyOf (task_of settings says own) (text_of settings.source old.files) before after
-      → AsksOnly words says old before after
+pub data AsksOnly (words : List Word) (most : ℕ) (says : Says) (old : Outside) (before after : Judging) : Type 0 where
+  run_asks_nothing : after ≡ before → AsksOnly words most says old before after
+  run_asks : (settings : Settings) (own : List ℕ) → IsTask words most settings own → AsksOnlyOf (task_of settings says own) (text_of settings.source old.files) before after
+      → AsksOnly words most says old before after

@@ -112,10 +112,10 @@ pub data RunsTask (t : Task) (text : Text) (old new : Outside) (before after : J
       → Finishes t bytes (IsReduction t since after bytes) read new since after status → RunsTask t text old new before after status
 
 -- What a run comes to.
-pub data Runs (words : List Word) (says : Says) (old new : Outside) (before after : Judging) (status : ℕ) : Type 0 where
+pub data Runs (words : List Word) (most : ℕ) (says : Says) (old new : Outside) (before after : Judging) (status : ℕ) : Type 0 where
   -- 2: the words give no settings
-  no_settings : HasNone words → new.files ≡ old.files → after ≡ before → Puts old new usage_line 2 2 status → Runs words says old new before after status
+  no_settings : HasNone words most → new.files ≡ old.files → after ≡ before → Puts old new usage_line 2 2 status → Runs words most says old new before after status
   -- 11: no memory was left to read them
-  unsorted : new ≡ old → after ≡ before → status ≡ 11 → Runs words says old new before after status
-  on_task : (settings : Settings) (own : List ℕ) → HasSettings words settings → IsOwnName (name_of settings.source) own
-      → RunsTask (task_of settings says own) (text_of settings.source old.files) old new before after status → Runs words says old new before after status
+  unsorted : new ≡ old → after ≡ before → status ≡ 11 → Runs words most says old new before after status
+  on_task : (settings : Settings) (own : List ℕ) → HasSettings words most settings → IsOwnName (name_of settings.source) own
+      → RunsTask (task_of settings says own) (text_of settings.source old.files) old new before after status → Runs words most says old new before after status

@@ -89,3 +89,9 @@ pub record IsOfPrograms (Lawful : List ℕ → Type 0) (Against : List ℕ → R
 abbrev pub IsMakeable : Source → Type 0
 IsMakeable (source.Named name) = Unit {0}
 IsMakeable (source.Made number items) = (number < 2147483648) × (1 ≤ items) × (items ≤ 10000)
+
+-- What settings of the command line have that are run on so many workers.
+pub record IsRunnable (most : ℕ) (settings : Settings) : Type 0 where
+  pub workers : (0 < settings.workers) × (settings.workers ≤ most)
+  pub window : (0 < settings.window) × (settings.window ≤ 4096)
+  pub makeable : IsMakeable settings.source

@@ -5,10 +5,6 @@ use Rattle.cr_words.specs.Giving.{HasSettings as Gives}
 use Rattle.cr_words.specs.Words.{Word}
 use Rattle.cr_words.specs.declared.settings.Settings.{Settings}
 
--- the words are read for so many workers
-abbrev pub workers_built : ℕ
-workers_built = 1
-
 -- the truth values are the same
 abbrev pub is : Bool → Bool → Bool
 is true on = on
@@ -18,18 +14,17 @@ is false on = not on
 abbrev pub are_built : List Bool → Bool
 are_built enabled = list_all (is true) enabled || list_all (is false) (slice_range enabled 3 10)
 
--- What is asked for is built: the window and the steps are those that stand without the options, and all passes are
--- enabled or only such as are built.
+-- What is asked for is built: the steps are those that stand without the option, and all passes are enabled or only
+-- such as are built.
 pub record IsBuilt (settings : Settings) : Type 0 where
-  pub window : settings.window ≡ 256
   pub steps : settings.steps ≡ 1000000
   pub enabled : are_built settings.enabled ≡ true
 
--- The words give these settings, and what they ask for is built.
-pub record HasSettings (words : List Word) (settings : Settings) : Type 0 where
-  pub gives : Gives words workers_built settings
+-- The words give these settings where there are so many workers, and what they ask for is built.
+pub record HasSettings (words : List Word) (most : ℕ) (settings : Settings) : Type 0 where
+  pub gives : Gives words most settings
   pub built : IsBuilt settings
 
 -- the words give none, or ask for what isn't built
-abbrev pub HasNone : List Word → Type 0
-HasNone words = (settings : Settings) → HasSettings words settings → ⊥
+abbrev pub HasNone : List Word → ℕ → Type 0
+HasNone words most = (settings : Settings) → HasSettings words most settings → ⊥

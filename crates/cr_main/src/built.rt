@@ -8,15 +8,13 @@ ghost use Rattle.cr_words.specs.Words.{texts_of};
 use cr_words::{Settings, WordFault, words};
 use std::alloc::Global;
 
-/// So many workers are built.
-const WORKERS: u32 = 1;
-
-/// Reads the words after the program's name. What asks for what isn't built is `Usage`, as words in no form are.
-pub fn built_words(alloc: Global, list: &[String]) -> Result<Settings, WordFault>
-    ensures settings { IfOk result (HasSettings (texts_of list.now)) }
-    ensures usage { result ≡ Err WordFault.Usage → HasNone (texts_of list.now) }
+/// Reads the words after the program's name, where there are so many workers. What asks for what isn't built is `Usage`,
+/// as words in no form are.
+pub fn built_words(alloc: Global, list: &[String], most: u32) -> Result<Settings, WordFault>
+    ensures settings { IfOk result (HasSettings (texts_of list.now) most) }
+    ensures usage { result ≡ Err WordFault.Usage → HasNone (texts_of list.now) most }
 {
-    let settings = words(alloc, list, WORKERS)?;
+    let settings = words(alloc, list, most)?;
     if is_built(&settings) {
         Ok(settings)
     } else {
@@ -27,7 +25,7 @@ pub fn built_words(alloc: Global, list: &[String]) -> Result<Settings, WordFault
 fn is_built(settings: &Settings) -> bool
     ensures { IsTrue result ↔ IsBuilt settings.now }
 {
-    settings.window == 256 && settings.steps == 1_000_000 && are_built(&settings.enabled)
+    settings.steps == 1_000_000 && are_built(&settings.enabled)
 }
 
 /// The passes with a number below this are built.

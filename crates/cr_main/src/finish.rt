@@ -1,8 +1,8 @@
 // What comes once the test has said yes to the bytes: the copy, the reduction, the result, the log, the summary.
-ghost use Rattle.std.specs.Prelude.{◌≡◌, ◌≢◌, ◌≤◌, ℕ, ◌++◌, All, IfOk, None, Some, false};
+ghost use Rattle.std.specs.Prelude.{◌≡◌, ◌≢◌, ◌<◌, ◌≤◌, ℕ, ◌++◌, All, IfOk, None, Some, false, length};
 ghost use Rattle.cr_cursor.specs.TokenLaw.{IsTokenized};
 ghost use Rattle.cr_log.specs.Texts.{log_text_of, summary_text_of};
-ghost use Rattle.cr_reduce.specs.Bench.{judging, keys_of, others, says_of};
+ghost use Rattle.cr_reduce.specs.Bench.{judging, keys_of, says_of};
 ghost use Rattle.cr_reduce.specs.Sizes.{HasSize};
 ghost use Rattle.cr_reduce.specs.declared.end.Why.{Why};
 ghost use Rattle.cr_main.specs.Outside.{IsSaved, SaveFails, outside};
@@ -16,17 +16,14 @@ use crate::task::Task;
 use cr_cursor::{Law, Passes};
 use cr_log::{log_text, summary_text};
 use cr_outside::{FileFault, Files, Judge, NoMemory, Question, Sink};
-use cr_reduce::{Bench, End, Plan, Why, reduce, size_of};
+use cr_pool::Bench;
+use cr_reduce::{End, Plan, Why, reduce, size_of};
 use std::alloc::{AllocError, Global};
-
-/// The most workers that are used where the words name no number.
-const WORKERS: u32 = 4;
-
-/// How many positions are tried at once, at most.
-const WINDOW: u32 = 256;
+use std::thread::Threads;
 
 /// Saves the copy, reduces, and saves what came of it.
-pub fn copy_and_reduce<P: Passes, L: Law, Q: Question, F: Files, J: Judge, O: Sink>(
+pub fn copy_and_reduce<R: Threads + Sync, P: Passes + Sync, L: Law + Sync, Q: Question + Sync, F: Files, J: Judge + Send, O: Sink>(
+    rt: &R,
     alloc: Global,
     task: &Task<'_, P, L, Q>,
     bytes: Vec<u8>,
@@ -34,14 +31,17 @@ pub fn copy_and_reduce<P: Passes, L: Law, Q: Question, F: Files, J: Judge, O: Si
     bench: &mut Bench<J>,
     out: &mut O,
 ) -> u8
+where
+    P::Prep: Sync,
     requires tokenizes { IsTokenized bytes.items }
+    requires workers { (0 < task.now.workers) × (task.now.workers ≤ length bench.old.judges) }
+    requires window { (0 < task.now.window) × (task.now.window ≤ 4096) }
     ensures finishes { Finishes (task_for P.Passes L.Law Q.Question task.now (says_of J.Judge bench.old)) bytes.items
         (IsReduction (task_for P.Passes L.Law Q.Question task.now (says_of J.Judge bench.old)) (judging J.Judge bench.old) (judging J.Judge bench.new) bytes.items)
         (outside F.Files files.old O.Sink out.old) (outside F.Files files.new O.Sink out.new)
         (judging J.Judge bench.old) (judging J.Judge bench.new) result }
-    ensures silent { Q.asks task.now.question.now ≡ false → bench.new ≡ bench.old }
+    ensures silent { Q.asks task.now.question.now ≡ false → bench.new.judges ≡ bench.old.judges }
     ensures keys { keys_of J.Judge bench.new ≡ keys_of J.Judge bench.old }
-    ensures others { others bench.new ≡ others bench.old }
 {
     let old_size = match size_of(alloc, &bytes) {
         Ok(old_size) => old_size,
@@ -51,11 +51,12 @@ pub fn copy_and_reduce<P: Passes, L: Law, Q: Question, F: Files, J: Judge, O: Si
         return status;
     }
     let plan = Plan {
-        workers: bench.workers().min(WORKERS),
-        window: WINDOW,
+        workers: task.workers,
+        window: task.window,
         limit: task.limit,
     };
     let end = reduce(
+        rt,
         alloc,
         task.passes,
         task.law,

@@ -11,13 +11,14 @@ use Rattle.cr_outside.specs.declared.judge.Answer.TheVariants.{Yes, No, Failed, 
 use Rattle.cr_outside.specs.declared.judge.Judge.{Ghosts as JudgeGhosts}
 use Rattle.cr_outside.specs.Faults.{Rose}
 use Rattle.cr_outside.specs.Judge.{Call, call_of}
+use Rattle.cr_outside.specs.Question.{Says}
 use Rattle.cr_pool.specs.declared.job.EpochEnd.{EpochEnd}
 use Rattle.cr_pool.specs.declared.job.EpochEnd.TheVariants as ending
 use Rattle.cr_pool.specs.Epoch.{Answered, AreAbout, AsksAt, AsksOnce, EndsBy, Epoch, RejectedBelow, bytes_at, variant_at}
 use Rattle.cr_pool.specs.Epoch.Answered.{given, was_kept}
 use Rattle.cr_pool.specs.Jobs.{IsJudged}
 use Rattle.cr_pool.specs.Kept.{Kept}
-use Rattle.cr_pool.specs.Tally.{tallies_of, tally_at, tally_of}
+use Rattle.cr_pool.specs.Tally.{first_says, tallies_of, tally_at, tally_of}
 use Rattle.cr_pool.specs.Trials.{HasCalled, IsAccepted, IsRejected}
 use Rattle.cr_pool.specs.Trials.IsRejected.{not_smaller, unlawful, answered_no}
 use Rattle.cr_reduce.specs.Bench.{AllGained, AnyCall, CalledBy, Each, Gained, GoesOn, Judging, RoseAt}
@@ -106,7 +107,7 @@ module _ {J K : Type 0} (judge : JudgeGhosts J K) (a b : List J) (count : length
       subst (RejectsInRun s (judging_in judge a) (judging_in judge b) st.file) (ap (λ p. variant_at st.offer p) here ∙ variant_is i at there)
       (rejected (variant_at st.offer (st.position + j)) (below j (omega arith)))
 
-  cursor_of : ℕ → Cursor
+  abbrev cursor_of : ℕ → Cursor
   cursor_of i = get_or (cursors_of st.offer) i (cursor 0 0 0)
 
   there_is : (i : ℕ) → i < length (cursors_of st.offer) → slice_get (cursors_of st.offer) i ≡ Some (cursor_of i)
@@ -183,3 +184,23 @@ module _ {J K : Type 0} (judge : JudgeGhosts J K) (a b : List J) (count : length
     calls = all_gained-map (AboutTried s st) AnyCall (λ call it. tt) (map judge.calls a) (map judge.calls b) asks;
     faults = each_faults judge a b count later;
   }
+
+-- A job that was handed the file and the judges as they are has this epoch, and none is kept.
+module _ {J K : Type 0} (judge : JudgeGhosts J K) (offer : List ℕ → Offer) (Lawful : List ℕ → Type 0) (asks : Bool) (tells : Says → List ℕ → List ℕ → Bool → Type 0) (name : List ℕ) (start len : ℕ) where
+  abbrev pub epoch_with : List ℕ → List J → List Kept → Epoch
+  epoch_with file js kept = record {
+    offer = offer file;
+    file = file;
+    start = start;
+    len = len;
+    Lawful = Lawful;
+    asks = asks;
+    Tells = tells (first_says judge.key judge.says js) name;
+    name = name;
+    kept = kept;
+  }
+
+  pub job_is : (Holds : Epoch → List J → Type 0) (file handed : List ℕ) (old forgot : List J) (kept : List Kept) → handed ≡ file → forgot ≡ old → kept ≡ [] → Holds (epoch_with handed forgot kept) forgot
+      → Holds (epoch_with file old []) old
+  job_is Holds file handed old forgot kept same judges none it =
+      subst (λ k. Holds (epoch_with file old k) old) none (subst (λ js. Holds (epoch_with file js kept) js) judges (subst (λ f. Holds (epoch_with f forgot kept) forgot) same it))

@@ -1,15 +1,17 @@
 -- The numbers of a walk, and what its steps complete.
 use Rattle.std.proofs.Common.{◌≡◌, ◌≢◌, ◌⊎◌, inl, inr, ℕ, ◌+◌, ◌*◌, ◌<◌, ◌≤◌, Bool, true, false, IsSome, List, length, Option, Some, None, ap, subst, sym, refl, arith}
 use Rattle.cr_outside.specs.declared.judge.Answer.TheVariants.{Yes, No}
+use Rattle.std.specs.List.{slice_get}
+use Rattle.cr_cursor.specs.declared.passes.Cursor.{Cursor}
 use Rattle.cr_cursor.specs.Variants.{Offer}
 use Rattle.cr_reduce.specs.Bench.{GoesOn, Judging}
 use Rattle.cr_pool.specs.Trials.IsRejected.{not_smaller, unlawful, answered_no}
-use Rattle.cr_reduce.specs.Reduction.{AllRejected, State, Within, cursors_of, moved, taken, next_round}
+use Rattle.cr_reduce.specs.Reduction.{AllRejected, IsFirstAccepted, State, Within, cursors_of, moved, taken, next_round}
 use Rattle.cr_reduce.specs.Reduction.Reduces.{accepts, new_round}
 use Rattle.cr_reduce.specs.Search.{Search, AcceptsInRun, FailsInRun, RejectsInRun}
 use Rattle.cr_reduce.specs.declared.end.Why.{Why}
 use Rattle.cr_reduce.specs.declared.end.Why.TheVariants.{Fixed, Limit, Fault, NoMemory}
-use Rattle.cr_reduce.specs.Walk.{Advances, EndsHere, GoesOver, IsHalt, Leads, MovesOn, left_of}
+use Rattle.cr_reduce.specs.Walk.{Advances, EndsHere, GoesOver, IsHalt, IsTaken, Leads, MovesOn, left_of}
 use Rattle.cr_reduce.specs.Walk.Advances.{moves, round}
 use Rattle.cr_reduce.specs.Walk.MovesOn.{passed, accepted}
 use Rattle.cr_reduce.proofs.Runs.{answer_in_run-later, answer_in_run-earlier, goes_on-trans, has_failed-earlier}
@@ -35,6 +37,30 @@ goes_nowhere s before now st placed = record {
   count = refl;
   is = refl;
 }
+
+-- Positions that an epoch rejected are gone over.
+pub goes_over_all : (s : Search) (before now : Judging) (st : State) (len over : ℕ) → (over ≡ len) × AllRejected st.offer (RejectsInRun s before now) st.file st.position (st.position + len)
+    → st.position + len ≤ length (cursors_of st.offer) → GoesOver s before now st (moved st (st.position + over) (st.turns + over))
+goes_over_all s before now st len over it placed = record {
+  position = st.position + over;
+  turns = st.turns + over;
+  low = omega arith;
+  high = omega (arith, it.0);
+  all = subst (λ n. AllRejected st.offer (RejectsInRun s before now) st.file st.position (st.position + n)) (sym it.0) it.1;
+  count = omega arith;
+  is = refl;
+}
+
+same_cursor : {A : Type 0} (xs : List A) (i : ℕ) (a b : A) → slice_get xs i ≡ Some a → slice_get xs i ≡ Some b → a ≡ b
+same_cursor xs i a b first second = cc
+
+-- The first accepted variant has become the file.
+pub takes_first : (s : Search) (before now : Judging) (from to : State) (position : ℕ) (at : Cursor)
+    → IsFirstAccepted from.offer (AcceptsInRun s before now) (RejectsInRun s before now) from.file from.position position at → IsTaken s.Offers from position to → MovesOn s before now from to
+takes_first s before now from to position at first it =
+    accepted position it.at it.size it.turns it.next
+    (subst (IsFirstAccepted from.offer (AcceptsInRun s before now) (RejectsInRun s before now) from.file from.position position) (same_cursor (cursors_of from.offer) position at it.at first.there it.there) first)
+    it.has it.count it.offered it.is
 
 -- what the steps complete
 

@@ -2,7 +2,6 @@ use Rattle.std.proofs.Common.{◌≡◌, Err, ap, true, false}
 use Rattle.cr_words.specs.Words.{texts_of}
 use Rattle.cr_words.proofs.Giving.{one_settings}
 use Rattle.cr_words.proofs.Uses.{same_fault}
-use Rattle.cr_main.specs.Words.{workers_built}
 use Rattle.cr_main.proofs.Building.{same_built}
 use Rattle.cr_main.proofs.built.built_words.Goals as goal
 
@@ -12,5 +11,5 @@ returns-in_err-settings-clause-usage c = λ is settings has.
 
 pub returns-else-is_built-clause-usage : goal.returns-else-is_built-clause-usage
 returns-else-is_built-clause-usage c = λ is settings has.
-    let same = one_settings (texts_of c.args.list.now) workers_built settings c.in_ok-settings.settings has.gives c.in_ok-settings.ensures.settings in
+    let same = one_settings (texts_of c.args.list.now) c.args.most settings c.in_ok-settings.settings has.gives c.in_ok-settings.ensures.settings in
     let bad : false ≡ true = c.if-is_built.ensures.1 (same_built settings c.in_ok-settings.settings same has.built) in cc

@@ -5,7 +5,7 @@ use Rattle.cr_main.specs.declared.messages.Refusal.TheVariants as refusal
 use Rattle.cr_main.proofs.run_task.run_bytes.Goals as goal
 
 pub ask_test-requires-clause-lawful : goal.ask_test-requires-clause-lawful
-ask_test-requires-clause-lawful g c = subst (g.L.Law.lawful c.args.task.now.law.now) c.deref.ensures.value (c.in-Lawful.ensures.lawful refl)
+ask_test-requires-clause-lawful g c = λ a b. subst (g.L.Law.lawful c.args.task.now.law.now) c.deref.ensures.value (c.in-Lawful.ensures.lawful refl)
 
 pub returns-in-Unlawful-clause-runs : goal.returns-in-Unlawful-clause-runs
 returns-in-Unlawful-clause-runs g c = refuses (refusal.Against c.in-Unlawful.reason)

@@ -10,7 +10,7 @@ use Rattle.cr_main.proofs.run_task.run_stored.Goals as goal
 
 pub returns-in-Bytes-clause-runs : goal.returns-in-Bytes-clause-runs
 returns-in-Bytes-clause-runs g c = runs_there
-    (task_for g.P.Passes g.L.Law g.Q.Question c.args.task.now (says_of g.J.Judge c.args.bench.now)) c.requires (g.F.Files.told c.args.files.now) c.in-Bytes.bytes c.in-Bytes.ensures.told
+    (task_for g.P.Passes g.L.Law g.Q.Question c.args.task.now (says_of g.J.Judge c.args.bench.now)) c.requires.law (g.F.Files.told c.args.files.now) c.in-Bytes.bytes c.in-Bytes.ensures.told
     (outside g.F.Files c.args.files.now g.O.Sink c.args.out.now) (outside g.F.Files c.read.new.self g.O.Sink c.args.out.now) (outside g.F.Files c.run_bytes.new.files g.O.Sink c.run_bytes.new.out)
     (judging g.J.Judge c.args.bench.now) (judging g.J.Judge c.run_bytes.new.bench) c.run_bytes.result
     (record { files = c.in-Bytes.ensures.same; output = refl; file_faults = c.in-Bytes.ensures.later; output_faults = refl }) c.run_bytes.ensures.runs

@@ -6,11 +6,11 @@ use Rattle.cr_main.proofs.Files.{token_law_is_of_programs}
 use Rattle.cr_main.proofs.Sources.{made_runs, stored_runs}
 use Rattle.cr_main.proofs.top.run_settings.Goals as goal
 
-pub run_stored-requires : goal.run_stored-requires
-run_stored-requires g c = token_law_is_of_programs
+pub run_stored-requires-clause-law : goal.run_stored-requires-clause-law
+run_stored-requires-clause-law g c = λ a b. token_law_is_of_programs
 
-pub run_bytes-requires : goal.run_bytes-requires
-run_bytes-requires g c = token_law_is_of_programs
+pub run_bytes-requires-clause-law : goal.run_bytes-requires-clause-law
+run_bytes-requires-clause-law g c = λ a b. token_law_is_of_programs
 
 pub returns-in-Named-clause-runs : goal.returns-in-Named-clause-runs
 returns-in-Named-clause-runs g c = (

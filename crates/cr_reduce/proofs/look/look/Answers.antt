@@ -1,0 +1,19 @@
+use Rattle.std.proofs.Common.{arith}
+use Rattle.cr_reduce.specs.Bench.{judging}
+use Rattle.cr_reduce.specs.Search.{searching}
+use Rattle.cr_reduce.specs.Walk.{state_of}
+use Rattle.cr_reduce.specs.Walk.MovesOn.{passed}
+use Rattle.cr_reduce.proofs.Walks.{goes_over_all, takes_first}
+use Rattle.cr_reduce.proofs.look.look.Goals as goal
+
+pub returns-in-NoneOf-clause-moved : goal.returns-in-NoneOf-clause-moved
+returns-in-NoneOf-clause-moved g c = λ _. passed (goes_over_all (searching g.P.Passes c.args.passes.now g.L.Law c.args.law.now g.Q.Question c.args.question.now c.args.name.now g.J.Judge c.args.bench.now)
+    (judging g.J.Judge c.args.bench.now) (judging g.J.Judge c.try_next.new.bench) (state_of (g.P.Passes.offer c.args.passes.now) c.args.walk.now) c.length_of-len.result c.in-NoneOf.passed c.in-NoneOf.ensures.says
+    (omega (arith, c.length_of-len.ensures.placed, c.requires.below, c.requires.sound.counted)))
+
+pub returns-in-Ok-clause-moved : goal.returns-in-Ok-clause-moved
+returns-in-Ok-clause-moved g c = λ _.
+    let found = c.in-Found.ensures.says in
+    takes_first (searching g.P.Passes c.args.passes.now g.L.Law c.args.law.now g.Q.Question c.args.question.now c.args.name.now g.J.Judge c.args.bench.now)
+    (judging g.J.Judge c.args.bench.now) (judging g.J.Judge c.try_next.new.bench) (state_of (g.P.Passes.offer c.args.passes.now) c.args.walk.now) (state_of (g.P.Passes.offer c.args.passes.now) c.take.new.walk)
+    c.in-Found.position found.1.0 found.1.2 c.in-Ok.ensures.taken
