@@ -2,9 +2,11 @@
 use cr_cursor::{Cursor, TokenLaw};
 use cr_outside::{Answer, Scripted, Test};
 use cr_passes::CPasses;
-use cr_reduce::{Accepted, Bench, End, Plan, Why, reduce};
+use cr_pool::Bench;
+use cr_reduce::{Accepted, End, Plan, Why, reduce};
 use cr_tokens::read;
 use std::alloc::{AllocError, Global};
+use std::thread::Threads;
 
 /// A file, the user's test, and what the judge answers about some files and about all others.
 struct Setup {
@@ -223,11 +225,16 @@ fn judge(alloc: Global, setup: &Setup) -> Result<Scripted, AllocError> {
 fn bench(alloc: Global, setup: &Setup) -> Result<Bench<Scripted>, AllocError> {
     let mut judges = Vec::new(alloc);
     judges.push(judge(alloc, setup)?)?;
-    Bench::new(judges)
+    Bench::new(alloc, judges)
 }
 
 // The end of a reduction, where the text tokenises and the test is one.
-fn end_of(alloc: Global, setup: &Setup, limit: Option<u64>) -> Result<Option<End>, AllocError> {
+fn end_of(
+    rt: &(impl Threads + Sync),
+    alloc: Global,
+    setup: &Setup,
+    limit: Option<u64>,
+) -> Result<Option<End>, AllocError> {
     let Ok(test) = Test::read(alloc, setup.test) else {
         return Ok(None);
     };
@@ -242,6 +249,7 @@ fn end_of(alloc: Global, setup: &Setup, limit: Option<u64>) -> Result<Option<End
         limit,
     };
     let end = reduce(
+        rt,
         alloc,
         &CPasses::lines(),
         &TokenLaw,
@@ -254,8 +262,13 @@ fn end_of(alloc: Global, setup: &Setup, limit: Option<u64>) -> Result<Option<End
     Ok(Some(end))
 }
 
-fn ends_so(alloc: Global, setup: &Setup, wanted: &Wanted) -> Result<bool, AllocError> {
-    let Some(end) = end_of(alloc, setup, wanted.limit)? else {
+fn ends_so(
+    rt: &(impl Threads + Sync),
+    alloc: Global,
+    setup: &Setup,
+    wanted: &Wanted,
+) -> Result<bool, AllocError> {
+    let Some(end) = end_of(rt, alloc, setup, wanted.limit)? else {
         return Ok(false);
     };
     Ok(
@@ -269,7 +282,7 @@ fn ends_so(alloc: Global, setup: &Setup, wanted: &Wanted) -> Result<bool, AllocE
 #[test]
 fn three_lines_go_step_by_step_up_to_the_limit(rt: HostRuntime) -> Result<(), AllocError> {
     for wanted in &LIMITS {
-        assert!(rt; ends_so(rt.alloc(), &THREE_LINES, wanted)?);
+        assert!(rt; ends_so(&rt, rt.alloc(), &THREE_LINES, wanted)?);
     }
     Ok(())
 }
@@ -277,7 +290,7 @@ fn three_lines_go_step_by_step_up_to_the_limit(rt: HostRuntime) -> Result<(), Al
 #[test]
 fn small_files_are_reduced_by_their_tests(rt: HostRuntime) -> Result<(), AllocError> {
     for (setup, wanted) in &CASES {
-        assert!(rt; ends_so(rt.alloc(), setup, wanted)?);
+        assert!(rt; ends_so(&rt, rt.alloc(), setup, wanted)?);
     }
     Ok(())
 }

@@ -5,9 +5,11 @@ use cr_cursor::Cursor;
 use cr_log::read_log;
 use cr_main::run;
 use cr_outside::{Answer, Files, Judge, MemFiles, MemSink, ReadAnswer, Scripted};
-use cr_reduce::{Accepted, Bench};
+use cr_pool::Bench;
+use cr_reduce::Accepted;
 use std::alloc::{AllocError, Global};
 use std::process::Abort;
+use std::thread::Threads;
 use std::test::Fail;
 
 /// What a run is started on, and what is wanted of it.
@@ -358,9 +360,13 @@ fn files(alloc: Global, name: &str, text: &[u8], failing: &[u64]) -> Result<MemF
     Ok(MemFiles::new(pairs, failing.to_vec(alloc)?))
 }
 
-// The words of a case, whose only pass is l but where it names others.
+// The words of a case, whose only pass is l but where it names others, and which is run by one worker but where it names more.
 fn words(alloc: Global, list: &[&str]) -> Result<Vec<String>, AllocError> {
     let mut words = Vec::new(alloc);
+    match list.last() {
+        Some(last) if last.starts_with("--workers") => {}
+        _ => words.push(String::from_str(alloc, "--workers=1")?)?,
+    }
     match list.first() {
         Some(first) if first.starts_with("--passes") => {}
         _ => words.push(String::from_str(alloc, "--passes=l")?)?,
@@ -375,7 +381,7 @@ fn words(alloc: Global, list: &[&str]) -> Result<Vec<String>, AllocError> {
 fn bench<J: Judge + Drop>(alloc: Global, judge: J) -> Result<Bench<J>, AllocError> {
     let mut judges = Vec::new(alloc);
     judges.push(judge)?;
-    Bench::new(judges)
+    Bench::new(alloc, judges)
 }
 
 fn content(alloc: Global, files: &mut MemFiles, name: &str) -> Option<Vec<u8>> {
@@ -416,8 +422,8 @@ fn expect_files(
     Ok(())
 }
 
-fn expect<J: Judge>(
-    rt: &impl Abort,
+fn expect<J: Judge + Send>(
+    rt: &(impl Abort + Threads + Sync),
     alloc: Global,
     case: &Case,
     bench: &mut Bench<J>,
@@ -425,7 +431,7 @@ fn expect<J: Judge>(
     let list = words(alloc, case.words)?;
     let mut files = files(alloc, case.name, case.before.as_bytes(), case.failing)?;
     let mut out = MemSink::new(alloc, case.mute.to_vec(alloc)?);
-    let status = run(alloc, &list, &mut files, bench, &mut out);
+    let status = run(rt, alloc, &list, &mut files, bench, &mut out);
     assert_eq!(rt; status, case.status, "{}", case.what);
     assert_eq!(rt; out.bytes(), case.output.as_bytes(), "{}", case.what);
     expect_files(rt, alloc, &mut files, case)
@@ -436,11 +442,11 @@ fn rehearsed(alloc: Global, judge: Rehearsed) -> Result<Bench<Rehearsed>, AllocE
     let mut judges = Vec::new(alloc);
     judges.push(judge)?;
     judges.push(Rehearsed::new("", "", &[]))?;
-    Bench::new(judges)
+    Bench::new(alloc, judges)
 }
 
 // Each case with its judge, who fails at any call that it doesn't await.
-fn expect_all(rt: &impl Abort, alloc: Global, cases: &[Case]) -> Result<(), AllocError> {
+fn expect_all(rt: &(impl Abort + Threads + Sync), alloc: Global, cases: &[Case]) -> Result<(), AllocError> {
     for case in cases {
         let judge = Rehearsed::new("w.sh", "abc.c", case.calls);
         let mut bench = rehearsed(alloc, judge)?;
@@ -494,8 +500,10 @@ const SCRIPTED: Case = Case {
 #[test]
 fn a_failure_behind_an_accepted_variant_is_never_met(rt: HostRuntime) -> Result<(), AllocError> {
     let alloc = rt.alloc();
-    let mut bench = bench(alloc, scripted(alloc)?)?;
-    expect(&rt, alloc, &SCRIPTED, &mut bench)
+    let mut first = bench(alloc, scripted(alloc)?)?;
+    expect(&rt, alloc, &SCRIPTED, &mut first)?;
+    let mut second = bench(alloc, scripted(alloc)?)?;
+    expect(&rt, alloc, &SCRIPTED_SHARED, &mut second)
 }
 
 /// A generated program, of which nothing is written. The test says no to it.
@@ -526,6 +534,51 @@ fn a_generated_program_is_never_written(rt: HostRuntime) -> Result<(), AllocErro
     expect_all(&rt, rt.alloc(), &[MADE, MADE_UNCHANGED])
 }
 
+/// The three lines by several workers and windows, each time with the log of one.
+const SHARED: [Case; 5] = [
+    Case {
+        what: "two workers and a small window",
+        words: &["has:b", "abc.c", "--window=8", "--workers=2"],
+        ..REDUCED
+    },
+    Case {
+        what: "two workers, one position at a time",
+        words: &["has:b", "abc.c", "--window=1", "--workers=2"],
+        ..REDUCED
+    },
+    Case {
+        what: "one worker and all positions of a round",
+        words: &["has:b", "abc.c", "--window=4096", "--workers=1"],
+        ..REDUCED
+    },
+    Case {
+        what: "a limit within a window",
+        words: &["has:b", "--limit=15", "abc.c", "--window=8", "--workers=2"],
+        status: 7,
+        output: "abc.c size 102 to 68 accepted 1 turns 15 limit\n",
+        after: A_AND_B,
+        log: Some("l 13 1 68 15\nend limit 68 15\n"),
+        ..REDUCED
+    },
+    Case {
+        what: "three passes by two workers",
+        words: &["--passes=tl", "has:b", "abc.c", "--workers=2"],
+        ..ITS_TOKEN
+    },
+];
+
+#[test]
+fn workers_and_windows_change_nothing(rt: HostRuntime) -> Result<(), AllocError> {
+    expect_all(&rt, rt.alloc(), &SHARED)
+}
+
+/// The failing variant lies above the first accepted one, so it decides nothing, whoever tries it.
+const SCRIPTED_SHARED: Case = Case {
+    what: "a failure behind the first accepted variant, with a window",
+    words: &["t", "abc.c", "--window=16", "--workers=1"],
+    ..REDUCED
+};
+
 #[test]
 fn the_log_of_a_run_is_read_back(rt: HostRuntime) -> Result<(), Fail> {
     let alloc = rt.alloc();
@@ -533,7 +586,7 @@ fn the_log_of_a_run_is_read_back(rt: HostRuntime) -> Result<(), Fail> {
     let mut files = files(alloc, "abc.c", THREE.as_bytes(), &[])?;
     let mut bench = bench(alloc, Rehearsed::new("", "", &[]))?;
     let mut out = MemSink::new(alloc, Vec::new(alloc));
-    assert_eq!(rt; run(alloc, &list, &mut files, &mut bench, &mut out), 0);
+    assert_eq!(rt; run(&rt, alloc, &list, &mut files, &mut bench, &mut out), 0);
     let text = content(alloc, &mut files, "abc.c.log").unwrap_or(Vec::new(alloc));
     assert!(rt; text.len() <= 100);
     let log = read_log(alloc, &text)?;
@@ -562,7 +615,7 @@ fn the_log_of_a_run_is_read_back(rt: HostRuntime) -> Result<(), Fail> {
 
 // What a run says of a file that it can't take, which stays the only one.
 fn expect_refused(
-    rt: &impl Abort,
+    rt: &(impl Abort + Threads + Sync),
     alloc: Global,
     text: &[u8],
     output: &str,
@@ -571,7 +624,7 @@ fn expect_refused(
     let mut files = files(alloc, "long.c", text, &[])?;
     let mut bench = bench(alloc, Rehearsed::new("", "", &[]))?;
     let mut out = MemSink::new(alloc, Vec::new(alloc));
-    assert_eq!(rt; run(alloc, &list, &mut files, &mut bench, &mut out), 4);
+    assert_eq!(rt; run(rt, alloc, &list, &mut files, &mut bench, &mut out), 4);
     assert_eq!(rt; out.bytes(), output.as_bytes());
     assert!(rt; content(alloc, &mut files, "long.c").as_deref() == Some(text));
     assert!(rt; content(alloc, &mut files, "long.c.orig").is_none());

@@ -2,10 +2,11 @@
 use super::rehearsed::Rehearsed;
 use cr_main::run;
 use cr_outside::{MemFiles, MemSink, Test};
-use cr_reduce::Bench;
+use cr_pool::Bench;
 use cr_words::{Settings, Source, WordFault, words};
 use std::alloc::{AllocError, Global};
 use std::test::Fail;
+use std::thread::Threads;
 
 /// What lists of words give where there are 32 workers, and behind it the words, each behind a bar: workers, window,
 /// limit, steps, passes, the test and the file, or `no`.
@@ -89,7 +90,7 @@ const BUILT: &str = "\
 yes|--limit|5|has:b|f.c
 yes|--workers=1|--window=256|--steps=1000000|has:b|f.c
 no|--workers|2|has:b|f.c
-no|--window=8|--|has:b|f.c
+yes|--window=8|--|has:b|f.c
 no|--steps|7|has:b|f.c
 yes|--passes|l|has:b|f.c
 yes|--passes=tl|has:b|f.c
@@ -151,20 +152,20 @@ fn words_give_their_settings_or_none(rt: HostRuntime) -> Result<(), Fail> {
     Ok(())
 }
 
-fn status_of(alloc: Global, line: &str) -> Result<u8, Fail> {
+fn status_of(rt: &(impl Threads + Sync), alloc: Global, line: &str) -> Result<u8, Fail> {
     let list = list_of(alloc, line)?;
     let mut judges = Vec::new(alloc);
     judges.push(Rehearsed::new("", "", &[]))?;
-    let mut bench = Bench::new(judges)?;
+    let mut bench = Bench::new(alloc, judges)?;
     let mut files = MemFiles::new(Vec::new(alloc), Vec::new(alloc));
     let mut out = MemSink::new(alloc, Vec::new(alloc));
-    Ok(run(alloc, &list, &mut files, &mut bench, &mut out))
+    Ok(run(rt, alloc, &list, &mut files, &mut bench, &mut out))
 }
 
 #[test]
 fn what_is_not_built_is_refused(rt: HostRuntime) -> Result<(), Fail> {
     for line in BUILT.lines() {
-        let status = status_of(rt.alloc(), line)?;
+        let status = status_of(&rt, rt.alloc(), line)?;
         let wanted = if line.starts_with("yes") { 3 } else { 2 };
         assert_eq!(rt; status, wanted, "{line}");
     }

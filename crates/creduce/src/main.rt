@@ -1,4 +1,4 @@
-//! `creduce [--limit N] TEST FILE`: reduces FILE while the test says yes, and ends with the status of `run`, which see.
+//! `creduce [--workers N] [--window N] [--limit N] [--passes LETTERS] TEST FILE`: reduces FILE while the test says yes, and ends with the status of `run`, which see.
 #![tactic(auto)]
 
 mod process_judge;
@@ -11,10 +11,11 @@ mod trial;
 ghost use Rattle.std.specs.Prelude.{◌≡◌, IfOk, length};
 
 use cr_main::run;
-use cr_reduce::Bench;
+use cr_pool::Bench;
 use process_judge::ProcessJudge;
 use std::alloc::AllocError;
 use std::process::ExitCode;
+use std::thread::Threads;
 use std::{env, io};
 use std_files::StdFiles;
 use std_out::StdOut;
@@ -30,7 +31,7 @@ fn bench(rt: &HostRuntime) -> Result<Bench<ProcessJudge<'_, HostRuntime>>, Alloc
     for number in 0..JUDGES {
         judges.push(ProcessJudge::new(rt, number))?;
     }
-    Bench::new(judges)
+    Bench::new(rt.alloc(), judges)
 }
 
 fn given(rt: &HostRuntime) -> io::Result<Vec<String>> {
@@ -50,16 +51,18 @@ fn words(rt: &HostRuntime) -> Result<Vec<String>, AllocError> {
     }
 }
 
-fn reduce(rt: &HostRuntime) -> Result<u8, AllocError> {
+fn reduce(rt: &HostRuntime, threads: &(impl Threads + Sync)) -> Result<u8, AllocError> {
     let words = words(rt)?;
     let mut bench = bench(rt)?;
     let mut files = StdFiles::new(rt);
     let mut out = StdOut::new(rt);
-    Ok(run(rt.alloc(), &words, &mut files, &mut bench, &mut out))
+    Ok(run(
+        threads, rt.alloc(), &words, &mut files, &mut bench, &mut out,
+    ))
 }
 
 fn main(rt: HostRuntime) -> ExitCode {
-    let status = match reduce(&rt) {
+    let status = match reduce(&rt, &rt) {
         Ok(status) => status,
         Err(_) => NO_MEMORY,
     };

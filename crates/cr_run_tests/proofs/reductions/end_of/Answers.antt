@@ -4,7 +4,7 @@ use Rattle.cr_tokens.specs.Tokens.{Tokenizes}
 use Rattle.cr_run_tests.proofs.reductions.end_of.Goals as goal
 
 pub reduce-end-requires-clause-tokenizes : goal.reduce-end-requires-clause-tokenizes
-reduce-end-requires-clause-tokenizes c =
+reduce-end-requires-clause-tokenizes g c = λ a b.
     let tokens = c.in-Ok-read._tokens.list.items in (
       size_of c.in_ok-file.file.items tokens,
       record {
