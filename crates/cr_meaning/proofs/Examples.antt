@@ -291,6 +291,11 @@ prints_without_an_argument : verdict (program (op [] (work.Object 0) (access.Arr
 unfolding body played pieces_of
 prints_without_an_argument = refl
 
+-- printf(0);
+prints_by_no_format : verdict (program (op [] (work.Constant Int (pos 0)) access.Unused ∷ op (0 ∷ []) (work.Call (Printf [])) access.Unused ∷ op (1 ∷ []) work.Expression access.Unused ∷ op [] (work.Constant Int (pos 0)) access.Unused ∷ op (3 ∷ []) (work.Return (form.Number Int)) access.Unused ∷ op (2 ∷ 4 ∷ []) (work.Block [] []) access.Unused ∷ op [] (work.Program [] [] (scalar.Pointer 3) 5) access.Unused ∷ []) [] [] [] (record { steps = 60; depth = 4; cells = 100; output = 100 })) ≡ undefined 9 1
+unfolding body played pieces_of
+prints_by_no_format = refl
+
 -- printf("%5d", 1);
 prints_outside_the_profile : verdict (program (op [] (work.Object 0) (access.Array 1 4) ∷ op [] (work.Constant Int (pos 1)) access.Unused ∷ op (0 ∷ 1 ∷ []) (work.Call (Printf (false ∷ []))) access.Unused ∷ op (2 ∷ []) work.Expression access.Unused ∷ op [] (work.Constant Int (pos 0)) access.Unused ∷ op (4 ∷ []) (work.Return (form.Number Int)) access.Unused ∷ op (3 ∷ 5 ∷ []) (work.Block [] []) access.Unused ∷ op [] (work.Program (0 ∷ []) [] (scalar.Pointer 3) 6) access.Unused ∷ []) ((0, ((scalar.Int Char, guard.Literal) ∷ (scalar.Int Char, guard.Literal) ∷ (scalar.Int Char, guard.Literal) ∷ (scalar.Int Char, guard.Literal) ∷ [])) ∷ []) ((0, (cell.Number (pos 37) ∷ cell.Number (pos 53) ∷ cell.Number (pos 100) ∷ cell.Number (pos 0) ∷ [])) ∷ []) [] (record { steps = 60; depth = 4; cells = 100; output = 100 })) ≡ left 7 2
 unfolding body played pieces_of
