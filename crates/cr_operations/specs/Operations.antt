@@ -4,7 +4,7 @@ use Rattle.std.specs.List.{flat_map, filter}
 use Rattle.std.specs.Str.{bytes_eq}
 use Rattle.cr_ints.specs.declared.kind.IntKind.{IntKind}
 use Rattle.cr_ints.specs.declared.kind.IntKind.TheVariants.{Int as IntegerKind, Char as CharKind}
-use Rattle.cr_ints.specs.Conversions.{promote_of, common_of}
+use Rattle.cr_ints.specs.Conversions.{convert_of, promote_of, common_of}
 use Rattle.cr_memory.specs.declared.value.Scalar.{Scalar}
 use Rattle.cr_memory.specs.declared.value.Scalar.TheVariants as scalar
 use Rattle.cr_memory.specs.declared.value.Guard.{Guard}
@@ -455,9 +455,9 @@ unit_op t = node_op (nodes_from (is_static_initialiser t) 0 t.unit.nodes)
     (work.Program (nodes_from (is_lasting t) 0 t.unit.nodes) (map (parameter_of t) (slice_index_or t.parameters t.main []))
     (strings_of t (slice_index_or t.parameters t.main [])) (part_at t t.main 2))
 
--- a literal's bytes as chars
+-- a literal's bytes as values of char (6.4.5p6), which is signed
 abbrev pub byte_cell : ℕ → Cell
-byte_cell byte = Number (pos byte)
+byte_cell byte = Number (convert_of (pos byte) CharKind)
 
 abbrev pub literal_by : Typed → ℕ → Kind → Option (List Cell)
 literal_by t node kind.Text = Some (map byte_cell (slice_index_or t.texts node []))
