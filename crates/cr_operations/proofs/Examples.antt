@@ -553,3 +553,15 @@ file_high_byte : (u : Unit) (h : length file_high_byte_tokens ≤ u.tokens.list.
     → verdict (1 ∷ 1 ∷ 1 ∷ 1 ∷ 1 ∷ 1 ∷ 1 ∷ 1 ∷ 1 ∷ 1 ∷ 1 ∷ 1 ∷ []) (program_of (typed (made u file_high_byte_tokens file_high_byte_nodes h w b n i) (record { file = (105 ∷ 110 ∷ 116 ∷ 32 ∷ 109 ∷ 97 ∷ 105 ∷ 110 ∷ 40 ∷ 118 ∷ 111 ∷ 105 ∷ 100 ∷ 41 ∷ 32 ∷ 123 ∷ 32 ∷ 114 ∷ 101 ∷ 116 ∷ 117 ∷ 114 ∷ 110 ∷ 32 ∷ 34 ∷ 92 ∷ 120 ∷ 102 ∷ 102 ∷ 34 ∷ 91 ∷ 48 ∷ 93 ∷ 32 ∷ 61 ∷ 61 ∷ 32 ∷ 45 ∷ 49 ∷ 59 ∷ 32 ∷ 125 ∷ []); shapes = (shape Unknown false false ∷ shape (ctype.Int ints.Char) false false ∷ shape (Array 1 2) false false ∷ shape (ctype.Int ints.Int) false false ∷ shape (Function 11) false false ∷ []); types = column 12 0 ((3, 2) ∷ (4, 3) ∷ (5, 1) ∷ (6, 3) ∷ (7, 3) ∷ (8, 3) ∷ []); refs = column 12 None ((1, (Some (1))) ∷ []); valued = column 12 false ((3, true) ∷ (5, true) ∷ []); named = column 12 0 ((1, 4) ∷ (9, 3) ∷ []); durations = column 12 duration.NoObject []; constants = column 12 None ((4, (Some (pos 0))) ∷ (6, (Some (pos 1))) ∷ []); layouts = column 12 NOTHING []; members = column 12 [] []; chosen = column 12 0 []; parameters = column 12 [] []; plans = column 12 [] []; texts = column 12 [] ((3, (255 ∷ 0 ∷ [])) ∷ []); main = 11 })) (record { steps = 3000; depth = 256; cells = 1048576; output = 65536 })) ≡ fine 1 []
 unfolding body played pieces_of types_of type_at
 file_high_byte = λ u h w b n i. refl
+
+-- int printf(const char *, ...); volatile char s[2]; int main(void) { printf("%s", s); return 0; }
+abbrev file_volatile_text_tokens : List Token
+file_volatile_text_tokens = (token 0 3 ∷ token 4 10 ∷ token 10 11 ∷ token 11 16 ∷ token 17 21 ∷ token 22 23 ∷ token 23 24 ∷ token 25 28 ∷ token 28 29 ∷ token 29 30 ∷ token 31 39 ∷ token 40 44 ∷ token 45 46 ∷ token 46 47 ∷ token 47 48 ∷ token 48 49 ∷ token 49 50 ∷ token 51 54 ∷ token 55 59 ∷ token 59 60 ∷ token 60 64 ∷ token 64 65 ∷ token 66 67 ∷ token 68 74 ∷ token 74 75 ∷ token 75 79 ∷ token 79 80 ∷ token 81 82 ∷ token 82 83 ∷ token 83 84 ∷ token 85 91 ∷ token 92 93 ∷ token 93 94 ∷ token 95 96 ∷ [])
+
+abbrev file_volatile_text_nodes : List Node
+file_volatile_text_nodes = (node kind.Specifiers 0 0 ([]) ∷ node kind.NameDeclarator 1 1 ([]) ∷ node kind.Specifiers 3 4 ([]) ∷ node kind.FunctionDeclarator 1 8 (1 ∷ []) ∷ node kind.Declaration 0 9 (0 ∷ 3 ∷ []) ∷ node kind.Specifiers 10 11 ([]) ∷ node kind.NameDeclarator 12 12 ([]) ∷ node kind.Integer 14 14 ([]) ∷ node kind.ArrayDeclarator 12 15 (6 ∷ 7 ∷ []) ∷ node kind.Declaration 10 16 (5 ∷ 8 ∷ []) ∷ node kind.Specifiers 17 17 ([]) ∷ node kind.NameDeclarator 18 18 ([]) ∷ node kind.FunctionDeclarator 18 21 (11 ∷ []) ∷ node kind.Text 25 25 ([]) ∷ node kind.Identifier 27 27 ([]) ∷ node kind.Call 23 28 (13 ∷ 14 ∷ []) ∷ node kind.ExpressionStatement 23 29 (15 ∷ []) ∷ node kind.Integer 31 31 ([]) ∷ node kind.Return 30 32 (17 ∷ []) ∷ node kind.Compound 22 33 (16 ∷ 18 ∷ []) ∷ node kind.FunctionDefinition 17 33 (10 ∷ 12 ∷ 19 ∷ []) ∷ [])
+
+file_volatile_text : (u : Unit) (h : length file_volatile_text_tokens ≤ u.tokens.list.cap) (w : AreWithin (length file_volatile_text_tokens) file_volatile_text_nodes) (b : PartsAreBelow file_volatile_text_nodes) (n : NamedOnce file_volatile_text_nodes []) (i : ItemsAreNodes file_volatile_text_nodes [])
+    → verdict (1 ∷ 1 ∷ 1 ∷ 1 ∷ 1 ∷ 1 ∷ 1 ∷ 1 ∷ 1 ∷ 1 ∷ 1 ∷ 1 ∷ 1 ∷ 1 ∷ 1 ∷ 1 ∷ 1 ∷ 1 ∷ 1 ∷ 1 ∷ 1 ∷ []) (program_of (typed (made u file_volatile_text_tokens file_volatile_text_nodes h w b n i) (record { file = (105 ∷ 110 ∷ 116 ∷ 32 ∷ 112 ∷ 114 ∷ 105 ∷ 110 ∷ 116 ∷ 102 ∷ 40 ∷ 99 ∷ 111 ∷ 110 ∷ 115 ∷ 116 ∷ 32 ∷ 99 ∷ 104 ∷ 97 ∷ 114 ∷ 32 ∷ 42 ∷ 44 ∷ 32 ∷ 46 ∷ 46 ∷ 46 ∷ 41 ∷ 59 ∷ 32 ∷ 118 ∷ 111 ∷ 108 ∷ 97 ∷ 116 ∷ 105 ∷ 108 ∷ 101 ∷ 32 ∷ 99 ∷ 104 ∷ 97 ∷ 114 ∷ 32 ∷ 115 ∷ 91 ∷ 50 ∷ 93 ∷ 59 ∷ 32 ∷ 105 ∷ 110 ∷ 116 ∷ 32 ∷ 109 ∷ 97 ∷ 105 ∷ 110 ∷ 40 ∷ 118 ∷ 111 ∷ 105 ∷ 100 ∷ 41 ∷ 32 ∷ 123 ∷ 32 ∷ 112 ∷ 114 ∷ 105 ∷ 110 ∷ 116 ∷ 102 ∷ 40 ∷ 34 ∷ 37 ∷ 115 ∷ 34 ∷ 44 ∷ 32 ∷ 115 ∷ 41 ∷ 59 ∷ 32 ∷ 114 ∷ 101 ∷ 116 ∷ 117 ∷ 114 ∷ 110 ∷ 32 ∷ 48 ∷ 59 ∷ 32 ∷ 125 ∷ []); shapes = (shape Unknown false false ∷ shape (ctype.Int ints.Char) false false ∷ shape (Array 1 3) false false ∷ shape (ctype.Int ints.Int) false false ∷ shape (Function 1) false false ∷ shape (ctype.Int ints.Char) false true ∷ shape (Array 5 2) false false ∷ shape (Function 20) false false ∷ []); types = column 21 0 ((7, 3) ∷ (13, 2) ∷ (14, 6) ∷ (15, 3) ∷ (17, 3) ∷ []); refs = column 21 None ((1, (Some (1))) ∷ (6, (Some (6))) ∷ (11, (Some (11))) ∷ (14, (Some (6))) ∷ (15, (Some (1))) ∷ []); valued = column 21 false ((13, true) ∷ (14, true) ∷ []); named = column 21 0 ((1, 4) ∷ (6, 6) ∷ (11, 7) ∷ (18, 3) ∷ []); durations = column 21 duration.NoObject ((6, duration.Static) ∷ []); constants = column 21 None ((7, (Some (pos 2))) ∷ (17, (Some (pos 0))) ∷ []); layouts = column 21 NOTHING []; members = column 21 [] []; chosen = column 21 0 []; parameters = column 21 [] []; plans = column 21 [] []; texts = column 21 [] ((13, (37 ∷ 115 ∷ 0 ∷ [])) ∷ []); main = 20 })) (record { steps = 3000; depth = 256; cells = 1048576; output = 65536 })) ≡ undefined 16 1
+unfolding body played pieces_of types_of type_at
+file_volatile_text = λ u h w b n i. refl

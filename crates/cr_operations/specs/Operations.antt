@@ -1,5 +1,5 @@
 -- What each node of a typed unit does (C11 6.5, 6.7.9, 6.8), and the program that the unit is.
-use Rattle.std.specs.Prelude.{ℕ, zero, suc, ◌+◌, ◌==◌, ℤ, pos, Bool, true, false, ◌&&◌, ◌||◌, Option, Some, None, List, [], ◌∷◌, ◌++◌, map, drop, length, codes, slice_get, slice_index_or, slice_range, if◌then◌else◌}
+use Rattle.std.specs.Prelude.{ℕ, zero, suc, ◌+◌, ◌==◌, ℤ, pos, Bool, true, false, not, ◌&&◌, ◌||◌, Option, Some, None, List, [], ◌∷◌, ◌++◌, map, drop, length, codes, slice_get, slice_index_or, slice_range, if◌then◌else◌}
 use Rattle.std.specs.List.{flat_map, filter}
 use Rattle.std.specs.Str.{bytes_eq}
 use Rattle.cr_ints.specs.declared.kind.IntKind.{IntKind}
@@ -253,8 +253,9 @@ abbrev pub function_of : Typed → ℕ → Callee
 function_of t definition =
     callee.Function (map (parameter_of t) (slice_index_or t.parameters definition [])) (part_at t definition 2) (definition == t.main)
 
+-- a pointer to char, also to a const one; a volatile one isn't what `%s` may read (6.7.3p6)
 abbrev pub is_text : Qualified → Bool
-is_text (pointer c v (plain (Int CharKind) d w)) = true
+is_text (pointer c v (plain (Int CharKind) d w)) = not w
 is_text type = false
 
 abbrev pub callee_of : Typed → ℕ → Callee
