@@ -435,8 +435,7 @@ abbrev pub nodes_from : (ℕ → Kind → Bool) → ℕ → List Node → List �
 nodes_from test number [] = []
 nodes_from test number (node ∷ nodes) = if test number node.kind then number ∷ nodes_from test (suc number) nodes else nodes_from test (suc number) nodes
 
--- an object of static duration at its first declaration, or a literal: each is one token or one run of them, so the order of the nodes
--- is that of the tokens
+-- an object of static duration at its first declaration, or a literal; the order of the nodes is taken for that of their tokens
 abbrev pub is_lasting : Typed → ℕ → Kind → Bool
 is_lasting t node kind.Text = true
 is_lasting t node kind.NameDeclarator = is_static t node && (entity_of t node == node)
