@@ -281,6 +281,16 @@ drops_no_value : verdict (program (op [] (work.Block [] []) access.Unused ∷ op
 unfolding body played pieces_of
 drops_no_value = refl
 
+-- int *q(void){int x; return &x;} int g(void){} void f(_Bool a, int b){} f(q(), g());
+passes_no_value_beside_an_ended_pointer : verdict (program (op [] work.Declaration access.Unused ∷ op [] (work.Object 0) access.Unused ∷ op (1 ∷ []) work.AddressOf access.Unused ∷ op (2 ∷ []) (work.Return (form.Pointer 0)) access.Unused ∷ op (3 ∷ []) (work.Block (0 ∷ []) []) access.Unused ∷ op [] (work.Block [] []) access.Unused ∷ op [] work.Declaration access.Unused ∷ op [] work.Declaration access.Unused ∷ op [] (work.Block [] []) access.Unused ∷ op [] (work.Call (Function [] 4 false)) access.Unused ∷ op [] (work.Call (Function [] 5 false)) access.Unused ∷ op (9 ∷ 10 ∷ []) (work.Call (Function (parameter 6 (form.Number BoolKind) ∷ parameter 7 (form.Number Int) ∷ []) 8 false)) access.Unused ∷ op (11 ∷ []) work.Expression access.Unused ∷ op [] (work.Constant Int (pos 0)) access.Unused ∷ op (13 ∷ []) (work.Return (form.Number Int)) access.Unused ∷ op (12 ∷ 14 ∷ []) (work.Block [] []) access.Unused ∷ op [] (work.Program [] [] (scalar.Pointer 3) 15) access.Unused ∷ []) ((0, ((scalar.Int Int, guard.Free) ∷ [])) ∷ (6, ((scalar.Int BoolKind, guard.Free) ∷ [])) ∷ (7, ((scalar.Int Int, guard.Free) ∷ [])) ∷ []) [] [] (record { steps = 60; depth = 4; cells = 100; output = 100 })) ≡ undefined 15 11
+unfolding body played pieces_of
+passes_no_value_beside_an_ended_pointer = refl
+
+-- the same q and g, _Bool b[2] = {q(), g()};
+initialises_by_no_value_beside_an_ended_pointer : verdict (program (op [] work.Declaration access.Unused ∷ op [] (work.Object 0) access.Unused ∷ op (1 ∷ []) work.AddressOf access.Unused ∷ op (2 ∷ []) (work.Return (form.Pointer 0)) access.Unused ∷ op (3 ∷ []) (work.Block (0 ∷ []) []) access.Unused ∷ op [] (work.Block [] []) access.Unused ∷ op [] work.Declaration access.Unused ∷ op [] (work.Call (Function [] 4 false)) access.Unused ∷ op [] (work.Call (Function [] 5 false)) access.Unused ∷ op (7 ∷ 8 ∷ []) (work.Initialise 6 (line 0 (form.Number BoolKind) 9 ∷ line 1 (form.Number BoolKind) 9 ∷ [])) access.Unused ∷ op (9 ∷ []) work.Declaration access.Unused ∷ op [] (work.Constant Int (pos 0)) access.Unused ∷ op (11 ∷ []) (work.Return (form.Number Int)) access.Unused ∷ op (10 ∷ 12 ∷ []) (work.Block (6 ∷ []) []) access.Unused ∷ op [] (work.Program [] [] (scalar.Pointer 3) 13) access.Unused ∷ []) ((0, ((scalar.Int Int, guard.Free) ∷ [])) ∷ (6, ((scalar.Int BoolKind, guard.Free) ∷ (scalar.Int BoolKind, guard.Free) ∷ [])) ∷ []) [] [] (record { steps = 60; depth = 4; cells = 100; output = 100 })) ≡ undefined 15 9
+unfolding body played pieces_of
+initialises_by_no_value_beside_an_ended_pointer = refl
+
 -- return g();
 returns_no_value : verdict (program (op [] (work.Block [] []) access.Unused ∷ op [] work.Declaration access.Unused ∷ op [] (work.Call (Function [] 0 false)) access.Unused ∷ op (2 ∷ []) (work.Return (form.Number Int)) access.Unused ∷ op (3 ∷ []) (work.Block (1 ∷ []) []) access.Unused ∷ op [] (work.Program [] [] (scalar.Pointer 3) 4) access.Unused ∷ []) ((1, ((scalar.Int Int, guard.Free) ∷ [])) ∷ []) [] [] (record { steps = 60; depth = 4; cells = 100; output = 100 })) ≡ undefined 15 3
 unfolding body played pieces_of
@@ -290,6 +300,11 @@ returns_no_value = refl
 prints_without_an_argument : verdict (program (op [] (work.Object 0) (access.Array 1 3) ∷ op (0 ∷ []) (work.Call (Printf [])) access.Unused ∷ op (1 ∷ []) work.Expression access.Unused ∷ op [] (work.Constant Int (pos 0)) access.Unused ∷ op (3 ∷ []) (work.Return (form.Number Int)) access.Unused ∷ op (2 ∷ 4 ∷ []) (work.Block [] []) access.Unused ∷ op [] (work.Program (0 ∷ []) [] (scalar.Pointer 3) 5) access.Unused ∷ []) ((0, ((scalar.Int Char, guard.Literal) ∷ (scalar.Int Char, guard.Literal) ∷ (scalar.Int Char, guard.Literal) ∷ [])) ∷ []) ((0, (cell.Number (pos 37) ∷ cell.Number (pos 100) ∷ cell.Number (pos 0) ∷ [])) ∷ []) [] (record { steps = 60; depth = 4; cells = 100; output = 100 })) ≡ undefined 16 1
 unfolding body played pieces_of
 prints_without_an_argument = refl
+
+-- printf(0);
+prints_by_no_format : verdict (program (op [] (work.Constant Int (pos 0)) access.Unused ∷ op (0 ∷ []) (work.Call (Printf [])) access.Unused ∷ op (1 ∷ []) work.Expression access.Unused ∷ op [] (work.Constant Int (pos 0)) access.Unused ∷ op (3 ∷ []) (work.Return (form.Number Int)) access.Unused ∷ op (2 ∷ 4 ∷ []) (work.Block [] []) access.Unused ∷ op [] (work.Program [] [] (scalar.Pointer 3) 5) access.Unused ∷ []) [] [] [] (record { steps = 60; depth = 4; cells = 100; output = 100 })) ≡ undefined 9 1
+unfolding body played pieces_of
+prints_by_no_format = refl
 
 -- printf("%5d", 1);
 prints_outside_the_profile : verdict (program (op [] (work.Object 0) (access.Array 1 4) ∷ op [] (work.Constant Int (pos 1)) access.Unused ∷ op (0 ∷ 1 ∷ []) (work.Call (Printf (false ∷ []))) access.Unused ∷ op (2 ∷ []) work.Expression access.Unused ∷ op [] (work.Constant Int (pos 0)) access.Unused ∷ op (4 ∷ []) (work.Return (form.Number Int)) access.Unused ∷ op (3 ∷ 5 ∷ []) (work.Block [] []) access.Unused ∷ op [] (work.Program (0 ∷ []) [] (scalar.Pointer 3) 6) access.Unused ∷ []) ((0, ((scalar.Int Char, guard.Literal) ∷ (scalar.Int Char, guard.Literal) ∷ (scalar.Int Char, guard.Literal) ∷ (scalar.Int Char, guard.Literal) ∷ [])) ∷ []) ((0, (cell.Number (pos 37) ∷ cell.Number (pos 53) ∷ cell.Number (pos 100) ∷ cell.Number (pos 0) ∷ [])) ∷ []) [] (record { steps = 60; depth = 4; cells = 100; output = 100 })) ≡ left 7 2

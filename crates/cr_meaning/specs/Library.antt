@@ -19,10 +19,10 @@ use Rattle.cr_memory.specs.declared.value.Trap.TheVariants.{Undefined, Left}
 use Rattle.cr_memory.specs.Memory.{Memory}
 use Rattle.cr_memory.specs.Access.{load_of}
 use Rattle.cr_meaning.specs.World.{Program, World, untyped, unused_value, then_by}
-use Rattle.cr_meaning.specs.Values.{if_fits}
+use Rattle.cr_meaning.specs.Values.{if_fits, as_pointer}
 use Rattle.cr_meaning.specs.Work.{is_nothing, integer}
 use Rattle.cr_meaning.specs.declared.value.Value.{Value}
-use Rattle.cr_meaning.specs.declared.value.Value.TheVariants.{Nothing, Number, Pointer as Pointing}
+use Rattle.cr_meaning.specs.declared.value.Value.TheVariants.{Number, Pointer as Pointing}
 
 -- what a call of the library gives
 pub record Called : Type 0 where
@@ -125,13 +125,13 @@ formatted p world arguments None = Err (Left 7)
 formatted p world arguments (Some pieces) =
     then_by (printed world.memory pieces arguments) (λ bytes. put_out p world bytes (Number IntegerKind (pos (length bytes))))
 
--- the format is read first; U15 of any argument comes before that
+-- the format is a pointer, or a null pointer constant, which is converted as if by assignment (6.5.2.2p7); it is read first, but U15
+-- of any argument comes before that
 abbrev pub printf_of : Program → World → List Bool → List Value → Result Called Trap
-printf_of p world texts (Pointing format ∷ values) =
-    if_fits 1 format (if list_any is_nothing values then Err unused_value
-    else then_by (text_at world.memory format) (λ bytes. formatted p world (zip texts values) (pieces_of bytes)))
-printf_of p world texts (Nothing ∷ values) = Err unused_value
-printf_of p world texts other = Err untyped
+printf_of p world texts (format ∷ values) =
+    then_by (as_pointer format) (λ at. if_fits 1 at (if list_any is_nothing values then Err unused_value
+    else then_by (text_at world.memory at) (λ bytes. formatted p world (zip texts values) (pieces_of bytes))))
+printf_of p world texts [] = Err untyped
 
 -- ---- the others
 

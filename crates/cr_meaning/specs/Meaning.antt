@@ -9,7 +9,7 @@ use Rattle.cr_memory.specs.declared.value.Trap.{Trap}
 use Rattle.cr_memory.specs.declared.value.Trap.TheVariants.{Undefined, Left}
 use Rattle.cr_memory.specs.Memory.{Object}
 use Rattle.cr_meaning.specs.Language.{Reply, went, halts, gave, ended, Prog, give, act, call, Runs}
-use Rattle.cr_meaning.specs.World.{Program, World, Answer, part, next, broke, continued, jumped, returned, Halt, stopped, exited, untyped, enter_object, enter_all, automatic, static, marked, closed, unset_again}
+use Rattle.cr_meaning.specs.World.{Program, World, Answer, next, broke, continued, jumped, returned, Halt, stopped, exited, untyped, enter_object, enter_all, automatic, static, marked, closed, unset_again}
 use Rattle.cr_meaning.specs.Values.{asked, converted}
 use Rattle.cr_meaning.specs.Work.{integer}
 use Rattle.cr_meaning.specs.Library.{status_of}
@@ -132,11 +132,6 @@ after_loop other = other
 abbrev pub after_switch : Answer → Answer
 after_switch broke = next
 after_switch other = other
-
--- an expression's value is dropped (6.8.3p2)
-abbrev pub as_statement : Answer → Answer
-as_statement (part value events) = next
-as_statement other = other
 
 abbrev pub if_end : ℕ → List Answer → World → Act
 if_end node (control ∷ []) world = controlled node control world

@@ -1,5 +1,6 @@
 -- What a node does on the world once its parts have answered: expressions (C11 6.5), calls (6.5.2.2, 6.9.1), declarations (6.7).
-use Rattle.std.specs.Prelude.{ℕ, suc, ◌-◌, pos, nat_le, Bool, Some, None, Result, Ok, Err, List, [], ◌∷◌, ◌++◌, map, take, if◌then◌else◌}
+use Rattle.std.specs.Prelude.{ℕ, suc, ◌-◌, pos, nat_le, Bool, Option, Some, None, Result, Ok, Err, List, [], ◌∷◌, ◌++◌, map, take, if◌then◌else◌}
+use Rattle.std.specs.List.{list_any}
 use Rattle.cr_ints.specs.declared.kind.IntKind.TheVariants.{Int as IntegerKind}
 use Rattle.cr_memory.specs.declared.value.Cell.{Cell}
 use Rattle.cr_memory.specs.declared.value.Trap.{Trap}
@@ -8,9 +9,9 @@ use Rattle.cr_memory.specs.Memory.{Object, Memory, zero_of}
 use Rattle.cr_memory.specs.Access.{object_at, with_cells}
 use Rattle.cr_meaning.specs.Language.{Acted, went, halts}
 use Rattle.cr_meaning.specs.Events.{Event, Order, Beside, Sequence, Arguments, clash, gathered, operands_clash}
-use Rattle.cr_meaning.specs.World.{Program, World, Answer, part, next, returned, Halt, stopped, exited, untyped, then_by, object_for, enter_object, marked, closed}
+use Rattle.cr_meaning.specs.World.{Program, World, Answer, part, next, returned, Halt, stopped, exited, untyped, unused_value, then_by, object_for, enter_object, marked, closed}
 use Rattle.cr_meaning.specs.Values.{cells_in, converted, cells_of_value}
-use Rattle.cr_meaning.specs.Work.{Did, work_of}
+use Rattle.cr_meaning.specs.Work.{Did, is_nothing, work_of}
 use Rattle.cr_meaning.specs.Library.{Called, printf_of, putchar_of, exit_of}
 use Rattle.cr_meaning.specs.Turns.{last_of}
 use Rattle.cr_meaning.specs.declared.op.Op.{Op}
@@ -94,11 +95,15 @@ expression p node op done world =
 -- ---- calls (6.5.2.2, 6.9.1)
 
 -- the arguments are converted to the parameters' types, as if by assignment (6.5.2.2p7)
+abbrev pub converted_all : Memory → List Parameter → List Value → Result (List Value) Trap
+converted_all memory [] [] = Ok []
+converted_all memory (parameter ∷ parameters) (value ∷ rest) =
+    then_by (converted memory parameter.form value) (λ one. then_by (converted_all memory parameters rest) (λ others. Ok (one ∷ others)))
+converted_all memory parameters other = Err untyped
+
+-- U15 of any of them comes first
 abbrev pub arguments : Memory → List Parameter → List Value → Result (List Value) Trap
-arguments memory [] [] = Ok []
-arguments memory (parameter ∷ parameters) (value ∷ rest) =
-    then_by (converted memory parameter.form value) (λ one. then_by (arguments memory parameters rest) (λ others. Ok (one ∷ others)))
-arguments memory parameters other = Err untyped
+arguments memory parameters given = if list_any is_nothing given then Err unused_value else converted_all memory parameters given
 
 -- a parameter is an object that begins with its argument (6.9.1p10)
 abbrev pub with_argument : Program → Parameter → Value → Object
@@ -157,13 +162,24 @@ initial p memory line (Place at) = Ok (take (cells_in p line.form) (object_at me
 initial p memory line value = then_by (converted memory line.form value) (λ new. Ok (cells_of_value new))
 
 -- the parts that are set, each from its cell on; a case is at the declarator or the braced list that uses the value
-abbrev pub initials : Program → Memory → List Line → List Value → Result (List (ℕ × List Cell)) (Trap × ℕ)
-initials p memory (line ∷ lines) (value ∷ rest) = elim (initial p memory line value) as (λ _. Result (List (ℕ × List Cell)) (Trap × ℕ)) [
+abbrev pub set_parts : Program → Memory → List Line → List Value → Result (List (ℕ × List Cell)) (Trap × ℕ)
+set_parts p memory (line ∷ lines) (value ∷ rest) = elim (initial p memory line value) as (λ _. Result (List (ℕ × List Cell)) (Trap × ℕ)) [
   | Err trap ↦ Err (trap, line.user)
-  | Ok cells ↦ elim (initials p memory lines rest) as (λ _. Result (List (ℕ × List Cell)) (Trap × ℕ))
+  | Ok cells ↦ elim (set_parts p memory lines rest) as (λ _. Result (List (ℕ × List Cell)) (Trap × ℕ))
       [ Ok others ↦ Ok ((line.cell, cells) ∷ others) | Err case ↦ Err case ]
 ]
-initials p memory lines rest = Ok []
+set_parts p memory lines rest = Ok []
+
+-- what uses the first initialiser without a value
+abbrev pub unused_in : List Line → List Value → Option ℕ
+unused_in (line ∷ lines) (Nothing ∷ rest) = Some line.user
+unused_in (line ∷ lines) (value ∷ rest) = unused_in lines rest
+unused_in lines rest = None
+
+-- U15 of any of them comes first
+abbrev pub initials : Program → Memory → List Line → List Value → Result (List (ℕ × List Cell)) (Trap × ℕ)
+initials p memory lines given = elim (unused_in lines given) as (λ _. Result (List (ℕ × List Cell)) (Trap × ℕ))
+    [ Some user ↦ Err (unused_value, user) | None ↦ set_parts p memory lines given ]
 
 abbrev pub with_parts : Memory → ℕ → List (ℕ × List Cell) → Memory
 with_parts memory object [] = memory

@@ -163,7 +163,7 @@ changed memory (Arithmetic op kind) Nothing right = Err unused_value
 changed memory (Arithmetic op kind) left Nothing = Err unused_value
 changed memory (Arithmetic op kind) left right = Err untyped
 
--- a pointer that is compared, or a null pointer constant (6.5.9p5)
+-- a pointer, or a null pointer constant, which becomes one (6.3.2.3p3, 6.5.9p5)
 abbrev pub as_pointer : Value → Result Pointer Trap
 as_pointer (Pointing pointer) = Ok pointer
 as_pointer (Number kind value) = Ok Null

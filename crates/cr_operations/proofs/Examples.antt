@@ -541,3 +541,27 @@ file_lawful_1 : (u : Unit) (h : length file_lawful_1_tokens ≤ u.tokens.list.ca
     → verdict (1 ∷ 1 ∷ 1 ∷ 1 ∷ 1 ∷ 1 ∷ 1 ∷ 1 ∷ 1 ∷ 1 ∷ 1 ∷ 1 ∷ 1 ∷ 1 ∷ 1 ∷ 1 ∷ 1 ∷ 1 ∷ 1 ∷ 1 ∷ 1 ∷ 1 ∷ 1 ∷ 1 ∷ 1 ∷ 1 ∷ 1 ∷ []) (program_of (typed (made u file_lawful_1_tokens file_lawful_1_nodes h w b n i) (record { file = (99 ∷ 104 ∷ 97 ∷ 114 ∷ 32 ∷ 115 ∷ 32 ∷ 91 ∷ 32 ∷ 93 ∷ 32 ∷ 61 ∷ 32 ∷ 34 ∷ 97 ∷ 98 ∷ 34 ∷ 32 ∷ 44 ∷ 32 ∷ 42 ∷ 32 ∷ 116 ∷ 32 ∷ 61 ∷ 32 ∷ 34 ∷ 99 ∷ 100 ∷ 34 ∷ 32 ∷ 59 ∷ 32 ∷ 105 ∷ 110 ∷ 116 ∷ 32 ∷ 109 ∷ 97 ∷ 105 ∷ 110 ∷ 32 ∷ 40 ∷ 32 ∷ 41 ∷ 32 ∷ 123 ∷ 32 ∷ 115 ∷ 32 ∷ 91 ∷ 32 ∷ 48 ∷ 32 ∷ 93 ∷ 32 ∷ 61 ∷ 32 ∷ 116 ∷ 32 ∷ 91 ∷ 32 ∷ 49 ∷ 32 ∷ 93 ∷ 32 ∷ 59 ∷ 32 ∷ 114 ∷ 101 ∷ 116 ∷ 117 ∷ 114 ∷ 110 ∷ 32 ∷ 115 ∷ 32 ∷ 91 ∷ 32 ∷ 50 ∷ 32 ∷ 93 ∷ 32 ∷ 59 ∷ 32 ∷ 125 ∷ []); shapes = (shape Unknown false false ∷ shape (ctype.Int ints.Char) false false ∷ shape (Array 1 3) false false ∷ shape (ctype.Int ints.Int) false false ∷ shape (Pointer 1) false false ∷ shape (Function 26) false false ∷ []); types = column 27 0 ((3, 2) ∷ (7, 2) ∷ (13, 2) ∷ (14, 3) ∷ (15, 1) ∷ (16, 4) ∷ (17, 3) ∷ (18, 1) ∷ (19, 1) ∷ (21, 2) ∷ (22, 3) ∷ (23, 1) ∷ []); refs = column 27 None ((1, (Some (1))) ∷ (5, (Some (5))) ∷ (11, (Some (11))) ∷ (13, (Some (1))) ∷ (16, (Some (5))) ∷ (21, (Some (1))) ∷ []); valued = column 27 false ((7, true) ∷ (13, true) ∷ (16, true) ∷ (18, true) ∷ (21, true) ∷ (23, true) ∷ []); named = column 27 0 ((1, 2) ∷ (5, 4) ∷ (11, 5) ∷ (24, 3) ∷ []); durations = column 27 duration.NoObject ((1, duration.Static) ∷ (5, duration.Static) ∷ []); constants = column 27 None ((14, (Some (pos 0))) ∷ (17, (Some (pos 1))) ∷ (22, (Some (pos 2))) ∷ []); layouts = column 27 NOTHING []; members = column 27 [] []; chosen = column 27 0 []; parameters = column 27 [] ((0, ([])) ∷ (1, ([])) ∷ (2, ([])) ∷ (3, ([])) ∷ (4, ([])) ∷ (5, ([])) ∷ (6, ([])) ∷ (7, ([])) ∷ (8, ([])) ∷ (9, ([])) ∷ (10, ([])) ∷ (11, ([])) ∷ (12, ([])) ∷ (13, ([])) ∷ (14, ([])) ∷ (15, ([])) ∷ (16, ([])) ∷ (17, ([])) ∷ (18, ([])) ∷ (19, ([])) ∷ (20, ([])) ∷ (21, ([])) ∷ (22, ([])) ∷ (23, ([])) ∷ (24, ([])) ∷ (25, ([])) ∷ (26, ([])) ∷ []); plans = column 27 [] ((4, (put 3 0 2 4 ∷ [])) ∷ (8, (put 7 0 4 8 ∷ [])) ∷ []); texts = column 27 [] ((0, ([])) ∷ (1, ([])) ∷ (2, ([])) ∷ (3, (97 ∷ 98 ∷ 0 ∷ [])) ∷ (4, ([])) ∷ (5, ([])) ∷ (6, ([])) ∷ (7, (99 ∷ 100 ∷ 0 ∷ [])) ∷ (8, ([])) ∷ (9, ([])) ∷ (10, ([])) ∷ (11, ([])) ∷ (12, ([])) ∷ (13, ([])) ∷ (14, ([])) ∷ (15, ([])) ∷ (16, ([])) ∷ (17, ([])) ∷ (18, ([])) ∷ (19, ([])) ∷ (20, ([])) ∷ (21, ([])) ∷ (22, ([])) ∷ (23, ([])) ∷ (24, ([])) ∷ (25, ([])) ∷ (26, ([])) ∷ []); main = 26 })) (record { steps = 3000; depth = 256; cells = 1048576; output = 65536 })) ≡ fine 0 []
 unfolding body played pieces_of types_of type_at
 file_lawful_1 = λ u h w b n i. refl
+
+-- int main(void) { return "\xff"[0] == -1; }
+abbrev file_high_byte_tokens : List Token
+file_high_byte_tokens = (token 0 3 ∷ token 4 8 ∷ token 8 9 ∷ token 9 13 ∷ token 13 14 ∷ token 15 16 ∷ token 17 23 ∷ token 24 30 ∷ token 30 31 ∷ token 31 32 ∷ token 32 33 ∷ token 34 36 ∷ token 37 38 ∷ token 38 39 ∷ token 39 40 ∷ token 41 42 ∷ [])
+
+abbrev file_high_byte_nodes : List Node
+file_high_byte_nodes = (node kind.Specifiers 0 0 ([]) ∷ node kind.NameDeclarator 1 1 ([]) ∷ node kind.FunctionDeclarator 1 4 (1 ∷ []) ∷ node kind.Text 7 7 ([]) ∷ node kind.Integer 9 9 ([]) ∷ node kind.Subscript 7 10 (3 ∷ 4 ∷ []) ∷ node kind.Integer 13 13 ([]) ∷ node kind.Minus 12 13 (6 ∷ []) ∷ node kind.Equal 7 13 (5 ∷ 7 ∷ []) ∷ node kind.Return 6 14 (8 ∷ []) ∷ node kind.Compound 5 15 (9 ∷ []) ∷ node kind.FunctionDefinition 0 15 (0 ∷ 2 ∷ 10 ∷ []) ∷ [])
+
+file_high_byte : (u : Unit) (h : length file_high_byte_tokens ≤ u.tokens.list.cap) (w : AreWithin (length file_high_byte_tokens) file_high_byte_nodes) (b : PartsAreBelow file_high_byte_nodes) (n : NamedOnce file_high_byte_nodes []) (i : ItemsAreNodes file_high_byte_nodes [])
+    → verdict (1 ∷ 1 ∷ 1 ∷ 1 ∷ 1 ∷ 1 ∷ 1 ∷ 1 ∷ 1 ∷ 1 ∷ 1 ∷ 1 ∷ []) (program_of (typed (made u file_high_byte_tokens file_high_byte_nodes h w b n i) (record { file = (105 ∷ 110 ∷ 116 ∷ 32 ∷ 109 ∷ 97 ∷ 105 ∷ 110 ∷ 40 ∷ 118 ∷ 111 ∷ 105 ∷ 100 ∷ 41 ∷ 32 ∷ 123 ∷ 32 ∷ 114 ∷ 101 ∷ 116 ∷ 117 ∷ 114 ∷ 110 ∷ 32 ∷ 34 ∷ 92 ∷ 120 ∷ 102 ∷ 102 ∷ 34 ∷ 91 ∷ 48 ∷ 93 ∷ 32 ∷ 61 ∷ 61 ∷ 32 ∷ 45 ∷ 49 ∷ 59 ∷ 32 ∷ 125 ∷ []); shapes = (shape Unknown false false ∷ shape (ctype.Int ints.Char) false false ∷ shape (Array 1 2) false false ∷ shape (ctype.Int ints.Int) false false ∷ shape (Function 11) false false ∷ []); types = column 12 0 ((3, 2) ∷ (4, 3) ∷ (5, 1) ∷ (6, 3) ∷ (7, 3) ∷ (8, 3) ∷ []); refs = column 12 None ((1, (Some (1))) ∷ []); valued = column 12 false ((3, true) ∷ (5, true) ∷ []); named = column 12 0 ((1, 4) ∷ (9, 3) ∷ []); durations = column 12 duration.NoObject []; constants = column 12 None ((4, (Some (pos 0))) ∷ (6, (Some (pos 1))) ∷ []); layouts = column 12 NOTHING []; members = column 12 [] []; chosen = column 12 0 []; parameters = column 12 [] []; plans = column 12 [] []; texts = column 12 [] ((3, (255 ∷ 0 ∷ [])) ∷ []); main = 11 })) (record { steps = 3000; depth = 256; cells = 1048576; output = 65536 })) ≡ fine 1 []
+unfolding body played pieces_of types_of type_at
+file_high_byte = λ u h w b n i. refl
+
+-- int printf(const char *, ...); volatile char s[2]; int main(void) { printf("%s", s); return 0; }
+abbrev file_volatile_text_tokens : List Token
+file_volatile_text_tokens = (token 0 3 ∷ token 4 10 ∷ token 10 11 ∷ token 11 16 ∷ token 17 21 ∷ token 22 23 ∷ token 23 24 ∷ token 25 28 ∷ token 28 29 ∷ token 29 30 ∷ token 31 39 ∷ token 40 44 ∷ token 45 46 ∷ token 46 47 ∷ token 47 48 ∷ token 48 49 ∷ token 49 50 ∷ token 51 54 ∷ token 55 59 ∷ token 59 60 ∷ token 60 64 ∷ token 64 65 ∷ token 66 67 ∷ token 68 74 ∷ token 74 75 ∷ token 75 79 ∷ token 79 80 ∷ token 81 82 ∷ token 82 83 ∷ token 83 84 ∷ token 85 91 ∷ token 92 93 ∷ token 93 94 ∷ token 95 96 ∷ [])
+
+abbrev file_volatile_text_nodes : List Node
+file_volatile_text_nodes = (node kind.Specifiers 0 0 ([]) ∷ node kind.NameDeclarator 1 1 ([]) ∷ node kind.Specifiers 3 4 ([]) ∷ node kind.FunctionDeclarator 1 8 (1 ∷ []) ∷ node kind.Declaration 0 9 (0 ∷ 3 ∷ []) ∷ node kind.Specifiers 10 11 ([]) ∷ node kind.NameDeclarator 12 12 ([]) ∷ node kind.Integer 14 14 ([]) ∷ node kind.ArrayDeclarator 12 15 (6 ∷ 7 ∷ []) ∷ node kind.Declaration 10 16 (5 ∷ 8 ∷ []) ∷ node kind.Specifiers 17 17 ([]) ∷ node kind.NameDeclarator 18 18 ([]) ∷ node kind.FunctionDeclarator 18 21 (11 ∷ []) ∷ node kind.Text 25 25 ([]) ∷ node kind.Identifier 27 27 ([]) ∷ node kind.Call 23 28 (13 ∷ 14 ∷ []) ∷ node kind.ExpressionStatement 23 29 (15 ∷ []) ∷ node kind.Integer 31 31 ([]) ∷ node kind.Return 30 32 (17 ∷ []) ∷ node kind.Compound 22 33 (16 ∷ 18 ∷ []) ∷ node kind.FunctionDefinition 17 33 (10 ∷ 12 ∷ 19 ∷ []) ∷ [])
+
+file_volatile_text : (u : Unit) (h : length file_volatile_text_tokens ≤ u.tokens.list.cap) (w : AreWithin (length file_volatile_text_tokens) file_volatile_text_nodes) (b : PartsAreBelow file_volatile_text_nodes) (n : NamedOnce file_volatile_text_nodes []) (i : ItemsAreNodes file_volatile_text_nodes [])
+    → verdict (1 ∷ 1 ∷ 1 ∷ 1 ∷ 1 ∷ 1 ∷ 1 ∷ 1 ∷ 1 ∷ 1 ∷ 1 ∷ 1 ∷ 1 ∷ 1 ∷ 1 ∷ 1 ∷ 1 ∷ 1 ∷ 1 ∷ 1 ∷ 1 ∷ []) (program_of (typed (made u file_volatile_text_tokens file_volatile_text_nodes h w b n i) (record { file = (105 ∷ 110 ∷ 116 ∷ 32 ∷ 112 ∷ 114 ∷ 105 ∷ 110 ∷ 116 ∷ 102 ∷ 40 ∷ 99 ∷ 111 ∷ 110 ∷ 115 ∷ 116 ∷ 32 ∷ 99 ∷ 104 ∷ 97 ∷ 114 ∷ 32 ∷ 42 ∷ 44 ∷ 32 ∷ 46 ∷ 46 ∷ 46 ∷ 41 ∷ 59 ∷ 32 ∷ 118 ∷ 111 ∷ 108 ∷ 97 ∷ 116 ∷ 105 ∷ 108 ∷ 101 ∷ 32 ∷ 99 ∷ 104 ∷ 97 ∷ 114 ∷ 32 ∷ 115 ∷ 91 ∷ 50 ∷ 93 ∷ 59 ∷ 32 ∷ 105 ∷ 110 ∷ 116 ∷ 32 ∷ 109 ∷ 97 ∷ 105 ∷ 110 ∷ 40 ∷ 118 ∷ 111 ∷ 105 ∷ 100 ∷ 41 ∷ 32 ∷ 123 ∷ 32 ∷ 112 ∷ 114 ∷ 105 ∷ 110 ∷ 116 ∷ 102 ∷ 40 ∷ 34 ∷ 37 ∷ 115 ∷ 34 ∷ 44 ∷ 32 ∷ 115 ∷ 41 ∷ 59 ∷ 32 ∷ 114 ∷ 101 ∷ 116 ∷ 117 ∷ 114 ∷ 110 ∷ 32 ∷ 48 ∷ 59 ∷ 32 ∷ 125 ∷ []); shapes = (shape Unknown false false ∷ shape (ctype.Int ints.Char) false false ∷ shape (Array 1 3) false false ∷ shape (ctype.Int ints.Int) false false ∷ shape (Function 1) false false ∷ shape (ctype.Int ints.Char) false true ∷ shape (Array 5 2) false false ∷ shape (Function 20) false false ∷ []); types = column 21 0 ((7, 3) ∷ (13, 2) ∷ (14, 6) ∷ (15, 3) ∷ (17, 3) ∷ []); refs = column 21 None ((1, (Some (1))) ∷ (6, (Some (6))) ∷ (11, (Some (11))) ∷ (14, (Some (6))) ∷ (15, (Some (1))) ∷ []); valued = column 21 false ((13, true) ∷ (14, true) ∷ []); named = column 21 0 ((1, 4) ∷ (6, 6) ∷ (11, 7) ∷ (18, 3) ∷ []); durations = column 21 duration.NoObject ((6, duration.Static) ∷ []); constants = column 21 None ((7, (Some (pos 2))) ∷ (17, (Some (pos 0))) ∷ []); layouts = column 21 NOTHING []; members = column 21 [] []; chosen = column 21 0 []; parameters = column 21 [] []; plans = column 21 [] []; texts = column 21 [] ((13, (37 ∷ 115 ∷ 0 ∷ [])) ∷ []); main = 20 })) (record { steps = 3000; depth = 256; cells = 1048576; output = 65536 })) ≡ undefined 16 1
+unfolding body played pieces_of types_of type_at
+file_volatile_text = λ u h w b n i. refl

@@ -1,10 +1,10 @@
 -- What each node of a typed unit does (C11 6.5, 6.7.9, 6.8), and the program that the unit is.
-use Rattle.std.specs.Prelude.{ℕ, zero, suc, ◌+◌, ◌==◌, ℤ, pos, Bool, true, false, ◌&&◌, ◌||◌, Option, Some, None, List, [], ◌∷◌, ◌++◌, map, drop, length, codes, slice_get, slice_index_or, slice_range, if◌then◌else◌}
+use Rattle.std.specs.Prelude.{ℕ, zero, suc, ◌+◌, ◌==◌, ℤ, pos, Bool, true, false, not, ◌&&◌, ◌||◌, Option, Some, None, List, [], ◌∷◌, ◌++◌, map, drop, length, codes, slice_get, slice_index_or, slice_range, if◌then◌else◌}
 use Rattle.std.specs.List.{flat_map, filter}
 use Rattle.std.specs.Str.{bytes_eq}
 use Rattle.cr_ints.specs.declared.kind.IntKind.{IntKind}
 use Rattle.cr_ints.specs.declared.kind.IntKind.TheVariants.{Int as IntegerKind, Char as CharKind}
-use Rattle.cr_ints.specs.Conversions.{promote_of, common_of}
+use Rattle.cr_ints.specs.Conversions.{convert_of, promote_of, common_of}
 use Rattle.cr_memory.specs.declared.value.Scalar.{Scalar}
 use Rattle.cr_memory.specs.declared.value.Scalar.TheVariants as scalar
 use Rattle.cr_memory.specs.declared.value.Guard.{Guard}
@@ -253,8 +253,9 @@ abbrev pub function_of : Typed → ℕ → Callee
 function_of t definition =
     callee.Function (map (parameter_of t) (slice_index_or t.parameters definition [])) (part_at t definition 2) (definition == t.main)
 
+-- a pointer to char, also to a const one; a volatile one isn't what `%s` may read (6.7.3p6)
 abbrev pub is_text : Qualified → Bool
-is_text (pointer c v (plain (Int CharKind) d w)) = true
+is_text (pointer c v (plain (Int CharKind) d w)) = not w
 is_text type = false
 
 abbrev pub callee_of : Typed → ℕ → Callee
@@ -434,8 +435,7 @@ abbrev pub nodes_from : (ℕ → Kind → Bool) → ℕ → List Node → List �
 nodes_from test number [] = []
 nodes_from test number (node ∷ nodes) = if test number node.kind then number ∷ nodes_from test (suc number) nodes else nodes_from test (suc number) nodes
 
--- an object of static duration at its first declaration, or a literal: each is one token or one run of them, so the order of the nodes
--- is that of the tokens
+-- an object of static duration at its first declaration, or a literal; the order of the nodes is taken for that of their tokens
 abbrev pub is_lasting : Typed → ℕ → Kind → Bool
 is_lasting t node kind.Text = true
 is_lasting t node kind.NameDeclarator = is_static t node && (entity_of t node == node)
@@ -455,9 +455,9 @@ unit_op t = node_op (nodes_from (is_static_initialiser t) 0 t.unit.nodes)
     (work.Program (nodes_from (is_lasting t) 0 t.unit.nodes) (map (parameter_of t) (slice_index_or t.parameters t.main []))
     (strings_of t (slice_index_or t.parameters t.main [])) (part_at t t.main 2))
 
--- a literal's bytes as chars
+-- a literal's bytes as values of char (6.4.5p6), which is signed
 abbrev pub byte_cell : ℕ → Cell
-byte_cell byte = Number (pos byte)
+byte_cell byte = Number (convert_of (pos byte) CharKind)
 
 abbrev pub literal_by : Typed → ℕ → Kind → Option (List Cell)
 literal_by t node kind.Text = Some (map byte_cell (slice_index_or t.texts node []))
