@@ -1,8 +1,8 @@
 -- What was asked about the file, and what it was answered.
-use Rattle.std.proofs.Common.{◌≡◌, ◌≢◌, inl, inr, ℕ, Bool, true, false, List, [], ◌∷◌, Option, refl, ap, subst, ◌∙◌, sym}
+use Rattle.std.proofs.Common.{◌≡◌, ◌≢◌, inl, inr, ℕ, Bool, true, false, List, [], ◌∷◌, Option, refl, ap, subst, sym}
 use Rattle.cr_outside.specs.declared.judge.Answer.{Answer}
 use Rattle.cr_outside.specs.declared.judge.Answer.TheVariants.{Yes, No, Failed, NoMemory}
-use Rattle.cr_outside.specs.Judge.{Call, call_of}
+use Rattle.cr_outside.specs.Judge.{Call}
 use Rattle.cr_outside.specs.Question.{AnswersAsTold, AsksOnce}
 use Rattle.cr_reduce.specs.Bench.{AsksFirst, CallsAbout, GoesOn, Judging}
 use Rattle.cr_reduce.specs.Trials.{AnswerInRun}

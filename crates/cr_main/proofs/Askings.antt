@@ -1,5 +1,5 @@
 -- What the test is asked, from what a run comes to.
-use Rattle.std.proofs.Common.{◌≡◌, ℕ, List, ap, subst, sym}
+use Rattle.std.proofs.Common.{◌≡◌, ℕ, List, subst, sym}
 use Rattle.cr_outside.specs.Question.{Says as Telling}
 use Rattle.cr_reduce.specs.Bench.{CallsAbout, Judging}
 use Rattle.cr_words.specs.Words.{Word}

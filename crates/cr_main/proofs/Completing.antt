@@ -1,8 +1,6 @@
 -- Completeness, from what a run comes to.
 use Rattle.std.proofs.Common.{◌≡◌, ◌⊎◌, inl, inr, ◌+◌, ◌*◌, ◌≤◌, ℕ, Bool, true, false, List, length, Option, Some, None, refl, sym, subst, arith}
 use Rattle.std.proofs.Math.Nat.{mul-le-mul}
-use Rattle.cr_cursor.specs.TokenLaw.{IsTokenized}
-use Rattle.cr_outside.specs.Faults.{Rose}
 use Rattle.cr_outside.proofs.Counts.{rose_earlier}
 use Rattle.cr_outside.specs.Question.{AnswersAsTold, Says as Telling}
 use Rattle.cr_outside.specs.Test.{one_test_answer}
@@ -16,7 +14,6 @@ use Rattle.cr_reduce.specs.declared.end.Why.TheVariants.{Fixed, Limit, Fault, No
 use Rattle.cr_reduce.specs.Bound.{HasLevels, enough_turns}
 use Rattle.cr_reduce.specs.Ends.{FaultsWithCause}
 use Rattle.cr_reduce.specs.Reduction.{Within}
-use Rattle.cr_reduce.specs.Search.{Search}
 use Rattle.cr_reduce.specs.Sizes.{HasSize}
 use Rattle.cr_reduce.proofs.Bounds.{in_time}
 use Rattle.cr_reduce.proofs.Runs.{rose_at-earlier}
@@ -24,7 +21,7 @@ use Rattle.cr_reduce.proofs.Sizes.{size_by_length}
 use Rattle.cr_words.specs.Words.{Word}
 use Rattle.cr_main.specs.Headline.{Completes, HasAll, enough_for}
 use Rattle.cr_main.specs.Messages.{copy_name, log_name}
-use Rattle.cr_main.specs.Outside.{Fails, IsUnchanged, Outside, Puts, Says}
+use Rattle.cr_main.specs.Outside.{Fails, IsUnchanged, Outside, Says}
 use Rattle.cr_main.specs.Outside.Fails.{call_failed, starved}
 use Rattle.cr_main.specs.Outside.Says.{said_whole, said_cut, said_starved}
 use Rattle.cr_main.specs.Run.{Causes, Concludes, Finishes, IsReduction, Runs, RunsTask, end_status}

@@ -1,5 +1,5 @@
 -- What stands at 8 and 10, from what a run comes to.
-use Rattle.std.proofs.Common.{◌≡◌, ◌⊎◌, inl, inr, ℕ, Bool, List, refl, sym, ap, subst, ◌∙◌, arith}
+use Rattle.std.proofs.Common.{◌≡◌, ◌⊎◌, inl, inr, ℕ, Bool, List, sym, ap, subst, ◌∙◌, arith}
 use Rattle.cr_log.specs.Texts.{log_text_of, summary_text_of}
 use Rattle.cr_outside.specs.Question.{Says as Telling}
 use Rattle.cr_reduce.specs.Bench.{Judging}
@@ -8,7 +8,7 @@ use Rattle.cr_main.specs.Headline.{HasEnded, HasFinished}
 use Rattle.cr_main.specs.Headline.HasEnded.{finished, untested}
 use Rattle.cr_main.specs.Messages.{copy_name, log_name}
 use Rattle.cr_main.specs.Outside.{Fails, IsUnchanged, Outside, Puts, Says, saved}
-use Rattle.cr_main.specs.Run.{Finishes, IsReduction, Runs, RunsTask, end_status}
+use Rattle.cr_main.specs.Run.{Finishes, IsReduction, Runs, end_status}
 use Rattle.cr_main.specs.Run.Concludes.{unfinished, unwritten, unlogged, summed_up}
 use Rattle.cr_main.specs.Run.Finishes.{unstarted, uncopied, reduced}
 use Rattle.cr_main.specs.Run.Runs.{no_settings, on_task, unsorted}

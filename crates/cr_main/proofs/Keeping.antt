@@ -1,5 +1,5 @@
 -- What holds of the files at every status, from what a run comes to.
-use Rattle.std.proofs.Common.{◌≡◌, inl, inr, ℕ, Bool, true, false, List, refl, ap, subst, ◌∙◌}
+use Rattle.std.proofs.Common.{◌≡◌, inl, inr, ℕ, Bool, true, false, List, refl, ap, ◌∙◌}
 use Rattle.cr_log.specs.Texts.{log_text_of}
 use Rattle.cr_outside.specs.Files.{put_told}
 use Rattle.cr_outside.specs.Question.{Says as Telling}

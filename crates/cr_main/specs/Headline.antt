@@ -1,5 +1,5 @@
 -- What a run promises, in a few words: each follows from what it comes to, step by step.
-use Rattle.std.specs.Prelude.{◌≡◌, ◌≢◌, ◌⊎◌, ◌+◌, ◌*◌, ℕ, true, false, List, Option, Some, None, length}
+use Rattle.std.specs.Prelude.{◌≡◌, ◌≢◌, ◌⊎◌, ◌+◌, ◌*◌, ℕ, true, List, Option, length}
 use Rattle.cr_log.specs.Texts.{log_text_of, summary_text_of}
 use Rattle.cr_outside.specs.Faults.{Rose}
 use Rattle.cr_outside.specs.Files.{Names, put_told}

@@ -22,7 +22,15 @@ use std::alloc::{AllocError, Global};
 use std::thread::Threads;
 
 /// Saves the copy, reduces, and saves what came of it.
-pub fn copy_and_reduce<R: Threads + Sync, P: Passes + Sync, L: Law + Sync, Q: Question + Sync, F: Files, J: Judge + Send, O: Sink>(
+pub fn copy_and_reduce<
+    R: Threads + Sync,
+    P: Passes + Sync,
+    L: Law + Sync,
+    Q: Question + Sync,
+    F: Files,
+    J: Judge + Send,
+    O: Sink,
+>(
     rt: &R,
     alloc: Global,
     task: &Task<'_, P, L, Q>,

@@ -21,7 +21,15 @@ use std::thread::Threads;
 const MOST: usize = 1_048_577;
 
 /// Reads the file, and runs on its bytes.
-pub fn run_stored<R: Threads + Sync, P: Passes + Sync, L: Law + Sync, Q: Question + Sync, F: Files, J: Judge + Send, O: Sink>(
+pub fn run_stored<
+    R: Threads + Sync,
+    P: Passes + Sync,
+    L: Law + Sync,
+    Q: Question + Sync,
+    F: Files,
+    J: Judge + Send,
+    O: Sink,
+>(
     rt: &R,
     alloc: Global,
     task: &Task<'_, P, L, Q>,
@@ -49,7 +57,15 @@ where
 }
 
 /// Runs on these bytes.
-pub fn run_bytes<R: Threads + Sync, P: Passes + Sync, L: Law + Sync, Q: Question + Sync, F: Files, J: Judge + Send, O: Sink>(
+pub fn run_bytes<
+    R: Threads + Sync,
+    P: Passes + Sync,
+    L: Law + Sync,
+    Q: Question + Sync,
+    F: Files,
+    J: Judge + Send,
+    O: Sink,
+>(
     rt: &R,
     alloc: Global,
     task: &Task<'_, P, L, Q>,
@@ -79,7 +95,15 @@ where
 }
 
 // Asks the test about lawful bytes, and reduces them where it says yes.
-fn ask_test<R: Threads + Sync, P: Passes + Sync, L: Law + Sync, Q: Question + Sync, F: Files, J: Judge + Send, O: Sink>(
+fn ask_test<
+    R: Threads + Sync,
+    P: Passes + Sync,
+    L: Law + Sync,
+    Q: Question + Sync,
+    F: Files,
+    J: Judge + Send,
+    O: Sink,
+>(
     rt: &R,
     alloc: Global,
     task: &Task<'_, P, L, Q>,

@@ -1,5 +1,5 @@
 -- What an epoch of the pool says, in the words of the reduction.
-use Rattle.std.proofs.Common.{◌≡◌, ◌⊎◌, inl, inr, ℕ, zero, suc, ◌+◌, ◌-◌, ◌<◌, ◌≤◌, Bool, true, false, All, List, [], ◌∷◌, map, length, slice_index_or, Option, Some, None, get_or, refl, sym, ap, subst, ◌∙◌, arith}
+use Rattle.std.proofs.Common.{◌≡◌, ℕ, zero, suc, ◌+◌, ◌-◌, ◌<◌, ◌≤◌, Bool, All, List, [], ◌∷◌, map, length, slice_index_or, Option, Some, None, get_or, refl, sym, ap, subst, ◌∙◌, arith}
 use Rattle.std.proofs.lemmas.List.{length-map}
 use Rattle.std.proofs.lemmas.List.Elements.{All-cons, All-nil}
 use Rattle.std.proofs.lemmas.Option.{slice_get-get_or}
@@ -16,7 +16,6 @@ use Rattle.cr_pool.specs.declared.job.EpochEnd.{EpochEnd}
 use Rattle.cr_pool.specs.declared.job.EpochEnd.TheVariants as ending
 use Rattle.cr_pool.specs.Epoch.{Answered, AreAbout, AsksAt, AsksOnce, EndsBy, Epoch, RejectedBelow, bytes_at, variant_at}
 use Rattle.cr_pool.specs.Epoch.Answered.{given, was_kept}
-use Rattle.cr_pool.specs.Jobs.{IsJudged}
 use Rattle.cr_pool.specs.Kept.{Kept}
 use Rattle.cr_pool.specs.Tally.{first_says, tallies_of, tally_at, tally_of}
 use Rattle.cr_pool.specs.Trials.{HasCalled, IsAccepted, IsRejected}

@@ -8,7 +8,6 @@ use Rattle.cr_reduce.specs.declared.end.Accepted.{Accepted}
 use Rattle.cr_reduce.specs.declared.end.Why.{Why}
 use Rattle.cr_reduce.specs.declared.end.Why.TheVariants.{Fixed, Limit, Fault}
 use Rattle.cr_cursor.specs.Variants.{Offer}
-use Rattle.cr_reduce.specs.Sizes.{HasSize}
 use Rattle.cr_reduce.specs.Reduction.{FailedTrials, Proposals, Trial, cursors_of, AllRejected, State, Outcome, Reduces, moved, taken, next_round, ends, Within}
 use Rattle.cr_reduce.specs.Reduction.Reduces.{new_round, fixed, spent, short, accepts, rejects, fails}
 

@@ -1,5 +1,5 @@
 -- Calls in a run: lists of calls that go on, and answers that stay given.
-use Rattle.std.proofs.Common.{◌≡◌, ◌≢◌, ◌≤◌, ℕ, zero, suc, ◌+◌, Bool, true, false, All, List, [], ◌∷◌, ◌++◌, map, length, drop, ◌<◌, Option, Some, None, subst, sym, ap, ◌∙◌, refl, append_assoc, inl, inr, arith}
+use Rattle.std.proofs.Common.{◌≡◌, ◌≢◌, ◌≤◌, ℕ, zero, suc, Bool, true, false, List, [], ◌∷◌, ◌++◌, map, length, drop, ◌<◌, Option, Some, None, subst, sym, ap, ◌∙◌, refl, append_assoc, inl, inr, arith}
 use Rattle.std.proofs.lemmas.List.{append-nil}
 use Rattle.std.proofs.lemmas.List.Elements.{All-nil, All-push, All-append}
 use Rattle.cr_outside.specs.declared.judge.Answer.{Answer}

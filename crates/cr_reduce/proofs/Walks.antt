@@ -1,12 +1,12 @@
 -- The numbers of a walk, and what its steps complete.
-use Rattle.std.proofs.Common.{◌≡◌, ◌≢◌, ◌⊎◌, inl, inr, ℕ, ◌+◌, ◌*◌, ◌<◌, ◌≤◌, Bool, true, false, IsSome, List, length, Option, Some, None, ap, subst, sym, refl, arith}
+use Rattle.std.proofs.Common.{◌≡◌, ℕ, ◌+◌, ◌*◌, ◌<◌, ◌≤◌, Bool, true, false, List, length, Option, Some, None, subst, sym, refl, arith}
 use Rattle.cr_outside.specs.declared.judge.Answer.TheVariants.{Yes, No}
 use Rattle.std.specs.List.{slice_get}
 use Rattle.cr_cursor.specs.declared.passes.Cursor.{Cursor}
 use Rattle.cr_cursor.specs.Variants.{Offer}
 use Rattle.cr_reduce.specs.Bench.{GoesOn, Judging}
 use Rattle.cr_pool.specs.Trials.IsRejected.{not_smaller, unlawful, answered_no}
-use Rattle.cr_reduce.specs.Reduction.{AllRejected, IsFirstAccepted, State, Within, cursors_of, moved, taken, next_round}
+use Rattle.cr_reduce.specs.Reduction.{AllRejected, IsFirstAccepted, State, Within, cursors_of, moved, next_round}
 use Rattle.cr_reduce.specs.Reduction.Reduces.{accepts, new_round}
 use Rattle.cr_reduce.specs.Search.{Search, AcceptsInRun, FailsInRun, RejectsInRun}
 use Rattle.cr_reduce.specs.declared.end.Why.{Why}

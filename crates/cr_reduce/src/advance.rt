@@ -59,13 +59,17 @@ where
     if plan.limit == Some(walk.turns) {
         return Some(Why::Limit);
     }
-    look(
-        rt, alloc, passes, law, question, bench, name, plan, walk,
-    )
+    look(rt, alloc, passes, law, question, bench, name, plan, walk)
 }
 
 /// Goes on until the walk ends, and says why.
-pub fn walk_on<R: Threads + Sync, P: Passes + Sync, L: Law + Sync, Q: Question + Sync, J: Judge + Send>(
+pub fn walk_on<
+    R: Threads + Sync,
+    P: Passes + Sync,
+    L: Law + Sync,
+    Q: Question + Sync,
+    J: Judge + Send,
+>(
     rt: &R,
     alloc: Global,
     passes: &P,
@@ -92,9 +96,7 @@ where
     ensures silent { Q.asks question.now ≡ false → bench.new.judges ≡ bench.old.judges }
 {
     loop {
-        let step = advance(
-            rt, alloc, passes, law, question, bench, name, plan, walk,
-        );
+        let step = advance(rt, alloc, passes, law, question, bench, name, plan, walk);
         if let Some(why) = step {
             return why;
         }

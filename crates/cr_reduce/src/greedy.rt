@@ -20,7 +20,13 @@ use std::thread::Threads;
 
 /// Reduces a lawful file: each accepted variant becomes the file, until a round accepts nothing, the turns reach the
 /// limit, the test fails, or no memory is left.
-pub fn reduce<R: Threads + Sync, P: Passes + Sync, L: Law + Sync, Q: Question + Sync, J: Judge + Send>(
+pub fn reduce<
+    R: Threads + Sync,
+    P: Passes + Sync,
+    L: Law + Sync,
+    Q: Question + Sync,
+    J: Judge + Send,
+>(
     rt: &R,
     alloc: Global,
     passes: &P,

@@ -31,7 +31,13 @@ fn length_of(plan: &Plan, left: u64, turns: u64) -> u64
 }
 
 /// Tries the walk's next positions by the workers.
-fn try_next<R: Threads + Sync, P: Passes + Sync, L: Law + Sync, Q: Question + Sync, J: Judge + Send>(
+fn try_next<
+    R: Threads + Sync,
+    P: Passes + Sync,
+    L: Law + Sync,
+    Q: Question + Sync,
+    J: Judge + Send,
+>(
     rt: &R,
     alloc: Global,
     passes: &P,
@@ -75,7 +81,13 @@ where
 }
 
 /// Looks at the walk's next positions, and goes on to where the epoch ended, or says why the walk ends.
-pub fn look<R: Threads + Sync, P: Passes + Sync, L: Law + Sync, Q: Question + Sync, J: Judge + Send>(
+pub fn look<
+    R: Threads + Sync,
+    P: Passes + Sync,
+    L: Law + Sync,
+    Q: Question + Sync,
+    J: Judge + Send,
+>(
     rt: &R,
     alloc: Global,
     passes: &P,

@@ -9,8 +9,8 @@ use cr_pool::Bench;
 use cr_reduce::Accepted;
 use std::alloc::{AllocError, Global};
 use std::process::Abort;
-use std::thread::Threads;
 use std::test::Fail;
+use std::thread::Threads;
 
 /// What a run is started on, and what is wanted of it.
 #[derive(Clone, Copy)]
@@ -446,7 +446,11 @@ fn rehearsed(alloc: Global, judge: Rehearsed) -> Result<Bench<Rehearsed>, AllocE
 }
 
 // Each case with its judge, who fails at any call that it doesn't await.
-fn expect_all(rt: &(impl Abort + Threads + Sync), alloc: Global, cases: &[Case]) -> Result<(), AllocError> {
+fn expect_all(
+    rt: &(impl Abort + Threads + Sync),
+    alloc: Global,
+    cases: &[Case],
+) -> Result<(), AllocError> {
     for case in cases {
         let judge = Rehearsed::new("w.sh", "abc.c", case.calls);
         let mut bench = rehearsed(alloc, judge)?;

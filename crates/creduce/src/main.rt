@@ -57,7 +57,12 @@ fn reduce(rt: &HostRuntime, threads: &(impl Threads + Sync)) -> Result<u8, Alloc
     let mut files = StdFiles::new(rt);
     let mut out = StdOut::new(rt);
     Ok(run(
-        threads, rt.alloc(), &words, &mut files, &mut bench, &mut out,
+        threads,
+        rt.alloc(),
+        &words,
+        &mut files,
+        &mut bench,
+        &mut out,
     ))
 }
 

@@ -1,5 +1,5 @@
 use Rattle.std.proofs.Common.{refl, subst}
-use Rattle.cr_reduce.specs.Bench.{judging, says_of}
+use Rattle.cr_reduce.specs.Bench.{judging}
 use Rattle.cr_reduce.specs.Search.{searching}
 use Rattle.cr_reduce.specs.Sizes.{HasSize}
 use Rattle.cr_main.specs.Messages.{copy_name}

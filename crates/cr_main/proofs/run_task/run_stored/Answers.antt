@@ -1,4 +1,4 @@
-use Rattle.std.proofs.Common.{arith, refl}
+use Rattle.std.proofs.Common.{refl}
 use Rattle.cr_reduce.specs.Bench.{judging, says_of}
 use Rattle.cr_main.specs.Outside.{outside}
 use Rattle.cr_main.specs.Run.HasAsked.{asked_nothing}

@@ -1,7 +1,6 @@
-use Rattle.std.proofs.Common.{◌≡◌, ap, refl, subst, sym, ◌∙◌, arith}
+use Rattle.std.proofs.Common.{refl, subst, ◌∙◌}
 use Rattle.cr_outside.specs.Question.{Says}
 use Rattle.cr_reduce.specs.Bench.{judging}
-use Rattle.cr_reduce.specs.Reduction.{cursors_of}
 use Rattle.cr_reduce.specs.Search.{search_of, searching}
 use Rattle.cr_reduce.specs.Walk.{Advances, AsksOnlyTried, EndsHere, GoesOver, state_of}
 use Rattle.cr_reduce.proofs.Traces.{walked-refl, walked-step, walked-end}

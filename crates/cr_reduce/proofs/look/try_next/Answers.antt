@@ -1,4 +1,4 @@
-use Rattle.std.proofs.Common.{◌≡◌, List, length, arith}
+use Rattle.std.proofs.Common.{List, arith}
 use Rattle.cr_pool.specs.Epoch.{EndsBy, Epoch}
 use Rattle.cr_pool.specs.Jobs.{IsJudged}
 use Rattle.cr_pool.specs.Tally.{tallies_of}

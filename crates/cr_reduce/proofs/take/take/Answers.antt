@@ -1,4 +1,4 @@
-use Rattle.std.proofs.Common.{◌≡◌, ◌<◌, ◌≤◌, length, subst, sym, arith}
+use Rattle.std.proofs.Common.{◌≡◌, ◌<◌, ◌≤◌, length, subst, arith}
 use Rattle.cr_reduce.specs.Sizes.{HasSize}
 use Rattle.cr_cursor.specs.Variants.{cursors, place_of}
 use Rattle.cr_cursor.proofs.Members.{of_cursors, place_within}
