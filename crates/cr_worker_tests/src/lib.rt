@@ -1,4 +1,4 @@
-//! The tests of `cr_core` and `cr_claims`, by public names alone.
+//! The tests of `cr_core`, `cr_claims` and `cr_pool`, by public names alone.
 //!
 //! They stand above these crates, so that neither proves its functions once more for its tests. It promises nothing, and
 //! stands on the crates that it tests.
@@ -6,6 +6,8 @@
 
 #[cfg(test)]
 mod claiming;
+#[cfg(test)]
+mod epochs;
 #[cfg(test)]
 mod events;
 #[cfg(test)]

@@ -1,0 +1,338 @@
+// Epochs of a lines pass over three lines. From position 13 on its variants are the last line, the first two, the last two, the outer
+// two, and the first two once more.
+ghost use Rattle.std.specs.Prelude.{◌≡◌, ◌≤◌, IfOk, None, length};
+ghost use Rattle.cr_pool.specs.Bench.{IsManned};
+ghost use Rattle.cr_pool.specs.Jobs.{IsPlaced};
+
+use cr_cursor::{Law, NoMemory, Passes, Reason, Ruling, Stop, TokenLaw, positions};
+use cr_outside::{Answer, Judge, Test};
+use cr_passes::CPasses;
+use cr_pool::{Bench, EpochEnd, Job, measure};
+use std::alloc::Global;
+use std::process::Abort;
+use std::sync::atomic::{AtomicU64, Ordering};
+use std::test::Fail;
+use std::thread;
+use std::thread::Threads;
+
+const LINES: &[u8] = b"int a;\nint b;\nint c;\n";
+
+const LAST: &[u8] = b"int c;\n";
+
+const FIRST_TWO: &[u8] = b"int a;\nint b;\n";
+
+const LAST_TWO: &[u8] = b"int b;\nint c;\n";
+
+// The end of the epoch of `len` positions from 13 on, by all of these judges.
+fn epoch<R: Threads + Abort + Sync, L: Law + Sync, J: Judge + Send + Drop>(
+    rt: &R,
+    alloc: Global,
+    law: &L,
+    judges: Vec<J>,
+    len: u64,
+) -> Result<EpochEnd, NoMemory>
+    requires manned { IsManned J.key judges.items }
+    requires few { len ≤ 5 }
+{
+    let passes = CPasses::lines();
+    let prep = passes.prepare(alloc, LINES)?;
+    let question = Test::Program(String::from_str(alloc, "t")?);
+    assert!(rt; positions(&passes, &prep) == 18);
+    let size = match measure(alloc, LINES)? {
+        Some(size) => size,
+        None => panic!(rt; "the lines have no size"),
+    };
+    let workers = judges.len() as u32;
+    let mut bench = Bench::new(alloc, judges)?;
+    let job = Job {
+        passes: &passes,
+        prep: &prep,
+        law,
+        question: &question,
+        name: "t.c",
+        file: LINES,
+        size,
+        start: 13,
+        len,
+        workers,
+    };
+    Ok(bench.epoch(rt, alloc, &job))
+}
+
+// Whether a count reaches a number while it is looked at many times.
+fn reaches(count: &AtomicU64, wanted: u64) -> bool {
+    for _ in 0..10_000_000 {
+        if count.load(Ordering::SeqCst) >= wanted {
+            return true;
+        }
+        thread::yield_now();
+    }
+    false
+}
+
+// Says no, and the call that begins first ends only once another has begun.
+#[derive(Drop)]
+struct Meeting<'a> {
+    begun: &'a AtomicU64,
+    missed: &'a AtomicU64,
+    asked: u64,
+}
+
+impl<'a> Judge for Meeting<'a> {
+    type Key = ();
+
+    ghost key = { λ _. tt };
+
+    ghost says = { λ _ _ _ _. None };
+
+    ghost asked = { λ j. j.asked };
+
+    ghost calls = { λ _. None };
+
+    ghost faults = { λ _. 0 };
+
+    fn ask(&mut self, _alloc: Global, _test: &str, _name: &str, _file: &[u8]) -> Answer {
+        self.asked = self.asked.saturating_add(1);
+        if self.begun.fetch_add(1, Ordering::SeqCst) == 0 && !reaches(self.begun, 2) {
+            self.missed.store(1, Ordering::SeqCst);
+        }
+        Answer::No
+    }
+}
+
+#[test]
+fn trials_run_at_once(rt: HostRuntime) -> Result<(), Fail> {
+    let begun = AtomicU64::new(0);
+    let missed = AtomicU64::new(0);
+    let mut judges = Vec::with_capacity(rt.alloc(), 2)?;
+    judges.push(Meeting {
+        begun: &begun,
+        missed: &missed,
+        asked: 0,
+    })?;
+    judges.push(Meeting {
+        begun: &begun,
+        missed: &missed,
+        asked: 0,
+    })?;
+    let end = epoch(&rt, rt.alloc(), &TokenLaw, judges, 5)?;
+    assert!(rt; end == EpochEnd::NoneOf(5));
+    assert!(rt; missed.load(Ordering::SeqCst) == 0);
+    Ok(())
+}
+
+// Finds every file lawful but one; on that one it raises a flag, and looks many times whether it is to stop.
+#[derive(Drop)]
+struct Waiting<'a> {
+    unlawful: &'a [u8],
+    flag: &'a AtomicU64,
+    stopped: &'a AtomicU64,
+}
+
+impl<'a> Law for Waiting<'a> {
+    ghost lawful = { λ law file. law.unlawful.now ≡ file → ⊥ };
+
+    ghost reasons = { λ _ _ _. Unit {0} };
+
+    fn rule<S: Stop>(&self, _alloc: Global, file: &[u8], stop: &mut S) -> Ruling {
+        if self.unlawful != file {
+            return Ruling::Lawful;
+        }
+        self.flag.store(1, Ordering::SeqCst);
+        for _ in 0..10_000_000 {
+            if stop.stop() {
+                self.stopped.store(1, Ordering::SeqCst);
+                return Ruling::Stopped;
+            }
+            thread::yield_now();
+        }
+        Ruling::Unlawful(Reason::Token(2, 1))
+    }
+}
+
+// Says yes once the flag is raised.
+#[derive(Drop)]
+struct Following<'a> {
+    flag: &'a AtomicU64,
+    asked: u64,
+}
+
+impl<'a> Judge for Following<'a> {
+    type Key = ();
+
+    ghost key = { λ _. tt };
+
+    ghost says = { λ _ _ _ _. None };
+
+    ghost asked = { λ j. j.asked };
+
+    ghost calls = { λ _. None };
+
+    ghost faults = { λ _. 0 };
+
+    fn ask(&mut self, _alloc: Global, _test: &str, _name: &str, _file: &[u8]) -> Answer {
+        self.asked = self.asked.saturating_add(1);
+        if reaches(self.flag, 1) {
+            Answer::Yes
+        } else {
+            Answer::No
+        }
+    }
+}
+
+fn waiting_epoch<R: Threads + Abort + Sync>(
+    rt: &R,
+    alloc: Global,
+    flag: &AtomicU64,
+    stopped: &AtomicU64,
+) -> Result<EpochEnd, NoMemory> {
+    let mut judges = Vec::with_capacity(alloc, 2)?;
+    judges.push(Following { flag, asked: 0 })?;
+    judges.push(Following { flag, asked: 0 })?;
+    epoch(
+        rt,
+        alloc,
+        &Waiting {
+            unlawful: FIRST_TWO,
+            flag,
+            stopped,
+        },
+        judges,
+        2,
+    )
+}
+
+#[test]
+fn a_law_is_told_of_a_lower_hit(rt: HostRuntime) -> Result<(), Fail> {
+    let flag = AtomicU64::new(0);
+    let stopped = AtomicU64::new(0);
+    let end = waiting_epoch(&rt, rt.alloc(), &flag, &stopped)?;
+    assert!(rt; end == EpochEnd::Found(13, LAST.to_vec(rt.alloc())?));
+    assert!(rt; stopped.load(Ordering::SeqCst) == 1);
+    Ok(())
+}
+
+// Answers by the file, after a delay: the last line, the first two, the last two, any other file.
+#[derive(Drop)]
+struct Chance {
+    last: Answer,
+    first_two: Answer,
+    last_two: Answer,
+    other: Answer,
+    delay: u64,
+    asked: u64,
+    faults: u64,
+}
+
+impl Judge for Chance {
+    type Key = ();
+
+    ghost key = { λ _. tt };
+
+    ghost says = { λ _ _ _ _. None };
+
+    ghost asked = { λ j. j.asked };
+
+    ghost calls = { λ _. None };
+
+    ghost faults = { λ j. j.faults };
+
+    fn ask(&mut self, _alloc: Global, _test: &str, _name: &str, file: &[u8]) -> Answer {
+        self.asked = self.asked.saturating_add(1);
+        for _ in 0..self.delay {
+            thread::yield_now();
+        }
+        let answer = if file == LAST {
+            self.last
+        } else if file == FIRST_TWO {
+            self.first_two
+        } else if file == LAST_TWO {
+            self.last_two
+        } else {
+            self.other
+        };
+        if answer == Answer::Failed {
+            self.faults = self.faults.saturating_add(1);
+        }
+        answer
+    }
+}
+
+// One of the answers Yes, No and Failed, No as often as the others together.
+fn drawn(seed: u64, place: u32) -> Answer {
+    match seed.wrapping_shr(place) % 4 {
+        0 => Answer::Yes,
+        1 => Answer::Failed,
+        _ => Answer::No,
+    }
+}
+
+// What one worker that tries the positions in order comes to: at which of the five it ends, and how.
+fn in_order(seed: u64) -> (u64, Answer) {
+    let answers = [
+        drawn(seed, 20),
+        drawn(seed, 30),
+        drawn(seed, 40),
+        drawn(seed, 50),
+        drawn(seed, 30),
+    ];
+    for (i, answer) in answers.iter().enumerate() {
+        if *answer != Answer::No {
+            return (13 + i as u64, *answer);
+        }
+    }
+    (18, Answer::No)
+}
+
+// Whether an epoch ended as it does in order.
+fn ends_so(end: &EpochEnd, wanted: (u64, Answer)) -> bool {
+    match end {
+        EpochEnd::NoneOf(n) => *n == 5 && wanted == (18, Answer::No),
+        EpochEnd::Found(at, _) => wanted == (*at, Answer::Yes),
+        EpochEnd::Fault(at, _) => wanted == (*at, Answer::Failed),
+        EpochEnd::NoMemory => false,
+    }
+}
+
+fn judges_of(alloc: Global, seed: u64, count: u64) -> Result<Vec<Chance>, NoMemory>
+    requires { count ≤ 32 }
+    ensures { IfOk result (λ judges. length judges.items ≡ count) }
+{
+    let mut judges = Vec::with_capacity(alloc, 32)?;
+    for worker in 0..count {
+        judges.push(Chance {
+            last: drawn(seed, 20),
+            first_two: drawn(seed, 30),
+            last_two: drawn(seed, 40),
+            other: drawn(seed, 50),
+            delay: seed.wrapping_add(worker.wrapping_mul(7)) % 13,
+            asked: 0,
+            faults: 0,
+        })?;
+    }
+    Ok(judges)
+}
+
+#[test]
+fn a_thousand_epochs_end_as_in_order(rt: HostRuntime) -> Result<(), Fail> {
+    let mut seed: u64 = 30;
+    for turn in 0..1000 {
+        seed = seed
+            .wrapping_mul(6_364_136_223_846_793_005)
+            .wrapping_add(1_442_695_040_888_963_407);
+        let count = match turn % 5 {
+            0 => 1,
+            1 => 2,
+            2 => 3,
+            3 => 8,
+            _ => 32,
+        };
+        let judges = judges_of(rt.alloc(), seed, count)?;
+        let end = epoch(&rt, rt.alloc(), &TokenLaw, judges, 5)?;
+        assert!(rt;
+            ends_so(&end, in_order(seed)),
+            "epoch {turn} of seed {seed}"
+        );
+    }
+    Ok(())
+}
