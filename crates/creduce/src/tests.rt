@@ -65,7 +65,7 @@ fn a_real_file_is_reduced_beside_its_copy_and_its_log(rt: HostRuntime) -> io::Re
         files.write(alloc, AFTER[0].0, AFTER[1].1.as_bytes()),
         Ok(())
     );
-    assert_eq!(rt; run(alloc, &list, &mut files, &mut bench, &mut out), 0);
+    assert_eq!(rt; run(&rt, alloc, &list, &mut files, &mut bench, &mut out), 0);
     for (name, text) in AFTER {
         assert!(rt; reads(files.read(alloc, name, 99), text), "{name}");
         fs::remove_file(&rt, name)?;
