@@ -11,4 +11,8 @@ mod rehearsed;
 #[cfg(test)]
 mod runs;
 #[cfg(test)]
+mod tables;
+#[cfg(test)]
 mod words;
+#[cfg(test)]
+mod workers;

@@ -1,252 +1,110 @@
 // Reductions by the lines pass. What is wanted was found by hand from the rules of the pass and of the reduction.
-use cr_cursor::{Cursor, TokenLaw};
-use cr_outside::{Answer, Scripted, Test};
+use crate::rehearsed::Knowing;
+use crate::tables::{Case, cases, tell};
+use cr_cursor::TokenLaw;
+use cr_outside::Test;
 use cr_passes::CPasses;
 use cr_pool::Bench;
-use cr_reduce::{Accepted, End, Plan, Why, reduce};
+use cr_reduce::{End, Plan, Why, reduce};
 use cr_tokens::read;
 use std::alloc::{AllocError, Global};
+use std::test::Fail;
 use std::thread::Threads;
 
-/// A file, the user's test, and what the judge answers about some files and about all others.
-struct Setup {
-    text: &'static str,
-    test: &'static str,
-    rows: &'static [(&'static str, Answer)],
-    other: Answer,
-}
+/// What a case's judge says of files stands in its calls. What is wanted: each acceptance by pass, level, index, size and turn,
+/// the turns, why it ends, and the file.
+const CASES: &str = "\
+what three lines
+before int a;␊int b;␊int c;␊
+test has:b
+limit none
+end 0 13 1 68 15, 0 14 0 34 16, 32 fixed
+after int b;␊
 
-/// What is wanted of a reduction under a limit.
-struct Wanted {
-    limit: Option<u64>,
-    after: &'static str,
-    accepted: &'static [Accepted],
-    turns: u64,
-    why: Why,
-}
+what turns enough
+limit 32
 
-const THREE: &str = "int a;\nint b;\nint c;\n";
+what one turn too few
+limit 31
+end 0 13 1 68 15, 0 14 0 34 16, 31 limit
 
-const A_AND_B: &str = "int a;\nint b;\n";
+what fifteen turns
+limit 15
+end 0 13 1 68 15, 15 limit
+after int a;␊int b;␊
 
-const THREE_LINES: Setup = Setup {
-    text: THREE,
-    test: "has:b",
-    rows: &[],
-    other: Answer::Failed,
-};
+what no turn
+limit 0
+end 0 limit
+after int a;␊int b;␊int c;␊
 
-/// The last of two chunks of two lines goes.
-const FIRST_STEP: Accepted = Accepted {
-    at: Cursor {
-        pass: 0,
-        level: 13,
-        index: 1,
-    },
-    size: 68,
-    turn: 15,
-};
+what a judge that says yes to two files
+test t
+call 1 yes int a;␊int b;␊
+call 1 yes int b;␊
 
-/// Of the two lines that are left the first goes.
-const SECOND_STEP: Accepted = Accepted {
-    at: Cursor {
-        pass: 0,
-        level: 14,
-        index: 0,
-    },
-    size: 34,
-    turn: 16,
-};
+what a judge that fails where the first chunk of two lines is gone
+test w.sh
+call 1 failed int c;␊
+end 13 fault 14 0
+after same
 
-const TWO_STEPS: [Accepted; 2] = [FIRST_STEP, SECOND_STEP];
+what a variant that doesn't tokenise is rejected, whatever the judge would say of it
+before int a; /*␊*/ int b;␊
+test t
+call 1 yes int a; /*␊
+end 16 fixed
+after same
 
-const ONE_STEP: [Accepted; 1] = [FIRST_STEP];
+what of the empty file there are no variants
+before ␊␊␊
+test t
+call 1 yes ∅
+end 0 0 0 0 1, 1 fixed
+after ∅
 
-const LIMITS: [Wanted; 5] = [
-    Wanted {
-        limit: None,
-        after: "int b;\n",
-        accepted: &TWO_STEPS,
-        turns: 32,
-        why: Why::Fixed,
-    },
-    Wanted {
-        limit: Some(32),
-        after: "int b;\n",
-        accepted: &TWO_STEPS,
-        turns: 32,
-        why: Why::Fixed,
-    },
-    Wanted {
-        limit: Some(31),
-        after: "int b;\n",
-        accepted: &TWO_STEPS,
-        turns: 31,
-        why: Why::Limit,
-    },
-    Wanted {
-        limit: Some(15),
-        after: A_AND_B,
-        accepted: &ONE_STEP,
-        turns: 15,
-        why: Why::Limit,
-    },
-    Wanted {
-        limit: Some(0),
-        after: THREE,
-        accepted: &[],
-        turns: 0,
-        why: Why::Limit,
-    },
-];
+what one line without its end
+before int b;
+end 15 fixed
+after same
 
-const CASES: [(Setup, Wanted); 6] = [
-    // A judge says yes to two files, and no to all others.
-    (
-        Setup {
-            text: THREE,
-            test: "t",
-            rows: &[(A_AND_B, Answer::Yes), ("int b;\n", Answer::Yes)],
-            other: Answer::No,
-        },
-        Wanted {
-            limit: None,
-            after: "int b;\n",
-            accepted: &TWO_STEPS,
-            turns: 32,
-            why: Why::Fixed,
-        },
-    ),
-    // The judge fails where the first chunk of two lines is gone.
-    (
-        Setup {
-            text: THREE,
-            test: "w.sh",
-            rows: &[("int c;\n", Answer::Failed)],
-            other: Answer::No,
-        },
-        Wanted {
-            limit: None,
-            after: THREE,
-            accepted: &[],
-            turns: 13,
-            why: Why::Fault(14, 0),
-        },
-    ),
-    // A variant that doesn't tokenise is rejected, whatever the judge would say of it.
-    (
-        Setup {
-            text: "int a; /*\n*/ int b;\n",
-            test: "t",
-            rows: &[("int a; /*\n", Answer::Yes)],
-            other: Answer::No,
-        },
-        Wanted {
-            limit: None,
-            after: "int a; /*\n*/ int b;\n",
-            accepted: &[],
-            turns: 16,
-            why: Why::Fixed,
-        },
-    ),
-    // Of the empty file there are no variants.
-    (
-        Setup {
-            text: "\n\n\n",
-            test: "t",
-            rows: &[],
-            other: Answer::Yes,
-        },
-        Wanted {
-            limit: None,
-            after: "",
-            accepted: &[Accepted {
-                at: Cursor {
-                    pass: 0,
-                    level: 0,
-                    index: 0,
-                },
-                size: 0,
-                turn: 1,
-            }],
-            turns: 1,
-            why: Why::Fixed,
-        },
-    ),
-    (
-        Setup {
-            text: "int b;",
-            test: "has:b",
-            rows: &[],
-            other: Answer::Failed,
-        },
-        Wanted {
-            limit: None,
-            after: "int b;",
-            accepted: &[],
-            turns: 15,
-            why: Why::Fixed,
-        },
-    ),
-    // The last line has no LF.
-    (
-        Setup {
-            text: "int b;\nint c;",
-            test: "has:c",
-            rows: &[],
-            other: Answer::Failed,
-        },
-        Wanted {
-            limit: None,
-            after: "int c;",
-            accepted: &[Accepted {
-                at: Cursor {
-                    pass: 0,
-                    level: 14,
-                    index: 0,
-                },
-                size: 33,
-                turn: 15,
-            }],
-            turns: 31,
-            why: Why::Fixed,
-        },
-    ),
-];
+what the last line has no end
+before int b;␊int c;
+test has:c
+end 0 14 0 33 15, 31 fixed
+after int c;
+";
 
-fn judge(alloc: Global, setup: &Setup) -> Result<Scripted, AllocError> {
-    let mut rows = Vec::new(alloc);
-    for (file, answer) in setup.rows {
-        rows.push((file.as_bytes().to_vec(alloc)?, *answer))?;
+// How a reduction ended, but for its file.
+fn told(alloc: Global, end: &End) -> Result<String, Fail> {
+    let mut told = String::new(alloc);
+    tell(&mut told, end.accepted.as_slice())?;
+    write!(told, "{} ", end.turns)?;
+    match end.why {
+        Why::Fixed => write!(told, "fixed")?,
+        Why::Limit => write!(told, "limit")?,
+        Why::Fault(turn, worker) => write!(told, "fault {turn} {worker}")?,
+        Why::NoMemory => write!(told, "no memory")?,
     }
-    Ok(Scripted::new(alloc, rows, setup.other, Vec::new(alloc)))
+    Ok(told)
 }
 
-fn bench(alloc: Global, setup: &Setup) -> Result<Bench<Scripted>, AllocError> {
-    let mut judges = Vec::new(alloc);
-    judges.push(judge(alloc, setup)?)?;
-    Bench::new(alloc, judges)
-}
-
-// The end of a reduction, where the text tokenises and the test is one.
+// The end of a case's reduction, where its file tokenises and the test is one.
 fn end_of(
     rt: &(impl Threads + Sync),
     alloc: Global,
-    setup: &Setup,
-    limit: Option<u64>,
+    case: &Case,
+    plan: &Plan,
 ) -> Result<Option<End>, AllocError> {
-    let Ok(test) = Test::read(alloc, setup.test) else {
+    let Ok(test) = Test::read(alloc, case.told("test")) else {
         return Ok(None);
     };
-    let mut bench = bench(alloc, setup)?;
-    let file = setup.text.as_bytes().to_vec(alloc)?;
+    let mut judges = Vec::new(alloc);
+    judges.push(Knowing::new(case.calls(alloc)?))?;
+    let mut bench = Bench::new(alloc, judges)?;
+    let file = case.before(alloc)?;
     let Ok(_tokens) = read(alloc, &file) else {
         return Ok(None);
-    };
-    let plan = Plan {
-        workers: 1,
-        window: 1,
-        limit,
     };
     let end = reduce(
         rt,
@@ -257,7 +115,7 @@ fn end_of(
         &mut bench,
         "abc.c",
         file,
-        &plan,
+        plan,
     );
     Ok(Some(end))
 }
@@ -265,32 +123,29 @@ fn end_of(
 fn ends_so(
     rt: &(impl Threads + Sync),
     alloc: Global,
-    setup: &Setup,
-    wanted: &Wanted,
-) -> Result<bool, AllocError> {
-    let Some(end) = end_of(rt, alloc, setup, wanted.limit)? else {
+    case: &Case,
+    window: u32,
+) -> Result<bool, Fail> {
+    let plan = Plan {
+        workers: 1,
+        window,
+        limit: case.told("limit").parse().ok(),
+    };
+    let Some(end) = end_of(rt, alloc, case, &plan)? else {
         return Ok(false);
     };
-    Ok(
-        end.file.as_slice() == wanted.after.as_bytes()
-            && end.accepted.as_slice() == wanted.accepted
-            && end.turns == wanted.turns
-            && end.why == wanted.why,
-    )
+    let found = told(alloc, &end)?;
+    Ok(found.as_str() == case.told("end") && end.file == case.bytes(alloc, "after")?)
 }
 
 #[test]
-fn three_lines_go_step_by_step_up_to_the_limit(rt: HostRuntime) -> Result<(), AllocError> {
-    for wanted in &LIMITS {
-        assert!(rt; ends_so(&rt, rt.alloc(), &THREE_LINES, wanted)?);
-    }
-    Ok(())
-}
-
-#[test]
-fn small_files_are_reduced_by_their_tests(rt: HostRuntime) -> Result<(), AllocError> {
-    for (setup, wanted) in &CASES {
-        assert!(rt; ends_so(&rt, rt.alloc(), setup, wanted)?);
+fn small_files_are_reduced_by_their_tests(rt: HostRuntime) -> Result<(), Fail> {
+    let alloc = rt.alloc();
+    for case in cases(alloc, CASES)? {
+        for window in [1, 8, 256] {
+            let so = ends_so(&rt, alloc, &case, window)?;
+            assert!(rt; so, "{} by windows of {window}", case.told("what"));
+        }
     }
     Ok(())
 }

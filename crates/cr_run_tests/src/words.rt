@@ -1,5 +1,5 @@
 // The command line. What is wanted was found by hand from its rules.
-use super::rehearsed::Rehearsed;
+use crate::rehearsed::Rehearsed;
 use cr_main::run;
 use cr_outside::{MemFiles, MemSink, Test};
 use cr_pool::Bench;
@@ -155,7 +155,7 @@ fn words_give_their_settings_or_none(rt: HostRuntime) -> Result<(), Fail> {
 fn status_of(rt: &(impl Threads + Sync), alloc: Global, line: &str) -> Result<u8, Fail> {
     let list = list_of(alloc, line)?;
     let mut judges = Vec::new(alloc);
-    judges.push(Rehearsed::new("", "", &[]))?;
+    judges.push(Rehearsed::new("", "", Vec::new(alloc)))?;
     let mut bench = Bench::new(alloc, judges)?;
     let mut files = MemFiles::new(Vec::new(alloc), Vec::new(alloc));
     let mut out = MemSink::new(alloc, Vec::new(alloc));

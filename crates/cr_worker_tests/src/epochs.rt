@@ -294,6 +294,68 @@ fn ends_so(end: &EpochEnd, wanted: (u64, Answer)) -> bool {
     }
 }
 
+/// What the judges say of the last line, the first two, the last two and any other file, yes, no or failed, and where the
+/// epoch ends, and how: at the first position that isn't rejected, whatever is said behind it.
+const ROWS: &str = "\
+nnnn 18 n
+nynn 14 y
+nyfn 14 y
+yfff 13 y
+fyyy 13 f
+nnyf 15 y
+nnfn 15 f
+nnny 16 y
+";
+
+fn said(letter: Option<&u8>) -> Answer {
+    match letter {
+        Some(b'y') => Answer::Yes,
+        Some(b'f') => Answer::Failed,
+        _ => Answer::No,
+    }
+}
+
+fn judges_by(alloc: Global, letters: &[u8], count: u64) -> Result<Vec<Chance>, NoMemory>
+    requires { count ≤ 32 }
+    ensures { IfOk result (λ judges. length judges.items ≡ count) }
+{
+    let mut judges = Vec::with_capacity(alloc, 32)?;
+    for _ in 0..count {
+        judges.push(Chance {
+            last: said(letters.first()),
+            first_two: said(letters.get(1)),
+            last_two: said(letters.get(2)),
+            other: said(letters.get(3)),
+            delay: 0,
+            asked: 0,
+            faults: 0,
+        })?;
+    }
+    Ok(judges)
+}
+
+#[test]
+fn an_epoch_ends_by_the_first_position_not_rejected(rt: HostRuntime) -> Result<(), Fail> {
+    for row in ROWS.lines() {
+        let letters = row.as_bytes();
+        let at = row
+            .split_whitespace()
+            .nth(1)
+            .unwrap_or("")
+            .parse()
+            .unwrap_or(0);
+        for count in [1, 2, 3] {
+            let judges = judges_by(rt.alloc(), letters, count)?;
+            let end = epoch(&rt, rt.alloc(), &TokenLaw, judges, 5)?;
+            assert!(rt;
+                ends_so(&end, (at, said(letters.last()))),
+                "{row} by {count}"
+            );
+        }
+    }
+    Ok(())
+}
+
 fn judges_of(alloc: Global, seed: u64, count: u64) -> Result<Vec<Chance>, NoMemory>
     requires { count ≤ 32 }
     ensures { IfOk result (λ judges. length judges.items ≡ count) }

@@ -1,0 +1,255 @@
+// Runs by several workers on real threads.
+ghost use Rattle.std.specs.Prelude.{◌≤◌, None};
+
+use crate::runs::content;
+use cr_main::run;
+use cr_outside::{Answer, Judge, MemFiles, MemSink};
+use cr_pool::Bench;
+use std::alloc::{AllocError, Global};
+use std::sync::atomic::{AtomicU64, Ordering};
+use std::test::Fail;
+use std::thread;
+use std::thread::Threads;
+
+/// What a run comes to, but for its status: what it puts, and the three files.
+type Outcome = (
+    u8,
+    Vec<u8>,
+    Option<Vec<u8>>,
+    Option<Vec<u8>>,
+    Option<Vec<u8>>,
+);
+
+// The words `--workers=N`, `--window=N`, and those of the text.
+fn words_of(
+    alloc: Global,
+    workers: u64,
+    window: u64,
+    text: &str,
+) -> Result<Vec<String>, AllocError> {
+    let mut words = Vec::new(alloc);
+    words.push(format!(in alloc; "--workers={workers}")?)?;
+    words.push(format!(in alloc; "--window={window}")?)?;
+    for word in text.split_whitespace() {
+        words.push(String::from_str(alloc, word)?)?;
+    }
+    Ok(words)
+}
+
+// A run on the file `t.c`.
+fn outcome<J: Judge + Send>(
+    rt: &(impl Threads + Sync),
+    alloc: Global,
+    words: &[String],
+    file: &[u8],
+    bench: &mut Bench<J>,
+) -> Result<Outcome, AllocError> {
+    let mut pairs = Vec::new(alloc);
+    pairs.push((String::from_str(alloc, "t.c")?, file.to_vec(alloc)?))?;
+    let mut files = MemFiles::new(pairs, Vec::new(alloc));
+    let mut out = MemSink::new(alloc, Vec::new(alloc));
+    let status = run(rt, alloc, words, &mut files, bench, &mut out);
+    Ok((
+        status,
+        out.bytes().to_vec(alloc)?,
+        content(alloc, &mut files, "t.c"),
+        content(alloc, &mut files, "t.c.orig"),
+        content(alloc, &mut files, "t.c.log"),
+    ))
+}
+
+/// Two lines and main, of which a judge that says no keeps all.
+const KEPT: &[u8] = b"int a;\nint b;\nint main(){}\n";
+
+const KEPT_LOG: &[u8] = b"end fixed 132 18\n";
+
+// Says yes to the first call and no to all others. The call that begins second ends only once a third one has begun.
+#[derive(Drop)]
+struct Waiting<'a> {
+    begun: &'a AtomicU64,
+    missed: &'a AtomicU64,
+    asked: u64,
+}
+
+impl<'a> Waiting<'a> {
+    fn waits_in_vain(&self) -> bool {
+        for _ in 0..10_000_000 {
+            if self.begun.load(Ordering::SeqCst) >= 3 {
+                return false;
+            }
+            thread::yield_now();
+        }
+        true
+    }
+}
+
+impl<'a> Judge for Waiting<'a> {
+    type Key = ();
+
+    ghost key = { λ _. tt };
+
+    ghost says = { λ _ _ _ _. None };
+
+    ghost asked = { λ j. j.asked };
+
+    ghost calls = { λ _. None };
+
+    ghost faults = { λ _. 0 };
+
+    fn ask(&mut self, _alloc: Global, _test: &str, _name: &str, _file: &[u8]) -> Answer {
+        self.asked = self.asked.saturating_add(1);
+        match self.begun.fetch_add(1, Ordering::SeqCst) {
+            0 => return Answer::Yes,
+            1 if self.waits_in_vain() => self.missed.store(1, Ordering::SeqCst),
+            _ => {}
+        }
+        Answer::No
+    }
+}
+
+#[test]
+fn trials_of_a_run_go_on_at_once(rt: HostRuntime) -> Result<(), AllocError> {
+    let alloc = rt.alloc();
+    let begun = AtomicU64::new(0);
+    let missed = AtomicU64::new(0);
+    let mut judges = Vec::new(alloc);
+    for _ in 0..2 {
+        judges.push(Waiting {
+            begun: &begun,
+            missed: &missed,
+            asked: 0,
+        })?;
+    }
+    let mut bench = Bench::new(alloc, judges)?;
+    let words = words_of(alloc, 2, 256, "--passes l w.sh t.c")?;
+    let (status, _, after, _, log) = outcome(&rt, alloc, &words, KEPT, &mut bench)?;
+    assert!(rt; status == 0 && missed.load(Ordering::SeqCst) == 0);
+    assert!(rt; after.as_deref() == Some(KEPT) && log.as_deref() == Some(KEPT_LOG));
+    Ok(())
+}
+
+// Says yes to one file; of all others the answer follows from the bytes and a seed, as if by chance.
+#[derive(Drop)]
+struct Chance {
+    whole: Vec<u8>,
+    seed: u64,
+    asked: u64,
+    faults: u64,
+}
+
+// The next number of a row that looks like one by chance.
+fn after(seed: u64) -> u64 {
+    seed.wrapping_mul(6_364_136_223_846_793_005)
+        .wrapping_add(1_442_695_040_888_963_407)
+}
+
+impl Chance {
+    // Yes to one file of three; of the others the test fails on one of 32 where the seed is odd.
+    fn drawn(&self, file: &[u8]) -> Answer {
+        if file == self.whole.as_slice() {
+            return Answer::Yes;
+        }
+        let mut drawn = self.seed;
+        for byte in file {
+            drawn = after(drawn ^ u64::from(*byte));
+        }
+        match (drawn >> 33) % 96 {
+            0..=31 => Answer::Yes,
+            32 | 33 if self.seed % 2 == 1 => Answer::Failed,
+            _ => Answer::No,
+        }
+    }
+}
+
+impl Judge for Chance {
+    type Key = ();
+
+    ghost key = { λ _. tt };
+
+    ghost says = { λ _ _ _ _. None };
+
+    ghost asked = { λ j. j.asked };
+
+    ghost calls = { λ _. None };
+
+    ghost faults = { λ j. j.faults };
+
+    fn ask(&mut self, _alloc: Global, _test: &str, _name: &str, file: &[u8]) -> Answer {
+        self.asked = self.asked.saturating_add(1);
+        let answer = self.drawn(file);
+        if answer == Answer::Failed {
+            self.faults = self.faults.saturating_add(1);
+        }
+        answer
+    }
+}
+
+// A file of up to five lines by chance, some of which don't tokenise by themselves.
+fn random_file(alloc: Global, seed: u64) -> Result<Vec<u8>, AllocError> {
+    let mut file = Vec::new(alloc);
+    let mut drawn = after(seed);
+    for _ in 0..(drawn >> 33) % 6 {
+        drawn = after(drawn);
+        let line = match (drawn >> 33) % 8 {
+            0 => "int a;\n",
+            1 => "int b;",
+            2 => "f(1);\n",
+            3 => "\n",
+            4 => "/*\n*/ x;\n",
+            5 => "{ y }\n",
+            6 => "z",
+            _ => "int a = 2;\n",
+        };
+        file.extend_from_slice(line.as_bytes())?;
+    }
+    Ok(file)
+}
+
+// What a file and a judge by chance come to.
+fn by_chance(
+    rt: &(impl Threads + Sync),
+    alloc: Global,
+    seed: u64,
+    workers: u64,
+    window: u64,
+) -> Result<Outcome, AllocError> {
+    let file = random_file(alloc, seed)?;
+    let mut judges = Vec::new(alloc);
+    for _ in 0..8 {
+        judges.push(Chance {
+            whole: file.to_vec(alloc)?,
+            seed,
+            asked: 0,
+            faults: 0,
+        })?;
+    }
+    let mut bench = Bench::new(alloc, judges)?;
+    let passes = match seed % 3 {
+        0 => "--passes=l w.sh t.c",
+        1 => "--passes=ltb w.sh t.c",
+        _ => "--limit=30 w.sh t.c",
+    };
+    let words = words_of(alloc, workers, window, passes)?;
+    outcome(rt, alloc, &words, &file, &mut bench)
+}
+
+#[test]
+fn two_hundred_runs_come_to_one_outcome_each(rt: HostRuntime) -> Result<(), Fail> {
+    let alloc = rt.alloc();
+    let mut ends = String::new(alloc);
+    for seed in 0..200 {
+        let wanted = by_chance(&rt, alloc, seed, 1, 1)?;
+        write!(ends, "{} ", wanted.0)?;
+        for workers in [1, 2, 4, 8] {
+            for window in [1, 7, 64] {
+                let found = by_chance(&rt, alloc, seed, workers, window)?;
+                assert!(rt; found == wanted, "{seed} {workers} {window}");
+            }
+        }
+    }
+    // The runs end in all these ways: reduced, not lawful, at the limit, and with a failed test.
+    for end in ["0 ", "4 ", "7 ", "8 "] {
+        assert!(rt; ends.as_str().contains(end), "no run ends with {end}");
+    }
+    Ok(())
+}
