@@ -479,9 +479,9 @@ fn rehearsed(alloc: Global, case: &Case) -> Result<Rehearsed, AllocError> {
 fn rehearsed_bench(alloc: Global, case: &Case) -> Result<Bench<Rehearsed>, AllocError> {
     let mut judges = Vec::new(alloc);
     judges.push(rehearsed(alloc, case)?)?;
-    for _ in 0..3 {
-        judges.push(Rehearsed::new("", "", Vec::new(alloc)))?;
-    }
+    judges.push(Rehearsed::new("", "", Vec::new(alloc)))?;
+    judges.push(Rehearsed::new("", "", Vec::new(alloc)))?;
+    judges.push(Rehearsed::new("", "", Vec::new(alloc)))?;
     Bench::new(alloc, judges)
 }
 
@@ -529,15 +529,21 @@ fn workers_and_windows_change_nothing(rt: HostRuntime) -> Result<(), AllocError>
     expect_all(&rt, rt.alloc(), SHARED)
 }
 
+// A bench of four judges who know what the case's calls tell.
+fn knowing_bench(alloc: Global, case: &Case) -> Result<Bench<Knowing>, AllocError> {
+    let mut judges = Vec::new(alloc);
+    judges.push(Knowing::new(case.calls(alloc)?))?;
+    judges.push(Knowing::new(case.calls(alloc)?))?;
+    judges.push(Knowing::new(case.calls(alloc)?))?;
+    judges.push(Knowing::new(case.calls(alloc)?))?;
+    Bench::new(alloc, judges)
+}
+
 #[test]
 fn a_failure_behind_an_accepted_variant_decides_nothing(rt: HostRuntime) -> Result<(), AllocError> {
     let alloc = rt.alloc();
     for case in cases(alloc, BEHIND)? {
-        let mut judges = Vec::new(alloc);
-        for _ in 0..4 {
-            judges.push(Knowing::new(case.calls(alloc)?))?;
-        }
-        let mut bench = Bench::new(alloc, judges)?;
+        let mut bench = knowing_bench(alloc, &case)?;
         let so = runs_so(&rt, alloc, &case, &mut bench)?;
         assert!(rt; so, "{}", case.told("what"));
     }

@@ -1,5 +1,5 @@
 // Runs by several workers on real threads.
-ghost use Rattle.std.specs.Prelude.{◌≤◌, None};
+ghost use Rattle.std.specs.Prelude.{◌≡◌, ◌≤◌, IfOk, None, length};
 
 use crate::runs::content;
 use cr_main::run;
@@ -113,13 +113,16 @@ fn trials_of_a_run_go_on_at_once(rt: HostRuntime) -> Result<(), AllocError> {
     let begun = AtomicU64::new(0);
     let missed = AtomicU64::new(0);
     let mut judges = Vec::new(alloc);
-    for _ in 0..2 {
-        judges.push(Waiting {
-            begun: &begun,
-            missed: &missed,
-            asked: 0,
-        })?;
-    }
+    judges.push(Waiting {
+        begun: &begun,
+        missed: &missed,
+        asked: 0,
+    })?;
+    judges.push(Waiting {
+        begun: &begun,
+        missed: &missed,
+        asked: 0,
+    })?;
     let mut bench = Bench::new(alloc, judges)?;
     let words = words_of(alloc, 2, 256, "--passes l w.sh t.c")?;
     let (status, _, after, _, log) = outcome(&rt, alloc, &words, KEPT, &mut bench)?;
@@ -205,6 +208,22 @@ fn random_file(alloc: Global, seed: u64) -> Result<Vec<u8>, AllocError> {
     Ok(file)
 }
 
+// So many judges of a file.
+fn judges_of(alloc: Global, file: &[u8], seed: u64, count: u64) -> Result<Vec<Chance>, AllocError>
+    ensures { IfOk result (λ judges. length judges.items ≡ count) }
+{
+    let mut judges = Vec::new(alloc);
+    for _ in 0..count {
+        judges.push(Chance {
+            whole: file.to_vec(alloc)?,
+            seed,
+            asked: 0,
+            faults: 0,
+        })?;
+    }
+    Ok(judges)
+}
+
 // What a file and a judge by chance come to.
 fn by_chance(
     rt: &(impl Threads + Sync),
@@ -214,15 +233,7 @@ fn by_chance(
     window: u64,
 ) -> Result<Outcome, AllocError> {
     let file = random_file(alloc, seed)?;
-    let mut judges = Vec::new(alloc);
-    for _ in 0..8 {
-        judges.push(Chance {
-            whole: file.to_vec(alloc)?,
-            seed,
-            asked: 0,
-            faults: 0,
-        })?;
-    }
+    let judges = judges_of(alloc, &file, seed, 8)?;
     let mut bench = Bench::new(alloc, judges)?;
     let passes = match seed % 3 {
         0 => "--passes=l w.sh t.c",

@@ -215,10 +215,7 @@ fn a_law_is_told_of_a_lower_hit(rt: HostRuntime) -> Result<(), Fail> {
 // Answers by the file, after a delay: the last line, the first two, the last two, any other file.
 #[derive(Drop)]
 struct Chance {
-    last: Answer,
-    first_two: Answer,
-    last_two: Answer,
-    other: Answer,
+    says: Said,
     delay: u64,
     asked: u64,
     faults: u64,
@@ -243,13 +240,13 @@ impl Judge for Chance {
             thread::yield_now();
         }
         let answer = if file == LAST {
-            self.last
+            self.says.last
         } else if file == FIRST_TWO {
-            self.first_two
+            self.says.first_two
         } else if file == LAST_TWO {
-            self.last_two
+            self.says.last_two
         } else {
-            self.other
+            self.says.other
         };
         if answer == Answer::Failed {
             self.faults = self.faults.saturating_add(1);
@@ -269,12 +266,13 @@ fn drawn(seed: u64, place: u32) -> Answer {
 
 // What one worker that tries the positions in order comes to: at which of the five it ends, and how.
 fn in_order(seed: u64) -> (u64, Answer) {
+    let says = drawn_by(seed);
     let answers = [
-        drawn(seed, 20),
-        drawn(seed, 30),
-        drawn(seed, 40),
-        drawn(seed, 50),
-        drawn(seed, 30),
+        says.last,
+        says.first_two,
+        says.last_two,
+        says.other,
+        says.first_two,
     ];
     for (i, answer) in answers.iter().enumerate() {
         if *answer != Answer::No {
@@ -315,18 +313,43 @@ fn said(letter: Option<&u8>) -> Answer {
     }
 }
 
-fn judges_by(alloc: Global, letters: &[u8], count: u64) -> Result<Vec<Chance>, NoMemory>
+// What judges say of the last line, the first two, the last two and any other file.
+#[derive(Clone, Copy)]
+struct Said {
+    last: Answer,
+    first_two: Answer,
+    last_two: Answer,
+    other: Answer,
+}
+
+fn said_by(letters: &[u8]) -> Said {
+    Said {
+        last: said(letters.first()),
+        first_two: said(letters.get(1)),
+        last_two: said(letters.get(2)),
+        other: said(letters.get(3)),
+    }
+}
+
+fn drawn_by(seed: u64) -> Said {
+    Said {
+        last: drawn(seed, 20),
+        first_two: drawn(seed, 30),
+        last_two: drawn(seed, 40),
+        other: drawn(seed, 50),
+    }
+}
+
+// So many judges who say this, each after a delay of its own.
+fn judges_of(alloc: Global, says: Said, seed: u64, count: u64) -> Result<Vec<Chance>, NoMemory>
     requires { count ≤ 32 }
     ensures { IfOk result (λ judges. length judges.items ≡ count) }
 {
     let mut judges = Vec::with_capacity(alloc, 32)?;
-    for _ in 0..count {
+    for worker in 0..count {
         judges.push(Chance {
-            last: said(letters.first()),
-            first_two: said(letters.get(1)),
-            last_two: said(letters.get(2)),
-            other: said(letters.get(3)),
-            delay: 0,
+            says,
+            delay: seed.wrapping_add(worker.wrapping_mul(7)) % 13,
             asked: 0,
             faults: 0,
         })?;
@@ -345,7 +368,7 @@ fn an_epoch_ends_by_the_first_position_not_rejected(rt: HostRuntime) -> Result<(
             .parse()
             .unwrap_or(0);
         for count in [1, 2, 3] {
-            let judges = judges_by(rt.alloc(), letters, count)?;
+            let judges = judges_of(rt.alloc(), said_by(letters), 0, count)?;
             let end = epoch(&rt, rt.alloc(), &TokenLaw, judges, 5)?;
             assert!(rt;
                 ends_so(&end, (at, said(letters.last()))),
@@ -354,25 +377,6 @@ fn an_epoch_ends_by_the_first_position_not_rejected(rt: HostRuntime) -> Result<(
         }
     }
     Ok(())
-}
-
-fn judges_of(alloc: Global, seed: u64, count: u64) -> Result<Vec<Chance>, NoMemory>
-    requires { count ≤ 32 }
-    ensures { IfOk result (λ judges. length judges.items ≡ count) }
-{
-    let mut judges = Vec::with_capacity(alloc, 32)?;
-    for worker in 0..count {
-        judges.push(Chance {
-            last: drawn(seed, 20),
-            first_two: drawn(seed, 30),
-            last_two: drawn(seed, 40),
-            other: drawn(seed, 50),
-            delay: seed.wrapping_add(worker.wrapping_mul(7)) % 13,
-            asked: 0,
-            faults: 0,
-        })?;
-    }
-    Ok(judges)
 }
 
 #[test]
@@ -389,7 +393,7 @@ fn a_thousand_epochs_end_as_in_order(rt: HostRuntime) -> Result<(), Fail> {
             3 => 8,
             _ => 32,
         };
-        let judges = judges_of(rt.alloc(), seed, count)?;
+        let judges = judges_of(rt.alloc(), drawn_by(seed), seed, count)?;
         let end = epoch(&rt, rt.alloc(), &TokenLaw, judges, 5)?;
         assert!(rt;
             ends_so(&end, in_order(seed)),
