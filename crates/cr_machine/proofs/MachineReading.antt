@@ -20,14 +20,14 @@ use Rattle.cr_syntax.specs.Expressions.{Start, Spelled, BeginsFrom, OutsideFrom,
 use Rattle.cr_syntax.specs.Expressions as expressions
 use Rattle.cr_syntax.proofs.Tests.{both, not_true, some_one}
 use Rattle.cr_machine.proofs.MachineRuns.{same, reach, local, word_in}
-use Rattle.cr_machine.proofs.MachineEnds.{Way, stopped, barring, crowded, defining, Ends, ends_so, refused_so, cause_by}
+use Rattle.cr_machine.proofs.MachineEnds.{Way, stopped, barring, crowded, naming, Ends, ends_so, refused_so, cause_by}
 use Rattle.cr_machine.proofs.MachineGives.{gives}
 use Rattle.cr_machine.proofs.MachineKept.{Kept, runs_kept}
 use Rattle.cr_machine.proofs.MachineMeans.{Means}
 use Rattle.cr_machine.proofs.MachineSound.{each}
 use Rattle.cr_machine.proofs.MachineFirst.{none_true, true_false}
 use Rattle.cr_machine.proofs.MachineComplete.{spelled_is_read, read_is_spelled, free_at_end, get_some, unlimited, allows_free, allows_upto, longest, refused_within, begun_same}
-use Rattle.cr_machine.proofs.MachineViable.{prefix, prefix_length, prefix_get, passes_inside, stopped_leaves, barred_stands, barred_leaves, crowded_begins, barred_outside, barred_inside, crowded_inside, begins_before, defines_none}
+use Rattle.cr_machine.proofs.MachineViable.{prefix, prefix_length, prefix_get, passes_inside, stopped_leaves, barred_stands, barred_leaves, crowded_begins, barred_outside, barred_inside, crowded_inside, begins_before, start_names_none}
 use Rattle.cr_machine.proofs.MachineWays.{at}
 use Rattle.cr_machine.proofs.MachineForms.{within, IsBarring, by_row, outside_is_end, outside_is_refused}
 use Rattle.cr_machine.proofs.MachineUnused.{begun_is_used}
@@ -274,7 +274,7 @@ module _ (ts : List Lexeme) (s : Start) (z : IsStart s.part) (le : s.at ≤ leng
   read_end (stopped m) k y le' = read_stop m k y le' (word_at ts k) refl
   read_end (barring x n m) k y le' = read_bar x n m k y le' (word_at ts k) refl
   read_end crowded k y le' = read_crowd k y le'
-  read_end (defining m) k y le' = absurd (defines_none s.part s.depth y)
+  read_end (naming m r) k y le' = absurd (start_names_none s.part s.depth y)
 
   refused_is_reading : {x : Cause} {k : ℕ} → Answers (Failed x k) → IsReading ts s (Refused (refusal_of x k))
   refused_is_reading {k = k} h = let y = ends_so h in subst (λ x. IsReading ts s (Refused (refusal_of x k))) (sym y.cause) (read_end y.way k y.ends (ends_inside h le))
