@@ -8,9 +8,9 @@ use Rattle.cr_syntax.specs.Words.{Lexeme, word_at}
 use Rattle.cr_syntax.specs.Scopes.{Scopes}
 use Rattle.cr_syntax.specs.Trees.{Trees}
 use Rattle.cr_syntax.specs.Spells.{Limit, Free, AtMost, Upto, Is}
-use Rattle.cr_syntax.specs.Units.{most_levels, file_scope, is_unused, begins_statement, Refusal, IsBracket, StandsIn, list_for_designator, group_for_literal, subscript_for_call, block_for_body, IsUnit, Begins, BeginsWithin, Outside, IsTooDeep, IsFineBefore, FirstRefusal, IsTreeOf}
+use Rattle.cr_syntax.specs.Units.{most_levels, file_scope, is_unused, is_opening, begins_statement, Refusal, IsBracket, StandsIn, list_for_designator, group_for_literal, subscript_for_call, block_for_body, IsUnit, Begins, BeginsWithin, Outside, IsTooDeep, IsFineBefore, FirstRefusal, IsTreeOf}
 use Rattle.cr_syntax.specs.Units as units
-use Rattle.cr_machine.specs.Machine.{Manner, Test, plain, opens, reopens, Allows, anywhere, nowhere, unit, Reply, Cause, Done, Failed, Runs, has_word, barred, refusal_of, overflows, is_bracket, too_deep, ended, outside, unexpected}
+use Rattle.cr_machine.specs.Machine.{Manner, Test, plain, opens, reopens, Allows, anywhere, nowhere, unit, Reply, Cause, Done, Failed, Runs, has_word, barred, refusal_of, overflows, exceeds, is_bracket, too_deep, ended, outside, unexpected}
 use Rattle.cr_machine.specs.MachineBody.{body, is_any, is_label}
 use Rattle.cr_machine.specs.MachineLaws.{IsParsed}
 use Rattle.cr_syntax.proofs.Tests.{both, some_one}
@@ -26,7 +26,7 @@ use Rattle.cr_machine.proofs.MachineUnitViable.{unit_begins, unit_leaves, unit_b
 use Rattle.cr_machine.proofs.MachineForms.{within}
 use Rattle.cr_machine.proofs.MachineLoose.{looser, followed, Follows, so_too, departs, own_label, label_is}
 use Rattle.cr_machine.proofs.MachineStuck.{is_crowded}
-use Rattle.cr_machine.proofs.MachineReading.{unlimited_end, ends_inside, bracket_is, is_of_bracket, bracket_is_used, not_both, at_most, below, not_keyword_row, barring_at, at_end}
+use Rattle.cr_machine.proofs.MachineReading.{unlimited_end, ends_inside, bracket_is, is_of_bracket, bracket_is_used, opening_is_used, no_opening, not_both, at_most, below, not_keyword_row, barring_at, at_end}
 use Rattle.cr_machine.proofs.UnitRefusals.{HasOneRow, token_of, one_first_refusal}
 use Rattle.cr_machine.proofs.MachineUnitStuck.{no_room_in_unit, no_room_instead_in_unit, read_is_unit, begun_unit_is_used, relimit_unit, unit_ends, label_within}
 
@@ -86,19 +86,19 @@ no_bracket {v = v} q f y b = both_ways (is_bracket v) f (subst (λ w. is_bracket
 pub begins_definition : {ts : List Lexeme} {m : ℕ} → Outside ts m 8 → Begins (Upto (m + 1) most_levels) ts (m + 1)
 begins_definition (units.variadic_function {t = t} m' lt q c b) = begins_by (upto_less most_levels (omega arith)) (begins_less (omega arith) (record { trees = t; completes = c }))
 
--- A bracket that a row refuses has another one in its place, where no text goes on with it.
-in_place : {ts : List Lexeme} {k n : ℕ} {w : Word} → Outside ts k n → Is ts k w → IsBracket w → (Begins Free ts (k + 1) → ⊥) → (v : Word) × StandsIn n v
-in_place (units.unused_keyword q u) y b f = absurd (not_both q u y (bracket_is_used b))
+-- A word that opens a level, and that a row refuses, has a bracket in its place, where no text goes on with it.
+in_place : {ts : List Lexeme} {k n : ℕ} {w : Word} → Outside ts k n → Is ts k w → is_opening w ≡ true → (Begins Free ts (k + 1) → ⊥) → (v : Word) × StandsIn n v
+in_place {w = w} (units.unused_keyword q u) y b f = absurd (not_both q u y (opening_is_used w b))
 in_place (units.designator q s) y b f = (word.LeftBrace, list_for_designator)
 in_place (units.compound_literal q s) y b f = (word.LeftParen, group_for_literal)
 in_place (units.called_expression q s) y b f = (word.LeftBracket, subscript_for_call)
-in_place (units.bit_field q s) y b f = absurd (no_bracket q refl y b)
+in_place (units.bit_field q s) y b f = absurd (no_opening q refl y b)
 in_place (units.deep_label {t = t} lt c q) y b f = absurd (f (begins_free (record { trees = t; completes = c })))
-in_place (units.label_as_body s (inl q) c) y b f = absurd (no_bracket q refl y b)
-in_place (units.label_as_body s (inr q) c) y b f = absurd (no_bracket q refl y b)
+in_place (units.label_as_body s (inl q) c) y b f = absurd (no_opening q refl y b)
+in_place (units.label_as_body s (inr q) c) y b f = absurd (no_opening q refl y b)
 in_place (units.switch_body s q u c) y b f = (word.LeftBrace, block_for_body)
 in_place (units.variadic_function {t = t} m lt q c s) y b f = absurd (f (begins_free (begins_definition (units.variadic_function {t = t} m lt q c s))))
-in_place (units.stray_label q q' c s) y b f = absurd (no_bracket q refl y b)
+in_place (units.stray_label q q' c s) y b f = absurd (no_opening q refl y b)
 
 -- a word that begins a statement is no unused keyword
 statement_is_used : (w : Word) → begins_statement w ≡ true → is_unused w ≡ false
@@ -169,20 +169,20 @@ module _ (ts : List Lexeme) where
 
   keyword_not_deep : {k : ℕ} {w : Word} → Is ts k w → is_unused w ≡ true → (k < length ts → Begins Free ts (k + 1) → ⊥) → IsTooDeep ts k → ⊥
   keyword_not_deep {k = k} q u r (units.expected o) = r (within ts k q) (begins_free o.begins)
-  keyword_not_deep q u r (units.refused y b o x d) = not_both q u y (bracket_is_used b)
+  keyword_not_deep q u r (units.refused {w = v} y b o x d) = not_both q u y (opening_is_used v b)
   keyword_not_deep q u r (units.unexpected y b c n o x) = not_both q u y (bracket_is_used b)
 
-  label_flat : (v : Word) → is_label v ≡ true → is_bracket v ≡ false
-  label_flat word.Case q = refl
-  label_flat word.Default q = refl
+  label_flat : (v : Word) → is_label v ≡ true → (is_bracket v ≡ false) × (is_opening v ≡ false)
+  label_flat word.Case q = (refl, refl)
+  label_flat word.Default q = (refl, refl)
   label_flat _ q = none_true q
 
   label_not_deep : {k : ℕ} {v : Word} → Is ts k v → is_label v ≡ true → IsTooDeep ts k → ⊥
   label_not_deep {k = k} {v = v} q l (units.expected o) =
       let b = o.begins in
       o.too_deep (record { trees = b.trees; completes = record { text = b.completes.text; alike = b.completes.alike; is_unit = label_within (token_in b.completes k (omega arith) q) l b.completes.is_unit } })
-  label_not_deep {v = v} q l (units.refused y b o x d) = no_bracket q (label_flat v l) y b
-  label_not_deep {v = v} q l (units.unexpected y b c n o x) = no_bracket q (label_flat v l) y b
+  label_not_deep {v = v} q l (units.refused y b o x d) = no_opening q (label_flat v l).1 y b
+  label_not_deep {v = v} q l (units.unexpected y b c n o x) = no_bracket q (label_flat v l).0 y b
 
   row_before : {w : Way} {i n k : ℕ} → EndsBy w k → Outside ts i n → (n ≡ 1 → ⊥) → i < k → w ≡ naming i n
   row_before y o f lt = outside_before_end reads_units f y lt o
@@ -220,7 +220,7 @@ module _ (ts : List Lexeme) where
     not_deep : {w : Word} → Is ts k w → is_unused w ≡ false → overflows w m ≡ false → IsTooDeep ts k → ⊥
     not_deep q u v (units.expected o) = stop_ends (within ts k q) (begins_free o.begins)
     not_deep q u v (units.refused {row = n} q' b o x d) = not_outside q u n o
-    not_deep {w = w} q u v (units.unexpected q' b c n o x) = x (unit_leaves ts most_levels k le nowhere m y (below w m (subst (λ w. is_bracket w ≡ true) (some_one (sym q' ∙ q)) (is_of_bracket b)) v))
+    not_deep {w = w} q u v (units.unexpected q' b c n o x) = x (unit_leaves ts most_levels k le nowhere m y (below (is_bracket w) m (subst (λ w. is_bracket w ≡ true) (some_one (sym q' ∙ q)) (is_of_bracket b)) v))
 
     read_stop_word : {w : Word} → Is ts k w → (u o : Bool) → is_unused w ≡ u → overflows w m ≡ o → FirstRefusal ts (refusal_of (if u then outside 1 else (if o then too_deep else unexpected)) k)
     read_stop_word q true o u v = units.outside (within ts k q) stop_fine (keyword_not_deep q u stop_ends) (units.unused_keyword q u)
@@ -250,36 +250,36 @@ module _ (ts : List Lexeme) where
     same_row : {x' : Test} {n' d : ℕ} → barring x n m ≡ barring x' n' d → n' ≡ n
     same_row q = cc
 
-    form_not_deep : {w : Word} → Is ts k w → overflows w m ≡ false → IsTooDeep ts k → ⊥
+    form_not_deep : {w : Word} → Is ts k w → exceeds w m ≡ false → IsTooDeep ts k → ⊥
     form_not_deep q v (units.expected o) = bar_ends (begins_free o.begins)
     form_not_deep {w = w} q v (units.refused {v = v'} q' b o x' d) =
         let r = row_there (within ts k q) y o (not_keyword_row x') (λ m r q. cc) in
-        d.too_deep (unit_stands_leaving ts most_levels k (let lt = barred_inside y in omega arith) nowhere x n m y (barred_inside y) (subst (λ n. StandsIn n v') (same_row r.2) x') (below w m (subst (λ w. is_bracket w ≡ true) (some_one (sym q' ∙ q)) (is_of_bracket b)) v))
+        d.too_deep (unit_stands_leaving ts most_levels k (let lt = barred_inside y in omega arith) nowhere x n m y (barred_inside y) (subst (λ n. StandsIn n v') (same_row r.2) x') (below (is_opening w) m (subst (λ w. is_opening w ≡ true) (some_one (sym q' ∙ q)) b) v))
     form_not_deep q v (units.unexpected q' b c f o x') = o n (bar_outside y)
 
-    read_bar_word : {w : Word} → Is ts k w → (o : Bool) → overflows w m ≡ o → FirstRefusal ts (refusal_of (if o then too_deep else outside n) k)
+    read_bar_word : {w : Word} → Is ts k w → (o : Bool) → exceeds w m ≡ o → FirstRefusal ts (refusal_of (if o then too_deep else outside n) k)
     read_bar_word {w = w} q true v =
-        let b = both (is_bracket w) (not (nat_lt m most_levels)) v in
+        let b = both (is_opening w) (not (nat_lt m most_levels)) v in
         let o = bar_outside y in
         let lt = within ts k q in
-        let r = in_place o q (bracket_is w b.0) bar_ends in
+        let r = in_place o q b.0 bar_ends in
         units.too_deep lt (bar_fine y)
-        (units.refused q (bracket_is w b.0) o r.1
+        (units.refused q b.0 o r.1
         (record { begins = unit_stands ts most_levels k (omega arith) nowhere x n m y lt r.1; too_deep = no_room_instead_in_unit most_levels (omega arith) lt (at_most m most_levels b.1) r.1 z }))
     read_bar_word q false v = units.outside (within ts k q) (bar_fine y) (form_not_deep q v) (bar_outside y)
 
-    read_bar : (o : Option Word) → word_at ts k ≡ o → FirstRefusal ts (refusal_of (elim o as (λ _. Cause) [ None ↦ ended | Some w ↦ if overflows w m then too_deep else outside n ]) k)
+    read_bar : (o : Option Word) → word_at ts k ≡ o → FirstRefusal ts (refusal_of (elim o as (λ _. Cause) [ None ↦ ended | Some w ↦ if exceeds w m then too_deep else outside n ]) k)
     read_bar None q = let e = at_end ts k (let lt = barred_inside y in omega arith) q in let lt = barred_inside y in absurd (omega arith)
-    read_bar (Some w) q = read_bar_word q (overflows w m) refl
+    read_bar (Some w) q = read_bar_word q (exceeds w m) refl
 
   -- A label that stands where the subset has none.
-  label_barred : (k d : ℕ) {v : Word} → Is ts k v → is_bracket v ≡ false → outside 6 ≡ barred ts 6 k d
+  label_barred : (k d : ℕ) {v : Word} → Is ts k v → is_opening v ≡ false → outside 6 ≡ barred ts 6 k d
   label_barred k d {v = v} q f =
-      sym (ap (λ o. elim o as (λ _. Cause) [ None ↦ ended | Some w ↦ if overflows w d then too_deep else outside 6 ]) q ∙ ap (λ b. if b && not (nat_lt d most_levels) then too_deep else outside 6) f)
+      sym (ap (λ o. elim o as (λ _. Cause) [ None ↦ ended | Some w ↦ if exceeds w d then too_deep else outside 6 ]) q ∙ ap (λ b. if b && not (nat_lt d most_levels) then too_deep else outside 6) f)
 
   read_label : {x : Test} {d k : ℕ} {v : Word} → EndsBy (barring x 6 d) k → Is ts k v → is_label v ≡ true → FirstRefusal ts (refusal_of (barred ts 6 k d) k)
   read_label {d = d} {k = k} {v = v} y q l =
-      subst (λ x. FirstRefusal ts (refusal_of x k)) (label_barred k d q (label_flat v l)) (units.outside (within ts k q) (bar_fine y) (label_not_deep q l) (bar_outside y))
+      subst (λ x. FirstRefusal ts (refusal_of x k)) (label_barred k d q (label_flat v l).1) (units.outside (within ts k q) (bar_fine y) (label_not_deep q l) (bar_outside y))
 
   read_barred : {x : Test} {n m k : ℕ} → EndsBy (barring x n m) k → Follows ts (AtMost most_levels) (body (unit anywhere 0)) file_scope 0 (barring x n m) k → FirstRefusal ts (refusal_of (barred ts n k m) k)
   read_barred {x = x} {n = n} {m = m} {k = k} y (so_too z) = read_bar x n m k y z (word_at ts k) refl
@@ -442,9 +442,9 @@ module _ (ts : List Lexeme) where
       by_word true = row_of_bar y
       by_word false = row_of_bar y
 
-      by : (o : Option Word) → OneRowOf (elim o as (λ _. Cause) [ None ↦ ended | Some w ↦ if overflows w m then too_deep else outside n ]) k
+      by : (o : Option Word) → OneRowOf (elim o as (λ _. Cause) [ None ↦ ended | Some w ↦ if exceeds w m then too_deep else outside n ]) k
       by None = none_at_end
-      by (Some w) = by_word (overflows w m)
+      by (Some w) = by_word (exceeds w m)
   one_row crowded k y le = row_of_crowd y
   one_row (naming m n) k y le = row_of_earlier y le
 

@@ -7,7 +7,7 @@ use Rattle.cr_syntax.specs.Words.{Lexeme}
 use Rattle.cr_syntax.specs.Scopes.{Scopes}
 use Rattle.cr_syntax.specs.Trees.{none, node, one}
 use Rattle.cr_syntax.specs.Units.{file_scope}
-use Rattle.cr_machine.specs.Machine.{Reply, Done, Failed, Labels, anywhere, own_block, nowhere, unit, statement, unexpected, ended, too_deep, outside, earlier}
+use Rattle.cr_machine.specs.Machine.{Reply, Done, Failed, Labels, anywhere, own_block, in_block, nowhere, unit, statement, unexpected, ended, too_deep, outside, earlier}
 use Rattle.cr_machine.specs.MachineBody.{body}
 use Rattle.cr_machine.proofs.MachineExamples.{run, w, id}
 
@@ -189,3 +189,13 @@ deep_22 :
     (deep nowhere 127 (w word.Switch ∷ w word.LeftParen ∷ w word.Integer ∷ w word.RightParen ∷ w word.Semicolon ∷ []) ≡ Some (Failed (outside 7) 4))
 unfolding run
 deep_22 = (refl, refl, refl, refl, refl, refl, refl)
+
+-- an opening word as a switch's body is too deep before it is refused as one; a label is refused before its colon is too deep
+deep_23 :
+    (deep nowhere 127 (w word.Switch ∷ w word.LeftParen ∷ w word.Integer ∷ w word.RightParen ∷ w word.Do ∷ []) ≡ Some (Failed too_deep 4)) ×
+    (deep nowhere 127 (w word.Switch ∷ w word.LeftParen ∷ w word.Integer ∷ w word.RightParen ∷ id (codes "a") ∷ []) ≡ Some (Failed (outside 7) 4)) ×
+    (deep nowhere 126 (w word.Switch ∷ w word.LeftParen ∷ w word.Integer ∷ w word.RightParen ∷ w word.Do ∷ []) ≡ Some (Failed (outside 7) 4)) ×
+    (deep in_block 128 (id (codes "L") ∷ w word.Colon ∷ w word.Semicolon ∷ []) ≡ Some (Failed too_deep 1)) ×
+    (deep nowhere 128 (id (codes "L") ∷ w word.Colon ∷ w word.Semicolon ∷ []) ≡ Some (Failed (earlier 0 9) 1))
+unfolding run
+deep_23 = (refl, refl, refl, refl, refl)
