@@ -1,6 +1,8 @@
 -- What each node of a unit is, by its number.
 use Rattle.std.specs.Prelude.{◌≡◌, ℕ, ◌+◌, ◌≤◌, true, List, [], ◌∷◌, Option, None, Some, length, slice_get}
+use Rattle.cr_syntax.specs.declared.word.Word.TheVariants as word
 use Rattle.cr_syntax.specs.declared.node.Kind.{Kind}
+use Rattle.cr_syntax.specs.declared.node.Kind.TheVariants as kind
 use Rattle.cr_syntax.specs.declared.node.Node.{Node}
 use Rattle.cr_syntax.specs.declared.part.Context.{Context}
 use Rattle.cr_syntax.specs.Words.{Lexeme}
@@ -11,7 +13,7 @@ use Rattle.cr_syntax.specs.Context.{fits_together}
 use Rattle.cr_syntax.specs.Symbols as symbol
 use Rattle.cr_syntax.specs.Grammar.{Side}
 use Rattle.cr_syntax.specs.Tables.{side_of}
-use Rattle.cr_syntax.specs.Spells.{Limit, Spells, rest}
+use Rattle.cr_syntax.specs.Spells.{Limit, Is, Spells, rest}
 use Rattle.cr_syntax.specs.Units.{IsUnit}
 
 -- The tokens from i to before j and these parts are the right side of the kind's alternative, in some scopes, where so many
@@ -91,3 +93,27 @@ pub record IsCounted (s : Side) (n : ℕ) : Type 0 where
 -- each node has as many parts as the alternative of its kind
 abbrev pub PartsAreCounted : Type 0
 PartsAreCounted = OfEachNode (λ ts limit nodes n. IsCounted (side_of n.kind) (length n.parts))
+
+-- the token with a node's own name, by its kind, its first token and its last: of an identifier, of a declarator, an
+-- enumerator and a label that it declares, of a tag, a member, and the label that a `goto` names
+abbrev pub name_token : Kind → ℕ → ℕ → Option ℕ
+name_token kind.Identifier i j = Some i
+name_token kind.Call i j = Some i
+name_token kind.TypedefName i j = Some i
+name_token kind.NameDeclarator i j = Some i
+name_token kind.Enumerator i j = Some i
+name_token kind.Label i j = Some i
+name_token kind.Goto i j = Some (i + 1)
+name_token kind.StructTag i j = Some (i + 1)
+name_token kind.EnumTag i j = Some (i + 1)
+name_token kind.Member i j = Some j
+name_token kind.PointerMember i j = Some j
+name_token _ i j = None
+
+abbrev pub IsName : List Lexeme → Option ℕ → Type 0
+IsName ts None = Unit {0}
+IsName ts (Some k) = Is ts k word.Identifier
+
+-- each node's own name is an identifier
+abbrev pub NodesHaveNames : Type 0
+NodesHaveNames = OfEachNode (λ ts limit nodes n. IsName ts (name_token n.kind n.first n.last))

@@ -1,4 +1,4 @@
-ghost use Rattle.cr_nodes.specs.Nodes.{NodesAreMade, PartsRise, PartsAreCounted};
+ghost use Rattle.cr_nodes.specs.Nodes.{NodesAreMade, PartsRise, PartsAreCounted, NodesHaveNames};
 
 /// A law: each node of a unit is made by the alternative of its kind.
 pub fn nodes_are_made()
@@ -13,4 +13,9 @@ pub fn parts_rise()
 /// A law: each node has as many parts as the alternative of its kind has.
 pub fn parts_are_counted()
     ensures { PartsAreCounted }
+{}
+
+/// A law: the token with a node's own name, where its kind has one, is an identifier.
+pub fn nodes_have_names()
+    ensures { NodesHaveNames }
 {}
