@@ -15,6 +15,7 @@ use Rattle.cr_exprs.specs.declared.found.Found.{Found}
 use Rattle.cr_exprs.specs.Loose.{AreKept}
 use Rattle.cr_exprs.specs.Answers.{RunsTo, Comes, Gives, Goes, Keeps, IsPlaced, IsGrown, tree}
 use Rattle.cr_exprs.proofs.Nodes.{row_kept}
+use Rattle.cr_exprs.proofs.Runs.{fails}
 use Rattle.cr_machine.proofs.MachineSpells.{and_none, and_and}
 use Rattle.cr_exprs.proofs.Loose.{times_append, kept_as}
 use Rattle.cr_decls.specs.declared.labels.Labels.{Labels}
@@ -126,4 +127,4 @@ declared_shift {ts} {h} {k} {t} {u} {e} {i} {y} d s q a v w run = subst (λ x. R
 pub goes_through : {A : Type 0} {ts : List Lexeme} {p : Prog} {u : Goal} {g : Trees → Prog} {c e f : Scopes} {i j : ℕ} {t : A → Trees} {n : A → ℕ} (r : Result A ParseFault) → ((y : Reply) → RunsTo ts (call u g) e j y → RunsTo ts p c i y) →
     Comes ts (body u) e j (λ x. Gives ts (body u) e j (t x) f (n x)) r → Comes ts p c i (λ x. Goes ts p c i (g (t x)) f (n x)) r
 goes_through (Ok x) path h = record { is = record { on = λ y r. path y (run_call h.is.run r) } }
-goes_through (Err fault) path h = record { is = record { run = λ x q. path _ (run_fail (h.is.run x q)) } }
+goes_through (Err fault) path h = record { is = fails h.is (λ x k r. path _ (run_fail r)) }
