@@ -13,7 +13,7 @@
 --   call      another function, and what to do with its trees; the first refusal ends all
 --   look, set, begins, drops, bring     the scopes, which the code keeps in one list
 --   give, stop     the answer, or the refusal of the next token where so many levels are open
---   refuse    the `...` that was read belongs to a function definition
+--   refuse    a token that was read is refused, since the next one shows that a row of the refused forms names it
 -- A loop of the grammar is a goal that has what was read so far as an argument, and the code writes it as a loop.
 -- There is no fuel: the code ends, so a run exists, and no goal has two.
 use Rattle.std.specs.Prelude.{◌≡◌, ℕ, ◌+◌, Bool, true, false, not, ◌||◌, ◌&&◌, if◌then◌else◌, nat_lt, List, [], ◌∷◌, None, Some}
@@ -36,11 +36,13 @@ pub data Wanted : Type 0 where
   unnamed : Wanted
   either : Wanted
 
--- Where `case` and `default` may label a statement: anywhere, as the grammar alone has it; or, as the subset has it, here,
--- among the items of a switch's own block; or not here.
+-- Which labels a statement may have: all of them anywhere, as the grammar alone has it; or, as the subset has it, all of
+-- them here, among the items of a switch's own block; an identifier, but no `case` and no `default`, among the items of
+-- another block; or none.
 pub data Labels : Type 0 where
   anywhere : Labels
   own_block : Labels
+  in_block : Labels
   nowhere : Labels
 
 -- What a function of the parser reads. The first number is that of the levels open where it begins; of a loop, and of the
@@ -165,8 +167,8 @@ Allows limit reopens i d = Stands limit i (d + 1) × Within limit i d
 pub data Prog : Type 0 where
   give : Trees → Prog
   stop : ℕ → Prog
-  -- a token before is refused, since the next one shows that a function with `...` is defined
-  refuse : ℕ → Prog
+  -- a token before, with this number, is refused by a row, since the next one shows what it is
+  refuse : ℕ → ℕ → Prog
   take : Manner → Test → ℕ → Prog → Prog → Prog
   bar : Test → ℕ → ℕ → Prog → Prog
   peek : Test → Prog → Prog → Prog
@@ -184,8 +186,8 @@ pub data Cause : Type 0 where
   ended : Cause
   too_deep : Cause
   outside : ℕ → Cause
-  -- the `...` with this number, seen only at a token behind it
-  variadic : ℕ → Cause
+  -- the token with this number is what a row names, seen only at a token behind it
+  earlier : ℕ → ℕ → Cause
 
 -- What a program answers: the trees, the scopes after them and the token after them, or a refusal and its token.
 pub data Reply : Type 0 where
@@ -197,7 +199,7 @@ refusal_of unexpected k = Unexpected k
 refusal_of ended k = Ended
 refusal_of too_deep k = TooDeep k
 refusal_of (outside n) k = OutsideSubset k n
-refusal_of (variadic m) k = OutsideSubset m 8
+refusal_of (earlier m n) k = OutsideSubset m n
 
 abbrev pub is_bracket : Word → Bool
 is_bracket word.LeftParen = true
@@ -231,7 +233,7 @@ brought ts i k type = record { name = name_before ts i k; is_type = type }
 pub data Runs (body : Goal → Prog) (ts : List Lexeme) (limit : Limit) : Prog → Scopes → ℕ → Reply → Type 0 where
   run_give : {t : Trees} {c : Scopes} {i : ℕ} → Runs body ts limit (give t) c i (Done t c i)
   run_stop : {d : ℕ} {c : Scopes} {i : ℕ} → Runs body ts limit (stop d) c i (Failed (verdict ts i d) i)
-  run_refuse : {k : ℕ} {c : Scopes} {i : ℕ} → Runs body ts limit (refuse k) c i (Failed (variadic k) i)
+  run_refuse : {m n : ℕ} {c : Scopes} {i : ℕ} → Runs body ts limit (refuse m n) c i (Failed (earlier m n) i)
   -- a token
   run_take : {m : Manner} {x : Test} {d : ℕ} {p q : Prog} {c : Scopes} {i : ℕ} {r : Reply} →
       passes ts c i x ≡ true → Allows limit m i d → Runs body ts limit p c (i + 1) r → Runs body ts limit (take m x d p q) c i r

@@ -11,7 +11,7 @@ use Rattle.cr_syntax.specs.declared.part.Context.{Context}
 use Rattle.cr_syntax.specs.Trees.{Trees, none, node, one, ◌&◌}
 use Rattle.cr_syntax.specs.Context.{fresh, past_token, past_part, is_bare, base_of, ends_open}
 use Rattle.cr_syntax.specs.Units.{is_unused, begins_statement, own_parameters}
-use Rattle.cr_machine.specs.Machine.{Goal, Prog, Test, Wanted, named, unnamed, either, Labels, anywhere, own_block, nowhere, plain, opens, reopens, the, has, ordinary, type_identifier, declared, or, give, stop, refuse, take, bar, peek, when, here, look, set, bring, call, expect, choose, into, made, begins, drops, innermost_of, around}
+use Rattle.cr_machine.specs.Machine.{Goal, Prog, Test, Wanted, named, unnamed, either, Labels, anywhere, own_block, in_block, nowhere, plain, opens, reopens, the, has, ordinary, type_identifier, declared, or, give, stop, refuse, take, bar, peek, when, here, look, set, bring, call, expect, choose, into, made, begins, drops, innermost_of, around}
 use Rattle.cr_machine.specs.Machine.{whole, expression, commas, assignment, conditional, binary, operands, cast, unary, measured, postfix, called, grouped, texts, arguments, suffixes, type_name, row, more, element, structure, members, member, member_declarators, enumeration, enumerators, enumerator, qualifiers, declarator, declarator_suffixes, abstract_suffixes, size, parameters, more_parameters, parameter}
 use Rattle.cr_machine.specs.Machine.{unit, externals, external, declaration, init_declarators, initialized, initializer, initializers, statement, block, if_rest, switch_rest, while_rest, do_rest, for_rest, return_rest, for_clauses, clause, compound, items, item}
 
@@ -324,18 +324,33 @@ label_start = or (the word.Case) (the word.Default)
 abbrev pub is_any : Word → Bool
 is_any w = true
 
--- where labels may stand in the parts of a statement, and in a switch's own block
+-- which labels may stand in the parts of a statement, in a block, and in a switch's own block
 abbrev pub inside : Labels → Labels
 inside anywhere = anywhere
 inside _ = nowhere
+
+abbrev pub in_compound : Labels → Labels
+in_compound anywhere = anywhere
+in_compound _ = in_block
 
 abbrev pub in_switch : Labels → Labels
 in_switch anywhere = anywhere
 in_switch _ = own_block
 
+-- whether `case` and `default` may label a statement, and whether an identifier may
 abbrev pub may_label : Labels → Bool
-may_label nowhere = false
-may_label _ = true
+may_label anywhere = true
+may_label own_block = true
+may_label _ = false
+
+abbrev pub may_mark : Labels → Bool
+may_mark nowhere = false
+may_mark _ = true
+
+-- whether a row of specifiers is one typedef name
+abbrev pub is_type_name : Trees → Bool
+is_type_name (node kind.TypedefName i j a n) = true
+is_type_name _ = false
 
 -- whether a function's own parameters end in `...`, and which token that is
 abbrev pub ends_variadic : Trees → Bool
@@ -364,8 +379,8 @@ enters h a p = look (λ c. set (around c) (bring (past_part h a).name (past_part
 -- the body of a function whose specifiers t and declarator a were read
 abbrev pub defined : Labels → ℕ → ℕ → Trees → Trees → Prog
 defined l d s t a = when (may_define l a)
-    (enters (past_part fresh t) a (call (compound (inside l) d) (λ b. drops (made kind.FunctionDefinition s (t & a & b & none)))))
-    (refuse (last_token (own_parameters a)))
+    (enters (past_part fresh t) a (call (compound (in_compound l) d) (λ b. drops (made kind.FunctionDefinition s (t & a & b & none)))))
+    (refuse (last_token (own_parameters a)) 8)
 
 -- behind a declarator with its initializer: another one, or the end of the declaration
 abbrev pub declaration_end : Context → ℕ → ℕ → Trees → Trees → Prog
@@ -397,7 +412,26 @@ switch_body l d s a = bar label_start 6 (d + 1) (bar statement_start 7 (d + 1)
 abbrev pub for_body : Labels → ℕ → ℕ → Trees → Prog
 for_body l d s x = call (block (inside l) (d + 1)) (λ b. drops (made kind.For s (x & b & none)))
 
--- a labelled statement, or another one
+-- Behind an identifier, token s: a colon makes it a label, which may stand here or is refused; else p goes on.
+abbrev pub marked : Labels → ℕ → ℕ → Prog → Prog
+marked l d s p = peek (the word.Colon)
+    (when (may_mark l) (expect opens word.Colon d (call (statement l (d + 1)) (λ b. made kind.Label s (b & none)))) (refuse s 9)) p
+
+-- behind the specifiers t of a declaration from token s on
+abbrev pub declaration_rest : ℕ → ℕ → Trees → Prog
+declaration_rest d s t = take plain (the word.Semicolon) d (made kind.Declaration s (t & none)) (call (init_declarators (past_part fresh t) d s (t & none)) give)
+
+-- behind the expression a of a statement from token s on
+abbrev pub expression_rest : ℕ → ℕ → Trees → Prog
+expression_rest d s a = expect plain word.Semicolon d (made kind.ExpressionStatement s (a & none))
+
+-- A statement that begins with a name, or an expression. A typedef name can only be a label here, and an identifier that
+-- was read as an expression can be one.
+abbrev pub named_statement : Labels → ℕ → ℕ → Prog
+named_statement l d s = take plain (type_identifier false) d (marked l d s (stop d))
+    (call (expression d) (λ a. when (is_identifier a) (marked l d s (expression_rest d s a)) (expression_rest d s a)))
+
+-- a statement with `case` or `default` before it, or another one
 abbrev pub labelled : Labels → ℕ → ℕ → Prog → Prog
 labelled l d s p =
     take plain (the word.Case) d (call (conditional d) (λ a. expect opens word.Colon d (call (statement l (d + 1)) (λ b. made kind.Case s (a & b & none)))))
@@ -405,17 +439,18 @@ labelled l d s p =
 
 abbrev pub unlabelled : Labels → ℕ → ℕ → Prog
 unlabelled l d s =
-    peek (the word.LeftBrace) (call (compound (inside l) d) give)
+    peek (the word.LeftBrace) (call (compound (in_compound l) d) give)
     (take plain (the word.If) d (call (if_rest l d s) give)
     (take plain (the word.Switch) d (call (switch_rest l d s) give)
     (take plain (the word.While) d (call (while_rest l d s) give)
     (take opens (the word.Do) d (call (do_rest l d s) give)
     (take plain (the word.For) d (call (for_rest l d s) give)
+    (take plain (the word.Goto) d (expect plain word.Identifier d (expect plain word.Semicolon d (made kind.Goto s none)))
     (take plain (the word.Break) d (expect plain word.Semicolon d (made kind.Break s none))
     (take plain (the word.Continue) d (expect plain word.Semicolon d (made kind.Continue s none))
     (take plain (the word.Return) d (call (return_rest d s) give)
     (take plain (the word.Semicolon) d (made kind.ExpressionStatement s none)
-    (call (expression d) (λ a. expect plain word.Semicolon d (made kind.ExpressionStatement s (a & none)))))))))))))
+    (named_statement l d s)))))))))))
 
 abbrev pub body : Goal → Prog
 body (whole p d) = call (start_goal p d) (λ t. bar (has is_unused) 1 d (give t))
@@ -539,8 +574,7 @@ body (external l d) = here (λ s. call (row part.Specifiers fresh d) (λ t.
     (here (λ q. call (declarator named (past_part fresh t) d) (λ a.
     peek (the word.LeftBrace) (defined l d s t a) (declared_on (past_part fresh t) d s (t & none) q a))))))
 -- 6.7
-body (declaration d) = here (λ s. call (row part.Specifiers fresh d) (λ t.
-    take plain (the word.Semicolon) d (made kind.Declaration s (t & none)) (call (init_declarators (past_part fresh t) d s (t & none)) give)))
+body (declaration d) = here (λ s. call (row part.Specifiers fresh d) (λ t. declaration_rest d s t))
 body (init_declarators h d s x) = here (λ q. call (declarator named h d) (λ a. declared_on h d s x q a))
 body (initialized d q a) = take plain (the word.Equal) d (call (initializer d) (λ t. made kind.InitDeclarator q (a & t & none))) (give a)
 -- 6.7.9
@@ -572,4 +606,6 @@ body (return_rest d s) = take plain (the word.Semicolon) d (made kind.Return s n
 -- 6.8.2
 body (compound l d) = here (λ s. begins (expect opens word.LeftBrace d (call (items l d s none) (λ t. drops (give t)))))
 body (items l d s x) = take plain (the word.RightBrace) (d + 1) (made kind.Compound s x) (call (item l (d + 1)) (λ t. call (items l d s (x & t & none)) give))
-body (item l d) = peek declaration_start (call (declaration d) give) (call (statement l d) give)
+body (item l d) = peek declaration_start
+    (here (λ s. call (row part.Specifiers fresh d) (λ t. when (is_type_name t) (marked l d s (declaration_rest d s t)) (declaration_rest d s t))))
+    (call (statement l d) give)

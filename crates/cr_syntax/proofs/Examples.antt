@@ -78,6 +78,14 @@ takes_7 : (is_read (plain word.Int ∷ lexeme word.Identifier (codes "f") ∷ pl
 unfolding reads along as_part rule_of
 takes_7 = (refl, refl, refl, refl)
 
+-- labels and jumps: typedef int T ; int f ( void ) { L : T : ; goto L ; }
+takes_label : (is_read (plain word.Typedef ∷ plain word.Int ∷ lexeme word.Identifier (codes "T") ∷ plain word.Semicolon ∷ plain word.Int ∷ lexeme word.Identifier (codes "f") ∷ plain word.LeftParen ∷ plain word.Void ∷ plain word.RightParen ∷ plain word.LeftBrace ∷ lexeme word.Identifier (codes "L") ∷ plain word.Colon ∷ lexeme word.Identifier (codes "T") ∷ plain word.Colon ∷ plain word.Semicolon ∷ plain word.Goto ∷ lexeme word.Identifier (codes "L") ∷ plain word.Semicolon ∷ plain word.RightBrace ∷ []) (node kind.Declaration 0 4 (node kind.Specifiers 0 2 (node kind.Typedef 0 1 none (node kind.Int 1 2 none none)) (node kind.NameDeclarator 2 3 none none)) (node kind.FunctionDefinition 4 19 (node kind.Int 4 5 none (node kind.FunctionDeclarator 5 9 (node kind.NameDeclarator 5 6 none (node kind.VoidParameters 7 8 none none)) (node kind.Compound 9 19 (node kind.Label 10 15 (node kind.Label 12 15 (node kind.ExpressionStatement 14 15 none none) none) (node kind.Goto 15 18 none none)) none))) none)) ≡ true) ×
+    (is_read (plain word.Typedef ∷ plain word.Int ∷ lexeme word.Identifier (codes "T") ∷ plain word.Semicolon ∷ plain word.Int ∷ lexeme word.Identifier (codes "f") ∷ plain word.LeftParen ∷ plain word.Void ∷ plain word.RightParen ∷ plain word.LeftBrace ∷ lexeme word.Identifier (codes "L") ∷ plain word.Colon ∷ lexeme word.Identifier (codes "T") ∷ plain word.Colon ∷ plain word.Semicolon ∷ plain word.Float ∷ lexeme word.Identifier (codes "L") ∷ plain word.Semicolon ∷ plain word.RightBrace ∷ []) (node kind.Declaration 0 4 (node kind.Specifiers 0 2 (node kind.Typedef 0 1 none (node kind.Int 1 2 none none)) (node kind.NameDeclarator 2 3 none none)) (node kind.FunctionDefinition 4 19 (node kind.Int 4 5 none (node kind.FunctionDeclarator 5 9 (node kind.NameDeclarator 5 6 none (node kind.VoidParameters 7 8 none none)) (node kind.Compound 9 19 (node kind.Label 10 15 (node kind.Label 12 15 (node kind.ExpressionStatement 14 15 none none) none) (node kind.Goto 15 18 none none)) none))) none)) ≡ false) ×
+    (is_read (plain word.Typedef ∷ plain word.Int ∷ lexeme word.Identifier (codes "T") ∷ plain word.Semicolon ∷ plain word.Int ∷ lexeme word.Identifier (codes "f") ∷ plain word.LeftParen ∷ plain word.Void ∷ plain word.RightParen ∷ plain word.LeftBrace ∷ lexeme word.Identifier (codes "L") ∷ plain word.Colon ∷ lexeme word.Identifier (codes "T") ∷ plain word.Colon ∷ plain word.Semicolon ∷ plain word.Goto ∷ lexeme word.Identifier (codes "L") ∷ plain word.Semicolon ∷ plain word.RightBrace ∷ []) (node kind.Declaration 0 4 (node kind.Specifiers 0 2 (node kind.Typedef 0 1 none (node kind.Int 1 2 none none)) (node kind.NameDeclarator 2 3 none none)) (node kind.FunctionDefinition 4 19 (node kind.Int 4 5 none (node kind.FunctionDeclarator 5 9 (node kind.NameDeclarator 5 6 none (node kind.VoidParameters 7 8 none none)) (node kind.Compound 9 19 (node kind.Label 10 15 (node kind.Break 12 15 (node kind.ExpressionStatement 14 15 none none) none) (node kind.Goto 15 18 none none)) none))) none)) ≡ false) ×
+    (is_read (plain word.Typedef ∷ plain word.Int ∷ lexeme word.Identifier (codes "T") ∷ plain word.Semicolon ∷ plain word.Int ∷ lexeme word.Identifier (codes "f") ∷ plain word.LeftParen ∷ plain word.Void ∷ plain word.RightParen ∷ plain word.LeftBrace ∷ lexeme word.Identifier (codes "L") ∷ plain word.Colon ∷ lexeme word.Identifier (codes "T") ∷ plain word.Colon ∷ plain word.Semicolon ∷ plain word.Goto ∷ lexeme word.Identifier (codes "L") ∷ plain word.Semicolon ∷ plain word.RightBrace ∷ []) (node kind.Declaration 0 4 (node kind.Specifiers 0 2 (node kind.Typedef 0 1 none (node kind.Int 1 2 none none)) (node kind.NameDeclarator 2 3 none none)) (node kind.FunctionDefinition 4 19 (node kind.Int 4 5 none (node kind.FunctionDeclarator 5 9 (node kind.NameDeclarator 5 6 none (node kind.VoidParameters 7 8 none none)) (node kind.Compound 9 19 (node kind.Label 10 15 (node kind.Label 12 15 none none) (node kind.Goto 15 18 none none)) none))) none)) ≡ false)
+unfolding reads along as_part rule_of
+takes_label = (refl, refl, refl, refl)
+
 -- loops: int f ( void ) { while ( 1 ) continue ; do ; while ( 0 ) ; }
 takes_8 : (is_read (plain word.Int ∷ lexeme word.Identifier (codes "f") ∷ plain word.LeftParen ∷ plain word.Void ∷ plain word.RightParen ∷ plain word.LeftBrace ∷ plain word.While ∷ plain word.LeftParen ∷ plain word.Integer ∷ plain word.RightParen ∷ plain word.Continue ∷ plain word.Semicolon ∷ plain word.Do ∷ plain word.Semicolon ∷ plain word.While ∷ plain word.LeftParen ∷ plain word.Integer ∷ plain word.RightParen ∷ plain word.Semicolon ∷ plain word.RightBrace ∷ []) (node kind.FunctionDefinition 0 20 (node kind.Int 0 1 none (node kind.FunctionDeclarator 1 5 (node kind.NameDeclarator 1 2 none (node kind.VoidParameters 3 4 none none)) (node kind.Compound 5 20 (node kind.While 6 12 (node kind.Integer 8 9 none (node kind.Continue 10 12 none none)) (node kind.Do 12 19 (node kind.ExpressionStatement 13 14 none (node kind.Integer 16 17 none none)) none)) none))) none) ≡ true) ×
     (is_read (plain word.Int ∷ lexeme word.Identifier (codes "f") ∷ plain word.LeftParen ∷ plain word.Void ∷ plain word.RightParen ∷ plain word.LeftBrace ∷ plain word.While ∷ plain word.LeftParen ∷ plain word.Integer ∷ plain word.RightParen ∷ plain word.Float ∷ plain word.Semicolon ∷ plain word.Do ∷ plain word.Semicolon ∷ plain word.While ∷ plain word.LeftParen ∷ plain word.Integer ∷ plain word.RightParen ∷ plain word.Semicolon ∷ plain word.RightBrace ∷ []) (node kind.FunctionDefinition 0 20 (node kind.Int 0 1 none (node kind.FunctionDeclarator 1 5 (node kind.NameDeclarator 1 2 none (node kind.VoidParameters 3 4 none none)) (node kind.Compound 5 20 (node kind.While 6 12 (node kind.Integer 8 9 none (node kind.Continue 10 12 none none)) (node kind.Do 12 19 (node kind.ExpressionStatement 13 14 none (node kind.Integer 16 17 none none)) none)) none))) none) ≡ false) ×

@@ -108,6 +108,7 @@ abbrev pub ending_of : Kind → Ending
 ending_of kind.If = InBranch
 ending_of kind.While = InBody
 ending_of kind.For = InBody
+ending_of kind.Label = InBody
 ending_of kind.Case = InBody
 ending_of kind.Default = InBody
 ending_of _ = Closed

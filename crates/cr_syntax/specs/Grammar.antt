@@ -145,10 +145,12 @@ pub data Alternative : Part → Kind → Side → Type 0 where
   while_statement : Alternative Statement kind.While (symbol.Begins ∷ token word.While ∷ opening word.LeftParen ∷ inner Expression ∷ reopening word.RightParen ∷ symbol.Begins ∷ inner Statement ∷ symbol.Ends ∷ symbol.Ends ∷ [])
   do_statement : Alternative Statement kind.Do (symbol.Begins ∷ opening word.Do ∷ symbol.Begins ∷ inner Statement ∷ symbol.Ends ∷ token word.While ∷ opening word.LeftParen ∷ inner Expression ∷ closing word.RightParen ∷ token word.Semicolon ∷ symbol.Ends ∷ [])
   for_statement : Alternative Statement kind.For (symbol.Begins ∷ token word.For ∷ opening word.LeftParen ∷ symbol.Init ∷ symbol.Clause ∷ symbol.Step ∷ symbol.Begins ∷ inner Statement ∷ symbol.Ends ∷ symbol.Ends ∷ [])
-  -- 6.8.1 Labeled statements
+  -- 6.8.1 Labeled statements: any identifier directly before the colon is a label, a typedef name too
+  labeled_statement : Alternative Statement kind.Label (token word.Identifier ∷ opening word.Colon ∷ inner Statement ∷ [])
   case_statement : Alternative Statement kind.Case (token word.Case ∷ part Conditional ∷ opening word.Colon ∷ inner Statement ∷ [])
   default_statement : Alternative Statement kind.Default (token word.Default ∷ opening word.Colon ∷ inner Statement ∷ [])
   -- 6.8.6 Jump statements
+  goto_statement : Alternative Statement kind.Goto (token word.Goto ∷ token word.Identifier ∷ token word.Semicolon ∷ [])
   break_statement : Alternative Statement kind.Break (token word.Break ∷ token word.Semicolon ∷ [])
   continue_statement : Alternative Statement kind.Continue (token word.Continue ∷ token word.Semicolon ∷ [])
   return_statement : Alternative Statement kind.Return (token word.Return ∷ optional Expression ∷ token word.Semicolon ∷ [])

@@ -99,18 +99,27 @@ abbrev pub switch_body_at : ℕ → ℕ → Kind → ℕ → ℕ → Trees → B
 switch_body_at s k kind.Switch i j a = (i == s) && one_begins_at k (after_first a)
 switch_body_at s k _ i j a = false
 
--- where a node stands: in a switch, among the items of a switch's own block, or elsewhere
+-- where a node stands: in a switch, among the items of a switch's own block or of another block, or elsewhere
 pub data Place : Type 0 where
   in_switch : Place
   own_item : Place
+  block_item : Place
   elsewhere : Place
 
--- where the parts of a node stand; those of a label stand where the label does
+-- where the statement of a label stands: where the label does, among the items of a block
+abbrev pub place_behind : Place → Place
+place_behind own_item = own_item
+place_behind block_item = block_item
+place_behind _ = elsewhere
+
+-- where the parts of a node stand
 abbrev pub place_in : Kind → Place → Place
 place_in kind.Switch at = in_switch
 place_in kind.Compound in_switch = own_item
-place_in kind.Case own_item = own_item
-place_in kind.Default own_item = own_item
+place_in kind.Compound at = block_item
+place_in kind.Label at = place_behind at
+place_in kind.Case at = place_behind at
+place_in kind.Default at = place_behind at
 place_in _ at = elsewhere
 
 -- a `case` or `default` elsewhere than among the items of a switch's own block, labels aside
@@ -121,10 +130,17 @@ is_misplaced kind.Default own_item = false
 is_misplaced kind.Default at = true
 is_misplaced _ at = false
 
--- such a label begins at token k
-abbrev pub misplaced_at : ℕ → Place → Trees → Bool
-misplaced_at k at none = false
-misplaced_at k at (node q i j a n) = ((i == k) && is_misplaced q at) || misplaced_at k (place_in q at) a || misplaced_at k at n
+-- an identifier that labels a statement which is, labels aside, no item of a block
+abbrev pub is_stray : Kind → Place → Bool
+is_stray kind.Label own_item = false
+is_stray kind.Label block_item = false
+is_stray kind.Label at = true
+is_stray _ at = false
+
+-- a node that is wrong where it stands begins at token k
+abbrev pub wrong_at : (Kind → Place → Bool) → ℕ → Place → Trees → Bool
+wrong_at wrong k at none = false
+wrong_at wrong k at (node q i j a n) = ((i == k) && wrong q at) || wrong_at wrong k (place_in q at) a || wrong_at wrong k at n
 
 -- the parameter list of a declarator that is built on its identifier itself, or none
 abbrev pub own_parameters : Trees → Trees
@@ -146,7 +162,6 @@ variadic_definition k m _ i j a = false
 abbrev pub is_unused : Word → Bool
 is_unused word.Double = true
 is_unused word.Float = true
-is_unused word.Goto = true
 is_unused word.Restrict = true
 is_unused word.Union = true
 is_unused word.Alignas = true
@@ -168,6 +183,7 @@ begins_statement word.Switch = true
 begins_statement word.While = true
 begins_statement word.Do = true
 begins_statement word.For = true
+begins_statement word.Goto = true
 begins_statement word.Break = true
 begins_statement word.Continue = true
 begins_statement word.Return = true
@@ -210,13 +226,16 @@ pub data Outside (ts : List Lexeme) : ℕ → ℕ → Type 0 where
   -- 5: the colon of a bit-field, after a member's declarator
   bit_field : {k : ℕ} → Is ts k word.Colon → Shows ts k (member_before k) → Outside ts k 5
   -- 6: a label of a switch that stands deeper than the switch's own block, or as a switch's body
-  deep_label : {k : ℕ} {t : Trees} → k < length ts → Completes (Upto k most_levels) ts (k + 1) t → misplaced_at k elsewhere t ≡ true → Outside ts k 6
+  deep_label : {k : ℕ} {t : Trees} → k < length ts → Completes (Upto k most_levels) ts (k + 1) t → wrong_at is_misplaced k elsewhere t ≡ true → Outside ts k 6
   label_as_body : {k : ℕ} (s : ℕ) → Is ts k word.Case ⊎ Is ts k word.Default → Shows ts k (switch_body_at s k) → Outside ts k 6
   -- 7: another statement than a block as a switch's body: its first word
   switch_body : {k : ℕ} {w : Word} (s : ℕ) → Is ts k w → begins_statement w ≡ true → Shows ts k (switch_body_at s k) → Outside ts k 7
   -- 8: the `...` of a function definition's own parameters, where its body begins at token m, and the tokens before that one
   -- are within the limit: it is the body's brace that shows what the declarator belongs to
   variadic_function : {k : ℕ} {t : Trees} (m : ℕ) → k < m → Is ts m word.LeftBrace → Completes (Upto m most_levels) ts (m + 1) t → Has (variadic_definition k m) t → Outside ts k 8
+  -- 9: a label whose statement, labels aside, is no item of a block, where the tokens up to the label are within the limit:
+  -- it is the colon behind it that shows that it is a label
+  stray_label : {k : ℕ} {t : Trees} → Is ts k word.Identifier → Is ts (k + 1) word.Colon → Completes (Upto (k + 1) most_levels) ts (k + 1 + 1) t → wrong_at is_stray k elsewhere t ≡ true → Outside ts k 9
 
 -- a bracket that opens a level, expected or not
 pub data IsBracket : Word → Type 0 where

@@ -110,10 +110,14 @@ pub enum Kind {
     Do,
     /// "for" "(" (declaration | [expression] ";") [expression] ";" [expression] ")" statement
     For,
+    /// identifier ":" statement
+    Label,
     /// "case" conditional ":" statement
     Case,
     /// "default" ":" statement
     Default,
+    /// "goto" identifier ";"
+    Goto,
     /// "break" ";"
     Break,
     /// "continue" ";"

@@ -223,7 +223,7 @@ fn ending_of(kind: Kind) -> Ending
 {
     match kind {
         Kind::If => Ending::InBranch,
-        Kind::While | Kind::For | Kind::Case | Kind::Default => Ending::InBody,
+        Kind::While | Kind::For | Kind::Label | Kind::Case | Kind::Default => Ending::InBody,
         _ => Ending::Closed,
     }
 }
