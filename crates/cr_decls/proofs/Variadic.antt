@@ -31,4 +31,4 @@ pub refuses_variadic : {ts : List Lexeme} {c : Scopes} {i : ℕ} (d s : ℕ) (t 
 refuses_variadic {i = i} d s t a n q =
     let v = variadic_at (own_parameters a) n q in
     let w = v.1 in
-    record { run = λ x h. record { cause = m.variadic (last_token (own_parameters a)); at = i; run = run_no (ap not (v.0)) run_refuse; is = cc } }
+    record { run = λ x h. record { cause = m.earlier (last_token (own_parameters a)) 8; at = i; run = run_no (ap not (v.0)) run_refuse; is = cc } }

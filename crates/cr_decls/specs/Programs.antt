@@ -8,7 +8,7 @@ use Rattle.cr_syntax.specs.Reads.{is_word}
 use Rattle.cr_syntax.specs.Trees.{Trees, none, ◌&◌}
 use Rattle.cr_machine.specs.Machine as m
 use Rattle.cr_machine.specs.Machine.{Prog, plain, opens, reopens, the, type_identifier, give, stop, refuse, take, peek, when, call, expect, made, begins, expression, conditional, declaration, statement, compound, if_rest, switch_rest, while_rest, do_rest, for_rest, return_rest, clause}
-use Rattle.cr_machine.specs.MachineBody as m
+use Rattle.cr_machine.specs.MachineBody as programs
 use Rattle.cr_machine.specs.MachineBody.{declaration_start, may_mark, expression_rest}
 use Rattle.cr_exprs.specs.Answers.{tree}
 use Rattle.cr_decls.specs.declared.labels.Labels.{Labels}
@@ -40,6 +40,10 @@ goto_rest d s = expect plain word.Identifier d (expect plain word.Semicolon d (m
 
 -- Statements that no identifier labels.
 
+-- An expression. A typedef name begins none, and labels nothing here.
+abbrev pub expression_statement : ℕ → ℕ → Prog
+expression_statement d s = take plain (type_identifier false) d (stop d) (call (expression d) (λ a. expression_rest d s a))
+
 -- one without another one in it
 abbrev pub simple : ℕ → ℕ → Prog
 simple d s =
@@ -48,8 +52,7 @@ simple d s =
     (take plain (the word.Continue) d (expect plain word.Semicolon d (made kind.Continue s none))
     (take plain (the word.Return) d (call (return_rest d s) give)
     (take plain (the word.Semicolon) d (made kind.ExpressionStatement s none)
-    (take plain (type_identifier false) d (stop d)
-    (call (expression d) (λ a. expression_rest d s a)))))))
+    (expression_statement d s)))))
 
 -- one that `case` and `default` don't label either
 abbrev pub unlabelled : ℕ → ℕ → Prog
@@ -64,7 +67,7 @@ unlabelled d s =
 
 -- one that they may label
 abbrev pub labelled : ℕ → ℕ → Prog
-labelled d s = m.labelled m.own_block d s (unlabelled d s)
+labelled d s = programs.labelled m.own_block d s (unlabelled d s)
 
 -- a controlling expression in its brackets, at the beginning of a scope, and in those of a `do`; then what goes on with it
 abbrev pub controlling : ℕ → (Trees → Prog) → Prog

@@ -8,7 +8,7 @@ ghost use Rattle.cr_machine.specs.Machine.{plain, expect, made, return_rest};
 ghost use Rattle.cr_machine.specs.MachineBody.{body};
 ghost use Rattle.cr_exprs.specs.Source.{IsReadable, text_of};
 ghost use Rattle.cr_exprs.specs.Answers.{Reads, IsPlaced, tree};
-ghost use Rattle.cr_decls.specs.Programs.{simple, goto_rest};
+ghost use Rattle.cr_decls.specs.Programs.{simple, expression_statement, goto_rest};
 
 use cr_exprs::{
     Found, Goal, ParseFault, Source, expect, is_type_identifier, leaf, over, read, refused, stands,
@@ -17,8 +17,7 @@ use cr_rows::Row;
 use cr_syntax::{Kind, Node, OpenScopes, Word};
 use std::alloc::Global;
 
-/// A statement without another one in it, a jump or an expression (6.8.3, 6.8.6). A typedef name begins none, since it is no
-/// label here.
+/// A statement without another one in it, a jump or an expression (6.8.3, 6.8.6).
 pub(crate) fn simple(
     alloc: Global,
     source: &Source,
@@ -49,6 +48,25 @@ pub(crate) fn simple(
     if stands(source, at, Word::Semicolon) {
         return leaf(alloc, nodes, Kind::ExpressionStatement, at, at + 1);
     }
+    expression_statement(alloc, source, at, depth, scopes, nodes)
+}
+
+/// An expression and its `;` (6.8.3). A typedef name begins none, and labels nothing here.
+fn expression_statement(
+    alloc: Global,
+    source: &Source,
+    at: usize,
+    depth: usize,
+    scopes: &mut OpenScopes,
+    nodes: &mut Row<Node>,
+) -> Result<Found, ParseFault>
+    requires readable { IsReadable source.now }
+    requires at { at ≤ length source.now.tokens.now }
+    requires depth { depth ≤ 128 }
+    requires below { PartsAreBelow nodes.old }
+    ensures reads { Reads (text_of source.now) (expression_statement depth at) scopes.old at nodes.new scopes.new result }
+    ensures placed { IfOk result (λ x. IsPlaced (length source.now.tokens.now) at nodes.old nodes.new [] x) }
+{
     if is_type_identifier(source, at, false, scopes) {
         return Err(refused(source, at + 1, depth));
     }

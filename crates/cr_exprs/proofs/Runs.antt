@@ -96,7 +96,7 @@ handed (Failed x k) h = run_fail h
 
 -- The words of a table.
 
-word_is : (ts : List Lexeme) (i : ℕ) (w v : Word) → word_at ts i ≡ Some w → is_word ts i v ≡ same_word w v
+pub word_is : (ts : List Lexeme) (i : ℕ) (w v : Word) → word_at ts i ≡ Some w → is_word ts i v ≡ same_word w v
 word_is ts i w v q = ap (λ (o : Option Word). elim o [ None ↦ false | Some x ↦ same_word x v ]) q
 
 word_none : (ts : List Lexeme) (i : ℕ) (v : Word) → word_at ts i ≡ None → is_word ts i v ≡ false
