@@ -3,6 +3,7 @@ pub mod MachineUnitExamples
 pub mod MachineRuns
 pub mod MachineEnds
 pub mod MachineSpells
+pub mod MachineNames
 pub mod MachineGives
 pub mod MachineKept
 pub mod MachineMeans
@@ -10,13 +11,13 @@ pub mod MachineUnitSound
 pub mod MachineSound
 pub mod MachineUnits
 pub mod MachineFirst
-pub mod MachineFits
 pub mod MachineTasks
 pub mod MachineExpressions
 pub mod MachineBegins
 pub mod MachineTypes
 pub mod MachineDeclarators
 pub mod MachineDeclarations
+pub mod MachineMarked
 pub mod MachineStatements
 pub mod MachineComplete
 pub mod MachineUnitComplete

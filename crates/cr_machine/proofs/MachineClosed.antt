@@ -15,7 +15,7 @@ use Rattle.cr_machine.proofs.MachineOwn.{lets_itself, carried_whole}
 -- the text with a keyword that no alternative has at each token from number k on, whose spellings stay
 abbrev pub closed : ℕ → List Lexeme → List Lexeme
 closed k [] = []
-closed zero (x ∷ ts) = record { word = word.Goto; spelling = x.spelling } ∷ closed zero ts
+closed zero (x ∷ ts) = record { word = word.Union; spelling = x.spelling } ∷ closed zero ts
 closed (suc k) (x ∷ ts) = x ∷ closed k ts
 
 pub closed_before : (k : ℕ) (ts : List Lexeme) (n : ℕ) → n < k → slice_get (closed k ts) n ≡ slice_get ts n
@@ -31,7 +31,7 @@ closed_names zero (x ∷ ts) (suc n) = closed_names zero ts n
 closed_names (suc k) (x ∷ ts) zero = refl
 closed_names (suc k) (x ∷ ts) (suc n) = closed_names k ts n
 
-pub closed_at : (k : ℕ) (ts : List Lexeme) (w : Word) → Is (closed k ts) k w → word.Goto ≡ w
+pub closed_at : (k : ℕ) (ts : List Lexeme) (w : Word) → Is (closed k ts) k w → word.Union ≡ w
 closed_at k [] w q = cc
 closed_at zero (x ∷ ts) w q = by q
   where

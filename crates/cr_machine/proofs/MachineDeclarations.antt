@@ -18,13 +18,12 @@ use Rattle.cr_syntax.specs.Spells as spells
 use Rattle.cr_syntax.specs.Reads.{is_word}
 use Rattle.cr_machine.specs.Machine.{Prog, Reply, Done, has_word, give, call, the, run_give, run_take, run_pass, run_free, run_seen, run_unseen, run_yes, run_here, run_look, run_set, run_bring, run_call}
 use Rattle.cr_machine.specs.Machine as m
-use Rattle.cr_machine.specs.MachineBody.{is_designator, is_any, inside, declares, enters, defined, declared_on, declaration_end}
+use Rattle.cr_machine.specs.MachineBody.{is_designator, is_any, declares, enters, defined, declared_on, declaration_end}
 use Rattle.cr_machine.specs.MachineLaws.{IsFree}
 use Rattle.cr_machine.proofs.MachineSpells.{and_none, and_and, pushed, name_brought}
 use Rattle.cr_machine.proofs.MachineSpells as facts
 use Rattle.cr_machine.proofs.MachineFirst.{none_true, yes, differs, sorted, free_by, tail, starts, First, by_word, never, never_brace, not_first, first_assignment}
 use Rattle.cr_machine.proofs.MachineFirst as first
-use Rattle.cr_machine.proofs.MachineFits.{fits_left, fits_right, may_left, may_right, may_define_so, body_fits}
 use Rattle.cr_machine.proofs.MachineTasks.{measure, Closes, by_paren, by_comma, by_semicolon, by_closing, by_equal, by_brace, Goes, Answers, Completes, Smaller}
 use Rattle.cr_machine.proofs.MachineTasks as task
 use Rattle.cr_machine.proofs.MachineBegins.{ElementFirst, by_storage, of_plain, by_plain, by_type, specifiers_first, NamedFirst, by_star, by_name, named_first}
@@ -165,26 +164,26 @@ module _ (ts : List Lexeme) (limit : Limit) where
     pub external_reads : {h : Context} {c e : Scopes} {d i j : ℕ} {t : Trees} (s : Spells ts limit (a part.External) h c e d t i j) → measure s < suc n → Completes ts limit task.external h c e d t i j
     external_reads (spells.of_chain grammar.external_declaration f' (spells.of_chain x f s)) lt = elim x [ ]
     external_reads {h = h} {c = c} {d = d} {i = i} (spells.of_chain grammar.external_declaration f' (spells.of_alternative grammar.declaration f (spells.part {e = c'} {j = k} {t = t} x (spells.list_none s)))) lt =
-        closing_run ts limit s (λ e u j. Completes ts limit task.external h c e d (one kind.Declaration i j (t & none)) i j) (λ q w l ft vf.
+        closing_run ts limit s (λ e u j. Completes ts limit task.external h c e d (one kind.Declaration i j (t & none)) i j) (λ q w.
         run_here (run_call (b.read task.specifiers x (omega arith) (closes_row part.Specifiers ts c' k (past_part fresh t).typed (by_semicolon q)) (differs q word.LeftBrace refl))
         (run_take (yes q) w (run_here run_give))))
-    external_reads {c = c} {e = e} {d = d} {i = i} {j = j} (spells.of_chain grammar.external_declaration f' (spells.of_alternative grammar.declaration f (spells.part {e = c'} {j = k} {t = t} {u = u} x (spells.list_some s)))) lt = λ l ft vf.
+    external_reads {c = c} {e = e} {d = d} {i = i} {j = j} (spells.of_chain grammar.external_declaration f' (spells.of_alternative grammar.declaration f (spells.part {e = c'} {j = k} {t = t} {u = u} x (spells.list_some s)))) lt =
         let o = init_list_first s in
-        subst (λ z. Answers ts limit (m.external l d) c i (one kind.Declaration i j z) e j) (and_and t none u)
+        subst (λ z. Answers ts limit (m.external m.anywhere d) c i (one kind.Declaration i j z) e j) (and_and t none u)
         (run_here (run_call (b.read task.specifiers x (omega arith) (named_row part.Specifiers ts c' k (past_part fresh t).typed o) (named_apart o))
         (run_pass (named_other o) (run_here (b.read task.init_declarators s (omega arith) i (t & none)
-        (λ u. m.peek (the word.LeftBrace) (defined l d i t u) (declared_on (past_part fresh t) d i (t & none) k u)) (λ u e k r n z. run_unseen n z))))))
-    external_reads {i = i} {j = j} (spells.of_alternative grammar.function_definition f (spells.part {e = c'} {j = k} {t = t} x (spells.part {t = u} y (spells.enters (spells.part {t = v} z (spells.ends spells.done)))))) lt = λ l ft vf.
+        (λ u. m.peek (the word.LeftBrace) (defined m.anywhere d i t u) (declared_on (past_part fresh t) d i (t & none) k u)) (λ u e k r n z. run_unseen n z))))))
+    external_reads {i = i} {j = j} (spells.of_alternative grammar.function_definition f (spells.part {e = c'} {j = k} {t = t} x (spells.part {t = u} y (spells.enters (spells.part {t = v} z (spells.ends spells.done)))))) lt =
         let o = named_first facts.by_declarator y in
         run_here (run_call (b.read task.specifiers x (omega arith) (named_row part.Specifiers ts c' k (past_part fresh t).typed o) (named_apart o))
         (run_pass (named_other o) (run_here (run_call (b.read task.declarator y (omega arith) m.named refl (by_brace (compound_first z)))
-        (run_seen (yes (compound_first z)) (run_yes (may_define_so l i j (v & none) x y vf) (enters_goes _ (past_part fresh t) y
-        (run_call (b.read task.compound z (omega arith) (inside l) (body_fits l i j t u z ft)) (run_look (run_set (run_here run_give)))))))))))
+        (run_seen (yes (compound_first z)) (run_yes refl (enters_goes _ (past_part fresh t) y
+        (run_call (b.read task.compound z (omega arith)) (run_look (run_set (run_here run_give)))))))))))
 
     pub externals_read : {h : Context} {c e : Scopes} {d i j : ℕ} {t : Trees} (s : Spells ts limit (rest (many part.External ∷ [])) h c e d t i j) → measure s < suc n → Completes ts limit task.externals h c e d t i j
-    externals_read {c = c} {d = d} {i = i} (spells.many_none spells.done) lt = λ l x ft vf no.
-        subst (λ y. Answers ts limit (m.externals l d x) c i y c i) (sym (and_none x)) (run_unseen no run_give)
-    externals_read {c = c} {e = e} {d = d} {i = i} {j = j} (spells.many_more {t = t} {u = u} x k) lt = λ l y ft vf no.
-        subst (λ z. Answers ts limit (m.externals l d y) c i z e j) (pushed y t u)
-        (run_seen (element_any (external_first x)) (run_call (b.read task.external x (omega arith) l (fits_left l t u ft) (may_left l t u vf))
-        (tail (b.read task.externals k (omega arith) l (y & t & none) (fits_right l t u ft) (may_right l t u vf) no))))
+    externals_read {c = c} {d = d} {i = i} (spells.many_none spells.done) lt = λ x no.
+        subst (λ y. Answers ts limit (m.externals m.anywhere d x) c i y c i) (sym (and_none x)) (run_unseen no run_give)
+    externals_read {c = c} {e = e} {d = d} {i = i} {j = j} (spells.many_more {t = t} {u = u} x k) lt = λ y no.
+        subst (λ z. Answers ts limit (m.externals m.anywhere d y) c i z e j) (pushed y t u)
+        (run_seen (element_any (external_first x)) (run_call (b.read task.external x (omega arith))
+        (tail (b.read task.externals k (omega arith) (y & t & none) no))))

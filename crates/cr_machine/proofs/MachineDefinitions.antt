@@ -27,11 +27,11 @@ use Rattle.cr_syntax.proofs.Tests.{both}
 use Rattle.cr_machine.proofs.MachineRuns.{reach}
 use Rattle.cr_machine.proofs.MachineSpells.{Names, by_declarator, by_direct, is_one, forth, qualifiers_forth, own_first, after_one}
 use Rattle.cr_machine.proofs.MachineFirst.{none_true}
-use Rattle.cr_machine.proofs.MachineEnds.{Way, defining, Ends, end_refuse, end_pass, end_seen, end_no, end_here, end_behind, end_inside}
+use Rattle.cr_machine.proofs.MachineEnds.{Way, naming, Ends, end_refuse, end_pass, end_seen, end_no, end_here, end_behind, end_inside}
 use Rattle.cr_machine.proofs.MachineMeans.{IsDeclared, with_name, without}
 use Rattle.cr_machine.proofs.MachineSound.{runs_sound}
 use Rattle.cr_machine.proofs.MachineForms.{some_definition, mark, has_all, lacks_none, lacks_and, lacks_one, Clean, IsOne, Begun, direct_later, unmarked_by, declarator_is_one, declaration_parts}
-use Rattle.cr_machine.proofs.MachineLoose.{loose, looser, IsOwn, own_definition, tightened}
+use Rattle.cr_machine.proofs.MachineLoose.{loose, looser, IsOwn, own_earlier, tightened}
 use Rattle.cr_machine.proofs.MachineTraces.{Traces, traces_idle, traced}
 use Rattle.std.proofs.Math.Bool.{or-false}
 
@@ -77,7 +77,7 @@ module _ (us : List Lexeme) (limit : Limit) (k : ℕ) where
 -- where the subset's machine may be refused: before token k, or at the brace for the `...`
 pub data Fits (k m : ℕ) : Way → ℕ → Type 0 where
   before : {w : Way} {n : ℕ} → n < k → Fits k m w n
-  at_brace : Fits k m (defining k) m
+  at_brace : Fits k m (naming k 8) m
 
 module _ (us : List Lexeme) (limit : Limit) (k m : ℕ) where
   abbrev Reads : Goal → Scopes → ℕ → Trees → Scopes → ℕ → Type 0
@@ -144,10 +144,10 @@ module _ (us : List Lexeme) (limit : Limit) (k m : ℕ) where
         brace = eqb-true i m (sym (or-false (i == m)) ∙ subst (λ z. one_begins_at m (z & none) ≡ true) v.is (subst (λ z. one_begins_at m z ≡ true) (after_one o.is (u & none)) w.1));
       }
 
-  refused_there : {t : Trees} {c : Scopes} {i : ℕ} {p : Prog} → IsVariadic t i → Ends body us limit (machine.when (may_define nowhere t) p (machine.refuse (last_token (own_parameters t)))) c i (defining k) m
+  refused_there : {t : Trees} {c : Scopes} {i : ℕ} {p : Prog} → IsVariadic t i → Ends body us limit (machine.when (may_define nowhere t) p (machine.refuse (last_token (own_parameters t)) 8)) c i (naming k 8) m
   refused_there {t = t} {c = c} {i = i} {p = p} v =
-      subst (λ n. Ends body us limit (machine.when (may_define nowhere t) p (machine.refuse (last_token (own_parameters t)))) c i (defining k) n) v.brace
-      (subst (λ n. Ends body us limit (machine.when (may_define nowhere t) p (machine.refuse (last_token (own_parameters t)))) c i (defining n) i) v.last
+      subst (λ n. Ends body us limit (machine.when (may_define nowhere t) p (machine.refuse (last_token (own_parameters t)) 8)) c i (naming k 8) n) v.brace
+      (subst (λ n. Ends body us limit (machine.when (may_define nowhere t) p (machine.refuse (last_token (own_parameters t)) 8)) c i (naming n 8) i) v.last
       (end_no (ap not v.ends) end_refuse))
 
   declared_later : {h : Context} {d i j : ℕ} {c e : Scopes} {t : Trees} → Reads (declarator named h d) c i t e j → ellipsis_at k (own_parameters t) ≡ true → i < k
@@ -165,9 +165,9 @@ module _ (us : List Lexeme) (limit : Limit) (k m : ℕ) where
       let n = reach h in
       let n' = declared_later h' v.ellipsis in
       record {
-        way = defining k;
+        way = naming k 8;
         at = m;
-        own = own_definition;
+        own = own_earlier;
         ends = end_here (end_behind h (end_pass y (end_here (end_behind h' (end_seen y' (refused_there v))))));
         fits = at_brace;
         starts = omega arith;

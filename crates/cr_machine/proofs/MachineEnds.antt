@@ -8,24 +8,24 @@ use Rattle.cr_machine.specs.Machine.{Goal, Prog, Test, Manner, Done, Failed, Cau
 use Rattle.cr_machine.specs.Machine as m
 
 -- which instruction refuses a token: `stop`, with its levels; `bar`, with its test, its row and its levels; a `take` that
--- finds no room; `refuse`, with the token before that it names
+-- finds no room; `refuse`, with the token before and the row that names it
 pub data Way : Type 0 where
   stopped : ℕ → Way
   barring : Test → ℕ → ℕ → Way
   crowded : Way
-  defining : ℕ → Way
+  naming : ℕ → ℕ → Way
 
 -- the cause that it gives
 abbrev pub cause_by : List Lexeme → ℕ → Way → Cause
 cause_by ts k (stopped d) = verdict ts k d
 cause_by ts k (barring x n d) = barred ts n k d
 cause_by ts k crowded = m.too_deep
-cause_by ts k (defining n) = m.variadic n
+cause_by ts k (naming n r) = m.earlier n r
 
 -- Ends body ts limit p c i w k: from token i on, the program p is refused at token k in the way w.
 pub data Ends (body : Goal → Prog) (ts : List Lexeme) (limit : Limit) : Prog → Scopes → ℕ → Way → ℕ → Type 0 where
   end_stop : {d : ℕ} {c : Scopes} {i : ℕ} → Ends body ts limit (m.stop d) c i (stopped d) i
-  end_refuse : {n : ℕ} {c : Scopes} {i : ℕ} → Ends body ts limit (m.refuse n) c i (defining n) i
+  end_refuse : {n r : ℕ} {c : Scopes} {i : ℕ} → Ends body ts limit (m.refuse n r) c i (naming n r) i
   end_take : {g : Manner} {x : Test} {d : ℕ} {p q : Prog} {c : Scopes} {i k : ℕ} {w : Way} →
       passes ts c i x ≡ true → Allows limit g i d → Ends body ts limit p c (i + 1) w k → Ends body ts limit (m.take g x d p q) c i w k
   end_crowded : {g : Manner} {x : Test} {d : ℕ} {p q : Prog} {c : Scopes} {i : ℕ} →
@@ -68,7 +68,7 @@ module _ {body : Goal → Prog} {ts : List Lexeme} {limit : Limit} where
   -- a refused run ends in some way
   pub ends_so : {p : Prog} {c : Scopes} {i k : ℕ} {x : Cause} → Runs body ts limit p c i (Failed x k) → EndsSo body ts limit p c i x k
   ends_so (run_stop {d = d}) = record { way = stopped d; ends = end_stop; cause = refl }
-  ends_so (run_refuse {k = n}) = record { way = defining n; ends = end_refuse; cause = refl }
+  ends_so (run_refuse {m = n} {n = r}) = record { way = naming n r; ends = end_refuse; cause = refl }
   ends_so (run_take x a h) = onward (ends_so h) (λ w z. end_take x a z)
   ends_so (run_deep x a) = record { way = crowded; ends = end_crowded x a; cause = refl }
   ends_so (run_pass x h) = onward (ends_so h) (λ w z. end_pass x z)

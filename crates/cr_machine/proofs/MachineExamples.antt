@@ -26,7 +26,7 @@ unfoldable pub run : ℕ → List Lexeme → Prog → Scopes → ℕ → Option 
 run zero ts p c i = None
 run (suc n) ts (m.give t) c i = Some (Done t c i)
 run (suc n) ts (m.stop d) c i = Some (Failed (verdict ts i d) i)
-run (suc n) ts (m.refuse k) c i = Some (Failed (m.variadic k) i)
+run (suc n) ts (m.refuse k l) c i = Some (Failed (m.earlier k l) i)
 run (suc n) ts (m.take a x d p q) c i = if passes ts c i x then (if allows a d then run n ts p c (i + 1) else Some (Failed too_deep i)) else run n ts q c i
 run (suc n) ts (m.bar x k d p) c i = if passes ts c i x then Some (Failed (barred ts k i d) i) else run n ts p c i
 run (suc n) ts (m.peek x p q) c i = if passes ts c i x then run n ts p c i else run n ts q c i
@@ -64,7 +64,7 @@ module _ (ts : List Lexeme) where
   run_is zero p c i r q = cc
   run_is (suc n) (m.give t) c i r q = subst (λ x. IsRun (m.give t) c i x) (some_of q) m.run_give
   run_is (suc n) (m.stop d) c i r q = subst (λ x. IsRun (m.stop d) c i x) (some_of q) m.run_stop
-  run_is (suc n) (m.refuse k) c i r q = subst (λ x. IsRun (m.refuse k) c i x) (some_of q) m.run_refuse
+  run_is (suc n) (m.refuse k l) c i r q = subst (λ x. IsRun (m.refuse k l) c i x) (some_of q) m.run_refuse
   run_is (suc n) (m.take g x d p p') c i r q = by (passes ts c i x) (allows g d) refl refl (λ z. run_is n p c (i + 1) r z) (λ z. run_is n p' c i r z) q
     where
       by : (b b' : Bool) → passes ts c i x ≡ b → allows g d ≡ b' → (run n ts p c (i + 1) ≡ Some r → IsRun p c (i + 1) r) → (run n ts p' c i ≡ Some r → IsRun p' c i r) →
@@ -202,7 +202,7 @@ refused_3 :
     (deep 0 (w word.RightParen ∷ []) ≡ Some (Failed unexpected 0)) ×
     (deep 0 (w word.Int ∷ []) ≡ Some (Failed unexpected 0)) ×
     (deep 0 (id (codes "T") ∷ []) ≡ Some (Failed unexpected 0)) ×
-    (deep 0 (w word.Goto ∷ []) ≡ Some (Failed (outside 1) 0)) ×
+    (deep 0 (w word.Union ∷ []) ≡ Some (Failed (outside 1) 0)) ×
     (deep 0 (id (codes "x") ∷ w word.Equal ∷ w word.Equal ∷ id (codes "y") ∷ []) ≡ Some (Failed unexpected 2)) ×
     (deep 0 (id (codes "x") ∷ w word.Question ∷ id (codes "y") ∷ w word.Semicolon ∷ []) ≡ Some (Failed unexpected 3))
 unfolding run

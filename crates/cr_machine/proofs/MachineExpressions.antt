@@ -202,6 +202,14 @@ module _ (ts : List Lexeme) (limit : Limit) where
   arguments_first (spells.list_last x s) = first_assignment x
   arguments_first (spells.list_more x q w s) = first_assignment x
 
+  -- one identifier is read as an expression, where nothing behind it goes on with one
+  pub name_expression : {d i : ℕ} {c : Scopes} → IsIdentifier ts c i false → Stands limit i d → IsFree ts 13 (i + 1) → Answers ts limit (m.expression d) c i (one kind.Identifier i (i + 1) none) c (i + 1)
+  name_expression {d = d} {i = i} {c = c} q w f =
+      let t : Trees = one kind.Identifier i (i + 1) none in
+      let y : Answers ts limit (m.postfix d) c i t c (i + 1) = run_here (run_take (ordinary_yes ts c i q) w (tail (run_pass (fails f word.LeftParen (omega arith)) (run_here (tail (suffixes_done d i t c (i + 1) (lower f (omega arith)))))))) in
+      let x : Started ts limit d c i (Done t c (i + 1)) = through q.0 refl refl refl refl y in
+      run_here (run_call (run_here (run_call (climbs x (lower f (omega arith))) (assign_done d i t c (i + 1) (lower f (omega arith)) true))) (tail (run_pass (fails f word.Comma (omega arith)) run_give)))
+
   module _ (n : ℕ) (b : Smaller ts limit n) where
     pub whole_expression : {h : Context} {c e : Scopes} {d i j : ℕ} {t : Trees} (s : Spells ts limit (a part.Expression) h c e d t i j) → measure s < n → IsFree ts 13 j →
         Answers ts limit (m.expression d) c i t e j

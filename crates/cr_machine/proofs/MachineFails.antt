@@ -11,7 +11,7 @@ use Rattle.cr_machine.specs.Machine.{Goal, Prog, Test, Manner, plain, opens, reo
 use Rattle.cr_machine.specs.MachineBody.{Words}
 use Rattle.cr_machine.proofs.MachineRuns.{reach, brought_same}
 use Rattle.cr_machine.proofs.MachineGives.{Holds, holds, Gives, gives, AllRows, no_rows, also}
-use Rattle.cr_machine.proofs.MachineEnds.{Way, stopped, barring, crowded, defining, Ends, end_stop, end_refuse, end_take, end_crowded, end_pass, end_bar, end_free, end_seen, end_unseen, end_yes, end_no, end_here, end_look, end_set, end_bring, end_behind, end_inside}
+use Rattle.cr_machine.proofs.MachineEnds.{Way, stopped, barring, crowded, naming, Ends, end_stop, end_refuse, end_take, end_crowded, end_pass, end_bar, end_free, end_seen, end_unseen, end_yes, end_no, end_here, end_look, end_set, end_bring, end_behind, end_inside}
 
 -- what is owed where a token opens a level
 abbrev pub Deep : Manner → Type 0 → Type 0
@@ -20,15 +20,15 @@ Deep opens f = f
 Deep reopens f = f
 
 -- Four predicates say what is known at a refusal: of the token's number and the levels, at a `stop`; of the test, the row,
--- the number and the levels, at a `bar`; of the number and that of the token before, at a `refuse`; of the number of the
+-- the number and the levels, at a `bar`; of the number, that of the token before and its row, at a `refuse`; of the number of the
 -- token behind one that finds no room.
 module _ (us : List Lexeme) (top : Limit) (known means : Goal → Scopes → ℕ → Trees → Scopes → ℕ → Type 0) (via : Goal → Scopes → ℕ → Type 0)
-    (stops : ℕ → ℕ → Type 0) (bars : Test → ℕ → ℕ → ℕ → Type 0) (refuses : ℕ → ℕ → Type 0) (crowds : ℕ → Type 0) where
+    (stops : ℕ → ℕ → Type 0) (bars : Test → ℕ → ℕ → ℕ → Type 0) (refuses : ℕ → ℕ → ℕ → Type 0) (crowds : ℕ → Type 0) where
   -- behind an opening token, what the goal owes that the program calls
   abbrev pub Onward : Prog → Scopes → ℕ → Type 0
   Onward (give t) c i = ⊥
   Onward (stop d) c i = ⊥
-  Onward (refuse n) c i = ⊥
+  Onward (refuse n r) c i = ⊥
   Onward (take g x d p q) c i = Onward q c i
   Onward (bar x n d p) c i = Onward p c i
   Onward (peek x p q) c i = Onward p c i
@@ -43,7 +43,7 @@ module _ (us : List Lexeme) (top : Limit) (known means : Goal → Scopes → ℕ
   abbrev pub Fails : Prog → Type 0 → Scopes → ℕ → Type 0
   Fails (give t) f c i = Unit {0}
   Fails (stop d) f c i = stops i d → f
-  Fails (refuse n) f c i = refuses i n → f
+  Fails (refuse n r) f c i = refuses i n r → f
   Fails (take g x d p q) f c i = Deep g (crowds (i + 1) → Onward p c (i + 1)) × (Holds us c i x → Allows top g i d → Fails p f c (i + 1)) × Fails q f c i
   Fails (bar x n d p) f c i = (bars x n i d → f) × Fails p f c i
   Fails (peek x p q) f c i = ((i < length us → Holds us c i x) → Fails p f c i) × Fails q f c i
@@ -64,7 +64,7 @@ module _ (us : List Lexeme) (top : Limit) (known means : Goal → Scopes → ℕ
   onward : (p : Prog) (f : Type 0) (c : Scopes) (i : ℕ) → length us ≤ i → Onward p c i → Fails p f c i → f
   onward (give t) f c i far z y = absurd z
   onward (stop d) f c i far z y = absurd z
-  onward (refuse n) f c i far z y = absurd z
+  onward (refuse n r) f c i far z y = absurd z
   onward (take g x d p q) f c i far z y = onward q f c i far z y.2
   onward (bar x n d p) f c i far z y = onward p f c i far z y.1
   onward (peek x p q) f c i far z y = onward p f c i far z (y.0 (λ lt. absurd (omega arith)))
@@ -81,10 +81,10 @@ module _ (us : List Lexeme) (top : Limit) (known means : Goal → Scopes → ℕ
   AtRefusal (stopped d) k = stops k d
   AtRefusal (barring x n d) k = bars x n k d
   AtRefusal crowded k = (length us ≡ k + 1) × ((g : Manner) (d : ℕ) → Allows top g k d) × crowds (k + 1)
-  AtRefusal (defining n) k = refuses k n
+  AtRefusal (naming n r) k = refuses k n r
 
 module _ (body : Goal → Prog) (ts us : List Lexeme) (limit top : Limit) (known means : Goal → Scopes → ℕ → Trees → Scopes → ℕ → Type 0) (via : Goal → Scopes → ℕ → Type 0)
-    (stops : ℕ → ℕ → Type 0) (bars : Test → ℕ → ℕ → ℕ → Type 0) (refuses : ℕ → ℕ → Type 0) (crowds : ℕ → Type 0)
+    (stops : ℕ → ℕ → Type 0) (bars : Test → ℕ → ℕ → ℕ → Type 0) (refuses : ℕ → ℕ → ℕ → Type 0) (crowds : ℕ → Type 0)
     (keeps : (g : Goal) (c e : Scopes) (i j : ℕ) (t : Trees) → Runs body ts limit (body g) c i (Done t e j) → known g c i t e j)
     (each : (g : Goal) (c : Scopes) (i : ℕ) → Gives us top known means (body g) (means g c i) c i)
     (stands : (i d : ℕ) → Allows limit plain i d)

@@ -22,7 +22,8 @@ use Rattle.cr_machine.specs.Machine.{Goal, Prog, Manner, Runs, Done, Allows, pla
 use Rattle.cr_machine.specs.Machine.{whole, expression, commas, assignment, conditional, operands, cast, unary, measured, postfix, called, grouped, texts, arguments, suffixes, type_name, row, more, element, structure, members, member, member_declarators, enumeration, enumerators, enumerator, qualifiers, declarator, declarator_suffixes, abstract_suffixes, size, parameters, more_parameters, parameter}
 use Rattle.cr_machine.specs.Machine.{unit, externals, external, declaration, init_declarators, initialized, initializer, initializers, statement, block, if_rest, switch_rest, while_rest, do_rest, for_rest, return_rest, for_clauses, clause, compound, items, item}
 use Rattle.cr_machine.specs.Machine as m
-use Rattle.cr_machine.specs.MachineBody.{body, assigned, operated, prefixed, suffixed, sized, other_primary, suffixes_end, other_element, array_start, member_end, declared_on, labelled, unlabelled, switch_body, is_designator, is_label, label_start, statement_start, Words, is_identifier, start_goal, tighter, assignment_operators, operators, unary_prefixes, cast_prefixes, constants, postfix_operators, specifier_words, row_kind, in_row, in_parameters}
+use Rattle.cr_machine.specs.MachineBody as program
+use Rattle.cr_machine.specs.MachineBody.{body, declaration_rest, expression_rest, assigned, operated, prefixed, suffixed, sized, other_primary, suffixes_end, other_element, array_start, member_end, declared_on, labelled, unlabelled, switch_body, is_designator, is_label, label_start, statement_start, Words, is_identifier, start_goal, tighter, assignment_operators, operators, unary_prefixes, cast_prefixes, constants, postfix_operators, specifier_words, row_kind, in_row, in_parameters}
 use Rattle.cr_machine.specs.MachineLaws.{IsStart}
 use Rattle.cr_syntax.specs.Reads.{same_word, is_word}
 use Rattle.cr_syntax.specs.Expressions.{Start, ShowsFrom, OutsideFrom, compound_literal, called_expression, bit_field, unused_keyword}
@@ -138,6 +139,7 @@ mark r k kind.MemberDeclaration i j b = is_field r && one_ends_at k (after_first
 mark r k kind.InitDeclarator i j b = is_designating r && one_begins_at k (after_first b)
 mark r k kind.InitializerList i j b = is_designating r && one_begins_at k b
 mark r k kind.Switch i j b = is_labelling r || is_switching r i && one_begins_at k (after_first b)
+mark r k kind.Label i j b = is_labelling r
 mark r k kind.Case i j b = is_labelling r
 mark r k kind.Default i j b = is_labelling r
 mark r k kind.FunctionDefinition i j b = is_defining r
@@ -261,6 +263,7 @@ is_unmarked kind.MemberDeclaration = false
 is_unmarked kind.InitDeclarator = false
 is_unmarked kind.InitializerList = false
 is_unmarked kind.Switch = false
+is_unmarked kind.Label = false
 is_unmarked kind.Case = false
 is_unmarked kind.Default = false
 is_unmarked kind.FunctionDefinition = false
@@ -295,6 +298,7 @@ unmarked r k kind.MemberDeclaration q i j b = none_true q
 unmarked r k kind.InitDeclarator q i j b = none_true q
 unmarked r k kind.InitializerList q i j b = none_true q
 unmarked r k kind.Switch q i j b = none_true q
+unmarked r k kind.Label q i j b = none_true q
 unmarked r k kind.Case q i j b = none_true q
 unmarked r k kind.Default q i j b = none_true q
 unmarked r k kind.FunctionDefinition q i j b = none_true q
@@ -706,6 +710,14 @@ module _ (ts us : List Lexeme) (limit top : Limit) (r : Form) (k : ℕ) (stands 
 
   -- Statements.
 
+  -- behind a name that may be a label
+  marked_owes : (l : m.Labels) (d s : ℕ) (p : m.Prog) (c : Scopes) (i : ℕ) → Owes p (λ t e j. asks_block r ≡ true → Clean r k t) c i → Owes (program.marked l d s p) (λ t e j. asks_block r ≡ true → Clean r k t) c i
+  marked_owes l d s p c i x = ((λ y. (inl (λ t e j _ _ x. inl (λ o. clean_by r k (no_labelling r o) (clean_alone r k (x o)))), tt), λ y. tt), x)
+
+  -- behind the specifiers of a declaration
+  rest_owes : (d s : ℕ) (t : Trees) (f : Trees → Scopes → ℕ → Type 0) (c : Scopes) (i : ℕ) → Clean r k t → ((u : Trees) (e : Scopes) (j : ℕ) → Clean r k u → f u e j) → Owes (declaration_rest d s t) f c i
+  rest_owes d s t f c i x g = (inl (g _ c (i + 1) (clean_one r k refl (clean_alone r k x))), λ u e j _ _ y. inl (g u e j (y (clean_alone r k x))))
+
   unlabelled_owes : (l : m.Labels) (d s : ℕ) (c : Scopes) (i : ℕ) → Owes (unlabelled l d s) (λ t e j. asks_block r ≡ true → Clean r k t) c i
   unlabelled_owes l d s c i = (
     λ t e j _ _ x. inl x.0,
@@ -720,12 +732,21 @@ module _ (ts us : List Lexeme) (limit top : Limit) (r : Form) (k : ℕ) (stands 
             (
               inl (λ t e j _ _ x. inl x),
               (
-                inl (inl (λ o. clean_one r k refl (clean_none r k)), tt),
+                inl (inl (inl (λ o. clean_one r k refl (clean_none r k)), tt), tt),
                 (
                   inl (inl (λ o. clean_one r k refl (clean_none r k)), tt),
                   (
-                    inl (λ t e j _ _ x. inl (λ o. x)),
-                    (inl (λ o. clean_one r k refl (clean_none r k)), λ t e j _ _ x. inl (inl (λ o. clean_one r k refl (clean_alone r k x)), tt)),
+                    inl (inl (λ o. clean_one r k refl (clean_none r k)), tt),
+                    (
+                      inl (λ t e j _ _ x. inl (λ o. x)),
+                      (
+                        inl (λ o. clean_one r k refl (clean_none r k)),
+                        (
+                          inl (marked_owes l d s (m.stop d) c (i + 1) tt),
+                          λ t e j _ _ x. inl (λ y. marked_owes l d s (expression_rest d s t) e j (inl (λ o. clean_one r k refl (clean_alone r k x)), tt), λ y. (inl (λ o. clean_one r k refl (clean_alone r k x)), tt)),
+                        ),
+                      ),
+                    ),
                   ),
                 ),
               ),
@@ -889,7 +910,7 @@ module _ (ts us : List Lexeme) (limit top : Limit) (r : Form) (k : ℕ) (stands 
       declared_owes (past_part fresh t) d i (t & none) j t' e' j' (Unmarked r k (external l d) c i) x' (declarator_alone g) (λ u e j z o. z (clean_alone r k x)),
     ),
   )
-  owes (declaration d) c i = λ t e j _ _ x. inl (inl (clean_one r k refl (clean_alone r k x)), λ t' e' j' _ _ x'. inl (x' (clean_alone r k x)))
+  owes (declaration d) c i = λ t e j _ _ x. inl (rest_owes d i t (λ u e j. Clean r k u) e j x (λ u e j y. y))
   owes (init_declarators h d s y) c i = λ t e j _ g x. inl (declared_owes h d s y i t e j (Unmarked r k (init_declarators h d s y) c i) x (declarator_alone g) (λ u e j z. z))
   owes (initialized d q y) c i = (initial_owes d q y c (i + 1), λ v o. v)
   owes (initializer d) c i = (
@@ -942,7 +963,13 @@ module _ (ts us : List Lexeme) (limit top : Limit) (r : Form) (k : ℕ) (stands 
     inl (λ q o. clean_one r k refl q, record { kind = kind.Compound; past = i + 1; parts = y; is = refl }),
     λ t e j _ _ x. inl (λ t' e' j' _ _ x'. inl (λ q o. x'.0 (clean_two r k q (x o)) o, x'.1)),
   )
-  owes (item l d) c i = (λ t e j _ _ x. inl (λ o. x), λ t e j _ _ x. inl x)
+  owes (item l d) c i = (
+    λ t e j _ _ x. inl (
+      λ y. marked_owes l d i (declaration_rest d i t) e j (rest_owes d i t (λ u e j. asks_block r ≡ true → Clean r k u) e j x (λ u e j z o. z)),
+      λ y. rest_owes d i t (λ u e j. asks_block r ≡ true → Clean r k u) e j x (λ u e j z o. z),
+    ),
+    λ t e j _ _ x. inl x,
+  )
 
   pub barred_there : (g : Goal) {c e : Scopes} {i j : ℕ} {t : Trees} → Reads g c i t e j → Unmarked r k g c i t e j ⊎ (i < k) × Bars (body g) c i
   barred_there g {c = c} {i = i} h = marked body ts us limit top (row_of r) k (Unmarked r k) alike allowed owes h (Unmarked r k g c i) (owes g c i)

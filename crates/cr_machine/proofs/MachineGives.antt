@@ -42,7 +42,7 @@ module _ (us : List Lexeme) (top : Limit) (known means : Goal → Scopes → ℕ
   abbrev pub Gives : Prog → (Trees → Scopes → ℕ → Type 0) → Scopes → ℕ → Type 0
   Gives (give t) f c i = f t c i
   Gives (stop d) f c i = Unit {0}
-  Gives (refuse n) f c i = Unit {0}
+  Gives (refuse n r) f c i = Unit {0}
   Gives (take a x d p q) f c i = (Holds us c i x → Allows top a i d → Gives p f c (i + 1)) × Gives q f c i
   Gives (bar x n d p) f c i = Gives p f c i
   Gives (peek x p q) f c i = Gives p f c i × Gives q f c i

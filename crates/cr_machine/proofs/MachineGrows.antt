@@ -21,9 +21,9 @@ use Rattle.cr_syntax.specs.Spells.{Limit, Phrase, Is, Stands, Within, Spells, a,
 use Rattle.cr_syntax.specs.Spells as spells
 use Rattle.cr_machine.specs.Machine.{Goal, Prog, Test, Manner, Wanted, named, unnamed, either, Allows, plain, opens, reopens, give, call, made, choose, the, around, innermost_of}
 use Rattle.cr_machine.specs.Machine.{whole, expression, commas, assignment, conditional, operands, cast, unary, measured, postfix, called, grouped, texts, arguments, suffixes, type_name, row, more, element, structure, members, member, member_declarators, enumeration, enumerators, enumerator, qualifiers, declarator, declarator_suffixes, abstract_suffixes, size, parameters, more_parameters, parameter}
-use Rattle.cr_machine.specs.Machine.{Labels, anywhere, own_block, nowhere, unit, externals, external, declaration, init_declarators, initialized, initializer, initializers, statement, block, if_rest, switch_rest, while_rest, do_rest, for_rest, return_rest, for_clauses, clause, compound, items, item}
+use Rattle.cr_machine.specs.Machine.{Labels, anywhere, own_block, in_block, nowhere, unit, externals, external, declaration, init_declarators, initialized, initializer, initializers, statement, block, if_rest, switch_rest, while_rest, do_rest, for_rest, return_rest, for_clauses, clause, compound, items, item}
 use Rattle.cr_machine.specs.Machine as m
-use Rattle.cr_syntax.specs.Units.{has_here, has_inside, unit_side, Place, in_switch, own_item, elsewhere}
+use Rattle.cr_syntax.specs.Units.{has_here, has_inside, unit_side, Place, in_switch, own_item, block_item, elsewhere}
 use Rattle.cr_machine.specs.MachineBody.{body, is_identifier, assigned, operated, prefixed, suffixed, sized, other_primary, suffixes_end, other_element, array_start, may_name, may_omit, start_goal, tighter, operators, cast_prefixes}
 use Rattle.cr_machine.specs.MachineBody as program
 use Rattle.cr_machine.proofs.MachineMeans as means
@@ -35,7 +35,7 @@ use Rattle.cr_machine.proofs.MachineMeans.{Means, Reads, Behind, Begun, with_nam
 use Rattle.cr_machine.proofs.MachineSound.{Declared, group_named, group_unnamed, Assigns, assignment_rows, Prefixes, unary_rows, cast_rows, IsConstant, constant_rows, Follows, postfix_rows, open_of, part_some, pushed_some, many_of, level_up, plain_up, specifier_rows, Specifies, dropped_member, array_of, array_size, parameters_of, at_end, row_of_parameters, row_alone, row_made}
 use Rattle.cr_machine.proofs.MachineFails.{Fails, words_fail}
 use Rattle.cr_machine.proofs.MachineEnds.{Way}
-use Rattle.cr_machine.proofs.MachineShown.{Next, next_literal, next_call, next_field, next_free, next_more, next_so, ShownIn, Shown, seen, every, Started, shown_literal, shown_call, shown_field, shown_free, shown_so, Room, Barred, Labelled, Defined, has_left, left, right, inside, first, second, third, row_shown, parameter_shown, parameters_shown, operand_begins, postfix_ends, declarator_ends}
+use Rattle.cr_machine.proofs.MachineShown.{Next, next_literal, next_call, next_field, next_free, next_more, next_so, ShownIn, Shown, seen, every, Started, shown_literal, shown_call, shown_field, shown_free, shown_so, Room, Barred, Labelled, Earlier, has_left, left, right, inside, first, second, third, row_shown, parameter_shown, parameters_shown, operand_begins, postfix_ends, declarator_ends}
 use Rattle.cr_machine.proofs.MachineExtend.{Front, front_itself, front_then, longer, Stand, past, past_more, longer_by, weaken, weaken_qualifiers, weaken_name}
 use Rattle.cr_machine.proofs.MachineTasks.{below}
 use Rattle.cr_machine.proofs.MachineTasks as task
@@ -106,6 +106,8 @@ abbrev pub placed : Labels → Place → Bool
 placed anywhere p = true
 placed own_block own_item = true
 placed own_block _ = false
+placed in_block block_item = true
+placed in_block _ = false
 placed nowhere elsewhere = true
 placed nowhere _ = false
 
@@ -113,8 +115,9 @@ abbrev pub blocked : Labels → Place → Bool
 blocked anywhere p = true
 blocked own_block in_switch = true
 blocked own_block _ = false
-blocked nowhere in_switch = false
-blocked nowhere _ = true
+blocked in_block in_switch = false
+blocked in_block _ = true
+blocked nowhere _ = false
 
 module _ (us : List Lexeme) (top : Limit) (way : Way) (late : (g : Manner) (i d : ℕ) → length us < i → Allows top g i d) where
   -- Building.
@@ -353,8 +356,8 @@ module _ (us : List Lexeme) (top : Limit) (way : Way) (late : (g : Manner) (i d 
   Bars (m.has f) n i d = BarsBy (n == 6) f n i d
   Bars x n i d = Barred us top way x n i d
 
-  abbrev pub Refuses : ℕ → ℕ → Type 0
-  Refuses i n = Defined us top way n i
+  abbrev pub Refuses : ℕ → ℕ → ℕ → Type 0
+  Refuses i n r = Earlier us top way n r i
 
   abbrev pub Crowds : ℕ → Type 0
   Crowds i = (d : ℕ) → Room us top way i d

@@ -11,10 +11,10 @@ use Rattle.cr_syntax.specs.Scopes.{Scopes, enter}
 use Rattle.cr_syntax.specs.Trees.{Trees, none, ◌&◌}
 use Rattle.cr_syntax.specs.Context.{fresh, past_part}
 use Rattle.cr_syntax.specs.Spells.{Limit}
-use Rattle.cr_machine.specs.Machine.{Goal, Prog, Manner, Labels, choose, Runs, Done, plain, opens, give, made, around, brought}
+use Rattle.cr_machine.specs.Machine.{Goal, Prog, Manner, Labels, choose, Runs, Done, plain, opens, give, stop, made, around, brought}
 use Rattle.cr_machine.specs.Machine.{whole, expression, commas, assignment, conditional, binary, operands, cast, unary, measured, postfix, called, grouped, texts, arguments, suffixes, type_name, row, more, element, structure, members, member, member_declarators, enumeration, enumerators, enumerator, qualifiers, declarator, declarator_suffixes, abstract_suffixes, size, parameters, more_parameters, parameter}
 use Rattle.cr_machine.specs.Machine.{unit, externals, external, declaration, init_declarators, initialized, initializer, initializers, statement, block, if_rest, switch_rest, while_rest, do_rest, for_rest, return_rest, for_clauses, clause, compound, items, item}
-use Rattle.cr_machine.specs.MachineBody.{body, assigned, operated, prefixed, suffixed, sized, other_primary, suffixes_end, other_element, array_start, declared_on, unlabelled, Words, is_declarator, may_omit, start_goal, tighter, assignment_operators, operators, unary_prefixes, cast_prefixes, constants, postfix_operators, specifier_words}
+use Rattle.cr_machine.specs.MachineBody.{body, marked, declaration_rest, expression_rest, assigned, operated, prefixed, suffixed, sized, other_primary, suffixes_end, other_element, array_start, declared_on, unlabelled, Words, is_declarator, may_omit, start_goal, tighter, assignment_operators, operators, unary_prefixes, cast_prefixes, constants, postfix_operators, specifier_words}
 use Rattle.cr_machine.proofs.MachineGives.{Gives, gives, AllRows, no_rows, also, gives_choose}
 
 -- nothing is known before
@@ -79,6 +79,14 @@ module _ (us : List Lexeme) (top : Limit) where
       let m = entered_more n (brought us i (past_part h a).name (past_part h a).type_name) (around c) (omega arith) in
       λ t e j _ _ m'. (λ q' w t' e' j' _ _ m''. omega arith, (λ q' w. omega arith, tt))
 
+  -- behind a name that may be a label
+  marked_kept : (l : Labels) (d s : ℕ) (p : Prog) (n : ℕ) (c : Scopes) (i : ℕ) → n ≤ length c → Keeps p (λ t e j. n ≤ length e) c i → Keeps (marked l d s p) (λ t e j. n ≤ length e) c i
+  marked_kept l d s p n c i le x = ((λ y. (λ q w t e j _ _ m. omega arith, tt), λ y. tt), x)
+
+  -- behind the specifiers of a declaration
+  rest_kept : (d s : ℕ) (t : Trees) (n : ℕ) (c : Scopes) (i : ℕ) → n ≤ length c → Keeps (declaration_rest d s t) (λ t e j. n ≤ length e) c i
+  rest_kept d s t n c i le = (λ q w. omega arith, λ t' e j _ _ m. omega arith)
+
   unlabelled_kept : (l : Labels) (d s : ℕ) (c : Scopes) (i : ℕ) → Keeps (unlabelled l d s) (λ t e j. length c ≤ length e) c i
   unlabelled_kept l d s c i = (
     λ t e j _ _ m. m,
@@ -92,7 +100,25 @@ module _ (us : List Lexeme) (top : Limit) where
             λ q w t e j _ _ m. m,
             (
               λ q w t e j _ _ m. m,
-              ((λ q w. (λ q' w'. omega arith, tt)), ((λ q w. (λ q' w'. omega arith, tt)), (λ q w t e j _ _ m. m, ((λ q w. omega arith), λ t e j _ _ m. (λ q w. m, tt))))),
+              (
+                (λ q w. (λ q' w'. (λ q'' w''. omega arith, tt), tt)),
+                (
+                  (λ q w. (λ q' w'. omega arith, tt)),
+                  (
+                    (λ q w. (λ q' w'. omega arith, tt)),
+                    (
+                      λ q w t e j _ _ m. m,
+                      (
+                        λ q w. omega arith,
+                        (
+                          λ q w. marked_kept l d s (stop d) (length c) c (i + 1) (omega arith) tt,
+                          λ t e j _ _ m. (λ y. marked_kept l d s (expression_rest d s t) (length c) e j m (λ q w. m, tt), λ y. (λ q w. m, tt)),
+                        ),
+                      ),
+                    ),
+                  ),
+                ),
+              ),
             ),
           ),
         ),
@@ -201,7 +227,7 @@ module _ (us : List Lexeme) (top : Limit) where
         let k = entered_more (length c) (brought us j' (past_part (past_part fresh t) a).name (past_part (past_part fresh t) a).type_name) (around e') (omega arith) in
         ((λ y b f k' _ _ m''. let o' = around_less f in omega arith, λ y. tt), declared_kept (length c) (past_part fresh t) d i (t & none) j a e' j' (omega arith)),
   )
-  kept (declaration d) c i = λ t e j _ _ m. (λ q w. m, λ t' e' j' _ _ m'. omega arith)
+  kept (declaration d) c i = λ t e j _ _ m. rest_kept d i t (length c) e j m
   kept (init_declarators h d s x) c i = λ a e j _ _ m. declared_kept (length c) h d s x i a e j (m.1 (m.2 refl))
   kept (initialized d q a) c i = (λ q' w t e j _ _ m. m, omega arith)
   kept (initializer d) c i = (λ q w t e j _ _ m. m, λ t e j _ _ m. m)
@@ -233,7 +259,7 @@ module _ (us : List Lexeme) (top : Limit) where
   kept (return_rest d s) c i = (λ q w. omega arith, λ t e j _ _ m. (λ q w. m, tt))
   kept (compound l d) c i = (λ q w t e j _ _ m. let o = around_less e in omega arith, tt)
   kept (items l d s x) c i = (λ q w. omega arith, λ t e j _ _ m t' e' j' _ _ m'. omega arith)
-  kept (item l d) c i = (λ t e j _ _ m. m, λ t e j _ _ m. m)
+  kept (item l d) c i = (λ t e j _ _ m. (λ y. marked_kept l d i (declaration_rest d i t) (length c) e j m (rest_kept d i t (length c) e j m), λ y. rest_kept d i t (length c) e j m), λ t e j _ _ m. m)
 
 pub runs_kept : {ts : List Lexeme} {limit : Limit} (g : Goal) (c e : Scopes) (i j : ℕ) (t : Trees) → Runs body ts limit (body g) c i (Done t e j) → Kept g c i t e j
 runs_kept {ts = ts} {limit = limit} g c e i j t h =

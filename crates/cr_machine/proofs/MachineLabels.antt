@@ -1,6 +1,7 @@
--- A label in the bare grammar's trees that is misplaced in the subset: the subset's machine doesn't get past its first token.
-use Rattle.std.proofs.Common.{◌≡◌, ℕ, ◌+◌, ◌<◌, ◌≤◌, true, false, ◌&&◌, ◌||◌, ◌==◌, List, [], ◌∷◌, ◌⊎◌, inl, inr, ⊎_elim, refl, sym, ap, subst, arith}
-use Rattle.std.proofs.lemmas.Bool.{eqb-true, or_parts, or_from, cases_Bool, cases_lt, and_right}
+-- A label in the bare grammar's trees that may not stand there in the subset: the subset's machine doesn't get past the token
+-- that shows it, which is `case` or `default` itself, or the colon behind an identifier.
+use Rattle.std.proofs.Common.{◌≡◌, ℕ, ◌+◌, ◌<◌, ◌≤◌, Bool, true, false, ◌&&◌, ◌||◌, ◌==◌, List, [], ◌∷◌, ◌⊎◌, inl, inr, ⊎_elim, refl, sym, ap, subst, arith}
+use Rattle.std.proofs.lemmas.Bool.{eqb-true, or_parts, or_from, or_left, or_right, cases_Bool, cases_lt, and_right}
 use Rattle.cr_syntax.specs.declared.word.Word.TheVariants as word
 use Rattle.cr_syntax.specs.declared.node.Kind.{Kind}
 use Rattle.cr_syntax.specs.declared.node.Kind.TheVariants as kind
@@ -10,62 +11,138 @@ use Rattle.cr_syntax.specs.Scopes.{Scopes, enter}
 use Rattle.cr_syntax.specs.Trees.{Trees, none, node, one, ◌&◌}
 use Rattle.cr_syntax.specs.Context.{fresh, past_token, past_part, ends_open}
 use Rattle.cr_syntax.specs.Spells.{Limit}
-use Rattle.cr_syntax.specs.Units.{has_here, has_inside, has_after, Place, in_switch, own_item, elsewhere, place_in, is_misplaced, misplaced_at, own_parameters}
-use Rattle.cr_machine.specs.Machine.{Goal, Prog, Labels, anywhere, own_block, nowhere, named, Done, Runs, Allows, passes, the, has, call, has_word}
+use Rattle.cr_syntax.specs.Units.{has_here, has_inside, has_after, Place, in_switch, own_item, block_item, elsewhere, place_in, is_misplaced, is_stray, wrong_at, own_parameters}
+use Rattle.cr_machine.specs.Machine.{Goal, Prog, Labels, anywhere, own_block, in_block, nowhere, named, Done, Runs, Allows, passes, the, has, call, has_word}
 use Rattle.cr_machine.specs.Machine.{expression, conditional, row, declarator, unit, externals, external, declaration, init_declarators, statement, block, if_rest, switch_rest, while_rest, do_rest, for_rest, return_rest, for_clauses, clause, compound, items, item}
 use Rattle.cr_machine.specs.Machine as m
 use Rattle.cr_machine.specs.MachineBody as program
-use Rattle.cr_machine.specs.MachineBody.{body, is_label, unlabelled, defined, may_define}
+use Rattle.cr_machine.specs.MachineBody.{body, is_label, is_identifier, is_type_name, unlabelled, marked, declaration_rest, expression_rest, defined, may_define}
+use Rattle.cr_machine.proofs.MachineNames.{one_name}
+use Rattle.cr_machine.proofs.MachineSound.{runs_sound}
 use Rattle.cr_machine.proofs.MachineRuns.{reach}
 use Rattle.cr_machine.proofs.MachineFirst.{true_false}
-use Rattle.cr_machine.proofs.MachineEnds.{Way, barring, defining, Ends, refused_so, end_refuse, end_take, end_pass, end_bar, end_free, end_seen, end_unseen, end_yes, end_no, end_here, end_look, end_set, end_bring, end_behind, end_inside}
-use Rattle.cr_machine.proofs.MachineForms.{some_label, mark, Clean, Unmarked, unmarked_by, declaration_parts}
-use Rattle.cr_machine.proofs.MachineLoose.{loose, looser, own_label, own_definition, Departs, part_way, tightened, label_yes, label_none}
+use Rattle.cr_machine.proofs.MachineEnds.{Way, barring, naming, Ends, refused_so, end_refuse, end_take, end_pass, end_bar, end_free, end_seen, end_unseen, end_yes, end_no, end_here, end_look, end_set, end_bring, end_behind, end_inside}
+use Rattle.cr_machine.proofs.MachineForms.{some_label, mark, Clean, clean_alone, Unmarked, unmarked_by, declaration_parts}
+use Rattle.cr_machine.proofs.MachineLoose.{loose, looser, own_label, own_earlier, Departs, part_way, tightened, label_yes, label_none}
 use Rattle.cr_machine.proofs.MachineTraces.{Traces, traces_idle, traced}
+
+-- the rows of labels: those of a switch, and identifiers
+pub data LabelRow : Type 0 where
+  of_switch : LabelRow
+  of_name : LabelRow
+
+abbrev pub wrong : LabelRow → Kind → Place → Bool
+wrong of_switch = is_misplaced
+wrong of_name = is_stray
+
+-- the token at which a label at token k shows itself
+abbrev pub far : LabelRow → ℕ → ℕ
+far of_switch k = k
+far of_name k = k + 1
+
+far_least : (r : LabelRow) (k : ℕ) → k ≤ far r k
+far_least of_switch k = omega arith
+far_least of_name k = omega arith
+
+abbrev is_labelling : Kind → Bool
+is_labelling kind.Label = true
+is_labelling kind.Case = true
+is_labelling kind.Default = true
+is_labelling _ = false
+
+-- no other node is wrong
+not_wrong : (r : LabelRow) (q : Kind) (at : Place) → is_labelling q ≡ false → wrong r q at ≡ false
+not_wrong of_switch kind.Case at y = true_false y
+not_wrong of_switch kind.Default at y = true_false y
+not_wrong of_switch _ at y = refl
+not_wrong of_name kind.Label at y = true_false y
+not_wrong of_name _ at y = refl
 
 -- the subset's machine, within a unit
 pub data IsSub : Labels → Type 0 where
   sub_own : IsSub own_block
+  sub_block : IsSub in_block
   sub_nowhere : IsSub nowhere
 
 -- where the trees stand that are read so
 abbrev pub place_of : Labels → Place
 place_of own_block = own_item
+place_of in_block = block_item
 place_of _ = elsewhere
 
 sub_inside : {l : Labels} → IsSub l → IsSub (program.inside l)
 sub_inside sub_own = sub_nowhere
+sub_inside sub_block = sub_nowhere
 sub_inside sub_nowhere = sub_nowhere
+
+sub_compound : {l : Labels} → IsSub l → IsSub (program.in_compound l)
+sub_compound sub_own = sub_block
+sub_compound sub_block = sub_block
+sub_compound sub_nowhere = sub_block
 
 sub_switch : {l : Labels} → IsSub l → IsSub (program.in_switch l)
 sub_switch sub_own = sub_own
+sub_switch sub_block = sub_own
 sub_switch sub_nowhere = sub_own
 
 place_inside : {l : Labels} → IsSub l → place_of (program.inside l) ≡ elsewhere
 place_inside sub_own = refl
+place_inside sub_block = refl
 place_inside sub_nowhere = refl
 
 place_switch : {l : Labels} → IsSub l → own_item ≡ place_of (program.in_switch l)
 place_switch sub_own = refl
+place_switch sub_block = refl
 place_switch sub_nowhere = refl
 
-place_block : {l : Labels} → IsSub l → place_in kind.Compound (place_of l) ≡ place_of (program.inside l)
+place_block : {l : Labels} → IsSub l → place_in kind.Compound (place_of l) ≡ place_of (program.in_compound l)
 place_block sub_own = refl
+place_block sub_block = refl
 place_block sub_nowhere = refl
+
+-- the body of a function
+place_body : {l : Labels} → IsSub l → block_item ≡ place_of (program.in_compound l)
+place_body sub_own = refl
+place_body sub_block = refl
+place_body sub_nowhere = refl
+
+case_own : (r : LabelRow) → wrong r kind.Case own_item ≡ false
+case_own of_switch = refl
+case_own of_name = refl
+
+default_own : (r : LabelRow) → wrong r kind.Default own_item ≡ false
+default_own of_switch = refl
+default_own of_name = refl
+
+placed_own : (r : LabelRow) → wrong r kind.Label own_item ≡ false
+placed_own of_switch = refl
+placed_own of_name = refl
+
+placed_block : (r : LabelRow) → wrong r kind.Label block_item ≡ false
+placed_block of_switch = refl
+placed_block of_name = refl
 
 same_number : (i k : ℕ) → (i ≡ k → ⊥) → (i == k) ≡ false
 same_number i k f = ⊎_elim (λ y. absurd (f (eqb-true i k y))) (λ y. y) (cases_Bool (i == k))
 
-module _ (k : ℕ) where
-  -- no misplaced label begins at token k
+-- a label behind token k isn't at it, and an identifier's that shows itself behind is of the other row, or not at it
+apart : (i k : ℕ) (r : LabelRow) (b : Bool) → far r k < i → (i == k) && b ≡ false
+apart i k r b gt = let n = far_least r k in ap (λ x. x && b) (same_number i k (λ e. omega arith))
+
+name_apart : (i k m : ℕ) (r : LabelRow) → m ≡ i + 1 → far r k < m → (i == k) && wrong r kind.Label elsewhere ≡ false
+name_apart i k m of_switch e gt = and_right (i == k) false refl
+name_apart i k m of_name e gt = ap (λ x. x && true) (same_number i k (λ q. omega arith))
+
+module _ (z : LabelRow) (k : ℕ) where
+  -- no wrong label begins at token k
   abbrev pub Fine : Place → Trees → Type 0
-  Fine at t = misplaced_at k at t ≡ false
+  Fine at t = wrong_at (wrong z) k at t ≡ false
 
   fine_and : (at : Place) (t u : Trees) → Fine at t → Fine at u → Fine at (t & u)
   fine_and at none u x y = y
   fine_and at (node q i j a n) u x y =
-      let v = or_parts ((i == k) && is_misplaced q at || misplaced_at k (place_in q at) a) (misplaced_at k at n) x in
-      or_from ((i == k) && is_misplaced q at || misplaced_at k (place_in q at) a) (misplaced_at k at (n & u)) v.0 (fine_and at n u v.1 y)
+      let v = or_parts ((i == k) && wrong z q at || wrong_at (wrong z) k (place_in q at) a) (wrong_at (wrong z) k at n) x in
+      or_from ((i == k) && wrong z q at || wrong_at (wrong z) k (place_in q at) a) (wrong_at (wrong z) k at (n & u)) v.0 (fine_and at n u v.1 y)
 
   fine_two : (at : Place) (t u : Trees) → Fine at t → Fine at u → Fine at (t & u & none)
   fine_two at t u x y = fine_and at t (u & none) x (fine_and at u none y refl)
@@ -73,25 +150,30 @@ module _ (k : ℕ) where
   fine_three : (at : Place) (t u v : Trees) → Fine at t → Fine at u → Fine at v → Fine at (t & u & v & none)
   fine_three at t u v x y z = fine_and at t (u & v & none) x (fine_two at u v y z)
 
-  fine_by : (q : Kind) (i j : ℕ) (a : Trees) (at : Place) → (i == k) && is_misplaced q at ≡ false → Fine (place_in q at) a → Fine at (one q i j a)
-  fine_by q i j a at n x = or_from ((i == k) && is_misplaced q at || misplaced_at k (place_in q at) a) false (or_from ((i == k) && is_misplaced q at) (misplaced_at k (place_in q at) a) n x) refl
+  fine_by : (q : Kind) (i j : ℕ) (a : Trees) (at : Place) → (i == k) && wrong z q at ≡ false → Fine (place_in q at) a → Fine at (one q i j a)
+  fine_by q i j a at n x = or_from ((i == k) && wrong z q at || wrong_at (wrong z) k (place_in q at) a) false (or_from ((i == k) && wrong z q at) (wrong_at (wrong z) k (place_in q at) a) n x) refl
+
+  -- a node that isn't wrong there
+  fine_there : (q : Kind) (i j : ℕ) (a : Trees) (at : Place) → wrong z q at ≡ false → Fine (place_in q at) a → Fine at (one q i j a)
+  fine_there q i j a at n x = fine_by q i j a at (subst (λ b. (i == k) && b ≡ false) (sym n) (and_right (i == k) false refl)) x
 
   -- a node that is no label, in any place
-  fine_one : (q : Kind) (i j : ℕ) (a : Trees) (at : Place) → is_misplaced q at ≡ false → Fine (place_in q at) a → Fine at (one q i j a)
-  fine_one q i j a at n x = fine_by q i j a at (subst (λ b. (i == k) && b ≡ false) (sym n) (and_right (i == k) false refl)) x
+  fine_one : (q : Kind) (i j : ℕ) (a : Trees) (at : Place) → is_labelling q ≡ false → Fine (place_in q at) a → Fine at (one q i j a)
+  fine_one q i j a at n x = fine_there q i j a at (not_wrong z q at n) x
 
   -- trees without a label
-  no_label_kind : (q : Kind) (at : Place) (i j : ℕ) (a : Trees) → (mark some_label 0 q i j a ≡ true → ⊥) → is_misplaced q at ≡ false
-  no_label_kind kind.Case at i j a f = absurd (f refl)
-  no_label_kind kind.Default at i j a f = absurd (f refl)
-  no_label_kind _ at i j a f = refl
+  no_label_kind : (q : Kind) (i j : ℕ) (a : Trees) → (mark some_label 0 q i j a ≡ true → ⊥) → is_labelling q ≡ false
+  no_label_kind kind.Label i j a f = absurd (f refl)
+  no_label_kind kind.Case i j a f = absurd (f refl)
+  no_label_kind kind.Default i j a f = absurd (f refl)
+  no_label_kind _ i j a f = refl
 
   clean_fine : (t : Trees) → Clean some_label 0 t → (at : Place) → Fine at t
   clean_fine none x at = refl
   clean_fine (node q i j a n) x at =
-      or_from ((i == k) && is_misplaced q at || misplaced_at k (place_in q at) a) (misplaced_at k at n)
-      (or_from ((i == k) && is_misplaced q at) (misplaced_at k (place_in q at) a)
-      (subst (λ b. (i == k) && b ≡ false) (sym (no_label_kind q at i j a (λ y. x (has_here y)))) (and_right (i == k) false refl))
+      or_from ((i == k) && wrong z q at || wrong_at (wrong z) k (place_in q at) a) (wrong_at (wrong z) k at n)
+      (or_from ((i == k) && wrong z q at) (wrong_at (wrong z) k (place_in q at) a)
+      (subst (λ b. (i == k) && b ≡ false) (sym (not_wrong z q at (no_label_kind q i j a (λ y. x (has_here y))))) (and_right (i == k) false refl))
       (clean_fine a (λ y. x (has_inside y)) (place_in q at)))
       (clean_fine n (λ y. x (has_after y)) at)
 
@@ -99,9 +181,9 @@ module _ (k : ℕ) where
     abbrev Reads : Goal → Scopes → ℕ → Trees → Scopes → ℕ → Type 0
     Reads g c i t e j = Runs body us limit (body g) c i (Done t e j)
 
-    -- the subset's machine is refused at token k or before
+    -- the subset's machine is refused at the token that shows a label at token k, or before
     abbrev pub Caught : Prog → Scopes → ℕ → Type 0
-    Caught p c i = Departs us limit p c i k
+    Caught p c i = Departs us limit p c i (far z k)
 
     caught_on : {p q : Prog} {c e : Scopes} {i j : ℕ} → Caught p c i → ((w : Way) (n : ℕ) → Ends body us limit p c i w n → Ends body us limit q e j w n) → Caught q e j
     caught_on x f = part_way x (omega arith) f
@@ -111,7 +193,7 @@ module _ (k : ℕ) where
     or_caught x f g = ⊎_elim (λ y. inl (f y)) (λ y. inr (caught_on y g)) x
 
     -- what is caught is so at a token that it gets to
-    starts_by : {p : Prog} {c : Scopes} {i : ℕ} → Caught p c i → i ≤ k
+    starts_by : {p : Prog} {c : Scopes} {i : ℕ} → Caught p c i → i ≤ far z k
     starts_by x = let n = reach (refused_so x.ends) in let n' = x.by in omega arith
 
     -- behind a goal that the bare grammar's machine reads
@@ -141,7 +223,7 @@ module _ (k : ℕ) where
 
     -- The programs of the goals.
 
-    made_by : (q : Kind) (i j : ℕ) (a : Trees) (at : Place) → is_misplaced q at ≡ false → place_in q at ≡ elsewhere → Fine elsewhere a → Fine at (one q i j a)
+    made_by : (q : Kind) (i j : ℕ) (a : Trees) (at : Place) → is_labelling q ≡ false → place_in q at ≡ elsewhere → Fine elsewhere a → Fine at (one q i j a)
     made_by q i j a at n w x = fine_one q i j a at n (subst (λ z. Fine z a) (sym w) x)
 
     -- the parts of a statement, read where no label may stand
@@ -154,31 +236,93 @@ module _ (k : ℕ) where
     free_expression : {d : ℕ} {c e : Scopes} {i j : ℕ} {t : Trees} → Reads (expression d) c i t e j → (at : Place) → Fine at t
     free_expression {d = d} h = free (expression d) h (λ x. x)
 
-    unlabelled_owes : (d s : ℕ) (c : Scopes) (i : ℕ) (f : Trees → Scopes → ℕ → Type 0) →
-        ((t : Trees) (e : Scopes) (j : ℕ) → ((l : Labels) → IsSub l → Fine (place_of l) t ⊎ Caught (unlabelled l d s) c i) → f t e j) → Owes (unlabelled anywhere d s) f c i
-    unlabelled_owes d s c i f g = (
-      λ y t e j h z. g t e j (λ l o. or_caught (z (program.inside l) (sub_inside o) (place_of l) (place_block o)) (λ x. x) (λ w n v. end_seen y (end_inside v))),
+    -- A label at token i, with the parts x and the statement t that begins at token n: in its place, or where the subset's
+    -- machine refuses it at token m.
+
+    label_placed : {l : Labels} {p : Prog} {c : Scopes} (q : Kind) (i j d : ℕ) (x t u : Trees) (e : Scopes) (n : ℕ) → wrong z q (place_of l) ≡ false → place_in q (place_of l) ≡ place_of l → u ≡ x & t & none →
+        ((at : Place) → Fine at x) → Fine (place_of l) t ⊎ Caught (body (statement l (d + 1))) e n →
+        ((w : Way) (m : ℕ) → Ends body us limit (body (statement l (d + 1))) e n w m → Ends body us limit p c i w m) → Fine (place_of l) (one q i j u) ⊎ Caught p c i
+    label_placed {l = l} q i j d x t u e n y y' o v r g = or_caught r
+        (λ r'. fine_there q i j u (place_of l) y (subst (λ at. Fine at u) (sym y') (subst (λ b. Fine (place_of l) b) (sym o) (fine_two (place_of l) x t (v (place_of l)) r')))) g
+
+    label_refused : {l : Labels} {p : Prog} {c : Scopes} (q : Kind) (i j d : ℕ) (x t u : Trees) (e : Scopes) (n m : ℕ) → (far z k < m → (i == k) && wrong z q (place_of l) ≡ false) → place_in q (place_of l) ≡ place_of l → u ≡ x & t & none →
+        m < n → ((at : Place) → Fine at x) → Fine (place_of l) t ⊎ Caught (body (statement l (d + 1))) e n → (m ≤ far z k → Caught p c i) → Fine (place_of l) (one q i j u) ⊎ Caught p c i
+    label_refused {l = l} q i j d x t u e n m y y' o lt v r g = ⊎_elim
+        (λ gt. inl (fine_by q i j u (place_of l) (y gt) (subst (λ at. Fine at u) (sym y') (subst (λ b. Fine (place_of l) b) (sym o) (fine_two (place_of l) x t (v (place_of l)) (later gt))))))
+        (λ le. inr (g le)) (cases_lt (far z k) m)
+      where
+        later : far z k < m → Fine (place_of l) t
+        later gt = ⊎_elim (λ f. f) (λ f. let le = starts_by f in absurd (omega arith)) r
+
+    -- of a switch: at its own token
+    switch_label : (q : Kind) (i j d : ℕ) (x t u : Trees) (c e : Scopes) (n : ℕ) → wrong z q own_item ≡ false → place_in q own_item ≡ own_item → place_in q block_item ≡ block_item → place_in q elsewhere ≡ elsewhere → i < n →
+        has_word us i is_label ≡ true → u ≡ x & t & none → ((at : Place) → Fine at x) → ((l : Labels) → IsSub l → Fine (place_of l) t ⊎ Caught (body (statement l (d + 1))) e n) →
+        ((w : Way) (m : ℕ) → Ends body us limit (body (statement own_block (d + 1))) e n w m → Ends body us limit (body (statement own_block d)) c i w m) →
+        (l : Labels) → IsSub l → Fine (place_of l) (one q i j u) ⊎ Caught (body (statement l d)) c i
+    switch_label q i j d x t u c e n q0 q1 q2 q3 lt y o v r g anywhere b = elim b [ ]
+    switch_label q i j d x t u c e n q0 q1 q2 q3 lt y o v r g own_block sub_own = label_placed {l = own_block} q i j d x t u e n q0 q1 o v (r own_block sub_own) g
+    switch_label q i j d x t u c e n q0 q1 q2 q3 lt y o v r g in_block sub_block = label_refused {l = in_block} q i j d x t u e n i (apart i k z _) q2 o lt v (r in_block sub_block)
+        (λ le. record { way = barring (has is_label) 6 d; at = i; own = own_label y; ends = end_here (end_no refl (end_bar y)); by = le })
+    switch_label q i j d x t u c e n q0 q1 q2 q3 lt y o v r g nowhere sub_nowhere = label_refused {l = nowhere} q i j d x t u e n i (apart i k z _) q3 o lt v (r nowhere sub_nowhere)
+        (λ le. record { way = barring (has is_label) 6 d; at = i; own = own_label y; ends = end_here (end_no refl (end_bar y)); by = le })
+
+    -- an identifier: at the colon behind it
+    name_label : (i j d : ℕ) (t : Trees) (c e : Scopes) (n m : ℕ) (p : Labels → Prog) → m ≡ i + 1 → m < n → ((l : Labels) → IsSub l → Fine (place_of l) t ⊎ Caught (body (statement l (d + 1))) e n) →
+        ((l : Labels) → program.may_mark l ≡ true → (w : Way) (m : ℕ) → Ends body us limit (body (statement l (d + 1))) e n w m → Ends body us limit (p l) c i w m) →
+        Ends body us limit (p nowhere) c i (naming i 9) m → (l : Labels) → IsSub l → Fine (place_of l) (one kind.Label i j (t & none)) ⊎ Caught (p l) c i
+    name_label i j d t c e n m p o lt r g x anywhere b = elim b [ ]
+    name_label i j d t c e n m p o lt r g x own_block sub_own = label_placed {l = own_block} kind.Label i j d none t (t & none) e n (placed_own z) refl refl (λ at. refl) (r own_block sub_own) (g own_block refl)
+    name_label i j d t c e n m p o lt r g x in_block sub_block = label_placed {l = in_block} kind.Label i j d none t (t & none) e n (placed_block z) refl refl (λ at. refl) (r in_block sub_block) (g in_block refl)
+    name_label i j d t c e n m p o lt r g x nowhere sub_nowhere = label_refused {l = nowhere} kind.Label i j d none t (t & none) e n m (λ gt. name_apart i k m z o gt) refl refl lt (λ at. refl) (r nowhere sub_nowhere)
+        (λ le. record { way = naming i 9; at = m; own = own_earlier; ends = x; by = le })
+
+    -- behind a name from token i on that may be a label
+    marked_owes : (d i : ℕ) (p : Labels → Prog) (q : Prog) (c e : Scopes) (j : ℕ) (f : Trees → Scopes → ℕ → Type 0) → j ≡ i + 1 → ((t : Trees) (e : Scopes) (j : ℕ) → ((l : Labels) → IsSub l → Fine (place_of l) t ⊎ Caught (p l) c i) → f t e j) →
+        ((l : Labels) (w : Way) (m : ℕ) → Ends body us limit (marked l d i q) e j w m → Ends body us limit (p l) c i w m) → Owes q f e j → Owes (marked anywhere d i q) f e j
+    marked_owes d i p q c e j f o g x y = (
+      λ v. (
+        λ _. (
+          λ v' a t e' j' h r. g _ e' j' (name_label i j' d t c e (j + 1) j p o (omega arith) r (λ l b w m u. x l w m (end_seen v (end_yes b (end_take v' a (end_inside u))))) (x nowhere (naming i 9) j (end_seen v (end_no refl end_refuse)))),
+          λ v'. tt,
+        ),
+        λ b. true_false b,
+      ),
+      λ v. y,
+    )
+
+    unlabelled_owes : (d : ℕ) (c : Scopes) (i : ℕ) (f : Trees → Scopes → ℕ → Type 0) →
+        ((t : Trees) (e : Scopes) (j : ℕ) → ((l : Labels) → IsSub l → Fine (place_of l) t ⊎ Caught (unlabelled l d i) c i) → f t e j) → Owes (unlabelled anywhere d i) f c i
+    unlabelled_owes d c i f g = (
+      λ y t e j h r. g t e j (λ l o. or_caught (r (program.in_compound l) (sub_compound o) (place_of l) (place_block o)) (λ x. x) (λ w n v. end_seen y (end_inside v))),
       λ y0. (
-        λ y a t e j h z. g t e j (λ l o. or_caught (z l o) (λ x. x) (λ w n v. end_unseen y0 (end_take y a (end_inside v)))),
+        λ y a t e j h r. g t e j (λ l o. or_caught (r l o) (λ x. x) (λ w n v. end_unseen y0 (end_take y a (end_inside v)))),
         λ y1. (
-          λ y a t e j h z. g t e j (λ l o. or_caught (z l o) (λ x. x) (λ w n v. end_unseen y0 (end_pass y1 (end_take y a (end_inside v))))),
+          λ y a t e j h r. g t e j (λ l o. or_caught (r l o) (λ x. x) (λ w n v. end_unseen y0 (end_pass y1 (end_take y a (end_inside v))))),
           λ y2. (
-            λ y a t e j h z. g t e j (λ l o. or_caught (z l o) (λ x. x) (λ w n v. end_unseen y0 (end_pass y1 (end_pass y2 (end_take y a (end_inside v)))))),
+            λ y a t e j h r. g t e j (λ l o. or_caught (r l o) (λ x. x) (λ w n v. end_unseen y0 (end_pass y1 (end_pass y2 (end_take y a (end_inside v)))))),
             λ y3. (
-              λ y a t e j h z. g t e j (λ l o. or_caught (z l o) (λ x. x) (λ w n v. end_unseen y0 (end_pass y1 (end_pass y2 (end_pass y3 (end_take y a (end_inside v))))))),
+              λ y a t e j h r. g t e j (λ l o. or_caught (r l o) (λ x. x) (λ w n v. end_unseen y0 (end_pass y1 (end_pass y2 (end_pass y3 (end_take y a (end_inside v))))))),
               λ y4. (
-                λ y a t e j h z. g t e j (λ l o. or_caught (z l o) (λ x. x) (λ w n v. end_unseen y0 (end_pass y1 (end_pass y2 (end_pass y3 (end_pass y4 (end_take y a (end_inside v)))))))),
+                λ y a t e j h r. g t e j (λ l o. or_caught (r l o) (λ x. x) (λ w n v. end_unseen y0 (end_pass y1 (end_pass y2 (end_pass y3 (end_pass y4 (end_take y a (end_inside v)))))))),
                 λ y5. (
-                  λ y a. (λ y' a'. g _ c (i + 1 + 1) (λ l o. inl (plain kind.Break (i + 1 + 1) l refl refl)), λ y'. tt),
+                  λ y a. (λ y' a'. (λ y'' a''. plain kind.Goto (i + 1 + 1 + 1) c refl (λ l. refl), λ y''. tt), λ y'. tt),
                   λ y6. (
-                    λ y a. (λ y' a'. g _ c (i + 1 + 1) (λ l o. inl (plain kind.Continue (i + 1 + 1) l refl refl)), λ y'. tt),
+                    λ y a. (λ y' a'. plain kind.Break (i + 1 + 1) c refl (λ l. refl), λ y'. tt),
                     λ y7. (
-                      λ y a t e j h _. g t e j (λ l o. inl (free (return_rest d s) h (λ x. x) (place_of l))),
+                      λ y a. (λ y' a'. plain kind.Continue (i + 1 + 1) c refl (λ l. refl), λ y'. tt),
                       λ y8. (
-                        λ y a. g _ c (i + 1) (λ l o. inl (plain kind.ExpressionStatement (i + 1) l refl refl)),
-                        λ y9 t e j h _. (
-                          λ y' a'. g _ e (j + 1) (λ l o. inl (made_by kind.ExpressionStatement s (j + 1) (t & none) (place_of l) refl refl (fine_and elsewhere t none (free_expression h elsewhere) refl))),
-                          λ y'. tt,
+                        λ y a t e j h _. g t e j (λ l o. inl (free (return_rest d i) h (λ x. x) (place_of l))),
+                        λ y9. (
+                          λ y a. plain kind.ExpressionStatement (i + 1) c refl (λ l. refl),
+                          λ y10. (
+                            λ y a. marked_owes d i (λ l. unlabelled l d i) (m.stop d) c c (i + 1) f refl g
+                                (λ l w n v. end_unseen y0 (end_pass y1 (end_pass y2 (end_pass y3 (end_pass y4 (end_pass y5 (end_pass y6 (end_pass y7 (end_pass y8 (end_pass y9 (end_pass y10 (end_take y a v)))))))))))) tt,
+                            λ y11 t e j h _. (
+                              λ b. marked_owes d i (λ l. unlabelled l d i) (expression_rest d i t) c e j f (one_name (runs_sound (expression d) c e i j t h fresh) (or_left (is_identifier t) (is_type_name t) b)).end g
+                                  (λ l w n v. end_unseen y0 (end_pass y1 (end_pass y2 (end_pass y3 (end_pass y4 (end_pass y5 (end_pass y6 (end_pass y7 (end_pass y8 (end_pass y9 (end_pass y10 (end_pass y11 (end_behind h (end_yes b v)))))))))))))) (whole h),
+                              λ b. whole h,
+                            ),
+                          ),
                         ),
                       ),
                     ),
@@ -191,40 +335,28 @@ module _ (k : ℕ) where
       ),
     )
       where
-        plain : (q : Kind) (e : ℕ) (l : Labels) → is_misplaced q (place_of l) ≡ false → place_in q (place_of l) ≡ elsewhere → Fine (place_of l) (one q s e none)
-        plain q e l n w = made_by q s e none (place_of l) n w refl
+        plain : (q : Kind) (e : ℕ) (c' : Scopes) → is_labelling q ≡ false → ((l : Labels) → place_in q (place_of l) ≡ elsewhere) → f (one q i e none) c' e
+        plain q e c' n w = g _ c' e (λ l o. inl (made_by q i e none (place_of l) n (w l) refl))
 
-    -- a label in its place, or where the subset's machine refuses it
-    label_fine : (q : Kind) (i j d : ℕ) (x t u : Trees) (c e : Scopes) (n : ℕ) → place_in q own_item ≡ own_item → is_misplaced q own_item ≡ false → place_in q elsewhere ≡ elsewhere → i < n →
-        has_word us i is_label ≡ true → u ≡ x & t & none → ((at : Place) → Fine at x) → ((l : Labels) → IsSub l → Fine (place_of l) t ⊎ Caught (body (statement l (d + 1))) e n) →
-        ((w : Way) (m : ℕ) → Ends body us limit (body (statement own_block (d + 1))) e n w m → Ends body us limit (body (statement own_block d)) c i w m) →
-        (l : Labels) → IsSub l → Fine (place_of l) (one q i j u) ⊎ Caught (body (statement l d)) c i
-    label_fine q i j d x t u c e n q0 q1 q2 lt y o v z g anywhere b = elim b [ ]
-    label_fine q i j d x t u c e n q0 q1 q2 lt y o v z g own_block sub_own = or_caught (z own_block sub_own)
-        (λ r. fine_one q i j u own_item q1 (subst (λ at. Fine at u) (sym q0) (subst (λ b. Fine own_item b) (sym o) (fine_two own_item x t (v own_item) r)))) g
-    label_fine q i j d x t u c e n q0 q1 q2 lt y o v z g nowhere sub_nowhere = ⊎_elim
-        (λ gt. inl (fine_by q i j u elsewhere (ap (λ b. b && is_misplaced q elsewhere) (same_number i k (λ r. omega arith)))
-        (subst (λ at. Fine at u) (sym q2) (subst (λ b. Fine elsewhere b) (sym o) (fine_two elsewhere x t (v elsewhere) (later gt))))))
-        (λ le. inr (record { way = barring (has is_label) 6 d; at = i; own = own_label y; ends = end_here (end_no refl (end_bar y)); by = le })) (cases_lt k i)
-      where
-        later : k < i → Fine elsewhere t
-        later gt = ⊎_elim (λ r. r) (λ r. let le = starts_by r in absurd (omega arith)) (z nowhere sub_nowhere)
+        whole : {t : Trees} {e : Scopes} {j : ℕ} → Reads (expression d) c i t e j → Owes (expression_rest d i t) f e j
+        whole {t = t} {e = e} {j = j} h =
+            (λ y a. g _ e (j + 1) (λ l o. inl (made_by kind.ExpressionStatement i (j + 1) (t & none) (place_of l) refl refl (fine_and elsewhere t none (free_expression h elsewhere) refl))), λ y. tt)
 
     statement_owes : (d : ℕ) (c : Scopes) (i : ℕ) → Owes (body (statement anywhere d)) (Placed (statement anywhere d) c i) c i
     statement_owes d c i = (
       λ _. (
         λ y a t e j h _. (
-          λ y' a' t' e' j' h' z. let n = reach h in label_fine kind.Case i j' d t t' (t & t' & none) c e (j + 1) refl refl refl (omega arith) (label_yes us i word.Case refl y) refl (free (conditional d) h (λ x. x)) z
+          λ y' a' t' e' j' h' r. let n = reach h in switch_label kind.Case i j' d t t' (t & t' & none) c e (j + 1) (case_own z) refl refl refl (omega arith) (label_yes us i word.Case refl y) refl (free (conditional d) h (λ x. x)) r
               (λ w m v. end_here (end_yes refl (end_take y a (end_behind h (end_take y' a' (end_inside v)))))),
           λ y'. tt,
         ),
         λ y0. (
           λ y a. (
-            λ y' a' t' e' j' h' z. label_fine kind.Default i j' d none t' (t' & none) c c (i + 1 + 1) refl refl refl (omega arith) (label_yes us i word.Default refl y) refl (λ at. refl) z
+            λ y' a' t' e' j' h' r. switch_label kind.Default i j' d none t' (t' & none) c c (i + 1 + 1) (default_own z) refl refl refl (omega arith) (label_yes us i word.Default refl y) refl (λ at. refl) r
                 (λ w m v. end_here (end_yes refl (end_pass y0 (end_take y a (end_take y' a' (end_inside v)))))),
             λ y'. tt,
           ),
-          λ y1. unlabelled_owes d i c (i) (Placed (statement anywhere d) c i) (λ t e j z l o. or_caught (z l o) (λ x. x) (path y0 y1 o)),
+          λ y1. unlabelled_owes d c i (Placed (statement anywhere d) c i) (λ t e j r l o. or_caught (r l o) (λ x. x) (path y0 y1 o)),
         ),
       ),
       λ q. true_false q,
@@ -233,6 +365,7 @@ module _ (k : ℕ) where
         path : {l : Labels} → passes us c i (the word.Case) ≡ false → passes us c i (the word.Default) ≡ false → IsSub l → (w : Way) (n : ℕ) → Ends body us limit (unlabelled l d i) c i w n →
             Ends body us limit (body (statement l d)) c i w n
         path y y' sub_own w n v = end_here (end_yes refl (end_pass y (end_pass y' v)))
+        path y y' sub_block w n v = end_here (end_no refl (end_free (label_none us i y y') v))
         path y y' sub_nowhere w n v = end_here (end_no refl (end_free (label_none us i y y') v))
 
     block_owes : (d : ℕ) (c : Scopes) (i : ℕ) → Owes (body (block anywhere d)) (Placed (block anywhere d) c i) c i
@@ -349,9 +482,19 @@ module _ (k : ℕ) where
 
     item_owes : (d : ℕ) (c : Scopes) (i : ℕ) → Owes (body (item anywhere d)) (Placed (item anywhere d) c i) c i
     item_owes d c i = (
-      λ y t e j h _ l o. inl (free (declaration d) h (λ x. x) (place_of l)),
+      λ y t e j h _. (
+        λ b. marked_owes d i (λ l. body (item l d)) (declaration_rest d i t) c e j (Placed (item anywhere d) c i) (one_name (runs_sound (row part.Specifiers fresh d) c e i j t h) (or_right (is_identifier t) (is_type_name t) b)).end (λ t e j r. r)
+            (λ l w n v. end_seen y (end_here (end_behind h (end_yes b v)))) (declared h),
+        λ b. declared h,
+      ),
       λ y t e j h z l o. or_caught (z l o) (λ x. x) (λ w n v. end_unseen y (end_inside v)),
     )
+      where
+        declared : {t : Trees} {e : Scopes} {j : ℕ} → Reads (row part.Specifiers fresh d) c i t e j → Owes (declaration_rest d i t) (Placed (item anywhere d) c i) e j
+        declared {t = t} {e = e} {j = j} h = (
+          λ y a l o. inl (made_by kind.Declaration i (j + 1) (t & none) (place_of l) refl refl (fine_and elsewhere t none (free (row part.Specifiers fresh d) h (λ x. x) elsewhere) refl)),
+          λ y t' e' j' h' _ l o. inl (free (init_declarators (past_part fresh t) d i (t & none)) h' (λ f. f (clean_alone some_label 0 (unmarked_by some_label refl us limit (row part.Specifiers fresh d) h))) (place_of l)),
+        )
 
     unit_caught : (l : Labels) (d : ℕ) (t : Trees) {c e : Scopes} {i j : ℕ} → Reads (external anywhere d) c i t e j → Caught (body (externals l d (t & none))) e j → Caught (body (unit l d)) c i
     unit_caught l d t h z = passed (external l d) {f = λ u. call (externals l d (u & none)) m.give} h (caught_on z (λ w n v. end_inside v))
@@ -377,10 +520,10 @@ module _ (k : ℕ) where
     abbrev body_scopes : Scopes → ℕ → Trees → Trees → Scopes
     body_scopes c i t a = m.innermost_of c ∷ enter (m.brought us i (past_part (past_part fresh t) a).name (past_part (past_part fresh t) a).type_name) (m.around c)
 
-    definition_caught : (l : Labels) (d s : ℕ) (t a : Trees) {c : Scopes} {i : ℕ} → Caught (body (compound (program.inside l) d)) (body_scopes c i t a) i → Caught (defined l d s t a) c i
+    definition_caught : (l : Labels) (d s : ℕ) (t a : Trees) {c : Scopes} {i : ℕ} → Caught (body (compound (program.in_compound l) d)) (body_scopes c i t a) i → Caught (defined l d s t a) c i
     definition_caught l d s t a {i = i} x = let le = starts_by x in ⊎_elim
         (λ q. caught_on x (λ w n v. end_yes q (end_look (end_set (end_bring (end_look (end_set (end_inside v))))))))
-        (λ q. record { way = defining (program.last_token (own_parameters a)); at = i; own = own_definition; ends = end_no q end_refuse; by = le })
+        (λ q. record { way = naming (program.last_token (own_parameters a)) 8; at = i; own = own_earlier; ends = end_no q end_refuse; by = le })
         (cases_Bool (may_define l a))
 
     external_owes : (d : ℕ) (c : Scopes) (i : ℕ) → Owes (body (external anywhere d)) (Placed (external anywhere d) c i) c i
@@ -392,7 +535,7 @@ module _ (k : ℕ) where
               (λ x. inl (made_by kind.FunctionDefinition i j'' (t & t' & t'' & none) elsewhere refl refl
               (fine_three elsewhere t t' t'' (free (row part.Specifiers fresh d) h (λ u. u) elsewhere) (free (declarator named (past_part fresh t) d) h' (λ u. u) elsewhere) x)))
               (λ x. inr (caught_on (definition_caught l d i t t' x) (λ w n v. end_here (end_behind h (end_pass y (end_here (end_behind h' (end_seen y' v))))))))
-              (z (program.inside l) (sub_inside o) elsewhere (sym (place_inside o))),
+              (z (program.in_compound l) (sub_compound o) elsewhere (place_body o)),
           λ _. tt,
         ),
         λ y' t1 e1 j1 h1 _. (

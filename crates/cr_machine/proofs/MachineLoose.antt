@@ -1,5 +1,5 @@
--- What the subset's machine does, the bare grammar's does too, but where the subset's refuses a label in its place, or a
--- definition with `...`.
+-- What the subset's machine does, the bare grammar's does too, but where the subset's refuses a label in its place, a token
+-- before that is one, or a definition with `...`.
 use Rattle.std.proofs.Common.{◌≡◌, ℕ, ◌+◌, ◌≤◌, Bool, true, false, List, Option, None, Some, ◌⊎◌, inl, inr, ⊎_elim, refl, arith}
 use Rattle.std.proofs.lemmas.Bool.{cases_Bool, both_ways, false_from_ne_true}
 use Rattle.cr_syntax.specs.declared.word.Word.{Word}
@@ -9,14 +9,14 @@ use Rattle.cr_syntax.specs.Scopes.{Scopes, enter}
 use Rattle.cr_syntax.specs.Trees.{Trees}
 use Rattle.cr_syntax.specs.Spells.{Limit}
 use Rattle.cr_syntax.specs.Reads.{is_word}
-use Rattle.cr_machine.specs.Machine.{Goal, Prog, Manner, Test, Labels, anywhere, own_block, nowhere, plain, the, has, Reply, Done, Failed, Runs, Allows, passes, has_word, brought, refuse, take, bar, peek, when, here, look, set, bring, call, run_take, run_deep, run_pass, run_bar, run_free, run_seen, run_unseen, run_yes, run_no, run_here, run_look, run_set, run_bring, run_call, run_fail}
+use Rattle.cr_machine.specs.Machine.{Goal, Prog, Manner, Test, Labels, anywhere, own_block, in_block, nowhere, plain, opens, the, has, Reply, Done, Failed, Runs, Allows, passes, has_word, brought, refuse, take, bar, peek, when, here, look, set, bring, call, run_take, run_deep, run_pass, run_bar, run_free, run_seen, run_unseen, run_yes, run_no, run_here, run_look, run_set, run_bring, run_call, run_fail}
 use Rattle.cr_machine.specs.Machine.{unit, externals, external, statement, block, if_rest, switch_rest, while_rest, do_rest, for_rest, for_clauses, compound, items, item}
-use Rattle.cr_machine.specs.MachineBody.{body, is_label, unlabelled, labelled, defined}
+use Rattle.cr_machine.specs.MachineBody.{body, is_label, unlabelled, labelled, marked, defined}
 use Rattle.cr_machine.specs.MachineLaws.{end_of}
 use Rattle.cr_machine.proofs.MachineRuns.{reach, same, again}
 use Rattle.cr_syntax.proofs.Tests.{is_of}
 use Rattle.cr_machine.proofs.MachineFirst.{none_true, true_false, yes, sorted}
-use Rattle.cr_machine.proofs.MachineEnds.{Way, barring, defining, Ends, end_refuse, end_take, end_crowded, end_pass, end_bar, end_free, end_seen, end_unseen, end_yes, end_no, end_here, end_look, end_set, end_bring, end_behind, end_inside}
+use Rattle.cr_machine.proofs.MachineEnds.{Way, barring, naming, Ends, end_refuse, end_take, end_crowded, end_pass, end_bar, end_free, end_seen, end_unseen, end_yes, end_no, end_here, end_look, end_set, end_bring, end_behind, end_inside}
 
 -- the goal of the bare grammar
 abbrev pub loose : Goal → Goal
@@ -53,18 +53,28 @@ pub data Looser : Prog → Prog → Type 0 where
   -- where no label may stand, and where no function with `...` may be defined
   no_label : {d n m : ℕ} {p p' u v z z' : Prog} → Looser p p' →
       Looser (when false z (bar (has is_label) 6 d p)) (when true (take plain (the word.Case) n u (take plain (the word.Default) m v p')) z')
-  no_ellipsis : {b : Bool} {n : ℕ} {p p' z : Prog} → Looser p p' → Looser (when b p (refuse n)) (when true p' z)
+  no_ellipsis : {b : Bool} {n r : ℕ} {p p' z : Prog} → Looser p p' → Looser (when b p (refuse n r)) (when true p' z)
+  -- where no identifier may be a label
+  no_mark : {n r : ℕ} {p z z' : Prog} → Looser (when false z (refuse n r)) (when true p z')
 
 -- The programs of the goals.
 
 looser_definition : (l : Labels) (d s : ℕ) (t a : Trees) → Looser (defined l d s t a) (defined anywhere d s t a)
 looser_definition anywhere d s t a = itself
 looser_definition own_block d s t a = no_ellipsis (with_look (λ c. with_set (with_bring (with_look (λ e. with_set (with_call (λ b. itself)))))))
+looser_definition in_block d s t a = no_ellipsis (with_look (λ c. with_set (with_bring (with_look (λ e. with_set (with_call (λ b. itself)))))))
 looser_definition nowhere d s t a = no_ellipsis (with_look (λ c. with_set (with_bring (with_look (λ e. with_set (with_call (λ b. itself)))))))
+
+looser_marked : (l : Labels) (d s : ℕ) (p : Prog) → Looser (marked l d s p) (marked anywhere d s p)
+looser_marked anywhere d s p = itself
+looser_marked own_block d s p = with_peek (with_when (with_take (with_call (λ b. itself)) itself) itself) itself
+looser_marked in_block d s p = with_peek (with_when (with_take (with_call (λ b. itself)) itself) itself) itself
+looser_marked nowhere d s p = with_peek no_mark itself
 
 looser_unlabelled : (l : Labels) (d s : ℕ) → Looser (unlabelled l d s) (unlabelled anywhere d s)
 looser_unlabelled l d s = with_peek (with_call (λ t. itself)) (with_take (with_call (λ t. itself)) (with_take (with_call (λ t. itself)) (with_take (with_call (λ t. itself))
-    (with_take (with_call (λ t. itself)) (with_take (with_call (λ t. itself)) itself)))))
+    (with_take (with_call (λ t. itself)) (with_take (with_call (λ t. itself)) (with_take itself (with_take itself (with_take itself (with_take itself (with_take itself
+    (with_take (looser_marked l d s _) (behind_call (λ a. with_when (looser_marked l d s _) itself)))))))))))))
 
 looser_labelled : (d s : ℕ) → Looser (labelled own_block d s (unlabelled own_block d s)) (labelled anywhere d s (unlabelled anywhere d s))
 looser_labelled d s = with_take (behind_call (λ a. with_take (with_call (λ b. itself)) itself)) (with_take (with_take (with_call (λ b. itself)) itself) (looser_unlabelled own_block d s))
@@ -72,6 +82,7 @@ looser_labelled d s = with_take (behind_call (λ a. with_take (with_call (λ b. 
 looser_statement : (l : Labels) (d : ℕ) → Looser (body (statement l d)) (body (statement anywhere d))
 looser_statement anywhere d = itself
 looser_statement own_block d = with_here (λ s. with_when (looser_labelled d s) (with_bar (looser_unlabelled own_block d s)))
+looser_statement in_block d = with_here (λ s. no_label (looser_unlabelled in_block d s))
 looser_statement nowhere d = with_here (λ s. no_label (looser_unlabelled nowhere d s))
 
 pub looser : (g : Goal) → Looser (body g) (body (loose g))
@@ -88,13 +99,13 @@ looser (for_rest l d s) = with_look (λ c. with_set (with_take (with_peek (behin
 looser (for_clauses l d s x) = behind_call (λ t. with_take (with_call (λ b. itself)) (behind_call (λ u. with_take (with_call (λ b. itself)) itself)))
 looser (compound l d) = with_here (λ s. with_look (λ c. with_set (with_take (with_call (λ t. itself)) itself)))
 looser (items l d s x) = with_take itself (with_call (λ t. with_call (λ u. itself)))
-looser (item l d) = with_peek itself (with_call (λ t. itself))
+looser (item l d) = with_peek (with_here (λ s. behind_call (λ t. with_when (looser_marked l d s _) itself))) (with_call (λ t. itself))
 looser _ = itself
 
--- a refusal that is the subset's own: of a label, or of a definition
+-- a refusal that is the subset's own: of a label, or of a token before
 pub data IsOwn (ts : List Lexeme) (k : ℕ) : Way → Type 0 where
   own_label : {d : ℕ} → has_word ts k is_label ≡ true → IsOwn ts k (barring (has is_label) 6 d)
-  own_definition : {n : ℕ} → IsOwn ts k (defining n)
+  own_earlier : {n r : ℕ} → IsOwn ts k (naming n r)
 
 -- What the bare grammar's machine does where the subset's is refused at token k: it is refused in the same way there, or,
 -- where the refusal is the subset's own, it gets as far.
@@ -199,6 +210,8 @@ module _ {ts : List Lexeme} {limit : Limit} where
   loosened (no_label y) (run_yes x h) = none_true x
   loosened (no_ellipsis y) (run_no x h) = elim h [ ]
   loosened (no_ellipsis y) (run_yes x h) = run_yes refl (loosened y h)
+  loosened no_mark (run_no x h) = elim h [ ]
+  loosened no_mark (run_yes x h) = none_true x
 
   -- What is refused.
 
@@ -241,7 +254,9 @@ module _ {ts : List Lexeme} {limit : Limit} where
       let v' = label_no ts i word.Default refl x' in
       onward (followed y z) (λ z'. end_yes refl (end_pass v (end_pass v' z'))) (λ r h. behind_pass v' (behind_pass v (behind_yes refl h)))
   followed (no_ellipsis y) (end_yes x z) = onward (followed y z) (end_yes refl) (λ r. behind_yes refl)
-  followed (no_ellipsis y) (end_no x end_refuse) = departs own_definition (λ r h. reach h)
+  followed (no_ellipsis y) (end_no x end_refuse) = departs own_earlier (λ r h. reach h)
+  followed no_mark (end_no x end_refuse) = departs own_earlier (λ r h. reach h)
+  followed no_mark (end_yes x z) = none_true x
 
   -- What the bare grammar's machine reads, the subset's reads or refuses in a way of its own.
 
@@ -257,8 +272,8 @@ module _ {ts : List Lexeme} {limit : Limit} where
   at_label : {d : ℕ} {p z : Prog} {c : Scopes} {i j : ℕ} → has_word ts i is_label ≡ true → i ≤ j → Departs ts limit (when false z (bar (has is_label) 6 d p)) c i j
   at_label {d = d} {i = i} y le = record { way = barring (has is_label) 6 d; at = i; own = own_label y; ends = end_no refl (end_bar y); by = le }
 
-  at_ellipsis : {b : Bool} {n : ℕ} {p : Prog} {c : Scopes} {i j : ℕ} → b ≡ false → i ≤ j → Departs ts limit (when b p (refuse n)) c i j
-  at_ellipsis {n = n} {i = i} y le = record { way = defining n; at = i; own = own_definition; ends = end_no y end_refuse; by = le }
+  at_earlier : {b : Bool} {n r : ℕ} {p : Prog} {c : Scopes} {i j : ℕ} → b ≡ false → i ≤ j → Departs ts limit (when b p (refuse n r)) c i j
+  at_earlier {n = n} {r = r} {i = i} y le = record { way = naming n r; at = i; own = own_earlier; ends = end_no y end_refuse; by = le }
 
   pub tightened : {q p : Prog} {c : Scopes} {i : ℕ} {t : Trees} {e : Scopes} {j : ℕ} → Looser p q → Runs body ts limit q c i (Done t e j) →
       Runs body ts limit p c i (Done t e j) ⊎ Departs ts limit p c i j
@@ -285,4 +300,6 @@ module _ {ts : List Lexeme} {limit : Limit} where
   tightened {i = i} (no_label y) (run_yes x (run_pass x' (run_pass x'' h))) =
       let v = label_none ts i x' x'' in
       or_part (tightened y h) (λ h'. run_no refl (run_free v h')) (λ w k z. end_no refl (end_free v z))
-  tightened (no_ellipsis {b = b} y) (run_yes x h) = ⊎_elim (λ q. or_part (tightened y h) (run_yes q) (λ w k. end_yes q)) (λ q. inr (at_ellipsis q (reach h))) (cases_Bool b)
+  tightened (no_ellipsis {b = b} y) (run_yes x h) = ⊎_elim (λ q. or_part (tightened y h) (run_yes q) (λ w k. end_yes q)) (λ q. inr (at_earlier q (reach h))) (cases_Bool b)
+  tightened no_mark (run_yes x h) = inr (at_earlier refl (reach h))
+  tightened no_mark (run_no x h) = true_false x

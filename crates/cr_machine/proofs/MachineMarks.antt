@@ -34,7 +34,7 @@ module _ (body : Goal → Prog) (ts us : List Lexeme) (limit top : Limit) (n k :
   abbrev pub Marks : Prog → (Trees → Scopes → ℕ → Type 0) → Scopes → ℕ → Type 0
   Marks (give t) f c i = f t c i
   Marks (stop d) f c i = Unit {0}
-  Marks (refuse m) f c i = Unit {0}
+  Marks (refuse m r) f c i = Unit {0}
   Marks (take g x d p q) f c i = (Marks p f c (i + 1) ⊎ (i + 1 ≤ k) × Barred body ts top n k p c (i + 1)) × Marks q f c i
   Marks (bar x m d p) f c i = Marks p f c i
   Marks (peek x p q) f c i = Marks p f c i × Marks q f c i

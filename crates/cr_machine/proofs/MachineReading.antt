@@ -12,22 +12,22 @@ use Rattle.cr_syntax.specs.Scopes.{Scopes}
 use Rattle.cr_syntax.specs.Trees.{Trees}
 use Rattle.cr_syntax.specs.Context.{fresh}
 use Rattle.cr_syntax.specs.Spells.{Limit, Free, AtMost, Upto, Is, Spells, a}
-use Rattle.cr_syntax.specs.Units.{most_levels, is_unused, IsBracket, parenthesis, bracket, brace, StandsIn, group_for_literal, subscript_for_call}
-use Rattle.cr_machine.specs.Machine.{Prog, Test, whole, Reply, Cause, Done, Failed, Runs, passes, has, barred, refusal_of, overflows, is_bracket, too_deep, ended, outside, unexpected, run_give, run_stop, run_refuse, run_take, run_deep, run_pass, run_bar, run_free, run_seen, run_unseen, run_yes, run_no, run_here, run_look, run_set, run_bring, run_call, run_fail}
+use Rattle.cr_syntax.specs.Units.{most_levels, is_unused, is_opening, IsBracket, parenthesis, bracket, brace, StandsIn, group_for_literal, subscript_for_call}
+use Rattle.cr_machine.specs.Machine.{Prog, Test, whole, Reply, Cause, Done, Failed, Runs, passes, has, barred, refusal_of, overflows, exceeds, is_bracket, too_deep, ended, outside, unexpected, run_give, run_stop, run_refuse, run_take, run_deep, run_pass, run_bar, run_free, run_seen, run_unseen, run_yes, run_no, run_here, run_look, run_set, run_bring, run_call, run_fail}
 use Rattle.cr_machine.specs.MachineBody.{body, start_goal}
 use Rattle.cr_machine.specs.MachineLaws.{end_of, outcome_of, IsStart, start_expression, start_assignment, start_conditional}
 use Rattle.cr_syntax.specs.Expressions.{Start, Spelled, BeginsFrom, OutsideFrom, unused_keyword, compound_literal, called_expression, bit_field, IsTooDeepFrom, IsFineFrom, RunEnds, Read, Refused, IsReading}
 use Rattle.cr_syntax.specs.Expressions as expressions
 use Rattle.cr_syntax.proofs.Tests.{both, not_true, some_one}
 use Rattle.cr_machine.proofs.MachineRuns.{same, reach, local, word_in}
-use Rattle.cr_machine.proofs.MachineEnds.{Way, stopped, barring, crowded, defining, Ends, ends_so, refused_so, cause_by}
+use Rattle.cr_machine.proofs.MachineEnds.{Way, stopped, barring, crowded, naming, Ends, ends_so, refused_so, cause_by}
 use Rattle.cr_machine.proofs.MachineGives.{gives}
 use Rattle.cr_machine.proofs.MachineKept.{Kept, runs_kept}
 use Rattle.cr_machine.proofs.MachineMeans.{Means}
 use Rattle.cr_machine.proofs.MachineSound.{each}
 use Rattle.cr_machine.proofs.MachineFirst.{none_true, true_false}
 use Rattle.cr_machine.proofs.MachineComplete.{spelled_is_read, read_is_spelled, free_at_end, get_some, unlimited, allows_free, allows_upto, longest, refused_within, begun_same}
-use Rattle.cr_machine.proofs.MachineViable.{prefix, prefix_length, prefix_get, passes_inside, stopped_leaves, barred_stands, barred_leaves, crowded_begins, barred_outside, barred_inside, crowded_inside, begins_before, defines_none}
+use Rattle.cr_machine.proofs.MachineViable.{prefix, prefix_length, prefix_get, passes_inside, stopped_leaves, barred_stands, barred_leaves, crowded_begins, barred_outside, barred_inside, crowded_inside, begins_before, start_names_none}
 use Rattle.cr_machine.proofs.MachineWays.{at}
 use Rattle.cr_machine.proofs.MachineForms.{within, IsBarring, by_row, outside_is_end, outside_is_refused}
 use Rattle.cr_machine.proofs.MachineUnused.{begun_is_used}
@@ -84,12 +84,33 @@ bracket_is_used brace = refl
 pub not_both : {o : Option Word} {v w : Word} → o ≡ Some v → is_unused v ≡ true → o ≡ Some w → is_unused w ≡ false → ⊥
 not_both {v = v} q u q' u' = both_ways (is_unused v) (subst (λ w. is_unused w ≡ false) (some_one (sym q' ∙ q)) u') u
 
--- a bracket overflows where so many levels are open
+-- nor is another word that opens a level
+pub opening_is_used : (w : Word) → is_opening w ≡ true → is_unused w ≡ false
+opening_is_used word.LeftParen q = refl
+opening_is_used word.LeftBracket q = refl
+opening_is_used word.LeftBrace q = refl
+opening_is_used word.Do q = refl
+opening_is_used word.PlusPlus q = refl
+opening_is_used word.MinusMinus q = refl
+opening_is_used word.Ampersand q = refl
+opening_is_used word.Star q = refl
+opening_is_used word.Plus q = refl
+opening_is_used word.Minus q = refl
+opening_is_used word.Tilde q = refl
+opening_is_used word.Bang q = refl
+opening_is_used word.Sizeof q = refl
+opening_is_used _ q = none_true q
+
+-- a token is such a word and another one
+pub no_opening : {o : Option Word} {v w : Word} → o ≡ Some v → is_opening v ≡ false → o ≡ Some w → is_opening w ≡ true → ⊥
+no_opening {v = v} q f y b = both_ways (is_opening v) f (subst (λ w. is_opening w ≡ true) (some_one (sym y ∙ q)) b)
+
+-- a level finds no room where so many are open
 pub at_most : (m most : ℕ) → not (nat_lt m most) ≡ true → most ≤ m
 at_most m most q = ltb-false m most (not_true (nat_lt m most) q)
 
-pub below : (w : Word) (m : ℕ) → is_bracket w ≡ true → overflows w m ≡ false → m < most_levels
-below w m b q = ltb-true m most_levels (by (is_bracket w) (nat_lt m most_levels) b q)
+pub below : (x : Bool) (m : ℕ) → x ≡ true → x && not (nat_lt m most_levels) ≡ false → m < most_levels
+below x m b q = ltb-true m most_levels (by x (nat_lt m most_levels) b q)
   where
     by : (x y : Bool) → x ≡ true → x && not y ≡ false → y ≡ true
     by true true b q = refl
@@ -103,12 +124,12 @@ keyword_or_form (compound_literal q b) = inr (λ e. omega arith)
 keyword_or_form (called_expression q b) = inr (λ e. omega arith)
 keyword_or_form (bit_field q b) = inr (λ e. omega arith)
 
--- a bracket that a row refuses has another one in its place
-in_place : {ts : List Lexeme} {s : Start} {k n : ℕ} {w : Word} → OutsideFrom ts s k n → Is ts k w → IsBracket w → (v : Word) × StandsIn n v
-in_place (unused_keyword q u) y b = absurd (not_both q u y (bracket_is_used b))
+-- a word that opens a level, and that a row refuses, has a bracket in its place
+in_place : {ts : List Lexeme} {s : Start} {k n : ℕ} {w : Word} → OutsideFrom ts s k n → Is ts k w → is_opening w ≡ true → (v : Word) × StandsIn n v
+in_place {w = w} (unused_keyword q u) y b = absurd (not_both q u y (opening_is_used w b))
 in_place (compound_literal q x) y b = (word.LeftParen, group_for_literal)
 in_place (called_expression q x) y b = (word.LeftBracket, subscript_for_call)
-in_place (bit_field q x) y b = absurd (both_ways (is_bracket word.Colon) refl (subst (λ w. is_bracket w ≡ true) (some_one (sym y ∙ q)) (is_of_bracket b)))
+in_place (bit_field q x) y b = absurd (no_opening q refl y b)
 
 pub not_keyword_row : {n : ℕ} {v : Word} → StandsIn n v → n ≡ 1 → ⊥
 not_keyword_row {v = v} x e = none_for_keyword v (subst (λ n. StandsIn n v) e x)
@@ -208,7 +229,7 @@ module _ (ts : List Lexeme) (s : Start) (z : IsStart s.part) (le : s.at ≤ leng
   -- an unused keyword is no bracket too deep
   keyword_not_deep : {k : ℕ} {w : Word} → Is ts k w → is_unused w ≡ true → RunEnds ts s k → IsTooDeepFrom ts s k → ⊥
   keyword_not_deep {k = k} {w = w} q u r (expressions.expected o) = r (within ts k q) (begins_free o.begins)
-  keyword_not_deep q u r (expressions.refused y b o x d) = not_both q u y (bracket_is_used b)
+  keyword_not_deep q u r (expressions.refused {w = v} y b o x d) = not_both q u y (opening_is_used v b)
   keyword_not_deep q u r (expressions.unexpected y b n o x) = not_both q u y (bracket_is_used b)
 
   -- A token at which the machine stops.
@@ -222,7 +243,7 @@ module _ (ts : List Lexeme) (s : Start) (z : IsStart s.part) (le : s.at ≤ leng
     not_deep : {w : Word} → Is ts k w → is_unused w ≡ false → overflows w m ≡ false → IsTooDeepFrom ts s k → ⊥
     not_deep q u v (expressions.expected o) = run_ends y refl (within ts k q) (begins_free o.begins)
     not_deep q u v (expressions.refused {row = n} q' b o x d) = not_outside q u n o
-    not_deep {w = w} q u v (expressions.unexpected q' b n o x) = x (stopped_leaves ts most_levels k le' s z m y (below w m (subst (λ w. is_bracket w ≡ true) (some_one (sym q' ∙ q)) (is_of_bracket b)) v))
+    not_deep {w = w} q u v (expressions.unexpected q' b n o x) = x (stopped_leaves ts most_levels k le' s z m y (below (is_bracket w) m (subst (λ w. is_bracket w ≡ true) (some_one (sym q' ∙ q)) (is_of_bracket b)) v))
 
     read_stop_word : {w : Word} → Is ts k w → (u o : Bool) → is_unused w ≡ u → overflows w m ≡ o → IsReading ts s (Refused (refusal_of (if u then outside 1 else (if o then too_deep else unexpected)) k))
     read_stop_word q true o u v = expressions.outside (within ts k q) (fine y le') (keyword_not_deep q u (run_ends y refl)) (unused_keyword q u)
@@ -242,27 +263,27 @@ module _ (ts : List Lexeme) (s : Start) (z : IsStart s.part) (le : s.at ≤ leng
     same_row : {x' : Test} {n' d : ℕ} → barring x n m ≡ barring x' n' d → n' ≡ n
     same_row q = cc
 
-    form_not_deep : {w : Word} → Is ts k w → overflows w m ≡ false → IsTooDeepFrom ts s k → ⊥
+    form_not_deep : {w : Word} → Is ts k w → exceeds w m ≡ false → IsTooDeepFrom ts s k → ⊥
     form_not_deep q v (expressions.expected o) = run_ends y refl (within ts k q) (begins_free o.begins)
     form_not_deep {w = w} q v (expressions.refused {v = v'} q' b o x' d) =
         let r = barring_at (outside_is_end s z y (not_keyword_row x') o) in
-        d.too_deep (barred_leaves ts most_levels k le' s z x n m y (within ts k q) (subst (λ n. StandsIn n v') (same_row r.3) x') (below w m (subst (λ w. is_bracket w ≡ true) (some_one (sym q' ∙ q)) (is_of_bracket b)) v))
+        d.too_deep (barred_leaves ts most_levels k le' s z x n m y (within ts k q) (subst (λ n. StandsIn n v') (same_row r.3) x') (below (is_opening w) m (subst (λ w. is_opening w ≡ true) (some_one (sym q' ∙ q)) b) v))
     form_not_deep q v (expressions.unexpected q' b f o x') = o n (barred_outside ts k le' s z x n m y)
 
-    read_bar_word : {w : Word} → Is ts k w → (o : Bool) → overflows w m ≡ o → IsReading ts s (Refused (refusal_of (if o then too_deep else outside n) k))
+    read_bar_word : {w : Word} → Is ts k w → (o : Bool) → exceeds w m ≡ o → IsReading ts s (Refused (refusal_of (if o then too_deep else outside n) k))
     read_bar_word {w = w} q true v =
-        let b = both (is_bracket w) (not (nat_lt m most_levels)) v in
+        let b = both (is_opening w) (not (nat_lt m most_levels)) v in
         let o = barred_outside ts k le' s z x n m y in
         let lt = within ts k q in
-        let r = in_place o q (bracket_is w b.0) in
+        let r = in_place o q b.0 in
         expressions.too_deep lt (fine y le')
-        (expressions.refused q (bracket_is w b.0) o r.1
+        (expressions.refused q b.0 o r.1
         (record { begins = barred_stands ts most_levels k le' s z x n m y lt r.1; too_deep = no_room_instead most_levels s z lt (at_most m most_levels b.1) r.1 y }))
     read_bar_word q false v = expressions.outside (within ts k q) (fine y le') (form_not_deep q v) (barred_outside ts k le' s z x n m y)
 
-    read_bar : (o : Option Word) → word_at ts k ≡ o → IsReading ts s (Refused (refusal_of (elim o as (λ _. Cause) [ None ↦ ended | Some w ↦ if overflows w m then too_deep else outside n ]) k))
+    read_bar : (o : Option Word) → word_at ts k ≡ o → IsReading ts s (Refused (refusal_of (elim o as (λ _. Cause) [ None ↦ ended | Some w ↦ if exceeds w m then too_deep else outside n ]) k))
     read_bar None q = let e = at_end ts k le' q in let lt = barred_inside y in absurd (omega arith)
-    read_bar (Some w) q = read_bar_word q (overflows w m) refl
+    read_bar (Some w) q = read_bar_word q (exceeds w m) refl
 
   -- A token for which a level finds no room.
   read_crowd : (k : ℕ) → EndsBy crowded k → k ≤ length ts → IsReading ts s (Refused (refusal_of too_deep k))
@@ -274,7 +295,7 @@ module _ (ts : List Lexeme) (s : Start) (z : IsStart s.part) (le : s.at ≤ leng
   read_end (stopped m) k y le' = read_stop m k y le' (word_at ts k) refl
   read_end (barring x n m) k y le' = read_bar x n m k y le' (word_at ts k) refl
   read_end crowded k y le' = read_crowd k y le'
-  read_end (defining m) k y le' = absurd (defines_none s.part s.depth y)
+  read_end (naming m r) k y le' = absurd (start_names_none s.part s.depth y)
 
   refused_is_reading : {x : Cause} {k : ℕ} → Answers (Failed x k) → IsReading ts s (Refused (refusal_of x k))
   refused_is_reading {k = k} h = let y = ends_so h in subst (λ x. IsReading ts s (Refused (refusal_of x k))) (sym y.cause) (read_end y.way k y.ends (ends_inside h le))
@@ -291,16 +312,16 @@ module _ (ts : List Lexeme) (s : Start) (z : IsStart s.part) (le : s.at ≤ leng
   used_word : (e : Scopes) (j : ℕ) {w : Word} → passes ts e j (has is_unused) ≡ false → Is ts j w → is_unused w ≡ false
   used_word e j q y = subst (λ o. elim o as (λ _. Bool) [ None ↦ false | Some w ↦ is_unused w ] ≡ false) y q
 
-  keyword_flat : (w : Word) (d : ℕ) → is_unused w ≡ true → overflows w d ≡ false
-  keyword_flat w d u = by (is_bracket w) refl
+  keyword_flat : (w : Word) (d : ℕ) → is_unused w ≡ true → exceeds w d ≡ false
+  keyword_flat w d u = by (is_opening w) refl
     where
-      by : (b : Bool) → is_bracket w ≡ b → b && not (nat_lt d most_levels) ≡ false
-      by true q = absurd (both_ways (is_unused w) (bracket_is_used (bracket_is w q)) u)
+      by : (b : Bool) → is_opening w ≡ b → b && not (nat_lt d most_levels) ≡ false
+      by true q = absurd (both_ways (is_unused w) (opening_is_used w q) u)
       by false q = refl
 
   keyword_barred : (j d : ℕ) {w : Word} → Is ts j w → is_unused w ≡ true → outside 1 ≡ barred ts 1 j d
   keyword_barred j d {w = w} q u =
-      sym (ap (λ o. elim o as (λ _. Cause) [ None ↦ ended | Some w ↦ if overflows w d then too_deep else outside 1 ]) q ∙ ap (λ b. if b then too_deep else outside 1) (keyword_flat w d u))
+      sym (ap (λ o. elim o as (λ _. Cause) [ None ↦ ended | Some w ↦ if exceeds w d then too_deep else outside 1 ]) q ∙ ap (λ b. if b then too_deep else outside 1) (keyword_flat w d u))
 
   keyword_is_reading : {t : Trees} {e : Scopes} {j : ℕ} → Answers (Done t e j) → passes ts e j (has is_unused) ≡ true → IsReading ts s (Refused (refusal_of (barred ts 1 j s.depth) j))
   keyword_is_reading {e = e} {j = j} h q =

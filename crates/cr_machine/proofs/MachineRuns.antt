@@ -107,7 +107,7 @@ module _ (ts us : List Lexeme) (i : ℕ) (q : slice_get us i ≡ slice_get ts i)
   verdict_same d = ap (λ o. elim o as (λ _. Cause) [ None ↦ m.ended | Some w ↦ if is_unused w then m.outside 1 else (if m.overflows w d then m.too_deep else m.unexpected) ]) word_same
 
   pub barred_same : (n d : ℕ) → barred us n i d ≡ barred ts n i d
-  barred_same n d = ap (λ o. elim o as (λ _. Cause) [ None ↦ m.ended | Some w ↦ if m.overflows w d then m.too_deep else m.outside n ]) word_same
+  barred_same n d = ap (λ o. elim o as (λ _. Cause) [ None ↦ m.ended | Some w ↦ if m.exceeds w d then m.too_deep else m.outside n ]) word_same
 
 pub name_same : (ts us : List Lexeme) (i k : ℕ) → ((n : ℕ) → n < i → slice_get us n ≡ slice_get ts n) → name_before us i k ≡ name_before ts i k
 name_same ts us i k f = at (nat_lt k i) (ltb-true k i)

@@ -17,10 +17,10 @@ use Rattle.cr_syntax.specs.Grammar as grammar
 use Rattle.cr_syntax.specs.Spells.{Limit, Is, Spells, a}
 use Rattle.cr_syntax.specs.Spells as spells
 use Rattle.cr_syntax.specs.Units.{Has, has_here, has_inside, has_after, one_begins_at, one_ends_at, initializer_at, cast_operand_at, postfix_before, member_before, switch_body_at, variadic_definition}
-use Rattle.cr_syntax.specs.Units.{Place, place_in, is_misplaced, misplaced_at}
+use Rattle.cr_syntax.specs.Units.{Place, place_in, is_misplaced, is_stray, wrong_at}
 use Rattle.cr_machine.specs.Machine.{Manner, Test, the, has, Allows, levels_at}
 use Rattle.cr_machine.specs.MachineBody.{is_identifier, in_row, in_parameters, is_designator, is_label, label_start, statement_start}
-use Rattle.cr_machine.proofs.MachineEnds.{Way, stopped, barring, crowded, defining}
+use Rattle.cr_machine.proofs.MachineEnds.{Way, stopped, barring, crowded, naming}
 use Rattle.cr_machine.proofs.MachineExtend.{Front}
 use Rattle.cr_machine.proofs.MachineMeans.{has_some}
 use Rattle.cr_machine.proofs.MachineSpells.{is_one}
@@ -38,7 +38,8 @@ pub data Next (all : List Lexeme) (k : ℕ) : Way → Type 0 where
   next_label : {d : ℕ} → Next all k (barring (has is_label) 6 d)
   next_block : {d : ℕ} → Next all k (barring label_start 6 d)
   next_body : {d : ℕ} → Is all k word.LeftBrace → Next all k (barring statement_start 7 d)
-  next_definition : {n : ℕ} (m : ℕ) → m + 1 ≡ k → Is all m word.LeftBrace → Next all k (defining n)
+  next_definition : {n : ℕ} (m : ℕ) → m + 1 ≡ k → Is all m word.LeftBrace → Next all k (naming n 8)
+  next_stray : {n : ℕ} → n + 1 + 1 ≡ k → Is all n word.Identifier → Is all (n + 1) word.Colon → Next all k (naming n 9)
 
 -- the node in the trees of an expression or a type
 pub data Shown (k : ℕ) (t : Trees) : Way → Type 0 where
@@ -48,15 +49,16 @@ pub data Shown (k : ℕ) (t : Trees) : Way → Type 0 where
   shown_call : {d : ℕ} → Has (postfix_before k) t → Shown k t (barring (the word.LeftParen) 4 d)
   shown_field : {d : ℕ} → Has (member_before k) t → Shown k t (barring (the word.Colon) 5 d)
 
--- The same in the trees of a unit, which stand in one of these places. A label and a definition's brace are the token
--- before k.
+-- The same in the trees of a unit, which stand in one of these places. A label of a switch, a definition's brace and the
+-- colon behind an identifier are the token before k.
 pub data ShownIn (at : Place → Bool) (k : ℕ) (t : Trees) : Way → Type 0 where
   seen : {w : Way} → Shown k t w → ShownIn at k t w
   shown_designator : {d : ℕ} → Has (initializer_at k) t → ShownIn at k t (barring (has is_designator) 2 d)
-  shown_label : {d : ℕ} (n : ℕ) → n + 1 ≡ k → ((p : Place) → at p ≡ true → misplaced_at n p t ≡ true) → ShownIn at k t (barring (has is_label) 6 d)
+  shown_label : {d : ℕ} (n : ℕ) → n + 1 ≡ k → ((p : Place) → at p ≡ true → wrong_at is_misplaced n p t ≡ true) → ShownIn at k t (barring (has is_label) 6 d)
   shown_block : {d : ℕ} (s : ℕ) → Has (switch_body_at s k) t → ShownIn at k t (barring label_start 6 d)
   shown_body : {d : ℕ} (s : ℕ) → Has (switch_body_at s k) t → ShownIn at k t (barring statement_start 7 d)
-  shown_definition : {n : ℕ} (m : ℕ) → m + 1 ≡ k → n < m → Has (variadic_definition n m) t → ShownIn at k t (defining n)
+  shown_definition : {n : ℕ} (m : ℕ) → m + 1 ≡ k → n < m → Has (variadic_definition n m) t → ShownIn at k t (naming n 8)
+  shown_stray : {n : ℕ} → ((p : Place) → at p ≡ true → wrong_at is_stray n p t ≡ true) → ShownIn at k t (naming n 9)
 
 -- wherever the trees stand
 abbrev pub every : Place → Bool
@@ -93,11 +95,11 @@ pub record Labelled (us : List Lexeme) (top : Limit) (way : Way) (f : Word → B
   pub passes : f word ≡ true
   pub so : barring (has f) n d ≡ way
 
--- the same where the brace of a definition with `...` stands before it
-pub record Defined (us : List Lexeme) (top : Limit) (way : Way) (n i : ℕ) : Type 0 where
+-- the same where the token stands before it that shows that token n is what a row names
+pub record Earlier (us : List Lexeme) (top : Limit) (way : Way) (n r i : ℕ) : Type 0 where
   pub here : i + 1 ≡ length us
   pub fits : (g : Manner) (j m : ℕ) → i ≤ j → Allows top g j m
-  pub so : defining n ≡ way
+  pub so : naming n r ≡ way
 
 pub next_free : {all : List Lexeme} {k : ℕ} {w : Way} → Unbarred w → Next all k w
 next_free by_stop = next_stopped
@@ -118,6 +120,7 @@ next_more f next_label = next_label
 next_more f next_block = next_block
 next_more f (next_body q) = next_body (f.words _ _ q)
 next_more f (next_definition m e q) = next_definition m e (f.words _ _ q)
+next_more f (next_stray e q q') = next_stray e (f.words _ _ q) (f.words _ _ q')
 
 -- A node stays in larger trees.
 
@@ -214,39 +217,41 @@ or_last true y z z' q f = refl
 or_last false true z z' q f = refl
 or_last false false z z' q f = f q
 
-misplaced_left : (n : ℕ) (p : Place) (t u : Trees) → misplaced_at n p t ≡ true → misplaced_at n p (t & u) ≡ true
-misplaced_left n p none u x = cc
-misplaced_left n p (node q i j b m) u x = or_last ((i == n) && is_misplaced q p) (misplaced_at n (place_in q p) b) (misplaced_at n p m) (misplaced_at n p (m & u)) x (λ y. misplaced_left n p m u y)
+wrong_left : (f : Kind → Place → Bool) (n : ℕ) (p : Place) (t u : Trees) → wrong_at f n p t ≡ true → wrong_at f n p (t & u) ≡ true
+wrong_left f n p none u x = cc
+wrong_left f n p (node q i j b m) u x = or_last ((i == n) && f q p) (wrong_at f n (place_in q p) b) (wrong_at f n p m) (wrong_at f n p (m & u)) x (λ y. wrong_left f n p m u y)
 
-misplaced_right : (n : ℕ) (p : Place) (t u : Trees) → misplaced_at n p u ≡ true → misplaced_at n p (t & u) ≡ true
-misplaced_right n p none u x = x
-misplaced_right n p (node q i j b m) u x = or_right ((i == n) && is_misplaced q p || misplaced_at n (place_in q p) b) (misplaced_at n p (m & u)) (misplaced_right n p m u x)
+wrong_right : (f : Kind → Place → Bool) (n : ℕ) (p : Place) (t u : Trees) → wrong_at f n p u ≡ true → wrong_at f n p (t & u) ≡ true
+wrong_right f n p none u x = x
+wrong_right f n p (node q i j b m) u x = or_right ((i == n) && f q p || wrong_at f n (place_in q p) b) (wrong_at f n p (m & u)) (wrong_right f n p m u x)
 
 carried_in : {at at' : Place → Bool} {k : ℕ} {t u : Trees} {w : Way} → ((test : Kind → ℕ → ℕ → Trees → Bool) → Has test t → Has test u) →
-    ((n : ℕ) → ((p : Place) → at p ≡ true → misplaced_at n p t ≡ true) → (p : Place) → at' p ≡ true → misplaced_at n p u ≡ true) → ShownIn at k t w → ShownIn at' k u w
+    ((f : Kind → Place → Bool) (n : ℕ) → ((p : Place) → at p ≡ true → wrong_at f n p t ≡ true) → (p : Place) → at' p ≡ true → wrong_at f n p u ≡ true) → ShownIn at k t w → ShownIn at' k u w
 carried_in f g (seen x) = seen (carried f x)
 carried_in {k = k} f g (shown_designator x) = shown_designator (f (initializer_at k) x)
-carried_in f g (shown_label n e x) = shown_label n e (g n x)
+carried_in f g (shown_label n e x) = shown_label n e (g is_misplaced n x)
 carried_in {k = k} f g (shown_block s x) = shown_block s (f (switch_body_at s k) x)
 carried_in {k = k} f g (shown_body s x) = shown_body s (f (switch_body_at s k) x)
 carried_in f g (shown_definition {n = n} m e l x) = shown_definition m e l (f (variadic_definition n m) x)
+carried_in f g (shown_stray {n = n} x) = shown_stray (g is_stray n x)
 
 -- in other places, if those are some of these
 pub moved : {at at' : Place → Bool} {k : ℕ} {t : Trees} {w : Way} → ((p : Place) → at' p ≡ true → at p ≡ true) → ShownIn at k t w → ShownIn at' k t w
-moved f x = carried_in (λ test y. y) (λ n g p y. g p (f p y)) x
+moved f x = carried_in (λ test y. y) (λ f' n g p y. g p (f p y)) x
 
 pub anywhere : {at : Place → Bool} {k : ℕ} {t : Trees} {w : Way} → ShownIn every k t w → ShownIn at k t w
 anywhere x = moved (λ p y. refl) x
 
 pub left_in : {at : Place → Bool} {k : ℕ} {t : Trees} {w : Way} → ShownIn at k t w → (u : Trees) → ShownIn at k (t & u) w
-left_in {t = t} x u = carried_in (λ test y. has_left y u) (λ n g p y. misplaced_left n p t u (g p y)) x
+left_in {t = t} x u = carried_in (λ test y. has_left y u) (λ f n g p y. wrong_left f n p t u (g p y)) x
 
 pub right_in : {at : Place → Bool} {k : ℕ} (t : Trees) {u : Trees} {w : Way} → ShownIn at k u w → ShownIn at k (t & u) w
-right_in t {u = u} x = carried_in (λ test y. has_right t y) (λ n g p y. misplaced_right n p t u (g p y)) x
+right_in t {u = u} x = carried_in (λ test y. has_right t y) (λ f n g p y. wrong_right f n p t u (g p y)) x
 
 -- in a node whose parts stand so where it stands so
 pub within : {at at' : Place → Bool} {k : ℕ} {q : Kind} {i j : ℕ} {t : Trees} {w : Way} → ((p : Place) → at' p ≡ true → at (place_in q p) ≡ true) → ShownIn at k t w → ShownIn at' k (one q i j t) w
-within {q = q} {i = i} {t = t} f x = carried_in (λ test y. has_inside y) (λ n g p y. or_left ((i == n) && is_misplaced q p || misplaced_at n (place_in q p) t) false (or_right ((i == n) && is_misplaced q p) (misplaced_at n (place_in q p) t) (g (place_in q p) (f p y)))) x
+within {q = q} {i = i} {t = t} f x = carried_in (λ test y. has_inside y)
+    (λ f' n g p y. or_left ((i == n) && f' q p || wrong_at f' n (place_in q p) t) false (or_right ((i == n) && f' q p) (wrong_at f' n (place_in q p) t) (g (place_in q p) (f p y)))) x
 
 pub wherever : {at : Place → Bool} {k : ℕ} {q : Kind} {i j : ℕ} {t : Trees} {w : Way} → ShownIn every k t w → ShownIn at k (one q i j t) w
 wherever x = within (λ p y. refl) x

@@ -17,15 +17,15 @@ use Rattle.cr_syntax.specs.Grammar as grammar
 use Rattle.cr_syntax.specs.Spells.{Limit, Is, Stands, Within, Spells, a, rest}
 use Rattle.cr_syntax.specs.Spells as spells
 use Rattle.cr_syntax.specs.Reads.{is_word, same_word}
-use Rattle.cr_machine.specs.Machine.{Prog, Reply, Done, Labels, anywhere, own_block, nowhere, plain, opens, reopens, has_word, passes, give, take, call, made, expect, the, run_give, run_take, run_pass, run_free, run_seen, run_unseen, run_yes, run_no, run_here, run_look, run_set, run_call}
+use Rattle.cr_machine.specs.Machine.{Prog, Reply, Done, anywhere, plain, opens, reopens, has_word, passes, give, take, call, made, expect, the, run_give, run_take, run_pass, run_free, run_seen, run_unseen, run_yes, run_no, run_here, run_look, run_set, run_call}
 use Rattle.cr_syntax.specs.Units.{begins_statement}
 use Rattle.cr_machine.specs.Machine as m
-use Rattle.cr_machine.specs.MachineBody.{body, is_specifier_start, is_label, declaration_start, statement_start, inside, in_switch, may_label, labelled, unlabelled, without_else, if_end, switch_body, for_body}
+use Rattle.cr_machine.specs.MachineBody.{body, is_specifier_start, is_identifier, declaration_start, statement_start, labelled, unlabelled, marked, expression_rest, without_else, if_end, switch_body, for_body}
 use Rattle.cr_machine.specs.MachineLaws.{IsFree}
 use Rattle.cr_syntax.proofs.Tests.{not_true}
 use Rattle.cr_machine.proofs.MachineSpells.{and_none, and_and, pushed, is_one}
 use Rattle.cr_machine.proofs.MachineFirst.{none_true, true_false, yes, differs, sorted, free_by, tail, and_false, and_first, starts, First, by_word, by_name, not_first, name_start, first_expression}
-use Rattle.cr_machine.proofs.MachineFits.{fits, fits_left, fits_right, parts_fit, label_fits, compound_fits, switch_fits}
+use Rattle.cr_machine.proofs.MachineMarked.{marks, name_starts_none, label_goes, item_label_goes, declaration_is_item}
 use Rattle.cr_machine.proofs.MachineTasks.{measure, Goes, Answers, Completes, Smaller}
 use Rattle.cr_machine.proofs.MachineTasks as task
 use Rattle.cr_machine.proofs.MachineBegins.{never_element, no_else, no_right_brace, specifier_yes}
@@ -45,11 +45,13 @@ has_keyword word.Do = true
 has_keyword word.For = true
 has_keyword word.Case = true
 has_keyword word.Default = true
+has_keyword word.Goto = true
 has_keyword word.Break = true
 has_keyword word.Continue = true
 has_keyword word.Return = true
 has_keyword _ = false
 
+-- of one that is no label
 data StatementFirst (ts : List Lexeme) (c : Scopes) (i : ℕ) : Type 0 where
   by_keyword : {w : Word} → Is ts i w → has_keyword w ≡ true → StatementFirst ts c i
   by_expression : First ts c i → StatementFirst ts c i
@@ -134,14 +136,9 @@ not_declaration {ts = ts} {c = c} {i = i} (by_expression (by_name q)) =
     or_from (has_word ts i is_specifier_start) (passes ts c i (m.type_identifier false)) (sorted is_specifier_start false q.0 refl)
     (and_first (is_word ts i word.Identifier) (is_type c (spelling_at ts i)) true q.1)
 
-expression_no_label : {ts : List Lexeme} {c : Scopes} {i : ℕ} → First ts c i → has_word ts i is_label ≡ false
-expression_no_label (by_word {w = w} q s) = sorted is_label false q (by w s)
-  where
-    by : (w : Word) → starts w ≡ true → is_label w ≡ false
-    by word.Case s = none_true s
-    by word.Default s = none_true s
-    by _ s = refl
-expression_no_label (by_name q) = sorted is_label false q.0 refl
+no_type_first : {ts : List Lexeme} {c : Scopes} {i : ℕ} → First ts c i → passes ts c i (m.type_identifier false) ≡ false
+no_type_first {ts = ts} {c = c} {i = i} (by_word {w = w} q s) = and_false (is_word ts i word.Identifier) (is_type c (spelling_at ts i)) true (differs q word.Identifier (name_start w s))
+no_type_first {ts = ts} {c = c} {i = i} (by_name q) = and_first (is_word ts i word.Identifier) (is_type c (spelling_at ts i)) true q.1
 
 -- The nearest `if`.
 
@@ -173,26 +170,39 @@ module _ {ts : List Lexeme} {limit : Limit} {p p' : Part} {h h' : Context} {c c'
       (subst (λ w. fits_together kind.If (w & (u & (v & none))) ≡ true) k.2 f))))
 
 module _ (ts : List Lexeme) (limit : Limit) where
-  statement_first : {h : Context} {c e : Scopes} {d i j : ℕ} {t : Trees} → Spells ts limit (a part.Statement) h c e d t i j → StatementFirst ts c i
-  statement_first (spells.of_chain grammar.statement_compound f s) = by_keyword (compound_first ts limit s) refl
-  statement_first (spells.of_alternative grammar.expression_statement f (spells.optional_none (spells.token q w s))) = by_keyword q refl
-  statement_first (spells.of_alternative grammar.expression_statement f (spells.optional_some x s)) = by_expression (first_expression x)
-  statement_first (spells.of_alternative grammar.if_statement f (spells.begins (spells.token q w s))) = by_keyword q refl
-  statement_first (spells.of_alternative grammar.switch_statement f (spells.begins (spells.token q w s))) = by_keyword q refl
-  statement_first (spells.of_alternative grammar.while_statement f (spells.begins (spells.token q w s))) = by_keyword q refl
-  statement_first (spells.of_alternative grammar.do_statement f (spells.begins (spells.opens q w s))) = by_keyword q refl
-  statement_first (spells.of_alternative grammar.for_statement f (spells.begins (spells.token q w s))) = by_keyword q refl
-  statement_first (spells.of_alternative grammar.case_statement f (spells.token q w s)) = by_keyword q refl
-  statement_first (spells.of_alternative grammar.default_statement f (spells.token q w s)) = by_keyword q refl
-  statement_first (spells.of_alternative grammar.break_statement f (spells.token q w s)) = by_keyword q refl
-  statement_first (spells.of_alternative grammar.continue_statement f (spells.token q w s)) = by_keyword q refl
-  statement_first (spells.of_alternative grammar.return_statement f (spells.token q w s)) = by_keyword q refl
+  -- a statement that is a label before another one, or none
+  data Beginning (n : ℕ) (c e : Scopes) (d i j : ℕ) : Trees → Type 0 where
+    plainly : {t : Trees} → StatementFirst ts c i → Beginning n c e d i j t
+    marking : {h : Context} {u : Trees} → Is ts i word.Identifier → Stands limit i d → Is ts (i + 1) word.Colon → Within limit (i + 1) d → (y : Spells ts limit (a part.Statement) h c e (d + 1) u (i + 1 + 1) j) → measure y < n →
+        Beginning n c e d i j (one kind.Label i j (u & none))
+
+  begins_so : {n : ℕ} {h : Context} {c e : Scopes} {d i j : ℕ} {t : Trees} (s : Spells ts limit (a part.Statement) h c e d t i j) → measure s < suc n → Beginning n c e d i j t
+  begins_so (spells.of_chain grammar.statement_compound f s) lt = plainly (by_keyword (compound_first ts limit s) refl)
+  begins_so (spells.of_alternative grammar.expression_statement f (spells.optional_none (spells.token q w s))) lt = plainly (by_keyword q refl)
+  begins_so (spells.of_alternative grammar.expression_statement f (spells.optional_some x s)) lt = plainly (by_expression (first_expression x))
+  begins_so (spells.of_alternative grammar.if_statement f (spells.begins (spells.token q w s))) lt = plainly (by_keyword q refl)
+  begins_so (spells.of_alternative grammar.switch_statement f (spells.begins (spells.token q w s))) lt = plainly (by_keyword q refl)
+  begins_so (spells.of_alternative grammar.while_statement f (spells.begins (spells.token q w s))) lt = plainly (by_keyword q refl)
+  begins_so (spells.of_alternative grammar.do_statement f (spells.begins (spells.opens q w s))) lt = plainly (by_keyword q refl)
+  begins_so (spells.of_alternative grammar.for_statement f (spells.begins (spells.token q w s))) lt = plainly (by_keyword q refl)
+  begins_so (spells.of_alternative grammar.labeled_statement f (spells.token q w (spells.opens q' w' (spells.part y spells.done)))) lt = marking q w q' w' y (omega arith)
+  begins_so (spells.of_alternative grammar.case_statement f (spells.token q w s)) lt = plainly (by_keyword q refl)
+  begins_so (spells.of_alternative grammar.default_statement f (spells.token q w s)) lt = plainly (by_keyword q refl)
+  begins_so (spells.of_alternative grammar.goto_statement f (spells.token q w s)) lt = plainly (by_keyword q refl)
+  begins_so (spells.of_alternative grammar.break_statement f (spells.token q w s)) lt = plainly (by_keyword q refl)
+  begins_so (spells.of_alternative grammar.continue_statement f (spells.token q w s)) lt = plainly (by_keyword q refl)
+  begins_so (spells.of_alternative grammar.return_statement f (spells.token q w s)) lt = plainly (by_keyword q refl)
 
   item_apart : {h : Context} {c e : Scopes} {d i j : ℕ} {t : Trees} {w : Word} → Spells ts limit (a part.BlockItem) h c e d t i j → NoItem w → is_word ts i w ≡ false
   item_apart (spells.of_alternative x f s) n = elim x [ ]
   item_apart (spells.of_chain grammar.item_declaration f s) no_item_else = never_element (declaration_first ts limit s) no_else
   item_apart (spells.of_chain grammar.item_declaration f s) no_item_brace = never_element (declaration_first ts limit s) no_right_brace
-  item_apart (spells.of_chain grammar.item_statement f s) n = statement_apart (statement_first s) n
+  item_apart (spells.of_chain grammar.item_statement f s) n = by (measure s) (begins_so s (omega arith)) n
+    where
+      by : {c e : Scopes} {d i j : ℕ} {t : Trees} {w : Word} (n : ℕ) → Beginning n c e d i j t → NoItem w → is_word ts i w ≡ false
+      by n (plainly o) v = statement_apart o v
+      by n (marking q w q' w' y lt) no_item_else = differs q word.Else refl
+      by n (marking q w q' w' y lt) no_item_brace = differs q word.RightBrace refl
 
   abbrev item_side : Side
   item_side = inner_many part.BlockItem ∷ closing word.RightBrace ∷ symbol.Ends ∷ []
@@ -203,21 +213,27 @@ module _ (ts : List Lexeme) (limit : Limit) where
 
   -- Where a statement is no label.
 
-  unlabelled_goes : (l : Labels) {d i : ℕ} {c : Scopes} {r : Reply} → is_word ts i word.Case ≡ false → is_word ts i word.Default ≡ false → has_word ts i is_label ≡ false →
-      Goes ts limit (unlabelled l d i) c i r → Goes ts limit (body (m.statement l d)) c i r
-  unlabelled_goes anywhere x y z h = run_here (run_yes refl (run_pass x (run_pass y h)))
-  unlabelled_goes own_block x y z h = run_here (run_yes refl (run_pass x (run_pass y h)))
-  unlabelled_goes nowhere x y z h = run_here (run_no refl (run_free z h))
+  unlabelled_goes : {d i : ℕ} {c : Scopes} {r : Reply} → is_word ts i word.Case ≡ false → is_word ts i word.Default ≡ false → Goes ts limit (unlabelled anywhere d i) c i r → Goes ts limit (body (m.statement anywhere d)) c i r
+  unlabelled_goes x y h = run_here (run_yes refl (run_pass x (run_pass y h)))
 
-  by_word_goes : (l : Labels) {w : Word} {d i : ℕ} {c : Scopes} {r : Reply} → Is ts i w → same_word w word.Case ≡ false → same_word w word.Default ≡ false → is_label w ≡ false →
-      Goes ts limit (unlabelled l d i) c i r → Goes ts limit (body (m.statement l d)) c i r
-  by_word_goes l q x y z h = unlabelled_goes l (differs q word.Case x) (differs q word.Default y) (sorted is_label false q z) h
+  by_word_goes : {w : Word} {d i : ℕ} {c : Scopes} {r : Reply} → Is ts i w → same_word w word.Case ≡ false → same_word w word.Default ≡ false →
+      Goes ts limit (unlabelled anywhere d i) c i r → Goes ts limit (body (m.statement anywhere d)) c i r
+  by_word_goes q x y h = unlabelled_goes (differs q word.Case x) (differs q word.Default y) h
 
-  labelled_goes : (l : Labels) {d i : ℕ} {c : Scopes} {r : Reply} → may_label l ≡ true → Goes ts limit (labelled l d i (unlabelled l d i)) c i r → Goes ts limit (body (m.statement l d)) c i r
-  labelled_goes l q h = run_here (run_yes q h)
+  labelled_goes : {d i : ℕ} {c : Scopes} {r : Reply} → Goes ts limit (labelled anywhere d i (unlabelled anywhere d i)) c i r → Goes ts limit (body (m.statement anywhere d)) c i r
+  labelled_goes h = run_here (run_yes refl h)
+
+  -- behind an expression that no colon follows
+  named_rest_goes : (d i : ℕ) (t : Trees) {e : Scopes} {j : ℕ} {r : Reply} → is_word ts j word.Colon ≡ false → Goes ts limit (expression_rest d i t) e j r →
+      Goes ts limit (m.when (is_identifier t) (marked anywhere d i (expression_rest d i t)) (expression_rest d i t)) e j r
+  named_rest_goes d i t {e = e} {j = j} {r = r} apart h = by (is_identifier t)
+    where
+      by : (v : Bool) → Goes ts limit (m.when v (marked anywhere d i (expression_rest d i t)) (expression_rest d i t)) e j r
+      by true = run_yes refl (run_unseen apart h)
+      by false = run_no refl h
 
   -- a statement that is a block by itself
-  block_goes : {l : Labels} {c e : Scopes} {own : List TypeName} {d i j : ℕ} {t : Trees} → Answers ts limit (m.statement l d) ([] ∷ c) i t (own ∷ e) j → Answers ts limit (m.block l d) c i t e j
+  block_goes : {c e : Scopes} {own : List TypeName} {d i j : ℕ} {t : Trees} → Answers ts limit (m.statement anywhere d) ([] ∷ c) i t (own ∷ e) j → Answers ts limit (m.block anywhere d) c i t e j
   block_goes x = run_look (run_set (run_call x (run_look (run_set run_give))))
 
   no_statement_start : (c : Scopes) (i : ℕ) → Is ts i word.LeftBrace → passes ts c i statement_start ≡ false
@@ -228,110 +244,123 @@ module _ (ts : List Lexeme) (limit : Limit) where
 
     pub compound_reads : {h : Context} {c e : Scopes} {d i j : ℕ} {t : Trees} (s : Spells ts limit (a part.Compound) h c e d t i j) → measure s < suc n → Completes ts limit task.compound h c e d t i j
     compound_reads (spells.of_chain x f s) lt = elim x [ ]
-    compound_reads {i = i} (spells.of_alternative grammar.compound_statement f (spells.begins (spells.opens q w s))) lt = λ l ft.
-        let r = b.read task.items s (omega arith) l i none ft in
+    compound_reads {i = i} (spells.of_alternative grammar.compound_statement f (spells.begins (spells.opens q w s))) lt =
+        let r = b.read task.items s (omega arith) i none in
         run_here (run_look (run_set (run_take (yes q) w (run_call r.1 (run_look (run_set run_give))))))
 
-    item_goes : {l : Labels} {c e f : Scopes} {d s i j k : ℕ} {t u y : Trees} → is_word ts i word.RightBrace ≡ false → Answers ts limit (m.item l (d + 1)) c i t e j →
-        (names : List TypeName) × Answers ts limit (m.items l d s (y & t & none)) e j u (names ∷ f) k → (names : List TypeName) × Answers ts limit (m.items l d s y) c i u (names ∷ f) k
+    item_goes : {c e f : Scopes} {d s i j k : ℕ} {t u y : Trees} → is_word ts i word.RightBrace ≡ false → Answers ts limit (m.item anywhere (d + 1)) c i t e j →
+        (names : List TypeName) × Answers ts limit (m.items anywhere d s (y & t & none)) e j u (names ∷ f) k → (names : List TypeName) × Answers ts limit (m.items anywhere d s y) c i u (names ∷ f) k
     item_goes q x r = (r.0, run_pass q (run_call x (tail r.1)))
 
     pub items_read : {h : Context} {c e : Scopes} {d i j : ℕ} {t : Trees} (s : Spells ts limit (rest item_side) h c e d t i j) → measure s < suc n → Completes ts limit task.items h c e d t i j
-    items_read {d = d} {i = i} (spells.many_none (spells.token {c = c} q w (spells.ends {own = own} spells.done))) lt = λ l s x ft.
-        (own, subst (λ y. Answers ts limit (m.items l d s x) c i (one kind.Compound s (i + 1) y) c (i + 1)) (sym (and_none x)) (run_take (yes q) w (run_here run_give)))
-    items_read {c = c} {e = e} {d = d} {i = i} {j = j} (spells.many_more {t = t} {u = u} x k) lt = λ l s y ft.
-        subst (λ z. (names : List TypeName) × Answers ts limit (m.items l d s y) c i (one kind.Compound s j z) (names ∷ e) j) (pushed y t u)
-        (item_goes (item_apart x no_item_brace) (b.read task.item x (omega arith) l (fits_left l t u ft) (λ o. items_apart k)) (b.read task.items k (omega arith) l s (y & t & none) (fits_right l t u ft)))
+    items_read {d = d} {i = i} (spells.many_none (spells.token {c = c} q w (spells.ends {own = own} spells.done))) lt = λ s x.
+        (own, subst (λ y. Answers ts limit (m.items anywhere d s x) c i (one kind.Compound s (i + 1) y) c (i + 1)) (sym (and_none x)) (run_take (yes q) w (run_here run_give)))
+    items_read {c = c} {e = e} {d = d} {i = i} {j = j} (spells.many_more {t = t} {u = u} x k) lt = λ s y.
+        subst (λ z. (names : List TypeName) × Answers ts limit (m.items anywhere d s y) c i (one kind.Compound s j z) (names ∷ e) j) (pushed y t u)
+        (item_goes (item_apart x no_item_brace) (b.read task.item x (omega arith) (λ o. items_apart k)) (b.read task.items k (omega arith) s (y & t & none)))
+
+    -- behind a name that is a label
+    marks_go : {h : Context} {c e : Scopes} {d i k j : ℕ} {u : Trees} → Is ts k word.Colon → Within limit k d → (y : Spells ts limit (a part.Statement) h c e (d + 1) u (k + 1) j) → measure y < n →
+        (ends_open (one kind.Label i j (u & none)) ≡ true → is_word ts j word.Else ≡ false) → Goes ts limit (marks anywhere d i) c k (Done (one kind.Label i j (u & none)) e j)
+    marks_go {u = u} q w y lt el = run_yes refl (run_take (yes q) w (run_call (b.read task.statement y lt (λ o. el (last_open none u o))) (run_here run_give)))
+
+    -- an item that is a statement
+    item_goes_on : {h : Context} {c e : Scopes} {d i j : ℕ} {t : Trees} (h' : Context) (s : Spells ts limit (a part.Statement) h c e d t i j) → measure s < n → Beginning n c e d i j t → Completes ts limit task.item h' c e d t i j
+    item_goes_on h' s lt (plainly o) = λ el. run_unseen (not_declaration o) (tail (b.read task.statement s lt el))
+    item_goes_on {c = c} {e = e} {d = d} {i = i} {j = j} {t = t} h' s lt (marking q w q' w' y lt') = λ el. by el (passes ts c i (m.type_identifier false)) refl
+      where
+        by : (ends_open t ≡ true → is_word ts j word.Else ≡ false) → (v : Bool) → passes ts c i (m.type_identifier false) ≡ v → Answers ts limit (m.item anywhere d) c i t e j
+        by el true z = item_label_goes anywhere z w q' (marks_go q' w' y lt' el) q
+        by el false z = run_unseen (name_starts_none ts c i q z) (tail (b.read task.statement s lt el))
 
     pub item_reads : {h : Context} {c e : Scopes} {d i j : ℕ} {t : Trees} (s : Spells ts limit (a part.BlockItem) h c e d t i j) → measure s < suc n → Completes ts limit task.item h c e d t i j
     item_reads (spells.of_alternative x f s) lt = elim x [ ]
-    item_reads (spells.of_chain grammar.item_declaration f s) lt = λ l ft el.
-        run_seen (specifier_yes (declaration_first ts limit s)) (tail (b.read task.declaration s (omega arith)))
-    item_reads (spells.of_chain grammar.item_statement f s) lt = λ l ft el.
-        run_unseen (not_declaration (statement_first s)) (tail (b.read task.statement s (omega arith) l ft el))
+    item_reads (spells.of_chain grammar.item_declaration f s) lt = λ el. declaration_is_item (specifier_yes (declaration_first ts limit s)) (b.read task.declaration s (omega arith))
+    item_reads {h = h} (spells.of_chain grammar.item_statement f s) lt = item_goes_on h s (omega arith) (begins_so s (omega arith))
 
     -- The rest of a `for`, by its parts.
 
     abbrev for_side : Side
     for_side = symbol.Begins ∷ inner part.Statement ∷ symbol.Ends ∷ symbol.Ends ∷ []
 
-    for_body_goes : {h : Context} {c e : Scopes} {d i j : ℕ} {t : Trees} (s : Spells ts limit (rest for_side) h c e d t i j) → measure s < n → (l : Labels) → fits (inside l) t ≡ true →
-        (ends_open t ≡ true → is_word ts j word.Else ≡ false) → (k : ℕ) (x : Trees) → Goes ts limit (for_body l d k x) c i (Done (one kind.For k j (x & t)) e j)
-    for_body_goes (spells.begins (spells.part {t = u} y (spells.ends (spells.ends spells.done)))) lt l ft el k x =
-        run_call (block_goes (b.read task.statement y (omega arith) (inside l) (fits_left (inside l) u none ft) (λ o. el (last_open none u o)))) (run_look (run_set (run_here run_give)))
+    for_body_goes : {h : Context} {c e : Scopes} {d i j : ℕ} {t : Trees} (s : Spells ts limit (rest for_side) h c e d t i j) → measure s < n →
+        (ends_open t ≡ true → is_word ts j word.Else ≡ false) → (k : ℕ) (x : Trees) → Goes ts limit (for_body anywhere d k x) c i (Done (one kind.For k j (x & t)) e j)
+    for_body_goes (spells.begins (spells.part {t = u} y (spells.ends (spells.ends spells.done)))) lt el k x =
+        run_call (block_goes (b.read task.statement y (omega arith) (λ o. el (last_open none u o)))) (run_look (run_set (run_here run_give)))
 
-    step_goes : {h : Context} {c e : Scopes} {d i j : ℕ} {t : Trees} (s : Spells ts limit (rest (symbol.Step ∷ for_side)) h c e d t i j) → measure s < n → (l : Labels) → fits (inside l) t ≡ true →
+    step_goes : {h : Context} {c e : Scopes} {d i j : ℕ} {t : Trees} (s : Spells ts limit (rest (symbol.Step ∷ for_side)) h c e d t i j) → measure s < n →
         (ends_open t ≡ true → is_word ts j word.Else ≡ false) → (k : ℕ) (x y : Trees) →
-        Goes ts limit (take reopens (the word.RightParen) d (for_body l d k (x & y)) (call (m.expression (d + 1)) (λ u. expect reopens word.RightParen d (for_body l d k (x & y & u & none))))) c i
+        Goes ts limit (take reopens (the word.RightParen) d (for_body anywhere d k (x & y)) (call (m.expression (d + 1)) (λ u. expect reopens word.RightParen d (for_body anywhere d k (x & y & u & none))))) c i
         (Done (one kind.For k j (x & y & t)) e j)
-    step_goes {c = c} {e = e} {d = d} {i = i} {j = j} {t = t} (spells.step_none q w v s) lt l ft el k x y = run_take (yes q) (w, v)
-        (subst (λ z. Goes ts limit (for_body l d k (x & y)) c (i + 1) (Done (one kind.For k j z) e j)) (and_and x y t) (for_body_goes s (omega arith) l ft el k (x & y)))
-    step_goes {e = e} {d = d} {j = j} (spells.step_some {e = c'} {j = i'} {t = t} {u = u} z q w v s) lt l ft el k x y =
+    step_goes {c = c} {e = e} {d = d} {i = i} {j = j} {t = t} (spells.step_none q w v s) lt el k x y = run_take (yes q) (w, v)
+        (subst (λ z. Goes ts limit (for_body anywhere d k (x & y)) c (i + 1) (Done (one kind.For k j z) e j)) (and_and x y t) (for_body_goes s (omega arith) el k (x & y)))
+    step_goes {e = e} {d = d} {j = j} (spells.step_some {e = c'} {j = i'} {t = t} {u = u} z q w v s) lt el k x y =
         run_pass (not_first (first_expression z) word.RightParen refl refl) (run_call (whole_expression ts limit n b z (omega arith) (free_by q (omega arith))) (run_take (yes q) (w, v)
-        (subst (λ z. Goes ts limit (for_body l d k (x & y & t & none)) c' (i' + 1) (Done (one kind.For k j z) e j)) (and_and x (y & t & none) u ∙ ap (λ z. x & z) (pushed y t u))
-        (for_body_goes s (omega arith) l (fits_right (inside l) t u ft) (λ o. el (still_open t u o)) k (x & y & t & none)))))
+        (subst (λ z. Goes ts limit (for_body anywhere d k (x & y & t & none)) c' (i' + 1) (Done (one kind.For k j z) e j)) (and_and x (y & t & none) u ∙ ap (λ z. x & z) (pushed y t u))
+        (for_body_goes s (omega arith) (λ o. el (still_open t u o)) k (x & y & t & none)))))
 
-    clauses_go : {h : Context} {c e : Scopes} {d i j : ℕ} {t : Trees} (s : Spells ts limit (rest (symbol.Clause ∷ symbol.Step ∷ for_side)) h c e d t i j) → measure s < n → (l : Labels) → fits (inside l) t ≡ true →
-        (ends_open t ≡ true → is_word ts j word.Else ≡ false) → (k : ℕ) (x : Trees) → Answers ts limit (m.for_clauses l d k x) c i (one kind.For k j (x & t)) e j
-    clauses_go (spells.clause_none q w s) lt l ft el k x = run_call (run_take (yes q) w run_give) (step_goes s (omega arith) l ft el k x none)
-    clauses_go {c = c} {e = e} {d = d} {i = i} {j = j} (spells.clause_some {t = t} {u = u} z q w s) lt l ft el k x =
-        subst (λ y. Answers ts limit (m.for_clauses l d k x) c i (one kind.For k j (x & y)) e j) (and_and t none u)
+    clauses_go : {h : Context} {c e : Scopes} {d i j : ℕ} {t : Trees} (s : Spells ts limit (rest (symbol.Clause ∷ symbol.Step ∷ for_side)) h c e d t i j) → measure s < n →
+        (ends_open t ≡ true → is_word ts j word.Else ≡ false) → (k : ℕ) (x : Trees) → Answers ts limit (m.for_clauses anywhere d k x) c i (one kind.For k j (x & t)) e j
+    clauses_go (spells.clause_none q w s) lt el k x = run_call (run_take (yes q) w run_give) (step_goes s (omega arith) el k x none)
+    clauses_go {c = c} {e = e} {d = d} {i = i} {j = j} (spells.clause_some {t = t} {u = u} z q w s) lt el k x =
+        subst (λ y. Answers ts limit (m.for_clauses anywhere d k x) c i (one kind.For k j (x & y)) e j) (and_and t none u)
         (run_call (run_pass (not_first (first_expression z) word.Semicolon refl refl) (run_call (whole_expression ts limit n b z (omega arith) (free_by q (omega arith))) (run_take (yes q) w run_give)))
-        (step_goes s (omega arith) l (fits_right (inside l) t u ft) (λ o. el (still_open t u o)) k x (t & none)))
+        (step_goes s (omega arith) (λ o. el (still_open t u o)) k x (t & none)))
 
     -- behind the first clause
-    further : {h : Context} {c e : Scopes} {d i j : ℕ} {u : Trees} (t : Trees) (s : Spells ts limit (rest (symbol.Clause ∷ symbol.Step ∷ for_side)) h c e d u i j) → measure s < n → (l : Labels) → fits (inside l) (t & u) ≡ true →
-        (ends_open (t & u) ≡ true → is_word ts j word.Else ≡ false) → (k : ℕ) → Answers ts limit (m.for_clauses l d k (t & none)) c i (one kind.For k j (t & u)) e j
-    further {c = c} {e = e} {d = d} {i = i} {j = j} {u = u} t s lt l ft el k =
-        subst (λ y. Answers ts limit (m.for_clauses l d k (t & none)) c i (one kind.For k j y) e j) (and_and t none u)
-        (clauses_go s lt l (fits_right (inside l) t u ft) (λ o. el (still_open t u o)) k (t & none))
+    further : {h : Context} {c e : Scopes} {d i j : ℕ} {u : Trees} (t : Trees) (s : Spells ts limit (rest (symbol.Clause ∷ symbol.Step ∷ for_side)) h c e d u i j) → measure s < n →
+        (ends_open (t & u) ≡ true → is_word ts j word.Else ≡ false) → (k : ℕ) → Answers ts limit (m.for_clauses anywhere d k (t & none)) c i (one kind.For k j (t & u)) e j
+    further {c = c} {e = e} {d = d} {i = i} {j = j} {u = u} t s lt el k =
+        subst (λ y. Answers ts limit (m.for_clauses anywhere d k (t & none)) c i (one kind.For k j y) e j) (and_and t none u)
+        (clauses_go s lt (λ o. el (still_open t u o)) k (t & none))
 
-    for_goes : {h : Context} {c e : Scopes} {d i j : ℕ} {t : Trees} (s : Spells ts limit (rest (symbol.Init ∷ symbol.Clause ∷ symbol.Step ∷ for_side)) h c e d t i j) → measure s < n → (l : Labels) → fits (inside l) t ≡ true →
+    for_goes : {h : Context} {c e : Scopes} {d i j : ℕ} {t : Trees} (s : Spells ts limit (rest (symbol.Init ∷ symbol.Clause ∷ symbol.Step ∷ for_side)) h c e d t i j) → measure s < n →
         (ends_open t ≡ true → is_word ts j word.Else ≡ false) → (k : ℕ) →
-        Goes ts limit (m.peek declaration_start (call (m.declaration (d + 1)) (λ u. call (m.for_clauses l d k (u & none)) give)) (call (m.clause (d + 1)) (λ u. call (m.for_clauses l d k u) give))) c i (Done (one kind.For k j t) e j)
-    for_goes (spells.init_declaration {t = t} z s) lt l ft el k =
-        run_seen (specifier_yes (declaration_first ts limit z)) (run_call (b.read task.declaration z (omega arith)) (tail (further t s (omega arith) l ft el k)))
-    for_goes {c = c} {i = i} (spells.init_clause (spells.clause_none q w s)) lt l ft el k =
-        run_unseen (not_type ts c i q refl refl) (run_call (run_take (yes q) w run_give) (tail (clauses_go s (omega arith) l ft el k none)))
-    for_goes (spells.init_clause (spells.clause_some {t = t} z q w s)) lt l ft el k =
+        Goes ts limit (m.peek declaration_start (call (m.declaration (d + 1)) (λ u. call (m.for_clauses anywhere d k (u & none)) give)) (call (m.clause (d + 1)) (λ u. call (m.for_clauses anywhere d k u) give))) c i (Done (one kind.For k j t) e j)
+    for_goes (spells.init_declaration {t = t} z s) lt el k =
+        run_seen (specifier_yes (declaration_first ts limit z)) (run_call (b.read task.declaration z (omega arith)) (tail (further t s (omega arith) el k)))
+    for_goes {c = c} {i = i} (spells.init_clause (spells.clause_none q w s)) lt el k =
+        run_unseen (not_type ts c i q refl refl) (run_call (run_take (yes q) w run_give) (tail (clauses_go s (omega arith) el k none)))
+    for_goes (spells.init_clause (spells.clause_some {t = t} z q w s)) lt el k =
         run_unseen (not_declaration (by_expression (first_expression z)))
         (run_call (run_pass (not_first (first_expression z) word.Semicolon refl refl) (run_call (whole_expression ts limit n b z (omega arith) (free_by q (omega arith))) (run_take (yes q) w run_give)))
-        (tail (further t s (omega arith) l ft el k)))
+        (tail (further t s (omega arith) el k)))
 
     -- Statements.
 
-    expression_goes : {h : Context} {c e : Scopes} {d i j : ℕ} {t : Trees} {r : Reply} (l : Labels) (z : Spells ts limit (a part.Expression) h c e d t i j) → measure z < n → IsFree ts 13 j →
-        Goes ts limit (expect plain word.Semicolon d (made kind.ExpressionStatement i (t & none))) e j r → Goes ts limit (body (m.statement l d)) c i r
-    expression_goes l z lt fr y =
+    expression_goes : {h : Context} {c e : Scopes} {d i j : ℕ} {t : Trees} {r : Reply} (z : Spells ts limit (a part.Expression) h c e d t i j) → measure z < n → IsFree ts 13 j → is_word ts j word.Colon ≡ false →
+        Goes ts limit (expect plain word.Semicolon d (made kind.ExpressionStatement i (t & none))) e j r → Goes ts limit (body (m.statement anywhere d)) c i r
+    expression_goes {d = d} {i = i} {t = t} z lt fr apart y =
         let o = first_expression z in
-        unlabelled_goes l (not_first o word.Case refl refl) (not_first o word.Default refl refl) (expression_no_label o)
+        unlabelled_goes (not_first o word.Case refl refl) (not_first o word.Default refl refl)
         (run_unseen (not_first o word.LeftBrace refl refl) (run_pass (not_first o word.If refl refl) (run_pass (not_first o word.Switch refl refl) (run_pass (not_first o word.While refl refl)
-        (run_pass (not_first o word.Do refl refl) (run_pass (not_first o word.For refl refl) (run_pass (not_first o word.Break refl refl) (run_pass (not_first o word.Continue refl refl)
-        (run_pass (not_first o word.Return refl refl) (run_pass (not_first o word.Semicolon refl refl) (run_call (whole_expression ts limit n b z lt fr) y)))))))))))
+        (run_pass (not_first o word.Do refl refl) (run_pass (not_first o word.For refl refl) (run_pass (not_first o word.Goto refl refl) (run_pass (not_first o word.Break refl refl) (run_pass (not_first o word.Continue refl refl)
+        (run_pass (not_first o word.Return refl refl) (run_pass (not_first o word.Semicolon refl refl) (run_pass (no_type_first o)
+        (run_call (whole_expression ts limit n b z lt fr) (named_rest_goes d i t apart y))))))))))))))
 
     -- an `if` without `else`
-    without_goes : (l : Labels) {c : Scopes} {own : List TypeName} {d s j : ℕ} (t u : Trees) → is_word ts j word.Else ≡ false → Goes ts limit (if_end l d s t u) (own ∷ c) j (Done (one kind.If s j (t & u & none)) c j)
-    without_goes l {c = c} {own = own} {d = d} {s = s} {j = j} t u q = by (ends_open u)
+    without_goes : {c : Scopes} {own : List TypeName} {d s j : ℕ} (t u : Trees) → is_word ts j word.Else ≡ false → Goes ts limit (if_end anywhere d s t u) (own ∷ c) j (Done (one kind.If s j (t & u & none)) c j)
+    without_goes {c = c} {own = own} {d = d} {s = s} {j = j} t u q = by (ends_open u)
       where
-        by : (o : Bool) → Goes ts limit (m.when o (without_else s t u) (take opens (the word.Else) d (call (m.block (inside l) (d + 1)) (λ v. m.drops (made kind.If s (t & u & v & none)))) (without_else s t u))) (own ∷ c) j
+        by : (o : Bool) → Goes ts limit (m.when o (without_else s t u) (take opens (the word.Else) d (call (m.block anywhere (d + 1)) (λ v. m.drops (made kind.If s (t & u & v & none)))) (without_else s t u))) (own ∷ c) j
             (Done (one kind.If s j (t & u & none)) c j)
         by true = run_yes refl (run_look (run_set (run_here run_give)))
         by false = run_no refl (run_pass q (run_look (run_set (run_here run_give))))
 
-    return_goes : (l : Labels) {d i : ℕ} {c : Scopes} {r : Reply} → Is ts i word.Return → Stands limit i d → Goes ts limit (body (m.return_rest d i)) c (i + 1) r → Goes ts limit (body (m.statement l d)) c i r
-    return_goes l q w h =
-        by_word_goes l q refl refl refl (run_unseen (differs q word.LeftBrace refl) (run_pass (differs q word.If refl) (run_pass (differs q word.Switch refl) (run_pass (differs q word.While refl)
-        (run_pass (differs q word.Do refl) (run_pass (differs q word.For refl) (run_pass (differs q word.Break refl) (run_pass (differs q word.Continue refl) (run_take (yes q) w (tail h))))))))))
+    return_goes : {d i : ℕ} {c : Scopes} {r : Reply} → Is ts i word.Return → Stands limit i d → Goes ts limit (body (m.return_rest d i)) c (i + 1) r → Goes ts limit (body (m.statement anywhere d)) c i r
+    return_goes q w h =
+        by_word_goes q refl refl (run_unseen (differs q word.LeftBrace refl) (run_pass (differs q word.If refl) (run_pass (differs q word.Switch refl) (run_pass (differs q word.While refl)
+        (run_pass (differs q word.Do refl) (run_pass (differs q word.For refl) (run_pass (differs q word.Goto refl) (run_pass (differs q word.Break refl) (run_pass (differs q word.Continue refl) (run_take (yes q) w (tail h)))))))))))
 
     expression_reads : {h : Context} {c e : Scopes} {d i j : ℕ} {t : Trees} (s : Spells ts limit (rest (optional part.Expression ∷ token word.Semicolon ∷ [])) h c e d t i j) → measure s < n →
         Completes ts limit task.statement h c e d (one kind.ExpressionStatement i j t) i j
-    expression_reads (spells.optional_none (spells.token q w spells.done)) lt = λ l ft el.
-        by_word_goes l q refl refl refl (run_unseen (differs q word.LeftBrace refl) (run_pass (differs q word.If refl) (run_pass (differs q word.Switch refl) (run_pass (differs q word.While refl)
-        (run_pass (differs q word.Do refl) (run_pass (differs q word.For refl) (run_pass (differs q word.Break refl) (run_pass (differs q word.Continue refl) (run_pass (differs q word.Return refl)
-        (run_take (yes q) w (run_here run_give)))))))))))
+    expression_reads (spells.optional_none (spells.token q w spells.done)) lt = λ el.
+        by_word_goes q refl refl (run_unseen (differs q word.LeftBrace refl) (run_pass (differs q word.If refl) (run_pass (differs q word.Switch refl) (run_pass (differs q word.While refl)
+        (run_pass (differs q word.Do refl) (run_pass (differs q word.For refl) (run_pass (differs q word.Goto refl) (run_pass (differs q word.Break refl) (run_pass (differs q word.Continue refl) (run_pass (differs q word.Return refl)
+        (run_take (yes q) w (run_here run_give))))))))))))
     expression_reads {h = h} {c = c} {d = d} {i = i} (spells.optional_some {t = t} z s) lt =
-        closing_run ts limit s (λ e u j. Completes ts limit task.statement h c e d (one kind.ExpressionStatement i j (t & u)) i j) (λ q w l ft el.
-        expression_goes l z (omega arith) (free_by q (omega arith)) (run_take (yes q) w (run_here run_give)))
+        closing_run ts limit s (λ e u j. Completes ts limit task.statement h c e d (one kind.ExpressionStatement i j (t & u)) i j) (λ q w el.
+        expression_goes z (omega arith) (free_by q (omega arith)) (differs q word.Colon refl) (run_take (yes q) w (run_here run_give)))
 
     -- a condition in brackets before a statement that goes on as p says
     condition_goes : {h : Context} {c e : Scopes} {d i k : ℕ} {t : Trees} {r : Reply} (p : Trees → Prog) → Is ts i word.LeftParen → Within limit i d → (z : Spells ts limit (a part.Expression) h c e (d + 1) t (i + 1) k) → measure z < n →
@@ -341,51 +370,51 @@ module _ (ts : List Lexeme) (limit : Limit) where
 
     -- the branches of an `if` behind its condition z
     branches_go : {h h' : Context} {c c' e e' : Scopes} {d d' i i' j j' : ℕ} {t v : Trees} (s : Spells ts limit (rest (symbol.Begins ∷ inner part.Statement ∷ symbol.Ends ∷ symbol.Else ∷ symbol.Ends ∷ [])) h c e d v i j) → measure s < n →
-        Spells ts limit (a part.Expression) h' c' e' d' t i' j' → fits_together kind.If (t & v) ≡ true → (l : Labels) (k : ℕ) → fits (inside l) v ≡ true → (ends_open (one kind.If k j (t & v)) ≡ true → is_word ts j word.Else ≡ false) →
-        Goes ts limit (call (m.block (inside l) (d + 1)) (λ u. if_end l d k t u)) c i (Done (one kind.If k j (t & v)) e j)
-    branches_go {j = j} {t = t} (spells.begins (spells.part {t = u} y (spells.ends (spells.else_none (spells.ends spells.done))))) lt z f l k ft el =
+        Spells ts limit (a part.Expression) h' c' e' d' t i' j' → fits_together kind.If (t & v) ≡ true → (k : ℕ) → (ends_open (one kind.If k j (t & v)) ≡ true → is_word ts j word.Else ≡ false) →
+        Goes ts limit (call (m.block anywhere (d + 1)) (λ u. if_end anywhere d k t u)) c i (Done (one kind.If k j (t & v)) e j)
+    branches_go {j = j} {t = t} (spells.begins (spells.part {t = u} y (spells.ends (spells.else_none (spells.ends spells.done))))) lt z f k el =
         let p = el (open_alone z y k j) in
-        run_call (block_goes (b.read task.statement y (omega arith) (inside l) (fits_left (inside l) u none ft) (λ o. p))) (without_goes l t u p)
-    branches_go {t = t} (spells.begins (spells.part {t = u} y (spells.ends (spells.else_some {t = v} q w x (spells.ends spells.done))))) lt z f l k ft el =
-        run_call (block_goes (b.read task.statement y (omega arith) (inside l) (fits_left (inside l) u (v & none) ft) (λ o. true_false (sym o ∙ nearest z y x f))))
-        (run_no (nearest z y x f) (run_take (yes q) w (run_call (block_goes (b.read task.statement x (omega arith) (inside l) (fits_left (inside l) v none (fits_right (inside l) u (v & none) ft))
+        run_call (block_goes (b.read task.statement y (omega arith) (λ o. p))) (without_goes t u p)
+    branches_go {t = t} (spells.begins (spells.part {t = u} y (spells.ends (spells.else_some {t = v} q w x (spells.ends spells.done))))) lt z f k el =
+        run_call (block_goes (b.read task.statement y (omega arith) (λ o. true_false (sym o ∙ nearest z y x f))))
+        (run_no (nearest z y x f) (run_take (yes q) w (run_call (block_goes (b.read task.statement x (omega arith)
         (λ o. el (or_right (not (has_else (t & u & v & none))) (ends_open (t & u & v & none)) (still_open t (u & v & none) (last_open u v o))))))
         (run_look (run_set (run_here run_give))))))
 
     if_reads : {h : Context} {c e : Scopes} {d i j : ℕ} {t : Trees} (s : Spells ts limit (rest (symbol.Begins ∷ token word.If ∷ opening word.LeftParen ∷ inner part.Expression ∷ reopening word.RightParen ∷ symbol.Begins ∷ inner part.Statement ∷
         symbol.Ends ∷ symbol.Else ∷ symbol.Ends ∷ [])) h c e d t i j) → measure s < n → fits_together kind.If t ≡ true → Completes ts limit task.statement h c e d (one kind.If i j t) i j
-    if_reads {d = d} {i = i} {j = j} (spells.begins (spells.token q w (spells.opens q' w' (spells.part {t = t} {u = v} z (spells.reopens q'' w'' v'' s))))) lt f = λ l ft el.
-        by_word_goes l q refl refl refl (run_unseen (differs q word.LeftBrace refl) (run_take (yes q) w (tail (run_look (run_set
-        (condition_goes (λ u. call (m.block (inside l) (d + 1)) (λ y. if_end l d i u y)) q' w' z (omega arith) q'' w'' v''
-        (branches_go s (omega arith) z f l i (fits_right (inside l) t v (parts_fit l kind.If i j (t & v) none refl refl ft)) el)))))))
+    if_reads {d = d} {i = i} {j = j} (spells.begins (spells.token q w (spells.opens q' w' (spells.part {t = t} {u = v} z (spells.reopens q'' w'' v'' s))))) lt f = λ el.
+        by_word_goes q refl refl (run_unseen (differs q word.LeftBrace refl) (run_take (yes q) w (tail (run_look (run_set
+        (condition_goes (λ u. call (m.block anywhere (d + 1)) (λ y. if_end anywhere d i u y)) q' w' z (omega arith) q'' w'' v''
+        (branches_go s (omega arith) z f i el)))))))
 
     -- the body of a switch behind its condition
     switch_goes : {h : Context} {c e : Scopes} {d i j : ℕ} {v : Trees} (t : Trees) (s : Spells ts limit (rest (symbol.Begins ∷ inner part.Compound ∷ symbol.Ends ∷ symbol.Ends ∷ [])) h c e d v i j) → measure s < n →
-        (l : Labels) (k : ℕ) → fits l (one kind.Switch k j (t & v)) ≡ true → Goes ts limit (switch_body l d k t) c i (Done (one kind.Switch k j (t & v)) e j)
-    switch_goes {c = c} {i = i} {j = j} t (spells.begins (spells.part y (spells.ends (spells.ends spells.done)))) lt l k ft =
+        (k : ℕ) → Goes ts limit (switch_body anywhere d k t) c i (Done (one kind.Switch k j (t & v)) e j)
+    switch_goes {c = c} {i = i} {j = j} t (spells.begins (spells.part y (spells.ends (spells.ends spells.done)))) lt k =
         let o = compound_first ts limit y in
         run_free (or_from (is_word ts i word.Case) (is_word ts i word.Default) (differs o word.Case refl) (differs o word.Default refl)) (run_free (no_statement_start c i o) (run_look (run_set
-        (run_call (b.read task.compound y (omega arith) (in_switch l) (switch_fits l k j t y ft)) (run_look (run_set (run_look (run_set (run_here run_give)))))))))
+        (run_call (b.read task.compound y (omega arith)) (run_look (run_set (run_look (run_set (run_here run_give)))))))))
 
     switch_reads : {h : Context} {c e : Scopes} {d i j : ℕ} {t : Trees} (s : Spells ts limit (rest (symbol.Begins ∷ token word.Switch ∷ opening word.LeftParen ∷ inner part.Expression ∷ reopening word.RightParen ∷ symbol.Begins ∷ inner part.Compound ∷
         symbol.Ends ∷ symbol.Ends ∷ [])) h c e d t i j) → measure s < n → Completes ts limit task.statement h c e d (one kind.Switch i j t) i j
-    switch_reads {d = d} {i = i} (spells.begins (spells.token q w (spells.opens q' w' (spells.part {t = t} z (spells.reopens q'' w'' v'' s))))) lt = λ l ft el.
-        by_word_goes l q refl refl refl (run_unseen (differs q word.LeftBrace refl) (run_pass (differs q word.If refl) (run_take (yes q) w (tail (run_look (run_set
-        (condition_goes (λ u. switch_body l d i u) q' w' z (omega arith) q'' w'' v'' (switch_goes t s (omega arith) l i ft))))))))
+    switch_reads {d = d} {i = i} (spells.begins (spells.token q w (spells.opens q' w' (spells.part {t = t} z (spells.reopens q'' w'' v'' s))))) lt = λ el.
+        by_word_goes q refl refl (run_unseen (differs q word.LeftBrace refl) (run_pass (differs q word.If refl) (run_take (yes q) w (tail (run_look (run_set
+        (condition_goes (λ u. switch_body anywhere d i u) q' w' z (omega arith) q'' w'' v'' (switch_goes t s (omega arith) i))))))))
 
     -- the body of a `while` behind its condition
     while_goes : {h : Context} {c e : Scopes} {d i j : ℕ} {v : Trees} (s : Spells ts limit (rest (symbol.Begins ∷ inner part.Statement ∷ symbol.Ends ∷ symbol.Ends ∷ [])) h c e d v i j) → measure s < n →
-        (l : Labels) (k : ℕ) (t : Trees) → fits (inside l) v ≡ true → (ends_open (t & v) ≡ true → is_word ts j word.Else ≡ false) →
-        Goes ts limit (call (m.block (inside l) (d + 1)) (λ u. m.drops (made kind.While k (t & u & none)))) c i (Done (one kind.While k j (t & v)) e j)
-    while_goes (spells.begins (spells.part {t = u} y (spells.ends (spells.ends spells.done)))) lt l k t ft el =
-        run_call (block_goes (b.read task.statement y (omega arith) (inside l) (fits_left (inside l) u none ft) (λ o. el (last_open t u o)))) (run_look (run_set (run_here run_give)))
+        (k : ℕ) (t : Trees) → (ends_open (t & v) ≡ true → is_word ts j word.Else ≡ false) →
+        Goes ts limit (call (m.block anywhere (d + 1)) (λ u. m.drops (made kind.While k (t & u & none)))) c i (Done (one kind.While k j (t & v)) e j)
+    while_goes (spells.begins (spells.part {t = u} y (spells.ends (spells.ends spells.done)))) lt k t el =
+        run_call (block_goes (b.read task.statement y (omega arith) (λ o. el (last_open t u o)))) (run_look (run_set (run_here run_give)))
 
     while_reads : {h : Context} {c e : Scopes} {d i j : ℕ} {t : Trees} (s : Spells ts limit (rest (symbol.Begins ∷ token word.While ∷ opening word.LeftParen ∷ inner part.Expression ∷ reopening word.RightParen ∷ symbol.Begins ∷ inner part.Statement ∷
         symbol.Ends ∷ symbol.Ends ∷ [])) h c e d t i j) → measure s < n → Completes ts limit task.statement h c e d (one kind.While i j t) i j
-    while_reads {d = d} {i = i} {j = j} (spells.begins (spells.token q w (spells.opens q' w' (spells.part {t = t} {u = v} z (spells.reopens q'' w'' v'' s))))) lt = λ l ft el.
-        by_word_goes l q refl refl refl (run_unseen (differs q word.LeftBrace refl) (run_pass (differs q word.If refl) (run_pass (differs q word.Switch refl) (run_take (yes q) w (tail (run_look (run_set
-        (condition_goes (λ y. call (m.block (inside l) (d + 1)) (λ u. m.drops (made kind.While i (y & u & none)))) q' w' z (omega arith) q'' w'' v''
-        (while_goes s (omega arith) l i t (fits_right (inside l) t v (parts_fit l kind.While i j (t & v) none refl refl ft)) el)))))))))
+    while_reads {d = d} {i = i} {j = j} (spells.begins (spells.token q w (spells.opens q' w' (spells.part {t = t} {u = v} z (spells.reopens q'' w'' v'' s))))) lt = λ el.
+        by_word_goes q refl refl (run_unseen (differs q word.LeftBrace refl) (run_pass (differs q word.If refl) (run_pass (differs q word.Switch refl) (run_take (yes q) w (tail (run_look (run_set
+        (condition_goes (λ y. call (m.block anywhere (d + 1)) (λ u. m.drops (made kind.While i (y & u & none)))) q' w' z (omega arith) q'' w'' v''
+        (while_goes s (omega arith) i t el)))))))))
 
     -- the end of a `do` behind its condition
     do_ends : {h : Context} {c e : Scopes} {d i j : ℕ} {t : Trees} → Spells ts limit (rest (closing word.RightParen ∷ token word.Semicolon ∷ symbol.Ends ∷ [])) h c e d t i j →
@@ -394,65 +423,77 @@ module _ (ts : List Lexeme) (limit : Limit) where
 
     do_reads : {h : Context} {c e : Scopes} {d i j : ℕ} {t : Trees} (s : Spells ts limit (rest (symbol.Begins ∷ opening word.Do ∷ symbol.Begins ∷ inner part.Statement ∷ symbol.Ends ∷ token word.While ∷ opening word.LeftParen ∷ inner part.Expression ∷
         closing word.RightParen ∷ token word.Semicolon ∷ symbol.Ends ∷ [])) h c e d t i j) → measure s < n → Completes ts limit task.statement h c e d (one kind.Do i j t) i j
-    do_reads {i = i} {j = j} (spells.begins (spells.opens q w (spells.begins (spells.part {t = t} y (spells.ends (spells.token q' w' (spells.opens p k (spells.part {t = u} {u = v} z s)))))))) lt = λ l ft el.
-        let g = parts_fit l kind.Do i j (t & u & v) none refl refl ft in
-        by_word_goes l q refl refl refl (run_unseen (differs q word.LeftBrace refl) (run_pass (differs q word.If refl) (run_pass (differs q word.Switch refl) (run_pass (differs q word.While refl) (run_take (yes q) w (tail (run_look (run_set
-        (run_call (block_goes (b.read task.statement y (omega arith) (inside l) (fits_left (inside l) t (u & v) g) (λ o. differs q' word.Else refl))) (run_take (yes q') w' (run_take (yes p) k
+    do_reads {i = i} {j = j} (spells.begins (spells.opens q w (spells.begins (spells.part {t = t} y (spells.ends (spells.token q' w' (spells.opens p k (spells.part {t = u} {u = v} z s)))))))) lt = λ el.
+        by_word_goes q refl refl (run_unseen (differs q word.LeftBrace refl) (run_pass (differs q word.If refl) (run_pass (differs q word.Switch refl) (run_pass (differs q word.While refl) (run_take (yes q) w (tail (run_look (run_set
+        (run_call (block_goes (b.read task.statement y (omega arith) (λ o. differs q' word.Else refl))) (run_take (yes q') w' (run_take (yes p) k
         (run_call (whole_expression ts limit n b z (omega arith) (free_by (do_ends s).0 (omega arith))) ((do_ends s).1 i t u)))))))))))))
 
     for_reads : {h : Context} {c e : Scopes} {d i j : ℕ} {t : Trees} (s : Spells ts limit (rest (symbol.Begins ∷ token word.For ∷ opening word.LeftParen ∷ symbol.Init ∷ symbol.Clause ∷ symbol.Step ∷ for_side)) h c e d t i j) → measure s < n →
         Completes ts limit task.statement h c e d (one kind.For i j t) i j
-    for_reads {i = i} {j = j} {t = t} (spells.begins (spells.token q w (spells.opens q' w' s))) lt = λ l ft el.
-        by_word_goes l q refl refl refl (run_unseen (differs q word.LeftBrace refl) (run_pass (differs q word.If refl) (run_pass (differs q word.Switch refl) (run_pass (differs q word.While refl) (run_pass (differs q word.Do refl)
-        (run_take (yes q) w (tail (run_look (run_set (run_take (yes q') w' (for_goes s (omega arith) l (parts_fit l kind.For i j t none refl refl ft) el i)))))))))))
+    for_reads {i = i} {j = j} {t = t} (spells.begins (spells.token q w (spells.opens q' w' s))) lt = λ el.
+        by_word_goes q refl refl (run_unseen (differs q word.LeftBrace refl) (run_pass (differs q word.If refl) (run_pass (differs q word.Switch refl) (run_pass (differs q word.While refl) (run_pass (differs q word.Do refl)
+        (run_take (yes q) w (tail (run_look (run_set (run_take (yes q') w' (for_goes s (omega arith) el i)))))))))))
+
+    mark_reads : {h' : Context} {c e : Scopes} {d i j : ℕ} {u : Trees} (h : Context) → Is ts i word.Identifier → Stands limit i d → Is ts (i + 1) word.Colon → Within limit (i + 1) d →
+        (y : Spells ts limit (a part.Statement) h' c e (d + 1) u (i + 1 + 1) j) → measure y < n → Completes ts limit task.statement h c e d (one kind.Label i j (u & none)) i j
+    mark_reads h q w q' w' y lt = λ el.
+        by_word_goes q refl refl (run_unseen (differs q word.LeftBrace refl) (run_pass (differs q word.If refl) (run_pass (differs q word.Switch refl) (run_pass (differs q word.While refl)
+        (run_pass (differs q word.Do refl) (run_pass (differs q word.For refl) (run_pass (differs q word.Goto refl) (run_pass (differs q word.Break refl) (run_pass (differs q word.Continue refl)
+        (run_pass (differs q word.Return refl) (run_pass (differs q word.Semicolon refl) (label_goes anywhere q w q' (marks_go q' w' y lt el)))))))))))))
+
+    goto_reads : {h : Context} {c e : Scopes} {d i j : ℕ} {t : Trees} (s : Spells ts limit (rest (token word.Goto ∷ token word.Identifier ∷ token word.Semicolon ∷ [])) h c e d t i j) → measure s < n →
+        Completes ts limit task.statement h c e d (one kind.Goto i j t) i j
+    goto_reads (spells.token q w (spells.token q' w' (spells.token q'' w'' spells.done))) lt = λ el.
+        by_word_goes q refl refl (run_unseen (differs q word.LeftBrace refl) (run_pass (differs q word.If refl) (run_pass (differs q word.Switch refl) (run_pass (differs q word.While refl)
+        (run_pass (differs q word.Do refl) (run_pass (differs q word.For refl) (run_take (yes q) w (run_take (yes q') w' (run_take (yes q'') w'' (run_here run_give))))))))))
 
     case_reads : {h : Context} {c e : Scopes} {d i j : ℕ} {t : Trees} (s : Spells ts limit (rest (token word.Case ∷ grammar.part part.Conditional ∷ opening word.Colon ∷ inner part.Statement ∷ [])) h c e d t i j) → measure s < n →
         Completes ts limit task.statement h c e d (one kind.Case i j t) i j
-    case_reads {i = i} {j = j} (spells.token q w (spells.part {t = t} z (spells.opens q' w' (spells.part {t = u} y spells.done)))) lt = λ l ft el.
-        let g = label_fits l kind.Case i j (t & (u & none)) none refl refl ft in
-        labelled_goes l g.0 (run_take (yes q) w (run_call (b.read task.conditional z (omega arith) (free_by q' (omega arith))) (run_take (yes q') w'
-        (run_call (b.read task.statement y (omega arith) l (fits_left l u none (fits_right l t (u & none) g.1)) (λ o. el (last_open t u o))) (run_here run_give)))))
+    case_reads {i = i} {j = j} (spells.token q w (spells.part {t = t} z (spells.opens q' w' (spells.part {t = u} y spells.done)))) lt = λ el.
+        labelled_goes (run_take (yes q) w (run_call (b.read task.conditional z (omega arith) (free_by q' (omega arith))) (run_take (yes q') w'
+        (run_call (b.read task.statement y (omega arith) (λ o. el (last_open t u o))) (run_here run_give)))))
 
     default_reads : {h : Context} {c e : Scopes} {d i j : ℕ} {t : Trees} (s : Spells ts limit (rest (token word.Default ∷ opening word.Colon ∷ inner part.Statement ∷ [])) h c e d t i j) → measure s < n →
         Completes ts limit task.statement h c e d (one kind.Default i j t) i j
-    default_reads {i = i} {j = j} (spells.token q w (spells.opens q' w' (spells.part {t = u} y spells.done))) lt = λ l ft el.
-        let g = label_fits l kind.Default i j (u & none) none refl refl ft in
-        labelled_goes l g.0 (run_pass (differs q word.Case refl) (run_take (yes q) w (run_take (yes q') w'
-        (run_call (b.read task.statement y (omega arith) l (fits_left l u none g.1) (λ o. el (last_open none u o))) (run_here run_give)))))
+    default_reads {i = i} {j = j} (spells.token q w (spells.opens q' w' (spells.part {t = u} y spells.done))) lt = λ el.
+        labelled_goes (run_pass (differs q word.Case refl) (run_take (yes q) w (run_take (yes q') w'
+        (run_call (b.read task.statement y (omega arith) (λ o. el (last_open none u o))) (run_here run_give)))))
 
     break_reads : {h : Context} {c e : Scopes} {d i j : ℕ} {t : Trees} (s : Spells ts limit (rest (token word.Break ∷ token word.Semicolon ∷ [])) h c e d t i j) → measure s < n →
         Completes ts limit task.statement h c e d (one kind.Break i j t) i j
-    break_reads (spells.token q w (spells.token q' w' spells.done)) lt = λ l ft el.
-        by_word_goes l q refl refl refl (run_unseen (differs q word.LeftBrace refl) (run_pass (differs q word.If refl) (run_pass (differs q word.Switch refl) (run_pass (differs q word.While refl)
-        (run_pass (differs q word.Do refl) (run_pass (differs q word.For refl) (run_take (yes q) w (run_take (yes q') w' (run_here run_give)))))))))
+    break_reads (spells.token q w (spells.token q' w' spells.done)) lt = λ el.
+        by_word_goes q refl refl (run_unseen (differs q word.LeftBrace refl) (run_pass (differs q word.If refl) (run_pass (differs q word.Switch refl) (run_pass (differs q word.While refl)
+        (run_pass (differs q word.Do refl) (run_pass (differs q word.For refl) (run_pass (differs q word.Goto refl) (run_take (yes q) w (run_take (yes q') w' (run_here run_give))))))))))
 
     continue_reads : {h : Context} {c e : Scopes} {d i j : ℕ} {t : Trees} (s : Spells ts limit (rest (token word.Continue ∷ token word.Semicolon ∷ [])) h c e d t i j) → measure s < n →
         Completes ts limit task.statement h c e d (one kind.Continue i j t) i j
-    continue_reads (spells.token q w (spells.token q' w' spells.done)) lt = λ l ft el.
-        by_word_goes l q refl refl refl (run_unseen (differs q word.LeftBrace refl) (run_pass (differs q word.If refl) (run_pass (differs q word.Switch refl) (run_pass (differs q word.While refl)
-        (run_pass (differs q word.Do refl) (run_pass (differs q word.For refl) (run_pass (differs q word.Break refl) (run_take (yes q) w (run_take (yes q') w' (run_here run_give))))))))))
+    continue_reads (spells.token q w (spells.token q' w' spells.done)) lt = λ el.
+        by_word_goes q refl refl (run_unseen (differs q word.LeftBrace refl) (run_pass (differs q word.If refl) (run_pass (differs q word.Switch refl) (run_pass (differs q word.While refl)
+        (run_pass (differs q word.Do refl) (run_pass (differs q word.For refl) (run_pass (differs q word.Goto refl) (run_pass (differs q word.Break refl) (run_take (yes q) w (run_take (yes q') w' (run_here run_give)))))))))))
 
     return_reads : {h : Context} {c e : Scopes} {d i j : ℕ} {t : Trees} (s : Spells ts limit (rest (token word.Return ∷ optional part.Expression ∷ token word.Semicolon ∷ [])) h c e d t i j) → measure s < n →
         Completes ts limit task.statement h c e d (one kind.Return i j t) i j
-    return_reads (spells.token q w (spells.optional_none (spells.token q' w' spells.done))) lt = λ l ft el.
-        return_goes l q w (run_take (yes q') w' (run_here run_give))
+    return_reads (spells.token q w (spells.optional_none (spells.token q' w' spells.done))) lt = λ el.
+        return_goes q w (run_take (yes q') w' (run_here run_give))
     return_reads {h = h} {c = c} {d = d} {i = i} (spells.token q w (spells.optional_some {t = t} z s)) lt =
-        closing_run ts limit s (λ e u j. Completes ts limit task.statement h c e d (one kind.Return i j (t & u)) i j) (λ q' w' l ft el.
-        return_goes l q w (run_pass (not_first (first_expression z) word.Semicolon refl refl)
+        closing_run ts limit s (λ e u j. Completes ts limit task.statement h c e d (one kind.Return i j (t & u)) i j) (λ q' w' el.
+        return_goes q w (run_pass (not_first (first_expression z) word.Semicolon refl refl)
         (run_call (whole_expression ts limit n b z (omega arith) (free_by q' (omega arith))) (run_take (yes q') w' (run_here run_give)))))
 
     pub statement_reads : {h : Context} {c e : Scopes} {d i j : ℕ} {t : Trees} (s : Spells ts limit (a part.Statement) h c e d t i j) → measure s < suc n → Completes ts limit task.statement h c e d t i j
-    statement_reads (spells.of_chain grammar.statement_compound f s) lt = λ l ft el.
+    statement_reads (spells.of_chain grammar.statement_compound f s) lt = λ el.
         let q = compound_first ts limit s in
-        by_word_goes l q refl refl refl (run_seen (yes q) (tail (b.read task.compound s (omega arith) (inside l) (compound_fits l s ft))))
+        by_word_goes q refl refl (run_seen (yes q) (tail (b.read task.compound s (omega arith))))
     statement_reads (spells.of_alternative grammar.expression_statement f s) lt = expression_reads s (omega arith)
     statement_reads (spells.of_alternative grammar.if_statement f s) lt = if_reads s (omega arith) f
     statement_reads (spells.of_alternative grammar.switch_statement f s) lt = switch_reads s (omega arith)
     statement_reads (spells.of_alternative grammar.while_statement f s) lt = while_reads s (omega arith)
     statement_reads (spells.of_alternative grammar.do_statement f s) lt = do_reads s (omega arith)
     statement_reads (spells.of_alternative grammar.for_statement f s) lt = for_reads s (omega arith)
+    statement_reads {h = h} (spells.of_alternative grammar.labeled_statement f (spells.token q w (spells.opens q' w' (spells.part y spells.done)))) lt = mark_reads h q w q' w' y (omega arith)
     statement_reads (spells.of_alternative grammar.case_statement f s) lt = case_reads s (omega arith)
     statement_reads (spells.of_alternative grammar.default_statement f s) lt = default_reads s (omega arith)
+    statement_reads (spells.of_alternative grammar.goto_statement f s) lt = goto_reads s (omega arith)
     statement_reads (spells.of_alternative grammar.break_statement f s) lt = break_reads s (omega arith)
     statement_reads (spells.of_alternative grammar.continue_statement f s) lt = continue_reads s (omega arith)
     statement_reads (spells.of_alternative grammar.return_statement f s) lt = return_reads s (omega arith)

@@ -15,10 +15,10 @@ use Rattle.cr_syntax.specs.Context.{fresh, past_token, past_part}
 use Rattle.cr_syntax.specs.Spells.{Is}
 use Rattle.cr_syntax.specs.Reads.{is_word, same_word}
 use Rattle.cr_syntax.specs.Units.{is_unused, StandsIn, subscript_for_call}
-use Rattle.cr_machine.specs.Machine.{Goal, Prog, Manner, Test, Wanted, named, unnamed, either, plain, opens, reopens, the, has, ordinary, type_identifier, declared, or, passes, has_word, is_bracket, levels_at, brought, choose, give, stop, refuse, take, bar, peek, when, here, look, set, bring, call, made, Labels}
+use Rattle.cr_machine.specs.Machine.{Goal, Prog, Manner, Test, Wanted, named, unnamed, either, plain, opens, reopens, the, has, ordinary, type_identifier, declared, or, passes, has_word, is_bracket, levels_at, brought, choose, give, stop, refuse, take, bar, peek, when, here, look, set, bring, call, made, Labels, anywhere, own_block, in_block, nowhere}
 use Rattle.cr_machine.specs.Machine.{whole, expression, commas, assignment, conditional, binary, operands, cast, unary, measured, postfix, called, grouped, texts, arguments, suffixes, type_name, row, more, element, structure, members, member, member_declarators, enumeration, enumerators, enumerator, qualifiers, declarator, declarator_suffixes, abstract_suffixes, size, parameters, more_parameters, parameter}
 use Rattle.cr_machine.specs.Machine.{unit, externals, external, declaration, init_declarators, initialized, initializer, initializers, statement, block, if_rest, switch_rest, while_rest, do_rest, for_rest, return_rest, for_clauses, clause, compound, items, item}
-use Rattle.cr_machine.specs.MachineBody.{Words, body, declared_on, unlabelled, labelled, is_label, assigned, operated, prefixed, suffixed, sized, other_primary, suffixes_end, other_element, array_start, may_omit, start_goal, tighter, assignment_operators, operators, unary_prefixes, cast_prefixes, constants, postfix_operators, specifier_words, plain_words, element_start, is_plain_start, is_specifier_start, is_abstract_start, is_declarator_start, declarator_start}
+use Rattle.cr_machine.specs.MachineBody.{Words, body, declared_on, unlabelled, labelled, marked, declaration_rest, expression_rest, is_label, assigned, operated, prefixed, suffixed, sized, other_primary, suffixes_end, other_element, array_start, may_omit, start_goal, tighter, assignment_operators, operators, unary_prefixes, cast_prefixes, constants, postfix_operators, specifier_words, plain_words, element_start, is_plain_start, is_specifier_start, is_abstract_start, is_declarator_start, declarator_start}
 use Rattle.cr_syntax.proofs.Tests.{both, not_true}
 use Rattle.cr_machine.proofs.MachineFirst.{none_true, true_false, some_word_of}
 
@@ -108,18 +108,51 @@ levels_out (initializers d s x) = d + 1
 levels_out (items l d s x) = d + 1
 levels_out g = depth_of g
 
--- A goal may be called where the last test had b levels: it begins with no more. The floor is a level below which all that
--- is to be refused is refused otherwise; a unit and its external definitions stand below it.
+-- The bare grammar's labels, and what is said where they are.
+abbrev pub Bare : Labels → Type 0 → Type 0
+Bare anywhere f = f
+Bare _ f = ⊥
+
+bare_so : {f : Type 0} (l : Labels) → Bare l f → f
+bare_so anywhere y = y
+bare_so own_block y = absurd y
+bare_so in_block y = absurd y
+bare_so nowhere y = absurd y
+
+-- A goal of the bare grammar may be called where the last test had b levels: it begins with no more. The floor is a level
+-- below which all that is to be refused is refused otherwise; a unit and its external definitions stand below it.
 abbrev pub Enters : ℕ → Goal → ℕ → Type 0
-Enters floor (unit l d) b = (d ≤ b) × (d < floor)
-Enters floor (externals l d x) b = (d ≤ b) × (d < floor)
-Enters floor (external l d) b = (d ≤ b) × (d < floor)
+Enters floor (unit l d) b = Bare l ((d ≤ b) × (d < floor))
+Enters floor (externals l d x) b = Bare l ((d ≤ b) × (d < floor))
+Enters floor (external l d) b = Bare l ((d ≤ b) × (d < floor))
+Enters floor (statement l d) b = Bare l (d ≤ b)
+Enters floor (block l d) b = Bare l (d ≤ b)
+Enters floor (if_rest l d s) b = Bare l (d ≤ b)
+Enters floor (switch_rest l d s) b = Bare l (d ≤ b)
+Enters floor (while_rest l d s) b = Bare l (d ≤ b)
+Enters floor (do_rest l d s) b = Bare l (d + 1 ≤ b)
+Enters floor (for_rest l d s) b = Bare l (d ≤ b)
+Enters floor (for_clauses l d s x) b = Bare l (d + 1 ≤ b)
+Enters floor (compound l d) b = Bare l (d ≤ b)
+Enters floor (items l d s x) b = Bare l (d + 1 ≤ b)
+Enters floor (item l d) b = Bare l (d ≤ b)
 Enters floor g b = levels_in g ≤ b
 
 pub enters_low : (floor : ℕ) (g : Goal) (b : ℕ) → Enters floor g b → levels_in g ≤ b
-enters_low floor (unit l d) b x = x.0
-enters_low floor (externals l d y) b x = x.0
-enters_low floor (external l d) b x = x.0
+enters_low floor (unit l d) b x = (bare_so l x).0
+enters_low floor (externals l d y) b x = (bare_so l x).0
+enters_low floor (external l d) b x = (bare_so l x).0
+enters_low floor (statement l d) b x = bare_so l x
+enters_low floor (block l d) b x = bare_so l x
+enters_low floor (if_rest l d s) b x = bare_so l x
+enters_low floor (switch_rest l d s) b x = bare_so l x
+enters_low floor (while_rest l d s) b x = bare_so l x
+enters_low floor (do_rest l d s) b x = bare_so l x
+enters_low floor (for_rest l d s) b x = bare_so l x
+enters_low floor (for_clauses l d s y) b x = bare_so l x
+enters_low floor (compound l d) b x = bare_so l x
+enters_low floor (items l d s y) b x = bare_so l x
+enters_low floor (item l d) b x = bare_so l x
 enters_low floor _ b x = x
 
 -- those open behind a token
@@ -174,7 +207,7 @@ is_eager _ = false
 abbrev pub IsEager : ℕ → Prog → Type 0
 IsEager b (give t) = ⊥
 IsEager b (stop d) = Unit {0}
-IsEager b (refuse n) = Unit {0}
+IsEager b (refuse n r) = Unit {0}
 IsEager b (take g x d p q) = (b ≤ levels_at g d) × (fits g x ≡ true) × IsEager b q
 IsEager b (bar x n d p) = IsEager b p
 IsEager b (peek x p q) = IsEager b p × IsEager b q
@@ -250,7 +283,7 @@ module _ (ts : List Lexeme) where
   abbrev pub Finds : Prog → Scopes → ℕ → Type 0
   Finds (give t) c i = ⊥
   Finds (stop d) c i = ⊥
-  Finds (refuse n) c i = Unit {0}
+  Finds (refuse n r) c i = ⊥
   Finds (take g x d p q) c i = passes ts c i x ≡ false → Finds q c i
   Finds (bar x n d p) c i = (passes ts c i x ≡ false) × Finds p c i
   Finds (peek x p q) c i = (passes ts c i x ≡ true → Finds p c i) × (passes ts c i x ≡ false → Finds q c i)
@@ -393,7 +426,7 @@ module _ (ts : List Lexeme) (known : Goal → Scopes → ℕ → Trees → Scope
   abbrev pub Steady : Prog → ℕ → ℕ → Bool → Scopes → ℕ → Type 0
   Steady (give t) l b o c i = l ≤ b
   Steady (stop d) l b o c i = d ≤ b
-  Steady (refuse n) l b o c i = b < floor
+  Steady (refuse n r) l b o c i = ⊥
   Steady (take g x d p q) l b o c i = (levels_at g d ≤ b) × (fits g x ≡ true) × Steady p l (levels_behind g d) false c (i + 1) × Steady q l (levels_at g d) (tries x || o) c i
   Steady (bar x n d p) l b o c i = (d ≤ b) × Replaced n d o p × Steady p l b o c i
   Steady (peek x p q) l b o c i = IsEager b p × ((passes ts c i x ≡ true → Finds ts p c i) ⊎ (b < floor)) × Steady p l b o c i × Steady q l b o c i
@@ -472,9 +505,22 @@ module _ (ts : List Lexeme) (floor : ℕ) where
   declared_steady : (h : Context) (d s : ℕ) (x : Trees) (q : ℕ) (a : Trees) (c : Scopes) (i : ℕ) → Goes (declared_on h d s x q a) d d false c i
   declared_steady h d s x q a c i = (omega arith, λ t e j _. (omega arith, refl, (omega arith, λ t' e' j' _. omega arith), (omega arith, refl, omega arith, omega arith)))
 
-  -- a statement without a label
-  unlabelled_steady : (l : Labels) (d s : ℕ) (c : Scopes) (i : ℕ) → Goes (unlabelled l d s) d d false c i
-  unlabelled_steady l d s c i = (
+  -- behind a name that may be a label
+  marked_steady : (d s : ℕ) (p : Prog) (c : Scopes) (i : ℕ) → Goes p d d false c i → Goes (marked anywhere d s p) d d false c i
+  marked_steady d s p c i x = (
+    (λ y. (omega arith, refl, tt), λ y. true_false y),
+    inl (λ q. (λ y n. both_ways (is_word ts i word.Colon) n q, λ y. true_false y)),
+    (λ y. (omega arith, refl, (omega arith, λ t e j _. omega arith), omega arith), λ y. true_false y),
+    x,
+  )
+
+  -- behind the specifiers of a declaration
+  rest_steady : (d s : ℕ) (t : Trees) (c : Scopes) (i : ℕ) → Goes (declaration_rest d s t) d d false c i
+  rest_steady d s t c i = (omega arith, refl, omega arith, (omega arith, λ t e j _. omega arith))
+
+  -- a statement without a label of a switch
+  unlabelled_steady : (d s : ℕ) (c : Scopes) (i : ℕ) → Goes (unlabelled anywhere d s) d d false c i
+  unlabelled_steady d s c i = (
     (refl, omega arith),
     inl (λ q. q),
     (omega arith, λ t e j _. omega arith),
@@ -501,7 +547,7 @@ module _ (ts : List Lexeme) (floor : ℕ) where
               (
                 omega arith,
                 refl,
-                (omega arith, refl, omega arith, omega arith),
+                (omega arith, refl, (omega arith, refl, omega arith, omega arith), omega arith),
                 (
                   omega arith,
                   refl,
@@ -509,8 +555,23 @@ module _ (ts : List Lexeme) (floor : ℕ) where
                   (
                     omega arith,
                     refl,
-                    (omega arith, λ t e j _. omega arith),
-                    (omega arith, refl, omega arith, (omega arith, λ t e j _. (omega arith, refl, omega arith, omega arith))),
+                    (omega arith, refl, omega arith, omega arith),
+                    (
+                      omega arith,
+                      refl,
+                      (omega arith, λ t e j _. omega arith),
+                      (
+                        omega arith,
+                        refl,
+                        omega arith,
+                        (
+                          omega arith,
+                          refl,
+                          marked_steady d s (stop d) c (i + 1) (omega arith),
+                          (omega arith, λ t e j _. (λ y. marked_steady d s (expression_rest d s t) e j (omega arith, refl, omega arith, omega arith), λ y. (omega arith, refl, omega arith, omega arith))),
+                        ),
+                      ),
+                    ),
                   ),
                 ),
               ),
@@ -521,12 +582,12 @@ module _ (ts : List Lexeme) (floor : ℕ) where
     ),
   )
 
-  labelled_steady : (l : Labels) (d s : ℕ) (c : Scopes) (i : ℕ) → Goes (labelled l d s (unlabelled l d s)) d d false c i
-  labelled_steady l d s c i = (
+  labelled_steady : (d s : ℕ) (c : Scopes) (i : ℕ) → Goes (labelled anywhere d s (unlabelled anywhere d s)) d d false c i
+  labelled_steady d s c i = (
     omega arith,
     refl,
     (omega arith, λ t e j _. (omega arith, refl, (omega arith, λ t' e' j' _. omega arith), omega arith)),
-    (omega arith, refl, (omega arith, refl, (omega arith, λ t' e' j' _. omega arith), omega arith), unlabelled_steady l d s c i),
+    (omega arith, refl, (omega arith, refl, (omega arith, λ t' e' j' _. omega arith), omega arith), unlabelled_steady d s c i),
   )
 
   pub steady : (g : Goal) (c : Scopes) (i b : ℕ) → Enters floor g b → Goes (body g) (levels_out g) (levels_in g) false c i
@@ -653,9 +714,9 @@ module _ (ts : List Lexeme) (floor : ℕ) where
   steady (parameters d) c i _ y = (omega arith, λ t e j _. (omega arith, λ t' e' j' _. omega arith))
   steady (more_parameters d s a) c i _ y = (omega arith, refl, (omega arith, refl, omega arith, (omega arith, λ t e j _. (omega arith, λ t' e' j' _. omega arith))), omega arith)
   steady (parameter d) c i _ y = (omega arith, λ t e j z. ((refl, omega arith), inl (λ q. (q, z)), (omega arith, λ t' e' j' _. (λ u. omega arith, λ u. omega arith)), omega arith))
-  steady (unit l d) c i _ y = ((omega arith, y.1), λ t e j _. ((omega arith, y.1), λ t' e' j' _. omega arith))
-  steady (externals l d x) c i _ y = ((refl, omega arith), inr y.1, ((omega arith, y.1), λ t e j _. ((omega arith, y.1), λ t' e' j' _. omega arith)), omega arith)
-  steady (external l d) c i _ y = (
+  steady (unit anywhere d) c i _ y = ((omega arith, y.1), λ t e j _. ((omega arith, y.1), λ t' e' j' _. omega arith))
+  steady (externals anywhere d x) c i _ y = ((refl, omega arith), inr y.1, ((omega arith, y.1), λ t e j _. ((omega arith, y.1), λ t' e' j' _. omega arith)), omega arith)
+  steady (external anywhere d) c i _ y = (
     omega arith,
     λ t e j _. (
       omega arith,
@@ -665,14 +726,14 @@ module _ (ts : List Lexeme) (floor : ℕ) where
         omega arith,
         λ t' e' j' _. (
           (λ v c' f. (refl, omega arith), λ v. tt),
-          inl (λ q. (λ v. q, λ v. tt)),
-          (λ v. (omega arith, λ t'' e'' j'' _. omega arith), λ v. y.1),
+          inl (λ q. (λ v. q, λ v. true_false v)),
+          (λ v. (omega arith, λ t'' e'' j'' _. omega arith), λ v. true_false v),
           declared_steady (past_part fresh t) d i (t & none) j t' e' j',
         ),
       ),
     ),
   )
-  steady (declaration d) c i _ y = (omega arith, λ t e j _. (omega arith, refl, omega arith, (omega arith, λ t' e' j' _. omega arith)))
+  steady (declaration d) c i _ y = (omega arith, λ t e j _. rest_steady d i t e j)
   steady (init_declarators h d s x) c i _ y = (omega arith, λ t e j _. declared_steady h d s x i t e j)
   steady (initialized d q x) c i _ y = (omega arith, refl, (omega arith, λ t e j _. omega arith), omega arith)
   steady (initializer d) c i _ y = (omega arith, by_take (omega arith, refl, (refl, omega arith)), (omega arith, refl, (omega arith, λ t e j _. omega arith), (omega arith, λ t e j _. omega arith)))
@@ -680,9 +741,9 @@ module _ (ts : List Lexeme) (floor : ℕ) where
     omega arith,
     λ t e j _. (omega arith, refl, (omega arith, refl, omega arith, (omega arith, λ t' e' j' _. omega arith)), (omega arith, refl, omega arith, omega arith)),
   )
-  steady (statement l d) c i _ y = (λ v. labelled_steady l d i c i, λ v. (omega arith, by_none none_for_label, unlabelled_steady l d i c i))
-  steady (block l d) c i _ y = (omega arith, λ t e j _. omega arith)
-  steady (if_rest l d s) c i _ y = (
+  steady (statement anywhere d) c i _ y = (λ v. labelled_steady d i c i, λ v. true_false v)
+  steady (block anywhere d) c i _ y = (omega arith, λ t e j _. omega arith)
+  steady (if_rest anywhere d s) c i _ y = (
     omega arith,
     refl,
     (
@@ -696,7 +757,7 @@ module _ (ts : List Lexeme) (floor : ℕ) where
     ),
     omega arith,
   )
-  steady (switch_rest l d s) c i _ y = (
+  steady (switch_rest anywhere d s) c i _ y = (
     omega arith,
     refl,
     (
@@ -710,8 +771,8 @@ module _ (ts : List Lexeme) (floor : ℕ) where
     ),
     omega arith,
   )
-  steady (while_rest l d s) c i _ y = (omega arith, refl, (omega arith, λ t e j _. (omega arith, refl, (omega arith, λ t' e' j' _. omega arith), omega arith)), omega arith)
-  steady (do_rest l d s) c i _ y = (
+  steady (while_rest anywhere d s) c i _ y = (omega arith, refl, (omega arith, λ t e j _. (omega arith, refl, (omega arith, λ t' e' j' _. omega arith), omega arith)), omega arith)
+  steady (do_rest anywhere d s) c i _ y = (
     omega arith,
     λ t e j _. (
       omega arith,
@@ -720,7 +781,7 @@ module _ (ts : List Lexeme) (floor : ℕ) where
       omega arith,
     ),
   )
-  steady (for_rest l d s) c i _ y = (
+  steady (for_rest anywhere d s) c i _ y = (
     omega arith,
     refl,
     (
@@ -732,7 +793,7 @@ module _ (ts : List Lexeme) (floor : ℕ) where
     omega arith,
   )
   steady (return_rest d s) c i _ y = (omega arith, refl, omega arith, (omega arith, λ t e j _. (omega arith, refl, omega arith, omega arith)))
-  steady (for_clauses l d s x) c i _ y = (
+  steady (for_clauses anywhere d s x) c i _ y = (
     omega arith,
     λ t e j _. (
       omega arith,
@@ -742,6 +803,12 @@ module _ (ts : List Lexeme) (floor : ℕ) where
     ),
   )
   steady (clause d) c i _ y = (omega arith, refl, omega arith, (omega arith, λ t e j _. (omega arith, refl, omega arith, omega arith)))
-  steady (compound l d) c i _ y = (omega arith, refl, (omega arith, λ t e j _. omega arith), omega arith)
-  steady (items l d s x) c i _ y = (omega arith, refl, omega arith, (omega arith, λ t e j _. (omega arith, λ t' e' j' _. omega arith)))
-  steady (item l d) c i _ y = ((refl, omega arith), inl (λ q. q), (omega arith, λ t e j _. omega arith), (omega arith, λ t e j _. omega arith))
+  steady (compound anywhere d) c i _ y = (omega arith, refl, (omega arith, λ t e j _. omega arith), omega arith)
+  steady (items anywhere d s x) c i _ y = (omega arith, refl, omega arith, (omega arith, λ t e j _. (omega arith, λ t' e' j' _. omega arith)))
+  steady (item anywhere d) c i _ y = (
+    (λ j. (refl, omega arith)),
+    inl (λ q. q),
+    (omega arith, λ t e j _. (λ v. marked_steady d i (declaration_rest d i t) e j (rest_steady d i t e j), λ v. rest_steady d i t e j)),
+    (omega arith, λ t e j _. omega arith),
+  )
+  steady _ c i _ y = absurd y

@@ -15,7 +15,7 @@ use Rattle.cr_machine.specs.Machine.{Prog, Manner, Test, the, Done, Runs, Allows
 use Rattle.cr_machine.specs.MachineBody.{body}
 use Rattle.cr_machine.proofs.MachineFirst.{none_true, true_false, yes}
 use Rattle.cr_machine.proofs.MachineRuns.{reach, again, passes_same, brought_same}
-use Rattle.cr_machine.proofs.MachineEnds.{Way, stopped, barring, crowded, defining, Ends, end_stop, end_refuse, end_take, end_crowded, end_pass, end_bar, end_free, end_seen, end_unseen, end_yes, end_no, end_here, end_look, end_set, end_bring, end_behind, end_inside, refused_so}
+use Rattle.cr_machine.proofs.MachineEnds.{Way, stopped, barring, crowded, naming, Ends, end_stop, end_refuse, end_take, end_crowded, end_pass, end_bar, end_free, end_seen, end_unseen, end_yes, end_no, end_here, end_look, end_set, end_bring, end_behind, end_inside, refused_so}
 use Rattle.cr_machine.proofs.MachineSteady.{enters_low, levels_in, levels_out, fits, tries, IsEager, eager, Finds, finds, Replaced, by_none, by_trial, by_take, Goes, steady}
 use Rattle.cr_machine.proofs.MachineRows.{knows, beyond_done}
 
@@ -24,12 +24,11 @@ abbrev pub levels_by : Way → ℕ
 levels_by (stopped d) = d
 levels_by (barring x n d) = d
 levels_by crowded = 0
-levels_by (defining n) = 0
+levels_by (naming n r) = 0
 
--- whether only room was wanting for a token, or one before it is refused
+-- whether only room was wanting for a token
 abbrev pub is_crowded : Way → Bool
 is_crowded crowded = true
-is_crowded (defining n) = true
 is_crowded _ = false
 
 end_reach : {ts : List Lexeme} {limit : Limit} {p : Prog} {c : Scopes} {i k : ℕ} {w : Way} → Ends body ts limit p c i w k → i ≤ k
@@ -60,7 +59,7 @@ module _ {ts : List Lexeme} {limit : Limit} (floor : ℕ) where
 
   low_end : (l b : ℕ) (o : Bool) {p : Prog} {c : Scopes} {i k : ℕ} {w : Way} → Ends body ts limit p c i w k → k ≤ i → Goes ts floor p l b o c i → levels_by w ≤ b
   low_end l b o end_stop le y = y
-  low_end l b o end_refuse le y = omega arith
+  low_end l b o end_refuse le y = absurd y
   low_end l b o (end_take x a z) le y = let n = end_reach z in absurd (omega arith)
   low_end l b o (end_crowded x a) le y = omega arith
   low_end l b o (end_pass x z) le y = let n = low_end l _ _ z le y.3 in let n' = y.0 in omega arith
@@ -86,7 +85,7 @@ module _ {ts : List Lexeme} {limit : Limit} (floor : ℕ) where
   -- A program that finds its first token goes on behind it, where it isn't refused there for want of room.
   beyond_end : {p : Prog} {c : Scopes} {i k : ℕ} {w : Way} → Ends body ts limit p c i w k → is_crowded w ≡ false → Finds ts p c i → i < k
   beyond_end end_stop q y = absurd y
-  beyond_end end_refuse q y = true_false q
+  beyond_end end_refuse q y = absurd y
   beyond_end (end_take x a z) q y = let n = end_reach z in omega arith
   beyond_end (end_crowded x a) q y = true_false q
   beyond_end (end_pass x z) q y = beyond_end z q (y x)
@@ -195,7 +194,7 @@ module _ (ts us : List Lexeme) (limit top : Limit) (k floor m : ℕ) (high : flo
   pub stuck : (l b : ℕ) (o : Bool) {p : Prog} {c f : Scopes} {i k' n : ℕ} {w : Way} {u : Trees} → Ends body ts limit p c i w k' → Runs body us top p c i (Done u f n) → k' ≡ k → Goes ts floor p l b o c i → is_crowded w ≡ false → m ≤ levels_by w →
       ((x : Test) (n d : ℕ) → w ≡ barring x n d → Stand us k n) → (o ≡ true → i ≡ k → Is us k word.LeftBracket → ⊥) → ⊥
   stuck l b o end_stop h' e y cr le st inv = elim h' [ ]
-  stuck l b o end_refuse h' e y cr le st inv = true_false cr
+  stuck l b o end_refuse h' e y cr le st inv = absurd y
   stuck l b o (end_take x a z) (run_take x' a' h') e y cr le st inv = stuck l _ _ z h' e y.2 cr le st (λ q. none_true q)
   stuck l b o {c = c} {i = i} (end_take {x = x} v a z) (run_pass v' h') e y cr le st inv =
       let n = end_reach z in

@@ -16,13 +16,12 @@ use Rattle.cr_syntax.specs.Grammar.{inner_many, inner_list, list, many, closing,
 use Rattle.cr_syntax.specs.Spells.{Limit, Is, Within, Phrase, Spells, a, rest}
 use Rattle.cr_syntax.specs.Spells as spells
 use Rattle.cr_syntax.specs.Reads.{is_word, same_word}
-use Rattle.cr_machine.specs.Machine.{Goal, Prog, Wanted, Labels, Reply, Done, Runs, has_word, plain, opens, reopens, give, take, call, made, the}
+use Rattle.cr_machine.specs.Machine.{Goal, Prog, Wanted, Reply, Done, Runs, has_word, plain, opens, reopens, give, take, call, made, the}
 use Rattle.cr_machine.specs.Machine as m
 use Rattle.cr_machine.specs.MachineBody.{body, element_start, type_start, in_row, may_name, may_omit, is_any, declared_on}
 use Rattle.cr_machine.specs.MachineLaws.{IsFree}
 use Rattle.cr_machine.proofs.MachineMeans.{is_level, element_part, has_some}
 use Rattle.cr_machine.proofs.MachineFirst.{differs, fails}
-use Rattle.cr_machine.proofs.MachineFits.{fits, may_stand, parts_of}
 
 -- how much stands in a spelling
 abbrev pub measure : {ts : List Lexeme} {limit : Limit} {p : Phrase} {h : Context} {c e : Scopes} {d i j : ℕ} {t : Trees} → Spells ts limit p h c e d t i j → ℕ
@@ -211,18 +210,18 @@ module _ (ts : List Lexeme) (limit : Limit) where
       Goes (call (m.parameter d) (λ u. call (m.more_parameters d s (x & u & none)) give)) c i (Done (one kind.Parameters s j (x & t)) e j)
   Completes variadic_list h c e d t i j = (s : ℕ) (x : Trees) →
       Goes (call (m.parameter d) (λ u. call (m.more_parameters d s (x & u & none)) give)) c i (Done (one kind.VariadicParameters s j (x & t)) e j)
-  Completes external h c e d t i j = (l : Labels) → fits l t ≡ true → may_stand l t ≡ true → Answers (m.external l d) c i t e j
-  Completes externals h c e d t i j = (l : Labels) (x : Trees) → fits l t ≡ true → may_stand l t ≡ true → has_word ts j is_any ≡ false → Answers (m.externals l d x) c i (x & t) e j
+  Completes external h c e d t i j = Answers (m.external m.anywhere d) c i t e j
+  Completes externals h c e d t i j = (x : Trees) → has_word ts j is_any ≡ false → Answers (m.externals m.anywhere d x) c i (x & t) e j
   Completes declaration h c e d t i j = Answers (m.declaration d) c i t e j
   Completes init_declarators h c e d t i j = (s : ℕ) (x : Trees) (f : Trees → Prog) →
       ((u : Trees) (e' : Scopes) (k : ℕ) (r : Reply) → is_word ts k word.LeftBrace ≡ false → Goes (declared_on h d s x i u) e' k r → Goes (f u) e' k r) →
       Goes (call (m.declarator m.named h d) f) c i (Done (one kind.Declaration s j (x & t)) e j)
   Completes initializer h c e d t i j = IsFree ts 12 j → Answers (m.initializer d) c i t e j
   Completes initializers h c e d t i j = (s : ℕ) (x : Trees) → Answers (m.initializers d s x) c i (one kind.InitializerList s j (x & t)) e j
-  Completes statement h c e d t i j = (l : Labels) → fits l t ≡ true → (ends_open t ≡ true → is_word ts j word.Else ≡ false) → Answers (m.statement l d) c i t e j
-  Completes compound h c e d t i j = (l : Labels) → fits l (parts_of t) ≡ true → Answers (m.compound l d) c i t e j
-  Completes items h c e d t i j = (l : Labels) (s : ℕ) (x : Trees) → fits l t ≡ true → (names : List TypeName) × Answers (m.items l d s x) c i (one kind.Compound s j (x & t)) (names ∷ e) j
-  Completes item h c e d t i j = (l : Labels) → fits l t ≡ true → (ends_open t ≡ true → is_word ts j word.Else ≡ false) → Answers (m.item l d) c i t e j
+  Completes statement h c e d t i j = (ends_open t ≡ true → is_word ts j word.Else ≡ false) → Answers (m.statement m.anywhere d) c i t e j
+  Completes compound h c e d t i j = Answers (m.compound m.anywhere d) c i t e j
+  Completes items h c e d t i j = (s : ℕ) (x : Trees) → (names : List TypeName) × Answers (m.items m.anywhere d s x) c i (one kind.Compound s j (x & t)) (names ∷ e) j
+  Completes item h c e d t i j = (ends_open t ≡ true → is_word ts j word.Else ≡ false) → Answers (m.item m.anywhere d) c i t e j
 
   -- all that is smaller is read
   pub record Smaller (n : ℕ) : Type 0 where

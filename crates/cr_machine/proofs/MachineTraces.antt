@@ -14,7 +14,7 @@ module _ (body : Goal → Prog) (us : List Lexeme) (limit : Limit) (means : Goal
   abbrev pub Traces : Prog → (Trees → Scopes → ℕ → Type 0) → Scopes → ℕ → Type 0
   Traces (give t) f c i = f t c i
   Traces (stop d) f c i = Unit {0}
-  Traces (refuse n) f c i = Unit {0}
+  Traces (refuse n r) f c i = Unit {0}
   Traces (take g x d p q) f c i = (passes us c i x ≡ true → Allows limit g i d → Traces p f c (i + 1)) × (passes us c i x ≡ false → Traces q f c i)
   Traces (bar x n d p) f c i = passes us c i x ≡ false → Traces p f c i
   Traces (peek x p q) f c i = (passes us c i x ≡ true → Traces p f c i) × (passes us c i x ≡ false → Traces q f c i)
@@ -29,7 +29,7 @@ module _ (body : Goal → Prog) (us : List Lexeme) (limit : Limit) (means : Goal
   pub traces_idle : (p : Prog) (c : Scopes) (i : ℕ) → Traces p (λ t e j. Unit {0}) c i
   traces_idle (give t) c i = tt
   traces_idle (stop d) c i = tt
-  traces_idle (refuse n) c i = tt
+  traces_idle (refuse n r) c i = tt
   traces_idle (take g x d p q) c i = (λ y w. traces_idle p c (i + 1), λ y. traces_idle q c i)
   traces_idle (bar x n d p) c i = λ y. traces_idle p c i
   traces_idle (peek x p q) c i = (λ y. traces_idle p c i, λ y. traces_idle q c i)

@@ -106,6 +106,14 @@ name_apart : (p : Part) → all_differ word.Identifier (specifier_words p) ≡ t
 name_apart part.Specifiers = refl
 name_apart _ = refl
 
+-- a typedef name is read as a row of specifiers, where a colon stands behind it
+pub name_row : {ts : List Lexeme} {limit : Limit} {d i : ℕ} {c : Scopes} → m.passes ts c i (m.type_identifier false) ≡ true → Is ts i word.Identifier → Stands limit i d → Is ts (i + 1) word.Colon →
+    Answers ts limit (m.row part.Specifiers fresh d) c i (one kind.TypedefName i (i + 1) none) c (i + 1)
+name_row {ts = ts} {limit = limit} {d = d} {i = i} {c = c} y q w q' = run_here (run_call
+    (run_here (skips body ts limit (specifier_words part.Specifiers) m.plain d (λ k. made k i none) (other_element fresh d i) q refl
+    (run_pass (differs q word.Struct refl) (run_pass (differs q word.Enum refl) (run_take y w (run_here run_give))))))
+    (tail (run_unseen (ends_row part.Specifiers ts c (i + 1) true q' refl refl refl) (run_here run_give))))
+
 -- one specifier alone makes no node
 in_row_one : {ts : List Lexeme} {limit : Limit} {q : Part} {h : Context} {c e : Scopes} {d i j : ℕ} {t : Trees} → Spells ts limit (a q) h c e d t i j → (p : Part) (s k : ℕ) → in_row p s k (t & none) ≡ t
 in_row_one x p s k = let w = is_one x in subst (λ y. in_row p s k (y & none) ≡ y) (sym w.2) refl

@@ -7,13 +7,12 @@ use Rattle.cr_syntax.specs.Trees.{Trees, none, ◌&◌}
 use Rattle.cr_syntax.specs.Spells.{Limit, Spells, rest}
 use Rattle.cr_syntax.specs.Spells as spells
 use Rattle.cr_syntax.specs.Units.{IsUnit, unit_side, file_scope}
-use Rattle.cr_machine.specs.Machine.{Labels, anywhere, Runs, Done, has_word, run_call}
+use Rattle.cr_machine.specs.Machine.{Runs, Done, has_word, run_call}
 use Rattle.cr_machine.specs.Machine as m
 use Rattle.cr_machine.specs.MachineBody.{body, is_any}
 use Rattle.cr_machine.proofs.MachineRuns.{same, word_in}
 use Rattle.cr_machine.proofs.MachineSpells.{and_and}
 use Rattle.cr_machine.proofs.MachineFirst.{tail}
-use Rattle.cr_machine.proofs.MachineFits.{fits, fits_left, fits_right, may_stand, may_left, may_right}
 use Rattle.cr_machine.proofs.MachineTasks as task
 use Rattle.cr_machine.proofs.MachineComplete.{completes, get_past, done_alike}
 
@@ -24,17 +23,17 @@ none_past ts = ap (λ o. elim o as (λ _. Bool) [ None ↦ false | Some w ↦ is
     word_past : word_at ts (length ts) ≡ None
     word_past = ap word_in (get_past ts)
 
--- external definitions up to the end are read, where labels may stand as in them
-pub unit_reads : {ts : List Lexeme} {limit : Limit} {h : Context} {c e : Scopes} {d i : ℕ} {t : Trees} (l : Labels) → Spells ts limit (rest unit_side) h c e d t i (length ts) → fits l t ≡ true → may_stand l t ≡ true →
-    Runs body ts limit (body (m.unit l d)) c i (Done t e (length ts))
-unit_reads {ts = ts} {limit = limit} {c = c} {e = e} {d = d} {i = i} l (spells.part {t = t} {u = u} x s) f g =
-    subst (λ z. Runs body ts limit (body (m.unit l d)) c i (Done z e (length ts))) (and_and t none u)
-    (run_call (completes ts limit task.external x l (fits_left l t u f) (may_left l t u g))
-    (tail (completes ts limit task.externals s l (t & none) (fits_right l t u f) (may_right l t u g) (none_past ts))))
+-- external definitions up to the end are read
+pub unit_reads : {ts : List Lexeme} {limit : Limit} {h : Context} {c e : Scopes} {d i : ℕ} {t : Trees} → Spells ts limit (rest unit_side) h c e d t i (length ts) →
+    Runs body ts limit (body (m.unit m.anywhere d)) c i (Done t e (length ts))
+unit_reads {ts = ts} {limit = limit} {c = c} {e = e} {d = d} {i = i} (spells.part {t = t} {u = u} x s) =
+    subst (λ z. Runs body ts limit (body (m.unit m.anywhere d)) c i (Done z e (length ts))) (and_and t none u)
+    (run_call (completes ts limit task.external x)
+    (tail (completes ts limit task.externals s (t & none) (none_past ts))))
 
-pub unit_is_read : {ts : List Lexeme} {limit : Limit} {t : Trees} (l : Labels) (x : IsUnit limit ts t) → fits l t ≡ true → may_stand l t ≡ true → Runs body ts limit (body (m.unit l 0)) file_scope 0 (Done t x.after (length ts))
-unit_is_read l x f g = unit_reads l x.spells f g
+pub unit_is_read : {ts : List Lexeme} {limit : Limit} {t : Trees} (x : IsUnit limit ts t) → Runs body ts limit (body (m.unit m.anywhere 0)) file_scope 0 (Done t x.after (length ts))
+unit_is_read x = unit_reads x.spells
 
 -- the tokens of a unit have one tree
 pub one_unit : {ts : List Lexeme} {limit : Limit} {t u : Trees} → IsUnit limit ts t → IsUnit limit ts u → t ≡ u
-one_unit x y = (done_alike (same (unit_is_read anywhere x refl refl) (unit_is_read anywhere y refl refl))).0
+one_unit x y = (done_alike (same (unit_is_read x) (unit_is_read y))).0

@@ -7,7 +7,7 @@ use Rattle.cr_syntax.specs.Words.{Lexeme}
 use Rattle.cr_syntax.specs.Scopes.{Scopes}
 use Rattle.cr_syntax.specs.Trees.{none, node, one}
 use Rattle.cr_syntax.specs.Units.{file_scope}
-use Rattle.cr_machine.specs.Machine.{Reply, Done, Failed, Labels, anywhere, own_block, nowhere, unit, statement, unexpected, ended, too_deep, outside, variadic}
+use Rattle.cr_machine.specs.Machine.{Reply, Done, Failed, Labels, anywhere, own_block, in_block, nowhere, unit, statement, unexpected, ended, too_deep, outside, earlier}
 use Rattle.cr_machine.specs.MachineBody.{body}
 use Rattle.cr_machine.proofs.MachineExamples.{run, w, id}
 
@@ -126,10 +126,10 @@ refused_18 = (refl, refl, refl, refl, refl, refl, refl)
 refused_19 :
     (refused (w word.Void ∷ id (codes "f") ∷ w word.LeftParen ∷ w word.RightParen ∷ w word.LeftBrace ∷ w word.Switch ∷ w word.LeftParen ∷ id (codes "x") ∷ w word.RightParen ∷ id (codes "a") ∷ w word.Semicolon ∷ []) ≡ Some (Failed (outside 7) 9)) ×
     (refused (w word.Void ∷ id (codes "f") ∷ w word.LeftParen ∷ w word.RightParen ∷ w word.LeftBrace ∷ w word.Switch ∷ w word.LeftParen ∷ w word.Integer ∷ w word.RightParen ∷ w word.Int ∷ []) ≡ Some (Failed unexpected 9)) ×
-    (refused (w word.Int ∷ id (codes "f") ∷ w word.LeftParen ∷ w word.Int ∷ id (codes "a") ∷ w word.Comma ∷ w word.Ellipsis ∷ w word.RightParen ∷ w word.LeftBrace ∷ []) ≡ Some (Failed (variadic 6) 8)) ×
+    (refused (w word.Int ∷ id (codes "f") ∷ w word.LeftParen ∷ w word.Int ∷ id (codes "a") ∷ w word.Comma ∷ w word.Ellipsis ∷ w word.RightParen ∷ w word.LeftBrace ∷ []) ≡ Some (Failed (earlier 6 8) 8)) ×
     (refused (w word.Int ∷ id (codes "x") ∷ w word.Int ∷ []) ≡ Some (Failed unexpected 2)) ×
     (refused (w word.Int ∷ id (codes "f") ∷ w word.LeftParen ∷ w word.RightParen ∷ w word.LeftBrace ∷ []) ≡ Some (Failed ended 5)) ×
-    (refused (w word.Goto ∷ []) ≡ Some (Failed (outside 1) 0)) ×
+    (refused (w word.Union ∷ []) ≡ Some (Failed (outside 1) 0)) ×
     (refused (w word.Void ∷ id (codes "f") ∷ w word.LeftParen ∷ w word.RightParen ∷ w word.LeftBrace ∷ w word.Else ∷ []) ≡ Some (Failed unexpected 5))
 unfolding run
 refused_19 = (refl, refl, refl, refl, refl, refl, refl)
@@ -145,6 +145,22 @@ refused_20 :
     (refused (w word.Void ∷ id (codes "f") ∷ w word.LeftParen ∷ w word.RightParen ∷ w word.LeftBrace ∷ w word.For ∷ w word.LeftParen ∷ w word.Int ∷ id (codes "i") ∷ w word.Semicolon ∷ w word.Semicolon ∷ w word.Static ∷ []) ≡ Some (Failed unexpected 11))
 unfolding run
 refused_20 = (refl, refl, refl, refl, refl, refl, refl)
+
+-- void f ( ) { L : ; goto L ; }
+read_labels : whole nowhere (w word.Void ∷ id (codes "f") ∷ w word.LeftParen ∷ w word.RightParen ∷ w word.LeftBrace ∷ id (codes "L") ∷ w word.Colon ∷ w word.Semicolon ∷ w word.Goto ∷ id (codes "L") ∷ w word.Semicolon ∷ w word.RightBrace ∷ []) ≡
+    Some (Done (one kind.FunctionDefinition 0 12 (node kind.Void 0 1 none (node kind.FunctionDeclarator 1 4 (one kind.NameDeclarator 1 2 none) (one kind.Compound 4 12 (node kind.Label 5 8 (one kind.ExpressionStatement 7 8 none) (one kind.Goto 8 11 none)))))) (in_file ((codes "f", false) ∷ [])) 12)
+unfolding run
+read_labels = refl
+
+-- void f ( ) { if ( 1 ) L : · typedef int T ; void f ( ) { if ( 1 ) T x · typedef int T ; void f ( ) { L : T x · goto ;
+refused_labels :
+    (refused (w word.Void ∷ id (codes "f") ∷ w word.LeftParen ∷ w word.RightParen ∷ w word.LeftBrace ∷ w word.If ∷ w word.LeftParen ∷ w word.Integer ∷ w word.RightParen ∷ id (codes "L") ∷ w word.Colon ∷ w word.Semicolon ∷ w word.RightBrace ∷ []) ≡ Some (Failed (earlier 9 9) 10)) ×
+    (refused (w word.Typedef ∷ w word.Int ∷ id (codes "T") ∷ w word.Semicolon ∷ w word.Void ∷ id (codes "f") ∷ w word.LeftParen ∷ w word.RightParen ∷ w word.LeftBrace ∷ w word.If ∷ w word.LeftParen ∷ w word.Integer ∷ w word.RightParen ∷ id (codes "T") ∷ w word.Colon ∷ []) ≡ Some (Failed (earlier 13 9) 14)) ×
+    (refused (w word.Typedef ∷ w word.Int ∷ id (codes "T") ∷ w word.Semicolon ∷ w word.Void ∷ id (codes "f") ∷ w word.LeftParen ∷ w word.RightParen ∷ w word.LeftBrace ∷ w word.If ∷ w word.LeftParen ∷ w word.Integer ∷ w word.RightParen ∷ id (codes "T") ∷ id (codes "x") ∷ []) ≡ Some (Failed unexpected 14)) ×
+    (refused (w word.Typedef ∷ w word.Int ∷ id (codes "T") ∷ w word.Semicolon ∷ w word.Void ∷ id (codes "f") ∷ w word.LeftParen ∷ w word.RightParen ∷ w word.LeftBrace ∷ id (codes "L") ∷ w word.Colon ∷ id (codes "T") ∷ id (codes "x") ∷ []) ≡ Some (Failed unexpected 12)) ×
+    (refused (w word.Void ∷ id (codes "f") ∷ w word.LeftParen ∷ w word.RightParen ∷ w word.LeftBrace ∷ w word.Goto ∷ w word.Semicolon ∷ w word.RightBrace ∷ []) ≡ Some (Failed unexpected 6))
+unfolding run
+refused_labels = (refl, refl, refl, refl, refl)
 
 -- A statement where so many levels are open.
 
@@ -173,3 +189,13 @@ deep_22 :
     (deep nowhere 127 (w word.Switch ∷ w word.LeftParen ∷ w word.Integer ∷ w word.RightParen ∷ w word.Semicolon ∷ []) ≡ Some (Failed (outside 7) 4))
 unfolding run
 deep_22 = (refl, refl, refl, refl, refl, refl, refl)
+
+-- an opening word as a switch's body is too deep before it is refused as one; a label is refused before its colon is too deep
+deep_23 :
+    (deep nowhere 127 (w word.Switch ∷ w word.LeftParen ∷ w word.Integer ∷ w word.RightParen ∷ w word.Do ∷ []) ≡ Some (Failed too_deep 4)) ×
+    (deep nowhere 127 (w word.Switch ∷ w word.LeftParen ∷ w word.Integer ∷ w word.RightParen ∷ id (codes "a") ∷ []) ≡ Some (Failed (outside 7) 4)) ×
+    (deep nowhere 126 (w word.Switch ∷ w word.LeftParen ∷ w word.Integer ∷ w word.RightParen ∷ w word.Do ∷ []) ≡ Some (Failed (outside 7) 4)) ×
+    (deep in_block 128 (id (codes "L") ∷ w word.Colon ∷ w word.Semicolon ∷ []) ≡ Some (Failed too_deep 1)) ×
+    (deep nowhere 128 (id (codes "L") ∷ w word.Colon ∷ w word.Semicolon ∷ []) ≡ Some (Failed (earlier 0 9) 1))
+unfolding run
+deep_23 = (refl, refl, refl, refl, refl)

@@ -18,16 +18,17 @@ use Rattle.cr_syntax.specs.Grammar.{opening, closing, inner, token, part}
 use Rattle.cr_syntax.specs.Grammar as grammar
 use Rattle.cr_syntax.specs.Spells.{Limit, Is, Stands, Within, Spells, a, rest}
 use Rattle.cr_syntax.specs.Spells as spells
-use Rattle.cr_syntax.specs.Units.{Place, own_item, elsewhere, place_in, is_misplaced, misplaced_at, has_here, after_first, own_parameters, ellipsis_at, one_begins_at, switch_body_at, variadic_definition}
+use Rattle.cr_syntax.specs.Units.{Place, own_item, block_item, elsewhere, place_in, place_behind, is_misplaced, is_stray, wrong_at, has_here, after_first, own_parameters, ellipsis_at, one_begins_at, switch_body_at, variadic_definition}
 use Rattle.cr_syntax.specs.Units as units
-use Rattle.cr_machine.specs.Machine.{Goal, Prog, Manner, Labels, anywhere, own_block, nowhere, named, Allows, plain, opens, reopens, around, innermost_of}
+use Rattle.cr_machine.specs.Machine.{Goal, Prog, Manner, Labels, anywhere, own_block, in_block, nowhere, named, Allows, plain, opens, reopens, around, innermost_of, stop}
 use Rattle.cr_machine.specs.Machine.{whole, expression, commas, assignment, conditional, operands, cast, unary, measured, postfix, called, grouped, texts, arguments, suffixes, type_name, row, more, element, structure, members, member, member_declarators, enumeration, enumerators, enumerator, qualifiers, declarator, declarator_suffixes, abstract_suffixes, size, parameters, more_parameters, parameter}
 use Rattle.cr_machine.specs.Machine.{unit, externals, external, declaration, init_declarators, initialized, initializer, initializers, statement, block, if_rest, switch_rest, while_rest, do_rest, for_rest, return_rest, for_clauses, clause, compound, items, item}
 use Rattle.cr_machine.specs.Machine as m
-use Rattle.cr_machine.specs.MachineBody.{body, inside, may_label, may_define, is_label, ends_variadic, last_token, defined, declared_on, unlabelled}
+use Rattle.cr_machine.specs.MachineBody.{body, inside, in_compound, may_label, may_mark, may_define, is_label, is_identifier, is_type_name, ends_variadic, last_token, defined, declared_on, unlabelled, marked, declaration_rest, expression_rest}
 use Rattle.cr_machine.specs.MachineBody as program
 use Rattle.cr_machine.proofs.MachineSpells.{and_and, pushed, is_one, forth, name_brought, Names, by_declarator, by_direct, unheard, own_alone, own_first, after_one}
 use Rattle.cr_machine.proofs.MachineSpells as facts
+use Rattle.cr_machine.proofs.MachineNames.{OneName, one_name, label_spelled}
 use Rattle.cr_machine.proofs.MachineKept.{around_less}
 use Rattle.cr_machine.proofs.MachineMeans.{Reads, Begun, IsDeclared, with_name, without, IsClause, no_clause, one_clause, IsOpen, open_of, after_init}
 use Rattle.cr_machine.proofs.MachineUnitSound.{nearest_one, nearest_two, ended, entered, bare_declaration, clause_of}
@@ -35,11 +36,11 @@ use Rattle.cr_machine.proofs.MachineBegins.{owned}
 use Rattle.cr_machine.proofs.MachineExtend.{Front, Stand, weaken}
 use Rattle.cr_machine.proofs.MachineScopes.{scopes_kept}
 use Rattle.cr_machine.proofs.MachineEnds.{Way}
-use Rattle.cr_machine.proofs.MachineShown.{next_so, next_designator, next_label, next_block, next_body, next_definition, shown_label, shown_block, shown_body, shown_definition, shown_in_so, seen, every, started, started_here, started_so, started_right, in_list, in_declarator, Room, Labelled, moved, left_in, right_in, within, wherever, left, right, first, second, operand_begins, same_number}
+use Rattle.cr_machine.proofs.MachineShown.{next_so, next_designator, next_label, next_block, next_body, next_definition, next_stray, shown_label, shown_block, shown_body, shown_definition, shown_stray, shown_in_so, seen, every, started, started_here, started_so, started_right, in_list, in_declarator, Room, Labelled, moved, left_in, right_in, within, wherever, left, right, first, second, operand_begins, same_number}
 use Rattle.cr_machine.proofs.MachineShown as show
 use Rattle.cr_machine.proofs.MachineGrows.{GrownIn, GrownBy, Via, Stated, IsDeclarationBegin, OneDeclared, U, placed, blocked, grown, puts, more0, mores, number_conditional, number_assignment, number_expression, some_expression, one_declarator}
 use Rattle.cr_machine.proofs.MachineGrows as grows
-use Rattle.std.proofs.lemmas.Bool.{or_left, and_from, not-false}
+use Rattle.std.proofs.lemmas.Bool.{or_left, or_right, and_from, not-false}
 
 -- Places: where the parts of a node stand, by the labels that they may have.
 
@@ -47,63 +48,87 @@ items_stand : (l : Labels) (p : Place) → blocked l p ≡ true → placed l (pl
 items_stand anywhere p q = refl
 items_stand own_block units.in_switch q = refl
 items_stand own_block own_item q = cc
+items_stand own_block block_item q = cc
 items_stand own_block elsewhere q = cc
-items_stand nowhere units.in_switch q = cc
-items_stand nowhere own_item q = refl
-items_stand nowhere elsewhere q = refl
+items_stand in_block units.in_switch q = cc
+items_stand in_block own_item q = refl
+items_stand in_block block_item q = refl
+items_stand in_block elsewhere q = refl
+items_stand nowhere p q = cc
 
-block_stands : (l : Labels) (p : Place) → placed l p ≡ true → blocked (inside l) p ≡ true
+block_stands : (l : Labels) (p : Place) → placed l p ≡ true → blocked (in_compound l) p ≡ true
 block_stands anywhere p q = refl
 block_stands own_block units.in_switch q = cc
 block_stands own_block own_item q = refl
+block_stands own_block block_item q = refl
 block_stands own_block elsewhere q = refl
+block_stands in_block units.in_switch q = cc
+block_stands in_block own_item q = refl
+block_stands in_block block_item q = refl
+block_stands in_block elsewhere q = refl
 block_stands nowhere units.in_switch q = cc
 block_stands nowhere own_item q = refl
+block_stands nowhere block_item q = refl
 block_stands nowhere elsewhere q = refl
 
 parts_stand : (l : Labels) → placed (inside l) elsewhere ≡ true
 parts_stand anywhere = refl
 parts_stand own_block = refl
+parts_stand in_block = refl
 parts_stand nowhere = refl
 
 switch_stands : (l : Labels) → blocked (program.in_switch l) units.in_switch ≡ true
 switch_stands anywhere = refl
 switch_stands own_block = refl
+switch_stands in_block = refl
 switch_stands nowhere = refl
 
-definition_stands : (l : Labels) → blocked (inside l) elsewhere ≡ true
+definition_stands : (l : Labels) → blocked (in_compound l) elsewhere ≡ true
 definition_stands anywhere = refl
 definition_stands own_block = refl
+definition_stands in_block = refl
 definition_stands nowhere = refl
 
-case_stands : (l : Labels) (p : Place) → placed l p ≡ true → placed l (place_in kind.Case p) ≡ true
-case_stands anywhere p q = refl
-case_stands own_block units.in_switch q = cc
-case_stands own_block own_item q = refl
-case_stands own_block elsewhere q = cc
-case_stands nowhere units.in_switch q = cc
-case_stands nowhere own_item q = cc
-case_stands nowhere elsewhere q = refl
+-- the statement of a label
+label_stands : (l : Labels) (p : Place) → placed l p ≡ true → placed l (place_behind p) ≡ true
+label_stands anywhere p q = refl
+label_stands own_block units.in_switch q = cc
+label_stands own_block own_item q = refl
+label_stands own_block block_item q = cc
+label_stands own_block elsewhere q = cc
+label_stands in_block units.in_switch q = cc
+label_stands in_block own_item q = cc
+label_stands in_block block_item q = refl
+label_stands in_block elsewhere q = cc
+label_stands nowhere units.in_switch q = cc
+label_stands nowhere own_item q = cc
+label_stands nowhere block_item q = cc
+label_stands nowhere elsewhere q = refl
 
-default_stands : (l : Labels) (p : Place) → placed l p ≡ true → placed l (place_in kind.Default p) ≡ true
-default_stands anywhere p q = refl
-default_stands own_block units.in_switch q = cc
-default_stands own_block own_item q = refl
-default_stands own_block elsewhere q = cc
-default_stands nowhere units.in_switch q = cc
-default_stands nowhere own_item q = cc
-default_stands nowhere elsewhere q = refl
-
--- a label where none may stand is misplaced
+-- a label of a switch where none may stand is misplaced, and so is an identifier's
 no_label : (l : Labels) → may_label l ≡ false → (p : Place) → placed l p ≡ true → (is_misplaced kind.Case p ≡ true) × (is_misplaced kind.Default p ≡ true)
 no_label anywhere q p r = cc
 no_label own_block q p r = cc
+no_label in_block q units.in_switch r = cc
+no_label in_block q own_item r = cc
+no_label in_block q block_item r = (refl, refl)
+no_label in_block q elsewhere r = cc
 no_label nowhere q units.in_switch r = cc
 no_label nowhere q own_item r = cc
+no_label nowhere q block_item r = cc
 no_label nowhere q elsewhere r = (refl, refl)
 
-label_here : (n : ℕ) (q : Kind) (p : Place) (j : ℕ) (t : Trees) → is_misplaced q p ≡ true → misplaced_at n p (one q n j t) ≡ true
-label_here n q p j t x = by (n == n) (is_misplaced q p) (misplaced_at n (place_in q p) t) false (same_number n n refl) x
+no_mark : (l : Labels) → may_mark l ≡ false → (p : Place) → placed l p ≡ true → is_stray kind.Label p ≡ true
+no_mark anywhere q p r = cc
+no_mark own_block q p r = cc
+no_mark in_block q p r = cc
+no_mark nowhere q units.in_switch r = cc
+no_mark nowhere q own_item r = cc
+no_mark nowhere q block_item r = cc
+no_mark nowhere q elsewhere r = refl
+
+wrong_here : (f : Kind → Place → Bool) (n : ℕ) (q : Kind) (p : Place) (j : ℕ) (t : Trees) → f q p ≡ true → wrong_at f n p (one q n j t) ≡ true
+wrong_here f n q p j t x = by (n == n) (f q p) (wrong_at f n (place_in q p) t) false (same_number n n refl) x
   where
     by : (b d y z : Bool) → b ≡ true → d ≡ true → (b && d) || y || z ≡ true
     by true true y z q r = refl
@@ -192,6 +217,7 @@ label_is us i _ q r f g = cc
 defines_variadic : (l : Labels) (y : Trees) → may_define l y ≡ false → ends_variadic (own_parameters y) ≡ true
 defines_variadic anywhere y q = cc
 defines_variadic own_block y q = not-false (ends_variadic (own_parameters y)) q
+defines_variadic in_block y q = not-false (ends_variadic (own_parameters y)) q
 defines_variadic nowhere y q = not-false (ends_variadic (own_parameters y)) q
 
 -- What a clause of a `for` is followed by.
@@ -392,11 +418,16 @@ module _ (us : List Lexeme) (top : Limit) (way : Way) (late : (g : Manner) (i d 
         ),
   )
 
+  -- specifiers that are grown, as a declaration
+  row_grown : (d : ℕ) (c : Scopes) (i : ℕ) → V (row part.Specifiers fresh d) c i → V (declaration d) c i
+  row_grown d c i v h = mores us top way late v (word.Semicolon ∷ []) (λ all f t e j le s q1 shown. (_, _, bare_declaration all top s q1.0 (late plain j d le) h, seen (first shown none)))
+
+  -- what is owed behind the specifiers t
+  owes_rest : (d : ℕ) (c : Scopes) (i : ℕ) {f : Type 0} {t : Trees} {e : Scopes} {j : ℕ} → (V (declaration d) c i → f) → Spells us top (a part.Specifiers) fresh c e d t i j → Owes (declaration_rest d i t) f e j
+  owes_rest d c i k x = (tt, λ q w. tt, (λ v. k (v c (begun_declaration x)), λ t' e' j' _ _ _. tt))
+
   owes_declaration : (d : ℕ) (c : Scopes) (i : ℕ) → Owed (declaration d) c i
-  owes_declaration d c i = (
-    λ v h. mores us top way late v (word.Semicolon ∷ []) (λ all f t e j le s q1 shown. (_, _, bare_declaration all top s q1.0 (late plain j d le) h, seen (first shown none))),
-    λ t e j _ _ x. (tt, λ q w. tt, (λ v. v c (begun_declaration x), λ t' e' j' _ _ _. tt)),
-  )
+  owes_declaration d c i = (λ v. row_grown d c i v, λ t e j _ _ x. owes_rest d c i (λ y. y) x)
 
   owes_init_declarators : (h : Context) (d s : ℕ) (x : Trees) (c : Scopes) (i : ℕ) → Owed (init_declarators h d s x) c i
   owes_init_declarators h d s x c i = (
@@ -519,11 +550,59 @@ module _ (us : List Lexeme) (top : Limit) (way : Way) (late : (g : Manner) (i d 
 
   -- Statements.
 
+  -- a name in a longer text, and the least statement behind its colon
+  name_on : {all : List Lexeme} {c e : Scopes} {d i j : ℕ} → Front us all → OneName us top c e d i j → OneName all top c e d i j
+  name_on f n = record { is = f.words _ _ n.is; stands = n.stands; end = n.end; same = n.same }
+
+  least_label : {all : List Lexeme} {c e : Scopes} {d i j : ℕ} → OneName all top c e d i j → Is all j word.Colon → Within top j d → Is all (j + 1) word.Semicolon → Stands top (j + 1) (d + 1) → (h : Context) →
+      Spells all top (a part.Statement) h c e d (one kind.Label i (j + 1 + 1) (one kind.ExpressionStatement (j + 1) (j + 1 + 1) none)) i (j + 1 + 1)
+  least_label {all = all} {e = e} {d = d} {j = j} n q w q' w' h = label_spelled n q w (λ h. empty all e (d + 1) (j + 1) q' w' h) h
+
+  -- what is owed behind a name that may be a label
+  owes_marked : (l : Labels) (d i : ℕ) (p : Prog) (c e : Scopes) (j : ℕ) {f : Type 0} → OneName us top c e d i j → (Stated us top way late l d c i → f) → Owes p f e j → Owes (marked l d i p) f e j
+  owes_marked l d i p c e j n k x = (
+    λ colon. (
+      λ y. (
+        λ z. some_statement l e (d + 1) (j + 1) (z (d + 1)),
+        λ q w. (
+          λ v. k (λ h. more0 us top way late (v fresh) (λ all f u g m le s shown. (
+            _,
+            _,
+            label_spelled (name_on f n) (f.words _ _ q) w (λ h. unheard refl s h) h,
+            within (λ p r. label_stands l p r) (left_in shown none),
+          ))),
+          λ u g m _ _ _. tt,
+        ),
+        λ z. k (λ h. puts us top way late z word.Colon (word.Semicolon ∷ []) (λ all f q le. (_, _, least_label (name_on f n) q.0 (z.fits opens d (omega arith)) q.1.0 (late plain (j + 1) (d + 1) (omega arith)) h))),
+      ),
+      λ y z. k (λ h.
+          let m = z.here in
+          let o = n.end in
+          let colon' : Is us j word.Colon = colon (omega arith) in
+          grown us top way late z.here word.Semicolon [] (λ all f r. next_so z.so (next_stray (omega arith) (f.words _ _ n.is) (f.words _ _ (subst (λ j. Is us j word.Colon) n.end colon')))) (λ all f q le. (
+            _,
+            _,
+            least_label (name_on f n) (f.words _ _ colon') (z.fits opens j d (omega arith)) q.0 (z.fits plain (j + 1) (d + 1) (omega arith)) h,
+            shown_in_so z.so (shown_stray (λ p r. wrong_here is_stray i kind.Label p (j + 1 + 1) (one kind.ExpressionStatement (j + 1) (j + 1 + 1) none) (no_mark l y p r))),
+          ))),
+    ),
+    x,
+  )
+
   owes_item : (l : Labels) (d : ℕ) (c : Scopes) (i : ℕ) → Owed (item l d) c i
   owes_item l d c i = (
-    λ _. (λ v h. more0 us top way late (v _) (λ all f t e j le s shown. (_, _, spells.of_chain grammar.item_declaration refl s, show.anywhere shown)), λ t e j _ _ _. tt),
-    (λ v h. more0 us top way late (v _) (λ all f t e j le s shown. (_, _, spells.of_chain grammar.item_statement refl s, shown)), λ t e j _ _ _. tt),
+    λ _. (
+      λ v. as_declaration (row_grown d c i v),
+      λ t e j _ _ x. (λ y. owes_marked l d i (declaration_rest d i t) c e j (one_name x (or_right (is_identifier t) (is_type_name t) y)) as_statement (owes_rest d c i as_declaration x), λ y. owes_rest d c i as_declaration x),
+    ),
+    (as_statement, λ t e j _ _ _. tt),
   )
+    where
+      as_declaration : V (declaration d) c i → V (item l d) c i
+      as_declaration v h = more0 us top way late (v _) (λ all f t e j le s shown. (_, _, spells.of_chain grammar.item_declaration refl s, show.anywhere shown))
+
+      as_statement : V (statement l d) c i → V (item l d) c i
+      as_statement v h = more0 us top way late (v _) (λ all f t e j le s shown. (_, _, spells.of_chain grammar.item_statement refl s, shown))
 
   owes_items : (l : Labels) (d s : ℕ) (y : Trees) (c : Scopes) (i : ℕ) → Owed (items l d s y) c i
   owes_items l d s y c i = (
@@ -570,7 +649,7 @@ module _ (us : List Lexeme) (top : Limit) (way : Way) (late : (g : Manner) (i d 
         _,
         case_of (f.words _ _ q) (z.fits plain i d (omega arith)) (λ h. number_conditional us top way late all c d (i + 1) q1.0 (z.fits plain (i + 1) d (omega arith)) h) q1.1.0 (z.fits opens (i + 1 + 1) d (omega arith))
             (λ h. empty all c (d + 1) (i + 1 + 1 + 1) q1.1.1.0 (z.fits plain (i + 1 + 1 + 1) (d + 1) (omega arith)) h) h,
-        shown_in_so z.so (shown_label i z.here (λ p r. label_here i kind.Case p (i + 1 + 1 + 1 + 1) (one kind.Integer (i + 1) (i + 1 + 1) none & one kind.ExpressionStatement (i + 1 + 1 + 1) (i + 1 + 1 + 1 + 1) none & none) (no_label l y p r).0)),
+        shown_in_so z.so (shown_label i z.here (λ p r. wrong_here is_misplaced i kind.Case p (i + 1 + 1 + 1 + 1) (one kind.Integer (i + 1) (i + 1 + 1) none & one kind.ExpressionStatement (i + 1 + 1 + 1) (i + 1 + 1 + 1 + 1) none & none) (no_label l y p r).0)),
       ))
 
   deep_default : (l : Labels) (d : ℕ) (c : Scopes) (i : ℕ) → may_label l ≡ false → Labelled us top way is_label 6 i d → Is us i word.Default → Stated us top way late l d c i
@@ -580,8 +659,35 @@ module _ (us : List Lexeme) (top : Limit) (way : Way) (late : (g : Manner) (i d 
         _,
         _,
         default_of (f.words _ _ q) (z.fits plain i d (omega arith)) q1.0 (z.fits opens (i + 1) d (omega arith)) (λ h. empty all c (d + 1) (i + 1 + 1) q1.1.0 (z.fits plain (i + 1 + 1) (d + 1) (omega arith)) h) h,
-        shown_in_so z.so (shown_label i z.here (λ p r. label_here i kind.Default p (i + 1 + 1 + 1) (one kind.ExpressionStatement (i + 1 + 1) (i + 1 + 1 + 1) none & none) (no_label l y p r).1)),
+        shown_in_so z.so (shown_label i z.here (λ p r. wrong_here is_misplaced i kind.Default p (i + 1 + 1 + 1) (one kind.ExpressionStatement (i + 1 + 1) (i + 1 + 1 + 1) none & none) (no_label l y p r).1)),
       ))
+
+  -- a statement that begins with a name, or an expression
+  owes_expression : (l : Labels) (d : ℕ) (c : Scopes) (i : ℕ) {t : Trees} {e : Scopes} {j : ℕ} → Reads us top part.Expression d c i t e j → Owes (expression_rest d i t) (Stated us top way late l d c i) e j
+  owes_expression l d c i x = (
+    tt,
+    λ q w. tt,
+    λ z h. puts us top way late z word.Semicolon [] (λ all f q1 le. (_, _, spells.of_alternative grammar.expression_statement refl (spells.optional_some (weaken f (x _)) (spells.token q1.0 (z.fits plain d (omega arith)) spells.done)))),
+  )
+
+  owes_named : (l : Labels) (d : ℕ) (c : Scopes) (i : ℕ) → Owes (program.named_statement l d i) (Stated us top way late l d c i) c i
+  owes_named l d c i = (
+    tt,
+    λ q w. owes_marked l d i (stop d) c c (i + 1) (name q.0.0 w) (λ y. y)
+        (λ z h. puts us top way late z word.Colon (word.Semicolon ∷ []) (λ all f q1 le. (_, _, least_label (name_on f (name q.0.0 w)) q1.0 (z.fits opens d (omega arith)) q1.1.0 (late plain (i + 1 + 1) (d + 1) (omega arith)) h))),
+    (
+      λ v h. mores us top way late (v _) (word.Semicolon ∷ []) (λ all f t e j le s q1 shown. (
+        _,
+        _,
+        spells.of_alternative grammar.expression_statement refl (spells.optional_some s (spells.token q1.0 (late plain j d le) spells.done)),
+        seen (first shown none),
+      )),
+      λ t e j _ _ x. (λ y. owes_marked l d i (expression_rest d i t) c e j (one_name (x fresh) (or_left (is_identifier t) (is_type_name t) y)) (λ z. z) (owes_expression l d c i x), λ y. owes_expression l d c i x),
+    ),
+  )
+    where
+      name : Is us i word.Identifier → Stands top i d → OneName us top c c d i (i + 1)
+      name q w = record { is = q; stands = w; end = refl; same = refl }
 
   -- behind the keyword of a statement
   pub owes_unlabelled : (l : Labels) (d : ℕ) (c : Scopes) (i : ℕ) → Owes (unlabelled l d i) (Stated us top way late l d c i) c i
@@ -606,34 +712,38 @@ module _ (us : List Lexeme) (top : Limit) (way : Way) (late : (g : Manner) (i d 
                 tt,
                 λ q w. (
                   tt,
-                  λ q' w'. tt,
-                  λ z h. puts us top way late z word.Semicolon [] (λ all f q1 le. (_, _, spells.of_alternative grammar.break_statement refl (spells.token (f.words _ _ q) w (spells.token q1.0 (z.fits plain d (omega arith)) spells.done)))),
+                  λ q' w'. (
+                    tt,
+                    λ q'' w''. tt,
+                    λ z h. puts us top way late z word.Semicolon [] (λ all f q1 le. (_, _, spells.of_alternative grammar.goto_statement refl (spells.token (f.words _ _ q) w (spells.token (f.words _ _ q') w' (spells.token q1.0 (z.fits plain d (omega arith)) spells.done))))),
+                  ),
+                  λ z h. puts us top way late z word.Identifier (word.Semicolon ∷ []) (λ all f q1 le. (
+                    _,
+                    _,
+                    spells.of_alternative grammar.goto_statement refl (spells.token (f.words _ _ q) w (spells.token q1.0 (z.fits plain d (omega arith)) (spells.token q1.1.0 (late plain (i + 1 + 1) d (omega arith)) spells.done))),
+                  )),
                 ),
                 (
                   tt,
                   λ q w. (
                     tt,
                     λ q' w'. tt,
-                    λ z h. puts us top way late z word.Semicolon [] (λ all f q1 le. (_, _, spells.of_alternative grammar.continue_statement refl (spells.token (f.words _ _ q) w (spells.token q1.0 (z.fits plain d (omega arith)) spells.done)))),
+                    λ z h. puts us top way late z word.Semicolon [] (λ all f q1 le. (_, _, spells.of_alternative grammar.break_statement refl (spells.token (f.words _ _ q) w (spells.token q1.0 (z.fits plain d (omega arith)) spells.done)))),
                   ),
                   (
                     tt,
-                    λ q w. (λ v h. more0 us top way late (v (λ all f r h e t j z. spells.token (f.words _ _ q) w z) h) (λ all f t e j le s shown. (_, _, s, show.anywhere shown)), λ t e j _ _ _. tt),
+                    λ q w. (
+                      tt,
+                      λ q' w'. tt,
+                      λ z h. puts us top way late z word.Semicolon [] (λ all f q1 le. (_, _, spells.of_alternative grammar.continue_statement refl (spells.token (f.words _ _ q) w (spells.token q1.0 (z.fits plain d (omega arith)) spells.done)))),
+                    ),
                     (
                       tt,
-                      λ q w. tt,
+                      λ q w. (λ v h. more0 us top way late (v (λ all f r h e t j z. spells.token (f.words _ _ q) w z) h) (λ all f t e j le s shown. (_, _, s, show.anywhere shown)), λ t e j _ _ _. tt),
                       (
-                        λ v h. mores us top way late (v _) (word.Semicolon ∷ []) (λ all f t e j le s q1 shown. (
-                          _,
-                          _,
-                          spells.of_alternative grammar.expression_statement refl (spells.optional_some s (spells.token q1.0 (late plain j d le) spells.done)),
-                          seen (first shown none),
-                        )),
-                        λ t e j _ _ x. (
-                          tt,
-                          λ q w. tt,
-                          λ z h. puts us top way late z word.Semicolon [] (λ all f q1 le. (_, _, spells.of_alternative grammar.expression_statement refl (spells.optional_some (weaken f (x _)) (spells.token q1.0 (z.fits plain d (omega arith)) spells.done)))),
-                        ),
+                        tt,
+                        λ q w. tt,
+                        owes_named l d c i,
                       ),
                     ),
                   ),
@@ -664,7 +774,7 @@ module _ (us : List Lexeme) (top : Limit) (way : Way) (late : (g : Manner) (i d 
               _,
               _,
               case_of (f.words _ _ q) w (λ h. weaken f (x h)) (f.words _ _ q') w' (λ h. unheard refl s h) h,
-              within (λ p r. case_stands l p r) (right_in t (left_in shown none)),
+              within (λ p r. label_stands l p r) (right_in t (left_in shown none)),
             )),
             λ u e' j' _ _ _. tt,
           ),
@@ -684,7 +794,7 @@ module _ (us : List Lexeme) (top : Limit) (way : Way) (late : (g : Manner) (i d 
               _,
               _,
               default_of (f.words _ _ q) w (f.words _ _ q') w' (λ h. unheard refl s h) h,
-              within (λ p r. default_stands l p r) (left_in shown none),
+              within (λ p r. label_stands l p r) (left_in shown none),
             )),
             λ u e' j' _ _ _. tt,
           ),

@@ -15,10 +15,12 @@ use Rattle.cr_syntax.specs.Grammar as grammar
 use Rattle.cr_syntax.specs.Spells.{Limit, Is, Stands, Spells, a, rest}
 use Rattle.cr_syntax.specs.Spells as spells
 use Rattle.cr_syntax.specs.Units.{unit_side}
-use Rattle.cr_machine.specs.Machine.{Goal, Prog, Labels, named, around, innermost_of, unit, externals, external, declaration, init_declarators, initialized, initializer, initializers, statement, block, if_rest, switch_rest, while_rest, do_rest, for_rest, return_rest, for_clauses, clause, compound, items, item}
-use Rattle.cr_machine.specs.MachineBody.{body, declared_on, defined, unlabelled}
+use Rattle.cr_machine.specs.Machine.{Goal, Prog, Labels, named, around, innermost_of, stop, unit, externals, external, declaration, init_declarators, initialized, initializer, initializers, statement, block, if_rest, switch_rest, while_rest, do_rest, for_rest, return_rest, for_clauses, clause, compound, items, item}
+use Rattle.cr_machine.specs.MachineBody.{body, declared_on, defined, unlabelled, marked, declaration_rest, expression_rest, is_identifier, is_type_name}
 use Rattle.cr_machine.proofs.MachineSpells.{and_none, and_and, pushed, is_one, name_brought}
+use Rattle.cr_machine.proofs.MachineNames.{OneName, one_name, label_spelled}
 use Rattle.cr_machine.proofs.MachineGives.{Gives}
+use Rattle.std.proofs.lemmas.Bool.{or_left, or_right}
 use Rattle.cr_machine.proofs.MachineKept.{Kept}
 use Rattle.cr_machine.proofs.MachineMeans.{Means, Reads, IsDeclared, with_name, without, IsClause, no_clause, one_clause, IsOpen, open_of}
 
@@ -142,6 +144,16 @@ module _ (us : List Lexeme) (top : Limit) where
 
   -- Statements.
 
+  -- behind a name from token i on, which is a label where a colon follows it
+  marked_means : (l : Labels) (d i : ℕ) (p : Prog) (f : Trees → Scopes → ℕ → Type 0) (c e : Scopes) (j : ℕ) → OneName us top c e d i j → ((u : Trees) (e' : Scopes) (k : ℕ) → Reads us top part.Statement d c i u e' k → f u e' k) →
+      Owned p f e j → Owned (marked l d i p) f e j
+  marked_means l d i p f c e j n g x = ((λ _. (λ q w u e' k _ _ y. g _ e' k (λ h. label_spelled n q w y h), tt), λ _. tt), x)
+
+  -- behind the specifiers of a declaration
+  rest_means : (d i : ℕ) (t : Trees) (f : Trees → Scopes → ℕ → Type 0) {c e : Scopes} {j : ℕ} → Spells us top (a part.Specifiers) fresh c e d t i j →
+      ((u : Trees) (e' : Scopes) (k : ℕ) → Reads us top part.Declaration d c i u e' k → f u e' k) → Owned (declaration_rest d i t) f e j
+  rest_means d i t f {j = j} x g = (λ q w. g _ _ (j + 1) (λ h. bare_declaration x q w h), λ u e' k _ _ m. g u e' k (λ h. declaration_of x m h))
+
   pub gives_statement : (l : Labels) (d : ℕ) (c : Scopes) (i : ℕ) → Given (statement l d) c i
   gives_statement l d c i = (
     λ _. (
@@ -151,6 +163,9 @@ module _ (us : List Lexeme) (top : Limit) where
     λ _. others,
   )
     where
+      whole : {e : Scopes} {j : ℕ} {t : Trees} → Reads us top part.Expression d c i t e j → Is us j word.Semicolon → Stands top j d → Reads us top part.Statement d c i (one kind.ExpressionStatement i (j + 1) (t & none)) e (j + 1)
+      whole x q w h = spells.of_alternative grammar.expression_statement refl (spells.optional_some (x _) (spells.token q w spells.done))
+
       others : Owned (unlabelled l d i) (Means us top (statement l d) c i) c i
       others = (
         λ t e j _ _ x h. spells.of_chain grammar.statement_compound refl (x _),
@@ -165,14 +180,23 @@ module _ (us : List Lexeme) (top : Limit) where
                 (
                   λ q w t e j _ _ x. x (λ c0 r h f u k z. spells.token q w z),
                   (
-                    λ q w. (λ q' w' h. spells.of_alternative grammar.break_statement refl (spells.token q w (spells.token q' w' spells.done)), tt),
+                    λ q w. (λ q' w'. (λ q'' w'' h. spells.of_alternative grammar.goto_statement refl (spells.token q w (spells.token q' w' (spells.token q'' w'' spells.done))), tt), tt),
                     (
-                      λ q w. (λ q' w' h. spells.of_alternative grammar.continue_statement refl (spells.token q w (spells.token q' w' spells.done)), tt),
+                      λ q w. (λ q' w' h. spells.of_alternative grammar.break_statement refl (spells.token q w (spells.token q' w' spells.done)), tt),
                       (
-                        λ q w t e j _ _ x. x (λ r h f u k z. spells.token q w z),
+                        λ q w. (λ q' w' h. spells.of_alternative grammar.continue_statement refl (spells.token q w (spells.token q' w' spells.done)), tt),
                         (
-                          λ q w h. spells.of_alternative grammar.expression_statement refl (spells.optional_none (spells.token q w spells.done)),
-                          λ t e j _ _ x. (λ q w h. spells.of_alternative grammar.expression_statement refl (spells.optional_some (x _) (spells.token q w spells.done)), tt),
+                          λ q w t e j _ _ x. x (λ r h f u k z. spells.token q w z),
+                          (
+                            λ q w h. spells.of_alternative grammar.expression_statement refl (spells.optional_none (spells.token q w spells.done)),
+                            (
+                              λ q w. marked_means l d i (stop d) (Means us top (statement l d) c i) c c (i + 1) (record { is = q.0.0; stands = w; end = refl; same = refl }) (λ u f k s. s) tt,
+                              λ t e j _ _ x. (
+                                λ y. marked_means l d i (expression_rest d i t) (Means us top (statement l d) c i) c e j (one_name (x fresh) (or_left (is_identifier t) (is_type_name t) y)) (λ u f k s. s) (whole x, tt),
+                                λ y. (whole x, tt),
+                              ),
+                            ),
+                          ),
                         ),
                       ),
                     ),
@@ -309,4 +333,13 @@ module _ (us : List Lexeme) (top : Limit) where
   )
 
   pub gives_item : (l : Labels) (d : ℕ) (c : Scopes) (i : ℕ) → Given (item l d) c i
-  gives_item l d c i = (λ t e j _ _ x h. spells.of_chain grammar.item_declaration refl (x _), λ t e j _ _ x h. spells.of_chain grammar.item_statement refl (x _))
+  gives_item l d c i = (
+    λ t e j _ _ x. (
+      λ y. marked_means l d i (declaration_rest d i t) (Means us top (item l d) c i) c e j (one_name x (or_right (is_identifier t) (is_type_name t) y)) (λ u e' k s h. spells.of_chain grammar.item_statement refl (s _)) (declared x),
+      λ y. declared x,
+    ),
+    λ t e j _ _ x h. spells.of_chain grammar.item_statement refl (x _),
+  )
+    where
+      declared : {e : Scopes} {j : ℕ} {t : Trees} → Spells us top (a part.Specifiers) fresh c e d t i j → Owned (declaration_rest d i t) (Means us top (item l d) c i) e j
+      declared {t = t} x = rest_means d i t (Means us top (item l d) c i) x (λ u e' k s h. spells.of_chain grammar.item_declaration refl (s _))

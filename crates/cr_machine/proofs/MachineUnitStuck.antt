@@ -61,7 +61,7 @@ module _ (ts us : List Lexeme) (limit top : Limit) (k m : ℕ) (alike : (n : ℕ
   Stands w = (x : Test) (n d : ℕ) → w ≡ barring x n d → Stand us k n
 
   no_unit : {w : Way} {t : Trees} → 0 < m → Ends body ts limit (body (unit anywhere 0)) file_scope 0 w k → is_crowded w ≡ false → m ≤ levels_by w → Stands w → IsUnit top us t → ⊥
-  no_unit lt z cr le st y = stuck ts us limit top k 1 m (omega arith) alike block 0 0 false z (unit_is_read anywhere y refl refl) refl (steady ts 1 (unit anywhere 0) file_scope 0 0 (omega arith, omega arith)) cr le st (λ q. none_true q)
+  no_unit lt z cr le st y = stuck ts us limit top k 1 m (omega arith) alike block 0 0 false z (unit_is_read y) refl (steady ts 1 (unit anywhere 0) file_scope 0 0 (omega arith, omega arith)) cr le st (λ q. none_true q)
 
 -- at the levels where it stopped or with more none leaves room
 pub no_room_in_unit : {ts : List Lexeme} {limit : Limit} (most : ℕ) {d k : ℕ} → 0 < most → k ≤ length ts → most ≤ d → Ends body ts limit (body (unit anywhere 0)) file_scope 0 (stopped d) k → Begins (Leaving k most) ts k → ⊥
@@ -114,7 +114,7 @@ module _ {us : List Lexeme} {limit top : Limit}
   relimit l b o {c = c} {i = i} (run_call {g = g} h k) y = run_call (relimit (levels_out g) (levels_in g) false h (steady us 1 g c i b y.0)) (relimit l _ _ k (y.1 _ _ _ (knows g c _ i _ _ h)))
 
   pub relimit_unit : {t : Trees} → IsUnit limit us t → IsUnit top us t
-  relimit_unit y = read_is_unit anywhere (relimit 0 0 false (unit_is_read anywhere y refl refl) (steady us 1 (unit anywhere 0) file_scope 0 0 (omega arith, omega arith)))
+  relimit_unit y = read_is_unit anywhere (relimit 0 0 false (unit_is_read y) (steady us 1 (unit anywhere 0) file_scope 0 0 (omega arith, omega arith)))
 
 -- A token that opens a level is no label of a switch.
 

@@ -11,14 +11,14 @@ use Rattle.cr_syntax.specs.Scopes.{Scopes}
 use Rattle.cr_syntax.specs.Trees.{Trees}
 use Rattle.cr_syntax.specs.Context.{fresh}
 use Rattle.cr_syntax.specs.Spells.{Limit, AtMost, Upto, Leaving, Is, Spells, rest}
-use Rattle.cr_syntax.specs.Units.{unit_side, file_scope, IsUnit, Completes, Begins, most_levels, with_word, StandsIn, begins_statement, elsewhere, Has, misplaced_at, variadic_definition, Outside}
+use Rattle.cr_syntax.specs.Units.{unit_side, file_scope, IsUnit, Completes, Begins, most_levels, with_word, StandsIn, begins_statement, elsewhere, Has, is_misplaced, is_stray, wrong_at, variadic_definition, Outside}
 use Rattle.cr_syntax.specs.Units as units
 use Rattle.cr_machine.specs.Machine.{Labels, Test, Manner, has, Allows, passes, unit}
 use Rattle.cr_machine.specs.MachineBody.{body, is_designator, label_start}
-use Rattle.cr_syntax.proofs.Tests.{is_of}
+use Rattle.cr_syntax.proofs.Tests.{is_of, some_one}
 use Rattle.cr_machine.proofs.MachineComplete.{allows_upto, get_some}
-use Rattle.cr_machine.proofs.MachineEnds.{Way, stopped, barring, crowded, defining, Ends}
-use Rattle.cr_machine.proofs.MachineShown.{Next, next_definition, ShownIn, seen, shown_literal, shown_call, shown_field, shown_designator, shown_label, shown_block, shown_body, shown_definition, every, by_stop, by_level}
+use Rattle.cr_machine.proofs.MachineEnds.{Way, stopped, barring, crowded, naming, Ends}
+use Rattle.cr_machine.proofs.MachineShown.{Next, next_definition, next_stray, ShownIn, seen, shown_literal, shown_call, shown_field, shown_designator, shown_label, shown_block, shown_body, shown_definition, shown_stray, every, by_stop, by_level}
 use Rattle.cr_machine.proofs.MachineGrows.{GrownIn}
 use Rattle.cr_machine.proofs.MachineViable.{prefix, prefix_length, upto_behind, upto_fits, leaving_fits, leaving_before, tested, stands_next, is_labels, no_labels, bars_other, bars_label, at_label, grows, further, further_last, further_length, further_grows, alike, alike_with, upto_late, leaving_late, behind_late, barred_inside}
 use Rattle.cr_machine.proofs.MachineFirst.{some_word_of}
@@ -142,58 +142,71 @@ module _ (ts : List Lexeme) (most k : ℕ) (le : k ≤ length ts) (l : Labels) w
       ) (λ g i d lt w. allows_upto k most g i d w) fresh in
       record { trees = g.built.0; completes = completes ts most (k + 1) (omega arith) (Upto k most) crowded (λ g i d far. behind_late ts most k le k (omega arith) g i d far lt) g }
 
-  -- Where a function with `...` is defined: the refused token is the brace.
+  -- Where token k shows that one before it is what a row names.
 
-  definition_grown : (n j : ℕ) → j ≤ k → EndsBy (defining n) → k < length ts → GrownIn (prefix (k + 1) ts) (Upto j most) (defining n) every (rest unit_side) fresh file_scope 0 0
-  definition_grown n j y h lt = grows ts most (k + 1) (omega arith) (Upto j most) (defining n) (λ g i d far. behind_late ts most k le j y g i d far lt) (unit l 0) file_scope 0 k h (omega arith)
+  earlier_grown : (n r j : ℕ) → j ≤ k → EndsBy (naming n r) → k < length ts → GrownIn (prefix (k + 1) ts) (Upto j most) (naming n r) every (rest unit_side) fresh file_scope 0 0
+  earlier_grown n r j y h lt = grows ts most (k + 1) (omega arith) (Upto j most) (naming n r) (λ g i d far. behind_late ts most k le j y g i d far lt) (unit l 0) file_scope 0 k h (omega arith)
       (record { here = prefix_length (k + 1) ts (omega arith); fits = λ g i d r. upto_behind j most g i d (omega arith); so = refl }) (λ g i d lt w. allows_upto j most g i d w) fresh
 
-  pub defining_inside : (n : ℕ) → EndsBy (defining n) → k < length ts
-  defining_inside n h = elim (eq-or-lt_of_le {n = k} {m = length ts} le) [ inl e ↦ absurd (at_end e h) | inr lt ↦ lt ]
+  pub earlier_inside : (n r : ℕ) → EndsBy (naming n r) → k < length ts
+  earlier_inside n r h = elim (eq-or-lt_of_le {n = k} {m = length ts} le) [ inl e ↦ absurd (at_end e h) | inr lt ↦ lt ]
     where
-      two_words : (all : List Lexeme) (i j : ℕ) → i ≡ j → Is all i word.LeftBrace → Is all j word.Semicolon → ⊥
-      two_words all i j e q r = let s : Is all j word.LeftBrace = subst (λ i. Is all i word.LeftBrace) e q in let t : Some word.LeftBrace ≡ Some word.Semicolon = sym s ∙ r in cc
+      two_words : {w : Word} (all : List Lexeme) (i j : ℕ) → i ≡ j → (w ≡ word.Semicolon → ⊥) → Is all i w → Is all j word.Semicolon → ⊥
+      two_words {w = w} all i j e f q r = f (some_one (sym (subst (λ i. Is all i w) e q) ∙ r))
 
-      no_brace : (all : List Lexeme) → Next all (length (further ts)) (defining n) → Is all (length ts) word.Semicolon → ⊥
-      no_brace all (next_definition m e q) r = let f = further_length ts in two_words all m (length ts) (omega arith) q r
+      none_next : {n r : ℕ} (all : List Lexeme) → Next all (length (further ts)) (naming n r) → Is all (length ts) word.Semicolon → ⊥
+      none_next all (next_definition m e q) r = let f = further_length ts in two_words all m (length ts) (omega arith) (λ z. cc) q r
+      none_next all (next_stray {n = m} e q q') r = let f = further_length ts in two_words all (m + 1) (length ts) (omega arith) (λ z. cc) q' r
 
-      at_end : {k : ℕ} → k ≡ length ts → Ends body ts (AtMost most) (body (unit l 0)) file_scope 0 (defining n) k → ⊥
+      at_end : {k : ℕ} → k ≡ length ts → Ends body ts (AtMost most) (body (unit l 0)) file_scope 0 (naming n r) k → ⊥
       at_end e h =
-          let h' = subst (λ j. Ends body ts (AtMost most) (body (unit l 0)) file_scope 0 (defining n) j) e h in
-          let g = further_grows ts most n (unit l 0) file_scope 0 h' fresh in
-          no_brace g.all g.next (g.front.words (length ts) word.Semicolon (further_last ts))
+          let h' = subst (λ j. Ends body ts (AtMost most) (body (unit l 0)) file_scope 0 (naming n r) j) e h in
+          let g = further_grows ts most n r (unit l 0) file_scope 0 h' fresh in
+          none_next g.all g.next (g.front.words (length ts) word.Semicolon (further_last ts))
 
-  -- the `...` is before it, a unit goes on behind the brace, and in it the function is defined
-  pub definition_completes : (n : ℕ) → EndsBy (defining n) → (n < k) × Is ts k word.LeftBrace × (t : Trees) × Completes (Upto k most) ts (k + 1) t × Has (variadic_definition n k) t
-  definition_completes n h =
-      let lt = defining_inside n h in
-      let g = definition_grown n k (omega arith) h lt in
+  -- The `...` of a function is before token k, its brace, and a unit goes on behind it in which the function is defined; or
+  -- an identifier is right before token k, its colon, and a unit goes on in which it is a label that may not stand there.
+  pub data Sighted (n : ℕ) : ℕ → Type 0 where
+    of_definition : {t : Trees} → n < k → Is ts k word.LeftBrace → Completes (Upto k most) ts (k + 1) t → Has (variadic_definition n k) t → Sighted n 8
+    of_stray : {t : Trees} → n + 1 ≡ k → Is ts n word.Identifier → Is ts k word.Colon → Completes (Upto k most) ts (k + 1) t → wrong_at is_stray n elsewhere t ≡ true → Sighted n 9
+
+  pub earlier_sighted : (n r : ℕ) → EndsBy (naming n r) → Sighted n r
+  earlier_sighted n r h =
+      let lt = earlier_inside n r h in
+      let g = earlier_grown n r k (omega arith) h lt in
       let e = prefix_length (k + 1) ts (omega arith) in
-      by g.all (alike ts most (k + 1) (omega arith) (Upto k most) (defining n) (λ g i d far. behind_late ts most k le k (omega arith) g i d far lt) g.all g.front) lt
-      (completes ts most (k + 1) (omega arith) (Upto k most) (defining n) (λ g i d far. behind_late ts most k le k (omega arith) g i d far lt) g)
-      (subst (λ j. Next g.all j (defining n)) (sym e) g.next) (subst (λ j. ShownIn every j g.built.0 (defining n)) (sym e) g.built.3)
+      by g.all (alike ts most (k + 1) (omega arith) (Upto k most) (naming n r) (λ g i d far. behind_late ts most k le k (omega arith) g i d far lt) g.all g.front) lt
+      (completes ts most (k + 1) (omega arith) (Upto k most) (naming n r) (λ g i d far. behind_late ts most k le k (omega arith) g i d far lt) g)
+      (subst (λ j. Next g.all j (naming n r)) (sym e) g.next) (subst (λ j. ShownIn every j g.built.0 (naming n r)) (sym e) g.built.3)
     where
-      by : {t : Trees} (all : List Lexeme) → ((i : ℕ) (x : Lexeme) → i < k + 1 → slice_get ts i ≡ Some x → slice_get all i ≡ Some x) → k < length ts → Completes (Upto k most) ts (k + 1) t → Next all (k + 1) (defining n) →
-          ShownIn every (k + 1) t (defining n) → (n < k) × Is ts k word.LeftBrace × (t : Trees) × Completes (Upto k most) ts (k + 1) t × Has (variadic_definition n k) t
+      by : {r : ℕ} {t : Trees} (all : List Lexeme) → ((i : ℕ) (x : Lexeme) → i < k + 1 → slice_get ts i ≡ Some x → slice_get all i ≡ Some x) → k < length ts → Completes (Upto k most) ts (k + 1) t → Next all (k + 1) (naming n r) →
+          ShownIn every (k + 1) t (naming n r) → Sighted n r
       by all al lt c x (seen y) = elim y [ ]
       by {t = t} all al lt c (next_definition m e q) (shown_definition m' e' lt' y) =
           let i : m ≡ k = omega arith in
           let i' : m' ≡ k = omega arith in
-          (omega arith, word_back ts all k word.LeftBrace al lt (subst (λ j. Is all j word.LeftBrace) i q), t, c, subst (λ j. Has (variadic_definition n j) t) i' y)
+          of_definition (omega arith) (word_back ts all k word.LeftBrace (λ i x lt q. al i x (omega arith) q) lt (subst (λ j. Is all j word.LeftBrace) i q)) c (subst (λ j. Has (variadic_definition n j) t) i' y)
+      by all al lt c (next_stray e q q') (shown_stray y) =
+          let i : n + 1 ≡ k = omega arith in
+          of_stray i (word_back ts all n word.Identifier (λ i x lt' q. al i x (omega arith) q) (omega arith) q) (word_back ts all k word.Colon al lt (subst (λ j. Is all j word.Colon) i q')) c (y elsewhere refl)
 
 module _ (ts : List Lexeme) (k : ℕ) (le : k ≤ length ts) (l : Labels) where
   abbrev EndsSo : Way → Type 0
   EndsSo w = Ends body ts (AtMost most_levels) (body (unit l 0)) file_scope 0 w k
 
-  -- the `...` of a definition is what the row names
-  pub definition_outside : (n : ℕ) → EndsSo (defining n) → Outside ts n 8
-  definition_outside n h = let d = definition_completes ts most_levels k le l n h in units.variadic_function k d.0 d.1 d.3 d.4
+  -- the token before is what the row names
+  pub earlier_outside : (n r : ℕ) → EndsSo (naming n r) → Outside ts n r
+  earlier_outside n r h = by (earlier_sighted ts most_levels k le l n r h)
+    where
+      by : {r : ℕ} → Sighted ts most_levels k le l n r → Outside ts n r
+      by (of_definition lt q c y) = units.variadic_function k lt q c y
+      by (of_stray {t = t} e q q' c y) = units.stray_label q (subst (λ j. Is ts j word.Colon) (sym e) q') (subst (λ j. Completes (Upto j most_levels) ts (j + 1) t) (sym e) c) y
 
   deep : {f : Word → Bool} {n m : ℕ} {t : Trees} → is_labels (has f) n ≡ true → k < length ts → ShownIn every (k + 1) t (barring (has f) n m) → Completes (Upto k most_levels) ts (k + 1) t → Outside ts k n
   deep o lt (seen y) c = elim y [ ]
   deep o lt (shown_designator y) c = cc
   deep o lt (shown_body s y) c = cc
-  deep {t = t} o lt (shown_label n e y) c = let i : n ≡ k = omega arith in units.deep_label lt c (subst (λ j. misplaced_at j elsewhere t ≡ true) i (y elsewhere refl))
+  deep {t = t} o lt (shown_label n e y) c = let i : n ≡ k = omega arith in units.deep_label lt c (subst (λ j. wrong_at is_misplaced j elsewhere t ≡ true) i (y elsewhere refl))
 
   named : {x : Test} {n m : ℕ} {t : Trees} → is_labels x n ≡ false → (e : Scopes) × (passes ts e k x ≡ true) → ShownIn every k t (barring x n m) → Completes (Upto k most_levels) ts k t → Outside ts k n
   named {t = t} o q (seen (shown_literal y)) c = units.compound_literal (is_of ts k word.LeftBrace q.1) (record { trees = t; completes = c; has = y })

@@ -25,7 +25,7 @@ use Rattle.cr_machine.proofs.MachineKept.{Kept, runs_kept}
 use Rattle.cr_machine.proofs.MachineMeans.{Means, start_part}
 use Rattle.cr_machine.proofs.MachineSound.{each}
 use Rattle.cr_machine.proofs.MachineComplete.{allows_upto}
-use Rattle.cr_machine.proofs.MachineEnds.{Way, stopped, barring, crowded, defining, Ends, end_stop, end_refuse, end_take, end_crowded, end_pass, end_bar, end_free, end_seen, end_unseen, end_yes, end_no, end_here, end_look, end_set, end_bring, end_behind, end_inside, ends_so}
+use Rattle.cr_machine.proofs.MachineEnds.{Way, stopped, barring, crowded, naming, Ends, end_stop, end_refuse, end_take, end_crowded, end_pass, end_bar, end_free, end_seen, end_unseen, end_yes, end_no, end_here, end_look, end_set, end_bring, end_behind, end_inside, ends_so}
 use Rattle.cr_machine.proofs.MachineExtend.{Front}
 use Rattle.cr_machine.proofs.MachineRuns.{passes_same, word_in}
 use Rattle.cr_machine.proofs.MachineShown.{Next, next_designator, next_literal, next_call, next_body, Shown, shown_literal, shown_call, shown_field, by_stop, by_level, Barred, Labelled}
@@ -99,7 +99,7 @@ abbrev pub Tested : List Lexeme → ℕ → Way → Type 0
 Tested ts k (stopped d) = Unit {0}
 Tested ts k (barring x n d) = (e : Scopes) × (passes ts e k x ≡ true)
 Tested ts k crowded = (x : Test) × (e : Scopes) × (passes ts e k x ≡ true)
-Tested ts k (defining n) = Unit {0}
+Tested ts k (naming n r) = Unit {0}
 
 pub tested : {ts : List Lexeme} {limit : Limit} {p : Prog} {c : Scopes} {i k : ℕ} {w : Way} → Ends body ts limit p c i w k → Tested ts k w
 tested end_stop = tt
@@ -183,15 +183,15 @@ pub further_length : (ts : List Lexeme) → length ts + 1 ≡ length (further ts
 further_length [] = refl
 further_length (x ∷ ts) = let n = further_length ts in omega arith
 
--- The end refused by a definition with `...`: then any token might stand there.
-module _ (ts : List Lexeme) (most : ℕ) (n : ℕ) where
+-- The end where a token before is refused: then any token might stand there.
+module _ (ts : List Lexeme) (most n r : ℕ) where
   pub further_late : (g : Manner) (i d : ℕ) → length (further ts) < i → Allows (Upto (length ts) most) g i d
   further_late g i d far = let e = further_length ts in upto_behind (length ts) most g i d (omega arith)
 
-  pub further_grows : (g : Goal) (c : Scopes) (i : ℕ) → Ends body ts (AtMost most) (body g) c i (defining n) (length ts) → Via (further ts) (Upto (length ts) most) (defining n) further_late g c i
+  pub further_grows : (g : Goal) (c : Scopes) (i : ℕ) → Ends body ts (AtMost most) (body g) c i (naming n r) (length ts) → Via (further ts) (Upto (length ts) most) (naming n r) further_late g c i
   further_grows g c i h =
       let e = further_length ts in
-      grows_in ts most (further ts) (Upto (length ts) most) (defining n) further_late g c i (length ts) h (omega arith) (λ i lt. further_get ts i lt)
+      grows_in ts most (further ts) (Upto (length ts) most) (naming n r) further_late g c i (length ts) h (omega arith) (λ i lt. further_get ts i lt)
       (λ c i x lt v. passes_same ts (further ts) i (further_get ts i (passes_inside ts c i x v)) c x ∙ v)
       (record { here = e; fits = λ g j d le. upto_behind (length ts) most g j d le; so = refl }) (λ g i d lt w. allows_upto (length ts) most g i d w)
 
@@ -394,25 +394,25 @@ module _ (ts : List Lexeme) (k : ℕ) (le : k ≤ length ts) (s : Start) (z : Is
       by (has f) true o h = let g = label_grown ts most_levels k le s z f n m o h (barred_inside h) in no_label g.built.3
       by _ true o h = cc
 
--- No goal but an external definition is refused for a token before.
-no_definition : {ts : List Lexeme} {limit : Limit} (l b : ℕ) (o : Bool) {p : Prog} {c : Scopes} {i k m : ℕ} → Ends body ts limit p c i (defining m) k → Goes ts 0 p l b o c i → ⊥
-no_definition l b o end_refuse y = omega arith
-no_definition l b o (end_take x w z) y = no_definition l _ _ z y.2
-no_definition l b o (end_pass x z) y = no_definition l _ _ z y.3
-no_definition l b o (end_free x z) y = no_definition l _ _ z y.2
-no_definition l b o (end_seen x z) y = no_definition l _ _ z y.2
-no_definition l b o (end_unseen x z) y = no_definition l _ _ z y.3
-no_definition l b o (end_yes x z) y = no_definition l _ _ z (y.0 x)
-no_definition l b o (end_no x z) y = no_definition l _ _ z (y.1 x)
-no_definition l b o (end_here z) y = no_definition l _ _ z y
-no_definition l b o (end_look z) y = no_definition l _ _ z y
-no_definition l b o (end_set z) y = no_definition l _ _ z y
-no_definition l b o (end_bring z) y = no_definition l _ _ z y
-no_definition l b o {c = c} {i = i} (end_behind {g = g} h z) y = no_definition l _ _ z (y.1 _ _ _ (knows g c _ i _ _ h))
-no_definition {ts = ts} l b o {c = c} {i = i} (end_inside {g = g} z) y = no_definition (levels_out g) (levels_in g) false z (steady ts 0 g c i b y.0)
+-- The bare grammar's machine refuses no token before the one that it comes to.
+names_none_earlier : {ts : List Lexeme} {limit : Limit} (l b : ℕ) (o : Bool) {p : Prog} {c : Scopes} {i k m r : ℕ} → Ends body ts limit p c i (naming m r) k → Goes ts 0 p l b o c i → ⊥
+names_none_earlier l b o end_refuse y = absurd y
+names_none_earlier l b o (end_take x w z) y = names_none_earlier l _ _ z y.2
+names_none_earlier l b o (end_pass x z) y = names_none_earlier l _ _ z y.3
+names_none_earlier l b o (end_free x z) y = names_none_earlier l _ _ z y.2
+names_none_earlier l b o (end_seen x z) y = names_none_earlier l _ _ z y.2
+names_none_earlier l b o (end_unseen x z) y = names_none_earlier l _ _ z y.3
+names_none_earlier l b o (end_yes x z) y = names_none_earlier l _ _ z (y.0 x)
+names_none_earlier l b o (end_no x z) y = names_none_earlier l _ _ z (y.1 x)
+names_none_earlier l b o (end_here z) y = names_none_earlier l _ _ z y
+names_none_earlier l b o (end_look z) y = names_none_earlier l _ _ z y
+names_none_earlier l b o (end_set z) y = names_none_earlier l _ _ z y
+names_none_earlier l b o (end_bring z) y = names_none_earlier l _ _ z y
+names_none_earlier l b o {c = c} {i = i} (end_behind {g = g} h z) y = names_none_earlier l _ _ z (y.1 _ _ _ (knows g c _ i _ _ h))
+names_none_earlier {ts = ts} l b o {c = c} {i = i} (end_inside {g = g} z) y = names_none_earlier (levels_out g) (levels_in g) false z (steady ts 0 g c i b y.0)
 
-pub defines_none : {ts : List Lexeme} {limit : Limit} (p : Part) (d : ℕ) {c : Scopes} {i k m : ℕ} → Ends body ts limit (body (start_goal p d)) c i (defining m) k → ⊥
-defines_none {ts = ts} p d {c = c} {i = i} z = no_definition (levels_out (start_goal p d)) (levels_in (start_goal p d)) false z (steady ts 0 (start_goal p d) c i d (start_levels 0 p d).0)
+pub start_names_none : {ts : List Lexeme} {limit : Limit} (p : Part) (d : ℕ) {c : Scopes} {i k m r : ℕ} → Ends body ts limit (body (start_goal p d)) c i (naming m r) k → ⊥
+start_names_none {ts = ts} p d {c = c} {i = i} z = names_none_earlier (levels_out (start_goal p d)) (levels_in (start_goal p d)) false z (steady ts 0 (start_goal p d) c i d (start_levels 0 p d).0)
 
 -- whatever the cause
 pub begins_before : (ts : List Lexeme) (most k : ℕ) → k ≤ length ts → (s : Start) (x : Cause) → IsStart s.part → Runs body ts (AtMost most) (body (start_goal s.part s.depth)) s.scopes s.at (Failed x k) → BeginsFrom (Upto k most) ts s k
@@ -422,4 +422,4 @@ begins_before ts most k le s x z h = let y = ends_so h in by y.way y.ends
     by (stopped d) y = stopped_begins ts most k le s z d y
     by (barring t n d) y = barred_begins ts most k le s z t n d y
     by crowded y = begins_less (crowded_begins ts most k le s z y (crowded_inside y))
-    by (defining n) y = absurd (defines_none s.part s.depth y)
+    by (naming n r) y = absurd (start_names_none s.part s.depth y)

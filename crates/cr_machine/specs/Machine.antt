@@ -28,7 +28,7 @@ use Rattle.cr_syntax.specs.Scopes.{Scopes, is_type, enter}
 use Rattle.cr_syntax.specs.Trees.{Trees, one}
 use Rattle.cr_syntax.specs.Spells.{Limit, Within, Stands}
 use Rattle.cr_syntax.specs.Reads.{is_word}
-use Rattle.cr_syntax.specs.Units.{most_levels, is_unused, Refusal, Unexpected, Ended, TooDeep, OutsideSubset}
+use Rattle.cr_syntax.specs.Units.{most_levels, is_unused, is_opening, Refusal, Unexpected, Ended, TooDeep, OutsideSubset}
 
 -- Which declarators may come: one with a name, one without (C11 6.7.7), or either.
 pub data Wanted : Type 0 where
@@ -218,9 +218,13 @@ verdict ts i d = elim (word_at ts i) [
   | Some w ↦ if is_unused w then outside 1 else (if overflows w d then too_deep else unexpected)
 ]
 
+-- a word that opens a level and has no room for it, where d are open
+abbrev pub exceeds : Word → ℕ → Bool
+exceeds w d = is_opening w && not (nat_lt d most_levels)
+
 -- the cause at a token that a row of the refused forms names
 abbrev pub barred : List Lexeme → ℕ → ℕ → ℕ → Cause
-barred ts n i d = elim (word_at ts i) [ None ↦ ended | Some w ↦ if overflows w d then too_deep else outside n ]
+barred ts n i d = elim (word_at ts i) [ None ↦ ended | Some w ↦ if exceeds w d then too_deep else outside n ]
 
 -- the spelling of token k, one before token i
 abbrev pub name_before : List Lexeme → ℕ → ℕ → List ℕ

@@ -9,7 +9,7 @@ use Rattle.cr_syntax.specs.Scopes.{Scopes}
 use Rattle.cr_syntax.specs.Trees.{Trees}
 use Rattle.cr_syntax.specs.Context.{fresh}
 use Rattle.cr_syntax.specs.Spells.{Limit, Free, AtMost, Upto, Leaving, Is, Spells, a}
-use Rattle.cr_syntax.specs.Units.{most_levels, Has, cast_operand_at, postfix_before, member_before, is_unused, with_word, IsBracket, StandsIn, Refusal, Unexpected, Ended, TooDeep, OutsideSubset}
+use Rattle.cr_syntax.specs.Units.{most_levels, Has, cast_operand_at, postfix_before, member_before, is_unused, with_word, is_opening, IsBracket, StandsIn, Refusal, Unexpected, Ended, TooDeep, OutsideSubset}
 
 -- What is to be read: a part of the grammar, in these scopes, where so many levels are open, from token `at` on.
 pub record Start : Type 0 where
@@ -61,8 +61,8 @@ pub record OpensTooDeepFrom (ts : List Lexeme) (s : Start) (k : ℕ) : Type 0 wh
 pub data IsTooDeepFrom (ts : List Lexeme) (s : Start) (k : ℕ) : Type 0 where
   -- an opening token in its place
   expected : OpensTooDeepFrom ts s k → IsTooDeepFrom ts s k
-  -- the bracket of a refused form counts as the one that the grammar has in its place
-  refused : {w v : Word} {row : ℕ} → Is ts k w → IsBracket w → OutsideFrom ts s k row → StandsIn row v →
+  -- the token of a refused form that opens a level by itself counts as the bracket that the grammar has in its place
+  refused : {w v : Word} {row : ℕ} → Is ts k w → is_opening w ≡ true → OutsideFrom ts s k row → StandsIn row v →
       OpensTooDeepFrom (with_word ts k v) s k → IsTooDeepFrom ts s k
   -- another unexpected bracket opens a level where no text leaves room for one, and the text doesn't end before it
   unexpected : {w : Word} → Is ts k w → IsBracket w → (BeginsFrom Free ts s (k + 1) → ⊥) → ((row : ℕ) → OutsideFrom ts s k row → ⊥) →

@@ -243,6 +243,23 @@ pub data IsBracket : Word → Type 0 where
   bracket : IsBracket word.LeftBracket
   brace : IsBracket word.LeftBrace
 
+-- the words that open a level by themselves, where the grammar has them: brackets, `do`, and operators before an operand
+abbrev pub is_opening : Word → Bool
+is_opening word.LeftParen = true
+is_opening word.LeftBracket = true
+is_opening word.LeftBrace = true
+is_opening word.Do = true
+is_opening word.PlusPlus = true
+is_opening word.MinusMinus = true
+is_opening word.Ampersand = true
+is_opening word.Star = true
+is_opening word.Plus = true
+is_opening word.Minus = true
+is_opening word.Tilde = true
+is_opening word.Bang = true
+is_opening word.Sizeof = true
+is_opening _ = false
+
 -- the bracket that the grammar has in the place of a refused form's
 pub data StandsIn : ℕ → Word → Type 0 where
   list_for_designator : StandsIn 2 word.LeftBrace
@@ -259,8 +276,8 @@ pub record OpensTooDeep (ts : List Lexeme) (k : ℕ) : Type 0 where
 pub data IsTooDeep (ts : List Lexeme) (k : ℕ) : Type 0 where
   -- an opening token in its place
   expected : OpensTooDeep ts k → IsTooDeep ts k
-  -- the bracket of a refused form counts as the one that the grammar has in its place
-  refused : {w v : Word} {row : ℕ} → Is ts k w → IsBracket w → Outside ts k row → StandsIn row v → OpensTooDeep (with_word ts k v) k → IsTooDeep ts k
+  -- the token of a refused form that opens a level by itself counts as the bracket that the grammar has in its place
+  refused : {w v : Word} {row : ℕ} → Is ts k w → is_opening w ≡ true → Outside ts k row → StandsIn row v → OpensTooDeep (with_word ts k v) k → IsTooDeep ts k
   -- another unexpected bracket opens a level where no text leaves room for one
   unexpected : {w : Word} → Is ts k w → IsBracket w → BeginsWithin ts k → (Begins Free ts (k + 1) → ⊥) → ((row : ℕ) → Outside ts k row → ⊥) →
       (Begins (Leaving k most_levels) ts k → ⊥) → IsTooDeep ts k
