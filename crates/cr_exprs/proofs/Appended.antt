@@ -1,16 +1,17 @@
 -- Nodes that come to stand behind others: their trees stay, and so does what they keep.
-use Rattle.std.proofs.Common.{◌≡◌, ℕ, zero, suc, ◌+◌, ◌-◌, ◌<◌, ◌≤◌, ◌==◌, Bool, true, false, true≢false, List, [], ◌∷◌, ◌++◌, Some, length, map, get_or, slice_get, ◌⊎◌, inl, inr, refl, sym, ap, subst, ◌∙◌, arith, append_assoc, length-append}
-use Rattle.std.proofs.lemmas.List.{append-nil, get_or-append-add, length-map, get_or-map, map-append}
+use Rattle.std.proofs.Common.{◌≡◌, ℕ, zero, suc, ◌+◌, ◌-◌, ◌<◌, ◌≤◌, ◌==◌, Bool, true, false, cond, true≢false, List, [], ◌∷◌, ◌++◌, Some, length, map, take, drop, get_or, slice_get, ◌⊎◌, inl, inr, refl, sym, ap, subst, ◌∙◌, arith, append_assoc, length-append}
+use Rattle.std.proofs.lemmas.List.{append-nil, take-append-drop, get_or-append-add, length-map, get_or-map, map-append}
 use Rattle.std.proofs.lemmas.Grind.{flat_map-append}
 use Rattle.std.proofs.lemmas.Bool.{eq-eqb, eqb-true, cases_lt}
+use Rattle.std.specs.Prelude.{Result, Ok, Err, OnErr}
 use Rattle.cr_syntax.specs.declared.node.Node.{Node}
 use Rattle.cr_syntax.specs.Kept.{PartsAreBelow, AreBelow, AreWithin, NamedOnce, ItemsAreNodes}
 use Rattle.cr_syntax.specs.Trees.{Trees, none, one, row_of, tree_of, grown, trees_of}
 use Rattle.cr_exprs.specs.Behind.{numbers_behind, node_behind, nodes_behind}
 use Rattle.cr_exprs.specs.Loose.{AreKept}
-use Rattle.cr_exprs.specs.Answers.{IsPlaced, tree}
-use Rattle.cr_exprs.proofs.Nodes.{grown_length, get_front}
-use Rattle.cr_exprs.proofs.Loose.{names, times, times_append, times_other, times_out, names_below, differs, kept_none}
+use Rattle.cr_exprs.specs.Answers.{Keeps, IsPlaced, tree}
+use Rattle.cr_exprs.proofs.Nodes.{grown_length, get_front, below_front}
+use Rattle.cr_exprs.proofs.Loose.{names, times, times_append, times_other, times_out, names_below, differs, kept_none, before_same}
 
 -- trees
 
@@ -47,14 +48,17 @@ same_as p j b false q = differs (p + b) (j + b) ((p + b) == (j + b)) refl (λ e.
 
 times_behind : (b j : ℕ) (ps : List ℕ) → times (numbers_behind b ps) (j + b) ≡ times ps j
 times_behind b j [] = refl
-times_behind b j (p ∷ ps) = rw (same_as p j b (p == j) refl, times_behind b j ps) refl
+times_behind b j (p ∷ ps) =
+    let here : times ((p + b) ∷ []) (j + b) ≡ times (p ∷ []) j = ap (λ t. 0 + cond t 1 0) (same_as p j b (p == j) refl) in
+    let rest = times_behind b j ps in
+    omega (arith, here, rest, times_append ((p + b) ∷ []) (numbers_behind b ps) (j + b), times_append (p ∷ []) ps j)
 
 times_before : (b k : ℕ) (ps : List ℕ) → k < b → times (numbers_behind b ps) k ≡ 0
 times_before b k [] lt = refl
 times_before b k (p ∷ ps) lt =
     let here = times_other (p + b) k (λ q. omega arith) in
     let rest = times_before b k ps lt in
-    omega (arith, times_append (p + b ∷ []) (numbers_behind b ps) k, here, rest)
+    omega (arith, times_append ((p + b) ∷ []) (numbers_behind b ps) k, here, rest)
 
 names_behind : (b : ℕ) (ms : List Node) → names (nodes_behind b ms) ≡ numbers_behind b (names ms)
 names_behind b [] = refl
@@ -71,15 +75,15 @@ record IsBehind (ms : List Node) (b k : ℕ) (n : Node) : Type 0 where
 behind_one : (ms : List Node) (b k : ℕ) (n : Node) → slice_get (nodes_behind b ms) k ≡ Some n → IsBehind ms b (k + b) n
 behind_one [] b k n q = absurd cc
 behind_one (m ∷ ms) b zero n q = record { at = 0; before = m; place = refl; stands = refl; is = cc }
-behind_one (m ∷ ms) b (suc k) n q = let w = behind_one ms b k n q in record { at = suc w.at; before = w.before; place = ap suc w.place; stands = w.stands; is = w.is }
+behind_one (m ∷ ms) b (suc k) n q = let w = behind_one ms b k n q in record { at = suc w.at; before = w.before; place = omega (arith, w.place); stands = w.stands; is = w.is }
 
 -- a node of two lists is one of the first, or stands behind them
 node_of : (os ns : List Node) (k : ℕ) (n : Node) → slice_get (os ++ ns) k ≡ Some n → (slice_get os k ≡ Some n) ⊎ ((j : ℕ) × ((k ≡ j + length os) × (slice_get ns j ≡ Some n)))
-node_of [] ns k n q = inr (k, omega arith, q)
+node_of [] ns k n q = inr (k, (omega arith, q))
 node_of (o ∷ os) ns zero n q = inl q
 node_of (o ∷ os) ns (suc k) n q = elim (node_of os ns k n q) as (λ _. (slice_get (o ∷ os) (suc k) ≡ Some n) ⊎ ((j : ℕ) × ((suc k ≡ j + suc (length os)) × (slice_get ns j ≡ Some n)))) [
   | inl h ↦ inl h
-  | inr w ↦ inr (w.0, omega (arith, w.1.0), w.1.1)
+  | inr w ↦ inr (w.0, (omega (arith, w.1.0), w.1.1))
 ]
 
 one_of : (old more : List Node) (k : ℕ) (n : Node) → slice_get (old ++ nodes_behind (length old) more) k ≡ Some n → (slice_get old k ≡ Some n) ⊎ IsBehind more (length old) k n
@@ -106,15 +110,15 @@ within_behind tokens old more f g k n q = elim (one_of old more k n q) as (λ _.
 length_behind : (old more : List Node) → length (old ++ nodes_behind (length old) more) ≡ length old + length more
 length_behind old more = omega (arith, length-append old (nodes_behind (length old) more), length-map more (node_behind (length old)))
 
-once_behind : (old more : List Node) (x : ℕ) (loose : List ℕ) → PartsAreBelow old → NamedOnce old loose → ItemsAreNodes old loose → NamedOnce more (x ∷ []) → NamedOnce (old ++ nodes_behind (length old) more) (x + length old ∷ loose)
+once_behind : (old more : List Node) (x : ℕ) (loose : List ℕ) → PartsAreBelow old → NamedOnce old loose → ItemsAreNodes old loose → NamedOnce more (x ∷ []) → NamedOnce (old ++ nodes_behind (length old) more) ((x + length old) ∷ loose)
 once_behind old more x loose f once are own k lt =
     let b = length old in
     let all : names (old ++ nodes_behind b more) ≡ names old ++ numbers_behind b (names more) = flat_map-append (λ n. n.parts) old (nodes_behind b more) ∙ ap (λ y. names old ++ y) (names_behind b more) in
-    let sum = times_append (names (old ++ nodes_behind b more)) (x + b ∷ loose) k in
+    let sum = times_append (names (old ++ nodes_behind b more)) ((x + b) ∷ loose) k in
     let whole : times (names (old ++ nodes_behind b more)) k ≡ times (names old ++ numbers_behind b (names more)) k = ap (λ y. times y k) all in
     let parts = times_append (names old) (numbers_behind b (names more)) k in
-    let top = times_append (x + b ∷ []) loose k in
-    elim (cases_lt k b) as (λ _. times (names (old ++ nodes_behind b more) ++ x + b ∷ loose) k ≡ 1) [
+    let top = times_append ((x + b) ∷ []) loose k in
+    elim (cases_lt k b) as (λ _. times (names (old ++ nodes_behind b more) ++ (x + b) ∷ loose) k ≡ 1) [
       | inl l ↦
           let mine = once k l in
           let split = times_append (names old) loose k in
@@ -129,31 +133,62 @@ once_behind old more x loose f once are own k lt =
           let mine = own j (omega (arith, lt, length_behind old more)) in
           let split = times_append (names more) (x ∷ []) j in
           let moved : times (numbers_behind b (names more)) k ≡ times (names more) j = subst (λ y. times (numbers_behind b (names more)) y ≡ times (names more) j) (sym at) (times_behind b j (names more)) in
-          let last : times (x + b ∷ []) k ≡ times (x ∷ []) j = subst (λ y. times (x + b ∷ []) y ≡ times (x ∷ []) j) (sym at) (times_behind b j (x ∷ [])) in
+          let last : times ((x + b) ∷ []) k ≡ times (x ∷ []) j = subst (λ y. times ((x + b) ∷ []) y ≡ times (x ∷ []) j) (sym at) (times_behind b j (x ∷ [])) in
           omega arith
     ]
 
-items_behind : (old more : List Node) (x : ℕ) (loose : List ℕ) → ItemsAreNodes old loose → x < length more → ItemsAreNodes (old ++ nodes_behind (length old) more) (x + length old ∷ loose)
+items_behind : (old more : List Node) (x : ℕ) (loose : List ℕ) → ItemsAreNodes old loose → x < length more → ItemsAreNodes (old ++ nodes_behind (length old) more) ((x + length old) ∷ loose)
 items_behind old more x loose are lt zero l = omega (arith, length_behind old more)
 items_behind old more x loose are lt (suc i) l = let h = are i (omega arith) in omega (arith, h, length_behind old more)
 
-kept_behind_all : (tokens : ℕ) (old more : List Node) (x : ℕ) (loose : List ℕ) → PartsAreBelow old → AreKept tokens old loose → AreKept tokens more (x ∷ []) → AreKept tokens (old ++ nodes_behind (length old) more) (x + length old ∷ loose)
+kept_behind_all : (tokens : ℕ) (old more : List Node) (x : ℕ) (loose : List ℕ) → PartsAreBelow old → AreKept tokens old loose → AreKept tokens more (x ∷ []) → AreKept tokens (old ++ nodes_behind (length old) more) ((x + length old) ∷ loose)
 kept_behind_all tokens old more x loose f h g = record {
   within = within_behind tokens old more h.within g.within;
   named_once = once_behind old more x loose f h.named_once h.are_nodes g.named_once;
   are_nodes = items_behind old more x loose h.are_nodes (g.are_nodes 0 (omega arith));
 }
 
+placed_behind_all : (tokens at : ℕ) (old more : List Node) (x next : ℕ) → PartsAreBelow old → IsPlaced tokens at [] more [] (record { node = x; next = next }) →
+    IsPlaced tokens at old (old ++ nodes_behind (length old) more) [] (record { node = x + length old; next = next })
+placed_behind_all tokens at old more x next f h = record {
+  last = omega (arith, h.last, length_behind old more);
+  grows = omega (arith, h.grows, length_behind old more);
+  keeps = record { longer = omega (arith, length_behind old more); same = λ k lt. get_front old (nodes_behind (length old) more) k lt };
+  below = below_behind old more f h.below;
+  kept = λ loose k. kept_behind_all tokens old more x loose f k (h.kept [] (kept_none tokens));
+  from = h.from;
+  to = h.to;
+}
+
 -- what was read by itself and then put behind others was read behind them
-pub placed_so : (tokens at : ℕ) (old more new : List Node) (x y : ℕ) (next : ℕ) → new ≡ old ++ nodes_behind (length old) more → y ≡ x + length old → PartsAreBelow old → IsPlaced tokens at [] more [] (record { node = x; next = next }) → IsPlaced tokens at old new [] (record { node = y; next = next })
-placed_so tokens at old more new x y next q w f h =
-    let b = length old in
-    subst (λ z. IsPlaced tokens at old z [] (record { node = y; next = next })) (sym q) (subst (λ z. IsPlaced tokens at old (old ++ nodes_behind b more) [] (record { node = z; next = next })) (sym w) (record {
-      last = omega (arith, h.last, length_behind old more);
-      grows = omega (arith, h.grows, length_behind old more);
-      keeps = record { longer = omega (arith, length_behind old more); same = λ k lt. get_front old (nodes_behind b more) k lt };
-      below = below_behind old more f h.below;
-      kept = λ loose k. kept_behind_all tokens old more x loose f k (h.kept [] (kept_none tokens));
-      from = h.from;
-      to = h.to;
-    }))
+pub placed_so : (tokens at : ℕ) (old more new : List Node) (x b y next : ℕ) → new ≡ old ++ nodes_behind b more → b ≡ length old → y ≡ x + b → PartsAreBelow old → IsPlaced tokens at [] more [] (record { node = x; next = next }) → IsPlaced tokens at old new [] (record { node = y; next = next })
+placed_so tokens at old more new x b y next q l w f h =
+    subst (λ z. IsPlaced tokens at old z [] (record { node = y; next = next })) (sym (q ∙ ap (λ z. old ++ nodes_behind z more) l))
+    (subst (λ z. IsPlaced tokens at old (old ++ nodes_behind (length old) more) [] (record { node = z; next = next })) (sym (w ∙ ap (λ z. x + z) l)) (placed_behind_all tokens at old more x next f h))
+
+keeps_append : (a b : List Node) → Keeps a (a ++ b)
+keeps_append a b = record { longer = omega (arith, length-append a b); same = λ k lt. get_front a b k lt }
+
+keeps_taken : (i : ℕ) (ms : List Node) → Keeps (take i ms) ms
+keeps_taken i ms = subst (λ x. Keeps (take i ms) x) (take-append-drop i ms) (keeps_append (take i ms) (drop i ms))
+
+-- where only some of the nodes were appended
+pub keeps_some : (old all more : List Node) (b i : ℕ) → all ≡ old ++ nodes_behind b (take i more) → Keeps old all
+keeps_some old all more b i q = subst (λ x. Keeps old x) (sym q) (keeps_append old (nodes_behind b (take i more)))
+
+pub below_some : (old all more : List Node) (b i : ℕ) → b ≡ length old → all ≡ old ++ nodes_behind b (take i more) → PartsAreBelow old → PartsAreBelow more → PartsAreBelow all
+below_some old all more b i l q f g =
+    subst (λ x. PartsAreBelow x) (sym q) (subst (λ x. PartsAreBelow (old ++ nodes_behind x (take i more))) (sym l) (below_behind old (take i more) f (below_front (take i more) more (keeps_taken i more) g)))
+
+-- nodes that are kept and as many are the same
+pub same_again : (old new all : List Node) → Keeps old all → Keeps new all → length new ≡ length old → new ≡ old
+same_again old new all f g q = before_same new old all q g f
+
+-- the tree of a node that was read by itself is that of the node where it stands now
+pub tree_so : (old more new : List Node) (x b y : ℕ) → new ≡ old ++ nodes_behind b more → b ≡ length old → y ≡ x + b → tree new y ≡ tree more x
+tree_so old more new x b y q l w = rw (q, w, l) (same_tree_behind old more x)
+
+-- a fact at any error
+pub at_error : {A E P : Type 0} (r : Result A E) → P → OnErr r P
+at_error (Ok x) p = tt
+at_error (Err f) p = p

@@ -189,7 +189,7 @@ nodes_same (m ∷ a) (n ∷ b) q f =
     let rest : a ≡ b = nodes_same a b (omega arith) (λ k l. f (suc k) (omega arith)) in
     cc
 
-before_same : (a b all : List Node) → length a ≡ length b → Keeps a all → Keeps b all → a ≡ b
+pub before_same : (a b all : List Node) → length a ≡ length b → Keeps a all → Keeps b all → a ≡ b
 before_same a b all q f g = nodes_same a b q (λ k lt. sym (f.same k lt) ∙ g.same k (omega arith))
 
 -- Nodes that are pushed behind others, as parts of what was read.

@@ -15,7 +15,7 @@ use crate::source::{Source, words_of};
 use cr_rows::Row;
 use cr_syntax::Node;
 use cr_tokens::Tokens;
-use std::alloc::{AllocError, Global};
+use std::alloc::Global;
 
 /// Reads the longest run of tokens from `at` on that begins a text of the goal in these scopes, where so many levels are
 /// open, and appends its nodes. It gives the node and the token after it, or the first refusal in the run or directly
@@ -57,10 +57,6 @@ pub fn expression(
         &mut scopes,
         &mut own,
     )?;
-    let Ok(before) = u32::try_from(nodes.len()) else {
-        return Err(ParseFault::NoMemory);
-    };
-    let node = found.node.checked_add(before).ok_or(AllocError)?;
-    append(alloc, nodes, before, own.as_slice())?;
+    let node = append(alloc, nodes, own.as_slice(), found.node)?;
     Ok((node, found.next as u32))
 }

@@ -1,8 +1,8 @@
 ghost use Rattle.std.specs.Prelude.{◌≡◌, ℕ, ◌≤◌, ◌<◌, ◌^◌, IsTrue, IfOk, IfErr, OnOk, OnErr, true, false, length};
 ghost use Rattle.cr_syntax.specs.Words.{AreSpans, spelling_at, word_at};
 ghost use Rattle.cr_syntax.specs.Reads.{is_word, is_qualifier};
-ghost use Rattle.cr_syntax.specs.Units.{is_unused};
-ghost use Rattle.cr_machine.specs.Machine.{has_word, passes, has, or, ordinary, type_identifier, declared, verdict, barred, overflows, too_deep};
+ghost use Rattle.cr_syntax.specs.Units.{is_unused, is_opening};
+ghost use Rattle.cr_machine.specs.Machine.{has_word, passes, has, or, ordinary, type_identifier, declared, verdict, barred, overflows, exceeds, too_deep};
 ghost use Rattle.cr_machine.specs.MachineBody.{is_plain_start, is_specifier_start, is_abstract_start, is_declarator_start};
 ghost use Rattle.cr_exprs.specs.Source.{IsReadable, text_of, words_in};
 ghost use Rattle.cr_syntax.specs.Scopes.{Scopes};
@@ -207,6 +207,34 @@ fn overflows(word: Word, depth: usize) -> bool
     }
 }
 
+/// The same of a word that opens a level by itself, where the grammar has it.
+fn exceeds(word: Word, depth: usize) -> bool
+    ensures { result ≡ exceeds word depth }
+{
+    is_opening(word) && depth >= MOST_LEVELS
+}
+
+fn is_opening(word: Word) -> bool
+    ensures { result ≡ is_opening word }
+{
+    match word {
+        Word::LeftParen
+        | Word::LeftBracket
+        | Word::LeftBrace
+        | Word::Do
+        | Word::PlusPlus
+        | Word::MinusMinus
+        | Word::Ampersand
+        | Word::Star
+        | Word::Plus
+        | Word::Minus
+        | Word::Tilde
+        | Word::Bang
+        | Word::Sizeof => true,
+        _ => false,
+    }
+}
+
 /// The refusal of a token that nothing fits, where so many levels are open.
 pub fn refused(source: &Source, at: usize, depth: usize) -> ParseFault
     requires readable { IsReadable source.now }
@@ -234,7 +262,7 @@ pub fn barred(source: &Source, at: usize, row: u8, depth: usize) -> ParseFault
     let Some(word) = source.words.get(at) else {
         return ParseFault::Ended;
     };
-    if overflows(*word, depth) {
+    if exceeds(*word, depth) {
         return ParseFault::TooDeep(at as u32);
     }
     ParseFault::OutsideSubset(at as u32, row)
