@@ -1,8 +1,8 @@
 -- Statements that an identifier labels, and those that none does.
-use Rattle.std.proofs.Common.{◌≡◌, ℕ, ◌+◌, Bool, true, false, true≢false, ◌&&◌, List, refl, sym, ap, ◌∙◌}
+use Rattle.std.proofs.Common.{◌≡◌, ℕ, ◌+◌, Bool, true, false, true≢false, not, ◌&&◌, List, refl, sym, ap, ◌∙◌}
 use Rattle.cr_syntax.specs.declared.word.Word.TheVariants as word
-use Rattle.cr_syntax.specs.Words.{Lexeme}
-use Rattle.cr_syntax.specs.Scopes.{Scopes}
+use Rattle.cr_syntax.specs.Words.{Lexeme, spelling_at}
+use Rattle.cr_syntax.specs.Scopes.{Scopes, is_type}
 use Rattle.cr_syntax.specs.Trees.{Trees}
 use Rattle.cr_syntax.specs.Spells.{Is}
 use Rattle.cr_syntax.specs.Reads.{is_word}
@@ -37,6 +37,9 @@ colon_stands ts i n = both_right (is_word ts i word.Identifier) (is_word ts (i +
 no_colon : (ts : List Lexeme) (i : ℕ) → is_marked ts i ≡ false → Is ts i word.Identifier → is_word ts (i + 1) word.Colon ≡ false
 no_colon ts i n q = ap (λ x. x && is_word ts (i + 1) word.Colon) (sym (yes q)) ∙ n
 
+typed_name : (ts : List Lexeme) (c : Scopes) (i : ℕ) → passes ts c i (type_identifier false) ≡ true → Is ts i word.Identifier
+typed_name ts c i z = is_of ts i word.Identifier (both_left (is_word ts i word.Identifier) (is_type c (spelling_at ts i)) (both_left (is_word ts i word.Identifier && is_type c (spelling_at ts i)) (not false) z))
+
 module _ {ts : List Lexeme} where
   -- where an identifier stands, a statement is none that begins with a keyword
   named_in : {l : m.Labels} {d s : ℕ} {c : Scopes} {y : Reply} → Is ts s word.Identifier → RunsTo ts (named_statement l d s) c s y → RunsTo ts (programs.unlabelled l d s) c s y
@@ -61,11 +64,8 @@ module _ {ts : List Lexeme} where
   pub declaration_item : (l : m.Labels) {d s : ℕ} {c : Scopes} {y : Reply} → passes ts c s declaration_start ≡ true → is_marked ts s ≡ false → RunsTo ts (body (m.declaration d)) c s y → RunsTo ts (body (m.item l d)) c s y
   declaration_item l {s = s} h n r = item_declares l h (no_colon ts s n) r
 
-  typed_name : (c : Scopes) (i : ℕ) → passes ts c i (type_identifier false) ≡ true → Is ts i word.Identifier
-  typed_name c i z = is_of ts i word.Identifier (both_left (is_word ts i word.Identifier) _ z)
-
   unnamed_in : (l : m.Labels) {d s : ℕ} {c : Scopes} {y : Reply} → is_marked ts s ≡ false → RunsTo ts (expression_statement d s) c s y → RunsTo ts (named_statement l d s) c s y
-  unnamed_in l {s = s} {c = c} n (run_take z w r) = run_take z w (run_unseen (no_colon ts s n (typed_name c s z)) r)
+  unnamed_in l {s = s} {c = c} n (run_take z w r) = run_take z w (run_unseen (no_colon ts s n (typed_name ts c s z)) r)
   unnamed_in l n (run_deep z w) = absurd (w tt)
   unnamed_in l {s = s} n (run_pass z r) = expression_goes l z (no_colon ts s n) r
 
@@ -81,12 +81,12 @@ other_goal : {ts : List Lexeme} {g g' : Goal} {c : Scopes} {i : ℕ} {y : Reply}
 other_goal f (run_call h r) = run_call (f _ h) r
 other_goal f (run_fail h) = run_fail (f _ h)
 
-module _ {ts : List Lexeme} {d s : ℕ} {c : Scopes} {i : ℕ} {z : Reply} where
-  block_in : (l : Labels) → RunsTo ts (call (m.compound m.in_block d) give) c i z → RunsTo ts (call (m.compound (in_compound (labels_of l)) d) give) c i z
-  block_in OwnBlock h = h
-  block_in InBlock h = h
-  block_in Nowhere h = h
+block_in : {ts : List Lexeme} {d : ℕ} {c : Scopes} {i : ℕ} {z : Reply} (l : Labels) → RunsTo ts (call (m.compound m.in_block d) give) c i z → RunsTo ts (call (m.compound (in_compound (labels_of l)) d) give) c i z
+block_in OwnBlock h = h
+block_in InBlock h = h
+block_in Nowhere h = h
 
+module _ {ts : List Lexeme} {d s : ℕ} {c : Scopes} {i : ℕ} {z : Reply} where
   if_in : (l : Labels) → RunsTo ts (body (m.if_rest m.nowhere d s)) c i z → RunsTo ts (body (m.if_rest (labels_of l) d s)) c i z
   if_in OwnBlock h = h
   if_in InBlock h = h
@@ -107,17 +107,17 @@ module _ {ts : List Lexeme} {d s : ℕ} {c : Scopes} {i : ℕ} {z : Reply} where
   do_in InBlock h = h
   do_in Nowhere h = h
 
-  clauses_in : {x : Trees} (l : Labels) → RunsTo ts (body (m.for_clauses m.nowhere d s x)) c i z → RunsTo ts (body (m.for_clauses (labels_of l) d s x)) c i z
-  clauses_in OwnBlock h = h
-  clauses_in InBlock h = h
-  clauses_in Nowhere h = h
+  clauses_in : (x : Trees) (l : Labels) → RunsTo ts (body (m.for_clauses m.nowhere d s x)) c i z → RunsTo ts (body (m.for_clauses (labels_of l) d s x)) c i z
+  clauses_in x OwnBlock h = h
+  clauses_in x InBlock h = h
+  clauses_in x Nowhere h = h
 
 for_in : {ts : List Lexeme} {d s : ℕ} {c : Scopes} {i : ℕ} {y : Reply} (l : Labels) → RunsTo ts (body (m.for_rest m.nowhere d s)) c i y → RunsTo ts (body (m.for_rest (labels_of l) d s)) c i y
 for_in l (run_look (run_set (run_pass h r))) = run_look (run_set (run_pass h r))
 for_in l (run_look (run_set (run_deep h w))) = run_look (run_set (run_deep h w))
-for_in l (run_look (run_set (run_take h w (run_seen g (run_call a r))))) = run_look (run_set (run_take h w (run_seen g (run_call a (other_goal (λ z x. clauses_in l x) r)))))
+for_in l (run_look (run_set (run_take h w (run_seen g (run_call a r))))) = run_look (run_set (run_take h w (run_seen g (run_call a (other_goal (λ z x. clauses_in _ l x) r)))))
 for_in l (run_look (run_set (run_take h w (run_seen g (run_fail a))))) = run_look (run_set (run_take h w (run_seen g (run_fail a))))
-for_in l (run_look (run_set (run_take h w (run_unseen g (run_call a r))))) = run_look (run_set (run_take h w (run_unseen g (run_call a (other_goal (λ z x. clauses_in l x) r)))))
+for_in l (run_look (run_set (run_take h w (run_unseen g (run_call a r))))) = run_look (run_set (run_take h w (run_unseen g (run_call a (other_goal (λ z x. clauses_in _ l x) r)))))
 for_in l (run_look (run_set (run_take h w (run_unseen g (run_fail a))))) = run_look (run_set (run_take h w (run_unseen g (run_fail a))))
 
 unlabelled_in : {ts : List Lexeme} {d s : ℕ} {c : Scopes} {y : Reply} (l : Labels) → is_marked ts s ≡ false → RunsTo ts (unlabelled d s) c s y → RunsTo ts (programs.unlabelled (labels_of l) d s) c s y

@@ -100,7 +100,7 @@ fn labelled(
     requires at { at ≤ length source.now.tokens.now }
     requires depth { depth ≤ 128 }
     requires below { PartsAreBelow nodes.old }
-    ensures reads { Reads (text_of source.now) (body (statement own_block depth)) scopes.old at nodes.new scopes.new result }
+    ensures reads { Reads (text_of source.now) (labelled depth at) scopes.old at nodes.new scopes.new result }
     ensures placed { IfOk result (λ x. IsPlaced (length source.now.tokens.now) at nodes.old nodes.new [] x) }
 {
     if stands(source, at, Word::Case) {

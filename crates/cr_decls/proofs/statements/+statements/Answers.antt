@@ -8,6 +8,7 @@ use Rattle.cr_exprs.proofs.Nodes.{tree_kept, keeps_all, keeps_none, below_empty,
 use Rattle.cr_exprs.proofs.Runs.{exit, fails, stops, deep, no_memory, memory, finish, through, handed, shift, done_as, done_in, run_in, no_room}
 use Rattle.std.specs.Prelude.{option_to_list}
 use Rattle.cr_syntax.specs.Kept.{row_in}
+use Rattle.cr_exprs.specs.Source.{text_of}
 use Rattle.cr_decls.specs.Programs.{labels_of}
 use Rattle.cr_decls.proofs.Marked.{colon_stands, label_in, labelled_item, declaration_item, labelled_statement, plain_statement}
 use Rattle.cr_decls.proofs.Steps.{step_shift, loop_row, loop_below, loop_kept}
@@ -29,13 +30,13 @@ pub label-returns-then-not-may_mark-clause-reads : goal.label-returns-then-not-m
 label-returns-then-not-may_mark-clause-reads t c = record { is = stops (record { is = refl }) (run_no (sym c.may_mark.ensures ∙ c.if-not-may_mark.true) run_refuse) }
 
 pub label-returns-in_err-room-clause-reads : goal.label-returns-in_err-room-clause-reads
-label-returns-in_err-room-clause-reads t c = exit c.from_residual.result _ c.from_residual.ensures.1 (deep c.in_err-room.ensures.err (run_yes (sym c.may_mark.ensures ∙ c.if-not-may_mark.false) (run_deep (colon_stands _ _ c.requires.label) (no_room c.in_err-room.ensures.full))))
+label-returns-in_err-room-clause-reads t c = exit c.from_residual.result _ c.from_residual.ensures.1 (deep c.in_err-room.ensures.err (run_yes (sym c.may_mark.ensures ∙ c.if-not-may_mark.false) (run_deep (colon_stands (text_of c.args.source.now) c.args.start c.requires.label) (no_room c.in_err-room.ensures.full))))
 
 pub label-returns-in_err-inner-clause-reads : goal.label-returns-in_err-inner-clause-reads
-label-returns-in_err-inner-clause-reads t c = exit c.from_residual-in_err-inner.result _ c.from_residual-in_err-inner.ensures.1 (fails (c.in_err-inner.ensures.reads.is) (λ x k h. run_yes (sym c.may_mark.ensures ∙ c.if-not-may_mark.false) (run_take (colon_stands _ _ c.requires.label) c.in_ok-room.ensures.ok (run_fail h))))
+label-returns-in_err-inner-clause-reads t c = exit c.from_residual-in_err-inner.result _ c.from_residual-in_err-inner.ensures.1 (fails (c.in_err-inner.ensures.reads.is) (λ x k h. run_yes (sym c.may_mark.ensures ∙ c.if-not-may_mark.false) (run_take (colon_stands (text_of c.args.source.now) c.args.start c.requires.label) c.in_ok-room.ensures.ok (run_fail h))))
 
 pub label-returns-clause-reads : goal.label-returns-clause-reads
-label-returns-clause-reads t c = finish c.over.new.nodes c.over.result c.over.ensures.err c.over.ensures.next c.over.ensures.tree (run_yes (sym c.may_mark.ensures ∙ c.if-not-may_mark.false) (run_take (colon_stands _ _ c.requires.label) c.in_ok-room.ensures.ok (run_call c.in_ok-inner.ensures.reads.is.run (run_here run_give))))
+label-returns-clause-reads t c = finish c.over.new.nodes c.over.result c.over.ensures.err c.over.ensures.next c.over.ensures.tree (run_yes (sym c.may_mark.ensures ∙ c.if-not-may_mark.false) (run_take (colon_stands (text_of c.args.source.now) c.args.start c.requires.label) c.in_ok-room.ensures.ok (run_call c.in_ok-inner.ensures.reads.is.run (run_here run_give))))
 
 pub label-returns-clause-placed : goal.label-returns-clause-placed
 label-returns-clause-placed t c = placed_push c.over.new.nodes [] (c.in_ok-inner.inner.node ∷ []) c.over.result c.over.ensures.ok c.over.ensures.next (omega (arith, c.in_ok-inner.ensures.placed.from)) c.in_ok-inner.ensures.placed.to c.in_ok-inner.ensures.placed.keeps (c.in_ok-inner.ensures.placed.kept)
