@@ -27,6 +27,7 @@ use Rattle.cr_meaning.specs.declared.op.Callee.{Callee}
 use Rattle.cr_meaning.specs.declared.op.Callee.TheVariants as callee
 use Rattle.cr_meaning.specs.declared.op.Line.{Line}
 use Rattle.cr_meaning.specs.declared.op.Case.{Case}
+use Rattle.cr_meaning.specs.declared.op.Target.{Target}
 use Rattle.cr_meaning.specs.declared.op.Work.{Work}
 use Rattle.cr_meaning.specs.declared.op.Work.TheVariants as work
 use Rattle.cr_meaning.specs.declared.run.Limits.{Limits}
@@ -314,6 +315,10 @@ abbrev pub is_default : Kind → Bool
 is_default kind.Default = true
 is_default other = false
 
+abbrev pub is_mark : Kind → Bool
+is_mark kind.Label = true
+is_mark other = false
+
 abbrev pub labelled : Typed → ℕ → ℕ
 labelled t node = if is_case (kind_at t node) then part_at t node 1 else part_at t node 0
 
@@ -321,12 +326,12 @@ abbrev pub cases_by : ℕ → Typed → ℕ → List ℤ
 cases_by zero t node = []
 cases_by (suc more) t node =
     if is_case (kind_at t node) then value_or (slice_index_or t.constants (part_at t node 0) None) ∷ cases_by more t (labelled t node)
-    else (if is_default (kind_at t node) then cases_by more t (labelled t node) else [])
+    else (if is_default (kind_at t node) || is_mark (kind_at t node) then cases_by more t (labelled t node) else [])
 
 abbrev pub has_default_by : ℕ → Typed → ℕ → Bool
 has_default_by zero t node = false
 has_default_by (suc more) t node =
-    if is_default (kind_at t node) then true else (if is_case (kind_at t node) then has_default_by more t (labelled t node) else false)
+    if is_default (kind_at t node) then true else (if is_case (kind_at t node) || is_mark (kind_at t node) then has_default_by more t (labelled t node) else false)
 
 abbrev pub case_of : ℕ → ℤ → Case
 case_of item value = record { constant = value; item = item }
@@ -340,9 +345,23 @@ abbrev pub default_from : Typed → ℕ → List ℕ → Option ℕ
 default_from t number [] = None
 default_from t number (item ∷ items) = if has_default_by (length t.unit.nodes) t item then Some number else default_from t (suc number) items
 
+-- the identifiers that label an item, as nodes, and those of a block's items, from a number on
+abbrev pub marks_by : ℕ → Typed → ℕ → List ℕ
+marks_by zero t node = []
+marks_by (suc more) t node =
+    if is_mark (kind_at t node) then node ∷ marks_by more t (labelled t node)
+    else (if is_case (kind_at t node) || is_default (kind_at t node) then marks_by more t (labelled t node) else [])
+
+abbrev pub target_of : ℕ → ℕ → Target
+target_of item label = record { label = label; item = item }
+
+abbrev pub targets_from : Typed → ℕ → List ℕ → List Target
+targets_from t number [] = []
+targets_from t number (item ∷ items) = map (target_of number) (marks_by (length t.unit.nodes) t item) ++ targets_from t (suc number) items
+
 abbrev pub switch_of : Typed → ℕ → ℕ → List ℕ → Op
 switch_of t node body items = node_op (part_at t node 0 ∷ items)
-    (work.Switch (promote_of (kind_in (left_type t node))) body (objects_in t items) (cases_from t 0 items) (default_from t 0 items) [])
+    (work.Switch (promote_of (kind_in (left_type t node))) body (objects_in t items) (cases_from t 0 items) (default_from t 0 items) (targets_from t 0 items))
 
 -- ---- all nodes
 
@@ -400,15 +419,17 @@ op_by t node kind.Integer = constant t node
 op_by t node kind.Character = constant t node
 op_by t node kind.Text = placed t node [] (work.Object node)
 op_by t node kind.Group = placed t node (parts_at t node) work.Pass
-op_by t node kind.Compound = node_op (parts_at t node) (work.Block (objects_in t (parts_at t node)) [])
+op_by t node kind.Compound = node_op (parts_at t node) (work.Block (objects_in t (parts_at t node)) (targets_from t 0 (parts_at t node)))
 op_by t node kind.ExpressionStatement = node_op (parts_at t node) work.Expression
 op_by t node kind.If = node_op (parts_at t node) work.If
 op_by t node kind.Switch = switch_of t node (part_at t node 1) (parts_at t (part_at t node 1))
 op_by t node kind.While = node_op (parts_at t node) work.While
 op_by t node kind.Do = node_op (parts_at t node) work.Do
 op_by t node kind.For = for_of t node
+op_by t node kind.Label = node_op (labelled t node ∷ []) work.Labelled
 op_by t node kind.Case = node_op (labelled t node ∷ []) work.Labelled
 op_by t node kind.Default = node_op (labelled t node ∷ []) work.Labelled
+op_by t node kind.Goto = node_op [] (work.Goto (entity_of t node))
 op_by t node kind.Break = node_op [] work.Break
 op_by t node kind.Continue = node_op [] work.Continue
 op_by t node kind.Return = node_op (parts_at t node) (work.Return (form_of t (slice_index_or t.named node 0)))

@@ -33,6 +33,7 @@ pub enum Kind {
     PlainSpecifiers,
     /// `const`
     Const,
+    /// `volatile`
     Volatile,
     /// `void`
     Void,
@@ -66,7 +67,7 @@ pub enum Kind {
     /// identifier ["=" conditional]
     Enumerator,
     // Declarators (6.7.6)
-    /// "*" {"const"} declarator, one star each
+    /// "*" {"const" | "volatile"} declarator, one star each
     PointerDeclarator,
     /// the declared identifier
     NameDeclarator,
@@ -85,7 +86,7 @@ pub enum Kind {
     /// specifiers (declarator | abstract)
     Parameter,
     // Type names (6.7.7)
-    /// "*" {"const"} [abstract]
+    /// "*" {"const" | "volatile"} [abstract]
     AbstractPointer,
     /// "(" abstract ")"
     AbstractGroup,

@@ -36,7 +36,8 @@ pub struct Typed {
     pub shapes: Row<Shape>,
     /// The row of each expression's type; of every other node one of no type.
     pub types: Row<u32>,
-    /// For each identifier in an expression, each call and each declared name the node that declares its entity first.
+    /// For each identifier in an expression, each call and each declared name the node that declares its entity first; for
+    /// a `goto` the node of its label.
     pub refs: Row<Option<u32>>,
     /// Whether the node is an expression whose place is used as a value (6.3.2.1p2, p3).
     pub valued: Row<bool>,
