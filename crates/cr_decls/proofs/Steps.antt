@@ -15,43 +15,12 @@ use Rattle.cr_exprs.specs.declared.found.Found.{Found}
 use Rattle.cr_exprs.specs.Loose.{AreKept}
 use Rattle.cr_exprs.specs.Answers.{RunsTo, Comes, Gives, Goes, Keeps, IsPlaced, IsGrown, tree}
 use Rattle.cr_exprs.proofs.Nodes.{row_kept}
+use Rattle.cr_exprs.proofs.Runs.{fails}
 use Rattle.cr_machine.proofs.MachineSpells.{and_none, and_and}
 use Rattle.cr_exprs.proofs.Loose.{times_append, kept_as}
 use Rattle.cr_decls.specs.declared.labels.Labels.{Labels}
 use Rattle.cr_decls.specs.declared.labels.Labels.TheVariants.{OwnBlock, Nowhere}
 use Rattle.cr_decls.specs.Programs.{labels_of, with_step}
-
--- A statement without labels is read in the same way wherever labels may stand, since they may stand nowhere in it.
-
-other_token : {ts : List Lexeme} {x : Test} {k : Manner} {d : ℕ} {p p' q q' : Prog} {c : Scopes} {i : ℕ} {y : Reply} → (RunsTo ts p c (i + 1) y → RunsTo ts p' c (i + 1) y) → (RunsTo ts q c i y → RunsTo ts q' c i y) →
-    RunsTo ts (take k x d p q) c i y → RunsTo ts (take k x d p' q') c i y
-other_token f g (run_take h w r) = run_take h w (f r)
-other_token f g (run_deep h w) = run_deep h w
-other_token f g (run_pass h r) = run_pass h (g r)
-
-other_goal : {ts : List Lexeme} {g g' : Goal} {c : Scopes} {i : ℕ} {y : Reply} → ((z : Reply) → RunsTo ts (body g) c i z → RunsTo ts (body g') c i z) → RunsTo ts (call g give) c i y → RunsTo ts (call g' give) c i y
-other_goal f (run_call h r) = run_call (f _ h) r
-other_goal f (run_fail h) = run_fail (f _ h)
-
-for_in : {ts : List Lexeme} {d s : ℕ} {c : Scopes} {i : ℕ} {y : Reply} → RunsTo ts (body (m.for_rest m.nowhere d s)) c i y → RunsTo ts (body (m.for_rest m.own_block d s)) c i y
-for_in (run_look (run_set (run_pass h r))) = run_look (run_set (run_pass h r))
-for_in (run_look (run_set (run_deep h w))) = run_look (run_set (run_deep h w))
-for_in (run_look (run_set (run_take h w (run_seen g (run_call a r))))) = run_look (run_set (run_take h w (run_seen g (run_call a (other_goal (λ z x. x) r)))))
-for_in (run_look (run_set (run_take h w (run_seen g (run_fail a))))) = run_look (run_set (run_take h w (run_seen g (run_fail a))))
-for_in (run_look (run_set (run_take h w (run_unseen g (run_call a r))))) = run_look (run_set (run_take h w (run_unseen g (run_call a (other_goal (λ z x. x) r)))))
-for_in (run_look (run_set (run_take h w (run_unseen g (run_fail a))))) = run_look (run_set (run_take h w (run_unseen g (run_fail a))))
-
--- labels may stand in a switch's own block alone
-pub in_own_block : {ts : List Lexeme} {d : ℕ} {c : Scopes} {i : ℕ} {y : Reply} (l : Labels) → may_label (labels_of l) ≡ true →
-    RunsTo ts (body (m.statement m.own_block d)) c i y → RunsTo ts (body (m.statement (labels_of l) d)) c i y
-in_own_block OwnBlock q h = h
-in_own_block Nowhere q h = absurd (true≢false (sym q))
-
-pub unlabelled_in : {ts : List Lexeme} {d s : ℕ} {c : Scopes} {i : ℕ} {y : Reply} (l : Labels) → RunsTo ts (unlabelled m.nowhere d s) c i y → RunsTo ts (unlabelled (labels_of l) d s) c i y
-unlabelled_in Nowhere h = h
-unlabelled_in OwnBlock (run_seen h r) = run_seen h r
-unlabelled_in OwnBlock (run_unseen h r) =
-    run_unseen h (other_token (other_goal (λ z x. x)) (other_token (other_goal (λ z x. x)) (other_token (other_goal (λ z x. x)) (other_token (other_goal (λ z x. x)) (other_token (other_goal (λ z x. for_in x)) (λ x. x))))) r)
 
 -- the last clause of a `for`: an expression or none
 pub step_shift : {ts : List Lexeme} {c : Scopes} {i : ℕ} {y : Reply} (d s : ℕ) (x t : Trees) (nodes : List Node) (o : Option ℕ) →
@@ -126,4 +95,4 @@ declared_shift {ts} {h} {k} {t} {u} {e} {i} {y} d s q a v w run = subst (λ x. R
 pub goes_through : {A : Type 0} {ts : List Lexeme} {p : Prog} {u : Goal} {g : Trees → Prog} {c e f : Scopes} {i j : ℕ} {t : A → Trees} {n : A → ℕ} (r : Result A ParseFault) → ((y : Reply) → RunsTo ts (call u g) e j y → RunsTo ts p c i y) →
     Comes ts (body u) e j (λ x. Gives ts (body u) e j (t x) f (n x)) r → Comes ts p c i (λ x. Goes ts p c i (g (t x)) f (n x)) r
 goes_through (Ok x) path h = record { is = record { on = λ y r. path y (run_call h.is.run r) } }
-goes_through (Err fault) path h = record { is = record { run = λ x q. path _ (run_fail (h.is.run x q)) } }
+goes_through (Err fault) path h = record { is = fails h.is (λ x k r. path _ (run_fail r)) }

@@ -14,9 +14,8 @@ use Rattle.cr_machine.proofs.MachineUnitComplete.{one_unit}
 use Rattle.cr_exprs.specs.declared.fault.ParseFault.{ParseFault}
 use Rattle.cr_exprs.specs.declared.fault.ParseFault.TheVariants.{NoMemory, Unexpected, Ended, TooDeep, OutsideSubset}
 use Rattle.cr_exprs.specs.Loose.{AreKept, Replaces}
-use Rattle.cr_exprs.specs.Answers.{RunsTo}
+use Rattle.cr_exprs.specs.Answers.{RunsTo, FailsSo, Refuses}
 use Rattle.cr_exprs.proofs.Loose.{kept_none}
-use Rattle.cr_decls.specs.Answers.{FailsSo, Declines}
 use Rattle.cr_decls.specs.Unit.{IsOnlyTree, IsRefused, IsOnlyRefusal}
 
 -- what is read is the only tree
@@ -35,7 +34,7 @@ tree_read {ts} {e} {j} {t} h = (is_parsed ts (Done t e j) h).0
 first_so : {ts : List Lexeme} {x : u.Refusal} → FailsSo ts (body (unit nowhere 0)) file_scope 0 x → u.FirstRefusal ts x
 first_so {ts} h = subst (λ x. u.FirstRefusal ts x) h.is (is_parsed ts (Failed h.cause h.at) h.run)
 
-first_read : {ts : List Lexeme} (f : ParseFault) → Declines ts (body (unit nowhere 0)) file_scope 0 f → IsRefused ts f
+first_read : {ts : List Lexeme} (f : ParseFault) → Refuses ts (body (unit nowhere 0)) file_scope 0 f → IsRefused ts f
 first_read NoMemory h = tt
 first_read (Unexpected k) h = first_so (h.run (u.Unexpected k) refl)
 first_read Ended h = first_so (h.run u.Ended refl)
@@ -43,17 +42,17 @@ first_read (TooDeep k) h = first_so (h.run (u.TooDeep k) refl)
 first_read (OutsideSubset k row) h = first_so (h.run (u.OutsideSubset k row) refl)
 
 -- and no other is
-first_only : {ts : List Lexeme} (f : ParseFault) → Declines ts (body (unit nowhere 0)) file_scope 0 f → IsOnlyRefusal ts f
+first_only : {ts : List Lexeme} (f : ParseFault) → Refuses ts (body (unit nowhere 0)) file_scope 0 f → IsOnlyRefusal ts f
 first_only {ts} f h x y q o = let r = h.run x q in only_refusal ts r.run o ∙ r.is
 
 pub tree_of : {ts us : List Lexeme} {c e : Scopes} {j : ℕ} {t v : Trees} → ts ≡ us → c ≡ file_scope → t ≡ v → RunsTo ts (body (unit nowhere 0)) c 0 (Done t e j) → u.IsTreeOf us v
 tree_of {e = e} {j = j} q w x h = tree_read (run_as q w (ap (λ z. Done z e j) x) h)
 
-pub first_of : {ts us : List Lexeme} {c : Scopes} {f : ParseFault} → ts ≡ us → c ≡ file_scope → Declines ts (body (unit nowhere 0)) c 0 f → IsRefused us f
-first_of {ts} {us} {c} {f} q w h = first_read f (subst (λ x. Declines us (body (unit nowhere 0)) x 0 f) w (subst (λ x. Declines x (body (unit nowhere 0)) c 0 f) q h))
+pub first_of : {ts us : List Lexeme} {c : Scopes} {f : ParseFault} → ts ≡ us → c ≡ file_scope → Refuses ts (body (unit nowhere 0)) c 0 f → IsRefused us f
+first_of {ts} {us} {c} {f} q w h = first_read f (subst (λ x. Refuses us (body (unit nowhere 0)) x 0 f) w (subst (λ x. Refuses x (body (unit nowhere 0)) c 0 f) q h))
 
-pub only_first_of : {ts us : List Lexeme} {c : Scopes} {f : ParseFault} → ts ≡ us → c ≡ file_scope → Declines ts (body (unit nowhere 0)) c 0 f → IsOnlyRefusal us f
-only_first_of {ts} {us} {c} {f} q w h = first_only f (subst (λ x. Declines us (body (unit nowhere 0)) x 0 f) w (subst (λ x. Declines x (body (unit nowhere 0)) c 0 f) q h))
+pub only_first_of : {ts us : List Lexeme} {c : Scopes} {f : ParseFault} → ts ≡ us → c ≡ file_scope → Refuses ts (body (unit nowhere 0)) c 0 f → IsOnlyRefusal us f
+only_first_of {ts} {us} {c} {f} q w h = first_only f (subst (λ x. Refuses us (body (unit nowhere 0)) x 0 f) w (subst (λ x. Refuses x (body (unit nowhere 0)) c 0 f) q h))
 
 pub only_of : {ts us : List Lexeme} {c e : Scopes} {j : ℕ} {t v : Trees} → ts ≡ us → c ≡ file_scope → t ≡ v → RunsTo ts (body (unit nowhere 0)) c 0 (Done t e j) → IsOnlyTree us v
 only_of {e = e} {j = j} q w x h = only_read (run_as q w (ap (λ z. Done z e j) x) h)

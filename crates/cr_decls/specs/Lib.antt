@@ -1,4 +1,3 @@
 pub mod Programs
 pub mod Ellipsis
-pub mod Answers
 pub mod Unit

@@ -5,7 +5,7 @@ use Rattle.cr_syntax.specs.Trees.{Trees}
 use Rattle.cr_syntax.specs.Spells.{AtMost}
 use Rattle.cr_syntax.specs.Units.{IsUnit, most_levels, Refusal, FirstRefusal}
 use Rattle.cr_syntax.specs.Units as refusal
-use Rattle.cr_decls.specs.Answers.{refusal_in}
+use Rattle.cr_exprs.specs.Answers.{refusal_in}
 use Rattle.cr_exprs.specs.declared.fault.ParseFault.{ParseFault}
 use Rattle.cr_exprs.specs.declared.fault.ParseFault.TheVariants.{NoMemory, Unexpected, Ended, TooDeep, OutsideSubset}
 

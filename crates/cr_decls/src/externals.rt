@@ -6,8 +6,7 @@ ghost use Rattle.cr_machine.specs.Machine.{nowhere, unit, external};
 ghost use Rattle.cr_machine.specs.MachineBody.{body, defined};
 ghost use Rattle.cr_exprs.specs.Source.{IsReadable, text_of};
 ghost use Rattle.cr_exprs.specs.Loose.{Replaces};
-ghost use Rattle.cr_exprs.specs.Answers.{IsPlaced, tree};
-ghost use Rattle.cr_decls.specs.Answers.{Settles};
+ghost use Rattle.cr_exprs.specs.Answers.{Answers, Reads, IsPlaced, tree};
 
 use crate::declarations::declarators;
 use crate::ellipsis::own_ellipsis;
@@ -32,7 +31,7 @@ pub(crate) fn unit(
 ) -> Result<Row<u32>, ParseFault>
     requires readable { IsReadable source.now }
     requires below { PartsAreBelow nodes.old }
-    ensures reads { Settles (text_of source.now) (body (unit nowhere 0)) scopes.old 0 (λ x. row_in nodes.new x) scopes.new (λ x. length source.now.tokens.now) result }
+    ensures reads { Answers (text_of source.now) (body (unit nowhere 0)) scopes.old 0 (λ x. row_in nodes.new x) scopes.new (λ x. length source.now.tokens.now) result }
     ensures below { IfOk result (λ x. PartsAreBelow nodes.new) }
     ensures kept { IfOk result (λ x. Replaces (length source.now.tokens.now) nodes.old nodes.new [] x) }
 {
@@ -58,7 +57,7 @@ fn external(
     requires readable { IsReadable source.now }
     requires at { at ≤ length source.now.tokens.now }
     requires below { PartsAreBelow nodes.old }
-    ensures reads { Settles (text_of source.now) (body (external nowhere 0)) scopes.old at (λ x. tree nodes.new x.node) scopes.new (λ x. x.next) result }
+    ensures reads { Reads (text_of source.now) (body (external nowhere 0)) scopes.old at nodes.new scopes.new result }
     ensures placed { IfOk result (λ x. IsPlaced (length source.now.tokens.now) at nodes.old nodes.new [] x) }
 {
     let specifiers = specifier_row(alloc, source, at, 0, scopes, nodes)?;
@@ -96,7 +95,7 @@ fn defined(
     requires start { start < declarator.next }
     requires specifiers { specifiers.node < length nodes.old }
     requires node { declarator.node + 1 ≡ length nodes.old }
-    ensures reads { Settles (text_of source.now) (defined nowhere 0 start (tree nodes.old specifiers.node) (tree nodes.old declarator.node)) scopes.old declarator.next (λ x. tree nodes.new x.node) scopes.new (λ x. x.next) result }
+    ensures reads { Reads (text_of source.now) (defined nowhere 0 start (tree nodes.old specifiers.node) (tree nodes.old declarator.node)) scopes.old declarator.next nodes.new scopes.new result }
     ensures placed { IfOk result (λ x. IsPlaced (length source.now.tokens.now) start nodes.old nodes.new (declarator.node ∷ specifiers.node ∷ []) x) }
 {
     if let Some(dots) = own_ellipsis(nodes, declarator.node) {
@@ -107,7 +106,7 @@ fn defined(
     let body = compound(
         alloc,
         source,
-        Labels::Nowhere,
+        Labels::InBlock,
         declarator.next,
         0,
         scopes,

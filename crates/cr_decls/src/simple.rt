@@ -8,9 +8,11 @@ ghost use Rattle.cr_machine.specs.Machine.{plain, expect, made, return_rest};
 ghost use Rattle.cr_machine.specs.MachineBody.{body};
 ghost use Rattle.cr_exprs.specs.Source.{IsReadable, text_of};
 ghost use Rattle.cr_exprs.specs.Answers.{Reads, IsPlaced, tree};
-ghost use Rattle.cr_decls.specs.Programs.{simple};
+ghost use Rattle.cr_decls.specs.Programs.{simple, expression_statement, goto_rest};
 
-use cr_exprs::{Found, Goal, ParseFault, Source, expect, leaf, over, read, stands};
+use cr_exprs::{
+    Found, Goal, ParseFault, Source, expect, is_type_identifier, leaf, over, read, refused, stands,
+};
 use cr_rows::Row;
 use cr_syntax::{Kind, Node, OpenScopes, Word};
 use std::alloc::Global;
@@ -31,6 +33,9 @@ pub(crate) fn simple(
     ensures reads { Reads (text_of source.now) (simple depth at) scopes.old at nodes.new scopes.new result }
     ensures placed { IfOk result (λ x. IsPlaced (length source.now.tokens.now) at nodes.old nodes.new [] x) }
 {
+    if stands(source, at, Word::Goto) {
+        return goto_rest(alloc, source, at, depth, nodes);
+    }
     if stands(source, at, Word::Break) {
         return jump(alloc, source, Kind::Break, at, depth, nodes);
     }
@@ -43,6 +48,28 @@ pub(crate) fn simple(
     if stands(source, at, Word::Semicolon) {
         return leaf(alloc, nodes, Kind::ExpressionStatement, at, at + 1);
     }
+    expression_statement(alloc, source, at, depth, scopes, nodes)
+}
+
+/// An expression and its `;` (6.8.3). A typedef name begins none, and labels nothing here.
+fn expression_statement(
+    alloc: Global,
+    source: &Source,
+    at: usize,
+    depth: usize,
+    scopes: &mut OpenScopes,
+    nodes: &mut Row<Node>,
+) -> Result<Found, ParseFault>
+    requires readable { IsReadable source.now }
+    requires at { at ≤ length source.now.tokens.now }
+    requires depth { depth ≤ 128 }
+    requires below { PartsAreBelow nodes.old }
+    ensures reads { Reads (text_of source.now) (expression_statement depth at) scopes.old at nodes.new scopes.new result }
+    ensures placed { IfOk result (λ x. IsPlaced (length source.now.tokens.now) at nodes.old nodes.new [] x) }
+{
+    if is_type_identifier(source, at, false, scopes) {
+        return Err(refused(source, at + 1, depth));
+    }
     let value = read(alloc, source, Goal::Expression, at, depth, scopes, nodes)?;
     expect(source, value.next, Word::Semicolon, depth)?;
     over(
@@ -53,6 +80,25 @@ pub(crate) fn simple(
         value.next + 1,
         value.node,
     )
+}
+
+/// What stands behind `goto` (6.8.6.1).
+fn goto_rest(
+    alloc: Global,
+    source: &Source,
+    start: usize,
+    depth: usize,
+    nodes: &mut Row<Node>,
+) -> Result<Found, ParseFault>
+    requires readable { IsReadable source.now }
+    requires at { start + 1 ≤ length source.now.tokens.now }
+    requires below { PartsAreBelow nodes.old }
+    ensures reads { (c : Scopes) → Reads (text_of source.now) (goto_rest depth start) c (start + 1) nodes.new c result }
+    ensures placed { IfOk result (λ x. IsPlaced (length source.now.tokens.now) start nodes.old nodes.new [] x) }
+{
+    expect(source, start + 1, Word::Identifier, depth)?;
+    expect(source, start + 1 + 1, Word::Semicolon, depth)?;
+    leaf(alloc, nodes, Kind::Goto, start, start + 1 + 1 + 1)
 }
 
 /// What stands behind `return` (6.8.6.4).

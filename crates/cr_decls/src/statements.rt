@@ -5,16 +5,16 @@ ghost use Rattle.cr_syntax.specs.Trees.{none, one, ◌&◌};
 ghost use Rattle.cr_syntax.specs.Context.{ends_open};
 ghost use Rattle.cr_syntax.specs.Kept.{PartsAreBelow, AreBelow, row_in};
 ghost use Rattle.cr_machine.specs.Machine.{own_block, nowhere, around, statement, block, if_rest, switch_rest, while_rest, do_rest, for_rest, for_clauses, compound, items, item};
-ghost use Rattle.cr_machine.specs.MachineBody.{body, unlabelled};
+ghost use Rattle.cr_machine.specs.MachineBody.{body};
 ghost use Rattle.cr_exprs.specs.Source.{IsReadable, text_of};
 ghost use Rattle.cr_exprs.specs.Answers.{Reads, IsPlaced, IsPushed, tree};
-ghost use Rattle.cr_decls.specs.Programs.{labels_of, case_rest, default_rest};
+ghost use Rattle.cr_decls.specs.Programs.{labels_of, is_marked, label_rest, case_rest, default_rest, labelled, unlabelled};
 
 use crate::clauses::{clause, controlling, first_clause, last_clause, loop_parts, repeated};
 use crate::declarations::declaration;
-use crate::labels::{Labels, may_label};
+use crate::labels::{Labels, may_label, may_mark};
 use crate::simple::simple;
-use crate::start::{bar_body_label, bar_label, bar_statement};
+use crate::start::{bar_body_label, bar_label, bar_statement, stands_label};
 use cr_exprs::{
     Found, Goal, Optional, ParseFault, Source, drop_scope, expect, over, pair, push, read, room,
     stands, starts_specifier, triple,
@@ -41,6 +41,9 @@ fn statement(
     ensures reads { Reads (text_of source.now) (body (statement (labels_of labels) depth)) scopes.old at nodes.new scopes.new result }
     ensures placed { IfOk result (λ x. IsPlaced (length source.now.tokens.now) at nodes.old nodes.new [] x) }
 {
+    if stands_label(source, at) {
+        return label(alloc, source, labels, at, depth, scopes, nodes);
+    }
     if may_label(labels) {
         return labelled(alloc, source, at, depth, scopes, nodes);
     }
@@ -48,7 +51,42 @@ fn statement(
     unlabelled(alloc, source, at, depth, scopes, nodes)
 }
 
-/// A statement where labels may stand (6.8.1).
+/// The colon behind an identifier that labels a statement, and what stands behind it (6.8.1).
+#[cycle(statements)]
+fn label(
+    alloc: Global,
+    source: &Source,
+    labels: Labels,
+    start: usize,
+    depth: usize,
+    scopes: &mut OpenScopes,
+    nodes: &mut Row<Node>,
+) -> Result<Found, ParseFault>
+    requires readable { IsReadable source.now }
+    requires label { is_marked (text_of source.now) start ≡ true }
+    requires at { start + 1 < length source.now.tokens.now }
+    requires depth { depth ≤ 128 }
+    requires below { PartsAreBelow nodes.old }
+    ensures reads { Reads (text_of source.now) (label_rest (labels_of labels) depth start) scopes.old (start + 1) nodes.new scopes.new result }
+    ensures placed { IfOk result (λ x. IsPlaced (length source.now.tokens.now) start nodes.old nodes.new [] x) }
+{
+    if !may_mark(labels) {
+        return Err(ParseFault::OutsideSubset(start as u32, 9));
+    }
+    room(start + 1, depth)?;
+    let inner = statement(
+        alloc,
+        source,
+        labels,
+        start + 1 + 1,
+        depth + 1,
+        scopes,
+        nodes,
+    )?;
+    over(alloc, nodes, Kind::Label, start, inner.next, inner.node)
+}
+
+/// A statement without a label that is an identifier, where `case` and `default` may stand (6.8.1).
 #[cycle(statements)]
 fn labelled(
     alloc: Global,
@@ -62,7 +100,7 @@ fn labelled(
     requires at { at ≤ length source.now.tokens.now }
     requires depth { depth ≤ 128 }
     requires below { PartsAreBelow nodes.old }
-    ensures reads { Reads (text_of source.now) (body (statement own_block depth)) scopes.old at nodes.new scopes.new result }
+    ensures reads { Reads (text_of source.now) (labelled depth at) scopes.old at nodes.new scopes.new result }
     ensures placed { IfOk result (λ x. IsPlaced (length source.now.tokens.now) at nodes.old nodes.new [] x) }
 {
     if stands(source, at, Word::Case) {
@@ -167,11 +205,11 @@ fn unlabelled(
     requires at { at ≤ length source.now.tokens.now }
     requires depth { depth ≤ 128 }
     requires below { PartsAreBelow nodes.old }
-    ensures reads { Reads (text_of source.now) (unlabelled nowhere depth at) scopes.old at nodes.new scopes.new result }
+    ensures reads { Reads (text_of source.now) (unlabelled depth at) scopes.old at nodes.new scopes.new result }
     ensures placed { IfOk result (λ x. IsPlaced (length source.now.tokens.now) at nodes.old nodes.new [] x) }
 {
     if stands(source, at, Word::LeftBrace) {
-        return compound(alloc, source, Labels::Nowhere, at, depth, scopes, nodes);
+        return compound(alloc, source, Labels::InBlock, at, depth, scopes, nodes);
     }
     if stands(source, at, Word::If) {
         return if_rest(alloc, source, at, depth, scopes, nodes);
@@ -487,6 +525,9 @@ fn item(
     ensures reads { Reads (text_of source.now) (body (item (labels_of labels) depth)) scopes.old at nodes.new scopes.new result }
     ensures placed { IfOk result (λ x. IsPlaced (length source.now.tokens.now) at nodes.old nodes.new [] x) }
 {
+    if stands_label(source, at) {
+        return label(alloc, source, labels, at, depth, scopes, nodes);
+    }
     if starts_specifier(source, at, false, scopes) {
         return declaration(alloc, source, at, depth, scopes, nodes);
     }

@@ -2,3 +2,4 @@ pub mod Nodes
 pub mod Runs
 pub mod Grammar
 pub mod Loose
+pub mod Appended

@@ -15,24 +15,24 @@ use Rattle.cr_exprs.specs.Answers.{Keeps, IsPushed, IsPlaced, IsGathered, IsRega
 use Rattle.cr_exprs.proofs.Nodes.{keeps_all, keeps_none, get_front}
 
 -- how often a number stands in a list
-abbrev times : List ℕ → ℕ → ℕ
+abbrev pub times : List ℕ → ℕ → ℕ
 times ps k = count_by (λ p. p == k) ps
 
 pub times_append : (a b : List ℕ) (k : ℕ) → times (a ++ b) k ≡ times a k + times b k
 times_append a b k = sum_by-append (λ p. cond (p == k) 1 0) a b
 
-differs : (a b : ℕ) (t : Bool) → (a == b) ≡ t → (a ≡ b → ⊥) → t ≡ false
+pub differs : (a b : ℕ) (t : Bool) → (a == b) ≡ t → (a ≡ b → ⊥) → t ≡ false
 differs a b true q h = absurd (h (eqb-true a b q))
 differs a b false q h = refl
 
-times_other : (p k : ℕ) → (p ≡ k → ⊥) → times (p ∷ []) k ≡ 0
+pub times_other : (p k : ℕ) → (p ≡ k → ⊥) → times (p ∷ []) k ≡ 0
 times_other p k h = ap (λ t. 0 + cond t 1 0) (differs p k (p == k) refl h)
 
 times_same : (p k : ℕ) → p ≡ k → times (p ∷ []) k ≡ 1
 times_same p k q = ap (λ t. 0 + cond t 1 0) (eq-eqb p k q)
 
 -- a number stands nowhere in a list whose numbers are below it, and in one where it does, once at least
-times_out : (ps : List ℕ) (n k : ℕ) → AreBelow ps n → n ≤ k → times ps k ≡ 0
+pub times_out : (ps : List ℕ) (n k : ℕ) → AreBelow ps n → n ≤ k → times ps k ≡ 0
 times_out [] n k h le = refl
 times_out (p ∷ ps) n k h le =
     let lt : p < n = h 0 (omega arith) in
@@ -53,7 +53,7 @@ below_by ps n h i lt = elim (cases_order (slice_index ps i) n) as (λ _. slice_i
 ]
 
 -- the numbers that nodes name
-abbrev names : List Node → List ℕ
+abbrev pub names : List Node → List ℕ
 names ns = flat_map (λ n. n.parts) ns
 
 names_out : (ns : List Node) (b k : ℕ) → ((i : ℕ) (n : Node) → slice_get ns i ≡ Some n → AreBelow n.parts b) → b ≤ k → times (names ns) k ≡ 0
@@ -63,7 +63,7 @@ names_out (n ∷ ns) b k h le =
     let rest = names_out ns b k (λ i m q. h (suc i) m q) le in
     omega (arith, times_append n.parts (names ns) k, here, rest)
 
-names_below : (ns : List Node) (k : ℕ) → PartsAreBelow ns → length ns ≤ k → times (names ns) k ≡ 0
+pub names_below : (ns : List Node) (k : ℕ) → PartsAreBelow ns → length ns ≤ k → times (names ns) k ≡ 0
 names_below ns k f le = names_out ns (length ns) k (λ i n q j l. let a = f i n q j l in let b = slice_get_within ns i n q in omega arith) le
 
 names_push : (ns : List Node) (n : Node) (k : ℕ) → times (names (ns ++ n ∷ [])) k ≡ times (names ns) k + times n.parts k
@@ -189,7 +189,7 @@ nodes_same (m ∷ a) (n ∷ b) q f =
     let rest : a ≡ b = nodes_same a b (omega arith) (λ k l. f (suc k) (omega arith)) in
     cc
 
-before_same : (a b all : List Node) → length a ≡ length b → Keeps a all → Keeps b all → a ≡ b
+pub before_same : (a b all : List Node) → length a ≡ length b → Keeps a all → Keeps b all → a ≡ b
 before_same a b all q f g = nodes_same a b q (λ k lt. sym (f.same k lt) ∙ g.same k (omega arith))
 
 -- Nodes that are pushed behind others, as parts of what was read.

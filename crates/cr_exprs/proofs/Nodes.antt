@@ -27,7 +27,7 @@ grown_push : (ns : List Node) (made : List Trees) (n : Node) → grown made (ns 
 grown_push [] made n = refl
 grown_push (m ∷ ns) made n = grown_push ns (made ++ tree_of made m ∷ []) n
 
-grown_length : (ns : List Node) (made : List Trees) → length (grown made ns) ≡ length made + length ns
+pub grown_length : (ns : List Node) (made : List Trees) → length (grown made ns) ≡ length made + length ns
 grown_length [] made = omega arith
 grown_length (n ∷ ns) made = let h = grown_length ns (made ++ tree_of made n ∷ []) in omega (arith, h, length-append made (tree_of made n ∷ []))
 

@@ -15,6 +15,7 @@ use Rattle.cr_syntax.specs.declared.scopes.TypeName.{TypeName}
 use Rattle.cr_syntax.specs.Scopes.{Scopes, enter}
 use Rattle.cr_syntax.specs.Trees.{Trees, none, one, ◌&◌}
 use Rattle.cr_syntax.specs.Reads.{is_word, is_qualifier, same_word}
+use Rattle.cr_syntax.specs.Units.{Refusal}
 use Rattle.cr_machine.specs.Machine as m
 use Rattle.cr_machine.specs.Machine.{Goal, Prog, Test, Manner, opens, Reply, Done, Failed, Cause, too_deep, Allows, passes, brought, around, choose, made, drops, bring, binary, cast, texts, qualifiers, more, member_declarators, give, call, take, peek, when, the, plain, run_give, run_take, run_pass, run_call, run_fail, run_yes, run_no, run_seen, run_here, run_look, run_set, run_bring}
 use Rattle.cr_machine.specs.MachineBody.{body, tighter, may_omit, declarator_start, is_declarator, pointer_end}
@@ -22,7 +23,7 @@ use Rattle.cr_exprs.specs.declared.fault.ParseFault.{ParseFault}
 use Rattle.cr_exprs.specs.declared.fault.ParseFault.TheVariants.{NoMemory, TooDeep}
 use Rattle.cr_exprs.specs.declared.found.Found.{Found}
 use Rattle.cr_exprs.specs.Tables.{kind_of, kind_of_word, next_level}
-use Rattle.cr_exprs.specs.Answers.{RunsTo, Gives, Goes, Refuses, Comes, Reads, IsRefusal, place_of, tree}
+use Rattle.cr_exprs.specs.Answers.{RunsTo, Gives, Goes, Refuses, Comes, Reads, IsRefusal, refusal_in, tree}
 use Rattle.cr_exprs.specs.Parts.{entered, PointsOn}
 
 texts_to : (ts : List Lexeme) (d : ℕ) (c : Scopes) (n i j : ℕ) → i + n ≡ j → ((k : ℕ) → i ≤ k → k < j → is_word ts k word.Text ≡ true) → is_word ts j word.Text ≡ false → RunsTo ts (body (texts d)) c i (Done none c j)
@@ -48,19 +49,19 @@ span_more ts i j w f h k a b = below_more (λ x. i ≤ x → is_word ts x w ≡ 
 
 -- Exits of the parser's functions.
 
+some_same : {x y : Refusal} → Some x ≡ Some y → x ≡ y
+some_same q = cc
+
 -- a callee's failure is the caller's
 pub fails : {ts : List Lexeme} {p q : Prog} {c e : Scopes} {i j : ℕ} {f : ParseFault} → Refuses ts q e j f → ((x : Cause) (k : ℕ) → RunsTo ts q e j (Failed x k) → RunsTo ts p c i (Failed x k)) → Refuses ts p c i f
-fails h path = record { run = λ x q. path x _ (h.run x q) }
+fails h path = record { run = λ x q. let w = h.run x q in record { cause = w.cause; at = w.at; run = path w.cause w.at w.run; is = w.is } }
 
 -- a refusal is the program's failure
-pub stops : {ts : List Lexeme} {p : Prog} {c : Scopes} {i k : ℕ} {f : ParseFault} {x : Cause} → IsRefusal ts f x k → RunsTo ts p c i (Failed x k) → Refuses ts p c i f
-stops {ts} {p} {c} {i} {k} {f} {x} h run = record {
-  run = λ y q. let same : y ≡ x = cc (h.cause) in
-      subst (λ z. RunsTo ts p c i (Failed z (place_of (length ts) f))) (sym same) (subst (λ z. RunsTo ts p c i (Failed x z)) (sym h.place) run);
-}
+pub stops : {ts : List Lexeme} {p : Prog} {c : Scopes} {i k : ℕ} {f : ParseFault} {x : Cause} → IsRefusal f x k → RunsTo ts p c i (Failed x k) → Refuses ts p c i f
+stops {k = k} {x = x} h run = record { run = λ y q. record { cause = x; at = k; run = run; is = some_same (sym h.is ∙ q) } }
 
 pub deep : {ts : List Lexeme} {p : Prog} {c : Scopes} {i k : ℕ} {f : ParseFault} → f ≡ TooDeep k → RunsTo ts p c i (Failed too_deep k) → Refuses ts p c i f
-deep {ts} {p} {c} {i} {k} {f} q run = subst (λ z. Refuses ts p c i z) (sym q) (record { run = λ y r. let same : y ≡ too_deep = cc in subst (λ z. RunsTo ts p c i (Failed z k)) (sym same) run })
+deep {k = k} q run = stops {k = k} {x = too_deep} (record { is = ap refusal_in q }) run
 
 pub no_memory : {ts : List Lexeme} {p : Prog} {c : Scopes} {i : ℕ} {f : ParseFault} → f ≡ NoMemory → Refuses ts p c i f
 no_memory {ts} {p} {c} {i} {f} q = subst (λ z. Refuses ts p c i z) (sym q) (record { run = λ y r. absurd cc })
@@ -86,7 +87,7 @@ goes_on p nodes (Err f) m k u g = record { is = no_memory m }
 pub through : {A : Type 0} {ts : List Lexeme} {p q : Prog} {c e f : Scopes} {i j : ℕ} {t : A → Trees} {n : A → ℕ} (r : Result A ParseFault) → ((y : Reply) → RunsTo ts q e j y → RunsTo ts p c i y) →
     Comes ts q e j (λ x. Gives ts q e j (t x) f (n x)) r → Comes ts p c i (λ x. Gives ts p c i (t x) f (n x)) r
 through (Ok x) path h = record { is = record { run = path _ h.is.run } }
-through (Err g) path h = record { is = record { run = λ x q. path _ (h.is.run x q) } }
+through (Err g) path h = record { is = fails h.is (λ x k. path (Failed x k)) }
 
 -- the answer of a goal is that of a program that calls it and gives it on
 pub handed : {ts : List Lexeme} {g : Goal} {c : Scopes} {i : ℕ} (y : Reply) → RunsTo ts (body g) c i y → RunsTo ts (call g give) c i y
@@ -95,7 +96,7 @@ handed (Failed x k) h = run_fail h
 
 -- The words of a table.
 
-word_is : (ts : List Lexeme) (i : ℕ) (w v : Word) → word_at ts i ≡ Some w → is_word ts i v ≡ same_word w v
+pub word_is : (ts : List Lexeme) (i : ℕ) (w v : Word) → word_at ts i ≡ Some w → is_word ts i v ≡ same_word w v
 word_is ts i w v q = ap (λ (o : Option Word). elim o [ None ↦ false | Some x ↦ same_word x v ]) q
 
 word_none : (ts : List Lexeme) (i : ℕ) (v : Word) → word_at ts i ≡ None → is_word ts i v ≡ false

@@ -6,8 +6,9 @@ use Rattle.cr_syntax.specs.Scopes.{Scopes}
 use Rattle.cr_syntax.specs.Trees.{Trees, none, trees_of}
 use Rattle.cr_syntax.specs.Kept.{PartsAreBelow, AreBelow}
 use Rattle.cr_syntax.specs.Spells.{AtMost}
-use Rattle.cr_syntax.specs.Units.{most_levels}
-use Rattle.cr_machine.specs.Machine.{Prog, Reply, Done, Failed, Cause, unexpected, ended, too_deep, outside, Runs}
+use Rattle.cr_syntax.specs.Units.{most_levels, Refusal}
+use Rattle.cr_syntax.specs.Units as u
+use Rattle.cr_machine.specs.Machine.{Prog, Reply, Done, Failed, Cause, refusal_of, Runs}
 use Rattle.cr_machine.specs.MachineBody.{body}
 use Rattle.cr_exprs.specs.Loose.{Replaces}
 use Rattle.cr_exprs.specs.declared.fault.ParseFault.{ParseFault}
@@ -24,29 +25,28 @@ RunsTo ts p c i r = Runs body ts (AtMost most_levels) p c i r
 abbrev pub tree : List Node → ℕ → Trees
 tree nodes k = slice_index_or (trees_of nodes) k none
 
--- the machine's cause for a fault, none for want of memory, and its token, where there are n tokens
-abbrev pub cause_of : ParseFault → Option Cause
-cause_of NoMemory = None
-cause_of (Unexpected k) = Some unexpected
-cause_of Ended = Some ended
-cause_of (TooDeep k) = Some too_deep
-cause_of (OutsideSubset k row) = Some (outside row)
+-- the refusal that a fault is, none for want of memory
+abbrev pub refusal_in : ParseFault → Option Refusal
+refusal_in NoMemory = None
+refusal_in (Unexpected k) = Some (u.Unexpected k)
+refusal_in Ended = Some u.Ended
+refusal_in (TooDeep k) = Some (u.TooDeep k)
+refusal_in (OutsideSubset k row) = Some (u.OutsideSubset k row)
 
-abbrev pub place_of : ℕ → ParseFault → ℕ
-place_of n NoMemory = 0
-place_of n (Unexpected k) = k
-place_of n Ended = n
-place_of n (TooDeep k) = k
-place_of n (OutsideSubset k row) = k
+-- a fault that is the machine's refusal at token k, for this cause
+pub record IsRefusal (fault : ParseFault) (x : Cause) (k : ℕ) : Type 0 where
+  pub is : refusal_in fault ≡ Some (refusal_of x k)
 
--- a fault that says this of this token
-pub record IsRefusal (ts : List Lexeme) (fault : ParseFault) (x : Cause) (k : ℕ) : Type 0 where
-  pub cause : cause_of fault ≡ Some x
-  pub place : place_of (length ts) fault ≡ k
+-- A program fails, and its failure is this refusal. The token at which the machine sees it may stand behind the one refused.
+pub record FailsSo (ts : List Lexeme) (p : Prog) (c : Scopes) (i : ℕ) (x : Refusal) : Type 0 where
+  pub cause : Cause
+  pub at : ℕ
+  pub run : RunsTo ts p c i (Failed cause at)
+  pub is : refusal_of cause at ≡ x
 
 -- a program fails with this fault; want of memory says nothing
 pub record Refuses (ts : List Lexeme) (p : Prog) (c : Scopes) (i : ℕ) (fault : ParseFault) : Type 0 where
-  pub run : (x : Cause) → cause_of fault ≡ Some x → RunsTo ts p c i (Failed x (place_of (length ts) fault))
+  pub run : (x : Refusal) → refusal_in fault ≡ Some x → FailsSo ts p c i x
 
 -- a program is done with these trees
 pub record Gives (ts : List Lexeme) (p : Prog) (c : Scopes) (i : ℕ) (t : Trees) (e : Scopes) (j : ℕ) : Type 0 where

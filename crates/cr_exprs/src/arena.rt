@@ -270,7 +270,7 @@ fn is_void(kind: Kind) -> bool
 }
 
 /// Takes the last nodes off, down to so many.
-fn drop_to(nodes: &mut Row<Node>, count: usize)
+pub(crate) fn drop_to(nodes: &mut Row<Node>, count: usize)
     requires count { count ≤ length nodes.old }
     requires below { PartsAreBelow nodes.old }
     ensures length { length nodes.new ≡ count }

@@ -8,6 +8,7 @@
 #![tactic(auto)]
 
 mod arena;
+mod behind;
 mod calls;
 mod declarators;
 mod expressions;
@@ -33,5 +34,6 @@ pub use names::TypeNames;
 pub use reading::read;
 pub use scopes::{bring, declare, drop_scope, give_back, taken};
 pub use source::{
-    Source, barred, expect, here, is_ordinary, room, stands, starts_specifier, words_of,
+    Source, barred, expect, here, is_type_identifier, refused, room, stands, starts_specifier,
+    words_of,
 };

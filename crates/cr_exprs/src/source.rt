@@ -1,8 +1,8 @@
 ghost use Rattle.std.specs.Prelude.{◌≡◌, ℕ, ◌≤◌, ◌<◌, ◌^◌, IsTrue, IfOk, IfErr, OnOk, OnErr, true, false, length};
 ghost use Rattle.cr_syntax.specs.Words.{AreSpans, spelling_at, word_at};
 ghost use Rattle.cr_syntax.specs.Reads.{is_word, is_qualifier};
-ghost use Rattle.cr_syntax.specs.Units.{is_unused};
-ghost use Rattle.cr_machine.specs.Machine.{has_word, passes, has, or, ordinary, type_identifier, declared, verdict, barred, overflows, too_deep};
+ghost use Rattle.cr_syntax.specs.Units.{is_unused, is_opening};
+ghost use Rattle.cr_machine.specs.Machine.{has_word, passes, has, or, ordinary, type_identifier, declared, verdict, barred, overflows, exceeds, too_deep};
 ghost use Rattle.cr_machine.specs.MachineBody.{is_plain_start, is_specifier_start, is_abstract_start, is_declarator_start};
 ghost use Rattle.cr_exprs.specs.Source.{IsReadable, text_of, words_in};
 ghost use Rattle.cr_syntax.specs.Scopes.{Scopes};
@@ -69,7 +69,7 @@ pub(crate) fn spelling<'a>(source: &'a Source, at: usize) -> &'a [u8]
 }
 
 /// Whether an identifier stands here that is no type.
-pub fn is_ordinary(source: &Source, at: usize, scopes: &OpenScopes) -> bool
+pub(crate) fn is_ordinary(source: &Source, at: usize, scopes: &OpenScopes) -> bool
     requires { IsReadable source.now }
     ensures { result ≡ passes (text_of source.now) scopes.now at ordinary }
 {
@@ -77,12 +77,7 @@ pub fn is_ordinary(source: &Source, at: usize, scopes: &OpenScopes) -> bool
 }
 
 /// Whether an identifier stands here that is a type, where no type specifier stands before it.
-pub(crate) fn is_type_identifier(
-    source: &Source,
-    at: usize,
-    typed: bool,
-    scopes: &OpenScopes,
-) -> bool
+pub fn is_type_identifier(source: &Source, at: usize, typed: bool, scopes: &OpenScopes) -> bool
     requires { IsReadable source.now }
     ensures answer { result ≡ passes (text_of source.now) scopes.now at (type_identifier typed) }
     ensures inside { IsTrue result → at < length source.now.tokens.now }
@@ -187,7 +182,6 @@ fn is_unused(word: Word) -> bool
     match word {
         Word::Double
         | Word::Float
-        | Word::Goto
         | Word::Restrict
         | Word::Union
         | Word::Alignas
@@ -213,11 +207,39 @@ fn overflows(word: Word, depth: usize) -> bool
     }
 }
 
+/// The same of a word that opens a level by itself, where the grammar has it.
+fn exceeds(word: Word, depth: usize) -> bool
+    ensures { result ≡ exceeds word depth }
+{
+    is_opening(word) && depth >= MOST_LEVELS
+}
+
+fn is_opening(word: Word) -> bool
+    ensures { result ≡ is_opening word }
+{
+    match word {
+        Word::LeftParen
+        | Word::LeftBracket
+        | Word::LeftBrace
+        | Word::Do
+        | Word::PlusPlus
+        | Word::MinusMinus
+        | Word::Ampersand
+        | Word::Star
+        | Word::Plus
+        | Word::Minus
+        | Word::Tilde
+        | Word::Bang
+        | Word::Sizeof => true,
+        _ => false,
+    }
+}
+
 /// The refusal of a token that nothing fits, where so many levels are open.
-pub(crate) fn refused(source: &Source, at: usize, depth: usize) -> ParseFault
+pub fn refused(source: &Source, at: usize, depth: usize) -> ParseFault
     requires readable { IsReadable source.now }
     requires at { at ≤ length source.now.tokens.now }
-    ensures { IsRefusal (text_of source.now) result (verdict (text_of source.now) at depth) at }
+    ensures { IsRefusal result (verdict (text_of source.now) at depth) at }
 {
     let Some(word) = source.words.get(at) else {
         return ParseFault::Ended;
@@ -235,12 +257,12 @@ pub(crate) fn refused(source: &Source, at: usize, depth: usize) -> ParseFault
 pub fn barred(source: &Source, at: usize, row: u8, depth: usize) -> ParseFault
     requires readable { IsReadable source.now }
     requires at { at ≤ length source.now.tokens.now }
-    ensures { IsRefusal (text_of source.now) result (barred (text_of source.now) row at depth) at }
+    ensures { IsRefusal result (barred (text_of source.now) row at depth) at }
 {
     let Some(word) = source.words.get(at) else {
         return ParseFault::Ended;
     };
-    if overflows(*word, depth) {
+    if exceeds(*word, depth) {
         return ParseFault::TooDeep(at as u32);
     }
     ParseFault::OutsideSubset(at as u32, row)
@@ -266,7 +288,7 @@ pub fn expect(source: &Source, at: usize, word: Word, depth: usize) -> Result<()
     ensures ok { OnOk result (is_word (text_of source.now) at word ≡ true) }
     ensures inside { OnOk result (at < length source.now.tokens.now) }
     ensures other { OnErr result (is_word (text_of source.now) at word ≡ false) }
-    ensures err { IfErr result (λ fault. IsRefusal (text_of source.now) fault (verdict (text_of source.now) at depth) at) }
+    ensures err { IfErr result (λ fault. IsRefusal fault (verdict (text_of source.now) at depth) at) }
 {
     if !stands(source, at, word) {
         return Err(refused(source, at, depth));
@@ -286,7 +308,7 @@ pub(crate) fn bar(
     requires at { at ≤ length source.now.tokens.now }
     ensures ok { OnOk result (is_word (text_of source.now) at word ≡ false) }
     ensures stands { OnErr result (is_word (text_of source.now) at word ≡ true) }
-    ensures err { IfErr result (λ fault. IsRefusal (text_of source.now) fault (barred (text_of source.now) row at depth) at) }
+    ensures err { IfErr result (λ fault. IsRefusal fault (barred (text_of source.now) row at depth) at) }
 {
     if stands(source, at, word) {
         return Err(barred(source, at, row, depth));
@@ -301,7 +323,7 @@ pub(crate) fn bar_unused(source: &Source, at: usize, depth: usize) -> Result<(),
     ensures ok { OnOk result (has_word (text_of source.now) at is_unused ≡ false) }
     ensures stands { OnErr result (has_word (text_of source.now) at is_unused ≡ true) }
     ensures row { IfErr result (λ fault. fault ≡ ParseFault.OutsideSubset at 1) }
-    ensures err { IfErr result (λ fault. IsRefusal (text_of source.now) fault (barred (text_of source.now) 1 at depth) at) }
+    ensures err { IfErr result (λ fault. IsRefusal fault (barred (text_of source.now) 1 at depth) at) }
 {
     if here(source, at).is_some_and(is_unused) {
         return Err(ParseFault::OutsideSubset(at as u32, 1));

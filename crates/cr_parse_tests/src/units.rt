@@ -82,6 +82,14 @@ typedef int T;int x=(T)-1,T=(T)-1;¦Declaration[Specifiers[Typedef Int] T] Decla
 {for(int i=0;i<3;i++){}}¦Compound[For[Declaration[Int InitDeclarator[i 0]] Less[i 3] PostIncrement[i] Compound]]
 {{}{}}¦Compound[Compound Compound]
 {return a,a;}¦Compound[Return[Comma[a a]]]
+-- labels and jumps
+int main(){L:;}¦FunctionDefinition[Int FunctionDeclarator[main] Compound[Label[ExpressionStatement]]]
+int main(){goto L;L:;}¦FunctionDefinition[Int FunctionDeclarator[main] Compound[Goto Label[ExpressionStatement]]]
+{a:T:a=1;goto T;T x;}¦Compound[Label[Label[ExpressionStatement[Assign[a 1]]]] Goto Declaration[T x]]
+{if(a){b:T:{T x;}}}¦Compound[If[a Compound[Label[Label[Compound[Declaration[T x]]]]]]]
+{switch(a){b:case 1:T:default:c:if(a)goto b;}}¦Compound[Switch[a Compound[Label[Case[1 Label[Default[Label[If[a Goto]]]]]]]]]
+{if(a)1;else{b:if(a)2;else 3;}}¦Compound[If[a ExpressionStatement[1] Compound[Label[If[a ExpressionStatement[2] ExpressionStatement[3]]]]]]
+{a?b:c;b:c?a:a;}¦Compound[ExpressionStatement[Conditional[a b c]] Label[ExpressionStatement[Conditional[c a a]]]]
 "#;
 
 // Texts that are refused; those that begin with a brace stand behind "typedef int T;void f(int a)", which are ten tokens.
@@ -114,13 +122,12 @@ typedef int T;enum{T};T x;¦Unexpected(9)
 typedef int T;T f(T T,T b);¦Unexpected(10)
 {int x}¦Unexpected(13)
 {a}¦Unexpected(12)
-{a:;}¦Unexpected(12)
 {return T;}¦Unexpected(12)
 {a*T;}¦Unexpected(13)
 {T(x);a=T(x);}¦Unexpected(18)
 {if a;}¦Unexpected(12)
 {if(T x)a;}¦Unexpected(13)
-{if(a)T x;}¦Unexpected(15)
+{if(a)T x;}¦Unexpected(16)
 {else;}¦Unexpected(11)
 {if(a);else;else;}¦Unexpected(18)
 {do;while(a)}¦Unexpected(17)
@@ -129,14 +136,25 @@ typedef int T;T f(T T,T b);¦Unexpected(10)
 {for(;;;);}¦Unexpected(15)
 {for(T x;;)x;x;T y;x}¦Unexpected(26)
 {break}¦Unexpected(12)
-{switch(a){case 1:T x;}}¦Unexpected(19)
+{switch(a){case 1:T x;}}¦Unexpected(20)
 {switch(a){case 1:}}¦Unexpected(19)
 {switch(a)}¦Unexpected(15)
+-- labels and jumps: a typedef name begins a statement too, as a label
+a goto¦Unexpected(0)
+{a goto b;}¦Unexpected(12)
+{goto 1;}¦Unexpected(12)
+{goto a}¦Unexpected(13)
+{a:}¦Unexpected(13)
+{a:T x;}¦Unexpected(14)
+{T:int x;}¦Unexpected(13)
+{if(a)T;}¦Unexpected(16)
+{if(a)T float;¦OutsideSubset(16, 1)
+{if(a)T¦Ended
+{a:¦Ended
 -- unused keywords
 float x;¦OutsideSubset(0, 1)
 int x;double¦OutsideSubset(3, 1)
 int restrict x;¦OutsideSubset(1, 1)
-{goto a;}¦OutsideSubset(11, 1)
 {a float¦OutsideSubset(12, 1)
 int x=float¦OutsideSubset(3, 1)
 -- designators, compound literals, calls of what is no identifier, bit-fields
@@ -157,6 +175,15 @@ struct s{int a:3;};¦OutsideSubset(5, 5)
 {switch(a);}¦OutsideSubset(15, 7)
 {switch(a)if(a){}}¦OutsideSubset(15, 7)
 {switch(a)T x;}¦OutsideSubset(15, 7)
+{switch(a)T:;}¦OutsideSubset(15, 7)
+{switch(a)goto b;}¦OutsideSubset(15, 7)
+int main(){if(1)L:;}¦OutsideSubset(9, 9)
+{if(a)T:;}¦OutsideSubset(15, 9)
+{do b:;while(a);}¦OutsideSubset(12, 9)
+{a:if(a);else b:;}¦OutsideSubset(19, 9)
+{switch(a){case 1:if(a)b:;}}¦OutsideSubset(23, 9)
+{switch(a){if(a)b:case 1:;}}¦OutsideSubset(20, 9)
+{a:case 1:;}¦OutsideSubset(13, 6)
 -- functions with `...`
 int f(int a,...){}¦OutsideSubset(6, 8)
 int(f)(int,...){}¦OutsideSubset(7, 8)
@@ -201,7 +228,7 @@ fn is_block(text: &str) -> bool {
 fn units_have_their_trees(rt: HostRuntime) -> Result<(), Fail> {
     let alloc = rt.alloc();
     let trees = rows(alloc, TREES)?;
-    assert!(rt; trees.len() == 66);
+    assert!(rt; trees.len() == 73);
     for row in trees {
         let (text, tree) = pair(row);
         let file = whole(alloc, text)?;
@@ -216,7 +243,7 @@ fn units_have_their_trees(rt: HostRuntime) -> Result<(), Fail> {
 fn refusals_name_kind_and_token(rt: HostRuntime) -> Result<(), Fail> {
     let alloc = rt.alloc();
     let faults = rows(alloc, FAULTS)?;
-    assert!(rt; faults.len() == 75);
+    assert!(rt; faults.len() == 93);
     for row in faults {
         let (text, wanted) = pair(row);
         let file = whole(alloc, text)?;
@@ -254,6 +281,7 @@ const NESTS: &str = r#"
 127¦void f(){¦while(1)¦;¦
 127¦void f(){¦for(;;)¦;¦
 127¦void f(){¦do ¦;¦while(1);
+127¦void f(){¦a:¦;¦
 125¦void f(){switch(1){¦case 1:¦;¦
 125¦void f(){switch(1){¦default:¦;¦
 128¦int a=¦{¦1¦}
@@ -264,7 +292,7 @@ const NESTS: &str = r#"
 fn levels_are_counted_to_128(rt: HostRuntime) -> Result<(), Fail> {
     let alloc = rt.alloc();
     let nests = rows(alloc, NESTS)?;
-    assert!(rt; nests.len() == 10);
+    assert!(rt; nests.len() == 11);
     for row in nests {
         let (most, rest) = pair(row);
         let (before, rest) = pair(rest);
@@ -285,6 +313,35 @@ fn levels_are_counted_to_128(rt: HostRuntime) -> Result<(), Fail> {
         )?;
         let found = fault_of(alloc, text.as_str())?;
         assert!(rt; found.as_str().starts_with("TooDeep("), "{row}");
+    }
+    Ok(())
+}
+
+// How often a level is opened, what stands before, what opens it, what stands at the limit, and how that is refused.
+const LIMITS: &str = r#"
+127¦void f(){¦a:¦b:;¦TooDeep(260)
+127¦void f(){¦if(1)¦b:;¦OutsideSubset(513, 9)
+126¦void f(){¦if(1)¦switch(1)b:;¦OutsideSubset(513, 7)
+126¦void f(){¦if(1)¦switch(1)(b);¦TooDeep(513)
+126¦void f(){¦if(1)¦switch(1)-1;¦TooDeep(513)
+126¦void f(){¦if(1)¦switch(1)do;while(1);¦TooDeep(513)
+125¦void f(){¦if(1)¦switch(1)-1;¦OutsideSubset(509, 7)
+"#;
+
+#[test]
+fn at_one_token_too_deep_comes_first(rt: HostRuntime) -> Result<(), Fail> {
+    let alloc = rt.alloc();
+    let limits = rows(alloc, LIMITS)?;
+    assert!(rt; limits.len() == 7);
+    for row in limits {
+        let (count, rest) = pair(row);
+        let (before, rest) = pair(rest);
+        let (open, rest) = pair(rest);
+        let (inner, wanted) = pair(rest);
+        let count = count.parse::<usize>().ok().ok_or("no number")?;
+        let text = nested(alloc, before, open, count, inner, "", "}")?;
+        let found = fault_of(alloc, text.as_str())?;
+        expect(&rt, found.as_str(), wanted, row);
     }
     Ok(())
 }

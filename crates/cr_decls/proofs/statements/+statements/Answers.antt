@@ -1,5 +1,5 @@
 use Rattle.std.proofs.Common.{refl, sym, ap, ◌∙◌, arith, rules}
-use Rattle.cr_machine.specs.Machine.{plain, opens, call, give, made, run_give, run_stop, run_take, run_deep, run_pass, run_bar, run_free, run_seen, run_unseen, run_yes, run_no, run_here, run_look, run_set, run_bring, run_call, run_fail}
+use Rattle.cr_machine.specs.Machine.{plain, opens, call, give, made, run_give, run_stop, run_take, run_deep, run_pass, run_bar, run_free, run_seen, run_unseen, run_yes, run_no, run_here, run_look, run_set, run_bring, run_call, run_fail, run_refuse}
 use Rattle.cr_machine.specs.Machine as m
 use Rattle.cr_machine.specs.MachineBody.{body}
 use Rattle.std.proofs.Common.{[], ◌∷◌}
@@ -8,28 +8,47 @@ use Rattle.cr_exprs.proofs.Nodes.{tree_kept, keeps_all, keeps_none, below_empty,
 use Rattle.cr_exprs.proofs.Runs.{exit, fails, stops, deep, no_memory, memory, finish, through, handed, shift, done_as, done_in, run_in, no_room}
 use Rattle.std.specs.Prelude.{option_to_list}
 use Rattle.cr_syntax.specs.Kept.{row_in}
-use Rattle.cr_decls.specs.declared.labels.Labels.TheVariants.{OwnBlock}
+use Rattle.cr_exprs.specs.Source.{text_of}
 use Rattle.cr_decls.specs.Programs.{labels_of}
-use Rattle.cr_decls.proofs.Steps.{in_own_block, unlabelled_in, step_shift, loop_row, loop_below, loop_kept}
+use Rattle.cr_decls.proofs.Marked.{colon_stands, label_in, labelled_item, declaration_item, labelled_statement, plain_statement}
+use Rattle.cr_decls.proofs.Steps.{step_shift, loop_row, loop_below, loop_kept}
 use Rattle.cr_decls.proofs.statements.+statements.Goals as goal
 
+pub statement-returns-then-stands_label-clause-reads : goal.statement-returns-then-stands_label-clause-reads
+statement-returns-then-stands_label-clause-reads t c = through c.label.result (λ y h. label_in (labels_of c.args.labels) (sym c.stands_label.ensures.answer ∙ c.if-stands_label.true) h) c.label.ensures.reads
+
 pub statement-returns-then-may_label-clause-reads : goal.statement-returns-then-may_label-clause-reads
-statement-returns-then-may_label-clause-reads t c = through c.labelled.result (λ y h. in_own_block c.args.labels (sym c.may_label.ensures ∙ c.if-may_label.true) h) c.labelled.ensures.reads
+statement-returns-then-may_label-clause-reads t c = through c.labelled.result (λ y h. labelled_statement c.args.labels (sym c.may_label.ensures ∙ c.if-may_label.true) (sym c.stands_label.ensures.answer ∙ c.if-stands_label.false) h) c.labelled.ensures.reads
 
 pub statement-returns-in_err-bar_label-clause-reads : goal.statement-returns-in_err-bar_label-clause-reads
 statement-returns-in_err-bar_label-clause-reads t c = exit c.from_residual.result _ c.from_residual.ensures.1 (stops c.in_err-bar_label.ensures.err (run_here (run_no (sym c.may_label.ensures ∙ c.if-may_label.false) (run_bar c.in_err-bar_label.ensures.stands))))
 
 pub statement-returns-clause-reads : goal.statement-returns-clause-reads
-statement-returns-clause-reads t c = through c.unlabelled.result (λ y h. run_here (run_no (sym c.may_label.ensures ∙ c.if-may_label.false) (run_free c.in_ok-bar_label.ensures.ok (unlabelled_in c.args.labels h)))) c.unlabelled.ensures.reads
+statement-returns-clause-reads t c = through c.unlabelled.result (λ y h. plain_statement c.args.labels (sym c.may_label.ensures ∙ c.if-may_label.false) (sym c.stands_label.ensures.answer ∙ c.if-stands_label.false) c.in_ok-bar_label.ensures.ok h) c.unlabelled.ensures.reads
+
+pub label-returns-then-not-may_mark-clause-reads : goal.label-returns-then-not-may_mark-clause-reads
+label-returns-then-not-may_mark-clause-reads t c = record { is = stops (record { is = refl }) (run_no (sym c.may_mark.ensures ∙ c.if-not-may_mark.true) run_refuse) }
+
+pub label-returns-in_err-room-clause-reads : goal.label-returns-in_err-room-clause-reads
+label-returns-in_err-room-clause-reads t c = exit c.from_residual.result _ c.from_residual.ensures.1 (deep c.in_err-room.ensures.err (run_yes (sym c.may_mark.ensures ∙ c.if-not-may_mark.false) (run_deep (colon_stands (text_of c.args.source.now) c.args.start c.requires.label) (no_room c.in_err-room.ensures.full))))
+
+pub label-returns-in_err-inner-clause-reads : goal.label-returns-in_err-inner-clause-reads
+label-returns-in_err-inner-clause-reads t c = exit c.from_residual-in_err-inner.result _ c.from_residual-in_err-inner.ensures.1 (fails (c.in_err-inner.ensures.reads.is) (λ x k h. run_yes (sym c.may_mark.ensures ∙ c.if-not-may_mark.false) (run_take (colon_stands (text_of c.args.source.now) c.args.start c.requires.label) c.in_ok-room.ensures.ok (run_fail h))))
+
+pub label-returns-clause-reads : goal.label-returns-clause-reads
+label-returns-clause-reads t c = finish c.over.new.nodes c.over.result c.over.ensures.err c.over.ensures.next c.over.ensures.tree (run_yes (sym c.may_mark.ensures ∙ c.if-not-may_mark.false) (run_take (colon_stands (text_of c.args.source.now) c.args.start c.requires.label) c.in_ok-room.ensures.ok (run_call c.in_ok-inner.ensures.reads.is.run (run_here run_give))))
+
+pub label-returns-clause-placed : goal.label-returns-clause-placed
+label-returns-clause-placed t c = placed_push c.over.new.nodes [] (c.in_ok-inner.inner.node ∷ []) c.over.result c.over.ensures.ok c.over.ensures.next (omega (arith, c.in_ok-inner.ensures.placed.from)) c.in_ok-inner.ensures.placed.to c.in_ok-inner.ensures.placed.keeps (c.in_ok-inner.ensures.placed.kept)
 
 pub labelled-returns-then-stands-clause-reads : goal.labelled-returns-then-stands-clause-reads
-labelled-returns-then-stands-clause-reads t c = through c.case.result (λ y h. run_here (run_yes refl (run_take (sym c.stands.ensures.answer ∙ c.if-stands.true) tt h))) c.case.ensures.reads
+labelled-returns-then-stands-clause-reads t c = through c.case.result (λ y h. run_take (sym c.stands.ensures.answer ∙ c.if-stands.true) tt h) c.case.ensures.reads
 
 pub labelled-returns-then-stands-2-clause-reads : goal.labelled-returns-then-stands-2-clause-reads
-labelled-returns-then-stands-2-clause-reads t c = through c.default.result (λ y h. run_here (run_yes refl (run_pass (sym c.stands.ensures.answer ∙ c.if-stands.false) (run_take (sym c.stands-2.ensures.answer ∙ c.if-stands-2.true) tt h)))) c.default.ensures.reads
+labelled-returns-then-stands-2-clause-reads t c = through c.default.result (λ y h. run_pass (sym c.stands.ensures.answer ∙ c.if-stands.false) (run_take (sym c.stands-2.ensures.answer ∙ c.if-stands-2.true) tt h)) c.default.ensures.reads
 
 pub labelled-returns-clause-reads : goal.labelled-returns-clause-reads
-labelled-returns-clause-reads t c = through c.unlabelled.result (λ y h. run_here (run_yes refl (run_pass (sym c.stands.ensures.answer ∙ c.if-stands.false) (run_pass (sym c.stands-2.ensures.answer ∙ c.if-stands-2.false) (unlabelled_in OwnBlock h))))) c.unlabelled.ensures.reads
+labelled-returns-clause-reads t c = through c.unlabelled.result (λ y h. run_pass (sym c.stands.ensures.answer ∙ c.if-stands.false) (run_pass (sym c.stands-2.ensures.answer ∙ c.if-stands-2.false) h)) c.unlabelled.ensures.reads
 
 pub case-returns-in_err-value-clause-reads : goal.case-returns-in_err-value-clause-reads
 case-returns-in_err-value-clause-reads t c = exit c.from_residual.result _ c.from_residual.ensures.1 (fails (c.in_err-value.ensures.reads.is) (λ x k h. run_fail h))
@@ -247,8 +266,11 @@ items-returns-in_err-push-clause-reads t c = memory c.from_residual-in_err-push.
 pub items-items-preserved : goal.items-items-preserved
 items-items-preserved t c = record { goes = record { on = λ y r. c.items.invariant.goes.on y (run_pass (sym c.stands.ensures.answer ∙ c.if-stands.false) (run_call c.in_ok-one.ensures.reads.is.run (handed y (shift (λ u. body (m.items (labels_of c.args.labels) c.args.depth c.args.start u)) (row_more _ _ _ _ _ c.in_ok-one.ensures.placed.keeps c.items.invariant.parts c.in_ok-push.ensures.ok) refl r)))) }; keeps = keeps_all _ _ _ c.items.invariant.keeps c.in_ok-one.ensures.placed.keeps; below = c.in_ok-one.ensures.placed.below; kept = λ loose h. kept_more _ _ _ _ _ loose c.in_ok-push.ensures.ok (c.in_ok-one.ensures.placed.kept _ (c.items.invariant.kept loose h)); parts = (is_row_more _ _ _ _ _ c.items.invariant.parts c.in_ok-one.ensures.placed.keeps.longer c.in_ok-one.ensures.placed.last c.in_ok-push.ensures.ok).below; from = omega (arith, c.items.invariant.from, c.in_ok-one.ensures.placed.from); to = c.in_ok-one.ensures.placed.to }
 
+pub item-returns-then-stands_label-clause-reads : goal.item-returns-then-stands_label-clause-reads
+item-returns-then-stands_label-clause-reads t c = through c.label.result (λ y h. labelled_item (labels_of c.args.labels) (sym c.stands_label.ensures.answer ∙ c.if-stands_label.true) h) c.label.ensures.reads
+
 pub item-returns-then-starts_specifier-clause-reads : goal.item-returns-then-starts_specifier-clause-reads
-item-returns-then-starts_specifier-clause-reads t c = through c.declaration.result (λ y h. run_seen (sym c.starts_specifier.ensures ∙ c.if-starts_specifier.true) (handed y h)) c.declaration.ensures.reads
+item-returns-then-starts_specifier-clause-reads t c = through c.declaration.result (λ y h. declaration_item (labels_of c.args.labels) (sym c.starts_specifier.ensures ∙ c.if-starts_specifier.true) (sym c.stands_label.ensures.answer ∙ c.if-stands_label.false) h) c.declaration.ensures.reads
 
 pub item-returns-clause-reads : goal.item-returns-clause-reads
 item-returns-clause-reads t c = through c.statement.result (λ y h. run_unseen (sym c.starts_specifier.ensures ∙ c.if-starts_specifier.false) (handed y h)) c.statement.ensures.reads

@@ -39,6 +39,9 @@ decreases-item l = (length l.source.now.tokens.now - l.at) * 16 + 10
 abbrev pub decreases-items : goal.decreases-items
 decreases-items l = (length l.source.now.tokens.now - l.start) * 16 + 4
 
+abbrev pub decreases-label : goal.decreases-label
+decreases-label l = (length l.source.now.tokens.now - l.start) * 16 + 0
+
 abbrev pub decreases-labelled : goal.decreases-labelled
 decreases-labelled l = (length l.source.now.tokens.now - l.at) * 16 + 7
 
