@@ -1,0 +1,44 @@
+use cr_meaning::{Limits, Op};
+use cr_memory::{Cell, Guard, Scalar};
+use cr_rows::Row;
+
+/// What the nodes of a program do, and what this needs of its types and objects; made once for a program.
+#[derive(Drop)]
+pub struct Table {
+    /// The operation of each node, and behind them that of the whole program.
+    pub ops: Row<Op>,
+    /// For each node that declares an object or is a literal the kinds and guards of the object's cells.
+    pub shapes: Row<Row<(Scalar, Guard)>>,
+    /// For each string literal its bytes with the closing zero (C11 6.4.5p6).
+    pub literals: Row<Option<Row<Cell>>>,
+    /// For each row of the table of types the kinds of its cells.
+    pub kinds: Row<Row<Scalar>>,
+    pub limits: Limits,
+}
+
+impl Table {
+    ghost use Rattle.std.specs.Prelude.{◌≡◌, length};
+    ghost use Rattle.cr_eval.specs.Table.{program_of};
+
+    /// The kinds of the cells of a row of the table of types.
+    #[inline]
+    pub fn kinds_of(&self, row: u32) -> &[Scalar]
+        ensures { result.now ≡ (program_of self.now).kinds row }
+    {
+        match self.kinds.as_slice().get(row as usize) {
+            Some(kinds) => kinds.as_slice(),
+            None => &[],
+        }
+    }
+
+    /// How many cells the object has that a node declares.
+    #[inline]
+    pub fn cells_for(&self, node: u32) -> usize
+        ensures { result ≡ length ((program_of self.now).shape node) }
+    {
+        match self.shapes.as_slice().get(node as usize) {
+            Some(shape) => shape.len(),
+            None => 0,
+        }
+    }
+}
