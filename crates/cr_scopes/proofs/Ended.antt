@@ -1,6 +1,6 @@
 -- What is known when all events are followed.
 use Rattle.std.proofs.Common.{◌≡◌, ℕ, zero, suc, ◌+◌, ◌<◌, ◌≤◌, Bool, true, false, List, [], ◌∷◌, Option, None, Some, length, slice_get, slice_index_or, nat_lt, nat_le, nat_eq, drop, if◌then◌else◌, refl, sym, ap, subst, ◌∙◌, inl, inr, arith}
-use Rattle.std.specs.HashSet.{contains}
+use Rattle.std.specs.HashMap.{get}
 use Rattle.std.specs.Map.{lookup}
 use Rattle.std.proofs.lemmas.Option.{slice_get_past}
 use Rattle.std.proofs.lemmas.Bool.{true≢false, cases_lt, leb-true, leb-false, cond-true, cond-false, lt-ltb, le-ltb}
@@ -138,7 +138,7 @@ none_in space s zero = refl
 none_in space s (suc d) = refl
 
 pub starts : (name : ℕ → ℕ) (state : State) → state.scopes ≡ [] → state.depth ≡ 0 → state.linked ≡ []
-    → ((q : ℕ × ℕ) → contains same_pair state.members q ≡ false)
+    → ((q : ℕ × ℕ) → get same_pair state.members q ≡ None)
     → ((t : ℕ) → t < length state.told.items → slice_index_or state.told.items t None ≡ None) → IsState name [] state
 starts name state a b c d e = record {
   scopes = λ space s k. none_in space s k ∙ ap (λ xs. looked space s (drop k xs)) (sym a);

@@ -1,10 +1,10 @@
 -- What is kept of the events follows them.
-use Rattle.std.proofs.Common.{◌≡◌, ℕ, zero, suc, ◌+◌, ◌-◌, ◌==◌, Bool, true, false, ◌&&◌, ◌||◌, List, [], ◌∷◌, Option, None, Some, length, nat_eq, slice_set, drop, if◌then◌else◌, refl, sym, ap, subst, ◌∙◌, inl, inr, arith}
+use Rattle.std.proofs.Common.{◌≡◌, ℕ, zero, suc, ◌+◌, ◌-◌, ◌==◌, Bool, true, false, ◌&&◌, List, [], ◌∷◌, Option, None, Some, length, nat_eq, slice_set, drop, if◌then◌else◌, refl, sym, ap, subst, ◌∙◌, inl, inr, arith}
 use Rattle.std.specs.Map.{lookup}
-use Rattle.std.specs.HashSet.{contains}
+use Rattle.std.specs.HashMap.{HashMap, get}
 use Rattle.std.proofs.lemmas.List.{get_or-set_other, length-set}
 use Rattle.std.proofs.lemmas.Grind.{get_or-set_at}
-use Rattle.std.proofs.lemmas.Bool.{true≢false, cases_eq, eqb-true, eq-eqb, ne_eqb, cond-true, cond-false}
+use Rattle.std.proofs.lemmas.Bool.{true≢false, and_parts, cases_eq, eqb-true, eq-eqb, ne_eqb, cond-true, cond-false}
 use Rattle.cr_events.specs.declared.event.Event.{Event}
 use Rattle.cr_events.specs.declared.event.Event.TheVariants.{Node, Opens, Closes, Name, Member}
 use Rattle.cr_events.specs.declared.event.Role.{Role}
@@ -16,8 +16,8 @@ use Rattle.cr_scopes.specs.declared.scope.Scope.{Scope}
 use Rattle.cr_scopes.specs.declared.scope.Look.{Look}
 use Rattle.cr_scopes.specs.declared.told.Told.{Told}
 use Rattle.cr_scopes.specs.declared.state.State.{State}
-use Rattle.cr_scopes.specs.Looking.{is_outermost, links, linked, begun_by, begun, or_else, stands_in, noted_if, look, has_member}
-use Rattle.cr_scopes.specs.Faults.{wrong_by, fault_by, fault_where, fault_of}
+use Rattle.cr_scopes.specs.Looking.{is_outermost, links, linked, begun_by, begun, or_else, stands_in, noted_if, look, first_member}
+use Rattle.cr_scopes.specs.Faults.{wrong_by, fault_by, fault_where, is_other, fault_of}
 use Rattle.cr_scopes.specs.Scopes.{blank, looked, IsNamed}
 use Rattle.cr_scopes.specs.Resolved.{told, told_of, told_if, declares, declares_by, space_of}
 use Rattle.cr_scopes.specs.States.{AreScopes, AreLinked, AreTold, IsState, HasLinked, HasNamed, outermost_of, named_fault, same_pair}
@@ -83,7 +83,7 @@ opened name past old new a b c d e h = record {
   scopes = subst (AreScopes name (Opens ∷ past)) (sym a) (scopes_opened name past old.scopes h.scopes);
   depth = let k = h.depth in omega (arith, b, k);
   linked = subst (AreLinked name (Opens ∷ past)) (sym c) h.linked;
-  members = λ structure s. ap (λ x. contains same_pair x (structure, s)) d ∙ h.members structure s;
+  members = λ structure s. ap (λ x. get same_pair x (structure, s)) d ∙ h.members structure s;
   told = subst (λ x. AreTold name (Opens ∷ past) x.items) (sym e) h.told;
 }
 
@@ -98,7 +98,7 @@ closed name past old new a b c d e h = record {
   scopes = λ space s k. h.scopes space s (suc k) ∙ ap (looked space s) (drop_more k old.scopes ∙ ap (drop k) (sym a));
   depth = let k = h.depth in b ∙ ap (λ n. n - 1) k;
   linked = subst (AreLinked name (Closes ∷ past)) (sym c) h.linked;
-  members = λ structure s. ap (λ x. contains same_pair x (structure, s)) d ∙ h.members structure s;
+  members = λ structure s. ap (λ x. get same_pair x (structure, s)) d ∙ h.members structure s;
   told = subst (λ x. AreTold name (Closes ∷ past) x.items) (sym e) h.told;
 }
 
@@ -113,24 +113,53 @@ went_on name past i state h = record {
 }
 
 -- a member
+pair_is : (a b : ℕ × ℕ) → same_pair a b ≡ true → a ≡ b
+pair_is a b e =
+    let both = and_parts (a.0 == b.0) (a.1 == b.1) e in
+    ap (λ x. (x, a.1)) (eqb-true a.0 b.0 both.0) ∙ ap (λ y. (b.0, y)) (eqb-true a.1 b.1 both.1)
+
+module _ {S : Type 0} where
+  pair_kept_by : (known : HashMap (ℕ × ℕ) ℕ S) (key q : ℕ × ℕ) (first token : ℕ) (b : Bool) → same_pair key q ≡ b → get same_pair known key ≡ Some first
+      → get same_pair known q ≡ or_else (get same_pair known q) (if b then Some token else None)
+  pair_kept_by known key q first token true e h =
+      let is : get same_pair known q ≡ Some first = subst (λ x. get same_pair known x ≡ Some first) (pair_is key q e) h in
+      is ∙ sym (ap (λ o. or_else o (Some token)) is)
+  pair_kept_by known key q first token false e h = or_none (get same_pair known q)
+
+  pub pair_kept : (known : HashMap (ℕ × ℕ) ℕ S) (key : ℕ × ℕ) (first token : ℕ) → get same_pair known key ≡ Some first
+      → (q : ℕ × ℕ) → get same_pair known q ≡ or_else (get same_pair known q) (if same_pair key q then Some token else None)
+  pair_kept known key first token h q = pair_kept_by known key q first token (same_pair key q) refl h
+
+  pair_put_by : (known : HashMap (ℕ × ℕ) ℕ S) (key q : ℕ × ℕ) (token : ℕ) (b : Bool) → same_pair key q ≡ b → get same_pair known key ≡ None
+      → (if b then Some token else get same_pair known q) ≡ or_else (get same_pair known q) (if b then Some token else None)
+  pair_put_by known key q token true e h =
+      sym (ap (λ o. or_else o (Some token)) (subst (λ x. get same_pair known x ≡ None) (pair_is key q e) h))
+  pair_put_by known key q token false e h = or_none (get same_pair known q)
+
+  pub pair_put : (known new : HashMap (ℕ × ℕ) ℕ S) (key : ℕ × ℕ) (token : ℕ) → get same_pair known key ≡ None
+      → ((q : ℕ × ℕ) → get same_pair new q ≡ (if same_pair key q then Some token else get same_pair known q))
+      → (q : ℕ × ℕ) → get same_pair new q ≡ or_else (get same_pair known q) (if same_pair key q then Some token else None)
+  pair_put known new key token h p q = p q ∙ pair_put_by known key q token (same_pair key q) refl h
+
 pub member_noted : (name : ℕ → ℕ) (past : List Event) (token structure n : ℕ) (old new : State) → n ≡ name token
-    → ((q : ℕ × ℕ) → contains same_pair new.members q ≡ (contains same_pair old.members q || same_pair (structure, n) q))
+    → ((q : ℕ × ℕ) → get same_pair new.members q ≡ or_else (get same_pair old.members q) (if same_pair (structure, n) q then Some token else None))
     → new.scopes ≡ old.scopes → new.depth ≡ old.depth → new.linked ≡ old.linked → new.told ≡ old.told
     → IsState name past old → IsState name (Member token structure ∷ past) new
 member_noted name past token structure n old new is m a b c e h = record {
   scopes = subst (AreScopes name (Member token structure ∷ past)) (sym a) h.scopes;
   depth = b ∙ h.depth;
   linked = subst (AreLinked name (Member token structure ∷ past)) (sym c) h.linked;
-  members = λ k s. m (k, s) ∙ ap (λ x. x || ((structure == k) && (n == s))) (h.members k s)
-      ∙ ap (λ x. has_member name k s past || ((structure == k) && (x == s))) is;
+  members = λ k s. m (k, s)
+      ∙ ap (λ x. or_else x (if (structure == k) && (n == s) then Some token else None)) (h.members k s)
+      ∙ ap (λ x. or_else (first_member name k s past) (if (structure == k) && (x == s) then Some token else None)) is;
   told = subst (λ x. AreTold name (Member token structure ∷ past) x.items) (sym e) h.told;
 }
 
-pub member_fault : (name : ℕ → ℕ) (past : List Event) (token structure n : ℕ) (old : State) (again : Bool) (fault : Option NameFault) → n ≡ name token
-    → again ≡ contains same_pair old.members (structure, n) → fault ≡ fault_where again (Twice token) → IsState name past old
+pub member_fault : (name : ℕ → ℕ) (past : List Event) (token structure n : ℕ) (old : State) (first : Option ℕ) (fault : Option NameFault) → n ≡ name token
+    → first ≡ get same_pair old.members (structure, n) → fault ≡ fault_where (is_other token first) (Twice token) → IsState name past old
     → fault ≡ fault_of name past (Member token structure)
-member_fault name past token structure n old again fault is a f h =
-    f ∙ ap (λ b. fault_where b (Twice token)) (a ∙ h.members structure n ∙ ap (λ x. has_member name structure x past) is)
+member_fault name past token structure n old first fault is a f h =
+    f ∙ ap (λ o. fault_where (is_other token o) (Twice token)) (a ∙ h.members structure n ∙ ap (λ x. first_member name structure x past) is)
 
 -- a name
 outermost_is : (name : ℕ → ℕ) (past : List Event) (state : State) → IsState name past state → outermost_of state ≡ is_outermost past
@@ -186,7 +215,7 @@ name_noted name past token n r old new is n' h =
           ∙ ap (λ o. or_else o (if (n == q) && links (outermost_of old) r then Some token else None)) (h.linked q)
           ∙ ap (λ x. or_else (linked name q past) (if (x == q) && links (outermost_of old) r then Some token else None)) is
           ∙ ap (λ o. or_else (linked name q past) (if (name token == q) && links o r then Some token else None)) (outermost_is name past old h);
-      members = λ k s. ap (λ x. contains same_pair x (k, s)) n'.members ∙ h.members k s;
+      members = λ k s. ap (λ x. get same_pair x (k, s)) n'.members ∙ h.members k s;
       told = subst (AreTold name (Name token r ∷ past)) (sym n'.told)
           (told_named name past token r old.told.items _ h.told
           (ap (λ l. told_if (declares_by r l) r (looked (space_of r) n new.scopes).seen) (found_at name past old Tag n token is h)

@@ -1,5 +1,5 @@
 -- When a name is unknown, or declared twice.
-use Rattle.std.specs.Prelude.{ℕ, zero, Bool, true, false, not, ◌&&◌, ◌||◌, List, Option, None, Some}
+use Rattle.std.specs.Prelude.{◌==◌, ℕ, zero, Bool, true, false, not, ◌&&◌, ◌||◌, List, Option, None, Some}
 use Rattle.std.specs.Option.{is_some}
 use Rattle.cr_events.specs.declared.event.Role.{Role}
 use Rattle.cr_events.specs.declared.event.Role.TheVariants as role
@@ -10,7 +10,7 @@ use Rattle.cr_scopes.specs.declared.fault.NameFault.TheVariants.{Unknown, Twice}
 use Rattle.cr_scopes.specs.declared.scope.Space.TheVariants.{Ordinary, Content}
 use Rattle.cr_scopes.specs.declared.scope.Found.{Found}
 use Rattle.cr_scopes.specs.declared.scope.Look.{Look}
-use Rattle.cr_scopes.specs.Looking.{is_outermost, links, look, has_member}
+use Rattle.cr_scopes.specs.Looking.{is_outermost, links, look, first_member}
 
 abbrev pub is_typedef : Role → Bool
 is_typedef role.Typedef = true
@@ -42,8 +42,13 @@ abbrev pub fault_where : Bool → NameFault → Option NameFault
 fault_where true fault = Some fault
 fault_where false fault = None
 
+-- what is known stands at another token; a token may be told twice
+abbrev pub is_other : ℕ → Option ℕ → Bool
+is_other t None = false
+is_other t (Some first) = not (first == t)
+
 -- the fault of an event, by the events before it
 abbrev pub fault_of : (ℕ → ℕ) → List Event → Event → Option NameFault
 fault_of name past (Name t r) = fault_where (is_wrong name past t r) (fault_by r t)
-fault_of name past (Member t k) = fault_where (has_member name k (name t) past) (Twice t)
+fault_of name past (Member t k) = fault_where (is_other t (first_member name k (name t) past)) (Twice t)
 fault_of name past e = None

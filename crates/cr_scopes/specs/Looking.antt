@@ -118,11 +118,12 @@ look name space s (suc d) (Name t r ∷ past) = look name space s (suc d) past
 look name space s d (Member t k ∷ past) = look name space s d past
 look name space s d (Node i ∷ past) = look name space s d past
 
--- the same member of the same structure is declared before
-abbrev pub has_member : (ℕ → ℕ) → ℕ → ℕ → List Event → Bool
-has_member name structure s [] = false
-has_member name structure s (Member t k ∷ past) = has_member name structure s past || ((k == structure) && (name t == s))
-has_member name structure s (Opens ∷ past) = has_member name structure s past
-has_member name structure s (Closes ∷ past) = has_member name structure s past
-has_member name structure s (Name t r ∷ past) = has_member name structure s past
-has_member name structure s (Node i ∷ past) = has_member name structure s past
+-- the first member of a name in a structure
+abbrev pub first_member : (ℕ → ℕ) → ℕ → ℕ → List Event → Option ℕ
+first_member name structure s [] = None
+first_member name structure s (Member t k ∷ past) =
+    or_else (first_member name structure s past) (if (k == structure) && (name t == s) then Some t else None)
+first_member name structure s (Opens ∷ past) = first_member name structure s past
+first_member name structure s (Closes ∷ past) = first_member name structure s past
+first_member name structure s (Name t r ∷ past) = first_member name structure s past
+first_member name structure s (Node i ∷ past) = first_member name structure s past

@@ -1,7 +1,7 @@
 -- What is kept of the events so far.
 use Rattle.std.specs.Prelude.{◌≡◌, ℕ, ◌<◌, ◌≤◌, ◌==◌, Bool, ◌&&◌, List, Option, None, Some, length, slice_index_or, nat_eq, nat_le, slice_set, drop, if◌then◌else◌}
 use Rattle.std.specs.Map.{lookup}
-use Rattle.std.specs.HashSet.{contains}
+use Rattle.std.specs.HashMap.{get}
 use Rattle.cr_events.specs.declared.event.Event.{Event}
 use Rattle.cr_scopes.specs.declared.fault.NameFault.{NameFault}
 use Rattle.cr_events.specs.declared.event.Role.{Role}
@@ -10,7 +10,7 @@ use Rattle.cr_scopes.specs.declared.scope.Space.TheVariants.{Ordinary, Tag, Cont
 use Rattle.cr_scopes.specs.declared.scope.Scope.{Scope}
 use Rattle.cr_scopes.specs.declared.told.Told.{Told}
 use Rattle.cr_scopes.specs.declared.state.State.{State}
-use Rattle.cr_scopes.specs.Looking.{depth, links, linked, begun_by, or_else, look, has_member}
+use Rattle.cr_scopes.specs.Looking.{depth, links, linked, begun_by, or_else, look, first_member}
 use Rattle.cr_scopes.specs.Faults.{wrong_by, fault_by, fault_where}
 use Rattle.cr_scopes.specs.Scopes.{looked, IsNamed}
 use Rattle.cr_scopes.specs.Resolved.{told, told_if, declares_by, space_of, token_of}
@@ -57,7 +57,7 @@ pub record IsState (name : ℕ → ℕ) (past : List Event) (state : State) : Ty
   pub scopes : AreScopes name past state.scopes
   pub depth : state.depth ≡ depth past
   pub linked : AreLinked name past state.linked
-  pub members : (structure s : ℕ) → contains same_pair state.members (structure, s) ≡ has_member name structure s past
+  pub members : (structure s : ℕ) → get same_pair state.members (structure, s) ≡ first_member name structure s past
   pub told : AreTold name past state.told.items
 
 -- the lesser of two faults

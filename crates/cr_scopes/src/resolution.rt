@@ -15,7 +15,7 @@ use crate::told::Told;
 use cr_events::{Event, events};
 use cr_syntax::Unit;
 use std::alloc::{AllocError, Global};
-use std::collections::{HashSet, LinkedList};
+use std::collections::{HashMap, LinkedList};
 
 /// What the names of a unit stand for (C11 6.2.1 to 6.2.3). Unknown is a used ordinary identifier that no declaration in scope
 /// declares. Twice is a second declaration in one scope and name space of a name without linkage, two typedefs aside, or a
@@ -85,7 +85,7 @@ fn begin(alloc: Global, count: usize) -> Result<State, AllocError>
         scopes: LinkedList::new(alloc),
         depth: 0,
         linked: Table::new(alloc),
-        members: HashSet::new(alloc),
+        members: HashMap::new(alloc),
         told: vec![in alloc; None; count]?,
     })
 }

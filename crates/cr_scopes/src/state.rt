@@ -1,10 +1,11 @@
 ghost use Rattle.std.specs.Prelude.{length, ◌≡◌, ◌+◌, ◌-◌, ◌==◌, ◌∷◌, ◌||◌, ◌&&◌, ℕ, List, Some, None, OnOk, IfOk, nat_eq, slice_set, drop, if◌then◌else◌};
 ghost use Rattle.std.specs.Map.{lookup};
-ghost use Rattle.std.specs.HashSet.{contains};
+ghost use Rattle.std.specs.HashMap.{get};
 ghost use Rattle.cr_events.specs.declared.event.Event.{Event};
 ghost use Rattle.cr_scopes.specs.declared.fault.NameFault.TheVariants.{Twice};
 ghost use Rattle.std.specs.Prelude.{true};
-ghost use Rattle.cr_scopes.specs.Faults.{fault_of, fault_where};
+ghost use Rattle.cr_scopes.specs.Looking.{or_else};
+ghost use Rattle.cr_scopes.specs.Faults.{is_other, fault_of, fault_where};
 ghost use Rattle.cr_scopes.specs.Scopes.{blank};
 ghost use Rattle.cr_scopes.specs.States.{name_in, same_pair, IsState, HasLinked, HasNamed, named_fault};
 
@@ -15,7 +16,7 @@ use crate::table::Table;
 use crate::told::{Told, declares_by, space_of, told_if};
 use cr_events::{Event, Role};
 use std::alloc::{AllocError, Global};
-use std::collections::HashSet;
+use std::collections::HashMap;
 
 /// What is kept of the events so far.
 #[derive(Drop)]
@@ -26,8 +27,8 @@ pub struct State {
     pub depth: usize,
     /// The names with linkage, each with its first declaration.
     pub linked: Table<u32>,
-    /// The members of structures.
-    pub members: HashSet<(u32, u32)>,
+    /// The first member of each name in a structure.
+    pub members: HashMap<(u32, u32), u32>,
     /// What tokens stand for.
     pub told: Vec<Option<Told>>,
 }
@@ -42,16 +43,33 @@ fn name_at(names: &[u32], token: u32) -> u32
     }
 }
 
-// Whether a structure has a member of this name already; it has from then on.
-fn has_member(
-    members: &mut HashSet<(u32, u32)>,
+// The first member of this name in a structure; where there is none, it is this one from then on.
+#[tactic(auto, using(crate::proofs::Followed::pair_kept, crate::proofs::Followed::pair_put))]
+fn first_member(
+    members: &mut HashMap<(u32, u32), u32>,
     structure: u32,
     name: u32,
-) -> Result<bool, AllocError>
-    ensures was { IfOk result (λ again. again ≡ contains same_pair members.old (structure, name)) }
-    ensures now { OnOk result ((q : ℕ × ℕ) → contains same_pair members.new q ≡ (contains same_pair members.old q || same_pair (structure, name) q)) }
+    token: u32,
+) -> Result<Option<u32>, AllocError>
+    ensures was { IfOk result (λ first. first ≡ get same_pair members.old (structure, name)) }
+    ensures now { OnOk result ((q : ℕ × ℕ) → get same_pair members.new q ≡ or_else (get same_pair members.old q) (if same_pair (structure, name) q then Some token else None)) }
 {
-    Ok(!members.insert((structure, name))?)
+    match members.get(&(structure, name)).copied() {
+        Some(first) => Ok(Some(first)),
+        None => {
+            members.insert((structure, name), token)?;
+            Ok(None)
+        }
+    }
+}
+
+fn is_other(token: u32, first: Option<u32>) -> bool
+    ensures { result ≡ is_other token first }
+{
+    match first {
+        Some(first) => first != token,
+        None => false,
+    }
 }
 
 fn tell(told: &mut Vec<Option<Told>>, token: u32, what: Option<Told>)
@@ -153,8 +171,9 @@ pub fn follow(
             Ok(None)
         }
         Event::Member(token, structure) => {
-            let again = has_member(&mut state.members, structure, name_at(names, token))?;
-            Ok(twice_where(again, token))
+            let name = name_at(names, token);
+            let first = first_member(&mut state.members, structure, name, token)?;
+            Ok(twice_where(is_other(token, first), token))
         }
         Event::Name(token, role) => {
             let fault = named(alloc, state, name_at(names, token), token, role)?;

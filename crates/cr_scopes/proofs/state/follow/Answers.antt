@@ -6,5 +6,5 @@ use Rattle.cr_scopes.proofs.state.follow.Goals as goal
 pub returns-in_ok-fault-in-Name-clause-state : goal.returns-in_ok-fault-in-Name-clause-state
 returns-in_ok-fault-in-Name-clause-state c =
     λ past h. subst (λ e. IsState (name_in c.args.names.now) (e ∷ past) c.named.new.state) (sym c.in-Name.is)
-    (name_noted (name_in c.args.names.now) past c.in-Name.token c.name_at-in-Name.result c.in-Name.role c.args.state.now c.named.new.state
-    c.name_at-in-Name.ensures c.in_ok-fault-in-Name.ensures.named h)
+    (name_noted (name_in c.args.names.now) past c.in-Name.token c.name_at.result c.in-Name.role c.args.state.now c.named.new.state
+    c.name_at.ensures c.in_ok-fault-in-Name.ensures.named h)
