@@ -1,0 +1,5 @@
+pub mod Noted
+pub mod Spellings
+pub mod Followed
+pub mod Built
+pub mod Ended
