@@ -13,6 +13,7 @@ bodies_by kind.Switch = Last
 bodies_by kind.While = Last
 bodies_by kind.Do = First
 bodies_by kind.For = Last
+bodies_by kind.Label = BehindLabel
 bodies_by kind.Case = BehindLabel
 bodies_by kind.Default = BehindLabel
 bodies_by _ = NoBody

@@ -27,7 +27,7 @@ pub fn bodies_by(kind: Kind) -> Bodies
         Kind::If => Bodies::Branches,
         Kind::Do => Bodies::First,
         Kind::Switch | Kind::While | Kind::For => Bodies::Last,
-        Kind::Case | Kind::Default => Bodies::BehindLabel,
+        Kind::Label | Kind::Case | Kind::Default => Bodies::BehindLabel,
         _ => Bodies::NoBody,
     }
 }
