@@ -1,4 +1,5 @@
 pub mod Gathered
 pub mod Order
 pub mod Places
+pub mod Nodes
 pub mod Level

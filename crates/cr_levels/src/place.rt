@@ -5,7 +5,7 @@ ghost use Rattle.cr_levels.specs.Places.{gone, replaced, token_at, with_comma};
 use cr_edit::{Change, Text};
 use cr_tokens::{Token, TokenKind};
 
-fn token_at(tokens: &[Token], at: usize) -> Token
+pub(crate) fn token_at(tokens: &[Token], at: usize) -> Token
     ensures { result ≡ token_at tokens.now at }
 {
     match tokens.get(at) {

@@ -4,7 +4,7 @@ use Rattle.cr_outside.specs.declared.judge.Answer.{Answer}
 use Rattle.cr_outside.specs.declared.judge.Answer.TheVariants.{Yes, No, Failed, NoMemory}
 use Rattle.cr_outside.specs.Judge.{Call}
 use Rattle.cr_outside.specs.Question.{AnswersAsTold, AsksOnce}
-use Rattle.cr_reduce.specs.Bench.{AsksFirst, CallsAbout, GoesOn, Judging}
+use Rattle.cr_reduce.specs.Bench.{AsksAtMost, AsksFirst, CallsAbout, GoesOn, Judging}
 use Rattle.cr_reduce.specs.Trials.{AnswerInRun}
 use Rattle.cr_reduce.proofs.Runs.{answered_once}
 use Rattle.cr_main.specs.Run.{IsAnswered, IsAsked}
@@ -34,11 +34,12 @@ asked_once false old new name file answer once silent = inl (silent refl)
 -- a run on these bytes, where the question was handed them
 module _ (t : Task) (before after : Judging) (bytes handed : List ℕ) (same : handed ≡ bytes) (answer : Answer)
     (once : t.search.asks ≡ true → AsksFirst before.calls after.calls t.search.name handed answer) where
-  pub is_asked : t.search.Lawful bytes → (t.search.asks ≡ false → after.calls ≡ before.calls) → GoesOn before after → IsAsked t (given bytes) before after bytes
-  is_asked lawful silent on = record {
+  pub is_asked : t.search.Lawful bytes → (t.search.asks ≡ false → after.calls ≡ before.calls) → AsksAtMost 1 before after → GoesOn before after → IsAsked t (given bytes) before after bytes
+  is_asked lawful silent few on = record {
     has = refl;
     lawful = lawful;
     calls = subst (CallsAbout before.calls after.calls t.search.name) same (asked_once t.search.asks before.calls after.calls t.search.name handed answer once silent);
+    few = few;
     goes_on = on;
   }
 
@@ -48,8 +49,3 @@ module _ (t : Task) (before after : Judging) (bytes handed : List ℕ) (same : h
     answered = subst (λ file. AnswerInRun t.search.asks t.search.Tells t.search.name before.calls after.calls file answer) same
         (answered_once t.search.asks t.search.Tells t.search.name before.calls after.calls handed answer said once told);
   }
-
--- only a question that asks can fail
-pub must_ask : (asks : Bool) → (asks ≡ false → Failed ≡ Failed → ⊥) → asks ≡ true
-must_ask true never = refl
-must_ask false never = absurd (never refl refl)

@@ -55,7 +55,7 @@ module _ (t : Task) (law : IsOfPrograms t.search.Lawful t.Against) (told : Optio
       subst (λ b. FileHas told t.name b) (sym is) (read_whole told t.name v reads (subst (λ b. length b ≤ 1048576) is (law.tokenizes bytes lawful).tokenizes.short))
 
   asked_there : (before after : Judging) (bytes : List ℕ) → IsAsked t (given v.items) before after bytes → IsAsked t (stored told t.name) before after bytes
-  asked_there before after bytes it = record { has = lawful_there bytes it.has it.lawful; lawful = it.lawful; calls = it.calls; goes_on = it.goes_on }
+  asked_there before after bytes it = record { has = lawful_there bytes it.has it.lawful; lawful = it.lawful; calls = it.calls; few = it.few; goes_on = it.goes_on }
 
   answered_there : (before after : Judging) (bytes : List ℕ) (answer : Answer) → IsAnswered t (given v.items) before after bytes answer → IsAnswered t (stored told t.name) before after bytes answer
   answered_there before after bytes answer it = record { asked = asked_there before after bytes it.asked; answered = it.answered }

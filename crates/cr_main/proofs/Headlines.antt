@@ -7,7 +7,7 @@ use Rattle.cr_reduce.specs.Bench.{Judging}
 use Rattle.cr_reduce.specs.declared.end.End.{End}
 use Rattle.cr_reduce.specs.declared.end.Why.{Why}
 use Rattle.cr_reduce.specs.declared.end.Why.TheVariants.{Fixed, Limit, Fault, NoMemory}
-use Rattle.cr_reduce.specs.Ends.{EndsToldBy, outcome_of}
+use Rattle.cr_reduce.specs.Ends.{EndsToldBy, calls_beside, outcome_of}
 use Rattle.cr_reduce.specs.Reduction.{Outcome}
 use Rattle.cr_reduce.specs.Search.{ReducesFileAsTold}
 use Rattle.cr_words.specs.Words.{Word}
@@ -15,7 +15,7 @@ use Rattle.cr_main.specs.Headline.{HasReduced, IsHeadline}
 use Rattle.cr_main.specs.Messages.{copy_name, log_name}
 use Rattle.cr_main.specs.Outside.{IsUnchanged, Outside, Puts, saved}
 use Rattle.cr_main.specs.Outside.Says.{said_whole, said_cut, said_starved}
-use Rattle.cr_main.specs.Run.{Concludes, Finishes, IsReduction, Runs, RunsTask, end_status}
+use Rattle.cr_main.specs.Run.{Concludes, Finishes, IsAsked, IsReduction, Runs, RunsTask, end_status}
 use Rattle.cr_main.specs.Run.Concludes.{unfinished, unwritten, unlogged, summed_up}
 use Rattle.cr_main.specs.Run.Finishes.{unstarted, uncopied, reduced}
 use Rattle.cr_main.specs.Run.Runs.{no_settings, on_task, unsorted}
@@ -48,6 +48,13 @@ is_fixed Limit e = absurd (omega (arith, e))
 is_fixed (Fault turn worker) e = absurd (omega (arith, e))
 is_fixed NoMemory e = absurd (omega (arith, e))
 
+-- no calls beside
+none_beside : (window : ℕ) (why : Why) → IsDone (end_status why) → calls_beside window why ≡ 0
+none_beside window Fixed done = refl
+none_beside window Limit done = refl
+none_beside window (Fault turn worker) done = absurd (not_done 8 8 refl (λ e. omega (arith, e)) (λ e. omega (arith, e)) done)
+none_beside window NoMemory done = absurd (not_done 11 11 refl (λ e. omega (arith, e)) (λ e. omega (arith, e)) done)
+
 -- what a run that is done comes to, in its last step
 record IsDoneBy (saves : Bool) (name : List ℕ) (old new : Outside) (end : End) (old_size size status : ℕ) : Type 0 where
   files : new.files ≡ saved saves (log_name name) (log_text_of end size) (saved saves name end.file.items old.files)
@@ -69,19 +76,19 @@ concluded saves name old new end old_size size status (summed_up ended files sai
     record { files = files; output = it.0; is = it.1 }
 
 module _ (t : Task) (text : Text) (old new : Outside) (status : ℕ) (done : IsDone status) where
-  finished : (read : Outside) (since after : Judging) (bytes : List ℕ) → IsUnchanged old read → text.Has bytes → t.search.Lawful bytes
-      → Finishes t bytes (IsReduction t since after bytes) read new since after status → HasReduced t text old new status
-  finished read since after bytes same has lawful (unstarted unmoved quiet is) = absurd (starved_is status is (is_of_ends status done))
-  finished read since after bytes same has lawful (uncopied fails quiet) = absurd (fails_is t.saves read new (copy_name t.name) status fails.fails (is_of_ends status done))
-  finished read since after bytes same has lawful (reduced copied end old_size size copy reduction old_sized sized ends) =
+  finished : (read : Outside) (before since after : Judging) (bytes : List ℕ) → IsUnchanged old read → IsAsked t text before since bytes
+      → Finishes t bytes (IsReduction t since after bytes) read new since after status → HasReduced t text old new before after status
+  finished read before since after bytes same asked (unstarted unmoved quiet is) = absurd (starved_is status is (is_of_ends status done))
+  finished read before since after bytes same asked (uncopied fails quiet) = absurd (fails_is t.saves read new (copy_name t.name) status fails.fails (is_of_ends status done))
+  finished read before since after bytes same asked (reduced copied end old_size size copy reduction old_sized sized ends) =
       let it = concluded t.saves t.name copied new end old_size size status ends done in
       record {
         bytes = bytes;
         end = end;
         old_size = old_size;
         size = size;
-        has = has;
-        lawful = lawful;
+        has = asked.has;
+        lawful = asked.lawful;
         old_sized = old_sized;
         sized = sized;
         ended = it.is;
@@ -89,15 +96,16 @@ module _ (t : Task) (text : Text) (old new : Outside) (status : ℕ) (done : IsD
         fixed_point = λ told is. reduction.fixed_point told (is_fixed end.why (sym it.is ∙ is));
         files = it.files ∙ ap (λ m. saved t.saves (log_name t.name) (log_text_of end size) (saved t.saves t.name end.file.items m)) (copy.files ∙ ap (λ m. saved t.saves (copy_name t.name) bytes m) same.files);
         output = it.output ∙ ap (λ o. appended (summary_text_of t.name old_size size end) o) (copy.output ∙ same.output);
+        few = omega (arith, asked.few, reduction.few, none_beside t.window end.why (subst IsDone it.is done));
       }
 
-  task_done : (before after : Judging) → RunsTask t text old new before after status → HasReduced t text old new status
+  task_done : (before after : Judging) → RunsTask t text old new before after status → HasReduced t text old new before after status
   task_done before after (refuses r causes asked files said) = absurd (refused_is old new t.name r status said (is_of_ends status done))
   task_done before after (starves asked files silent is) = absurd (starved_is status is (is_of_ends status done))
-  task_done before after (reduces bytes read since same answered finishes) = finished read since after bytes same answered.asked.has answered.asked.lawful finishes
+  task_done before after (reduces bytes read since same answered finishes) = finished read before since after bytes same answered.asked finishes
 
 pub headline_of : (words : List Word) (most : ℕ) (says : Telling) (old new : Outside) (before after : Judging) (status : ℕ) → Runs words most says old new before after status → IsDone status
-    → IsHeadline words most says old new status
+    → IsHeadline words most says old new before after status
 headline_of words most says old new before after status (no_settings none files quiet said) done = elim (put_status old new _ 2 status said) [
   | inl is ↦ absurd (not_done status 2 is (λ e. omega (arith, e)) (λ e. omega (arith, e)) done)
   | inr is ↦ absurd (starved_is status is (is_of_ends status done))

@@ -1,13 +1,9 @@
 -- A run by the code's task is one by the task of the settings.
 use Rattle.std.proofs.Common.{◌≡◌, ℕ, Bool, List, Option, subst, sym}
-use Rattle.cr_cursor.specs.TokenLaw.{IsTokenized, IsTokenReason}
 use Rattle.cr_gen.specs.Program.{generated}
 use Rattle.cr_outside.specs.Files.{Names}
 use Rattle.cr_outside.specs.Question.{Says}
-use Rattle.cr_outside.specs.Test.{asks_test, tells_test}
-use Rattle.cr_passes.specs.Offers.{Offers}
 use Rattle.cr_reduce.specs.Bench.{Judging}
-use Rattle.cr_reduce.specs.Search.{search_of}
 use Rattle.cr_words.specs.Names.{name_of}
 use Rattle.cr_words.specs.declared.settings.Settings.{Settings}
 use Rattle.cr_words.specs.declared.source.Source.TheVariants as source
@@ -19,13 +15,7 @@ use Rattle.std.specs.Global.{Global}
 
 -- the task of settings under a name
 abbrev task_with : Settings → Says → List ℕ → List ℕ → Bool → Task
-task_with settings says own name saves = record {
-  search = search_of (Offers settings.enabled) IsTokenized (asks_test settings.test) (tells_test settings.test) says own;
-  Against = IsTokenReason;
-  limit = settings.limit;
-  name = name;
-  saves = saves;
-}
+task_with settings says own name saves = record (task_of settings says own) { name = name; saves = saves }
 
 module _ (settings : Settings) (says : Says) (own name : List ℕ) (saves : Bool) (named : name ≡ name_of settings.source) (saved : saves ≡ saves_of settings.source)
     (told : Option Names) (old new : Outside) (before after : Judging) (status : ℕ) where

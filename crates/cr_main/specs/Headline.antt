@@ -1,14 +1,15 @@
 -- What a run promises, in a few words: each follows from what it comes to, step by step.
-use Rattle.std.specs.Prelude.{◌≡◌, ◌≢◌, ◌⊎◌, ◌+◌, ◌*◌, ℕ, true, List, Option, length}
+use Rattle.std.specs.Prelude.{◌≡◌, ◌≢◌, ◌⊎◌, ◌+◌, ◌*◌, ◌-◌, ℕ, true, List, Option, false, length}
 use Rattle.cr_log.specs.Texts.{log_text_of, summary_text_of}
 use Rattle.cr_outside.specs.Faults.{Rose}
 use Rattle.cr_outside.specs.Files.{Names, put_told}
 use Rattle.cr_outside.specs.Question.{Says}
 use Rattle.cr_outside.specs.Sink.{appended}
-use Rattle.cr_reduce.specs.Bench.{CallsAbout, Judging, RoseAt}
+use Rattle.cr_outside.specs.Test.{asks_test}
+use Rattle.cr_reduce.specs.Bench.{AsksAtMost, CallsAbout, Judging, RoseAt}
 use Rattle.cr_reduce.specs.declared.end.End.{End}
 use Rattle.cr_reduce.specs.declared.end.Why.TheVariants as why
-use Rattle.cr_reduce.specs.Ends.{EndsAsTold, IsFixedAsTold, outcome_of}
+use Rattle.cr_reduce.specs.Ends.{EndsAsTold, IsFixedAsTold, most_calls, outcome_of}
 use Rattle.cr_reduce.specs.Reduction.{Within}
 use Rattle.cr_reduce.specs.Search.{AsksOnlyCandidates, IsAllTold, ReducesFileAsTold}
 use Rattle.cr_reduce.specs.Sizes.{HasSize}
@@ -26,6 +27,10 @@ pub record IsTask (words : List Word) (most : ℕ) (settings : Settings) (own : 
   pub gives : HasSettings words most settings
   pub is_own : IsOwnName (name_of settings.source) own
 
+-- What is asked of a run needs no judge: its test is a text that the file must have.
+abbrev pub NeedsNoJudge : List Word → ℕ → Type 0
+NeedsNoJudge words most = (settings : Settings) × (own : List ℕ) × IsTask words most settings own × (asks_test settings.test ≡ false)
+
 -- The three files of a run of a task, as they stand in the end.
 abbrev pub three_files : Task → List ℕ → End → ℕ → Option Names → Option Names
 three_files t bytes end size files = saved t.saves (log_name t.name) (log_text_of end size) (saved t.saves t.name end.file.items (saved t.saves (copy_name t.name) bytes files))
@@ -33,8 +38,9 @@ three_files t bytes end size files = saved t.saves (log_name t.name) (log_text_o
 -- What a run of a task that is done has done: the file, the log and the summary are those of the one-thread
 -- first-accepted reduction of the bytes read, where the test's answer is a function of the file; where it ended by itself no
 -- variant of the result is acceptable; the copy holds the bytes read, no other file changes, and the output grows by
--- the summary alone.
-pub record HasReduced (t : Task) (text : Text) (old new : Outside) (status : ℕ) : Type 0 where
+-- the summary alone. The judges are asked about the file, and then at most once for each turn and, for each acceptance, for the
+-- positions of its epoch behind it.
+pub record HasReduced (t : Task) (text : Text) (old new : Outside) (before after : Judging) (status : ℕ) : Type 0 where
   pub bytes : List ℕ
   pub end : End
   pub old_size : ℕ
@@ -48,13 +54,14 @@ pub record HasReduced (t : Task) (text : Text) (old new : Outside) (status : ℕ
   pub fixed_point : IsAllTold t.search → status ≡ 0 → IsFixedAsTold t.search end.file.items
   pub files : new.files ≡ three_files t bytes end size old.files
   pub output : new.output ≡ appended (summary_text_of t.name old_size size end) old.output
+  pub few : AsksAtMost (end.turns + length end.accepted.items * (t.window - 1) + 1) before after
 
 -- The headline, at the statuses 0 and 7.
-pub record IsHeadline (words : List Word) (most : ℕ) (says : Says) (old new : Outside) (status : ℕ) : Type 0 where
+pub record IsHeadline (words : List Word) (most : ℕ) (says : Says) (old new : Outside) (before after : Judging) (status : ℕ) : Type 0 where
   pub settings : Settings
   pub own : List ℕ
   pub is_task : IsTask words most settings own
-  pub reduced : HasReduced (task_of settings says own) (text_of settings.source old.files) old new status
+  pub reduced : HasReduced (task_of settings says own) (text_of settings.source old.files) old new before after status
 
 -- What stands where a run has saved its three files, at 0, 7, 8 from the reduction, and 10: they are those of the
 -- reduction as it ended, at a fault those of the first-accepted reduction after the turns that were made. The summary was
@@ -128,14 +135,15 @@ Completes words most says old new before after status = (settings : Settings) (o
     → HasAll (task_of settings says own) (text_of settings.source old.files) old new before after → (status ≡ 0) ⊎ (status ≡ 11)
 
 -- What the test is asked in a run of a task: nothing, or once at most about the file, and then about nothing but smaller,
--- lawful variants of the files of the run's own chain, each time under the file's own name.
+-- lawful variants of the files of the run's own chain, each time under the file's own name, and no more often than the reduction's
+-- turns and acceptances account for.
 pub data AsksOnlyOf (t : Task) (text : Text) (before after : Judging) : Type 0 where
   asks_nothing : after ≡ before → AsksOnlyOf t text before after
   -- about the file alone: nothing was reduced
-  asks_file : (bytes : List ℕ) → text.Has bytes → t.search.Lawful bytes → CallsAbout before.calls after.calls t.search.name bytes → AsksOnlyOf t text before after
+  asks_file : (bytes : List ℕ) → text.Has bytes → t.search.Lawful bytes → CallsAbout before.calls after.calls t.search.name bytes → AsksAtMost 1 before after → AsksOnlyOf t text before after
   -- about the file, and since then about the variants that the reduction has asked about
   asks_variants : (bytes : List ℕ) (since : Judging) (end : End) → text.Has bytes → t.search.Lawful bytes → CallsAbout before.calls since.calls t.search.name bytes
-      → IsReduction t since after bytes end → AsksOnlyCandidates t.search bytes end.accepted.items since after → AsksOnlyOf t text before after
+      → IsReduction t since after bytes end → AsksOnlyCandidates t.search bytes end.accepted.items since after → AsksAtMost (most_calls t.window end + 1) before after → AsksOnlyOf t text before after
 
 -- So it is of every run.
 pub data AsksOnly (words : List Word) (most : ℕ) (says : Says) (old : Outside) (before after : Judging) : Type 0 where

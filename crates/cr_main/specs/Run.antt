@@ -6,8 +6,8 @@ use Rattle.cr_outside.specs.Faults.{Rose}
 use Rattle.cr_outside.specs.Question.{Says}
 use Rattle.cr_outside.specs.declared.judge.Answer.{Answer}
 use Rattle.cr_outside.specs.declared.judge.Answer.TheVariants.{Yes, No, Failed}
-use Rattle.cr_reduce.specs.Bench.{CallsAbout, GoesOn, Judging, RoseAt}
-use Rattle.cr_reduce.specs.Ends.{EndsAsTold, EndsInRun, FaultsWithCause, IsFixedAsTold, IsFixedInRun}
+use Rattle.cr_reduce.specs.Bench.{AsksAtMost, CallsAbout, GoesOn, Judging, RoseAt}
+use Rattle.cr_reduce.specs.Ends.{EndsAsTold, EndsInRun, FaultsWithCause, IsFixedAsTold, IsFixedInRun, most_calls}
 use Rattle.cr_reduce.specs.Search.{AsksOnlyCandidates, IsAllTold}
 use Rattle.cr_reduce.specs.Sizes.{HasSize}
 use Rattle.cr_reduce.specs.Trials.{AnswerInRun}
@@ -36,6 +36,7 @@ pub record IsAsked (t : Task) (text : Text) (before after : Judging) (bytes : Li
   pub has : text.Has bytes
   pub lawful : t.search.Lawful bytes
   pub calls : CallsAbout before.calls after.calls t.search.name bytes
+  pub few : AsksAtMost 1 before after
   pub goes_on : GoesOn before after
 
 -- It was answered so: by a call of this run, where the test is a program, and as told, where the answer is told.
@@ -67,6 +68,7 @@ pub record IsReduction (t : Task) (before after : Judging) (bytes : List ℕ) (e
   pub fixed_point : IsAllTold t.search → end.why ≡ why.Fixed → IsFixedAsTold t.search end.file.items
   -- what the test is asked
   pub asks_only : AsksOnlyCandidates t.search bytes end.accepted.items before after
+  pub few : AsksAtMost (most_calls t.window end) before after
   pub cause : FaultsWithCause t.search before after end.why
 
 -- why a reduction ended, as a status

@@ -17,10 +17,12 @@ use Rattle.cr_words.specs.declared.source.Source.{Source}
 use Rattle.cr_words.specs.declared.source.Source.TheVariants as source
 use Rattle.cr_main.specs.declared.task.Task.{Task as Asked}
 
--- What is searched, why a file is not lawful, the most turns, the file's whole name, and whether files are written.
+-- What is searched, why a file is not lawful, how many positions are tried at once at most, the most turns, the file's whole
+-- name, and whether files are written.
 pub record Task : Type 1 where
   pub search : Search
   pub Against : List ℕ → Reason → Type 0
+  pub window : ℕ
   pub limit : Option ℕ
   pub name : List ℕ
   pub saves : Bool
@@ -30,6 +32,7 @@ abbrev pub task_for : {P I L Q : Type 0} → PassesGhosts P I → LawGhosts L �
 task_for passes law question asked says = record {
   search = search_of (passes.offers asked.passes.now) (law.lawful asked.law.now) (question.asks asked.question.now) (question.tells asked.question.now) says asked.own.now;
   Against = law.reasons asked.law.now;
+  window = asked.window;
   limit = asked.limit;
   name = asked.name.now;
   saves = asked.saves;
@@ -74,6 +77,7 @@ abbrev pub task_of : Settings → Says → List ℕ → Task
 task_of settings says own = record {
   search = search_of (Offers settings.enabled) IsTokenized (asks_test settings.test) (tells_test settings.test) says own;
   Against = IsTokenReason;
+  window = settings.window;
   limit = settings.limit;
   name = name_of settings.source;
   saves = saves_of settings.source;

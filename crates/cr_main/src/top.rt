@@ -2,13 +2,12 @@
 ghost use Rattle.std.specs.Prelude.{◌≡◌, ◌⊎◌, ◌<◌, ◌≤◌, ℕ, List, false, length};
 ghost use Rattle.cr_outside.specs.Test.{asks_test};
 ghost use Rattle.cr_reduce.specs.Bench.{judging, keys_of, says_of};
-ghost use Rattle.cr_main.specs.Headline.{AsksOnly, Completes, HasEnded, IsHeadline, IsTask, KeepsFiles};
+ghost use Rattle.cr_main.specs.Headline.{AsksOnly, Completes, HasEnded, IsHeadline, KeepsFiles, NeedsNoJudge};
 ghost use Rattle.cr_main.specs.Outside.{outside};
 ghost use Rattle.cr_main.specs.Run.{Runs, RunsTask};
 ghost use Rattle.cr_main.specs.Task.{IsRunnable, saves_of, task_of, text_of};
 ghost use Rattle.cr_words.specs.Names.{IsOwnName, name_of};
 ghost use Rattle.cr_words.specs.Words.{texts_of};
-ghost use Rattle.cr_words.specs.declared.settings.Settings.{Settings};
 
 use crate::built::built_words;
 use crate::messages::{USAGE, put};
@@ -41,7 +40,8 @@ pub fn run<R: Threads + Sync, F: Files, J: Judge + Send, O: Sink>(
 
     // At 0 and 7 the headline holds.
     ensures headline { (result ≡ 0) ⊎ (result ≡ 7) → IsHeadline (texts_of list.now) (length bench.old.judges) (says_of J.Judge bench.old)
-        (outside F.Files files.old O.Sink out.old) (outside F.Files files.new O.Sink out.new) result }
+        (outside F.Files files.old O.Sink out.old) (outside F.Files files.new O.Sink out.new)
+        (judging J.Judge bench.old) (judging J.Judge bench.new) result }
 
     // At 8 from the reduction, and at 10, the files are those of the reduction as far as it went.
     ensures finished { (result ≡ 8) ⊎ (result ≡ 10) → HasEnded (texts_of list.now) (length bench.old.judges) (says_of J.Judge bench.old)
@@ -51,7 +51,7 @@ pub fn run<R: Threads + Sync, F: Files, J: Judge + Send, O: Sink>(
     ensures files_kept { KeepsFiles (texts_of list.now) (length bench.old.judges) (says_of J.Judge bench.old)
         (outside F.Files files.old O.Sink out.old) (outside F.Files files.new O.Sink out.new) (judging J.Judge bench.new) }
 
-    // The test is asked about nothing but the file and smaller, lawful variants of the chain's files.
+    // The test is asked about nothing but the file and smaller, lawful variants of the chain's files, and how often is bounded.
     ensures asks_only { AsksOnly (texts_of list.now) (length bench.old.judges) (says_of J.Judge bench.old) (outside F.Files files.old O.Sink out.old)
         (judging J.Judge bench.old) (judging J.Judge bench.new) }
 
@@ -61,7 +61,7 @@ pub fn run<R: Threads + Sync, F: Files, J: Judge + Send, O: Sink>(
         (judging J.Judge bench.old) (judging J.Judge bench.new) result }
 
     // A test that asks no judge leaves the bench as it was.
-    ensures silent { (settings : Settings) (own : List ℕ) → IsTask (texts_of list.now) (length bench.old.judges) settings own → asks_test settings.test ≡ false → bench.new.judges ≡ bench.old.judges }
+    ensures silent { NeedsNoJudge (texts_of list.now) (length bench.old.judges) → bench.new.judges ≡ bench.old.judges }
 
     // The judges keep their keys and their number.
     ensures keys { keys_of J.Judge bench.new ≡ keys_of J.Judge bench.old }

@@ -9,7 +9,7 @@ use Rattle.cr_core.specs.Sound.{Sum, total}
 use Rattle.cr_core.specs.State.{AllRejected}
 use Rattle.cr_pool.specs.Epoch.{Epoch, AsksAt, AsksOnce, IsFault, IsFound, IsRejectedAt, RejectedBelow, times}
 use Rattle.cr_pool.specs.Epoch.Answered.{given}
-use Rattle.cr_pool.specs.Tally.{Tally, tally_at}
+use Rattle.cr_pool.specs.Tally.{Tally, asked_in, tally_at}
 use Rattle.cr_pool.specs.Trials.IsRejected.{not_smaller, unlawful, answered_no}
 use Rattle.cr_pool.proofs.Works.{one_of}
 use Rattle.cr_pool.specs.Works.{HitIsSo, HitSays, RejectsAt, Works}
@@ -49,9 +49,6 @@ times_le i (l ∷ lists) [] same each = absurd (omega arith)
 times_le i (l ∷ lists) (row ∷ rows) same each =
     let first = each zero (omega arith) in
     omega (arith, first, times_le i lists rows (omega arith) (λ k below. each (suc k) (omega arith)))
-
-abbrev asked_in : List Tally → ℕ
-asked_in tallies = total (λ (t : Tally). t.asked) tallies
 
 asked_le : (len : ℕ) (before now : List Tally) (rows : List Row) → length now ≡ length before → length rows ≡ length before
     → ((k : ℕ) → k < length before → (tally_at now k).asked ≤ (tally_at before k).asked + under len (row_at rows k)) → asked_in now ≤ asked_in before + total (under len) rows

@@ -1,5 +1,5 @@
-mod Sizes
-mod Runs
+pub mod Sizes
+pub mod Runs
 mod Tries
 mod Lists
 mod Works

@@ -125,11 +125,6 @@ module _ {J K : Type 0} (judge : JudgeGhosts J K) where
       (subst (λ ts. EndsBy e (tallies_of judge old ++ tallies_of judge rest) ts end) (sym (map-append (tally_of judge) new rest))
       (ends_more e (tallies_of judge old) (tallies_of judge new) (tallies_of judge rest) (omega (arith, same, length-map old (tally_of judge), length-map new (tally_of judge))) end it))
 
-  -- Judges with the keys that they had have one key still.
-  pub one_key_still : (e : Epoch) (old new : List J) → IsJudged judge e old new → HaveOneKey judge.key old → HaveOneKey judge.key new
-  one_key_still e old new it one i j d low high =
-      it.keys i d (omega (arith, low, it.count)) ∙ one i j d (omega (arith, low, it.count)) (omega (arith, high, it.count)) ∙ sym (it.keys j d (omega (arith, high, it.count)))
-
   pub some_one_key : (old rest : List J) → HaveOneKey judge.key (old ++ rest) → HaveOneKey judge.key old
   some_one_key old rest one i j d low high =
       sym (ap judge.key (at_left old rest i d low)) ∙ one i j d (omega (arith, low, length-append old rest)) (omega (arith, high, length-append old rest)) ∙ ap judge.key (at_left old rest j d high)

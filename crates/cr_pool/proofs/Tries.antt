@@ -18,7 +18,7 @@ use Rattle.cr_pool.specs.Tally.{Tally}
 use Rattle.cr_pool.specs.Trials.{IsFailed, IsGood, IsRejected}
 use Rattle.cr_pool.specs.Trials.IsRejected.{answered_no}
 use Rattle.cr_pool.specs.Works.{Tries, RejectsAt, HitSays}
-use Rattle.cr_pool.proofs.Runs.{answered_once, is_so}
+use Rattle.cr_pool.proofs.Runs.{answered_once, is_so, one_count}
 use Rattle.cr_pool.proofs.Sizes.{good_is_smaller}
 
 pub asks_none : (e : Epoch) (calls : Option (List Call)) → AsksAt e [] calls calls
@@ -37,13 +37,6 @@ one_call old new name file Failed once = inr once
 one_call old new name file NoMemory (inl same) = inl same
 one_call old new name file NoMemory (inr (test, inl same)) = inl same
 one_call old new name file NoMemory (inr (test, inr gained)) = inr (test, gained)
-
-one_count : (old new : ℕ) (answer : Answer) → CountsOnce old new answer → new ≤ old + 1
-one_count old new Yes once = omega (arith, once)
-one_count old new No once = omega (arith, once)
-one_count old new Failed once = omega (arith, once)
-one_count old new NoMemory (inl same) = omega (arith, same)
-one_count old new NoMemory (inr more) = omega (arith, more)
 
 -- No call was made.
 pub tries_quietly : (e : Epoch) (i : ℕ) (before now : Tally) → now ≡ before → Tries e before now i

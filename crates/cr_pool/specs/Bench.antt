@@ -8,7 +8,7 @@ use Rattle.cr_pool.specs.declared.job.Job.{Job}
 use Rattle.cr_pool.specs.Epoch.{Epoch}
 use Rattle.cr_pool.specs.Jobs.{epoch_of}
 use Rattle.cr_pool.specs.Kept.{Kept}
-use Rattle.cr_pool.specs.Tally.{HaveOneKey, first_says}
+use Rattle.cr_pool.specs.Tally.{HaveOneKey, Tally, first_says, tallies_of, tally_at}
 
 -- its judges, and the verdicts that it keeps
 pub record Benched (J : Type 0) : Type 0 where
@@ -18,6 +18,10 @@ pub record Benched (J : Type 0) : Type 0 where
 -- it has 1 to 32 judges, all of one key
 abbrev pub IsManned : {J K : Type 0} → (J → K) → List J → Type 0
 IsManned key judges = (0 < length judges) × (length judges ≤ 32) × HaveOneKey key judges
+
+-- the tally of its first judge
+abbrev pub first_tally : {J K : Type 0} → JudgeGhosts J K → Benched J → Tally
+first_tally judge bench = tally_at (tallies_of judge bench.judges) 0
 
 -- the epoch of a job on a bench
 abbrev pub epoch_on : {P I L Q J K : Type 0} → PassesGhosts P I → LawGhosts L → QuestionGhosts Q → JudgeGhosts J K → Job P L Q I → Benched J → Epoch

@@ -15,7 +15,7 @@ use Rattle.cr_pool.specs.declared.job.EpochEnd.TheVariants as ending
 use Rattle.cr_pool.specs.Kept.{Kept, IsKept, Keeps}
 use Rattle.cr_pool.specs.Kept.Verdict.{Yes, No}
 use Rattle.cr_pool.specs.Sizes.{IsSmaller}
-use Rattle.cr_pool.specs.Tally.{Tally, tally_at}
+use Rattle.cr_pool.specs.Tally.{Tally, asked_in, tally_at}
 use Rattle.cr_pool.specs.Trials.{AnswerInRun, IsAccepted, IsFailed, IsRejected}
 
 -- What is tried in an epoch, and by what. Positions of an epoch are counted from 0; `start` is the first one's among the file's.
@@ -125,7 +125,7 @@ pub record AsksOnce (e : Epoch) (before now : List Tally) : Type 0 where
   pub each : length positions ≡ length before
   pub calls : (worker : ℕ) → worker < length before → AsksAt e (slice_index_or positions worker []) (tally_at before worker).calls (tally_at now worker).calls
   pub once : (i : ℕ) → total (times i) positions ≤ 1
-  pub few : total (λ (t : Tally). t.asked) now ≤ total (λ (t : Tally). t.asked) before + e.len
+  pub few : asked_in now ≤ asked_in before + e.len
 
 -- Each verdict Yes or No that is kept after an epoch was kept before it, or a judge gave it in the epoch.
 abbrev pub KeepsWhatWasMade : Epoch → List Tally → List Tally → List Kept → Type 0

@@ -1,5 +1,6 @@
 -- What contracts read of judges.
 use Rattle.std.specs.Prelude.{◌≡◌, ◌<◌, ℕ, List, [], ◌∷◌, Option, None, length, map, slice_index_or}
+use Rattle.cr_core.specs.Sound.{total}
 use Rattle.cr_outside.specs.declared.judge.Judge.{Ghosts as JudgeGhosts}
 use Rattle.cr_outside.specs.Judge.{Call}
 use Rattle.cr_outside.specs.Question.{Says}
@@ -23,6 +24,10 @@ no_tally = record { calls = None; asked = 0; faults = 0 }
 -- the tally of the judge of this number
 abbrev pub tally_at : List Tally → ℕ → Tally
 tally_at tallies worker = slice_index_or tallies worker no_tally
+
+-- how many calls all these judges were asked
+abbrev pub asked_in : List Tally → ℕ
+asked_in tallies = total (λ (t : Tally). t.asked) tallies
 
 -- what the first judge says at its key
 abbrev pub first_says : {J K : Type 0} → (J → K) → (K → Says) → List J → Says

@@ -2,12 +2,12 @@
 ghost use Rattle.std.specs.Prelude.{◌≡◌, ◌≢◌, ◌<◌, ◌≤◌, IfOk, [], drop, length, map, true, false};
 ghost use Rattle.cr_outside.specs.Faults.{Rose};
 ghost use Rattle.cr_outside.specs.Question.{AnswersAsTold, AsksOnce, CountsOnce};
-ghost use Rattle.cr_pool.specs.Bench.{IsManned, epoch_on};
+ghost use Rattle.cr_pool.specs.Bench.{IsManned, epoch_on, first_tally};
 ghost use Rattle.cr_pool.specs.Epoch.{EndsBy, KeepsWhatWasMade};
 ghost use Rattle.cr_pool.specs.Jobs.{IsJudged, IsPlaced};
 ghost use Rattle.cr_pool.specs.Kept.{AreRight};
 ghost use Rattle.cr_pool.specs.Sizes.{HasSize};
-ghost use Rattle.cr_pool.specs.Tally.{first_says, tallies_of, tally_at};
+ghost use Rattle.cr_pool.specs.Tally.{first_says, tallies_of};
 
 use crate::crew::Worker;
 use crate::epoch::try_by_some;
@@ -72,7 +72,7 @@ impl<J: Judge> Bench<J> {
         ensures judges { self.new.judges ≡ self.old.judges }
         ensures kept { self.new.kept ≡ [] }
     {
-        // None is kept so far.
+        // None is kept so far. The proof reads what the judges are by this.
         let _ = &self.workers;
     }
 }
@@ -87,8 +87,8 @@ impl<J: Judge> Bench<J> {
         file: &[u8],
     ) -> Answer
         ensures told { AnswersAsTold (Q.asks question.now) (Q.tells question.now (first_says J.key J.says self.old.judges) name.now file.now) result }
-        ensures once { Q.asks question.now ≡ true → AsksOnce (tally_at (tallies_of J.Judge self.old.judges) 0).calls (tally_at (tallies_of J.Judge self.new.judges) 0).calls name.now file.now result }
-        ensures counted { Q.asks question.now ≡ true → CountsOnce (tally_at (tallies_of J.Judge self.old.judges) 0).asked (tally_at (tallies_of J.Judge self.new.judges) 0).asked result }
+        ensures once { Q.asks question.now ≡ true → AsksOnce (first_tally J.Judge self.old).calls (first_tally J.Judge self.new).calls name.now file.now result }
+        ensures counted { Q.asks question.now ≡ true → CountsOnce (first_tally J.Judge self.old).asked (first_tally J.Judge self.new).asked result }
         ensures silent { Q.asks question.now ≡ false → self.new ≡ self.old }
         ensures unfailing { Q.asks question.now ≡ false → result ≢ Answer.Failed }
         ensures key { first_says J.key J.says self.new.judges ≡ first_says J.key J.says self.old.judges }
@@ -97,8 +97,8 @@ impl<J: Judge> Bench<J> {
         ensures others { drop 1 self.new.judges ≡ drop 1 self.old.judges }
         ensures kept { self.new.kept ≡ self.old.kept }
         ensures count { length self.new.judges ≡ length self.old.judges }
-        ensures later { (tally_at (tallies_of J.Judge self.old.judges) 0).faults ≤ (tally_at (tallies_of J.Judge self.new.judges) 0).faults }
-        ensures failed { result ≡ Answer.Failed → Rose (tally_at (tallies_of J.Judge self.old.judges) 0).faults (tally_at (tallies_of J.Judge self.new.judges) 0).faults }
+        ensures later { (first_tally J.Judge self.old).faults ≤ (first_tally J.Judge self.new).faults }
+        ensures failed { result ≡ Answer.Failed → Rose (first_tally J.Judge self.old).faults (first_tally J.Judge self.new).faults }
     {
         let worker = &mut self.workers[0];
         question.ask(alloc, &mut worker.judge, name, file)

@@ -1,7 +1,7 @@
 -- From the walk to the end.
 use Rattle.std.proofs.Common.{◌≡◌, ◌≢◌, inl, inr, ℕ, ◌+◌, ◌≤◌, List, [], length, Option, Some, None, refl, subst, sym, ap, ◌∙◌, arith}
 use Rattle.std.proofs.lemmas.Bool.{cases_lt}
-use Rattle.cr_reduce.specs.Bench.{Judging}
+use Rattle.cr_reduce.specs.Bench.{AsksAtMost, Judging}
 use Rattle.cr_reduce.specs.declared.end.End.{End}
 use Rattle.cr_reduce.specs.declared.end.Why.{Why}
 use Rattle.cr_reduce.specs.declared.end.Why.TheVariants.{Fixed, Limit, Fault, NoMemory}
@@ -11,8 +11,8 @@ use Rattle.cr_pool.specs.Trials.IsRejected.{not_smaller, unlawful, answered_no}
 use Rattle.cr_reduce.specs.Reduction.{State, Outcome, Within, cursors_of, none_fails, start_of, ends}
 use Rattle.cr_reduce.specs.Reduction.Reduces.{fixed, spent, fails}
 use Rattle.cr_reduce.specs.Search.{Search, AcceptsInRun, AsksOnlyCandidates, FailsInRun, RejectsInRun, AcceptsAsTold, RejectsAsTold, ReducesInRun, ReducesFileInRun, ReducesFileAsTold, IsAllTold}
-use Rattle.cr_reduce.specs.Walk.{EndsHere, Walked, state_of}
-use Rattle.cr_reduce.specs.Ends.{end_of_walk, outcome_of, StopsAt, EndsBy, EndsToldBy, EndsInRun, EndsAsTold, IsFixedInRun, IsFixedAsTold}
+use Rattle.cr_reduce.specs.Walk.{AsksFew, EndsHere, Walked, state_of}
+use Rattle.cr_reduce.specs.Ends.{end_of_walk, outcome_of, StopsAt, EndsBy, EndsToldBy, EndsInRun, EndsAsTold, IsFixedInRun, IsFixedAsTold, calls_beside, most_calls}
 use Rattle.cr_reduce.proofs.Reductions.{IsCut, cut_short, fixed_point, none_between, reduces-map, stops_here}
 use Rattle.cr_reduce.proofs.Runs.{goes_on-refl}
 use Rattle.cr_reduce.proofs.Walks.{within_less}
@@ -117,6 +117,13 @@ pub asks_of_walk : {T : Type 0} (s : Search) (before now : Judging) (make : T �
 asks_of_walk s before now make file first from w why e begins is walked =
     let it = (subst (λ st. Walked s before now st (state_of make w)) begins walked).traces in
     subst (λ list. AsksOnlyCandidates s file list before now) (sym (ap (λ x. x.accepted.items) is ∙ it.accepted_is)) it.asks
+
+-- how often
+pub few_of_walk : {T : Type 0} (window : ℕ) (before now : Judging) (make : T → List ℕ → Offer) (file : List ℕ) (first : Offer) (from : State) (w : Walk T) (why : Why) (e : End)
+    → from ≡ start_of file first → e ≡ end_of_walk w why → AsksFew window before now from (state_of make w) (calls_beside window why) → AsksAtMost (most_calls window e) before now
+few_of_walk window before now make file first from w why e begins is few =
+    let it = subst (λ st. AsksFew window before now st (state_of make w) (calls_beside window why)) begins few in
+    subst (λ x. AsksAtMost (most_calls window x) before now) (sym is) (omega (arith, it))
 
 -- what a chain is besides
 pub rejected_of_chain : (s : Search) (before now : Judging) (limit : Option ℕ) (file : List ℕ) (e : End) → EndsInRun s before now limit file e → e.why ≡ Fixed → IsFixedInRun s before now e.file.items

@@ -20,7 +20,7 @@ use Rattle.cr_pool.specs.Kept.{Kept}
 use Rattle.cr_pool.specs.Tally.{first_says, tallies_of, tally_at, tally_of}
 use Rattle.cr_pool.specs.Trials.{HasCalled, IsAccepted, IsRejected}
 use Rattle.cr_pool.specs.Trials.IsRejected.{not_smaller, unlawful, answered_no}
-use Rattle.cr_reduce.specs.Bench.{AllGained, AnyCall, CalledBy, Each, Gained, GoesOn, Judging, RoseAt}
+use Rattle.cr_reduce.specs.Bench.{AllGained, AnyCall, CalledBy, Each, Gained, GoesOn, RoseAt, judging_of}
 use Rattle.cr_reduce.specs.Reduction.{AllRejected, State, cursors_of}
 use Rattle.cr_reduce.specs.Search.{AcceptsInRun, FailsInRun, RejectsInRun, Search}
 use Rattle.cr_reduce.specs.Trials.{AnswerInRun}
@@ -30,9 +30,6 @@ use Rattle.cr_reduce.proofs.Runs.{all_gained-map}
 -- the epoch of so many positions from a state on, with no verdict kept
 abbrev pub epoch_in : Search → State → ℕ → List Kept → Epoch
 epoch_in s st len kept = record { offer = st.offer; file = st.file; start = st.position; len = len; Lawful = s.Lawful; asks = s.asks; Tells = s.Tells; name = s.name; kept = kept }
-
-abbrev pub judging_in : {J K : Type 0} → JudgeGhosts J K → List J → Judging
-judging_in judge js = record { calls = map judge.calls js; faults = map judge.faults js }
 
 -- two lists of judges, one after the other
 module _ {J K : Type 0} (judge : JudgeGhosts J K) where
@@ -85,13 +82,13 @@ module _ {J K : Type 0} (judge : JudgeGhosts J K) (a b : List J) (count : length
   answered variant NoMemory (was_kept kept told) = absurd kept
 
   rejected : (variant : List ℕ) → IsRejected s.Lawful (Answered (epoch_in s st len []) (tallies_of judge a) (tallies_of judge b)) st.file variant
-      → RejectsInRun s (judging_in judge a) (judging_in judge b) st.file variant
+      → RejectsInRun s (judging_of judge a) (judging_of judge b) st.file variant
   rejected variant (not_smaller big) = not_smaller big
   rejected variant (unlawful against) = unlawful against
   rejected variant (answered_no it) = answered_no (answered variant No it)
 
   accepted : (variant : List ℕ) → IsAccepted s.Lawful (Answered (epoch_in s st len []) (tallies_of judge a) (tallies_of judge b)) st.file variant
-      → AcceptsInRun s (judging_in judge a) (judging_in judge b) st.file variant
+      → AcceptsInRun s (judging_of judge a) (judging_of judge b) st.file variant
   accepted variant it = record { smaller = it.smaller; lawful = it.lawful; answered = answered variant Yes it.answered }
 
   -- the variant of a position is that of its cursor
@@ -99,11 +96,11 @@ module _ {J K : Type 0} (judge : JudgeGhosts J K) (a b : List J) (count : length
   variant_is i at there = ap (λ c. bytes_at st.offer c) there
 
   all_rejected : (n : ℕ) → RejectedBelow (epoch_in s st len []) (tallies_of judge a) (tallies_of judge b) n
-      → AllRejected st.offer (RejectsInRun s (judging_in judge a) (judging_in judge b)) st.file st.position (st.position + n)
+      → AllRejected st.offer (RejectsInRun s (judging_of judge a) (judging_of judge b)) st.file st.position (st.position + n)
   all_rejected n below i at low high there =
       let j = i - st.position in
       let here : st.position + j ≡ i = omega arith in
-      subst (RejectsInRun s (judging_in judge a) (judging_in judge b) st.file) (ap (λ p. variant_at st.offer p) here ∙ variant_is i at there)
+      subst (RejectsInRun s (judging_of judge a) (judging_of judge b) st.file) (ap (λ p. variant_at st.offer p) here ∙ variant_is i at there)
       (rejected (variant_at st.offer (st.position + j)) (below j (omega arith)))
 
   abbrev cursor_of : ℕ → Cursor
@@ -113,7 +110,7 @@ module _ {J K : Type 0} (judge : JudgeGhosts J K) (a b : List J) (count : length
   there_is i low = slice_get-get_or (cursors_of st.offer) i (cursor 0 0 0) low
 
   pub epoch_says : (end : EpochEnd) → st.position + len ≤ length (cursors_of st.offer) → EndsBy (epoch_in s st len []) (tallies_of judge a) (tallies_of judge b) end
-      → EpochSays s (judging_in judge a) (judging_in judge b) st len end
+      → EpochSays s (judging_of judge a) (judging_of judge b) st len end
   epoch_says (ending.NoneOf n) placed it = (it.0, all_rejected len it.1)
   epoch_says (ending.Found position bytes) placed it =
       let found = it.2 in
@@ -127,8 +124,8 @@ module _ {J K : Type 0} (judge : JudgeGhosts J K) (a b : List J) (count : length
           record {
             after = omega (arith, it.1);
             there = there;
-            accepted = subst (AcceptsInRun s (judging_in judge a) (judging_in judge b) st.file) (found.is ∙ is) (accepted bytes.items found.accepted);
-            before = subst (λ p. AllRejected st.offer (RejectsInRun s (judging_in judge a) (judging_in judge b)) st.file st.position p) (sym it.1) (all_rejected it.0 found.before_it);
+            accepted = subst (AcceptsInRun s (judging_of judge a) (judging_of judge b) st.file) (found.is ∙ is) (accepted bytes.items found.accepted);
+            before = subst (λ p. AllRejected st.offer (RejectsInRun s (judging_of judge a) (judging_of judge b)) st.file st.position p) (sym it.1) (all_rejected it.0 found.before_it);
           },
         ),
       )
@@ -140,11 +137,11 @@ module _ {J K : Type 0} (judge : JudgeGhosts J K) (a b : List J) (count : length
       let made = fault.failed.answered.asked fault.asks in (
         omega (arith, it.1),
         omega (arith, it.1, fault.within),
-        subst (λ p. AllRejected st.offer (RejectsInRun s (judging_in judge a) (judging_in judge b)) st.file st.position p) (sym it.1) (all_rejected it.0 fault.before_it),
+        subst (λ p. AllRejected st.offer (RejectsInRun s (judging_of judge a) (judging_of judge b)) st.file st.position p) (sym it.1) (all_rejected it.0 fault.before_it),
         (
           at,
           there,
-          subst (FailsInRun s (judging_in judge a) (judging_in judge b) worker st.file) is (record {
+          subst (FailsInRun s (judging_of judge a) (judging_of judge b) worker st.file) is (record {
             smaller = fault.failed.smaller;
             lawful = fault.failed.lawful;
             failed = record {
@@ -173,12 +170,12 @@ module _ {J K : Type 0} (judge : JudgeGhosts J K) (a b : List J) (count : length
   gained_at positions None new placed it = it
   gained_at positions (Some list) new placed it = (it.0, it.1, about positions it.0 placed it.2)
 
-  pub asks_only : st.position + len ≤ length (cursors_of st.offer) → AsksOnce (epoch_in s st len []) (tallies_of judge a) (tallies_of judge b) → AsksOnlyTried s (judging_in judge a) (judging_in judge b) st
+  pub asks_only : st.position + len ≤ length (cursors_of st.offer) → AsksOnce (epoch_in s st len []) (tallies_of judge a) (tallies_of judge b) → AsksOnlyTried s (judging_of judge a) (judging_of judge b) st
   asks_only placed once = each_calls judge (AboutTried s st) a b count
       (λ worker low. gained_at (slice_index_or once.positions worker []) (tally_at (tallies_of judge a) worker).calls (tally_at (tallies_of judge b) worker).calls placed (once.calls worker (omega (arith, length-map a (tally_of judge), low))))
 
-  pub goes_on : AsksOnlyTried s (judging_in judge a) (judging_in judge b) st → ((i : ℕ) (d : J) → i < length a → judge.faults (slice_index_or a i d) ≤ judge.faults (slice_index_or b i d))
-      → GoesOn (judging_in judge a) (judging_in judge b)
+  pub goes_on : AsksOnlyTried s (judging_of judge a) (judging_of judge b) st → ((i : ℕ) (d : J) → i < length a → judge.faults (slice_index_or a i d) ≤ judge.faults (slice_index_or b i d))
+      → GoesOn (judging_of judge a) (judging_of judge b)
   goes_on asks later = record {
     calls = all_gained-map (AboutTried s st) AnyCall (λ call it. tt) (map judge.calls a) (map judge.calls b) asks;
     faults = each_faults judge a b count later;

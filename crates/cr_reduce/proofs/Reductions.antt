@@ -14,20 +14,6 @@ use Rattle.cr_reduce.specs.Reduction.Reduces.{new_round, fixed, spent, short, ac
 not_limit : (out : Outcome) (file : List ℕ) (accepted : List Accepted) (turns : ℕ) → out ≡ record { file = file; accepted = accepted; turns = turns; why = Limit } → out.why ≡ Fixed → ⊥
 not_limit out file accepted turns is is_fixed = let e = ap (λ o. o.why) is in cc
 
-here_or_after : (from i : ℕ) → from ≤ i → (i ≡ from) ⊎ (from + 1 ≤ i)
-here_or_after from i h = search arith
-
-same_item : {A : Type 0} (xs : List A) (i j : ℕ) (a b : A) → slice_get xs i ≡ Some a → slice_get xs j ≡ Some b → i ≡ j → a ≡ b
-same_item xs i j a b at_i at_j e = cc
-
--- one more rejected variant before others
-pub one_more : (o : Offer) (Rejects : Trial) (file : List ℕ) (from to : ℕ) (at : Cursor) → slice_get (cursors_of o) from ≡ Some at → Rejects file (o.bytes at)
-    → AllRejected o Rejects file (from + 1) to → AllRejected o Rejects file from to
-one_more o Rejects file from to at there rejected after i at' low high there' = elim (here_or_after from i low) [
-  | inl here ↦ subst (λ c. Rejects file (o.bytes c)) (same_item (cursors_of o) from i at at' there there' (omega arith)) rejected
-  | inr later ↦ after i at' later high there'
-]
-
 pub none_between : (o : Offer) (Rejects : Trial) (file : List ℕ) (from : ℕ) → AllRejected o Rejects file from from
 none_between o Rejects file from i at low high there = absurd (omega arith)
 

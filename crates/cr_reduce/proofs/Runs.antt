@@ -1,5 +1,5 @@
 -- Calls in a run: lists of calls that go on, and answers that stay given.
-use Rattle.std.proofs.Common.{◌≡◌, ◌≢◌, ◌≤◌, ℕ, zero, suc, Bool, true, false, List, [], ◌∷◌, ◌++◌, map, length, drop, ◌<◌, Option, Some, None, subst, sym, ap, ◌∙◌, refl, append_assoc, inl, inr, arith}
+use Rattle.std.proofs.Common.{◌≡◌, ◌≢◌, ◌+◌, ◌≤◌, ℕ, zero, suc, Bool, true, false, List, [], ◌∷◌, ◌++◌, map, length, drop, ◌<◌, Option, Some, None, subst, sym, ap, ◌∙◌, refl, append_assoc, inl, inr, arith}
 use Rattle.std.proofs.lemmas.List.{append-nil}
 use Rattle.std.proofs.lemmas.List.Elements.{All-nil, All-push, All-append}
 use Rattle.cr_outside.specs.declared.judge.Answer.{Answer}
@@ -7,11 +7,12 @@ use Rattle.cr_outside.specs.declared.judge.Judge.{Ghosts as JudgeGhosts}
 use Rattle.cr_outside.specs.declared.judge.Answer.TheVariants.{Yes, No, Failed, NoMemory}
 use Rattle.cr_outside.specs.Faults.{Rose}
 use Rattle.cr_outside.specs.Judge.{Call, call_of, with_call}
-use Rattle.cr_outside.specs.Question.{AnswersAsTold, AsksOnce, Says}
-use Rattle.cr_pool.specs.Tally.{first_says, tallies_of, tally_at}
-use Rattle.cr_pool.specs.Trials.{HasCalled}
+use Rattle.cr_outside.specs.Question.{AnswersAsTold, AsksOnce, CountsOnce, Says}
+use Rattle.cr_pool.specs.Tally.{asked_in, first_says, tallies_of, tally_at}
+use Rattle.cr_pool.specs.Trials.{GoesOn as CallsGoOn}
+use Rattle.cr_pool.proofs.Runs.{called_once, has_called-earlier, has_called-later, one_count}
 use Rattle.cr_outside.proofs.Counts.{rose_earlier}
-use Rattle.cr_reduce.specs.Bench.{AllGained, AnyCall, AsksFirst, CalledBy, Each, Gained, GoesOn, Judging, RoseAt}
+use Rattle.cr_reduce.specs.Bench.{AllGained, AnyCall, AsksFirst, CalledBy, Each, Gained, AsksAtMost, GoesOn, Judging, RoseAt, judging_of}
 use Rattle.cr_reduce.specs.Trials.{AnswerInRun, HasFailed}
 
 -- one judge's calls
@@ -68,9 +69,6 @@ later-trans (x ∷ xs) [] c first second = absurd first
 later-trans (x ∷ xs) (y ∷ ys) [] first second = absurd second
 later-trans (x ∷ xs) (y ∷ ys) (z ∷ zs) first second = (omega (arith, first.0, second.0), later-trans xs ys zs first.1 second.1)
 
-rose_later : (before now later : ℕ) → Rose before now → now ≤ later → Rose before later
-rose_later before now later rose less = grind arith
-
 pub rose_at-earlier : (worker : ℕ) (a b c : List ℕ) → Each (λ old new. old ≤ new) a b → RoseAt worker b c → RoseAt worker a c
 rose_at-earlier worker [] [] c less rose = rose
 rose_at-earlier worker [] (y ∷ ys) c less rose = absurd less
@@ -79,15 +77,6 @@ rose_at-earlier zero (x ∷ xs) (y ∷ ys) [] less rose = rose
 rose_at-earlier zero (x ∷ xs) (y ∷ ys) (z ∷ zs) less rose = rose_earlier x y z less.0 rose
 rose_at-earlier (suc worker) (x ∷ xs) (y ∷ ys) [] less rose = rose
 rose_at-earlier (suc worker) (x ∷ xs) (y ∷ ys) (z ∷ zs) less rose = rose_at-earlier worker xs ys zs less.1 rose
-
-pub rose_at-later : (worker : ℕ) (a b c : List ℕ) → RoseAt worker a b → Each (λ old new. old ≤ new) b c → RoseAt worker a c
-rose_at-later zero [] b c rose less = absurd rose
-rose_at-later (suc worker) [] b c rose less = absurd rose
-rose_at-later zero (x ∷ xs) [] c rose less = absurd rose
-rose_at-later (suc worker) (x ∷ xs) [] c rose less = absurd rose
-rose_at-later worker (x ∷ xs) (y ∷ ys) [] rose less = absurd less
-rose_at-later zero (x ∷ xs) (y ∷ ys) (z ∷ zs) rose less = rose_later x y z rose less.0
-rose_at-later (suc worker) (x ∷ xs) (y ∷ ys) (z ∷ zs) rose less = rose_at-later worker xs ys zs rose less.1
 
 pub goes_on-refl : (a : Judging) → GoesOn a a
 goes_on-refl a = record { calls = all_gained-refl AnyCall a.calls; faults = later-refl a.faults }
@@ -100,17 +89,9 @@ goes_on-trans a b c first second = record {
 
 -- a call stays made
 
-has_called-later : (before now later : Option (List Call)) (call : Call) → HasCalled before now call → Gained AnyCall now later → HasCalled before later call
-has_called-later None now later call has on = tt
-has_called-later (Some list) now later call has on =
-    let next : Gained AnyCall (Some (list ++ has.0 ++ call ∷ has.1)) later = subst (λ x. Gained AnyCall x later) has.2 on in
-    (has.0, has.1 ++ next.0, next.1 ∙ ap Some (append_assoc (list ++ has.0) (call ∷ has.1) next.0))
-
-has_called-earlier : (before middle now : Option (List Call)) (call : Call) → Gained AnyCall before middle → HasCalled middle now call → HasCalled before now call
-has_called-earlier None middle now call on has = tt
-has_called-earlier (Some list) middle now call on has =
-    let in_middle : HasCalled (Some (list ++ on.0)) now call = subst (λ x. HasCalled x now call) on.1 has in
-    (on.0 ++ in_middle.0, in_middle.1, in_middle.2 ∙ ap (λ front. Some (front ++ call ∷ in_middle.1)) (append_assoc list on.0 in_middle.0))
+goes_on_as_there : (before now : Option (List Call)) → Gained AnyCall before now → CallsGoOn before now
+goes_on_as_there None now on = on
+goes_on_as_there (Some list) now on = (on.0, on.1)
 
 pub called_by-later : (worker : ℕ) (a b c : List (Option (List Call))) (call : Call) → CalledBy worker a b call → AllGained AnyCall b c → CalledBy worker a c call
 called_by-later zero [] b c call has on = absurd has
@@ -118,7 +99,7 @@ called_by-later (suc worker) [] b c call has on = absurd has
 called_by-later zero (x ∷ xs) [] c call has on = absurd has
 called_by-later (suc worker) (x ∷ xs) [] c call has on = absurd has
 called_by-later worker (x ∷ xs) (y ∷ ys) [] call has on = absurd on
-called_by-later zero (x ∷ xs) (y ∷ ys) (z ∷ zs) call has on = has_called-later x y z call has on.0
+called_by-later zero (x ∷ xs) (y ∷ ys) (z ∷ zs) call has on = has_called-later x y z call has (goes_on_as_there y z on.0)
 called_by-later (suc worker) (x ∷ xs) (y ∷ ys) (z ∷ zs) call has on = called_by-later worker xs ys zs call has on.1
 
 pub called_by-earlier : (worker : ℕ) (a b c : List (Option (List Call))) (call : Call) → AllGained AnyCall a b → CalledBy worker b c call → CalledBy worker a c call
@@ -126,21 +107,9 @@ called_by-earlier worker [] [] c call on has = has
 called_by-earlier worker [] (y ∷ ys) c call on has = absurd on
 called_by-earlier worker (x ∷ xs) [] c call on has = absurd on
 called_by-earlier zero (x ∷ xs) (y ∷ ys) [] call on has = has
-called_by-earlier zero (x ∷ xs) (y ∷ ys) (z ∷ zs) call on has = has_called-earlier x y z call on.0 has
+called_by-earlier zero (x ∷ xs) (y ∷ ys) (z ∷ zs) call on has = has_called-earlier x y z call (goes_on_as_there x y on.0) has
 called_by-earlier (suc worker) (x ∷ xs) (y ∷ ys) [] call on has = has
 called_by-earlier (suc worker) (x ∷ xs) (y ∷ ys) (z ∷ zs) call on has = called_by-earlier worker xs ys zs call on.1 has
-
--- the one call that was made
-called : (old new : Option (List Call)) (call : Call) → new ≡ with_call call old → HasCalled old new call
-called None new call is = tt
-called (Some list) new call is = ([], [], is ∙ ap (λ front. Some (front ++ call ∷ [])) (sym (append-nil list)))
-
-called_once : (old new : Option (List Call)) (name file : List ℕ) (answer : Answer) → answer ≢ NoMemory → AsksOnce old new name file answer
-    → (test : List ℕ) × HasCalled old new (call_of test name file answer)
-called_once old new name file Yes given once = (once.0, called old new (call_of once.0 name file Yes) once.1)
-called_once old new name file No given once = (once.0, called old new (call_of once.0 name file No) once.1)
-called_once old new name file Failed given once = (once.0, called old new (call_of once.0 name file Failed) once.1)
-called_once old new name file NoMemory given once = absurd (given refl)
 
 pub called_first : (old new : List (Option (List Call))) (name file : List ℕ) (answer : Answer) → answer ≢ NoMemory → AsksFirst old new name file answer
     → (test : List ℕ) × CalledBy 0 old new (call_of test name file answer)
@@ -152,10 +121,6 @@ called_first (x ∷ xs) (y ∷ ys) name file answer given once = called_once x y
 pub answered_once : (asks : Bool) (Tells : List ℕ → Bool → Type 0) (name : List ℕ) (old new : List (Option (List Call))) (file : List ℕ) (answer : Answer) → answer ≢ NoMemory
     → (asks ≡ true → AsksFirst old new name file answer) → AnswersAsTold asks (Tells file) answer → AnswerInRun asks Tells name old new file answer
 answered_once asks Tells name old new file answer given once told = record { asked = λ uses. let it = called_first old new name file answer given (once uses) in (0, it.0, it.1); told = told }
-
-pub is_so : (b : Bool) → (b ≡ false → ⊥) → b ≡ true
-is_so true never = refl
-is_so false never = absurd (never refl)
 
 -- An answer stays given.
 pub answer_in_run-later : (asks : Bool) (Tells : List ℕ → Bool → Type 0) (name : List ℕ) (before now later : List (Option (List Call))) (variant : List ℕ) (answer : Answer)
@@ -210,7 +175,7 @@ module _ {J K : Type 0} (judge : JudgeGhosts J K) where
   later_asked : (old new : List J) (name file : List ℕ) (answer : Answer) → 0 < length old → length new ≡ length old → drop 1 new ≡ drop 1 old
       → AsksOnce (tally_at (tallies_of judge old) 0).calls (tally_at (tallies_of judge new) 0).calls name file answer
       → (tally_at (tallies_of judge old) 0).faults ≤ (tally_at (tallies_of judge new) 0).faults
-      → GoesOn (record { calls = map judge.calls old; faults = map judge.faults old }) (record { calls = map judge.calls new; faults = map judge.faults new })
+      → GoesOn (judging_of judge old) (judging_of judge new)
   later_asked [] new name file answer some count others once later = absurd (omega arith)
   later_asked (x ∷ xs) [] name file answer some count others once later = absurd (omega arith)
   later_asked (x ∷ xs) (y ∷ ys) name file answer some count others once later = record {
@@ -221,11 +186,20 @@ module _ {J K : Type 0} (judge : JudgeGhosts J K) where
   pub goes_on_first : (asks : Bool) (old new : List J) (name file : List ℕ) (answer : Answer) → 0 < length old → length new ≡ length old → drop 1 new ≡ drop 1 old
       → (asks ≡ true → AsksOnce (tally_at (tallies_of judge old) 0).calls (tally_at (tallies_of judge new) 0).calls name file answer) → (asks ≡ false → new ≡ old)
       → (tally_at (tallies_of judge old) 0).faults ≤ (tally_at (tallies_of judge new) 0).faults
-      → GoesOn (record { calls = map judge.calls old; faults = map judge.faults old }) (record { calls = map judge.calls new; faults = map judge.faults new })
+      → GoesOn (judging_of judge old) (judging_of judge new)
   goes_on_first true old new name file answer some count others once silent later = later_asked old new name file answer some count others (once refl) later
   goes_on_first false old new name file answer some count others once silent later =
-      subst (λ js. GoesOn (record { calls = map judge.calls old; faults = map judge.faults old }) (record { calls = map judge.calls js; faults = map judge.faults js })) (sym (silent refl))
-      (goes_on-refl (record { calls = map judge.calls old; faults = map judge.faults old }))
+      subst (λ js. GoesOn (judging_of judge old) (judging_of judge js)) (sym (silent refl)) (goes_on-refl (judging_of judge old))
+
+  -- one call was asked at most
+  pub asked_once : (asks : Bool) (old new : List J) (answer : Answer) → 0 < length old → length new ≡ length old → drop 1 new ≡ drop 1 old
+      → (asks ≡ true → CountsOnce (tally_at (tallies_of judge old) 0).asked (tally_at (tallies_of judge new) 0).asked answer) → (asks ≡ false → new ≡ old)
+      → AsksAtMost 1 (judging_of judge old) (judging_of judge new)
+  asked_once asks [] new answer some count others counted silent = absurd (omega arith)
+  asked_once asks (x ∷ xs) [] answer some count others counted silent = absurd (omega arith)
+  asked_once true (x ∷ xs) (y ∷ ys) answer some count others counted silent =
+      omega (arith, one_count (judge.asked x) (judge.asked y) answer (counted refl), ap (λ js. asked_in (tallies_of judge js)) others)
+  asked_once false (x ∷ xs) (y ∷ ys) answer some count others counted silent = omega (arith, ap (λ js. asked_in (tallies_of judge js)) (silent refl))
 
   -- judges of the same keys say the same
   pub says_kept : (old new : List J) → map judge.key new ≡ map judge.key old → first_says judge.key judge.says new ≡ first_says judge.key judge.says old

@@ -1,17 +1,20 @@
 -- The numbers of a walk, and what its steps complete.
-use Rattle.std.proofs.Common.{◌≡◌, ℕ, ◌+◌, ◌*◌, ◌<◌, ◌≤◌, Bool, true, false, List, length, Option, Some, None, subst, sym, refl, arith}
+use Rattle.std.proofs.Common.{◌≡◌, ℕ, ◌+◌, ◌*◌, ◌-◌, ◌<◌, ◌≤◌, Bool, true, false, List, length, Option, Some, None, ap, subst, sym, refl, arith}
 use Rattle.cr_outside.specs.declared.judge.Answer.TheVariants.{Yes, No}
+use Rattle.std.proofs.lemmas.List.{length_push}
+use Rattle.std.proofs.Math.Nat.{suc-mul}
 use Rattle.std.specs.List.{slice_get}
 use Rattle.cr_cursor.specs.declared.passes.Cursor.{Cursor}
 use Rattle.cr_cursor.specs.Variants.{Offer}
-use Rattle.cr_reduce.specs.Bench.{GoesOn, Judging}
+use Rattle.cr_reduce.specs.Bench.{AsksAtMost, GoesOn, Judging}
 use Rattle.cr_pool.specs.Trials.IsRejected.{not_smaller, unlawful, answered_no}
-use Rattle.cr_reduce.specs.Reduction.{AllRejected, IsFirstAccepted, State, Within, cursors_of, moved, next_round}
+use Rattle.cr_reduce.specs.Reduction.{AllRejected, IsFirstAccepted, Proposals, State, Within, cursors_of, moved, next_round}
 use Rattle.cr_reduce.specs.Reduction.Reduces.{accepts, new_round}
 use Rattle.cr_reduce.specs.Search.{Search, AcceptsInRun, FailsInRun, RejectsInRun}
+use Rattle.cr_reduce.specs.declared.end.Accepted.{Accepted}
 use Rattle.cr_reduce.specs.declared.end.Why.{Why}
 use Rattle.cr_reduce.specs.declared.end.Why.TheVariants.{Fixed, Limit, Fault, NoMemory}
-use Rattle.cr_reduce.specs.Walk.{Advances, EndsHere, GoesOver, IsHalt, IsTaken, Leads, MovesOn, left_of}
+use Rattle.cr_reduce.specs.Walk.{Advances, AsksFew, EndsHere, GoesOver, IsTaken, Leads, MovesOn, left_of}
 use Rattle.cr_reduce.specs.Walk.Advances.{moves, round}
 use Rattle.cr_reduce.specs.Walk.MovesOn.{passed, accepted}
 use Rattle.cr_reduce.proofs.Runs.{answer_in_run-later, answer_in_run-earlier, goes_on-trans, has_failed-earlier}
@@ -25,18 +28,6 @@ left_low false size count position = omega arith
 pub left_falls : (changed : Bool) (old_size old_count old_position size count position : ℕ) → size < old_size → count ≤ 167772160
     → left_of true size count position < left_of changed old_size old_count old_position
 left_falls changed old_size old_count old_position size count position less few = omega (arith, left_low changed old_size old_count old_position)
-
--- no position
-pub goes_nowhere : (s : Search) (before now : Judging) (st : State) → st.position ≤ length (cursors_of st.offer) → GoesOver s before now st st
-goes_nowhere s before now st placed = record {
-  position = st.position;
-  turns = st.turns;
-  low = omega arith;
-  high = placed;
-  all = none_between st.offer (RejectsInRun s before now) st.file st.position;
-  count = refl;
-  is = refl;
-}
 
 -- Positions that an epoch rejected are gone over.
 pub goes_over_all : (s : Search) (before now : Judging) (st : State) (len over : ℕ) → (over ≡ len) × AllRejected st.offer (RejectsInRun s before now) st.file st.position (st.position + len)
@@ -61,6 +52,14 @@ takes_first s before now from to position at first it =
     accepted position it.at it.size it.turns it.next
     (subst (IsFirstAccepted from.offer (AcceptsInRun s before now) (RejectsInRun s before now) from.file from.position position) (same_cursor (cursors_of from.offer) position at it.at first.there it.there) first)
     it.has it.count it.offered it.is
+
+-- An epoch that came to an acceptance asked no more than its turns and the acceptance account for.
+pub few_taken : (p : Proposals) (window len : ℕ) (before now : Judging) (from to : State) (position : ℕ) → len ≤ window → from.position ≤ position → AsksAtMost len before now → IsTaken p from position to
+    → AsksFew window before now from to 0
+few_taken p window len before now from to position short low few it =
+    let one : Accepted = record { at = it.at; size = it.size; turn = it.turns } in
+    let more = ap (λ n. n * (window - 1)) (length_push from.accepted one) in
+    subst (λ st. AsksFew window before now from st 0) (sym it.is) (omega (arith, few, it.count, more, suc-mul (length from.accepted) (window - 1)))
 
 -- what the steps complete
 
@@ -124,13 +123,6 @@ leads-moves s before middle now st to earlier (accepted position at size turns n
             before = all_within s before middle now after st.offer st.file st.position position earlier on first.before;
           }) has count within offered rest;
     })
-
--- What ends the walk in an epoch ends it.
-pub halt_ends : (s : Search) (before now : Judging) (limit : Option ℕ) (st : State) (why : Why) → IsHalt s before now limit st why → EndsHere s before now limit st why
-halt_ends s before now limit st Fixed halt = absurd halt
-halt_ends s before now limit st Limit halt = absurd halt
-halt_ends s before now limit st (Fault turn worker) halt = halt
-halt_ends s before now limit st NoMemory halt = tt
 
 -- one step of the walk
 pub leads-advances : (s : Search) (before middle now : Judging) (st to : State) → GoesOn before middle → Advances s middle now st to → Leads s before now st to

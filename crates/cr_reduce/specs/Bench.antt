@@ -1,12 +1,12 @@
 -- What the judges of a bench tell at one time, and what they are asked from one time to another.
-use Rattle.std.specs.Prelude.{◌≡◌, ◌⊎◌, ◌≤◌, ℕ, zero, suc, List, [], ◌∷◌, ◌++◌, All, map, Option, None, Some}
+use Rattle.std.specs.Prelude.{◌≡◌, ◌⊎◌, ◌+◌, ◌≤◌, ℕ, zero, suc, List, [], ◌∷◌, ◌++◌, All, map, Option, None, Some}
 use Rattle.cr_outside.specs.declared.judge.Answer.{Answer}
 use Rattle.cr_outside.specs.declared.judge.Judge.{Ghosts as JudgeGhosts}
 use Rattle.cr_outside.specs.Faults.{Rose}
 use Rattle.cr_outside.specs.Judge.{Call, call_of, with_call}
 use Rattle.cr_outside.specs.Question.{AsksOnce, Says}
 use Rattle.cr_pool.specs.Bench.{Benched}
-use Rattle.cr_pool.specs.Tally.{first_says}
+use Rattle.cr_pool.specs.Tally.{asked_in, first_says, tallies_of}
 use Rattle.cr_pool.specs.Trials.{HasCalled}
 
 abbrev pub keys_of : {J K : Type 0} → JudgeGhosts J K → Benched J → List K
@@ -16,13 +16,18 @@ keys_of judge bench = map judge.key bench.judges
 abbrev pub says_of : {J K : Type 0} → JudgeGhosts J K → Benched J → Says
 says_of judge bench = first_says judge.key judge.says bench.judges
 
--- What the judges tell at one time: of each its calls, where it tells them, and the count of its faults.
+-- What the judges tell at one time: of each its calls, where it tells them, and the count of its faults; and how many calls
+-- all were asked.
 pub record Judging : Type 0 where
   pub calls : List (Option (List Call))
   pub faults : List ℕ
+  pub asked : ℕ
+
+abbrev pub judging_of : {J K : Type 0} → JudgeGhosts J K → List J → Judging
+judging_of judge judges = record { calls = map judge.calls judges; faults = map judge.faults judges; asked = asked_in (tallies_of judge judges) }
 
 abbrev pub judging : {J K : Type 0} → JudgeGhosts J K → Benched J → Judging
-judging judge bench = record { calls = map judge.calls bench.judges; faults = map judge.faults bench.judges }
+judging judge bench = judging_of judge bench.judges
 
 -- Of a judge's calls, where they are told, the later ones go on where the earlier ones stopped, and each since is such a call.
 abbrev pub Gained : (Call → Type 0) → Option (List Call) → Option (List Call) → Type 0
@@ -46,6 +51,10 @@ AnyCall call = Unit {0}
 pub record GoesOn (before now : Judging) : Type 0 where
   pub calls : AllGained AnyCall before.calls now.calls
   pub faults : Each (λ old new. old ≤ new) before.faults now.faults
+
+-- So many calls at most were asked from one time to another.
+abbrev pub AsksAtMost : ℕ → Judging → Judging → Type 0
+AsksAtMost n before now = now.asked ≤ before.asked + n
 
 -- the call was made by the judge of this worker
 abbrev pub CalledBy : ℕ → List (Option (List Call)) → List (Option (List Call)) → Call → Type 0

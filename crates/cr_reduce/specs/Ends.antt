@@ -1,5 +1,5 @@
 -- What a reduction's end says.
-use Rattle.std.specs.Prelude.{◌≡◌, ◌⊎◌, ℕ, ◌+◌, true, List, [], length, Option, Some}
+use Rattle.std.specs.Prelude.{◌≡◌, ◌⊎◌, ℕ, ◌+◌, ◌*◌, ◌-◌, true, List, [], length, Option, Some}
 use Rattle.cr_reduce.specs.Bench.{Judging, RoseAt}
 use Rattle.cr_reduce.specs.declared.end.End.{End}
 use Rattle.cr_reduce.specs.declared.walk.Walk.{Walk}
@@ -14,6 +14,19 @@ outcome_of e why = record { file = e.file.items; accepted = e.accepted.items; tu
 
 abbrev pub end_of_walk : {T : Type 0} → Walk T → Why → End
 end_of_walk w why = record { file = w.file; accepted = w.accepted; turns = w.turns; why = why }
+
+-- Where a reduction ended, how many calls were asked beside those that its turns and acceptances account for: where it ended by
+-- itself none, else those of its last epoch at most.
+abbrev pub calls_beside : ℕ → Why → ℕ
+calls_beside window Fixed = 0
+calls_beside window Limit = 0
+calls_beside window (Fault turn worker) = window
+calls_beside window NoMemory = window
+
+-- How many calls are asked at most in a reduction with such a window: one for each turn, for each acceptance the positions of its
+-- epoch behind it, and those beside.
+abbrev pub most_calls : ℕ → End → ℕ
+most_calls window e = e.turns + length e.accepted.items * (window - 1) + calls_beside window e.why
 
 -- With as many turns as were made, the reduction comes to this file and this accepted list.
 abbrev pub StopsAt : (Option ℕ → Outcome → Type 0) → End → Type 0

@@ -1,5 +1,5 @@
 -- The walk of a reduction, as its loop has it.
-use Rattle.std.specs.Prelude.{◌≡◌, ◌≢◌, ℕ, ◌+◌, ◌*◌, ◌-◌, ◌<◌, ◌≤◌, Bool, true, false, List, ◌++◌, length, Option, Some}
+use Rattle.std.specs.Prelude.{◌≡◌, ◌≢◌, ℕ, ◌+◌, ◌*◌, ◌-◌, ◌<◌, ◌≤◌, Bool, true, false, List, ◌++◌, length, Option, Some, None}
 use Rattle.std.specs.List.{slice_get}
 use Rattle.cr_outside.specs.Judge.{Call}
 use Rattle.cr_cursor.specs.declared.passes.Cursor.{Cursor}
@@ -13,6 +13,7 @@ use Rattle.cr_cursor.specs.Variants.{Offer}
 use Rattle.cr_reduce.specs.Sizes.{HasSize, IsSmaller}
 use Rattle.cr_reduce.specs.Bench.{AllGained, GoesOn, Judging}
 use Rattle.cr_reduce.specs.Reduction.{AllRejected, IsFirstAccepted, Proposals, State, Outcome, Within, cursors_of, moved, next_round, taken}
+use Rattle.cr_reduce.specs.Ends.{calls_beside}
 use Rattle.cr_reduce.specs.Search.{Search, AcceptsInRun, AsksOnlyCandidates, FailsInRun, RejectsInRun, ReducesInRun, ChainsTo}
 
 -- The state of a walk, where an index and a file's bytes make this offer.
@@ -93,12 +94,9 @@ EpochSays s before now st len (ending.Fault position worker) = (st.position ≤ 
     × ((at : Cursor) × (slice_get (cursors_of st.offer) position ≡ Some at) × FailsInRun s before now worker st.file (st.offer.bytes at))
 EpochSays s before now st len ending.NoMemory = Unit {0}
 
--- Why an epoch ended the walk: want of memory, or the trial of the state's position failed, short of the limit.
-abbrev pub IsHalt : Search → Judging → Judging → Option ℕ → State → Why → Type 0
-IsHalt s before now limit st NoMemory = Unit {0}
-IsHalt s before now limit st (Fault turn worker) = (turn ≡ st.turns + 1) × (limit ≢ Some st.turns) × FailsHere s before now st worker
-IsHalt s before now limit st Fixed = ⊥
-IsHalt s before now limit st Limit = ⊥
+-- the bytes are those of the variant at this position
+abbrev pub IsVariantAt : Offer → ℕ → List ℕ → Type 0
+IsVariantAt offer position variant = (at : Cursor) → slice_get (cursors_of offer) position ≡ Some at → variant ≡ offer.bytes at
 
 -- The variant of a position has become the file.
 pub record IsTaken (p : Proposals) (from : State) (position : ℕ) (to : State) : Type 0 where
@@ -112,12 +110,25 @@ pub record IsTaken (p : Proposals) (from : State) (position : ℕ) (to : State) 
   pub offered : p (from.offer.bytes at) next
   pub is : to ≡ taken from at size turns next
 
--- So many positions are tried at once: some, no more than are left in the round, and than the limit leaves.
-pub record IsLength (limit : Option ℕ) (left turns len : ℕ) : Type 0 where
+-- So many positions are tried at once: some, no more than the window allows, than are left in the round, and than the limit leaves.
+pub record IsLength (limit : Option ℕ) (window left turns len : ℕ) : Type 0 where
   pub some : 0 < len
-  pub few : len ≤ 4096
+  pub few : len ≤ window
   pub placed : len ≤ left
   pub within : Within limit (turns + len)
+
+-- how many calls the turns and the acceptances up to a state account for
+abbrev pub calls_for : ℕ → State → ℕ
+calls_for window st = st.turns + length st.accepted * (window - 1)
+
+-- No more calls were asked from one state to another than those that they account for, and so many beside.
+abbrev pub AsksFew : ℕ → Judging → Judging → State → State → ℕ → Type 0
+AsksFew window before now from to beside = now.asked + calls_for window from ≤ before.asked + calls_for window to + beside
+
+-- how many beside, where a step may have ended the walk
+abbrev pub calls_beside_step : ℕ → Option Why → ℕ
+calls_beside_step window None = 0
+calls_beside_step window (Some why) = calls_beside window why
 
 -- one step: some positions, or a new round
 pub data Advances (s : Search) (before now : Judging) (from to : State) : Type 0 where

@@ -2,9 +2,10 @@
 ghost use Rattle.std.specs.Prelude.{◌≡◌, ◌<◌, ◌≤◌, ℕ, List, IsSome, Some, None, length, false};
 ghost use Rattle.cr_reduce.specs.declared.end.Why.{Why};
 ghost use Rattle.cr_reduce.specs.Bench.{GoesOn, judging, keys_of};
+ghost use Rattle.cr_reduce.specs.Ends.{calls_beside};
 ghost use Rattle.cr_reduce.specs.Reduction.{Within, cursors_of};
 ghost use Rattle.cr_reduce.specs.Search.{searching};
-ghost use Rattle.cr_reduce.specs.Walk.{Advances, AsksOnlyTried, EndsHere, GoesOver, IsSound, Walked, state_of, work_of};
+ghost use Rattle.cr_reduce.specs.Walk.{Advances, AsksFew, AsksOnlyTried, EndsHere, GoesOver, IsSound, Walked, calls_beside_step, state_of, work_of};
 
 use crate::end::{Plan, Why};
 use crate::look::look;
@@ -15,7 +16,7 @@ use cr_pool::Bench;
 use std::alloc::Global;
 use std::thread::Threads;
 
-/// Looks at one position, or begins a new round, or says why the walk has ended.
+/// Looks at the next positions, or begins a new round, or says why the walk has ended.
 fn advance<R: Threads + Sync, P: Passes + Sync, L: Law + Sync, Q: Question + Sync, J: Judge + Send>(
     rt: &R,
     alloc: Global,
@@ -44,6 +45,8 @@ where
         (judging J.Judge bench.old) (judging J.Judge bench.new) plan.now.limit (state_of (P.offer passes.now) walk.new) why }
     ensures asks { AsksOnlyTried (searching P.Passes passes.now L.Law law.now Q.Question question.now name.now J.Judge bench.old)
         (judging J.Judge bench.old) (judging J.Judge bench.new) (state_of (P.offer passes.now) walk.old) }
+    ensures few { AsksFew plan.now.window (judging J.Judge bench.old) (judging J.Judge bench.new)
+        (state_of (P.offer passes.now) walk.old) (state_of (P.offer passes.now) walk.new) (calls_beside_step plan.now.window result) }
     ensures keys { keys_of J.Judge bench.new ≡ keys_of J.Judge bench.old }
     ensures silent { Q.asks question.now ≡ false → bench.new.judges ≡ bench.old.judges }
     ensures goes_on { GoesOn (judging J.Judge bench.old) (judging J.Judge bench.new) }
@@ -92,6 +95,8 @@ where
         (judging J.Judge bench.old) (judging J.Judge bench.new) plan.now.limit (state_of (P.offer passes.now) walk.new) result }
     ensures placed { walk.new.position ≤ length (cursors_of (P.offer passes.now walk.new.prep walk.new.file.items)) }
     ensures within { Within plan.now.limit walk.new.turns }
+    ensures few { AsksFew plan.now.window (judging J.Judge bench.old) (judging J.Judge bench.new)
+        (state_of (P.offer passes.now) walk.old) (state_of (P.offer passes.now) walk.new) (calls_beside plan.now.window result) }
     ensures keys { keys_of J.Judge bench.new ≡ keys_of J.Judge bench.old }
     ensures silent { Q.asks question.now ≡ false → bench.new.judges ≡ bench.old.judges }
 {

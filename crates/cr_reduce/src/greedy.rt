@@ -1,8 +1,8 @@
 // The reduction.
 ghost use Rattle.std.specs.Prelude.{◌≡◌, ◌≢◌, ◌<◌, ◌≤◌, ℕ, length, IfErr, IfOk, false};
-ghost use Rattle.cr_reduce.specs.Bench.{GoesOn, judging, keys_of};
+ghost use Rattle.cr_reduce.specs.Bench.{AsksAtMost, GoesOn, judging, keys_of};
 ghost use Rattle.cr_reduce.specs.Bound.{HasLevels, enough_turns};
-ghost use Rattle.cr_reduce.specs.Ends.{end_of_walk, EndsAsTold, EndsInRun, FaultsWithCause, IsFixedAsTold, IsFixedInRun};
+ghost use Rattle.cr_reduce.specs.Ends.{end_of_walk, EndsAsTold, EndsInRun, FaultsWithCause, IsFixedAsTold, IsFixedInRun, most_calls};
 ghost use Rattle.cr_reduce.specs.Search.{AsksOnlyCandidates, IsAllTold, searching};
 ghost use Rattle.cr_reduce.specs.Reduction.{Within, start_of};
 ghost use Rattle.cr_reduce.specs.Sizes.{HasSize};
@@ -58,6 +58,10 @@ where
     // The test is asked about nothing but smaller, lawful variants of the chain's files.
     ensures asks_only { AsksOnlyCandidates (searching P.Passes passes.now L.Law law.now Q.Question question.now name.now J.Judge bench.old)
         file.items result.accepted.items (judging J.Judge bench.old) (judging J.Judge bench.new) }
+
+    // It is asked no more often than the turns, and the positions behind the accepted ones in their epochs, account for; where the test
+    // failed or no memory was left, one window more.
+    ensures few { AsksAtMost (most_calls plan.now.window result) (judging J.Judge bench.old) (judging J.Judge bench.new) }
     ensures cause { FaultsWithCause (searching P.Passes passes.now L.Law law.now Q.Question question.now name.now J.Judge bench.old)
         (judging J.Judge bench.old) (judging J.Judge bench.new) result.why }
 

@@ -1,9 +1,9 @@
 // The positions of one epoch.
 ghost use Rattle.std.specs.Prelude.{◌≡◌, ◌≢◌, ◌<◌, ◌≤◌, ◌+◌, ◌-◌, ℕ, IsSome, Some, None, false, length};
-ghost use Rattle.cr_reduce.specs.Bench.{GoesOn, judging, keys_of};
+ghost use Rattle.cr_reduce.specs.Bench.{AsksAtMost, GoesOn, judging, keys_of};
 ghost use Rattle.cr_reduce.specs.Reduction.{Within};
 ghost use Rattle.cr_reduce.specs.Search.{searching};
-ghost use Rattle.cr_reduce.specs.Walk.{AsksOnlyTried, EpochSays, GoesOver, IsHalt, IsLength, IsSound, MovesOn, state_of, work_of};
+ghost use Rattle.cr_reduce.specs.Walk.{AsksFew, AsksOnlyTried, EndsHere, EpochSays, GoesOver, IsLength, IsSound, MovesOn, calls_beside_step, state_of, work_of};
 ghost use Rattle.cr_reduce.specs.declared.end.Why.{Why};
 
 use crate::end::{Plan, Why};
@@ -21,7 +21,7 @@ fn length_of(plan: &Plan, left: u64, turns: u64) -> u64
     requires window { (0 < plan.now.window) × (plan.now.window ≤ 4096) }
     requires more { plan.now.limit ≢ Some turns }
     requires within { Within plan.now.limit turns }
-    ensures { IsLength plan.now.limit left turns result }
+    ensures { IsLength plan.now.limit plan.now.window left turns result }
 {
     let most = left.min(u64::from(plan.window));
     match plan.limit {
@@ -59,6 +59,7 @@ where
         (judging J.Judge bench.old) (judging J.Judge bench.new) (state_of (P.offer passes.now) walk.now) len result }
     ensures asks { AsksOnlyTried (searching P.Passes passes.now L.Law law.now Q.Question question.now name.now J.Judge bench.old)
         (judging J.Judge bench.old) (judging J.Judge bench.new) (state_of (P.offer passes.now) walk.now) }
+    ensures few { AsksAtMost len (judging J.Judge bench.old) (judging J.Judge bench.new) }
     ensures keys { keys_of J.Judge bench.new ≡ keys_of J.Judge bench.old }
     ensures silent { Q.asks question.now ≡ false → bench.new.judges ≡ bench.old.judges }
     ensures goes_on { GoesOn (judging J.Judge bench.old) (judging J.Judge bench.new) }
@@ -113,10 +114,12 @@ where
     ensures within { Within plan.now.limit walk.new.turns }
     ensures passed { IsSome result → GoesOver (searching P.Passes passes.now L.Law law.now Q.Question question.now name.now J.Judge bench.old)
         (judging J.Judge bench.old) (judging J.Judge bench.new) (state_of (P.offer passes.now) walk.old) (state_of (P.offer passes.now) walk.new) }
-    ensures halted { (why : Why) → result ≡ Some why → IsHalt (searching P.Passes passes.now L.Law law.now Q.Question question.now name.now J.Judge bench.old)
+    ensures ended { (why : Why) → result ≡ Some why → EndsHere (searching P.Passes passes.now L.Law law.now Q.Question question.now name.now J.Judge bench.old)
         (judging J.Judge bench.old) (judging J.Judge bench.new) plan.now.limit (state_of (P.offer passes.now) walk.new) why }
     ensures asks { AsksOnlyTried (searching P.Passes passes.now L.Law law.now Q.Question question.now name.now J.Judge bench.old)
         (judging J.Judge bench.old) (judging J.Judge bench.new) (state_of (P.offer passes.now) walk.old) }
+    ensures few { AsksFew plan.now.window (judging J.Judge bench.old) (judging J.Judge bench.new)
+        (state_of (P.offer passes.now) walk.old) (state_of (P.offer passes.now) walk.new) (calls_beside_step plan.now.window result) }
     ensures keys { keys_of J.Judge bench.new ≡ keys_of J.Judge bench.old }
     ensures silent { Q.asks question.now ≡ false → bench.new.judges ≡ bench.old.judges }
     ensures goes_on { GoesOn (judging J.Judge bench.old) (judging J.Judge bench.new) }

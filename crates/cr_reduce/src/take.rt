@@ -1,10 +1,8 @@
 // An accepted variant becomes the file.
-ghost use Rattle.std.specs.Prelude.{◌≡◌, ◌<◌, ◌≤◌, ◌+◌, OnOk, OnErr, ℕ, Some, slice_get};
-ghost use Rattle.cr_cursor.specs.Variants.{Offer};
-ghost use Rattle.cr_cursor.specs.declared.passes.Cursor.{Cursor};
+ghost use Rattle.std.specs.Prelude.{◌≡◌, ◌<◌, ◌≤◌, ◌+◌, OnOk, OnErr, ℕ};
 ghost use Rattle.cr_reduce.specs.Sizes.{HasSize, IsSmaller};
-ghost use Rattle.cr_reduce.specs.Reduction.{cursors_of, taken};
-ghost use Rattle.cr_reduce.specs.Walk.{IsSound, IsTaken, state_of, work_of};
+ghost use Rattle.cr_reduce.specs.Reduction.{taken};
+ghost use Rattle.cr_reduce.specs.Walk.{IsSound, IsTaken, IsVariantAt, state_of, work_of};
 
 use crate::end::Accepted;
 use crate::measure::size_of;
@@ -24,7 +22,7 @@ pub fn take<P: Passes>(
     requires sound { IsSound (P.offers passes.now) (P.offer passes.now) walk.old }
     requires from { walk.old.position ≤ position }
     requires below { position < walk.old.count }
-    requires variant { (at : Cursor) → slice_get (cursors_of (P.offer passes.now walk.old.prep walk.old.file.items)) position ≡ Some at → variant.items ≡ (P.offer passes.now walk.old.prep walk.old.file.items).bytes at }
+    requires variant { IsVariantAt (P.offer passes.now walk.old.prep walk.old.file.items) position variant.items }
     requires smaller { IsSmaller variant.items walk.old.file.items }
     ensures taken { OnOk result (IsTaken (P.offers passes.now) (state_of (P.offer passes.now) walk.old) position (state_of (P.offer passes.now) walk.new)) }
     ensures sound { OnOk result (IsSound (P.offers passes.now) (P.offer passes.now) walk.new) }

@@ -1,4 +1,4 @@
-// The walk of a reduction: where it stands, and one position of it.
+// Where the walk of a reduction stands.
 use crate::end::Accepted;
 
 /// Where the walk stands.

@@ -67,6 +67,7 @@ fn reduce(rt: &HostRuntime, threads: &(impl Threads + Sync)) -> Result<u8, Alloc
 }
 
 fn main(rt: HostRuntime) -> ExitCode {
+    // The runtime comes twice: only under the bound `Threads` may it make threads, and then it is any such type.
     let status = match reduce(&rt, &rt) {
         Ok(status) => status,
         Err(_) => NO_MEMORY,

@@ -37,6 +37,7 @@ returns-clause-finishes g c = reduced
       reduction = c.reduce-end.ensures.reduction;
       fixed_point = c.reduce-end.ensures.fixed_point;
       asks_only = c.reduce-end.ensures.asks_only;
+      few = c.reduce-end.ensures.few;
       cause = c.reduce-end.ensures.cause;
     })
     (subst (λ b. HasSize b c.in-Ok.old_size) c.deref.ensures.value c.in-Ok.ensures.has) c.conclude.ensures.1 c.conclude.ensures.2

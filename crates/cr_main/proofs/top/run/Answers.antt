@@ -46,10 +46,10 @@ returns-in-Ok-clause-completes g c = completes (texts_of c.args.list.now) (lengt
     (judging g.J.Judge c.args.bench.now) (judging g.J.Judge c.run_settings.new.bench) c.run_settings.result (returns-in-Ok-clause-runs g c)
 
 pub returns-in-Ok-clause-silent : goal.returns-in-Ok-clause-silent
-returns-in-Ok-clause-silent g c = λ settings own is_task quiet.
+returns-in-Ok-clause-silent g c = λ none.
     let is_own = c.run_settings.ensures.runs.1 in
-    let same = same_asks (texts_of c.args.list.now) (length c.args.bench.now.judges) settings c.in-Ok.settings own c.run_settings.ensures.runs.0 is_task (record { gives = subst (λ n. HasSettings (texts_of c.args.list.now) n c.in-Ok.settings) c.workers.ensures.count c.in-Ok.ensures.settings; is_own = is_own }) in
-    c.run_settings.ensures.silent (sym same ∙ quiet)
+    let same = same_asks (texts_of c.args.list.now) (length c.args.bench.now.judges) none.0 c.in-Ok.settings none.1 c.run_settings.ensures.runs.0 none.2 (record { gives = subst (λ n. HasSettings (texts_of c.args.list.now) n c.in-Ok.settings) c.workers.ensures.count c.in-Ok.ensures.settings; is_own = is_own }) in
+    c.run_settings.ensures.silent (sym same ∙ none.3)
 
 pub returns-in-Err-Usage-clause-runs : goal.returns-in-Err-Usage-clause-runs
 returns-in-Err-Usage-clause-runs g c = no_settings (subst (HasNone (texts_of c.args.list.now)) c.workers.ensures.count (c.in-Err-Usage.ensures.usage cc)) refl refl

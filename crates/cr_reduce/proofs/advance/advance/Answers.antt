@@ -3,16 +3,10 @@ use Rattle.cr_reduce.specs.Search.{searching}
 use Rattle.cr_reduce.specs.Walk.{AboutTried, state_of}
 use Rattle.cr_reduce.specs.Walk.Advances.{moves}
 use Rattle.cr_reduce.proofs.Runs.{all_gained-refl, goes_on-refl}
-use Rattle.cr_reduce.proofs.Walks.{halt_ends}
 use Rattle.cr_reduce.proofs.advance.advance.Goals as goal
 
 pub returns-clause-advances : goal.returns-clause-advances
 returns-clause-advances g c = λ is. moves (c.look.ensures.moved is)
-
-pub returns-clause-ended : goal.returns-clause-ended
-returns-clause-ended g c = λ why is.
-    halt_ends (searching g.P.Passes c.args.passes.now g.L.Law c.args.law.now g.Q.Question c.args.question.now c.args.name.now g.J.Judge c.args.bench.now)
-    (judging g.J.Judge c.args.bench.now) (judging g.J.Judge c.look.new.bench) c.args.plan.now.limit (state_of (g.P.Passes.offer c.args.passes.now) c.look.new.walk) why (c.look.ensures.halted why is)
 
 pub returns-then-not-walk-clause-asks : goal.returns-then-not-walk-clause-asks
 returns-then-not-walk-clause-asks g c = all_gained-refl (AboutTried (searching g.P.Passes c.args.passes.now g.L.Law c.args.law.now g.Q.Question c.args.question.now c.args.name.now g.J.Judge c.args.bench.now) (state_of (g.P.Passes.offer c.args.passes.now) c.args.walk.now)) (judging g.J.Judge c.args.bench.now).calls

@@ -1,4 +1,4 @@
-use Rattle.std.proofs.Common.{refl, subst, ◌∙◌}
+use Rattle.std.proofs.Common.{refl, subst, ◌∙◌, arith}
 use Rattle.cr_outside.specs.Question.{Says}
 use Rattle.cr_reduce.specs.Bench.{judging}
 use Rattle.cr_reduce.specs.Search.{search_of, searching}
@@ -13,6 +13,7 @@ loop-why-init g c = record {
   sound = c.requires.sound;
   walked = walked-refl (searching g.P.Passes c.args.passes.now g.L.Law c.args.law.now g.Q.Question c.args.question.now c.args.name.now g.J.Judge c.args.bench.now) (judging g.J.Judge c.args.bench.now) (state_of (g.P.Passes.offer c.args.passes.now) c.args.walk.now) c.requires.sound.offered;
   within = c.requires.within;
+  few = omega arith;
   keys = refl;
   silent = λ _. refl;
 }
@@ -33,6 +34,7 @@ loop-why-preserved g c =
           (subst (λ s. AsksOnlyTried (search s) middle now st) says c.advance-step.ensures.asks)
           (subst (λ s. Advances (search s) middle now st to) says (c.in_default.ensures.advances refl));
       within = c.advance-step.ensures.within;
+      few = omega (arith, c.loop-why.invariant.few, c.in_default.ensures.few);
       keys = c.advance-step.ensures.keys ∙ c.loop-why.invariant.keys;
       silent = λ quiet. c.advance-step.ensures.silent quiet ∙ c.loop-why.invariant.silent quiet;
     }
@@ -50,6 +52,9 @@ returns-in-Some-clause-walked g c =
     c.advance-step.ensures.goes_on
     (subst (λ s. AsksOnlyTried (search s) middle now st) says c.advance-step.ensures.asks)
     (subst (λ s. GoesOver (search s) middle now st to) says (c.in-Some.ensures.passed cc))
+
+pub returns-in-Some-clause-few : goal.returns-in-Some-clause-few
+returns-in-Some-clause-few g c = omega (arith, c.loop-why.invariant.few, c.in-Some.ensures.few)
 
 pub returns-in-Some-clause-ended : goal.returns-in-Some-clause-ended
 returns-in-Some-clause-ended g c =

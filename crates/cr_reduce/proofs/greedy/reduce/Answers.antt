@@ -4,7 +4,7 @@ use Rattle.cr_reduce.specs.Bench.{judging}
 use Rattle.cr_reduce.specs.Search.{AboutCandidate, searching}
 use Rattle.cr_reduce.specs.Walk.{state_of}
 use Rattle.cr_reduce.proofs.Bounds.{in_time}
-use Rattle.cr_reduce.proofs.Ends.{asks_of_walk, chain_of_walk, rejected_of_chain, told_of_chain, fixed_as_told, nothing_done}
+use Rattle.cr_reduce.proofs.Ends.{asks_of_walk, chain_of_walk, few_of_walk, rejected_of_chain, told_of_chain, fixed_as_told, nothing_done}
 use Rattle.cr_reduce.proofs.Runs.{all_gained-refl, goes_on-refl}
 use Rattle.cr_reduce.proofs.greedy.reduce.Goals as goal
 
@@ -51,6 +51,11 @@ pub returns-in-Ok-clause-asks_only : goal.returns-in-Ok-clause-asks_only
 returns-in-Ok-clause-asks_only g c = asks_of_walk (searching g.P.Passes c.args.passes.now g.L.Law c.args.law.now g.Q.Question c.args.question.now c.args.name.now g.J.Judge c.args.bench.now)
     (judging g.J.Judge c.args.bench.now) (judging g.J.Judge c.walk_on-why.new.bench) (g.P.Passes.offer c.args.passes.now) c.args.file.items (g.P.Passes.offer c.args.passes.now c.in-Ok.walk.prep c.args.file.items)
     (state_of (g.P.Passes.offer c.args.passes.now) c.in-Ok.walk) c.walk_on-why.new.walk c.walk_on-why.result c.end_of.result c.in-Ok.ensures.start c.end_of.ensures c.walk_on-why.ensures.walked
+
+pub returns-in-Ok-clause-few : goal.returns-in-Ok-clause-few
+returns-in-Ok-clause-few g c = few_of_walk c.args.plan.now.window (judging g.J.Judge c.args.bench.now) (judging g.J.Judge c.walk_on-why.new.bench) (g.P.Passes.offer c.args.passes.now) c.args.file.items
+    (g.P.Passes.offer c.args.passes.now c.in-Ok.walk.prep c.args.file.items) (state_of (g.P.Passes.offer c.args.passes.now) c.in-Ok.walk) c.walk_on-why.new.walk c.walk_on-why.result c.end_of.result
+    c.in-Ok.ensures.start c.end_of.ensures c.walk_on-why.ensures.few
 
 pub returns-in-Err-clause-asks_only : goal.returns-in-Err-clause-asks_only
 returns-in-Err-clause-asks_only g c = all_gained-refl (AboutCandidate (searching g.P.Passes c.args.passes.now g.L.Law c.args.law.now g.Q.Question c.args.question.now c.args.name.now g.J.Judge c.args.bench.now) c.args.file.items c.new.result.items) (judging g.J.Judge c.args.bench.now).calls

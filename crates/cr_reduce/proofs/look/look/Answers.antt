@@ -3,7 +3,7 @@ use Rattle.cr_reduce.specs.Bench.{judging}
 use Rattle.cr_reduce.specs.Search.{searching}
 use Rattle.cr_reduce.specs.Walk.{state_of}
 use Rattle.cr_reduce.specs.Walk.MovesOn.{passed}
-use Rattle.cr_reduce.proofs.Walks.{goes_over_all, takes_first}
+use Rattle.cr_reduce.proofs.Walks.{few_taken, goes_over_all, takes_first}
 use Rattle.cr_reduce.proofs.look.look.Goals as goal
 
 pub returns-in-NoneOf-clause-moved : goal.returns-in-NoneOf-clause-moved
@@ -17,3 +17,9 @@ returns-in-Ok-clause-moved g c = λ _.
     takes_first (searching g.P.Passes c.args.passes.now g.L.Law c.args.law.now g.Q.Question c.args.question.now c.args.name.now g.J.Judge c.args.bench.now)
     (judging g.J.Judge c.args.bench.now) (judging g.J.Judge c.try_next.new.bench) (state_of (g.P.Passes.offer c.args.passes.now) c.args.walk.now) (state_of (g.P.Passes.offer c.args.passes.now) c.take.new.walk)
     c.in-Found.position found.1.0 found.1.2 c.in-Ok.ensures.taken
+
+pub returns-in-Ok-clause-few : goal.returns-in-Ok-clause-few
+returns-in-Ok-clause-few g c =
+    few_taken (g.P.Passes.offers c.args.passes.now) c.args.plan.now.window c.length_of-len.result (judging g.J.Judge c.args.bench.now) (judging g.J.Judge c.try_next.new.bench)
+    (state_of (g.P.Passes.offer c.args.passes.now) c.args.walk.now) (state_of (g.P.Passes.offer c.args.passes.now) c.take.new.walk) c.in-Found.position
+    c.length_of-len.ensures.few c.in-Found.ensures.says.1.2.after c.try_next.ensures.few c.in-Ok.ensures.taken

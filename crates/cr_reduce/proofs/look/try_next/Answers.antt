@@ -23,6 +23,12 @@ returns-clause-asks g c =
     asks_only g.J.Judge c.args.bench.now.judges c.epoch.new.self.judges judged.count (searching g.P.Passes c.args.passes.now g.L.Law c.args.law.now g.Q.Question c.args.question.now c.args.name.now g.J.Judge c.args.bench.now)
     (state_of (g.P.Passes.offer c.args.passes.now) c.args.walk.now) c.args.len (omega (arith, c.requires.placed, c.requires.sound.counted)) judged.asks
 
+pub returns-clause-few : goal.returns-clause-few
+returns-clause-few g c =
+    let judged = (job_is g.J.Judge (g.P.Passes.offer c.args.passes.now c.args.walk.now.prep) (g.L.Law.lawful c.args.law.now) (g.Q.Question.asks c.args.question.now) (g.Q.Question.tells c.args.question.now) c.args.name.now c.args.walk.now.position c.args.len
+    (λ (e : Epoch) (js : List g.row.J.Denot). IsJudged g.J.Judge e js c.epoch.new.self.judges) c.args.walk.now.file.items c.deref.result.now c.args.bench.now.judges c.forget.new.self.judges c.forget.new.self.kept c.deref.ensures.value c.forget.ensures.judges c.forget.ensures.kept c.epoch.ensures.judges) in
+    judged.asks.few
+
 pub returns-clause-keys : goal.returns-clause-keys
 returns-clause-keys g c =
     let judged = (job_is g.J.Judge (g.P.Passes.offer c.args.passes.now c.args.walk.now.prep) (g.L.Law.lawful c.args.law.now) (g.Q.Question.asks c.args.question.now) (g.Q.Question.tells c.args.question.now) c.args.name.now c.args.walk.now.position c.args.len

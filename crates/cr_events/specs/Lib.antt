@@ -1,0 +1,4 @@
+pub mod Values
+pub mod Declarators
+pub mod Scripts
+pub mod Events

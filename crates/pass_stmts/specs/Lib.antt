@@ -1,0 +1,4 @@
+pub mod Bodies
+pub mod Statements
+pub mod Printed
+pub mod Laws
