@@ -1,18 +1,23 @@
 #!/usr/bin/env bash
-# Times the passes that need no tree, on one core, on a file of 262,144 tokens: how long the indexes take, and how many
-# megabytes a second the variants of each level come at, a hundred a level, evenly spread.
+# Times the passes, on one core, on files of up to 262,144 tokens: how long the indexes take, and how many megabytes a second
+# the variants of each level come at, a hundred a level, evenly spread. For the passes over a tree the file is a program of
+# 407 bytes again and again under other names, and beside their indexes stands how long it takes to read and parse it.
 # It proves and builds a small timer in a folder of its own, which takes a few minutes. Run it by hand.
 set -eu
 . "$(dirname "${BASH_SOURCE[0]}")/timer.sh"
-begin_timer cr_brackets cr_cursor cr_edit cr_levels cr_rows cr_tokens pass_text
+begin_timer cr_analysis cr_brackets cr_cursor cr_decls cr_edit cr_exprs cr_ints cr_levels cr_machine cr_printer cr_rows cr_syntax cr_tokens \
+  pass_exprs pass_stmts pass_text
 cat >src/main.rt <<'RT'
 //! Makes the indexes of the file on standard input, and a hundred variants of each level.
 #![tactic(auto)]
 
 ghost use Rattle.std.specs.Prelude.{◌≤◌};
 
+use cr_analysis::{Analysis, analyse};
 use cr_cursor::Cursor;
 use cr_edit::{Menu, variant, width};
+use pass_exprs::expressions;
+use pass_stmts::statements;
 use pass_text::{brackets, count_lines, lines_variant, lines_width, runs_of_tokens};
 use std::io::{self, Read};
 use std::time::Instant;
@@ -83,12 +88,43 @@ fn main(rt: HostRuntime) -> io::Result<()> {
         let bytes = hundred(&pairs, file, level, &mut out);
         println!(rt; "b-{} {} {} MB/s", level, bytes, start.elapsed(&rt)?.as_micros())?;
     }
+    let start = Instant::now(&rt)?;
+    let analysis = analyse(alloc, file)?;
+    if let Analysis::OfUnit(unit) = &analysis {
+        let tokens = unit.tokens.list.as_slice();
+        let nodes = unit.nodes.as_slice();
+        println!(rt; "parsed {} {}", nodes.len(), start.elapsed(&rt)?.as_micros())?;
+        let start = Instant::now(&rt)?;
+        let menu = statements(alloc, tokens, nodes)?;
+        println!(rt; "s {} {}", width(&menu, 0), start.elapsed(&rt)?.as_micros())?;
+        for level in 0..5u8 {
+            let start = Instant::now(&rt)?;
+            let bytes = hundred(&menu, file, level, &mut out);
+            println!(rt; "s-{} {} {} MB/s", level, bytes, start.elapsed(&rt)?.as_micros())?;
+        }
+        let start = Instant::now(&rt)?;
+        let menu = expressions(alloc, tokens, nodes)?;
+        println!(rt; "c {} {}", width(&menu, 0), start.elapsed(&rt)?.as_micros())?;
+        for level in 0..4u8 {
+            let start = Instant::now(&rt)?;
+            let bytes = hundred(&menu, file, level, &mut out);
+            println!(rt; "c-{} {} {} MB/s", level, bytes, start.elapsed(&rt)?.as_micros())?;
+        }
+    }
     Ok(())
 }
 RT
 build_timer
+shown() {
+  out/timer | awk '
+    $4 == "MB/s" { printf "%-8s %.0f MB/s\n", $1, $2 / $3; next }
+    { printf "%-8s %d in %.1f ms\n", $1, $2, $3 / 1000 }'
+}
 # 13 tokens a line, 20,164 lines, and 12 tokens more.
 { yes 'unsigned foo(int bar){return bar+1000;}' | head -n 20164; echo ';;;;;;;;;;;;'; } >"$lab/sample.c"
-out/timer <"$lab/sample.c" | awk '
-  $4 == "MB/s" { printf "%-8s %.0f MB/s\n", $1, $2 / $3; next }
-  { printf "%-8s %d in %.1f ms\n", $1, $2, $3 / 1000 }'
+shown <"$lab/sample.c"
+echo 'the program under other names'
+for k in $(seq 1 1830); do
+  printf 'typedef int T%d;\nextern int printf(const char *, ...);\nenum color%d { RED%d, GREEN%d = 5, BLUE%d };\nstruct pair%d { T%d left; T%d right; };\nstatic struct pair%d table%d[2] = { { 1, 2 }, { 3, 4 } };\nstatic T%d sum%d(struct pair%d *p, int n)\n{\n  T%d s = 0;\n  int i;\n  for (i = 0; i < n; i++)\n    s += p[i].left * p[i].right;\n  return s;\n}\nint main%d(void)\n{\n  long T%d = BLUE%d;\n  printf("%%d %%ld\\n", sum%d(table%d, 2), T%d);\n  return 0;\n}\n' $k $k $k $k $k $k $k $k $k $k $k $k $k $k $k $k $k $k $k $k
+done >"$lab/sample.c"
+shown <"$lab/sample.c"

@@ -1,32 +1,86 @@
 // What is read of a file.
-ghost use Rattle.std.specs.Prelude.{IfOk};
-ghost use Rattle.cr_analysis.specs.Analysis.{AreTokensOf, IsAnalysis};
+ghost use Rattle.std.specs.Prelude.{◌≡◌, IfOk, MatchOption, OnOk};
+ghost use Rattle.cr_tokens.specs.Tokens.{HasNoTokens, Tokenizes};
+ghost use Rattle.cr_exprs.specs.declared.fault.ParseFault.TheVariants.{NoMemory};
+ghost use Rattle.cr_syntax.specs.Units.{IsTreeOf};
+ghost use Rattle.cr_syntax.specs.Kept.{row_in};
+ghost use Rattle.cr_syntax.specs.Words.{lexemes_of};
+ghost use Rattle.cr_analysis.specs.Analysis.{IsAnalysis};
 
+use cr_decls::parse;
+use cr_exprs::ParseFault;
+use cr_listing::are_listed;
+use cr_machine::one_first_refusal;
 use cr_rows::Row;
-use cr_tokens::{Token, TokenFault, read};
+use cr_syntax::{Unit, tokens_are_spans};
+use cr_tokens::{Token, TokenFault, Tokens, read};
 use std::alloc::{AllocError, Global};
 
 /// What is read of a file.
 #[derive(Drop)]
-pub struct Analysis {
-    /// The file's tokens, or none where it has none.
-    pub tokens: Option<Row<Token>>,
+pub enum Analysis {
+    /// It has no tokens.
+    NoTokens,
+    /// Its tokens are those of no unit.
+    NoUnit(Row<Token>),
+    /// Its unit, which has its tokens. The nodes are listed in order, each behind those below it.
+    OfUnit(Unit),
 }
 
 /// Reads a file. The error is want of memory.
 pub fn analyse(alloc: Global, file: &[u8]) -> Result<Analysis, AllocError>
     ensures { IfOk result (IsAnalysis file.now) }
 {
-    let tokens = tokens(alloc, file)?;
-    Ok(Analysis { tokens })
+    match tokens(alloc, file)? {
+        Some(tokens) => parsed(alloc, file, tokens),
+        None => Ok(Analysis::NoTokens),
+    }
 }
 
-fn tokens(alloc: Global, file: &[u8]) -> Result<Option<Row<Token>>, AllocError>
-    ensures { IfOk result (AreTokensOf file.now) }
+fn tokens(alloc: Global, file: &[u8]) -> Result<Option<Tokens>, AllocError>
+    ensures { IfOk result (λ found. MatchOption found (HasNoTokens file.now) (λ tokens. Tokenizes file.now tokens.list.items)) }
 {
     match read(alloc, file) {
-        Ok(tokens) => Ok(Some(Row::from_vec(tokens.list))),
+        Ok(tokens) => Ok(Some(tokens)),
         Err(TokenFault::NoMemory) => Err(AllocError),
         Err(_) => Ok(None),
+    }
+}
+
+fn parsed(alloc: Global, file: &[u8], tokens: Tokens) -> Result<Analysis, AllocError>
+    requires { Tokenizes file.now tokens.list.items }
+    ensures { IfOk result (IsAnalysis file.now) }
+{
+    tokens_are_spans();
+    one_first_refusal();
+    match parse(alloc, file, &tokens) {
+        Ok(unit) => of_unit(alloc, file, unit),
+        Err(fault) => {
+            refusal(fault)?;
+            Ok(Analysis::NoUnit(Row::from_vec(tokens.list)))
+        }
+    }
+}
+
+// Want of memory is no refusal.
+fn refusal(fault: ParseFault) -> Result<(), AllocError>
+    ensures { OnOk result (fault ≡ NoMemory → ⊥) }
+{
+    match fault {
+        ParseFault::NoMemory => Err(AllocError),
+        _ => Ok(()),
+    }
+}
+
+// The error is answered too where the nodes aren't listed in order. The parser lists them so.
+fn of_unit(alloc: Global, file: &[u8], unit: Unit) -> Result<Analysis, AllocError>
+    requires tokens { Tokenizes file.now unit.tokens.list.items }
+    requires tree { IsTreeOf (lexemes_of file.now unit.tokens.list.items) (row_in unit.nodes unit.items) }
+    ensures { IfOk result (IsAnalysis file.now) }
+{
+    if are_listed(alloc, unit.nodes.as_slice(), unit.items.as_slice())? {
+        Ok(Analysis::OfUnit(unit))
+    } else {
+        Err(AllocError)
     }
 }

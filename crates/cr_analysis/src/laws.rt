@@ -1,11 +1,7 @@
-// Laws of what is read of a file: each is the contract of a function that does nothing but name the laws it rests on.
-ghost use Rattle.cr_analysis.specs.Laws.{HasOneAnalysis};
+// Laws of what is read of a file: each is the contract of a function that does nothing.
+ghost use Rattle.cr_analysis.specs.Laws.{IsReadOnce};
 
-use cr_tokens::laws::one_token_list;
-
-/// A file is read in one way at most.
-pub fn one_analysis()
-    ensures { HasOneAnalysis }
-{
-    one_token_list();
-}
+/// A file is read in one way at most: it has one list of tokens, one tree, and one list of its nodes that is in order.
+pub fn read_once()
+    ensures { IsReadOnce }
+{}

@@ -1,11 +1,12 @@
-//! What is read of a file, once, for all passes: its tokens.
+//! What is read of a file, once, for all passes: its tokens, and where it parses its unit.
 //!
 //! Whatever the passes list of a file comes from one `Analysis`, so that no pass reads the file again. It promises that an analysis is the
-//! file's, and that a file has one at most. It stands on `cr_tokens` and `cr_rows`.
+//! file's, and that a file is read in one way at most. It stands on `cr_tokens`, `cr_syntax`, the parsers `cr_exprs` and `cr_decls`,
+//! `cr_machine` for its laws, `cr_listing` and `cr_rows`.
 #![tactic(auto)]
 
 mod analysis;
 mod laws;
 
 pub use analysis::{Analysis, analyse};
-pub use laws::one_analysis;
+pub use laws::read_once;

@@ -2,7 +2,7 @@
 // and from `IsBuilt`, until the words alone decide.
 ghost use Rattle.std.specs.Prelude.{◌≡◌, ◌↔◌, Err, IfOk, IsTrue};
 ghost use Rattle.std.specs.List.{list_all};
-ghost use Rattle.cr_main.specs.Words.{HasNone, HasSettings, IsBuilt, are_built, is};
+ghost use Rattle.cr_main.specs.Words.{HasNone, HasSettings, IsBuilt, are_built, is, only_built};
 ghost use Rattle.cr_words.specs.Words.{texts_of};
 
 use cr_words::{Settings, WordFault, words};
@@ -28,13 +28,17 @@ fn is_built(settings: &Settings) -> bool
     settings.steps == 1_000_000 && are_built(&settings.enabled)
 }
 
-/// The passes with a number below this are built.
-const PASSES: usize = 3;
-
 fn are_built(enabled: &[bool; 10]) -> bool
     ensures { result ≡ are_built enabled.now }
 {
-    are_all(enabled, true) || are_all(&enabled[PASSES..10], false)
+    are_all(enabled, true) || only_built(enabled)
+}
+
+// Whether u, i, p and r aren't enabled, which aren't built.
+fn only_built(enabled: &[bool; 10]) -> bool
+    ensures { result ≡ only_built enabled.now }
+{
+    are_all(&enabled[3..4], false) && are_all(&enabled[6..9], false)
 }
 
 fn are_all(enabled: &[bool], wanted: bool) -> bool

@@ -1,2 +1,3 @@
+pub mod Passes
 pub mod Offers
 pub mod OfferLaws

@@ -1,13 +1,19 @@
--- What the passes offer for a file: pass 0 is l, chunks of lines, pass 1 is t, runs of tokens, and pass 2 is b, brackets.
-use Rattle.std.specs.Prelude.{◌≡◌, ℕ, Bool, true, false, List, [], ◌∷◌, length, slice_index_or, ◌==◌, if◌then◌else◌}
+-- What the passes offer for a file.
+use Rattle.std.specs.Prelude.{◌≡◌, ◌<◌, ◌≤◌, ℕ, Bool, true, false, List, [], ◌∷◌, Option, Some, None, length, slice_index_or, ◌==◌, if◌then◌else◌}
 use Rattle.cr_tokens.specs.declared.token.Token.{Token}
-use Rattle.cr_tokens.specs.Tokens.{HasNoTokens, Tokenizes}
 use Rattle.cr_cursor.specs.Variants.{Offer}
+use Rattle.cr_analysis.specs.Analysis.{IsRead, Read, Tree}
 use Rattle.cr_edit.specs.Forms.{nothing_kept}
 use Rattle.cr_edit.specs.Menu.{Offering, entry_of, level_of}
 use Rattle.pass_text.specs.Brackets.{IsBracketOffering}
 use Rattle.pass_text.specs.Lines.{chunks_of, lines_bytes, lines_of}
 use Rattle.pass_text.specs.Runs.{t_offering}
+use Rattle.pass_exprs.specs.Expressions.{c_offering}
+use Rattle.pass_stmts.specs.Printed.{IsPrintedOffering}
+use Rattle.pass_stmts.specs.Statements.{s_offering}
+use Rattle.cr_passes.specs.declared.pass.Pass.{Pass}
+use Rattle.cr_passes.specs.declared.pass.Pass.TheVariants.{Brackets, Expressions, Lines, NotThere, Printed, Runs, Statements}
+use Rattle.cr_passes.specs.Passes.{pass_by}
 
 -- What is known of a file: how many lines it has, and what the passes behind the lines offer, each by its number.
 pub record Known : Type 0 where
@@ -26,15 +32,37 @@ abbrev pub IfOn : Bool → (Offering → Type 0) → Offering → Type 0
 IfOn true IsOffered menu = IsOffered menu
 IfOn false IsOffered menu = menu ≡ nothing
 
--- what is known of a file with these menus of runs and brackets; the lines have no menu
-abbrev pub known_of : List Bool → List ℕ → Offering → Offering → Known
-known_of enabled file runs brackets = record {
-  lines = if is_on enabled 0 then length (lines_of file) else 0;
-  menus = nothing ∷ (runs ∷ (brackets ∷ []));
-}
-
 abbrev pub menu_at : List Offering → ℕ → Offering
 menu_at menus pass = slice_index_or menus pass nothing
+
+-- what is offered by a file's tokens; without tokens nothing
+abbrev pub ByTokens : Option (List Token) → (List Token → Offering → Type 0) → Offering → Type 0
+ByTokens None IsOffered menu = menu ≡ nothing
+ByTokens (Some tokens) IsOffered menu = IsOffered tokens menu
+
+-- what is offered by the tree of a file's unit; without one nothing
+abbrev pub ByTree : Option Tree → (Tree → Offering → Type 0) → Offering → Type 0
+ByTree None IsOffered menu = menu ≡ nothing
+ByTree (Some tree) IsOffered menu = IsOffered tree menu
+
+-- no level has more edits than so many
+abbrev pub IsFew : ℕ → Offering → Type 0
+IsFew most menu = (level : ℕ) → level < 16 → length (level_of menu level) ≤ most
+
+-- what is offered, of which no level has more edits than so many
+pub record IsOfFew (most : ℕ) (IsIt : Offering → Type 0) (menu : Offering) : Type 0 where
+  pub offered : IsIt menu
+  pub few : IsFew most menu
+
+-- What a pass behind the lines offers by what is read of a file.
+abbrev pub IsOffered : List ℕ → Read → Pass → Offering → Type 0
+IsOffered file read Lines menu = menu ≡ nothing
+IsOffered file read Runs menu = ByTokens read.tokens (λ tokens menu. menu ≡ t_offering tokens) menu
+IsOffered file read Brackets menu = ByTokens read.tokens (IsBracketOffering file) menu
+IsOffered file read Statements menu = ByTokens read.tokens (λ tokens. ByTree read.tree (λ tree. IsOfFew (length file) (λ m. m ≡ s_offering tokens tree.nodes))) menu
+IsOffered file read Expressions menu = ByTokens read.tokens (λ tokens. ByTree read.tree (λ tree. IsOfFew (length file) (λ m. m ≡ c_offering tokens tree.nodes))) menu
+IsOffered file read Printed menu = ByTokens read.tokens (λ tokens. ByTree read.tree (λ tree. IsOfFew (length file) (IsPrintedOffering file tokens))) menu
+IsOffered file read NotThere menu = menu ≡ nothing
 
 -- what is offered by what is known
 abbrev pub offer_of : Known → List ℕ → Offer
@@ -43,13 +71,17 @@ offer_of known file = record {
   bytes = λ at. if at.pass == 0 then lines_bytes file at else entry_of file (menu_at known.menus at.pass) at.level at.index;
 }
 
--- What is known of a file: by its tokens, or, where it has none, that its tokens offer nothing.
-pub data IsKnown (enabled : List Bool) (file : List ℕ) (known : Known) : Type 0 where
-  read : (tokens : List Token) → Tokenizes file tokens → (runs brackets : Offering)
-      → IfOn (is_on enabled 1) (λ menu. menu ≡ t_offering tokens) runs
-      → IfOn (is_on enabled 2) (IsBracketOffering file tokens) brackets
-      → known ≡ known_of enabled file runs brackets → IsKnown enabled file known
-  refused : HasNoTokens file → known ≡ known_of enabled file nothing nothing → IsKnown enabled file known
+-- the menus of the passes below a number
+abbrev pub AreMenus : List Bool → List ℕ → Read → ℕ → List Offering → Type 0
+AreMenus enabled file read most menus = (pass : ℕ) → pass < most → IfOn (is_on enabled pass) (IsOffered file read (pass_by pass)) (menu_at menus pass)
+
+-- What is known of a file: the lines, where they are enabled, and the menus of the ten passes by what is read of it.
+pub record IsKnown (enabled : List Bool) (file : List ℕ) (known : Known) : Type 0 where
+  pub read : Read
+  pub is_read : IsRead file read
+  pub lines : known.lines ≡ (if is_on enabled 0 then length (lines_of file) else 0)
+  pub count : length known.menus ≡ 10
+  pub menus : AreMenus enabled file read 10 known.menus
 
 -- What is offered for a file, of which the passes of this list are enabled.
 pub record Offers (enabled : List Bool) (file : List ℕ) (offer : Offer) : Type 0 where

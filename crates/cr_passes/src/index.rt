@@ -1,17 +1,22 @@
 // What is made once for a file.
-ghost use Rattle.std.specs.Prelude.{◌≡◌, ◌≤◌, IfOk, MatchOption, length};
-ghost use Rattle.cr_analysis.specs.Analysis.{IsAnalysis};
-ghost use Rattle.cr_tokens.specs.Tokens.{Tokenizes};
-ghost use Rattle.cr_passes.specs.Offers.{IfOn, IsKnown, is_on, known_of, menu_at, nothing};
+ghost use Rattle.std.specs.Prelude.{◌≡◌, ◌≤◌, true, IfOk, MatchOption, length};
+ghost use Rattle.cr_analysis.specs.Analysis.{IsAnalysis, read_of};
+ghost use Rattle.cr_passes.specs.Offers.{AreMenus, ByTokens, ByTree, IfOn, IsFew, IsKnown, IsOfFew, IsOffered, is_on, menu_at, nothing};
+ghost use Rattle.cr_passes.specs.Passes.{pass_by};
+ghost use Rattle.pass_exprs.specs.Expressions.{c_offering};
+ghost use Rattle.pass_stmts.specs.Printed.{IsPrintedOffering};
+ghost use Rattle.pass_stmts.specs.Statements.{s_offering};
 ghost use Rattle.pass_text.specs.Brackets.{IsBracketOffering};
 ghost use Rattle.pass_text.specs.Runs.{t_offering};
 
+use crate::pass::{Pass, pass_by};
 use cr_analysis::Analysis;
 use cr_cursor::NoMemory;
-use cr_edit::{Kept, Menu};
-use cr_tokens::Token;
+use cr_edit::{Kept, Menu, width};
+use pass_exprs::expressions;
+use pass_stmts::{printed, statements};
 use pass_text::{brackets, count_lines, runs_of_tokens};
-use std::alloc::Global;
+use std::alloc::{AllocError, Global};
 use std::marker::Model;
 
 /// What the enabled passes offer for a file: how many lines there are, and a menu for each other pass, by its number.
@@ -60,24 +65,30 @@ pub fn index_of(
     requires analysis { IsAnalysis file.now analysis.now }
     ensures { IfOk result (λ index. IsKnown enabled.now file.now index) }
 {
-    match &analysis.tokens {
-        Some(tokens) => of_tokens(alloc, enabled, file, tokens.as_slice()),
-        None => known(alloc, enabled, file, nothing(alloc), nothing(alloc)),
-    }
+    let lines = if is_on(enabled, 0) {
+        count_lines(file)
+    } else {
+        0
+    };
+    let menus = menus(alloc, enabled, file, analysis)?;
+    Ok(Index { lines, menus })
 }
 
-fn of_tokens(
+fn menus(
     alloc: Global,
     enabled: &[bool],
     file: &[u8],
-    tokens: &[Token],
-) -> Result<Index, NoMemory>
-    requires { Tokenizes file.now tokens.now }
-    ensures { IfOk result (λ index. IsKnown enabled.now file.now index) }
+    analysis: &Analysis,
+) -> Result<Vec<Menu>, NoMemory>
+    requires { IsAnalysis file.now analysis.now }
+    ensures count { IfOk result (λ menus. length menus.items ≡ 10) }
+    ensures menus { IfOk result (λ menus. AreMenus enabled.now file.now (read_of analysis.now) 10 menus.items) }
 {
-    let runs = runs(alloc, is_on(enabled, 1), tokens)?;
-    let brackets = pairs(alloc, is_on(enabled, 2), file, tokens)?;
-    known(alloc, enabled, file, runs, brackets)
+    let mut menus = Vec::new(alloc);
+    for pass in 0..10 {
+        menus.push(menu(alloc, is_on(enabled, pass), pass, file, analysis)?)?;
+    }
+    Ok(menus)
 }
 
 fn is_on(enabled: &[bool], pass: usize) -> bool
@@ -89,50 +100,122 @@ fn is_on(enabled: &[bool], pass: usize) -> bool
     }
 }
 
+fn menu(
+    alloc: Global,
+    on: bool,
+    pass: usize,
+    file: &[u8],
+    analysis: &Analysis,
+) -> Result<Menu, NoMemory>
+    requires { IsAnalysis file.now analysis.now }
+    ensures { IfOk result (IfOn on (IsOffered file.now (read_of analysis.now) (pass_by pass))) }
+{
+    if on {
+        offered(alloc, pass_by(pass), file, analysis)
+    } else {
+        Ok(nothing(alloc))
+    }
+}
+
+fn offered(alloc: Global, pass: Pass, file: &[u8], analysis: &Analysis) -> Result<Menu, NoMemory>
+    requires { IsAnalysis file.now analysis.now }
+    ensures { IfOk result (IsOffered file.now (read_of analysis.now) pass) }
+{
+    match pass {
+        Pass::Lines | Pass::NotThere => Ok(nothing(alloc)),
+        Pass::Runs => runs(alloc, analysis),
+        Pass::Brackets => pairs(alloc, file, analysis),
+        Pass::Statements => statements_offered(alloc, file, analysis),
+        Pass::Expressions => expressions_offered(alloc, file, analysis),
+        Pass::Printed => printed_offered(alloc, file, analysis),
+    }
+}
+
 fn nothing(alloc: Global) -> Menu
     ensures { result ≡ nothing }
 {
     Menu::new(Vec::new(alloc), Kept::nothing(alloc))
 }
 
-fn runs(alloc: Global, on: bool, tokens: &[Token]) -> Result<Menu, NoMemory>
-    ensures { IfOk result (IfOn on (λ menu. menu ≡ t_offering tokens.now)) }
+fn runs(alloc: Global, analysis: &Analysis) -> Result<Menu, NoMemory>
+    ensures { IfOk result (ByTokens (read_of analysis.now).tokens (λ tokens menu. menu ≡ t_offering tokens)) }
 {
-    if on {
-        runs_of_tokens(alloc, tokens)
-    } else {
-        Ok(nothing(alloc))
+    match analysis {
+        Analysis::NoTokens => Ok(nothing(alloc)),
+        Analysis::NoUnit(tokens) => runs_of_tokens(alloc, tokens.as_slice()),
+        Analysis::OfUnit(unit) => runs_of_tokens(alloc, unit.tokens.list.as_slice()),
     }
 }
 
-fn pairs(alloc: Global, on: bool, file: &[u8], tokens: &[Token]) -> Result<Menu, NoMemory>
-    ensures { IfOk result (IfOn on (IsBracketOffering file.now tokens.now)) }
+fn pairs(alloc: Global, file: &[u8], analysis: &Analysis) -> Result<Menu, NoMemory>
+    ensures { IfOk result (ByTokens (read_of analysis.now).tokens (IsBracketOffering file.now)) }
 {
-    if on {
-        brackets(alloc, file, tokens)
-    } else {
-        Ok(nothing(alloc))
+    match analysis {
+        Analysis::NoTokens => Ok(nothing(alloc)),
+        Analysis::NoUnit(tokens) => brackets(alloc, file, tokens.as_slice()),
+        Analysis::OfUnit(unit) => brackets(alloc, file, unit.tokens.list.as_slice()),
     }
 }
 
-fn known(
-    alloc: Global,
-    enabled: &[bool],
-    file: &[u8],
-    runs: Menu,
-    brackets: Menu,
-) -> Result<Index, NoMemory>
-    requires { length file.now ≤ 1048576 }
-    ensures { IfOk result (λ index. index ≡ known_of enabled.now file.now runs brackets) }
+fn statements_offered(alloc: Global, file: &[u8], analysis: &Analysis) -> Result<Menu, NoMemory>
+    ensures { IfOk result (ByTokens (read_of analysis.now).tokens (λ tokens. ByTree (read_of analysis.now).tree (λ tree. IsOfFew (length file.now) (λ m. m ≡ s_offering tokens tree.nodes)))) }
 {
-    let lines = if is_on(enabled, 0) {
-        count_lines(file)
+    match analysis {
+        Analysis::OfUnit(unit) => {
+            let tokens = unit.tokens.list.as_slice();
+            if_few(
+                statements(alloc, tokens, unit.nodes.as_slice())?,
+                file.len(),
+            )
+        }
+        _ => Ok(nothing(alloc)),
+    }
+}
+
+fn expressions_offered(alloc: Global, file: &[u8], analysis: &Analysis) -> Result<Menu, NoMemory>
+    ensures { IfOk result (ByTokens (read_of analysis.now).tokens (λ tokens. ByTree (read_of analysis.now).tree (λ tree. IsOfFew (length file.now) (λ m. m ≡ c_offering tokens tree.nodes)))) }
+{
+    match analysis {
+        Analysis::OfUnit(unit) => {
+            let tokens = unit.tokens.list.as_slice();
+            if_few(
+                expressions(alloc, tokens, unit.nodes.as_slice())?,
+                file.len(),
+            )
+        }
+        _ => Ok(nothing(alloc)),
+    }
+}
+
+fn printed_offered(alloc: Global, file: &[u8], analysis: &Analysis) -> Result<Menu, NoMemory>
+    requires { IsAnalysis file.now analysis.now }
+    ensures { IfOk result (ByTokens (read_of analysis.now).tokens (λ tokens. ByTree (read_of analysis.now).tree (λ tree. IsOfFew (length file.now) (IsPrintedOffering file.now tokens)))) }
+{
+    match analysis {
+        Analysis::OfUnit(unit) => if_few(printed(alloc, file, unit)?, file.len()),
+        _ => Ok(nothing(alloc)),
+    }
+}
+
+// The menu, where no level has more edits than so many. A level over a tree never has: what it counts has a token of its own.
+fn if_few(menu: Menu, most: usize) -> Result<Menu, NoMemory>
+    ensures same { IfOk result (λ few. few ≡ menu) }
+    ensures few { IfOk result (IsFew most) }
+{
+    if is_few(&menu, most) {
+        Ok(menu)
     } else {
-        0
-    };
-    let mut menus = Vec::new(alloc);
-    menus.push(nothing(alloc))?;
-    menus.push(runs)?;
-    menus.push(brackets)?;
-    Ok(Index { lines, menus })
+        Err(AllocError)
+    }
+}
+
+fn is_few(menu: &Menu, most: usize) -> bool
+    ensures { result ≡ true → IsFew most menu.now }
+{
+    for level in 0..16 {
+        if width(menu, level) > most as u64 {
+            return false;
+        }
+    }
+    true
 }

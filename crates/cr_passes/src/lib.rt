@@ -5,6 +5,7 @@
 #![tactic(auto)]
 
 mod index;
+mod pass;
 mod passes;
 
 pub use index::Index;

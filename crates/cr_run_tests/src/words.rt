@@ -97,7 +97,10 @@ yes|--passes=tl|has:b|f.c
 yes|--passes|t|has:b|f.c
 yes|--passes|ltb|has:b|f.c
 no|--passes|ltbu|has:b|f.c
-no|--passes|f|has:b|f.c
+yes|--passes|f|has:b|f.c
+yes|--passes|sclf|has:b|f.c
+no|--passes|lr|has:b|f.c
+no|--passes|ip|has:b|f.c
 no|has:b
 ";
 

@@ -1,0 +1,612 @@
+use cr_cursor::{Cursor, Passes};
+use cr_passes::CPasses;
+use std::alloc::{AllocError, Global};
+use std::process::Abort;
+
+// Files, and behind each the pass, level and index of a variant and the level's width, and the variant, which is the file where there is
+// none. Of the first files the variants were worked out by hand, of the others by another reading of the same rules.
+const VARIANTS: &str = r#"
+file¦
+c 0 0 0¦
+s 0 0 0¦
+f 0 0 0¦
+file¦f(1);
+c 0 0 0¦f(1);
+s 0 0 0¦f(1);
+f 0 0 0¦f(1);
+t 4 0 5¦(1);
+b 0 0 1¦f;
+file¦int main(){if(1){return 2;}else return 3;}
+s 0 0 2¦int main(){}
+s 0 1 2¦int main(){if(1){}else return 3;}
+s 1 0 1¦int main(){{return 2;}}
+s 2 0 1¦int main(){return 3;}
+s 3 0 2¦int main(){if(1);else return 3;}
+s 3 1 2¦int main(){if(1){return 2;}else ;}
+s 4 0 0¦int main(){if(1){return 2;}else return 3;}
+s 5 0 0¦int main(){if(1){return 2;}else return 3;}
+file¦int main(){return 1+2*3;}
+c 0 0 5¦int main(){return 0;}
+c 0 1 5¦int main(){return 0+2*3;}
+c 0 2 5¦int main(){return 1+0;}
+c 0 4 5¦int main(){return 1+2*0;}
+c 1 3 5¦int main(){return 1+1*3;}
+c 2 0 2¦int main(){return 1;}
+c 2 1 2¦int main(){return 1+2;}
+c 3 0 2¦int main(){return 2*3;}
+c 3 1 2¦int main(){return 1+3;}
+c 4 0 0¦int main(){return 1+2*3;}
+file¦int main(){return(1)/*a*/+/*b*/ sizeof(x),f(2,3),(int)-4?5:6;}
+c 0 0 17¦int main(){return 0;}
+c 0 3 17¦int main(){return 0/*a*/+/*b*/ sizeof(x),f(2,3),(int)-4?5:6;}
+c 2 0 9¦int main(){return(1)/*a*/+/*b*/ sizeof(x),f(2,3);}
+c 2 2 9¦int main(){return(1),f(2,3),(int)-4?5:6;}
+c 2 3 9¦int main(){return 1/*a*/+/*b*/ sizeof(x),f(2,3),(int)-4?5:6;}
+c 2 5 9¦int main(){return(1)/*a*/+/*b*/ sizeof(x),2,(int)-4?5:6;}
+c 2 6 9¦int main(){return(1)/*a*/+/*b*/ sizeof(x),f(2,3),5;}
+c 2 7 9¦int main(){return(1)/*a*/+/*b*/ sizeof(x),f(2,3),-4?5:6;}
+c 3 4 5¦int main(){return(1)/*a*/+/*b*/ sizeof(x),f(2,3),6;}
+file¦int main(){{ ;/*a*/{}}do x;while(1);for(;;);switch(1){case 1:while(1)x;default:;}}
+s 0 0 8¦int main(){do x;while(1);for(;;);switch(1){case 1:while(1)x;default:;}}
+s 0 1 8¦int main(){{ /*a*/{}}do x;while(1);for(;;);switch(1){case 1:while(1)x;default:;}}
+s 0 2 8¦int main(){{ ;/*a*/}do x;while(1);for(;;);switch(1){case 1:while(1)x;default:;}}
+s 0 6 8¦int main(){{ ;/*a*/{}}do x;while(1);for(;;);switch(1){default:;}}
+s 1 0 4¦int main(){{ ;/*a*/{}}x;for(;;);switch(1){case 1:while(1)x;default:;}}
+s 1 1 4¦int main(){{ ;/*a*/{}}do x;while(1);;switch(1){case 1:while(1)x;default:;}}
+s 1 2 4¦int main(){{ ;/*a*/{}}do x;while(1);for(;;);{case 1:while(1)x;default:;}}
+s 1 3 4¦int main(){{ ;/*a*/{}}do x;while(1);for(;;);switch(1){case 1:x;default:;}}
+s 3 0 6¦int main(){{ ;/*a*/{}}do ;while(1);for(;;);switch(1){case 1:while(1)x;default:;}}
+s 3 1 6¦int main(){{ ;/*a*/{}}do x;while(1);for(;;);switch(1){case 1:while(1)x;default:;}}
+s 3 2 6¦int main(){{ ;/*a*/{}}do x;while(1);for(;;);switch(1);}
+s 3 3 6¦int main(){{ ;/*a*/{}}do x;while(1);for(;;);switch(1){case 1:;default:;}}
+s 3 4 6¦int main(){{ ;/*a*/{}}do x;while(1);for(;;);switch(1){case 1:while(1);default:;}}
+s 4 0 2¦int main(){ ;/*a*/{}do x;while(1);for(;;);switch(1){case 1:while(1)x;default:;}}
+s 4 1 2¦int main(){{ ;/*a*/}do x;while(1);for(;;);switch(1){case 1:while(1)x;default:;}}
+f 0 0 1¦int main(){{;{}}do x;while(1);for(;;);switch(1){case 1:while(1)x;default:;}}
+file¦int f(int x){return x;}int main(void){int i=0;i=f(i);return i;}
+s 0 0 4¦int f(int x){}int main(void){int i=0;i=f(i);return i;}
+s 0 3 4¦int f(int x){return x;}int main(void){int i=0;i=f(i);}
+c 0 0 7¦int f(int x){return 0;}int main(void){int i=0;i=f(i);return i;}
+c 0 1 7¦int f(int x){return x;}int main(void){int i=0;i=f(i);return i;}
+c 0 6 7¦int f(int x){return x;}int main(void){int i=0;i=f(i);return 0;}
+c 1 0 7¦int f(int x){return 1;}int main(void){int i=0;i=f(i);return i;}
+c 1 1 7¦int f(int x){return x;}int main(void){int i=1;i=f(i);return i;}
+c 1 6 7¦int f(int x){return x;}int main(void){int i=0;i=f(i);return 1;}
+c 2 0 2¦int f(int x){return x;}int main(void){int i=0;i;return i;}
+c 2 1 2¦int f(int x){return x;}int main(void){int i=0;i=i;return i;}
+c 3 0 1¦int f(int x){return x;}int main(void){int i=0;f(i);return i;}
+f 0 0 1¦int f(int x){return x;}int main(void){int i=0;i=f(i);return i;}
+file¦typedef int T;T a[2]={1,2};struct s{T m;const int c;}x={1,2};int main(){T*p=a;x.m=*p+a[1];return x.m-3;}
+s 0 0 3¦typedef int T;T a[2]={1,2};struct s{T m;const int c;}x={1,2};int main(){x.m=*p+a[1];return x.m-3;}
+s 0 1 3¦typedef int T;T a[2]={1,2};struct s{T m;const int c;}x={1,2};int main(){T*p=a;return x.m-3;}
+s 0 2 3¦typedef int T;T a[2]={1,2};struct s{T m;const int c;}x={1,2};int main(){T*p=a;x.m=*p+a[1];}
+c 0 0 19¦typedef int T;T a[0]={1,2};struct s{T m;const int c;}x={1,2};int main(){T*p=a;x.m=*p+a[1];return x.m-3;}
+c 0 17 19¦typedef int T;T a[2]={1,2};struct s{T m;const int c;}x={1,2};int main(){T*p=a;x.m=*p+a[1];return 0.m-3;}
+c 0 18 19¦typedef int T;T a[2]={1,2};struct s{T m;const int c;}x={1,2};int main(){T*p=a;x.m=*p+a[1];return x.m-0;}
+c 1 0 19¦typedef int T;T a[1]={1,2};struct s{T m;const int c;}x={1,2};int main(){T*p=a;x.m=*p+a[1];return x.m-3;}
+c 1 13 19¦typedef int T;T a[2]={1,2};struct s{T m;const int c;}x={1,2};int main(){T*p=a;x.m=*p+1[1];return x.m-3;}
+c 1 18 19¦typedef int T;T a[2]={1,2};struct s{T m;const int c;}x={1,2};int main(){T*p=a;x.m=*p+a[1];return x.m-1;}
+c 2 0 7¦typedef int T;T a[2]={1,2};struct s{T m;const int c;}x={1,2};int main(){T*p=a;x.m;return x.m-3;}
+c 2 3 7¦typedef int T;T a[2]={1,2};struct s{T m;const int c;}x={1,2};int main(){T*p=a;x.m=p+a[1];return x.m-3;}
+c 2 6 7¦typedef int T;T a[2]={1,2};struct s{T m;const int c;}x={1,2};int main(){T*p=a;x.m=*p+a[1];return x-3;}
+c 3 0 4¦typedef int T;T a[2]={1,2};struct s{T m;const int c;}x={1,2};int main(){T*p=a;*p+a[1];return x.m-3;}
+c 3 3 4¦typedef int T;T a[2]={1,2};struct s{T m;const int c;}x={1,2};int main(){T*p=a;x.m=*p+a[1];return 3;}
+f 0 0 1¦typedef int T;T a[2]={1,2};struct s{T m;const int c;}x={1,2};int main(){T*p=a;x.m=*p+a[1];return x.m-3;}
+file¦enum e{A,B=5,C};int main(){enum e v=B;switch(v){case A:return 1;case B:break;default:return 2;}return v-5;}
+s 0 0 6¦enum e{A,B=5,C};int main(){switch(v){case A:return 1;case B:break;default:return 2;}return v-5;}
+s 0 4 6¦enum e{A,B=5,C};int main(){enum e v=B;switch(v){case A:return 1;case B:break;}return v-5;}
+s 0 5 6¦enum e{A,B=5,C};int main(){enum e v=B;switch(v){case A:return 1;case B:break;default:return 2;}}
+s 1 0 1¦enum e{A,B=5,C};int main(){enum e v=B;{case A:return 1;case B:break;default:return 2;}return v-5;}
+s 3 0 4¦enum e{A,B=5,C};int main(){enum e v=B;switch(v);return v-5;}
+s 3 1 4¦enum e{A,B=5,C};int main(){enum e v=B;switch(v){case A:;case B:break;default:return 2;}return v-5;}
+s 3 3 4¦enum e{A,B=5,C};int main(){enum e v=B;switch(v){case A:return 1;case B:break;default:;}return v-5;}
+c 0 0 10¦enum e{A,B=0,C};int main(){enum e v=B;switch(v){case A:return 1;case B:break;default:return 2;}return v-5;}
+c 0 9 10¦enum e{A,B=5,C};int main(){enum e v=B;switch(v){case A:return 1;case B:break;default:return 2;}return v-0;}
+c 1 0 10¦enum e{A,B=1,C};int main(){enum e v=B;switch(v){case A:return 1;case B:break;default:return 2;}return v-5;}
+c 1 1 10¦enum e{A,B=5,C};int main(){enum e v=1;switch(v){case A:return 1;case B:break;default:return 2;}return v-5;}
+c 1 9 10¦enum e{A,B=5,C};int main(){enum e v=B;switch(v){case A:return 1;case B:break;default:return 2;}return v-1;}
+c 2 0 1¦enum e{A,B=5,C};int main(){enum e v=B;switch(v){case A:return 1;case B:break;default:return 2;}return v;}
+c 3 0 1¦enum e{A,B=5,C};int main(){enum e v=B;switch(v){case A:return 1;case B:break;default:return 2;}return 5;}
+f 0 0 1¦enum e{A,B=5,C};int main(){enum e v=B;switch(v){case A:return 1;case B:break;default:return 2;}return v-5;}
+file¦int printf(const char *, ...);int main(void){printf("%d %u %c %s%%",1,2u,65,"x");return 0;}
+s 0 0 2¦int printf(const char *, ...);int main(void){return 0;}
+s 0 1 2¦int printf(const char *, ...);int main(void){printf("%d %u %c %s%%",1,2u,65,"x");}
+c 0 0 7¦int printf(const char *, ...);int main(void){0;return 0;}
+c 0 4 7¦int printf(const char *, ...);int main(void){printf("%d %u %c %s%%",1,2u,0,"x");return 0;}
+c 0 6 7¦int printf(const char *, ...);int main(void){printf("%d %u %c %s%%",1,2u,65,"x");return 0;}
+c 1 0 7¦int printf(const char *, ...);int main(void){1;return 0;}
+c 1 4 7¦int printf(const char *, ...);int main(void){printf("%d %u %c %s%%",1,2u,1,"x");return 0;}
+c 1 6 7¦int printf(const char *, ...);int main(void){printf("%d %u %c %s%%",1,2u,65,"x");return 1;}
+c 2 0 1¦int printf(const char *, ...);int main(void){"%d %u %c %s%%";return 0;}
+c 3 0 1¦int printf(const char *, ...);int main(void){"x";return 0;}
+f 0 0 1¦int printf(const char*,...);int main(void){printf("%d %u %c %s%%",1,2u,65,"x");return 0;}
+file¦volatile int v=1;int main(){v=v+1;v++;return v&&v;}
+s 0 0 3¦volatile int v=1;int main(){v++;return v&&v;}
+s 0 1 3¦volatile int v=1;int main(){v=v+1;return v&&v;}
+s 0 2 3¦volatile int v=1;int main(){v=v+1;v++;}
+c 0 0 11¦volatile int v=0;int main(){v=v+1;v++;return v&&v;}
+c 0 4 11¦volatile int v=1;int main(){v=0+1;v++;return v&&v;}
+c 0 10 11¦volatile int v=1;int main(){v=v+1;v++;return v&&0;}
+c 1 0 11¦volatile int v=1;int main(){v=v+1;v++;return v&&v;}
+c 1 1 11¦volatile int v=1;int main(){1;v++;return v&&v;}
+c 1 10 11¦volatile int v=1;int main(){v=v+1;v++;return v&&1;}
+c 2 0 4¦volatile int v=1;int main(){v;v++;return v&&v;}
+c 2 3 4¦volatile int v=1;int main(){v=v+1;v++;return v;}
+c 3 0 3¦volatile int v=1;int main(){v+1;v++;return v&&v;}
+c 3 1 3¦volatile int v=1;int main(){v=1;v++;return v&&v;}
+c 3 2 3¦volatile int v=1;int main(){v=v+1;v++;return v;}
+f 0 0 1¦volatile int v=1;int main(){v=v+1;v++;return v&&v;}
+file¦struct p{int a;struct p*n;};static struct p q;int g(struct p*r){return r?r->a:0;}int main(){q.n=&q;return g(q.n);}
+s 0 0 3¦struct p{int a;struct p*n;};static struct p q;int g(struct p*r){}int main(){q.n=&q;return g(q.n);}
+s 0 1 3¦struct p{int a;struct p*n;};static struct p q;int g(struct p*r){return r?r->a:0;}int main(){return g(q.n);}
+s 0 2 3¦struct p{int a;struct p*n;};static struct p q;int g(struct p*r){return r?r->a:0;}int main(){q.n=&q;}
+c 0 0 13¦struct p{int a;struct p*n;};static struct p q;int g(struct p*r){return 0;}int main(){q.n=&q;return g(q.n);}
+c 0 1 13¦struct p{int a;struct p*n;};static struct p q;int g(struct p*r){return 0?r->a:0;}int main(){q.n=&q;return g(q.n);}
+c 0 12 13¦struct p{int a;struct p*n;};static struct p q;int g(struct p*r){return r?r->a:0;}int main(){q.n=&q;return g(0.n);}
+c 1 0 13¦struct p{int a;struct p*n;};static struct p q;int g(struct p*r){return 1;}int main(){q.n=&q;return g(q.n);}
+c 1 6 13¦struct p{int a;struct p*n;};static struct p q;int g(struct p*r){return r?r->a:0;}int main(){1=&q;return g(q.n);}
+c 1 12 13¦struct p{int a;struct p*n;};static struct p q;int g(struct p*r){return r?r->a:0;}int main(){q.n=&q;return g(1.n);}
+c 2 0 7¦struct p{int a;struct p*n;};static struct p q;int g(struct p*r){return r->a;}int main(){q.n=&q;return g(q.n);}
+c 2 5 7¦struct p{int a;struct p*n;};static struct p q;int g(struct p*r){return r?r->a:0;}int main(){q.n=&q;return q.n;}
+c 2 6 7¦struct p{int a;struct p*n;};static struct p q;int g(struct p*r){return r?r->a:0;}int main(){q.n=&q;return g(q);}
+c 3 0 2¦struct p{int a;struct p*n;};static struct p q;int g(struct p*r){return 0;}int main(){q.n=&q;return g(q.n);}
+c 3 1 2¦struct p{int a;struct p*n;};static struct p q;int g(struct p*r){return r?r->a:0;}int main(){&q;return g(q.n);}
+f 0 0 1¦struct p{int a;struct p*n;};static struct p q;int g(struct p*r){return r?r->a:0;}int main(){q.n=&q;return g(q.n);}
+file¦extern int u;int u=3;static int h(int a,char b){return a+b;}int main(){unsigned long z=sizeof(int);return h(u,1)+z-8;}
+s 0 0 3¦extern int u;int u=3;static int h(int a,char b){}int main(){unsigned long z=sizeof(int);return h(u,1)+z-8;}
+s 0 2 3¦extern int u;int u=3;static int h(int a,char b){return a+b;}int main(){unsigned long z=sizeof(int);}
+c 0 0 12¦extern int u;int u=0;static int h(int a,char b){return a+b;}int main(){unsigned long z=sizeof(int);return h(u,1)+z-8;}
+c 0 6 12¦extern int u;int u=3;static int h(int a,char b){return a+b;}int main(){unsigned long z=sizeof(int);return 0-8;}
+c 0 11 12¦extern int u;int u=3;static int h(int a,char b){return a+b;}int main(){unsigned long z=sizeof(int);return h(u,1)+z-0;}
+c 1 0 12¦extern int u;int u=1;static int h(int a,char b){return a+b;}int main(){unsigned long z=sizeof(int);return h(u,1)+z-8;}
+c 1 8 12¦extern int u;int u=3;static int h(int a,char b){return a+b;}int main(){unsigned long z=sizeof(int);return h(1,1)+z-8;}
+c 1 11 12¦extern int u;int u=3;static int h(int a,char b){return a+b;}int main(){unsigned long z=sizeof(int);return h(u,1)+z-1;}
+c 2 0 4¦extern int u;int u=3;static int h(int a,char b){return a;}int main(){unsigned long z=sizeof(int);return h(u,1)+z-8;}
+c 2 3 4¦extern int u;int u=3;static int h(int a,char b){return a+b;}int main(){unsigned long z=sizeof(int);return u+z-8;}
+c 3 0 4¦extern int u;int u=3;static int h(int a,char b){return b;}int main(){unsigned long z=sizeof(int);return h(u,1)+z-8;}
+c 3 2 4¦extern int u;int u=3;static int h(int a,char b){return a+b;}int main(){unsigned long z=sizeof(int);return z-8;}
+c 3 3 4¦extern int u;int u=3;static int h(int a,char b){return a+b;}int main(){unsigned long z=sizeof(int);return 1+z-8;}
+f 0 0 1¦extern int u;int u=3;static int h(int a,char b){return a+b;}int main(){unsigned long z=sizeof(int);return h(u,1)+z-8;}
+file¦int main(){int a[2][3]={{1,2},{3}};int*p=&a[0][2];for(int i=0;i<2;i++){a[i][0]+=i;}return *p;}
+s 0 0 5¦int main(){int*p=&a[0][2];for(int i=0;i<2;i++){a[i][0]+=i;}return *p;}
+s 0 4 5¦int main(){int a[2][3]={{1,2},{3}};int*p=&a[0][2];for(int i=0;i<2;i++){a[i][0]+=i;}}
+s 1 0 1¦int main(){int a[2][3]={{1,2},{3}};int*p=&a[0][2];{a[i][0]+=i;}return *p;}
+s 3 0 1¦int main(){int a[2][3]={{1,2},{3}};int*p=&a[0][2];for(int i=0;i<2;i++);return *p;}
+c 0 0 26¦int main(){int a[0][3]={{1,2},{3}};int*p=&a[0][2];for(int i=0;i<2;i++){a[i][0]+=i;}return *p;}
+c 0 14 26¦int main(){int a[2][3]={{1,2},{3}};int*p=&a[0][2];for(int i=0;i<0;i++){a[i][0]+=i;}return *p;}
+c 0 25 26¦int main(){int a[2][3]={{1,2},{3}};int*p=&a[0][2];for(int i=0;i<2;i++){a[i][0]+=i;}return *0;}
+c 1 0 26¦int main(){int a[1][3]={{1,2},{3}};int*p=&a[0][2];for(int i=0;i<2;i++){a[i][0]+=i;}return *p;}
+c 1 4 26¦int main(){int a[2][3]={{1,2},{1}};int*p=&a[0][2];for(int i=0;i<2;i++){a[i][0]+=i;}return *p;}
+c 1 25 26¦int main(){int a[2][3]={{1,2},{3}};int*p=&a[0][2];for(int i=0;i<2;i++){a[i][0]+=i;}return *1;}
+c 2 0 9¦int main(){int a[2][3]={{1,2},{3}};int*p=a[0][2];for(int i=0;i<2;i++){a[i][0]+=i;}return *p;}
+c 2 4 9¦int main(){int a[2][3]={{1,2},{3}};int*p=&a[0][2];for(int i=0;i<2;i){a[i][0]+=i;}return *p;}
+c 2 8 9¦int main(){int a[2][3]={{1,2},{3}};int*p=&a[0][2];for(int i=0;i<2;i++){a[i][0]+=i;}return p;}
+c 3 0 6¦int main(){int a[2][3]={{1,2},{3}};int*p=&2;for(int i=0;i<2;i++){a[i][0]+=i;}return *p;}
+c 3 5 6¦int main(){int a[2][3]={{1,2},{3}};int*p=&a[0][2];for(int i=0;i<2;i++){i[0]+=i;}return *p;}
+f 0 0 1¦int main(){int a[2][3]={{1,2},{3}};int*p=&a[0][2];for(int i=0;i<2;i++){a[i][0]+=i;}return*p;}
+file¦void w(int n){while(n){n--;if(n==2)continue;else break;}do n++;while(n<3);}int main(){w(4);return 0;}
+s 0 0 6¦void w(int n){do n++;while(n<3);}int main(){w(4);return 0;}
+s 0 2 6¦void w(int n){while(n){n--;}do n++;while(n<3);}int main(){w(4);return 0;}
+s 0 5 6¦void w(int n){while(n){n--;if(n==2)continue;else break;}do n++;while(n<3);}int main(){w(4);}
+s 1 0 3¦void w(int n){{n--;if(n==2)continue;else break;}do n++;while(n<3);}int main(){w(4);return 0;}
+s 1 2 3¦void w(int n){while(n){n--;if(n==2)continue;else break;}n++;}int main(){w(4);return 0;}
+s 2 0 1¦void w(int n){while(n){n--;break;}do n++;while(n<3);}int main(){w(4);return 0;}
+s 3 0 4¦void w(int n){while(n);do n++;while(n<3);}int main(){w(4);return 0;}
+s 3 2 4¦void w(int n){while(n){n--;if(n==2)continue;else ;}do n++;while(n<3);}int main(){w(4);return 0;}
+s 3 3 4¦void w(int n){while(n){n--;if(n==2)continue;else break;}do ;while(n<3);}int main(){w(4);return 0;}
+c 0 0 14¦void w(int n){while(0){n--;if(n==2)continue;else break;}do n++;while(n<3);}int main(){w(4);return 0;}
+c 0 2 14¦void w(int n){while(n){0--;if(n==2)continue;else break;}do n++;while(n<3);}int main(){w(4);return 0;}
+c 0 13 14¦void w(int n){while(n){n--;if(n==2)continue;else break;}do n++;while(n<3);}int main(){w(4);return 0;}
+c 1 0 14¦void w(int n){while(1){n--;if(n==2)continue;else break;}do n++;while(n<3);}int main(){w(4);return 0;}
+c 1 13 14¦void w(int n){while(n){n--;if(n==2)continue;else break;}do n++;while(n<3);}int main(){w(4);return 1;}
+c 2 0 5¦void w(int n){while(n){n;if(n==2)continue;else break;}do n++;while(n<3);}int main(){w(4);return 0;}
+c 2 4 5¦void w(int n){while(n){n--;if(n==2)continue;else break;}do n++;while(n<3);}int main(){4;return 0;}
+c 3 0 2¦void w(int n){while(n){n--;if(2)continue;else break;}do n++;while(n<3);}int main(){w(4);return 0;}
+c 3 1 2¦void w(int n){while(n){n--;if(n==2)continue;else break;}do n++;while(3);}int main(){w(4);return 0;}
+f 0 0 1¦void w(int n){while(n){n--;if(n==2)continue;else break;}do n++;while(n<3);}int main(){w(4);return 0;}
+file¦char s[]="ab",*t="cd";int main(){s[0]=t[1];return s[2];}
+s 0 0 2¦char s[]="ab",*t="cd";int main(){return s[2];}
+s 0 1 2¦char s[]="ab",*t="cd";int main(){s[0]=t[1];}
+c 0 0 12¦char s[]=0,*t="cd";int main(){s[0]=t[1];return s[2];}
+c 0 2 12¦char s[]="ab",*t="cd";int main(){0;return s[2];}
+c 0 11 12¦char s[]="ab",*t="cd";int main(){s[0]=t[1];return s[0];}
+c 1 0 12¦char s[]=1,*t="cd";int main(){s[0]=t[1];return s[2];}
+c 1 11 12¦char s[]="ab",*t="cd";int main(){s[0]=t[1];return s[1];}
+c 2 0 4¦char s[]="ab",*t="cd";int main(){s[0];return s[2];}
+c 2 1 4¦char s[]="ab",*t="cd";int main(){s=t[1];return s[2];}
+c 2 3 4¦char s[]="ab",*t="cd";int main(){s[0]=t[1];return s;}
+c 3 0 4¦char s[]="ab",*t="cd";int main(){t[1];return s[2];}
+c 3 3 4¦char s[]="ab",*t="cd";int main(){s[0]=t[1];return 2;}
+f 0 0 1¦char s[]="ab",*t="cd";int main(){s[0]=t[1];return s[2];}
+file¦int m(int,int);int m(int a,int b){return a<b?a:b;}int main(){short k=-1;unsigned y=k;return m(3,(int)(y>>31))-1;}
+s 0 0 4¦int m(int,int);int m(int a,int b){}int main(){short k=-1;unsigned y=k;return m(3,(int)(y>>31))-1;}
+s 0 2 4¦int m(int,int);int m(int a,int b){return a<b?a:b;}int main(){short k=-1;return m(3,(int)(y>>31))-1;}
+s 0 3 4¦int m(int,int);int m(int a,int b){return a<b?a:b;}int main(){short k=-1;unsigned y=k;}
+c 0 0 18¦int m(int,int);int m(int a,int b){return 0;}int main(){short k=-1;unsigned y=k;return m(3,(int)(y>>31))-1;}
+c 0 17 18¦int m(int,int);int m(int a,int b){return a<b?a:b;}int main(){short k=-1;unsigned y=k;return m(3,(int)(y>>31))-0;}
+c 1 0 18¦int m(int,int);int m(int a,int b){return 1;}int main(){short k=-1;unsigned y=k;return m(3,(int)(y>>31))-1;}
+c 1 13 18¦int m(int,int);int m(int a,int b){return a<b?a:b;}int main(){short k=-1;unsigned y=k;return m(3,(int)1)-1;}
+c 1 17 18¦int m(int,int);int m(int a,int b){return a<b?a:b;}int main(){short k=-1;unsigned y=k;return m(3,(int)(y>>31))-1;}
+c 2 0 8¦int m(int,int);int m(int a,int b){return a;}int main(){short k=-1;unsigned y=k;return m(3,(int)(y>>31))-1;}
+c 2 1 8¦int m(int,int);int m(int a,int b){return a?a:b;}int main(){short k=-1;unsigned y=k;return m(3,(int)(y>>31))-1;}
+c 2 7 8¦int m(int,int);int m(int a,int b){return a<b?a:b;}int main(){short k=-1;unsigned y=k;return m(3,(int)(y))-1;}
+c 3 0 5¦int m(int,int);int m(int a,int b){return b;}int main(){short k=-1;unsigned y=k;return m(3,(int)(y>>31))-1;}
+c 3 3 5¦int m(int,int);int m(int a,int b){return a<b?a:b;}int main(){short k=-1;unsigned y=k;return (int)(y>>31)-1;}
+c 3 4 5¦int m(int,int);int m(int a,int b){return a<b?a:b;}int main(){short k=-1;unsigned y=k;return m(3,(int)(31))-1;}
+f 0 0 1¦int m(int,int);int m(int a,int b){return a<b?a:b;}int main(){short k=-1;unsigned y=k;return m(3,(int)(y>>31))-1;}
+file¦int putchar(int);void exit(int);int main(){putchar(65);exit(3);}
+s 0 0 2¦int putchar(int);void exit(int);int main(){exit(3);}
+s 0 1 2¦int putchar(int);void exit(int);int main(){putchar(65);}
+c 0 0 4¦int putchar(int);void exit(int);int main(){0;exit(3);}
+c 0 3 4¦int putchar(int);void exit(int);int main(){putchar(65);exit(0);}
+c 1 0 4¦int putchar(int);void exit(int);int main(){1;exit(3);}
+c 1 1 4¦int putchar(int);void exit(int);int main(){putchar(1);exit(3);}
+c 1 3 4¦int putchar(int);void exit(int);int main(){putchar(65);exit(1);}
+c 2 0 2¦int putchar(int);void exit(int);int main(){65;exit(3);}
+c 2 1 2¦int putchar(int);void exit(int);int main(){putchar(65);3;}
+f 0 0 1¦int putchar(int);void exit(int);int main(){putchar(65);exit(3);}
+file¦long long b=1ll<<40;int main(){const int c=2;return (b>>39)-c|c^c&~c;}
+s 0 0 2¦long long b=1ll<<40;int main(){return (b>>39)-c|c^c&~c;}
+s 0 1 2¦long long b=1ll<<40;int main(){const int c=2;}
+c 0 0 17¦long long b=0;int main(){const int c=2;return (b>>39)-c|c^c&~c;}
+c 0 7 17¦long long b=1ll<<40;int main(){const int c=2;return (0)-c|c^c&~c;}
+c 0 16 17¦long long b=1ll<<40;int main(){const int c=2;return (b>>39)-c|c^c&~0;}
+c 1 0 17¦long long b=1;int main(){const int c=2;return (b>>39)-c|c^c&~c;}
+c 1 16 17¦long long b=1ll<<40;int main(){const int c=2;return (b>>39)-c|c^c&~1;}
+c 2 0 8¦long long b=1ll;int main(){const int c=2;return (b>>39)-c|c^c&~c;}
+c 2 7 8¦long long b=1ll<<40;int main(){const int c=2;return (b>>39)-c|c^c&c;}
+c 3 0 6¦long long b=40;int main(){const int c=2;return (b>>39)-c|c^c&~c;}
+c 3 1 6¦long long b=1ll<<40;int main(){const int c=2;return c^c&~c;}
+c 3 5 6¦long long b=1ll<<40;int main(){const int c=2;return (b>>39)-c|c^~c;}
+f 0 0 1¦long long b=1ll<<40;int main(){const int c=2;return(b>>39)-c|c^c&~c;}
+file¦int main(){int*p=0;void*q=0;return p==q&&p==0&&0==q;}
+s 0 0 3¦int main(){void*q=0;return p==q&&p==0&&0==q;}
+s 0 1 3¦int main(){int*p=0;return p==q&&p==0&&0==q;}
+s 0 2 3¦int main(){int*p=0;void*q=0;}
+c 0 0 13¦int main(){int*p=0;void*q=0;return p==q&&p==0&&0==q;}
+c 0 4 13¦int main(){int*p=0;void*q=0;return 0&&p==0&&0==q;}
+c 0 12 13¦int main(){int*p=0;void*q=0;return p==q&&p==0&&0==0;}
+c 1 0 13¦int main(){int*p=1;void*q=0;return p==q&&p==0&&0==q;}
+c 1 1 13¦int main(){int*p=0;void*q=1;return p==q&&p==0&&0==q;}
+c 1 12 13¦int main(){int*p=0;void*q=0;return p==q&&p==0&&0==1;}
+c 2 0 5¦int main(){int*p=0;void*q=0;return p==q&&p==0;}
+c 2 2 5¦int main(){int*p=0;void*q=0;return p&&p==0&&0==q;}
+c 2 4 5¦int main(){int*p=0;void*q=0;return p==q&&p==0&&0;}
+c 3 0 5¦int main(){int*p=0;void*q=0;return 0==q;}
+c 3 4 5¦int main(){int*p=0;void*q=0;return p==q&&p==0&&q;}
+f 0 0 1¦int main(){int*p=0;void*q=0;return p==q&&p==0&&0==q;}
+file¦struct t;int main(){return sizeof(int[2])-8;}
+s 0 0 1¦struct t;int main(){}
+c 0 0 4¦struct t;int main(){return 0;}
+c 0 3 4¦struct t;int main(){return sizeof(int[2])-0;}
+c 1 0 4¦struct t;int main(){return 1;}
+c 1 3 4¦struct t;int main(){return sizeof(int[2])-1;}
+c 2 0 1¦struct t;int main(){return sizeof(int[2]);}
+c 3 0 1¦struct t;int main(){return 8;}
+f 0 0 1¦struct t;int main(){return sizeof(int[2])-8;}
+file¦int f(int n){if(n)return f(n-1);return 0;}int main(){return f(254);}
+s 0 0 3¦int f(int n){return 0;}int main(){return f(254);}
+s 0 1 3¦int f(int n){if(n)return f(n-1);}int main(){return f(254);}
+s 0 2 3¦int f(int n){if(n)return f(n-1);return 0;}int main(){}
+s 1 0 1¦int f(int n){return f(n-1);return 0;}int main(){return f(254);}
+s 3 0 1¦int f(int n){if(n);return 0;}int main(){return f(254);}
+c 0 0 8¦int f(int n){if(0)return f(n-1);return 0;}int main(){return f(254);}
+c 0 7 8¦int f(int n){if(n)return f(n-1);return 0;}int main(){return f(0);}
+c 1 0 8¦int f(int n){if(1)return f(n-1);return 0;}int main(){return f(254);}
+c 1 2 8¦int f(int n){if(n)return f(1);return 0;}int main(){return f(254);}
+c 1 7 8¦int f(int n){if(n)return f(n-1);return 0;}int main(){return f(1);}
+c 2 0 3¦int f(int n){if(n)return n-1;return 0;}int main(){return f(254);}
+c 2 2 3¦int f(int n){if(n)return f(n-1);return 0;}int main(){return 254;}
+c 3 0 1¦int f(int n){if(n)return f(1);return 0;}int main(){return f(254);}
+f 0 0 1¦int f(int n){if(n)return f(n-1);return 0;}int main(){return f(254);}
+file¦int f(int n){if(n)return f(n-1);return 0;}int main(){return f(255);}
+s 0 0 3¦int f(int n){return 0;}int main(){return f(255);}
+s 0 2 3¦int f(int n){if(n)return f(n-1);return 0;}int main(){}
+s 1 0 1¦int f(int n){return f(n-1);return 0;}int main(){return f(255);}
+s 3 0 1¦int f(int n){if(n);return 0;}int main(){return f(255);}
+c 0 0 8¦int f(int n){if(0)return f(n-1);return 0;}int main(){return f(255);}
+c 0 3 8¦int f(int n){if(n)return f(0-1);return 0;}int main(){return f(255);}
+c 0 7 8¦int f(int n){if(n)return f(n-1);return 0;}int main(){return f(0);}
+c 1 0 8¦int f(int n){if(1)return f(n-1);return 0;}int main(){return f(255);}
+c 1 5 8¦int f(int n){if(n)return f(n-1);return 1;}int main(){return f(255);}
+c 1 7 8¦int f(int n){if(n)return f(n-1);return 0;}int main(){return f(1);}
+c 2 0 3¦int f(int n){if(n)return n-1;return 0;}int main(){return f(255);}
+c 2 1 3¦int f(int n){if(n)return f(n);return 0;}int main(){return f(255);}
+c 2 2 3¦int f(int n){if(n)return f(n-1);return 0;}int main(){return 255;}
+c 3 0 1¦int f(int n){if(n)return f(1);return 0;}int main(){return f(255);}
+f 0 0 1¦int f(int n){if(n)return f(n-1);return 0;}int main(){return f(255);}
+file¦int main(){int i=1;i=i++||1;return i;}
+s 0 0 3¦int main(){i=i++||1;return i;}
+s 0 1 3¦int main(){int i=1;return i;}
+s 0 2 3¦int main(){int i=1;i=i++||1;}
+c 0 0 8¦int main(){int i=0;i=i++||1;return i;}
+c 0 3 8¦int main(){int i=1;i=0;return i;}
+c 0 7 8¦int main(){int i=1;i=i++||1;return 0;}
+c 1 0 8¦int main(){int i=1;i=i++||1;return i;}
+c 1 6 8¦int main(){int i=1;i=i++||1;return i;}
+c 1 7 8¦int main(){int i=1;i=i++||1;return 1;}
+c 2 0 3¦int main(){int i=1;i;return i;}
+c 2 1 3¦int main(){int i=1;i=i++;return i;}
+c 2 2 3¦int main(){int i=1;i=i||1;return i;}
+c 3 0 2¦int main(){int i=1;i++||1;return i;}
+c 3 1 2¦int main(){int i=1;i=1;return i;}
+f 0 0 1¦int main(){int i=1;i=i++||1;return i;}
+file¦int main(){int i=0;i=i++||1;return i;}
+s 0 0 3¦int main(){i=i++||1;return i;}
+s 0 2 3¦int main(){int i=0;i=i++||1;}
+c 0 0 8¦int main(){int i=0;i=i++||1;return i;}
+c 0 3 8¦int main(){int i=0;i=0;return i;}
+c 0 7 8¦int main(){int i=0;i=i++||1;return 0;}
+c 1 0 8¦int main(){int i=1;i=i++||1;return i;}
+c 1 3 8¦int main(){int i=0;i=1;return i;}
+c 1 7 8¦int main(){int i=0;i=i++||1;return 1;}
+c 2 0 3¦int main(){int i=0;i;return i;}
+c 2 1 3¦int main(){int i=0;i=i++;return i;}
+c 2 2 3¦int main(){int i=0;i=i||1;return i;}
+c 3 0 2¦int main(){int i=0;i++||1;return i;}
+c 3 1 2¦int main(){int i=0;i=1;return i;}
+f 0 0 1¦int main(){int i=0;i=i++||1;return i;}
+file¦int main(void)␊{␊  while (1)␊    ;␊}␊
+s 0 0 1¦int main(void)␊{␊  ␊}␊
+s 1 0 1¦int main(void)␊{␊  ;␊}␊
+s 3 0 1¦int main(void)␊{␊  while (1)␊    ;␊}␊
+c 0 0 1¦int main(void)␊{␊  while (0)␊    ;␊}␊
+c 1 0 1¦int main(void)␊{␊  while (1)␊    ;␊}␊
+f 0 0 1¦int main(void){while(1);}
+file¦int down(int n)␊{␊  return down(n + 1);␊}␊int main(void)␊{␊  return down(0);␊}␊
+s 0 0 2¦int down(int n)␊{␊  ␊}␊int main(void)␊{␊  return down(0);␊}␊
+s 0 1 2¦int down(int n)␊{␊  return down(n + 1);␊}␊int main(void)␊{␊  ␊}␊
+c 0 0 6¦int down(int n)␊{␊  return 0;␊}␊int main(void)␊{␊  return down(0);␊}␊
+c 0 3 6¦int down(int n)␊{␊  return down(n + 0);␊}␊int main(void)␊{␊  return down(0);␊}␊
+c 0 5 6¦int down(int n)␊{␊  return down(n + 1);␊}␊int main(void)␊{␊  return down(0);␊}␊
+c 1 0 6¦int down(int n)␊{␊  return 1;␊}␊int main(void)␊{␊  return down(0);␊}␊
+c 1 2 6¦int down(int n)␊{␊  return down(1 + 1);␊}␊int main(void)␊{␊  return down(0);␊}␊
+c 1 5 6¦int down(int n)␊{␊  return down(n + 1);␊}␊int main(void)␊{␊  return down(1);␊}␊
+c 2 0 3¦int down(int n)␊{␊  return n + 1;␊}␊int main(void)␊{␊  return down(0);␊}␊
+c 2 2 3¦int down(int n)␊{␊  return down(n + 1);␊}␊int main(void)␊{␊  return 0;␊}␊
+c 3 0 1¦int down(int n)␊{␊  return down(1);␊}␊int main(void)␊{␊  return down(0);␊}␊
+f 0 0 1¦int down(int n){return down(n+1);}int main(void){return down(0);}
+file¦int main(void)␊{␊  long x = 1;␊  int *p = (int *)&x;␊  *p = 2;␊  return 0;␊}␊
+s 0 0 4¦int main(void)␊{␊  ␊  int *p = (int *)&x;␊  *p = 2;␊  return 0;␊}␊
+s 0 1 4¦int main(void)␊{␊  long x = 1;␊  ␊  *p = 2;␊  return 0;␊}␊
+s 0 3 4¦int main(void)␊{␊  long x = 1;␊  int *p = (int *)&x;␊  *p = 2;␊  ␊}␊
+c 0 0 9¦int main(void)␊{␊  long x = 0;␊  int *p = (int *)&x;␊  *p = 2;␊  return 0;␊}␊
+c 0 8 9¦int main(void)␊{␊  long x = 1;␊  int *p = (int *)&x;␊  *p = 2;␊  return 0;␊}␊
+c 1 0 9¦int main(void)␊{␊  long x = 1;␊  int *p = (int *)&x;␊  *p = 2;␊  return 0;␊}␊
+c 1 8 9¦int main(void)␊{␊  long x = 1;␊  int *p = (int *)&x;␊  *p = 2;␊  return 1;␊}␊
+c 2 0 4¦int main(void)␊{␊  long x = 1;␊  int *p = &x;␊  *p = 2;␊  return 0;␊}␊
+c 2 3 4¦int main(void)␊{␊  long x = 1;␊  int *p = (int *)&x;␊  p = 2;␊  return 0;␊}␊
+c 3 0 1¦int main(void)␊{␊  long x = 1;␊  int *p = (int *)&x;␊  2;␊  return 0;␊}␊
+f 0 0 1¦int main(void){long x=1;int*p=(int*)&x;*p=2;return 0;}
+file¦int main(void)␊{␊  int a[2][3] = { { 1 } };␊  return ((int *)a)[0];␊}␊
+s 0 0 2¦int main(void)␊{␊  ␊  return ((int *)a)[0];␊}␊
+s 0 1 2¦int main(void)␊{␊  int a[2][3] = { { 1 } };␊  ␊}␊
+c 0 0 8¦int main(void)␊{␊  int a[0][3] = { { 1 } };␊  return ((int *)a)[0];␊}␊
+c 0 7 8¦int main(void)␊{␊  int a[2][3] = { { 1 } };␊  return ((int *)a)[0];␊}␊
+c 1 0 8¦int main(void)␊{␊  int a[1][3] = { { 1 } };␊  return ((int *)a)[0];␊}␊
+c 1 4 8¦int main(void)␊{␊  int a[2][3] = { { 1 } };␊  return 1[0];␊}␊
+c 1 7 8¦int main(void)␊{␊  int a[2][3] = { { 1 } };␊  return ((int *)a)[1];␊}␊
+c 2 0 3¦int main(void)␊{␊  int a[2][3] = { { 1 } };␊  return ((int *)a);␊}␊
+c 2 2 3¦int main(void)␊{␊  int a[2][3] = { { 1 } };␊  return (a)[0];␊}␊
+c 3 0 1¦int main(void)␊{␊  int a[2][3] = { { 1 } };␊  return 0;␊}␊
+f 0 0 1¦int main(void){int a[2][3]={{1}};return((int*)a)[0];}
+file¦int main(void)␊{␊  signed char c = 127;␊  short s = 32767;␊  c++;␊  s += 1;␊  return c == -128 && s == -32768 ? 0 : 1;␊}␊
+s 0 0 5¦int main(void)␊{␊  ␊  short s = 32767;␊  c++;␊  s += 1;␊  return c == -128 && s == -32768 ? 0 : 1;␊}␊
+s 0 3 5¦int main(void)␊{␊  signed char c = 127;␊  short s = 32767;␊  c++;␊  ␊  return c == -128 && s == -32768 ? 0 : 1;␊}␊
+s 0 4 5¦int main(void)␊{␊  signed char c = 127;␊  short s = 32767;␊  c++;␊  s += 1;␊  ␊}␊
+c 0 0 19¦int main(void)␊{␊  signed char c = 0;␊  short s = 32767;␊  c++;␊  s += 1;␊  return c == -128 && s == -32768 ? 0 : 1;␊}␊
+c 0 3 19¦int main(void)␊{␊  signed char c = 127;␊  short s = 32767;␊  0++;␊  s += 1;␊  return c == -128 && s == -32768 ? 0 : 1;␊}␊
+c 0 18 19¦int main(void)␊{␊  signed char c = 127;␊  short s = 32767;␊  c++;␊  s += 1;␊  return c == -128 && s == -32768 ? 0 : 0;␊}␊
+c 1 0 19¦int main(void)␊{␊  signed char c = 1;␊  short s = 32767;␊  c++;␊  s += 1;␊  return c == -128 && s == -32768 ? 0 : 1;␊}␊
+c 1 17 19¦int main(void)␊{␊  signed char c = 127;␊  short s = 32767;␊  c++;␊  s += 1;␊  return c == -128 && s == -32768 ? 1 : 1;␊}␊
+c 1 18 19¦int main(void)␊{␊  signed char c = 127;␊  short s = 32767;␊  c++;␊  s += 1;␊  return c == -128 && s == -32768 ? 0 : 1;␊}␊
+c 2 0 8¦int main(void)␊{␊  signed char c = 127;␊  short s = 32767;␊  c;␊  s += 1;␊  return c == -128 && s == -32768 ? 0 : 1;␊}␊
+c 2 1 8¦int main(void)␊{␊  signed char c = 127;␊  short s = 32767;␊  c++;␊  s;␊  return c == -128 && s == -32768 ? 0 : 1;␊}␊
+c 2 7 8¦int main(void)␊{␊  signed char c = 127;␊  short s = 32767;␊  c++;␊  s += 1;␊  return c == -128 && s == 32768 ? 0 : 1;␊}␊
+c 3 0 5¦int main(void)␊{␊  signed char c = 127;␊  short s = 32767;␊  c++;␊  1;␊  return c == -128 && s == -32768 ? 0 : 1;␊}␊
+c 3 3 5¦int main(void)␊{␊  signed char c = 127;␊  short s = 32767;␊  c++;␊  s += 1;␊  return -128 && s == -32768 ? 0 : 1;␊}␊
+c 3 4 5¦int main(void)␊{␊  signed char c = 127;␊  short s = 32767;␊  c++;␊  s += 1;␊  return c == -128 && -32768 ? 0 : 1;␊}␊
+f 0 0 1¦int main(void){signed char c=127;short s=32767;c++;s+=1;return c==-128&&s==-32768?0:1;}
+file¦struct s { int a; int b; };␊int main(void)␊{␊  struct s x, y;␊  int b[3] = { 7 };␊  static int z;␊  x.a = 1;␊  y = x;␊  return y.a + b[2] + z == 1 ? 0 : 1;␊}␊
+s 0 0 6¦struct s { int a; int b; };␊int main(void)␊{␊  ␊  int b[3] = { 7 };␊  static int z;␊  x.a = 1;␊  y = x;␊  return y.a + b[2] + z == 1 ? 0 : 1;␊}␊
+s 0 4 6¦struct s { int a; int b; };␊int main(void)␊{␊  struct s x, y;␊  int b[3] = { 7 };␊  static int z;␊  x.a = 1;␊  ␊  return y.a + b[2] + z == 1 ? 0 : 1;␊}␊
+s 0 5 6¦struct s { int a; int b; };␊int main(void)␊{␊  struct s x, y;␊  int b[3] = { 7 };␊  static int z;␊  x.a = 1;␊  y = x;␊  ␊}␊
+c 0 0 22¦struct s { int a; int b; };␊int main(void)␊{␊  struct s x, y;␊  int b[0] = { 7 };␊  static int z;␊  x.a = 1;␊  y = x;␊  return y.a + b[2] + z == 1 ? 0 : 1;␊}␊
+c 0 7 22¦struct s { int a; int b; };␊int main(void)␊{␊  struct s x, y;␊  int b[3] = { 7 };␊  static int z;␊  x.a = 1;␊  0 = x;␊  return y.a + b[2] + z == 1 ? 0 : 1;␊}␊
+c 0 21 22¦struct s { int a; int b; };␊int main(void)␊{␊  struct s x, y;␊  int b[3] = { 7 };␊  static int z;␊  x.a = 1;␊  y = x;␊  return y.a + b[2] + z == 1 ? 0 : 0;␊}␊
+c 1 0 22¦struct s { int a; int b; };␊int main(void)␊{␊  struct s x, y;␊  int b[1] = { 7 };␊  static int z;␊  x.a = 1;␊  y = x;␊  return y.a + b[2] + z == 1 ? 0 : 1;␊}␊
+c 1 7 22¦struct s { int a; int b; };␊int main(void)␊{␊  struct s x, y;␊  int b[3] = { 7 };␊  static int z;␊  x.a = 1;␊  1 = x;␊  return y.a + b[2] + z == 1 ? 0 : 1;␊}␊
+c 1 21 22¦struct s { int a; int b; };␊int main(void)␊{␊  struct s x, y;␊  int b[3] = { 7 };␊  static int z;␊  x.a = 1;␊  y = x;␊  return y.a + b[2] + z == 1 ? 0 : 1;␊}␊
+c 2 0 9¦struct s { int a; int b; };␊int main(void)␊{␊  struct s x, y;␊  int b[3] = { 7 };␊  static int z;␊  x.a;␊  y = x;␊  return y.a + b[2] + z == 1 ? 0 : 1;␊}␊
+c 2 1 9¦struct s { int a; int b; };␊int main(void)␊{␊  struct s x, y;␊  int b[3] = { 7 };␊  static int z;␊  x = 1;␊  y = x;␊  return y.a + b[2] + z == 1 ? 0 : 1;␊}␊
+c 2 8 9¦struct s { int a; int b; };␊int main(void)␊{␊  struct s x, y;␊  int b[3] = { 7 };␊  static int z;␊  x.a = 1;␊  y = x;␊  return y.a + b + z == 1 ? 0 : 1;␊}␊
+c 3 0 7¦struct s { int a; int b; };␊int main(void)␊{␊  struct s x, y;␊  int b[3] = { 7 };␊  static int z;␊  1;␊  y = x;␊  return y.a + b[2] + z == 1 ? 0 : 1;␊}␊
+c 3 6 7¦struct s { int a; int b; };␊int main(void)␊{␊  struct s x, y;␊  int b[3] = { 7 };␊  static int z;␊  x.a = 1;␊  y = x;␊  return y.a + 2 + z == 1 ? 0 : 1;␊}␊
+f 0 0 1¦struct s{int a;int b;};int main(void){struct s x,y;int b[3]={7};static int z;x.a=1;y=x;return y.a+b[2]+z==1?0:1;}
+file¦int g;␊int f(int x)␊{␊  g = g * 2 + x;␊  return g;␊}␊int main(void)␊{␊  int r = f(1) + f(2);␊  return r > 0 && g + f(0) ? 0 : 1;␊}␊
+s 0 0 4¦int g;␊int f(int x)␊{␊  ␊  return g;␊}␊int main(void)␊{␊  int r = f(1) + f(2);␊  return r > 0 && g + f(0) ? 0 : 1;␊}␊
+s 0 3 4¦int g;␊int f(int x)␊{␊  g = g * 2 + x;␊  return g;␊}␊int main(void)␊{␊  int r = f(1) + f(2);␊  ␊}␊
+c 0 0 24¦int g;␊int f(int x)␊{␊  0;␊  return g;␊}␊int main(void)␊{␊  int r = f(1) + f(2);␊  return r > 0 && g + f(0) ? 0 : 1;␊}␊
+c 0 12 24¦int g;␊int f(int x)␊{␊  g = g * 2 + x;␊  return g;␊}␊int main(void)␊{␊  int r = f(1) + f(0);␊  return r > 0 && g + f(0) ? 0 : 1;␊}␊
+c 0 23 24¦int g;␊int f(int x)␊{␊  g = g * 2 + x;␊  return g;␊}␊int main(void)␊{␊  int r = f(1) + f(2);␊  return r > 0 && g + f(0) ? 0 : 0;␊}␊
+c 1 0 24¦int g;␊int f(int x)␊{␊  1;␊  return g;␊}␊int main(void)␊{␊  int r = f(1) + f(2);␊  return r > 0 && g + f(0) ? 0 : 1;␊}␊
+c 1 11 24¦int g;␊int f(int x)␊{␊  g = g * 2 + x;␊  return g;␊}␊int main(void)␊{␊  int r = f(1) + 1;␊  return r > 0 && g + f(0) ? 0 : 1;␊}␊
+c 1 23 24¦int g;␊int f(int x)␊{␊  g = g * 2 + x;␊  return g;␊}␊int main(void)␊{␊  int r = f(1) + f(2);␊  return r > 0 && g + f(0) ? 0 : 1;␊}␊
+c 2 0 11¦int g;␊int f(int x)␊{␊  g;␊  return g;␊}␊int main(void)␊{␊  int r = f(1) + f(2);␊  return r > 0 && g + f(0) ? 0 : 1;␊}␊
+c 2 1 11¦int g;␊int f(int x)␊{␊  g = g * 2;␊  return g;␊}␊int main(void)␊{␊  int r = f(1) + f(2);␊  return r > 0 && g + f(0) ? 0 : 1;␊}␊
+c 2 10 11¦int g;␊int f(int x)␊{␊  g = g * 2 + x;␊  return g;␊}␊int main(void)␊{␊  int r = f(1) + f(2);␊  return r > 0 && g + 0 ? 0 : 1;␊}␊
+c 3 0 8¦int g;␊int f(int x)␊{␊  g * 2 + x;␊  return g;␊}␊int main(void)␊{␊  int r = f(1) + f(2);␊  return r > 0 && g + f(0) ? 0 : 1;␊}␊
+c 3 7 8¦int g;␊int f(int x)␊{␊  g = g * 2 + x;␊  return g;␊}␊int main(void)␊{␊  int r = f(1) + f(2);␊  return r > 0 && f(0) ? 0 : 1;␊}␊
+f 0 0 1¦int g;int f(int x){g=g*2+x;return g;}int main(void){int r=f(1)+f(2);return r>0&&g+f(0)?0:1;}
+file¦int main(void)␊{␊  int i = 0;␊  i = i++ || 1;␊  return i == 1 ? 0 : 1;␊}␊
+s 0 0 3¦int main(void)␊{␊  ␊  i = i++ || 1;␊  return i == 1 ? 0 : 1;␊}␊
+s 0 2 3¦int main(void)␊{␊  int i = 0;␊  i = i++ || 1;␊  ␊}␊
+c 0 0 13¦int main(void)␊{␊  int i = 0;␊  i = i++ || 1;␊  return i == 1 ? 0 : 1;␊}␊
+c 0 12 13¦int main(void)␊{␊  int i = 0;␊  i = i++ || 1;␊  return i == 1 ? 0 : 0;␊}␊
+c 1 0 13¦int main(void)␊{␊  int i = 1;␊  i = i++ || 1;␊  return i == 1 ? 0 : 1;␊}␊
+c 1 5 13¦int main(void)␊{␊  int i = 0;␊  i = 1++ || 1;␊  return i == 1 ? 0 : 1;␊}␊
+c 1 12 13¦int main(void)␊{␊  int i = 0;␊  i = i++ || 1;␊  return i == 1 ? 0 : 1;␊}␊
+c 2 0 5¦int main(void)␊{␊  int i = 0;␊  i;␊  return i == 1 ? 0 : 1;␊}␊
+c 2 2 5¦int main(void)␊{␊  int i = 0;␊  i = i || 1;␊  return i == 1 ? 0 : 1;␊}␊
+c 2 4 5¦int main(void)␊{␊  int i = 0;␊  i = i++ || 1;␊  return i ? 0 : 1;␊}␊
+c 3 0 4¦int main(void)␊{␊  int i = 0;␊  i++ || 1;␊  return i == 1 ? 0 : 1;␊}␊
+c 3 3 4¦int main(void)␊{␊  int i = 0;␊  i = i++ || 1;␊  return 1 ? 0 : 1;␊}␊
+f 0 0 1¦int main(void){int i=0;i=i++||1;return i==1?0:1;}
+file¦int main(void)␊{␊  char a[] = "abc", b[4] = "xyz";␊  a[0] = 'x';␊  b[3]++;␊  return a[0] == 'x' ? 0 : 1;␊}␊
+s 0 0 4¦int main(void)␊{␊  ␊  a[0] = 'x';␊  b[3]++;␊  return a[0] == 'x' ? 0 : 1;␊}␊
+s 0 3 4¦int main(void)␊{␊  char a[] = "abc", b[4] = "xyz";␊  a[0] = 'x';␊  b[3]++;␊  ␊}␊
+c 0 0 20¦int main(void)␊{␊  char a[] = 0, b[4] = "xyz";␊  a[0] = 'x';␊  b[3]++;␊  return a[0] == 'x' ? 0 : 1;␊}␊
+c 0 13 20¦int main(void)␊{␊  char a[] = "abc", b[4] = "xyz";␊  a[0] = 'x';␊  b[3]++;␊  return 0 ? 0 : 1;␊}␊
+c 0 19 20¦int main(void)␊{␊  char a[] = "abc", b[4] = "xyz";␊  a[0] = 'x';␊  b[3]++;␊  return a[0] == 'x' ? 0 : 0;␊}␊
+c 1 0 20¦int main(void)␊{␊  char a[] = 1, b[4] = "xyz";␊  a[0] = 'x';␊  b[3]++;␊  return a[0] == 'x' ? 0 : 1;␊}␊
+c 1 12 20¦int main(void)␊{␊  char a[] = "abc", b[4] = "xyz";␊  a[0] = 'x';␊  b[3]++;␊  return 1;␊}␊
+c 1 19 20¦int main(void)␊{␊  char a[] = "abc", b[4] = "xyz";␊  a[0] = 'x';␊  b[3]++;␊  return a[0] == 'x' ? 0 : 1;␊}␊
+c 2 0 7¦int main(void)␊{␊  char a[] = "abc", b[4] = "xyz";␊  a[0];␊  b[3]++;␊  return a[0] == 'x' ? 0 : 1;␊}␊
+c 2 6 7¦int main(void)␊{␊  char a[] = "abc", b[4] = "xyz";␊  a[0] = 'x';␊  b[3]++;␊  return a == 'x' ? 0 : 1;␊}␊
+c 3 0 6¦int main(void)␊{␊  char a[] = "abc", b[4] = "xyz";␊  'x';␊  b[3]++;␊  return a[0] == 'x' ? 0 : 1;␊}␊
+c 3 1 6¦int main(void)␊{␊  char a[] = "abc", b[4] = "xyz";␊  0 = 'x';␊  b[3]++;␊  return a[0] == 'x' ? 0 : 1;␊}␊
+c 3 5 6¦int main(void)␊{␊  char a[] = "abc", b[4] = "xyz";␊  a[0] = 'x';␊  b[3]++;␊  return 0 == 'x' ? 0 : 1;␊}␊
+f 0 0 1¦int main(void){char a[]="abc",b[4]="xyz";a[0]='x';b[3]++;return a[0]=='x'?0:1;}
+file¦int main(void)␊{␊  int z = 0;␊  if (z)␊    return 1 / z;␊  return sizeof(1 / 0) == 4 && (z == 0 || 5 / z) ? 0 : 1;␊}␊
+s 0 0 3¦int main(void)␊{␊  ␊  if (z)␊    return 1 / z;␊  return sizeof(1 / 0) == 4 && (z == 0 || 5 / z) ? 0 : 1;␊}␊
+s 0 1 3¦int main(void)␊{␊  int z = 0;␊  ␊  return sizeof(1 / 0) == 4 && (z == 0 || 5 / z) ? 0 : 1;␊}␊
+s 0 2 3¦int main(void)␊{␊  int z = 0;␊  if (z)␊    return 1 / z;␊  ␊}␊
+s 1 0 1¦int main(void)␊{␊  int z = 0;␊  return 1 / z;␊  return sizeof(1 / 0) == 4 && (z == 0 || 5 / z) ? 0 : 1;␊}␊
+s 3 0 1¦int main(void)␊{␊  int z = 0;␊  if (z)␊    ;␊  return sizeof(1 / 0) == 4 && (z == 0 || 5 / z) ? 0 : 1;␊}␊
+c 0 0 24¦int main(void)␊{␊  int z = 0;␊  if (z)␊    return 1 / z;␊  return sizeof(1 / 0) == 4 && (z == 0 || 5 / z) ? 0 : 1;␊}␊
+c 0 19 24¦int main(void)␊{␊  int z = 0;␊  if (z)␊    return 1 / z;␊  return sizeof(1 / 0) == 4 && (z == 0 || 0) ? 0 : 1;␊}␊
+c 0 23 24¦int main(void)␊{␊  int z = 0;␊  if (z)␊    return 1 / z;␊  return sizeof(1 / 0) == 4 && (z == 0 || 5 / z) ? 0 : 0;␊}␊
+c 1 0 24¦int main(void)␊{␊  int z = 1;␊  if (z)␊    return 1 / z;␊  return sizeof(1 / 0) == 4 && (z == 0 || 5 / z) ? 0 : 1;␊}␊
+c 1 6 24¦int main(void)␊{␊  int z = 0;␊  if (z)␊    return 1 / z;␊  return 1 ? 0 : 1;␊}␊
+c 1 23 24¦int main(void)␊{␊  int z = 0;␊  if (z)␊    return 1 / z;␊  return sizeof(1 / 0) == 4 && (z == 0 || 5 / z) ? 0 : 1;␊}␊
+c 2 0 10¦int main(void)␊{␊  int z = 0;␊  if (z)␊    return 1;␊  return sizeof(1 / 0) == 4 && (z == 0 || 5 / z) ? 0 : 1;␊}␊
+c 2 7 10¦int main(void)␊{␊  int z = 0;␊  if (z)␊    return 1 / z;␊  return sizeof(1 / 0) == 4 && (z == 0) ? 0 : 1;␊}␊
+c 2 9 10¦int main(void)␊{␊  int z = 0;␊  if (z)␊    return 1 / z;␊  return sizeof(1 / 0) == 4 && (z == 0 || 5) ? 0 : 1;␊}␊
+c 3 0 8¦int main(void)␊{␊  int z = 0;␊  if (z)␊    return z;␊  return sizeof(1 / 0) == 4 && (z == 0 || 5 / z) ? 0 : 1;␊}␊
+c 3 1 8¦int main(void)␊{␊  int z = 0;␊  if (z)␊    return 1 / z;␊  return 1;␊}␊
+c 3 7 8¦int main(void)␊{␊  int z = 0;␊  if (z)␊    return 1 / z;␊  return sizeof(1 / 0) == 4 && (z == 0 || z) ? 0 : 1;␊}␊
+f 0 0 1¦int main(void){int z=0;if(z)return 1/z;return sizeof(1/0)==4&&(z==0||5/z)?0:1;}
+file¦int main(void)␊{␊  unsigned char c = 1;␊  return (1u << 31) != 0 && (1L << 62) != 0 && c << 20 == 1048576 && -1 >> 31 == -1 ? 0 : 1;␊}␊
+s 0 0 2¦int main(void)␊{␊  ␊  return (1u << 31) != 0 && (1L << 62) != 0 && c << 20 == 1048576 && -1 >> 31 == -1 ? 0 : 1;␊}␊
+s 0 1 2¦int main(void)␊{␊  unsigned char c = 1;␊  ␊}␊
+c 0 0 31¦int main(void)␊{␊  unsigned char c = 0;␊  return (1u << 31) != 0 && (1L << 62) != 0 && c << 20 == 1048576 && -1 >> 31 == -1 ? 0 : 1;␊}␊
+c 0 16 31¦int main(void)␊{␊  unsigned char c = 1;␊  return (1u << 31) != 0 && (1L << 62) != 0 && c << 20 == 1048576 && -1 >> 31 == -1 ? 0 : 1;␊}␊
+c 0 30 31¦int main(void)␊{␊  unsigned char c = 1;␊  return (1u << 31) != 0 && (1L << 62) != 0 && c << 20 == 1048576 && -1 >> 31 == -1 ? 0 : 0;␊}␊
+c 1 0 31¦int main(void)␊{␊  unsigned char c = 1;␊  return (1u << 31) != 0 && (1L << 62) != 0 && c << 20 == 1048576 && -1 >> 31 == -1 ? 0 : 1;␊}␊
+c 1 11 31¦int main(void)␊{␊  unsigned char c = 1;␊  return (1u << 31) != 0 && 1 && c << 20 == 1048576 && -1 >> 31 == -1 ? 0 : 1;␊}␊
+c 1 30 31¦int main(void)␊{␊  unsigned char c = 1;␊  return (1u << 31) != 0 && (1L << 62) != 0 && c << 20 == 1048576 && -1 >> 31 == -1 ? 0 : 1;␊}␊
+c 2 0 16¦int main(void)␊{␊  unsigned char c = 1;␊  return 0;␊}␊
+c 2 13 16¦int main(void)␊{␊  unsigned char c = 1;␊  return (1u << 31) != 0 && (1L << 62) != 0 && c << 20 == 1048576 && -1 == -1 ? 0 : 1;␊}␊
+c 2 15 16¦int main(void)␊{␊  unsigned char c = 1;␊  return (1u << 31) != 0 && (1L << 62) != 0 && c << 20 == 1048576 && -1 >> 31 == 1 ? 0 : 1;␊}␊
+c 3 0 12¦int main(void)␊{␊  unsigned char c = 1;␊  return 1;␊}␊
+c 3 9 12¦int main(void)␊{␊  unsigned char c = 1;␊  return (1u << 31) != 0 && (1L << 62) != 0 && 20 == 1048576 && -1 >> 31 == -1 ? 0 : 1;␊}␊
+c 3 11 12¦int main(void)␊{␊  unsigned char c = 1;␊  return (1u << 31) != 0 && (1L << 62) != 0 && c << 20 == 1048576 && 31 == -1 ? 0 : 1;␊}␊
+f 0 0 1¦int main(void){unsigned char c=1;return(1u<<31)!=0&&(1L<<62)!=0&&c<<20==1048576&&-1>>31==-1?0:1;}
+file¦int main(void)␊{␊  int z = 0;␊  return z << 31 == 0 && 1 << 30 > 0 && 2u << 31 == 0 ? 0 : 1;␊}␊
+s 0 0 2¦int main(void)␊{␊  ␊  return z << 31 == 0 && 1 << 30 > 0 && 2u << 31 == 0 ? 0 : 1;␊}␊
+s 0 1 2¦int main(void)␊{␊  int z = 0;␊  ␊}␊
+c 0 0 21¦int main(void)␊{␊  int z = 0;␊  return z << 31 == 0 && 1 << 30 > 0 && 2u << 31 == 0 ? 0 : 1;␊}␊
+c 0 14 21¦int main(void)␊{␊  int z = 0;␊  return z << 31 == 0 && 1 << 30 > 0 && 0 ? 0 : 1;␊}␊
+c 0 20 21¦int main(void)␊{␊  int z = 0;␊  return z << 31 == 0 && 1 << 30 > 0 && 2u << 31 == 0 ? 0 : 0;␊}␊
+c 1 0 21¦int main(void)␊{␊  int z = 1;␊  return z << 31 == 0 && 1 << 30 > 0 && 2u << 31 == 0 ? 0 : 1;␊}␊
+c 1 20 21¦int main(void)␊{␊  int z = 0;␊  return z << 31 == 0 && 1 << 30 > 0 && 2u << 31 == 0 ? 0 : 1;␊}␊
+c 2 0 9¦int main(void)␊{␊  int z = 0;␊  return 0;␊}␊
+c 2 5 9¦int main(void)␊{␊  int z = 0;␊  return z << 31 == 0 && 1 << 30 && 2u << 31 == 0 ? 0 : 1;␊}␊
+c 2 8 9¦int main(void)␊{␊  int z = 0;␊  return z << 31 == 0 && 1 << 30 > 0 && 2u == 0 ? 0 : 1;␊}␊
+c 3 0 9¦int main(void)␊{␊  int z = 0;␊  return 1;␊}␊
+c 3 1 9¦int main(void)␊{␊  int z = 0;␊  return 2u << 31 == 0 ? 0 : 1;␊}␊
+c 3 8 9¦int main(void)␊{␊  int z = 0;␊  return z << 31 == 0 && 1 << 30 > 0 && 31 == 0 ? 0 : 1;␊}␊
+f 0 0 1¦int main(void){int z=0;return z<<31==0&&1<<30>0&&2u<<31==0?0:1;}
+"#;
+
+fn number(word: Option<&str>) -> u64 {
+    match word {
+        Some(word) => word.parse().unwrap_or(99),
+        None => 99,
+    }
+}
+
+fn pass_of(letter: Option<&str>) -> u8 {
+    match letter.unwrap_or("") {
+        "l" => 0,
+        "t" => 1,
+        "b" => 2,
+        "u" => 3,
+        "s" => 4,
+        "c" => 5,
+        "i" => 6,
+        "p" => 7,
+        "r" => 8,
+        "f" => 9,
+        _ => 10,
+    }
+}
+
+// The variant that the numbers name, or a word where the level has another width.
+fn made(alloc: Global, file: &[u8], numbers: &str) -> Result<Vec<u8>, AllocError> {
+    let file = &file[..file.len().min(1_048_576)];
+    let passes = CPasses {
+        enabled: [true; 10],
+    };
+    let index = passes.prepare(alloc, file)?;
+    let mut words = numbers.split_whitespace();
+    let at = Cursor {
+        pass: pass_of(words.next()),
+        level: u8::try_from(number(words.next())).unwrap_or(99),
+        index: number(words.next()),
+    };
+    let width = passes.width(&index, at.pass, at.level);
+    if width != number(words.next()) {
+        return Ok(b"another width".to_vec(alloc)?);
+    }
+    if at.index >= width {
+        return Ok(file.to_vec(alloc)?);
+    }
+    let mut out = Vec::new(alloc);
+    passes.variant(&index, file, at, &mut out)?;
+    Ok(out)
+}
+
+// The bytes of a cell, in which `␊` stands for the end of a line and `␉` for a tab.
+fn bytes_of(alloc: Global, cell: &str) -> Result<Vec<u8>, AllocError> {
+    let mut bytes = Vec::new(alloc);
+    for c in cell.chars() {
+        bytes.push(byte_of(c))?;
+    }
+    Ok(bytes)
+}
+
+fn byte_of(c: char) -> u8 {
+    match c {
+        '␊' => b'\n',
+        '␉' => b'\t',
+        '\0'..='\x7f' => c as u8,
+        _ => b'?',
+    }
+}
+
+fn expect(rt: &impl Abort, found: &[u8], wanted: &[u8], row: &str) {
+    assert!(rt; found == wanted, "{row}");
+}
+
+fn check(rt: &impl Abort, alloc: Global, file: &[u8], row: &str) -> Result<(), AllocError> {
+    if let Some((numbers, variant)) = row.split_once('¦') {
+        let wanted = bytes_of(alloc, variant)?;
+        let found = made(alloc, file, numbers)?;
+        expect(rt, &found, &wanted, row);
+    }
+    Ok(())
+}
+
+#[test]
+fn passes_give_the_variants_of_the_table(rt: HostRuntime) -> Result<(), AllocError> {
+    let alloc = rt.alloc();
+    for table in VARIANTS.split("file¦") {
+        let mut rows = table.lines();
+        let file = bytes_of(alloc, rows.next().unwrap_or(""))?;
+        for row in rows {
+            check(&rt, alloc, &file, row)?;
+        }
+    }
+    Ok(())
+}

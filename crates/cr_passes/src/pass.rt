@@ -1,0 +1,37 @@
+// The passes by their numbers.
+ghost use Rattle.std.specs.Prelude.{◌≡◌};
+ghost use Rattle.cr_passes.specs.Passes.{pass_by};
+
+/// A pass, as far as it is built.
+#[derive(Clone, Copy, PartialEq, Eq)]
+pub enum Pass {
+    /// l, chunks of lines.
+    Lines,
+    /// t, runs of tokens.
+    Runs,
+    /// b, brackets.
+    Brackets,
+    /// s, statements.
+    Statements,
+    /// c, expressions.
+    Expressions,
+    /// f, the printed unit.
+    Printed,
+    /// No pass, or one that isn't built yet.
+    NotThere,
+}
+
+/// The pass of a number: the ten passes l t b u s c i p r f have the numbers from 0 on.
+pub fn pass_by(number: usize) -> Pass
+    ensures { result ≡ pass_by number }
+{
+    match number {
+        0 => Pass::Lines,
+        1 => Pass::Runs,
+        2 => Pass::Brackets,
+        4 => Pass::Statements,
+        5 => Pass::Expressions,
+        9 => Pass::Printed,
+        _ => Pass::NotThere,
+    }
+}
