@@ -6,7 +6,7 @@ use Rattle.cr_outside.specs.Question.{AnswersAsTold, Says as Telling}
 use Rattle.cr_outside.specs.Test.{one_test_answer}
 use Rattle.cr_outside.specs.declared.judge.Answer.TheVariants.{No}
 use Rattle.cr_passes.specs.Offers.{Offers}
-use Rattle.cr_passes.specs.OfferLaws.{few_variants, levels_of, none_above}
+use Rattle.cr_passes.specs.OfferLaws.{few_variants, levels_at, none_above}
 use Rattle.cr_reduce.specs.Bench.{GoesOn, Judging, RoseAt}
 use Rattle.cr_reduce.specs.declared.end.End.{End}
 use Rattle.cr_reduce.specs.declared.end.Why.{Why}
@@ -38,13 +38,13 @@ use Rattle.cr_main.proofs.OneTask.{all_alike}
 abbrev pub IsFree : ℕ → Type 0
 IsFree status = (status ≡ 0) ⊎ (status ≡ 11)
 
-passes_levels : (enabled : List Bool) → HasLevels (Offers enabled) levels_of
+passes_levels : (enabled : List Bool) → HasLevels (Offers enabled) levels_at
 passes_levels enabled = record { none_above = none_above enabled; few = few_variants enabled }
 
 -- what is enough for the size is enough for the bytes
-bytes_enough : (n size : ℕ) → size ≤ 12 * n → enough_turns levels_of size ≤ enough_for n
+bytes_enough : (n size : ℕ) → size ≤ 12 * n → enough_turns levels_at size ≤ enough_for n
 bytes_enough n size small =
-    let levels : 23 * size ≤ 492 * n = omega arith in
+    let levels : 33 * size ≤ 492 * n = omega arith in
     let rounds : size + 1 ≤ 12 * n + 1 = omega arith in
     omega (arith, mul-le-mul levels rounds)
 
@@ -53,7 +53,7 @@ fewer_within None m n less within = tt
 fewer_within (Some most) m n less within = omega arith
 
 -- a run of a task with all it needs, whose passes have these levels, and whose test doesn't tell both answers
-module _ (t : Task) (text : Text) (old new : Outside) (before after : Judging) (all : HasAll t text old new before after) (has : HasLevels t.search.Offers levels_of)
+module _ (t : Task) (text : Text) (old new : Outside) (before after : Judging) (all : HasAll t text old new before after) (has : HasLevels t.search.Offers levels_at)
     (apart : (file : List ℕ) → t.search.Tells file true → t.search.Tells file false → ⊥) where
   file_never_fails : (saves : Bool) (read : Outside) (name : List ℕ) (status : ℕ) → old.file_faults ≤ read.file_faults → Fails saves read new name status → IsFree status
   file_never_fails saves read name status later (call_failed on rose said) = absurd (all.no_file_fault (rose_earlier old.file_faults read.file_faults new.file_faults later rose))
@@ -74,8 +74,8 @@ module _ (t : Task) (text : Text) (old new : Outside) (before after : Judging) (
 
   never_limit : (since : Judging) (bytes : List ℕ) (end : End) (size : ℕ) → bytes ≡ all.bytes → HasSize bytes size → IsReduction t since after bytes end → end.why ≡ Limit → ⊥
   never_limit since bytes end size is sized reduction =
-      in_time t.search since after t.limit bytes end end.why reduction.chain levels_of size has sized
-      (fewer_within t.limit (enough_turns levels_of size) (enough_for (length bytes)) (bytes_enough (length bytes) size (size_by_length bytes size sized))
+      in_time t.search since after t.limit bytes end end.why reduction.chain levels_at size has sized
+      (fewer_within t.limit (enough_turns levels_at size) (enough_for (length bytes)) (bytes_enough (length bytes) size (size_by_length bytes size sized))
       (subst (λ b. Within t.limit (enough_for (length b))) (sym is) all.enough))
 
   end_free : (since : Judging) (reason : Why) → GoesOn before since → (reason ≡ Limit → ⊥) → FaultsWithCause t.search since after reason → IsFree (end_status reason)

@@ -194,20 +194,30 @@ few_variants enabled file o pass level it = subst (λ x. x.widths pass level ≤
 no_chunks : (lines level : ℕ) → 15 ≤ level → chunks_of lines 0 level ≡ 0
 no_chunks lines level above = grind (arith, nat_tests)
 
-none_known : (enabled : List Bool) (file : List ℕ) (known : Known) (pass level : ℕ) → IsKnown enabled file known → 15 ≤ level → (offer_of known file).widths pass level ≡ 0
-none_known enabled file known pass level is above = elim (pass == 0) as (λ t. (if t then chunks_of known.lines 0 level else length (level_of (menu_at known.menus pass) level)) ≡ 0) [
-  | true ↦ no_chunks known.lines level above
-  | false ↦ known_menu enabled file known pass (λ m. length (level_of m level) ≡ 0) is
-      (λ offered. none_offered file is.read (pass_by pass) (menu_at known.menus pass) level offered (let few = few_levels (pass_by pass) in omega (arith, few, above))) refl
-]
+behind_lines : (pass chunks others : ℕ) → others ≡ 0 → (if suc pass == 0 then chunks else others) ≡ 0
+behind_lines pass chunks others none =
+    let apart : (suc pass == 0) ≡ false = grind (arith, nat_tests) in subst (λ b. (if b then chunks else others) ≡ 0) (sym apart) none
+
+-- how many levels the pass of a number has
+abbrev pub levels_at : ℕ → ℕ
+levels_at pass = levels_of (pass_by pass)
+
+none_known : (enabled : List Bool) (file : List ℕ) (known : Known) (pass level : ℕ) → IsKnown enabled file known → levels_at pass ≤ level → (offer_of known file).widths pass level ≡ 0
+none_known enabled file known zero level is few = no_chunks known.lines level few
+none_known enabled file known (suc pass) level is few = behind_lines pass (chunks_of known.lines 0 level) (length (level_of (menu_at known.menus (suc pass)) level))
+    (known_menu enabled file known (suc pass) (λ m. length (level_of m level) ≡ 0) is
+    (λ offered. none_offered file is.read (pass_by (suc pass)) (menu_at known.menus (suc pass)) level offered few) refl)
+
+-- No level stands at or above the number that its pass has.
+pub none_above : (enabled : List Bool) (file : List ℕ) (o : Offer) (pass level : ℕ) → Offers enabled file o → levels_at pass ≤ level → o.widths pass level ≡ 0
+none_above enabled file o pass level it few = subst (λ x. x.widths pass level ≡ 0) (sym it.is) (none_known enabled file it.known pass level it.is_known few)
 
 pub no_level : (enabled : List Bool) (file : List ℕ) (o : Offer) (pass level : ℕ) → Offers enabled file o → 15 < level → o.widths pass level ≡ 0
-no_level enabled file o pass level it above = subst (λ x. x.widths pass level ≡ 0) (sym it.is) (none_known enabled file it.known pass level it.is_known (omega (arith, above)))
+no_level enabled file o pass level it above = none_above enabled file o pass level it (let few = few_levels (pass_by pass) in omega (arith, few, above))
 
 no_lines : (pass chunks others : ℕ) → 9 < pass → others ≡ 0 → (if pass == 0 then chunks else others) ≡ 0
 no_lines zero chunks others above none = absurd (omega (arith, above))
-no_lines (suc pass) chunks others above none =
-    let apart : (suc pass == 0) ≡ false = grind (arith, nat_tests) in subst (λ b. (if b then chunks else others) ≡ 0) (sym apart) none
+no_lines (suc pass) chunks others above none = behind_lines pass chunks others none
 
 pub no_pass : (enabled : List Bool) (file : List ℕ) (o : Offer) (pass level : ℕ) → Offers enabled file o → 9 < pass → o.widths pass level ≡ 0
 no_pass enabled file o pass level it above = subst (λ x. x.widths pass level ≡ 0) (sym it.is)
