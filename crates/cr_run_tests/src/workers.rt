@@ -239,7 +239,7 @@ fn by_chance(
     let passes = match seed % 3 {
         0 => "--passes=l w.sh t.c",
         1 => "--passes=ltb w.sh t.c",
-        _ => "--limit=30 w.sh t.c",
+        _ => "--limit=12 w.sh t.c",
     };
     let words = words_of(alloc, workers, window, passes)?;
     outcome(rt, alloc, &words, &file, &mut bench)
