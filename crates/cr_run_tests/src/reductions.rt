@@ -1,5 +1,5 @@
 // Reductions by the lines pass. What is wanted was found by hand from the rules of the pass and of the reduction.
-ghost use Rattle.std.specs.Prelude.{◌≡◌, ◌<◌, ◌≤◌};
+ghost use Rattle.std.specs.Prelude.{◌<◌, ◌≤◌, IfOk, length};
 
 use crate::rehearsed::Knowing;
 use crate::tables::{Case, cases, tell};
@@ -91,25 +91,36 @@ fn told(alloc: Global, end: &End) -> Result<String, Fail> {
     Ok(told)
 }
 
+// A bench of one judge who knows what the case's calls tell.
+fn bench_of(alloc: Global, case: &Case) -> Result<Bench<Knowing>, AllocError>
+    ensures { IfOk result (λ bench. 0 < length bench.judges) }
+{
+    let mut judges = Vec::new(alloc);
+    judges.push(Knowing::new(case.calls(alloc)?))?;
+    Bench::new(alloc, judges)
+}
+
 // The end of a case's reduction, where its file tokenises and the test is one.
 fn end_of(
     rt: &(impl Threads + Sync),
     alloc: Global,
     case: &Case,
-    plan: &Plan,
+    window: u32,
 ) -> Result<Option<End>, AllocError>
-    requires worker { plan.now.workers ≡ 1 }
-    requires window { (0 < plan.now.window) × (plan.now.window ≤ 4096) }
+    requires { (0 < window) × (window ≤ 4096) }
 {
     let Ok(test) = Test::read(alloc, case.told("test")) else {
         return Ok(None);
     };
-    let mut judges = Vec::new(alloc);
-    judges.push(Knowing::new(case.calls(alloc)?))?;
-    let mut bench = Bench::new(alloc, judges)?;
+    let mut bench = bench_of(alloc, case)?;
     let file = case.before(alloc)?;
     let Ok(_tokens) = read(alloc, &file) else {
         return Ok(None);
+    };
+    let plan = Plan {
+        workers: 1,
+        window,
+        limit: case.told("limit").parse().ok(),
     };
     let end = reduce(
         rt,
@@ -120,7 +131,7 @@ fn end_of(
         &mut bench,
         "abc.c",
         file,
-        plan,
+        &plan,
     );
     Ok(Some(end))
 }
@@ -133,12 +144,7 @@ fn ends_so(
 ) -> Result<bool, Fail>
     requires { (0 < window) × (window ≤ 4096) }
 {
-    let plan = Plan {
-        workers: 1,
-        window,
-        limit: case.told("limit").parse().ok(),
-    };
-    let Some(end) = end_of(rt, alloc, case, &plan)? else {
+    let Some(end) = end_of(rt, alloc, case, window)? else {
         return Ok(false);
     };
     let found = told(alloc, &end)?;

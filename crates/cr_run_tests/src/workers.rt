@@ -187,13 +187,13 @@ impl Judge for Chance {
     }
 }
 
-// A file of up to five lines by chance, some of which don't tokenise by themselves.
+// A file of up to five lines by chance, some of which don't tokenise, by themselves or at all.
 fn random_file(alloc: Global, seed: u64) -> Result<Vec<u8>, AllocError> {
     let mut file = Vec::new(alloc);
     let mut drawn = after(seed);
     for _ in 0..(drawn >> 33) % 6 {
         drawn = after(drawn);
-        let line = match (drawn >> 33) % 8 {
+        let line = match (drawn >> 33) % 9 {
             0 => "int a;\n",
             1 => "int b;",
             2 => "f(1);\n",
@@ -201,6 +201,7 @@ fn random_file(alloc: Global, seed: u64) -> Result<Vec<u8>, AllocError> {
             4 => "/*\n*/ x;\n",
             5 => "{ y }\n",
             6 => "z",
+            7 => "@",
             _ => "int a = 2;\n",
         };
         file.extend_from_slice(line.as_bytes())?;
@@ -238,7 +239,7 @@ fn by_chance(
     let passes = match seed % 3 {
         0 => "--passes=l w.sh t.c",
         1 => "--passes=ltb w.sh t.c",
-        _ => "--limit=30 w.sh t.c",
+        _ => "--limit=12 w.sh t.c",
     };
     let words = words_of(alloc, workers, window, passes)?;
     outcome(rt, alloc, &words, &file, &mut bench)

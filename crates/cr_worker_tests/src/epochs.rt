@@ -305,7 +305,7 @@ nnfn 15 f
 nnny 16 y
 ";
 
-fn said(letter: Option<&u8>) -> Answer {
+fn answer_for(letter: Option<&u8>) -> Answer {
     match letter {
         Some(b'y') => Answer::Yes,
         Some(b'f') => Answer::Failed,
@@ -324,10 +324,10 @@ struct Said {
 
 fn said_by(letters: &[u8]) -> Said {
     Said {
-        last: said(letters.first()),
-        first_two: said(letters.get(1)),
-        last_two: said(letters.get(2)),
-        other: said(letters.get(3)),
+        last: answer_for(letters.first()),
+        first_two: answer_for(letters.get(1)),
+        last_two: answer_for(letters.get(2)),
+        other: answer_for(letters.get(3)),
     }
 }
 
@@ -371,7 +371,7 @@ fn an_epoch_ends_by_the_first_position_not_rejected(rt: HostRuntime) -> Result<(
             let judges = judges_of(rt.alloc(), said_by(letters), 0, count)?;
             let end = epoch(&rt, rt.alloc(), &TokenLaw, judges, 5)?;
             assert!(rt;
-                ends_so(&end, (at, said(letters.last()))),
+                ends_so(&end, (at, answer_for(letters.last()))),
                 "{row} by {count}"
             );
         }
