@@ -542,6 +542,23 @@ fn pass_of(letter: Option<&str>) -> u8 {
     }
 }
 
+// The variant of an index, which is the file where there is none.
+fn variant_of<P: Passes>(
+    alloc: Global,
+    passes: &P,
+    index: &P::Prep,
+    file: &[u8],
+    at: Cursor,
+) -> Result<Vec<u8>, AllocError> {
+    let width = passes.width(index, at.pass, at.level);
+    if at.index >= width {
+        return Ok(file.to_vec(alloc)?);
+    }
+    let mut out = Vec::new(alloc);
+    passes.variant(index, file, at, &mut out)?;
+    Ok(out)
+}
+
 // The variant that the numbers name, or a word where the level has another width.
 fn made(alloc: Global, file: &[u8], numbers: &str) -> Result<Vec<u8>, AllocError> {
     let file = &file[..file.len().min(1_048_576)];
@@ -555,16 +572,10 @@ fn made(alloc: Global, file: &[u8], numbers: &str) -> Result<Vec<u8>, AllocError
         level: u8::try_from(number(words.next())).unwrap_or(99),
         index: number(words.next()),
     };
-    let width = passes.width(&index, at.pass, at.level);
-    if width != number(words.next()) {
+    if passes.width(&index, at.pass, at.level) != number(words.next()) {
         return Ok(b"another width".to_vec(alloc)?);
     }
-    if at.index >= width {
-        return Ok(file.to_vec(alloc)?);
-    }
-    let mut out = Vec::new(alloc);
-    passes.variant(&index, file, at, &mut out)?;
-    Ok(out)
+    variant_of(alloc, &passes, &index, file, at)
 }
 
 // The bytes of a cell, in which `␊` stands for the end of a line and `␉` for a tab.
