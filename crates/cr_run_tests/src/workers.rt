@@ -152,7 +152,7 @@ impl Chance {
         if file == self.whole.as_slice() {
             return Answer::Yes;
         }
-        let mut drawn = self.seed;
+        let mut drawn = after(self.seed);
         for byte in file {
             drawn = after(drawn ^ u64::from(*byte));
         }
