@@ -14,7 +14,7 @@ use Rattle.cr_decls.specs.Unit.{IsRefused}
 use Rattle.cr_listing.proofs.Alike as listing
 use Rattle.cr_analysis.specs.Analysis.{IsParsed, IsRead, Read, Tree, no_tokens, no_unit, of_unit}
 
-same_tree : (file : List ℕ) (tokens : List Token) (tree other : Tree) → IsParsed file tokens tree → IsParsed file tokens other → tree ≡ other
+pub same_tree : (file : List ℕ) (tokens : List Token) (tree other : Tree) → IsParsed file tokens tree → IsParsed file tokens other → tree ≡ other
 same_tree file tokens tree other is also =
     let e = one_unit is.is_tree.is_unit also.is_tree.is_unit in
     let same = listing.one_list tree.nodes other.nodes tree.items other.items is.below also.below is.listed also.listed e in

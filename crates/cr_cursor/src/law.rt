@@ -71,11 +71,12 @@ impl Law for TokenLaw {
             Ok(_) => return Ruling::Lawful,
             Err(fault) => fault,
         };
-        ruling_of(file, fault)
+        token_ruling(file, fault)
     }
 }
 
-fn ruling_of(file: &[u8], fault: TokenFault) -> Ruling
+/// The ruling on a file whose tokens have a fault: `Token` with its number and line, or want of memory.
+pub fn token_ruling(file: &[u8], fault: TokenFault) -> Ruling
     requires { (fault ≡ TokenFault.NoMemory) ⊎ FirstTokenFault file.now fault }
     ensures { RulesOn file.now fault result }
 {

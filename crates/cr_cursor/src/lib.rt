@@ -9,7 +9,7 @@ mod passes;
 mod places;
 mod stop;
 
-pub use law::{Law, Reason, Ruling, TokenLaw, line_of};
+pub use law::{Law, Reason, Ruling, TokenLaw, line_of, token_ruling};
 pub use passes::{Cursor, NoMemory, Passes};
 pub use places::{LEVELS, PASSES, cursor_at, position_of, positions};
 pub use stop::{Never, Stop};

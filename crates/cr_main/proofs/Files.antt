@@ -3,7 +3,9 @@ use Rattle.std.proofs.Common.{◌≡◌, ◌⊎◌, inl, inr, ◌<◌, ◌≤◌
 use Rattle.std.proofs.lemmas.List.{length-take, take_all}
 use Rattle.std.specs.Global.{Vec}
 use Rattle.cr_cursor.specs.declared.law.Reason.{Reason}
-use Rattle.cr_cursor.specs.TokenLaw.{IsTokenized, IsTokenReason, reason_of}
+use Rattle.cr_cursor.specs.TokenLaw.{reason_of}
+use Rattle.cr_lawful.specs.Lawful.{IsLawful, IsReason}
+use Rattle.cr_lawful.specs.Lawful.IsReason.{of_tokens, of_unit, of_names}
 use Rattle.cr_outside.proofs.Counts.{rose_earlier}
 use Rattle.cr_outside.specs.Files.{Names, content_of, Reads, Shows}
 use Rattle.cr_outside.specs.declared.files.ReadAnswer.TheVariants.{Bytes, Absent}
@@ -100,7 +102,7 @@ pub absent_file : (told : Option Names) (name : List ℕ) → Reads told name 10
 absent_file None name reads = tt
 absent_file (Some files) name reads = reads
 
--- the law that a file tokenises
+-- the law of programs
 
 -- a file that is too long has no other first fault
 is_too_long : (file : List ℕ) (fault : TokenFault) → 1048576 < length file → FirstTokenFault file fault → fault ≡ TooLong
@@ -108,9 +110,11 @@ is_too_long file _ long (too_long above) = refl
 is_too_long file _ long (first at tokens short into few at_it) = absurd (omega (arith, long, short))
 is_too_long file _ long (too_many t tokens short into count token) = absurd (omega (arith, long, short))
 
-pub token_law_is_of_programs : IsOfPrograms IsTokenized IsTokenReason
-token_law_is_of_programs = record {
-  tokenizes = λ file lawful. lawful;
-  too_long = λ file other reason long above it.
-      record { fault = TooLong; first = too_long above; is = it.is ∙ ap (λ f. reason_of file f) (is_too_long file it.fault long it.first) };
-}
+too_long_too : (file other : List ℕ) (reason : Reason) → 1048576 < length file → 1048576 < length other → IsReason file reason → IsReason other reason
+too_long_too file other reason long above (of_tokens it) =
+    of_tokens (record { fault = TooLong; first = too_long above; is = it.is ∙ ap (λ f. reason_of file f) (is_too_long file it.fault long it.first) })
+too_long_too file other _ long above (of_unit are first) = absurd (omega (arith, long, are.short))
+too_long_too file other _ long above (of_names are parsed first is) = absurd (omega (arith, long, are.short))
+
+pub law_is_of_programs : IsOfPrograms IsLawful IsReason
+law_is_of_programs = record { tokenizes = λ file lawful. record { tokens = lawful.tokens; tokenizes = lawful.tokenizes }; too_long = too_long_too }

@@ -3,8 +3,9 @@ use Rattle.std.specs.Prelude.{◌≡◌, ◌<◌, ◌≤◌, ℕ, Bool, true, fa
 use Rattle.cr_cursor.specs.declared.law.Law.{Ghosts as LawGhosts}
 use Rattle.cr_cursor.specs.declared.law.Reason.{Reason}
 use Rattle.cr_cursor.specs.declared.passes.Passes.{Ghosts as PassesGhosts}
-use Rattle.cr_cursor.specs.TokenLaw.{IsTokenized, IsTokenReason}
+use Rattle.cr_cursor.specs.TokenLaw.{IsTokenized}
 use Rattle.cr_gen.specs.Program.{generated}
+use Rattle.cr_lawful.specs.Lawful.{IsLawful, IsReason}
 use Rattle.cr_outside.specs.Files.{Names, content_of}
 use Rattle.cr_outside.specs.Question.{Says}
 use Rattle.cr_outside.specs.Test.{asks_test, tells_test}
@@ -71,12 +72,12 @@ abbrev pub saves_of : Source → Bool
 saves_of (source.Named name) = true
 saves_of (source.Made number items) = false
 
--- the task of settings, for judges who say this, with the file's own name: the enabled passes, the law that a file
--- tokenises, and the test
+-- the task of settings, for judges who say this, with the file's own name: the enabled passes, the law of
+-- programs, and the test
 abbrev pub task_of : Settings → Says → List ℕ → Task
 task_of settings says own = record {
-  search = search_of (Offers settings.enabled) IsTokenized (asks_test settings.test) (tells_test settings.test) says own;
-  Against = IsTokenReason;
+  search = search_of (Offers settings.enabled) IsLawful (asks_test settings.test) (tells_test settings.test) says own;
+  Against = IsReason;
   window = settings.window;
   limit = settings.limit;
   name = name_of settings.source;

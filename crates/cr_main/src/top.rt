@@ -15,8 +15,8 @@ use crate::names::own_name;
 use crate::run_task::{run_bytes, run_stored};
 use crate::status;
 use crate::task::Task;
-use cr_cursor::TokenLaw;
 use cr_gen::make;
+use cr_lawful::CLaw;
 use cr_outside::{Files, Judge, Sink};
 use cr_passes::CPasses;
 use cr_pool::Bench;
@@ -95,7 +95,7 @@ fn run_settings<R: Threads + Sync, F: Files, J: Judge + Send, O: Sink>(
     };
     let task = Task {
         passes: &passes,
-        law: &TokenLaw,
+        law: &CLaw,
         question: &settings.test,
         workers: settings.workers,
         window: settings.window,

@@ -27,18 +27,17 @@ log l 13 1 68 15␊l 14 0 34 16␊end fixed 34 32␊
 
 what three lines, by lines and tokens
 passes tl
-output abc.c size 102 to 14 accepted 4 turns 38 fixed␊
-after ␠b␊
-log l 13 1 68 15␊l 14 0 34 16␊t 4 0 23 20␊t 4 1 14 22␊end fixed 14 38␊
+output abc.c size 102 to 34 accepted 2 turns 42 fixed␊
+log l 13 1 68 15␊l 14 0 34 16␊end fixed 34 42␊
 
-what a line of two tokens, of which the second goes
+what a line of five tokens, of which two in a row go
 passes t
 words has:a abc.c
-before a b
-output abc.c size 25 to 13 accepted 1 turns 4 fixed␊
-after a␠
-copy a b
-log t 4 1 13 3␊end fixed 13 4␊
+before int a,b;
+output abc.c size 54 to 33 accepted 1 turns 13 fixed␊
+after int a;
+copy int a,b;
+log t 3 2 33 5␊end fixed 33 13␊
 
 what no turn
 words --limit 0 has:b abc.c
@@ -68,7 +67,7 @@ words has:b d/abc.c
 name d/abc.c
 output d/abc.c size 102 to 34 accepted 2 turns 32 fixed␊
 
-what two lines and main, of which the law asks nothing yet
+what two lines and main, which the law does not ask for yet
 words has:b m.c
 name m.c
 before int a;␊int b;␊int main(){}␊
@@ -158,13 +157,34 @@ after int a;␊int b;␊int c;␊
 copy none
 log none
 
-what an empty file, which the law takes so far
+what an empty file, which is no unit
 words has:b e.c
 name e.c
 before ∅
-status 6
-output creduce: the test says no to e.c␊
+status 4
+output creduce: e.c:1: not in the subset: parse 2␊
 after ∅
+
+what a file that does not parse
+words has:b abc.c
+before int a;␊int b␊int c;␊
+status 4
+output creduce: abc.c:3: not in the subset: parse 1␊
+after same
+
+what a name that is not declared
+words has:b abc.c
+before int main(){␊return b;}␊
+status 4
+output creduce: abc.c:2: not in the subset: name 1␊
+after same
+
+what a name that is declared twice
+words has:b abc.c
+before int f(int b){␊␊int b;return 0;}␊
+status 4
+output creduce: abc.c:3: not in the subset: name 2␊
+after same
 
 what another text
 words has:d abc.c
@@ -211,7 +231,7 @@ output creduce: usage: creduce [--workers N] [--window N] [--limit N] [--steps N
 ";
 
 /// The judge awaits these calls, in this order, by the test of the path `w.sh` and under the name `abc.c`. Thirteen levels
-/// take all lines at once, and the next one two of them. Of the empty file there are no variants.
+/// take all lines at once, which leaves no unit to ask about, and the next one two of them.
 const JUDGED: &str = "\
 what yes to two variants, asked in the order of positions under the file's own name
 passes l
@@ -221,11 +241,9 @@ words w.sh d/abc.c
 name d/abc.c
 before int a;␊int b;␊int c;␊
 call 1 yes int a;␊int b;␊int c;␊
-call 13 no
 call 1 no int c;␊
 call 1 yes int a;␊int b;␊
 call 1 yes int b;␊
-call 16 no
 status 0
 output d/abc.c size 102 to 34 accepted 2 turns 32 fixed␊
 after int b;␊
@@ -236,24 +254,23 @@ what the test fails on a variant
 words w.sh abc.c
 name abc.c
 call 1 yes int a;␊int b;␊int c;␊
-call 13 no
 call 1 failed int c;␊
 status 8
 output abc.c size 102 to 102 accepted 0 turns 13 fault␊
 after int a;␊int b;␊int c;␊
 log end fault 102 13␊
 
-what a judge that changes its mind about the empty file
+what a judge that changes its mind about a file
 words w.sh abc.c
 name abc.c
 call 1 yes int a;␊int b;␊int c;␊
-call 13 no
+call 1 no int c;␊
+call 1 no int a;␊int b;␊
+call 1 yes int b;␊int c;␊
 call 1 yes int c;␊
-call 2 no
-call 1 yes
-output abc.c size 102 to 0 accepted 2 turns 17 fixed␊
-after ∅
-log l 13 0 34 14␊l 0 0 0 17␊end fixed 0 17␊
+output abc.c size 102 to 34 accepted 2 turns 33 fixed␊
+after int c;␊
+log l 14 0 68 16␊l 14 0 34 17␊end fixed 34 33␊
 
 what no to the file
 words w.sh abc.c
@@ -346,9 +363,8 @@ what two passes by two workers
 workers 2
 window 256
 passes tl
-output abc.c size 102 to 14 accepted 4 turns 38 fixed␊
-after ␠b␊
-log l 13 1 68 15␊l 14 0 34 16␊t 4 0 23 20␊t 4 1 14 22␊end fixed 14 38␊
+output abc.c size 102 to 34 accepted 2 turns 42 fixed␊
+log l 13 1 68 15␊l 14 0 34 16␊end fixed 34 42␊
 
 what no to the file
 words has:d abc.c

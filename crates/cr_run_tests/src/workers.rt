@@ -187,22 +187,23 @@ impl Judge for Chance {
     }
 }
 
-// A file of up to five lines by chance, some of which don't tokenise, by themselves or at all.
+// A file of up to six lines by chance, some of which don't tokenise, parse or name what is there, by themselves or at all.
 fn random_file(alloc: Global, seed: u64) -> Result<Vec<u8>, AllocError> {
     let mut file = Vec::new(alloc);
     let mut drawn = after(seed);
-    for _ in 0..(drawn >> 33) % 6 {
+    for _ in 0..(drawn >> 33) % 7 {
         drawn = after(drawn);
-        let line = match (drawn >> 33) % 9 {
-            0 => "int a;\n",
-            1 => "int b;",
-            2 => "f(1);\n",
-            3 => "\n",
-            4 => "/*\n*/ x;\n",
-            5 => "{ y }\n",
-            6 => "z",
-            7 => "@",
-            _ => "int a = 2;\n",
+        let line = match (drawn >> 33) % 20 {
+            0..=2 => "int a;\n",
+            3..=5 => "int b, c;",
+            6..=8 => "int f(int x);\n",
+            9 | 10 => "\n",
+            11 | 12 => "/*\n*/ int d;\n",
+            13 | 14 => "int e = 1 +\n2;",
+            15 | 16 => "int *g(void) { return 0; }\n",
+            17 => "int h = a;\n",
+            18 => "int i\n",
+            _ => "@",
         };
         file.extend_from_slice(line.as_bytes())?;
     }

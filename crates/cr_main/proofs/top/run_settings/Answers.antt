@@ -2,15 +2,15 @@ use Rattle.std.proofs.Common.{subst}
 use Rattle.cr_reduce.specs.Bench.{judging, says_of}
 use Rattle.cr_words.specs.Names.{IsOwnName}
 use Rattle.cr_main.specs.Outside.{outside}
-use Rattle.cr_main.proofs.Files.{token_law_is_of_programs}
+use Rattle.cr_main.proofs.Files.{law_is_of_programs}
 use Rattle.cr_main.proofs.Sources.{made_runs, stored_runs}
 use Rattle.cr_main.proofs.top.run_settings.Goals as goal
 
 pub run_stored-requires-clause-law : goal.run_stored-requires-clause-law
-run_stored-requires-clause-law g c = λ a b. token_law_is_of_programs
+run_stored-requires-clause-law g c = λ a b. law_is_of_programs
 
 pub run_bytes-requires-clause-law : goal.run_bytes-requires-clause-law
-run_bytes-requires-clause-law g c = λ a b. token_law_is_of_programs
+run_bytes-requires-clause-law g c = λ a b. law_is_of_programs
 
 pub returns-in-Named-clause-runs : goal.returns-in-Named-clause-runs
 returns-in-Named-clause-runs g c = (

@@ -1,0 +1,5 @@
+use Rattle.cr_lawful.proofs.Reasons.{excludes}
+use Rattle.cr_lawful.proofs.laws.lawful_files_have_no_reason.Goals as goal
+
+pub returns : goal.returns
+returns c = λ file why is lawful. excludes file why is lawful
