@@ -1,5 +1,5 @@
 // The law of programs.
-ghost use Rattle.std.specs.Prelude.{◌≡◌, ◌≢◌};
+ghost use Rattle.std.specs.Prelude.{◌≡◌, ◌≢◌, true};
 ghost use Rattle.cr_tokens.specs.Tokens.{Tokenizes};
 ghost use Rattle.cr_syntax.specs.Kept.{row_in};
 ghost use Rattle.cr_syntax.specs.Units.{IsTreeOf};

@@ -1,4 +1,4 @@
-use Rattle.cr_lawful.proofs.Reasons.{token_rules}
+use Rattle.cr_lawful.proofs.Rulings.{token_rules}
 use Rattle.cr_lawful.proofs.law.ruled.Goals as goal
 
 pub returns-in-Err : goal.returns-in-Err

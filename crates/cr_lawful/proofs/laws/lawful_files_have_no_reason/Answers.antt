@@ -1,4 +1,4 @@
-use Rattle.cr_lawful.proofs.Reasons.{excludes}
+use Rattle.cr_lawful.proofs.Rulings.{excludes}
 use Rattle.cr_lawful.proofs.laws.lawful_files_have_no_reason.Goals as goal
 
 pub returns : goal.returns

@@ -1,6 +1,6 @@
 use Rattle.std.proofs.Common.{◌≡◌, subst}
 use Rattle.cr_lawful.specs.Lawful.{Rules}
-use Rattle.cr_lawful.proofs.Reasons.{excludes}
+use Rattle.cr_lawful.proofs.Rulings.{excludes}
 use Rattle.cr_lawful.proofs.law.CLawLaw.rule.Goals as goal
 
 pub returns-clause-lawful : goal.returns-clause-lawful

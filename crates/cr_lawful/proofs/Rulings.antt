@@ -29,11 +29,11 @@ use Rattle.cr_lawful.specs.Lawful.IsReason.{of_tokens, of_unit, of_names}
 
 -- the tokens have a first fault
 faulty : (file : List ℕ) (f : TokenFault) (r : Ruling) → FirstTokenFault file f → r ≡ ruling.Unlawful (reason_of file f) → Rules file r
-faulty file f r first is = subst (Rules file) (sym is) (of_tokens (record { fault = f; first = first; is = refl }))
+faulty file f r found is = subst (Rules file) (sym is) (of_tokens (record { fault = f; first = found; is = refl }))
 
 no_cause : (file : List ℕ) (f : TokenFault) → (f ≡ fault.NoMemory → ⊥) → (f ≡ fault.NoMemory) ⊎ FirstTokenFault file f → FirstTokenFault file f
 no_cause file f some (inl none) = absurd (some none)
-no_cause file f some (inr first) = first
+no_cause file f some (inr found) = found
 
 pub token_rules : (file : List ℕ) (f : TokenFault) (r : Ruling) → (f ≡ fault.NoMemory) ⊎ FirstTokenFault file f → RulesOn file f r → Rules file r
 token_rules file fault.NoMemory r cause rules = subst (Rules file) (sym rules) tt
