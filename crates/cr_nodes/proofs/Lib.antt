@@ -3,3 +3,8 @@ pub mod Made
 pub mod Numbers
 pub mod Counts
 pub mod Named
+pub mod Stands
+pub mod Laid
+pub mod Declarators
+pub mod Loops
+pub mod Examples

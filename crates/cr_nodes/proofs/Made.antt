@@ -93,7 +93,7 @@ ended : {i j n : ℕ} {t : Trees} → Rises i j t → j ≤ n → Rises i n t
 ended (no_more le) le' = no_more (omega arith)
 ended (one_more le le' r) le'' = one_more le le' (ended r le'')
 
-qualifiers_forth : {ts : List Lexeme} {limit : Limit} {d i j : ℕ} → AreQualifiers ts limit d i j → i ≤ j
+pub qualifiers_forth : {ts : List Lexeme} {limit : Limit} {d i j : ℕ} → AreQualifiers ts limit d i j → i ≤ j
 qualifiers_forth qualifiers_none = omega arith
 qualifiers_forth (qualifiers_more q w k) = let n = qualifiers_forth k in omega arith
 

@@ -1,8 +1,17 @@
+ghost use Rattle.cr_nodes.specs.Loops.{LoopsHaveClauses};
+ghost use Rattle.cr_nodes.specs.Declarators.{DeclaratorsHaveNames};
+ghost use Rattle.cr_nodes.specs.Laid.{NodesAreLaid};
 ghost use Rattle.cr_nodes.specs.Nodes.{NodesAreMade, PartsRise, PartsAreCounted, NodesHaveNames};
 
 /// A law: each node of a unit is made by the alternative of its kind.
 pub fn nodes_are_made()
     ensures { NodesAreMade }
+{}
+
+/// A law: the parts and the tokens of each node stand as the right side of its kind says. It tells the clauses of a `for`, a tag from a
+/// brace, and of which kinds each part may be.
+pub fn nodes_are_laid()
+    ensures { NodesAreLaid }
 {}
 
 /// A law: the parts of each node stand in its span, one behind the other.
@@ -18,4 +27,14 @@ pub fn parts_are_counted()
 /// A law: the token with a node's own name, where its kind has one, is an identifier.
 pub fn nodes_have_names()
     ensures { NodesHaveNames }
+{}
+
+/// A law: a declarator with a name declares an identifier in its span.
+pub fn declarators_have_names()
+    ensures { DeclaratorsHaveNames }
+{}
+
+/// A law: `loop_clauses` gives the clauses of each `for`, with the tokens that end them, and its last part is its body.
+pub fn loops_have_clauses()
+    ensures { LoopsHaveClauses }
 {}
