@@ -187,11 +187,11 @@ impl Judge for Chance {
     }
 }
 
-// A file of up to six lines by chance, some of which don't tokenise, parse or name what is there, by themselves or at all.
+// A file of up to four lines by chance, some of which don't tokenise, parse or name what is there, by themselves or at all.
 fn random_file(alloc: Global, seed: u64) -> Result<Vec<u8>, AllocError> {
     let mut file = Vec::new(alloc);
     let mut drawn = after(seed);
-    for _ in 0..(drawn >> 33) % 7 {
+    for _ in 0..(drawn >> 33) % 5 {
         drawn = after(drawn);
         let line = match (drawn >> 33) % 20 {
             0..=2 => "int a;\n",
