@@ -14,7 +14,7 @@ use Rattle.cr_pool.specs.declared.job.EpochEnd.{EpochEnd}
 use Rattle.cr_pool.specs.declared.job.EpochEnd.TheVariants as ending
 use Rattle.cr_pool.specs.declared.verdict.Verdict.{Verdict}
 use Rattle.cr_pool.specs.declared.verdict.Verdict.TheVariants.{Unlawful, Yes, No}
-use Rattle.cr_pool.specs.Kept.{AreRight, Kept, IsKept, Keeps}
+use Rattle.cr_pool.specs.Kept.{AreRight, Kept, IsKept, Keeps, KeptAnswer}
 use Rattle.cr_pool.specs.Sizes.{IsSmaller}
 use Rattle.cr_pool.specs.Tally.{Tally, asked_in, tally_at}
 use Rattle.cr_pool.specs.Trials.{AnswerInRun, IsAccepted, IsFailed, IsRejected}
@@ -52,21 +52,15 @@ variant_of e i = variant_at e.offer (e.start + i)
 abbrev pub AnsweredBy : Epoch → Tally → Tally → List ℕ → Answer → Type 0
 AnsweredBy e before now variant answer = AnswerInRun e.asks e.Tells e.name before.calls now.calls variant answer
 
--- a kept verdict gives this answer about a variant
-abbrev pub KeptAnswer : Epoch → List ℕ → Answer → Type 0
-KeptAnswer e variant AnswerYes = Keeps e.kept variant Yes
-KeptAnswer e variant AnswerNo = Keeps e.kept variant No
-KeptAnswer e variant _ = ⊥
-
 -- The answer about a variant, as one worker has it in an epoch: its own judge gave it in a call of the epoch, or it was kept before.
 pub data Known (e : Epoch) (before now : Tally) (variant : List ℕ) (answer : Answer) : Type 0 where
   by_judge : AnsweredBy e before now variant answer → Known e before now variant answer
-  by_kept : KeptAnswer e variant answer → AnswersAsTold e.asks (e.Tells variant) answer → Known e before now variant answer
+  by_kept : KeptAnswer e.kept variant answer → AnswersAsTold e.asks (e.Tells variant) answer → Known e before now variant answer
 
 -- The answer about a variant in an epoch: one of the judges gave it in a call of the epoch, or it was kept before.
 pub data Answered (e : Epoch) (before now : List Tally) (variant : List ℕ) (answer : Answer) : Type 0 where
   given : (worker : ℕ) → worker < length before → AnsweredBy e (tally_at before worker) (tally_at now worker) variant answer → Answered e before now variant answer
-  was_kept : KeptAnswer e variant answer → AnswersAsTold e.asks (e.Tells variant) answer → Answered e before now variant answer
+  was_kept : KeptAnswer e.kept variant answer → AnswersAsTold e.asks (e.Tells variant) answer → Answered e before now variant answer
 
 abbrev pub IsRejectedAt : Epoch → List Tally → List Tally → ℕ → Type 0
 IsRejectedAt e before now i = IsRejected e.Lawful (Answered e before now) e.file (variant_of e i)

@@ -1,6 +1,7 @@
 -- The verdicts that a bench keeps.
 use Rattle.std.specs.Prelude.{◌≡◌, ◌⊎◌, ◌<◌, ℕ, Bool, List, [], ◌∷◌, map}
 use Rattle.std.specs.declared.vec.Vec.{Vec}
+use Rattle.cr_outside.specs.declared.judge.Answer.{Answer}
 use Rattle.cr_outside.specs.declared.judge.Answer.TheVariants.{Yes as AnswerYes, No as AnswerNo}
 use Rattle.cr_outside.specs.Question.{AnswersAsTold}
 use Rattle.cr_pool.specs.declared.verdict.Verdict.{Verdict}
@@ -25,6 +26,12 @@ IsKept (k ∷ ks) file = (k.file ≡ file) ⊎ IsKept ks file
 abbrev pub Keeps : List Kept → List ℕ → Verdict → Type 0
 Keeps [] file verdict = ⊥
 Keeps (k ∷ ks) file verdict = ((k.file ≡ file) × (k.verdict ≡ verdict)) ⊎ Keeps ks file verdict
+
+-- a kept verdict gives this answer about a file
+abbrev pub KeptAnswer : List Kept → List ℕ → Answer → Type 0
+KeptAnswer kept file AnswerYes = Keeps kept file Yes
+KeptAnswer kept file AnswerNo = Keeps kept file No
+KeptAnswer kept file _ = ⊥
 
 -- A verdict is right by a law and a question: Unlawful is said of a file that isn't lawful; Yes and No of one that is, and where
 -- the answer is told, it is that one.
