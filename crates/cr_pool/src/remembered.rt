@@ -82,11 +82,13 @@ pub fn remember<P: Passes, L: Law, Q: Question, J>(
 /// How many of an epoch's first positions decided its end: those up to the first hit, without it where its trial failed.
 pub fn decided(len: u64, first: First) -> u64
     requires { (at : ℕ) (kind : HitKind) → first ≡ First.At at kind → at < len }
-    ensures { result ≡ decided_at len first }
+    ensures is { result ≡ decided_at len first }
+    ensures few { result ≤ len }
 {
     match first {
         First::None => len,
         First::At(at, HitKind::Yes) => at + 1,
-        First::At(at, HitKind::Failed | HitKind::Starved) => at,
+        First::At(at, HitKind::Failed) => at,
+        First::At(at, HitKind::Starved) => at,
     }
 }

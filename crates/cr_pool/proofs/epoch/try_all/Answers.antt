@@ -91,7 +91,7 @@ returns-clause-judges g c =
     (subst (λ js. IsJudged g.J.Judge (e (judges_in c.seat.new.workers)) (judges_in c.seat.new.workers) js) (sym left) it)
 
 pub run-requires-clause-ready : goal.run-requires-clause-ready
-run-requires-clause-ready g c = λ k d below.
+run-requires-clause-ready g c = λ a b. λ k d below.
     let judges = same_judges c.clear.new.workers c.seat.new.workers c.seat.auto.workers c.seat.ensures.judges ∙ same_judges c.args.workers.now c.clear.new.workers c.clear.auto.workers c.clear.ensures.judges in
     let one_key : HaveOneKey g.J.Judge.key (judges_in c.seat.new.workers) = subst (HaveOneKey g.J.Judge.key) (sym judges) c.requires.one_key in
     let e : Says → Epoch = λ says. epoch_of g.P.Passes g.L.Law g.Q.Question c.args.job.now says c.args.verdicts.now in
@@ -136,7 +136,7 @@ returns-clause-remembers g c =
     let it = remembered g.P.Passes g.L.Law g.Q.Question g.J.Judge c.args.job.now c.in-Ok.opened.0 c.args.verdicts.now c.seat.new.workers c.run.new.workers c.gather.new.workers c.run.auto.workers (c.gather.auto.workers ∙ c.run.auto.workers) one_key c.run.ensures taken sum sums c.decided.result kept c.remember.ensures in
     let within : (at : ℕ) (kind : HitKind) → c.close-first.result ≡ firsts.At at kind → at < c.args.job.now.len = λ at kind is. decided-requires g c at kind is in
     let no_more = decided_no_more (e seated) c.gather.new.workers c.close-first.result end within c.end_of.ensures.end in
-    let among = remembers_among (e seated) (tallies_of g.J.Judge seated) (tallies_of g.J.Judge now) c.decided.result (decided_by (e seated) end) (omega (arith, no_more, c.decided.ensures)) kept it in
+    let among = remembers_among (e seated) (tallies_of g.J.Judge seated) (tallies_of g.J.Judge now) c.decided.result (decided_by (e seated) end) (omega (arith, no_more, c.decided.ensures.is)) kept it in
     subst (λ js. Remembers (e js) (tallies_of g.J.Judge js) (tallies_of g.J.Judge (judges_in c.end_of.new.workers)) (decided_by (e js) end) kept) judges
     (subst (λ js. Remembers (e seated) (tallies_of g.J.Judge seated) (tallies_of g.J.Judge js) (decided_by (e seated) end) kept) (sym left) among)
 

@@ -55,7 +55,7 @@ returns-clause-judges g c =
     (subst (λ s. IsJudged g.J.Judge (e s) both (new ++ judges_in back)) first it))
 
 pub try_all-requires-clause-right : goal.try_all-requires-clause-right
-try_all-requires-clause-right g c =
+try_all-requires-clause-right g c = λ a b.
     let front = c.split_at_mut-crew.result.0.now in
     let back = c.split_at_mut-crew.result.1.now in
     let whole : c.args.workers.now ≡ front ++ back = search rules in

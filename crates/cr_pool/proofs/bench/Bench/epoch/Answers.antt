@@ -10,7 +10,7 @@ use Rattle.cr_pool.proofs.Remembering.{made_so, right_still}
 use Rattle.cr_pool.proofs.bench.Bench.epoch.Goals as goal
 
 pub try_by_some-requires-clause-right : goal.try_by_some-requires-clause-right
-try_by_some-requires-clause-right g c =
+try_by_some-requires-clause-right g c = λ a b.
     let e : Benched g.row.J.Denot → Epoch = λ b. epoch_on g.P.Passes g.L.Law g.Q.Question g.J.Judge c.args.job.now b in
     let bench : List (Worker g.row.J.Denot) → Benched g.row.J.Denot = λ ws. record { judges = judges_in ws; kept = c.self.inside.verdicts } in
     subst (λ (ws : List (Worker g.row.J.Denot)). BeginsRight (e (bench ws))) (sym c.deref_mut.ensures.value)
