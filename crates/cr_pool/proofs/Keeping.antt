@@ -1,11 +1,11 @@
 -- A cache of verdicts as the list of what it keeps.
-use Rattle.std.proofs.Common.{◌≡◌, ◌<◌, ◌⊎◌, inl, inr, ℕ, zero, suc, Bool, true, false, cond, List, [], ◌∷◌, Contains, length, slice_index_or, Option, Some, None, refl, sym, ap, subst, ◌∙◌, arith}
+use Rattle.std.proofs.Common.{◌≡◌, ◌<◌, ◌⊎◌, inl, inr, ℕ, zero, suc, Bool, true, false, cond, List, [], ◌∷◌, Contains, length, slice_index_or, Option, Some, None, Result, Ok, Err, OnOk, OnErr, refl, sym, ap, subst, ◌∙◌, arith}
 use Rattle.std.specs.Map.{lookup}
 use Rattle.std.specs.Str.{bytes_eq}
 use Rattle.std.specs.declared.vec.Vec.{Vec}
 use Rattle.std.proofs.lemmas.Bool.{true≢false}
 use Rattle.std.proofs.lemmas.Slice.Eq.{bytes_eq-Decides}
-use Rattle.lru.specs.LruCache.{LruCache, put_entries}
+use Rattle.lru.specs.LruCache.{LruCache, lru_cache, put_entries}
 use Rattle.lru.proofs.CallerLemmas.{Contains-put_entries, IsPut}
 use Rattle.lru.proofs.Splits.{Contains-head, Contains-tail}
 use Rattle.cr_pool.specs.declared.verdict.Verdict.{Verdict}
@@ -65,3 +65,10 @@ module _ {A : Type 0} where
     keeps_put file v kept =
         let it = pair_of (put_entries same_key c key w) file v kept in
         by_put it.0 file v it.2 it.3 (Contains-put_entries same_key c key w it.0 it.1)
+
+    -- so it is after a put that may have failed
+    pub after_put : {T E : Type 0} (r : Result T E) (new : LruCache (Vec ℕ A) Verdict) (file : List ℕ) → key.items ≡ file → OnOk r (new ≡ lru_cache (put_entries same_key c key w) c.cap) → OnErr r (new ≡ c)
+        → (other : List ℕ) (v : Verdict) → Keeps (kept_in new.entries) other v → Keeps (kept_in c.entries) other v ⊎ ((other ≡ file) × (v ≡ w))
+    after_put (Ok x) new file is put same other v kept =
+        subst (λ f. Keeps (kept_in c.entries) other v ⊎ ((other ≡ f) × (v ≡ w))) is (keeps_put other v (subst (λ n. Keeps (kept_in n.entries) other v) put kept))
+    after_put (Err e) new file is put same other v kept = inl (subst (λ n. Keeps (kept_in n.entries) other v) same kept)

@@ -105,19 +105,19 @@ verdict_earlier e before middle now file verdict.No on so = (so.0, known_earlier
 pub notes_none : (e : Epoch) (before now : Tally) (len : ℕ) (notes : List (Option Verdict)) → IsBlank len notes → NotesAreSo e before now notes
 notes_none e before now len notes blank i v is = let none = blank.1 i in cc
 
-note_at : (e : Epoch) (before middle now : Tally) (notes : List (Option Verdict)) (at : ℕ) (note : Option Verdict) → GoesOn before.calls middle.calls → GoesOn middle.calls now.calls
-    → NotesAreSo e before middle notes → NoteIsSo e middle now at note → (i : ℕ) (v : Verdict)
-    → (slice_index_or (set notes at note) i None ≡ slice_index_or notes i None) ⊎ ((i ≡ at) × (slice_index_or (set notes at note) i None ≡ note))
-    → slice_index_or (set notes at note) i None ≡ Some v → VerdictIsSo e before now (variant_of e i) v
-note_at e before middle now notes at note earlier later old new i v (inl same) is = verdict_later e before middle now (variant_of e i) v later (old i v (sym same ∙ is))
-note_at e before middle now notes at note earlier later old new i v (inr here) is =
+note_at : (e : Epoch) (before middle now : Tally) (notes : List (Option Verdict)) (at : ℕ) (said : Option Verdict) → GoesOn before.calls middle.calls → GoesOn middle.calls now.calls
+    → NotesAreSo e before middle notes → NoteIsSo e middle now at said → (i : ℕ) (v : Verdict)
+    → (slice_index_or (set notes at said) i None ≡ slice_index_or notes i None) ⊎ ((i ≡ at) × (slice_index_or (set notes at said) i None ≡ said))
+    → slice_index_or (set notes at said) i None ≡ Some v → VerdictIsSo e before now (variant_of e i) v
+note_at e before middle now notes at said earlier later old new i v (inl same) is = verdict_later e before middle now (variant_of e i) v later (old i v (sym same ∙ is))
+note_at e before middle now notes at said earlier later old new i v (inr here) is =
     subst (λ j. VerdictIsSo e before now (variant_of e j) v) (sym here.0) (verdict_earlier e before middle now (variant_of e at) v earlier (new v (sym here.1 ∙ is)))
 
 -- The next position was tried, and what it came to is noted.
-pub notes_more : (e : Epoch) (before middle now : Tally) (notes : List (Option Verdict)) (at : ℕ) (note : Option Verdict) → GoesOn before.calls middle.calls → GoesOn middle.calls now.calls
-    → NotesAreSo e before middle notes → NoteIsSo e middle now at note → NotesAreSo e before now (set notes at note)
-notes_more e before middle now notes at note earlier later old new i v is =
-    note_at e before middle now notes at note earlier later old new i v (set_cases notes at i note None) is
+pub notes_more : (e : Epoch) (before middle now : Tally) (notes : List (Option Verdict)) (at : ℕ) (said : Option Verdict) → GoesOn before.calls middle.calls → GoesOn middle.calls now.calls
+    → NotesAreSo e before middle notes → NoteIsSo e middle now at said → NotesAreSo e before now (set notes at said)
+notes_more e before middle now notes at said earlier later old new i v is =
+    note_at e before middle now notes at said earlier later old new i v (set_cases notes at i said None) is
 
 pub one_of : (a b : ℕ) → 0 < a + b → (0 < a) ⊎ (0 < b)
 one_of zero b h = inr (omega arith)

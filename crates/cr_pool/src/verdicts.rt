@@ -51,7 +51,6 @@ impl Verdicts {
     }
 
     /// Keeps a verdict on a file, as the one that was used last. It isn't kept where the file is too long or no memory is left.
-    #[tactic(auto, using(crate::proofs::Keeping::keeps_put))]
     pub fn put(&mut self, alloc: Global, file: &[u8], verdict: Verdict)
         ensures { (other : List ℕ) (said : Verdict) → Keeps self.new other said → Keeps self.old other said ⊎ ((other ≡ file.now) × (said ≡ verdict)) }
     {

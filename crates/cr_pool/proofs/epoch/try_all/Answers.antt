@@ -1,4 +1,5 @@
-use Rattle.std.proofs.Common.{◌≡◌, ◌∙◌, ◌+◌, ◌<◌, ◌≤◌, ℕ, List, [], inr, length, slice_index_or, sym, ap, subst, arith}
+use Rattle.std.proofs.Common.{◌≡◌, ◌∙◌, ◌+◌, ◌<◌, ◌≤◌, ℕ, List, [], inr, length, slice_index_or, sym, ap, subst, All, Result, Ok, Err, OnOk, false, arith}
+use Rattle.std.specs.Prelude.{is_err}
 use Rattle.cr_claims.specs.Pass.{held, view_of}
 use Rattle.cr_core.specs.declared.events.First.TheVariants as firsts
 use Rattle.cr_core.specs.declared.marks.HitKind.{HitKind}
@@ -15,6 +16,10 @@ use Rattle.cr_pool.specs.Works.{IsBlank}
 use Rattle.cr_pool.proofs.Crews.{decided_no_more, element, ends, hitter, judged, nothing_judged, nothing_open, remembered, same_judges, says_each}
 use Rattle.cr_pool.proofs.Remembering.{as_before, remembers_among}
 use Rattle.cr_pool.proofs.epoch.try_all.Goals as goal
+
+cleared_all : {T E : Type 0} (r : Result T E) (P : Type 0) → is_err r ≡ false → OnOk r P → P
+cleared_all (Ok x) P not it = it
+cleared_all (Err e) P not it = cc
 
 pub returns-then-is_err-clause-judges : goal.returns-then-is_err-clause-judges
 returns-then-is_err-clause-judges g c =
@@ -33,7 +38,7 @@ gather-requires-clause-rests g c = λ k d below. (c.run.ensures k d (omega (arit
 
 pub close-first-requires-clause-done : goal.close-first-requires-clause-done
 close-first-requires-clause-done g c =
-    let judges = same_judges c.clear.new.workers c.seat.new.workers c.seat.auto.workers c.seat.ensures.judges ∙ same_judges c.args.workers.now c.clear.new.workers c.clear.auto.workers c.clear.ensures in
+    let judges = same_judges c.clear.new.workers c.seat.new.workers c.seat.auto.workers c.seat.ensures.judges ∙ same_judges c.args.workers.now c.clear.new.workers c.clear.auto.workers c.clear.ensures.judges in
     let one_key : HaveOneKey g.J.Judge.key (judges_in c.seat.new.workers) = subst (HaveOneKey g.J.Judge.key) (sym judges) c.requires.one_key in
     let taken : (k : ℕ) (d : Worker g.row.J.Denot) → k < length c.seat.new.workers → IsSameButPass (slice_index_or c.run.new.workers k d) (slice_index_or c.gather.new.workers k d) =
     λ k d below. c.gather.ensures.same k d (omega (arith, below, c.run.auto.workers)) in
@@ -46,7 +51,7 @@ close-first-requires-clause-done g c =
 
 pub end_of-requires-clause-hit : goal.end_of-requires-clause-hit
 end_of-requires-clause-hit g c = λ at kind is.
-    let judges = same_judges c.clear.new.workers c.seat.new.workers c.seat.auto.workers c.seat.ensures.judges ∙ same_judges c.args.workers.now c.clear.new.workers c.clear.auto.workers c.clear.ensures in
+    let judges = same_judges c.clear.new.workers c.seat.new.workers c.seat.auto.workers c.seat.ensures.judges ∙ same_judges c.args.workers.now c.clear.new.workers c.clear.auto.workers c.clear.ensures.judges in
     let one_key : HaveOneKey g.J.Judge.key (judges_in c.seat.new.workers) = subst (HaveOneKey g.J.Judge.key) (sym judges) c.requires.one_key in
     let taken : (k : ℕ) (d : Worker g.row.J.Denot) → k < length c.seat.new.workers → IsSameButPass (slice_index_or c.run.new.workers k d) (slice_index_or c.gather.new.workers k d) =
     λ k d below. c.gather.ensures.same k d (omega (arith, below, c.run.auto.workers)) in
@@ -59,7 +64,7 @@ end_of-requires-clause-hit g c = λ at kind is.
 
 pub returns-clause-end : goal.returns-clause-end
 returns-clause-end g c =
-    let judges = same_judges c.clear.new.workers c.seat.new.workers c.seat.auto.workers c.seat.ensures.judges ∙ same_judges c.args.workers.now c.clear.new.workers c.clear.auto.workers c.clear.ensures in
+    let judges = same_judges c.clear.new.workers c.seat.new.workers c.seat.auto.workers c.seat.ensures.judges ∙ same_judges c.args.workers.now c.clear.new.workers c.clear.auto.workers c.clear.ensures.judges in
     let one_key : HaveOneKey g.J.Judge.key (judges_in c.seat.new.workers) = subst (HaveOneKey g.J.Judge.key) (sym judges) c.requires.one_key in
     let taken : (k : ℕ) (d : Worker g.row.J.Denot) → k < length c.seat.new.workers → IsSameButPass (slice_index_or c.run.new.workers k d) (slice_index_or c.gather.new.workers k d) =
     λ k d below. c.gather.ensures.same k d (omega (arith, below, c.run.auto.workers)) in
@@ -76,7 +81,7 @@ returns-clause-end g c =
 
 pub returns-clause-judges : goal.returns-clause-judges
 returns-clause-judges g c =
-    let judges = same_judges c.clear.new.workers c.seat.new.workers c.seat.auto.workers c.seat.ensures.judges ∙ same_judges c.args.workers.now c.clear.new.workers c.clear.auto.workers c.clear.ensures in
+    let judges = same_judges c.clear.new.workers c.seat.new.workers c.seat.auto.workers c.seat.ensures.judges ∙ same_judges c.args.workers.now c.clear.new.workers c.clear.auto.workers c.clear.ensures.judges in
     let one_key : HaveOneKey g.J.Judge.key (judges_in c.seat.new.workers) = subst (HaveOneKey g.J.Judge.key) (sym judges) c.requires.one_key in
     let taken : (k : ℕ) (d : Worker g.row.J.Denot) → k < length c.seat.new.workers → IsSameButPass (slice_index_or c.run.new.workers k d) (slice_index_or c.gather.new.workers k d) =
     λ k d below. c.gather.ensures.same k d (omega (arith, below, c.run.auto.workers)) in
@@ -100,7 +105,7 @@ run-requires-clause-ready g c = λ a b. λ k d below.
     let right = subst (λ js. BeginsRight (e (first_says g.J.Judge.key g.J.Judge.says js))) (sym judges) c.requires.right in
     record {
       pass = c.seat.ensures.fresh k d below;
-      blank = subst (λ notes. IsBlank c.args.job.now.len notes) (ap (λ notes. notes.items) (sym (c.seat.ensures.notes k d cleared))) (c.clear.ensures.blank cc k d cleared);
+      blank = subst (λ notes. IsBlank c.args.job.now.len notes) (ap (λ notes. notes.items) (sym (c.seat.ensures.notes k d cleared))) (cleared_all c.clear.result (All (λ (w : Worker g.row.J.Denot). IsBlank c.args.job.now.len w.notes.items) c.clear.new.workers) (sym c.is_err.ensures.value ∙ c.if-is_err.false) c.clear.ensures.blank k d cleared);
       right = subst (λ says. BeginsRight (e says)) (sym (says_each g.J.Judge c.seat.new.workers k d one_key below)) right;
     }
 
@@ -134,7 +139,8 @@ returns-clause-remembers g c =
     let seated = judges_in c.seat.new.workers in
     let now = judges_in c.run.new.workers in
     let it = remembered g.P.Passes g.L.Law g.Q.Question g.J.Judge c.args.job.now c.in-Ok.opened.0 c.args.verdicts.now c.seat.new.workers c.run.new.workers c.gather.new.workers c.run.auto.workers (c.gather.auto.workers ∙ c.run.auto.workers) one_key c.run.ensures taken sum sums c.decided.result kept c.remember.ensures in
-    let within : (at : ℕ) (kind : HitKind) → c.close-first.result ≡ firsts.At at kind → at < c.args.job.now.len = λ at kind is. decided-requires g c at kind is in
+    let within : (at : ℕ) (kind : HitKind) → c.close-first.result ≡ firsts.At at kind → at < c.args.job.now.len = λ at kind is.
+    (hitter g.P.Passes g.L.Law g.Q.Question g.J.Judge c.args.job.now c.in-Ok.opened.0 c.args.verdicts.now c.seat.new.workers c.run.new.workers c.gather.new.workers c.run.auto.workers (c.gather.auto.workers ∙ c.run.auto.workers) one_key c.run.ensures taken sum sums at kind c.close-first.result first is).0 in
     let no_more = decided_no_more (e seated) c.gather.new.workers c.close-first.result end within c.end_of.ensures.end in
     let among = remembers_among (e seated) (tallies_of g.J.Judge seated) (tallies_of g.J.Judge now) c.decided.result (decided_by (e seated) end) (omega (arith, no_more, c.decided.ensures.is)) kept it in
     subst (λ js. Remembers (e js) (tallies_of g.J.Judge js) (tallies_of g.J.Judge (judges_in c.end_of.new.workers)) (decided_by (e js) end) kept) judges

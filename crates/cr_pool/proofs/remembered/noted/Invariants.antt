@@ -1,4 +1,3 @@
-use Rattle.std.proofs.Common.{Unit}
 use Rattle.cr_pool.proofs.remembered.noted.Given as goal
 
 abbrev pub invariant-loop-i : goal.invariant-loop-i
