@@ -88,9 +88,7 @@ pub fn drive<P: Passes, L: Law, Q: Question, J: Judge>(
     let mut done = Settle::Nothing;
     while let Some(at) = next(claims, job.len, pass, done) {
         let note = &mut notes[at as usize];
-        match try_position(
-            alloc, claims, job, verdicts, at, pass, judge, variant, note,
-        ) {
+        match try_position(alloc, claims, job, verdicts, at, pass, judge, variant, note) {
             Trial::Rejected => done = Settle::No,
             Trial::Stopped => {
                 claims.leave(pass, Settle::Skipped);

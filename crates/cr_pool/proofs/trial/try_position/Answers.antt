@@ -68,9 +68,9 @@ returns-in-Good-clause-noted g c =
     let variant = c.make.new.variant.items in
     let good = c.in-Good.ensures.good refl in
     let it = note_by_answer e c.args.at variant (made g c) c.requires.within c.args.job.now.size good.0 c.requires.sized
-        (subst (λ v. IsGood e.Lawful v c.args.job.now.size good.0) c.deref.ensures.value good.1) (subst (λ v. IsKept c.args.verdicts.now v → ⊥) c.deref.ensures.value (c.in-Good.ensures.unkept refl)) before now c.ask-answer.result
-        (λ uses. subst (λ v. AsksOnce before.calls now.calls e.name v c.ask-answer.result) c.deref-in-Good.ensures.value (c.ask-answer.ensures.once uses))
-        (subst (λ v. AnswersAsTold e.asks (e.Tells v) c.ask-answer.result) c.deref-in-Good.ensures.value c.ask-answer.ensures.told) in
+    (subst (λ v. IsGood e.Lawful v c.args.job.now.size good.0) c.deref.ensures.value good.1) (subst (λ v. IsKept c.args.verdicts.now v → ⊥) c.deref.ensures.value (c.in-Good.ensures.unkept refl)) before now c.ask-answer.result
+    (λ uses. subst (λ v. AsksOnce before.calls now.calls e.name v c.ask-answer.result) c.deref-in-Good.ensures.value (c.ask-answer.ensures.once uses))
+    (subst (λ v. AnswersAsTold e.asks (e.Tells v) c.ask-answer.result) c.deref-in-Good.ensures.value c.ask-answer.ensures.told) in
     subst (λ note. NoteIsSo e before now c.args.at note) (sym c.said_by.ensures) it
 
 pub returns-in-Large-clause-rejected : goal.returns-in-Large-clause-rejected

@@ -11,5 +11,5 @@ returns-in-Ok c = λ other said kept.
       | in-Ok-1 w ↦ w.self-is
     ] in
     let it = after_put c.self.inside.cache c.in-Ok.key c.args.verdict c.put.result c.put.new.self c.args.file.now (c.in-Ok.ensures.items_if_clones_equal (λ x y same. same)) c.put.ensures.entries c.put.ensures.err other said
-        (subst (λ ks. Keeps ks other said) closed kept) in
+    (subst (λ ks. Keeps ks other said) closed kept) in
     subst (λ ks. Keeps ks other said ⊎ ((other ≡ c.args.file.now) × (said ≡ c.args.verdict))) c.self.view_is it
