@@ -1,5 +1,5 @@
 -- The workers of an epoch, from what each did to what all did.
-use Rattle.std.proofs.Common.{◌≡◌, ℕ, ◌+◌, ◌<◌, ◌≤◌, List, [], ◌∷◌, Option, Some, None, length, map, slice_index_or, refl, sym, ap, subst, ◌∙◌, arith}
+use Rattle.std.proofs.Common.{◌≡◌, ◌⊎◌, inl, inr, ℕ, ◌+◌, ◌<◌, ◌≤◌, List, [], ◌∷◌, Option, Some, None, length, map, slice_index_or, refl, sym, ap, subst, ◌∙◌, arith}
 use Prim.Native.Nat.{zero, suc}
 use Rattle.std.proofs.lemmas.List.{get_or-map, length-map}
 use Rattle.cr_claims.specs.declared.seats.Claims.{Claims}
@@ -21,12 +21,14 @@ use Rattle.cr_pool.specs.declared.job.EpochEnd.{EpochEnd}
 use Rattle.cr_pool.specs.declared.job.EpochEnd.TheVariants as ending
 use Rattle.cr_pool.specs.declared.job.Job.{Job}
 use Rattle.cr_pool.specs.Crew.{HaveSameJudges, IsSameButPass, IsWorked, judges_in, row_of, rows_of}
-use Rattle.cr_pool.specs.Endings.{IsEnd, IsEndAt, IsHitter}
-use Rattle.cr_pool.specs.Epoch.{AsksAt, AsksOnce, EndsBy, Epoch, IsFound, times}
+use Rattle.cr_pool.specs.declared.verdict.Verdict.{Verdict}
+use Rattle.cr_pool.specs.Endings.{IsEnd, IsEndAt, IsHitter, IsNoted, TakesNotes, decided_at}
+use Rattle.cr_pool.specs.Epoch.{AsksAt, AsksOnce, EndsBy, Epoch, IsFound, Remembers, WasFound, decided_by, times, variant_of}
 use Rattle.cr_pool.specs.Jobs.{IsJudged, epoch_of}
+use Rattle.cr_pool.specs.Kept.{Kept, Keeps}
 use Rattle.cr_pool.specs.Tally.{HaveOneKey, Tally, first_says, no_tally, tallies_of, tally_at, tally_of}
-use Rattle.cr_pool.specs.Works.{HitIsSo, Works}
-use Rattle.cr_pool.proofs.Ends.{asks_once, fault, found, hit_by, rejected_below, row_at, within}
+use Rattle.cr_pool.specs.Works.{HitIsSo, NotesAreSo, Works}
+use Rattle.cr_pool.proofs.Ends.{asks_once, fault, found, hit_by, rejected_below, row_at, was_found, within}
 use Rattle.cr_pool.proofs.Tries.{asks_none}
 
 -- an element by its place, whatever stands behind the end
@@ -53,6 +55,13 @@ same_says : {J K : Type 0} (key : J → K) (says : K → Says) (judges : List J)
 same_says key says [] k d one below = absurd (omega arith)
 same_says key says (j ∷ js) k d one below = ap says (one k 0 d below (omega arith))
 
+-- so does each worker's
+pub says_each : {J K : Type 0} (judge : JudgeGhosts J K) (workers : List (Worker J)) (k : ℕ) (d : Worker J) → HaveOneKey judge.key (judges_in workers) → k < length workers
+    → judge.says (judge.key (slice_index_or workers k d).judge) ≡ first_says judge.key judge.says (judges_in workers)
+says_each {J} judge workers k d one_key h =
+    let there = get_or-map (λ (w : Worker J). w.judge) workers k d d.judge h in
+    ap (λ (j : J). judge.says (judge.key j)) (sym there) ∙ same_says judge.key judge.says (judges_in workers) k d.judge one_key (omega (arith, length-map workers (λ (w : Worker J). w.judge)))
+
 nowhere : (f : Row → ℕ) (rows : List Row) → ((k : ℕ) → k < length rows → f (row_at rows k) ≡ 0) → total f rows ≡ 0
 nowhere f [] each = refl
 nowhere f (row ∷ rows) each =
@@ -64,6 +73,9 @@ nothing = []
 
 abbrev hit_at : {J : Type 0} → List (Worker J) → ℕ → Option (ℕ × HitKind)
 hit_at {J} workers k = slice_index_or (map (λ (w : Worker J). w.hit) workers) k None
+
+abbrev notes_at : {J : Type 0} → List (Worker J) → ℕ → List (Option Verdict)
+notes_at {J} workers k = slice_index_or (map (λ (w : Worker J). w.notes.items) workers) k []
 
 abbrev buffer_at : {J : Type 0} → List (Worker J) → ℕ → List ℕ
 buffer_at {J} workers k = slice_index_or (map (λ (w : Worker J). w.variant.items) workers) k []
@@ -87,15 +99,15 @@ asks_nobody e tallies = record {
 }
 
 -- All workers, before and after they ran, and with their passes taken.
-module _ {P I L Q J K : Type 0} (passes : PassesGhosts P I) (law : LawGhosts L) (question : QuestionGhosts Q) (judge : JudgeGhosts J K) (job : Job P L Q I) (claims : Claims)
+module _ {P I L Q J K : Type 0} (passes : PassesGhosts P I) (law : LawGhosts L) (question : QuestionGhosts Q) (judge : JudgeGhosts J K) (job : Job P L Q I) (claims : Claims) (kept : List Kept)
     (old new after : List (Worker J)) (count : length new ≡ length old) (count_after : length after ≡ length old) (one_key : HaveOneKey judge.key (judges_in old))
-    (worked : (k : ℕ) (d : Worker J) → k < length old → IsWorked passes law question judge job claims (slice_index_or old k d) (slice_index_or new k d))
+    (worked : (k : ℕ) (d : Worker J) → k < length old → IsWorked passes law question judge job claims kept (slice_index_or old k d) (slice_index_or new k d))
     (taken : (k : ℕ) (d : Worker J) → k < length old → IsSameButPass (slice_index_or new k d) (slice_index_or after k d)) where
   abbrev says_all : Says
   says_all = first_says judge.key judge.says (judges_in old)
 
   abbrev epoch : Epoch
-  epoch = epoch_of passes law question job says_all []
+  epoch = epoch_of passes law question job says_all kept
 
   abbrev before : List Tally
   before = tallies_of judge (judges_in old)
@@ -118,9 +130,7 @@ module _ {P I L Q J K : Type 0} (passes : PassesGhosts P I) (law : LawGhosts L) 
       sym (tally_of_judge judge (judges_in new) k d.judge (omega (arith, length-map new (λ (w : Worker J). w.judge))) ∙ ap (tally_of judge) there)
 
   says_it : (k : ℕ) (d : Worker J) → k < length old → judge.says (judge.key (slice_index_or old k d).judge) ≡ says_all
-  says_it k d h =
-      let there = get_or-map (λ (w : Worker J). w.judge) old k d d.judge h in
-      ap (λ (j : J). judge.says (judge.key j)) (sym there) ∙ same_says judge.key judge.says (judges_in old) k d.judge one_key (omega (arith, length-map old (λ (w : Worker J). w.judge)))
+  says_it k d h = says_each judge old k d one_key h
 
   hit_there : (k : ℕ) (d : Worker J) → k < length old → (slice_index_or new k d).hit ≡ hit_at after k
   hit_there k d h = sym (get_or-map (λ (w : Worker J). w.hit) after k d None (omega arith) ∙ (taken k d h).hit)
@@ -136,7 +146,7 @@ module _ {P I L Q J K : Type 0} (passes : PassesGhosts P I) (law : LawGhosts L) 
       let h' = below_old k h in
       let d = (element old k h').0 in
       let it = (worked k d h').works in
-      let e : Says → Epoch = λ says. epoch_of passes law question job says [] in
+      let e : Says → Epoch = λ says. epoch_of passes law question job says kept in
       let t = tally_at before k in
       let n = tally_at now k in
       let v = (slice_index_or old k d).judge in
@@ -152,7 +162,7 @@ module _ {P I L Q J K : Type 0} (passes : PassesGhosts P I) (law : LawGhosts L) 
       let h' = below_old k h in
       let d = (element old k h').0 in
       let it = (worked k d h').hit in
-      let e : Says → Epoch = λ says. epoch_of passes law question job says [] in
+      let e : Says → Epoch = λ says. epoch_of passes law question job says kept in
       let t = tally_at before k in
       let n = tally_at now k in
       let v = (slice_index_or old k d).judge in
@@ -162,6 +172,24 @@ module _ {P I L Q J K : Type 0} (passes : PassesGhosts P I) (law : LawGhosts L) 
       (subst (λ m. HitIsSo epoch t m u.variant.items u.hit) (tally_now k d h')
       (subst (λ m. HitIsSo epoch m (tally_of judge u.judge) u.variant.items u.hit) (tally_then k d h')
       (subst (λ s. HitIsSo (e s) (tally_of judge v) (tally_of judge u.judge) u.variant.items u.hit) (says_it k d h') it))))
+
+  notes_there : (k : ℕ) (d : Worker J) → k < length old → (slice_index_or new k d).notes.items ≡ notes_at after k
+  notes_there k d h = sym (get_or-map (λ (w : Worker J). w.notes.items) after k d [] (omega arith) ∙ ap (λ v. v.items) (taken k d h).notes)
+
+  noted_at : (k : ℕ) → k < length before → NotesAreSo epoch (tally_at before k) (tally_at now k) (notes_at after k)
+  noted_at k h =
+      let h' = below_old k h in
+      let d = (element old k h').0 in
+      let it = (worked k d h').notes in
+      let e : Says → Epoch = λ says. epoch_of passes law question job says kept in
+      let t = tally_at before k in
+      let n = tally_at now k in
+      let v = (slice_index_or old k d).judge in
+      let u = slice_index_or new k d in
+      subst (λ notes. NotesAreSo epoch t n notes) (notes_there k d h')
+      (subst (λ m. NotesAreSo epoch t m u.notes.items) (tally_now k d h')
+      (subst (λ m. NotesAreSo epoch m (tally_of judge u.judge) u.notes.items) (tally_then k d h')
+      (subst (λ s. NotesAreSo (e s) (tally_of judge v) (tally_of judge u.judge) u.notes.items) (says_it k d h') it)))
 
   same_count : length now ≡ length before
   same_count = omega (arith, length-map (judges_in old) (tally_of judge), length-map old (λ (w : Worker J). w.judge), length-map (judges_in new) (tally_of judge), length-map new (λ (w : Worker J). w.judge))
@@ -218,6 +246,25 @@ module _ {P I L Q J K : Type 0} (passes : PassesGhosts P I) (law : LawGhosts L) 
     ends first.None ending.NoMemory is it = absurd it
     ends (first.At i kind) end is it = ends_at i kind end is it
 
+    found_there : (file : List ℕ) (said : Verdict) (i : ℕ) → file ≡ variant_of epoch i → IsNoted after i said → WasFound epoch before now file said
+    found_there file said i is it =
+        let d = (element after it.0 it.1.0).0 in
+        let below : it.0 < length before = omega (arith, it.1.0, length-map (judges_in old) (tally_of judge), length-map old (λ (w : Worker J). w.judge)) in
+        let there : notes_at after it.0 ≡ (slice_index_or after it.0 d).notes.items = get_or-map (λ (w : Worker J). w.notes.items) after it.0 d [] it.1.0 in
+        let note = ap (λ (notes : List (Option Verdict)). slice_index_or notes i None) there ∙ it.1.1 d in
+        let so = noted_at it.0 below i said note in
+        subst (λ f. WasFound epoch before now f said) (sym is)
+        (was_found epoch before now (rows_of new) (hit_at after) (buffer_at after) same_count row_count works_at says_at sum sums it.0 below (variant_of epoch i) said so)
+
+    kept_or_found : (n : ℕ) (file : List ℕ) (said : Verdict) → Keeps kept file said ⊎ ((i : ℕ) × (i < n) × (file ≡ variant_of epoch i) × IsNoted after i said)
+        → Keeps kept file said ⊎ ((i : ℕ) × (i < n) × (file ≡ variant_of epoch i) × WasFound epoch before now file said)
+    kept_or_found n file said (inl was) = inl was
+    kept_or_found n file said (inr it) = inr (it.0, it.1, it.2, found_there file said it.0 it.2 it.3)
+
+    -- what is kept of their notes was found in the epoch
+    pub remembered : (n : ℕ) (kept_now : List Kept) → TakesNotes epoch.offer epoch.start n after kept kept_now → Remembers epoch before now n kept_now
+    remembered n kept_now takes file said keeps = kept_or_found n file said (takes file said keeps)
+
     -- no trial is open
     pub nothing_open : (i : ℕ) → sum (marked i Open) ≡ 0
     nothing_open i = omega (arith, sums (marked i Open), nowhere (marked i Open) (rows_of new) (λ k below. (works_at k (omega (arith, row_count))).closed i))
@@ -247,3 +294,27 @@ nothing_judged judge e judges = record {
   later = λ i d below. omega arith;
   silent = λ quiet. refl;
 }
+
+-- the first hit decides no more positions than the end says
+decided_with : {J : Type 0} (e : Epoch) (workers : List (Worker J)) (at : ℕ) (kind : HitKind) (end : EpochEnd) → at < e.len → IsEndAt e.start workers at kind end
+    → decided_at e.len (first.At at kind) ≤ decided_by e end
+decided_with e workers at Yes (ending.NoneOf n) within it = absurd it
+decided_with e workers at Yes (ending.Found position bytes) within it = omega (arith, it.0)
+decided_with e workers at Yes (ending.Fault position worker) within it = absurd it
+decided_with e workers at Yes ending.NoMemory within it = absurd it
+decided_with e workers at Failed (ending.NoneOf n) within it = absurd it
+decided_with e workers at Failed (ending.Found position bytes) within it = absurd it
+decided_with e workers at Failed (ending.Fault position worker) within it = omega (arith, it.0)
+decided_with e workers at Failed ending.NoMemory within it = absurd it
+decided_with e workers at Starved (ending.NoneOf n) within it = absurd it
+decided_with e workers at Starved (ending.Found position bytes) within it = absurd it
+decided_with e workers at Starved (ending.Fault position worker) within it = absurd it
+decided_with e workers at Starved ending.NoMemory within it = omega (arith, within)
+
+pub decided_no_more : {J : Type 0} (e : Epoch) (workers : List (Worker J)) (r : First) (end : EpochEnd) → ((at : ℕ) (kind : HitKind) → r ≡ first.At at kind → at < e.len)
+    → IsEnd e.start e.len workers r end → decided_at e.len r ≤ decided_by e end
+decided_no_more e workers first.None (ending.NoneOf n) within it = omega arith
+decided_no_more e workers first.None (ending.Found position bytes) within it = absurd it
+decided_no_more e workers first.None (ending.Fault position worker) within it = absurd it
+decided_no_more e workers first.None ending.NoMemory within it = absurd it
+decided_no_more e workers (first.At at kind) end within it = decided_with e workers at kind end (within at kind refl) it

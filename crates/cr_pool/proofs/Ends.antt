@@ -7,12 +7,17 @@ use Rattle.cr_core.specs.declared.marks.Mark.TheVariants.{No, Hit}
 use Rattle.cr_core.specs.Row.{Row, marked, placed, under}
 use Rattle.cr_core.specs.Sound.{Sum, total}
 use Rattle.cr_core.specs.State.{AllRejected}
-use Rattle.cr_pool.specs.Epoch.{Epoch, AsksAt, AsksOnce, IsFault, IsFound, IsRejectedAt, RejectedBelow, times}
-use Rattle.cr_pool.specs.Epoch.Answered.{given}
+use Rattle.cr_outside.specs.declared.judge.Answer.{Answer}
+use Rattle.cr_outside.specs.declared.judge.Answer.TheVariants.{Yes as AnswerYes, No as AnswerNo}
+use Rattle.cr_pool.specs.declared.verdict.Verdict.{Verdict}
+use Rattle.cr_pool.specs.declared.verdict.Verdict.TheVariants as verdict
+use Rattle.cr_pool.specs.Epoch.{Answered, Epoch, AsksAt, AsksOnce, IsFault, IsFound, IsRejectedAt, Known, RejectedBelow, WasFound, times, variant_of}
+use Rattle.cr_pool.specs.Epoch.Answered.{given, was_kept}
+use Rattle.cr_pool.specs.Epoch.Known.{by_judge, by_kept}
 use Rattle.cr_pool.specs.Tally.{Tally, asked_in, tally_at}
 use Rattle.cr_pool.specs.Trials.IsRejected.{not_smaller, unlawful, answered_no}
 use Rattle.cr_pool.proofs.Works.{one_of}
-use Rattle.cr_pool.specs.Works.{HitIsSo, HitSays, RejectsAt, Works}
+use Rattle.cr_pool.specs.Works.{HitIsSo, HitSays, RejectsAt, VerdictIsSo, Works}
 
 abbrev pub row_at : List Row → ℕ → Row
 row_at rows k = slice_index_or rows k []
@@ -65,10 +70,20 @@ module _ (e : Epoch) (before now : List Tally) (rows : List Row) (hits : ℕ →
     (works : (k : ℕ) → k < length before → Works e (tally_at before k) (tally_at now k) (hits k) (row_at rows k))
     (says : (k : ℕ) → k < length before → HitIsSo e (tally_at before k) (tally_at now k) (buffers k) (hits k))
     (sum : Sum) (sums : (f : Row → ℕ) → sum f ≡ f [] + total f rows) where
+  answered_by : (k : ℕ) → k < length before → (variant : List ℕ) (answer : Answer) → Known e (tally_at before k) (tally_at now k) variant answer → Answered e before now variant answer
+  answered_by k below variant answer (by_judge it) = given k below it
+  answered_by k below variant answer (by_kept kept told) = was_kept kept told
+
+  -- a worker's verdict was found in the epoch
+  pub was_found : (k : ℕ) → k < length before → (file : List ℕ) (v : Verdict) → VerdictIsSo e (tally_at before k) (tally_at now k) file v → WasFound e before now file v
+  was_found k below file verdict.Unlawful so = so
+  was_found k below file verdict.Yes so = (so.0, answered_by k below file AnswerYes so.1)
+  was_found k below file verdict.No so = (so.0, answered_by k below file AnswerNo so.1)
+
   rejected_by : (k : ℕ) → k < length before → (i : ℕ) → RejectsAt e (tally_at before k) (tally_at now k) i → IsRejectedAt e before now i
   rejected_by k below i (not_smaller large) = not_smaller large
   rejected_by k below i (unlawful bad) = unlawful bad
-  rejected_by k below i (answered_no it) = answered_no (given k below it)
+  rejected_by k below i (answered_no it) = answered_no (answered_by k below (variant_of e i) AnswerNo it)
 
   pub rejected_below : (n : ℕ) → AllRejected sum n → RejectedBelow e before now n
   rejected_below n all i low =
@@ -96,7 +111,7 @@ module _ (e : Epoch) (before now : List Tally) (rows : List Row) (hits : ℕ →
         within = it.0;
         before_it = rejected_below i all;
         is = it.1.0;
-        accepted = record { smaller = it.1.1.smaller; lawful = it.1.1.lawful; answered = given k below it.1.1.answered };
+        accepted = record { smaller = it.1.1.smaller; lawful = it.1.1.lawful; answered = answered_by k below (buffers k) AnswerYes it.1.1.answered };
       }
 
   pub fault : (k i : ℕ) → k < length before → hits k ≡ Some (i, Failed) → AllRejected sum i → IsFault e before now i k

@@ -1,9 +1,11 @@
 pub mod Sizes
 pub mod Runs
+mod Keeping
+mod Sums
 mod Tries
 mod Lists
 mod Works
-mod Sums
 mod Ends
 mod Crews
 mod More
+mod Remembering

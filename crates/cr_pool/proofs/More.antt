@@ -69,7 +69,7 @@ module _ (e : Epoch) (b n r : List Tally) (same : length n ≡ length b) where
       subst (λ t. AnsweredBy e t (tally_at (n ++ r) k) v a) (sym (at_left b r k no_tally below))
       (subst (λ t. AnsweredBy e (tally_at b k) t v a) (sym (at_left n r k no_tally (omega arith))) it)
 
-  answered_more : (v : List ℕ) (a : Answer) → Answered e b n v a → Answered e (b ++ r) (n ++ r) v a
+  pub answered_more : (v : List ℕ) (a : Answer) → Answered e b n v a → Answered e (b ++ r) (n ++ r) v a
   answered_more v a (given k below it) = given k (omega (arith, length-append b r)) (answered_by_more k v a below it)
   answered_more v a (was_kept kept told) = was_kept kept told
 

@@ -8,8 +8,8 @@ use Rattle.cr_tokens.proofs.Wholes.{one_list}
 use Rattle.cr_tokens.proofs.Faults.{list_no_fault}
 use Rattle.cr_outside.specs.declared.judge.Answer.{Answer}
 use Rattle.cr_pool.specs.Sizes.{HasSize, IsSmaller}
-use Rattle.cr_pool.specs.Trials.{IsBad, IsGood, IsRejected}
-use Rattle.cr_pool.specs.Trials.IsRejected.{not_smaller, unlawful}
+use Rattle.cr_pool.specs.Trials.{IsGood, IsLarge, IsRejected}
+use Rattle.cr_pool.specs.Trials.IsRejected.{not_smaller}
 
 pub one_size : (file : List ℕ) (m n : ℕ) → HasSize file m → HasSize file n → m ≡ n
 one_size file m n first second = first.is ∙ ap (size_of file) (one_list file first.tokens second.tokens first.tokenizes second.tokenizes) ∙ sym second.is
@@ -23,9 +23,8 @@ no_size file fault n (inr it) other has = list_no_fault file has.tokens fault ha
 pub good_is_smaller : (Lawful : List ℕ → Type 0) (file variant : List ℕ) (size n : ℕ) → HasSize file size → IsGood Lawful variant size n → IsSmaller variant file
 good_is_smaller Lawful file variant size n is good = record { new_size = n; old_size = size; new_is = good.has; old_is = is; less = good.less }
 
--- What isn't below the file's size, or isn't lawful, is rejected, whatever was answered.
-pub bad_is_rejected : (Lawful : List ℕ → Type 0) (Answers : List ℕ → Answer → Type 0) (file variant : List ℕ) (size : ℕ) → HasSize file size → IsBad Lawful variant size
+-- What isn't below the file's size is rejected, whatever was answered.
+pub large_is_rejected : (Lawful : List ℕ → Type 0) (Answers : List ℕ → Answer → Type 0) (file variant : List ℕ) (size : ℕ) → HasSize file size → IsLarge variant size
     → IsRejected Lawful Answers file variant
-bad_is_rejected Lawful Answers file variant size is (inl large) =
+large_is_rejected Lawful Answers file variant size is large =
     not_smaller (λ smaller. omega (arith, large smaller.new_size smaller.new_is, one_size file smaller.old_size size smaller.old_is is, smaller.less))
-bad_is_rejected Lawful Answers file variant size is (inr not_lawful) = unlawful not_lawful

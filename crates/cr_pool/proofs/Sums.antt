@@ -1,5 +1,5 @@
 -- Lists by their places, and sums over them.
-use Rattle.std.proofs.Common.{◌≡◌, ℕ, ◌+◌, ◌<◌, List, [], ◌∷◌, length, map, set, slice_index_or, take, refl, ap, arith}
+use Rattle.std.proofs.Common.{◌≡◌, ◌⊎◌, inl, inr, ℕ, ◌+◌, ◌<◌, List, [], ◌∷◌, length, map, set, slice_index_or, take, refl, ap, arith}
 use Prim.Native.Nat.{zero, suc}
 use Rattle.std.proofs.lemmas.List.{map_more}
 use Rattle.cr_core.specs.Row.{Row}
@@ -19,6 +19,19 @@ module _ {A : Type 0} where
   set_above (x ∷ xs) i zero y d h = absurd (omega arith)
   set_above (x ∷ xs) zero (suc k) y d h = refl
   set_above (x ∷ xs) (suc i) (suc k) y d h = set_above xs i k y d (omega arith)
+
+  one_on : (x : A) (xs : List A) (i k : ℕ) (y d : A) → ((slice_index_or (set xs i y) k d ≡ slice_index_or xs k d) ⊎ ((k ≡ i) × (slice_index_or (set xs i y) k d ≡ y)))
+      → (slice_index_or (set (x ∷ xs) (suc i) y) (suc k) d ≡ slice_index_or (x ∷ xs) (suc k) d) ⊎ ((suc k ≡ suc i) × (slice_index_or (set (x ∷ xs) (suc i) y) (suc k) d ≡ y))
+  one_on x xs i k y d (inl same) = inl same
+  one_on x xs i k y d (inr here) = inr (ap suc here.0, here.1)
+
+  -- a write changes one place at most
+  pub set_cases : (xs : List A) (i k : ℕ) (y d : A) → (slice_index_or (set xs i y) k d ≡ slice_index_or xs k d) ⊎ ((k ≡ i) × (slice_index_or (set xs i y) k d ≡ y))
+  set_cases [] i k y d = inl refl
+  set_cases (x ∷ xs) zero zero y d = inr (refl, refl)
+  set_cases (x ∷ xs) zero (suc k) y d = inl refl
+  set_cases (x ∷ xs) (suc i) zero y d = inl refl
+  set_cases (x ∷ xs) (suc i) (suc k) y d = one_on x xs i k y d (set_cases xs i k y d)
 
   -- what relates two lists at each place relates them still after a write that it relates
   pub set_each : (R : A → A → Type 0) (xs ys : List A) (i : ℕ) (y d : A) → length ys ≡ length xs → ((k : ℕ) → k < length xs → R (slice_index_or xs k d) (slice_index_or ys k d))

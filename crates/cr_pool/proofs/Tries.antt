@@ -10,14 +10,17 @@ use Rattle.cr_outside.specs.Faults.{Rose}
 use Rattle.cr_outside.specs.Judge.{Call, call_of, with_call}
 use Rattle.cr_outside.specs.Question.{AnswersAsTold, AsksOnce, CountsOnce}
 use Rattle.cr_pool.specs.declared.trial.Trial.TheVariants.{Rejected, Hit}
-use Rattle.cr_pool.specs.Answers.{trial_of}
-use Rattle.cr_pool.specs.Epoch.{Epoch, AnsweredBy, AsksAt, IsAbout, times, variant_of}
-use Rattle.cr_pool.specs.Kept.{IsKept}
+use Rattle.cr_pool.specs.declared.verdict.Verdict.{Verdict}
+use Rattle.cr_pool.specs.declared.verdict.Verdict.TheVariants as verdict
+use Rattle.cr_pool.specs.Answers.{trial_by, trial_of, verdict_of}
+use Rattle.cr_pool.specs.Epoch.{Epoch, AnsweredBy, AsksAt, BeginsRight, IsAbout, Known, times, variant_of}
+use Rattle.cr_pool.specs.Epoch.Known.{by_judge, by_kept}
+use Rattle.cr_pool.specs.Kept.{IsDecided, IsKept, Keeps}
 use Rattle.cr_pool.specs.Sizes.{HasSize}
 use Rattle.cr_pool.specs.Tally.{Tally}
 use Rattle.cr_pool.specs.Trials.{IsFailed, IsGood, IsRejected}
-use Rattle.cr_pool.specs.Trials.IsRejected.{answered_no}
-use Rattle.cr_pool.specs.Works.{Tries, RejectsAt, HitSays}
+use Rattle.cr_pool.specs.Trials.IsRejected.{answered_no, unlawful}
+use Rattle.cr_pool.specs.Works.{Tries, NoteIsSo, RejectsAt, HitSays, VerdictIsSo}
 use Rattle.cr_pool.proofs.Runs.{answered_once, is_so, one_count}
 use Rattle.cr_pool.proofs.Sizes.{good_is_smaller}
 
@@ -97,7 +100,7 @@ module _ (e : Epoch) (i : ℕ) (variant : List ℕ) (is : variant ≡ variant_of
   rejects_by_no came told =
       let no = no_answer answer came in
       let by_no = subst (AnsweredBy e before now variant) no (answered (λ none. cc) told) in
-      subst (λ v. IsRejected e.Lawful (AnsweredBy e before now) e.file v) is (answered_no by_no)
+      subst (λ v. IsRejected e.Lawful (Known e before now) e.file v) is (answered_no (by_judge by_no))
 
   -- It wasn't answered no.
   pub says_by_hit : (a : Answer) → answer ≡ a → (k : HitKind) → trial_of a ≡ Hit k → AnswersAsTold e.asks (e.Tells variant) answer → (e.asks ≡ false → answer ≢ Failed)
@@ -109,7 +112,7 @@ module _ (e : Epoch) (i : ℕ) (variant : List ℕ) (is : variant ≡ variant_of
         record {
           smaller = good_is_smaller e.Lawful e.file variant size n sized good;
           lawful = good.lawful;
-          answered = subst (AnsweredBy e before now variant) eq (answered (λ none. cc) told);
+          answered = by_judge (subst (AnsweredBy e before now variant) eq (answered (λ none. cc) told));
         },
       )
   says_by_hit No eq k came told unfailing rose = cc
@@ -122,3 +125,60 @@ module _ (e : Epoch) (i : ℕ) (variant : List ℕ) (is : variant ≡ variant_of
       } in
       subst (HitSays e before now variant i) same (is_so e.asks (λ quiet. unfailing quiet eq), subst (IsFailed e.Lawful (AnsweredBy e before now) e.file) is it, rose eq)
   says_by_hit NoMemory eq k came told unfailing rose = let same : kind.Starved ≡ k = cc in subst (HitSays e before now variant i) same tt
+
+  -- It was answered so, and that is the verdict.
+  pub says_by_note : (a : Answer) → answer ≡ a → (v : Verdict) → verdict_of a ≡ Some v → AnswersAsTold e.asks (e.Tells variant) answer → VerdictIsSo e before now variant v
+  says_by_note Yes eq v came told =
+      let same : verdict.Yes ≡ v = cc in
+      subst (VerdictIsSo e before now variant) same (good.lawful, by_judge (subst (AnsweredBy e before now variant) eq (answered (λ none. cc) told)))
+  says_by_note No eq v came told =
+      let same : verdict.No ≡ v = cc in
+      subst (VerdictIsSo e before now variant) same (good.lawful, by_judge (subst (AnsweredBy e before now variant) eq (answered (λ none. cc) told)))
+  says_by_note Failed eq v came told = cc
+  says_by_note NoMemory eq v came told = cc
+
+  pub note_by_answer : AnswersAsTold e.asks (e.Tells variant) answer → NoteIsSo e before now i (verdict_of answer)
+  note_by_answer told v came = subst (λ f. VerdictIsSo e before now f v) is (says_by_note answer refl v came told)
+
+-- The verdict is known before anything is asked.
+module _ (e : Epoch) (right : BeginsRight e) (before now : Tally) (i : ℕ) (variant : List ℕ) (is : variant ≡ variant_of e i) where
+  kept_is_so : (v : Verdict) → Keeps e.kept variant v → VerdictIsSo e before now variant v
+  kept_is_so verdict.Unlawful kept = right variant verdict.Unlawful kept
+  kept_is_so verdict.Yes kept = let it = right variant verdict.Yes kept in (it.0, by_kept kept it.1)
+  kept_is_so verdict.No kept = let it = right variant verdict.No kept in (it.0, by_kept kept it.1)
+
+  so_by : (v : Verdict) → Keeps e.kept variant v ⊎ ((v ≡ verdict.Unlawful) × (e.Lawful variant → ⊥)) → VerdictIsSo e before now variant v
+  so_by v (inl kept) = kept_is_so v kept
+  so_by v (inr refused) = subst (VerdictIsSo e before now variant) (sym refused.0) refused.1
+
+  module _ (size : ℕ) (sized : HasSize e.file size) (v : Verdict) (known : IsDecided e.Lawful e.kept variant size v) where
+    rejects_so : (w : Verdict) → VerdictIsSo e before now variant w → trial_by w ≡ Rejected → IsRejected e.Lawful (Known e before now) e.file variant
+    rejects_so verdict.Unlawful so came = unlawful so
+    rejects_so verdict.Yes so came = cc
+    rejects_so verdict.No so came = answered_no so.1
+
+    pub rejects_by_verdict : trial_by v ≡ Rejected → RejectsAt e before now i
+    rejects_by_verdict came = subst (λ f. IsRejected e.Lawful (Known e before now) e.file f) is (rejects_so v (so_by v known.why) came)
+
+    says_so : (w : Verdict) → VerdictIsSo e before now variant w → (k : HitKind) → trial_by w ≡ Hit k → HitSays e before now variant i k
+    says_so verdict.Unlawful so k came = cc
+    says_so verdict.Yes so k came =
+        let same : kind.Yes ≡ k = cc in
+        subst (HitSays e before now variant i) same (
+          is,
+          record {
+            smaller = record { new_size = known.size; old_size = size; new_is = known.has; old_is = sized; less = known.less };
+            lawful = so.0;
+            answered = so.1;
+          },
+        )
+    says_so verdict.No so k came = cc
+
+    pub says_by_verdict : (k : HitKind) → trial_by v ≡ Hit k → HitSays e before now variant i k
+    says_by_verdict k came = says_so v (so_by v known.why) k came
+
+    pub note_by_verdict : NoteIsSo e before now i (Some v)
+    note_by_verdict w came = let same : v ≡ w = cc in subst (λ f. VerdictIsSo e before now f w) is (subst (VerdictIsSo e before now variant) same (so_by v known.why))
+
+pub nothing_noted : (e : Epoch) (before now : Tally) (i : ℕ) → NoteIsSo e before now i None
+nothing_noted e before now i v came = cc

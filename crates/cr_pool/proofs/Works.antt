@@ -1,5 +1,5 @@
 -- What a worker has done, one position further.
-use Rattle.std.proofs.Common.{◌≡◌, ◌≢◌, ◌⊎◌, inl, inr, ℕ, ◌+◌, ◌-◌, ◌<◌, ◌≤◌, List, [], ◌∷◌, ◌++◌, Option, Some, None, refl, ap, subst, ◌∙◌, arith, append_assoc}
+use Rattle.std.proofs.Common.{◌≡◌, ◌≢◌, ◌⊎◌, inl, inr, ℕ, ◌+◌, ◌-◌, ◌<◌, ◌≤◌, List, [], ◌∷◌, ◌++◌, Option, Some, None, length, set, slice_index_or, refl, sym, ap, subst, ◌∙◌, arith, append_assoc}
 use Prim.Native.Nat.{zero, suc}
 use Rattle.cr_core.specs.declared.marks.HitKind.{HitKind}
 use Rattle.cr_core.specs.declared.marks.HitKind.TheVariants.{Yes, Failed, Starved}
@@ -8,14 +8,19 @@ use Rattle.cr_core.specs.declared.marks.Mark.TheVariants.{Open, No, Hit, Skipped
 use Rattle.cr_core.specs.declared.marks.Entry.{Entry}
 use Rattle.cr_core.specs.Row.{Row, apart, kind_no, mark_no, marked, under}
 use Rattle.cr_core.proofs.Rows.{placed-append, marked-append, settled_no}
+use Rattle.cr_outside.specs.declared.judge.Answer.{Answer}
 use Rattle.cr_outside.specs.declared.judge.Answer.TheVariants.{Yes as AnswerYes, No as AnswerNo, Failed as AnswerFailed}
 use Rattle.cr_outside.specs.Judge.{Call}
-use Rattle.cr_pool.specs.Epoch.{Epoch, AreAbout, AsksAt, times, variant_of}
+use Rattle.cr_pool.specs.declared.verdict.Verdict.{Verdict}
+use Rattle.cr_pool.specs.declared.verdict.Verdict.TheVariants as verdict
+use Rattle.cr_pool.specs.Epoch.{Epoch, AreAbout, AsksAt, Known, times, variant_of}
+use Rattle.cr_pool.specs.Epoch.Known.{by_judge, by_kept}
 use Rattle.cr_pool.specs.Tally.{Tally}
 use Rattle.cr_pool.specs.Trials.{GoesOn}
 use Rattle.cr_pool.specs.Trials.IsRejected.{not_smaller, unlawful, answered_no}
-use Rattle.cr_pool.specs.Works.{Works, Tries, RejectsAt, HitSays}
+use Rattle.cr_pool.specs.Works.{Works, Tries, IsBlank, NoteIsSo, NotesAreSo, RejectsAt, HitSays, VerdictIsSo}
 use Rattle.cr_pool.proofs.Runs.{answer_in_run-later, answer_in_run-earlier}
+use Rattle.cr_pool.proofs.Sums.{set_cases}
 use Rattle.cr_pool.proofs.Tries.{asks_none}
 
 abbrev entry : ℕ → Mark → Entry
@@ -45,15 +50,24 @@ asks_more e a b (Some list) middle now first second =
     let next : AsksAt e b (Some (list ++ first.0)) now = subst (λ m. AsksAt e b m now) first.1 second in
     (first.0 ++ next.0, next.1 ∙ ap Some (append_assoc list first.0 next.0), are_about-append e a b first.0 next.0 first.2 next.2)
 
+-- An answer stays known, and one known from a later moment on is known from an earlier one on.
+known_later : (e : Epoch) (before middle now : Tally) (variant : List ℕ) (answer : Answer) → GoesOn middle.calls now.calls → Known e before middle variant answer → Known e before now variant answer
+known_later e before middle now variant answer on (by_judge it) = by_judge (answer_in_run-later e.asks e.Tells e.name before.calls middle.calls now.calls variant answer it on)
+known_later e before middle now variant answer on (by_kept kept told) = by_kept kept told
+
+known_earlier : (e : Epoch) (before middle now : Tally) (variant : List ℕ) (answer : Answer) → GoesOn before.calls middle.calls → Known e middle now variant answer → Known e before now variant answer
+known_earlier e before middle now variant answer on (by_judge it) = by_judge (answer_in_run-earlier e.asks e.Tells e.name before.calls middle.calls now.calls variant answer on it)
+known_earlier e before middle now variant answer on (by_kept kept told) = by_kept kept told
+
 rejects_later : (e : Epoch) (before middle now : Tally) (i : ℕ) → GoesOn middle.calls now.calls → RejectsAt e before middle i → RejectsAt e before now i
 rejects_later e before middle now i on (not_smaller large) = not_smaller large
 rejects_later e before middle now i on (unlawful bad) = unlawful bad
-rejects_later e before middle now i on (answered_no it) = answered_no (answer_in_run-later e.asks e.Tells e.name before.calls middle.calls now.calls (variant_of e i) AnswerNo it on)
+rejects_later e before middle now i on (answered_no it) = answered_no (known_later e before middle now (variant_of e i) AnswerNo on it)
 
 rejects_earlier : (e : Epoch) (before middle now : Tally) (i : ℕ) → GoesOn before.calls middle.calls → RejectsAt e middle now i → RejectsAt e before now i
 rejects_earlier e before middle now i on (not_smaller large) = not_smaller large
 rejects_earlier e before middle now i on (unlawful bad) = unlawful bad
-rejects_earlier e before middle now i on (answered_no it) = answered_no (answer_in_run-earlier e.asks e.Tells e.name before.calls middle.calls now.calls (variant_of e i) AnswerNo on it)
+rejects_earlier e before middle now i on (answered_no it) = answered_no (known_earlier e before middle now (variant_of e i) AnswerNo on it)
 
 -- What a hit says is so from an earlier moment on.
 pub says_earlier : (e : Epoch) (before middle now : Tally) (buffer : List ℕ) (i : ℕ) (k : HitKind) → GoesOn before.calls middle.calls → before.faults ≤ middle.faults
@@ -63,7 +77,7 @@ says_earlier e before middle now buffer i Yes on later says = (
   record {
     smaller = says.1.smaller;
     lawful = says.1.lawful;
-    answered = answer_in_run-earlier e.asks e.Tells e.name before.calls middle.calls now.calls buffer AnswerYes on says.1.answered;
+    answered = known_earlier e before middle now buffer AnswerYes on says.1.answered;
   },
 )
 says_earlier e before middle now buffer i Failed on later says = (
@@ -76,6 +90,34 @@ says_earlier e before middle now buffer i Failed on later says = (
   omega (arith, says.2),
 )
 says_earlier e before middle now buffer i Starved on later says = tt
+
+verdict_later : (e : Epoch) (before middle now : Tally) (file : List ℕ) (v : Verdict) → GoesOn middle.calls now.calls → VerdictIsSo e before middle file v → VerdictIsSo e before now file v
+verdict_later e before middle now file verdict.Unlawful on so = so
+verdict_later e before middle now file verdict.Yes on so = (so.0, known_later e before middle now file AnswerYes on so.1)
+verdict_later e before middle now file verdict.No on so = (so.0, known_later e before middle now file AnswerNo on so.1)
+
+verdict_earlier : (e : Epoch) (before middle now : Tally) (file : List ℕ) (v : Verdict) → GoesOn before.calls middle.calls → VerdictIsSo e middle now file v → VerdictIsSo e before now file v
+verdict_earlier e before middle now file verdict.Unlawful on so = so
+verdict_earlier e before middle now file verdict.Yes on so = (so.0, known_earlier e before middle now file AnswerYes on so.1)
+verdict_earlier e before middle now file verdict.No on so = (so.0, known_earlier e before middle now file AnswerNo on so.1)
+
+-- Nothing is noted.
+pub notes_none : (e : Epoch) (before now : Tally) (len : ℕ) (notes : List (Option Verdict)) → IsBlank len notes → NotesAreSo e before now notes
+notes_none e before now len notes blank i v is = let none = blank.1 i in cc
+
+note_at : (e : Epoch) (before middle now : Tally) (notes : List (Option Verdict)) (at : ℕ) (said : Option Verdict) → GoesOn before.calls middle.calls → GoesOn middle.calls now.calls
+    → NotesAreSo e before middle notes → NoteIsSo e middle now at said → (i : ℕ) (v : Verdict)
+    → (slice_index_or (set notes at said) i None ≡ slice_index_or notes i None) ⊎ ((i ≡ at) × (slice_index_or (set notes at said) i None ≡ said))
+    → slice_index_or (set notes at said) i None ≡ Some v → VerdictIsSo e before now (variant_of e i) v
+note_at e before middle now notes at said earlier later old new i v (inl same) is = verdict_later e before middle now (variant_of e i) v later (old i v (sym same ∙ is))
+note_at e before middle now notes at said earlier later old new i v (inr here) is =
+    subst (λ j. VerdictIsSo e before now (variant_of e j) v) (sym here.0) (verdict_earlier e before middle now (variant_of e at) v earlier (new v (sym here.1 ∙ is)))
+
+-- The next position was tried, and what it came to is noted.
+pub notes_more : (e : Epoch) (before middle now : Tally) (notes : List (Option Verdict)) (at : ℕ) (said : Option Verdict) → GoesOn before.calls middle.calls → GoesOn middle.calls now.calls
+    → NotesAreSo e before middle notes → NoteIsSo e middle now at said → NotesAreSo e before now (set notes at said)
+notes_more e before middle now notes at said earlier later old new i v is =
+    note_at e before middle now notes at said earlier later old new i v (set_cases notes at i said None) is
 
 pub one_of : (a b : ℕ) → 0 < a + b → (0 < a) ⊎ (0 < b)
 one_of zero b h = inr (omega arith)

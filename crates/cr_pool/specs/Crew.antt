@@ -12,9 +12,11 @@ use Rattle.cr_outside.specs.declared.judge.Judge.{Ghosts as JudgeGhosts}
 use Rattle.cr_outside.specs.declared.question.Question.{Ghosts as QuestionGhosts}
 use Rattle.cr_pool.specs.declared.crew.Worker.{Worker}
 use Rattle.cr_pool.specs.declared.job.Job.{Job}
+use Rattle.cr_pool.specs.Epoch.{BeginsRight}
 use Rattle.cr_pool.specs.Jobs.{trying}
+use Rattle.cr_pool.specs.Kept.{Kept}
 use Rattle.cr_pool.specs.Tally.{tally_of}
-use Rattle.cr_pool.specs.Works.{Works, HitIsSo}
+use Rattle.cr_pool.specs.Works.{Works, HitIsSo, IsBlank, NotesAreSo}
 
 -- a pass of these claims that has done nothing yet
 abbrev pub IsFresh : Claims → Pass → Type 0
@@ -56,16 +58,29 @@ pub record IsSameButPass {J : Type 0} (old new : Worker J) : Type 0 where
   pub judge : new.judge ≡ old.judge
   pub hit : new.hit ≡ old.hit
   pub variant : new.variant ≡ old.variant
+  pub notes : new.notes ≡ old.notes
 
 -- each worker has its judge still
 abbrev pub HaveSameJudges : {J : Type 0} → List (Worker J) → List (Worker J) → Type 0
 HaveSameJudges {J} old new = (k : ℕ) (d : Worker J) → k < length old → (slice_index_or new k d).judge ≡ (slice_index_or old k d).judge
 
+-- each worker has its notes still
+abbrev pub HaveSameNotes : {J : Type 0} → List (Worker J) → List (Worker J) → Type 0
+HaveSameNotes {J} old new = (k : ℕ) (d : Worker J) → k < length old → (slice_index_or new k d).notes ≡ (slice_index_or old k d).notes
+
+-- A worker may begin: its pass is fresh, nothing is noted, and the kept verdicts are right by what its judge says.
+pub record IsReady {P I L Q J K : Type 0} (passes : PassesGhosts P I) (law : LawGhosts L) (question : QuestionGhosts Q) (judge : JudgeGhosts J K) (job : Job P L Q I) (claims : Claims)
+    (kept : List Kept) (w : Worker J) : Type 0 where
+  pub pass : IsSomeAnd w.pass (IsFresh claims)
+  pub blank : IsBlank job.len w.notes.items
+  pub right : BeginsRight (trying passes law question judge job w.judge kept)
+
 -- A worker has done its part.
 pub record IsWorked {P I L Q J K : Type 0} (passes : PassesGhosts P I) (law : LawGhosts L) (question : QuestionGhosts Q) (judge : JudgeGhosts J K) (job : Job P L Q I) (claims : Claims)
-    (old new : Worker J) : Type 0 where
+    (kept : List Kept) (old new : Worker J) : Type 0 where
   pub rests : IsSomeAnd new.pass (Rests claims)
-  pub works : Works (trying passes law question judge job old.judge) (tally_of judge old.judge) (tally_of judge new.judge) new.hit (row_of new.pass)
-  pub hit : HitIsSo (trying passes law question judge job old.judge) (tally_of judge old.judge) (tally_of judge new.judge) new.variant.items new.hit
+  pub works : Works (trying passes law question judge job old.judge kept) (tally_of judge old.judge) (tally_of judge new.judge) new.hit (row_of new.pass)
+  pub hit : HitIsSo (trying passes law question judge job old.judge kept) (tally_of judge old.judge) (tally_of judge new.judge) new.variant.items new.hit
+  pub notes : NotesAreSo (trying passes law question judge job old.judge kept) (tally_of judge old.judge) (tally_of judge new.judge) new.notes.items
   pub key : judge.key new.judge ≡ judge.key old.judge
   pub silent : question.asks job.question.now ≡ false → new.judge ≡ old.judge

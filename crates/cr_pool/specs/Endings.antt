@@ -1,12 +1,16 @@
--- How an epoch ends, by its first hit and the worker that hit it.
-use Rattle.std.specs.Prelude.{◌≡◌, ◌<◌, ◌+◌, ℕ, List, Some, length, slice_index_or}
+-- How an epoch ends, by its first hit and the worker that hit it, and what is kept of the workers' notes.
+use Rattle.std.specs.Prelude.{◌≡◌, ◌⊎◌, ◌<◌, ◌+◌, ℕ, List, Option, None, Some, length, slice_index_or}
 use Rattle.cr_core.specs.declared.events.First.{First}
 use Rattle.cr_core.specs.declared.events.First.TheVariants as first
 use Rattle.cr_core.specs.declared.marks.HitKind.{HitKind}
 use Rattle.cr_core.specs.declared.marks.HitKind.TheVariants.{Yes, Failed, Starved}
+use Rattle.cr_cursor.specs.Variants.{Offer}
 use Rattle.cr_pool.specs.declared.crew.Worker.{Worker}
 use Rattle.cr_pool.specs.declared.job.EpochEnd.{EpochEnd}
 use Rattle.cr_pool.specs.declared.job.EpochEnd.TheVariants as ending
+use Rattle.cr_pool.specs.declared.verdict.Verdict.{Verdict}
+use Rattle.cr_pool.specs.Epoch.{variant_at}
+use Rattle.cr_pool.specs.Kept.{Kept, Keeps}
 
 -- the worker of this number has this hit
 abbrev pub IsHitter : {J : Type 0} → List (Worker J) → ℕ → HitKind → ℕ → Type 0
@@ -24,3 +28,23 @@ abbrev pub IsEnd : {J : Type 0} → ℕ → ℕ → List (Worker J) → First �
 IsEnd start len workers first.None (ending.NoneOf n) = n ≡ len
 IsEnd start len workers first.None end = ⊥
 IsEnd start len workers (first.At at kind) end = IsEndAt start workers at kind end
+
+-- how many positions of an epoch of this length its first hit decides, without the hit where its trial failed
+abbrev pub decided_at : ℕ → First → ℕ
+decided_at len first.None = len
+decided_at len (first.At at Yes) = at + 1
+decided_at len (first.At at Failed) = at
+decided_at len (first.At at Starved) = at
+
+-- the worker of this number has noted this verdict of a position
+abbrev pub HasNoted : {J : Type 0} → List (Worker J) → ℕ → ℕ → Verdict → Type 0
+HasNoted {J} workers worker at said = (worker < length workers) × ((d : Worker J) → slice_index_or (slice_index_or workers worker d).notes.items at None ≡ Some said)
+
+-- some worker has
+abbrev pub IsNoted : {J : Type 0} → List (Worker J) → ℕ → Verdict → Type 0
+IsNoted workers at said = (worker : ℕ) × HasNoted workers worker at said
+
+-- Each verdict that is kept now was kept before, or is noted of one of the first n positions from `start` on, on that position's variant.
+abbrev pub TakesNotes : {J : Type 0} → Offer → ℕ → ℕ → List (Worker J) → List Kept → List Kept → Type 0
+TakesNotes offer start n workers old new = (file : List ℕ) (said : Verdict) → Keeps new file said
+    → Keeps old file said ⊎ ((i : ℕ) × (i < n) × (file ≡ variant_at offer (start + i)) × IsNoted workers i said)

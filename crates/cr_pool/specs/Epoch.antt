@@ -1,5 +1,5 @@
 -- An epoch: which positions are tried, how it ends, and what the judges are asked.
-use Rattle.std.specs.Prelude.{◌≡◌, ℕ, ◌+◌, ◌-◌, ◌<◌, ◌≤◌, Bool, true, List, [], ◌∷◌, ◌++◌, length, Option, Some, None, slice_index_or}
+use Rattle.std.specs.Prelude.{◌≡◌, ◌⊎◌, ℕ, ◌+◌, ◌-◌, ◌<◌, ◌≤◌, Bool, true, List, [], ◌∷◌, ◌++◌, length, Option, Some, None, slice_index_or}
 use Rattle.std.specs.List.{slice_get}
 use Rattle.cr_cursor.specs.declared.passes.Cursor.{Cursor}
 use Rattle.cr_cursor.specs.Variants.{Offer, cursors}
@@ -12,8 +12,9 @@ use Rattle.cr_outside.specs.Judge.{Call}
 use Rattle.cr_outside.specs.Question.{AnswersAsTold}
 use Rattle.cr_pool.specs.declared.job.EpochEnd.{EpochEnd}
 use Rattle.cr_pool.specs.declared.job.EpochEnd.TheVariants as ending
-use Rattle.cr_pool.specs.Kept.{Kept, IsKept, Keeps}
-use Rattle.cr_pool.specs.Kept.Verdict.{Yes, No}
+use Rattle.cr_pool.specs.declared.verdict.Verdict.{Verdict}
+use Rattle.cr_pool.specs.declared.verdict.Verdict.TheVariants.{Unlawful, Yes, No}
+use Rattle.cr_pool.specs.Kept.{AreRight, Kept, IsKept, Keeps, KeptAnswer}
 use Rattle.cr_pool.specs.Sizes.{IsSmaller}
 use Rattle.cr_pool.specs.Tally.{Tally, asked_in, tally_at}
 use Rattle.cr_pool.specs.Trials.{AnswerInRun, IsAccepted, IsFailed, IsRejected}
@@ -51,16 +52,15 @@ variant_of e i = variant_at e.offer (e.start + i)
 abbrev pub AnsweredBy : Epoch → Tally → Tally → List ℕ → Answer → Type 0
 AnsweredBy e before now variant answer = AnswerInRun e.asks e.Tells e.name before.calls now.calls variant answer
 
--- a kept verdict gives this answer about a variant
-abbrev pub KeptAnswer : Epoch → List ℕ → Answer → Type 0
-KeptAnswer e variant AnswerYes = Keeps e.kept variant Yes
-KeptAnswer e variant AnswerNo = Keeps e.kept variant No
-KeptAnswer e variant _ = ⊥
+-- The answer about a variant, as one worker has it in an epoch: its own judge gave it in a call of the epoch, or it was kept before.
+pub data Known (e : Epoch) (before now : Tally) (variant : List ℕ) (answer : Answer) : Type 0 where
+  by_judge : AnsweredBy e before now variant answer → Known e before now variant answer
+  by_kept : KeptAnswer e.kept variant answer → AnswersAsTold e.asks (e.Tells variant) answer → Known e before now variant answer
 
 -- The answer about a variant in an epoch: one of the judges gave it in a call of the epoch, or it was kept before.
 pub data Answered (e : Epoch) (before now : List Tally) (variant : List ℕ) (answer : Answer) : Type 0 where
   given : (worker : ℕ) → worker < length before → AnsweredBy e (tally_at before worker) (tally_at now worker) variant answer → Answered e before now variant answer
-  was_kept : KeptAnswer e variant answer → AnswersAsTold e.asks (e.Tells variant) answer → Answered e before now variant answer
+  was_kept : KeptAnswer e.kept variant answer → AnswersAsTold e.asks (e.Tells variant) answer → Answered e before now variant answer
 
 abbrev pub IsRejectedAt : Epoch → List Tally → List Tally → ℕ → Type 0
 IsRejectedAt e before now i = IsRejected e.Lawful (Answered e before now) e.file (variant_of e i)
@@ -126,6 +126,28 @@ pub record AsksOnce (e : Epoch) (before now : List Tally) : Type 0 where
   pub calls : (worker : ℕ) → worker < length before → AsksAt e (slice_index_or positions worker []) (tally_at before worker).calls (tally_at now worker).calls
   pub once : (i : ℕ) → total (times i) positions ≤ 1
   pub few : asked_in now ≤ asked_in before + e.len
+
+-- each verdict that was kept before an epoch is right
+abbrev pub BeginsRight : Epoch → Type 0
+BeginsRight e = AreRight e.Lawful e.asks e.Tells e.kept
+
+-- how many of an epoch's first positions its end was decided by: those up to the first one that wasn't rejected, without it where its trial failed
+abbrev pub decided_by : Epoch → EpochEnd → ℕ
+decided_by e (ending.NoneOf n) = e.len
+decided_by e (ending.Found position bytes) = position + 1 - e.start
+decided_by e (ending.Fault position worker) = position - e.start
+decided_by e ending.NoMemory = e.len
+
+-- the verdict on a file was found in an epoch
+abbrev pub WasFound : Epoch → List Tally → List Tally → List ℕ → Verdict → Type 0
+WasFound e before now file Unlawful = e.Lawful file → ⊥
+WasFound e before now file Yes = e.Lawful file × Answered e before now file AnswerYes
+WasFound e before now file No = e.Lawful file × Answered e before now file AnswerNo
+
+-- Each verdict that is kept after an epoch was kept before it, or was found in it on the variant of one of so many first positions.
+abbrev pub Remembers : Epoch → List Tally → List Tally → ℕ → List Kept → Type 0
+Remembers e before now n kept = (file : List ℕ) (verdict : Verdict) → Keeps kept file verdict
+    → Keeps e.kept file verdict ⊎ ((i : ℕ) × (i < n) × (file ≡ variant_of e i) × WasFound e before now file verdict)
 
 -- Each verdict Yes or No that is kept after an epoch was kept before it, or a judge gave it in the epoch.
 abbrev pub KeepsWhatWasMade : Epoch → List Tally → List Tally → List Kept → Type 0

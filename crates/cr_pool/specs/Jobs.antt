@@ -1,5 +1,5 @@
 -- The epoch of a job.
-use Rattle.std.specs.Prelude.{◌≡◌, ℕ, ◌+◌, ◌^◌, ◌<◌, ◌≤◌, false, List, [], length, slice_index_or}
+use Rattle.std.specs.Prelude.{◌≡◌, ℕ, ◌+◌, ◌^◌, ◌<◌, ◌≤◌, false, List, length, slice_index_or}
 use Rattle.cr_cursor.specs.declared.law.Law.{Ghosts as LawGhosts}
 use Rattle.cr_cursor.specs.declared.passes.Passes.{Ghosts as PassesGhosts}
 use Rattle.cr_cursor.specs.Variants.{Offer, cursors}
@@ -34,9 +34,9 @@ epoch_of passes law question job says kept = record {
   kept = kept;
 }
 
--- the same with this judge and nothing kept
-abbrev pub trying : {P I L Q J K : Type 0} → PassesGhosts P I → LawGhosts L → QuestionGhosts Q → JudgeGhosts J K → Job P L Q I → J → Epoch
-trying passes law question judge job j = epoch_of passes law question job (judge.says (judge.key j)) []
+-- the same with this judge
+abbrev pub trying : {P I L Q J K : Type 0} → PassesGhosts P I → LawGhosts L → QuestionGhosts Q → JudgeGhosts J K → Job P L Q I → J → List Kept → Epoch
+trying passes law question judge job j kept = epoch_of passes law question job (judge.says (judge.key j)) kept
 
 -- What an epoch does to the judges: each has its key still, and what it is asked is bounded.
 pub record IsJudged {J K : Type 0} (judge : JudgeGhosts J K) (e : Epoch) (old new : List J) : Type 0 where

@@ -1,17 +1,21 @@
 -- The verdicts that a bench keeps.
-use Rattle.std.specs.Prelude.{◌≡◌, ◌⊎◌, ℕ, Bool, List, [], ◌∷◌}
+use Rattle.std.specs.Prelude.{◌≡◌, ◌⊎◌, ◌<◌, ℕ, Bool, List, [], ◌∷◌, map}
+use Rattle.std.specs.declared.vec.Vec.{Vec}
+use Rattle.cr_outside.specs.declared.judge.Answer.{Answer}
 use Rattle.cr_outside.specs.declared.judge.Answer.TheVariants.{Yes as AnswerYes, No as AnswerNo}
 use Rattle.cr_outside.specs.Question.{AnswersAsTold}
-
-pub data Verdict : Type 0 where
-  Unlawful : Verdict
-  Yes : Verdict
-  No : Verdict
+use Rattle.cr_pool.specs.declared.verdict.Verdict.{Verdict}
+use Rattle.cr_pool.specs.declared.verdict.Verdict.TheVariants.{Unlawful, Yes, No}
+use Rattle.cr_pool.specs.Sizes.{HasSize}
 
 -- a file with the verdict on it
 pub record Kept : Type 0 where
   pub file : List ℕ
   pub verdict : Verdict
+
+-- those of a list of pairs
+abbrev pub kept_in : {A : Type 0} → List (Vec ℕ A × Verdict) → List Kept
+kept_in {A} pairs = map (λ (pair : Vec ℕ A × Verdict). record { file = pair.0.items; verdict = pair.1 }) pairs
 
 -- the file has a kept verdict
 abbrev pub IsKept : List Kept → List ℕ → Type 0
@@ -23,6 +27,12 @@ abbrev pub Keeps : List Kept → List ℕ → Verdict → Type 0
 Keeps [] file verdict = ⊥
 Keeps (k ∷ ks) file verdict = ((k.file ≡ file) × (k.verdict ≡ verdict)) ⊎ Keeps ks file verdict
 
+-- a kept verdict gives this answer about a file
+abbrev pub KeptAnswer : List Kept → List ℕ → Answer → Type 0
+KeptAnswer kept file AnswerYes = Keeps kept file Yes
+KeptAnswer kept file AnswerNo = Keeps kept file No
+KeptAnswer kept file _ = ⊥
+
 -- A verdict is right by a law and a question: Unlawful is said of a file that isn't lawful; Yes and No of one that is, and where
 -- the answer is told, it is that one.
 abbrev pub IsRight : (List ℕ → Type 0) → Bool → (List ℕ → Bool → Type 0) → List ℕ → Verdict → Type 0
@@ -33,3 +43,10 @@ IsRight Lawful asks Tells file No = Lawful file × AnswersAsTold asks (Tells fil
 -- each kept verdict is right
 abbrev pub AreRight : (List ℕ → Type 0) → Bool → (List ℕ → Bool → Type 0) → List Kept → Type 0
 AreRight Lawful asks Tells kept = (file : List ℕ) (verdict : Verdict) → Keeps kept file verdict → IsRight Lawful asks Tells file verdict
+
+-- The verdict on a variant below a bound is known before anything is asked about it: it is kept, or the law refuses the variant.
+pub record IsDecided (Lawful : List ℕ → Type 0) (kept : List Kept) (variant : List ℕ) (bound : ℕ) (verdict : Verdict) : Type 0 where
+  pub size : ℕ
+  pub has : HasSize variant size
+  pub less : size < bound
+  pub why : Keeps kept variant verdict ⊎ ((verdict ≡ Unlawful) × (Lawful variant → ⊥))

@@ -1,5 +1,5 @@
 -- When a variant is accepted, when its trial is rejected, and how an answer is known.
-use Rattle.std.specs.Prelude.{◌≡◌, ◌⊎◌, ℕ, ◌<◌, ◌≤◌, Bool, true, false, List, ◌∷◌, ◌++◌, Option, Some, None}
+use Rattle.std.specs.Prelude.{◌≡◌, ℕ, ◌<◌, ◌≤◌, Bool, true, false, List, ◌∷◌, ◌++◌, Option, Some, None}
 use Rattle.cr_outside.specs.declared.judge.Answer.{Answer}
 use Rattle.cr_outside.specs.declared.judge.Answer.TheVariants.{Yes, No, Failed}
 use Rattle.cr_outside.specs.Judge.{Call, call_of}
@@ -52,6 +52,6 @@ pub record IsGood (Lawful : List ℕ → Type 0) (variant : List ℕ) (bound siz
   pub less : size < bound
   pub lawful : Lawful variant
 
--- The variant isn't below the bound, or isn't lawful.
-abbrev pub IsBad : (List ℕ → Type 0) → List ℕ → ℕ → Type 0
-IsBad Lawful variant bound = ((n : ℕ) → HasSize variant n → bound ≤ n) ⊎ (Lawful variant → ⊥)
+-- The variant isn't below the bound.
+abbrev pub IsLarge : List ℕ → ℕ → Type 0
+IsLarge variant bound = (n : ℕ) → HasSize variant n → bound ≤ n

@@ -1,5 +1,5 @@
 -- What one worker does in an epoch: its own list of entries is its trials.
-use Rattle.std.specs.Prelude.{◌≡◌, ℕ, ◌+◌, ◌-◌, ◌<◌, ◌≤◌, true, List, [], ◌∷◌, Option, Some, None}
+use Rattle.std.specs.Prelude.{◌≡◌, ℕ, ◌+◌, ◌-◌, ◌<◌, ◌≤◌, true, List, [], ◌∷◌, Option, Some, None, length, slice_index_or}
 use Rattle.cr_claims.specs.declared.seats.Pass.{Pass}
 use Rattle.cr_claims.specs.Pass.{view_of}
 use Rattle.cr_core.specs.declared.marks.HitKind.{HitKind}
@@ -7,17 +7,20 @@ use Rattle.cr_core.specs.declared.marks.HitKind.TheVariants.{Yes, Failed, Starve
 use Rattle.cr_core.specs.declared.marks.Mark.TheVariants.{Open, No, Hit}
 use Rattle.cr_core.specs.Row.{Row, apart, placed, marked, under, last_position}
 use Rattle.cr_outside.specs.Faults.{Rose}
-use Rattle.cr_pool.specs.Epoch.{Epoch, AnsweredBy, AsksAt, variant_of, times}
+use Rattle.cr_outside.specs.declared.judge.Answer.TheVariants.{Yes as AnswerYes, No as AnswerNo}
+use Rattle.cr_pool.specs.declared.verdict.Verdict.{Verdict}
+use Rattle.cr_pool.specs.declared.verdict.Verdict.TheVariants as verdict
+use Rattle.cr_pool.specs.Epoch.{Epoch, AnsweredBy, AsksAt, Known, variant_of, times}
 use Rattle.cr_pool.specs.Tally.{Tally}
 use Rattle.cr_pool.specs.Trials.{IsAccepted, IsFailed, IsRejected}
 
--- the position was rejected, by this judge's answer where it was asked
+-- the position was rejected, by this judge's answer or a kept one where the answer was no
 abbrev pub RejectsAt : Epoch → Tally → Tally → ℕ → Type 0
-RejectsAt e before now i = IsRejected e.Lawful (AnsweredBy e before now) e.file (variant_of e i)
+RejectsAt e before now i = IsRejected e.Lawful (Known e before now) e.file (variant_of e i)
 
 -- what a hit of a kind at a position says, of a judge and a worker's buffer
 abbrev pub HitSays : Epoch → Tally → Tally → List ℕ → ℕ → HitKind → Type 0
-HitSays e before now buffer i Yes = (buffer ≡ variant_of e i) × IsAccepted e.Lawful (AnsweredBy e before now) e.file buffer
+HitSays e before now buffer i Yes = (buffer ≡ variant_of e i) × IsAccepted e.Lawful (Known e before now) e.file buffer
 HitSays e before now buffer i Failed = (e.asks ≡ true) × IsFailed e.Lawful (AnsweredBy e before now) e.file (variant_of e i) × Rose before.faults now.faults
 HitSays e before now buffer i Starved = Unit {0}
 
@@ -25,6 +28,24 @@ HitSays e before now buffer i Starved = Unit {0}
 abbrev pub HitIsSo : Epoch → Tally → Tally → List ℕ → Option (ℕ × HitKind) → Type 0
 HitIsSo e before now buffer None = Unit {0}
 HitIsSo e before now buffer (Some hit) = (hit.0 < e.len) × HitSays e before now buffer hit.0 hit.1
+
+-- what a verdict on a file says, as one worker found it in an epoch
+abbrev pub VerdictIsSo : Epoch → Tally → Tally → List ℕ → Verdict → Type 0
+VerdictIsSo e before now file verdict.Unlawful = e.Lawful file → ⊥
+VerdictIsSo e before now file verdict.Yes = e.Lawful file × Known e before now file AnswerYes
+VerdictIsSo e before now file verdict.No = e.Lawful file × Known e before now file AnswerNo
+
+-- what is noted of a position, if anything, is the verdict on its variant
+abbrev pub NoteIsSo : Epoch → Tally → Tally → ℕ → Option Verdict → Type 0
+NoteIsSo e before now i note = (said : Verdict) → note ≡ Some said → VerdictIsSo e before now (variant_of e i) said
+
+-- the same of a note for each position
+abbrev pub NotesAreSo : Epoch → Tally → Tally → List (Option Verdict) → Type 0
+NotesAreSo e before now notes = (i : ℕ) → NoteIsSo e before now i (slice_index_or notes i None)
+
+-- room for a note of each of so many positions, and nothing noted
+abbrev pub IsBlank : ℕ → List (Option Verdict) → Type 0
+IsBlank len notes = (length notes ≡ len) × ((i : ℕ) → slice_index_or notes i None ≡ None)
 
 -- The trial of one position: its judge is asked about that position at most, and at most once.
 pub record Tries (e : Epoch) (before now : Tally) (i : ℕ) : Type 0 where

@@ -3,7 +3,8 @@ ghost use Rattle.std.specs.Prelude.{◌≡◌, ◌≢◌, ◌<◌, ◌≤◌, If
 ghost use Rattle.cr_outside.specs.Faults.{Rose};
 ghost use Rattle.cr_outside.specs.Question.{AnswersAsTold, AsksOnce, CountsOnce};
 ghost use Rattle.cr_pool.specs.Bench.{IsManned, epoch_on, first_tally};
-ghost use Rattle.cr_pool.specs.Epoch.{EndsBy, KeepsWhatWasMade};
+ghost use Rattle.cr_pool.specs.Crew.{judges_in};
+ghost use Rattle.cr_pool.specs.Epoch.{EndsBy, KeepsWhatWasMade, Remembers, decided_by};
 ghost use Rattle.cr_pool.specs.Jobs.{IsJudged, IsPlaced};
 ghost use Rattle.cr_pool.specs.Kept.{AreRight};
 ghost use Rattle.cr_pool.specs.Sizes.{HasSize};
@@ -12,6 +13,7 @@ ghost use Rattle.cr_pool.specs.Tally.{first_says, tallies_of};
 use crate::crew::Worker;
 use crate::epoch::try_by_some;
 use crate::job::{EpochEnd, Job};
+use crate::verdicts::Verdicts;
 use cr_cursor::{Law, Passes};
 use cr_outside::{Answer, Judge, NoMemory, Question};
 use std::alloc::Global;
@@ -22,17 +24,16 @@ use std::thread::Threads;
 #[derive(Drop)]
 pub struct Bench<J: Judge> {
     workers: Vec<Worker<J>>,
+    verdicts: Verdicts,
 }
 
 impl<J: Judge> Model for Bench<J> {
-    ghost use Rattle.std.specs.Prelude.{[]};
     ghost use Rattle.cr_pool.specs.Bench.{Benched, IsManned};
     ghost use Rattle.cr_pool.specs.Crew.{judges_in};
 
     ghost Value = { Benched J };
 
-    // No verdict is kept so far.
-    ghost view = { λ b. record { judges = judges_in b.workers.items; kept = [] } };
+    ghost view = { λ b. record { judges = judges_in b.workers.items; kept = b.verdicts } };
 
     ghost invariant = { λ b. IsManned J.key (judges_in b.workers.items) };
 }
@@ -44,17 +45,27 @@ impl<J: Judge + Drop> Bench<J> {
         ensures judges { IfOk result (λ bench. bench.judges ≡ judges.items) }
         ensures kept { IfOk result (λ bench. bench.kept ≡ []) }
     {
-        let mut workers = Vec::with_capacity(alloc, judges.len())?;
-        for judge in judges {
-            workers.push(Worker {
-                judge,
-                pass: None,
-                hit: None,
-                variant: Vec::new(alloc),
-            })?;
-        }
-        Ok(Bench { workers })
+        let workers = crew_of(alloc, judges)?;
+        let verdicts = Verdicts::new(alloc)?;
+        Ok(Bench { workers, verdicts })
     }
+}
+
+// The workers of these judges.
+fn crew_of<J: Drop>(alloc: Global, judges: Vec<J>) -> Result<Vec<Worker<J>>, NoMemory>
+    ensures { IfOk result (λ workers. judges_in workers.items ≡ judges.items) }
+{
+    let mut workers = Vec::with_capacity(alloc, judges.len())?;
+    for judge in judges {
+        workers.push(Worker {
+            judge,
+            pass: None,
+            hit: None,
+            variant: Vec::new(alloc),
+            notes: Vec::new(alloc),
+        })?;
+    }
+    Ok(workers)
 }
 
 impl<J: Judge> Bench<J> {
@@ -72,8 +83,7 @@ impl<J: Judge> Bench<J> {
         ensures judges { self.new.judges ≡ self.old.judges }
         ensures kept { self.new.kept ≡ [] }
     {
-        // None is kept so far. The proof reads what the judges are by this.
-        let _ = &self.workers;
+        self.verdicts.forget();
     }
 }
 
@@ -109,6 +119,9 @@ impl<J: Judge + Send> Bench<J> {
     /// Tries the positions of a job by its workers, each in a thread of its own where one can be made, and ends as one worker that
     /// tries them in order would. It wants memory where the words of the claims, the workers' buffers or the first trial that isn't
     /// rejected find none.
+    ///
+    /// A position whose variant has a kept verdict is neither ruled on nor asked about. What the trials of the positions up to the
+    /// first that isn't rejected came to is kept in its turn, Failed and want of memory never.
     pub fn epoch<R: Threads + Sync, P: Passes + Sync, L: Law + Sync, Q: Question + Sync>(
         &mut self,
         rt: &R,
@@ -127,7 +140,9 @@ impl<J: Judge + Send> Bench<J> {
         ensures others { drop job.now.workers self.new.judges ≡ drop job.now.workers self.old.judges }
         ensures kept { AreRight (L.lawful job.now.law.now) (Q.asks job.now.question.now) (Q.tells job.now.question.now (first_says J.key J.says self.old.judges) job.now.name.now) self.new.kept }
         ensures made { KeepsWhatWasMade (epoch_on P.Passes L.Law Q.Question J.Judge job.now self.old) (tallies_of J.Judge self.old.judges) (tallies_of J.Judge self.new.judges) self.new.kept }
+        ensures remembers { Remembers (epoch_on P.Passes L.Law Q.Question J.Judge job.now self.old) (tallies_of J.Judge self.old.judges) (tallies_of J.Judge self.new.judges)
+            (decided_by (epoch_on P.Passes L.Law Q.Question J.Judge job.now self.old) result) self.new.kept }
     {
-        try_by_some(rt, alloc, job, &mut self.workers)
+        try_by_some(rt, alloc, job, &mut self.workers, &mut self.verdicts)
     }
 }

@@ -1,14 +1,17 @@
 // The workers of an epoch: each gets a pass, they run, and their passes are joined again.
-ghost use Rattle.std.specs.Prelude.{◌≡◌, ◌≢◌, ◌<◌, ◌≤◌, ◌+◌, ℕ, true, [], All, IsSomeAnd, length, slice_index_or};
+ghost use Rattle.std.specs.Prelude.{◌≡◌, ◌≢◌, ◌<◌, ◌≤◌, ◌+◌, ℕ, true, [], All, IsSomeAnd, OnOk, length, slice_index_or};
 ghost use Rattle.cr_claims.specs.Pass.{view_of, len_of, IsOf, held};
 ghost use Rattle.cr_claims.specs.View.{first_view, one_split_more};
 ghost use Rattle.cr_core.specs.Row.{Row};
 ghost use Rattle.cr_core.specs.Sound.{total};
 ghost use Rattle.cr_pool.specs.Jobs.{IsPlaced};
 ghost use Rattle.cr_pool.specs.Sizes.{HasSize};
-ghost use Rattle.cr_pool.specs.Crew.{HaveSameJudges, IsFresh, IsSameButPass, IsWorked, Keeps, Rests, TakesIn, row_of, rows_of};
+ghost use Rattle.cr_pool.specs.Crew.{HaveSameJudges, HaveSameNotes, IsFresh, IsReady, IsSameButPass, IsWorked, Keeps, Rests, TakesIn, row_of, rows_of};
+ghost use Rattle.cr_pool.specs.Works.{IsBlank};
 
 use crate::job::Job;
+use crate::verdict::Verdict;
+use crate::verdicts::Verdicts;
 use crate::worker::drive;
 use cr_claims::{Claims, Pass};
 use cr_core::HitKind;
@@ -28,15 +31,28 @@ pub struct Worker<J> {
     pub hit: Option<(u64, HitKind)>,
     /// The variant that was made last.
     pub variant: Vec<u8>,
+    /// The verdicts that it came to in the last epoch, each at its position.
+    pub notes: Vec<Option<Verdict>>,
 }
 
-/// Reserves room for a variant of this many bytes in each worker's buffer.
-pub fn reserve<J>(workers: &mut [Worker<J>], room: usize) -> Result<(), NoMemory>
-    ensures { HaveSameJudges workers.old workers.new }
+fn clear_one<J>(worker: &mut Worker<J>, len: usize, room: usize) -> Result<(), NoMemory>
+    ensures judge { worker.new.judge ≡ worker.old.judge }
+    ensures blank { OnOk result (IsBlank len worker.new.notes.items) }
+{
+    worker.variant.clear();
+    worker.variant.reserve(room)?;
+    worker.notes.clear();
+    worker.notes.resize(len, None)?;
+    Ok(())
+}
+
+/// Makes each worker's buffer and notes ready for an epoch of this many positions, with variants of `room` bytes at most.
+pub fn clear<J>(workers: &mut [Worker<J>], len: usize, room: usize) -> Result<(), NoMemory>
+    ensures judges { HaveSameJudges workers.old workers.new }
+    ensures blank { OnOk result (All (λ w. IsBlank len w.notes.items) workers.new) }
 {
     for worker in workers.iter_mut() {
-        worker.variant.clear();
-        worker.variant.reserve(room)?;
+        clear_one(worker, len, room)?;
     }
     Ok(())
 }
@@ -49,6 +65,7 @@ fn seat_one<J>(claims: &Claims, keeper: &mut Pass, worker: &mut Worker<J>)
     ensures view { view_of keeper.new ≡ one_split_more (view_of keeper.old) }
     ensures fresh { IsSomeAnd worker.new.pass (IsFresh claims.now) }
     ensures judge { worker.new.judge ≡ worker.old.judge }
+    ensures notes { worker.new.notes ≡ worker.old.notes }
 {
     worker.pass = Some(claims.split(keeper));
     worker.hit = None;
@@ -64,6 +81,7 @@ pub fn seat<J>(claims: &Claims, keeper: &mut Pass, workers: &mut [Worker<J>])
     ensures nothing { (f : Row → ℕ) → held (view_of keeper.new) f ≡ f [] }
     ensures fresh { All (λ w. IsSomeAnd w.pass (IsFresh claims.now)) workers.new }
     ensures judges { HaveSameJudges workers.old workers.new }
+    ensures notes { HaveSameNotes workers.old workers.new }
 {
     for worker in workers.iter_mut() {
         seat_one(claims, keeper, worker);
@@ -106,22 +124,25 @@ fn work<P: Passes, L: Law, Q: Question, J: Judge>(
     alloc: Global,
     claims: &Claims,
     job: &Job<P, L, Q>,
+    verdicts: &Verdicts,
     worker: &mut Worker<J>,
 )
     requires placed { IsPlaced P.Passes job.now }
     requires sized { HasSize job.now.file.now job.now.size }
     requires len { job.now.len ≡ len_of claims.now }
-    requires fresh { IsSomeAnd worker.old.pass (IsFresh claims.now) }
-    ensures { IsWorked P.Passes L.Law Q.Question J.Judge job.now claims.now worker.old worker.new }
+    requires ready { IsReady P.Passes L.Law Q.Question J.Judge job.now claims.now verdicts.now worker.old }
+    ensures { IsWorked P.Passes L.Law Q.Question J.Judge job.now claims.now verdicts.now worker.old worker.new }
 {
     if let Some(pass) = &mut worker.pass {
         worker.hit = drive(
             alloc,
             claims,
             job,
+            verdicts,
             pass,
             &mut worker.judge,
             &mut worker.variant,
+            &mut worker.notes,
         );
     }
 }
@@ -132,6 +153,7 @@ pub fn run<R: Threads + Sync, P: Passes + Sync, L: Law + Sync, Q: Question + Syn
     alloc: Global,
     claims: &Claims,
     job: &Job<P, L, Q>,
+    verdicts: &Verdicts,
     workers: &mut [Worker<J>],
 )
 where
@@ -140,14 +162,14 @@ where
     requires sized { HasSize job.now.file.now job.now.size }
     requires len { job.now.len ≡ len_of claims.now }
     requires some { 0 < length workers.old }
-    requires fresh { All (λ w. IsSomeAnd w.pass (IsFresh claims.now)) workers.old }
-    ensures { (k : ℕ) (d : Worker J) → k < length workers.old → IsWorked P.Passes L.Law Q.Question J.Judge job.now claims.now (slice_index_or workers.old k d) (slice_index_or workers.new k d) }
+    requires ready { All (λ w. IsReady P.Passes L.Law Q.Question J.Judge job.now claims.now verdicts.now w) workers.old }
+    ensures { (k : ℕ) (d : Worker J) → k < length workers.old → IsWorked P.Passes L.Law Q.Question J.Judge job.now claims.now verdicts.now (slice_index_or workers.old k d) (slice_index_or workers.new k d) }
 {
     let threads = workers.len();
     thread::for_each_mut(
         rt,
         workers,
         threads,
-        &|_, worker| { work(alloc, claims, job, worker) },
+        &|_, worker| { work(alloc, claims, job, verdicts, worker) },
     );
 }

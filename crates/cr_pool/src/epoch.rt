@@ -1,14 +1,16 @@
 // One epoch on the bench's workers.
-ghost use Rattle.std.specs.Prelude.{◌≡◌, ◌<◌, ◌≤◌, [], drop, length};
+ghost use Rattle.std.specs.Prelude.{◌≡◌, ◌<◌, ◌≤◌, drop, length};
 ghost use Rattle.cr_pool.specs.Crew.{judges_in};
-ghost use Rattle.cr_pool.specs.Epoch.{EndsBy};
+ghost use Rattle.cr_pool.specs.Epoch.{BeginsRight, EndsBy, Remembers, decided_by};
 ghost use Rattle.cr_pool.specs.Jobs.{IsJudged, IsPlaced, epoch_of};
 ghost use Rattle.cr_pool.specs.Sizes.{HasSize};
 ghost use Rattle.cr_pool.specs.Tally.{HaveOneKey, first_says, tallies_of};
 
-use crate::crew::{Worker, gather, reserve, run, seat};
+use crate::crew::{Worker, clear, gather, run, seat};
 use crate::ending::end_of;
 use crate::job::{EpochEnd, Job};
+use crate::remembered::{decided, remember};
+use crate::verdicts::Verdicts;
 use cr_claims::Claims;
 use cr_cursor::{Law, Passes};
 use cr_outside::{Judge, Question};
@@ -22,7 +24,13 @@ pub fn try_all<
     L: Law + Sync,
     Q: Question + Sync,
     J: Judge + Send,
->(rt: &R, alloc: Global, job: &Job<P, L, Q>, workers: &mut [Worker<J>]) -> EpochEnd
+>(
+    rt: &R,
+    alloc: Global,
+    job: &Job<P, L, Q>,
+    workers: &mut [Worker<J>],
+    verdicts: &mut Verdicts,
+) -> EpochEnd
 where
     P::Prep: Sync,
     requires placed { IsPlaced P.Passes job.now }
@@ -31,10 +39,13 @@ where
     requires few { length workers.old ≤ 32 }
     requires short { job.now.len ≤ 4096 }
     requires one_key { HaveOneKey J.key (judges_in workers.old) }
-    ensures end { EndsBy (epoch_of P.Passes L.Law Q.Question job.now (first_says J.key J.says (judges_in workers.old)) []) (tallies_of J.Judge (judges_in workers.old)) (tallies_of J.Judge (judges_in workers.new)) result }
-    ensures judges { IsJudged J.Judge (epoch_of P.Passes L.Law Q.Question job.now (first_says J.key J.says (judges_in workers.old)) []) (judges_in workers.old) (judges_in workers.new) }
+    requires right { BeginsRight (epoch_of P.Passes L.Law Q.Question job.now (first_says J.key J.says (judges_in workers.old)) verdicts.old) }
+    ensures end { EndsBy (epoch_of P.Passes L.Law Q.Question job.now (first_says J.key J.says (judges_in workers.old)) verdicts.old) (tallies_of J.Judge (judges_in workers.old)) (tallies_of J.Judge (judges_in workers.new)) result }
+    ensures judges { IsJudged J.Judge (epoch_of P.Passes L.Law Q.Question job.now (first_says J.key J.says (judges_in workers.old)) verdicts.old) (judges_in workers.old) (judges_in workers.new) }
+    ensures remembers { Remembers (epoch_of P.Passes L.Law Q.Question job.now (first_says J.key J.says (judges_in workers.old)) verdicts.old) (tallies_of J.Judge (judges_in workers.old)) (tallies_of J.Judge (judges_in workers.new))
+        (decided_by (epoch_of P.Passes L.Law Q.Question job.now (first_says J.key J.says (judges_in workers.old)) verdicts.old) result) verdicts.new }
 {
-    if reserve(workers, job.file.len()).is_err() {
+    if clear(workers, job.len as usize, job.file.len()).is_err() {
         return EpochEnd::NoMemory;
     }
     let (claims, mut keeper) = match Claims::open(alloc, job.len) {
@@ -42,9 +53,10 @@ where
         Err(_) => return EpochEnd::NoMemory,
     };
     seat(&claims, &mut keeper, workers);
-    run(rt, alloc, &claims, job, workers);
+    run(rt, alloc, &claims, job, verdicts, workers);
     gather(&claims, &mut keeper, workers);
     let first = claims.close(keeper);
+    remember(alloc, job, decided(job.len, first), workers, verdicts);
     end_of(alloc, job.start, job.len, first, workers)
 }
 
@@ -55,7 +67,13 @@ pub fn try_by_some<
     L: Law + Sync,
     Q: Question + Sync,
     J: Judge + Send,
->(rt: &R, alloc: Global, job: &Job<P, L, Q>, workers: &mut [Worker<J>]) -> EpochEnd
+>(
+    rt: &R,
+    alloc: Global,
+    job: &Job<P, L, Q>,
+    workers: &mut [Worker<J>],
+    verdicts: &mut Verdicts,
+) -> EpochEnd
 where
     P::Prep: Sync,
     requires placed { IsPlaced P.Passes job.now }
@@ -64,10 +82,13 @@ where
     requires few { length workers.old ≤ 32 }
     requires short { job.now.len ≤ 4096 }
     requires one_key { HaveOneKey J.key (judges_in workers.old) }
-    ensures end { EndsBy (epoch_of P.Passes L.Law Q.Question job.now (first_says J.key J.says (judges_in workers.old)) []) (tallies_of J.Judge (judges_in workers.old)) (tallies_of J.Judge (judges_in workers.new)) result }
-    ensures judges { IsJudged J.Judge (epoch_of P.Passes L.Law Q.Question job.now (first_says J.key J.says (judges_in workers.old)) []) (judges_in workers.old) (judges_in workers.new) }
+    requires right { BeginsRight (epoch_of P.Passes L.Law Q.Question job.now (first_says J.key J.says (judges_in workers.old)) verdicts.old) }
+    ensures end { EndsBy (epoch_of P.Passes L.Law Q.Question job.now (first_says J.key J.says (judges_in workers.old)) verdicts.old) (tallies_of J.Judge (judges_in workers.old)) (tallies_of J.Judge (judges_in workers.new)) result }
+    ensures judges { IsJudged J.Judge (epoch_of P.Passes L.Law Q.Question job.now (first_says J.key J.says (judges_in workers.old)) verdicts.old) (judges_in workers.old) (judges_in workers.new) }
+    ensures remembers { Remembers (epoch_of P.Passes L.Law Q.Question job.now (first_says J.key J.says (judges_in workers.old)) verdicts.old) (tallies_of J.Judge (judges_in workers.old)) (tallies_of J.Judge (judges_in workers.new))
+        (decided_by (epoch_of P.Passes L.Law Q.Question job.now (first_says J.key J.says (judges_in workers.old)) verdicts.old) result) verdicts.new }
     ensures others { drop job.now.workers (judges_in workers.new) ≡ drop job.now.workers (judges_in workers.old) }
 {
     let (crew, _) = workers.split_at_mut(job.workers as usize);
-    try_all(rt, alloc, job, crew)
+    try_all(rt, alloc, job, crew, verdicts)
 }

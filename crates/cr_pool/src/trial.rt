@@ -1,21 +1,25 @@
 // The trial of one position.
-ghost use Rattle.std.specs.Prelude.{◌≡◌, ◌<◌, ◌≤◌, ◌/◌, ◌+◌, ℕ, OnOk, false};
+ghost use Rattle.std.specs.Prelude.{◌≡◌, ◌<◌, ◌≤◌, ◌/◌, ◌+◌, ℕ, OnOk, false, None};
 ghost use Rattle.cr_core.specs.Row.{last_position, last_mark};
 ghost use Rattle.cr_core.specs.declared.marks.Mark.TheVariants.{Open};
 ghost use Rattle.cr_core.specs.declared.marks.HitKind.{HitKind};
 ghost use Rattle.cr_claims.specs.Pass.{view_of, IsOf};
 ghost use Rattle.cr_cursor.specs.declared.law.Reason.{Reason};
-ghost use Rattle.cr_pool.specs.Answers.{trial_of};
-ghost use Rattle.cr_pool.specs.Epoch.{variant_at};
+ghost use Rattle.cr_pool.specs.declared.verdict.Verdict.{Verdict};
+ghost use Rattle.cr_pool.specs.Answers.{trial_by, trial_of, verdict_of};
+ghost use Rattle.cr_pool.specs.Epoch.{BeginsRight, variant_at};
 ghost use Rattle.cr_pool.specs.Jobs.{IsPlaced, offer_of, trying};
+ghost use Rattle.cr_pool.specs.Kept.{IsDecided, IsKept};
 ghost use Rattle.cr_pool.specs.Sizes.{HasSize};
 ghost use Rattle.cr_pool.specs.Tally.{tally_of};
-ghost use Rattle.cr_pool.specs.Trials.{IsBad, IsGood};
-ghost use Rattle.cr_pool.specs.Works.{Tries, RejectsAt, HitSays, IsSameList};
+ghost use Rattle.cr_pool.specs.Trials.{IsGood, IsLarge};
+ghost use Rattle.cr_pool.specs.Works.{Tries, NoteIsSo, RejectsAt, HitSays, IsSameList};
 
 use crate::job::Job;
 use crate::looker::Looker;
 use crate::measuring::measure;
+use crate::verdict::Verdict;
+use crate::verdicts::Verdicts;
 use cr_claims::{Claims, Pass};
 use cr_core::HitKind;
 use cr_cursor::{Law, Passes, Ruling, cursor_at};
@@ -32,15 +36,18 @@ pub enum Trial {
 
 /// What was found of a variant before anything is asked about it.
 enum Screened {
-    /// It is smaller and lawful.
+    /// It is smaller and lawful, and no verdict on it is kept.
     Good,
-    Bad,
+    /// It isn't smaller.
+    Large,
+    /// It is smaller, and this verdict on it is kept, or is the law's.
+    Decided(Verdict),
     Stopped,
     NoMemory,
 }
 
 /// Makes the variant at a position of the epoch.
-fn make<P: Passes, L: Law, Q: Question>(
+pub fn make<P: Passes, L: Law, Q: Question>(
     job: &Job<P, L, Q>,
     at: u64,
     variant: &mut Vec<u8>,
@@ -71,11 +78,12 @@ fn rule_on<L: Law>(alloc: Global, claims: &Claims, law: &L, file: &[u8], pass: &
     law.rule(alloc, file, &mut looker)
 }
 
-/// Measures a variant, and rules on it where it is below the limit.
+/// Measures a variant. Where it is below the limit and no verdict on it is kept, the law rules on it.
 fn screen<L: Law>(
     alloc: Global,
     claims: &Claims,
     law: &L,
+    verdicts: &Verdicts,
     variant: &[u8],
     limit: u64,
     pass: &mut Pass,
@@ -85,20 +93,25 @@ fn screen<L: Law>(
     ensures stays { IsOf claims.now pass.new }
     ensures same { IsSameList pass.old pass.new }
     ensures good { result ≡ Screened.Good → (n : ℕ) × IsGood (L.lawful law.now) variant.now limit n }
-    ensures bad { result ≡ Screened.Bad → IsBad (L.lawful law.now) variant.now limit }
+    ensures unkept { result ≡ Screened.Good → IsKept verdicts.now variant.now → ⊥ }
+    ensures large { result ≡ Screened.Large → IsLarge variant.now limit }
+    ensures decided { (verdict : Verdict) → result ≡ Screened.Decided verdict → IsDecided (L.lawful law.now) verdicts.now variant.now limit verdict }
     ensures stopped { result ≡ Screened.Stopped → (view_of pass.new).read / 4 < last_position (view_of pass.new).own }
 {
     let size = match measure(alloc, variant) {
         Ok(Some(size)) => size,
-        Ok(None) => return Screened::Bad,
+        Ok(None) => return Screened::Large,
         Err(_) => return Screened::NoMemory,
     };
     if size >= limit {
-        return Screened::Bad;
+        return Screened::Large;
+    }
+    if let Some(verdict) = verdicts.find(variant) {
+        return Screened::Decided(verdict);
     }
     match rule_on(alloc, claims, law, variant, pass) {
         Ruling::Lawful => Screened::Good,
-        Ruling::Unlawful(_) => Screened::Bad,
+        Ruling::Unlawful(_) => Screened::Decided(Verdict::Unlawful),
         Ruling::Stopped => Screened::Stopped,
         Ruling::NoMemory => Screened::NoMemory,
     }
@@ -115,36 +128,69 @@ fn came_of(answer: Answer) -> Trial
     }
 }
 
-/// Tries the claimed position: its variant is made and measured, ruled on where it is smaller, and asked about where it is lawful too.
+fn said_by(answer: Answer) -> Option<Verdict>
+    ensures { result ≡ verdict_of answer }
+{
+    match answer {
+        Answer::Yes => Some(Verdict::Yes),
+        Answer::No => Some(Verdict::No),
+        Answer::Failed | Answer::NoMemory => None,
+    }
+}
+
+fn decided_by(verdict: Verdict) -> Trial
+    ensures { result ≡ trial_by verdict }
+{
+    match verdict {
+        Verdict::Yes => Trial::Hit(HitKind::Yes),
+        Verdict::Unlawful | Verdict::No => Trial::Rejected,
+    }
+}
+
+/// Tries the claimed position, and notes the verdict on its variant if it comes to one. The variant is made and measured. Where it
+/// is smaller and no verdict on it is kept, the law rules on it, and where it is lawful too, the question is asked.
 pub fn try_position<P: Passes, L: Law, Q: Question, J: Judge>(
     alloc: Global,
     claims: &Claims,
     job: &Job<P, L, Q>,
+    verdicts: &Verdicts,
     at: u64,
     pass: &mut Pass,
     judge: &mut J,
     variant: &mut Vec<u8>,
+    note: &mut Option<Verdict>,
 ) -> Trial
     requires within { at < job.now.len }
     requires placed { IsPlaced P.Passes job.now }
     requires sized { HasSize job.now.file.now job.now.size }
+    requires right { BeginsRight (trying P.Passes L.Law Q.Question J.Judge job.now judge.old verdicts.now) }
     requires of { IsOf claims.now pass.old }
     requires is_open { last_mark (view_of pass.old).own ≡ Open }
     ensures stays { IsOf claims.now pass.new }
     ensures same { IsSameList pass.old pass.new }
-    ensures tries { Tries (trying P.Passes L.Law Q.Question J.Judge job.now judge.old) (tally_of J.Judge judge.old) (tally_of J.Judge judge.new) at }
-    ensures rejected { result ≡ Trial.Rejected → RejectsAt (trying P.Passes L.Law Q.Question J.Judge job.now judge.old) (tally_of J.Judge judge.old) (tally_of J.Judge judge.new) at }
+    ensures tries { Tries (trying P.Passes L.Law Q.Question J.Judge job.now judge.old verdicts.now) (tally_of J.Judge judge.old) (tally_of J.Judge judge.new) at }
+    ensures rejected { result ≡ Trial.Rejected → RejectsAt (trying P.Passes L.Law Q.Question J.Judge job.now judge.old verdicts.now) (tally_of J.Judge judge.old) (tally_of J.Judge judge.new) at }
     ensures stopped { result ≡ Trial.Stopped → (view_of pass.new).read / 4 < last_position (view_of pass.new).own }
-    ensures hit { (kind : HitKind) → result ≡ Trial.Hit kind → HitSays (trying P.Passes L.Law Q.Question J.Judge job.now judge.old) (tally_of J.Judge judge.old) (tally_of J.Judge judge.new) variant.new.items at kind }
+    ensures hit { (kind : HitKind) → result ≡ Trial.Hit kind → HitSays (trying P.Passes L.Law Q.Question J.Judge job.now judge.old verdicts.now) (tally_of J.Judge judge.old) (tally_of J.Judge judge.new) variant.new.items at kind }
+    ensures noted { NoteIsSo (trying P.Passes L.Law Q.Question J.Judge job.now judge.old verdicts.now) (tally_of J.Judge judge.old) (tally_of J.Judge judge.new) at note.new }
     ensures key { J.key judge.new ≡ J.key judge.old }
     ensures silent { Q.asks job.now.question.now ≡ false → judge.new ≡ judge.old }
 {
+    *note = None;
     if make(job, at, variant).is_err() {
         return Trial::Hit(HitKind::Starved);
     }
-    match screen(alloc, claims, job.law, variant, job.size, pass) {
-        Screened::Good => came_of(job.question.ask(alloc, judge, job.name, variant)),
-        Screened::Bad => Trial::Rejected,
+    match screen(alloc, claims, job.law, verdicts, variant, job.size, pass) {
+        Screened::Good => {
+            let answer = job.question.ask(alloc, judge, job.name, variant);
+            *note = said_by(answer);
+            came_of(answer)
+        }
+        Screened::Large => Trial::Rejected,
+        Screened::Decided(verdict) => {
+            *note = Some(verdict);
+            decided_by(verdict)
+        }
         Screened::Stopped => Trial::Stopped,
         Screened::NoMemory => Trial::Hit(HitKind::Starved),
     }

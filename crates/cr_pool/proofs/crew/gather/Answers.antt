@@ -16,7 +16,7 @@ loop-worker-preserved g c =
     let view = c.take_in.ensures.view in
     let joined : (view_of c.take_in.new.keeper).joined ≡ row_of worker.pass ∷ (view_of c.loop-worker.keeper).joined = view.joined in
     let some : row_of worker.pass ≢ [] = c.take_in.ensures.some in
-    let same : IsSameButPass worker c.take_in.new.worker = record { judge = c.take_in.ensures.same.judge; hit = c.take_in.ensures.same.hit; variant = c.take_in.ensures.same.variant } in
+    let same : IsSameButPass worker c.take_in.new.worker = record { judge = c.take_in.ensures.same.judge; hit = c.take_in.ensures.same.hit; variant = c.take_in.ensures.same.variant; notes = c.take_in.ensures.same.notes } in
     let below = c.loop-worker-test.true in
     let is : worker ≡ slice_index_or first i other = inv.rest i other below (omega arith) in
     record {

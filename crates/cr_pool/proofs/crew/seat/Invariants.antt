@@ -1,6 +1,6 @@
 use Rattle.std.proofs.Common.{◌≡◌, ◌<◌, ℕ, [], IsSomeAnd, slice_index_or, true}
 use Rattle.cr_claims.specs.Pass.{IsOf, view_of}
-use Rattle.cr_pool.specs.Crew.{HaveSameJudges, IsFresh}
+use Rattle.cr_pool.specs.Crew.{HaveSameJudges, HaveSameNotes, IsFresh}
 use Rattle.cr_pool.proofs.crew.seat.Given as goal
 
 abbrev pub invariant-loop-worker : goal.invariant-loop-worker
@@ -12,4 +12,5 @@ invariant-loop-worker g l = record {
   own : (view_of l.keeper).own ≡ [];
   fresh : (k : ℕ) (d : _) → k < l.worker-index → IsSomeAnd (slice_index_or l.workers k d).pass (IsFresh l.claims);
   judges : HaveSameJudges l.fn.workers l.workers;
+  notes : HaveSameNotes l.fn.workers l.workers;
 }

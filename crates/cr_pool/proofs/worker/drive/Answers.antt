@@ -6,23 +6,26 @@ use Rattle.cr_claims.specs.declared.view.View.{View}
 use Rattle.cr_core.specs.Machine.{settled}
 use Rattle.cr_claims.specs.Pass.{len_of, view_of}
 use Rattle.cr_outside.specs.Question.{Says}
-use Rattle.cr_pool.specs.Epoch.{Epoch}
+use Rattle.cr_pool.specs.Epoch.{BeginsRight, Epoch}
 use Rattle.cr_pool.specs.Jobs.{epoch_of}
 use Rattle.cr_pool.specs.Tally.{Tally, tally_of}
-use Rattle.cr_pool.specs.Works.{HitSays, RejectsAt, Tries, Works}
+use Rattle.cr_pool.specs.Works.{HitSays, NoteIsSo, RejectsAt, Tries, Works}
 use Rattle.cr_pool.proofs.Lists.{append-some, less_left, marked_at, may_leave_at, open_at}
-use Rattle.cr_pool.proofs.Works.{asks_goes_on, same_hit, says_earlier, works_more, works_none, works_skips}
+use Rattle.std.proofs.lemmas.List.{length-set}
+use Rattle.cr_pool.proofs.Works.{asks_goes_on, notes_more, notes_none, same_hit, says_earlier, works_more, works_none, works_skips}
 use Rattle.cr_pool.proofs.worker.drive.Goals as goal
 
 pub loop-at-init : goal.loop-at-init
 loop-at-init g c =
-    let e : Epoch = epoch_of g.P.Passes g.L.Law g.Q.Question c.args.job.now (g.J.Judge.says (g.J.Judge.key c.args.judge.now)) [] in
+    let e : Epoch = epoch_of g.P.Passes g.L.Law g.Q.Question c.args.job.now (g.J.Judge.says (g.J.Judge.key c.args.judge.now)) c.args.verdicts.now in
     let first : Tally = tally_of g.J.Judge c.args.judge.now in
     record {
       stays = c.requires.of;
       in_force = c.requires.fresh.1;
       may = ((λ is_open. let none = ap last_mark c.requires.fresh.0 in cc), inl c.requires.fresh.0);
       works = subst (λ l. Works e first first None l) (sym c.requires.fresh.0) (works_none e first);
+      room = c.requires.blank.0;
+      notes = notes_none e first first c.args.job.now.len c.args.notes.now.items c.requires.blank;
       key = refl;
       silent = λ _. refl;
     }
@@ -33,6 +36,14 @@ try_position-requires-clause-within g c = (c.in-Some.ensures.claimed c.in-Some.a
 pub try_position-requires-clause-is_open : goal.try_position-requires-clause-is_open
 try_position-requires-clause-is_open g c =
     (open_at (view_of c.next.new.pass).own (settled c.loop-at.done (view_of c.loop-at.pass).own) c.in-Some.at (c.in-Some.ensures.claimed c.in-Some.at refl).1).0
+
+pub try_position-requires-clause-right : goal.try_position-requires-clause-right
+try_position-requires-clause-right g c =
+    let e : Says → Epoch = λ says. epoch_of g.P.Passes g.L.Law g.Q.Question c.args.job.now says c.args.verdicts.now in
+    subst (λ says. BeginsRight (e says)) (sym (ap g.J.Judge.says c.loop-at.invariant.key)) c.requires.right
+
+pub index_mut-note-requires : goal.index_mut-note-requires
+index_mut-note-requires g c = omega (arith, (c.in-Some.ensures.claimed c.in-Some.at refl).0, c.loop-at.invariant.room)
 
 pub loop-at-smaller : goal.loop-at-smaller
 loop-at-smaller g c =
@@ -46,12 +57,13 @@ loop-at-preserved g c =
     let own = c.try_position.ensures.same.0 ∙ claimed.1 in
     let before = settled c.loop-at.done (view_of c.loop-at.pass).own in
     let now_open = open_at (view_of c.try_position.new.pass).own before c.in-Some.at own in
-    let e : Says → Epoch = λ says. epoch_of g.P.Passes g.L.Law g.Q.Question c.args.job.now says [] in
+    let e : Says → Epoch = λ says. epoch_of g.P.Passes g.L.Law g.Q.Question c.args.job.now says c.args.verdicts.now in
     let first : Tally = tally_of g.J.Judge c.args.judge.now in
     let middle : Tally = tally_of g.J.Judge c.loop-at.judge in
     let now : Tally = tally_of g.J.Judge c.try_position.new.judge in
     let here = e (g.J.Judge.says (g.J.Judge.key c.args.judge.now)) in
     let key = ap g.J.Judge.says c.loop-at.invariant.key in
+    let tries : Tries here middle now c.in-Some.at = subst (λ says. Tries (e says) middle now c.in-Some.at) key c.try_position.ensures.tries in
     record {
       stays = c.try_position.ensures.stays;
       in_force = c.try_position.ensures.same.1 ∙ claimed.2;
@@ -60,6 +72,9 @@ loop-at-preserved g c =
           (works_more here first middle now None before c.in-Some.at No claimed.0 (λ is_open. cc)
           (λ _. subst (λ says. RejectsAt (e says) middle now c.in-Some.at) key (c.in-Rejected.ensures.rejected refl)) (λ k is. cc) c.loop-at.invariant.works
           (subst (λ says. Tries (e says) middle now c.in-Some.at) key c.try_position.ensures.tries));
+      room = length-set c.loop-at.notes.items c.in-Some.at c.try_position.new.note ∙ c.loop-at.invariant.room;
+      notes = notes_more here first middle now c.loop-at.notes.items c.in-Some.at c.try_position.new.note (asks_goes_on here c.loop-at.invariant.works.positions first.calls middle.calls c.loop-at.invariant.works.calls)
+          (asks_goes_on here tries.positions middle.calls now.calls tries.calls) c.loop-at.invariant.notes (subst (λ says. NoteIsSo (e says) middle now c.in-Some.at c.try_position.new.note) key c.try_position.ensures.noted);
       key = c.try_position.ensures.key ∙ c.loop-at.invariant.key;
       silent = λ quiet. c.try_position.ensures.silent quiet ∙ c.loop-at.invariant.silent quiet;
     }
@@ -86,7 +101,7 @@ returns-in-Stopped-clause-works g c =
     let claimed = c.in-Some.ensures.claimed c.in-Some.at refl in
     let own = c.try_position.ensures.same.0 ∙ claimed.1 in
     let before = settled c.loop-at.done (view_of c.loop-at.pass).own in
-    let e : Says → Epoch = λ says. epoch_of g.P.Passes g.L.Law g.Q.Question c.args.job.now says [] in
+    let e : Says → Epoch = λ says. epoch_of g.P.Passes g.L.Law g.Q.Question c.args.job.now says c.args.verdicts.now in
     let first : Tally = tally_of g.J.Judge c.args.judge.now in
     let middle : Tally = tally_of g.J.Judge c.loop-at.judge in
     let now : Tally = tally_of g.J.Judge c.try_position.new.judge in
@@ -110,7 +125,7 @@ returns-in-Hit-clause-works g c =
     let claimed = c.in-Some.ensures.claimed c.in-Some.at refl in
     let own = c.try_position.ensures.same.0 ∙ claimed.1 in
     let before = settled c.loop-at.done (view_of c.loop-at.pass).own in
-    let e : Says → Epoch = λ says. epoch_of g.P.Passes g.L.Law g.Q.Question c.args.job.now says [] in
+    let e : Says → Epoch = λ says. epoch_of g.P.Passes g.L.Law g.Q.Question c.args.job.now says c.args.verdicts.now in
     let first : Tally = tally_of g.J.Judge c.args.judge.now in
     let middle : Tally = tally_of g.J.Judge c.loop-at.judge in
     let now : Tally = tally_of g.J.Judge c.try_position.new.judge in
@@ -127,7 +142,7 @@ returns-in-Hit-clause-works g c =
 pub returns-in-Hit-clause-hit : goal.returns-in-Hit-clause-hit
 returns-in-Hit-clause-hit g c =
     let claimed = c.in-Some.ensures.claimed c.in-Some.at refl in
-    let e : Says → Epoch = λ says. epoch_of g.P.Passes g.L.Law g.Q.Question c.args.job.now says [] in
+    let e : Says → Epoch = λ says. epoch_of g.P.Passes g.L.Law g.Q.Question c.args.job.now says c.args.verdicts.now in
     let first : Tally = tally_of g.J.Judge c.args.judge.now in
     let middle : Tally = tally_of g.J.Judge c.loop-at.judge in
     let now : Tally = tally_of g.J.Judge c.try_position.new.judge in
@@ -141,7 +156,7 @@ returns-in-Hit-clause-hit g c =
 
 pub returns-clause-works : goal.returns-clause-works
 returns-clause-works g c =
-    let e : Epoch = epoch_of g.P.Passes g.L.Law g.Q.Question c.args.job.now (g.J.Judge.says (g.J.Judge.key c.args.judge.now)) [] in
+    let e : Epoch = epoch_of g.P.Passes g.L.Law g.Q.Question c.args.job.now (g.J.Judge.says (g.J.Judge.key c.args.judge.now)) c.args.verdicts.now in
     let first : Tally = tally_of g.J.Judge c.args.judge.now in
     let now : Tally = tally_of g.J.Judge c.loop-at.judge in
     let left = (c.in_default.ensures.left refl).1 in
@@ -149,3 +164,29 @@ returns-clause-works g c =
 
 pub strike-requires-clause-in_force : goal.strike-requires-clause-in_force
 strike-requires-clause-in_force g c = c.try_position.ensures.same.1 ∙ (c.in-Some.ensures.claimed c.in-Some.at refl).2
+
+pub returns-in-Stopped-clause-notes : goal.returns-in-Stopped-clause-notes
+returns-in-Stopped-clause-notes g c =
+    let e : Says → Epoch = λ says. epoch_of g.P.Passes g.L.Law g.Q.Question c.args.job.now says c.args.verdicts.now in
+    let first : Tally = tally_of g.J.Judge c.args.judge.now in
+    let middle : Tally = tally_of g.J.Judge c.loop-at.judge in
+    let now : Tally = tally_of g.J.Judge c.try_position.new.judge in
+    let here = e (g.J.Judge.says (g.J.Judge.key c.args.judge.now)) in
+    let key = ap g.J.Judge.says c.loop-at.invariant.key in
+    let works = c.loop-at.invariant.works in
+    let tries : Tries here middle now c.in-Some.at = subst (λ says. Tries (e says) middle now c.in-Some.at) key c.try_position.ensures.tries in
+    notes_more here first middle now c.loop-at.notes.items c.in-Some.at c.try_position.new.note (asks_goes_on here works.positions first.calls middle.calls works.calls)
+    (asks_goes_on here tries.positions middle.calls now.calls tries.calls) c.loop-at.invariant.notes (subst (λ says. NoteIsSo (e says) middle now c.in-Some.at c.try_position.new.note) key c.try_position.ensures.noted)
+
+pub returns-in-Hit-clause-notes : goal.returns-in-Hit-clause-notes
+returns-in-Hit-clause-notes g c =
+    let e : Says → Epoch = λ says. epoch_of g.P.Passes g.L.Law g.Q.Question c.args.job.now says c.args.verdicts.now in
+    let first : Tally = tally_of g.J.Judge c.args.judge.now in
+    let middle : Tally = tally_of g.J.Judge c.loop-at.judge in
+    let now : Tally = tally_of g.J.Judge c.try_position.new.judge in
+    let here = e (g.J.Judge.says (g.J.Judge.key c.args.judge.now)) in
+    let key = ap g.J.Judge.says c.loop-at.invariant.key in
+    let works = c.loop-at.invariant.works in
+    let tries : Tries here middle now c.in-Some.at = subst (λ says. Tries (e says) middle now c.in-Some.at) key c.try_position.ensures.tries in
+    notes_more here first middle now c.loop-at.notes.items c.in-Some.at c.try_position.new.note (asks_goes_on here works.positions first.calls middle.calls works.calls)
+    (asks_goes_on here tries.positions middle.calls now.calls tries.calls) c.loop-at.invariant.notes (subst (λ says. NoteIsSo (e says) middle now c.in-Some.at c.try_position.new.note) key c.try_position.ensures.noted)

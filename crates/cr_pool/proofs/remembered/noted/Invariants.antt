@@ -1,0 +1,4 @@
+use Rattle.cr_pool.proofs.remembered.noted.Given as goal
+
+abbrev pub invariant-loop-i : goal.invariant-loop-i
+invariant-loop-i g l = Unit {0}
