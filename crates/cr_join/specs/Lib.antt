@@ -1,0 +1,3 @@
+pub mod Parts
+pub mod Feet
+pub mod Joins
