@@ -4,3 +4,4 @@ pub mod Arguments
 pub mod Own
 pub mod Spans
 pub mod Nodes
+pub mod Turning
