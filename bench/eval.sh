@@ -1,9 +1,10 @@
 #!/usr/bin/env bash
-# Prints how many millions of sums, of loads and of stores of an int a second cr_eval::work_one and work_two do on one core.
+# Prints how many millions of sums, of loads and of stores of an int a second cr_eval::work_one and work_two do on one core, and how
+# many millions of sums of two read ints cr_join::join_two does, with their footprints.
 # It proves and builds a small timer in a folder of its own, which takes some minutes. Run it by hand.
 set -eu
 . "$(dirname "${BASH_SOURCE[0]}")/timer.sh"
-begin_timer cr_rows cr_ints cr_memory cr_footprint cr_library cr_meaning cr_eval
+begin_timer cr_rows cr_ints cr_memory cr_footprint cr_library cr_meaning cr_eval cr_join
 mkdir -p specs
 touch specs/Lib.antt
 cat >src/main.rt <<'RT'
@@ -15,7 +16,9 @@ use std::io;
 use std::time::Instant;
 
 use cr_eval::{Table, work_one, work_two};
+use cr_footprint::Foot;
 use cr_ints::IntKind;
+use cr_join::{Part, join_two};
 use cr_meaning::{Access, Change, Form, Limits, Op, Operator, Value, Work};
 use cr_memory::{Guard, Pointer, Scalar, Store};
 use cr_rows::Row;
@@ -63,6 +66,26 @@ fn sums(alloc: Global, table: &Table, store: &mut Store) -> i128 {
     last
 }
 
+fn part(alloc: Global, value: i128, cell: u32) -> Option<Part> {
+    match Foot::read(alloc, 0, cell) {
+        Ok(foot) => Some(Part { value: Value::Number(IntKind::Int, value), foot }),
+        Err(_) => None,
+    }
+}
+
+fn joins(alloc: Global, table: &Table, store: &mut Store) -> i128 {
+    let sum = op(alloc, Work::Binary(Change::Arithmetic(Operator::Add, IntKind::Int)), Access::Unused);
+    let mut last: i128 = 0;
+    for _ in 0..TIMES {
+        if let (Some(left), Some(right)) = (part(alloc, last & 0xffff, 0), part(alloc, 7, 1)) {
+            if let Ok(part) = join_two(alloc, table, store, &sum, left, right) {
+                last = number(&part.value);
+            }
+        }
+    }
+    last
+}
+
 fn loads(alloc: Global, table: &Table, store: &mut Store) -> i128 {
     let load = op(alloc, Work::Pass, Access::Scalar(INT, false));
     let at = place();
@@ -98,6 +121,9 @@ fn main(rt: HostRuntime) -> io::Result<()> {
     let start = Instant::now(&rt)?;
     let end = sums(alloc, &table, &mut store);
     println!(rt; "sums of int {} {} {}", end, TIMES, start.elapsed(&rt)?.as_micros())?;
+    let start = Instant::now(&rt)?;
+    let end = joins(alloc, &table, &mut store);
+    println!(rt; "sums of int with footprints {} {} {}", end, TIMES, start.elapsed(&rt)?.as_micros())?;
     let start = Instant::now(&rt)?;
     let end = loads(alloc, &table, &mut store);
     println!(rt; "loads of an int {} {} {}", end, TIMES, start.elapsed(&rt)?.as_micros())?;
