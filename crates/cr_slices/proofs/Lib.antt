@@ -1,0 +1,4 @@
+pub mod Rests
+pub mod Ways
+pub mod Keeping
+pub mod Looking
