@@ -7,4 +7,5 @@ pub mod Stands
 pub mod Laid
 pub mod Declarators
 pub mod Loops
+pub mod Order
 pub mod Examples

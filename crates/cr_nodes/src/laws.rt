@@ -1,6 +1,7 @@
 ghost use Rattle.cr_nodes.specs.Loops.{LoopsHaveClauses};
 ghost use Rattle.cr_nodes.specs.Declarators.{DeclaratorsHaveNames};
 ghost use Rattle.cr_nodes.specs.Laid.{NodesAreLaid};
+ghost use Rattle.cr_nodes.specs.Order.{OwnNodesStandBefore, NodesEndInOrder};
 ghost use Rattle.cr_nodes.specs.Nodes.{NodesAreMade, PartsRise, PartsAreCounted, NodesHaveNames};
 
 /// A law: each node of a unit is made by the alternative of its kind.
@@ -27,6 +28,16 @@ pub fn parts_are_counted()
 /// A law: the token with a node's own name, where its kind has one, is an identifier.
 pub fn nodes_have_names()
     ensures { NodesHaveNames }
+{}
+
+/// A law: of nodes that are listed in order, those below a node stand directly before it.
+pub fn own_nodes_stand_before()
+    ensures { OwnNodesStandBefore }
+{}
+
+/// A law: the nodes of a unit that are listed in order stand in the order in which they end, and their spans nest.
+pub fn nodes_end_in_order()
+    ensures { NodesEndInOrder }
 {}
 
 /// A law: a declarator with a name declares an identifier in its span.
