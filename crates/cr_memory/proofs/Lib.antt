@@ -1,5 +1,6 @@
 pub mod Overwriting
 pub mod View
+pub mod Living
 pub mod Reaching
 pub mod Comparing
 pub mod Writing

@@ -17,12 +17,9 @@ use Rattle.cr_memory.specs.declared.value.Guard.{Guard}
 use Rattle.cr_memory.specs.declared.value.Guard.TheVariants.{Free}
 use Rattle.cr_memory.specs.declared.span.Span.{Span}
 use Rattle.cr_memory.specs.Memory.{Object, Memory, KeepsPointers, count_of, live_cells, has_room, first_cell, new_object, with_object}
-use Rattle.cr_memory.specs.Flat.{span_at, object_of, memory_of, shape_or, cell_or, PointerIn, HoldsIn, HasRoom, span_count, span_of, IsStored}
+use Rattle.cr_memory.specs.Flat.{ended_span, span_at, object_of, memory_of, shape_or, cell_or, PointerIn, HoldsIn, HasRoom, span_count, span_of, IsStored}
 use Rattle.cr_memory.proofs.View.{two_ways, length-whole_of, object_of-live, object_of-ended, pointer_in, is_pointer}
 use Rattle.cr_memory.proofs.Writing.{map-same, three_ways}
-
-abbrev pub dead : Span
-dead = record { first = 0; count = 0; below = 0; alive = false }
 
 -- ---- the cells that live
 
@@ -44,24 +41,24 @@ count_by cells shape span (inr d) room = rw d refl
 pub live_cells-memory_of : (most : ℕ) (spans : List Span) (cells : List Cell) (shape : List (Scalar × Guard)) → HasRoom spans (length cells)
     → live_cells (memory_of most spans cells shape) ≡ sum_by span_count spans
 live_cells-memory_of most spans cells shape room =
-    sum_by-map (object_of cells shape) count_of span_count spans dead (λ j b. count_by cells shape (span_at spans j) (two_ways _) (room.within j))
+    sum_by-map (object_of cells shape) count_of span_count spans ended_span (λ j b. count_by cells shape (span_at spans j) (two_ways _) (room.within j))
 
-pub has_room-memory_of : (most live top : ℕ) (spans : List Span) (cells : List Cell) (shape : List (Scalar × Guard)) (count : ℕ) → IsStored most live top spans cells shape
+pub has_room-memory_of : (most live : ℕ) (spans : List Span) (cells : List Cell) (shape : List (Scalar × Guard)) (count : ℕ) → IsStored most live spans cells shape
     → (nat_le (live + count) most && nat_lt (length spans) 4294967295) ≡ has_room (memory_of most spans cells shape) count
-has_room-memory_of most live top spans cells shape count s =
+has_room-memory_of most live spans cells shape count s =
     ap (λ n. nat_le (n + count) most && nat_lt (length spans) 4294967295) (s.counted ∙ sym (live_cells-memory_of most spans cells shape s.room))
     ∙ ap (λ n. nat_le (live_cells (memory_of most spans cells shape) + count) most && nat_lt n 4294967295) (sym (length-map spans (object_of cells shape)))
 
 -- ---- entering
 
 at_old : (spans : List Span) (span : Span) (n : ℕ) → n < length spans → span_at (spans ++ span ∷ []) n ≡ span_at spans n
-at_old spans span n h = get_or_append_left spans (span ∷ []) dead n h
+at_old spans span n h = get_or_append_left spans (span ∷ []) ended_span n h
 
 at_new : (spans : List Span) (span : Span) (n : ℕ) → n ≡ length spans → span_at (spans ++ span ∷ []) n ≡ span
-at_new spans span n h = get_or_push spans span dead n (sym h)
+at_new spans span n h = get_or_push spans span ended_span n (sym h)
 
-at_none : (spans : List Span) (span : Span) (n : ℕ) → length spans < n → span_at (spans ++ span ∷ []) n ≡ dead
-at_none spans span n h = get_or_past (spans ++ span ∷ []) n dead (omega (arith, length_push spans span))
+at_none : (spans : List Span) (span : Span) (n : ℕ) → length spans < n → span_at (spans ++ span ∷ []) n ≡ ended_span
+at_none spans span n h = get_or_past (spans ++ span ∷ []) n ended_span (omega (arith, length_push spans span))
 
 -- a span that lives is an old one, or the new one
 record IsOld (spans : List Span) (span : Span) (n : ℕ) : Type 0 where
@@ -82,43 +79,21 @@ old_or_new_by spans span n (inr (inr h)) a = absurd (cc (ap (λ s. s.alive) (at_
 old_or_new : (spans : List Span) (span : Span) (n : ℕ) → (span_at (spans ++ span ∷ []) n).alive ≡ true → IsOld spans span n ⊎ IsNew spans span n
 old_or_new spans span n a = old_or_new_by spans span n (three_ways n (length spans)) a
 
-room_by : (spans : List Span) (first count below : ℕ) (n : ℕ) → HasRoom spans first
-    → IsOld spans (span_of first count below) n ⊎ IsNew spans (span_of first count below) n
-    → (span_at (spans ++ span_of first count below ∷ []) n).first + (span_at (spans ++ span_of first count below ∷ []) n).count ≤ first + count
-room_by spans first count below n room (inl o) = let h = room.within n o.alive in rw o.same (omega arith)
-room_by spans first count below n room (inr w) = rw w.same (omega arith)
+room_by : (spans : List Span) (first count : ℕ) (n : ℕ) → HasRoom spans first
+    → IsOld spans (span_of first count) n ⊎ IsNew spans (span_of first count) n
+    → (span_at (spans ++ span_of first count ∷ []) n).first + (span_at (spans ++ span_of first count ∷ []) n).count ≤ first + count
+room_by spans first count n room (inl o) = let h = room.within n o.alive in rw o.same (omega arith)
+room_by spans first count n room (inr w) = rw w.same (omega arith)
 
-apart_by : (spans : List Span) (first count below : ℕ) (left right : ℕ) → left < right → HasRoom spans first
+apart_by : (spans : List Span) (first count : ℕ) (left right : ℕ) → left < right → HasRoom spans first
     → ((m n : ℕ) → m < n → (span_at spans m).alive ≡ true → (span_at spans n).alive ≡ true → (span_at spans m).first + (span_at spans m).count ≤ (span_at spans n).first)
-    → IsOld spans (span_of first count below) left ⊎ IsNew spans (span_of first count below) left
-    → IsOld spans (span_of first count below) right ⊎ IsNew spans (span_of first count below) right
-    → (span_at (spans ++ span_of first count below ∷ []) left).first + (span_at (spans ++ span_of first count below ∷ []) left).count ≤ (span_at (spans ++ span_of first count below ∷ []) right).first
-apart_by spans first count below left right h room apart (inl l) (inl r) = rw (l.same, r.same) (apart left right h l.alive r.alive)
-apart_by spans first count below left right h room apart (inl l) (inr r) = rw (l.same, r.same) (room.within left l.alive)
-apart_by spans first count below left right h room apart (inr l) (inl r) = let a = l.number in let b = r.number in absurd (omega arith)
-apart_by spans first count below left right h room apart (inr l) (inr r) = let a = l.number in let b = r.number in absurd (omega arith)
-
-dead_by : (spans : List Span) (span : Span) (n : ℕ) → length spans < n → (span_at (spans ++ span ∷ []) n).alive ≡ false
-dead_by spans span n h = ap (λ s. s.alive) (at_none spans span n h)
-
-links_by : (spans : List Span) (first count top : ℕ) (n k : ℕ) → n < length (spans ++ span_of first count top ∷ [])
-    → ((m : ℕ) → top ≤ m → (span_at spans m).alive ≡ false)
-    → ((m j : ℕ) → m < length spans → (span_at spans m).below ≤ j → j < m → (span_at spans j).alive ≡ false)
-    → (n < length spans) ⊎ ((n ≡ length spans) ⊎ (length spans < n))
-    → (span_at (spans ++ span_of first count top ∷ []) n).below ≤ k → k < n → (span_at (spans ++ span_of first count top ∷ []) k).alive ≡ false
-links_by spans first count top n k b above links (inl h) low high =
-    ap (λ s. s.alive) (at_old spans (span_of first count top) k (omega arith))
-    ∙ links n k h (rw (at_old spans (span_of first count top) n h) at low) high
-links_by spans first count top n k b above links (inr (inl h)) low high =
-    ap (λ s. s.alive) (at_old spans (span_of first count top) k (omega arith))
-    ∙ above k (rw (at_new spans (span_of first count top) n h) at low)
-links_by spans first count top n k b above links (inr (inr h)) low high = absurd (omega (arith, length_push spans (span_of first count top)))
-
-down_by : (spans : List Span) (first count top : ℕ) (n : ℕ) → top ≤ length spans → ((m : ℕ) → (span_at spans m).below ≤ m)
-    → (n < length spans) ⊎ ((n ≡ length spans) ⊎ (length spans < n)) → (span_at (spans ++ span_of first count top ∷ []) n).below ≤ n
-down_by spans first count top n t down (inl h) = rw (at_old spans (span_of first count top) n h) (down n)
-down_by spans first count top n t down (inr (inl h)) = rw (at_new spans (span_of first count top) n h) (omega arith)
-down_by spans first count top n t down (inr (inr h)) = rw (at_none spans (span_of first count top) n h) (omega arith)
+    → IsOld spans (span_of first count) left ⊎ IsNew spans (span_of first count) left
+    → IsOld spans (span_of first count) right ⊎ IsNew spans (span_of first count) right
+    → (span_at (spans ++ span_of first count ∷ []) left).first + (span_at (spans ++ span_of first count ∷ []) left).count ≤ (span_at (spans ++ span_of first count ∷ []) right).first
+apart_by spans first count left right h room apart (inl l) (inl r) = rw (l.same, r.same) (apart left right h l.alive r.alive)
+apart_by spans first count left right h room apart (inl l) (inr r) = rw (l.same, r.same) (room.within left l.alive)
+apart_by spans first count left right h room apart (inr l) (inl r) = let a = l.number in let b = r.number in absurd (omega arith)
+apart_by spans first count left right h room apart (inr l) (inr r) = let a = l.number in let b = r.number in absurd (omega arith)
 
 -- ---- what the cells hold, with one more object
 
@@ -187,31 +162,27 @@ window-append xs ys first size h =
 
 -- ---- the store with one more object
 
-pub record Entered (most live top : ℕ) (spans : List Span) (cells : List Cell) (shape more : List (Scalar × Guard)) (blank : Bool) : Type 0 where
-  pub stored : IsStored most (live + length more) (length spans + 1) (spans ++ span_of (length cells) (length more) top ∷ []) (cells ++ map (first_cell blank) more) (shape ++ more)
-  pub seen : memory_of most (spans ++ span_of (length cells) (length more) top ∷ []) (cells ++ map (first_cell blank) more) (shape ++ more)
+pub record Entered (most live : ℕ) (spans : List Span) (cells : List Cell) (shape more : List (Scalar × Guard)) (blank : Bool) : Type 0 where
+  pub stored : IsStored most (live + length more) (spans ++ span_of (length cells) (length more) ∷ []) (cells ++ map (first_cell blank) more) (shape ++ more)
+  pub seen : memory_of most (spans ++ span_of (length cells) (length more) ∷ []) (cells ++ map (first_cell blank) more) (shape ++ more)
       ≡ with_object (memory_of most spans cells shape) (new_object blank more)
   pub kept : KeepsPointers (memory_of most spans cells shape)
-      (memory_of most (spans ++ span_of (length cells) (length more) top ∷ []) (cells ++ map (first_cell blank) more) (shape ++ more))
+      (memory_of most (spans ++ span_of (length cells) (length more) ∷ []) (cells ++ map (first_cell blank) more) (shape ++ more))
 
-entered_stored : (most live top : ℕ) (spans : List Span) (cells : List Cell) (shape more : List (Scalar × Guard)) (blank : Bool)
-    → IsStored most live top spans cells shape → live + length more ≤ most
-    → IsStored most (live + length more) (length spans + 1) (spans ++ span_of (length cells) (length more) top ∷ []) (cells ++ map (first_cell blank) more) (shape ++ more)
-entered_stored most live top spans cells shape more blank s room =
+entered_stored : (most live : ℕ) (spans : List Span) (cells : List Cell) (shape more : List (Scalar × Guard)) (blank : Bool)
+    → IsStored most live spans cells shape → live + length more ≤ most
+    → IsStored most (live + length more) (spans ++ span_of (length cells) (length more) ∷ []) (cells ++ map (first_cell blank) more) (shape ++ more)
+entered_stored most live spans cells shape more blank s room =
     let count = length more in
     let first = length cells in
-    let span = span_of first count top in
+    let span = span_of first count in
     let new_cells : length (cells ++ map (first_cell blank) more) ≡ first + count = length-append cells (map (first_cell blank) more) ∙ ap (λ n. first + n) (length-map more (first_cell blank)) in
     record {
       same_length = length-append shape more ∙ ap (λ n. n + count) s.same_length ∙ sym new_cells;
-      room = record { within = λ n a. rw new_cells (room_by spans first count top n s.room (old_or_new spans span n a)) };
-      apart = λ left right h a b. apart_by spans first count top left right h s.room s.apart (old_or_new spans span left a) (old_or_new spans span right b);
+      room = record { within = λ n a. rw new_cells (room_by spans first count n s.room (old_or_new spans span n a)) };
+      apart = λ left right h a b. apart_by spans first count left right h s.room s.apart (old_or_new spans span left a) (old_or_new spans span right b);
       counted = ap (λ n. n + count) s.counted ∙ sym (sum_by-append span_count spans (span ∷ []) ∙ ap (λ n. sum_by span_count spans + n) (zero-add count));
       at_most = room;
-      top_entered = omega (arith, length_push spans span);
-      above = λ n h. dead_by spans span n (omega arith);
-      links = λ n k b low high. links_by spans first count top n k b s.above s.links (three_ways n (length spans)) low high;
-      links_down = λ n. down_by spans first count top n s.top_entered s.links_down (three_ways n (length spans));
       holds = λ i b. appended_held (spans ++ span ∷ []) cells shape more blank i s.same_length
           (λ j c. held_after spans (spans ++ span ∷ []) _ _ (pointer_after spans span) (s.holds j c)) (below_or_not i first) (rw new_cells at b);
     }
@@ -228,26 +199,26 @@ old_object cells added shape more span same (inl a) room =
     ∙ sym (object_of-live cells shape span a)
 old_object cells added shape more span same (inr d) room = object_of-ended (cells ++ added) (shape ++ more) span d ∙ sym (object_of-ended cells shape span d)
 
-new_object_of : (cells added : List Cell) (shape more : List (Scalar × Guard)) (top : ℕ) → length shape ≡ length cells → length added ≡ length more
-    → object_of (cells ++ added) (shape ++ more) (span_of (length cells) (length more) top) ≡ Some (record { cells = added; shape = more })
-new_object_of cells added shape more top same size =
+new_object_of : (cells added : List Cell) (shape more : List (Scalar × Guard)) → length shape ≡ length cells → length added ≡ length more
+    → object_of (cells ++ added) (shape ++ more) (span_of (length cells) (length more)) ≡ Some (record { cells = added; shape = more })
+new_object_of cells added shape more same size =
     let of : List Cell → List (Scalar × Guard) → Option Object = λ xs ys. let o : Object = record { cells = xs; shape = ys } in Some o in
     ap (λ xs. of (take (length more) xs) (take (length more) (drop (length cells) (shape ++ more)))) (drop_at cells added (length cells) refl)
     ∙ ap (λ ys. of (take (length more) added) (take (length more) ys)) (drop_at shape more (length cells) same)
     ∙ ap (λ xs. of xs (take (length more) more)) (take_all (length more) added (omega arith))
     ∙ ap (λ ys. of added ys) (take_all (length more) more (omega arith))
 
-pub entered : (most live top : ℕ) (spans : List Span) (cells : List Cell) (shape more : List (Scalar × Guard)) (blank : Bool)
-    → IsStored most live top spans cells shape → live + length more ≤ most → Entered most live top spans cells shape more blank
-entered most live top spans cells shape more blank s room =
-    let span = span_of (length cells) (length more) top in
+pub entered : (most live : ℕ) (spans : List Span) (cells : List Cell) (shape more : List (Scalar × Guard)) (blank : Bool)
+    → IsStored most live spans cells shape → live + length more ≤ most → Entered most live spans cells shape more blank
+entered most live spans cells shape more blank s room =
+    let span = span_of (length cells) (length more) in
     let added = map (first_cell blank) more in
-    let stored = entered_stored most live top spans cells shape more blank s room in
+    let stored = entered_stored most live spans cells shape more blank s room in
     let objects = map-append (object_of (cells ++ added) (shape ++ more)) spans (span ∷ [])
     ∙ ap (λ xs. xs ++ object_of (cells ++ added) (shape ++ more) span ∷ [])
-    (map-same (object_of cells shape) (object_of (cells ++ added) (shape ++ more)) spans dead
+    (map-same (object_of cells shape) (object_of (cells ++ added) (shape ++ more)) spans ended_span
     (λ j b. old_object cells added shape more (span_at spans j) s.same_length (two_ways _) (s.room.within j)))
-    ∙ ap (λ o. map (object_of cells shape) spans ++ o ∷ []) (new_object_of cells added shape more top s.same_length (length-map more (first_cell blank))) in
+    ∙ ap (λ o. map (object_of cells shape) spans ++ o ∷ []) (new_object_of cells added shape more s.same_length (length-map more (first_cell blank))) in
     record {
       stored = stored;
       seen = ap (λ xs. let m : Memory = record { most = most; objects = xs } in m) objects;

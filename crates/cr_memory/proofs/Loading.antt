@@ -79,31 +79,31 @@ saved-loaded old new (At object cell low high stride) kind value h is_set held e
 
 -- ---- what the store holds
 
-own_hold : (most live top : ℕ) (spans : List Span) (cells : List Cell) (shape : List (Scalar × Guard)) (count index : ℕ)
-    → IsStored most live top spans cells shape → index + count ≤ length cells
+own_hold : (most live : ℕ) (spans : List Span) (cells : List Cell) (shape : List (Scalar × Guard)) (count index : ℕ)
+    → IsStored most live spans cells shape → index + count ≤ length cells
     → AllHold (memory_of most spans cells shape) (map (λ own. own.0) (take count (drop index shape))) (take count (drop index cells))
-own_hold most live top spans cells shape zero index s room = tt
-own_hold most live top spans cells shape (suc count) index s room =
+own_hold most live spans cells shape zero index s room = tt
+own_hold most live spans cells shape (suc count) index s room =
     let free : Scalar × Guard = (PointerKind 0, Free) in
     let first_cell = drop_more cells index Unset (omega arith) in
     let first_shape = drop_more shape index free (omega (arith, s.same_length)) in
     rw (first_cell, first_shape) (
       holds most spans cells shape (shape_or shape index).0 (cell_or cells index) s.room (s.holds index (omega arith)),
-      own_hold most live top spans cells shape count (index + 1) s (omega arith),
+      own_hold most live spans cells shape count (index + 1) s (omega arith),
     )
 
-held_by : (most live top : ℕ) (spans : List Span) (cells : List Cell) (shape : List (Scalar × Guard)) (object : ℕ) (there : Object)
-    → IsStored most live top spans cells shape → ((span_at spans object).alive ≡ true) ⊎ ((span_at spans object).alive ≡ false)
+held_by : (most live : ℕ) (spans : List Span) (cells : List Cell) (shape : List (Scalar × Guard)) (object : ℕ) (there : Object)
+    → IsStored most live spans cells shape → ((span_at spans object).alive ≡ true) ⊎ ((span_at spans object).alive ≡ false)
     → object_of cells shape (span_at spans object) ≡ Some there
     → AllHold (memory_of most spans cells shape) (map (λ own. own.0) there.shape) there.cells
-held_by most live top spans cells shape object there s (inl alive) e =
+held_by most live spans cells shape object there s (inl alive) e =
     let span = span_at spans object in
     let same : whole_of cells shape span ≡ there = cc (object_of-live cells shape span alive, e) in
     let P : Object → Type 0 = λ o. AllHold (memory_of most spans cells shape) (map (λ own. own.0) o.shape) o.cells in
-    subst P same (own_hold most live top spans cells shape span.count span.first s (s.room.within object alive))
-held_by most live top spans cells shape object there s (inr ended) e = absurd (cc (object_of-ended cells shape (span_at spans object) ended, e))
+    subst P same (own_hold most live spans cells shape span.count span.first s (s.room.within object alive))
+held_by most live spans cells shape object there s (inr ended) e = absurd (cc (object_of-ended cells shape (span_at spans object) ended, e))
 
-pub holds-kinds : (most live top : ℕ) (spans : List Span) (cells : List Cell) (shape : List (Scalar × Guard)) → IsStored most live top spans cells shape
+pub holds-kinds : (most live : ℕ) (spans : List Span) (cells : List Cell) (shape : List (Scalar × Guard)) → IsStored most live spans cells shape
     → HoldsKinds (memory_of most spans cells shape)
-holds-kinds most live top spans cells shape s object there e =
-    held_by most live top spans cells shape object there s (two_ways _) (sym (live_object-memory_of most spans cells shape object) ∙ e)
+holds-kinds most live spans cells shape s object there e =
+    held_by most live spans cells shape object there s (two_ways _) (sym (live_object-memory_of most spans cells shape object) ∙ e)

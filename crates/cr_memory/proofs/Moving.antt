@@ -14,12 +14,12 @@ use Rattle.cr_memory.specs.declared.value.Guard.TheVariants.{Free}
 use Rattle.cr_memory.specs.declared.span.Span.{Span}
 use Rattle.cr_memory.specs.Memory.{Object, Memory}
 use Rattle.cr_memory.specs.Access.{overwritten}
-use Rattle.cr_memory.specs.Flat.{span_at, object_of, memory_of, shape_or, cell_or, PointerIn, HoldsIn, HasRoom, span_count, moved_span, MovesDown, IsStored}
+use Rattle.cr_memory.specs.Flat.{ended_span, span_at, object_of, memory_of, shape_or, cell_or, PointerIn, HoldsIn, HasRoom, span_count, moved_span, MovesDown, IsNext, IsStored}
 use Rattle.cr_memory.proofs.View.{two_ways, object_of-live, object_of-ended}
 use Rattle.cr_memory.proofs.Overwriting.{length-overwritten, get_or-overwritten_below, get_or-overwritten_above}
 use Rattle.cr_memory.proofs.Writing.{map-same, map-except, same_or_not, three_ways, entered_if_alive, window-overwritten_same, window-overwritten_other}
-use Rattle.cr_memory.proofs.Lifetimes.{dead, held_after, below_or_not}
-use Rattle.cr_memory.proofs.Ending.{window-take}
+use Rattle.cr_memory.proofs.Lifetimes.{held_after, below_or_not}
+use Rattle.cr_memory.proofs.Ending.{cut_object}
 
 -- ---- what is written stands where it was written
 
@@ -46,22 +46,21 @@ abbrev pub moved_to : List Span → ℕ → ℕ → List Span
 moved_to spans number to = set spans number (moved_span to (span_at spans number))
 
 at_moved : (spans : List Span) (number to : ℕ) → number < length spans → span_at (moved_to spans number to) number ≡ moved_span to (span_at spans number)
-at_moved spans number to h = get_or-set_same spans number (moved_span to (span_at spans number)) dead h
+at_moved spans number to h = get_or-set_same spans number (moved_span to (span_at spans number)) ended_span h
 
 at_kept : (spans : List Span) (number to n : ℕ) → n ≢ number → span_at (moved_to spans number to) n ≡ span_at spans n
-at_kept spans number to n h = get_or-set_other spans number n (moved_span to (span_at spans number)) dead h
+at_kept spans number to n h = get_or-set_other spans number n (moved_span to (span_at spans number)) ended_span h
 
 -- all but the place stays with every span
 record SameSpan (old new : Span) : Type 0 where
   count : new.count ≡ old.count
-  below : new.below ≡ old.below
   alive : new.alive ≡ old.alive
 
 same_span : (spans : List Span) (number to n : ℕ) → number < length spans → (n ≡ number) ⊎ (n ≢ number) → SameSpan (span_at spans n) (span_at (moved_to spans number to) n)
 same_span spans number to n h (inl e) = let s = at_moved spans number to h in
-    rw e (record { count = ap (λ x. x.count) s; below = ap (λ x. x.below) s; alive = ap (λ x. x.alive) s })
+    rw e (record { count = ap (λ x. x.count) s; alive = ap (λ x. x.alive) s })
 same_span spans number to n h (inr o) = let s = at_kept spans number to n o in
-    record { count = ap (λ x. x.count) s; below = ap (λ x. x.below) s; alive = ap (λ x. x.alive) s }
+    record { count = ap (λ x. x.count) s; alive = ap (λ x. x.alive) s }
 
 pointer_moved : (spans : List Span) (number to : ℕ) → number < length spans → (pointer : Pointer) → PointerIn spans pointer → PointerIn (moved_to spans number to) pointer
 pointer_moved spans number to h Null p = tt
@@ -80,8 +79,8 @@ pointer_moved spans number to h (At object cell low high stride) p =
 -- ---- the store after a move
 
 -- the objects below a number end at a place, and the others begin at it or after
-pub record Tidy (most live top : ℕ) (spans : List Span) (cells : List Cell) (shape : List (Scalar × Guard)) (number to : ℕ) : Type 0 where
-  pub stored : IsStored most live top spans cells shape
+pub record Tidy (most live : ℕ) (spans : List Span) (cells : List Cell) (shape : List (Scalar × Guard)) (number to : ℕ) : Type 0 where
+  pub stored : IsStored most live spans cells shape
   pub before : (n : ℕ) → n < number → (span_at spans n).alive ≡ true → (span_at spans n).first + (span_at spans n).count ≤ to
   pub after : (n : ℕ) → number ≤ n → (span_at spans n).alive ≡ true → to ≤ (span_at spans n).first
 
@@ -120,7 +119,7 @@ moved_apart spans number to left right h down alive before apart l (inr o) (inr 
 
 same_total : (spans : List Span) (number to : ℕ) → number < length spans → sum_by span_count spans ≡ sum_by span_count (moved_to spans number to)
 same_total spans number to h =
-    let moved = sum_by-set span_count spans number (moved_span to (span_at spans number)) dead h in
+    let moved = sum_by-set span_count spans number (moved_span to (span_at spans number)) ended_span h in
     omega arith
 
 held_moved : (spans : List Span) (cells : List Cell) (shape : List (Scalar × Guard)) (first to count i : ℕ) → length shape ≡ length cells → first + count ≤ length cells → to ≤ first
@@ -151,12 +150,12 @@ held_moved spans cells shape first to count i same room down h b (inr d) (inl wi
     ∙ get_or-take count (drop first shape) (i - to) free k ∙ get_or-drop first shape (i - to) free in
     rw (cell, own) (h (first + (i - to)) (omega arith))
 
-moved_stored : (most live top : ℕ) (spans : List Span) (cells : List Cell) (shape : List (Scalar × Guard)) (number to : ℕ)
-    → Tidy most live top spans cells shape number to → (span_at spans number).alive ≡ true
-    → IsStored most live top (moved_to spans number to)
+moved_stored : (most live : ℕ) (spans : List Span) (cells : List Cell) (shape : List (Scalar × Guard)) (number to : ℕ)
+    → Tidy most live spans cells shape number to → (span_at spans number).alive ≡ true
+    → IsStored most live (moved_to spans number to)
     (overwritten cells to (take (span_at spans number).count (drop (span_at spans number).first cells)))
     (overwritten shape to (take (span_at spans number).count (drop (span_at spans number).first shape)))
-moved_stored most live top spans cells shape number to t a =
+moved_stored most live spans cells shape number to t a =
     let s = t.stored in
     let h = entered_if_alive spans number a in
     let span = span_at spans number in
@@ -171,11 +170,6 @@ moved_stored most live top spans cells shape number to t a =
       apart = λ m n c x y. moved_apart spans number to m n h down a t.before s.apart c (same_or_not m number) (same_or_not n number) x y;
       counted = s.counted ∙ same_total spans number to h;
       at_most = s.at_most;
-      top_entered = let e = s.top_entered in omega (arith, length-set spans number (moved_span to span));
-      above = λ n b. (same_span spans number to n h (same_or_not n number)).alive ∙ s.above n b;
-      links = λ n k b low high. (same_span spans number to k h (same_or_not k number)).alive
-          ∙ s.links n k (omega (arith, length-set spans number (moved_span to span))) (rw (same_span spans number to n h (same_or_not n number)).below at low) high;
-      links_down = λ n. rw (same_span spans number to n h (same_or_not n number)).below (s.links_down n);
       holds = λ i b. let c : i < length cells = omega arith in
           held_after (moved_to spans number to) (moved_to spans number to) _ _ (λ p q. q)
           (held_moved (moved_to spans number to) cells shape span.first to span.count i s.same_length room down
@@ -213,13 +207,13 @@ apart_sides spans number to j size down alive e before apart (inl l) o a = inr (
 apart_sides spans number to j size down alive e before apart (inr (inl f)) o a = absurd (o f)
 apart_sides spans number to j size down alive e before apart (inr (inr g)) o a = let x = apart number j g alive a in inl (omega arith)
 
-moved_seen : (most live top : ℕ) (spans : List Span) (cells : List Cell) (shape : List (Scalar × Guard)) (number to : ℕ)
-    → Tidy most live top spans cells shape number to → (span_at spans number).alive ≡ true
+moved_seen : (most live : ℕ) (spans : List Span) (cells : List Cell) (shape : List (Scalar × Guard)) (number to : ℕ)
+    → Tidy most live spans cells shape number to → (span_at spans number).alive ≡ true
     → memory_of most (moved_to spans number to)
     (overwritten cells to (take (span_at spans number).count (drop (span_at spans number).first cells)))
     (overwritten shape to (take (span_at spans number).count (drop (span_at spans number).first shape)))
     ≡ memory_of most spans cells shape
-moved_seen most live top spans cells shape number to t a =
+moved_seen most live spans cells shape number to t a =
     let s = t.stored in
     let h = entered_if_alive spans number a in
     let span = span_at spans number in
@@ -238,37 +232,37 @@ moved_seen most live top spans cells shape number to t a =
     ∙ ap (λ ys. of run ys) (window_moved shape span.first to span.count (omega (arith, s.same_length)) down)
     ∙ sym (object_of-live cells shape span a) in
     let objects = map-set after spans number (moved_span to span)
-    ∙ ap (λ xs. set xs number (after (moved_span to span))) (map-except before after spans number dead h
+    ∙ ap (λ xs. set xs number (after (moved_span to span))) (map-except before after spans number ended_span h
     (λ j b o. moved_other cells shape own run to (span_at spans j) (two_ways _) (sizes ∙ sym size)
     (apart_sides spans number to j (length run) down a size t.before s.apart (three_ways j number) o)))
     ∙ set-set (map before spans) number (after span) (after (moved_span to span))
-    ∙ ap (λ o. set (map before spans) number o) (same ∙ sym (get_or-map before spans number dead None h))
+    ∙ ap (λ o. set (map before spans) number o) (same ∙ sym (get_or-map before spans number ended_span None h))
     ∙ set-get_or (map before spans) number None in
     ap (λ xs. let m : Memory = record { most = most; objects = xs } in m) objects
 
-pub record Moved (most live top : ℕ) (spans : List Span) (cells : List Cell) (shape : List (Scalar × Guard)) (number end : ℕ) (memory : Memory) : Type 0 where
-  pub tidy : Tidy most live top spans cells shape number end
+pub record Moved (most live : ℕ) (spans : List Span) (cells : List Cell) (shape : List (Scalar × Guard)) (number end : ℕ) (memory : Memory) : Type 0 where
+  pub tidy : Tidy most live spans cells shape number end
   pub seen : memory_of most spans cells shape ≡ memory
 
-moved_live : (most live top : ℕ) (spans : List Span) (cells : List Cell) (shape : List (Scalar × Guard)) (number to : ℕ) (memory : Memory)
-    → Moved most live top spans cells shape number to memory → (span_at spans number).alive ≡ true
-    → Moved most live top (moved_to spans number to)
+moved_live : (most live : ℕ) (spans : List Span) (cells : List Cell) (shape : List (Scalar × Guard)) (number to : ℕ) (memory : Memory)
+    → Moved most live spans cells shape number to memory → (span_at spans number).alive ≡ true
+    → Moved most live (moved_to spans number to)
     (overwritten cells to (take (span_at spans number).count (drop (span_at spans number).first cells)))
     (overwritten shape to (take (span_at spans number).count (drop (span_at spans number).first shape))) (number + 1) (to + (span_at spans number).count) memory
-moved_live most live top spans cells shape number to memory m a =
+moved_live most live spans cells shape number to memory m a =
     let t = m.tidy in
     let h = entered_if_alive spans number a in
     let down = t.after number (omega arith) a in
     record {
       tidy = record {
-        stored = moved_stored most live top spans cells shape number to t a;
+        stored = moved_stored most live spans cells shape number to t a;
         before = λ n b x. before_by n b x (three_ways n number);
         after = λ n b x. let o : n ≢ number = omega arith in
             let s = at_kept spans number to n o in
             let e = t.stored.apart number n (omega arith) a (rw s at x) in
             rw s (omega arith);
       };
-      seen = moved_seen most live top spans cells shape number to t a ∙ m.seen;
+      seen = moved_seen most live spans cells shape number to t a ∙ m.seen;
     }
   where
     before_by : (n : ℕ) → n < number + 1 → (span_at (moved_to spans number to) n).alive ≡ true → (n < number) ⊎ ((n ≡ number) ⊎ (number < n))
@@ -281,93 +275,75 @@ moved_live most live top spans cells shape number to memory m a =
     before_by n b x (inr (inl e)) = rw (e, at_moved spans number to (entered_if_alive spans number a)) (omega arith)
     before_by n b x (inr (inr g)) = absurd (omega arith)
 
-moved_dead : (most live top : ℕ) (spans : List Span) (cells : List Cell) (shape : List (Scalar × Guard)) (number to : ℕ) (memory : Memory)
-    → Moved most live top spans cells shape number to memory → (span_at spans number).alive ≡ false → Moved most live top spans cells shape (number + 1) to memory
-moved_dead most live top spans cells shape number to memory m d = record {
+-- no object lives between the two numbers
+passed : (most live : ℕ) (spans : List Span) (cells : List Cell) (shape : List (Scalar × Guard)) (from number to : ℕ) (memory : Memory)
+    → Moved most live spans cells shape from to memory → IsNext spans from number → Moved most live spans cells shape number to memory
+passed most live spans cells shape from number to memory m next = record {
   tidy = record {
     stored = m.tidy.stored;
-    before = λ n b x. before_by n b x (three_ways n number);
-    after = λ n b x. m.tidy.after n (omega arith) x;
+    before = λ n b x. before_by n b x (below_or_not n from);
+    after = λ n b x. let f = next.from_on in m.tidy.after n (omega arith) x;
   };
   seen = m.seen;
 }
   where
-    before_by : (n : ℕ) → n < number + 1 → (span_at spans n).alive ≡ true → (n < number) ⊎ ((n ≡ number) ⊎ (number < n)) → (span_at spans n).first + (span_at spans n).count ≤ to
+    before_by : (n : ℕ) → n < number → (span_at spans n).alive ≡ true → (n < from) ⊎ (from ≤ n) → (span_at spans n).first + (span_at spans n).count ≤ to
     before_by n b x (inl l) = m.tidy.before n l x
-    before_by n b x (inr (inl e)) = absurd (cc (x, ap (λ k. (span_at spans k).alive) e ∙ d))
-    before_by n b x (inr (inr g)) = absurd (omega arith)
+    before_by n b x (inr g) = absurd (cc (x, next.between n g b))
 
-moved_by : (most live top : ℕ) (spans : List Span) (cells : List Cell) (shape : List (Scalar × Guard)) (number to : ℕ) (memory : Memory)
+pub place_below : (most live : ℕ) (spans : List Span) (cells : List Cell) (shape : List (Scalar × Guard)) (from number to : ℕ) (memory : Memory)
+    → Moved most live spans cells shape from to memory → IsNext spans from number → to ≤ (span_at spans number).first
+place_below most live spans cells shape from number to memory m next = m.tidy.after number next.from_on next.alive
+
+pub moved : (most live : ℕ) (spans : List Span) (cells : List Cell) (shape : List (Scalar × Guard)) (from number to : ℕ) (memory : Memory)
     (spans' : List Span) (cells' : List Cell) (shape' : List (Scalar × Guard)) (end : ℕ)
-    → Moved most live top spans cells shape number to memory → MovesDown spans cells shape number to spans' cells' shape' end
-    → ((span_at spans number).alive ≡ true) ⊎ ((span_at spans number).alive ≡ false) → Moved most live top spans' cells' shape' (number + 1) end memory
-moved_by most live top spans cells shape number to memory spans' cells' shape' end m w (inl a) =
-    let l = w.live a in rw (l.0, l.1, l.2, l.3) (moved_live most live top spans cells shape number to memory m a)
-moved_by most live top spans cells shape number to memory spans' cells' shape' end m w (inr d) =
-    let l = w.ended d in rw (l.0, l.1, l.2, l.3) (moved_dead most live top spans cells shape number to memory m d)
+    → Moved most live spans cells shape from to memory → IsNext spans from number → MovesDown spans cells shape number to spans' cells' shape' end
+    → Moved most live spans' cells' shape' (number + 1) end memory
+moved most live spans cells shape from number to memory spans' cells' shape' end m next w =
+    rw (w.in_spans, w.in_cells, w.in_shape, w.ends)
+    (moved_live most live spans cells shape number to memory (passed most live spans cells shape from number to memory m next) next.alive)
 
-pub moved : (most live top : ℕ) (spans : List Span) (cells : List Cell) (shape : List (Scalar × Guard)) (number to : ℕ) (memory : Memory)
-    (spans' : List Span) (cells' : List Cell) (shape' : List (Scalar × Guard)) (end : ℕ)
-    → Moved most live top spans cells shape number to memory → MovesDown spans cells shape number to spans' cells' shape' end
-    → Moved most live top spans' cells' shape' (number + 1) end memory
-moved most live top spans cells shape number to memory spans' cells' shape' end m w =
-    moved_by most live top spans cells shape number to memory spans' cells' shape' end m w (two_ways _)
-
-pub begin_moving : (most live top : ℕ) (spans : List Span) (cells : List Cell) (shape : List (Scalar × Guard)) (memory : Memory)
-    → IsStored most live top spans cells shape → memory_of most spans cells shape ≡ memory → Moved most live top spans cells shape 0 0 memory
-begin_moving most live top spans cells shape memory s e = record {
+pub begin_moving : (most live : ℕ) (spans : List Span) (cells : List Cell) (shape : List (Scalar × Guard)) (memory : Memory)
+    → IsStored most live spans cells shape → memory_of most spans cells shape ≡ memory → Moved most live spans cells shape 0 0 memory
+begin_moving most live spans cells shape memory s e = record {
   tidy = record { stored = s; before = λ n b x. absurd (omega arith); after = λ n b x. omega arith };
   seen = e;
 }
 
 -- ---- the rest is cut off
 
-cut_object : (cells : List Cell) (shape : List (Scalar × Guard)) (span : Span) (end : ℕ) → (span.alive ≡ true) ⊎ (span.alive ≡ false)
-    → (span.alive ≡ true → span.first + span.count ≤ end) → object_of (take end cells) (take end shape) span ≡ object_of cells shape span
-cut_object cells shape span end (inl a) within =
-    let w = within a in
-    let of : List Cell → List (Scalar × Guard) → Option Object = λ xs ys. let o : Object = record { cells = xs; shape = ys } in Some o in
-    object_of-live (take end cells) (take end shape) span a
-    ∙ ap (λ xs. of xs (take span.count (drop span.first (take end shape)))) (window-take cells end span.first span.count w)
-    ∙ ap (λ ys. of (take span.count (drop span.first cells)) ys) (window-take shape end span.first span.count w)
-    ∙ sym (object_of-live cells shape span a)
-cut_object cells shape span end (inr d) within = object_of-ended (take end cells) (take end shape) span d ∙ sym (object_of-ended cells shape span d)
+-- from a number on no object lives, so all end before the place
+all_before : (most live : ℕ) (spans : List Span) (cells : List Cell) (shape : List (Scalar × Guard)) (number end : ℕ) (memory : Memory)
+    → Moved most live spans cells shape number end memory → ((n : ℕ) → number ≤ n → (span_at spans n).alive ≡ false)
+    → (n : ℕ) → (span_at spans n).alive ≡ true → (n < number) ⊎ (number ≤ n) → (span_at spans n).first + (span_at spans n).count ≤ end
+all_before most live spans cells shape number end memory m none n a (inl l) = m.tidy.before n l a
+all_before most live spans cells shape number end memory m none n a (inr g) = absurd (cc (a, none n g))
 
-pub cut_stored : (most live top : ℕ) (spans : List Span) (cells : List Cell) (shape : List (Scalar × Guard)) (number end : ℕ) (memory : Memory)
-    → Moved most live top spans cells shape number end memory → length spans ≤ number → IsStored most live top spans (take end cells) (take end shape)
-cut_stored most live top spans cells shape number end memory m all =
+pub cut_stored : (most live : ℕ) (spans : List Span) (cells : List Cell) (shape : List (Scalar × Guard)) (number end : ℕ) (memory : Memory)
+    → Moved most live spans cells shape number end memory → ((n : ℕ) → number ≤ n → (span_at spans n).alive ≡ false) → IsStored most live spans (take end cells) (take end shape)
+cut_stored most live spans cells shape number end memory m none =
     let s = m.tidy.stored in
     record {
       same_length = length-take end shape ∙ ap (min end) s.same_length ∙ sym (length-take end cells);
       room = record {
         within = λ n a.
-            let h = entered_if_alive spans n a in
-            let b = m.tidy.before n (omega arith) a in
+            let b = all_before most live spans cells shape number end memory m none n a (below_or_not n number) in
             let r = s.room.within n a in
             omega (arith, length-take end cells);
       };
       apart = s.apart;
       counted = s.counted;
       at_most = s.at_most;
-      top_entered = s.top_entered;
-      above = s.above;
-      links = s.links;
-      links_down = s.links_down;
       holds = λ i b.
           let free : Scalar × Guard = (PointerKind 0, Free) in
           let c : i < end = omega (arith, length-take end cells) in
           rw (get_or-take end cells i Unset c, get_or-take end shape i free c) (s.holds i (omega (arith, length-take end cells)));
     }
 
-pub cut_seen : (most live top : ℕ) (spans : List Span) (cells : List Cell) (shape : List (Scalar × Guard)) (number end : ℕ) (memory : Memory)
-    → Moved most live top spans cells shape number end memory → length spans ≤ number → memory_of most spans (take end cells) (take end shape) ≡ memory
-cut_seen most live top spans cells shape number end memory m all =
+pub cut_seen : (most live : ℕ) (spans : List Span) (cells : List Cell) (shape : List (Scalar × Guard)) (number end : ℕ) (memory : Memory)
+    → Moved most live spans cells shape number end memory → ((n : ℕ) → number ≤ n → (span_at spans n).alive ≡ false) → memory_of most spans (take end cells) (take end shape) ≡ memory
+cut_seen most live spans cells shape number end memory m none =
     ap (λ xs. let r : Memory = record { most = most; objects = xs } in r)
-    (map-same (object_of cells shape) (object_of (take end cells) (take end shape)) spans dead
-    (λ j b. cut_object cells shape (span_at spans j) end (two_ways _) (λ a. m.tidy.before j (omega arith) a)))
+    (map-same (object_of cells shape) (object_of (take end cells) (take end shape)) spans ended_span
+    (λ j b. cut_object cells shape (span_at spans j) end (two_ways _) (λ a. all_before most live spans cells shape number end memory m none j a (below_or_not j number))))
     ∙ m.seen
-
--- the memory tells how many objects were entered
-pub same_number : (most : ℕ) (spans : List Span) (cells : List Cell) (shape : List (Scalar × Guard)) (memory : Memory)
-    → memory_of most spans cells shape ≡ memory → length spans ≡ length memory.objects
-same_number most spans cells shape memory e = sym (length-map spans (object_of cells shape)) ∙ ap (λ m. length m.objects) e

@@ -20,7 +20,7 @@ use Rattle.cr_memory.specs.declared.value.TheConstants.{NULL_OR_END, ENDED, UNSE
 use Rattle.cr_memory.specs.declared.span.Span.{Span}
 use Rattle.cr_memory.specs.Kind.{is_same, place_of}
 use Rattle.cr_memory.specs.Memory.{Holds, AllHold, live_object, has_ended}
-use Rattle.cr_memory.specs.Access.{is_null_or_end, is_unset, some_object, cell_at, shape_at, cells_at, shape_run_at, have_kinds, Reads, load_of, cells_of, HasStride}
+use Rattle.cr_memory.specs.Access.{is_null_or_end, is_unset, reaching, some_object, cell_at, shape_at, cells_at, shape_run_at, have_kinds, Reads, load_of, cells_of, HasStride}
 use Rattle.cr_memory.specs.Flat.{span_at, memory_of, ended_in, held_ended_in, index_of, cell_or, shape_or, PointerIn, HoldsIn, HasRoom, IsStored, flat_load, flat_cells}
 use Rattle.cr_memory.proofs.View.{whole_of, object_of-live, live_object-memory_of, has_ended-memory_of, holds_ended-memory_of, holds}
 
@@ -108,6 +108,16 @@ same_access true ended' end rest rest' e same = rw (← e) refl
 same_access false ended' true rest rest' e same = rw (← e) refl
 same_access false ended' false rest rest' e same = rw (← e) (same refl refl)
 
+-- what a place that was found tells of the two cases
+pub was_reached : (ended end : Bool) (place found : ℕ) → Ok found ≡ reaching ended end (Ok place) → (ended ≡ false) × (end ≡ false) × (found ≡ place)
+was_reached true end place found e = absurd (cc e)
+was_reached false true place found e = absurd (cc e)
+was_reached false false place found e = (refl, refl, cc e)
+
+-- the rest of an access, where the two cases don't hold
+pub past_reaching : {A : Type 0} (ended end : Bool) (rest : Result A Trap) → ended ≡ false → end ≡ false → reaching ended end rest ≡ rest
+past_reaching ended end rest live inside = rw (live, inside) refl
+
 pub flat_load-is : (most : ℕ) (spans : List Span) (cells : List Cell) (shape : List (Scalar × Guard)) (at : Pointer) (kind : Scalar)
     → HasRoom spans (length cells) → PointerIn spans at → flat_load spans cells shape at kind ≡ load_of (memory_of most spans cells shape) at kind
 flat_load-is most spans cells shape at kind room h =
@@ -131,9 +141,9 @@ loaded_by P false false false true true cell h = tt
 loaded_by P false false false true false cell h = h refl refl refl
 
 -- what is loaded is a value of the kind
-pub flat_load-holds : (most live top : ℕ) (spans : List Span) (cells : List Cell) (shape : List (Scalar × Guard)) (at : Pointer) (kind : Scalar)
-    → IsStored most live top spans cells shape → PointerIn spans at → IfOk (flat_load spans cells shape at kind) (Holds (memory_of most spans cells shape) kind)
-flat_load-holds most live top spans cells shape at kind s h =
+pub flat_load-holds : (most live : ℕ) (spans : List Span) (cells : List Cell) (shape : List (Scalar × Guard)) (at : Pointer) (kind : Scalar)
+    → IsStored most live spans cells shape → PointerIn spans at → IfOk (flat_load spans cells shape at kind) (Holds (memory_of most spans cells shape) kind)
+flat_load-holds most live spans cells shape at kind s h =
     loaded_by (Holds (memory_of most spans cells shape) kind) (ended_in spans at) (is_null_or_end at) (held_ended_in spans (cell_or cells (index_of spans at)))
     (is_same (shape_or shape (index_of spans at)).0 kind) (is_unset (cell_or cells (index_of spans at))) (cell_or cells (index_of spans at))
     (λ alive inside same. let r = reached most spans cells shape at s.room h alive inside in
@@ -198,12 +208,12 @@ both_true true b e = (refl, e)
 both_true false b e = absurd (cc e)
 
 -- the cells of a run hold values of their own kinds
-all_hold : (most live top : ℕ) (spans : List Span) (cells : List Cell) (shape : List (Scalar × Guard)) (kinds : List Scalar) (index : ℕ)
-    → IsStored most live top spans cells shape → index + length kinds ≤ length cells
+all_hold : (most live : ℕ) (spans : List Span) (cells : List Cell) (shape : List (Scalar × Guard)) (kinds : List Scalar) (index : ℕ)
+    → IsStored most live spans cells shape → index + length kinds ≤ length cells
     → have_kinds (take (length kinds) (drop index shape)) kinds ≡ true
     → AllHold (memory_of most spans cells shape) kinds (take (length kinds) (drop index cells))
-all_hold most live top spans cells shape [] index s room e = tt
-all_hold most live top spans cells shape (kind ∷ kinds) index s room e =
+all_hold most live spans cells shape [] index s room e = tt
+all_hold most live spans cells shape (kind ∷ kinds) index s room e =
     let free : Scalar × Guard = (PointerKind 0, Free) in
     let first_cell = drop_more cells index Unset (omega arith) in
     let first_shape = drop_more shape index free (omega (arith, s.same_length)) in
@@ -211,7 +221,7 @@ all_hold most live top spans cells shape (kind ∷ kinds) index s room e =
     rw first_cell (
       holds most spans cells shape kind (cell_or cells index) s.room
           (let P : Scalar → Type 0 = λ k. HoldsIn spans k (cell_or cells index) in subst P (same_kinds _ _ tests.0) (s.holds index (omega arith))),
-      all_hold most live top spans cells shape kinds (index + 1) s (omega arith) tests.1,
+      all_hold most live spans cells shape kinds (index + 1) s (omega arith) tests.1,
     )
 
 read_by : (P : List Cell → Type 0) (ended end same : Bool) (cells : List Cell) (result : Result (Vec Cell) Trap)
@@ -227,11 +237,11 @@ read_by P false false false cells (Ok v) h r = absurd (cc r)
 read_by P false false true cells (Ok v) h r = let e : cells ≡ v.items = cc r in subst P e (h refl refl refl)
 
 -- the cells that are read hold values of the kinds
-pub flat_cells-hold : (most live top : ℕ) (spans : List Span) (cells : List Cell) (shape : List (Scalar × Guard)) (from : Pointer) (kinds : List Scalar)
-    → IsStored most live top spans cells shape → PointerIn spans from → HasStride from (length kinds) → (result : Result (Vec Cell) Trap)
+pub flat_cells-hold : (most live : ℕ) (spans : List Span) (cells : List Cell) (shape : List (Scalar × Guard)) (from : Pointer) (kinds : List Scalar)
+    → IsStored most live spans cells shape → PointerIn spans from → HasStride from (length kinds) → (result : Result (Vec Cell) Trap)
     → Reads (flat_cells spans cells shape from kinds) result → IfOk result (λ v. AllHold (memory_of most spans cells shape) kinds v.items)
-flat_cells-hold most live top spans cells shape from kinds s h stride result r =
+flat_cells-hold most live spans cells shape from kinds s h stride result r =
     read_by (AllHold (memory_of most spans cells shape) kinds) (ended_in spans from) (is_null_or_end from)
     (have_kinds (take (length kinds) (drop (index_of spans from) shape)) kinds) (take (length kinds) (drop (index_of spans from) cells)) result
-    (λ alive inside same. all_hold most live top spans cells shape kinds (index_of spans from) s
+    (λ alive inside same. all_hold most live spans cells shape kinds (index_of spans from) s
     (reached_run most spans cells shape from (length kinds) s.room h stride alive inside).inside same) r

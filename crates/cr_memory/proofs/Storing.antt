@@ -89,21 +89,21 @@ element_before_end spans Null size h w e = tt
 element_before_end spans (At object cell low high stride) size h w e =
     let fits = stride_fits cell high stride h.stride_above (leb-false high cell e) h.whole_after in omega arith
 
-pub memory_of-overwritten_at : (most live top : ℕ) (spans : List Span) (cells : List Cell) (shape : List (Scalar × Guard)) (at : Pointer) (vs : List Cell)
-    → IsStored most live top spans cells shape → PointerIn spans at → ended_in spans at ≡ false → is_null_or_end at ≡ false → HasRun at (length vs)
+pub memory_of-overwritten_at : (most live : ℕ) (spans : List Span) (cells : List Cell) (shape : List (Scalar × Guard)) (at : Pointer) (vs : List Cell)
+    → IsStored most live spans cells shape → PointerIn spans at → ended_in spans at ≡ false → is_null_or_end at ≡ false → HasRun at (length vs)
     → memory_of most spans (overwritten cells (index_of spans at) vs) shape ≡ with_cells (memory_of most spans cells shape) (number_of at) (cell_of at) vs
-memory_of-overwritten_at most live top spans cells shape Null vs s h live' inside run = absurd (cc inside)
-memory_of-overwritten_at most live top spans cells shape (At object cell low high stride) vs s h live' inside run =
+memory_of-overwritten_at most live spans cells shape Null vs s h live' inside run = absurd (cc inside)
+memory_of-overwritten_at most live spans cells shape (At object cell low high stride) vs s h live' inside run =
     let alive = alive_from (span_at spans object).alive live' in
     let fits = h.within alive in
-    memory_of-overwritten most live top spans cells shape object cell vs s h.entered alive (omega arith)
+    memory_of-overwritten most live spans cells shape object cell vs s h.entered alive (omega arith)
 
 -- ---- save
 
-pub flat_save-is : (most live top : ℕ) (spans : List Span) (cells : List Cell) (shape : List (Scalar × Guard)) (at : Pointer) (kind : Scalar) (value : Cell)
-    → IsStored most live top spans cells shape → PointerIn spans at
+pub flat_save-is : (most live : ℕ) (spans : List Span) (cells : List Cell) (shape : List (Scalar × Guard)) (at : Pointer) (kind : Scalar) (value : Cell)
+    → IsStored most live spans cells shape → PointerIn spans at
     → mapped (λ xs. memory_of most spans xs shape) (flat_save spans cells shape at kind value) ≡ save_of (memory_of most spans cells shape) at kind value
-flat_save-is most live top spans cells shape at kind value s h =
+flat_save-is most live spans cells shape at kind value s h =
     let own = shape_or shape (index_of spans at) in
     writing-mapped (λ xs. memory_of most spans xs shape) (ended_in spans at) (has_ended (memory_of most spans cells shape) at) (is_null_or_end at)
     (is_literal own.1) _ (is_constant own.1) _ (is_same own.0 kind) _ (set cells (index_of spans at) value) _ (sym (has_ended-memory_of most spans cells shape at))
@@ -111,38 +111,38 @@ flat_save-is most live top spans cells shape at kind value s h =
       literals = ap (λ o. is_literal o.1) (sym r.own);
       constants = ap (λ o. is_constant o.1) (sym r.own);
       kinds = ap (λ o. is_same o.0 kind) (sym r.own);
-      result = memory_of-overwritten_at most live top spans cells shape at (value ∷ []) s h alive inside (one_before_end at inside);
+      result = memory_of-overwritten_at most live spans cells shape at (value ∷ []) s h alive inside (one_before_end at inside);
     })
 
-pub flat_save-stored : (most live top : ℕ) (spans : List Span) (cells : List Cell) (shape : List (Scalar × Guard)) (at : Pointer) (kind : Scalar) (value : Cell)
-    → IsStored most live top spans cells shape → PointerIn spans at → HoldsIn spans kind value
-    → IfOk (flat_save spans cells shape at kind value) (λ xs. IsStored most live top spans xs shape × (length xs ≡ length cells))
-flat_save-stored most live top spans cells shape at kind value s h held =
+pub flat_save-stored : (most live : ℕ) (spans : List Span) (cells : List Cell) (shape : List (Scalar × Guard)) (at : Pointer) (kind : Scalar) (value : Cell)
+    → IsStored most live spans cells shape → PointerIn spans at → HoldsIn spans kind value
+    → IfOk (flat_save spans cells shape at kind value) (λ xs. IsStored most live spans xs shape × (length xs ≡ length cells))
+flat_save-stored most live spans cells shape at kind value s h held =
     let own = shape_or shape (index_of spans at) in
-    writing-ok (λ xs. IsStored most live top spans xs shape × (length xs ≡ length cells)) (ended_in spans at) (is_null_or_end at)
+    writing-ok (λ xs. IsStored most live spans xs shape × (length xs ≡ length cells)) (ended_in spans at) (is_null_or_end at)
     (is_literal own.1) (is_constant own.1) (is_same own.0 kind) (set cells (index_of spans at) value)
     (λ alive inside same.
     let P : Scalar → Type 0 = λ k. HoldsIn spans k value in
     let size = length-set cells (index_of spans at) value in (
-      stored_with most live top spans cells (set cells (index_of spans at) value) shape s size
+      stored_with most live spans cells (set cells (index_of spans at) value) shape s size
           (held_overwritten spans cells shape (index_of spans at) (value ∷ []) s.holds (subst P (sym (same_kinds own.0 kind same)) held, tt)),
       size,
     ))
 
 -- ---- what a write leaves
 
-pub record WriteDone (most live top : ℕ) (spans : List Span) (cells written : List Cell) (shape : List (Scalar × Guard)) (wanted : Result Memory Trap) (result : Result (Unit {0}) Trap) : Type 0 where
-  pub stored : IsStored most live top spans written shape
+pub record WriteDone (most live : ℕ) (spans : List Span) (cells written : List Cell) (shape : List (Scalar × Guard)) (wanted : Result Memory Trap) (result : Result (Unit {0}) Trap) : Type 0 where
+  pub stored : IsStored most live spans written shape
   pub kept : KeepsPointers (memory_of most spans cells shape) (memory_of most spans written shape)
   pub continues : Continues (memory_of most spans cells shape) (memory_of most spans written shape)
   pub seen : Writes wanted result (memory_of most spans cells shape) (memory_of most spans written shape)
 
-write_done : (most live top : ℕ) (spans : List Span) (cells written : List Cell) (shape : List (Scalar × Guard)) (flat : Result (List Cell) Trap) (wanted : Result Memory Trap) (result : Result (Unit {0}) Trap)
-    → IsStored most live top spans cells shape → mapped (λ xs. memory_of most spans xs shape) flat ≡ wanted
-    → IfOk flat (λ xs. IsStored most live top spans xs shape × (length xs ≡ length cells)) → Writes flat result cells written
-    → WriteDone most live top spans cells written shape wanted result
-write_done most live top spans cells written shape flat wanted result s e ok w =
-    let kept = writes_keep (λ xs. IsStored most live top spans xs shape × (length xs ≡ length cells)) flat result cells written w (s, refl) ok in
+write_done : (most live : ℕ) (spans : List Span) (cells written : List Cell) (shape : List (Scalar × Guard)) (flat : Result (List Cell) Trap) (wanted : Result Memory Trap) (result : Result (Unit {0}) Trap)
+    → IsStored most live spans cells shape → mapped (λ xs. memory_of most spans xs shape) flat ≡ wanted
+    → IfOk flat (λ xs. IsStored most live spans xs shape × (length xs ≡ length cells)) → Writes flat result cells written
+    → WriteDone most live spans cells written shape wanted result
+write_done most live spans cells written shape flat wanted result s e ok w =
+    let kept = writes_keep (λ xs. IsStored most live spans xs shape × (length xs ≡ length cells)) flat result cells written w (s, refl) ok in
     record {
       stored = kept.0;
       kept = same_pointers most spans cells written shape s.room kept.1;
@@ -150,12 +150,12 @@ write_done most live top spans cells written shape flat wanted result s e ok w =
       seen = writes_seen (λ xs. memory_of most spans xs shape) flat wanted result cells written e w;
     }
 
-pub save_done : (most live top : ℕ) (spans : List Span) (cells written : List Cell) (shape : List (Scalar × Guard)) (at : Pointer) (kind : Scalar) (value : Cell) (result : Result (Unit {0}) Trap)
-    → IsStored most live top spans cells shape → PointerIn spans at → HoldsIn spans kind value → Writes (flat_save spans cells shape at kind value) result cells written
-    → WriteDone most live top spans cells written shape (save_of (memory_of most spans cells shape) at kind value) result
-save_done most live top spans cells written shape at kind value result s h held w =
-    write_done most live top spans cells written shape (flat_save spans cells shape at kind value) _ result s
-    (flat_save-is most live top spans cells shape at kind value s h) (flat_save-stored most live top spans cells shape at kind value s h held) w
+pub save_done : (most live : ℕ) (spans : List Span) (cells written : List Cell) (shape : List (Scalar × Guard)) (at : Pointer) (kind : Scalar) (value : Cell) (result : Result (Unit {0}) Trap)
+    → IsStored most live spans cells shape → PointerIn spans at → HoldsIn spans kind value → Writes (flat_save spans cells shape at kind value) result cells written
+    → WriteDone most live spans cells written shape (save_of (memory_of most spans cells shape) at kind value) result
+save_done most live spans cells written shape at kind value result s h held w =
+    write_done most live spans cells written shape (flat_save spans cells shape at kind value) _ result s
+    (flat_save-is most live spans cells shape at kind value s h) (flat_save-stored most live spans cells shape at kind value s h held) w
 
 -- ---- put
 
@@ -199,10 +199,10 @@ put_hold spans shape (kind ∷ kinds) (value ∷ values) target b e h =
       subst R next (put_hold spans shape kinds values (target + 1) rest tests.1 h.1),
     )
 
-pub flat_put-is : (most live top : ℕ) (spans : List Span) (cells : List Cell) (shape : List (Scalar × Guard)) (to : Pointer) (kinds : List Scalar) (values : List Cell)
-    → IsStored most live top spans cells shape → PointerIn spans to → HasStride to (length kinds) → length values ≡ length kinds
+pub flat_put-is : (most live : ℕ) (spans : List Span) (cells : List Cell) (shape : List (Scalar × Guard)) (to : Pointer) (kinds : List Scalar) (values : List Cell)
+    → IsStored most live spans cells shape → PointerIn spans to → HasStride to (length kinds) → length values ≡ length kinds
     → mapped (λ xs. memory_of most spans xs shape) (flat_put spans cells shape to kinds values) ≡ put_of (memory_of most spans cells shape) to kinds values
-flat_put-is most live top spans cells shape to kinds values s h stride same =
+flat_put-is most live spans cells shape to kinds values s h stride same =
     let own = take (length kinds) (drop (index_of spans to) shape) in
     let R : ℕ → Type 0 = λ n. HasRun to n in
     writing-mapped (λ xs. memory_of most spans xs shape) (ended_in spans to) (has_ended (memory_of most spans cells shape) to) (is_null_or_end to)
@@ -212,43 +212,43 @@ flat_put-is most live top spans cells shape to kinds values s h stride same =
       literals = ap (λ x. list_any (λ g. is_literal g.1) x) (sym r.shape_run);
       constants = ap (λ x. list_any (λ g. is_constant g.1) x) (sym r.shape_run);
       kinds = ap (λ x. have_kinds x kinds) (sym r.shape_run);
-      result = memory_of-overwritten_at most live top spans cells shape to values s h alive inside (subst R (sym same) (element_before_end spans to (length kinds) h stride inside));
+      result = memory_of-overwritten_at most live spans cells shape to values s h alive inside (subst R (sym same) (element_before_end spans to (length kinds) h stride inside));
     })
 
-pub flat_put-stored : (most live top : ℕ) (spans : List Span) (cells : List Cell) (shape : List (Scalar × Guard)) (to : Pointer) (kinds : List Scalar) (values : List Cell)
-    → IsStored most live top spans cells shape → PointerIn spans to → HasStride to (length kinds) → AllHoldIn spans kinds values
-    → IfOk (flat_put spans cells shape to kinds values) (λ xs. IsStored most live top spans xs shape × (length xs ≡ length cells))
-flat_put-stored most live top spans cells shape to kinds values s h stride held =
+pub flat_put-stored : (most live : ℕ) (spans : List Span) (cells : List Cell) (shape : List (Scalar × Guard)) (to : Pointer) (kinds : List Scalar) (values : List Cell)
+    → IsStored most live spans cells shape → PointerIn spans to → HasStride to (length kinds) → AllHoldIn spans kinds values
+    → IfOk (flat_put spans cells shape to kinds values) (λ xs. IsStored most live spans xs shape × (length xs ≡ length cells))
+flat_put-stored most live spans cells shape to kinds values s h stride held =
     let own = take (length kinds) (drop (index_of spans to) shape) in
-    writing-ok (λ xs. IsStored most live top spans xs shape × (length xs ≡ length cells)) (ended_in spans to) (is_null_or_end to)
+    writing-ok (λ xs. IsStored most live spans xs shape × (length xs ≡ length cells)) (ended_in spans to) (is_null_or_end to)
     (list_any (λ g. is_literal g.1) own) (list_any (λ g. is_constant g.1) own) (have_kinds own kinds) (overwritten cells (index_of spans to) values)
     (λ alive inside same.
     let r = reached_run most spans cells shape to (length kinds) s.room h stride alive inside in
     let size = length-overwritten cells (index_of spans to) values in (
-      stored_with most live top spans cells (overwritten cells (index_of spans to) values) shape s size
+      stored_with most live spans cells (overwritten cells (index_of spans to) values) shape s size
           (held_overwritten spans cells shape (index_of spans to) values s.holds
           (put_hold spans shape kinds values (index_of spans to) (omega (arith, r.inside, s.same_length)) same held)),
       size,
     ))
 
-pub put_done : (most live top : ℕ) (spans : List Span) (cells written : List Cell) (shape : List (Scalar × Guard)) (to : Pointer) (kinds : List Scalar) (values : List Cell) (result : Result (Unit {0}) Trap)
-    → IsStored most live top spans cells shape → PointerIn spans to → HasStride to (length kinds) → AllHoldIn spans kinds values
+pub put_done : (most live : ℕ) (spans : List Span) (cells written : List Cell) (shape : List (Scalar × Guard)) (to : Pointer) (kinds : List Scalar) (values : List Cell) (result : Result (Unit {0}) Trap)
+    → IsStored most live spans cells shape → PointerIn spans to → HasStride to (length kinds) → AllHoldIn spans kinds values
     → Writes (flat_put spans cells shape to kinds values) result cells written
-    → WriteDone most live top spans cells written shape (put_of (memory_of most spans cells shape) to kinds values) result
-put_done most live top spans cells written shape to kinds values result s h stride held w =
-    write_done most live top spans cells written shape (flat_put spans cells shape to kinds values) _ result s
-    (flat_put-is most live top spans cells shape to kinds values s h stride (as_many spans kinds values held))
-    (flat_put-stored most live top spans cells shape to kinds values s h stride held) w
+    → WriteDone most live spans cells written shape (put_of (memory_of most spans cells shape) to kinds values) result
+put_done most live spans cells written shape to kinds values result s h stride held w =
+    write_done most live spans cells written shape (flat_put spans cells shape to kinds values) _ result s
+    (flat_put-is most live spans cells shape to kinds values s h stride (as_many spans kinds values held))
+    (flat_put-stored most live spans cells shape to kinds values s h stride held) w
 
 -- ---- copy
 
 -- the cells of one run may stand in another one of the same kinds
-copied_hold : (most live top : ℕ) (spans : List Span) (cells : List Cell) (shape : List (Scalar × Guard)) (size source target : ℕ)
-    → IsStored most live top spans cells shape → source + size ≤ length cells → target + size ≤ length cells
+copied_hold : (most live : ℕ) (spans : List Span) (cells : List Cell) (shape : List (Scalar × Guard)) (size source target : ℕ)
+    → IsStored most live spans cells shape → source + size ≤ length cells → target + size ≤ length cells
     → have_same_kinds (take size (drop source shape)) (take size (drop target shape)) ≡ true
     → RunHolds spans shape target (take size (drop source cells))
-copied_hold most live top spans cells shape zero source target s a b e = tt
-copied_hold most live top spans cells shape (suc size) source target s a b e =
+copied_hold most live spans cells shape zero source target s a b e = tt
+copied_hold most live spans cells shape (suc size) source target s a b e =
     let free : Scalar × Guard = (PointerKind 0, Free) in
     let first_cell = drop_more cells source Unset (omega arith) in
     let first_source = drop_more shape source free (omega (arith, s.same_length)) in
@@ -262,7 +262,7 @@ copied_hold most live top spans cells shape (suc size) source target s a b e =
     let next : target + 1 ≡ suc target = omega arith in
     rw first_cell (
       subst K (same_kinds _ _ tests.0) (s.holds source (omega arith)),
-      subst R next (copied_hold most live top spans cells shape size (source + 1) (target + 1) s (omega arith) (omega arith) tests.1),
+      subst R next (copied_hold most live spans cells shape size (source + 1) (target + 1) s (omega arith) (omega arith) tests.1),
     )
 
 size_of_run : (cells : List Cell) (source size : ℕ) → source + size ≤ length cells → length (take size (drop source cells)) ≡ size
@@ -271,10 +271,10 @@ size_of_run cells source size h = length-take-le size (drop source cells) (omega
 either_end : (from to : Pointer) → (is_null_or_end from || is_null_or_end to) ≡ false → (is_null_or_end from ≡ false) × (is_null_or_end to ≡ false)
 either_end from to e = neither _ _ e
 
-pub flat_copy-is : (most live top : ℕ) (spans : List Span) (cells : List Cell) (shape : List (Scalar × Guard)) (from to : Pointer) (count : ℕ)
-    → IsStored most live top spans cells shape → PointerIn spans from → PointerIn spans to → HasStride from count → HasStride to count
+pub flat_copy-is : (most live : ℕ) (spans : List Span) (cells : List Cell) (shape : List (Scalar × Guard)) (from to : Pointer) (count : ℕ)
+    → IsStored most live spans cells shape → PointerIn spans from → PointerIn spans to → HasStride from count → HasStride to count
     → mapped (λ xs. memory_of most spans xs shape) (flat_copy spans cells shape from to count) ≡ copy_of (memory_of most spans cells shape) from to count
-flat_copy-is most live top spans cells shape from to count s f t ws wt =
+flat_copy-is most live spans cells shape from to count s f t ws wt =
     let own = take count (drop (index_of spans to) shape) in
     let other = take count (drop (index_of spans from) shape) in
     let run = take count (drop (index_of spans from) cells) in
@@ -293,18 +293,18 @@ flat_copy-is most live top spans cells shape from to count s f t ws wt =
       literals = ap (λ x. list_any (λ g. is_literal g.1) x) (sym b.shape_run);
       constants = ap (λ x. list_any (λ g. is_constant g.1) x) (sym b.shape_run);
       kinds = ap (λ x. have_same_kinds x own) (sym a.shape_run) ∙ ap (λ x. have_same_kinds (shape_run_at (memory_of most spans cells shape) from count) x) (sym b.shape_run);
-      result = memory_of-overwritten_at most live top spans cells shape to run s t l.1 i.1 (subst R (sym size) (element_before_end spans to count t wt i.1))
+      result = memory_of-overwritten_at most live spans cells shape to run s t l.1 i.1 (subst R (sym size) (element_before_end spans to count t wt i.1))
           ∙ ap (λ x. with_cells (memory_of most spans cells shape) (number_of to) (cell_of to) x) (sym a.cells_run);
     })
 
-pub flat_copy-stored : (most live top : ℕ) (spans : List Span) (cells : List Cell) (shape : List (Scalar × Guard)) (from to : Pointer) (count : ℕ)
-    → IsStored most live top spans cells shape → PointerIn spans from → PointerIn spans to → HasStride from count → HasStride to count
-    → IfOk (flat_copy spans cells shape from to count) (λ xs. IsStored most live top spans xs shape × (length xs ≡ length cells))
-flat_copy-stored most live top spans cells shape from to count s f t ws wt =
+pub flat_copy-stored : (most live : ℕ) (spans : List Span) (cells : List Cell) (shape : List (Scalar × Guard)) (from to : Pointer) (count : ℕ)
+    → IsStored most live spans cells shape → PointerIn spans from → PointerIn spans to → HasStride from count → HasStride to count
+    → IfOk (flat_copy spans cells shape from to count) (λ xs. IsStored most live spans xs shape × (length xs ≡ length cells))
+flat_copy-stored most live spans cells shape from to count s f t ws wt =
     let own = take count (drop (index_of spans to) shape) in
     let other = take count (drop (index_of spans from) shape) in
     let run = take count (drop (index_of spans from) cells) in
-    writing-ok (λ xs. IsStored most live top spans xs shape × (length xs ≡ length cells)) (ended_in spans from || ended_in spans to)
+    writing-ok (λ xs. IsStored most live spans xs shape × (length xs ≡ length cells)) (ended_in spans from || ended_in spans to)
     (is_null_or_end from || is_null_or_end to) (list_any (λ g. is_literal g.1) own) (list_any (λ g. is_constant g.1) own) (have_same_kinds other own)
     (overwritten cells (index_of spans to) run)
     (λ live' inside same.
@@ -313,16 +313,16 @@ flat_copy-stored most live top spans cells shape from to count s f t ws wt =
     let a = reached_run most spans cells shape from count s.room f ws l.0 i.0 in
     let b = reached_run most spans cells shape to count s.room t wt l.1 i.1 in
     let size = length-overwritten cells (index_of spans to) run in (
-      stored_with most live top spans cells (overwritten cells (index_of spans to) run) shape s size
+      stored_with most live spans cells (overwritten cells (index_of spans to) run) shape s size
           (held_overwritten spans cells shape (index_of spans to) run s.holds
-          (copied_hold most live top spans cells shape count (index_of spans from) (index_of spans to) s a.inside b.inside same)),
+          (copied_hold most live spans cells shape count (index_of spans from) (index_of spans to) s a.inside b.inside same)),
       size,
     ))
 
-pub copy_done : (most live top : ℕ) (spans : List Span) (cells written : List Cell) (shape : List (Scalar × Guard)) (from to : Pointer) (count : ℕ) (result : Result (Unit {0}) Trap)
-    → IsStored most live top spans cells shape → PointerIn spans from → PointerIn spans to → HasStride from count → HasStride to count
+pub copy_done : (most live : ℕ) (spans : List Span) (cells written : List Cell) (shape : List (Scalar × Guard)) (from to : Pointer) (count : ℕ) (result : Result (Unit {0}) Trap)
+    → IsStored most live spans cells shape → PointerIn spans from → PointerIn spans to → HasStride from count → HasStride to count
     → Writes (flat_copy spans cells shape from to count) result cells written
-    → WriteDone most live top spans cells written shape (copy_of (memory_of most spans cells shape) from to count) result
-copy_done most live top spans cells written shape from to count result s f t ws wt w =
-    write_done most live top spans cells written shape (flat_copy spans cells shape from to count) _ result s
-    (flat_copy-is most live top spans cells shape from to count s f t ws wt) (flat_copy-stored most live top spans cells shape from to count s f t ws wt) w
+    → WriteDone most live spans cells written shape (copy_of (memory_of most spans cells shape) from to count) result
+copy_done most live spans cells written shape from to count result s f t ws wt w =
+    write_done most live spans cells written shape (flat_copy spans cells shape from to count) _ result s
+    (flat_copy-is most live spans cells shape from to count s f t ws wt) (flat_copy-stored most live spans cells shape from to count s f t ws wt) w

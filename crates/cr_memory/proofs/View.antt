@@ -1,5 +1,5 @@
 -- What the flat store shows as a memory.
-use Rattle.std.proofs.Common.{◌≡◌, ℕ, zero, suc, ◌+◌, ◌≤◌, Bool, true, false, not, is_none, ◌⊎◌, inl, inr, Some, None, List, [], ◌∷◌, map, length, get_or, take, drop, if◌then◌else◌, refl, sym, ap, ◌∙◌, subst, arith, length-drop}
+use Rattle.std.proofs.Common.{◌≡◌, ℕ, zero, suc, ◌+◌, ◌≤◌, Bool, true, false, not, is_none, is_some, ◌⊎◌, inl, inr, Some, None, List, [], ◌∷◌, map, length, get_or, take, drop, if◌then◌else◌, refl, sym, ap, ◌∙◌, subst, arith, length-drop}
 use Rattle.std.proofs.lemmas.List.{length-map, length-take-le}
 use Rattle.cr_memory.specs.declared.value.Pointer.{Pointer}
 use Rattle.cr_memory.specs.declared.value.Pointer.TheVariants.{Null, At}
@@ -46,6 +46,15 @@ live_object-memory_of most spans cells shape number = get_or-map_default (object
 none_if : {X : Type 0} (b : Bool) (x : X) → is_none (if b then Some x else None) ≡ not b
 none_if true x = refl
 none_if false x = refl
+
+some_if : {X : Type 0} (b : Bool) (x : X) → is_some (if b then Some x else None) ≡ b
+some_if true x = refl
+some_if false x = refl
+
+pub lives-memory_of : (most : ℕ) (spans : List Span) (cells : List Cell) (shape : List (Scalar × Guard)) (number : ℕ)
+    → is_some (live_object (memory_of most spans cells shape) number) ≡ (span_at spans number).alive
+lives-memory_of most spans cells shape number =
+    ap is_some (live_object-memory_of most spans cells shape number) ∙ some_if (span_at spans number).alive (whole_of cells shape (span_at spans number))
 
 pub has_ended-memory_of : (most : ℕ) (spans : List Span) (cells : List Cell) (shape : List (Scalar × Guard)) (pointer : Pointer)
     → has_ended (memory_of most spans cells shape) pointer ≡ ended_in spans pointer

@@ -11,7 +11,7 @@ use Rattle.cr_memory.specs.declared.value.Guard.TheVariants.{Free}
 use Rattle.cr_memory.specs.declared.span.Span.{Span}
 use Rattle.cr_memory.specs.Memory.{Object, Memory, Holds, KeepsPointers, live_object, count_of}
 use Rattle.cr_memory.specs.Access.{overwritten, some_object, shape_in, with_cells}
-use Rattle.cr_memory.specs.Flat.{span_at, object_of, memory_of, shape_or, cell_or, HoldsIn, HasRoom, IsStored}
+use Rattle.cr_memory.specs.Flat.{ended_span, span_at, object_of, memory_of, shape_or, cell_or, HoldsIn, HasRoom, IsStored}
 use Rattle.cr_memory.proofs.View.{two_ways, whole_of, length-whole_of, object_of-live, object_of-ended, live_object-memory_of, pointer_in, is_pointer, holds_in}
 
 -- ---- a window of a list that is written over
@@ -91,14 +91,13 @@ apart_by : (spans : List Span) (left right place size : ℕ) → (left < right) 
 apart_by spans left right place size (inl l) apart a b h = let e = apart left right l a b in inr (omega arith)
 apart_by spans left right place size (inr r) apart a b h = let e = apart right left r b a in inl (omega arith)
 
-pub memory_of-overwritten : (most live top : ℕ) (spans : List Span) (cells : List Cell) (shape : List (Scalar × Guard)) (number place : ℕ) (vs : List Cell)
-    → IsStored most live top spans cells shape → number < length spans → (span_at spans number).alive ≡ true → place + length vs ≤ (span_at spans number).count
+pub memory_of-overwritten : (most live : ℕ) (spans : List Span) (cells : List Cell) (shape : List (Scalar × Guard)) (number place : ℕ) (vs : List Cell)
+    → IsStored most live spans cells shape → number < length spans → (span_at spans number).alive ≡ true → place + length vs ≤ (span_at spans number).count
     → memory_of most spans (overwritten cells ((span_at spans number).first + place) vs) shape ≡ with_cells (memory_of most spans cells shape) number place vs
-memory_of-overwritten most live top spans cells shape number place vs s entered alive fits =
+memory_of-overwritten most live spans cells shape number place vs s entered alive fits =
     let span = span_at spans number in
     let written = overwritten cells (span.first + place) vs in
-    let dead : Span = record { first = 0; count = 0; below = 0; alive = false } in
-    let objects = map-except (object_of cells shape) (object_of written shape) spans number dead entered
+    let objects = map-except (object_of cells shape) (object_of written shape) spans number ended_span entered
     (λ j b n. other_object cells written shape (span_at spans j) (two_ways _)
     (λ a. window-overwritten_other cells (span_at spans j).first (span_at spans j).count (span.first + place) vs
     (apart_by spans j number place (length vs) (lesser j number n) s.apart a alive fits))) in
@@ -113,19 +112,15 @@ memory_of-overwritten most live top spans cells shape number place vs s entered 
 
 -- ---- the store after a write
 
-pub stored_with : (most live top : ℕ) (spans : List Span) (cells written : List Cell) (shape : List (Scalar × Guard))
-    → IsStored most live top spans cells shape → length written ≡ length cells
-    → ((i : ℕ) → i < length cells → HoldsIn spans (shape_or shape i).0 (cell_or written i)) → IsStored most live top spans written shape
-stored_with most live top spans cells written shape s size h = record {
+pub stored_with : (most live : ℕ) (spans : List Span) (cells written : List Cell) (shape : List (Scalar × Guard))
+    → IsStored most live spans cells shape → length written ≡ length cells
+    → ((i : ℕ) → i < length cells → HoldsIn spans (shape_or shape i).0 (cell_or written i)) → IsStored most live spans written shape
+stored_with most live spans cells written shape s size h = record {
   same_length = s.same_length ∙ sym size;
   room = record { within = λ n a. rw size (s.room.within n a) };
   apart = s.apart;
   counted = s.counted;
   at_most = s.at_most;
-  top_entered = s.top_entered;
-  above = s.above;
-  links = s.links;
-  links_down = s.links_down;
   holds = λ i b. h i (rw size at b);
 }
 

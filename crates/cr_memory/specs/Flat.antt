@@ -1,5 +1,5 @@
 -- How the store keeps a memory: the cells of all objects one after another, and for each object the span of its cells.
-use Rattle.std.specs.Prelude.{◌≡◌, ℕ, zero, suc, ◌+◌, ◌-◌, ◌%◌, sum_by, ◌<◌, ◌≤◌, Bool, true, false, not, Option, Some, None, Result, List, map, length, take, drop, slice_index_or, slice_set, if◌then◌else◌}
+use Rattle.std.specs.Prelude.{◌≡◌, ℕ, ◌+◌, ◌-◌, ◌%◌, sum_by, ◌<◌, ◌≤◌, Bool, true, false, not, ◌⊎◌, Option, Some, None, Result, List, map, length, take, drop, slice_index_or, slice_set, if◌then◌else◌}
 use Rattle.cr_ints.specs.IntKind.{Represents}
 use Rattle.cr_memory.specs.declared.value.Pointer.{Pointer}
 use Rattle.cr_memory.specs.declared.value.Pointer.TheVariants.{Null, At}
@@ -15,8 +15,12 @@ use Rattle.cr_memory.specs.Memory.{Object, Memory}
 use Rattle.cr_memory.specs.Pointers.{equality_by}
 use Rattle.cr_memory.specs.Access.{holds_such, overwritten, load_by, save_by, put_by, copy_by, cells_by}
 
+-- the span of an object whose lifetime has ended
+abbrev pub ended_span : Span
+ended_span = record { first = 0; count = 0; alive = false }
+
 abbrev pub span_at : List Span → ℕ → Span
-span_at spans number = slice_index_or spans number (record { first = 0; count = 0; below = 0; alive = false })
+span_at spans number = slice_index_or spans number ended_span
 
 -- the object of a span
 abbrev pub object_of : List Cell → List (Scalar × Guard) → Span → Option Object
@@ -58,12 +62,6 @@ abbrev pub PointerIn : List Span → Pointer → Type 0
 PointerIn spans Null = Unit {0}
 PointerIn spans (At object cell low high stride) = PlaceIn spans object cell low high stride
 
--- a pointer that a cell holds is such a one
-abbrev pub CellIn : List Span → Cell → Type 0
-CellIn spans Unset = Unit {0}
-CellIn spans (Number value) = Unit {0}
-CellIn spans (PointerCell pointer) = PointerIn spans pointer
-
 -- what a cell of a kind may hold
 abbrev pub HoldsIn : List Span → Scalar → Cell → Type 0
 HoldsIn spans kind Unset = Unit {0}
@@ -91,23 +89,36 @@ shape_or shape index = slice_index_or shape index (PointerKind 0, Free)
 abbrev pub span_count : Span → ℕ
 span_count span = if span.alive then span.count else 0
 
--- the span of a new object; and a span whose object's lifetime has ended
-abbrev pub span_of : ℕ → ℕ → ℕ → Span
-span_of first count below = record { first = first; count = count; below = below; alive = true }
-
-abbrev pub ended_span : Span → Span
-ended_span span = record { first = span.first; count = span.count; below = span.below; alive = false }
+-- the span of a live object; and a span at another place
+abbrev pub span_of : ℕ → ℕ → Span
+span_of first count = record { first = first; count = count; alive = true }
 
 abbrev pub moved_span : ℕ → Span → Span
-moved_span first span = record { first = first; count = span.count; below = span.below; alive = span.alive }
+moved_span first span = record { first = first; count = span.count; alive = span.alive }
 
--- where the cells of the objects below a number end, the last of which lives
-abbrev pub end_of : List Span → ℕ → ℕ
-end_of spans zero = 0
-end_of spans (suc last) = (span_at spans last).first + (span_at spans last).count
+-- an object that lives, and none after it does; its cells end at a place
+pub record IsLast (spans : List Span) (last end : ℕ) : Type 0 where
+  pub alive : (span_at spans last).alive ≡ true
+  pub later : (number : ℕ) → last < number → (span_at spans number).alive ≡ false
+  pub ends : end ≡ (span_at spans last).first + (span_at spans last).count
+
+-- where the cells of the last object that lives end; nowhere if none lives
+abbrev pub EndsAfterLast : List Span → ℕ → Type 0
+EndsAfterLast spans end = (((number : ℕ) → (span_at spans number).alive ≡ false) × (end ≡ 0)) ⊎ ((last : ℕ) × IsLast spans last end)
+
+-- the first object from a number on that lives
+pub record IsNext (spans : List Span) (from number : ℕ) : Type 0 where
+  pub from_on : from ≤ number
+  pub entered : number < length spans
+  pub alive : (span_at spans number).alive ≡ true
+  pub between : (n : ℕ) → from ≤ n → n < number → (span_at spans n).alive ≡ false
+
+-- how many objects live
+abbrev pub living_in : List Span → ℕ
+living_in spans = sum_by (λ span. if span.alive then 1 else 0) spans
 
 -- what holds of the store at every moment
-pub record IsStored (most live top : ℕ) (spans : List Span) (cells : List Cell) (shape : List (Scalar × Guard)) : Type 0 where
+pub record IsStored (most live : ℕ) (spans : List Span) (cells : List Cell) (shape : List (Scalar × Guard)) : Type 0 where
   pub same_length : length shape ≡ length cells
   pub room : HasRoom spans (length cells)
   -- a live span ends before a later live one begins
@@ -115,11 +126,6 @@ pub record IsStored (most live top : ℕ) (spans : List Span) (cells : List Cell
       → (span_at spans left).first + (span_at spans left).count ≤ (span_at spans right).first
   pub counted : live ≡ sum_by span_count spans
   pub at_most : live ≤ most
-  -- from `top` on no object lives; a span's link jumps over objects that don't live
-  pub top_entered : top ≤ length spans
-  pub above : (number : ℕ) → top ≤ number → (span_at spans number).alive ≡ false
-  pub links : (number between : ℕ) → number < length spans → (span_at spans number).below ≤ between → between < number → (span_at spans between).alive ≡ false
-  pub links_down : (number : ℕ) → (span_at spans number).below ≤ number
   pub holds : (index : ℕ) → index < length cells → HoldsIn spans (shape_or shape index).0 (cell_or cells index)
 
 -- ---- the operations on the flat store, over its look-ups
@@ -153,12 +159,10 @@ flat_cells spans cells shape = cells_by (ended_in spans) (run_in spans cells) (r
 abbrev pub flat_equality : List Span → Pointer → Pointer → Result Bool Trap
 flat_equality spans = equality_by (λ object. (span_at spans object).count)
 
--- an object that lives was moved down to a place; one that has ended was not
+-- a live object was moved down to a place, where its cells end now
 pub record MovesDown (spans : List Span) (cells : List Cell) (shape : List (Scalar × Guard)) (number to : ℕ)
     (spans' : List Span) (cells' : List Cell) (shape' : List (Scalar × Guard)) (end : ℕ) : Type 0 where
-  pub ended : (span_at spans number).alive ≡ false → (spans' ≡ spans) × (cells' ≡ cells) × (shape' ≡ shape) × (end ≡ to)
-  pub live : (span_at spans number).alive ≡ true
-      → (spans' ≡ slice_set spans number (moved_span to (span_at spans number)))
-      × (cells' ≡ overwritten cells to (take (span_at spans number).count (drop (span_at spans number).first cells)))
-      × (shape' ≡ overwritten shape to (take (span_at spans number).count (drop (span_at spans number).first shape)))
-      × (end ≡ to + (span_at spans number).count)
+  pub in_spans : spans' ≡ slice_set spans number (moved_span to (span_at spans number))
+  pub in_cells : cells' ≡ overwritten cells to (take (span_at spans number).count (drop (span_at spans number).first cells))
+  pub in_shape : shape' ≡ overwritten shape to (take (span_at spans number).count (drop (span_at spans number).first shape))
+  pub ends : end ≡ to + (span_at spans number).count

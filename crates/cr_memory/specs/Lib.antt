@@ -5,3 +5,4 @@ pub mod Pointers
 pub mod Continues
 pub mod Laws
 pub mod Flat
+pub mod Spans

@@ -3,7 +3,7 @@ ghost use Rattle.cr_memory.specs.Pointers.{moved_by, difference_of, order_of, sh
 ghost use Rattle.cr_memory.specs.Flat.{span_at, ended_in, PointerIn, HasSubscript, flat_equality};
 
 use crate::flat::has_ended;
-use crate::span::Span;
+use crate::spans::Spans;
 use crate::value::{
     DIFFERENT_ARRAYS, DIFFERENT_OBJECTS, END_COMPARED, ENDED, Pointer, SUM_OUTSIDE, Trap,
 };
@@ -86,10 +86,8 @@ fn order(left: Pointer, right: Pointer) -> Result<bool, Trap>
 }
 
 /// Whether both are null, or the same place of one object.
-fn equality(spans: &Vec<Span>, left: Pointer, right: Pointer) -> Result<bool, Trap>
-    requires left { PointerIn spans.now.items left }
-    requires right { PointerIn spans.now.items right }
-    ensures { result ≡ flat_equality spans.now.items left right }
+fn equality(spans: &Spans, left: Pointer, right: Pointer) -> Result<bool, Trap>
+    ensures { result ≡ flat_equality spans.now left right }
 {
     match (left, right) {
         (Pointer::Null, Pointer::Null) => Ok(true),
@@ -113,17 +111,15 @@ fn equality(spans: &Vec<Span>, left: Pointer, right: Pointer) -> Result<bool, Tr
     }
 }
 
-fn is_last_end(spans: &Vec<Span>, object: u32, cell: u32) -> bool
-    requires { object < length spans.now.items }
-    ensures { result ≡ ((span_at spans.now.items object).count == cell) }
+fn is_last_end(spans: &Spans, object: u32, cell: u32) -> bool
+    ensures { result ≡ ((span_at spans.now object).count == cell) }
 {
-    spans[object as usize].count == cell
+    spans.get(object).count == cell
 }
 
 /// A pointer moved by a number of elements.
-pub(crate) fn shift(spans: &Vec<Span>, at: Pointer, by: i128) -> Result<Pointer, Trap>
-    requires { PointerIn spans.now.items at }
-    ensures { result ≡ shift_by (ended_in spans.now.items) at by }
+pub(crate) fn shift(spans: &Spans, at: Pointer, by: i128) -> Result<Pointer, Trap>
+    ensures { result ≡ shift_by (ended_in spans.now) at by }
 {
     if has_ended(spans, at) {
         Err(Trap::Undefined(ENDED))
@@ -133,10 +129,10 @@ pub(crate) fn shift(spans: &Vec<Span>, at: Pointer, by: i128) -> Result<Pointer,
 }
 
 /// The distance of two pointers in elements.
-pub(crate) fn differ(spans: &Vec<Span>, left: Pointer, right: Pointer) -> Result<i128, Trap>
-    requires left { PointerIn spans.now.items left }
-    requires right { PointerIn spans.now.items right }
-    ensures { result ≡ with_both (ended_in spans.now.items) left right (difference_of left right) }
+pub(crate) fn differ(spans: &Spans, left: Pointer, right: Pointer) -> Result<i128, Trap>
+    requires left { PointerIn spans.now left }
+    requires right { PointerIn spans.now right }
+    ensures { result ≡ with_both (ended_in spans.now) left right (difference_of left right) }
 {
     if has_ended(spans, left) || has_ended(spans, right) {
         Err(Trap::Undefined(ENDED))
@@ -146,10 +142,8 @@ pub(crate) fn differ(spans: &Vec<Span>, left: Pointer, right: Pointer) -> Result
 }
 
 /// The order of two pointers.
-pub(crate) fn less(spans: &Vec<Span>, left: Pointer, right: Pointer) -> Result<bool, Trap>
-    requires left { PointerIn spans.now.items left }
-    requires right { PointerIn spans.now.items right }
-    ensures { result ≡ with_both (ended_in spans.now.items) left right (order_of left right) }
+pub(crate) fn less(spans: &Spans, left: Pointer, right: Pointer) -> Result<bool, Trap>
+    ensures { result ≡ with_both (ended_in spans.now) left right (order_of left right) }
 {
     if has_ended(spans, left) || has_ended(spans, right) {
         Err(Trap::Undefined(ENDED))
@@ -159,10 +153,8 @@ pub(crate) fn less(spans: &Vec<Span>, left: Pointer, right: Pointer) -> Result<b
 }
 
 /// The equality of two pointers.
-pub(crate) fn same(spans: &Vec<Span>, left: Pointer, right: Pointer) -> Result<bool, Trap>
-    requires left { PointerIn spans.now.items left }
-    requires right { PointerIn spans.now.items right }
-    ensures { result ≡ with_both (ended_in spans.now.items) left right (flat_equality spans.now.items left right) }
+pub(crate) fn same(spans: &Spans, left: Pointer, right: Pointer) -> Result<bool, Trap>
+    ensures { result ≡ with_both (ended_in spans.now) left right (flat_equality spans.now left right) }
 {
     if has_ended(spans, left) || has_ended(spans, right) {
         Err(Trap::Undefined(ENDED))

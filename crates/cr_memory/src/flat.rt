@@ -1,10 +1,10 @@
-ghost use Rattle.std.specs.Prelude.{◌≡◌, ◌<◌, ◌≤◌, ◌↔◌, ℕ, ◌+◌, length, true, false, map, take, drop, slice_set, IsTrue, IsNone, IfNone, IfSome, IfOk, OnErr};
+ghost use Rattle.std.specs.Prelude.{◌≡◌, ◌<◌, ◌≤◌, ◌↔◌, ℕ, ◌+◌, length, true, false, map, take, drop, slice_set, Ok, IsTrue, IfNone, IfSome, IfOk};
 ghost use Rattle.std.specs.List.{list_any};
 ghost use Rattle.cr_memory.specs.Kind.{is_same};
-ghost use Rattle.cr_memory.specs.Access.{is_null_or_end, is_literal, is_constant, have_kinds, have_same_kinds, overwritten, reach_by, Writes, Reads, HasStride};
-ghost use Rattle.cr_memory.specs.Flat.{span_at, ended_in, held_ended_in, index_of, PlaceIn, PointerIn, HoldsIn, CellIn, HasRoom, cell_or, shape_or, flat_load, flat_save, flat_put, flat_copy, flat_cells};
+ghost use Rattle.cr_memory.specs.Access.{is_null_or_end, is_unset, is_literal, is_constant, have_kinds, have_same_kinds, overwritten, reaching, reach_by, Writes, Reads, HasStride};
+ghost use Rattle.cr_memory.specs.Flat.{span_at, ended_in, held_ended_in, index_of, PlaceIn, PointerIn, HoldsIn, HasRoom, cell_or, shape_or, flat_load, flat_save, flat_put, flat_copy, flat_cells};
 
-use crate::span::Span;
+use crate::spans::Spans;
 use crate::value::{
     CONSTANT_WRITTEN, Cell, ENDED, Guard, LITERAL_WRITTEN, NULL_OR_END, OTHER_TYPE, Pointer,
     Scalar, Trap, UNSET,
@@ -17,19 +17,17 @@ pub(crate) fn is_same(left: Scalar, right: Scalar) -> bool
     left == right
 }
 
-pub(crate) fn has_ended(spans: &Vec<Span>, at: Pointer) -> bool
-    requires { PointerIn spans.now.items at }
-    ensures { result ≡ ended_in spans.now.items at }
+pub(crate) fn has_ended(spans: &Spans, at: Pointer) -> bool
+    ensures { result ≡ ended_in spans.now at }
 {
     match at {
         Pointer::Null => false,
-        Pointer::At { object, .. } => !spans[object as usize].alive,
+        Pointer::At { object, .. } => !spans.get(object).alive,
     }
 }
 
-fn holds_ended(spans: &Vec<Span>, cell: Cell) -> bool
-    requires { CellIn spans.now.items cell }
-    ensures { result ≡ held_ended_in spans.now.items cell }
+fn holds_ended(spans: &Spans, cell: Cell) -> bool
+    ensures { result ≡ held_ended_in spans.now cell }
 {
     match cell {
         Cell::Pointer(pointer) => has_ended(spans, pointer),
@@ -37,41 +35,46 @@ fn holds_ended(spans: &Vec<Span>, cell: Cell) -> bool
     }
 }
 
-/// The place of the cell that a pointer points to, if it points to one.
-fn index(spans: &Vec<Span>, cells: &Vec<Cell>, at: Pointer) -> Option<usize>
-    requires live { ended_in spans.now.items at ≡ false }
-    requires within { PointerIn spans.now.items at }
-    requires room { HasRoom spans.now.items (length cells.now.items) }
-    ensures none { IsNone result ↔ (is_null_or_end at ≡ true) }
-    ensures place { IfSome result (λ i. (i ≡ index_of spans.now.items at) × (i < length cells.now.items)) }
+/// The place of the cell that a pointer points to.
+fn index(spans: &Spans, cells: &Vec<Cell>, at: Pointer) -> Result<usize, Trap>
+    requires within { PointerIn spans.now at }
+    requires room { HasRoom spans.now (length cells.now.items) }
+    ensures place { result ≡ reaching (ended_in spans.now at) (is_null_or_end at) (Ok (index_of spans.now at)) }
+    ensures inside { IfOk result (λ i. i < length cells.now.items) }
 {
-    match at {
-        Pointer::At {
-            object,
-            cell,
-            high,
-            ..
-        } if cell < high => Some(spans[object as usize].first + cell as usize),
-        _ => None,
+    let Pointer::At {
+        object,
+        cell,
+        high,
+        ..
+    } = at
+    else {
+        return Err(Trap::Undefined(NULL_OR_END));
+    };
+    let span = spans.get(object);
+    if !span.alive {
+        Err(Trap::Undefined(ENDED))
+    } else if cell < high {
+        Ok(span.first + cell as usize)
+    } else {
+        Err(Trap::Undefined(NULL_OR_END))
     }
 }
 
-/// The place of the first of the cells of an element, if the pointer points to one.
-fn first_index(spans: &Vec<Span>, cells: &Vec<Cell>, at: Pointer, count: usize) -> Option<usize>
-    requires live { ended_in spans.now.items at ≡ false }
-    requires within { PointerIn spans.now.items at }
+/// The place of the first of the cells of an element that a pointer points to.
+fn first_index(spans: &Spans, cells: &Vec<Cell>, at: Pointer, count: usize) -> Result<usize, Trap>
+    requires within { PointerIn spans.now at }
     requires stride { HasStride at count }
-    requires room { HasRoom spans.now.items (length cells.now.items) }
-    ensures none { IsNone result ↔ (is_null_or_end at ≡ true) }
-    ensures place { IfSome result (λ i. (i ≡ index_of spans.now.items at) × (i + count ≤ length cells.now.items)) }
+    requires room { HasRoom spans.now (length cells.now.items) }
+    ensures place { result ≡ reaching (ended_in spans.now at) (is_null_or_end at) (Ok (index_of spans.now at)) }
+    ensures inside { IfOk result (λ i. i + count ≤ length cells.now.items) }
 {
     index(spans, cells, at)
 }
 
 /// Whether a pointer points to a cell of a live object.
-pub(crate) fn reach(spans: &Vec<Span>, at: Pointer) -> Result<(), Trap>
-    requires { PointerIn spans.now.items at }
-    ensures { result ≡ reach_by (ended_in spans.now.items) at }
+pub(crate) fn reach(spans: &Spans, at: Pointer) -> Result<(), Trap>
+    ensures { result ≡ reach_by (ended_in spans.now) at }
 {
     if has_ended(spans, at) {
         return Err(Trap::Undefined(ENDED));
@@ -82,32 +85,35 @@ pub(crate) fn reach(spans: &Vec<Span>, at: Pointer) -> Result<(), Trap>
     }
 }
 
+fn is_unset(cell: Cell) -> bool
+    ensures { result ≡ is_unset cell }
+{
+    match cell {
+        Cell::Unset => true,
+        Cell::Number(_) | Cell::Pointer(_) => false,
+    }
+}
+
 /// The cell at a pointer's place as a value of a kind.
 pub(crate) fn load(
-    spans: &Vec<Span>,
+    spans: &Spans,
     cells: &Vec<Cell>,
     shape: &Vec<(Scalar, Guard)>,
     at: Pointer,
     kind: Scalar,
 ) -> Result<Cell, Trap>
-    requires within { PointerIn spans.now.items at }
-    requires room { HasRoom spans.now.items (length cells.now.items) }
+    requires within { PointerIn spans.now at }
+    requires room { HasRoom spans.now (length cells.now.items) }
     requires same_length { length shape.now.items ≡ length cells.now.items }
-    requires held { (i : ℕ) → i < length cells.now.items → CellIn spans.now.items (cell_or cells.now.items i) }
-    ensures { result ≡ flat_load spans.now.items cells.now.items shape.now.items at kind }
+    ensures { result ≡ flat_load spans.now cells.now.items shape.now.items at kind }
 {
-    if has_ended(spans, at) {
-        return Err(Trap::Undefined(ENDED));
-    }
-    let Some(index) = index(spans, cells, at) else {
-        return Err(Trap::Undefined(NULL_OR_END));
-    };
+    let index = index(spans, cells, at)?;
     let cell = cells[index];
     if holds_ended(spans, cell) {
         Err(Trap::Undefined(ENDED))
     } else if !is_same(shape[index].0, kind) {
         Err(Trap::Left(OTHER_TYPE))
-    } else if cell == Cell::Unset {
+    } else if is_unset(cell) {
         Err(Trap::Undefined(UNSET))
     } else {
         Ok(cell)
@@ -116,24 +122,19 @@ pub(crate) fn load(
 
 /// Writes a value of a kind to the cell at a pointer's place.
 pub(crate) fn save(
-    spans: &Vec<Span>,
+    spans: &Spans,
     cells: &mut Vec<Cell>,
     shape: &Vec<(Scalar, Guard)>,
     at: Pointer,
     kind: Scalar,
     value: Cell,
 ) -> Result<(), Trap>
-    requires within { PointerIn spans.now.items at }
-    requires room { HasRoom spans.now.items (length cells.old.items) }
+    requires within { PointerIn spans.now at }
+    requires room { HasRoom spans.now (length cells.old.items) }
     requires same_length { length shape.now.items ≡ length cells.old.items }
-    ensures { Writes (flat_save spans.now.items cells.old.items shape.now.items at kind value) result cells.old.items cells.new.items }
+    ensures { Writes (flat_save spans.now cells.old.items shape.now.items at kind value) result cells.old.items cells.new.items }
 {
-    if has_ended(spans, at) {
-        return Err(Trap::Undefined(ENDED));
-    }
-    let Some(index) = index(spans, cells, at) else {
-        return Err(Trap::Undefined(NULL_OR_END));
-    };
+    let index = index(spans, cells, at)?;
     let (own, guard) = shape[index];
     match guard {
         Guard::Literal => Err(Trap::Undefined(LITERAL_WRITTEN)),
@@ -185,26 +186,21 @@ fn write_over(cells: &mut Vec<Cell>, target: usize, values: &[Cell])
 
 /// Writes values of the kinds to the cells of a structure.
 pub(crate) fn put(
-    spans: &Vec<Span>,
+    spans: &Spans,
     cells: &mut Vec<Cell>,
     shape: &Vec<(Scalar, Guard)>,
     to: Pointer,
     kinds: &[Scalar],
     values: &[Cell],
 ) -> Result<(), Trap>
-    requires to { PointerIn spans.now.items to }
+    requires to { PointerIn spans.now to }
     requires stride { HasStride to (length kinds.now) }
     requires same_number { length values.now ≡ length kinds.now }
-    requires room { HasRoom spans.now.items (length cells.old.items) }
+    requires room { HasRoom spans.now (length cells.old.items) }
     requires same_length { length shape.now.items ≡ length cells.old.items }
-    ensures { Writes (flat_put spans.now.items cells.old.items shape.now.items to kinds.now values.now) result cells.old.items cells.new.items }
+    ensures { Writes (flat_put spans.now cells.old.items shape.now.items to kinds.now values.now) result cells.old.items cells.new.items }
 {
-    if has_ended(spans, to) {
-        return Err(Trap::Undefined(ENDED));
-    }
-    let Some(target) = first_index(spans, cells, to, kinds.len()) else {
-        return Err(Trap::Undefined(NULL_OR_END));
-    };
+    let target = first_index(spans, cells, to, kinds.len())?;
     let own = &shape[target..target + kinds.len()];
     if has_literal(own) {
         return Err(Trap::Undefined(LITERAL_WRITTEN));
@@ -243,31 +239,27 @@ fn copy_up(cells: &mut Vec<Cell>, source: usize, target: usize, count: usize)
 
 /// Copies as many cells as a structure has.
 pub(crate) fn copy(
-    spans: &Vec<Span>,
+    spans: &Spans,
     cells: &mut Vec<Cell>,
     shape: &Vec<(Scalar, Guard)>,
     from: Pointer,
     to: Pointer,
     count: u32,
 ) -> Result<(), Trap>
-    requires from { PointerIn spans.now.items from }
-    requires to { PointerIn spans.now.items to }
+    requires from { PointerIn spans.now from }
+    requires to { PointerIn spans.now to }
     requires from_stride { HasStride from count }
     requires to_stride { HasStride to count }
-    requires room { HasRoom spans.now.items (length cells.old.items) }
+    requires room { HasRoom spans.now (length cells.old.items) }
     requires same_length { length shape.now.items ≡ length cells.old.items }
-    ensures { Writes (flat_copy spans.now.items cells.old.items shape.now.items from to count) result cells.old.items cells.new.items }
+    ensures { Writes (flat_copy spans.now cells.old.items shape.now.items from to count) result cells.old.items cells.new.items }
 {
     if has_ended(spans, from) || has_ended(spans, to) {
         return Err(Trap::Undefined(ENDED));
     }
     let count = count as usize;
-    let Some(source) = first_index(spans, cells, from, count) else {
-        return Err(Trap::Undefined(NULL_OR_END));
-    };
-    let Some(target) = first_index(spans, cells, to, count) else {
-        return Err(Trap::Undefined(NULL_OR_END));
-    };
+    let source = first_index(spans, cells, from, count)?;
+    let target = first_index(spans, cells, to, count)?;
     let own = &shape[target..target + count];
     if has_literal(own) {
         return Err(Trap::Undefined(LITERAL_WRITTEN));
@@ -289,24 +281,19 @@ pub(crate) fn copy(
 /// The cells of a structure.
 pub(crate) fn cells(
     alloc: Global,
-    spans: &Vec<Span>,
+    spans: &Spans,
     cells: &Vec<Cell>,
     shape: &Vec<(Scalar, Guard)>,
     from: Pointer,
     kinds: &[Scalar],
 ) -> Result<Vec<Cell>, Trap>
-    requires from { PointerIn spans.now.items from }
+    requires from { PointerIn spans.now from }
     requires from_stride { HasStride from (length kinds.now) }
-    requires room { HasRoom spans.now.items (length cells.now.items) }
+    requires room { HasRoom spans.now (length cells.now.items) }
     requires same_length { length shape.now.items ≡ length cells.now.items }
-    ensures { Reads (flat_cells spans.now.items cells.now.items shape.now.items from kinds.now) result }
+    ensures { Reads (flat_cells spans.now cells.now.items shape.now.items from kinds.now) result }
 {
-    if has_ended(spans, from) {
-        return Err(Trap::Undefined(ENDED));
-    }
-    let Some(start) = first_index(spans, cells, from, kinds.len()) else {
-        return Err(Trap::Undefined(NULL_OR_END));
-    };
+    let start = first_index(spans, cells, from, kinds.len())?;
     if !have_kinds(&shape[start..start + kinds.len()], kinds) {
         return Err(Trap::Left(OTHER_TYPE));
     }
@@ -317,17 +304,16 @@ pub(crate) fn cells(
 }
 
 /// Sets a cell of a live object, whatever its guard.
-pub(crate) fn begin(spans: &Vec<Span>, cells: &mut Vec<Cell>, object: u32, cell: u32, value: Cell)
-    requires entered { object < length spans.now.items }
-    requires within { (span_at spans.now.items object).first + cell < length cells.old.items }
-    ensures { cells.new.items ≡ slice_set cells.old.items ((span_at spans.now.items object).first + cell) value }
+pub(crate) fn begin(spans: &Spans, cells: &mut Vec<Cell>, object: u32, cell: u32, value: Cell)
+    requires { (span_at spans.now object).first + cell < length cells.old.items }
+    ensures { cells.new.items ≡ slice_set cells.old.items ((span_at spans.now object).first + cell) value }
 {
-    cells[spans[object as usize].first + cell as usize] = value;
+    cells[spans.get(object).first + cell as usize] = value;
 }
 
 /// Whether a pointer names an object that was entered, into an array of whole elements, within its cells where it lives.
-pub(crate) fn is_pointer(spans: &Vec<Span>, at: Pointer) -> bool
-    ensures { IsTrue result ↔ PointerIn spans.now.items at }
+pub(crate) fn is_pointer(spans: &Spans, at: Pointer) -> bool
+    ensures { IsTrue result ↔ PointerIn spans.now at }
 {
     match at {
         Pointer::Null => true,
@@ -341,26 +327,19 @@ pub(crate) fn is_pointer(spans: &Vec<Span>, at: Pointer) -> bool
     }
 }
 
-fn is_array_place(
-    spans: &Vec<Span>,
-    object: u32,
-    cell: u32,
-    low: u32,
-    high: u32,
-    stride: u32,
-) -> bool
-    ensures { IsTrue result ↔ PlaceIn spans.now.items object cell low high stride }
+fn is_array_place(spans: &Spans, object: u32, cell: u32, low: u32, high: u32, stride: u32) -> bool
+    ensures { IsTrue result ↔ PlaceIn spans.now object cell low high stride }
 {
-    if object as usize >= spans.len() || stride == 0 || cell < low || high < cell {
+    if object >= spans.entered() || stride == 0 || cell < low || high < cell {
         return false;
     }
-    let span = spans[object as usize];
+    let span = spans.get(object);
     (cell - low) % stride == 0 && (high - cell) % stride == 0 && (!span.alive || high <= span.count)
 }
 
 /// Whether a value may stand in a cell of a kind.
-pub(crate) fn holds(spans: &Vec<Span>, kind: Scalar, value: Cell) -> bool
-    ensures { IsTrue result ↔ HoldsIn spans.now.items kind value }
+pub(crate) fn holds(spans: &Spans, kind: Scalar, value: Cell) -> bool
+    ensures { IsTrue result ↔ HoldsIn spans.now kind value }
 {
     match (kind, value) {
         (_, Cell::Unset) => true,
@@ -372,19 +351,16 @@ pub(crate) fn holds(spans: &Vec<Span>, kind: Scalar, value: Cell) -> bool
 
 /// The kind of a live object's cell.
 pub(crate) fn kind_of(
-    spans: &Vec<Span>,
+    spans: &Spans,
     shape: &Vec<(Scalar, Guard)>,
     object: u32,
     cell: u32,
 ) -> Option<Scalar>
-    requires { HasRoom spans.now.items (length shape.now.items) }
-    ensures some { IfSome result (λ kind. ((span_at spans.now.items object).alive ≡ true) × (cell < (span_at spans.now.items object).count) × (kind ≡ (shape_or shape.now.items ((span_at spans.now.items object).first + cell)).0)) }
-    ensures none { IfNone result ((span_at spans.now.items object).alive ≡ true → (span_at spans.now.items object).count ≤ cell) }
+    requires { HasRoom spans.now (length shape.now.items) }
+    ensures some { IfSome result (λ kind. ((span_at spans.now object).alive ≡ true) × (cell < (span_at spans.now object).count) × (kind ≡ (shape_or shape.now.items ((span_at spans.now object).first + cell)).0)) }
+    ensures none { IfNone result ((span_at spans.now object).alive ≡ true → (span_at spans.now object).count ≤ cell) }
 {
-    if object as usize >= spans.len() {
-        return None;
-    }
-    let span = spans[object as usize];
+    let span = spans.get(object);
     if !span.alive || cell >= span.count {
         return None;
     }

@@ -9,6 +9,7 @@ mod flat;
 pub mod laws;
 mod lifetime;
 mod span;
+mod spans;
 mod store;
 mod value;
 

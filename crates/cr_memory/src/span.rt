@@ -3,7 +3,5 @@
 pub struct Span {
     pub first: usize,
     pub count: u32,
-    /// The objects from this number on, up to this one, have ended.
-    pub below: u32,
     pub alive: bool,
 }

@@ -5,7 +5,7 @@ ghost use Rattle.cr_memory.specs.Pointers.{shift_of, differ_of, less_of, same_of
 ghost use Rattle.cr_memory.specs.Continues.{Continues, ContinuesBeside};
 ghost use Rattle.cr_memory.specs.Laws.{HoldsKinds};
 
-use crate::span::Span;
+use crate::spans::Spans;
 use crate::value::{Cell, Guard, NO_ROOM, Pointer, Scalar, Trap};
 use crate::{arithmetic, flat, lifetime};
 use std::alloc::Global;
@@ -16,8 +16,7 @@ use std::marker::Model;
 pub struct Store {
     most: u32,
     live: u32,
-    top: u32,
-    spans: Vec<Span>,
+    spans: Spans,
     cells: Vec<Cell>,
     shape: Vec<(Scalar, Guard)>,
 }
@@ -28,9 +27,9 @@ impl Model for Store {
 
     ghost Value = { Memory };
 
-    ghost view = { λ s. memory_of s.most s.spans.items s.cells.items s.shape.items };
+    ghost view = { λ s. memory_of s.most s.spans s.cells.items s.shape.items };
 
-    ghost invariant = { λ s. IsStored s.most s.live s.top s.spans.items s.cells.items s.shape.items };
+    ghost invariant = { λ s. IsStored s.most s.live s.spans s.cells.items s.shape.items };
 }
 
 impl Store {
@@ -41,8 +40,7 @@ impl Store {
         Store {
             most,
             live: 0,
-            top: 0,
-            spans: Vec::new(alloc),
+            spans: Spans::new(alloc),
             cells: Vec::new(alloc),
             shape: Vec::new(alloc),
         }
@@ -180,29 +178,27 @@ impl Store {
             &mut self.spans,
             &mut self.cells,
             &mut self.shape,
-            self.top,
             shape,
             zero,
         ) {
             Ok(number) => {
                 self.live += count as u32;
-                self.top = number + 1;
                 Ok(number)
             }
             Err(_) => Err(Trap::NoMemory),
         }
     }
 
-    /// Ends the lifetime of a live object (6.2.4p2).
+    /// Ends the lifetime of a live object (6.2.4p2). The last that was entered leaves fastest; another one in the time of
+    /// a step for each live object that was entered after it.
     pub fn leave(&mut self, object: u32)
         requires { IsSome (live_object self.old object) }
         ensures ended { self.new ≡ without_object self.old object }
         ensures kept { KeepsPointers self.old self.new }
         ensures others { ContinuesBeside object self.old self.new }
     {
-        self.live -= lifetime::end_object(&mut self.spans, object);
-        self.top = lifetime::top_below(&self.spans, self.top);
-        let end = lifetime::end(&self.spans, self.top);
+        self.live -= self.spans.leave(object);
+        let end = self.spans.end();
         lifetime::cut(&mut self.cells, end);
         lifetime::cut(&mut self.shape, end);
         self.tidy();
@@ -212,7 +208,7 @@ impl Store {
     pub fn is_live(&self, object: u32) -> bool
         ensures { result ≡ is_some (live_object self.now object) }
     {
-        (object as usize) < self.spans.len() && self.spans[object as usize].alive
+        self.spans.get(object).alive
     }
 
     /// Whether the pointer is one of this memory: what the other calls ask of their pointers.
@@ -246,11 +242,12 @@ impl Store {
         let _read = self.most;
     }
 
-    // Bounds the idle cells by the live ones and one for each object, at a cost that the calls of `leave` before have paid.
+    // Bounds the idle cells by the live ones and one for each live object, in time for which the calls of `leave` before
+    // have paid but for the searches by halves.
     fn tidy(&mut self)
         ensures { self.new ≡ self.old }
     {
-        if self.cells.len() / 2 > self.live as usize + self.spans.len() {
+        if self.cells.len() / 2 > self.live as usize + self.spans.living() as usize {
             self.close_gaps();
         }
     }
@@ -259,8 +256,9 @@ impl Store {
     fn close_gaps(&mut self)
         ensures { self.new ≡ self.old }
     {
+        let mut from = 0;
         let mut end = 0;
-        for number in 0..self.spans.len() {
+        while let Some(number) = self.spans.next(from) {
             end = lifetime::move_down(
                 &mut self.spans,
                 &mut self.cells,
@@ -268,6 +266,7 @@ impl Store {
                 number,
                 end,
             );
+            from = number + 1;
         }
         lifetime::cut(&mut self.cells, end);
         lifetime::cut(&mut self.shape, end);

@@ -10,7 +10,7 @@ pub returns-clause-value : goal.returns-clause-value
 returns-clause-value c =
     let i = c.self.inside in
     let from = pointer_seen i.most _ _ i.shape.items _ c.args.from c.self.view_is c.self.invariant.room c.requires.pointer in
-    rw (← c.self.view_is, ← flat_cells-is i.most i.spans.items i.cells.items i.shape.items c.args.from c.args.kinds.now c.self.invariant.room from c.requires.stride)
+    rw (← c.self.view_is, ← flat_cells-is i.most i.spans i.cells.items i.shape.items c.args.from c.args.kinds.now c.self.invariant.room from c.requires.stride)
     c.cells.ensures
 
 pub returns-clause-holds : goal.returns-clause-holds
@@ -18,4 +18,4 @@ returns-clause-holds c =
     let i = c.self.inside in
     let from = pointer_seen i.most _ _ i.shape.items _ c.args.from c.self.view_is c.self.invariant.room c.requires.pointer in
     rw (← c.self.view_is)
-    (flat_cells-hold i.most i.live i.top i.spans.items i.cells.items i.shape.items c.args.from c.args.kinds.now c.self.invariant from c.requires.stride c.cells.result c.cells.ensures)
+    (flat_cells-hold i.most i.live i.spans i.cells.items i.shape.items c.args.from c.args.kinds.now c.self.invariant from c.requires.stride c.cells.result c.cells.ensures)

@@ -19,36 +19,36 @@ pub invariant_of-self : goal.invariant_of-self
 invariant_of-self c =
     let i = c.self.inside in
     let s = c.self.invariant in
-    let from = pointer_seen i.most i.spans.items i.cells.items i.shape.items _ c.args.from c.self.view_is s.room c.requires.from in
-    let to = pointer_seen i.most i.spans.items i.cells.items i.shape.items _ c.args.to c.self.view_is s.room c.requires.to in
-    (copy_done i.most i.live i.top i.spans.items i.cells.items _ i.shape.items c.args.from c.args.to c.args.count c.copy.result s from to c.requires.from_stride c.requires.to_stride c.copy.ensures).stored
+    let from = pointer_seen i.most i.spans i.cells.items i.shape.items _ c.args.from c.self.view_is s.room c.requires.from in
+    let to = pointer_seen i.most i.spans i.cells.items i.shape.items _ c.args.to c.self.view_is s.room c.requires.to in
+    (copy_done i.most i.live i.spans i.cells.items _ i.shape.items c.args.from c.args.to c.args.count c.copy.result s from to c.requires.from_stride c.requires.to_stride c.copy.ensures).stored
 
 pub returns-clause-written : goal.returns-clause-written
 returns-clause-written c =
     let i = c.self.inside in
     let s = c.self.invariant in
-    let from = pointer_seen i.most i.spans.items i.cells.items i.shape.items _ c.args.from c.self.view_is s.room c.requires.from in
-    let to = pointer_seen i.most i.spans.items i.cells.items i.shape.items _ c.args.to c.self.view_is s.room c.requires.to in
-    let P : Memory → Type 0 = λ m. Writes (copy_of m c.args.from c.args.to c.args.count) c.copy.result m (memory_of i.most i.spans.items c.copy.new.cells.items i.shape.items) in
+    let from = pointer_seen i.most i.spans i.cells.items i.shape.items _ c.args.from c.self.view_is s.room c.requires.from in
+    let to = pointer_seen i.most i.spans i.cells.items i.shape.items _ c.args.to c.self.view_is s.room c.requires.to in
+    let P : Memory → Type 0 = λ m. Writes (copy_of m c.args.from c.args.to c.args.count) c.copy.result m (memory_of i.most i.spans c.copy.new.cells.items i.shape.items) in
     subst P c.self.view_is
-    (copy_done i.most i.live i.top i.spans.items i.cells.items _ i.shape.items c.args.from c.args.to c.args.count c.copy.result s from to c.requires.from_stride c.requires.to_stride c.copy.ensures).seen
+    (copy_done i.most i.live i.spans i.cells.items _ i.shape.items c.args.from c.args.to c.args.count c.copy.result s from to c.requires.from_stride c.requires.to_stride c.copy.ensures).seen
 
 pub returns-clause-kept : goal.returns-clause-kept
 returns-clause-kept c =
     let i = c.self.inside in
     let s = c.self.invariant in
-    let from = pointer_seen i.most i.spans.items i.cells.items i.shape.items _ c.args.from c.self.view_is s.room c.requires.from in
-    let to = pointer_seen i.most i.spans.items i.cells.items i.shape.items _ c.args.to c.self.view_is s.room c.requires.to in
-    let P : Memory → Type 0 = λ m. KeepsPointers m (memory_of i.most i.spans.items c.copy.new.cells.items i.shape.items) in
+    let from = pointer_seen i.most i.spans i.cells.items i.shape.items _ c.args.from c.self.view_is s.room c.requires.from in
+    let to = pointer_seen i.most i.spans i.cells.items i.shape.items _ c.args.to c.self.view_is s.room c.requires.to in
+    let P : Memory → Type 0 = λ m. KeepsPointers m (memory_of i.most i.spans c.copy.new.cells.items i.shape.items) in
     subst P c.self.view_is
-    (copy_done i.most i.live i.top i.spans.items i.cells.items _ i.shape.items c.args.from c.args.to c.args.count c.copy.result s from to c.requires.from_stride c.requires.to_stride c.copy.ensures).kept
+    (copy_done i.most i.live i.spans i.cells.items _ i.shape.items c.args.from c.args.to c.args.count c.copy.result s from to c.requires.from_stride c.requires.to_stride c.copy.ensures).kept
 
 pub returns-clause-continues : goal.returns-clause-continues
 returns-clause-continues c =
     let i = c.self.inside in
     let s = c.self.invariant in
-    let from = pointer_seen i.most i.spans.items i.cells.items i.shape.items _ c.args.from c.self.view_is s.room c.requires.from in
-    let to = pointer_seen i.most i.spans.items i.cells.items i.shape.items _ c.args.to c.self.view_is s.room c.requires.to in
-    let P : Memory → Type 0 = λ m. Continues m (memory_of i.most i.spans.items c.copy.new.cells.items i.shape.items) in
+    let from = pointer_seen i.most i.spans i.cells.items i.shape.items _ c.args.from c.self.view_is s.room c.requires.from in
+    let to = pointer_seen i.most i.spans i.cells.items i.shape.items _ c.args.to c.self.view_is s.room c.requires.to in
+    let P : Memory → Type 0 = λ m. Continues m (memory_of i.most i.spans c.copy.new.cells.items i.shape.items) in
     subst P c.self.view_is
-    (copy_done i.most i.live i.top i.spans.items i.cells.items _ i.shape.items c.args.from c.args.to c.args.count c.copy.result s from to c.requires.from_stride c.requires.to_stride c.copy.ensures).continues
+    (copy_done i.most i.live i.spans i.cells.items _ i.shape.items c.args.from c.args.to c.args.count c.copy.result s from to c.requires.from_stride c.requires.to_stride c.copy.ensures).continues

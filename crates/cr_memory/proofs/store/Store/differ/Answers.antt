@@ -15,5 +15,5 @@ differ-requires-clause-right c =
 pub returns : goal.returns
 returns c =
     let i = c.self.inside in
-    c.differ.ensures ∙ with_both-is i.most i.spans.items i.cells.items i.shape.items c.args.left c.args.right _ _ (λ l r. refl)
+    c.differ.ensures ∙ with_both-is i.most i.spans i.cells.items i.shape.items c.args.left c.args.right _ _ (λ l r. refl)
     ∙ ap (λ m. differ_of m c.args.left c.args.right) c.self.view_is

@@ -19,4 +19,4 @@ pub returns-clause-holds : goal.returns-clause-holds
 returns-clause-holds c =
     let i = c.self.inside in
     let at = pointer_seen i.most _ _ i.shape.items _ c.args.at c.self.view_is c.self.invariant.room c.requires in
-    rw (c.load.ensures, ← c.self.view_is) (flat_load-holds i.most i.live i.top _ _ _ c.args.at c.args.kind c.self.invariant at)
+    rw (c.load.ensures, ← c.self.view_is) (flat_load-holds i.most i.live _ _ _ c.args.at c.args.kind c.self.invariant at)
