@@ -95,9 +95,9 @@ fn main(rt: HostRuntime) -> io::Result<()> {
         let nodes = unit.nodes.as_slice();
         println!(rt; "parsed {} {}", nodes.len(), start.elapsed(&rt)?.as_micros())?;
         let start = Instant::now(&rt)?;
-        let menu = statements(alloc, tokens, nodes)?;
+        let menu = statements(alloc, file, tokens, nodes)?;
         println!(rt; "s {} {}", width(&menu, 0), start.elapsed(&rt)?.as_micros())?;
-        for level in 0..5u8 {
+        for level in 0..6u8 {
             let start = Instant::now(&rt)?;
             let bytes = hundred(&menu, file, level, &mut out);
             println!(rt; "s-{} {} {} MB/s", level, bytes, start.elapsed(&rt)?.as_micros())?;

@@ -31,6 +31,7 @@ impl Model for Reading {
 }
 
 impl Reading {
+    /// Nothing is read yet. It takes no memory.
     pub fn new(alloc: Global) -> Reading
         ensures { result ≡ empty }
     {

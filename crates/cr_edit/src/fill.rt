@@ -7,7 +7,7 @@ ghost use Rattle.cr_edit.specs.Space.{needs_space};
 
 use crate::form::{Bit, Kept, Run, Sign};
 use crate::glue::put;
-use crate::part::part;
+use crate::range::part;
 use crate::space::needs_space;
 use cr_tokens::Token;
 use std::alloc::AllocError;

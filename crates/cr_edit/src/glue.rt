@@ -4,13 +4,14 @@ ghost use Rattle.cr_edit.specs.Glue.{first_byte, glued, is_word_byte, last_byte,
 
 use std::alloc::AllocError;
 
+/// Whether a byte is a letter, a digit or an underscore.
 pub fn is_word_byte(byte: u8) -> bool
     ensures { result ≡ is_word_byte byte }
 {
     matches!(byte, b'a'..=b'z' | b'A'..=b'Z' | b'0'..=b'9' | b'_')
 }
 
-// The first byte, or 0 where there is none.
+/// The first byte, or 0 where there is none.
 pub fn first_byte(text: &[u8]) -> u8
     ensures { result ≡ first_byte text.now }
 {
@@ -20,7 +21,7 @@ pub fn first_byte(text: &[u8]) -> u8
     }
 }
 
-// The last byte, or 0 where there is none.
+/// The last byte, or 0 where there is none.
 pub fn last_byte(text: &[u8]) -> u8
     ensures { result ≡ last_byte text.now }
 {

@@ -14,7 +14,7 @@ mod form;
 mod glue;
 mod laws;
 mod menu;
-mod part;
+mod range;
 mod space;
 #[cfg(test)]
 mod tests;
@@ -28,5 +28,6 @@ pub use laws::{
     lines_need_no_seam, nested_changes_go_with_the_outer_one,
 };
 pub use menu::{Menu, variant, width};
+pub use range::part;
 pub use space::needs_space;
 pub use write::apply;

@@ -6,7 +6,7 @@ ghost use Rattle.cr_edit.specs.declared.change.Change.{Change as SpecChange};
 
 use crate::fill::put_filled;
 use crate::glue::put;
-use crate::part::part;
+use crate::range::part;
 use crate::{Change, Kept, Text};
 use std::alloc::AllocError;
 

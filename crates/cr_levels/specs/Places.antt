@@ -1,5 +1,5 @@
 -- Ranges of tokens, and edits that take them away.
-use Rattle.std.specs.Prelude.{ℕ, ◌+◌, ◌-◌, ◌==◌, nat_le, List, slice_index_or, if◌then◌else◌}
+use Rattle.std.specs.Prelude.{ℕ, ◌+◌, ◌-◌, ◌==◌, nat_le, List, slice_index_or, slice_range, if◌then◌else◌}
 use Rattle.cr_tokens.specs.declared.token.Token.{Token}
 use Rattle.cr_tokens.specs.declared.token.TokenKind.TheVariants.{Punctuator}
 use Rattle.cr_edit.specs.declared.change.Change.{Change}
@@ -9,6 +9,10 @@ use Rattle.cr_edit.specs.declared.change.Text.TheVariants.{Nothing}
 -- the token of a number; one that isn't there has no bytes, and stands at the front
 abbrev pub token_at : List Token → ℕ → Token
 token_at tokens at = slice_index_or tokens at (record { kind = Punctuator; start = 0; end = 0 })
+
+-- the bytes that spell the token of a number; one that isn't there has none
+abbrev pub spelling_at : List ℕ → List Token → ℕ → List ℕ
+spelling_at file tokens at = slice_range file (token_at tokens at).start (token_at tokens at).end
 
 -- the text comes in the place of the tokens from first to last
 abbrev pub replaced : List Token → ℕ → ℕ → Text → Change

@@ -17,6 +17,8 @@ mod tests;
 pub use counted::Counted;
 pub use level::{Level, Turns, in_turn, list};
 pub use node::{
-    becoming, bytes_of, kind_at, parts_at, put_each_becoming, put_in_its_place, span_at,
+    becoming, behind_first, bytes_of, first_of, kind_at, parts_at, put_each_becoming,
+    put_in_its_place, span_at,
 };
-pub use place::{gone, replaced, with_comma};
+pub use order::sort;
+pub use place::{gone, replaced, spelling_at, with_comma};

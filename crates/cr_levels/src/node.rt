@@ -1,5 +1,5 @@
 // Edits of nodes.
-ghost use Rattle.std.specs.Prelude.{◌≡◌, ◌++◌, IfOk, OnOk};
+ghost use Rattle.std.specs.Prelude.{◌≡◌, ◌++◌, drop, take, IfOk, OnOk};
 ghost use Rattle.cr_levels.specs.Nodes.{becoming, bytes_of, each_becoming, in_its_place, node_at};
 
 use crate::Counted;
@@ -28,6 +28,20 @@ pub fn parts_at(nodes: &[Node], at: usize) -> &[u32]
         Some(node) => node.parts.as_slice(),
         None => &[],
     }
+}
+
+/// The first of some parts, if there is one.
+pub fn first_of(parts: &[u32]) -> &[u32]
+    ensures { result.now ≡ take 1 parts.now }
+{
+    &parts[..parts.len().min(1)]
+}
+
+/// The parts behind the first one.
+pub fn behind_first(parts: &[u32]) -> &[u32]
+    ensures { result.now ≡ drop 1 parts.now }
+{
+    &parts[parts.len().min(1)..]
 }
 
 /// The first and the last token of a node.

@@ -54,7 +54,8 @@ fn edit_at(all: &[Counted], at: usize) -> &[Change]
     }
 }
 
-fn sort<T: Ord>(list: &mut Vec<T>) -> Result<(), AllocError>
+/// Puts a list in order. The error is want of memory; the list has all its elements then, in some order.
+pub fn sort<T: Ord>(list: &mut Vec<T>) -> Result<(), AllocError>
     requires { (x y : T) → T.cmp x y ≡ Equal → x ≡ y }
     ensures { OnOk result (list.new.items ≡ in_order T.cmp list.old.items) }
 {

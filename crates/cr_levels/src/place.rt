@@ -1,8 +1,8 @@
 // Ranges of tokens.
 ghost use Rattle.std.specs.Prelude.{◌≡◌};
-ghost use Rattle.cr_levels.specs.Places.{gone, replaced, token_at, with_comma};
+ghost use Rattle.cr_levels.specs.Places.{gone, replaced, spelling_at, token_at, with_comma};
 
-use cr_edit::{Change, Text};
+use cr_edit::{Change, Text, part};
 use cr_tokens::{Token, TokenKind};
 
 pub(crate) fn token_at(tokens: &[Token], at: usize) -> Token
@@ -16,6 +16,14 @@ pub(crate) fn token_at(tokens: &[Token], at: usize) -> Token
             end: 0,
         },
     }
+}
+
+/// The bytes that spell the token of a number. One that isn't there has none.
+pub fn spelling_at<'a>(file: &'a [u8], tokens: &[Token], at: usize) -> &'a [u8]
+    ensures { result.now ≡ spelling_at file.now tokens.now at }
+{
+    let token = token_at(tokens, at);
+    part(file, token.start as usize, token.end as usize)
 }
 
 /// The text comes in the place of the tokens from `first` to `last`. A token that isn't there has no bytes, and stands at the front.

@@ -63,6 +63,19 @@ s 3 4 6¦int main(){{ ;/*a*/{}}do x;while(1);for(;;);switch(1){case 1:while(1);d
 s 4 0 2¦int main(){ ;/*a*/{}do x;while(1);for(;;);switch(1){case 1:while(1)x;default:;}}
 s 4 1 2¦int main(){{ ;/*a*/}do x;while(1);for(;;);switch(1){case 1:while(1)x;default:;}}
 f 0 0 1¦int main(){{;{}}do x;while(1);for(;;);switch(1){case 1:while(1)x;default:;}}
+file¦int main(){L:return 0;}
+s 5 0 1¦int main(){return 0;}
+file¦int main(){L :/*a*/M:goto M;N:;}
+s 5 0 2¦int main(){/*a*/M:goto M;N:;}
+s 5 1 2¦int main(){L :/*a*/M:goto M;;}
+file¦int f(){goto L;L:;}int main(){L:;}
+s 5 0 1¦int f(){goto L;L:;}int main(){;}
+file¦int main(){switch(1){case 1:;default:;}}
+s 5 0 0¦int main(){switch(1){case 1:;default:;}}
+file¦int main(){return x;}
+s 0 0 1¦int main(){}
+file¦int f(int a){int a;}
+s 0 0 1¦int f(int a){}
 file¦int f(int x){return x;}int main(void){int i=0;i=f(i);return i;}
 s 0 0 4¦int f(int x){}int main(void){int i=0;i=f(i);return i;}
 s 0 3 4¦int f(int x){return x;}int main(void){int i=0;i=f(i);}
@@ -517,6 +530,8 @@ c 3 0 9¦int main(void)␊{␊  int z = 0;␊  return 1;␊}␊
 c 3 1 9¦int main(void)␊{␊  int z = 0;␊  return 2u << 31 == 0 ? 0 : 1;␊}␊
 c 3 8 9¦int main(void)␊{␊  int z = 0;␊  return z << 31 == 0 && 1 << 30 > 0 && 31 == 0 ? 0 : 1;␊}␊
 f 0 0 1¦int main(void){int z=0;return z<<31==0&&1<<30>0&&2u<<31==0?0:1;}
+file¦int f(){L:;}int main(){L:goto L;}
+s 5 0 1¦int f(){;}int main(){L:goto L;}
 "#;
 
 fn number(word: Option<&str>) -> u64 {

@@ -102,7 +102,7 @@ none_offered file read Lines menu level is few = without menu nothing 0 level is
 none_offered file read Runs menu level is few = by_tokens read.tokens _ (λ m. length (level_of m level) ≡ 0) menu (λ ts e a. without menu _ 5 level a refl few) refl is
 none_offered file read Brackets menu level is few = by_tokens read.tokens _ (λ m. length (level_of m level) ≡ 0) menu (λ ts e a. without_brackets file ts menu level a few) refl is
 none_offered file read Statements menu level is few = by_tokens read.tokens _ (λ m. length (level_of m level) ≡ 0) menu
-    (λ ts e. by_tree read.tree _ (λ m. length (level_of m level) ≡ 0) menu (λ t a. without menu _ 5 level a.offered refl few) refl) refl is
+    (λ ts e. by_tree read.tree _ (λ m. length (level_of m level) ≡ 0) menu (λ t a. without menu _ 6 level a.offered refl few) refl) refl is
 none_offered file read Expressions menu level is few = by_tokens read.tokens _ (λ m. length (level_of m level) ≡ 0) menu
     (λ ts e. by_tree read.tree _ (λ m. length (level_of m level) ≡ 0) menu (λ t a. without menu _ 4 level a.offered refl few) refl) refl is
 none_offered file read Printed menu level is few = by_tokens read.tokens _ (λ m. length (level_of m level) ≡ 0) menu
@@ -142,8 +142,8 @@ read_tokens file _ tokens (no_unit {tokens = ts} is none) e = let same : ts ≡ 
 read_tokens file _ tokens (of_unit {tokens = ts} is parsed) e = let same : ts ≡ tokens = cc in subst (Tokenizes file) same is
 
 -- a level that is tested, or isn't there
-tested : (most count : ℕ) (menu : Offering) (level : ℕ) → ((level : ℕ) → level < 16 → length (level_of menu level) ≤ most) → (15 ≤ level → length (level_of menu level) ≡ 0) → length (level_of menu level) ≤ most
-tested most count menu level few none = elim (cases_lt level 16) [ inl low ↦ few level low | inr high ↦ (let no = none (omega (arith, high)) in omega (arith, no)) ]
+tested : (most : ℕ) (menu : Offering) (level : ℕ) → ((level : ℕ) → level < 16 → length (level_of menu level) ≤ most) → (15 ≤ level → length (level_of menu level) ≡ 0) → length (level_of menu level) ≤ most
+tested most menu level few none = elim (cases_lt level 16) [ inl low ↦ few level low | inr high ↦ (let no = none (omega (arith, high)) in omega (arith, no)) ]
 
 few_in : (file : List ℕ) (read : Read) (pass : Pass) (menu : Offering) (level : ℕ) → IsRead file read → IsOffered file read pass menu → length (level_of menu level) ≤ length file
 few_in file read Lines menu level known is = let no = none_offered file read Lines menu level is in subst (λ (m : Offering). length (level_of m level) ≤ length file) (sym is) (omega arith)
@@ -153,13 +153,13 @@ few_in file read Brackets menu level known is = by_tokens read.tokens _ (λ m. l
     (λ ts e a. few_offered file ts menu level (read_tokens file read ts known e) a) (omega arith) is
 few_in file read Statements menu level known is = by_tokens read.tokens _ (λ m. length (level_of m level) ≤ length file) menu
     (λ ts e. by_tree read.tree _ (λ m. length (level_of m level) ≤ length file) menu
-    (λ t a. tested (length file) 5 menu level a.few (λ high. none_offered file read Statements menu level is (omega (arith, high)))) (omega arith)) (omega arith) is
+    (λ t a. tested (length file) menu level a.few (λ high. none_offered file read Statements menu level is (omega (arith, high)))) (omega arith)) (omega arith) is
 few_in file read Expressions menu level known is = by_tokens read.tokens _ (λ m. length (level_of m level) ≤ length file) menu
     (λ ts e. by_tree read.tree _ (λ m. length (level_of m level) ≤ length file) menu
-    (λ t a. tested (length file) 4 menu level a.few (λ high. none_offered file read Expressions menu level is (omega (arith, high)))) (omega arith)) (omega arith) is
+    (λ t a. tested (length file) menu level a.few (λ high. none_offered file read Expressions menu level is (omega (arith, high)))) (omega arith)) (omega arith) is
 few_in file read Printed menu level known is = by_tokens read.tokens _ (λ m. length (level_of m level) ≤ length file) menu
     (λ ts e. by_tree read.tree _ (λ m. length (level_of m level) ≤ length file) menu
-    (λ t a. tested (length file) 1 menu level a.few (λ high. none_offered file read Printed menu level is (omega (arith, high)))) (omega arith)) (omega arith) is
+    (λ t a. tested (length file) menu level a.few (λ high. none_offered file read Printed menu level is (omega (arith, high)))) (omega arith)) (omega arith) is
 few_in file read NotThere menu level known is = subst (λ (m : Offering). length (level_of m level) ≤ length file) (sym is) (omega arith)
 
 -- What holds of every menu that its pass offers, and of nothing, holds of what is known of a pass.

@@ -59,7 +59,7 @@ abbrev pub IsOffered : List ℕ → Read → Pass → Offering → Type 0
 IsOffered file read Lines menu = menu ≡ nothing
 IsOffered file read Runs menu = ByTokens read.tokens (λ tokens menu. menu ≡ t_offering tokens) menu
 IsOffered file read Brackets menu = ByTokens read.tokens (IsBracketOffering file) menu
-IsOffered file read Statements menu = ByTokens read.tokens (λ tokens. ByTree read.tree (λ tree. IsOfFew (length file) (λ m. m ≡ s_offering tokens tree.nodes))) menu
+IsOffered file read Statements menu = ByTokens read.tokens (λ tokens. ByTree read.tree (λ tree. IsOfFew (length file) (λ m. m ≡ s_offering file tokens tree.nodes))) menu
 IsOffered file read Expressions menu = ByTokens read.tokens (λ tokens. ByTree read.tree (λ tree. IsOfFew (length file) (λ m. m ≡ c_offering tokens tree.nodes))) menu
 IsOffered file read Printed menu = ByTokens read.tokens (λ tokens. ByTree read.tree (λ tree. IsOfFew (length file) (IsPrintedOffering file tokens))) menu
 IsOffered file read NotThere menu = menu ≡ nothing

@@ -17,7 +17,7 @@ abbrev pub levels_of : Pass → ℕ
 levels_of Lines = 15
 levels_of Runs = 5
 levels_of Brackets = 3
-levels_of Statements = 5
+levels_of Statements = 6
 levels_of Expressions = 4
 levels_of Printed = 1
 levels_of NotThere = 0

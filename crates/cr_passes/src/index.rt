@@ -158,13 +158,13 @@ fn pairs(alloc: Global, file: &[u8], analysis: &Analysis) -> Result<Menu, NoMemo
 }
 
 fn statements_offered(alloc: Global, file: &[u8], analysis: &Analysis) -> Result<Menu, NoMemory>
-    ensures { IfOk result (ByTokens (read_of analysis.now).tokens (λ tokens. ByTree (read_of analysis.now).tree (λ tree. IsOfFew (length file.now) (λ m. m ≡ s_offering tokens tree.nodes)))) }
+    ensures { IfOk result (ByTokens (read_of analysis.now).tokens (λ tokens. ByTree (read_of analysis.now).tree (λ tree. IsOfFew (length file.now) (λ m. m ≡ s_offering file.now tokens tree.nodes)))) }
 {
     match analysis {
         Analysis::OfUnit(unit) => {
             let tokens = unit.tokens.list.as_slice();
             if_few(
-                statements(alloc, tokens, unit.nodes.as_slice())?,
+                statements(alloc, file, tokens, unit.nodes.as_slice())?,
                 file.len(),
             )
         }

@@ -1,11 +1,11 @@
 // The levels of pass c.
-ghost use Rattle.std.specs.Prelude.{◌≡◌, length, take, IfOk};
+ghost use Rattle.std.specs.Prelude.{◌≡◌, length, IfOk};
 ghost use Rattle.cr_levels.specs.Level.{level_of};
 ghost use Rattle.pass_exprs.specs.Expressions.{c_offering, constant_gives, first_gives, last_gives, last_of_several, operands_at};
 
 use crate::operands::{Operands, operands_by, operands_of};
 use cr_edit::{Edits, Kept, Menu, Text};
-use cr_levels::{Counted, Level, becoming, kind_at, list, parts_at, put_in_its_place};
+use cr_levels::{Counted, Level, becoming, first_of, kind_at, list, parts_at, put_in_its_place};
 use cr_syntax::Node;
 use cr_tokens::Token;
 use std::alloc::{AllocError, Global};
@@ -66,12 +66,6 @@ fn operands_at(nodes: &[Node], node: usize) -> &[u32]
     ensures { result.now ≡ operands_at nodes.now node }
 {
     operands_of(operands_by(kind_at(nodes, node)), parts_at(nodes, node))
-}
-
-fn first_of(operands: &[u32]) -> &[u32]
-    ensures { result.now ≡ take 1 operands.now }
-{
-    &operands[..operands.len().min(1)]
 }
 
 fn last_of_several(operands: &[u32]) -> &[u32]

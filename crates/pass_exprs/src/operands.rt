@@ -1,7 +1,8 @@
 // Which nodes are expressions, and which of their parts are operands.
-ghost use Rattle.std.specs.Prelude.{◌≡◌, drop};
+ghost use Rattle.std.specs.Prelude.{◌≡◌};
 ghost use Rattle.pass_exprs.specs.Operands.{operands_by, operands_of};
 
+use cr_levels::behind_first;
 use cr_syntax::Kind;
 
 /// Which parts of a node are its operands (C11 6.5).
@@ -86,7 +87,7 @@ pub fn operands_of(operands: Operands, parts: &[u32]) -> &[u32]
 {
     match operands {
         Operands::EveryPart => parts,
-        Operands::BehindFirst => &parts[parts.len().min(1)..],
+        Operands::BehindFirst => behind_first(parts),
         Operands::NoPart | Operands::NoExpression => &[],
     }
 }

@@ -1,4 +1,5 @@
 pub mod Bodies
+pub mod Labels
 pub mod Statements
 pub mod Printed
 pub mod Laws

@@ -1,5 +1,5 @@
 -- Pass s: statements.
-use Rattle.std.specs.Prelude.{ℕ, List, [], ◌∷◌, ◌++◌, length, if◌then◌else◌}
+use Rattle.std.specs.Prelude.{ℕ, List, [], ◌∷◌, ◌++◌, length}
 use Rattle.std.specs.List.{flat_map}
 use Rattle.cr_tokens.specs.declared.token.Token.{Token}
 use Rattle.cr_syntax.specs.declared.node.Kind.{Kind}
@@ -13,6 +13,7 @@ use Rattle.cr_levels.specs.Level.{level_of}
 use Rattle.cr_levels.specs.Nodes.{each_becoming, in_its_place, node_at}
 use Rattle.cr_levels.specs.Places.{gone}
 use Rattle.pass_stmts.specs.Bodies.{bodies_by, bodies_of, first_body_of, second_branch_of}
+use Rattle.pass_stmts.specs.Labels.{functions_of, jumps_of, labels_give}
 
 -- the items of a compound statement; no other node has any
 abbrev pub items_by : Kind → List ℕ → List ℕ
@@ -51,14 +52,15 @@ abbrev pub braces_give : List Token → List Node → ℕ → List Counted
 braces_give tokens nodes k = flat_map (λ p. unwrapped_by (node_at nodes p).kind tokens (node_at nodes p)) (items_at nodes k)
 
 -- What pass s offers: at level 0 items of compound statements go, at level 1 statements become their bodies, at level 2 the bodies behind
--- `else`, at level 3 bodies become empty statements, and at level 4 the braces of items go.
-abbrev pub s_offering : List Token → List Node → Offering
-s_offering tokens nodes = record {
+-- `else`, at level 3 bodies become empty statements, at level 4 the braces of items go, and at level 5 labels that no `goto` names.
+abbrev pub s_offering : List ℕ → List Token → List Node → Offering
+s_offering file tokens nodes = record {
   levels = level_of (items_give tokens nodes) (length nodes)
       ∷ (level_of (bodies_give tokens nodes) (length nodes)
       ∷ (level_of (elses_give tokens nodes) (length nodes)
       ∷ (level_of (emptied_give tokens nodes) (length nodes)
       ∷ (level_of (braces_give tokens nodes) (length nodes)
-      ∷ []))));
+      ∷ (level_of (labels_give file tokens nodes (functions_of nodes) (jumps_of nodes (functions_of nodes))) (length nodes)
+      ∷ [])))));
   kept = nothing_kept;
 }

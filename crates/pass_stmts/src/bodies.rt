@@ -1,7 +1,8 @@
 // Which parts of a statement are its bodies.
-ghost use Rattle.std.specs.Prelude.{◌≡◌, drop, take};
+ghost use Rattle.std.specs.Prelude.{◌≡◌};
 ghost use Rattle.pass_stmts.specs.Bodies.{bodies_by, bodies_of, last_of};
 
+use cr_levels::{behind_first, first_of};
 use cr_syntax::Kind;
 
 /// Which parts of a statement are the statements that it governs (C11 6.8).
@@ -38,22 +39,10 @@ pub fn bodies_of(bodies: Bodies, parts: &[u32]) -> &[u32]
 {
     match bodies {
         Bodies::NoBody => &[],
-        Bodies::Branches => without_first(parts),
+        Bodies::Branches => behind_first(parts),
         Bodies::First => first_of(parts),
         Bodies::Last | Bodies::BehindLabel => last_of(parts),
     }
-}
-
-pub fn first_of(parts: &[u32]) -> &[u32]
-    ensures { result.now ≡ take 1 parts.now }
-{
-    &parts[..parts.len().min(1)]
-}
-
-pub fn without_first(parts: &[u32]) -> &[u32]
-    ensures { result.now ≡ drop 1 parts.now }
-{
-    &parts[parts.len().min(1)..]
 }
 
 fn last_of(parts: &[u32]) -> &[u32]

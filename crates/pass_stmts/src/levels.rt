@@ -4,10 +4,12 @@ ghost use Rattle.cr_levels.specs.Nodes.{node_at};
 ghost use Rattle.pass_stmts.specs.Bodies.{first_body_of, second_branch_of};
 ghost use Rattle.pass_stmts.specs.Statements.{bodies_give, braces_give, elses_give, emptied_give, items_at, items_give, s_offering, unwrapped, unwrapped_by};
 
-use crate::bodies::{Bodies, bodies_by, bodies_of, first_of, without_first};
+use crate::bodies::{Bodies, bodies_by, bodies_of};
+use crate::labels::labels_go;
 use cr_edit::{Kept, Menu, Text};
 use cr_levels::{
-    Counted, Level, gone, kind_at, list, parts_at, put_each_becoming, put_in_its_place, span_at,
+    Counted, Level, behind_first, first_of, gone, kind_at, list, parts_at, put_each_becoming,
+    put_in_its_place, span_at,
 };
 use cr_rows::Row;
 use cr_syntax::{Kind, Node};
@@ -154,16 +156,23 @@ fn second_branch_of(bodies: Bodies, parts: &[u32]) -> &[u32]
     ensures { result.now ≡ second_branch_of bodies parts.now }
 {
     match bodies {
-        Bodies::Branches => without_first(without_first(parts)),
+        Bodies::Branches => behind_first(behind_first(parts)),
         _ => &[],
     }
 }
 
-/// What pass s offers for a unit of these tokens and nodes: at level 0 each item of a compound statement goes; at level 1 each `if`, `switch`,
+/// What pass s offers for a file's unit of these tokens and nodes: at level 0 each item of a compound statement goes; at level 1 each `if`, `switch`,
 /// `while`, `do` and `for` becomes its body, an `if` the first; at level 2 each `if` with `else` its second; at level 3 each body, and each
-/// statement behind a label, becomes `;`; at level 4 the braces of each item that is a compound statement go. The error is want of memory.
-pub fn statements(alloc: Global, tokens: &[Token], nodes: &[Node]) -> Result<Menu, AllocError>
-    ensures { IfOk result (λ menu. menu ≡ s_offering tokens.now nodes.now) }
+/// statement behind a label, becomes `;`; at level 4 the braces of each item that is a compound statement go; at level 5 each label that no
+/// `goto` of its function names goes with its `:`. Level 5 takes time by its labels and the file's `goto`s, the others by the nodes. The error
+/// is want of memory.
+pub fn statements(
+    alloc: Global,
+    file: &[u8],
+    tokens: &[Token],
+    nodes: &[Node],
+) -> Result<Menu, AllocError>
+    ensures { IfOk result (λ menu. menu ≡ s_offering file.now tokens.now nodes.now) }
 {
     let count = nodes.len();
     let mut levels = Vec::new(alloc);
@@ -172,5 +181,6 @@ pub fn statements(alloc: Global, tokens: &[Token], nodes: &[Node]) -> Result<Men
     levels.push(list(alloc, count, &ElsesStay { tokens, nodes })?)?;
     levels.push(list(alloc, count, &BodiesEmpty { tokens, nodes })?)?;
     levels.push(list(alloc, count, &BracesGo { tokens, nodes })?)?;
+    levels.push(labels_go(alloc, file, tokens, nodes)?)?;
     Ok(Menu::new(levels, Kept::nothing(alloc)))
 }

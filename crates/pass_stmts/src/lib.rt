@@ -5,6 +5,7 @@
 #![tactic(auto)]
 
 mod bodies;
+mod labels;
 mod laws;
 mod levels;
 mod whole;

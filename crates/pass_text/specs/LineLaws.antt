@@ -1,11 +1,9 @@
--- A file has one offer of the lines pass, a level has no more variants than the file has bytes, and no other pass or level
--- has one.
-use Rattle.std.specs.Prelude.{◌≡◌, ℕ, zero, suc, ◌+◌, ◌*◌, ◌/◌, ◌%◌, ◌-◌, ◌<◌, ◌≤◌, true, false, List, [], ◌∷◌, length, min, if◌then◌else◌, ◌==◌, nat_eq, nat_le, ◌&&◌}
+-- A file has no more lines than bytes, and no more chunks than lines.
+use Rattle.std.specs.Prelude.{◌≡◌, ℕ, zero, suc, ◌+◌, ◌*◌, ◌/◌, ◌%◌, ◌-◌, ◌<◌, ◌≤◌, true, false, List, [], ◌∷◌, length, min, if◌then◌else◌, ◌==◌}
 use Rattle.std.specs.Int.{div_ceil}
 use Rattle.std.proofs.Common.{arith}
 use Rattle.std.proofs.lemmas.Nat.{pow_pos}
-use Rattle.std.proofs.lemmas.Bool.Decides.{nat_tests}
-use Rattle.pass_text.specs.Lines.{lines_of, onto_first, lines_widths, chunk_of}
+use Rattle.pass_text.specs.Lines.{lines_of, onto_first, chunk_of}
 
 length-onto_first : (b : ℕ) (lines : List (List ℕ)) → length (onto_first b lines) ≤ 1 + length lines
 length-onto_first b [] = omega arith
@@ -27,15 +25,3 @@ ceil_le x (suc y) q r some is = omega arith
 
 pub div_ceil-le : (x y : ℕ) → 0 < y → div_ceil x y ≤ x
 div_ceil-le x y some = ceil_le x y (x / y) (x % y) some (omega (arith, some))
-
-pub widths_few : (file : List ℕ) (pass level : ℕ) → lines_widths file pass level ≤ length file
-widths_few file pass level = elim (nat_eq pass 0 && nat_le level 14) as (λ t. (if t then div_ceil (length (lines_of file)) (chunk_of level) else 0) ≤ length file) [
-  | true ↦ omega (arith, div_ceil-le (length (lines_of file)) (chunk_of level) (chunk_some level), lines_few file)
-  | false ↦ omega arith
-]
-
-pub widths_of_pass : (file : List ℕ) (pass level : ℕ) → 9 < pass → lines_widths file pass level ≡ 0
-widths_of_pass file pass level above = grind (arith, nat_tests)
-
-pub widths_of_level : (file : List ℕ) (pass level : ℕ) → 15 < level → lines_widths file pass level ≡ 0
-widths_of_level file pass level above = grind (arith, nat_tests)

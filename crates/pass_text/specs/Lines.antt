@@ -29,9 +29,6 @@ chunk_of level = 2 ^ (14 - level)
 abbrev pub chunks_of : ℕ → Widths
 chunks_of lines pass level = if nat_eq pass 0 && nat_le level 14 then div_ceil lines (chunk_of level) else 0
 
-abbrev pub lines_widths : List ℕ → Widths
-lines_widths file = chunks_of (length (lines_of file))
-
 -- the file without the chunk
 abbrev pub lines_bytes : List ℕ → Cursor → List ℕ
 lines_bytes file at = joined (take (at.index * chunk_of at.level) (lines_of file)) ++ joined (drop ((at.index + 1) * chunk_of at.level) (lines_of file))
