@@ -20,6 +20,6 @@ returns c =
         known = w.in-Ok.ensures.resolved.right;
       })
       | in-Err w ↦ let rules = name_rules file unit w.in-Err.fault c.requires.tokens c.requires.parsed w.in-Err.ensures.fault in
-        subst (Rules file) (sym w.result-is) (subst (Rules file) (sym w.name_ruling.ensures)
-        (subst (λ tokens. Rules file (ruling_by (name_reason file tokens w.in-Err.fault))) (sym w.as_slice.ensures.value) rules))
+          subst (Rules file) (sym w.result-is) (subst (Rules file) (sym w.name_ruling.ensures)
+          (subst (λ tokens. Rules file (ruling_by (name_reason file tokens w.in-Err.fault))) (sym w.as_slice.ensures.value) rules))
     ]
