@@ -17,7 +17,8 @@ pub enum Halted {
     Left(u8, u32),
     /// `exit` or `abort`, with this status.
     Exited(u8),
-    /// There is no memory left; or a node has operands that no program of the subset has.
+    /// There is no memory left. It is also the end where a node has operands that no program of the subset has, or where turns
+    /// follow each other without a step as in none.
     NoMemory,
 }
 
