@@ -114,18 +114,22 @@ module _ {T : Type 0} (shows : T → Answer → Type 0) where
   reach_goes p held new waiting s t node h w e =
       let now : Waiting Answer = record { top = record { node = node; done = [] }; below = waiting.top ∷ waiting.below } in
       let P : Waiting T → Type 0 = λ x. ShowsWaiting shows x now in
-      record { turns = record {
-        waiting = now;
-        shown = subst P (sym e) (record { top = record { node = refl; done = tt }; below = (h.top, h.below) });
-        leads = reach_leads p waiting s t node w.works;
-      } }
+      record {
+        turns = record {
+          waiting = now;
+          shown = subst P (sym e) (record { top = record { node = refl; done = tt }; below = (h.top, h.below) });
+          leads = reach_leads p waiting s t node w.works;
+        };
+      }
 
   pub reach_ends : (p : Program) (new : Waiting T) (waiting : Waiting Answer) (s t : World) (node : ℕ) (x : Halted)
       → Worked (reached_at p node s) (Err x) t
       → Turns shows p (record { place = reaching node; waiting = waiting; world = s }) (Err x) new t
-  reach_ends p new waiting s t node x w = record { turns =
-      ends_too (λ halt. reached_at p node s ≡ halts halt) (λ halt. RestOf p (record { place = reaching node; waiting = waiting; world = s }) (ended halt))
-          (λ halt e. reach_halts p waiting s node halt e) x t w.works }
+  reach_ends p new waiting s t node x w = record {
+    turns =
+        ends_too (λ halt. reached_at p node s ≡ halts halt) (λ halt. RestOf p (record { place = reaching node; waiting = waiting; world = s }) (ended halt))
+        (λ halt e. reach_halts p waiting s node halt e) x t w.works;
+  }
 
   -- what a `?` hands on
   pub handed_on : (p : Program) (start : State) (new : Waiting T) (t : World) (r : Result (Turned T) Halted) (x : Halted) → IsErrAnd r (λ y. y ≡ x)
@@ -171,28 +175,34 @@ module _ {T : Type 0} (shows : T → Answer → Type 0) where
       → way_at p waiting.top.node waiting.top.done ≡ Enter part
       → Worked (before_at p waiting.top.node waiting.top.done s) (Err x) t
       → Turns shows p (record { place = turning; waiting = waiting; world = s }) (Err x) new t
-  enter_ends p new waiting s t part x e w = record { turns =
-      ends_too (λ halt. before_at p waiting.top.node waiting.top.done s ≡ halts halt) (λ halt. RestOf p (record { place = turning; waiting = waiting; world = s }) (ended halt))
-          (λ halt is. enter_halts p waiting s part halt e is) x t w.works }
+  enter_ends p new waiting s t part x e w = record {
+    turns =
+        ends_too (λ halt. before_at p waiting.top.node waiting.top.done s ≡ halts halt) (λ halt. RestOf p (record { place = turning; waiting = waiting; world = s }) (ended halt))
+        (λ halt is. enter_halts p waiting s part halt e is) x t w.works;
+  }
 
   pub resume_goes : (p : Program) (held new : Waiting T) (waiting : Waiting Answer) (s t : World) (count : ℕ) (fresh : List Answer)
       → way_at p waiting.top.node waiting.top.done ≡ Resume (take count waiting.top.done ++ fresh)
       → {u : Unit {0}} → Worked (before_at p waiting.top.node waiting.top.done s) (Ok u) t
       → ShowsWaiting shows new (with_more (record { top = record { node = waiting.top.node; done = take count waiting.top.done }; below = waiting.below }) fresh)
       → Turns shows p (record { place = turning; waiting = waiting; world = s }) (Ok (Goes Turn)) new t
-  resume_goes p held new waiting s t count fresh e w h = record { turns = record {
-    waiting = record { top = record { node = waiting.top.node; done = take count waiting.top.done ++ fresh }; below = waiting.below };
-    shown = h;
-    leads = resume_leads p waiting s t (take count waiting.top.done ++ fresh) e w.works;
-  } }
+  resume_goes p held new waiting s t count fresh e w h = record {
+    turns = record {
+      waiting = record { top = record { node = waiting.top.node; done = take count waiting.top.done ++ fresh }; below = waiting.below };
+      shown = h;
+      leads = resume_leads p waiting s t (take count waiting.top.done ++ fresh) e w.works;
+    };
+  }
 
   pub resume_ends : (p : Program) (new : Waiting T) (waiting : Waiting Answer) (s t : World) (again : List Answer) (x : Halted)
       → way_at p waiting.top.node waiting.top.done ≡ Resume again
       → Worked (before_at p waiting.top.node waiting.top.done s) (Err x) t
       → Turns shows p (record { place = turning; waiting = waiting; world = s }) (Err x) new t
-  resume_ends p new waiting s t again x e w = record { turns =
-      ends_too (λ halt. before_at p waiting.top.node waiting.top.done s ≡ halts halt) (λ halt. RestOf p (record { place = turning; waiting = waiting; world = s }) (ended halt))
-          (λ halt is. resume_halts p waiting s again halt e is) x t w.works }
+  resume_ends p new waiting s t again x e w = record {
+    turns =
+        ends_too (λ halt. before_at p waiting.top.node waiting.top.done s ≡ halts halt) (λ halt. RestOf p (record { place = turning; waiting = waiting; world = s }) (ended halt))
+        (λ halt is. resume_halts p waiting s again halt e is) x t w.works;
+  }
 
   -- as many answers as are kept
   pub kept_shown : (held new : Waiting T) (waiting : Waiting Answer) (count : ℕ) → ShowsWaiting shows held waiting
@@ -212,9 +222,11 @@ module _ {T : Type 0} (shows : T → Answer → Type 0) where
       → way_at p waiting.top.node waiting.top.done ≡ Ready
       → Joined shows (join_at p waiting.top.node waiting.top.done s) (Err x) t
       → Turns shows p (record { place = turning; waiting = waiting; world = s }) (Err x) new t
-  join_ends p new waiting s t x e w = record { turns =
-      ends_too (λ halt. join_at p waiting.top.node waiting.top.done s ≡ halts halt) (λ halt. RestOf p (record { place = turning; waiting = waiting; world = s }) (ended halt))
-          (λ halt is. join_halts p waiting s halt e is) x t w.joins }
+  join_ends p new waiting s t x e w = record {
+    turns =
+        ends_too (λ halt. join_at p waiting.top.node waiting.top.done s ≡ halts halt) (λ halt. RestOf p (record { place = turning; waiting = waiting; world = s }) (ended halt))
+        (λ halt is. join_halts p waiting s halt e is) x t w.joins;
+  }
 
   -- the node at work was the last
   comes_last : (p : Program) (top : Pending Answer) (below : List (Pending Answer)) (none : List (Pending T)) (new : Waiting T) (s t : World) (kept : T)
@@ -222,11 +234,13 @@ module _ {T : Type 0} (shows : T → Answer → Type 0) where
       → way_at p top.node top.done ≡ Ready
       → Joined shows (join_at p top.node top.done s) (Ok kept) t
       → Turns shows p (record { place = turning; waiting = record { top = top; below = below }; world = s }) (Ok (Came kept)) new t
-  comes_last p top [] none new s t kept is h e w = record { turns = record {
-    answer = w.joins.answer;
-    shown = w.joins.shown;
-    holds = join_comes p top s t w.joins.answer e w.joins.holds;
-  } }
+  comes_last p top [] none new s t kept is h e w = record {
+    turns = record {
+      answer = w.joins.answer;
+      shown = w.joins.shown;
+      holds = join_comes p top s t w.joins.answer e w.joins.holds;
+    };
+  }
   comes_last p top (first ∷ rest) none new s t kept is h e w =
       let P : List (Pending T) → Type 0 = λ l. AllZip (ShowsPending shows) l (first ∷ rest) in absurd (subst P is h)
 
@@ -251,14 +265,16 @@ module _ {T : Type 0} (shows : T → Answer → Type 0) where
       let both : AllZip (ShowsPending shows) (up.top ∷ up.below) (first ∷ rest) = subst P is h in
       let now : Waiting Answer = record { top = record { node = first.node; done = first.done ++ w.joins.answer ∷ [] }; below = rest } in
       let Q : Waiting T → Type 0 = λ x. ShowsWaiting shows x now in
-      record { turns = record {
-        waiting = now;
-        shown = subst Q (sym put) (record {
-          top = record { node = both.0.node; done = all_zipped_more shows up.top.done first.done kept w.joins.answer both.0.done w.joins.shown };
-          below = both.1;
-        });
-        leads = join_leads p top first rest s t w.joins.answer e w.joins.holds;
-      } }
+      record {
+        turns = record {
+          waiting = now;
+          shown = subst Q (sym put) (record {
+            top = record { node = both.0.node; done = all_zipped_more shows up.top.done first.done kept w.joins.answer both.0.done w.joins.shown };
+            below = both.1;
+          });
+          leads = join_leads p top first rest s t w.joins.answer e w.joins.holds;
+        };
+      }
 
   pub join_goes : (p : Program) (held up new : Waiting T) (waiting : Waiting Answer) (s t : World) (kept : T)
       → ShowsWaiting shows held waiting → held.below ≡ up.top ∷ up.below
@@ -301,8 +317,8 @@ module _ {T : Type 0} (shows : T → Answer → Type 0) where
   continues_turned p q start point to held new s t result c same is f =
       let P : Result (Turned T) Halted → Type 0 = λ r. Turns shows p start r new t in
       let turned : Turns shows p start result new t =
-          continues_on p start point held new s t result c (λ waiting h.
-              let Q : Program → Type 0 = λ x. Turns shows x (record { place = place_of point; waiting = waiting; world = s }) result new t in subst Q same (f waiting h)) in
+      continues_on p start point held new s t result c (λ waiting h.
+      let Q : Program → Type 0 = λ x. Turns shows x (record { place = place_of point; waiting = waiting; world = s }) result new t in subst Q same (f waiting h)) in
       let goes : Turns shows p start (Ok (Goes to)) new t = subst P is turned in
       goes.turns
 
@@ -323,4 +339,4 @@ module _ {T : Type 0} (shows : T → Answer → Type 0) where
       → ComesTo shows p node s (outcome.Halted x) t
   halts_as p node s t x held h =
       ends_too (λ halt. RestOf p (first_state node s) (ended halt)) (λ halt. Runs (body p) (body p (operands node [])) s (ended halt))
-          (λ halt is. rest_is_run p node s (ended halt) is) x t h.turns
+      (λ halt is. rest_is_run p node s (ended halt) is) x t h.turns

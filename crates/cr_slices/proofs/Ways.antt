@@ -72,7 +72,7 @@ enter_halts p waiting s part halt e w = goes_on p waiting s (ended halt) (Enter 
 pub resume_leads : (p : Program) (waiting : Waiting Answer) (s t : World) (again : List Answer) → way_at p waiting.top.node waiting.top.done ≡ Resume again
     → before_at p waiting.top.node waiting.top.done s ≡ went next t
     → Leads p (record { place = turning; waiting = waiting; world = s })
-        (record { place = turning; waiting = record { top = record { node = waiting.top.node; done = again }; below = waiting.below }; world = t })
+    (record { place = turning; waiting = record { top = record { node = waiting.top.node; done = again }; below = waiting.below }; world = t })
 resume_leads p waiting s t again e w = record {
   leads = λ r h. goes_on p waiting s r (Resume again) e
       (acted (body p) (before_at p waiting.top.node waiting.top.done) (λ _. call (operands waiting.top.node again) give) (map continuing waiting.below) s t next r w
@@ -88,7 +88,7 @@ resume_halts p waiting s again halt e w = goes_on p waiting s (ended halt) (Resu
 pub join_leads : (p : Program) (top first : Pending Answer) (rest : List (Pending Answer)) (s t : World) (answer : Answer)
     → way_at p top.node top.done ≡ Ready → join_at p top.node top.done s ≡ went answer t
     → Leads p (record { place = turning; waiting = record { top = top; below = first ∷ rest }; world = s })
-        (record { place = turning; waiting = record { top = record { node = first.node; done = first.done ++ answer ∷ [] }; below = rest }; world = t })
+    (record { place = turning; waiting = record { top = record { node = first.node; done = first.done ++ answer ∷ [] }; below = rest }; world = t })
 join_leads p top first rest s t answer e w = record {
   leads = λ r h. goes_on p (record { top = top; below = first ∷ rest }) s r Ready e
       (acted (body p) (join_at p top.node top.done) give (map continuing (first ∷ rest)) s t answer r w
@@ -119,7 +119,7 @@ is_reached p waiting s r node h =
 
 pub reach_leads : (p : Program) (waiting : Waiting Answer) (s t : World) (node : ℕ) → reached_at p node s ≡ went next t
     → Leads p (record { place = reaching node; waiting = waiting; world = s })
-        (record { place = turning; waiting = record { top = record { node = node; done = [] }; below = waiting.top ∷ waiting.below }; world = t })
+    (record { place = turning; waiting = record { top = record { node = node; done = [] }; below = waiting.top ∷ waiting.below }; world = t })
 reach_leads p waiting s t node w = record {
   leads = λ r h. is_reached p waiting s r node
       (acted (body p) (reached_at p node) (λ _. call (operands node []) give) (map continuing (waiting.top ∷ waiting.below)) s t next r w

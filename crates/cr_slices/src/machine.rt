@@ -78,7 +78,7 @@ fn reach<N: Nodes>(
 ) -> Result<Turned<N::Held>, Halted>
     ensures turns { (waiting : Waiting SpecAnswer) → ShowsWaiting N.shows stack.old waiting
         → Turns N.shows (N.program nodes.old) (record { place = reaching node; waiting = waiting; world = N.world nodes.old })
-            result stack.new (N.world nodes.new) }
+        result stack.new (N.world nodes.new) }
     ensures program { N.program nodes.new ≡ N.program nodes.old }
     ensures steps { TakesAtMostOne (N.world nodes.old).steps (N.world nodes.new).steps }
 {
@@ -98,7 +98,7 @@ fn enter<N: Nodes>(
     ensures turns { (waiting : Waiting SpecAnswer) → ShowsWaiting N.shows stack.old waiting
         → way_at (N.program nodes.old) waiting.top.node waiting.top.done ≡ TurnsEnter part
         → Turns N.shows (N.program nodes.old) (record { place = turning; waiting = waiting; world = N.world nodes.old })
-            result stack.new (N.world nodes.new) }
+        result stack.new (N.world nodes.new) }
     ensures program { N.program nodes.new ≡ N.program nodes.old }
     ensures steps { TakesAtMostOne (N.world nodes.old).steps (N.world nodes.new).steps }
 {
@@ -116,7 +116,7 @@ fn resume<N: Nodes>(
     ensures turns { (waiting : Waiting SpecAnswer) → ShowsWaiting N.shows stack.old waiting
         → way_at (N.program nodes.old) waiting.top.node waiting.top.done ≡ TurnsResume (take count waiting.top.done ++ fresh_of fresh)
         → Turns N.shows (N.program nodes.old) (record { place = turning; waiting = waiting; world = N.world nodes.old })
-            result stack.new (N.world nodes.new) }
+        result stack.new (N.world nodes.new) }
     ensures program { N.program nodes.new ≡ N.program nodes.old }
     ensures steps { TakesAtMostOne (N.world nodes.old).steps (N.world nodes.new).steps }
 {
@@ -134,7 +134,7 @@ fn join<N: Nodes>(nodes: &mut N, stack: &mut Stack<N::Held>) -> Result<Turned<N:
     ensures turns { (waiting : Waiting SpecAnswer) → ShowsWaiting N.shows stack.old waiting
         → way_at (N.program nodes.old) waiting.top.node waiting.top.done ≡ TurnsReady
         → Turns N.shows (N.program nodes.old) (record { place = turning; waiting = waiting; world = N.world nodes.old })
-            result stack.new (N.world nodes.new) }
+        result stack.new (N.world nodes.new) }
     ensures program { N.program nodes.new ≡ N.program nodes.old }
     ensures steps { TakesAtMostOne (N.world nodes.old).steps (N.world nodes.new).steps }
 {
@@ -153,7 +153,7 @@ fn join<N: Nodes>(nodes: &mut N, stack: &mut Stack<N::Held>) -> Result<Turned<N:
 fn go_on<N: Nodes>(nodes: &mut N, stack: &mut Stack<N::Held>) -> Result<Turned<N::Held>, Halted>
     ensures turns { (waiting : Waiting SpecAnswer) → ShowsWaiting N.shows stack.old waiting
         → Turns N.shows (N.program nodes.old) (record { place = turning; waiting = waiting; world = N.world nodes.old })
-            result stack.new (N.world nodes.new) }
+        result stack.new (N.world nodes.new) }
     ensures program { N.program nodes.new ≡ N.program nodes.old }
     ensures steps { TakesAtMostOne (N.world nodes.old).steps (N.world nodes.new).steps }
 {
@@ -174,7 +174,7 @@ fn turn<N: Nodes>(
 ) -> Result<Turned<N::Held>, Halted>
     ensures turns { (waiting : Waiting SpecAnswer) → ShowsWaiting N.shows stack.old waiting
         → Turns N.shows (N.program nodes.old) (record { place = place_of point; waiting = waiting; world = N.world nodes.old })
-            result stack.new (N.world nodes.new) }
+        result stack.new (N.world nodes.new) }
     ensures program { N.program nodes.new ≡ N.program nodes.old }
     ensures steps { TakesAtMostOne (N.world nodes.old).steps (N.world nodes.new).steps }
 {
@@ -218,7 +218,7 @@ fn slice<N: Nodes>(
     requires { IfSome until (λ steps. steps ≤ (N.world nodes.old).steps) }
     ensures turns { (waiting : Waiting SpecAnswer) → ShowsWaiting N.shows stack.old waiting
         → Turns N.shows (N.program nodes.old) (record { place = place_of from; waiting = waiting; world = N.world nodes.old })
-            result stack.new (N.world nodes.new) }
+        result stack.new (N.world nodes.new) }
     ensures program { N.program nodes.new ≡ N.program nodes.old }
     ensures fewer { (N.world nodes.new).steps ≤ (N.world nodes.old).steps }
     ensures within { IfSome until (λ steps. steps ≤ (N.world nodes.new).steps) }

@@ -97,7 +97,9 @@ impl<T: Drop> Stack<T> {
     #[inline]
     pub fn give(&mut self, answer: T) -> Result<(), AllocError>
         ensures { OnOk result (self.new ≡ record {
-            top = record { node = self.old.top.node; done = self.old.top.done ++ answer ∷ [] }; below = self.old.below }) }
+          top = record { node = self.old.top.node; done = self.old.top.done ++ answer ∷ [] };
+          below = self.old.below;
+        }) }
     {
         self.answers.push(answer)?;
         Ok(())
@@ -107,7 +109,9 @@ impl<T: Drop> Stack<T> {
     #[inline]
     pub fn keep(&mut self, count: usize)
         ensures { self.new ≡ record {
-            top = record { node = self.old.top.node; done = take count self.old.top.done }; below = self.old.below } }
+          top = record { node = self.old.top.node; done = take count self.old.top.done };
+          below = self.old.below;
+        } }
     {
         if count < self.answers.len() - self.mark {
             self.answers.truncate(self.mark + count);

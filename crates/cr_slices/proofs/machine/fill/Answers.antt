@@ -17,4 +17,4 @@ pub returns-in_ok-give-in-Before : goal.returns-in_ok-give-in-Before
 returns-in_ok-give-in-Before g c = rw c.in-Before.is (λ waiting h. on_ok c.pass.result
     (λ passed. all_passed g.N.Nodes.shows c.pass.new.stack waiting c.in-Before.item passed)
     (c.pass.ensures (with_more waiting (next ∷ []))
-        (one_more g.N.Nodes.shows c.args.stack.now c.give-in-Before.new.self waiting [] c.passed.result next (none_more g.N.Nodes.shows c.args.stack.now waiting h) c.passed.ensures c.in_ok-give-in-Before.ensures)))
+    (one_more g.N.Nodes.shows c.args.stack.now c.give-in-Before.new.self waiting [] c.passed.result next (none_more g.N.Nodes.shows c.args.stack.now waiting h) c.passed.ensures c.in_ok-give-in-Before.ensures)))

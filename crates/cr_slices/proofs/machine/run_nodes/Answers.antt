@@ -19,7 +19,7 @@ pub loop-stop-preserved : goal.loop-stop-preserved
 loop-stop-preserved g c =
     let is : c.slice.result ≡ Ok (Goes c.in-Ok-Goes.next) = cc in
     let steps : (g.N.Nodes.world c.slice.new.nodes).steps + 4096 ≡ (g.N.Nodes.world c.loop-stop.nodes).steps =
-        left_over c.slice_end-until.result c.steps.result (g.N.Nodes.world c.slice.new.nodes).steps c.slice_end-until.ensures (c.slice.ensures.paused c.in-Ok-Goes.next is) ∙ c.steps.ensures in
+    left_over c.slice_end-until.result c.steps.result (g.N.Nodes.world c.slice.new.nodes).steps c.slice_end-until.ensures (c.slice.ensures.paused c.in-Ok-Goes.next is) ∙ c.steps.ensures in
     record {
       continues = continues_turned g.N.Nodes.shows (g.N.Nodes.program c.args.nodes.now) (g.N.Nodes.program c.loop-stop.nodes)
           (first_state c.args.node (g.N.Nodes.world c.args.nodes.now)) c.loop-stop.point c.in-Ok-Goes.next c.loop-stop.stack c.slice.new.stack

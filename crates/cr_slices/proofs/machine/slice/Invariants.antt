@@ -9,7 +9,7 @@ abbrev pub invariant-loop-until : goal.invariant-loop-until
 invariant-loop-until g l = record {
   continues : (waiting : Waiting Answer) → ShowsWaiting g.N.Nodes.shows l.fn.stack waiting
       → Continues g.N.Nodes.shows (g.N.Nodes.program l.fn.nodes) (record { place = place_of l.fn.from; waiting = waiting; world = g.N.Nodes.world l.fn.nodes })
-          l.point l.stack (g.N.Nodes.world l.nodes);
+      l.point l.stack (g.N.Nodes.world l.nodes);
   program : g.N.Nodes.program l.nodes ≡ g.N.Nodes.program l.fn.nodes;
   fewer : (g.N.Nodes.world l.nodes).steps ≤ (g.N.Nodes.world l.fn.nodes).steps;
   within : IfSome l.until (λ steps. steps ≤ (g.N.Nodes.world l.nodes).steps);
