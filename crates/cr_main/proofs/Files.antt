@@ -113,8 +113,8 @@ is_too_long file _ long (too_many t tokens short into count token) = absurd (ome
 too_long_too : (file other : List ℕ) (reason : Reason) → 1048576 < length file → 1048576 < length other → IsReason file reason → IsReason other reason
 too_long_too file other reason long above (of_tokens it) =
     of_tokens (record { fault = TooLong; first = too_long above; is = it.is ∙ ap (λ f. reason_of file f) (is_too_long file it.fault long it.first) })
-too_long_too file other _ long above (of_unit are first) = absurd (omega (arith, long, are.short))
-too_long_too file other _ long above (of_names are parsed first is) = absurd (omega (arith, long, are.short))
+too_long_too file other _ long above (of_unit are _) = absurd (omega (arith, long, are.short))
+too_long_too file other _ long above (of_names are _ _ _) = absurd (omega (arith, long, are.short))
 
 pub law_is_of_programs : IsOfPrograms IsLawful IsReason
 law_is_of_programs = record { tokenizes = λ file lawful. record { tokens = lawful.tokens; tokenizes = lawful.tokenizes }; too_long = too_long_too }
