@@ -11,11 +11,11 @@ const NAME: &str = "creduce-test-file.c";
 
 /// A file that is reduced, with the text that it and the files beside it have then.
 const AFTER: [(&str, &str); 3] = [
-    ("creduce-test-run.c", " b\n"),
+    ("creduce-test-run.c", "int b;"),
     ("creduce-test-run.c.orig", "int a;\nint b;\nint c;\n"),
     (
         "creduce-test-run.c.log",
-        "l 13 1 68 15\nl 14 0 34 16\nt 4 0 23 20\nt 4 1 14 22\nend fixed 14 38\n",
+        "l 13 1 68 15\nl 14 0 34 16\nf 0 0 33 23\nend fixed 33 45\n",
     ),
 ];
 
