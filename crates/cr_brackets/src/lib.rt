@@ -8,8 +8,6 @@ mod laws;
 mod matching;
 mod pair;
 mod reading;
-#[cfg(test)]
-mod tests;
 
 pub use laws::{few_pairs, one_nesting};
 pub use matching::partners;

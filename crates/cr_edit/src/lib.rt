@@ -16,8 +16,6 @@ mod laws;
 mod menu;
 mod range;
 mod space;
-#[cfg(test)]
-mod tests;
 mod write;
 
 pub use change::{Change, Text};

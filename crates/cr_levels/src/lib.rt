@@ -11,8 +11,6 @@ mod level;
 mod node;
 mod order;
 mod place;
-#[cfg(test)]
-mod tests;
 
 pub use counted::Counted;
 pub use level::{Level, Turns, in_turn, list};

@@ -1,9 +1,15 @@
-//! The tests of `cr_tokens`, `cr_outside`, `cr_printer`, `cr_log` and `pass_text`, by public names alone.
+//! The tests of `cr_tokens`, `cr_outside`, `cr_printer`, `cr_log`, `cr_edit`, `cr_levels`, `cr_brackets` and `pass_text`, by public names alone.
 //!
 //! They stand above these crates, so that none of them proves its functions once more for its tests. It promises nothing,
 //! and stands on the crates that it tests and on what their values are made of.
 #![tactic(auto)]
 
+#[cfg(test)]
+mod brackets;
+#[cfg(test)]
+mod edits;
+#[cfg(test)]
+mod levels;
 #[cfg(test)]
 mod log;
 #[cfg(test)]

@@ -71,7 +71,20 @@ fn byte_of(c: char) -> u8 {
     }
 }
 
-/// The one assertion of tables.
+/// The number that a word spells, or one that no table has.
+pub(crate) fn number(word: Option<&str>) -> u32 {
+    match word {
+        Some(word) => word.parse().unwrap_or(999_999),
+        None => 999_999,
+    }
+}
+
+/// That a row holds.
+pub(crate) fn expect_true(rt: &impl Abort, holds: bool, row: &str) {
+    assert!(rt; holds, "{row}");
+}
+
+/// The one comparison of tables.
 pub(crate) fn expect(rt: &impl Abort, found: &[u8], wanted: &[u8], row: &str) {
     assert!(rt; found == wanted, "{row}");
 }
