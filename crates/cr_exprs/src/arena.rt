@@ -1,4 +1,4 @@
-ghost use Rattle.std.specs.Prelude.{◌≡◌, ℕ, ◌+◌, ◌<◌, ◌^◌, ◌∷◌, [], ◌++◌, ◌≤◌, IfOk, IfErr, length, option_to_list};
+ghost use Rattle.std.specs.Prelude.{◌≡◌, ℕ, ◌+◌, ◌<◌, ◌^◌, ◌∷◌, [], ◌++◌, ◌≤◌, IfOk, IfErr, length, option_to_list, reverse};
 ghost use Rattle.cr_syntax.specs.Trees.{Trees, none, node, one, ◌&◌};
 ghost use Rattle.cr_syntax.specs.Kept.{AreBelow, PartsAreBelow, row_in};
 ghost use Rattle.cr_syntax.specs.Context.{is_bare, past_part};
@@ -24,7 +24,7 @@ pub fn push(
     requires below { PartsAreBelow nodes.old }
     requires first { first < next }
     requires next { next < 2 ^ 32 }
-    ensures ok { IfOk result (λ x. IsPushed nodes.old nodes.new parts x) }
+    ensures ok { IfOk result (λ x. IsPushed nodes.old nodes.new (reverse parts) x) }
     ensures next { IfOk result (λ x. x.next ≡ next) }
     ensures tree { IfOk result (λ x. tree nodes.new x.node ≡ one kind first next (row_in nodes.old parts)) }
     ensures err { IfErr result (λ fault. fault ≡ ParseFault.NoMemory) }
@@ -203,7 +203,7 @@ pub(crate) fn gathered(
     requires below { PartsAreBelow nodes.old }
     requires first { first < list.next }
     requires next { list.next < 2 ^ 32 }
-    ensures ok { IfOk result (λ x. IsGathered nodes.old nodes.new list.parts x) }
+    ensures ok { IfOk result (λ x. IsGathered nodes.old nodes.new (reverse list.parts) x) }
     ensures tree { IfOk result (λ x. tree nodes.new x.node ≡ in_row part first list.next (row_in nodes.old list.parts)) }
     ensures next { IfOk result (λ x. x.next ≡ list.next) }
     ensures err { IfErr result (λ fault. fault ≡ ParseFault.NoMemory) }
@@ -241,7 +241,7 @@ pub(crate) fn gathered_parameters(
     requires below { PartsAreBelow nodes.old }
     requires first { first < list.next }
     requires next { list.next < 2 ^ 32 }
-    ensures ok { IfOk result (λ x. IsRegathered before nodes.old nodes.new list.parts x) }
+    ensures ok { IfOk result (λ x. IsRegathered before nodes.old nodes.new (reverse list.parts) x) }
     ensures tree { IfOk result (λ x. tree nodes.new x.node ≡ in_parameters first list.next (row_in nodes.old list.parts)) }
     ensures next { IfOk result (λ x. x.next ≡ list.next) }
     ensures err { IfErr result (λ fault. fault ≡ ParseFault.NoMemory) }
