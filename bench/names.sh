@@ -5,7 +5,7 @@
 # It proves and builds a small timer in a folder of its own, which takes some minutes. Run it by hand.
 set -eu
 . "$(dirname "${BASH_SOURCE[0]}")/timer.sh"
-begin_timer cr_tokens cr_ints cr_rows cr_syntax cr_machine cr_exprs cr_decls cr_parse_tests cr_events cr_scopes
+begin_timer cr_tokens cr_ints cr_rows cr_syntax cr_listing cr_machine cr_exprs cr_decls cr_parse_tests cr_events cr_scopes
 cat >src/main.rt <<'RT'
 //! Parses the file on standard input, resolves its names ten times, and prints how long that took.
 #![tactic(auto)]

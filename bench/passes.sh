@@ -5,7 +5,7 @@
 # It proves and builds a small timer in a folder of its own, which takes a few minutes. Run it by hand.
 set -eu
 . "$(dirname "${BASH_SOURCE[0]}")/timer.sh"
-begin_timer cr_analysis cr_brackets cr_cursor cr_decls cr_edit cr_exprs cr_ints cr_levels cr_machine cr_printer cr_rows cr_syntax cr_tokens \
+begin_timer cr_analysis cr_brackets cr_cursor cr_decls cr_edit cr_exprs cr_ints cr_levels cr_listing cr_machine cr_printer cr_rows cr_syntax cr_tokens \
   pass_exprs pass_stmts pass_text
 cat >src/main.rt <<'RT'
 //! Makes the indexes of the file on standard input, and a hundred variants of each level.

@@ -5,7 +5,7 @@
 # It proves and builds a small timer in a folder of its own, which takes some minutes. Run it by hand.
 set -eu
 . "$(dirname "${BASH_SOURCE[0]}")/timer.sh"
-begin_timer cr_tokens cr_ints cr_rows cr_syntax cr_machine cr_exprs cr_decls cr_parse_tests
+begin_timer cr_tokens cr_ints cr_rows cr_syntax cr_listing cr_machine cr_exprs cr_decls cr_parse_tests
 cat >src/main.rt <<'RT'
 //! Reads and parses the file on standard input ten times, and prints how long that took.
 #![tactic(auto)]
@@ -61,5 +61,7 @@ row 'int f(){' ';' 262138 '}' | timed ';'
 row 'int a={1' ',1' 131068 '};' | timed ',1'
 awk 'BEGIN { printf "typedef int T;"; for (i = 0; i < 87379; i++) printf "T a%d;", i }' | timed 'a type, and names behind it'
 awk 'BEGIN { printf "int f(int a"; for (i = 1; i < 60000; i++) printf ",int a%d", i; printf ")"; for (i = 0; i < 27000; i++) printf "[1]"; printf ";" }' | timed 'parameters, and suffixes behind them'
+row 'int f' '(void)' 87379 ';' | timed '(void)'
+row 'int a' '[1]' 87379 ';' | timed '[1]'
 awk 'BEGIN { printf "int a;int f(){"; for (i = 0; i < 120; i++) printf "{int b%d;", i; for (i = 0; i < 130600; i++) printf "a;"; for (i = 0; i <= 120; i++) printf "}" }' | timed 'a name looked for in 122 scopes'
 awk 'BEGIN { srand(1); split("int ( ) { } [ ] ; , * = a 1 if else for while return + -> . case", w, " "); for (i = 0; i < 262144; i++) printf "%s ", w[int(rand() * 22) + 1] }' | timed 'random tokens'

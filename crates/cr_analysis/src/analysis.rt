@@ -2,14 +2,10 @@
 ghost use Rattle.std.specs.Prelude.{◌≡◌, IfOk, MatchOption, OnOk};
 ghost use Rattle.cr_tokens.specs.Tokens.{HasNoTokens, Tokenizes};
 ghost use Rattle.cr_exprs.specs.declared.fault.ParseFault.TheVariants.{NoMemory};
-ghost use Rattle.cr_syntax.specs.Units.{IsTreeOf};
-ghost use Rattle.cr_syntax.specs.Kept.{row_in};
-ghost use Rattle.cr_syntax.specs.Words.{lexemes_of};
 ghost use Rattle.cr_analysis.specs.Analysis.{IsAnalysis};
 
 use cr_decls::parse;
 use cr_exprs::ParseFault;
-use cr_listing::are_listed;
 use cr_machine::one_first_refusal;
 use cr_rows::Row;
 use cr_syntax::{Unit, tokens_are_spans};
@@ -54,7 +50,7 @@ fn parsed(alloc: Global, file: &[u8], tokens: Tokens) -> Result<Analysis, AllocE
     tokens_are_spans();
     one_first_refusal();
     match parse(alloc, file, &tokens) {
-        Ok(unit) => of_unit(alloc, file, unit),
+        Ok(unit) => Ok(Analysis::OfUnit(unit)),
         Err(fault) => {
             refusal(fault)?;
             Ok(Analysis::NoUnit(Row::from_vec(tokens.list)))
@@ -69,18 +65,5 @@ fn refusal(fault: ParseFault) -> Result<(), AllocError>
     match fault {
         ParseFault::NoMemory => Err(AllocError),
         _ => Ok(()),
-    }
-}
-
-// The error is answered too where the nodes aren't listed in order. The parser lists them so.
-fn of_unit(alloc: Global, file: &[u8], unit: Unit) -> Result<Analysis, AllocError>
-    requires tokens { Tokenizes file.now unit.tokens.list.items }
-    requires tree { IsTreeOf (lexemes_of file.now unit.tokens.list.items) (row_in unit.nodes unit.items) }
-    ensures { IfOk result (IsAnalysis file.now) }
-{
-    if are_listed(alloc, unit.nodes.as_slice(), unit.items.as_slice())? {
-        Ok(Analysis::OfUnit(unit))
-    } else {
-        Err(AllocError)
     }
 }

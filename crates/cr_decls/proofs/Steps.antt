@@ -1,5 +1,5 @@
 -- Steps of the machine's runs as the functions of declarations and statements take them.
-use Rattle.std.proofs.Common.{◌≡◌, ℕ, zero, suc, true, true≢false, ◌+◌, ◌<◌, ◌≤◌, List, [], ◌∷◌, ◌++◌, Option, None, Some, Result, Ok, Err, length, refl, sym, ap, subst, ◌∙◌, arith}
+use Rattle.std.proofs.Common.{◌≡◌, ℕ, zero, suc, true, true≢false, ◌+◌, ◌<◌, ◌≤◌, List, [], ◌∷◌, ◌++◌, Option, None, Some, Result, Ok, Err, length, refl, reverse, sym, ap, subst, ◌∙◌, arith}
 use Rattle.std.specs.Prelude.{IfOk, option_to_list}
 use Rattle.cr_syntax.specs.declared.node.Node.{Node}
 use Rattle.cr_syntax.specs.declared.part.Context.{Context}
@@ -17,7 +17,6 @@ use Rattle.cr_exprs.specs.Answers.{RunsTo, Comes, Gives, Goes, Keeps, IsPlaced, 
 use Rattle.cr_exprs.proofs.Nodes.{row_kept}
 use Rattle.cr_exprs.proofs.Runs.{fails}
 use Rattle.cr_machine.proofs.MachineSpells.{and_none, and_and}
-use Rattle.cr_exprs.proofs.Loose.{times_append, kept_as}
 use Rattle.cr_decls.specs.declared.labels.Labels.{Labels}
 use Rattle.cr_decls.specs.declared.labels.Labels.TheVariants.{OwnBlock, Nowhere}
 use Rattle.cr_decls.specs.Programs.{labels_of, with_step}
@@ -65,22 +64,23 @@ loop_below f g h ps k n {a} {b} {c} x y z la lb lc lt q =
     subst (λ r. AreBelow r n) (sym q) (below_append (f ++ g ++ h) (k ∷ []) n (below_append (f ++ g) h n (below_append f g n (below_longer f a n x la) (below_longer g b n y lb)) (below_longer h c n z lc)) (below_one k n lt))
 
 -- they are loose until then, the last one first
-pub loop_kept : (tokens : ℕ) (ns : List Node) (f g h ps : List ℕ) (k : ℕ) (loose : List ℕ) → ps ≡ f ++ g ++ h ++ k ∷ [] → AreKept tokens ns (k ∷ h ++ (g ++ (f ++ loose))) → AreKept tokens ns (ps ++ loose)
+loop_turned : (f g h : Option ℕ) (k : ℕ) (loose : List ℕ) → k ∷ option_to_list h ++ (option_to_list g ++ (option_to_list f ++ loose)) ≡ reverse (option_to_list f ++ option_to_list g ++ option_to_list h ++ k ∷ []) ++ loose
+loop_turned None None None k loose = refl
+loop_turned None None (Some r) k loose = refl
+loop_turned None (Some q) None k loose = refl
+loop_turned None (Some q) (Some r) k loose = refl
+loop_turned (Some p) None None k loose = refl
+loop_turned (Some p) None (Some r) k loose = refl
+loop_turned (Some p) (Some q) None k loose = refl
+loop_turned (Some p) (Some q) (Some r) k loose = refl
+
+pub loop_kept : (tokens : ℕ) (ns : List Node) (f g h : Option ℕ) (ps : List ℕ) (k : ℕ) (loose : List ℕ) → ps ≡ option_to_list f ++ option_to_list g ++ option_to_list h ++ k ∷ [] → AreKept tokens ns (k ∷ option_to_list h ++ (option_to_list g ++ (option_to_list f ++ loose))) → AreKept tokens ns (reverse ps ++ loose)
 loop_kept tokens ns f g h ps k loose q kept =
-    subst (λ x. AreKept tokens ns (x ++ loose)) (sym q) (kept_as tokens ns (k ∷ h ++ (g ++ (f ++ loose))) ((f ++ g ++ h ++ k ∷ []) ++ loose) (λ p.
-    let a = times_append (k ∷ h) (g ++ (f ++ loose)) p in
-    let b = times_append (k ∷ []) h p in
-    let c = times_append g (f ++ loose) p in
-    let d = times_append f loose p in
-    let e = times_append (f ++ g ++ h ++ k ∷ []) loose p in
-    let u = times_append (f ++ g ++ h) (k ∷ []) p in
-    let v = times_append (f ++ g) h p in
-    let w = times_append f g p in
-    omega arith) kept)
+    subst (λ x. AreKept tokens ns (reverse x ++ loose)) (sym q) (subst (λ x. AreKept tokens ns x) (loop_turned f g h k loose) kept)
 
 -- a declaration's first declarator and its specifiers are loose
-pub kept_first : (tokens : ℕ) (ns : List Node) (p q : ℕ) (ps loose : List ℕ) → ps ≡ q ∷ [] → AreKept tokens ns (p ∷ q ∷ loose) → AreKept tokens ns (p ∷ ps ++ loose)
-kept_first tokens ns p q ps loose e h = subst (λ x. AreKept tokens ns (p ∷ x ++ loose)) (sym e) h
+pub kept_first : (tokens : ℕ) (ns : List Node) (p q : ℕ) (ps loose : List ℕ) → ps ≡ q ∷ [] → AreKept tokens ns (p ∷ q ∷ loose) → AreKept tokens ns (p ∷ reverse ps ++ loose)
+kept_first tokens ns p q ps loose e h = subst (λ x. AreKept tokens ns (p ∷ reverse x ++ loose)) (sym e) h
 
 -- a node that was read may be said to have grown
 pub grown_as : (tokens at : ℕ) (old new : List Node) (taken : List ℕ) (r : Result Found ParseFault) → IfOk r (IsPlaced tokens at old new taken) → IfOk r (IsGrown tokens at old new taken)

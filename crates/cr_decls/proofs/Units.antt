@@ -1,6 +1,8 @@
 -- What the machine's run of a unit says of the grammar, and what the nodes of a whole unit keep.
-use Rattle.std.proofs.Common.{◌≡◌, ℕ, List, [], ◌∷◌, ◌++◌, refl, sym, ap, subst, ◌∙◌}
+use Rattle.std.proofs.Common.{◌≡◌, ℕ, List, [], ◌∷◌, ◌++◌, length, refl, reverse, sym, ap, subst, ◌∙◌}
+use Rattle.std.proofs.lemmas.List.{reverse-reverse}
 use Rattle.cr_syntax.specs.declared.node.Node.{Node}
+use Rattle.cr_syntax.specs.Kept.{AreWithin, NamedOnce, ItemsAreNodes}
 use Rattle.cr_syntax.specs.Words.{Lexeme}
 use Rattle.cr_syntax.specs.Scopes.{Scopes}
 use Rattle.cr_syntax.specs.Trees.{Trees}
@@ -11,11 +13,12 @@ use Rattle.cr_machine.specs.MachineBody.{body}
 use Rattle.cr_machine.proofs.MachineUnit.{is_parsed, only_refusal}
 use Rattle.cr_machine.proofs.MachineUnits.{unit_is_unit}
 use Rattle.cr_machine.proofs.MachineUnitComplete.{one_unit}
+use Rattle.cr_listing.specs.Listed.{AreListed}
 use Rattle.cr_exprs.specs.declared.fault.ParseFault.{ParseFault}
 use Rattle.cr_exprs.specs.declared.fault.ParseFault.TheVariants.{NoMemory, Unexpected, Ended, TooDeep, OutsideSubset}
 use Rattle.cr_exprs.specs.Loose.{AreKept, Replaces}
 use Rattle.cr_exprs.specs.Answers.{RunsTo, FailsSo, Refuses}
-use Rattle.cr_exprs.proofs.Loose.{kept_none}
+use Rattle.cr_exprs.proofs.Loose.{kept_none, once_turned, nodes_turned}
 use Rattle.cr_decls.specs.Unit.{IsOnlyTree, IsRefused, IsOnlyRefusal}
 
 -- what is read is the only tree
@@ -61,8 +64,25 @@ append_none : (ps : List ℕ) → ps ++ [] ≡ ps
 append_none [] = refl
 append_none (p ∷ ps) = ap (λ x. p ∷ x) (append_none ps)
 
--- all nodes of a unit stand under a parent, but for its items
-pub unit_kept : (count tokens : ℕ) (old new : List Node) (items : List ℕ) → old ≡ [] → count ≡ tokens → Replaces tokens old new [] items → AreKept count new items
+-- all nodes of a unit stand under a parent, but for its items, and are listed in order
+pub record IsWholeUnit (tokens : ℕ) (nodes : List Node) (items : List ℕ) : Type 0 where
+  pub within : AreWithin tokens nodes
+  pub named_once : NamedOnce nodes items
+  pub are_nodes : ItemsAreNodes nodes items
+  pub listed : AreListed nodes 0 items (length nodes)
+
+whole_unit : (tokens : ℕ) (nodes : List Node) (items : List ℕ) → AreKept tokens nodes (reverse items) → IsWholeUnit tokens nodes items
+whole_unit tokens nodes items h = record {
+  within = h.within;
+  named_once = once_turned nodes items h.named_once;
+  are_nodes = nodes_turned nodes items h.are_nodes;
+  listed = subst (λ x. AreListed nodes 0 x (length nodes)) (reverse-reverse items) h.listed;
+}
+
+pub unit_kept : (count tokens : ℕ) (old new : List Node) (items : List ℕ) → old ≡ [] → count ≡ tokens → Replaces tokens old new [] (reverse items) → IsWholeUnit count new items
 unit_kept count tokens old new items e q f =
     let start : AreKept tokens old [] = subst (λ x. AreKept tokens x []) (sym e) (kept_none tokens) in
-    subst (λ x. AreKept x new items) (sym q) (subst (λ x. AreKept tokens new x) (append_none items) (f [] start))
+    subst (λ x. IsWholeUnit x new items) (sym q) (whole_unit tokens new items (subst (λ x. AreKept tokens new x) (append_none (reverse items)) (f [] start)))
+
+pub listed_as : {nodes more : List Node} {items row : List ℕ} → more ≡ nodes → row ≡ items → AreListed nodes 0 items (length nodes) → AreListed more 0 row (length more)
+listed_as {nodes} {more} {items} {row} q w h = subst (λ x. AreListed x 0 row (length x)) (sym q) (subst (λ x. AreListed nodes 0 x (length nodes)) (sym w) h)

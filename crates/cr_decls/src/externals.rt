@@ -1,6 +1,6 @@
 //! External declarations (C11 6.9), one function a goal of the machine.
 
-ghost use Rattle.std.specs.Prelude.{◌≡◌, ◌+◌, ◌<◌, ◌≤◌, ◌∷◌, [], IfOk, length};
+ghost use Rattle.std.specs.Prelude.{◌≡◌, ◌+◌, ◌<◌, ◌≤◌, ◌∷◌, [], IfOk, length, reverse};
 ghost use Rattle.cr_syntax.specs.Kept.{PartsAreBelow, row_in};
 ghost use Rattle.cr_machine.specs.Machine.{nowhere, unit, external};
 ghost use Rattle.cr_machine.specs.MachineBody.{body, defined};
@@ -33,7 +33,7 @@ pub(crate) fn unit(
     requires below { PartsAreBelow nodes.old }
     ensures reads { Answers (text_of source.now) (body (unit nowhere 0)) scopes.old 0 (λ x. row_in nodes.new x) scopes.new (λ x. length source.now.tokens.now) result }
     ensures below { IfOk result (λ x. PartsAreBelow nodes.new) }
-    ensures kept { IfOk result (λ x. Replaces (length source.now.tokens.now) nodes.old nodes.new [] x) }
+    ensures kept { IfOk result (λ x. Replaces (length source.now.tokens.now) nodes.old nodes.new [] (reverse x)) }
 {
     let first = external(alloc, source, 0, scopes, nodes)?;
     let mut items = row_of(alloc, first.node)?;

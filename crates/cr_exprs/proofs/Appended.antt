@@ -1,17 +1,20 @@
 -- Nodes that come to stand behind others: their trees stay, and so does what they keep.
-use Rattle.std.proofs.Common.{◌≡◌, ℕ, zero, suc, ◌+◌, ◌-◌, ◌<◌, ◌≤◌, ◌==◌, Bool, true, false, cond, true≢false, List, [], ◌∷◌, ◌++◌, Some, length, map, take, drop, get_or, slice_get, ◌⊎◌, inl, inr, refl, sym, ap, subst, ◌∙◌, arith, append_assoc, length-append}
+use Rattle.std.proofs.Common.{◌≡◌, ℕ, zero, suc, ◌+◌, ◌-◌, ◌<◌, ◌≤◌, ◌==◌, Bool, true, false, cond, true≢false, List, [], ◌∷◌, ◌++◌, Some, length, map, take, drop, get_or, slice_get, ◌⊎◌, inl, inr, refl, sym, ap, subst, ◌∙◌, arith, append_assoc, length-append, reverse}
 use Rattle.std.proofs.lemmas.List.{append-nil, take-append-drop, get_or-append-add, length-map, get_or-map, map-append}
 use Rattle.std.proofs.lemmas.Grind.{flat_map-append}
 use Rattle.std.proofs.lemmas.Bool.{eq-eqb, eqb-true, cases_lt}
-use Rattle.std.specs.Prelude.{Result, Ok, Err, OnErr}
+use Rattle.std.proofs.lemmas.Option.{slice_get-map}
+use Rattle.std.specs.Prelude.{Result, Ok, Err, OnErr, option_map}
 use Rattle.cr_syntax.specs.declared.node.Node.{Node}
 use Rattle.cr_syntax.specs.Kept.{PartsAreBelow, AreBelow, AreWithin, NamedOnce, ItemsAreNodes}
 use Rattle.cr_syntax.specs.Trees.{Trees, none, one, row_of, tree_of, grown, trees_of}
+use Rattle.cr_listing.specs.Listed.{AreListed, no_node, one_more}
+use Rattle.cr_listing.proofs.Listings.{joined, among}
 use Rattle.cr_exprs.specs.Behind.{numbers_behind, node_behind, nodes_behind}
 use Rattle.cr_exprs.specs.Loose.{AreKept}
 use Rattle.cr_exprs.specs.Answers.{Keeps, IsPlaced, tree}
-use Rattle.cr_exprs.proofs.Nodes.{grown_length, get_front, below_front}
-use Rattle.cr_exprs.proofs.Loose.{names, times, times_append, times_other, times_out, names_below, differs, kept_none, before_same}
+use Rattle.cr_exprs.proofs.Nodes.{grown_length, get_front, get_past, below_front}
+use Rattle.cr_exprs.proofs.Loose.{names, times, times_append, times_other, times_out, names_below, differs, kept_none, before_same, turned_last}
 
 -- trees
 
@@ -141,11 +144,33 @@ items_behind : (old more : List Node) (x : ℕ) (loose : List ℕ) → ItemsAreN
 items_behind old more x loose are lt zero l = omega (arith, length_behind old more)
 items_behind old more x loose are lt (suc i) l = let h = are i (omega arith) in omega (arith, h, length_behind old more)
 
+-- order
+at_behind : (old more : List Node) (p : ℕ) (n : Node) → slice_get more p ≡ Some n → slice_get (old ++ nodes_behind (length old) more) (p + length old) ≡ Some (node_behind (length old) n)
+at_behind old more p n at =
+    get_past old (nodes_behind (length old) more) p (p + length old) refl ∙ slice_get-map (node_behind (length old)) more p ∙ ap (λ x. option_map (node_behind (length old)) x) at
+
+moved : (old more : List Node) {from end : ℕ} {ps : List ℕ} → AreListed more from ps end → AreListed (old ++ nodes_behind (length old) more) (from + length old) (numbers_behind (length old) ps) (end + length old)
+moved old more no_node = no_node
+moved old more (one_more {p = p} {end = end} {ps = ps} {n = n} at below rest) =
+    let next : p + 1 + length old ≡ p + length old + 1 = omega arith in
+    one_more {n = node_behind (length old) n} (at_behind old more p n at) (moved old more below)
+    (subst (λ x. AreListed (old ++ nodes_behind (length old) more) x (numbers_behind (length old) ps) (end + length old)) next (moved old more rest))
+
+listed_behind : (old more : List Node) (x : ℕ) (loose : List ℕ) → AreListed old 0 (reverse loose) (length old) → AreListed more 0 (x ∷ []) (length more) → AreListed (old ++ nodes_behind (length old) more) 0 (reverse ((x + length old) ∷ loose)) (length (old ++ nodes_behind (length old) more))
+listed_behind old more x loose h g =
+    let all = old ++ nodes_behind (length old) more in
+    let before : AreListed all 0 (reverse loose) (length old) = among (λ k lt. get_front old (nodes_behind (length old) more) k lt) h in
+    let first : 0 + length old ≡ length old = omega arith in
+    let last : length more + length old ≡ length all = omega (arith, length_behind old more) in
+    let behind : AreListed all (length old) ((x + length old) ∷ []) (length all) = subst (λ i. AreListed all i ((x + length old) ∷ []) (length all)) first (subst (λ i. AreListed all (0 + length old) ((x + length old) ∷ []) i) last (moved old more g)) in
+    subst (λ ps. AreListed all 0 ps (length all)) (sym (turned_last (x + length old) loose)) (joined before behind)
+
 kept_behind_all : (tokens : ℕ) (old more : List Node) (x : ℕ) (loose : List ℕ) → PartsAreBelow old → AreKept tokens old loose → AreKept tokens more (x ∷ []) → AreKept tokens (old ++ nodes_behind (length old) more) ((x + length old) ∷ loose)
 kept_behind_all tokens old more x loose f h g = record {
   within = within_behind tokens old more h.within g.within;
   named_once = once_behind old more x loose f h.named_once h.are_nodes g.named_once;
   are_nodes = items_behind old more x loose h.are_nodes (g.are_nodes 0 (omega arith));
+  listed = listed_behind old more x loose h.listed g.listed;
 }
 
 placed_behind_all : (tokens at : ℕ) (old more : List Node) (x next : ℕ) → PartsAreBelow old → IsPlaced tokens at [] more [] (record { node = x; next = next }) →

@@ -1,6 +1,8 @@
 -- The nodes that are loose, where nodes are appended.
-use Rattle.std.proofs.Common.{◌≡◌, ℕ, zero, suc, ◌+◌, ◌-◌, ◌<◌, ◌≤◌, ◌==◌, Bool, true, false, cond, List, [], ◌∷◌, ◌++◌, Some, length, slice_get, slice_index, count_by, ◌⊎◌, inl, inr, refl, sym, ap, subst, ◌∙◌, arith, append_assoc, length-append}
+use Rattle.std.proofs.Common.{◌≡◌, ℕ, zero, suc, ◌+◌, ◌-◌, ◌<◌, ◌≤◌, ◌==◌, Bool, true, false, cond, List, [], ◌∷◌, ◌++◌, Some, length, slice_get, slice_index, count_by, ◌⊎◌, inl, inr, refl, sym, ap, subst, ◌∙◌, arith, append_assoc, length-append, reverse}
+use Rattle.std.proofs.lemmas.List.{reverse-append, reverse-reverse}
 use Rattle.std.proofs.lemmas.List.Sums.{sum_by-append, get_or-le-sum_by}
+use Rattle.std.proofs.lemmas.List.Sorted.{sum_by-IsPermutation, IsPermutation-reverse}
 use Rattle.std.proofs.lemmas.Grind.{flat_map-append}
 use Rattle.std.proofs.lemmas.Bool.{eq-eqb, eqb-true, cases_order}
 use Rattle.std.proofs.lemmas.Option.{slice_get_within}
@@ -8,11 +10,13 @@ use Rattle.std.specs.List.{flat_map}
 use Rattle.std.specs.Prelude.{Result, Ok, Err, IfOk}
 use Rattle.cr_syntax.specs.declared.node.Node.{Node}
 use Rattle.cr_syntax.specs.Kept.{PartsAreBelow, AreBelow, AreWithin, NamedOnce, ItemsAreNodes}
+use Rattle.cr_listing.specs.Listed.{AreListed, no_node}
+use Rattle.cr_listing.proofs.Listings.{cut, behind, among}
 use Rattle.cr_exprs.specs.declared.fault.ParseFault.{ParseFault}
 use Rattle.cr_exprs.specs.declared.found.Found.{Found}
 use Rattle.cr_exprs.specs.Loose.{AreKept, Replaces}
 use Rattle.cr_exprs.specs.Answers.{Keeps, IsPushed, IsPlaced, IsGathered, IsRegathered, IsGrown, IsRow}
-use Rattle.cr_exprs.proofs.Nodes.{keeps_all, keeps_none, get_front}
+use Rattle.cr_exprs.proofs.Nodes.{keeps_all, keeps_none, get_front, get_past}
 
 -- how often a number stands in a list
 abbrev pub times : List ℕ → ℕ → ℕ
@@ -20,6 +24,9 @@ times ps k = count_by (λ p. p == k) ps
 
 pub times_append : (a b : List ℕ) (k : ℕ) → times (a ++ b) k ≡ times a k + times b k
 times_append a b k = sum_by-append (λ p. cond (p == k) 1 0) a b
+
+pub times_turned : (ps : List ℕ) (k : ℕ) → times (reverse ps) k ≡ times ps k
+times_turned ps k = sum_by-IsPermutation (λ p. cond (p == k) 1 0) ps (reverse ps) (IsPermutation-reverse ps)
 
 pub differs : (a b : ℕ) (t : Bool) → (a == b) ≡ t → (a ≡ b → ⊥) → t ≡ false
 differs a b true q h = absurd (h (eqb-true a b q))
@@ -90,23 +97,24 @@ below_push ns n f b k m q = elim (picked ns n m k q) as (λ _. AreBelow m.parts 
   | inr w ↦ subst (λ (x : Node). AreBelow x.parts k) w.1 (subst (λ j. AreBelow n.parts j) (sym w.0) b)
 ]
 
-once_push : (ns : List Node) (n : Node) (loose : List ℕ) → PartsAreBelow ns → NamedOnce ns (n.parts ++ loose) → ItemsAreNodes ns (n.parts ++ loose) → NamedOnce (ns ++ n ∷ []) (length ns ∷ loose)
+once_push : (ns : List Node) (n : Node) (loose : List ℕ) → PartsAreBelow ns → NamedOnce ns (reverse n.parts ++ loose) → ItemsAreNodes ns (reverse n.parts ++ loose) → NamedOnce (ns ++ n ∷ []) (length ns ∷ loose)
 once_push ns n loose f once are k lt =
     let all = times_append (names (ns ++ n ∷ [])) (length ns ∷ loose) k in
     let more = names_push ns n k in
     let top = times_append (length ns ∷ []) loose k in
-    let both = times_append n.parts loose k in
+    let both = times_append (reverse n.parts) loose k in
+    let turned = times_turned n.parts k in
     elim (cases_order k (length ns)) as (λ _. times (names (ns ++ n ∷ []) ++ length ns ∷ loose) k ≡ 1) [
       | inl q ↦
           let here = times_same (length ns) k (sym q) in
           let old = names_below ns k f (omega arith) in
-          let none = times_out (n.parts ++ loose) (length ns) k are (omega arith) in
+          let none = times_out (reverse n.parts ++ loose) (length ns) k are (omega arith) in
           omega arith
       | inr w ↦ elim w as (λ _. times (names (ns ++ n ∷ []) ++ length ns ∷ loose) k ≡ 1) [
         | inl l ↦
             let here = times_other (length ns) k (λ q. omega arith) in
             let old = once k l in
-            let split = times_append (names ns) (n.parts ++ loose) k in
+            let split = times_append (names ns) (reverse n.parts ++ loose) k in
             omega arith
         | inr g ↦ absurd (omega (arith, lt, length-append ns (n ∷ [])))
       ]
@@ -120,17 +128,34 @@ loose_push ps loose n m e h = below_by (n ∷ loose) m (λ k le.
 
 -- no nodes, with which the reading of a file begins
 pub kept_none : (tokens : ℕ) → AreKept tokens [] []
-kept_none tokens = record { within = λ k n q. absurd cc; named_once = λ k lt. absurd (omega arith); are_nodes = λ i lt. absurd (omega arith) }
+kept_none tokens = record { within = λ k n q. absurd cc; named_once = λ k lt. absurd (omega arith); are_nodes = λ i lt. absurd (omega arith); listed = no_node }
+
+-- the loose nodes in the order in which they stand, the parts of a node last
+turned_behind : (ps loose : List ℕ) → reverse (reverse ps ++ loose) ≡ reverse loose ++ ps
+turned_behind ps loose = reverse-append (reverse ps) loose ∙ ap (λ x. reverse loose ++ x) (reverse-reverse ps)
+
+pub turned_last : (p : ℕ) (loose : List ℕ) → reverse (p ∷ loose) ≡ reverse loose ++ p ∷ []
+turned_last p loose = reverse-append (p ∷ []) loose
+
+listed_push : (ns : List Node) (n : Node) (loose : List ℕ) → AreListed ns 0 (reverse (reverse n.parts ++ loose)) (length ns) → AreListed (ns ++ n ∷ []) 0 (reverse (length ns ∷ loose)) (length (ns ++ n ∷ []))
+listed_push ns n loose h =
+    let w = cut (reverse loose) n.parts (subst (λ x. AreListed ns 0 x (length ns)) (turned_behind n.parts loose) h) in
+    let more = λ (k : ℕ) (lt : k < length ns). get_front ns (n ∷ []) k lt in
+    let last : slice_get (ns ++ n ∷ []) (length ns) ≡ Some n = get_past ns (n ∷ []) 0 (length ns) (omega arith) in
+    let all : AreListed (ns ++ n ∷ []) 0 (reverse loose ++ length ns ∷ []) (length ns + 1) = behind (among more w.before) last (among more w.behind) in
+    let one : length ns + 1 ≡ length (ns ++ n ∷ []) = omega (arith, length-append ns (n ∷ [])) in
+    subst (λ x. AreListed (ns ++ n ∷ []) 0 (reverse (length ns ∷ loose)) x) one (subst (λ x. AreListed (ns ++ n ∷ []) 0 x (length ns + 1)) (sym (turned_last (length ns) loose)) all)
 
 -- a node that takes its parts is loose itself
-kept_push : (tokens : ℕ) (ns : List Node) (n : Node) (loose : List ℕ) → PartsAreBelow ns → n.first ≤ n.last → n.last < tokens → AreKept tokens ns (n.parts ++ loose) → AreKept tokens (ns ++ n ∷ []) (length ns ∷ loose)
+kept_push : (tokens : ℕ) (ns : List Node) (n : Node) (loose : List ℕ) → PartsAreBelow ns → n.first ≤ n.last → n.last < tokens → AreKept tokens ns (reverse n.parts ++ loose) → AreKept tokens (ns ++ n ∷ []) (length ns ∷ loose)
 kept_push tokens ns n loose f s e h = record {
   within = within_push tokens ns n h.within s e;
   named_once = once_push ns n loose f h.named_once h.are_nodes;
-  are_nodes = loose_push n.parts loose (length ns) (length (ns ++ n ∷ [])) (omega (arith, length-append ns (n ∷ []))) h.are_nodes;
+  are_nodes = loose_push (reverse n.parts) loose (length ns) (length (ns ++ n ∷ [])) (omega (arith, length-append ns (n ∷ []))) h.are_nodes;
+  listed = listed_push ns n loose h.listed;
 }
 
-pushed_last : (ns : List Node) (n : Node) (next : ℕ) → PartsAreBelow ns → AreBelow n.parts (length ns) → n.first < next → n.last + 1 ≡ next → IsPushed ns (ns ++ n ∷ []) n.parts (record { node = length ns; next = next })
+pushed_last : (ns : List Node) (n : Node) (next : ℕ) → PartsAreBelow ns → AreBelow n.parts (length ns) → n.first < next → n.last + 1 ≡ next → IsPushed ns (ns ++ n ∷ []) (reverse n.parts) (record { node = length ns; next = next })
 pushed_last ns n next f b s e = record {
   last = refl;
   grows = omega (arith, length-append ns (n ∷ []));
@@ -139,44 +164,36 @@ pushed_last ns n next f b s e = record {
   kept = λ tokens le loose h. kept_push tokens ns n loose f (omega arith) (omega arith) h;
 }
 
-pub is_pushed : (old new : List Node) (n : Node) (next k : ℕ) → new ≡ old ++ n ∷ [] → k ≡ length old → PartsAreBelow old → AreBelow n.parts (length old) → n.first < next → n.last + 1 ≡ next → IsPushed old new n.parts (record { node = k; next = next })
+pub is_pushed : (old new : List Node) (n : Node) (next k : ℕ) → new ≡ old ++ n ∷ [] → k ≡ length old → PartsAreBelow old → AreBelow n.parts (length old) → n.first < next → n.last + 1 ≡ next → IsPushed old new (reverse n.parts) (record { node = k; next = next })
 is_pushed old new n next k q l f b s e =
-    subst (λ x. IsPushed old x n.parts (record { node = k; next = next })) (sym q) (subst (λ x. IsPushed old (old ++ n ∷ []) n.parts (record { node = x; next = next })) (sym l) (pushed_last old n next f b s e))
+    subst (λ x. IsPushed old x (reverse n.parts) (record { node = k; next = next })) (sym q) (subst (λ x. IsPushed old (old ++ n ∷ []) (reverse n.parts) (record { node = x; next = next })) (sym l) (pushed_last old n next f b s e))
 
--- the order of the loose nodes is nothing to them
-pub kept_as : (tokens : ℕ) (ns : List Node) (a b : List ℕ) → ((k : ℕ) → times a k ≡ times b k) → AreKept tokens ns a → AreKept tokens ns b
-kept_as tokens ns a b same h = record {
-  within = h.within;
-  named_once = λ k lt. omega (arith, h.named_once k lt, same k, times_append (names ns) a k, times_append (names ns) b k);
-  are_nodes = below_by b (length ns) (λ k le. omega (arith, same k, times_out a (length ns) k h.are_nodes le));
-}
+-- what doesn't ask for the order of the loose nodes
+pub once_turned : (ns : List Node) (items : List ℕ) → NamedOnce ns (reverse items) → NamedOnce ns items
+once_turned ns items once k lt = omega (arith, once k lt, times_turned items k, times_append (names ns) (reverse items) k, times_append (names ns) items k)
 
-pub kept_swap : (tokens : ℕ) (ns : List Node) (p q : ℕ) (loose : List ℕ) → AreKept tokens ns (q ∷ p ∷ loose) → AreKept tokens ns (p ∷ q ∷ loose)
-kept_swap tokens ns p q loose h = kept_as tokens ns (q ∷ p ∷ loose) (p ∷ q ∷ loose) (λ k. omega (arith, times_append (p ∷ q ∷ []) loose k, times_append (q ∷ p ∷ []) loose k, times_append (p ∷ []) (q ∷ []) k, times_append (q ∷ []) (p ∷ []) k)) h
-
-pub kept_turned : (tokens : ℕ) (ns : List Node) (p q r : ℕ) (loose : List ℕ) → AreKept tokens ns (r ∷ q ∷ p ∷ loose) → AreKept tokens ns (p ∷ q ∷ r ∷ loose)
-kept_turned tokens ns p q r loose h = kept_as tokens ns (r ∷ q ∷ p ∷ loose) (p ∷ q ∷ r ∷ loose) (λ k. omega (arith, times_append (p ∷ q ∷ r ∷ []) loose k, times_append (r ∷ q ∷ p ∷ []) loose k, times_append (p ∷ q ∷ []) (r ∷ []) k, times_append (p ∷ []) (q ∷ []) k, times_append (r ∷ q ∷ []) (p ∷ []) k, times_append (r ∷ []) (q ∷ []) k)) h
+pub nodes_turned : (ns : List Node) (items : List ℕ) → ItemsAreNodes ns (reverse items) → ItemsAreNodes ns items
+nodes_turned ns items are = below_by items (length ns) (λ k le. omega (arith, times_turned items k, times_out (reverse items) (length ns) k are le))
 
 -- Rows of loose nodes as the parser's loops make them.
 
-pub kept_row : (tokens : ℕ) (ns : List Node) (ps qs loose : List ℕ) → ps ≡ qs → AreKept tokens ns (qs ++ loose) → AreKept tokens ns (ps ++ loose)
-kept_row tokens ns ps qs loose e h = subst (λ x. AreKept tokens ns (x ++ loose)) (sym e) h
+pub kept_row : (tokens : ℕ) (ns : List Node) (ps qs loose : List ℕ) → ps ≡ qs → AreKept tokens ns (reverse qs ++ loose) → AreKept tokens ns (reverse ps ++ loose)
+kept_row tokens ns ps qs loose e h = subst (λ x. AreKept tokens ns (reverse x ++ loose)) (sym e) h
 
-pub kept_more : (tokens : ℕ) (ns : List Node) (ps qs : List ℕ) (p : ℕ) (loose : List ℕ) → qs ≡ ps ++ p ∷ [] → AreKept tokens ns (p ∷ ps ++ loose) → AreKept tokens ns (qs ++ loose)
-kept_more tokens ns ps qs p loose e h = kept_row tokens ns qs (ps ++ p ∷ []) loose e (kept_as tokens ns (p ∷ ps ++ loose) ((ps ++ p ∷ []) ++ loose) (λ k. omega (arith, times_append (p ∷ []) (ps ++ loose) k, times_append ps loose k, times_append (ps ++ p ∷ []) loose k, times_append ps (p ∷ []) k)) h)
+pub kept_more : (tokens : ℕ) (ns : List Node) (ps qs : List ℕ) (p : ℕ) (loose : List ℕ) → qs ≡ ps ++ p ∷ [] → AreKept tokens ns (p ∷ reverse ps ++ loose) → AreKept tokens ns (reverse qs ++ loose)
+kept_more tokens ns ps qs p loose e h = kept_row tokens ns qs (ps ++ p ∷ []) loose e (subst (λ x. AreKept tokens ns (x ++ loose)) (sym (reverse-append ps (p ∷ []))) h)
 
 pub kept_behind : (tokens : ℕ) (ns : List Node) (os loose : List ℕ) (p : ℕ) → AreKept tokens ns (os ++ p ∷ loose) → AreKept tokens ns ((os ++ p ∷ []) ++ loose)
 kept_behind tokens ns os loose p h = subst (λ x. AreKept tokens ns x) (sym (append_assoc os (p ∷ []) loose)) h
 
-kept_lone : (tokens : ℕ) (ns : List Node) (ps loose : List ℕ) → length ps ≡ 1 → AreKept tokens ns (ps ++ loose) → AreKept tokens ns (slice_index ps 0 ∷ loose)
+kept_lone : (tokens : ℕ) (ns : List Node) (ps loose : List ℕ) → length ps ≡ 1 → AreKept tokens ns (reverse ps ++ loose) → AreKept tokens ns (slice_index ps 0 ∷ loose)
 kept_lone tokens ns [] loose e h = absurd (omega arith)
 kept_lone tokens ns (p ∷ []) loose e h = h
 kept_lone tokens ns (p ∷ q ∷ ps) loose e h = absurd (omega arith)
 
--- the same nodes taken in another order
-pub pushed_as : (r : Result Found ParseFault) (old new : List Node) (ps qs : List ℕ) → ((tokens : ℕ) (loose : List ℕ) → AreKept tokens old (qs ++ loose) → AreKept tokens old (ps ++ loose)) → IfOk r (IsPushed old new ps) → IfOk r (IsPushed old new qs)
-pushed_as (Ok x) old new ps qs f h = record { last = h.last; grows = h.grows; keeps = h.keeps; below = h.below; kept = λ tokens le loose k. h.kept tokens le loose (f tokens loose k) }
-pushed_as (Err g) old new ps qs f h = tt
+-- the same parts, spelled otherwise
+pub pushed_as : (r : Result Found ParseFault) (old new : List Node) (ps qs : List ℕ) → ps ≡ qs → IfOk r (IsPushed old new (reverse ps)) → IfOk r (IsPushed old new (reverse qs))
+pushed_as r old new ps qs e h = subst (λ x. IfOk r (IsPushed old new (reverse x))) e h
 
 -- nodes that stand before others, in two lists
 nodes_same : (a b : List Node) → length a ≡ length b → ((k : ℕ) → k < length a → slice_get a k ≡ slice_get b k) → a ≡ b
@@ -270,7 +287,7 @@ pub gathered_push : (old new : List Node) (ps : List ℕ) (r : Result Found Pars
 gathered_push old new ps (Ok x) h = record { last = omega (arith, h.last, h.grows); keeps = h.keeps; below = h.below; kept = h.kept }
 gathered_push old new ps (Err g) h = tt
 
-pub gathered_lone : (ns : List Node) (ps : List ℕ) (next : ℕ) → PartsAreBelow ns → length ps ≡ 1 → IsRow ps (length ns) → IsGathered ns ns ps (record { node = slice_index ps 0; next = next })
+pub gathered_lone : (ns : List Node) (ps : List ℕ) (next : ℕ) → PartsAreBelow ns → length ps ≡ 1 → IsRow ps (length ns) → IsGathered ns ns (reverse ps) (record { node = slice_index ps 0; next = next })
 gathered_lone ns ps next f q row = record { last = lone_last ps (length ns) q row.last; keeps = keeps_none ns; below = f; kept = λ tokens le loose a. kept_lone tokens ns ps loose q a }
 
 pub regathered_push : (old new : List Node) (ps : List ℕ) (before : ℕ) (r : Result Found ParseFault) → before < length old → IfOk r (IsPushed old new ps) → IfOk r (IsRegathered before old new ps)
@@ -283,7 +300,7 @@ regathered_push old new ps before (Ok x) lt h = record {
 }
 regathered_push old new ps before (Err g) lt h = tt
 
-pub regathered_lone : (before : ℕ) (ns : List Node) (ps : List ℕ) (next : ℕ) → before < length ns → PartsAreBelow ns → length ps ≡ 1 → IsRow ps (length ns) → IsRegathered before ns ns ps (record { node = slice_index ps 0; next = next })
+pub regathered_lone : (before : ℕ) (ns : List Node) (ps : List ℕ) (next : ℕ) → before < length ns → PartsAreBelow ns → length ps ≡ 1 → IsRow ps (length ns) → IsRegathered before ns ns (reverse ps) (record { node = slice_index ps 0; next = next })
 regathered_lone before ns ps next lt f q row = record {
   last = lone_last ps (length ns) q row.last;
   grows = lt;

@@ -90,6 +90,11 @@ get_front [] b k lt = absurd (omega arith)
 get_front (n ∷ a) b zero lt = refl
 get_front (n ∷ a) b (suc k) lt = get_front a b k (omega arith)
 
+pub get_past : (a b : List Node) (k j : ℕ) → j ≡ k + length a → slice_get (a ++ b) j ≡ slice_get b k
+get_past [] b k j q = ap (λ x. slice_get b x) (omega (arith, q))
+get_past (n ∷ a) b k zero q = absurd (omega (arith, q))
+get_past (n ∷ a) b k (suc j) q = get_past a b k j (omega (arith, q))
+
 -- the nodes but the last one
 pub keeps_front : (old new : List Node) (o : Option Node) → old ≡ new ++ option_to_list o → Keeps new old
 keeps_front old new o q = record { longer = omega (arith, ap length q, length-append new (option_to_list o)); same = λ k lt. rw q (get_front new (option_to_list o) k lt) }

@@ -1,5 +1,5 @@
 -- What the parser's functions answer, in terms of the machine's programs.
-use Rattle.std.specs.Prelude.{◌≡◌, ℕ, ◌+◌, ◌-◌, ◌<◌, ◌≤◌, List, [], ◌∷◌, Option, None, Some, Result, Ok, Err, length, slice_get, slice_index, slice_index_or, option_to_list}
+use Rattle.std.specs.Prelude.{◌≡◌, ℕ, ◌+◌, ◌-◌, ◌<◌, ◌≤◌, List, [], ◌∷◌, Option, None, Some, Result, Ok, Err, length, slice_get, slice_index, slice_index_or, option_to_list, reverse}
 use Rattle.cr_syntax.specs.declared.node.Node.{Node}
 use Rattle.cr_syntax.specs.Words.{Lexeme}
 use Rattle.cr_syntax.specs.Scopes.{Scopes}
@@ -131,7 +131,7 @@ pub record IsListed (tokens at : ℕ) (old new : List Node) (x : Listed) : Type 
   pub row : IsRow x.parts (length new)
   pub keeps : Keeps old new
   pub below : PartsAreBelow new
-  pub kept : Replaces tokens old new [] x.parts
+  pub kept : Replaces tokens old new [] (reverse x.parts)
   pub from : at < x.next
   pub to : x.next ≤ tokens
 

@@ -1,7 +1,7 @@
-ghost use Rattle.std.specs.Prelude.{◌≡◌, ℕ, ◌+◌, ◌<◌, ◌^◌, ◌∷◌, [], ◌++◌, ◌≤◌, IfOk, IfErr, length, option_to_list};
+ghost use Rattle.std.specs.Prelude.{◌≡◌, ℕ, ◌+◌, ◌<◌, ◌^◌, ◌∷◌, [], ◌++◌, ◌≤◌, IfOk, IfErr, length, option_to_list, reverse};
 ghost use Rattle.cr_syntax.specs.Trees.{Trees, none, node, one, ◌&◌};
 ghost use Rattle.cr_syntax.specs.Kept.{AreBelow, PartsAreBelow, row_in};
-ghost use Rattle.cr_syntax.specs.Context.{past_part};
+ghost use Rattle.cr_syntax.specs.Context.{is_bare, past_part};
 ghost use Rattle.cr_machine.specs.MachineBody.{is_unary, is_unary_kind, is_identifier, is_declarator, row_kind, in_row, in_parameters};
 ghost use Rattle.cr_exprs.specs.Tables.{is_void};
 ghost use Rattle.cr_exprs.specs.Answers.{IsPushed, IsGathered, IsRegathered, IsRow, Keeps, tree};
@@ -9,7 +9,7 @@ ghost use Rattle.cr_exprs.specs.Answers.{IsPushed, IsGathered, IsRegathered, IsR
 use crate::fault::ParseFault;
 use crate::found::{Found, Listed, Optional};
 use cr_rows::Row;
-use cr_syntax::{Context, Kind, Node, Part, past_node};
+use cr_syntax::{Context, Kind, Node, Part, is_bare, past_node};
 use std::alloc::Global;
 
 /// Appends a node with these parts, from token `first` to before token `next`.
@@ -24,7 +24,7 @@ pub fn push(
     requires below { PartsAreBelow nodes.old }
     requires first { first < next }
     requires next { next < 2 ^ 32 }
-    ensures ok { IfOk result (λ x. IsPushed nodes.old nodes.new parts x) }
+    ensures ok { IfOk result (λ x. IsPushed nodes.old nodes.new (reverse parts) x) }
     ensures next { IfOk result (λ x. x.next ≡ next) }
     ensures tree { IfOk result (λ x. tree nodes.new x.node ≡ one kind first next (row_in nodes.old parts)) }
     ensures err { IfErr result (λ fault. fault ≡ ParseFault.NoMemory) }
@@ -203,7 +203,7 @@ pub(crate) fn gathered(
     requires below { PartsAreBelow nodes.old }
     requires first { first < list.next }
     requires next { list.next < 2 ^ 32 }
-    ensures ok { IfOk result (λ x. IsGathered nodes.old nodes.new list.parts x) }
+    ensures ok { IfOk result (λ x. IsGathered nodes.old nodes.new (reverse list.parts) x) }
     ensures tree { IfOk result (λ x. tree nodes.new x.node ≡ in_row part first list.next (row_in nodes.old list.parts)) }
     ensures next { IfOk result (λ x. x.next ≡ list.next) }
     ensures err { IfErr result (λ fault. fault ≡ ParseFault.NoMemory) }
@@ -241,7 +241,7 @@ pub(crate) fn gathered_parameters(
     requires below { PartsAreBelow nodes.old }
     requires first { first < list.next }
     requires next { list.next < 2 ^ 32 }
-    ensures ok { IfOk result (λ x. IsRegathered before nodes.old nodes.new list.parts x) }
+    ensures ok { IfOk result (λ x. IsRegathered before nodes.old nodes.new (reverse list.parts) x) }
     ensures tree { IfOk result (λ x. tree nodes.new x.node ≡ in_parameters first list.next (row_in nodes.old list.parts)) }
     ensures next { IfOk result (λ x. x.next ≡ list.next) }
     ensures err { IfErr result (λ fault. fault ≡ ParseFault.NoMemory) }
@@ -366,6 +366,29 @@ fn is_declarator_kind(kind: Kind) -> bool
         | Kind::PointerDeclarator
         | Kind::ArrayDeclarator
         | Kind::FunctionDeclarator => true,
+        _ => false,
+    }
+}
+
+/// Whether a declarator is an identifier, in brackets or not.
+pub(crate) fn is_name(nodes: &Row<Node>, node: u32) -> bool
+    requires below { PartsAreBelow nodes.now }
+    requires node { node < length nodes.now }
+    ensures { result ≡ is_bare (tree nodes.now node) }
+{
+    let all = nodes.as_slice();
+    is_name_node(all, &all[node as usize])
+}
+
+// It looks below brackets alone, so that a long row of parameters is walked once.
+fn is_name_node(nodes: &[Node], declarator: &Node) -> bool
+    requires parts { PartsAreBelow nodes.now }
+    requires row { AreBelow declarator.now.parts (length nodes.now) }
+    ensures { (i j : ℕ) (n : Trees) → result ≡ is_bare (node declarator.now.kind i j (row_in nodes.now declarator.now.parts) n) }
+{
+    match declarator.kind {
+        Kind::NameDeclarator => true,
+        Kind::GroupDeclarator => is_bare(nodes, declarator.parts.as_slice(), nodes.len()),
         _ => false,
     }
 }

@@ -9,7 +9,7 @@ ghost use Rattle.cr_exprs.specs.Source.{IsReadable, text_of};
 ghost use Rattle.cr_exprs.specs.Answers.{tree};
 ghost use Rattle.cr_exprs.specs.Parts.{declared, entered};
 
-use crate::arena::{is_declarator, past};
+use crate::arena::{is_declarator, is_name, past};
 use crate::fault::ParseFault;
 use crate::found::Found;
 use crate::source::{Source, spelling};
@@ -119,7 +119,7 @@ pub(crate) fn kept(nodes: &Row<Node>, declarator: u32, names: Scope, own: Scope)
     requires node { declarator < length nodes.now }
     ensures { result ≡ (if is_bare (tree nodes.now declarator) then names else own) }
 {
-    if past(nodes, cr_syntax::FRESH, declarator).bare {
+    if is_name(nodes, declarator) {
         names
     } else {
         own

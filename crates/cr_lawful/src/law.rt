@@ -1,9 +1,6 @@
 // The law of programs.
 ghost use Rattle.std.specs.Prelude.{◌≡◌, ◌≢◌, true};
 ghost use Rattle.cr_tokens.specs.Tokens.{Tokenizes};
-ghost use Rattle.cr_syntax.specs.Kept.{row_in};
-ghost use Rattle.cr_syntax.specs.Units.{IsTreeOf};
-ghost use Rattle.cr_syntax.specs.Words.{lexemes_of};
 ghost use Rattle.cr_analysis.specs.Analysis.{IsParsed};
 ghost use Rattle.cr_cursor.specs.declared.law.Reason.{Reason};
 ghost use Rattle.cr_lawful.specs.Lawful.{IsLawful, IsReason, Rules, tree_of};
@@ -11,7 +8,6 @@ ghost use Rattle.cr_lawful.specs.Lawful.{IsLawful, IsReason, Rules, tree_of};
 use crate::reasons::{name_ruling, parse_ruling};
 use cr_cursor::{Law, Reason, Ruling, Stop, token_ruling};
 use cr_decls::parse;
-use cr_listing::are_listed;
 use cr_scopes::resolve;
 use cr_syntax::{Unit, tokens_are_spans};
 use cr_tokens::{Tokens, read};
@@ -57,20 +53,8 @@ fn ruled_on_tokens(alloc: Global, file: &[u8], tokens: &Tokens) -> Ruling
 {
     tokens_are_spans();
     match parse(alloc, file, tokens) {
-        Ok(unit) => ruled_on_unit(alloc, file, &unit),
+        Ok(unit) => ruled_on_names(alloc, file, &unit),
         Err(fault) => parse_ruling(file, tokens.list.as_slice(), fault),
-    }
-}
-
-// Wants memory too where the nodes aren't listed in order. The parser lists them so.
-fn ruled_on_unit(alloc: Global, file: &[u8], unit: &Unit) -> Ruling
-    requires tokens { Tokenizes file.now unit.now.tokens.list.items }
-    requires tree { IsTreeOf (lexemes_of file.now unit.now.tokens.list.items) (row_in unit.now.nodes unit.now.items) }
-    ensures { Rules file.now result }
-{
-    match are_listed(alloc, unit.nodes.as_slice(), unit.items.as_slice()) {
-        Ok(true) => ruled_on_names(alloc, file, unit),
-        _ => Ruling::NoMemory,
     }
 }
 

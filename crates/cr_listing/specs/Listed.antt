@@ -8,13 +8,3 @@ pub data AreListed (nodes : List Node) : ℕ → List ℕ → ℕ → Type 0 whe
   no_node : {at : ℕ} → AreListed nodes at [] at
   one_more : {from p end : ℕ} {ps : List ℕ} {n : Node} → slice_get nodes p ≡ Some n → AreListed nodes from n.parts p
       → AreListed nodes (p + 1) ps end → AreListed nodes from (p ∷ ps) end
-
--- node p is there, and those below it are listed from a number on
-pub record Begins (nodes : List Node) (p from : ℕ) : Type 0 where
-  pub node : Node
-  pub at : slice_get nodes p ≡ Some node
-  pub below : AreListed nodes from node.parts p
-
--- for each of the first nodes the number from which those below it are listed
-abbrev pub AreStarts : List Node → List ℕ → Type 0
-AreStarts nodes starts = (p from : ℕ) → slice_get starts p ≡ Some from → Begins nodes p from

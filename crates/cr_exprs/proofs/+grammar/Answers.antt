@@ -1,4 +1,4 @@
-use Rattle.std.proofs.Common.{◌≡◌, ◌+◌, [], ◌∷◌, ◌++◌, refl, sym, ap, ◌∙◌, arith, rules}
+use Rattle.std.proofs.Common.{◌≡◌, ◌+◌, [], ◌∷◌, ◌++◌, refl, sym, ap, ◌∙◌, arith, rules, reverse}
 use Rattle.std.specs.Prelude.{option_to_list}
 use Rattle.cr_syntax.specs.declared.node.Kind.TheVariants as kind
 use Rattle.cr_syntax.specs.Trees.{Trees, none, one, ◌&◌}
@@ -412,7 +412,7 @@ pub specifiers::row-returns-clause-reads : goal.specifiers::row-returns-clause-r
 specifiers::row-returns-clause-reads t c = finish c.gathered.new.nodes c.gathered.result c.gathered.ensures.err c.gathered.ensures.next c.gathered.ensures.tree (c.more.invariant.goes.on _ (run_unseen (sym c.starts_element.ensures ∙ c.more-test.false) (run_here run_give)))
 
 pub specifiers::row-returns-clause-placed : goal.specifiers::row-returns-clause-placed
-specifiers::row-returns-clause-placed t c = placed_gathered c.gathered.new.nodes [] c.more.parts c.gathered.result c.gathered.ensures.ok c.gathered.ensures.next c.more.invariant.from c.more.invariant.to c.more.invariant.grows c.more.invariant.keeps c.more.invariant.kept
+specifiers::row-returns-clause-placed t c = placed_gathered c.gathered.new.nodes [] (reverse c.more.parts) c.gathered.result c.gathered.ensures.ok c.gathered.ensures.next c.more.invariant.from c.more.invariant.to c.more.invariant.grows c.more.invariant.keeps c.more.invariant.kept
 
 pub specifiers::element-returns-in-Some-clause-reads : goal.specifiers::element-returns-in-Some-clause-reads
 specifiers::element-returns-in-Some-clause-reads t c = finish c.leaf.new.nodes c.leaf.result c.leaf.ensures.err c.leaf.ensures.next c.leaf.ensures.tree (run_here (chosen_here plain (specifier_words c.args.part) c.args.depth ((λ k. made k c.args.at none)) (other_element c.args.context c.args.depth c.args.at) (sym c.in-Some.ensures.kind) (λ x' z w. run_take w tt (run_here run_give))))
@@ -754,7 +754,7 @@ pub declarators::parameters-returns-then-stands-clause-reads : goal.declarators:
 declarators::parameters-returns-then-stands-clause-reads t c = finish c.push.new.nodes c.push.result c.push.ensures.err c.push.ensures.next c.push.ensures.tree (c.parameters.invariant.goes.on _ (run_take (sym c.stands.ensures.answer ∙ c.parameters-test.true) tt (run_take (sym c.stands-in-parameters.ensures.answer ∙ c.if-stands.true) tt (run_here run_give))))
 
 pub declarators::parameters-returns-then-stands-clause-placed : goal.declarators::parameters-returns-then-stands-clause-placed
-declarators::parameters-returns-then-stands-clause-placed t c = placed_push c.push.new.nodes [] c.parameters.parts c.push.result c.push.ensures.ok c.push.ensures.next (omega (arith, c.parameters.invariant.from)) (search rules) c.parameters.invariant.keeps c.parameters.invariant.kept
+declarators::parameters-returns-then-stands-clause-placed t c = placed_push c.push.new.nodes [] (reverse c.parameters.parts) c.push.result c.push.ensures.ok c.push.ensures.next (omega (arith, c.parameters.invariant.from)) (search rules) c.parameters.invariant.keeps c.parameters.invariant.kept
 
 pub declarators::parameters-returns-in_err-more-clause-reads : goal.declarators::parameters-returns-in_err-more-clause-reads
 declarators::parameters-returns-in_err-more-clause-reads t c = exit c.from_residual-in_err-more.result _ c.from_residual-in_err-more.ensures.1 (fails (c.in_err-more.ensures.reads.is) (λ x k h. c.parameters.invariant.goes.on _ (run_take (sym c.stands.ensures.answer ∙ c.parameters-test.true) tt (run_pass (sym c.stands-in-parameters.ensures.answer ∙ c.if-stands.false) (run_fail h)))))
@@ -769,7 +769,7 @@ pub declarators::parameters-returns-clause-reads : goal.declarators::parameters-
 declarators::parameters-returns-clause-reads t c = finish c.gathered_parameters.new.nodes c.gathered_parameters.result c.gathered_parameters.ensures.err c.gathered_parameters.ensures.next c.gathered_parameters.ensures.tree (c.parameters.invariant.goes.on _ (run_pass (sym c.stands.ensures.answer ∙ c.parameters-test.false) (run_here run_give)))
 
 pub declarators::parameters-returns-clause-placed : goal.declarators::parameters-returns-clause-placed
-declarators::parameters-returns-clause-placed t c = placed_regathered c.gathered_parameters.new.nodes c.parameters.parts c.gathered_parameters.result c.gathered_parameters.ensures.ok c.gathered_parameters.ensures.next c.parameters.invariant.from c.parameters.invariant.to (sym c.len-before.ensures) c.parameters.invariant.keeps c.parameters.invariant.kept
+declarators::parameters-returns-clause-placed t c = placed_regathered c.gathered_parameters.new.nodes (reverse c.parameters.parts) c.gathered_parameters.result c.gathered_parameters.ensures.ok c.gathered_parameters.ensures.next c.parameters.invariant.from c.parameters.invariant.to (sym c.len-before.ensures) c.parameters.invariant.keeps c.parameters.invariant.kept
 
 pub declarators::parameter-returns-in_err-specifiers-clause-reads : goal.declarators::parameter-returns-in_err-specifiers-clause-reads
 declarators::parameter-returns-in_err-specifiers-clause-reads t c = exit c.from_residual.result _ c.from_residual.ensures.1 (fails (c.in_err-specifiers.ensures.reads.is) (λ x k h. run_here (run_fail h)))

@@ -1,4 +1,4 @@
-use Rattle.std.proofs.Common.{◌+◌, ◌-◌, ◌*◌, ◌<◌, ◌≤◌, [], ◌∷◌, length}
+use Rattle.std.proofs.Common.{◌+◌, ◌-◌, ◌*◌, ◌<◌, ◌≤◌, [], ◌∷◌, length, reverse}
 use Rattle.cr_syntax.specs.Trees.{none, ◌&◌}
 use Rattle.cr_syntax.specs.Kept.{PartsAreBelow, AreBelow, row_in}
 use Rattle.cr_syntax.specs.Context.{fresh, past_part}
@@ -189,7 +189,7 @@ invariant-operands::arguments-arguments l = record {
   goes : Goes (text_of l.source) (body (m.arguments l.depth none)) l.fn.scopes l.at (body (m.arguments l.depth (row_in l.nodes l.parts))) l.scopes l.next;
   keeps : Keeps l.fn.nodes l.nodes;
   below : PartsAreBelow l.nodes;
-  kept : Replaces (length l.source.tokens.now) l.fn.nodes l.nodes [] l.parts;
+  kept : Replaces (length l.source.tokens.now) l.fn.nodes l.nodes [] (reverse l.parts);
   parts : AreBelow l.parts (length l.nodes);
   from : l.at ≤ l.next;
   to : l.next ≤ length l.source.tokens.now;
@@ -203,7 +203,7 @@ invariant-specifiers::members-members l = record {
   goes : Goes (text_of l.source) (body (m.members l.depth l.start none)) l.fn.scopes l.at (body (m.members l.depth l.start (row_in l.nodes l.parts))) l.scopes l.next;
   keeps : Keeps l.fn.nodes l.nodes;
   below : PartsAreBelow l.nodes;
-  kept : Replaces (length l.source.tokens.now) l.fn.nodes l.nodes [] l.parts;
+  kept : Replaces (length l.source.tokens.now) l.fn.nodes l.nodes [] (reverse l.parts);
   parts : AreBelow l.parts (length l.nodes);
   from : l.at ≤ l.next;
   to : l.next ≤ length l.source.tokens.now;
@@ -217,7 +217,7 @@ invariant-specifiers::enumerators-enumerators l = record {
   goes : Goes (text_of l.source) (body (m.enumerators l.depth l.start none)) l.fn.scopes l.at (body (m.enumerators l.depth l.start (row_in l.nodes l.parts))) l.scopes l.next;
   keeps : Keeps l.fn.nodes l.nodes;
   below : PartsAreBelow l.nodes;
-  kept : Replaces (length l.source.tokens.now) l.fn.nodes l.nodes [] l.parts;
+  kept : Replaces (length l.source.tokens.now) l.fn.nodes l.nodes [] (reverse l.parts);
   parts : AreBelow l.parts (length l.nodes);
   from : l.at ≤ l.next;
   to : l.next ≤ length l.source.tokens.now;
@@ -231,7 +231,7 @@ invariant-specifiers::member_declarators-declarators l = record {
   goes : Goes (text_of l.source) (body (m.member_declarators (past_part fresh (tree l.fn.nodes l.fn.specifiers.node)) l.depth l.start (tree l.fn.nodes l.fn.specifiers.node & none))) l.fn.scopes l.fn.specifiers.next (body (m.member_declarators l.context l.depth l.start (row_in l.nodes l.parts))) l.scopes l.next;
   keeps : Keeps l.fn.nodes l.nodes;
   below : PartsAreBelow l.nodes;
-  kept : Replaces (length l.source.tokens.now) l.fn.nodes l.nodes (l.fn.specifiers.node ∷ []) l.parts;
+  kept : Replaces (length l.source.tokens.now) l.fn.nodes l.nodes (l.fn.specifiers.node ∷ []) (reverse l.parts);
   parts : AreBelow l.parts (length l.nodes);
   from : l.fn.specifiers.next ≤ l.next;
   to : l.next ≤ length l.source.tokens.now;
@@ -245,7 +245,7 @@ invariant-declarators::parameters-parameters l = record {
   goes : Goes (text_of l.source) (body (m.parameters l.depth)) l.fn.scopes l.at (body (m.more_parameters l.depth l.at (row_in l.nodes l.parts))) l.scopes l.next;
   keeps : Keeps l.fn.nodes l.nodes;
   below : PartsAreBelow l.nodes;
-  kept : Replaces (length l.source.tokens.now) l.fn.nodes l.nodes [] l.parts;
+  kept : Replaces (length l.source.tokens.now) l.fn.nodes l.nodes [] (reverse l.parts);
   row : IsRow l.parts (length l.nodes);
   grows : length l.fn.nodes < length l.nodes;
   from : l.at < l.next;
@@ -260,7 +260,7 @@ invariant-specifiers::row-more l = record {
   goes : Goes (text_of l.source) (body (m.row l.part fresh l.depth)) l.fn.scopes l.at (body (m.more l.part l.context l.depth l.at (row_in l.nodes l.parts))) l.scopes l.next;
   keeps : Keeps l.fn.nodes l.nodes;
   below : PartsAreBelow l.nodes;
-  kept : Replaces (length l.source.tokens.now) l.fn.nodes l.nodes [] l.parts;
+  kept : Replaces (length l.source.tokens.now) l.fn.nodes l.nodes [] (reverse l.parts);
   row : IsRow l.parts (length l.nodes);
   grows : length l.fn.nodes < length l.nodes;
   from : l.at < l.next;

@@ -228,7 +228,7 @@ pub for_clauses-returns-clause-reads : goal.for_clauses-returns-clause-reads
 for_clauses-returns-clause-reads t c = finish c.push.new.nodes c.push.result c.push.ensures.err c.push.ensures.next c.push.ensures.tree (done_in c.drop_scope.ensures (run_call c.in_ok-test.ensures.reads.is.run ((c.in_ok-step.ensures.reads _ _).is.on _ (step_shift c.args.depth c.args.start (row_in c.args.nodes.now (option_to_list c.args.first.node)) (row_in c.clause.new.nodes (option_to_list c.in_ok-test.test.node)) c.last_clause.new.nodes c.in_ok-step.step.node (run_call c.in_ok-inner.ensures.reads.is.run (run_look (run_set (run_here (done_as (of_row (loop_row _ _ _ _ _ _ _ _ _ (keeps_all _ _ _ c.in_ok-test.ensures.placed.keeps (keeps_all _ _ _ c.in_ok-step.ensures.placed.keeps c.in_ok-inner.ensures.placed.keeps)) (keeps_all _ _ _ c.in_ok-step.ensures.placed.keeps c.in_ok-inner.ensures.placed.keeps) c.in_ok-inner.ensures.placed.keeps c.requires.node c.in_ok-test.ensures.placed.row c.in_ok-step.ensures.placed.row c.in_ok-parts.ensures.ok)) run_give)))))))))
 
 pub for_clauses-returns-clause-placed : goal.for_clauses-returns-clause-placed
-for_clauses-returns-clause-placed t c = placed_push c.push.new.nodes (option_to_list c.args.first.node) _ c.push.result c.push.ensures.ok c.push.ensures.next (omega (arith, c.requires.start, c.in_ok-test.ensures.placed.from, c.in_ok-step.ensures.placed.from, c.in_ok-inner.ensures.placed.from)) c.in_ok-inner.ensures.placed.to (keeps_all _ _ _ c.in_ok-test.ensures.placed.keeps (keeps_all _ _ _ c.in_ok-step.ensures.placed.keeps c.in_ok-inner.ensures.placed.keeps)) (λ loose h. loop_kept _ _ (option_to_list c.args.first.node) (option_to_list c.in_ok-test.test.node) (option_to_list c.in_ok-step.step.node) _ c.in_ok-inner.inner.node loose c.in_ok-parts.ensures.ok (c.in_ok-inner.ensures.placed.kept _ (c.in_ok-step.ensures.placed.kept _ (c.in_ok-test.ensures.placed.kept _ h))))
+for_clauses-returns-clause-placed t c = placed_push c.push.new.nodes (option_to_list c.args.first.node) _ c.push.result c.push.ensures.ok c.push.ensures.next (omega (arith, c.requires.start, c.in_ok-test.ensures.placed.from, c.in_ok-step.ensures.placed.from, c.in_ok-inner.ensures.placed.from)) c.in_ok-inner.ensures.placed.to (keeps_all _ _ _ c.in_ok-test.ensures.placed.keeps (keeps_all _ _ _ c.in_ok-step.ensures.placed.keeps c.in_ok-inner.ensures.placed.keeps)) (λ loose h. loop_kept _ _ c.args.first.node c.in_ok-test.test.node c.in_ok-step.step.node _ c.in_ok-inner.inner.node loose c.in_ok-parts.ensures.ok (c.in_ok-inner.ensures.placed.kept _ (c.in_ok-step.ensures.placed.kept _ (c.in_ok-test.ensures.placed.kept _ h))))
 
 pub for_clauses-push-requires-clause-parts : goal.for_clauses-push-requires-clause-parts
 for_clauses-push-requires-clause-parts t c = loop_below _ _ _ _ _ _ c.requires.node c.in_ok-test.ensures.placed.row c.in_ok-step.ensures.placed.row (omega (arith, c.in_ok-test.ensures.placed.keeps.longer, c.in_ok-step.ensures.placed.keeps.longer, c.in_ok-inner.ensures.placed.keeps.longer)) (omega (arith, c.in_ok-step.ensures.placed.keeps.longer, c.in_ok-inner.ensures.placed.keeps.longer)) c.in_ok-inner.ensures.placed.keeps.longer (omega (arith, c.in_ok-inner.ensures.placed.last)) c.in_ok-parts.ensures.ok

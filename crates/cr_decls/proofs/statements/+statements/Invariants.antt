@@ -1,4 +1,4 @@
-use Rattle.std.proofs.Common.{◌+◌, ◌-◌, ◌*◌, ◌≤◌, [], length}
+use Rattle.std.proofs.Common.{◌+◌, ◌-◌, ◌*◌, ◌≤◌, [], length, reverse}
 use Rattle.cr_syntax.specs.Trees.{none}
 use Rattle.cr_syntax.specs.Kept.{PartsAreBelow, AreBelow, row_in}
 use Rattle.cr_machine.specs.Machine as m
@@ -62,7 +62,7 @@ invariant-items-items l = record {
   goes : Goes (text_of l.source) (body (m.items (labels_of l.labels) l.depth l.start none)) l.fn.scopes (l.start + 1) (body (m.items (labels_of l.labels) l.depth l.start (row_in l.nodes l.parts))) l.scopes l.next;
   keeps : Keeps l.fn.nodes l.nodes;
   below : PartsAreBelow l.nodes;
-  kept : Replaces (length l.source.tokens.now) l.fn.nodes l.nodes [] l.parts;
+  kept : Replaces (length l.source.tokens.now) l.fn.nodes l.nodes [] (reverse l.parts);
   parts : AreBelow l.parts (length l.nodes);
   from : l.start + 1 ≤ l.next;
   to : l.next ≤ length l.source.tokens.now;

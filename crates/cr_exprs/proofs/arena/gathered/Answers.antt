@@ -1,4 +1,4 @@
-use Rattle.std.proofs.Common.{◌≡◌, arith}
+use Rattle.std.proofs.Common.{◌≡◌, arith, reverse}
 use Rattle.cr_syntax.specs.Trees.{one}
 use Rattle.cr_syntax.specs.Kept.{row_in}
 use Rattle.cr_machine.specs.MachineBody.{in_row}
@@ -19,4 +19,4 @@ pub returns-then-len-eq1-clause-ok : goal.returns-then-len-eq1-clause-ok
 returns-then-len-eq1-clause-ok c = rw c.as_slice.ensures (gathered_lone c.args.nodes.now c.args.list.parts c.args.list.next c.requires.below (omega arith) c.requires.row)
 
 pub returns-clause-ok : goal.returns-clause-ok
-returns-clause-ok c = gathered_push c.args.nodes.now c.push.new.nodes c.args.list.parts c.push.result c.push.ensures.ok
+returns-clause-ok c = gathered_push c.args.nodes.now c.push.new.nodes (reverse c.args.list.parts) c.push.result c.push.ensures.ok

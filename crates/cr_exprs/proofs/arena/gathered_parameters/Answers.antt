@@ -1,4 +1,4 @@
-use Rattle.std.proofs.Common.{◌≡◌, true, false, subst, sym, ◌∙◌, arith}
+use Rattle.std.proofs.Common.{◌≡◌, true, false, subst, sym, ◌∙◌, arith, reverse}
 use Rattle.cr_syntax.specs.declared.node.Node.{Node}
 use Rattle.cr_exprs.specs.Tables.{is_void}
 use Rattle.cr_exprs.proofs.Nodes.{in_parameters_lone, in_parameters_void, in_parameters_more, ok_tree}
@@ -25,10 +25,10 @@ returns-clause-tree c =
     ok_tree c.leaf.result c.leaf.new.nodes _ _ (in_parameters_void c.args.first c.args.list.next c.args.nodes.now c.args.list.parts 0 n c.requires.below (omega arith) c.requires.row.below q v) c.leaf.ensures.tree
 
 pub returns-then-len-ne1-clause-ok : goal.returns-then-len-ne1-clause-ok
-returns-then-len-ne1-clause-ok c = regathered_push c.args.nodes.now c.push.new.nodes c.args.list.parts c.args.before c.push.result c.requires.before c.push.ensures.ok
+returns-then-len-ne1-clause-ok c = regathered_push c.args.nodes.now c.push.new.nodes (reverse c.args.list.parts) c.args.before c.push.result c.requires.before c.push.ensures.ok
 
 pub returns-then-not-is_void-clause-ok : goal.returns-then-not-is_void-clause-ok
 returns-then-not-is_void-clause-ok c = rw c.as_slice.ensures (regathered_lone c.args.before c.args.nodes.now c.args.list.parts c.args.list.next c.requires.before c.requires.below (omega arith) c.requires.row)
 
 pub returns-clause-ok : goal.returns-clause-ok
-returns-clause-ok c = regathered_void c.args.nodes.now c.drop_to.new.nodes c.leaf.new.nodes c.args.list.parts c.args.before c.leaf.result c.drop_to.ensures.length c.drop_to.ensures.keeps c.leaf.ensures.ok
+returns-clause-ok c = regathered_void c.args.nodes.now c.drop_to.new.nodes c.leaf.new.nodes (reverse c.args.list.parts) c.args.before c.leaf.result c.drop_to.ensures.length c.drop_to.ensures.keeps c.leaf.ensures.ok

@@ -1,10 +1,26 @@
 use Rattle.std.proofs.Common.{◌≡◌, subst, sym}
+use Rattle.cr_syntax.specs.Kept.{row_in}
+use Rattle.cr_syntax.specs.Units.{IsTreeOf}
+use Rattle.cr_syntax.specs.Words.{lexemes_of}
+use Rattle.cr_tokens.specs.Tokens.{Tokenizes}
 use Rattle.cr_lawful.specs.Lawful.{Rules, parse_fault_reason, ruling_by}
 use Rattle.cr_lawful.proofs.Rulings.{parse_rules}
 use Rattle.cr_lawful.proofs.law.ruled_on_tokens.Goals as goal
 
 pub parse_ruling-requires : goal.parse_ruling-requires
 parse_ruling-requires c = c.requires.short
+
+pub ruled_on_names-requires-clause-tokens : goal.ruled_on_names-requires-clause-tokens
+ruled_on_names-requires-clause-tokens c = subst (λ tokens. Tokenizes c.args.file.now tokens) (sym c.in-Ok.ensures.tokens) c.requires
+
+pub ruled_on_names-requires-clause-parsed : goal.ruled_on_names-requires-clause-parsed
+ruled_on_names-requires-clause-parsed c =
+    let unit = c.in-Ok.unit in
+    record {
+      is_tree = subst (λ tokens. IsTreeOf (lexemes_of c.args.file.now tokens) (row_in unit.nodes unit.items)) (sym c.in-Ok.ensures.tokens) c.in-Ok.ensures.tree;
+      below = unit.parts_below;
+      listed = c.in-Ok.ensures.listed;
+    }
 
 pub returns-in-Err : goal.returns-in-Err
 returns-in-Err c =
