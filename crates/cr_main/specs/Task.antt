@@ -1,5 +1,5 @@
 -- What a run is asked to do.
-use Rattle.std.specs.Prelude.{◌≡◌, ◌<◌, ◌≤◌, ℕ, Bool, true, false, List, Option, Some, None, length}
+use Rattle.std.specs.Prelude.{◌≡◌, ◌<◌, ◌≤◌, ℕ, Bool, true, false, List, [], Option, Some, None, length}
 use Rattle.cr_cursor.specs.declared.law.Law.{Ghosts as LawGhosts}
 use Rattle.cr_cursor.specs.declared.law.Reason.{Reason}
 use Rattle.cr_cursor.specs.declared.passes.Passes.{Ghosts as PassesGhosts}
@@ -28,10 +28,10 @@ pub record Task : Type 1 where
   pub name : List ℕ
   pub saves : Bool
 
--- the task of the code's value, where the judges say this
+-- the task of the code's value, where the judges say this; no verdict is kept when it begins
 abbrev pub task_for : {P I L Q : Type 0} → PassesGhosts P I → LawGhosts L → QuestionGhosts Q → Asked P L Q → Says → Task
 task_for passes law question asked says = record {
-  search = search_of (passes.offers asked.passes.now) (law.lawful asked.law.now) (question.asks asked.question.now) (question.tells asked.question.now) says asked.own.now;
+  search = search_of (passes.offers asked.passes.now) (law.lawful asked.law.now) (question.asks asked.question.now) (question.tells asked.question.now) says asked.own.now [];
   Against = law.reasons asked.law.now;
   window = asked.window;
   limit = asked.limit;
@@ -76,7 +76,7 @@ saves_of (source.Made number items) = false
 -- programs, and the test
 abbrev pub task_of : Settings → Says → List ℕ → Task
 task_of settings says own = record {
-  search = search_of (Offers settings.enabled) IsLawful (asks_test settings.test) (tells_test settings.test) says own;
+  search = search_of (Offers settings.enabled) IsLawful (asks_test settings.test) (tells_test settings.test) says own [];
   Against = IsReason;
   window = settings.window;
   limit = settings.limit;

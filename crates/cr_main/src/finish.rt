@@ -1,5 +1,5 @@
 // What comes once the test has said yes to the bytes: the copy, the reduction, the result, the log, the summary.
-ghost use Rattle.std.specs.Prelude.{◌≡◌, ◌≢◌, ◌<◌, ◌≤◌, ℕ, ◌++◌, All, IfOk, None, Some, false, length};
+ghost use Rattle.std.specs.Prelude.{◌≡◌, ◌≢◌, ◌<◌, ◌≤◌, ℕ, ◌++◌, All, [], IfOk, None, Some, false, length};
 ghost use Rattle.cr_cursor.specs.TokenLaw.{IsTokenized};
 ghost use Rattle.cr_log.specs.Texts.{log_text_of, summary_text_of};
 ghost use Rattle.cr_reduce.specs.Bench.{judging, keys_of, says_of};
@@ -44,6 +44,7 @@ where
     requires tokenizes { IsTokenized bytes.items }
     requires workers { (0 < task.now.workers) × (task.now.workers ≤ length bench.old.judges) }
     requires window { (0 < task.now.window) × (task.now.window ≤ 4096) }
+    requires forgot { bench.old.kept ≡ [] }
     ensures finishes { Finishes (task_for P.Passes L.Law Q.Question task.now (says_of J.Judge bench.old)) bytes.items
         (IsReduction (task_for P.Passes L.Law Q.Question task.now (says_of J.Judge bench.old)) (judging J.Judge bench.old) (judging J.Judge bench.new) bytes.items)
         (outside F.Files files.old O.Sink out.old) (outside F.Files files.new O.Sink out.new)

@@ -1,5 +1,5 @@
 // The steps of a run behind the words, for any passes, law and question.
-ghost use Rattle.std.specs.Prelude.{◌≡◌, ◌<◌, ◌≤◌, ℕ, false, length};
+ghost use Rattle.std.specs.Prelude.{◌≡◌, ◌<◌, ◌≤◌, ℕ, [], false, length};
 ghost use Rattle.cr_outside.specs.Files.{Reads};
 ghost use Rattle.cr_outside.specs.declared.files.ReadAnswer.TheVariants.{Bytes};
 ghost use Rattle.cr_reduce.specs.Bench.{judging, keys_of, says_of};
@@ -85,6 +85,8 @@ where
     ensures silent { Q.asks task.now.question.now ≡ false → bench.new.judges ≡ bench.old.judges }
     ensures keys { keys_of J.Judge bench.new ≡ keys_of J.Judge bench.old }
 {
+    // What it keeps may be of another test, or of another file's name.
+    bench.forget();
     let mut never = Never { looks: 0 };
     match task.law.rule(alloc, &bytes, &mut never) {
         Ruling::Lawful => ask_test(rt, alloc, task, bytes, files, bench, out),
@@ -117,6 +119,7 @@ where
     requires law { IsOfPrograms (L.lawful task.now.law.now) (L.reasons task.now.law.now) }
     requires workers { (0 < task.now.workers) × (task.now.workers ≤ length bench.old.judges) }
     requires window { (0 < task.now.window) × (task.now.window ≤ 4096) }
+    requires forgot { bench.old.kept ≡ [] }
     requires lawful { L.lawful task.now.law.now bytes.items }
     ensures runs { RunsTask (task_for P.Passes L.Law Q.Question task.now (says_of J.Judge bench.old)) (given bytes.items)
         (outside F.Files files.old O.Sink out.old) (outside F.Files files.new O.Sink out.new)

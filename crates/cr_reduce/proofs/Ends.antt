@@ -7,12 +7,14 @@ use Rattle.cr_reduce.specs.declared.end.Why.{Why}
 use Rattle.cr_reduce.specs.declared.end.Why.TheVariants.{Fixed, Limit, Fault, NoMemory}
 use Rattle.cr_reduce.specs.declared.walk.Walk.{Walk}
 use Rattle.cr_cursor.specs.Variants.{Offer}
+use Rattle.cr_outside.specs.declared.judge.Answer.TheVariants.{Yes, No}
 use Rattle.cr_pool.specs.Trials.IsRejected.{not_smaller, unlawful, answered_no}
 use Rattle.cr_reduce.specs.Reduction.{State, Outcome, Within, cursors_of, none_fails, start_of, ends}
 use Rattle.cr_reduce.specs.Reduction.Reduces.{fixed, spent, fails}
 use Rattle.cr_reduce.specs.Search.{Search, AcceptsInRun, AsksOnlyCandidates, FailsInRun, RejectsInRun, AcceptsAsTold, RejectsAsTold, ReducesInRun, ReducesFileInRun, ReducesFileAsTold, IsAllTold}
 use Rattle.cr_reduce.specs.Walk.{AsksFew, EndsHere, Walked, state_of}
 use Rattle.cr_reduce.specs.Ends.{end_of_walk, outcome_of, StopsAt, EndsBy, EndsToldBy, EndsInRun, EndsAsTold, IsFixedInRun, IsFixedAsTold, calls_beside, most_calls}
+use Rattle.cr_reduce.proofs.Parts.{answered_told}
 use Rattle.cr_reduce.proofs.Reductions.{IsCut, cut_short, fixed_point, none_between, reduces-map, stops_here}
 use Rattle.cr_reduce.proofs.Runs.{goes_on-refl}
 use Rattle.cr_reduce.proofs.Walks.{within_less}
@@ -52,12 +54,12 @@ module _ {T : Type 0} (s : Search) (before now : Judging) (make : T → List ℕ
 -- where the answers are told
 
 accepts_told : (s : Search) (before now : Judging) → IsAllTold s → (file variant : List ℕ) → AcceptsInRun s before now file variant → AcceptsAsTold s file variant
-accepts_told s before now told file variant it = record { smaller = it.smaller; lawful = it.lawful; answered = it.answered.told (told variant) }
+accepts_told s before now told file variant it = record { smaller = it.smaller; lawful = it.lawful; answered = answered_told s before now variant Yes it.answered (told variant) }
 
 rejects_told : (s : Search) (before now : Judging) → IsAllTold s → (file variant : List ℕ) → RejectsInRun s before now file variant → RejectsAsTold s file variant
 rejects_told s before now told file variant (not_smaller big) = not_smaller big
 rejects_told s before now told file variant (unlawful against) = unlawful against
-rejects_told s before now told file variant (answered_no answer) = answered_no (answer.told (told variant))
+rejects_told s before now told file variant (answered_no answer) = answered_no (answered_told s before now variant No answer (told variant))
 
 file_told : (s : Search) (before now : Judging) (file : List ℕ) (limit : Option ℕ) (out : Outcome) → IsAllTold s → ((turn worker : ℕ) → out.why ≡ Fault turn worker → ⊥)
     → ReducesFileInRun s before now file limit out → ReducesFileAsTold s file limit out

@@ -7,29 +7,29 @@ use Rattle.std.specs.List.{slice_get}
 use Rattle.cr_cursor.specs.declared.passes.Cursor.{Cursor}
 use Rattle.cr_cursor.specs.Variants.{Offer, cursor}
 use Rattle.cr_outside.specs.declared.judge.Answer.{Answer}
-use Rattle.cr_outside.specs.declared.judge.Answer.TheVariants.{Yes, No, Failed, NoMemory}
+use Rattle.cr_outside.specs.declared.judge.Answer.TheVariants.{Yes, No, Failed}
 use Rattle.cr_outside.specs.declared.judge.Judge.{Ghosts as JudgeGhosts}
 use Rattle.cr_outside.specs.Faults.{Rose}
 use Rattle.cr_outside.specs.Judge.{Call, call_of}
-use Rattle.cr_outside.specs.Question.{Says}
 use Rattle.cr_pool.specs.declared.job.EpochEnd.{EpochEnd}
 use Rattle.cr_pool.specs.declared.job.EpochEnd.TheVariants as ending
-use Rattle.cr_pool.specs.Epoch.{Answered, AreAbout, AsksAt, AsksOnce, EndsBy, Epoch, RejectedBelow, bytes_at, variant_at}
+use Rattle.cr_pool.specs.Epoch.{Answered, AreAbout, AsksAt, AsksOnce, EndsBy, Epoch, KeepsWhatWasMade, RejectedBelow, bytes_at, variant_at}
 use Rattle.cr_pool.specs.Epoch.Answered.{given, was_kept}
+use Rattle.cr_pool.specs.declared.verdict.Verdict.TheVariants as verdict
 use Rattle.cr_pool.specs.Kept.{Kept}
-use Rattle.cr_pool.specs.Tally.{first_says, tallies_of, tally_at, tally_of}
+use Rattle.cr_pool.specs.Tally.{tallies_of, tally_at, tally_of}
 use Rattle.cr_pool.specs.Trials.{HasCalled, IsAccepted, IsRejected}
 use Rattle.cr_pool.specs.Trials.IsRejected.{not_smaller, unlawful, answered_no}
 use Rattle.cr_reduce.specs.Bench.{AllGained, AnyCall, CalledBy, Each, Gained, GoesOn, RoseAt, judging_of}
 use Rattle.cr_reduce.specs.Reduction.{AllRejected, State, cursors_of}
-use Rattle.cr_reduce.specs.Search.{AcceptsInRun, FailsInRun, RejectsInRun, Search}
-use Rattle.cr_reduce.specs.Trials.{AnswerInRun}
+use Rattle.cr_reduce.specs.Search.{AcceptsInRun, AnsweredInRun, AreMade, AreRightBy, FailsInRun, RejectsInRun, Search}
+use Rattle.cr_reduce.specs.Search.AnsweredInRun.{given as given_in_run, was_kept as kept_before}
 use Rattle.cr_reduce.specs.Walk.{AboutTried, AsksOnlyTried, EpochSays}
 use Rattle.cr_reduce.proofs.Runs.{all_gained-map}
 
--- the epoch of so many positions from a state on, with no verdict kept
-abbrev pub epoch_in : Search → State → ℕ → List Kept → Epoch
-epoch_in s st len kept = record { offer = st.offer; file = st.file; start = st.position; len = len; Lawful = s.Lawful; asks = s.asks; Tells = s.Tells; name = s.name; kept = kept }
+-- the epoch of so many positions from a state on
+abbrev pub epoch_in : Search → State → ℕ → Epoch
+epoch_in s st len = record { offer = st.offer; file = st.file; start = st.position; len = len; Lawful = s.Lawful; asks = s.asks; Tells = s.Tells; name = s.name; kept = s.kept }
 
 -- two lists of judges, one after the other
 module _ {J K : Type 0} (judge : JudgeGhosts J K) where
@@ -70,24 +70,27 @@ module _ {J K : Type 0} (judge : JudgeGhosts J K) where
 
 -- an epoch from a state on
 module _ {J K : Type 0} (judge : JudgeGhosts J K) (a b : List J) (count : length b ≡ length a) (s : Search) (st : State) (len : ℕ) where
-  answered : (variant : List ℕ) (answer : Answer) → Answered (epoch_in s st len []) (tallies_of judge a) (tallies_of judge b) variant answer
-      → AnswerInRun s.asks s.Tells s.name (map judge.calls a) (map judge.calls b) variant answer
-  answered variant answer (given worker low it) = record {
+  answered : (variant : List ℕ) (answer : Answer) → Answered (epoch_in s st len) (tallies_of judge a) (tallies_of judge b) variant answer
+      → AnsweredInRun s (judging_of judge a) (judging_of judge b) variant answer
+  answered variant answer (given worker low it) = given_in_run (record {
     asked = λ uses. let made = it.asked uses in (worker, made.0, called_by judge worker a b (call_of made.0 s.name variant answer) (omega (arith, length-map a (tally_of judge), low)) count made.1);
     told = it.told;
-  }
-  answered variant Yes (was_kept kept told) = absurd kept
-  answered variant No (was_kept kept told) = absurd kept
-  answered variant Failed (was_kept kept told) = absurd kept
-  answered variant NoMemory (was_kept kept told) = absurd kept
+  })
+  answered variant answer (was_kept kept told) = kept_before kept told
 
-  rejected : (variant : List ℕ) → IsRejected s.Lawful (Answered (epoch_in s st len []) (tallies_of judge a) (tallies_of judge b)) st.file variant
+  -- what is kept after it, where that is right
+  pub are_made : (kept : List Kept) → AreRightBy s kept → KeepsWhatWasMade (epoch_in s st len) (tallies_of judge a) (tallies_of judge b) kept → AreMade s (judging_of judge a) (judging_of judge b) kept
+  are_made kept right made file verdict.Unlawful keeps = right file verdict.Unlawful keeps
+  are_made kept right made file verdict.Yes keeps = ((right file verdict.Yes keeps).0, answered file Yes ((made file).0 keeps))
+  are_made kept right made file verdict.No keeps = ((right file verdict.No keeps).0, answered file No ((made file).1 keeps))
+
+  rejected : (variant : List ℕ) → IsRejected s.Lawful (Answered (epoch_in s st len) (tallies_of judge a) (tallies_of judge b)) st.file variant
       → RejectsInRun s (judging_of judge a) (judging_of judge b) st.file variant
   rejected variant (not_smaller big) = not_smaller big
   rejected variant (unlawful against) = unlawful against
   rejected variant (answered_no it) = answered_no (answered variant No it)
 
-  accepted : (variant : List ℕ) → IsAccepted s.Lawful (Answered (epoch_in s st len []) (tallies_of judge a) (tallies_of judge b)) st.file variant
+  accepted : (variant : List ℕ) → IsAccepted s.Lawful (Answered (epoch_in s st len) (tallies_of judge a) (tallies_of judge b)) st.file variant
       → AcceptsInRun s (judging_of judge a) (judging_of judge b) st.file variant
   accepted variant it = record { smaller = it.smaller; lawful = it.lawful; answered = answered variant Yes it.answered }
 
@@ -95,7 +98,7 @@ module _ {J K : Type 0} (judge : JudgeGhosts J K) (a b : List J) (count : length
   variant_is : (i : ℕ) (at : Cursor) → slice_get (cursors_of st.offer) i ≡ Some at → variant_at st.offer i ≡ st.offer.bytes at
   variant_is i at there = ap (λ c. bytes_at st.offer c) there
 
-  all_rejected : (n : ℕ) → RejectedBelow (epoch_in s st len []) (tallies_of judge a) (tallies_of judge b) n
+  all_rejected : (n : ℕ) → RejectedBelow (epoch_in s st len) (tallies_of judge a) (tallies_of judge b) n
       → AllRejected st.offer (RejectsInRun s (judging_of judge a) (judging_of judge b)) st.file st.position (st.position + n)
   all_rejected n below i at low high there =
       let j = i - st.position in
@@ -109,7 +112,7 @@ module _ {J K : Type 0} (judge : JudgeGhosts J K) (a b : List J) (count : length
   there_is : (i : ℕ) → i < length (cursors_of st.offer) → slice_get (cursors_of st.offer) i ≡ Some (cursor_of i)
   there_is i low = slice_get-get_or (cursors_of st.offer) i (cursor 0 0 0) low
 
-  pub epoch_says : (end : EpochEnd) → st.position + len ≤ length (cursors_of st.offer) → EndsBy (epoch_in s st len []) (tallies_of judge a) (tallies_of judge b) end
+  pub epoch_says : (end : EpochEnd) → st.position + len ≤ length (cursors_of st.offer) → EndsBy (epoch_in s st len) (tallies_of judge a) (tallies_of judge b) end
       → EpochSays s (judging_of judge a) (judging_of judge b) st len end
   epoch_says (ending.NoneOf n) placed it = (it.0, all_rejected len it.1)
   epoch_says (ending.Found position bytes) placed it =
@@ -154,7 +157,7 @@ module _ {J K : Type 0} (judge : JudgeGhosts J K) (a b : List J) (count : length
       )
   epoch_says ending.NoMemory placed it = tt
 
-  about : (positions : List ℕ) (calls : List Call) → st.position + len ≤ length (cursors_of st.offer) → AreAbout (epoch_in s st len []) positions calls → All (AboutTried s st) calls
+  about : (positions : List ℕ) (calls : List Call) → st.position + len ≤ length (cursors_of st.offer) → AreAbout (epoch_in s st len) positions calls → All (AboutTried s st) calls
   about [] [] placed it = All-nil (AboutTried s st)
   about [] (c ∷ cs) placed it = absurd it
   about (i ∷ is) [] placed it = absurd it
@@ -166,11 +169,11 @@ module _ {J K : Type 0} (judge : JudgeGhosts J K) (a b : List J) (count : length
       (here.name, record { position = st.position + i; at = at; there = there; is = here.file ∙ variant_is (st.position + i) at there; smaller = here.smaller; lawful = here.lawful })
       (about is cs placed it.1)
 
-  gained_at : (positions : List ℕ) (old new : Option (List Call)) → st.position + len ≤ length (cursors_of st.offer) → AsksAt (epoch_in s st len []) positions old new → Gained (AboutTried s st) old new
+  gained_at : (positions : List ℕ) (old new : Option (List Call)) → st.position + len ≤ length (cursors_of st.offer) → AsksAt (epoch_in s st len) positions old new → Gained (AboutTried s st) old new
   gained_at positions None new placed it = it
   gained_at positions (Some list) new placed it = (it.0, it.1, about positions it.0 placed it.2)
 
-  pub asks_only : st.position + len ≤ length (cursors_of st.offer) → AsksOnce (epoch_in s st len []) (tallies_of judge a) (tallies_of judge b) → AsksOnlyTried s (judging_of judge a) (judging_of judge b) st
+  pub asks_only : st.position + len ≤ length (cursors_of st.offer) → AsksOnce (epoch_in s st len) (tallies_of judge a) (tallies_of judge b) → AsksOnlyTried s (judging_of judge a) (judging_of judge b) st
   asks_only placed once = each_calls judge (AboutTried s st) a b count
       (λ worker low. gained_at (slice_index_or once.positions worker []) (tally_at (tallies_of judge a) worker).calls (tally_at (tallies_of judge b) worker).calls placed (once.calls worker (omega (arith, length-map a (tally_of judge), low))))
 
@@ -181,22 +184,10 @@ module _ {J K : Type 0} (judge : JudgeGhosts J K) (a b : List J) (count : length
     faults = each_faults judge a b count later;
   }
 
--- A job that was handed the file and the judges as they are has this epoch, and none is kept.
-module _ {J K : Type 0} (judge : JudgeGhosts J K) (offer : List ℕ → Offer) (Lawful : List ℕ → Type 0) (asks : Bool) (tells : Says → List ℕ → List ℕ → Bool → Type 0) (name : List ℕ) (start len : ℕ) where
-  abbrev pub epoch_with : List ℕ → List J → List Kept → Epoch
-  epoch_with file js kept = record {
-    offer = offer file;
-    file = file;
-    start = start;
-    len = len;
-    Lawful = Lawful;
-    asks = asks;
-    Tells = tells (first_says judge.key judge.says js) name;
-    name = name;
-    kept = kept;
-  }
+-- A job that was handed the file as it is has this epoch.
+module _ (offer : List ℕ → Offer) (Lawful : List ℕ → Type 0) (asks : Bool) (Tells : List ℕ → Bool → Type 0) (name : List ℕ) (start len : ℕ) (kept : List Kept) where
+  abbrev pub epoch_with : List ℕ → Epoch
+  epoch_with file = record { offer = offer file; file = file; start = start; len = len; Lawful = Lawful; asks = asks; Tells = Tells; name = name; kept = kept }
 
-  pub job_is : (Holds : Epoch → List J → Type 0) (file handed : List ℕ) (old forgot : List J) (kept : List Kept) → handed ≡ file → forgot ≡ old → kept ≡ [] → Holds (epoch_with handed forgot kept) forgot
-      → Holds (epoch_with file old []) old
-  job_is Holds file handed old forgot kept same judges none it =
-      subst (λ k. Holds (epoch_with file old k) old) none (subst (λ js. Holds (epoch_with file js kept) js) judges (subst (λ f. Holds (epoch_with f forgot kept) forgot) same it))
+  pub job_is : (Holds : Epoch → Type 0) (file handed : List ℕ) → handed ≡ file → Holds (epoch_with handed) → Holds (epoch_with file)
+  job_is Holds file handed same it = subst (λ f. Holds (epoch_with f)) same it

@@ -2,6 +2,7 @@ pub mod Ranks
 pub mod Reductions
 pub mod OneOutcome
 pub mod Runs
+pub mod Parts
 pub mod Sizes
 pub mod Walks
 pub mod Traces

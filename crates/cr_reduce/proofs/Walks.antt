@@ -1,13 +1,12 @@
 -- The numbers of a walk, and what its steps complete.
 use Rattle.std.proofs.Common.{◌≡◌, ℕ, ◌+◌, ◌*◌, ◌-◌, ◌<◌, ◌≤◌, Bool, true, false, List, length, Option, Some, None, ap, subst, sym, refl, arith}
-use Rattle.cr_outside.specs.declared.judge.Answer.TheVariants.{Yes, No}
 use Rattle.std.proofs.lemmas.List.{length_push}
 use Rattle.std.proofs.Math.Nat.{suc-mul}
 use Rattle.std.specs.List.{slice_get}
 use Rattle.cr_cursor.specs.declared.passes.Cursor.{Cursor}
 use Rattle.cr_cursor.specs.Variants.{Offer}
 use Rattle.cr_reduce.specs.Bench.{AsksAtMost, GoesOn, Judging}
-use Rattle.cr_pool.specs.Trials.IsRejected.{not_smaller, unlawful, answered_no}
+use Rattle.cr_pool.specs.Kept.{Kept}
 use Rattle.cr_reduce.specs.Reduction.{AllRejected, IsFirstAccepted, Proposals, State, Within, cursors_of, moved, next_round}
 use Rattle.cr_reduce.specs.Reduction.Reduces.{accepts, new_round}
 use Rattle.cr_reduce.specs.Search.{Search, AcceptsInRun, FailsInRun, RejectsInRun}
@@ -17,7 +16,8 @@ use Rattle.cr_reduce.specs.declared.end.Why.TheVariants.{Fixed, Limit, Fault, No
 use Rattle.cr_reduce.specs.Walk.{Advances, AsksFew, EndsHere, GoesOver, IsTaken, Leads, MovesOn, left_of}
 use Rattle.cr_reduce.specs.Walk.Advances.{moves, round}
 use Rattle.cr_reduce.specs.Walk.MovesOn.{passed, accepted}
-use Rattle.cr_reduce.proofs.Runs.{answer_in_run-later, answer_in_run-earlier, goes_on-trans, has_failed-earlier}
+use Rattle.cr_reduce.proofs.Parts.{IsPart, accepts_within, all_within, with_kept}
+use Rattle.cr_reduce.proofs.Runs.{goes_on-trans, has_failed-earlier}
 use Rattle.cr_reduce.proofs.Reductions.{none_between, skip}
 
 pub left_low : (changed : Bool) (size count position : ℕ) → size * 1073741824 ≤ left_of changed size count position
@@ -80,60 +80,40 @@ leads-trans s before middle now a b c first on second = record {
 leads-round : (s : Search) (before now : Judging) (st : State) → st.position ≡ length (cursors_of st.offer) → st.changed ≡ true → Leads s before now st (next_round st)
 leads-round s before now st end changed = record { later = omega arith; leads = λ after limit out on within rest. new_round end changed rest }
 
--- a step whose trials were made between two times within the run
-accepts_within : (s : Search) (before middle now after : Judging) (file variant : List ℕ) → GoesOn before middle → GoesOn now after
-    → AcceptsInRun s middle now file variant → AcceptsInRun s before after file variant
-accepts_within s before middle now after file variant earlier later it = record {
-  smaller = it.smaller;
-  lawful = it.lawful;
-  answered = answer_in_run-earlier s.asks s.Tells s.name before.calls middle.calls after.calls variant Yes earlier.calls
-      (answer_in_run-later s.asks s.Tells s.name middle.calls now.calls after.calls variant Yes it.answered later.calls);
-}
+-- a step whose trials were made in a part of the run
+module _ (s : Search) (kept : List Kept) (before middle now : Judging) (part : IsPart s kept before middle now) (st to : State) where
+  pub leads-over : GoesOver (with_kept s kept) middle now st to → Leads s before now st to
+  leads-over over =
+      subst (Leads s before now st) (sym over.is) (record {
+        later = omega (arith, over.count, over.low);
+        leads = λ after limit out on within rest. skip s.Offers (AcceptsInRun s before after) (RejectsInRun s before after) (FailsInRun s before after) limit st out over.position over.turns over.low over.high
+            (all_within s kept before middle now part after st.offer st.file st.position over.position on over.all) over.count within rest;
+      })
 
-rejects_within : (s : Search) (before middle now after : Judging) (file variant : List ℕ) → GoesOn before middle → GoesOn now after
-    → RejectsInRun s middle now file variant → RejectsInRun s before after file variant
-rejects_within s before middle now after file variant earlier later (not_smaller big) = not_smaller big
-rejects_within s before middle now after file variant earlier later (unlawful against) = unlawful against
-rejects_within s before middle now after file variant earlier later (answered_no answer) =
-    answered_no (answer_in_run-earlier s.asks s.Tells s.name before.calls middle.calls after.calls variant No earlier.calls
-    (answer_in_run-later s.asks s.Tells s.name middle.calls now.calls after.calls variant No answer later.calls))
+  leads-moves : MovesOn (with_kept s kept) middle now st to → Leads s before now st to
+  leads-moves (passed over) = leads-over over
+  leads-moves (accepted position at size turns next first has count offered is) =
+      subst (Leads s before now st) (sym is) (record {
+        later = omega (arith, first.after, count);
+        leads = λ after limit out on within rest. accepts position at size turns next
+            (record {
+              after = first.after;
+              there = first.there;
+              accepted = accepts_within s kept before middle now part after st.file (st.offer.bytes at) on first.accepted;
+              before = all_within s kept before middle now part after st.offer st.file st.position position on first.before;
+            }) has count within offered rest;
+      })
 
-all_within : (s : Search) (before middle now after : Judging) (o : Offer) (file : List ℕ) (from to : ℕ) → GoesOn before middle → GoesOn now after
-    → AllRejected o (RejectsInRun s middle now) file from to → AllRejected o (RejectsInRun s before after) file from to
-all_within s before middle now after o file from to earlier later all i at low high there = rejects_within s before middle now after file (o.bytes at) earlier later (all i at low high there)
-
-pub leads-over : (s : Search) (before middle now : Judging) (st to : State) → GoesOn before middle → GoesOver s middle now st to → Leads s before now st to
-leads-over s before middle now st to earlier over =
-    subst (Leads s before now st) (sym over.is) (record {
-      later = omega (arith, over.count, over.low);
-      leads = λ after limit out on within rest. skip s.Offers (AcceptsInRun s before after) (RejectsInRun s before after) (FailsInRun s before after) limit st out over.position over.turns over.low over.high
-          (all_within s before middle now after st.offer st.file st.position over.position earlier on over.all) over.count within rest;
-    })
-
-leads-moves : (s : Search) (before middle now : Judging) (st to : State) → GoesOn before middle → MovesOn s middle now st to → Leads s before now st to
-leads-moves s before middle now st to earlier (passed over) = leads-over s before middle now st to earlier over
-leads-moves s before middle now st to earlier (accepted position at size turns next first has count offered is) =
-    subst (Leads s before now st) (sym is) (record {
-      later = omega (arith, first.after, count);
-      leads = λ after limit out on within rest. accepts position at size turns next
-          (record {
-            after = first.after;
-            there = first.there;
-            accepted = accepts_within s before middle now after st.file (st.offer.bytes at) earlier on first.accepted;
-            before = all_within s before middle now after st.offer st.file st.position position earlier on first.before;
-          }) has count within offered rest;
-    })
-
--- one step of the walk
-pub leads-advances : (s : Search) (before middle now : Judging) (st to : State) → GoesOn before middle → Advances s middle now st to → Leads s before now st to
-leads-advances s before middle now st to earlier (moves step) = leads-moves s before middle now st to earlier step
-leads-advances s before middle now st to earlier (round end changed is) = subst (Leads s before now st) (sym is) (leads-round s before now st end changed)
+  pub leads-advances : Advances (with_kept s kept) middle now st to → Leads s before now st to
+  leads-advances (moves step) = leads-moves step
+  leads-advances (round end changed is) = subst (Leads s before now st) (sym is) (leads-round s before now st end changed)
 
 -- A fault of the last step is a fault since the beginning.
-pub ends_earlier : (s : Search) (before middle now : Judging) (limit : Option ℕ) (st : State) (why : Why) → GoesOn before middle → EndsHere s middle now limit st why → EndsHere s before now limit st why
-ends_earlier s before middle now limit st Fixed on ended = ended
-ends_earlier s before middle now limit st Limit on ended = ended
-ends_earlier s before middle now limit st (Fault turn worker) on ended =
+pub ends_earlier : (s : Search) (kept : List Kept) (before middle now : Judging) (limit : Option ℕ) (st : State) (why : Why) → GoesOn before middle → EndsHere (with_kept s kept) middle now limit st why
+    → EndsHere s before now limit st why
+ends_earlier s kept before middle now limit st Fixed on ended = ended
+ends_earlier s kept before middle now limit st Limit on ended = ended
+ends_earlier s kept before middle now limit st (Fault turn worker) on ended =
     let here = ended.2 in
     let it = here.failed in (
       ended.0,
@@ -144,4 +124,4 @@ ends_earlier s before middle now limit st (Fault turn worker) on ended =
         failed = record { smaller = it.smaller; lawful = it.lawful; failed = has_failed-earlier s.asks s.name before middle now worker (st.offer.bytes here.at) on it.failed };
       },
     )
-ends_earlier s before middle now limit st NoMemory on ended = ended
+ends_earlier s kept before middle now limit st NoMemory on ended = ended

@@ -1,6 +1,7 @@
 -- Laws of the reduction by told answers, for any search.
 use Rattle.std.specs.Prelude.{◌≡◌, ℕ, Bool, List, Option}
 use Rattle.cr_outside.specs.Question.{Says}
+use Rattle.cr_pool.specs.Kept.{Kept}
 use Rattle.cr_reduce.specs.Reduction.{Proposals, Trial, State, Outcome}
 use Rattle.cr_reduce.specs.Search.{Search, AcceptsAsTold, RejectsAsTold, ReducesAsTold, ReducesFileAsTold, search_of}
 
@@ -19,7 +20,7 @@ HasOneOutcome s = (limit : Option ℕ) (st : State) (out other : Outcome) → Re
 abbrev pub HasOneReduction : Search → Type 0
 HasOneReduction s = (limit : Option ℕ) (file : List ℕ) (out other : Outcome) → ReducesFileAsTold s file limit out → ReducesFileAsTold s file limit other → out ≡ other
 
--- whatever the judges say
+-- whatever the judges say, and whatever is kept
 abbrev pub ForAnyJudge : Proposals → (List ℕ → Type 0) → Bool → (Says → List ℕ → List ℕ → Bool → Type 0) → (Search → Type 0) → Type 0
 ForAnyJudge Offers Lawful asks tells Holds =
-    (says : Says) (name : List ℕ) → Holds (search_of Offers Lawful asks tells says name)
+    (says : Says) (name : List ℕ) (kept : List Kept) → Holds (search_of Offers Lawful asks tells says name kept)

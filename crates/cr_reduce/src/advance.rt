@@ -4,7 +4,7 @@ ghost use Rattle.cr_reduce.specs.declared.end.Why.{Why};
 ghost use Rattle.cr_reduce.specs.Bench.{GoesOn, judging, keys_of};
 ghost use Rattle.cr_reduce.specs.Ends.{calls_beside};
 ghost use Rattle.cr_reduce.specs.Reduction.{Within, cursors_of};
-ghost use Rattle.cr_reduce.specs.Search.{searching};
+ghost use Rattle.cr_reduce.specs.Search.{AreMade, AreRightBy, searching};
 ghost use Rattle.cr_reduce.specs.Walk.{Advances, AsksFew, AsksOnlyTried, EndsHere, GoesOver, IsSound, Walked, calls_beside_step, state_of, work_of};
 
 use crate::end::{Plan, Why};
@@ -33,6 +33,7 @@ where
     requires sound { IsSound (P.offers passes.now) (P.offer passes.now) walk.old }
     requires workers { (0 < plan.now.workers) × (plan.now.workers ≤ length bench.old.judges) }
     requires window { (0 < plan.now.window) × (plan.now.window ≤ 4096) }
+    requires right { AreRightBy (searching P.Passes passes.now L.Law law.now Q.Question question.now name.now J.Judge bench.old) bench.old.kept }
     requires within { Within plan.now.limit walk.old.turns }
     ensures advances { result ≡ None → Advances (searching P.Passes passes.now L.Law law.now Q.Question question.now name.now J.Judge bench.old)
         (judging J.Judge bench.old) (judging J.Judge bench.new) (state_of (P.offer passes.now) walk.old) (state_of (P.offer passes.now) walk.new) }
@@ -50,6 +51,8 @@ where
     ensures keys { keys_of J.Judge bench.new ≡ keys_of J.Judge bench.old }
     ensures silent { Q.asks question.now ≡ false → bench.new.judges ≡ bench.old.judges }
     ensures goes_on { GoesOn (judging J.Judge bench.old) (judging J.Judge bench.new) }
+    ensures made { AreMade (searching P.Passes passes.now L.Law law.now Q.Question question.now name.now J.Judge bench.old)
+        (judging J.Judge bench.old) (judging J.Judge bench.new) bench.new.kept }
 {
     if walk.position == walk.count {
         if !walk.changed {
@@ -88,6 +91,7 @@ where
     requires sound { IsSound (P.offers passes.now) (P.offer passes.now) walk.old }
     requires workers { (0 < plan.now.workers) × (plan.now.workers ≤ length bench.old.judges) }
     requires window { (0 < plan.now.window) × (plan.now.window ≤ 4096) }
+    requires right { AreRightBy (searching P.Passes passes.now L.Law law.now Q.Question question.now name.now J.Judge bench.old) bench.old.kept }
     requires within { Within plan.now.limit walk.old.turns }
     ensures walked { Walked (searching P.Passes passes.now L.Law law.now Q.Question question.now name.now J.Judge bench.old)
         (judging J.Judge bench.old) (judging J.Judge bench.new) (state_of (P.offer passes.now) walk.old) (state_of (P.offer passes.now) walk.new) }
@@ -99,6 +103,8 @@ where
         (state_of (P.offer passes.now) walk.old) (state_of (P.offer passes.now) walk.new) (calls_beside plan.now.window result) }
     ensures keys { keys_of J.Judge bench.new ≡ keys_of J.Judge bench.old }
     ensures silent { Q.asks question.now ≡ false → bench.new.judges ≡ bench.old.judges }
+    ensures made { AreMade (searching P.Passes passes.now L.Law law.now Q.Question question.now name.now J.Judge bench.old)
+        (judging J.Judge bench.old) (judging J.Judge bench.new) bench.new.kept }
 {
     loop {
         let step = advance(rt, alloc, passes, law, question, bench, name, plan, walk);

@@ -3,7 +3,7 @@ ghost use Rattle.std.specs.Prelude.{◌≡◌, ◌≢◌, ◌<◌, ◌≤◌, �
 ghost use Rattle.cr_reduce.specs.Bench.{AsksAtMost, GoesOn, judging, keys_of};
 ghost use Rattle.cr_reduce.specs.Bound.{HasLevels, enough_turns};
 ghost use Rattle.cr_reduce.specs.Ends.{end_of_walk, EndsAsTold, EndsInRun, FaultsWithCause, IsFixedAsTold, IsFixedInRun, most_calls};
-ghost use Rattle.cr_reduce.specs.Search.{AsksOnlyCandidates, IsAllTold, searching};
+ghost use Rattle.cr_reduce.specs.Search.{AreMade, AreRightBy, AsksOnlyCandidates, IsAllTold, searching};
 ghost use Rattle.cr_reduce.specs.Reduction.{Within, start_of};
 ghost use Rattle.cr_reduce.specs.Sizes.{HasSize};
 ghost use Rattle.cr_reduce.specs.Walk.{IsSound, state_of};
@@ -43,7 +43,10 @@ where
     requires workers { (0 < plan.now.workers) × (plan.now.workers ≤ length bench.old.judges) }
     requires window { (0 < plan.now.window) × (plan.now.window ≤ 4096) }
 
-    // The reduction by the answers given in this run, whatever the judge is.
+    // The verdicts that the bench keeps are right by this law, question and name, as they are where it keeps none.
+    requires right { AreRightBy (searching P.Passes passes.now L.Law law.now Q.Question question.now name.now J.Judge bench.old) bench.old.kept }
+
+    // The reduction by the answers that were given in this run or kept before it, whatever the judge is.
     ensures chain { EndsInRun (searching P.Passes passes.now L.Law law.now Q.Question question.now name.now J.Judge bench.old)
         (judging J.Judge bench.old) (judging J.Judge bench.new) plan.now.limit file.items result }
     ensures all_rejected { result.why ≡ Why.Fixed → IsFixedInRun (searching P.Passes passes.now L.Law law.now Q.Question question.now name.now J.Judge bench.old)
@@ -72,6 +75,11 @@ where
     // A question that asks no judge leaves the judges as they were.
     ensures silent { Q.asks question.now ≡ false → bench.new.judges ≡ bench.old.judges }
     ensures goes_on { GoesOn (judging J.Judge bench.old) (judging J.Judge bench.new) }
+
+    // What it keeps then is right too: each verdict was made in this run, or was kept before it.
+    ensures right { AreRightBy (searching P.Passes passes.now L.Law law.now Q.Question question.now name.now J.Judge bench.old) bench.new.kept }
+    ensures made { AreMade (searching P.Passes passes.now L.Law law.now Q.Question question.now name.now J.Judge bench.old)
+        (judging J.Judge bench.old) (judging J.Judge bench.new) bench.new.kept }
 {
     match begin(alloc, passes, file) {
         Ok(mut walk) => {

@@ -2,7 +2,7 @@
 ghost use Rattle.std.specs.Prelude.{◌≡◌, ◌≢◌, ◌<◌, ◌≤◌, ◌+◌, ◌-◌, ℕ, IsSome, Some, None, false, length};
 ghost use Rattle.cr_reduce.specs.Bench.{AsksAtMost, GoesOn, judging, keys_of};
 ghost use Rattle.cr_reduce.specs.Reduction.{Within};
-ghost use Rattle.cr_reduce.specs.Search.{searching};
+ghost use Rattle.cr_reduce.specs.Search.{AreMade, AreRightBy, searching};
 ghost use Rattle.cr_reduce.specs.Walk.{AsksFew, AsksOnlyTried, EndsHere, EpochSays, GoesOver, IsLength, IsSound, MovesOn, calls_beside_step, state_of, work_of};
 ghost use Rattle.cr_reduce.specs.declared.end.Why.{Why};
 
@@ -53,6 +53,7 @@ where
     P::Prep: Sync,
     requires sound { IsSound (P.offers passes.now) (P.offer passes.now) walk.now }
     requires workers { (0 < workers) × (workers ≤ length bench.old.judges) }
+    requires right { AreRightBy (searching P.Passes passes.now L.Law law.now Q.Question question.now name.now J.Judge bench.old) bench.old.kept }
     requires placed { walk.now.position + len ≤ walk.now.count }
     requires few { len ≤ 4096 }
     ensures says { EpochSays (searching P.Passes passes.now L.Law law.now Q.Question question.now name.now J.Judge bench.old)
@@ -63,9 +64,9 @@ where
     ensures keys { keys_of J.Judge bench.new ≡ keys_of J.Judge bench.old }
     ensures silent { Q.asks question.now ≡ false → bench.new.judges ≡ bench.old.judges }
     ensures goes_on { GoesOn (judging J.Judge bench.old) (judging J.Judge bench.new) }
+    ensures made { AreMade (searching P.Passes passes.now L.Law law.now Q.Question question.now name.now J.Judge bench.old)
+        (judging J.Judge bench.old) (judging J.Judge bench.new) bench.new.kept }
 {
-    // No verdict is kept from one epoch to the next so far.
-    bench.forget();
     let job = Job {
         passes,
         prep: &walk.prep,
@@ -105,6 +106,7 @@ where
     requires below { walk.old.position < walk.old.count }
     requires workers { (0 < plan.now.workers) × (plan.now.workers ≤ length bench.old.judges) }
     requires window { (0 < plan.now.window) × (plan.now.window ≤ 4096) }
+    requires right { AreRightBy (searching P.Passes passes.now L.Law law.now Q.Question question.now name.now J.Judge bench.old) bench.old.kept }
     requires more { plan.now.limit ≢ Some walk.old.turns }
     requires within { Within plan.now.limit walk.old.turns }
     ensures moved { result ≡ None → MovesOn (searching P.Passes passes.now L.Law law.now Q.Question question.now name.now J.Judge bench.old)
@@ -123,6 +125,8 @@ where
     ensures keys { keys_of J.Judge bench.new ≡ keys_of J.Judge bench.old }
     ensures silent { Q.asks question.now ≡ false → bench.new.judges ≡ bench.old.judges }
     ensures goes_on { GoesOn (judging J.Judge bench.old) (judging J.Judge bench.new) }
+    ensures made { AreMade (searching P.Passes passes.now L.Law law.now Q.Question question.now name.now J.Judge bench.old)
+        (judging J.Judge bench.old) (judging J.Judge bench.new) bench.new.kept }
 {
     let len = length_of(plan, walk.count - walk.position, walk.turns);
     match try_next(

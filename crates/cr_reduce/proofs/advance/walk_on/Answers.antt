@@ -1,8 +1,10 @@
-use Rattle.std.proofs.Common.{refl, subst, ◌∙◌, arith}
+use Rattle.std.proofs.Common.{refl, subst, sym, ◌∙◌, arith}
 use Rattle.cr_outside.specs.Question.{Says}
+use Rattle.cr_pool.specs.Kept.{AreRight}
 use Rattle.cr_reduce.specs.Bench.{judging}
-use Rattle.cr_reduce.specs.Search.{search_of, searching}
+use Rattle.cr_reduce.specs.Search.{AreMade, search_of, searching}
 use Rattle.cr_reduce.specs.Walk.{Advances, AsksOnlyTried, EndsHere, GoesOver, state_of}
+use Rattle.cr_reduce.proofs.Parts.{IsPart, made_before, made_within, right_by_made}
 use Rattle.cr_reduce.proofs.Traces.{walked-refl, walked-step, walked-end}
 use Rattle.cr_reduce.proofs.Runs.{says_kept}
 use Rattle.cr_reduce.proofs.Walks.{ends_earlier}
@@ -16,53 +18,77 @@ loop-why-init g c = record {
   few = omega arith;
   keys = refl;
   silent = λ _. refl;
+  made = made_before (searching g.P.Passes c.args.passes.now g.L.Law c.args.law.now g.Q.Question c.args.question.now c.args.name.now g.J.Judge c.args.bench.now) (judging g.J.Judge c.args.bench.now) c.requires.right;
 }
+
+pub advance-step-requires-clause-right : goal.advance-step-requires-clause-right
+advance-step-requires-clause-right g c = λ a b.
+    let start = searching g.P.Passes c.args.passes.now g.L.Law c.args.law.now g.Q.Question c.args.question.now c.args.name.now g.J.Judge c.args.bench.now in
+    let kept = c.loop-why.bench.kept in
+    subst (λ (says : Says). AreRight start.Lawful start.asks (g.Q.Question.tells c.args.question.now says c.args.name.now) kept)
+    (sym (says_kept g.J.Judge c.args.bench.now.judges c.loop-why.bench.judges c.loop-why.invariant.keys))
+    (right_by_made start (judging g.J.Judge c.args.bench.now) (judging g.J.Judge c.loop-why.bench) kept c.loop-why.invariant.made)
 
 pub loop-why-preserved : goal.loop-why-preserved
 loop-why-preserved g c =
-    let search = λ (says : Says). search_of (g.P.Passes.offers c.args.passes.now) (g.L.Law.lawful c.args.law.now) (g.Q.Question.asks c.args.question.now) (g.Q.Question.tells c.args.question.now) says c.args.name.now in
+    let search = λ (says : Says). search_of (g.P.Passes.offers c.args.passes.now) (g.L.Law.lawful c.args.law.now) (g.Q.Question.asks c.args.question.now) (g.Q.Question.tells c.args.question.now) says c.args.name.now c.loop-why.bench.kept in
     let start = searching g.P.Passes c.args.passes.now g.L.Law c.args.law.now g.Q.Question c.args.question.now c.args.name.now g.J.Judge c.args.bench.now in
+    let before = judging g.J.Judge c.args.bench.now in
     let middle = judging g.J.Judge c.loop-why.bench in
     let now = judging g.J.Judge c.advance-step.new.bench in
     let st = state_of (g.P.Passes.offer c.args.passes.now) c.loop-why.walk in
     let to = state_of (g.P.Passes.offer c.args.passes.now) c.advance-step.new.walk in
     let says = says_kept g.J.Judge c.args.bench.now.judges c.loop-why.bench.judges c.loop-why.invariant.keys in
+    let part : IsPart start c.loop-why.bench.kept before middle now = record { earlier = c.loop-why.invariant.walked.goes_on; on = c.advance-step.ensures.goes_on; made = c.loop-why.invariant.made } in
     record {
       sound = c.in_default.ensures.sound refl;
-      walked = walked-step start (judging g.J.Judge c.args.bench.now) middle now (state_of (g.P.Passes.offer c.args.passes.now) c.args.walk.now) st to c.loop-why.invariant.walked
-          c.advance-step.ensures.goes_on
+      walked = walked-step start c.loop-why.bench.kept before middle now (state_of (g.P.Passes.offer c.args.passes.now) c.args.walk.now) st to c.loop-why.invariant.walked part
           (subst (λ s. AsksOnlyTried (search s) middle now st) says c.advance-step.ensures.asks)
           (subst (λ s. Advances (search s) middle now st to) says (c.in_default.ensures.advances refl));
       within = c.advance-step.ensures.within;
       few = omega (arith, c.loop-why.invariant.few, c.in_default.ensures.few);
       keys = c.advance-step.ensures.keys ∙ c.loop-why.invariant.keys;
       silent = λ quiet. c.advance-step.ensures.silent quiet ∙ c.loop-why.invariant.silent quiet;
+      made = made_within start c.loop-why.bench.kept before middle now part c.advance-step.new.bench.kept (subst (λ s. AreMade (search s) middle now c.advance-step.new.bench.kept) says c.advance-step.ensures.made);
     }
 
 pub returns-in-Some-clause-walked : goal.returns-in-Some-clause-walked
 returns-in-Some-clause-walked g c =
-    let search = λ (says : Says). search_of (g.P.Passes.offers c.args.passes.now) (g.L.Law.lawful c.args.law.now) (g.Q.Question.asks c.args.question.now) (g.Q.Question.tells c.args.question.now) says c.args.name.now in
+    let search = λ (says : Says). search_of (g.P.Passes.offers c.args.passes.now) (g.L.Law.lawful c.args.law.now) (g.Q.Question.asks c.args.question.now) (g.Q.Question.tells c.args.question.now) says c.args.name.now c.loop-why.bench.kept in
     let start = searching g.P.Passes c.args.passes.now g.L.Law c.args.law.now g.Q.Question c.args.question.now c.args.name.now g.J.Judge c.args.bench.now in
+    let before = judging g.J.Judge c.args.bench.now in
     let middle = judging g.J.Judge c.loop-why.bench in
     let now = judging g.J.Judge c.advance-step.new.bench in
     let st = state_of (g.P.Passes.offer c.args.passes.now) c.loop-why.walk in
     let to = state_of (g.P.Passes.offer c.args.passes.now) c.advance-step.new.walk in
     let says = says_kept g.J.Judge c.args.bench.now.judges c.loop-why.bench.judges c.loop-why.invariant.keys in
-    walked-end start (judging g.J.Judge c.args.bench.now) middle now (state_of (g.P.Passes.offer c.args.passes.now) c.args.walk.now) st to c.loop-why.invariant.walked
-    c.advance-step.ensures.goes_on
+    let part : IsPart start c.loop-why.bench.kept before middle now = record { earlier = c.loop-why.invariant.walked.goes_on; on = c.advance-step.ensures.goes_on; made = c.loop-why.invariant.made } in
+    walked-end start c.loop-why.bench.kept before middle now (state_of (g.P.Passes.offer c.args.passes.now) c.args.walk.now) st to c.loop-why.invariant.walked part
     (subst (λ s. AsksOnlyTried (search s) middle now st) says c.advance-step.ensures.asks)
     (subst (λ s. GoesOver (search s) middle now st to) says (c.in-Some.ensures.passed cc))
+
+pub returns-in-Some-clause-made : goal.returns-in-Some-clause-made
+returns-in-Some-clause-made g c =
+    let search = λ (says : Says). search_of (g.P.Passes.offers c.args.passes.now) (g.L.Law.lawful c.args.law.now) (g.Q.Question.asks c.args.question.now) (g.Q.Question.tells c.args.question.now) says c.args.name.now c.loop-why.bench.kept in
+    let start = searching g.P.Passes c.args.passes.now g.L.Law c.args.law.now g.Q.Question c.args.question.now c.args.name.now g.J.Judge c.args.bench.now in
+    let before = judging g.J.Judge c.args.bench.now in
+    let middle = judging g.J.Judge c.loop-why.bench in
+    let now = judging g.J.Judge c.advance-step.new.bench in
+    let says = says_kept g.J.Judge c.args.bench.now.judges c.loop-why.bench.judges c.loop-why.invariant.keys in
+    let part : IsPart start c.loop-why.bench.kept before middle now = record { earlier = c.loop-why.invariant.walked.goes_on; on = c.advance-step.ensures.goes_on; made = c.loop-why.invariant.made } in
+    made_within start c.loop-why.bench.kept before middle now part c.advance-step.new.bench.kept (subst (λ s. AreMade (search s) middle now c.advance-step.new.bench.kept) says c.advance-step.ensures.made)
 
 pub returns-in-Some-clause-few : goal.returns-in-Some-clause-few
 returns-in-Some-clause-few g c = omega (arith, c.loop-why.invariant.few, c.in-Some.ensures.few)
 
 pub returns-in-Some-clause-ended : goal.returns-in-Some-clause-ended
 returns-in-Some-clause-ended g c =
-    let search = λ (says : Says). search_of (g.P.Passes.offers c.args.passes.now) (g.L.Law.lawful c.args.law.now) (g.Q.Question.asks c.args.question.now) (g.Q.Question.tells c.args.question.now) says c.args.name.now in
+    let search = λ (says : Says). search_of (g.P.Passes.offers c.args.passes.now) (g.L.Law.lawful c.args.law.now) (g.Q.Question.asks c.args.question.now) (g.Q.Question.tells c.args.question.now) says c.args.name.now c.loop-why.bench.kept in
     let start = searching g.P.Passes c.args.passes.now g.L.Law c.args.law.now g.Q.Question c.args.question.now c.args.name.now g.J.Judge c.args.bench.now in
+    let before = judging g.J.Judge c.args.bench.now in
     let middle = judging g.J.Judge c.loop-why.bench in
     let now = judging g.J.Judge c.advance-step.new.bench in
     let to = state_of (g.P.Passes.offer c.args.passes.now) c.advance-step.new.walk in
-    ends_earlier start (judging g.J.Judge c.args.bench.now) middle now c.args.plan.now.limit to c.in-Some.why
+    ends_earlier start c.loop-why.bench.kept before middle now c.args.plan.now.limit to c.in-Some.why
     c.loop-why.invariant.walked.goes_on
     (subst (λ s. EndsHere (search s) middle now c.args.plan.now.limit to c.in-Some.why) (says_kept g.J.Judge c.args.bench.now.judges c.loop-why.bench.judges c.loop-why.invariant.keys) (c.advance-step.ensures.ended c.in-Some.why c.in-Some.is))

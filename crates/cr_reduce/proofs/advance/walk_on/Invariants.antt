@@ -1,7 +1,7 @@
 use Rattle.std.proofs.Common.{◌≡◌, false}
 use Rattle.cr_reduce.specs.Bench.{judging, keys_of}
 use Rattle.cr_reduce.specs.Reduction.{Within}
-use Rattle.cr_reduce.specs.Search.{searching}
+use Rattle.cr_reduce.specs.Search.{AreMade, searching}
 use Rattle.cr_reduce.specs.Walk.{AsksFew, IsSound, Walked, state_of, work_of}
 use Rattle.cr_reduce.proofs.advance.walk_on.Given as goal
 
@@ -14,6 +14,7 @@ invariant-loop-why g l = record {
   few : AsksFew l.plan.window (judging g.J.Judge l.fn.bench) (judging g.J.Judge l.bench) (state_of (g.P.Passes.offer l.passes) l.fn.walk) (state_of (g.P.Passes.offer l.passes) l.walk) 0;
   keys : keys_of g.J.Judge l.bench ≡ keys_of g.J.Judge l.fn.bench;
   silent : g.Q.Question.asks l.question ≡ false → l.bench.judges ≡ l.fn.bench.judges;
+  made : AreMade (searching g.P.Passes l.passes g.L.Law l.law g.Q.Question l.question l.name g.J.Judge l.fn.bench) (judging g.J.Judge l.fn.bench) (judging g.J.Judge l.bench) l.bench.kept;
 }
 
 abbrev pub decreases-loop-why : goal.decreases-loop-why

@@ -5,6 +5,7 @@ use Rattle.cr_reduce.specs.Search.{AboutCandidate, searching}
 use Rattle.cr_reduce.specs.Walk.{state_of}
 use Rattle.cr_reduce.proofs.Bounds.{in_time}
 use Rattle.cr_reduce.proofs.Ends.{asks_of_walk, chain_of_walk, few_of_walk, rejected_of_chain, told_of_chain, fixed_as_told, nothing_done}
+use Rattle.cr_reduce.proofs.Parts.{made_before, right_by_made}
 use Rattle.cr_reduce.proofs.Runs.{all_gained-refl, goes_on-refl}
 use Rattle.cr_reduce.proofs.greedy.reduce.Goals as goal
 
@@ -59,3 +60,10 @@ returns-in-Ok-clause-few g c = few_of_walk c.args.plan.now.window (judging g.J.J
 
 pub returns-in-Err-clause-asks_only : goal.returns-in-Err-clause-asks_only
 returns-in-Err-clause-asks_only g c = all_gained-refl (AboutCandidate (searching g.P.Passes c.args.passes.now g.L.Law c.args.law.now g.Q.Question c.args.question.now c.args.name.now g.J.Judge c.args.bench.now) c.args.file.items c.new.result.items) (judging g.J.Judge c.args.bench.now).calls
+
+pub returns-in-Ok-clause-right : goal.returns-in-Ok-clause-right
+returns-in-Ok-clause-right g c = right_by_made (searching g.P.Passes c.args.passes.now g.L.Law c.args.law.now g.Q.Question c.args.question.now c.args.name.now g.J.Judge c.args.bench.now)
+    (judging g.J.Judge c.args.bench.now) (judging g.J.Judge c.walk_on-why.new.bench) c.walk_on-why.new.bench.kept c.walk_on-why.ensures.made
+
+pub returns-in-Err-clause-made : goal.returns-in-Err-clause-made
+returns-in-Err-clause-made g c = made_before (searching g.P.Passes c.args.passes.now g.L.Law c.args.law.now g.Q.Question c.args.question.now c.args.name.now g.J.Judge c.args.bench.now) (judging g.J.Judge c.args.bench.now) c.requires.right
