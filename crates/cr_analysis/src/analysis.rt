@@ -1,17 +1,19 @@
 // What is read of a file.
 ghost use Rattle.std.specs.Prelude.{◌≡◌, IfOk, MatchOption, OnOk};
+ghost use Rattle.cr_scopes.specs.declared.fault.NameFault.TheVariants as name_fault;
 ghost use Rattle.cr_tokens.specs.Tokens.{HasNoTokens, Tokenizes};
 ghost use Rattle.cr_exprs.specs.declared.fault.ParseFault.TheVariants.{NoMemory};
 ghost use Rattle.cr_syntax.specs.Units.{IsTreeOf};
 ghost use Rattle.cr_syntax.specs.Kept.{row_in};
 ghost use Rattle.cr_syntax.specs.Words.{lexemes_of};
-ghost use Rattle.cr_analysis.specs.Analysis.{IsAnalysis};
+ghost use Rattle.cr_analysis.specs.Analysis.{IsAnalysis, IsParsed};
 
 use cr_decls::parse;
 use cr_exprs::ParseFault;
 use cr_listing::are_listed;
 use cr_machine::one_first_refusal;
 use cr_rows::Row;
+use cr_scopes::{NameFault, Names, resolve};
 use cr_syntax::{Unit, tokens_are_spans};
 use cr_tokens::{Token, TokenFault, Tokens, read};
 use std::alloc::{AllocError, Global};
@@ -21,10 +23,10 @@ use std::alloc::{AllocError, Global};
 pub enum Analysis {
     /// It has no tokens.
     NoTokens,
-    /// Its tokens are those of no unit.
+    /// Its tokens are those of no unit, or of one whose names aren't known.
     NoUnit(Row<Token>),
-    /// Its unit, which has its tokens. The nodes are listed in order, each behind those below it.
-    OfUnit(Unit),
+    /// Its unit, which has its tokens, and what its names stand for. The nodes are listed in order, each behind those below it.
+    OfUnit(Unit, Names),
 }
 
 /// Reads a file. The error is want of memory.
@@ -79,8 +81,32 @@ fn of_unit(alloc: Global, file: &[u8], unit: Unit) -> Result<Analysis, AllocErro
     ensures { IfOk result (IsAnalysis file.now) }
 {
     if are_listed(alloc, unit.nodes.as_slice(), unit.items.as_slice())? {
-        Ok(Analysis::OfUnit(unit))
+        named(alloc, file, unit)
     } else {
         Err(AllocError)
+    }
+}
+
+fn named(alloc: Global, file: &[u8], unit: Unit) -> Result<Analysis, AllocError>
+    requires tokens { Tokenizes file.now unit.tokens.list.items }
+    requires parsed { IsParsed file.now unit.tokens.list.items (record { nodes = unit.nodes; items = unit.items }) }
+    ensures { IfOk result (IsAnalysis file.now) }
+{
+    tokens_are_spans();
+    match resolve(alloc, file, &unit) {
+        Ok(names) => Ok(Analysis::OfUnit(unit, names)),
+        Err(fault) => {
+            name_refusal(fault)?;
+            Ok(Analysis::NoUnit(Row::from_vec(unit.tokens.list)))
+        }
+    }
+}
+
+fn name_refusal(fault: NameFault) -> Result<(), AllocError>
+    ensures { OnOk result (fault ≡ name_fault.NoMemory → ⊥) }
+{
+    match fault {
+        NameFault::NoMemory => Err(AllocError),
+        _ => Ok(()),
     }
 }

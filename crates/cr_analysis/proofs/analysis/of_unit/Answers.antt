@@ -1,15 +1,14 @@
 use Rattle.std.proofs.Common.{◌≡◌, length, subst}
-use Rattle.cr_analysis.specs.Analysis as read
 use Rattle.cr_listing.specs.Listed.{AreListed}
 use Rattle.cr_analysis.proofs.analysis.of_unit.Goals as goal
 
-pub returns-then-branch : goal.returns-then-branch
-returns-then-branch c =
+pub named-requires-clause-parsed : goal.named-requires-clause-parsed
+named-requires-clause-parsed c =
     let unit = c.args.unit in
     let listed = c.in_ok-are_listed.ensures c.if-branch.true in
     let nodes_listed = subst (λ nodes. AreListed nodes 0 c.as_slice-2.result.now (length nodes)) c.as_slice.ensures listed in
-    read.of_unit {tree = record { nodes = unit.nodes; items = unit.items }} c.requires.tokens (record {
+    record {
       is_tree = c.requires.tree;
       below = unit.parts_below;
       listed = subst (λ items. AreListed unit.nodes 0 items (length unit.nodes)) c.as_slice-2.ensures nodes_listed;
-    })
+    }
