@@ -1,13 +1,15 @@
 // What is read of a file.
 ghost use Rattle.std.specs.Prelude.{◌≡◌, IfOk, MatchOption, OnOk};
+ghost use Rattle.cr_scopes.specs.declared.fault.NameFault.TheVariants as name_fault;
 ghost use Rattle.cr_tokens.specs.Tokens.{HasNoTokens, Tokenizes};
 ghost use Rattle.cr_exprs.specs.declared.fault.ParseFault.TheVariants.{NoMemory};
-ghost use Rattle.cr_analysis.specs.Analysis.{IsAnalysis};
+ghost use Rattle.cr_analysis.specs.Analysis.{IsAnalysis, IsParsed};
 
 use cr_decls::parse;
 use cr_exprs::ParseFault;
 use cr_machine::one_first_refusal;
 use cr_rows::Row;
+use cr_scopes::{NameFault, Names, resolve};
 use cr_syntax::{Unit, tokens_are_spans};
 use cr_tokens::{Token, TokenFault, Tokens, read};
 use std::alloc::{AllocError, Global};
@@ -17,10 +19,10 @@ use std::alloc::{AllocError, Global};
 pub enum Analysis {
     /// It has no tokens.
     NoTokens,
-    /// Its tokens are those of no unit.
+    /// Its tokens are those of no unit, or of one whose names aren't known.
     NoUnit(Row<Token>),
-    /// Its unit, which has its tokens. The nodes are listed in order, each behind those below it.
-    OfUnit(Unit),
+    /// Its unit, which has its tokens, and what its names stand for. The nodes are listed in order, each behind those below it.
+    OfUnit(Unit, Names),
 }
 
 /// Reads a file. The error is want of memory.
@@ -50,7 +52,7 @@ fn parsed(alloc: Global, file: &[u8], tokens: Tokens) -> Result<Analysis, AllocE
     tokens_are_spans();
     one_first_refusal();
     match parse(alloc, file, &tokens) {
-        Ok(unit) => Ok(Analysis::OfUnit(unit)),
+        Ok(unit) => named(alloc, file, unit),
         Err(fault) => {
             refusal(fault)?;
             Ok(Analysis::NoUnit(Row::from_vec(tokens.list)))
@@ -64,6 +66,30 @@ fn refusal(fault: ParseFault) -> Result<(), AllocError>
 {
     match fault {
         ParseFault::NoMemory => Err(AllocError),
+        _ => Ok(()),
+    }
+}
+
+fn named(alloc: Global, file: &[u8], unit: Unit) -> Result<Analysis, AllocError>
+    requires tokens { Tokenizes file.now unit.tokens.list.items }
+    requires parsed { IsParsed file.now unit.tokens.list.items (record { nodes = unit.nodes; items = unit.items }) }
+    ensures { IfOk result (IsAnalysis file.now) }
+{
+    tokens_are_spans();
+    match resolve(alloc, file, &unit) {
+        Ok(names) => Ok(Analysis::OfUnit(unit, names)),
+        Err(fault) => {
+            name_refusal(fault)?;
+            Ok(Analysis::NoUnit(Row::from_vec(unit.tokens.list)))
+        }
+    }
+}
+
+fn name_refusal(fault: NameFault) -> Result<(), AllocError>
+    ensures { OnOk result (fault ≡ name_fault.NoMemory → ⊥) }
+{
+    match fault {
+        NameFault::NoMemory => Err(AllocError),
         _ => Ok(()),
     }
 }

@@ -36,33 +36,33 @@ c 2 1 2¦int main(){return 1+2;}
 c 3 0 2¦int main(){return 2*3;}
 c 3 1 2¦int main(){return 1+3;}
 c 4 0 0¦int main(){return 1+2*3;}
-file¦int main(){return(1)/*a*/+/*b*/ sizeof(x),f(2,3),(int)-4?5:6;}
-c 0 0 17¦int main(){return 0;}
-c 0 3 17¦int main(){return 0/*a*/+/*b*/ sizeof(x),f(2,3),(int)-4?5:6;}
-c 2 0 9¦int main(){return(1)/*a*/+/*b*/ sizeof(x),f(2,3);}
-c 2 2 9¦int main(){return(1),f(2,3),(int)-4?5:6;}
-c 2 3 9¦int main(){return 1/*a*/+/*b*/ sizeof(x),f(2,3),(int)-4?5:6;}
-c 2 5 9¦int main(){return(1)/*a*/+/*b*/ sizeof(x),2,(int)-4?5:6;}
-c 2 6 9¦int main(){return(1)/*a*/+/*b*/ sizeof(x),f(2,3),5;}
-c 2 7 9¦int main(){return(1)/*a*/+/*b*/ sizeof(x),f(2,3),-4?5:6;}
-c 3 4 5¦int main(){return(1)/*a*/+/*b*/ sizeof(x),f(2,3),6;}
-file¦int main(){{ ;/*a*/{}}do x;while(1);for(;;);switch(1){case 1:while(1)x;default:;}}
-s 0 0 8¦int main(){do x;while(1);for(;;);switch(1){case 1:while(1)x;default:;}}
-s 0 1 8¦int main(){{ /*a*/{}}do x;while(1);for(;;);switch(1){case 1:while(1)x;default:;}}
-s 0 2 8¦int main(){{ ;/*a*/}do x;while(1);for(;;);switch(1){case 1:while(1)x;default:;}}
-s 0 6 8¦int main(){{ ;/*a*/{}}do x;while(1);for(;;);switch(1){default:;}}
-s 1 0 4¦int main(){{ ;/*a*/{}}x;for(;;);switch(1){case 1:while(1)x;default:;}}
-s 1 1 4¦int main(){{ ;/*a*/{}}do x;while(1);;switch(1){case 1:while(1)x;default:;}}
-s 1 2 4¦int main(){{ ;/*a*/{}}do x;while(1);for(;;);{case 1:while(1)x;default:;}}
-s 1 3 4¦int main(){{ ;/*a*/{}}do x;while(1);for(;;);switch(1){case 1:x;default:;}}
-s 3 0 6¦int main(){{ ;/*a*/{}}do ;while(1);for(;;);switch(1){case 1:while(1)x;default:;}}
-s 3 1 6¦int main(){{ ;/*a*/{}}do x;while(1);for(;;);switch(1){case 1:while(1)x;default:;}}
-s 3 2 6¦int main(){{ ;/*a*/{}}do x;while(1);for(;;);switch(1);}
-s 3 3 6¦int main(){{ ;/*a*/{}}do x;while(1);for(;;);switch(1){case 1:;default:;}}
-s 3 4 6¦int main(){{ ;/*a*/{}}do x;while(1);for(;;);switch(1){case 1:while(1);default:;}}
-s 4 0 2¦int main(){ ;/*a*/{}do x;while(1);for(;;);switch(1){case 1:while(1)x;default:;}}
-s 4 1 2¦int main(){{ ;/*a*/}do x;while(1);for(;;);switch(1){case 1:while(1)x;default:;}}
-f 0 0 1¦int main(){{;{}}do x;while(1);for(;;);switch(1){case 1:while(1)x;default:;}}
+file¦int x,f();int main(){return(1)/*a*/+/*b*/ sizeof(x),f(2,3),(int)-4?5:6;}
+c 0 0 17¦int x,f();int main(){return 0;}
+c 0 3 17¦int x,f();int main(){return 0/*a*/+/*b*/ sizeof(x),f(2,3),(int)-4?5:6;}
+c 2 0 9¦int x,f();int main(){return(1)/*a*/+/*b*/ sizeof(x),f(2,3);}
+c 2 2 9¦int x,f();int main(){return(1),f(2,3),(int)-4?5:6;}
+c 2 3 9¦int x,f();int main(){return 1/*a*/+/*b*/ sizeof(x),f(2,3),(int)-4?5:6;}
+c 2 5 9¦int x,f();int main(){return(1)/*a*/+/*b*/ sizeof(x),2,(int)-4?5:6;}
+c 2 6 9¦int x,f();int main(){return(1)/*a*/+/*b*/ sizeof(x),f(2,3),5;}
+c 2 7 9¦int x,f();int main(){return(1)/*a*/+/*b*/ sizeof(x),f(2,3),-4?5:6;}
+c 3 4 5¦int x,f();int main(){return(1)/*a*/+/*b*/ sizeof(x),f(2,3),6;}
+file¦int x;int main(){{ ;/*a*/{}}do x;while(1);for(;;);switch(1){case 1:while(1)x;default:;}}
+s 0 0 8¦int x;int main(){do x;while(1);for(;;);switch(1){case 1:while(1)x;default:;}}
+s 0 1 8¦int x;int main(){{ /*a*/{}}do x;while(1);for(;;);switch(1){case 1:while(1)x;default:;}}
+s 0 2 8¦int x;int main(){{ ;/*a*/}do x;while(1);for(;;);switch(1){case 1:while(1)x;default:;}}
+s 0 6 8¦int x;int main(){{ ;/*a*/{}}do x;while(1);for(;;);switch(1){default:;}}
+s 1 0 4¦int x;int main(){{ ;/*a*/{}}x;for(;;);switch(1){case 1:while(1)x;default:;}}
+s 1 1 4¦int x;int main(){{ ;/*a*/{}}do x;while(1);;switch(1){case 1:while(1)x;default:;}}
+s 1 2 4¦int x;int main(){{ ;/*a*/{}}do x;while(1);for(;;);{case 1:while(1)x;default:;}}
+s 1 3 4¦int x;int main(){{ ;/*a*/{}}do x;while(1);for(;;);switch(1){case 1:x;default:;}}
+s 3 0 6¦int x;int main(){{ ;/*a*/{}}do ;while(1);for(;;);switch(1){case 1:while(1)x;default:;}}
+s 3 1 6¦int x;int main(){{ ;/*a*/{}}do x;while(1);for(;;);switch(1){case 1:while(1)x;default:;}}
+s 3 2 6¦int x;int main(){{ ;/*a*/{}}do x;while(1);for(;;);switch(1);}
+s 3 3 6¦int x;int main(){{ ;/*a*/{}}do x;while(1);for(;;);switch(1){case 1:;default:;}}
+s 3 4 6¦int x;int main(){{ ;/*a*/{}}do x;while(1);for(;;);switch(1){case 1:while(1);default:;}}
+s 4 0 2¦int x;int main(){ ;/*a*/{}do x;while(1);for(;;);switch(1){case 1:while(1)x;default:;}}
+s 4 1 2¦int x;int main(){{ ;/*a*/}do x;while(1);for(;;);switch(1){case 1:while(1)x;default:;}}
+f 0 0 1¦int x;int main(){{;{}}do x;while(1);for(;;);switch(1){case 1:while(1)x;default:;}}
 file¦int main(){L:return 0;}
 s 5 0 1¦int main(){return 0;}
 file¦int main(){L :/*a*/M:goto M;N:;}
@@ -73,10 +73,54 @@ s 5 0 1¦int f(){goto L;L:;}int main(){;}
 file¦int main(){switch(1){case 1:;default:;}}
 s 5 0 0¦int main(){switch(1){case 1:;default:;}}
 file¦int main(){return x;}
-s 0 0 1¦int main(){}
+t 4 0 9¦ main(){return x;}
+u 0 0 0¦int main(){return x;}
+s 0 0 0¦int main(){return x;}
+c 0 0 0¦int main(){return x;}
+r 0 0 0¦int main(){return x;}
+f 0 0 0¦int main(){return x;}
 file¦int f(int a){int a;}
-s 0 0 1¦int f(int a){}
+u 2 0 0¦int f(int a){int a;}
+s 0 0 0¦int f(int a){int a;}
+file¦int a,b;int main(){return b;}
+u 0 0 0¦int a,b;int main(){return b;}
+u 1 0 1¦int b;int main(){return b;}
+r 0 0 2¦int c,b;int main(){return b;}
+r 0 1 2¦int a,c;int main(){return c;}
+file¦int count;int main(){return count;}
+u 0 0 0¦int count;int main(){return count;}
+r 0 0 1¦int a;int main(){return a;}
+file¦int f(){return 1;}int g(){return f();}int main(){int main=2;{int u,v=u,w;}return main;}
+u 0 0 1¦int f(){return 1;}int main(){int main=2;{int u,v=u,w;}return main;}
+u 1 0 2¦int f(){return 1;}int g(){return f();}int main(){int main=2;{int u,w;}return main;}
+u 1 1 2¦int f(){return 1;}int g(){return f();}int main(){int main=2;{int u,v=u;}return main;}
+u 2 0 1¦int f(){return 1;}int g(){return f();}int main(){int main=2;{}return main;}
+r 0 2 6¦int f(){return 1;}int g(){return f();}int main(){int a=2;{int u,v=u,w;}return a;}
+file¦struct{int x,*y;int z;}s;enum e{A,B,};int main(){return s.x;}
+u 0 0 1¦struct{int x,*y;int z;}s;int main(){return s.x;}
+u 3 0 4¦struct{int x;int z;}s;enum e{A,B,};int main(){return s.x;}
+u 3 1 4¦struct{int x,*y;}s;enum e{A,B,};int main(){return s.x;}
+u 3 2 4¦struct{int x,*y;int z;}s;enum e{B,};int main(){return s.x;}
+u 3 3 4¦struct{int x,*y;int z;}s;enum e{A,};int main(){return s.x;}
+r 0 1 4¦struct{int x,*y;int z;}s;enum a{A,B,};int main(){return s.x;}
+file¦enum{A};int main(){return 0;}
+u 3 0 1¦enum{};int main(){return 0;}
+file¦int f(int a,int b){extern int g;return b;}int g=1;int main(){int f(int,int);return f(g,g);}
+u 0 0 0¦int f(int a,int b){extern int g;return b;}int g=1;int main(){int f(int,int);return f(g,g);}
+u 2 0 0¦int f(int a,int b){extern int g;return b;}int g=1;int main(){int f(int,int);return f(g,g);}
+r 0 3 4¦int f(int a,int b){extern int c;return b;}int c=1;int main(){int f(int,int);return f(c,c);}
+file¦int putchar(int);int main(){int exit=1;return exit;}
+u 0 0 1¦int main(){int exit=1;return exit;}
+r 0 0 1¦int putchar(int);int main(){int a=1;return a;}
+file¦int f(){int main(void);return 1;}int main(){return 0;}
+u 0 0 0¦int f(){int main(void);return 1;}int main(){return 0;}
+u 2 0 0¦int f(){int main(void);return 1;}int main(){return 0;}
+file¦int a,b,c,d,e,f,g,h,i,j,k,l,m,n,o,p,q,r,s,t,u,v,w,x,y,z;int main(){return 0;}
+u 1 25 26¦int a,b,c,d,e,f,g,h,i,j,k,l,m,n,o,p,q,r,s,t,u,v,w,x,y;int main(){return 0;}
+r 0 0 26¦int aa,b,c,d,e,f,g,h,i,j,k,l,m,n,o,p,q,r,s,t,u,v,w,x,y,z;int main(){return 0;}
 file¦int f(int x){return x;}int main(void){int i=0;i=f(i);return i;}
+r 0 0 3¦int a(int x){return x;}int main(void){int i=0;i=a(i);return i;}
+r 0 2 3¦int f(int x){return x;}int main(void){int a=0;a=f(a);return a;}
 s 0 0 4¦int f(int x){}int main(void){int i=0;i=f(i);return i;}
 s 0 3 4¦int f(int x){return x;}int main(void){int i=0;i=f(i);}
 c 0 0 7¦int f(int x){return 0;}int main(void){int i=0;i=f(i);return i;}
@@ -90,6 +134,10 @@ c 2 1 2¦int f(int x){return x;}int main(void){int i=0;i=i;return i;}
 c 3 0 1¦int f(int x){return x;}int main(void){int i=0;f(i);return i;}
 f 0 0 1¦int f(int x){return x;}int main(void){int i=0;i=f(i);return i;}
 file¦typedef int T;T a[2]={1,2};struct s{T m;const int c;}x={1,2};int main(){T*p=a;x.m=*p+a[1];return x.m-3;}
+u 3 0 1¦typedef int T;T a[2]={1,2};struct s{T m;}x={1,2};int main(){T*p=a;x.m=*p+a[1];return x.m-3;}
+r 0 0 5¦typedef int b;b a[2]={1,2};struct s{b m;const int c;}x={1,2};int main(){b*p=a;x.m=*p+a[1];return x.m-3;}
+r 0 2 5¦typedef int T;T a[2]={1,2};struct b{T m;const int c;}x={1,2};int main(){T*p=a;x.m=*p+a[1];return x.m-3;}
+r 0 4 5¦typedef int T;T a[2]={1,2};struct s{T m;const int c;}x={1,2};int main(){T*b=a;x.m=*b+a[1];return x.m-3;}
 s 0 0 3¦typedef int T;T a[2]={1,2};struct s{T m;const int c;}x={1,2};int main(){x.m=*p+a[1];return x.m-3;}
 s 0 1 3¦typedef int T;T a[2]={1,2};struct s{T m;const int c;}x={1,2};int main(){T*p=a;return x.m-3;}
 s 0 2 3¦typedef int T;T a[2]={1,2};struct s{T m;const int c;}x={1,2};int main(){T*p=a;x.m=*p+a[1];}
@@ -106,6 +154,9 @@ c 3 0 4¦typedef int T;T a[2]={1,2};struct s{T m;const int c;}x={1,2};int main()
 c 3 3 4¦typedef int T;T a[2]={1,2};struct s{T m;const int c;}x={1,2};int main(){T*p=a;x.m=*p+a[1];return 3;}
 f 0 0 1¦typedef int T;T a[2]={1,2};struct s{T m;const int c;}x={1,2};int main(){T*p=a;x.m=*p+a[1];return x.m-3;}
 file¦enum e{A,B=5,C};int main(){enum e v=B;switch(v){case A:return 1;case B:break;default:return 2;}return v-5;}
+u 3 0 1¦enum e{A,B=5};int main(){enum e v=B;switch(v){case A:return 1;case B:break;default:return 2;}return v-5;}
+r 0 0 5¦enum a{A,B=5,C};int main(){enum a v=B;switch(v){case A:return 1;case B:break;default:return 2;}return v-5;}
+r 0 4 5¦enum e{A,B=5,C};int main(){enum e a=B;switch(a){case A:return 1;case B:break;default:return 2;}return a-5;}
 s 0 0 6¦enum e{A,B=5,C};int main(){switch(v){case A:return 1;case B:break;default:return 2;}return v-5;}
 s 0 4 6¦enum e{A,B=5,C};int main(){enum e v=B;switch(v){case A:return 1;case B:break;}return v-5;}
 s 0 5 6¦enum e{A,B=5,C};int main(){enum e v=B;switch(v){case A:return 1;case B:break;default:return 2;}}
@@ -134,6 +185,7 @@ c 2 0 1¦int printf(const char *, ...);int main(void){"%d %u %c %s%%";return 0;}
 c 3 0 1¦int printf(const char *, ...);int main(void){"x";return 0;}
 f 0 0 1¦int printf(const char*,...);int main(void){printf("%d %u %c %s%%",1,2u,65,"x");return 0;}
 file¦volatile int v=1;int main(){v=v+1;v++;return v&&v;}
+r 0 0 1¦volatile int a=1;int main(){a=a+1;a++;return a&&a;}
 s 0 0 3¦volatile int v=1;int main(){v++;return v&&v;}
 s 0 1 3¦volatile int v=1;int main(){v=v+1;return v&&v;}
 s 0 2 3¦volatile int v=1;int main(){v=v+1;v++;}
@@ -150,6 +202,8 @@ c 3 1 3¦volatile int v=1;int main(){v=1;v++;return v&&v;}
 c 3 2 3¦volatile int v=1;int main(){v=v+1;v++;return v;}
 f 0 0 1¦volatile int v=1;int main(){v=v+1;v++;return v&&v;}
 file¦struct p{int a;struct p*n;};static struct p q;int g(struct p*r){return r?r->a:0;}int main(){q.n=&q;return g(q.n);}
+r 0 0 4¦struct b{int a;struct b*n;};static struct b q;int g(struct b*r){return r?r->a:0;}int main(){q.n=&q;return g(q.n);}
+r 0 3 4¦struct p{int a;struct p*n;};static struct p q;int g(struct p*b){return b?b->a:0;}int main(){q.n=&q;return g(q.n);}
 s 0 0 3¦struct p{int a;struct p*n;};static struct p q;int g(struct p*r){}int main(){q.n=&q;return g(q.n);}
 s 0 1 3¦struct p{int a;struct p*n;};static struct p q;int g(struct p*r){return r?r->a:0;}int main(){return g(q.n);}
 s 0 2 3¦struct p{int a;struct p*n;};static struct p q;int g(struct p*r){return r?r->a:0;}int main(){q.n=&q;}
@@ -166,6 +220,9 @@ c 3 0 2¦struct p{int a;struct p*n;};static struct p q;int g(struct p*r){return 
 c 3 1 2¦struct p{int a;struct p*n;};static struct p q;int g(struct p*r){return r?r->a:0;}int main(){&q;return g(q.n);}
 f 0 0 1¦struct p{int a;struct p*n;};static struct p q;int g(struct p*r){return r?r->a:0;}int main(){q.n=&q;return g(q.n);}
 file¦extern int u;int u=3;static int h(int a,char b){return a+b;}int main(){unsigned long z=sizeof(int);return h(u,1)+z-8;}
+r 0 0 5¦extern int c;int c=3;static int h(int a,char b){return a+b;}int main(){unsigned long z=sizeof(int);return h(c,1)+z-8;}
+r 0 3 5¦extern int u;int u=3;static int h(int a,char c){return a+c;}int main(){unsigned long z=sizeof(int);return h(u,1)+z-8;}
+r 0 4 5¦extern int u;int u=3;static int h(int a,char b){return a+b;}int main(){unsigned long c=sizeof(int);return h(u,1)+c-8;}
 s 0 0 3¦extern int u;int u=3;static int h(int a,char b){}int main(){unsigned long z=sizeof(int);return h(u,1)+z-8;}
 s 0 2 3¦extern int u;int u=3;static int h(int a,char b){return a+b;}int main(){unsigned long z=sizeof(int);}
 c 0 0 12¦extern int u;int u=0;static int h(int a,char b){return a+b;}int main(){unsigned long z=sizeof(int);return h(u,1)+z-8;}
@@ -181,6 +238,8 @@ c 3 2 4¦extern int u;int u=3;static int h(int a,char b){return a+b;}int main(){
 c 3 3 4¦extern int u;int u=3;static int h(int a,char b){return a+b;}int main(){unsigned long z=sizeof(int);return 1+z-8;}
 f 0 0 1¦extern int u;int u=3;static int h(int a,char b){return a+b;}int main(){unsigned long z=sizeof(int);return h(u,1)+z-8;}
 file¦int main(){int a[2][3]={{1,2},{3}};int*p=&a[0][2];for(int i=0;i<2;i++){a[i][0]+=i;}return *p;}
+r 0 0 3¦int main(){int b[2][3]={{1,2},{3}};int*p=&b[0][2];for(int i=0;i<2;i++){b[i][0]+=i;}return *p;}
+r 0 2 3¦int main(){int a[2][3]={{1,2},{3}};int*p=&a[0][2];for(int b=0;b<2;b++){a[b][0]+=b;}return *p;}
 s 0 0 5¦int main(){int*p=&a[0][2];for(int i=0;i<2;i++){a[i][0]+=i;}return *p;}
 s 0 4 5¦int main(){int a[2][3]={{1,2},{3}};int*p=&a[0][2];for(int i=0;i<2;i++){a[i][0]+=i;}}
 s 1 0 1¦int main(){int a[2][3]={{1,2},{3}};int*p=&a[0][2];{a[i][0]+=i;}return *p;}
@@ -198,6 +257,8 @@ c 3 0 6¦int main(){int a[2][3]={{1,2},{3}};int*p=&2;for(int i=0;i<2;i++){a[i][0
 c 3 5 6¦int main(){int a[2][3]={{1,2},{3}};int*p=&a[0][2];for(int i=0;i<2;i++){i[0]+=i;}return *p;}
 f 0 0 1¦int main(){int a[2][3]={{1,2},{3}};int*p=&a[0][2];for(int i=0;i<2;i++){a[i][0]+=i;}return*p;}
 file¦void w(int n){while(n){n--;if(n==2)continue;else break;}do n++;while(n<3);}int main(){w(4);return 0;}
+r 0 0 2¦void a(int n){while(n){n--;if(n==2)continue;else break;}do n++;while(n<3);}int main(){a(4);return 0;}
+r 0 1 2¦void w(int a){while(a){a--;if(a==2)continue;else break;}do a++;while(a<3);}int main(){w(4);return 0;}
 s 0 0 6¦void w(int n){do n++;while(n<3);}int main(){w(4);return 0;}
 s 0 2 6¦void w(int n){while(n){n--;}do n++;while(n<3);}int main(){w(4);return 0;}
 s 0 5 6¦void w(int n){while(n){n--;if(n==2)continue;else break;}do n++;while(n<3);}int main(){w(4);}
@@ -218,6 +279,8 @@ c 3 0 2¦void w(int n){while(n){n--;if(2)continue;else break;}do n++;while(n<3);
 c 3 1 2¦void w(int n){while(n){n--;if(n==2)continue;else break;}do n++;while(3);}int main(){w(4);return 0;}
 f 0 0 1¦void w(int n){while(n){n--;if(n==2)continue;else break;}do n++;while(n<3);}int main(){w(4);return 0;}
 file¦char s[]="ab",*t="cd";int main(){s[0]=t[1];return s[2];}
+r 0 0 2¦char a[]="ab",*t="cd";int main(){a[0]=t[1];return a[2];}
+r 0 1 2¦char s[]="ab",*a="cd";int main(){s[0]=a[1];return s[2];}
 s 0 0 2¦char s[]="ab",*t="cd";int main(){return s[2];}
 s 0 1 2¦char s[]="ab",*t="cd";int main(){s[0]=t[1];}
 c 0 0 12¦char s[]=0,*t="cd";int main(){s[0]=t[1];return s[2];}
@@ -232,6 +295,8 @@ c 3 0 4¦char s[]="ab",*t="cd";int main(){t[1];return s[2];}
 c 3 3 4¦char s[]="ab",*t="cd";int main(){s[0]=t[1];return 2;}
 f 0 0 1¦char s[]="ab",*t="cd";int main(){s[0]=t[1];return s[2];}
 file¦int m(int,int);int m(int a,int b){return a<b?a:b;}int main(){short k=-1;unsigned y=k;return m(3,(int)(y>>31))-1;}
+r 0 0 5¦int c(int,int);int c(int a,int b){return a<b?a:b;}int main(){short k=-1;unsigned y=k;return c(3,(int)(y>>31))-1;}
+r 0 4 5¦int m(int,int);int m(int a,int b){return a<b?a:b;}int main(){short k=-1;unsigned c=k;return m(3,(int)(c>>31))-1;}
 s 0 0 4¦int m(int,int);int m(int a,int b){}int main(){short k=-1;unsigned y=k;return m(3,(int)(y>>31))-1;}
 s 0 2 4¦int m(int,int);int m(int a,int b){return a<b?a:b;}int main(){short k=-1;return m(3,(int)(y>>31))-1;}
 s 0 3 4¦int m(int,int);int m(int a,int b){return a<b?a:b;}int main(){short k=-1;unsigned y=k;}
@@ -259,6 +324,8 @@ c 2 0 2¦int putchar(int);void exit(int);int main(){65;exit(3);}
 c 2 1 2¦int putchar(int);void exit(int);int main(){putchar(65);3;}
 f 0 0 1¦int putchar(int);void exit(int);int main(){putchar(65);exit(3);}
 file¦long long b=1ll<<40;int main(){const int c=2;return (b>>39)-c|c^c&~c;}
+r 0 0 2¦long long a=1ll<<40;int main(){const int c=2;return (a>>39)-c|c^c&~c;}
+r 0 1 2¦long long b=1ll<<40;int main(){const int a=2;return (b>>39)-a|a^a&~a;}
 s 0 0 2¦long long b=1ll<<40;int main(){return (b>>39)-c|c^c&~c;}
 s 0 1 2¦long long b=1ll<<40;int main(){const int c=2;}
 c 0 0 17¦long long b=0;int main(){const int c=2;return (b>>39)-c|c^c&~c;}
@@ -273,6 +340,8 @@ c 3 1 6¦long long b=1ll<<40;int main(){const int c=2;return c^c&~c;}
 c 3 5 6¦long long b=1ll<<40;int main(){const int c=2;return (b>>39)-c|c^~c;}
 f 0 0 1¦long long b=1ll<<40;int main(){const int c=2;return(b>>39)-c|c^c&~c;}
 file¦int main(){int*p=0;void*q=0;return p==q&&p==0&&0==q;}
+r 0 0 2¦int main(){int*a=0;void*q=0;return a==q&&a==0&&0==q;}
+r 0 1 2¦int main(){int*p=0;void*a=0;return p==a&&p==0&&0==a;}
 s 0 0 3¦int main(){void*q=0;return p==q&&p==0&&0==q;}
 s 0 1 3¦int main(){int*p=0;return p==q&&p==0&&0==q;}
 s 0 2 3¦int main(){int*p=0;void*q=0;}
@@ -289,6 +358,8 @@ c 3 0 5¦int main(){int*p=0;void*q=0;return 0==q;}
 c 3 4 5¦int main(){int*p=0;void*q=0;return p==q&&p==0&&q;}
 f 0 0 1¦int main(){int*p=0;void*q=0;return p==q&&p==0&&0==q;}
 file¦struct t;int main(){return sizeof(int[2])-8;}
+u 0 0 1¦int main(){return sizeof(int[2])-8;}
+r 0 0 1¦struct a;int main(){return sizeof(int[2])-8;}
 s 0 0 1¦struct t;int main(){}
 c 0 0 4¦struct t;int main(){return 0;}
 c 0 3 4¦struct t;int main(){return sizeof(int[2])-0;}
@@ -298,6 +369,8 @@ c 2 0 1¦struct t;int main(){return sizeof(int[2]);}
 c 3 0 1¦struct t;int main(){return 8;}
 f 0 0 1¦struct t;int main(){return sizeof(int[2])-8;}
 file¦int f(int n){if(n)return f(n-1);return 0;}int main(){return f(254);}
+r 0 0 2¦int a(int n){if(n)return a(n-1);return 0;}int main(){return a(254);}
+r 0 1 2¦int f(int a){if(a)return f(a-1);return 0;}int main(){return f(254);}
 s 0 0 3¦int f(int n){return 0;}int main(){return f(254);}
 s 0 1 3¦int f(int n){if(n)return f(n-1);}int main(){return f(254);}
 s 0 2 3¦int f(int n){if(n)return f(n-1);return 0;}int main(){}
@@ -313,6 +386,8 @@ c 2 2 3¦int f(int n){if(n)return f(n-1);return 0;}int main(){return 254;}
 c 3 0 1¦int f(int n){if(n)return f(1);return 0;}int main(){return f(254);}
 f 0 0 1¦int f(int n){if(n)return f(n-1);return 0;}int main(){return f(254);}
 file¦int f(int n){if(n)return f(n-1);return 0;}int main(){return f(255);}
+r 0 0 2¦int a(int n){if(n)return a(n-1);return 0;}int main(){return a(255);}
+r 0 1 2¦int f(int a){if(a)return f(a-1);return 0;}int main(){return f(255);}
 s 0 0 3¦int f(int n){return 0;}int main(){return f(255);}
 s 0 2 3¦int f(int n){if(n)return f(n-1);return 0;}int main(){}
 s 1 0 1¦int f(int n){return f(n-1);return 0;}int main(){return f(255);}
@@ -329,6 +404,7 @@ c 2 2 3¦int f(int n){if(n)return f(n-1);return 0;}int main(){return 255;}
 c 3 0 1¦int f(int n){if(n)return f(1);return 0;}int main(){return f(255);}
 f 0 0 1¦int f(int n){if(n)return f(n-1);return 0;}int main(){return f(255);}
 file¦int main(){int i=1;i=i++||1;return i;}
+r 0 0 1¦int main(){int a=1;a=a++||1;return a;}
 s 0 0 3¦int main(){i=i++||1;return i;}
 s 0 1 3¦int main(){int i=1;return i;}
 s 0 2 3¦int main(){int i=1;i=i++||1;}
@@ -345,6 +421,7 @@ c 3 0 2¦int main(){int i=1;i++||1;return i;}
 c 3 1 2¦int main(){int i=1;i=1;return i;}
 f 0 0 1¦int main(){int i=1;i=i++||1;return i;}
 file¦int main(){int i=0;i=i++||1;return i;}
+r 0 0 1¦int main(){int a=0;a=a++||1;return a;}
 s 0 0 3¦int main(){i=i++||1;return i;}
 s 0 2 3¦int main(){int i=0;i=i++||1;}
 c 0 0 8¦int main(){int i=0;i=i++||1;return i;}
@@ -367,6 +444,8 @@ c 0 0 1¦int main(void)␊{␊  while (0)␊    ;␊}␊
 c 1 0 1¦int main(void)␊{␊  while (1)␊    ;␊}␊
 f 0 0 1¦int main(void){while(1);}
 file¦int down(int n)␊{␊  return down(n + 1);␊}␊int main(void)␊{␊  return down(0);␊}␊
+r 0 0 2¦int a(int n)␊{␊  return a(n + 1);␊}␊int main(void)␊{␊  return a(0);␊}␊
+r 0 1 2¦int down(int a)␊{␊  return down(a + 1);␊}␊int main(void)␊{␊  return down(0);␊}␊
 s 0 0 2¦int down(int n)␊{␊  ␊}␊int main(void)␊{␊  return down(0);␊}␊
 s 0 1 2¦int down(int n)␊{␊  return down(n + 1);␊}␊int main(void)␊{␊  ␊}␊
 c 0 0 6¦int down(int n)␊{␊  return 0;␊}␊int main(void)␊{␊  return down(0);␊}␊
@@ -380,6 +459,8 @@ c 2 2 3¦int down(int n)␊{␊  return down(n + 1);␊}␊int main(void)␊{␊
 c 3 0 1¦int down(int n)␊{␊  return down(1);␊}␊int main(void)␊{␊  return down(0);␊}␊
 f 0 0 1¦int down(int n){return down(n+1);}int main(void){return down(0);}
 file¦int main(void)␊{␊  long x = 1;␊  int *p = (int *)&x;␊  *p = 2;␊  return 0;␊}␊
+r 0 0 2¦int main(void)␊{␊  long a = 1;␊  int *p = (int *)&a;␊  *p = 2;␊  return 0;␊}␊
+r 0 1 2¦int main(void)␊{␊  long x = 1;␊  int *a = (int *)&x;␊  *a = 2;␊  return 0;␊}␊
 s 0 0 4¦int main(void)␊{␊  ␊  int *p = (int *)&x;␊  *p = 2;␊  return 0;␊}␊
 s 0 1 4¦int main(void)␊{␊  long x = 1;␊  ␊  *p = 2;␊  return 0;␊}␊
 s 0 3 4¦int main(void)␊{␊  long x = 1;␊  int *p = (int *)&x;␊  *p = 2;␊  ␊}␊
@@ -392,6 +473,7 @@ c 2 3 4¦int main(void)␊{␊  long x = 1;␊  int *p = (int *)&x;␊  p = 2;�
 c 3 0 1¦int main(void)␊{␊  long x = 1;␊  int *p = (int *)&x;␊  2;␊  return 0;␊}␊
 f 0 0 1¦int main(void){long x=1;int*p=(int*)&x;*p=2;return 0;}
 file¦int main(void)␊{␊  int a[2][3] = { { 1 } };␊  return ((int *)a)[0];␊}␊
+r 0 0 1¦int main(void)␊{␊  int b[2][3] = { { 1 } };␊  return ((int *)b)[0];␊}␊
 s 0 0 2¦int main(void)␊{␊  ␊  return ((int *)a)[0];␊}␊
 s 0 1 2¦int main(void)␊{␊  int a[2][3] = { { 1 } };␊  ␊}␊
 c 0 0 8¦int main(void)␊{␊  int a[0][3] = { { 1 } };␊  return ((int *)a)[0];␊}␊
@@ -404,6 +486,8 @@ c 2 2 3¦int main(void)␊{␊  int a[2][3] = { { 1 } };␊  return (a)[0];␊}�
 c 3 0 1¦int main(void)␊{␊  int a[2][3] = { { 1 } };␊  return 0;␊}␊
 f 0 0 1¦int main(void){int a[2][3]={{1}};return((int*)a)[0];}
 file¦int main(void)␊{␊  signed char c = 127;␊  short s = 32767;␊  c++;␊  s += 1;␊  return c == -128 && s == -32768 ? 0 : 1;␊}␊
+r 0 0 2¦int main(void)␊{␊  signed char a = 127;␊  short s = 32767;␊  a++;␊  s += 1;␊  return a == -128 && s == -32768 ? 0 : 1;␊}␊
+r 0 1 2¦int main(void)␊{␊  signed char c = 127;␊  short a = 32767;␊  c++;␊  a += 1;␊  return c == -128 && a == -32768 ? 0 : 1;␊}␊
 s 0 0 5¦int main(void)␊{␊  ␊  short s = 32767;␊  c++;␊  s += 1;␊  return c == -128 && s == -32768 ? 0 : 1;␊}␊
 s 0 3 5¦int main(void)␊{␊  signed char c = 127;␊  short s = 32767;␊  c++;␊  ␊  return c == -128 && s == -32768 ? 0 : 1;␊}␊
 s 0 4 5¦int main(void)␊{␊  signed char c = 127;␊  short s = 32767;␊  c++;␊  s += 1;␊  ␊}␊
@@ -421,6 +505,9 @@ c 3 3 5¦int main(void)␊{␊  signed char c = 127;␊  short s = 32767;␊  c+
 c 3 4 5¦int main(void)␊{␊  signed char c = 127;␊  short s = 32767;␊  c++;␊  s += 1;␊  return c == -128 && -32768 ? 0 : 1;␊}␊
 f 0 0 1¦int main(void){signed char c=127;short s=32767;c++;s+=1;return c==-128&&s==-32768?0:1;}
 file¦struct s { int a; int b; };␊int main(void)␊{␊  struct s x, y;␊  int b[3] = { 7 };␊  static int z;␊  x.a = 1;␊  y = x;␊  return y.a + b[2] + z == 1 ? 0 : 1;␊}␊
+u 3 0 1¦struct s { int a;  };␊int main(void)␊{␊  struct s x, y;␊  int b[3] = { 7 };␊  static int z;␊  x.a = 1;␊  y = x;␊  return y.a + b[2] + z == 1 ? 0 : 1;␊}␊
+r 0 0 5¦struct c { int a; int b; };␊int main(void)␊{␊  struct c x, y;␊  int b[3] = { 7 };␊  static int z;␊  x.a = 1;␊  y = x;␊  return y.a + b[2] + z == 1 ? 0 : 1;␊}␊
+r 0 4 5¦struct s { int a; int b; };␊int main(void)␊{␊  struct s x, y;␊  int b[3] = { 7 };␊  static int c;␊  x.a = 1;␊  y = x;␊  return y.a + b[2] + c == 1 ? 0 : 1;␊}␊
 s 0 0 6¦struct s { int a; int b; };␊int main(void)␊{␊  ␊  int b[3] = { 7 };␊  static int z;␊  x.a = 1;␊  y = x;␊  return y.a + b[2] + z == 1 ? 0 : 1;␊}␊
 s 0 4 6¦struct s { int a; int b; };␊int main(void)␊{␊  struct s x, y;␊  int b[3] = { 7 };␊  static int z;␊  x.a = 1;␊  ␊  return y.a + b[2] + z == 1 ? 0 : 1;␊}␊
 s 0 5 6¦struct s { int a; int b; };␊int main(void)␊{␊  struct s x, y;␊  int b[3] = { 7 };␊  static int z;␊  x.a = 1;␊  y = x;␊  ␊}␊
@@ -437,6 +524,8 @@ c 3 0 7¦struct s { int a; int b; };␊int main(void)␊{␊  struct s x, y;␊ 
 c 3 6 7¦struct s { int a; int b; };␊int main(void)␊{␊  struct s x, y;␊  int b[3] = { 7 };␊  static int z;␊  x.a = 1;␊  y = x;␊  return y.a + 2 + z == 1 ? 0 : 1;␊}␊
 f 0 0 1¦struct s{int a;int b;};int main(void){struct s x,y;int b[3]={7};static int z;x.a=1;y=x;return y.a+b[2]+z==1?0:1;}
 file¦int g;␊int f(int x)␊{␊  g = g * 2 + x;␊  return g;␊}␊int main(void)␊{␊  int r = f(1) + f(2);␊  return r > 0 && g + f(0) ? 0 : 1;␊}␊
+r 0 0 4¦int a;␊int f(int x)␊{␊  a = a * 2 + x;␊  return a;␊}␊int main(void)␊{␊  int r = f(1) + f(2);␊  return r > 0 && a + f(0) ? 0 : 1;␊}␊
+r 0 3 4¦int g;␊int f(int x)␊{␊  g = g * 2 + x;␊  return g;␊}␊int main(void)␊{␊  int a = f(1) + f(2);␊  return a > 0 && g + f(0) ? 0 : 1;␊}␊
 s 0 0 4¦int g;␊int f(int x)␊{␊  ␊  return g;␊}␊int main(void)␊{␊  int r = f(1) + f(2);␊  return r > 0 && g + f(0) ? 0 : 1;␊}␊
 s 0 3 4¦int g;␊int f(int x)␊{␊  g = g * 2 + x;␊  return g;␊}␊int main(void)␊{␊  int r = f(1) + f(2);␊  ␊}␊
 c 0 0 24¦int g;␊int f(int x)␊{␊  0;␊  return g;␊}␊int main(void)␊{␊  int r = f(1) + f(2);␊  return r > 0 && g + f(0) ? 0 : 1;␊}␊
@@ -452,6 +541,7 @@ c 3 0 8¦int g;␊int f(int x)␊{␊  g * 2 + x;␊  return g;␊}␊int main(v
 c 3 7 8¦int g;␊int f(int x)␊{␊  g = g * 2 + x;␊  return g;␊}␊int main(void)␊{␊  int r = f(1) + f(2);␊  return r > 0 && f(0) ? 0 : 1;␊}␊
 f 0 0 1¦int g;int f(int x){g=g*2+x;return g;}int main(void){int r=f(1)+f(2);return r>0&&g+f(0)?0:1;}
 file¦int main(void)␊{␊  int i = 0;␊  i = i++ || 1;␊  return i == 1 ? 0 : 1;␊}␊
+r 0 0 1¦int main(void)␊{␊  int a = 0;␊  a = a++ || 1;␊  return a == 1 ? 0 : 1;␊}␊
 s 0 0 3¦int main(void)␊{␊  ␊  i = i++ || 1;␊  return i == 1 ? 0 : 1;␊}␊
 s 0 2 3¦int main(void)␊{␊  int i = 0;␊  i = i++ || 1;␊  ␊}␊
 c 0 0 13¦int main(void)␊{␊  int i = 0;␊  i = i++ || 1;␊  return i == 1 ? 0 : 1;␊}␊
@@ -466,6 +556,8 @@ c 3 0 4¦int main(void)␊{␊  int i = 0;␊  i++ || 1;␊  return i == 1 ? 0 :
 c 3 3 4¦int main(void)␊{␊  int i = 0;␊  i = i++ || 1;␊  return 1 ? 0 : 1;␊}␊
 f 0 0 1¦int main(void){int i=0;i=i++||1;return i==1?0:1;}
 file¦int main(void)␊{␊  char a[] = "abc", b[4] = "xyz";␊  a[0] = 'x';␊  b[3]++;␊  return a[0] == 'x' ? 0 : 1;␊}␊
+r 0 0 2¦int main(void)␊{␊  char c[] = "abc", b[4] = "xyz";␊  c[0] = 'x';␊  b[3]++;␊  return c[0] == 'x' ? 0 : 1;␊}␊
+r 0 1 2¦int main(void)␊{␊  char a[] = "abc", c[4] = "xyz";␊  a[0] = 'x';␊  c[3]++;␊  return a[0] == 'x' ? 0 : 1;␊}␊
 s 0 0 4¦int main(void)␊{␊  ␊  a[0] = 'x';␊  b[3]++;␊  return a[0] == 'x' ? 0 : 1;␊}␊
 s 0 3 4¦int main(void)␊{␊  char a[] = "abc", b[4] = "xyz";␊  a[0] = 'x';␊  b[3]++;␊  ␊}␊
 c 0 0 20¦int main(void)␊{␊  char a[] = 0, b[4] = "xyz";␊  a[0] = 'x';␊  b[3]++;␊  return a[0] == 'x' ? 0 : 1;␊}␊
@@ -481,6 +573,7 @@ c 3 1 6¦int main(void)␊{␊  char a[] = "abc", b[4] = "xyz";␊  0 = 'x';␊ 
 c 3 5 6¦int main(void)␊{␊  char a[] = "abc", b[4] = "xyz";␊  a[0] = 'x';␊  b[3]++;␊  return 0 == 'x' ? 0 : 1;␊}␊
 f 0 0 1¦int main(void){char a[]="abc",b[4]="xyz";a[0]='x';b[3]++;return a[0]=='x'?0:1;}
 file¦int main(void)␊{␊  int z = 0;␊  if (z)␊    return 1 / z;␊  return sizeof(1 / 0) == 4 && (z == 0 || 5 / z) ? 0 : 1;␊}␊
+r 0 0 1¦int main(void)␊{␊  int a = 0;␊  if (a)␊    return 1 / a;␊  return sizeof(1 / 0) == 4 && (a == 0 || 5 / a) ? 0 : 1;␊}␊
 s 0 0 3¦int main(void)␊{␊  ␊  if (z)␊    return 1 / z;␊  return sizeof(1 / 0) == 4 && (z == 0 || 5 / z) ? 0 : 1;␊}␊
 s 0 1 3¦int main(void)␊{␊  int z = 0;␊  ␊  return sizeof(1 / 0) == 4 && (z == 0 || 5 / z) ? 0 : 1;␊}␊
 s 0 2 3¦int main(void)␊{␊  int z = 0;␊  if (z)␊    return 1 / z;␊  ␊}␊
@@ -500,6 +593,7 @@ c 3 1 8¦int main(void)␊{␊  int z = 0;␊  if (z)␊    return 1 / z;␊  re
 c 3 7 8¦int main(void)␊{␊  int z = 0;␊  if (z)␊    return 1 / z;␊  return sizeof(1 / 0) == 4 && (z == 0 || z) ? 0 : 1;␊}␊
 f 0 0 1¦int main(void){int z=0;if(z)return 1/z;return sizeof(1/0)==4&&(z==0||5/z)?0:1;}
 file¦int main(void)␊{␊  unsigned char c = 1;␊  return (1u << 31) != 0 && (1L << 62) != 0 && c << 20 == 1048576 && -1 >> 31 == -1 ? 0 : 1;␊}␊
+r 0 0 1¦int main(void)␊{␊  unsigned char a = 1;␊  return (1u << 31) != 0 && (1L << 62) != 0 && a << 20 == 1048576 && -1 >> 31 == -1 ? 0 : 1;␊}␊
 s 0 0 2¦int main(void)␊{␊  ␊  return (1u << 31) != 0 && (1L << 62) != 0 && c << 20 == 1048576 && -1 >> 31 == -1 ? 0 : 1;␊}␊
 s 0 1 2¦int main(void)␊{␊  unsigned char c = 1;␊  ␊}␊
 c 0 0 31¦int main(void)␊{␊  unsigned char c = 0;␊  return (1u << 31) != 0 && (1L << 62) != 0 && c << 20 == 1048576 && -1 >> 31 == -1 ? 0 : 1;␊}␊
@@ -516,6 +610,7 @@ c 3 9 12¦int main(void)␊{␊  unsigned char c = 1;␊  return (1u << 31) != 0
 c 3 11 12¦int main(void)␊{␊  unsigned char c = 1;␊  return (1u << 31) != 0 && (1L << 62) != 0 && c << 20 == 1048576 && 31 == -1 ? 0 : 1;␊}␊
 f 0 0 1¦int main(void){unsigned char c=1;return(1u<<31)!=0&&(1L<<62)!=0&&c<<20==1048576&&-1>>31==-1?0:1;}
 file¦int main(void)␊{␊  int z = 0;␊  return z << 31 == 0 && 1 << 30 > 0 && 2u << 31 == 0 ? 0 : 1;␊}␊
+r 0 0 1¦int main(void)␊{␊  int a = 0;␊  return a << 31 == 0 && 1 << 30 > 0 && 2u << 31 == 0 ? 0 : 1;␊}␊
 s 0 0 2¦int main(void)␊{␊  ␊  return z << 31 == 0 && 1 << 30 > 0 && 2u << 31 == 0 ? 0 : 1;␊}␊
 s 0 1 2¦int main(void)␊{␊  int z = 0;␊  ␊}␊
 c 0 0 21¦int main(void)␊{␊  int z = 0;␊  return z << 31 == 0 && 1 << 30 > 0 && 2u << 31 == 0 ? 0 : 1;␊}␊
@@ -531,7 +626,14 @@ c 3 1 9¦int main(void)␊{␊  int z = 0;␊  return 2u << 31 == 0 ? 0 : 1;␊}
 c 3 8 9¦int main(void)␊{␊  int z = 0;␊  return z << 31 == 0 && 1 << 30 > 0 && 31 == 0 ? 0 : 1;␊}␊
 f 0 0 1¦int main(void){int z=0;return z<<31==0&&1<<30>0&&2u<<31==0?0:1;}
 file¦int f(){L:;}int main(){L:goto L;}
+u 0 0 1¦int main(){L:goto L;}
+r 0 0 1¦int a(){L:;}int main(){L:goto L;}
 s 5 0 1¦int f(){;}int main(){L:goto L;}
+file¦int main(){int i=3;L:if(i){i--;goto L;}return i;}
+r 0 0 1¦int main(){int a=3;L:if(a){a--;goto L;}return a;}
+file¦int main(){int*p;{int x=1;p=&x;goto L;}L:return *p;}
+r 0 0 2¦int main(){int*a;{int x=1;a=&x;goto L;}L:return *a;}
+r 0 1 2¦int main(){int*p;{int a=1;p=&a;goto L;}L:return *p;}
 "#;
 
 fn number(word: Option<&str>) -> u64 {

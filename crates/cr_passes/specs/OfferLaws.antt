@@ -15,6 +15,7 @@ use Rattle.cr_edit.specs.declared.change.Change.{Change}
 use Rattle.cr_levels.specs.Gathered.{gathered}
 use Rattle.cr_levels.specs.Places.{gone}
 use Rattle.cr_edit.specs.Menu.{Offering, level_of}
+use Rattle.cr_scopes.specs.declared.names.Names.{Names}
 use Rattle.cr_analysis.specs.Analysis.{IsRead, Read, Tree, no_tokens, no_unit, of_unit}
 use Rattle.cr_analysis.proofs.Same.{one_read}
 use Rattle.cr_printer.proofs.Neighbours.{prints_one_text}
@@ -25,10 +26,12 @@ use Rattle.pass_text.specs.Brackets.{IsBracketOffering}
 use Rattle.pass_text.specs.Brackets.IsBracketOffering.{paired, unpaired}
 use Rattle.pass_text.proofs.BracketLemmas.{few_offered, one_offering}
 use Rattle.pass_stmts.specs.Printed.{IsPrintedOffering, f_offering}
+use Rattle.pass_names.specs.Renamed.{renaming_by}
+use Rattle.pass_names.specs.Short.{first_free}
 use Rattle.cr_passes.specs.declared.pass.Pass.{Pass}
-use Rattle.cr_passes.specs.declared.pass.Pass.TheVariants.{Brackets, Expressions, Lines, NotThere, Printed, Runs, Statements}
+use Rattle.cr_passes.specs.declared.pass.Pass.TheVariants.{Brackets, Expressions, Lines, NotThere, Printed, Renamed, Runs, Statements, Unused}
 use Rattle.cr_passes.specs.Passes.{levels_of, pass_by}
-use Rattle.cr_passes.specs.Offers.{ByTokens, ByTree, IfOn, IsKnown, IsOffered, Known, Offers, is_on, menu_at, nothing, offer_of}
+use Rattle.cr_passes.specs.Offers.{ByNames, ByTokens, ByTree, IfOn, IsKnown, IsOffered, Known, Offers, is_on, menu_at, nothing, offer_of}
 
 one_on : (on : Bool) (P : Offering → Type 0) (menu other : Offering) → (P menu → P other → menu ≡ other) → IfOn on P menu → IfOn on P other → menu ≡ other
 one_on true P menu other one is also = one is also
@@ -49,6 +52,11 @@ by_tree : (tree : Option Tree) (P : Tree → Offering → Type 0) (Q : Offering 
 by_tree None P Q menu it none is = subst Q (sym is) none
 by_tree (Some t) P Q menu it none is = it t is
 
+by_names : (names : Option Names) (P : Names → Offering → Type 0) (Q : Offering → Type 0) (menu : Offering)
+    → ((n : Names) → P n menu → Q menu) → Q nothing → ByNames names P menu → Q menu
+by_names None P Q menu it none is = subst Q (sym is) none
+by_names (Some n) P Q menu it none is = it n is
+
 -- Each pass offers one menu.
 one_by_tokens : (tokens : Option (List Token)) (P : List Token → Offering → Type 0) (menu other : Offering)
     → ((ts : List Token) → P ts menu → P ts other → menu ≡ other) → ByTokens tokens P menu → ByTokens tokens P other → menu ≡ other
@@ -60,6 +68,11 @@ one_by_tree : (tree : Option Tree) (P : Tree → Offering → Type 0) (menu othe
 one_by_tree None P menu other one is also = is ∙ sym also
 one_by_tree (Some t) P menu other one is also = one t is also
 
+one_by_names : (names : Option Names) (P : Names → Offering → Type 0) (menu other : Offering)
+    → ((n : Names) → P n menu → P n other → menu ≡ other) → ByNames names P menu → ByNames names P other → menu ≡ other
+one_by_names None P menu other one is also = is ∙ sym also
+one_by_names (Some n) P menu other one is also = one n is also
+
 one_printed : (file : List ℕ) (tokens : List Token) (menu other : Offering) → IsPrintedOffering file tokens menu → IsPrintedOffering file tokens other → menu ≡ other
 one_printed file tokens menu other a b = a.is ∙ ap (f_offering file) (prints_one_text _ a.text b.text a.prints b.prints) ∙ sym b.is
 
@@ -67,8 +80,10 @@ one_offered : (file : List ℕ) (read : Read) (pass : Pass) (menu other : Offeri
 one_offered file read Lines menu other is also = is ∙ sym also
 one_offered file read Runs menu other is also = one_by_tokens read.tokens _ menu other (λ ts a b. a ∙ sym b) is also
 one_offered file read Brackets menu other is also = one_by_tokens read.tokens _ menu other (λ ts a b. one_offering file ts menu other a b) is also
+one_offered file read Unused menu other is also = one_by_tokens read.tokens _ menu other (λ ts. one_by_tree read.tree _ menu other (λ t. one_by_names read.names _ menu other (λ n a b. a.offered ∙ sym b.offered))) is also
 one_offered file read Statements menu other is also = one_by_tokens read.tokens _ menu other (λ ts. one_by_tree read.tree _ menu other (λ t a b. a.offered ∙ sym b.offered)) is also
 one_offered file read Expressions menu other is also = one_by_tokens read.tokens _ menu other (λ ts. one_by_tree read.tree _ menu other (λ t a b. a.offered ∙ sym b.offered)) is also
+one_offered file read Renamed menu other is also = one_by_tokens read.tokens _ menu other (λ ts. one_by_tree read.tree _ menu other (λ t. one_by_names read.names _ menu other (λ n a b. a.offered ∙ sym b.offered))) is also
 one_offered file read Printed menu other is also = one_by_tokens read.tokens _ menu other (λ ts. one_by_tree read.tree _ menu other (λ t a b. one_printed file ts menu other a.offered b.offered)) is also
 one_offered file read NotThere menu other is also = is ∙ sym also
 
@@ -97,14 +112,24 @@ without_brackets : (file : List ℕ) (tokens : List Token) (menu : Offering) (le
 without_brackets file tokens menu level (paired pairs nests is) few = without menu _ 3 level is refl few
 without_brackets file tokens menu level (unpaired none is) few = without menu _ 3 level is refl few
 
+one_renaming : (number : Option ℕ) (tokens : List Token) (names : Names) (reserved : List ℕ) → length (renaming_by number tokens names reserved).levels ≡ 1
+one_renaming None tokens names reserved = refl
+one_renaming (Some n) tokens names reserved = refl
+
 none_offered : (file : List ℕ) (read : Read) (pass : Pass) (menu : Offering) (level : ℕ) → IsOffered file read pass menu → levels_of pass ≤ level → length (level_of menu level) ≡ 0
 none_offered file read Lines menu level is few = without menu nothing 0 level is refl (omega arith)
 none_offered file read Runs menu level is few = by_tokens read.tokens _ (λ m. length (level_of m level) ≡ 0) menu (λ ts e a. without menu _ 5 level a refl few) refl is
 none_offered file read Brackets menu level is few = by_tokens read.tokens _ (λ m. length (level_of m level) ≡ 0) menu (λ ts e a. without_brackets file ts menu level a few) refl is
+none_offered file read Unused menu level is few = by_tokens read.tokens _ (λ m. length (level_of m level) ≡ 0) menu
+    (λ ts e. by_tree read.tree _ (λ m. length (level_of m level) ≡ 0) menu (λ t. by_names read.names _ (λ m. length (level_of m level) ≡ 0) menu
+    (λ n a. without menu _ 4 level a.offered refl few) refl) refl) refl is
 none_offered file read Statements menu level is few = by_tokens read.tokens _ (λ m. length (level_of m level) ≡ 0) menu
     (λ ts e. by_tree read.tree _ (λ m. length (level_of m level) ≡ 0) menu (λ t a. without menu _ 6 level a.offered refl few) refl) refl is
 none_offered file read Expressions menu level is few = by_tokens read.tokens _ (λ m. length (level_of m level) ≡ 0) menu
     (λ ts e. by_tree read.tree _ (λ m. length (level_of m level) ≡ 0) menu (λ t a. without menu _ 4 level a.offered refl few) refl) refl is
+none_offered file read Renamed menu level is few = by_tokens read.tokens _ (λ m. length (level_of m level) ≡ 0) menu
+    (λ ts e. by_tree read.tree _ (λ m. length (level_of m level) ≡ 0) menu (λ t. by_names read.names _ (λ m. length (level_of m level) ≡ 0) menu
+    (λ n a. without menu _ 1 level a.offered (one_renaming (first_free file ts) ts n _) few) refl) refl) refl is
 none_offered file read Printed menu level is few = by_tokens read.tokens _ (λ m. length (level_of m level) ≡ 0) menu
     (λ ts e. by_tree read.tree _ (λ m. length (level_of m level) ≡ 0) menu (λ t a. without menu _ 1 level a.offered.is refl few) refl) refl is
 none_offered file read NotThere menu level is few = without menu nothing 0 level is refl (omega arith)
@@ -113,8 +138,10 @@ few_levels : (pass : Pass) → levels_of pass ≤ 15
 few_levels Lines = omega arith
 few_levels Runs = omega arith
 few_levels Brackets = omega arith
+few_levels Unused = omega arith
 few_levels Statements = omega arith
 few_levels Expressions = omega arith
+few_levels Renamed = omega arith
 few_levels Printed = omega arith
 few_levels NotThere = omega arith
 
@@ -139,7 +166,7 @@ runs_offered file tokens is level = level_few (runs_gone tokens) (15 ∷ (7 ∷ 
 read_tokens : (file : List ℕ) (read : Read) (tokens : List Token) → IsRead file read → read.tokens ≡ Some tokens → Tokenizes file tokens
 read_tokens file _ tokens (no_tokens none) e = absurd (none-some tokens e)
 read_tokens file _ tokens (no_unit {tokens = ts} is none) e = let same : ts ≡ tokens = cc in subst (Tokenizes file) same is
-read_tokens file _ tokens (of_unit {tokens = ts} is parsed) e = let same : ts ≡ tokens = cc in subst (Tokenizes file) same is
+read_tokens file _ tokens (of_unit {tokens = ts} is parsed are) e = let same : ts ≡ tokens = cc in subst (Tokenizes file) same is
 
 -- a level that is tested, or isn't there
 tested : (most : ℕ) (menu : Offering) (level : ℕ) → ((level : ℕ) → level < 16 → length (level_of menu level) ≤ most) → (15 ≤ level → length (level_of menu level) ≡ 0) → length (level_of menu level) ≤ most
@@ -151,12 +178,18 @@ few_in file read Runs menu level known is = by_tokens read.tokens _ (λ m. lengt
     (λ ts e a. subst (λ m. length (level_of m level) ≤ length file) (sym a) (runs_offered file ts (read_tokens file read ts known e) level)) (omega arith) is
 few_in file read Brackets menu level known is = by_tokens read.tokens _ (λ m. length (level_of m level) ≤ length file) menu
     (λ ts e a. few_offered file ts menu level (read_tokens file read ts known e) a) (omega arith) is
+few_in file read Unused menu level known is = by_tokens read.tokens _ (λ m. length (level_of m level) ≤ length file) menu
+    (λ ts e. by_tree read.tree _ (λ m. length (level_of m level) ≤ length file) menu (λ t. by_names read.names _ (λ m. length (level_of m level) ≤ length file) menu
+    (λ n a. tested (length file) menu level a.few (λ high. none_offered file read Unused menu level is (omega (arith, high)))) (omega arith)) (omega arith)) (omega arith) is
 few_in file read Statements menu level known is = by_tokens read.tokens _ (λ m. length (level_of m level) ≤ length file) menu
     (λ ts e. by_tree read.tree _ (λ m. length (level_of m level) ≤ length file) menu
     (λ t a. tested (length file) menu level a.few (λ high. none_offered file read Statements menu level is (omega (arith, high)))) (omega arith)) (omega arith) is
 few_in file read Expressions menu level known is = by_tokens read.tokens _ (λ m. length (level_of m level) ≤ length file) menu
     (λ ts e. by_tree read.tree _ (λ m. length (level_of m level) ≤ length file) menu
     (λ t a. tested (length file) menu level a.few (λ high. none_offered file read Expressions menu level is (omega (arith, high)))) (omega arith)) (omega arith) is
+few_in file read Renamed menu level known is = by_tokens read.tokens _ (λ m. length (level_of m level) ≤ length file) menu
+    (λ ts e. by_tree read.tree _ (λ m. length (level_of m level) ≤ length file) menu (λ t. by_names read.names _ (λ m. length (level_of m level) ≤ length file) menu
+    (λ n a. tested (length file) menu level a.few (λ high. none_offered file read Renamed menu level is (omega (arith, high)))) (omega arith)) (omega arith)) (omega arith) is
 few_in file read Printed menu level known is = by_tokens read.tokens _ (λ m. length (level_of m level) ≤ length file) menu
     (λ ts e. by_tree read.tree _ (λ m. length (level_of m level) ≤ length file) menu
     (λ t a. tested (length file) menu level a.few (λ high. none_offered file read Printed menu level is (omega (arith, high)))) (omega arith)) (omega arith) is

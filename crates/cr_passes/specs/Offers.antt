@@ -8,11 +8,14 @@ use Rattle.cr_edit.specs.Menu.{Offering, entry_of, level_of}
 use Rattle.pass_text.specs.Brackets.{IsBracketOffering}
 use Rattle.pass_text.specs.Lines.{chunks_of, lines_bytes, lines_of}
 use Rattle.pass_text.specs.Runs.{t_offering}
+use Rattle.cr_scopes.specs.declared.names.Names.{Names}
 use Rattle.pass_exprs.specs.Expressions.{c_offering}
+use Rattle.pass_names.specs.Renamed.{r_offering}
+use Rattle.pass_names.specs.Unused.{u_offering}
 use Rattle.pass_stmts.specs.Printed.{IsPrintedOffering}
 use Rattle.pass_stmts.specs.Statements.{s_offering}
 use Rattle.cr_passes.specs.declared.pass.Pass.{Pass}
-use Rattle.cr_passes.specs.declared.pass.Pass.TheVariants.{Brackets, Expressions, Lines, NotThere, Printed, Runs, Statements}
+use Rattle.cr_passes.specs.declared.pass.Pass.TheVariants.{Brackets, Expressions, Lines, NotThere, Printed, Renamed, Runs, Statements, Unused}
 use Rattle.cr_passes.specs.Passes.{pass_by}
 
 -- What is known of a file: how many lines it has, and what the passes behind the lines offer, each by its number.
@@ -45,6 +48,11 @@ abbrev pub ByTree : Option Tree → (Tree → Offering → Type 0) → Offering 
 ByTree None IsOffered menu = menu ≡ nothing
 ByTree (Some tree) IsOffered menu = IsOffered tree menu
 
+-- where there is a unit it is by what its names stand for; without one nothing
+abbrev pub ByNames : Option Names → (Names → Offering → Type 0) → Offering → Type 0
+ByNames None IsOffered menu = menu ≡ nothing
+ByNames (Some names) IsOffered menu = IsOffered names menu
+
 -- no level has more edits than so many
 abbrev pub IsFew : ℕ → Offering → Type 0
 IsFew most menu = (level : ℕ) → level < 16 → length (level_of menu level) ≤ most
@@ -59,8 +67,10 @@ abbrev pub IsOffered : List ℕ → Read → Pass → Offering → Type 0
 IsOffered file read Lines menu = menu ≡ nothing
 IsOffered file read Runs menu = ByTokens read.tokens (λ tokens menu. menu ≡ t_offering tokens) menu
 IsOffered file read Brackets menu = ByTokens read.tokens (IsBracketOffering file) menu
+IsOffered file read Unused menu = ByTokens read.tokens (λ tokens. ByTree read.tree (λ tree. ByNames read.names (λ names. IsOfFew (length file) (λ m. m ≡ u_offering file tokens tree.nodes tree.items names)))) menu
 IsOffered file read Statements menu = ByTokens read.tokens (λ tokens. ByTree read.tree (λ tree. IsOfFew (length file) (λ m. m ≡ s_offering file tokens tree.nodes))) menu
 IsOffered file read Expressions menu = ByTokens read.tokens (λ tokens. ByTree read.tree (λ tree. IsOfFew (length file) (λ m. m ≡ c_offering tokens tree.nodes))) menu
+IsOffered file read Renamed menu = ByTokens read.tokens (λ tokens. ByTree read.tree (λ tree. ByNames read.names (λ names. IsOfFew (length file) (λ m. m ≡ r_offering file tokens tree.nodes tree.items names)))) menu
 IsOffered file read Printed menu = ByTokens read.tokens (λ tokens. ByTree read.tree (λ tree. IsOfFew (length file) (IsPrintedOffering file tokens))) menu
 IsOffered file read NotThere menu = menu ≡ nothing
 

@@ -1,9 +1,11 @@
 // What is made once for a file.
 ghost use Rattle.std.specs.Prelude.{◌≡◌, ◌≤◌, true, IfOk, MatchOption, length};
 ghost use Rattle.cr_analysis.specs.Analysis.{IsAnalysis, read_of};
-ghost use Rattle.cr_passes.specs.Offers.{AreMenus, ByTokens, ByTree, IfOn, IsFew, IsKnown, IsOfFew, IsOffered, is_on, menu_at, nothing};
+ghost use Rattle.cr_passes.specs.Offers.{AreMenus, ByNames, ByTokens, ByTree, IfOn, IsFew, IsKnown, IsOfFew, IsOffered, is_on, menu_at, nothing};
 ghost use Rattle.cr_passes.specs.Passes.{pass_by};
 ghost use Rattle.pass_exprs.specs.Expressions.{c_offering};
+ghost use Rattle.pass_names.specs.Renamed.{r_offering};
+ghost use Rattle.pass_names.specs.Unused.{u_offering};
 ghost use Rattle.pass_stmts.specs.Printed.{IsPrintedOffering};
 ghost use Rattle.pass_stmts.specs.Statements.{s_offering};
 ghost use Rattle.pass_text.specs.Brackets.{IsBracketOffering};
@@ -14,6 +16,7 @@ use cr_analysis::Analysis;
 use cr_cursor::NoMemory;
 use cr_edit::{Kept, Menu, width};
 use pass_exprs::expressions;
+use pass_names::{renamed, unused};
 use pass_stmts::{printed, statements};
 use pass_text::{brackets, count_lines, runs_of_tokens};
 use std::alloc::{AllocError, Global};
@@ -125,8 +128,10 @@ fn offered(alloc: Global, pass: Pass, file: &[u8], analysis: &Analysis) -> Resul
         Pass::Lines | Pass::NotThere => Ok(nothing(alloc)),
         Pass::Runs => runs(alloc, analysis),
         Pass::Brackets => pairs(alloc, file, analysis),
+        Pass::Unused => unused_offered(alloc, file, analysis),
         Pass::Statements => statements_offered(alloc, file, analysis),
         Pass::Expressions => expressions_offered(alloc, file, analysis),
+        Pass::Renamed => renamed_offered(alloc, file, analysis),
         Pass::Printed => printed_offered(alloc, file, analysis),
     }
 }
@@ -143,7 +148,7 @@ fn runs(alloc: Global, analysis: &Analysis) -> Result<Menu, NoMemory>
     match analysis {
         Analysis::NoTokens => Ok(nothing(alloc)),
         Analysis::NoUnit(tokens) => runs_of_tokens(alloc, tokens.as_slice()),
-        Analysis::OfUnit(unit) => runs_of_tokens(alloc, unit.tokens.list.as_slice()),
+        Analysis::OfUnit(unit, _) => runs_of_tokens(alloc, unit.tokens.list.as_slice()),
     }
 }
 
@@ -153,7 +158,25 @@ fn pairs(alloc: Global, file: &[u8], analysis: &Analysis) -> Result<Menu, NoMemo
     match analysis {
         Analysis::NoTokens => Ok(nothing(alloc)),
         Analysis::NoUnit(tokens) => brackets(alloc, file, tokens.as_slice()),
-        Analysis::OfUnit(unit) => brackets(alloc, file, unit.tokens.list.as_slice()),
+        Analysis::OfUnit(unit, _) => brackets(alloc, file, unit.tokens.list.as_slice()),
+    }
+}
+
+fn unused_offered(alloc: Global, file: &[u8], analysis: &Analysis) -> Result<Menu, NoMemory>
+    ensures { IfOk result (ByTokens (read_of analysis.now).tokens (λ tokens. ByTree (read_of analysis.now).tree (λ tree. ByNames (read_of analysis.now).names (λ names. IsOfFew (length file.now) (λ m. m ≡ u_offering file.now tokens tree.nodes tree.items names))))) }
+{
+    match analysis {
+        Analysis::OfUnit(unit, names) => if_few(unused(alloc, file, unit, names)?, file.len()),
+        _ => Ok(nothing(alloc)),
+    }
+}
+
+fn renamed_offered(alloc: Global, file: &[u8], analysis: &Analysis) -> Result<Menu, NoMemory>
+    ensures { IfOk result (ByTokens (read_of analysis.now).tokens (λ tokens. ByTree (read_of analysis.now).tree (λ tree. ByNames (read_of analysis.now).names (λ names. IsOfFew (length file.now) (λ m. m ≡ r_offering file.now tokens tree.nodes tree.items names))))) }
+{
+    match analysis {
+        Analysis::OfUnit(unit, names) => if_few(renamed(alloc, file, unit, names)?, file.len()),
+        _ => Ok(nothing(alloc)),
     }
 }
 
@@ -161,7 +184,7 @@ fn statements_offered(alloc: Global, file: &[u8], analysis: &Analysis) -> Result
     ensures { IfOk result (ByTokens (read_of analysis.now).tokens (λ tokens. ByTree (read_of analysis.now).tree (λ tree. IsOfFew (length file.now) (λ m. m ≡ s_offering file.now tokens tree.nodes)))) }
 {
     match analysis {
-        Analysis::OfUnit(unit) => {
+        Analysis::OfUnit(unit, _) => {
             let tokens = unit.tokens.list.as_slice();
             if_few(
                 statements(alloc, file, tokens, unit.nodes.as_slice())?,
@@ -176,7 +199,7 @@ fn expressions_offered(alloc: Global, file: &[u8], analysis: &Analysis) -> Resul
     ensures { IfOk result (ByTokens (read_of analysis.now).tokens (λ tokens. ByTree (read_of analysis.now).tree (λ tree. IsOfFew (length file.now) (λ m. m ≡ c_offering tokens tree.nodes)))) }
 {
     match analysis {
-        Analysis::OfUnit(unit) => {
+        Analysis::OfUnit(unit, _) => {
             let tokens = unit.tokens.list.as_slice();
             if_few(
                 expressions(alloc, tokens, unit.nodes.as_slice())?,
@@ -192,12 +215,12 @@ fn printed_offered(alloc: Global, file: &[u8], analysis: &Analysis) -> Result<Me
     ensures { IfOk result (ByTokens (read_of analysis.now).tokens (λ tokens. ByTree (read_of analysis.now).tree (λ tree. IsOfFew (length file.now) (IsPrintedOffering file.now tokens)))) }
 {
     match analysis {
-        Analysis::OfUnit(unit) => if_few(printed(alloc, file, unit)?, file.len()),
+        Analysis::OfUnit(unit, _) => if_few(printed(alloc, file, unit)?, file.len()),
         _ => Ok(nothing(alloc)),
     }
 }
 
-// The menu, where no level has more edits than so many. A level over a tree never has: what it counts has a token of its own.
+// The menu, where no level has more edits than so many. A level over a tree or its names never has: what it counts has a token of its own.
 fn if_few(menu: Menu, most: usize) -> Result<Menu, NoMemory>
     ensures same { IfOk result (λ few. few ≡ menu) }
     ensures few { IfOk result (IsFew most) }

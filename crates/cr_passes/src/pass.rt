@@ -11,10 +11,14 @@ pub enum Pass {
     Runs,
     /// b, brackets.
     Brackets,
+    /// u, what has no use.
+    Unused,
     /// s, statements.
     Statements,
     /// c, expressions.
     Expressions,
+    /// r, new names.
+    Renamed,
     /// f, the printed unit.
     Printed,
     /// No pass, or one that isn't built yet.
@@ -29,8 +33,10 @@ pub fn pass_by(number: usize) -> Pass
         0 => Pass::Lines,
         1 => Pass::Runs,
         2 => Pass::Brackets,
+        3 => Pass::Unused,
         4 => Pass::Statements,
         5 => Pass::Expressions,
+        8 => Pass::Renamed,
         9 => Pass::Printed,
         _ => Pass::NotThere,
     }

@@ -1,0 +1,7 @@
+use Rattle.std.proofs.Common.{◌≡◌, ◌++◌}
+use Rattle.cr_levels.specs.Gathered.{gathered}
+use Rattle.pass_names.specs.Unused.{declarator_gives}
+use Rattle.pass_names.proofs.removal.put_declarators.Given as goal
+
+abbrev pub invariant-loop-at : goal.invariant-loop-at
+invariant-loop-at l = l.all.items ≡ l.fn.all.items ++ gathered (declarator_gives l.tokens l.nodes l.names l.row) l.at

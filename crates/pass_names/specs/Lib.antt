@@ -1,0 +1,5 @@
+pub mod Reach
+pub mod Reserved
+pub mod Unused
+pub mod Short
+pub mod Renamed

@@ -1,0 +1,510 @@
+// Pass u: what has no use.
+ghost use Rattle.std.specs.Prelude.{◌≡◌, ◌++◌, ◌∷◌, [], length, drop, IfOk, OnOk};
+ghost use Rattle.std.specs.List.{flat_map, list_any};
+ghost use Rattle.cr_levels.specs.Gathered.{gathered};
+ghost use Rattle.cr_levels.specs.Level.{level_of};
+ghost use Rattle.cr_levels.specs.Nodes.{node_at};
+ghost use Rattle.cr_levels.specs.Places.{gone as gone_by, with_comma as with_comma_by};
+ghost use Rattle.pass_names.specs.Reach.{is_within as is_within_by};
+ghost use Rattle.pass_names.specs.Unused.{declaration_by, declarations_give, declarator_gives, declarator_in, declarators_give, enumerator_gives, is_declared_unused, is_empty, is_unused, is_unused_member, is_used_member, items_give, member_change, member_gives, member_use_by, member_uses, part_at, parts_give, row_gives, u_levels, u_offering};
+
+use crate::reach::{are_own, has_no_use_outside, is_within, uses_of};
+use crate::reserved::reserved_of;
+use cr_edit::{Change, Edits, Kept, Menu};
+use cr_events::declared_by;
+use cr_levels::{
+    Counted, Level, Turns, behind_first, gone, in_turn, kind_at, list, parts_at, span_at,
+    spelling_at, with_comma,
+};
+use cr_rows::Row;
+use cr_scopes::Names;
+use cr_syntax::{Kind, Node, Unit};
+use cr_tokens::Token;
+use std::alloc::{AllocError, Global};
+
+// Each external declaration without use goes.
+#[derive(Drop)]
+struct ItemsGo<'a> {
+    tokens: &'a [Token],
+    nodes: &'a [Node],
+    names: &'a Names,
+    mains: &'a [u32],
+    items: &'a [u32],
+}
+
+impl Turns for ItemsGo<'_> {
+    ghost gives = { λ l at. items_give l.tokens.now l.nodes.now l.names.now l.mains.now l.items.now at };
+
+    fn give(&self, _alloc: Global, at: usize, edits: &mut Edits) -> Result<(), AllocError> {
+        let item = part_at(self.items, at) as usize;
+        if is_unused(self.names, self.mains, self.nodes, item) {
+            edits.push(&[node_gone(self.tokens, self.nodes, item)])?;
+        }
+        Ok(())
+    }
+}
+
+fn node_gone(tokens: &[Token], nodes: &[Node], node: usize) -> Change
+    ensures { result ≡ gone_by tokens.now (node_at nodes.now node).first (node_at nodes.now node).last }
+{
+    let (first, last) = span_at(nodes, node);
+    gone(tokens, first as usize, last as usize)
+}
+
+fn part_at(parts: &[u32], at: usize) -> u32
+    ensures { result ≡ part_at parts.now at }
+{
+    match parts.get(at) {
+        Some(part) => *part,
+        None => 0,
+    }
+}
+
+fn is_unused(names: &Names, mains: &[u32], nodes: &[Node], node: usize) -> bool
+    ensures { result ≡ is_unused names.now mains.now (node_at nodes.now node) }
+{
+    let (first, last) = span_at(nodes, node);
+    !has_within(first, last, mains) && are_own(names, first, last)
+}
+
+fn has_within(first: u32, last: u32, tokens: &[u32]) -> bool
+    ensures { result ≡ list_any (is_within_by first last) tokens.now }
+{
+    tokens.iter().any(|token| is_within(first, last, *token))
+}
+
+// One change, counted by a node.
+fn counted(
+    alloc: Global,
+    nodes: &[Node],
+    node: usize,
+    change: Change,
+) -> Result<Counted, AllocError>
+    ensures { IfOk result (λ counted. counted ≡ record { first = (node_at nodes.now node).first; last = (node_at nodes.now node).last; edit = change ∷ [] }) }
+{
+    let (first, last) = span_at(nodes, node);
+    let mut edit = Row::new(alloc);
+    edit.push(change)?;
+    Ok(Counted { first, last, edit })
+}
+
+fn without_comma(tokens: &[Token], nodes: &[Node], at: usize, count: usize, node: usize) -> Change
+    ensures { result ≡ with_comma_by tokens.now at count (node_at nodes.now node).first (node_at nodes.now node).last }
+{
+    let (first, last) = span_at(nodes, node);
+    with_comma(tokens, at, count, first as usize, last as usize)
+}
+
+// Each declarator without use goes, where there are others.
+#[derive(Drop)]
+struct DeclaratorsGo<'a> {
+    tokens: &'a [Token],
+    nodes: &'a [Node],
+    names: &'a Names,
+}
+
+impl Level for DeclaratorsGo<'_> {
+    ghost gives = { λ l k. declarators_give l.tokens.now l.nodes.now l.names.now k };
+
+    fn give(&self, alloc: Global, node: usize, all: &mut Vec<Counted>) -> Result<(), AllocError> {
+        match kind_at(self.nodes, node) {
+            Kind::Declaration => {
+                let row = behind_first(parts_at(self.nodes, node));
+                put_row(alloc, self.tokens, self.nodes, self.names, row, all)
+            }
+            _ => Ok(()),
+        }
+    }
+}
+
+fn put_row(
+    alloc: Global,
+    tokens: &[Token],
+    nodes: &[Node],
+    names: &Names,
+    row: &[u32],
+    all: &mut Vec<Counted>,
+) -> Result<(), AllocError>
+    ensures { OnOk result (all.new.items ≡ all.old.items ++ row_gives tokens.now nodes.now names.now row.now) }
+{
+    if row.len() >= 2 {
+        put_declarators(alloc, tokens, nodes, names, row, all)
+    } else {
+        Ok(())
+    }
+}
+
+fn put_declarators(
+    alloc: Global,
+    tokens: &[Token],
+    nodes: &[Node],
+    names: &Names,
+    row: &[u32],
+    all: &mut Vec<Counted>,
+) -> Result<(), AllocError>
+    ensures { OnOk result (all.new.items ≡ all.old.items ++ gathered (declarator_gives tokens.now nodes.now names.now row.now) (length row.now)) }
+{
+    for at in 0..row.len() {
+        put_declarator(alloc, tokens, nodes, names, row, at, all)?;
+    }
+    Ok(())
+}
+
+fn put_declarator(
+    alloc: Global,
+    tokens: &[Token],
+    nodes: &[Node],
+    names: &Names,
+    row: &[u32],
+    at: usize,
+    all: &mut Vec<Counted>,
+) -> Result<(), AllocError>
+    ensures { OnOk result (all.new.items ≡ all.old.items ++ declarator_gives tokens.now nodes.now names.now row.now at) }
+{
+    let part = part_at(row, at);
+    if is_declared_unused(nodes, names, declarator_in(nodes, part)) {
+        let change = without_comma(tokens, nodes, at, row.len(), part as usize);
+        all.push(counted(alloc, nodes, part as usize, change)?)?;
+    }
+    Ok(())
+}
+
+fn declarator_in(nodes: &[Node], part: u32) -> u32
+    ensures { result ≡ declarator_in nodes.now part }
+{
+    match kind_at(nodes, part as usize) {
+        Kind::InitDeclarator => part_at(parts_at(nodes, part as usize), 0),
+        _ => part,
+    }
+}
+
+fn is_declared_unused(nodes: &[Node], names: &Names, declarator: u32) -> bool
+    ensures { result ≡ is_declared_unused nodes.now names.now declarator }
+{
+    let (first, last) = span_at(nodes, declarator as usize);
+    match declared_by(nodes, declarator).name {
+        Some(token) => has_no_use_outside(names, first, last, token as usize),
+        None => false,
+    }
+}
+
+// Each declaration without use in a block goes.
+#[derive(Drop)]
+struct DeclarationsGo<'a> {
+    tokens: &'a [Token],
+    nodes: &'a [Node],
+    names: &'a Names,
+    mains: &'a [u32],
+}
+
+impl Level for DeclarationsGo<'_> {
+    ghost gives = { λ l k. declarations_give l.tokens.now l.nodes.now l.names.now l.mains.now k };
+
+    fn give(&self, alloc: Global, node: usize, all: &mut Vec<Counted>) -> Result<(), AllocError> {
+        match kind_at(self.nodes, node) {
+            Kind::Compound => {
+                let parts = parts_at(self.nodes, node);
+                put_declarations(
+                    alloc,
+                    self.tokens,
+                    self.nodes,
+                    self.names,
+                    self.mains,
+                    parts,
+                    all,
+                )
+            }
+            _ => Ok(()),
+        }
+    }
+}
+
+fn put_declarations(
+    alloc: Global,
+    tokens: &[Token],
+    nodes: &[Node],
+    names: &Names,
+    mains: &[u32],
+    parts: &[u32],
+    all: &mut Vec<Counted>,
+) -> Result<(), AllocError>
+    ensures { OnOk result (all.new.items ≡ all.old.items ++ flat_map (λ p. declaration_by (node_at nodes.now p).kind tokens.now names.now mains.now (node_at nodes.now p)) parts.now) }
+{
+    for part in parts {
+        put_declaration(alloc, tokens, nodes, names, mains, *part as usize, all)?;
+    }
+    Ok(())
+}
+
+fn put_declaration(
+    alloc: Global,
+    tokens: &[Token],
+    nodes: &[Node],
+    names: &Names,
+    mains: &[u32],
+    part: usize,
+    all: &mut Vec<Counted>,
+) -> Result<(), AllocError>
+    ensures { OnOk result (all.new.items ≡ all.old.items ++ declaration_by (node_at nodes.now part).kind tokens.now names.now mains.now (node_at nodes.now part)) }
+{
+    match kind_at(nodes, part) {
+        Kind::Declaration => if is_unused(names, mains, nodes, part) {
+            let change = node_gone(tokens, nodes, part);
+            all.push(counted(alloc, nodes, part, change)?)?;
+        },
+        _ => {}
+    }
+    Ok(())
+}
+
+// Each enumerator and each member without use goes.
+#[derive(Drop)]
+struct PartsGo<'a> {
+    file: &'a [u8],
+    tokens: &'a [Token],
+    nodes: &'a [Node],
+    names: &'a Names,
+    uses: &'a [u32],
+}
+
+impl Level for PartsGo<'_> {
+    ghost gives = { λ l k. parts_give l.file.now l.tokens.now l.nodes.now l.names.now l.uses.now k };
+
+    fn give(&self, alloc: Global, node: usize, all: &mut Vec<Counted>) -> Result<(), AllocError> {
+        match kind_at(self.nodes, node) {
+            Kind::EnumContent => {
+                let row = parts_at(self.nodes, node);
+                put_enumerators(alloc, self.tokens, self.nodes, self.names, row, all)
+            }
+            Kind::MemberDeclaration => {
+                let row = behind_first(parts_at(self.nodes, node));
+                put_members(
+                    alloc,
+                    self.file,
+                    self.tokens,
+                    self.nodes,
+                    self.uses,
+                    node,
+                    row,
+                    all,
+                )
+            }
+            _ => Ok(()),
+        }
+    }
+}
+
+fn put_enumerators(
+    alloc: Global,
+    tokens: &[Token],
+    nodes: &[Node],
+    names: &Names,
+    row: &[u32],
+    all: &mut Vec<Counted>,
+) -> Result<(), AllocError>
+    ensures { OnOk result (all.new.items ≡ all.old.items ++ gathered (enumerator_gives tokens.now nodes.now names.now row.now) (length row.now)) }
+{
+    for at in 0..row.len() {
+        put_enumerator(alloc, tokens, nodes, names, row, at, all)?;
+    }
+    Ok(())
+}
+
+fn put_enumerator(
+    alloc: Global,
+    tokens: &[Token],
+    nodes: &[Node],
+    names: &Names,
+    row: &[u32],
+    at: usize,
+    all: &mut Vec<Counted>,
+) -> Result<(), AllocError>
+    ensures { OnOk result (all.new.items ≡ all.old.items ++ enumerator_gives tokens.now nodes.now names.now row.now at) }
+{
+    let part = part_at(row, at) as usize;
+    let (first, _) = span_at(nodes, part);
+    if is_empty(uses_of(names, first as usize)) {
+        let change = without_comma(tokens, nodes, at, row.len(), part);
+        all.push(counted(alloc, nodes, part, change)?)?;
+    }
+    Ok(())
+}
+
+fn is_empty(tokens: &[u32]) -> bool
+    ensures { result ≡ is_empty tokens.now }
+{
+    match tokens {
+        [] => true,
+        _ => false,
+    }
+}
+
+fn put_members(
+    alloc: Global,
+    file: &[u8],
+    tokens: &[Token],
+    nodes: &[Node],
+    uses: &[u32],
+    whole: usize,
+    row: &[u32],
+    all: &mut Vec<Counted>,
+) -> Result<(), AllocError>
+    ensures { OnOk result (all.new.items ≡ all.old.items ++ gathered (member_gives file.now tokens.now nodes.now uses.now (node_at nodes.now whole) row.now) (length row.now)) }
+{
+    for at in 0..row.len() {
+        put_member(alloc, file, tokens, nodes, uses, whole, row, at, all)?;
+    }
+    Ok(())
+}
+
+fn put_member(
+    alloc: Global,
+    file: &[u8],
+    tokens: &[Token],
+    nodes: &[Node],
+    uses: &[u32],
+    whole: usize,
+    row: &[u32],
+    at: usize,
+    all: &mut Vec<Counted>,
+) -> Result<(), AllocError>
+    ensures { OnOk result (all.new.items ≡ all.old.items ++ member_gives file.now tokens.now nodes.now uses.now (node_at nodes.now whole) row.now at) }
+{
+    let part = part_at(row, at);
+    if is_unused_member(file, tokens, uses, declared_by(nodes, part).name) {
+        let change = member_change(tokens, nodes, whole, at, row.len(), part as usize);
+        all.push(counted(alloc, nodes, part as usize, change)?)?;
+    }
+    Ok(())
+}
+
+fn member_change(
+    tokens: &[Token],
+    nodes: &[Node],
+    whole: usize,
+    at: usize,
+    count: usize,
+    member: usize,
+) -> Change
+    ensures { result ≡ member_change tokens.now (node_at nodes.now whole) at count (node_at nodes.now member) }
+{
+    if count <= 1 {
+        node_gone(tokens, nodes, whole)
+    } else {
+        without_comma(tokens, nodes, at, count, member)
+    }
+}
+
+fn is_unused_member(file: &[u8], tokens: &[Token], uses: &[u32], member: Option<u32>) -> bool
+    ensures { result ≡ is_unused_member file.now tokens.now uses.now member }
+{
+    match member {
+        Some(token) => !is_used_member(file, tokens, uses, token as usize),
+        None => false,
+    }
+}
+
+fn is_used_member(file: &[u8], tokens: &[Token], uses: &[u32], token: usize) -> bool
+    ensures { result ≡ is_used_member file.now tokens.now uses.now token }
+{
+    let name = spelling_at(file, tokens, token);
+    uses.iter()
+        .any(|used| spelling_at(file, tokens, *used as usize) == name)
+}
+
+fn member_uses(alloc: Global, nodes: &[Node]) -> Result<Vec<u32>, AllocError>
+    ensures { IfOk result (λ uses. uses.items ≡ member_uses nodes.now) }
+{
+    let mut uses = Vec::new(alloc);
+    for node in 0..nodes.len() {
+        let (_, last) = span_at(nodes, node);
+        put_member_use(kind_at(nodes, node), last, &mut uses)?;
+    }
+    Ok(uses)
+}
+
+fn put_member_use(kind: Kind, last: u32, uses: &mut Vec<u32>) -> Result<(), AllocError>
+    ensures { OnOk result (uses.new.items ≡ uses.old.items ++ member_use_by kind last) }
+{
+    match kind {
+        Kind::Member | Kind::PointerMember => uses.push(last)?,
+        _ => {}
+    }
+    Ok(())
+}
+
+fn parts_go(
+    alloc: Global,
+    file: &[u8],
+    tokens: &[Token],
+    nodes: &[Node],
+    names: &Names,
+) -> Result<Edits, AllocError>
+    ensures { IfOk result (λ edits. edits ≡ level_of (parts_give file.now tokens.now nodes.now names.now (member_uses nodes.now)) (length nodes.now)) }
+{
+    let uses = member_uses(alloc, nodes)?;
+    list(
+        alloc,
+        nodes.len(),
+        &PartsGo {
+            file,
+            tokens,
+            nodes,
+            names,
+            uses: uses.as_slice(),
+        },
+    )
+}
+
+fn levels(
+    alloc: Global,
+    file: &[u8],
+    tokens: &[Token],
+    nodes: &[Node],
+    items: &[u32],
+    names: &Names,
+    mains: &[u32],
+) -> Result<Menu, AllocError>
+    ensures { IfOk result (λ menu. menu ≡ u_levels file.now tokens.now nodes.now items.now names.now mains.now) }
+{
+    let count = nodes.len();
+    let mut levels = Vec::new(alloc);
+    let items_go = ItemsGo {
+        tokens,
+        nodes,
+        names,
+        mains,
+        items,
+    };
+    levels.push(in_turn(alloc, items.len(), &items_go)?)?;
+    let declarators_go = DeclaratorsGo {
+        tokens,
+        nodes,
+        names,
+    };
+    levels.push(list(alloc, count, &declarators_go)?)?;
+    let declarations_go = DeclarationsGo {
+        tokens,
+        nodes,
+        names,
+        mains,
+    };
+    levels.push(list(alloc, count, &declarations_go)?)?;
+    levels.push(parts_go(alloc, file, tokens, nodes, names)?)?;
+    Ok(Menu::new(levels, Kept::nothing(alloc)))
+}
+
+/// What pass u offers for a file's unit with these names: at level 0 each external declaration goes that declares nothing with a use outside
+/// it, and not main; at level 1 each declarator of several, whose name has no use outside it, with its initialiser and its comma; at level 2
+/// each declaration in a block as at level 0; at level 3 each enumerator and each member without use with its comma, and a member alone with
+/// its whole declaration. A member is used where any member of its name is. The error is want of memory.
+pub fn unused(alloc: Global, file: &[u8], unit: &Unit, names: &Names) -> Result<Menu, AllocError>
+    ensures { IfOk result (λ menu. menu ≡ u_offering file.now unit.now.tokens.list.items unit.now.nodes unit.now.items names.now) }
+{
+    let mains = reserved_of(alloc, file, unit, false)?;
+    let mains = mains.as_slice();
+    let tokens = unit.tokens.list.as_slice();
+    let nodes = unit.nodes.as_slice();
+    let items = unit.items.as_slice();
+    levels(alloc, file, tokens, nodes, items, names, mains)
+}
