@@ -1,2 +1,5 @@
 pub mod Giving
 pub mod Free
+pub mod Own
+pub mod Hits
+pub mod Taken

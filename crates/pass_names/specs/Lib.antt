@@ -3,3 +3,4 @@ pub mod Reserved
 pub mod Unused
 pub mod Short
 pub mod Renamed
+pub mod Laws

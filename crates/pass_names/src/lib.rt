@@ -5,11 +5,13 @@
 //! `cr_tokens`.
 #![tactic(auto)]
 
+mod laws;
 mod reach;
 mod removal;
 mod rename;
 mod reserved;
 mod short;
 
+pub use laws::{a_name_is_free, numbers_have_own_names};
 pub use removal::unused;
 pub use rename::renamed;
