@@ -1,10 +1,12 @@
 #!/usr/bin/env bash
 # Prints how many epochs of 256 rejected positions a second cr_pool::Bench::epoch does with 1 and with 4 workers, and how long an
-# epoch of no position takes, which is what starting and joining the threads costs. The judges say no at once; the file has 200 lines.
+# epoch of no position takes, which is what starting and joining the threads costs. The judges say no at once; the file has 200 lines,
+# and the bench forgets its verdicts before each epoch, so each position is tried.
 # It proves and builds a small timer in a folder of its own, which takes some minutes. Run it by hand.
 set -eu
 . "$(dirname "${BASH_SOURCE[0]}")/timer.sh"
-begin_timer cr_tokens cr_outside cr_cursor cr_rows cr_core cr_claims cr_pool cr_edit cr_levels cr_brackets pass_text cr_passes
+begin_timer cr_tokens cr_outside cr_cursor cr_rows cr_core cr_claims cr_pool cr_ints cr_syntax cr_machine cr_listing cr_exprs cr_decls cr_analysis \
+  cr_printer cr_edit cr_levels cr_brackets pass_text pass_exprs pass_stmts cr_passes
 mkdir -p specs
 touch specs/Lib.antt
 cat >src/main.rt <<'RT'
@@ -71,6 +73,7 @@ fn rejected<R: Threads + Sync>(rt: &R, alloc: Global, file: &[u8], len: u64, wor
     }
     let mut ended = 0;
     for _ in 0..times {
+        bench.forget();
         let job = Job { passes: &passes, prep: &prep, law: &TokenLaw, question: &question, name: "t.c", file, size, start: count - len, len, workers };
         if bench.epoch(rt, alloc, &job) == EpochEnd::NoneOf(len) && ended < times {
             ended += 1;
