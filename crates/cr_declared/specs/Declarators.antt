@@ -147,6 +147,20 @@ whole_object complete (plain of c v) = whole_leaf complete of c v
 whole_object complete (pointer c v t) = complete (pointer c v t)
 whole_object complete (array n t) = n == 0 || complete (array n t)
 
+-- which declarations are judged so: those of members, and those that define an object, also tentatively (6.9.2p3, and own for external
+-- linkage); one with `extern` and without initialiser defines none
+abbrev pub is_defined : Option Class → Bool → Bool
+is_defined (Some class.Typedef) initialised = false
+is_defined (Some class.Extern) initialised = initialised
+is_defined other initialised = true
+
+abbrev pub is_object_of : Place → Option Class → Bool → Bool → Bool
+is_object_of place.Member class function initialised = true
+is_object_of place.File class function initialised = not function && is_defined class initialised
+is_object_of place.Block class function initialised = not function && is_defined class initialised
+is_object_of place.Clause class function initialised = not function && is_defined class initialised
+is_object_of other class function initialised = false
+
 -- ---- sizes (K7)
 
 abbrev pub cells_fault_of : Declarator → Layout → Option ℕ

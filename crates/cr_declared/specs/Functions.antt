@@ -1,5 +1,5 @@
 -- Parameters, the types of functions, and those of the library (C11 6.7.6.3, 7.21.6.3, 7.21.7.8, 7.22.4.1, 7.22.4.4).
-use Rattle.std.specs.Prelude.{◌≡◌, ℕ, Bool, true, false, not, ◌&&◌, Option, Some, None, List, [], ◌∷◌, codes, if◌then◌else◌}
+use Rattle.std.specs.Prelude.{ℕ, Bool, true, false, not, ◌&&◌, Option, Some, None, List, [], ◌∷◌, codes, map, if◌then◌else◌}
 use Rattle.std.specs.Str.{bytes_eq}
 use Rattle.cr_ints.specs.declared.kind.IntKind.{IntKind}
 use Rattle.cr_ints.specs.declared.kind.IntKind.TheVariants as kind
@@ -7,7 +7,7 @@ use Rattle.cr_syntax.specs.declared.typed.CType.{CType}
 use Rattle.cr_syntax.specs.declared.typed.CType.TheVariants as type
 use Rattle.cr_types.specs.declared.shape.Shape.{Shape}
 use Rattle.cr_types.specs.Types.{Qualified, plain, pointer, array, type_at}
-use Rattle.cr_types.specs.Relations.{are_compatible, same, AgreeInParameters}
+use Rattle.cr_types.specs.Relations.{are_compatible, bare, same}
 use Rattle.cr_declared.specs.declared.functions.Signature.{Signature}
 use Rattle.cr_declared.specs.declared.functions.Library.{Library}
 use Rattle.cr_declared.specs.declared.functions.Library.TheVariants.{Printf, Putchar, Abort, Exit}
@@ -18,11 +18,31 @@ adjusted_type (plain of c v) = plain of c v
 adjusted_type (pointer c v t) = pointer c v t
 adjusted_type (array n t) = pointer false false t
 
--- K9: the types of two functions are compatible (6.7.6.3p15). An empty list in a definition has no parameters (own).
-pub record FunctionsAgree (shapes : List Shape) (left : Signature) (left_parameters : List ℕ) (right : Signature) (right_parameters : List ℕ) : Type 0 where
-  pub variadic : same left.variadic right.variadic ≡ true
-  pub result : are_compatible (type_at shapes left.result) (type_at shapes right.result) ≡ true
-  pub parameters : AgreeInParameters shapes left_parameters right_parameters
+-- the parameters of two functions: as many, and compatible without their own qualifiers (6.7.6.3p15)
+abbrev pub parameters_agree : List Qualified → List Qualified → Bool
+parameters_agree [] [] = true
+parameters_agree (t ∷ ts) (u ∷ us) = are_compatible (bare t) (bare u) && parameters_agree ts us
+parameters_agree [] (u ∷ us) = false
+parameters_agree (t ∷ ts) [] = false
+
+-- the type of a function: its result, whether `...` stands behind its parameters, and these, adjusted. An empty list in a definition
+-- has no parameters (own).
+pub record Prototype : Type 0 where
+  pub result : Qualified
+  pub variadic : Bool
+  pub parameters : List Qualified
+
+abbrev pub prototype_at : List Shape → Signature → List ℕ → Prototype
+prototype_at shapes signature parameters = record {
+  result = type_at shapes signature.result;
+  variadic = signature.variadic;
+  parameters = map (type_at shapes) parameters;
+}
+
+-- K9: the types of two functions are compatible (6.7.6.3p15)
+abbrev pub functions_agree : Prototype → Prototype → Bool
+functions_agree one other =
+    same one.variadic other.variadic && (are_compatible one.result other.result && parameters_agree one.parameters other.parameters)
 
 -- ---- the library
 
@@ -85,8 +105,8 @@ takes_none [] = true
 takes_none (t ∷ ts) = false
 
 -- K9: `int printf(const char *, ...)`, `int putchar(int)`, `void abort(void)`, `void exit(int)`
-abbrev pub library_type : Library → Qualified → Bool → List Qualified → Bool
-library_type Printf result variadic parameters = is_plain_int result && (variadic && takes_one true parameters)
-library_type Putchar result variadic parameters = is_plain_int result && (not variadic && takes_one false parameters)
-library_type Abort result variadic parameters = is_plain_void result && (not variadic && takes_none parameters)
-library_type Exit result variadic parameters = is_plain_void result && (not variadic && takes_one false parameters)
+abbrev pub library_type : Library → Prototype → Bool
+library_type Printf t = is_plain_int t.result && (t.variadic && takes_one true t.parameters)
+library_type Putchar t = is_plain_int t.result && (not t.variadic && takes_one false t.parameters)
+library_type Abort t = is_plain_void t.result && (not t.variadic && takes_none t.parameters)
+library_type Exit t = is_plain_void t.result && (not t.variadic && takes_one false t.parameters)

@@ -1,5 +1,6 @@
 -- Structures, enumerations and their tags (C11 6.7.2.1 to 6.7.2.3).
-use Rattle.std.specs.Prelude.{ℕ, ℤ, pos, int_lt, Bool, true, false, not, ◌&&◌, ◌||◌, Option, Some, None, List, fold, if◌then◌else◌}
+use Rattle.std.specs.Prelude.{ℕ, ℤ, pos, int_lt, nat_lt, Bool, true, false, not, ◌&&◌, ◌||◌, Option, Some, None, List, fold, if◌then◌else◌}
+use Rattle.std.specs.List.{list_any}
 use Rattle.std.specs.Option.{is_some}
 use Rattle.cr_constants.specs.Operators.{enumerator_of, next_enumerator_of}
 use Rattle.cr_ints.specs.declared.kind.IntKind.{IntKind}
@@ -8,20 +9,22 @@ use Rattle.cr_syntax.specs.declared.node.Kind.{Kind}
 use Rattle.cr_syntax.specs.declared.node.Kind.TheVariants.{EnumContent, EnumTag}
 use Rattle.cr_syntax.specs.declared.typed.CType.{CType}
 use Rattle.cr_syntax.specs.declared.typed.CType.TheVariants as type
-use Rattle.cr_types.specs.declared.shape.Shape.{Shape}
 use Rattle.cr_types.specs.declared.layout.Layout.{Layout}
-use Rattle.cr_types.specs.Types.{Qualified, plain, pointer, array, type_at}
+use Rattle.cr_types.specs.Types.{Qualified, plain, pointer, array}
 use Rattle.cr_types.specs.Layouts.{layout_of, with_member, nothing, closed}
+use Rattle.cr_declared.specs.Declarators.{most_cells}
 use Rattle.cr_declared.specs.declared.enumerators.Enumerated.{Enumerated}
 use Rattle.cr_declared.specs.declared.enumerators.Given.{Given}
 use Rattle.cr_declared.specs.declared.enumerators.Given.TheVariants as given
 
 -- ---- structures
 
--- the members one behind another (6.7.2.1p15), and the whole (p17)
-abbrev pub laid_out : List Shape → List Layout → List ℕ → Layout
-laid_out shapes layouts members =
-    closed (fold (λ before row. with_member before (layout_of layouts (type_at shapes row))) nothing members)
+-- members of these types one behind another (6.7.2.1p15), and the whole (p17)
+abbrev pub members_of : List Layout → List Qualified → Layout
+members_of layouts members = fold (λ before t. with_member before (layout_of layouts t)) nothing members
+
+abbrev pub laid_out : List Layout → List Qualified → Layout
+laid_out layouts members = closed (members_of layouts members)
 
 -- a structure that isn't modifiable for a constant member, also in a member or an element of one (6.3.2.1p1)
 abbrev pub is_constant_leaf : (ℕ → Bool) → CType → Bool
@@ -33,8 +36,12 @@ holds_constant fixed (plain of c v) = c || is_constant_leaf fixed of
 holds_constant fixed (pointer c v t) = c
 holds_constant fixed (array n t) = holds_constant fixed t
 
-abbrev pub has_constant : List Shape → (ℕ → Bool) → List ℕ → Bool
-has_constant shapes fixed members = fold (λ so row. so || holds_constant fixed (type_at shapes row)) false members
+abbrev pub has_constant : (ℕ → Bool) → List Qualified → Bool
+has_constant fixed members = list_any (holds_constant fixed) members
+
+-- K7: no more cells than an array may have
+abbrev pub is_too_large_of : Layout → Bool
+is_too_large_of layout = nat_lt most_cells layout.cells
 
 -- ---- enumerations (6.7.2.2)
 

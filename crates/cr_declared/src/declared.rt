@@ -2,7 +2,7 @@ ghost use Rattle.std.specs.Prelude.{◌≡◌, ◌<◌, ◌||◌, IfOk, OnOk, le
 ghost use Rattle.cr_types.specs.Types.{Qualified, type_at, type_by, type_of, plain, pointer, array, IsRow, Grows, unknown};
 ghost use Rattle.cr_types.specs.Relations.{is_complete_at};
 ghost use Rattle.cr_types.specs.Layouts.{layout_of};
-ghost use Rattle.cr_declared.specs.Declarators.{hole, is_hole_type, is_unknown, is_refused, declared_type, are_whole, whole_elements, whole_object, cells_fault_of, may_return, is_declared, function_fault_of, may_be_open, open_fault_of};
+ghost use Rattle.cr_declared.specs.Declarators.{hole, is_hole_type, is_unknown, is_refused, declared_type, are_whole, whole_elements, whole_object, is_object_of, is_defined, cells_fault_of, may_return, is_declared, function_fault_of, may_be_open, open_fault_of};
 
 use crate::declarator::{Declarator, overfull};
 use crate::words::Class;
@@ -147,6 +147,30 @@ pub fn is_whole_object(table: &Table, nodes: &[Node], at: u32, row: u32) -> bool
         CType::Unknown => true,
         CType::Array(_, 0) => true,
         _ => table.is_complete(nodes, at, row),
+    }
+}
+
+/// Whether a declaration defines an object, or declares a member, so that its type has to be complete (K6). `function` is whether it
+/// declares a function, and `initialised` whether it has an initialiser. Parameters are judged in the definition of their function.
+pub fn is_object(place: Place, class: Option<Class>, function: bool, initialised: bool) -> bool
+    ensures { result ≡ is_object_of place class function initialised }
+{
+    match place {
+        Place::Member => true,
+        Place::File | Place::Block | Place::Clause => {
+            !function && is_defined(class, initialised)
+        }
+        Place::Definition | Place::Parameter | Place::Name => false,
+    }
+}
+
+fn is_defined(class: Option<Class>, initialised: bool) -> bool
+    ensures { result ≡ is_defined class initialised }
+{
+    match class {
+        Some(Class::Typedef) => false,
+        Some(Class::Extern) => initialised,
+        _ => true,
     }
 }
 

@@ -1,7 +1,7 @@
-ghost use Rattle.std.specs.Prelude.{◌≡◌, ◌<◌, ◌↔◌, ◌&&◌, IsTrue, not, length, map};
+ghost use Rattle.std.specs.Prelude.{◌≡◌, ◌<◌, ◌&&◌, ◌↔◌, IsTrue, length, map, not};
 ghost use Rattle.cr_types.specs.Types.{type_at};
-ghost use Rattle.cr_types.specs.Relations.{AreRows, same};
-ghost use Rattle.cr_declared.specs.Functions.{FunctionsAgree, library_of, takes_one, is_format, is_constant_char, is_int, is_plain_int, is_plain_void, library_type};
+ghost use Rattle.cr_types.specs.Relations.{AreRows, are_compatible, bare, same, AgreeInParameters};
+ghost use Rattle.cr_declared.specs.Functions.{functions_agree, parameters_agree, prototype_at, library_of, takes_one, is_format, is_constant_char, is_int, is_plain_int, is_plain_void, library_type};
 
 use cr_ints::IntKind;
 use cr_syntax::CType;
@@ -28,11 +28,19 @@ pub fn agree(
     requires left_rows { AreRows table.now left_parameters.now }
     requires right { right.result < length table.now }
     requires right_rows { AreRows table.now right_parameters.now }
-    ensures { IsTrue result ↔ FunctionsAgree table.now left left_parameters.now right right_parameters.now }
+    ensures { result ≡ functions_agree (prototype_at table.now left left_parameters.now) (prototype_at table.now right right_parameters.now) }
 {
     left.variadic == right.variadic
         && table.are_compatible(left.result, right.result)
-        && table.agree_in_parameters(left_parameters, right_parameters)
+        && parameters_agree(table, left_parameters, right_parameters)
+}
+
+fn parameters_agree(table: &Table, left: &[u32], right: &[u32]) -> bool
+    requires left { AreRows table.now left.now }
+    requires right { AreRows table.now right.now }
+    ensures { result ≡ parameters_agree (map (type_at table.now) left.now) (map (type_at table.now) right.now) }
+{
+    table.agree_in_parameters(left, right)
 }
 
 /// A function of the library that the subset has.
@@ -70,7 +78,7 @@ pub fn has_library_type(
 ) -> bool
     requires result { signature.result < length table.now }
     requires rows { AreRows table.now parameters.now }
-    ensures { result ≡ library_type library (type_at table.now signature.result) signature.variadic (map (type_at table.now) parameters.now) }
+    ensures { result ≡ library_type library (prototype_at table.now signature parameters.now) }
 {
     match library {
         Library::Printf => {

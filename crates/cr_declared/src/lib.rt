@@ -23,7 +23,7 @@ pub use declarator::{
     Arrays, BARE, Declarator, MOST_CELLS, Size, array, function, pointer, size_of,
 };
 pub use declared::{
-    arrayed, cells_fault, declare, function_fault, has_whole_elements, hole, is_hole,
+    arrayed, cells_fault, declare, function_fault, has_whole_elements, hole, is_hole, is_object,
     is_whole_object, open_fault, pointed,
 };
 pub use enumerators::{Enumerated, Given, enumeration_kind, enumerator_by};
@@ -36,4 +36,4 @@ pub use parameters::adjusted;
 pub use standing::{inline_fault, storage_fault, volatile_fault};
 pub use structures::{Structure, is_too_large, structure_of};
 pub use tags::tag_agrees;
-pub use words::{Base, Class, Length, Sign, Specified, Storage, joined, specifier};
+pub use words::{Base, Class, Length, Sign, Specified, Storage, UNSAID, joined, specifier};

@@ -1,9 +1,7 @@
-ghost use Rattle.std.specs.Prelude.{◌≡◌, ◌<◌, ◌||◌, false, fold, length, nat_lt, slice_index_or};
+ghost use Rattle.std.specs.Prelude.{◌≡◌, ◌<◌, ◌||◌, false, length, map, slice_index_or};
 ghost use Rattle.cr_types.specs.Types.{type_at};
 ghost use Rattle.cr_types.specs.Relations.{AreRows};
-ghost use Rattle.cr_types.specs.Layouts.{layout_of, with_member, nothing, closed};
-ghost use Rattle.cr_declared.specs.Declarators.{most_cells};
-ghost use Rattle.cr_declared.specs.Structures.{is_constant_leaf, holds_constant, laid_out, has_constant};
+ghost use Rattle.cr_declared.specs.Structures.{is_constant_leaf, holds_constant, members_of, laid_out, has_constant, is_too_large_of};
 
 use crate::declarator::MOST_CELLS;
 use cr_syntax::CType;
@@ -21,8 +19,8 @@ pub struct Structure {
 /// at its node.
 pub fn structure_of(table: &Table, layouts: &[Layout], fixed: &[bool], members: &[u32]) -> Structure
     requires { AreRows table.now members.now }
-    ensures layout { result.layout ≡ laid_out table.now layouts.now members.now }
-    ensures fixed { result.fixed ≡ has_constant table.now (λ n. slice_index_or fixed.now n false) members.now }
+    ensures layout { result.layout ≡ laid_out layouts.now (map (type_at table.now) members.now) }
+    ensures fixed { result.fixed ≡ has_constant (λ n. slice_index_or fixed.now n false) (map (type_at table.now) members.now) }
 {
     Structure {
         layout: closed(members_of(table, layouts, members)),
@@ -32,7 +30,7 @@ pub fn structure_of(table: &Table, layouts: &[Layout], fixed: &[bool], members: 
 
 fn members_of(table: &Table, layouts: &[Layout], members: &[u32]) -> Layout
     requires { AreRows table.now members.now }
-    ensures { result ≡ fold (λ before row. with_member before (layout_of layouts.now (type_at table.now row))) nothing members.now }
+    ensures { result ≡ members_of layouts.now (map (type_at table.now) members.now) }
 {
     let mut before = NOTHING;
     for row in members {
@@ -43,7 +41,7 @@ fn members_of(table: &Table, layouts: &[Layout], members: &[u32]) -> Layout
 
 fn has_constant(table: &Table, fixed: &[bool], members: &[u32]) -> bool
     requires { AreRows table.now members.now }
-    ensures { result ≡ has_constant table.now (λ n. slice_index_or fixed.now n false) members.now }
+    ensures { result ≡ has_constant (λ n. slice_index_or fixed.now n false) (map (type_at table.now) members.now) }
 {
     let mut so = false;
     for row in members {
@@ -85,7 +83,7 @@ fn flag_at(flags: &[bool], at: usize) -> bool
 
 /// Whether a structure has more cells than one may have (K7).
 pub fn is_too_large(layout: Layout) -> bool
-    ensures { result ≡ nat_lt most_cells layout.cells }
+    ensures { result ≡ is_too_large_of layout }
 {
     layout.cells > MOST_CELLS
 }

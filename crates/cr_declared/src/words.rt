@@ -80,8 +80,8 @@ pub struct Specified {
     pub declares: bool,
 }
 
-// What no specifiers say.
-const NOTHING: Specified = Specified {
+/// What no specifiers say.
+pub const UNSAID: Specified = Specified {
     base: Base::Unsaid,
     length: Length::Unsaid,
     sign: Sign::Unsaid,
@@ -104,15 +104,15 @@ pub fn specifier(kind: Kind, token: u32, declares: bool) -> Specified
         Kind::Register => stored(Class::Register, token),
         Kind::Inline => Specified {
             inline: Some(token),
-            ..NOTHING
+            ..UNSAID
         },
         Kind::Const => Specified {
             constant: true,
-            ..NOTHING
+            ..UNSAID
         },
         Kind::Volatile => Specified {
             volatile: Some(token),
-            ..NOTHING
+            ..UNSAID
         },
         Kind::Short => sized(Length::Short),
         Kind::Long => sized(Length::Long),
@@ -121,7 +121,7 @@ pub fn specifier(kind: Kind, token: u32, declares: bool) -> Specified
         kind => Specified {
             base: base_of(kind),
             declares,
-            ..NOTHING
+            ..UNSAID
         },
     }
 }
@@ -135,20 +135,20 @@ fn stored(class: Class, token: u32) -> Specified
             token,
             second: None,
         }),
-        ..NOTHING
+        ..UNSAID
     }
 }
 
 fn sized(length: Length) -> Specified
     ensures { result ≡ record nothing { length = length } }
 {
-    Specified { length, ..NOTHING }
+    Specified { length, ..UNSAID }
 }
 
 fn signed(sign: Sign) -> Specified
     ensures { result ≡ record nothing { sign = sign } }
 {
-    Specified { sign, ..NOTHING }
+    Specified { sign, ..UNSAID }
 }
 
 fn base_of(kind: Kind) -> Base
