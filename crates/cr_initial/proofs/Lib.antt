@@ -1,0 +1,7 @@
+pub mod Rows
+pub mod Lists
+pub mod OnePlan
+pub mod Inside
+pub mod Cells
+pub mod Walks
+pub mod Firsts

@@ -1,0 +1,40 @@
+-- What holds of plans.
+use Rattle.std.specs.Prelude.{◌≡◌, ℕ, ◌+◌, ◌*◌, ◌≤◌, List, [], ◌∷◌, Bool, sum_by, slice_index_or}
+use Rattle.cr_syntax.specs.declared.typed.CType.TheVariants.{Struct}
+use Rattle.cr_types.specs.Types.{Qualified, plain, array}
+use Rattle.cr_types.specs.Layouts.{nothing}
+use Rattle.cr_initial.specs.declared.source.Source.{Source}
+use Rattle.cr_initial.specs.Known.{Known, known_of}
+use Rattle.cr_initial.specs.Places.{Place, laid, types_in, types_of_object}
+use Rattle.cr_initial.specs.Plans.{Entry, put, excess, Fills, IsPlan}
+
+-- an initialiser has one plan
+abbrev pub OnePlan : Type 0
+OnePlan = (k : Known) (type : Qualified) (above node : ℕ) (xs ys : List Entry) → IsPlan k type above node xs → IsPlan k type above node ys → xs ≡ ys
+
+-- places between two cells, each behind the one before
+abbrev pub Lie : Known → ℕ → List Place → ℕ → Type 0
+Lie k low [] high = low ≤ high
+Lie k low (p ∷ ps) high = (low ≤ p.cell) × Lie k (p.cell + k.cells p.type) ps high
+
+-- what is put, likewise
+abbrev pub ArePacked : Known → ℕ → List Entry → ℕ → Type 0
+ArePacked k low [] high = low ≤ high
+ArePacked k low (put p i b ∷ xs) high = (low ≤ p.cell) × ArePacked k (p.cell + k.cells p.type) xs high
+ArePacked k low (excess b ∷ xs) high = ArePacked k low xs high
+
+-- the elements of each array lie in its cells, and so do the members of each structure
+pub record IsLaidOut (k : Known) : Type 0 where
+  pub arrays : (n : ℕ) (t : Qualified) → k.cells (array n t) ≡ n * k.cells t
+  pub structures : (node : ℕ) (c v : Bool) → sum_by k.cells (k.members node) ≤ k.cells (plain (Struct node) c v)
+
+-- so it is where each structure's layout has the cells of its members
+abbrev pub CellsAreLaidOut : Type 0
+CellsAreLaidOut = (s : Source)
+    → ((node : ℕ) → sum_by (known_of s).cells ((known_of s).members node) ≤ (slice_index_or s.layouts.now node nothing).cells) → IsLaidOut (known_of s)
+
+-- what an initialiser puts rises, inside the object: no cell is initialised twice, and none outside the object. So it is of a list in an
+-- object of known size; of one of unknown size, it lies in as many elements as the list asks for
+abbrev pub StaysInside : Type 0
+StaysInside = (k : Known) (ps : List Place) (b : ℕ) (is : List ℕ) (ys : List Entry) (low high : ℕ)
+    → IsLaidOut k → Lie k low ps high → Fills k ps b is [] ys → ArePacked k low ys high
