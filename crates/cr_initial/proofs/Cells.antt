@@ -1,5 +1,5 @@
 -- The cells of types, where each structure has those of its members.
-use Rattle.std.proofs.Common.{◌≡◌, ℕ, ◌*◌, ◌≤◌, sum_by, slice_index_or, arith}
+use Rattle.std.proofs.Common.{ℕ, ◌≤◌, sum_by, slice_index_or, arith}
 use Rattle.std.proofs.Math.Nat.{mul_assoc}
 use Rattle.cr_types.specs.Layouts.{count_of, element_of, single_of, nothing}
 use Rattle.cr_initial.specs.declared.source.Source.{Source}

@@ -1,10 +1,10 @@
 -- The first fault is the least of all breaks.
-use Rattle.std.proofs.Common.{◌≡◌, ℕ, ◌==◌, ◌&&◌, ◌||◌, List, [], ◌∷◌, Bool, true, false, cond, Option, None, Some, ◌⊎◌, inl, inr, refl, sym, ap, subst, ◌∙◌, arith, ltb}
+use Rattle.std.proofs.Common.{◌≡◌, ℕ, ◌==◌, ◌&&◌, ◌||◌, List, [], ◌∷◌, Bool, true, false, cond, Option, None, Some, ◌⊎◌, inl, inr, refl, subst, arith, ltb}
 use Rattle.std.proofs.lemmas.Bool.Decides.{nat_tests}
 use Rattle.cr_initial.specs.declared.fault.Break.{Break}
 use Rattle.cr_initial.specs.Known.{Known}
 use Rattle.cr_initial.specs.Plans.{Entry, put, excess}
-use Rattle.cr_initial.specs.Faults.{broken, is_before, lesser_of, lesser, is_badly_typed, is_bad_literal, is_varying, fault_of, first_fault}
+use Rattle.cr_initial.specs.Faults.{broken, is_before, lesser, is_badly_typed, is_bad_literal, is_varying, fault_of, first_fault}
 use Rattle.cr_initial.specs.Breaks.{faults_of, IsAmong, Breaks, IsLeast}
 
 abbrev before : ℕ → ℕ → ℕ → ℕ → Bool

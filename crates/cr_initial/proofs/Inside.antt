@@ -1,5 +1,5 @@
 -- What a list puts stays inside the places that it has.
-use Rattle.std.proofs.Common.{◌≡◌, ℕ, zero, suc, ◌+◌, ◌*◌, ◌≤◌, Bool, true, false, cond, List, [], ◌∷◌, ◌++◌, sum_by, replicate, refl, sym, ap, subst, ◌∙◌, arith}
+use Rattle.std.proofs.Common.{◌≡◌, ℕ, ◌+◌, ◌≤◌, Bool, true, false, cond, List, [], ◌∷◌, ◌++◌, sum_by, length, replicate, refl, sym, ap, subst, ◌∙◌, arith}
 use Rattle.std.proofs.lemmas.List.{append_assoc, append-nil}
 use Rattle.std.proofs.lemmas.List.Folds.{sum_by-replicate}
 use Rattle.std.proofs.lemmas.List.Sums.{sum_by-cons}
@@ -7,8 +7,8 @@ use Rattle.cr_syntax.specs.declared.typed.CType.{CType}
 use Rattle.cr_syntax.specs.declared.typed.CType.TheVariants.{Struct}
 use Rattle.cr_types.specs.Types.{Qualified, plain, pointer, array}
 use Rattle.cr_initial.specs.Known.{Known}
-use Rattle.cr_initial.specs.Places.{Place, laid, types_by, types_in, types_within, takes, is_lost, opens, encloses}
-use Rattle.cr_initial.specs.Plans.{Entry, put, excess, Fills, ends, exceeds, braces, whole, elided, loses}
+use Rattle.cr_initial.specs.Places.{Place, laid, types_by, types_in, types_within, types_of_object, sized, encloses}
+use Rattle.cr_initial.specs.Plans.{Entry, put, excess, Fills, ends, exceeds, braces, whole, elided, loses, IsPlan, by_expression, by_list, is_open}
 use Rattle.cr_initial.specs.Laws.{Lie, ArePacked, IsLaidOut}
 
 lie_wider : (k : Known) (low lower high higher : ℕ) (ps : List Place) → lower ≤ low → high ≤ higher → Lie k low ps high → Lie k lower ps higher
@@ -97,3 +97,29 @@ pub stays_inside : (k : Known) (ps : List Place) (b : ℕ) (is : List ℕ) (ys :
     → IsLaidOut k → Lie k low ps high → Fills k ps b is [] ys → ArePacked k low ys high
 stays_inside k ps b is ys low high h l f =
     let a = adds k ps b is [] ys low high h l f in subst (λ ws. ArePacked k low ws high) (sym a.is) a.packed
+
+-- ---- a whole object
+
+same_size : (t : Qualified) (most : ℕ) → is_open t ≡ false → sized t most ≡ t
+same_size (plain of c v) most e = refl
+same_size (pointer c v t) most e = refl
+same_size (array n t) most e = ap (λ b. array (cond b most n) t) e
+
+object_by : (k : Known) → IsLaidOut k → (t : Qualified) (most : ℕ) (own : Bool) → is_open t ≡ false
+    → Lie k 0 (laid k 0 (cond own (t ∷ []) (types_in k (sized t most)))) (k.cells t)
+unfolding laid
+object_by k h t most true e = (omega arith, omega arith)
+object_by k h t most false e =
+    subst (λ u. Lie k 0 (laid k 0 (types_in k u)) (k.cells t)) (sym (same_size t most e))
+    (lie_wider k 0 0 (0 + k.cells t) (k.cells t) (laid k 0 (types_in k t)) (omega arith) (omega arith) (parts_lie k h 0 t))
+
+object_lies : (k : Known) → IsLaidOut k → (t : Qualified) (list : List ℕ) → is_open t ≡ false → Lie k 0 (laid k 0 (types_of_object k t list)) (k.cells t)
+unfolding types_of_object
+object_lies k h t list e = object_by k h t (length list) (encloses k t list) e
+
+pub plan_stays_inside : (k : Known) (type : Qualified) (above node : ℕ) (xs : List Entry)
+    → IsLaidOut k → is_open type ≡ false → IsPlan k type above node xs → ArePacked k 0 xs (k.cells type)
+plan_stays_inside k type above node xs h e (by_expression o f) = subst (λ ws. ArePacked k 0 ws (k.cells type)) (sym f) (omega arith, omega arith)
+plan_stays_inside k type above node xs h e (by_list o f) =
+    stays_inside k (laid k 0 (types_of_object k type (k.initialisers node))) node (k.initialisers node) xs 0 (k.cells type) h
+    (object_lies k h type (k.initialisers node) e) f

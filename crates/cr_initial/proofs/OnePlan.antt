@@ -1,9 +1,9 @@
 -- An initialiser has one plan.
-use Rattle.std.proofs.Common.{◌≡◌, ℕ, List, [], ◌∷◌, ◌++◌, refl, sym, ap, subst, ◌∙◌, true, false}
+use Rattle.std.proofs.Common.{◌≡◌, ℕ, List, [], ◌∷◌, ◌++◌, refl, sym, subst, ◌∙◌}
 use Rattle.cr_types.specs.Types.{Qualified}
 use Rattle.cr_initial.specs.Known.{Known}
-use Rattle.cr_initial.specs.Places.{Place, laid, types_in, types_within, types_of_object, takes, is_lost, opens}
-use Rattle.cr_initial.specs.Plans.{Entry, put, excess, Fills, ends, exceeds, braces, whole, elided, loses, IsPlan, by_expression, by_list}
+use Rattle.cr_initial.specs.Places.{Place, laid, types_in, types_within, types_of_object}
+use Rattle.cr_initial.specs.Plans.{Entry, put, Fills, ends, exceeds, braces, whole, elided, loses, IsPlan, by_expression, by_list}
 
 pub one_filling : (k : Known) (ps : List Place) (b : ℕ) (is : List ℕ) (xs ys zs : List Entry) → Fills k ps b is xs ys → Fills k ps b is xs zs → ys ≡ zs
 one_filling k ps b is xs ys zs (ends) (ends) = refl

@@ -1,5 +1,5 @@
 -- Rows that a table doesn't have.
-use Rattle.std.proofs.Common.{◌≡◌, ℕ, zero, suc, ◌+◌, ◌<◌, ◌≤◌, List, [], ◌∷◌, ◌++◌, length, fold, get_or, slice_index_or, refl, arith, length-append}
+use Rattle.std.proofs.Common.{◌≡◌, ℕ, ◌+◌, ◌≤◌, List, [], ◌∷◌, length, fold, slice_index_or, arith, length-append}
 use Rattle.std.proofs.lemmas.List.{get_or_past}
 use Rattle.cr_types.specs.declared.shape.Shape.{Shape}
 use Rattle.cr_types.specs.Types.{Qualified, unknown, type_of, with_row, types_of, type_at}

@@ -1,12 +1,12 @@
 -- What holds of plans.
-use Rattle.std.specs.Prelude.{◌≡◌, ℕ, ◌+◌, ◌*◌, ◌≤◌, List, [], ◌∷◌, Bool, sum_by, slice_index_or}
+use Rattle.std.specs.Prelude.{◌≡◌, ℕ, ◌+◌, ◌*◌, ◌≤◌, List, [], ◌∷◌, Bool, false, sum_by, slice_index_or}
 use Rattle.cr_syntax.specs.declared.typed.CType.TheVariants.{Struct}
 use Rattle.cr_types.specs.Types.{Qualified, plain, array}
 use Rattle.cr_types.specs.Layouts.{nothing}
 use Rattle.cr_initial.specs.declared.source.Source.{Source}
 use Rattle.cr_initial.specs.Known.{Known, known_of}
-use Rattle.cr_initial.specs.Places.{Place, laid, types_in, types_of_object}
-use Rattle.cr_initial.specs.Plans.{Entry, put, excess, Fills, IsPlan}
+use Rattle.cr_initial.specs.Places.{Place}
+use Rattle.cr_initial.specs.Plans.{Entry, put, excess, Fills, IsPlan, is_open}
 
 -- an initialiser has one plan
 abbrev pub OnePlan : Type 0
@@ -33,8 +33,12 @@ abbrev pub CellsAreLaidOut : Type 0
 CellsAreLaidOut = (s : Source)
     → ((node : ℕ) → sum_by (known_of s).cells ((known_of s).members node) ≤ (slice_index_or s.layouts.now node nothing).cells) → IsLaidOut (known_of s)
 
--- what an initialiser puts rises, inside the object: no cell is initialised twice, and none outside the object. So it is of a list in an
--- object of known size; of one of unknown size, it lies in as many elements as the list asks for
+-- what a list puts rises, inside the places that it has: no cell is initialised twice, and none outside them
 abbrev pub StaysInside : Type 0
 StaysInside = (k : Known) (ps : List Place) (b : ℕ) (is : List ℕ) (ys : List Entry) (low high : ℕ)
     → IsLaidOut k → Lie k low ps high → Fills k ps b is [] ys → ArePacked k low ys high
+
+-- so it is of the initialiser of an object of known size, inside the object
+abbrev pub PlansStayInside : Type 0
+PlansStayInside = (k : Known) (type : Qualified) (above node : ℕ) (xs : List Entry)
+    → IsLaidOut k → is_open type ≡ false → IsPlan k type above node xs → ArePacked k 0 xs (k.cells type)

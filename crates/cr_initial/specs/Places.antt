@@ -1,5 +1,5 @@
 -- Places: the parts of an object that an initialiser can initialise (C11 6.7.9).
-use Rattle.std.specs.Prelude.{ℕ, ◌+◌, ◌==◌, ◌&&◌, List, [], ◌∷◌, Bool, true, false, not, length, replicate, nat_lt, if◌then◌else◌}
+use Rattle.std.specs.Prelude.{ℕ, ◌+◌, ◌==◌, ◌&&◌, List, [], ◌∷◌, Bool, true, false, length, replicate, nat_lt, if◌then◌else◌}
 use Rattle.cr_ints.specs.declared.kind.IntKind.{IntKind}
 use Rattle.cr_ints.specs.declared.kind.IntKind.TheVariants.{Char, SChar, UChar}
 use Rattle.cr_syntax.specs.declared.typed.CType.{CType}

@@ -1,5 +1,5 @@
 -- Which place each expression of an initialiser initialises (C11 6.7.9), as a relation on the places that are left.
-use Rattle.std.specs.Prelude.{◌≡◌, ℕ, ◌+◌, ◌/◌, ◌==◌, List, [], ◌∷◌, ◌++◌, Bool, true, false, max, length, map, if◌then◌else◌}
+use Rattle.std.specs.Prelude.{◌≡◌, ℕ, ◌+◌, ◌/◌, ◌==◌, List, [], ◌∷◌, ◌++◌, Bool, true, false, max, map, if◌then◌else◌}
 use Rattle.cr_types.specs.declared.shape.Shape.{Shape}
 use Rattle.cr_types.specs.Types.{Qualified, plain, pointer, array, type_at}
 use Rattle.cr_typed.specs.declared.typed.Put.{Put}

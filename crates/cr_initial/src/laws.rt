@@ -1,4 +1,4 @@
-ghost use Rattle.cr_initial.specs.Laws.{OnePlan, CellsAreLaidOut, StaysInside};
+ghost use Rattle.cr_initial.specs.Laws.{OnePlan, CellsAreLaidOut, PlansStayInside, StaysInside};
 ghost use Rattle.cr_initial.specs.Breaks.{FirstIsLeast};
 
 /// A law: an initialiser has one plan.
@@ -14,6 +14,11 @@ pub fn cells_are_laid_out()
 /// A law: what a list puts rises, inside the places that it has.
 pub fn stays_inside()
     ensures { StaysInside }
+{}
+
+/// A law: so does what the initialiser of an object of known size puts, inside the object.
+pub fn plans_stay_inside()
+    ensures { PlansStayInside }
 {}
 
 /// A law: the first fault of a plan is the least of all its breaks.

@@ -1,9 +1,7 @@
-use Rattle.std.proofs.Common.{◌≡◌, ◌<◌, sym, subst, ◌∙◌, arith}
+use Rattle.std.proofs.Common.{◌<◌, sym, subst, ◌∙◌, arith}
 use Rattle.std.proofs.lemmas.List.{drop_all}
-use Rattle.cr_types.specs.Types.{type_at}
 use Rattle.cr_initial.specs.Known.{known_of}
-use Rattle.cr_initial.specs.Plans.{entries_of}
-use Rattle.cr_initial.specs.Steps.{places_of, left, IsNext}
+use Rattle.cr_initial.specs.Steps.{left, IsNext}
 use Rattle.cr_initial.proofs.Lists.{alone}
 use Rattle.cr_initial.proofs.Walks.{finished, in_braces, exceeded}
 use Rattle.cr_initial.proofs.walk.+walk.Goals as goal

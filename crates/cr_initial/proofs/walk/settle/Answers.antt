@@ -1,4 +1,4 @@
-use Rattle.std.proofs.Common.{◌≡◌, sym, subst, ◌∙◌, refl}
+use Rattle.std.proofs.Common.{sym, subst, ◌∙◌, refl}
 use Rattle.cr_initial.specs.Known.{known_of}
 use Rattle.cr_initial.specs.Steps.{place_of, left, IsNext}
 use Rattle.cr_initial.proofs.Walks.{begun, taken_whole, lost_whole, opened, led_out, led_on}
