@@ -5,3 +5,4 @@ pub mod Inside
 pub mod Cells
 pub mod Walks
 pub mod Firsts
+pub mod Plans

@@ -28,7 +28,7 @@ lesser None right = right
 lesser (Some left) None = Some left
 lesser (Some left) (Some right) = Some (lesser_of left right)
 
--- a place of a type; the row of what has no type is another one, and so is that of an initialised function
+-- what is judged: a place that has a type, and isn't that of an initialised function, which breaks K11 by its declarator
 abbrev pub is_object_by : CType → Bool
 is_object_by Unknown = false
 is_object_by (Function node) = false

@@ -1,16 +1,28 @@
 -- What holds of plans.
-use Rattle.std.specs.Prelude.{◌≡◌, ℕ, ◌+◌, ◌*◌, ◌≤◌, List, [], ◌∷◌, Bool, false, sum_by, slice_index_or}
+use Rattle.std.specs.Prelude.{◌≡◌, ℕ, ◌+◌, ◌*◌, ◌<◌, ◌≤◌, List, [], ◌∷◌, Bool, false, sum_by, slice_index_or}
 use Rattle.cr_syntax.specs.declared.typed.CType.TheVariants.{Struct}
 use Rattle.cr_types.specs.Types.{Qualified, plain, array}
 use Rattle.cr_types.specs.Layouts.{nothing}
 use Rattle.cr_initial.specs.declared.source.Source.{Source}
 use Rattle.cr_initial.specs.Known.{Known, known_of}
-use Rattle.cr_initial.specs.Places.{Place}
+use Rattle.cr_initial.specs.Places.{Place, types_in}
 use Rattle.cr_initial.specs.Plans.{Entry, put, excess, Fills, IsPlan, is_open}
 
 -- an initialiser has one plan
 abbrev pub OnePlan : Type 0
 OnePlan = (k : Known) (type : Qualified) (above node : ℕ) (xs ys : List Entry) → IsPlan k type above node xs → IsPlan k type above node ys → xs ≡ ys
+
+-- by some rank, the parts of each type are simpler than it is
+abbrev pub AreSimpler : (Qualified → ℕ) → ℕ → List Qualified → Type 0
+AreSimpler rank most [] = Unit {0}
+AreSimpler rank most (t ∷ ts) = (rank t < most) × AreSimpler rank most ts
+
+abbrev pub AreNested : Known → (Qualified → ℕ) → Type 0
+AreNested k rank = (t : Qualified) → AreSimpler rank (rank t) (types_in k t)
+
+-- then each initialiser has one
+abbrev pub HasPlan : Type 0
+HasPlan = (k : Known) (rank : Qualified → ℕ) → AreNested k rank → (type : Qualified) (above node : ℕ) → (xs : List Entry) × IsPlan k type above node xs
 
 -- places between two cells, each behind the one before
 abbrev pub Lie : Known → ℕ → List Place → ℕ → Type 0

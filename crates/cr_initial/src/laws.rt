@@ -1,9 +1,14 @@
-ghost use Rattle.cr_initial.specs.Laws.{OnePlan, CellsAreLaidOut, PlansStayInside, StaysInside};
+ghost use Rattle.cr_initial.specs.Laws.{OnePlan, HasPlan, CellsAreLaidOut, PlansStayInside, StaysInside};
 ghost use Rattle.cr_initial.specs.Breaks.{FirstIsLeast};
 
 /// A law: an initialiser has one plan.
 pub fn one_plan()
     ensures { OnePlan }
+{}
+
+/// A law: an initialiser has a plan, where the parts of types are simpler than the types.
+pub fn has_plan()
+    ensures { HasPlan }
 {}
 
 /// A law: the parts of a type lie in its cells, where the layouts of the structures have the cells of their members.

@@ -22,6 +22,8 @@ pub use anchor::{
     anchor_of_reached, anchor_of_subscript, is_address,
 };
 pub use fault::{Break, first_fault};
-pub use laws::{cells_are_laid_out, first_is_least, one_plan, plans_stay_inside, stays_inside};
+pub use laws::{
+    cells_are_laid_out, first_is_least, has_plan, one_plan, plans_stay_inside, stays_inside,
+};
 pub use lines::{Line, complete, length_asked, plan, puts};
 pub use source::Source;
