@@ -1,0 +1,8 @@
+pub mod Rows
+pub mod Lists
+pub mod OnePlan
+pub mod Inside
+pub mod Cells
+pub mod Walks
+pub mod Firsts
+pub mod Plans

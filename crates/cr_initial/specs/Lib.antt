@@ -1,0 +1,8 @@
+pub mod Known
+pub mod Places
+pub mod Plans
+pub mod Anchors
+pub mod Faults
+pub mod Breaks
+pub mod Steps
+pub mod Laws

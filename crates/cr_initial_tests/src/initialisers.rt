@@ -1,0 +1,273 @@
+use crate::reading::{Read, nodes_of};
+use cr_constants::Constant;
+use cr_initial::{
+    Anchor, Line, Source, anchor_of_address, anchor_of_cast, anchor_of_member, anchor_of_object,
+    anchor_of_reached, anchor_of_subscript, complete, first_fault, is_address, length_asked, plan,
+    puts,
+};
+use cr_operands_tests::{row_of, shown};
+use cr_rows::Row;
+use cr_types::{Layout, Table};
+use std::alloc::{AllocError, Global};
+use std::test::Fail;
+
+// The structure of node 0 is `struct {int a[2]; int b;}`, and that of node 1 has one such and an int. The type of an object stands before its
+// initialiser, with `static` for one of static duration. What follows is each cell at which an expression is put, `!` for a list with
+// too many, the type of a completed array, and the first broken constraint with its token; the `=` is token 0. By hand
+// from C11 6.7.9 and the table of constraints.
+const INITIALISERS: &str = "\
+int; 7 => 0
+int; { 7 } => 0
+int; { { 7 } } => 0
+int; { 7 8 } => 0 ! K11@1
+int; p => 0 K37@0
+* int; p => 0
+* const int; p => 0
+* int; 0 => 0
+* int; 5 => 0 K37@0
+* char; p => 0 K37@0
+void; 7 => 0 K37@0
+int; u => 0
+[2] int; { 1 } => 0
+[2] int; { 1 2 3 } => 0 1 ! K11@1
+[2] int; a => 0 K37@0
+[2] int; { 1 p } => 0 1 K37@0
+[2] [1] int; { { 1 2 } { 3 } } => 0 ! 1 K11@2
+[2] [3] int; { { 1 2 } { 3 } } => 0 1 3
+[2] [3] int; { 1 2 3 4 } => 0 1 2 3
+[2] [3] int; { 1 2 { 3 } 4 } => 0 1 2 3
+[] int; { 1 2 3 4 } => 0 1 2 3 [4] int
+[] [2] int; { 1 2 3 } => 0 1 2 [2] [2] int
+[] [2] int; { { 1 } 2 } => 0 2 [2] [2] int
+[] S0; { 1 2 3 4 } => 0 1 2 3 [2] S0
+[] int; 5 => 0 [] int K37@0
+[2] S0; { 1 2 3 { { 4 } 5 } } => 0 1 2 3 5
+[2] S0; { { 1 } { { 2 } 3 } } => 0 3 5
+[2] S0; { s 1 2 3 } => 0 3 4 5
+[2] S0; { 1 s } => 0 1 K37@0
+S0; s => 0
+S0; { s } => 0 K37@0
+S0; x => 0 K37@0
+S0; { 1 2 3 4 } => 0 1 2 ! K11@1
+S1; s => 0 K37@0
+S1; { s 9 } => 0 3
+S1; { 1 2 3 9 } => 0 1 2 3
+S1; { { 1 } 9 } => 0 3
+S1; { { { 1 2 } 3 } 9 } => 0 1 2 3
+S1; { { { 1 2 } 3 4 } 9 } => 0 1 2 ! 3 K11@2
+[2] S0; { u 1 2 3 4 5 6 7 8 } => 0
+[2] S1; { { u 1 2 3 4 5 } 5 } => 0 4
+S0; { 1 u 3 } => 0 1 2
+[4] char; \"abc\" => 0
+[3] char; \"abc\" => 0
+[2] char; \"abc\" => 0 K13@1
+[2] schar; { \"ab\" } => 0
+[] char; \"abc\" => 0 [4] char
+[] char; { \"abc\" } => 0 [4] char
+[] char; { 1 2 } => 0 1 [2] char
+[3] char; { \"ab\" 1 } => 0 ! K11@1
+[3] char; { 1 \"ab\" } => 0 1 K13@3
+[2] [3] char; { \"ab\" \"\" } => 0 3
+[2] [3] char; { { \"ab\" } { 1 } } => 0 3
+[] [3] char; { \"ab\" \"ab\" } => 0 3 [2] [3] char
+[2] int; \"ab\" => 0 K13@1
+[2] int; { 1 \"ab\" } => 0 1 K13@3
+int; \"ab\" => 0 K13@1
+S0; \"ab\" => 0 K13@1
+* char; \"ab\" => 0
+* const char; { \"ab\" } => 0
+* int; \"ab\" => 0 K37@0
+[2] * char; { \"ab\" \"ab\" } => 0 1
+[2] * char; \"ab\" => 0 K13@1
+static int; 7 => 0
+static int; x => 0 K12@1
+static [2] int; { 1 x } => 0 1 K12@3
+static [2] int; { { 1 } } => 0
+static * int; q => 0
+static * int; a => 0
+static * int; 0 => 0
+static * int; p => 0 K12@1
+static bool; q => 0
+static int; p => 0 K37@0
+static S0; s => 0 K12@1
+static * char; \"ab\" => 0
+static [3] char; \"ab\" => 0
+static [1] char; \"ab\" => 0 K13@1
+static int; u => 0
+[2] int; { { 1 x } 2 } => 0 ! 1 K11@2
+static [2] int; { { 1 x } 2 } => 0 ! 1 K11@2";
+
+// An operator, and whether its result's value is an address constant, where the result is an int, a pointer or an array. By hand from
+// C11 6.6p9.
+const ADDRESSES: &str = "\
+name of static => false false true
+name of automatic => false false false
+& of place => true true true
+& of address => false false false
+* of address => false false true
+* of moving => false false false
+. of place => false false true
+. of address => false false false
+cast of address => true true true
+cast of null => true true true
+cast of one => false false false
+[] of address => false false true
+[] of index => false false true
+[] of moving => false false false";
+
+#[test]
+fn initialisers_fill_the_places_that_are_left(rt: HostRuntime) -> Result<(), Fail> {
+    let alloc = rt.alloc();
+    for line in INITIALISERS.split('\n') {
+        let (given, told) = line.split_once(" =>").ok_or("a row")?;
+        let (object, text) = given.split_once("; ").ok_or("an object")?;
+        if outcome(alloc, object, text)?.as_str() != told {
+            return Err(Fail::from("an initialiser fills other places"));
+        }
+    }
+    Ok(())
+}
+
+#[test]
+fn addresses_are_constant_by_their_operators(rt: HostRuntime) -> Result<(), Fail> {
+    let alloc = rt.alloc();
+    let mut table = Table::new(alloc)?;
+    let number = row_of(alloc, &mut table, "int")?;
+    let pointer = row_of(alloc, &mut table, "* int")?;
+    let array = row_of(alloc, &mut table, "[2] int")?;
+    for line in ADDRESSES.split('\n') {
+        let (given, told) = line.split_once(" =>").ok_or("a row")?;
+        let anchor = anchored(&table, pointer, given);
+        let mut found = String::new(alloc);
+        for row in [number, pointer, array] {
+            let so = (row as usize) < table.len() && is_address(&table, row, anchor);
+            found.push_str(if so { " true" } else { " false" })?;
+        }
+        if found.as_str() != told {
+            return Err(Fail::from("an address is constant otherwise"));
+        }
+    }
+    Ok(())
+}
+
+fn anchored(table: &Table, pointer: u32, given: &str) -> Anchor {
+    if pointer as usize >= table.len() {
+        return Anchor::Moving;
+    }
+    match given {
+        "name of static" => anchor_of_object(true),
+        "name of automatic" => anchor_of_object(false),
+        "& of place" => anchor_of_address(Anchor::Place),
+        "& of address" => anchor_of_address(Anchor::Address),
+        "* of address" => anchor_of_reached(true),
+        "* of moving" => anchor_of_reached(false),
+        ". of place" => anchor_of_member(Anchor::Place),
+        ". of address" => anchor_of_member(Anchor::Address),
+        "cast of address" => anchor_of_cast(table, pointer, true, Constant::NotConstant),
+        "cast of null" => anchor_of_cast(table, pointer, false, Constant::Value(0)),
+        "cast of one" => anchor_of_cast(table, pointer, false, Constant::Value(1)),
+        "[] of address" => {
+            anchor_of_subscript(true, Constant::NotConstant, false, Constant::Value(1))
+        }
+        "[] of index" => anchor_of_subscript(
+            false,
+            Constant::Value(1),
+            true,
+            Constant::NotConstant,
+        ),
+        _ => anchor_of_subscript(true, Constant::NotConstant, false, Constant::NotConstant),
+    }
+}
+
+const LAYOUTS: [Layout; 2] = [
+    Layout {
+        size: 12,
+        alignment: 4,
+        cells: 3,
+    },
+    Layout {
+        size: 16,
+        alignment: 4,
+        cells: 4,
+    },
+];
+
+fn members_of(alloc: Global, table: &mut Table) -> Result<Vec<Row<u32>>, AllocError> {
+    let mut members = Vec::new(alloc);
+    for types in [["[2] int", "int"], ["S0", "int"]] {
+        let mut rows = Row::new(alloc);
+        for words in types {
+            rows.push(row_of(alloc, table, words)?)?;
+        }
+        members.push(rows)?;
+    }
+    Ok(members)
+}
+
+fn outcome(alloc: Global, object: &str, text: &str) -> Result<String, AllocError> {
+    let mut table = Table::new(alloc)?;
+    let (is_static, words) = match object.strip_prefix("static ") {
+        Some(words) => (true, words),
+        None => (false, object),
+    };
+    let row = row_of(alloc, &mut table, words)?;
+    let members = members_of(alloc, &mut table)?;
+    let read = nodes_of(alloc, &mut table, text)?;
+    let above = u32::try_from(read.nodes.len()).unwrap_or(0);
+    let node = above.saturating_sub(1);
+    let source = source_of(&table, &read, &members);
+    let lines = plan(alloc, &source, row, above, node)?;
+    let count = length_asked(&source, row, &lines)?;
+    let row = completed(&mut table, row, count)?;
+    let source = source_of(&table, &read, &members);
+    let lines = plan(alloc, &source, row, above, node)?;
+    let mut out = cells(alloc, &lines)?;
+    if words.starts_with("[]") {
+        out.push(' ')?;
+        out.push_str(shown(alloc, &table, row)?.as_str())?;
+    }
+    if let Some(found) = first_fault(&source, is_static, 0, &lines) {
+        let row = found.row;
+        let token = found.token;
+        out.push_str(format!(in alloc; " K{row}@{token}")?.as_str())?;
+    }
+    Ok(out)
+}
+
+fn source_of<'a>(table: &'a Table, read: &'a Read, members: &'a [Row<u32>]) -> Source<'a> {
+    Source {
+        table,
+        nodes: &read.nodes,
+        facts: &read.facts,
+        anchors: &read.anchors,
+        layouts: &LAYOUTS,
+        members,
+    }
+}
+
+fn completed(table: &mut Table, row: u32, count: u64) -> Result<u32, AllocError> {
+    if (row as usize) < table.len() {
+        complete(table, row, count)
+    } else {
+        Ok(0)
+    }
+}
+
+fn cells(alloc: Global, lines: &[Line]) -> Result<String, AllocError> {
+    let kept = puts(alloc, lines)?;
+    let mut at: usize = 0;
+    let mut out = String::new(alloc);
+    for line in lines {
+        match line {
+            Line::Put(_) => {
+                if let Some(put) = kept.as_slice().get(at) {
+                    let cell = put.cell;
+                    out.push_str(format!(in alloc; " {cell}")?.as_str())?;
+                }
+                at = at.saturating_add(1);
+            }
+            Line::Excess(_) => out.push_str(" !")?,
+        }
+    }
+    Ok(out)
+}
