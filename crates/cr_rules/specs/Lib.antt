@@ -1,0 +1,5 @@
+pub mod Forms
+pub mod Known
+pub mod Ruled
+pub mod Breaks
+pub mod Laws
