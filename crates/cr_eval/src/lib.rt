@@ -15,6 +15,8 @@ mod values;
 mod work;
 
 pub use did::{Deeds, Did};
+pub use places::load;
+pub use pointers::{as_pointer, misfits};
 pub use table::Table;
-pub use values::UNUSED_VALUE;
+pub use values::{UNUSED_VALUE, asked, converted, integer, is_nothing};
 pub use work::{work_none, work_one, work_two};

@@ -48,7 +48,7 @@ fn read_of(volatile: bool, at: Pointer) -> Deeds
 
 /// The value of a scalar object: U9, U10, U11, N5.
 #[inline]
-pub(crate) fn load(store: &Store, at: Pointer, kind: Scalar) -> Result<Cell, Trap>
+pub fn load(store: &Store, at: Pointer, kind: Scalar) -> Result<Cell, Trap>
     ensures { Answers (load_of store.now at kind) result }
 {
     if store.is_pointer(at) {

@@ -13,7 +13,7 @@ use cr_memory::{OTHER_TYPE, Pointer, Store, Trap};
 
 /// Whether a pointer isn't null and goes by elements of another number of cells (N5).
 #[inline]
-pub(crate) fn misfits(cells: usize, at: Pointer) -> bool
+pub fn misfits(cells: usize, at: Pointer) -> bool
     ensures test { result ≡ misfits cells at }
     ensures stride { result ≡ false → HasStride at cells }
 {
@@ -140,7 +140,7 @@ pub(crate) fn moved_either(
 // ---- comparisons and differences (6.5.6p9, 6.5.8p5, 6.5.9p6)
 
 /// A pointer, or a null pointer constant, which becomes one (6.3.2.3p3): U15.
-fn as_pointer(value: &Value) -> Result<Pointer, Trap>
+pub fn as_pointer(value: &Value) -> Result<Pointer, Trap>
     ensures { result ≡ as_pointer value.now }
 {
     match value {

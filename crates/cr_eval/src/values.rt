@@ -23,7 +23,8 @@ pub(crate) fn truth(b: bool) -> Value
     Value::Number(IntKind::Int, i128::from(b))
 }
 
-pub(crate) fn is_nothing(value: &Value) -> bool
+/// Whether there is no value.
+pub fn is_nothing(value: &Value) -> bool
     ensures { result ≡ is_nothing value.now }
 {
     match value {
@@ -66,7 +67,7 @@ pub(crate) fn if_lives(store: &Store, at: Pointer) -> Result<Pointer, Trap>
 
 /// Whether a scalar compares unequal to 0, as an operation (6.5.13p3, 6.8.4.1p2): U15, U10.
 #[inline]
-pub(crate) fn asked(store: &Store, value: &Value) -> Result<bool, Trap>
+pub fn asked(store: &Store, value: &Value) -> Result<bool, Trap>
     ensures { result ≡ asked store.now value.now }
 {
     match value {
@@ -85,7 +86,7 @@ pub(crate) fn asked(store: &Store, value: &Value) -> Result<bool, Trap>
 
 /// The number that an integer operand is: U15.
 #[inline]
-pub(crate) fn integer(value: &Value) -> Result<i128, Trap>
+pub fn integer(value: &Value) -> Result<i128, Trap>
     ensures value { Answers (integer value.now) result }
     ensures range { IfOk result IsInteger }
 {
@@ -174,12 +175,7 @@ fn to_cells(alloc: Global, store: &Store, row: u32, value: &Value) -> Result<Val
 
 /// A value as one of another type, as if by assignment: U15, U10.
 #[inline]
-pub(crate) fn converted(
-    alloc: Global,
-    store: &Store,
-    form: Form,
-    value: &Value,
-) -> Result<Value, Trap>
+pub fn converted(alloc: Global, store: &Store, form: Form, value: &Value) -> Result<Value, Trap>
     ensures { Answers (converted store.now form value.now) result }
 {
     match form {
