@@ -1,5 +1,5 @@
 -- The words of the command line, as far as what they ask for is built.
-use Rattle.std.specs.Prelude.{◌≡◌, ℕ, Bool, true, false, not, ◌||◌, ◌&&◌, List, slice_range}
+use Rattle.std.specs.Prelude.{◌≡◌, ℕ, Bool, true, false, not, ◌||◌, List, slice_range}
 use Rattle.std.specs.List.{list_all}
 use Rattle.cr_words.specs.Giving.{HasSettings as Gives}
 use Rattle.cr_words.specs.Words.{Word}
@@ -10,9 +10,9 @@ abbrev pub is : Bool → Bool → Bool
 is true on = on
 is false on = not on
 
--- none is enabled that isn't built: u, which is pass 3, and i, p and r, which are 6 to 8
+-- none is enabled that isn't built: i and p, which are passes 6 and 7
 abbrev pub only_built : List Bool → Bool
-only_built enabled = list_all (is false) (slice_range enabled 3 4) && list_all (is false) (slice_range enabled 6 9)
+only_built enabled = list_all (is false) (slice_range enabled 6 8)
 
 -- all passes are enabled, or only such as are built
 abbrev pub are_built : List Bool → Bool

@@ -96,10 +96,11 @@ yes|--passes|l|has:b|f.c
 yes|--passes=tl|has:b|f.c
 yes|--passes|t|has:b|f.c
 yes|--passes|ltb|has:b|f.c
-no|--passes|ltbu|has:b|f.c
+yes|--passes|ltbu|has:b|f.c
 yes|--passes|f|has:b|f.c
 yes|--passes|sclf|has:b|f.c
-no|--passes|lr|has:b|f.c
+yes|--passes|rl|has:b|f.c
+no|--passes|li|has:b|f.c
 no|--passes|ip|has:b|f.c
 no|has:b
 ";

@@ -15,7 +15,7 @@ const AFTER: [(&str, &str); 3] = [
     ("creduce-test-run.c.orig", "int a;\nint b;\nint c;\n"),
     (
         "creduce-test-run.c.log",
-        "l 13 1 68 15\nl 14 0 34 16\nf 0 0 33 23\nend fixed 33 45\n",
+        "l 13 1 68 15\nl 14 0 34 16\nf 0 0 33 25\nend fixed 33 49\n",
     ),
 ];
 
