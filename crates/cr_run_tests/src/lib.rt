@@ -9,6 +9,8 @@ mod reductions;
 #[cfg(test)]
 mod rehearsed;
 #[cfg(test)]
+mod remembered;
+#[cfg(test)]
 mod runs;
 #[cfg(test)]
 mod tables;

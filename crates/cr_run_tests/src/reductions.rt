@@ -1,5 +1,5 @@
 // Reductions by the lines pass. What is wanted was found by hand from the rules of the pass and of the reduction.
-ghost use Rattle.std.specs.Prelude.{◌<◌, ◌≤◌, IfOk, length};
+ghost use Rattle.std.specs.Prelude.{◌≡◌, ◌<◌, ◌≤◌, [], IfOk, length};
 
 use crate::rehearsed::Knowing;
 use crate::tables::{Case, cases, tell};
@@ -77,8 +77,8 @@ end 0 14 0 33 15, 31 fixed
 after int c;
 ";
 
-// How a reduction ended, but for its file.
-fn told(alloc: Global, end: &End) -> Result<String, Fail> {
+/// How a reduction ended, but for its file.
+pub(crate) fn told(alloc: Global, end: &End) -> Result<String, Fail> {
     let mut told = String::new(alloc);
     tell(&mut told, end.accepted.as_slice())?;
     write!(told, "{} ", end.turns)?;
@@ -93,7 +93,8 @@ fn told(alloc: Global, end: &End) -> Result<String, Fail> {
 
 // A bench of one judge who knows what the case's calls tell.
 fn bench_of(alloc: Global, case: &Case) -> Result<Bench<Knowing>, AllocError>
-    ensures { IfOk result (λ bench. 0 < length bench.judges) }
+    ensures some { IfOk result (λ bench. 0 < length bench.judges) }
+    ensures kept { IfOk result (λ bench. bench.kept ≡ []) }
 {
     let mut judges = Vec::new(alloc);
     judges.push(Knowing::new(case.calls(alloc)?))?;

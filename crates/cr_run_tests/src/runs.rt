@@ -260,17 +260,17 @@ output abc.c size 102 to 102 accepted 0 turns 13 fault␊
 after int a;␊int b;␊int c;␊
 log end fault 102 13␊
 
-what a judge that changes its mind about a file
+what a file that was answered no isn't asked about again
 words w.sh abc.c
 name abc.c
 call 1 yes int a;␊int b;␊int c;␊
 call 1 no int c;␊
 call 1 no int a;␊int b;␊
 call 1 yes int b;␊int c;␊
-call 1 yes int c;␊
-output abc.c size 102 to 34 accepted 2 turns 33 fixed␊
-after int c;␊
-log l 14 0 68 16␊l 14 0 34 17␊end fixed 34 33␊
+call 1 no int b;␊
+output abc.c size 102 to 68 accepted 1 turns 34 fixed␊
+after int b;␊int c;␊
+log l 14 0 68 16␊end fixed 68 34␊
 
 what no to the file
 words w.sh abc.c

@@ -1,0 +1,15 @@
+use Rattle.std.proofs.Common.{refl, subst}
+use Rattle.cr_tokens.specs.Size.{size_of}
+use Rattle.cr_tokens.specs.Tokens.{Tokenizes}
+use Rattle.cr_run_tests.proofs.remembered.reduced.Goals as goal
+
+pub reduce-end-requires-clause-tokenizes : goal.reduce-end-requires-clause-tokenizes
+reduce-end-requires-clause-tokenizes g c = λ a b.
+    let tokens = c.in-Ok-read._tokens.list.items in (
+      size_of c.in_ok-file.file.items tokens,
+      record {
+        tokens = tokens;
+        tokenizes = subst (λ file. Tokenizes file tokens) c.deref.ensures.value c.in-Ok-read.ensures.list;
+        is = refl;
+      },
+    )
