@@ -2,4 +2,5 @@ pub mod Forms
 pub mod Known
 pub mod Ruled
 pub mod Breaks
+pub mod Used
 pub mod Laws

@@ -16,6 +16,7 @@ mod laws;
 mod least;
 mod operands;
 mod rules;
+mod used;
 
 pub use fault::broken;
 pub use form::{Form, form_of};
@@ -25,3 +26,4 @@ pub use laws::one_typing;
 pub use least::{Break, break_if, lesser};
 pub use operands::{NO_FACT, is_typed, operand, part_at, value};
 pub use rules::rule;
+pub use used::is_valued;
