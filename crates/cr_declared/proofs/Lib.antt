@@ -1,1 +1,2 @@
 mod Agreed
+pub mod Counted

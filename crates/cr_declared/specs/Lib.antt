@@ -18,6 +18,7 @@
 --   K41  volatile_fault_of: the specifiers, their place, the type that they name; in a member the `volatile` of its declarator too
 pub mod Specifiers
 pub mod Declarators
+pub mod Cells
 pub mod Functions
 pub mod Structures
 pub mod Linkages

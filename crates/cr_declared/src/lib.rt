@@ -11,6 +11,7 @@ mod declarator;
 mod declared;
 mod enumerators;
 mod functions;
+mod laws;
 mod linkages;
 mod named;
 mod parameters;
@@ -28,6 +29,7 @@ pub use declared::{
 };
 pub use enumerators::{Enumerated, Given, enumeration_kind, enumerator_by};
 pub use functions::{Library, Signature, agree, has_library_type, library_of};
+pub use laws::cells_are_counted;
 pub use linkages::{
     Declaration, Linkage, is_again, linkage_of, may_be_initialised, with_declaration,
 };
