@@ -15,5 +15,5 @@ mod way;
 pub use feet::{UNSEQUENCED, argument};
 pub use node::{join_none, join_one, join_two, named};
 pub use part::Part;
-pub use turn::next;
+pub use turn::{ahead, next, truth_of};
 pub use way::Next;

@@ -20,7 +20,7 @@ fn is_null(at: Pointer) -> bool
 }
 
 /// Whether a scalar compares unequal to 0 (6.5.13p3, 6.5.14p3, 6.5.15p4), if there is a value. A pointer isn't looked up.
-fn truth_of(value: &Value) -> Option<bool>
+pub fn truth_of(value: &Value) -> Option<bool>
     ensures { result ≡ truth_of value.now }
 {
     match value {
@@ -150,15 +150,22 @@ fn body_of(work: &Work) -> Option<u32>
     }
 }
 
+/// Which operand of an expression's node is evaluated next, by how many are, and by whether the only one that is compares unequal to 0.
+pub fn ahead(op: &Op, count: usize, truth: Option<bool>) -> Next
+    ensures { (answers : List Answer) → AreAnswers answers count truth → is_expression op.now.work ≡ true → next_of op.now answers ≡ way_of result }
+{
+    let parts = op.parts.as_slice();
+    match body_of(&op.work) {
+        Some(body) => body_next(parts, body, count),
+        None => turned(manner_of(&op.work), parts, count, truth),
+    }
+}
+
 /// Which operand of an expression's node is evaluated next, from the results so far, or that its own work comes. Operands are evaluated
 /// from left to right, only those that C evaluates: `&&`, `||` and `?:` go by their first operand (6.5.13p4, 6.5.14p4, 6.5.15p4); one
 /// without a value leaves its case to the node's work. Of a statement's or declaration's node nothing is said.
 pub fn next(op: &Op, done: &[Part]) -> Next
     ensures { (answers : List Answer) → ArePartsOf done.now answers → is_expression op.now.work ≡ true → next_of op.now answers ≡ way_of result }
 {
-    let parts = op.parts.as_slice();
-    match body_of(&op.work) {
-        Some(body) => body_next(parts, body, done.len()),
-        None => turned(manner_of(&op.work), parts, done.len(), first_truth(done)),
-    }
+    ahead(op, done.len(), first_truth(done))
 }

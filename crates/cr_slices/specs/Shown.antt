@@ -29,11 +29,13 @@ fresh_of Nothing = []
 fresh_of Absent = absent ∷ []
 fresh_of (Before item) = from_item item
 
+-- a way that can't be told stands for none, and nothing is said of it
 abbrev pub way_of : List Answer → KeptWay → Way
 way_of done (kept.Operand node) = Operand node
 way_of done (kept.Enter node) = Enter node
 way_of done (kept.Resume count fresh) = Resume (take count done ++ fresh_of fresh)
 way_of done kept.Ready = Ready
+way_of done kept.Unknown = Ready
 
 -- ---- work
 

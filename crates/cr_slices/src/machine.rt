@@ -162,6 +162,7 @@ fn go_on<N: Nodes>(nodes: &mut N, stack: &mut Stack<N::Held>) -> Result<Turned<N
         Way::Enter(part) => enter(nodes, stack, part),
         Way::Resume(count, fresh) => resume(nodes, stack, count, fresh),
         Way::Ready => join(nodes, stack),
+        Way::Unknown => Err(Halted::NoMemory),
     }
 }
 

@@ -1,5 +1,5 @@
 // The work of single nodes.
-ghost use Rattle.std.specs.Prelude.{◌≡◌, ◌≤◌, ◌+◌, List};
+ghost use Rattle.std.specs.Prelude.{◌≡◌, ◌≢◌, ◌≤◌, ◌+◌, List};
 ghost use Rattle.std.specs.List.{AllZip};
 ghost use Rattle.cr_meaning.specs.World.{Program as SpecProgram, World as SpecWorld, Answer as SpecAnswer, next as followed};
 ghost use Rattle.cr_meaning.specs.Turns.{absent as nothing_asked};
@@ -43,6 +43,8 @@ pub enum Way {
     Resume(usize, Fresh),
     /// With its own work: no part is left.
     Ready,
+    /// It can't be told: the node has numbers that no program of the subset has.
+    Unknown,
 }
 
 /// A program, the world that it works on, and the work of its single nodes.
@@ -69,7 +71,8 @@ pub trait Nodes {
 
     /// How a node goes on after these answers of its parts.
     fn next(&self, node: u32, done: &[Self::Held]) -> Way
-        ensures { (answers : List SpecAnswer) → AllZip shows done.now answers → way_at (program self.now) node answers ≡ way_of answers result };
+        ensures { (answers : List SpecAnswer) → AllZip shows done.now answers → result ≢ Way.Unknown
+            → way_at (program self.now) node answers ≡ way_of answers result };
 
     /// A node's work before a part, after these answers of others.
     fn before(&mut self, node: u32, done: &[Self::Held]) -> Result<(), Halted>

@@ -1,19 +1,7 @@
-use Rattle.std.proofs.Common.{length, refl, sym, ap, ◌∙◌}
-use Rattle.cr_join.specs.declared.turn.Manner.{Manner}
-use Rattle.cr_join.specs.Turns.{turned}
-use Rattle.cr_join.proofs.Turning.{same_count, are_answers, body_by, turned_by}
+use Rattle.std.proofs.Common.{length, refl}
+use Rattle.cr_join.proofs.Turning.{are_answers}
 use Rattle.cr_join.proofs.turn.next.Goals as goal
 
-pub returns-in-Some : goal.returns-in-Some
-returns-in-Some c = λ answers are expr.
-    let op = c.args.op.now in
-    body_by op.work op.parts answers c.in-Some.body (sym c.in-Some.ensures)
-    ∙ (rw c.as_slice-parts.ensures at (c.body_next.ensures answers (same_count c.args.done.now answers are)))
-
-pub returns-in-None : goal.returns-in-None
-returns-in-None c = λ answers are expr.
-    let op = c.args.op.now in
-    turned_by op.work op.parts answers (sym c.in-None.ensures) expr
-    ∙ (ap (λ (t : Manner). turned t op.parts answers) (sym c.manner_of.ensures)
-    ∙ (rw c.as_slice-parts.ensures at (c.turned.ensures answers
-    (are_answers c.args.done.now answers (length c.args.done.now) c.first_truth.result are refl c.first_truth.ensures))))
+pub returns : goal.returns
+returns c = λ answers are expr.
+    c.ahead.ensures answers (are_answers c.args.done.now answers (length c.args.done.now) c.first_truth.result are refl c.first_truth.ensures) expr
