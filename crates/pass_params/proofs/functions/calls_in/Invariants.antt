@@ -1,0 +1,8 @@
+use Rattle.std.proofs.Common.{◌≡◌}
+use Rattle.cr_levels.specs.Gathered.{gathered}
+use Rattle.cr_levels.specs.Nodes.{node_at}
+use Rattle.pass_params.specs.Functions.{calls_by}
+use Rattle.pass_params.proofs.functions.calls_in.Given as goal
+
+abbrev pub invariant-loop-node : goal.invariant-loop-node
+invariant-loop-node l = l.calls.items ≡ gathered (λ k. calls_by (node_at l.nodes k).kind k) l.node
