@@ -1,0 +1,9 @@
+pub mod Cells
+pub mod Pointers
+pub mod Numbers
+pub mod Later
+pub mod Library
+pub mod Works
+pub mod Running
+pub mod Worlds
+pub mod Examples

@@ -1,0 +1,35 @@
+-- What a reader expects of evaluation: it keeps well-typedness.
+use Rattle.std.specs.Prelude.{◌≡◌, ℕ, ◌^◌, ◌<◌, Option, Some, Ok, List}
+use Rattle.cr_memory.specs.Memory.{Memory}
+use Rattle.cr_memory.specs.Continues.{Continues}
+use Rattle.cr_meaning.specs.Language.{gave, Runs}
+use Rattle.cr_meaning.specs.World.{Program, World, Answer, enter_all, automatic, marked, closed}
+use Rattle.cr_meaning.specs.Meaning.{body, reach, start_of}
+use Rattle.cr_meaning.specs.declared.run.Limits.{Limits}
+use Rattle.cr_meaning.specs.declared.value.Value.{Value}
+use Rattle.cr_kept.specs.Sorts.{Sort, Fits, IsWellFormed, Keeps}
+use Rattle.cr_kept.specs.Rules.{AreTyped}
+use Rattle.cr_kept.specs.Blocks.{Stands, IsLeft}
+
+-- an expression without calls, in a world that is well formed
+abbrev pub EvaluationKeepsSorts : Type 0
+EvaluationKeepsSorts = (p : Program) (sorts : ℕ → Option Sort) → AreTyped p sorts → (node : ℕ) (own : Sort) → sorts node ≡ Some own
+    → (old new : World) (answer : Answer) → IsWellFormed p old → Runs (body p) (body p (reach node)) old (gave answer new) → Keeps p old new own answer
+
+-- what fitted before fits later
+abbrev pub OlderValuesFit : Type 0
+OlderValuesFit = (old new : Memory) (sort : Sort) (value : Value) → Continues old new → Fits old sort value → Fits new sort value
+
+-- ---- worlds
+
+-- nothing is there at first
+abbrev pub StartIsWellFormed : Type 0
+StartIsWellFormed = (p : Program) (limits : Limits) → limits.cells < 2 ^ 63 → IsWellFormed p (start_of limits)
+
+-- a block begins, and its objects are entered
+abbrev pub BlocksAreEntered : Type 0
+BlocksAreEntered = (p : Program) (world new : World) (nodes : List ℕ) → IsWellFormed p world → enter_all (automatic p) (marked world) nodes ≡ Ok new → Stands p world new
+
+-- it ends, on whatever way, and what was entered since ends with it
+abbrev pub BlocksAreLeft : Type 0
+BlocksAreLeft = (p : Program) (base world : World) → IsWellFormed p base → Stands p base world → IsLeft p base (closed world)

@@ -1,0 +1,96 @@
+-- What the nodes of a program give, and when a value is such in a memory (C11 6.2.5, 6.3.2.1, 6.3.2.3).
+use Rattle.std.specs.Prelude.{◌≡◌, ℕ, ◌^◌, ◌<◌, Some, List, [], ◌∷◌, map, length}
+use Rattle.cr_ints.specs.declared.kind.IntKind.{IntKind}
+use Rattle.cr_ints.specs.IntKind.{Represents}
+use Rattle.cr_memory.specs.declared.value.Scalar.{Scalar}
+use Rattle.cr_memory.specs.declared.value.Scalar.TheVariants as scalar
+use Rattle.cr_memory.specs.declared.value.Guard.{Guard}
+use Rattle.cr_memory.specs.Memory.{Object, Memory, IsPointer, AllHold, live_object}
+use Rattle.cr_memory.specs.Access.{HasStride}
+use Rattle.cr_memory.specs.Continues.{Continues}
+use Rattle.cr_memory.specs.Laws.{HoldsKinds}
+use Rattle.cr_meaning.specs.World.{Program, World, Binding, bound, mark, Answer, part}
+use Rattle.cr_meaning.specs.declared.op.Form.{Form}
+use Rattle.cr_meaning.specs.declared.op.Form.TheVariants as form
+use Rattle.cr_meaning.specs.declared.value.Value.{Value}
+use Rattle.cr_meaning.specs.declared.value.Value.TheVariants.{Nothing, Number, Pointer as Pointing, Place, Cells}
+
+-- ---- what a node gives
+
+pub data Sort : Type 0 where
+  -- no value: a void expression (6.3.2.2)
+  void : Sort
+  -- a number of an integer type
+  number : IntKind → Sort
+  -- a pointer
+  pointer : Sort
+  -- the place of an element of so many cells (6.3.2.1p1)
+  place : ℕ → Sort
+  -- the cells of a structure, or of an array that is no lvalue
+  cells : List Scalar → Sort
+
+abbrev pub sort_of_scalar : Scalar → Sort
+sort_of_scalar (scalar.Int kind) = number kind
+sort_of_scalar (scalar.Pointer to) = pointer
+
+abbrev pub sort_of : Program → Form → Sort
+sort_of p form.Void = void
+sort_of p (form.Number kind) = number kind
+sort_of p (form.Pointer to) = pointer
+sort_of p (form.Cells row) = cells (p.kinds row)
+
+-- ---- values in a memory
+
+-- a value of the sort: a number lies in its type's range; a pointer, and a place, is one of the memory: null, or into an array of
+-- whole elements of an object that was entered, within that object as long as it lives (6.5.6p8, 6.2.4p2); a structure has a cell for
+-- each of its kinds, which holds nothing or a value of the kind. Any node may give no value: a call does whose function reached its
+-- closing brace (6.9.1p12)
+abbrev pub Fits : Memory → Sort → Value → Type 0
+Fits memory sort Nothing = Unit {0}
+Fits memory (number kind) (Number from value) = (from ≡ kind) × Represents kind value
+Fits memory pointer (Pointing at) = IsPointer memory at
+Fits memory (place count) (Place at) = IsPointer memory at × HasStride at count
+Fits memory (cells kinds) (Cells held) = AllHold memory kinds held
+Fits memory sort other = ⊥
+
+-- an expression's answer is a value of its sort
+abbrev pub Answers : Memory → Sort → Answer → Type 0
+Answers memory sort (part value events) = Fits memory sort value
+Answers memory sort other = ⊥
+
+-- ---- worlds
+
+-- the kinds of an object's cells, where pointers are not told apart
+abbrev pub sorts_in : List (Scalar × Guard) → List Sort
+sorts_in shape = map (λ own. sort_of_scalar own.0) shape
+
+-- the object that was entered for a node lives, and has the cells that the node says
+pub record IsEntered (p : Program) (memory : Memory) (node object : ℕ) : Type 0 where
+  pub live : Object
+  pub lives : live_object memory object ≡ Some live
+  pub sorts : sorts_in live.shape ≡ sorts_in (p.shape node)
+
+abbrev pub AreEntered : Program → Memory → List Binding → Type 0
+AreEntered p memory [] = Unit {0}
+AreEntered p memory (mark ∷ rest) = AreEntered p memory rest
+AreEntered p memory (bound node object ∷ rest) = IsEntered p memory node object × AreEntered p memory rest
+
+-- each cell of the memory holds nothing or a value of its kind, and the difference of two places of an object is a number of `long`
+-- (6.5.6p9), now and of what is entered later
+pub record IsSound (memory : Memory) : Type 0 where
+  pub kinds : HoldsKinds memory
+  pub small : (object : ℕ) (live : Object) → live_object memory object ≡ Some live → length live.cells < 2 ^ 63
+  pub most : memory.most < 2 ^ 63
+
+-- the memory is sound, and the objects of the nodes live
+pub record IsWellFormed (p : Program) (world : World) : Type 0 where
+  pub sound : IsSound world.memory
+  pub entered : AreEntered p world.memory world.bindings
+
+-- what an evaluation keeps: its answer fits, the world is well formed, all objects are as before, so what fitted before fits, and the
+-- nodes have the objects that they had
+pub record Keeps (p : Program) (old new : World) (sort : Sort) (answer : Answer) : Type 0 where
+  pub fits : Answers new.memory sort answer
+  pub well_formed : IsWellFormed p new
+  pub continues : Continues old.memory new.memory
+  pub bindings : new.bindings ≡ old.bindings

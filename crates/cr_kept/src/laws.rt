@@ -1,0 +1,27 @@
+//! What a reader expects of evaluation. The program calls none of these functions.
+ghost use Rattle.cr_kept.specs.Laws.{EvaluationKeepsSorts, OlderValuesFit, StartIsWellFormed, BlocksAreEntered, BlocksAreLeft};
+
+/// A typed expression's value fits its sort, and leaves a world that is well formed.
+pub fn evaluation_keeps_sorts()
+    ensures { EvaluationKeepsSorts }
+{}
+
+/// A value that fitted its sort does so while the objects continue.
+pub fn older_values_fit()
+    ensures { OlderValuesFit }
+{}
+
+/// The world at the start of a run is well formed.
+pub fn start_is_well_formed()
+    ensures { StartIsWellFormed }
+{}
+
+/// Where the objects of a block are entered the world is well formed, and all that was there continues.
+pub fn blocks_are_entered()
+    ensures { BlocksAreEntered }
+{}
+
+/// A block that ends leaves a well-formed world, and all that was there before it continues.
+pub fn blocks_are_left()
+    ensures { BlocksAreLeft }
+{}
