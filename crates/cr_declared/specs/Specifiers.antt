@@ -13,7 +13,7 @@ use Rattle.cr_types.specs.Relations.{qualified}
 use Rattle.cr_declared.specs.declared.words.Base.{Base}
 use Rattle.cr_declared.specs.declared.words.Base.TheVariants as base
 use Rattle.cr_declared.specs.declared.words.Length.{Length}
-use Rattle.cr_declared.specs.declared.words.Length.TheVariants as length
+use Rattle.cr_declared.specs.declared.words.Length.TheVariants as lengths
 use Rattle.cr_declared.specs.declared.words.Sign.{Sign}
 use Rattle.cr_declared.specs.declared.words.Sign.TheVariants as sign
 use Rattle.cr_declared.specs.declared.words.Class.{Class}
@@ -28,7 +28,7 @@ use Rattle.cr_declared.specs.declared.named.Leaf.TheVariants as leaf
 abbrev pub nothing : Specified
 nothing = record {
   base = base.Unsaid;
-  length = length.Unsaid;
+  length = lengths.Unsaid;
   sign = sign.Unsaid;
   constant = false;
   volatile = None;
@@ -63,8 +63,8 @@ specified_by node.Register token declares = stored class.Register token
 specified_by node.Inline token declares = record nothing { inline = Some token }
 specified_by node.Const token declares = record nothing { constant = true }
 specified_by node.Volatile token declares = record nothing { volatile = Some token }
-specified_by node.Short token declares = record nothing { length = length.Short }
-specified_by node.Long token declares = record nothing { length = length.Long }
+specified_by node.Short token declares = record nothing { length = lengths.Short }
+specified_by node.Long token declares = record nothing { length = lengths.Long }
 specified_by node.Signed token declares = record nothing { sign = sign.Signed }
 specified_by node.Unsigned token declares = record nothing { sign = sign.Unsigned }
 specified_by kind token declares = record nothing { base = base_of kind; declares = declares }
@@ -82,10 +82,10 @@ both_bases one base.Unsaid = one
 both_bases one other = base.Several
 
 abbrev pub both_lengths : Length → Length → Length
-both_lengths length.Unsaid other = other
-both_lengths one length.Unsaid = one
-both_lengths length.Long length.Long = length.LongLong
-both_lengths one other = length.Several
+both_lengths lengths.Unsaid other = other
+both_lengths one lengths.Unsaid = one
+both_lengths lengths.Long lengths.Long = lengths.LongLong
+both_lengths one other = lengths.Several
 
 abbrev pub both_signs : Sign → Sign → Sign
 both_signs sign.Unsaid other = other
@@ -113,30 +113,30 @@ joined_of one other = record {
 
 -- the integer types other than those of characters and `_Bool` (6.7.2p2)
 abbrev pub integer_by : Length → Sign → Leaf
-integer_by length.Short sign.Unsaid = leaf.Integer kind.Short
-integer_by length.Short sign.Signed = leaf.Integer kind.Short
-integer_by length.Short sign.Unsigned = leaf.Integer kind.UShort
-integer_by length.Unsaid sign.Unsaid = leaf.Integer kind.Int
-integer_by length.Unsaid sign.Signed = leaf.Integer kind.Int
-integer_by length.Unsaid sign.Unsigned = leaf.Integer kind.UInt
-integer_by length.Long sign.Unsaid = leaf.Integer kind.Long
-integer_by length.Long sign.Signed = leaf.Integer kind.Long
-integer_by length.Long sign.Unsigned = leaf.Integer kind.ULong
-integer_by length.LongLong sign.Unsaid = leaf.Integer kind.LLong
-integer_by length.LongLong sign.Signed = leaf.Integer kind.LLong
-integer_by length.LongLong sign.Unsigned = leaf.Integer kind.ULLong
+integer_by lengths.Short sign.Unsaid = leaf.Integer kind.Short
+integer_by lengths.Short sign.Signed = leaf.Integer kind.Short
+integer_by lengths.Short sign.Unsigned = leaf.Integer kind.UShort
+integer_by lengths.Unsaid sign.Unsaid = leaf.Integer kind.Int
+integer_by lengths.Unsaid sign.Signed = leaf.Integer kind.Int
+integer_by lengths.Unsaid sign.Unsigned = leaf.Integer kind.UInt
+integer_by lengths.Long sign.Unsaid = leaf.Integer kind.Long
+integer_by lengths.Long sign.Signed = leaf.Integer kind.Long
+integer_by lengths.Long sign.Unsigned = leaf.Integer kind.ULong
+integer_by lengths.LongLong sign.Unsaid = leaf.Integer kind.LLong
+integer_by lengths.LongLong sign.Signed = leaf.Integer kind.LLong
+integer_by lengths.LongLong sign.Unsigned = leaf.Integer kind.ULLong
 integer_by l s = leaf.Unknown
 
 -- the row of 6.7.2p2 that the type specifiers are; `Unknown` where they are none (the constraint of that paragraph)
 abbrev pub leaf_by : Base → Length → Sign → Leaf
-leaf_by base.Void length.Unsaid sign.Unsaid = leaf.Void
-leaf_by base.Char length.Unsaid sign.Unsaid = leaf.Integer kind.Char
-leaf_by base.Char length.Unsaid sign.Signed = leaf.Integer kind.SChar
-leaf_by base.Char length.Unsaid sign.Unsigned = leaf.Integer kind.UChar
-leaf_by base.Bool length.Unsaid sign.Unsaid = leaf.Integer kind.Bool
-leaf_by base.Given length.Unsaid sign.Unsaid = leaf.Given
+leaf_by base.Void lengths.Unsaid sign.Unsaid = leaf.Void
+leaf_by base.Char lengths.Unsaid sign.Unsaid = leaf.Integer kind.Char
+leaf_by base.Char lengths.Unsaid sign.Signed = leaf.Integer kind.SChar
+leaf_by base.Char lengths.Unsaid sign.Unsigned = leaf.Integer kind.UChar
+leaf_by base.Bool lengths.Unsaid sign.Unsaid = leaf.Integer kind.Bool
+leaf_by base.Given lengths.Unsaid sign.Unsaid = leaf.Given
 leaf_by base.Int l s = integer_by l s
-leaf_by base.Unsaid length.Unsaid sign.Unsaid = leaf.Unknown
+leaf_by base.Unsaid lengths.Unsaid sign.Unsaid = leaf.Unknown
 leaf_by base.Unsaid l s = integer_by l s
 leaf_by other l s = leaf.Unknown
 
