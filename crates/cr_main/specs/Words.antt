@@ -10,9 +10,9 @@ abbrev pub is : Bool → Bool → Bool
 is true on = on
 is false on = not on
 
--- none is enabled that isn't built: i and p, which are passes 6 and 7
+-- none is enabled that isn't built: i, which is pass 6
 abbrev pub only_built : List Bool → Bool
-only_built enabled = list_all (is false) (slice_range enabled 6 8)
+only_built enabled = list_all (is false) (slice_range enabled 6 7)
 
 -- all passes are enabled, or only such as are built
 abbrev pub are_built : List Bool → Bool

@@ -34,11 +34,11 @@ fn are_built(enabled: &[bool; 10]) -> bool
     are_all(enabled, true) || only_built(enabled)
 }
 
-// Whether i and p aren't enabled, which aren't built.
+// Whether i isn't enabled, which isn't built.
 fn only_built(enabled: &[bool; 10]) -> bool
     ensures { result ≡ only_built enabled.now }
 {
-    are_all(&enabled[6..8], false)
+    are_all(&enabled[6..7], false)
 }
 
 fn are_all(enabled: &[bool], wanted: bool) -> bool

@@ -63,6 +63,12 @@ s 3 4 6¦int x;int main(){{ ;/*a*/{}}do x;while(1);for(;;);switch(1){case 1:whil
 s 4 0 2¦int x;int main(){ ;/*a*/{}do x;while(1);for(;;);switch(1){case 1:while(1)x;default:;}}
 s 4 1 2¦int x;int main(){{ ;/*a*/}do x;while(1);for(;;);switch(1){case 1:while(1)x;default:;}}
 f 0 0 1¦int x;int main(){{;{}}do x;while(1);for(;;);switch(1){case 1:while(1)x;default:;}}
+file¦int f(int x){return x;}int main(){return f(5);}
+p 0 0 1¦int f(void){return 0;}int main(){return f();}
+file¦int f();int f(int a,int b[sizeof a],int c);int f(int a,int b[],int c){return c?f(a,b,f(1,b,2)):a;}int main(int n){int f(int,int*,int);return f(n,0,3);}
+p 0 0 3¦int f();int f(int b[sizeof a],int c);int f(int b[],int c){return c?f(b,f(b,2)):0;}int main(int n){int f(int*,int);return f(0,3);}
+p 0 1 3¦int f();int f(int a,int c);int f(int a,int c){return c?f(a,f(1,2)):a;}int main(int n){int f(int,int);return f(n,3);}
+p 0 2 3¦int f();int f(int a,int b[sizeof a]);int f(int a,int b[]){return 0?f(a,b):a;}int main(int n){int f(int,int*);return f(n,0);}
 file¦int main(){L:return 0;}
 s 5 0 1¦int main(){return 0;}
 file¦int main(){L :/*a*/M:goto M;N:;}
@@ -119,6 +125,7 @@ file¦int a,b,c,d,e,f,g,h,i,j,k,l,m,n,o,p,q,r,s,t,u,v,w,x,y,z;int main(){return 
 u 1 25 26¦int a,b,c,d,e,f,g,h,i,j,k,l,m,n,o,p,q,r,s,t,u,v,w,x,y;int main(){return 0;}
 r 0 0 26¦int aa,b,c,d,e,f,g,h,i,j,k,l,m,n,o,p,q,r,s,t,u,v,w,x,y,z;int main(){return 0;}
 file¦int f(int x){return x;}int main(void){int i=0;i=f(i);return i;}
+p 0 0 1¦int f(void){return 0;}int main(void){int i=0;i=f();return i;}
 r 0 0 3¦int a(int x){return x;}int main(void){int i=0;i=a(i);return i;}
 r 0 2 3¦int f(int x){return x;}int main(void){int a=0;a=f(a);return a;}
 s 0 0 4¦int f(int x){}int main(void){int i=0;i=f(i);return i;}
@@ -202,6 +209,7 @@ c 3 1 3¦volatile int v=1;int main(){v=1;v++;return v&&v;}
 c 3 2 3¦volatile int v=1;int main(){v=v+1;v++;return v;}
 f 0 0 1¦volatile int v=1;int main(){v=v+1;v++;return v&&v;}
 file¦struct p{int a;struct p*n;};static struct p q;int g(struct p*r){return r?r->a:0;}int main(){q.n=&q;return g(q.n);}
+p 0 0 1¦struct p{int a;struct p*n;};static struct p q;int g(void){return 0?0->a:0;}int main(){q.n=&q;return g();}
 r 0 0 4¦struct b{int a;struct b*n;};static struct b q;int g(struct b*r){return r?r->a:0;}int main(){q.n=&q;return g(q.n);}
 r 0 3 4¦struct p{int a;struct p*n;};static struct p q;int g(struct p*b){return b?b->a:0;}int main(){q.n=&q;return g(q.n);}
 s 0 0 3¦struct p{int a;struct p*n;};static struct p q;int g(struct p*r){}int main(){q.n=&q;return g(q.n);}
@@ -220,6 +228,8 @@ c 3 0 2¦struct p{int a;struct p*n;};static struct p q;int g(struct p*r){return 
 c 3 1 2¦struct p{int a;struct p*n;};static struct p q;int g(struct p*r){return r?r->a:0;}int main(){&q;return g(q.n);}
 f 0 0 1¦struct p{int a;struct p*n;};static struct p q;int g(struct p*r){return r?r->a:0;}int main(){q.n=&q;return g(q.n);}
 file¦extern int u;int u=3;static int h(int a,char b){return a+b;}int main(){unsigned long z=sizeof(int);return h(u,1)+z-8;}
+p 0 0 2¦extern int u;int u=3;static int h(char b){return 0+b;}int main(){unsigned long z=sizeof(int);return h(1)+z-8;}
+p 0 1 2¦extern int u;int u=3;static int h(int a){return a+0;}int main(){unsigned long z=sizeof(int);return h(u)+z-8;}
 r 0 0 5¦extern int c;int c=3;static int h(int a,char b){return a+b;}int main(){unsigned long z=sizeof(int);return h(c,1)+z-8;}
 r 0 3 5¦extern int u;int u=3;static int h(int a,char c){return a+c;}int main(){unsigned long z=sizeof(int);return h(u,1)+z-8;}
 r 0 4 5¦extern int u;int u=3;static int h(int a,char b){return a+b;}int main(){unsigned long c=sizeof(int);return h(u,1)+c-8;}
@@ -257,6 +267,7 @@ c 3 0 6¦int main(){int a[2][3]={{1,2},{3}};int*p=&2;for(int i=0;i<2;i++){a[i][0
 c 3 5 6¦int main(){int a[2][3]={{1,2},{3}};int*p=&a[0][2];for(int i=0;i<2;i++){i[0]+=i;}return *p;}
 f 0 0 1¦int main(){int a[2][3]={{1,2},{3}};int*p=&a[0][2];for(int i=0;i<2;i++){a[i][0]+=i;}return*p;}
 file¦void w(int n){while(n){n--;if(n==2)continue;else break;}do n++;while(n<3);}int main(){w(4);return 0;}
+p 0 0 1¦void w(void){while(0){0--;if(0==2)continue;else break;}do 0++;while(0<3);}int main(){w();return 0;}
 r 0 0 2¦void a(int n){while(n){n--;if(n==2)continue;else break;}do n++;while(n<3);}int main(){a(4);return 0;}
 r 0 1 2¦void w(int a){while(a){a--;if(a==2)continue;else break;}do a++;while(a<3);}int main(){w(4);return 0;}
 s 0 0 6¦void w(int n){do n++;while(n<3);}int main(){w(4);return 0;}
@@ -295,6 +306,8 @@ c 3 0 4¦char s[]="ab",*t="cd";int main(){t[1];return s[2];}
 c 3 3 4¦char s[]="ab",*t="cd";int main(){s[0]=t[1];return 2;}
 f 0 0 1¦char s[]="ab",*t="cd";int main(){s[0]=t[1];return s[2];}
 file¦int m(int,int);int m(int a,int b){return a<b?a:b;}int main(){short k=-1;unsigned y=k;return m(3,(int)(y>>31))-1;}
+p 0 0 2¦int m(int);int m(int b){return 0<b?0:b;}int main(){short k=-1;unsigned y=k;return m((int)(y>>31))-1;}
+p 0 1 2¦int m(int);int m(int a){return a<0?a:0;}int main(){short k=-1;unsigned y=k;return m(3)-1;}
 r 0 0 5¦int c(int,int);int c(int a,int b){return a<b?a:b;}int main(){short k=-1;unsigned y=k;return c(3,(int)(y>>31))-1;}
 r 0 4 5¦int m(int,int);int m(int a,int b){return a<b?a:b;}int main(){short k=-1;unsigned c=k;return m(3,(int)(c>>31))-1;}
 s 0 0 4¦int m(int,int);int m(int a,int b){}int main(){short k=-1;unsigned y=k;return m(3,(int)(y>>31))-1;}
@@ -369,6 +382,7 @@ c 2 0 1¦struct t;int main(){return sizeof(int[2]);}
 c 3 0 1¦struct t;int main(){return 8;}
 f 0 0 1¦struct t;int main(){return sizeof(int[2])-8;}
 file¦int f(int n){if(n)return f(n-1);return 0;}int main(){return f(254);}
+p 0 0 1¦int f(void){if(0)return f();return 0;}int main(){return f();}
 r 0 0 2¦int a(int n){if(n)return a(n-1);return 0;}int main(){return a(254);}
 r 0 1 2¦int f(int a){if(a)return f(a-1);return 0;}int main(){return f(254);}
 s 0 0 3¦int f(int n){return 0;}int main(){return f(254);}
@@ -386,6 +400,7 @@ c 2 2 3¦int f(int n){if(n)return f(n-1);return 0;}int main(){return 254;}
 c 3 0 1¦int f(int n){if(n)return f(1);return 0;}int main(){return f(254);}
 f 0 0 1¦int f(int n){if(n)return f(n-1);return 0;}int main(){return f(254);}
 file¦int f(int n){if(n)return f(n-1);return 0;}int main(){return f(255);}
+p 0 0 1¦int f(void){if(0)return f();return 0;}int main(){return f();}
 r 0 0 2¦int a(int n){if(n)return a(n-1);return 0;}int main(){return a(255);}
 r 0 1 2¦int f(int a){if(a)return f(a-1);return 0;}int main(){return f(255);}
 s 0 0 3¦int f(int n){return 0;}int main(){return f(255);}
@@ -444,6 +459,7 @@ c 0 0 1¦int main(void)␊{␊  while (0)␊    ;␊}␊
 c 1 0 1¦int main(void)␊{␊  while (1)␊    ;␊}␊
 f 0 0 1¦int main(void){while(1);}
 file¦int down(int n)␊{␊  return down(n + 1);␊}␊int main(void)␊{␊  return down(0);␊}␊
+p 0 0 1¦int down(void)␊{␊  return down();␊}␊int main(void)␊{␊  return down();␊}␊
 r 0 0 2¦int a(int n)␊{␊  return a(n + 1);␊}␊int main(void)␊{␊  return a(0);␊}␊
 r 0 1 2¦int down(int a)␊{␊  return down(a + 1);␊}␊int main(void)␊{␊  return down(0);␊}␊
 s 0 0 2¦int down(int n)␊{␊  ␊}␊int main(void)␊{␊  return down(0);␊}␊
@@ -524,6 +540,7 @@ c 3 0 7¦struct s { int a; int b; };␊int main(void)␊{␊  struct s x, y;␊ 
 c 3 6 7¦struct s { int a; int b; };␊int main(void)␊{␊  struct s x, y;␊  int b[3] = { 7 };␊  static int z;␊  x.a = 1;␊  y = x;␊  return y.a + 2 + z == 1 ? 0 : 1;␊}␊
 f 0 0 1¦struct s{int a;int b;};int main(void){struct s x,y;int b[3]={7};static int z;x.a=1;y=x;return y.a+b[2]+z==1?0:1;}
 file¦int g;␊int f(int x)␊{␊  g = g * 2 + x;␊  return g;␊}␊int main(void)␊{␊  int r = f(1) + f(2);␊  return r > 0 && g + f(0) ? 0 : 1;␊}␊
+p 0 0 1¦int g;␊int f(void)␊{␊  g = g * 2 + 0;␊  return g;␊}␊int main(void)␊{␊  int r = f() + f();␊  return r > 0 && g + f() ? 0 : 1;␊}␊
 r 0 0 4¦int a;␊int f(int x)␊{␊  a = a * 2 + x;␊  return a;␊}␊int main(void)␊{␊  int r = f(1) + f(2);␊  return r > 0 && a + f(0) ? 0 : 1;␊}␊
 r 0 3 4¦int g;␊int f(int x)␊{␊  g = g * 2 + x;␊  return g;␊}␊int main(void)␊{␊  int a = f(1) + f(2);␊  return a > 0 && g + f(0) ? 0 : 1;␊}␊
 s 0 0 4¦int g;␊int f(int x)␊{␊  ␊  return g;␊}␊int main(void)␊{␊  int r = f(1) + f(2);␊  return r > 0 && g + f(0) ? 0 : 1;␊}␊

@@ -17,6 +17,8 @@ pub enum Pass {
     Statements,
     /// c, expressions.
     Expressions,
+    /// p, parameters.
+    Parameters,
     /// r, new names.
     Renamed,
     /// f, the printed unit.
@@ -36,6 +38,7 @@ pub fn pass_by(number: usize) -> Pass
         3 => Pass::Unused,
         4 => Pass::Statements,
         5 => Pass::Expressions,
+        7 => Pass::Parameters,
         8 => Pass::Renamed,
         9 => Pass::Printed,
         _ => Pass::NotThere,

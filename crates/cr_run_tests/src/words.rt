@@ -102,6 +102,7 @@ yes|--passes|sclf|has:b|f.c
 yes|--passes|rl|has:b|f.c
 no|--passes|li|has:b|f.c
 no|--passes|ip|has:b|f.c
+yes|--passes|pl|has:b|f.c
 no|has:b
 ";
 
