@@ -1,0 +1,106 @@
+-- Operands' answers and what is kept of them.
+use Rattle.std.proofs.Common.{◌≡◌, ℕ, Option, Some, None, Result, Ok, Err, List, [], ◌∷◌, ◌++◌, length, refl, sym, ap, ◌∙◌, subst, arith, length-append}
+use Rattle.std.specs.List.{AllZip}
+use Rattle.cr_memory.specs.declared.value.Trap.{Trap}
+use Rattle.cr_memory.specs.declared.value.Trap.TheVariants.{Undefined, Left, NoMemory}
+use Rattle.cr_meaning.specs.Events.{Event}
+use Rattle.cr_meaning.specs.Language.{went}
+use Rattle.cr_meaning.specs.World.{Program, World, Answer, part, Binding, object_for}
+use Rattle.cr_meaning.specs.Nodes.{Act, expression}
+use Rattle.cr_meaning.specs.declared.op.Op.{Op}
+use Rattle.cr_meaning.specs.declared.op.Work.{Work}
+use Rattle.cr_meaning.specs.declared.op.Work.TheVariants as work
+use Rattle.cr_eval.specs.Answers.{IsFound}
+use Rattle.cr_meaning.specs.declared.value.Value.{Value}
+use Rattle.cr_join.specs.declared.part.Part.{Part}
+use Rattle.cr_join.specs.Parts.{IsFootOf}
+use Rattle.cr_join.specs.Joins.{Joins}
+use Rattle.cr_slices.specs.Shown.{Joined, Answering}
+use Rattle.cr_turns.specs.declared.held.Held.{Held}
+use Rattle.cr_turns.specs.declared.held.Held.TheVariants as held
+use Rattle.cr_turns.specs.Held.{shows}
+use Rattle.cr_expressions.specs.Halts.{held_of, object_of}
+
+pub joins_held : (act : Act) (w : World) (node : ℕ) (r : Result Part Trap) → Joins act w node r → Joined shows act (held_of node r) w
+joins_held act w node (Ok given) h = record { joins = record { answer = part given.value h.says.events; shown = (refl, h.says.footprint); holds = h.says.went_on } }
+joins_held act w node (Err (Undefined number)) h = record { joins = h.says }
+joins_held act w node (Err (Left number)) h = record { joins = h.says }
+joins_held act w node (Err NoMemory) h = record { joins = tt }
+
+-- an answer of which a part is kept
+record IsPart (given : Part) (answer : Answer) : Type 0 where
+  events : List Event
+  foot : IsFootOf given.foot events
+  is : answer ≡ part given.value events
+
+is_part : (given : Part) (answer : Answer) → shows (held.Part given) answer → IsPart given answer
+is_part given (part v events) s = record { events = events; foot = s.1; is = ap (λ (x : Value). part x events) (sym s.0) }
+is_part given other s = absurd s
+
+-- one answer
+alone : (done : List Held) (given : Part) (rest : List Held) → done ≡ rest ++ held.Part given ∷ [] → length done ≡ 1 → done ≡ held.Part given ∷ []
+alone done given [] e size = e
+alone done given (h ∷ rest) e size = absurd (omega (arith, ap length e, length-append rest (held.Part given ∷ []), size))
+
+pub one_joins : (p : Program) (node : ℕ) (op : Op) (done rest : List Held) (given : Part) (answers : List Answer) (w x : World) (r : Result Part Trap)
+    → done ≡ rest ++ held.Part given ∷ [] → length done ≡ 1 → AllZip shows done answers
+    → ((events : List Event) → IsFootOf given.foot events → Joins (expression p node op (part given.value events ∷ []) w) x node r)
+    → Joins (expression p node op answers w) x node r
+one_joins p node op done rest given answers w x r e size z f =
+    let P : List Held → Type 0 = λ hs. AllZip shows hs answers in
+    at_one answers (subst P (alone done given rest e size) z)
+  where
+    at_one : (all : List Answer) → AllZip shows (held.Part given ∷ []) all → Joins (expression p node op all w) x node r
+    at_one [] y = absurd y
+    at_one (a ∷ []) y =
+        let q = is_part given a y.0 in
+        let Q : Answer → Type 0 = λ b. Joins (expression p node op (b ∷ []) w) x node r in subst Q (sym q.is) (f q.events q.foot)
+    at_one (a ∷ (b ∷ all)) y = absurd y.1
+
+-- two answers
+both : (done middle rest : List Held) (left right : Part) → done ≡ middle ++ held.Part right ∷ [] → middle ≡ rest ++ held.Part left ∷ [] → length done ≡ 2
+    → done ≡ held.Part left ∷ (held.Part right ∷ [])
+both done middle [] left right e f size = e ∙ ap (λ (hs : List Held). hs ++ held.Part right ∷ []) f
+both done middle (h ∷ rest) left right e f size =
+    absurd (omega (arith, ap length e, ap length f, length-append middle (held.Part right ∷ []), length-append rest (held.Part left ∷ []), size))
+
+pub two_join : (p : Program) (node : ℕ) (op : Op) (done middle rest : List Held) (left right : Part) (answers : List Answer) (w x : World) (r : Result Part Trap)
+    → done ≡ middle ++ held.Part right ∷ [] → middle ≡ rest ++ held.Part left ∷ [] → length done ≡ 2 → AllZip shows done answers
+    → ((one other : List Event) → IsFootOf left.foot one → IsFootOf right.foot other
+    → Joins (expression p node op (part left.value one ∷ (part right.value other ∷ [])) w) x node r)
+    → Joins (expression p node op answers w) x node r
+two_join p node op done middle rest left right answers w x r e f size z g =
+    let P : List Held → Type 0 = λ hs. AllZip shows hs answers in
+    at_two answers (subst P (both done middle rest left right e f size) z)
+  where
+    at_two : (all : List Answer) → AllZip shows (held.Part left ∷ (held.Part right ∷ [])) all → Joins (expression p node op all w) x node r
+    at_two [] y = absurd y
+    at_two (a ∷ []) y = absurd y.1
+    at_two (a ∷ (b ∷ [])) y =
+        let q = is_part left a y.0 in
+        let t = is_part right b y.1.0 in
+        let Q : Answer → Answer → Type 0 = λ c. λ d. Joins (expression p node op (c ∷ (d ∷ [])) w) x node r in
+        subst (λ (c : Answer). Q c b) (sym q.is) (subst (Q (part left.value q.events)) (sym t.is) (g q.events t.events q.foot t.foot))
+    at_two (a ∷ (b ∷ (c ∷ all))) y = absurd y.1.1
+
+pub none_join : (p : Program) (node : ℕ) (op : Op) (done : List Held) (answers : List Answer) (w x : World) (r : Result Part Trap) → length done ≡ 0 → AllZip shows done answers
+    → Joins (expression p node op [] w) x node r → Joins (expression p node op answers w) x node r
+none_join p node op [] [] w x r size z h = h
+none_join p node op [] (a ∷ answers) w x r size z h = absurd z
+none_join p node op (k ∷ done) answers w x r size z h = absurd (omega arith)
+
+pub unsaid : (act : Act) (w : World) (node : ℕ) → Joins act w node (Err NoMemory)
+unsaid act w node = record { says = tt }
+
+-- ---- objects
+
+some_is : {A : Type 0} {a b : A} → Some a ≡ Some b → a ≡ b
+some_is e = cc
+
+pub some_found : (w : Work) (bindings : List Binding) (declared : ℕ) (object : Option ℕ) → object_of w ≡ Some declared → object_for bindings declared ≡ object → IsFound w bindings object
+some_found (work.Object n) bindings declared object e h = ap (λ (k : ℕ). object_for bindings k) (some_is e) ∙ h
+some_found w bindings declared object e h = absurd (cc e)
+
+pub none_found : (w : Work) (bindings : List Binding) → object_of w ≡ None → IsFound w bindings None
+none_found (work.Object n) bindings e = absurd (cc e)
+none_found w bindings e = tt
