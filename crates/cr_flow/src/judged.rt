@@ -1,0 +1,43 @@
+ghost use Rattle.std.specs.Prelude.{◌≡◌, ◌<◌, IfOk, length};
+ghost use Rattle.cr_rules.specs.Ruled.{AreFacts};
+ghost use Rattle.cr_rules.specs.Breaks.{first_of, IsFirst};
+ghost use Rattle.cr_flow.specs.Ground.{scene_of, AreResults};
+ghost use Rattle.cr_flow.specs.Statements.{faults_of, IsBroken};
+
+use crate::ground::Ground;
+use crate::statements::broken;
+use cr_rules::{Break, lesser};
+use cr_types::Table;
+use std::alloc::AllocError;
+
+/// The first constraint that a statement of a unit breaks; None where none is broken. The error is want of memory, which comes only
+/// where the number of a node doesn't fit 32 bits.
+#[tactic(auto, using(crate::proofs::Firsts::none_yet))]
+pub fn judge(table: &Table, ground: &Ground) -> Result<Option<Break>, AllocError>
+    requires facts { AreFacts table.now ground.now.facts.now }
+    requires results { AreResults (length table.now) ground.now }
+    ensures { IfOk result (λ first. IsFirst (IsBroken (scene_of table.now ground.now)) first) }
+{
+    let mut first = None;
+    for at in 0..ground.nodes.len() {
+        first = lesser(first, node_fault(table, ground, at)?);
+    }
+    Ok(first)
+}
+
+fn node_fault(table: &Table, ground: &Ground, at: usize) -> Result<Option<Break>, AllocError>
+    requires within { at < length ground.now.nodes.now }
+    requires facts { AreFacts table.now ground.now.facts.now }
+    requires results { AreResults (length table.now) ground.now }
+    ensures { IfOk result (λ fault. fault ≡ first_of (faults_of (scene_of table.now ground.now) at)) }
+{
+    let number = number_of(at)?;
+    Ok(broken(table, ground, number, &ground.nodes[at]))
+}
+
+// A number in 32 bits. Where it doesn't fit, that counts as want of memory.
+fn number_of(at: usize) -> Result<u32, AllocError>
+    ensures { IfOk result (λ n. n ≡ at) }
+{
+    u32::try_from(at).map_err(|_| AllocError)
+}
