@@ -11,4 +11,6 @@ mod epochs;
 #[cfg(test)]
 mod events;
 #[cfg(test)]
+mod remembered;
+#[cfg(test)]
 mod stepping;
