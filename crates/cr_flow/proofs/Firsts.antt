@@ -5,7 +5,7 @@ use Rattle.std.proofs.lemmas.Option.{slice_get_past}
 use Rattle.cr_rules.specs.declared.least.Break.{Break}
 use Rattle.cr_rules.specs.Breaks.{IsFirst, IsAmong, lesser, first_of}
 use Rattle.cr_rules.proofs.Firsts.{same_first, joined, first_among}
-use Rattle.cr_flow.specs.Ground.{Scene}
+use Rattle.cr_flow.specs.Setting.{Scene}
 use Rattle.cr_flow.specs.Statements.{faults_if, faults_of, IsBroken}
 
 -- one of the first nodes breaks it

@@ -1,2 +1,2 @@
-pub mod Ground
+pub mod Setting
 pub mod Statements

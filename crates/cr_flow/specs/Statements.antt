@@ -13,7 +13,7 @@ use Rattle.cr_operands.specs.Rules.{is_scalar_value, is_integer_value, assignabl
 use Rattle.cr_rules.specs.declared.least.Break.{Break}
 use Rattle.cr_rules.specs.Ruled.{operand, seen_in, is_type, is_typed}
 use Rattle.cr_rules.specs.Breaks.{fault, IsAmong}
-use Rattle.cr_flow.specs.Ground.{Scene}
+use Rattle.cr_flow.specs.Setting.{Scene}
 
 -- ---- controlling expressions (6.8.4.1p1, 6.8.4.2p1, 6.8.5p2) and the labels of a `switch` (6.8.4.2p3)
 

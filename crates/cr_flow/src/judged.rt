@@ -1,10 +1,10 @@
 ghost use Rattle.std.specs.Prelude.{◌≡◌, ◌<◌, IfOk, length};
 ghost use Rattle.cr_rules.specs.Ruled.{AreFacts};
 ghost use Rattle.cr_rules.specs.Breaks.{first_of, IsFirst};
-ghost use Rattle.cr_flow.specs.Ground.{scene_of, AreResults};
+ghost use Rattle.cr_flow.specs.Setting.{scene_of, AreResults};
 ghost use Rattle.cr_flow.specs.Statements.{faults_of, IsBroken};
 
-use crate::ground::Ground;
+use crate::setting::Setting;
 use crate::statements::broken;
 use cr_rules::{Break, lesser};
 use cr_types::Table;
@@ -13,26 +13,26 @@ use std::alloc::AllocError;
 /// The first constraint that a statement of a unit breaks; None where none is broken. The error is want of memory, which comes only
 /// where the number of a node doesn't fit 32 bits.
 #[tactic(auto, using(crate::proofs::Firsts::none_yet))]
-pub fn judge(table: &Table, ground: &Ground) -> Result<Option<Break>, AllocError>
-    requires facts { AreFacts table.now ground.now.facts.now }
-    requires results { AreResults (length table.now) ground.now }
-    ensures { IfOk result (λ first. IsFirst (IsBroken (scene_of table.now ground.now)) first) }
+pub fn judge(table: &Table, setting: &Setting) -> Result<Option<Break>, AllocError>
+    requires facts { AreFacts table.now setting.now.facts.now }
+    requires results { AreResults (length table.now) setting.now }
+    ensures { IfOk result (λ first. IsFirst (IsBroken (scene_of table.now setting.now)) first) }
 {
     let mut first = None;
-    for at in 0..ground.nodes.len() {
-        first = lesser(first, node_fault(table, ground, at)?);
+    for at in 0..setting.nodes.len() {
+        first = lesser(first, node_fault(table, setting, at)?);
     }
     Ok(first)
 }
 
-fn node_fault(table: &Table, ground: &Ground, at: usize) -> Result<Option<Break>, AllocError>
-    requires within { at < length ground.now.nodes.now }
-    requires facts { AreFacts table.now ground.now.facts.now }
-    requires results { AreResults (length table.now) ground.now }
-    ensures { IfOk result (λ fault. fault ≡ first_of (faults_of (scene_of table.now ground.now) at)) }
+fn node_fault(table: &Table, setting: &Setting, at: usize) -> Result<Option<Break>, AllocError>
+    requires within { at < length setting.now.nodes.now }
+    requires facts { AreFacts table.now setting.now.facts.now }
+    requires results { AreResults (length table.now) setting.now }
+    ensures { IfOk result (λ fault. fault ≡ first_of (faults_of (scene_of table.now setting.now) at)) }
 {
     let number = number_of(at)?;
-    Ok(broken(table, ground, number, &ground.nodes[at]))
+    Ok(broken(table, setting, number, &setting.nodes[at]))
 }
 
 // A number in 32 bits. Where it doesn't fit, that counts as want of memory.

@@ -5,10 +5,10 @@
 //! stands on the rules of expressions, the places of nodes and the clauses of loops.
 #![tactic(auto)]
 
-mod ground;
 mod judged;
+mod setting;
 mod statements;
 
-pub use ground::Ground;
 pub use judged::judge;
+pub use setting::Setting;
 pub use statements::broken;

@@ -4,10 +4,10 @@ ghost use Rattle.cr_types.specs.Types.{Qualified, type_at};
 ghost use Rattle.cr_operands.specs.Values.{seen_at, valued_by};
 ghost use Rattle.cr_rules.specs.Ruled.{seen_in, facts_at, AreFacts};
 ghost use Rattle.cr_rules.specs.Breaks.{fault, first_of};
-ghost use Rattle.cr_flow.specs.Ground.{scene_of, AreResults};
+ghost use Rattle.cr_flow.specs.Setting.{scene_of, AreResults};
 ghost use Rattle.cr_flow.specs.Statements.{is_no_scalar, is_no_integer, has_value, is_constant, is_no_constant, is_valueless, gives_badly, returns_badly, faults_in};
 
-use crate::ground::{Ground, around_at, label_of, repeats, result_row};
+use crate::setting::{Setting, around_at, label_of, repeats, result_row};
 use cr_constants::Constant;
 use cr_nodes::loop_clauses;
 use cr_operands::{Fact, Value, is_assignable, is_integer, is_scalar, value_of};
@@ -17,48 +17,48 @@ use cr_types::Table;
 
 /// The first row of the table of constraints that a statement breaks, by what its expressions have and what stands around it. A row
 /// is judged only where what it speaks of has types.
-pub fn broken(table: &Table, ground: &Ground, at: u32, node: &Node) -> Option<Break>
-    requires facts { AreFacts table.now ground.now.facts.now }
-    requires results { AreResults (length table.now) ground.now }
-    ensures { result ≡ first_of (faults_in node.now.kind (scene_of table.now ground.now) at node.now) }
+pub fn broken(table: &Table, setting: &Setting, at: u32, node: &Node) -> Option<Break>
+    requires facts { AreFacts table.now setting.now.facts.now }
+    requires results { AreResults (length table.now) setting.now }
+    ensures { result ≡ first_of (faults_in node.now.kind (scene_of table.now setting.now) at node.now) }
 {
     let parts = node.parts.as_slice();
-    let around = around_at(ground, at);
+    let around = around_at(setting, at);
     match node.kind {
         Kind::If | Kind::While => {
-            let control = operand(table, ground.facts, parts, 0);
+            let control = operand(table, setting.facts, parts, 0);
             break_if(38, node.first, is_no_scalar(table, control))
         }
         Kind::Do => {
-            let control = operand(table, ground.facts, parts, 1);
+            let control = operand(table, setting.facts, parts, 1);
             break_if(38, node.first, is_no_scalar(table, control))
         }
-        Kind::For => for_fault(table, ground, node),
+        Kind::For => for_fault(table, setting, node),
         Kind::Switch => {
-            let control = operand(table, ground.facts, parts, 0);
+            let control = operand(table, setting.facts, parts, 0);
             break_if(38, node.first, is_no_integer(table, control))
         }
         Kind::Case => {
-            let label = operand(table, ground.facts, parts, 0);
+            let label = operand(table, setting.facts, parts, 0);
             let wrong = is_no_constant(table, label);
-            break_if(38, node.first, either(wrong, repeats(ground, at)))
+            break_if(38, node.first, either(wrong, repeats(setting, at)))
         }
-        Kind::Default => break_if(38, node.first, repeats(ground, at)),
+        Kind::Default => break_if(38, node.first, repeats(setting, at)),
         Kind::Break => break_if(38, node.first, around.breakable.is_none()),
         Kind::Continue => break_if(38, node.first, around.iteration.is_none()),
         Kind::Return => {
-            let row = result_row(ground, around.function);
+            let row = result_row(setting, around.function);
             break_if(
                 39,
                 node.first,
-                returns_badly(table, row, ground.facts, parts),
+                returns_badly(table, row, setting.facts, parts),
             )
         }
         Kind::Goto => {
-            let lost = label_of(ground, at).is_none();
+            let lost = label_of(setting, at).is_none();
             break_if(42, node.last.saturating_sub(1), lost)
         }
-        Kind::Label => break_if(43, node.first, repeats(ground, at)),
+        Kind::Label => break_if(43, node.first, repeats(setting, at)),
         _ => None,
     }
 }
@@ -70,12 +70,12 @@ fn either(one: bool, other: bool) -> bool
 }
 
 // The controlling expression of a `for` may be left out (6.8.5.3p2).
-fn for_fault(table: &Table, ground: &Ground, node: &Node) -> Option<Break>
-    requires { AreFacts table.now ground.now.facts.now }
-    ensures { result ≡ fault 38 node.now.first (is_no_scalar (seen_in (facts_at table.now ground.now.facts.now) (clauses_of ground.now.nodes.now node.now).test)) }
+fn for_fault(table: &Table, setting: &Setting, node: &Node) -> Option<Break>
+    requires { AreFacts table.now setting.now.facts.now }
+    ensures { result ≡ fault 38 node.now.first (is_no_scalar (seen_in (facts_at table.now setting.now.facts.now) (clauses_of setting.now.nodes.now node.now).test)) }
 {
-    let test = loop_clauses(ground.nodes, node).test;
-    let control = fact_of_part(table, ground.facts, test);
+    let test = loop_clauses(setting.nodes, node).test;
+    let control = fact_of_part(table, setting.facts, test);
     break_if(38, node.first, is_no_scalar(table, control))
 }
 

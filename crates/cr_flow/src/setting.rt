@@ -1,6 +1,6 @@
 ghost use Rattle.std.specs.Prelude.{◌≡◌, None, false, slice_index_or};
 ghost use Rattle.cr_places.specs.Around.{outermost};
-ghost use Rattle.cr_flow.specs.Ground.{result_row};
+ghost use Rattle.cr_flow.specs.Setting.{result_row};
 
 use cr_operands::Fact;
 use cr_places::{Around, OUTERMOST};
@@ -8,7 +8,7 @@ use cr_syntax::Node;
 
 /// What the statements of a unit are judged by. Each column has one entry a node, and what is not there is as nothing known.
 #[derive(Clone, Copy)]
-pub struct Ground<'a> {
+pub struct Setting<'a> {
     pub nodes: &'a [Node],
     /// What each expression has.
     pub facts: &'a [Fact],
@@ -23,23 +23,23 @@ pub struct Ground<'a> {
 }
 
 /// What a node has from above.
-pub(crate) fn around_at(ground: &Ground, at: u32) -> Around
-    ensures { result ≡ slice_index_or ground.now.around.now at outermost }
+pub(crate) fn around_at(setting: &Setting, at: u32) -> Around
+    ensures { result ≡ slice_index_or setting.now.around.now at outermost }
 {
     let at = at as usize;
-    if at < ground.around.len() {
-        ground.around[at]
+    if at < setting.around.len() {
+        setting.around[at]
     } else {
         OUTERMOST
     }
 }
 
 /// The row of what a function gives, by its definition.
-pub(crate) fn result_row(ground: &Ground, function: Option<u32>) -> u32
-    ensures { result ≡ result_row ground.now.results.now function }
+pub(crate) fn result_row(setting: &Setting, function: Option<u32>) -> u32
+    ensures { result ≡ result_row setting.now.results.now function }
 {
     match function {
-        Some(node) => number_at(ground.results, node as usize),
+        Some(node) => number_at(setting.results, node as usize),
         None => 0,
     }
 }
@@ -51,24 +51,24 @@ fn number_at(numbers: &[u32], at: usize) -> u32
 }
 
 /// Whether a node repeats an earlier one.
-pub(crate) fn repeats(ground: &Ground, at: u32) -> bool
-    ensures { result ≡ slice_index_or ground.now.again.now at false }
+pub(crate) fn repeats(setting: &Setting, at: u32) -> bool
+    ensures { result ≡ slice_index_or setting.now.again.now at false }
 {
     let at = at as usize;
-    if at < ground.again.len() {
-        ground.again[at]
+    if at < setting.again.len() {
+        setting.again[at]
     } else {
         false
     }
 }
 
 /// The label that a `goto` may name.
-pub(crate) fn label_of(ground: &Ground, at: u32) -> Option<u32>
-    ensures { result ≡ slice_index_or ground.now.labels.now at None }
+pub(crate) fn label_of(setting: &Setting, at: u32) -> Option<u32>
+    ensures { result ≡ slice_index_or setting.now.labels.now at None }
 {
     let at = at as usize;
-    if at < ground.labels.len() {
-        ground.labels[at]
+    if at < setting.labels.len() {
+        setting.labels[at]
     } else {
         None
     }

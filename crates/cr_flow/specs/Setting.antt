@@ -7,7 +7,7 @@ use Rattle.cr_types.specs.declared.shape.Shape.{Shape}
 use Rattle.cr_types.specs.Types.{Qualified, type_at}
 use Rattle.cr_operands.specs.Values.{Seen}
 use Rattle.cr_rules.specs.Ruled.{facts_at}
-use Rattle.cr_flow.specs.declared.ground.Ground as columns
+use Rattle.cr_flow.specs.declared.setting.Setting as columns
 
 pub record Scene : Type 0 where
   pub nodes : List Node
@@ -27,16 +27,16 @@ result_row results None = 0
 result_row results (Some node) = slice_index_or results node 0
 
 -- the same by columns, and the rows of a table
-abbrev pub scene_of : List Shape → columns.Ground → Scene
-scene_of shapes ground = record {
-  nodes = ground.nodes.now;
-  at = facts_at shapes ground.facts.now;
-  around = λ node. slice_index_or ground.around.now node outermost;
-  gives = λ function. type_at shapes (result_row ground.results.now function);
-  again = λ node. slice_index_or ground.again.now node false;
-  label = λ node. slice_index_or ground.labels.now node None;
+abbrev pub scene_of : List Shape → columns.Setting → Scene
+scene_of shapes setting = record {
+  nodes = setting.nodes.now;
+  at = facts_at shapes setting.facts.now;
+  around = λ node. slice_index_or setting.around.now node outermost;
+  gives = λ function. type_at shapes (result_row setting.results.now function);
+  again = λ node. slice_index_or setting.again.now node false;
+  label = λ node. slice_index_or setting.labels.now node None;
 }
 
 -- the rows of results are there
-abbrev pub AreResults : ℕ → columns.Ground → Type 0
-AreResults count ground = (function : Option ℕ) → result_row ground.results.now function < count
+abbrev pub AreResults : ℕ → columns.Setting → Type 0
+AreResults count setting = (function : Option ℕ) → result_row setting.results.now function < count
