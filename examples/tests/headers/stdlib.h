@@ -1,0 +1,2 @@
+void abort(void);
+void exit(int status);
