@@ -6,7 +6,7 @@
 set -eu
 . "$(dirname "${BASH_SOURCE[0]}")/timer.sh"
 begin_timer cr_analysis cr_brackets cr_cursor cr_decls cr_edit cr_exprs cr_ints cr_levels cr_listing cr_machine cr_printer cr_rows cr_syntax cr_tokens \
-  pass_exprs pass_names pass_params pass_stmts pass_text
+  pass_exprs pass_stmts pass_text
 cat >src/main.rt <<'RT'
 //! Makes the indexes of the file on standard input, and a hundred variants of each level.
 #![tactic(auto)]
@@ -17,8 +17,6 @@ use cr_analysis::{Analysis, analyse};
 use cr_cursor::Cursor;
 use cr_edit::{Menu, variant, width};
 use pass_exprs::expressions;
-use pass_names::{renamed, unused};
-use pass_params::parameters;
 use pass_stmts::statements;
 use pass_text::{brackets, count_lines, lines_variant, lines_width, runs_of_tokens};
 use std::io::{self, Read};
@@ -92,30 +90,10 @@ fn main(rt: HostRuntime) -> io::Result<()> {
     }
     let start = Instant::now(&rt)?;
     let analysis = analyse(alloc, file)?;
-    if let Analysis::OfUnit(unit, names) = &analysis {
+    if let Analysis::OfUnit(unit, ..) = &analysis {
         let tokens = unit.tokens.list.as_slice();
         let nodes = unit.nodes.as_slice();
         println!(rt; "parsed {} {}", nodes.len(), start.elapsed(&rt)?.as_micros())?;
-        let start = Instant::now(&rt)?;
-        let menu = unused(alloc, file, unit, names)?;
-        println!(rt; "u {} {}", width(&menu, 0), start.elapsed(&rt)?.as_micros())?;
-        for level in 0..4u8 {
-            let start = Instant::now(&rt)?;
-            let bytes = hundred(&menu, file, level, &mut out);
-            println!(rt; "u-{} {} {} MB/s", level, bytes, start.elapsed(&rt)?.as_micros())?;
-        }
-        let start = Instant::now(&rt)?;
-        let menu = parameters(alloc, file, unit, names)?;
-        println!(rt; "p {} {}", width(&menu, 0), start.elapsed(&rt)?.as_micros())?;
-        let start = Instant::now(&rt)?;
-        let bytes = hundred(&menu, file, 0, &mut out);
-        println!(rt; "p-0 {} {} MB/s", bytes, start.elapsed(&rt)?.as_micros())?;
-        let start = Instant::now(&rt)?;
-        let menu = renamed(alloc, file, unit, names)?;
-        println!(rt; "r {} {}", width(&menu, 0), start.elapsed(&rt)?.as_micros())?;
-        let start = Instant::now(&rt)?;
-        let bytes = hundred(&menu, file, 0, &mut out);
-        println!(rt; "r-0 {} {} MB/s", bytes, start.elapsed(&rt)?.as_micros())?;
         let start = Instant::now(&rt)?;
         let menu = statements(alloc, file, tokens, nodes)?;
         println!(rt; "s {} {}", width(&menu, 0), start.elapsed(&rt)?.as_micros())?;
