@@ -7,8 +7,29 @@ set -eu
 . "$(dirname "${BASH_SOURCE[0]}")/timer.sh"
 begin_timer cr_tokens cr_outside cr_cursor cr_rows cr_core cr_claims cr_pool cr_ints cr_syntax cr_machine cr_listing cr_exprs cr_decls cr_analysis \
   cr_printer cr_edit cr_levels cr_brackets pass_text pass_exprs pass_stmts cr_passes
-mkdir -p specs
+mkdir -p specs proofs/rejected
 touch specs/Lib.antt
+cat >proofs/rejected/Invariants.antt <<'ANTT'
+use Rattle.std.proofs.Common.{◌≤◌, length}
+use Rattle.timer.proofs.rejected.Given as goal
+
+abbrev pub invariant-loop : goal.invariant-loop
+invariant-loop g l = l.workers ≤ length l.bench.judges
+ANTT
+cat >proofs/rejected/Answers.antt <<'ANTT'
+use Rattle.std.proofs.Common.{◌≡◌, ◌+◌, ◌^◌, ◌<◌, ◌≤◌, ℕ, List, length, arith}
+use Rattle.cr_cursor.specs.Variants.{cursors}
+use Rattle.cr_cursor.specs.declared.passes.Passes.{Ghosts as PassesGhosts}
+use Rattle.cr_pool.specs.declared.job.Job.{Job}
+use Rattle.cr_pool.specs.Jobs.{IsPlaced, offer_of}
+use Rattle.timer.proofs.rejected.Goals as goal
+
+placed : {P I L Q : Type 0} (passes : PassesGhosts P I) (job : Job P L Q I) → job.start + job.len ≤ length (cursors (offer_of passes job).widths) → job.start + job.len < 2 ^ 64 → IsPlaced passes job
+placed passes job among fits = record { among = among; fits = fits }
+
+pub epoch-requires-clause-placed : goal.epoch-requires-clause-placed
+epoch-requires-clause-placed g c = λ a b. let count = c.positions-count.ensures.count c.args.file.now in placed _ _ (omega (arith, count)) (omega (arith, c.positions-count.ensures.few))
+ANTT
 cat >src/main.rt <<'RT'
 //! Runs many epochs on the file of standard input, and prints how long they took.
 #![tactic(auto)]
@@ -59,9 +80,10 @@ fn rejected<R: Threads + Sync>(rt: &R, alloc: Global, file: &[u8], len: u64, wor
     let prep = passes.prepare(alloc, file)?;
     let count = positions(&passes, &prep);
     let mut judges = Vec::with_capacity(alloc, 4)?;
-    for _ in 0..4 {
-        judges.push(Refusing { asked: 0 })?;
-    }
+    judges.push(Refusing { asked: 0 })?;
+    judges.push(Refusing { asked: 0 })?;
+    judges.push(Refusing { asked: 0 })?;
+    judges.push(Refusing { asked: 0 })?;
     let mut bench = Bench::new(alloc, judges)?;
     let question = Test::Program(String::from_str(alloc, "t")?);
     let size = match measure(alloc, file)? {
