@@ -1,36 +1,23 @@
 # To be sourced: a program `timer` over some crates, in a folder of its own that goes when the script ends.
 
-# with_below FILE CRATE..: these crates and those they stand on, each behind those below it, as FILE has them.
-with_below() {
-  awk -v named="${*:2}" 'function visit(name, list, count, k) {
-           if (!(name in below) || seen[name]++) return
-           count = split(below[name], list, " ")
-           for (k = 1; k <= count; k++) visit(list[k])
-           print name
-       }
-       { sub(/#.*/, "") }
-       /:/ { name = $1; sub(/:.*/, "", name); rest = $0; sub(/^[^:]*:/, "", rest); below[name] = rest }
-       END { count = split(named, crates, " "); for (k = 1; k <= count; k++) visit(crates[k]) }' "$1"
-}
-
-# begin_timer CRATE..: makes the folder with these crates and those they stand on, as crates.txt has them, and goes to the empty
-# crate `timer`, which stands on those that are named.
+# begin_timer CRATE..: makes the folder with the repository's crates, and goes to the empty crate `timer`, which stands on these. What
+# is below it alone is proved.
 begin_timer() {
-  local top crate part all
+  local top crate part
   top="$(cd "$(dirname "${BASH_SOURCE[0]}")/.." && pwd)"
-  mapfile -t all < <(with_below "$top/crates.txt" "$@")
   lab="$(mktemp -d)"
   trap 'rm -rf "$lab"' EXIT
   touch "$lab/crates.txt"
   cd "$lab"
-  for crate in "${all[@]}"; do
+  for crate in "$top"/crates/*/; do
+    crate="$(basename "$crate")"
     mkdir -p "crates/$crate"
     for part in src specs proofs; do
       [ ! -d "$top/crates/$crate/$part" ] || cp -r "$top/crates/$crate/$part" "crates/$crate/"
     done
   done
   rt new crates/timer start_io >/dev/null 2>&1
-  for crate in "${all[@]}"; do grep "^$crate:" "$top/crates.txt"; done >crates.txt
+  cp "$top/crates.txt" crates.txt
   echo "timer: $*" >>crates.txt
   cd crates/timer
   rm -rf src/* specs proofs stdin stdout BUILD.bazel
