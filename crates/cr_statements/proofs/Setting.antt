@@ -24,7 +24,7 @@ use Rattle.cr_slices.specs.Shown.{Worked}
 use Rattle.cr_slices.specs.declared.nodes.Halted.{Halted}
 use Rattle.cr_slices.specs.declared.nodes.Halted.TheVariants as halted
 use Rattle.std.specs.List.{AllZip}
-use Rattle.cr_meaning.specs.World.{Answer, unset_again}
+use Rattle.cr_meaning.specs.World.{Answer}
 use Rattle.cr_meaning.specs.Meaning.{join_by}
 use Rattle.cr_meaning.specs.declared.op.Op.{Op}
 use Rattle.cr_meaning.specs.declared.op.Work.{Work}
@@ -34,7 +34,7 @@ use Rattle.cr_turns.specs.Held.{shows}
 use Rattle.cr_turns.specs.declared.held.Held.{Held}
 use Rattle.cr_statements.specs.Kept.{values_in, passing}
 use Rattle.cr_statements.proofs.Keeping.{values_shown, passing_joins}
-use Rattle.cr_statements.specs.Sets.{Sets, GivesParts, after_sets}
+use Rattle.cr_statements.specs.Sets.{Sets, GivesParts, after_sets, unset_by, set_by}
 use Rattle.cr_world.specs.Worlds.{halt_of}
 
 -- ---- what has no value
@@ -181,7 +181,7 @@ chars_all xs items place most e n past l =
 -- ---- declarations
 
 pub declare_joins : (p : Program) (node : ℕ) (op : Op) (k : Work) (declared : ℕ) (answers : List Answer) (w v : World) (r : Result (Unit {0}) Halted) (result : Result Held Halted)
-    → k ≡ work.Declare declared → result ≡ passing r → Worked (on_object node w declared (λ object. went next (record w { memory = unset_again w.memory object }))) r v
+    → k ≡ work.Declare declared → result ≡ passing r → Worked (unset_by node declared w) r v
     → Joined shows (join_by p node op k answers w) result v
 declare_joins p node op k declared answers w v r result e f h =
     subst (λ (j : Work). Joined shows (join_by p node op j answers w) result v) (sym e)
@@ -190,10 +190,10 @@ declare_joins p node op k declared answers w v r result e f h =
 
 pub initialise_joins : (p : Program) (node : ℕ) (op : Op) (k : Work) (declared : ℕ) (lines given : List Line) (done kept : List Held) (answers : List Answer) (w v : World)
     (r : Result (Unit {0}) Halted) (result : Result Held Halted) → k ≡ work.Initialise declared lines → given ≡ lines → kept ≡ done → AllZip shows done answers → result ≡ passing r
-    → Worked (on_object node w declared (λ object. initialised p declared w object (initials p w.memory given (values_in kept)))) r v
+    → Worked (set_by p node declared given (values_in kept) w) r v
     → Joined shows (join_by p node op k answers w) result v
 initialise_joins p node op k declared lines given done kept answers w v r result e l d z f h =
-    let act : List Line → List Value → Act = λ ls. λ vs. on_object node w declared (λ object. initialised p declared w object (initials p w.memory ls vs)) in
+    let act : List Line → List Value → Act = λ ls. λ vs. set_by p node declared ls vs w in
     let same : values_in kept ≡ values answers = ap values_in d ∙ sym (values_shown done answers z) in
     subst (λ (j : Work). Joined shows (join_by p node op j answers w) result v) (sym e)
     (subst (λ (q : Result Held Halted). Joined shows (act lines (values answers)) q v) (sym f)

@@ -1,12 +1,30 @@
--- The parts of an object that initialisers set, as the code keeps them.
+-- Declarations of objects, and the parts that initialisers set, as the code keeps them.
 use Rattle.std.specs.Prelude.{◌≡◌, ◌≤◌, ◌<◌, ℕ, Option, Some, None, Result, Ok, Err, List, ◌++◌, length, slice_index_or}
 use Rattle.std.specs.Global.{Vec}
 use Rattle.cr_memory.specs.declared.value.Cell.{Cell}
 use Rattle.cr_memory.specs.declared.value.Cell.TheVariants.{Unset}
 use Rattle.cr_memory.specs.declared.value.Trap.{Trap}
 use Rattle.cr_memory.specs.declared.value.Trap.TheVariants as trap
+use Rattle.cr_meaning.specs.Language.{went}
+use Rattle.cr_meaning.specs.World.{Program, World, next, unset_again}
+use Rattle.cr_meaning.specs.Nodes.{Act, on_object, initials, initialised}
+use Rattle.cr_meaning.specs.declared.op.Line.{Line}
+use Rattle.cr_meaning.specs.declared.value.Value.{Value}
 use Rattle.cr_slices.specs.declared.nodes.Halted.{Halted}
 use Rattle.cr_slices.specs.declared.nodes.Halted.TheVariants.{Undefined, Left, Exited, NoMemory}
+
+-- ---- declarations (6.7, 6.7.9)
+
+-- without an initialiser
+abbrev pub unset_by : ℕ → ℕ → World → Act
+unset_by node declared world = on_object node world declared (λ object. went next (record world { memory = unset_again world.memory object }))
+
+-- with these initialisers of these values
+abbrev pub set_by : Program → ℕ → ℕ → List Line → List Value → World → Act
+set_by p node declared lines given world =
+    on_object node world declared (λ object. initialised p declared world object (initials p world.memory lines given))
+
+-- ---- parts
 
 abbrev pub Sets : Type 0
 Sets = List (ℕ × List Cell)

@@ -1,5 +1,5 @@
 // The ends of statements (C11 6.8).
-ghost use Rattle.std.specs.Prelude.{◌≡◌, length};
+ghost use Rattle.std.specs.Prelude.{◌≡◌};
 ghost use Rattle.cr_meaning.specs.World.{closed};
 ghost use Rattle.cr_meaning.specs.Language.{went};
 ghost use Rattle.cr_meaning.specs.Nodes.{Act, last_in};
@@ -122,12 +122,11 @@ pub(crate) fn for_end(world: &mut World, node: u32, stack: &mut Stack<Held>) -> 
 
 /// The controlling expression of a `switch` without a matching label.
 fn unmatched(world: &World, node: u32, done: &[Held]) -> Result<(), Halted>
-    requires { length done.now ≡ 1 }
     ensures { Gives (λ answers. switch_end node answers (world_of world.now)) done.now (passing result) (world_of world.now) }
 {
     match done {
-        [control, ..] => counted(world, node, control),
-        [] => Err(Halted::NoMemory),
+        [control] => counted(world, node, control),
+        _ => Err(Halted::NoMemory),
     }
 }
 

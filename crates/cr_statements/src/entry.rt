@@ -26,7 +26,8 @@ pub fn before(
     node: u32,
     done: &[Held],
 ) -> Result<(), Halted>
-    ensures work { (answers : List Answer) → AllZip shows done.now answers → Worked (before_by (program_of table.now) node op.now.work answers (world_of world.old)) result (world_of world.new) }
+    ensures work { (answers : List Answer) → AllZip shows done.now answers
+        → Worked (before_by (program_of table.now) node op.now.work answers (world_of world.old)) result (world_of world.new) }
     ensures steps { TakesAtMostOne world.old.steps world.new.steps }
 {
     match &op.work {

@@ -4,13 +4,13 @@ ghost use Rattle.cr_memory.specs.Memory.{live_object};
 ghost use Rattle.cr_memory.specs.Access.{object_at, some_object};
 ghost use Rattle.cr_meaning.specs.Values.{cells_in, cells_of_value};
 ghost use Rattle.cr_meaning.specs.Work.{is_nothing};
-ghost use Rattle.cr_meaning.specs.Nodes.{initial, set_parts, unused_in, with_parts, zeroed, initials, initialised, on_object};
+ghost use Rattle.cr_meaning.specs.Nodes.{initial, set_parts, unused_in, with_parts, zeroed};
 ghost use Rattle.cr_eval.specs.Answers.{Answers, leaving};
 ghost use Rattle.cr_eval.specs.Table.{program_of};
 ghost use Rattle.cr_slices.specs.Shown.{Worked};
 ghost use Rattle.cr_world.specs.Worlds.{world_of};
 ghost use Rattle.cr_statements.specs.Kept.{value_in, values_in};
-ghost use Rattle.cr_statements.specs.Sets.{GivesParts, IsCharAt};
+ghost use Rattle.cr_statements.specs.Sets.{GivesParts, IsCharAt, set_by};
 
 use crate::kept::halted;
 use cr_eval::{Table, UNUSED_VALUE, converted, is_nothing, load};
@@ -249,7 +249,7 @@ pub(crate) fn initialise(
     lines: &[Line],
     done: &[Held],
 ) -> Result<(), Halted>
-    ensures work { (node : ℕ) → Worked (on_object node (world_of world.old) declared (λ object. initialised (program_of table.now) declared (world_of world.old) object (initials (program_of table.now) world.old.store lines.now (values_in done.now)))) result (world_of world.new) }
+    ensures work { (node : ℕ) → Worked (set_by (program_of table.now) node declared lines.now (values_in done.now) (world_of world.old)) result (world_of world.new) }
     ensures steps { world.new.steps ≡ world.old.steps }
 {
     let Some(object) = world.names.find(declared) else {

@@ -1,13 +1,11 @@
 // The objects that statements declare (C11 6.2.4, 6.7, 6.8).
 ghost use Rattle.std.specs.Prelude.{◌≡◌, ℕ};
-ghost use Rattle.cr_meaning.specs.Language.{went};
-ghost use Rattle.cr_meaning.specs.World.{next, unset_again};
-ghost use Rattle.cr_meaning.specs.Nodes.{on_object};
 ghost use Rattle.cr_meaning.specs.Meaning.{switched, for_before, switch_before, block_before};
 ghost use Rattle.cr_eval.specs.Table.{program_of};
 ghost use Rattle.cr_slices.specs.Shown.{Worked, TakesAtMostOne};
 ghost use Rattle.cr_world.specs.Worlds.{world_of};
 ghost use Rattle.cr_statements.specs.Kept.{Does};
+ghost use Rattle.cr_statements.specs.Sets.{unset_by};
 
 use crate::controls::after_two;
 use cr_eval::Table;
@@ -91,7 +89,7 @@ pub(crate) fn declare(
     world: &mut World,
     declared: u32,
 ) -> Result<(), Halted>
-    ensures work { (node : ℕ) → Worked (on_object node (world_of world.old) declared (λ object. went next (record (world_of world.old) { memory = unset_again world.old.store object }))) result (world_of world.new) }
+    ensures work { (node : ℕ) → Worked (unset_by node declared (world_of world.old)) result (world_of world.new) }
     ensures steps { world.new.steps ≡ world.old.steps }
 {
     let Some(object) = world.names.find(declared) else {

@@ -31,7 +31,8 @@ pub fn statement(
     node: u32,
     stack: &mut Stack<Held>,
 ) -> Result<Held, Halted>
-    ensures work { (answers : List Answer) → AllZip shows stack.old.top.done answers → Joined shows (join_by (program_of table.now) node op.now op.now.work answers (world_of world.old)) result (world_of world.new) }
+    ensures work { (answers : List Answer) → AllZip shows stack.old.top.done answers
+        → Joined shows (join_by (program_of table.now) node op.now op.now.work answers (world_of world.old)) result (world_of world.new) }
     ensures below { stack.new.below ≡ stack.old.below }
     ensures steps { world.new.steps ≡ world.old.steps }
 {
