@@ -1,43 +1,25 @@
 -- Controlling expressions, and the ends of statements.
-use Rattle.std.proofs.Common.{◌≡◌, ℕ, suc, pos, Result, Ok, Err, List, [], ◌∷◌, length, refl, sym, ap, ◌∙◌, subst, arith}
+use Rattle.std.proofs.Common.{◌≡◌, ℕ, Result, Ok, Err, List, [], ◌∷◌, length, refl, sym, ap, ◌∙◌, subst, arith}
 use Rattle.std.specs.List.{AllZip}
-use Rattle.cr_ints.specs.declared.kind.IntKind.TheVariants.{Int as IntegerKind}
+use Rattle.cr_memory.specs.declared.value.Scalar.{Scalar}
 use Rattle.cr_memory.specs.declared.value.Trap.{Trap}
-use Rattle.cr_meaning.specs.Language.{went, halts}
-use Rattle.cr_meaning.specs.World.{Program, World, Answer, part, next, broke, continued, jumped, returned, Halt, closed}
-use Rattle.cr_meaning.specs.Nodes.{Act, resulting, last_in}
-use Rattle.cr_meaning.specs.Turns.{last_of}
+use Rattle.cr_meaning.specs.Language.{went}
+use Rattle.cr_meaning.specs.World.{Program, World, Answer, part, next, closed}
+use Rattle.cr_meaning.specs.Nodes.{Act, resulting, entering, deeper, last_in}
 use Rattle.cr_meaning.specs.Values.{asked}
-use Rattle.cr_meaning.specs.Meaning.{controlled, control_before, do_before, for_before, switch_before, switched, block_before, after_loop, after_switch, if_end, while_end, do_end, for_end, switch_end, return_end, program_end}
-use Rattle.cr_meaning.specs.declared.op.Form.{Form}
-use Rattle.cr_meaning.specs.declared.value.Value.{Value}
-use Rattle.cr_meaning.specs.declared.value.Value.TheVariants as value
+use Rattle.cr_meaning.specs.Meaning.{controlled, control_before, do_before, main_entered, program_before, for_before, switch_before, switched, block_before, after_loop, after_switch, if_end, while_end, do_end, for_end, switch_end}
+use Rattle.cr_meaning.specs.declared.op.Parameter.{Parameter}
 use Rattle.cr_slices.specs.Shown.{Worked, Joined}
 use Rattle.cr_slices.specs.declared.nodes.Halted.{Halted}
-use Rattle.cr_slices.specs.declared.nodes.Halted.TheVariants as halted
 use Rattle.cr_turns.specs.Held.{shows}
 use Rattle.cr_turns.specs.declared.held.Held.{Held}
 use Rattle.cr_turns.specs.declared.held.Held.TheVariants as held
 use Rattle.cr_world.proofs.Entering.{worked_ends}
-use Rattle.cr_statements.specs.Kept.{value_in, passing, loop_left, switch_left, program_left, with_answer}
-use Rattle.cr_statements.specs.Parts.{controlled_by, counted_by, returned_by, second_end, behind, as_before}
-use Rattle.cr_statements.proofs.Keeping.{value_shown, none_is, at_one, at_two, at_first, same_count, passing_joins, ending_joins}
+use Rattle.cr_statements.specs.Kept.{passing, loop_left, switch_left, with_answer}
+use Rattle.cr_statements.specs.Parts.{second_end, behind, as_before}
+use Rattle.cr_statements.proofs.Keeping.{same_count, passing_joins, ending_joins}
 
 -- ---- controlling expressions
-
-controlled_shown : (node : ℕ) (h : Held) (a : Answer) (w : World) (r : Result (Unit {0}) Halted) → shows h a → Worked (controlled_by node (value_in h) w) r w
-    → Worked (controlled node a w) r w
-controlled_shown node h a w r s k = subst (λ (v : Value). Worked (controlled_by node v w) r w) (sym (value_shown h a s)) k
-
-pub one_before : (node : ℕ) (h : Held) (done : List Held) (answers : List Answer) (w : World) (r : Result (Unit {0}) Halted) → done ≡ h ∷ [] → AllZip shows done answers
-    → Worked (controlled_by node (value_in h) w) r w → Worked (control_before node answers w) r w
-one_before node h done answers w r e z k =
-    at_one (λ all. Worked (control_before node all w) r w) done h answers e z (λ a s. controlled_shown node h a w r s k)
-
-pub two_before : (node : ℕ) (g h : Held) (done : List Held) (answers : List Answer) (w : World) (r : Result (Unit {0}) Halted) → done ≡ g ∷ (h ∷ []) → AllZip shows done answers
-    → Worked (controlled_by node (value_in h) w) r w → Worked (do_before node answers w) r w
-two_before node g h done answers w r e z k =
-    at_two (λ all. Worked (do_before node all w) r w) done g h answers e z (λ b a s. controlled_shown node h a w r s k)
 
 not_one : (node : ℕ) (answers : List Answer) (w : World) → (length answers ≡ 1 → ⊥) → control_before node answers w ≡ went next w
 not_one node [] w n = refl
@@ -78,15 +60,6 @@ switch_shown held.Continued a s = ap after_switch s
 switch_shown (held.Jumped label) a s = ap after_switch s
 switch_shown (held.Returned v) a s = ap after_switch s
 
-pub program_shown : (h : Held) (a : Answer) → shows h a → shows (program_left h) (program_end a)
-program_shown (held.Part given) (part v events) s = refl
-program_shown (held.Part given) other s = absurd s
-program_shown held.Next a s = ap program_end s
-program_shown held.Broke a s = ap program_end s
-program_shown held.Continued a s = ap program_end s
-program_shown (held.Jumped label) a s = ap program_end s
-program_shown (held.Returned v) a s = ap program_end s
-
 answer_behind : (f : Answer → Answer) (g : Held → Held) → ((h : Held) (a : Answer) → shows h a → shows (g h) (f a))
     → (act : Act) (r : Result Held Halted) (w : World) → Joined shows act r w → Joined shows (behind f as_before act) (with_answer g r) w
 answer_behind f g same act (Ok h) w k =
@@ -96,31 +69,6 @@ answer_behind f g same act (Err halted) w k =
 
 pub loop_behind : (act : Act) (r : Result Held Halted) (w : World) → Joined shows act r w → Joined shows (behind after_loop as_before act) (with_answer loop_left r) w
 loop_behind act r w k = answer_behind after_loop loop_left loop_shown act r w k
-
--- ---- a statement that closes
-
-pub closed_behind : (act : Act) (h : Held) (w v : World) → Joined shows act (Ok h) w → Worked (went next (closed w)) (Ok tt) v
-    → Joined shows (behind as_before closed act) (Ok h) v
-closed_behind act h w v k c =
-    let same : closed w ≡ v = cc c.works in
-    record {
-      joins = record {
-        answer = k.joins.answer;
-        shown = k.joins.shown;
-        holds = ap (behind as_before closed) k.joins.holds ∙ ap (λ (u : World). went k.joins.answer u) same;
-      };
-    }
-
-pub not_closed : (act : Act) (w v : World) (halted : Halted) → Worked (went next (closed w)) (Err halted) v → Joined shows act (Err halted) v
-not_closed act w v (halted.Undefined number node) c = absurd (cc c.works)
-not_closed act w v (halted.Left number node) c = absurd (cc c.works)
-not_closed act w v (halted.Exited status) c = absurd (cc c.works)
-not_closed act w v halted.NoMemory c = record { joins = tt }
-
-pub ended_behind : (act : Act) (halted : Halted) (w : World) → Joined shows act (Err halted) w → Joined shows (behind as_before closed act) (Err halted) w
-ended_behind act halted w k =
-    ending_joins (behind as_before closed act) halted w
-    (worked_ends act (behind as_before closed act) halted w (λ halt e. ap (behind as_before closed) e) (record { works = k.joins }))
 
 -- ---- selection and iteration
 
@@ -202,13 +150,6 @@ for_ends node answers r w v k = subst (λ (act : Act). Joined shows act r v) (fo
 
 -- ---- `switch`
 
-pub unmatched_one : (node : ℕ) (h : Held) (done : List Held) (answers : List Answer) (w : World) (r : Result (Unit {0}) Halted) → done ≡ h ∷ [] → AllZip shows done answers
-    → Worked (counted_by node (value_in h) w) r w → Joined shows (switch_end node answers w) (passing r) w
-unmatched_one node h done answers w r e z k =
-    at_one (λ all. Joined shows (switch_end node all w) (passing r) w) done h answers e z
-    (λ a s. passing_joins (switch_end node (a ∷ []) w) r w
-    (subst (λ (v : Value). Worked (counted_by node v w) r w) (sym (value_shown h a s)) k))
-
 switch_last_is : (node : ℕ) (answers : List Answer) (w : World) → (length answers ≡ 1 → ⊥)
     → behind as_before closed (went (after_switch (last_in answers)) w) ≡ switch_end node answers w
 switch_last_is node [] w n = refl
@@ -225,29 +166,7 @@ switch_ends node done answers h r w v n z s f =
     subst (λ (act : Act). Joined shows act r v) (switch_last_is node answers w (λ e. n (sym (same_count done answers z) ∙ e)))
     (f (went (after_switch (last_in answers)) w) (went_joins (switch_left h) (after_switch (last_in answers)) w (switch_shown h (last_in answers) s)))
 
--- ---- `return`
-
-pub returned_none : (node : ℕ) (form : Form) (done : List Held) (answers : List Answer) (w : World) → done ≡ [] → AllZip shows done answers
-    → Joined shows (return_end node form answers w) (Ok (held.Returned value.Nothing)) w
-returned_none node form done answers w e z =
-    record { joins = record { answer = returned value.Nothing; shown = refl; holds = ap (λ all. return_end node form all w) (none_is done answers e z) } }
-
-pub returned_first : (node : ℕ) (form : Form) (h : Held) (done rest : List Held) (answers : List Answer) (w : World) (r : Result Held Halted) → done ≡ h ∷ rest
-    → AllZip shows done answers → Joined shows (returned_by node form (value_in h) w) r w → Joined shows (return_end node form answers w) r w
-returned_first node form h done rest answers w r e z k =
-    at_first (λ all. Joined shows (return_end node form all w) r w) done rest h answers e z
-    (λ a others s. subst (λ (v : Value). Joined shows (returned_by node form v w) r w) (sym (value_shown h a s)) k)
-
-pub returning : {A : Type 0} → (node : ℕ) (want : Result A Trap) (a : A) (f : A → Value) (w : World) → want ≡ Ok a
-    → Joined shows (resulting node want (λ new. went (returned (f new)) w)) (Ok (held.Returned (f a))) w
-returning node want a f w e =
-    record { joins = record { answer = returned (f a); shown = refl; holds = ap (λ r. resulting node r (λ new. went (returned (f new)) w)) e } }
-
 -- ---- blocks, `for` and `switch` begin
-
-pub first_is : (done : List Held) (answers : List Answer) → length done ≡ 0 → AllZip shows done answers → answers ≡ []
-first_is [] answers e z = none_is [] answers refl z
-first_is (h ∷ done) answers e z = absurd (omega (arith, e))
 
 pub block_later : (p : Program) (objects : List ℕ) (done : List Held) (answers : List Answer) (w : World) → (length done ≡ 0 → ⊥) → AllZip shows done answers
     → Worked (block_before p objects answers w) (Ok tt) w
@@ -286,3 +205,12 @@ pub switch_later : (p : Program) (body : ℕ) (objects : List ℕ) (done : List 
     → Worked (switch_before p body objects answers w) (Ok tt) w
 switch_later p body objects done answers w n z =
     record { works = switch_later_is p body objects answers w (λ e. n (sym (same_count done answers z) ∙ e)) }
+
+pub program_later : (p : Program) (objects : List ℕ) (parameters : List Parameter) (strings : Scalar) (done : List Held) (answers : List Answer) (w v : World)
+    (result : Result (Unit {0}) Halted) → (length done ≡ 0 → ⊥) → AllZip shows done answers → Worked (entering (main_entered p strings parameters (deeper w))) result v
+    → Worked (program_before p objects parameters strings answers w) result v
+program_later p objects parameters strings done answers w v result n z k = of_all answers (λ e. n (sym (same_count done answers z) ∙ e))
+  where
+    of_all : (all : List Answer) → (length all ≡ 0 → ⊥) → Worked (program_before p objects parameters strings all w) result v
+    of_all [] m = absurd (m refl)
+    of_all (a ∷ all) m = k

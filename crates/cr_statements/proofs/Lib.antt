@@ -1,4 +1,3 @@
 pub mod Keeping
 pub mod Ending
-pub mod Starting
 pub mod Setting

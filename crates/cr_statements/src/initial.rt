@@ -1,10 +1,10 @@
 // Initialisers (C11 6.7.9).
-ghost use Rattle.std.specs.Prelude.{◌≡◌, ℕ, Ok, ◌∷◌, [], take, IfOk};
+ghost use Rattle.std.specs.Prelude.{◌≡◌, ℕ, Ok, ◌∷◌, [], take, IfOk, IfSome};
 ghost use Rattle.cr_memory.specs.Memory.{live_object};
 ghost use Rattle.cr_memory.specs.Access.{object_at, some_object};
 ghost use Rattle.cr_meaning.specs.Values.{cells_in, cells_of_value};
 ghost use Rattle.cr_meaning.specs.Work.{is_nothing};
-ghost use Rattle.cr_meaning.specs.Nodes.{initial, set_parts, unused_in, with_parts, zeroed};
+ghost use Rattle.cr_meaning.specs.Nodes.{initial, set_parts, unused_in, with_parts, zeroed, initialised};
 ghost use Rattle.cr_eval.specs.Answers.{Answers, leaving};
 ghost use Rattle.cr_eval.specs.Table.{program_of};
 ghost use Rattle.cr_slices.specs.Shown.{Worked};
@@ -240,6 +240,105 @@ fn fill(
     }
 }
 
+// ---- a scalar's one initialiser, for which no list is made
+
+/// The one cell of a scalar.
+#[inline]
+fn scalar_of(value: &Value) -> Option<Cell>
+    ensures { IfSome result (λ cell. cells_of_value value.now ≡ cell ∷ []) }
+{
+    match value {
+        Value::Number(_, number) => Some(Cell::Number(*number)),
+        Value::Pointer(at) => Some(Cell::Pointer(*at)),
+        _ => None,
+    }
+}
+
+/// What an initialiser gives a scalar, if it does.
+#[inline]
+fn scalar_initial(
+    alloc: Global,
+    table: &Table,
+    store: &Store,
+    line: Line,
+    value: &Value,
+) -> Option<Cell>
+    ensures { IfSome result (λ cell. initial (program_of table.now) store.now line value.now ≡ Ok (cell ∷ [])) }
+{
+    match value {
+        Value::Number(_, _) | Value::Pointer(_) => {
+            match converted(alloc, store, line.form, value) {
+                Ok(new) => scalar_of(&new),
+                Err(_) => None,
+            }
+        }
+        _ => None,
+    }
+}
+
+/// The only part that is set, where it is a scalar.
+fn lone_part(
+    alloc: Global,
+    table: &Table,
+    store: &Store,
+    lines: &[Line],
+    done: &[Held],
+) -> Option<(u32, Cell)>
+    ensures { IfSome result (λ set. set_parts (program_of table.now) store.now lines.now (values_in done.now) ≡ Ok ((set.0, set.1 ∷ []) ∷ [])) }
+{
+    let ([line], [Held::Part(part)]) = (lines, done) else {
+        return None;
+    };
+    match scalar_initial(alloc, table, store, *line, &part.value) {
+        Some(cell) => Some((line.cell, cell)),
+        None => None,
+    }
+}
+
+fn fill_one(
+    alloc: Global,
+    table: &Table,
+    store: &mut Store,
+    declared: u32,
+    object: u32,
+    set: (u32, Cell),
+) -> Result<(), Trap>
+    ensures { Answers (Ok (with_parts (zeroed (program_of table.now) store.old object declared) object ((set.0, set.1 ∷ []) ∷ []))) (leaving store.new result) }
+{
+    match blank(alloc, shape_for(table, declared), store, object) {
+        Ok(()) => write(store, object, set.0, &[set.1]),
+        Err(_) => Err(Trap::NoMemory),
+    }
+}
+
+// ---- the declarator
+
+/// All parts that are set, and the rest zero or null.
+fn set_all(
+    alloc: Global,
+    table: &Table,
+    world: &mut World,
+    declared: u32,
+    object: u32,
+    lines: &[Line],
+    done: &[Held],
+) -> Result<(), Halted>
+    ensures work { Worked (initialised (program_of table.now) declared (world_of world.old) object (set_parts (program_of table.now) world.old.store lines.now (values_in done.now))) result (world_of world.new) }
+    ensures steps { world.new.steps ≡ world.old.steps }
+{
+    let filled = match lone_part(alloc, table, &world.store, lines, done) {
+        Some(set) => fill_one(alloc, table, &mut world.store, declared, object, set),
+        None => {
+            let sets = parts_of(alloc, table, &world.store, lines, done)?;
+            fill(alloc, table, &mut world.store, declared, object, &sets)
+        }
+    };
+    match filled {
+        Ok(()) => Ok(()),
+        Err(_) => Err(Halted::NoMemory),
+    }
+}
+
 /// A declarator with initialisers sets its object once all of them are evaluated: U15 of any of them, then U10.
 pub(crate) fn initialise(
     alloc: Global,
@@ -255,14 +354,8 @@ pub(crate) fn initialise(
     let Some(object) = world.names.find(declared) else {
         return Err(Halted::NoMemory);
     };
-    if let Some(user) = unused_in(lines, done) {
-        return Err(Halted::Undefined(UNUSED_VALUE, user));
-    }
-    match parts_of(alloc, table, &world.store, lines, done) {
-        Ok(sets) => match fill(alloc, table, &mut world.store, declared, object, &sets) {
-            Ok(()) => Ok(()),
-            Err(_) => Err(Halted::NoMemory),
-        },
-        Err(halted) => Err(halted),
+    match unused_in(lines, done) {
+        Some(user) => Err(Halted::Undefined(UNUSED_VALUE, user)),
+        None => set_all(alloc, table, world, declared, object, lines, done),
     }
 }

@@ -1,7 +1,7 @@
 use Rattle.std.proofs.Common.{rules}
 use Rattle.cr_eval.specs.Table.{program_of}
 use Rattle.cr_world.specs.Worlds.{world_of}
-use Rattle.cr_statements.proofs.Starting.{program_later}
+use Rattle.cr_statements.proofs.Ending.{program_later}
 use Rattle.cr_statements.proofs.program.program_before.Goals as goal
 
 pub returns-else-is_empty-clause-work : goal.returns-else-is_empty-clause-work
