@@ -4,7 +4,6 @@ use Rattle.std.specs.List.{AllZip}
 use Rattle.cr_meaning.specs.World.{World, Answer, part, next}
 use Rattle.cr_meaning.specs.Nodes.{Act, value_of, values, last_in}
 use Rattle.cr_meaning.specs.Turns.{last_of}
-use Rattle.cr_eval.specs.Answers.{Answers}
 use Rattle.cr_slices.specs.Shown.{Worked, Joined}
 use Rattle.cr_slices.specs.declared.nodes.Halted.{Halted}
 use Rattle.cr_turns.specs.Held.{shows}

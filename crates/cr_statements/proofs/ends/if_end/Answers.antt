@@ -5,7 +5,6 @@ use Rattle.cr_meaning.specs.Meaning.{if_end}
 use Rattle.cr_turns.specs.Held.{shows}
 use Rattle.cr_turns.specs.declared.held.Held.{Held}
 use Rattle.cr_world.specs.Worlds.{world_of}
-use Rattle.cr_statements.specs.Parts.{second_end}
 use Rattle.cr_statements.proofs.Ending.{if_control, if_last}
 use Rattle.cr_statements.proofs.ends.if_end.Goals as goal
 

@@ -1,7 +1,6 @@
 use Rattle.std.proofs.Common.{ap, arith, sym, subst, length, Result, rules}
 use Rattle.cr_slices.specs.Shown.{Joined}
 use Rattle.cr_slices.specs.declared.nodes.Halted.{Halted}
-use Rattle.cr_meaning.specs.Meaning.{if_end}
 use Rattle.cr_turns.specs.Held.{shows}
 use Rattle.cr_turns.specs.declared.held.Held.{Held}
 use Rattle.cr_world.specs.Worlds.{world_of}

@@ -1,8 +1,5 @@
-use Rattle.std.proofs.Common.{Ok, Result, sym, subst, ap, arith, length}
-use Rattle.cr_meaning.specs.Meaning.{switch_end}
-use Rattle.cr_meaning.specs.Nodes.{Act}
+use Rattle.std.proofs.Common.{Ok, sym, subst, ap, arith, length}
 use Rattle.cr_slices.specs.Shown.{Joined}
-use Rattle.cr_slices.specs.declared.nodes.Halted.{Halted}
 use Rattle.cr_turns.specs.Held.{shows}
 use Rattle.cr_turns.specs.declared.held.Held.{Held}
 use Rattle.cr_world.specs.Worlds.{world_of}

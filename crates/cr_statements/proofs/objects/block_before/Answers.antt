@@ -1,4 +1,4 @@
-use Rattle.std.proofs.Common.{arith, rules}
+use Rattle.std.proofs.Common.{rules}
 use Rattle.cr_eval.specs.Table.{program_of}
 use Rattle.cr_world.specs.Worlds.{world_of}
 use Rattle.cr_statements.proofs.Ending.{block_later}
