@@ -1,9 +1,14 @@
 //! What a reader expects of evaluation. The program calls none of these functions.
-ghost use Rattle.cr_kept.specs.Laws.{EvaluationKeepsSorts, OlderValuesFit, StartIsWellFormed, BlocksAreEntered, BlocksAreLeft};
+ghost use Rattle.cr_kept.specs.Laws.{EvaluationKeepsSorts, ProgramsGiveStatuses, OlderValuesFit, StartIsWellFormed, BlocksAreEntered, BlocksAreLeft};
 
-/// A typed expression's value fits its sort, and leaves a world that is well formed.
+/// The answer of a typed node fits its sort, and leaves a world that is well formed.
 pub fn evaluation_keeps_sorts()
     ensures { EvaluationKeepsSorts }
+{}
+
+/// What a typed program answers is a status.
+pub fn programs_give_statuses()
+    ensures { ProgramsGiveStatuses }
 {}
 
 /// A value that fitted its sort does so while the objects continue.
