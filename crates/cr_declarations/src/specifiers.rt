@@ -1,0 +1,46 @@
+ghost use Rattle.std.specs.Prelude.{◌≡◌, slice_index_or};
+ghost use Rattle.cr_declared.specs.Specifiers.{nothing};
+ghost use Rattle.cr_declarations.specs.Specifiers.{tag_declares, declares_by, joined_in, said_by};
+
+use crate::before::{Columns, specified_of};
+use crate::tree::{Tag, Tree, tag_of};
+use cr_declared::{Specified, UNSAID, joined, specifier};
+use cr_syntax::{Kind, Node};
+
+/// What a node says as specifiers of a declaration, by what its parts say.
+pub fn specified(tree: &Tree, columns: &Columns, at: u32, node: &Node) -> Specified
+    ensures { result ≡ said_by node.now.kind (λ p. slice_index_or columns.now.specified.now p nothing) (slice_index_or tree.now.tags.now at None) node.now }
+{
+    match node.kind {
+        Kind::Specifiers | Kind::PlainSpecifiers => joined_in(columns, node.parts.as_slice()),
+        kind => specifier(kind, node.first, declares(kind, tag_of(tree, at))),
+    }
+}
+
+fn joined_in(columns: &Columns, parts: &[u32]) -> Specified
+    ensures { result ≡ joined_in (λ p. slice_index_or columns.now.specified.now p nothing) parts.now }
+{
+    let mut said = UNSAID;
+    for part in parts {
+        said = joined(said, specified_of(columns, Some(*part)));
+    }
+    said
+}
+
+fn declares(kind: Kind, tag: Option<Tag>) -> bool
+    ensures { result ≡ declares_by kind tag }
+{
+    match kind {
+        Kind::EnumContent => true,
+        _ => tag_declares(tag),
+    }
+}
+
+fn tag_declares(tag: Option<Tag>) -> bool
+    ensures { result ≡ tag_declares tag }
+{
+    match tag {
+        Some(tag) => tag.declares,
+        None => false,
+    }
+}
