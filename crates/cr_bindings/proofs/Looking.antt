@@ -66,10 +66,10 @@ seen name past tokens stack column (Name t r) s h = record {
       set_by (k == t) name past r t k column (found_in stack (name t)) refl (let c = h.count in omega (arith, low, c))
       (ap (λ x. found_in x (name t)) s ∙ sym (looked name (name t) zero past)) (h.each k low);
 }
-seen name past tokens stack column Opens s h = record { count = h.count; each = h.each; }
-seen name past tokens stack column Closes s h = record { count = h.count; each = h.each; }
-seen name past tokens stack column (Member t k) s h = record { count = h.count; each = h.each; }
-seen name past tokens stack column (Node i) s h = record { count = h.count; each = h.each; }
+seen name past tokens stack column Opens s h = record { count = h.count; each = h.each }
+seen name past tokens stack column Closes s h = record { count = h.count; each = h.each }
+seen name past tokens stack column (Member t k) s h = record { count = h.count; each = h.each }
+seen name past tokens stack column (Node i) s h = record { count = h.count; each = h.each }
 
 -- one event more
 pub followed : (name : ℕ → ℕ) (events : List Event) (k tokens : ℕ) (event : Event) (stack stack' : List Binding) (column column' : List (Option ℕ))

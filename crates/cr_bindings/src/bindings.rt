@@ -6,9 +6,8 @@ use crate::entities::{declaring, entity_at, first_of, is_marked, previous};
 use crate::last::at;
 use crate::nodes::{contents, declarers, specifiers, tag_at};
 use crate::visible::visible;
-use cr_events::events;
 use cr_rows::Row;
-use cr_scopes::{Names, names_of};
+use cr_scopes::Names;
 use cr_syntax::{Node, Unit};
 use cr_tokens::Token;
 use std::alloc::{AllocError, Global};
@@ -55,7 +54,6 @@ fn entry_at(column: &Row<Option<u32>>, number: Option<usize>) -> Option<u32>
 
 impl Bindings {
     /// The declarations of the names of a unit. The error is want of memory.
-    #[tactic(auto, using(crate::proofs::Renamed::as_spelled))]
     pub fn new(
         alloc: Global,
         file: &[u8],
@@ -69,11 +67,9 @@ impl Bindings {
         let nodes = unit.nodes.as_slice();
         let declaring = declaring(alloc, names)?;
         let previous = previous(alloc, names, &declaring)?;
-        let spellings = names_of(alloc, file, tokens)?;
-        let events = events(alloc, unit)?;
         Ok(Bindings {
             declarers: Row::from_vec(declarers(alloc, nodes, tokens.len())?),
-            visible: Row::from_vec(visible(alloc, &spellings, &events, tokens.len())?),
+            visible: Row::from_vec(visible(alloc, file, unit)?),
             declaring: Row::from_vec(declaring),
             previous: Row::from_vec(previous),
             specifiers: Row::from_vec(specifiers(alloc, nodes, tokens)?),
@@ -86,10 +82,7 @@ impl Bindings {
     pub fn visible_at(&self, token: u32) -> Option<u32>
         ensures { result ≡ visible_node self.now token }
     {
-        entry(
-            &self.declarers,
-            at(self.visible.as_slice(), token as usize),
-        )
+        entry(&self.declarers, at(self.visible.as_slice(), token as usize))
     }
 
     /// The last node before a token that declares the same (6.2.7p2).

@@ -25,10 +25,7 @@ fn entity_within(count: usize, entity: Option<u32>) -> Option<usize>
 pub(crate) fn entity_at(names: &Names, token: usize) -> Option<usize>
     ensures { result ≡ entity_of_token names.now token }
 {
-    entity_within(
-        names.entities.len(),
-        at(names.of_token.as_slice(), token),
-    )
+    entity_within(names.entities.len(), at(names.of_token.as_slice(), token))
 }
 
 fn mark(column: &mut Vec<bool>, at: usize)

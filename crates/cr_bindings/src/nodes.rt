@@ -35,7 +35,7 @@ fn name_at(nodes: &[Node], at: u32) -> Option<usize>
 }
 
 /// For each token the whole declarator, or the enumerator, that declares it.
-#[tactic(auto, using(crate::proofs::Last::put_last))]
+
 pub(crate) fn declarers(
     alloc: Global,
     nodes: &[Node],

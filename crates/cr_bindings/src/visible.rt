@@ -3,12 +3,17 @@ ghost use Rattle.std.specs.Prelude.{◌≡◌, OnOk, IfOk, length};
 ghost use Rattle.cr_bindings.specs.Stacks.{entered};
 ghost use Rattle.cr_bindings.specs.Visible.{seen_by, AreVisible};
 ghost use Rattle.cr_scopes.specs.Looking.{stands_in};
+ghost use Rattle.cr_scopes.specs.Spelled.{name_of};
 ghost use Rattle.cr_scopes.specs.States.{name_in};
+ghost use Rattle.cr_scopes.specs.Units.{unit_events};
 ghost use Rattle.cr_scopes.specs.declared.scope.Space.TheVariants.{Ordinary};
+ghost use Rattle.cr_syntax.specs.Words.{AreSpans};
 
 use crate::last::set;
 use crate::scoped::Scoped;
-use cr_events::{Event, Role};
+use cr_events::{Event, Role, events};
+use cr_scopes::names_of;
+use cr_syntax::Unit;
 use std::alloc::{AllocError, Global};
 
 fn name_at(names: &[u32], token: u32) -> u32
@@ -60,9 +65,8 @@ fn follow(
     }
 }
 
-/// For each token the one that declares its name where it stands. Names are numbers of tokens.
-#[tactic(auto, using(crate::proofs::Looking::followed))]
-pub(crate) fn visible(
+// For each token the one that declares its name where it stands. Names are numbers of tokens.
+fn visible_by(
     alloc: Global,
     names: &[u32],
     events: &[Event],
@@ -76,4 +80,20 @@ pub(crate) fn visible(
         follow(&mut scoped, &mut visible, names, *event)?;
     }
     Ok(visible)
+}
+
+/// For each token of a unit the one that declares its name where it stands.
+#[tactic(auto, using(crate::proofs::Renamed::as_spelled))]
+pub(crate) fn visible(
+    alloc: Global,
+    file: &[u8],
+    unit: &Unit,
+) -> Result<Vec<Option<u32>>, AllocError>
+    requires { AreSpans file.now unit.now.tokens.list.items }
+    ensures { IfOk result (λ column. AreVisible (name_of file.now unit.now.tokens.list.items) (unit_events unit.now) (length unit.now.tokens.list.items) column.items) }
+{
+    let tokens = unit.tokens.list.as_slice();
+    let names = names_of(alloc, file, tokens)?;
+    let events = events(alloc, unit)?;
+    visible_by(alloc, &names, &events, tokens.len())
 }
