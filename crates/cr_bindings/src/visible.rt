@@ -83,7 +83,6 @@ fn visible_by(
 }
 
 /// For each token of a unit the one that declares its name where it stands.
-#[tactic(auto, using(crate::proofs::Renamed::as_spelled))]
 pub(crate) fn visible(
     alloc: Global,
     file: &[u8],
@@ -95,5 +94,6 @@ pub(crate) fn visible(
     let tokens = unit.tokens.list.as_slice();
     let names = names_of(alloc, file, tokens)?;
     let events = events(alloc, unit)?;
-    visible_by(alloc, &names, &events, tokens.len())
+    let column = visible_by(alloc, &names, &events, tokens.len())?;
+    Ok(column)
 }

@@ -1,14 +1,8 @@
-use Rattle.std.proofs.Common.{rules, ◌≡◌, OnOk, IfOk, length, ℕ, ◌+◌, ◌-◌, ◌*◌, ◌<◌, ◌≤◌, ◌/◌, ◌%◌, Bool, true, false, nat_eq, nat_lt, List, [], ◌∷◌, ◌++◌, slice_index_or, slice_set, bit_and, bit_or, Fits, w8, w32, w64, Bor, MutBor}
-use Rattle.cr_bindings.specs.Stacks.{entered}
-use Rattle.cr_bindings.specs.Visible.{seen_by, AreVisible}
-use Rattle.cr_scopes.specs.Looking.{stands_in}
-use Rattle.cr_scopes.specs.Spelled.{name_of}
-use Rattle.cr_scopes.specs.States.{name_in}
-use Rattle.cr_scopes.specs.Units.{unit_events}
-use Rattle.cr_scopes.specs.declared.scope.Space.TheVariants.{Ordinary}
-use Rattle.cr_syntax.specs.Words.{AreSpans}
+use Rattle.cr_bindings.proofs.Renamed.{as_spelled}
 use Rattle.cr_bindings.proofs.visible.visible.Goals as goal
 
--- src/visible.rt:86:1
 pub returns : goal.returns
-returns c = ?
+returns c =
+    as_spelled c.args.file.now c.args.unit.now c.as_slice-tokens.result.now c.in_ok-names.names.items c.deref.result.now
+    c.in_ok-events.events.items c.deref-2.result.now c.in_ok-column.column.items c.as_slice-tokens.ensures.value c.in_ok-names.ensures
+    c.deref.ensures.value c.in_ok-events.ensures c.deref-2.ensures.value c.in_ok-column.ensures
