@@ -7,7 +7,7 @@ use Rattle.cr_memory.specs.declared.value.Trap.{Trap}
 use Rattle.cr_memory.specs.declared.value.Trap.TheVariants as trap
 use Rattle.cr_meaning.specs.Language.{went}
 use Rattle.cr_meaning.specs.World.{Program, World, next, unset_again}
-use Rattle.cr_meaning.specs.Nodes.{Act, on_object, initials, initialised}
+use Rattle.cr_meaning.specs.Nodes.{Act, on_object, initials, initialised, set_parts}
 use Rattle.cr_meaning.specs.declared.op.Line.{Line}
 use Rattle.cr_meaning.specs.declared.value.Value.{Value}
 use Rattle.cr_slices.specs.declared.nodes.Halted.{Halted}
@@ -19,10 +19,13 @@ use Rattle.cr_slices.specs.declared.nodes.Halted.TheVariants.{Undefined, Left, E
 abbrev pub unset_by : ℕ → ℕ → World → Act
 unset_by node declared world = on_object node world declared (λ object. went next (record world { memory = unset_again world.memory object }))
 
--- with these initialisers of these values
+-- with these initialisers of these values, and the same where none lacks a value and this is the object
 abbrev pub set_by : Program → ℕ → ℕ → List Line → List Value → World → Act
 set_by p node declared lines given world =
     on_object node world declared (λ object. initialised p declared world object (initials p world.memory lines given))
+
+abbrev pub parts_set : Program → ℕ → ℕ → List Line → List Value → World → Act
+parts_set p declared object lines given world = initialised p declared world object (set_parts p world.memory lines given)
 
 -- ---- parts
 

@@ -4,13 +4,13 @@ ghost use Rattle.cr_memory.specs.Memory.{live_object};
 ghost use Rattle.cr_memory.specs.Access.{object_at, some_object};
 ghost use Rattle.cr_meaning.specs.Values.{cells_in, cells_of_value};
 ghost use Rattle.cr_meaning.specs.Work.{is_nothing};
-ghost use Rattle.cr_meaning.specs.Nodes.{initial, set_parts, unused_in, with_parts, zeroed, initialised};
+ghost use Rattle.cr_meaning.specs.Nodes.{initial, set_parts, unused_in, with_parts, zeroed};
 ghost use Rattle.cr_eval.specs.Answers.{Answers, leaving};
 ghost use Rattle.cr_eval.specs.Table.{program_of};
 ghost use Rattle.cr_slices.specs.Shown.{Worked};
 ghost use Rattle.cr_world.specs.Worlds.{world_of};
 ghost use Rattle.cr_statements.specs.Kept.{value_in, values_in};
-ghost use Rattle.cr_statements.specs.Sets.{GivesParts, IsCharAt, set_by};
+ghost use Rattle.cr_statements.specs.Sets.{GivesParts, IsCharAt, parts_set, set_by};
 
 use crate::kept::halted;
 use cr_eval::{Table, UNUSED_VALUE, converted, is_nothing, load};
@@ -323,7 +323,7 @@ fn set_all(
     lines: &[Line],
     done: &[Held],
 ) -> Result<(), Halted>
-    ensures work { Worked (initialised (program_of table.now) declared (world_of world.old) object (set_parts (program_of table.now) world.old.store lines.now (values_in done.now))) result (world_of world.new) }
+    ensures work { Worked (parts_set (program_of table.now) declared object lines.now (values_in done.now) (world_of world.old)) result (world_of world.new) }
     ensures steps { world.new.steps ≡ world.old.steps }
 {
     let filled = match lone_part(alloc, table, &world.store, lines, done) {
