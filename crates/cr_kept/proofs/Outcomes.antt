@@ -70,7 +70,7 @@ finished limits (ended (stopped NoMemory node)) h = absurd h
 
 pub programs_have_outcomes : Laws.ProgramsHaveOutcomes
 programs_have_outcomes p sorts sees typed complete few reply runs =
-    let found = finished p.limits reply (replied IsEnd p sorts sees (course p sorts sees typed complete) (operands (root_of p) []) (start_of p.limits)
+    finished p.limits reply (replied IsEnd p sorts sees (course p sorts sees typed complete) (operands (root_of p) []) (start_of p.limits)
     (inr (record {
       op = typed.op;
       op_is = typed.is_root;
@@ -79,5 +79,4 @@ programs_have_outcomes p sorts sees typed complete few reply runs =
       well = start_is_well_formed p p.limits few;
       given = tt;
       begun = inl refl;
-    })) reply runs) in
-    (found.0, record { reply = reply; runs = runs; comes = found.1 })
+    })) reply runs)

@@ -4,7 +4,7 @@ use Rattle.cr_memory.specs.Memory.{Memory}
 use Rattle.cr_memory.specs.Continues.{Continues}
 use Rattle.cr_meaning.specs.Language.{Reply, gave, Runs}
 use Rattle.cr_meaning.specs.World.{Program, World, Answer, Halt, enter_all, automatic, marked, closed}
-use Rattle.cr_meaning.specs.Meaning.{Means, body, reach, operands, root_of, start_of}
+use Rattle.cr_meaning.specs.Meaning.{body, reach, operands, root_of, start_of, run_of}
 use Rattle.cr_meaning.specs.declared.run.Limits.{Limits}
 use Rattle.cr_meaning.specs.declared.run.Run.{Run}
 use Rattle.cr_meaning.specs.declared.value.Value.{Value}
@@ -26,8 +26,9 @@ ProgramsGiveStatuses = (p : Program) (sorts : ℕ → Option Sort) → IsWellTyp
 
 -- a whole program that is well typed and complete: whatever its run comes to is an outcome, so it is the program's meaning
 abbrev pub ProgramsHaveOutcomes : Type 0
-ProgramsHaveOutcomes = (p : Program) (sorts : ℕ → Option Sort) (sees : ℕ → ℕ → Bool) (typed : IsWellTyped p sorts) → IsComplete p sorts sees typed → p.limits.cells < 2 ^ 63
-    → (reply : Reply Answer World Halt) → Runs (body p) (body p (operands (root_of p) [])) (start_of p.limits) reply → (outcome : Run) × Means p outcome
+ProgramsHaveOutcomes = (p : Program) (sorts : ℕ → Option Sort) (sees : ℕ → ℕ → Bool) (typed : IsWellTyped p sorts) → IsComplete p sorts sees typed
+    → p.limits.cells < 2 ^ 63 → (reply : Reply Answer World Halt) → Runs (body p) (body p (operands (root_of p) [])) (start_of p.limits) reply
+    → (outcome : Run) × (run_of p.limits reply ≡ Some outcome)
 
 -- what fitted before fits later
 abbrev pub OlderValuesFit : Type 0

@@ -1,4 +1,4 @@
--- The operands that operations take (C11 6.5, 6.7.9, 6.8): with others a run comes to no end that a program may come to.
+-- The operands that operations take (C11 6.5, 6.7.9, 6.8): with others a run may come to an end that is none of a program's.
 use Rattle.std.specs.Prelude.{◌≡◌, ℕ, suc, Bool, true, false, Option, Some, List, [], ◌∷◌, length, slice_get, ◌⊎◌}
 use Rattle.cr_meaning.specs.World.{Program}
 use Rattle.cr_meaning.specs.declared.op.Op.{Op}
@@ -41,24 +41,13 @@ IsStructure (place count) = Unit {0}
 IsStructure (cells kinds) = Unit {0}
 IsStructure sort = ⊥
 
-abbrev pub IsVoid : Form → Type 0
-IsVoid form.Void = Unit {0}
-IsVoid form = ⊥
-
--- scalars are converted to scalars (6.5.16.1p1); of structures and void the rules of what is kept say it
+-- only scalars are converted to scalars (6.5.16.1p1); what may become a structure, or void, the rules of sorts say
 abbrev pub IsConverted : Form → Sort → Type 0
 IsConverted form.Void sort = Unit {0}
 IsConverted (form.Cells row) sort = Unit {0}
 IsConverted form sort = IsScalar sort
 
-abbrev pub IsCast : Form → Sort → Type 0
-IsCast form.Void sort = Unit {0}
-IsCast form sort = IsConverted form sort
-
 -- ---- operands
-
-abbrev pub HaveOperands : Op → ℕ → Type 0
-HaveOperands op count = length op.parts ≡ count
 
 abbrev pub Takes : (ℕ → Option Sort) → Op → (Sort → Type 0) → Type 0
 Takes sorts op P = (length op.parts ≡ 1) × Has sorts op 0 P
