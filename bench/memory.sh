@@ -1,5 +1,7 @@
 #!/usr/bin/env bash
-# Prints how many millions of `load`, of `save`, and of `enter` with `leave` a second a cr_memory::Store does on one core.
+# Prints what a cr_memory::Store does on one core: the peak of the process's memory after ten million objects came and went while ten
+# lived; how many millions of `load`, of `save`, and of `enter` with `leave` it does a second; and how long it looks for one of many
+# live objects.
 # It proves and builds a small timer in a folder of its own, which takes a few minutes. Run it by hand.
 set -eu
 . "$(dirname "${BASH_SOURCE[0]}")/timer.sh"
@@ -15,11 +17,14 @@ abbrev pub invariant-loop-value : goal.invariant-loop-value
 invariant-loop-value l = IsPointer l.store l.at
 ANTT
 cat >src/main.rt <<'RT'
-//! Loads, saves, and enters and leaves many times, and prints how long each took.
+//! Loads, saves, enters, leaves and looks up many times, and prints how long each took and how much memory was held.
 #![tactic(auto)]
 
+ghost use Rattle.std.specs.Prelude.{◌<◌};
 ghost use Rattle.cr_memory.specs.Memory.{IsPointer};
 
+use std::alloc::Global;
+use std::fs;
 use std::io;
 use std::time::Instant;
 
@@ -27,7 +32,39 @@ use cr_ints::IntKind;
 use cr_memory::{Cell, Guard, Pointer, Scalar, Store};
 
 const INT: Scalar = Scalar::Int(IntKind::Int);
+const SHAPE: [(Scalar, Guard); 3] = [(INT, Guard::Free); 3];
 const TIMES: u64 = 100_000_000;
+const COMINGS: u32 = 10_000_000;
+
+// Ten of them stay to the end.
+fn every_millionth_stays(store: &mut Store) -> u32 {
+    let mut stay = 0;
+    for number in 0..COMINGS {
+        if let Ok(object) = store.enter(&SHAPE, false) {
+            if number % (COMINGS / 10) == 0 {
+                stay = object;
+            } else if store.is_live(object) {
+                store.leave(object);
+            }
+        }
+    }
+    stay
+}
+
+// The oldest of eleven leaves.
+fn each_outlives_ten(store: &mut Store) -> u32 {
+    let mut left = 0;
+    for _ in 0..COMINGS {
+        if let Ok(object) = store.enter(&SHAPE, false) {
+            let oldest = object.saturating_sub(10);
+            if store.is_live(oldest) && left < COMINGS {
+                store.leave(oldest);
+                left += 1;
+            }
+        }
+    }
+    left
+}
 
 fn loads(store: &Store, at: Pointer) -> u64
     requires { IsPointer store.now at }
@@ -56,9 +93,8 @@ fn saves(store: &mut Store, at: Pointer) -> u64
 
 fn lifetimes(store: &mut Store) -> u64 {
     let mut answers = 0;
-    let shape = [(INT, Guard::Free); 3];
     for _ in 0..TIMES / 100 {
-        if let Ok(object) = store.enter(&shape, false) {
+        if let Ok(object) = store.enter(&SHAPE, false) {
             if store.is_live(object) && answers < TIMES {
                 store.leave(object);
                 answers += 1;
@@ -68,23 +104,102 @@ fn lifetimes(store: &mut Store) -> u64 {
     answers
 }
 
-fn main(rt: HostRuntime) -> io::Result<()> {
+// So many live objects, of which none has the place of its number, since the first one has ended.
+fn crowd(alloc: Global, count: u32) -> Store {
+    let mut store = Store::new(alloc, 3_000_003);
+    for _ in 0..=count {
+        let _ = store.enter(&SHAPE, true);
+    }
+    if store.is_live(0) {
+        store.leave(0);
+    }
+    store
+}
+
+// Looks for one of some objects at a time, which is drawn from the one before.
+fn looks(store: &Store, first: u32, among: u32) -> u64
+    requires { 0 < among }
+{
+    let mut seed: u64 = 1;
+    let mut answers = 0;
+    for _ in 0..TIMES / 10 {
+        seed = seed.wrapping_mul(6_364_136_223_846_793_005).wrapping_add(1_442_695_040_888_963_407);
+        let drawn = u32::try_from(seed % u64::from(among)).unwrap_or(0);
+        if store.is_live(first.saturating_add(drawn)) && answers < TIMES {
+            answers += 1;
+        }
+    }
+    answers
+}
+
+fn print_peak(rt: &HostRuntime, title: &str) -> io::Result<()> {
+    let status = fs::read_to_string(rt, "/proc/self/status")?;
+    for line in status.lines() {
+        if line.starts_with("VmHWM:") {
+            println!(rt; "{title} {line}")?;
+        }
+    }
+    Ok(())
+}
+
+fn print_memory(rt: &HostRuntime) -> io::Result<()> {
+    print_peak(rt, "before an object")?;
+    let mut store = Store::new(rt.alloc(), 1000);
+    let last = every_millionth_stays(&mut store);
+    println!(rt; "of {COMINGS} objects every millionth stays, the last is {last}")?;
+    print_peak(rt, "peak")?;
+    let mut store = Store::new(rt.alloc(), 1000);
+    let left = each_outlives_ten(&mut store);
+    println!(rt; "of {COMINGS} objects each outlives ten, {left} have left")?;
+    print_peak(rt, "peak")?;
+    Ok(())
+}
+
+fn print_accesses(rt: &HostRuntime) -> io::Result<()> {
     let mut store = Store::new(rt.alloc(), 1000);
     let _ = store.enter(&[(INT, Guard::Free); 100], true);
     let at = Pointer::At { object: 0, cell: 50, low: 0, high: 100, stride: 1 };
     if store.is_pointer(at) {
-        let start = Instant::now(&rt)?;
+        let start = Instant::now(rt)?;
         let answers = loads(&store, at);
-        println!(rt; "load {} {}", answers, start.elapsed(&rt)?.as_micros())?;
-        let start = Instant::now(&rt)?;
+        println!(rt; "timed load {} {}", answers, start.elapsed(rt)?.as_micros())?;
+        let start = Instant::now(rt)?;
         let answers = saves(&mut store, at);
-        println!(rt; "save {} {}", answers, start.elapsed(&rt)?.as_micros())?;
+        println!(rt; "timed save {} {}", answers, start.elapsed(rt)?.as_micros())?;
     }
-    let start = Instant::now(&rt)?;
+    let start = Instant::now(rt)?;
+    let answers = looks(&store, 0, 1);
+    println!(rt; "timed look for one at its number's place {} {}", answers, start.elapsed(rt)?.as_micros())?;
+    let start = Instant::now(rt)?;
     let answers = lifetimes(&mut store);
-    println!(rt; "enter and leave {} {}", answers, start.elapsed(&rt)?.as_micros())?;
+    println!(rt; "timed enter and leave {} {}", answers, start.elapsed(rt)?.as_micros())?;
+    Ok(())
+}
+
+fn print_looks(rt: &HostRuntime, count: u32) -> io::Result<()>
+    requires { 0 < count }
+{
+    let store = crowd(rt.alloc(), count);
+    let start = Instant::now(rt)?;
+    let answers = looks(&store, 1, count);
+    println!(rt; "timed look for any of {} live objects {} {}", count, answers, start.elapsed(rt)?.as_micros())?;
+    let start = Instant::now(rt)?;
+    let answers = looks(&store, count, 1);
+    println!(rt; "timed look for the last of {} live objects {} {}", count, answers, start.elapsed(rt)?.as_micros())?;
+    let start = Instant::now(rt)?;
+    let answers = looks(&store, 1, 1);
+    println!(rt; "timed look for the first of {} live objects {} {}", count, answers, start.elapsed(rt)?.as_micros())?;
+    Ok(())
+}
+
+fn main(rt: HostRuntime) -> io::Result<()> {
+    print_memory(&rt)?;
+    print_accesses(&rt)?;
+    print_looks(&rt, 1000)?;
+    print_looks(&rt, 100_000)?;
+    print_looks(&rt, 1_000_000)?;
     Ok(())
 }
 RT
 build_timer
-./out/timer | awk '{ times = $(NF - 1); micros = $NF; $NF = ""; $(NF - 1) = ""; printf "%s: %.1f million a second\n", $0, times / micros }'
+./out/timer | awk '$1 == "timed" { times = $(NF - 1); micros = $NF; $NF = ""; $(NF - 1) = ""; $1 = ""; printf "%s: %.1f million a second, %.1f ns each\n", $0, times / micros, 1000 * micros / times; next } { print }'

@@ -166,6 +166,7 @@ impl Cells {
         self.insert_all(more)
     }
 
+    #[inline(never)]
     fn take_some(&mut self, more: &mut Cells) -> Result<(), AllocError>
         ensures { OnOk result ((c : Cell) → has self.new c ≡ (has self.old c || has more.old c)) }
     {
@@ -176,7 +177,7 @@ impl Cells {
     }
 
     /// Takes in the cells of another set, which may have any cells afterwards.
-    #[inline]
+    #[inline(always)]
     pub fn take_in(&mut self, more: &mut Cells) -> Result<(), AllocError>
         ensures { OnOk result ((c : Cell) → has self.new c ≡ (has self.old c || has more.old c)) }
     {
@@ -193,6 +194,7 @@ impl Cells {
     }
 
     /// The least cell that stands in both.
+    #[inline(never)]
     pub fn first_shared(&self, other: &Cells) -> Option<(u32, u32)>
         ensures { IsLeastOf (λ c. has self.now c && has other.now c) result }
     {

@@ -84,6 +84,7 @@ impl Foot {
     }
 
     /// The least cell that this evaluation writes and the other reads or writes.
+    #[inline(never)]
     fn first_hit(&self, other: &Foot) -> Option<(u32, u32)>
         ensures { IsLeastOf (λ c. (sets self.now).writes c && accesses (sets other.now) c) result }
     {
@@ -94,7 +95,7 @@ impl Foot {
     }
 
     /// The least cell on which a write of one meets a read or a write of the other.
-    #[inline]
+    #[inline(always)]
     fn first_conflict(&self, other: &Foot) -> Option<(u32, u32)>
         ensures { IsLeastOf (meets (sets self.now) (sets other.now)) result }
     {
@@ -109,7 +110,7 @@ impl Foot {
 
     /// The footprint of two unsequenced evaluations, as the operands of `+`. Conflict names the least
     /// object and cell on which a write or a touch of one, settled or open, meets an event of the other.
-    #[inline]
+    #[inline(always)]
     pub fn beside(mut self, mut other: Foot) -> Result<Foot, FootEnd>
         ensures joined { IfOk result (λ foot. sets foot ≡ union_of (sets self) (sets other)) }
         ensures apart { OnOk result ((c : Cell) → meets (sets self) (sets other) c ≡ false) }

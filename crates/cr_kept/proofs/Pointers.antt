@@ -1,5 +1,5 @@
 -- The pointers that operations make are pointers of the memory (C11 6.5.6p8, 6.3.2.1p3, 6.5.2.3).
-use Rattle.std.proofs.Common.{◌≡◌, ℕ, suc, ◌+◌, ◌-◌, ◌*◌, ◌%◌, ◌≤◌, ◌==◌, nat_le, Bool, true, false, not, ◌&&◌, ℤ, pos, negsuc, ◌+ℤ◌, ◌*ℤ◌, Result, Ok, Err, IfOk, length, if◌then◌else◌, refl, sym, ap, ◌∙◌, subst, arith}
+use Rattle.std.proofs.Common.{◌≡◌, ℕ, suc, ◌+◌, ◌-◌, ◌*◌, ◌%◌, ◌≤◌, ◌==◌, nat_le, Bool, true, false, not, ◌&&◌, ℤ, pos, negsuc, ◌+ℤ◌, ◌*ℤ◌, Option, Some, Result, Ok, Err, IfOk, length, if◌then◌else◌, refl, sym, ap, ◌∙◌, subst, arith}
 use Rattle.std.specs.Prelude.{int_le, unsigned_abs}
 use Rattle.std.proofs.Math.Nat.{add-mul-mod_self_right, mod_self}
 use Rattle.std.proofs.lemmas.Bool.{leb-true, leb-false, eqb-true}
@@ -12,7 +12,7 @@ use Rattle.cr_memory.specs.declared.value.Guard.{Guard}
 use Rattle.cr_memory.specs.declared.value.Trap.{Trap}
 use Rattle.cr_memory.specs.declared.value.Trap.TheVariants.{Undefined, Left}
 use Rattle.cr_memory.specs.declared.value.TheConstants.{ENDED, SUM_OUTSIDE}
-use Rattle.cr_memory.specs.Memory.{Memory, IsArrayPlace, IsPointer, has_ended}
+use Rattle.cr_memory.specs.Memory.{Object, Memory, IsArrayPlace, IsPointer, live_object, has_ended}
 use Rattle.cr_memory.specs.Access.{HasStride, reaching, is_null_or_end}
 use Rattle.cr_memory.specs.Pointers.{moved_by}
 use Rattle.cr_memory.proofs.Continuing.{part-pointed, whole-pointed}
@@ -20,10 +20,11 @@ use Rattle.cr_meaning.specs.World.{Program, then_by, whole_place}
 use Rattle.cr_meaning.specs.Values.{misfits, if_fits, moved, moved_either}
 use Rattle.cr_meaning.specs.Work.{first_element, inner, inner_of}
 use Rattle.cr_meaning.specs.declared.value.Value.{Value}
-use Rattle.cr_meaning.specs.declared.value.Value.TheVariants.{Nothing, Number, Pointer as Pointing}
-use Rattle.cr_kept.specs.Sorts.{Sort, pointer, cells, Fits, sort_of_scalar, IsEntered, IsSound}
+use Rattle.cr_meaning.specs.declared.value.Value.TheVariants.{Nothing, Number, Pointer as Pointing, Place}
+use Rattle.cr_kept.specs.Sorts.{Sort, pointer, cells, chars, Fits, sort_of_scalar, sorts_in, AreChars, IsEntered, IsSound}
 use Rattle.cr_kept.specs.Rules.{IsWithin}
 use Rattle.cr_kept.proofs.Cells.{as_many, kinds_of}
+use Rattle.cr_kept.proofs.Later.{chars_as}
 
 -- ---- results
 
@@ -133,6 +134,16 @@ whole_fits p memory node object sound there one =
     sized ∙ (length-map there.live.shape (λ (own : Scalar × Guard). own.0)
     ∙ (sym (length-map there.live.shape (λ (own : Scalar × Guard). sort_of_scalar own.0)) ∙ (ap length there.sorts ∙ length-map (p.shape node) (λ (own : Scalar × Guard). sort_of_scalar own.0)))) in
     rw there.lives (whole-pointed memory object (length there.live.cells) there.live there.lives (omega arith) (itself (length there.live.cells)), size)
+
+-- a literal's object has chars, as its node says
+pub literal_fits : (p : Program) (memory : Memory) (node object : ℕ) → IsSound memory → IsEntered p memory node object → 1 ≤ length (p.shape node) → AreChars (p.shape node)
+    → Fits memory chars (Place (whole_place memory object))
+literal_fits p memory node object sound there one are =
+    let w = whole_fits p memory node object sound there one in
+    (w.0, λ live e. chars_as live.shape (p.shape node) (ap sorts_in (ap (λ (o : Object). o.shape) (one_object live there.live (sym e ∙ there.lives))) ∙ there.sorts) are)
+  where
+    one_object : (a b : Object) → Some a ≡ Some b → a ≡ b
+    one_object a b e = cc
 
 pub element_fits : (memory : Memory) (at : Pointer) (count stride : ℕ) → IsPlace memory count at → 1 ≤ stride → count % stride ≡ 0
     → is_null_or_end at ≡ false → IsPointer memory (first_element at stride)

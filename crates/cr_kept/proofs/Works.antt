@@ -23,8 +23,8 @@ use Rattle.cr_memory.specs.Pointers.{difference_of, differ_of, less_of, same_of}
 use Rattle.cr_memory.specs.Continues.{Continues}
 use Rattle.cr_memory.proofs.Comparing.{neither}
 use Rattle.cr_memory.proofs.Continuing.{continues-refl, pointers-last}
-use Rattle.cr_meaning.specs.World.{Program, World, Binding, bound, mark, then_by, object_for}
-use Rattle.cr_meaning.specs.Values.{kinds_in, cells_in, value_in, asked, converted, is_null, compares, moved_either, changed, pointing, as_pointer, with_pointers, holding, related, if_both_fit, misfit_value, distance}
+use Rattle.cr_meaning.specs.World.{Program, World, Binding, bound, mark, then_by, object_for, whole_place}
+use Rattle.cr_meaning.specs.Values.{kinds_in, cells_in, value_in, cells_of_value, asked, converted, is_null, compares, moved_either, changed, pointing, as_pointer, with_pointers, holding, related, if_both_fit, misfit_value, distance}
 use Rattle.cr_meaning.specs.Work.{Did, plainly, giving, used, at_place, place_of, first_element, inner_of, taken, member_of, followed, stored, assigned, did_assign, did_update, loaded, updated, is_nothing, is_void, logical, conditional, cast, integer, comparison, address, alone, passed, on_one, on_two}
 use Rattle.cr_meaning.specs.declared.op.Op.{Op}
 use Rattle.cr_meaning.specs.declared.op.Access.{Access}
@@ -39,21 +39,34 @@ use Rattle.cr_meaning.specs.declared.op.Work.{Work}
 use Rattle.cr_meaning.specs.declared.op.Work.TheVariants as work
 use Rattle.cr_meaning.specs.declared.value.Value.{Value}
 use Rattle.cr_meaning.specs.declared.value.Value.TheVariants.{Nothing, Number, Pointer as Pointing, Place, Cells}
-use Rattle.cr_kept.specs.Sorts.{Sort, void, number, pointer, place, cells, sort_of_scalar, sort_of, Fits, IsEntered, AreEntered, IsSound, IsWellFormed}
-use Rattle.cr_kept.specs.Rules.{Has, Uses, Converts, Casts, Passes, HasMember, changed_sort, Gives}
+use Rattle.cr_kept.specs.Sorts.{Sort, void, number, pointer, place, cells, chars, sort_of_scalar, sort_of, sorts_in, Returns, AreChars, HoldsChars, Fits, IsEntered, AreEntered, IsSound, IsWellFormed}
+use Rattle.cr_kept.specs.Statements.{Has, Converts}
+use Rattle.cr_kept.specs.Rules.{Uses, GivesObject, Casts, Passes, HasMember, changed_sort, Computes}
 use Rattle.cr_kept.proofs.Cells.{all_hold_later, hold_taken, hold_dropped, Written, some_there, loaded_holds, read_hold, saved, put}
 use Rattle.cr_kept.proofs.Numbers.{zero_or_one, truth_fits, computed_fits, signed_fits}
-use Rattle.cr_kept.proofs.Pointers.{ok_then, ok_unless, ok_any, IsPlace, if_fits_ok, either_fits, pointed, whole_fits, element_fits, reach_then, inner_fits}
+use Rattle.cr_kept.proofs.Later.{chars_later}
+use Rattle.cr_kept.proofs.Pointers.{literal_fits, ok_then, ok_unless, ok_any, IsPlace, if_fits_ok, either_fits, pointed, whole_fits, element_fits, reach_then, inner_fits}
 
 -- ---- what fitted before
 
 pub fits_later : (old new : Memory) (sort : Sort) (value : Value) → Continues old new → Fits old sort value → Fits new sort value
+fits_later old new (place count) Nothing c h = absurd h
+fits_later old new chars Nothing c h = absurd h
 fits_later old new sort Nothing c h = tt
 fits_later old new (number kind) (Number from value) c h = h
 fits_later old new pointer (Pointing at) c h = pointers-last old new at c h
 fits_later old new (place count) (Place at) c h = (pointers-last old new at c h.0, h.1)
 fits_later old new (cells kinds) (Cells held) c h = all_hold_later old new kinds held c h
+fits_later old new chars (Place (At object cell low high stride)) c h =
+    (pointers-last old new (At object cell low high stride) c h.0, chars_later old new object c h.0.entered h.1)
 fits_later old new sort value c h = absurd h
+
+-- a place is one of the memory
+pub placed : (memory : Memory) (sort : Sort) (at : Pointer) → Fits memory sort (Place at) → IsPointer memory at
+placed memory (place count) at h = h.0
+placed memory chars (At object cell low high stride) h = h.0
+placed memory chars Null h = absurd h
+placed memory sort at h = absurd h
 
 -- ---- own work
 
@@ -109,26 +122,40 @@ at_place_fits : (p : Program) (a : Access) (memory : Memory) (result : Result Po
 at_place_fits p a memory result count own sound h u =
     ok_then (IsPlace memory count) (Does memory own) result (used p a memory) h (λ at here. used_fits p a memory at count own sound here u)
 
-place_by : (p : Program) (memory : Memory) (node declared object : ℕ) (rest : List Binding) (b : Bool) → IsSound memory → IsEntered p memory declared object → 1 ≤ length (p.shape node)
-    → IfOk (place_of memory (object_for rest node)) (IsPlace memory (length (p.shape node))) → (declared == node) ≡ b
-    → IfOk (place_of memory (if b then Some object else object_for rest node)) (IsPlace memory (length (p.shape node)))
-place_by p memory node declared object rest true sound h one other e =
-    let E : ℕ → Type 0 = λ n. IsEntered p memory n object in whole_fits p memory node object sound (subst E (eqb-true declared node e) h) one
-place_by p memory node declared object rest false sound h one other e = other
+place_by : (p : Program) (memory : Memory) (node declared object : ℕ) (rest : List Binding) (Q : Pointer → Type 0) (b : Bool) → IsEntered p memory declared object
+    → ((object : ℕ) → IsEntered p memory node object → Q (whole_place memory object))
+    → IfOk (place_of memory (object_for rest node)) Q → (declared == node) ≡ b
+    → IfOk (place_of memory (if b then Some object else object_for rest node)) Q
+place_by p memory node declared object rest Q true h f other e =
+    let E : ℕ → Type 0 = λ n. IsEntered p memory n object in f object (subst E (eqb-true declared node e) h)
+place_by p memory node declared object rest Q false h f other e = other
 
-place_fits : (p : Program) (memory : Memory) (node : ℕ) (bindings : List Binding) → IsSound memory → AreEntered p memory bindings → 1 ≤ length (p.shape node)
-    → IfOk (place_of memory (object_for bindings node)) (IsPlace memory (length (p.shape node)))
-place_fits p memory node [] sound h one = tt
-place_fits p memory node (mark ∷ rest) sound h one = place_fits p memory node rest sound h one
-place_fits p memory node (bound declared object ∷ rest) sound h one =
-    place_by p memory node declared object rest (declared == node) sound h.0 one (place_fits p memory node rest sound h.1 one) refl
+-- the object of a node, if it has one
+entered_place : (p : Program) (memory : Memory) (node : ℕ) (bindings : List Binding) (Q : Pointer → Type 0) → AreEntered p memory bindings
+    → ((object : ℕ) → IsEntered p memory node object → Q (whole_place memory object)) → IfOk (place_of memory (object_for bindings node)) Q
+entered_place p memory node [] Q h f = tt
+entered_place p memory node (mark ∷ rest) Q h f = entered_place p memory node rest Q h f
+entered_place p memory node (bound declared object ∷ rest) Q h f =
+    place_by p memory node declared object rest Q (declared == node) h.0 f (entered_place p memory node rest Q h.1 f) refl
+
+object_fits : (p : Program) (a : Access) (memory : Memory) (node : ℕ) (bindings : List Binding) (own : Sort) → IsSound memory → AreEntered p memory bindings → 1 ≤ length (p.shape node)
+    → GivesObject p a node own → IfOk (at_place p a memory (place_of memory (object_for bindings node))) (Does memory own)
+object_fits p a memory node bindings chars sound entered one g =
+    let A : Access → Type 0 = λ x. IfOk (at_place p x memory (place_of memory (object_for bindings node))) (Does memory chars) in
+    subst A (sym g.0) (ok_then (λ at. Fits memory chars (Place at)) (Does memory chars) _ _
+    (entered_place p memory node bindings (λ at. Fits memory chars (Place at)) entered (λ object there. literal_fits p memory node object sound there one g.1))
+    (λ at fits. record { fits = fits; written = unwritten memory sound }))
+object_fits p a memory node bindings own sound entered one g =
+    at_place_fits p a memory _ (length (p.shape node)) own sound
+    (entered_place p memory node bindings (IsPlace memory (length (p.shape node))) entered (λ object there. whole_fits p memory node object sound there one)) g
 
 passed_fits : (p : Program) (a : Access) (memory : Memory) (sort : Sort) (value : Value) (own : Sort) → IsSound memory → Passes p a own sort → Fits memory sort value
     → IfOk (passed p a memory value) (Does memory own)
 passed_fits p a memory (place count) (Place at) own sound u h = used_fits p a memory at count own sound h u
+passed_fits p a memory chars (Place at) own sound u h = absurd u
 passed_fits p a memory sort (Place at) own sound u h = absurd h
-passed_fits p a memory sort Nothing own sound u h = record { fits = tt; written = unwritten memory sound }
 passed_fits p a memory (place count) value own sound u h = absurd h
+passed_fits p a memory chars value own sound u h = absurd u
 passed_fits p a memory sort value own sound u h =
     let F : Sort → Type 0 = λ s. Fits memory s value in record { fits = subst F u h; written = unwritten memory sound }
 
@@ -145,6 +172,7 @@ member_of_fits : (p : Program) (a : Access) (memory : Memory) (whole before coun
     → HasMember p a whole before count form own sort → Fits memory sort value → IfOk (member_of p a memory whole before count form value) (Does memory own)
 member_of_fits p a memory whole before count form (place size) (Place at) own sound m h =
     at_place_fits p a memory (inner_of memory whole before count at) count own sound (inner_fits memory whole before count at m.0 h.0) m.1
+member_of_fits p a memory whole before count form chars (Place at) own sound m h = absurd m
 member_of_fits p a memory whole before count form sort (Place at) own sound m h = absurd h
 member_of_fits p a memory whole before count form (cells kinds) (Cells held) own sound m h =
     let K : List Scalar → Type 0 = λ ks. AllHold memory ks (take count (drop before held)) in
@@ -159,7 +187,7 @@ null_or_not : (kind : IntKind) (b : Bool) → Represents kind (if b then pos 0 e
 null_or_not kind true = zero_or_one kind false
 null_or_not kind false = zero_or_one kind true
 
-converted_fits : (p : Program) (memory : Memory) (form : Form) (sort : Sort) (value : Value) → Converts p form sort → Fits memory sort value
+pub converted_fits : (p : Program) (memory : Memory) (form : Form) (sort : Sort) (value : Value) → Converts p form sort → Fits memory sort value
     → IfOk (converted memory form value) (Fits memory (sort_of p form))
 converted_fits p memory form.Void sort value c h = let F : Sort → Type 0 = λ s. Fits memory s value in subst F c h
 converted_fits p memory form sort Nothing c h = tt
@@ -170,6 +198,46 @@ converted_fits p memory (form.Pointer to) sort (Number from value) c h = tt
 converted_fits p memory (form.Pointer to) sort (Pointing at) c h = pointed memory sort at h
 converted_fits p memory (form.Cells row) sort (Cells held) c h = let F : Sort → Type 0 = λ s. Fits memory s (Cells held) in subst F c h
 converted_fits p memory form sort value c h = tt
+
+pub nothing_fits : (p : Program) (memory : Memory) (form : Form) → Fits memory (sort_of p form) Nothing
+nothing_fits p memory form.Void = tt
+nothing_fits p memory (form.Number kind) = tt
+nothing_fits p memory (form.Pointer to) = tt
+nothing_fits p memory (form.Cells row) = tt
+
+-- a value of the type, and none only of type void
+pub converted_returns : (p : Program) (memory : Memory) (form : Form) (sort : Sort) (value : Value) → Converts p form sort → Fits memory sort value
+    → IfOk (converted memory form value) (Returns p memory form)
+converted_returns p memory form.Void sort value c h = let F : Sort → Type 0 = λ s. Fits memory s value in nothing_else value (subst F c h)
+  where
+    nothing_else : (value : Value) → Fits memory void value → Returns p memory form.Void value
+    nothing_else Nothing h = (tt, refl)
+    nothing_else value h = absurd h
+converted_returns p memory form sort Nothing c h = tt
+converted_returns p memory (form.Number kind) sort (Number from value) c h = ((refl, convert_of-represents value kind), refl)
+converted_returns p memory (form.Number kind) sort (Pointing at) c h =
+    ok_unless (Returns p memory (form.Number kind)) (has_ended memory at) (Undefined 10) _ (λ e. ((refl, null_or_not kind (is_null at)), refl))
+converted_returns p memory (form.Pointer to) sort (Number from value) c h = (tt, refl)
+converted_returns p memory (form.Pointer to) sort (Pointing at) c h = (pointed memory sort at h, refl)
+converted_returns p memory (form.Cells row) sort (Cells held) c h = let F : Sort → Type 0 = λ s. Fits memory s (Cells held) in (subst F c h, refl)
+converted_returns p memory form sort value c h = tt
+
+-- the cells of a converted value
+pub converted_holds : (p : Program) (memory : Memory) (form : Form) (sort : Sort) (value : Value) → Converts p form sort → Fits memory sort value
+    → IfOk (converted memory form value) (λ new. AllHold memory (kinds_in p form) (cells_of_value new))
+converted_holds p memory form.Void sort value c h = let F : Sort → Type 0 = λ s. Fits memory s value in nothing_else value (subst F c h)
+  where
+    nothing_else : (value : Value) → Fits memory void value → AllHold memory [] (cells_of_value value)
+    nothing_else Nothing h = tt
+    nothing_else value h = absurd h
+converted_holds p memory form sort Nothing c h = tt
+converted_holds p memory (form.Number kind) sort (Number from value) c h = (convert_of-represents value kind, tt)
+converted_holds p memory (form.Number kind) sort (Pointing at) c h =
+    ok_unless (λ new. AllHold memory (scalar.Int kind ∷ []) (cells_of_value new)) (has_ended memory at) (Undefined 10) _ (λ e. (null_or_not kind (is_null at), tt))
+converted_holds p memory (form.Pointer to) sort (Number from value) c h = (tt, tt)
+converted_holds p memory (form.Pointer to) sort (Pointing at) c h = (pointed memory sort at h, tt)
+converted_holds p memory (form.Cells row) sort (Cells held) c h = let F : Sort → Type 0 = λ s. Fits memory s (Cells held) in subst F c h
+converted_holds p memory form sort value c h = tt
 
 cast_fits : (p : Program) (memory : Memory) (form : Form) (sort : Sort) (value : Value) → Casts p form sort → Fits memory sort value → IfOk (cast memory form value) (Fits memory (sort_of p form))
 cast_fits p memory form.Void sort value c h = tt
@@ -262,8 +330,7 @@ logical_fits memory f (left ∷ right ∷ []) =
 logical_fits memory f (left ∷ right ∷ more ∷ rest) = tt
 
 address_fits : (memory : Memory) (sort : Sort) (value : Value) → Fits memory sort value → IfOk (address value) (Fits memory pointer)
-address_fits memory (place count) (Place at) h = h.0
-address_fits memory sort (Place at) h = absurd h
+address_fits memory sort (Place at) h = placed memory sort at h
 address_fits memory sort value h = tt
 
 followed_fits : (memory : Memory) (Q : Pointer → Type 0) (count : ℕ) (sort : Sort) (value : Value) (f : Pointer → Result Pointer Trap) → Fits memory sort value
@@ -282,12 +349,11 @@ stored_fits p memory form at new sound h same v = tt
 
 assigned_fits : (p : Program) (memory : Memory) (form : Form) (one other : Sort) (left right : Value) → IsSound memory → Converts p form other → Fits memory one left → Fits memory other right
     → IfOk (assigned p memory form left right) (Does memory (sort_of p form))
-assigned_fits p memory form (place count) other (Place at) right sound c l r =
+assigned_fits p memory form one other (Place at) right sound c l r =
     if_fits_ok (Does memory (sort_of p form)) (cells_in p form) at _
     (λ same. ok_then (Fits memory (sort_of p form)) (Does memory (sort_of p form)) (converted memory form right) _ (converted_fits p memory form other right c r)
-    (λ new fits. ok_then (Written memory) (Does memory (sort_of p form)) (stored p memory form at new) (did_assign p form at new) (stored_fits p memory form at new sound l.0 same fits)
+    (λ new fits. ok_then (Written memory) (Does memory (sort_of p form)) (stored p memory form at new) (did_assign p form at new) (stored_fits p memory form at new sound (placed memory one at l) same fits)
     (λ after written. record { fits = fits_later memory after (sort_of p form) new written.continues fits; written = written })))
-assigned_fits p memory form one other (Place at) right sound c l r = absurd l
 assigned_fits p memory form one other left right sound c l r = tt
 
 either_value : (memory : Memory) (sort : Sort) (b : Bool) (one other : Value) → Fits memory sort one → Fits memory sort other → Fits memory sort (if b then one else other)
@@ -319,13 +385,12 @@ updated_at p memory change form volatile post other at right sound c one h r =
 
 updated_fits : (p : Program) (memory : Memory) (change : Change) (form : Form) (volatile post : Bool) (one other : Sort) (left right : Value) → IsSound memory
     → Fits memory one left → Fits memory other right → IfOk (updated p memory change form volatile post left right) (Does memory (sort_of p form))
-updated_fits p memory change (form.Number kind) volatile post (place count) other (Place at) right sound l r =
-    updated_at p memory change (form.Number kind) volatile post other at right sound tt (λ same. same) l.0 r
-updated_fits p memory change (form.Pointer to) volatile post (place count) other (Place at) right sound l r =
-    updated_at p memory change (form.Pointer to) volatile post other at right sound tt (λ same. same) l.0 r
-updated_fits p memory change form.Void volatile post (place count) other (Place at) right sound l r = if_fits_ok (Does memory void) 1 at _ (λ same. tt)
-updated_fits p memory change (form.Cells row) volatile post (place count) other (Place at) right sound l r = if_fits_ok (Does memory (cells (p.kinds row))) 1 at _ (λ same. tt)
-updated_fits p memory change form volatile post one other (Place at) right sound l r = absurd l
+updated_fits p memory change (form.Number kind) volatile post one other (Place at) right sound l r =
+    updated_at p memory change (form.Number kind) volatile post other at right sound tt (λ same. same) (placed memory one at l) r
+updated_fits p memory change (form.Pointer to) volatile post one other (Place at) right sound l r =
+    updated_at p memory change (form.Pointer to) volatile post other at right sound tt (λ same. same) (placed memory one at l) r
+updated_fits p memory change form.Void volatile post one other (Place at) right sound l r = if_fits_ok (Does memory void) 1 at _ (λ same. tt)
+updated_fits p memory change (form.Cells row) volatile post one other (Place at) right sound l r = if_fits_ok (Does memory (cells (p.kinds row))) 1 at _ (λ same. tt)
 updated_fits p memory change form volatile post one other left right sound l r = tt
 
 -- ---- own work, by the number of operands
@@ -333,15 +398,15 @@ updated_fits p memory change form volatile post one other left right sound l r =
 as_sort : (memory : Memory) (own sort : Sort) (result : Result Did Trap) → own ≡ sort → IfOk result (Does memory sort) → IfOk result (Does memory own)
 as_sort memory own sort result e h = let F : Sort → Type 0 = λ s. IfOk result (Does memory s) in subst F (sym e) h
 
-pub alone_fits : (p : Program) (sorts : ℕ → Option Sort) (op : Op) (world : World) (w : Work) (own : Sort) → IsWellFormed p world → Gives p sorts op w own
+pub alone_fits : (p : Program) (sorts : ℕ → Option Sort) (op : Op) (world : World) (w : Work) (own : Sort) → IsWellFormed p world → Computes p sorts op w own
     → IfOk (alone p world w op.access) (Does world.memory own)
 alone_fits p sorts op world (work.Constant kind value) own well g =
     let F : Sort → Type 0 = λ s. Fits world.memory s (Number kind value) in record { fits = subst F (sym g.0) (refl, g.1); written = unwritten world.memory well.sound }
 alone_fits p sorts op world (work.Object node) own well g =
-    at_place_fits p op.access world.memory _ (length (p.shape node)) own well.sound (place_fits p world.memory node world.bindings well.sound well.entered g.0) g.1
+    object_fits p op.access world.memory node world.bindings own well.sound well.entered g.0 g.1
 alone_fits p sorts op world other own well g = tt
 
-pub one_fits : (p : Program) (sorts : ℕ → Option Sort) (op : Op) (world : World) (w : Work) (value : Value) (sort own : Sort) → IsWellFormed p world → Gives p sorts op w own
+pub one_fits : (p : Program) (sorts : ℕ → Option Sort) (op : Op) (world : World) (w : Work) (value : Value) (sort own : Sort) → IsWellFormed p world → Computes p sorts op w own
     → ((P : Sort → Type 0) → Has sorts op 0 P → P sort) → Fits world.memory sort value → IfOk (on_one p world w op.access value) (Does world.memory own)
 one_fits p sorts op world work.Pass value sort own well g given h = passed_fits p op.access world.memory sort value own well.sound (given (Passes p op.access own) g) h
 one_fits p sorts op world (work.Unary sign kind) value sort own well g given h =
@@ -366,7 +431,7 @@ one_fits p sorts op world (work.Update change form volatile post) value sort own
     (updated_fits p world.memory change form volatile post sort (number IntegerKind) value (Number IntegerKind (pos 1)) well.sound h (refl, zero_or_one IntegerKind true))
 one_fits p sorts op world other value sort own well g given h = tt
 
-pub two_fits : (p : Program) (sorts : ℕ → Option Sort) (op : Op) (world : World) (w : Work) (left right : Value) (one other own : Sort) → IsWellFormed p world → Gives p sorts op w own
+pub two_fits : (p : Program) (sorts : ℕ → Option Sort) (op : Op) (world : World) (w : Work) (left right : Value) (one other own : Sort) → IsWellFormed p world → Computes p sorts op w own
     → ((P : Sort → Type 0) → Has sorts op 1 P → P other) → Fits world.memory one left → Fits world.memory other right → IfOk (on_two p world w op.access left right) (Does world.memory own)
 two_fits p sorts op world work.Comma left right one other own well g given l r =
     let F : Sort → Type 0 = λ s. Fits world.memory s right in

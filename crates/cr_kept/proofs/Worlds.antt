@@ -1,7 +1,7 @@
 -- Objects that are entered and left: the memory stays sound, and the world well formed.
 use Rattle.std.proofs.Common.{◌≡◌, ◌≢◌, ℕ, ◌+◌, ◌^◌, ◌<◌, ◌≤◌, ◌&&◌, nat_le, Bool, true, false, ◌⊎◌, inl, inr, Option, Some, None, Result, Ok, Err, List, [], ◌∷◌, ◌++◌, length, map, get_or, set, if◌then◌else◌, refl, sym, ap, ◌∙◌, subst, arith, length-set, get_or-set_other, get_or-set_same}
-use Rattle.std.specs.Prelude.{nat_lt}
-use Rattle.std.proofs.lemmas.Bool.{leb-true, cases_eq, cases_lt}
+use Rattle.std.specs.Prelude.{nat_lt, IfOk, ◌==◌}
+use Rattle.std.proofs.lemmas.Bool.{leb-true, eq-eqb, cases_eq, cases_lt}
 use Rattle.std.proofs.lemmas.List.{get_or_append_left, get_or_push, get_or_past, length_push, length-map}
 use Rattle.cr_memory.specs.declared.value.Scalar.{Scalar}
 use Rattle.cr_memory.specs.declared.value.Scalar.TheVariants.{Int as IntegerKind, Pointer as PointerKind}
@@ -15,15 +15,18 @@ use Rattle.cr_memory.specs.declared.value.Trap.{Trap}
 use Rattle.cr_memory.specs.Memory.{Object, Memory, IsPointer, Holds, AllHold, live_cells, zero_of, first_cell, has_room, with_object, without_object}
 use Rattle.cr_memory.specs.Continues.{Continues}
 use Rattle.cr_memory.proofs.Continuing.{continues-refl, continues-onward, continues-past_new, with_object-continues, without_object-continues}
-use Rattle.cr_meaning.specs.World.{Program, World, Binding, with_binding, enter_object, enter_all, automatic, marked, left_by}
-use Rattle.cr_kept.specs.Sorts.{sorts_in, AreEntered, IsSound, IsWellFormed}
+use Rattle.cr_meaning.specs.World.{Program, World, Binding, bound, mark, object_for, with_binding, enter_object, enter_all, automatic, marked, left_by}
+use Rattle.cr_meaning.specs.declared.value.Value.{Value}
+use Rattle.cr_meaning.specs.declared.value.Value.TheVariants.{Nothing, Number as NumberValue, Pointer as Pointing, Place, Cells}
+use Rattle.cr_kept.specs.Sorts.{Sort, number as NumberSort, pointer as PointerSort, place as PlaceSort, cells as CellsSort, chars as CharsSort, sorts_in, Fits, IsAmong, AreEntered, IsSound, IsWellFormed}
+use Rattle.cr_kept.specs.Scopes.{IsBound, AreBound}
 use Rattle.cr_kept.specs.Blocks.{IsAbove, opened, more, Stands}
 use Rattle.cr_kept.specs.Laws
 use Rattle.cr_kept.proofs.Cells.{kinds_of, as_many, all_hold_later, Written}
 use Rattle.cr_kept.proofs.Numbers.{zero_or_one}
 use Rattle.cr_kept.proofs.Later.{entered_later}
 
-some_is_one : {A : Type 0} {a b : A} → Some a ≡ Some b → a ≡ b
+pub some_is_one : {A : Type 0} {a b : A} → Some a ≡ Some b → a ≡ b
 some_is_one e = cc
 
 -- ---- one more object
@@ -122,6 +125,35 @@ new_holds memory zeroed (own ∷ shape) = (first_holds memory zeroed own, new_ho
 pub begins : (p : Program) (world : World) → IsWellFormed p world → Stands p world (marked world)
 begins p world well = record { well = record { sound = well.sound; entered = well.entered }; continues = continues-refl world.memory; above = opened }
 
+-- what stays where objects are entered
+pub record Grows (p : Program) (world new : World) : Type 0 where
+  pub well : IsWellFormed p new
+  pub continues : Continues world.memory new.memory
+  pub above : (count : ℕ) (base : List Binding) → count ≤ length world.memory.objects → IsAbove count base world.bindings → IsAbove count base new.bindings
+  pub there : (declared : ℕ) → IsBound declared world.bindings → IsBound declared new.bindings
+
+pub grows_refl : (p : Program) (world : World) → IsWellFormed p world → Grows p world world
+grows_refl p world well = record { well = well; continues = continues-refl world.memory; above = λ count base few above. above; there = λ declared h. h }
+
+pub grows_onward : (p : Program) (first second third : World) → Grows p first second → Grows p second third → Grows p first third
+grows_onward p first second third g h =
+    let longer = g.continues.entered in
+    record {
+      well = h.well;
+      continues = continues-onward first.memory second.memory third.memory g.continues h.continues;
+      above = λ count base few above. h.above count base (omega arith) (g.above count base few above);
+      there = λ declared t. h.there declared (g.there declared t);
+    }
+
+pub stands_grown : (p : Program) (base world new : World) → Stands p base world → Grows p world new → Stands p base new
+stands_grown p base world new s g = record {
+  well = g.well;
+  continues = continues-onward base.memory world.memory new.memory s.continues g.continues;
+  above = g.above (length base.memory.objects) base.bindings s.continues.entered s.above;
+}
+
+-- ---- one object
+
 fits_in : (a b : Bool) → (a && b) ≡ true → a ≡ true
 fits_in true b e = refl
 fits_in false b e = cc
@@ -129,36 +161,83 @@ fits_in false b e = cc
 abbrev room_or : Bool → World → ℕ → Result World (Trap × ℕ)
 room_or b world node = if b then Ok world else Err (Left 3, node)
 
-ok_is_one : (a b : World) → (let r : Result World (Trap × ℕ) = Ok a in r) ≡ Ok b → a ≡ b
-ok_is_one a b e = cc
+bound_if : (declared object : ℕ) (found : Option ℕ) (b : Bool) → (other : ℕ) × (found ≡ Some other) → (other : ℕ) × ((if b then Some object else found) ≡ Some other)
+bound_if declared object found true there = (object, refl)
+bound_if declared object found false there = there
 
-entered_by : (p : Program) (base world new : World) (node : ℕ) (object : Object) (b : Bool) → Stands p base world → AllHold world.memory (kinds_of object.shape) object.cells
+pub bound_more : (node object declared : ℕ) (rest : List Binding) → IsBound declared rest → IsBound declared (bound node object ∷ rest)
+bound_more node object declared rest there = bound_if declared object (object_for rest declared) (node == declared) there
+
+bound_first : (node object : ℕ) (rest : List Binding) → IsBound node (bound node object ∷ rest)
+bound_first node object rest = (object, rw (eq-eqb node node refl) refl)
+
+abbrev pub Enters : Program → World → ℕ → World → Type 0
+Enters p world node new = Grows p world new × IsBound node new.bindings
+
+entered_by : (p : Program) (world : World) (node : ℕ) (object : Object) (b : Bool) → IsWellFormed p world → AllHold world.memory (kinds_of object.shape) object.cells
     → sorts_in object.shape ≡ sorts_in (p.shape node) → (b ≡ true → length object.shape ≤ world.memory.most)
-    → room_or b (with_binding world node object) node ≡ Ok new → Stands p base new
-entered_by p base world new node object false s hold sorts room e = absurd cc
-entered_by p base world new node object true s hold sorts room e =
-    let w = ok_is_one (with_binding world node object) new e in
-    let F : World → Type 0 = λ x. Stands p base x in
-    let b = s.continues.entered in
-    let m = s.well.sound.most in
+    → IfOk (room_or b (with_binding world node object) node) (Enters p world node)
+entered_by p world node object false well hold sorts room = tt
+entered_by p world node object true well hold sorts room =
+    let most = well.sound.most in
     let r = room refl in
     let size = as_many world.memory (kinds_of object.shape) object.cells hold in
     let few : length object.cells < 2 ^ 63 = omega (arith, length-map object.shape (λ (own : Scalar × Guard). own.0)) in
-    let n = with_sound world.memory object s.well.sound hold few in
-    subst F w (record {
-      well = record {
-        sound = n.sound;
-        entered = (record { live = object; lives = get_or_push world.memory.objects (Some object) None (length world.memory.objects) refl; sorts = sorts }, entered_later p world.memory _ world.bindings n.continues s.well.entered);
-      };
-      continues = continues-onward base.memory world.memory (with_object world.memory object) s.continues n.continues;
-      above = more node (length world.memory.objects) world.bindings b s.above;
-    })
+    let n = with_sound world.memory object well.sound hold few in (
+      record {
+        well = record {
+          sound = n.sound;
+          entered = (record { live = object; lives = get_or_push world.memory.objects (Some object) None (length world.memory.objects) refl; sorts = sorts }, entered_later p world.memory _ world.bindings n.continues well.entered);
+        };
+        continues = n.continues;
+        above = λ count base few above. more node (length world.memory.objects) world.bindings few above;
+        there = λ declared t. bound_more node (length world.memory.objects) declared world.bindings t;
+      },
+      bound_first node (length world.memory.objects) world.bindings,
+    )
 
-pub entered_stands : (p : Program) (base world new : World) (node : ℕ) (object : Object) → Stands p base world → AllHold world.memory (kinds_of object.shape) object.cells
-    → sorts_in object.shape ≡ sorts_in (p.shape node) → enter_object world node object ≡ Ok new → Stands p base new
-entered_stands p base world new node object s hold sorts e =
-    entered_by p base world new node object (has_room world.memory (length object.shape)) s hold sorts
-    (λ t. let l = leb-true (live_cells world.memory + length object.shape) world.memory.most (fits_in (nat_le (live_cells world.memory + length object.shape) world.memory.most) (nat_lt (length world.memory.objects) 4294967295) t) in omega arith) e
+pub object_enters : (p : Program) (world : World) (node : ℕ) (object : Object) → IsWellFormed p world → AllHold world.memory (kinds_of object.shape) object.cells
+    → sorts_in object.shape ≡ sorts_in (p.shape node) → IfOk (enter_object world node object) (Enters p world node)
+object_enters p world node object well hold sorts =
+    entered_by p world node object (has_room world.memory (length object.shape)) well hold sorts
+    (λ t. let l = leb-true (live_cells world.memory + length object.shape) world.memory.most (fits_in (nat_le (live_cells world.memory + length object.shape) world.memory.most) (nat_lt (length world.memory.objects) 4294967295) t) in omega arith)
+
+-- ---- one after another
+
+pub entered_then : (P Q : World → Type 0) (result : Result World (Trap × ℕ)) (f : World → Result World (Trap × ℕ)) → IfOk result P → ((world : World) → P world → IfOk (f world) Q)
+    → IfOk (elim result as (λ _. Result World (Trap × ℕ)) [ Ok world ↦ f world | Err trap ↦ Err trap ]) Q
+entered_then P Q (Ok world) f h k = k world h
+entered_then P Q (Err trap) f h k = tt
+
+pub ok_map : (P Q : World → Type 0) (result : Result World (Trap × ℕ)) → IfOk result P → ((world : World) → P world → Q world) → IfOk result Q
+ok_map P Q (Ok world) h k = k world h
+ok_map P Q (Err trap) h k = tt
+
+-- what an object begins with
+pub record IsMade (p : Program) (made : ℕ → Object) (node : ℕ) : Type 0 where
+  pub hold : (memory : Memory) → AllHold memory (kinds_of (made node).shape) (made node).cells
+  pub sorts : sorts_in (made node).shape ≡ sorts_in (p.shape node)
+
+pub automatic_made : (p : Program) (node : ℕ) → IsMade p (automatic p) node
+automatic_made p node = record { hold = λ memory. new_holds memory false (p.shape node); sorts = refl }
+
+abbrev pub EntersAll : Program → World → List ℕ → World → Type 0
+EntersAll p world nodes new = Grows p world new × AreBound nodes new.bindings
+
+pub bound_either : (p : Program) (node : ℕ) (nodes : List ℕ) (entered new : World) → IsBound node entered.bindings → Grows p entered new → AreBound nodes new.bindings → AreBound (node ∷ nodes) new.bindings
+bound_either p node nodes entered new there g rest n (inl same) = let F : ℕ → Type 0 = λ k. IsBound k new.bindings in subst F same (g.there node there)
+bound_either p node nodes entered new there g rest n (inr among) = rest n among
+
+pub all_enter : (p : Program) (made : ℕ → Object) (world : World) (nodes : List ℕ) → IsWellFormed p world → ((node : ℕ) → IsAmong node nodes → IsMade p made node)
+    → IfOk (enter_all made world nodes) (EntersAll p world nodes)
+all_enter p made world [] well are = (grows_refl p world well, λ node among. absurd among)
+all_enter p made world (node ∷ nodes) well are =
+    let one = are node (inl refl) in
+    entered_then (Enters p world node) (EntersAll p world (node ∷ nodes)) (enter_object world node (made node)) (λ entered. enter_all made entered nodes)
+    (object_enters p world node (made node) well (one.hold world.memory) one.sorts)
+    (λ entered e. ok_map (EntersAll p entered nodes) (EntersAll p world (node ∷ nodes)) (enter_all made entered nodes)
+    (all_enter p made entered nodes e.0.well (λ n among. are n (inr among)))
+    (λ new all. (grows_onward p world entered new e.0 all.0, bound_either p node nodes entered new e.1 all.0 all.1)))
 
 -- ---- a block or a call ends
 
@@ -175,6 +254,24 @@ leaves p base memory bindings sound c (more node object rest below above) =
     (continues-past_new base.memory memory (without_object memory object) object c (without_object-continues memory object) below) above in
     record { sound = l.sound; continues = l.continues; bindings_are = l.bindings_are }
 
+-- what fits a sort does so when objects have ended
+gone_fits : (memory : Memory) (number : ℕ) (sort : Sort) (value : Value) → Fits memory sort value → Fits (without_object memory number) sort value
+gone_fits memory number (PlaceSort count) Nothing h = absurd h
+gone_fits memory number CharsSort Nothing h = absurd h
+gone_fits memory number sort Nothing h = tt
+gone_fits memory number (NumberSort kind) (NumberValue from value) h = h
+gone_fits memory number PointerSort (Pointing at) h = kept_pointer memory number at h
+gone_fits memory number (PlaceSort count) (Place at) h = (kept_pointer memory number at h.0, h.1)
+gone_fits memory number (CellsSort kinds) (Cells held) h = kept_cells memory number kinds held h
+gone_fits memory number CharsSort (Place (At object cell low high stride)) h =
+    (kept_pointer memory number (At object cell low high stride) h.0, λ live e. h.1 live (gone memory.objects number object live (cases_eq object number) e))
+gone_fits memory number sort value h = absurd h
+
+pub left_fits : (memory : Memory) (bindings : List Binding) (sort : Sort) (value : Value) → Fits memory sort value → Fits (left_by memory bindings).0 sort value
+left_fits memory [] sort value h = h
+left_fits memory (mark ∷ rest) sort value h = h
+left_fits memory (bound node object ∷ rest) sort value h = left_fits (without_object memory object) rest sort value (gone_fits memory object sort value h)
+
 pub block_ends : Laws.BlocksAreLeft
 block_ends p base world well s =
     let l = leaves p base world.memory world.bindings s.well.sound s.continues s.above in
@@ -185,24 +282,16 @@ block_ends p base world well s =
       bindings = l.bindings_are;
     }
 
--- ---- all objects of a block
+-- ---- a block begins
 
-one_entered : (p : Program) (base world new : World) (node : ℕ) (nodes : List ℕ) (result : Result World (Trap × ℕ)) → enter_object world node (automatic p node) ≡ result → Stands p base world
-    → ((entered : World) → Stands p base entered → enter_all (automatic p) entered nodes ≡ Ok new → Stands p base new)
-    → (elim result as (λ _. Result World (Trap × ℕ)) [ Ok entered ↦ enter_all (automatic p) entered nodes | Err trap ↦ Err trap ]) ≡ Ok new → Stands p base new
-one_entered p base world new node nodes (Ok entered) e s go f =
-    go entered (entered_stands p base world entered node (automatic p node) s (new_holds world.memory false (p.shape node)) refl e) f
-one_entered p base world new node nodes (Err trap) e s go f = absurd cc
-
-all_entered : (p : Program) (base world new : World) (nodes : List ℕ) → Stands p base world → enter_all (automatic p) world nodes ≡ Ok new → Stands p base new
-all_entered p base world new [] s e =
-    let w = ok_is_one world new e in
-    let F : World → Type 0 = λ x. Stands p base x in subst F w s
-all_entered p base world new (node ∷ nodes) s e =
-    one_entered p base world new node nodes (enter_object world node (automatic p node)) refl s (λ entered. all_entered p base entered new nodes) e
+ok_is : (P : World → Type 0) (result : Result World (Trap × ℕ)) (new : World) → IfOk result P → result ≡ Ok new → P new
+ok_is P result new h e = let F : Result World (Trap × ℕ) → Type 0 = λ r. IfOk r P in subst F e h
 
 pub block_begins : Laws.BlocksAreEntered
-block_begins p world new nodes well e = all_entered p world (marked world) new nodes (begins p world well) e
+block_begins p world new nodes well e =
+    let begun = begins p world well in
+    stands_grown p world (marked world) new begun
+    (ok_is (EntersAll p (marked world) nodes) _ new (all_enter p (automatic p) (marked world) nodes begun.well (λ node among. automatic_made p node)) e).0
 
 pub start_is_well_formed : Laws.StartIsWellFormed
 start_is_well_formed p limits few = record {

@@ -1,4 +1,9 @@
 pub mod Sorts
+pub mod Statements
 pub mod Rules
+pub mod Scopes
+pub mod Programs
+pub mod Operands
+pub mod Ends
 pub mod Blocks
 pub mod Laws

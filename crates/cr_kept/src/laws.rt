@@ -1,9 +1,19 @@
 //! What a reader expects of evaluation. The program calls none of these functions.
-ghost use Rattle.cr_kept.specs.Laws.{EvaluationKeepsSorts, OlderValuesFit, StartIsWellFormed, BlocksAreEntered, BlocksAreLeft};
+ghost use Rattle.cr_kept.specs.Laws.{EvaluationKeepsSorts, ProgramsGiveStatuses, ProgramsHaveOutcomes, OlderValuesFit, StartIsWellFormed, BlocksAreEntered, BlocksAreLeft};
 
-/// A typed expression's value fits its sort, and leaves a world that is well formed.
+/// The answer of a typed node fits its sort, and leaves a world that is well formed.
 pub fn evaluation_keeps_sorts()
     ensures { EvaluationKeepsSorts }
+{}
+
+/// What a typed program answers is a status.
+pub fn programs_give_statuses()
+    ensures { ProgramsGiveStatuses }
+{}
+
+/// Whatever the run of a typed program comes to, whose nodes have the operands and objects that they need, is an outcome.
+pub fn programs_have_outcomes()
+    ensures { ProgramsHaveOutcomes }
 {}
 
 /// A value that fitted its sort does so while the objects continue.

@@ -37,11 +37,12 @@ use Rattle.cr_syntax.specs.declared.node.Kind.TheVariants as kind
 use Rattle.cr_syntax.specs.declared.node.Node.{Node}
 use Rattle.cr_tokens.specs.declared.token.Token.{Token}
 use Rattle.cr_typed.specs.declared.typed.Typed.{Typed}
+use Rattle.cr_typed.specs.Typed.{row_cells}
 use Rattle.cr_typed.specs.declared.typed.Put.{Put}
 use Rattle.cr_typed.specs.declared.typed.Duration.{Duration}
 use Rattle.cr_typed.specs.declared.typed.Duration.TheVariants as duration
 use Rattle.cr_types.specs.Types.{Qualified, plain, pointer, type_at}
-use Rattle.cr_operations.specs.Shapes.{type_of_node, named_type, value_type, cells_of, stride_of, kind_in, is_pointer, is_volatile, form_of, access_of, shape_of, members_of, row_cells, offset_in, number_of}
+use Rattle.cr_operations.specs.Shapes.{type_of_node, named_type, value_type, cells_of, stride_of, kind_in, is_pointer, is_volatile, form_of, access_of, shape_of, members_of, offset_in, number_of}
 
 -- ---- nodes
 

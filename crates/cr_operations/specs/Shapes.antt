@@ -13,6 +13,7 @@ use Rattle.cr_meaning.specs.declared.op.Access.{Access}
 use Rattle.cr_meaning.specs.declared.op.Access.TheVariants as access
 use Rattle.cr_syntax.specs.declared.typed.CType.TheVariants.{Void, Int, Struct}
 use Rattle.cr_typed.specs.declared.typed.Typed.{Typed}
+use Rattle.cr_typed.specs.Typed.{row_cells}
 use Rattle.cr_types.specs.Types.{Qualified, plain, pointer, array, types_of, type_at}
 use Rattle.cr_types.specs.Relations.{are_compatible}
 use Rattle.cr_types.specs.Layouts.{layout_of}
@@ -95,18 +96,23 @@ abbrev pub repeated : {X : Type 0} → ℕ → List X → List X
 repeated zero items = []
 repeated (suc n) items = items ++ repeated n items
 
--- elements one behind another (6.2.5p20), members in order (6.7.2.1p15); the number is above that of the type's levels
-abbrev pub cells_by : ℕ → Typed → Bool → Qualified → List (Scalar × Guard)
-cells_by zero t constant type = []
-cells_by (suc more) t constant (plain (Int kind) c v) = (scalar.Int kind, guard_of (constant || c)) ∷ []
-cells_by (suc more) t constant (plain (Struct node) c v) =
-    flat_map (λ row. cells_by more t (constant || c) (type_at t.shapes row)) (slice_index_or t.members node [])
-cells_by (suc more) t constant (pointer c v below) = (scalar.Pointer (number_of t below), guard_of (constant || c)) ∷ []
-cells_by (suc more) t constant (array n below) = repeated n (cells_by more t constant below)
-cells_by (suc more) t constant other = []
+-- elements one behind another (6.2.5p20), by the cells of structures
+abbrev pub cells_with : (Bool → ℕ → List (Scalar × Guard)) → Typed → Bool → Qualified → List (Scalar × Guard)
+cells_with look t constant (plain (Int kind) c v) = (scalar.Int kind, guard_of (constant || c)) ∷ []
+cells_with look t constant (plain (Struct node) c v) = look (constant || c) node
+cells_with look t constant (pointer c v below) = (scalar.Pointer (number_of t below), guard_of (constant || c)) ∷ []
+cells_with look t constant (array n below) = repeated n (cells_with look t constant below)
+cells_with look t constant other = []
+
+-- members in order (6.7.2.1p15). Those of a structure have structures of earlier nodes alone, so a number above its own node
+-- is enough
+abbrev pub structure_cells : ℕ → Typed → Bool → ℕ → List (Scalar × Guard)
+structure_cells zero t constant node = []
+structure_cells (suc more) t constant node =
+    flat_map (λ row. cells_with (structure_cells more t) t constant (type_at t.shapes row)) (slice_index_or t.members node [])
 
 abbrev pub shape_of : Typed → Qualified → List (Scalar × Guard)
-shape_of t type = cells_by (suc (length t.unit.nodes)) t false type
+shape_of t type = cells_with (structure_cells (length t.unit.nodes) t) t false type
 
 -- ---- members (6.5.2.3)
 
@@ -116,9 +122,6 @@ structure_of type = 0
 
 abbrev pub members_of : Typed → Qualified → List ℕ
 members_of t type = slice_index_or t.members (structure_of type) []
-
-abbrev pub row_cells : Typed → ℕ → ℕ
-row_cells t row = cells_of t (type_at t.shapes row)
 
 -- the cells before a member
 abbrev pub offset_in : Typed → Qualified → ℕ → ℕ

@@ -1,12 +1,12 @@
 // Files in memory.
-ghost use Rattle.std.specs.Prelude.{◌≡◌, ◌≤◌, ◌↔◌, Contains, IfOk, IsErrOf, OnOk, OnErr, Some, take};
+ghost use Rattle.std.specs.Prelude.{◌≡◌, ◌≤◌, ◌↔◌, Contains, IfOk, IsErrOf, OnOk, OnErr, Some, take, true, false};
 ghost use Rattle.cr_outside.specs.Faults.{Rose, raised};
 ghost use Rattle.std.specs.Cmp.Lexicographic.{slice_cmp};
 ghost use Rattle.std.specs.Option.{option_map};
 ghost use Rattle.std.specs.Ordering.{eq_by_cmp, nat_cmp};
 ghost use Rattle.std.specs.String.{string_bytes};
 ghost use Rattle.cr_outside.specs.Files.{Reads, Writes, content_of, with_file};
-ghost use Rattle.cr_outside.specs.MemFiles.{named};
+ghost use Rattle.cr_outside.specs.MemFiles.{named, left_by, is_late, FailsBy};
 
 use crate::fault_plan::FaultPlan;
 use crate::{FileFault, Files, ReadAnswer};
@@ -17,20 +17,38 @@ use std::alloc::{AllocError, Global};
 pub struct MemFiles {
     pairs: Vec<(String, Vec<u8>)>,
     plan: FaultPlan,
+    is_late: bool,
 }
 
 impl MemFiles {
-    ghost use Rattle.cr_outside.specs.MemFiles.{files_of, files_of_pairs, failing_of, calls_of};
+    ghost use Rattle.cr_outside.specs.MemFiles.{files_of, files_of_pairs, failing_of, calls_of, is_late};
 
-    /// These files, of which the first of a name counts. `failing` has the numbers of the calls, from 1, that fail.
+    /// These files, of which the first of a name counts. `failing` has the numbers of the calls, from 1, that fail. A failing write
+    /// leaves the files as they are.
     pub fn new(pairs: Vec<(String, Vec<u8>)>, failing: Vec<u64>) -> MemFiles
         ensures files { files_of result ≡ files_of_pairs pairs.items }
         ensures failing { failing_of result ≡ failing.items }
         ensures first { calls_of result ≡ 0 }
+        ensures early { is_late result ≡ false }
     {
         MemFiles {
             pairs,
             plan: FaultPlan::new(failing),
+            is_late: false,
+        }
+    }
+
+    /// As `new`, but a failing write has put its pair all the same, as a disk may that reports a fault behind the write.
+    pub fn late(pairs: Vec<(String, Vec<u8>)>, failing: Vec<u64>) -> MemFiles
+        ensures files { files_of result ≡ files_of_pairs pairs.items }
+        ensures failing { failing_of result ≡ failing.items }
+        ensures first { calls_of result ≡ 0 }
+        ensures late { is_late result ≡ true }
+    {
+        MemFiles {
+            pairs,
+            plan: FaultPlan::new(failing),
+            is_late: true,
         }
     }
 
@@ -44,11 +62,29 @@ impl MemFiles {
         ensures put { OnOk result (files_of self.new ≡ with_file name.now bytes.now (files_of self.old)) }
         ensures refused { OnErr result (files_of self.new ≡ files_of self.old) }
         ensures plan { self.new.plan ≡ self.old.plan }
+        ensures same { is_late self.new ≡ is_late self.old }
     {
         let name = String::from_str(alloc, name)?;
         let bytes = bytes.to_vec(alloc)?;
         self.pairs.insert(0, (name, bytes))?;
         Ok(())
+    }
+
+    // The fault of a failing write: want of memory where a late one can't put its pair.
+    fn refuse(&mut self, alloc: Global, name: &str, bytes: &[u8]) -> FileFault
+        ensures failed { result ≡ FileFault.Failed → files_of self.new ≡ left_by (is_late self.old) name.now bytes.now (files_of self.old) }
+        ensures wanting { result ≡ FileFault.NoMemory → files_of self.new ≡ files_of self.old }
+        ensures early { result ≡ FileFault.NoMemory → is_late self.old ≡ true }
+        ensures plan { self.new.plan ≡ self.old.plan }
+        ensures same { is_late self.new ≡ is_late self.old }
+    {
+        if !self.is_late {
+            return FileFault::Failed;
+        }
+        match self.put(alloc, name, bytes) {
+            Ok(()) => FileFault::Failed,
+            Err(_) => FileFault::NoMemory,
+        }
     }
 }
 
@@ -77,7 +113,7 @@ fn is_named(pair: &(String, Vec<u8>), name: &str) -> bool
 }
 
 impl Files for MemFiles {
-    ghost use Rattle.cr_outside.specs.MemFiles.{files_of, failing_of, calls_of};
+    ghost use Rattle.cr_outside.specs.MemFiles.{files_of, failing_of, calls_of, is_late};
 
     ghost told = { λ m. Some (files_of m) };
 
@@ -90,6 +126,7 @@ impl Files for MemFiles {
         ensures failed { result ≡ ReadAnswer.Failed → Rose self.old.plan.faults self.new.plan.faults }
         ensures listed { (result ≡ ReadAnswer.Failed) ↔ Contains (failing_of self.old) (calls_of self.new) }
         ensures counted { calls_of self.new ≡ raised (calls_of self.old) }
+        ensures late { is_late self.new ≡ is_late self.old }
     {
         if self.plan.next_fails() {
             return ReadAnswer::Failed;
@@ -107,12 +144,15 @@ impl Files for MemFiles {
         ensures written { Writes (Some (files_of self.old)) (Some (files_of self.new)) name.now bytes.now result }
         ensures later { self.old.plan.faults ≤ self.new.plan.faults }
         ensures failed { IsErrOf result FileFault.Failed → Rose self.old.plan.faults self.new.plan.faults }
-        ensures listed { IsErrOf result FileFault.Failed ↔ Contains (failing_of self.old) (calls_of self.new) }
+        ensures listed { IsErrOf result FileFault.Failed → Contains (failing_of self.old) (calls_of self.new) }
+        ensures fails { Contains (failing_of self.old) (calls_of self.new) → FailsBy (is_late self.old) result }
         ensures counted { calls_of self.new ≡ raised (calls_of self.old) }
-        ensures unwritten { OnErr result (files_of self.new ≡ files_of self.old) }
+        ensures left { IsErrOf result FileFault.Failed → files_of self.new ≡ left_by (is_late self.old) name.now bytes.now (files_of self.old) }
+        ensures unwritten { IsErrOf result FileFault.NoMemory → files_of self.new ≡ files_of self.old }
+        ensures late { is_late self.new ≡ is_late self.old }
     {
         if self.plan.next_fails() {
-            return Err(FileFault::Failed);
+            return Err(self.refuse(alloc, name, bytes));
         }
         match self.put(alloc, name, bytes) {
             Ok(()) => Ok(()),

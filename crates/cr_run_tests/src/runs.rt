@@ -130,6 +130,35 @@ output ∅
 copy int a;␊int b;␊int c;␊
 log end limit 102 0␊
 
+what the copy is there though its write fails
+failing 2
+late yes
+output creduce: file fault: abc.c.orig␊
+copy int a;␊int b;␊int c;␊
+
+what the result is there though its write fails
+failing 3
+late yes
+after int b;␊
+copy int a;␊int b;␊int c;␊
+
+what three bytes of the summary are put
+failing none
+mute 1
+keeps 3
+status 10
+output abc
+after int b;␊
+copy int a;␊int b;␊int c;␊
+log l 13 1 68 15␊l 14 0 34 16␊end fixed 34 32␊
+
+what the refusal of words without a file can't be put
+failing none
+words has:b
+mute 1
+status 2
+output ∅
+
 what a refusal can't be put
 failing none
 words has:d abc.c
@@ -435,12 +464,16 @@ fn words_of(alloc: Global, case: &Case) -> Result<Vec<String>, AllocError> {
     Ok(words)
 }
 
-/// The files of a case: one of its name.
+/// The files of a case: one of its name. Where a failing write is late, it puts its file all the same.
 fn files_of(alloc: Global, case: &Case) -> Result<MemFiles, AllocError> {
     let mut pairs = Vec::new(alloc);
     let name = String::from_str(alloc, case.told("name"))?;
     pairs.push((name, case.before(alloc)?))?;
-    Ok(MemFiles::new(pairs, case.numbers(alloc, "failing")?))
+    let failing = case.numbers(alloc, "failing")?;
+    Ok(match case.told("late") {
+        "yes" => MemFiles::late(pairs, failing),
+        _ => MemFiles::new(pairs, failing),
+    })
 }
 
 pub(crate) fn content(alloc: Global, files: &mut MemFiles, name: &str) -> Option<Vec<u8>> {
@@ -476,7 +509,8 @@ fn runs_so<J: Judge + Send>(
 ) -> Result<bool, AllocError> {
     let words = words_of(alloc, case)?;
     let mut files = files_of(alloc, case)?;
-    let mut out = MemSink::new(alloc, case.numbers(alloc, "mute")?);
+    let kept = case.told("keeps").parse().unwrap_or(0);
+    let mut out = MemSink::part(alloc, case.numbers(alloc, "mute")?, kept);
     let status = run(rt, alloc, &words, &mut files, bench, &mut out);
     Ok(
         u64::from(status) == case.number("status")

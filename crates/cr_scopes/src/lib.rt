@@ -20,3 +20,4 @@ mod told;
 pub use fault::NameFault;
 pub use names::{Entity, Names};
 pub use resolution::resolve;
+pub use spelled::names_of;

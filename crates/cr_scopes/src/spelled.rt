@@ -9,7 +9,8 @@ use cr_tokens::Token;
 use indexmap::IndexMap;
 use std::alloc::{AllocError, Global};
 
-/// For each token the first one that is spelled like it.
+/// For each token the number of the first one that is spelled like it, so that equal spellings have equal numbers. The error is want of
+/// memory, or more than 2^32 tokens.
 #[tactic(auto, using(crate::proofs::Spellings::known_step, crate::proofs::Spellings::named_step, crate::proofs::Spellings::all_named))]
 pub fn names_of(alloc: Global, file: &[u8], tokens: &[Token]) -> Result<Vec<u32>, AllocError>
     requires { AreSpans file.now tokens.now }

@@ -1,6 +1,6 @@
 use cr_rows::Row;
 use cr_syntax::Unit;
-use cr_types::{Layout, Shape};
+use cr_types::{Layout, Table};
 
 /// What a declared name stands for in a run (C11 6.2.4).
 #[derive(Clone, Copy)]
@@ -33,7 +33,7 @@ pub struct Typed {
     pub file: Row<u8>,
     pub unit: Unit,
     /// The types, which the others name by their numbers.
-    pub shapes: Row<Shape>,
+    pub shapes: Table,
     /// The row of each expression's type; of every other node one of no type.
     pub types: Row<u32>,
     /// For each identifier in an expression, each call and each declared name the node that declares its entity first; for

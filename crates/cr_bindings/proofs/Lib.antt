@@ -1,0 +1,5 @@
+pub mod Finding
+pub mod Lasting
+pub mod Marked
+pub mod Looking
+pub mod Renamed

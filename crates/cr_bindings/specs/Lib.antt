@@ -1,0 +1,7 @@
+pub mod Last
+pub mod Nodes
+pub mod Entities
+pub mod Stacks
+pub mod Entries
+pub mod Visible
+pub mod Bindings

@@ -1,0 +1,126 @@
+ghost use Rattle.std.specs.Prelude.{◌≡◌, IfOk};
+ghost use Rattle.cr_bindings.specs.Bindings.{earlier_node, entry_if, first_node, tag_for, tag_of, visible_node, AreBindings};
+ghost use Rattle.cr_syntax.specs.Words.{AreSpans};
+
+use crate::entities::{declaring, entity_at, first_of, is_marked, previous};
+use crate::last::at;
+use crate::nodes::{contents, declarers, specifiers, tag_at};
+use crate::visible::visible;
+use cr_rows::Row;
+use cr_scopes::Names;
+use cr_syntax::{Node, Unit};
+use cr_tokens::Token;
+use std::alloc::{AllocError, Global};
+
+/// What the declarations of a unit's names are. Nodes, tokens and entities are named by their numbers.
+#[derive(Drop)]
+pub struct Bindings {
+    /// For each token the whole declarator, or the enumerator, that declares it as an ordinary identifier.
+    pub declarers: Row<Option<u32>>,
+    /// For each token of an ordinary identifier the one that declares its name where it stands (C11 6.2.1p4).
+    pub visible: Row<Option<u32>>,
+    /// Whether a token declares something.
+    pub declaring: Row<bool>,
+    /// For each token the one before it that declares the same.
+    pub previous: Row<Option<u32>>,
+    /// For each token the specifier that has it as its tag.
+    pub specifiers: Row<Option<u32>>,
+    /// For each entity the specifier with its content.
+    pub contents: Row<Option<u32>>,
+}
+
+/// What is known of the tag in a specifier of a structure or an enumeration (6.7.2.3).
+#[derive(Clone, Copy)]
+pub struct Tag {
+    /// The specifier that declares it first.
+    pub first: Option<u32>,
+    /// The one with its content.
+    pub content: Option<u32>,
+    /// Whether this specifier declares it.
+    pub declares: bool,
+}
+
+fn entry(column: &Row<Option<u32>>, number: Option<u32>) -> Option<u32>
+    ensures { result ≡ entry_if column.now number }
+{
+    at(column.as_slice(), number? as usize)
+}
+
+fn entry_at(column: &Row<Option<u32>>, number: Option<usize>) -> Option<u32>
+    ensures { result ≡ entry_if column.now number }
+{
+    at(column.as_slice(), number?)
+}
+
+impl Bindings {
+    /// The declarations of the names of a unit. The error is want of memory.
+    pub fn new(
+        alloc: Global,
+        file: &[u8],
+        unit: &Unit,
+        names: &Names,
+    ) -> Result<Bindings, AllocError>
+        requires { AreSpans file.now unit.now.tokens.list.items }
+        ensures { IfOk result (λ found. AreBindings file.now unit.now names.now found) }
+    {
+        let tokens = unit.tokens.list.as_slice();
+        let nodes = unit.nodes.as_slice();
+        let declaring = declaring(alloc, names)?;
+        let previous = previous(alloc, names, &declaring)?;
+        Ok(Bindings {
+            declarers: Row::from_vec(declarers(alloc, nodes, tokens.len())?),
+            visible: Row::from_vec(visible(alloc, file, unit)?),
+            declaring: Row::from_vec(declaring),
+            previous: Row::from_vec(previous),
+            specifiers: Row::from_vec(specifiers(alloc, nodes, tokens)?),
+            contents: Row::from_vec(contents(alloc, names, nodes, tokens)?),
+        })
+    }
+
+    /// The node whose declaration is visible directly before a token: where a name is used, that of what it stands for; where it is
+    /// declared, that of an earlier declaration, if there is one (6.2.2p4).
+    pub fn visible_at(&self, token: u32) -> Option<u32>
+        ensures { result ≡ visible_node self.now token }
+    {
+        entry(&self.declarers, at(self.visible.as_slice(), token as usize))
+    }
+
+    /// The last node before a token that declares the same (6.2.7p2).
+    pub fn earlier_at(&self, token: u32) -> Option<u32>
+        ensures { result ≡ earlier_node self.now token }
+    {
+        entry(
+            &self.declarers,
+            at(self.previous.as_slice(), token as usize),
+        )
+    }
+
+    /// The node that declares first what a token stands for.
+    pub fn first_at(&self, names: &Names, token: u32) -> Option<u32>
+        ensures { result ≡ first_node self.now names.now token }
+    {
+        let entity = entity_at(names, token as usize);
+        entry_at(&self.declarers, first_of(names, entity))
+    }
+
+    fn tag_for(&self, names: &Names, token: usize) -> Tag
+        ensures { result ≡ tag_for self.now names.now token }
+    {
+        let entity = entity_at(names, token);
+        Tag {
+            first: entry_at(&self.specifiers, first_of(names, entity)),
+            content: entry_at(&self.contents, entity),
+            declares: is_marked(self.declaring.as_slice(), token),
+        }
+    }
+
+    /// What is known of the tag in the specifier of a number; None where it has no tag.
+    pub fn tag_of(&self, names: &Names, nodes: &[Node], tokens: &[Token], at: u32) -> Option<Tag>
+        ensures { result ≡ tag_of self.now names.now nodes.now tokens.now at }
+    {
+        match tag_at(nodes, tokens, at as usize) {
+            Some(token) => Some(self.tag_for(names, token)),
+            None => None,
+        }
+    }
+}

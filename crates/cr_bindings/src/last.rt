@@ -1,0 +1,39 @@
+// Columns of the last numbers with a key.
+ghost use Rattle.std.specs.Prelude.{◌≡◌, ◌<◌, ℕ, Some, None, IfOk, length, slice_index_or, slice_set, if◌then◌else◌};
+ghost use Rattle.cr_scopes.specs.Resolved.{is_number};
+
+use std::alloc::AllocError;
+
+/// A number in 32 bits. Where it doesn't fit, that counts as want of memory.
+pub(crate) fn number_of(at: usize) -> Result<u32, AllocError>
+    ensures { IfOk result (λ n. n ≡ at) }
+{
+    u32::try_from(at).map_err(|_| AllocError)
+}
+
+/// A number has this key from now on, if it has any.
+pub(crate) fn put(column: &mut Vec<Option<u32>>, key: Option<usize>, number: u32)
+    ensures count { length column.new.items ≡ length column.old.items }
+    ensures each { (k : ℕ) → k < length column.old.items → slice_index_or column.new.items k None ≡ (if is_number key k then Some number else slice_index_or column.old.items k None) }
+{
+    match key {
+        Some(key) => set(column, key, Some(number)),
+        None => {}
+    }
+}
+
+/// Sets an entry, where there is one.
+pub(crate) fn set(column: &mut Vec<Option<u32>>, at: usize, entry: Option<u32>)
+    ensures { column.new.items ≡ slice_set column.old.items at entry }
+{
+    if at < column.len() {
+        column[at] = entry;
+    }
+}
+
+/// What a column has at a number; nothing beyond its end.
+pub(crate) fn at(column: &[Option<u32>], at: usize) -> Option<u32>
+    ensures { result ≡ slice_index_or column.now at None }
+{
+    if at < column.len() { column[at] } else { None }
+}

@@ -1,0 +1,144 @@
+// The evaluation of an expression, node by node.
+use crate::unit::{ENDED, make_unit, single};
+use crate::words::push_nodes;
+use cr_eval::Table;
+use cr_expressions::expression;
+use cr_footprint::Foot;
+use cr_ints::IntKind;
+use cr_join::{Part, argument};
+use cr_meaning::{Op, Value};
+use cr_memory::{Pointer, Trap};
+use cr_slices::{Halted, Way};
+use cr_stack::Stack;
+use cr_turns::{Held, next};
+use cr_world::World;
+use std::alloc::{AllocError, Global};
+
+// What the function with this body returns.
+fn returned(body: u32) -> Value {
+    match body {
+        0 => Value::Number(IntKind::Int, 0),
+        1 => Value::Nothing,
+        _ => Value::Pointer(single(ENDED)),
+    }
+}
+
+fn halted(trap: Trap, node: u32) -> Halted {
+    match trap {
+        Trap::Undefined(number) => Halted::Undefined(number, node),
+        Trap::Left(number) => Halted::Left(number, node),
+        Trap::NoMemory => Halted::NoMemory,
+    }
+}
+
+// The events of a call's arguments. Those of its body are not the caller's.
+fn arguments(alloc: Global, stack: &mut Stack<Held>) -> Result<Foot, Trap> {
+    let mut foot = Foot::none(alloc);
+    for _ in 0..stack.done().len() {
+        let Some(Held::Part(part)) = stack.pop() else {
+            return Err(Trap::NoMemory);
+        };
+        foot = argument(alloc, part.foot, foot)?;
+    }
+    Ok(foot)
+}
+
+fn called(alloc: Global, node: u32, body: u32, stack: &mut Stack<Held>) -> Result<Held, Halted> {
+    match arguments(alloc, stack) {
+        Ok(foot) => Ok(Held::Part(Part {
+            value: returned(body),
+            foot,
+        })),
+        Err(trap) => Err(halted(trap, node)),
+    }
+}
+
+// Gives a node's answer to the one that waits for it, or answers it.
+fn give(stack: &mut Stack<Held>, held: Held) -> Result<Option<Held>, Halted> {
+    if !stack.end() {
+        return Ok(Some(held));
+    }
+    match stack.give(held) {
+        Ok(()) => Ok(None),
+        Err(_) => Err(Halted::NoMemory),
+    }
+}
+
+fn begin(stack: &mut Stack<Held>, part: u32) -> Result<Option<Held>, Halted> {
+    match stack.begin(part) {
+        Ok(()) => Ok(None),
+        Err(_) => Err(Halted::NoMemory),
+    }
+}
+
+fn turn(
+    alloc: Global,
+    table: &Table,
+    world: &mut World,
+    stack: &mut Stack<Held>,
+    op: &Op,
+) -> Result<Option<Held>, Halted> {
+    let node = stack.node();
+    match next(op, stack.done()) {
+        Way::Operand(part) => begin(stack, part),
+        Way::Enter(body) => {
+            let held = called(alloc, node, body, stack)?;
+            give(stack, held)
+        }
+        Way::Ready => {
+            let held = expression(alloc, table, world, op, node, stack)?;
+            give(stack, held)
+        }
+        _ => Err(Halted::NoMemory),
+    }
+}
+
+fn evaluate(alloc: Global, table: &Table, world: &mut World, node: u32) -> Result<Held, Halted> {
+    let mut stack = Stack::new(alloc, node);
+    for _ in 0..100 {
+        let Some(op) = table.ops.as_slice().get(stack.node() as usize) else {
+            return Err(Halted::NoMemory);
+        };
+        if let Some(held) = turn(alloc, table, world, &mut stack, op)? {
+            return Ok(held);
+        }
+    }
+    Err(Halted::NoMemory)
+}
+
+// A value; of a pointer its cell, the cells of the array in which it points, and the cells of an element.
+fn value_text(alloc: Global, value: &Value) -> Result<String, AllocError> {
+    match value {
+        Value::Nothing => String::from_str(alloc, "nothing"),
+        Value::Number(kind, number) => format!(in alloc; "{kind:?} {number}"),
+        Value::Pointer(Pointer::Null) => String::from_str(alloc, "null"),
+        Value::Pointer(
+            Pointer::At {
+                cell,
+                low,
+                high,
+                stride,
+                ..
+            },
+        ) => format!(in alloc; "{cell} of {low}..{high} by {stride}"),
+        Value::Place(_) => String::from_str(alloc, "place"),
+        Value::Cells(cells) => format!(in alloc; "{} cells", cells.len()),
+    }
+}
+
+fn text(alloc: Global, end: Result<Held, Halted>) -> Result<String, AllocError> {
+    match end {
+        Ok(Held::Part(part)) => value_text(alloc, &part.value),
+        Err(Halted::Undefined(number, node)) => format!(in alloc; "U{number} {node}"),
+        Err(Halted::Left(number, node)) => format!(in alloc; "N{number} {node}"),
+        _ => String::from_str(alloc, "no answer"),
+    }
+}
+
+/// What the expression of these words comes to: its value, or its first case and the number of the word where it is met.
+pub(crate) fn answer(alloc: Global, words: &str) -> Result<String, AllocError> {
+    let mut unit = make_unit(alloc)?;
+    let node = push_nodes(alloc, &mut unit.table, words)?;
+    let end = evaluate(alloc, &unit.table, &mut unit.world, node);
+    text(alloc, end)
+}

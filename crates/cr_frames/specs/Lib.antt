@@ -1,0 +1,4 @@
+pub mod Arguments
+pub mod Clashes
+pub mod Taken
+pub mod Ends

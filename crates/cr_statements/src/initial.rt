@@ -1,0 +1,361 @@
+// Initialisers (C11 6.7.9).
+ghost use Rattle.std.specs.Prelude.{◌≡◌, ℕ, Ok, ◌∷◌, [], take, IfOk, IfSome};
+ghost use Rattle.cr_memory.specs.Memory.{live_object};
+ghost use Rattle.cr_memory.specs.Access.{object_at, some_object};
+ghost use Rattle.cr_meaning.specs.Values.{cells_in, cells_of_value};
+ghost use Rattle.cr_meaning.specs.Work.{is_nothing};
+ghost use Rattle.cr_meaning.specs.Nodes.{initial, set_parts, unused_in, with_parts, zeroed};
+ghost use Rattle.cr_eval.specs.Answers.{Answers, leaving};
+ghost use Rattle.cr_eval.specs.Table.{program_of};
+ghost use Rattle.cr_slices.specs.Shown.{Worked};
+ghost use Rattle.cr_world.specs.Worlds.{world_of};
+ghost use Rattle.cr_statements.specs.Kept.{value_in, values_in};
+ghost use Rattle.cr_statements.specs.Sets.{GivesParts, IsCharAt, parts_set, set_by};
+
+use crate::kept::halted;
+use cr_eval::{Table, UNUSED_VALUE, converted, is_nothing, load};
+use cr_meaning::{Form, Line, Value};
+use cr_memory::{Cell, Pointer, Store, Trap};
+use cr_rows::Row;
+use cr_slices::Halted;
+use cr_turns::Held;
+use cr_world::{World, blank, shape_for, write};
+use std::alloc::Global;
+
+// ---- what an initialiser gives its part
+
+/// The cell of an object with this number, if it has one.
+fn char_at(store: &Store, object: u32, place: u32) -> Result<Option<Cell>, Trap>
+    ensures { IfOk result (IsCharAt (some_object (live_object store.now object)).cells place) }
+{
+    let Some(kind) = store.kind_of(object, place) else {
+        return Ok(None);
+    };
+    let Some(high) = place.checked_add(1) else {
+        return Err(Trap::NoMemory);
+    };
+    let at = Pointer::At {
+        object,
+        cell: place,
+        low: place,
+        high,
+        stride: 1,
+    };
+    match load(store, at, kind) {
+        Ok(cell) => Ok(Some(cell)),
+        Err(_) => Err(Trap::NoMemory),
+    }
+}
+
+/// The first cells of an object, so many at most.
+fn chars(alloc: Global, store: &Store, object: u32, most: usize) -> Result<Row<Cell>, Trap>
+    ensures { Answers (Ok (take most (some_object (live_object store.now object)).cells)) result }
+{
+    let mut cells = Vec::new(alloc);
+    while cells.len() < most {
+        let Ok(place) = u32::try_from(cells.len()) else {
+            return Err(Trap::NoMemory);
+        };
+        let Ok(found) = char_at(store, object, place) else {
+            return Err(Trap::NoMemory);
+        };
+        let Some(cell) = found else {
+            return Ok(Row::from_vec(cells));
+        };
+        let Ok(()) = cells.push(cell) else {
+            return Err(Trap::NoMemory);
+        };
+    }
+    Ok(Row::from_vec(cells))
+}
+
+/// A string literal's chars, as far as there is room (6.7.9p14).
+fn literal(alloc: Global, store: &Store, at: Pointer, room: usize) -> Result<Row<Cell>, Trap>
+    ensures { Answers (Ok (take room (object_at store.now at).cells)) result }
+{
+    match at {
+        Pointer::At { object, .. } => chars(alloc, store, object, room),
+        Pointer::Null => Err(Trap::NoMemory),
+    }
+}
+
+/// How many cells a type has.
+fn cells_in(table: &Table, form: Form) -> usize
+    ensures { result ≡ cells_in (program_of table.now) form }
+{
+    match form {
+        Form::Void => 0,
+        Form::Number(_) | Form::Pointer(_) => 1,
+        Form::Cells(row) => table.kinds_of(row).len(),
+    }
+}
+
+fn one_cell(alloc: Global, cell: Cell) -> Result<Row<Cell>, Trap>
+    ensures { Answers (Ok (cell ∷ [])) result }
+{
+    let mut cells = Vec::new(alloc);
+    match cells.push(cell) {
+        Ok(()) => Ok(Row::from_vec(cells)),
+        Err(_) => Err(Trap::NoMemory),
+    }
+}
+
+fn cells_of(alloc: Global, value: Value) -> Result<Row<Cell>, Trap>
+    ensures { Answers (Ok (cells_of_value value)) result }
+{
+    match value {
+        Value::Number(_, number) => one_cell(alloc, Cell::Number(number)),
+        Value::Pointer(at) => one_cell(alloc, Cell::Pointer(at)),
+        Value::Cells(cells) => Ok(cells),
+        Value::Nothing | Value::Place(_) => Ok(Row::new(alloc)),
+    }
+}
+
+/// The converted value, as if by assignment (6.7.9p11, p13), or a string literal's chars: U15, U10.
+fn initial(
+    alloc: Global,
+    table: &Table,
+    store: &Store,
+    line: Line,
+    value: &Value,
+) -> Result<Row<Cell>, Trap>
+    ensures { Answers (initial (program_of table.now) store.now line value.now) result }
+{
+    match value {
+        Value::Place(at) => literal(alloc, store, *at, cells_in(table, line.form)),
+        _ => match converted(alloc, store, line.form, value) {
+            Ok(value) => cells_of(alloc, value),
+            Err(trap) => Err(trap),
+        },
+    }
+}
+
+fn initial_of(
+    alloc: Global,
+    table: &Table,
+    store: &Store,
+    line: Line,
+    answer: &Held,
+) -> Result<Row<Cell>, Trap>
+    ensures { Answers (initial (program_of table.now) store.now line (value_in answer.now)) result }
+{
+    match answer {
+        Held::Part(part) => initial(alloc, table, store, line, &part.value),
+        _ => initial(alloc, table, store, line, &Value::Nothing),
+    }
+}
+
+// ---- all initialisers of an object
+
+/// Whether an answer has no value.
+fn lacks_value(answer: &Held) -> bool
+    ensures { result ≡ is_nothing (value_in answer.now) }
+{
+    match answer {
+        Held::Part(part) => is_nothing(&part.value),
+        _ => true,
+    }
+}
+
+/// What uses the first initialiser without a value.
+fn unused_in(lines: &[Line], done: &[Held]) -> Option<u32>
+    ensures { result ≡ unused_in lines.now (values_in done.now) }
+{
+    let (mut lines_left, mut done_left) = (lines, done);
+    loop {
+        let [line, more @ ..] = lines_left else {
+            return None;
+        };
+        let [answer, others @ ..] = done_left else {
+            return None;
+        };
+        if lacks_value(answer) {
+            return Some(line.user);
+        }
+        lines_left = more;
+        done_left = others;
+    }
+}
+
+/// The parts that are set, each by its first cell. A case is at what uses the initialiser: U15, U10.
+fn parts_of(
+    alloc: Global,
+    table: &Table,
+    store: &Store,
+    lines: &[Line],
+    done: &[Held],
+) -> Result<Vec<(u32, Row<Cell>)>, Halted>
+    ensures { GivesParts (set_parts (program_of table.now) store.now lines.now (values_in done.now)) result }
+{
+    let mut sets = Vec::new(alloc);
+    let (mut lines_left, mut done_left) = (lines, done);
+    loop {
+        let [line, more @ ..] = lines_left else {
+            return Ok(sets);
+        };
+        let [answer, others @ ..] = done_left else {
+            return Ok(sets);
+        };
+        match initial_of(alloc, table, store, *line, answer) {
+            Ok(cells) => {
+                let Ok(()) = sets.push((line.cell, cells)) else {
+                    return Err(Halted::NoMemory);
+                };
+            }
+            Err(trap) => return Err(halted(trap, line.user)),
+        }
+        lines_left = more;
+        done_left = others;
+    }
+}
+
+/// Sets one part after another.
+fn write_parts(store: &mut Store, object: u32, sets: &[(u32, Row<Cell>)]) -> Result<(), Trap>
+    ensures { Answers (Ok (with_parts store.old object sets.now)) (leaving store.new result) }
+{
+    let mut rest = sets;
+    while let [set, more @ ..] = rest {
+        match write(store, object, set.0, set.1.as_slice()) {
+            Ok(()) => rest = more,
+            Err(_) => return Err(Trap::NoMemory),
+        }
+    }
+    Ok(())
+}
+
+/// What has no initialiser becomes zero or null with the others (6.7.9p19, p21).
+fn fill(
+    alloc: Global,
+    table: &Table,
+    store: &mut Store,
+    declared: u32,
+    object: u32,
+    sets: &[(u32, Row<Cell>)],
+) -> Result<(), Trap>
+    ensures { Answers (Ok (with_parts (zeroed (program_of table.now) store.old object declared) object sets.now)) (leaving store.new result) }
+{
+    match blank(alloc, shape_for(table, declared), store, object) {
+        Ok(()) => write_parts(store, object, sets),
+        Err(_) => Err(Trap::NoMemory),
+    }
+}
+
+// ---- a scalar's one initialiser, for which no list is made
+
+/// The one cell of a scalar.
+#[inline]
+fn scalar_of(value: &Value) -> Option<Cell>
+    ensures { IfSome result (λ cell. cells_of_value value.now ≡ cell ∷ []) }
+{
+    match value {
+        Value::Number(_, number) => Some(Cell::Number(*number)),
+        Value::Pointer(at) => Some(Cell::Pointer(*at)),
+        _ => None,
+    }
+}
+
+/// What an initialiser gives a scalar, if it does.
+#[inline]
+fn scalar_initial(
+    alloc: Global,
+    table: &Table,
+    store: &Store,
+    line: Line,
+    value: &Value,
+) -> Option<Cell>
+    ensures { IfSome result (λ cell. initial (program_of table.now) store.now line value.now ≡ Ok (cell ∷ [])) }
+{
+    match value {
+        Value::Number(_, _) | Value::Pointer(_) => {
+            match converted(alloc, store, line.form, value) {
+                Ok(new) => scalar_of(&new),
+                Err(_) => None,
+            }
+        }
+        _ => None,
+    }
+}
+
+/// The only part that is set, where it is a scalar.
+fn lone_part(
+    alloc: Global,
+    table: &Table,
+    store: &Store,
+    lines: &[Line],
+    done: &[Held],
+) -> Option<(u32, Cell)>
+    ensures { IfSome result (λ set. set_parts (program_of table.now) store.now lines.now (values_in done.now) ≡ Ok ((set.0, set.1 ∷ []) ∷ [])) }
+{
+    let ([line], [Held::Part(part)]) = (lines, done) else {
+        return None;
+    };
+    match scalar_initial(alloc, table, store, *line, &part.value) {
+        Some(cell) => Some((line.cell, cell)),
+        None => None,
+    }
+}
+
+fn fill_one(
+    alloc: Global,
+    table: &Table,
+    store: &mut Store,
+    declared: u32,
+    object: u32,
+    set: (u32, Cell),
+) -> Result<(), Trap>
+    ensures { Answers (Ok (with_parts (zeroed (program_of table.now) store.old object declared) object ((set.0, set.1 ∷ []) ∷ []))) (leaving store.new result) }
+{
+    match blank(alloc, shape_for(table, declared), store, object) {
+        Ok(()) => write(store, object, set.0, &[set.1]),
+        Err(_) => Err(Trap::NoMemory),
+    }
+}
+
+// ---- the declarator
+
+/// All parts that are set, and the rest zero or null.
+fn set_all(
+    alloc: Global,
+    table: &Table,
+    world: &mut World,
+    declared: u32,
+    object: u32,
+    lines: &[Line],
+    done: &[Held],
+) -> Result<(), Halted>
+    ensures work { Worked (parts_set (program_of table.now) declared object lines.now (values_in done.now) (world_of world.old)) result (world_of world.new) }
+    ensures steps { world.new.steps ≡ world.old.steps }
+{
+    let filled = match lone_part(alloc, table, &world.store, lines, done) {
+        Some(set) => fill_one(alloc, table, &mut world.store, declared, object, set),
+        None => {
+            let sets = parts_of(alloc, table, &world.store, lines, done)?;
+            fill(alloc, table, &mut world.store, declared, object, &sets)
+        }
+    };
+    match filled {
+        Ok(()) => Ok(()),
+        Err(_) => Err(Halted::NoMemory),
+    }
+}
+
+/// A declarator with initialisers sets its object once all of them are evaluated: U15 of any of them, then U10.
+pub(crate) fn initialise(
+    alloc: Global,
+    table: &Table,
+    world: &mut World,
+    declared: u32,
+    lines: &[Line],
+    done: &[Held],
+) -> Result<(), Halted>
+    ensures work { (node : ℕ) → Worked (set_by (program_of table.now) node declared lines.now (values_in done.now) (world_of world.old)) result (world_of world.new) }
+    ensures steps { world.new.steps ≡ world.old.steps }
+{
+    let Some(object) = world.names.find(declared) else {
+        return Err(Halted::NoMemory);
+    };
+    match unused_in(lines, done) {
+        Some(user) => Err(Halted::Undefined(UNUSED_VALUE, user)),
+        None => set_all(alloc, table, world, declared, object, lines, done),
+    }
+}
