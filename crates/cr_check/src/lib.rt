@@ -7,8 +7,10 @@
 
 mod entry;
 mod judged;
+mod statements;
 mod typing;
 
 pub use entry::Entry;
 pub use judged::{Judged, judge};
+pub use statements::{Marked, Whole, judge_unit};
 pub use typing::Typing;
