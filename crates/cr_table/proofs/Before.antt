@@ -1,8 +1,5 @@
 -- Labels, one behind the other.
-use Rattle.std.proofs.Common.{◌≡◌, ◌≢◌, ℕ, zero, suc, ◌+◌, ◌<◌, ◌≤◌, Bool, true, false, ◌||◌, ◌&&◌, Option, Some, None, List, [], ◌∷◌, ◌++◌, length, length-take-le, map, take, slice_index_or, if◌then◌else◌, refl, sym, ap, ◌∙◌, arith, append_assoc}
-use Rattle.cr_ints.specs.declared.kind.IntKind.{IntKind}
-use Rattle.cr_meaning.specs.declared.op.Case.{Case}
-use Rattle.cr_meaning.specs.declared.op.Target.{Target}
+use Rattle.std.proofs.Common.{◌≡◌, ℕ, zero, suc, ◌+◌, ◌<◌, ◌≤◌, Bool, true, false, ◌||◌, ◌&&◌, Option, Some, None, List, [], ◌∷◌, ◌++◌, length, length-take-le, map, take, slice_index_or, if◌then◌else◌, refl, sym, ap, ◌∙◌, arith, append_assoc}
 use Rattle.cr_syntax.specs.declared.node.Kind.{Kind}
 use Rattle.cr_syntax.specs.declared.node.Kind.TheVariants as kind
 use Rattle.cr_typed.specs.declared.typed.Typed.{Typed}

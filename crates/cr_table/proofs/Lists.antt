@@ -1,6 +1,5 @@
 -- Lists that the definition makes from the front and the code from the back.
 use Rattle.std.proofs.Common.{◌≡◌, ℕ, zero, suc, ◌+◌, ◌-◌, ◌<◌, ◌≤◌, Bool, true, false, List, [], ◌∷◌, ◌++◌, length, take, slice_get, slice_index_or, if◌then◌else◌, refl, sym, ap, ◌∙◌, arith}
-use Rattle.cr_meaning.specs.declared.op.Op.{Op}
 use Rattle.cr_syntax.specs.declared.node.Node.{Node}
 use Rattle.cr_syntax.specs.declared.node.Kind.{Kind}
 use Rattle.cr_typed.specs.declared.typed.Typed.{Typed}

@@ -1,12 +1,10 @@
 -- The names of declarators, from the first node on.
-use Rattle.std.proofs.Common.{◌≡◌, ℕ, zero, suc, ◌+◌, ◌<◌, ◌≤◌, ◌⊎◌, inl, inr, Bool, true, false, Option, Some, None, List, [], ◌∷◌, length, slice_get, slice_index, slice_index_or, if◌then◌else◌, refl, sym, ap, ◌∙◌, arith}
+use Rattle.std.proofs.Common.{◌≡◌, ℕ, zero, suc, ◌<◌, ◌≤◌, ◌⊎◌, inl, inr, Bool, true, false, Option, Some, None, List, [], ◌∷◌, length, slice_get, slice_index, slice_index_or, if◌then◌else◌, refl, sym, ap, ◌∙◌, arith}
 use Rattle.std.proofs.lemmas.Bool.{cases_lt}
 use Rattle.std.proofs.lemmas.List.{get_or_past}
 use Rattle.cr_syntax.specs.declared.node.Node.{Node}
-use Rattle.cr_syntax.specs.declared.node.Kind.{Kind}
-use Rattle.cr_syntax.specs.Kept.{PartsAreBelow}
 use Rattle.cr_typed.specs.declared.typed.Typed.{Typed}
-use Rattle.cr_operations.specs.Operations.{kind_if, kind_at, parts_if, parts_at, part_at, is_name, name_by, name_of}
+use Rattle.cr_operations.specs.Operations.{kind_if, kind_at, parts_if, part_at, is_name, name_by, name_of}
 
 -- the first part stands before its node, or is the first node of all
 first_of : (ps : List ℕ) (k : ℕ) → ((i : ℕ) → i < length ps → slice_index ps i < k) → (slice_index_or ps 0 0 < k) ⊎ (slice_index_or ps 0 0 ≡ 0)

@@ -1,5 +1,5 @@
 -- The operation of a node, made by its role, is that of the definition.
-use Rattle.std.proofs.Common.{◌≡◌, ℕ, ℤ, Bool, true, false, ◌&&◌, ◌||◌, Option, Some, None, List, [], slice_get, slice_index_or, if◌then◌else◌, refl, sym, ap, ◌∙◌}
+use Rattle.std.proofs.Common.{◌≡◌, ℕ, ℤ, Bool, true, false, ◌&&◌, ◌||◌, Option, Some, None, List, [], slice_index_or, if◌then◌else◌, refl}
 use Rattle.cr_meaning.specs.declared.op.Work.{Work}
 use Rattle.cr_meaning.specs.declared.op.Work.TheVariants as work
 use Rattle.cr_meaning.specs.declared.op.Relation.{Relation}

@@ -1,5 +1,5 @@
 -- What each kind of node asks of the table, in the few ways in which an operation is made.
-use Rattle.std.specs.Prelude.{ℕ, ◌==◌, ℤ, pos, Bool, true, false, not, ◌&&◌, ◌||◌, Option, Some, None, List, [], ◌∷◌, map, slice_index_or, if◌then◌else◌}
+use Rattle.std.specs.Prelude.{ℕ, ℤ, Bool, true, false, not, ◌&&◌, ◌||◌, None, [], ◌∷◌, map, slice_index_or, if◌then◌else◌}
 use Rattle.cr_ints.specs.Conversions.{promote_of, common_of}
 use Rattle.cr_ints.specs.declared.kind.IntKind.TheVariants.{Int as IntegerKind, Char as CharKind}
 use Rattle.cr_meaning.specs.declared.op.Op.{Op}
@@ -18,7 +18,7 @@ use Rattle.cr_syntax.specs.declared.node.Kind.TheVariants as kind
 use Rattle.cr_typed.specs.declared.typed.Typed.{Typed}
 use Rattle.cr_typed.specs.Typed.{row_cells}
 use Rattle.cr_types.specs.Types.{Qualified, plain}
-use Rattle.cr_operations.specs.Shapes.{type_of_node, stride_of, kind_in, is_pointer, is_volatile, form_of, members_of, cells_of, offset_in}
+use Rattle.cr_operations.specs.Shapes.{type_of_node, stride_of, kind_in, is_pointer, is_volatile, form_of, cells_of, offset_in}
 use Rattle.cr_operations.specs.Operations.{kind_at, parts_at, part_at, entity_of, name_of, declarators_of, objects_in, line_of, node_op, change_of, common_kind, left_type, right_type, left_row, placed, either_stride, address_by, pointed, chosen_row, value_or, identifier_by, op_of, callee_of, for_of, labelled, targets_from, switch_of}
 use Rattle.cr_table.specs.declared.role.Role.{Role}
 use Rattle.cr_table.specs.declared.role.Role.TheVariants as role

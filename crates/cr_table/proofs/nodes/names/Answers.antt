@@ -1,6 +1,4 @@
 use Rattle.std.proofs.Common.{arith}
-use Rattle.std.proofs.lemmas.List.{get_or_past}
-use Rattle.cr_operations.specs.Operations.{name_of}
 use Rattle.cr_table.proofs.Names.{names_all}
 use Rattle.cr_table.proofs.nodes.names.Goals as goal
 
