@@ -104,9 +104,15 @@ fn put_declarators(
 }
 
 fn are_all(number: Option<u32>, numbers: &[Option<u32>]) -> bool
+    ensures { result ≡ list_all (same_by number) numbers.now }
+{
+    numbers.iter().all(|other| same_number(number, *other))
+}
+
+fn are_its_own(number: Option<u32>, numbers: &[Option<u32>]) -> bool
     ensures { result ≡ (nat_le 1 (length numbers.now) && list_all (same_by number) numbers.now) }
 {
-    !numbers.is_empty() && numbers.iter().all(|other| same_number(number, *other))
+    numbers.len() >= 1 && are_all(number, numbers)
 }
 
 fn put_declaration(
@@ -118,7 +124,7 @@ fn put_declaration(
     ensures { OnOk result (changes.new.items ≡ changes.old.items ++ declaration_goes (facts_of known.now) number declared.now) }
 {
     let numbers = declared.numbers.as_slice();
-    if are_all(number, numbers) {
+    if are_its_own(number, numbers) {
         changes.push(node_gone(known, declared.declaration))?;
     } else {
         let row = behind_first(parts_at(known.nodes, declared.declaration as usize));
