@@ -127,18 +127,15 @@ fn has_within(first: u32, last: u32, tokens: &[u32]) -> bool
 fn body_by(returned: Option<u32>, returns: bool) -> Body
     ensures { result ≡ body_from returned returns }
 {
-    match returned {
-        Some(expression) => Body::Returned(expression),
-        None => if returns { Body::Other } else { Body::WithoutReturn },
+    match (returned, returns) {
+        (Some(expression), _) => Body::Returned(expression),
+        (None, false) => Body::WithoutReturn,
+        (None, true) => Body::Other,
     }
 }
 
 /// All functions that are defined, in the order of their definitions. The error is want of memory.
-pub fn callees_in(
-    alloc: Global,
-    nodes: &[Node],
-    names: &Names,
-) -> Result<Vec<Callee>, AllocError>
+pub fn callees_in(alloc: Global, nodes: &[Node], names: &Names) -> Result<Vec<Callee>, AllocError>
     ensures { IfOk result (λ callees. callees.items ≡ callees_in nodes.now names.now) }
 {
     let returns = returns_in(alloc, nodes)?;

@@ -1,11 +1,11 @@
 // Pass i: calls become what they call.
-ghost use Rattle.std.specs.Prelude.{◌≡◌, ◌++◌, ◌&&◌, None, length, nat_le, slice_index_or, IfOk, OnOk};
+ghost use Rattle.std.specs.Prelude.{◌≡◌, ◌++◌, ◌&&◌, None, Some, length, nat_le, slice_index_or, IfOk, OnOk};
 ghost use Rattle.std.specs.List.{flat_map, list_all};
 ghost use Rattle.cr_levels.specs.Gathered.{gathered};
 ghost use Rattle.cr_levels.specs.Level.{level_of};
 ghost use Rattle.cr_levels.specs.Nodes.{node_at};
 ghost use Rattle.pass_params.specs.Functions.{same_number as same_by};
-ghost use Rattle.pass_inline.specs.Inlined.{call_by, call_gives, callee_at, calls_give, declaration_goes, declarator_goes, definition_goes, facts_in, facts_of, fits, function_goes, goes_too, i_offering, inlining, inlining_if, is_only_use, is_outside, kept_by, node_gone, opening, place_of, statement_by, statements_give};
+ghost use Rattle.pass_inline.specs.Inlined.{call_by, call_gives, callee_at, calls_give, declaration_goes, declarator_goes, definition_goes, facts_in, facts_of, fits, function_goes, goes_too, i_offering, inlining, inlining_by, is_only_use, is_outside, kept_by, node_gone, opening, place_of, statement_by, statements_give};
 ghost use Rattle.pass_inline.specs.declared.known.Way.TheVariants.{Block, Expression};
 
 use crate::callees::{Body, Callee, Declared, callees_in, declared_in, is_within};
@@ -77,13 +77,7 @@ fn put_declarator(
 {
     if same_number(number, number_in(numbers, at)) {
         let (first, last) = span_at(known.nodes, part_at(row, at) as usize);
-        changes.push(with_comma(
-            known.tokens,
-            at,
-            row.len(),
-            first as usize,
-            last as usize,
-        ))?;
+        changes.push(with_comma(known.tokens, at, row.len(), first as usize, last as usize))?;
     }
     Ok(())
 }
@@ -243,7 +237,7 @@ fn put_if(
     node: usize,
     all: &mut Vec<Counted>,
 ) -> Result<(), AllocError>
-    ensures { OnOk result (all.new.items ≡ all.old.items ++ inlining_if (facts_of known.now) way (callee_at known.now.callees.now at) at call (node_at known.now.nodes.now node)) }
+    ensures { OnOk result (all.new.items ≡ all.old.items ++ inlining_by (Some at) (facts_of known.now) way call (node_at known.now.nodes.now node)) }
 {
     let callee = callee_at(known.callees, at);
     let (token, _) = span_at(known.nodes, call);
@@ -378,12 +372,7 @@ pub fn inlined(alloc: Global, unit: &Unit, names: &Names) -> Result<Menu, AllocE
     )
 }
 
-fn menu(
-    alloc: Global,
-    tokens: &[Token],
-    nodes: &[Node],
-    names: &Names,
-) -> Result<Menu, AllocError>
+fn menu(alloc: Global, tokens: &[Token], nodes: &[Node], names: &Names) -> Result<Menu, AllocError>
     ensures { IfOk result (λ menu. menu ≡ i_offering tokens.now nodes.now names.now) }
 {
     let callees = callees_in(alloc, nodes, names)?;
