@@ -33,7 +33,7 @@ use Rattle.cr_kept.specs.Scopes.{IsPart, IsArgumentOrBody, nodes_of, is_past, en
 use Rattle.cr_kept.proofs.Cells.{kinds_of, all_hold_later}
 use Rattle.cr_kept.proofs.Numbers.{zero_or_one}
 use Rattle.cr_kept.proofs.Pointers.{ok_then, ok_unless}
-use Rattle.cr_kept.proofs.Works.{converted_holds}
+use Rattle.cr_kept.proofs.Works.{converted_holds, nothing_fits}
 use Rattle.cr_kept.proofs.Worlds.{Grows, Enters, EntersAll, grows_refl, grows_onward, object_enters, entered_then, bound_either, ok_map, stands_grown, block_ends, left_fits}
 use Rattle.cr_kept.proofs.Expressions.{Went, went_unless, answers_part}
 use Rattle.cr_kept.proofs.Given.{FromPart, AreFrom, IsGiven, AreGiven, last_given, value_fits, At, Beside, Inside, stands_beside}
@@ -81,7 +81,7 @@ converted_all_hold p sorts op memory k (parameter ∷ parameters) (answer ∷ do
     (λ others held. (hold_in_shape memory (p.shape parameter.node) _ (cells_of_value one) g.0.0 hold, held)))
 
 -- the answers before the body's are those of the arguments
-from_arguments : (p : Program) (sorts : ℕ → Option Sort) (parameters : List Parameter) (rest : ℕ) (is_main : Bool) (parts : List ℕ) (memory : Memory) (k : ℕ) (done : List Answer)
+pub from_arguments : (p : Program) (sorts : ℕ → Option Sort) (parameters : List Parameter) (rest : ℕ) (is_main : Bool) (parts : List ℕ) (memory : Memory) (k : ℕ) (done : List Answer)
     → k + length done ≤ length parts → AreGiven p sorts (work.Call (Function parameters rest is_main)) parts memory k done → AreFrom p sorts (λ i node. slice_get parts i ≡ Some node) memory k done
 from_arguments p sorts parameters rest is_main parts memory k [] few all = tt
 from_arguments p sorts parameters rest is_main parts memory k (answer ∷ done) few all = (one all.0, from_arguments p sorts parameters rest is_main parts memory (suc k) done (omega arith) all.1)
@@ -154,7 +154,7 @@ result_fits p memory result is_main continued main h = absurd (cc h)
 result_fits p memory result is_main (jumped label) main h = absurd h
 result_fits p memory result true next main h =
     let F : Form → Type 0 = λ f. Fits memory (sort_of p f) (Number IntegerKind (pos 0)) in subst F (sym (main refl)) (refl, zero_or_one IntegerKind false)
-result_fits p memory result false next main h = tt
+result_fits p memory result false next main h = nothing_fits p memory result
 
 -- the answer of the body
 from_body : (p : Program) (sorts : ℕ → Option Sort) (parameters : List Parameter) (rest : ℕ) (is_main : Bool) (parts : List ℕ) (memory : Memory) (k : ℕ) (result : Form) (answer : Answer)

@@ -1,7 +1,7 @@
 -- Expressions, statements and a program whose operations are typed, built by hand: the facts fail where a rule asks for something
 -- else.
 use Rattle.std.proofs.Common.{◌≡◌, refl, subst, arith, inl, inr}
-use Rattle.std.specs.Prelude.{ℕ, zero, suc, ◌≤◌, pos, true, false, Option, Some, None, List, [], ◌∷◌, slice_get}
+use Rattle.std.specs.Prelude.{ℕ, zero, suc, ◌≤◌, pos, Bool, true, false, Option, Some, None, List, [], ◌∷◌, slice_get}
 use Rattle.cr_ints.specs.declared.kind.IntKind.TheVariants.{Int, Char}
 use Rattle.cr_memory.specs.declared.value.Scalar.{Scalar}
 use Rattle.cr_memory.specs.declared.value.Scalar.TheVariants as scalar
@@ -22,6 +22,8 @@ use Rattle.cr_kept.specs.Sorts.{Exits, Sort, number, pointer, place, statement, 
 use Rattle.cr_kept.specs.Statements.{Has, HasSort, of_function, in_loop, in_block, Initialises, HasCells}
 use Rattle.cr_kept.specs.Rules.{AllFrom, Gives, IsTyped, AreTyped}
 use Rattle.cr_kept.specs.Programs.{IsWellTyped}
+use Rattle.cr_kept.specs.Operands.{IsScalar, Demands}
+use Rattle.cr_kept.specs.Ends.{IsComplete}
 use Rattle.cr_kept.proofs.Numbers.{zero_or_one}
 
 abbrev op : List ℕ → Work → Access → Op
@@ -200,3 +202,42 @@ no_part_beyond_the_object e = absurd (cc e)
 -- a literal initialises no int
 no_int_by_a_literal : Initialises (program []) (form.Number Int) chars → ⊥
 no_int_by_a_literal e = absurd (cc e)
+
+-- ---- complete programs
+
+abbrev sees_nothing : ℕ → ℕ → Bool
+sees_nothing node declared = false
+
+main_there : (node : ℕ) (own : Sort) → main_sorts node ≡ Some own → (x : Op) × (slice_get (program main).ops node ≡ Some x)
+main_there zero own e = (_, refl)
+main_there (suc zero) own e = (_, refl)
+main_there (suc (suc zero)) own e = (_, refl)
+main_there (suc (suc (suc zero))) own e = (_, refl)
+main_there (suc (suc (suc (suc zero)))) own e = (_, refl)
+main_there (suc (suc (suc (suc (suc zero))))) own e = (_, refl)
+main_there (suc (suc (suc (suc (suc (suc node)))))) own e = absurd cc
+
+of_op : (P : Op → Type 0) (o x : Op) → P o → Some o ≡ Some x → P x
+of_op P o x h e = subst P (is_one e) h
+
+scalar_part : (op : Op) (a k : ℕ) → slice_get op.parts k ≡ Some a → main_sorts a ≡ Some (number Int) → Has main_sorts op k IsScalar
+scalar_part op a k e f node sort g h =
+    let same : number Int ≡ sort = cc in subst IsScalar same tt
+
+main_demands : (node : ℕ) (x : Op) (own : Sort) → main_sorts node ≡ Some own → slice_get (program main).ops node ≡ Some x → Demands main_sorts (sees_nothing node) x x.work
+main_demands zero x own e f = of_op (λ o. Demands main_sorts (sees_nothing 0) o o.work) _ x refl f
+main_demands (suc zero) x own e f = of_op (λ o. Demands main_sorts (sees_nothing 1) o o.work) _ x tt f
+main_demands (suc (suc zero)) x own e f =
+    of_op (λ o. Demands main_sorts (sees_nothing 2) o o.work) _ x (scalar_part (op (0 ∷ 1 ∷ []) work.While access.Unused) 0 0 refl refl) f
+main_demands (suc (suc (suc zero))) x own e f = of_op (λ o. Demands main_sorts (sees_nothing 3) o o.work) _ x refl f
+main_demands (suc (suc (suc (suc zero)))) x own e f =
+    of_op (λ o. Demands main_sorts (sees_nothing 4) o o.work) _ x (scalar_part (op (3 ∷ []) (work.Return (form.Number Int)) access.Unused) 3 0 refl refl) f
+main_demands (suc (suc (suc (suc (suc zero))))) x own e f = of_op (λ o. Demands main_sorts (sees_nothing 5) o o.work) _ x tt f
+main_demands (suc (suc (suc (suc (suc (suc node)))))) x own e f = absurd cc
+
+main_is_complete : IsComplete (program main) main_sorts sees_nothing main_program_is_typed
+main_is_complete = record {
+  nodes = record { there = main_there; demands = main_demands };
+  scoped = λ node x k part declared e is d. absurd (cc d);
+  whole = record { part_sees = λ k part declared e d. absurd (cc d); rest_sees = λ declared d. absurd (cc d) };
+}

@@ -84,6 +84,7 @@ chosen p sorts op world form own (one ∷ other ∷ more ∷ rest) well g all =
 
 abbrev pub IsPlain : Work → Type 0
 IsPlain (work.Conditional form) = ⊥
+IsPlain (work.Call callee) = ⊥
 IsPlain w = Unit {0}
 
 pub worked : (p : Program) (sorts : ℕ → Option Sort) (op : Op) (world : World) (w : Work) (own : Sort) (done : List Answer) → IsPlain w → IsWellFormed p world

@@ -54,8 +54,9 @@ answers_later p old new sort other c h = absurd h
 
 pub value_fits : (p : Program) (memory : Memory) (sort : Sort) (answer : Answer) → Answers p memory sort answer → Fits memory sort (value_of answer)
 value_fits p memory (statement exits) (part value events) h = absurd h
+value_fits p memory (statement exits) other h = tt
 value_fits p memory sort (part value events) h = h
-value_fits p memory sort other h = tt
+value_fits p memory sort other h = absurd h
 
 given_once : (p : Program) (sorts : ℕ → Option Sort) (w : Work) (parts : List ℕ) (old new : Memory) (k : ℕ) (answer : Answer) → Continues old new
     → IsGiven p sorts w parts old k answer → IsGiven p sorts w parts new k answer

@@ -25,7 +25,7 @@ use Rattle.cr_kept.specs.Sorts.{Exits, Sort, statement, IsAmong, Returns, Answer
 use Rattle.cr_kept.specs.Statements.{Has, HasResult, Converts, labelled_by, in_block, in_switch}
 use Rattle.cr_kept.specs.Rules.{AllFrom}
 use Rattle.cr_kept.specs.Scopes.{IsPart, entered_by}
-use Rattle.cr_kept.proofs.Works.{converted_returns}
+use Rattle.cr_kept.proofs.Works.{converted_returns, nothing_fits}
 use Rattle.cr_kept.proofs.Expressions.{Went}
 use Rattle.cr_kept.proofs.Given.{FromPart, IsFiller, IsGiven, AreGiven, all_filled, last_given, value_fits, Beside}
 use Rattle.cr_kept.proofs.Going.{IsNext, Begun, Goes, went_onward}
@@ -62,14 +62,14 @@ left_switch p memory targets exits answer leaves h = h
 
 -- ---- items
 
-by_resume : (F : Way → Type 0) (before : List Answer) (o : Option ℕ) → (o ≡ None → F Ready) → ((item : ℕ) → F (Resume (before ++ from_item item))) → F (resume_at before o)
+pub by_resume : (F : Way → Type 0) (before : List Answer) (o : Option ℕ) → (o ≡ None → F Ready) → ((item : ℕ) → F (Resume (before ++ from_item item))) → F (resume_at before o)
 by_resume F before None ready again = ready refl
 by_resume F before (Some item) ready again = again item
 
 same_label : (one other : ℕ) → (let a : Answer = jumped one in a) ≡ jumped other → one ≡ other
 same_label one other e = cc
 
-by_item : (F : Way → Type 0) (before : List Answer) (items : List ℕ) (targets : List Target) (at : ℕ) (last : Answer) → ((m : ℕ) → slice_get items at ≡ Some m → F (Operand m))
+pub by_item : (F : Way → Type 0) (before : List Answer) (items : List ℕ) (targets : List Target) (at : ℕ) (last : Answer) → ((m : ℕ) → slice_get items at ≡ Some m → F (Operand m))
     → (Leaves targets last → F Ready) → ((item : ℕ) → F (Resume (before ++ from_item item))) → F (after_item before items targets at last)
 by_item F before items targets at next some ready again = by_operand F (slice_get items at) some (λ e. ready (λ label e'. absurd (cc e')))
 by_item F before items targets at (jumped label) some ready again =
@@ -190,7 +190,7 @@ return_goes p sorts node op result exits [] base s g have h =
     by_turn (Goes p sorts node op w (statement exits) [] base s) op.parts []
     (λ m e. (next_at sorts w op.parts 0 m (have 0 m e) e, refl))
     (λ e. let V : Form → Type 0 = λ f. true ≡ is_void f in
-    kept_here p base s (statement exits) (returned Nothing) h.at (tt, subst V (sym g.0.0) (no_result op.parts result g.0.1 e)))
+    kept_here p base s (statement exits) (returned Nothing) h.at (nothing_fits p s.memory exits.result, subst V (sym g.0.0) (no_result op.parts result g.0.1 e)))
 return_goes p sorts node op result exits (first ∷ rest) base s g have h =
     let w = work.Return result in
     by_turn (Goes p sorts node op w (statement exits) (first ∷ rest) base s) op.parts (first ∷ rest)

@@ -15,4 +15,10 @@ pub mod Declared
 pub mod Calls
 pub mod Root
 pub mod Running
+pub mod Cases
+pub mod Taken
+pub mod Texts
+pub mod Ending
+pub mod Complete
+pub mod Outcomes
 pub mod Examples

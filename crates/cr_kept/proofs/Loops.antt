@@ -188,7 +188,7 @@ do_goes p sorts node op exits (rest ∷ control ∷ more ∷ others) base s g ha
 
 -- ---- `for`
 
-by_clause : (F : Way → Type 0) (o : Option ℕ) (again : List Answer) → (o ≡ None → F (Resume again)) → ((m : ℕ) → o ≡ Some m → F (Operand m)) → F (operand_or o again)
+pub by_clause : (F : Way → Type 0) (o : Option ℕ) (again : List Answer) → (o ≡ None → F (Resume again)) → ((m : ℕ) → o ≡ Some m → F (Operand m)) → F (operand_or o again)
 by_clause F None again none some = none refl
 by_clause F (Some m) again none some = some m refl
 

@@ -50,6 +50,8 @@ use Rattle.cr_kept.proofs.Pointers.{literal_fits, ok_then, ok_unless, ok_any, Is
 -- ---- what fitted before
 
 pub fits_later : (old new : Memory) (sort : Sort) (value : Value) → Continues old new → Fits old sort value → Fits new sort value
+fits_later old new (place count) Nothing c h = absurd h
+fits_later old new chars Nothing c h = absurd h
 fits_later old new sort Nothing c h = tt
 fits_later old new (number kind) (Number from value) c h = h
 fits_later old new pointer (Pointing at) c h = pointers-last old new at c h
@@ -60,7 +62,7 @@ fits_later old new chars (Place (At object cell low high stride)) c h =
 fits_later old new sort value c h = absurd h
 
 -- a place is one of the memory
-placed : (memory : Memory) (sort : Sort) (at : Pointer) → Fits memory sort (Place at) → IsPointer memory at
+pub placed : (memory : Memory) (sort : Sort) (at : Pointer) → Fits memory sort (Place at) → IsPointer memory at
 placed memory (place count) at h = h.0
 placed memory chars (At object cell low high stride) h = h.0
 placed memory chars Null h = absurd h
@@ -152,7 +154,6 @@ passed_fits : (p : Program) (a : Access) (memory : Memory) (sort : Sort) (value 
 passed_fits p a memory (place count) (Place at) own sound u h = used_fits p a memory at count own sound h u
 passed_fits p a memory chars (Place at) own sound u h = absurd u
 passed_fits p a memory sort (Place at) own sound u h = absurd h
-passed_fits p a memory sort Nothing own sound u h = record { fits = tt; written = unwritten memory sound }
 passed_fits p a memory (place count) value own sound u h = absurd h
 passed_fits p a memory chars value own sound u h = absurd u
 passed_fits p a memory sort value own sound u h =
@@ -197,6 +198,12 @@ converted_fits p memory (form.Pointer to) sort (Number from value) c h = tt
 converted_fits p memory (form.Pointer to) sort (Pointing at) c h = pointed memory sort at h
 converted_fits p memory (form.Cells row) sort (Cells held) c h = let F : Sort → Type 0 = λ s. Fits memory s (Cells held) in subst F c h
 converted_fits p memory form sort value c h = tt
+
+pub nothing_fits : (p : Program) (memory : Memory) (form : Form) → Fits memory (sort_of p form) Nothing
+nothing_fits p memory form.Void = tt
+nothing_fits p memory (form.Number kind) = tt
+nothing_fits p memory (form.Pointer to) = tt
+nothing_fits p memory (form.Cells row) = tt
 
 -- a value of the type, and none only of type void
 pub converted_returns : (p : Program) (memory : Memory) (form : Form) (sort : Sort) (value : Value) → Converts p form sort → Fits memory sort value

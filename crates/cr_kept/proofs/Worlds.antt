@@ -256,6 +256,8 @@ leaves p base memory bindings sound c (more node object rest below above) =
 
 -- what fits a sort does so when objects have ended
 gone_fits : (memory : Memory) (number : ℕ) (sort : Sort) (value : Value) → Fits memory sort value → Fits (without_object memory number) sort value
+gone_fits memory number (PlaceSort count) Nothing h = absurd h
+gone_fits memory number CharsSort Nothing h = absurd h
 gone_fits memory number sort Nothing h = tt
 gone_fits memory number (NumberSort kind) (NumberValue from value) h = h
 gone_fits memory number PointerSort (Pointing at) h = kept_pointer memory number at h

@@ -1,15 +1,17 @@
 -- What a reader expects of evaluation: it keeps well-typedness.
-use Rattle.std.specs.Prelude.{◌≡◌, ℕ, ◌^◌, ◌<◌, Option, Some, Ok, List, []}
+use Rattle.std.specs.Prelude.{◌≡◌, ℕ, ◌^◌, ◌<◌, Bool, Option, Some, Ok, List, []}
 use Rattle.cr_memory.specs.Memory.{Memory}
 use Rattle.cr_memory.specs.Continues.{Continues}
-use Rattle.cr_meaning.specs.Language.{gave, Runs}
-use Rattle.cr_meaning.specs.World.{Program, World, Answer, enter_all, automatic, marked, closed}
-use Rattle.cr_meaning.specs.Meaning.{body, reach, operands, root_of, start_of}
+use Rattle.cr_meaning.specs.Language.{Reply, gave, Runs}
+use Rattle.cr_meaning.specs.World.{Program, World, Answer, Halt, enter_all, automatic, marked, closed}
+use Rattle.cr_meaning.specs.Meaning.{body, reach, operands, root_of, start_of, run_of}
 use Rattle.cr_meaning.specs.declared.run.Limits.{Limits}
+use Rattle.cr_meaning.specs.declared.run.Run.{Run}
 use Rattle.cr_meaning.specs.declared.value.Value.{Value}
 use Rattle.cr_kept.specs.Sorts.{Sort, Fits, IsWellFormed, Keeps}
 use Rattle.cr_kept.specs.Rules.{AreTyped}
 use Rattle.cr_kept.specs.Programs.{IsWellTyped, IsStatus}
+use Rattle.cr_kept.specs.Ends.{IsComplete}
 use Rattle.cr_kept.specs.Blocks.{Stands, IsLeft}
 
 -- a node of any kind but the whole program, in a world that is well formed
@@ -21,6 +23,12 @@ EvaluationKeepsSorts = (p : Program) (sorts : ℕ → Option Sort) → AreTyped 
 abbrev pub ProgramsGiveStatuses : Type 0
 ProgramsGiveStatuses = (p : Program) (sorts : ℕ → Option Sort) → IsWellTyped p sorts → p.limits.cells < 2 ^ 63 → (answer : Answer) (new : World)
     → Runs (body p) (body p (operands (root_of p) [])) (start_of p.limits) (gave answer new) → IsStatus answer
+
+-- a whole program that is well typed and complete: whatever its run comes to is an outcome, so it is the program's meaning
+abbrev pub ProgramsHaveOutcomes : Type 0
+ProgramsHaveOutcomes = (p : Program) (sorts : ℕ → Option Sort) (sees : ℕ → ℕ → Bool) (typed : IsWellTyped p sorts) → IsComplete p sorts sees typed
+    → p.limits.cells < 2 ^ 63 → (reply : Reply Answer World Halt) → Runs (body p) (body p (operands (root_of p) [])) (start_of p.limits) reply
+    → (outcome : Run) × (run_of p.limits reply ≡ Some outcome)
 
 -- what fitted before fits later
 abbrev pub OlderValuesFit : Type 0

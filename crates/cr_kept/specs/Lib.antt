@@ -3,5 +3,7 @@ pub mod Statements
 pub mod Rules
 pub mod Scopes
 pub mod Programs
+pub mod Operands
+pub mod Ends
 pub mod Blocks
 pub mod Laws

@@ -23,6 +23,7 @@ IsClause first control step rest k node = ⊥
 -- block, and the second of a `switch`, stands for its entry
 abbrev pub IsPart : Work → List ℕ → ℕ → ℕ → Type 0
 IsPart (work.Conditional form) parts (suc zero) node = (slice_get parts 1 ≡ Some node) ⊎ (slice_get parts 2 ≡ Some node)
+IsPart (work.Conditional form) parts (suc (suc k)) node = ⊥
 IsPart work.If parts (suc zero) node = (slice_get parts 1 ≡ Some node) ⊎ (slice_get parts 2 ≡ Some node)
 IsPart work.If parts (suc (suc k)) node = ⊥
 IsPart work.While parts (suc (suc k)) node = ⊥

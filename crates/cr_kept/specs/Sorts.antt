@@ -71,9 +71,11 @@ HoldsChars memory object = (live : Object) → live_object memory object ≡ Som
 
 -- a value of the sort: a number lies in its type's range; a pointer, and a place, is one of the memory: null, or into an array of
 -- whole elements of an object that was entered, within that object as long as it lives (6.5.6p8, 6.2.4p2); a structure has a cell for
--- each of its kinds, which holds nothing or a value of the kind. Any node may give no value: a call does whose function reached its
--- closing brace (6.9.1p12)
+-- each of its kinds, which holds nothing or a value of the kind. A node that gives no place may give no value: a call does whose
+-- function reached its closing brace (6.9.1p12)
 abbrev pub Fits : Memory → Sort → Value → Type 0
+Fits memory (place count) Nothing = ⊥
+Fits memory chars Nothing = ⊥
 Fits memory sort Nothing = Unit {0}
 Fits memory (number kind) (Number from value) = (from ≡ kind) × Represents kind value
 Fits memory pointer (Pointing at) = IsPointer memory at

@@ -1,5 +1,5 @@
 //! What a reader expects of evaluation. The program calls none of these functions.
-ghost use Rattle.cr_kept.specs.Laws.{EvaluationKeepsSorts, ProgramsGiveStatuses, OlderValuesFit, StartIsWellFormed, BlocksAreEntered, BlocksAreLeft};
+ghost use Rattle.cr_kept.specs.Laws.{EvaluationKeepsSorts, ProgramsGiveStatuses, ProgramsHaveOutcomes, OlderValuesFit, StartIsWellFormed, BlocksAreEntered, BlocksAreLeft};
 
 /// The answer of a typed node fits its sort, and leaves a world that is well formed.
 pub fn evaluation_keeps_sorts()
@@ -9,6 +9,11 @@ pub fn evaluation_keeps_sorts()
 /// What a typed program answers is a status.
 pub fn programs_give_statuses()
     ensures { ProgramsGiveStatuses }
+{}
+
+/// Whatever the run of a typed program comes to, whose nodes have the operands and objects that they need, is an outcome.
+pub fn programs_have_outcomes()
+    ensures { ProgramsHaveOutcomes }
 {}
 
 /// A value that fitted its sort does so while the objects continue.
