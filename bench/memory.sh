@@ -168,6 +168,9 @@ fn print_accesses(rt: &HostRuntime) -> io::Result<()> {
         println!(rt; "timed save {} {}", answers, start.elapsed(rt)?.as_micros())?;
     }
     let start = Instant::now(rt)?;
+    let answers = looks(&store, 0, 1);
+    println!(rt; "timed look for one at its number's place {} {}", answers, start.elapsed(rt)?.as_micros())?;
+    let start = Instant::now(rt)?;
     let answers = lifetimes(&mut store);
     println!(rt; "timed enter and leave {} {}", answers, start.elapsed(rt)?.as_micros())?;
     Ok(())

@@ -1,6 +1,6 @@
 -- Declarations and their initialisers (C11 6.7, 6.7.9): what they set are values of the cells' kinds.
-use Rattle.std.proofs.Common.{◌≡◌, refl, sym, ◌∙◌, ap, subst, arith, inl, inr}
-use Rattle.std.specs.Prelude.{ℕ, zero, suc, ◌+◌, ◌≤◌, ◌==◌, pos, Bool, true, false, Option, Some, None, Result, Ok, Err, IfOk, List, [], ◌∷◌, ◌++◌, map, length, take, drop, replicate, get_or, slice_get, if◌then◌else◌, ◌⊎◌}
+use Rattle.std.proofs.Common.{◌≡◌, refl, sym, ◌∙◌, ap, subst, arith}
+use Rattle.std.specs.Prelude.{ℕ, zero, suc, ◌≤◌, ◌==◌, Bool, true, false, Option, Some, None, Result, Ok, Err, IfOk, List, [], ◌∷◌, map, length, take, drop, replicate, get_or, slice_get, if◌then◌else◌}
 use Rattle.std.specs.List.{AllByRecursion}
 use Rattle.std.proofs.lemmas.Bool.{eqb-true}
 use Rattle.std.proofs.lemmas.List.{length-map, take_all}
@@ -19,28 +19,27 @@ use Rattle.cr_memory.specs.Memory.{Object, Memory, Holds, AllHold, live_object, 
 use Rattle.cr_memory.specs.Access.{some_object, with_cells}
 use Rattle.cr_memory.specs.Continues.{Continues}
 use Rattle.cr_memory.proofs.Continuing.{continues-refl, continues-onward}
-use Rattle.cr_meaning.specs.Language.{went, halts}
+use Rattle.cr_meaning.specs.Language.{went}
 use Rattle.cr_meaning.specs.World.{Program, World, Binding, bound, mark, object_for, unset_again, untyped, unused_value, Answer, next}
 use Rattle.cr_meaning.specs.Values.{kinds_in, cells_in, converted, cells_of_value}
-use Rattle.cr_meaning.specs.Turns.{Way, in_turn}
+use Rattle.cr_meaning.specs.Turns.{in_turn}
 use Rattle.cr_meaning.specs.Nodes.{Act, stops, values, value_of, element_of, elements_of, initial, set_parts, unused_in, initials, with_parts, zeroed, initialised, on_object}
 use Rattle.cr_meaning.specs.declared.op.Op.{Op}
 use Rattle.cr_meaning.specs.declared.op.Line.{Line}
 use Rattle.cr_meaning.specs.declared.op.Form.{Form}
 use Rattle.cr_meaning.specs.declared.op.Form.TheVariants as form
-use Rattle.cr_meaning.specs.declared.op.Work.{Work}
 use Rattle.cr_meaning.specs.declared.op.Work.TheVariants as work
 use Rattle.cr_meaning.specs.declared.value.Value.{Value}
-use Rattle.cr_meaning.specs.declared.value.Value.TheVariants.{Nothing, Number, Pointer as Pointing, Place, Cells}
-use Rattle.cr_kept.specs.Sorts.{Exits, Sort, number, pointer, place, cells as CellsSort, chars, statement, sort_of_scalar, sorts_in, AreChars, HoldsChars, Fits, IsSound, IsEntered, AreEntered, Keeps}
-use Rattle.cr_kept.specs.Statements.{Has, Converts, sorts_of, IsCharacter, Initialises, HasCells, AreLines}
+use Rattle.cr_meaning.specs.declared.value.Value.TheVariants.{Nothing, Place}
+use Rattle.cr_kept.specs.Sorts.{Exits, Sort, number, place, chars, statement, sort_of_scalar, sorts_in, AreChars, HoldsChars, Fits, IsSound, IsEntered, AreEntered, Keeps}
+use Rattle.cr_kept.specs.Statements.{sorts_of, IsCharacter, Initialises, HasCells, AreLines}
 use Rattle.cr_kept.proofs.Cells.{kinds_of, free, RunHolds, holds_later, Written, written}
 use Rattle.cr_kept.proofs.Later.{is_entered_later, entered_later}
 use Rattle.cr_kept.proofs.Pointers.{ok_then}
 use Rattle.cr_kept.proofs.Works.{converted_holds}
 use Rattle.cr_kept.proofs.Worlds.{new_holds}
 use Rattle.cr_kept.proofs.Expressions.{Went}
-use Rattle.cr_kept.proofs.Given.{FromPart, AreFrom, unfilled, value_fits, Beside, keeps_beside}
+use Rattle.cr_kept.proofs.Given.{AreFrom, unfilled, value_fits, Beside, keeps_beside}
 use Rattle.cr_kept.proofs.Going.{Goes}
 use Rattle.cr_kept.proofs.Loops.{Here, HaveSorts, next_at}
 use Rattle.cr_kept.proofs.Jumps.{by_turn}

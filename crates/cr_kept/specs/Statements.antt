@@ -1,5 +1,5 @@
 -- Where statements stand, and what initialisers set (C11 6.7.9, 6.8).
-use Rattle.std.specs.Prelude.{◌≡◌, ℕ, suc, Bool, true, false, Option, Some, IfSome, List, [], ◌∷◌, ◌++◌, map, take, drop, slice_get}
+use Rattle.std.specs.Prelude.{◌≡◌, ℕ, suc, true, false, Option, Some, List, [], ◌∷◌, ◌++◌, map, take, drop, slice_get}
 use Rattle.std.specs.List.{AllByRecursion}
 use Rattle.cr_ints.specs.declared.kind.IntKind.TheVariants.{Char as CharKind, SChar as SCharKind, UChar as UCharKind}
 use Rattle.cr_meaning.specs.World.{Program}

@@ -53,6 +53,10 @@ fn first(alloc: Global, nodes: &[Node], node: Option<u32>) -> Result<String, All
     }
 }
 
+fn number_of(at: usize) -> Result<u32, AllocError> {
+    u32::try_from(at).map_err(|_| AllocError)
+}
+
 fn push_tokens(
     alloc: Global,
     out: &mut String,
@@ -62,7 +66,7 @@ fn push_tokens(
 ) -> Result<(), AllocError> {
     let nodes = unit.nodes.as_slice();
     for (at, declares) in bindings.declaring.as_slice().iter().enumerate() {
-        let token = at as u32;
+        let token = number_of(at)?;
         let visible = first(alloc, nodes, bindings.visible_at(token))?;
         let known = first(alloc, nodes, bindings.first_at(names, token))?;
         let earlier = first(alloc, nodes, bindings.earlier_at(token))?;
@@ -85,7 +89,8 @@ fn push_tags(
 ) -> Result<(), AllocError> {
     let nodes = unit.nodes.as_slice();
     for (at, node) in nodes.iter().enumerate() {
-        if let Some(tag) = bindings.tag_of(names, nodes, unit.tokens.list.as_slice(), at as u32) {
+        let number = number_of(at)?;
+        if let Some(tag) = bindings.tag_of(names, nodes, unit.tokens.list.as_slice(), number) {
             let begun = first(alloc, nodes, tag.first)?;
             let content = first(alloc, nodes, tag.content)?;
             let mark = if tag.declares { "+" } else { "" };

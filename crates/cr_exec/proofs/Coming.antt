@@ -1,0 +1,111 @@
+-- What the machine's outcome says of the program's meaning.
+use Rattle.std.specs.Prelude.{ℤ}
+use Rattle.cr_ints.specs.declared.kind.IntKind.{IntKind}
+use Rattle.std.proofs.Common.{◌≡◌, ℕ, ◌+◌, ◌-◌, ◌≤◌, Bool, true, false, true≢false, Option, Some, None, refl, sym, ap, ◌∙◌, subst, arith}
+use Rattle.cr_meaning.specs.Language.{gave, ended, Runs}
+use Rattle.cr_meaning.specs.World.{Program, World, Answer, Halt, stopped, exited}
+use Rattle.cr_meaning.specs.Meaning.{Means, body, operands, root_of, start_of, run_of, ended_with}
+use Rattle.cr_meaning.specs.Library.{status_of}
+use Rattle.cr_meaning.specs.declared.run.Limits.{Limits}
+use Rattle.cr_meaning.specs.declared.run.Run.{Run}
+use Rattle.cr_meaning.specs.declared.run.Run.TheVariants as run
+use Rattle.cr_meaning.specs.declared.value.Value.{Value}
+use Rattle.cr_meaning.specs.declared.value.Value.TheVariants as value
+use Rattle.cr_meaning.proofs.Runs.{one_meaning}
+use Rattle.cr_memory.specs.declared.value.Trap.TheVariants as trap
+use Rattle.cr_slices.specs.Looks.{HasLooked, given_up}
+use Rattle.cr_slices.specs.Shown.{Answering, ComesTo}
+use Rattle.cr_slices.specs.declared.machine.Outcome.{Outcome}
+use Rattle.cr_slices.specs.declared.machine.Outcome.TheVariants.{Came, Halted, Stopped}
+use Rattle.cr_slices.specs.declared.nodes.Halted.TheVariants as halted
+use Rattle.cr_turns.specs.declared.held.Held.{Held}
+use Rattle.cr_turns.specs.declared.held.Held.TheVariants as held
+use Rattle.cr_turns.specs.Held.{shows}
+use Rattle.cr_exec.specs.Runs.{has_come, run_from, Looked}
+
+-- ---- the meaning
+
+module _ (p : Program) (w : World) where
+  number_comes : (kind : IntKind) (v : ℤ) → ComesTo shows p (root_of p) (start_of p.limits) (Came (held.Returned (value.Number kind v))) w → Means p (ended_with p.limits (status_of v) w)
+  number_comes kind v h = record {
+    reply = gave h.answer w;
+    runs = h.holds;
+    comes = ap (λ (a : Answer). run_of p.limits (gave a w)) h.shown;
+  }
+
+  comes_so : (outcome : Outcome Held) → ComesTo shows p (root_of p) (start_of p.limits) outcome w → has_come (run_from p.limits w outcome) ≡ true → Means p (run_from p.limits w outcome)
+  comes_so (Came (held.Returned (value.Number kind v))) h e = number_comes kind v h
+  comes_so (Came (held.Returned value.Nothing)) h e = absurd (true≢false (sym e))
+  comes_so (Came (held.Returned (value.Pointer at))) h e = absurd (true≢false (sym e))
+  comes_so (Came (held.Returned (value.Place at))) h e = absurd (true≢false (sym e))
+  comes_so (Came (held.Returned (value.Cells cells))) h e = absurd (true≢false (sym e))
+  comes_so (Came (held.Part given)) h e = absurd (true≢false (sym e))
+  comes_so (Came held.Next) h e = absurd (true≢false (sym e))
+  comes_so (Came held.Broke) h e = absurd (true≢false (sym e))
+  comes_so (Came held.Continued) h e = absurd (true≢false (sym e))
+  comes_so (Came (held.Jumped label)) h e = absurd (true≢false (sym e))
+  comes_so (Halted (halted.Undefined number node)) h e = record { reply = ended (stopped (trap.Undefined number) node); runs = h; comes = refl }
+  comes_so (Halted (halted.Left number node)) h e = record { reply = ended (stopped (trap.Left number) node); runs = h; comes = refl }
+  comes_so (Halted (halted.Exited status)) h e = record { reply = ended (exited status w); runs = h; comes = refl }
+  comes_so (Halted halted.NoMemory) h e = absurd (true≢false (sym e))
+  comes_so Stopped h e = absurd (true≢false (sym e))
+
+-- from the world that a run begins with
+pub meant_by : (p : Program) (root : ℕ) (before after : World) (outcome : Outcome Held) (result : Run) → root ≡ root_of p → before ≡ start_of p.limits
+    → ComesTo shows p root before outcome after → result ≡ run_from p.limits after outcome → has_come result ≡ true → Means p result
+meant_by p root before after outcome result r b h e come =
+    let P : ℕ → Type 0 = λ n. ComesTo shows p n before outcome after in
+    let Q : World → Type 0 = λ w. ComesTo shows p (root_of p) w outcome after in
+    let R : Run → Type 0 = λ o. Means p o in
+    subst R (sym e) (comes_so p after outcome (subst Q b (subst P r h)) (ap has_come (sym e) ∙ come))
+
+pub only_this : (p : Program) (result : Run) → (has_come result ≡ true → Means p result) → (outcome : Run) → Means p outcome → has_come result ≡ true → outcome ≡ result
+only_this p result f outcome m e = one_meaning p outcome result m (f e)
+
+-- ---- looks
+
+looked_so : (limits : Limits) (before after : World) (looks now : ℕ) (outcome : Outcome Held) → before.steps ≡ limits.steps → after.steps ≤ before.steps
+    → HasLooked looks now (before.steps - after.steps) (given_up outcome) → Looked (run_from limits after outcome) limits.steps looks now
+looked_so limits before after looks now (Came (held.Returned (value.Number kind v))) s f h = let P : ℕ → Type 0 = λ n. HasLooked looks now (n - after.steps) 0 in subst P s h
+looked_so limits before after looks now (Came (held.Returned value.Nothing)) s f h = tt
+looked_so limits before after looks now (Came (held.Returned (value.Pointer at))) s f h = tt
+looked_so limits before after looks now (Came (held.Returned (value.Place at))) s f h = tt
+looked_so limits before after looks now (Came (held.Returned (value.Cells cells))) s f h = tt
+looked_so limits before after looks now (Came (held.Part given)) s f h = tt
+looked_so limits before after looks now (Came held.Next) s f h = tt
+looked_so limits before after looks now (Came held.Broke) s f h = tt
+looked_so limits before after looks now (Came held.Continued) s f h = tt
+looked_so limits before after looks now (Came (held.Jumped label)) s f h = tt
+looked_so limits before after looks now (Halted (halted.Undefined number node)) s f h = (before.steps - after.steps, (omega (arith, s, f), h))
+looked_so limits before after looks now (Halted (halted.Left number node)) s f h = (before.steps - after.steps, (omega (arith, s, f), h))
+looked_so limits before after looks now (Halted (halted.Exited status)) s f h = let P : ℕ → Type 0 = λ n. HasLooked looks now (n - after.steps) 0 in subst P s h
+looked_so limits before after looks now (Halted halted.NoMemory) s f h = tt
+looked_so limits before after looks now Stopped s f h = (before.steps - after.steps, (omega (arith, s, f), h))
+
+pub looked_by : (limits : Limits) (before after : World) (looks now : ℕ) (outcome : Outcome Held) (result : Run) → before ≡ start_of limits → after.steps ≤ before.steps
+    → HasLooked looks now (before.steps - after.steps) (given_up outcome) → result ≡ run_from limits after outcome → Looked result limits.steps looks now
+looked_by limits before after looks now outcome result b f h e =
+    let P : Run → Type 0 = λ r. Looked r limits.steps looks now in
+    subst P (sym e) (looked_so limits before after looks now outcome (ap (λ (w : World). w.steps) b) f h)
+
+-- ---- a stop
+
+stopped_so : (limits : Limits) (after : World) (outcome : Outcome Held) → run_from limits after outcome ≡ run.Stopped → outcome ≡ Stopped
+stopped_so limits after (Came (held.Returned (value.Number kind v))) e = absurd (cc e)
+stopped_so limits after (Came (held.Returned value.Nothing)) e = absurd (cc e)
+stopped_so limits after (Came (held.Returned (value.Pointer at))) e = absurd (cc e)
+stopped_so limits after (Came (held.Returned (value.Place at))) e = absurd (cc e)
+stopped_so limits after (Came (held.Returned (value.Cells cells))) e = absurd (cc e)
+stopped_so limits after (Came (held.Part given)) e = absurd (cc e)
+stopped_so limits after (Came held.Next) e = absurd (cc e)
+stopped_so limits after (Came held.Broke) e = absurd (cc e)
+stopped_so limits after (Came held.Continued) e = absurd (cc e)
+stopped_so limits after (Came (held.Jumped label)) e = absurd (cc e)
+stopped_so limits after (Halted (halted.Undefined number node)) e = absurd (cc e)
+stopped_so limits after (Halted (halted.Left number node)) e = absurd (cc e)
+stopped_so limits after (Halted (halted.Exited status)) e = absurd (cc e)
+stopped_so limits after (Halted halted.NoMemory) e = absurd (cc e)
+stopped_so limits after Stopped e = refl
+
+pub stopped_by : (limits : Limits) (after : World) (outcome : Outcome Held) (result : Run) → result ≡ run_from limits after outcome → result ≡ run.Stopped → outcome ≡ Stopped
+stopped_by limits after outcome result e s = stopped_so limits after outcome (sym e ∙ s)

@@ -1,0 +1,34 @@
+-- The work of a node, by its operation.
+use Rattle.std.proofs.Common.{◌≡◌, ℕ, Bool, true, Option, Some, Result, List, [], refl, sym, ap, ◌∙◌, subst, slice_get}
+use Rattle.std.specs.Prelude.{◌≢◌}
+use Rattle.std.specs.List.{AllZip}
+use Rattle.cr_join.specs.Turns.{is_expression}
+use Rattle.cr_join.specs.Parts.{IsFootOf}
+use Rattle.cr_join.proofs.Turning.{expression_joins}
+use Rattle.cr_footprint.specs.Foot.{sets, no_events}
+use Rattle.cr_footprint.specs.declared.foot.Foot.{Foot}
+use Rattle.cr_meaning.specs.World.{Program, World, Answer}
+use Rattle.cr_meaning.specs.Nodes.{Act, expression}
+use Rattle.cr_meaning.specs.Meaning.{before_by, join_by}
+use Rattle.cr_meaning.specs.declared.op.Op.{Op}
+use Rattle.cr_meaning.proofs.Merging.{nothing_has_no_sets}
+use Rattle.cr_slices.specs.Turns.{before_for, before_at, join_for, join_at}
+use Rattle.cr_slices.specs.Shown.{Worked, Joined}
+use Rattle.cr_slices.specs.declared.nodes.Halted.{Halted}
+use Rattle.cr_turns.specs.declared.held.Held.{Held}
+use Rattle.cr_turns.specs.Held.{shows}
+use Rattle.cr_exec.specs.Runs.{IsNoCall}
+
+module _ (p : Program) (node : ℕ) (op : Op) (answers : List Answer) (before after : World) where
+  pub before_here : (r : Result (Unit {0}) Halted) → slice_get p.ops node ≡ Some op → Worked (before_by p node op.work answers before) r after → Worked (before_at p node answers before) r after
+  before_here r e h = let P : Option Op → Type 0 = λ o. Worked (before_for p node answers o before) r after in subst P (sym e) h
+
+  pub join_here : (r : Result Held Halted) → slice_get p.ops node ≡ Some op → Joined shows (join_by p node op op.work answers before) r after → Joined shows (join_at p node answers before) r after
+  join_here r e h = let P : Option Op → Type 0 = λ o. Joined shows (join_for p node answers o before) r after in subst P (sym e) h
+
+  pub expression_here : (r : Result Held Halted) → is_expression op.work ≡ true → IsNoCall op.work → Joined shows (expression p node op answers before) r after
+      → Joined shows (join_by p node op op.work answers before) r after
+  expression_here r e other h = let P : Act → Type 0 = λ act. Joined shows act r after in subst P (sym (expression_joins p node op op.work answers before e other)) h
+
+pub nothing_done : (foot : Foot) → sets foot ≡ no_events → IsFootOf foot []
+nothing_done foot e = record { same = e ∙ sym nothing_has_no_sets }

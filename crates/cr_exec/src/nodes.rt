@@ -1,0 +1,167 @@
+// The work of single nodes: each goes to the crate of its kind.
+ghost use Rattle.std.specs.Prelude.{◌≡◌, List};
+ghost use Rattle.std.specs.List.{AllZip};
+ghost use Rattle.cr_eval.specs.Table.{program_of};
+ghost use Rattle.cr_join.specs.Turns.{is_expression};
+ghost use Rattle.cr_meaning.specs.World.{Answer};
+ghost use Rattle.cr_meaning.specs.Meaning.{before_by, join_by};
+ghost use Rattle.cr_slices.specs.Shown.{Worked, Joined, TakesAtMostOne};
+ghost use Rattle.cr_turns.specs.Held.{shows};
+ghost use Rattle.cr_world.specs.Worlds.{world_of};
+ghost use Rattle.cr_exec.specs.Runs.{IsNoCall};
+
+use crate::running::Running;
+use cr_eval::Table;
+use cr_expressions::expression;
+use cr_footprint::Foot;
+use cr_frames::{call_before, call_end};
+use cr_ints::IntKind;
+use cr_join::Part;
+use cr_meaning::{Op, Value, Work};
+use cr_slices::{Halted, Nodes, Way};
+use cr_stack::Stack;
+use cr_statements::{before, statement};
+use cr_turns::{Held, next};
+use cr_world::{World, reach};
+use std::alloc::Global;
+
+/// Whether the node is an expression, no statement, no declaration and not the whole program.
+#[inline]
+fn is_expression(work: &Work) -> bool
+    ensures { result ≡ is_expression work.now }
+{
+    match work {
+        Work::Expression
+        | Work::If
+        | Work::While
+        | Work::Do
+        | Work::For(_, _, _, _, _)
+        | Work::Switch(_, _, _, _, _, _)
+        | Work::Block(_, _)
+        | Work::Labelled
+        | Work::Break
+        | Work::Continue
+        | Work::Goto(_)
+        | Work::Return(_)
+        | Work::Declaration
+        | Work::Declare(_)
+        | Work::Initialise(_, _)
+        | Work::Program(_, _, _, _) => false,
+        _ => true,
+    }
+}
+
+fn before_op(
+    alloc: Global,
+    table: &Table,
+    world: &mut World,
+    op: &Op,
+    node: u32,
+    done: &[Held],
+) -> Result<(), Halted>
+    ensures work { (answers : List Answer) → AllZip shows done.now answers
+        → Worked (before_by (program_of table.now) node op.now.work answers (world_of world.old)) result (world_of world.new) }
+    ensures steps { TakesAtMostOne world.old.steps world.new.steps }
+{
+    match &op.work {
+        Work::Call(callee) => call_before(alloc, table, world, callee, node, done),
+        _ => before(table, world, op, node, done),
+    }
+}
+
+#[inline]
+fn join_other(
+    alloc: Global,
+    table: &Table,
+    world: &mut World,
+    op: &Op,
+    node: u32,
+    stack: &mut Stack<Held>,
+) -> Result<Held, Halted>
+    requires { IsNoCall op.now.work }
+    ensures work { (answers : List Answer) → AllZip shows stack.old.top.done answers
+        → Joined shows (join_by (program_of table.now) node op.now op.now.work answers (world_of world.old)) result (world_of world.new) }
+    ensures below { stack.new.below ≡ stack.old.below }
+    ensures steps { world.new.steps ≡ world.old.steps }
+{
+    if is_expression(&op.work) {
+        expression(alloc, table, world, op, node, stack)
+    } else {
+        statement(alloc, table, world, op, node, stack)
+    }
+}
+
+#[inline]
+fn join_op(
+    alloc: Global,
+    table: &Table,
+    world: &mut World,
+    op: &Op,
+    node: u32,
+    stack: &mut Stack<Held>,
+) -> Result<Held, Halted>
+    ensures work { (answers : List Answer) → AllZip shows stack.old.top.done answers
+        → Joined shows (join_by (program_of table.now) node op.now op.now.work answers (world_of world.old)) result (world_of world.new) }
+    ensures below { stack.new.below ≡ stack.old.below }
+    ensures steps { world.new.steps ≡ world.old.steps }
+{
+    match &op.work {
+        Work::Call(callee) => call_end(alloc, table, world, callee, node, stack),
+        _ => join_other(alloc, table, world, op, node, stack),
+    }
+}
+
+impl<'a> Nodes for Running<'a> {
+    type Held = Held;
+
+    ghost program = { λ running. program_of running.table.now };
+
+    ghost world = { λ running. world_of running.world };
+
+    ghost shows = { shows };
+
+    #[inline]
+    fn steps(&self) -> u64 {
+        self.world.steps
+    }
+
+    #[inline]
+    fn reach(&mut self, node: u32) -> Result<(), Halted> {
+        reach(self.table, &mut self.world, node)
+    }
+
+    #[inline]
+    fn next(&self, node: u32, done: &[Held]) -> Way {
+        match self.table.ops.as_slice().get(node as usize) {
+            Some(op) => next(op, done),
+            None => Way::Unknown,
+        }
+    }
+
+    fn before(&mut self, node: u32, done: &[Held]) -> Result<(), Halted> {
+        match self.table.ops.as_slice().get(node as usize) {
+            Some(op) => before_op(self.alloc, self.table, &mut self.world, op, node, done),
+            None => Err(Halted::NoMemory),
+        }
+    }
+
+    #[inline]
+    fn join(&mut self, stack: &mut Stack<Held>) -> Result<Held, Halted> {
+        let node = stack.node();
+        match self.table.ops.as_slice().get(node as usize) {
+            Some(op) => join_op(self.alloc, self.table, &mut self.world, op, node, stack),
+            None => Err(Halted::NoMemory),
+        }
+    }
+
+    fn passed(&self) -> Held {
+        Held::Next
+    }
+
+    fn absent(&self) -> Held {
+        Held::Part(Part {
+            value: Value::Number(IntKind::Int, 1),
+            foot: Foot::none(self.alloc),
+        })
+    }
+}

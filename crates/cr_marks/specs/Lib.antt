@@ -1,0 +1,5 @@
+pub mod Labelled
+pub mod Columns
+pub mod Marks
+pub mod Again
+pub mod Gotos
