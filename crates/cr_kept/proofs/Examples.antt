@@ -2,7 +2,7 @@
 -- else.
 use Rattle.std.proofs.Common.{◌≡◌, refl, subst, arith, inl}
 use Rattle.std.specs.Prelude.{ℕ, zero, suc, pos, Bool, true, false, Option, Some, None, List, [], ◌∷◌, slice_get}
-use Rattle.cr_ints.specs.declared.kind.IntKind.TheVariants.{Int, Char}
+use Rattle.cr_ints.specs.declared.kind.IntKind.TheVariants.{Int, Char, UChar}
 use Rattle.cr_memory.specs.declared.value.Scalar.{Scalar}
 use Rattle.cr_memory.specs.declared.value.Scalar.TheVariants as scalar
 use Rattle.cr_memory.specs.declared.value.Guard.{Guard}
@@ -199,7 +199,11 @@ no_part_beyond_the_object e = absurd (cc e)
 
 -- a literal initialises no int
 no_int_by_a_literal : Initialises (program []) (form.Number Int) chars → ⊥
-no_int_by_a_literal e = absurd (cc e)
+no_int_by_a_literal e = absurd e.0
+
+-- but unsigned chars
+unsigned_chars_by_a_literal : Initialises (record (program []) { kinds = λ row. scalar.Int UChar ∷ scalar.Int UChar ∷ [] }) (form.Cells 0) chars
+unsigned_chars_by_a_literal = (tt, (tt, tt))
 
 -- ---- complete programs
 
