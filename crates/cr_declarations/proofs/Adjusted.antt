@@ -46,7 +46,7 @@ types_more base old new columns rows list k named row h before grows within so l
     map-append (type_at new) rows (row ∷ [])
     ∙ ap (λ xs. xs ++ type_at new row ∷ []) (types_kept old new rows grows within ∙ so)
     ∙ ap (λ x. map f (take k list) ++ x ∷ [])
-        (made.is ∙ ap adjusted_type (is ∙ before.keeps (slice_index_or columns.named.now part 0) (h.named part)))
+    (made.is ∙ ap adjusted_type (is ∙ before.keeps (slice_index_or columns.named.now part 0) (h.named part)))
     ∙ sym (map-append f (take k list) (part ∷ []))
     ∙ ap (map f) (sym (take-suc list k 0 low))
     ∙ ap (λ n. map f (take n list)) e

@@ -29,12 +29,7 @@ pub fn structure(
     match node.kind {
         Kind::StructContent => {
             let rows = rows_of(alloc, members)?;
-            Ok(structure_of(
-                table,
-                columns.layouts,
-                columns.fixed,
-                rows.as_slice(),
-            ))
+            Ok(structure_of(table, columns.layouts, columns.fixed, rows.as_slice()))
         }
         _ => Ok(Structure {
             layout: NOTHING,

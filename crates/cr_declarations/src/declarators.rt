@@ -80,11 +80,7 @@ fn bracket_before(tree: &Tree, node: &Node, part: Option<u32>) -> u32
 }
 
 // The row of what the inner declarator derives, or of nothing derived where there is none.
-fn inner_derived(
-    table: &mut Table,
-    columns: &Columns,
-    part: Option<u32>,
-) -> Result<u32, AllocError>
+fn inner_derived(table: &mut Table, columns: &Columns, part: Option<u32>) -> Result<u32, AllocError>
     requires { AreColumns table.old columns.now }
     ensures made { IfOk result (λ r. IsRow table.new r (inner_derived (before_at table.old columns.now) part)) }
     ensures grows { OnOk result (Grows table.old table.new) }
@@ -146,13 +142,7 @@ fn pointed_by(
 }
 
 /// What a declarator has; of what is no declarator that of a name alone.
-pub fn declarator(
-    table: &Table,
-    tree: &Tree,
-    columns: &Columns,
-    at: u32,
-    node: &Node,
-) -> Declarator
+pub fn declarator(table: &Table, tree: &Tree, columns: &Columns, at: u32, node: &Node) -> Declarator
     requires spans { AreSpans tree.now.file.now tree.now.tokens.now }
     requires columns { AreColumns table.now columns.now }
     ensures { result ≡ declarator_by node.now.kind (spelling_of tree.now.file.now tree.now.tokens.now) tree.now.nodes.now (before_at table.now columns.now) at node.now }

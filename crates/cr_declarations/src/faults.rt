@@ -69,7 +69,16 @@ pub fn broken(
         Kind::FunctionDefinition => {
             let said = specified_of(columns, part_at(parts, 0));
             let function = declarator_of(columns, part_at(parts, 1)).function;
-            definition_fault(alloc, table, tree, columns, at, said, part_at(parts, 1), function)
+            definition_fault(
+                alloc,
+                table,
+                tree,
+                columns,
+                at,
+                said,
+                part_at(parts, 1),
+                function,
+            )
         }
         Kind::InitDeclarator => {
             let declaration = declaration_of(tree, at);
@@ -355,7 +364,10 @@ fn declarator_fault(
     let typedef = is_typedef(of.class);
     let misplaced = function_fault(table, declarator, of.place, typedef, own.named);
     let function = break_if(8, of.name, misplaced);
-    let open = fault_at(14, open_fault(declarator, of.place, of.class, of.initialised));
+    let open = fault_at(
+        14,
+        open_fault(declarator, of.place, of.class, of.initialised),
+    );
     let volatile = fault_at(41, token_if(is_member(of.place), declarator.volatile));
     let last = lesser(function, lesser(open, volatile));
     lesser(incomplete, lesser(wrong, lesser(cells, last)))

@@ -64,7 +64,11 @@ fn type_by(
         Some(declaration) => {
             let base = named_of(table, columns, specifiers_in(tree, Some(declaration)));
             let row = declare(table, own, derived, base)?;
-            adjusted_if(table, is_parameter(kind_of(tree.nodes, Some(declaration))), row)
+            adjusted_if(
+                table,
+                is_parameter(kind_of(tree.nodes, Some(declaration))),
+                row,
+            )
         }
     }
 }
