@@ -8,5 +8,7 @@
 mod nodes;
 mod program;
 mod running;
+#[cfg(test)]
+mod tests;
 
 pub use program::run;

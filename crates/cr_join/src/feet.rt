@@ -14,7 +14,8 @@ use std::alloc::Global;
 /// U12: a side effect on a scalar is unsequenced to another one, or to a value computation that uses it (C11 6.5p2).
 pub const UNSEQUENCED: u8 = 12;
 
-fn trap_of(end: FootEnd) -> Trap
+#[inline]
+pub(crate) fn trap_of(end: FootEnd) -> Trap
     ensures { result ≡ trap_of end }
 {
     match end {
@@ -36,8 +37,7 @@ fn trapped(found: Result<Foot, FootEnd>) -> Result<Foot, Trap>
 // ---- two operands
 
 /// Two unsequenced operands (6.5p3): U12.
-#[inline]
-pub(crate) fn beside(left: Foot, right: Foot) -> Result<Foot, Trap>
+fn beside(left: Foot, right: Foot) -> Result<Foot, Trap>
     ensures { Unites (sets left) (sets right) result }
 {
     trapped(left.beside(right))

@@ -9,7 +9,7 @@ ghost use Rattle.cr_join.specs.Parts.{IsFootOf};
 ghost use Rattle.cr_join.specs.Feet.{AreBelow};
 ghost use Rattle.cr_join.specs.Joins.{Joins, Finishes, FinishesBy, parted, is_sequence};
 
-use crate::feet::{added, beside, sequence};
+use crate::feet::{added, sequence, trap_of};
 use crate::part::Part;
 use cr_eval::{Did, Table, work_none, work_one, work_two};
 use cr_footprint::Foot;
@@ -158,12 +158,12 @@ fn join_beside(
     ensures { (world : World) (node : ℕ) (one other : List Event) → IsFootOf left.foot one → IsFootOf right.foot other
         → Joins (expression (program_of table.now) node op.now (part left.value one ∷ (part right.value other ∷ [])) (record world { memory = store.old })) (record world { memory = store.new }) node result }
 {
-    match beside(left.foot, right.foot) {
+    match left.foot.beside(right.foot) {
         Ok(foot) => finished(
             foot,
             work_two(alloc, table, store, op, &left.value, &right.value),
         ),
-        Err(trap) => Err(trap),
+        Err(end) => Err(trap_of(end)),
     }
 }
 

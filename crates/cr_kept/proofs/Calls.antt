@@ -1,6 +1,6 @@
 -- Calls of the program's functions (C11 6.5.2.2, 6.9.1).
 use Rattle.std.proofs.Common.{◌≡◌, ◌≢◌, refl, sym, ◌∙◌, ap, subst, arith, inl, inr}
-use Rattle.std.specs.Prelude.{ℕ, zero, suc, ◌+◌, ◌≤◌, ◌==◌, pos, nat_le, Bool, true, false, Option, Some, None, Result, Ok, Err, IfOk, List, [], ◌∷◌, ◌++◌, map, length, slice_get, if◌then◌else◌, ◌⊎◌}
+use Rattle.std.specs.Prelude.{ℕ, zero, suc, ◌+◌, ◌≤◌, ◌==◌, pos, nat_le, Bool, true, false, Option, Some, None, Result, Ok, Err, IfOk, List, [], ◌∷◌, map, length, slice_get, if◌then◌else◌}
 use Rattle.std.specs.List.{list_any}
 use Rattle.std.proofs.lemmas.Bool.{eqb-true, eq-eqb}
 use Rattle.cr_ints.specs.declared.kind.IntKind.TheVariants.{Int as IntegerKind}
@@ -9,13 +9,12 @@ use Rattle.cr_memory.specs.declared.value.Trap.TheVariants.{Undefined, Left}
 use Rattle.cr_memory.specs.Memory.{Memory, AllHold}
 use Rattle.cr_memory.specs.Continues.{Continues}
 use Rattle.cr_memory.proofs.Continuing.{continues-refl}
-use Rattle.cr_meaning.specs.Language.{went, halts}
 use Rattle.cr_meaning.specs.Events.{Event, operands_clash}
-use Rattle.cr_meaning.specs.World.{Program, World, Binding, enter_object, closed, left_by, Answer, part, next, broke, continued, jumped, returned}
+use Rattle.cr_meaning.specs.World.{Program, World, enter_object, left_by, Answer, part, next, broke, continued, jumped, returned}
 use Rattle.cr_meaning.specs.Values.{converted, cells_of_value}
 use Rattle.cr_meaning.specs.Work.{is_nothing}
-use Rattle.cr_meaning.specs.Turns.{Way, Operand, Enter, Ready, in_turn, body_next, last_of}
-use Rattle.cr_meaning.specs.Nodes.{Act, stops, resulting, entering, value_of, values, events_of, order_of, all_events, last_in, with_argument, converted_all, arguments, enter_parameters, deeper, begun, called, result_of, shallower}
+use Rattle.cr_meaning.specs.Turns.{Enter, Ready, in_turn, body_next, last_of}
+use Rattle.cr_meaning.specs.Nodes.{resulting, value_of, values, events_of, order_of, all_events, last_in, with_argument, converted_all, arguments, enter_parameters, deeper, begun, called, result_of, shallower}
 use Rattle.cr_meaning.specs.declared.op.Op.{Op}
 use Rattle.cr_meaning.specs.declared.op.Form.{Form}
 use Rattle.cr_meaning.specs.declared.op.Form.TheVariants as form
@@ -24,20 +23,20 @@ use Rattle.cr_meaning.specs.declared.op.Callee.TheVariants.{Function}
 use Rattle.cr_meaning.specs.declared.op.Work.{Work}
 use Rattle.cr_meaning.specs.declared.op.Work.TheVariants as work
 use Rattle.cr_meaning.specs.declared.value.Value.{Value}
-use Rattle.cr_meaning.specs.declared.value.Value.TheVariants.{Nothing, Number}
-use Rattle.cr_kept.specs.Sorts.{Sort, statement, sort_of, Fits, Answers, IsAmong, IsWellFormed, Keeps}
+use Rattle.cr_meaning.specs.declared.value.Value.TheVariants.{Number}
+use Rattle.cr_kept.specs.Sorts.{Sort, statement, sort_of, Fits, Answers, IsWellFormed, Keeps}
 use Rattle.cr_kept.specs.Statements.{of_function}
 use Rattle.cr_kept.specs.Rules.{AreArguments, IsFunctionCall, IsValue}
 use Rattle.cr_kept.specs.Blocks.{opened, Stands}
-use Rattle.cr_kept.specs.Scopes.{IsPart, IsArgumentOrBody, nodes_of, is_past, entered_by, IsBound, AreBound}
+use Rattle.cr_kept.specs.Scopes.{IsArgumentOrBody, nodes_of, is_past, entered_by, AreBound}
 use Rattle.cr_kept.proofs.Cells.{kinds_of, all_hold_later}
 use Rattle.cr_kept.proofs.Numbers.{zero_or_one}
 use Rattle.cr_kept.proofs.Pointers.{ok_then, ok_unless}
 use Rattle.cr_kept.proofs.Works.{converted_holds, nothing_fits}
-use Rattle.cr_kept.proofs.Worlds.{Grows, Enters, EntersAll, grows_refl, grows_onward, object_enters, entered_then, bound_either, ok_map, stands_grown, block_ends, left_fits}
+use Rattle.cr_kept.proofs.Worlds.{Enters, EntersAll, grows_refl, grows_onward, object_enters, entered_then, bound_either, ok_map, stands_grown, block_ends, left_fits}
 use Rattle.cr_kept.proofs.Expressions.{Went, went_unless, answers_part}
 use Rattle.cr_kept.proofs.Given.{FromPart, AreFrom, IsGiven, AreGiven, last_given, value_fits, At, Beside, Inside, stands_beside}
-use Rattle.cr_kept.proofs.Going.{IsNext, Begun, Goes}
+use Rattle.cr_kept.proofs.Going.{Begun, Goes}
 use Rattle.cr_kept.proofs.Loops.{Here, HaveSorts, next_at, by_operand, went_entering}
 use Rattle.cr_kept.proofs.Declared.{hold_in_shape}
 

@@ -1,10 +1,9 @@
 -- The own work of an expression's node on operands that it takes: it is done, or comes to a case (U1 to U16, N1 to N7).
-use Rattle.std.proofs.Common.{◌≡◌, refl, sym, subst}
-use Rattle.std.specs.Prelude.{ℕ, ◌+◌, ◌==◌, ℤ, pos, ◌+ℤ◌, ◌*ℤ◌, neg_ℤ, int_le, unsigned_abs, Bool, true, false, not, ◌&&◌, ◌||◌, Option, Some, None, Result, Ok, Err, IfOk, List, [], ◌∷◌, length, take, drop, if◌then◌else◌, ◌⊎◌}
+use Rattle.std.proofs.Common.{◌≡◌, refl}
+use Rattle.std.specs.Prelude.{ℕ, ◌==◌, ℤ, pos, ◌+ℤ◌, ◌*ℤ◌, neg_ℤ, int_le, unsigned_abs, Bool, true, false, not, ◌&&◌, ◌||◌, Result, Ok, Err, IfOk, List, [], ◌∷◌, length, if◌then◌else◌, ◌⊎◌}
 use Rattle.std.proofs.Common.{inl, inr}
 use Rattle.std.specs.List.{list_any}
 use Rattle.cr_ints.specs.declared.kind.IntKind.{IntKind}
-use Rattle.cr_ints.specs.declared.kind.IntKind.TheVariants.{Int as IntegerKind}
 use Rattle.cr_ints.specs.declared.end.IntEnd.{IntEnd}
 use Rattle.cr_ints.specs.declared.end.IntEnd.TheVariants as end
 use Rattle.cr_memory.specs.declared.value.Pointer.{Pointer}
@@ -14,15 +13,15 @@ use Rattle.cr_memory.specs.declared.value.Scalar.TheVariants as scalar
 use Rattle.cr_memory.specs.declared.value.Cell.{Cell}
 use Rattle.cr_memory.specs.declared.value.Cell.TheVariants as cell
 use Rattle.cr_memory.specs.declared.value.Trap.{Trap}
-use Rattle.cr_memory.specs.declared.value.Trap.TheVariants.{Undefined, Left, NoMemory}
-use Rattle.cr_memory.specs.declared.value.TheConstants.{NULL_OR_END, ENDED, END_COMPARED, SUM_OUTSIDE, UNSET, LITERAL_WRITTEN, CONSTANT_WRITTEN, OTHER_TYPE}
+use Rattle.cr_memory.specs.declared.value.Trap.TheVariants.{Undefined, Left}
+use Rattle.cr_memory.specs.declared.value.TheConstants.{NULL_OR_END, ENDED, END_COMPARED, SUM_OUTSIDE, UNSET, OTHER_TYPE}
 use Rattle.cr_memory.specs.Kind.{is_same}
 use Rattle.cr_memory.specs.Memory.{Memory, Holds, AllHold, IsPointer, has_ended}
-use Rattle.cr_memory.specs.Access.{is_null_or_end, is_literal, is_constant, is_unset, holds_ended, number_of, cell_of, cell_at, shape_at, cells_at, shape_run_at, have_kinds, with_cells, writing, reaching, reach_of, load_of, save_of, put_of, cells_of}
-use Rattle.cr_memory.specs.Pointers.{moved_by, shift_of, difference_of, differ_of, order_of, less_of, equality_by, same_of}
-use Rattle.cr_meaning.specs.World.{Program, World, Binding, then_by, object_for, whole_place}
-use Rattle.cr_meaning.specs.Values.{kinds_in, cells_in, value_in, asked, if_lives, converted, is_null, exactly, computed, signed_by, compares, misfits, if_fits, moved, moved_either, changed, pointing, as_pointer, with_pointers, holding, related, misfit_value, if_both_fit, distance}
-use Rattle.cr_meaning.specs.Work.{Did, plainly, giving, used, fits_whole, at_place, place_of, inner_of, inner, taken_scalar, taken, member_of, followed, stored, assigned, loaded, did_update, updated, is_nothing, both_asked, is_void, logical, conditional, cast, integer, comparison, address, passed}
+use Rattle.cr_memory.specs.Access.{is_null_or_end, is_literal, is_constant, is_unset, holds_ended, number_of, cell_of, cell_at, shape_at, shape_run_at, have_kinds, with_cells, writing, reach_of, load_of, cells_of}
+use Rattle.cr_memory.specs.Pointers.{moved_by, difference_of, differ_of, order_of, less_of, equality_by, same_of}
+use Rattle.cr_meaning.specs.World.{Program, then_by}
+use Rattle.cr_meaning.specs.Values.{kinds_in, cells_in, value_in, asked, converted, is_null, exactly, computed, signed_by, misfits, moved, moved_either, changed, pointing, as_pointer, with_pointers, holding, related, misfit_value, if_both_fit, distance}
+use Rattle.cr_meaning.specs.Work.{plainly, giving, used, at_place, inner_of, taken, followed, stored, assigned, loaded, did_update, updated, is_nothing, is_void, logical, conditional, cast, integer, comparison, address, passed}
 use Rattle.cr_meaning.specs.declared.op.Access.{Access}
 use Rattle.cr_meaning.specs.declared.op.Access.TheVariants as access
 use Rattle.cr_meaning.specs.declared.op.Form.{Form}

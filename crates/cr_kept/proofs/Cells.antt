@@ -1,5 +1,5 @@
 -- Cells that hold values of their kinds: what is read from them, and what a write leaves.
-use Rattle.std.proofs.Common.{◌≡◌, ◌≢◌, ℕ, zero, suc, ◌+◌, ◌-◌, ◌^◌, ◌<◌, ◌≤◌, Bool, true, false, not, is_none, is_some, ◌⊎◌, inl, inr, Option, Some, None, Ok, Err, IfOk, List, [], ◌∷◌, length, map, get_or, set, take, drop, if◌then◌else◌, refl, sym, ap, ◌∙◌, subst, arith, length-set, get_or-set_other, get_or-set_same}
+use Rattle.std.proofs.Common.{◌≡◌, ◌≢◌, ℕ, zero, suc, ◌+◌, ◌^◌, ◌<◌, ◌≤◌, Bool, true, false, not, is_none, is_some, ◌⊎◌, inl, inr, Option, Some, None, Ok, Err, IfOk, List, [], ◌∷◌, length, map, get_or, set, take, drop, if◌then◌else◌, refl, sym, ap, ◌∙◌, subst, arith, length-set, get_or-set_other, get_or-set_same}
 use Rattle.std.specs.List.{list_any}
 use Rattle.std.proofs.lemmas.Bool.{leb-false}
 use Rattle.std.proofs.lemmas.List.{drop_more, length-map}

@@ -1,41 +1,37 @@
 -- Every node of a complete program comes to no other end than a status or a case.
-use Rattle.std.proofs.Common.{◌≡◌, refl, sym, ◌∙◌, ap, subst, arith, inl, inr}
-use Rattle.std.specs.Prelude.{ℕ, zero, suc, ◌+◌, ◌<◌, ◌≤◌, ◌==◌, ◌&&◌, ◌||◌, Bool, true, false, Option, Some, None, Result, Ok, Err, IfOk, List, [], ◌∷◌, ◌++◌, map, length, drop, slice_get, if◌then◌else◌, ◌⊎◌}
+use Rattle.std.proofs.Common.{◌≡◌, refl, sym, ◌∙◌, subst, arith, inl, inr}
+use Rattle.std.specs.Prelude.{ℕ, zero, suc, ◌+◌, ◌<◌, ◌≤◌, ◌==◌, ◌&&◌, ◌||◌, Bool, true, false, Option, Some, None, List, [], ◌∷◌, map, length, drop, slice_get, if◌then◌else◌, ◌⊎◌}
 use Rattle.std.proofs.lemmas.Bool.{eqb-true}
 use Rattle.cr_ints.specs.declared.kind.IntKind.{IntKind}
-use Rattle.cr_memory.specs.declared.value.Pointer.TheVariants.{Null, At}
 use Rattle.cr_memory.specs.declared.value.Scalar.{Scalar}
-use Rattle.cr_memory.specs.declared.value.Trap.{Trap}
-use Rattle.cr_memory.specs.declared.value.Trap.TheVariants.{Undefined, Left}
-use Rattle.cr_memory.specs.Memory.{Memory, IsPointer}
+use Rattle.cr_memory.specs.declared.value.Trap.TheVariants.{Undefined}
+use Rattle.cr_memory.specs.Memory.{Memory}
 use Rattle.cr_meaning.specs.Events.{operands_clash}
 use Rattle.cr_meaning.specs.Language.{went, halts}
 use Rattle.cr_meaning.specs.World.{Program, World, enter_all, static, closed, Answer, part, next, returned, exited}
 use Rattle.cr_meaning.specs.Values.{asked, converted}
-use Rattle.cr_meaning.specs.Work.{Did, work_of, integer, conditional, giving}
-use Rattle.cr_meaning.specs.Turns.{Way, Operand, Enter, Resume, Ready, operand, entering, choose, answer_truth, in_turn, and_next, or_next, conditional_next, body_next, operand_or, program_next, next_by, next_of, last_of, item_at, case_for, resume_at, after_item, absent, goes_on}
-use Rattle.cr_meaning.specs.Nodes.{Act, resulting, value_of, values, events_of, order_of, converted_all, initial, initialised, initials, deeper}
+use Rattle.cr_meaning.specs.Work.{work_of, integer, conditional, giving}
+use Rattle.cr_meaning.specs.Turns.{Way, Operand, Enter, Resume, Ready, operand, choose, answer_truth, in_turn, and_next, or_next, conditional_next, body_next, operand_or, program_next, next_by, last_of, case_for, absent, goes_on}
+use Rattle.cr_meaning.specs.Nodes.{value_of, values, events_of, order_of, converted_all, initial, initials, deeper}
 use Rattle.cr_meaning.specs.Library.{printf_of, putchar_of, exit_of}
 use Rattle.cr_meaning.specs.Meaning.{main_entered, before_by, join_by}
 use Rattle.cr_meaning.specs.declared.op.Op.{Op}
 use Rattle.cr_meaning.specs.declared.op.Line.{Line}
 use Rattle.cr_meaning.specs.declared.op.Form.{Form}
-use Rattle.cr_meaning.specs.declared.op.Form.TheVariants as form
 use Rattle.cr_meaning.specs.declared.op.Parameter.{Parameter}
 use Rattle.cr_meaning.specs.declared.op.Case.{Case}
 use Rattle.cr_meaning.specs.declared.op.Target.{Target}
-use Rattle.cr_meaning.specs.declared.op.Callee.{Callee}
 use Rattle.cr_meaning.specs.declared.op.Callee.TheVariants.{Function, Printf, Putchar, Exit, Abort}
 use Rattle.cr_meaning.specs.declared.op.Work.{Work}
 use Rattle.cr_meaning.specs.declared.op.Work.TheVariants as work
 use Rattle.cr_meaning.specs.declared.value.Value.{Value}
 use Rattle.cr_meaning.specs.declared.value.Value.TheVariants.{Nothing, Number, Pointer as Pointing, Place, Cells}
-use Rattle.cr_kept.specs.Sorts.{Exits, Sort, void, number, pointer, place, cells as CellsSort, chars, statement, Fits, Answers, IsWellFormed}
-use Rattle.cr_kept.specs.Statements.{Has, HasResult, Converts, Initialises, HasCells, IsStatement, AreLines}
-use Rattle.cr_kept.specs.Rules.{AreArguments, IsFunctionCall, Computes, Gives, AreTyped}
+use Rattle.cr_kept.specs.Sorts.{Exits, Sort, number, pointer, place, chars, statement, Fits, Answers, IsWellFormed}
+use Rattle.cr_kept.specs.Statements.{Has, HasResult, Converts, Initialises, IsStatement, AreLines}
+use Rattle.cr_kept.specs.Rules.{AreArguments, IsFunctionCall, Computes, Gives}
 use Rattle.cr_kept.specs.Scopes.{IsPart, IsBound}
 use Rattle.cr_kept.specs.Operands
-use Rattle.cr_kept.specs.Ends.{IsCase, IsEnd}
+use Rattle.cr_kept.specs.Ends.{IsEnd}
 use Rattle.cr_kept.proofs.Cases
 use Rattle.cr_kept.proofs.Taken.{scalar_value, number_value, converted_value, taken_work}
 use Rattle.cr_kept.proofs.Texts.{IsArgument, AreGivenArguments, printf_cased, putchar_cased, exit_cased}

@@ -1,11 +1,13 @@
 -- Declarations and their initialisers (C11 6.7, 6.7.9): what they set are values of the cells' kinds.
-use Rattle.std.proofs.Common.{◌≡◌, refl, sym, ◌∙◌, ap, subst, arith, inl, inr}
-use Rattle.std.specs.Prelude.{ℕ, zero, suc, ◌+◌, ◌≤◌, ◌==◌, pos, Bool, true, false, Option, Some, None, Result, Ok, Err, IfOk, List, [], ◌∷◌, ◌++◌, map, length, take, drop, replicate, get_or, slice_get, if◌then◌else◌, ◌⊎◌}
+use Rattle.std.proofs.Common.{◌≡◌, refl, sym, ◌∙◌, ap, subst, arith}
+use Rattle.std.specs.Prelude.{ℕ, zero, suc, ◌≤◌, ◌==◌, Bool, true, false, Option, Some, None, Result, Ok, Err, IfOk, List, [], ◌∷◌, map, length, take, drop, replicate, get_or, slice_get, if◌then◌else◌}
+use Rattle.std.specs.List.{AllByRecursion}
 use Rattle.std.proofs.lemmas.Bool.{eqb-true}
 use Rattle.std.proofs.lemmas.List.{length-map, take_all}
 use Rattle.cr_ints.specs.declared.kind.IntKind.{IntKind}
 use Rattle.cr_ints.specs.declared.kind.IntKind.TheVariants.{Char as CharKind}
 use Rattle.cr_ints.specs.IntKind.{Represents}
+use Rattle.cr_ints.proofs.Congruence.{convert_of-represents}
 use Rattle.cr_memory.specs.declared.value.Scalar.{Scalar}
 use Rattle.cr_memory.specs.declared.value.Scalar.TheVariants as scalar
 use Rattle.cr_memory.specs.declared.value.Guard.{Guard}
@@ -17,28 +19,27 @@ use Rattle.cr_memory.specs.Memory.{Object, Memory, Holds, AllHold, live_object, 
 use Rattle.cr_memory.specs.Access.{some_object, with_cells}
 use Rattle.cr_memory.specs.Continues.{Continues}
 use Rattle.cr_memory.proofs.Continuing.{continues-refl, continues-onward}
-use Rattle.cr_meaning.specs.Language.{went, halts}
+use Rattle.cr_meaning.specs.Language.{went}
 use Rattle.cr_meaning.specs.World.{Program, World, Binding, bound, mark, object_for, unset_again, untyped, unused_value, Answer, next}
 use Rattle.cr_meaning.specs.Values.{kinds_in, cells_in, converted, cells_of_value}
-use Rattle.cr_meaning.specs.Turns.{Way, in_turn}
-use Rattle.cr_meaning.specs.Nodes.{Act, stops, values, value_of, initial, set_parts, unused_in, initials, with_parts, zeroed, initialised, on_object}
+use Rattle.cr_meaning.specs.Turns.{in_turn}
+use Rattle.cr_meaning.specs.Nodes.{Act, stops, values, value_of, element_of, elements_of, initial, set_parts, unused_in, initials, with_parts, zeroed, initialised, on_object}
 use Rattle.cr_meaning.specs.declared.op.Op.{Op}
 use Rattle.cr_meaning.specs.declared.op.Line.{Line}
 use Rattle.cr_meaning.specs.declared.op.Form.{Form}
 use Rattle.cr_meaning.specs.declared.op.Form.TheVariants as form
-use Rattle.cr_meaning.specs.declared.op.Work.{Work}
 use Rattle.cr_meaning.specs.declared.op.Work.TheVariants as work
 use Rattle.cr_meaning.specs.declared.value.Value.{Value}
-use Rattle.cr_meaning.specs.declared.value.Value.TheVariants.{Nothing, Number, Pointer as Pointing, Place, Cells}
-use Rattle.cr_kept.specs.Sorts.{Exits, Sort, number, pointer, place, cells as CellsSort, chars, statement, sort_of_scalar, sorts_in, AreChars, HoldsChars, Fits, IsSound, IsEntered, AreEntered, Keeps}
-use Rattle.cr_kept.specs.Statements.{Has, Converts, sorts_of, Initialises, HasCells, AreLines}
+use Rattle.cr_meaning.specs.declared.value.Value.TheVariants.{Nothing, Place}
+use Rattle.cr_kept.specs.Sorts.{Exits, Sort, number, place, chars, statement, sort_of_scalar, sorts_in, AreChars, HoldsChars, Fits, IsSound, IsEntered, AreEntered, Keeps}
+use Rattle.cr_kept.specs.Statements.{sorts_of, IsCharacter, Initialises, HasCells, AreLines}
 use Rattle.cr_kept.proofs.Cells.{kinds_of, free, RunHolds, holds_later, Written, written}
 use Rattle.cr_kept.proofs.Later.{is_entered_later, entered_later}
 use Rattle.cr_kept.proofs.Pointers.{ok_then}
 use Rattle.cr_kept.proofs.Works.{converted_holds}
 use Rattle.cr_kept.proofs.Worlds.{new_holds}
 use Rattle.cr_kept.proofs.Expressions.{Went}
-use Rattle.cr_kept.proofs.Given.{FromPart, AreFrom, unfilled, value_fits, Beside, keeps_beside}
+use Rattle.cr_kept.proofs.Given.{AreFrom, unfilled, value_fits, Beside, keeps_beside}
 use Rattle.cr_kept.proofs.Going.{Goes}
 use Rattle.cr_kept.proofs.Loops.{Here, HaveSorts, next_at}
 use Rattle.cr_kept.proofs.Jumps.{by_turn}
@@ -106,28 +107,26 @@ chars_held memory [] (value ∷ held) e h = absurd h
 chars_held memory (own ∷ shape) (value ∷ held) e h =
     (alike memory own.0 (scalar.Int CharKind) value (sym (head_is _ _ _ _ e)) h.0, chars_held memory shape held (tail_is _ _ _ _ e) h.1)
 
-chars_taken : (memory : Memory) (n : ℕ) (held : List Cell) → AllChars memory held → AllChars memory (take n held)
-chars_taken memory zero held h = tt
-chars_taken memory (suc n) [] h = tt
-chars_taken memory (suc n) (value ∷ held) h = (h.0, chars_taken memory n held h.1)
+element_holds : (memory : Memory) (kind : Scalar) (held : Cell) → IsCharacter (sort_of_scalar kind) → Holds memory (scalar.Int CharKind) held → Holds memory kind (element_of kind held)
+element_holds memory (scalar.Int kind) cell.Unset is h = tt
+element_holds memory (scalar.Int kind) (cell.Number value) is h = convert_of-represents value kind
+element_holds memory (scalar.Int kind) (cell.Pointer at) is h = absurd h
+element_holds memory (scalar.Pointer to) held is h = absurd is
 
-taken_few : (n : ℕ) (held : List Cell) → length (take n held) ≤ n
-taken_few zero held = omega arith
-taken_few (suc n) [] = omega arith
-taken_few (suc n) (value ∷ held) = let rest = taken_few n held in omega arith
-
-run_chars : (memory : Memory) (shape : List (Scalar × Guard)) (from n : ℕ) (held : List Cell) → take n (drop from (sorts_in shape)) ≡ replicate n (number CharKind) → AllChars memory held
-    → length held ≤ n → RunHolds memory shape from held
-run_chars memory shape from n [] e h few = tt
-run_chars memory shape from zero (value ∷ held) e h few = let never : ⊥ = omega arith in absurd never
-run_chars memory [] zero (suc n) (value ∷ held) e h few = absurd (cc e)
-run_chars memory [] (suc from) (suc n) (value ∷ held) e h few = absurd (cc e)
-run_chars memory (own ∷ shape) zero (suc n) (value ∷ held) e h few = (
-  alike memory (scalar.Int CharKind) own.0 value (head_is _ _ _ _ e) h.0,
-  run_shift memory own shape zero held (run_chars memory shape zero n held (tail_is _ _ _ _ e) h.1 (omega arith)),
+-- there may be fewer elements than kinds
+elements_hold : (memory : Memory) (shape : List (Scalar × Guard)) (from : ℕ) (kinds : List Scalar) (held : List Cell)
+    → take (length kinds) (drop from (sorts_in shape)) ≡ map sort_of_scalar kinds → AllByRecursion IsCharacter (map sort_of_scalar kinds) → AllChars memory held
+    → RunHolds memory shape from (elements_of kinds held)
+elements_hold memory shape from [] held e are h = tt
+elements_hold memory shape from (kind ∷ kinds) [] e are h = tt
+elements_hold memory [] zero (kind ∷ kinds) (value ∷ held) e are h = absurd (cc e)
+elements_hold memory [] (suc from) (kind ∷ kinds) (value ∷ held) e are h = absurd (cc e)
+elements_hold memory (own ∷ shape) zero (kind ∷ kinds) (value ∷ held) e are h = (
+  alike memory kind own.0 (element_of kind value) (head_is _ _ _ _ e) (element_holds memory kind value are.0 h.0),
+  run_shift memory own shape zero (elements_of kinds held) (elements_hold memory shape zero kinds held (tail_is _ _ _ _ e) are.1 h.1),
 )
-run_chars memory (own ∷ shape) (suc from) (suc n) (value ∷ held) e h few =
-    run_shift memory own shape from (value ∷ held) (run_chars memory shape from (suc n) (value ∷ held) e h few)
+elements_hold memory (own ∷ shape) (suc from) (kind ∷ kinds) (value ∷ held) e are h =
+    run_shift memory own shape from (elements_of (kind ∷ kinds) (value ∷ held)) (elements_hold memory shape from (kind ∷ kinds) (value ∷ held) e are h)
 
 -- ---- what initialisers set
 
@@ -143,16 +142,14 @@ all_set_later p declared old new [] c h = tt
 all_set_later p declared old new (set ∷ rest) c h = (λ shape e. run_later old new shape set.0 set.1 c (h.0 shape e), all_set_later p declared old new rest c h.1)
 
 literal_sets : (p : Program) (declared : ℕ) (memory : Memory) (line : Line) (object : ℕ) (o : Option Object) → live_object memory object ≡ o → IsSound memory → HasCells p declared line
-    → sorts_of p line.form ≡ replicate (cells_in p line.form) (number CharKind) → HoldsChars memory object
-    → IsSet p declared memory (line.cell, take (cells_in p line.form) (some_object o).cells)
-literal_sets p declared memory line object None e sound c g h shape same =
-    let S : List Sort → Type 0 = λ l. take (cells_in p line.form) (drop line.cell l) ≡ replicate (cells_in p line.form) (number CharKind) in
-    run_chars memory shape line.cell (cells_in p line.form) (take (cells_in p line.form) []) (subst S (sym same) (c ∙ g))
-    (chars_taken memory (cells_in p line.form) [] tt) (taken_few (cells_in p line.form) [])
-literal_sets p declared memory line object (Some live) e sound c g h shape same =
-    let S : List Sort → Type 0 = λ l. take (cells_in p line.form) (drop line.cell l) ≡ replicate (cells_in p line.form) (number CharKind) in
-    run_chars memory shape line.cell (cells_in p line.form) (take (cells_in p line.form) live.cells) (subst S (sym same) (c ∙ g))
-    (chars_taken memory (cells_in p line.form) live.cells (chars_held memory live.shape live.cells (h live e) (sound.kinds object live e))) (taken_few (cells_in p line.form) live.cells)
+    → AllByRecursion IsCharacter (sorts_of p line.form) → HoldsChars memory object → IsSet p declared memory (line.cell, elements_of (kinds_in p line.form) (some_object o).cells)
+literal_sets p declared memory line object None e sound c are h shape same =
+    let S : List Sort → Type 0 = λ l. take (cells_in p line.form) (drop line.cell l) ≡ sorts_of p line.form in
+    elements_hold memory shape line.cell (kinds_in p line.form) [] (subst S (sym same) c) are tt
+literal_sets p declared memory line object (Some live) e sound c are h shape same =
+    let S : List Sort → Type 0 = λ l. take (cells_in p line.form) (drop line.cell l) ≡ sorts_of p line.form in
+    elements_hold memory shape line.cell (kinds_in p line.form) live.cells (subst S (sym same) c) are
+    (chars_held memory live.shape live.cells (h live e) (sound.kinds object live e))
 
 nothing_sets : (p : Program) (declared : ℕ) (memory : Memory) (from : ℕ) (result : Form) → IfOk (converted memory result Nothing) (λ new. IsSet p declared memory (from, cells_of_value new))
 nothing_sets p declared memory from form.Void = λ shape e. tt

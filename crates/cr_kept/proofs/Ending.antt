@@ -1,6 +1,6 @@
 -- The work of nodes that have the operands which they take: each end of it is a status or a case.
-use Rattle.std.proofs.Common.{◌≡◌, refl, sym, ◌∙◌, ap, subst, arith, inl, inr}
-use Rattle.std.specs.Prelude.{ℕ, zero, suc, ◌+◌, ◌<◌, ◌≤◌, ◌==◌, nat_le, ◌&&◌, ◌||◌, pos, Bool, true, false, Option, Some, None, Result, Ok, Err, IfOk, List, [], ◌∷◌, ◌++◌, map, length, slice_get, if◌then◌else◌, ◌⊎◌}
+use Rattle.std.proofs.Common.{◌≡◌}
+use Rattle.std.specs.Prelude.{ℕ, zero, suc, nat_le, pos, Bool, true, false, Option, Some, None, Result, Ok, Err, List, [], ◌∷◌, map, length, if◌then◌else◌}
 use Rattle.std.specs.List.{list_any}
 use Rattle.cr_ints.specs.declared.kind.IntKind.TheVariants.{Int as IntegerKind}
 use Rattle.cr_memory.specs.declared.value.Pointer.TheVariants.{At}
@@ -9,24 +9,20 @@ use Rattle.cr_memory.specs.declared.value.Trap.{Trap}
 use Rattle.cr_memory.specs.declared.value.Trap.TheVariants.{Undefined, Left}
 use Rattle.cr_memory.specs.Memory.{Object, Memory, has_room}
 use Rattle.cr_memory.specs.declared.value.Cell.{Cell}
-use Rattle.cr_meaning.specs.Language.{went, halts}
+use Rattle.cr_meaning.specs.Language.{went}
 use Rattle.cr_meaning.specs.Events.{operands_clash, clash}
-use Rattle.cr_meaning.specs.World.{Program, World, Binding, object_for, with_binding, enter_object, enter_all, automatic, static, marked, closed, untyped, unused_value, Answer, part, next, returned, Halt, stopped, exited}
-use Rattle.cr_meaning.specs.Values.{asked, converted, truth_of}
-use Rattle.cr_meaning.specs.Work.{Did, work_of, is_nothing, integer, giving, logical}
-use Rattle.cr_meaning.specs.Turns.{Way, Operand, Enter, Resume, Ready, operand, entering, choose, answer_truth, in_turn, and_next, or_next, conditional_next, body_next, operand_or, next_by, next_of, last_of, item_at, case_for, resume_at, after_item, absent, goes_on}
-use Rattle.cr_meaning.specs.Nodes.{Act, stops, resulting, entering as entering_act, value_of, values, events_of, order_of, all_events, evaluated, unless_clash, expression, after_library, library, call_end, converted_all, arguments, with_argument, enter_parameters, deeper, begun, called, initial, set_parts, unused_in, initials, initialised, on_object}
+use Rattle.cr_meaning.specs.World.{Program, World, object_for, with_binding, enter_object, enter_all, automatic, marked, untyped, unused_value, Answer, next}
+use Rattle.cr_meaning.specs.Values.{asked}
+use Rattle.cr_meaning.specs.Work.{Did, work_of, is_nothing}
+use Rattle.cr_meaning.specs.Nodes.{Act, stops, resulting, entering as entering_act, value_of, values, events_of, order_of, all_events, evaluated, expression, after_library, converted_all, arguments, with_argument, enter_parameters, deeper, begun, called, initial, set_parts, unused_in, initials, initialised, on_object}
 use Rattle.cr_meaning.specs.Library.{Called}
-use Rattle.cr_meaning.specs.Meaning.{stepped, controlled, opened, opened_if, strings_of, main_entered, before_by, join_by}
+use Rattle.cr_meaning.specs.Meaning.{stepped, controlled, opened, opened_if, strings_of, main_entered}
 use Rattle.cr_meaning.specs.declared.op.Op.{Op}
 use Rattle.cr_meaning.specs.declared.op.Line.{Line}
-use Rattle.cr_meaning.specs.declared.op.Form.{Form}
 use Rattle.cr_meaning.specs.declared.op.Parameter.{Parameter}
-use Rattle.cr_meaning.specs.declared.op.Callee.{Callee}
 use Rattle.cr_meaning.specs.declared.op.Work.{Work}
-use Rattle.cr_meaning.specs.declared.op.Work.TheVariants as work
 use Rattle.cr_meaning.specs.declared.value.Value.{Value}
-use Rattle.cr_meaning.specs.declared.value.Value.TheVariants.{Nothing, Number, Pointer as Pointing, Place}
+use Rattle.cr_meaning.specs.declared.value.Value.TheVariants.{Number, Pointer as Pointing}
 use Rattle.cr_kept.specs.Ends.{IsCase, IsEnd}
 use Rattle.cr_kept.proofs.Cases.{Cased}
 use Rattle.cr_kept.proofs.Going.{Safely}

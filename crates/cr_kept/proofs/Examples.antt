@@ -1,8 +1,8 @@
 -- Expressions, statements and a program whose operations are typed, built by hand: the facts fail where a rule asks for something
 -- else.
-use Rattle.std.proofs.Common.{◌≡◌, refl, subst, arith, inl, inr}
-use Rattle.std.specs.Prelude.{ℕ, zero, suc, ◌≤◌, pos, Bool, true, false, Option, Some, None, List, [], ◌∷◌, slice_get}
-use Rattle.cr_ints.specs.declared.kind.IntKind.TheVariants.{Int, Char}
+use Rattle.std.proofs.Common.{◌≡◌, refl, subst, arith, inl}
+use Rattle.std.specs.Prelude.{ℕ, zero, suc, pos, Bool, true, false, Option, Some, None, List, [], ◌∷◌, slice_get}
+use Rattle.cr_ints.specs.declared.kind.IntKind.TheVariants.{Int, Char, UChar}
 use Rattle.cr_memory.specs.declared.value.Scalar.{Scalar}
 use Rattle.cr_memory.specs.declared.value.Scalar.TheVariants as scalar
 use Rattle.cr_memory.specs.declared.value.Guard.{Guard}
@@ -16,9 +16,7 @@ use Rattle.cr_meaning.specs.declared.op.Operator.TheVariants as operator
 use Rattle.cr_meaning.specs.declared.op.Change.TheVariants.{Arithmetic, Move}
 use Rattle.cr_meaning.specs.declared.op.Work.{Work}
 use Rattle.cr_meaning.specs.declared.op.Work.TheVariants as work
-use Rattle.cr_meaning.specs.declared.op.Line.{Line}
-use Rattle.cr_meaning.specs.declared.op.Target.{Target}
-use Rattle.cr_kept.specs.Sorts.{Exits, Sort, number, pointer, place, statement, chars}
+use Rattle.cr_kept.specs.Sorts.{Sort, number, pointer, place, statement, chars}
 use Rattle.cr_kept.specs.Statements.{Has, HasSort, of_function, in_loop, in_block, Initialises, HasCells}
 use Rattle.cr_kept.specs.Rules.{AllFrom, Gives, IsTyped, AreTyped}
 use Rattle.cr_kept.specs.Programs.{IsWellTyped}
@@ -201,7 +199,11 @@ no_part_beyond_the_object e = absurd (cc e)
 
 -- a literal initialises no int
 no_int_by_a_literal : Initialises (program []) (form.Number Int) chars → ⊥
-no_int_by_a_literal e = absurd (cc e)
+no_int_by_a_literal e = absurd e.0
+
+-- but unsigned chars
+unsigned_chars_by_a_literal : Initialises (record (program []) { kinds = λ row. scalar.Int UChar ∷ scalar.Int UChar ∷ [] }) (form.Cells 0) chars
+unsigned_chars_by_a_literal = (tt, (tt, tt))
 
 -- ---- complete programs
 

@@ -1,6 +1,6 @@
 -- An expression's node, once its operands have answered.
-use Rattle.std.proofs.Common.{◌≡◌, refl, sym, ◌∙◌, ap, subst, inl, inr}
-use Rattle.std.specs.Prelude.{ℕ, zero, suc, Bool, true, false, ◌&&◌, ◌||◌, Option, Some, None, Result, Ok, Err, IfOk, List, [], ◌∷◌, ◌++◌, map, length, slice_get, if◌then◌else◌, ◌⊎◌}
+use Rattle.std.proofs.Common.{◌≡◌, refl, sym, subst, inl, inr}
+use Rattle.std.specs.Prelude.{ℕ, Bool, true, false, ◌&&◌, ◌||◌, Option, Some, Result, Ok, Err, IfOk, List, [], ◌∷◌, ◌++◌, map, slice_get, if◌then◌else◌, ◌⊎◌}
 use Rattle.cr_ints.specs.declared.kind.IntKind.TheVariants.{Int as IntegerKind}
 use Rattle.cr_memory.specs.declared.value.Trap.{Trap}
 use Rattle.cr_memory.specs.declared.value.Trap.TheVariants.{Undefined}
@@ -28,7 +28,7 @@ use Rattle.cr_kept.proofs.Lasting.{OnActed}
 use Rattle.cr_kept.proofs.Library.{CallFits, printf_fits, putchar_fits}
 use Rattle.cr_kept.proofs.Later.{entered_later}
 use Rattle.cr_kept.proofs.Works.{Does, alone_fits, one_fits, two_fits, conditional_fits, logical_fits, giving_as}
-use Rattle.cr_kept.proofs.Given.{FromPart, AreFrom, value_fits}
+use Rattle.cr_kept.proofs.Given.{AreFrom, value_fits}
 
 -- what holds of an answer, and nothing is said of an end
 abbrev pub anything : Halt → Type 0

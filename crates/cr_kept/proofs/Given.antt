@@ -1,13 +1,12 @@
 -- The answers of a node's parts, and the worlds in which the node goes on.
-use Rattle.std.proofs.Common.{◌≡◌, refl, sym, ◌∙◌, ap, subst, arith, inl, inr}
-use Rattle.std.specs.Prelude.{ℕ, zero, suc, ◌+◌, ◌≤◌, Bool, true, false, Option, Some, None, List, [], ◌∷◌, ◌++◌, length, replicate, slice_get, ◌⊎◌}
+use Rattle.std.proofs.Common.{◌≡◌, refl, sym, ◌∙◌, subst, arith, inl, inr}
+use Rattle.std.specs.Prelude.{ℕ, zero, suc, ◌+◌, ◌≤◌, Bool, true, false, Option, Some, None, List, [], ◌∷◌, ◌++◌, length, replicate, ◌⊎◌}
 use Rattle.cr_memory.specs.Memory.{Memory}
 use Rattle.cr_memory.specs.Continues.{Continues}
 use Rattle.cr_memory.proofs.Continuing.{continues-onward, continues-refl}
-use Rattle.cr_meaning.specs.World.{Program, World, Binding, bound, mark, object_for, Answer, part, next, broke, continued, jumped, returned}
+use Rattle.cr_meaning.specs.World.{Program, World, Binding, Answer, part, next, returned}
 use Rattle.cr_meaning.specs.Nodes.{value_of}
 use Rattle.cr_meaning.specs.Turns.{absent, last_of}
-use Rattle.cr_meaning.specs.declared.op.Op.{Op}
 use Rattle.cr_meaning.specs.declared.op.Work.{Work}
 use Rattle.cr_meaning.specs.declared.op.Work.TheVariants as work
 use Rattle.cr_kept.specs.Sorts.{Sort, statement, sort_of, Fits, Answers, IsAmong, IsWellFormed, Keeps}

@@ -1,27 +1,21 @@
 -- A typed program's goals: what is known where one is asked, and that each node keeps what the law says, if its ways on do.
-use Rattle.std.proofs.Common.{◌≡◌, refl, sym, ◌∙◌, ap, subst, arith, inl, inr}
-use Rattle.std.specs.Prelude.{ℕ, zero, suc, ◌+◌, ℤ, Bool, true, false, Option, Some, None, List, [], ◌∷◌, ◌++◌, length, slice_get, ◌⊎◌}
+use Rattle.std.proofs.Common.{◌≡◌, sym, subst, arith, inl, inr}
+use Rattle.std.specs.Prelude.{ℕ, suc, ◌+◌, Bool, true, Option, Some, List, [], ◌∷◌, ◌++◌, length, slice_get, ◌⊎◌}
 use Rattle.std.proofs.lemmas.List.{length_push}
-use Rattle.cr_ints.specs.declared.kind.IntKind.{IntKind}
-use Rattle.cr_memory.specs.declared.value.Trap.TheVariants.{Left}
-use Rattle.cr_memory.specs.Memory.{Memory}
 use Rattle.cr_memory.specs.Continues.{Continues}
-use Rattle.cr_memory.proofs.Continuing.{continues-refl}
-use Rattle.cr_meaning.specs.Language.{Acted, went, halts, Reply, gave, ended, Prog, give, act, call}
-use Rattle.cr_meaning.specs.World.{Program, World, Answer, next, returned, Halt, stopped, untyped}
-use Rattle.cr_meaning.specs.Turns.{Way, Operand, Enter, Resume, Ready, next_of}
+use Rattle.cr_meaning.specs.Language.{went, halts, Reply, gave, ended, Prog, give, call}
+use Rattle.cr_meaning.specs.World.{Program, World, Answer, Halt}
+use Rattle.cr_meaning.specs.Turns.{Way, Operand, Enter, Resume, Ready}
 use Rattle.cr_meaning.specs.Nodes.{Act}
-use Rattle.cr_meaning.specs.Meaning.{body, Goal, reach, operands, with_part, on_way, before_by, join_by, at_op, takes_step, stepped, reached_by, reached}
+use Rattle.cr_meaning.specs.Meaning.{Goal, reach, operands, with_part, on_way, before_by, join_by}
 use Rattle.cr_meaning.specs.declared.op.Op.{Op}
 use Rattle.cr_meaning.specs.declared.op.Work.{Work}
-use Rattle.cr_meaning.specs.declared.value.Value.TheVariants.{Number}
 use Rattle.cr_kept.specs.Sorts.{Sort, IsWellFormed, Keeps, IsAmong}
-use Rattle.cr_kept.specs.Rules.{AreTyped}
 use Rattle.cr_kept.specs.Scopes.{IsPart, entered_by, is_open, IsBound, AreBound, AreSeen, AreScoped, IsScopedWhole}
 use Rattle.cr_kept.specs.Programs.{IsWhole, IsStatus}
 use Rattle.cr_kept.proofs.Lasting.{OnActed, Holds}
 use Rattle.cr_kept.proofs.Expressions.{anything, Went}
-use Rattle.cr_kept.proofs.Given.{FromPart, AreGiven, given_later, one_more, At, Beside, at_well, at_onward, at_bound, at_entered, beside_itself}
+use Rattle.cr_kept.proofs.Given.{AreGiven, given_later, one_more, At, at_well, at_onward, at_bound, at_entered}
 
 -- ---- goals
 

@@ -1,16 +1,16 @@
 -- Blocks, `switch`, labels and jumps (C11 6.8.1, 6.8.2, 6.8.4.2, 6.8.6).
-use Rattle.std.proofs.Common.{◌≡◌, refl, sym, ◌∙◌, ap, subst, arith, inl, inr}
-use Rattle.std.specs.Prelude.{ℕ, zero, suc, ◌+◌, ◌≤◌, ◌==◌, Bool, true, false, Option, Some, None, Result, Ok, Err, IfOk, List, [], ◌∷◌, ◌++◌, map, length, drop, replicate, slice_get, if◌then◌else◌, ◌⊎◌}
+use Rattle.std.proofs.Common.{◌≡◌, refl, sym, subst, arith, inl, inr}
+use Rattle.std.specs.Prelude.{ℕ, zero, suc, ◌+◌, ◌≤◌, ◌==◌, Bool, true, false, Option, Some, None, Result, Ok, Err, IfOk, List, [], ◌∷◌, ◌++◌, length, drop, slice_get, if◌then◌else◌, ◌⊎◌}
 use Rattle.std.proofs.lemmas.Bool.{eq-eqb}
 use Rattle.cr_ints.specs.declared.kind.IntKind.{IntKind}
 use Rattle.cr_memory.specs.declared.value.Trap.{Trap}
 use Rattle.cr_memory.specs.Memory.{Memory}
-use Rattle.cr_meaning.specs.Language.{went, halts}
-use Rattle.cr_meaning.specs.World.{Program, World, closed, Answer, part, next, broke, continued, jumped, returned}
+use Rattle.cr_meaning.specs.Language.{went}
+use Rattle.cr_meaning.specs.World.{Program, World, Answer, part, next, broke, jumped, returned}
 use Rattle.cr_meaning.specs.Values.{converted}
-use Rattle.cr_meaning.specs.Work.{is_nothing, is_void, integer}
-use Rattle.cr_meaning.specs.Turns.{Way, Operand, Enter, Resume, Ready, in_turn, last_of, item_at, from_item, resume_at, after_item, block_next, case_for, switch_next}
-use Rattle.cr_meaning.specs.Nodes.{Act, resulting, value_of, last_in}
+use Rattle.cr_meaning.specs.Work.{is_void, integer}
+use Rattle.cr_meaning.specs.Turns.{Way, Operand, Resume, Ready, in_turn, last_of, item_at, from_item, resume_at, after_item, block_next, case_for, switch_next}
+use Rattle.cr_meaning.specs.Nodes.{resulting, value_of}
 use Rattle.cr_meaning.specs.Meaning.{stepped, opened, opened_if, after_switch}
 use Rattle.cr_meaning.specs.declared.op.Op.{Op}
 use Rattle.cr_meaning.specs.declared.op.Case.{Case}
@@ -21,14 +21,14 @@ use Rattle.cr_meaning.specs.declared.op.Work.{Work}
 use Rattle.cr_meaning.specs.declared.op.Work.TheVariants as work
 use Rattle.cr_meaning.specs.declared.value.Value.{Value}
 use Rattle.cr_meaning.specs.declared.value.Value.TheVariants.{Nothing}
-use Rattle.cr_kept.specs.Sorts.{Exits, Sort, statement, IsAmong, Returns, Answers, IsWellFormed, Keeps}
+use Rattle.cr_kept.specs.Sorts.{Exits, Sort, statement, IsAmong, Returns, Answers, Keeps}
 use Rattle.cr_kept.specs.Statements.{Has, HasResult, Converts, labelled_by, in_block, in_switch}
 use Rattle.cr_kept.specs.Rules.{AllFrom}
 use Rattle.cr_kept.specs.Scopes.{IsPart, entered_by}
 use Rattle.cr_kept.proofs.Works.{converted_returns, nothing_fits}
 use Rattle.cr_kept.proofs.Expressions.{Went}
-use Rattle.cr_kept.proofs.Given.{FromPart, IsFiller, IsGiven, AreGiven, all_filled, last_given, value_fits, Beside}
-use Rattle.cr_kept.proofs.Going.{IsNext, Begun, Goes, went_onward}
+use Rattle.cr_kept.proofs.Given.{IsFiller, IsGiven, all_filled, last_given, value_fits, Beside}
+use Rattle.cr_kept.proofs.Going.{Begun, Goes, went_onward}
 use Rattle.cr_kept.proofs.Loops.{Here, HaveSorts, next_at, by_operand, went_resulting, began, kept_here, given_answers, closing, opening}
 
 -- ---- labels

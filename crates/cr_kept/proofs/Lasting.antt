@@ -1,5 +1,5 @@
 -- Facts that last along runs of the language.
-use Rattle.std.proofs.Common.{◌≡◌, subst}
+use Rattle.std.proofs.Common.{subst}
 use Rattle.cr_meaning.specs.Language.{Acted, went, halts, Reply, gave, ended, Prog, give, act, call, Runs, run_give, run_act, run_halt, run_call, run_end}
 
 abbrev pub OnActed : {V W H : Type 0} → (V → W → Type 0) → (H → Type 0) → Acted V W H → Type 0

@@ -1,15 +1,14 @@
 -- Selection and loops (C11 6.8.4.1, 6.8.5), and what all statements share.
-use Rattle.std.proofs.Common.{◌≡◌, refl, sym, ◌∙◌, ap, subst, arith, inl, inr}
-use Rattle.std.specs.Prelude.{ℕ, zero, suc, ◌+◌, Bool, true, false, Option, Some, None, Result, Ok, Err, IfOk, List, [], ◌∷◌, ◌++◌, length, slice_get, if◌then◌else◌, ◌⊎◌}
+use Rattle.std.proofs.Common.{◌≡◌, refl, sym, subst, inl, inr}
+use Rattle.std.specs.Prelude.{ℕ, Bool, true, false, Option, Some, None, Result, Ok, Err, IfOk, List, [], ◌∷◌, length, slice_get, if◌then◌else◌, ◌⊎◌}
 use Rattle.cr_memory.specs.declared.value.Trap.{Trap}
 use Rattle.cr_memory.specs.Memory.{Memory}
-use Rattle.cr_memory.specs.Continues.{Continues}
 use Rattle.cr_memory.proofs.Continuing.{continues-refl}
-use Rattle.cr_meaning.specs.Language.{went, halts}
+use Rattle.cr_meaning.specs.Language.{went}
 use Rattle.cr_meaning.specs.World.{Program, World, Binding, enter_all, automatic, marked, closed, left_by, Answer, part, next, broke, continued, jumped, returned}
 use Rattle.cr_meaning.specs.Values.{asked}
-use Rattle.cr_meaning.specs.Turns.{Way, Operand, Enter, Resume, Ready, operand, entering, choose, in_turn, answer_truth, absent, goes_on, if_next, while_next, do_next, operand_or, for_next, last_of}
-use Rattle.cr_meaning.specs.Nodes.{Act, resulting, entering as entering_act, value_of, last_in}
+use Rattle.cr_meaning.specs.Turns.{Way, Operand, Enter, Resume, Ready, operand, entering, choose, answer_truth, absent, goes_on, if_next, while_next, do_next, operand_or, for_next}
+use Rattle.cr_meaning.specs.Nodes.{Act, resulting, entering as entering_act, value_of}
 use Rattle.cr_meaning.specs.Meaning.{controlled, opened, after_loop}
 use Rattle.cr_meaning.specs.declared.op.Op.{Op}
 use Rattle.cr_meaning.specs.declared.op.Work.{Work}
@@ -17,11 +16,10 @@ use Rattle.cr_meaning.specs.declared.op.Work.TheVariants as work
 use Rattle.cr_kept.specs.Sorts.{Exits, Sort, statement, sort_of, Answers, IsWellFormed, Keeps}
 use Rattle.cr_kept.specs.Statements.{Has, HasSort, in_loop}
 use Rattle.cr_kept.specs.Rules.{IsFor}
-use Rattle.cr_kept.specs.Blocks.{Stands}
 use Rattle.cr_kept.specs.Scopes.{IsPart, entered_by, is_open}
 use Rattle.cr_kept.proofs.Worlds.{EntersAll, all_enter, automatic_made, begins, stands_grown, block_ends, left_fits}
 use Rattle.cr_kept.proofs.Expressions.{Went}
-use Rattle.cr_kept.proofs.Given.{FromPart, IsFiller, IsGiven, AreGiven, Beside, Inside, At, stands_beside}
+use Rattle.cr_kept.proofs.Given.{IsFiller, IsGiven, AreGiven, Beside, Inside, At, stands_beside}
 use Rattle.cr_kept.proofs.Going.{IsNext, Begun, Goes}
 
 -- ---- what statements share

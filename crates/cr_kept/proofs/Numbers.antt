@@ -23,7 +23,6 @@ use Rattle.cr_meaning.specs.declared.op.Operator.{Operator}
 use Rattle.cr_meaning.specs.declared.op.Operator.TheVariants as operator
 use Rattle.cr_meaning.specs.declared.op.Sign.{Sign}
 use Rattle.cr_meaning.specs.declared.op.Sign.TheVariants.{Plus, Minus, Complement}
-use Rattle.cr_meaning.specs.declared.value.Value.{Value}
 use Rattle.cr_kept.specs.Sorts.{number, Fits}
 
 -- ---- ranges

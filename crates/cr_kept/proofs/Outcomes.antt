@@ -1,28 +1,25 @@
 -- Whatever the run of a well-typed and complete program comes to is an outcome.
-use Rattle.std.proofs.Common.{◌≡◌, refl, sym, ◌∙◌, ap, subst, inl, inr}
-use Rattle.std.specs.Prelude.{ℕ, zero, suc, ℤ, Bool, true, Option, Some, None, List, [], ◌∷◌, length, slice_get}
-use Rattle.cr_ints.specs.declared.kind.IntKind.{IntKind}
+use Rattle.std.proofs.Common.{◌≡◌, refl, sym, subst, inl, inr}
+use Rattle.std.specs.Prelude.{ℕ, Bool, Option, Some, List, [], length}
 use Rattle.cr_memory.specs.declared.value.Trap.TheVariants.{Undefined, Left, NoMemory}
-use Rattle.cr_meaning.specs.Language.{Reply, gave, ended, Runs}
+use Rattle.cr_meaning.specs.Language.{Reply, gave, ended}
 use Rattle.cr_meaning.specs.Library.{status_of}
-use Rattle.cr_meaning.specs.World.{Program, World, Answer, returned, Halt, stopped, exited, untyped}
+use Rattle.cr_meaning.specs.World.{Program, World, Answer, Halt, stopped, exited}
 use Rattle.cr_meaning.specs.Turns.{Way, Operand, Enter, Resume, Ready, next_of, next_by}
-use Rattle.cr_meaning.specs.Meaning.{body, Goal, operands, root_of, start_of, ended_with, run_of}
+use Rattle.cr_meaning.specs.Meaning.{operands, root_of, start_of, ended_with, run_of}
 use Rattle.cr_meaning.specs.declared.op.Op.{Op}
 use Rattle.cr_meaning.specs.declared.op.Work.{Work}
-use Rattle.cr_meaning.specs.declared.op.Work.TheVariants as work
-use Rattle.cr_meaning.specs.declared.value.Value.TheVariants.{Number}
 use Rattle.cr_meaning.specs.declared.run.Limits.{Limits}
 use Rattle.cr_meaning.specs.declared.run.Run.{Run}
 use Rattle.cr_meaning.specs.declared.run.Run.TheVariants as run
 use Rattle.cr_kept.specs.Sorts.{Sort}
-use Rattle.cr_kept.specs.Scopes.{entered_by, is_open, IsBound}
+use Rattle.cr_kept.specs.Scopes.{entered_by, is_open}
 use Rattle.cr_kept.specs.Programs.{IsWellTyped}
 use Rattle.cr_kept.specs.Ends.{IsEnd, IsComplete}
 use Rattle.cr_kept.specs.Laws
 use Rattle.cr_kept.proofs.Given.{at_well, at_bound}
 use Rattle.cr_kept.proofs.Going.{Going, Rooted, SafeWay, Finished}
-use Rattle.cr_kept.proofs.Complete.{SafeBy, Site, node_safe, whole_safe}
+use Rattle.cr_kept.proofs.Complete.{SafeBy, node_safe, whole_safe}
 use Rattle.cr_kept.proofs.Running.{Course, replied}
 use Rattle.cr_kept.proofs.Worlds.{start_is_well_formed}
 

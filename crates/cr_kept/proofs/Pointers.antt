@@ -1,5 +1,5 @@
 -- The pointers that operations make are pointers of the memory (C11 6.5.6p8, 6.3.2.1p3, 6.5.2.3).
-use Rattle.std.proofs.Common.{◌≡◌, ℕ, suc, ◌+◌, ◌-◌, ◌*◌, ◌%◌, ◌≤◌, ◌==◌, nat_le, Bool, true, false, not, ◌&&◌, ℤ, pos, negsuc, ◌+ℤ◌, ◌*ℤ◌, Option, Some, Result, Ok, Err, IfOk, length, if◌then◌else◌, refl, sym, ap, ◌∙◌, subst, arith}
+use Rattle.std.proofs.Common.{◌≡◌, ℕ, suc, ◌+◌, ◌-◌, ◌*◌, ◌%◌, ◌≤◌, ◌==◌, nat_le, Bool, true, false, not, ◌&&◌, ℤ, pos, negsuc, ◌+ℤ◌, ◌*ℤ◌, Some, Result, Ok, Err, IfOk, length, if◌then◌else◌, refl, sym, ap, ◌∙◌, subst, arith}
 use Rattle.std.specs.Prelude.{int_le, unsigned_abs}
 use Rattle.std.proofs.Math.Nat.{add-mul-mod_self_right, mod_self}
 use Rattle.std.proofs.lemmas.Bool.{leb-true, leb-false, eqb-true}
@@ -12,7 +12,7 @@ use Rattle.cr_memory.specs.declared.value.Guard.{Guard}
 use Rattle.cr_memory.specs.declared.value.Trap.{Trap}
 use Rattle.cr_memory.specs.declared.value.Trap.TheVariants.{Undefined, Left}
 use Rattle.cr_memory.specs.declared.value.TheConstants.{ENDED, SUM_OUTSIDE}
-use Rattle.cr_memory.specs.Memory.{Object, Memory, IsArrayPlace, IsPointer, live_object, has_ended}
+use Rattle.cr_memory.specs.Memory.{Object, Memory, IsArrayPlace, IsPointer, has_ended}
 use Rattle.cr_memory.specs.Access.{HasStride, reaching, is_null_or_end}
 use Rattle.cr_memory.specs.Pointers.{moved_by}
 use Rattle.cr_memory.proofs.Continuing.{part-pointed, whole-pointed}
@@ -21,7 +21,7 @@ use Rattle.cr_meaning.specs.Values.{misfits, if_fits, moved, moved_either}
 use Rattle.cr_meaning.specs.Work.{first_element, inner, inner_of}
 use Rattle.cr_meaning.specs.declared.value.Value.{Value}
 use Rattle.cr_meaning.specs.declared.value.Value.TheVariants.{Nothing, Number, Pointer as Pointing, Place}
-use Rattle.cr_kept.specs.Sorts.{Sort, pointer, cells, chars, Fits, sort_of_scalar, sorts_in, AreChars, IsEntered, IsSound}
+use Rattle.cr_kept.specs.Sorts.{Sort, pointer, chars, Fits, sort_of_scalar, sorts_in, AreChars, IsEntered, IsSound}
 use Rattle.cr_kept.specs.Rules.{IsWithin}
 use Rattle.cr_kept.proofs.Cells.{as_many, kinds_of}
 use Rattle.cr_kept.proofs.Later.{chars_as}

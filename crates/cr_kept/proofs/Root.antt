@@ -1,6 +1,6 @@
 -- The whole program (C11 5.1.2, 5.1.2.2.1): its objects are entered, their initialisers evaluated, and main's body gives a status.
-use Rattle.std.proofs.Common.{◌≡◌, ◌≢◌, refl, sym, ◌∙◌, ap, subst, arith, inl, inr}
-use Rattle.std.specs.Prelude.{ℕ, zero, suc, ◌+◌, ◌<◌, ◌≤◌, ◌==◌, pos, Bool, true, false, Option, Some, None, IfSome, Result, Ok, Err, IfOk, List, [], ◌∷◌, ◌++◌, map, length, get_or, slice_get, if◌then◌else◌, ◌⊎◌}
+use Rattle.std.proofs.Common.{◌≡◌, refl, sym, ◌∙◌, subst, arith, inl, inr}
+use Rattle.std.specs.Prelude.{ℕ, zero, suc, ◌+◌, ◌==◌, pos, Bool, true, false, Option, Some, None, IfSome, Result, Ok, Err, IfOk, List, [], ◌∷◌, length, slice_get, if◌then◌else◌, ◌⊎◌}
 use Rattle.std.proofs.lemmas.Bool.{eqb-true}
 use Rattle.std.proofs.lemmas.List.{get_or_push}
 use Rattle.cr_ints.specs.declared.kind.IntKind.TheVariants.{Int as IntegerKind}
@@ -9,39 +9,37 @@ use Rattle.cr_memory.specs.declared.value.Scalar.TheVariants as scalar
 use Rattle.cr_memory.specs.declared.value.Guard.{Guard}
 use Rattle.cr_memory.specs.declared.value.Cell.{Cell}
 use Rattle.cr_memory.specs.declared.value.Cell.TheVariants as cell
-use Rattle.cr_memory.specs.declared.value.Pointer.TheVariants.{Null, At}
+use Rattle.cr_memory.specs.declared.value.Pointer.TheVariants.{At}
 use Rattle.cr_memory.specs.declared.value.Trap.{Trap}
 use Rattle.cr_memory.specs.declared.value.Trap.TheVariants.{Left}
 use Rattle.cr_memory.specs.Memory.{Object, Memory, AllHold, IsPointer, has_room, with_object}
 use Rattle.cr_memory.specs.Continues.{Continues}
 use Rattle.cr_memory.proofs.Continuing.{continues-refl, whole-pointed}
-use Rattle.cr_meaning.specs.Language.{went, halts, Reply, gave, ended, give, call}
-use Rattle.cr_meaning.specs.World.{Program, World, Binding, with_binding, enter_object, enter_all, static, literal_or, Answer, part, next, broke, continued, jumped, returned, Halt}
-use Rattle.cr_meaning.specs.Turns.{Way, Operand, Enter, Resume, Ready, in_turn, body_next, program_next, next_by, next_of, last_of}
-use Rattle.cr_meaning.specs.Nodes.{Act, entering, enter_parameters, deeper, last_in}
-use Rattle.cr_meaning.specs.Meaning.{Goal, reach, operands, with_part, on_way, before_by, join_by, strings_of, main_entered, program_end}
+use Rattle.cr_meaning.specs.Language.{give, call}
+use Rattle.cr_meaning.specs.World.{Program, World, Binding, with_binding, enter_object, enter_all, static, literal_or, Answer, returned, Halt}
+use Rattle.cr_meaning.specs.Turns.{Way, Operand, Enter, Resume, Ready, in_turn, program_next, next_by, next_of, last_of}
+use Rattle.cr_meaning.specs.Nodes.{enter_parameters, deeper}
+use Rattle.cr_meaning.specs.Meaning.{operands, with_part, on_way, before_by, join_by, strings_of, main_entered, program_end}
 use Rattle.cr_meaning.specs.declared.op.Op.{Op}
-use Rattle.cr_meaning.specs.declared.op.Form.{Form}
 use Rattle.cr_meaning.specs.declared.op.Form.TheVariants as form
 use Rattle.cr_meaning.specs.declared.op.Parameter.{Parameter}
 use Rattle.cr_meaning.specs.declared.op.Work.{Work}
 use Rattle.cr_meaning.specs.declared.op.Work.TheVariants as work
 use Rattle.cr_meaning.specs.declared.value.Value.{Value}
 use Rattle.cr_meaning.specs.declared.value.Value.TheVariants.{Nothing, Number, Pointer as Pointing}
-use Rattle.cr_kept.specs.Sorts.{Sort, number as NumberSort, pointer as PointerSort, statement, sorts_in, Returns, Answers, IsAmong, IsWellFormed, Keeps}
+use Rattle.cr_kept.specs.Sorts.{Sort, pointer as PointerSort, statement, sorts_in, Returns, Answers, IsAmong, IsWellFormed}
 use Rattle.cr_kept.specs.Statements.{of_function}
-use Rattle.cr_kept.specs.Scopes.{IsPart, IsArgumentOrBody, nodes_of, IsBound, AreBound, AreSeen, IsScopedWhole}
+use Rattle.cr_kept.specs.Scopes.{IsPart, nodes_of, IsBound, AreBound, AreSeen, IsScopedWhole}
 use Rattle.cr_kept.specs.Programs.{nothing_entered, IsLiteral, IsPointerKind, AreMainParameters, IsWhole, IsStatus}
 use Rattle.cr_kept.proofs.Cells.{kinds_of, all_hold_later}
 use Rattle.cr_kept.proofs.Numbers.{zero_or_one}
-use Rattle.cr_kept.proofs.Worlds.{Grows, Enters, EntersAll, grows_refl, grows_onward, object_enters, entered_then, ok_map, IsMade, all_enter, new_holds}
-use Rattle.cr_kept.proofs.Lasting.{OnActed}
-use Rattle.cr_kept.proofs.Expressions.{anything, Went}
-use Rattle.cr_kept.proofs.Given.{FromPart, IsGiven, AreGiven, given_later, one_more, last_given}
-use Rattle.cr_kept.proofs.Going.{Reached, Rooted, Finished, HoldsBy, Safely, SafeWay, IsNext, acted_by}
+use Rattle.cr_kept.proofs.Worlds.{Enters, EntersAll, grows_refl, grows_onward, object_enters, entered_then, ok_map, IsMade, all_enter, new_holds}
+use Rattle.cr_kept.proofs.Expressions.{Went}
+use Rattle.cr_kept.proofs.Given.{IsGiven, AreGiven, given_later, one_more, last_given}
+use Rattle.cr_kept.proofs.Going.{Rooted, Finished, HoldsBy, SafeWay, IsNext, acted_by}
 use Rattle.cr_kept.proofs.Loops.{by_operand, given_answers, next_at, went_entering}
 use Rattle.cr_kept.proofs.Declared.{hold_in_shape}
-use Rattle.cr_kept.proofs.Calls.{AreHeld, parameters_enter, begins_deeper}
+use Rattle.cr_kept.proofs.Calls.{parameters_enter, begins_deeper}
 
 -- ---- objects of static duration
 

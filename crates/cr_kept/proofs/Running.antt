@@ -1,11 +1,11 @@
 -- Every node of a typed program keeps what the law says, and so does the whole program.
-use Rattle.std.proofs.Common.{◌≡◌, refl, sym, ◌∙◌, ap, subst, inl, inr}
+use Rattle.std.proofs.Common.{◌≡◌, refl, sym, subst, inl, inr}
 use Rattle.std.specs.Prelude.{ℕ, zero, suc, ◌≤◌, Bool, true, false, Option, Some, None, List, [], ◌∷◌, length, slice_get, ◌⊎◌}
 use Rattle.cr_memory.specs.declared.value.Trap.TheVariants.{Left}
 use Rattle.cr_memory.proofs.Continuing.{continues-refl}
-use Rattle.cr_meaning.specs.Language.{went, halts, Reply, gave, ended, Prog, give, act, call, Runs}
+use Rattle.cr_meaning.specs.Language.{went, halts, Reply, gave, give, call, Runs}
 use Rattle.cr_meaning.specs.World.{Program, World, Answer, next, broke, continued, jumped, Halt, stopped, untyped}
-use Rattle.cr_meaning.specs.Turns.{Way, Operand, Enter, Resume, Ready, in_turn, and_next, or_next, conditional_next, next_by, next_of, choose, answer_truth, operand}
+use Rattle.cr_meaning.specs.Turns.{Way, Operand, Enter, Resume, Ready, in_turn, and_next, or_next, conditional_next, next_by, next_of, answer_truth}
 use Rattle.cr_meaning.specs.Nodes.{Act, expression}
 use Rattle.cr_meaning.specs.Meaning.{body, Goal, reach, operands, at_op, takes_step, stepped, reached_by, reached, before_by, join_by, root_of, start_of}
 use Rattle.cr_meaning.specs.declared.op.Op.{Op}
@@ -13,16 +13,15 @@ use Rattle.cr_meaning.specs.declared.op.Callee.TheVariants.{Function}
 use Rattle.cr_meaning.specs.declared.op.Form.{Form}
 use Rattle.cr_meaning.specs.declared.op.Work.{Work}
 use Rattle.cr_meaning.specs.declared.op.Work.TheVariants as work
-use Rattle.cr_kept.specs.Sorts.{Exits, Sort, statement, IsAmong, IsWellFormed, Keeps}
+use Rattle.cr_kept.specs.Sorts.{Exits, Sort, statement, IsAmong, Keeps}
 use Rattle.cr_kept.specs.Statements.{Has, HasResult, Converts, IsStatement, in_loop, in_block, in_switch, AreLines}
 use Rattle.cr_kept.specs.Rules.{AllFrom, IsFor, Computes, IsValue, Gives, AreTyped}
 use Rattle.cr_kept.specs.Scopes.{IsPart, entered_by, is_open, AreScoped}
-use Rattle.cr_kept.specs.Programs.{IsWellTyped}
 use Rattle.cr_kept.specs.Laws
-use Rattle.cr_kept.proofs.Lasting.{OnActed, Holds, held}
+use Rattle.cr_kept.proofs.Lasting.{OnActed, held}
 use Rattle.cr_kept.proofs.Expressions.{anything, Went, IsPlain, chosen, worked, kept_expression, kept_library_call}
 use Rattle.cr_kept.proofs.Given.{IsFiller, AreGiven, unfilled, At, Beside, keeps_beside}
-use Rattle.cr_kept.proofs.Going.{Reached, Going, Rooted, Pre, Replied, Finished, Onward, Post, HoldsBy, Goes, Safely, SafeWay, Known, way_holds, went_onward}
+use Rattle.cr_kept.proofs.Going.{Reached, Going, Rooted, Pre, Replied, Finished, Onward, Post, HoldsBy, Goes, Safely, SafeWay, way_holds, went_onward}
 use Rattle.cr_kept.proofs.Loops.{Here, HaveSorts, next_at, by_operand, by_choice, kept_here, if_goes, while_goes, do_goes, for_goes}
 use Rattle.cr_kept.proofs.Jumps.{by_turn, block_goes, switch_goes, labelled_goes, return_goes}
 use Rattle.cr_kept.proofs.Declared.{declare_goes, initialise_goes}

@@ -1,39 +1,34 @@
 -- An expression's node whose operands have the sorts that it takes comes to a value or to a case.
-use Rattle.std.proofs.Common.{◌≡◌, refl, sym, ◌∙◌, subst, arith, inl, inr}
-use Rattle.std.specs.Prelude.{ℕ, zero, suc, ◌+◌, ◌≤◌, ◌&&◌, ◌||◌, pos, Bool, true, false, Option, Some, None, Result, Ok, Err, IfOk, List, [], ◌∷◌, length, take, drop, slice_get, ◌⊎◌}
+use Rattle.std.proofs.Common.{◌≡◌, ◌∙◌, subst, arith, inl, inr}
+use Rattle.std.specs.Prelude.{ℕ, ◌&&◌, ◌||◌, pos, Bool, true, false, Option, Some, None, Result, List, [], ◌∷◌, length, take, drop, slice_get, ◌⊎◌}
 use Rattle.cr_ints.specs.declared.kind.IntKind.TheVariants.{Int as IntegerKind}
-use Rattle.cr_ints.specs.Conversions.{convert_of}
 use Rattle.cr_memory.specs.declared.value.Pointer.{Pointer}
-use Rattle.cr_memory.specs.declared.value.Pointer.TheVariants.{Null, At}
 use Rattle.cr_memory.specs.declared.value.Scalar.{Scalar}
 use Rattle.cr_memory.specs.declared.value.Trap.{Trap}
-use Rattle.cr_memory.specs.declared.value.Trap.TheVariants.{Undefined, Left}
-use Rattle.cr_memory.specs.declared.value.TheConstants.{ENDED}
+use Rattle.cr_memory.specs.declared.value.Trap.TheVariants.{Undefined}
 use Rattle.cr_memory.specs.Memory.{Memory, IsPointer, AllHold, has_ended}
-use Rattle.cr_meaning.specs.World.{Program, World, Binding, object_for, whole_place, Answer}
-use Rattle.cr_meaning.specs.Values.{kinds_in, converted, signed_by, compares, holding, related, distance, moved_either}
-use Rattle.cr_meaning.specs.Work.{Did, place_of, taken, member_of, integer, address, inner_of, work_of, by_count}
+use Rattle.cr_meaning.specs.World.{Program, World, object_for, Answer}
+use Rattle.cr_meaning.specs.Values.{signed_by, related, distance}
+use Rattle.cr_meaning.specs.Work.{Did, place_of, taken, member_of, integer, address, inner_of, work_of}
 use Rattle.cr_meaning.specs.Nodes.{value_of, values}
 use Rattle.cr_meaning.specs.declared.op.Op.{Op}
 use Rattle.cr_meaning.specs.declared.op.Form.{Form}
 use Rattle.cr_meaning.specs.declared.op.Form.TheVariants as form
 use Rattle.cr_meaning.specs.declared.op.Access.{Access}
-use Rattle.cr_meaning.specs.declared.op.Change.{Change}
 use Rattle.cr_meaning.specs.declared.op.Change.TheVariants.{Arithmetic, Move}
 use Rattle.cr_meaning.specs.declared.op.Work.{Work}
 use Rattle.cr_meaning.specs.declared.op.Work.TheVariants as work
 use Rattle.cr_meaning.specs.declared.value.Value.{Value}
 use Rattle.cr_meaning.specs.declared.value.Value.TheVariants.{Nothing, Number, Pointer as Pointing, Place, Cells}
-use Rattle.cr_kept.specs.Sorts.{Sort, void, number, pointer, place, cells, chars, statement, Fits, IsSound, IsWellFormed}
+use Rattle.cr_kept.specs.Sorts.{Sort, number, pointer, place, cells, Fits, IsWellFormed}
 use Rattle.cr_kept.specs.Statements.{Has, Converts}
 use Rattle.cr_kept.specs.Rules.{Casts, HasMember, Computes}
 use Rattle.cr_kept.specs.Scopes.{IsBound}
-use Rattle.cr_kept.specs.Operands.{IsNumber, IsPointerSort, IsScalar, IsPlaceSort, IsStructure, IsConverted, IsChanged, IsObjectForm, Takes, TakesBoth, TakesChange, Demands}
-use Rattle.cr_kept.specs.Ends.{IsCase}
+use Rattle.cr_kept.specs.Operands.{IsNumber, IsPointerSort, IsScalar, IsPlaceSort, IsStructure, IsConverted, IsObjectForm, Takes, TakesBoth, TakesChange, Demands}
 use Rattle.cr_kept.proofs.Cells.{hold_taken, hold_dropped}
 use Rattle.cr_kept.proofs.Works.{placed}
 use Rattle.cr_kept.proofs.Expressions.{IsPlain}
-use Rattle.cr_kept.proofs.Given.{FromPart, AreFrom, value_fits}
+use Rattle.cr_kept.proofs.Given.{AreFrom, value_fits}
 use Rattle.cr_kept.proofs.Cases
 
 -- ---- the values of sorts

@@ -1,10 +1,9 @@
 -- Calls of the library on arguments that they take come to a value or to a case (C11 7.21.6.1, 7.21.7.8, 7.22.4.4).
-use Rattle.std.proofs.Common.{◌≡◌, refl, sym, ◌∙◌, subst, arith}
-use Rattle.std.specs.Prelude.{ℕ, zero, suc, ◌+◌, ◌-◌, ◌<◌, ◌≤◌, ◌%◌, ◌==◌, nat_le, ℤ, pos, Bool, true, false, not, Option, Some, None, Result, Ok, Err, IfOk, List, [], ◌∷◌, ◌++◌, length, if◌then◌else◌}
+use Rattle.std.proofs.Common.{◌≡◌, refl, sym, subst, arith}
+use Rattle.std.specs.Prelude.{ℕ, zero, suc, ◌+◌, ◌-◌, ◌≤◌, ◌%◌, ◌==◌, nat_le, pos, Bool, true, false, not, Option, Some, None, Result, Ok, Err, IfOk, List, [], ◌∷◌, length, if◌then◌else◌}
 use Rattle.std.specs.List.{list_any, zip}
 use Rattle.std.proofs.lemmas.Bool.{leb-false}
 use Rattle.cr_ints.specs.declared.kind.IntKind.TheVariants.{Int as IntegerKind, Char}
-use Rattle.cr_ints.specs.Conversions.{convert_of}
 use Rattle.cr_library.specs.declared.piece.Piece.{Piece}
 use Rattle.cr_library.specs.declared.piece.Piece.TheVariants.{Bytes, Text}
 use Rattle.cr_library.specs.Argument.{wanted_of, agrees}
@@ -19,14 +18,13 @@ use Rattle.cr_memory.specs.declared.value.TheConstants.{NULL_OR_END, ENDED, UNSE
 use Rattle.cr_memory.specs.Kind.{is_same}
 use Rattle.cr_memory.specs.Memory.{Memory, IsPointer, Holds, has_ended}
 use Rattle.cr_memory.specs.Access.{is_null_or_end, is_unset, holds_ended, cell_at, shape_at, load_of, HasStride}
-use Rattle.cr_meaning.specs.World.{Program, World, then_by}
+use Rattle.cr_meaning.specs.World.{Program, World}
 use Rattle.cr_meaning.specs.Values.{misfits, as_pointer}
 use Rattle.cr_meaning.specs.Work.{is_nothing, integer}
-use Rattle.cr_meaning.specs.Library.{Called, byte_of, following, text_after, text_by, room_from, text_at, promoted, text_shown, integer_shown, piece_shown, joined_to, printed, put_out, formatted, pieces_of, printf_of, putchar_of, exit_of, status_of}
+use Rattle.cr_meaning.specs.Library.{byte_of, following, text_after, text_by, room_from, text_at, promoted, text_shown, integer_shown, piece_shown, joined_to, printed, put_out, formatted, pieces_of, printf_of, putchar_of, exit_of}
 use Rattle.cr_meaning.specs.declared.value.Value.{Value}
-use Rattle.cr_meaning.specs.declared.value.Value.TheVariants.{Nothing, Number, Pointer as Pointing, Place, Cells}
+use Rattle.cr_meaning.specs.declared.value.Value.TheVariants.{Nothing, Number, Pointer as Pointing}
 use Rattle.cr_kept.specs.Sorts.{IsSound}
-use Rattle.cr_kept.specs.Ends.{IsCase}
 use Rattle.cr_kept.proofs.Cells.{loaded_holds}
 use Rattle.cr_kept.proofs.Pointers.{fitting}
 use Rattle.cr_kept.proofs.Cases.{Cased, cased_then, cased_all, cased_if, cased_either, IsNumberValue, IsScalarValue, integer_cased, as_pointer_cased, load_cased}

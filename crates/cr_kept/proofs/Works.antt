@@ -39,7 +39,7 @@ use Rattle.cr_meaning.specs.declared.op.Work.{Work}
 use Rattle.cr_meaning.specs.declared.op.Work.TheVariants as work
 use Rattle.cr_meaning.specs.declared.value.Value.{Value}
 use Rattle.cr_meaning.specs.declared.value.Value.TheVariants.{Nothing, Number, Pointer as Pointing, Place, Cells}
-use Rattle.cr_kept.specs.Sorts.{Sort, void, number, pointer, place, cells, chars, sort_of_scalar, sort_of, sorts_in, Returns, AreChars, HoldsChars, Fits, IsEntered, AreEntered, IsSound, IsWellFormed}
+use Rattle.cr_kept.specs.Sorts.{Sort, void, number, pointer, place, cells, chars, sort_of_scalar, sort_of, Returns, Fits, IsEntered, AreEntered, IsSound, IsWellFormed}
 use Rattle.cr_kept.specs.Statements.{Has, Converts}
 use Rattle.cr_kept.specs.Rules.{Uses, GivesObject, Casts, Passes, HasMember, changed_sort, Computes}
 use Rattle.cr_kept.proofs.Cells.{all_hold_later, hold_taken, hold_dropped, Written, some_there, loaded_holds, read_hold, saved, put}

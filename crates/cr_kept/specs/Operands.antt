@@ -12,7 +12,7 @@ use Rattle.cr_meaning.specs.declared.op.Change.{Change}
 use Rattle.cr_meaning.specs.declared.op.Change.TheVariants.{Arithmetic, Move}
 use Rattle.cr_meaning.specs.declared.op.Work.{Work}
 use Rattle.cr_meaning.specs.declared.op.Work.TheVariants as work
-use Rattle.cr_kept.specs.Sorts.{Sort, void, number, pointer, place, cells, chars, statement}
+use Rattle.cr_kept.specs.Sorts.{Sort, number, pointer, place, cells, chars}
 use Rattle.cr_kept.specs.Statements.{Has}
 
 -- ---- sorts of operands

@@ -4,14 +4,12 @@ use Rattle.cr_ints.specs.declared.kind.IntKind.{IntKind}
 use Rattle.cr_ints.specs.declared.kind.IntKind.TheVariants.{Int as IntegerKind}
 use Rattle.cr_memory.specs.declared.value.Scalar.{Scalar}
 use Rattle.cr_memory.specs.declared.value.Scalar.TheVariants as scalar
-use Rattle.cr_memory.specs.declared.value.Cell.{Cell}
 use Rattle.cr_memory.specs.Memory.{Memory, AllHold}
 use Rattle.cr_meaning.specs.World.{Program, Answer, returned}
 use Rattle.cr_meaning.specs.Meaning.{root_of}
 use Rattle.cr_meaning.specs.declared.op.Op.{Op}
 use Rattle.cr_meaning.specs.declared.op.Form.TheVariants as form
 use Rattle.cr_meaning.specs.declared.op.Parameter.{Parameter}
-use Rattle.cr_meaning.specs.declared.op.Work.{Work}
 use Rattle.cr_meaning.specs.declared.op.Work.TheVariants as work
 use Rattle.cr_meaning.specs.declared.value.Value.TheVariants.{Number}
 use Rattle.cr_kept.specs.Sorts.{Sort, number, pointer, statement, sorts_in, IsAmong}

@@ -17,7 +17,7 @@ use Rattle.cr_meaning.specs.declared.op.Change.{Change}
 use Rattle.cr_meaning.specs.declared.op.Change.TheVariants.{Arithmetic, Move}
 use Rattle.cr_meaning.specs.declared.op.Work.{Work}
 use Rattle.cr_meaning.specs.declared.op.Work.TheVariants as work
-use Rattle.cr_kept.specs.Sorts.{Exits, Sort, void, number, pointer, place, cells, chars, statement, sort_of_scalar, sort_of, sorts_in, AreChars, IsAmong}
+use Rattle.cr_kept.specs.Sorts.{Exits, Sort, number, pointer, place, cells, chars, statement, sort_of_scalar, sort_of, sorts_in, AreChars, IsAmong}
 use Rattle.cr_kept.specs.Statements.{Has, HasSort, MayHaveSort, of_function, in_loop, in_block, in_switch, IsStatement, HasResult, Converts, sorts_of, AreLines}
 
 -- ---- expressions

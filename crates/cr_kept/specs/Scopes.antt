@@ -1,5 +1,5 @@
 -- Which part of a node gives which of its answers, and which objects the node enters for its parts (C11 6.2.1, 6.2.4p6).
-use Rattle.std.specs.Prelude.{◌≡◌, ℕ, zero, suc, Bool, true, false, Option, Some, List, [], ◌∷◌, ◌++◌, map, length, drop, slice_get, ◌⊎◌}
+use Rattle.std.specs.Prelude.{◌≡◌, ℕ, zero, suc, Bool, true, false, Option, Some, List, [], ◌∷◌, map, length, drop, slice_get, ◌⊎◌}
 use Rattle.cr_meaning.specs.World.{Program, Binding, object_for}
 use Rattle.cr_meaning.specs.declared.op.Op.{Op}
 use Rattle.cr_meaning.specs.declared.op.Parameter.{Parameter}

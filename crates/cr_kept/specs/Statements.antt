@@ -1,6 +1,7 @@
 -- Where statements stand, and what initialisers set (C11 6.7.9, 6.8).
-use Rattle.std.specs.Prelude.{◌≡◌, ℕ, suc, Bool, true, false, Option, Some, IfSome, List, [], ◌∷◌, ◌++◌, map, length, replicate, take, drop, slice_get}
-use Rattle.cr_ints.specs.declared.kind.IntKind.TheVariants.{Char as CharKind}
+use Rattle.std.specs.Prelude.{◌≡◌, ℕ, suc, true, false, Option, Some, List, [], ◌∷◌, ◌++◌, map, take, drop, slice_get}
+use Rattle.std.specs.List.{AllByRecursion}
+use Rattle.cr_ints.specs.declared.kind.IntKind.TheVariants.{Char as CharKind, SChar as SCharKind, UChar as UCharKind}
 use Rattle.cr_meaning.specs.World.{Program}
 use Rattle.cr_meaning.specs.Values.{kinds_in, cells_in}
 use Rattle.cr_meaning.specs.declared.op.Op.{Op}
@@ -69,9 +70,16 @@ Converts p other sort = Unit {0}
 abbrev pub sorts_of : Program → Form → List Sort
 sorts_of p form = map sort_of_scalar (kinds_in p form)
 
--- a literal initialises an array of char (6.7.9p14), and any other value is converted as if by assignment (6.7.9p11, p13)
+-- the sort of a character type (6.2.5p15)
+abbrev pub IsCharacter : Sort → Type 0
+IsCharacter (number CharKind) = Unit {0}
+IsCharacter (number SCharKind) = Unit {0}
+IsCharacter (number UCharKind) = Unit {0}
+IsCharacter sort = ⊥
+
+-- a literal initialises an array of a character type (6.7.9p14), and any other value is converted as if by assignment (6.7.9p11, p13)
 abbrev pub Initialises : Program → Form → Sort → Type 0
-Initialises p form chars = sorts_of p form ≡ replicate (cells_in p form) (number CharKind)
+Initialises p form chars = AllByRecursion IsCharacter (sorts_of p form)
 Initialises p form (place count) = ⊥
 Initialises p form sort = Converts p form sort
 

@@ -1,5 +1,5 @@
 -- What is built, of settings that are alike, and what can be run.
-use Rattle.std.proofs.Common.{◌≡◌, ◌<◌, ◌≤◌, ℕ, true, List, Option, min, unwrap_or, subst, sym, ◌∙◌, arith}
+use Rattle.std.proofs.Common.{◌≡◌, ◌<◌, ◌≤◌, ℕ, List, Option, min, unwrap_or, sym, ◌∙◌, arith}
 use Rattle.cr_words.specs.Laws.{SameSettings}
 use Rattle.cr_words.specs.declared.settings.Settings.{Settings}
 use Rattle.cr_words.specs.Names.{IsSource}
@@ -9,13 +9,10 @@ use Rattle.cr_words.specs.Words.{Word}
 use Rattle.cr_words.specs.declared.source.Source.{Source}
 use Rattle.cr_words.specs.declared.source.Source.TheVariants as source
 use Rattle.cr_main.specs.Task.{IsMakeable, IsRunnable}
-use Rattle.cr_main.specs.Words.{HasSettings, IsBuilt, are_built}
+use Rattle.cr_main.specs.Words.{HasSettings, IsBuilt}
 
 pub same_built : (a b : Settings) → SameSettings a b → IsBuilt a → IsBuilt b
-same_built a b same built = record {
-  steps = sym same.steps ∙ built.steps;
-  enabled = subst (λ enabled. are_built enabled ≡ true) same.enabled built.enabled;
-}
+same_built a b same built = sym same.steps ∙ built
 
 -- The words give no other source than one that can be made.
 source_makeable : (word : Word) (source : Source) → IsSource word source → IsMakeable source

@@ -44,7 +44,7 @@ passes_levels enabled = record { none_above = none_above enabled; few = few_vari
 -- what is enough for the size is enough for the bytes
 bytes_enough : (n size : ℕ) → size ≤ 12 * n → enough_turns levels_at size ≤ enough_for n
 bytes_enough n size small =
-    let levels : 40 * size ≤ 492 * n = omega arith in
+    let levels : 42 * size ≤ 504 * n = omega arith in
     let rounds : size + 1 ≤ 12 * n + 1 = omega arith in
     omega (arith, mul-le-mul levels rounds)
 

@@ -112,7 +112,7 @@ pub data KeepsFiles (words : List Word) (most : ℕ) (says : Says) (old new : Ou
 
 -- so many turns are enough for a file of n bytes
 abbrev pub enough_for : ℕ → ℕ
-enough_for n = 492 * n * (12 * n + 1) + 12 * n
+enough_for n = 504 * n * (12 * n + 1) + 12 * n
 
 -- A run of a task that has all it needs: the file is there and obeys the law, the test's answers are told, and yes to the
 -- file, no call on the outside fails, and the limit is absent or large enough.

@@ -1,8 +1,7 @@
 // The words of the command line, as far as what they ask for is built. With each part that lands a test goes from here
 // and from `IsBuilt`, until the words alone decide.
 ghost use Rattle.std.specs.Prelude.{◌≡◌, ◌↔◌, Err, IfOk, IsTrue};
-ghost use Rattle.std.specs.List.{list_all};
-ghost use Rattle.cr_main.specs.Words.{HasNone, HasSettings, IsBuilt, are_built, is, only_built};
+ghost use Rattle.cr_main.specs.Words.{HasNone, HasSettings, IsBuilt};
 ghost use Rattle.cr_words.specs.Words.{texts_of};
 
 use cr_words::{Settings, WordFault, words};
@@ -25,29 +24,5 @@ pub fn built_words(alloc: Global, list: &[String], most: u32) -> Result<Settings
 fn is_built(settings: &Settings) -> bool
     ensures { IsTrue result ↔ IsBuilt settings.now }
 {
-    settings.steps == 1_000_000 && are_built(&settings.enabled)
-}
-
-fn are_built(enabled: &[bool; 10]) -> bool
-    ensures { result ≡ are_built enabled.now }
-{
-    are_all(enabled, true) || only_built(enabled)
-}
-
-// Whether i isn't enabled, which isn't built.
-fn only_built(enabled: &[bool; 10]) -> bool
-    ensures { result ≡ only_built enabled.now }
-{
-    are_all(&enabled[6..7], false)
-}
-
-fn are_all(enabled: &[bool], wanted: bool) -> bool
-    ensures { result ≡ list_all (is wanted) enabled.now }
-{
-    for on in enabled {
-        if *on != wanted {
-            return false;
-        }
-    }
-    true
+    settings.steps == 1_000_000
 }

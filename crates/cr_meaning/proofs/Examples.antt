@@ -1,8 +1,8 @@
 -- Small programs, their operations built by hand, and what they come to: the proof checker follows each run. By `PlayedIsRun` these
 -- are facts about the meaning. Each is the body of main unless it says more.
 use Rattle.std.proofs.Common.{◌≡◌, refl}
-use Rattle.std.specs.Prelude.{ℕ, ◌==◌, ℤ, pos, true, false, Option, Some, None, List, [], ◌∷◌, if◌then◌else◌}
-use Rattle.cr_ints.specs.declared.kind.IntKind.TheVariants.{Bool as BoolKind, Int, Char, UInt}
+use Rattle.std.specs.Prelude.{ℕ, ◌==◌, ℤ, pos, negsuc, true, false, Option, Some, None, List, [], ◌∷◌, if◌then◌else◌}
+use Rattle.cr_ints.specs.declared.kind.IntKind.TheVariants.{Bool as BoolKind, Int, Char, UChar, UInt}
 use Rattle.cr_memory.specs.declared.value.Scalar.{Scalar}
 use Rattle.cr_memory.specs.declared.value.Scalar.TheVariants as scalar
 use Rattle.cr_memory.specs.declared.value.Guard.{Guard}
@@ -250,6 +250,11 @@ writes_a_literal = refl
 initialises_an_array_by_a_literal : verdict (program (op [] work.Declaration access.Unused ∷ op [] (work.Object 0) (access.Scalar (scalar.Int Int) false) ∷ op (1 ∷ []) (work.Return (form.Number Int)) access.Unused ∷ op (2 ∷ []) (work.Block [] []) access.Unused ∷ op [] work.Declaration access.Unused ∷ op [] (work.Constant Int (pos 0)) access.Unused ∷ op (5 ∷ []) (work.Initialise 4 (line 0 (form.Number Int) 6 ∷ [])) access.Unused ∷ op (6 ∷ []) work.Declaration access.Unused ∷ op [] work.Declaration access.Unused ∷ op [] (work.Object 9) access.Unused ∷ op (9 ∷ []) (work.Initialise 8 (line 0 (form.Cells 7) 10 ∷ [])) access.Unused ∷ op (10 ∷ []) work.Declaration access.Unused ∷ op [] (work.Object 8) (access.Array 1 4) ∷ op [] (work.Constant Int (pos 0)) access.Unused ∷ op (12 ∷ 13 ∷ []) (work.Subscript 1) access.Unused ∷ op [] (work.Constant Int (pos 120)) access.Unused ∷ op (14 ∷ 15 ∷ []) (work.Assign (form.Number Char)) access.Unused ∷ op (16 ∷ []) work.Expression access.Unused ∷ op [] (work.Object 8) (access.Array 1 4) ∷ op [] (work.Constant Int (pos 1)) access.Unused ∷ op (18 ∷ 19 ∷ []) (work.Subscript 1) (access.Scalar (scalar.Int Char) false) ∷ op [] (work.Object 8) (access.Array 1 4) ∷ op [] (work.Constant Int (pos 2)) access.Unused ∷ op (21 ∷ 22 ∷ []) (work.Subscript 1) (access.Scalar (scalar.Int Char) false) ∷ op (20 ∷ 23 ∷ []) (work.Binary (Arithmetic operator.Add Int)) access.Unused ∷ op [] (work.Object 8) (access.Array 1 4) ∷ op [] (work.Constant Int (pos 3)) access.Unused ∷ op (25 ∷ 26 ∷ []) (work.Subscript 1) (access.Scalar (scalar.Int Char) false) ∷ op (24 ∷ 27 ∷ []) (work.Binary (Arithmetic operator.Add Int)) access.Unused ∷ op (28 ∷ []) (work.Return (form.Number Int)) access.Unused ∷ op (7 ∷ 11 ∷ 17 ∷ 29 ∷ []) (work.Block (4 ∷ 8 ∷ []) []) access.Unused ∷ op [] (work.Program (9 ∷ []) [] (scalar.Pointer 3) 30) access.Unused ∷ []) ((0, ((scalar.Int Int, guard.Free) ∷ [])) ∷ (4, ((scalar.Int Int, guard.Free) ∷ [])) ∷ (8, ((scalar.Int Char, guard.Free) ∷ (scalar.Int Char, guard.Free) ∷ (scalar.Int Char, guard.Free) ∷ (scalar.Int Char, guard.Free) ∷ [])) ∷ (9, ((scalar.Int Char, guard.Literal) ∷ (scalar.Int Char, guard.Literal) ∷ (scalar.Int Char, guard.Literal) ∷ [])) ∷ []) ((9, (cell.Number (pos 97) ∷ cell.Number (pos 98) ∷ cell.Number (pos 0) ∷ [])) ∷ []) ((7, (scalar.Int Char ∷ scalar.Int Char ∷ scalar.Int Char ∷ scalar.Int Char ∷ [])) ∷ []) (record { steps = 60; depth = 4; cells = 100; output = 100 })) ≡ fine 98 []
 unfolding body played pieces_of
 initialises_an_array_by_a_literal = refl
+
+-- unsigned char a[] = "\xff"; return a[0] == 255;
+initialises_unsigned_chars_by_a_literal : verdict (program (op [] work.Declaration access.Unused ∷ op [] (work.Object 2) access.Unused ∷ op (1 ∷ []) (work.Initialise 0 (line 0 (form.Cells 7) 3 ∷ [])) access.Unused ∷ op (2 ∷ []) work.Declaration access.Unused ∷ op [] (work.Object 0) (access.Array 1 2) ∷ op [] (work.Constant Int (pos 0)) access.Unused ∷ op (4 ∷ 5 ∷ []) (work.Subscript 1) (access.Scalar (scalar.Int UChar) false) ∷ op [] (work.Constant Int (pos 255)) access.Unused ∷ op (6 ∷ 7 ∷ []) (work.Compare Equal Int) access.Unused ∷ op (8 ∷ []) (work.Return (form.Number Int)) access.Unused ∷ op (3 ∷ 9 ∷ []) (work.Block (0 ∷ []) []) access.Unused ∷ op [] (work.Program (2 ∷ []) [] (scalar.Pointer 3) 10) access.Unused ∷ []) ((0, ((scalar.Int UChar, guard.Free) ∷ (scalar.Int UChar, guard.Free) ∷ [])) ∷ (2, ((scalar.Int Char, guard.Literal) ∷ (scalar.Int Char, guard.Literal) ∷ [])) ∷ []) ((2, (cell.Number (negsuc 0) ∷ cell.Number (pos 0) ∷ [])) ∷ []) ((7, (scalar.Int UChar ∷ scalar.Int UChar ∷ [])) ∷ []) (record { steps = 60; depth = 4; cells = 100; output = 100 })) ≡ fine 1 []
+unfolding body played pieces_of
+initialises_unsigned_chars_by_a_literal = refl
 
 -- struct s {const int m;} x = {1}; *(int *)&x.m = 2;
 writes_a_constant_member : verdict (program (op [] work.Declaration access.Unused ∷ op [] (work.Object 0) (access.Scalar (scalar.Int Int) false) ∷ op (1 ∷ []) (work.Return (form.Number Int)) access.Unused ∷ op (2 ∷ []) (work.Block [] []) access.Unused ∷ op [] work.Declaration access.Unused ∷ op [] (work.Constant Int (pos 0)) access.Unused ∷ op (5 ∷ []) (work.Initialise 4 (line 0 (form.Number Int) 6 ∷ [])) access.Unused ∷ op (6 ∷ []) work.Declaration access.Unused ∷ op [] work.Declaration access.Unused ∷ op [] (work.Constant Int (pos 1)) access.Unused ∷ op (9 ∷ []) (work.Initialise 8 (line 0 (form.Number Int) 10 ∷ [])) access.Unused ∷ op (10 ∷ []) work.Declaration access.Unused ∷ op [] (work.Object 8) access.Unused ∷ op (12 ∷ []) (work.Member 1 0 1 (form.Number Int)) access.Unused ∷ op (13 ∷ []) work.AddressOf access.Unused ∷ op (14 ∷ []) (work.Cast (form.Pointer 0)) access.Unused ∷ op (15 ∷ []) (work.Dereference 1) access.Unused ∷ op [] (work.Constant Int (pos 2)) access.Unused ∷ op (16 ∷ 17 ∷ []) (work.Assign (form.Number Int)) access.Unused ∷ op (18 ∷ []) work.Expression access.Unused ∷ op [] (work.Constant Int (pos 0)) access.Unused ∷ op (20 ∷ []) (work.Return (form.Number Int)) access.Unused ∷ op (7 ∷ 11 ∷ 19 ∷ 21 ∷ []) (work.Block (4 ∷ 8 ∷ []) []) access.Unused ∷ op [] (work.Program [] [] (scalar.Pointer 3) 22) access.Unused ∷ []) ((0, ((scalar.Int Int, guard.Free) ∷ [])) ∷ (4, ((scalar.Int Int, guard.Free) ∷ [])) ∷ (8, ((scalar.Int Int, guard.Constant) ∷ [])) ∷ []) [] [] (record { steps = 60; depth = 4; cells = 100; output = 100 })) ≡ undefined 14 18

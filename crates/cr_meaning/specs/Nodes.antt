@@ -1,8 +1,12 @@
 -- What a node does on the world once its parts have answered: expressions (C11 6.5), calls (6.5.2.2, 6.9.1), declarations (6.7).
-use Rattle.std.specs.Prelude.{ℕ, suc, ◌-◌, pos, nat_le, Bool, Option, Some, None, Result, Ok, Err, List, [], ◌∷◌, ◌++◌, map, take, if◌then◌else◌}
+use Rattle.std.specs.Prelude.{ℕ, suc, ◌-◌, pos, nat_le, Bool, Option, Some, None, Result, Ok, Err, List, [], ◌∷◌, ◌++◌, map, if◌then◌else◌}
 use Rattle.std.specs.List.{list_any}
 use Rattle.cr_ints.specs.declared.kind.IntKind.TheVariants.{Int as IntegerKind}
+use Rattle.cr_ints.specs.Conversions.{convert_of}
+use Rattle.cr_memory.specs.declared.value.Scalar.{Scalar}
+use Rattle.cr_memory.specs.declared.value.Scalar.TheVariants as scalar
 use Rattle.cr_memory.specs.declared.value.Cell.{Cell}
+use Rattle.cr_memory.specs.declared.value.Cell.TheVariants as cell
 use Rattle.cr_memory.specs.declared.value.Trap.{Trap}
 use Rattle.cr_memory.specs.declared.value.Trap.TheVariants.{Undefined, Left}
 use Rattle.cr_memory.specs.Memory.{Object, Memory, zero_of}
@@ -10,7 +14,7 @@ use Rattle.cr_memory.specs.Access.{object_at, with_cells}
 use Rattle.cr_meaning.specs.Language.{Acted, went, halts}
 use Rattle.cr_meaning.specs.Events.{Event, Order, Beside, Sequence, Arguments, clash, gathered, operands_clash}
 use Rattle.cr_meaning.specs.World.{Program, World, Answer, part, next, returned, Halt, stopped, exited, untyped, unused_value, then_by, object_for, enter_object, marked, closed}
-use Rattle.cr_meaning.specs.Values.{cells_in, converted, cells_of_value}
+use Rattle.cr_meaning.specs.Values.{kinds_in, converted, cells_of_value}
 use Rattle.cr_meaning.specs.Work.{Did, is_nothing, work_of}
 use Rattle.cr_meaning.specs.Library.{Called, printf_of, putchar_of, exit_of}
 use Rattle.cr_meaning.specs.Turns.{last_of}
@@ -156,9 +160,19 @@ call_end p node work callee done world = unless_clash node work done (library p 
 
 -- ---- declarations (6.7, 6.7.9)
 
--- what an initialiser gives its part: the converted value, or a string literal's chars as far as there is room (6.7.9p14)
+-- a cell of a string literal as the element of this kind that it initialises: the kinds of character types differ in their ranges
+abbrev pub element_of : Scalar → Cell → Cell
+element_of (scalar.Int kind) (cell.Number value) = cell.Number (convert_of value kind)
+element_of kind held = held
+
+-- a literal's cells as the elements of an array of these kinds, as far as there is room (6.7.9p14)
+abbrev pub elements_of : List Scalar → List Cell → List Cell
+elements_of (kind ∷ kinds) (held ∷ rest) = element_of kind held ∷ elements_of kinds rest
+elements_of kinds rest = []
+
+-- what an initialiser gives its part: the converted value, or a string literal's chars
 abbrev pub initial : Program → Memory → Line → Value → Result (List Cell) Trap
-initial p memory line (Place at) = Ok (take (cells_in p line.form) (object_at memory at).cells)
+initial p memory line (Place at) = Ok (elements_of (kinds_in p line.form) (object_at memory at).cells)
 initial p memory line value = then_by (converted memory line.form value) (λ new. Ok (cells_of_value new))
 
 -- the parts that are set, each from its cell on; a case is at the declarator or the braced list that uses the value

@@ -1,4 +1,4 @@
-//! The tests of `cr_passes` with `cr_analysis`, `pass_exprs`, `pass_names` and `pass_stmts`: files with their variants.
+//! The tests of `cr_passes` with `cr_analysis`, `pass_exprs`, `pass_inline`, `pass_names`, `pass_params` and `pass_stmts`: files with their variants.
 //!
 //! They stand above these crates, so that none of them proves its functions once more for its tests. It promises nothing, and stands on
 //! `cr_passes` and `cr_cursor`.

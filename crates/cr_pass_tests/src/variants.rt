@@ -63,7 +63,34 @@ s 3 4 6¦int x;int main(){{ ;/*a*/{}}do x;while(1);for(;;);switch(1){case 1:whil
 s 4 0 2¦int x;int main(){ ;/*a*/{}do x;while(1);for(;;);switch(1){case 1:while(1)x;default:;}}
 s 4 1 2¦int x;int main(){{ ;/*a*/}do x;while(1);for(;;);switch(1){case 1:while(1)x;default:;}}
 f 0 0 1¦int x;int main(){{;{}}do x;while(1);for(;;);switch(1){case 1:while(1)x;default:;}}
+file¦int f(int x){return x+1;}int main(){return f(2*3);}
+i 0 0 1¦int main(){return ((2*3)+1);}
+i 1 0 0¦int f(int x){return x+1;}int main(){return f(2*3);}
+i 2 0 0¦int f(int x){return x+1;}int main(){return f(2*3);}
+file¦int f(int x){return x+1;}int main(){return f(f(2))+sizeof f(3);}
+i 0 0 3¦int f(int x){return x+1;}int main(){return ((f(2))+1)+sizeof f(3);}
+i 0 1 3¦int f(int x){return x+1;}int main(){return f(((2)+1))+sizeof f(3);}
+i 0 2 3¦int f(int x){return x+1;}int main(){return f(f(2))+sizeof ((3)+1);}
+file¦typedef int F(int);int a,f(int),b;F c,f;int main(){return f(- 2);}int f(int x){return - x/*a*/-  -(x);}
+i 0 0 1¦typedef int F(int);int a,b;F c;int main(){return (-(-2)- -((-2)));}
+file¦struct s{int x;}z;int g(int[],int),k(struct s);int k(struct s x){return x.x;}int g(int a[],int b){return a[b];}int main(){int c[]={k(z),2};g;return g(c,1)+main();}
+i 0 0 2¦struct s{int x;}z;int g(int[],int);int g(int a[],int b){return a[b];}int main(){int c[]={((z).x),2};g;return g(c,1)+main();}
+i 0 1 2¦struct s{int x;}z;int g(int[],int),k(struct s);int k(struct s x){return x.x;}int g(int a[],int b){return a[b];}int main(){int c[]={k(z),2};g;return ((c)[(1)])+main();}
+file¦int main(){return 0;}int f(){return main();}
+i 0 0 1¦int f(){return (0);}
+file¦int f(){return 1;}int main(){int x=f();{int f=2;return f;}}
+i 0 0 1¦int main(){int x=(1);{int f=2;return f;}}
+file¦int f(){L:return 1;}int g(){{return 1;}}int h(){;return 1;}int main(){return f()+g()+h();}
+i 0 0 0¦int f(){L:return 1;}int g(){{return 1;}}int h(){;return 1;}int main(){return f()+g()+h();}
+i 1 0 0¦int f(){L:return 1;}int g(){{return 1;}}int h(){;return 1;}int main(){return f()+g()+h();}
+file¦int y;void g(int,int),g(int a,int b);int main(){void g(int,int);g(1,y);return y;}void g(int a,int b){void g(int,int);y=a+b;}
+i 0 0 0¦int y;void g(int,int),g(int a,int b);int main(){void g(int,int);g(1,y);return y;}void g(int a,int b){void g(int,int);y=a+b;}
+i 1 0 1¦int y;int main(){{int a=1;int b=y;{void g(int,int);y=a+b;}}return y;}
+file¦int y;void f(int n){if(n)f(n-1);}void h(void){return;}int main(){if(y)f(2);else h();(f(1));f(y),f(3);return 0;}
+i 0 0 0¦int y;void f(int n){if(n)f(n-1);}void h(void){return;}int main(){if(y)f(2);else h();(f(1));f(y),f(3);return 0;}
+i 1 0 1¦int y;void f(int n){if(n)f(n-1);}void h(void){return;}int main(){if(y){int n=2;{if(n)f(n-1);}}else h();(f(1));f(y),f(3);return 0;}
 file¦int f(int x){return x;}int main(){return f(5);}
+i 0 0 1¦int main(){return ((5));}
 p 0 0 1¦int f(void){return 0;}int main(){return f();}
 file¦int f();int f(int a,int b[sizeof a],int c);int f(int a,int b[],int c){return c?f(a,b,f(1,b,2)):a;}int main(int n){int f(int,int*,int);return f(n,0,3);}
 p 0 0 3¦int f();int f(int b[sizeof a],int c);int f(int b[],int c){return c?f(b,f(b,2)):0;}int main(int n){int f(int*,int);return f(0,3);}
@@ -125,6 +152,7 @@ file¦int a,b,c,d,e,f,g,h,i,j,k,l,m,n,o,p,q,r,s,t,u,v,w,x,y,z;int main(){return 
 u 1 25 26¦int a,b,c,d,e,f,g,h,i,j,k,l,m,n,o,p,q,r,s,t,u,v,w,x,y;int main(){return 0;}
 r 0 0 26¦int aa,b,c,d,e,f,g,h,i,j,k,l,m,n,o,p,q,r,s,t,u,v,w,x,y,z;int main(){return 0;}
 file¦int f(int x){return x;}int main(void){int i=0;i=f(i);return i;}
+i 0 0 1¦int main(void){int i=0;i=((i));return i;}
 p 0 0 1¦int f(void){return 0;}int main(void){int i=0;i=f();return i;}
 r 0 0 3¦int a(int x){return x;}int main(void){int i=0;i=a(i);return i;}
 r 0 2 3¦int f(int x){return x;}int main(void){int a=0;a=f(a);return a;}
@@ -209,6 +237,7 @@ c 3 1 3¦volatile int v=1;int main(){v=1;v++;return v&&v;}
 c 3 2 3¦volatile int v=1;int main(){v=v+1;v++;return v;}
 f 0 0 1¦volatile int v=1;int main(){v=v+1;v++;return v&&v;}
 file¦struct p{int a;struct p*n;};static struct p q;int g(struct p*r){return r?r->a:0;}int main(){q.n=&q;return g(q.n);}
+i 0 0 1¦struct p{int a;struct p*n;};static struct p q;int main(){q.n=&q;return ((q.n)?(q.n)->a:0);}
 p 0 0 1¦struct p{int a;struct p*n;};static struct p q;int g(void){return 0?0->a:0;}int main(){q.n=&q;return g();}
 r 0 0 4¦struct b{int a;struct b*n;};static struct b q;int g(struct b*r){return r?r->a:0;}int main(){q.n=&q;return g(q.n);}
 r 0 3 4¦struct p{int a;struct p*n;};static struct p q;int g(struct p*b){return b?b->a:0;}int main(){q.n=&q;return g(q.n);}
@@ -228,6 +257,7 @@ c 3 0 2¦struct p{int a;struct p*n;};static struct p q;int g(struct p*r){return 
 c 3 1 2¦struct p{int a;struct p*n;};static struct p q;int g(struct p*r){return r?r->a:0;}int main(){&q;return g(q.n);}
 f 0 0 1¦struct p{int a;struct p*n;};static struct p q;int g(struct p*r){return r?r->a:0;}int main(){q.n=&q;return g(q.n);}
 file¦extern int u;int u=3;static int h(int a,char b){return a+b;}int main(){unsigned long z=sizeof(int);return h(u,1)+z-8;}
+i 0 0 1¦extern int u;int u=3;int main(){unsigned long z=sizeof(int);return ((u)+(1))+z-8;}
 p 0 0 2¦extern int u;int u=3;static int h(char b){return 0+b;}int main(){unsigned long z=sizeof(int);return h(1)+z-8;}
 p 0 1 2¦extern int u;int u=3;static int h(int a){return a+0;}int main(){unsigned long z=sizeof(int);return h(u)+z-8;}
 r 0 0 5¦extern int c;int c=3;static int h(int a,char b){return a+b;}int main(){unsigned long z=sizeof(int);return h(c,1)+z-8;}
@@ -267,6 +297,7 @@ c 3 0 6¦int main(){int a[2][3]={{1,2},{3}};int*p=&2;for(int i=0;i<2;i++){a[i][0
 c 3 5 6¦int main(){int a[2][3]={{1,2},{3}};int*p=&a[0][2];for(int i=0;i<2;i++){i[0]+=i;}return *p;}
 f 0 0 1¦int main(){int a[2][3]={{1,2},{3}};int*p=&a[0][2];for(int i=0;i<2;i++){a[i][0]+=i;}return*p;}
 file¦void w(int n){while(n){n--;if(n==2)continue;else break;}do n++;while(n<3);}int main(){w(4);return 0;}
+i 1 0 1¦int main(){{int n=4;{while(n){n--;if(n==2)continue;else break;}do n++;while(n<3);}}return 0;}
 p 0 0 1¦void w(void){while(0){0--;if(0==2)continue;else break;}do 0++;while(0<3);}int main(){w();return 0;}
 r 0 0 2¦void a(int n){while(n){n--;if(n==2)continue;else break;}do n++;while(n<3);}int main(){a(4);return 0;}
 r 0 1 2¦void w(int a){while(a){a--;if(a==2)continue;else break;}do a++;while(a<3);}int main(){w(4);return 0;}
@@ -306,6 +337,7 @@ c 3 0 4¦char s[]="ab",*t="cd";int main(){t[1];return s[2];}
 c 3 3 4¦char s[]="ab",*t="cd";int main(){s[0]=t[1];return 2;}
 f 0 0 1¦char s[]="ab",*t="cd";int main(){s[0]=t[1];return s[2];}
 file¦int m(int,int);int m(int a,int b){return a<b?a:b;}int main(){short k=-1;unsigned y=k;return m(3,(int)(y>>31))-1;}
+i 0 0 1¦int main(){short k=-1;unsigned y=k;return ((3)<((int)(y>>31))?(3):((int)(y>>31)))-1;}
 p 0 0 2¦int m(int);int m(int b){return 0<b?0:b;}int main(){short k=-1;unsigned y=k;return m((int)(y>>31))-1;}
 p 0 1 2¦int m(int);int m(int a){return a<0?a:0;}int main(){short k=-1;unsigned y=k;return m(3)-1;}
 r 0 0 5¦int c(int,int);int c(int a,int b){return a<b?a:b;}int main(){short k=-1;unsigned y=k;return c(3,(int)(y>>31))-1;}
@@ -459,6 +491,7 @@ c 0 0 1¦int main(void)␊{␊  while (0)␊    ;␊}␊
 c 1 0 1¦int main(void)␊{␊  while (1)␊    ;␊}␊
 f 0 0 1¦int main(void){while(1);}
 file¦int down(int n)␊{␊  return down(n + 1);␊}␊int main(void)␊{␊  return down(0);␊}␊
+i 0 0 1¦int down(int n)␊{␊  return down(n + 1);␊}␊int main(void)␊{␊  return (down((0)+1));␊}␊
 p 0 0 1¦int down(void)␊{␊  return down();␊}␊int main(void)␊{␊  return down();␊}␊
 r 0 0 2¦int a(int n)␊{␊  return a(n + 1);␊}␊int main(void)␊{␊  return a(0);␊}␊
 r 0 1 2¦int down(int a)␊{␊  return down(a + 1);␊}␊int main(void)␊{␊  return down(0);␊}␊

@@ -29,7 +29,7 @@ use Rattle.pass_stmts.specs.Printed.{IsPrintedOffering, f_offering}
 use Rattle.pass_names.specs.Renamed.{renaming_by}
 use Rattle.pass_names.specs.Short.{first_free}
 use Rattle.cr_passes.specs.declared.pass.Pass.{Pass}
-use Rattle.cr_passes.specs.declared.pass.Pass.TheVariants.{Brackets, Expressions, Lines, NotThere, Parameters, Printed, Renamed, Runs, Statements, Unused}
+use Rattle.cr_passes.specs.declared.pass.Pass.TheVariants.{Brackets, Expressions, Inlined, Lines, NotThere, Parameters, Printed, Renamed, Runs, Statements, Unused}
 use Rattle.cr_passes.specs.Passes.{levels_of, pass_by}
 use Rattle.cr_passes.specs.Offers.{ByNames, ByTokens, ByTree, IfOn, IsKnown, IsOffered, Known, Offers, is_on, menu_at, nothing, offer_of}
 
@@ -83,6 +83,7 @@ one_offered file read Brackets menu other is also = one_by_tokens read.tokens _ 
 one_offered file read Unused menu other is also = one_by_tokens read.tokens _ menu other (λ ts. one_by_tree read.tree _ menu other (λ t. one_by_names read.names _ menu other (λ n a b. a.offered ∙ sym b.offered))) is also
 one_offered file read Statements menu other is also = one_by_tokens read.tokens _ menu other (λ ts. one_by_tree read.tree _ menu other (λ t a b. a.offered ∙ sym b.offered)) is also
 one_offered file read Expressions menu other is also = one_by_tokens read.tokens _ menu other (λ ts. one_by_tree read.tree _ menu other (λ t a b. a.offered ∙ sym b.offered)) is also
+one_offered file read Inlined menu other is also = one_by_tokens read.tokens _ menu other (λ ts. one_by_tree read.tree _ menu other (λ t. one_by_names read.names _ menu other (λ n a b. a.offered ∙ sym b.offered))) is also
 one_offered file read Parameters menu other is also = one_by_tokens read.tokens _ menu other (λ ts. one_by_tree read.tree _ menu other (λ t. one_by_names read.names _ menu other (λ n a b. a.offered ∙ sym b.offered))) is also
 one_offered file read Renamed menu other is also = one_by_tokens read.tokens _ menu other (λ ts. one_by_tree read.tree _ menu other (λ t. one_by_names read.names _ menu other (λ n a b. a.offered ∙ sym b.offered))) is also
 one_offered file read Printed menu other is also = one_by_tokens read.tokens _ menu other (λ ts. one_by_tree read.tree _ menu other (λ t a b. one_printed file ts menu other a.offered b.offered)) is also
@@ -128,6 +129,9 @@ none_offered file read Statements menu level is few = by_tokens read.tokens _ (�
     (λ ts e. by_tree read.tree _ (λ m. length (level_of m level) ≡ 0) menu (λ t a. without menu _ 6 level a.offered refl few) refl) refl is
 none_offered file read Expressions menu level is few = by_tokens read.tokens _ (λ m. length (level_of m level) ≡ 0) menu
     (λ ts e. by_tree read.tree _ (λ m. length (level_of m level) ≡ 0) menu (λ t a. without menu _ 4 level a.offered refl few) refl) refl is
+none_offered file read Inlined menu level is few = by_tokens read.tokens _ (λ m. length (level_of m level) ≡ 0) menu
+    (λ ts e. by_tree read.tree _ (λ m. length (level_of m level) ≡ 0) menu (λ t. by_names read.names _ (λ m. length (level_of m level) ≡ 0) menu
+    (λ n a. without menu _ 2 level a.offered refl few) refl) refl) refl is
 none_offered file read Parameters menu level is few = by_tokens read.tokens _ (λ m. length (level_of m level) ≡ 0) menu
     (λ ts e. by_tree read.tree _ (λ m. length (level_of m level) ≡ 0) menu (λ t. by_names read.names _ (λ m. length (level_of m level) ≡ 0) menu
     (λ n a. without menu _ 1 level a.offered refl few) refl) refl) refl is
@@ -145,6 +149,7 @@ few_levels Brackets = omega arith
 few_levels Unused = omega arith
 few_levels Statements = omega arith
 few_levels Expressions = omega arith
+few_levels Inlined = omega arith
 few_levels Parameters = omega arith
 few_levels Renamed = omega arith
 few_levels Printed = omega arith
@@ -192,6 +197,9 @@ few_in file read Statements menu level known is = by_tokens read.tokens _ (λ m.
 few_in file read Expressions menu level known is = by_tokens read.tokens _ (λ m. length (level_of m level) ≤ length file) menu
     (λ ts e. by_tree read.tree _ (λ m. length (level_of m level) ≤ length file) menu
     (λ t a. tested (length file) menu level a.few (λ high. none_offered file read Expressions menu level is (omega (arith, high)))) (omega arith)) (omega arith) is
+few_in file read Inlined menu level known is = by_tokens read.tokens _ (λ m. length (level_of m level) ≤ length file) menu
+    (λ ts e. by_tree read.tree _ (λ m. length (level_of m level) ≤ length file) menu (λ t. by_names read.names _ (λ m. length (level_of m level) ≤ length file) menu
+    (λ n a. tested (length file) menu level a.few (λ high. none_offered file read Inlined menu level is (omega (arith, high)))) (omega arith)) (omega arith)) (omega arith) is
 few_in file read Parameters menu level known is = by_tokens read.tokens _ (λ m. length (level_of m level) ≤ length file) menu
     (λ ts e. by_tree read.tree _ (λ m. length (level_of m level) ≤ length file) menu (λ t. by_names read.names _ (λ m. length (level_of m level) ≤ length file) menu
     (λ n a. tested (length file) menu level a.few (λ high. none_offered file read Parameters menu level is (omega (arith, high)))) (omega arith)) (omega arith)) (omega arith) is

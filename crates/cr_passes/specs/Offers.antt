@@ -10,13 +10,14 @@ use Rattle.pass_text.specs.Lines.{chunks_of, lines_bytes, lines_of}
 use Rattle.pass_text.specs.Runs.{t_offering}
 use Rattle.cr_scopes.specs.declared.names.Names.{Names}
 use Rattle.pass_exprs.specs.Expressions.{c_offering}
+use Rattle.pass_inline.specs.Inlined.{i_offering}
 use Rattle.pass_names.specs.Renamed.{r_offering}
 use Rattle.pass_names.specs.Unused.{u_offering}
 use Rattle.pass_params.specs.Parameters.{p_offering}
 use Rattle.pass_stmts.specs.Printed.{IsPrintedOffering}
 use Rattle.pass_stmts.specs.Statements.{s_offering}
 use Rattle.cr_passes.specs.declared.pass.Pass.{Pass}
-use Rattle.cr_passes.specs.declared.pass.Pass.TheVariants.{Brackets, Expressions, Lines, NotThere, Parameters, Printed, Renamed, Runs, Statements, Unused}
+use Rattle.cr_passes.specs.declared.pass.Pass.TheVariants.{Brackets, Expressions, Inlined, Lines, NotThere, Parameters, Printed, Renamed, Runs, Statements, Unused}
 use Rattle.cr_passes.specs.Passes.{pass_by}
 
 -- What is known of a file: how many lines it has, and what the passes behind the lines offer, each by its number.
@@ -71,6 +72,7 @@ IsOffered file read Brackets menu = ByTokens read.tokens (IsBracketOffering file
 IsOffered file read Unused menu = ByTokens read.tokens (λ tokens. ByTree read.tree (λ tree. ByNames read.names (λ names. IsOfFew (length file) (λ m. m ≡ u_offering file tokens tree.nodes tree.items names)))) menu
 IsOffered file read Statements menu = ByTokens read.tokens (λ tokens. ByTree read.tree (λ tree. IsOfFew (length file) (λ m. m ≡ s_offering file tokens tree.nodes))) menu
 IsOffered file read Expressions menu = ByTokens read.tokens (λ tokens. ByTree read.tree (λ tree. IsOfFew (length file) (λ m. m ≡ c_offering tokens tree.nodes))) menu
+IsOffered file read Inlined menu = ByTokens read.tokens (λ tokens. ByTree read.tree (λ tree. ByNames read.names (λ names. IsOfFew (length file) (λ m. m ≡ i_offering tokens tree.nodes names)))) menu
 IsOffered file read Parameters menu = ByTokens read.tokens (λ tokens. ByTree read.tree (λ tree. ByNames read.names (λ names. IsOfFew (length file) (λ m. m ≡ p_offering file tokens tree.nodes names)))) menu
 IsOffered file read Renamed menu = ByTokens read.tokens (λ tokens. ByTree read.tree (λ tree. ByNames read.names (λ names. IsOfFew (length file) (λ m. m ≡ r_offering file tokens tree.nodes tree.items names)))) menu
 IsOffered file read Printed menu = ByTokens read.tokens (λ tokens. ByTree read.tree (λ tree. IsOfFew (length file) (IsPrintedOffering file tokens))) menu

@@ -1,7 +1,7 @@
 -- The passes by their numbers.
 use Rattle.std.specs.Prelude.{ℕ, ◌==◌, if◌then◌else◌}
 use Rattle.cr_passes.specs.declared.pass.Pass.{Pass}
-use Rattle.cr_passes.specs.declared.pass.Pass.TheVariants.{Brackets, Expressions, Lines, NotThere, Parameters, Printed, Renamed, Runs, Statements, Unused}
+use Rattle.cr_passes.specs.declared.pass.Pass.TheVariants.{Brackets, Expressions, Inlined, Lines, NotThere, Parameters, Printed, Renamed, Runs, Statements, Unused}
 
 abbrev pub pass_by : ℕ → Pass
 pass_by number = if number == 0 then Lines
@@ -10,6 +10,7 @@ pass_by number = if number == 0 then Lines
     else if number == 3 then Unused
     else if number == 4 then Statements
     else if number == 5 then Expressions
+    else if number == 6 then Inlined
     else if number == 7 then Parameters
     else if number == 8 then Renamed
     else if number == 9 then Printed
@@ -23,6 +24,7 @@ levels_of Brackets = 3
 levels_of Unused = 4
 levels_of Statements = 6
 levels_of Expressions = 4
+levels_of Inlined = 2
 levels_of Parameters = 1
 levels_of Renamed = 1
 levels_of Printed = 1

@@ -4,6 +4,7 @@ ghost use Rattle.cr_analysis.specs.Analysis.{IsAnalysis, read_of};
 ghost use Rattle.cr_passes.specs.Offers.{AreMenus, ByNames, ByTokens, ByTree, IfOn, IsFew, IsKnown, IsOfFew, IsOffered, is_on, menu_at, nothing};
 ghost use Rattle.cr_passes.specs.Passes.{pass_by};
 ghost use Rattle.pass_exprs.specs.Expressions.{c_offering};
+ghost use Rattle.pass_inline.specs.Inlined.{i_offering};
 ghost use Rattle.pass_names.specs.Renamed.{r_offering};
 ghost use Rattle.pass_names.specs.Unused.{u_offering};
 ghost use Rattle.pass_params.specs.Parameters.{p_offering};
@@ -17,6 +18,7 @@ use cr_analysis::Analysis;
 use cr_cursor::NoMemory;
 use cr_edit::{Kept, Menu, width};
 use pass_exprs::expressions;
+use pass_inline::inlined;
 use pass_names::{renamed, unused};
 use pass_params::parameters;
 use pass_stmts::{printed, statements};
@@ -133,6 +135,7 @@ fn offered(alloc: Global, pass: Pass, file: &[u8], analysis: &Analysis) -> Resul
         Pass::Unused => unused_offered(alloc, file, analysis),
         Pass::Statements => statements_offered(alloc, file, analysis),
         Pass::Expressions => expressions_offered(alloc, file, analysis),
+        Pass::Inlined => inlined_offered(alloc, file, analysis),
         Pass::Parameters => parameters_offered(alloc, file, analysis),
         Pass::Renamed => renamed_offered(alloc, file, analysis),
         Pass::Printed => printed_offered(alloc, file, analysis),
@@ -170,6 +173,15 @@ fn unused_offered(alloc: Global, file: &[u8], analysis: &Analysis) -> Result<Men
 {
     match analysis {
         Analysis::OfUnit(unit, names) => if_few(unused(alloc, file, unit, names)?, file.len()),
+        _ => Ok(nothing(alloc)),
+    }
+}
+
+fn inlined_offered(alloc: Global, file: &[u8], analysis: &Analysis) -> Result<Menu, NoMemory>
+    ensures { IfOk result (ByTokens (read_of analysis.now).tokens (λ tokens. ByTree (read_of analysis.now).tree (λ tree. ByNames (read_of analysis.now).names (λ names. IsOfFew (length file.now) (λ m. m ≡ i_offering tokens tree.nodes names))))) }
+{
+    match analysis {
+        Analysis::OfUnit(unit, names) => if_few(inlined(alloc, unit, names)?, file.len()),
         _ => Ok(nothing(alloc)),
     }
 }

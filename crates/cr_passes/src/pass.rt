@@ -2,7 +2,7 @@
 ghost use Rattle.std.specs.Prelude.{◌≡◌};
 ghost use Rattle.cr_passes.specs.Passes.{pass_by};
 
-/// A pass, as far as it is built.
+/// A pass.
 #[derive(Clone, Copy, PartialEq, Eq)]
 pub enum Pass {
     /// l, chunks of lines.
@@ -17,13 +17,15 @@ pub enum Pass {
     Statements,
     /// c, expressions.
     Expressions,
+    /// i, calls that are spelled out.
+    Inlined,
     /// p, parameters.
     Parameters,
     /// r, new names.
     Renamed,
     /// f, the printed unit.
     Printed,
-    /// No pass, or one that isn't built yet.
+    /// No pass.
     NotThere,
 }
 
@@ -38,6 +40,7 @@ pub fn pass_by(number: usize) -> Pass
         3 => Pass::Unused,
         4 => Pass::Statements,
         5 => Pass::Expressions,
+        6 => Pass::Inlined,
         7 => Pass::Parameters,
         8 => Pass::Renamed,
         9 => Pass::Printed,

@@ -9,8 +9,7 @@ use cr_edit::{variant, width};
 use pass_text::{lines_variant, lines_width};
 use std::alloc::Global;
 
-/// The ten passes l t b u s c i p r f by their numbers from 0 on, of which some are enabled. So far all but i are built, which
-/// offers nothing.
+/// The ten passes l t b u s c i p r f by their numbers from 0 on, of which some are enabled.
 #[derive(Clone, Copy, PartialEq, Eq)]
 pub struct CPasses {
     pub enabled: [bool; 10],

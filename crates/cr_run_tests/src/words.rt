@@ -100,8 +100,8 @@ yes|--passes|ltbu|has:b|f.c
 yes|--passes|f|has:b|f.c
 yes|--passes|sclf|has:b|f.c
 yes|--passes|rl|has:b|f.c
-no|--passes|li|has:b|f.c
-no|--passes|ip|has:b|f.c
+yes|--passes|li|has:b|f.c
+yes|--passes|ip|has:b|f.c
 yes|--passes|pl|has:b|f.c
 no|has:b
 ";

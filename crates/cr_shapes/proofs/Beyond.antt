@@ -1,13 +1,11 @@
 -- What stands beyond a unit's nodes and rows.
-use Rattle.std.proofs.Common.{◌≡◌, ℕ, zero, suc, ◌≤◌, Option, Some, None, List, [], ◌∷◌, length, map, slice_get, slice_index_or, refl, ap, ◌∙◌, arith}
+use Rattle.std.proofs.Common.{◌≡◌, ℕ, zero, suc, ◌≤◌, None, List, [], ◌∷◌, length, map, slice_get, slice_index_or, refl, ap, ◌∙◌, arith}
 use Rattle.std.proofs.lemmas.List.{get_or_past}
-use Rattle.cr_memory.specs.declared.value.Cell.{Cell}
-use Rattle.cr_syntax.specs.declared.node.Kind.{Kind}
 use Rattle.cr_syntax.specs.declared.node.Kind.TheVariants as kind
-use Rattle.cr_types.specs.Types.{type_at, unknown}
+use Rattle.cr_types.specs.Types.{type_at}
 use Rattle.cr_typed.specs.declared.typed.Typed.{Typed}
 use Rattle.cr_typed.specs.Typed.{IsTyped}
-use Rattle.cr_operations.specs.Shapes.{named_type, shape_of}
+use Rattle.cr_operations.specs.Shapes.{shape_of}
 use Rattle.cr_operations.specs.Operations.{kind_if, kind_at, object_shape, literal_by}
 use Rattle.cr_shapes.proofs.Rows.{beyond}
 

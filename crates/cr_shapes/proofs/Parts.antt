@@ -1,17 +1,16 @@
 -- The cells of types: those of structures by earlier ones, of constant objects, and of arrays by their elements.
-use Rattle.std.proofs.Common.{◌≡◌, ℕ, zero, suc, ◌+◌, ◌*◌, ◌<◌, ◌≤◌, Bool, true, false, ◌||◌, List, [], ◌∷◌, ◌++◌, length, map, slice_index_or, refl, sym, ap, ◌∙◌, arith, append_assoc}
+use Rattle.std.proofs.Common.{◌≡◌, ℕ, zero, suc, ◌+◌, ◌*◌, ◌<◌, Bool, true, false, ◌||◌, List, [], ◌∷◌, ◌++◌, length, map, slice_index_or, refl, sym, ap, ◌∙◌, arith, append_assoc}
 use Rattle.std.specs.List.{All, flat_map}
-use Rattle.std.proofs.Math.Nat.{mul_assoc}
 use Rattle.cr_memory.specs.declared.value.Scalar.{Scalar}
 use Rattle.cr_memory.specs.declared.value.Guard.{Guard}
 use Rattle.cr_syntax.specs.declared.typed.CType.{CType}
-use Rattle.cr_syntax.specs.declared.typed.CType.TheVariants.{Void, Int, Pointer, Array, Struct, Function, Unknown}
+use Rattle.cr_syntax.specs.declared.typed.CType.TheVariants.{Int, Pointer, Array, Struct}
 use Rattle.cr_types.specs.Types.{Qualified, plain, pointer, array, type_at, type_by}
 use Rattle.cr_types.specs.Layouts.{count_of, element_of}
 use Rattle.cr_typed.specs.declared.typed.Typed.{Typed}
 use Rattle.cr_typed.specs.Typed.{IsTyped, IsBefore}
 use Rattle.cr_operations.specs.Shapes.{cells_with, structure_cells, repeated, shape_of, is_volatile}
-use Rattle.cr_shapes.specs.Types.{sealed, sealed_if, looked_up, single_cells, AreStructures, IsSingle}
+use Rattle.cr_shapes.specs.Types.{sealed, looked_up, single_cells, AreStructures, IsSingle}
 use Rattle.cr_shapes.proofs.Rows.{or_default}
 
 -- ---- lists

@@ -1,10 +1,10 @@
 // Initialisers (C11 6.7.9).
-ghost use Rattle.std.specs.Prelude.{◌≡◌, ℕ, Ok, ◌∷◌, [], take, IfOk, IfSome};
+ghost use Rattle.std.specs.Prelude.{◌≡◌, ℕ, Ok, ◌∷◌, [], IfOk, IfSome};
 ghost use Rattle.cr_memory.specs.Memory.{live_object};
 ghost use Rattle.cr_memory.specs.Access.{object_at, some_object};
-ghost use Rattle.cr_meaning.specs.Values.{cells_in, cells_of_value};
+ghost use Rattle.cr_meaning.specs.Values.{kinds_in, cells_of_value};
 ghost use Rattle.cr_meaning.specs.Work.{is_nothing};
-ghost use Rattle.cr_meaning.specs.Nodes.{initial, set_parts, unused_in, with_parts, zeroed};
+ghost use Rattle.cr_meaning.specs.Nodes.{element_of, elements_of, initial, set_parts, unused_in, with_parts, zeroed};
 ghost use Rattle.cr_eval.specs.Answers.{Answers, leaving};
 ghost use Rattle.cr_eval.specs.Table.{program_of};
 ghost use Rattle.cr_slices.specs.Shown.{Worked};
@@ -13,9 +13,10 @@ ghost use Rattle.cr_statements.specs.Kept.{value_in, values_in};
 ghost use Rattle.cr_statements.specs.Sets.{GivesParts, IsCharAt, parts_set, set_by};
 
 use crate::kept::halted;
-use cr_eval::{Table, UNUSED_VALUE, converted, is_nothing, load};
+use cr_eval::{Table, UNUSED_VALUE, converted, integer, is_nothing, load};
+use cr_ints::convert;
 use cr_meaning::{Form, Line, Value};
-use cr_memory::{Cell, Pointer, Store, Trap};
+use cr_memory::{Cell, Pointer, Scalar, Store, Trap};
 use cr_rows::Row;
 use cr_slices::Halted;
 use cr_turns::Held;
@@ -47,12 +48,27 @@ fn char_at(store: &Store, object: u32, place: u32) -> Result<Option<Cell>, Trap>
     }
 }
 
-/// The first cells of an object, so many at most.
-fn chars(alloc: Global, store: &Store, object: u32, most: usize) -> Result<Row<Cell>, Trap>
-    ensures { Answers (Ok (take most (some_object (live_object store.now object)).cells)) result }
+/// A cell of a string literal as the element of this kind that it initialises.
+fn element(kind: Scalar, cell: Cell) -> Result<Cell, Trap>
+    ensures { Answers (Ok (element_of kind cell)) result }
+{
+    match (kind, cell) {
+        (Scalar::Int(kind), Cell::Number(value)) => match integer(&Value::Number(kind, value)) {
+            Ok(value) => Ok(Cell::Number(convert(value, kind))),
+            Err(_) => Err(Trap::NoMemory),
+        },
+        _ => Ok(cell),
+    }
+}
+
+/// An object's cells as elements of these kinds, as far as there is room.
+#[tactic(auto, using(crate::proofs::Elements::one_more, crate::proofs::Elements::none_left))]
+fn elements(alloc: Global, store: &Store, object: u32, kinds: &[Scalar]) -> Result<Row<Cell>, Trap>
+    ensures { Answers (Ok (elements_of kinds.now (some_object (live_object store.now object)).cells)) result }
 {
     let mut cells = Vec::new(alloc);
-    while cells.len() < most {
+    let mut kinds_left = kinds;
+    while let [kind, more @ ..] = kinds_left {
         let Ok(place) = u32::try_from(cells.len()) else {
             return Err(Trap::NoMemory);
         };
@@ -62,31 +78,35 @@ fn chars(alloc: Global, store: &Store, object: u32, most: usize) -> Result<Row<C
         let Some(cell) = found else {
             return Ok(Row::from_vec(cells));
         };
-        let Ok(()) = cells.push(cell) else {
+        let Ok(new) = element(*kind, cell) else {
             return Err(Trap::NoMemory);
         };
+        let Ok(()) = cells.push(new) else {
+            return Err(Trap::NoMemory);
+        };
+        kinds_left = more;
     }
     Ok(Row::from_vec(cells))
 }
 
-/// A string literal's chars, as far as there is room (6.7.9p14).
-fn literal(alloc: Global, store: &Store, at: Pointer, room: usize) -> Result<Row<Cell>, Trap>
-    ensures { Answers (Ok (take room (object_at store.now at).cells)) result }
+/// A string literal's chars as the elements of an array of this type, as far as there is room (6.7.9p14).
+fn literal(
+    alloc: Global,
+    table: &Table,
+    store: &Store,
+    form: Form,
+    at: Pointer,
+) -> Result<Row<Cell>, Trap>
+    ensures { Answers (Ok (elements_of (kinds_in (program_of table.now) form) (object_at store.now at).cells)) result }
 {
-    match at {
-        Pointer::At { object, .. } => chars(alloc, store, object, room),
-        Pointer::Null => Err(Trap::NoMemory),
-    }
-}
-
-/// How many cells a type has.
-fn cells_in(table: &Table, form: Form) -> usize
-    ensures { result ≡ cells_in (program_of table.now) form }
-{
+    let Pointer::At { object, .. } = at else {
+        return Err(Trap::NoMemory);
+    };
     match form {
-        Form::Void => 0,
-        Form::Number(_) | Form::Pointer(_) => 1,
-        Form::Cells(row) => table.kinds_of(row).len(),
+        Form::Void => Ok(Row::new(alloc)),
+        Form::Number(kind) => elements(alloc, store, object, &[Scalar::Int(kind)]),
+        Form::Pointer(to) => elements(alloc, store, object, &[Scalar::Pointer(to)]),
+        Form::Cells(row) => elements(alloc, store, object, table.kinds_of(row)),
     }
 }
 
@@ -122,7 +142,7 @@ fn initial(
     ensures { Answers (initial (program_of table.now) store.now line value.now) result }
 {
     match value {
-        Value::Place(at) => literal(alloc, store, *at, cells_in(table, line.form)),
+        Value::Place(at) => literal(alloc, table, store, line.form, *at),
         _ => match converted(alloc, store, line.form, value) {
             Ok(value) => cells_of(alloc, value),
             Err(trap) => Err(trap),

@@ -19,7 +19,8 @@ pub fn part_at(parts: &[u32], at: usize) -> u32
     }
 }
 
-fn number_of(names: &Names, token: u32) -> Option<u32>
+/// The number of the entity in whose lists a token stands.
+pub fn number_of(names: &Names, token: u32) -> Option<u32>
     ensures { result ≡ number_of names.now token }
 {
     match names.of_token.as_slice().get(token as usize) {
@@ -47,7 +48,8 @@ pub fn uses_of(names: &Names, token: u32) -> &[u32]
     uses_by(names, number_of(names, token))
 }
 
-fn same_number(number: Option<u32>, other: Option<u32>) -> bool
+/// Whether two numbers are there and the same.
+pub fn same_number(number: Option<u32>, other: Option<u32>) -> bool
     ensures { result ≡ same_number number other }
 {
     match number {
@@ -164,7 +166,8 @@ fn put_function(kind: Kind, node: usize, functions: &mut Vec<u32>) -> Result<(),
     Ok(())
 }
 
-fn number(node: usize) -> Result<u32, AllocError>
+/// A number that a list keeps. The error is that it is 4,294,967,296 or more.
+pub fn number(node: usize) -> Result<u32, AllocError>
     ensures { IfOk result (λ number. number ≡ node) }
 {
     match u32::try_from(node) {

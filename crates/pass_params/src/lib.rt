@@ -2,10 +2,13 @@
 //!
 //! It promises that its variants are those of its definition, each made exactly, and where there is room for it without memory. It goes by the
 //! entities of a unit, so it stands on `cr_scopes` and `cr_events`, and on `cr_edit`, `cr_levels`, `cr_rows`, `cr_syntax` and `cr_tokens`.
+//! What it goes by, the parameters of a function, the uses of a name and changes in order, is there for other passes too.
 #![tactic(auto)]
 
 mod functions;
 mod ordered;
 mod removal;
 
+pub use functions::{number, number_of, part_at, row_of, same_number, uses_of};
+pub use ordered::in_order;
 pub use removal::parameters;

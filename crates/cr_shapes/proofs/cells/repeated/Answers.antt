@@ -1,4 +1,4 @@
-use Rattle.std.proofs.Common.{◌≡◌, ℕ, sym, ap, subst, ◌∙◌, IfOk, arith}
+use Rattle.std.proofs.Common.{◌≡◌, sym, ap, subst, ◌∙◌, IfOk, arith}
 use Rattle.cr_operations.specs.Shapes.{repeated}
 use Rattle.cr_shapes.proofs.Parts.{repeated_none}
 use Rattle.cr_shapes.proofs.cells.repeated.Goals as goal

@@ -1,4 +1,4 @@
-use Rattle.std.proofs.Common.{◌≡◌, false, [], ap, ◌∙◌, length, arith, rules}
+use Rattle.std.proofs.Common.{false, [], ap, ◌∙◌, length, arith, rules}
 use Rattle.std.specs.List.{flat_map}
 use Rattle.std.proofs.lemmas.List.{get_or_past}
 use Rattle.cr_types.specs.Types.{type_at}

@@ -1,0 +1,4 @@
+pub mod Columns
+pub mod Named
+pub mod Previous
+pub mod Surroundings

@@ -1,0 +1,4 @@
+pub mod Roles
+pub mod Names
+pub mod Before
+pub mod Lists

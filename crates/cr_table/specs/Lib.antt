@@ -1,0 +1,4 @@
+pub mod Names
+pub mod Labels
+pub mod Roles
+pub mod Table
