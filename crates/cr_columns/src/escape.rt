@@ -143,7 +143,7 @@ fn byte(inside: &[u8], further: usize) -> u8
 }
 
 // One byte further: how many bytes behind it belong to the same character.
-#[tactic(auto, using(crate::proofs::Characters::begun, crate::proofs::Characters::belongs))]
+#[tactic(auto, using(crate::proofs::Characters::belongs))]
 fn put_first(
     bytes: &mut Vec<u8>,
     inside: &[u8],

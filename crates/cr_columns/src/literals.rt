@@ -52,12 +52,7 @@ fn joined(
     Ok(bytes)
 }
 
-fn literal(
-    alloc: Global,
-    file: &[u8],
-    tokens: &[Token],
-    node: &Node,
-) -> Result<Row<u8>, AllocError>
+fn literal(alloc: Global, file: &[u8], tokens: &[Token], node: &Node) -> Result<Row<u8>, AllocError>
     requires { AreSpans file.now tokens.now }
     ensures { IfOk result (λ text. text ≡ literal_of file.now tokens.now node.now) }
 {
