@@ -1,5 +1,5 @@
 // The characters of literals.
-ghost use Rattle.std.specs.Prelude.{◌≡◌, ◌+◌, ◌<◌, ◌≤◌, ◌++◌, ◌∷◌, [], ℕ, IfOk, OnOk, drop, length, slice_index, take};
+ghost use Rattle.std.specs.Prelude.{◌≡◌, ◌+◌, ◌<◌, ◌≤◌, ◌++◌, IfOk, OnOk, drop, length, slice_index, take};
 ghost use Rattle.std.specs.List.{prefix_len};
 ghost use Rattle.cr_tokens.specs.Numbers.{digit_value as digit_value_of};
 ghost use Rattle.cr_constants.specs.Literals.{code_of, escape_of, magnitude_of, simple_escape_of};

@@ -1,5 +1,5 @@
 // String literals.
-ghost use Rattle.std.specs.Prelude.{◌≡◌, ◌+◌, ◌-◌, ◌++◌, ◌∷◌, [], IfOk, length, slice_get};
+ghost use Rattle.std.specs.Prelude.{◌≡◌, IfOk};
 ghost use Rattle.cr_syntax.specs.Words.{AreSpans};
 ghost use Rattle.cr_constants.specs.Literals.{inside_of};
 ghost use Rattle.cr_rules.specs.Known.{spelling_of};
