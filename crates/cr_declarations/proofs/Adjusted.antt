@@ -13,12 +13,12 @@ use Rattle.cr_rules.specs.declared.known.Member.{Member}
 use Rattle.cr_declarations.specs.Before.{before_at, rows_of, AreColumns}
 use Rattle.cr_declarations.specs.Named.{member_of}
 
-types_kept : (old new : List Shape) (rows : List ℕ) → Grows old new → AreRows old rows → map (type_at new) rows ≡ map (type_at old) rows
+pub types_kept : (old new : List Shape) (rows : List ℕ) → Grows old new → AreRows old rows → map (type_at new) rows ≡ map (type_at old) rows
 types_kept old new [] grows h = refl
 types_kept old new (row ∷ rows) grows h =
     λ s. grows.keeps row (h 0 (omega arith)) s ∷ types_kept old new rows grows (λ j low. h (suc j) (omega (arith, low))) s
 
-rows_kept : (old new : List Shape) (rows : List ℕ) → Grows old new → AreRows old rows → AreRows new rows
+pub rows_kept : (old new : List Shape) (rows : List ℕ) → Grows old new → AreRows old rows → AreRows new rows
 rows_kept old new rows grows h k low =
     let l = grows.longer in
     let e = h k low in

@@ -1,5 +1,7 @@
 ghost use Rattle.std.specs.Prelude.{◌≡◌, ◌<◌, [], None, false, length, slice_index_or};
 ghost use Rattle.cr_types.specs.Types.{type_at};
+ghost use Rattle.cr_rules.specs.declared.known.Declared.TheVariants.{Unclear};
+ghost use Rattle.cr_rules.specs.Known.{declared_by};
 ghost use Rattle.cr_declared.specs.Specifiers.{nothing};
 ghost use Rattle.cr_declared.specs.Declarators.{name_alone};
 ghost use Rattle.cr_declarations.specs.Before.{Before, before_at, AreColumns, type_in, derived_in, declarator_in, specified_in, enumerated_in};
@@ -39,7 +41,7 @@ pub struct Columns<'a> {
 }
 
 /// What specifiers say.
-pub(crate) fn specified_of(columns: &Columns, node: Option<u32>) -> Specified
+pub fn specified_of(columns: &Columns, node: Option<u32>) -> Specified
     ensures { result ≡ specified_in (λ p. slice_index_or columns.now.specified.now p nothing) node }
 {
     match node {
@@ -59,7 +61,7 @@ fn specified_at(specified: &[Specified], at: usize) -> Specified
 }
 
 /// The row of the type that a node names.
-pub(crate) fn named_of(table: &Table, columns: &Columns, node: Option<u32>) -> u32
+pub fn named_of(table: &Table, columns: &Columns, node: Option<u32>) -> u32
     requires { AreColumns table.now columns.now }
     ensures within { result < length table.now }
     ensures is { type_at table.now result ≡ type_in (before_at table.now columns.now).named node }
@@ -125,8 +127,28 @@ fn enumerated_at(enumerated: &[Option<Enumerated>], at: usize) -> Option<Enumera
     }
 }
 
+/// What a node declares.
+pub fn declared_of(columns: &Columns, node: Option<u32>) -> Declared
+    ensures { result ≡ declared_by columns.now.declared.now node }
+{
+    match node {
+        Some(node) => declared_at(columns.declared, node as usize),
+        None => Declared::Unclear,
+    }
+}
+
+fn declared_at(declared: &[Declared], at: usize) -> Declared
+    ensures { result ≡ slice_index_or declared.now at Unclear }
+{
+    if at < declared.len() {
+        declared[at]
+    } else {
+        Declared::Unclear
+    }
+}
+
 /// The rows of the types of a function's parameters.
-pub(crate) fn parameters_at<'a>(columns: &'a Columns, at: u32) -> &'a [u32]
+pub fn parameters_at<'a>(columns: &'a Columns, at: u32) -> &'a [u32]
     ensures { result.now ≡ slice_index_or columns.now.parameters.now at [] }
 {
     rows_at(columns.parameters, at as usize)

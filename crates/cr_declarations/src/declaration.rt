@@ -6,7 +6,7 @@ use cr_rules::part_at;
 use cr_syntax::Kind;
 
 /// Whether a node of a kind is a declarator, with a name or without.
-pub(crate) fn is_declarator(kind: Kind) -> bool
+pub fn is_declarator(kind: Kind) -> bool
     ensures { result ≡ is_declarator kind }
 {
     match kind {
@@ -31,7 +31,7 @@ fn is_declaration(kind: Option<Kind>) -> bool
 }
 
 /// Whether a node above a declarator has its initialiser.
-pub(crate) fn is_initialised(kind: Option<Kind>) -> bool
+pub fn is_initialised(kind: Option<Kind>) -> bool
     ensures { result ≡ is_initialised kind }
 {
     match kind {
@@ -70,7 +70,7 @@ fn declaration_at(tree: &Tree, node: Option<u32>) -> Option<u32>
 }
 
 /// The declaration that has a node as a declarator, maybe with its initialiser; no part of a declarator has one.
-pub(crate) fn declaration_of(tree: &Tree, at: u32) -> Option<u32>
+pub fn declaration_of(tree: &Tree, at: u32) -> Option<u32>
     ensures { result ≡ declaration_of tree.now.nodes.now tree.now.above.now at }
 {
     let over = above(tree, at);
@@ -82,7 +82,7 @@ pub(crate) fn declaration_of(tree: &Tree, at: u32) -> Option<u32>
 }
 
 /// The specifiers of a declaration.
-pub(crate) fn specifiers_in(tree: &Tree, declaration: Option<u32>) -> Option<u32>
+pub fn specifiers_in(tree: &Tree, declaration: Option<u32>) -> Option<u32>
     ensures { result ≡ specifiers_in tree.now.nodes.now declaration }
 {
     part_at(parts_of(tree.nodes, declaration), 0)

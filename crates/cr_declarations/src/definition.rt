@@ -45,7 +45,8 @@ pub(crate) fn definition_fault(
     Ok(lesser(storage, lesser(inline, last)))
 }
 
-fn name_in(tree: &Tree, declarator: Option<u32>) -> Option<u32>
+/// The token of the name that a declarator declares.
+pub fn name_in(tree: &Tree, declarator: Option<u32>) -> Option<u32>
     ensures { result ≡ name_in tree.now.nodes.now declarator }
 {
     match declarator {

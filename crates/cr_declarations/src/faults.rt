@@ -112,7 +112,7 @@ fn other_fault(
 }
 
 /// The break of a row at a token, where that is there.
-pub(crate) fn fault_at(row: u8, token: Option<u32>) -> Option<Break>
+pub fn fault_at(row: u8, token: Option<u32>) -> Option<Break>
     ensures { result ≡ fault_at row token }
 {
     match token {
@@ -121,13 +121,15 @@ pub(crate) fn fault_at(row: u8, token: Option<u32>) -> Option<Break>
     }
 }
 
-fn token_if(judged: bool, token: Option<u32>) -> Option<u32>
+/// A token, where it is judged.
+pub fn token_if(judged: bool, token: Option<u32>) -> Option<u32>
     ensures { result ≡ token_if judged token }
 {
     if judged { token } else { None }
 }
 
-fn place_of(tree: &Tree, at: u32) -> Place
+/// What the declaration around a node is for.
+pub fn place_of(tree: &Tree, at: u32) -> Place
     ensures { result ≡ place_of tree.now at }
 {
     around(tree, at).place

@@ -19,12 +19,14 @@ mod ordinary;
 mod specifiers;
 mod tree;
 
-pub use before::Columns;
+pub use before::{Columns, declared_of, named_of, parameters_at, specified_of};
 pub use contents::{enumerator, structure};
+pub use declaration::{declaration_of, is_declarator, is_initialised, specifiers_in};
 pub use declarators::{declarator, derivations};
-pub use faults::{Own, broken};
+pub use definition::name_in;
+pub use faults::{Own, broken, fault_at, place_of, token_if};
 pub use lists::{members, parameters};
 pub use names::named;
-pub use ordinary::declared;
+pub use ordinary::{class_of, declared};
 pub use specifiers::specified;
-pub use tree::{Tag, Tree};
+pub use tree::{Tag, Tree, above, earlier, first_of, kind_of, same, spelling, visible};

@@ -128,7 +128,7 @@ fn value_by(tree: &Tree, class: Option<Class>, function: Option<u32>, row: u32) 
 }
 
 /// The storage class of specifiers.
-pub(crate) fn class_of(storage: Option<Storage>) -> Option<Class>
+pub fn class_of(storage: Option<Storage>) -> Option<Class>
     ensures { result ≡ class_of storage }
 {
     match storage {

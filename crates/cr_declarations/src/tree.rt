@@ -38,12 +38,16 @@ pub struct Tree<'a> {
     pub around: &'a [Around],
     /// For each identifier, call and typedef name the node that declares its name.
     pub visible: &'a [Option<u32>],
+    /// For each node that declares a name the declaration of that name that is visible directly before it (C11 6.2.2p4).
+    pub earlier: &'a [Option<u32>],
+    /// For each such node the last one before it that declares the same, in whatever scope (6.2.7p2).
+    pub same: &'a [Option<u32>],
     /// The tags of specifiers.
     pub tags: &'a [Option<Tag>],
 }
 
 /// The kind of a node.
-pub(crate) fn kind_of(nodes: &[Node], node: Option<u32>) -> Option<Kind>
+pub fn kind_of(nodes: &[Node], node: Option<u32>) -> Option<Kind>
     ensures { result ≡ kind_in nodes.now node }
 {
     match node {
@@ -63,7 +67,7 @@ fn kind_at(nodes: &[Node], at: usize) -> Option<Kind>
 }
 
 /// The first token of a node; 0 where there is none.
-pub(crate) fn first_of(nodes: &[Node], node: Option<u32>) -> u32
+pub fn first_of(nodes: &[Node], node: Option<u32>) -> u32
     ensures { result ≡ first_in nodes.now node }
 {
     match node {
@@ -99,7 +103,7 @@ fn parts_at<'a>(nodes: &'a [Node], at: usize) -> &'a [u32]
 }
 
 /// The bytes that spell a token; none where there is no token.
-pub(crate) fn spelling<'a>(tree: &'a Tree, token: usize) -> &'a [u8]
+pub fn spelling<'a>(tree: &'a Tree, token: usize) -> &'a [u8]
     requires { AreSpans tree.now.file.now tree.now.tokens.now }
     ensures { result.now ≡ spelling_of tree.now.file.now tree.now.tokens.now token }
 {
@@ -111,7 +115,7 @@ pub(crate) fn spelling<'a>(tree: &'a Tree, token: usize) -> &'a [u8]
 }
 
 /// The node above a node.
-pub(crate) fn above(tree: &Tree, at: u32) -> Option<u32>
+pub fn above(tree: &Tree, at: u32) -> Option<u32>
     ensures { result ≡ slice_index_or tree.now.above.now at None }
 {
     link_at(tree.above, at as usize)
@@ -125,10 +129,24 @@ pub(crate) fn previous(tree: &Tree, at: u32) -> Option<u32>
 }
 
 /// The node that declares the name of an identifier, a call or a typedef name.
-pub(crate) fn visible(tree: &Tree, at: u32) -> Option<u32>
+pub fn visible(tree: &Tree, at: u32) -> Option<u32>
     ensures { result ≡ slice_index_or tree.now.visible.now at None }
 {
     link_at(tree.visible, at as usize)
+}
+
+/// The declaration of a node's name that is visible directly before it.
+pub fn earlier(tree: &Tree, at: u32) -> Option<u32>
+    ensures { result ≡ slice_index_or tree.now.earlier.now at None }
+{
+    link_at(tree.earlier, at as usize)
+}
+
+/// The last declaration before a node that declares the same.
+pub fn same(tree: &Tree, at: u32) -> Option<u32>
+    ensures { result ≡ slice_index_or tree.now.same.now at None }
+{
+    link_at(tree.same, at as usize)
 }
 
 fn link_at(links: &[Option<u32>], at: usize) -> Option<u32>

@@ -1,7 +1,6 @@
 -- Lemmas on cells in order, and on lists of them that rise.
 use Rattle.std.proofs.Common.{◌≡◌, ℕ, zero, suc, ◌+◌, ◌<◌, ◌≤◌, Bool, true, false, ◌&&◌, ◌||◌, cond, List, [], ◌∷◌, ◌++◌, length, get_or, take, drop, refl, sym, ◌∙◌, ap, subst, arith, nat_eq, ◌⊎◌, inl, inr}
 use Rattle.std.specs.Prelude.{Option, Some, None, find, Result, Ok, Err, is_ok, OnOk, OnErr}
-use Rattle.smallvec.specs.SmallVec.{SmallVec}
 use Rattle.std.specs.declared.cmp.Ordering.{Ordering}
 use Rattle.std.specs.declared.cmp.Ordering.TheVariants.{Less, Equal, Greater}
 use Rattle.std.specs.Ordering.{ordering_index, ordering_reverse, is_gt, is_lt, is_eq, ord_min}
@@ -209,10 +208,10 @@ and-swap false true = refl
 and-swap false false = refl
 
 -- an insert that may have failed
-pub IsRising-kept : {A E : Type 0} (before now : SmallVec Cell) (i : ℕ) (cell : Cell) (r : Result A E) → OnOk r (now.items ≡ insert before.items i cell) → OnErr r (now ≡ before)
-    → IsRising (insert before.items i cell) → IsRising before.items → IsRising now.items
+pub IsRising-kept : {A E : Type 0} (before now : List Cell) (i : ℕ) (cell : Cell) (r : Result A E) → OnOk r (now ≡ insert before i cell) → OnErr r (now ≡ before)
+    → IsRising (insert before i cell) → IsRising before → IsRising now
 IsRising-kept before now i cell (Ok _) ok err first second = (let P : List Cell → Type 0 = IsRising in subst P (sym ok) first)
-IsRising-kept before now i cell (Err _) ok err first second = (let P : SmallVec Cell → Type 0 = λ v. IsRising v.items in subst P (sym err) second)
+IsRising-kept before now i cell (Err _) ok err first second = (let P : List Cell → Type 0 = IsRising in subst P (sym err) second)
 
 -- what a search of a rising list says of the place where it found nothing
 pub IsRising-searched : (cells given : List Cell) (cell : Cell) (i : ℕ) → given ≡ cells → IsRising cells → i ≤ length given → IsBinarySearchResult {X = Cell} (λ d. cell_cmp d cell) given (Err i) → IsRising (insert cells i cell)

@@ -4,4 +4,4 @@ use Rattle.cr_footprint.specs.Cell.{Cell, holds}
 use Rattle.cr_footprint.specs.declared.cells.Cells.{Cells}
 
 abbrev pub has : Cells → Cell → Bool
-has cells c = holds cells.list.items c
+has cells c = holds cells.list c

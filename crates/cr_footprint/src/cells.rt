@@ -1,8 +1,9 @@
-ghost use Rattle.std.specs.Prelude.{◌≡◌, ◌≤◌, ◌&&◌, ◌||◌, false, find, insert, length, IfOk, IsTrue, OnErr, OnOk};
+ghost use Rattle.std.specs.Prelude.{◌≡◌, ◌&&◌, ◌||◌, false, find, IfOk, IsTrue, OnOk};
 ghost use Rattle.std.proofs.Props.{props};
 ghost use Rattle.cr_footprint.specs.Merge.{merged};
 ghost use Rattle.cr_footprint.specs.Cell.{Cell, holds, same_cell, span, IsRising, IsLeastOf};
 
+use crate::list::{CellList, Several};
 use smallvec::SmallVec;
 use std::alloc::{AllocError, Global};
 use std::cmp::Ordering;
@@ -12,23 +13,8 @@ use std::ops::Range;
 // Up to so many cells are put to a set one by one.
 const FEW: usize = 8;
 
-type List = SmallVec<(u32, u32), 4>;
-
-// Puts a cell before the one at a place, or behind all.
-fn put(list: &mut List, place: usize, cell: (u32, u32)) -> Result<(), AllocError>
-    requires { place ≤ length list.old.items }
-    ensures ok { OnOk result (list.new.items ≡ insert list.old.items place cell) }
-    ensures err { OnErr result (list.new ≡ list.old) }
-{
-    if place == list.len() {
-        Ok(list.push(cell)?)
-    } else {
-        Ok(list.insert(place, cell)?)
-    }
-}
-
 /// The cells of two lists.
-fn merge(alloc: Global, first: &[(u32, u32)], second: &[(u32, u32)]) -> Result<List, AllocError>
+fn merge(alloc: Global, first: &[(u32, u32)], second: &[(u32, u32)]) -> Result<Several, AllocError>
     ensures { IfOk result (λ all. all.items ≡ merged first.now second.now) }
 {
     let mut all = SmallVec::with_capacity(alloc, first.len().saturating_add(second.len()))?;
@@ -60,11 +46,11 @@ fn merge(alloc: Global, first: &[(u32, u32)], second: &[(u32, u32)]) -> Result<L
     }
 }
 
-/// A set of cells, as a list in rising order. Up to four take no memory.
+/// A set of cells, as a list in rising order. A single one takes no memory.
 #[derive(Drop)]
 pub struct Cells {
-    list: List,
-    ghost rising: { IsRising list.items } by { Prim.hlevel props },
+    list: CellList,
+    ghost rising: { IsRising list } by { Prim.hlevel props },
 }
 
 impl Cells {
@@ -75,22 +61,22 @@ impl Cells {
         ensures { (c : Cell) → has result c ≡ false }
     {
         Cells {
-            list: SmallVec::new(alloc),
+            list: CellList::new(alloc),
         }
     }
 
     /// One cell. Takes no memory.
     #[inline]
-    pub fn one(alloc: Global, cell: (u32, u32)) -> Result<Cells, AllocError>
-        ensures { IfOk result (λ set. (c : Cell) → has set c ≡ same_cell c cell) }
+    pub fn one(alloc: Global, cell: (u32, u32)) -> Cells
+        ensures { (c : Cell) → has result c ≡ same_cell c cell }
     {
-        let mut list = SmallVec::new(alloc);
-        list.push(cell)?;
-        Ok(Cells { list })
+        Cells {
+            list: CellList::one(alloc, cell),
+        }
     }
 
     /// The allocator that the set was made with.
-    pub fn allocator(&self) -> &Global {
+    pub fn allocator(&self) -> Global {
         self.list.allocator()
     }
 
@@ -107,23 +93,23 @@ impl Cells {
     pub fn is_empty(&self) -> bool
         ensures { IsTrue result → (c : Cell) → has self.now c ≡ false }
     {
-        self.list.is_empty()
+        self.list.len() == 0
     }
 
     /// Whether the set has a cell.
     pub fn contains(&self, cell: (u32, u32)) -> bool
         ensures { result ≡ has self.now cell }
     {
-        self.list.binary_search(&cell).is_ok()
+        self.list.as_slice().binary_search(&cell).is_ok()
     }
 
     /// Puts a cell in its place, unless it is there.
     pub fn insert(&mut self, cell: (u32, u32)) -> Result<(), AllocError>
         ensures { OnOk result ((c : Cell) → has self.new c ≡ (has self.old c || same_cell c cell)) }
     {
-        match self.list.binary_search(&cell) {
+        match self.list.as_slice().binary_search(&cell) {
             Ok(_) => Ok(()),
-            Err(place) => put(&mut self.list, place, cell),
+            Err(place) => self.list.insert(place, cell),
         }
     }
 
@@ -150,8 +136,9 @@ impl Cells {
     fn merged_with(&self, other: &Cells) -> Result<Cells, AllocError>
         ensures { IfOk result (λ cells. (c : Cell) → has cells c ≡ (has self.now c || has other.now c)) }
     {
-        let alloc = *self.list.allocator();
-        let list = merge(alloc, self.list.as_slice(), other.list.as_slice())?;
+        let alloc = self.list.allocator();
+        let cells = merge(alloc, self.list.as_slice(), other.list.as_slice())?;
+        let list = CellList::from_cells(alloc, cells)?;
         Ok(Cells { list })
     }
 
@@ -188,9 +175,13 @@ impl Cells {
     }
 
     fn first_within(&self, other: &Cells) -> Option<(u32, u32)>
-        ensures { result ≡ find (has other.now) self.now.list.items }
+        ensures { result ≡ find (has other.now) self.now.list }
     {
-        self.list.iter().copied().find(|cell| other.contains(*cell))
+        self.list
+            .as_slice()
+            .iter()
+            .copied()
+            .find(|cell| other.contains(*cell))
     }
 
     /// The least cell that stands in both.

@@ -50,7 +50,7 @@ impl Foot {
         ensures { IfOk result (λ foot. sets foot ≡ with_read no_events (object, cell)) }
     {
         Ok(Foot {
-            reads: Cells::one(alloc, (object, cell))?,
+            reads: Cells::one(alloc, (object, cell)),
             writes: Cells::new(alloc),
             opens: Cells::new(alloc),
         })
@@ -62,7 +62,7 @@ impl Foot {
     {
         Ok(Foot {
             reads: Cells::new(alloc),
-            writes: Cells::one(alloc, (object, cell))?,
+            writes: Cells::one(alloc, (object, cell)),
             opens: Cells::new(alloc),
         })
     }
@@ -188,11 +188,11 @@ impl Foot {
         ensures conflict { (o c : ℕ) → result ≡ Err (FootEnd.Conflict o c) → IsLeast (open_in (sets self) (span object cells.start cells.end)) (o, c) }
     {
         let (first, end) = (cells.start, cells.end);
-        let mut own = Cells::of_span(*self.opens.allocator(), object, first..end)?;
+        let mut own = Cells::of_span(self.opens.allocator(), object, first..end)?;
         if let Some((object, cell)) = self.opens.first_shared(&own) {
             return Err(FootEnd::Conflict(object, cell));
         }
-        let mut more = Cells::of_span(*self.opens.allocator(), object, first..end)?;
+        let mut more = Cells::of_span(self.opens.allocator(), object, first..end)?;
         self.writes.take_in(&mut own)?;
         self.opens.take_in(&mut more)?;
         Ok(self)
@@ -205,7 +205,7 @@ impl Foot {
         ensures apart { OnOk result ((c : Cell) → open_in (sets self) (span object cells.start cells.end) c ≡ false) }
         ensures conflict { (o c : ℕ) → result ≡ Err (FootEnd.Conflict o c) → IsLeast (open_in (sets self) (span object cells.start cells.end)) (o, c) }
     {
-        let mut own = Cells::of_span(*self.opens.allocator(), object, cells)?;
+        let mut own = Cells::of_span(self.opens.allocator(), object, cells)?;
         if let Some((object, cell)) = self.opens.first_shared(&own) {
             return Err(FootEnd::Conflict(object, cell));
         }

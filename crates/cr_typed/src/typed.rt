@@ -1,5 +1,6 @@
 use cr_rows::Row;
-use cr_syntax::Unit;
+use cr_syntax::Node;
+use cr_tokens::Token;
 use cr_types::{Layout, Table};
 
 /// What a declared name stands for in a run (C11 6.2.4).
@@ -26,12 +27,16 @@ pub struct Put {
     pub user: u32,
 }
 
-/// A unit with the types of its expressions. Each column has one entry a node, and what is said of no node is arbitrary.
+/// A unit with the types of its expressions. Each column has one entry a node, and what is said of no node is arbitrary. It holds
+/// nothing but lists, so that two such units with the same columns are the same.
 #[derive(Drop)]
 pub struct Typed {
     /// The file's bytes.
     pub file: Row<u8>,
-    pub unit: Unit,
+    /// The unit's tokens, nodes and external declarations.
+    pub tokens: Row<Token>,
+    pub nodes: Row<Node>,
+    pub items: Row<u32>,
     /// The types, which the others name by their numbers.
     pub shapes: Table,
     /// The row of each expression's type; of every other node one of no type.

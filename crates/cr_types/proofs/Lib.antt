@@ -1,3 +1,4 @@
 pub mod Tables
 pub mod Itself
 pub mod Fitted
+pub mod Shared

@@ -32,6 +32,10 @@ made_length (s ∷ ss) made =
     let e = made_length ss (with_row made s) in
     omega (arith, length-append made (type_of (λ row. slice_index_or made row unknown) s ∷ []))
 
+pub types_length : (ss : List Shape) → length (types_of ss) ≡ length ss
+unfolding types_of
+types_length ss = let e = made_length ss [] in omega (arith, e)
+
 made_append : (ss ts : List Shape) (made : List Qualified) → fold with_row made (ss ++ ts) ≡ fold with_row (fold with_row made ss) ts
 made_append [] ts made = refl
 made_append (s ∷ ss) ts made = made_append ss ts (with_row made s)
@@ -86,7 +90,7 @@ shape_is ss row s table q =
       below = room;
     }
 
-slice_of : (ss : List Shape) (s shape : Shape) (row : ℕ) → slice_get (ss ++ s ∷ []) row ≡ Some shape → (slice_get ss row ≡ Some shape) ⊎ ((row ≡ length ss) × (shape ≡ s))
+pub slice_of : (ss : List Shape) (s shape : Shape) (row : ℕ) → slice_get (ss ++ s ∷ []) row ≡ Some shape → (slice_get ss row ≡ Some shape) ⊎ ((row ≡ length ss) × (shape ≡ s))
 slice_of [] s shape zero q = inr (refl, cc)
 slice_of [] s shape (suc row) q = absurd (cc)
 slice_of (t ∷ ts) s shape zero q = inl q

@@ -1,3 +1,4 @@
 pub mod Types
 pub mod Relations
 pub mod Layouts
+pub mod Shared

@@ -121,7 +121,8 @@ fn are_same(left: CType, right: CType) -> bool
     }
 }
 
-fn number_of(kind: IntKind) -> u8
+/// The number of an integer type among all.
+pub(crate) fn number_of(kind: IntKind) -> u8
     ensures { result ≡ number_of kind }
 {
     match kind {

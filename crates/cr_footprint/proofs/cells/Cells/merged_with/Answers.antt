@@ -7,11 +7,11 @@ pub invariant_of-result : goal.invariant_of-result
 invariant_of-result c = record {
   rising =
       (let P : List Cell → Type 0 = IsRising in
-      subst P (sym (merged_as _ _ _ _ _ c.in_ok-list.ensures c.as_slice.ensures c.as_slice-2.ensures))
-      (merged-rising c.args.self.now.list.items c.args.other.now.list.items c.args.self.now.rising c.args.other.now.rising));
+      subst P (sym (c.in_ok-list.ensures ∙ merged_as _ _ _ _ _ c.in_ok-cells.ensures c.as_slice.ensures c.as_slice-2.ensures))
+      (merged-rising c.args.self.now.list c.args.other.now.list c.args.self.now.rising c.args.other.now.rising));
 }
 
 pub returns : goal.returns
 returns c d =
-    ap (λ l. holds l d) (merged_as _ _ _ _ _ c.in_ok-list.ensures c.as_slice.ensures c.as_slice-2.ensures)
-    ∙ merged-holds c.args.self.now.list.items c.args.other.now.list.items d
+    ap (λ l. holds l d) (c.in_ok-list.ensures ∙ merged_as _ _ _ _ _ c.in_ok-cells.ensures c.as_slice.ensures c.as_slice-2.ensures)
+    ∙ merged-holds c.args.self.now.list c.args.other.now.list d

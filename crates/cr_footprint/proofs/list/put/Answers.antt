@@ -2,7 +2,7 @@ use Rattle.std.proofs.Common.{ℕ, List, sym, ap, ◌∙◌}
 use Rattle.std.specs.List.{insert}
 use Rattle.cr_footprint.specs.Cell.{Cell}
 use Rattle.cr_footprint.proofs.Rising.{insert-last}
-use Rattle.cr_footprint.proofs.cells.put.Goals as goal
+use Rattle.cr_footprint.proofs.list.put.Goals as goal
 
 pub returns-in_ok-push-clause-ok : goal.returns-in_ok-push-clause-ok
 returns-in_ok-push-clause-ok c =
