@@ -51,14 +51,14 @@ kind_if None = kind.Break
 kind_if (Some node) = node.kind
 
 abbrev pub kind_at : Typed → ℕ → Kind
-kind_at t node = kind_if (slice_get t.unit.nodes node)
+kind_at t node = kind_if (slice_get t.nodes node)
 
 abbrev pub parts_if : Option Node → List ℕ
 parts_if None = []
 parts_if (Some node) = node.parts
 
 abbrev pub parts_at : Typed → ℕ → List ℕ
-parts_at t node = parts_if (slice_get t.unit.nodes node)
+parts_at t node = parts_if (slice_get t.nodes node)
 
 abbrev pub part_at : Typed → ℕ → ℕ → ℕ
 part_at t node number = slice_index_or (parts_at t node) number 0
@@ -72,10 +72,10 @@ last_if None = 0
 last_if (Some node) = node.last
 
 abbrev pub first_at : Typed → ℕ → ℕ
-first_at t node = first_if (slice_get t.unit.nodes node)
+first_at t node = first_if (slice_get t.nodes node)
 
 abbrev pub last_at : Typed → ℕ → ℕ
-last_at t node = last_if (slice_get t.unit.nodes node)
+last_at t node = last_if (slice_get t.nodes node)
 
 abbrev pub spelling_if : List ℕ → Option Token → List ℕ
 spelling_if file None = []
@@ -83,7 +83,7 @@ spelling_if file (Some token) = slice_range file token.start token.end
 
 -- a call is spelled like this function
 abbrev pub calls : Typed → ℕ → List ℕ → Bool
-calls t node name = bytes_eq (spelling_if t.file (slice_get t.unit.tokens.list.items (first_at t node))) name
+calls t node name = bytes_eq (spelling_if t.file (slice_get t.tokens (first_at t node))) name
 
 -- the node that declares an entity first
 abbrev pub entity_if : Option ℕ → ℕ → ℕ
@@ -104,7 +104,7 @@ name_by zero t node = node
 name_by (suc more) t node = if is_name (kind_at t node) then node else name_by more t (part_at t node 0)
 
 abbrev pub name_of : Typed → ℕ → ℕ
-name_of t node = name_by (length t.unit.nodes) t node
+name_of t node = name_by (length t.nodes) t node
 
 abbrev pub is_automatic_by : Duration → Bool
 is_automatic_by duration.Automatic = true
@@ -340,11 +340,11 @@ case_of item value = record { constant = value; item = item }
 -- the cases of a switch's items, from a number on, and the first item with `default`
 abbrev pub cases_from : Typed → ℕ → List ℕ → List Case
 cases_from t number [] = []
-cases_from t number (item ∷ items) = map (case_of number) (cases_by (length t.unit.nodes) t item) ++ cases_from t (suc number) items
+cases_from t number (item ∷ items) = map (case_of number) (cases_by (length t.nodes) t item) ++ cases_from t (suc number) items
 
 abbrev pub default_from : Typed → ℕ → List ℕ → Option ℕ
 default_from t number [] = None
-default_from t number (item ∷ items) = if has_default_by (length t.unit.nodes) t item then Some number else default_from t (suc number) items
+default_from t number (item ∷ items) = if has_default_by (length t.nodes) t item then Some number else default_from t (suc number) items
 
 -- the identifiers that label an item, as nodes, and those of a block's items, from a number on
 abbrev pub marks_by : ℕ → Typed → ℕ → List ℕ
@@ -358,7 +358,7 @@ target_of item label = record { label = label; item = item }
 
 abbrev pub targets_from : Typed → ℕ → List ℕ → List Target
 targets_from t number [] = []
-targets_from t number (item ∷ items) = map (target_of number) (marks_by (length t.unit.nodes) t item) ++ targets_from t (suc number) items
+targets_from t number (item ∷ items) = map (target_of number) (marks_by (length t.nodes) t item) ++ targets_from t (suc number) items
 
 abbrev pub switch_of : Typed → ℕ → ℕ → List ℕ → Op
 switch_of t node body items = node_op (part_at t node 0 ∷ items)
@@ -473,8 +473,8 @@ strings_of t (count ∷ vector ∷ []) = scalar.Pointer (number_of t (pointed (p
 strings_of t other = scalar.Pointer 0
 
 abbrev pub unit_op : Typed → Op
-unit_op t = node_op (nodes_from (is_static_initialiser t) 0 t.unit.nodes)
-    (work.Program (nodes_from (is_lasting t) 0 t.unit.nodes) (map (parameter_of t) (slice_index_or t.parameters t.main []))
+unit_op t = node_op (nodes_from (is_static_initialiser t) 0 t.nodes)
+    (work.Program (nodes_from (is_lasting t) 0 t.nodes) (map (parameter_of t) (slice_index_or t.parameters t.main []))
     (strings_of t (slice_index_or t.parameters t.main [])) (part_at t t.main 2))
 
 -- a literal's bytes as values of char (6.4.5p6), which is signed
@@ -491,7 +491,7 @@ object_shape t node other = shape_of t (named_type t node)
 
 abbrev pub program_of : Typed → Limits → Program
 program_of t limits = record {
-  ops = ops_from t 0 t.unit.nodes ++ unit_op t ∷ [];
+  ops = ops_from t 0 t.nodes ++ unit_op t ∷ [];
   shape = λ node. object_shape t node (kind_at t node);
   literal = λ node. literal_by t node (kind_at t node);
   kinds = λ row. map (λ own. own.0) (shape_of t (type_at t.shapes row));

@@ -112,7 +112,7 @@ structure_cells (suc more) t constant node =
     flat_map (λ row. cells_with (structure_cells more t) t constant (type_at t.shapes row)) (slice_index_or t.members node [])
 
 abbrev pub shape_of : Typed → Qualified → List (Scalar × Guard)
-shape_of t type = cells_with (structure_cells (length t.unit.nodes) t) t false type
+shape_of t type = cells_with (structure_cells (length t.nodes) t) t false type
 
 -- ---- members (6.5.2.3)
 

@@ -14,10 +14,10 @@ none_past [] k h = refl
 none_past (x ∷ xs) zero h = absurd (omega (arith, h))
 none_past (x ∷ xs) (suc k) h = none_past xs k (omega (arith, h))
 
-kind_past : (t : Typed) (k : ℕ) → length t.unit.nodes ≤ k → kind_at t k ≡ kind.Break
-kind_past t k h = ap kind_if (none_past t.unit.nodes k h)
+kind_past : (t : Typed) (k : ℕ) → length t.nodes ≤ k → kind_at t k ≡ kind.Break
+kind_past t k h = ap kind_if (none_past t.nodes k h)
 
-pub no_shape : (t : Typed) (k : ℕ) → IsTyped t → length t.unit.nodes ≤ k → object_shape t k (kind_at t k) ≡ []
+pub no_shape : (t : Typed) (k : ℕ) → IsTyped t → length t.nodes ≤ k → object_shape t k (kind_at t k) ≡ []
 no_shape t k typed h =
     let n = typed.named_count in
     let row : slice_index_or t.named k 0 ≡ 0 = get_or_past t.named k 0 (omega (arith, h, n)) in
@@ -25,7 +25,7 @@ no_shape t k typed h =
     ∙ ap (λ row. shape_of t (type_at t.shapes row)) row
     ∙ ap (shape_of t) typed.no_type
 
-pub no_literal : (t : Typed) (k : ℕ) → length t.unit.nodes ≤ k → literal_by t k (kind_at t k) ≡ None
+pub no_literal : (t : Typed) (k : ℕ) → length t.nodes ≤ k → literal_by t k (kind_at t k) ≡ None
 no_literal t k h = ap (λ kind. literal_by t k kind) (kind_past t k h)
 
 pub no_kinds : (t : Typed) (row : ℕ) → length t.shapes ≤ row → map (λ own. own.0) (shape_of t (type_at t.shapes row)) ≡ []

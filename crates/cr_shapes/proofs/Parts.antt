@@ -118,27 +118,27 @@ structure_sealed t (suc m) node =
     ∙ sym (map_flat_map sealed (λ row. cells_with (structure_cells m t) t false (type_at t.shapes row)) (slice_index_or t.members node []))
 
 -- a list of structures' cells serves for those that it has
-look_is : (structures : List (List (Scalar × Guard))) (t : Typed) (j : ℕ) → slice_index_or structures j [] ≡ structure_cells (length t.unit.nodes) t false j
-    → (c : Bool) → looked_up structures c j ≡ structure_cells (length t.unit.nodes) t c j
+look_is : (structures : List (List (Scalar × Guard))) (t : Typed) (j : ℕ) → slice_index_or structures j [] ≡ structure_cells (length t.nodes) t false j
+    → (c : Bool) → looked_up structures c j ≡ structure_cells (length t.nodes) t c j
 look_is structures t j h false = h
-look_is structures t j h true = ap (map sealed) h ∙ sym (structure_sealed t (length t.unit.nodes) j)
+look_is structures t j h true = ap (map sealed) h ∙ sym (structure_sealed t (length t.nodes) j)
 
 pub shape_is : (structures : List (List (Scalar × Guard))) (t : Typed) (type : Qualified) → AreStructures t structures
     → cells_with (looked_up structures) t false type ≡ shape_of t type
 shape_is structures t type h =
-    same_all (looked_up structures) (structure_cells (length t.unit.nodes) t) t (λ c j. look_is structures t j (h j) c) false type
+    same_all (looked_up structures) (structure_cells (length t.nodes) t) t (λ c j. look_is structures t j (h j) c) false type
 
 -- the cells of a structure's members, by those of all structures before it
-pub members_are : (structures : List (List (Scalar × Guard))) (t : Typed) (node : ℕ) → IsTyped t → node < length t.unit.nodes
-    → ((j : ℕ) → j < node → slice_index_or structures j [] ≡ structure_cells (length t.unit.nodes) t false j)
+pub members_are : (structures : List (List (Scalar × Guard))) (t : Typed) (node : ℕ) → IsTyped t → node < length t.nodes
+    → ((j : ℕ) → j < node → slice_index_or structures j [] ≡ structure_cells (length t.nodes) t false j)
     → flat_map (λ row. cells_with (looked_up structures) t false (type_at t.shapes row)) (slice_index_or t.members node [])
-    ≡ structure_cells (length t.unit.nodes) t false node
+    ≡ structure_cells (length t.nodes) t false node
 members_are structures t node typed lt h =
     flat_map_same (λ row. cells_with (looked_up structures) t false (type_at t.shapes row))
-    (λ row. cells_with (structure_cells (length t.unit.nodes) t) t false (type_at t.shapes row)) (slice_index_or t.members node [])
-    (λ i d within. same_before (looked_up structures) (structure_cells (length t.unit.nodes) t) t node (λ c j before. look_is structures t j (h j before) c)
+    (λ row. cells_with (structure_cells (length t.nodes) t) t false (type_at t.shapes row)) (slice_index_or t.members node [])
+    (λ i d within. same_before (looked_up structures) (structure_cells (length t.nodes) t) t node (λ c j before. look_is structures t j (h j before) c)
     false (type_at t.shapes (slice_index_or (slice_index_or t.members node []) i d)) (earlier t node typed i d within))
-    ∙ fuel t typed (suc (length t.unit.nodes)) (length t.unit.nodes) node (omega (arith, lt)) lt false
+    ∙ fuel t typed (suc (length t.nodes)) (length t.nodes) node (omega (arith, lt)) lt false
 
 -- what is no node has no members
 pub no_cells : (m : ℕ) (t : Typed) (node : ℕ) → slice_index_or t.members node [] ≡ [] → structure_cells m t false node ≡ []

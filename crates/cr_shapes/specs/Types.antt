@@ -53,4 +53,4 @@ single_cells look t other constant = []
 
 -- the cells of each structure, by its node
 abbrev pub AreStructures : Typed → List (List (Scalar × Guard)) → Type 0
-AreStructures t structures = (node : ℕ) → slice_index_or structures node [] ≡ structure_cells (length t.unit.nodes) t false node
+AreStructures t structures = (node : ℕ) → slice_index_or structures node [] ≡ structure_cells (length t.nodes) t false node

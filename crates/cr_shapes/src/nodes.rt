@@ -7,17 +7,17 @@ use cr_syntax::{Kind, Node};
 
 impl<'a> Types<'a> {
     fn nodes(&self) -> &'a [Node]
-        ensures { result.now ≡ self.now.unit.nodes }
+        ensures { result.now ≡ self.now.nodes }
     {
-        self.typed().unit.nodes.as_slice()
+        self.typed().nodes.as_slice()
     }
 
     /// How many nodes the unit has.
     pub fn count(&self) -> u32
-        ensures is { result ≡ length self.now.unit.nodes }
+        ensures is { result ≡ length self.now.nodes }
         ensures typed { IsTyped self.now }
     {
-        self.typed().unit.nodes.len() as u32
+        self.typed().nodes.len() as u32
     }
 
     /// What a node is.

@@ -159,35 +159,35 @@ none_more xs whole h = sym (append_none xs) ∙ h
 -- ---- one item more
 
 pub cases_push : (t : Typed) (n item : ℕ) (items : List ℕ) → cases_from t n (items ++ item ∷ [])
-    ≡ cases_from t n items ++ map (case_of (n + length items)) (cases_by (length t.unit.nodes) t item)
-cases_push t n item [] = let e : n + 0 ≡ n = omega arith in rw e (append_none (map (case_of n) (cases_by (length t.unit.nodes) t item)))
+    ≡ cases_from t n items ++ map (case_of (n + length items)) (cases_by (length t.nodes) t item)
+cases_push t n item [] = let e : n + 0 ≡ n = omega arith in rw e (append_none (map (case_of n) (cases_by (length t.nodes) t item)))
 cases_push t n item (first ∷ items) =
     let e : n + length (first ∷ items) ≡ suc n + length items = omega arith in
-    rw e (ap (λ r. map (case_of n) (cases_by (length t.unit.nodes) t first) ++ r) (cases_push t (suc n) item items)
-    ∙ sym (append_assoc (map (case_of n) (cases_by (length t.unit.nodes) t first)) (cases_from t (suc n) items) (map (case_of (suc n + length items)) (cases_by (length t.unit.nodes) t item))))
+    rw e (ap (λ r. map (case_of n) (cases_by (length t.nodes) t first) ++ r) (cases_push t (suc n) item items)
+    ∙ sym (append_assoc (map (case_of n) (cases_by (length t.nodes) t first)) (cases_from t (suc n) items) (map (case_of (suc n + length items)) (cases_by (length t.nodes) t item))))
 
 pub targets_push : (t : Typed) (n item : ℕ) (items : List ℕ) → targets_from t n (items ++ item ∷ [])
-    ≡ targets_from t n items ++ map (target_of (n + length items)) (marks_by (length t.unit.nodes) t item)
-targets_push t n item [] = let e : n + 0 ≡ n = omega arith in rw e (append_none (map (target_of n) (marks_by (length t.unit.nodes) t item)))
+    ≡ targets_from t n items ++ map (target_of (n + length items)) (marks_by (length t.nodes) t item)
+targets_push t n item [] = let e : n + 0 ≡ n = omega arith in rw e (append_none (map (target_of n) (marks_by (length t.nodes) t item)))
 targets_push t n item (first ∷ items) =
     let e : n + length (first ∷ items) ≡ suc n + length items = omega arith in
-    rw e (ap (λ r. map (target_of n) (marks_by (length t.unit.nodes) t first) ++ r) (targets_push t (suc n) item items)
-    ∙ sym (append_assoc (map (target_of n) (marks_by (length t.unit.nodes) t first)) (targets_from t (suc n) items) (map (target_of (suc n + length items)) (marks_by (length t.unit.nodes) t item))))
+    rw e (ap (λ r. map (target_of n) (marks_by (length t.nodes) t first) ++ r) (targets_push t (suc n) item items)
+    ∙ sym (append_assoc (map (target_of n) (marks_by (length t.nodes) t first)) (targets_from t (suc n) items) (map (target_of (suc n + length items)) (marks_by (length t.nodes) t item))))
 
 if_after : (has : Bool) (n : ℕ) → (if has then Some n else None) ≡ default_after None has n
 if_after true n = refl
 if_after false n = refl
 
 pub default_push : (t : Typed) (n item : ℕ) (items : List ℕ) → default_from t n (items ++ item ∷ [])
-    ≡ default_after (default_from t n items) (has_default_by (length t.unit.nodes) t item) (n + length items)
-default_push t n item [] = let e : n + 0 ≡ n = omega arith in rw e (if_after (has_default_by (length t.unit.nodes) t item) n)
+    ≡ default_after (default_from t n items) (has_default_by (length t.nodes) t item) (n + length items)
+default_push t n item [] = let e : n + 0 ≡ n = omega arith in rw e (if_after (has_default_by (length t.nodes) t item) n)
 default_push t n item (first ∷ items) =
     let e : n + length (first ∷ items) ≡ suc n + length items = omega arith in
-    rw e (by (has_default_by (length t.unit.nodes) t first) (default_push t (suc n) item items))
+    rw e (by (has_default_by (length t.nodes) t first) (default_push t (suc n) item items))
   where
-    by : (has : Bool) → default_from t (suc n) (items ++ item ∷ []) ≡ default_after (default_from t (suc n) items) (has_default_by (length t.unit.nodes) t item) (suc n + length items)
+    by : (has : Bool) → default_from t (suc n) (items ++ item ∷ []) ≡ default_after (default_from t (suc n) items) (has_default_by (length t.nodes) t item) (suc n + length items)
         → (if has then Some n else default_from t (suc n) (items ++ item ∷ []))
-        ≡ default_after (if has then Some n else default_from t (suc n) items) (has_default_by (length t.unit.nodes) t item) (suc n + length items)
+        ≡ default_after (if has then Some n else default_from t (suc n) items) (has_default_by (length t.nodes) t item) (suc n + length items)
     by true h = refl
     by false h = h
 
@@ -197,25 +197,25 @@ take_more (x ∷ xs) zero d lt = refl
 take_more (x ∷ xs) (suc k) d lt = let e : suc k + 1 ≡ suc (k + 1) = omega arith in rw e (ap (λ r. x ∷ r) (take_more xs k d (omega (arith, lt))))
 
 pub items_cases : (t : Typed) (items : List ℕ) (k item : ℕ) → k < length items → item ≡ slice_index_or items k 0
-    → cases_from t 0 (take (k + 1) items) ≡ cases_from t 0 (take k items) ++ map (case_of k) (cases_by (length t.unit.nodes) t item)
+    → cases_from t 0 (take (k + 1) items) ≡ cases_from t 0 (take k items) ++ map (case_of k) (cases_by (length t.nodes) t item)
 items_cases t items k item lt e =
     let n : 0 + length (take k items) ≡ k = length_take k items (omega (arith, lt)) in
     ap (cases_from t 0) (take_more items k 0 lt) ∙ sym (ap (λ i. cases_from t 0 (take k items ++ i ∷ [])) e) ∙ cases_push t 0 item (take k items)
-    ∙ ap (λ m. cases_from t 0 (take k items) ++ map (case_of m) (cases_by (length t.unit.nodes) t item)) n
+    ∙ ap (λ m. cases_from t 0 (take k items) ++ map (case_of m) (cases_by (length t.nodes) t item)) n
 
 pub items_targets : (t : Typed) (items : List ℕ) (k item : ℕ) → k < length items → item ≡ slice_index_or items k 0
-    → targets_from t 0 (take (k + 1) items) ≡ targets_from t 0 (take k items) ++ map (target_of k) (marks_by (length t.unit.nodes) t item)
+    → targets_from t 0 (take (k + 1) items) ≡ targets_from t 0 (take k items) ++ map (target_of k) (marks_by (length t.nodes) t item)
 items_targets t items k item lt e =
     let n : 0 + length (take k items) ≡ k = length_take k items (omega (arith, lt)) in
     ap (targets_from t 0) (take_more items k 0 lt) ∙ sym (ap (λ i. targets_from t 0 (take k items ++ i ∷ [])) e) ∙ targets_push t 0 item (take k items)
-    ∙ ap (λ m. targets_from t 0 (take k items) ++ map (target_of m) (marks_by (length t.unit.nodes) t item)) n
+    ∙ ap (λ m. targets_from t 0 (take k items) ++ map (target_of m) (marks_by (length t.nodes) t item)) n
 
 pub items_default : (t : Typed) (items : List ℕ) (k item : ℕ) → k < length items → item ≡ slice_index_or items k 0
-    → default_from t 0 (take (k + 1) items) ≡ default_after (default_from t 0 (take k items)) (has_default_by (length t.unit.nodes) t item) k
+    → default_from t 0 (take (k + 1) items) ≡ default_after (default_from t 0 (take k items)) (has_default_by (length t.nodes) t item) k
 items_default t items k item lt e =
     let n : 0 + length (take k items) ≡ k = length_take k items (omega (arith, lt)) in
     ap (default_from t 0) (take_more items k 0 lt) ∙ sym (ap (λ i. default_from t 0 (take k items ++ i ∷ [])) e) ∙ default_push t 0 item (take k items)
-    ∙ ap (λ m. default_after (default_from t 0 (take k items)) (has_default_by (length t.unit.nodes) t item) m) n
+    ∙ ap (λ m. default_after (default_from t 0 (take k items)) (has_default_by (length t.nodes) t item) m) n
 
 pub added_none : (t : Typed) (number node : ℕ) (labels : Labels) (k : Kind) → k ≡ kind_at t node → IsNone k → IsAdded t number node labels labels false
 added_none t number node labels k e none =

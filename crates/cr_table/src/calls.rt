@@ -34,10 +34,10 @@ pub(crate) fn callee(alloc: Global, nodes: &Nodes, node: u32) -> Result<Callee, 
 
 // The bytes of a node's first token.
 fn spelling<'a>(types: &Types<'a>, node: u32) -> &'a [u8]
-    ensures { result.now ≡ spelling_if types.now.file (slice_get types.now.unit.tokens.list.items (first_at types.now node)) }
+    ensures { result.now ≡ spelling_if types.now.file (slice_get types.now.tokens (first_at types.now node)) }
 {
     let typed = types.typed();
-    match typed.unit.tokens.list.get(types.first(node) as usize) {
+    match typed.tokens.as_slice().get(types.first(node) as usize) {
         Some(token) => token.spelling(typed.file.as_slice()),
         None => &[],
     }

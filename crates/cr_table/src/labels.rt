@@ -41,11 +41,11 @@ pub(crate) fn labels_before(
 // The labels before an item. They end at what is no label; a chain is never longer than the unit.
 fn add(types: &Types, number: usize, item: u32, labels: &mut Labels) -> Result<(), AllocError>
     ensures cases { OnOk result (labels.new.cases.items
-        ≡ labels.old.cases.items ++ map (case_of number) (cases_by (length types.now.unit.nodes) types.now item)) }
+        ≡ labels.old.cases.items ++ map (case_of number) (cases_by (length types.now.nodes) types.now item)) }
     ensures default { OnOk result (labels.new.default
-        ≡ default_after labels.old.default (has_default_by (length types.now.unit.nodes) types.now item) number) }
+        ≡ default_after labels.old.default (has_default_by (length types.now.nodes) types.now item) number) }
     ensures targets { OnOk result (labels.new.targets.items
-        ≡ labels.old.targets.items ++ map (target_of number) (marks_by (length types.now.unit.nodes) types.now item)) }
+        ≡ labels.old.targets.items ++ map (target_of number) (marks_by (length types.now.nodes) types.now item)) }
 {
     let mut at = item;
     let mut left = types.count();

@@ -1,4 +1,5 @@
 ghost use Rattle.std.specs.Prelude.{◌≡◌, ◌<◌, ℕ, IfOk, None, length, slice_index_or};
+ghost use Rattle.cr_syntax.specs.Kept.{PartsAreBelow};
 ghost use Rattle.cr_operations.specs.Operations.{entity_of, is_name, name_of, is_automatic, is_static};
 ghost use Rattle.cr_typed.specs.declared.typed.Duration.TheVariants.{NoObject};
 ghost use Rattle.cr_table.specs.Names.{AreNames};
@@ -94,7 +95,8 @@ fn names(alloc: Global, types: &Types) -> Result<Vec<u32>, AllocError>
 
 // A name is its own one; else it is that of the first part, which stands before the node.
 fn name_at(types: &Types, names: &Vec<u32>, node: u32) -> u32
-    requires within { node < length types.now.unit.nodes }
+    requires within { node < length types.now.nodes }
+    requires below { PartsAreBelow types.now.nodes }
     requires count { length names.now.items ≡ node }
     requires each { (k : ℕ) → k < node → slice_index_or names.now.items k 0 ≡ name_of types.now k }
     ensures { result ≡ name_of types.now node }

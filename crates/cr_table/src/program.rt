@@ -45,7 +45,7 @@ fn table_of(alloc: Global, types: Types, limits: Limits) -> Result<Table, AllocE
 }
 
 fn ops(alloc: Global, nodes: &Nodes) -> Result<Row<Op>, AllocError>
-    ensures { IfOk result (λ ops. ops ≡ ops_from nodes.now 0 nodes.now.unit.nodes ++ unit_op nodes.now ∷ []) }
+    ensures { IfOk result (λ ops. ops ≡ ops_from nodes.now 0 nodes.now.nodes ++ unit_op nodes.now ∷ []) }
 {
     let mut ops = Vec::new(alloc);
     for node in 0..nodes.types().count() {
@@ -76,7 +76,7 @@ fn unit_op(alloc: Global, nodes: &Nodes) -> Result<Op, AllocError>
 }
 
 fn static_initialisers(alloc: Global, nodes: &Nodes) -> Result<Row<u32>, AllocError>
-    ensures { IfOk result (λ row. row ≡ nodes_from (is_static_initialiser nodes.now) 0 nodes.now.unit.nodes) }
+    ensures { IfOk result (λ row. row ≡ nodes_from (is_static_initialiser nodes.now) 0 nodes.now.nodes) }
 {
     let mut found = Vec::new(alloc);
     for node in 0..nodes.types().count() {
@@ -106,7 +106,7 @@ fn is_static_initialiser(nodes: &Nodes, node: u32) -> bool
 
 // The objects of static duration, each at its first declaration, and the literals.
 fn lasting(alloc: Global, nodes: &Nodes) -> Result<Row<u32>, AllocError>
-    ensures { IfOk result (λ row. row ≡ nodes_from (is_lasting nodes.now) 0 nodes.now.unit.nodes) }
+    ensures { IfOk result (λ row. row ≡ nodes_from (is_lasting nodes.now) 0 nodes.now.nodes) }
 {
     let mut found = Vec::new(alloc);
     for node in 0..nodes.types().count() {

@@ -19,7 +19,7 @@ loop-node-preserved c =
     ∙ members_are known t c.loop-node.node c.count-node-end.ensures.typed (omega (arith, within, nodes)) c.loop-node.invariant.each in
     record {
       count = search rules;
-      each = λ k lt. rw c.in_ok-push.ensures.items (grown (structure_cells (length t.unit.nodes) t false) known c.loop-node.node [] c.from_vec.result
+      each = λ k lt. rw c.in_ok-push.ensures.items (grown (structure_cells (length t.nodes) t false) known c.loop-node.node [] c.from_vec.result
           c.loop-node.invariant.count c.loop-node.invariant.each is k lt);
     }
 
@@ -31,6 +31,6 @@ returns c =
     let nodes = c.count-node-end.ensures.is in
     let count = c.loop-node.invariant.count in
     let members = c.count-node-end.ensures.typed.members_count in
-    past_is (structure_cells (length t.unit.nodes) t false) c.loop-node.structures.items []
+    past_is (structure_cells (length t.nodes) t false) c.loop-node.structures.items []
     (λ k lt. c.loop-node.invariant.each k (omega (arith, count, lt)))
-    (λ k gone. no_cells (length t.unit.nodes) t k (get_or_past t.members k [] (omega (arith, gone, past, within, nodes, count, members))))
+    (λ k gone. no_cells (length t.nodes) t k (get_or_past t.members k [] (omega (arith, gone, past, within, nodes, count, members))))

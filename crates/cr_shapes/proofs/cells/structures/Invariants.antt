@@ -5,5 +5,5 @@ use Rattle.cr_shapes.proofs.cells.structures.Given as goal
 abbrev pub invariant-loop-node : goal.invariant-loop-node
 invariant-loop-node l = record {
   count : length l.structures.items ≡ l.node;
-  each : (k : ℕ) → k < l.node → slice_index_or l.structures.items k [] ≡ structure_cells (length l.types.unit.nodes) l.types false k;
+  each : (k : ℕ) → k < l.node → slice_index_or l.structures.items k [] ≡ structure_cells (length l.types.nodes) l.types false k;
 }

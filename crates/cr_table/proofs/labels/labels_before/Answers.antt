@@ -13,12 +13,12 @@ loop-number-preserved c =
     let within = c.loop-number-test.true in
     record {
       cases = c.in_ok-add.ensures.cases
-          ∙ ap (λ r. r ++ map (case_of number) (cases_by (length t.unit.nodes) t item)) c.loop-number.invariant.cases
+          ∙ ap (λ r. r ++ map (case_of number) (cases_by (length t.nodes) t item)) c.loop-number.invariant.cases
           ∙ sym (items_cases t items number item (omega (arith, within)) refl);
       default = c.in_ok-add.ensures.default
-          ∙ ap (λ d. default_after d (has_default_by (length t.unit.nodes) t item) number) c.loop-number.invariant.default
+          ∙ ap (λ d. default_after d (has_default_by (length t.nodes) t item) number) c.loop-number.invariant.default
           ∙ sym (items_default t items number item (omega (arith, within)) refl);
       targets = c.in_ok-add.ensures.targets
-          ∙ ap (λ r. r ++ map (target_of number) (marks_by (length t.unit.nodes) t item)) c.loop-number.invariant.targets
+          ∙ ap (λ r. r ++ map (target_of number) (marks_by (length t.nodes) t item)) c.loop-number.invariant.targets
           ∙ sym (items_targets t items number item (omega (arith, within)) refl);
     }

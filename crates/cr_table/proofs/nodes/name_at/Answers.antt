@@ -4,11 +4,11 @@ use Rattle.cr_table.proofs.Names.{name_here, name_behind, part_known}
 use Rattle.cr_table.proofs.nodes.name_at.Goals as goal
 
 pub returns-then-is_name : goal.returns-then-is_name
-returns-then-is_name c = sym (name_here c.args.types.now c.args.node c.requires.within (ap is_name (sym c.kind.ensures) ∙ sym c.is_name.ensures ∙ c.if-is_name.true))
+returns-then-is_name c = sym (name_here c.args.types.now c.requires.below c.args.node c.requires.within (ap is_name (sym c.kind.ensures) ∙ sym c.is_name.ensures ∙ c.if-is_name.true))
 
 pub returns-else-is_name : goal.returns-else-is_name
 returns-else-is_name c =
     c.known_name.ensures
     ∙ ap (λ part. slice_index_or c.args.names.now.items part 0) c.part.ensures
-    ∙ part_known c.args.types.now c.args.names.now.items c.args.node c.requires.count c.requires.each
-    ∙ sym (name_behind c.args.types.now c.args.node c.requires.within (ap is_name (sym c.kind.ensures) ∙ sym c.is_name.ensures ∙ c.if-is_name.false))
+    ∙ part_known c.args.types.now c.requires.below c.args.names.now.items c.args.node c.requires.count c.requires.each
+    ∙ sym (name_behind c.args.types.now c.requires.below c.args.node c.requires.within (ap is_name (sym c.kind.ensures) ∙ sym c.is_name.ensures ∙ c.if-is_name.false))

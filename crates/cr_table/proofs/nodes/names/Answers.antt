@@ -11,5 +11,5 @@ returns c =
     let within = c.loop-node.auto.node-end in
     let nodes = c.count-node-end.ensures.is in
     let count = c.loop-node.invariant.count in
-    names_all t c.loop-node.names.items (omega (arith, main)) (omega (arith, past, within, nodes, count))
+    names_all t typed.parts_below c.loop-node.names.items (omega (arith, main)) (omega (arith, past, within, nodes, count))
     (λ k lt. c.loop-node.invariant.each k (omega (arith, lt, past, within, nodes)))

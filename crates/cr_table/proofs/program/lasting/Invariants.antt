@@ -3,4 +3,4 @@ use Rattle.cr_operations.specs.Operations.{nodes_from, is_lasting}
 use Rattle.cr_table.proofs.program.lasting.Given as goal
 
 abbrev pub invariant-loop-node : goal.invariant-loop-node
-invariant-loop-node l = l.found.items ≡ nodes_from (is_lasting l.nodes) 0 (take l.node l.nodes.unit.nodes)
+invariant-loop-node l = l.found.items ≡ nodes_from (is_lasting l.nodes) 0 (take l.node l.nodes.nodes)

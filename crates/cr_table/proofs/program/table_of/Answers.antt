@@ -4,7 +4,7 @@ use Rattle.cr_table.proofs.program.table_of.Goals as goal
 
 pub returns : goal.returns
 returns c = record {
-  ops = c.in_ok-ops.ensures ∙ ap (λ t. ops_from t 0 t.unit.nodes ++ unit_op t ∷ []) c.in_ok-nodes.ensures;
+  ops = c.in_ok-ops.ensures ∙ ap (λ t. ops_from t 0 t.nodes ++ unit_op t ∷ []) c.in_ok-nodes.ensures;
   shape = c.in_ok-shapes.ensures;
   literal = c.in_ok-literals.ensures;
   kinds = c.in_ok-kinds.ensures;
