@@ -2,4 +2,4 @@ pub mod Finding
 pub mod Lasting
 pub mod Marked
 pub mod Looking
-pub mod Renamed
+pub mod One

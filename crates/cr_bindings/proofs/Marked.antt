@@ -15,15 +15,16 @@ either false true = refl
 either false false = refl
 
 -- one entry more
-pub one_more : (f : ℕ → Option ℕ) (column : List (Option ℕ)) (k : ℕ) (x : Option ℕ) → AreOf f None k column → x ≡ f k → AreOf f None (k + 1) (column ++ x ∷ [])
-one_more f column k x h is = record {
+pub pushed : {A : Type 0} (f : ℕ → A) (nothing : A) (column : List A) (k : ℕ) (x : A) → AreOf f nothing k column → x ≡ f k
+    → AreOf f nothing (k + 1) (column ++ x ∷ [])
+pushed f nothing column k x h is = record {
   count = let e = h.count in omega (arith, length-append column (x ∷ []));
   each = λ t low. elim (cases_lt t k) [
-    | inl older ↦ get_or-append column (x ∷ []) None t (let e = h.count in omega (arith, older)) ∙ h.each t older
+    | inl older ↦ get_or-append column (x ∷ []) nothing t (let e = h.count in omega (arith, older)) ∙ h.each t older
     | inr newest ↦
         let same : t ≡ k = omega arith in
         let e : length column ≡ k = h.count in
-        rw same (subst (λ n. slice_index_or (column ++ x ∷ []) n None ≡ x) e (get_or-append_seam column x [] None) ∙ is)
+        rw same (subst (λ n. slice_index_or (column ++ x ∷ []) n nothing ≡ x) e (get_or-append_seam column x [] nothing) ∙ is)
   ];
 }
 

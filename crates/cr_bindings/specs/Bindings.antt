@@ -1,11 +1,13 @@
 -- All columns of a unit, and what they say of a token or a node.
-use Rattle.std.specs.Prelude.{◌≡◌, ℕ, Bool, false, List, Option, None, Some, length, slice_index_or}
+use Rattle.std.specs.Prelude.{◌≡◌, ℕ, Bool, false, List, Option, None, Some, length, slice_index_or, if◌then◌else◌}
 use Rattle.cr_tokens.specs.declared.token.Token.{Token}
 use Rattle.cr_syntax.specs.declared.node.Node.{Node}
 use Rattle.cr_syntax.specs.declared.unit.Unit as tree
 use Rattle.cr_scopes.specs.declared.names.Names.{Names}
-use Rattle.cr_scopes.specs.Spelled.{name_of}
+use Rattle.cr_scopes.specs.Resolved.{is_number}
+use Rattle.cr_scopes.specs.States.{name_in}
 use Rattle.cr_scopes.specs.Units.{unit_events}
+use Rattle.cr_bindings.specs.Spellings.{AreSpellings}
 use Rattle.cr_bindings.specs.Last.{AreLast}
 use Rattle.cr_bindings.specs.Nodes.{name_at, tag_at}
 use Rattle.cr_bindings.specs.Entities.{entity_at, entity_if, content_entity, first_of, previous_of, AreDeclaring, AreOf}
@@ -14,8 +16,9 @@ use Rattle.cr_bindings.specs.declared.bindings.Bindings.{Bindings}
 use Rattle.cr_bindings.specs.declared.bindings.Tag.{Tag}
 
 pub record AreBindings (file : List ℕ) (unit : tree.Unit) (names : Names) (b : Bindings) : Type 0 where
+  pub spellings : AreSpellings file unit.tokens.list.items b.spellings
   pub declarers : AreLast (name_at unit.nodes) (length unit.nodes) (length unit.tokens.list.items) b.declarers
-  pub visible : AreVisible (name_of file unit.tokens.list.items) (unit_events unit) (length unit.tokens.list.items) b.visible
+  pub visible : AreVisible (name_in b.spellings) (unit_events unit) (length unit.tokens.list.items) b.visible
   pub declaring : AreDeclaring names (length names.of_token) b.declaring
   pub previous : AreOf (previous_of names) None (length names.of_token) b.previous
   pub specifiers : AreLast (tag_at unit.nodes unit.tokens.list.items) (length unit.nodes) (length unit.tokens.list.items) b.specifiers
@@ -25,6 +28,18 @@ pub record AreBindings (file : List ℕ) (unit : tree.Unit) (names : Names) (b :
 abbrev pub entry_if : List (Option ℕ) → Option ℕ → Option ℕ
 entry_if column None = None
 entry_if column (Some k) = slice_index_or column k None
+
+-- the node is the whole declarator, or the enumerator, of a token
+abbrev pub is_declarer : Bindings → ℕ → ℕ → Bool
+is_declarer b token i = is_number (slice_index_or b.declarers token None) i
+
+abbrev pub own_name : Bindings → Option ℕ → ℕ → Option ℕ
+own_name b None i = None
+own_name b (Some token) i = if is_declarer b token i then Some token else None
+
+-- The token of the ordinary identifier that a node declares. Of a declarator and those inside it, which name one token, that is the whole one.
+abbrev pub declared_name : Bindings → List Node → ℕ → Option ℕ
+declared_name b nodes i = own_name b (name_at nodes i) i
 
 -- the node of the declaration that is visible at a token
 abbrev pub visible_node : Bindings → ℕ → Option ℕ

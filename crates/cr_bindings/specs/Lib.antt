@@ -1,3 +1,4 @@
+pub mod Spellings
 pub mod Last
 pub mod Nodes
 pub mod Entities

@@ -1,10 +1,11 @@
 ghost use Rattle.std.specs.Prelude.{◌≡◌, IfOk};
-ghost use Rattle.cr_bindings.specs.Bindings.{earlier_node, entry_if, first_node, tag_for, tag_of, visible_node, AreBindings};
+ghost use Rattle.cr_bindings.specs.Bindings.{declared_name, earlier_node, entry_if, first_node, is_declarer, tag_for, tag_of, visible_node, AreBindings};
 ghost use Rattle.cr_syntax.specs.Words.{AreSpans};
 
 use crate::entities::{declaring, entity_at, first_of, is_marked, previous};
-use crate::last::at;
-use crate::nodes::{contents, declarers, specifiers, tag_at};
+use crate::last::link_at;
+use crate::nodes::{contents, declarers, name_at, specifiers, tag_at};
+use crate::spellings::spellings;
 use crate::visible::visible;
 use cr_rows::Row;
 use cr_scopes::Names;
@@ -15,6 +16,8 @@ use std::alloc::{AllocError, Global};
 /// What the declarations of a unit's names are. Nodes, tokens and entities are named by their numbers.
 #[derive(Drop)]
 pub struct Bindings {
+    /// For each token the number of its spelling.
+    pub spellings: Row<u32>,
     /// For each token the whole declarator, or the enumerator, that declares it as an ordinary identifier.
     pub declarers: Row<Option<u32>>,
     /// For each token of an ordinary identifier the one that declares its name where it stands (C11 6.2.1p4).
@@ -43,13 +46,13 @@ pub struct Tag {
 fn entry(column: &Row<Option<u32>>, number: Option<u32>) -> Option<u32>
     ensures { result ≡ entry_if column.now number }
 {
-    at(column.as_slice(), number? as usize)
+    link_at(column.as_slice(), number? as usize)
 }
 
 fn entry_at(column: &Row<Option<u32>>, number: Option<usize>) -> Option<u32>
     ensures { result ≡ entry_if column.now number }
 {
-    at(column.as_slice(), number?)
+    link_at(column.as_slice(), number?)
 }
 
 impl Bindings {
@@ -65,11 +68,14 @@ impl Bindings {
     {
         let tokens = unit.tokens.list.as_slice();
         let nodes = unit.nodes.as_slice();
+        let spellings = spellings(alloc, file, tokens)?;
+        let visible = visible(alloc, unit, spellings.as_slice())?;
         let declaring = declaring(alloc, names)?;
         let previous = previous(alloc, names, &declaring)?;
         Ok(Bindings {
+            spellings: Row::from_vec(spellings),
             declarers: Row::from_vec(declarers(alloc, nodes, tokens.len())?),
-            visible: Row::from_vec(visible(alloc, file, unit)?),
+            visible: Row::from_vec(visible),
             declaring: Row::from_vec(declaring),
             previous: Row::from_vec(previous),
             specifiers: Row::from_vec(specifiers(alloc, nodes, tokens)?),
@@ -82,7 +88,10 @@ impl Bindings {
     pub fn visible_at(&self, token: u32) -> Option<u32>
         ensures { result ≡ visible_node self.now token }
     {
-        entry(&self.declarers, at(self.visible.as_slice(), token as usize))
+        entry(
+            &self.declarers,
+            link_at(self.visible.as_slice(), token as usize),
+        )
     }
 
     /// The last node before a token that declares the same (6.2.7p2).
@@ -91,8 +100,29 @@ impl Bindings {
     {
         entry(
             &self.declarers,
-            at(self.previous.as_slice(), token as usize),
+            link_at(self.previous.as_slice(), token as usize),
         )
+    }
+
+    /// The token of the ordinary identifier that a node declares: of a declarator and those inside it the whole one, or an enumerator.
+    pub fn name_of(&self, nodes: &[Node], at: u32) -> Option<u32>
+        ensures { result ≡ declared_name self.now nodes.now at }
+    {
+        let token = name_at(nodes, at)?;
+        if self.is_declarer(token, at) {
+            Some(token)
+        } else {
+            None
+        }
+    }
+
+    fn is_declarer(&self, token: u32, node: u32) -> bool
+        ensures { result ≡ is_declarer self.now token node }
+    {
+        match link_at(self.declarers.as_slice(), token as usize) {
+            Some(declarer) => declarer == node,
+            None => false,
+        }
     }
 
     /// The node that declares first what a token stands for.

@@ -4,7 +4,7 @@ ghost use Rattle.std.specs.List.{list_any};
 ghost use Rattle.cr_bindings.specs.Bindings.{entry_if};
 ghost use Rattle.cr_bindings.specs.Entities.{declared_entity, entity_at as entity_of_token, entity_within, first_in, first_of, previous_of, AreDeclaring, AreOf};
 
-use crate::last::{at, number_of, put};
+use crate::last::{link_at, number_of, put};
 use cr_scopes::{Entity, Names};
 use std::alloc::{AllocError, Global};
 
@@ -25,7 +25,10 @@ fn entity_within(count: usize, entity: Option<u32>) -> Option<usize>
 pub(crate) fn entity_at(names: &Names, token: usize) -> Option<usize>
     ensures { result ≡ entity_of_token names.now token }
 {
-    entity_within(names.entities.len(), at(names.of_token.as_slice(), token))
+    entity_within(
+        names.entities.len(),
+        link_at(names.of_token.as_slice(), token),
+    )
 }
 
 fn mark(column: &mut Vec<bool>, at: usize)
@@ -68,7 +71,7 @@ fn last_of(last: &[Option<u32>], entity: Option<usize>) -> Option<u32>
     ensures { result ≡ entry_if last.now entity }
 {
     match entity {
-        Some(entity) => at(last, entity),
+        Some(entity) => link_at(last, entity),
         None => None,
     }
 }
@@ -80,7 +83,7 @@ fn if_it_declares(declares: bool, entity: Option<usize>) -> Option<usize>
 }
 
 /// For each token the one before it that declares the same.
-#[tactic(auto, using(crate::proofs::Marked::one_more, crate::proofs::Marked::before_is))]
+#[tactic(auto, using(crate::proofs::Marked::pushed, crate::proofs::Marked::before_is))]
 pub(crate) fn previous(
     alloc: Global,
     names: &Names,

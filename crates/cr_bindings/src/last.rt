@@ -4,8 +4,8 @@ ghost use Rattle.cr_scopes.specs.Resolved.{is_number};
 
 use std::alloc::AllocError;
 
-/// A number in 32 bits. Where it doesn't fit, that counts as want of memory.
-pub(crate) fn number_of(at: usize) -> Result<u32, AllocError>
+/// A number in 32 bits. The error is one that doesn't fit, which counts as want of memory.
+pub fn number_of(at: usize) -> Result<u32, AllocError>
     ensures { IfOk result (λ n. n ≡ at) }
 {
     u32::try_from(at).map_err(|_| AllocError)
@@ -17,13 +17,13 @@ pub(crate) fn put(column: &mut Vec<Option<u32>>, key: Option<usize>, number: u32
     ensures each { (k : ℕ) → k < length column.old.items → slice_index_or column.new.items k None ≡ (if is_number key k then Some number else slice_index_or column.old.items k None) }
 {
     match key {
-        Some(key) => set(column, key, Some(number)),
+        Some(key) => set_link(column, key, Some(number)),
         None => {}
     }
 }
 
 /// Sets an entry, where there is one.
-pub(crate) fn set(column: &mut Vec<Option<u32>>, at: usize, entry: Option<u32>)
+pub fn set_link(column: &mut Vec<Option<u32>>, at: usize, entry: Option<u32>)
     ensures { column.new.items ≡ slice_set column.old.items at entry }
 {
     if at < column.len() {
@@ -32,7 +32,7 @@ pub(crate) fn set(column: &mut Vec<Option<u32>>, at: usize, entry: Option<u32>)
 }
 
 /// What a column has at a number; nothing beyond its end.
-pub(crate) fn at(column: &[Option<u32>], at: usize) -> Option<u32>
+pub fn link_at(column: &[Option<u32>], at: usize) -> Option<u32>
     ensures { result ≡ slice_index_or column.now at None }
 {
     if at < column.len() { column[at] } else { None }

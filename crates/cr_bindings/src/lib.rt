@@ -12,6 +12,8 @@ mod entities;
 mod last;
 mod nodes;
 mod scoped;
+mod spellings;
 mod visible;
 
 pub use bindings::{Bindings, Tag};
+pub use last::{link_at, number_of, set_link};

@@ -13,19 +13,17 @@ use cr_syntax::{Kind, Node};
 use cr_tokens::{Token, TokenKind};
 use std::alloc::{AllocError, Global};
 
-fn named_by(kind: Kind, first: u32, name: Option<u32>) -> Option<usize>
+fn named_by(kind: Kind, first: u32, name: Option<u32>) -> Option<u32>
     ensures { result ≡ named_by kind first name }
 {
     match kind {
-        Kind::Enumerator => Some(first as usize),
-        _ => match name {
-            Some(name) => Some(name as usize),
-            None => None,
-        },
+        Kind::Enumerator => Some(first),
+        _ => name,
     }
 }
 
-fn name_at(nodes: &[Node], at: u32) -> Option<usize>
+/// The token of the ordinary identifier that a node declares, or that the declarator around it declares.
+pub(crate) fn name_at(nodes: &[Node], at: u32) -> Option<u32>
     ensures { result ≡ name_of_node nodes.now at }
 {
     match nodes.get(at as usize) {
@@ -34,8 +32,16 @@ fn name_at(nodes: &[Node], at: u32) -> Option<usize>
     }
 }
 
-/// For each token the whole declarator, or the enumerator, that declares it.
+fn key_of(token: Option<u32>) -> Option<usize>
+    ensures { result ≡ token }
+{
+    match token {
+        Some(token) => Some(token as usize),
+        None => None,
+    }
+}
 
+/// For each token the whole declarator, or the enumerator, that declares it.
 pub(crate) fn declarers(
     alloc: Global,
     nodes: &[Node],
@@ -46,7 +52,7 @@ pub(crate) fn declarers(
     let mut column = vec![in alloc; None; tokens]?;
     for at in 0..nodes.len() {
         let number = number_of(at)?;
-        put(&mut column, name_at(nodes, number), number);
+        put(&mut column, key_of(name_at(nodes, number)), number);
     }
     Ok(column)
 }

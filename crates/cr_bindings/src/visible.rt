@@ -3,24 +3,21 @@ ghost use Rattle.std.specs.Prelude.{◌≡◌, OnOk, IfOk, length};
 ghost use Rattle.cr_bindings.specs.Stacks.{entered};
 ghost use Rattle.cr_bindings.specs.Visible.{seen_by, AreVisible};
 ghost use Rattle.cr_scopes.specs.Looking.{stands_in};
-ghost use Rattle.cr_scopes.specs.Spelled.{name_of};
 ghost use Rattle.cr_scopes.specs.States.{name_in};
 ghost use Rattle.cr_scopes.specs.Units.{unit_events};
 ghost use Rattle.cr_scopes.specs.declared.scope.Space.TheVariants.{Ordinary};
-ghost use Rattle.cr_syntax.specs.Words.{AreSpans};
 
-use crate::last::set;
+use crate::last::set_link;
 use crate::scoped::Scoped;
 use cr_events::{Event, Role, events};
-use cr_scopes::names_of;
 use cr_syntax::Unit;
 use std::alloc::{AllocError, Global};
 
-fn name_at(names: &[u32], token: u32) -> u32
-    ensures { result ≡ name_in names.now token }
+fn spelling_at(spellings: &[u32], token: u32) -> u32
+    ensures { result ≡ name_in spellings.now token }
 {
-    if (token as usize) < names.len() {
-        names[token as usize]
+    if (token as usize) < spellings.len() {
+        spellings[token as usize]
     } else {
         token
     }
@@ -40,11 +37,11 @@ fn is_declaration(role: Role) -> bool
 fn follow(
     scoped: &mut Scoped,
     visible: &mut Vec<Option<u32>>,
-    names: &[u32],
+    spellings: &[u32],
     event: Event,
 ) -> Result<(), AllocError>
-    ensures scoped { OnOk result (scoped.new ≡ entered (name_in names.now) event scoped.old) }
-    ensures visible { OnOk result (visible.new.items ≡ seen_by (name_in names.now) event scoped.old visible.old.items) }
+    ensures scoped { OnOk result (scoped.new ≡ entered (name_in spellings.now) event scoped.old) }
+    ensures visible { OnOk result (visible.new.items ≡ seen_by (name_in spellings.now) event scoped.old visible.old.items) }
 {
     match event {
         Event::Opens => scoped.open(),
@@ -53,8 +50,8 @@ fn follow(
             Ok(())
         }
         Event::Name(token, role) => {
-            let name = name_at(names, token);
-            set(visible, token as usize, scoped.find(name));
+            let name = spelling_at(spellings, token);
+            set_link(visible, token as usize, scoped.find(name));
             if is_declaration(role) {
                 scoped.bind(name, token)
             } else {
@@ -65,35 +62,30 @@ fn follow(
     }
 }
 
-// For each token the one that declares its name where it stands. Names are numbers of tokens.
 fn visible_by(
     alloc: Global,
-    names: &[u32],
+    spellings: &[u32],
     events: &[Event],
     tokens: usize,
 ) -> Result<Vec<Option<u32>>, AllocError>
-    ensures { IfOk result (λ column. AreVisible (name_in names.now) events.now tokens column.items) }
+    ensures { IfOk result (λ column. AreVisible (name_in spellings.now) events.now tokens column.items) }
 {
     let mut scoped = Scoped::new(alloc, tokens)?;
     let mut visible = vec![in alloc; None; tokens]?;
     for event in events {
-        follow(&mut scoped, &mut visible, names, *event)?;
+        follow(&mut scoped, &mut visible, spellings, *event)?;
     }
     Ok(visible)
 }
 
-/// For each token of a unit the one that declares its name where it stands.
+/// For each token of a unit the one that declares its name where it stands, by the numbers of the tokens' spellings.
 pub(crate) fn visible(
     alloc: Global,
-    file: &[u8],
     unit: &Unit,
+    spellings: &[u32],
 ) -> Result<Vec<Option<u32>>, AllocError>
-    requires { AreSpans file.now unit.now.tokens.list.items }
-    ensures { IfOk result (λ column. AreVisible (name_of file.now unit.now.tokens.list.items) (unit_events unit.now) (length unit.now.tokens.list.items) column.items) }
+    ensures { IfOk result (λ column. AreVisible (name_in spellings.now) (unit_events unit.now) (length unit.now.tokens.list.items) column.items) }
 {
-    let tokens = unit.tokens.list.as_slice();
-    let names = names_of(alloc, file, tokens)?;
     let events = events(alloc, unit)?;
-    let column = visible_by(alloc, &names, &events, tokens.len())?;
-    Ok(column)
+    visible_by(alloc, spellings, events.as_slice(), unit.tokens.list.len())
 }

@@ -4,5 +4,4 @@ pub mod OnePlan
 pub mod Inside
 pub mod Cells
 pub mod Walks
-pub mod Firsts
 pub mod Plans

@@ -4,13 +4,14 @@ use Rattle.std.proofs.lemmas.List.{at_drop_more, append-nil}
 use Rattle.std.proofs.lemmas.List.Sums.{fold-append}
 use Rattle.cr_types.specs.declared.shape.Shape.{Shape}
 use Rattle.cr_types.specs.Types.{Qualified, type_at}
+use Rattle.cr_rules.specs.declared.known.Member.{Member}
 use Rattle.cr_initial.specs.declared.source.Source.{Source}
 use Rattle.cr_initial.specs.declared.part.Frame.{Frame}
 use Rattle.cr_initial.specs.declared.part.Front.{Front}
 use Rattle.cr_initial.specs.declared.part.Rest.{Rest}
 use Rattle.cr_initial.specs.declared.lines.Line.{Line}
 use Rattle.cr_initial.specs.Plans.{entry_of, entries_of}
-use Rattle.cr_initial.specs.Known.{known_of}
+use Rattle.cr_initial.specs.Known.{known_of, member_types}
 use Rattle.cr_initial.specs.Places.{laid}
 use Rattle.cr_initial.specs.Steps.{types_left, places_of, left, IsFront}
 
@@ -18,9 +19,9 @@ pub one_element : (n : ℕ) (t : Qualified) → n ≢ 0 → replicate n t ≡ t 
 one_element zero t h = absurd (h refl)
 one_element (suc n) t h = let e : suc n - 1 ≡ n = omega arith in rw e refl
 
-pub one_member : (look : ℕ → Qualified) (rows : List ℕ) (next d : ℕ) → next < length rows
-    → map look (drop next rows) ≡ look (get_or rows next d) ∷ map look (drop (next + 1) rows)
-one_member look rows next d h = at_drop_more (map look) rows next d h
+pub one_member : (shapes : List Shape) (members : List Member) (next : ℕ) (d : Member) → next < length members
+    → member_types shapes (drop next members) ≡ type_at shapes (get_or members next d).row ∷ member_types shapes (drop (next + 1) members)
+one_member shapes members next d h = at_drop_more (member_types shapes) members next d h
 
 pub one_frame : (s : Source) (frames : List Frame) (f : Frame) → left s (frames ++ f ∷ []) ≡ places_of s f ++ left s frames
 unfolding left

@@ -1,32 +1,17 @@
 -- The constraints that an initialiser can break, by what it initialises: K11, K12, K13 and K37.
-use Rattle.std.specs.Prelude.{ℕ, ◌-◌, ◌==◌, ◌&&◌, ◌||◌, List, [], ◌∷◌, Bool, true, false, not, Option, None, Some, nat_lt, if◌then◌else◌}
+use Rattle.std.specs.Prelude.{ℕ, ◌-◌, ◌==◌, ◌&&◌, ◌||◌, List, [], ◌∷◌, ◌++◌, Bool, true, false, not, Option, nat_lt}
 use Rattle.cr_constants.specs.declared.constant.Constant.TheVariants.{NotConstant}
 use Rattle.cr_syntax.specs.declared.typed.CType.{CType}
 use Rattle.cr_syntax.specs.declared.typed.CType.TheVariants.{Function, Unknown}
 use Rattle.cr_types.specs.Types.{Qualified, plain, pointer, array}
 use Rattle.cr_operands.specs.Values.{Valued, value_in, value_of_seen}
 use Rattle.cr_operands.specs.Rules.{assignable}
-use Rattle.cr_initial.specs.declared.fault.Break.{Break}
+use Rattle.cr_rules.specs.declared.least.Break.{Break}
+use Rattle.cr_rules.specs.Breaks.{fault}
 use Rattle.cr_initial.specs.Known.{Known}
 use Rattle.cr_initial.specs.Places.{is_char, is_unknown}
 use Rattle.cr_initial.specs.Plans.{Entry, put, excess, count_in}
 use Rattle.cr_initial.specs.Anchors.{is_value, is_address, is_array, is_pointer}
-
--- a break of a row at a token, where it is so
-abbrev pub broken : ℕ → ℕ → Bool → Option Break
-broken row token so = if so then Some (record { row = row; token = token }) else None
-
--- by the token, and at one token by the row
-abbrev pub is_before : Break → Break → Bool
-is_before left right = nat_lt left.token right.token || (left.token == right.token && nat_lt left.row right.row)
-
-abbrev pub lesser_of : Break → Break → Break
-lesser_of left right = if is_before right left then right else left
-
-abbrev pub lesser : Option Break → Option Break → Option Break
-lesser None right = right
-lesser (Some left) None = Some left
-lesser (Some left) (Some right) = Some (lesser_of left right)
 
 -- what is judged: a place that has a type, and isn't that of an initialised function, which breaks K11 by its declarator
 abbrev pub is_object_by : CType → Bool
@@ -70,14 +55,15 @@ is_constant k node = is_value (k.seen node).constant || is_address (k.anchor nod
 abbrev pub is_varying : Known → Bool → ℕ → Bool
 is_varying k static node = static && (not (is_unknown (k.seen node).type) && not (is_constant k node))
 
--- the first break of an entry; `equals` is the token of the declarator's `=`. K11: a list has no more initialisers than places (6.7.9p2)
-unfoldable pub fault_of : Known → Bool → ℕ → Entry → Option Break
-fault_of k static equals (put place node user) =
-    lesser (broken 37 equals (is_badly_typed k place.type node))
-    (lesser (broken 13 (k.first node) (is_bad_literal k place.type node)) (broken 12 (k.first node) (is_varying k static node)))
-fault_of k static equals (excess list) = broken 11 (k.first list) true
+-- What an entry can break, a line of the table each; `equals` is the token of the declarator's `=`. K11: a list has no more initialisers
+-- than places (6.7.9p2).
+abbrev pub faults_of : Known → Bool → ℕ → Entry → List (Option Break)
+faults_of k static equals (put place node user) =
+    fault 37 equals (is_badly_typed k place.type node)
+    ∷ fault 13 (k.first node) (is_bad_literal k place.type node) ∷ fault 12 (k.first node) (is_varying k static node) ∷ []
+faults_of k static equals (excess list) = fault 11 (k.first list) true ∷ []
 
--- the first of all of them
-unfoldable pub first_fault : Known → Bool → ℕ → List Entry → Option Break
-first_fault k static equals [] = None
-first_fault k static equals (x ∷ xs) = lesser (fault_of k static equals x) (first_fault k static equals xs)
+-- what all entries can
+unfoldable pub plan_faults : Known → Bool → ℕ → List Entry → List (Option Break)
+plan_faults k static equals [] = []
+plan_faults k static equals (x ∷ xs) = faults_of k static equals x ++ plan_faults k static equals xs

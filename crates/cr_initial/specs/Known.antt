@@ -8,6 +8,7 @@ use Rattle.cr_types.specs.Types.{Qualified, type_at}
 use Rattle.cr_types.specs.declared.layout.Layout.{Layout}
 use Rattle.cr_types.specs.Layouts.{count_of, element_of, single_of}
 use Rattle.cr_operands.specs.declared.fact.Fact.{Fact}
+use Rattle.cr_rules.specs.declared.known.Member.{Member}
 use Rattle.cr_operands.specs.Values.{Seen, no_type, seen_at}
 use Rattle.cr_initial.specs.declared.anchor.Anchor.{Anchor}
 use Rattle.cr_initial.specs.declared.anchor.Anchor.TheVariants.{Moving}
@@ -27,6 +28,10 @@ pub record Known : Type 0 where
   pub first : ℕ → ℕ
 
 -- ---- the same of a unit's nodes
+
+-- the types of members
+abbrev pub member_types : List Shape → List Member → List Qualified
+member_types shapes members = map (λ member. type_at shapes member.row) members
 
 -- the scalars in a type (6.2.5p21)
 abbrev pub cells_of : List Layout → Qualified → ℕ
@@ -63,7 +68,7 @@ first_if (Some node) = node.first
 unfoldable pub known_of : Source → Known
 known_of s = record {
   cells = λ t. cells_of s.layouts.now t;
-  members = λ d. map (type_at s.table.now) (slice_index_or s.members.now d []);
+  members = λ d. member_types s.table.now (slice_index_or s.members.now d []);
   seen = λ i. seen_if s.table.now (slice_get s.facts.now i);
   anchor = λ i. slice_index_or s.anchors.now i Moving;
   literal = λ i. is_text_if (slice_get s.nodes.now i);

@@ -4,9 +4,11 @@ use Rattle.cr_syntax.specs.declared.typed.CType.TheVariants.{Struct}
 use Rattle.cr_types.specs.Types.{Qualified, plain, array}
 use Rattle.cr_types.specs.Layouts.{nothing}
 use Rattle.cr_initial.specs.declared.source.Source.{Source}
+use Rattle.cr_rules.specs.Breaks.{IsFirst, IsAmong, first_of}
 use Rattle.cr_initial.specs.Known.{Known, known_of}
 use Rattle.cr_initial.specs.Places.{Place, types_in}
 use Rattle.cr_initial.specs.Plans.{Entry, put, excess, Fills, IsPlan, is_open}
+use Rattle.cr_initial.specs.Faults.{plan_faults}
 
 -- an initialiser has one plan
 abbrev pub OnePlan : Type 0
@@ -54,3 +56,8 @@ StaysInside = (k : Known) (ps : List Place) (b : ℕ) (is : List ℕ) (ys : List
 abbrev pub PlansStayInside : Type 0
 PlansStayInside = (k : Known) (type : Qualified) (above node : ℕ) (xs : List Entry)
     → IsLaidOut k → is_open type ≡ false → IsPlan k type above node xs → ArePacked k 0 xs (k.cells type)
+
+-- of all breaks of a plan the first is its first fault
+abbrev pub FirstIsLeast : Type 0
+FirstIsLeast = (k : Known) (static : Bool) (equals : ℕ) (xs : List Entry)
+    → IsFirst (IsAmong (plan_faults k static equals xs)) (first_of (plan_faults k static equals xs))

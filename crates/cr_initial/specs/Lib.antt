@@ -3,6 +3,5 @@ pub mod Places
 pub mod Plans
 pub mod Anchors
 pub mod Faults
-pub mod Breaks
 pub mod Steps
 pub mod Laws

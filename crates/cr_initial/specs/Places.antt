@@ -1,5 +1,6 @@
 -- Places: the parts of an object that an initialiser can initialise (C11 6.7.9).
-use Rattle.std.specs.Prelude.{ℕ, ◌+◌, ◌==◌, ◌&&◌, List, [], ◌∷◌, Bool, true, false, length, replicate, nat_lt, if◌then◌else◌}
+use Rattle.std.specs.Prelude.{ℕ, ◌+◌, ◌==◌, ◌&&◌, ◌||◌, List, [], ◌∷◌, Bool, true, false, not, length, replicate, nat_lt, if◌then◌else◌}
+use Rattle.std.specs.List.{list_all}
 use Rattle.cr_ints.specs.declared.kind.IntKind.{IntKind}
 use Rattle.cr_ints.specs.declared.kind.IntKind.TheVariants.{Char, SChar, UChar}
 use Rattle.cr_syntax.specs.declared.typed.CType.{CType}
@@ -79,15 +80,31 @@ takes k (plain of c v) node = takes_by of (k.seen node).type
 takes k (pointer c v t) node = true
 takes k (array n t) node = is_char t && k.literal node
 
--- of an expression without a type at a structure's place it isn't known what it initialises
-abbrev pub is_lost_by : CType → Qualified → Bool
-is_lost_by (Struct node) type = is_unknown type
-is_lost_by other type = false
+-- the structure in a type, that of an array's elements too, is of a node before the given one
+abbrev pub is_earlier_leaf : ℕ → CType → Bool
+is_earlier_leaf node (Struct other) = nat_lt other node
+is_earlier_leaf node other = true
+
+abbrev pub is_earlier : ℕ → Qualified → Bool
+is_earlier node (plain of c v) = is_earlier_leaf node of
+is_earlier node (pointer c v t) = true
+is_earlier node (array n t) = is_earlier node t
+
+-- a structure has members, all of types that are complete before it is (6.7.2.1p3)
+abbrev pub are_made : ℕ → List Qualified → Bool
+are_made node [] = false
+are_made node (t ∷ ts) = list_all (is_earlier node) (t ∷ ts)
+
+-- It isn't known what an expression without a type initialises at a structure's place, nor what any expression does at the place of a
+-- structure or an array of which a declaration broke a constraint.
+abbrev pub is_lost_by : Known → CType → Qualified → Bool
+is_lost_by k (Struct node) type = is_unknown type || not (are_made node (k.members node))
+is_lost_by k other type = false
 
 unfoldable pub is_lost : Known → Qualified → ℕ → Bool
-is_lost k (plain of c v) node = is_lost_by of (k.seen node).type
+is_lost k (plain of c v) node = is_lost_by k of (k.seen node).type
 is_lost k (pointer c v t) node = false
-is_lost k (array n t) node = false
+is_lost k (array n t) node = n == 0
 
 -- ---- what a list in braces has places for
 

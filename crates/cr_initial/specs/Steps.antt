@@ -1,5 +1,5 @@
 -- The places that are left as the walk keeps them, and what a step of it leads to.
-use Rattle.std.specs.Prelude.{◌≡◌, ℕ, ◌+◌, List, [], ◌∷◌, ◌++◌, Bool, true, false, Option, None, Some, fold, map, drop, replicate, slice_index_or}
+use Rattle.std.specs.Prelude.{◌≡◌, ℕ, ◌+◌, List, [], ◌∷◌, ◌++◌, Bool, true, false, Option, None, Some, fold, drop, replicate, slice_index_or}
 use Rattle.cr_types.specs.Types.{Qualified, type_at}
 use Rattle.cr_initial.specs.declared.source.Source.{Source}
 use Rattle.cr_initial.specs.declared.part.Part.{Part}
@@ -7,7 +7,7 @@ use Rattle.cr_initial.specs.declared.part.Front.{Front}
 use Rattle.cr_initial.specs.declared.part.Frame.{Frame}
 use Rattle.cr_initial.specs.declared.part.Rest.{Rest}
 use Rattle.cr_initial.specs.declared.part.Rest.TheVariants.{Elements, Members}
-use Rattle.cr_initial.specs.Known.{Known, known_of}
+use Rattle.cr_initial.specs.Known.{Known, known_of, member_types}
 use Rattle.cr_initial.specs.Places.{Place, laid, types_in}
 use Rattle.cr_initial.specs.declared.lines.Line.{Line}
 use Rattle.cr_initial.specs.Plans.{Entry, Fills, entries_of}
@@ -18,7 +18,7 @@ place_of s part = record { cell = part.cell; type = type_at s.table.now part.row
 -- the types of the parts that are left of one aggregate
 unfoldable pub types_left : Source → Rest → List Qualified
 types_left s (Elements row count) = replicate count (type_at s.table.now row)
-types_left s (Members node next) = map (type_at s.table.now) (drop next (slice_index_or s.members.now node []))
+types_left s (Members node next) = member_types s.table.now (drop next (slice_index_or s.members.now node []))
 
 unfoldable pub places_of : Source → Frame → List Place
 places_of s frame = laid (known_of s) frame.cell (types_left s frame.rest)

@@ -1,10 +1,12 @@
-ghost use Rattle.std.specs.Prelude.{◌≡◌, ◌≤◌, ℕ, length};
+ghost use Rattle.std.specs.Prelude.{◌≡◌, ◌≤◌, ◌++◌, ℕ, List, Option, length};
 ghost use Rattle.cr_constants.specs.declared.constant.Constant.TheVariants.{NotConstant};
 ghost use Rattle.cr_types.specs.Types.{Qualified, type_at, type_of};
 ghost use Rattle.cr_operands.specs.Values.{valued_at, room_of, value_in};
+ghost use Rattle.cr_rules.specs.declared.least.Break as least;
+ghost use Rattle.cr_rules.specs.Breaks.{fault, first_of};
 ghost use Rattle.cr_initial.specs.Known.{known_of};
 ghost use Rattle.cr_initial.specs.Plans.{entry_of, entries_of};
-ghost use Rattle.cr_initial.specs.Faults.{broken, is_before, lesser_of, lesser, is_object, has_room, suits_literal, is_bad_literal, suits, is_badly_typed, is_constant, is_varying, fault_of, first_fault};
+ghost use Rattle.cr_initial.specs.Faults.{is_object, has_room, suits_literal, is_bad_literal, suits, is_badly_typed, is_constant, is_varying, faults_of, plan_faults};
 ghost use Rattle.cr_initial.specs.Anchors.{is_array, is_pointer, is_address};
 
 use crate::anchor::{Anchor, is_value};
@@ -15,71 +17,43 @@ use crate::source::{
 };
 use cr_constants::Constant;
 use cr_operands::{Fact, Value, is_assignable};
+use cr_rules::{Break, break_if, lesser};
 use cr_syntax::CType;
 use cr_types::Shape;
 
-/// A broken constraint: its row of the table of constraints, and the token of the fault.
-#[derive(Clone, Copy)]
-pub struct Break {
-    pub row: u8,
-    pub token: u32,
-}
-
 /// The first constraint that a plan breaks. `equals` is the token of the declarator's `=`, and `is_static` whether its object is of static
 /// duration.
-#[tactic(auto, unfolding(crate::specs::Plans::entries_of, crate::specs::Faults::first_fault))]
+#[tactic(auto, unfolding(crate::specs::Plans::entries_of, crate::specs::Faults::plan_faults))]
 pub fn first_fault(source: &Source, is_static: bool, equals: u32, lines: &[Line]) -> Option<Break>
-    ensures { result ≡ first_fault (known_of source.now) is_static equals (entries_of source.now.table.now lines.now) }
+    ensures { result ≡ first_of (plan_faults (known_of source.now) is_static equals (entries_of source.now.table.now lines.now)) }
 {
     let mut first = None;
     for at in (0..lines.len()).rev() {
-        first = lesser(fault_of(source, is_static, equals, lines[at]), first);
+        first = first_with(source, is_static, equals, lines[at], first);
     }
     first
 }
 
-#[tactic(auto, unfolding(crate::specs::Faults::fault_of))]
-fn fault_of(source: &Source, is_static: bool, equals: u32, line: Line) -> Option<Break>
-    ensures { result ≡ fault_of (known_of source.now) is_static equals (entry_of source.now.table.now line) }
+// The first of what an entry breaks and what those behind it break.
+fn first_with(
+    source: &Source,
+    is_static: bool,
+    equals: u32,
+    line: Line,
+    behind: Option<Break>,
+) -> Option<Break>
+    ensures { (others : List (Option least.Break)) → behind ≡ first_of others → result ≡ first_of (faults_of (known_of source.now) is_static equals (entry_of source.now.table.now line) ++ others) }
 {
     match line {
         Line::Put(put) => {
             let first = first_at(source, put.node);
-            let typed = broken(37, equals, is_badly_typed(source, put.row, put.node));
-            let literal = broken(13, first, is_bad_literal(source, put.row, put.node));
-            let constant = broken(12, first, is_varying(source, is_static, put.node));
-            lesser(typed, lesser(literal, constant))
+            let typed = break_if(37, equals, is_badly_typed(source, put.row, put.node));
+            let literal = break_if(13, first, is_bad_literal(source, put.row, put.node));
+            let constant = break_if(12, first, is_varying(source, is_static, put.node));
+            lesser(typed, lesser(literal, lesser(constant, behind)))
         }
-        Line::Excess(list) => broken(11, first_at(source, list), true),
+        Line::Excess(list) => lesser(break_if(11, first_at(source, list), true), behind),
     }
-}
-
-fn broken(row: u8, token: u32, so: bool) -> Option<Break>
-    ensures { result ≡ broken row token so }
-{
-    if so { Some(Break { row, token }) } else { None }
-}
-
-fn lesser(left: Option<Break>, right: Option<Break>) -> Option<Break>
-    ensures { result ≡ lesser left right }
-{
-    match (left, right) {
-        (None, _) => right,
-        (Some(_), None) => left,
-        (Some(x), Some(y)) => Some(lesser_of(x, y)),
-    }
-}
-
-fn lesser_of(left: Break, right: Break) -> Break
-    ensures { result ≡ lesser_of left right }
-{
-    if is_before(right, left) { right } else { left }
-}
-
-fn is_before(left: Break, right: Break) -> bool
-    ensures { result ≡ is_before left right }
-{
-    left.token < right.token || (left.token == right.token && left.row < right.row)
 }
 
 // K37: an expression is assignable to its place.

@@ -1,10 +1,12 @@
 ghost use Rattle.std.specs.Prelude.{◌≡◌, ◌<◌, true};
+ghost use Rattle.std.specs.List.{list_all};
 ghost use Rattle.cr_types.specs.Types.{type_at};
-ghost use Rattle.cr_initial.specs.Known.{known_of};
-ghost use Rattle.cr_initial.specs.Places.{is_char, is_char_kind, is_structure, takes, is_lost, is_unknown, opens, encloses, begins_with_literal};
+ghost use Rattle.cr_initial.specs.Known.{known_of, member_types};
+ghost use Rattle.cr_initial.specs.Places.{is_char, is_char_kind, is_structure, takes, is_earlier, are_made, is_lost, is_unknown, opens, encloses, begins_with_literal};
 
-use crate::source::{Source, is_listed, is_literal, shape_at, shape_of};
+use crate::source::{Source, is_listed, is_literal, members_at, shape_at, shape_of};
 use cr_ints::IntKind;
+use cr_rules::Member;
 use cr_syntax::CType;
 
 /// Whether a type is a character type (C11 6.2.5p15).
@@ -58,14 +60,50 @@ pub(crate) fn takes(source: &Source, row: u32, node: u32) -> bool
     }
 }
 
-/// Whether it isn't known what an expression initialises at a place of a type.
-#[tactic(auto, unfolding(crate::specs::Places::is_lost))]
+/// Whether it isn't known what an expression initialises at a place of a type: it has no type itself, or a declaration of the place's
+/// type broke a constraint.
+#[tactic(auto, unfolding(crate::specs::Known::known_of, crate::specs::Places::is_lost))]
 pub(crate) fn is_lost(source: &Source, row: u32, node: u32) -> bool
     ensures { result ≡ is_lost (known_of source.now) (type_at source.now.table.now row) node }
 {
     match shape_at(source, row).of {
-        CType::Struct(_) => is_untyped(source, node),
+        CType::Struct(structure) => {
+            is_untyped(source, node) || !are_made(source, structure, members_at(source, structure))
+        }
+        CType::Array(_, count) => count == 0,
         _ => false,
+    }
+}
+
+// Whether a structure has members, all of types that are complete before it is.
+fn are_made(source: &Source, structure: u32, members: &[Member]) -> bool
+    ensures { result ≡ are_made structure (member_types source.now.table.now members.now) }
+{
+    !members.is_empty() && are_earlier(source, structure, members)
+}
+
+fn are_earlier(source: &Source, structure: u32, members: &[Member]) -> bool
+    ensures { result ≡ list_all (is_earlier structure) (member_types source.now.table.now members.now) }
+{
+    for member in members {
+        if !is_earlier(source, structure, member.row) {
+            return false;
+        }
+    }
+    true
+}
+
+// Whether the structure in a type, that of an array's elements too, is of a node before another one.
+fn is_earlier(source: &Source, structure: u32, row: u32) -> bool
+    ensures { result ≡ is_earlier structure (type_at source.now.table.now row) }
+{
+    let mut inner = row;
+    loop {
+        match shape_at(source, inner).of {
+            CType::Struct(other) => return other < structure,
+            CType::Array(below, _) => inner = below,
+            _ => return true,
+        }
     }
 }
 

@@ -1,5 +1,4 @@
-ghost use Rattle.cr_initial.specs.Laws.{OnePlan, HasPlan, CellsAreLaidOut, PlansStayInside, StaysInside};
-ghost use Rattle.cr_initial.specs.Breaks.{FirstIsLeast};
+ghost use Rattle.cr_initial.specs.Laws.{OnePlan, HasPlan, CellsAreLaidOut, PlansStayInside, StaysInside, FirstIsLeast};
 
 /// A law: an initialiser has one plan.
 pub fn one_plan()
@@ -26,7 +25,7 @@ pub fn plans_stay_inside()
     ensures { PlansStayInside }
 {}
 
-/// A law: the first fault of a plan is the least of all its breaks.
+/// A law: the first fault of a plan is the first of all its breaks.
 pub fn first_is_least()
     ensures { FirstIsLeast }
 {}

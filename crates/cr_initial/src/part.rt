@@ -112,13 +112,13 @@ fn first_of(source: &Source, rest: Rest) -> Option<Front>
             Some(Front { row, rest })
         }
         Rest::Members(node, next) => {
-            let rows = members_at(source, node);
-            if next >= rows.len() {
+            let members = members_at(source, node);
+            if next >= members.len() {
                 return None;
             }
             let rest = Rest::Members(node, next + 1);
             Some(Front {
-                row: rows[next],
+                row: members[next].row,
                 rest,
             })
         }

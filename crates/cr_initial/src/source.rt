@@ -1,12 +1,13 @@
 ghost use Rattle.std.specs.Prelude.{◌≡◌, ◌≤◌, [], IfOk, length, slice_get, slice_index_or};
-ghost use Rattle.cr_types.specs.Types.{type_at, type_of};
-ghost use Rattle.cr_operands.specs.Values.{valued_at, room_of, value_of_seen, seen_at};
+ghost use Rattle.cr_types.specs.Types.{type_at, type_of, room_of};
+ghost use Rattle.cr_operands.specs.Values.{valued_at, room_of as room_of_value, value_of_seen, seen_at};
 ghost use Rattle.cr_initial.specs.Known.{known_of, is_text_if, is_list_if};
 
 use crate::anchor::Anchor;
 use cr_constants::Constant;
 use cr_operands::{Fact, Value, value_of};
 use cr_rows::Row;
+use cr_rules::Member;
 use cr_syntax::{CType, Kind, Node};
 use cr_types::{Layout, Shape, Table};
 use std::alloc::AllocError;
@@ -22,14 +23,15 @@ pub struct Source<'a> {
     pub anchors: &'a [Anchor],
     /// The layouts of the structures, at their contents.
     pub layouts: &'a [Layout],
-    /// The rows of their members' types, in order.
-    pub members: &'a [Row<u32>],
+    /// Their members, in order.
+    pub members: &'a [Row<Member>],
 }
 
 /// The shape of a row; that of no type where there is no such row.
 #[tactic(auto, using(crate::proofs::Rows::beyond))]
 pub(crate) fn shape_at(source: &Source, row: u32) -> Shape
-    ensures { type_at source.now.table.now row ≡ type_of (type_at source.now.table.now) result }
+    ensures is { type_at source.now.table.now row ≡ type_of (type_at source.now.table.now) result }
+    ensures below { room_of result ≤ row }
 {
     if (row as usize) < source.table.len() {
         source.table.shape(row)
@@ -53,12 +55,12 @@ pub(crate) fn cells_at(source: &Source, row: u32) -> Result<u64, AllocError>
     Ok(cells)
 }
 
-/// The rows of a structure's members.
-pub(crate) fn members_at<'a>(source: &Source<'a>, node: u32) -> &'a [u32]
+/// A structure's members.
+pub(crate) fn members_at<'a>(source: &Source<'a>, node: u32) -> &'a [Member]
     ensures { result.now ≡ slice_index_or source.now.members.now node [] }
 {
     match source.members.get(node as usize) {
-        Some(rows) => rows.as_slice(),
+        Some(members) => members.as_slice(),
         None => &[],
     }
 }
@@ -84,7 +86,7 @@ pub(crate) fn shape_of(source: &Source, node: u32) -> Shape
 #[tactic(auto, unfolding(crate::specs::Known::known_of))]
 pub(crate) fn value_at(source: &Source, node: u32) -> Value
     ensures is { valued_at source.now.table.now result ≡ value_of_seen ((known_of source.now).seen node) }
-    ensures within { room_of result ≤ length source.now.table.now }
+    ensures within { room_of_value result ≤ length source.now.table.now }
 {
     match fact_at(source, node) {
         Some(fact) => value_by(source, fact),
@@ -170,7 +172,7 @@ pub(crate) fn first_at(source: &Source, node: u32) -> u32
 #[tactic(auto, using(crate::proofs::Rows::beyond))]
 pub(crate) fn value_by(source: &Source, fact: Fact) -> Value
     ensures is { valued_at source.now.table.now result ≡ value_of_seen (seen_at source.now.table.now fact) }
-    ensures within { room_of result ≤ length source.now.table.now }
+    ensures within { room_of_value result ≤ length source.now.table.now }
 {
     if (fact.row as usize) < source.table.len() {
         value_of(source.table, fact)

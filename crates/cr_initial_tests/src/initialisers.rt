@@ -7,11 +7,13 @@ use cr_initial::{
 };
 use cr_operands_tests::{row_of, shown};
 use cr_rows::Row;
+use cr_rules::Member;
 use cr_types::{Layout, Table};
 use std::alloc::{AllocError, Global};
 use std::test::Fail;
 
-// The structure of node 0 is `struct {int a[2]; int b;}`, and that of node 1 has one such and an int. The type of an object stands before its
+// The structure of node 0 is `struct {int a[2]; int b;}`, and that of node 1 has one such and an int; that of node 2 has itself as a
+// member, and node 3 is none. The type of an object stands before its
 // initialiser, with `static` for one of static duration. What follows is each cell at which an expression is put, `!` for a list with
 // too many, the type of a completed array, and the first broken constraint with its token; the `=` is token 0. By hand
 // from C11 6.7.9 and the table of constraints.
@@ -79,6 +81,10 @@ S0; \"ab\" => 0 K13@1
 * int; \"ab\" => 0 K37@0
 [2] * char; { \"ab\" \"ab\" } => 0 1
 [2] * char; \"ab\" => 0 K13@1
+S2; { 7 8 } => 0 K37@0
+S3; { 7 8 } => ! K11@1
+[2] S3; { 7 8 } => 0 K37@0
+[2] [] int; { 7 8 } => 0 K37@0
 static int; 7 => 0
 static int; x => 0 K12@1
 static [2] int; { 1 x } => 0 1 K12@3
@@ -192,16 +198,17 @@ const LAYOUTS: [Layout; 2] = [
     },
 ];
 
-fn members_of(alloc: Global, table: &mut Table) -> Result<Vec<Row<u32>>, AllocError> {
-    let mut members = Vec::new(alloc);
-    for types in [["[2] int", "int"], ["S0", "int"]] {
-        let mut rows = Row::new(alloc);
+fn members_of(alloc: Global, table: &mut Table) -> Result<Vec<Row<Member>>, AllocError> {
+    let mut structures = Vec::new(alloc);
+    for types in [["[2] int", "int"], ["S0", "int"], ["S2", "int"]] {
+        let mut members = Row::new(alloc);
         for words in types {
-            rows.push(row_of(alloc, table, words)?)?;
+            let row = row_of(alloc, table, words)?;
+            members.push(Member { name: 0, row })?;
         }
-        members.push(rows)?;
+        structures.push(members)?;
     }
-    Ok(members)
+    Ok(structures)
 }
 
 fn outcome(alloc: Global, object: &str, text: &str) -> Result<String, AllocError> {
@@ -234,7 +241,7 @@ fn outcome(alloc: Global, object: &str, text: &str) -> Result<String, AllocError
     Ok(out)
 }
 
-fn source_of<'a>(table: &'a Table, read: &'a Read, members: &'a [Row<u32>]) -> Source<'a> {
+fn source_of<'a>(table: &'a Table, read: &'a Read, members: &'a [Row<Member>]) -> Source<'a> {
     Source {
         table,
         nodes: &read.nodes,

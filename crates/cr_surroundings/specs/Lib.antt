@@ -1,4 +1,6 @@
-pub mod Columns
+pub mod Raised
 pub mod Named
+pub mod Links
 pub mod Previous
 pub mod Surroundings
+pub mod Laws

@@ -1,18 +1,11 @@
 // The part before each.
-ghost use Rattle.std.specs.Prelude.{◌≡◌, ◌<◌, ℕ, None, IfOk, length, slice_index_or, slice_set};
-ghost use Rattle.cr_surroundings.specs.Columns.{AreOf};
+ghost use Rattle.std.specs.Prelude.{◌≡◌, ◌<◌, ℕ, None, IfOk, length, slice_index_or};
+ghost use Rattle.cr_bindings.specs.Entities.{AreOf};
 ghost use Rattle.cr_surroundings.specs.Previous.{before_in, before_of};
 
+use cr_bindings::set_link;
 use cr_syntax::Node;
 use std::alloc::{AllocError, Global};
-
-fn set(column: &mut Vec<Option<u32>>, at: usize, entry: Option<u32>)
-    ensures { column.new.items ≡ slice_set column.old.items at entry }
-{
-    if at < column.len() {
-        column[at] = entry;
-    }
-}
 
 fn place(column: &mut Vec<Option<u32>>, parts: &[u32])
     ensures count { length column.new.items ≡ length column.old.items }
@@ -21,7 +14,7 @@ fn place(column: &mut Vec<Option<u32>>, parts: &[u32])
     let mut before = None;
     let mut rest = parts;
     while let [part, more @ ..] = rest {
-        set(column, *part as usize, before);
+        set_link(column, *part as usize, before);
         before = Some(*part);
         rest = more;
     }

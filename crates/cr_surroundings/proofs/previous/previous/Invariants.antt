@@ -1,5 +1,5 @@
 use Rattle.std.proofs.Common.{None, length}
-use Rattle.cr_surroundings.specs.Columns.{AreOf}
+use Rattle.cr_bindings.specs.Entities.{AreOf}
 use Rattle.cr_surroundings.specs.Previous.{before_of}
 use Rattle.cr_surroundings.proofs.previous.previous.Given as goal
 

@@ -1,0 +1,9 @@
+pub mod Kept
+pub mod Steps
+pub mod Later
+pub mod Unit
+pub mod OneCut
+pub mod OneReading
+pub mod OneEntry
+pub mod OneTyping
+pub mod OneBreak

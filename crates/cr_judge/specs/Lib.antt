@@ -1,0 +1,4 @@
+pub mod Typing
+pub mod Breaks
+pub mod Statements
+pub mod Laws

@@ -1,0 +1,3 @@
+pub mod NameTypes
+pub mod Linked
+pub mod Faults
