@@ -1,4 +1,6 @@
-pub mod Kept
-pub mod Steps
-pub mod Later
-pub mod Unit
+mod Trees
+mod Rows
+mod Found
+pub mod SameTrees
+pub mod Units
+pub mod Verdicts

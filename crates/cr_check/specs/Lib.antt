@@ -1,3 +1,3 @@
-pub mod Typing
-pub mod Breaks
-pub mod Statements
+pub mod Judged
+pub mod Checked
+pub mod Laws

@@ -1,85 +1,93 @@
-ghost use Rattle.std.specs.Prelude.{◌≡◌, ◌<◌, IfOk, OnOk, List, length, slice_get};
+// What a unit is judged by.
+ghost use Rattle.std.specs.Prelude.{◌≡◌, IfOk};
 ghost use Rattle.cr_syntax.specs.Words.{AreSpans};
-ghost use Rattle.cr_types.specs.declared.shape.Shape as shape;
-ghost use Rattle.cr_types.specs.Types.{unknown, IsRow, Grows};
-ghost use Rattle.cr_rules.specs.Breaks.{first_of, lesser, IsFirst};
-ghost use Rattle.cr_check.specs.Typing.{IsRuledIf, IsTyping, IsWithin, AreWithin};
-ghost use Rattle.cr_check.specs.Breaks.{expression_faults, declaration_faults, IsBroken};
+ghost use Rattle.cr_types.specs.Types.{unknown, IsRow};
+ghost use Rattle.cr_judge.specs.Typing.{AreWithin};
+ghost use Rattle.cr_definitions.specs.Known.{AreKnown, known_of};
+ghost use Rattle.cr_check.specs.Judged.{IsJudgedFirst, IsWholeFirst, known_in};
 
-use crate::entry::{Entry, broken, entry_of};
-use crate::typing::{Typing, empty, push};
-use cr_declarations::Tree;
+use cr_columns::texts;
+use cr_definitions::Declarations;
+use cr_judge::{Whole, judge_unit};
 use cr_rows::Row;
-use cr_rules::{Break, lesser};
+use cr_scopes::Names;
+use cr_surroundings::Surroundings;
+use cr_syntax::Unit;
 use cr_types::Table;
 use std::alloc::{AllocError, Global};
 
-/// What each node of a unit has, and the first constraint that an expression or a declaration breaks.
+/// What a unit is judged by: what is known of its nodes before, the bytes of its literals, its types, and what its nodes have.
 #[derive(Drop)]
 pub struct Judged {
-    pub typing: Typing,
-    pub broken: Option<Break>,
+    pub surroundings: Surroundings,
+    pub texts: Row<Row<u8>>,
+    pub table: Table,
+    pub whole: Whole,
 }
 
-/// Judges the expressions and declarations of a unit. `texts` has the bytes of each string literal, with its closing zero. The
-/// table's first row is that of no type. The error is want of memory.
-#[tactic(auto, using(crate::proofs::Steps::none_yet, crate::proofs::Steps::all_typed, crate::proofs::Steps::first_of_all))]
-pub fn judge(
+/// Judges a unit. The error is want of memory.
+pub(crate) fn judgement(
     alloc: Global,
-    table: &mut Table,
-    tree: &Tree,
-    texts: &[Row<u8>],
+    file: &[u8],
+    unit: &Unit,
+    names: &Names,
 ) -> Result<Judged, AllocError>
-    requires spans { AreSpans tree.now.file.now tree.now.tokens.now }
-    requires first { IsRow table.old 0 unknown }
-    ensures within { IfOk result (λ j. AreWithin table.new j.typing) }
-    ensures typing { IfOk result (λ j. IsTyping tree.now texts.now table.new j.typing) }
-    ensures broken { IfOk result (λ j. IsFirst (IsBroken tree.now texts.now table.new j.typing) j.broken) }
-    ensures grows { OnOk result (Grows table.old table.new) }
+    requires { AreSpans file.now unit.now.tokens.list.items }
+    ensures { IfOk result (λ j. IsJudgedFirst file.now unit.now names.now j) }
 {
-    let mut typing = empty(alloc);
-    let mut broken = None;
-    for at in 0..tree.nodes.len() {
-        let one = judge_node(alloc, table, tree, texts, &typing, at)?;
-        broken = lesser(broken, one.broken);
-        push(&mut typing, one.entry)?;
-    }
-    Ok(Judged { typing, broken })
+    let surroundings = Surroundings::new(alloc, file, unit, names)?;
+    let tokens = unit.tokens.list.as_slice();
+    let texts = texts(alloc, file, tokens, unit.nodes.as_slice())?;
+    let mut table = Table::new(alloc)?;
+    let whole = whole_of(alloc, &mut table, file, unit, &surroundings, &texts)?;
+    Ok(Judged {
+        surroundings,
+        texts: Row::from_vec(texts),
+        table,
+        whole,
+    })
 }
 
-/// What a node has, and the first row that it breaks.
-#[derive(Drop)]
-struct One {
-    entry: Entry,
-    broken: Option<Break>,
-}
-
-fn judge_node(
+#[tactic(auto, using(crate::proofs::Trees::tree_spans))]
+fn whole_of(
     alloc: Global,
     table: &mut Table,
-    tree: &Tree,
+    file: &[u8],
+    unit: &Unit,
+    surroundings: &Surroundings,
     texts: &[Row<u8>],
-    typing: &Typing,
-    at: usize,
-) -> Result<One, AllocError>
-    requires low { at < length tree.now.nodes.now }
-    requires spans { AreSpans tree.now.file.now tree.now.tokens.now }
-    requires within { AreWithin table.old typing.now }
-    ensures within { IfOk result (λ one. IsWithin table.new one.entry) }
-    ensures ruled { IfOk result (λ one. (later : List shape.Shape) → Grows table.new later → IsRuledIf tree.now texts.now later typing.now one.entry at (slice_get tree.now.nodes.now at)) }
-    ensures broken { IfOk result (λ one. one.broken ≡ lesser (first_of (expression_faults tree.now texts.now table.new typing.now one.entry at (slice_get tree.now.nodes.now at))) (first_of (declaration_faults tree.now table.new typing.now one.entry at (slice_get tree.now.nodes.now at)))) }
-    ensures grows { OnOk result (Grows table.old table.new) }
+) -> Result<Whole, AllocError>
+    requires spans { AreSpans file.now unit.now.tokens.list.items }
+    requires first { IsRow table.old 0 unknown }
+    ensures { IfOk result (λ whole. IsWholeFirst file.now unit.now surroundings.now texts.now table.new whole) }
 {
-    let number = number_of(at)?;
-    let node = &tree.nodes[at];
-    let entry = entry_of(alloc, table, tree, texts, typing, number, node)?;
-    let broken = broken(alloc, table, tree, texts, typing, &entry, number, node)?;
-    Ok(One { entry, broken })
+    let tree = surroundings.tree(file, unit);
+    judge_unit(alloc, table, &tree, texts)
 }
 
-// A number in 32 bits. Where it doesn't fit, that counts as want of memory.
-fn number_of(at: usize) -> Result<u32, AllocError>
-    ensures { IfOk result (λ n. n ≡ at) }
+/// What is known of a judged unit's declarations.
+pub(crate) fn declarations_of<'a>(
+    file: &'a [u8],
+    unit: &'a Unit,
+    judged: &'a Judged,
+) -> Declarations<'a>
+    ensures file { result.file.now ≡ file.now }
+    ensures tokens { result.tokens.now ≡ unit.now.tokens.list.items }
+    ensures known { known_of result ≡ known_in file.now unit.now judged.now }
+    ensures within { AreWithin judged.now.table judged.now.whole.typing → AreKnown result }
 {
-    u32::try_from(at).map_err(|_| AllocError)
+    let typing = &judged.whole.typing;
+    Declarations {
+        table: &judged.table,
+        file,
+        tokens: unit.tokens.list.as_slice(),
+        nodes: unit.nodes.as_slice(),
+        above: judged.surroundings.above.as_slice(),
+        declarers: judged.surroundings.bindings.declarers.as_slice(),
+        specified: typing.specified.as_slice(),
+        declarators: typing.declarators.as_slice(),
+        declared: typing.declared.as_slice(),
+        named: typing.named.as_slice(),
+        parameters: typing.parameters.as_slice(),
+    }
 }

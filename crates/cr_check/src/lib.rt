@@ -1,16 +1,17 @@
-//! The constraints of C11 over a whole unit: what each node has, and the first constraint that one breaks.
+//! The whole check of a unit whose names are known: the constraints of C11.
 //!
-//! A typing gives each node what its rules make of the columns before it: `specs/Typing.antt` has one field a column, which cites the
-//! rule of `cr_rules` or `cr_declarations`. The pass goes over the nodes once. It promises that the columns are a typing, and that
-//! of all breaks the first is answered. It stands on the rules of expressions and of declarations.
+//! A unit is sound, or it is refused for the first of its faults: a typedef name that is declared again with another type, then the first
+//! constraint of K1 to K39 and K41 to K43 that it breaks, then K40. `specs/Checked.antt` says what a sound unit and the first fault of a unit
+//! are; `check` promises both. It stands on the surroundings of nodes, the typing of a unit, and what declarations have to be together.
 #![tactic(auto)]
 
-mod entry;
+mod checking;
+mod fault;
+mod faults;
 mod judged;
-mod statements;
-mod typing;
+mod laws;
 
-pub use entry::Entry;
-pub use judged::{Judged, judge};
-pub use statements::{Marked, Whole, judge_unit};
-pub use typing::Typing;
+pub use checking::check;
+pub use fault::TypeFault;
+pub use judged::Judged;
+pub use laws::a_sound_unit_has_no_fault;

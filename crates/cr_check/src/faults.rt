@@ -1,0 +1,64 @@
+// The first fault of a judged unit.
+ghost use Rattle.std.specs.Prelude.{◌≡◌, ◌-◌, IfOk, length};
+ghost use Rattle.cr_syntax.specs.Words.{AreSpans};
+ghost use Rattle.cr_check.specs.Judged.{IsJudgedFirst};
+ghost use Rattle.cr_check.specs.Checked.{IsFound, constraint_of, found_of};
+
+use crate::fault::TypeFault;
+use crate::judged::{Judged, declarations_of};
+use cr_definitions::{is_defined, repeated};
+use cr_rules::Break;
+use cr_scopes::Names;
+use cr_syntax::Unit;
+use std::alloc::{AllocError, Global};
+
+/// A typedef name that is declared again with another type, else the first constraint that is broken, else K40. The error is want of
+/// memory.
+#[tactic(auto, using(crate::proofs::Found::found_is))]
+pub(crate) fn first_fault(
+    alloc: Global,
+    file: &[u8],
+    unit: &Unit,
+    names: &Names,
+    judged: &Judged,
+) -> Result<Option<TypeFault>, AllocError>
+    requires spans { AreSpans file.now unit.now.tokens.list.items }
+    requires judged { IsJudgedFirst file.now unit.now names.now judged.now }
+    ensures { IfOk result (λ fault. IsFound file.now unit.now names.now judged.now fault) }
+{
+    let declarations = declarations_of(file, unit, judged);
+    let twice = repeated(alloc, names, &declarations)?;
+    let defined = is_defined(unit.items.as_slice(), names, &declarations);
+    let last = last_token(unit)?;
+    Ok(first_of(twice, judged.whole.broken, defined, last))
+}
+
+fn first_of(
+    twice: Option<u32>,
+    broken: Option<Break>,
+    defined: bool,
+    last: u32,
+) -> Option<TypeFault>
+    ensures { result ≡ found_of twice broken defined last }
+{
+    match twice {
+        Some(token) => Some(TypeFault::Twice(token)),
+        None => constraint_of(broken, defined, last),
+    }
+}
+
+fn constraint_of(broken: Option<Break>, defined: bool, last: u32) -> Option<TypeFault>
+    ensures { result ≡ constraint_of broken defined last }
+{
+    match broken {
+        Some(broken) => Some(TypeFault::Broken(broken.row, broken.token)),
+        None if defined => None,
+        None => Some(TypeFault::Broken(40, last)),
+    }
+}
+
+fn last_token(unit: &Unit) -> Result<u32, AllocError>
+    ensures { IfOk result (λ token. token ≡ length unit.now.tokens.list.items - 1) }
+{
+    u32::try_from(unit.tokens.list.len().saturating_sub(1)).map_err(|_| AllocError)
+}

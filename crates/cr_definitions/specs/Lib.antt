@@ -1,0 +1,4 @@
+pub mod Known
+pub mod Typedefs
+pub mod Mains
+pub mod Defined
