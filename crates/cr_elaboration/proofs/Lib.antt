@@ -1,0 +1,6 @@
+pub mod Copies
+pub mod Lookups
+pub mod Listed
+pub mod Grown
+pub mod Marks
+pub mod Alike

@@ -1,0 +1,9 @@
+pub mod Reading
+pub mod Entities
+pub mod Expressions
+pub mod Names
+pub mod Functions
+pub mod Levels
+pub mod Rows
+pub mod Columns
+pub mod Laws

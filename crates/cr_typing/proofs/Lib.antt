@@ -1,0 +1,4 @@
+mod Made
+mod SameValues
+mod Statics
+pub mod OneTypedUnit
