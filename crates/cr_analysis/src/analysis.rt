@@ -3,8 +3,11 @@ ghost use Rattle.std.specs.Prelude.{◌≡◌, IfOk, MatchOption, OnOk};
 ghost use Rattle.cr_scopes.specs.declared.fault.NameFault.TheVariants as name_fault;
 ghost use Rattle.cr_tokens.specs.Tokens.{HasNoTokens, Tokenizes};
 ghost use Rattle.cr_exprs.specs.declared.fault.ParseFault.TheVariants.{NoMemory};
-ghost use Rattle.cr_analysis.specs.Analysis.{IsAnalysis, IsParsed};
+ghost use Rattle.cr_check.specs.declared.fault.TypeFault.TheVariants as type_fault;
+ghost use Rattle.cr_analysis.specs.Analysis.{AreItsNames, IsAnalysis, IsParsed, tree_of};
 
+use crate::members::structures;
+use cr_check::{TypeFault, check};
 use cr_decls::parse;
 use cr_exprs::ParseFault;
 use cr_machine::one_first_refusal;
@@ -19,10 +22,11 @@ use std::alloc::{AllocError, Global};
 pub enum Analysis {
     /// It has no tokens.
     NoTokens,
-    /// Its tokens are those of no unit, or of one whose names aren't known.
+    /// Its tokens are those of no unit, or of one whose names aren't known, or that breaks a constraint.
     NoUnit(Row<Token>),
-    /// Its unit, which has its tokens, and what its names stand for. The nodes are listed in order, each behind those below it.
-    OfUnit(Unit, Names),
+    /// Its unit, which has its tokens, what its names stand for, and for each node the structure whose member it names, by its content. The
+    /// nodes are listed in order, each behind those below it.
+    OfUnit(Unit, Names, Row<Option<u32>>),
 }
 
 /// Reads a file. The error is want of memory.
@@ -72,12 +76,12 @@ fn refusal(fault: ParseFault) -> Result<(), AllocError>
 
 fn named(alloc: Global, file: &[u8], unit: Unit) -> Result<Analysis, AllocError>
     requires tokens { Tokenizes file.now unit.tokens.list.items }
-    requires parsed { IsParsed file.now unit.tokens.list.items (record { nodes = unit.nodes; items = unit.items }) }
+    requires parsed { IsParsed file.now unit.tokens.list.items (tree_of unit) }
     ensures { IfOk result (IsAnalysis file.now) }
 {
     tokens_are_spans();
     match resolve(alloc, file, &unit) {
-        Ok(names) => Ok(Analysis::OfUnit(unit, names)),
+        Ok(names) => checked(alloc, file, unit, names),
         Err(fault) => {
             name_refusal(fault)?;
             Ok(Analysis::NoUnit(Row::from_vec(unit.tokens.list)))
@@ -90,6 +94,36 @@ fn name_refusal(fault: NameFault) -> Result<(), AllocError>
 {
     match fault {
         NameFault::NoMemory => Err(AllocError),
+        _ => Ok(()),
+    }
+}
+
+fn checked(alloc: Global, file: &[u8], unit: Unit, names: Names) -> Result<Analysis, AllocError>
+    requires tokens { Tokenizes file.now unit.tokens.list.items }
+    requires parsed { IsParsed file.now unit.tokens.list.items (tree_of unit) }
+    requires known { AreItsNames file.now unit.tokens.list.items (tree_of unit) names }
+    ensures { IfOk result (IsAnalysis file.now) }
+{
+    tokens_are_spans();
+    match check(alloc, file, &unit, &names) {
+        Ok(judged) => {
+            let nodes = unit.nodes.as_slice();
+            let facts = judged.whole.typing.facts.as_slice();
+            let structures = structures(alloc, nodes, &judged.table, facts)?;
+            Ok(Analysis::OfUnit(unit, names, structures))
+        }
+        Err(fault) => {
+            type_refusal(fault)?;
+            Ok(Analysis::NoUnit(Row::from_vec(unit.tokens.list)))
+        }
+    }
+}
+
+fn type_refusal(fault: TypeFault) -> Result<(), AllocError>
+    ensures { OnOk result (fault ≡ type_fault.NoMemory → ⊥) }
+{
+    match fault {
+        TypeFault::NoMemory => Err(AllocError),
         _ => Ok(()),
     }
 }

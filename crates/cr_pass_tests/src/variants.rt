@@ -36,16 +36,19 @@ c 2 1 2¦int main(){return 1+2;}
 c 3 0 2¦int main(){return 2*3;}
 c 3 1 2¦int main(){return 1+3;}
 c 4 0 0¦int main(){return 1+2*3;}
+file¦int x,f(int,int);int main(){return(1)/*a*/+/*b*/ sizeof(x),f(2,3),(int)-4?5:6;}int f(int a,int b){return a;}
+c 0 0 18¦int x,f(int,int);int main(){return 0;}int f(int a,int b){return a;}
+c 0 3 18¦int x,f(int,int);int main(){return 0/*a*/+/*b*/ sizeof(x),f(2,3),(int)-4?5:6;}int f(int a,int b){return a;}
+c 2 0 9¦int x,f(int,int);int main(){return(1)/*a*/+/*b*/ sizeof(x),f(2,3);}int f(int a,int b){return a;}
+c 2 2 9¦int x,f(int,int);int main(){return(1),f(2,3),(int)-4?5:6;}int f(int a,int b){return a;}
+c 2 3 9¦int x,f(int,int);int main(){return 1/*a*/+/*b*/ sizeof(x),f(2,3),(int)-4?5:6;}int f(int a,int b){return a;}
+c 2 5 9¦int x,f(int,int);int main(){return(1)/*a*/+/*b*/ sizeof(x),2,(int)-4?5:6;}int f(int a,int b){return a;}
+c 2 6 9¦int x,f(int,int);int main(){return(1)/*a*/+/*b*/ sizeof(x),f(2,3),5;}int f(int a,int b){return a;}
+c 2 7 9¦int x,f(int,int);int main(){return(1)/*a*/+/*b*/ sizeof(x),f(2,3),-4?5:6;}int f(int a,int b){return a;}
+c 3 4 5¦int x,f(int,int);int main(){return(1)/*a*/+/*b*/ sizeof(x),f(2,3),6;}int f(int a,int b){return a;}
 file¦int x,f();int main(){return(1)/*a*/+/*b*/ sizeof(x),f(2,3),(int)-4?5:6;}
-c 0 0 17¦int x,f();int main(){return 0;}
-c 0 3 17¦int x,f();int main(){return 0/*a*/+/*b*/ sizeof(x),f(2,3),(int)-4?5:6;}
-c 2 0 9¦int x,f();int main(){return(1)/*a*/+/*b*/ sizeof(x),f(2,3);}
-c 2 2 9¦int x,f();int main(){return(1),f(2,3),(int)-4?5:6;}
-c 2 3 9¦int x,f();int main(){return 1/*a*/+/*b*/ sizeof(x),f(2,3),(int)-4?5:6;}
-c 2 5 9¦int x,f();int main(){return(1)/*a*/+/*b*/ sizeof(x),2,(int)-4?5:6;}
-c 2 6 9¦int x,f();int main(){return(1)/*a*/+/*b*/ sizeof(x),f(2,3),5;}
-c 2 7 9¦int x,f();int main(){return(1)/*a*/+/*b*/ sizeof(x),f(2,3),-4?5:6;}
-c 3 4 5¦int x,f();int main(){return(1)/*a*/+/*b*/ sizeof(x),f(2,3),6;}
+c 0 0 0¦int x,f();int main(){return(1)/*a*/+/*b*/ sizeof(x),f(2,3),(int)-4?5:6;}
+c 2 0 0¦int x,f();int main(){return(1)/*a*/+/*b*/ sizeof(x),f(2,3),(int)-4?5:6;}
 file¦int x;int main(){{ ;/*a*/{}}do x;while(1);for(;;);switch(1){case 1:while(1)x;default:;}}
 s 0 0 8¦int x;int main(){do x;while(1);for(;;);switch(1){case 1:while(1)x;default:;}}
 s 0 1 8¦int x;int main(){{ /*a*/{}}do x;while(1);for(;;);switch(1){case 1:while(1)x;default:;}}
@@ -71,11 +74,16 @@ file¦int f(int x){return x+1;}int main(){return f(f(2))+sizeof f(3);}
 i 0 0 3¦int f(int x){return x+1;}int main(){return ((f(2))+1)+sizeof f(3);}
 i 0 1 3¦int f(int x){return x+1;}int main(){return f(((2)+1))+sizeof f(3);}
 i 0 2 3¦int f(int x){return x+1;}int main(){return f(f(2))+sizeof ((3)+1);}
+file¦int a,f(int),b;int c(int),f(int);int main(){return f(- 2);}int f(int x){return - x/*a*/-  -(x);}
+i 0 0 1¦int a,b;int c(int);int main(){return (-(-2)- -((-2)));}
 file¦typedef int F(int);int a,f(int),b;F c,f;int main(){return f(- 2);}int f(int x){return - x/*a*/-  -(x);}
-i 0 0 1¦typedef int F(int);int a,b;F c;int main(){return (-(-2)- -((-2)));}
+i 0 0 0¦typedef int F(int);int a,f(int),b;F c,f;int main(){return f(- 2);}int f(int x){return - x/*a*/-  -(x);}
+file¦struct s{int x;}z;int g(int[],int),k(struct s);int k(struct s x){return x.x;}int g(int a[],int b){return a[b];}int main(){int c[]={k(z),2};g(c,0);return g(c,1)+main();}
+i 0 0 3¦struct s{int x;}z;int g(int[],int);int g(int a[],int b){return a[b];}int main(){int c[]={((z).x),2};g(c,0);return g(c,1)+main();}
+i 0 1 3¦struct s{int x;}z;int g(int[],int),k(struct s);int k(struct s x){return x.x;}int g(int a[],int b){return a[b];}int main(){int c[]={k(z),2};((c)[(0)]);return g(c,1)+main();}
+i 0 2 3¦struct s{int x;}z;int g(int[],int),k(struct s);int k(struct s x){return x.x;}int g(int a[],int b){return a[b];}int main(){int c[]={k(z),2};g(c,0);return ((c)[(1)])+main();}
 file¦struct s{int x;}z;int g(int[],int),k(struct s);int k(struct s x){return x.x;}int g(int a[],int b){return a[b];}int main(){int c[]={k(z),2};g;return g(c,1)+main();}
-i 0 0 2¦struct s{int x;}z;int g(int[],int);int g(int a[],int b){return a[b];}int main(){int c[]={((z).x),2};g;return g(c,1)+main();}
-i 0 1 2¦struct s{int x;}z;int g(int[],int),k(struct s);int k(struct s x){return x.x;}int g(int a[],int b){return a[b];}int main(){int c[]={k(z),2};g;return ((c)[(1)])+main();}
+i 0 0 0¦struct s{int x;}z;int g(int[],int),k(struct s);int k(struct s x){return x.x;}int g(int a[],int b){return a[b];}int main(){int c[]={k(z),2};g;return g(c,1)+main();}
 file¦int main(){return 0;}int f(){return main();}
 i 0 0 1¦int f(){return (0);}
 file¦int f(){return 1;}int main(){int x=f();{int f=2;return f;}}
@@ -92,10 +100,12 @@ i 1 0 1¦int y;void f(int n){if(n)f(n-1);}void h(void){return;}int main(){if(y){
 file¦int f(int x){return x;}int main(){return f(5);}
 i 0 0 1¦int main(){return ((5));}
 p 0 0 1¦int f(void){return 0;}int main(){return f();}
+file¦int f(int a,int b[sizeof a],int c);int f(int a,int b[],int c){return c?f(a,b,f(1,b,2)):a;}int main(int n,char**v){int f(int,int*,int);return f(n,0,3);}
+p 0 0 3¦int f(int b[sizeof a],int c);int f(int b[],int c){return c?f(b,f(b,2)):0;}int main(int n,char**v){int f(int*,int);return f(0,3);}
+p 0 1 3¦int f(int a,int c);int f(int a,int c){return c?f(a,f(1,2)):a;}int main(int n,char**v){int f(int,int);return f(n,3);}
+p 0 2 3¦int f(int a,int b[sizeof a]);int f(int a,int b[]){return 0?f(a,b):a;}int main(int n,char**v){int f(int,int*);return f(n,0);}
 file¦int f();int f(int a,int b[sizeof a],int c);int f(int a,int b[],int c){return c?f(a,b,f(1,b,2)):a;}int main(int n){int f(int,int*,int);return f(n,0,3);}
-p 0 0 3¦int f();int f(int b[sizeof a],int c);int f(int b[],int c){return c?f(b,f(b,2)):0;}int main(int n){int f(int*,int);return f(0,3);}
-p 0 1 3¦int f();int f(int a,int c);int f(int a,int c){return c?f(a,f(1,2)):a;}int main(int n){int f(int,int);return f(n,3);}
-p 0 2 3¦int f();int f(int a,int b[sizeof a]);int f(int a,int b[]){return 0?f(a,b):a;}int main(int n){int f(int,int*);return f(n,0);}
+p 0 0 0¦int f();int f(int a,int b[sizeof a],int c);int f(int a,int b[],int c){return c?f(a,b,f(1,b,2)):a;}int main(int n){int f(int,int*,int);return f(n,0,3);}
 file¦int main(){L:return 0;}
 s 5 0 1¦int main(){return 0;}
 file¦int main(){L :/*a*/M:goto M;N:;}
@@ -136,6 +146,33 @@ u 3 1 4¦struct{int x,*y;}s;enum e{A,B,};int main(){return s.x;}
 u 3 2 4¦struct{int x,*y;int z;}s;enum e{B,};int main(){return s.x;}
 u 3 3 4¦struct{int x,*y;int z;}s;enum e{A,};int main(){return s.x;}
 r 0 1 4¦struct{int x,*y;int z;}s;enum a{A,B,};int main(){return s.x;}
+file¦struct s{int a,b;};struct t{int a,c;};struct s x;struct t y;int main(){return x.a+y.c;}
+u 3 0 2¦struct s{int a;};struct t{int a,c;};struct s x;struct t y;int main(){return x.a+y.c;}
+u 3 1 2¦struct s{int a,b;};struct t{int c;};struct s x;struct t y;int main(){return x.a+y.c;}
+file¦struct p{int a;struct p*n;int q[2];};struct r{int n;int a;}z[2];int f(struct p*x){return x->n->a+x->q[1];}int main(){struct p o;o.n=0;return f(&o)+z->a+(*z).a;}
+u 3 0 1¦struct p{int a;struct p*n;int q[2];};struct r{int a;}z[2];int f(struct p*x){return x->n->a+x->q[1];}int main(){struct p o;o.n=0;return f(&o)+z->a+(*z).a;}
+file¦struct s{int a;int b;}x;int main(){struct s{int a;int b;}y;y.a=1;return x.b+y.a;}
+u 3 0 2¦struct s{int b;}x;int main(){struct s{int a;int b;}y;y.a=1;return x.b+y.a;}
+u 3 1 2¦struct s{int a;int b;}x;int main(){struct s{int a;}y;y.a=1;return x.b+y.a;}
+file¦struct s{struct t{int m;}k;int m;}x;int main(){return x.k.m;}
+u 3 0 1¦struct s{struct t{int m;}k;}x;int main(){return x.k.m;}
+file¦int*p;int main(){return p*2;}
+t 4 0 15¦*p;int main(){return p*2;}
+b 0 0 2¦int*p;int main{return p*2;}
+u 0 0 0¦int*p;int main(){return p*2;}
+s 0 0 0¦int*p;int main(){return p*2;}
+c 0 0 0¦int*p;int main(){return p*2;}
+i 0 0 0¦int*p;int main(){return p*2;}
+r 0 0 0¦int*p;int main(){return p*2;}
+p 0 0 0¦int*p;int main(){return p*2;}
+f 0 0 0¦int*p;int main(){return p*2;}
+file¦typedef int T;typedef long T;int main(){return 0;}
+s 0 0 0¦typedef int T;typedef long T;int main(){return 0;}
+f 0 0 0¦typedef int T;typedef long T;int main(){return 0;}
+file¦int x;int f(int a){return a;}
+u 0 0 0¦int x;int f(int a){return a;}
+p 0 0 0¦int x;int f(int a){return a;}
+f 0 0 0¦int x;int f(int a){return a;}
 file¦enum{A};int main(){return 0;}
 u 3 0 1¦enum{};int main(){return 0;}
 file¦int f(int a,int b){extern int g;return b;}int g=1;int main(){int f(int,int);return f(g,g);}
@@ -727,22 +764,23 @@ fn variant_of<P: Passes>(
 }
 
 // The variant that the numbers name, or a word where the level has another width.
-fn made(alloc: Global, file: &[u8], numbers: &str) -> Result<Vec<u8>, AllocError> {
-    let file = &file[..file.len().min(1_048_576)];
-    let passes = CPasses {
-        enabled: [true; 10],
-    };
-    let index = passes.prepare(alloc, file)?;
+fn made<P: Passes>(
+    alloc: Global,
+    passes: &P,
+    index: &P::Prep,
+    file: &[u8],
+    numbers: &str,
+) -> Result<Vec<u8>, AllocError> {
     let mut words = numbers.split_whitespace();
     let at = Cursor {
         pass: pass_of(words.next()),
         level: u8::try_from(number(words.next())).unwrap_or(99),
         index: number(words.next()),
     };
-    if passes.width(&index, at.pass, at.level) != number(words.next()) {
+    if passes.width(index, at.pass, at.level) != number(words.next()) {
         return Ok(b"another width".to_vec(alloc)?);
     }
-    variant_of(alloc, &passes, &index, file, at)
+    variant_of(alloc, passes, index, file, at)
 }
 
 // The bytes of a cell, in which `␊` stands for the end of a line and `␉` for a tab.
@@ -767,11 +805,33 @@ fn expect(rt: &impl Abort, found: &[u8], wanted: &[u8], row: &str) {
     assert!(rt; found == wanted, "{row}");
 }
 
-fn check(rt: &impl Abort, alloc: Global, file: &[u8], row: &str) -> Result<(), AllocError> {
+fn check<P: Passes>(
+    rt: &impl Abort,
+    alloc: Global,
+    passes: &P,
+    index: &P::Prep,
+    file: &[u8],
+    row: &str,
+) -> Result<(), AllocError> {
     if let Some((numbers, variant)) = row.split_once('¦') {
         let wanted = bytes_of(alloc, variant)?;
-        let found = made(alloc, file, numbers)?;
+        let found = made(alloc, passes, index, file, numbers)?;
         expect(rt, &found, &wanted, row);
+    }
+    Ok(())
+}
+
+// A file and its rows. The index is made once for all of them.
+fn check_all(rt: &impl Abort, alloc: Global, table: &str) -> Result<(), AllocError> {
+    let passes = CPasses {
+        enabled: [true; 10],
+    };
+    let mut rows = table.lines();
+    let file = bytes_of(alloc, rows.next().unwrap_or(""))?;
+    let file = &file[..file.len().min(1_048_576)];
+    let index = passes.prepare(alloc, file)?;
+    for row in rows {
+        check(rt, alloc, &passes, &index, file, row)?;
     }
     Ok(())
 }
@@ -780,11 +840,7 @@ fn check(rt: &impl Abort, alloc: Global, file: &[u8], row: &str) -> Result<(), A
 fn passes_give_the_variants_of_the_table(rt: HostRuntime) -> Result<(), AllocError> {
     let alloc = rt.alloc();
     for table in VARIANTS.split("file¦") {
-        let mut rows = table.lines();
-        let file = bytes_of(alloc, rows.next().unwrap_or(""))?;
-        for row in rows {
-            check(&rt, alloc, &file, row)?;
-        }
+        check_all(&rt, alloc, table)?;
     }
     Ok(())
 }

@@ -31,7 +31,7 @@ use Rattle.pass_names.specs.Short.{first_free}
 use Rattle.cr_passes.specs.declared.pass.Pass.{Pass}
 use Rattle.cr_passes.specs.declared.pass.Pass.TheVariants.{Brackets, Expressions, Inlined, Lines, NotThere, Parameters, Printed, Renamed, Runs, Statements, Unused}
 use Rattle.cr_passes.specs.Passes.{levels_of, pass_by}
-use Rattle.cr_passes.specs.Offers.{ByNames, ByTokens, ByTree, IfOn, IsKnown, IsOffered, Known, Offers, is_on, menu_at, nothing, offer_of}
+use Rattle.cr_passes.specs.Offers.{ByNames, ByStructures, ByTokens, ByTree, IfOn, IsKnown, IsOffered, Known, Offers, is_on, menu_at, nothing, offer_of}
 
 one_on : (on : Bool) (P : Offering → Type 0) (menu other : Offering) → (P menu → P other → menu ≡ other) → IfOn on P menu → IfOn on P other → menu ≡ other
 one_on true P menu other one is also = one is also
@@ -57,6 +57,11 @@ by_names : (names : Option Names) (P : Names → Offering → Type 0) (Q : Offer
 by_names None P Q menu it none is = subst Q (sym is) none
 by_names (Some n) P Q menu it none is = it n is
 
+by_structures : (structures : Option (List (Option ℕ))) (P : List (Option ℕ) → Offering → Type 0) (Q : Offering → Type 0) (menu : Offering)
+    → ((s : List (Option ℕ)) → P s menu → Q menu) → Q nothing → ByStructures structures P menu → Q menu
+by_structures None P Q menu it none is = subst Q (sym is) none
+by_structures (Some s) P Q menu it none is = it s is
+
 -- Each pass offers one menu.
 one_by_tokens : (tokens : Option (List Token)) (P : List Token → Offering → Type 0) (menu other : Offering)
     → ((ts : List Token) → P ts menu → P ts other → menu ≡ other) → ByTokens tokens P menu → ByTokens tokens P other → menu ≡ other
@@ -73,6 +78,11 @@ one_by_names : (names : Option Names) (P : Names → Offering → Type 0) (menu 
 one_by_names None P menu other one is also = is ∙ sym also
 one_by_names (Some n) P menu other one is also = one n is also
 
+one_by_structures : (structures : Option (List (Option ℕ))) (P : List (Option ℕ) → Offering → Type 0) (menu other : Offering)
+    → ((s : List (Option ℕ)) → P s menu → P s other → menu ≡ other) → ByStructures structures P menu → ByStructures structures P other → menu ≡ other
+one_by_structures None P menu other one is also = is ∙ sym also
+one_by_structures (Some s) P menu other one is also = one s is also
+
 one_printed : (file : List ℕ) (tokens : List Token) (menu other : Offering) → IsPrintedOffering file tokens menu → IsPrintedOffering file tokens other → menu ≡ other
 one_printed file tokens menu other a b = a.is ∙ ap (f_offering file) (prints_one_text _ a.text b.text a.prints b.prints) ∙ sym b.is
 
@@ -80,7 +90,8 @@ one_offered : (file : List ℕ) (read : Read) (pass : Pass) (menu other : Offeri
 one_offered file read Lines menu other is also = is ∙ sym also
 one_offered file read Runs menu other is also = one_by_tokens read.tokens _ menu other (λ ts a b. a ∙ sym b) is also
 one_offered file read Brackets menu other is also = one_by_tokens read.tokens _ menu other (λ ts a b. one_offering file ts menu other a b) is also
-one_offered file read Unused menu other is also = one_by_tokens read.tokens _ menu other (λ ts. one_by_tree read.tree _ menu other (λ t. one_by_names read.names _ menu other (λ n a b. a.offered ∙ sym b.offered))) is also
+one_offered file read Unused menu other is also = one_by_tokens read.tokens _ menu other (λ ts. one_by_tree read.tree _ menu other (λ t. one_by_names read.names _ menu other
+    (λ n. one_by_structures read.structures _ menu other (λ s a b. a.offered ∙ sym b.offered)))) is also
 one_offered file read Statements menu other is also = one_by_tokens read.tokens _ menu other (λ ts. one_by_tree read.tree _ menu other (λ t a b. a.offered ∙ sym b.offered)) is also
 one_offered file read Expressions menu other is also = one_by_tokens read.tokens _ menu other (λ ts. one_by_tree read.tree _ menu other (λ t a b. a.offered ∙ sym b.offered)) is also
 one_offered file read Inlined menu other is also = one_by_tokens read.tokens _ menu other (λ ts. one_by_tree read.tree _ menu other (λ t. one_by_names read.names _ menu other (λ n a b. a.offered ∙ sym b.offered))) is also
@@ -124,7 +135,7 @@ none_offered file read Runs menu level is few = by_tokens read.tokens _ (λ m. l
 none_offered file read Brackets menu level is few = by_tokens read.tokens _ (λ m. length (level_of m level) ≡ 0) menu (λ ts e a. without_brackets file ts menu level a few) refl is
 none_offered file read Unused menu level is few = by_tokens read.tokens _ (λ m. length (level_of m level) ≡ 0) menu
     (λ ts e. by_tree read.tree _ (λ m. length (level_of m level) ≡ 0) menu (λ t. by_names read.names _ (λ m. length (level_of m level) ≡ 0) menu
-    (λ n a. without menu _ 4 level a.offered refl few) refl) refl) refl is
+    (λ n. by_structures read.structures _ (λ m. length (level_of m level) ≡ 0) menu (λ s a. without menu _ 4 level a.offered refl few) refl) refl) refl) refl is
 none_offered file read Statements menu level is few = by_tokens read.tokens _ (λ m. length (level_of m level) ≡ 0) menu
     (λ ts e. by_tree read.tree _ (λ m. length (level_of m level) ≡ 0) menu (λ t a. without menu _ 6 level a.offered refl few) refl) refl is
 none_offered file read Expressions menu level is few = by_tokens read.tokens _ (λ m. length (level_of m level) ≡ 0) menu
@@ -176,7 +187,7 @@ runs_offered file tokens is level = level_few (runs_gone tokens) (15 ∷ (7 ∷ 
 read_tokens : (file : List ℕ) (read : Read) (tokens : List Token) → IsRead file read → read.tokens ≡ Some tokens → Tokenizes file tokens
 read_tokens file _ tokens (no_tokens none) e = absurd (none-some tokens e)
 read_tokens file _ tokens (no_unit {tokens = ts} is none) e = let same : ts ≡ tokens = cc in subst (Tokenizes file) same is
-read_tokens file _ tokens (of_unit {tokens = ts} is parsed are) e = let same : ts ≡ tokens = cc in subst (Tokenizes file) same is
+read_tokens file _ tokens (of_unit {tokens = ts} is are) e = let same : ts ≡ tokens = cc in subst (Tokenizes file) same is
 
 -- a level that is tested, or isn't there
 tested : (most : ℕ) (menu : Offering) (level : ℕ) → ((level : ℕ) → level < 16 → length (level_of menu level) ≤ most) → (15 ≤ level → length (level_of menu level) ≡ 0) → length (level_of menu level) ≤ most
@@ -190,7 +201,8 @@ few_in file read Brackets menu level known is = by_tokens read.tokens _ (λ m. l
     (λ ts e a. few_offered file ts menu level (read_tokens file read ts known e) a) (omega arith) is
 few_in file read Unused menu level known is = by_tokens read.tokens _ (λ m. length (level_of m level) ≤ length file) menu
     (λ ts e. by_tree read.tree _ (λ m. length (level_of m level) ≤ length file) menu (λ t. by_names read.names _ (λ m. length (level_of m level) ≤ length file) menu
-    (λ n a. tested (length file) menu level a.few (λ high. none_offered file read Unused menu level is (omega (arith, high)))) (omega arith)) (omega arith)) (omega arith) is
+    (λ n. by_structures read.structures _ (λ m. length (level_of m level) ≤ length file) menu
+    (λ s a. tested (length file) menu level a.few (λ high. none_offered file read Unused menu level is (omega (arith, high)))) (omega arith)) (omega arith)) (omega arith)) (omega arith) is
 few_in file read Statements menu level known is = by_tokens read.tokens _ (λ m. length (level_of m level) ≤ length file) menu
     (λ ts e. by_tree read.tree _ (λ m. length (level_of m level) ≤ length file) menu
     (λ t a. tested (length file) menu level a.few (λ high. none_offered file read Statements menu level is (omega (arith, high)))) (omega arith)) (omega arith) is

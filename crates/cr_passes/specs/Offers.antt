@@ -55,6 +55,11 @@ abbrev pub ByNames : Option Names → (Names → Offering → Type 0) → Offeri
 ByNames None IsOffered menu = menu ≡ nothing
 ByNames (Some names) IsOffered menu = IsOffered names menu
 
+-- and by the structures whose members its nodes name; without a unit nothing
+abbrev pub ByStructures : Option (List (Option ℕ)) → (List (Option ℕ) → Offering → Type 0) → Offering → Type 0
+ByStructures None IsOffered menu = menu ≡ nothing
+ByStructures (Some structures) IsOffered menu = IsOffered structures menu
+
 -- no level has more edits than so many
 abbrev pub IsFew : ℕ → Offering → Type 0
 IsFew most menu = (level : ℕ) → level < 16 → length (level_of menu level) ≤ most
@@ -69,7 +74,7 @@ abbrev pub IsOffered : List ℕ → Read → Pass → Offering → Type 0
 IsOffered file read Lines menu = menu ≡ nothing
 IsOffered file read Runs menu = ByTokens read.tokens (λ tokens menu. menu ≡ t_offering tokens) menu
 IsOffered file read Brackets menu = ByTokens read.tokens (IsBracketOffering file) menu
-IsOffered file read Unused menu = ByTokens read.tokens (λ tokens. ByTree read.tree (λ tree. ByNames read.names (λ names. IsOfFew (length file) (λ m. m ≡ u_offering file tokens tree.nodes tree.items names)))) menu
+IsOffered file read Unused menu = ByTokens read.tokens (λ tokens. ByTree read.tree (λ tree. ByNames read.names (λ names. ByStructures read.structures (λ structures. IsOfFew (length file) (λ m. m ≡ u_offering file tokens tree.nodes tree.items names structures))))) menu
 IsOffered file read Statements menu = ByTokens read.tokens (λ tokens. ByTree read.tree (λ tree. IsOfFew (length file) (λ m. m ≡ s_offering file tokens tree.nodes))) menu
 IsOffered file read Expressions menu = ByTokens read.tokens (λ tokens. ByTree read.tree (λ tree. IsOfFew (length file) (λ m. m ≡ c_offering tokens tree.nodes))) menu
 IsOffered file read Inlined menu = ByTokens read.tokens (λ tokens. ByTree read.tree (λ tree. ByNames read.names (λ names. IsOfFew (length file) (λ m. m ≡ i_offering tokens tree.nodes names)))) menu

@@ -1,7 +1,7 @@
 // What is made once for a file.
 ghost use Rattle.std.specs.Prelude.{◌≡◌, ◌≤◌, true, IfOk, MatchOption, length};
 ghost use Rattle.cr_analysis.specs.Analysis.{IsAnalysis, read_of};
-ghost use Rattle.cr_passes.specs.Offers.{AreMenus, ByNames, ByTokens, ByTree, IfOn, IsFew, IsKnown, IsOfFew, IsOffered, is_on, menu_at, nothing};
+ghost use Rattle.cr_passes.specs.Offers.{AreMenus, ByNames, ByStructures, ByTokens, ByTree, IfOn, IsFew, IsKnown, IsOfFew, IsOffered, is_on, menu_at, nothing};
 ghost use Rattle.cr_passes.specs.Passes.{pass_by};
 ghost use Rattle.pass_exprs.specs.Expressions.{c_offering};
 ghost use Rattle.pass_inline.specs.Inlined.{i_offering};
@@ -154,7 +154,7 @@ fn runs(alloc: Global, analysis: &Analysis) -> Result<Menu, NoMemory>
     match analysis {
         Analysis::NoTokens => Ok(nothing(alloc)),
         Analysis::NoUnit(tokens) => runs_of_tokens(alloc, tokens.as_slice()),
-        Analysis::OfUnit(unit, _) => runs_of_tokens(alloc, unit.tokens.list.as_slice()),
+        Analysis::OfUnit(unit, _, _) => runs_of_tokens(alloc, unit.tokens.list.as_slice()),
     }
 }
 
@@ -164,15 +164,18 @@ fn pairs(alloc: Global, file: &[u8], analysis: &Analysis) -> Result<Menu, NoMemo
     match analysis {
         Analysis::NoTokens => Ok(nothing(alloc)),
         Analysis::NoUnit(tokens) => brackets(alloc, file, tokens.as_slice()),
-        Analysis::OfUnit(unit, _) => brackets(alloc, file, unit.tokens.list.as_slice()),
+        Analysis::OfUnit(unit, _, _) => brackets(alloc, file, unit.tokens.list.as_slice()),
     }
 }
 
 fn unused_offered(alloc: Global, file: &[u8], analysis: &Analysis) -> Result<Menu, NoMemory>
-    ensures { IfOk result (ByTokens (read_of analysis.now).tokens (λ tokens. ByTree (read_of analysis.now).tree (λ tree. ByNames (read_of analysis.now).names (λ names. IsOfFew (length file.now) (λ m. m ≡ u_offering file.now tokens tree.nodes tree.items names))))) }
+    ensures { IfOk result (ByTokens (read_of analysis.now).tokens (λ tokens. ByTree (read_of analysis.now).tree (λ tree. ByNames (read_of analysis.now).names (λ names. ByStructures (read_of analysis.now).structures (λ structures. IsOfFew (length file.now) (λ m. m ≡ u_offering file.now tokens tree.nodes tree.items names structures)))))) }
 {
     match analysis {
-        Analysis::OfUnit(unit, names) => if_few(unused(alloc, file, unit, names)?, file.len()),
+        Analysis::OfUnit(unit, names, structures) => {
+            let structures = structures.as_slice();
+            if_few(unused(alloc, file, unit, names, structures)?, file.len())
+        }
         _ => Ok(nothing(alloc)),
     }
 }
@@ -181,7 +184,7 @@ fn inlined_offered(alloc: Global, file: &[u8], analysis: &Analysis) -> Result<Me
     ensures { IfOk result (ByTokens (read_of analysis.now).tokens (λ tokens. ByTree (read_of analysis.now).tree (λ tree. ByNames (read_of analysis.now).names (λ names. IsOfFew (length file.now) (λ m. m ≡ i_offering tokens tree.nodes names))))) }
 {
     match analysis {
-        Analysis::OfUnit(unit, names) => if_few(inlined(alloc, unit, names)?, file.len()),
+        Analysis::OfUnit(unit, names, _) => if_few(inlined(alloc, unit, names)?, file.len()),
         _ => Ok(nothing(alloc)),
     }
 }
@@ -190,7 +193,10 @@ fn parameters_offered(alloc: Global, file: &[u8], analysis: &Analysis) -> Result
     ensures { IfOk result (ByTokens (read_of analysis.now).tokens (λ tokens. ByTree (read_of analysis.now).tree (λ tree. ByNames (read_of analysis.now).names (λ names. IsOfFew (length file.now) (λ m. m ≡ p_offering file.now tokens tree.nodes names))))) }
 {
     match analysis {
-        Analysis::OfUnit(unit, names) => if_few(parameters(alloc, file, unit, names)?, file.len()),
+        Analysis::OfUnit(unit, names, _) => if_few(
+            parameters(alloc, file, unit, names)?,
+            file.len(),
+        ),
         _ => Ok(nothing(alloc)),
     }
 }
@@ -199,7 +205,7 @@ fn renamed_offered(alloc: Global, file: &[u8], analysis: &Analysis) -> Result<Me
     ensures { IfOk result (ByTokens (read_of analysis.now).tokens (λ tokens. ByTree (read_of analysis.now).tree (λ tree. ByNames (read_of analysis.now).names (λ names. IsOfFew (length file.now) (λ m. m ≡ r_offering file.now tokens tree.nodes tree.items names))))) }
 {
     match analysis {
-        Analysis::OfUnit(unit, names) => if_few(renamed(alloc, file, unit, names)?, file.len()),
+        Analysis::OfUnit(unit, names, _) => if_few(renamed(alloc, file, unit, names)?, file.len()),
         _ => Ok(nothing(alloc)),
     }
 }
@@ -208,7 +214,7 @@ fn statements_offered(alloc: Global, file: &[u8], analysis: &Analysis) -> Result
     ensures { IfOk result (ByTokens (read_of analysis.now).tokens (λ tokens. ByTree (read_of analysis.now).tree (λ tree. IsOfFew (length file.now) (λ m. m ≡ s_offering file.now tokens tree.nodes)))) }
 {
     match analysis {
-        Analysis::OfUnit(unit, _) => {
+        Analysis::OfUnit(unit, _, _) => {
             let tokens = unit.tokens.list.as_slice();
             if_few(
                 statements(alloc, file, tokens, unit.nodes.as_slice())?,
@@ -223,7 +229,7 @@ fn expressions_offered(alloc: Global, file: &[u8], analysis: &Analysis) -> Resul
     ensures { IfOk result (ByTokens (read_of analysis.now).tokens (λ tokens. ByTree (read_of analysis.now).tree (λ tree. IsOfFew (length file.now) (λ m. m ≡ c_offering tokens tree.nodes)))) }
 {
     match analysis {
-        Analysis::OfUnit(unit, _) => {
+        Analysis::OfUnit(unit, _, _) => {
             let tokens = unit.tokens.list.as_slice();
             if_few(
                 expressions(alloc, tokens, unit.nodes.as_slice())?,
@@ -239,7 +245,7 @@ fn printed_offered(alloc: Global, file: &[u8], analysis: &Analysis) -> Result<Me
     ensures { IfOk result (ByTokens (read_of analysis.now).tokens (λ tokens. ByTree (read_of analysis.now).tree (λ tree. IsOfFew (length file.now) (IsPrintedOffering file.now tokens)))) }
 {
     match analysis {
-        Analysis::OfUnit(unit, _) => if_few(printed(alloc, file, unit)?, file.len()),
+        Analysis::OfUnit(unit, _, _) => if_few(printed(alloc, file, unit)?, file.len()),
         _ => Ok(nothing(alloc)),
     }
 }

@@ -1,7 +1,6 @@
 -- Pass u: what has no use.
 use Rattle.std.specs.Prelude.{ℕ, Bool, true, false, not, ◌&&◌, nat_le, List, [], ◌∷◌, Option, None, Some, length, drop, slice_index_or, if◌then◌else◌}
 use Rattle.std.specs.List.{flat_map, list_any}
-use Rattle.std.specs.Str.{bytes_eq}
 use Rattle.cr_tokens.specs.declared.token.Token.{Token}
 use Rattle.cr_syntax.specs.declared.node.Kind.{Kind}
 use Rattle.cr_syntax.specs.declared.node.Kind.TheVariants as kind
@@ -16,7 +15,9 @@ use Rattle.cr_levels.specs.declared.counted.Counted.{Counted}
 use Rattle.cr_levels.specs.Gathered.{gathered}
 use Rattle.cr_levels.specs.Level.{level_of}
 use Rattle.cr_levels.specs.Nodes.{node_at}
-use Rattle.cr_levels.specs.Places.{gone, spelling_at, with_comma}
+use Rattle.cr_levels.specs.Places.{gone, with_comma}
+use Rattle.pass_names.specs.declared.members.MemberUse.{MemberUse}
+use Rattle.pass_names.specs.Members.{is_unused_member, member_uses}
 use Rattle.pass_names.specs.Reach.{are_own, has_no_use_outside, is_within, uses_of}
 use Rattle.pass_names.specs.Reserved.{reserved_tokens}
 
@@ -85,26 +86,9 @@ declarations_give tokens nodes names mains k = declarations_by (node_at nodes k)
 
 -- Level 3: enumerators and members.
 
--- the tokens behind `.` and `->`
-abbrev pub member_use_by : Kind → ℕ → List ℕ
-member_use_by kind.Member last = last ∷ []
-member_use_by kind.PointerMember last = last ∷ []
-member_use_by _ last = []
-
-abbrev pub member_uses : List Node → List ℕ
-member_uses nodes = gathered (λ k. member_use_by (node_at nodes k).kind (node_at nodes k).last) (length nodes)
-
 abbrev pub is_empty : List ℕ → Bool
 is_empty [] = true
 is_empty (token ∷ tokens) = false
-
--- one of these tokens names a member that is spelled so. Which structure's it is takes types.
-abbrev pub is_used_member : List ℕ → List Token → List ℕ → ℕ → Bool
-is_used_member file tokens uses token = list_any (λ used. bytes_eq (spelling_at file tokens used) (spelling_at file tokens token)) uses
-
-abbrev pub is_unused_member : List ℕ → List Token → List ℕ → Option ℕ → Bool
-is_unused_member file tokens uses None = false
-is_unused_member file tokens uses (Some token) = not (is_used_member file tokens uses token)
 
 -- a member goes with its comma, and where it is alone its whole declaration goes
 abbrev pub member_change : List Token → Node → ℕ → ℕ → Node → Change
@@ -113,34 +97,40 @@ member_change tokens whole at count n = if nat_le count 1 then gone tokens whole
 abbrev pub member_goes : List Token → Node → ℕ → ℕ → Node → Counted
 member_goes tokens whole at count n = record { first = n.first; last = n.last; edit = member_change tokens whole at count n ∷ [] }
 
-abbrev pub member_gives : List ℕ → List Token → List Node → List ℕ → Node → List ℕ → ℕ → List Counted
-member_gives file tokens nodes uses whole row at = if is_unused_member file tokens uses (declarator_of nodes (part_at row at)).name
+abbrev pub member_gives : List ℕ → List Token → List Node → List MemberUse → ℕ → Node → List ℕ → ℕ → List Counted
+member_gives file tokens nodes uses content whole row at = if is_unused_member file tokens uses content (declarator_of nodes (part_at row at)).name
     then member_goes tokens whole at (length row) (node_at nodes (part_at row at)) ∷ [] else []
+
+-- the members of one declaration of a structure
+abbrev pub members_give : List ℕ → List Token → List Node → List MemberUse → ℕ → Node → List Counted
+members_give file tokens nodes uses content whole =
+    gathered (member_gives file tokens nodes uses content whole (drop 1 whole.parts)) (length (drop 1 whole.parts))
 
 abbrev pub enumerator_gives : List Token → List Node → Names → List ℕ → ℕ → List Counted
 enumerator_gives tokens nodes names row at = if is_empty (uses_of names (node_at nodes (part_at row at)).first)
     then part_goes tokens at (length row) (node_at nodes (part_at row at)) ∷ [] else []
 
-abbrev pub parts_by : Kind → List ℕ → List Token → List Node → Names → List ℕ → Node → List Counted
-parts_by kind.EnumContent file tokens nodes names uses n = gathered (enumerator_gives tokens nodes names n.parts) (length n.parts)
-parts_by kind.MemberDeclaration file tokens nodes names uses n = gathered (member_gives file tokens nodes uses n (drop 1 n.parts)) (length (drop 1 n.parts))
-parts_by _ file tokens nodes names uses n = []
+abbrev pub parts_by : Kind → List ℕ → List Token → List Node → Names → List MemberUse → ℕ → List ℕ → List Counted
+parts_by kind.EnumContent file tokens nodes names uses k parts = gathered (enumerator_gives tokens nodes names parts) (length parts)
+parts_by kind.StructContent file tokens nodes names uses k parts = flat_map (λ p. members_give file tokens nodes uses k (node_at nodes p)) parts
+parts_by _ file tokens nodes names uses k parts = []
 
-abbrev pub parts_give : List ℕ → List Token → List Node → Names → List ℕ → ℕ → List Counted
-parts_give file tokens nodes names uses k = parts_by (node_at nodes k).kind file tokens nodes names uses (node_at nodes k)
+abbrev pub parts_give : List ℕ → List Token → List Node → Names → List MemberUse → ℕ → List Counted
+parts_give file tokens nodes names uses k = parts_by (node_at nodes k).kind file tokens nodes names uses k (node_at nodes k).parts
 
 -- What pass u offers, where these tokens declare main.
-abbrev pub u_levels : List ℕ → List Token → List Node → List ℕ → Names → List ℕ → Offering
-u_levels file tokens nodes items names mains = record {
+abbrev pub u_levels : List ℕ → List Token → List Node → List ℕ → Names → List (Option ℕ) → List ℕ → Offering
+u_levels file tokens nodes items names structures mains = record {
   levels = gathered (items_give tokens nodes names mains items) (length items)
       ∷ (level_of (declarators_give tokens nodes names) (length nodes)
       ∷ (level_of (declarations_give tokens nodes names mains) (length nodes)
-      ∷ (level_of (parts_give file tokens nodes names (member_uses nodes)) (length nodes)
+      ∷ (level_of (parts_give file tokens nodes names (member_uses nodes structures)) (length nodes)
       ∷ [])));
   kept = nothing_kept;
 }
 
--- What pass u offers: at level 0 external declarations without use go, at level 1 declarators, at level 2 declarations in blocks, and at
--- level 3 members and enumerators.
-abbrev pub u_offering : List ℕ → List Token → List Node → List ℕ → Names → Offering
-u_offering file tokens nodes items names = u_levels file tokens nodes items names (reserved_tokens file tokens false (events_of tokens nodes items))
+-- What pass u offers, where the nodes name members of these structures: at level 0 external declarations without use go, at level 1
+-- declarators, at level 2 declarations in blocks, and at level 3 members and enumerators.
+abbrev pub u_offering : List ℕ → List Token → List Node → List ℕ → Names → List (Option ℕ) → Offering
+u_offering file tokens nodes items names structures =
+    u_levels file tokens nodes items names structures (reserved_tokens file tokens false (events_of tokens nodes items))

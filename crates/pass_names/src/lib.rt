@@ -6,6 +6,7 @@
 #![tactic(auto)]
 
 mod laws;
+mod members;
 mod reach;
 mod removal;
 mod rename;

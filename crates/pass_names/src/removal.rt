@@ -6,15 +6,17 @@ ghost use Rattle.cr_levels.specs.Level.{level_of};
 ghost use Rattle.cr_levels.specs.Nodes.{node_at};
 ghost use Rattle.cr_levels.specs.Places.{gone as gone_by, with_comma as with_comma_by};
 ghost use Rattle.pass_names.specs.Reach.{is_within as is_within_by};
-ghost use Rattle.pass_names.specs.Unused.{declaration_by, declarations_give, declarator_gives, declarator_in, declarators_give, enumerator_gives, is_declared_unused, is_empty, is_unused, is_unused_member, is_used_member, items_give, member_change, member_gives, member_use_by, member_uses, part_at, parts_give, row_gives, u_levels, u_offering};
+ghost use Rattle.pass_names.specs.Members.{member_uses};
+ghost use Rattle.pass_names.specs.Unused.{declaration_by, declarations_give, declarator_gives, declarator_in, declarators_give, enumerator_gives, is_declared_unused, is_empty, is_unused, items_give, member_change, member_gives, members_give, part_at, parts_give, row_gives, u_levels, u_offering};
 
+use crate::members::{MemberUse, is_unused_member, member_uses};
 use crate::reach::{are_own, has_no_use_outside, is_within, uses_of};
 use crate::reserved::reserved_of;
 use cr_edit::{Change, Edits, Kept, Menu};
 use cr_events::declared_by;
 use cr_levels::{
     Counted, Level, Turns, behind_first, gone, in_turn, kind_at, list, parts_at, span_at,
-    spelling_at, with_comma,
+    with_comma,
 };
 use cr_rows::Row;
 use cr_scopes::Names;
@@ -264,7 +266,7 @@ struct PartsGo<'a> {
     tokens: &'a [Token],
     nodes: &'a [Node],
     names: &'a Names,
-    uses: &'a [u32],
+    uses: &'a [MemberUse],
 }
 
 impl Level for PartsGo<'_> {
@@ -276,16 +278,16 @@ impl Level for PartsGo<'_> {
                 let row = parts_at(self.nodes, node);
                 put_enumerators(alloc, self.tokens, self.nodes, self.names, row, all)
             }
-            Kind::MemberDeclaration => {
-                let row = behind_first(parts_at(self.nodes, node));
-                put_members(
+            Kind::StructContent => {
+                let declarations = parts_at(self.nodes, node);
+                put_all_members(
                     alloc,
                     self.file,
                     self.tokens,
                     self.nodes,
                     self.uses,
                     node,
-                    row,
+                    declarations,
                     all,
                 )
             }
@@ -339,20 +341,44 @@ fn is_empty(tokens: &[u32]) -> bool
     }
 }
 
+// The members of a structure, by its declarations of members.
+fn put_all_members(
+    alloc: Global,
+    file: &[u8],
+    tokens: &[Token],
+    nodes: &[Node],
+    uses: &[MemberUse],
+    content: usize,
+    declarations: &[u32],
+    all: &mut Vec<Counted>,
+) -> Result<(), AllocError>
+    ensures { OnOk result (all.new.items ≡ all.old.items ++ flat_map (λ p. members_give file.now tokens.now nodes.now uses.now content (node_at nodes.now p)) declarations.now) }
+{
+    for declaration in declarations {
+        let whole = *declaration as usize;
+        let row = behind_first(parts_at(nodes, whole));
+        put_members(alloc, file, tokens, nodes, uses, content, whole, row, all)?;
+    }
+    Ok(())
+}
+
 fn put_members(
     alloc: Global,
     file: &[u8],
     tokens: &[Token],
     nodes: &[Node],
-    uses: &[u32],
+    uses: &[MemberUse],
+    content: usize,
     whole: usize,
     row: &[u32],
     all: &mut Vec<Counted>,
 ) -> Result<(), AllocError>
-    ensures { OnOk result (all.new.items ≡ all.old.items ++ gathered (member_gives file.now tokens.now nodes.now uses.now (node_at nodes.now whole) row.now) (length row.now)) }
+    ensures { OnOk result (all.new.items ≡ all.old.items ++ gathered (member_gives file.now tokens.now nodes.now uses.now content (node_at nodes.now whole) row.now) (length row.now)) }
 {
     for at in 0..row.len() {
-        put_member(alloc, file, tokens, nodes, uses, whole, row, at, all)?;
+        put_member(
+            alloc, file, tokens, nodes, uses, content, whole, row, at, all,
+        )?;
     }
     Ok(())
 }
@@ -362,16 +388,17 @@ fn put_member(
     file: &[u8],
     tokens: &[Token],
     nodes: &[Node],
-    uses: &[u32],
+    uses: &[MemberUse],
+    content: usize,
     whole: usize,
     row: &[u32],
     at: usize,
     all: &mut Vec<Counted>,
 ) -> Result<(), AllocError>
-    ensures { OnOk result (all.new.items ≡ all.old.items ++ member_gives file.now tokens.now nodes.now uses.now (node_at nodes.now whole) row.now at) }
+    ensures { OnOk result (all.new.items ≡ all.old.items ++ member_gives file.now tokens.now nodes.now uses.now content (node_at nodes.now whole) row.now at) }
 {
     let part = part_at(row, at);
-    if is_unused_member(file, tokens, uses, declared_by(nodes, part).name) {
+    if is_unused_member(file, tokens, uses, content, declared_by(nodes, part).name) {
         let change = member_change(tokens, nodes, whole, at, row.len(), part as usize);
         all.push(counted(alloc, nodes, part as usize, change)?)?;
     }
@@ -395,54 +422,17 @@ fn member_change(
     }
 }
 
-fn is_unused_member(file: &[u8], tokens: &[Token], uses: &[u32], member: Option<u32>) -> bool
-    ensures { result ≡ is_unused_member file.now tokens.now uses.now member }
-{
-    match member {
-        Some(token) => !is_used_member(file, tokens, uses, token as usize),
-        None => false,
-    }
-}
-
-fn is_used_member(file: &[u8], tokens: &[Token], uses: &[u32], token: usize) -> bool
-    ensures { result ≡ is_used_member file.now tokens.now uses.now token }
-{
-    let name = spelling_at(file, tokens, token);
-    uses.iter()
-        .any(|used| spelling_at(file, tokens, *used as usize) == name)
-}
-
-fn member_uses(alloc: Global, nodes: &[Node]) -> Result<Vec<u32>, AllocError>
-    ensures { IfOk result (λ uses. uses.items ≡ member_uses nodes.now) }
-{
-    let mut uses = Vec::new(alloc);
-    for node in 0..nodes.len() {
-        let (_, last) = span_at(nodes, node);
-        put_member_use(kind_at(nodes, node), last, &mut uses)?;
-    }
-    Ok(uses)
-}
-
-fn put_member_use(kind: Kind, last: u32, uses: &mut Vec<u32>) -> Result<(), AllocError>
-    ensures { OnOk result (uses.new.items ≡ uses.old.items ++ member_use_by kind last) }
-{
-    match kind {
-        Kind::Member | Kind::PointerMember => uses.push(last)?,
-        _ => {}
-    }
-    Ok(())
-}
-
 fn parts_go(
     alloc: Global,
     file: &[u8],
     tokens: &[Token],
     nodes: &[Node],
     names: &Names,
+    structures: &[Option<u32>],
 ) -> Result<Edits, AllocError>
-    ensures { IfOk result (λ edits. edits ≡ level_of (parts_give file.now tokens.now nodes.now names.now (member_uses nodes.now)) (length nodes.now)) }
+    ensures { IfOk result (λ edits. edits ≡ level_of (parts_give file.now tokens.now nodes.now names.now (member_uses nodes.now structures.now)) (length nodes.now)) }
 {
-    let uses = member_uses(alloc, nodes)?;
+    let uses = member_uses(alloc, nodes, structures)?;
     list(
         alloc,
         nodes.len(),
@@ -463,9 +453,10 @@ fn levels(
     nodes: &[Node],
     items: &[u32],
     names: &Names,
+    structures: &[Option<u32>],
     mains: &[u32],
 ) -> Result<Menu, AllocError>
-    ensures { IfOk result (λ menu. menu ≡ u_levels file.now tokens.now nodes.now items.now names.now mains.now) }
+    ensures { IfOk result (λ menu. menu ≡ u_levels file.now tokens.now nodes.now items.now names.now structures.now mains.now) }
 {
     let count = nodes.len();
     let mut levels = Vec::new(alloc);
@@ -490,21 +481,27 @@ fn levels(
         mains,
     };
     levels.push(list(alloc, count, &declarations_go)?)?;
-    levels.push(parts_go(alloc, file, tokens, nodes, names)?)?;
+    levels.push(parts_go(alloc, file, tokens, nodes, names, structures)?)?;
     Ok(Menu::new(levels, Kept::nothing(alloc)))
 }
 
-/// What pass u offers for a file's unit with these names: at level 0 each external declaration goes that declares nothing with a use outside
-/// it, and not main; at level 1 each declarator of several, whose name has no use outside it, with its initialiser and its comma; at level 2
-/// each declaration in a block as at level 0; at level 3 each enumerator and each member without use with its comma, and a member alone with
-/// its whole declaration. A member is used where any member of its name is. The error is want of memory.
-pub fn unused(alloc: Global, file: &[u8], unit: &Unit, names: &Names) -> Result<Menu, AllocError>
-    ensures { IfOk result (λ menu. menu ≡ u_offering file.now unit.now.tokens.list.items unit.now.nodes unit.now.items names.now) }
+/// What pass u offers for a file's unit with these names, whose nodes name members of these structures: at level 0 each external declaration
+/// goes that declares nothing with a use outside it, and not main; at level 1 each declarator of several, whose name has no use outside it,
+/// with its initialiser and its comma; at level 2 each declaration in a block as at level 0; at level 3 each enumerator and each member
+/// without use with its comma, and a member alone with its whole declaration. The error is want of memory.
+pub fn unused(
+    alloc: Global,
+    file: &[u8],
+    unit: &Unit,
+    names: &Names,
+    structures: &[Option<u32>],
+) -> Result<Menu, AllocError>
+    ensures { IfOk result (λ menu. menu ≡ u_offering file.now unit.now.tokens.list.items unit.now.nodes unit.now.items names.now structures.now) }
 {
     let mains = reserved_of(alloc, file, unit, false)?;
     let mains = mains.as_slice();
     let tokens = unit.tokens.list.as_slice();
     let nodes = unit.nodes.as_slice();
     let items = unit.items.as_slice();
-    levels(alloc, file, tokens, nodes, items, names, mains)
+    levels(alloc, file, tokens, nodes, items, names, structures, mains)
 }

@@ -1,9 +1,9 @@
-use Rattle.std.proofs.Common.{◌≡◌, Some, None, subst, sym}
+use Rattle.std.proofs.Common.{◌≡◌, Some, subst, sym}
 use Rattle.cr_tokens.specs.Tokens.{Tokenizes}
 use Rattle.cr_syntax.specs.Kept.{row_in}
 use Rattle.cr_syntax.specs.Units.{IsTreeOf}
 use Rattle.cr_syntax.specs.Words.{lexemes_of}
-use Rattle.cr_analysis.specs.Analysis.{IsRead, no_unit}
+use Rattle.cr_analysis.specs.Analysis.{IsRead, no_unit, tokens_alone}
 use Rattle.cr_analysis.proofs.Same.{unparsed}
 use Rattle.cr_analysis.proofs.analysis.parsed.Goals as goal
 
@@ -21,5 +21,5 @@ named-requires-clause-parsed c =
 
 pub returns-in_ok-refusal-in-Err : goal.returns-in_ok-refusal-in-Err
 returns-in_ok-refusal-in-Err c =
-    subst (λ tokens. IsRead c.args.file.now (record { tokens = Some tokens; tree = None; names = None })) (sym c.from_vec.ensures)
-    (no_unit c.requires (λ tree names is are. unparsed c.one_first_refusal.ensures.tree _ c.in-Err.fault c.in_ok-refusal-in-Err.ensures c.in-Err.ensures.refused _ is.is_tree))
+    subst (λ tokens. IsRead c.args.file.now (tokens_alone (Some tokens))) (sym c.from_vec.ensures)
+    (no_unit c.requires (λ unit names judged is. unparsed c.one_first_refusal.ensures.tree _ c.in-Err.fault c.in_ok-refusal-in-Err.ensures c.in-Err.ensures.refused _ is.parsed.is_tree))

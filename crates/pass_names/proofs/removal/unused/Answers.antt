@@ -7,10 +7,11 @@ returns c =
     let file = c.args.file.now in
     let unit = c.args.unit.now in
     let names = c.args.names.now in
+    let structures = c.args.structures.now in
     let nodes = c.as_slice-nodes.result.now in
     let items = c.as_slice-items.result.now in
     let mains = c.as_slice-mains.result.now in
-    let of_tokens = subst (λ ts. IfOk c.levels.result (λ menu. menu ≡ u_levels file ts nodes items names mains)) c.as_slice-tokens.ensures.value c.levels.ensures in
-    let of_nodes = subst (λ ns. IfOk c.levels.result (λ menu. menu ≡ u_levels file unit.tokens.list.items ns items names mains)) c.as_slice-nodes.ensures of_tokens in
-    let of_items = subst (λ is. IfOk c.levels.result (λ menu. menu ≡ u_levels file unit.tokens.list.items unit.nodes is names mains)) c.as_slice-items.ensures of_nodes in
-    subst (λ ms. IfOk c.levels.result (λ menu. menu ≡ u_levels file unit.tokens.list.items unit.nodes unit.items names ms)) (c.as_slice-mains.ensures.value ∙ c.in_ok-mains.ensures) of_items
+    let of_tokens = subst (λ ts. IfOk c.levels.result (λ menu. menu ≡ u_levels file ts nodes items names structures mains)) c.as_slice-tokens.ensures.value c.levels.ensures in
+    let of_nodes = subst (λ ns. IfOk c.levels.result (λ menu. menu ≡ u_levels file unit.tokens.list.items ns items names structures mains)) c.as_slice-nodes.ensures of_tokens in
+    let of_items = subst (λ is. IfOk c.levels.result (λ menu. menu ≡ u_levels file unit.tokens.list.items unit.nodes is names structures mains)) c.as_slice-items.ensures of_nodes in
+    subst (λ ms. IfOk c.levels.result (λ menu. menu ≡ u_levels file unit.tokens.list.items unit.nodes unit.items names structures ms)) (c.as_slice-mains.ensures.value ∙ c.in_ok-mains.ensures) of_items

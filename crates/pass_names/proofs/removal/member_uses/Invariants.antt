@@ -1,8 +1,0 @@
-use Rattle.std.proofs.Common.{◌≡◌}
-use Rattle.cr_levels.specs.Gathered.{gathered}
-use Rattle.cr_levels.specs.Nodes.{node_at}
-use Rattle.pass_names.specs.Unused.{member_use_by}
-use Rattle.pass_names.proofs.removal.member_uses.Given as goal
-
-abbrev pub invariant-loop-node : goal.invariant-loop-node
-invariant-loop-node l = l.uses.items ≡ gathered (λ k. member_use_by (node_at l.nodes k).kind (node_at l.nodes k).last) l.node
