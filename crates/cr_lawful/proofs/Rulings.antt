@@ -1,5 +1,5 @@
 -- What is ruled of a file, from what its steps answer, and that no reason stands against a lawful file.
-use Rattle.std.proofs.Common.{◌≡◌, ◌⊎◌, inl, inr, ℕ, List, Option, None, Some, refl, sym, subst}
+use Rattle.std.proofs.Common.{◌≡◌, ◌⊎◌, inl, inr, ℕ, Bool, true, List, None, Some, refl, sym, subst, ap, ◌∙◌}
 use Rattle.cr_tokens.specs.declared.token.Token.{Token}
 use Rattle.cr_tokens.specs.declared.token.TokenFault.{TokenFault}
 use Rattle.cr_tokens.specs.declared.token.TokenFault.TheVariants as fault
@@ -7,61 +7,113 @@ use Rattle.cr_tokens.specs.Faults.{FirstTokenFault}
 use Rattle.cr_tokens.specs.Tokens.{Tokenizes}
 use Rattle.cr_tokens.proofs.Faults.{list_no_fault}
 use Rattle.cr_tokens.proofs.Wholes.{one_list}
-use Rattle.cr_syntax.specs.Kept.{row_in}
-use Rattle.cr_syntax.specs.Units.{IsTreeOf}
-use Rattle.cr_syntax.specs.declared.unit.Unit as unit
+use Rattle.cr_syntax.specs.declared.unit.Unit as source
 use Rattle.cr_syntax.specs.Words.{lexemes_of}
 use Rattle.cr_machine.proofs.UnitRefusals.{tree_is_not_refused}
+use Rattle.cr_events.specs.Events.{events_of}
 use Rattle.cr_exprs.specs.declared.fault.ParseFault.{ParseFault}
 use Rattle.cr_exprs.specs.declared.fault.ParseFault.TheVariants.{NoMemory, Unexpected, Ended, TooDeep, OutsideSubset}
 use Rattle.cr_decls.specs.Unit.{IsRefused}
-use Rattle.cr_analysis.specs.Analysis.{IsParsed, Tree}
-use Rattle.cr_analysis.proofs.Same.{same_tree}
-use Rattle.cr_scopes.specs.Units.{IsUnitFault}
+use Rattle.cr_analysis.specs.Analysis.{AreItsNames, IsParsed, Tree, tree_of}
+use Rattle.cr_analysis.proofs.Same.{same_tree, one_names}
+use Rattle.cr_scopes.specs.Resolved.{fault_at}
+use Rattle.cr_scopes.specs.Spelled.{name_of}
+use Rattle.cr_scopes.specs.Units.{AreUnitNames, IsUnitFault}
+use Rattle.cr_scopes.specs.declared.names.Names.{Names}
 use Rattle.cr_scopes.specs.declared.fault.NameFault.{NameFault}
 use Rattle.cr_scopes.specs.declared.fault.NameFault.TheVariants as name_fault
+use Rattle.cr_check.specs.Checked.{IsFirstFault, IsSoundOf}
+use Rattle.cr_check.specs.Laws.{AreSameLists}
+use Rattle.cr_check.proofs.Verdicts.{no_fault}
+use Rattle.cr_check.specs.declared.fault.TypeFault.{TypeFault}
+use Rattle.cr_check.specs.declared.fault.TypeFault.TheVariants as type_fault
+use Rattle.cr_typed.specs.declared.typed.Typed.{Typed}
+use Rattle.cr_typing.specs.Typed.{IsTypedOf}
+use Rattle.cr_typing.proofs.OneTypedUnit.{one_typed_unit}
+use Rattle.cr_meaning.specs.declared.run.Limits.{Limits}
+use Rattle.cr_meaning.specs.declared.run.Run.{Run}
+use Rattle.cr_meaning.specs.declared.run.Run.TheVariants as run
+use Rattle.cr_meaning.proofs.Runs.{one_meaning}
+use Rattle.cr_operations.specs.Laws.{Comes}
+use Rattle.cr_operations.specs.Operations.{program_of}
+use Rattle.cr_exec.specs.Runs.{has_come}
 use Rattle.cr_cursor.specs.TokenLaw.{RulesOn, reason_of}
 use Rattle.cr_cursor.specs.declared.law.Reason.{Reason}
 use Rattle.cr_cursor.specs.declared.law.Ruling.{Ruling}
 use Rattle.cr_cursor.specs.declared.law.Ruling.TheVariants as ruling
-use Rattle.cr_lawful.specs.Lawful.{AreKnown, IsLawful, IsReason, Rules, name_reason, parse_fault_reason, ruling_by, tree_of}
-use Rattle.cr_lawful.specs.Lawful.IsReason.{of_tokens, of_unit, of_names}
+use Rattle.cr_lawful.specs.Lawful.{Ends, IsLawful, IsReason, IsTypedUnit, Refuses, Rules, name_reason, parse_fault_reason, ruling_by, run_reason, run_ruling, type_reason}
+use Rattle.cr_lawful.specs.Lawful.IsReason.{of_tokens, of_unit, of_names, of_types, of_run}
+
+-- ---- what is ruled before the run
 
 -- the tokens have a first fault
-faulty : (file : List ℕ) (f : TokenFault) (r : Ruling) → FirstTokenFault file f → r ≡ ruling.Unlawful (reason_of file f) → Rules file r
-faulty file f r found is = subst (Rules file) (sym is) (of_tokens (record { fault = f; first = found; is = refl }))
+faulty : (file : List ℕ) (f : TokenFault) (r : Ruling) → FirstTokenFault file f → r ≡ ruling.Unlawful (reason_of file f) → Refuses file r
+faulty file f r found is = subst (Refuses file) (sym is) (λ limits. of_tokens (record { fault = f; first = found; is = refl }))
 
 no_cause : (file : List ℕ) (f : TokenFault) → (f ≡ fault.NoMemory → ⊥) → (f ≡ fault.NoMemory) ⊎ FirstTokenFault file f → FirstTokenFault file f
 no_cause file f some (inl none) = absurd (some none)
 no_cause file f some (inr found) = found
 
-pub token_rules : (file : List ℕ) (f : TokenFault) (r : Ruling) → (f ≡ fault.NoMemory) ⊎ FirstTokenFault file f → RulesOn file f r → Rules file r
-token_rules file fault.NoMemory r cause rules = subst (Rules file) (sym rules) tt
-token_rules file fault.TooLong r cause rules = faulty file fault.TooLong r (no_cause file fault.TooLong (λ e. cc) cause) rules
-token_rules file (fault.BadByte place) r cause rules = faulty file (fault.BadByte place) r (no_cause file (fault.BadByte place) (λ e. cc) cause) rules
-token_rules file (fault.OpenComment place) r cause rules = faulty file (fault.OpenComment place) r (no_cause file (fault.OpenComment place) (λ e. cc) cause) rules
-token_rules file (fault.OpenLiteral place) r cause rules = faulty file (fault.OpenLiteral place) r (no_cause file (fault.OpenLiteral place) (λ e. cc) cause) rules
-token_rules file (fault.TooMany place) r cause rules = faulty file (fault.TooMany place) r (no_cause file (fault.TooMany place) (λ e. cc) cause) rules
+pub token_refuses : (file : List ℕ) (f : TokenFault) (r : Ruling) → (f ≡ fault.NoMemory) ⊎ FirstTokenFault file f → RulesOn file f r → Refuses file r
+token_refuses file fault.NoMemory r cause rules = subst (Refuses file) (sym rules) tt
+token_refuses file fault.TooLong r cause rules = faulty file fault.TooLong r (no_cause file fault.TooLong (λ e. cc) cause) rules
+token_refuses file (fault.BadByte place) r cause rules = faulty file (fault.BadByte place) r (no_cause file (fault.BadByte place) (λ e. cc) cause) rules
+token_refuses file (fault.OpenComment place) r cause rules = faulty file (fault.OpenComment place) r (no_cause file (fault.OpenComment place) (λ e. cc) cause) rules
+token_refuses file (fault.OpenLiteral place) r cause rules = faulty file (fault.OpenLiteral place) r (no_cause file (fault.OpenLiteral place) (λ e. cc) cause) rules
+token_refuses file (fault.TooMany place) r cause rules = faulty file (fault.TooMany place) r (no_cause file (fault.TooMany place) (λ e. cc) cause) rules
 
 -- the tokens are refused
-pub parse_rules : (file : List ℕ) (tokens : List Token) (f : ParseFault) → Tokenizes file tokens → IsRefused (lexemes_of file tokens) f
-    → Rules file (ruling_by (parse_fault_reason file tokens f))
-parse_rules file tokens NoMemory are refused = tt
-parse_rules file tokens (Unexpected k) are refused = of_unit are refused
-parse_rules file tokens Ended are refused = of_unit are refused
-parse_rules file tokens (TooDeep k) are refused = of_unit are refused
-parse_rules file tokens (OutsideSubset k row) are refused = of_unit are refused
+pub parse_refuses : (file : List ℕ) (tokens : List Token) (f : ParseFault) → Tokenizes file tokens → IsRefused (lexemes_of file tokens) f
+    → Refuses file (ruling_by (parse_fault_reason file tokens f))
+parse_refuses file tokens NoMemory are refused = tt
+parse_refuses file tokens (Unexpected k) are refused = λ limits. of_unit are refused
+parse_refuses file tokens Ended are refused = λ limits. of_unit are refused
+parse_refuses file tokens (TooDeep k) are refused = λ limits. of_unit are refused
+parse_refuses file tokens (OutsideSubset k row) are refused = λ limits. of_unit are refused
 
 -- the names are at fault
-pub name_rules : (file : List ℕ) (u : unit.Unit) (f : NameFault) → Tokenizes file u.tokens.list.items → IsParsed file u.tokens.list.items (tree_of u)
-    → IsUnitFault file u f → Rules file (ruling_by (name_reason file u.tokens.list.items f))
-name_rules file u name_fault.NoMemory are parsed first = tt
-name_rules file u (name_fault.Unknown k) are parsed first = of_names are parsed first refl
-name_rules file u (name_fault.Twice k) are parsed first = of_names are parsed first refl
+pub name_refuses : (file : List ℕ) (u : source.Unit) (f : NameFault) → Tokenizes file u.tokens.list.items → IsParsed file u.tokens.list.items (tree_of u)
+    → IsUnitFault file u f → Refuses file (ruling_by (name_reason file u.tokens.list.items f))
+name_refuses file u name_fault.NoMemory are parsed first = tt
+name_refuses file u (name_fault.Unknown k) are parsed first = λ limits. of_names are parsed first refl
+name_refuses file u (name_fault.Twice k) are parsed first = λ limits. of_names are parsed first refl
 
--- no reason stands against a lawful file
+-- the types are at fault
+pub type_refuses : (file : List ℕ) (u : source.Unit) (names : Names) (f : TypeFault) → Tokenizes file u.tokens.list.items
+    → IsParsed file u.tokens.list.items (tree_of u) → AreUnitNames file u names → IsFirstFault file u names f
+    → Refuses file (ruling_by (type_reason file u.tokens.list.items f))
+type_refuses file u names type_fault.NoMemory are parsed known first = tt
+type_refuses file u names (type_fault.Twice k) are parsed known first = λ limits. of_types u names (type_fault.Twice k) are parsed known first refl
+type_refuses file u names (type_fault.Broken row k) are parsed known first = λ limits. of_types u names (type_fault.Broken row k) are parsed known first refl
+
+-- ---- and with the run
+
+-- what is ruled before the run is ruled
+pub refused_rules : (limits : Limits) (file : List ℕ) (raised : Bool) (r : Ruling) → Refuses file r → Rules limits file raised r
+refused_rules limits file raised ruling.Lawful refuses = absurd refuses
+refused_rules limits file raised (ruling.Unlawful why) refuses = refuses limits
+refused_rules limits file raised ruling.Stopped refuses = absurd refuses
+refused_rules limits file raised ruling.NoMemory refuses = tt
+
+-- the ruling on what the run of the file's unit came to
+pub run_rules : (limits : Limits) (file : List ℕ) (typed : Typed) (raised : Bool) (outcome : Run) → IsTypedUnit file typed
+    → (has_come outcome ≡ true → Comes typed limits outcome) → (outcome ≡ run.Stopped → raised ≡ true)
+    → Rules limits file raised (run_ruling file typed outcome)
+run_rules limits file typed raised (run.Ended status output steps) of_file comes stopped =
+    record { typed = typed; of_file = of_file; ends = record { status = status; output = output; steps = steps; comes = comes refl } }
+run_rules limits file typed raised (run.Undefined number node) of_file comes stopped =
+    of_run typed (run.Undefined number node) of_file (comes refl) refl
+run_rules limits file typed raised (run.Left number node) of_file comes stopped = of_run typed (run.Left number node) of_file (comes refl) refl
+run_rules limits file typed raised run.Stopped of_file comes stopped = stopped refl
+run_rules limits file typed raised run.NoMemory of_file comes stopped = tt
+
+-- ---- no reason stands against a lawful file
+
 parsed_by : (file : List ℕ) (tokens others : List Token) (tree : Tree) → Tokenizes file tokens → Tokenizes file others → IsParsed file tokens tree → IsParsed file others tree
 parsed_by file tokens others tree are also parsed = subst (λ ts. IsParsed file ts tree) (one_list file tokens others are also) parsed
+
+abbrev AreKnown : List ℕ → List Token → Tree → Type 0
+AreKnown file tokens tree = (event : ℕ) → fault_at (name_of file tokens) (events_of tokens tree.nodes tree.items) event ≡ None
 
 known_by : (file : List ℕ) (tokens others : List Token) (tree other : Tree) → Tokenizes file tokens → Tokenizes file others → IsParsed file tokens tree → IsParsed file others other
     → AreKnown file tokens tree → AreKnown file others other
@@ -69,11 +121,65 @@ known_by file tokens others tree other are also parsed and_so known =
     let same = same_tree file others tree other (parsed_by file tokens others tree are also parsed) and_so in
     subst (AreKnown file others) same (subst (λ ts. AreKnown file ts tree) (one_list file tokens others are also) known)
 
-pub excludes : (file : List ℕ) (why : Reason) → IsReason file why → IsLawful file → ⊥
-excludes file _ (of_tokens it) lawful = list_no_fault file lawful.tokens it.fault lawful.tokenizes it.first
-excludes file _ (of_unit {tokens = tokens} are first) lawful =
-    tree_is_not_refused (lexemes_of file tokens) (parsed_by file lawful.tokens tokens lawful.tree lawful.tokenizes are lawful.parsed).is_tree first
-excludes file _ (of_names {tokens = tokens} {tree = tree} are parsed first is) lawful =
-    let none = known_by file lawful.tokens tokens lawful.tree tree lawful.tokenizes are lawful.parsed parsed lawful.known first.event in
+-- two units of a file have the same lists
+same_lists : (file : List ℕ) (u v : source.Unit) → Tokenizes file u.tokens.list.items → Tokenizes file v.tokens.list.items
+    → IsParsed file u.tokens.list.items (tree_of u) → IsParsed file v.tokens.list.items (tree_of v) → AreSameLists u v
+same_lists file u v are also parsed and_so =
+    let tokens = one_list file u.tokens.list.items v.tokens.list.items are also in
+    let same = same_tree file v.tokens.list.items (tree_of u) (tree_of v)
+    (parsed_by file u.tokens.list.items v.tokens.list.items (tree_of u) are also parsed) and_so in
+    record { tokens = tokens; nodes = ap (λ tree. tree.nodes) same; items = ap (λ tree. tree.items) same }
+
+-- and the same names
+names_by : (file : List ℕ) (u v : source.Unit) (names other : Names) → Tokenizes file u.tokens.list.items → Tokenizes file v.tokens.list.items
+    → IsParsed file u.tokens.list.items (tree_of u) → IsParsed file v.tokens.list.items (tree_of v)
+    → AreUnitNames file u names → AreUnitNames file v other → names ≡ other
+names_by file u v names other are also parsed and_so known as_well =
+    let tokens = one_list file u.tokens.list.items v.tokens.list.items are also in
+    let trees = same_tree file v.tokens.list.items (tree_of u) (tree_of v) (subst (λ ts. IsParsed file ts (tree_of u)) tokens parsed) and_so in
+    one_names file v.tokens.list.items (tree_of v) names other
+    (subst (λ t. AreItsNames file v.tokens.list.items t names) trees (subst (λ ts. AreItsNames file ts (tree_of u) names) tokens known)) as_well
+
+-- so a file has one typed unit
+one_unit : (file : List ℕ) (one other : Typed) → IsTypedUnit file one → IsTypedUnit file other → one ≡ other
+one_unit file one other it also =
+    let same = same_lists file it.unit also.unit it.tokenizes also.tokenizes it.parsed also.parsed in
+    let names : it.names ≡ also.names =
+    names_by file it.unit also.unit it.names also.names it.tokenizes also.tokenizes it.parsed also.parsed it.known also.known in
+    one_typed_unit file it.unit also.unit also.names one other same
+    (subst (λ names. IsTypedOf file it.unit names one) names it.checked) also.checked
+
+-- and its run, within the same limits, one outcome; an end is no reason
+no_end : (limits : Limits) (file : List ℕ) (typed other : Typed) (outcome : Run) (why : Reason) → IsTypedUnit file typed → IsTypedUnit file other
+    → Ends limits typed → Comes other limits outcome → run_reason file other outcome ≡ Some why → ⊥
+no_end limits file typed other outcome why it also ends comes is =
+    let came : Comes typed limits outcome = subst (λ typed. Comes typed limits outcome) (sym (one_unit file typed other it also)) comes in
+    let ended : run.Ended ends.status ends.output ends.steps ≡ outcome =
+    one_meaning (program_of typed limits) (run.Ended ends.status ends.output ends.steps) outcome ends.comes came in
+    let none : None ≡ Some why = ap (run_reason file other) ended ∙ is in
+    cc
+
+-- the judgement by which the unit was typed is sound
+sound_of : (file : List ℕ) (u : source.Unit) (names : Names) (typed : Typed) (h : IsTypedOf file u names typed) → IsSoundOf file u names h.judged
+sound_of file u names typed h = record { tree = h.by.tree; is = h.by.is; sound = h.by.sound }
+
+pub excludes : (limits : Limits) (file : List ℕ) (why : Reason) → IsReason limits file why → IsLawful limits file → ⊥
+excludes limits file _ (of_tokens it) lawful =
+    list_no_fault file lawful.of_file.unit.tokens.list.items it.fault lawful.of_file.tokenizes it.first
+excludes limits file _ (of_unit {tokens = tokens} are first) lawful =
+    let it = lawful.of_file in
+    tree_is_not_refused (lexemes_of file tokens) (parsed_by file it.unit.tokens.list.items tokens (tree_of it.unit) it.tokenizes are it.parsed).is_tree first
+excludes limits file _ (of_names {tokens = tokens} {tree = tree} are parsed first is) lawful =
+    let it = lawful.of_file in
+    let none = known_by file it.unit.tokens.list.items tokens (tree_of it.unit) tree it.tokenizes are it.parsed parsed it.known.right first.event in
     let some = first.is in
     cc
+excludes limits file why (of_types u names fault are parsed known first is) lawful =
+    let it = lawful.of_file in
+    let same = same_lists file it.unit u it.tokenizes are it.parsed parsed in
+    let one = names_by file it.unit u it.names names it.tokenizes are it.parsed parsed it.known known in
+    no_fault file it.unit u names it.checked.judged fault same
+    (subst (λ names. IsSoundOf file it.unit names it.checked.judged) one (sound_of file it.unit it.names lawful.typed it.checked)) first
+    (λ none. let bad : None ≡ Some why = sym (ap (type_reason file u.tokens.list.items) none) ∙ is in cc)
+excludes limits file why (of_run typed outcome of_file comes is) lawful =
+    no_end limits file lawful.typed typed outcome why lawful.of_file of_file lawful.ends comes is

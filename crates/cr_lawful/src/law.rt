@@ -1,71 +1,95 @@
 // The law of programs.
-ghost use Rattle.std.specs.Prelude.{◌≡◌, ◌≢◌, true};
-ghost use Rattle.cr_tokens.specs.Tokens.{Tokenizes};
-ghost use Rattle.cr_analysis.specs.Analysis.{IsParsed};
+ghost use Rattle.std.specs.Prelude.{◌≡◌, true, false};
 ghost use Rattle.cr_cursor.specs.declared.law.Reason.{Reason};
-ghost use Rattle.cr_lawful.specs.Lawful.{IsLawful, IsReason, Rules, tree_of};
+ghost use Rattle.cr_lawful.specs.Lawful.{IsLawful, IsReason, IsTypedUnit, Rules, limits_of};
 
-use crate::reasons::{name_ruling, parse_ruling};
-use cr_cursor::{Law, Reason, Ruling, Stop, token_ruling};
-use cr_decls::parse;
-use cr_scopes::resolve;
-use cr_syntax::{Unit, tokens_are_spans};
-use cr_tokens::{Tokens, read};
+use crate::reasons::run_ruling;
+use crate::units::unit_of_file;
+use cr_cursor::{Law, Reason, Ruling, Stop};
+use cr_meaning::Limits;
+use cr_outcome::outcome;
+use cr_typed::Typed;
 use std::alloc::Global;
 
-/// The law that a file is a program of the subset, as far as that is checked: it parses (C11 6.5 to 6.9 without what the subset
-/// leaves out), and its names are known and declared once (6.2.1 to 6.2.3). Its reasons are Token, Parse and Name.
-#[derive(Clone, Copy, Debug, PartialEq, Eq, Default)]
-pub struct CLaw;
+/// The law that a file is a program of the subset which runs without undefined behaviour: it parses (C11 6.5 to 6.9 without what the
+/// subset leaves out), its names are known and declared once (6.2.1 to 6.2.3), it breaks no constraint, K1 to K43, and within the limits
+/// its run ends, with no case of undefined behaviour, U1 to U16, and none of leaving the profile, N1 to N7.
+#[derive(Clone, Copy)]
+pub struct CLaw {
+    pub limits: Limits,
+}
+
+impl CLaw {
+    /// The law with runs of so many steps; the other limits are those of the profile.
+    pub fn with_steps(steps: u64) -> CLaw
+        ensures { result ≡ record { limits = limits_of steps } }
+    {
+        CLaw {
+            limits: Limits {
+                steps,
+                depth: 256,
+                cells: 1_048_576,
+                output: 65_536,
+            },
+        }
+    }
+}
+
+/// The law with runs of 1,000,000 steps.
+impl Default for CLaw {
+    ghost use Rattle.std.specs.Prelude.{◌≡◌};
+    ghost use Rattle.cr_lawful.specs.Lawful.{limits_of};
+
+    ghost is_default = { λ law. law ≡ record { limits = limits_of 1000000 } };
+
+    fn default() -> CLaw {
+        CLaw::with_steps(1_000_000)
+    }
+}
 
 impl Law for CLaw {
     ghost use Rattle.cr_lawful.specs.Lawful.{IsLawful, IsReason};
 
-    ghost lawful = { λ _ file. IsLawful file };
+    ghost lawful = { λ law file. IsLawful law.limits file };
 
-    ghost reasons = { λ _ file reason. IsReason file reason };
+    ghost reasons = { λ law file reason. IsReason law.limits file reason };
 
-    fn rule<S: Stop>(&self, alloc: Global, file: &[u8], _stop: &mut S) -> Ruling
-        ensures lawful { result ≡ Ruling.Lawful → IsLawful file.now }
-        ensures unlawful { (reason : Reason) → result ≡ Ruling.Unlawful reason → IsLawful file.now → ⊥ }
-        // It is the first reason: that of the tokens, then of the parser, then of the names.
-        ensures reason { (reason : Reason) → result ≡ Ruling.Unlawful reason → IsReason file.now reason }
-        ensures stopped { result ≡ Ruling.Stopped → S.raised _stop.new ≡ true }
-        ensures held { S.held _stop.new ≡ S.held _stop.old }
-        ensures unstopped { result ≢ Ruling.Stopped }
+    fn rule<S: Stop>(&self, alloc: Global, file: &[u8], stop: &mut S) -> Ruling
+        requires { S.raised stop.old ≡ false }
+        ensures lawful { result ≡ Ruling.Lawful → IsLawful self.now.limits file.now }
+        ensures unlawful { (reason : Reason) → result ≡ Ruling.Unlawful reason → IsLawful self.now.limits file.now → ⊥ }
+        // It is the first reason: that of the tokens, then of the parser, then of the names, then of the types, then of the run.
+        ensures reason { (reason : Reason) → result ≡ Ruling.Unlawful reason → IsReason self.now.limits file.now reason }
+        ensures stopped { result ≡ Ruling.Stopped → S.raised stop.new ≡ true }
+        ensures held { S.held stop.new ≡ S.held stop.old }
     {
-        ruled(alloc, file)
+        ruled(alloc, file, self.limits, stop)
     }
 }
 
-fn ruled(alloc: Global, file: &[u8]) -> Ruling
-    ensures { Rules file.now result }
+fn ruled<S: Stop>(alloc: Global, file: &[u8], limits: Limits, stop: &mut S) -> Ruling
+    requires { S.raised stop.old ≡ false }
+    ensures rules { Rules limits file.now (S.raised stop.new) result }
+    ensures held { S.held stop.new ≡ S.held stop.old }
 {
-    match read(alloc, file) {
-        Ok(tokens) => ruled_on_tokens(alloc, file, &tokens),
-        Err(fault) => token_ruling(file, fault),
+    match unit_of_file(alloc, file) {
+        Ok(typed) => ruled_on_run(alloc, file, &typed, limits, stop),
+        Err(ruling) => ruling,
     }
 }
 
-fn ruled_on_tokens(alloc: Global, file: &[u8], tokens: &Tokens) -> Ruling
-    requires { Tokenizes file.now tokens.now.list.items }
-    ensures { Rules file.now result }
+fn ruled_on_run<S: Stop>(
+    alloc: Global,
+    file: &[u8],
+    typed: &Typed,
+    limits: Limits,
+    stop: &mut S,
+) -> Ruling
+    requires unstopped { S.raised stop.old ≡ false }
+    requires unit { IsTypedUnit file.now typed.now }
+    ensures rules { Rules limits file.now (S.raised stop.new) result }
+    ensures held { S.held stop.new ≡ S.held stop.old }
 {
-    tokens_are_spans();
-    match parse(alloc, file, tokens) {
-        Ok(unit) => ruled_on_names(alloc, file, &unit),
-        Err(fault) => parse_ruling(file, tokens.list.as_slice(), fault),
-    }
-}
-
-fn ruled_on_names(alloc: Global, file: &[u8], unit: &Unit) -> Ruling
-    requires tokens { Tokenizes file.now unit.now.tokens.list.items }
-    requires parsed { IsParsed file.now unit.now.tokens.list.items (tree_of unit.now) }
-    ensures { Rules file.now result }
-{
-    tokens_are_spans();
-    match resolve(alloc, file, unit) {
-        Ok(_) => Ruling::Lawful,
-        Err(fault) => name_ruling(file, unit.tokens.list.as_slice(), fault),
-    }
+    let run = outcome(alloc, typed, limits, stop);
+    run_ruling(file, typed, &run)
 }

@@ -1,5 +1,6 @@
-use Rattle.cr_lawful.proofs.Rulings.{token_rules}
+use Rattle.cr_lawful.proofs.Rulings.{refused_rules}
 use Rattle.cr_lawful.proofs.law.ruled.Goals as goal
 
-pub returns-in-Err : goal.returns-in-Err
-returns-in-Err c = token_rules c.args.file.now c.in-Err.fault c.token_ruling.result c.in-Err.ensures.fault c.token_ruling.ensures
+pub returns-in-Err-clause-rules : goal.returns-in-Err-clause-rules
+returns-in-Err-clause-rules g c =
+    refused_rules c.args.limits c.args.file.now (g.S.Stop.raised c.args.stop.now) c.in-Err.ruling c.in-Err.ensures.refused
