@@ -1,5 +1,5 @@
 pub mod NameLemmas
-pub mod Building
+pub mod Runnable
 pub mod Puts
 pub mod Writes
 pub mod Conclusions

@@ -2,6 +2,7 @@
 use Rattle.std.proofs.Common.{◌≡◌, ◌≢◌, inl, inr, ◌==◌, ℕ, suc, Bool, true, false, List, [], ◌∷◌, ◌++◌, length, Option, Some, None, if◌then◌else◌, append_assoc, refl, sym, ap, subst, ◌∙◌, arith}
 use Rattle.std.proofs.lemmas.Bool.{eqb-true}
 use Rattle.cr_gen.specs.Program.{generated}
+use Rattle.cr_lawful.specs.Lawful.{IsLawful, limits_of}
 use Rattle.cr_outside.specs.Files.{Names}
 use Rattle.cr_outside.specs.Question.{Says as Telling}
 use Rattle.cr_outside.specs.Test.{asks_test, tells_test}
@@ -75,7 +76,7 @@ same_lacks files (source.Made number items) (source.Made other more) same lacks 
 -- two tasks of the same words
 module _ (words : List Word) (most : ℕ) (a b : Settings) (own other : List ℕ) (first : IsTask words most a own) (second : IsTask words most b other) where
   alike : SameSettings a b
-  alike = one_settings words most a b first.gives.gives second.gives.gives
+  alike = one_settings words most a b first.gives second.gives
 
   own_alike : own ≡ other
   own_alike = one_own (name_of b.source) own other (subst (λ n. IsOwnName n own) (same_name a.source b.source alike.source) first.is_own) second.is_own
@@ -93,7 +94,7 @@ module _ (words : List Word) (most : ℕ) (a b : Settings) (own other : List ℕ
     bytes = all.bytes;
     there = λ file has. all.there file (same_has old.files a.source b.source alike.source file has);
     here = λ lacks. all.here (same_lacks old.files a.source b.source alike.source lacks);
-    lawful = all.lawful;
+    lawful = subst (λ n. IsLawful (limits_of n) all.bytes) alike.steps all.lawful;
     all_told = λ file. elim (all.all_told file) [
       | inl quiet ↦ inl (sym same_asks ∙ quiet)
       | inr answer ↦ inr (answer.0, same_tells says file answer.0 answer.1)

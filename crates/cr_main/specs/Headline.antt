@@ -13,6 +13,7 @@ use Rattle.cr_reduce.specs.Ends.{EndsAsTold, IsFixedAsTold, most_calls, outcome_
 use Rattle.cr_reduce.specs.Reduction.{Within}
 use Rattle.cr_reduce.specs.Search.{AsksOnlyCandidates, IsAllTold, ReducesFileAsTold}
 use Rattle.cr_reduce.specs.Sizes.{HasSize}
+use Rattle.cr_words.specs.Giving.{HasSettings}
 use Rattle.cr_words.specs.Names.{IsOwnName, name_of}
 use Rattle.cr_words.specs.Words.{Word}
 use Rattle.cr_words.specs.declared.settings.Settings.{Settings}
@@ -20,7 +21,6 @@ use Rattle.cr_main.specs.Messages.{copy_name, log_name}
 use Rattle.cr_main.specs.Outside.{Outside, Puts, saved}
 use Rattle.cr_main.specs.Run.{IsReduction, end_status}
 use Rattle.cr_main.specs.Task.{Task, Text, task_of, text_of}
-use Rattle.cr_main.specs.Words.{HasSettings}
 
 -- What is asked of a run: the words give these settings, and the file has this own name.
 pub record IsTask (words : List Word) (most : ℕ) (settings : Settings) (own : List ℕ) : Type 0 where

@@ -1,4 +1,3 @@
-pub mod Words
 pub mod Messages
 pub mod Outside
 pub mod Task

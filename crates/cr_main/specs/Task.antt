@@ -5,7 +5,7 @@ use Rattle.cr_cursor.specs.declared.law.Reason.{Reason}
 use Rattle.cr_cursor.specs.declared.passes.Passes.{Ghosts as PassesGhosts}
 use Rattle.cr_cursor.specs.TokenLaw.{IsTokenized}
 use Rattle.cr_gen.specs.Program.{generated}
-use Rattle.cr_lawful.specs.Lawful.{IsLawful, IsReason}
+use Rattle.cr_lawful.specs.Lawful.{IsLawful, IsReason, limits_of}
 use Rattle.cr_outside.specs.Files.{Names, content_of}
 use Rattle.cr_outside.specs.Question.{Says}
 use Rattle.cr_outside.specs.Test.{asks_test, tells_test}
@@ -73,11 +73,11 @@ saves_of (source.Named name) = true
 saves_of (source.Made number items) = false
 
 -- the task of settings, for judges who say this, with the file's own name: the enabled passes, the law of
--- programs, and the test
+-- programs whose runs take at most the steps of the settings, and the test
 abbrev pub task_of : Settings → Says → List ℕ → Task
 task_of settings says own = record {
-  search = search_of (Offers settings.enabled) IsLawful (asks_test settings.test) (tells_test settings.test) says own [];
-  Against = IsReason;
+  search = search_of (Offers settings.enabled) (IsLawful (limits_of settings.steps)) (asks_test settings.test) (tells_test settings.test) says own [];
+  Against = IsReason (limits_of settings.steps);
   window = settings.window;
   limit = settings.limit;
   name = name_of settings.source;

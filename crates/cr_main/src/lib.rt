@@ -4,7 +4,6 @@
 //! `cr_passes`, `cr_log` and `cr_gen`.
 #![tactic(auto)]
 
-mod built;
 mod finish;
 mod laws;
 mod messages;

@@ -9,7 +9,6 @@ ghost use Rattle.cr_main.specs.Task.{IsRunnable, saves_of, task_of, text_of};
 ghost use Rattle.cr_words.specs.Names.{IsOwnName, name_of};
 ghost use Rattle.cr_words.specs.Words.{texts_of};
 
-use crate::built::built_words;
 use crate::messages::{USAGE, put};
 use crate::names::own_name;
 use crate::run_task::{run_bytes, run_stored};
@@ -20,7 +19,7 @@ use cr_lawful::CLaw;
 use cr_outside::{Files, Judge, Sink};
 use cr_passes::CPasses;
 use cr_pool::Bench;
-use cr_words::{Settings, Source, WordFault};
+use cr_words::{Settings, Source, WordFault, words};
 use std::alloc::Global;
 use std::thread::Threads;
 
@@ -66,7 +65,7 @@ pub fn run<R: Threads + Sync, F: Files, J: Judge + Send, O: Sink>(
     // The judges keep their keys and their number.
     ensures keys { keys_of J.Judge bench.new ≡ keys_of J.Judge bench.old }
 {
-    match built_words(alloc, list, bench.workers()) {
+    match words(alloc, list, bench.workers()) {
         Ok(settings) => run_settings(rt, alloc, &settings, files, bench, out),
         Err(WordFault::Usage) => put(out, USAGE.as_bytes(), status::USAGE, status::USAGE),
         Err(WordFault::NoMemory) => status::NO_MEMORY,
@@ -93,9 +92,10 @@ fn run_settings<R: Threads + Sync, F: Files, J: Judge + Send, O: Sink>(
     let passes = CPasses {
         enabled: settings.enabled,
     };
+    let law = CLaw::with_steps(settings.steps);
     let task = Task {
         passes: &passes,
-        law: &CLaw,
+        law: &law,
         question: &settings.test,
         workers: settings.workers,
         window: settings.window,

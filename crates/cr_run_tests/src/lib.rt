@@ -11,6 +11,8 @@ mod rehearsed;
 #[cfg(test)]
 mod remembered;
 #[cfg(test)]
+mod rulings;
+#[cfg(test)]
 mod runs;
 #[cfg(test)]
 mod tables;

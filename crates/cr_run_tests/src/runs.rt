@@ -12,75 +12,116 @@ use std::test::Fail;
 use std::thread::Threads;
 
 const REDUCTIONS: &str = "\
-what three lines
+what three lines of main
 passes l
 workers 1
 window 256
 words has:b abc.c
 name abc.c
-before int a;␊int b;␊int c;␊
+before int main(){␊int a;␊int b;␊int c;␊}␊
 status 0
-output abc.c size 102 to 34 accepted 2 turns 32 fixed␊
-after int b;␊
-copy int a;␊int b;␊int c;␊
-log l 13 1 68 15␊l 14 0 34 16␊end fixed 34 32␊
+output abc.c size 167 to 99 accepted 2 turns 40 fixed␊
+after int main(){␊int b;␊}␊
+copy int main(){␊int a;␊int b;␊int c;␊}␊
+log l 14 1 133 19␊l 14 2 99 21␊end fixed 99 40␊
 
 what three lines, by lines and tokens
 passes tl
-output abc.c size 102 to 34 accepted 2 turns 42 fixed␊
-log l 13 1 68 15␊l 14 0 34 16␊end fixed 34 42␊
+words has:main(){ abc.c
+output abc.c size 167 to 65 accepted 2 turns 64 fixed␊
+after int main(){␊}␊
+log l 13 1 99 16␊l 14 1 65 19␊end fixed 65 64␊
 
-what a line of five tokens, of which two in a row go
+what a line of twelve tokens, of which two in a row go
 passes t
-words has:a abc.c
-before int a,b;
-output abc.c size 54 to 33 accepted 1 turns 13 fixed␊
-after int a;
-copy int a,b;
-log t 3 2 33 5␊end fixed 33 13␊
+words has:main(){return+1 abc.c
+before int main(){return+1,2;}
+output abc.c size 125 to 105 accepted 1 turns 63 fixed␊
+after int main(){return+1;}
+copy int main(){return+1,2;}
+log t 3 8 105 23␊end fixed 105 63␊
 
 what no turn
 words --limit 0 has:b abc.c
 status 7
-output abc.c size 102 to 102 accepted 0 turns 0 limit␊
-after int a;␊int b;␊int c;␊
-log end limit 102 0␊
+output abc.c size 167 to 167 accepted 0 turns 0 limit␊
+after int main(){␊int a;␊int b;␊int c;␊}␊
+log end limit 167 0␊
 
-what fifteen turns
-words has:b --limit=15 abc.c
+what nineteen turns
+words has:b --limit=19 abc.c
 status 7
-output abc.c size 102 to 68 accepted 1 turns 15 limit␊
-after int a;␊int b;␊
-log l 13 1 68 15␊end limit 68 15␊
+output abc.c size 167 to 133 accepted 1 turns 19 limit␊
+after int main(){␊int b;␊int c;␊}␊
+log l 14 1 133 19␊end limit 133 19␊
 
 what one turn too few
-words has:b abc.c --limit 31
+words has:b abc.c --limit 39
 status 7
-output abc.c size 102 to 34 accepted 2 turns 31 limit␊
-log l 13 1 68 15␊l 14 0 34 16␊end limit 34 31␊
+output abc.c size 167 to 99 accepted 2 turns 39 limit␊
+log l 14 1 133 19␊l 14 2 99 21␊end limit 99 39␊
 
 what turns enough
-words --limit=32 has:b abc.c
+words --limit=40 has:b abc.c
 
 what a name in a folder
 words has:b d/abc.c
 name d/abc.c
-output d/abc.c size 102 to 34 accepted 2 turns 32 fixed␊
+output d/abc.c size 167 to 99 accepted 2 turns 40 fixed␊
 
-what two lines and main, which the law does not ask for yet
-words has:b m.c
+what two lines before main, which the test keeps
+words has:main(){ m.c
 name m.c
 before int a;␊int b;␊int main(){}␊
-output m.c size 132 to 34 accepted 2 turns 32 fixed␊
+output m.c size 132 to 64 accepted 1 turns 31 fixed␊
+after int main(){}␊
 copy int a;␊int b;␊int main(){}␊
+log l 13 0 64 14␊end fixed 64 31␊
 
 what two tokens on two lines, of which neither may go
 words has:;int abc.c
-before int a;␊int b;␊
-output abc.c size 68 to 68 accepted 0 turns 16 fixed␊
-after int a;␊int b;␊
-copy int a;␊int b;␊
-log end fixed 68 16␊
+before int main(){␊int a;␊int b;␊}␊
+output abc.c size 133 to 133 accepted 0 turns 19 fixed␊
+after int main(){␊int a;␊int b;␊}␊
+copy int main(){␊int a;␊int b;␊}␊
+log end fixed 133 19␊
+
+what of four variants the last one runs for ever
+passes s
+words --steps 1000 has:while abc.c
+before int main(){int i=3;while(i)i--;}
+output abc.c size 190 to 190 accepted 0 turns 4 fixed␊
+after same
+copy same
+log end fixed 190 4␊
+
+what steps enough, the body's, those of 3 and of the loop, four of the condition, and three times three
+passes s
+words has:while --steps=16 abc.c
+before int main(){int i=3;while(i)i--;}
+output abc.c size 190 to 190 accepted 0 turns 4 fixed␊
+after same
+copy same
+log end fixed 190 4␊
+
+what a main by all passes
+passes ltbusciprf
+words has:main m.c
+name m.c
+before int main(void){return 0;}␊
+output m.c size 109 to 63 accepted 4 turns 85 fixed␊
+after int main(){}
+copy same
+log t 3 6 85 32␊t 4 3 73 37␊t 4 5 64 40␊f 0 0 63 48␊end fixed 63 85␊
+
+what a program of twenty lines, by lines
+words has:BLUE p.c
+name p.c
+before # 1 \"p.c\"␊typedef int T;␊extern int printf(const char *, ...);␊enum color { RED, GREEN = 5, BLUE };␊struct pair { T left; T right; };␊static struct pair table[2] = { { 1, 2 }, { 3, 4 } };␊static T sum(struct pair *p, int n)␊{␊  T s = 0;␊  int i;␊  for (i = 0; i < n; i++)␊    s += p[i].left * p[i].right;␊  return s;␊}␊int main(void)␊{␊  long T = BLUE;␊  printf(\"%d %ld\\n\", sum(table, 2), T);␊  return 0;␊}␊
+output p.c size 1686 to 442 accepted 10 turns 103 fixed␊
+after typedef int T;␊enum color { RED, GREEN = 5, BLUE };␊static T sum(struct pair *p, int n)␊{␊}␊int main(void)␊{␊}␊
+copy same
+log l 13 5 1362 26␊l 13 7 1131 29␊l 14 0 1121 31␊l 14 1 992 33␊l 14 3 747 36␊l 14 6 711 40␊l 14 6 672 41␊l 14 9 636 45␊l 14 2 499 70␊l 14 4 442 73␊end fixed 442 103␊
 ";
 
 const FAULTS: &str = "\
@@ -90,11 +131,11 @@ workers 1
 window 256
 words has:b abc.c
 name abc.c
-before int a;␊int b;␊int c;␊
+before int main(){␊int a;␊int b;␊int c;␊}␊
 failing 1
 status 9
 output creduce: file fault: abc.c␊
-after int a;␊int b;␊int c;␊
+after int main(){␊int a;␊int b;␊int c;␊}␊
 copy none
 log none
 
@@ -104,22 +145,22 @@ output creduce: file fault: abc.c.orig␊
 
 what the result can't be written
 failing 3
-copy int a;␊int b;␊int c;␊
+copy int main(){␊int a;␊int b;␊int c;␊}␊
 
 what the log can't be written
 failing 4
 output creduce: file fault: abc.c.log␊
-after int b;␊
-copy int a;␊int b;␊int c;␊
+after int main(){␊int b;␊}␊
+copy int main(){␊int a;␊int b;␊int c;␊}␊
 
 what the summary can't be put
 failing none
 mute 1
 status 10
 output ∅
-after int b;␊
-copy int a;␊int b;␊int c;␊
-log l 13 1 68 15␊l 14 0 34 16␊end fixed 34 32␊
+after int main(){␊int b;␊}␊
+copy int main(){␊int a;␊int b;␊int c;␊}␊
+log l 14 1 133 19␊l 14 2 99 21␊end fixed 99 40␊
 
 what the summary of an unfinished reduction can't be put
 failing none
@@ -127,20 +168,20 @@ words --limit=0 has:b abc.c
 mute 1
 status 10
 output ∅
-copy int a;␊int b;␊int c;␊
-log end limit 102 0␊
+copy int main(){␊int a;␊int b;␊int c;␊}␊
+log end limit 167 0␊
 
 what the copy is there though its write fails
 failing 2
 late yes
 output creduce: file fault: abc.c.orig␊
-copy int a;␊int b;␊int c;␊
+copy int main(){␊int a;␊int b;␊int c;␊}␊
 
 what the result is there though its write fails
 failing 3
 late yes
-after int b;␊
-copy int a;␊int b;␊int c;␊
+after int main(){␊int b;␊}␊
+copy int main(){␊int a;␊int b;␊int c;␊}␊
 
 what three bytes of the summary are put
 failing none
@@ -148,9 +189,9 @@ mute 1
 keeps 3
 status 10
 output abc
-after int b;␊
-copy int a;␊int b;␊int c;␊
-log l 13 1 68 15␊l 14 0 34 16␊end fixed 34 32␊
+after int main(){␊int b;␊}␊
+copy int main(){␊int a;␊int b;␊int c;␊}␊
+log l 14 1 133 19␊l 14 2 99 21␊end fixed 99 40␊
 
 what the refusal of words without a file can't be put
 failing none
@@ -179,10 +220,10 @@ workers 1
 window 256
 words has:b other.c
 name abc.c
-before int a;␊int b;␊int c;␊
+before int main(){␊int a;␊int b;␊int c;␊}␊
 status 3
 output creduce: no file other.c␊
-after int a;␊int b;␊int c;␊
+after int main(){␊int a;␊int b;␊int c;␊}␊
 copy none
 log none
 
@@ -213,6 +254,69 @@ words has:b abc.c
 before int f(int b){␊␊int b;return 0;}␊
 status 4
 output creduce: abc.c:3: not in the subset: name 2␊
+after same
+
+what a constraint that is broken
+words has:b abc.c
+before int main(){␊return 1=2;}␊
+status 4
+output creduce: abc.c:2: not in the subset: type 37␊
+after same
+
+what there is no main
+words has:b abc.c
+before int b;␊
+status 4
+output creduce: abc.c:1: not in the subset: type 40␊
+after same
+
+what a name that is not declared, behind a division by 0
+words has:b abc.c
+before int main(){␊1/0;␊return b;}␊
+status 4
+output creduce: abc.c:3: not in the subset: name 1␊
+after same
+
+what a constraint that is broken, behind a division by 0
+words has:b abc.c
+before int main(){␊1/0;␊return 1=2;}␊
+status 4
+output creduce: abc.c:3: not in the subset: type 37␊
+after same
+
+what a division by 0
+words has:b abc.c
+before int main(){␊int b=0;␊return 1/b;}␊
+status 5
+output creduce: abc.c:3: not defined: U2␊
+after same
+
+what a loop for ever
+words --steps=1000 has:b abc.c
+before int main(){␊int b=0;␊while(1);}␊
+status 5
+output creduce: abc.c:3: left the profile: N1␊
+after same
+
+what one step too few, on the line of the condition
+words --steps=15 has:b abc.c
+before int main(){int i=3;␊while(␊i)␊i--;}
+status 5
+output creduce: abc.c:3: left the profile: N1␊
+after same
+
+what the least limit of steps, where main takes one step for its body
+words --steps 1 has:b abc.c
+before int main(){}
+status 6
+output creduce: the test says no to abc.c␊
+after same
+
+what a return takes a step
+words --steps 1 has:b abc.c
+before int main(){␊return 0;}
+status 5
+output creduce: abc.c:2: left the profile: N1␊
 after same
 
 what another text
@@ -259,8 +363,8 @@ status 2
 output creduce: usage: creduce [--workers N] [--window N] [--limit N] [--steps N] [--passes LETTERS] TEST FILE␊
 ";
 
-/// The judge awaits these calls, in this order, by the test of the path `w.sh` and under the name `abc.c`. Thirteen levels
-/// take all lines at once, which leaves no unit to ask about, and the next one two of them.
+/// The judge awaits these calls, in this order, by the test of the path `w.sh` and under the name `abc.c`. A chunk of four lines or
+/// more takes one of main's braces along, which leaves no unit to ask about, and of those of two lines only the one in the middle doesn't.
 const JUDGED: &str = "\
 what yes to two variants, asked in the order of positions under the file's own name
 passes l
@@ -268,56 +372,112 @@ workers 1
 window 256
 words w.sh d/abc.c
 name d/abc.c
-before int a;␊int b;␊int c;␊
-call 1 yes int a;␊int b;␊int c;␊
-call 1 no int c;␊
-call 1 yes int a;␊int b;␊
-call 1 yes int b;␊
+before int main(){␊int a;␊int b;␊int c;␊}␊
+call 1 yes int main(){␊int a;␊int b;␊int c;␊}␊
+call 1 no int main(){␊int a;␊}␊
+call 1 yes int main(){␊int b;␊int c;␊}␊
+call 1 no int main(){␊int c;␊}␊
+call 1 yes int main(){␊int b;␊}␊
+call 1 no int main(){␊}␊
 status 0
-output d/abc.c size 102 to 34 accepted 2 turns 32 fixed␊
-after int b;␊
-copy int a;␊int b;␊int c;␊
-log l 13 1 68 15␊l 14 0 34 16␊end fixed 34 32␊
+output d/abc.c size 167 to 99 accepted 2 turns 40 fixed␊
+after int main(){␊int b;␊}␊
+copy int main(){␊int a;␊int b;␊int c;␊}␊
+log l 14 1 133 19␊l 14 2 99 21␊end fixed 99 40␊
 
 what the test fails on a variant
 words w.sh abc.c
 name abc.c
-call 1 yes int a;␊int b;␊int c;␊
-call 1 failed int c;␊
+call 1 yes int main(){␊int a;␊int b;␊int c;␊}␊
+call 1 failed int main(){␊int a;␊}␊
 status 8
-output abc.c size 102 to 102 accepted 0 turns 13 fault␊
-after int a;␊int b;␊int c;␊
-log end fault 102 13␊
+output abc.c size 167 to 167 accepted 0 turns 15 fault␊
+after int main(){␊int a;␊int b;␊int c;␊}␊
+log end fault 167 15␊
+
+what the test fails on a variant of three lines
+window 1
+words w.sh abc.c
+name abc.c
+before int a;␊int b;␊int main(){}␊
+call 1 yes int a;␊int b;␊int main(){}␊
+call 1 failed int main(){}␊
+status 8
+output abc.c size 132 to 132 accepted 0 turns 13 fault␊
+after same
+copy same
+log end fault 132 13␊
+
+what the test fails on its next one
+window 1
+words w.sh abc.c
+name abc.c
+before int a;␊int b;␊int main(){}␊
+call 1 yes int a;␊int b;␊int main(){}␊
+call 1 no int main(){}␊
+call 1 failed int b;␊int main(){}␊
+status 8
+output abc.c size 132 to 132 accepted 0 turns 15 fault␊
+after same
+copy same
+log end fault 132 15␊
+
+what the test would fail at the call after the last one
+window 1
+words w.sh abc.c
+name abc.c
+before int a;␊int b;␊int main(){}␊
+call 1 yes int a;␊int b;␊int main(){}␊
+call 1 no int main(){}␊
+call 1 yes int b;␊int main(){}␊
+call 1 failed int main(){}␊
+output abc.c size 132 to 98 accepted 1 turns 34 fixed␊
+after int b;␊int main(){}␊
+copy same
+log l 14 0 98 16␊end fixed 98 34␊
+
+what the test fails on the printed unit
+passes f
+words w.sh abc.c
+name abc.c
+before int main(){}␊
+call 1 yes int main(){}␊
+call 1 failed int main(){}
+status 8
+output abc.c size 64 to 64 accepted 0 turns 0 fault␊
+after same
+copy same
+log end fault 64 0␊
 
 what a file that was answered no isn't asked about again
 words w.sh abc.c
 name abc.c
-call 1 yes int a;␊int b;␊int c;␊
-call 1 no int c;␊
-call 1 no int a;␊int b;␊
-call 1 yes int b;␊int c;␊
-call 1 no int b;␊
-output abc.c size 102 to 68 accepted 1 turns 34 fixed␊
-after int b;␊int c;␊
-log l 14 0 68 16␊end fixed 68 34␊
+call 1 yes int main(){␊int a;␊int b;␊int c;␊}␊
+call 1 no int main(){␊int a;␊}␊
+call 1 no int main(){␊int b;␊int c;␊}␊
+call 1 yes int main(){␊int a;␊int c;␊}␊
+call 1 no int main(){␊int c;␊}␊
+output abc.c size 167 to 133 accepted 1 turns 41 fixed␊
+after int main(){␊int a;␊int c;␊}␊
+log l 14 2 133 20␊end fixed 133 41␊
 
 what no to the file
 words w.sh abc.c
 name abc.c
-call 1 no int a;␊int b;␊int c;␊
+call 1 no int main(){␊int a;␊int b;␊int c;␊}␊
 status 6
 output creduce: the test says no to abc.c␊
-after int a;␊int b;␊int c;␊
+after int main(){␊int a;␊int b;␊int c;␊}␊
 copy none
 log none
 
 what the test fails on the file
 words w.sh abc.c
 name abc.c
-call 1 failed int a;␊int b;␊int c;␊
+call 1 failed int main(){␊int a;␊int b;␊int c;␊}␊
 status 8
 output creduce: the test failed on abc.c␊
-after int a;␊int b;␊int c;␊
+after int main(){␊int a;␊int b;␊int c;␊}␊
 copy none
 log none
 ";
@@ -352,12 +512,12 @@ workers 4
 window 8
 words has:b abc.c
 name abc.c
-before int a;␊int b;␊int c;␊
+before int main(){␊int a;␊int b;␊int c;␊}␊
 status 0
-output abc.c size 102 to 34 accepted 2 turns 32 fixed␊
-after int b;␊
-copy int a;␊int b;␊int c;␊
-log l 13 1 68 15␊l 14 0 34 16␊end fixed 34 32␊
+output abc.c size 167 to 99 accepted 2 turns 40 fixed␊
+after int main(){␊int b;␊}␊
+copy int main(){␊int a;␊int b;␊int c;␊}␊
+log l 14 1 133 19␊l 14 2 99 21␊end fixed 99 40␊
 
 what three workers, one position at a time
 workers 3
@@ -382,24 +542,26 @@ window 4096
 
 what a limit within a window
 workers 2
-words has:b --limit=15 abc.c
+words has:b --limit=19 abc.c
 status 7
-output abc.c size 102 to 68 accepted 1 turns 15 limit␊
-after int a;␊int b;␊
-log l 13 1 68 15␊end limit 68 15␊
+output abc.c size 167 to 133 accepted 1 turns 19 limit␊
+after int main(){␊int b;␊int c;␊}␊
+log l 14 1 133 19␊end limit 133 19␊
 
 what two passes by two workers
 workers 2
 window 256
 passes tl
-output abc.c size 102 to 34 accepted 2 turns 42 fixed␊
-log l 13 1 68 15␊l 14 0 34 16␊end fixed 34 42␊
+words has:main(){ abc.c
+output abc.c size 167 to 65 accepted 2 turns 64 fixed␊
+after int main(){␊}␊
+log l 13 1 99 16␊l 14 1 65 19␊end fixed 65 64␊
 
 what no to the file
 words has:d abc.c
 status 6
 output creduce: the test says no to abc.c␊
-after int a;␊int b;␊int c;␊
+after int main(){␊int a;␊int b;␊int c;␊}␊
 copy none
 log none
 ";
@@ -413,42 +575,42 @@ workers 1
 window 16
 words t abc.c
 name abc.c
-before int a;␊int b;␊int c;␊
-call 1 yes int a;␊int b;␊int c;␊
-call 1 yes int a;␊int b;␊
-call 1 yes int b;␊
-call 1 failed int b;␊int c;␊
+before int main(){␊int a;␊int b;␊int c;␊}␊
+call 1 yes int main(){␊int a;␊int b;␊int c;␊}␊
+call 1 yes int main(){␊int b;␊int c;␊}␊
+call 1 yes int main(){␊int b;␊}␊
+call 1 failed int main(){␊int a;␊int c;␊}␊
 status 0
-output abc.c size 102 to 34 accepted 2 turns 32 fixed␊
-after int b;␊
-copy int a;␊int b;␊int c;␊
-log l 13 1 68 15␊l 14 0 34 16␊end fixed 34 32␊
+output abc.c size 167 to 99 accepted 2 turns 40 fixed␊
+after int main(){␊int b;␊}␊
+copy int main(){␊int a;␊int b;␊int c;␊}␊
+log l 14 1 133 19␊l 14 2 99 21␊end fixed 99 40␊
 
 what the same by four workers
-call 1 yes int a;␊int b;␊int c;␊
-call 1 yes int a;␊int b;␊
-call 1 yes int b;␊
-call 1 failed int b;␊int c;␊
+call 1 yes int main(){␊int a;␊int b;␊int c;␊}␊
+call 1 yes int main(){␊int b;␊int c;␊}␊
+call 1 yes int main(){␊int b;␊}␊
+call 1 failed int main(){␊int a;␊int c;␊}␊
 workers 4
 
 what the same, one position at a time
-call 1 yes int a;␊int b;␊int c;␊
-call 1 yes int a;␊int b;␊
-call 1 yes int b;␊
-call 1 failed int b;␊int c;␊
+call 1 yes int main(){␊int a;␊int b;␊int c;␊}␊
+call 1 yes int main(){␊int b;␊int c;␊}␊
+call 1 yes int main(){␊int b;␊}␊
+call 1 failed int main(){␊int a;␊int c;␊}␊
 workers 2
 window 1
 
 what a failure before the first accepted variant
-call 1 yes int a;␊int b;␊int c;␊
-call 1 failed int c;␊
-call 1 yes int a;␊int b;␊
+call 1 yes int main(){␊int a;␊int b;␊int c;␊}␊
+call 1 failed int main(){␊int a;␊}␊
+call 1 yes int main(){␊int b;␊int c;␊}␊
 workers 4
-window 8
+window 32
 status 8
-output abc.c size 102 to 102 accepted 0 turns 13 fault␊
-after int a;␊int b;␊int c;␊
-log end fault 102 13␊
+output abc.c size 167 to 167 accepted 0 turns 15 fault␊
+after int main(){␊int a;␊int b;␊int c;␊}␊
+log end fault 167 15␊
 ";
 
 /// The words of a case: its options, and behind them what it tells of words.
@@ -601,7 +763,7 @@ fn a_failure_behind_an_accepted_variant_decides_nothing(rt: HostRuntime) -> Resu
 }
 
 /// The log of the three lines, read back: the acceptances, how it ended, the size and the turns.
-const READ_BACK: &str = "0 13 1 68 15, 0 14 0 34 16, 0 34 32";
+const READ_BACK: &str = "0 14 1 133 19, 0 14 2 99 21, 0 99 40";
 
 // The log of the first case of the reductions, read back and told.
 fn first_log(rt: &(impl Threads + Sync), alloc: Global) -> Result<Option<String>, Fail> {
@@ -650,9 +812,32 @@ what a token more than a file may have, on the second line
 before ␊
 many 262146 ;
 output creduce: long.c:2: not in the subset: token 5␊
+
+what as many bytes as a file may have
+before int main(){}
+many 1048564 ␠
+status 6
+output creduce: the test says no to long.c␊
+
+what a byte more
+before int main(){}
+many 1048565 ␠
+
+what as many levels as a file may have
+before int main()
+many 128 {, 128 }
+status 6
+output creduce: the test says no to long.c␊
+
+what a level more
+before int main()
+many 129 {, 129 }
+output creduce: long.c:1: not in the subset: parse 3␊
 ";
 
 #[test]
-fn a_file_that_is_too_long_is_refused(rt: HostRuntime) -> Result<(), AllocError> {
+fn a_file_at_its_limits_is_taken_and_one_beyond_is_refused(
+    rt: HostRuntime,
+) -> Result<(), AllocError> {
     expect_all(&rt, rt.alloc(), LONG)
 }

@@ -74,10 +74,12 @@ impl Case {
     /// The file before the run, with what is repeated many times at its end.
     pub(crate) fn before(&self, alloc: Global) -> Result<Vec<u8>, AllocError> {
         let mut bytes = bytes_of(alloc, self.told("before"))?;
-        let (times, repeated) = self.told("many").split_once(' ').unwrap_or(("0", ""));
-        let repeated = bytes_of(alloc, repeated)?;
-        for _ in 0..times.parse().unwrap_or(0u64) {
-            bytes.extend_from_slice(&repeated)?;
+        for many in self.told("many").split(", ") {
+            let (times, repeated) = many.split_once(' ').unwrap_or(("0", ""));
+            let repeated = bytes_of(alloc, repeated)?;
+            for _ in 0..times.parse().unwrap_or(0u64) {
+                bytes.extend_from_slice(&repeated)?;
+            }
         }
         Ok(bytes)
     }
@@ -109,8 +111,8 @@ fn answer_of(word: &str) -> Answer {
     }
 }
 
-// The bytes of a text, in which the picture of a control character or a blank stands for it, and `∅` for nothing.
-fn bytes_of(alloc: Global, text: &str) -> Result<Vec<u8>, AllocError> {
+/// The bytes of a text, in which the picture of a control character or a blank stands for it, and `∅` for nothing.
+pub(crate) fn bytes_of(alloc: Global, text: &str) -> Result<Vec<u8>, AllocError> {
     let mut bytes = Vec::new(alloc);
     for c in text.chars() {
         if c != '∅' {

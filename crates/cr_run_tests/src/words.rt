@@ -84,14 +84,18 @@ no|--help|has:b|f.c
 no|has:b|-x.c
 ";
 
-/// Lists of words, each word behind a bar, and whether what they ask for is built: then the run goes on to look for the
-/// file, which isn't there.
-const BUILT: &str = "\
+/// Lists of words, each word behind a bar, and whether they give settings where there is one worker: then the run goes on
+/// to look for the file, which isn't there.
+const STARTS: &str = "\
 yes|--limit|5|has:b|f.c
 yes|--workers=1|--window=256|--steps=1000000|has:b|f.c
 no|--workers|2|has:b|f.c
 yes|--window=8|--|has:b|f.c
-no|--steps|7|has:b|f.c
+yes|--steps|7|has:b|f.c
+yes|--steps=1|has:b|f.c
+yes|--steps|100000000|has:b|f.c
+no|--steps|0|has:b|f.c
+no|--steps=100000001|has:b|f.c
 yes|--passes|l|has:b|f.c
 yes|--passes=tl|has:b|f.c
 yes|--passes|t|has:b|f.c
@@ -168,8 +172,8 @@ fn status_of(rt: &(impl Threads + Sync), alloc: Global, line: &str) -> Result<u8
 }
 
 #[test]
-fn what_is_not_built_is_refused(rt: HostRuntime) -> Result<(), Fail> {
-    for line in BUILT.lines() {
+fn words_without_settings_start_no_run(rt: HostRuntime) -> Result<(), Fail> {
+    for line in STARTS.lines() {
         let status = status_of(&rt, rt.alloc(), line)?;
         let wanted = if line.starts_with("yes") { 3 } else { 2 };
         assert_eq!(rt; status, wanted, "{line}");

@@ -12,7 +12,7 @@ use std::thread;
 use std::thread::Threads;
 
 /// What a run comes to, but for its status: what it puts, and the three files.
-type Outcome = (
+pub(crate) type Outcome = (
     u8,
     Vec<u8>,
     Option<Vec<u8>>,
@@ -20,8 +20,8 @@ type Outcome = (
     Option<Vec<u8>>,
 );
 
-// The words `--workers=N`, `--window=N`, and those of the text.
-fn words_of(
+/// The words `--workers=N`, `--window=N`, and those of the text.
+pub(crate) fn words_of(
     alloc: Global,
     workers: u64,
     window: u64,
@@ -36,8 +36,8 @@ fn words_of(
     Ok(words)
 }
 
-// A run on the file `t.c`.
-fn outcome<J: Judge + Send>(
+/// A run on the file `t.c`.
+pub(crate) fn outcome<J: Judge + Send>(
     rt: &(impl Threads + Sync),
     alloc: Global,
     words: &[String],
@@ -58,10 +58,10 @@ fn outcome<J: Judge + Send>(
     ))
 }
 
-/// Two lines and main, of which a judge that says no keeps all.
-const KEPT: &[u8] = b"int a;\nint b;\nint main(){}\n";
+/// Three lines of main, of which a judge that says no keeps all.
+const KEPT: &[u8] = b"int main(){\nint a;\nint b;\nint c;\n}\n";
 
-const KEPT_LOG: &[u8] = b"end fixed 132 18\n";
+const KEPT_LOG: &[u8] = b"end fixed 167 22\n";
 
 // Says yes to the first call and no to all others. The call that begins second ends only once a third one has begun.
 #[derive(Drop)]
@@ -147,7 +147,7 @@ fn after(seed: u64) -> u64 {
 }
 
 impl Chance {
-    // Yes to one file of three; of the others the test fails on one of 32 where the seed is odd.
+    // Yes to one file of three; of the others the test fails on one of eight where the seed is odd.
     fn drawn(&self, file: &[u8]) -> Answer {
         if file == self.whole.as_slice() {
             return Answer::Yes;
@@ -158,7 +158,7 @@ impl Chance {
         }
         match (drawn >> 33) % 96 {
             0..=31 => Answer::Yes,
-            32 | 33 if self.seed % 2 == 1 => Answer::Failed,
+            32..=39 if self.seed % 2 == 1 => Answer::Failed,
             _ => Answer::No,
         }
     }
@@ -187,9 +187,10 @@ impl Judge for Chance {
     }
 }
 
-// A file of up to four lines by chance, some of which don't tokenise, parse or name what is there, by themselves or at all.
+// A main of up to four lines by chance, some of which don't tokenise, parse or name what is there, by themselves or at all.
 fn random_file(alloc: Global, seed: u64) -> Result<Vec<u8>, AllocError> {
     let mut file = Vec::new(alloc);
+    file.extend_from_slice(b"int main(){\n")?;
     let mut drawn = after(seed);
     for _ in 0..(drawn >> 33) % 5 {
         drawn = after(drawn);
@@ -200,13 +201,14 @@ fn random_file(alloc: Global, seed: u64) -> Result<Vec<u8>, AllocError> {
             9 | 10 => "\n",
             11 | 12 => "/*\n*/ int d;\n",
             13 | 14 => "int e = 1 +\n2;",
-            15 | 16 => "int *g(void) { return 0; }\n",
-            17 => "int h = a;\n",
+            15 | 16 => "{ int *g = 0; return g == 0; }\n",
+            17 => "a = 1;\n",
             18 => "int i\n",
             _ => "@",
         };
         file.extend_from_slice(line.as_bytes())?;
     }
+    file.extend_from_slice(b"}\n")?;
     Ok(file)
 }
 
@@ -237,9 +239,9 @@ fn by_chance(
     let file = random_file(alloc, seed)?;
     let judges = judges_of(alloc, &file, seed, 8)?;
     let mut bench = Bench::new(alloc, judges)?;
-    let passes = match seed % 3 {
-        0 => "--passes=l w.sh t.c",
-        1 => "--passes=ltb w.sh t.c",
+    let passes = match seed % 5 {
+        0 | 1 => "--passes=l w.sh t.c",
+        2 => "--passes=ltb w.sh t.c",
         _ => "--limit=12 w.sh t.c",
     };
     let words = words_of(alloc, workers, window, passes)?;
@@ -247,17 +249,15 @@ fn by_chance(
 }
 
 #[test]
-fn two_hundred_runs_come_to_one_outcome_each(rt: HostRuntime) -> Result<(), Fail> {
+fn sixty_runs_come_to_one_outcome_each(rt: HostRuntime) -> Result<(), Fail> {
     let alloc = rt.alloc();
     let mut ends = String::new(alloc);
-    for seed in 0..200 {
+    for seed in 0..60 {
         let wanted = by_chance(&rt, alloc, seed, 1, 1)?;
         write!(ends, "{} ", wanted.0)?;
-        for workers in [1, 2, 4, 8] {
-            for window in [1, 7, 64] {
-                let found = by_chance(&rt, alloc, seed, workers, window)?;
-                assert!(rt; found == wanted, "{seed} {workers} {window}");
-            }
+        for (workers, window) in [(1, 64), (2, 7), (4, 1), (4, 64), (8, 7)] {
+            let found = by_chance(&rt, alloc, seed, workers, window)?;
+            assert!(rt; found == wanted, "{seed} {workers} {window}");
         }
     }
     // The runs end in all these ways: reduced, not lawful, at the limit, and with a failed test.

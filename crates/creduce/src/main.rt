@@ -1,4 +1,4 @@
-//! `creduce [--workers N] [--window N] [--limit N] [--passes LETTERS] TEST FILE`: reduces FILE while the test says yes, and ends with the status of `run`, which see.
+//! `creduce [--workers N] [--window N] [--limit N] [--steps N] [--passes LETTERS] TEST FILE`: reduces FILE while the test says yes, and ends with the status of `run`, which see.
 #![tactic(auto)]
 
 mod process_judge;

@@ -11,11 +11,14 @@ const NAME: &str = "creduce-test-file.c";
 
 /// A file that is reduced, with the text that it and the files beside it have then.
 const AFTER: [(&str, &str); 3] = [
-    ("creduce-test-run.c", "int b;"),
-    ("creduce-test-run.c.orig", "int a;\nint b;\nint c;\n"),
+    ("creduce-test-run.c", "int main(){}"),
+    (
+        "creduce-test-run.c.orig",
+        "int main(){\nint a;\nint b;\nint c;\n}\n",
+    ),
     (
         "creduce-test-run.c.log",
-        "l 13 1 68 15\nl 14 0 34 16\nf 0 0 33 25\nend fixed 33 49\n",
+        "l 13 1 99 16\nl 14 1 65 19\nf 0 0 63 41\nend fixed 63 78\n",
     ),
 ];
 
@@ -60,7 +63,7 @@ fn a_real_file_is_reduced_beside_its_copy_and_its_log(rt: HostRuntime) -> io::Re
     let mut files = StdFiles::new(&rt);
     let mut out = StdOut::new(&rt);
     let mut bench = bench(&rt)?;
-    let list = words(alloc, &["has:b", AFTER[0].0])?;
+    let list = words(alloc, &["has:main(){", AFTER[0].0])?;
     assert_eq!(rt;
         files.write(alloc, AFTER[0].0, AFTER[1].1.as_bytes()),
         Ok(())

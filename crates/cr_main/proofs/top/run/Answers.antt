@@ -1,11 +1,11 @@
 use Rattle.std.proofs.Common.{length, refl, subst, sym, ◌∙◌, arith}
 use Rattle.cr_reduce.specs.Bench.{judging, says_of}
 use Rattle.cr_main.specs.Outside.{Says, outside}
-use Rattle.cr_main.specs.Words.{HasNone, HasSettings}
 use Rattle.cr_main.specs.Run.Runs.{no_settings, on_task}
+use Rattle.cr_words.specs.Giving.{HasNone, HasSettings}
 use Rattle.cr_words.specs.Words.{texts_of}
 use Rattle.cr_main.proofs.Askings.{asks_only}
-use Rattle.cr_main.proofs.Building.{is_runnable}
+use Rattle.cr_main.proofs.Runnable.{is_runnable}
 use Rattle.cr_main.proofs.Completing.{completes}
 use Rattle.cr_main.proofs.Endings.{has_ended}
 use Rattle.cr_main.proofs.Headlines.{headline_of}

@@ -1,6 +1,6 @@
--- What is built, of settings that are alike, and what can be run.
-use Rattle.std.proofs.Common.{◌≡◌, ◌<◌, ◌≤◌, ℕ, List, Option, min, unwrap_or, sym, ◌∙◌, arith}
-use Rattle.cr_words.specs.Laws.{SameSettings}
+-- Settings of the command line can be run.
+use Rattle.std.proofs.Common.{◌≡◌, ◌<◌, ◌≤◌, ℕ, List, Option, min, unwrap_or, arith}
+use Rattle.cr_words.specs.Giving.{HasSettings}
 use Rattle.cr_words.specs.declared.settings.Settings.{Settings}
 use Rattle.cr_words.specs.Names.{IsSource}
 use Rattle.cr_words.specs.Numbers.{IsOptional}
@@ -9,10 +9,6 @@ use Rattle.cr_words.specs.Words.{Word}
 use Rattle.cr_words.specs.declared.source.Source.{Source}
 use Rattle.cr_words.specs.declared.source.Source.TheVariants as source
 use Rattle.cr_main.specs.Task.{IsMakeable, IsRunnable}
-use Rattle.cr_main.specs.Words.{HasSettings, IsBuilt}
-
-pub same_built : (a b : Settings) → SameSettings a b → IsBuilt a → IsBuilt b
-same_built a b same built = sym same.steps ∙ built
 
 -- The words give no other source than one that can be made.
 source_makeable : (word : Word) (source : Source) → IsSource word source → IsMakeable source
@@ -26,7 +22,7 @@ bounded least high without n _ _ (one_value it) is low fits = (omega (arith, is,
 
 pub is_runnable : (words : List Word) (most : ℕ) (settings : Settings) → 0 < most → HasSettings words most settings → IsRunnable most settings
 is_runnable words most settings some has =
-    let it = has.gives.gives in
+    let it = has.gives in
     let workers = bounded 1 (min 32 most) (min 4 most) settings.workers _ it.workers.0 it.workers.1 it.workers.2 (omega arith) (omega arith) in
     let window = bounded 1 4096 256 settings.window _ it.window.0 it.window.1 it.window.2 (omega arith) (omega arith) in
     record { workers = (omega (arith, workers.0), omega (arith, workers.1)); window = (omega (arith, window.0), window.1); makeable = source_makeable it.file settings.source it.source }

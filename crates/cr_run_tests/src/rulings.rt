@@ -1,0 +1,94 @@
+// Runs on files whose own run is defined, is not, or leaves the profile. What is wanted was found by hand from C11 and
+// from the rules of the profile.
+use crate::rehearsed::Rehearsed;
+use crate::tables::bytes_of;
+use crate::workers::{outcome, words_of};
+use cr_pool::Bench;
+use std::alloc::Global;
+use std::process::Abort;
+use std::test::Fail;
+use std::thread::Threads;
+
+/// What is put about the file, which doesn't have the text of the test, and behind the bar statements of a main in which `i` is 0 and
+/// the function `f` gives its argument.
+const STATEMENTS: &str = "\
+t.c:1: not defined: U12¦i=i++;
+the test says no to t.c¦i=f(i++);
+the test says no to t.c¦i=(i++,5);
+t.c:1: not defined: U12¦(i++,5)+i;
+the test says no to t.c¦i=i++||1;
+t.c:1: not defined: U12¦i=1;i=i++||1;
+t.c:1: not defined: U3¦(-2147483647-1)/-1;
+t.c:1: not defined: U3¦(-2147483647-1)%-1;
+t.c:1: not defined: U5¦1<<31;
+t.c:1: not defined: U4¦1u<<32;
+t.c:1: not defined: U1¦2147483647+1;
+t.c:1: not defined: U2¦1/0;
+the test says no to t.c¦char c=127;c++;
+the test says no to t.c¦int a[2][3];&a[0][3];
+t.c:1: not defined: U9¦int a[2][3];a[0][3];
+t.c:1: not defined: U6¦int a[2][3];a[0]+4;
+t.c:1: left the profile: N5¦int a[2][3];((int*)a)[0];
+the test says no to t.c¦int b[2]={1};b[1];
+t.c:1: not defined: U11¦int b[2]={1,b[0]};
+t.c:1: not defined: U14¦struct s{const int m;}x={1};*(int*)&x.m=2;
+";
+
+/// The same of whole files.
+const FILES: &str = "\
+t.c:2: not defined: U10¦int *f(void){int x;return &x;}␊int main(void){return f()==0;}␊
+t.c:1: left the profile: N2¦int main(){return main();}
+the test says no to t.c¦int f(int n){return n?f(n-1):0;}int main(){return f(254);}
+t.c:1: left the profile: N2¦int f(int n){return n?f(n-1):0;}int main(){return f(255);}
+t.c:2: left the profile: N7¦int printf(const char *, ...);␊int main(void){printf(\"%5d\",1);}␊
+t.c:2: not defined: U16¦int printf(const char *, ...);␊int main(void){printf(\"%d\");}␊
+the test says no to t.c¦int printf(const char *, ...);␊int main(void){printf(\"%s%c%x%%\",\"a\",66,255);}␊
+";
+
+// A run on this text puts this line, and writes nothing.
+fn expect_line(
+    rt: &(impl Abort + Threads + Sync),
+    alloc: Global,
+    wanted: &str,
+    text: &str,
+) -> Result<(), Fail> {
+    let mut judges = Vec::new(alloc);
+    judges.push(Rehearsed::new("", "", Vec::new(alloc)))?;
+    let mut bench = Bench::new(alloc, judges)?;
+    let words = words_of(alloc, 1, 256, "has:absent t.c")?;
+    let file = bytes_of(alloc, text)?;
+    let (status, line, after, copy, log) = outcome(rt, alloc, &words, &file, &mut bench)?;
+    let lawful = wanted.starts_with("the test");
+    let line_wanted = format!(in alloc; "creduce: {wanted}\n")?;
+    assert!(rt; status == if lawful { 6 } else { 5 }, "{text}");
+    assert!(rt; line.as_slice() == line_wanted.as_bytes(), "{text}");
+    assert!(rt; after == Some(file) && copy.is_none() && log.is_none());
+    Ok(())
+}
+
+#[test]
+fn a_statement_is_taken_where_it_is_defined_and_within_the_profile(
+    rt: HostRuntime,
+) -> Result<(), Fail> {
+    let alloc = rt.alloc();
+    for line in STATEMENTS.lines() {
+        let (wanted, statements) = line.split_once('¦').unwrap_or(("", ""));
+        let text = format!(in alloc;
+            "int f(int x){{return x;}}int main(void){{int i=0;{statements}return 0;}}"
+        )?;
+        expect_line(&rt, alloc, wanted, text.as_str())?;
+    }
+    Ok(())
+}
+
+#[test]
+fn a_file_is_taken_where_its_run_is_defined_and_within_the_profile(
+    rt: HostRuntime,
+) -> Result<(), Fail> {
+    let alloc = rt.alloc();
+    for line in FILES.lines() {
+        let (wanted, text) = line.split_once('¦').unwrap_or(("", ""));
+        expect_line(&rt, alloc, wanted, text)?;
+    }
+    Ok(())
+}
