@@ -17,8 +17,10 @@ use cr_cursor::Never;
 use cr_eval::Table;
 use cr_exec::run;
 use cr_ints::IntKind;
-use cr_meaning::{Access, Callee, Change, Form, Limits, Op, Operator, Parameter, Relation, Run, Target, Work};
-use cr_memory::{Guard, Scalar};
+use cr_meaning::{
+    Access, Callee, Case, Change, Form, Limits, Line, Op, Operator, Parameter, Relation, Run, Target, Work,
+};
+use cr_memory::{Cell, Guard, Scalar};
 use cr_rows::Row;
 use std::alloc::{AllocError, Global};
 use std::io;
@@ -29,18 +31,17 @@ const INT: Scalar = Scalar::Int(IntKind::Int);
 
 const TO_INT: Scalar = Scalar::Pointer(0);
 
+const TO_POINTER: Scalar = Scalar::Pointer(1);
+
 const PROGRAMS: &str = "
 a loop of sums¦int;int;place 0;constant 0;assign|2 3;place 1;constant 0;assign|5 6;expression|4;expression|7;read 0;constant 5000000;less|10 11;place 1;read 1;constant 1;add|14 15;assign|13 16;place 0;read 0;constant 1;add|19 20;assign|18 21;expression|17;expression|22;block|23 24;while|12 25;constant 0;return|27;block 0 1|8 9 26 28;program 29
-a loop over an array by subscripts¦int;array;place 0;constant 0;assign|2 3;expression|4;read 0;constant 5000000;less|6 7;whole 1;constant 3;subscript|9 10;read 0;assign|11 12;expression|13;place 0;read 0;constant 1;add|16 17;assign|15 18;expression|19;block|14 20;while|8 21;constant 0;return|23;block 0 1|5 22 24;program 25
+a loop over an array by subscripts¦int;array;place 0;constant 0;assign|2 3;expression|4;read 0;constant 5000000;less|6 7;whole 1;constant 3;index|9 10;read 0;assign|11 12;expression|13;place 0;read 0;constant 1;add|16 17;assign|15 18;expression|19;block|14 20;while|8 21;constant 0;return|23;block 0 1|5 22 24;program 25
 calls in a loop¦int;int;read 0;return|2;block|3;place 1;constant 0;assign|5 6;expression|7;read 1;constant 2000000;less|9 10;read 1;call 4 0|12;expression|13;place 1;read 1;constant 1;add|16 17;assign|15 18;expression|19;block|14 20;while|11 21;constant 0;return|23;block 1|8 22 24;program 25
 ";
 
 RT
-# the reader of operations is that of the tests, with an array of 8 ints
-sed -n '/^fn next/,/^fn shown/p' ../cr_exec/src/tests.rt | sed '$d' | sed -e 's/"place" | "read" | "pointed" =>/"place" | "read" | "pointed" | "whole" =>/' \
-  -e 's/^\( *\)"at" => Work::Dereference(1),/&\n\1"subscript" => Work::Subscript(1),/' \
-  -e 's/^\( *\)"pointed" => Access::Scalar(TO_INT, false),/&\n\1"whole" => Access::Array(1, 8),/' \
-  -e 's/^\( *\)"int" => cells.push.*/&\n\1"array" => {\n\1    for _ in 0..8 {\n\1        cells.push((INT, Guard::Free))?;\n\1    }\n\1}/' >>src/main.rt
+# the reader of operations is that of the tests
+sed -n '/^fn number(/,/^fn shown/p' ../cr_exec/src/tests.rt | sed '$d' >>src/main.rt
 cat >>src/main.rt <<'RT'
 
 fn steps_of(run: &Run) -> u64 {
@@ -94,7 +95,7 @@ compare() {
 while IFS='|' read -r name steps micros; do
   case $name in
     *sums) text='int main(void){int i=0;int s=0;while(i<5000000){s=s+1;i=i+1;}return 0;}' ;;
-    *subscripts) text='int main(void){int i=0;int a[8];while(i<5000000){a[3]=i;i=i+1;}return 0;}' ;;
+    *subscripts) text='int main(void){int i=0;int a[4];while(i<5000000){a[3]=i;i=i+1;}return 0;}' ;;
     *) text='int f(int n){return n;}int main(void){int i=0;while(i<2000000){f(i);i=i+1;}return 0;}' ;;
   esac
   compare "$name" "$steps" "$micros" "$text"

@@ -17,8 +17,8 @@ script() {
     chmod +x "$name"
 }
 
-# three NAME: a file of three lines.
-three() { printf 'int a;\nint b;\nint c;\n' >"$1"; }
+# three NAME: a file of a main of three lines.
+three() { printf 'int main(){\nint a;\nint b;\nint c;\n}\n' >"$1"; }
 
 # says WHAT STATUS TEST FILE WANTED: a run by lines ends with this status, and FILE then has this text.
 says() {
@@ -33,16 +33,17 @@ says() {
     fi
 }
 
-all=$'int a;\nint b;\nint c;'
+all=$'int main(){\nint a;\nint b;\nint c;\n}'
+one=$'int main(){\nint b;\n}'
 mkdir -p dir 'a ü'
 
-awk 'BEGIN { for (i = 1; i <= 1000; i++) print "int line_" i ";" }' >dir/f.c
+awk 'BEGIN { print "int main(){"; for (i = 1; i <= 1000; i++) print "int line_" i ";"; print "}" }' >dir/f.c
 script one.sh "grep -q 'int line_500;' f.c"
-says "a thousand lines end at the one, in another folder" 0 ./one.sh dir/f.c 'int line_500;'
+says "a thousand lines end at the one, in another folder" 0 ./one.sh dir/f.c $'int main(){\nint line_500;\n}'
 
 three s.c
 script sleeps.sh 'sleep 0.05' 'grep -q b s.c'
-says "a test that sleeps is waited for" 0 ./sleeps.sh s.c 'int b;'
+says "a test that sleeps is waited for" 0 ./sleeps.sh s.c "$one"
 
 three k.c
 script kills.sh 'kill -9 $$'
@@ -50,19 +51,19 @@ says "a test that kills itself says no" 6 ./kills.sh k.c "$all"
 
 three 'g h.c'
 script 'a ü/té st.sh' "grep -q b 'g h.c'"
-says "names with spaces and letters beyond ASCII" 0 'a ü/té st.sh' 'g h.c' 'int b;'
+says "names with spaces and letters beyond ASCII" 0 'a ü/té st.sh' 'g h.c' "$one"
 
 three t.c
 script talks.sh 'echo chatty' 'echo chatty >&2' 'cat' 'grep -q b t.c'
-says "a test that writes and reads is not seen" 0 talks.sh t.c 'int b;'
+says "a test that writes and reads is not seen" 0 talks.sh t.c "$one"
 
 three d.c
 script drops.sh 'grep -q b d.c' 'answer=$?' 'echo left >left' 'rm d.c' 'ln -s left d.c' 'exit $answer'
-says "a test may change its copy and leave files behind" 0 ./drops.sh d.c 'int b;'
+says "a test may change its copy and leave files behind" 0 ./drops.sh d.c "$one"
 
 three e.c
 script erases.sh 'grep -q b e.c' 'answer=$?' 'rm -r "$PWD"' 'exit $answer'
-says "a test may drop its folder" 0 ./erases.sh e.c 'int b;'
+says "a test may drop its folder" 0 ./erases.sh e.c "$one"
 
 three n.c
 printf '#!/bin/sh\nexit 0\n' >plain.sh

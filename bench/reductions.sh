@@ -1,4 +1,4 @@
-# To be sourced: reductions of lines whose test sleeps, in a folder of their own that goes when the script ends.
+# To be sourced: reductions of a main's lines whose test sleeps, in a folder of their own that goes when the script ends.
 
 # begin_reductions SECONDS: goes to the folder. The test sleeps so long. CREDUCE=PROGRAM takes another program than the launcher at the top.
 begin_reductions() {
@@ -12,9 +12,13 @@ begin_reductions() {
     cd "$folder" || exit 1
 }
 
-# lines COUNT EVERY: so many lines into whole.c, of which the test wants all but each EVERY-th.
+# lines COUNT EVERY: a main of so many lines between its braces into whole.c, of which the test wants all but each EVERY-th.
 lines() {
-    awk -v n="$1" -v every="$2" 'BEGIN { for (i = 1; i <= n; i++) print (i % every ? "int keep_" : "int line_") i ";" }' >whole.c
+    awk -v n="$1" -v every="$2" 'BEGIN {
+        print "int main(){"
+        for (i = 1; i <= n; i++) print (i % every ? "int keep_" : "int line_") i ";"
+        print "}"
+    }' >whole.c
     {
         echo '#!/bin/sh'
         echo "sleep $seconds; echo x >>../trials.txt"

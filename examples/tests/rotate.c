@@ -1,7 +1,7 @@
 int printf(const char *format, ...);
 
-enum { COUNT = 8 };
 struct state { unsigned int sum; int steps; };
+enum { COUNT = 8 };
 
 static const int table[COUNT] = { 3, 1, 4, 1, 5, 9, 2, 6 };
 static struct state whole = { 1u, 0 };

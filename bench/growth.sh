@@ -1,0 +1,27 @@
+#!/usr/bin/env bash
+# Times a turn against the bytes of the file: generated programs of 1, 10, 100 and 870 KB, one worker, as ratios in one run. By hand
+# only: bench/growth.sh. Each turn looks at one variant with a run of 16 tokens less: most of them are refused at their first wrong token,
+# some are judged and run whole. CREDUCE=PROGRAM takes another program than the launcher at the top.
+set -u
+top=$(cd "$(dirname "${BASH_SOURCE[0]}")/.." && pwd)
+program=${CREDUCE:-$top/creduce}
+"$program" >/dev/null 2>&1 || true
+
+# spent WORDS..: seconds of the processor.
+spent() {
+    local TIMEFORMAT='%U %S'
+    { time "$program" "$@" >/dev/null; } 2>&1 | awk 'NF == 2 { print $1 + $2 }'
+}
+
+echo "items   bytes  turns  the file alone, ms  a turn, us  a turn's us a KB"
+for items in 12 115 1150 10000; do
+    turns=$((20000 / items + 20))
+    bytes=$("$program" --limit 0 has:main "gen:7:$items" | awk '{print $3}')
+    alone=$(spent --workers 1 --passes t --limit 0 has:main "gen:7:$items")
+    whole=$(spent --workers 1 --passes t --limit "$turns" has:main "gen:7:$items")
+    awk -v items="$items" -v size="$bytes" -v turns="$turns" -v alone="$alone" -v whole="$whole" 'BEGIN {
+        bytes = items * 87
+        turn = (whole - alone) / turns
+        printf "%5d  %6d  %5d  %18.1f  %10.1f  %16.2f\n", items, bytes, turns, 1000 * alone, 1e6 * turn, 1e6 * turn / (bytes / 1000)
+    }'
+done
