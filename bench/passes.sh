@@ -124,7 +124,5 @@ shown() {
 { yes 'unsigned foo(int bar){return bar+1000;}' | head -n 20164; echo ';;;;;;;;;;;;'; } >"$lab/sample.c"
 shown <"$lab/sample.c"
 echo 'the program under other names'
-for k in $(seq 1 1830); do
-  printf 'typedef int T%d;\nextern int printf(const char *, ...);\nenum color%d { RED%d, GREEN%d = 5, BLUE%d };\nstruct pair%d { T%d left; T%d right; };\nstatic struct pair%d table%d[2] = { { 1, 2 }, { 3, 4 } };\nstatic T%d sum%d(struct pair%d *p, int n)\n{\n  T%d s = 0;\n  int i;\n  for (i = 0; i < n; i++)\n    s += p[i].left * p[i].right;\n  return s;\n}\nint main%d(void)\n{\n  long T%d = BLUE%d;\n  printf("%%d %%ld\\n", sum%d(table%d, 2), T%d);\n  return 0;\n}\n' $k $k $k $k $k $k $k $k $k $k $k $k $k $k $k $k $k $k $k $k
-done >"$lab/sample.c"
+under_other_names >"$lab/sample.c"
 shown <"$lab/sample.c"

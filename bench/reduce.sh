@@ -4,36 +4,15 @@
 # with a word. PEER_CREDUCE=PROGRAM names C-Reduce where it isn't /usr/bin/creduce. CREDUCE=PROGRAM takes another program than the
 # launcher at the top.
 set -u
-top=$(cd "$(dirname "${BASH_SOURCE[0]}")/.." && pwd)
-program=${CREDUCE:-$top/creduce}
+. "$(dirname "${BASH_SOURCE[0]}")/reductions.sh"
+begin_reductions
 creduce_peer=${PEER_CREDUCE:-/usr/bin/creduce}
-folder=$(mktemp -d)
-trap 'rm -r "$folder"' EXIT
-"$program" >/dev/null 2>&1 || true
-cd "$folder" || exit 1
 
 # now: milliseconds of the clock.
 now() { echo $(($(date +%s%N) / 1000000)); }
 
-# text_of NUMBER ITEMS FILE: a generated program, as a test sees it.
-text_of() {
-    printf '#!/bin/sh\nexec cp gen.c ../%s\n' "$3" >copies.sh
-    chmod +x copies.sh
-    "$program" --workers 1 --limit 0 ./copies.sh "gen:$1:$2" >/dev/null
-    [ -s "$3" ] || { echo "no text of gen:$1:$2"; exit 1; }
-}
-
 # size_of FILE: its size, as the summary says it.
 size_of() { "$program" --limit 0 has:main "$1" | awk '{print $3}'; }
-
-# ours WORDS..: a reduction of f.c; sets spent and line.
-ours() {
-    local begun
-    cp whole.c f.c
-    begun=$(now)
-    line=$("$program" "$@" f.c) || { echo "it ended with: $line"; exit 1; }
-    spent=$(($(now) - begun))
-}
 
 # peer NAME PROGRAM WORDS..: the same by a peer, whose law is made of compilers: f.c is a test's yes where gcc takes it without a warning that
 # tells of undefined behaviour, its run shows none to the sanitizers, and the text is still there.
@@ -60,11 +39,11 @@ LAW
 compare() {
     wanted=$2
     echo "$1, $(wc -c <whole.c) bytes:"
-    ours --workers 1 "has:$2"
+    reduced --workers 1 "has:$2"
     one=$spent
     echo "  one worker: $one ms, $line"
     cp f.c result.c
-    ours --workers 4 "has:$2"
+    reduced --workers 4 "has:$2"
     cmp -s f.c result.c || { echo "four workers came to another file"; exit 1; }
     echo "  four workers: $spent ms"
     peer C-Reduce "$creduce_peer" --n 4
@@ -82,7 +61,7 @@ if command -v csmith >/dev/null; then
     printf '#!/bin/sh\ngcc -w f.c -o out && timeout 5 ./out | cmp -s - ../said\n' >same.sh
     chmod +x same.sh
     gcc -w whole.c -o out && ./out >said
-    ours --workers 4 ./same.sh
+    reduced --workers 4 ./same.sh
     echo "a csmith program whose output stays the same: $spent ms, $line"
 else
     echo "csmith isn't installed"

@@ -1,11 +1,12 @@
-# To be sourced: reductions of a main's lines whose test sleeps, in a folder of their own that goes when the script ends.
+# To be sourced: reductions in a folder of their own that goes when the script ends, those of a main's lines whose test sleeps among them.
 
-# begin_reductions SECONDS: goes to the folder. The test sleeps so long. CREDUCE=PROGRAM takes another program than the launcher at the top.
+# begin_reductions [SECONDS]: goes to the folder. The test of lines sleeps so long. CREDUCE=PROGRAM takes another program than the launcher
+# at the top.
 begin_reductions() {
     local top
     top=$(cd "$(dirname "${BASH_SOURCE[0]}")/.." && pwd)
     program=${CREDUCE:-$top/creduce}
-    seconds=$1
+    seconds=${1:-0}
     folder=$(mktemp -d)
     trap 'rm -r "$folder"' EXIT
     "$program" >/dev/null 2>&1 || true
@@ -27,13 +28,26 @@ lines() {
     chmod +x slow.sh
 }
 
-# reduce WORKERS: sets line, spent (in ms) and trials.
-reduce() {
+# text_of NUMBER ITEMS FILE: a generated program, as a test sees it.
+text_of() {
+    printf '#!/bin/sh\nexec cp gen.c ../%s\n' "$3" >copies.sh
+    chmod +x copies.sh
+    "$program" --workers 1 --limit 0 ./copies.sh "gen:$1:$2" >/dev/null
+    [ -s "$3" ] || { echo "no text of gen:$1:$2"; exit 1; }
+}
+
+# reduced WORDS..: a reduction of f.c, a copy of whole.c; sets line and spent (in ms).
+reduced() {
     local begun
     cp whole.c f.c
-    : >trials.txt
     begun=$(date +%s%N)
-    line=$("$program" --workers "$1" --passes l ./slow.sh f.c) || { echo "it ended with: $line"; exit 1; }
+    line=$("$program" "$@" f.c) || { echo "it ended with: $line"; exit 1; }
     spent=$((($(date +%s%N) - begun) / 1000000))
+}
+
+# reduce WORKERS: one of the lines; sets line, spent and trials.
+reduce() {
+    : >trials.txt
+    reduced --workers "$1" --passes l ./slow.sh
     trials=$(wc -l <trials.txt)
 }

@@ -44,3 +44,37 @@ static long sum_of_products(struct measured_pair *first_pair, int number_of_pair
 '
   yes "$sample" | head -c 1048000 | sed '$d' >"$lab/sample.c"
 }
+
+# row FRONT PART COUNT END: a text up to the limit: what stands before, what is repeated how often, and what stands behind.
+row() { printf '%s' "$1"; yes "$2" | head -n "$3" | tr -d '\n'; printf '%s' "$4"; }
+
+# under_other_names: a program again and again up to the limit, each time with a number behind its own names; its typedef and its objects
+# are 143 tokens.
+under_other_names() {
+  local k
+  for k in $(seq 1 1830); do
+    printf 'typedef int T%d;\nextern int printf(const char *, ...);\nenum color%d { RED%d, GREEN%d = 5, BLUE%d };\nstruct pair%d { T%d left; T%d right; };\nstatic struct pair%d table%d[2] = { { 1, 2 }, { 3, 4 } };\nstatic T%d sum%d(struct pair%d *p, int n)\n{\n  T%d s = 0;\n  int i;\n  for (i = 0; i < n; i++)\n    s += p[i].left * p[i].right;\n  return s;\n}\nint main%d(void)\n{\n  long T%d = BLUE%d;\n  printf("%%d %%ld\\n", sum%d(table%d, 2), T%d);\n  return 0;\n}\n' $k $k $k $k $k $k $k $k $k $k $k $k $k $k $k $k $k $k $k $k
+  done
+}
+
+# parsing: the beginning of a timer's main, which parses the file on standard input and goes on where it is a unit.
+parsing() {
+  cat <<'RT'
+fn main(rt: HostRuntime) -> io::Result<()> {
+    let mut text = Vec::new(rt.alloc());
+    rt.stdin().read_to_end(&mut text)?;
+    let file = text.as_slice();
+    let Ok(tokens) = cr_tokens::read(rt.alloc(), file) else {
+        return Ok(());
+    };
+    if !are_spans(file, tokens.list.as_slice()) {
+        return Ok(());
+    }
+    let Ok(unit) = parse(rt.alloc(), file, &tokens) else {
+        return Ok(());
+    };
+    if !are_spans(file, unit.tokens.list.as_slice()) {
+        return Ok(());
+    }
+RT
+}

@@ -47,12 +47,7 @@ build_timer
 timed() {
   out/timer | awk -v name="$1" '{ printf "%s: %d bytes, %d tokens, %d nodes: %.1f ms, %.1f MB/s\n", name, $1, $2, $3, $4 / 10000, 10 * $1 / $4 }'
 }
-# a text up to the limit: what stands before, what is repeated how often, what stands behind
-row() { printf '%s' "$1"; yes "$2" | head -n "$3" | tr -d '\n'; printf '%s' "$4"; }
-# the program again and again, each time with a number behind its own names; its typedef and its objects are 143 tokens
-for k in $(seq 1 1830); do
-  printf 'typedef int T%d;\nextern int printf(const char *, ...);\nenum color%d { RED%d, GREEN%d = 5, BLUE%d };\nstruct pair%d { T%d left; T%d right; };\nstatic struct pair%d table%d[2] = { { 1, 2 }, { 3, 4 } };\nstatic T%d sum%d(struct pair%d *p, int n)\n{\n  T%d s = 0;\n  int i;\n  for (i = 0; i < n; i++)\n    s += p[i].left * p[i].right;\n  return s;\n}\nint main%d(void)\n{\n  long T%d = BLUE%d;\n  printf("%%d %%ld\\n", sum%d(table%d, 2), T%d);\n  return 0;\n}\n' $k $k $k $k $k $k $k $k $k $k $k $k $k $k $k $k $k $k $k $k
-done | timed 'the program under other names'
+under_other_names | timed 'the program under other names'
 row '' 'int a;' 87381 '' | timed 'int a;'
 row 'int ' '*' 262142 'a' | timed '*'
 row 'int a=' '(' 262140 '' | timed '('
