@@ -5,7 +5,11 @@
 #![tactic(auto)]
 
 #[cfg(test)]
+mod programs;
+#[cfg(test)]
 mod reductions;
+#[cfg(test)]
+mod refusals;
 #[cfg(test)]
 mod rehearsed;
 #[cfg(test)]
