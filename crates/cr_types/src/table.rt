@@ -19,12 +19,18 @@ const NO_TYPE: Shape = Shape {
 // What tells shapes apart: the kind of type with its qualifiers, and two numbers.
 type Key = ((u8, u8), (u64, u64));
 
+// How many rows that were asked for are kept at hand.
+const PLACES: usize = 128;
+
 /// The types of a unit, each a row that names rows before its own. Row 0 is that of no type, and each type has one row.
 #[derive(Drop)]
 pub struct Table {
     shapes: Vec<Shape>,
     // The row of each shape.
     rows: HashMap<Key, u32>,
+    // The row that was last asked for at each place, which may be any row: most shapes are asked for again and again, and a look here
+    // takes the place of one in the map.
+    recent: [u32; PLACES],
 }
 
 impl Model for Table {
@@ -49,7 +55,11 @@ impl Table {
         let mut shapes = Vec::new(alloc);
         let mut rows = HashMap::new(alloc);
         put(&mut shapes, &mut rows, NO_TYPE)?;
-        Ok(Table { shapes, rows })
+        Ok(Table {
+            shapes,
+            rows,
+            recent: [0; PLACES],
+        })
     }
 
     /// A law: each type has one row, and one shape.
@@ -84,20 +94,43 @@ impl Table {
         ensures shared { OnOk result (IsWith self.old (type_of (type_at self.old) shape) self.new) }
     {
         let shape = normal(shape);
-        match known(&self.shapes, &self.rows, shape) {
-            Some(row) => Ok(row),
+        let place = place_of(shape);
+        match known(&self.shapes, &self.rows, self.recent[place], shape) {
+            Some(row) => {
+                self.recent[place] = row;
+                Ok(row)
+            }
             None => put(&mut self.shapes, &mut self.rows, shape),
         }
     }
 }
 
-// The row with this very shape.
+// Where a shape's row is kept at hand.
+fn place_of(shape: Shape) -> usize
+    ensures { result < 128 }
+{
+    let kind = match shape.of {
+        CType::Void => 0,
+        CType::Int(kind) => usize::from(number_of(kind)),
+        CType::Pointer(row) => (row as usize).wrapping_mul(4) + 16,
+        CType::Array(row, _) => (row as usize).wrapping_mul(4) + 17,
+        CType::Struct(node) => (node as usize).wrapping_mul(4) + 18,
+        CType::Function(node) => (node as usize).wrapping_mul(4) + 19,
+        CType::Unknown => 12,
+    };
+    kind % PLACES
+}
+
+// The row with this very shape, which may be the recent one.
 #[tactic(auto, using(crate::proofs::Shared::missing, crate::proofs::Shared::elsewhere))]
-fn known(shapes: &[Shape], rows: &HashMap<Key, u32>, shape: Shape) -> Option<u32>
+fn known(shapes: &[Shape], rows: &HashMap<Key, u32>, recent: u32, shape: Shape) -> Option<u32>
     requires { AreShared shapes.now (λ key. get same_key rows.now key) }
     ensures there { IfSome result (λ r. IsRow shapes.now r (type_of (type_at shapes.now) shape)) }
     ensures absent { IfNone result (IsAbsent shapes.now shape) }
 {
+    if is_at(shapes, recent as usize, shape) {
+        return Some(recent);
+    }
     match row_at(rows, shape) {
         Some(row) if is_at(shapes, row as usize, shape) => Some(row),
         _ => None,
