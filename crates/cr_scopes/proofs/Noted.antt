@@ -125,3 +125,11 @@ never s found old e = record {
   looks = λ space q. ap (λ p. noted_if (stands_by p space && (s == q)) found (looked space q old)) (sym e);
   outer = λ d. refl;
 }
+
+-- ---- what is found of a name in the innermost scope
+
+-- where that has it, it is the innermost that does
+pub found_here : (space : Space) (s : ℕ) (scopes : List Scope) (found : Found) → (looked space s scopes).here ≡ Some found
+    → record { here = Some found; seen = Some found } ≡ looked space s scopes
+found_here space s [] found e = absurd (true≢false (sym (ap is_some e)))
+found_here space s (scope ∷ outer) found e = rw e refl

@@ -33,7 +33,7 @@ struct Begun {
 fn beginnings(alloc: Global, told: &Vec<Option<Told>>) -> Result<Begun, AllocError>
     ensures { IfOk result (λ b. AreBegun (told_in told.now.items) b.numbers.items b.count (length told.now.items)) }
 {
-    let mut numbers = Vec::new(alloc);
+    let mut numbers = Vec::with_capacity(alloc, told.len())?;
     let mut count = 0;
     for at in 0..told.len() {
         count = number_one(&mut numbers, count, begins(told_at(told, at), at))?;
@@ -76,7 +76,7 @@ fn numbers(
 ) -> Result<Vec<Option<u32>>, AllocError>
     ensures { IfOk result (λ of. AreNumbered (told_in told.now.items) begun.now.numbers.items of.items (length told.now.items)) }
 {
-    let mut of_token = Vec::new(alloc);
+    let mut of_token = Vec::with_capacity(alloc, told.len())?;
     for at in 0..told.len() {
         of_token.push(number_of(&begun.numbers, told_at(told, at)))?;
     }

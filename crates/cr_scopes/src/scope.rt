@@ -104,10 +104,12 @@ pub fn close_scope(scopes: &mut OpenScopes)
 pub fn find(scopes: &OpenScopes, space: Space, name: u32) -> Look
     ensures { result ≡ looked space name scopes.now }
 {
-    Look {
-        here: here(scopes, space, name),
-        seen: seen(scopes, space, name),
-    }
+    let here = here(scopes, space, name);
+    let seen = match here {
+        Some(found) => Some(found),
+        None => seen(scopes, space, name),
+    };
+    Look { here, seen }
 }
 
 fn here(scopes: &OpenScopes, space: Space, name: u32) -> Option<Found>

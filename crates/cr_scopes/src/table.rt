@@ -36,6 +36,9 @@ impl<V: Copy + Drop> Table<V> {
     pub fn said(&self, name: u32) -> Option<V>
         ensures { result ≡ lookup (nat_eq name) self.now }
     {
+        if self.names.is_empty() {
+            return None;
+        }
         self.names.get(&name).copied()
     }
 
