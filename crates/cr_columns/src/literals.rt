@@ -92,7 +92,7 @@ pub fn texts(
     requires { AreSpans file.now tokens.now }
     ensures { IfOk result (λ texts. AreTexts file.now tokens.now nodes.now texts.items) }
 {
-    let mut texts = Vec::new(alloc);
+    let mut texts = Vec::with_capacity(alloc, nodes.len())?;
     for at in 0..nodes.len() {
         texts.push(text_at(alloc, file, tokens, nodes, at)?)?;
     }

@@ -37,7 +37,7 @@ pub fn judge(
     ensures broken { IfOk result (λ j. IsFirst (IsBroken tree.now texts.now table.new j.typing) j.broken) }
     ensures grows { OnOk result (Grows table.old table.new) }
 {
-    let mut typing = empty(alloc);
+    let mut typing = empty(alloc, tree.nodes.len())?;
     let mut broken = None;
     for at in 0..tree.nodes.len() {
         let one = judge_node(alloc, table, tree, texts, &typing, at)?;

@@ -102,7 +102,7 @@ fn labelled_of<'a>(tree: &'a Tree<'a>, typing: &'a Typing) -> Labelled<'a>
 fn results(alloc: Global, nodes: &[Node], named: &[u32]) -> Result<Vec<u32>, AllocError>
     ensures { IfOk result (λ rows. rows.items ≡ map (result_in named.now) nodes.now) }
 {
-    let mut rows = Vec::new(alloc);
+    let mut rows = Vec::with_capacity(alloc, nodes.len())?;
     for node in nodes {
         rows.push(result_in(named, node))?;
     }

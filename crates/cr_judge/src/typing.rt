@@ -1,4 +1,4 @@
-ghost use Rattle.std.specs.Prelude.{◌≡◌, ◌++◌, ◌∷◌, [], ℕ, List, OnOk, length};
+ghost use Rattle.std.specs.Prelude.{◌≡◌, ◌++◌, ◌∷◌, [], ℕ, List, IfOk, OnOk, length};
 ghost use Rattle.cr_types.specs.declared.shape.Shape as shape;
 ghost use Rattle.cr_types.specs.Types.{Qualified};
 ghost use Rattle.cr_rules.specs.Known.{source_of, AreKnown};
@@ -56,28 +56,34 @@ pub struct Typing {
     pub composite_parameters: Row<Row<u32>>,
 }
 
-/// Columns without entries.
-pub(crate) fn empty(alloc: Global) -> Typing
-    ensures { result ≡ nothing_typed }
+/// Columns without entries, with room for those of so many nodes. The error is want of memory.
+pub(crate) fn empty(alloc: Global, nodes: usize) -> Result<Typing, AllocError>
+    ensures { IfOk result (λ typing. typing ≡ nothing_typed) }
 {
-    Typing {
-        facts: Row::new(alloc),
-        specified: Row::new(alloc),
-        named: Row::new(alloc),
-        declarators: Row::new(alloc),
-        derivations: Row::new(alloc),
-        declared: Row::new(alloc),
-        parameters: Row::new(alloc),
-        members: Row::new(alloc),
-        layouts: Row::new(alloc),
-        fixed: Row::new(alloc),
-        enumerated: Row::new(alloc),
-        anchors: Row::new(alloc),
-        lines: Row::new(alloc),
-        linked: Row::new(alloc),
-        composites: Row::new(alloc),
-        composite_parameters: Row::new(alloc),
-    }
+    Ok(Typing {
+        facts: column(alloc, nodes)?,
+        specified: column(alloc, nodes)?,
+        named: column(alloc, nodes)?,
+        declarators: column(alloc, nodes)?,
+        derivations: column(alloc, nodes)?,
+        declared: column(alloc, nodes)?,
+        parameters: column(alloc, nodes)?,
+        members: column(alloc, nodes)?,
+        layouts: column(alloc, nodes)?,
+        fixed: column(alloc, nodes)?,
+        enumerated: column(alloc, nodes)?,
+        anchors: column(alloc, nodes)?,
+        lines: column(alloc, nodes)?,
+        linked: column(alloc, nodes)?,
+        composites: column(alloc, nodes)?,
+        composite_parameters: column(alloc, nodes)?,
+    })
+}
+
+fn column<T: Drop>(alloc: Global, nodes: usize) -> Result<Row<T>, AllocError>
+    ensures { IfOk result (λ column. column ≡ []) }
+{
+    Ok(Row::from_vec(Vec::with_capacity(alloc, nodes)?))
 }
 
 /// What declarations ask of the nodes so far.

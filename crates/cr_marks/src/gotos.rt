@@ -119,7 +119,7 @@ pub fn labels(
     ensures { IfOk result (λ labels. AreLabels (scene_of table.now labelled.now) labels.items) }
 {
     let held = item_labels(alloc, table, labelled)?;
-    let mut labels = Vec::new(alloc);
+    let mut labels = Vec::with_capacity(alloc, labelled.nodes.len())?;
     for at in 0..labelled.nodes.len() {
         labels.push(goto_at(table, labelled, &held, at)?)?;
     }

@@ -28,7 +28,7 @@ fn case_marks(
     requires { AreFacts table.now labelled.now.facts.now }
     ensures { IfOk result (λ marks. AreOf (case_of (scene_of table.now labelled.now)) None (length labelled.now.nodes.now) marks.items) }
 {
-    let mut marks = Vec::new(alloc);
+    let mut marks = Vec::with_capacity(alloc, labelled.nodes.len())?;
     for at in 0..labelled.nodes.len() {
         marks.push(case_at(table, labelled, at))?;
     }
@@ -51,7 +51,7 @@ fn default_marks(
 ) -> Result<Vec<Option<u32>>, AllocError>
     ensures { IfOk result (λ marks. AreOf (default_of (scene_of table.now labelled.now)) None (length labelled.now.nodes.now) marks.items) }
 {
-    let mut marks = Vec::new(alloc);
+    let mut marks = Vec::with_capacity(alloc, labelled.nodes.len())?;
     for at in 0..labelled.nodes.len() {
         marks.push(default_at(table, labelled, at))?;
     }
@@ -73,7 +73,7 @@ fn name_marks(
 ) -> Result<Vec<Option<(u32, u32)>>, AllocError>
     ensures { IfOk result (λ marks. AreOf (label_of (scene_of table.now labelled.now)) None (length labelled.now.nodes.now) marks.items) }
 {
-    let mut marks = Vec::new(alloc);
+    let mut marks = Vec::with_capacity(alloc, labelled.nodes.len())?;
     for at in 0..labelled.nodes.len() {
         marks.push(function_label(table, labelled, at))?;
     }
@@ -110,7 +110,7 @@ fn any_of(
     ensures count { IfOk result (λ again. length again.items ≡ length cases.now) }
     ensures each { IfOk result (λ again. (i : ℕ) → i < length cases.now → slice_index_or again.items i false ≡ (slice_index_or cases.now i false || (slice_index_or defaults.now i false || slice_index_or names.now i false))) }
 {
-    let mut again = Vec::new(alloc);
+    let mut again = Vec::with_capacity(alloc, cases.len())?;
     for at in 0..cases.len() {
         again.push(either(
             mark_at(cases, at),
