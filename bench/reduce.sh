@@ -1,21 +1,35 @@
 #!/usr/bin/env bash
-# Times whole reductions beside those of C-Reduce and cvise, on the same files and machine, as ratios in one run. By hand only:
-# bench/reduce.sh. The peers are the Debian packages creduce and cvise (apt-get install creduce cvise); one that isn't there is left out,
-# with a word. PEER_CREDUCE=PROGRAM names C-Reduce where it isn't /usr/bin/creduce. CREDUCE=PROGRAM takes another program than the
-# launcher at the top.
+# Times whole reductions beside those of C-Reduce and cvise, on the same files and machine, as ratios in one run: two generated programs
+# and one of csmith's whose output stays the same. By hand only: bench/reduce.sh. The peers are the Debian packages creduce and cvise, and
+# csmith's are csmith and libcsmith-dev; what isn't there is left out, with a word. PEER_CREDUCE=PROGRAM names C-Reduce where it isn't
+# /usr/bin/creduce, PEER_SECONDS=N gives a peer more or less than 600 seconds, and CREDUCE=PROGRAM takes another program than the launcher
+# at the top.
 set -u
 . "$(dirname "${BASH_SOURCE[0]}")/reductions.sh"
 begin_reductions
 creduce_peer=${PEER_CREDUCE:-/usr/bin/creduce}
+peer_seconds=${PEER_SECONDS:-600}
 
 # now: milliseconds of the clock.
 now() { echo $(($(date +%s%N) / 1000000)); }
 
-# size_of FILE: its size, as the summary says it.
-size_of() { "$program" --limit 0 has:main "$1" | awk '{print $3}'; }
+# times A B: how many times as long A is as B.
+times() { awk -v a="$1" -v b="$2" 'BEGIN { printf (a < 10 * b ? "%.1f" : "%.0f"), a / (b > 0 ? b : 1) }'; }
 
-# peer NAME PROGRAM WORDS..: the same by a peer, whose law is made of compilers: f.c is a test's yes where gcc takes it without a warning that
-# tells of undefined behaviour, its run shows none to the sanitizers, and the text is still there.
+# measure FILE: its bytes, and its size, as the summary says it, or why the program refuses it.
+measure() {
+    local said
+    said=$("$program" --limit 0 has:main "$1")
+    case $said in
+    *' size '*) said="size $(echo "$said" | awk '{ print $3 }')" ;;
+    *) said="which isn't lawful here, ${said#creduce: }" ;;
+    esac
+    echo "$(wc -c <"$1") bytes, $said"
+}
+
+# peer NAME PROGRAM WORDS..: the same by a peer, whose law is made of compilers: f.c is a test's yes where `wanted` ends well, gcc takes it
+# without a warning that tells of undefined behaviour, its run shows none to the sanitizers, and `kept` ends well, for which law.said has
+# what the run printed.
 peer() {
     local name=$1 begun
     shift
@@ -23,31 +37,73 @@ peer() {
     cp whole.c f.c
     cat >law.sh <<LAW
 #!/bin/sh
-grep -q '$wanted' f.c || exit 1
+$wanted || exit 1
 gcc -std=c11 -pedantic-errors -Wall -Werror=uninitialized -Werror=return-type -fsanitize=undefined,address -O0 f.c -o law.out 2>/dev/null || exit 1
 timeout 5 ./law.out >law.said 2>&1
-[ \$? -lt 124 ] && ! grep -q -e 'runtime error' -e Sanitizer law.said
+[ \$? -lt 124 ] && ! grep -q -e 'runtime error' -e Sanitizer law.said && $kept
 LAW
     chmod +x law.sh
+    ./law.sh || { echo "  $name: its law says no to the file"; return; }
     begun=$(now)
-    "$@" ./law.sh f.c >peer.log 2>&1 || { echo "  $name ended with $?: $(tail -n 1 peer.log)"; return; }
+    timeout "$peer_seconds" "$@" ./law.sh f.c >peer.log 2>&1 || { echo "  $name ended with $? after $(($(now) - begun)) ms: $(tail -n 1 peer.log)"; return; }
     begun=$(($(now) - begun))
-    echo "  $name: $begun ms, size $(size_of f.c), $(awk -v a="$begun" -v b="$one" 'BEGIN { printf "%.0f", a / (b > 0 ? b : 1) }') times as long as one worker"
+    echo "  $name: $begun ms, $(measure f.c), $(times "$begun" "$one") times as long as one worker"
 }
 
-# compare WHAT TEXT: whole.c with has:TEXT by one worker and by four, and by the peers with four.
-compare() {
-    wanted=$2
+peers() {
+    peer C-Reduce "$creduce_peer" --n 4
+    peer cvise cvise --n 4
+}
+
+# both WHAT TEST: whole.c by one worker and by four.
+both() {
     echo "$1, $(wc -c <whole.c) bytes:"
-    reduced --workers 1 "has:$2"
+    reduced --workers 1 "$2"
     one=$spent
     echo "  one worker: $one ms, $line"
     cp f.c result.c
-    reduced --workers 4 "has:$2"
+    reduced --workers 4 "$2"
     cmp -s f.c result.c || { echo "four workers came to another file"; exit 1; }
     echo "  four workers: $spent ms"
-    peer C-Reduce "$creduce_peer" --n 4
-    peer cvise cvise --n 4
+}
+
+# test_of COMMAND: the test program test.sh, which notes that it was asked.
+test_of() {
+    printf '#!/bin/sh\necho >>../asked\n%s\n' "$1" >test.sh
+    chmod +x test.sh
+    : >asked
+}
+
+# by_itself: the milliseconds of one trial by test.sh alone, on whole.c, of twenty.
+by_itself() {
+    local begun k
+    mkdir -p alone
+    cp whole.c alone/f.c
+    cd alone || exit 1
+    begun=$(now)
+    for ((k = 0; k < 20; k++)); do ../test.sh >/dev/null 2>&1 </dev/null || true; done
+    echo $((($(now) - begun) / 20))
+    cd ..
+}
+
+# by_program WORKERS: the same by test.sh, with its turns a second beside the test's own cost.
+by_program() {
+    : >asked
+    reduced --workers "$1" ./test.sh
+    awk -v workers="$1" -v spent="$spent" -v turns="$(echo "$line" | awk '{ print $9 }')" -v trials="$(wc -l <asked)" -v own="$(by_itself)" 'BEGIN {
+        printf "  a test program, %d workers: %d ms, %d turns, %.0f a second, %d trials, one each %.1f ms; the test by itself takes %d ms for FILE\n",
+            workers, spent, turns, 1000 * turns / (spent > 0 ? spent : 1), trials, spent / (trials > 0 ? trials : 1), own
+    }'
+}
+
+# compare WHAT TEXT: whole.c with has:TEXT by one worker and by four, by a test program that looks for TEXT, and by the peers with four.
+compare() {
+    wanted="grep -q '$2' f.c"
+    kept=true
+    both "$1" "has:$2"
+    test_of "exec $wanted"
+    by_program 1
+    peers
 }
 
 text_of 7 40 whole.c
@@ -55,14 +111,62 @@ compare 'a generated program of 40 items' 'f3(s)'
 text_of 3 60 whole.c
 compare 'a generated program of 60 items' 'f3(s)'
 
-# A test that runs the program: its output stays the same. csmith is a Debian package too.
-if command -v csmith >/dev/null; then
-    csmith --no-bitfields --no-packed-struct --no-unions --max-funcs 3 --seed 7 | gcc -E -P -I"${CSMITH_HOME:-/usr/include/csmith}" - >whole.c
-    printf '#!/bin/sh\ngcc -w f.c -o out && timeout 5 ./out | cmp -s - ../said\n' >same.sh
-    chmod +x same.sh
-    gcc -w whole.c -o out && ./out >said
-    reduced --workers 4 ./same.sh
-    echo "a csmith program whose output stays the same: $spent ms, $line"
+# headers: what csmith's headers include, as far as a program needs it that has no other library than printf.
+headers() {
+    local bits name
+    mkdir -p headers
+    for name in string float math assert; do : >"headers/$name.h"; done
+    echo 'int printf(const char *, ...);' >headers/stdio.h
+    printf '#define INT_MAX __INT_MAX__\n#define CHAR_BIT 8\n' >headers/limits.h
+    for bits in 8 16 32 64; do
+        printf 'typedef __INT%d_TYPE__ int%d_t;\ntypedef __UINT%d_TYPE__ uint%d_t;\n' $bits $bits $bits $bits
+        printf '#define INT%d_MAX __INT%d_MAX__\n#define INT%d_MIN (-INT%d_MAX - 1)\n' $bits $bits $bits $bits
+        printf '#define UINT%d_MAX __UINT%d_MAX__\n' $bits $bits
+    done >headers/stdint.h
+}
+
+# csmith_of SEED: a csmith program into whole.c, preprocessed, without those of csmith's own functions that it doesn't call. `%X` becomes
+# `%x`, which the profile has. With constants and jumps most of its programs break constraints of C11 that gcc takes with a warning.
+csmith_of() {
+    csmith --quiet --concise --no-argc --no-structs --no-unions --no-bitfields --no-packed-struct --no-volatiles --no-consts --no-jumps \
+        --max-funcs 3 --max-block-depth 2 --seed "$1" >made.c
+    gcc -E -P -nostdinc -Iheaders -I"${CSMITH_HOME:-/usr/include/csmith}" made.c | sed 's/%\(l*\)X/%\1x/' >all.c
+    awk '
+        function named(text) { return match(text, /safe_[a-z0-9_]+|transparent_crc_bytes/) ? substr(text, RSTART, RLENGTH) : "" }
+        NR == FNR { for (rest = $0; (name = named(rest)) != ""; rest = substr(rest, RSTART + RLENGTH)) uses[name]++; next }
+        { part = part $0 "\n" }
+        /^}/ || /^[^ ].*;$/ { if (uses[named(part)] != 1) printf "%s", part; part = "" }' all.c all.c >whole.c
+}
+
+# csmith_taken: the first csmith program of 6 to 9 KB, of a hundred seeds, that the program takes into whole.c; says what it refused.
+csmith_taken() {
+    local seed bytes said
+    for ((seed = 1; seed <= 100; seed++)); do
+        csmith_of "$seed"
+        bytes=$(wc -c <whole.c)
+        [ "$bytes" -ge 6000 ] && [ "$bytes" -le 9000 ] || continue
+        said=$("$program" --limit 0 has:main whole.c)
+        case $said in
+        *' size '*) return 0 ;;
+        *) echo "csmith's seed $seed, $bytes bytes: ${said#creduce: }" ;;
+        esac
+    done
+    echo 'no csmith program of 6 to 9 KB, of a hundred seeds, is in the subset'
+    return 1
+}
+
+# A test that runs the program: its output stays the same.
+if command -v csmith >/dev/null && [ -e "${CSMITH_HOME:-/usr/include/csmith}/csmith.h" ]; then
+    headers
+    if csmith_taken; then
+        gcc -w whole.c -o out && ./out >said
+        test_of 'gcc -w f.c -o out && timeout 5 ./out | cmp -s - ../said'
+        both 'a csmith program whose output stays the same' ./test.sh
+        by_program 4
+        wanted=true
+        kept="cmp -s law.said '$folder/said'"
+        peers
+    fi
 else
-    echo "csmith isn't installed"
+    echo "csmith or its headers aren't installed"
 fi
