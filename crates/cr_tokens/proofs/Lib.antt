@@ -7,6 +7,7 @@ pub mod Chains
 pub mod Longest
 pub mod Signs
 pub mod Integers
+mod Keywords
 pub mod Files
 pub mod Uniques
 pub mod Wholes

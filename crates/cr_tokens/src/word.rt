@@ -6,51 +6,40 @@ ghost use Rattle.cr_tokens.specs.Tokens.{IsToken};
 use crate::bytes::{is_among, is_word_byte, run_end};
 use crate::token::{Token, TokenKind};
 
-const KEYWORDS: [&[u8]; 44] = [
-    b"auto",
-    b"break",
-    b"case",
-    b"char",
-    b"const",
-    b"continue",
-    b"default",
-    b"do",
-    b"double",
-    b"else",
-    b"enum",
-    b"extern",
-    b"float",
-    b"for",
-    b"goto",
-    b"if",
-    b"inline",
-    b"int",
-    b"long",
-    b"register",
-    b"restrict",
-    b"return",
-    b"short",
-    b"signed",
-    b"sizeof",
-    b"static",
-    b"struct",
-    b"switch",
-    b"typedef",
-    b"union",
-    b"unsigned",
-    b"void",
-    b"volatile",
-    b"while",
-    b"_Alignas",
-    b"_Alignof",
-    b"_Atomic",
-    b"_Bool",
-    b"_Complex",
-    b"_Generic",
-    b"_Imaginary",
-    b"_Noreturn",
-    b"_Static_assert",
-    b"_Thread_local",
+/// The keywords by their lengths.
+const KEYWORDS: [&[&[u8]]; 15] = [
+    &[],
+    &[],
+    &[b"do", b"if"],
+    &[b"for", b"int"],
+    &[
+        b"auto", b"case", b"char", b"else", b"enum", b"goto", b"long", b"void",
+    ],
+    &[
+        b"break", b"const", b"float", b"short", b"union", b"while", b"_Bool",
+    ],
+    &[
+        b"double", b"extern", b"inline", b"return", b"signed", b"sizeof", b"static", b"struct",
+        b"switch",
+    ],
+    &[b"default", b"typedef", b"_Atomic"],
+    &[
+        b"continue",
+        b"register",
+        b"restrict",
+        b"unsigned",
+        b"volatile",
+        b"_Alignas",
+        b"_Alignof",
+        b"_Complex",
+        b"_Generic",
+    ],
+    &[b"_Noreturn"],
+    &[b"_Imaginary"],
+    &[],
+    &[],
+    &[b"_Thread_local"],
+    &[b"_Static_assert"],
 ];
 
 /// The keyword or identifier at a letter or underscore.
@@ -75,8 +64,9 @@ fn word_kind(word: &[u8]) -> TokenKind
     }
 }
 
+/// Whether a word is a keyword.
 fn is_keyword(word: &[u8]) -> bool
     ensures { result ≡ is_among_lem keywords word.now }
 {
-    is_among(&KEYWORDS, word)
+    word.len() < KEYWORDS.len() && is_among(KEYWORDS[word.len()], word)
 }
