@@ -4,8 +4,9 @@ ghost use Rattle.std.specs.List.{list_any};
 ghost use Rattle.cr_bindings.specs.Bindings.{entry_if};
 ghost use Rattle.cr_bindings.specs.Entities.{declared_entity, entity_at as entity_of_token, entity_within, first_in, first_of, previous_of, AreDeclaring, AreOf};
 
-use crate::last::{link_at, number_of, put};
+use crate::last::{link_at, put};
 use cr_scopes::{Entity, Names};
+use cr_syntax::number_of;
 use std::alloc::{AllocError, Global};
 
 fn entity_within(count: usize, entity: Option<u32>) -> Option<usize>

@@ -1,15 +1,6 @@
 // Columns of the last numbers with a key.
-ghost use Rattle.std.specs.Prelude.{◌≡◌, ◌<◌, ℕ, Some, None, IfOk, length, slice_index_or, slice_set, if◌then◌else◌};
+ghost use Rattle.std.specs.Prelude.{◌≡◌, ◌<◌, ℕ, Some, None, length, slice_index_or, slice_set, if◌then◌else◌};
 ghost use Rattle.cr_scopes.specs.Resolved.{is_number};
-
-use std::alloc::AllocError;
-
-/// A number in 32 bits. The error is one that doesn't fit, which counts as want of memory.
-pub fn number_of(at: usize) -> Result<u32, AllocError>
-    ensures { IfOk result (λ n. n ≡ at) }
-{
-    u32::try_from(at).map_err(|_| AllocError)
-}
 
 /// A number has this key from now on, if it has any.
 pub(crate) fn put(column: &mut Vec<Option<u32>>, key: Option<usize>, number: u32)

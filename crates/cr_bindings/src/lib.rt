@@ -16,4 +16,4 @@ mod spellings;
 mod visible;
 
 pub use bindings::{Bindings, Tag};
-pub use last::{link_at, number_of, set_link};
+pub use last::{link_at, set_link};

@@ -6,10 +6,10 @@ ghost use Rattle.cr_bindings.specs.Nodes.{content_at as content_of_node, name_at
 ghost use Rattle.cr_events.specs.Scripts.{is_identifier};
 
 use crate::entities::entity_at;
-use crate::last::{number_of, put};
+use crate::last::put;
 use cr_events::declared_by;
 use cr_scopes::Names;
-use cr_syntax::{Kind, Node};
+use cr_syntax::{Kind, Node, number_of};
 use cr_tokens::{Token, TokenKind};
 use std::alloc::{AllocError, Global};
 

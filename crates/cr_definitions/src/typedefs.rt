@@ -10,7 +10,7 @@ use crate::known::{Declarations, declarator_at, declared_at, link_at, number_at}
 use cr_declared::Declarator;
 use cr_rules::Declared;
 use cr_scopes::Names;
-use cr_syntax::CType;
+use cr_syntax::{CType, number_of};
 use cr_types::Table;
 use std::alloc::{AllocError, Global};
 
@@ -32,13 +32,6 @@ pub fn repeated(
         }
     }
     Ok(None)
-}
-
-// A number in 32 bits. Where it doesn't fit, that counts as want of memory.
-fn number_of(at: usize) -> Result<u32, AllocError>
-    ensures { IfOk result (λ n. n ≡ at) }
-{
-    u32::try_from(at).map_err(|_| AllocError)
 }
 
 // For each entity the first row that its declarations as a typedef name give it.

@@ -13,7 +13,7 @@ use cr_events::declared_by;
 use cr_rows::Row;
 use cr_rules::Declared;
 use cr_scopes::{Entity, Names};
-use cr_syntax::{Kind, Node, Unit};
+use cr_syntax::{Kind, Node, Unit, number_of};
 use std::alloc::{AllocError, Global};
 
 /// The last nodes of each kind that declare.
@@ -46,13 +46,6 @@ pub(crate) fn declarations_of(
         definitions: Row::from_vec(definitions(alloc, nodes, judged.names, entities)?),
         kept: Row::from_vec(kept(alloc, nodes, judged, entities)?),
     })
-}
-
-// A number in 32 bits. Where it doesn't fit, that counts as want of memory.
-fn number_of(at: usize) -> Result<u32, AllocError>
-    ensures { IfOk result (λ n. n ≡ at) }
-{
-    u32::try_from(at).map_err(|_| AllocError)
 }
 
 // A number has this key from now on, if it has any.

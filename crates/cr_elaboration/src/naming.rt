@@ -17,7 +17,7 @@ use crate::rows::Named;
 use cr_places::{Around, OUTERMOST, Place};
 use cr_rows::Row;
 use cr_rules::Declared;
-use cr_syntax::{Kind, Node, Unit};
+use cr_syntax::{Kind, Node, Unit, number_of};
 use cr_typed::Duration;
 use std::alloc::{AllocError, Global};
 
@@ -329,13 +329,6 @@ fn named_by(unit: &Unit, judged: &Judgement, found: &Found, at: u32) -> Named
         )),
         _ => Named::Row(0),
     }
-}
-
-// A number in 32 bits. Where it doesn't fit, that counts as want of memory.
-fn number_of(at: usize) -> Result<u32, AllocError>
-    ensures { IfOk result (λ n. n ≡ at) }
-{
-    u32::try_from(at).map_err(|_| AllocError)
 }
 
 /// The type that each declared name has, each cast names, and the function of each `return` gives.

@@ -7,6 +7,7 @@ ghost use Rattle.cr_flow.specs.Statements.{faults_of, IsBroken};
 use crate::setting::Setting;
 use crate::statements::broken;
 use cr_rules::{Break, lesser};
+use cr_syntax::number_of;
 use cr_types::Table;
 use std::alloc::AllocError;
 
@@ -33,11 +34,4 @@ fn node_fault(table: &Table, setting: &Setting, at: usize) -> Result<Option<Brea
 {
     let number = number_of(at)?;
     Ok(broken(table, setting, number, &setting.nodes[at]))
-}
-
-// A number in 32 bits. Where it doesn't fit, that counts as want of memory.
-fn number_of(at: usize) -> Result<u32, AllocError>
-    ensures { IfOk result (λ n. n ≡ at) }
-{
-    u32::try_from(at).map_err(|_| AllocError)
 }

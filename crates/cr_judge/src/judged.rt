@@ -7,10 +7,11 @@ ghost use Rattle.cr_judge.specs.Typing.{IsRuledIf, IsTyping, IsWithin, AreWithin
 ghost use Rattle.cr_judge.specs.Breaks.{expression_faults, declaration_faults, initialiser_faults, linked_faults, IsBroken};
 
 use crate::entry::{Entry, broken, entry_of};
-use crate::typing::{Typing, empty, push};
+use crate::typing::{Typing, empty, make_room, push};
 use cr_declarations::Tree;
 use cr_rows::Row;
 use cr_rules::{Break, lesser};
+use cr_syntax::number_of;
 use cr_types::Table;
 use std::alloc::{AllocError, Global};
 
@@ -37,7 +38,8 @@ pub fn judge(
     ensures broken { IfOk result (λ j. IsFirst (IsBroken tree.now texts.now table.new j.typing) j.broken) }
     ensures grows { OnOk result (Grows table.old table.new) }
 {
-    let mut typing = empty(alloc, tree.nodes.len())?;
+    let mut typing = empty(alloc);
+    make_room(&mut typing, tree.nodes.len())?;
     let mut broken = None;
     for at in 0..tree.nodes.len() {
         let one = judge_node(alloc, table, tree, texts, &typing, at)?;
@@ -75,11 +77,4 @@ fn judge_node(
     let entry = entry_of(alloc, table, tree, texts, typing, number, node)?;
     let broken = broken(alloc, table, tree, texts, typing, &entry, number, node)?;
     Ok(One { entry, broken })
-}
-
-// A number in 32 bits. Where it doesn't fit, that counts as want of memory.
-fn number_of(at: usize) -> Result<u32, AllocError>
-    ensures { IfOk result (λ n. n ≡ at) }
-{
-    u32::try_from(at).map_err(|_| AllocError)
 }

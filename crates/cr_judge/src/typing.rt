@@ -56,34 +56,51 @@ pub struct Typing {
     pub composite_parameters: Row<Row<u32>>,
 }
 
-/// Columns without entries, with room for those of so many nodes. The error is want of memory.
-pub(crate) fn empty(alloc: Global, nodes: usize) -> Result<Typing, AllocError>
-    ensures { IfOk result (λ typing. typing ≡ nothing_typed) }
+/// Columns without entries.
+pub(crate) fn empty(alloc: Global) -> Typing
+    ensures { result ≡ nothing_typed }
 {
-    Ok(Typing {
-        facts: column(alloc, nodes)?,
-        specified: column(alloc, nodes)?,
-        named: column(alloc, nodes)?,
-        declarators: column(alloc, nodes)?,
-        derivations: column(alloc, nodes)?,
-        declared: column(alloc, nodes)?,
-        parameters: column(alloc, nodes)?,
-        members: column(alloc, nodes)?,
-        layouts: column(alloc, nodes)?,
-        fixed: column(alloc, nodes)?,
-        enumerated: column(alloc, nodes)?,
-        anchors: column(alloc, nodes)?,
-        lines: column(alloc, nodes)?,
-        linked: column(alloc, nodes)?,
-        composites: column(alloc, nodes)?,
-        composite_parameters: column(alloc, nodes)?,
-    })
+    Typing {
+        facts: Row::new(alloc),
+        specified: Row::new(alloc),
+        named: Row::new(alloc),
+        declarators: Row::new(alloc),
+        derivations: Row::new(alloc),
+        declared: Row::new(alloc),
+        parameters: Row::new(alloc),
+        members: Row::new(alloc),
+        layouts: Row::new(alloc),
+        fixed: Row::new(alloc),
+        enumerated: Row::new(alloc),
+        anchors: Row::new(alloc),
+        lines: Row::new(alloc),
+        linked: Row::new(alloc),
+        composites: Row::new(alloc),
+        composite_parameters: Row::new(alloc),
+    }
 }
 
-fn column<T: Drop>(alloc: Global, nodes: usize) -> Result<Row<T>, AllocError>
-    ensures { IfOk result (λ column. column ≡ []) }
+/// Makes room in each column for the entries of so many nodes. The error is want of memory.
+pub(crate) fn make_room(typing: &mut Typing, nodes: usize) -> Result<(), AllocError>
+    ensures { typing.new ≡ typing.old }
 {
-    Ok(Row::from_vec(Vec::with_capacity(alloc, nodes)?))
+    typing.facts.reserve(nodes)?;
+    typing.specified.reserve(nodes)?;
+    typing.named.reserve(nodes)?;
+    typing.declarators.reserve(nodes)?;
+    typing.derivations.reserve(nodes)?;
+    typing.declared.reserve(nodes)?;
+    typing.parameters.reserve(nodes)?;
+    typing.members.reserve(nodes)?;
+    typing.layouts.reserve(nodes)?;
+    typing.fixed.reserve(nodes)?;
+    typing.enumerated.reserve(nodes)?;
+    typing.anchors.reserve(nodes)?;
+    typing.lines.reserve(nodes)?;
+    typing.linked.reserve(nodes)?;
+    typing.composites.reserve(nodes)?;
+    typing.composite_parameters.reserve(nodes)?;
+    Ok(())
 }
 
 /// What declarations ask of the nodes so far.

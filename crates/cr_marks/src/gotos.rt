@@ -7,17 +7,10 @@ ghost use Rattle.cr_marks.specs.Labelled.{scene_of};
 
 use crate::labelled::{Labelled, around_at, name_at};
 use crate::marks::label_at;
-use cr_syntax::Kind;
+use cr_syntax::{Kind, number_of};
 use cr_types::Table;
 use std::alloc::{AllocError, Global};
 use std::collections::HashMap;
-
-// A number in 32 bits. Where it doesn't fit, that counts as want of memory.
-fn number_of(at: usize) -> Result<u32, AllocError>
-    ensures { IfOk result (λ n. n ≡ at) }
-{
-    u32::try_from(at).map_err(|_| AllocError)
-}
 
 // A label by the compound statement that it is on an item of, and its name.
 fn item_label(table: &Table, labelled: &Labelled, at: usize) -> Option<(u32, u32)>

@@ -92,6 +92,13 @@ impl<T: Drop> Row<T> {
         Ok(())
     }
 
+    /// Makes room for so many further items. The error is want of memory.
+    pub fn reserve(&mut self, additional: usize) -> Result<(), AllocError>
+        ensures { self.new ≡ self.old }
+    {
+        self.items.reserve(additional)
+    }
+
     /// Puts an item in the place of the one at `index`.
     pub fn set(&mut self, index: usize, item: T)
         requires { index < length self.old }

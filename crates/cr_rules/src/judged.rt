@@ -12,6 +12,7 @@ use crate::least::{Break, lesser};
 use crate::rules::rule;
 use cr_operands::Fact;
 use cr_rows::Row;
+use cr_syntax::number_of;
 use cr_types::Table;
 use std::alloc::{AllocError, Global};
 
@@ -75,11 +76,4 @@ fn judge_node(
     let fact = rule(table, known, facts, number, node)?;
     let broken = broken(table, known, facts, number, node, fact);
     Ok(One { fact, broken })
-}
-
-// A number in 32 bits. Where it doesn't fit, that counts as want of memory.
-fn number_of(at: usize) -> Result<u32, AllocError>
-    ensures { IfOk result (λ n. n ≡ at) }
-{
-    u32::try_from(at).map_err(|_| AllocError)
 }

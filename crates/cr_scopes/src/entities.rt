@@ -3,9 +3,9 @@ ghost use Rattle.cr_scopes.specs.Resolved.{begins, nobody, with_token, AreNames}
 ghost use Rattle.cr_scopes.specs.Building.{told_in, number_in, AreBegun, AreNumbered, AreFilled, HasAdded};
 
 use crate::names::{Entity, Names};
-use crate::spelled::number_of as number_of_token;
 use crate::told::Told;
 use cr_rows::Row;
+use cr_syntax::number_of as number_of_token;
 use std::alloc::{AllocError, Global};
 
 /// The entities, by what the tokens stand for.

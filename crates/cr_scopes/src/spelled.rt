@@ -5,6 +5,7 @@ ghost use Rattle.cr_scopes.specs.Looking.{or_else, or_given};
 ghost use Rattle.cr_scopes.specs.Spelled.{known_as, spelling_of, name_of};
 ghost use Rattle.cr_scopes.specs.States.{name_in};
 
+use cr_syntax::number_of;
 use cr_tokens::Token;
 use indexmap::IndexMap;
 use std::alloc::{AllocError, Global};
@@ -23,13 +24,6 @@ pub fn names_of(alloc: Global, file: &[u8], tokens: &[Token]) -> Result<Vec<u32>
         names.push(first_of(alloc, &mut known, spelling_at(file, tokens, at), number)?)?;
     }
     Ok(names)
-}
-
-/// A number in 32 bits. Where it doesn't fit, that counts as want of memory.
-pub fn number_of(at: usize) -> Result<u32, AllocError>
-    ensures { IfOk result (λ n. n ≡ at) }
-{
-    u32::try_from(at).map_err(|_| AllocError)
 }
 
 fn spelling_at<'a>(file: &'a [u8], tokens: &[Token], at: usize) -> &'a [u8]

@@ -4,9 +4,9 @@ ghost use Rattle.cr_surroundings.specs.Links.{AreLinks};
 ghost use Rattle.cr_surroundings.specs.Named.{same_if, used_by, used_name, visible_if};
 
 use crate::raised::raised_of;
-use cr_bindings::{Bindings, number_of};
+use cr_bindings::Bindings;
 use cr_rows::Row;
-use cr_syntax::{Kind, Node};
+use cr_syntax::{Kind, Node, number_of};
 use std::alloc::{AllocError, Global};
 
 /// The declarations of names: columns with one entry a node.
@@ -87,6 +87,9 @@ pub(crate) fn all_links(
         earlier: Row::new(alloc),
         same: Row::new(alloc),
     };
+    links.visible.reserve(nodes.len())?;
+    links.earlier.reserve(nodes.len())?;
+    links.same.reserve(nodes.len())?;
     for at in 0..nodes.len() {
         push(&mut links, bindings, nodes, above, number_of(at)?)?;
     }

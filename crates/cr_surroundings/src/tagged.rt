@@ -3,10 +3,10 @@ ghost use Rattle.std.specs.Prelude.{◌≡◌, None, IfOk, length};
 ghost use Rattle.cr_bindings.specs.Entities.{AreOf};
 ghost use Rattle.cr_surroundings.specs.Named.{tag_of as tag_of_node, tag_with};
 
-use cr_bindings::{Bindings, Tag as Bound, number_of};
+use cr_bindings::{Bindings, Tag as Bound};
 use cr_declarations::Tag;
 use cr_scopes::Names;
-use cr_syntax::Node;
+use cr_syntax::{Node, number_of};
 use cr_tokens::Token;
 use std::alloc::{AllocError, Global};
 

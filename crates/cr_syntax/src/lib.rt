@@ -20,7 +20,7 @@ mod word;
 pub use laws::{
     latest_declaration_decides, reading_is_spelling, table_is_grammar, tokens_are_spans,
 };
-pub use node::{Kind, Node};
+pub use node::{Kind, Node, number_of};
 pub use part::{Context, MOST_LEVELS, Part};
 pub use scopes::{OpenScopes, Scope, TypeName, begin, enter, is_type};
 pub use shape::{FRESH, ends_open, first, is_bare, past_node, past_token, rest_of};

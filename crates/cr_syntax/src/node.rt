@@ -1,4 +1,7 @@
+ghost use Rattle.std.specs.Prelude.{◌≡◌, IfOk};
+
 use cr_rows::Row;
+use std::alloc::AllocError;
 
 /// What a node is: one variant for each alternative of the grammar that makes a node. A node has a token of its own, or
 /// at least two parts; an alternative that is one part alone makes none. Quoted words are tokens, the others parts.
@@ -244,4 +247,11 @@ pub struct Node {
     pub last: u32,
     /// The numbers of its parts, in order; each is below the node's own.
     pub parts: Row<u32>,
+}
+
+/// The number of a node or of a token. The error is one that doesn't fit, which counts as want of memory.
+pub fn number_of(at: usize) -> Result<u32, AllocError>
+    ensures { IfOk result (λ n. n ≡ at) }
+{
+    u32::try_from(at).map_err(|_| AllocError)
 }

@@ -5,7 +5,6 @@ ghost use Rattle.cr_surroundings.specs.Surroundings.{IsTree};
 ghost use Rattle.cr_typing.specs.Made.{statics_in};
 ghost use Rattle.cr_typing.specs.Typed.{AreColumnsOf};
 
-use cr_bindings::number_of;
 use cr_check::Judged;
 use cr_declarations::{Columns, Tree};
 use cr_elaboration::Judgement;
@@ -13,7 +12,7 @@ use cr_initialised::is_static;
 use cr_judge::{Typing, Whole};
 use cr_scopes::Names;
 use cr_surroundings::Surroundings;
-use cr_syntax::Unit;
+use cr_syntax::{Unit, number_of};
 use cr_types::Table;
 use std::alloc::{AllocError, Global};
 
