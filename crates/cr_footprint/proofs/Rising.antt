@@ -8,7 +8,7 @@ use Rattle.std.specs.Cmp.{IsTotalOrder, then_total, on_total, tied_itself}
 use Rattle.std.proofs.lemmas.Cmp.{nat_cmp_total}
 use Rattle.std.specs.List.{insert, AllWithin, HoldsAt}
 use Rattle.std.specs.List.Sorted.{IsSearchInRange, IsBinarySearchResult}
-use Rattle.std.proofs.lemmas.Bool.{eqb-true, or_cases, or_left, or_right, and_parts}
+use Rattle.std.proofs.lemmas.Bool.{eqb-true, eq-eqb, or_cases, or_left, or_right, and_parts, true≢false}
 use Rattle.std.proofs.lemmas.Bool.Decides.{nat_tests}
 use Rattle.std.proofs.Math.Seq.{drop-length, take-length}
 use Rattle.std.proofs.lemmas.List.{take-append-drop}
@@ -278,3 +278,13 @@ IsRising-one cell = IsRising-cons cell [] (λ d (there : false ≡ true). cc the
 -- a cell put behind all
 pub insert-last : (cells : List Cell) (cell : Cell) → insert cells (length cells) cell ≡ cells ++ cell ∷ []
 insert-last cells cell = rw (take-length cells) (rw (drop-length cells) refl)
+
+-- the list without cells holds none
+pub holds_none : (cells : List Cell) → length cells ≡ 0 → (c : Cell) → holds cells c ≡ false
+holds_none [] e c = refl
+holds_none (x ∷ xs) e c = absurd (omega (arith, e))
+
+-- a list that holds no cell has none
+pub none_held : (cells : List Cell) → ((c : Cell) → holds cells c ≡ false) → length cells ≡ 0
+none_held [] h = refl
+none_held (x ∷ xs) h = absurd (true≢false (rw (eq-eqb x.0 x.0 refl, eq-eqb x.1 x.1 refl) at (h x)))

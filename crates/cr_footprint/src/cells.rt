@@ -1,4 +1,4 @@
-ghost use Rattle.std.specs.Prelude.{◌≡◌, ◌&&◌, ◌||◌, false, find, IfOk, IsTrue, OnOk};
+ghost use Rattle.std.specs.Prelude.{◌≡◌, ◌&&◌, ◌||◌, ◌↔◌, false, find, IfOk, IsTrue, OnOk};
 ghost use Rattle.std.proofs.Props.{props};
 ghost use Rattle.cr_footprint.specs.Merge.{merged};
 ghost use Rattle.cr_footprint.specs.Cell.{Cell, holds, same_cell, span, IsRising, IsLeastOf};
@@ -91,7 +91,7 @@ impl Cells {
     /// Whether there is no cell.
     #[inline]
     pub fn is_empty(&self) -> bool
-        ensures { IsTrue result → (c : Cell) → has self.now c ≡ false }
+        ensures { IsTrue result ↔ ((c : Cell) → has self.now c ≡ false) }
     {
         self.list.len() == 0
     }
