@@ -19,6 +19,8 @@ mod rulings;
 #[cfg(test)]
 mod runs;
 #[cfg(test)]
+mod system;
+#[cfg(test)]
 mod tables;
 #[cfg(test)]
 mod words;

@@ -1,24 +1,15 @@
 //! `creduce [--workers N] [--window N] [--limit N] [--steps N] [--passes LETTERS] TEST FILE`: reduces FILE while the test says yes, and ends with the status of `run`, which see.
 #![tactic(auto)]
 
-mod process_judge;
-mod std_files;
-mod std_out;
-#[cfg(test)]
-mod tests;
-mod trial;
-
 ghost use Rattle.std.specs.Prelude.{◌≡◌, IfOk, length};
 
 use cr_main::run;
 use cr_pool::Bench;
-use process_judge::ProcessJudge;
+use cr_system::{ProcessJudge, StdFiles, StdOut};
 use std::alloc::AllocError;
 use std::process::ExitCode;
 use std::thread::Threads;
 use std::{env, io};
-use std_files::StdFiles;
-use std_out::StdOut;
 
 /// Status 11: no memory is left.
 const NO_MEMORY: u8 = 11;

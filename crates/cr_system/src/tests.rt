@@ -1,34 +1,10 @@
-use crate::bench;
 use crate::process_judge::ProcessJudge;
 use crate::std_files::StdFiles;
 use crate::std_out::StdOut;
-use cr_main::run;
 use cr_outside::{Answer, Files, Judge, ReadAnswer, Sink};
-use std::alloc::{AllocError, Global};
 use std::{fs, io};
 
 const NAME: &str = "creduce-test-file.c";
-
-/// A file that is reduced, with the text that it and the files beside it have then.
-const AFTER: [(&str, &str); 3] = [
-    ("creduce-test-run.c", "int main(){}"),
-    (
-        "creduce-test-run.c.orig",
-        "int main(){\nint a;\nint b;\nint c;\n}\n",
-    ),
-    (
-        "creduce-test-run.c.log",
-        "l 13 1 99 16\nl 14 1 65 19\nf 0 0 63 41\nend fixed 63 78\n",
-    ),
-];
-
-fn words(alloc: Global, list: &[&str]) -> Result<Vec<String>, AllocError> {
-    let mut words = Vec::new(alloc);
-    for word in list {
-        words.push(String::from_str(alloc, word)?)?;
-    }
-    Ok(words)
-}
 
 fn reads(answer: ReadAnswer, text: &str) -> bool {
     match answer {
@@ -55,25 +31,6 @@ fn a_real_file_is_written_read_and_missed(rt: HostRuntime) -> io::Result<()> {
 fn a_piece_goes_to_standard_output(rt: HostRuntime) {
     let mut out = StdOut::new(&rt);
     assert_eq!(rt; out.put(b"a piece of a test\n"), Ok(()));
-}
-
-#[test]
-fn a_real_file_is_reduced_beside_its_copy_and_its_log(rt: HostRuntime) -> io::Result<()> {
-    let alloc = rt.alloc();
-    let mut files = StdFiles::new(&rt);
-    let mut out = StdOut::new(&rt);
-    let mut bench = bench(&rt)?;
-    let list = words(alloc, &["has:main(){", AFTER[0].0])?;
-    assert_eq!(rt;
-        files.write(alloc, AFTER[0].0, AFTER[1].1.as_bytes()),
-        Ok(())
-    );
-    assert_eq!(rt; run(&rt, alloc, &list, &mut files, &mut bench, &mut out), 0);
-    for (name, text) in AFTER {
-        assert!(rt; reads(files.read(alloc, name, 99), text), "{name}");
-        fs::remove_file(&rt, name)?;
-    }
-    Ok(())
 }
 
 /// Tests that stand on every system, and what they answer.

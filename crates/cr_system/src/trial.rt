@@ -1,7 +1,7 @@
 // One trial: where a judge puts the variant, and how it starts the test on it.
 ghost use Rattle.std.specs.Prelude.{◌≡◌, IfOk, codes, string_bytes};
 ghost use Rattle.std.specs.Process.{command_args, command_program};
-ghost use Rattle.creduce.specs.Trial.{file_of, folder_of, shell_words};
+ghost use Rattle.cr_system.specs.Trial.{file_of, folder_of, shell_words};
 
 use std::alloc::{AllocError, Global};
 use std::fs;

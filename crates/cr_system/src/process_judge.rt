@@ -1,6 +1,6 @@
 // Programs as tests.
 ghost use Rattle.std.specs.Prelude.{◌≡◌, None};
-ghost use Rattle.creduce.specs.Trial.{Answers};
+ghost use Rattle.cr_system.specs.Trial.{Answers};
 
 use crate::trial::Trial;
 use cr_outside::{Answer, Judge};

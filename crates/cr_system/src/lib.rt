@@ -1,0 +1,17 @@
+//! The operating system behind the reducer's traits: its files, standard output, and programs as tests.
+//!
+//! Each adapter means what its trait in `cr_outside` says. It tells no content, so of the disk nothing is claimed; it answers `Failed`
+//! only where its count of faults rose. What a test program's end answers, and how the shell is told to start it, are definitions in
+//! `specs/Trial.antt`. It stands on `cr_outside` and std alone.
+#![tactic(auto)]
+
+mod process_judge;
+mod std_files;
+mod std_out;
+#[cfg(test)]
+mod tests;
+mod trial;
+
+pub use process_judge::ProcessJudge;
+pub use std_files::StdFiles;
+pub use std_out::StdOut;
