@@ -47,52 +47,52 @@ use Rattle.cr_lawful.specs.Lawful.IsReason.{of_tokens, of_unit, of_names, of_typ
 -- ---- what is ruled before the run
 
 -- the tokens have a first fault
-faulty : (file : List ℕ) (f : TokenFault) (r : Ruling) → FirstTokenFault file f → r ≡ ruling.Unlawful (reason_of file f) → Refuses file r
-faulty file f r found is = subst (Refuses file) (sym is) (λ limits. of_tokens (record { fault = f; first = found; is = refl }))
+faulty : (file : List ℕ) (raised : Bool) (f : TokenFault) (r : Ruling) → FirstTokenFault file f → r ≡ ruling.Unlawful (reason_of file f) → Refuses file raised r
+faulty file raised f r found is = subst (Refuses file raised) (sym is) (λ limits. of_tokens (record { fault = f; first = found; is = refl }))
 
 no_cause : (file : List ℕ) (f : TokenFault) → (f ≡ fault.NoMemory → ⊥) → (f ≡ fault.NoMemory) ⊎ FirstTokenFault file f → FirstTokenFault file f
 no_cause file f some (inl none) = absurd (some none)
 no_cause file f some (inr found) = found
 
-pub token_refuses : (file : List ℕ) (f : TokenFault) (r : Ruling) → (f ≡ fault.NoMemory) ⊎ FirstTokenFault file f → RulesOn file f r → Refuses file r
-token_refuses file fault.NoMemory r cause rules = subst (Refuses file) (sym rules) tt
-token_refuses file fault.TooLong r cause rules = faulty file fault.TooLong r (no_cause file fault.TooLong (λ e. cc) cause) rules
-token_refuses file (fault.BadByte place) r cause rules = faulty file (fault.BadByte place) r (no_cause file (fault.BadByte place) (λ e. cc) cause) rules
-token_refuses file (fault.OpenComment place) r cause rules = faulty file (fault.OpenComment place) r (no_cause file (fault.OpenComment place) (λ e. cc) cause) rules
-token_refuses file (fault.OpenLiteral place) r cause rules = faulty file (fault.OpenLiteral place) r (no_cause file (fault.OpenLiteral place) (λ e. cc) cause) rules
-token_refuses file (fault.TooMany place) r cause rules = faulty file (fault.TooMany place) r (no_cause file (fault.TooMany place) (λ e. cc) cause) rules
+pub token_refuses : (file : List ℕ) (raised : Bool) (f : TokenFault) (r : Ruling) → (f ≡ fault.NoMemory) ⊎ FirstTokenFault file f → RulesOn file f r → Refuses file raised r
+token_refuses file raised fault.NoMemory r cause rules = subst (Refuses file raised) (sym rules) tt
+token_refuses file raised fault.TooLong r cause rules = faulty file raised fault.TooLong r (no_cause file fault.TooLong (λ e. cc) cause) rules
+token_refuses file raised (fault.BadByte place) r cause rules = faulty file raised (fault.BadByte place) r (no_cause file (fault.BadByte place) (λ e. cc) cause) rules
+token_refuses file raised (fault.OpenComment place) r cause rules = faulty file raised (fault.OpenComment place) r (no_cause file (fault.OpenComment place) (λ e. cc) cause) rules
+token_refuses file raised (fault.OpenLiteral place) r cause rules = faulty file raised (fault.OpenLiteral place) r (no_cause file (fault.OpenLiteral place) (λ e. cc) cause) rules
+token_refuses file raised (fault.TooMany place) r cause rules = faulty file raised (fault.TooMany place) r (no_cause file (fault.TooMany place) (λ e. cc) cause) rules
 
 -- the tokens are refused
-pub parse_refuses : (file : List ℕ) (tokens : List Token) (f : ParseFault) → Tokenizes file tokens → IsRefused (lexemes_of file tokens) f
-    → Refuses file (ruling_by (parse_fault_reason file tokens f))
-parse_refuses file tokens NoMemory are refused = tt
-parse_refuses file tokens (Unexpected k) are refused = λ limits. of_unit are refused
-parse_refuses file tokens Ended are refused = λ limits. of_unit are refused
-parse_refuses file tokens (TooDeep k) are refused = λ limits. of_unit are refused
-parse_refuses file tokens (OutsideSubset k row) are refused = λ limits. of_unit are refused
+pub parse_refuses : (file : List ℕ) (raised : Bool) (tokens : List Token) (f : ParseFault) → Tokenizes file tokens → IsRefused (lexemes_of file tokens) f
+    → Refuses file raised (ruling_by (parse_fault_reason file tokens f))
+parse_refuses file raised tokens NoMemory are refused = tt
+parse_refuses file raised tokens (Unexpected k) are refused = λ limits. of_unit are refused
+parse_refuses file raised tokens Ended are refused = λ limits. of_unit are refused
+parse_refuses file raised tokens (TooDeep k) are refused = λ limits. of_unit are refused
+parse_refuses file raised tokens (OutsideSubset k row) are refused = λ limits. of_unit are refused
 
 -- the names are at fault
-pub name_refuses : (file : List ℕ) (u : source.Unit) (f : NameFault) → Tokenizes file u.tokens.list.items → IsParsed file u.tokens.list.items (tree_of u)
-    → IsUnitFault file u f → Refuses file (ruling_by (name_reason file u.tokens.list.items f))
-name_refuses file u name_fault.NoMemory are parsed first = tt
-name_refuses file u (name_fault.Unknown k) are parsed first = λ limits. of_names are parsed first refl
-name_refuses file u (name_fault.Twice k) are parsed first = λ limits. of_names are parsed first refl
+pub name_refuses : (file : List ℕ) (raised : Bool) (u : source.Unit) (f : NameFault) → Tokenizes file u.tokens.list.items → IsParsed file u.tokens.list.items (tree_of u)
+    → IsUnitFault file u f → Refuses file raised (ruling_by (name_reason file u.tokens.list.items f))
+name_refuses file raised u name_fault.NoMemory are parsed first = tt
+name_refuses file raised u (name_fault.Unknown k) are parsed first = λ limits. of_names are parsed first refl
+name_refuses file raised u (name_fault.Twice k) are parsed first = λ limits. of_names are parsed first refl
 
 -- the types are at fault
-pub type_refuses : (file : List ℕ) (u : source.Unit) (names : Names) (f : TypeFault) → Tokenizes file u.tokens.list.items
+pub type_refuses : (file : List ℕ) (raised : Bool) (u : source.Unit) (names : Names) (f : TypeFault) → Tokenizes file u.tokens.list.items
     → IsParsed file u.tokens.list.items (tree_of u) → AreUnitNames file u names → IsFirstFault file u names f
-    → Refuses file (ruling_by (type_reason file u.tokens.list.items f))
-type_refuses file u names type_fault.NoMemory are parsed known first = tt
-type_refuses file u names (type_fault.Twice k) are parsed known first = λ limits. of_types u names (type_fault.Twice k) are parsed known first refl
-type_refuses file u names (type_fault.Broken row k) are parsed known first = λ limits. of_types u names (type_fault.Broken row k) are parsed known first refl
+    → Refuses file raised (ruling_by (type_reason file u.tokens.list.items f))
+type_refuses file raised u names type_fault.NoMemory are parsed known first = tt
+type_refuses file raised u names (type_fault.Twice k) are parsed known first = λ limits. of_types u names (type_fault.Twice k) are parsed known first refl
+type_refuses file raised u names (type_fault.Broken row k) are parsed known first = λ limits. of_types u names (type_fault.Broken row k) are parsed known first refl
 
 -- ---- and with the run
 
 -- what is ruled before the run is ruled
-pub refused_rules : (limits : Limits) (file : List ℕ) (raised : Bool) (r : Ruling) → Refuses file r → Rules limits file raised r
+pub refused_rules : (limits : Limits) (file : List ℕ) (raised : Bool) (r : Ruling) → Refuses file raised r → Rules limits file raised r
 refused_rules limits file raised ruling.Lawful refuses = absurd refuses
 refused_rules limits file raised (ruling.Unlawful why) refuses = refuses limits
-refused_rules limits file raised ruling.Stopped refuses = absurd refuses
+refused_rules limits file raised ruling.Stopped refuses = refuses
 refused_rules limits file raised ruling.NoMemory refuses = tt
 
 -- the ruling on what the run of the file's unit came to

@@ -120,11 +120,12 @@ Rules limits file raised (ruling.Unlawful why) = IsReason limits file why
 Rules limits file raised ruling.Stopped = raised ≡ true
 Rules limits file raised ruling.NoMemory = Unit {0}
 
--- what one says that is made before the run: it is a reason, whatever the limits
-abbrev pub Refuses : List ℕ → Ruling → Type 0
-Refuses file (ruling.Unlawful why) = (limits : Limits) → IsReason limits file why
-Refuses file ruling.NoMemory = Unit {0}
-Refuses file other = ⊥
+-- what one says that is made before the run: it is a reason, whatever the limits; Stopped, that the stop was raised
+abbrev pub Refuses : List ℕ → Bool → Ruling → Type 0
+Refuses file raised (ruling.Unlawful why) = (limits : Limits) → IsReason limits file why
+Refuses file raised ruling.Stopped = raised ≡ true
+Refuses file raised ruling.NoMemory = Unit {0}
+Refuses file raised ruling.Lawful = ⊥
 
 -- the reason that a fault of the parser is, none for want of memory
 abbrev pub reason_if : List ℕ → List Token → Option Refusal → Option Reason

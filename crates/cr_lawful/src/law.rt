@@ -72,7 +72,7 @@ fn ruled<S: Stop>(alloc: Global, file: &[u8], limits: Limits, stop: &mut S) -> R
     ensures rules { Rules limits file.now (S.raised stop.new) result }
     ensures held { S.held stop.new ≡ S.held stop.old }
 {
-    match unit_of_file(alloc, file) {
+    match unit_of_file(alloc, file, stop) {
         Ok(typed) => ruled_on_run(alloc, file, &typed, limits, stop),
         Err(ruling) => ruling,
     }

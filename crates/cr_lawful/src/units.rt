@@ -1,5 +1,5 @@
-// The typed unit of a file, or what is ruled where it has none.
-ghost use Rattle.std.specs.Prelude.{◌≡◌, IfOk, IfErr};
+// The typed unit of a file, or what is ruled where it has none. The stop is asked before each long step.
+ghost use Rattle.std.specs.Prelude.{◌≡◌, IfOk, IfErr, OnOk, false};
 ghost use Rattle.cr_tokens.specs.Tokens.{Tokenizes};
 ghost use Rattle.cr_analysis.specs.Analysis.{IsParsed, tree_of};
 ghost use Rattle.cr_scopes.specs.Units.{AreUnitNames};
@@ -8,7 +8,7 @@ ghost use Rattle.cr_lawful.specs.Lawful.{IsTypedUnit, Refuses};
 
 use crate::reasons::{name_ruling, parse_ruling, type_ruling};
 use cr_check::{Judged, check};
-use cr_cursor::{Ruling, token_ruling};
+use cr_cursor::{Ruling, Stop, token_ruling};
 use cr_decls::parse;
 use cr_scopes::{Names, resolve};
 use cr_syntax::{Unit, tokens_are_spans};
@@ -17,69 +17,114 @@ use cr_typed::Typed;
 use cr_typing::typed;
 use std::alloc::Global;
 
-pub(crate) fn unit_of_file(alloc: Global, file: &[u8]) -> Result<Typed, Ruling>
+pub(crate) fn unit_of_file<S: Stop>(
+    alloc: Global,
+    file: &[u8],
+    stop: &mut S,
+) -> Result<Typed, Ruling>
+    requires { S.raised stop.old ≡ false }
     ensures unit { IfOk result (λ typed. IsTypedUnit file.now typed) }
-    ensures refused { IfErr result (λ ruling. Refuses file.now ruling) }
+    ensures refused { IfErr result (λ ruling. Refuses file.now (S.raised stop.new) ruling) }
+    ensures unstopped { OnOk result (S.raised stop.new ≡ false) }
+    ensures held { S.held stop.new ≡ S.held stop.old }
 {
     match read(alloc, file) {
-        Ok(tokens) => unit_of_tokens(alloc, file, &tokens),
+        Ok(tokens) => unit_of_tokens(alloc, file, &tokens, stop),
         Err(fault) => Err(token_ruling(file, fault)),
     }
 }
 
-fn unit_of_tokens(alloc: Global, file: &[u8], tokens: &Tokens) -> Result<Typed, Ruling>
-    requires { Tokenizes file.now tokens.now.list.items }
+fn unit_of_tokens<S: Stop>(
+    alloc: Global,
+    file: &[u8],
+    tokens: &Tokens,
+    stop: &mut S,
+) -> Result<Typed, Ruling>
+    requires unstopped { S.raised stop.old ≡ false }
+    requires tokens { Tokenizes file.now tokens.now.list.items }
     ensures unit { IfOk result (λ typed. IsTypedUnit file.now typed) }
-    ensures refused { IfErr result (λ ruling. Refuses file.now ruling) }
+    ensures refused { IfErr result (λ ruling. Refuses file.now (S.raised stop.new) ruling) }
+    ensures unstopped { OnOk result (S.raised stop.new ≡ false) }
+    ensures held { S.held stop.new ≡ S.held stop.old }
 {
     tokens_are_spans();
     match parse(alloc, file, tokens) {
-        Ok(unit) => with_names(alloc, file, unit),
+        Ok(unit) => with_names(alloc, file, unit, stop),
         Err(fault) => Err(parse_ruling(file, tokens.list.as_slice(), fault)),
     }
 }
 
-fn with_names(alloc: Global, file: &[u8], unit: Unit) -> Result<Typed, Ruling>
+fn with_names<S: Stop>(
+    alloc: Global,
+    file: &[u8],
+    unit: Unit,
+    stop: &mut S,
+) -> Result<Typed, Ruling>
+    requires unstopped { S.raised stop.old ≡ false }
     requires tokens { Tokenizes file.now unit.tokens.list.items }
     requires parsed { IsParsed file.now unit.tokens.list.items (tree_of unit) }
     ensures unit { IfOk result (λ typed. IsTypedUnit file.now typed) }
-    ensures refused { IfErr result (λ ruling. Refuses file.now ruling) }
+    ensures refused { IfErr result (λ ruling. Refuses file.now (S.raised stop.new) ruling) }
+    ensures unstopped { OnOk result (S.raised stop.new ≡ false) }
+    ensures held { S.held stop.new ≡ S.held stop.old }
 {
+    if stop.stop() {
+        return Err(Ruling::Stopped);
+    }
     tokens_are_spans();
     match resolve(alloc, file, &unit) {
-        Ok(names) => with_types(alloc, file, unit, &names),
+        Ok(names) => with_types(alloc, file, unit, &names, stop),
         Err(fault) => Err(name_ruling(file, unit.tokens.list.as_slice(), fault)),
     }
 }
 
-fn with_types(alloc: Global, file: &[u8], unit: Unit, names: &Names) -> Result<Typed, Ruling>
+fn with_types<S: Stop>(
+    alloc: Global,
+    file: &[u8],
+    unit: Unit,
+    names: &Names,
+    stop: &mut S,
+) -> Result<Typed, Ruling>
+    requires unstopped { S.raised stop.old ≡ false }
     requires tokens { Tokenizes file.now unit.tokens.list.items }
     requires parsed { IsParsed file.now unit.tokens.list.items (tree_of unit) }
     requires known { AreUnitNames file.now unit names.now }
     ensures unit { IfOk result (λ typed. IsTypedUnit file.now typed) }
-    ensures refused { IfErr result (λ ruling. Refuses file.now ruling) }
+    ensures refused { IfErr result (λ ruling. Refuses file.now (S.raised stop.new) ruling) }
+    ensures unstopped { OnOk result (S.raised stop.new ≡ false) }
+    ensures held { S.held stop.new ≡ S.held stop.old }
 {
+    if stop.stop() {
+        return Err(Ruling::Stopped);
+    }
     tokens_are_spans();
     match check(alloc, file, &unit, names) {
-        Ok(judged) => with_columns(alloc, file, unit, names, judged),
+        Ok(judged) => with_columns(alloc, file, unit, names, judged, stop),
         Err(fault) => Err(type_ruling(file, unit.tokens.list.as_slice(), fault)),
     }
 }
 
-fn with_columns(
+fn with_columns<S: Stop>(
     alloc: Global,
     file: &[u8],
     unit: Unit,
     names: &Names,
     judged: Judged,
+    stop: &mut S,
 ) -> Result<Typed, Ruling>
+    requires unstopped { S.raised stop.old ≡ false }
     requires tokens { Tokenizes file.now unit.tokens.list.items }
     requires parsed { IsParsed file.now unit.tokens.list.items (tree_of unit) }
     requires known { AreUnitNames file.now unit names.now }
     requires sound { IsSoundOf file.now unit names.now judged }
     ensures unit { IfOk result (λ typed. IsTypedUnit file.now typed) }
-    ensures refused { IfErr result (λ ruling. Refuses file.now ruling) }
+    ensures refused { IfErr result (λ ruling. Refuses file.now (S.raised stop.new) ruling) }
+    ensures unstopped { OnOk result (S.raised stop.new ≡ false) }
+    ensures held { S.held stop.new ≡ S.held stop.old }
 {
+    if stop.stop() {
+        return Err(Ruling::Stopped);
+    }
     tokens_are_spans();
     match typed(alloc, file, unit, names, judged) {
         Ok(typed) => Ok(typed),

@@ -1,10 +1,10 @@
 use Rattle.cr_lawful.proofs.units.with_columns.Goals as goal
 
 pub typed-requires-clause-spans : goal.typed-requires-clause-spans
-typed-requires-clause-spans c = c.tokens_are_spans.ensures c.args.file.now c.args.unit.tokens.list.items c.requires.tokens
+typed-requires-clause-spans g c = c.tokens_are_spans.ensures c.args.file.now c.args.unit.tokens.list.items c.requires.tokens
 
 pub returns-in-Ok-clause-unit : goal.returns-in-Ok-clause-unit
-returns-in-Ok-clause-unit c = record {
+returns-in-Ok-clause-unit g c = record {
   unit = c.args.unit;
   names = c.args.names.now;
   tokenizes = c.requires.tokens;
