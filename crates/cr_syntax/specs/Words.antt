@@ -1,4 +1,4 @@
--- What a token is to the grammar: the keywords of C11 6.4.1 and the punctuators of 6.4.6, in their order.
+-- What a token is to the grammar: the keywords of C11 6.4.1 and the punctuators of 6.4.6, the commonest first. No spelling stands twice, so the order tells nothing.
 use Rattle.std.specs.Prelude.{◌≡◌, ℕ, ◌≤◌, List, [], ◌∷◌, Option, None, Some, length, map, codes, if◌then◌else◌, slice_get, slice_range}
 use Rattle.std.specs.Str.{bytes_eq}
 use Rattle.std.specs.Borrow.{Bor}
@@ -18,44 +18,44 @@ entry s w = (s, w)
 -- 6.4.1
 abbrev pub keyword_table : List Entry
 keyword_table =
-    entry (codes "auto") word.Auto ∷
-    entry (codes "break") word.Break ∷
-    entry (codes "case") word.Case ∷
-    entry (codes "char") word.Char ∷
-    entry (codes "const") word.Const ∷
-    entry (codes "continue") word.Continue ∷
-    entry (codes "default") word.Default ∷
-    entry (codes "do") word.Do ∷
-    entry (codes "double") word.Double ∷
-    entry (codes "else") word.Else ∷
-    entry (codes "enum") word.Enum ∷
-    entry (codes "extern") word.Extern ∷
-    entry (codes "float") word.Float ∷
-    entry (codes "for") word.For ∷
-    entry (codes "goto") word.Goto ∷
-    entry (codes "if") word.If ∷
-    entry (codes "inline") word.Inline ∷
     entry (codes "int") word.Int ∷
-    entry (codes "long") word.Long ∷
-    entry (codes "register") word.Register ∷
-    entry (codes "restrict") word.Restrict ∷
     entry (codes "return") word.Return ∷
+    entry (codes "if") word.If ∷
+    entry (codes "static") word.Static ∷
+    entry (codes "const") word.Const ∷
+    entry (codes "unsigned") word.Unsigned ∷
+    entry (codes "char") word.Char ∷
+    entry (codes "long") word.Long ∷
     entry (codes "short") word.Short ∷
+    entry (codes "void") word.Void ∷
+    entry (codes "struct") word.Struct ∷
+    entry (codes "for") word.For ∷
+    entry (codes "while") word.While ∷
+    entry (codes "else") word.Else ∷
+    entry (codes "volatile") word.Volatile ∷
     entry (codes "signed") word.Signed ∷
     entry (codes "sizeof") word.Sizeof ∷
-    entry (codes "static") word.Static ∷
-    entry (codes "struct") word.Struct ∷
+    entry (codes "goto") word.Goto ∷
+    entry (codes "break") word.Break ∷
+    entry (codes "case") word.Case ∷
+    entry (codes "default") word.Default ∷
     entry (codes "switch") word.Switch ∷
+    entry (codes "do") word.Do ∷
+    entry (codes "enum") word.Enum ∷
     entry (codes "typedef") word.Typedef ∷
+    entry (codes "continue") word.Continue ∷
     entry (codes "union") word.Union ∷
-    entry (codes "unsigned") word.Unsigned ∷
-    entry (codes "void") word.Void ∷
-    entry (codes "volatile") word.Volatile ∷
-    entry (codes "while") word.While ∷
+    entry (codes "extern") word.Extern ∷
+    entry (codes "auto") word.Auto ∷
+    entry (codes "double") word.Double ∷
+    entry (codes "float") word.Float ∷
+    entry (codes "inline") word.Inline ∷
+    entry (codes "register") word.Register ∷
+    entry (codes "restrict") word.Restrict ∷
+    entry (codes "_Bool") word.Bool ∷
     entry (codes "_Alignas") word.Alignas ∷
     entry (codes "_Alignof") word.Alignof ∷
     entry (codes "_Atomic") word.Atomic ∷
-    entry (codes "_Bool") word.Bool ∷
     entry (codes "_Complex") word.Complex ∷
     entry (codes "_Generic") word.Generic ∷
     entry (codes "_Imaginary") word.Imaginary ∷
@@ -67,52 +67,52 @@ keyword_table =
 -- 6.4.6
 abbrev pub punctuator_table : List Entry
 punctuator_table =
-    entry (codes "[") word.LeftBracket ∷
-    entry (codes "]") word.RightBracket ∷
+    entry (codes ";") word.Semicolon ∷
+    entry (codes ",") word.Comma ∷
     entry (codes "(") word.LeftParen ∷
     entry (codes ")") word.RightParen ∷
+    entry (codes "=") word.Equal ∷
     entry (codes "{") word.LeftBrace ∷
     entry (codes "}") word.RightBrace ∷
-    entry (codes ".") word.Dot ∷
-    entry (codes "->") word.Arrow ∷
-    entry (codes "++") word.PlusPlus ∷
-    entry (codes "--") word.MinusMinus ∷
-    entry (codes "&") word.Ampersand ∷
     entry (codes "*") word.Star ∷
+    entry (codes "[") word.LeftBracket ∷
+    entry (codes "]") word.RightBracket ∷
     entry (codes "+") word.Plus ∷
     entry (codes "-") word.Minus ∷
-    entry (codes "~") word.Tilde ∷
-    entry (codes "!") word.Bang ∷
-    entry (codes "/") word.Slash ∷
-    entry (codes "%") word.Percent ∷
-    entry (codes "<<") word.LessLess ∷
-    entry (codes ">>") word.GreaterGreater ∷
+    entry (codes "&") word.Ampersand ∷
     entry (codes "<") word.Less ∷
+    entry (codes ".") word.Dot ∷
+    entry (codes "->") word.Arrow ∷
     entry (codes ">") word.Greater ∷
-    entry (codes "<=") word.LessEqual ∷
-    entry (codes ">=") word.GreaterEqual ∷
     entry (codes "==") word.EqualEqual ∷
     entry (codes "!=") word.BangEqual ∷
-    entry (codes "^") word.Caret ∷
-    entry (codes "|") word.Bar ∷
+    entry (codes "!") word.Bang ∷
+    entry (codes "<=") word.LessEqual ∷
+    entry (codes ">=") word.GreaterEqual ∷
+    entry (codes "++") word.PlusPlus ∷
+    entry (codes "--") word.MinusMinus ∷
     entry (codes "&&") word.AndAnd ∷
     entry (codes "||") word.BarBar ∷
     entry (codes "?") word.Question ∷
     entry (codes ":") word.Colon ∷
-    entry (codes ";") word.Semicolon ∷
-    entry (codes "...") word.Ellipsis ∷
-    entry (codes "=") word.Equal ∷
-    entry (codes "*=") word.StarEqual ∷
-    entry (codes "/=") word.SlashEqual ∷
-    entry (codes "%=") word.PercentEqual ∷
+    entry (codes "/") word.Slash ∷
+    entry (codes "%") word.Percent ∷
+    entry (codes "<<") word.LessLess ∷
+    entry (codes ">>") word.GreaterGreater ∷
+    entry (codes "|") word.Bar ∷
+    entry (codes "^") word.Caret ∷
+    entry (codes "~") word.Tilde ∷
     entry (codes "+=") word.PlusEqual ∷
     entry (codes "-=") word.MinusEqual ∷
+    entry (codes "*=") word.StarEqual ∷
+    entry (codes "&=") word.AmpersandEqual ∷
+    entry (codes "|=") word.BarEqual ∷
+    entry (codes "^=") word.CaretEqual ∷
     entry (codes "<<=") word.LessLessEqual ∷
     entry (codes ">>=") word.GreaterGreaterEqual ∷
-    entry (codes "&=") word.AmpersandEqual ∷
-    entry (codes "^=") word.CaretEqual ∷
-    entry (codes "|=") word.BarEqual ∷
-    entry (codes ",") word.Comma ∷
+    entry (codes "/=") word.SlashEqual ∷
+    entry (codes "%=") word.PercentEqual ∷
+    entry (codes "...") word.Ellipsis ∷
     []
 
 -- a table as the program has it

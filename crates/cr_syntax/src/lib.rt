@@ -26,4 +26,4 @@ pub use scopes::{OpenScopes, Scope, TypeName, begin, enter, is_type};
 pub use shape::{FRESH, ends_open, first, is_bare, past_node, past_token, rest_of};
 pub use typed::{CType, Shape, Typed};
 pub use unit::Unit;
-pub use word::{KEYWORDS, PUNCTUATORS, Word, word_at};
+pub use word::{Word, word_at};

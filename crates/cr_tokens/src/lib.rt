@@ -23,3 +23,4 @@ pub use measure::size;
 pub use reader::{first_fault, read};
 pub use run::contains;
 pub use token::{MAX_BYTES, MAX_TOKENS, Token, TokenFault, TokenKind, Tokens};
+pub use word::is_keyword;

@@ -64,8 +64,8 @@ fn word_kind(word: &[u8]) -> TokenKind
     }
 }
 
-/// Whether a word is a keyword.
-fn is_keyword(word: &[u8]) -> bool
+/// Whether a word is a keyword (C11 6.4.1).
+pub fn is_keyword(word: &[u8]) -> bool
     ensures { result ≡ is_among_lem keywords word.now }
 {
     word.len() < KEYWORDS.len() && is_among(KEYWORDS[word.len()], word)

@@ -2,13 +2,10 @@
 ghost use Rattle.std.specs.Prelude.{◌≡◌, ◌<◌, ◌+◌, ◌++◌, ℕ, not, Some, IfOk, OnOk, length, slice_range};
 ghost use Rattle.std.specs.List.{list_any};
 ghost use Rattle.std.specs.Str.{bytes_eq};
-ghost use Rattle.cr_tokens.specs.Bytes.{is_among};
-ghost use Rattle.cr_tokens.specs.Words.{keywords};
 ghost use Rattle.pass_names.specs.Short.{first_free, four_letters, is_taken, one_letter, short_name, three_letters, two_letters};
 
 use cr_edit::part;
-use cr_syntax::{KEYWORDS, Word};
-use cr_tokens::Token;
+use cr_tokens::{Token, is_keyword};
 use std::alloc::{AllocError, Global};
 
 fn put_one(out: &mut Vec<u8>, number: u32) -> Result<(), AllocError>
@@ -66,18 +63,6 @@ pub fn short_name(alloc: Global, number: u32) -> Result<Vec<u8>, AllocError>
     let mut name = Vec::new(alloc);
     put_name(&mut name, number)?;
     Ok(name)
-}
-
-fn is_in(table: &[(&str, Word)], name: &[u8]) -> bool
-    ensures { result ≡ list_any (λ entry. bytes_eq entry.0.now name.now) table.now }
-{
-    table.iter().any(|entry| entry.0.as_bytes() == name)
-}
-
-fn is_keyword(name: &[u8]) -> bool
-    ensures { result ≡ is_among keywords name.now }
-{
-    is_in(&KEYWORDS, name)
 }
 
 fn is_spelled(file: &[u8], tokens: &[Token], name: &[u8]) -> bool
