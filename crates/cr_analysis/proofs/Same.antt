@@ -5,9 +5,8 @@ use Rattle.std.proofs.lemmas.Option.{get_or_from_slice_get, none-some}
 use Rattle.cr_tokens.specs.declared.token.Token.{Token}
 use Rattle.cr_tokens.proofs.Wholes.{one_list}
 use Rattle.cr_syntax.specs.declared.unit.Unit as source
-use Rattle.cr_syntax.specs.Kept.{row_in}
 use Rattle.cr_syntax.specs.Units.{IsTreeOf}
-use Rattle.cr_syntax.specs.Words.{Lexeme, lexemes_of}
+use Rattle.cr_syntax.specs.Words.{Lexeme}
 use Rattle.cr_syntax.specs.Trees.{Trees}
 use Rattle.cr_machine.specs.MachineLaws.{TreeIsNotRefused}
 use Rattle.cr_machine.proofs.MachineUnitComplete.{one_unit}

@@ -1,12 +1,14 @@
 // What is read of a file.
-ghost use Rattle.std.specs.Prelude.{◌≡◌, IfOk, MatchOption, OnOk};
+ghost use Rattle.std.specs.Prelude.{◌≡◌, ℕ, List, IfOk, MatchOption, OnOk};
 ghost use Rattle.cr_scopes.specs.declared.fault.NameFault.TheVariants as name_fault;
 ghost use Rattle.cr_tokens.specs.Tokens.{HasNoTokens, Tokenizes};
 ghost use Rattle.cr_exprs.specs.declared.fault.ParseFault.TheVariants.{NoMemory};
 ghost use Rattle.cr_check.specs.declared.fault.TypeFault.TheVariants as type_fault;
-ghost use Rattle.cr_analysis.specs.Analysis.{AreItsNames, IsAnalysis, IsParsed, tree_of};
+ghost use Rattle.cr_check.specs.declared.judged.Judged.{Judged};
+ghost use Rattle.cr_analysis.specs.Analysis.{AreItsNames, IsAnalysis, IsParsed, IsUnitOf, tree_of};
+ghost use Rattle.cr_analysis.specs.Members.{structures_of};
 
-use crate::members::structures;
+use crate::members::structures_of;
 use cr_check::{TypeFault, check};
 use cr_decls::parse;
 use cr_exprs::ParseFault;
@@ -107,16 +109,25 @@ fn checked(alloc: Global, file: &[u8], unit: Unit, names: Names) -> Result<Analy
     tokens_are_spans();
     match check(alloc, file, &unit, &names) {
         Ok(judged) => {
-            let nodes = unit.nodes.as_slice();
-            let facts = judged.whole.typing.facts.as_slice();
-            let structures = structures(alloc, nodes, &judged.table, facts)?;
-            Ok(Analysis::OfUnit(unit, names, structures))
+            let structures = structures_of(alloc, &unit, &judged);
+            of_unit(unit, names, structures)
         }
         Err(fault) => {
             type_refusal(fault)?;
             Ok(Analysis::NoUnit(Row::from_vec(unit.tokens.list)))
         }
     }
+}
+
+fn of_unit(
+    unit: Unit,
+    names: Names,
+    structures: Result<Row<Option<u32>>, AllocError>,
+) -> Result<Analysis, AllocError>
+    ensures { (file : List ℕ) (judged : Judged) → Tokenizes file unit.tokens.list.items → IsUnitOf file unit.tokens.list.items unit names judged
+        → IfOk structures (λ s. s ≡ structures_of unit.nodes judged) → IfOk result (IsAnalysis file) }
+{
+    Ok(Analysis::OfUnit(unit, names, structures?))
 }
 
 fn type_refusal(fault: TypeFault) -> Result<(), AllocError>

@@ -8,8 +8,11 @@
 #![tactic(auto)]
 
 mod analysis;
+mod last_read;
 mod laws;
 mod members;
 
 pub use analysis::{Analysis, analyse};
+pub use last_read::LastRead;
 pub use laws::read_once;
+pub use members::structures_of;

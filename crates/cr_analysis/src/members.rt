@@ -2,17 +2,31 @@
 ghost use Rattle.std.specs.Prelude.{◌≡◌, ◌≤◌, IfOk, length};
 ghost use Rattle.cr_operands.specs.Values.{room_of, valued_at};
 ghost use Rattle.cr_rules.specs.Ruled.{AreFacts, facts_at, pointed_structure};
-ghost use Rattle.cr_analysis.specs.Members.{structure_of, structures_by};
+ghost use Rattle.cr_analysis.specs.Members.{structure_of, structures_by, structures_of};
 
+use cr_check::Judged;
 use cr_operands::{Fact, Value, structure_at};
 use cr_rows::Row;
 use cr_rules::{operand, value};
-use cr_syntax::{Kind, Node};
+use cr_syntax::{Kind, Node, Unit};
 use cr_types::Table;
 use std::alloc::{AllocError, Global};
 
-/// For each node the structure whose member it names, by its content, where the nodes have these facts. The error is want of memory.
-pub(crate) fn structures(
+/// For each node of a unit that was judged the structure whose member it names (C11 6.5.2.3), by its content. The error is want of memory.
+pub fn structures_of(
+    alloc: Global,
+    unit: &Unit,
+    judged: &Judged,
+) -> Result<Row<Option<u32>>, AllocError>
+    requires { AreFacts judged.now.table judged.now.whole.typing.facts }
+    ensures { IfOk result (λ structures. structures ≡ structures_of unit.now.nodes judged.now) }
+{
+    let facts = judged.whole.typing.facts.as_slice();
+    structures(alloc, unit.nodes.as_slice(), &judged.table, facts)
+}
+
+// The same of nodes that have these facts.
+fn structures(
     alloc: Global,
     nodes: &[Node],
     table: &Table,

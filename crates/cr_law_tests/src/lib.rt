@@ -8,6 +8,8 @@
 #[cfg(test)]
 mod examples;
 #[cfg(test)]
+mod left;
+#[cfg(test)]
 mod limits;
 #[cfg(test)]
 mod programs;

@@ -18,12 +18,17 @@ use std::test::Fail;
 
 // The limits of the law that a run of `creduce` has without options.
 pub(crate) fn most() -> Limits {
-    CLaw::with_steps(1_000_000).limits
+    CLaw::with_steps(1_000_000, None).limits
 }
 
 // What is ruled on a file by these limits: `lawful`, or the word, the number and the line of the reason.
 pub(crate) fn ruled(alloc: Global, file: &[u8], limits: Limits) -> Result<String, AllocError> {
-    match (CLaw { limits }).rule(alloc, file, &mut Never { looks: 0 }) {
+    ruled_by(alloc, file, &CLaw { limits, last: None })
+}
+
+// What this law rules on it, in the same words.
+pub(crate) fn ruled_by(alloc: Global, file: &[u8], law: &CLaw<'_>) -> Result<String, AllocError> {
+    match law.rule(alloc, file, &mut Never { looks: 0 }) {
         Ruling::Lawful => String::from_str(alloc, "lawful"),
         Ruling::Unlawful(reason) => reason_shown(alloc, reason),
         Ruling::Stopped => String::from_str(alloc, "stopped"),

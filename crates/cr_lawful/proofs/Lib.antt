@@ -1,1 +1,2 @@
 pub mod Rulings
+mod Programs

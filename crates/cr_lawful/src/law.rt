@@ -2,9 +2,12 @@
 ghost use Rattle.std.specs.Prelude.{◌≡◌, true, false};
 ghost use Rattle.cr_cursor.specs.declared.law.Reason.{Reason};
 ghost use Rattle.cr_lawful.specs.Lawful.{IsLawful, IsReason, IsTypedUnit, Rules, limits_of};
+ghost use Rattle.cr_lawful.specs.Programs.{IsProgram};
 
+use crate::program::{Program, analysis_of};
 use crate::reasons::run_ruling;
-use crate::units::unit_of_file;
+use crate::units::program_of_file;
+use cr_analysis::LastRead;
 use cr_cursor::{Law, Reason, Ruling, Stop};
 use cr_meaning::Limits;
 use cr_outcome::outcome;
@@ -15,14 +18,16 @@ use std::alloc::Global;
 /// subset leaves out), its names are known and declared once (6.2.1 to 6.2.3), it breaks no constraint, K1 to K43, and within the limits
 /// its run ends, with no case of undefined behaviour, U1 to U16, and none of leaving the profile, N1 to N7.
 #[derive(Clone, Copy)]
-pub struct CLaw {
+pub struct CLaw<'a> {
     pub limits: Limits,
+    /// Where what was read of a lawful file is left.
+    pub last: Option<&'a LastRead>,
 }
 
-impl CLaw {
+impl<'a> CLaw<'a> {
     /// The law with runs of so many steps; the other limits are those of the profile.
-    pub fn with_steps(steps: u64) -> CLaw
-        ensures { result ≡ record { limits = limits_of steps } }
+    pub fn with_steps(steps: u64, last: Option<&'a LastRead>) -> CLaw<'a>
+        ensures { result.limits ≡ limits_of steps }
     {
         CLaw {
             limits: Limits {
@@ -31,23 +36,12 @@ impl CLaw {
                 cells: 1_048_576,
                 output: 65_536,
             },
+            last,
         }
     }
 }
 
-/// The law with runs of 1,000,000 steps.
-impl Default for CLaw {
-    ghost use Rattle.std.specs.Prelude.{◌≡◌};
-    ghost use Rattle.cr_lawful.specs.Lawful.{limits_of};
-
-    ghost is_default = { λ law. law ≡ record { limits = limits_of 1000000 } };
-
-    fn default() -> CLaw {
-        CLaw::with_steps(1_000_000)
-    }
-}
-
-impl Law for CLaw {
+impl<'a> Law for CLaw<'a> {
     ghost use Rattle.cr_lawful.specs.Lawful.{IsLawful, IsReason};
 
     ghost lawful = { λ law file. IsLawful law.limits file };
@@ -63,18 +57,45 @@ impl Law for CLaw {
         ensures stopped { result ≡ Ruling.Stopped → S.raised stop.new ≡ true }
         ensures held { S.held stop.new ≡ S.held stop.old }
     {
-        ruled(alloc, file, self.limits, stop)
+        ruled(alloc, file, self, stop)
     }
 }
 
-fn ruled<S: Stop>(alloc: Global, file: &[u8], limits: Limits, stop: &mut S) -> Ruling
+fn ruled<S: Stop>(alloc: Global, file: &[u8], law: &CLaw<'_>, stop: &mut S) -> Ruling
     requires { S.raised stop.old ≡ false }
-    ensures rules { Rules limits file.now (S.raised stop.new) result }
+    ensures rules { Rules law.now.limits file.now (S.raised stop.new) result }
     ensures held { S.held stop.new ≡ S.held stop.old }
 {
-    match unit_of_file(alloc, file, stop) {
-        Ok(typed) => ruled_on_run(alloc, file, &typed, limits, stop),
+    match program_of_file(alloc, file, stop) {
+        Ok(program) => ruled_on_program(alloc, file, program, law, stop),
         Err(ruling) => ruling,
+    }
+}
+
+fn ruled_on_program<S: Stop>(
+    alloc: Global,
+    file: &[u8],
+    program: Program,
+    law: &CLaw<'_>,
+    stop: &mut S,
+) -> Ruling
+    requires unstopped { S.raised stop.old ≡ false }
+    requires program { IsProgram file.now program }
+    ensures rules { Rules law.now.limits file.now (S.raised stop.new) result }
+    ensures held { S.held stop.new ≡ S.held stop.old }
+{
+    let ruling = ruled_on_run(alloc, file, &program.typed, law.limits, stop);
+    if ruling == Ruling::Lawful {
+        leave(alloc, file, program, law.last);
+    }
+    ruling
+}
+
+fn leave(alloc: Global, file: &[u8], program: Program, last: Option<&LastRead>)
+    requires { IsProgram file.now program }
+{
+    if let Some(last) = last {
+        last.leave(alloc, file, analysis_of(program));
     }
 }
 

@@ -9,6 +9,7 @@
 
 mod law;
 mod laws;
+mod program;
 mod reasons;
 mod units;
 

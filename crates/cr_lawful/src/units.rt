@@ -1,48 +1,50 @@
-// The typed unit of a file, or what is ruled where it has none. The stop is asked before each long step.
+// The program of a file, or what is ruled where it has none. The stop is asked before each long step.
 ghost use Rattle.std.specs.Prelude.{◌≡◌, IfOk, IfErr, OnOk, false};
 ghost use Rattle.cr_tokens.specs.Tokens.{Tokenizes};
 ghost use Rattle.cr_analysis.specs.Analysis.{IsParsed, tree_of};
 ghost use Rattle.cr_scopes.specs.Units.{AreUnitNames};
 ghost use Rattle.cr_check.specs.Checked.{IsSoundOf};
-ghost use Rattle.cr_lawful.specs.Lawful.{IsTypedUnit, Refuses};
+ghost use Rattle.cr_lawful.specs.Lawful.{Refuses};
+ghost use Rattle.cr_lawful.specs.Programs.{IsProgram};
 
+use crate::program::{Program, program_of};
 use crate::reasons::{name_ruling, parse_ruling, type_ruling};
+use cr_analysis::structures_of;
 use cr_check::{Judged, check};
 use cr_cursor::{Ruling, Stop, token_ruling};
 use cr_decls::parse;
 use cr_scopes::{Names, resolve};
 use cr_syntax::{Unit, tokens_are_spans};
 use cr_tokens::{Tokens, read};
-use cr_typed::Typed;
 use cr_typing::typed;
 use std::alloc::Global;
 
-pub(crate) fn unit_of_file<S: Stop>(
+pub(crate) fn program_of_file<S: Stop>(
     alloc: Global,
     file: &[u8],
     stop: &mut S,
-) -> Result<Typed, Ruling>
+) -> Result<Program, Ruling>
     requires { S.raised stop.old ≡ false }
-    ensures unit { IfOk result (λ typed. IsTypedUnit file.now typed) }
+    ensures program { IfOk result (IsProgram file.now) }
     ensures refused { IfErr result (λ ruling. Refuses file.now (S.raised stop.new) ruling) }
     ensures unstopped { OnOk result (S.raised stop.new ≡ false) }
     ensures held { S.held stop.new ≡ S.held stop.old }
 {
     match read(alloc, file) {
-        Ok(tokens) => unit_of_tokens(alloc, file, &tokens, stop),
+        Ok(tokens) => program_of_tokens(alloc, file, &tokens, stop),
         Err(fault) => Err(token_ruling(file, fault)),
     }
 }
 
-fn unit_of_tokens<S: Stop>(
+fn program_of_tokens<S: Stop>(
     alloc: Global,
     file: &[u8],
     tokens: &Tokens,
     stop: &mut S,
-) -> Result<Typed, Ruling>
+) -> Result<Program, Ruling>
     requires unstopped { S.raised stop.old ≡ false }
     requires tokens { Tokenizes file.now tokens.now.list.items }
-    ensures unit { IfOk result (λ typed. IsTypedUnit file.now typed) }
+    ensures program { IfOk result (IsProgram file.now) }
     ensures refused { IfErr result (λ ruling. Refuses file.now (S.raised stop.new) ruling) }
     ensures unstopped { OnOk result (S.raised stop.new ≡ false) }
     ensures held { S.held stop.new ≡ S.held stop.old }
@@ -59,11 +61,11 @@ fn with_names<S: Stop>(
     file: &[u8],
     unit: Unit,
     stop: &mut S,
-) -> Result<Typed, Ruling>
+) -> Result<Program, Ruling>
     requires unstopped { S.raised stop.old ≡ false }
     requires tokens { Tokenizes file.now unit.tokens.list.items }
     requires parsed { IsParsed file.now unit.tokens.list.items (tree_of unit) }
-    ensures unit { IfOk result (λ typed. IsTypedUnit file.now typed) }
+    ensures program { IfOk result (IsProgram file.now) }
     ensures refused { IfErr result (λ ruling. Refuses file.now (S.raised stop.new) ruling) }
     ensures unstopped { OnOk result (S.raised stop.new ≡ false) }
     ensures held { S.held stop.new ≡ S.held stop.old }
@@ -73,7 +75,7 @@ fn with_names<S: Stop>(
     }
     tokens_are_spans();
     match resolve(alloc, file, &unit) {
-        Ok(names) => with_types(alloc, file, unit, &names, stop),
+        Ok(names) => with_types(alloc, file, unit, names, stop),
         Err(fault) => Err(name_ruling(file, unit.tokens.list.as_slice(), fault)),
     }
 }
@@ -82,14 +84,14 @@ fn with_types<S: Stop>(
     alloc: Global,
     file: &[u8],
     unit: Unit,
-    names: &Names,
+    names: Names,
     stop: &mut S,
-) -> Result<Typed, Ruling>
+) -> Result<Program, Ruling>
     requires unstopped { S.raised stop.old ≡ false }
     requires tokens { Tokenizes file.now unit.tokens.list.items }
     requires parsed { IsParsed file.now unit.tokens.list.items (tree_of unit) }
-    requires known { AreUnitNames file.now unit names.now }
-    ensures unit { IfOk result (λ typed. IsTypedUnit file.now typed) }
+    requires known { AreUnitNames file.now unit names }
+    ensures program { IfOk result (IsProgram file.now) }
     ensures refused { IfErr result (λ ruling. Refuses file.now (S.raised stop.new) ruling) }
     ensures unstopped { OnOk result (S.raised stop.new ≡ false) }
     ensures held { S.held stop.new ≡ S.held stop.old }
@@ -98,7 +100,7 @@ fn with_types<S: Stop>(
         return Err(Ruling::Stopped);
     }
     tokens_are_spans();
-    match check(alloc, file, &unit, names) {
+    match check(alloc, file, &unit, &names) {
         Ok(judged) => with_columns(alloc, file, unit, names, judged, stop),
         Err(fault) => Err(type_ruling(file, unit.tokens.list.as_slice(), fault)),
     }
@@ -108,16 +110,16 @@ fn with_columns<S: Stop>(
     alloc: Global,
     file: &[u8],
     unit: Unit,
-    names: &Names,
+    names: Names,
     judged: Judged,
     stop: &mut S,
-) -> Result<Typed, Ruling>
+) -> Result<Program, Ruling>
     requires unstopped { S.raised stop.old ≡ false }
     requires tokens { Tokenizes file.now unit.tokens.list.items }
     requires parsed { IsParsed file.now unit.tokens.list.items (tree_of unit) }
-    requires known { AreUnitNames file.now unit names.now }
-    requires sound { IsSoundOf file.now unit names.now judged }
-    ensures unit { IfOk result (λ typed. IsTypedUnit file.now typed) }
+    requires known { AreUnitNames file.now unit names }
+    requires sound { IsSoundOf file.now unit names judged }
+    ensures program { IfOk result (IsProgram file.now) }
     ensures refused { IfErr result (λ ruling. Refuses file.now (S.raised stop.new) ruling) }
     ensures unstopped { OnOk result (S.raised stop.new ≡ false) }
     ensures held { S.held stop.new ≡ S.held stop.old }
@@ -126,8 +128,7 @@ fn with_columns<S: Stop>(
         return Err(Ruling::Stopped);
     }
     tokens_are_spans();
-    match typed(alloc, file, unit, names, judged) {
-        Ok(typed) => Ok(typed),
-        Err(_) => Err(Ruling::NoMemory),
-    }
+    let structures = structures_of(alloc, &unit, &judged);
+    let typed = typed(alloc, file, unit, &names, judged);
+    program_of(typed, names, structures)
 }

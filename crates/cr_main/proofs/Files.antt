@@ -4,7 +4,7 @@ use Rattle.std.proofs.lemmas.List.{length-take, take_all}
 use Rattle.std.specs.Global.{Vec}
 use Rattle.cr_cursor.specs.declared.law.Reason.{Reason}
 use Rattle.cr_cursor.specs.TokenLaw.{reason_of}
-use Rattle.cr_lawful.specs.declared.law.CLaw.{CLaw}
+use Rattle.cr_meaning.specs.declared.run.Limits.{Limits}
 use Rattle.cr_lawful.specs.Lawful.{IsLawful, IsReason}
 use Rattle.cr_lawful.specs.Lawful.IsReason.{of_tokens, of_unit, of_names, of_types, of_run}
 use Rattle.cr_outside.proofs.Counts.{rose_earlier}
@@ -111,16 +111,16 @@ is_too_long file _ long (too_long above) = refl
 is_too_long file _ long (first at tokens short into few at_it) = absurd (omega (arith, long, short))
 is_too_long file _ long (too_many t tokens short into count token) = absurd (omega (arith, long, short))
 
-too_long_too : (law : CLaw) (file other : List ℕ) (reason : Reason) → 1048576 < length file → 1048576 < length other → IsReason law.limits file reason → IsReason law.limits other reason
-too_long_too law file other reason long above (of_tokens it) =
+too_long_too : (limits : Limits) (file other : List ℕ) (reason : Reason) → 1048576 < length file → 1048576 < length other → IsReason limits file reason → IsReason limits other reason
+too_long_too limits file other reason long above (of_tokens it) =
     of_tokens (record { fault = TooLong; first = too_long above; is = it.is ∙ ap (λ f. reason_of file f) (is_too_long file it.fault long it.first) })
-too_long_too law file other _ long above (of_unit are _) = absurd (omega (arith, long, are.short))
-too_long_too law file other _ long above (of_names are _ _ _) = absurd (omega (arith, long, are.short))
-too_long_too law file other _ long above (of_types _ _ _ are _ _ _ _) = absurd (omega (arith, long, are.short))
-too_long_too law file other _ long above (of_run _ _ it _ _) = absurd (omega (arith, long, it.tokenizes.short))
+too_long_too limits file other _ long above (of_unit are _) = absurd (omega (arith, long, are.short))
+too_long_too limits file other _ long above (of_names are _ _ _) = absurd (omega (arith, long, are.short))
+too_long_too limits file other _ long above (of_types _ _ _ are _ _ _ _) = absurd (omega (arith, long, are.short))
+too_long_too limits file other _ long above (of_run _ _ it _ _) = absurd (omega (arith, long, it.tokenizes.short))
 
-pub law_is_of_programs : (law : CLaw) → IsOfPrograms (IsLawful law.limits) (IsReason law.limits)
-law_is_of_programs law = record {
+pub law_is_of_programs : (limits : Limits) → IsOfPrograms (IsLawful limits) (IsReason limits)
+law_is_of_programs limits = record {
   tokenizes = λ file lawful. record { tokens = lawful.of_file.unit.tokens.list.items; tokenizes = lawful.of_file.tokenizes };
-  too_long = too_long_too law;
+  too_long = too_long_too limits;
 }

@@ -14,6 +14,7 @@ use crate::names::own_name;
 use crate::run_task::{run_bytes, run_stored};
 use crate::status;
 use crate::task::Task;
+use cr_analysis::LastRead;
 use cr_gen::make;
 use cr_lawful::CLaw;
 use cr_outside::{Files, Judge, Sink};
@@ -89,10 +90,12 @@ fn run_settings<R: Threads + Sync, F: Files, J: Judge + Send, O: Sink>(
     ensures keys { keys_of J.Judge bench.new ≡ keys_of J.Judge bench.old }
 {
     let name = source_name(&settings.source);
+    let last = LastRead::new();
     let passes = CPasses {
         enabled: settings.enabled,
+        last: Some(&last),
     };
-    let law = CLaw::with_steps(settings.steps);
+    let law = CLaw::with_steps(settings.steps, Some(&last));
     let task = Task {
         passes: &passes,
         law: &law,

@@ -825,6 +825,7 @@ fn check<P: Passes>(
 fn check_all(rt: &impl Abort, alloc: Global, table: &str) -> Result<(), AllocError> {
     let passes = CPasses {
         enabled: [true; 10],
+        last: None,
     };
     let mut rows = table.lines();
     let file = bytes_of(alloc, rows.next().unwrap_or(""))?;

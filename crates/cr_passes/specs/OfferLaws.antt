@@ -1,5 +1,7 @@
 -- A file has one offer, a level has no more variants than the file has bytes, and there are ten passes of 16 levels.
 use native.Mathlib.Omega.{arith}
+use mathlib.Core.Logic.{∥∥₁_elim}
+use Rattle.std.proofs.Props.{props}
 use Rattle.std.proofs.Common.{◌≡◌, ℕ, ◌+◌, ◌-◌, ◌<◌, ◌≤◌, Bool, true, false, List, [], ◌∷◌, Option, Some, None, length, map, if◌then◌else◌, ◌==◌, refl, sym, ap, subst, ◌∙◌, zero, suc, inl, inr}
 use Rattle.std.specs.Prelude.{nat_eq, nat_le, ◌&&◌, slice_index_or}
 use Rattle.std.specs.Int.{div_ceil}
@@ -100,9 +102,8 @@ one_offered file read Renamed menu other is also = one_by_tokens read.tokens _ m
 one_offered file read Printed menu other is also = one_by_tokens read.tokens _ menu other (λ ts. one_by_tree read.tree _ menu other (λ t a b. one_printed file ts menu other a.offered b.offered)) is also
 one_offered file read NotThere menu other is also = is ∙ sym also
 
-one_known : (enabled : List Bool) (file : List ℕ) (known other : Known) → IsKnown enabled file known → IsKnown enabled file other → known ≡ other
-one_known enabled file known other a b =
-    let read = one_read file a.read b.read a.is_read b.is_read in
+known_by : (enabled : List Bool) (file : List ℕ) (known other : Known) (a : IsKnown enabled file known) (b : IsKnown enabled file other) → a.read ≡ b.read → known ≡ other
+known_by enabled file known other a b read =
     let lines = a.lines ∙ sym b.lines in
     let menus = ext_get_or nothing known.menus other.menus (a.count ∙ sym b.count) (λ i low.
     let below : i < 10 = subst (λ n. i < n) a.count low in
@@ -110,6 +111,10 @@ one_known enabled file known other a b =
     (one_offered file a.read (pass_by i) (menu_at known.menus i) (menu_at other.menus i)) (a.menus i below)
     (subst (λ r. IfOn (is_on enabled i) (IsOffered file r (pass_by i)) (menu_at other.menus i)) (sym read) (b.menus i below))) in
     ap {B = Known} (λ x. record { lines = x; menus = known.menus }) lines ∙ ap {B = Known} (λ x. record { lines = other.lines; menus = x }) menus
+
+one_known : (enabled : List Bool) (file : List ℕ) (known other : Known) → IsKnown enabled file known → IsKnown enabled file other → known ≡ other
+one_known enabled file known other a b =
+    ∥∥₁_elim a.is_read (hlevel props) (λ is. ∥∥₁_elim b.is_read (hlevel props) (λ also. known_by enabled file known other a b (one_read file a.read b.read is also)))
 
 pub one_offer : (enabled : List Bool) (file : List ℕ) (o other : Offer) → Offers enabled file o → Offers enabled file other → o ≡ other
 one_offer enabled file o other a b = a.is ∙ ap (λ k. offer_of k file) (one_known enabled file a.known b.known a.is_known b.is_known) ∙ sym b.is
@@ -184,7 +189,7 @@ level_few f (k ∷ ks) most few (suc level) = level_few f ks most few level
 runs_offered : (file : List ℕ) (tokens : List Token) → Tokenizes file tokens → (level : ℕ) → length (level_of (t_offering tokens) level) ≤ length file
 runs_offered file tokens is level = level_few (runs_gone tokens) (15 ∷ (7 ∷ (3 ∷ (1 ∷ (0 ∷ []))))) (length file) (runs_few file tokens is) level
 
-read_tokens : (file : List ℕ) (read : Read) (tokens : List Token) → IsRead file read → read.tokens ≡ Some tokens → Tokenizes file tokens
+pub read_tokens : (file : List ℕ) (read : Read) (tokens : List Token) → IsRead file read → read.tokens ≡ Some tokens → Tokenizes file tokens
 read_tokens file _ tokens (no_tokens none) e = absurd (none-some tokens e)
 read_tokens file _ tokens (no_unit {tokens = ts} is none) e = let same : ts ≡ tokens = cc in subst (Tokenizes file) same is
 read_tokens file _ tokens (of_unit {tokens = ts} is are) e = let same : ts ≡ tokens = cc in subst (Tokenizes file) same is
@@ -245,7 +250,7 @@ few_known : (enabled : List Bool) (file : List ℕ) (known : Known) (pass level 
 few_known enabled file known pass level is = elim (pass == 0) as (λ t. (if t then chunks_of known.lines 0 level else length (level_of (menu_at known.menus pass) level)) ≤ length file) [
   | true ↦ (let chunks = chunks_few known.lines 0 level in let lines = lines_known (is_on enabled 0) file in let known_lines = is.lines in omega (arith, chunks, lines, known_lines))
   | false ↦ known_menu enabled file known pass (λ m. length (level_of m level) ≤ length file) is
-      (λ offered. few_in file is.read (pass_by pass) (menu_at known.menus pass) level is.is_read offered) (omega arith)
+      (λ offered. ∥∥₁_elim is.is_read (hlevel props) (λ read. few_in file is.read (pass_by pass) (menu_at known.menus pass) level read offered)) (omega arith)
 ]
 
 pub few_variants : (enabled : List Bool) (file : List ℕ) (o : Offer) (pass level : ℕ) → Offers enabled file o → o.widths pass level ≤ length file

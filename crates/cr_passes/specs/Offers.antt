@@ -1,8 +1,11 @@
 -- What the passes offer for a file.
-use Rattle.std.specs.Prelude.{◌≡◌, ◌<◌, ◌≤◌, ℕ, Bool, true, false, List, [], ◌∷◌, Option, Some, None, length, slice_index_or, ◌==◌, if◌then◌else◌}
+use Rattle.std.specs.Prelude.{◌≡◌, ◌<◌, ◌≤◌, ℕ, Bool, true, false, List, [], Option, Some, None, length, slice_index_or, ◌==◌, if◌then◌else◌}
 use Rattle.cr_tokens.specs.declared.token.Token.{Token}
+use Rattle.cr_tokens.specs.Tokens.{Tokenizes}
 use Rattle.cr_cursor.specs.Variants.{Offer}
 use Rattle.cr_analysis.specs.Analysis.{IsRead, Read, Tree}
+use Rattle.cr_analysis.specs.declared.analysis.Analysis.{Analysis}
+use Rattle.cr_analysis.specs.declared.analysis.Analysis.TheVariants.{OfUnit}
 use Rattle.cr_edit.specs.Forms.{nothing_kept}
 use Rattle.cr_edit.specs.Menu.{Offering, entry_of, level_of}
 use Rattle.pass_text.specs.Brackets.{IsBracketOffering}
@@ -83,6 +86,11 @@ IsOffered file read Renamed menu = ByTokens read.tokens (λ tokens. ByTree read.
 IsOffered file read Printed menu = ByTokens read.tokens (λ tokens. ByTree read.tree (λ tree. IsOfFew (length file) (IsPrintedOffering file tokens))) menu
 IsOffered file read NotThere menu = menu ≡ nothing
 
+-- the tokens of a unit that is read are the file's
+abbrev pub HasFilesTokens : List ℕ → Analysis → Type 0
+HasFilesTokens file (OfUnit unit names structures) = Tokenizes file unit.tokens.list.items
+HasFilesTokens file other = Unit {0}
+
 -- what is offered by what is known
 abbrev pub offer_of : Known → List ℕ → Offer
 offer_of known file = record {
@@ -94,10 +102,11 @@ offer_of known file = record {
 abbrev pub AreMenus : List Bool → List ℕ → Read → ℕ → List Offering → Type 0
 AreMenus enabled file read most menus = (pass : ℕ) → pass < most → IfOn (is_on enabled pass) (IsOffered file read (pass_by pass)) (menu_at menus pass)
 
--- What is known of a file: the lines, where they are enabled, and the menus of the ten passes by what is read of it.
+-- What is known of a file: the lines, where they are enabled, and the menus of the ten passes by what is read of it. How it is read may
+-- be known without a derivation, as what lies behind a lock is; there is one reading at most.
 pub record IsKnown (enabled : List Bool) (file : List ℕ) (known : Known) : Type 0 where
   pub read : Read
-  pub is_read : IsRead file read
+  pub is_read : ∥ IsRead file read ∥₁
   pub lines : known.lines ≡ (if is_on enabled 0 then length (lines_of file) else 0)
   pub count : length known.menus ≡ 10
   pub menus : AreMenus enabled file read 10 known.menus

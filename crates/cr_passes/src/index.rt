@@ -1,7 +1,7 @@
 // What is made once for a file.
 ghost use Rattle.std.specs.Prelude.{◌≡◌, ◌≤◌, true, IfOk, MatchOption, length};
 ghost use Rattle.cr_analysis.specs.Analysis.{IsAnalysis, read_of};
-ghost use Rattle.cr_passes.specs.Offers.{AreMenus, ByNames, ByStructures, ByTokens, ByTree, IfOn, IsFew, IsKnown, IsOfFew, IsOffered, is_on, menu_at, nothing};
+ghost use Rattle.cr_passes.specs.Offers.{AreMenus, ByNames, ByStructures, ByTokens, ByTree, HasFilesTokens, IfOn, IsFew, IsKnown, IsOfFew, IsOffered, is_on, menu_at, nothing};
 ghost use Rattle.cr_passes.specs.Passes.{pass_by};
 ghost use Rattle.pass_exprs.specs.Expressions.{c_offering};
 ghost use Rattle.pass_inline.specs.Inlined.{i_offering};
@@ -69,7 +69,8 @@ pub fn index_of(
     analysis: &Analysis,
 ) -> Result<Index, NoMemory>
     requires short { length file.now ≤ 1048576 }
-    requires analysis { IsAnalysis file.now analysis.now }
+    requires analysis { ∥ IsAnalysis file.now analysis.now ∥₁ }
+    requires tokens { HasFilesTokens file.now analysis.now }
     ensures { IfOk result (λ index. IsKnown enabled.now file.now index) }
 {
     let lines = if is_on(enabled, 0) {
@@ -87,7 +88,7 @@ fn menus(
     file: &[u8],
     analysis: &Analysis,
 ) -> Result<Vec<Menu>, NoMemory>
-    requires { IsAnalysis file.now analysis.now }
+    requires { HasFilesTokens file.now analysis.now }
     ensures count { IfOk result (λ menus. length menus.items ≡ 10) }
     ensures menus { IfOk result (λ menus. AreMenus enabled.now file.now (read_of analysis.now) 10 menus.items) }
 {
@@ -114,7 +115,7 @@ fn menu(
     file: &[u8],
     analysis: &Analysis,
 ) -> Result<Menu, NoMemory>
-    requires { IsAnalysis file.now analysis.now }
+    requires { HasFilesTokens file.now analysis.now }
     ensures { IfOk result (IfOn on (IsOffered file.now (read_of analysis.now) (pass_by pass))) }
 {
     if on {
@@ -125,7 +126,7 @@ fn menu(
 }
 
 fn offered(alloc: Global, pass: Pass, file: &[u8], analysis: &Analysis) -> Result<Menu, NoMemory>
-    requires { IsAnalysis file.now analysis.now }
+    requires { HasFilesTokens file.now analysis.now }
     ensures { IfOk result (IsOffered file.now (read_of analysis.now) pass) }
 {
     match pass {
@@ -241,7 +242,7 @@ fn expressions_offered(alloc: Global, file: &[u8], analysis: &Analysis) -> Resul
 }
 
 fn printed_offered(alloc: Global, file: &[u8], analysis: &Analysis) -> Result<Menu, NoMemory>
-    requires { IsAnalysis file.now analysis.now }
+    requires { HasFilesTokens file.now analysis.now }
     ensures { IfOk result (ByTokens (read_of analysis.now).tokens (λ tokens. ByTree (read_of analysis.now).tree (λ tree. IsOfFew (length file.now) (IsPrintedOffering file.now tokens)))) }
 {
     match analysis {

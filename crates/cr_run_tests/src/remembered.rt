@@ -59,7 +59,7 @@ impl<'a> Judge for Counted<'a> {
 /// Hands each call on to pass l, and counts the files that an index was made of.
 #[derive(Drop)]
 struct Counting<'a> {
-    lines: CPasses,
+    lines: CPasses<'a>,
     prepared: &'a AtomicU64,
 }
 

@@ -1,7 +1,6 @@
 // A run on the files of the operating system.
 use crate::workers::words_of;
 use cr_main::run;
-use cr_outside::{Files, ReadAnswer};
 use cr_pool::Bench;
 use cr_system::{ProcessJudge, StdFiles, StdOut};
 use std::alloc::AllocError;
@@ -20,13 +19,6 @@ const AFTER: [(&str, &str); 3] = [
     ),
 ];
 
-fn reads(answer: ReadAnswer, text: &str) -> bool {
-    match answer {
-        ReadAnswer::Bytes(bytes) => bytes.as_slice() == text.as_bytes(),
-        ReadAnswer::Absent | ReadAnswer::Failed | ReadAnswer::NoMemory => false,
-    }
-}
-
 fn bench(rt: &HostRuntime) -> Result<Bench<ProcessJudge<'_, HostRuntime>>, AllocError> {
     let mut judges = Vec::new(rt.alloc());
     judges.push(ProcessJudge::new(rt, 0))?;
@@ -41,13 +33,13 @@ fn a_real_file_is_reduced_beside_its_copy_and_its_log(rt: HostRuntime) -> io::Re
     let mut out = StdOut::new(&rt);
     let mut bench = bench(&rt)?;
     let list = words_of(alloc, 2, 256, "has:main(){ creduce-test-run.c")?;
-    assert_eq!(rt;
-        files.write(alloc, AFTER[0].0, AFTER[1].1.as_bytes()),
-        Ok(())
-    );
+    fs::write(&rt, AFTER[0].0, AFTER[1].1.as_bytes())?;
     assert_eq!(rt; run(&rt, alloc, &list, &mut files, &mut bench, &mut out), 0);
     for (name, text) in AFTER {
-        assert!(rt; reads(files.read(alloc, name, 99), text), "{name}");
+        assert!(rt;
+            fs::read(&rt, name)?.as_slice() == text.as_bytes(),
+            "{name}"
+        );
         fs::remove_file(&rt, name)?;
     }
     Ok(())

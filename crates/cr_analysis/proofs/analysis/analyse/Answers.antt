@@ -1,4 +1,4 @@
-use Rattle.std.proofs.Common.{◌≡◌, MatchOption, subst}
+use Rattle.std.proofs.Common.{MatchOption, subst}
 use Rattle.cr_tokens.specs.Tokens.{HasNoTokens, Tokenizes}
 use Rattle.cr_analysis.specs.Analysis.{no_tokens}
 use Rattle.cr_analysis.proofs.analysis.analyse.Goals as goal

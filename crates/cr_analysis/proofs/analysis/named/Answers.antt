@@ -1,4 +1,4 @@
-use Rattle.std.proofs.Common.{◌≡◌, Some, subst, sym}
+use Rattle.std.proofs.Common.{Some, subst, sym}
 use Rattle.cr_analysis.specs.Analysis as read
 use Rattle.cr_analysis.specs.Analysis.{IsRead, tokens_alone}
 use Rattle.cr_analysis.proofs.Same.{unnamed}

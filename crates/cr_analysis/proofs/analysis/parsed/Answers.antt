@@ -1,4 +1,4 @@
-use Rattle.std.proofs.Common.{◌≡◌, Some, subst, sym}
+use Rattle.std.proofs.Common.{Some, subst, sym}
 use Rattle.cr_tokens.specs.Tokens.{Tokenizes}
 use Rattle.cr_syntax.specs.Kept.{row_in}
 use Rattle.cr_syntax.specs.Units.{IsTreeOf}

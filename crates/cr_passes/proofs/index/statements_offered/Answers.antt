@@ -1,4 +1,4 @@
-use Rattle.std.proofs.Common.{◌≡◌, IfOk, length, subst, sym, ◌∙◌, ap}
+use Rattle.std.proofs.Common.{◌≡◌, IfOk, length, subst, sym}
 use Rattle.cr_analysis.specs.Analysis.{read_of}
 use Rattle.pass_stmts.specs.Statements.{s_offering}
 use Rattle.cr_passes.specs.Offers.{ByTokens, ByTree, IsOfFew}

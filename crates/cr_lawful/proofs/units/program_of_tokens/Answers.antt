@@ -5,7 +5,7 @@ use Rattle.cr_syntax.specs.Words.{lexemes_of}
 use Rattle.cr_tokens.specs.Tokens.{Tokenizes}
 use Rattle.cr_lawful.specs.Lawful.{Refuses, parse_fault_reason, ruling_by}
 use Rattle.cr_lawful.proofs.Rulings.{parse_refuses}
-use Rattle.cr_lawful.proofs.units.unit_of_tokens.Goals as goal
+use Rattle.cr_lawful.proofs.units.program_of_tokens.Goals as goal
 
 pub parse_ruling-requires : goal.parse_ruling-requires
 parse_ruling-requires g c = c.requires.tokens.short
