@@ -77,9 +77,9 @@ fn joins(alloc: Global, table: &Table, store: &mut Store) -> i128 {
     let sum = op(alloc, Work::Binary(Change::Arithmetic(Operator::Add, IntKind::Int)), Access::Unused);
     let mut last: i128 = 0;
     for _ in 0..TIMES {
-        if let (Some(left), Some(right)) = (part(alloc, last & 0xffff, 0), part(alloc, 7, 1)) {
-            if let Ok(part) = join_two(alloc, table, store, &sum, left, right) {
-                last = number(&part.value);
+        if let (Some(mut left), Some(mut right)) = (part(alloc, last & 0xffff, 0), part(alloc, 7, 1)) {
+            if join_two(alloc, table, store, &sum, &mut left, &mut right).is_ok() {
+                last = number(&left.value);
             }
         }
     }

@@ -53,13 +53,20 @@ fn called(alloc: Global, node: u32, body: u32, stack: &mut Stack<Held>) -> Resul
     }
 }
 
-// Gives a node's answer to the one that waits for it, or answers it.
-fn give(stack: &mut Stack<Held>, held: Held) -> Result<Option<Held>, Halted> {
-    if !stack.end() {
-        return Ok(Some(held));
+// Hands a node's answer to the one that waits for it, or answers it.
+fn hand_up(stack: &mut Stack<Held>) -> Result<Option<Held>, Halted> {
+    if stack.hand_up() {
+        return Ok(None);
     }
+    match stack.pop() {
+        Some(held) => Ok(Some(held)),
+        None => Err(Halted::NoMemory),
+    }
+}
+
+fn give(stack: &mut Stack<Held>, held: Held) -> Result<Option<Held>, Halted> {
     match stack.give(held) {
-        Ok(()) => Ok(None),
+        Ok(()) => hand_up(stack),
         Err(_) => Err(Halted::NoMemory),
     }
 }
@@ -86,8 +93,8 @@ fn turn(
             give(stack, held)
         }
         Way::Ready => {
-            let held = expression(alloc, table, world, op, node, stack)?;
-            give(stack, held)
+            expression(alloc, table, world, op, node, stack)?;
+            hand_up(stack)
         }
         _ => Err(Halted::NoMemory),
     }

@@ -3,9 +3,10 @@ ghost use Rattle.std.specs.Prelude.{◌≡◌, List};
 ghost use Rattle.std.specs.List.{AllZip};
 ghost use Rattle.cr_eval.specs.Table.{program_of};
 ghost use Rattle.cr_join.specs.Turns.{is_expression};
-ghost use Rattle.cr_meaning.specs.World.{Answer};
+ghost use Rattle.cr_meaning.specs.Nodes.{Act};
+ghost use Rattle.cr_meaning.specs.World.{Answer, World as SpecWorld};
 ghost use Rattle.cr_meaning.specs.Meaning.{before_by, join_by};
-ghost use Rattle.cr_slices.specs.Shown.{Worked, Joined, TakesAtMostOne};
+ghost use Rattle.cr_slices.specs.Shown.{Worked, Joined, Leaves, TakesAtMostOne};
 ghost use Rattle.cr_turns.specs.Held.{shows};
 ghost use Rattle.cr_world.specs.Worlds.{world_of};
 ghost use Rattle.cr_exec.specs.Runs.{IsNoCall};
@@ -69,6 +70,23 @@ fn before_op(
     }
 }
 
+/// Puts the answer of a node in the place of its parts' answers. The error is its own, or want of memory.
+fn put(stack: &mut Stack<Held>, held: Result<Held, Halted>) -> Result<(), Halted>
+    ensures work { (act : Act) (world : SpecWorld) → Joined shows act held world → Leaves shows act result stack.new.top.done world }
+    ensures below { stack.new.below ≡ stack.old.below }
+{
+    match held {
+        Ok(held) => {
+            stack.keep(0);
+            match stack.give(held) {
+                Ok(()) => Ok(()),
+                Err(_) => Err(Halted::NoMemory),
+            }
+        }
+        Err(halted) => Err(halted),
+    }
+}
+
 #[inline]
 fn join_other(
     alloc: Global,
@@ -77,18 +95,18 @@ fn join_other(
     op: &Op,
     node: u32,
     stack: &mut Stack<Held>,
-) -> Result<Held, Halted>
+) -> Result<(), Halted>
     requires { IsNoCall op.now.work }
     ensures work { (answers : List Answer) → AllZip shows stack.old.top.done answers
-        → Joined shows (join_by (program_of table.now) node op.now op.now.work answers (world_of world.old)) result (world_of world.new) }
+        → Leaves shows (join_by (program_of table.now) node op.now op.now.work answers (world_of world.old)) result stack.new.top.done (world_of world.new) }
     ensures below { stack.new.below ≡ stack.old.below }
     ensures steps { world.new.steps ≡ world.old.steps }
 {
     if is_expression(&op.work) {
-        expression(alloc, table, world, op, node, stack)
-    } else {
-        statement(alloc, table, world, op, node, stack)
+        return expression(alloc, table, world, op, node, stack);
     }
+    let held = statement(alloc, table, world, op, node, stack);
+    put(stack, held)
 }
 
 #[inline]
@@ -99,14 +117,17 @@ fn join_op(
     op: &Op,
     node: u32,
     stack: &mut Stack<Held>,
-) -> Result<Held, Halted>
+) -> Result<(), Halted>
     ensures work { (answers : List Answer) → AllZip shows stack.old.top.done answers
-        → Joined shows (join_by (program_of table.now) node op.now op.now.work answers (world_of world.old)) result (world_of world.new) }
+        → Leaves shows (join_by (program_of table.now) node op.now op.now.work answers (world_of world.old)) result stack.new.top.done (world_of world.new) }
     ensures below { stack.new.below ≡ stack.old.below }
     ensures steps { world.new.steps ≡ world.old.steps }
 {
     match &op.work {
-        Work::Call(callee) => call_end(alloc, table, world, callee, node, stack),
+        Work::Call(callee) => {
+            let held = call_end(alloc, table, world, callee, node, stack);
+            put(stack, held)
+        }
         _ => join_other(alloc, table, world, op, node, stack),
     }
 }
@@ -146,7 +167,7 @@ impl<'a> Nodes for Running<'a> {
     }
 
     #[inline]
-    fn join(&mut self, stack: &mut Stack<Held>) -> Result<Held, Halted> {
+    fn join(&mut self, stack: &mut Stack<Held>) -> Result<(), Halted> {
         let node = stack.node();
         match self.table.ops.as_slice().get(node as usize) {
             Some(op) => join_op(self.alloc, self.table, &mut self.world, op, node, stack),

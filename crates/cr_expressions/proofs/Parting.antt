@@ -1,10 +1,10 @@
 -- Operands' answers and what is kept of them.
 use Rattle.std.proofs.Common.{◌≡◌, ℕ, Option, Some, None, Result, Ok, Err, List, [], ◌∷◌, ◌++◌, length, refl, sym, ap, ◌∙◌, subst, arith, length-append}
+use Rattle.std.specs.Prelude.{OnOk, IfErr}
 use Rattle.std.specs.List.{AllZip}
 use Rattle.cr_memory.specs.declared.value.Trap.{Trap}
 use Rattle.cr_memory.specs.declared.value.Trap.TheVariants.{Undefined, Left, NoMemory}
 use Rattle.cr_meaning.specs.Events.{Event}
-use Rattle.cr_meaning.specs.Language.{went}
 use Rattle.cr_meaning.specs.World.{Program, World, Answer, part, Binding, object_for}
 use Rattle.cr_meaning.specs.Nodes.{Act, expression}
 use Rattle.cr_meaning.specs.declared.op.Op.{Op}
@@ -15,17 +15,56 @@ use Rattle.cr_meaning.specs.declared.value.Value.{Value}
 use Rattle.cr_join.specs.declared.part.Part.{Part}
 use Rattle.cr_join.specs.Parts.{IsFootOf}
 use Rattle.cr_join.specs.Joins.{Joins}
-use Rattle.cr_slices.specs.Shown.{Joined, Answering}
+use Rattle.cr_slices.specs.Shown.{Leaves}
 use Rattle.cr_turns.specs.declared.held.Held.{Held}
 use Rattle.cr_turns.specs.declared.held.Held.TheVariants as held
 use Rattle.cr_turns.specs.Held.{shows}
-use Rattle.cr_expressions.specs.Halts.{held_of, object_of}
+use Rattle.cr_expressions.specs.Halts.{halting, object_of, Places}
 
-pub joins_held : (act : Act) (w : World) (node : ℕ) (r : Result Part Trap) → Joins act w node r → Joined shows act (held_of node r) w
-joins_held act w node (Ok given) h = record { joins = record { answer = part given.value h.says.events; shown = (refl, h.says.footprint); holds = h.says.went_on } }
-joins_held act w node (Err (Undefined number)) h = record { joins = h.says }
-joins_held act w node (Err (Left number)) h = record { joins = h.says }
-joins_held act w node (Err NoMemory) h = record { joins = tt }
+pub joins_left : (act : Act) (w : World) (node : ℕ) (r : Result (Unit {0}) Trap) (answers : List Held) → Places act w node r answers → Leaves shows act (halting node r) answers w
+joins_left act w node (Ok done) answers h =
+    let gives = h.places.2.says in
+    record {
+      leaves = record {
+        held = held.Part h.places.0;
+        only = h.places.1;
+        answering = record { answer = part h.places.0.value gives.events; shown = (refl, gives.footprint); holds = gives.went_on };
+      };
+    }
+joins_left act w node (Err (Undefined number)) answers h = record { leaves = h.places.says }
+joins_left act w node (Err (Left number)) answers h = record { leaves = h.places.says }
+joins_left act w node (Err NoMemory) answers h = record { leaves = tt }
+
+pub unsaid : (act : Act) (w : World) (node : ℕ) (answers : List Held) → Places act w node (Err NoMemory) answers
+unsaid act w node answers = record { places = record { says = tt } }
+
+pub fails : (act : Act) (w : World) (node : ℕ) (trap : Trap) (answers : List Held) → Joins act w node (Err trap) → Places act w node (Err trap) answers
+fails act w node trap answers h = record { places = h }
+
+-- an answer that is put where there are no others
+pub put_places : (act : Act) (w : World) (node : ℕ) (given : Part) (rest new : List Held) (r : Result (Unit {0}) Trap)
+    → rest ≡ [] → OnOk r (new ≡ rest ++ held.Part given ∷ []) → IfErr r (λ trap. trap ≡ NoMemory) → Joins act w node (Ok given) → Places act w node r new
+put_places act w node given rest new (Ok done) none e cause h =
+    record { places = (given, e ∙ ap (λ (hs : List Held). hs ++ held.Part given ∷ []) none, h) }
+put_places act w node given rest new (Err trap) none e cause h =
+    let P : Trap → Type 0 = λ x. Places act w node (Err x) new in subst P (sym cause) (unsaid act w node new)
+
+pub no_answers : (done : List Held) → length done ≡ 0 → done ≡ []
+no_answers [] e = refl
+no_answers (h ∷ done) e = absurd (omega (arith, e))
+
+pub last_is : (done rest : List Held) (last given : Held) → last ≡ given → done ≡ rest ++ last ∷ [] → done ≡ rest ++ given ∷ []
+last_is done rest last given is e = e ∙ ap (λ (h : Held). rest ++ h ∷ []) is
+
+-- none are left of as many as are taken
+pub none_left : (done rest : List Held) (given : Held) → done ≡ rest ++ given ∷ [] → length done ≡ 1 → rest ≡ []
+none_left done [] given e size = refl
+none_left done (h ∷ rest) given e size = absurd (omega (arith, ap length e, length-append rest (given ∷ []), size))
+
+pub none_left_of_two : (done middle rest : List Held) (left right : Held) → done ≡ middle ++ right ∷ [] → middle ≡ rest ++ left ∷ [] → length done ≡ 2 → rest ≡ []
+none_left_of_two done middle [] left right e f size = refl
+none_left_of_two done middle (h ∷ rest) left right e f size =
+    absurd (omega (arith, ap length e, ap length f, length-append middle (right ∷ []), length-append rest (left ∷ []), size))
 
 -- an answer of which a part is kept
 record IsPart (given : Part) (answer : Answer) : Type 0 where
@@ -89,8 +128,8 @@ none_join p node op [] [] w x r size z h = h
 none_join p node op [] (a ∷ answers) w x r size z h = absurd z
 none_join p node op (k ∷ done) answers w x r size z h = absurd (omega arith)
 
-pub unsaid : (act : Act) (w : World) (node : ℕ) → Joins act w node (Err NoMemory)
-unsaid act w node = record { says = tt }
+pub no_memory : (act : Act) (w : World) (node : ℕ) → Joins act w node (Err NoMemory)
+no_memory act w node = record { says = tt }
 
 -- ---- objects
 

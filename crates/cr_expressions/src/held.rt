@@ -1,12 +1,10 @@
-// A part as a node's answer.
+// A case at a node as the end of a run.
 ghost use Rattle.std.specs.Prelude.{◌≡◌};
 ghost use Rattle.cr_world.specs.Worlds.{halt_of};
-ghost use Rattle.cr_expressions.specs.Halts.{held_of};
+ghost use Rattle.cr_expressions.specs.Halts.{halting};
 
-use cr_join::Part;
 use cr_memory::Trap;
 use cr_slices::Halted;
-use cr_turns::Held;
 
 fn halted(trap: Trap, node: u32) -> Halted
     ensures { result ≡ halt_of trap node }
@@ -18,13 +16,13 @@ fn halted(trap: Trap, node: u32) -> Halted
     }
 }
 
-/// A part, or a case at the node.
+/// Work that is done, or a case at the node.
 #[inline]
-pub(crate) fn held(node: u32, part: Result<Part, Trap>) -> Result<Held, Halted>
-    ensures { result ≡ held_of node part }
+pub(crate) fn halting(node: u32, done: Result<(), Trap>) -> Result<(), Halted>
+    ensures { result ≡ halting node done }
 {
-    match part {
-        Ok(part) => Ok(Held::Part(part)),
+    match done {
+        Ok(()) => Ok(()),
         Err(trap) => Err(halted(trap, node)),
     }
 }

@@ -21,6 +21,11 @@ abbrev pub trapped : Result Foot FootEnd → Result Foot Trap
 trapped (Ok foot) = Ok foot
 trapped (Err end) = Err (trap_of end)
 
+-- what stands where it was put, where no case is met
+abbrev pub placed : {A : Type 0} → A → Result (Unit {0}) Trap → Result A Trap
+placed there (Ok done) = Ok there
+placed there (Err trap) = Err trap
+
 -- two unsequenced footprints as one, where they meet on no cell; U12 where they do
 abbrev pub Unites : Sets → Sets → Result Foot Trap → Type 0
 Unites f g (Ok foot) = (sets foot ≡ union_of f g) × ((c : Cell) → meets f g c ≡ false)

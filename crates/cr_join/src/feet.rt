@@ -4,12 +4,13 @@ ghost use Rattle.cr_meaning.specs.Events.{Event, Reads, Touches, Writes, Argumen
 ghost use Rattle.cr_meaning.specs.Work.{deed_of, events_from};
 ghost use Rattle.cr_eval.specs.Deeds.{events_of};
 ghost use Rattle.cr_join.specs.Parts.{IsFootOf};
-ghost use Rattle.cr_join.specs.Feet.{trap_of, trapped, Unites, AreBelow, Adds, Argues};
+ghost use Rattle.cr_join.specs.Feet.{trap_of, trapped, placed, Unites, AreBelow, Adds, Argues};
 
 use cr_eval::Deeds;
 use cr_footprint::{Foot, FootEnd};
 use cr_memory::Trap;
 use std::alloc::Global;
+use std::mem;
 
 /// U12: a side effect on a scalar is unsequenced to another one, or to a value computation that uses it (C11 6.5p2).
 pub const UNSEQUENCED: u8 = 12;
@@ -158,8 +159,7 @@ fn with_update(foot: Foot, object: u32, cell: u32, volatile: bool) -> Result<Foo
 }
 
 /// A node's own events beside those of its operands: U12.
-#[inline]
-pub(crate) fn added(foot: Foot, deeds: Deeds) -> Result<Foot, Trap>
+fn added(foot: Foot, deeds: Deeds) -> Result<Foot, Trap>
     ensures { (all : List Event) → AreBelow all → IsFootOf foot all → Adds (events_of deeds) all result }
 {
     match deeds {
@@ -180,5 +180,70 @@ pub(crate) fn added(foot: Foot, deeds: Deeds) -> Result<Foot, Trap>
             cell,
             volatile,
         } => with_update(foot, object, cell, volatile),
+    }
+}
+
+/// The same where the operands' footprint is kept, if there are any own events.
+fn add_some(alloc: Global, foot: &mut Foot, deeds: Deeds) -> Result<(), Trap>
+    ensures { (all : List Event) → AreBelow all → IsFootOf foot.old all → Adds (events_of deeds) all (placed foot.new result) }
+{
+    match added(mem::replace(foot, Foot::none(alloc)), deeds) {
+        Ok(new) => {
+            *foot = new;
+            Ok(())
+        }
+        Err(trap) => Err(trap),
+    }
+}
+
+#[inline]
+pub(crate) fn add(alloc: Global, foot: &mut Foot, deeds: Deeds) -> Result<(), Trap>
+    ensures { (all : List Event) → AreBelow all → IsFootOf foot.old all → Adds (events_of deeds) all (placed foot.new result) }
+{
+    match deeds {
+        Deeds::Nothing => Ok(()),
+        _ => add_some(alloc, foot, deeds),
+    }
+}
+
+// ---- the own events of a node without operands
+
+fn first_read(alloc: Global, object: u32, cell: u32) -> Result<Foot, Trap>
+    ensures { Adds (own Reads (object, cell) ∷ []) [] result }
+{
+    match Foot::read(alloc, object, cell) {
+        Ok(foot) => Ok(foot),
+        Err(_) => Err(Trap::NoMemory),
+    }
+}
+
+fn first_added(alloc: Global, deeds: Deeds) -> Result<Foot, Trap>
+    ensures { Adds (events_of deeds) [] result }
+{
+    added(Foot::none(alloc), deeds)
+}
+
+fn first_reads(alloc: Global, object: u32, first: u32, count: u32) -> Result<Foot, Trap>
+    ensures { Adds (events_from Reads object first count) [] result }
+{
+    if count == 1 {
+        return first_read(alloc, object, first);
+    }
+    with_reads(Foot::none(alloc), object, first, count)
+}
+
+/// A node's own events where it has no operands. It has mostly none, or one read.
+#[inline]
+pub(crate) fn first_foot(alloc: Global, deeds: Deeds) -> Result<Foot, Trap>
+    ensures { Adds (events_of deeds) [] result }
+{
+    match deeds {
+        Deeds::Nothing => Ok(Foot::none(alloc)),
+        Deeds::Read {
+            object,
+            first,
+            count,
+        } => first_reads(alloc, object, first, count),
+        _ => first_added(alloc, deeds),
     }
 }

@@ -1,27 +1,23 @@
 -- What the machine keeps shows the meaning's answers, turn by turn.
-use Rattle.std.proofs.Common.{◌≡◌, refl, sym, ◌∙◌, ap, subst, ℕ, ◌+◌, ◌≤◌, Result, Ok, Err, List, [], ◌∷◌, ◌++◌, take, replicate, append_assoc, zero, suc}
+use Rattle.std.proofs.Common.{◌≡◌, refl, sym, ◌∙◌, ap, subst, ℕ, ◌+◌, Result, Ok, Err, List, [], ◌∷◌, ◌++◌, take, replicate, append_assoc, zero, suc, Option, Some, None, length, length-append, arith}
 use Rattle.std.specs.List.{AllZip}
-use Rattle.std.specs.Prelude.{IsErrAnd, OnOk}
+use Rattle.std.specs.Prelude.{IsErrAnd, OnOk, option_to_list}
 use Rattle.std.proofs.lemmas.List.{append-nil, replicate-append-replicate}
 use Rattle.std.proofs.lemmas.Slice.Zip.{all_zipped_more}
-use Rattle.cr_meaning.specs.Language.{went, halts, gave, ended, Runs}
+use Rattle.cr_meaning.specs.Language.{halts, gave, ended, Runs}
 use Rattle.cr_meaning.specs.World.{Program, World, Answer, next, Halt}
-use Rattle.cr_meaning.specs.Turns.{Way, Operand, Enter, Resume, Ready, absent, from_item}
-use Rattle.cr_meaning.specs.Nodes.{Act}
+use Rattle.cr_meaning.specs.Turns.{Operand, Enter, Resume, Ready, from_item}
 use Rattle.cr_meaning.specs.Meaning.{body, operands}
-use Rattle.cr_stack.specs.Waiting.{Pending, Waiting, with_more}
-use Rattle.cr_slices.specs.Turns.{reaching, turning, State, End, first_state, RestOf, Leads, way_at, reached_at, before_at, join_at}
-use Rattle.cr_slices.specs.Shown.{fresh_of, way_of, Halting, Works, Worked, Answering, Joins, Joined, ShowsPending, ShowsWaiting, place_of, Continues, TurnsTo, TurnsBy, Turns, ComesTo}
+use Rattle.cr_stack.specs.Waiting.{Pending, Waiting, with_more, handed}
+use Rattle.cr_slices.specs.Turns.{reaching, turning, State, first_state, RestOf, Leads, way_at, reached_at, before_at, join_at}
+use Rattle.cr_slices.specs.Shown.{way_of, Halting, Worked, ShowsPending, ShowsWaiting, place_of, came, Alone, Leaves, Continues, TurnsBy, Turns, ComesTo}
 use Rattle.cr_slices.specs.declared.nodes.Halted.{Halted}
 use Rattle.cr_slices.specs.declared.nodes.Halted.TheVariants.{Undefined, Left, Exited, NoMemory}
-use Rattle.cr_slices.specs.declared.nodes.Fresh.{Fresh}
-use Rattle.cr_slices.specs.declared.nodes.Fresh.TheVariants.{Nothing, Absent, Before}
 use Rattle.cr_slices.specs.declared.nodes.Way.{Way as KeptWay}
 use Rattle.cr_slices.specs.declared.machine.Point.{Point}
 use Rattle.cr_slices.specs.declared.machine.Point.TheVariants.{Reach, Turn}
 use Rattle.cr_slices.specs.declared.machine.Turned.{Turned}
 use Rattle.cr_slices.specs.declared.machine.Turned.TheVariants.{Goes, Came}
-use Rattle.cr_slices.specs.declared.machine.Outcome.{Outcome}
 use Rattle.cr_slices.specs.declared.machine.Outcome.TheVariants as outcome
 use Rattle.cr_slices.proofs.Ways.{operand_leads, enter_leads, enter_halts, resume_leads, resume_halts, join_leads, join_comes, join_halts, reach_leads, reach_halts, leads_on, leads_self, rest_is_run}
 
@@ -132,7 +128,7 @@ module _ {T : Type 0} (shows : T → Answer → Type 0) where
   }
 
   -- what a `?` hands on
-  pub handed_on : (p : Program) (start : State) (new : Waiting T) (t : World) (r : Result (Turned T) Halted) (x : Halted) → IsErrAnd r (λ y. y ≡ x)
+  pub handed_on : (p : Program) (start : State) (new : Waiting T) (t : World) (r : Result Turned Halted) (x : Halted) → IsErrAnd r (λ y. y ≡ x)
       → Turns shows p start (Err x) new t → Turns shows p start r new t
   handed_on p start new t r x h turns = exit (λ r. Turns shows p start r new t) r x h turns
 
@@ -212,89 +208,96 @@ module _ {T : Type 0} (shows : T → Answer → Type 0) where
       let P : Waiting T → Type 0 = λ x. ShowsWaiting shows x (record { top = record { node = waiting.top.node; done = take count waiting.top.done }; below = waiting.below }) in
       subst P (sym e) (record { top = record { node = h.top.node; done = all_zip_take shows count held.top.done waiting.top.done h.top.done }; below = h.below })
 
-  pub join_shown : (p : Program) (held : Waiting T) (waiting : Waiting Answer) (s t : World) (result : Result T Halted)
+  pub join_shown : (p : Program) (held : Waiting T) (waiting : Waiting Answer) (s t : World) (result : Result (Unit {0}) Halted) (left : List T)
       → ShowsWaiting shows held waiting
-      → ((answers : List Answer) → AllZip shows held.top.done answers → Joined shows (join_at p held.top.node answers s) result t)
-      → Joined shows (join_at p waiting.top.node waiting.top.done s) result t
-  join_shown p held waiting s t result h f = at_shown held.top waiting.top (λ n l. Joined shows (join_at p n l s) result t) h.top f
+      → ((answers : List Answer) → AllZip shows held.top.done answers → Leaves shows (join_at p held.top.node answers s) result left t)
+      → Leaves shows (join_at p waiting.top.node waiting.top.done s) result left t
+  join_shown p held waiting s t result left h f = at_shown held.top waiting.top (λ n l. Leaves shows (join_at p n l s) result left t) h.top f
 
-  pub join_ends : (p : Program) (new : Waiting T) (waiting : Waiting Answer) (s t : World) (x : Halted)
+  pub join_ends : (p : Program) (new : Waiting T) (waiting : Waiting Answer) (s t : World) (x : Halted) (left : List T)
       → way_at p waiting.top.node waiting.top.done ≡ Ready
-      → Joined shows (join_at p waiting.top.node waiting.top.done s) (Err x) t
+      → Leaves shows (join_at p waiting.top.node waiting.top.done s) (Err x) left t
       → Turns shows p (record { place = turning; waiting = waiting; world = s }) (Err x) new t
-  join_ends p new waiting s t x e w = record {
+  join_ends p new waiting s t x left e w = record {
     turns =
         ends_too (λ halt. join_at p waiting.top.node waiting.top.done s ≡ halts halt) (λ halt. RestOf p (record { place = turning; waiting = waiting; world = s }) (ended halt))
-        (λ halt is. join_halts p waiting s halt e is) x t w.joins;
+        (λ halt is. join_halts p waiting s halt e is) x t w.leaves;
   }
 
   -- the node at work was the last
-  comes_last : (p : Program) (top : Pending Answer) (below : List (Pending Answer)) (none : List (Pending T)) (new : Waiting T) (s t : World) (kept : T)
+  comes_last : (p : Program) (top : Pending Answer) (below : List (Pending Answer)) (none : List (Pending T)) (left new : Waiting T) (s t : World)
       → none ≡ [] → AllZip (ShowsPending shows) none below
       → way_at p top.node top.done ≡ Ready
-      → Joined shows (join_at p top.node top.done s) (Ok kept) t
-      → Turns shows p (record { place = turning; waiting = record { top = top; below = below }; world = s }) (Ok (Came kept)) new t
-  comes_last p top [] none new s t kept is h e w = record {
-    turns = record {
-      answer = w.joins.answer;
-      shown = w.joins.shown;
-      holds = join_comes p top s t w.joins.answer e w.joins.holds;
-    };
-  }
-  comes_last p top (first ∷ rest) none new s t kept is h e w =
+      → {u : Unit {0}} → Leaves shows (join_at p top.node top.done s) (Ok u) left.top.done t → new ≡ left
+      → Turns shows p (record { place = turning; waiting = record { top = top; below = below }; world = s }) (Ok Came) new t
+  comes_last p top [] none left new s t is h e w same =
+      let a = w.leaves.answering in
+      let P : Waiting T → Type 0 = λ x. Alone shows x.top.done (λ meant. RestOf p (record { place = turning; waiting = record { top = top; below = [] }; world = s }) (gave meant t)) in
+      record {
+        turns = subst P (sym same) (record {
+          held = w.leaves.held;
+          only = w.leaves.only;
+          answering = record { answer = a.answer; shown = a.shown; holds = join_comes p top s t a.answer e a.holds };
+        });
+      }
+  comes_last p top (first ∷ rest) none left new s t is h e w same =
       let P : List (Pending T) → Type 0 = λ l. AllZip (ShowsPending shows) l (first ∷ rest) in absurd (subst P is h)
 
-  pub join_comes_to : (p : Program) (held new : Waiting T) (waiting : Waiting Answer) (s t : World) (kept : T)
+  pub join_comes_to : (p : Program) (held left new : Waiting T) (waiting : Waiting Answer) (s t : World)
       → ShowsWaiting shows held waiting → held.below ≡ []
       → way_at p waiting.top.node waiting.top.done ≡ Ready
-      → Joined shows (join_at p waiting.top.node waiting.top.done s) (Ok kept) t
-      → Turns shows p (record { place = turning; waiting = waiting; world = s }) (Ok (Came kept)) new t
-  join_comes_to p held new waiting s t kept h is e w = comes_last p waiting.top waiting.below held.below new s t kept is h.below e w
+      → {u : Unit {0}} → Leaves shows (join_at p waiting.top.node waiting.top.done s) (Ok u) left.top.done t → new ≡ left
+      → Turns shows p (record { place = turning; waiting = waiting; world = s }) (Ok Came) new t
+  join_comes_to p held left new waiting s t h is e w same = comes_last p waiting.top waiting.below held.below left new s t is h.below e w same
 
   -- another one waits for its answer
-  goes_up : (p : Program) (top : Pending Answer) (below : List (Pending Answer)) (some : List (Pending T)) (up new : Waiting T) (s t : World) (kept : T)
-      → some ≡ up.top ∷ up.below → AllZip (ShowsPending shows) some below
+  goes_up : (p : Program) (top : Pending Answer) (below : List (Pending Answer)) (some : List (Pending T)) (left : List T) (new : Waiting T) (s t : World)
+      → handed left some ≡ new.top ∷ new.below → AllZip (ShowsPending shows) some below
       → way_at p top.node top.done ≡ Ready
-      → Joined shows (join_at p top.node top.done s) (Ok kept) t
-      → new ≡ record { top = record { node = up.top.node; done = up.top.done ++ kept ∷ [] }; below = up.below }
+      → {u : Unit {0}} → Leaves shows (join_at p top.node top.done s) (Ok u) left t
       → Turns shows p (record { place = turning; waiting = record { top = top; below = below }; world = s }) (Ok (Goes Turn)) new t
-  goes_up p top [] some up new s t kept is h e w put =
-      let P : List (Pending T) → Type 0 = λ l. AllZip (ShowsPending shows) l [] in absurd (subst P is h)
-  goes_up p top (first ∷ rest) some up new s t kept is h e w put =
-      let P : List (Pending T) → Type 0 = λ l. AllZip (ShowsPending shows) l (first ∷ rest) in
-      let both : AllZip (ShowsPending shows) (up.top ∷ up.below) (first ∷ rest) = subst P is h in
-      let now : Waiting Answer = record { top = record { node = first.node; done = first.done ++ w.joins.answer ∷ [] }; below = rest } in
-      let Q : Waiting T → Type 0 = λ x. ShowsWaiting shows x now in
+  goes_up p top below [] left new s t is h e w = absurd (cc is)
+  goes_up p top [] (up ∷ ups) left new s t is h e w = absurd h
+  goes_up p top (first ∷ rest) (up ∷ ups) left new s t is h e w =
+      let a = w.leaves.answering in
+      let now : Waiting Answer = record { top = record { node = first.node; done = first.done ++ a.answer ∷ [] }; below = rest } in
+      let P : List T → Type 0 = λ l. AllZip shows (up.done ++ l) (first.done ++ a.answer ∷ []) in
+      let Q : List (Pending T) → Type 0 = λ l. AllZip (ShowsPending shows) l (now.top ∷ now.below) in
+      let both : AllZip (ShowsPending shows) (new.top ∷ new.below) (now.top ∷ now.below) = subst Q is (
+        record {
+          node = h.0.node;
+          done = subst P (sym w.leaves.only) (all_zipped_more shows up.done first.done w.leaves.held a.answer h.0.done a.shown);
+        },
+        h.1,
+      ) in
       record {
         turns = record {
           waiting = now;
-          shown = subst Q (sym put) (record {
-            top = record { node = both.0.node; done = all_zipped_more shows up.top.done first.done kept w.joins.answer both.0.done w.joins.shown };
-            below = both.1;
-          });
-          leads = join_leads p top first rest s t w.joins.answer e w.joins.holds;
+          shown = record { top = both.0; below = both.1 };
+          leads = join_leads p top first rest s t a.answer e a.holds;
         };
       }
 
-  pub join_goes : (p : Program) (held up new : Waiting T) (waiting : Waiting Answer) (s t : World) (kept : T)
-      → ShowsWaiting shows held waiting → held.below ≡ up.top ∷ up.below
+  pub join_goes : (p : Program) (held left new : Waiting T) (waiting : Waiting Answer) (s t : World)
+      → ShowsWaiting shows held waiting → left.below ≡ held.below → handed left.top.done left.below ≡ new.top ∷ new.below
       → way_at p waiting.top.node waiting.top.done ≡ Ready
-      → Joined shows (join_at p waiting.top.node waiting.top.done s) (Ok kept) t
-      → new ≡ record { top = record { node = up.top.node; done = up.top.done ++ kept ∷ [] }; below = up.below }
+      → {u : Unit {0}} → Leaves shows (join_at p waiting.top.node waiting.top.done s) (Ok u) left.top.done t
       → Turns shows p (record { place = turning; waiting = waiting; world = s }) (Ok (Goes Turn)) new t
-  join_goes p held up new waiting s t kept h is e w put = goes_up p waiting.top waiting.below held.below up new s t kept is h.below e w put
+  join_goes p held left new waiting s t h same is e w =
+      goes_up p waiting.top waiting.below held.below left.top.done new s t (ap (handed left.top.done) (sym same) ∙ is) h.below e w
 
   -- ---- turn after turn
 
-  turns_by : (p : Program) (start middle : State) (result : Result (Turned T) Halted) (held : Waiting T) (t : World)
+  turns_by : (p : Program) (start middle : State) (result : Result Turned Halted) (held : Waiting T) (t : World)
       → Leads p start middle → TurnsBy shows p middle result held t → TurnsBy shows p start result held t
   turns_by p start middle (Ok (Goes point)) held t l h =
       record { waiting = h.waiting; shown = h.shown; leads = leads_on p start middle _ l h.leads }
-  turns_by p start middle (Ok (Came kept)) held t l h = record { answer = h.answer; shown = h.shown; holds = l.leads _ h.holds }
+  turns_by p start middle (Ok Came) held t l h =
+      let a = h.answering in record { held = h.held; only = h.only; answering = record { answer = a.answer; shown = a.shown; holds = l.leads _ a.holds } }
   turns_by p start middle (Err x) held t l h =
       ends_too (λ halt. RestOf p middle (ended halt)) (λ halt. RestOf p start (ended halt)) (λ halt is. l.leads (ended halt) is) x t h
 
-  pub turns_on : (p : Program) (start middle : State) (result : Result (Turned T) Halted) (held : Waiting T) (t : World)
+  pub turns_on : (p : Program) (start middle : State) (result : Result Turned Halted) (held : Waiting T) (t : World)
       → Leads p start middle → Turns shows p middle result held t → Turns shows p start result held t
   turns_on p start middle result held t l h = record { turns = turns_by p start middle result held t l h.turns }
 
@@ -303,19 +306,19 @@ module _ {T : Type 0} (shows : T → Answer → Type 0) where
   continues_first p held waiting point s h = record { waiting = waiting; shown = h; leads = leads_self p _ }
 
   -- a state to which the run has come, and what it comes to by what is said of all that is shown
-  pub continues_on : (p : Program) (start : State) (point : Point) (held new : Waiting T) (s t : World) (result : Result (Turned T) Halted)
+  pub continues_on : (p : Program) (start : State) (point : Point) (held new : Waiting T) (s t : World) (result : Result Turned Halted)
       → Continues shows p start point held s
       → ((waiting : Waiting Answer) → ShowsWaiting shows held waiting → Turns shows p (record { place = place_of point; waiting = waiting; world = s }) result new t)
       → Turns shows p start result new t
   continues_on p start point held new s t result c f = turns_on p start _ result new t c.leads (f c.waiting c.shown)
 
   -- the same where the machine goes on
-  pub continues_turned : (p q : Program) (start : State) (point to : Point) (held new : Waiting T) (s t : World) (result : Result (Turned T) Halted)
+  pub continues_turned : (p q : Program) (start : State) (point to : Point) (held new : Waiting T) (s t : World) (result : Result Turned Halted)
       → Continues shows p start point held s → q ≡ p → result ≡ Ok (Goes to)
       → ((waiting : Waiting Answer) → ShowsWaiting shows held waiting → Turns shows q (record { place = place_of point; waiting = waiting; world = s }) result new t)
       → Continues shows p start to new t
   continues_turned p q start point to held new s t result c same is f =
-      let P : Result (Turned T) Halted → Type 0 = λ r. Turns shows p start r new t in
+      let P : Result Turned Halted → Type 0 = λ r. Turns shows p start r new t in
       let turned : Turns shows p start result new t =
       continues_on p start point held new s t result c (λ waiting h.
       let Q : Program → Type 0 = λ x. Turns shows x (record { place = place_of point; waiting = waiting; world = s }) result new t in subst Q same (f waiting h)) in
@@ -331,9 +334,18 @@ module _ {T : Type 0} (shows : T → Answer → Type 0) where
       continues_first p held (record { top = record { node = node; done = [] }; below = [] }) Turn s
       (subst P (sym is) (record { top = record { node = refl; done = tt }; below = tt }))
 
-  pub comes_to : (p : Program) (node : ℕ) (s t : World) (kept : T) (held : Waiting T) → Turns shows p (first_state node s) (Ok (Came kept)) held t
-      → ComesTo shows p node s (outcome.Came kept) t
-  comes_to p node s t kept held h = record { answer = h.turns.answer; shown = h.turns.shown; holds = rest_is_run p node s _ h.turns.holds }
+  -- the only answer is the last one
+  last_alone : (done rest : List T) (one last : T) → done ≡ one ∷ [] → done ≡ rest ++ last ∷ [] → one ≡ last
+  last_alone done [] one last e f = let g : one ∷ [] ≡ last ∷ [] = sym e ∙ f in cc
+  last_alone done (x ∷ rest) one last e f = absurd (omega (arith, ap length (sym e ∙ f), length-append rest (last ∷ [])))
+
+  pub comes_to : (p : Program) (node : ℕ) (s t : World) (held left : Waiting T) (answer : Option T) → Turns shows p (first_state node s) (Ok Came) held t
+      → held.top.done ≡ left.top.done ++ option_to_list answer → ComesTo shows p node s (came answer) t
+  comes_to p node s t held left (Some last) h e =
+      let a = h.turns.answering in
+      let P : T → Type 0 = λ x. shows x a.answer in
+      record { answer = a.answer; shown = subst P (last_alone held.top.done left.top.done h.turns.held last h.turns.only e) a.shown; holds = rest_is_run p node s _ a.holds }
+  comes_to p node s t held left None h e = tt
 
   pub halts_as : (p : Program) (node : ℕ) (s t : World) (x : Halted) (held : Waiting T) → Turns shows p (first_state node s) (Err x) held t
       → ComesTo shows p node s (outcome.Halted x) t

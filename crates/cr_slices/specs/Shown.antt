@@ -1,14 +1,14 @@
 -- What the machine's answers say of the meaning's. An answer is kept as something that shows it: its value, and its events as sets.
-use Rattle.std.specs.Prelude.{◌≡◌, ℕ, ◌+◌, ◌≤◌, Result, Ok, Err, List, [], ◌∷◌, ◌++◌, replicate, take}
+use Rattle.std.specs.Prelude.{◌≡◌, ℕ, ◌+◌, ◌≤◌, Option, Some, None, Result, Ok, Err, List, [], ◌∷◌, ◌++◌, take}
 use Rattle.std.specs.List.{AllZip}
 use Rattle.cr_memory.specs.declared.value.Trap.TheVariants as trap
-use Rattle.cr_meaning.specs.Language.{Acted, went, halts, gave, ended, Runs}
+use Rattle.cr_meaning.specs.Language.{went, halts, gave, ended, Runs}
 use Rattle.cr_meaning.specs.World.{Program, World, Answer, next, Halt, stopped, exited}
 use Rattle.cr_meaning.specs.Turns.{Way, Operand, Enter, Resume, Ready, absent, from_item}
 use Rattle.cr_meaning.specs.Nodes.{Act}
 use Rattle.cr_meaning.specs.Meaning.{body, operands}
 use Rattle.cr_stack.specs.Waiting.{Pending, Waiting}
-use Rattle.cr_slices.specs.Turns.{Place, reaching, turning, State, End, RestOf, Leads}
+use Rattle.cr_slices.specs.Turns.{Place, reaching, turning, State, RestOf, Leads}
 use Rattle.cr_slices.specs.declared.nodes.Halted.{Halted}
 use Rattle.cr_slices.specs.declared.nodes.Halted.TheVariants.{Undefined, Left, Exited, NoMemory}
 use Rattle.cr_slices.specs.declared.nodes.Fresh.{Fresh}
@@ -60,6 +60,12 @@ pub record Answering {T : Type 0} (shows : T → Answer → Type 0) (held : T) (
   pub shown : shows held answer
   pub holds : P answer
 
+-- the only one of these answers is so kept
+pub record Alone {T : Type 0} (shows : T → Answer → Type 0) (answers : List T) (P : Answer → Type 0) : Type 0 where
+  pub held : T
+  pub only : answers ≡ held ∷ []
+  pub answering : Answering shows held P
+
 -- work gives this answer and this world
 abbrev pub Joins : {T : Type 0} → (T → Answer → Type 0) → Act → Result T Halted → World → Type 0
 Joins shows act (Ok held) world = Answering shows held (λ answer. act ≡ went answer world)
@@ -67,6 +73,14 @@ Joins shows act (Err halted) world = Halting (λ halt. act ≡ halts halt) halte
 
 pub record Joined {T : Type 0} (shows : T → Answer → Type 0) (act : Act) (result : Result T Halted) (world : World) : Type 0 where
   pub joins : Joins shows act result world
+
+-- work leaves this answer, as the only one of the node at work
+abbrev pub LeavesBy : {T : Type 0} → (T → Answer → Type 0) → Act → Result (Unit {0}) Halted → List T → World → Type 0
+LeavesBy shows act (Ok done) answers world = Alone shows answers (λ answer. act ≡ went answer world)
+LeavesBy shows act (Err halted) answers world = Halting (λ halt. act ≡ halts halt) halted world
+
+pub record Leaves {T : Type 0} (shows : T → Answer → Type 0) (act : Act) (result : Result (Unit {0}) Halted) (answers : List T) (world : World) : Type 0 where
+  pub leaves : LeavesBy shows act result answers world
 
 -- steps that are left, before and after
 pub record TakesAtMostOne (before after : ℕ) : Type 0 where
@@ -95,17 +109,22 @@ pub record Continues {T : Type 0} (shows : T → Answer → Type 0) (p : Program
   pub shown : ShowsWaiting shows held waiting
   pub leads : Leads p start (record { place = place_of point; waiting = waiting; world = world })
 
-abbrev pub TurnsTo : {T : Type 0} → (T → Answer → Type 0) → Program → State → Turned T → Waiting T → World → Type 0
+abbrev pub TurnsTo : {T : Type 0} → (T → Answer → Type 0) → Program → State → Turned → Waiting T → World → Type 0
 TurnsTo shows p start (Goes point) held world = Continues shows p start point held world
-TurnsTo shows p start (Came answer) held world = Answering shows answer (λ meant. RestOf p start (gave meant world))
+TurnsTo shows p start Came held world = Alone shows held.top.done (λ meant. RestOf p start (gave meant world))
 
-abbrev pub TurnsBy : {T : Type 0} → (T → Answer → Type 0) → Program → State → Result (Turned T) Halted → Waiting T → World → Type 0
+abbrev pub TurnsBy : {T : Type 0} → (T → Answer → Type 0) → Program → State → Result Turned Halted → Waiting T → World → Type 0
 TurnsBy shows p start (Ok turned) held world = TurnsTo shows p start turned held world
 TurnsBy shows p start (Err halted) held world = Halting (λ halt. RestOf p start (ended halt)) halted world
 
 -- from a state the machine comes to this result
-pub record Turns {T : Type 0} (shows : T → Answer → Type 0) (p : Program) (start : State) (result : Result (Turned T) Halted) (held : Waiting T) (world : World) : Type 0 where
+pub record Turns {T : Type 0} (shows : T → Answer → Type 0) (p : Program) (start : State) (result : Result Turned Halted) (held : Waiting T) (world : World) : Type 0 where
   pub turns : TurnsBy shows p start result held world
+
+-- a run that has come to the last node's answer
+abbrev pub came : {T : Type 0} → Option T → Outcome T
+came (Some answer) = outcome.Came answer
+came None = outcome.Halted NoMemory
 
 -- a run from a node, in which nothing waits, is the meaning's
 abbrev pub ComesTo : {T : Type 0} → (T → Answer → Type 0) → Program → ℕ → World → Outcome T → World → Type 0

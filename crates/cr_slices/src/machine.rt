@@ -4,7 +4,7 @@ ghost use Rattle.cr_meaning.specs.World.{Answer as SpecAnswer, next as followed}
 ghost use Rattle.cr_meaning.specs.Turns.{Enter as TurnsEnter, Resume as TurnsResume, Ready as TurnsReady};
 ghost use Rattle.cr_stack.specs.Waiting.{Waiting, with_more};
 ghost use Rattle.cr_slices.specs.Turns.{way_at, reaching, turning};
-ghost use Rattle.cr_slices.specs.Shown.{fresh_of, place_of, ShowsWaiting, TakesAtMostOne, Turns, ComesTo};
+ghost use Rattle.cr_slices.specs.Shown.{fresh_of, place_of, came, ShowsWaiting, TakesAtMostOne, Turns, ComesTo};
 ghost use Rattle.cr_slices.specs.Looks.{HasLooked, given_up};
 ghost use Rattle.cr_slices.specs.declared.machine.Point.{Point as SpecPoint};
 
@@ -26,11 +26,11 @@ pub(crate) enum Point {
 }
 
 /// What a turn comes to.
-#[derive(Drop)]
-pub(crate) enum Turned<T> {
+#[derive(Clone, Copy)]
+pub(crate) enum Turned {
     Goes(Point),
-    /// The last node has answered.
-    Came(T),
+    /// The last node has answered, and its answer is the only one on the stack.
+    Came,
 }
 
 /// How a run ends.
@@ -71,11 +71,7 @@ fn fill<N: Nodes>(nodes: &N, stack: &mut Stack<N::Held>, fresh: Fresh) -> Result
 
 /// A node is reached, and is at work then.
 #[inline]
-fn reach<N: Nodes>(
-    nodes: &mut N,
-    stack: &mut Stack<N::Held>,
-    node: u32,
-) -> Result<Turned<N::Held>, Halted>
+fn reach<N: Nodes>(nodes: &mut N, stack: &mut Stack<N::Held>, node: u32) -> Result<Turned, Halted>
     ensures turns { (waiting : Waiting SpecAnswer) → ShowsWaiting N.shows stack.old waiting
         → Turns N.shows (N.program nodes.old) (record { place = reaching node; waiting = waiting; world = N.world nodes.old })
         result stack.new (N.world nodes.new) }
@@ -90,11 +86,7 @@ fn reach<N: Nodes>(
 }
 
 /// The node at work goes on with a part, after work before it.
-fn enter<N: Nodes>(
-    nodes: &mut N,
-    stack: &mut Stack<N::Held>,
-    part: u32,
-) -> Result<Turned<N::Held>, Halted>
+fn enter<N: Nodes>(nodes: &mut N, stack: &mut Stack<N::Held>, part: u32) -> Result<Turned, Halted>
     ensures turns { (waiting : Waiting SpecAnswer) → ShowsWaiting N.shows stack.old waiting
         → way_at (N.program nodes.old) waiting.top.node waiting.top.done ≡ TurnsEnter part
         → Turns N.shows (N.program nodes.old) (record { place = turning; waiting = waiting; world = N.world nodes.old })
@@ -112,7 +104,7 @@ fn resume<N: Nodes>(
     stack: &mut Stack<N::Held>,
     count: usize,
     fresh: Fresh,
-) -> Result<Turned<N::Held>, Halted>
+) -> Result<Turned, Halted>
     ensures turns { (waiting : Waiting SpecAnswer) → ShowsWaiting N.shows stack.old waiting
         → way_at (N.program nodes.old) waiting.top.node waiting.top.done ≡ TurnsResume (take count waiting.top.done ++ fresh_of fresh)
         → Turns N.shows (N.program nodes.old) (record { place = turning; waiting = waiting; world = N.world nodes.old })
@@ -128,9 +120,10 @@ fn resume<N: Nodes>(
     Ok(Turned::Goes(Point::Turn))
 }
 
-/// The node at work does its own work, and its answer is one more of the node that waits for it.
+/// The node at work does its own work, and its answer is one more of the node that waits for it. It stays where it is, since it is too
+/// large to be handed from call to call.
 #[inline]
-fn join<N: Nodes>(nodes: &mut N, stack: &mut Stack<N::Held>) -> Result<Turned<N::Held>, Halted>
+fn join<N: Nodes>(nodes: &mut N, stack: &mut Stack<N::Held>) -> Result<Turned, Halted>
     ensures turns { (waiting : Waiting SpecAnswer) → ShowsWaiting N.shows stack.old waiting
         → way_at (N.program nodes.old) waiting.top.node waiting.top.done ≡ TurnsReady
         → Turns N.shows (N.program nodes.old) (record { place = turning; waiting = waiting; world = N.world nodes.old })
@@ -138,19 +131,17 @@ fn join<N: Nodes>(nodes: &mut N, stack: &mut Stack<N::Held>) -> Result<Turned<N:
     ensures program { N.program nodes.new ≡ N.program nodes.old }
     ensures steps { TakesAtMostOne (N.world nodes.old).steps (N.world nodes.new).steps }
 {
-    let answer = nodes.join(stack)?;
-    if !stack.end() {
-        return Ok(Turned::Came(answer));
+    nodes.join(stack)?;
+    if stack.hand_up() {
+        Ok(Turned::Goes(Point::Turn))
+    } else {
+        Ok(Turned::Came)
     }
-    let Ok(()) = stack.give(answer) else {
-        return Err(Halted::NoMemory);
-    };
-    Ok(Turned::Goes(Point::Turn))
 }
 
 /// The node at work goes on.
 #[inline]
-fn go_on<N: Nodes>(nodes: &mut N, stack: &mut Stack<N::Held>) -> Result<Turned<N::Held>, Halted>
+fn go_on<N: Nodes>(nodes: &mut N, stack: &mut Stack<N::Held>) -> Result<Turned, Halted>
     ensures turns { (waiting : Waiting SpecAnswer) → ShowsWaiting N.shows stack.old waiting
         → Turns N.shows (N.program nodes.old) (record { place = turning; waiting = waiting; world = N.world nodes.old })
         result stack.new (N.world nodes.new) }
@@ -168,11 +159,7 @@ fn go_on<N: Nodes>(nodes: &mut N, stack: &mut Stack<N::Held>) -> Result<Turned<N
 
 /// One turn, which takes a step at most.
 #[inline]
-fn turn<N: Nodes>(
-    nodes: &mut N,
-    stack: &mut Stack<N::Held>,
-    point: Point,
-) -> Result<Turned<N::Held>, Halted>
+fn turn<N: Nodes>(nodes: &mut N, stack: &mut Stack<N::Held>, point: Point) -> Result<Turned, Halted>
     ensures turns { (waiting : Waiting SpecAnswer) → ShowsWaiting N.shows stack.old waiting
         → Turns N.shows (N.program nodes.old) (record { place = place_of point; waiting = waiting; world = N.world nodes.old })
         result stack.new (N.world nodes.new) }
@@ -215,7 +202,7 @@ fn slice<N: Nodes>(
     stack: &mut Stack<N::Held>,
     from: Point,
     until: Option<u64>,
-) -> Result<Turned<N::Held>, Halted>
+) -> Result<Turned, Halted>
     requires { IfSome until (λ steps. steps ≤ (N.world nodes.old).steps) }
     ensures turns { (waiting : Waiting SpecAnswer) → ShowsWaiting N.shows stack.old waiting
         → Turns N.shows (N.program nodes.old) (record { place = place_of from; waiting = waiting; world = N.world nodes.old })
@@ -234,7 +221,7 @@ fn slice<N: Nodes>(
         }
         point = match turn(nodes, stack, point)? {
             Turned::Goes(next) => next,
-            Turned::Came(answer) => return Ok(Turned::Came(answer)),
+            Turned::Came => return Ok(Turned::Came),
         };
         let Some(left) = turns_left(idle, steps, nodes.steps()) else {
             return Err(Halted::NoMemory);
@@ -248,6 +235,16 @@ fn slice_end(steps: u64) -> Option<u64>
     ensures { MatchOption result (steps < 4096) (λ until. until + 4096 ≡ steps) }
 {
     steps.checked_sub(STEPS_OF_A_SLICE)
+}
+
+/// The end of a run whose last node has answered.
+fn came<T: Drop>(answer: Option<T>) -> Outcome<T>
+    ensures { result ≡ came answer }
+{
+    match answer {
+        Some(answer) => Outcome::Came(answer),
+        None => Outcome::Halted(Halted::NoMemory),
+    }
 }
 
 /// Runs a program from a node, in which nothing waits: to its answer, to the end of the run, or until the stop asks to give up.
@@ -275,7 +272,7 @@ pub fn run_nodes<N: Nodes, S: Stop>(
         let until = slice_end(nodes.steps());
         match slice(nodes, &mut stack, point, until) {
             Ok(Turned::Goes(next)) => point = next,
-            Ok(Turned::Came(answer)) => return Outcome::Came(answer),
+            Ok(Turned::Came) => return came(stack.pop()),
             Err(halted) => return Outcome::Halted(halted),
         }
     }

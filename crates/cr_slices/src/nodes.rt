@@ -4,7 +4,7 @@ ghost use Rattle.std.specs.List.{AllZip};
 ghost use Rattle.cr_meaning.specs.World.{Program as SpecProgram, World as SpecWorld, Answer as SpecAnswer, next as followed};
 ghost use Rattle.cr_meaning.specs.Turns.{absent as nothing_asked};
 ghost use Rattle.cr_slices.specs.Turns.{way_at, reached_at, before_at, join_at};
-ghost use Rattle.cr_slices.specs.Shown.{way_of, Worked, Joined, TakesAtMostOne};
+ghost use Rattle.cr_slices.specs.Shown.{way_of, Worked, Leaves, TakesAtMostOne};
 
 use cr_stack::Stack;
 
@@ -81,10 +81,10 @@ pub trait Nodes {
         ensures program { program self.new ≡ program self.old }
         ensures steps { TakesAtMostOne (world self.old).steps (world self.new).steps };
 
-    /// The work of the node on the top, once its parts have answered. It may take their answers off the stack.
-    fn join(&mut self, stack: &mut Stack<Self::Held>) -> Result<Self::Held, Halted>
+    /// The work of the node on the top, once its parts have answered. Its answer takes the place of theirs on the stack.
+    fn join(&mut self, stack: &mut Stack<Self::Held>) -> Result<(), Halted>
         ensures work { (answers : List SpecAnswer) → AllZip shows stack.old.top.done answers
-            → Joined shows (join_at (program self.old) stack.old.top.node answers (world self.old)) result (world self.new) }
+            → Leaves shows (join_at (program self.old) stack.old.top.node answers (world self.old)) result stack.new.top.done (world self.new) }
         ensures below { stack.new.below ≡ stack.old.below }
         ensures program { program self.new ≡ program self.old }
         ensures steps { (world self.new).steps ≡ (world self.old).steps };

@@ -1,5 +1,5 @@
 -- What a stack holds.
-use Rattle.std.specs.Prelude.{ℕ, List, ◌++◌, refl}
+use Rattle.std.specs.Prelude.{ℕ, List, [], ◌∷◌, ◌++◌, refl}
 use Rattle.std.specs.Coded.{Coded, code_by, coded×, coded_ℕ, coded_list}
 
 -- a node, and the answers of its parts so far
@@ -25,3 +25,8 @@ waiting_code {T} code =
 -- more answers of parts of the node at work
 abbrev pub with_more : {T : Type 0} → Waiting T → List T → Waiting T
 with_more waiting more = record { top = record { node = waiting.top.node; done = waiting.top.done ++ more }; below = waiting.below }
+
+-- more answers of parts of the first of the nodes that wait
+abbrev pub handed : {T : Type 0} → List T → List (Pending T) → List (Pending T)
+handed answers [] = []
+handed answers (up ∷ below) = record { node = up.node; done = up.done ++ answers } ∷ below

@@ -1,5 +1,5 @@
 // The stack of nodes.
-ghost use Rattle.std.specs.Prelude.{◌≡◌, [], ◌∷◌, ◌++◌, take, option_to_list, IfNone, OnOk, MatchBool};
+ghost use Rattle.std.specs.Prelude.{◌≡◌, false, [], ◌∷◌, ◌++◌, take, option_to_list, IfNone, OnErr, OnOk, MatchBool};
 
 use std::alloc::{AllocError, Global};
 use std::marker::Model;
@@ -79,6 +79,8 @@ impl<T> Stack<T> {
 }
 
 impl<T: Drop> Stack<T> {
+    ghost use Rattle.cr_stack.specs.Waiting.{handed};
+
     /// Another node is at work, and the one so far waits for its answer. The error is want of memory.
     #[inline]
     pub fn begin(&mut self, node: u32) -> Result<(), AllocError>
@@ -93,13 +95,14 @@ impl<T: Drop> Stack<T> {
         Ok(())
     }
 
-    /// A part of the node at work has answered. The error is want of memory.
+    /// A part of the node at work has answered. The error is want of memory, and then nothing is changed.
     #[inline]
     pub fn give(&mut self, answer: T) -> Result<(), AllocError>
-        ensures { OnOk result (self.new ≡ record {
+        ensures given { OnOk result (self.new ≡ record {
           top = record { node = self.old.top.node; done = self.old.top.done ++ answer ∷ [] };
           below = self.old.below;
         }) }
+        ensures failed { OnErr result (self.new ≡ self.old) }
     {
         self.answers.push(answer)?;
         Ok(())
@@ -118,12 +121,13 @@ impl<T: Drop> Stack<T> {
         }
     }
 
-    /// The node at work is left with its answers, and the one that waits for it is at work again. False where none waits.
+    /// The node at work is left, and the one that waits for it is at work again, with the answers of both, which stay where they are.
+    /// False where none waits, and then nothing is changed.
     #[inline]
-    pub fn end(&mut self) -> bool
-        ensures { MatchBool result (self.old.below ≡ self.new.top ∷ self.new.below) (self.old.below ≡ []) }
+    pub fn hand_up(&mut self) -> bool
+        ensures up { MatchBool result (handed self.old.top.done self.old.below ≡ self.new.top ∷ self.new.below) (self.old.below ≡ []) }
+        ensures last { result ≡ false → self.new ≡ self.old }
     {
-        self.answers.truncate(self.mark);
         match self.frames.pop() {
             Some(frame) => {
                 self.node = frame.node;

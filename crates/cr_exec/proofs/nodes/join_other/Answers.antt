@@ -6,5 +6,5 @@ use Rattle.cr_exec.proofs.nodes.join_other.Goals as goal
 
 pub returns-then-is_expression-clause-work : goal.returns-then-is_expression-clause-work
 returns-then-is_expression-clause-work c = λ answers z.
-    expression_here (program_of c.args.table.now) c.args.node c.args.op.now answers (world_of c.args.world.now) _ c.expression.result
+    expression_here (program_of c.args.table.now) c.args.node c.args.op.now answers (world_of c.args.world.now) _ c.expression.result c.expression.new.stack.top.done
     (sym c.is_expression.ensures ∙ c.if-is_expression.true) c.requires (c.expression.ensures.work answers z)

@@ -11,10 +11,10 @@ returns-in-Nothing g c = rw c.in-Nothing.is (λ waiting h. none_more g.N.Nodes.s
 pub returns-in-Absent : goal.returns-in-Absent
 returns-in-Absent g c = rw c.in-Absent.is (λ waiting h. on_ok c.give.result
     (λ given. one_more g.N.Nodes.shows c.args.stack.now c.give.new.self waiting [] c.absent.result absent (none_more g.N.Nodes.shows c.args.stack.now waiting h) c.absent.ensures given)
-    c.give.ensures)
+    c.give.ensures.given)
 
 pub returns-in_ok-give-in-Before : goal.returns-in_ok-give-in-Before
 returns-in_ok-give-in-Before g c = rw c.in-Before.is (λ waiting h. on_ok c.pass.result
     (λ passed. all_passed g.N.Nodes.shows c.pass.new.stack waiting c.in-Before.item passed)
     (c.pass.ensures (with_more waiting (next ∷ []))
-    (one_more g.N.Nodes.shows c.args.stack.now c.give-in-Before.new.self waiting [] c.passed.result next (none_more g.N.Nodes.shows c.args.stack.now waiting h) c.passed.ensures c.in_ok-give-in-Before.ensures)))
+    (one_more g.N.Nodes.shows c.args.stack.now c.give-in-Before.new.self waiting [] c.passed.result next (none_more g.N.Nodes.shows c.args.stack.now waiting h) c.passed.ensures c.in_ok-give-in-Before.ensures.given)))

@@ -6,4 +6,4 @@ loop-init g c = λ waiting h. none_more g.N.Nodes.shows c.args.stack.now waiting
 
 pub loop-preserved : goal.loop-preserved
 loop-preserved g c = λ waiting h.
-    one_passed g.N.Nodes.shows c.loop.stack c.give.new.self waiting c.loop.counter c.passed.result (c.loop.invariant waiting h) c.passed.ensures c.in_ok-give.ensures
+    one_passed g.N.Nodes.shows c.loop.stack c.give.new.self waiting c.loop.counter c.passed.result (c.loop.invariant waiting h) c.passed.ensures c.in_ok-give.ensures.given
