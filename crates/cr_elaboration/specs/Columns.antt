@@ -15,7 +15,10 @@ use Rattle.cr_typed.specs.declared.typed.Put.{Put}
 use Rattle.cr_rules.specs.declared.known.Member.{Member}
 use Rattle.cr_initial.specs.Plans.{Entry, puts_of}
 use Rattle.cr_elaboration.specs.declared.judgement.Judgement.{Judgement}
+use Rattle.cr_elaboration.specs.declared.assembling.Columns.{Columns}
+use Rattle.cr_elaboration.specs.declared.assembling.Entities.{Entities}
 use Rattle.cr_elaboration.specs.declared.assembling.Shaped.{Shaped}
+use Rattle.cr_elaboration.specs.declared.assembling.Values.{Values}
 use Rattle.cr_elaboration.specs.Rows.{listed, levels_of_all, levels_upto, put_entry, put_type, AreRowsOf, AreAllRows, AreAllPuts}
 use Rattle.cr_elaboration.specs.Names.{ref_of, duration_of, named_of}
 use Rattle.cr_elaboration.specs.Expressions.{type_of_node, constant_of, valued_of, chosen_of}
@@ -74,6 +77,26 @@ pub record IsShaped (u : Parsed) (j : Judgement) (s : Shaped) : Type 0 where
   pub plans : AreAllPuts s.shapes (plan_entries j) (length u.nodes) s.plans
 
 -- ---- the columns
+
+-- what names stand for
+pub record AreEntities (u : Parsed) (j : Judgement) (e : Entities) : Type 0 where
+  pub refs : e.refs ≡ listed (ref_of u j) (length u.nodes)
+  pub durations : e.durations ≡ listed (duration_of u.nodes j) (length u.nodes)
+  pub parameters : e.parameters ≡ listed (parameters_of u j) (length u.nodes)
+
+-- what nodes give by themselves
+pub record AreValues (nodes : List Node) (j : Judgement) (v : Values) : Type 0 where
+  pub valued : v.valued ≡ listed (valued_of nodes j) (length nodes)
+  pub constants : v.constants ≡ listed (constant_of j) (length nodes)
+  pub layouts_are : v.layouts ≡ listed (layout_at j) (length nodes)
+  pub chosen : v.chosen ≡ listed (chosen_of nodes j) (length nodes)
+
+-- all that is worked out of a unit
+pub record AreColumns (file : List ℕ) (u : Parsed) (j : Judgement) (c : Columns) : Type 0 where
+  pub shaped : IsShaped u j c.shaped
+  pub entities : AreEntities u j c.entities
+  pub values : AreValues u.nodes j c.values
+  pub main : c.main ≡ main_of file u
 
 pub record IsElaborated (file : List ℕ) (u : Parsed) (texts : List (List ℕ)) (j : Judgement) (t : Typed) : Type 0 where
   pub file_is : t.file ≡ file

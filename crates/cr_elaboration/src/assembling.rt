@@ -4,7 +4,8 @@ ghost use Rattle.cr_types.specs.Types.{type_at, unknown};
 ghost use Rattle.cr_elaboration.specs.Reading.{parsed_of};
 ghost use Rattle.cr_elaboration.specs.Entities.{AreFound};
 ghost use Rattle.cr_elaboration.specs.Rows.{listed};
-ghost use Rattle.cr_elaboration.specs.Columns.{layout_at as layout_at_lem, IsElaborated, IsShaped};
+ghost use Rattle.cr_elaboration.specs.Columns.{layout_at as layout_at_lem, AreColumns, AreEntities, AreValues, IsElaborated, IsShaped};
+ghost use Rattle.cr_elaboration.specs.declared.judgement.Judgement.{Judgement};
 
 use crate::expressions::{chosen, constants, types, valued};
 use crate::functions::{main_of, parameters};
@@ -15,8 +16,8 @@ use crate::plans::{members, plans};
 use crate::reading::entry_at;
 use crate::rows::rows;
 use cr_rows::Row;
-use cr_syntax::Unit;
-use cr_typed::{Put, Typed};
+use cr_syntax::{Node, Unit};
+use cr_typed::{Duration, Put, Typed};
 use cr_types::{Layout, NOTHING, Table};
 use std::alloc::{AllocError, Global};
 
@@ -33,35 +34,121 @@ pub fn typed(
     requires first { type_at judged.now.table.now 0 ≡ unknown }
     ensures { IfOk result (λ t. IsElaborated file (parsed_of unit) texts judged.now t) }
 {
-    let found = declarations_of(alloc, &unit, judged)?;
-    let shaped = types_of(alloc, &unit, judged, &found)?;
-    let refs = refs(alloc, &unit, judged, &found)?;
-    let valued = valued(alloc, unit.nodes.as_slice(), judged)?;
-    let durations = durations(alloc, &unit, judged, &found)?;
-    let constants = constants(alloc, unit.nodes.len(), judged)?;
-    let layouts = layouts(alloc, unit.nodes.len(), judged)?;
-    let chosen = chosen(alloc, unit.nodes.as_slice(), judged)?;
-    let parameters = parameters(alloc, &unit, judged, &found)?;
-    let main = main_of(file.as_slice(), &unit)?;
-    Ok(Typed {
+    let columns = columns_of(alloc, file.as_slice(), &unit, judged)?;
+    Ok(put_together(file, unit, texts, columns))
+}
+
+fn put_together(file: Row<u8>, unit: Unit, texts: Row<Row<u8>>, columns: Columns) -> Typed
+    ensures { (j : Judgement) → AreColumns file (parsed_of unit) j columns → IsElaborated file (parsed_of unit) texts j result }
+{
+    let Columns {
+        shaped,
+        entities,
+        values,
+        main,
+    } = columns;
+    Typed {
         file,
         tokens: Row::from_vec(unit.tokens.list),
         nodes: unit.nodes,
         items: unit.items,
         shapes: shaped.shapes,
         types: shaped.types,
-        refs,
-        valued,
+        refs: entities.refs,
+        valued: values.valued,
         named: shaped.named,
-        durations,
-        constants,
-        layouts,
+        durations: entities.durations,
+        constants: values.constants,
+        layouts: values.layouts,
         members: shaped.members,
-        chosen,
-        parameters,
+        chosen: values.chosen,
+        parameters: entities.parameters,
         plans: shaped.plans,
         texts,
         main,
+    }
+}
+
+/// What is worked out of a unit, in groups, so that little is owned where memory may be wanting.
+#[derive(Drop)]
+struct Columns {
+    shaped: Shaped,
+    entities: Entities,
+    values: Values,
+    main: u32,
+}
+
+fn columns_of(
+    alloc: Global,
+    file: &[u8],
+    unit: &Unit,
+    judged: &Judgement,
+) -> Result<Columns, AllocError>
+    requires spans { AreSpans file.now unit.now.tokens.list.items }
+    requires first { type_at judged.now.table.now 0 ≡ unknown }
+    ensures { IfOk result (λ c. AreColumns file.now (parsed_of unit.now) judged.now c) }
+{
+    let found = declarations_of(alloc, unit, judged)?;
+    let main = main_of(file, unit)?;
+    let shaped = types_of(alloc, unit, judged, &found)?;
+    let entities = entities_of(alloc, unit, judged, &found)?;
+    let values = values_of(alloc, unit.nodes.as_slice(), judged)?;
+    Ok(Columns {
+        shaped,
+        entities,
+        values,
+        main,
+    })
+}
+
+/// The columns of what names stand for.
+#[derive(Drop)]
+struct Entities {
+    refs: Row<Option<u32>>,
+    durations: Row<Duration>,
+    parameters: Row<Row<u32>>,
+}
+
+fn entities_of(
+    alloc: Global,
+    unit: &Unit,
+    judged: &Judgement,
+    found: &Found,
+) -> Result<Entities, AllocError>
+    requires { AreFound (parsed_of unit.now) judged.now found.now }
+    ensures { IfOk result (λ e. AreEntities (parsed_of unit.now) judged.now e) }
+{
+    let refs = refs(alloc, unit, judged, found)?;
+    let durations = durations(alloc, unit, judged, found)?;
+    let parameters = parameters(alloc, unit, judged, found)?;
+    Ok(Entities {
+        refs,
+        durations,
+        parameters,
+    })
+}
+
+/// The columns of what nodes give by themselves.
+#[derive(Drop)]
+struct Values {
+    valued: Row<bool>,
+    constants: Row<Option<i128>>,
+    layouts: Row<Layout>,
+    chosen: Row<usize>,
+}
+
+fn values_of(alloc: Global, nodes: &[Node], judged: &Judgement) -> Result<Values, AllocError>
+    ensures { IfOk result (λ v. AreValues nodes.now judged.now v) }
+{
+    let valued = valued(alloc, nodes, judged)?;
+    let constants = constants(alloc, nodes.len(), judged)?;
+    let layouts = layouts(alloc, nodes.len(), judged)?;
+    let chosen = chosen(alloc, nodes, judged)?;
+    Ok(Values {
+        valued,
+        constants,
+        layouts,
+        chosen,
     })
 }
 
