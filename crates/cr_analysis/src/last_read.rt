@@ -3,7 +3,6 @@ ghost use Rattle.std.specs.Prelude.{◌≡◌, IfSome, Some};
 ghost use Rattle.cr_analysis.specs.Analysis.{IsAnalysis};
 
 use crate::analysis::Analysis;
-use std::alloc::Global;
 use std::sync::Mutex;
 
 /// A file's bytes with what was read of them.
@@ -29,14 +28,10 @@ impl LastRead {
         }
     }
 
-    /// Leaves what was read of a file, and drops what lay there. Where another thread is at the place, or no memory is left for the bytes,
-    /// nothing is left.
-    pub fn leave(&self, alloc: Global, file: &[u8], analysis: Analysis)
-        requires { IsAnalysis file.now analysis }
+    /// Leaves what was read of a file, by its bytes, and drops what lay there. Where another thread is at the place, nothing is left.
+    pub fn leave(&self, bytes: Vec<u8>, analysis: Analysis)
+        requires { IsAnalysis bytes.items analysis }
     {
-        let Ok(bytes) = file.to_vec(alloc) else {
-            return;
-        };
         if let Some(mut place) = self.place.try_lock() {
             *place = Some(FileRead { bytes, analysis });
         }

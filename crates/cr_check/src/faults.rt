@@ -1,8 +1,8 @@
 // The first fault of a judged unit.
-ghost use Rattle.std.specs.Prelude.{◌≡◌, ◌-◌, IfOk, length};
+ghost use Rattle.std.specs.Prelude.{◌≡◌, ◌-◌, IfErr, IfOk, OnOk, length};
 ghost use Rattle.cr_syntax.specs.Words.{AreSpans};
 ghost use Rattle.cr_check.specs.Judged.{IsJudgedFirst};
-ghost use Rattle.cr_check.specs.Checked.{IsFound, constraint_of, found_of};
+ghost use Rattle.cr_check.specs.Checked.{IsFirstFault, IsFound, IsSoundOf, constraint_of, found_of};
 
 use crate::fault::TypeFault;
 use crate::judged::{Judged, declarations_of};
@@ -12,10 +12,30 @@ use cr_scopes::Names;
 use cr_syntax::Unit;
 use std::alloc::{AllocError, Global};
 
-/// A typedef name that is declared again with another type, else the first constraint that is broken, else K40. The error is want of
-/// memory.
+/// Answers where there is none. Else it is a typedef name that is declared again with another type, else the first constraint that is
+/// broken, else K40.
+#[tactic(auto, using(crate::proofs::Found::fault_is, crate::proofs::Found::want_is))]
+pub(crate) fn no_fault(
+    alloc: Global,
+    file: &[u8],
+    unit: &Unit,
+    names: &Names,
+    judged: &Judged,
+) -> Result<(), TypeFault>
+    requires spans { AreSpans file.now unit.now.tokens.list.items }
+    requires judged { IsJudgedFirst file.now unit.now names.now judged.now }
+    ensures sound { OnOk result (IsSoundOf file.now unit.now names.now judged.now) }
+    ensures fault { IfErr result (λ fault. IsFirstFault file.now unit.now names.now fault) }
+{
+    match first_fault(alloc, file, unit, names, judged)? {
+        Some(fault) => Err(fault),
+        None => Ok(()),
+    }
+}
+
+// The first fault. The error is want of memory.
 #[tactic(auto, using(crate::proofs::Found::found_is))]
-pub(crate) fn first_fault(
+fn first_fault(
     alloc: Global,
     file: &[u8],
     unit: &Unit,

@@ -3,12 +3,13 @@ ghost use Rattle.cr_syntax.specs.Words.{AreSpans};
 ghost use Rattle.cr_types.specs.declared.shape.Shape as shape;
 ghost use Rattle.cr_types.specs.Types.{unknown, IsRow, Grows};
 ghost use Rattle.cr_rules.specs.Breaks.{first_of, lesser, IsFirst};
-ghost use Rattle.cr_judge.specs.Typing.{IsRuledIf, IsTyping, IsWithin, AreWithin};
+ghost use Rattle.cr_judge.specs.Typing.{nothing_typed, IsRuledIf, IsTyping, IsWithin, AreWithin};
 ghost use Rattle.cr_judge.specs.Breaks.{expression_faults, declaration_faults, initialiser_faults, linked_faults, IsBroken};
 
 use crate::entry::{Entry, broken, entry_of};
 use crate::typing::{Typing, empty, make_room, push};
 use cr_declarations::Tree;
+use cr_holding::holding;
 use cr_rows::Row;
 use cr_rules::{Break, lesser};
 use cr_syntax::number_of;
@@ -24,7 +25,6 @@ pub struct Judged {
 
 /// Judges the expressions and declarations of a unit. `texts` has the bytes of each string literal, with its closing zero. The
 /// table's first row is that of no type. The error is want of memory.
-#[tactic(auto, using(crate::proofs::Steps::none_yet, crate::proofs::Steps::all_typed, crate::proofs::Steps::first_of_all))]
 pub fn judge(
     alloc: Global,
     table: &mut Table,
@@ -39,14 +39,36 @@ pub fn judge(
     ensures grows { OnOk result (Grows table.old table.new) }
 {
     let mut typing = empty(alloc);
-    make_room(&mut typing, tree.nodes.len())?;
+    let broken = judge_each(alloc, table, tree, texts, &mut typing);
+    let (broken, typing) = holding(broken, typing)?;
+    Ok(Judged { typing, broken })
+}
+
+// Puts what each node has to the columns, and answers the first row that one breaks.
+#[tactic(auto, using(crate::proofs::Steps::none_yet, crate::proofs::Steps::all_typed, crate::proofs::Steps::first_of_all))]
+fn judge_each(
+    alloc: Global,
+    table: &mut Table,
+    tree: &Tree,
+    texts: &[Row<u8>],
+    typing: &mut Typing,
+) -> Result<Option<Break>, AllocError>
+    requires spans { AreSpans tree.now.file.now tree.now.tokens.now }
+    requires first { IsRow table.old 0 unknown }
+    requires empty { typing.old ≡ nothing_typed }
+    ensures within { OnOk result (AreWithin table.new typing.new) }
+    ensures typing { OnOk result (IsTyping tree.now texts.now table.new typing.new) }
+    ensures broken { IfOk result (λ b. IsFirst (IsBroken tree.now texts.now table.new typing.new) b) }
+    ensures grows { OnOk result (Grows table.old table.new) }
+{
+    make_room(typing, tree.nodes.len())?;
     let mut broken = None;
     for at in 0..tree.nodes.len() {
-        let one = judge_node(alloc, table, tree, texts, &typing, at)?;
+        let one = judge_node(alloc, table, tree, texts, typing, at)?;
         broken = lesser(broken, one.broken);
-        push(&mut typing, one.entry)?;
+        push(typing, one.entry)?;
     }
-    Ok(Judged { typing, broken })
+    Ok(broken)
 }
 
 /// What a node has, and the first row that it breaks.

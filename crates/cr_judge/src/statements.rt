@@ -14,6 +14,7 @@ use crate::judged::{Judged, judge};
 use crate::typing::Typing;
 use cr_declarations::Tree;
 use cr_flow::{Setting, judge as judge_flow};
+use cr_holding::holding;
 use cr_marks::{Labelled, again, labels};
 use cr_rows::Row;
 use cr_rules::{Break, lesser, part_at};
@@ -58,8 +59,10 @@ pub fn judge_unit(
     ensures grows { OnOk result (Grows table.old table.new) }
 {
     let judged = judge(alloc, table, tree, texts)?;
-    let marked = marks_of(alloc, table, tree, &judged.typing)?;
-    let statement = statement_fault(table, tree, &judged.typing, &marked)?;
+    let marked = marks_of(alloc, table, tree, &judged.typing);
+    let (marked, judged) = holding(marked, judged)?;
+    let statement = statement_fault(table, tree, &judged.typing, &marked);
+    let (statement, (marked, judged)) = holding(statement, (marked, judged))?;
     Ok(Whole {
         broken: lesser(judged.broken, statement),
         typing: judged.typing,

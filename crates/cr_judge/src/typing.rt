@@ -174,27 +174,27 @@ pub(crate) fn known_of<'a>(
     }
 }
 
-/// One node more.
+/// One node more. What an entry owns comes first, so that the least is owned where memory may be wanting.
 pub(crate) fn push(typing: &mut Typing, entry: Entry) -> Result<(), AllocError>
     ensures { OnOk result (typing.new ≡ with_entry typing.old entry) }
 {
+    typing.parameters.push(entry.parameters)?;
+    typing.members.push(entry.members)?;
+    typing.lines.push(entry.lines)?;
+    typing
+        .composite_parameters
+        .push(entry.composite_parameters)?;
     typing.facts.push(entry.fact)?;
     typing.specified.push(entry.own.specified)?;
     typing.named.push(entry.own.named)?;
     typing.declarators.push(entry.own.declarator)?;
     typing.derivations.push(entry.own.derivations)?;
     typing.declared.push(entry.declared)?;
-    typing.parameters.push(entry.parameters)?;
-    typing.members.push(entry.members)?;
     typing.layouts.push(entry.own.layout)?;
     typing.fixed.push(entry.fixed)?;
     typing.enumerated.push(entry.own.enumerated)?;
     typing.anchors.push(entry.anchor)?;
-    typing.lines.push(entry.lines)?;
     typing.linked.push(entry.linked)?;
     typing.composites.push(entry.composite)?;
-    typing
-        .composite_parameters
-        .push(entry.composite_parameters)?;
     Ok(())
 }

@@ -1,10 +1,10 @@
 // The law of programs.
-ghost use Rattle.std.specs.Prelude.{◌≡◌, true, false};
+ghost use Rattle.std.specs.Prelude.{◌≡◌, ℕ, List, true, false};
 ghost use Rattle.cr_cursor.specs.declared.law.Reason.{Reason};
 ghost use Rattle.cr_lawful.specs.Lawful.{IsLawful, IsReason, IsTypedUnit, Rules, limits_of};
 ghost use Rattle.cr_lawful.specs.Programs.{IsProgram};
 
-use crate::program::{Program, analysis_of};
+use crate::program::{Program, reading_of};
 use crate::reasons::run_ruling;
 use crate::units::program_of_file;
 use cr_analysis::LastRead;
@@ -86,16 +86,17 @@ fn ruled_on_program<S: Stop>(
 {
     let ruling = ruled_on_run(alloc, file, &program.typed, law.limits, stop);
     if ruling == Ruling::Lawful {
-        leave(alloc, file, program, law.last);
+        leave(program, law.last);
     }
     ruling
 }
 
-fn leave(alloc: Global, file: &[u8], program: Program, last: Option<&LastRead>)
-    requires { IsProgram file.now program }
+fn leave(program: Program, last: Option<&LastRead>)
+    requires { (file : List ℕ) × IsProgram file program }
 {
     if let Some(last) = last {
-        last.leave(alloc, file, analysis_of(program));
+        let (bytes, analysis) = reading_of(program);
+        last.leave(bytes, analysis);
     }
 }
 

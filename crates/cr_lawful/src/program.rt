@@ -40,10 +40,10 @@ pub(crate) fn program_of(
     }
 }
 
-/// What is read of the file, once the program has run.
-pub(crate) fn analysis_of(program: Program) -> Analysis
+/// The file's bytes with what is read of them, once the program has run.
+pub(crate) fn reading_of(program: Program) -> (Vec<u8>, Analysis)
     requires { (file : List ℕ) × IsProgram file program }
-    ensures { (file : List ℕ) → IsProgram file program → IsAnalysis file result }
+    ensures { IsAnalysis result.0.items result.1 }
 {
     let Program {
         typed,
@@ -54,5 +54,8 @@ pub(crate) fn analysis_of(program: Program) -> Analysis
         list: typed.tokens.into_vec(),
     };
     let unit = Unit::new(tokens, typed.nodes, typed.items);
-    Analysis::OfUnit(unit, names, structures)
+    (
+        typed.file.into_vec(),
+        Analysis::OfUnit(unit, names, structures),
+    )
 }

@@ -9,7 +9,7 @@ fn what_was_read_before_is_taken_and_offers_the_same(rt: HostRuntime) -> Result<
     let alloc = rt.alloc();
     let file: &[u8] = b"int a;\nint main(){return 1+2;}\n";
     let last = LastRead::new();
-    last.leave(alloc, file, analyse(alloc, file)?);
+    last.leave(file.to_vec(alloc)?, analyse(alloc, file)?);
     let enabled = [true; 10];
     let plain = CPasses {
         enabled,

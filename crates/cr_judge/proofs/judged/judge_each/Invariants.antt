@@ -1,6 +1,6 @@
 use Rattle.cr_types.specs.Types.{Grows}
 use Rattle.cr_judge.proofs.Steps.{AreJudged}
-use Rattle.cr_judge.proofs.judged.judge.Given as goal
+use Rattle.cr_judge.proofs.judged.judge_each.Given as goal
 
 abbrev pub invariant-loop-at : goal.invariant-loop-at
 invariant-loop-at l = record {

@@ -4,7 +4,7 @@ use Rattle.cr_judge.specs.Typing.{with_entry}
 use Rattle.cr_judge.proofs.Kept.{all_kept}
 use Rattle.cr_judge.proofs.Later.{breaks_later}
 use Rattle.cr_judge.proofs.Steps.{AreJudged, next, all_typed}
-use Rattle.cr_judge.proofs.judged.judge.Goals as goal
+use Rattle.cr_judge.proofs.judged.judge_each.Goals as goal
 
 pub loop-at-preserved : goal.loop-at-preserved
 loop-at-preserved c =

@@ -1,0 +1,2 @@
+-- Values that are held.
+pub mod Holding
