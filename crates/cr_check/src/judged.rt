@@ -8,6 +8,7 @@ ghost use Rattle.cr_check.specs.Judged.{IsJudgedFirst, IsWholeFirst, known_in};
 
 use cr_columns::texts;
 use cr_definitions::Declarations;
+use cr_holding::holding;
 use cr_judge::{Whole, judge_unit};
 use cr_rows::Row;
 use cr_scopes::Names;
@@ -35,11 +36,12 @@ pub(crate) fn judgement(
     requires { AreSpans file.now unit.now.tokens.list.items }
     ensures { IfOk result (λ j. IsJudgedFirst file.now unit.now names.now j) }
 {
-    let surroundings = Surroundings::new(alloc, file, unit, names)?;
     let tokens = unit.tokens.list.as_slice();
     let texts = texts(alloc, file, tokens, unit.nodes.as_slice())?;
     let mut table = Table::new(alloc)?;
-    let whole = whole_of(alloc, &mut table, file, unit, &surroundings, &texts)?;
+    let surroundings = Surroundings::new(alloc, file, unit, names)?;
+    let whole = whole_of(alloc, &mut table, file, unit, &surroundings, &texts);
+    let (whole, surroundings) = holding(whole, surroundings)?;
     Ok(Judged {
         surroundings,
         texts: Row::from_vec(texts),

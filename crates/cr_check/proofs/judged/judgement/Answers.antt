@@ -1,26 +1,28 @@
 use Rattle.std.proofs.Common.{sym, subst, ◌∙◌}
+use Rattle.cr_holding.proofs.Kept.{kept}
 use Rattle.cr_columns.specs.Texts.{AreTexts}
+use Rattle.cr_surroundings.specs.Surroundings.{AreSurroundings}
 use Rattle.cr_check.specs.Judged.{IsWholeFirst}
+use Rattle.cr_check.proofs.Found.{judged_by}
 use Rattle.cr_check.proofs.judged.judgement.Goals as goal
 
 pub returns : goal.returns
 returns c =
     let file = c.args.file.now in
     let unit = c.args.unit.now in
-    let s = c.in_ok-surroundings.surroundings in
-    let table = c.whole_of.new.table in
+    let names = c.args.names.now in
+    let first = c.in_ok-surroundings.surroundings in
+    let s = c.in_ok-whole.surroundings in
+    let table = c.whole_of-whole.new.table in
     let whole = c.in_ok-whole.whole in
     let texts = c.in_ok-texts.texts.items in
     let same = sym c.from_vec.ensures in
-    let judged = subst (λ x. IsWholeFirst file unit s x table whole) (c.deref.ensures.value ∙ same) c.in_ok-whole.ensures in
-    record {
-      tree = judged.tree;
-      is = record {
-        surroundings = c.in_ok-surroundings.ensures;
-        texts = subst (AreTexts file unit.tokens.list.items unit.nodes) same
-            (subst (λ ns. AreTexts file unit.tokens.list.items ns texts) c.as_slice.ensures
-            (subst (λ ts. AreTexts file ts c.as_slice.result.now texts) c.as_slice-tokens.ensures.value c.in_ok-texts.ensures));
-        whole = judged.is;
-      };
-      first = judged.first;
-    }
+    let (is, held) = kept (λ w. IsWholeFirst file unit first c.deref.result.now table w) c.whole_of-whole.result first (whole, s)
+        (sym c.holding.ensures ∙ c.in_ok-whole.was) c.whole_of-whole.ensures in
+    judged_by file unit names (record { surroundings = s; texts = c.from_vec.result; table = table; whole = whole })
+    (subst (AreSurroundings file unit names) held c.in_ok-surroundings.ensures)
+    (subst (AreTexts file unit.tokens.list.items unit.nodes) same
+    (subst (λ ns. AreTexts file unit.tokens.list.items ns texts) c.as_slice.ensures
+    (subst (λ ts. AreTexts file ts c.as_slice.result.now texts) c.as_slice-tokens.ensures.value c.in_ok-texts.ensures)))
+    (subst (λ x. IsWholeFirst file unit s x table whole) (c.deref.ensures.value ∙ same)
+    (subst (λ x. IsWholeFirst file unit x c.deref.result.now table whole) held is))
