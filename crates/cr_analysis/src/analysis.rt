@@ -110,9 +110,11 @@ fn checked(alloc: Global, file: &[u8], unit: Unit, names: Names) -> Result<Analy
     match check(alloc, file, &unit, &names) {
         Ok(judged) => {
             let structures = structures_of(alloc, &unit, &judged);
+            drop(judged);
             of_unit(unit, names, structures)
         }
         Err(fault) => {
+            drop(names);
             type_refusal(fault)?;
             Ok(Analysis::NoUnit(Row::from_vec(unit.tokens.list)))
         }
@@ -127,7 +129,13 @@ fn of_unit(
     ensures { (file : List ℕ) (judged : Judged) → Tokenizes file unit.tokens.list.items → IsUnitOf file unit.tokens.list.items unit names judged
         → IfOk structures (λ s. s ≡ structures_of unit.nodes judged) → IfOk result (IsAnalysis file) }
 {
-    Ok(Analysis::OfUnit(unit, names, structures?))
+    match structures {
+        Ok(structures) => Ok(Analysis::OfUnit(unit, names, structures)),
+        Err(error) => {
+            drop((unit, names));
+            Err(error)
+        }
+    }
 }
 
 fn type_refusal(fault: TypeFault) -> Result<(), AllocError>

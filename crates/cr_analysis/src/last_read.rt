@@ -32,8 +32,9 @@ impl LastRead {
     pub fn leave(&self, bytes: Vec<u8>, analysis: Analysis)
         requires { IsAnalysis bytes.items analysis }
     {
-        if let Some(mut place) = self.place.try_lock() {
-            *place = Some(FileRead { bytes, analysis });
+        match self.place.try_lock() {
+            Some(mut place) => drop(place.replace(FileRead { bytes, analysis })),
+            None => drop((bytes, analysis)),
         }
     }
 
@@ -43,10 +44,10 @@ impl LastRead {
     {
         let mut place = self.place.try_lock()?;
         let known = place.take()?;
-        if known.bytes.as_slice() == file {
-            Some(known.analysis)
-        } else {
-            None
+        if known.bytes.as_slice() != file {
+            drop(known);
+            return None;
         }
+        Some(known.analysis)
     }
 }

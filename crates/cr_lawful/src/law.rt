@@ -87,6 +87,8 @@ fn ruled_on_program<S: Stop>(
     let ruling = ruled_on_run(alloc, file, &program.typed, law.limits, stop);
     if ruling == Ruling::Lawful {
         leave(program, law.last);
+    } else {
+        drop(program);
     }
     ruling
 }
@@ -94,9 +96,12 @@ fn ruled_on_program<S: Stop>(
 fn leave(program: Program, last: Option<&LastRead>)
     requires { (file : List ℕ) × IsProgram file program }
 {
-    if let Some(last) = last {
-        let (bytes, analysis) = reading_of(program);
-        last.leave(bytes, analysis);
+    match last {
+        Some(last) => {
+            let (bytes, analysis) = reading_of(program);
+            last.leave(bytes, analysis);
+        }
+        None => drop(program),
     }
 }
 

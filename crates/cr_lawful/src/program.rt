@@ -30,13 +30,13 @@ pub(crate) fn program_of(
     ensures program { IfOk result (λ p. (p.names ≡ names) × (typed ≡ Ok p.typed) × (structures ≡ Ok p.structures)) }
     ensures refused { IfErr result (λ ruling. ruling ≡ Ruling.NoMemory) }
 {
-    match (typed, structures) {
-        (Ok(typed), Ok(structures)) => Ok(Program {
+    match typed.ok().zip(structures.ok()) {
+        Some((typed, structures)) => Ok(Program {
             typed,
             names,
             structures,
         }),
-        _ => Err(Ruling::NoMemory),
+        None => Err(Ruling::NoMemory),
     }
 }
 

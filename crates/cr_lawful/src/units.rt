@@ -125,6 +125,7 @@ fn with_columns<S: Stop>(
     ensures held { S.held stop.new ≡ S.held stop.old }
 {
     if stop.stop() {
+        drop((unit, names, judged));
         return Err(Ruling::Stopped);
     }
     tokens_are_spans();

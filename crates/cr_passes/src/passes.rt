@@ -40,7 +40,10 @@ fn left(alloc: Global, last: Option<&LastRead>, file: &[u8]) -> Option<Analysis>
     let analysis = last?.take(file)?;
     match read(alloc, file) {
         Ok(_) => Some(analysis),
-        Err(_) => None,
+        Err(_) => {
+            drop(analysis);
+            None
+        }
     }
 }
 
@@ -72,7 +75,9 @@ impl<'a> Passes for CPasses<'a> {
 
     fn prepare(&self, alloc: Global, file: &[u8]) -> Result<Index, NoMemory> {
         let analysis = analysis_of(alloc, self.last, file)?;
-        index_of(alloc, &self.enabled, file, &analysis)
+        let index = index_of(alloc, &self.enabled, file, &analysis);
+        drop(analysis);
+        index
     }
 
     fn width(&self, prep: &Index, pass: u8, level: u8) -> u64 {

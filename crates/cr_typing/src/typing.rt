@@ -32,7 +32,9 @@ pub fn typed(
     ensures { IfOk result (λ typed. IsTypedOf file.now unit names.now typed) }
 {
     let mut judged = judged;
-    typed_by(alloc, file, unit, names, &mut judged)
+    let typed = typed_by(alloc, file, unit, names, &mut judged);
+    drop(judged);
+    typed
 }
 
 fn typed_by(
@@ -74,8 +76,7 @@ fn made(
         statics,
     );
     let typed = elaborated(alloc, bytes, unit, texts, &columns)?;
-    fitting(alloc, &typed)?;
-    Ok(typed)
+    fitting(alloc, &typed).and(Ok(typed))
 }
 
 // The bytes of the literals, which are taken out.
