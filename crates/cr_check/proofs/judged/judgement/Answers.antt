@@ -18,7 +18,7 @@ returns c =
     let texts = c.in_ok-texts.texts.items in
     let same = sym c.from_vec.ensures in
     let (is, held) = kept (λ w. IsWholeFirst file unit first c.deref.result.now table w) c.whole_of-whole.result first (whole, s)
-        (sym c.holding.ensures ∙ c.in_ok-whole.was) c.whole_of-whole.ensures in
+    (sym c.holding.ensures ∙ c.in_ok-whole.was) c.whole_of-whole.ensures in
     judged_by file unit names (record { surroundings = s; texts = c.from_vec.result; table = table; whole = whole })
     (subst (AreSurroundings file unit names) held c.in_ok-surroundings.ensures)
     (subst (AreTexts file unit.tokens.list.items unit.nodes) same
