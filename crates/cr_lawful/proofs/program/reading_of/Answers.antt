@@ -17,6 +17,6 @@ pub returns : goal.returns
 returns c =
     let p = c.args.program in
     let (file, is) = c.requires in
-    subst (λ bytes. IsAnalysis bytes (OfUnit c.new-unit.result p.names p.structures)) (sym (c.into_vec#2.ensures ∙ file_is file p is))
+    subst (λ bytes. IsAnalysis bytes (OfUnit c.new-unit.result p.names p.structures)) (sym (c.into_vec-2.ensures ∙ file_is file p is))
     (is_read file p is c.new-unit.result (ap (λ (t : Tokens). t.list.items) c.new-unit.ensures.tokens ∙ c.into_vec.ensures)
     c.new-unit.ensures.nodes c.new-unit.ensures.items)
