@@ -40,10 +40,7 @@ fn left(alloc: Global, last: Option<&LastRead>, file: &[u8]) -> Option<Analysis>
     let analysis = last?.take(file)?;
     match read(alloc, file) {
         Ok(_) => Some(analysis),
-        Err(_) => {
-            drop(analysis);
-            None
-        }
+        Err(_) => None,
     }
 }
 
