@@ -1,6 +1,7 @@
-ghost use Rattle.std.specs.Prelude.{◌≡◌, ◌<◌, IfOk, length};
+ghost use Rattle.std.specs.Prelude.{◌<◌, length};
 
 use crate::all_rows;
+use crate::lists::rows_of;
 use crate::specifiers::{base_row, place_of, said, tell};
 use cr_constants::Constant;
 use cr_declared::{
@@ -8,10 +9,9 @@ use cr_declared::{
     function_fault, has_whole_elements, hole, is_hole, is_object, is_too_large, is_whole_object,
     open_fault, pointed, pointer, size_of, structure_of,
 };
-use cr_operands_tests::{row_of, shown};
+use cr_operands_tests::{expect, expect_type, nodes_with, pair, push_type, quadruple, row_of};
 use cr_places::Place;
-use cr_rows::Row;
-use cr_syntax::{CType, Kind, Node};
+use cr_syntax::{CType, Node};
 use cr_types::{Layout, NOTHING, Table};
 use std::alloc::{AllocError, Global};
 use std::test::Fail;
@@ -126,23 +126,10 @@ S4 => 4 4 1 constant
 #[test]
 fn declarators_have_types_and_faults(rt: HostRuntime) -> Result<(), Fail> {
     let alloc = rt.alloc();
-    let nodes = structures(alloc)?;
+    let nodes = nodes_with(alloc, 5, &[3, 4])?;
     let mut table = Table::new(alloc)?;
-    for line in DECLARATORS.split('\n') {
-        let (given, told) = line.split_once(" => ").ok_or("a row")?;
-        let (place, rest) = given.split_once("; ").ok_or("a place")?;
-        let (specifiers, steps) = rest.split_once("; ").ok_or("specifiers")?;
-        let found = ruled(
-            alloc,
-            &mut table,
-            nodes.as_slice(),
-            place,
-            specifiers,
-            steps,
-        )?;
-        if found.as_str() != told {
-            return Err(Fail::from("a declarator has another type or other faults"));
-        }
+    for row in DECLARATORS.split('\n') {
+        expect_declared(alloc, &mut table, nodes.as_slice(), row)?;
     }
     Ok(())
 }
@@ -151,16 +138,8 @@ fn declarators_have_types_and_faults(rt: HostRuntime) -> Result<(), Fail> {
 fn parameters_are_adjusted(rt: HostRuntime) -> Result<(), Fail> {
     let alloc = rt.alloc();
     let mut table = Table::new(alloc)?;
-    for line in PARAMETERS.split('\n') {
-        let (given, told) = line.split_once(" => ").ok_or("a row")?;
-        let row = row_of(alloc, &mut table, given)?;
-        if row as usize >= table.len() {
-            return Err(Fail::from("a row"));
-        }
-        let made = adjusted(&mut table, row)?;
-        if shown(alloc, &table, made)?.as_str() != told {
-            return Err(Fail::from("a parameter has another type"));
-        }
+    for row in PARAMETERS.split('\n') {
+        expect_adjusted(alloc, &mut table, row)?;
     }
     Ok(())
 }
@@ -169,17 +148,40 @@ fn parameters_are_adjusted(rt: HostRuntime) -> Result<(), Fail> {
 fn structures_are_laid_out(rt: HostRuntime) -> Result<(), Fail> {
     let alloc = rt.alloc();
     let mut table = Table::new(alloc)?;
-    for line in STRUCTURES.split('\n') {
-        let (given, told) = line.split_once(" => ").ok_or("a row")?;
-        let mut members = Vec::new(alloc);
-        for member in given.split(", ") {
-            members.push(row_of(alloc, &mut table, member)?)?;
-        }
-        if laid_out(alloc, &table, members.as_slice())?.as_str() != told {
-            return Err(Fail::from("a structure is laid out otherwise"));
-        }
+    for row in STRUCTURES.split('\n') {
+        expect_laid_out(alloc, &mut table, row)?;
     }
     Ok(())
+}
+
+fn expect_declared(
+    alloc: Global,
+    table: &mut Table,
+    nodes: &[Node],
+    row: &str,
+) -> Result<(), Fail> {
+    let (place, specifiers, steps, told) = quadruple(row, "; ", " => ");
+    let declared = declared_by(table, specifiers, steps)?;
+    let mut found = String::new(alloc);
+    push_ruled(&mut found, table, nodes, case_of(place, steps), declared)?;
+    expect(row, found.as_str(), told)
+}
+
+fn expect_adjusted(alloc: Global, table: &mut Table, row: &str) -> Result<(), Fail> {
+    let (text, told) = pair(row, " => ");
+    let given = row_of(table, text)?;
+    if given as usize >= table.len() {
+        return Err(Fail::from("no type"));
+    }
+    let found = adjusted(table, given)?;
+    expect_type(alloc, table, found, row, told)
+}
+
+fn expect_laid_out(alloc: Global, table: &mut Table, row: &str) -> Result<(), Fail> {
+    let (given, told) = pair(row, " => ");
+    let members = rows_of(alloc, table, given, ' ')?;
+    let found = laid_out(alloc, table, members.as_slice())?;
+    expect(row, found.as_str(), told)
 }
 
 fn laid_out(alloc: Global, table: &Table, members: &[u32]) -> Result<String, AllocError> {
@@ -189,14 +191,13 @@ fn laid_out(alloc: Global, table: &Table, members: &[u32]) -> Result<String, All
     let found = structure_of(table, &LAYOUTS, &FIXED, members);
     let (size, alignment) = (found.layout.size, found.layout.alignment);
     let cells = found.layout.cells;
-    let mut out = format!(in alloc; "{size} {alignment} {cells}")?;
-    if is_too_large(found.layout) {
-        out.push_str(" 7")?;
-    }
-    if found.fixed {
-        out.push_str(" constant")?;
-    }
-    Ok(out)
+    let large = only_if(is_too_large(found.layout), " 7");
+    let fixed = only_if(found.fixed, " constant");
+    format!(in alloc; "{size} {alignment} {cells}{large}{fixed}")
+}
+
+fn only_if(so: bool, text: &'static str) -> &'static str {
+    if so { text } else { "" }
 }
 
 const LARGE: Layout = Layout {
@@ -215,24 +216,6 @@ const SMALL: Layout = Layout {
 const LAYOUTS: [Layout; 5] = [NOTHING, NOTHING, NOTHING, LARGE, SMALL];
 
 const FIXED: [bool; 5] = [false, false, false, false, true];
-
-fn structures(alloc: Global) -> Result<Vec<Node>, AllocError> {
-    let mut nodes = Vec::new(alloc);
-    for at in 0..5 {
-        let kind = if at >= 3 {
-            Kind::StructContent
-        } else {
-            Kind::Int
-        };
-        nodes.push(Node {
-            kind,
-            first: 0,
-            last: 0,
-            parts: Row::new(alloc),
-        })?;
-    }
-    Ok(nodes)
-}
 
 // A declarator so far, with the row of its derivations.
 #[derive(Clone, Copy)]
@@ -262,73 +245,120 @@ fn case_of(place: &str, steps: &str) -> Case {
     }
 }
 
-fn ruled(
-    alloc: Global,
-    table: &mut Table,
-    nodes: &[Node],
-    place: &str,
-    specifiers: &str,
-    steps: &str,
-) -> Result<String, AllocError> {
-    let base = base_row(alloc, table, said(specifiers))?;
+// A declarator with the rows of the type that its specifiers name and of the declared one.
+#[derive(Clone, Copy)]
+struct Declared {
+    derived: Derived,
+    base: u32,
+    row: u32,
+}
+
+fn declared_by(table: &mut Table, specifiers: &str, steps: &str) -> Result<Declared, AllocError> {
+    let base = base_row(table, said(specifiers))?;
     let derived = derived_by(table, steps)?;
     if derived.row as usize >= table.len() || base as usize >= table.len() {
         return Err(AllocError);
     }
-    let declared = declare(table, derived.declarator, derived.row, base)?;
-    let mut out = String::new(alloc);
-    if derived.declarator.function.is_some() && !is_untyped(table, declared) {
-        out.push_str("function ")?;
-    }
-    out.push_str(type_shown(alloc, table, declared)?.as_str())?;
-    let case = case_of(place, steps);
-    if base as usize >= table.len() || derived.row as usize >= table.len() {
-        return Err(AllocError);
-    }
-    if lacks_type(table, nodes, case, derived, base, declared) {
-        out.push_str(" 6")?;
-    }
-    let declarator = derived.declarator;
-    tell(alloc, &mut out, 7, declarator.wrong)?;
-    tell(
-        alloc,
-        &mut out,
-        7,
-        cells_fault(table, &LAYOUTS, declarator, base),
-    )?;
-    let typedef = matches!(case.class, Some(Class::Typedef));
-    if function_fault(table, declarator, case.place, typedef, declared) {
-        out.push_str(" 8")?;
-    }
-    tell(
-        alloc,
-        &mut out,
-        14,
-        open_fault(declarator, case.place, case.class, case.initialised),
-    )?;
-    if let Place::Member = case.place {
-        tell(alloc, &mut out, 41, declarator.volatile)?;
-    }
-    Ok(out)
+    let row = declare(table, derived.declarator, derived.row, base)?;
+    Ok(Declared { derived, base, row })
 }
 
-// Whether a type that has to be complete isn't.
-fn lacks_type(
+// Adds the type of a declarator, and its faults.
+fn push_ruled(
+    out: &mut String,
     table: &Table,
     nodes: &[Node],
     case: Case,
-    derived: Derived,
-    base: u32,
-    declared: u32,
-) -> bool
-    requires derived { derived.row < length table.now }
-    requires base { base < length table.now }
-    requires declared { declared < length table.now }
+    declared: Declared,
+) -> Result<(), AllocError> {
+    let count = table.len();
+    if declared.row as usize >= count
+        || declared.base as usize >= count
+        || declared.derived.row as usize >= count
+    {
+        return Err(AllocError);
+    }
+    push_declared(out, table, declared)?;
+    push_faults(out, table, nodes, case, declared)
+}
+
+fn push_declared(out: &mut String, table: &Table, declared: Declared) -> Result<(), AllocError>
+    requires { declared.row < length table.now }
 {
+    if is_untyped(table, declared.row) {
+        return out.push_str("none");
+    }
+    let function = declared.derived.declarator.function.is_some();
+    out.push_str(only_if(function, "function "))?;
+    push_type(out, table, declared.row)
+}
+
+fn push_faults(
+    out: &mut String,
+    table: &Table,
+    nodes: &[Node],
+    case: Case,
+    declared: Declared,
+) -> Result<(), AllocError>
+    requires derived { declared.derived.row < length table.now }
+    requires base { declared.base < length table.now }
+    requires row { declared.row < length table.now }
+{
+    let declarator = declared.derived.declarator;
+    out.push_str(only_if(lacks_type(table, nodes, case, declared), " 6"))?;
+    tell(out, 7, declarator.wrong)?;
+    tell(
+        out,
+        7,
+        cells_fault(table, &LAYOUTS, declarator, declared.base),
+    )?;
+    out.push_str(only_if(is_wrong_function(table, case, declared), " 8"))?;
+    tell(
+        out,
+        14,
+        open_fault(declarator, case.place, case.class, case.initialised),
+    )?;
+    tell(out, 41, volatile_of_member(case, declarator))
+}
+
+fn is_wrong_function(table: &Table, case: Case, declared: Declared) -> bool
+    requires { declared.row < length table.now }
+{
+    let typedef = matches!(case.class, Some(Class::Typedef));
+    function_fault(
+        table,
+        declared.derived.declarator,
+        case.place,
+        typedef,
+        declared.row,
+    )
+}
+
+fn volatile_of_member(case: Case, declarator: Declarator) -> Option<u32> {
+    match case.place {
+        Place::Member => declarator.volatile,
+        _ => None,
+    }
+}
+
+// Whether a type that has to be complete isn't.
+fn lacks_type(table: &Table, nodes: &[Node], case: Case, declared: Declared) -> bool
+    requires derived { declared.derived.row < length table.now }
+    requires base { declared.base < length table.now }
+    requires row { declared.row < length table.now }
+{
+    let derived = declared.derived;
     let function = derived.declarator.function.is_some();
-    let whole = has_whole_elements(table, nodes, 9, derived.declarator, derived.row, base);
+    let whole = has_whole_elements(
+        table,
+        nodes,
+        9,
+        derived.declarator,
+        derived.row,
+        declared.base,
+    );
     let object = is_object(case.place, case.class, function, case.initialised);
-    !whole || (object && !is_whole_object(table, nodes, 9, declared))
+    !whole || (object && !is_whole_object(table, nodes, 9, declared.row))
 }
 
 fn derived_by(table: &mut Table, steps: &str) -> Result<Derived, AllocError> {
@@ -402,15 +432,5 @@ fn is_untyped(table: &Table, row: u32) -> bool
     match table.shape(row).of {
         CType::Unknown => true,
         _ => false,
-    }
-}
-
-fn type_shown(alloc: Global, table: &Table, row: u32) -> Result<String, AllocError>
-    requires { row < length table.now }
-{
-    if is_untyped(table, row) {
-        String::from_str(alloc, "none")
-    } else {
-        shown(alloc, table, row)
     }
 }

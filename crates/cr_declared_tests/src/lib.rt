@@ -7,6 +7,8 @@
 #[cfg(test)]
 mod declarators;
 #[cfg(test)]
+mod lists;
+#[cfg(test)]
 mod names;
 mod rows;
 #[cfg(test)]

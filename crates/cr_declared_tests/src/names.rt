@@ -2,15 +2,15 @@ ghost use Rattle.std.specs.Prelude.{◌≡◌, ◌<◌, IsTrue, length};
 ghost use Rattle.cr_types.specs.Relations.{AreRows};
 
 use crate::all_rows;
+use crate::lists::rows_of;
 use crate::specifiers::place_of;
 use cr_constants::Constant;
 use cr_declared::{
-    Class, Declaration, Enumerated, Given, Linkage, Signature, agree, enumeration_kind,
+    Class, Declaration, Enumerated, Given, Library, Linkage, Signature, agree, enumeration_kind,
     enumerator_by, has_library_type, is_again, library_of, linkage_of, may_be_initialised,
     tag_agrees, with_declaration,
 };
-use cr_ints::IntKind;
-use cr_operands_tests::row_of;
+use cr_operands_tests::{expect, name_of, pair, row_between, yes_or_no};
 use cr_syntax::Kind;
 use cr_types::Table;
 use std::alloc::{AllocError, Global};
@@ -146,55 +146,67 @@ fn names_are_declared_by_the_rules(rt: HostRuntime) -> Result<(), Fail> {
 }
 
 fn each_row(alloc: Global, rows: &str, rule: Rule) -> Result<(), Fail> {
-    for line in rows.split('\n') {
-        let (given, told) = line.split_once(" => ").ok_or("a row")?;
-        let found = answered(alloc, given, rule)?;
-        if found.as_str().trim() != told {
-            return Err(Fail::from("a rule on names has another answer"));
-        }
+    for row in rows.split('\n') {
+        expect_answer(alloc, row, rule)?;
     }
     Ok(())
 }
 
+fn expect_answer(alloc: Global, row: &str, rule: Rule) -> Result<(), Fail> {
+    let (given, told) = pair(row, " => ");
+    let found = answered(alloc, given, rule)?;
+    expect(row, found.as_str().trim(), told)
+}
+
 fn answered(alloc: Global, given: &str, rule: Rule) -> Result<String, AllocError> {
-    let mut words: Vec<&str> = Vec::new(alloc);
-    for word in given.split(' ') {
+    let words = words_of(alloc, given)?;
+    let mut out = String::new(alloc);
+    push_answer(alloc, &mut out, words.as_slice(), rule)?;
+    Ok(out)
+}
+
+fn words_of<'a>(alloc: Global, text: &'a str) -> Result<Vec<&'a str>, AllocError> {
+    let mut words = Vec::new(alloc);
+    for word in text.split(' ') {
         words.push(word)?;
     }
-    let words = words.as_slice();
+    Ok(words)
+}
+
+fn push_answer(
+    alloc: Global,
+    out: &mut String,
+    words: &[&str],
+    rule: Rule,
+) -> Result<(), AllocError> {
     match rule {
-        Rule::Enumerators => enumerated(alloc, words),
-        Rule::Tags => tagged(alloc, words),
-        Rule::Linkages => linked(alloc, words),
-        Rule::Declarations => repeated(alloc, words),
-        Rule::Functions => compared(alloc, words),
-        Rule::Library => listed(alloc, words),
+        Rule::Enumerators => push_enumerated(out, words),
+        Rule::Tags => out.push_str(tagged(words)),
+        Rule::Linkages => push_linked(out, words),
+        Rule::Declarations => push_repeated(out, words),
+        Rule::Functions => out.push_str(compared(alloc, words)?),
+        Rule::Library => out.push_str(listed(alloc, words)?),
     }
 }
 
-fn yes_or_no(so: bool) -> &'static str {
-    if so { "yes" } else { "no" }
-}
-
-fn enumerated(alloc: Global, words: &[&str]) -> Result<String, AllocError> {
-    let mut out = String::new(alloc);
+fn push_enumerated(out: &mut String, words: &[&str]) -> Result<(), AllocError> {
     let mut before: Option<Enumerated> = None;
     let mut negative = false;
     for word in words {
         let next = enumerator_by(before, given_by(word));
-        match next.value {
-            Some(value) => out.push_str(format!(in alloc; "{value} ")?.as_str())?,
-            None if next.broken => out.push_str("K15 ")?,
-            None => out.push_str("none ")?,
-        }
+        push_value(out, next)?;
         negative = next.negative;
         before = Some(next);
     }
-    out.push_str(match enumeration_kind(negative) {
-        IntKind::UInt => "uint",
-        _ => "int",
-    })?;
-    Ok(out)
+    out.push_str(name_of(enumeration_kind(negative)))
+}
+
+fn push_value(out: &mut String, enumerated: Enumerated) -> Result<(), AllocError> {
+    match enumerated.value {
+        Some(value) => write!(out, "{value} "),
+        None if enumerated.broken => out.push_str("K15 "),
+        None => out.push_str("none "),
+    }
 }
 
 fn given_by(word: &str) -> Given {
@@ -206,13 +218,13 @@ fn given_by(word: &str) -> Given {
     }
 }
 
-fn tagged(alloc: Global, words: &[&str]) -> Result<String, AllocError> {
+fn tagged(words: &[&str]) -> &'static str {
     match words {
         [kind, first, listed] => {
             let agrees = tag_agrees(tag_kind(kind), tag_kind(first), *listed == "yes");
-            String::from_str(alloc, yes_or_no(agrees))
+            yes_or_no(agrees)
         }
-        _ => String::from_str(alloc, "?"),
+        _ => "?",
     }
 }
 
@@ -225,7 +237,7 @@ fn tag_kind(word: &str) -> Kind {
     }
 }
 
-fn linked(alloc: Global, words: &[&str]) -> Result<String, AllocError> {
+fn push_linked(out: &mut String, words: &[&str]) -> Result<(), AllocError> {
     match words {
         [place, class, what, visible] => {
             let place = place_of(place);
@@ -235,9 +247,9 @@ fn linked(alloc: Global, words: &[&str]) -> Result<String, AllocError> {
             let typedef = matches!(class, Some(Class::Typedef));
             let may = yes_or_no(may_be_initialised(place, typedef, function, linkage));
             let name = linkage_name(linkage);
-            format!(in alloc; "{name} {may}")
+            write!(out, "{name} {may}")
         }
-        _ => String::from_str(alloc, "?"),
+        _ => out.push_str("?"),
     }
 }
 
@@ -267,8 +279,7 @@ fn linkage_name(linkage: Linkage) -> &'static str {
     }
 }
 
-fn repeated(alloc: Global, words: &[&str]) -> Result<String, AllocError> {
-    let mut out = String::new(alloc);
+fn push_repeated(out: &mut String, words: &[&str]) -> Result<(), AllocError> {
     let mut earlier: Option<Declaration> = None;
     let mut library = false;
     for word in words {
@@ -281,7 +292,7 @@ fn repeated(alloc: Global, words: &[&str]) -> Result<String, AllocError> {
             earlier = Some(with_declaration(earlier, declaration));
         }
     }
-    Ok(out)
+    Ok(())
 }
 
 fn declaration_of(word: &str) -> Declaration {
@@ -296,41 +307,59 @@ fn declaration_of(word: &str) -> Declaration {
     }
 }
 
-fn compared(alloc: Global, words: &[&str]) -> Result<String, AllocError> {
-    let mut table = Table::new(alloc)?;
+fn compared(alloc: Global, words: &[&str]) -> Result<&'static str, AllocError> {
     match words {
-        [left, right] => {
-            let (one, ones) = function_in(alloc, &mut table, left)?;
-            let (other, others) = function_in(alloc, &mut table, right)?;
-            let ones = ones.as_slice();
-            let others = others.as_slice();
-            if !are_rows(&table, one, ones) || !are_rows(&table, other, others) {
-                return Err(AllocError);
-            }
-            let agrees = agree(&table, one, ones, other, others);
-            String::from_str(alloc, yes_or_no(agrees))
-        }
-        _ => String::from_str(alloc, "?"),
+        [left, right] => agreement(alloc, left, right),
+        _ => Ok("?"),
     }
 }
 
-fn listed(alloc: Global, words: &[&str]) -> Result<String, AllocError> {
+fn agreement(alloc: Global, left: &str, right: &str) -> Result<&'static str, AllocError> {
     let mut table = Table::new(alloc)?;
-    match words {
-        [name, text] => {
-            let (signature, rows) = function_in(alloc, &mut table, text)?;
-            let rows = rows.as_slice();
-            if !are_rows(&table, signature, rows) {
-                return Err(AllocError);
-            }
-            let answer = match library_of(name.as_bytes()) {
-                Some(library) => { yes_or_no(has_library_type(&table, library, signature, rows)) }
-                None => "other",
-            };
-            String::from_str(alloc, answer)
-        }
-        _ => String::from_str(alloc, "?"),
+    let (one, ones) = function_in(alloc, &mut table, left)?;
+    let (other, others) = function_in(alloc, &mut table, right)?;
+    agreement_of(&table, one, ones.as_slice(), other, others.as_slice())
+}
+
+fn agreement_of(
+    table: &Table,
+    one: Signature,
+    ones: &[u32],
+    other: Signature,
+    others: &[u32],
+) -> Result<&'static str, AllocError> {
+    if !are_rows(table, one, ones) || !are_rows(table, other, others) {
+        return Err(AllocError);
     }
+    Ok(yes_or_no(agree(table, one, ones, other, others)))
+}
+
+fn listed(alloc: Global, words: &[&str]) -> Result<&'static str, AllocError> {
+    match words {
+        [name, text] => match library_of(name.as_bytes()) {
+            Some(library) => listed_as(alloc, library, text),
+            None => Ok("other"),
+        },
+        _ => Ok("?"),
+    }
+}
+
+fn listed_as(alloc: Global, library: Library, text: &str) -> Result<&'static str, AllocError> {
+    let mut table = Table::new(alloc)?;
+    let (signature, rows) = function_in(alloc, &mut table, text)?;
+    listing_of(&table, library, signature, rows.as_slice())
+}
+
+fn listing_of(
+    table: &Table,
+    library: Library,
+    signature: Signature,
+    rows: &[u32],
+) -> Result<&'static str, AllocError> {
+    if !are_rows(table, signature, rows) {
+        return Err(AllocError);
+    }
+    Ok(yes_or_no(has_library_type(table, library, signature, rows)))
 }
 
 fn are_rows(table: &Table, signature: Signature, rows: &[u32]) -> bool
@@ -347,27 +376,9 @@ fn function_in(
     text: &str,
 ) -> Result<(Signature, Vec<u32>), AllocError> {
     let (result, rest) = text.split_once("(").unwrap_or((text, ""));
-    let result = type_in(alloc, table, result)?;
+    let result = row_between(table, result, '_')?;
     let list = rest.strip_suffix(")").unwrap_or("");
-    let mut rows = Vec::new(alloc);
-    let mut variadic = false;
-    for word in list.split(',') {
-        if word == "..." {
-            variadic = true;
-        } else if !word.is_empty() {
-            rows.push(type_in(alloc, table, word)?)?;
-        }
-    }
-    Ok((Signature { result, variadic }, rows))
-}
-
-fn type_in(alloc: Global, table: &mut Table, text: &str) -> Result<u32, AllocError> {
-    let mut out = String::new(alloc);
-    for word in text.split('_') {
-        if !out.is_empty() {
-            out.push(' ')?;
-        }
-        out.push_str(word)?;
-    }
-    row_of(alloc, table, out.as_str())
+    let variadic = list.ends_with("...");
+    let parameters = rows_of(alloc, table, list, '_')?;
+    Ok((Signature { result, variadic }, parameters))
 }

@@ -4,7 +4,7 @@ use cr_declared::{
     Specified, UNSAID, inline_fault, is_one_type, joined, named_type, specifier, storage_fault,
     volatile_fault,
 };
-use cr_operands_tests::{row_of, shown};
+use cr_operands_tests::{expect, expect_type, pair, quadruple, row_of};
 use cr_places::Place;
 use cr_syntax::Kind;
 use cr_types::Table;
@@ -117,12 +117,8 @@ file; volatile; object =>";
 fn specifiers_name_types(rt: HostRuntime) -> Result<(), Fail> {
     let alloc = rt.alloc();
     let mut table = Table::new(alloc)?;
-    for line in TYPES.split('\n') {
-        let (text, told) = line.split_once(" => ").ok_or("a row")?;
-        let found = named(alloc, &mut table, text)?;
-        if found.as_str() != told {
-            return Err(Fail::from("specifiers name another type"));
-        }
+    for row in TYPES.split('\n') {
+        expect_named(alloc, &mut table, row)?;
     }
     Ok(())
 }
@@ -131,79 +127,72 @@ fn specifiers_name_types(rt: HostRuntime) -> Result<(), Fail> {
 fn specifiers_stand_in_their_places(rt: HostRuntime) -> Result<(), Fail> {
     let alloc = rt.alloc();
     let mut table = Table::new(alloc)?;
-    for line in STANDING.split('\n') {
-        let (given, told) = line.split_once(" =>").ok_or("a row")?;
-        let (place, rest) = given.split_once("; ").ok_or("a place")?;
-        let (text, what) = rest.split_once("; ").ok_or("specifiers")?;
-        let found = faults(alloc, &mut table, place_of(place), text, what == "function")?;
-        if found.as_str() != told {
-            return Err(Fail::from("specifiers have other faults"));
-        }
+    for row in STANDING.split('\n') {
+        expect_faults(alloc, &mut table, row)?;
     }
     Ok(())
 }
 
-fn named(alloc: Global, table: &mut Table, text: &str) -> Result<String, AllocError> {
+fn expect_named(alloc: Global, table: &mut Table, row: &str) -> Result<(), Fail> {
+    let (text, told) = pair(row, " => ");
     let specified = said(text);
     if !is_one_type(specified) {
-        return String::from_str(alloc, "none");
+        return expect(row, "none", told);
     }
-    let row = base_row(alloc, table, specified)?;
-    shown(alloc, table, row)
+    let found = base_row(table, specified)?;
+    expect_type(alloc, table, found, row, told)
+}
+
+fn expect_faults(alloc: Global, table: &mut Table, row: &str) -> Result<(), Fail> {
+    let (place, text, what, told) = quadruple(row, "; ", " =>");
+    let specified = said(text);
+    let base = base_row(table, specified)?;
+    let function = what == "function";
+    let mut found = String::new(alloc);
+    push_faults(
+        &mut found,
+        table,
+        specified,
+        place_of(place),
+        function,
+        base,
+    )?;
+    expect(row, found.as_str(), told)
 }
 
 // The row of the type that specifiers name, where a structure is that of node 3.
-pub(crate) fn base_row(
-    alloc: Global,
-    table: &mut Table,
-    specified: Specified,
-) -> Result<u32, AllocError>
+pub(crate) fn base_row(table: &mut Table, specified: Specified) -> Result<u32, AllocError>
     ensures { IfOk result (λ r. r < length table.new) }
 {
-    let given = row_of(alloc, table, "S3")?;
+    let given = row_of(table, "S3")?;
     if given as usize >= table.len() {
         return Err(AllocError);
     }
     named_type(table, specified, given)
 }
 
-fn faults(
-    alloc: Global,
-    table: &mut Table,
+// Adds the faults of specifiers whose type has a row.
+fn push_faults(
+    out: &mut String,
+    table: &Table,
+    specified: Specified,
     place: Place,
-    text: &str,
     function: bool,
-) -> Result<String, AllocError> {
-    let specified = said(text);
-    let row = base_row(alloc, table, specified)?;
-    let mut out = String::new(alloc);
-    tell(
-        alloc,
-        &mut out,
-        2,
-        storage_fault(specified, place, function),
-    )?;
-    tell(alloc, &mut out, 4, inline_fault(specified, place, function))?;
-    tell(
-        alloc,
-        &mut out,
-        41,
-        volatile_fault(table, specified, place, row),
-    )?;
-    Ok(out)
+    row: u32,
+) -> Result<(), AllocError>
+    requires { row < length table.now }
+{
+    tell(out, 2, storage_fault(specified, place, function))?;
+    tell(out, 4, inline_fault(specified, place, function))?;
+    tell(out, 41, volatile_fault(table, specified, place, row))
 }
 
 /// Tells a fault of a constraint at a token.
-pub(crate) fn tell(
-    alloc: Global,
-    out: &mut String,
-    constraint: u8,
-    token: Option<u32>,
-) -> Result<(), AllocError> {
-    if let Some(token) = token {
-        out.push_str(format!(in alloc; " {constraint}.{token}")?.as_str())?;
+pub(crate) fn tell(out: &mut String, constraint: u8, token: Option<u32>) -> Result<(), AllocError> {
+    match token {
+        Some(token) => write!(out, " {constraint}.{token}"),
+        None => Ok(()),
     }
-    Ok(())
 }
 
 /// What specifiers in words say.

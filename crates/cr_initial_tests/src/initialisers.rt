@@ -5,9 +5,10 @@ use cr_initial::{
     anchor_of_reached, anchor_of_subscript, complete, first_fault, is_address, length_asked, plan,
     puts,
 };
-use cr_operands_tests::{row_of, shown};
+use cr_operands_tests::{expect, pair, push_type, row_of, triple, without};
 use cr_rows::Row;
 use cr_rules::Member;
+use cr_typed::Put;
 use cr_types::{Layout, Table};
 use std::alloc::{AllocError, Global};
 use std::test::Fail;
@@ -124,12 +125,8 @@ cast of one => false false false
 #[test]
 fn initialisers_fill_the_places_that_are_left(rt: HostRuntime) -> Result<(), Fail> {
     let alloc = rt.alloc();
-    for line in INITIALISERS.split('\n') {
-        let (given, told) = line.split_once(" =>").ok_or("a row")?;
-        let (object, text) = given.split_once("; ").ok_or("an object")?;
-        if outcome(alloc, object, text)?.as_str() != told {
-            return Err(Fail::from("an initialiser fills other places"));
-        }
+    for row in INITIALISERS.split('\n') {
+        expect_outcome(alloc, row)?;
     }
     Ok(())
 }
@@ -138,22 +135,41 @@ fn initialisers_fill_the_places_that_are_left(rt: HostRuntime) -> Result<(), Fai
 fn addresses_are_constant_by_their_operators(rt: HostRuntime) -> Result<(), Fail> {
     let alloc = rt.alloc();
     let mut table = Table::new(alloc)?;
-    let number = row_of(alloc, &mut table, "int")?;
-    let pointer = row_of(alloc, &mut table, "* int")?;
-    let array = row_of(alloc, &mut table, "[2] int")?;
-    for line in ADDRESSES.split('\n') {
-        let (given, told) = line.split_once(" =>").ok_or("a row")?;
-        let anchor = anchored(&table, pointer, given);
-        let mut found = String::new(alloc);
-        for row in [number, pointer, array] {
-            let so = (row as usize) < table.len() && is_address(&table, row, anchor);
-            found.push_str(if so { " true" } else { " false" })?;
-        }
-        if found.as_str() != told {
-            return Err(Fail::from("an address is constant otherwise"));
-        }
+    let results = results_in(&mut table)?;
+    for row in ADDRESSES.split('\n') {
+        expect_address(alloc, &table, results, row)?;
     }
     Ok(())
+}
+
+// The rows of an operator's results.
+#[derive(Clone, Copy)]
+struct Results {
+    number: u32,
+    pointer: u32,
+    array: u32,
+}
+
+fn results_in(table: &mut Table) -> Result<Results, AllocError> {
+    Ok(Results {
+        number: row_of(table, "int")?,
+        pointer: row_of(table, "* int")?,
+        array: row_of(table, "[2] int")?,
+    })
+}
+
+fn expect_address(alloc: Global, table: &Table, results: Results, row: &str) -> Result<(), Fail> {
+    let (given, told) = pair(row, " => ");
+    let anchor = anchored(table, results.pointer, given);
+    let number = is_address_in(table, results.number, anchor);
+    let pointer = is_address_in(table, results.pointer, anchor);
+    let array = is_address_in(table, results.array, anchor);
+    let found = format!(in alloc; "{number} {pointer} {array}")?;
+    expect(row, found.as_str(), told)
+}
+
+fn is_address_in(table: &Table, row: u32, anchor: Anchor) -> bool {
+    (row as usize) < table.len() && is_address(table, row, anchor)
 }
 
 fn anchored(table: &Table, pointer: u32, given: &str) -> Anchor {
@@ -198,47 +214,114 @@ const LAYOUTS: [Layout; 2] = [
     },
 ];
 
+// The members of the structures, of which each has an int last.
 fn members_of(alloc: Global, table: &mut Table) -> Result<Vec<Row<Member>>, AllocError> {
     let mut structures = Vec::new(alloc);
-    for types in [["[2] int", "int"], ["S0", "int"], ["S2", "int"]] {
-        let mut members = Row::new(alloc);
-        for words in types {
-            let row = row_of(alloc, table, words)?;
-            members.push(Member { name: 0, row })?;
-        }
-        structures.push(members)?;
+    for first in ["[2] int", "S0", "S2"] {
+        structures.push(structure(alloc, table, first)?)?;
     }
     Ok(structures)
 }
 
-fn outcome(alloc: Global, object: &str, text: &str) -> Result<String, AllocError> {
+fn structure(alloc: Global, table: &mut Table, first: &str) -> Result<Row<Member>, AllocError> {
+    let first = row_of(table, first)?;
+    let last = row_of(table, "int")?;
+    let mut members = Row::new(alloc);
+    members.push(Member {
+        name: 0,
+        row: first,
+    })?;
+    members.push(Member { name: 0, row: last })?;
+    Ok(members)
+}
+
+fn expect_outcome(alloc: Global, row: &str) -> Result<(), Fail> {
+    let (object, text, told) = triple(row, "; ", " =>");
+    let mut found = String::new(alloc);
+    push_outcome(alloc, &mut found, object, text)?;
+    expect(row, found.as_str(), told)
+}
+
+// An object that is initialised.
+#[derive(Clone, Copy)]
+struct Object {
+    row: u32,
+    is_static: bool,
+    is_open: bool,
+}
+
+fn object_in(table: &mut Table, text: &str) -> Result<Object, AllocError> {
+    let (is_static, words) = without(text, "static ");
+    Ok(Object {
+        row: row_of(table, words)?,
+        is_static,
+        is_open: words.starts_with("[]"),
+    })
+}
+
+// Adds what an initialiser fills of an object, both in words.
+fn push_outcome(
+    alloc: Global,
+    out: &mut String,
+    object: &str,
+    text: &str,
+) -> Result<(), AllocError> {
     let mut table = Table::new(alloc)?;
-    let (is_static, words) = match object.strip_prefix("static ") {
-        Some(words) => (true, words),
-        None => (false, object),
-    };
-    let row = row_of(alloc, &mut table, words)?;
-    let members = members_of(alloc, &mut table)?;
-    let read = nodes_of(alloc, &mut table, text)?;
-    let above = u32::try_from(read.nodes.len()).unwrap_or(0);
-    let node = above.saturating_sub(1);
-    let source = source_of(&table, &read, &members);
-    let lines = plan(alloc, &source, row, above, node)?;
-    let count = length_asked(&source, row, &lines)?;
-    let row = completed(&mut table, row, count)?;
-    let source = source_of(&table, &read, &members);
-    let lines = plan(alloc, &source, row, above, node)?;
-    let mut out = cells(alloc, &lines)?;
-    if words.starts_with("[]") {
-        out.push(' ')?;
-        out.push_str(shown(alloc, &table, row)?.as_str())?;
-    }
-    if let Some(found) = first_fault(&source, is_static, 0, &lines) {
-        let row = found.row;
-        let token = found.token;
-        out.push_str(format!(in alloc; " K{row}@{token}")?.as_str())?;
-    }
-    Ok(out)
+    let object = object_in(&mut table, object)?;
+    push_filled(alloc, out, &mut table, object, text)
+}
+
+fn push_filled(
+    alloc: Global,
+    out: &mut String,
+    table: &mut Table,
+    object: Object,
+    text: &str,
+) -> Result<(), AllocError> {
+    let members = members_of(alloc, table)?;
+    let read = nodes_of(alloc, table, text)?;
+    push_completed(alloc, out, table, &read, &members, object)
+}
+
+fn push_completed(
+    alloc: Global,
+    out: &mut String,
+    table: &mut Table,
+    read: &Read,
+    members: &[Row<Member>],
+    object: Object,
+) -> Result<(), AllocError> {
+    let count = count_asked(alloc, &source_of(table, read, members), object.row)?;
+    let row = completed(table, object.row, count)?;
+    let object = Object { row, ..object };
+    push_plan(alloc, out, &source_of(table, read, members), object)
+}
+
+fn count_asked(alloc: Global, source: &Source, row: u32) -> Result<u64, AllocError> {
+    let lines = plan_of(alloc, source, row)?;
+    length_asked(source, row, &lines)
+}
+
+// The plan of the last node.
+fn plan_of(alloc: Global, source: &Source, row: u32) -> Result<Vec<Line>, AllocError> {
+    let above = u32::try_from(source.nodes.len()).unwrap_or(0);
+    plan(alloc, source, row, above, above.saturating_sub(1))
+}
+
+fn push_plan(
+    alloc: Global,
+    out: &mut String,
+    source: &Source,
+    object: Object,
+) -> Result<(), AllocError> {
+    let lines = plan_of(alloc, source, object.row)?;
+    push_puts(alloc, out, &lines)?;
+    push_rest(out, source, object, &lines)
+}
+
+fn push_puts(alloc: Global, out: &mut String, lines: &[Line]) -> Result<(), AllocError> {
+    let puts = puts(alloc, lines)?;
+    push_cells(out, lines, puts.as_slice())
 }
 
 fn source_of<'a>(table: &'a Table, read: &'a Read, members: &'a [Row<Member>]) -> Source<'a> {
@@ -260,21 +343,40 @@ fn completed(table: &mut Table, row: u32, count: u64) -> Result<u32, AllocError>
     }
 }
 
-fn cells(alloc: Global, lines: &[Line]) -> Result<String, AllocError> {
-    let kept = puts(alloc, lines)?;
+fn push_cells(out: &mut String, lines: &[Line], puts: &[Put]) -> Result<(), AllocError> {
     let mut at: usize = 0;
-    let mut out = String::new(alloc);
     for line in lines {
         match line {
             Line::Put(_) => {
-                if let Some(put) = kept.as_slice().get(at) {
-                    let cell = put.cell;
-                    out.push_str(format!(in alloc; " {cell}")?.as_str())?;
-                }
+                push_cell(out, puts.get(at))?;
                 at = at.saturating_add(1);
             }
             Line::Excess(_) => out.push_str(" !")?,
         }
     }
-    Ok(out)
+    Ok(())
+}
+
+fn push_cell(out: &mut String, put: Option<&Put>) -> Result<(), AllocError> {
+    match put {
+        Some(put) => write!(out, " {}", put.cell),
+        None => Ok(()),
+    }
+}
+
+// Adds the type of a completed array, and the first broken constraint.
+fn push_rest(
+    out: &mut String,
+    source: &Source,
+    object: Object,
+    lines: &[Line],
+) -> Result<(), AllocError> {
+    if object.is_open {
+        out.push(' ')?;
+        push_type(out, source.table, object.row)?;
+    }
+    match first_fault(source, object.is_static, 0, lines) {
+        Some(found) => write!(out, " K{}@{}", found.row, found.token),
+        None => Ok(()),
+    }
 }

@@ -1,7 +1,7 @@
 ghost use Rattle.std.specs.Prelude.{◌≡◌, ◌<◌, ◌≤◌, IfSome, length};
 ghost use Rattle.cr_operands.specs.Values.{room_of};
 
-use crate::row_of;
+use crate::{constant_in, expect, nodes_with, push_type, quadruple, row_of, triple, without};
 use cr_constants::{Arithmetic, Constant, Relation, Shift, Sign};
 use cr_operands::{
     Branch, Fact, Junction, Value, address, assign, cast, comma, compound, conditional,
@@ -9,8 +9,7 @@ use cr_operands::{
     is_passable, is_scalar, logical, member, negated, order, pointed_member, shifted, signed, size,
     structure_at, subscript, sum, text, value_of,
 };
-use cr_rows::Row;
-use cr_syntax::{CType, Kind, Node};
+use cr_syntax::{CType, Node};
 use cr_types::{Layout, NOTHING, Table};
 use std::alloc::{AllocError, Global};
 use std::test::Fail;
@@ -267,47 +266,17 @@ int; * int; S3 => none";
 #[test]
 fn operators_allow_their_operands(rt: HostRuntime) -> Result<(), Fail> {
     let alloc = rt.alloc();
-    let structures = structures(alloc)?;
-    let nodes = structures.as_slice();
+    let nodes = nodes_with(alloc, 11, &[3, 10])?;
     let mut table = Table::new(alloc)?;
-    for line in BINARY.split('\n') {
-        let (operands, told) = line.split_once(" => ").ok_or("a row")?;
-        let (left, rest) = operands.split_once("; ").ok_or("an operator")?;
-        let (operator, right) = rest.split_once("; ").ok_or("an operand")?;
-        let left = operand(alloc, &mut table, left)?;
-        let right = operand(alloc, &mut table, right)?;
-        let found = binary(&mut table, nodes, operator, left, right)?;
-        if shown(alloc, &table, found)?.as_str() != told {
-            return Err(Fail::from("an operator has another result"));
-        }
-    }
-    for line in UNARY.split('\n') {
-        let (operands, told) = line.split_once(" => ").ok_or("a row")?;
-        let (operator, text) = operands.split_once("; ").ok_or("an operator")?;
-        let given = operand(alloc, &mut table, text)?;
-        let found = unary(&mut table, nodes, operator, given)?;
-        if shown(alloc, &table, found)?.as_str() != told {
-            return Err(Fail::from("an operator before its operand has another result"));
-        }
-    }
-    Ok(())
+    expect_operators(alloc, &mut table, nodes.as_slice())
 }
 
 #[test]
 fn conditionals_have_the_type_of_both_branches(rt: HostRuntime) -> Result<(), Fail> {
     let alloc = rt.alloc();
     let mut table = Table::new(alloc)?;
-    for line in CONDITIONAL.split('\n') {
-        let (operands, told) = line.split_once(" => ").ok_or("a row")?;
-        let (condition, rest) = operands.split_once("; ").ok_or("an operand")?;
-        let (left, right) = rest.split_once("; ").ok_or("an operand")?;
-        let condition = operand(alloc, &mut table, condition)?;
-        let left = operand(alloc, &mut table, left)?;
-        let right = operand(alloc, &mut table, right)?;
-        let found = chosen(&mut table, condition, left, right)?;
-        if shown(alloc, &table, found)?.as_str() != told {
-            return Err(Fail::from("a conditional has another type"));
-        }
+    for row in CONDITIONAL.split('\n') {
+        expect_conditional(alloc, &mut table, row)?;
     }
     Ok(())
 }
@@ -317,28 +286,53 @@ fn literals_are_arrays_of_char(rt: HostRuntime) -> Result<(), Fail> {
     let alloc = rt.alloc();
     let mut table = Table::new(alloc)?;
     let found = text(&mut table, 3)?;
-    if shown(alloc, &table, found)?.as_str() != "place [3] char" {
-        return Err(Fail::from("a literal has another type"));
+    expect_fact(alloc, &table, found, "\"ab\"", "place [3] char")
+}
+
+fn expect_operators(alloc: Global, table: &mut Table, nodes: &[Node]) -> Result<(), Fail> {
+    for row in BINARY.split('\n') {
+        expect_binary(alloc, table, nodes, row)?;
+    }
+    for row in UNARY.split('\n') {
+        expect_unary(alloc, table, nodes, row)?;
     }
     Ok(())
 }
 
-fn structures(alloc: Global) -> Result<Vec<Node>, AllocError> {
-    let mut nodes = Vec::new(alloc);
-    for at in 0..11 {
-        let kind = if at == 3 || at == 10 {
-            Kind::StructContent
-        } else {
-            Kind::Int
-        };
-        nodes.push(Node {
-            kind,
-            first: 0,
-            last: 0,
-            parts: Row::new(alloc),
-        })?;
-    }
-    Ok(nodes)
+fn expect_binary(alloc: Global, table: &mut Table, nodes: &[Node], row: &str) -> Result<(), Fail> {
+    let (left, operator, right, told) = quadruple(row, "; ", " => ");
+    let left = operand(table, left)?;
+    let right = operand(table, right)?;
+    let found = binary(table, nodes, operator, left, right)?;
+    expect_fact(alloc, table, found, row, told)
+}
+
+fn expect_unary(alloc: Global, table: &mut Table, nodes: &[Node], row: &str) -> Result<(), Fail> {
+    let (operator, given, told) = triple(row, "; ", " => ");
+    let given = operand(table, given)?;
+    let found = unary(table, nodes, operator, given)?;
+    expect_fact(alloc, table, found, row, told)
+}
+
+fn expect_conditional(alloc: Global, table: &mut Table, row: &str) -> Result<(), Fail> {
+    let (condition, left, right, told) = quadruple(row, "; ", " => ");
+    let condition = operand(table, condition)?;
+    let left = operand(table, left)?;
+    let right = operand(table, right)?;
+    let found = chosen(table, condition, left, right)?;
+    expect_fact(alloc, table, found, row, told)
+}
+
+fn expect_fact(
+    alloc: Global,
+    table: &Table,
+    found: Fact,
+    row: &str,
+    told: &str,
+) -> Result<(), Fail> {
+    let mut shown = String::new(alloc);
+    push_fact(&mut shown, table, found)?;
+    expect(row, shown.as_str(), told)
 }
 
 fn binary(
@@ -485,20 +479,24 @@ fn unary(
     operator: &str,
     given: Fact,
 ) -> Result<Fact, AllocError> {
-    if operator == "*" {
-        let target = value(table, given);
-        return dereference(table, nodes, AT, target);
+    match operator {
+        "*" => {
+            let target = value(table, given);
+            dereference(table, nodes, AT, target)
+        }
+        "scalar" => {
+            let holds = is_scalar(value(table, given));
+            answered(table, holds)
+        }
+        "integer" => {
+            let holds = is_integer(value(table, given));
+            answered(table, holds)
+        }
+        _ => {
+            let target = prefixed(table, nodes, operator, given);
+            made(table, target, false)
+        }
     }
-    if operator == "scalar" {
-        let holds = is_scalar(value(table, given));
-        return answered(table, holds);
-    }
-    if operator == "integer" {
-        let holds = is_integer(value(table, given));
-        return answered(table, holds);
-    }
-    let target = prefixed(table, nodes, operator, given);
-    made(table, target, false)
 }
 
 fn prefixed(table: &Table, nodes: &[Node], operator: &str, given: Fact) -> Value {
@@ -578,72 +576,68 @@ fn room(target: Value) -> usize
 }
 
 // An operand in words.
-fn operand(alloc: Global, table: &mut Table, text: &str) -> Result<Fact, AllocError> {
-    if text == "null" {
-        let row = row_of(alloc, table, "* void")?;
-        return Ok(fact(row, Constant::NotConstant, true));
-    }
-    if text == "missing" {
-        return Ok(fact(0, Constant::NotConstant, false));
-    }
-    if let Ok(number) = text.parse::<i64>() {
-        let row = row_of(alloc, table, "int")?;
-        return Ok(fact(row, Constant::Value(i128::from(number)), false));
-    }
+fn operand(table: &mut Table, text: &str) -> Result<Fact, AllocError> {
     let (register, rest) = without(text, "register ");
-    let (lvalue, rest) = without(rest, "place ");
-    let row = row_of(alloc, table, rest)?;
+    let (lvalue, words) = without(rest, "place ");
+    let constant = constant_in(words);
+    let row = row_of_operand(table, words, constant)?;
     Ok(Fact {
+        row,
         lvalue,
         register,
-        ..fact(row, Constant::NotConstant, false)
+        constant,
+        null: words == "null",
     })
 }
 
-fn fact(row: u32, constant: Constant, null: bool) -> Fact {
-    Fact {
-        row,
-        lvalue: false,
-        register: false,
-        constant,
-        null,
+fn row_of_operand(table: &mut Table, words: &str, constant: Constant) -> Result<u32, AllocError> {
+    if let Constant::Value(_) = constant {
+        return row_of(table, "int");
+    }
+    match words {
+        "missing" => Ok(0),
+        "null" => row_of(table, "* void"),
+        _ => row_of(table, words),
     }
 }
 
-// Whether a text begins with a word, and what is behind it.
-fn without<'a>(text: &'a str, word: &str) -> (bool, &'a str) {
-    match text.strip_prefix(word) {
-        Some(rest) => (true, rest),
-        None => (false, text),
+// Adds what an expression has, in words.
+fn push_fact(out: &mut String, table: &Table, fact: Fact) -> Result<(), AllocError> {
+    match answer(table, fact) {
+        Some(word) => out.push_str(word),
+        None => push_typed(out, table, fact),
     }
 }
 
-// What an expression has, in words.
-fn shown(alloc: Global, table: &Table, fact: Fact) -> Result<String, AllocError> {
-    if fact.row as usize >= table.len() {
-        return String::from_str(alloc, "none");
+// The one word for a fact whose type isn't told.
+fn answer(table: &Table, fact: Fact) -> Option<&'static str> {
+    if fact.row as usize >= table.len() || is_untyped(table, fact.row) {
+        Some("none")
+    } else if is_yes(table, fact.row) {
+        Some("yes")
+    } else if fact.null {
+        Some("null")
+    } else {
+        None
     }
-    if is_untyped(table, fact.row) {
-        return String::from_str(alloc, "none");
+}
+
+fn push_typed(out: &mut String, table: &Table, fact: Fact) -> Result<(), AllocError> {
+    out.push_str(place_words(fact))?;
+    push_type(out, table, fact.row)?;
+    match fact.constant {
+        Constant::Value(value) => write!(out, " {value}"),
+        _ => Ok(()),
     }
-    if is_yes(table, fact.row) {
-        return String::from_str(alloc, "yes");
+}
+
+fn place_words(fact: Fact) -> &'static str {
+    match (fact.register, fact.lvalue) {
+        (true, true) => "register place ",
+        (true, false) => "register ",
+        (false, true) => "place ",
+        (false, false) => "",
     }
-    if fact.null {
-        return String::from_str(alloc, "null");
-    }
-    let mut out = String::new(alloc);
-    if fact.register {
-        out.push_str("register ")?;
-    }
-    if fact.lvalue {
-        out.push_str("place ")?;
-    }
-    out.push_str(crate::shown(alloc, table, fact.row)?.as_str())?;
-    if let Constant::Value(value) = fact.constant {
-        out.push_str(format!(in alloc; " {value}")?.as_str())?;
-    }
-    Ok(out)
 }
 
 fn is_untyped(table: &Table, row: u32) -> bool

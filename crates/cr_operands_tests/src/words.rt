@@ -1,20 +1,24 @@
 ghost use Rattle.std.specs.Prelude.{◌≡◌};
 ghost use Rattle.cr_types.specs.Types.{room_in};
 
+use crate::rows::expect;
+use cr_constants::Constant;
 use cr_ints::IntKind;
 use cr_syntax::CType;
 use cr_types::{Shape, Table};
 use std::alloc::{AllocError, Global};
+use std::test::Fail;
 
 /// The row of a type in words, from the outermost level to the innermost: `* const char` is a pointer to a constant char, and `S3` the
 /// structure of node 3.
-pub fn row_of(alloc: Global, table: &mut Table, text: &str) -> Result<u32, AllocError> {
-    let mut words: Vec<&str> = Vec::new(alloc);
-    for word in text.split(' ') {
-        words.push(word)?;
-    }
+pub fn row_of(table: &mut Table, text: &str) -> Result<u32, AllocError> {
+    row_between(table, text, ' ')
+}
+
+/// The same where something else stands between the words.
+pub fn row_between(table: &mut Table, text: &str, between: char) -> Result<u32, AllocError> {
     let mut row = 0;
-    for word in words.iter().rev() {
+    for word in text.rsplit(between) {
         row = with_word(table, word, row)?;
     }
     Ok(row)
@@ -82,55 +86,59 @@ fn number_of(word: &str) -> u32 {
     word.parse::<u32>().unwrap_or(0)
 }
 
-/// A row's type in words.
-pub fn shown(alloc: Global, table: &Table, row: u32) -> Result<String, AllocError> {
-    let mut out = String::new(alloc);
+/// Whether a row has the type that is told in words.
+pub fn expect_type(
+    alloc: Global,
+    table: &Table,
+    found: u32,
+    row: &str,
+    told: &str,
+) -> Result<(), Fail> {
+    let mut shown = String::new(alloc);
+    push_type(&mut shown, table, found)?;
+    expect(row, shown.as_str(), told)
+}
+
+/// Adds a row's type in words.
+pub fn push_type(out: &mut String, table: &Table, row: u32) -> Result<(), AllocError> {
     let mut row = row;
     for _ in 0..100 {
         if row as usize >= table.len() {
             break;
         }
         let shape = table.shape(row);
-        if !out.is_empty() {
-            out.push(' ')?;
+        push_level(out, shape)?;
+        match shape.of {
+            CType::Pointer(below) | CType::Array(below, _) => row = below,
+            _ => break,
         }
-        if shape.constant {
-            out.push_str("const ")?;
-        }
-        if shape.volatile {
-            out.push_str("volatile ")?;
-        }
-        row = match shape.of {
-            CType::Pointer(below) => {
-                out.push('*')?;
-                below
-            }
-            CType::Array(below, 0) => {
-                out.push_str("[]")?;
-                below
-            }
-            CType::Array(below, count) => {
-                out.push_str(format!(in alloc; "[{count}]")?.as_str())?;
-                below
-            }
-            CType::Struct(node) => {
-                out.push_str(format!(in alloc; "S{node}")?.as_str())?;
-                break;
-            }
-            CType::Int(kind) => {
-                out.push_str(name_of(kind))?;
-                break;
-            }
-            _ => {
-                out.push_str("void")?;
-                break;
-            }
-        };
     }
-    Ok(out)
+    Ok(())
 }
 
-fn name_of(kind: IntKind) -> &'static str {
+fn push_level(out: &mut String, shape: Shape) -> Result<(), AllocError> {
+    out.push_str(qualifiers(shape))?;
+    match shape.of {
+        CType::Pointer(_) => out.push_str("* "),
+        CType::Array(_, 0) => out.push_str("[] "),
+        CType::Array(_, count) => write!(out, "[{count}] "),
+        CType::Struct(node) => write!(out, "S{node}"),
+        CType::Int(kind) => out.push_str(name_of(kind)),
+        _ => out.push_str("void"),
+    }
+}
+
+fn qualifiers(shape: Shape) -> &'static str {
+    match (shape.constant, shape.volatile) {
+        (true, true) => "const volatile ",
+        (true, false) => "const ",
+        (false, true) => "volatile ",
+        (false, false) => "",
+    }
+}
+
+/// An integer type in words.
+pub fn name_of(kind: IntKind) -> &'static str {
     match kind {
         IntKind::Bool => "bool",
         IntKind::Char => "char",
@@ -144,5 +152,13 @@ fn name_of(kind: IntKind) -> &'static str {
         IntKind::ULong => "ulong",
         IntKind::LLong => "llong",
         IntKind::ULLong => "ullong",
+    }
+}
+
+/// The constant that a number in words is.
+pub fn constant_in(text: &str) -> Constant {
+    match text.parse::<i64>() {
+        Ok(number) => Constant::Value(i128::from(number)),
+        Err(_) => Constant::NotConstant,
     }
 }
