@@ -5,6 +5,7 @@ use cr_constants::{
     shift, size, unary,
 };
 use cr_ints::IntKind;
+use cr_operands_tests::{expect, name_of, pair};
 use cr_syntax::{Kind, Node, Unit};
 use cr_tokens::Token;
 use std::alloc::{AllocError, Global};
@@ -122,15 +123,16 @@ sizeof(int) - 5 is ulong 18446744073709551615";
 #[test]
 fn expressions_have_their_values(rt: HostRuntime) -> Result<(), Fail> {
     let alloc = rt.alloc();
-    for line in CONSTANTS.split('\n') {
-        let (text, told) = line.split_once(" is ").ok_or("a row")?;
-        let answer = answer(alloc, text)?;
-        let holds = answer.as_str() == told;
-        if !holds {
-            return Err(Fail::from("an expression has another value"));
-        }
+    for row in CONSTANTS.split('\n') {
+        expect_value(alloc, row)?;
     }
     Ok(())
+}
+
+fn expect_value(alloc: Global, row: &str) -> Result<(), Fail> {
+    let (text, told) = pair(row, " is ");
+    let found = answer(alloc, text)?;
+    expect(row, found.as_str(), told)
 }
 
 #[test]
@@ -151,19 +153,34 @@ fn enumerators_are_ints(rt: HostRuntime) {
 // The type and the value of an expression, in words.
 fn answer(alloc: Global, text: &str) -> Result<String, AllocError> {
     let file = format!(in alloc; "int a = {text};")?;
-    let Some(unit) = unit_of(alloc, file.as_str())? else {
-        return String::from_str(alloc, "no unit");
-    };
+    match initialiser(alloc, file.as_str())? {
+        Some(found) => in_words(alloc, found),
+        None => String::from_str(alloc, "no unit"),
+    }
+}
+
+fn initialiser(alloc: Global, file: &str) -> Result<Option<Operand>, AllocError> {
+    match unit_of(alloc, file)? {
+        Some(unit) => initialiser_in(alloc, file.as_bytes(), &unit),
+        None => Ok(None),
+    }
+}
+
+fn initialiser_in(alloc: Global, file: &[u8], unit: &Unit) -> Result<Option<Operand>, AllocError> {
     let mut operands: Vec<Operand> = Vec::new(alloc);
-    let mut found = NOTHING;
+    let mut found = None;
     for node in unit.nodes.as_slice() {
         if node.kind == Kind::InitDeclarator {
-            found = part(&operands, node, 1);
+            found = Some(part(&operands, node, 1));
         }
-        operands.push(operand(file.as_bytes(), &unit, &operands, node))?;
+        operands.push(operand(file, unit, &operands, node))?;
     }
-    let kind = name_of(found.kind);
-    match found.constant {
+    Ok(found)
+}
+
+fn in_words(alloc: Global, operand: Operand) -> Result<String, AllocError> {
+    let kind = name_of(operand.kind);
+    match operand.constant {
         Constant::NotConstant => format!(in alloc; "{kind} no"),
         Constant::Undefined => format!(in alloc; "{kind} undefined"),
         Constant::Value(value) => format!(in alloc; "{kind} {value}"),
@@ -262,21 +279,4 @@ fn spelling<'a>(file: &'a [u8], unit: &Unit, node: &Node) -> &'a [u8] {
         .unwrap_or(none);
     file.get(token.start as usize..token.end as usize)
         .unwrap_or(&[])
-}
-
-fn name_of(kind: IntKind) -> &'static str {
-    match kind {
-        IntKind::Bool => "bool",
-        IntKind::Char => "char",
-        IntKind::SChar => "schar",
-        IntKind::UChar => "uchar",
-        IntKind::Short => "short",
-        IntKind::UShort => "ushort",
-        IntKind::Int => "int",
-        IntKind::UInt => "uint",
-        IntKind::Long => "long",
-        IntKind::ULong => "ulong",
-        IntKind::LLong => "llong",
-        IntKind::ULLong => "ullong",
-    }
 }

@@ -1,4 +1,5 @@
 use crate::unit_of;
+use cr_operands_tests::{expect, pair};
 use cr_places::{Around, Place, above, all_around, repeated};
 use cr_syntax::{Kind, Node};
 use std::alloc::{AllocError, Global};
@@ -34,13 +35,8 @@ int f(void){int a=sizeof(struct s{char b;});} => char 0 - - - 5 member";
 #[test]
 fn nodes_have_what_is_around_them(rt: HostRuntime) -> Result<(), Fail> {
     let alloc = rt.alloc();
-    for line in AROUND.split('\n') {
-        let (text, told) = line.split_once(" => ").ok_or("a row")?;
-        let (word, wanted) = told.split_once(" ").ok_or("a kind")?;
-        let shown = around_last(alloc, text, kind_of(word))?;
-        if shown.as_str() != wanted {
-            return Err(Fail::from("a node has other surroundings"));
-        }
+    for row in AROUND.split('\n') {
+        expect_around(alloc, row)?;
     }
     Ok(())
 }
@@ -48,13 +44,10 @@ fn nodes_have_what_is_around_them(rt: HostRuntime) -> Result<(), Fail> {
 #[test]
 fn parts_are_below_their_node(rt: HostRuntime) -> Result<(), Fail> {
     let alloc = rt.alloc();
-    let unit = unit_of(alloc, "int x=1+2;")?.ok_or("a unit")?;
-    let above = above(alloc, unit.nodes.as_slice())?;
-    // the type, the name, both constants, their sum, the initialised declarator and the declaration
-    let told = [Some(6), Some(5), Some(4), Some(4), Some(5), Some(6), None];
-    let holds = above.as_slice() == told.as_slice();
-    assert!(rt; holds);
-    Ok(())
+    match unit_of(alloc, "int x=1+2;")? {
+        Some(unit) => expect_above(alloc, unit.nodes.as_slice()),
+        None => Err(Fail::from("no unit")),
+    }
 }
 
 #[test]
@@ -77,23 +70,51 @@ fn marks_are_found_again(rt: HostRuntime) -> Result<(), Fail> {
     Ok(())
 }
 
-fn around_last(alloc: Global, text: &str, kind: Kind) -> Result<String, AllocError> {
-    let Some(unit) = unit_of(alloc, text)? else {
-        return String::from_str(alloc, "no unit");
-    };
-    let nodes = unit.nodes.as_slice();
-    let above = above(alloc, nodes)?;
-    let around = all_around(alloc, nodes, &above)?;
-    let mut out = String::new(alloc);
-    for (node, found) in nodes.iter().zip(around.iter()) {
-        if node.kind == kind {
-            out = shown(alloc, nodes, found)?;
-        }
-    }
-    Ok(out)
+fn expect_around(alloc: Global, row: &str) -> Result<(), Fail> {
+    let (text, rest) = pair(row, " => ");
+    let (word, told) = pair(rest, " ");
+    let found = around_last(alloc, text, kind_of(word))?;
+    expect(row, found.as_str(), told)
 }
 
-fn shown(alloc: Global, nodes: &[Node], around: &Around) -> Result<String, AllocError> {
+fn expect_above(alloc: Global, nodes: &[Node]) -> Result<(), Fail> {
+    let above = above(alloc, nodes)?;
+    // the type, the name, both constants, their sum, the initialised declarator and the declaration
+    let told = [Some(6), Some(5), Some(4), Some(4), Some(5), Some(6), None];
+    if above.as_slice() == told.as_slice() {
+        Ok(())
+    } else {
+        Err(Fail::from("a part is below another node"))
+    }
+}
+
+fn around_last(alloc: Global, text: &str, kind: Kind) -> Result<String, AllocError> {
+    match unit_of(alloc, text)? {
+        Some(unit) => around_last_in(alloc, unit.nodes.as_slice(), kind),
+        None => String::from_str(alloc, "no unit"),
+    }
+}
+
+fn around_last_in(alloc: Global, nodes: &[Node], kind: Kind) -> Result<String, AllocError> {
+    let above = above(alloc, nodes)?;
+    let around = all_around(alloc, nodes, &above)?;
+    match last_of(nodes, &around, kind) {
+        Some(found) => shown(alloc, nodes, found),
+        None => String::from_str(alloc, "no node"),
+    }
+}
+
+fn last_of(nodes: &[Node], around: &[Around], kind: Kind) -> Option<Around> {
+    let mut last = None;
+    for (node, found) in nodes.iter().zip(around.iter()) {
+        if node.kind == kind {
+            last = Some(*found);
+        }
+    }
+    last
+}
+
+fn shown(alloc: Global, nodes: &[Node], around: Around) -> Result<String, AllocError> {
     let mut out = String::new(alloc);
     let named = [
         around.function,
@@ -103,13 +124,18 @@ fn shown(alloc: Global, nodes: &[Node], around: &Around) -> Result<String, Alloc
         around.block,
     ];
     for number in named {
-        match number.and_then(|at| nodes.get(at as usize)) {
-            Some(node) => out.push_str(format!(in alloc; "{} ", node.first)?.as_str())?,
-            None => out.push_str("- ")?,
-        }
+        push_first(&mut out, nodes, number)?;
     }
     out.push_str(name_of(around.place))?;
     Ok(out)
+}
+
+// Adds the first token of a node.
+fn push_first(out: &mut String, nodes: &[Node], number: Option<u32>) -> Result<(), AllocError> {
+    match number.and_then(|at| nodes.get(at as usize)) {
+        Some(node) => write!(out, "{} ", node.first),
+        None => out.push_str("- "),
+    }
 }
 
 fn name_of(place: Place) -> &'static str {

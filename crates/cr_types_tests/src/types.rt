@@ -1,10 +1,7 @@
-ghost use Rattle.std.specs.Prelude.{◌≡◌};
-ghost use Rattle.cr_types.specs.Types.{room_in};
-
 use crate::unit_of;
-use cr_ints::IntKind;
-use cr_syntax::{CType, Node};
-use cr_types::{Layout, NOTHING, Shape, Table, closed, offset, with_member};
+use cr_operands_tests::{expect, expect_type, pair, row_of, triple, yes_or_no};
+use cr_syntax::Node;
+use cr_types::{Layout, NOTHING, Table, closed, offset, with_member};
 use std::alloc::{AllocError, Global};
 use std::test::Fail;
 
@@ -97,13 +94,8 @@ S9 = 0 1 0
 fn types_have_their_composites(rt: HostRuntime) -> Result<(), Fail> {
     let alloc = rt.alloc();
     let mut table = Table::new(alloc)?;
-    for line in PAIRS.split('\n') {
-        let (pair, told) = line.split_once(" = ").ok_or("a row")?;
-        let (left, right) = pair.split_once(" ~ ").ok_or("a pair")?;
-        let shown = composite(alloc, &mut table, left, right)?;
-        if shown.as_str() != told {
-            return Err(Fail::from("two types have another composite"));
-        }
+    for row in PAIRS.split('\n') {
+        expect_composite(alloc, &mut table, row)?;
     }
     Ok(())
 }
@@ -112,14 +104,8 @@ fn types_have_their_composites(rt: HostRuntime) -> Result<(), Fail> {
 fn declarators_turn_types(rt: HostRuntime) -> Result<(), Fail> {
     let alloc = rt.alloc();
     let mut table = Table::new(alloc)?;
-    for line in DECLARATORS.split('\n') {
-        let (text, told) = line.split_once(" = ").ok_or("a row")?;
-        let derivations = row_of(alloc, &mut table, text)?;
-        let base = row_of(alloc, &mut table, "int")?;
-        let row = turned(&mut table, derivations, base)?;
-        if shown(alloc, &table, row)?.as_str() != told {
-            return Err(Fail::from("a declarator makes another type"));
-        }
+    for row in DECLARATORS.split('\n') {
+        expect_turned(alloc, &mut table, row)?;
     }
     Ok(())
 }
@@ -128,13 +114,8 @@ fn declarators_turn_types(rt: HostRuntime) -> Result<(), Fail> {
 fn qualifiers_go_to_the_elements(rt: HostRuntime) -> Result<(), Fail> {
     let alloc = rt.alloc();
     let mut table = Table::new(alloc)?;
-    for line in CONSTANT.split('\n') {
-        let (text, told) = line.split_once(" = ").ok_or("a row")?;
-        let row = row_of(alloc, &mut table, text)?;
-        let row = constant(&mut table, row)?;
-        if shown(alloc, &table, row)?.as_str() != told {
-            return Err(Fail::from("a type is qualified otherwise"));
-        }
+    for row in CONSTANT.split('\n') {
+        expect_constant(alloc, &mut table, row)?;
     }
     Ok(())
 }
@@ -142,86 +123,125 @@ fn qualifiers_go_to_the_elements(rt: HostRuntime) -> Result<(), Fail> {
 #[test]
 fn structures_are_complete_behind_their_braces(rt: HostRuntime) -> Result<(), Fail> {
     let alloc = rt.alloc();
-    let mut table = Table::new(alloc)?;
-    let unit = unit_of(alloc, "struct s{int a;};int x;")?.ok_or("a unit")?;
-    for line in COMPLETE.split('\n') {
-        let (text, told) = line.split_once(" = ").ok_or("a row")?;
-        let (text, at) = text.rsplit_once(" ").ok_or("a node")?;
-        let row = row_of(alloc, &mut table, text)?;
-        let complete = is_complete(&table, unit.nodes.as_slice(), number_of(at), row);
-        if complete != (told == "yes") {
-            return Err(Fail::from("a type is complete elsewhere"));
-        }
+    match unit_of(alloc, "struct s{int a;};int x;")? {
+        Some(unit) => expect_each_complete(alloc, unit.nodes.as_slice()),
+        None => Err(Fail::from("no unit")),
     }
-    Ok(())
 }
 
 #[test]
 fn types_have_their_sizes(rt: HostRuntime) -> Result<(), Fail> {
     let alloc = rt.alloc();
     let mut table = Table::new(alloc)?;
-    // struct {char a; int b; char c;}
-    let char = row_of(alloc, &mut table, "char")?;
-    let int = row_of(alloc, &mut table, "int")?;
-    let one = with_member(NOTHING, layout(&table, &[], char));
-    let two = with_member(one, layout(&table, &[], int));
-    let three = with_member(two, layout(&table, &[], char));
-    let places = [
-        offset(NOTHING, layout(&table, &[], char)),
-        offset(one, layout(&table, &[], int)),
-        offset(two, layout(&table, &[], char)),
-    ];
-    if places != [0, 4, 8] {
-        return Err(Fail::from("a member stands elsewhere"));
-    }
-    let layouts = [closed(three)];
-    for line in LAYOUTS.split('\n') {
-        let (text, told) = line.split_once(" = ").ok_or("a row")?;
-        let row = row_of(alloc, &mut table, text)?;
-        let found = layout(&table, &layouts, row);
-        let shown = format!(in alloc; "{} {} {}", found.size, found.alignment, found.cells)?;
-        if shown.as_str() != told {
-            return Err(Fail::from("a type has another size"));
-        }
+    let layouts = [structure(&mut table)?];
+    for row in LAYOUTS.split('\n') {
+        expect_layout(alloc, &mut table, &layouts, row)?;
     }
     Ok(())
 }
 
 #[test]
 fn the_first_compatible_row_is_found(rt: HostRuntime) -> Result<(), Fail> {
-    let alloc = rt.alloc();
+    let mut table = Table::new(rt.alloc())?;
+    expect_least(&mut table)
+}
+
+fn expect_composite(alloc: Global, table: &mut Table, row: &str) -> Result<(), Fail> {
+    let (left, right, told) = triple(row, " ~ ", " = ");
+    let left = row_of(table, left)?;
+    let right = row_of(table, right)?;
+    match composite(table, left, right)? {
+        Some(found) => expect_type(alloc, table, found, row, told),
+        None => expect(row, "none", told),
+    }
+}
+
+fn expect_turned(alloc: Global, table: &mut Table, row: &str) -> Result<(), Fail> {
+    let (text, told) = pair(row, " = ");
+    let derivations = row_of(table, text)?;
+    let base = row_of(table, "int")?;
+    let found = turned(table, derivations, base)?;
+    expect_type(alloc, table, found, row, told)
+}
+
+fn expect_constant(alloc: Global, table: &mut Table, row: &str) -> Result<(), Fail> {
+    let (text, told) = pair(row, " = ");
+    let given = row_of(table, text)?;
+    let found = constant(table, given)?;
+    expect_type(alloc, table, found, row, told)
+}
+
+fn expect_each_complete(alloc: Global, nodes: &[Node]) -> Result<(), Fail> {
     let mut table = Table::new(alloc)?;
-    let unknown = row_of(alloc, &mut table, "[] int")?;
-    let three = row_of(alloc, &mut table, "[3] int")?;
-    let four = row_of(alloc, &mut table, "[4] int")?;
-    let pointer = row_of(alloc, &mut table, "* int")?;
-    let again = row_of(alloc, &mut table, "* int")?;
-    let rows = [
-        least(&table, three),
-        least(&table, four),
-        least(&table, pointer),
-        again,
-    ];
-    if rows != [unknown, unknown, pointer, pointer] {
-        return Err(Fail::from("another row is the first"));
+    for row in COMPLETE.split('\n') {
+        expect_complete(&mut table, nodes, row)?;
     }
     Ok(())
 }
 
-fn composite(
+fn expect_complete(table: &mut Table, nodes: &[Node], row: &str) -> Result<(), Fail> {
+    let (given, told) = pair(row, " = ");
+    let (text, at) = given.rsplit_once(' ').ok_or("a node")?;
+    let given = row_of(table, text)?;
+    let found = is_complete(table, nodes, at.parse::<u32>().unwrap_or(0), given);
+    expect(row, yes_or_no(found), told)
+}
+
+// The layout of `struct {char a; int b; char c;}`, whose members stand at 0, 4 and 8.
+fn structure(table: &mut Table) -> Result<Layout, Fail> {
+    let char = row_of(table, "char")?;
+    let int = row_of(table, "int")?;
+    let char = layout(table, &[], char);
+    let int = layout(table, &[], int);
+    let one = with_member(NOTHING, char);
+    let two = with_member(one, int);
+    if [offset(NOTHING, char), offset(one, int), offset(two, char)] == [0, 4, 8] {
+        Ok(closed(with_member(two, char)))
+    } else {
+        Err(Fail::from("a member stands elsewhere"))
+    }
+}
+
+fn expect_layout(
     alloc: Global,
     table: &mut Table,
-    left: &str,
-    right: &str,
-) -> Result<String, AllocError> {
-    let left = row_of(alloc, table, left)?;
-    let right = row_of(alloc, table, right)?;
+    layouts: &[Layout],
+    row: &str,
+) -> Result<(), Fail> {
+    let (text, told) = pair(row, " = ");
+    let given = row_of(table, text)?;
+    let found = layout(table, layouts, given);
+    let shown = format!(in alloc; "{} {} {}", found.size, found.alignment, found.cells)?;
+    expect(row, shown.as_str(), told)
+}
+
+fn expect_least(table: &mut Table) -> Result<(), Fail> {
+    let unknown = row_of(table, "[] int")?;
+    let three = row_of(table, "[3] int")?;
+    let four = row_of(table, "[4] int")?;
+    let pointer = row_of(table, "* int")?;
+    let again = row_of(table, "* int")?;
+    let rows = [
+        least(table, three),
+        least(table, four),
+        least(table, pointer),
+        again,
+    ];
+    if rows == [unknown, unknown, pointer, pointer] {
+        Ok(())
+    } else {
+        Err(Fail::from("another row is the first"))
+    }
+}
+
+// The row of the composite of two types, if they are compatible.
+fn composite(table: &mut Table, left: u32, right: u32) -> Result<Option<u32>, AllocError> {
     let count = table.len();
     if left as usize >= count || right as usize >= count || !table.are_compatible(left, right) {
-        return String::from_str(alloc, "none");
+        return Ok(None);
     }
     let row = table.composite(left, right)?;
-    shown(alloc, table, row)
+    Ok(Some(row))
 }
 
 fn turned(table: &mut Table, derivations: u32, base: u32) -> Result<u32, AllocError> {
@@ -257,126 +277,4 @@ fn least(table: &Table, row: u32) -> u32 {
     } else {
         row
     }
-}
-
-// The row of a type in words, read from the last word to the first.
-fn row_of(alloc: Global, table: &mut Table, text: &str) -> Result<u32, AllocError> {
-    let mut words: Vec<&str> = Vec::new(alloc);
-    for word in text.split(' ') {
-        words.push(word)?;
-    }
-    let mut row = 0;
-    for word in words.iter().rev() {
-        row = with_word(table, word, row)?;
-    }
-    Ok(row)
-}
-
-fn with_word(table: &mut Table, word: &str, row: u32) -> Result<u32, AllocError> {
-    let count = table.len();
-    if row as usize >= count {
-        return Ok(0);
-    }
-    let shape = table.shape(row);
-    let shape = match word {
-        "const" => Shape {
-            constant: true,
-            ..shape
-        },
-        "volatile" => Shape {
-            volatile: true,
-            ..shape
-        },
-        _ => Shape::plain(of_word(word, row)),
-    };
-    if room(shape.of) > table.len() {
-        return Ok(0);
-    }
-    table.add(shape)
-}
-
-// Above which number the rows end that a type names.
-fn room(of: CType) -> usize
-    ensures { result ≡ room_in of }
-{
-    match of {
-        CType::Pointer(row) | CType::Array(row, _) => row as usize + 1,
-        _ => 0,
-    }
-}
-
-fn of_word(word: &str, row: u32) -> CType {
-    if word == "*" {
-        return CType::Pointer(row);
-    }
-    if let Some(rest) = word.strip_prefix("[") {
-        let count = rest.strip_suffix("]").unwrap_or("");
-        return CType::Array(row, count.parse::<u64>().unwrap_or(0));
-    }
-    if let Some(node) = word.strip_prefix("S") {
-        return CType::Struct(number_of(node));
-    }
-    match word {
-        "bool" => CType::Int(IntKind::Bool),
-        "char" => CType::Int(IntKind::Char),
-        "schar" => CType::Int(IntKind::SChar),
-        "short" => CType::Int(IntKind::Short),
-        "int" => CType::Int(IntKind::Int),
-        "uint" => CType::Int(IntKind::UInt),
-        "long" => CType::Int(IntKind::Long),
-        "llong" => CType::Int(IntKind::LLong),
-        _ => CType::Void,
-    }
-}
-
-fn number_of(word: &str) -> u32 {
-    word.parse::<u32>().unwrap_or(0)
-}
-
-// A row's type in words.
-fn shown(alloc: Global, table: &Table, row: u32) -> Result<String, AllocError> {
-    let mut out = String::new(alloc);
-    let mut row = row;
-    for _ in 0..100 {
-        if row as usize >= table.len() {
-            break;
-        }
-        let shape = table.shape(row);
-        if !out.is_empty() {
-            out.push(' ')?;
-        }
-        if shape.constant {
-            out.push_str("const ")?;
-        }
-        if shape.volatile {
-            out.push_str("volatile ")?;
-        }
-        row = match shape.of {
-            CType::Pointer(below) => {
-                out.push('*')?;
-                below
-            }
-            CType::Array(below, 0) => {
-                out.push_str("[]")?;
-                below
-            }
-            CType::Array(below, count) => {
-                out.push_str(format!(in alloc; "[{count}]")?.as_str())?;
-                below
-            }
-            CType::Struct(node) => {
-                out.push_str(format!(in alloc; "S{node}")?.as_str())?;
-                break;
-            }
-            CType::Int(kind) => {
-                out.push_str(if kind == IntKind::Char { "char" } else { "int" })?;
-                break;
-            }
-            _ => {
-                out.push_str("void")?;
-                break;
-            }
-        };
-    }
-    Ok(out)
 }
