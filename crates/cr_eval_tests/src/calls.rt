@@ -1,13 +1,12 @@
 // The calls of the library.
-use crate::rows::{expect, rows, triple};
-use crate::unit::{ENDED, Unit, make_unit, single};
+use crate::rows::{expect_text, rows, triple};
+use crate::unit::{Unit, make_unit, value_of};
 use cr_calls::{exit, printf, putchar};
 use cr_ints::IntKind;
 use cr_meaning::Value;
-use cr_memory::{Cell, Guard, Pointer, Scalar, Trap};
+use cr_memory::{Cell, Guard, Pointer, Scalar, Store, Trap};
 use cr_world::write;
 use std::alloc::{AllocError, Global};
-use std::test::Fail;
 
 // Formats, arguments, and the value with what stands in the output then, or the first case. An argument is a number of type int, or with
 // `u` or `l` behind it unsigned int or long; `'` begins a string, `[` one without its zero; `n` is a null pointer to char, `e` one whose
@@ -36,54 +35,70 @@ const PRINTF: &str = "
 %5d¦g¦U15
 ";
 
-fn string(alloc: Global, unit: &mut Unit, bytes: &str, closed: bool) -> Result<Value, AllocError> {
-    let mut shape = Vec::new(alloc);
+// The characters of a string, with its zero or without.
+fn chars(alloc: Global, bytes: &str, closed: bool) -> Result<Vec<Cell>, AllocError> {
     let mut cells = Vec::new(alloc);
     for byte in bytes.as_bytes() {
-        shape.push((Scalar::Int(IntKind::Char), Guard::Literal))?;
         cells.push(Cell::Number(i128::from(*byte)))?;
     }
     if closed {
-        shape.push((Scalar::Int(IntKind::Char), Guard::Literal))?;
         cells.push(Cell::Number(0))?;
     }
-    let store = &mut unit.world.store;
+    Ok(cells)
+}
+
+// Puts characters into the store, and answers the number of their object.
+fn put_chars(alloc: Global, store: &mut Store, cells: &[Cell]) -> Result<u32, AllocError> {
+    let shape = vec![in alloc; (Scalar::Int(IntKind::Char), Guard::Literal); cells.len()]?;
     let object = store.enter(&shape, false).map_err(|_| AllocError)?;
-    write(store, object, 0, &cells).map_err(|_| AllocError)?;
+    match write(store, object, 0, cells) {
+        Ok(()) => Ok(object),
+        Err(_) => Err(AllocError),
+    }
+}
+
+fn string(alloc: Global, unit: &mut Unit, bytes: &str, closed: bool) -> Result<Value, AllocError> {
+    let cells = chars(alloc, bytes, closed)?;
+    let high = u32::try_from(cells.len()).map_err(|_| AllocError)?;
+    let object = put_chars(alloc, &mut unit.world.store, &cells)?;
     Ok(Value::Pointer(Pointer::At {
         object,
         cell: 0,
         low: 0,
-        high: u32::try_from(cells.len()).map_err(|_| AllocError)?,
+        high,
         stride: 1,
     }))
 }
 
-fn number(word: &str) -> Value {
-    if let Some(digits) = word.strip_suffix("u") {
-        return Value::Number(IntKind::UInt, digits.parse::<i128>().unwrap_or(0));
-    }
-    if let Some(digits) = word.strip_suffix("l") {
-        return Value::Number(IntKind::Long, digits.parse::<i128>().unwrap_or(0));
-    }
-    Value::Number(IntKind::Int, word.parse::<i128>().unwrap_or(0))
+// Whether an argument is a pointer to char.
+fn is_text(word: &str) -> bool {
+    word == "n" || word == "e" || word.starts_with("'") || word.starts_with("[")
 }
 
-// Whether an argument is a pointer to char, and its value.
-fn argument(alloc: Global, unit: &mut Unit, word: &str) -> Result<(bool, Value), AllocError> {
+fn texts(alloc: Global, words: &str) -> Result<Vec<bool>, AllocError> {
+    let mut texts = Vec::new(alloc);
+    for word in words.split_whitespace() {
+        texts.push(is_text(word))?;
+    }
+    Ok(texts)
+}
+
+fn argument(alloc: Global, unit: &mut Unit, word: &str) -> Result<Value, AllocError> {
     if let Some(bytes) = word.strip_prefix("'") {
-        return Ok((true, string(alloc, unit, bytes, true)?));
+        return string(alloc, unit, bytes, true);
     }
     if let Some(bytes) = word.strip_prefix("[") {
-        return Ok((true, string(alloc, unit, bytes, false)?));
+        return string(alloc, unit, bytes, false);
     }
-    match word {
-        "n" => Ok((true, Value::Pointer(Pointer::Null))),
-        "e" => Ok((true, Value::Pointer(single(ENDED)))),
-        "*" => Ok((false, Value::Pointer(single(1)))),
-        "g" => Ok((false, Value::Nothing)),
-        _ => Ok((false, number(word))),
+    Ok(value_of(word))
+}
+
+fn arguments(alloc: Global, unit: &mut Unit, words: &str) -> Result<Vec<Value>, AllocError> {
+    let mut values = Vec::new(alloc);
+    for word in words.split_whitespace() {
+        values.push(argument(alloc, unit, word)?)?;
     }
+    Ok(values)
 }
 
 fn case(alloc: Global, trap: Trap) -> Result<String, AllocError> {
@@ -94,54 +109,83 @@ fn case(alloc: Global, trap: Trap) -> Result<String, AllocError> {
     }
 }
 
+fn number_shown(alloc: Global, number: i128, output: &[u8]) -> Result<String, AllocError> {
+    let printed = String::from_utf8_lossy(alloc, output)?;
+    format!(in alloc; "{number} {printed}")
+}
+
 fn shown(alloc: Global, value: Result<Value, Trap>, output: &[u8]) -> Result<String, AllocError> {
     match value {
-        Ok(Value::Number(_, number)) => {
-            let printed = String::from_utf8_lossy(alloc, output)?;
-            format!(in alloc; "{number} {printed}")
-        }
+        Ok(Value::Number(_, number)) => number_shown(alloc, number, output),
         Ok(_) => String::from_str(alloc, "no number"),
         Err(trap) => case(alloc, trap),
     }
 }
 
-fn printed(alloc: Global, format: &str, words: &str) -> Result<String, AllocError> {
-    let mut unit = make_unit(alloc)?;
-    let format = string(alloc, &mut unit, format, true)?;
-    let mut texts = Vec::new(alloc);
-    let mut values = Vec::new(alloc);
-    for word in words.split_whitespace() {
-        let (text, value) = argument(alloc, &mut unit, word)?;
-        texts.push(text)?;
-        values.push(value)?;
-    }
+// What a call of `printf` comes to, in words.
+fn called(
+    alloc: Global,
+    unit: &mut Unit,
+    texts: &[bool],
+    format: &Value,
+    values: &[Value],
+) -> Result<String, AllocError> {
     let world = &mut unit.world;
     let value = printf(
         alloc,
         &unit.table,
         &world.store,
         &mut world.output,
-        &texts,
-        &format,
-        &values,
+        texts,
+        format,
+        values,
     );
     shown(alloc, value, &world.output)
+}
+
+fn printed_in(
+    alloc: Global,
+    unit: &mut Unit,
+    format: &str,
+    words: &str,
+) -> Result<String, AllocError> {
+    let format = string(alloc, unit, format, true)?;
+    let values = arguments(alloc, unit, words)?;
+    let texts = texts(alloc, words)?;
+    called(alloc, unit, &texts, &format, &values)
+}
+
+fn printed(alloc: Global, format: &str, words: &str) -> Result<String, AllocError> {
+    let mut unit = make_unit(alloc)?;
+    printed_in(alloc, &mut unit, format, words)
 }
 
 #[test]
 fn formats_are_printed_or_have_their_case(rt: HostRuntime) -> Result<(), AllocError> {
     for row in rows(PRINTF) {
         let (format, words, wanted) = triple(row);
-        let found = printed(rt.alloc(), format, words)?;
-        expect(&rt, found.as_str(), wanted, row);
+        expect_text(&rt, printed(rt.alloc(), format, words), wanted, row)?;
     }
     Ok(())
 }
 
-fn put(alloc: Global, value: &Value) -> Result<String, AllocError> {
-    let mut unit = make_unit(alloc)?;
+// Two calls, the value, and what is given and printed, or the status, or the case.
+const CALLS: &str = "
+putchar¦321¦65 A
+putchar¦g¦U15
+exit¦259¦3
+exit¦-1¦255
+exit¦g¦U15
+";
+
+fn put_in(alloc: Global, unit: &mut Unit, value: &Value) -> Result<String, AllocError> {
     let value = putchar(&unit.table, &mut unit.world.output, value);
     shown(alloc, value, &unit.world.output)
+}
+
+fn put(alloc: Global, value: &Value) -> Result<String, AllocError> {
+    let mut unit = make_unit(alloc)?;
+    put_in(alloc, &mut unit, value)
 }
 
 fn status(alloc: Global, value: &Value) -> Result<String, AllocError> {
@@ -151,22 +195,19 @@ fn status(alloc: Global, value: &Value) -> Result<String, AllocError> {
     }
 }
 
+fn ended(alloc: Global, name: &str, word: &str) -> Result<String, AllocError> {
+    let value = value_of(word);
+    match name {
+        "putchar" => put(alloc, &value),
+        _ => status(alloc, &value),
+    }
+}
+
 #[test]
-fn chars_are_put_and_statuses_are_taken_modulo_256(rt: HostRuntime) -> Result<(), Fail> {
-    let alloc = rt.alloc();
-    let answers = [
-        put(alloc, &number("321"))?,
-        put(alloc, &Value::Nothing)?,
-        status(alloc, &number("259"))?,
-        status(alloc, &number("-1"))?,
-        status(alloc, &Value::Nothing)?,
-    ];
-    let found = format!(in alloc; "{answers:?}")?;
-    expect(
-        &rt,
-        &found,
-        "[\"65 A\", \"U15\", \"3\", \"255\", \"U15\"]",
-        "put, exit",
-    );
+fn chars_are_put_and_statuses_are_taken_modulo_256(rt: HostRuntime) -> Result<(), AllocError> {
+    for row in rows(CALLS) {
+        let (name, word, wanted) = triple(row);
+        expect_text(&rt, ended(rt.alloc(), name, word), wanted, row)?;
+    }
     Ok(())
 }

@@ -1,5 +1,5 @@
 // The evaluation of an expression, node by node.
-use crate::unit::{ENDED, make_unit, single};
+use crate::unit::{ENDED, Unit, make_unit, single};
 use crate::words::push_nodes;
 use cr_eval::Table;
 use cr_expressions::expression;
@@ -31,14 +31,18 @@ fn halted(trap: Trap, node: u32) -> Halted {
     }
 }
 
+fn with_argument(alloc: Global, held: Option<Held>, foot: Foot) -> Result<Foot, Trap> {
+    match held {
+        Some(Held::Part(part)) => argument(alloc, part.foot, foot),
+        _ => Err(Trap::NoMemory),
+    }
+}
+
 // The events of a call's arguments. Those of its body are not the caller's.
 fn arguments(alloc: Global, stack: &mut Stack<Held>) -> Result<Foot, Trap> {
     let mut foot = Foot::none(alloc);
     for _ in 0..stack.done().len() {
-        let Some(Held::Part(part)) = stack.pop() else {
-            return Err(Trap::NoMemory);
-        };
-        foot = argument(alloc, part.foot, foot)?;
+        foot = with_argument(alloc, stack.pop(), foot)?;
     }
     Ok(foot)
 }
@@ -100,40 +104,56 @@ fn turn(
     }
 }
 
+// A turn of the node at which the stack stands.
+fn step(
+    alloc: Global,
+    table: &Table,
+    world: &mut World,
+    stack: &mut Stack<Held>,
+) -> Result<Option<Held>, Halted> {
+    match table.ops.as_slice().get(stack.node() as usize) {
+        Some(op) => turn(alloc, table, world, stack, op),
+        None => Err(Halted::NoMemory),
+    }
+}
+
 fn evaluate(alloc: Global, table: &Table, world: &mut World, node: u32) -> Result<Held, Halted> {
     let mut stack = Stack::new(alloc, node);
     for _ in 0..100 {
-        let Some(op) = table.ops.as_slice().get(stack.node() as usize) else {
-            return Err(Halted::NoMemory);
-        };
-        if let Some(held) = turn(alloc, table, world, &mut stack, op)? {
-            return Ok(held);
+        match step(alloc, table, world, &mut stack) {
+            Ok(None) => {}
+            Ok(Some(held)) => return Ok(held),
+            Err(halted) => return Err(halted),
         }
     }
     Err(Halted::NoMemory)
 }
 
-// A value; of a pointer its cell, the cells of the array in which it points, and the cells of an element.
+// Of a pointer its cell, the cells of the array in which it points, and the cells of an element.
+fn pointer_text(alloc: Global, pointer: Pointer) -> Result<String, AllocError> {
+    match pointer {
+        Pointer::Null => String::from_str(alloc, "null"),
+        Pointer::At {
+            cell,
+            low,
+            high,
+            stride,
+            ..
+        } => format!(in alloc; "{cell} of {low}..{high} by {stride}"),
+    }
+}
+
 fn value_text(alloc: Global, value: &Value) -> Result<String, AllocError> {
     match value {
         Value::Nothing => String::from_str(alloc, "nothing"),
         Value::Number(kind, number) => format!(in alloc; "{kind:?} {number}"),
-        Value::Pointer(Pointer::Null) => String::from_str(alloc, "null"),
-        Value::Pointer(
-            Pointer::At {
-                cell,
-                low,
-                high,
-                stride,
-                ..
-            },
-        ) => format!(in alloc; "{cell} of {low}..{high} by {stride}"),
+        Value::Pointer(pointer) => pointer_text(alloc, *pointer),
         Value::Place(_) => String::from_str(alloc, "place"),
         Value::Cells(cells) => format!(in alloc; "{} cells", cells.len()),
     }
 }
 
-fn text(alloc: Global, end: Result<Held, Halted>) -> Result<String, AllocError> {
+fn text(alloc: Global, end: &Result<Held, Halted>) -> Result<String, AllocError> {
     match end {
         Ok(Held::Part(part)) => value_text(alloc, &part.value),
         Err(Halted::Undefined(number, node)) => format!(in alloc; "U{number} {node}"),
@@ -142,10 +162,14 @@ fn text(alloc: Global, end: Result<Held, Halted>) -> Result<String, AllocError> 
     }
 }
 
+fn answer_in(alloc: Global, unit: &mut Unit, words: &str) -> Result<String, AllocError> {
+    let node = push_nodes(alloc, &mut unit.table, words)?;
+    let end = evaluate(alloc, &unit.table, &mut unit.world, node);
+    text(alloc, &end)
+}
+
 /// What the expression of these words comes to: its value, or its first case and the number of the word where it is met.
 pub(crate) fn answer(alloc: Global, words: &str) -> Result<String, AllocError> {
     let mut unit = make_unit(alloc)?;
-    let node = push_nodes(alloc, &mut unit.table, words)?;
-    let end = evaluate(alloc, &unit.table, &mut unit.world, node);
-    text(alloc, end)
+    answer_in(alloc, &mut unit, words)
 }

@@ -1,5 +1,5 @@
 use crate::evaluate::answer;
-use crate::rows::{expect, rows, triple};
+use crate::rows::{expect_text, rows, triple};
 use std::alloc::{AllocError, Global};
 use std::process::Abort;
 
@@ -144,8 +144,7 @@ p = 0¦p 0 =*¦null
 fn expect_rows(rt: &impl Abort, alloc: Global, table: &'static str) -> Result<(), AllocError> {
     for row in rows(table) {
         let (_, words, wanted) = triple(row);
-        let found = answer(alloc, words)?;
-        expect(rt, found.as_str(), wanted, row);
+        expect_text(rt, answer(alloc, words), wanted, row)?;
     }
     Ok(())
 }

@@ -1,3 +1,4 @@
+use std::alloc::AllocError;
 use std::process::Abort;
 use std::str::Lines;
 
@@ -24,7 +25,19 @@ pub(crate) fn triple(row: &str) -> (&str, &str, &str) {
     (first, second, third)
 }
 
-/// The one assertion of tables.
-pub(crate) fn expect(rt: &impl Abort, found: &str, wanted: &str, row: &str) {
+// The one assertion of tables.
+fn expect(rt: &impl Abort, found: &str, wanted: &str, row: &str) {
     assert!(rt; found == wanted, "{row}: {found}");
+}
+
+/// That a text was made, and is this one.
+pub(crate) fn expect_text(
+    rt: &impl Abort,
+    found: Result<String, AllocError>,
+    wanted: &str,
+    row: &str,
+) -> Result<(), AllocError> {
+    let found = found?;
+    expect(rt, found.as_str(), wanted, row);
+    Ok(())
 }

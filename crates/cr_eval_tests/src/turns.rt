@@ -1,12 +1,11 @@
 // Which operand comes next.
-use crate::rows::{expect, rows, triple};
-use crate::unit::{ENDED, make_unit, single};
+use crate::rows::{expect_text, rows, triple};
+use crate::unit::{make_unit, value_of};
 use crate::words::push_nodes;
+use cr_eval::Table;
 use cr_footprint::Foot;
-use cr_ints::IntKind;
 use cr_join::{Next, Part, next};
-use cr_meaning::Value;
-use cr_memory::Pointer;
+use cr_meaning::Op;
 use std::alloc::{AllocError, Global};
 
 // An expression's nodes in postfix, the values of the last one's operands so far, and what comes next: the operand of this number of
@@ -38,36 +37,42 @@ g0 1 2 ?i¦g¦ready
 g0¦¦body 1
 ";
 
-fn value(word: &str) -> Value {
-    match word {
-        "n" => Value::Pointer(Pointer::Null),
-        "e" => Value::Pointer(single(ENDED)),
-        "g" => Value::Nothing,
-        _ => Value::Number(IntKind::Int, word.parse::<i128>().unwrap_or(0)),
-    }
-}
-
 fn parts(alloc: Global, words: &str) -> Result<Vec<Part>, AllocError> {
     let mut parts = Vec::new(alloc);
     for word in words.split_whitespace() {
         parts.push(Part {
-            value: value(word),
+            value: value_of(word),
             foot: Foot::none(alloc),
         })?;
     }
     Ok(parts)
 }
 
-fn turn(alloc: Global, words: &str, values: &str) -> Result<String, AllocError> {
-    let mut unit = make_unit(alloc)?;
-    push_nodes(alloc, &mut unit.table, words)?;
+fn next_of(alloc: Global, op: &Op, values: &str) -> Result<String, AllocError> {
     let done = parts(alloc, values)?;
-    let op = unit.table.ops.as_slice().last().ok_or(AllocError)?;
     match next(op, &done) {
         Next::Operand(node) => format!(in alloc; "operand {node}"),
         Next::Call(body) => format!(in alloc; "body {body}"),
         Next::Ready => String::from_str(alloc, "ready"),
     }
+}
+
+fn turn_in(
+    alloc: Global,
+    table: &mut Table,
+    words: &str,
+    values: &str,
+) -> Result<String, AllocError> {
+    push_nodes(alloc, table, words)?;
+    match table.ops.as_slice().last() {
+        Some(op) => next_of(alloc, op, values),
+        None => Err(AllocError),
+    }
+}
+
+fn turn(alloc: Global, words: &str, values: &str) -> Result<String, AllocError> {
+    let mut unit = make_unit(alloc)?;
+    turn_in(alloc, &mut unit.table, words, values)
 }
 
 #[test]
@@ -76,8 +81,7 @@ fn operands_come_in_turn_and_only_those_that_are_evaluated(
 ) -> Result<(), AllocError> {
     for row in rows(TURNS) {
         let (words, values, wanted) = triple(row);
-        let found = turn(rt.alloc(), words, values)?;
-        expect(&rt, found.as_str(), wanted, row);
+        expect_text(&rt, turn(rt.alloc(), words, values), wanted, row)?;
     }
     Ok(())
 }

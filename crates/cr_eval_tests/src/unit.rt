@@ -2,7 +2,7 @@
 use crate::rows::rows;
 use cr_eval::Table;
 use cr_ints::IntKind;
-use cr_meaning::Limits;
+use cr_meaning::{Limits, Value};
 use cr_memory::{Cell, Guard, Pointer, Scalar, Store};
 use cr_rows::Row;
 use cr_world::{Names, World, close, enter, mark, shape_for};
@@ -63,6 +63,28 @@ pub(crate) fn single(object: u32) -> Pointer {
     }
 }
 
+fn number(word: &str) -> Value {
+    if let Some(digits) = word.strip_suffix("u") {
+        return Value::Number(IntKind::UInt, digits.parse::<i128>().unwrap_or(0));
+    }
+    if let Some(digits) = word.strip_suffix("l") {
+        return Value::Number(IntKind::Long, digits.parse::<i128>().unwrap_or(0));
+    }
+    Value::Number(IntKind::Int, word.parse::<i128>().unwrap_or(0))
+}
+
+/// A value: `n` is the null pointer, `e` a pointer to an object whose lifetime has ended, `*` one to an int, `g` none; a number has type
+/// int, or with `u` or `l` behind it unsigned int or long.
+pub(crate) fn value_of(word: &str) -> Value {
+    match word {
+        "n" => Value::Pointer(Pointer::Null),
+        "e" => Value::Pointer(single(ENDED)),
+        "*" => Value::Pointer(single(1)),
+        "g" => Value::Nothing,
+        _ => number(word),
+    }
+}
+
 fn own(letter: u8) -> (Scalar, Guard) {
     match letter {
         b'k' => (Scalar::Int(IntKind::Int), Guard::Constant),
@@ -104,6 +126,13 @@ fn push_kinds(alloc: Global, table: &mut Table) -> Result<(), AllocError> {
     table.kinds.push(kinds)
 }
 
+fn fill_table(alloc: Global, table: &mut Table) -> Result<(), AllocError> {
+    for row in rows(OBJECTS) {
+        push_shape(alloc, table, row)?;
+    }
+    push_kinds(alloc, table)
+}
+
 // A table without operations. 8 bytes may be printed.
 fn make_table(alloc: Global) -> Result<Table, AllocError> {
     let mut table = Table {
@@ -118,10 +147,7 @@ fn make_table(alloc: Global) -> Result<Table, AllocError> {
             output: 8,
         },
     };
-    for row in rows(OBJECTS) {
-        push_shape(alloc, &mut table, row)?;
-    }
-    push_kinds(alloc, &mut table)?;
+    fill_table(alloc, &mut table)?;
     Ok(table)
 }
 
@@ -131,6 +157,14 @@ fn enter_ended(world: &mut World) -> Result<(), AllocError> {
     close(world).map_err(|_| AllocError)
 }
 
+fn cells_of(alloc: Global, row: &str) -> Result<Vec<Cell>, AllocError> {
+    let mut cells = Vec::new(alloc);
+    for word in row.split_whitespace().skip(2) {
+        cells.push(cell(word))?;
+    }
+    Ok(cells)
+}
+
 fn enter_row(
     alloc: Global,
     table: &Table,
@@ -138,32 +172,40 @@ fn enter_row(
     node: u32,
     row: &str,
 ) -> Result<(), AllocError> {
-    let mut cells = Vec::new(alloc);
-    for word in row.split_whitespace().skip(2) {
-        cells.push(cell(word))?;
-    }
+    let cells = cells_of(alloc, row)?;
     enter(world, node, shape_for(table, node), &cells).map_err(|_| AllocError)
 }
 
 fn make_world(alloc: Global) -> Result<World, AllocError> {
+    let names = Names::new(alloc, 20).map_err(|_| AllocError)?;
     Ok(World {
         store: Store::new(alloc, 100),
         output: Vec::new(alloc),
         steps: 100,
         depth: 1,
-        names: Names::new(alloc, 20).map_err(|_| AllocError)?,
+        names,
     })
+}
+
+fn fill_world(alloc: Global, table: &Table, world: &mut World) -> Result<(), AllocError> {
+    enter_ended(world)?;
+    let mut node: u32 = 0;
+    for row in rows(OBJECTS) {
+        enter_row(alloc, table, world, node, row)?;
+        node = node.saturating_add(1);
+    }
+    Ok(())
+}
+
+fn empty_unit(alloc: Global) -> Result<Unit, AllocError> {
+    let world = make_world(alloc)?;
+    let table = make_table(alloc)?;
+    Ok(Unit { table, world })
 }
 
 /// The unit.
 pub(crate) fn make_unit(alloc: Global) -> Result<Unit, AllocError> {
-    let table = make_table(alloc)?;
-    let mut world = make_world(alloc)?;
-    enter_ended(&mut world)?;
-    let mut node: u32 = 0;
-    for row in rows(OBJECTS) {
-        enter_row(alloc, &table, &mut world, node, row)?;
-        node = node.checked_add(1).ok_or(AllocError)?;
-    }
-    Ok(Unit { table, world })
+    let mut unit = empty_unit(alloc)?;
+    fill_world(alloc, &unit.table, &mut unit.world)?;
+    Ok(unit)
 }

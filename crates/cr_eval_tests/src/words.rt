@@ -115,9 +115,15 @@ fn unary(name: &[u8]) -> Option<Work> {
         [b'&'] => Some(Work::AddressOf),
         [b'(', b')'] => Some(Work::Pass),
         [b'(', of, b')'] => Some(Work::Cast(form(*of))),
+        [b'~', of] => Some(Work::Unary(Sign::Complement, kind(*of))),
+        _ => named(name),
+    }
+}
+
+fn named(name: &[u8]) -> Option<Work> {
+    match name {
         [b'a', b't', cells] => Some(Work::Dereference(digit(*cells))),
         [b'n', b'e', b'g', of] => Some(Work::Unary(Sign::Minus, kind(*of))),
-        [b'~', of] => Some(Work::Unary(Sign::Complement, kind(*of))),
         [b'p', b'o', b's', b't', sign, of] => update(&[*sign], *of, true),
         [b'p', b'r', b'e', sign, of] => update(&[*sign], *of, false),
         _ => member(name),
@@ -216,14 +222,39 @@ fn parts(alloc: Global, open: &mut Vec<u32>, count: usize) -> Result<Row<u32>, A
     Ok(Row::from_vec(parts))
 }
 
+fn op_of(
+    work: Work,
+    access: Access,
+    parts: Result<Row<u32>, AllocError>,
+) -> Result<Op, AllocError> {
+    match parts {
+        Ok(parts) => Ok(Op {
+            parts,
+            work,
+            access,
+        }),
+        Err(error) => Err(error),
+    }
+}
+
 fn op(alloc: Global, open: &mut Vec<u32>, word: &str) -> Result<Op, AllocError> {
     let (name, of) = word.split_once(':').unwrap_or((word, ""));
-    let (work, count) = work(alloc, name).ok_or(AllocError)?;
-    Ok(Op {
-        parts: parts(alloc, open, count)?,
-        work,
-        access: access(of.as_bytes()),
-    })
+    match work(alloc, name) {
+        Some((work, count)) => op_of(work, access(of.as_bytes()), parts(alloc, open, count)),
+        None => Err(AllocError),
+    }
+}
+
+fn push_node(
+    alloc: Global,
+    table: &mut Table,
+    open: &mut Vec<u32>,
+    node: u32,
+    word: &str,
+) -> Result<(), AllocError> {
+    table.ops.push(op(alloc, open, word)?)?;
+    open.push(node)?;
+    Ok(())
 }
 
 /// Puts the nodes of an expression into a table, numbered from 0 as its words are. The last one is the whole expression.
@@ -231,9 +262,8 @@ pub(crate) fn push_nodes(alloc: Global, table: &mut Table, words: &str) -> Resul
     let mut open = Vec::new(alloc);
     let mut node: u32 = 0;
     for word in words.split_whitespace() {
-        table.ops.push(op(alloc, &mut open, word)?)?;
-        open.push(node)?;
-        node = node.checked_add(1).ok_or(AllocError)?;
+        push_node(alloc, table, &mut open, node, word)?;
+        node = node.saturating_add(1);
     }
     open.pop().ok_or(AllocError)
 }

@@ -91,14 +91,22 @@ fn runs(alloc: Global) -> Result<Row<Run>, AllocError> {
     Ok(runs)
 }
 
-fn keep(alloc: Global, file: &[u8], kept: &mut Kept) -> Result<(), Fail> {
+fn keep_texts(alloc: Global, file: &[u8], kept: &mut Kept) -> Result<(), Fail> {
     kept.bytes = Row::from_vec(b"yzzy".to_vec(alloc)?);
     kept.tokens = Row::from_vec(read(alloc, file)?.list);
+    Ok(())
+}
+
+fn keep_forms(alloc: Global, kept: &mut Kept) -> Result<(), AllocError> {
     for words in rows(FORMS) {
         kept.forms.push(form(alloc, words)?)?;
     }
-    kept.runs.push(runs(alloc)?)?;
-    Ok(())
+    kept.runs.push(runs(alloc)?)
+}
+
+fn keep(alloc: Global, file: &[u8], kept: &mut Kept) -> Result<(), Fail> {
+    keep_texts(alloc, file, kept)?;
+    Ok(keep_forms(alloc, kept)?)
 }
 
 fn kept(alloc: Global, file: &[u8]) -> Result<Kept, Fail> {
@@ -115,12 +123,16 @@ fn edit(alloc: Global, changes: &str) -> Result<Vec<Change>, AllocError> {
     Ok(edit)
 }
 
+fn fill(edits: &mut Edits, edit: &[Change]) -> Result<(), AllocError> {
+    edits.push(&[])?;
+    edits.push(edit)
+}
+
 // An edit of nothing, and the one of these changes.
 fn level(alloc: Global, changes: &str) -> Result<Edits, AllocError> {
     let edit = edit(alloc, changes)?;
     let mut edits = Edits::new(alloc);
-    edits.push(&[])?;
-    edits.push(&edit)?;
+    fill(&mut edits, &edit)?;
     Ok(edits)
 }
 
@@ -133,8 +145,8 @@ fn levels(alloc: Global, changes: &str) -> Result<Vec<Edits>, AllocError> {
 }
 
 fn menu(alloc: Global, file: &[u8], changes: &str) -> Result<Menu, Fail> {
-    let kept = kept(alloc, file)?;
-    Ok(Menu::new(levels(alloc, changes)?, kept))
+    let levels = levels(alloc, changes)?;
+    Ok(Menu::new(levels, kept(alloc, file)?))
 }
 
 fn has_its_widths(menu: &Menu) -> bool {
@@ -156,13 +168,16 @@ fn expect_variant(
     Ok(())
 }
 
+fn expect_menu(rt: &impl Abort, menu: &Menu, row: &str, out: &mut Vec<u8>) -> Result<(), Fail> {
+    expect_true(rt, has_its_widths(menu), row);
+    expect_variant(rt, menu, row, 1, out)?;
+    Ok(expect_variant(rt, menu, row, 0, out)?)
+}
+
 fn expect_row(rt: &impl Abort, alloc: Global, row: &str, out: &mut Vec<u8>) -> Result<(), Fail> {
     let (file, changes, _) = triple(row);
     let menu = menu(alloc, file.as_bytes(), changes)?;
-    expect_true(rt, has_its_widths(&menu), row);
-    expect_variant(rt, &menu, row, 1, out)?;
-    expect_variant(rt, &menu, row, 0, out)?;
-    Ok(())
+    expect_menu(rt, &menu, row, out)
 }
 
 #[test]

@@ -7,6 +7,7 @@ use cr_levels::{Counted, Level, Turns, in_turn, list, with_comma};
 use cr_rows::Row;
 use cr_tokens::{Token, read};
 use std::alloc::{AllocError, Global};
+use std::process::Abort;
 use std::test::Fail;
 
 // Part, number of parts, and its token; and where the change starts and ends. The first of three, the second, the last, and one alone.
@@ -89,13 +90,22 @@ fn goes_so(tokens: &[Token], row: &str) -> bool {
     number(ends.next()) == change.start && number(ends.next()) == change.end
 }
 
+fn expect_starts(rt: &impl Abort, alloc: Global, starts: &str) -> Result<(), AllocError> {
+    let edits = list(alloc, 2, &Three)?;
+    expect_true(rt, are_starts(&edits, starts), "of places");
+    Ok(())
+}
+
+fn expect_in_turn(rt: &impl Abort, alloc: Global, count: usize) -> Result<(), AllocError> {
+    let edits = in_turn(alloc, 3, &Two)?;
+    expect_true(rt, edits.len() == count, "in turn");
+    Ok(())
+}
+
 #[test]
 fn edits_stand_in_the_order_of_their_places(rt: HostRuntime) -> Result<(), AllocError> {
-    let edits = list(rt.alloc(), 2, &Three)?;
-    expect_true(&rt, are_starts(&edits, "3 3 2 2 1 1"), "of places");
-    let edits = in_turn(rt.alloc(), 3, &Two)?;
-    expect_true(&rt, edits.len() == 6, "in turn");
-    Ok(())
+    expect_starts(&rt, rt.alloc(), "3 3 2 2 1 1")?;
+    expect_in_turn(&rt, rt.alloc(), 6)
 }
 
 #[test]

@@ -1,11 +1,13 @@
 ghost use Rattle.std.specs.Prelude.{◌≤◌};
 
-use crate::rows::{bytes_of, expect, rows, triple};
+use crate::rows::{bytes_of, expect_cell, expect_true, rows, triple};
 use cr_cursor::Cursor;
 use cr_edit::{Menu, variant, width};
 use cr_tokens::read;
 use pass_text::{brackets, count_lines, lines_variant, lines_width, runs_of_tokens};
 use std::alloc::Global;
+use std::process::Abort;
+use std::str::SplitWhitespace;
 use std::test::Fail;
 
 // Pass, level, index and the level's width; a file; and its variant, which is the file where there is none.
@@ -70,35 +72,39 @@ fn make(alloc: Global, pass: &str, file: &[u8], at: Cursor, out: &mut Vec<u8>) -
     Ok(width(&menu, at.level))
 }
 
-// The variant that the numbers name, or a word where the level has another width.
-fn made(alloc: Global, numbers: &str, file: &[u8]) -> Result<Vec<u8>, Fail> {
-    let mut words = numbers.split_whitespace();
-    let pass = words.next().unwrap_or("");
+fn cursor(words: &mut SplitWhitespace<'_>) -> Cursor
+    ensures { result.index ≤ 1000 }
+{
     let level = u8::try_from(number(words.next())).unwrap_or(99);
     let index = number(words.next());
-    let wanted = number(words.next());
-    let at = Cursor {
+    Cursor {
         pass: 0,
         level,
         index,
-    };
-    let mut out = Vec::new(alloc);
-    let width = make(alloc, pass, file, at, &mut out)?;
-    if width != wanted {
-        return Ok(b"another width".to_vec(alloc)?);
     }
-    Ok(out)
+}
+
+// Sets `out` to the variant that the numbers name, and answers whether the level has its width.
+fn has_width(alloc: Global, numbers: &str, file: &[u8], out: &mut Vec<u8>) -> Result<bool, Fail> {
+    let mut words = numbers.split_whitespace();
+    let pass = words.next().unwrap_or("");
+    let at = cursor(&mut words);
+    let width = make(alloc, pass, file, at, out)?;
+    Ok(width == number(words.next()))
+}
+
+fn expect_row(rt: &impl Abort, alloc: Global, row: &str, out: &mut Vec<u8>) -> Result<(), Fail> {
+    let (numbers, file, wanted) = triple(row);
+    let file = bytes_of(alloc, file)?;
+    expect_true(rt, has_width(alloc, numbers, &file, out)?, row);
+    Ok(expect_cell(rt, alloc, out, wanted, row)?)
 }
 
 #[test]
 fn passes_give_the_variants_of_the_table(rt: HostRuntime) -> Result<(), Fail> {
-    let alloc = rt.alloc();
+    let mut out = Vec::new(rt.alloc());
     for row in rows(VARIANTS) {
-        let (numbers, file, wanted) = triple(row);
-        let file = bytes_of(alloc, file)?;
-        let wanted = bytes_of(alloc, wanted)?;
-        let found = made(alloc, numbers, &file)?;
-        expect(&rt, &found, &wanted, row);
+        expect_row(&rt, rt.alloc(), row, &mut out)?;
     }
     Ok(())
 }

@@ -1,11 +1,13 @@
-ghost use Rattle.std.specs.Prelude.{◌≡◌, length, IfOk};
+ghost use Rattle.std.specs.Prelude.{◌≡◌, ◌≤◌, length, IfOk};
 
 use crate::rows::{SAMPLE, bytes_of, expect, pair, rows};
+use crate::tokens::count_of;
 use cr_printer::{print, print_expr};
 use cr_rows::Row;
 use cr_syntax::{Kind, Node, Unit};
 use cr_tokens::{Tokens, read};
 use std::alloc::{AllocError, Global};
+use std::process::Abort;
 use std::test::Fail;
 
 // A spelling of each sort of token: two keywords, two identifiers, integer constants of each base with and without a
@@ -92,36 +94,43 @@ fn has(spellings: &str, spelling: &str) -> bool {
     false
 }
 
+fn expect_printed(rt: &impl Abort, alloc: Global, file: &[u8], wanted: &str) -> Result<(), Fail> {
+    let found = printed(alloc, file)?;
+    expect(rt, &found, wanted.as_bytes(), wanted);
+    Ok(())
+}
+
+fn expect_between(rt: &impl Abort, alloc: Global, left: &str, right: &str) -> Result<(), Fail> {
+    let text = format!(in alloc; "{left}\n{right}")?;
+    let between = if needs_space(left, right) { " " } else { "" };
+    let wanted = format!(in alloc; "{left}{between}{right}")?;
+    expect_printed(rt, alloc, text.as_bytes(), &wanted)
+}
+
 #[test]
 fn a_space_stands_where_two_spellings_need_one(rt: HostRuntime) -> Result<(), Fail> {
-    let alloc = rt.alloc();
     for left in SPELLINGS.split_whitespace() {
         for right in SPELLINGS.split_whitespace() {
-            let text = format!(in alloc; "{left}\n{right}")?;
-            let between = if needs_space(left, right) { " " } else { "" };
-            let wanted = format!(in alloc; "{left}{between}{right}")?;
-            let found = printed(alloc, text.as_bytes())?;
-            expect(&rt, &found, wanted.as_bytes(), &wanted);
+            expect_between(&rt, rt.alloc(), left, right)?;
         }
     }
     Ok(())
 }
 
+fn expect_row(rt: &impl Abort, alloc: Global, row: &str) -> Result<(), Fail> {
+    let (text, wanted) = pair(row);
+    let file = bytes_of(alloc, text)?;
+    expect_printed(rt, alloc, &file, wanted)
+}
+
 #[test]
 fn texts_are_printed(rt: HostRuntime) -> Result<(), Fail> {
-    let alloc = rt.alloc();
     for row in rows(TEXTS) {
-        let (text, wanted) = pair(row);
-        let file = bytes_of(alloc, text)?;
-        let found = printed(alloc, &file)?;
-        expect(&rt, &found, wanted.as_bytes(), row);
+        expect_row(&rt, rt.alloc(), row)?;
     }
-    let found = printed(alloc, SAMPLE.as_bytes())?;
-    expect(&rt, &found, PRINTED_SAMPLE.as_bytes(), "the sample");
-    let tokens = read(alloc, PRINTED_SAMPLE.as_bytes())?;
-    assert!(rt; tokens.list.len() == 143);
-    let tokens = read(alloc, b"...")?;
-    assert!(rt; tokens.list.len() == 1);
+    expect_printed(&rt, rt.alloc(), SAMPLE.as_bytes(), PRINTED_SAMPLE)?;
+    assert!(rt; count_of(rt.alloc(), PRINTED_SAMPLE.as_bytes()) == Ok(143));
+    assert!(rt; count_of(rt.alloc(), b"...") == Ok(1));
     Ok(())
 }
 
@@ -150,18 +159,24 @@ fn sum_of(alloc: Global, tokens: Tokens) -> Result<Unit, AllocError>
     Ok(Unit::new(tokens, nodes, items))
 }
 
-#[test]
-fn nodes_are_printed(rt: HostRuntime) -> Result<(), Fail> {
-    let alloc = rt.alloc();
-    let file = b"a+ +b".as_slice();
-    let tokens = read(alloc, file)?;
+const SUM: &str = "a+ +b";
+
+fn node_printed(alloc: Global, node: u32) -> Result<Vec<u8>, Fail>
+    requires { node ≤ 1 }
+{
+    let tokens = read(alloc, SUM.as_bytes())?;
     if tokens.list.len() != 4 {
         return Err(Fail::from("four tokens"));
     }
     let unit = sum_of(alloc, tokens)?;
-    let text = print_expr(alloc, file, &unit, 0)?;
-    expect(&rt, &text, b"+b", "the operand");
-    let text = print_expr(alloc, file, &unit, 1)?;
-    expect(&rt, &text, file, "the sum");
+    Ok(print_expr(alloc, SUM.as_bytes(), &unit, node)?)
+}
+
+#[test]
+fn nodes_are_printed(rt: HostRuntime) -> Result<(), Fail> {
+    let operand = node_printed(rt.alloc(), 0)?;
+    expect(&rt, &operand, b"+b", "the operand");
+    let sum = node_printed(rt.alloc(), 1)?;
+    expect(&rt, &sum, SUM.as_bytes(), "the sum");
     Ok(())
 }

@@ -89,13 +89,25 @@ pub(crate) fn expect(rt: &impl Abort, found: &[u8], wanted: &[u8], row: &str) {
     assert!(rt; found == wanted, "{row}");
 }
 
+/// The same with the bytes that a cell stands for.
+pub(crate) fn expect_cell(
+    rt: &impl Abort,
+    alloc: Global,
+    found: &[u8],
+    wanted: &str,
+    row: &str,
+) -> Result<(), AllocError> {
+    let wanted = bytes_of(alloc, wanted)?;
+    expect(rt, found, &wanted, row);
+    Ok(())
+}
+
 #[test]
 fn a_table_is_split_into_its_cells(rt: HostRuntime) -> Result<(), AllocError> {
     assert!(rt; rows("\na¦b\n¦\nc¦d¦e\n").count() == 3);
     expect(&rt, pair("a¦b").1.as_bytes(), b"b", "a pair");
     expect(&rt, pair("¦").0.as_bytes(), b"", "an empty cell");
     expect(&rt, triple("c¦d¦e").1.as_bytes(), b"d", "a triple");
-    let bytes = bytes_of(rt.alloc(), "a␀␊␡€ÿ~")?;
-    expect(&rt, &bytes, b"a\x00\n\x7f\x80\xff~", "bytes");
-    Ok(())
+    let bytes = b"a\x00\n\x7f\x80\xff~";
+    expect_cell(&rt, rt.alloc(), bytes, "a␀␊␡€ÿ~", "bytes")
 }

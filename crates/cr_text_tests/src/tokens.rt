@@ -1,8 +1,7 @@
-use crate::rows::{SAMPLE, bytes_of, expect, pair, rows, triple};
-use cr_tokens::{TokenFault, TokenKind, Tokens, contains, first_fault, read, size};
+use crate::rows::{SAMPLE, bytes_of, expect, expect_cell, pair, rows, triple};
+use cr_tokens::{Token, TokenFault, TokenKind, Tokens, contains, first_fault, read, size};
 use std::alloc::{AllocError, Global};
 use std::process::Abort;
-use std::test::Fail;
 
 // Texts and their tokens, after C11 6.4 and the rules of docs/DEFINITIONS.md. A token is the letter of its kind (keyword,
 // name, integer, character, text, punctuator) and its spelling.
@@ -189,16 +188,21 @@ fn letter(kind: TokenKind) -> u8 {
     }
 }
 
+fn push_token(out: &mut Vec<u8>, file: &[u8], token: &Token) -> Result<(), AllocError> {
+    if !out.is_empty() {
+        out.push(b' ')?;
+    }
+    out.push(letter(token.kind))?;
+    match file.get(token.start as usize..token.end as usize) {
+        Some(spelling) => out.extend_from_slice(spelling),
+        None => Ok(()),
+    }
+}
+
 fn spelled(alloc: Global, file: &[u8], tokens: &Tokens) -> Result<Vec<u8>, AllocError> {
     let mut out = Vec::new(alloc);
     for token in &tokens.list {
-        if !out.is_empty() {
-            out.push(b' ')?;
-        }
-        out.push(letter(token.kind))?;
-        if let Some(spelling) = file.get(token.start as usize..token.end as usize) {
-            out.extend_from_slice(spelling)?;
-        }
+        push_token(&mut out, file, token)?;
     }
     Ok(out)
 }
@@ -216,27 +220,29 @@ fn named(alloc: Global, fault: TokenFault) -> Result<Vec<u8>, AllocError> {
     format!(in alloc; "{fault:?}")?.as_bytes().to_vec(alloc)
 }
 
+fn answer_of(alloc: Global, text: &str) -> Result<Vec<u8>, AllocError> {
+    let file = bytes_of(alloc, text)?;
+    answer(alloc, &file)
+}
+
+fn expect_answer(rt: &impl Abort, alloc: Global, row: &str) -> Result<(), AllocError> {
+    let (text, wanted) = pair(row);
+    let found = answer_of(alloc, text)?;
+    expect_cell(rt, alloc, &found, wanted, row)
+}
+
 #[test]
-fn texts_have_their_tokens(rt: HostRuntime) -> Result<(), Fail> {
-    let alloc = rt.alloc();
+fn texts_have_their_tokens(rt: HostRuntime) -> Result<(), AllocError> {
     for row in rows(LISTS) {
-        let (text, wanted) = pair(row);
-        let file = bytes_of(alloc, text)?;
-        let found = answer(alloc, &file)?;
-        let wanted = bytes_of(alloc, wanted)?;
-        expect(&rt, &found, &wanted, row);
+        expect_answer(&rt, rt.alloc(), row)?;
     }
     Ok(())
 }
 
 #[test]
-fn texts_have_their_first_faults(rt: HostRuntime) -> Result<(), Fail> {
-    let alloc = rt.alloc();
+fn texts_have_their_first_faults(rt: HostRuntime) -> Result<(), AllocError> {
     for row in rows(FAULTS) {
-        let (text, wanted) = pair(row);
-        let file = bytes_of(alloc, text)?;
-        let found = answer(alloc, &file)?;
-        expect(&rt, &found, wanted.as_bytes(), row);
+        expect_answer(&rt, rt.alloc(), row)?;
     }
     Ok(())
 }
@@ -249,24 +255,38 @@ fn measured(alloc: Global, file: &[u8]) -> Result<String, AllocError> {
     }
 }
 
-#[test]
-fn texts_have_their_sizes(rt: HostRuntime) -> Result<(), Fail> {
-    let alloc = rt.alloc();
-    for row in rows(SIZES) {
-        let (text, wanted) = pair(row);
-        let file = bytes_of(alloc, text)?;
-        let found = measured(alloc, &file)?;
-        expect(&rt, found.as_bytes(), wanted.as_bytes(), row);
-    }
-    let sample = SAMPLE.as_bytes();
-    let found = measured(alloc, sample)?;
-    expect(&rt, found.as_bytes(), b"1686", "the sample");
-    assert!(rt; sample.len() == 407);
-    assert!(rt; count_of(alloc, sample) == Ok(143));
+fn expect_size(
+    rt: &impl Abort,
+    alloc: Global,
+    file: &[u8],
+    wanted: &str,
+    row: &str,
+) -> Result<(), AllocError> {
+    let found = measured(alloc, file)?;
+    expect(rt, found.as_bytes(), wanted.as_bytes(), row);
     Ok(())
 }
 
-fn count_of(alloc: Global, file: &[u8]) -> Result<usize, TokenFault> {
+fn expect_size_of(rt: &impl Abort, alloc: Global, row: &str) -> Result<(), AllocError> {
+    let (text, wanted) = pair(row);
+    let file = bytes_of(alloc, text)?;
+    expect_size(rt, alloc, &file, wanted, row)
+}
+
+#[test]
+fn texts_have_their_sizes(rt: HostRuntime) -> Result<(), AllocError> {
+    for row in rows(SIZES) {
+        expect_size_of(&rt, rt.alloc(), row)?;
+    }
+    let sample = SAMPLE.as_bytes();
+    expect_size(&rt, rt.alloc(), sample, "1686", "the sample")?;
+    assert!(rt; sample.len() == 407);
+    assert!(rt; count_of(rt.alloc(), sample) == Ok(143));
+    Ok(())
+}
+
+/// The number of a file's tokens.
+pub(crate) fn count_of(alloc: Global, file: &[u8]) -> Result<usize, TokenFault> {
     Ok(read(alloc, file)?.list.len())
 }
 
@@ -291,6 +311,12 @@ fn runs_stand_unbroken(rt: HostRuntime) {
     }
 }
 
+fn repeated(alloc: Global, byte: u8, count: usize, end: &[u8]) -> Result<Vec<u8>, AllocError> {
+    let mut text = vec![in alloc; byte; count]?;
+    text.extend_from_slice(end)?;
+    Ok(text)
+}
+
 // What is read of `count` times one byte and then an end: as many tokens, or a fault.
 fn expect_count(
     rt: &impl Abort,
@@ -300,14 +326,13 @@ fn expect_count(
     end: &[u8],
     wanted: Result<usize, TokenFault>,
 ) -> Result<(), AllocError> {
-    let mut text = vec![in alloc; byte; count]?;
-    text.extend_from_slice(end)?;
+    let text = repeated(alloc, byte, count, end)?;
     assert!(rt; count_of(alloc, &text) == wanted, "{wanted:?}");
     Ok(())
 }
 
 #[test]
-fn limits_are_kept(rt: HostRuntime) -> Result<(), Fail> {
+fn limits_are_kept(rt: HostRuntime) -> Result<(), AllocError> {
     let a = rt.alloc();
     let too_many = TokenFault::TooMany(262_145);
     let bad_byte = TokenFault::BadByte(262_145);
@@ -317,6 +342,5 @@ fn limits_are_kept(rt: HostRuntime) -> Result<(), Fail> {
     expect_count(&rt, a, b';', 262_144, b" /**/ ", Ok(262_144))?;
     expect_count(&rt, a, b';', 262_144, b" ;", Err(too_many))?;
     expect_count(&rt, a, b';', 262_144, b" @", Err(bad_byte))?;
-    expect_count(&rt, a, b';', 262_144, b"'ab", Err(open_literal))?;
-    Ok(())
+    expect_count(&rt, a, b';', 262_144, b"'ab", Err(open_literal))
 }

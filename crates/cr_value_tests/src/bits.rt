@@ -1,6 +1,6 @@
-use crate::rows::{expect, kind, number, rows};
+use crate::rows::{cut, expect_text, expect_value, kind, number, rows};
 use cr_ints::{IntKind, bitand, bitor, bitxor, neg, not};
-use std::alloc::Global;
+use std::alloc::{AllocError, Global};
 use std::process::Abort;
 use std::test::Fail;
 
@@ -34,32 +34,48 @@ fn pair(
     kind: IntKind,
     left: i128,
     right: i128,
-) -> Result<String, Fail> {
-    assert!(rt; kind.can_represent(left) && kind.can_represent(right));
+) -> Result<String, AllocError> {
+    expect_value(rt, kind, left);
+    expect_value(rt, kind, right);
     let (both, any, one) = (
         bitand(kind, left, right),
         bitor(kind, left, right),
         bitxor(kind, left, right),
     );
-    Ok(format!(in alloc; "{both} {any} {one}")?)
+    format!(in alloc; "{both} {any} {one}")
 }
 
-fn single(rt: &impl Abort, alloc: Global, kind: IntKind, value: i128) -> Result<String, Fail> {
-    assert!(rt; kind.can_represent(value));
+fn expect_pair(rt: &impl Abort, alloc: Global, row: &str) -> Result<(), Fail> {
+    let (name, rest) = cut(row);
+    let (left, rest) = cut(rest);
+    let (right, wanted) = cut(rest);
+    let found = pair(rt, alloc, kind(name)?, number(left)?, number(right)?);
+    Ok(expect_text(rt, found, wanted, row)?)
+}
+
+fn single(
+    rt: &impl Abort,
+    alloc: Global,
+    kind: IntKind,
+    value: i128,
+) -> Result<String, AllocError> {
+    expect_value(rt, kind, value);
     let turned = not(kind, value);
     let negated = neg(kind, value);
-    Ok(format!(in alloc; "{turned} {negated:?}")?)
+    format!(in alloc; "{turned} {negated:?}")
+}
+
+fn expect_single(rt: &impl Abort, alloc: Global, row: &str) -> Result<(), Fail> {
+    let (name, rest) = cut(row);
+    let (value, wanted) = cut(rest);
+    let found = single(rt, alloc, kind(name)?, number(value)?);
+    Ok(expect_text(rt, found, wanted, row)?)
 }
 
 #[test]
 fn operations_on_bits_are_those_of_two_s_complement(rt: HostRuntime) -> Result<(), Fail> {
     for row in rows(PAIRS) {
-        let mut words = row.splitn(4, ' ');
-        let kind = kind(rt.alloc(), words.next().ok_or("a kind")?)?;
-        let left = number(words.next().ok_or("a left operand")?)?;
-        let right = number(words.next().ok_or("a right operand")?)?;
-        let found = pair(&rt, rt.alloc(), kind, left, right)?;
-        expect(&rt, &found, words.next().ok_or("what comes of it")?, row);
+        expect_pair(&rt, rt.alloc(), row)?;
     }
     Ok(())
 }
@@ -67,11 +83,7 @@ fn operations_on_bits_are_those_of_two_s_complement(rt: HostRuntime) -> Result<(
 #[test]
 fn a_complement_and_a_negation_at_the_edges(rt: HostRuntime) -> Result<(), Fail> {
     for row in rows(SINGLES) {
-        let mut words = row.splitn(3, ' ');
-        let kind = kind(rt.alloc(), words.next().ok_or("a kind")?)?;
-        let value = number(words.next().ok_or("an operand")?)?;
-        let found = single(&rt, rt.alloc(), kind, value)?;
-        expect(&rt, &found, words.next().ok_or("what comes of it")?, row);
+        expect_single(&rt, rt.alloc(), row)?;
     }
     Ok(())
 }

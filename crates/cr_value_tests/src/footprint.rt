@@ -1,12 +1,10 @@
-use crate::rows::{expect, pair, rows};
+use crate::postfix::foot_of;
+use crate::rows::{expect_text, pair, rows};
 use cr_footprint::{Foot, FootEnd};
 use std::alloc::{AllocError, Global};
 use std::process::Abort;
-use std::test::Fail;
 
-// Expressions in postfix, and the conflict in them. `r12` is a read of cell 2 of object 1, `w12` and `l12` an operator's own
-// write and read of it, `n` no event; `|` puts two footprints side by side, and `;` one before the other. So `r10 w10` is
-// `i++`, and with ` n ;` behind it `i++, 0`.
+// Expressions, and the conflict in them. `r10 w10` is `i++`, and with ` n ;` behind it `i++, 0`.
 const OPEN_WRITES: &str = "
 r10 w10 r10 |¦Conflict(1, 0)
 r10 r10 w10 |¦Conflict(1, 0)
@@ -39,45 +37,6 @@ n w00 w01 w02 w10 w11 w12 w20 w21 w22 n r22 ; r21 ; r09 ; |¦Conflict(2, 1)
 n w00 w01 w02 w10 w11 w12 w20 w21 w22 n r90 ; r20 ; r02 ; |¦Conflict(0, 2)
 ";
 
-fn digit(byte: u8) -> u32 {
-    u32::from(byte.saturating_sub(b'0'))
-}
-
-fn pop(stack: &mut Vec<Foot>) -> Result<Foot, FootEnd> {
-    match stack.pop() {
-        Some(foot) => Ok(foot),
-        None => Err(FootEnd::NoMemory),
-    }
-}
-
-// What a word that is no read and no `n` makes of the top of the stack.
-fn joined(stack: &mut Vec<Foot>, word: &[u8]) -> Result<Foot, FootEnd> {
-    let top = pop(stack)?;
-    match word {
-        [b'w', object, cell] => top.own_write(digit(*object), digit(*cell)),
-        [b'l', object, cell] => top.own_read(digit(*object), digit(*cell)),
-        [b'|'] => pop(stack)?.beside(top),
-        _ => Ok(pop(stack)?.then(top)?),
-    }
-}
-
-fn step(alloc: Global, stack: &mut Vec<Foot>, word: &[u8]) -> Result<(), FootEnd> {
-    let foot = match word {
-        [b'r', object, cell] => Foot::read(alloc, digit(*object), digit(*cell))?,
-        [b'n'] => Foot::none(alloc),
-        _ => joined(stack, word)?,
-    };
-    stack.push(foot).map_err(|_| FootEnd::NoMemory)
-}
-
-fn foot_of(alloc: Global, words: &str) -> Result<Foot, FootEnd> {
-    let mut stack = Vec::new(alloc);
-    for word in words.split_whitespace() {
-        step(alloc, &mut stack, word.as_bytes())?;
-    }
-    pop(&mut stack)
-}
-
 fn shown(alloc: Global, found: Result<Foot, FootEnd>) -> Result<String, AllocError> {
     match found {
         Ok(_) => String::from_str(alloc, "none"),
@@ -88,8 +47,8 @@ fn shown(alloc: Global, found: Result<Foot, FootEnd>) -> Result<String, AllocErr
 fn expect_rows(rt: &impl Abort, alloc: Global, table: &'static str) -> Result<(), AllocError> {
     for row in rows(table) {
         let (words, wanted) = pair(row);
-        let found = shown(alloc, foot_of(alloc, words))?;
-        expect(rt, found.as_str(), wanted, row);
+        let found = shown(alloc, foot_of(alloc, words));
+        expect_text(rt, found, wanted, row)?;
     }
     Ok(())
 }
@@ -114,21 +73,40 @@ fn the_least_cell_is_named(rt: HostRuntime) -> Result<(), AllocError> {
     expect_rows(&rt, rt.alloc(), LEAST)
 }
 
+fn read_behind(alloc: Global, foot: Foot, cell: u32) -> Result<Foot, FootEnd> {
+    Ok(foot.then(Foot::read(alloc, 1, cell)?)?)
+}
+
+fn read_before(alloc: Global, foot: Foot, cell: u32) -> Result<Foot, FootEnd> {
+    Ok(Foot::read(alloc, 1, cell)?.then(foot)?)
+}
+
+fn update(alloc: Global, cell: u32) -> Result<Foot, FootEnd> {
+    Foot::read(alloc, 1, cell)?.own_write(1, cell)
+}
+
+fn chain_from_the_left(alloc: Global) -> Result<Foot, FootEnd> {
+    let mut foot = Foot::none(alloc);
+    for cell in 0..1_000 {
+        foot = read_behind(alloc, foot, cell)?;
+    }
+    foot.beside(update(alloc, 999)?)
+}
+
+fn chain_from_the_right(alloc: Global) -> Result<Foot, FootEnd> {
+    let mut foot = Foot::none(alloc);
+    for cell in 0..1_000 {
+        foot = read_before(alloc, foot, cell)?;
+    }
+    update(alloc, 0)?.beside(foot)
+}
+
 // A chain as long as a long expression, from either side.
 #[test]
-fn long_chains_keep_every_cell(rt: HostRuntime) -> Result<(), Fail> {
+fn long_chains_keep_every_cell(rt: HostRuntime) -> Result<(), AllocError> {
     let a = rt.alloc();
-    let mut left = Foot::none(a);
-    let mut right = Foot::none(a);
-    for cell in 0..1_000 {
-        left = left.then(Foot::read(a, 1, cell)?)?;
-        right = Foot::read(a, 1, cell)?.then(right)?;
-    }
-    let last = Foot::read(a, 1, 999)?.own_write(1, 999)?;
-    let found = shown(a, left.beside(last))?;
-    expect(&rt, found.as_str(), "Conflict(1, 999)", "from the left");
-    let first = Foot::read(a, 1, 0)?.own_write(1, 0)?;
-    let found = shown(a, first.beside(right))?;
-    expect(&rt, found.as_str(), "Conflict(1, 0)", "from the right");
-    Ok(())
+    let left = shown(a, chain_from_the_left(a));
+    expect_text(&rt, left, "Conflict(1, 999)", "from the left")?;
+    let right = shown(a, chain_from_the_right(a));
+    expect_text(&rt, right, "Conflict(1, 0)", "from the right")
 }

@@ -1,8 +1,6 @@
-use crate::rows::{kind, number, rows};
+use crate::rows::{cut, expect_value, kind, number, rows};
 use cr_ints::{IntEnd, IntKind, add, common, convert, div, mul, promote, rem, shl, shr, sub};
-use std::alloc::Global;
 use std::process::Abort;
-use std::str::SplitWhitespace;
 use std::test::Fail;
 
 // Values, the kinds that they are converted to, and what comes of it (C11 6.3.1.2, 6.3.1.3).
@@ -151,53 +149,59 @@ Shr greatest width U4
 Shr greatest -1 U4
 ";
 
-// The next word of a row.
-fn next<'a>(words: &mut SplitWhitespace<'a>) -> &'a str {
-    match words.next() {
-        Some(word) => word,
-        None => "no word",
-    }
-}
-
-#[test]
-fn conversions_are_those_of_the_standard(rt: HostRuntime) -> Result<(), Fail> {
-    for row in rows(CONVERSIONS) {
-        let mut words = row.split_whitespace();
-        let value = number(next(&mut words))?;
-        let to = kind(rt.alloc(), next(&mut words))?;
-        let wanted = number(next(&mut words))?;
-        expect_conversion(&rt, value, to, wanted);
-    }
-    Ok(())
-}
-
 fn expect_conversion(rt: &impl Abort, value: i128, to: IntKind, wanted: i128) {
     assert!(rt; IntKind::ULLong.can_represent(value) || IntKind::LLong.can_represent(value));
     assert!(rt; convert(value, to) == wanted, "{value} to {to:?}");
 }
 
+fn expect_converted(rt: &impl Abort, row: &str) -> Result<(), Fail> {
+    let (value, rest) = cut(row);
+    let (to, wanted) = cut(rest);
+    expect_conversion(rt, number(value)?, kind(to)?, number(wanted)?);
+    Ok(())
+}
+
 #[test]
-fn promotions_and_common_kinds_are_those_of_the_standard(rt: HostRuntime) -> Result<(), Fail> {
-    let alloc = rt.alloc();
-    for row in rows(PROMOTIONS) {
-        let mut words = row.split_whitespace();
-        let from = kind(alloc, next(&mut words))?;
-        let wanted = kind(alloc, next(&mut words))?;
-        expect_kind(&rt, promote(from), wanted, row);
-    }
-    for row in rows(COMMON) {
-        let mut words = row.split_whitespace();
-        let left = kind(alloc, next(&mut words))?;
-        let right = kind(alloc, next(&mut words))?;
-        let wanted = kind(alloc, next(&mut words))?;
-        expect_kind(&rt, common(left, right), wanted, row);
-        expect_kind(&rt, common(right, left), wanted, row);
+fn conversions_are_those_of_the_standard(rt: HostRuntime) -> Result<(), Fail> {
+    for row in rows(CONVERSIONS) {
+        expect_converted(&rt, row)?;
     }
     Ok(())
 }
 
 fn expect_kind(rt: &impl Abort, found: IntKind, wanted: IntKind, row: &str) {
     assert!(rt; found == wanted, "{row}");
+}
+
+fn expect_promoted(rt: &impl Abort, row: &str) -> Result<(), Fail> {
+    let (from, wanted) = cut(row);
+    expect_kind(rt, promote(kind(from)?), kind(wanted)?, row);
+    Ok(())
+}
+
+fn expect_common(rt: &impl Abort, row: &str) -> Result<(), Fail> {
+    let (left, rest) = cut(row);
+    let (right, wanted) = cut(rest);
+    let (left, right, wanted) = (kind(left)?, kind(right)?, kind(wanted)?);
+    expect_kind(rt, common(left, right), wanted, row);
+    expect_kind(rt, common(right, left), wanted, row);
+    Ok(())
+}
+
+fn expect_promotions(rt: &impl Abort) -> Result<(), Fail> {
+    for row in rows(PROMOTIONS) {
+        expect_promoted(rt, row)?;
+    }
+    Ok(())
+}
+
+#[test]
+fn promotions_and_common_kinds_are_those_of_the_standard(rt: HostRuntime) -> Result<(), Fail> {
+    expect_promotions(&rt)?;
+    for row in rows(COMMON) {
+        expect_common(&rt, row)?;
+    }
+    Ok(())
 }
 
 // A kind with what the words of a row say of it.
@@ -209,13 +213,15 @@ struct Limits {
     width: i128,
 }
 
-fn limits_of(alloc: Global, row: &str) -> Result<Limits, Fail> {
-    let mut words = row.split_whitespace();
+fn limits_of(row: &str) -> Result<Limits, Fail> {
+    let (name, rest) = cut(row);
+    let (least, rest) = cut(rest);
+    let (greatest, width) = cut(rest);
     Ok(Limits {
-        kind: kind(alloc, next(&mut words))?,
-        least: number(next(&mut words))?,
-        greatest: number(next(&mut words))?,
-        width: number(next(&mut words))?,
+        kind: kind(name)?,
+        least: number(least)?,
+        greatest: number(greatest)?,
+        width: number(width)?,
     })
 }
 
@@ -256,7 +262,7 @@ fn end(limits: Limits, word: &str) -> Result<IntEnd, Fail> {
 }
 
 fn apply(rt: &impl Abort, operator: &str, kind: IntKind, left: i128, right: i128) -> IntEnd {
-    assert!(rt; kind.can_represent(left));
+    expect_value(rt, kind, left);
     match operator {
         "Shl" => shl(kind, left, right),
         "Shr" => shr(kind, left, right),
@@ -271,7 +277,8 @@ fn apply_to_both(
     left: i128,
     right: i128,
 ) -> IntEnd {
-    assert!(rt; kind.can_represent(left) && kind.can_represent(right));
+    expect_value(rt, kind, left);
+    expect_value(rt, kind, right);
     match operator {
         "Add" => add(kind, left, right),
         "Sub" => sub(kind, left, right),
@@ -282,24 +289,30 @@ fn apply_to_both(
 }
 
 fn expect_row(rt: &impl Abort, limits: Limits, row: &str) -> Result<(), Fail> {
-    let mut words = row.split_whitespace();
-    let operator = next(&mut words);
-    let left = value(limits, next(&mut words))?;
-    let right = value(limits, next(&mut words))?;
-    let wanted = end(limits, next(&mut words))?;
+    let (operator, rest) = cut(row);
+    let (left, rest) = cut(rest);
+    let (right, wanted) = cut(rest);
+    let (left, right) = (value(limits, left)?, value(limits, right)?);
+    let wanted = end(limits, wanted)?;
     let found = apply(rt, operator, limits.kind, left, right);
     let kind = limits.kind;
     assert!(rt; found == wanted, "{row} in {kind:?}");
     Ok(())
 }
 
+// A table of operations on one kind.
+fn expect_operations(rt: &impl Abort, kind: &str, table: &'static str) -> Result<(), Fail> {
+    let limits = limits_of(kind)?;
+    for row in rows(table) {
+        expect_row(rt, limits, row)?;
+    }
+    Ok(())
+}
+
 #[test]
 fn signed_operations_at_the_edges(rt: HostRuntime) -> Result<(), Fail> {
     for kind in rows(SIGNED) {
-        let limits = limits_of(rt.alloc(), kind)?;
-        for row in rows(SIGNED_ROWS) {
-            expect_row(&rt, limits, row)?;
-        }
+        expect_operations(&rt, kind, SIGNED_ROWS)?;
     }
     Ok(())
 }
@@ -307,10 +320,7 @@ fn signed_operations_at_the_edges(rt: HostRuntime) -> Result<(), Fail> {
 #[test]
 fn unsigned_operations_at_the_edges(rt: HostRuntime) -> Result<(), Fail> {
     for kind in rows(UNSIGNED) {
-        let limits = limits_of(rt.alloc(), kind)?;
-        for row in rows(UNSIGNED_ROWS) {
-            expect_row(&rt, limits, row)?;
-        }
+        expect_operations(&rt, kind, UNSIGNED_ROWS)?;
     }
     Ok(())
 }

@@ -17,7 +17,11 @@ mod lists;
 #[cfg(test)]
 mod memory;
 #[cfg(test)]
+mod postfix;
+#[cfg(test)]
 mod rows;
+#[cfg(test)]
+mod stores;
 #[cfg(test)]
 mod structures;
 #[cfg(test)]

@@ -1,4 +1,4 @@
-use crate::rows::{expect, kind, number, pair, rows, triple};
+use crate::rows::{cut, expect, expect_text, expect_value, kind, number, pair, rows, triple};
 use cr_ints::IntKind;
 use cr_library::{FormatEnd, Piece, ShowEnd, pieces, show};
 use std::alloc::{AllocError, Global};
@@ -72,11 +72,10 @@ fn expect_pieces(
     wanted: &str,
 ) -> Result<(), AllocError> {
     let found = match pieces(alloc, format.as_bytes()) {
-        Ok(pieces) => format!(in alloc; "{pieces:?}")?,
-        Err(end) => format!(in alloc; "{end:?}")?,
+        Ok(pieces) => format!(in alloc; "{pieces:?}"),
+        Err(end) => format!(in alloc; "{end:?}"),
     };
-    expect(rt, found.as_str(), wanted, format);
-    Ok(())
+    expect_text(rt, found, wanted, format)
 }
 
 #[test]
@@ -107,7 +106,7 @@ fn printed(
 ) -> Result<Option<ShowEnd>, FormatEnd> {
     let wanted = pieces(alloc, format.as_bytes())?;
     assert!(rt; wanted.len() == 1 && wanted[0].takes_integer());
-    assert!(rt; kind.can_represent(value));
+    expect_value(rt, kind, value);
     Ok(show(&wanted[0], kind, value, out).err())
 }
 
@@ -115,22 +114,30 @@ fn expect_bytes(rt: &impl Abort, found: &[u8], wanted: &[u8], row: &str) {
     assert!(rt; found == wanted, "{row}");
 }
 
+fn expect_shown(rt: &impl Abort, end: Option<ShowEnd>, found: &[u8], wanted: &str, row: &str) {
+    match end {
+        None => expect_bytes(rt, found, wanted.as_bytes(), row),
+        Some(end) => {
+            expect(rt, word_of(end), wanted, row);
+            expect_bytes(rt, found, b"=", row);
+        }
+    }
+}
+
+fn expect_argument(rt: &impl Abort, alloc: Global, row: &str) -> Result<(), Fail> {
+    let (format, argument, wanted) = triple(row);
+    let (name, value) = cut(argument);
+    let (kind, value) = (kind(name)?, number(value)?);
+    let mut out = vec![in alloc; b'=']?;
+    let end = printed(rt, alloc, format, kind, value, &mut out)?;
+    expect_shown(rt, end, &out, wanted, row);
+    Ok(())
+}
+
 #[test]
 fn arguments_are_shown(rt: HostRuntime) -> Result<(), Fail> {
-    let alloc = rt.alloc();
     for row in rows(ARGUMENTS) {
-        let (format, argument, wanted) = triple(row);
-        let (name, value) = argument.split_once(' ').ok_or("no argument")?;
-        let kind = kind(alloc, name)?;
-        let value = number(value)?;
-        let mut out = vec![in alloc; b'=']?;
-        match printed(&rt, alloc, format, kind, value, &mut out)? {
-            None => expect_bytes(&rt, &out, wanted.as_bytes(), row),
-            Some(end) => {
-                expect(&rt, word_of(end), wanted, row);
-                expect_bytes(&rt, &out, b"=", row);
-            }
-        }
+        expect_argument(&rt, rt.alloc(), row)?;
     }
     Ok(())
 }
@@ -142,23 +149,40 @@ fn word_of(end: ShowEnd) -> &'static str {
     }
 }
 
-/// `printf("%s%c%x%%", "a", 66, 255)` prints `aBff%`, and a byte from 128 on is one byte.
-#[test]
-fn a_format_is_printed_piece_by_piece(rt: HostRuntime) -> Result<(), Fail> {
-    let alloc = rt.alloc();
-    let mut out = vec![in alloc; b'a']?;
-    let end = printed(&rt, alloc, "%c", IntKind::Int, 66, &mut out)?;
+fn put_number(
+    rt: &impl Abort,
+    alloc: Global,
+    format: &str,
+    value: i128,
+    out: &mut Vec<u8>,
+) -> Result<(), FormatEnd> {
+    let end = printed(rt, alloc, format, IntKind::Int, value, out)?;
     assert!(rt; end.is_none());
-    let end = printed(&rt, alloc, "%x", IntKind::Int, 255, &mut out)?;
-    assert!(rt; end.is_none());
-    for piece in pieces(alloc, b"%%")? {
+    Ok(())
+}
+
+fn put_bytes(alloc: Global, format: &[u8], out: &mut Vec<u8>) -> Result<(), Fail> {
+    for piece in pieces(alloc, format)? {
         if let Piece::Bytes(bytes) = piece {
             out.extend_from_slice(bytes.as_slice())?;
         }
     }
-    expect_bytes(&rt, &out, b"aBff%", "the whole format");
-    let end = printed(&rt, alloc, "%c", IntKind::Int, 200, &mut out)?;
-    assert!(rt; end.is_none());
-    expect_bytes(&rt, &out, b"aBff%\xc8", "a byte from 128 on");
     Ok(())
+}
+
+fn expect_pieces_printed(rt: &impl Abort, alloc: Global, out: &mut Vec<u8>) -> Result<(), Fail> {
+    put_number(rt, alloc, "%c", 66, out)?;
+    put_number(rt, alloc, "%x", 255, out)?;
+    put_bytes(alloc, b"%%", out)?;
+    expect_bytes(rt, out, b"aBff%", "the whole format");
+    put_number(rt, alloc, "%c", 200, out)?;
+    expect_bytes(rt, out, b"aBff%\xc8", "a byte from 128 on");
+    Ok(())
+}
+
+/// `printf("%s%c%x%%", "a", 66, 255)` prints `aBff%`, and a byte from 128 on is one byte.
+#[test]
+fn a_format_is_printed_piece_by_piece(rt: HostRuntime) -> Result<(), Fail> {
+    let mut out = vec![in rt.alloc(); b'a']?;
+    expect_pieces_printed(&rt, rt.alloc(), &mut out)
 }

@@ -1,16 +1,13 @@
-ghost use Rattle.std.specs.Prelude.{◌≡◌, ◌↔◌, IsTrue};
-ghost use Rattle.cr_memory.specs.Access.{HasStride};
-
-use crate::rows::{expect, number, rows, triple};
+use crate::rows::{expect_text, number, rows, triple};
+use crate::stores::{INT, LONG, enter, has_stride, leave, load, place};
 use cr_ints::IntKind;
 use cr_memory::{Cell, Guard, Pointer, Scalar, Store, Trap};
+use std::alloc::{AllocError, Global};
 use std::process::Abort;
 use std::str::SplitWhitespace;
 use std::test::Fail;
 
 const CHAR: Scalar = Scalar::Int(IntKind::Char);
-
-const INT: Scalar = Scalar::Int(IntKind::Int);
 
 const TO_INT: Scalar = Scalar::Pointer(0);
 
@@ -125,34 +122,10 @@ fn kind_of(cell: &str) -> Scalar {
     match cell {
         "char" => CHAR,
         "int" => INT,
-        "long" => Scalar::Int(IntKind::Long),
+        "long" => LONG,
         "int*" => TO_INT,
         _ => Scalar::Pointer(1),
     }
-}
-
-/// A place in an array of elements of `stride` cells, from `low` to below `high`.
-fn place(object: u32, cell: u32, low: u32, high: u32, stride: u32) -> Pointer
-    ensures { result ≡ Pointer.At object cell low high stride }
-{
-    Pointer::At {
-        object,
-        cell,
-        low,
-        high,
-        stride,
-    }
-}
-
-fn enter(rt: &impl Abort, store: &mut Store, shape: &[(Scalar, Guard)], zero: bool) -> u32 {
-    let entered = store.enter(shape, zero);
-    assert!(rt; entered.is_ok());
-    entered.unwrap_or(0)
-}
-
-fn leave(rt: &impl Abort, store: &mut Store, object: u32) {
-    assert!(rt; store.is_live(object));
-    store.leave(object);
 }
 
 fn begin(rt: &impl Abort, store: &mut Store, object: u32, cell: u32, value: Cell) {
@@ -162,11 +135,6 @@ fn begin(rt: &impl Abort, store: &mut Store, object: u32, cell: u32, value: Cell
         assert!(rt; store.holds(kind, value));
         store.begin(object, cell, value);
     }
-}
-
-fn load(rt: &impl Abort, store: &Store, at: Pointer, kind: Scalar) -> Result<Cell, Trap> {
-    assert!(rt; store.is_pointer(at));
-    store.load(at, kind)
 }
 
 fn save(
@@ -179,15 +147,6 @@ fn save(
     assert!(rt; store.is_pointer(at));
     assert!(rt; store.holds(kind, value));
     store.save(at, kind, value)
-}
-
-fn has_stride(at: Pointer, count: u32) -> bool
-    ensures { IsTrue result ↔ HasStride at count }
-{
-    match at {
-        Pointer::Null => true,
-        Pointer::At { stride, .. } => stride == count,
-    }
 }
 
 fn copy(
@@ -213,6 +172,15 @@ fn expect_full(rt: &impl Abort, store: &mut Store, shape: &[(Scalar, Guard)], ze
     assert!(rt; store.enter(shape, zero) == Err(Trap::Left(3)));
 }
 
+fn expect_unset(rt: &impl Abort, alloc: Global, store: &Store, whole: Pointer) -> Result<(), Fail> {
+    assert!(rt; store.is_pointer(whole));
+    let kinds = [INT; 6];
+    assert!(rt; has_stride(whole, 6));
+    let cells = store.cells(alloc, whole, &kinds).ok().ok_or("no cells")?;
+    assert!(rt; cells.as_slice() == [Cell::Unset; 6].as_slice());
+    Ok(())
+}
+
 #[test]
 fn six_cells_fit_and_seven_do_not(rt: HostRuntime) -> Result<(), Fail> {
     let mut store = Store::new(rt.alloc(), 6);
@@ -221,34 +189,12 @@ fn six_cells_fit_and_seven_do_not(rt: HostRuntime) -> Result<(), Fail> {
     expect_full(&rt, &mut store, &seven, false);
     let object = enter(&rt, &mut store, &six, false);
     expect_full(&rt, &mut store, &[(INT, Guard::Free)], false);
-    let whole = place(object, 0, 0, 6, 6);
-    assert!(rt; store.is_pointer(whole));
-    let kinds = [INT; 6];
-    assert!(rt; has_stride(whole, 6));
-    let cells = store
-        .cells(rt.alloc(), whole, &kinds)
-        .ok()
-        .ok_or("no cells")?;
-    assert!(rt; cells.as_slice() == [Cell::Unset; 6].as_slice());
-    expect_load(
-        &rt,
-        &store,
-        place(object, 0, 0, 6, 1),
-        Err(Trap::Undefined(11)),
-    );
-    expect_load(
-        &rt,
-        &store,
-        place(object, 6, 0, 6, 1),
-        Err(Trap::Undefined(9)),
-    );
+    expect_unset(&rt, rt.alloc(), &store, place(object, 0, 0, 6, 6))?;
+    let (first, end) = (place(object, 0, 0, 6, 1), place(object, 6, 0, 6, 1));
+    expect_load(&rt, &store, first, Err(Trap::Undefined(11)));
+    expect_load(&rt, &store, end, Err(Trap::Undefined(9)));
     leave(&rt, &mut store, object);
-    expect_load(
-        &rt,
-        &store,
-        place(object, 0, 0, 6, 1),
-        Err(Trap::Undefined(10)),
-    );
+    expect_load(&rt, &store, first, Err(Trap::Undefined(10)));
     Ok(())
 }
 
@@ -266,34 +212,51 @@ fn several_objects(rt: &impl Abort, store: &mut Store) {
     leave(rt, store, 5);
 }
 
+fn expect_loaded(
+    rt: &impl Abort,
+    alloc: Global,
+    store: &Store,
+    row: &str,
+) -> Result<(), AllocError> {
+    let (at, kind, wanted) = triple(row);
+    let found = load(rt, store, place_of(at), kind_of(kind));
+    expect_text(rt, format!(in alloc; "{found:?}"), wanted, row)
+}
+
 #[test]
-fn a_load_answers_the_first_case(rt: HostRuntime) -> Result<(), Fail> {
+fn a_load_answers_the_first_case(rt: HostRuntime) -> Result<(), AllocError> {
     let mut store = Store::new(rt.alloc(), 100);
     several_objects(&rt, &mut store);
     for row in rows(LOADS) {
-        let (at, kind, wanted) = triple(row);
-        let found = load(&rt, &store, place_of(at), kind_of(kind));
-        let found = format!(in rt.alloc(); "{found:?}")?;
-        expect(&rt, found.as_str(), wanted, row);
+        expect_loaded(&rt, rt.alloc(), &store, row)?;
     }
     Ok(())
 }
 
+const SEVEN: Cell = Cell::Number(7);
+
+fn expect_saved(
+    rt: &impl Abort,
+    alloc: Global,
+    store: &mut Store,
+    row: &str,
+) -> Result<(), AllocError> {
+    let (at, kind, wanted) = triple(row);
+    let found = save(rt, store, place_of(at), kind_of(kind), SEVEN);
+    expect_text(rt, format!(in alloc; "{found:?}"), wanted, row)
+}
+
 #[test]
-fn a_write_answers_the_first_case(rt: HostRuntime) -> Result<(), Fail> {
+fn a_write_answers_the_first_case(rt: HostRuntime) -> Result<(), AllocError> {
     let mut store = Store::new(rt.alloc(), 100);
     several_objects(&rt, &mut store);
-    let seven = Cell::Number(7);
     for row in rows(WRITES) {
-        let (at, kind, wanted) = triple(row);
-        let found = save(&rt, &mut store, place_of(at), kind_of(kind), seven);
-        let found = format!(in rt.alloc(); "{found:?}")?;
-        expect(&rt, found.as_str(), wanted, row);
+        expect_saved(&rt, rt.alloc(), &mut store, row)?;
     }
-    expect_load(&rt, &store, place(0, 4, 0, 6, 1), Ok(seven));
+    expect_load(&rt, &store, place(0, 4, 0, 6, 1), Ok(SEVEN));
     expect_load(&rt, &store, place(0, 3, 0, 6, 1), Ok(Cell::Number(0)));
-    begin(&rt, &mut store, 1, 0, seven);
-    expect_load(&rt, &store, place(1, 0, 0, 1, 1), Ok(seven));
+    begin(&rt, &mut store, 1, 0, SEVEN);
+    expect_load(&rt, &store, place(1, 0, 0, 1, 1), Ok(SEVEN));
     Ok(())
 }
 
@@ -314,15 +277,23 @@ fn a_copy_reads_all_cells_before_it_writes_one(rt: HostRuntime) {
     }
 }
 
+fn expect_copied(
+    rt: &impl Abort,
+    alloc: Global,
+    store: &mut Store,
+    row: &str,
+) -> Result<(), AllocError> {
+    let (from, to, wanted) = triple(row);
+    let found = copy(rt, store, place_of(from), place_of(to), 1);
+    expect_text(rt, format!(in alloc; "{found:?}"), wanted, row)
+}
+
 #[test]
-fn a_copy_answers_the_first_case(rt: HostRuntime) -> Result<(), Fail> {
+fn a_copy_answers_the_first_case(rt: HostRuntime) -> Result<(), AllocError> {
     let mut store = Store::new(rt.alloc(), 100);
     several_objects(&rt, &mut store);
     for row in rows(COPIES) {
-        let (from, to, wanted) = triple(row);
-        let found = copy(&rt, &mut store, place_of(from), place_of(to), 1);
-        let found = format!(in rt.alloc(); "{found:?}")?;
-        expect(&rt, found.as_str(), wanted, row);
+        expect_copied(&rt, rt.alloc(), &mut store, row)?;
     }
     // The unset cell and the pointer to an ended object were copied as they are.
     expect_load(&rt, &store, place(0, 0, 0, 6, 1), Err(Trap::Undefined(11)));
@@ -331,33 +302,23 @@ fn a_copy_answers_the_first_case(rt: HostRuntime) -> Result<(), Fail> {
     Ok(())
 }
 
-#[test]
-fn a_pointer_moves_in_its_array(rt: HostRuntime) -> Result<(), Fail> {
-    let mut store = Store::new(rt.alloc(), 100);
-    several_objects(&rt, &mut store);
-    for row in rows(MOVES) {
-        let (at, by, wanted) = triple(row);
-        let found = shift(&rt, &store, place_of(at), number(by)?);
-        let found = format!(in rt.alloc(); "{found:?}")?;
-        expect(&rt, found.as_str(), wanted, row);
-    }
-    Ok(())
-}
-
 fn shift(rt: &impl Abort, store: &Store, at: Pointer, by: i128) -> Result<Pointer, Trap> {
     assert!(rt; store.is_pointer(at));
     store.shift(at, by)
 }
 
+fn expect_moved(rt: &impl Abort, alloc: Global, store: &Store, row: &str) -> Result<(), Fail> {
+    let (at, by, wanted) = triple(row);
+    let found = shift(rt, store, place_of(at), number(by)?);
+    Ok(expect_text(rt, format!(in alloc; "{found:?}"), wanted, row)?)
+}
+
 #[test]
-fn pointers_compare_in_their_object(rt: HostRuntime) -> Result<(), Fail> {
+fn a_pointer_moves_in_its_array(rt: HostRuntime) -> Result<(), Fail> {
     let mut store = Store::new(rt.alloc(), 100);
     several_objects(&rt, &mut store);
-    for row in rows(COMPARISONS) {
-        let (left, right, wanted) = triple(row);
-        let (order, equality) = compare(&rt, &store, place_of(left), place_of(right));
-        let found = format!(in rt.alloc(); "{order:?} {equality:?}")?;
-        expect(&rt, found.as_str(), wanted, row);
+    for row in rows(MOVES) {
+        expect_moved(&rt, rt.alloc(), &store, row)?;
     }
     Ok(())
 }
@@ -372,15 +333,23 @@ fn compare(
     (store.less(left, right), store.same(left, right))
 }
 
+fn expect_compared(
+    rt: &impl Abort,
+    alloc: Global,
+    store: &Store,
+    row: &str,
+) -> Result<(), AllocError> {
+    let (left, right, wanted) = triple(row);
+    let (order, equality) = compare(rt, store, place_of(left), place_of(right));
+    expect_text(rt, format!(in alloc; "{order:?} {equality:?}"), wanted, row)
+}
+
 #[test]
-fn pointers_have_a_distance_in_one_array(rt: HostRuntime) -> Result<(), Fail> {
+fn pointers_compare_in_their_object(rt: HostRuntime) -> Result<(), AllocError> {
     let mut store = Store::new(rt.alloc(), 100);
     several_objects(&rt, &mut store);
-    for row in rows(DISTANCES) {
-        let (left, right, wanted) = triple(row);
-        let found = differ(&rt, &store, place_of(left), place_of(right));
-        let found = format!(in rt.alloc(); "{found:?}")?;
-        expect(&rt, found.as_str(), wanted, row);
+    for row in rows(COMPARISONS) {
+        expect_compared(&rt, rt.alloc(), &store, row)?;
     }
     Ok(())
 }
@@ -388,6 +357,27 @@ fn pointers_have_a_distance_in_one_array(rt: HostRuntime) -> Result<(), Fail> {
 fn differ(rt: &impl Abort, store: &Store, left: Pointer, right: Pointer) -> Result<i128, Trap> {
     assert!(rt; store.is_pointer(left) && store.is_pointer(right));
     store.differ(left, right)
+}
+
+fn expect_distance(
+    rt: &impl Abort,
+    alloc: Global,
+    store: &Store,
+    row: &str,
+) -> Result<(), AllocError> {
+    let (left, right, wanted) = triple(row);
+    let found = differ(rt, store, place_of(left), place_of(right));
+    expect_text(rt, format!(in alloc; "{found:?}"), wanted, row)
+}
+
+#[test]
+fn pointers_have_a_distance_in_one_array(rt: HostRuntime) -> Result<(), AllocError> {
+    let mut store = Store::new(rt.alloc(), 100);
+    several_objects(&rt, &mut store);
+    for row in rows(DISTANCES) {
+        expect_distance(&rt, rt.alloc(), &store, row)?;
+    }
+    Ok(())
 }
 
 #[test]

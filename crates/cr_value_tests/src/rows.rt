@@ -1,5 +1,7 @@
+ghost use Rattle.cr_ints.specs.IntKind.{Represents};
+
 use cr_ints::IntKind;
-use std::alloc::{AllocError, Global};
+use std::alloc::AllocError;
 use std::process::Abort;
 use std::str::Lines;
 use std::test::Fail;
@@ -27,37 +29,58 @@ pub(crate) fn triple(row: &str) -> (&str, &str, &str) {
     (first, second, third)
 }
 
+/// The first word of a text, and what stands behind it.
+pub(crate) fn cut(text: &str) -> (&str, &str) {
+    match text.split_once(' ') {
+        Some(parts) => parts,
+        None => (text, ""),
+    }
+}
+
 /// The number in a cell.
 pub(crate) fn number(cell: &str) -> Result<i128, Fail> {
     Ok(cell.parse::<i128>().ok().ok_or("no number")?)
 }
 
 /// The kind with this name.
-pub(crate) fn kind(alloc: Global, name: &str) -> Result<IntKind, AllocError> {
-    for kind in KINDS {
-        if format!(in alloc; "{kind:?}")?.as_str() == name {
-            return Ok(kind);
-        }
+pub(crate) fn kind(name: &str) -> Result<IntKind, Fail> {
+    match name {
+        "Bool" => Ok(IntKind::Bool),
+        "Char" => Ok(IntKind::Char),
+        "SChar" => Ok(IntKind::SChar),
+        "UChar" => Ok(IntKind::UChar),
+        "Short" => Ok(IntKind::Short),
+        "UShort" => Ok(IntKind::UShort),
+        "Int" => Ok(IntKind::Int),
+        "UInt" => Ok(IntKind::UInt),
+        "Long" => Ok(IntKind::Long),
+        "ULong" => Ok(IntKind::ULong),
+        "LLong" => Ok(IntKind::LLong),
+        "ULLong" => Ok(IntKind::ULLong),
+        _ => Err(Fail::from("no kind")),
     }
-    Err(AllocError)
 }
 
-const KINDS: [IntKind; 12] = [
-    IntKind::Bool,
-    IntKind::Char,
-    IntKind::SChar,
-    IntKind::UChar,
-    IntKind::Short,
-    IntKind::UShort,
-    IntKind::Int,
-    IntKind::UInt,
-    IntKind::Long,
-    IntKind::ULong,
-    IntKind::LLong,
-    IntKind::ULLong,
-];
+/// That a kind has this value.
+pub(crate) fn expect_value(rt: &impl Abort, kind: IntKind, value: i128)
+    ensures { Represents kind value }
+{
+    assert!(rt; kind.can_represent(value));
+}
 
 /// The one assertion of tables.
 pub(crate) fn expect(rt: &impl Abort, found: &str, wanted: &str, row: &str) {
     assert!(rt; found == wanted, "{row}: {found}");
+}
+
+/// The same of a text that was made.
+pub(crate) fn expect_text(
+    rt: &impl Abort,
+    found: Result<String, AllocError>,
+    wanted: &str,
+    row: &str,
+) -> Result<(), AllocError> {
+    let found = found?;
+    expect(rt, found.as_str(), wanted, row);
+    Ok(())
 }

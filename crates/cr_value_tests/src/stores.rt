@@ -1,0 +1,59 @@
+// What the tests of the memory do to a store, with what a call asks for asserted before it.
+ghost use Rattle.std.specs.Prelude.{◌≡◌, ◌↔◌, IsTrue};
+ghost use Rattle.cr_memory.specs.Access.{HasStride};
+
+use cr_ints::IntKind;
+use cr_memory::{Cell, Guard, Pointer, Scalar, Store, Trap};
+use std::process::Abort;
+
+pub(crate) const INT: Scalar = Scalar::Int(IntKind::Int);
+
+pub(crate) const LONG: Scalar = Scalar::Int(IntKind::Long);
+
+/// A place in an array of elements of `stride` cells, from `low` to below `high`.
+pub(crate) fn place(object: u32, cell: u32, low: u32, high: u32, stride: u32) -> Pointer
+    ensures { result ≡ Pointer.At object cell low high stride }
+{
+    Pointer::At {
+        object,
+        cell,
+        low,
+        high,
+        stride,
+    }
+}
+
+pub(crate) fn has_stride(at: Pointer, count: u32) -> bool
+    ensures { IsTrue result ↔ HasStride at count }
+{
+    match at {
+        Pointer::Null => true,
+        Pointer::At { stride, .. } => stride == count,
+    }
+}
+
+pub(crate) fn enter(
+    rt: &impl Abort,
+    store: &mut Store,
+    shape: &[(Scalar, Guard)],
+    zero: bool,
+) -> u32 {
+    let entered = store.enter(shape, zero);
+    assert!(rt; entered.is_ok());
+    entered.unwrap_or(0)
+}
+
+pub(crate) fn leave(rt: &impl Abort, store: &mut Store, object: u32) {
+    assert!(rt; store.is_live(object));
+    store.leave(object);
+}
+
+pub(crate) fn load(
+    rt: &impl Abort,
+    store: &Store,
+    at: Pointer,
+    kind: Scalar,
+) -> Result<Cell, Trap> {
+    assert!(rt; store.is_pointer(at));
+    store.load(at, kind)
+}
