@@ -1,8 +1,11 @@
+ghost use Rattle.cr_syntax.specs.Words.{AreSpans};
+
 use crate::texts::unit_of;
-use cr_bindings::Bindings;
+use cr_bindings::{Bindings, Tag};
 use cr_scopes::{Names, resolve};
 use cr_syntax::{Node, Unit};
 use std::alloc::{AllocError, Global};
+use std::process::Abort;
 use std::test::Fail;
 
 // A text, and what is known of its names, nodes by their first tokens. Of a token T: `T>D=F`, the declaration of its name that is visible
@@ -20,41 +23,114 @@ int *a[3];int main(){return sizeof a;} => 14>1=1
 struct s*p;struct s{int a;};struct s q; => 0#0/5+ 5#0/5+ 13#0/5
 struct s{int a;}x;int main(){struct s;struct s*p;} => 0#0/0+ 14#14/+ 17#14/";
 
+fn expect_line(rt: &impl Abort, alloc: Global, line: &str) -> Result<(), Fail> {
+    let (text, wanted) = line.split_once(" => ").ok_or("a row")?;
+    let shown = shown_of(alloc, text)?;
+    assert!(rt; shown.trim_start() == wanted, "{text}:{shown}");
+    Ok(())
+}
+
 #[test]
 fn names_have_their_declarations(rt: HostRuntime) -> Result<(), Fail> {
-    let alloc = rt.alloc();
     for line in DECLARATIONS.split('\n') {
-        let (text, wanted) = line.split_once(" => ").ok_or("a row")?;
-        let shown = shown_of(alloc, text)?;
-        if shown.trim_start() != wanted {
-            return Err(Fail::from(format!(in alloc; "{text}:{shown}")?));
-        }
+        expect_line(&rt, rt.alloc(), line)?;
     }
     Ok(())
 }
 
 fn shown_of(alloc: Global, text: &str) -> Result<String, AllocError> {
-    let mut out = String::new(alloc);
-    if let Some(unit) = unit_of(alloc, text)? {
-        if let Ok(names) = resolve(alloc, text.as_bytes(), &unit) {
-            let bindings = Bindings::new(alloc, text.as_bytes(), &unit, &names)?;
-            push_tokens(alloc, &mut out, &unit, &names, &bindings)?;
-            push_tags(alloc, &mut out, &unit, &names, &bindings)?;
-        }
-    }
-    Ok(out)
-}
-
-// The first token of a node, where there is one.
-fn first(alloc: Global, nodes: &[Node], node: Option<u32>) -> Result<String, AllocError> {
-    match node.and_then(|at| nodes.get(at as usize)) {
-        Some(node) => format!(in alloc; "{}", node.first),
+    match unit_of(alloc, text)? {
+        Some(unit) => unit_shown(alloc, text, &unit),
         None => Ok(String::new(alloc)),
     }
 }
 
+fn unit_shown(alloc: Global, text: &str, unit: &Unit) -> Result<String, AllocError>
+    requires { AreSpans text.now unit.now.tokens.list.items }
+{
+    match resolve(alloc, text.as_bytes(), unit) {
+        Ok(names) => names_shown(alloc, text, unit, &names),
+        Err(_) => Ok(String::new(alloc)),
+    }
+}
+
+fn names_shown(alloc: Global, text: &str, unit: &Unit, names: &Names) -> Result<String, AllocError>
+    requires { AreSpans text.now unit.now.tokens.list.items }
+{
+    let bindings = Bindings::new(alloc, text.as_bytes(), unit, names)?;
+    let mut out = String::new(alloc);
+    push_tokens(alloc, &mut out, unit, names, &bindings)?;
+    push_tags(alloc, &mut out, unit, names, &bindings)?;
+    Ok(out)
+}
+
 fn number_of(at: usize) -> Result<u32, AllocError> {
     u32::try_from(at).map_err(|_| AllocError)
+}
+
+// The first token of a node, where there is one.
+fn first(nodes: &[Node], node: Option<u32>) -> Option<u32> {
+    Some(nodes.get(node? as usize)?.first)
+}
+
+// A mark, and the number of a token, where there is one.
+fn push_token(
+    alloc: Global,
+    out: &mut String,
+    mark: char,
+    token: Option<u32>,
+) -> Result<(), AllocError> {
+    out.push(mark)?;
+    match token {
+        Some(token) => push_number(alloc, out, token),
+        None => Ok(()),
+    }
+}
+
+fn push_number(alloc: Global, out: &mut String, number: u32) -> Result<(), AllocError> {
+    let number = format!(in alloc; "{number}")?;
+    out.push_str(number.as_str())
+}
+
+fn push_visible(
+    alloc: Global,
+    out: &mut String,
+    token: u32,
+    visible: Option<u32>,
+    known: Option<u32>,
+) -> Result<(), AllocError> {
+    if visible.is_none() {
+        return Ok(());
+    }
+    push_token(alloc, out, ' ', Some(token))?;
+    push_token(alloc, out, '>', visible)?;
+    push_token(alloc, out, '=', known)
+}
+
+fn push_earlier(
+    alloc: Global,
+    out: &mut String,
+    token: u32,
+    earlier: Option<u32>,
+) -> Result<(), AllocError> {
+    if earlier.is_none() {
+        return Ok(());
+    }
+    push_token(alloc, out, ' ', Some(token))?;
+    push_token(alloc, out, '<', earlier)
+}
+
+fn push_tag(
+    alloc: Global,
+    out: &mut String,
+    node: &Node,
+    nodes: &[Node],
+    tag: Tag,
+) -> Result<(), AllocError> {
+    push_token(alloc, out, ' ', Some(node.first))?;
+    push_token(alloc, out, '#', first(nodes, tag.first))?;
+    push_token(alloc, out, '/', first(nodes, tag.content))?;
+    out.push_str(if tag.declares { "+" } else { "" })
 }
 
 fn push_tokens(
@@ -67,14 +143,12 @@ fn push_tokens(
     let nodes = unit.nodes.as_slice();
     for (at, declares) in bindings.declaring.as_slice().iter().enumerate() {
         let token = number_of(at)?;
-        let visible = first(alloc, nodes, bindings.visible_at(token))?;
-        let known = first(alloc, nodes, bindings.first_at(names, token))?;
-        let earlier = first(alloc, nodes, bindings.earlier_at(token))?;
-        if !visible.is_empty() {
-            out.push_str(format!(in alloc; " {token}>{visible}={known}")?.as_str())?;
-        }
-        if *declares && !earlier.is_empty() {
-            out.push_str(format!(in alloc; " {token}<{earlier}")?.as_str())?;
+        let visible = first(nodes, bindings.visible_at(token));
+        let known = first(nodes, bindings.first_at(names, token));
+        push_visible(alloc, out, token, visible, known)?;
+        if *declares {
+            let earlier = first(nodes, bindings.earlier_at(token));
+            push_earlier(alloc, out, token, earlier)?;
         }
     }
     Ok(())
@@ -87,14 +161,10 @@ fn push_tags(
     names: &Names,
     bindings: &Bindings,
 ) -> Result<(), AllocError> {
-    let nodes = unit.nodes.as_slice();
+    let (nodes, tokens) = (unit.nodes.as_slice(), unit.tokens.list.as_slice());
     for (at, node) in nodes.iter().enumerate() {
-        let number = number_of(at)?;
-        if let Some(tag) = bindings.tag_of(names, nodes, unit.tokens.list.as_slice(), number) {
-            let begun = first(alloc, nodes, tag.first)?;
-            let content = first(alloc, nodes, tag.content)?;
-            let mark = if tag.declares { "+" } else { "" };
-            out.push_str(format!(in alloc; " {}#{begun}/{content}{mark}", node.first)?.as_str())?;
+        if let Some(tag) = bindings.tag_of(names, nodes, tokens, number_of(at)?) {
+            push_tag(alloc, out, node, nodes, tag)?;
         }
     }
     Ok(())

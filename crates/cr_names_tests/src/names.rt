@@ -1,6 +1,7 @@
 use crate::named;
 use cr_scopes::{Entity, NameFault, Names};
 use std::alloc::{AllocError, Global};
+use std::process::Abort;
 use std::test::Fail;
 
 // A text, and its entities, each by the tokens that declare it and those that use it, a tag with a `t` before; or its fault.
@@ -44,15 +45,17 @@ struct p{int n;struct p*n;}; => twice 9
 struct p{struct{int n;}m;int n;}; => t1/
 int f(){return f(sizeof(enum{f}));} => 1/6 12/";
 
+fn expect_line(rt: &impl Abort, alloc: Global, line: &str) -> Result<(), Fail> {
+    let (text, wanted) = line.split_once(" => ").ok_or("a row")?;
+    let shown = shown_of(alloc, text)?;
+    assert!(rt; shown.as_str() == wanted, "{text}: {shown}");
+    Ok(())
+}
+
 #[test]
 fn names_stand_for_what_is_in_scope(rt: HostRuntime) -> Result<(), Fail> {
-    let alloc = rt.alloc();
     for line in NAMES.split('\n') {
-        let (text, wanted) = line.split_once(" => ").ok_or("a row")?;
-        let shown = shown_of(alloc, text)?;
-        if shown.as_str() != wanted {
-            return Err(Fail::from(format!(in alloc; "{text}: {shown}")?));
-        }
+        expect_line(&rt, rt.alloc(), line)?;
     }
     Ok(())
 }
@@ -75,13 +78,18 @@ fn fault_shown(alloc: Global, fault: NameFault) -> Result<String, AllocError> {
 
 fn entities_shown(alloc: Global, names: &Names) -> Result<String, AllocError> {
     let mut out = String::new(alloc);
-    for entity in names.entities.as_slice() {
+    push_entities(alloc, &mut out, names.entities.as_slice())?;
+    Ok(out)
+}
+
+fn push_entities(alloc: Global, out: &mut String, entities: &[Entity]) -> Result<(), AllocError> {
+    for entity in entities {
         if !out.is_empty() {
             out.push_str(" ")?;
         }
-        push_entity(alloc, &mut out, entity)?;
+        push_entity(alloc, out, entity)?;
     }
-    Ok(out)
+    Ok(())
 }
 
 fn push_entity(alloc: Global, out: &mut String, entity: &Entity) -> Result<(), AllocError> {

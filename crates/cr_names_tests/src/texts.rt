@@ -6,31 +6,49 @@ use cr_exprs::ParseFault;
 use cr_parse_tests::are_spans;
 use cr_scopes::{NameFault, Names, resolve};
 use cr_syntax::Unit;
-use cr_tokens::{TokenFault, read};
+use cr_tokens::{TokenFault, Tokens, read};
 use std::alloc::{AllocError, Global};
+
+fn tokens_of(alloc: Global, file: &[u8]) -> Result<Option<Tokens>, AllocError> {
+    match read(alloc, file) {
+        Ok(tokens) => Ok(Some(tokens)),
+        Err(TokenFault::NoMemory) => Err(AllocError),
+        Err(_) => Ok(None),
+    }
+}
+
+// A unit whose tokens are parts of its file.
+fn spanned(file: &[u8], unit: Unit) -> Option<Unit>
+    ensures { IfSome result (λ unit. AreSpans file.now unit.tokens.list.items) }
+{
+    if are_spans(file, unit.tokens.list.as_slice()) {
+        Some(unit)
+    } else {
+        None
+    }
+}
+
+fn parsed(alloc: Global, file: &[u8], tokens: &Tokens) -> Result<Option<Unit>, AllocError>
+    ensures { IfOk result (λ found. IfSome found (λ unit. AreSpans file.now unit.tokens.list.items)) }
+{
+    if !are_spans(file, tokens.list.as_slice()) {
+        return Ok(None);
+    }
+    match parse(alloc, file, tokens) {
+        Ok(unit) => Ok(spanned(file, unit)),
+        Err(ParseFault::NoMemory) => Err(AllocError),
+        Err(_) => Ok(None),
+    }
+}
 
 // The unit of a text; None where it is none.
 pub(crate) fn unit_of(alloc: Global, text: &str) -> Result<Option<Unit>, AllocError>
     ensures { IfOk result (λ found. IfSome found (λ unit. AreSpans text.now unit.tokens.list.items)) }
 {
-    let file = text.as_bytes();
-    let tokens = match read(alloc, file) {
-        Ok(tokens) => tokens,
-        Err(TokenFault::NoMemory) => return Err(AllocError),
-        Err(_) => return Ok(None),
-    };
-    if !are_spans(file, tokens.list.as_slice()) {
-        return Ok(None);
+    match tokens_of(alloc, text.as_bytes())? {
+        Some(tokens) => parsed(alloc, text.as_bytes(), &tokens),
+        None => Ok(None),
     }
-    let unit = match parse(alloc, file, &tokens) {
-        Ok(unit) => unit,
-        Err(ParseFault::NoMemory) => return Err(AllocError),
-        Err(_) => return Ok(None),
-    };
-    if !are_spans(file, unit.tokens.list.as_slice()) {
-        return Ok(None);
-    }
-    Ok(Some(unit))
 }
 
 /// What the names of a text stand for, or their fault; None where the text is no unit.
