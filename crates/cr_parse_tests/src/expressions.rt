@@ -1,12 +1,13 @@
 use crate::are_spans;
-use crate::texts::{Names, expect, fault_text, nested, pair, rows, shown};
+use crate::texts::{Names, expect, fault_text, nested, pair, rows, shown, triple};
 use cr_exprs::Goal::{Assignment, Conditional, Expression};
 use cr_exprs::ParseFault::TooDeep;
 use cr_exprs::{Goal, ParseFault, TypeNames, expression};
 use cr_rows::Row;
 use cr_syntax::{Node, TypeName};
-use cr_tokens::read;
+use cr_tokens::{Tokens, read};
 use std::alloc::{AllocError, Global};
+use std::process::Abort;
 use std::test::Fail;
 
 // Expressions, the number of the token after them, and their trees as `shown` writes them, with names by their kinds. `T` and `V` are types,
@@ -202,50 +203,69 @@ a+{¦128¦TooDeep(2)
 sizeof(a)¦127¦TooDeep(1)
 "#;
 
+// The token after a text's expression, and its tree.
+fn tree_of(alloc: Global, text: &str) -> Result<String, Fail> {
+    let outcome = read_text(alloc, text, 0, Expression)?;
+    outcome_shown(alloc, text, &outcome)
+}
+
+fn expect_tree(rt: &impl Abort, alloc: Global, row: &str) -> Result<(), Fail> {
+    let (text, wanted) = pair(row);
+    let found = tree_of(alloc, text)?;
+    expect(rt, found.as_str(), wanted, row);
+    Ok(())
+}
+
 #[test]
 fn expressions_have_their_trees(rt: HostRuntime) -> Result<(), Fail> {
-    let alloc = rt.alloc();
-    let trees = rows(alloc, TREES)?;
+    let trees = rows(rt.alloc(), TREES)?;
     assert!(rt; trees.len() == 100);
     for row in trees {
-        let (text, wanted) = pair(row);
-        let outcome = read_text(alloc, text, 0, Expression)?;
-        let after = outcome.found.ok().map_or(0, |x| x.1);
-        let shown = shown_outcome(alloc, text, &outcome)?;
-        let found = format!(in alloc; "{after}¦{shown}")?;
-        expect(&rt, found.as_str(), wanted, row);
+        expect_tree(&rt, rt.alloc(), row)?;
     }
+    Ok(())
+}
+
+fn expect_fault(rt: &impl Abort, alloc: Global, row: &str) -> Result<(), Fail> {
+    let (text, depth, wanted) = triple(row);
+    let depth = depth.parse::<u32>().ok().ok_or("no depth")?;
+    let fault = read_text(alloc, text, depth, Expression)?.found.err();
+    let found = fault_text(alloc, fault)?;
+    expect(rt, found.as_str(), wanted, row);
     Ok(())
 }
 
 #[test]
 fn refusals_name_kind_and_token(rt: HostRuntime) -> Result<(), Fail> {
-    let alloc = rt.alloc();
-    let faults = rows(alloc, FAULTS)?;
+    let faults = rows(rt.alloc(), FAULTS)?;
     assert!(rt; faults.len() == 76);
     for row in faults {
-        let (text, rest) = pair(row);
-        let (depth, wanted) = pair(rest);
-        let depth = depth.parse::<u32>().ok().ok_or("no depth")?;
-        let outcome = read_text(alloc, text, depth, Expression)?;
-        let found = fault_text(alloc, outcome.found.err())?;
-        expect(&rt, found.as_str(), wanted, row);
+        expect_fault(&rt, rt.alloc(), row)?;
     }
+    Ok(())
+}
+
+fn expect_after(
+    rt: &impl Abort,
+    alloc: Global,
+    text: &str,
+    goal: Goal,
+    next: u32,
+) -> Result<(), Fail> {
+    let after = after(&read_text(alloc, text, 0, goal)?);
+    assert!(rt; after == next, "{text}");
     Ok(())
 }
 
 #[test]
 fn other_goals_end_earlier(rt: HostRuntime) -> Result<(), Fail> {
-    let alloc = rt.alloc();
     let rows = [
         ("a=b,c", Assignment, 3u32),
         ("a=b,c", Conditional, 1),
         ("a?b:c,d", Conditional, 5),
     ];
     for (text, goal, next) in &rows {
-        let outcome = read_text(alloc, text, 0, *goal)?;
-        let after = outcome.found.ok().map_or(0, |x| x.1);
-        assert!(rt; after == *next, "{text}");
+        expect_after(&rt, rt.alloc(), text, *goal, *next)?;
     }
     Ok(())
 }
@@ -260,22 +280,31 @@ const NESTS: [(&str, &str); 6] = [
     ("(T)", " "),
 ];
 
-#[test]
-fn levels_are_counted_to_128(rt: HostRuntime) -> Result<(), Fail> {
-    let alloc = rt.alloc();
-    for (open, close) in &NESTS {
-        let fits = nested(alloc, "", open, 128, "a", close, "")?;
-        let found = read_text(alloc, fits.as_str(), 0, Expression)?.found;
-        assert!(rt; found.is_ok(), "{open}");
-        let deep = nested(alloc, "", open, 129, "a", close, "")?;
-        let found = read_text(alloc, deep.as_str(), 0, Expression)?.found;
-        assert!(rt; is_too_deep(found), "{open}");
-    }
+// What is found of so many levels.
+fn nest_found(
+    alloc: Global,
+    open: &str,
+    count: usize,
+    close: &str,
+) -> Result<Result<(u32, u32), ParseFault>, Fail> {
+    let nest = nested(alloc, "", open, count, "a", close, "")?;
+    Ok(read_text(alloc, nest.as_str(), 0, Expression)?.found)
+}
+
+fn expect_levels(rt: &impl Abort, alloc: Global, open: &str, close: &str) -> Result<(), Fail> {
+    let fits = nest_found(alloc, open, 128, close)?;
+    assert!(rt; fits.is_ok(), "{open}");
+    let deep = nest_found(alloc, open, 129, close)?;
+    assert!(rt; matches!(deep, Err(TooDeep(_))), "{open}");
     Ok(())
 }
 
-fn is_too_deep(found: Result<(u32, u32), ParseFault>) -> bool {
-    matches!(found, Err(TooDeep(_)))
+#[test]
+fn levels_are_counted_to_128(rt: HostRuntime) -> Result<(), Fail> {
+    for (open, close) in &NESTS {
+        expect_levels(&rt, rt.alloc(), open, close)?;
+    }
+    Ok(())
 }
 
 const LINKS: [(&str, bool); 5] = [
@@ -286,16 +315,17 @@ const LINKS: [(&str, bool); 5] = [
     (".m", true),
 ];
 
+fn expect_chain(rt: &impl Abort, alloc: Global, link: &str, fits: bool) -> Result<(), Fail> {
+    let chain = nested(alloc, "a", link, 2000, "", "", "")?;
+    let found = read_text(alloc, chain.as_str(), 128, Expression)?.found;
+    assert!(rt; found.is_ok() == fits, "{link}");
+    Ok(())
+}
+
 #[test]
 fn chains_cost_no_levels(rt: HostRuntime) -> Result<(), Fail> {
-    let alloc = rt.alloc();
     for (link, fits) in &LINKS {
-        let mut text = String::from_str(alloc, "a")?;
-        for _ in 0..2000 {
-            text.push_str(link)?;
-        }
-        let found = read_text(alloc, text.as_str(), 128, Expression)?.found;
-        assert!(rt; found.is_ok() == *fits, "{link}");
+        expect_chain(&rt, rt.alloc(), link, *fits)?;
     }
     Ok(())
 }
@@ -307,22 +337,22 @@ struct Outcome {
     nodes: Row<Node>,
 }
 
+fn after(outcome: &Outcome) -> u32 {
+    match outcome.found {
+        Ok((_, after)) => after,
+        Err(_) => 0,
+    }
+}
+
 // Reads an expression from a text's first token on.
 fn read_text(alloc: Global, text: &str, depth: u32, goal: Goal) -> Result<Outcome, Fail> {
-    let tokens = read(alloc, text.as_bytes())?;
     let names = names(alloc)?;
+    let tokens = read(alloc, text.as_bytes())?;
     let mut nodes = Row::new(alloc);
-    if depth > 128 || !are_spans(text.as_bytes(), tokens.list.as_slice()) {
-        return Ok(Outcome {
-            found: Err(ParseFault::NoMemory),
-            nodes,
-        });
-    }
-    let found = expression(
+    let found = found(
         alloc,
         text.as_bytes(),
         &tokens,
-        0,
         depth,
         goal,
         &names,
@@ -331,16 +361,35 @@ fn read_text(alloc: Global, text: &str, depth: u32, goal: Goal) -> Result<Outcom
     Ok(Outcome { found, nodes })
 }
 
+fn found(
+    alloc: Global,
+    file: &[u8],
+    tokens: &Tokens,
+    depth: u32,
+    goal: Goal,
+    names: &TypeNames,
+    nodes: &mut Row<Node>,
+) -> Result<(u32, u32), ParseFault> {
+    if depth > 128 || !are_spans(file, tokens.list.as_slice()) {
+        return Err(ParseFault::NoMemory);
+    }
+    expression(alloc, file, tokens, 0, depth, goal, names, nodes)
+}
+
 fn names(alloc: Global) -> Result<TypeNames, AllocError> {
-    let mut outer = Row::new(alloc);
-    outer.push(name(alloc, "T", true)?)?;
-    outer.push(name(alloc, "V", true)?)?;
-    let mut inner = Row::new(alloc);
-    inner.push(name(alloc, "V", false)?)?;
     let mut scopes = Row::new(alloc);
-    scopes.push(outer)?;
-    scopes.push(inner)?;
+    scopes.push(scope(alloc, "T V", true)?)?;
+    scopes.push(scope(alloc, "V", false)?)?;
     Ok(TypeNames { scopes })
+}
+
+// A scope whose names are all types, or all none.
+fn scope(alloc: Global, names: &str, is_type: bool) -> Result<Row<TypeName>, AllocError> {
+    let mut scope = Row::new(alloc);
+    for spelling in names.split_whitespace() {
+        scope.push(name(alloc, spelling, is_type)?)?;
+    }
+    Ok(scope)
 }
 
 fn name(alloc: Global, spelling: &str, is_type: bool) -> Result<TypeName, AllocError> {
@@ -350,16 +399,15 @@ fn name(alloc: Global, spelling: &str, is_type: bool) -> Result<TypeName, AllocE
     })
 }
 
-// The node that was read and its parts in words.
-fn shown_outcome(alloc: Global, text: &str, outcome: &Outcome) -> Result<String, Fail> {
+// The token after the node that was read, and the node in words.
+fn outcome_shown(alloc: Global, text: &str, outcome: &Outcome) -> Result<String, Fail> {
     let tokens = read(alloc, text.as_bytes())?;
-    let top = outcome.found.ok().map_or(0, |x| x.0);
-    Ok(shown(
-        alloc,
-        text,
-        &tokens,
-        outcome.nodes.as_slice(),
-        &[top],
-        Names::ByKind,
-    )?)
+    let top = match outcome.found {
+        Ok((top, _)) => top,
+        Err(_) => 0,
+    };
+    let nodes = outcome.nodes.as_slice();
+    let shown = shown(alloc, text, &tokens, nodes, &[top], Names::ByKind)?;
+    let after = after(outcome);
+    Ok(format!(in alloc; "{after}¦{shown}")?)
 }

@@ -23,6 +23,13 @@ pub(crate) fn pair(row: &str) -> (&str, &str) {
     }
 }
 
+/// The three cells of a row.
+pub(crate) fn triple(row: &str) -> (&str, &str, &str) {
+    let (first, rest) = pair(row);
+    let (second, third) = pair(rest);
+    (first, second, third)
+}
+
 /// The one assertion of tables.
 pub(crate) fn expect(rt: &impl Abort, found: &str, wanted: &str, row: &str) {
     assert!(rt; found == wanted, "{row}: {found}");
@@ -36,6 +43,25 @@ pub(crate) fn fault_text(alloc: Global, fault: Option<ParseFault>) -> Result<Str
     }
 }
 
+fn push_times(out: &mut String, piece: &str, count: usize) -> Result<(), AllocError> {
+    for _ in 0..count {
+        out.push_str(piece)?;
+    }
+    Ok(())
+}
+
+fn push_nest(
+    out: &mut String,
+    open: &str,
+    count: usize,
+    inner: &str,
+    close: &str,
+) -> Result<(), AllocError> {
+    push_times(out, open, count)?;
+    out.push_str(inner)?;
+    push_times(out, close, count)
+}
+
 /// A text with something repeated before and behind its middle.
 pub(crate) fn nested(
     alloc: Global,
@@ -47,13 +73,7 @@ pub(crate) fn nested(
     end: &str,
 ) -> Result<String, AllocError> {
     let mut text = String::from_str(alloc, before)?;
-    for _ in 0..count {
-        text.push_str(open)?;
-    }
-    text.push_str(inner)?;
-    for _ in 0..count {
-        text.push_str(close)?;
-    }
+    push_nest(&mut text, open, count, inner, close)?;
     text.push_str(end)?;
     Ok(text)
 }
@@ -77,21 +97,43 @@ pub(crate) fn shown(
 ) -> Result<String, AllocError> {
     let mut shown: Vec<String> = Vec::new(alloc);
     for node in nodes {
-        let mut out = String::new(alloc);
-        push_kind(alloc, &mut out, text, tokens, node, names)?;
-        if !node.parts.is_empty() {
-            out.push('[')?;
-            push_all(&mut out, &shown, node.parts.as_slice())?;
-            out.push(']')?;
-        }
-        shown.push(out)?;
+        let text = node_shown(alloc, text, tokens, node, &shown, names)?;
+        shown.push(text)?;
     }
+    all_shown(alloc, &shown, numbers)
+}
+
+fn all_shown(alloc: Global, shown: &[String], numbers: &[u32]) -> Result<String, AllocError> {
     let mut out = String::new(alloc);
-    push_all(&mut out, &shown, numbers)?;
+    push_all(&mut out, shown, numbers)?;
     Ok(out)
 }
 
-fn push_all(out: &mut String, shown: &Vec<String>, numbers: &[u32]) -> Result<(), AllocError> {
+// A node in words, by those of the nodes before it.
+fn node_shown(
+    alloc: Global,
+    text: &str,
+    tokens: &Tokens,
+    node: &Node,
+    shown: &[String],
+    names: Names,
+) -> Result<String, AllocError> {
+    let mut out = String::new(alloc);
+    push_kind(alloc, &mut out, text, tokens, node, names)?;
+    push_parts(&mut out, shown, node.parts.as_slice())?;
+    Ok(out)
+}
+
+fn push_parts(out: &mut String, shown: &[String], parts: &[u32]) -> Result<(), AllocError> {
+    if parts.is_empty() {
+        return Ok(());
+    }
+    out.push('[')?;
+    push_all(out, shown, parts)?;
+    out.push(']')
+}
+
+fn push_all(out: &mut String, shown: &[String], numbers: &[u32]) -> Result<(), AllocError> {
     for (k, part) in numbers.iter().enumerate() {
         if k > 0 {
             out.push(' ')?;

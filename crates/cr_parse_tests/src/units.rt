@@ -1,11 +1,12 @@
 use crate::are_spans;
-use crate::texts::{Names, expect, fault_text, nested, pair, rows, shown};
+use crate::texts::{Names, expect, fault_text, nested, pair, rows, shown, triple};
 use cr_decls::parse;
 use cr_exprs::ParseFault;
 use cr_exprs::ParseFault::NoMemory;
 use cr_syntax::Unit;
 use cr_tokens::read;
 use std::alloc::{AllocError, Global};
+use std::process::Abort;
 use std::test::Fail;
 
 // Units and their trees as `shown` writes them, with names by their spelling. Worked out by hand from C11 6.7 to 6.9 and the
@@ -212,43 +213,61 @@ fn whole_tree(alloc: Global, text: &str, tree: &str) -> Result<String, AllocErro
 }
 
 fn whole(alloc: Global, text: &str) -> Result<String, AllocError> {
-    let mut out = String::new(alloc);
-    if is_block(text) {
-        out.push_str(HEAD)?;
-    }
-    out.push_str(text)?;
-    Ok(out)
+    let head = if is_block(text) { HEAD } else { "" };
+    format!(in alloc; "{head}{text}")
 }
 
 fn is_block(text: &str) -> bool {
     text.as_bytes().first() == Some(&b'{')
 }
 
-#[test]
-fn units_have_their_trees(rt: HostRuntime) -> Result<(), Fail> {
-    let alloc = rt.alloc();
-    let trees = rows(alloc, TREES)?;
-    assert!(rt; trees.len() == 73);
-    for row in trees {
-        let (text, tree) = pair(row);
-        let file = whole(alloc, text)?;
-        let wanted = whole_tree(alloc, text, tree)?;
-        let found = tree_of(alloc, file.as_str())?;
-        expect(&rt, found.as_str(), wanted.as_str(), row);
-    }
+fn tree_of_row(alloc: Global, text: &str) -> Result<String, Fail> {
+    let file = whole(alloc, text)?;
+    tree_of(alloc, file.as_str())
+}
+
+fn expect_tree(rt: &impl Abort, alloc: Global, row: &str) -> Result<(), Fail> {
+    let (text, tree) = pair(row);
+    let found = tree_of_row(alloc, text)?;
+    let wanted = whole_tree(alloc, text, tree)?;
+    expect(rt, found.as_str(), wanted.as_str(), row);
     Ok(())
 }
 
 #[test]
+fn units_have_their_trees(rt: HostRuntime) -> Result<(), Fail> {
+    let trees = rows(rt.alloc(), TREES)?;
+    assert!(rt; trees.len() == 73);
+    for row in trees {
+        expect_tree(&rt, rt.alloc(), row)?;
+    }
+    Ok(())
+}
+
+fn expect_fault(
+    rt: &impl Abort,
+    alloc: Global,
+    file: &str,
+    wanted: &str,
+    row: &str,
+) -> Result<(), Fail> {
+    let found = fault_of(alloc, file)?;
+    expect(rt, found.as_str(), wanted, row);
+    Ok(())
+}
+
+fn expect_refused(rt: &impl Abort, alloc: Global, row: &str) -> Result<(), Fail> {
+    let (text, wanted) = pair(row);
+    let file = whole(alloc, text)?;
+    expect_fault(rt, alloc, file.as_str(), wanted, row)
+}
+
+#[test]
 fn refusals_name_kind_and_token(rt: HostRuntime) -> Result<(), Fail> {
-    let alloc = rt.alloc();
-    let faults = rows(alloc, FAULTS)?;
+    let faults = rows(rt.alloc(), FAULTS)?;
     assert!(rt; faults.len() == 93);
     for row in faults {
-        let (text, wanted) = pair(row);
-        let file = whole(alloc, text)?;
-        let found = fault_of(alloc, file.as_str())?;
-        expect(&rt, found.as_str(), wanted, row);
+        expect_refused(&rt, rt.alloc(), row)?;
     }
     Ok(())
 }
@@ -256,16 +275,18 @@ fn refusals_name_kind_and_token(rt: HostRuntime) -> Result<(), Fail> {
 // The bytes up to the end of each of its external declarations.
 const ENDS: [usize; 7] = [24, 62, 99, 133, 187, 318, 406];
 
+fn is_unit(alloc: Global, text: &str) -> Result<bool, Fail> {
+    match read(alloc, text.as_bytes()) {
+        Ok(_) => Ok(parsed(alloc, text)?.is_ok()),
+        Err(_) => Ok(false),
+    }
+}
+
 #[test]
 fn a_program_and_its_prefixes(rt: HostRuntime) -> Result<(), Fail> {
-    let alloc = rt.alloc();
     assert!(rt; PROGRAM.len() == 407);
     for end in 0..408 {
-        let text = PROGRAM.get(0..end).unwrap_or("");
-        let is_unit = match read(alloc, text.as_bytes()) {
-            Ok(_) => parsed(alloc, text)?.is_ok(),
-            Err(_) => false,
-        };
+        let is_unit = is_unit(rt.alloc(), PROGRAM.get(0..end).unwrap_or(""))?;
         // an external declaration ends there, or one byte before
         let ends = ENDS.contains(&end) || (end > 0 && ENDS.contains(&(end - 1)));
         assert!(rt; is_unit == ends, "{end}");
@@ -288,31 +309,38 @@ const NESTS: &str = r#"
 128¦int ¦*¦a¦
 "#;
 
+fn number(cell: &str) -> Result<usize, Fail> {
+    Ok(cell.parse::<usize>().ok().ok_or("no number")?)
+}
+
+// What is found of a row's nest with so many levels more.
+fn nest_fault(alloc: Global, row: &str, more: usize) -> Result<String, Fail> {
+    let (most, before, rest) = triple(row);
+    let (open, inner, close) = triple(rest);
+    let count = number(most)?.saturating_add(more);
+    let text = nested(alloc, before, open, count, inner, close, end_of(before))?;
+    fault_of(alloc, text.as_str())
+}
+
+fn expect_fits(rt: &impl Abort, alloc: Global, row: &str) -> Result<(), Fail> {
+    let found = nest_fault(alloc, row, 0)?;
+    expect(rt, found.as_str(), "none", row);
+    Ok(())
+}
+
+fn expect_too_deep(rt: &impl Abort, alloc: Global, row: &str) -> Result<(), Fail> {
+    let found = nest_fault(alloc, row, 1)?;
+    assert!(rt; found.as_str().starts_with("TooDeep("), "{row}");
+    Ok(())
+}
+
 #[test]
 fn levels_are_counted_to_128(rt: HostRuntime) -> Result<(), Fail> {
-    let alloc = rt.alloc();
-    let nests = rows(alloc, NESTS)?;
+    let nests = rows(rt.alloc(), NESTS)?;
     assert!(rt; nests.len() == 11);
     for row in nests {
-        let (most, rest) = pair(row);
-        let (before, rest) = pair(rest);
-        let (open, rest) = pair(rest);
-        let (inner, close) = pair(rest);
-        let most = most.parse::<usize>().ok().ok_or("no number")?;
-        let text = nested(alloc, before, open, most, inner, close, end_of(before))?;
-        let found = fault_of(alloc, text.as_str())?;
-        expect(&rt, found.as_str(), "none", row);
-        let text = nested(
-            alloc,
-            before,
-            open,
-            most.saturating_add(1),
-            inner,
-            close,
-            end_of(before),
-        )?;
-        let found = fault_of(alloc, text.as_str())?;
-        assert!(rt; found.as_str().starts_with("TooDeep("), "{row}");
+        expect_fits(&rt, rt.alloc(), row)?;
+        expect_too_deep(&rt, rt.alloc(), row)?;
     }
     Ok(())
 }
@@ -328,20 +356,19 @@ const LIMITS: &str = r#"
 125¦void f(){¦if(1)¦switch(1)-1;¦OutsideSubset(509, 7)
 "#;
 
+fn expect_limit(rt: &impl Abort, alloc: Global, row: &str) -> Result<(), Fail> {
+    let (count, before, rest) = triple(row);
+    let (open, inner, wanted) = triple(rest);
+    let text = nested(alloc, before, open, number(count)?, inner, "", "}")?;
+    expect_fault(rt, alloc, text.as_str(), wanted, row)
+}
+
 #[test]
 fn at_one_token_too_deep_comes_first(rt: HostRuntime) -> Result<(), Fail> {
-    let alloc = rt.alloc();
-    let limits = rows(alloc, LIMITS)?;
+    let limits = rows(rt.alloc(), LIMITS)?;
     assert!(rt; limits.len() == 7);
     for row in limits {
-        let (count, rest) = pair(row);
-        let (before, rest) = pair(rest);
-        let (open, rest) = pair(rest);
-        let (inner, wanted) = pair(rest);
-        let count = count.parse::<usize>().ok().ok_or("no number")?;
-        let text = nested(alloc, before, open, count, inner, "", "}")?;
-        let found = fault_of(alloc, text.as_str())?;
-        expect(&rt, found.as_str(), wanted, row);
+        expect_limit(&rt, rt.alloc(), row)?;
     }
     Ok(())
 }
@@ -363,17 +390,18 @@ void f(){¦int a;¦}
 void f(){¦{}¦}
 "#;
 
+fn expect_chain(rt: &impl Abort, alloc: Global, row: &str) -> Result<(), Fail> {
+    let (before, link, behind) = triple(row);
+    let text = nested(alloc, before, link, 3000, "", "", behind)?;
+    expect_fault(rt, alloc, text.as_str(), "none", row)
+}
+
 #[test]
 fn rows_cost_no_levels(rt: HostRuntime) -> Result<(), Fail> {
-    let alloc = rt.alloc();
-    let chains = rows(alloc, CHAINS)?;
+    let chains = rows(rt.alloc(), CHAINS)?;
     assert!(rt; chains.len() == 5);
     for row in chains {
-        let (before, rest) = pair(row);
-        let (link, behind) = pair(rest);
-        let text = nested(alloc, before, link, 3000, "", "", behind)?;
-        let found = fault_of(alloc, text.as_str())?;
-        expect(&rt, found.as_str(), "none", row);
+        expect_chain(&rt, rt.alloc(), row)?;
     }
     Ok(())
 }
