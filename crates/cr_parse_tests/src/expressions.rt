@@ -348,32 +348,26 @@ fn after(outcome: &Outcome) -> u32 {
 fn read_text(alloc: Global, text: &str, depth: u32, goal: Goal) -> Result<Outcome, Fail> {
     let names = names(alloc)?;
     let tokens = read(alloc, text.as_bytes())?;
-    let mut nodes = Row::new(alloc);
-    let found = found(
-        alloc,
-        text.as_bytes(),
-        &tokens,
-        depth,
-        goal,
-        &names,
-        &mut nodes,
-    );
-    Ok(Outcome { found, nodes })
+    Ok(outcome(alloc, text.as_bytes(), &tokens, depth, goal, &names))
 }
 
-fn found(
+fn outcome(
     alloc: Global,
     file: &[u8],
     tokens: &Tokens,
     depth: u32,
     goal: Goal,
     names: &TypeNames,
-    nodes: &mut Row<Node>,
-) -> Result<(u32, u32), ParseFault> {
+) -> Outcome {
+    let mut nodes = Row::new(alloc);
     if depth > 128 || !are_spans(file, tokens.list.as_slice()) {
-        return Err(ParseFault::NoMemory);
+        return Outcome {
+            found: Err(ParseFault::NoMemory),
+            nodes,
+        };
     }
-    expression(alloc, file, tokens, 0, depth, goal, names, nodes)
+    let found = expression(alloc, file, tokens, 0, depth, goal, names, &mut nodes);
+    Outcome { found, nodes }
 }
 
 fn names(alloc: Global) -> Result<TypeNames, AllocError> {
