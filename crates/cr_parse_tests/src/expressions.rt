@@ -348,10 +348,10 @@ fn after(outcome: &Outcome) -> u32 {
 fn read_text(alloc: Global, text: &str, depth: u32, goal: Goal) -> Result<Outcome, Fail> {
     let names = names(alloc)?;
     let tokens = read(alloc, text.as_bytes())?;
-    Ok(outcome(alloc, text.as_bytes(), &tokens, depth, goal, &names))
+    Ok(read_tokens(alloc, text.as_bytes(), &tokens, depth, goal, &names))
 }
 
-fn outcome(
+fn read_tokens(
     alloc: Global,
     file: &[u8],
     tokens: &Tokens,
