@@ -410,38 +410,44 @@ type 40 1¦long main(){}
 type 40 1¦void main(){}
 "#;
 
+// The file that a row shows.
+fn plain(alloc: Global, text: &str) -> Result<String, AllocError> {
+    let mut plain = String::new(alloc);
+    let mut escaped = false;
+    for c in text.chars() {
+        if c == '\\' && !escaped {
+            escaped = true;
+        } else {
+            plain.push(if escaped && c == 'n' { '\n' } else { c })?;
+            escaped = false;
+        }
+    }
+    Ok(plain)
+}
+
+// Notes a row whose file comes to something else.
+fn try_row(alloc: Global, wrong: &mut String, row: &str) -> Result<(), AllocError> {
+    let Some((wanted, text)) = row.split_once('¦') else {
+        return Ok(());
+    };
+    let file = plain(alloc, text)?;
+    let found = shown(alloc, file.as_str())?;
+    if found.as_str() == wanted {
+        Ok(())
+    } else {
+        write!(wrong, "\n{found}: {row}")
+    }
+}
+
 #[test]
 fn files_are_typed_or_refused(rt: HostRuntime) -> Result<(), Fail> {
-    let alloc = rt.alloc();
-    let mut wrong = String::new(alloc);
+    let mut wrong = String::new(rt.alloc());
     for row in RULINGS.lines().chain(DEFINITIONS.lines()) {
-        if let Some((wanted, text)) = row.split_once('¦') {
-            let found = shown(alloc, plain(alloc, text)?.as_str())?;
-            if found.as_str() != wanted {
-                wrong.push_str(format!(in alloc; "\n{found}: {row}")?.as_str())?;
-            }
-        }
+        try_row(rt.alloc(), &mut wrong, row)?;
     }
     if wrong.is_empty() {
         Ok(())
     } else {
         Err(Fail::from(wrong))
     }
-}
-
-// The file that a row shows.
-fn plain(alloc: Global, text: &str) -> Result<String, AllocError> {
-    let mut plain = String::new(alloc);
-    let mut escaped = false;
-    for c in text.chars() {
-        if escaped {
-            plain.push(if c == 'n' { '\n' } else { c })?;
-            escaped = false;
-        } else if c == '\\' {
-            escaped = true;
-        } else {
-            plain.push(c)?;
-        }
-    }
-    Ok(plain)
 }

@@ -28,13 +28,10 @@ fn unit_shown(alloc: Global, file: &[u8], unit: Unit) -> Result<String, AllocErr
     requires { AreSpans file.now unit.tokens.list.items }
 {
     match resolve(alloc, file, &unit) {
-        Ok(names) => {
-            let tokens = unit.tokens.list.clone()?;
-            match check(alloc, file, &unit, &names) {
-                Ok(_) => String::from_str(alloc, "typed"),
-                Err(fault) => type_fault_shown(alloc, file, tokens.as_slice(), fault),
-            }
-        }
+        Ok(names) => match check(alloc, file, &unit, &names) {
+            Ok(_) => String::from_str(alloc, "typed"),
+            Err(fault) => type_fault_shown(alloc, file, unit.tokens.list.as_slice(), fault),
+        },
         Err(fault) => name_fault_shown(alloc, file, unit.tokens.list.as_slice(), fault),
     }
 }

@@ -1,5 +1,6 @@
 // What C11 says of single statements, and the examples of docs/NUMBERS.md.
-use crate::shown::expect_all;
+use crate::shown::{expect_all, none_of, try_file};
+use std::alloc::{AllocError, Global};
 use std::test::Fail;
 
 // Statements, which stand on one line in `main` behind `int f(int x){return x;}` and `int i=0;`.
@@ -140,19 +141,23 @@ left 7 1¦int printf(const char *, ...); int main(void) { printf("%5d\\n", 1); r
 lawful 0 1\n¦int printf(const char *, ...); int main(void) { printf("%ld\\n", 1L); return 0; }
 "#;
 
+fn try_statement(alloc: Global, wrong: &mut String, row: &str) -> Result<(), AllocError> {
+    let Some((wanted, statement)) = row.split_once('¦') else {
+        return Ok(());
+    };
+    let text = format!(in alloc;
+        "int f(int x){{return x;}}int main(void){{int i=0;{statement}return 0;}}"
+    )?;
+    try_file(alloc, wrong, wanted, text.as_str())
+}
+
 #[test]
 fn statements_in_a_frame(rt: HostRuntime) -> Result<(), Fail> {
-    let alloc = rt.alloc();
-    let mut table = String::new(alloc);
+    let mut wrong = String::new(rt.alloc());
     for row in STATEMENTS.lines() {
-        if let Some((wanted, statement)) = row.split_once('¦') {
-            table.push_str(wanted)?;
-            table.push_str("¦int f(int x){return x;}int main(void){int i=0;")?;
-            table.push_str(statement)?;
-            table.push_str("return 0;}\n")?;
-        }
+        try_statement(rt.alloc(), &mut wrong, row)?;
     }
-    expect_all(alloc, table.as_str())
+    none_of(wrong)
 }
 
 #[test]

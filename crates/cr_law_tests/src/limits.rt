@@ -1,7 +1,8 @@
 // Files and runs at the limits, and one beyond each.
-use crate::shown::{most, plain, ruled, shown};
+use crate::shown::{most, none_of, plain, ruled, shown};
 use cr_meaning::Limits;
 use std::alloc::{AllocError, Global};
+use std::process::Abort;
 use std::test::Fail;
 
 // What stands before, what opens, what stands within, what closes, and what stands behind; and how often it opens and closes, with the
@@ -73,41 +74,65 @@ const CELLS: &str = r#"
 "#;
 
 // The file of a row: what opens and what closes stand in it so many times.
-fn repeated(alloc: Global, parts: &[&str], times: usize) -> Result<String, AllocError> {
+fn repeated(alloc: Global, row: &str, times: usize) -> Result<String, AllocError> {
     let mut file = String::new(alloc);
-    for (k, part) in parts.iter().enumerate() {
-        let part = plain(alloc, part)?;
+    for (k, part) in row.split('¦').take(5).enumerate() {
         let times = if k == 1 || k == 3 { times } else { 1 };
-        for _ in 0..times {
-            file.push_str(part.as_str())?;
-        }
+        push_times(alloc, &mut file, part, times)?;
     }
     Ok(file)
+}
+
+fn push_times(
+    alloc: Global,
+    file: &mut String,
+    part: &str,
+    times: usize,
+) -> Result<(), AllocError> {
+    let part = plain(alloc, part)?;
+    for _ in 0..times {
+        file.push_str(part.as_str())?;
+    }
+    Ok(())
+}
+
+// How many times, and the ruling then.
+fn size_of(field: &str) -> Option<(usize, &str)> {
+    let (times, wanted) = field.split_once(' ')?;
+    Some((times.parse::<usize>().ok()?, wanted))
+}
+
+// Notes a row that is ruled otherwise at this size.
+fn try_size(
+    alloc: Global,
+    wrong: &mut String,
+    row: &str,
+    times: usize,
+    wanted: &str,
+) -> Result<(), AllocError> {
+    let file = repeated(alloc, row, times)?;
+    let found = ruled(alloc, file.as_bytes(), most())?;
+    if found.as_str() == wanted {
+        Ok(())
+    } else {
+        write!(wrong, "\n{found}: {times} of {row}")
+    }
+}
+
+fn try_sizes(alloc: Global, wrong: &mut String, row: &str) -> Result<(), Fail> {
+    for field in row.split('¦').skip(5) {
+        let (times, wanted) = size_of(field).ok_or("no size")?;
+        try_size(alloc, wrong, row, times, wanted)?;
+    }
+    Ok(())
 }
 
 fn expect_sizes(alloc: Global, table: &str) -> Result<(), Fail> {
     let mut wrong = String::new(alloc);
     for row in table.lines() {
-        let mut parts = Vec::new(alloc);
-        let mut fields = row.split('¦');
-        for part in fields.by_ref().take(5) {
-            parts.push(part)?;
-        }
-        for field in fields {
-            let (times, wanted) = field.split_once(' ').ok_or("no ruling")?;
-            let times = times.parse::<usize>().ok().ok_or("no number")?;
-            let file = repeated(alloc, parts.as_slice(), times)?;
-            let found = ruled(alloc, file.as_bytes(), most())?;
-            if found.as_str() != wanted {
-                wrong.push_str(format!(in alloc; "\n{found}: {times} of {row}")?.as_str())?;
-            }
-        }
+        try_sizes(alloc, &mut wrong, row)?;
     }
-    if wrong.is_empty() {
-        Ok(())
-    } else {
-        Err(Fail::from(wrong))
-    }
+    none_of(wrong)
 }
 
 // The limits of a run of `creduce` without options, but for one.
@@ -125,25 +150,41 @@ fn limits_with(name: &str, limit: u32) -> Limits {
     }
 }
 
-// Tries rows whose first field is the limit of this name.
+// The limit of a row, what its file comes to, and the file.
+fn bounded(row: &str) -> Option<(u32, &str, &str)> {
+    let (limit, rest) = row.split_once('¦')?;
+    let (wanted, text) = rest.split_once('¦')?;
+    Some((limit.parse::<u32>().ok()?, wanted, text))
+}
+
+// Notes a row whose file comes to something else within its limit of this name.
+fn try_within(alloc: Global, wrong: &mut String, name: &str, row: &str) -> Result<(), Fail> {
+    let (limit, wanted, text) = bounded(row).ok_or("no limit")?;
+    let file = plain(alloc, text)?;
+    let found = shown(alloc, file.as_str(), limits_with(name, limit))?;
+    if found.as_str() != wanted {
+        write!(wrong, "\n{found}: {row}")?;
+    }
+    Ok(())
+}
+
 fn expect_within(alloc: Global, name: &str, table: &str) -> Result<(), Fail> {
     let mut wrong = String::new(alloc);
-    for row in table.lines() {
-        if let Some((limit, rest)) = row.split_once('¦') {
-            let (wanted, text) = rest.split_once('¦').ok_or("no file")?;
-            let limit = limit.parse::<u32>().ok().ok_or("no number")?;
-            let text = plain(alloc, text)?;
-            let found = shown(alloc, text.as_str(), limits_with(name, limit))?;
-            if found.as_str() != wanted {
-                wrong.push_str(format!(in alloc; "\n{found}: {row}")?.as_str())?;
-            }
-        }
+    for row in table.lines().skip(1) {
+        try_within(alloc, &mut wrong, name, row)?;
     }
-    if wrong.is_empty() {
-        Ok(())
-    } else {
-        Err(Fail::from(wrong))
-    }
+    none_of(wrong)
+}
+
+fn expect_ruled(
+    rt: &impl Abort,
+    alloc: Global,
+    file: &str,
+    wanted: &str,
+) -> Result<(), AllocError> {
+    let found = ruled(alloc, file.as_bytes(), most())?;
+    assert!(rt; found.as_str() == wanted, "{found}");
+    Ok(())
 }
 
 #[test]
@@ -182,37 +223,33 @@ fn cells_are_counted(rt: HostRuntime) -> Result<(), Fail> {
 }
 
 #[test]
-fn as_many_cells_as_there_may_be(rt: HostRuntime) -> Result<(), Fail> {
-    let alloc = rt.alloc();
+fn as_many_cells_as_there_may_be(rt: HostRuntime) -> Result<(), AllocError> {
     let file = "char a[1048576]; int main(void) { return 0; }";
-    let found = ruled(alloc, file.as_bytes(), most())?;
-    assert_eq!(rt; found.as_str(), "lawful");
-    Ok(())
+    expect_ruled(&rt, rt.alloc(), file, "lawful")
 }
 
 #[test]
-fn a_cell_too_many(rt: HostRuntime) -> Result<(), Fail> {
-    let alloc = rt.alloc();
+fn a_cell_too_many(rt: HostRuntime) -> Result<(), AllocError> {
     let file = "char a[1048576], b; int main(void) { return 0; }";
-    let found = ruled(alloc, file.as_bytes(), most())?;
-    assert_eq!(rt; found.as_str(), "left 3 1");
+    expect_ruled(&rt, rt.alloc(), file, "left 3 1")
+}
+
+// A program but for its end, which prints 1,024 times 64 bytes: as many as there may be.
+const PRINTING: &str = r#"int printf(const char*,...);int putchar(int);
+int main(){for(int i=0;i<1024;i++)printf("0123456789ABCDEF0123456789ABCDEF0123456789ABCDEF0123456789ABCDEF");"#;
+
+fn expect_most_printed(rt: &impl Abort, alloc: Global) -> Result<(), AllocError> {
+    let file = format!(in alloc; "{PRINTING}}}")?;
+    let found = shown(alloc, file.as_str(), most())?;
+    assert!(rt; found.as_str().starts_with("lawful 0 0123456789ABCDEF0123"));
+    assert!(rt; found.len() == 9 + 65_536);
     Ok(())
 }
 
-// 1,024 times 64 bytes are the most; then a byte more is printed, on line 3.
+// A byte more is printed on line 3.
 #[test]
-fn output_is_counted(rt: HostRuntime) -> Result<(), Fail> {
-    let alloc = rt.alloc();
-    let bytes = "0123456789ABCDEF0123456789ABCDEF0123456789ABCDEF0123456789ABCDEF";
-    let file = format!(in alloc;
-        "int printf(const char*,...);int putchar(int);\nint main(){{for(int i=0;i<1024;i++)printf(\"{bytes}\");"
-    )?;
-    let most_printed = format!(in alloc; "{file}}}")?;
-    let found = shown(alloc, most_printed.as_str(), most())?;
-    assert!(rt; found.as_str().starts_with("lawful 0 0123456789ABCDEF0123"));
-    assert_eq!(rt; found.len(), 9 + 65_536);
-    let more = format!(in alloc; "{file}\nputchar(65);}}")?;
-    let found = ruled(alloc, more.as_bytes(), most())?;
-    assert_eq!(rt; found.as_str(), "left 4 3");
-    Ok(())
+fn output_is_counted(rt: HostRuntime) -> Result<(), AllocError> {
+    expect_most_printed(&rt, rt.alloc())?;
+    let more = format!(in rt.alloc(); "{PRINTING}\nputchar(65);}}")?;
+    expect_ruled(&rt, rt.alloc(), more.as_str(), "left 4 3")
 }

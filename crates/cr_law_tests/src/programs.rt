@@ -1,10 +1,11 @@
 // Programs: one with all kinds of declarations, its prefixes, and generated ones.
-ghost use Rattle.std.specs.Prelude.{◌≤◌};
+ghost use Rattle.std.specs.Prelude.{◌<◌, ◌≤◌};
 
-use crate::shown::{most, ruled, shown};
+use crate::shown::{most, none_of, ruled, shown};
 use cr_gen::make;
-use std::alloc::Global;
+use std::alloc::{AllocError, Global};
 use std::ops::Range;
+use std::process::Abort;
 use std::test::Fail;
 
 const SAMPLE: &str = r#"# 1 "p.c"
@@ -58,29 +59,71 @@ const GENERATED: &str = "\
 ";
 
 #[test]
-fn the_sample_runs(rt: HostRuntime) -> Result<(), Fail> {
-    assert_eq!(rt; SAMPLE.len(), 407);
+fn the_sample_runs(rt: HostRuntime) -> Result<(), AllocError> {
+    assert!(rt; SAMPLE.len() == 407);
     let found = shown(rt.alloc(), SAMPLE, most())?;
-    assert_eq!(rt; found.as_str(), "lawful 0 14 6\n");
+    assert!(rt; found.as_str() == "lawful 0 14 6\n", "{found}");
     Ok(())
 }
 
-// Those that end with an external declaration or one byte behind it parse, and of these the two with all of main are lawful: the others
-// lack it, K40.
+// A prefix that ends with an external declaration or one byte behind it parses, and of these the two with all of main are lawful: the
+// others lack it, K40.
+fn is_ruled_so(end: usize, found: &str) -> bool {
+    let ends = ENDS.contains(&end) || (end > 0 && ENDS.contains(&(end - 1)));
+    let refused = found.starts_with("token") || found.starts_with("parse");
+    let lawful = found == "lawful";
+    lawful == (end >= 406) && refused != ends && (!ends || lawful || found.starts_with("type 40"))
+}
+
+fn expect_prefix(rt: &impl Abort, alloc: Global, end: usize) -> Result<(), AllocError> {
+    let text = SAMPLE.get(0..end).unwrap_or("");
+    let found = ruled(alloc, text.as_bytes(), most())?;
+    assert!(rt; is_ruled_so(end, found.as_str()), "{end}: {found}");
+    Ok(())
+}
+
 #[test]
-fn prefixes_of_the_sample(rt: HostRuntime) -> Result<(), Fail> {
-    let alloc = rt.alloc();
+fn prefixes_of_the_sample(rt: HostRuntime) -> Result<(), AllocError> {
     for end in 0..408 {
-        let text = SAMPLE.get(0..end).unwrap_or("");
-        let found = ruled(alloc, text.as_bytes(), most())?;
-        let ends = ENDS.contains(&end) || (end > 0 && ENDS.contains(&(end - 1)));
-        let lawful = found.as_str() == "lawful";
-        assert!(rt; lawful == (end >= 406), "{end}: {found}");
-        let refused = found.as_str().starts_with("token") || found.as_str().starts_with("parse");
-        assert!(rt; refused != ends, "{end}: {found}");
-        if ends && !lawful {
-            assert!(rt; found.as_str().starts_with("type 40"), "{end}: {found}");
-        }
+        expect_prefix(&rt, rt.alloc(), end)?;
+    }
+    Ok(())
+}
+
+// The number of a row's programs, and what the one of this column prints.
+fn generated(row: &str, column: usize) -> Option<(u32, &str)> {
+    let (number, printed) = row.split_once(' ')?;
+    Some((number.parse::<u32>().ok()?, printed.split(' ').nth(column)?))
+}
+
+// What a generated program comes to.
+fn made_shown(alloc: Global, number: u32, items: u32) -> Result<String, Fail>
+    requires number { number < 2147483648 }
+    requires items { (1 ≤ items) × (items ≤ 10000) }
+{
+    let text = String::from_utf8(make(alloc, number, items)?)?;
+    let found = shown(alloc, text.as_str(), most())?;
+    Ok(found)
+}
+
+// Notes a row whose program of so many items, in this column, prints something else.
+fn try_generated(
+    alloc: Global,
+    wrong: &mut String,
+    items: u32,
+    column: usize,
+    row: &str,
+) -> Result<(), Fail>
+    requires { (1 ≤ items) × (items ≤ 10000) }
+{
+    let (number, printed) = generated(row, column).ok_or("no output")?;
+    if number >= 2_147_483_648 {
+        return Err(Fail::from("no number of a program"));
+    }
+    let found = made_shown(alloc, number, items)?;
+    let wanted = format!(in alloc; "lawful 0 {printed}\n")?;
+    if found != wanted {
+        write!(wrong, "\n{found}: {items} of {row}")?;
     }
     Ok(())
 }
@@ -92,28 +135,13 @@ fn expect_generated(
     column: usize,
     rows: Range<usize>,
 ) -> Result<(), Fail>
-    requires some { 1 ≤ items }
-    requires most { items ≤ 10000 }
+    requires { (1 ≤ items) × (items ≤ 10000) }
 {
     let mut wrong = String::new(alloc);
     for row in GENERATED.lines().skip(rows.start).take(rows.len()) {
-        let (number, printed) = row.split_once(' ').ok_or("no number")?;
-        let number = number.parse::<u32>().ok().ok_or("no number")?;
-        if number >= 2_147_483_648 {
-            return Err(Fail::from("no number of a program"));
-        }
-        let printed = printed.split(' ').nth(column).ok_or("no output")?;
-        let text = String::from_utf8(make(alloc, number, items)?)?;
-        let found = shown(alloc, text.as_str(), most())?;
-        if found != format!(in alloc; "lawful 0 {printed}\n")? {
-            wrong.push_str(format!(in alloc; "\n{found}: {items} of {row}")?.as_str())?;
-        }
+        try_generated(alloc, &mut wrong, items, column, row)?;
     }
-    if wrong.is_empty() {
-        Ok(())
-    } else {
-        Err(Fail::from(wrong))
-    }
+    none_of(wrong)
 }
 
 #[test]

@@ -90,17 +90,42 @@ fn run_shown(alloc: Global, typed: &Typed, limits: Limits) -> Result<String, All
     requires { IsTyped typed.now }
 {
     match outcome(alloc, typed, limits, &mut Never { looks: 0 }) {
-        Run::Ended { status, output, .. } => {
-            let mut shown = format!(in alloc; "lawful {status}")?;
-            if !output.is_empty() {
-                shown.push(' ')?;
-            }
-            for byte in output.as_slice() {
-                shown.push(*byte as char)?;
-            }
-            Ok(shown)
-        }
+        Run::Ended { status, output, .. } => ended_shown(alloc, status, output.as_slice()),
         _ => String::from_str(alloc, "not ended"),
+    }
+}
+
+fn ended_shown(alloc: Global, status: u8, output: &[u8]) -> Result<String, AllocError> {
+    let blank = if output.is_empty() { "" } else { " " };
+    let mut shown = format!(in alloc; "lawful {status}{blank}")?;
+    for byte in output {
+        shown.push(*byte as char)?;
+    }
+    Ok(shown)
+}
+
+// Notes a file that comes to something else. Both texts are as a row shows them.
+pub(crate) fn try_file(
+    alloc: Global,
+    wrong: &mut String,
+    wanted: &str,
+    text: &str,
+) -> Result<(), AllocError> {
+    let file = plain(alloc, text)?;
+    let found = shown(alloc, file.as_str(), most())?;
+    if found == plain(alloc, wanted)? {
+        Ok(())
+    } else {
+        write!(wrong, "\n{found}: {wanted}¦{text}")
+    }
+}
+
+// The end of a test that noted what is wrong.
+pub(crate) fn none_of(wrong: String) -> Result<(), Fail> {
+    if wrong.is_empty() {
+        Ok(())
+    } else {
+        Err(Fail::from(wrong))
     }
 }
 
@@ -109,18 +134,10 @@ pub(crate) fn expect_all(alloc: Global, table: &str) -> Result<(), Fail> {
     let mut wrong = String::new(alloc);
     for row in table.lines() {
         if let Some((wanted, text)) = row.split_once('¦') {
-            let wanted = plain(alloc, wanted)?;
-            let found = shown(alloc, plain(alloc, text)?.as_str(), most())?;
-            if found != wanted {
-                wrong.push_str(format!(in alloc; "\n{found}: {row}")?.as_str())?;
-            }
+            try_file(alloc, &mut wrong, wanted, text)?;
         }
     }
-    if wrong.is_empty() {
-        Ok(())
-    } else {
-        Err(Fail::from(wrong))
-    }
+    none_of(wrong)
 }
 
 // The text that a row shows, its ends of lines as `\n` and its backslashes as `\\`.
@@ -128,13 +145,11 @@ pub(crate) fn plain(alloc: Global, text: &str) -> Result<String, AllocError> {
     let mut plain = String::new(alloc);
     let mut escaped = false;
     for c in text.chars() {
-        if escaped {
-            plain.push(if c == 'n' { '\n' } else { c })?;
-            escaped = false;
-        } else if c == '\\' {
+        if c == '\\' && !escaped {
             escaped = true;
         } else {
-            plain.push(c)?;
+            plain.push(if escaped && c == 'n' { '\n' } else { c })?;
+            escaped = false;
         }
     }
     Ok(plain)

@@ -1,3 +1,5 @@
+ghost use Rattle.std.specs.Prelude.{◌≤◌, length};
+
 use cr_cursor::{Cursor, Passes};
 use cr_passes::CPasses;
 use std::alloc::{AllocError, Global};
@@ -756,7 +758,7 @@ fn variant_of<P: Passes>(
 ) -> Result<Vec<u8>, AllocError> {
     let width = passes.width(index, at.pass, at.level);
     if at.index >= width {
-        return Ok(file.to_vec(alloc)?);
+        return file.to_vec(alloc);
     }
     let mut out = Vec::new(alloc);
     passes.variant(index, file, at, &mut out)?;
@@ -778,7 +780,7 @@ fn made<P: Passes>(
         index: number(words.next()),
     };
     if passes.width(index, at.pass, at.level) != number(words.next()) {
-        return Ok(b"another width".to_vec(alloc)?);
+        return b"another width".to_vec(alloc);
     }
     variant_of(alloc, passes, index, file, at)
 }
@@ -813,35 +815,41 @@ fn check<P: Passes>(
     file: &[u8],
     row: &str,
 ) -> Result<(), AllocError> {
-    if let Some((numbers, variant)) = row.split_once('¦') {
-        let wanted = bytes_of(alloc, variant)?;
-        let found = made(alloc, passes, index, file, numbers)?;
-        expect(rt, &found, &wanted, row);
-    }
+    let Some((numbers, variant)) = row.split_once('¦') else {
+        return Ok(());
+    };
+    let wanted = bytes_of(alloc, variant)?;
+    let found = made(alloc, passes, index, file, numbers)?;
+    expect(rt, &found, &wanted, row);
     Ok(())
 }
 
-// A file and its rows. The index is made once for all of them.
-fn check_all(rt: &impl Abort, alloc: Global, table: &str) -> Result<(), AllocError> {
+// A file's rows. The index is made once for all of them.
+fn check_rows(rt: &impl Abort, alloc: Global, file: &[u8], rows: &str) -> Result<(), AllocError>
+    requires { length file.now ≤ 1048576 }
+{
     let passes = CPasses {
         enabled: [true; 10],
         last: None,
     };
-    let mut rows = table.lines();
-    let file = bytes_of(alloc, rows.next().unwrap_or(""))?;
-    let file = &file[..file.len().min(1_048_576)];
     let index = passes.prepare(alloc, file)?;
-    for row in rows {
+    for row in rows.lines() {
         check(rt, alloc, &passes, &index, file, row)?;
     }
     Ok(())
 }
 
+// A file and its rows.
+fn check_all(rt: &impl Abort, alloc: Global, table: &str) -> Result<(), AllocError> {
+    let (shown, rows) = table.split_once('\n').unwrap_or(("", ""));
+    let file = bytes_of(alloc, shown)?;
+    check_rows(rt, alloc, &file[..file.len().min(1_048_576)], rows)
+}
+
 #[test]
 fn passes_give_the_variants_of_the_table(rt: HostRuntime) -> Result<(), AllocError> {
-    let alloc = rt.alloc();
     for table in VARIANTS.split("file¦") {
-        check_all(&rt, alloc, table)?;
+        check_all(&rt, rt.alloc(), table)?;
     }
     Ok(())
 }

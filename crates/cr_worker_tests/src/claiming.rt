@@ -1,15 +1,15 @@
-ghost use Rattle.std.specs.Prelude.{◌≡◌, ◌<◌, [], true, false, IfOk};
+ghost use Rattle.std.specs.Prelude.{◌≡◌, ◌<◌, [], true, false};
 ghost use Rattle.cr_claims.specs.View.{new_view, one_split_more};
 
 use cr_claims::{Claims, Pass};
 use cr_core::{First, HitKind, Settle};
 use std::alloc::{AllocError, Global};
-use std::test::Fail;
+use std::process::Abort;
 use std::thread;
 
 // Two workers over three positions, as in the core's own row: worker 1 hits position 1 while worker 0 is at 0.
 #[test]
-fn the_row_ends_at_the_hit(rt: HostRuntime) -> Result<(), Fail> {
+fn the_row_ends_at_the_hit(rt: HostRuntime) -> Result<(), AllocError> {
     let (claims, mut zero) = Claims::open(rt.alloc(), 3)?;
     let mut one = claims.split(&mut zero);
     let at = claims.claim(&mut zero, Settle::Nothing);
@@ -41,18 +41,17 @@ struct Worker {
 impl Worker {
     ghost use Rattle.cr_claims.specs.Pass.{view_of, len_of, IsOf};
 
-    fn new(alloc: Global, claims: &Claims, keeper: &mut Pass) -> Result<Worker, AllocError>
+    fn new(alloc: Global, claims: &Claims, keeper: &mut Pass) -> Worker
         requires of { IsOf claims.now keeper.old }
         requires keeper { ((view_of keeper.old).keeper ≡ true) × ((view_of keeper.old).splits < 4096) }
         ensures stays { IsOf claims.now keeper.new × (view_of keeper.new ≡ one_split_more (view_of keeper.old)) }
-        ensures new { IfOk result (λ w. IsOf claims.now w.pass × (view_of w.pass ≡ new_view (view_of keeper.old))) }
+        ensures new { IsOf claims.now result.pass × (view_of result.pass ≡ new_view (view_of keeper.old)) }
     {
-        let pass = claims.split(keeper);
-        Ok(Worker {
-            pass,
-            seen: Vec::with_capacity(alloc, 1000)?,
+        Worker {
+            pass: claims.split(keeper),
+            seen: Vec::new(alloc),
             starved: false,
-        })
+        }
     }
 
     // Claims and rejects positions until one is past the end.
@@ -72,25 +71,36 @@ impl Worker {
     }
 }
 
-#[test]
-fn each_position_is_claimed_once_by_four_threads(rt: HostRuntime) -> Result<(), Fail> {
-    let (claims, mut keeper) = Claims::open(rt.alloc(), 1000)?;
-    let mut workers = [
-        Worker::new(rt.alloc(), &claims, &mut keeper)?,
-        Worker::new(rt.alloc(), &claims, &mut keeper)?,
-        Worker::new(rt.alloc(), &claims, &mut keeper)?,
-        Worker::new(rt.alloc(), &claims, &mut keeper)?,
-    ];
-    thread::for_each_mut(&rt, &mut workers, 4, &|_, w| w.claim_all(&claims));
-    let mut all = Vec::with_capacity(rt.alloc(), 1000)?;
-    for worker in &workers {
+// What the workers claimed, in order.
+fn seen_by(rt: &impl Abort, alloc: Global, workers: &[Worker]) -> Result<Vec<u64>, AllocError> {
+    let mut all = Vec::new(alloc);
+    for worker in workers {
         assert!(rt; !worker.starved);
         all.extend_from_slice(worker.seen.as_slice())?;
     }
     all.sort()?;
+    Ok(all)
+}
+
+fn expect_each_once(rt: &impl Abort, alloc: Global, workers: &[Worker]) -> Result<(), AllocError> {
+    let all = seen_by(rt, alloc, workers)?;
     assert!(rt; all.len() == 1000);
     for (i, at) in all.iter().enumerate() {
         assert!(rt; *at == i as u64);
     }
     Ok(())
+}
+
+#[test]
+fn each_position_is_claimed_once_by_four_threads(rt: HostRuntime) -> Result<(), AllocError> {
+    let alloc = rt.alloc();
+    let (claims, mut keeper) = Claims::open(alloc, 1000)?;
+    let mut workers = [
+        Worker::new(alloc, &claims, &mut keeper),
+        Worker::new(alloc, &claims, &mut keeper),
+        Worker::new(alloc, &claims, &mut keeper),
+        Worker::new(alloc, &claims, &mut keeper),
+    ];
+    thread::for_each_mut(&rt, &mut workers, 4, &|_, w| w.claim_all(&claims));
+    expect_each_once(&rt, alloc, &workers)
 }

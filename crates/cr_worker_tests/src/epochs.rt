@@ -1,8 +1,8 @@
 // Epochs of a lines pass over three lines. From position 13 on its variants are the last line, the first two, the last two, the outer
 // two, and the first two once more.
-ghost use Rattle.std.specs.Prelude.{◌≡◌, ◌≤◌, IfOk, None, length};
-ghost use Rattle.cr_pool.specs.Bench.{IsManned};
+ghost use Rattle.std.specs.Prelude.{◌≡◌, ◌<◌, ◌≤◌, [], IfOk, None, length};
 ghost use Rattle.cr_pool.specs.Jobs.{IsPlaced};
+ghost use Rattle.cr_pool.specs.Sizes.{HasSize};
 
 use cr_cursor::{Law, NoMemory, Passes, Reason, Ruling, Stop, TokenLaw, positions};
 use cr_outside::{Answer, Judge, Test};
@@ -11,7 +11,6 @@ use cr_pool::{Bench, EpochEnd, Job, measure};
 use std::alloc::Global;
 use std::process::Abort;
 use std::sync::atomic::{AtomicU64, Ordering};
-use std::test::Fail;
 use std::thread;
 use std::thread::Threads;
 
@@ -23,27 +22,47 @@ const FIRST_TWO: &[u8] = b"int a;\nint b;\n";
 
 const LAST_TWO: &[u8] = b"int b;\nint c;\n";
 
-// The end of the epoch of `len` positions from 13 on, by all of these judges.
-fn epoch<R: Threads + Abort + Sync, L: Law + Sync, J: Judge + Send + Drop>(
+/// The size of a file, which has one.
+pub(crate) fn size_of(rt: &impl Abort, alloc: Global, file: &[u8]) -> Result<u64, NoMemory>
+    ensures { IfOk result (λ size. HasSize file.now size) }
+{
+    match measure(alloc, file)? {
+        Some(size) => Ok(size),
+        None => panic!(rt; "the lines have no size"),
+    }
+}
+
+/// Whether an epoch rejected all of its variants, which are so many.
+pub(crate) fn rejected_all(end: &EpochEnd, count: u64) -> bool {
+    match end {
+        EpochEnd::NoneOf(n) => *n == count,
+        _ => false,
+    }
+}
+
+fn has_found(end: &EpochEnd, position: u64, file: &[u8]) -> bool {
+    match end {
+        EpochEnd::Found(at, variant) => *at == position && variant.as_slice() == file,
+        _ => false,
+    }
+}
+
+// The end of the epoch of `len` positions from 13 on, by all judges of a bench that keeps nothing yet.
+fn epoch<R: Threads + Abort + Sync, L: Law + Sync, J: Judge + Send>(
     rt: &R,
     alloc: Global,
     law: &L,
-    judges: Vec<J>,
+    bench: &mut Bench<J>,
     len: u64,
 ) -> Result<EpochEnd, NoMemory>
-    requires manned { IsManned J.key judges.items }
+    requires kept { bench.old.kept ≡ [] }
     requires few { len ≤ 5 }
 {
+    let size = size_of(rt, alloc, LINES)?;
+    let question = Test::Program(String::from_str(alloc, "t")?);
     let passes = CPasses::lines();
     let prep = passes.prepare(alloc, LINES)?;
-    let question = Test::Program(String::from_str(alloc, "t")?);
     assert!(rt; positions(&passes, &prep) == 18);
-    let size = match measure(alloc, LINES)? {
-        Some(size) => size,
-        None => panic!(rt; "the lines have no size"),
-    };
-    let workers = judges.len() as u32;
-    let mut bench = Bench::new(alloc, judges)?;
     let job = Job {
         passes: &passes,
         prep: &prep,
@@ -54,7 +73,7 @@ fn epoch<R: Threads + Abort + Sync, L: Law + Sync, J: Judge + Send + Drop>(
         size,
         start: 13,
         len,
-        workers,
+        workers: bench.workers(),
     };
     Ok(bench.epoch(rt, alloc, &job))
 }
@@ -100,23 +119,34 @@ impl<'a> Judge for Meeting<'a> {
     }
 }
 
+fn meeting_bench<'a>(
+    alloc: Global,
+    begun: &'a AtomicU64,
+    missed: &'a AtomicU64,
+) -> Result<Bench<Meeting<'a>>, NoMemory>
+    ensures { IfOk result (λ bench. bench.kept ≡ []) }
+{
+    let mut judges = Vec::new(alloc);
+    judges.push(Meeting {
+        begun,
+        missed,
+        asked: 0,
+    })?;
+    judges.push(Meeting {
+        begun,
+        missed,
+        asked: 0,
+    })?;
+    Bench::new(alloc, judges)
+}
+
 #[test]
-fn trials_run_at_once(rt: HostRuntime) -> Result<(), Fail> {
+fn trials_run_at_once(rt: HostRuntime) -> Result<(), NoMemory> {
     let begun = AtomicU64::new(0);
     let missed = AtomicU64::new(0);
-    let mut judges = Vec::with_capacity(rt.alloc(), 2)?;
-    judges.push(Meeting {
-        begun: &begun,
-        missed: &missed,
-        asked: 0,
-    })?;
-    judges.push(Meeting {
-        begun: &begun,
-        missed: &missed,
-        asked: 0,
-    })?;
-    let end = epoch(&rt, rt.alloc(), &TokenLaw, judges, 5)?;
-    assert!(rt; end == EpochEnd::NoneOf(5));
+    let mut bench = meeting_bench(rt.alloc(), &begun, &missed)?;
+    let end = epoch(&rt, rt.alloc(), &TokenLaw, &mut bench, 5)?;
+    assert!(rt; rejected_all(&end, 5));
     assert!(rt; missed.load(Ordering::SeqCst) == 0);
     Ok(())
 }
@@ -180,34 +210,27 @@ impl<'a> Judge for Following<'a> {
     }
 }
 
-fn waiting_epoch<R: Threads + Abort + Sync>(
-    rt: &R,
-    alloc: Global,
-    flag: &AtomicU64,
-    stopped: &AtomicU64,
-) -> Result<EpochEnd, NoMemory> {
-    let mut judges = Vec::with_capacity(alloc, 2)?;
+fn following_bench<'a>(alloc: Global, flag: &'a AtomicU64) -> Result<Bench<Following<'a>>, NoMemory>
+    ensures { IfOk result (λ bench. bench.kept ≡ []) }
+{
+    let mut judges = Vec::new(alloc);
     judges.push(Following { flag, asked: 0 })?;
     judges.push(Following { flag, asked: 0 })?;
-    epoch(
-        rt,
-        alloc,
-        &Waiting {
-            unlawful: FIRST_TWO,
-            flag,
-            stopped,
-        },
-        judges,
-        2,
-    )
+    Bench::new(alloc, judges)
 }
 
 #[test]
-fn a_law_is_told_of_a_lower_hit(rt: HostRuntime) -> Result<(), Fail> {
+fn a_law_is_told_of_a_lower_hit(rt: HostRuntime) -> Result<(), NoMemory> {
     let flag = AtomicU64::new(0);
     let stopped = AtomicU64::new(0);
-    let end = waiting_epoch(&rt, rt.alloc(), &flag, &stopped)?;
-    assert!(rt; end == EpochEnd::Found(13, LAST.to_vec(rt.alloc())?));
+    let law = Waiting {
+        unlawful: FIRST_TWO,
+        flag: &flag,
+        stopped: &stopped,
+    };
+    let mut bench = following_bench(rt.alloc(), &flag)?;
+    let end = epoch(&rt, rt.alloc(), &law, &mut bench, 2)?;
+    assert!(rt; has_found(&end, 13, LAST));
     assert!(rt; stopped.load(Ordering::SeqCst) == 1);
     Ok(())
 }
@@ -345,7 +368,7 @@ fn judges_of(alloc: Global, says: Said, seed: u64, count: u64) -> Result<Vec<Cha
     requires { count ≤ 32 }
     ensures { IfOk result (λ judges. length judges.items ≡ count) }
 {
-    let mut judges = Vec::with_capacity(alloc, 32)?;
+    let mut judges = Vec::new(alloc);
     for worker in 0..count {
         judges.push(Chance {
             says,
@@ -357,30 +380,55 @@ fn judges_of(alloc: Global, says: Said, seed: u64, count: u64) -> Result<Vec<Cha
     Ok(judges)
 }
 
-#[test]
-fn an_epoch_ends_by_the_first_position_not_rejected(rt: HostRuntime) -> Result<(), Fail> {
-    for row in ROWS.lines() {
-        let letters = row.as_bytes();
-        let at = row
-            .split_whitespace()
-            .nth(1)
-            .unwrap_or("")
-            .parse()
-            .unwrap_or(0);
-        for count in [1, 2, 3] {
-            let judges = judges_of(rt.alloc(), said_by(letters), 0, count)?;
-            let end = epoch(&rt, rt.alloc(), &TokenLaw, judges, 5)?;
-            assert!(rt;
-                ends_so(&end, (at, answer_for(letters.last()))),
-                "{row} by {count}"
-            );
-        }
+fn bench_of(alloc: Global, says: Said, seed: u64, count: u64) -> Result<Bench<Chance>, NoMemory>
+    requires { (0 < count) × (count ≤ 32) }
+    ensures { IfOk result (λ bench. bench.kept ≡ []) }
+{
+    let judges = judges_of(alloc, says, seed, count)?;
+    Bench::new(alloc, judges)
+}
+
+// Whether the epoch of all five positions by so many judges ends as is wanted.
+fn ends_by(
+    rt: &(impl Threads + Abort + Sync),
+    alloc: Global,
+    says: Said,
+    seed: u64,
+    count: u64,
+    wanted: (u64, Answer),
+) -> Result<bool, NoMemory>
+    requires { (0 < count) × (count ≤ 32) }
+{
+    let mut bench = bench_of(alloc, says, seed, count)?;
+    let end = epoch(rt, alloc, &TokenLaw, &mut bench, 5)?;
+    Ok(ends_so(&end, wanted))
+}
+
+fn expect_row(
+    rt: &(impl Threads + Abort + Sync),
+    alloc: Global,
+    row: &str,
+) -> Result<(), NoMemory> {
+    let letters = row.as_bytes();
+    let at = row.split_whitespace().nth(1).unwrap_or("").parse();
+    let wanted = (at.unwrap_or(0), answer_for(letters.last()));
+    for count in [1, 2, 3] {
+        let so = ends_by(rt, alloc, said_by(letters), 0, count, wanted)?;
+        assert!(rt; so, "{row} by {count}");
     }
     Ok(())
 }
 
 #[test]
-fn a_thousand_epochs_end_as_in_order(rt: HostRuntime) -> Result<(), Fail> {
+fn an_epoch_ends_by_the_first_position_not_rejected(rt: HostRuntime) -> Result<(), NoMemory> {
+    for row in ROWS.lines() {
+        expect_row(&rt, rt.alloc(), row)?;
+    }
+    Ok(())
+}
+
+#[test]
+fn a_thousand_epochs_end_as_in_order(rt: HostRuntime) -> Result<(), NoMemory> {
     let mut seed: u64 = 30;
     for turn in 0..1000 {
         seed = seed
@@ -393,12 +441,8 @@ fn a_thousand_epochs_end_as_in_order(rt: HostRuntime) -> Result<(), Fail> {
             3 => 8,
             _ => 32,
         };
-        let judges = judges_of(rt.alloc(), drawn_by(seed), seed, count)?;
-        let end = epoch(&rt, rt.alloc(), &TokenLaw, judges, 5)?;
-        assert!(rt;
-            ends_so(&end, in_order(seed)),
-            "epoch {turn} of seed {seed}"
-        );
+        let so = ends_by(&rt, rt.alloc(), drawn_by(seed), seed, count, in_order(seed))?;
+        assert!(rt; so, "epoch {turn} of seed {seed}");
     }
     Ok(())
 }

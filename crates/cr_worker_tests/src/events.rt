@@ -1,7 +1,6 @@
 use cr_core::{Core, Entry, Event, First, HitKind, Mark, NoMemory, Settle, run};
 use std::alloc::Global;
 use std::process::Abort;
-use std::test::Fail;
 
 fn entry(position: u64, mark: Mark) -> Entry {
     Entry { position, mark }
@@ -39,7 +38,7 @@ fn after(alloc: Global, count: usize) -> Result<Core, NoMemory> {
 }
 
 #[test]
-fn the_row_ends_at_the_hit(rt: HostRuntime) -> Result<(), Fail> {
+fn the_row_ends_at_the_hit(rt: HostRuntime) -> Result<(), NoMemory> {
     let core = run(rt.alloc(), 3, 2, &ROW)?;
     assert!(rt; (core.next, core.least) == (3, 4));
     assert!(rt; core.lists.len() == 2);
@@ -54,25 +53,36 @@ fn the_row_ends_at_the_hit(rt: HostRuntime) -> Result<(), Fail> {
     Ok(())
 }
 
+// The core after so many events of the row and this one, which is allowed or isn't.
+fn stepped(
+    rt: &impl Abort,
+    alloc: Global,
+    count: usize,
+    event: Event,
+    wanted: bool,
+) -> Result<Core, NoMemory> {
+    let mut core = after(alloc, count)?;
+    expect_step(rt, &mut core, event, wanted)?;
+    Ok(core)
+}
+
 #[test]
-fn each_event_of_the_row_is_allowed(rt: HostRuntime) -> Result<(), Fail> {
+fn each_event_of_the_row_is_allowed(rt: HostRuntime) -> Result<(), NoMemory> {
     for n in 0..ROW.len() {
-        let mut core = after(rt.alloc(), n)?;
-        expect_step(&rt, &mut core, ROW[n], true)?;
+        stepped(&rt, rt.alloc(), n, ROW[n], true)?;
     }
     Ok(())
 }
 
 #[test]
-fn what_is_not_allowed_changes_nothing(rt: HostRuntime) -> Result<(), Fail> {
+fn what_is_not_allowed_changes_nothing(rt: HostRuntime) -> Result<(), NoMemory> {
     for event in [
         Event::Claim(0, Settle::Skipped),
         Event::Leave(1, Settle::Nothing),
         Event::Look(1),
         Event::Look(2),
     ] {
-        let mut core = after(rt.alloc(), 1)?;
-        expect_step(&rt, &mut core, event, false)?;
+        let core = stepped(&rt, rt.alloc(), 1, event, false)?;
         assert!(rt; (core.next, core.least, core.lists.len()) == (1, 15, 2));
         expect_list(&rt, &core, 0, &[entry(0, Mark::Open)]);
         expect_list(&rt, &core, 1, &[]);
@@ -81,9 +91,9 @@ fn what_is_not_allowed_changes_nothing(rt: HostRuntime) -> Result<(), Fail> {
 }
 
 #[test]
-fn a_later_hit_leaves_the_least(rt: HostRuntime) -> Result<(), Fail> {
-    let mut core = after(rt.alloc(), 4)?;
-    expect_step(&rt, &mut core, Event::Hit(0, HitKind::Failed), true)?;
+fn a_later_hit_leaves_the_least(rt: HostRuntime) -> Result<(), NoMemory> {
+    let hit = Event::Hit(0, HitKind::Failed);
+    let core = stepped(&rt, rt.alloc(), 4, hit, true)?;
     assert!(rt; core.least == 4);
     Ok(())
 }

@@ -1,14 +1,14 @@
 // How much a bench keeps: 256 verdicts, each on a file of at most 65,536 bytes. So the files are 16 MiB together at most.
-ghost use Rattle.std.specs.Prelude.{◌≡◌, ◌<◌, ◌≤◌, None};
+ghost use Rattle.std.specs.Prelude.{◌≡◌, ◌<◌, ◌≤◌, [], IfOk, None, length};
 
+use crate::epochs::{rejected_all, size_of};
 use cr_cursor::{Law, NoMemory, Passes, Ruling, Stop, positions};
 use cr_outside::{Answer, Judge, Test};
 use cr_passes::CPasses;
-use cr_pool::{Bench, EpochEnd, Job, measure};
+use cr_pool::{Bench, Job};
 use std::alloc::Global;
 use std::process::Abort;
 use std::sync::atomic::{AtomicU64, Ordering};
-use std::test::Fail;
 use std::thread::Threads;
 
 // Says no, and counts its calls.
@@ -51,6 +51,15 @@ impl Law for Anything {
     }
 }
 
+fn bench_of(alloc: Global, calls: &AtomicU64) -> Result<Bench<Refusing<'_>>, NoMemory>
+    ensures some { IfOk result (λ bench. 0 < length bench.judges) }
+    ensures kept { IfOk result (λ bench. bench.kept ≡ []) }
+{
+    let mut judges = Vec::new(alloc);
+    judges.push(Refusing { calls, asked: 0 })?;
+    Bench::new(alloc, judges)
+}
+
 // How many calls were made after an epoch of the variants that lack one of the last lines, and after another one of the first of them.
 fn asked_twice<R: Threads + Abort + Sync>(
     rt: &R,
@@ -61,23 +70,15 @@ fn asked_twice<R: Threads + Abort + Sync>(
 ) -> Result<(u64, u64), NoMemory>
     requires { (again ≤ lines) × (lines ≤ 4096) }
 {
-    let calls = AtomicU64::new(0);
-    let mut judges = Vec::with_capacity(alloc, 1)?;
-    judges.push(Refusing {
-        calls: &calls,
-        asked: 0,
-    })?;
-    let mut bench = Bench::new(alloc, judges)?;
     assert!(rt; file.len() <= 1_048_576);
+    let size = size_of(rt, alloc, file)?;
+    let question = Test::Program(String::from_str(alloc, "t")?);
     let passes = CPasses::lines();
     let prep = passes.prepare(alloc, file)?;
-    let question = Test::Program(String::from_str(alloc, "t")?);
     let count = positions(&passes, &prep);
     assert!(rt; lines <= count);
-    let size = match measure(alloc, file)? {
-        Some(size) => size,
-        None => panic!(rt; "the lines have no size"),
-    };
+    let calls = AtomicU64::new(0);
+    let mut bench = bench_of(alloc, &calls)?;
     let mut job = Job {
         passes: &passes,
         prep: &prep,
@@ -94,14 +95,18 @@ fn asked_twice<R: Threads + Abort + Sync>(
     let asked = calls.load(Ordering::SeqCst);
     job.len = again;
     let second = bench.epoch(rt, alloc, &job);
-    assert!(rt; first == EpochEnd::NoneOf(lines) && second == EpochEnd::NoneOf(again));
+    assert!(rt; rejected_all(&first, lines) && rejected_all(&second, again));
     Ok((asked, calls.load(Ordering::SeqCst)))
+}
+
+fn push_front(alloc: Global, file: &mut Vec<u8>, number: u64) -> Result<(), NoMemory> {
+    let front = format!(in alloc; "int a{number};/*")?;
+    file.extend_from_slice(front.as_bytes())
 }
 
 // One line more, of so many bytes, with this number.
 fn push_line(alloc: Global, file: &mut Vec<u8>, number: u64, bytes: u64) -> Result<(), NoMemory> {
-    let front = format!(in alloc; "int a{number};/*")?;
-    file.extend_from_slice(front.as_bytes())?;
+    push_front(alloc, file, number)?;
     for _ in 15..bytes {
         file.push(b'x')?;
     }
@@ -128,34 +133,26 @@ fn expect_calls<R: Threads + Abort + Sync>(
     requires { (asked.1 ≤ asked.0) × (asked.0 ≤ 4096) }
 {
     let seen = asked_twice(rt, alloc, file, asked.0, asked.1)?;
-    assert!(rt;
-        seen.0 == wanted.0 && seen.1 == wanted.1,
-        "{} {}",
-        seen.0,
-        seen.1
-    );
+    assert!(rt; seen == wanted, "{} {}", seen.0, seen.1);
     Ok(())
 }
 
 // So the files that are kept are 16 MiB together.
 #[test]
-fn of_256_files_of_65536_bytes_each_is_kept(rt: HostRuntime) -> Result<(), Fail> {
+fn of_256_files_of_65536_bytes_each_is_kept(rt: HostRuntime) -> Result<(), NoMemory> {
     let file = lines(rt.alloc(), 5097, 16)?;
     assert!(rt; file.len() == 65_552);
-    expect_calls(&rt, rt.alloc(), &file, (256, 256), (256, 256))?;
-    Ok(())
+    expect_calls(&rt, rt.alloc(), &file, (256, 256), (256, 256))
 }
 
 #[test]
-fn of_257_files_the_first_is_forgotten(rt: HostRuntime) -> Result<(), Fail> {
+fn of_257_files_the_first_is_forgotten(rt: HostRuntime) -> Result<(), NoMemory> {
     let file = lines(rt.alloc(), 1257, 16)?;
-    expect_calls(&rt, rt.alloc(), &file, (257, 2), (257, 258))?;
-    Ok(())
+    expect_calls(&rt, rt.alloc(), &file, (257, 2), (257, 258))
 }
 
 #[test]
-fn a_longer_file_is_not_kept(rt: HostRuntime) -> Result<(), Fail> {
+fn a_longer_file_is_not_kept(rt: HostRuntime) -> Result<(), NoMemory> {
     let file = lines(rt.alloc(), 1003, 32_769)?;
-    expect_calls(&rt, rt.alloc(), &file, (3, 2), (3, 5))?;
-    Ok(())
+    expect_calls(&rt, rt.alloc(), &file, (3, 2), (3, 5))
 }
