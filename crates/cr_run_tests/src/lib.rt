@@ -5,6 +5,8 @@
 #![tactic(auto)]
 
 #[cfg(test)]
+mod outcomes;
+#[cfg(test)]
 mod programs;
 #[cfg(test)]
 mod reductions;

@@ -1,8 +1,6 @@
 // Reductions of small programs by all passes, and by those that read C. What is wanted was found by another reading of the rules.
-use crate::rehearsed::Rehearsed;
+use crate::outcomes::{Outcome, silent_outcome, words_of};
 use crate::tables::bytes_of;
-use crate::workers::{Outcome, outcome, words_of};
-use cr_pool::Bench;
 use std::alloc::{AllocError, Global};
 use std::process::Abort;
 use std::thread::Threads;
@@ -67,24 +65,26 @@ file¦long long b=1ll<<40;int main(){const int c=2;return (b>>39)-c|c^c&~c;}
 7¦--steps 1000 --limit 40 has:main t.c¦t.c size 390 to 130 accepted 2 turns 40 limit␊¦int main(){const int c=2;}¦t 0 18 221 34␊t 1 0 130 35␊end limit 130 40␊
 "#;
 
-// A bench of judges who fail if they are asked at all.
-fn silent_bench(alloc: Global) -> Result<Bench<Rehearsed>, AllocError> {
-    let mut judges = Vec::new(alloc);
-    judges.push(Rehearsed::new("", "", Vec::new(alloc)))?;
-    judges.push(Rehearsed::new("", "", Vec::new(alloc)))?;
-    judges.push(Rehearsed::new("", "", Vec::new(alloc)))?;
-    Bench::new(alloc, judges)
+// The copy of the file, and its log, where a row tells one: else nothing is written.
+fn written(
+    alloc: Global,
+    file: &[u8],
+    log: Option<&str>,
+) -> Result<(Option<Vec<u8>>, Option<Vec<u8>>), AllocError> {
+    let Some(log) = log else {
+        return Ok((None, None));
+    };
+    let log = bytes_of(alloc, log)?;
+    let copy = file.to_vec(alloc)?;
+    Ok((Some(copy), Some(log)))
 }
 
-// What a row tells behind its words. Where it has no log, nothing is written.
+// What a row tells behind its words.
 fn told(alloc: Global, file: &[u8], status: &str, rest: &str) -> Result<Outcome, AllocError> {
     let mut cells = rest.split('¦');
     let line = bytes_of(alloc, cells.next().unwrap_or(""))?;
     let after = bytes_of(alloc, cells.next().unwrap_or(""))?;
-    let (copy, log) = match cells.next() {
-        Some(log) => (Some(file.to_vec(alloc)?), Some(bytes_of(alloc, log)?)),
-        None => (None, None),
-    };
+    let (copy, log) = written(alloc, file, cells.next())?;
     Ok((status.parse().unwrap_or(99), line, Some(after), copy, log))
 }
 
@@ -98,15 +98,30 @@ fn expect_row(
 ) -> Result<(), AllocError> {
     let (status, behind) = row.split_once('¦').unwrap_or(("", ""));
     let (text, rest) = behind.split_once('¦').unwrap_or(("", ""));
-    let wanted = told(alloc, file, status, rest)?;
-    let mut bench = silent_bench(alloc)?;
     let words = words_of(alloc, workers, window, text)?;
-    let found = outcome(rt, alloc, &words, file, &mut bench)?;
+    let wanted = told(alloc, file, status, rest)?;
+    let found = silent_outcome(rt, alloc, &words, file)?;
     assert!(rt; found == wanted, "{row}");
     Ok(())
 }
 
-// All rows, by so many workers and positions at a time.
+// A file and its rows.
+fn expect_table(
+    rt: &(impl Abort + Threads + Sync),
+    alloc: Global,
+    workers: u64,
+    window: u64,
+    table: &str,
+) -> Result<(), AllocError> {
+    let mut rows = table.lines();
+    let file = bytes_of(alloc, rows.next().unwrap_or(""))?;
+    for row in rows {
+        expect_row(rt, alloc, workers, window, &file, row)?;
+    }
+    Ok(())
+}
+
+// All files, by so many workers and positions at a time.
 fn expect_all(
     rt: &(impl Abort + Threads + Sync),
     alloc: Global,
@@ -114,11 +129,7 @@ fn expect_all(
     window: u64,
 ) -> Result<(), AllocError> {
     for table in REDUCTIONS.split("file¦") {
-        let mut rows = table.lines();
-        let file = bytes_of(alloc, rows.next().unwrap_or(""))?;
-        for row in rows {
-            expect_row(rt, alloc, workers, window, &file, row)?;
-        }
+        expect_table(rt, alloc, workers, window, table)?;
     }
     Ok(())
 }

@@ -1,16 +1,16 @@
 // Reductions by the lines pass. What is wanted was found by hand from the rules of the pass and of the reduction.
-ghost use Rattle.std.specs.Prelude.{◌≡◌, ◌<◌, ◌≤◌, [], IfOk, length};
+ghost use Rattle.std.specs.Prelude.{◌≡◌, ◌<◌, ◌≤◌, [], length};
 
-use crate::rehearsed::Knowing;
-use crate::tables::{Case, cases, tell};
-use cr_cursor::TokenLaw;
-use cr_outside::Test;
+use crate::rehearsed::knowing_bench;
+use crate::tables::{Case, tell};
+use cr_cursor::{Passes, TokenLaw};
+use cr_outside::{Judge, Test};
 use cr_passes::CPasses;
 use cr_pool::Bench;
 use cr_reduce::{End, Plan, Why, reduce};
 use cr_tokens::read;
 use std::alloc::{AllocError, Global};
-use std::test::Fail;
+use std::process::Abort;
 use std::thread::Threads;
 
 /// What a case's judge says of files stands in its calls. What is wanted: each acceptance by pass, level, index, size and turn,
@@ -78,31 +78,48 @@ after int c;
 ";
 
 /// How a reduction ended, but for its file.
-pub(crate) fn told(alloc: Global, end: &End) -> Result<String, Fail> {
+pub(crate) fn told(alloc: Global, end: &End) -> Result<String, AllocError> {
     let mut told = String::new(alloc);
     tell(&mut told, end.accepted.as_slice())?;
     write!(told, "{} ", end.turns)?;
-    match end.why {
-        Why::Fixed => write!(told, "fixed")?,
-        Why::Limit => write!(told, "limit")?,
-        Why::Fault(turn, worker) => write!(told, "fault {turn} {worker}")?,
-        Why::NoMemory => write!(told, "no memory")?,
-    }
+    tell_why(&mut told, end.why)?;
     Ok(told)
 }
 
-// A bench of one judge who knows what the case's calls tell.
-fn bench_of(alloc: Global, case: &Case) -> Result<Bench<Knowing>, AllocError>
-    ensures some { IfOk result (λ bench. 0 < length bench.judges) }
-    ensures kept { IfOk result (λ bench. bench.kept ≡ []) }
+fn tell_why(told: &mut String, why: Why) -> Result<(), AllocError> {
+    match why {
+        Why::Fixed => write!(told, "fixed"),
+        Why::Limit => write!(told, "limit"),
+        Why::Fault(turn, worker) => write!(told, "fault {turn} {worker}"),
+        Why::NoMemory => write!(told, "no memory"),
+    }
+}
+
+/// How a reduction ends by a bench that keeps nothing yet, where the file tokenises.
+pub(crate) fn end_of<P: Passes + Sync, J: Judge + Send>(
+    rt: &(impl Threads + Sync),
+    alloc: Global,
+    passes: &P,
+    test: &Test,
+    bench: &mut Bench<J>,
+    file: Vec<u8>,
+    plan: &Plan,
+) -> Option<End>
+where
+    P::Prep: Sync,
+    requires workers { (0 < plan.now.workers) × (plan.now.workers ≤ length bench.old.judges) }
+    requires window { (0 < plan.now.window) × (plan.now.window ≤ 4096) }
+    requires kept { bench.old.kept ≡ [] }
 {
-    let mut judges = Vec::new(alloc);
-    judges.push(Knowing::new(case.calls(alloc)?))?;
-    Bench::new(alloc, judges)
+    let Ok(_tokens) = read(alloc, &file) else {
+        return None;
+    };
+    let end = reduce(rt, alloc, passes, &TokenLaw, test, bench, "t.c", file, plan);
+    Some(end)
 }
 
 // The end of a case's reduction, where its file tokenises and the test is one.
-fn end_of(
+fn case_end(
     rt: &(impl Threads + Sync),
     alloc: Global,
     case: &Case,
@@ -113,28 +130,25 @@ fn end_of(
     let Ok(test) = Test::read(alloc, case.told("test")) else {
         return Ok(None);
     };
-    let mut bench = bench_of(alloc, case)?;
     let file = case.before(alloc)?;
-    let Ok(_tokens) = read(alloc, &file) else {
-        return Ok(None);
-    };
+    let mut bench = knowing_bench(alloc, case, 1)?;
     let plan = Plan {
         workers: 1,
         window,
         limit: case.told("limit").parse().ok(),
     };
-    let end = reduce(
-        rt,
-        alloc,
-        &CPasses::lines(),
-        &TokenLaw,
-        &test,
-        &mut bench,
-        "abc.c",
-        file,
-        &plan,
-    );
-    Ok(Some(end))
+    let passes = CPasses::lines();
+    Ok(end_of(rt, alloc, &passes, &test, &mut bench, file, &plan))
+}
+
+// Whether a case tells this end.
+fn tells_end(alloc: Global, case: &Case, end: &End) -> Result<bool, AllocError> {
+    let found = told(alloc, end)?;
+    if found.as_str() == case.told("end") {
+        case.tells(alloc, "after", &end.file)
+    } else {
+        Ok(false)
+    }
 }
 
 fn ends_so(
@@ -142,24 +156,31 @@ fn ends_so(
     alloc: Global,
     case: &Case,
     window: u32,
-) -> Result<bool, Fail>
+) -> Result<bool, AllocError>
     requires { (0 < window) × (window ≤ 4096) }
 {
-    let Some(end) = end_of(rt, alloc, case, window)? else {
-        return Ok(false);
-    };
-    let found = told(alloc, &end)?;
-    Ok(found.as_str() == case.told("end") && end.file == case.bytes(alloc, "after")?)
+    match case_end(rt, alloc, case, window)? {
+        Some(end) => tells_end(alloc, case, &end),
+        None => Ok(false),
+    }
+}
+
+fn expect_end(
+    rt: &(impl Abort + Threads + Sync),
+    alloc: Global,
+    case: &Case,
+) -> Result<(), AllocError> {
+    let so = ends_so(rt, alloc, case, 1)?
+        && ends_so(rt, alloc, case, 8)?
+        && ends_so(rt, alloc, case, 256)?;
+    assert!(rt; so, "{}", case.told("what"));
+    Ok(())
 }
 
 #[test]
-fn small_files_are_reduced_by_their_tests(rt: HostRuntime) -> Result<(), Fail> {
-    let alloc = rt.alloc();
-    for case in cases(alloc, CASES)? {
-        let so = ends_so(&rt, alloc, &case, 1)?
-            && ends_so(&rt, alloc, &case, 8)?
-            && ends_so(&rt, alloc, &case, 256)?;
-        assert!(rt; so, "{}", case.told("what"));
+fn small_files_are_reduced_by_their_tests(rt: HostRuntime) -> Result<(), AllocError> {
+    for own in CASES.split("\n\n") {
+        expect_end(&rt, rt.alloc(), &Case::of(CASES, own))?;
     }
     Ok(())
 }

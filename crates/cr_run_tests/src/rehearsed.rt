@@ -1,10 +1,11 @@
-// Judges for tests.
-ghost use Rattle.std.specs.Prelude.{◌≡◌, ◌≤◌, None};
+// Judges for tests, and benches of them.
+ghost use Rattle.std.specs.Prelude.{◌≡◌, ◌<◌, ◌≤◌, [], IfOk, None, length};
 ghost use Rattle.cr_outside.specs.Faults.{Rose};
 
-use crate::tables::Calls;
+use crate::tables::{Calls, Case};
 use cr_outside::{Answer, Judge};
-use std::alloc::Global;
+use cr_pool::Bench;
+use std::alloc::{AllocError, Global};
 
 /// A judge that knows beforehand what it will be asked: by this test, about files of this name, in this order. It fails
 /// at any other call. It tells nothing, since it may answer differently about one file.
@@ -29,6 +30,11 @@ impl Rehearsed {
             asked: 0,
             faults: 0,
         }
+    }
+
+    /// A judge that fails if it is asked at all.
+    pub(crate) fn silent(alloc: Global) -> Rehearsed {
+        Rehearsed::new("", "", Vec::new(alloc))
     }
 
     // What is answered to this call, if it was awaited.
@@ -137,4 +143,32 @@ impl Judge for Knowing {
         }
         answer
     }
+}
+
+/// A bench of so many judges, who fail if they are asked at all.
+pub(crate) fn silent_bench(alloc: Global, count: u64) -> Result<Bench<Rehearsed>, AllocError>
+    requires { (0 < count) × (count ≤ 32) }
+{
+    let mut judges = Vec::new(alloc);
+    for _ in 0..count {
+        judges.push(Rehearsed::silent(alloc))?;
+    }
+    Bench::new(alloc, judges)
+}
+
+/// A bench of so many judges, who know what the case's calls tell.
+pub(crate) fn knowing_bench(
+    alloc: Global,
+    case: &Case,
+    count: u64,
+) -> Result<Bench<Knowing>, AllocError>
+    requires { (0 < count) × (count ≤ 32) }
+    ensures count { IfOk result (λ bench. length bench.judges ≡ count) }
+    ensures kept { IfOk result (λ bench. bench.kept ≡ []) }
+{
+    let mut judges = Vec::new(alloc);
+    for _ in 0..count {
+        judges.push(Knowing::new(case.calls(alloc)?))?;
+    }
+    Bench::new(alloc, judges)
 }

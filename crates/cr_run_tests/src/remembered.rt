@@ -4,16 +4,15 @@ ghost use Rattle.std.specs.Prelude.{◌≡◌, ◌<◌, ◌≤◌, [], IfOk, Non
 ghost use Rattle.cr_passes.specs.OfferLaws.{few_variants, no_level, no_pass, one_offer};
 ghost use Rattle.cr_passes.specs.Offers.{Offers, offer_of};
 
-use crate::reductions::told;
-use cr_cursor::{Cursor, NoMemory, Passes, TokenLaw};
+use crate::reductions::{end_of, told};
+use cr_cursor::{Cursor, NoMemory, Passes};
 use cr_outside::{Answer, Judge, Test};
 use cr_passes::{CPasses, Index};
 use cr_pool::Bench;
-use cr_reduce::{Plan, reduce};
-use cr_tokens::read;
+use cr_reduce::Plan;
 use std::alloc::{AllocError, Global};
+use std::process::Abort;
 use std::sync::atomic::{AtomicU64, Ordering};
-use std::test::Fail;
 use std::thread::Threads;
 
 const THREE: &[u8] = b"int a;\nint b;\nint c;\n";
@@ -108,57 +107,66 @@ fn bench_of(alloc: Global, calls: &AtomicU64) -> Result<Bench<Counted<'_>>, Allo
     Bench::new(alloc, judges)
 }
 
-// How the reduction of the three lines ends, and how many calls of the judge and of `prepare` it makes.
-fn reduced(
+// How the reduction of the three lines ends.
+fn end_told(
     rt: &(impl Threads + Sync),
     alloc: Global,
+    passes: &Counting<'_>,
+    calls: &AtomicU64,
     window: u32,
     test: &str,
-) -> Result<(String, u64, u64), Fail>
+) -> Result<String, AllocError>
     requires { (0 < window) × (window ≤ 4096) }
 {
     let Ok(test) = Test::read(alloc, test) else {
-        return Ok((String::new(alloc), 0, 0));
+        return Ok(String::new(alloc));
     };
+    let file = THREE.to_vec(alloc)?;
+    let mut bench = bench_of(alloc, calls)?;
+    let plan = Plan {
+        workers: 1,
+        window,
+        limit: None,
+    };
+    match end_of(rt, alloc, passes, &test, &mut bench, file, &plan) {
+        Some(end) => told(alloc, &end),
+        None => Ok(String::new(alloc)),
+    }
+}
+
+// How many calls of the judge and of `prepare` the reduction makes, which ends as is wanted.
+fn counts(
+    rt: &(impl Abort + Threads + Sync),
+    alloc: Global,
+    window: u32,
+    test: &str,
+) -> Result<(u64, u64), AllocError>
+    requires { (0 < window) × (window ≤ 4096) }
+{
     let calls = AtomicU64::new(0);
     let prepared = AtomicU64::new(0);
     let passes = Counting {
         lines: CPasses::lines(),
         prepared: &prepared,
     };
-    let mut bench = bench_of(alloc, &calls)?;
-    let file = THREE.to_vec(alloc)?;
-    let Ok(_tokens) = read(alloc, &file) else {
-        return Ok((String::new(alloc), 0, 0));
-    };
-    let plan = Plan {
-        workers: 1,
-        window,
-        limit: None,
-    };
-    let end = reduce(
-        rt, alloc, &passes, &TokenLaw, &test, &mut bench, "t.c", file, &plan,
-    );
-    let told = told(alloc, &end)?;
-    let indexes = prepared.load(Ordering::SeqCst);
-    Ok((told, calls.load(Ordering::SeqCst), indexes))
+    let end = end_told(rt, alloc, &passes, &calls, window, test)?;
+    assert!(rt; end.as_str() == WANTED, "{end}");
+    let calls = calls.load(Ordering::SeqCst);
+    Ok((calls, prepared.load(Ordering::SeqCst)))
 }
 
 #[test]
-fn a_file_that_was_asked_about_is_not_asked_about_again(rt: HostRuntime) -> Result<(), Fail> {
-    let (end, calls, _) = reduced(&rt, rt.alloc(), 256, "t")?;
-    assert!(rt;
-        end.as_str() == WANTED && calls == 16,
-        "window 256: {calls}"
-    );
-    let (end, calls, _) = reduced(&rt, rt.alloc(), 1, "t")?;
-    assert!(rt; end.as_str() == WANTED && calls == 4, "window 1: {calls}");
+fn a_file_that_was_asked_about_is_not_asked_about_again(rt: HostRuntime) -> Result<(), AllocError> {
+    let (calls, _) = counts(&rt, rt.alloc(), 256, "t")?;
+    assert!(rt; calls == 16, "window 256: {calls}");
+    let (calls, _) = counts(&rt, rt.alloc(), 1, "t")?;
+    assert!(rt; calls == 4, "window 1: {calls}");
     Ok(())
 }
 
 #[test]
-fn each_file_gets_one_index(rt: HostRuntime) -> Result<(), Fail> {
-    let (end, calls, indexes) = reduced(&rt, rt.alloc(), 1, "has:b")?;
-    assert!(rt; end.as_str() == WANTED && calls == 0 && indexes == 3);
+fn each_file_gets_one_index(rt: HostRuntime) -> Result<(), AllocError> {
+    let (calls, indexes) = counts(&rt, rt.alloc(), 1, "has:b")?;
+    assert!(rt; calls == 0 && indexes == 3);
     Ok(())
 }

@@ -1,12 +1,9 @@
 // Runs on files whose own run is defined, is not, or leaves the profile. What is wanted was found by hand from C11 and
 // from the rules of the profile.
-use crate::rehearsed::Rehearsed;
+use crate::outcomes::{Outcome, silent_outcome, words_of};
 use crate::tables::bytes_of;
-use crate::workers::{outcome, words_of};
-use cr_pool::Bench;
-use std::alloc::Global;
+use std::alloc::{AllocError, Global};
 use std::process::Abort;
-use std::test::Fail;
 use std::thread::Threads;
 
 /// What is put about the file, which doesn't have the text of the test, and behind the bar statements of a main in which `i` is 0 and
@@ -45,38 +42,48 @@ t.c:2: not defined: U16¦int printf(const char *, ...);␊int main(void){printf(
 the test says no to t.c¦int printf(const char *, ...);␊int main(void){printf(\"%s%c%x%%\",\"a\",66,255);}␊
 ";
 
+// What a run comes to that puts this line and writes nothing.
+fn refused(alloc: Global, line: &str, file: &[u8]) -> Result<Outcome, AllocError> {
+    let status = if line.starts_with("the test") { 6 } else { 5 };
+    let put = format!(in alloc; "creduce: {line}\n")?.into_bytes();
+    let after = file.to_vec(alloc)?;
+    Ok((status, put, Some(after), None, None))
+}
+
 // A run on this text puts this line, and writes nothing.
 fn expect_line(
     rt: &(impl Abort + Threads + Sync),
     alloc: Global,
-    wanted: &str,
+    line: &str,
     text: &str,
-) -> Result<(), Fail> {
-    let mut judges = Vec::new(alloc);
-    judges.push(Rehearsed::new("", "", Vec::new(alloc)))?;
-    let mut bench = Bench::new(alloc, judges)?;
+) -> Result<(), AllocError> {
     let words = words_of(alloc, 1, 256, "has:absent t.c")?;
     let file = bytes_of(alloc, text)?;
-    let (status, line, after, copy, log) = outcome(rt, alloc, &words, &file, &mut bench)?;
-    let lawful = wanted.starts_with("the test");
-    let line_wanted = format!(in alloc; "creduce: {wanted}\n")?;
-    assert!(rt; status == if lawful { 6 } else { 5 }, "{text}");
-    assert!(rt; line.as_slice() == line_wanted.as_bytes(), "{text}");
-    assert!(rt; after == Some(file) && copy.is_none() && log.is_none());
+    let found = silent_outcome(rt, alloc, &words, &file)?;
+    let wanted = refused(alloc, line, &file)?;
+    assert!(rt; found == wanted, "{text}");
     Ok(())
+}
+
+// A row of statements, which stand in a main.
+fn expect_statements(
+    rt: &(impl Abort + Threads + Sync),
+    alloc: Global,
+    row: &str,
+) -> Result<(), AllocError> {
+    let (line, statements) = row.split_once('¦').unwrap_or(("", ""));
+    let text = format!(in alloc;
+        "int f(int x){{return x;}}int main(void){{int i=0;{statements}return 0;}}"
+    )?;
+    expect_line(rt, alloc, line, text.as_str())
 }
 
 #[test]
 fn a_statement_is_taken_where_it_is_defined_and_within_the_profile(
     rt: HostRuntime,
-) -> Result<(), Fail> {
-    let alloc = rt.alloc();
-    for line in STATEMENTS.lines() {
-        let (wanted, statements) = line.split_once('¦').unwrap_or(("", ""));
-        let text = format!(in alloc;
-            "int f(int x){{return x;}}int main(void){{int i=0;{statements}return 0;}}"
-        )?;
-        expect_line(&rt, alloc, wanted, text.as_str())?;
+) -> Result<(), AllocError> {
+    for row in STATEMENTS.lines() {
+        expect_statements(&rt, rt.alloc(), row)?;
     }
     Ok(())
 }
@@ -84,11 +91,10 @@ fn a_statement_is_taken_where_it_is_defined_and_within_the_profile(
 #[test]
 fn a_file_is_taken_where_its_run_is_defined_and_within_the_profile(
     rt: HostRuntime,
-) -> Result<(), Fail> {
-    let alloc = rt.alloc();
-    for line in FILES.lines() {
-        let (wanted, text) = line.split_once('¦').unwrap_or(("", ""));
-        expect_line(&rt, alloc, wanted, text)?;
+) -> Result<(), AllocError> {
+    for row in FILES.lines() {
+        let (line, text) = row.split_once('¦').unwrap_or(("", ""));
+        expect_line(&rt, rt.alloc(), line, text)?;
     }
     Ok(())
 }

@@ -1,10 +1,10 @@
 // Whole runs on files, a sink and judges in memory. What is wanted was found by hand from the rules of the command line,
 // of the passes and of the reduction.
-use crate::rehearsed::{Knowing, Rehearsed};
-use crate::tables::{Case, cases, tell};
-use cr_log::read_log;
-use cr_main::run;
-use cr_outside::{Files, Judge, MemFiles, MemSink, ReadAnswer};
+use crate::outcomes::{content, one_file, status_of, words_in};
+use crate::rehearsed::{Rehearsed, knowing_bench};
+use crate::tables::{Case, tell};
+use cr_log::{Log, read_log};
+use cr_outside::{Judge, MemFiles, MemSink};
 use cr_pool::Bench;
 use std::alloc::{AllocError, Global};
 use std::process::Abort;
@@ -465,34 +465,30 @@ log end fault 167 15␊
 
 /// The words of a case: its options, and behind them what it tells of words.
 fn words_of(alloc: Global, case: &Case) -> Result<Vec<String>, AllocError> {
-    let mut words = Vec::new(alloc);
-    for option in ["workers", "window", "passes"] {
-        let value = case.told(option);
-        words.push(format!(in alloc; "--{option}={value}")?)?;
-    }
-    for word in case.told("words").split_whitespace() {
-        words.push(String::from_str(alloc, word)?)?;
-    }
-    Ok(words)
+    let all = format!(in alloc;
+        "--workers={} --window={} --passes={} {}",
+        case.told("workers"),
+        case.told("window"),
+        case.told("passes"),
+        case.told("words")
+    )?;
+    words_in(alloc, all.as_str())
 }
 
 /// The files of a case: one of its name. Where a failing write is late, it puts its file all the same.
 fn files_of(alloc: Global, case: &Case) -> Result<MemFiles, AllocError> {
-    let mut pairs = Vec::new(alloc);
-    let name = String::from_str(alloc, case.told("name"))?;
-    pairs.push((name, case.before(alloc)?))?;
     let failing = case.numbers(alloc, "failing")?;
+    let pairs = one_file(alloc, case.told("name"), case.before(alloc)?)?;
     Ok(match case.told("late") {
         "yes" => MemFiles::late(pairs, failing),
         _ => MemFiles::new(pairs, failing),
     })
 }
 
-pub(crate) fn content(alloc: Global, files: &mut MemFiles, name: &str) -> Option<Vec<u8>> {
-    match files.read(alloc, name, 2_000_000) {
-        ReadAnswer::Bytes(bytes) => Some(bytes),
-        ReadAnswer::Absent | ReadAnswer::Failed | ReadAnswer::NoMemory => None,
-    }
+fn sink_of(alloc: Global, case: &Case) -> Result<MemSink, AllocError> {
+    let failing = case.numbers(alloc, "mute")?;
+    let kept = case.told("keeps").parse().unwrap_or(0);
+    Ok(MemSink::part(alloc, failing, kept))
 }
 
 // Whether a file beside the case's one, by the ending of its name, is what the case tells under this word.
@@ -503,13 +499,20 @@ fn holds(
     ending: &str,
     word: &str,
 ) -> Result<bool, AllocError> {
-    let mut name = String::from_str(alloc, case.told("name"))?;
-    name.push_str(ending)?;
-    let wanted = case.bytes(alloc, word)?;
-    Ok(match content(alloc, files, name.as_str()) {
-        Some(found) => found == wanted,
-        None => case.told(word) == "none",
-    })
+    let name = format!(in alloc; "{}{ending}", case.told("name"))?;
+    match content(alloc, files, name.as_str()) {
+        Some(found) => case.tells(alloc, word, &found),
+        None => Ok(case.told(word) == "none"),
+    }
+}
+
+// Whether the files are those that the case tells.
+fn files_hold(alloc: Global, files: &mut MemFiles, case: &Case) -> Result<bool, AllocError> {
+    Ok(
+        holds(alloc, files, case, "", "after")?
+            && holds(alloc, files, case, ".orig", "copy")?
+            && holds(alloc, files, case, ".log", "log")?,
+    )
 }
 
 // Whether the case runs as it is wanted.
@@ -520,31 +523,45 @@ fn runs_so<J: Judge + Send>(
     bench: &mut Bench<J>,
 ) -> Result<bool, AllocError> {
     let words = words_of(alloc, case)?;
+    let mut out = sink_of(alloc, case)?;
     let mut files = files_of(alloc, case)?;
-    let kept = case.told("keeps").parse().unwrap_or(0);
-    let mut out = MemSink::part(alloc, case.numbers(alloc, "mute")?, kept);
-    let status = run(rt, alloc, &words, &mut files, bench, &mut out);
-    Ok(
-        u64::from(status) == case.number("status")
-            && out.bytes() == case.bytes(alloc, "output")?.as_slice()
-            && holds(alloc, &mut files, case, "", "after")?
-            && holds(alloc, &mut files, case, ".orig", "copy")?
-            && holds(alloc, &mut files, case, ".log", "log")?,
-    )
+    let status = status_of(rt, alloc, &words, &mut files, bench, &mut out);
+    if u64::from(status) == case.number("status") && case.tells(alloc, "output", out.bytes())? {
+        files_hold(alloc, &mut files, case)
+    } else {
+        Ok(false)
+    }
 }
 
-fn rehearsed(alloc: Global, case: &Case) -> Result<Rehearsed, AllocError> {
-    Ok(Rehearsed::new("w.sh", "abc.c", case.calls(alloc)?))
+fn expect_run<J: Judge + Send>(
+    rt: &(impl Abort + Threads + Sync),
+    alloc: Global,
+    case: &Case,
+    bench: &mut Bench<J>,
+) -> Result<(), AllocError> {
+    let so = runs_so(rt, alloc, case, bench)?;
+    assert!(rt; so, "{}", case.told("what"));
+    Ok(())
 }
 
 // A bench of the case's judge and three others, who fail if they are asked at all.
 fn rehearsed_bench(alloc: Global, case: &Case) -> Result<Bench<Rehearsed>, AllocError> {
+    let first = Rehearsed::new("w.sh", "abc.c", case.calls(alloc)?);
     let mut judges = Vec::new(alloc);
-    judges.push(rehearsed(alloc, case)?)?;
-    judges.push(Rehearsed::new("", "", Vec::new(alloc)))?;
-    judges.push(Rehearsed::new("", "", Vec::new(alloc)))?;
-    judges.push(Rehearsed::new("", "", Vec::new(alloc)))?;
+    judges.push(first)?;
+    judges.push(Rehearsed::silent(alloc))?;
+    judges.push(Rehearsed::silent(alloc))?;
+    judges.push(Rehearsed::silent(alloc))?;
     Bench::new(alloc, judges)
+}
+
+fn expect_rehearsed(
+    rt: &(impl Abort + Threads + Sync),
+    alloc: Global,
+    case: &Case,
+) -> Result<(), AllocError> {
+    let mut bench = rehearsed_bench(alloc, case)?;
+    expect_run(rt, alloc, case, &mut bench)
 }
 
 /// Each case of a table with its judge, who fails at any call that it doesn't await.
@@ -553,10 +570,8 @@ pub(crate) fn expect_all(
     alloc: Global,
     table: &'static str,
 ) -> Result<(), AllocError> {
-    for case in cases(alloc, table)? {
-        let mut bench = rehearsed_bench(alloc, &case)?;
-        let so = runs_so(rt, alloc, &case, &mut bench)?;
-        assert!(rt; so, "{}", case.told("what"));
+    for own in table.split("\n\n") {
+        expect_rehearsed(rt, alloc, &Case::of(table, own))?;
     }
     Ok(())
 }
@@ -586,23 +601,19 @@ fn workers_and_windows_change_nothing(rt: HostRuntime) -> Result<(), AllocError>
     expect_all(&rt, rt.alloc(), SHARED)
 }
 
-// A bench of four judges who know what the case's calls tell.
-fn knowing_bench(alloc: Global, case: &Case) -> Result<Bench<Knowing>, AllocError> {
-    let mut judges = Vec::new(alloc);
-    judges.push(Knowing::new(case.calls(alloc)?))?;
-    judges.push(Knowing::new(case.calls(alloc)?))?;
-    judges.push(Knowing::new(case.calls(alloc)?))?;
-    judges.push(Knowing::new(case.calls(alloc)?))?;
-    Bench::new(alloc, judges)
+fn expect_known(
+    rt: &(impl Abort + Threads + Sync),
+    alloc: Global,
+    case: &Case,
+) -> Result<(), AllocError> {
+    let mut bench = knowing_bench(alloc, case, 4)?;
+    expect_run(rt, alloc, case, &mut bench)
 }
 
 #[test]
 fn a_failure_behind_an_accepted_variant_decides_nothing(rt: HostRuntime) -> Result<(), AllocError> {
-    let alloc = rt.alloc();
-    for case in cases(alloc, BEHIND)? {
-        let mut bench = knowing_bench(alloc, &case)?;
-        let so = runs_so(&rt, alloc, &case, &mut bench)?;
-        assert!(rt; so, "{}", case.told("what"));
+    for own in BEHIND.split("\n\n") {
+        expect_known(&rt, rt.alloc(), &Case::of(BEHIND, own))?;
     }
     Ok(())
 }
@@ -610,30 +621,38 @@ fn a_failure_behind_an_accepted_variant_decides_nothing(rt: HostRuntime) -> Resu
 /// The log of the three lines, read back: the acceptances, how it ended, the size and the turns.
 const READ_BACK: &str = "0 14 1 133 19, 0 14 2 99 21, 0 99 40";
 
-// The log of the first case of the reductions, read back and told.
-fn first_log(rt: &(impl Threads + Sync), alloc: Global) -> Result<Option<String>, Fail> {
-    let Some(case) = cases(alloc, REDUCTIONS)?.into_iter().next() else {
-        return Ok(None);
-    };
-    let mut files = files_of(alloc, &case)?;
-    let mut bench = rehearsed_bench(alloc, &case)?;
+// The log of a case's run.
+fn log_of(
+    rt: &(impl Threads + Sync),
+    alloc: Global,
+    case: &Case,
+) -> Result<Option<Vec<u8>>, AllocError> {
+    let words = words_of(alloc, case)?;
+    let mut files = files_of(alloc, case)?;
+    let mut bench = rehearsed_bench(alloc, case)?;
     let mut out = MemSink::new(alloc, Vec::new(alloc));
-    let words = words_of(alloc, &case)?;
-    run(rt, alloc, &words, &mut files, &mut bench, &mut out);
-    let text = content(alloc, &mut files, "abc.c.log").unwrap_or(Vec::new(alloc));
-    if text.len() > 100 {
-        return Ok(None);
-    }
-    let log = read_log(alloc, &text)?;
+    status_of(rt, alloc, &words, &mut files, &mut bench, &mut out);
+    Ok(content(alloc, &mut files, "abc.c.log"))
+}
+
+fn log_told(alloc: Global, log: &Log) -> Result<String, AllocError> {
     let mut told = String::new(alloc);
     tell(&mut told, log.accepted.as_slice())?;
     write!(told, "{} {} {}", log.why, log.size, log.turns)?;
-    Ok(Some(told))
+    Ok(told)
+}
+
+fn expect_read_back(rt: &impl Abort, alloc: Global, text: &[u8]) -> Result<(), Fail> {
+    assert!(rt; text.len() <= 100);
+    let log = read_log(alloc, text)?;
+    let found = log_told(alloc, &log)?;
+    assert!(rt; found.as_str() == READ_BACK);
+    Ok(())
 }
 
 #[test]
 fn the_log_of_a_run_is_read_back(rt: HostRuntime) -> Result<(), Fail> {
-    let found = first_log(&rt, rt.alloc())?;
-    assert!(rt; found.as_deref() == Some(READ_BACK));
-    Ok(())
+    let alloc = rt.alloc();
+    let text = log_of(&rt, alloc, &Case::first_of(REDUCTIONS))?;
+    expect_read_back(&rt, alloc, text.as_deref().unwrap_or(b""))
 }

@@ -1,9 +1,9 @@
 // A run on the files of the operating system.
-use crate::workers::words_of;
-use cr_main::run;
+use crate::outcomes::{status_of, words_of};
 use cr_pool::Bench;
 use cr_system::{ProcessJudge, StdFiles, StdOut};
 use std::alloc::AllocError;
+use std::thread::Threads;
 use std::{fs, io};
 
 /// A file that is reduced, with the text that it and the files beside it have then.
@@ -26,21 +26,30 @@ fn bench(rt: &HostRuntime) -> Result<Bench<ProcessJudge<'_, HostRuntime>>, Alloc
     Bench::new(rt.alloc(), judges)
 }
 
+// The status of a run by two workers, on threads of the second handle.
+fn status(rt: &HostRuntime, threads: &(impl Threads + Sync)) -> Result<u8, AllocError> {
+    let alloc = rt.alloc();
+    let words = words_of(alloc, 2, 256, "has:main(){ creduce-test-run.c")?;
+    let mut bench = bench(rt)?;
+    let mut files = StdFiles::new(rt);
+    let mut out = StdOut::new(rt);
+    Ok(status_of(threads, alloc, &words, &mut files, &mut bench, &mut out))
+}
+
+// Whether a file, which is removed, had this text.
+fn had(rt: &HostRuntime, name: &str, text: &str) -> io::Result<bool> {
+    let found = fs::read(rt, name)?;
+    fs::remove_file(rt, name)?;
+    Ok(found.as_slice() == text.as_bytes())
+}
+
 #[test]
 fn a_real_file_is_reduced_beside_its_copy_and_its_log(rt: HostRuntime) -> io::Result<()> {
-    let alloc = rt.alloc();
-    let mut files = StdFiles::new(&rt);
-    let mut out = StdOut::new(&rt);
-    let mut bench = bench(&rt)?;
-    let list = words_of(alloc, 2, 256, "has:main(){ creduce-test-run.c")?;
     fs::write(&rt, AFTER[0].0, AFTER[1].1.as_bytes())?;
-    assert_eq!(rt; run(&rt, alloc, &list, &mut files, &mut bench, &mut out), 0);
+    let status = status(&rt, &rt)?;
+    assert!(rt; status == 0, "{status}");
     for (name, text) in AFTER {
-        assert!(rt;
-            fs::read(&rt, name)?.as_slice() == text.as_bytes(),
-            "{name}"
-        );
-        fs::remove_file(&rt, name)?;
+        assert!(rt; had(&rt, name, text)?, "{name}");
     }
     Ok(())
 }

@@ -3,7 +3,6 @@
 use cr_outside::Answer;
 use cr_reduce::Accepted;
 use std::alloc::{AllocError, Global};
-use std::test::Fail;
 
 /// A block of a table.
 #[derive(Clone, Copy)]
@@ -20,16 +19,6 @@ pub(crate) struct Calls {
     pub(crate) file: Vec<u8>,
 }
 
-/// The blocks of a table.
-pub(crate) fn cases(alloc: Global, table: &'static str) -> Result<Vec<Case>, AllocError> {
-    let first = table.split("\n\n").next().unwrap_or("");
-    let mut cases = Vec::new(alloc);
-    for own in table.split("\n\n") {
-        cases.push(Case { own, first })?;
-    }
-    Ok(cases)
-}
-
 // What a block tells under a word.
 fn told_in(block: &'static str, word: &str) -> Option<&'static str> {
     for line in block.lines() {
@@ -42,6 +31,18 @@ fn told_in(block: &'static str, word: &str) -> Option<&'static str> {
 }
 
 impl Case {
+    /// The first block of a table.
+    pub(crate) fn first_of(table: &'static str) -> Case {
+        let first = table.split("\n\n").next().unwrap_or("");
+        Case { own: first, first }
+    }
+
+    /// This block of a table.
+    pub(crate) fn of(table: &'static str, own: &'static str) -> Case {
+        let first = Case::first_of(table).first;
+        Case { own, first }
+    }
+
     /// What is told under a word, or nothing.
     pub(crate) fn told(&self, word: &str) -> &'static str {
         match told_in(self.own, word) {
@@ -62,24 +63,25 @@ impl Case {
         Ok(numbers)
     }
 
-    /// The bytes that are told under a word; `same` are those of the file before the run.
-    pub(crate) fn bytes(&self, alloc: Global, word: &str) -> Result<Vec<u8>, AllocError> {
-        let told = self.told(word);
-        if told == "same" {
-            return self.before(alloc);
-        }
-        bytes_of(alloc, told)
+    /// Whether these bytes are told under a word; `same` are those of the file before the run.
+    pub(crate) fn tells(
+        &self,
+        alloc: Global,
+        word: &str,
+        found: &[u8],
+    ) -> Result<bool, AllocError> {
+        let wanted = match self.told(word) {
+            "same" => self.before(alloc)?,
+            told => bytes_of(alloc, told)?,
+        };
+        Ok(wanted.as_slice() == found)
     }
 
     /// The file before the run, with what is repeated many times at its end.
     pub(crate) fn before(&self, alloc: Global) -> Result<Vec<u8>, AllocError> {
         let mut bytes = bytes_of(alloc, self.told("before"))?;
         for many in self.told("many").split(", ") {
-            let (times, repeated) = many.split_once(' ').unwrap_or(("0", ""));
-            let repeated = bytes_of(alloc, repeated)?;
-            for _ in 0..times.parse().unwrap_or(0u64) {
-                bytes.extend_from_slice(&repeated)?;
-            }
+            push_many(&mut bytes, many)?;
         }
         Ok(bytes)
     }
@@ -88,17 +90,25 @@ impl Case {
     pub(crate) fn calls(&self, alloc: Global) -> Result<Vec<Calls>, AllocError> {
         let mut all = Vec::new(alloc);
         for line in self.own.lines() {
-            let mut cells = line.splitn(4, ' ');
-            if cells.next() == Some("call") {
-                all.push(Calls {
-                    times: cells.next().unwrap_or("").parse().unwrap_or(0),
-                    answer: answer_of(cells.next().unwrap_or("")),
-                    file: bytes_of(alloc, cells.next().unwrap_or(""))?,
-                })?;
+            if let Some(told) = line.strip_prefix("call ") {
+                push_calls(alloc, &mut all, told)?;
             }
         }
         Ok(all)
     }
+}
+
+fn push_calls(alloc: Global, all: &mut Vec<Calls>, told: &str) -> Result<(), AllocError> {
+    let mut cells = told.splitn(3, ' ');
+    let times = cells.next().unwrap_or("").parse().unwrap_or(0);
+    let answer = answer_of(cells.next().unwrap_or(""));
+    let file = bytes_of(alloc, cells.next().unwrap_or(""))?;
+    all.push(Calls {
+        times,
+        answer,
+        file,
+    })?;
+    Ok(())
 }
 
 fn answer_of(word: &str) -> Answer {
@@ -111,14 +121,28 @@ fn answer_of(word: &str) -> Answer {
     }
 }
 
-/// The bytes of a text, in which the picture of a control character or a blank stands for it, and `∅` for nothing.
-pub(crate) fn bytes_of(alloc: Global, text: &str) -> Result<Vec<u8>, AllocError> {
-    let mut bytes = Vec::new(alloc);
+// Pushes a text so many times as the number before it.
+fn push_many(bytes: &mut Vec<u8>, many: &str) -> Result<(), AllocError> {
+    let (times, text) = many.split_once(' ').unwrap_or(("0", ""));
+    for _ in 0..times.parse().unwrap_or(0u64) {
+        push_text(bytes, text)?;
+    }
+    Ok(())
+}
+
+fn push_text(bytes: &mut Vec<u8>, text: &str) -> Result<(), AllocError> {
     for c in text.chars() {
         if c != '∅' {
             bytes.push(byte_of(c))?;
         }
     }
+    Ok(())
+}
+
+/// The bytes of a text, in which the picture of a control character or a blank stands for it, and `∅` for nothing.
+pub(crate) fn bytes_of(alloc: Global, text: &str) -> Result<Vec<u8>, AllocError> {
+    let mut bytes = Vec::new(alloc);
+    push_text(&mut bytes, text)?;
     Ok(bytes)
 }
 
@@ -132,7 +156,7 @@ fn byte_of(c: char) -> u8 {
 }
 
 /// Tells acceptances: pass, level, index, size and turn of each.
-pub(crate) fn tell(told: &mut String, accepted: &[Accepted]) -> Result<(), Fail> {
+pub(crate) fn tell(told: &mut String, accepted: &[Accepted]) -> Result<(), AllocError> {
     for one in accepted {
         let at = one.at;
         write!(

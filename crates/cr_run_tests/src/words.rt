@@ -1,11 +1,10 @@
 // The command line. What is wanted was found by hand from its rules.
-use crate::rehearsed::Rehearsed;
-use cr_main::run;
+use crate::outcomes::status_of;
+use crate::rehearsed::silent_bench;
 use cr_outside::{MemFiles, MemSink, Test};
-use cr_pool::Bench;
 use cr_words::{Settings, Source, WordFault, words};
 use std::alloc::{AllocError, Global};
-use std::test::Fail;
+use std::process::Abort;
 use std::thread::Threads;
 
 /// What lists of words give where there are 32 workers, and behind it the words, each behind a bar: workers, window,
@@ -118,65 +117,90 @@ fn list_of(alloc: Global, line: &str) -> Result<Vec<String>, AllocError> {
     Ok(list)
 }
 
-fn told(alloc: Global, found: &Settings) -> Result<String, Fail> {
-    let mut text = String::new(alloc);
-    write!(text, "{} {} ", found.workers, found.window)?;
+fn tell_numbers(told: &mut String, found: &Settings) -> Result<(), AllocError> {
+    write!(told, "{} {} ", found.workers, found.window)?;
     match found.limit {
-        Some(limit) => write!(text, "{limit} ")?,
-        None => write!(text, "none ")?,
+        Some(limit) => write!(told, "{limit}")?,
+        None => write!(told, "none")?,
     }
-    write!(text, "{} ", found.steps)?;
+    write!(told, " {} ", found.steps)
+}
+
+fn tell_passes(told: &mut String, found: &Settings) -> Result<(), AllocError> {
     for (letter, on) in "ltbusciprf".chars().zip(found.enabled.iter()) {
         if *on {
-            text.push(letter)?;
+            told.push(letter)?;
         }
-    }
-    match &found.test {
-        Test::Has(_) => write!(text, " has ")?,
-        Test::Program(path) => write!(text, " {} ", path.as_str())?,
-    }
-    match &found.source {
-        Source::Named(name) => write!(text, "{}", name.as_str())?,
-        Source::Made(number, items) => write!(text, "gen {number} {items}")?,
-    }
-    Ok(text)
-}
-
-fn answer(alloc: Global, line: &str) -> Result<String, Fail> {
-    let list = list_of(alloc, line)?;
-    match words(alloc, &list, 32) {
-        Ok(found) => told(alloc, &found),
-        Err(WordFault::Usage) => Ok(String::from_str(alloc, "no")?),
-        Err(WordFault::NoMemory) => Ok(String::from_str(alloc, "no memory")?),
-    }
-}
-
-#[test]
-fn words_give_their_settings_or_none(rt: HostRuntime) -> Result<(), Fail> {
-    for line in LISTS.lines() {
-        let found = answer(rt.alloc(), line)?;
-        let wanted = line.split('|').next().unwrap_or("");
-        assert!(rt; found.as_str() == wanted, "{line}");
     }
     Ok(())
 }
 
-fn status_of(rt: &(impl Threads + Sync), alloc: Global, line: &str) -> Result<u8, Fail> {
+fn tell_test(told: &mut String, test: &Test) -> Result<(), AllocError> {
+    match test {
+        Test::Has(_) => write!(told, " has "),
+        Test::Program(path) => write!(told, " {} ", path.as_str()),
+    }
+}
+
+fn tell_source(told: &mut String, source: &Source) -> Result<(), AllocError> {
+    match source {
+        Source::Named(name) => write!(told, "{}", name.as_str()),
+        Source::Made(number, items) => write!(told, "gen {number} {items}"),
+    }
+}
+
+fn told(alloc: Global, found: &Settings) -> Result<String, AllocError> {
+    let mut told = String::new(alloc);
+    tell_numbers(&mut told, found)?;
+    tell_passes(&mut told, found)?;
+    tell_test(&mut told, &found.test)?;
+    tell_source(&mut told, &found.source)?;
+    Ok(told)
+}
+
+fn answer(alloc: Global, line: &str) -> Result<String, AllocError> {
     let list = list_of(alloc, line)?;
-    let mut judges = Vec::new(alloc);
-    judges.push(Rehearsed::new("", "", Vec::new(alloc)))?;
-    let mut bench = Bench::new(alloc, judges)?;
-    let mut files = MemFiles::new(Vec::new(alloc), Vec::new(alloc));
-    let mut out = MemSink::new(alloc, Vec::new(alloc));
-    Ok(run(rt, alloc, &list, &mut files, &mut bench, &mut out))
+    match words(alloc, &list, 32) {
+        Ok(found) => told(alloc, &found),
+        Err(WordFault::Usage) => String::from_str(alloc, "no"),
+        Err(WordFault::NoMemory) => String::from_str(alloc, "no memory"),
+    }
+}
+
+fn expect_answer(rt: &impl Abort, alloc: Global, line: &str) -> Result<(), AllocError> {
+    let found = answer(alloc, line)?;
+    let wanted = line.split('|').next().unwrap_or("");
+    assert!(rt; found.as_str() == wanted, "{line}");
+    Ok(())
 }
 
 #[test]
-fn words_without_settings_start_no_run(rt: HostRuntime) -> Result<(), Fail> {
+fn words_give_their_settings_or_none(rt: HostRuntime) -> Result<(), AllocError> {
+    for line in LISTS.lines() {
+        expect_answer(&rt, rt.alloc(), line)?;
+    }
+    Ok(())
+}
+
+// The status of a run by one worker, who isn't asked, where there are no files.
+fn fileless_status(
+    rt: &(impl Threads + Sync),
+    alloc: Global,
+    line: &str,
+) -> Result<u8, AllocError> {
+    let list = list_of(alloc, line)?;
+    let mut bench = silent_bench(alloc, 1)?;
+    let mut files = MemFiles::new(Vec::new(alloc), Vec::new(alloc));
+    let mut out = MemSink::new(alloc, Vec::new(alloc));
+    Ok(status_of(rt, alloc, &list, &mut files, &mut bench, &mut out))
+}
+
+#[test]
+fn words_without_settings_start_no_run(rt: HostRuntime) -> Result<(), AllocError> {
     for line in STARTS.lines() {
-        let status = status_of(&rt, rt.alloc(), line)?;
+        let status = fileless_status(&rt, rt.alloc(), line)?;
         let wanted = if line.starts_with("yes") { 3 } else { 2 };
-        assert_eq!(rt; status, wanted, "{line}");
+        assert!(rt; status == wanted, "{line}: {status}");
     }
     Ok(())
 }

@@ -1,62 +1,14 @@
 // Runs by several workers on real threads.
 ghost use Rattle.std.specs.Prelude.{◌≡◌, ◌≤◌, IfOk, None, length};
 
-use crate::runs::content;
-use cr_main::run;
-use cr_outside::{Answer, Judge, MemFiles, MemSink};
+use crate::outcomes::{Outcome, outcome, words_of};
+use cr_outside::{Answer, Judge};
 use cr_pool::Bench;
 use std::alloc::{AllocError, Global};
+use std::process::Abort;
 use std::sync::atomic::{AtomicU64, Ordering};
-use std::test::Fail;
 use std::thread;
 use std::thread::Threads;
-
-/// What a run comes to, but for its status: what it puts, and the three files.
-pub(crate) type Outcome = (
-    u8,
-    Vec<u8>,
-    Option<Vec<u8>>,
-    Option<Vec<u8>>,
-    Option<Vec<u8>>,
-);
-
-/// The words `--workers=N`, `--window=N`, and those of the text.
-pub(crate) fn words_of(
-    alloc: Global,
-    workers: u64,
-    window: u64,
-    text: &str,
-) -> Result<Vec<String>, AllocError> {
-    let mut words = Vec::new(alloc);
-    words.push(format!(in alloc; "--workers={workers}")?)?;
-    words.push(format!(in alloc; "--window={window}")?)?;
-    for word in text.split_whitespace() {
-        words.push(String::from_str(alloc, word)?)?;
-    }
-    Ok(words)
-}
-
-/// A run on the file `t.c`.
-pub(crate) fn outcome<J: Judge + Send>(
-    rt: &(impl Threads + Sync),
-    alloc: Global,
-    words: &[String],
-    file: &[u8],
-    bench: &mut Bench<J>,
-) -> Result<Outcome, AllocError> {
-    let mut pairs = Vec::new(alloc);
-    pairs.push((String::from_str(alloc, "t.c")?, file.to_vec(alloc)?))?;
-    let mut files = MemFiles::new(pairs, Vec::new(alloc));
-    let mut out = MemSink::new(alloc, Vec::new(alloc));
-    let status = run(rt, alloc, words, &mut files, bench, &mut out);
-    Ok((
-        status,
-        out.bytes().to_vec(alloc)?,
-        content(alloc, &mut files, "t.c"),
-        content(alloc, &mut files, "t.c.orig"),
-        content(alloc, &mut files, "t.c.log"),
-    ))
-}
 
 /// Three lines of main, of which a judge that says no keeps all.
 const KEPT: &[u8] = b"int main(){\nint a;\nint b;\nint c;\n}\n";
@@ -107,27 +59,44 @@ impl<'a> Judge for Waiting<'a> {
     }
 }
 
-#[test]
-fn trials_of_a_run_go_on_at_once(rt: HostRuntime) -> Result<(), AllocError> {
-    let alloc = rt.alloc();
-    let begun = AtomicU64::new(0);
-    let missed = AtomicU64::new(0);
+fn waiting_bench<'a>(
+    alloc: Global,
+    begun: &'a AtomicU64,
+    missed: &'a AtomicU64,
+) -> Result<Bench<Waiting<'a>>, AllocError> {
     let mut judges = Vec::new(alloc);
     judges.push(Waiting {
-        begun: &begun,
-        missed: &missed,
+        begun,
+        missed,
         asked: 0,
     })?;
     judges.push(Waiting {
-        begun: &begun,
-        missed: &missed,
+        begun,
+        missed,
         asked: 0,
     })?;
-    let mut bench = Bench::new(alloc, judges)?;
+    Bench::new(alloc, judges)
+}
+
+fn expect_kept(
+    rt: &(impl Abort + Threads + Sync),
+    alloc: Global,
+    bench: &mut Bench<Waiting<'_>>,
+) -> Result<(), AllocError> {
     let words = words_of(alloc, 2, 256, "--passes l w.sh t.c")?;
-    let (status, _, after, _, log) = outcome(&rt, alloc, &words, KEPT, &mut bench)?;
-    assert!(rt; status == 0 && missed.load(Ordering::SeqCst) == 0);
+    let (status, _, after, _, log) = outcome(rt, alloc, &words, KEPT, bench)?;
+    assert!(rt; status == 0);
     assert!(rt; after.as_deref() == Some(KEPT) && log.as_deref() == Some(KEPT_LOG));
+    Ok(())
+}
+
+#[test]
+fn trials_of_a_run_go_on_at_once(rt: HostRuntime) -> Result<(), AllocError> {
+    let begun = AtomicU64::new(0);
+    let missed = AtomicU64::new(0);
+    let mut bench = waiting_bench(rt.alloc(), &begun, &missed)?;
+    expect_kept(&rt, rt.alloc(), &mut bench)?;
+    assert!(rt; missed.load(Ordering::SeqCst) == 0);
     Ok(())
 }
 
@@ -187,26 +156,29 @@ impl Judge for Chance {
     }
 }
 
-// A main of up to four lines by chance, some of which don't tokenise, parse or name what is there, by themselves or at all.
+// A line by chance. Some don't tokenise, parse or name what is there, by themselves or at all.
+fn random_line(drawn: u64) -> &'static str {
+    match (drawn >> 33) % 20 {
+        0..=2 => "int a;\n",
+        3..=5 => "int b, c;",
+        6..=8 => "int f(int x);\n",
+        9 | 10 => "\n",
+        11 | 12 => "/*\n*/ int d;\n",
+        13 | 14 => "int e = 1 +\n2;",
+        15 | 16 => "{ int *g = 0; return g == 0; }\n",
+        17 => "a = 1;\n",
+        18 => "int i\n",
+        _ => "@",
+    }
+}
+
+// A main of up to four such lines.
 fn random_file(alloc: Global, seed: u64) -> Result<Vec<u8>, AllocError> {
-    let mut file = Vec::new(alloc);
-    file.extend_from_slice(b"int main(){\n")?;
+    let mut file = b"int main(){\n".to_vec(alloc)?;
     let mut drawn = after(seed);
     for _ in 0..(drawn >> 33) % 5 {
         drawn = after(drawn);
-        let line = match (drawn >> 33) % 20 {
-            0..=2 => "int a;\n",
-            3..=5 => "int b, c;",
-            6..=8 => "int f(int x);\n",
-            9 | 10 => "\n",
-            11 | 12 => "/*\n*/ int d;\n",
-            13 | 14 => "int e = 1 +\n2;",
-            15 | 16 => "{ int *g = 0; return g == 0; }\n",
-            17 => "a = 1;\n",
-            18 => "int i\n",
-            _ => "@",
-        };
-        file.extend_from_slice(line.as_bytes())?;
+        file.extend_from_slice(random_line(drawn).as_bytes())?;
     }
     file.extend_from_slice(b"}\n")?;
     Ok(file)
@@ -228,6 +200,19 @@ fn judges_of(alloc: Global, file: &[u8], seed: u64, count: u64) -> Result<Vec<Ch
     Ok(judges)
 }
 
+fn bench_of(alloc: Global, file: &[u8], seed: u64) -> Result<Bench<Chance>, AllocError> {
+    let judges = judges_of(alloc, file, seed, 8)?;
+    Bench::new(alloc, judges)
+}
+
+fn passes_of(seed: u64) -> &'static str {
+    match seed % 5 {
+        0 | 1 => "--passes=l w.sh t.c",
+        2 => "--passes=ltb w.sh t.c",
+        _ => "--limit=12 w.sh t.c",
+    }
+}
+
 // What a file and a judge by chance come to.
 fn by_chance(
     rt: &(impl Threads + Sync),
@@ -236,29 +221,44 @@ fn by_chance(
     workers: u64,
     window: u64,
 ) -> Result<Outcome, AllocError> {
+    let words = words_of(alloc, workers, window, passes_of(seed))?;
     let file = random_file(alloc, seed)?;
-    let judges = judges_of(alloc, &file, seed, 8)?;
-    let mut bench = Bench::new(alloc, judges)?;
-    let passes = match seed % 5 {
-        0 | 1 => "--passes=l w.sh t.c",
-        2 => "--passes=ltb w.sh t.c",
-        _ => "--limit=12 w.sh t.c",
-    };
-    let words = words_of(alloc, workers, window, passes)?;
+    let mut bench = bench_of(alloc, &file, seed)?;
     outcome(rt, alloc, &words, &file, &mut bench)
 }
 
+fn expect_same(
+    rt: &(impl Abort + Threads + Sync),
+    alloc: Global,
+    seed: u64,
+    workers: u64,
+    window: u64,
+    wanted: &Outcome,
+) -> Result<(), AllocError> {
+    let found = by_chance(rt, alloc, seed, workers, window)?;
+    assert!(rt; found == *wanted, "{seed} {workers} {window}");
+    Ok(())
+}
+
+// The status of the one outcome that all numbers of workers and positions come to.
+fn one_status(
+    rt: &(impl Abort + Threads + Sync),
+    alloc: Global,
+    seed: u64,
+) -> Result<u8, AllocError> {
+    let wanted = by_chance(rt, alloc, seed, 1, 1)?;
+    for (workers, window) in [(1, 64), (2, 7), (4, 1), (4, 64), (8, 7)] {
+        expect_same(rt, alloc, seed, workers, window, &wanted)?;
+    }
+    Ok(wanted.0)
+}
+
 #[test]
-fn sixty_runs_come_to_one_outcome_each(rt: HostRuntime) -> Result<(), Fail> {
-    let alloc = rt.alloc();
-    let mut ends = String::new(alloc);
+fn sixty_runs_come_to_one_outcome_each(rt: HostRuntime) -> Result<(), AllocError> {
+    let mut ends = String::new(rt.alloc());
     for seed in 0..60 {
-        let wanted = by_chance(&rt, alloc, seed, 1, 1)?;
-        write!(ends, "{} ", wanted.0)?;
-        for (workers, window) in [(1, 64), (2, 7), (4, 1), (4, 64), (8, 7)] {
-            let found = by_chance(&rt, alloc, seed, workers, window)?;
-            assert!(rt; found == wanted, "{seed} {workers} {window}");
-        }
+        let status = one_status(&rt, rt.alloc(), seed)?;
+        write!(ends, "{status} ")?;
     }
     // The runs end in all these ways: reduced, not lawful, at the limit, and with a failed test.
     for end in ["0 ", "4 ", "7 ", "8 "] {

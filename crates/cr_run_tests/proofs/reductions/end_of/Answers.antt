@@ -5,11 +5,11 @@ use Rattle.cr_run_tests.proofs.reductions.end_of.Goals as goal
 
 pub reduce-end-requires-clause-tokenizes : goal.reduce-end-requires-clause-tokenizes
 reduce-end-requires-clause-tokenizes g c = λ a b.
-    let tokens = c.in-Ok-read._tokens.list.items in (
-      size_of c.in_ok-file.file.items tokens,
+    let tokens = c.in-Ok._tokens.list.items in (
+      size_of c.args.file.items tokens,
       record {
         tokens = tokens;
-        tokenizes = subst (λ file. Tokenizes file tokens) c.deref.ensures.value c.in-Ok-read.ensures.list;
+        tokenizes = subst (λ file. Tokenizes file tokens) c.deref.ensures.value c.in-Ok.ensures.list;
         is = refl;
       },
     )
