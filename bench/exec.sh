@@ -41,7 +41,7 @@ calls in a loop¦int;int;read 0;return|2;block|3;place 1;constant 0;assign|5 6;e
 
 RT
 # the reader of operations is that of the tests
-sed -n '/^fn number(/,/^fn shown/p' ../cr_exec/src/tests.rt | sed '$d' >>src/main.rt
+sed -n '/^fn number(/,/^fn shown/p' ../cr_eval_tests/src/programs.rt | sed '$d' >>src/main.rt
 cat >>src/main.rt <<'RT'
 
 fn steps_of(run: &Run) -> u64 {

@@ -12,6 +12,7 @@ use crate::members::structures_of;
 use cr_check::{TypeFault, check};
 use cr_decls::parse;
 use cr_exprs::ParseFault;
+use cr_holding::holding;
 use cr_machine::one_first_refusal;
 use cr_rows::Row;
 use cr_scopes::{NameFault, Names, resolve};
@@ -129,13 +130,8 @@ fn of_unit(
     ensures { (file : List ℕ) (judged : Judged) → Tokenizes file unit.tokens.list.items → IsUnitOf file unit.tokens.list.items unit names judged
         → IfOk structures (λ s. s ≡ structures_of unit.nodes judged) → IfOk result (IsAnalysis file) }
 {
-    match structures {
-        Ok(structures) => Ok(Analysis::OfUnit(unit, names, structures)),
-        Err(error) => {
-            drop((unit, names));
-            Err(error)
-        }
-    }
+    let (structures, (unit, names)) = holding(structures, (unit, names))?;
+    Ok(Analysis::OfUnit(unit, names, structures))
 }
 
 fn type_refusal(fault: TypeFault) -> Result<(), AllocError>

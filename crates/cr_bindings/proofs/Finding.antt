@@ -1,9 +1,8 @@
 -- The latest declaration of a name, among bindings.
-use Rattle.std.proofs.Common.{◌≡◌, ℕ, suc, zero, ◌<◌, ◌==◌, Bool, true, false, if◌then◌else◌, Option, Some, None, List, [], ◌∷◌, ◌++◌, map, reverse, length, refl, sym, ap, ◌∙◌, subst, set, get_or, get_or-set_same, get_or-set_other}
+use Rattle.std.proofs.Common.{◌≡◌, ℕ, ◌<◌, ◌==◌, Bool, true, false, if◌then◌else◌, Option, Some, None, List, [], ◌∷◌, ◌++◌, map, reverse, length, refl, sym, ap, ◌∙◌, subst, set, get_or, get_or-set_same, get_or-set_other}
 use Rattle.std.proofs.lemmas.Bool.{eqb-true, eqb-false}
 use Rattle.std.proofs.lemmas.List.{set-set, set-get_or, reverse-append}
 use Rattle.cr_bindings.specs.declared.scoped.Binding.{Binding}
-use Rattle.cr_bindings.specs.declared.scoped.Binding.TheVariants as binding
 use Rattle.cr_bindings.specs.declared.scoped.Entry.{Entry}
 use Rattle.cr_bindings.specs.declared.scoped.Entry.TheVariants as entry
 use Rattle.cr_bindings.specs.Stacks.{found_in}

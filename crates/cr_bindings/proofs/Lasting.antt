@@ -1,7 +1,7 @@
 -- One number more in a column of the last ones.
-use Rattle.std.proofs.Common.{◌≡◌, ℕ, suc, ◌+◌, ◌<◌, List, Option, Some, None, length, slice_index_or, if◌then◌else◌, sym, ap, ◌∙◌, subst, arith}
+use Rattle.std.proofs.Common.{◌≡◌, ℕ, suc, ◌+◌, ◌<◌, List, Option, Some, None, length, slice_index_or, if◌then◌else◌, ap, ◌∙◌, subst, arith}
 use Rattle.cr_scopes.specs.Resolved.{is_number}
-use Rattle.cr_bindings.specs.Last.{last_with, AreLast}
+use Rattle.cr_bindings.specs.Last.{AreLast}
 
 pub put_last : (key : ℕ → Option ℕ) (at number keys : ℕ) (given : Option ℕ) (old new : List (Option ℕ)) → AreLast key at keys old
     → given ≡ key number → number ≡ at → length new ≡ length old

@@ -1,5 +1,5 @@
 -- What the stack of open scopes has of a name is what looking back finds.
-use Rattle.std.proofs.Common.{◌≡◌, ℕ, zero, suc, ◌+◌, ◌<◌, ◌==◌, ◌&&◌, Bool, true, false, if◌then◌else◌, Option, Some, None, List, [], ◌∷◌, length, slice_get, slice_index_or, refl, sym, ap, ◌∙◌, inl, inr, arith, set, get_or-set_same, get_or-set_other, length-set}
+use Rattle.std.proofs.Common.{◌≡◌, ℕ, zero, suc, ◌+◌, ◌<◌, ◌==◌, ◌&&◌, Bool, true, false, if◌then◌else◌, Option, Some, None, List, [], ◌∷◌, length, slice_get, slice_index_or, refl, sym, ap, ◌∙◌, arith, set, get_or-set_same, get_or-set_other, length-set}
 use Rattle.std.proofs.lemmas.Bool.{eqb-true, eqb-false}
 use Rattle.cr_events.specs.declared.event.Role.{Role}
 use Rattle.cr_events.specs.declared.event.Event.{Event}
@@ -8,7 +8,7 @@ use Rattle.cr_scopes.specs.declared.scope.Space.TheVariants.{Ordinary}
 use Rattle.cr_scopes.specs.Looking.{stands_in}
 use Rattle.cr_scopes.specs.Resolved.{past_of, with_event}
 use Rattle.cr_bindings.specs.declared.scoped.Binding.{Binding}
-use Rattle.cr_bindings.specs.declared.scoped.Binding.TheVariants.{Bound, Mark}
+use Rattle.cr_bindings.specs.declared.scoped.Binding.TheVariants.{Bound}
 use Rattle.cr_bindings.specs.Stacks.{entered, found_in, outside, stack_of}
 use Rattle.cr_bindings.specs.Visible.{latest, seen_by, visible}
 use Rattle.cr_bindings.specs.Entities.{AreOf}

@@ -1,5 +1,5 @@
 -- All columns of a unit, and what they say of a token or a node.
-use Rattle.std.specs.Prelude.{◌≡◌, ℕ, Bool, false, List, Option, None, Some, length, slice_index_or, if◌then◌else◌}
+use Rattle.std.specs.Prelude.{ℕ, Bool, false, List, Option, None, Some, length, slice_index_or, if◌then◌else◌}
 use Rattle.cr_tokens.specs.declared.token.Token.{Token}
 use Rattle.cr_syntax.specs.declared.node.Node.{Node}
 use Rattle.cr_syntax.specs.declared.unit.Unit as tree
@@ -10,7 +10,7 @@ use Rattle.cr_scopes.specs.Units.{unit_events}
 use Rattle.cr_bindings.specs.Spellings.{AreSpellings}
 use Rattle.cr_bindings.specs.Last.{AreLast}
 use Rattle.cr_bindings.specs.Nodes.{name_at, tag_at}
-use Rattle.cr_bindings.specs.Entities.{entity_at, entity_if, content_entity, first_of, previous_of, AreDeclaring, AreOf}
+use Rattle.cr_bindings.specs.Entities.{entity_at, content_entity, first_of, previous_of, AreDeclaring, AreOf}
 use Rattle.cr_bindings.specs.Visible.{AreVisible}
 use Rattle.cr_bindings.specs.declared.bindings.Bindings.{Bindings}
 use Rattle.cr_bindings.specs.declared.bindings.Tag.{Tag}

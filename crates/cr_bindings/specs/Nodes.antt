@@ -1,5 +1,5 @@
 -- What nodes declare: ordinary identifiers and tags, each by the token of its name.
-use Rattle.std.specs.Prelude.{◌+◌, ℕ, Bool, true, false, List, Option, None, Some, slice_get, if◌then◌else◌}
+use Rattle.std.specs.Prelude.{◌+◌, ℕ, List, Option, None, Some, slice_get, if◌then◌else◌}
 use Rattle.cr_tokens.specs.declared.token.Token.{Token}
 use Rattle.cr_syntax.specs.declared.node.Kind.{Kind}
 use Rattle.cr_syntax.specs.declared.node.Kind.TheVariants as kind

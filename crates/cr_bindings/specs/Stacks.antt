@@ -1,6 +1,5 @@
 -- The declarations of ordinary identifiers in the scopes that are open, the latest first.
-use Rattle.std.specs.Prelude.{ℕ, zero, suc, ◌==◌, Option, None, Some, List, [], ◌∷◌, if◌then◌else◌}
-use Rattle.cr_events.specs.declared.event.Role.{Role}
+use Rattle.std.specs.Prelude.{ℕ, ◌==◌, Option, None, Some, List, [], ◌∷◌, if◌then◌else◌}
 use Rattle.cr_events.specs.declared.event.Event.{Event}
 use Rattle.cr_events.specs.declared.event.Event.TheVariants.{Node, Opens, Closes, Name, Member}
 use Rattle.cr_scopes.specs.declared.scope.Space.TheVariants.{Ordinary}

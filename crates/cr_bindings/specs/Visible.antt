@@ -1,5 +1,5 @@
 -- The declaration that is visible where a name is written (C11 6.2.1p4), by looking back over the events before that place.
-use Rattle.std.specs.Prelude.{◌≡◌, ◌<◌, ◌==◌, ◌&&◌, ℕ, zero, suc, Option, None, Some, List, [], ◌∷◌, length, slice_index_or, slice_set, if◌then◌else◌}
+use Rattle.std.specs.Prelude.{◌==◌, ◌&&◌, ℕ, zero, suc, Option, None, Some, List, [], ◌∷◌, length, slice_set, if◌then◌else◌}
 use Rattle.cr_events.specs.declared.event.Event.{Event}
 use Rattle.cr_events.specs.declared.event.Event.TheVariants.{Node, Opens, Closes, Name, Member}
 use Rattle.cr_scopes.specs.declared.scope.Space.TheVariants.{Ordinary}

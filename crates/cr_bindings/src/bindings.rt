@@ -1,5 +1,12 @@
-ghost use Rattle.std.specs.Prelude.{◌≡◌, IfOk};
+ghost use Rattle.std.specs.Prelude.{◌≡◌, None, IfOk, length};
 ghost use Rattle.cr_bindings.specs.Bindings.{declared_name, earlier_node, entry_if, first_node, is_declarer, tag_for, tag_of, visible_node, AreBindings};
+ghost use Rattle.cr_bindings.specs.Entities.{content_entity, previous_of, AreDeclaring, AreOf};
+ghost use Rattle.cr_bindings.specs.Last.{AreLast};
+ghost use Rattle.cr_bindings.specs.Nodes.{name_at as name_at_node, tag_at as tag_at_node};
+ghost use Rattle.cr_bindings.specs.Spellings.{AreSpellings};
+ghost use Rattle.cr_bindings.specs.Visible.{AreVisible};
+ghost use Rattle.cr_scopes.specs.States.{name_in};
+ghost use Rattle.cr_scopes.specs.Units.{unit_events};
 ghost use Rattle.cr_syntax.specs.Words.{AreSpans};
 
 use crate::entities::{declaring, entity_at, first_of, is_marked, previous};
@@ -55,6 +62,44 @@ fn entry_at(column: &Row<Option<u32>>, number: Option<usize>) -> Option<u32>
     link_at(column.as_slice(), number?)
 }
 
+// The number of each token's spelling, and what is visible there.
+fn seen(alloc: Global, file: &[u8], unit: &Unit) -> Result<(Vec<u32>, Vec<Option<u32>>), AllocError>
+    requires { AreSpans file.now unit.now.tokens.list.items }
+    ensures spellings { IfOk result (λ both. AreSpellings file.now unit.now.tokens.list.items both.0.items) }
+    ensures visible { IfOk result (λ both. AreVisible (name_in both.0.items) (unit_events unit.now) (length unit.now.tokens.list.items) both.1.items) }
+{
+    let spellings = spellings(alloc, file, unit.tokens.list.as_slice())?;
+    let visible = visible(alloc, unit, spellings.as_slice())?;
+    Ok((spellings, visible))
+}
+
+// Which tokens declare, and the one before each that declares the same.
+fn repeated(alloc: Global, names: &Names) -> Result<(Vec<bool>, Vec<Option<u32>>), AllocError>
+    ensures declaring { IfOk result (λ both. AreDeclaring names.now (length names.now.of_token) both.0.items) }
+    ensures previous { IfOk result (λ both. AreOf (previous_of names.now) None (length names.now.of_token) both.1.items) }
+{
+    let declaring = declaring(alloc, names)?;
+    let previous = previous(alloc, names, &declaring)?;
+    Ok((declaring, previous))
+}
+
+// The declarer and the specifier at each token, and the specifier with each entity's content.
+fn nodes_of(
+    alloc: Global,
+    names: &Names,
+    nodes: &[Node],
+    tokens: &[Token],
+) -> Result<(Vec<Option<u32>>, Vec<Option<u32>>, Vec<Option<u32>>), AllocError>
+    ensures declarers { IfOk result (λ all. AreLast (name_at_node nodes.now) (length nodes.now) (length tokens.now) all.0.items) }
+    ensures specifiers { IfOk result (λ all. AreLast (tag_at_node nodes.now tokens.now) (length nodes.now) (length tokens.now) all.1.items) }
+    ensures contents { IfOk result (λ all. AreLast (content_entity names.now nodes.now tokens.now) (length nodes.now) (length names.now.entities) all.2.items) }
+{
+    let declarers = declarers(alloc, nodes, tokens.len())?;
+    let specifiers = specifiers(alloc, nodes, tokens)?;
+    let contents = contents(alloc, names, nodes, tokens)?;
+    Ok((declarers, specifiers, contents))
+}
+
 impl Bindings {
     /// The declarations of the names of a unit. The error is want of memory.
     pub fn new(
@@ -67,19 +112,18 @@ impl Bindings {
         ensures { IfOk result (λ found. AreBindings file.now unit.now names.now found) }
     {
         let tokens = unit.tokens.list.as_slice();
+        let (spellings, visible) = seen(alloc, file, unit)?;
+        let (declaring, previous) = repeated(alloc, names)?;
         let nodes = unit.nodes.as_slice();
-        let spellings = spellings(alloc, file, tokens)?;
-        let visible = visible(alloc, unit, spellings.as_slice())?;
-        let declaring = declaring(alloc, names)?;
-        let previous = previous(alloc, names, &declaring)?;
+        let (declarers, specifiers, contents) = nodes_of(alloc, names, nodes, tokens)?;
         Ok(Bindings {
             spellings: Row::from_vec(spellings),
-            declarers: Row::from_vec(declarers(alloc, nodes, tokens.len())?),
+            declarers: Row::from_vec(declarers),
             visible: Row::from_vec(visible),
             declaring: Row::from_vec(declaring),
             previous: Row::from_vec(previous),
-            specifiers: Row::from_vec(specifiers(alloc, nodes, tokens)?),
-            contents: Row::from_vec(contents(alloc, names, nodes, tokens)?),
+            specifiers: Row::from_vec(specifiers),
+            contents: Row::from_vec(contents),
         })
     }
 

@@ -1,29 +1,16 @@
 -- The first fault of what is found.
-use Rattle.std.proofs.Common.{◌≡◌, ℕ, ◌-◌, Bool, true, false, List, Option, None, Some, length, inl, inr, refl, sym, ap, subst, ◌∙◌}
+use Rattle.std.proofs.Common.{◌≡◌, ℕ, ◌-◌, Bool, true, false, List, Option, None, Some, length, inl, inr, refl, sym, subst}
 use Rattle.cr_syntax.specs.declared.unit.Unit as source
 use Rattle.cr_scopes.specs.declared.names.Names.{Names}
 use Rattle.cr_rules.specs.declared.least.Break.{Break}
 use Rattle.cr_rules.specs.Breaks.{IsFirst}
 use Rattle.cr_declarations.specs.declared.tree.Tree.{Tree}
-use Rattle.cr_columns.specs.Texts.{AreTexts}
-use Rattle.cr_surroundings.specs.Surroundings.{AreSurroundings}
 use Rattle.cr_definitions.specs.Typedefs.{IsFirstTwice}
-use Rattle.cr_definitions.specs.Defined.{is_defined}
 use Rattle.cr_check.specs.declared.judged.Judged.{Judged}
 use Rattle.cr_check.specs.declared.fault.TypeFault.{TypeFault}
 use Rattle.cr_check.specs.declared.fault.TypeFault.TheVariants.{NoMemory, Twice, Broken}
-use Rattle.cr_check.specs.Judged.{IsJudged, IsBrokenIn, IsJudgedFirst, IsWholeFirst, known_in}
-use Rattle.cr_check.specs.Checked.{AgreesOnTypedefs, HoldsAll, IsFaultIn, IsFirstFault, IsFound, LacksDefinition, is_program, constraint_of, found_of}
-
--- what is judged, by what it is judged by
-pub judged_by : (file : List ℕ) (unit : source.Unit) (names : Names) (j : Judged) → AreSurroundings file unit names j.surroundings
-    → AreTexts file unit.tokens.list.items unit.nodes j.texts → IsWholeFirst file unit j.surroundings j.texts j.table j.whole
-    → IsJudgedFirst file unit names j
-judged_by file unit names j surroundings texts whole = record {
-  tree = whole.tree;
-  is = record { surroundings = surroundings; texts = texts; whole = whole.is };
-  first = whole.first;
-}
+use Rattle.cr_check.specs.Judged.{IsJudged, IsBrokenIn, IsJudgedFirst, known_in}
+use Rattle.cr_check.specs.Checked.{AgreesOnTypedefs, HoldsAll, IsFaultIn, IsFirstFault, IsFound, is_program, constraint_of, found_of}
 
 module _ (file : List ℕ) (unit : source.Unit) (names : Names) (j : Judged) (u : Tree) (is : IsJudged file unit names j u) where
   defined_by : (defined : Bool) → AgreesOnTypedefs file unit names j → HoldsAll j u → is_program file unit names j ≡ defined

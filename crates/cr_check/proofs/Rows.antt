@@ -1,10 +1,6 @@
 -- The rows that declarations name are there.
-use Rattle.std.proofs.Common.{◌≡◌, ℕ, ◌<◌, ◌≤◌, List, [], length, slice_index_or, sym, subst}
+use Rattle.std.proofs.Common.{◌≡◌, List}
 use Rattle.cr_types.specs.declared.shape.Shape.{Shape}
-use Rattle.cr_types.specs.Relations.{AreRows}
-use Rattle.cr_rules.specs.declared.known.Declared.{Declared}
-use Rattle.cr_rules.specs.declared.known.Declared.TheVariants.{Unclear}
-use Rattle.cr_rules.specs.Known.{room_of_declared}
 use Rattle.cr_judge.specs.declared.typing.Typing.{Typing}
 use Rattle.cr_judge.specs.Typing.{AreWithin}
 use Rattle.cr_definitions.specs.declared.known.Declarations.{Declarations}

@@ -1,5 +1,5 @@
 -- The tree of a unit.
-use Rattle.std.proofs.Common.{◌≡◌, ℕ, List, sym}
+use Rattle.std.proofs.Common.{ℕ, List}
 use Rattle.cr_syntax.specs.Words.{AreSpans}
 use Rattle.cr_syntax.specs.declared.unit.Unit as source
 use Rattle.cr_declarations.specs.declared.tree.Tree.{Tree}

@@ -1,5 +1,5 @@
 -- What the nodes before a node have, by the rows of a table of types.
-use Rattle.std.specs.Prelude.{◌≡◌, ℕ, ◌<◌, List, [], Bool, false, Option, None, Some, length, map, slice_get, slice_index_or}
+use Rattle.std.specs.Prelude.{ℕ, ◌<◌, List, [], Bool, false, Option, None, Some, length, map, slice_get, slice_index_or}
 use Rattle.cr_syntax.specs.declared.node.Kind.{Kind}
 use Rattle.cr_syntax.specs.declared.node.Node.{Node}
 use Rattle.cr_types.specs.declared.layout.Layout.{Layout}

@@ -1,5 +1,5 @@
 -- Structures and enumerators (C11 6.7.2.1, 6.7.2.2).
-use Rattle.std.specs.Prelude.{ℕ, List, [], Bool, false, Option, None, Some, map, slice_get, slice_index_or}
+use Rattle.std.specs.Prelude.{ℕ, List, Bool, false, Option, None, Some, slice_get}
 use Rattle.cr_syntax.specs.declared.node.Kind.{Kind}
 use Rattle.cr_syntax.specs.declared.node.Kind.TheVariants as kind
 use Rattle.cr_syntax.specs.declared.node.Node.{Node}

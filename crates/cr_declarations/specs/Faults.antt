@@ -8,7 +8,6 @@ use Rattle.cr_syntax.specs.declared.node.Kind.TheVariants as kind
 use Rattle.cr_syntax.specs.declared.node.Node.{Node}
 use Rattle.cr_places.specs.declared.context.Place.{Place}
 use Rattle.cr_places.specs.declared.context.Place.TheVariants as place
-use Rattle.cr_places.specs.declared.context.Around.{Around}
 use Rattle.cr_places.specs.Around.{outermost}
 use Rattle.cr_types.specs.declared.layout.Layout.{Layout}
 use Rattle.cr_types.specs.declared.shape.Shape.{Shape}
@@ -30,7 +29,7 @@ use Rattle.cr_declarations.specs.declared.tree.Tag.{Tag}
 use Rattle.cr_declarations.specs.declared.tree.Tree.{Tree}
 use Rattle.cr_declarations.specs.declared.faults.Own as columns
 use Rattle.cr_declarations.specs.Before.{Before, kind_in, first_in, parts_in, type_in, specified_in, declarator_in}
-use Rattle.cr_declarations.specs.Named.{is_declarator, declaration_of, is_initialised, above_in, declaration_at, specifiers_in, class_of, is_typedef, parameter_nodes}
+use Rattle.cr_declarations.specs.Named.{is_declarator, declaration_of, is_initialised, specifiers_in, class_of, is_typedef, parameter_nodes}
 
 -- ---- what a node has itself
 

@@ -28,11 +28,14 @@ declares_by k tag = tag_declares tag
 abbrev pub joined_in : (ℕ → Specified) → List ℕ → Specified
 joined_in at parts = fold (λ said part. joined_of said (at part)) nothing parts
 
+abbrev pub are_specifiers : Kind → Bool
+are_specifiers kind.Specifiers = true
+are_specifiers kind.PlainSpecifiers = true
+are_specifiers k = false
+
 -- several specifiers say what each of them says; what is no specifier says nothing
 abbrev pub said_by : Kind → (ℕ → Specified) → Option Tag → Node → Specified
-said_by kind.Specifiers at tag n = joined_in at n.parts
-said_by kind.PlainSpecifiers at tag n = joined_in at n.parts
-said_by k at tag n = specified_by k n.first (declares_by k tag)
+said_by k at tag n = if are_specifiers k then joined_in at n.parts else specified_by k n.first (declares_by k tag)
 
 -- ---- the type that they name
 

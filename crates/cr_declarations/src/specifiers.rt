@@ -1,6 +1,6 @@
 ghost use Rattle.std.specs.Prelude.{◌≡◌, slice_index_or};
 ghost use Rattle.cr_declared.specs.Specifiers.{nothing};
-ghost use Rattle.cr_declarations.specs.Specifiers.{tag_declares, declares_by, joined_in, said_by};
+ghost use Rattle.cr_declarations.specs.Specifiers.{are_specifiers, tag_declares, declares_by, joined_in, said_by};
 
 use crate::before::{Columns, specified_of};
 use crate::tree::{Tag, Tree, tag_of};
@@ -11,9 +11,19 @@ use cr_syntax::{Kind, Node};
 pub fn specified(tree: &Tree, columns: &Columns, at: u32, node: &Node) -> Specified
     ensures { result ≡ said_by node.now.kind (λ p. slice_index_or columns.now.specified.now p nothing) (slice_index_or tree.now.tags.now at None) node.now }
 {
-    match node.kind {
-        Kind::Specifiers | Kind::PlainSpecifiers => joined_in(columns, node.parts.as_slice()),
-        kind => specifier(kind, node.first, declares(kind, tag_of(tree, at))),
+    if are_specifiers(node.kind) {
+        joined_in(columns, node.parts.as_slice())
+    } else {
+        specifier(node.kind, node.first, declares(node.kind, tag_of(tree, at)))
+    }
+}
+
+fn are_specifiers(kind: Kind) -> bool
+    ensures { result ≡ are_specifiers kind }
+{
+    match kind {
+        Kind::Specifiers | Kind::PlainSpecifiers => true,
+        _ => false,
     }
 }
 

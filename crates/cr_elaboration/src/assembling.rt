@@ -88,17 +88,31 @@ fn columns_of(
     requires first { type_at judged.now.table.now 0 ≡ unknown }
     ensures { IfOk result (λ c. AreColumns file.now (parsed_of unit.now) judged.now c) }
 {
-    let found = declarations_of(alloc, unit, judged)?;
     let main = main_of(file, unit)?;
-    let shaped = types_of(alloc, unit, judged, &found)?;
-    let entities = entities_of(alloc, unit, judged, &found)?;
     let values = values_of(alloc, unit.nodes.as_slice(), judged)?;
+    let (entities, shaped) = named_of(alloc, unit, judged)?;
     Ok(Columns {
         shaped,
         entities,
         values,
         main,
     })
+}
+
+// The columns that the declarations of names give.
+fn named_of(
+    alloc: Global,
+    unit: &Unit,
+    judged: &Judgement,
+) -> Result<(Entities, Shaped), AllocError>
+    requires { type_at judged.now.table.now 0 ≡ unknown }
+    ensures entities { IfOk result (λ both. AreEntities (parsed_of unit.now) judged.now both.0) }
+    ensures shaped { IfOk result (λ both. IsShaped (parsed_of unit.now) judged.now both.1) }
+{
+    let found = declarations_of(alloc, unit, judged)?;
+    let entities = entities_of(alloc, unit, judged, &found)?;
+    let shaped = types_of(alloc, unit, judged, &found)?;
+    Ok((entities, shaped))
 }
 
 /// The columns of what names stand for.

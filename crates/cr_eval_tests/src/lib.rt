@@ -1,5 +1,6 @@
-//! The tests of `cr_eval`, `cr_join`, `cr_turns` and `cr_expressions` at expressions, and of `cr_calls`, by public names alone:
-//! expressions over the objects of a hand-made unit, each node evaluated by these crates, and calls of the library.
+//! The tests of `cr_eval`, `cr_join`, `cr_turns` and `cr_expressions` at expressions, of `cr_calls`, and of `cr_exec`, by public names
+//! alone: expressions over the objects of a hand-made unit, each node evaluated by these crates, calls of the library, and programs as
+//! lists of operations.
 //!
 //! They stand above these crates, so that none of them proves its functions once more for its tests. It promises nothing, and stands on
 //! the crates that it tests.
@@ -11,6 +12,8 @@ mod calls;
 mod evaluate;
 #[cfg(test)]
 mod expressions;
+#[cfg(test)]
+mod programs;
 #[cfg(test)]
 mod rows;
 #[cfg(test)]

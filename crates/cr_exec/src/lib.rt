@@ -8,7 +8,5 @@
 mod nodes;
 mod program;
 mod running;
-#[cfg(test)]
-mod tests;
 
 pub use program::run;

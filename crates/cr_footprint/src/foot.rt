@@ -119,10 +119,18 @@ impl Foot {
         if let Some((object, cell)) = self.first_conflict(&other) {
             return Err(FootEnd::Conflict(object, cell));
         }
+        self.take_all(&mut other)?;
+        Ok(self)
+    }
+
+    /// Has all events of another as well, which keeps any of them.
+    #[inline(always)]
+    fn take_all(&mut self, other: &mut Foot) -> Result<(), NoMemory>
+        ensures { OnOk result (sets self.new ≡ union_of (sets self.old) (sets other.old)) }
+    {
         self.reads.take_in(&mut other.reads)?;
         self.writes.take_in(&mut other.writes)?;
-        self.opens.take_in(&mut other.opens)?;
-        Ok(self)
+        self.opens.take_in(&mut other.opens)
     }
 
     /// The footprint of an evaluation, a sequence point and the next evaluation, as the operands of a
@@ -187,6 +195,17 @@ impl Foot {
         ensures apart { OnOk result ((c : Cell) → open_in (sets self) (span object cells.start cells.end) c ≡ false) }
         ensures conflict { (o c : ℕ) → result ≡ Err (FootEnd.Conflict o c) → IsLeast (open_in (sets self) (span object cells.start cells.end)) (o, c) }
     {
+        match self.write_span(object, cells) {
+            Ok(()) => Ok(self),
+            Err(end) => Err(end),
+        }
+    }
+
+    fn write_span(&mut self, object: u32, cells: Range<u32>) -> Result<(), FootEnd>
+        ensures added { OnOk result (sets self.new ≡ with_writes (sets self.old) (span object cells.start cells.end)) }
+        ensures apart { OnOk result ((c : Cell) → open_in (sets self.old) (span object cells.start cells.end) c ≡ false) }
+        ensures conflict { (o c : ℕ) → result ≡ Err (FootEnd.Conflict o c) → IsLeast (open_in (sets self.old) (span object cells.start cells.end)) (o, c) }
+    {
         let (first, end) = (cells.start, cells.end);
         let mut own = Cells::of_span(self.opens.allocator(), object, first..end)?;
         if let Some((object, cell)) = self.opens.first_shared(&own) {
@@ -195,7 +214,7 @@ impl Foot {
         let mut more = Cells::of_span(self.opens.allocator(), object, first..end)?;
         self.writes.take_in(&mut own)?;
         self.opens.take_in(&mut more)?;
-        Ok(self)
+        Ok(())
     }
 
     /// Adds the reads of the expression's own operator on the cells of an object in a range of numbers, as the value of a struct
@@ -205,11 +224,22 @@ impl Foot {
         ensures apart { OnOk result ((c : Cell) → open_in (sets self) (span object cells.start cells.end) c ≡ false) }
         ensures conflict { (o c : ℕ) → result ≡ Err (FootEnd.Conflict o c) → IsLeast (open_in (sets self) (span object cells.start cells.end)) (o, c) }
     {
+        match self.read_span(object, cells) {
+            Ok(()) => Ok(self),
+            Err(end) => Err(end),
+        }
+    }
+
+    fn read_span(&mut self, object: u32, cells: Range<u32>) -> Result<(), FootEnd>
+        ensures added { OnOk result (sets self.new ≡ with_reads (sets self.old) (span object cells.start cells.end)) }
+        ensures apart { OnOk result ((c : Cell) → open_in (sets self.old) (span object cells.start cells.end) c ≡ false) }
+        ensures conflict { (o c : ℕ) → result ≡ Err (FootEnd.Conflict o c) → IsLeast (open_in (sets self.old) (span object cells.start cells.end)) (o, c) }
+    {
         let mut own = Cells::of_span(self.opens.allocator(), object, cells)?;
         if let Some((object, cell)) = self.opens.first_shared(&own) {
             return Err(FootEnd::Conflict(object, cell));
         }
         self.reads.take_in(&mut own)?;
-        Ok(self)
+        Ok(())
     }
 }

@@ -43,7 +43,6 @@ pub struct Whole {
 
 /// Judges the expressions, declarations and statements of a unit. `texts` has the bytes of each string literal, with its closing
 /// zero. The table's first row is that of no type. The error is want of memory.
-#[tactic(auto, using(crate::proofs::Unit::unit_first))]
 pub fn judge_unit(
     alloc: Global,
     table: &mut Table,

@@ -27,7 +27,8 @@ pub struct CLaw<'a> {
 impl<'a> CLaw<'a> {
     /// The law with runs of so many steps; the other limits are those of the profile.
     pub fn with_steps(steps: u64, last: Option<&'a LastRead>) -> CLaw<'a>
-        ensures { result.limits ≡ limits_of steps }
+        ensures limits { result.limits ≡ limits_of steps }
+        ensures last { result.last ≡ last.entry }
     {
         CLaw {
             limits: Limits {

@@ -1,9 +1,9 @@
 -- The first of breaks.
-use Rattle.std.proofs.Common.{◌≡◌, ℕ, ◌≤◌, ◌<◌, ◌==◌, ◌⊎◌, Bool, true, false, List, [], ◌∷◌, Option, None, Some, nat_lt, nat_le, if◌then◌else◌, refl, sym, ap, subst, ◌∙◌, inl, inr, arith}
+use Rattle.std.proofs.Common.{◌≡◌, ◌==◌, ◌⊎◌, Bool, true, false, List, [], ◌∷◌, Option, None, Some, nat_lt, nat_le, if◌then◌else◌, refl, sym, ap, subst, ◌∙◌, inl, inr, arith}
 use Rattle.std.specs.Option.{is_some}
 use Rattle.std.proofs.lemmas.Bool.{true≢false, ltb-true, ltb-false, leb-true, leb-false, eq-eqb, eqb-true}
 use Rattle.cr_rules.specs.declared.least.Break.{Break}
-use Rattle.cr_rules.specs.Breaks.{ComesFirst, IsFirstOf, IsFirst, IsAmong, comes_first, lesser, first_of}
+use Rattle.cr_rules.specs.Breaks.{ComesFirst, IsFirst, IsAmong, comes_first, lesser, first_of}
 
 -- ---- two breaks
 

@@ -1,4 +1,2 @@
 pub mod Firsts
 pub mod Kept
-pub mod Steps
-pub mod Typings

@@ -2,17 +2,14 @@
 use Rattle.std.specs.Prelude.{◌≡◌, ℕ, zero, suc, ◌-◌, ◌≤◌, ◌==◌, ◌&&◌, ◌||◌, ◌⊎◌, Bool, true, false, not, List, [], ◌∷◌, Option, None, Some, length, nat_lt, nat_le, slice_get, if◌then◌else◌}
 use Rattle.std.specs.Option.{is_some}
 use Rattle.cr_syntax.specs.declared.node.Node.{Node}
-use Rattle.cr_types.specs.declared.shape.Shape.{Shape}
-use Rattle.cr_operands.specs.declared.fact.Fact.{Fact}
-use Rattle.cr_operands.specs.Values.{Seen, seen_at}
+use Rattle.cr_operands.specs.Values.{Seen}
 use Rattle.cr_operands.specs.Places.{structure_in}
 use Rattle.cr_rules.specs.declared.least.Break.{Break}
 use Rattle.cr_rules.specs.declared.form.Form.{Form}
 use Rattle.cr_rules.specs.declared.form.Form.TheVariants as form
-use Rattle.cr_rules.specs.declared.known.Known.{Known}
 use Rattle.cr_rules.specs.Forms.{form_of, row_of_integers}
-use Rattle.cr_rules.specs.Known.{Signature, Meaning, an_object, an_enumerator, a_function, a_type, unclear, Source, source_at}
-use Rattle.cr_rules.specs.Ruled.{operand, value, is_type, is_typed, member_in, pointed_structure, counts_agree, is_mispassed, below, facts_at}
+use Rattle.cr_rules.specs.Known.{Meaning, an_object, an_enumerator, a_function, a_type, unclear, Source}
+use Rattle.cr_rules.specs.Ruled.{operand, value, is_type, is_typed, member_in, pointed_structure, counts_agree, is_mispassed}
 
 -- ---- breaks
 
@@ -132,15 +129,6 @@ abbrev pub faults_if : Option Node → Seen → (ℕ → Seen) → Source → �
 faults_if None own at s i = []
 faults_if (Some n) own at s i = faults_in (form_of n.kind) own at s i n
 
--- the same by the rows of a table
-abbrev pub faults_by : List Shape → Known → List Fact → Fact → ℕ → List (Option Break)
-faults_by shapes known facts own i =
-    faults_if (slice_get known.nodes.now i) (seen_at shapes own) (facts_at shapes facts) (source_at shapes known) i
-
--- what node i breaks in a typing
-abbrev pub faults_of : Source → (ℕ → Seen) → ℕ → List (Option Break)
-faults_of s at i = faults_if (slice_get s.nodes i) (at i) (below i at) s i
-
 -- ---- the first break
 
 -- by tokens, and at one token by rows
@@ -161,11 +149,6 @@ IsFirst is_there (Some b) = IsFirstOf is_there b
 abbrev pub IsAmong : List (Option Break) → Break → Type 0
 IsAmong [] b = ⊥
 IsAmong (x ∷ xs) b = (x ≡ Some b) ⊎ IsAmong xs b
-
--- a node breaks it
-pub record IsBroken (s : Source) (at : ℕ → Seen) (b : Break) : Type 0 where
-  pub node : ℕ
-  pub among : IsAmong (faults_of s at node) b
 
 -- ---- two breaks, and several
 

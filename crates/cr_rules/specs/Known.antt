@@ -1,5 +1,5 @@
 -- What is known of a unit where its expressions are judged: what its names stand for, which types are named, and its structures.
-use Rattle.std.specs.Prelude.{◌≡◌, ℕ, ℤ, suc, ◌<◌, ◌≤◌, ◌==◌, Bool, false, List, [], ◌∷◌, Option, None, Some, IfSome, length, slice_get, slice_index_or, slice_range, if◌then◌else◌}
+use Rattle.std.specs.Prelude.{ℕ, ℤ, suc, ◌<◌, ◌≤◌, ◌==◌, Bool, false, List, [], ◌∷◌, Option, None, Some, IfSome, length, slice_get, slice_index_or, slice_range, if◌then◌else◌}
 use Rattle.cr_tokens.specs.declared.token.Token.{Token}
 use Rattle.cr_syntax.specs.declared.node.Node.{Node}
 use Rattle.cr_types.specs.declared.layout.Layout.{Layout}

@@ -3,4 +3,3 @@ pub mod Known
 pub mod Ruled
 pub mod Breaks
 pub mod Used
-pub mod Laws

@@ -1,5 +1,5 @@
 -- What an expression has, by what its parts have (C11 6.5), and a typing of a unit.
-use Rattle.std.specs.Prelude.{◌≡◌, ℕ, zero, suc, ◌<◌, ◌≤◌, ◌==◌, ◌&&◌, ◌||◌, Bool, true, false, not, List, Option, None, Some, length, nat_lt, nat_le, slice_get, slice_index_or, if◌then◌else◌}
+use Rattle.std.specs.Prelude.{◌≡◌, ℕ, zero, suc, ◌<◌, ◌==◌, ◌&&◌, ◌||◌, Bool, true, false, not, List, Option, None, Some, length, nat_le, slice_get, slice_index_or, if◌then◌else◌}
 use Rattle.cr_constants.specs.declared.constant.Constant.TheVariants.{NotConstant, Value}
 use Rattle.cr_constants.specs.declared.constant.Operand.{Operand}
 use Rattle.cr_constants.specs.Literals.{integer_of, character_of}
@@ -16,9 +16,7 @@ use Rattle.cr_operands.specs.Rules.{int_of, integers_value, shifted_value, sum_v
 use Rattle.cr_operands.specs.Places.{assigned, updated, stepped, address_value, dereferenced, subscripted, structure_in, member_of, pointed_member_of, text_of}
 use Rattle.cr_rules.specs.declared.form.Form.{Form}
 use Rattle.cr_rules.specs.declared.form.Form.TheVariants as form
-use Rattle.cr_rules.specs.declared.known.Known.{Known}
-use Rattle.cr_rules.specs.Forms.{form_of}
-use Rattle.cr_rules.specs.Known.{Signature, Meaning, an_object, an_enumerator, a_function, a_type, unclear, Source, source_at}
+use Rattle.cr_rules.specs.Known.{Signature, Meaning, an_object, an_enumerator, a_function, a_type, unclear, Source}
 
 -- ---- operands
 
@@ -171,20 +169,6 @@ ruled form.Cast at s i n = converted_by s at n.parts
 ruled form.Conditional at s i n = chosen (operand at n.parts)
 ruled f at s i n = given (computed f at s i n)
 
-abbrev pub ruled_if : Option Node → (ℕ → Seen) → Source → ℕ → Seen
-ruled_if None at s i = no_type
-ruled_if (Some n) at s i = ruled (form_of n.kind) at s i n
-
--- ---- typings
-
--- what the nodes before node i have; all others have no type
-abbrev pub below : ℕ → (ℕ → Seen) → ℕ → Seen
-below i at part = if nat_lt part i then at part else no_type
-
--- each node has what its rule makes of the nodes before it
-pub record IsTyping (s : Source) (at : ℕ → Seen) : Type 0 where
-  pub each : (i : ℕ) → at i ≡ ruled_if (slice_get s.nodes i) (below i at) s i
-
 -- ---- facts of rows
 
 -- what is where nothing is known
@@ -200,10 +184,6 @@ facts_at shapes facts part = seen_at shapes (fact_at facts part)
 
 abbrev pub operands_at : List Shape → List Fact → List ℕ → ℕ → Seen
 operands_at shapes facts parts = operand (facts_at shapes facts) parts
-
--- what node i has by them
-abbrev pub ruled_by : List Shape → Known → List Fact → ℕ → Seen
-ruled_by shapes known facts i = ruled_if (slice_get known.nodes.now i) (facts_at shapes facts) (source_at shapes known) i
 
 -- the rows are of the table, whose first is that of no type
 pub record AreFacts (shapes : List Shape) (facts : List Fact) : Type 0 where

@@ -1,18 +1,16 @@
 //! What each expression of a unit has, and which constraint of C11 6.5 it breaks, given what is known of the nodes that declare
 //! names, name types and define structures.
 //!
-//! A typing gives each node a type by one equation, which speaks of the nodes before it: `specs/Ruled.antt` has one clause a form of
+//! What an expression has is one equation, which speaks of the nodes before it: `specs/Ruled.antt` has one clause a form of
 //! expression. A row of the table of constraints (K16 to K37) is a clause of `specs/Breaks.antt`: what a node breaks by what it has
-//! and what its parts have. It promises that a unit has one typing, and that of all breaks the first is answered. It stands on the
-//! operators, the types and the tree.
+//! and what its parts have. It promises that `rule` answers just the one and `broken` the first of the other, for one node; who goes
+//! over a unit's nodes is `cr_judge`. It stands on the operators, the types and the tree.
 #![tactic(auto)]
 
 mod call;
 mod fault;
 mod form;
-mod judged;
 mod known;
-mod laws;
 mod least;
 mod operands;
 mod rules;
@@ -20,9 +18,7 @@ mod used;
 
 pub use fault::broken;
 pub use form::{Form, form_of};
-pub use judged::{Judged, judge};
 pub use known::{Declared, Known, Member};
-pub use laws::one_typing;
 pub use least::{Break, break_if, lesser};
 pub use operands::{NO_FACT, is_typed, operand, part_at, value};
 pub use rules::rule;

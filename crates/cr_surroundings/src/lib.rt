@@ -6,6 +6,7 @@
 //! names and the places of nodes.
 #![tactic(auto)]
 
+mod bound;
 mod laws;
 mod links;
 mod previous;

@@ -2,9 +2,8 @@ ghost use Rattle.std.specs.Prelude.{◌≡◌, IfOk};
 ghost use Rattle.cr_surroundings.specs.Surroundings.{AreSurroundings, IsTree};
 ghost use Rattle.cr_syntax.specs.Words.{AreSpans};
 
-use crate::links::all_links;
+use crate::bound::bind_nodes;
 use crate::previous::previous;
-use crate::tagged::tags;
 use cr_bindings::Bindings;
 use cr_declarations::{Tag, Tree};
 use cr_places::{Around, above, all_around};
@@ -49,22 +48,20 @@ impl Surroundings {
         requires { AreSpans file.now unit.now.tokens.list.items }
         ensures { IfOk result (λ found. AreSurroundings file.now unit.now names.now found) }
     {
-        let tokens = unit.tokens.list.as_slice();
         let nodes = unit.nodes.as_slice();
-        let bindings = Bindings::new(alloc, file, unit, names)?;
         let above = above(alloc, nodes)?;
         let around = all_around(alloc, nodes, &above)?;
-        let links = all_links(alloc, &bindings, nodes, &above)?;
-        let tags = tags(alloc, &bindings, names, nodes, tokens)?;
+        let previous = previous(alloc, nodes)?;
+        let bound = bind_nodes(alloc, file, unit, names, &above)?;
         Ok(Surroundings {
-            bindings,
+            bindings: bound.bindings,
             above: Row::from_vec(above),
-            previous: Row::from_vec(previous(alloc, nodes)?),
+            previous: Row::from_vec(previous),
             around: Row::from_vec(around),
-            visible: links.visible,
-            earlier: links.earlier,
-            same: links.same,
-            tags: Row::from_vec(tags),
+            visible: bound.links.visible,
+            earlier: bound.links.earlier,
+            same: bound.links.same,
+            tags: bound.tags,
         })
     }
 

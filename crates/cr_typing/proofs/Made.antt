@@ -1,6 +1,5 @@
 -- The columns of a typed unit as they are made.
-use Rattle.std.proofs.Common.{◌≡◌, List, ℕ, [], Result, Ok, Err, IfOk, OnOk, subst}
-use Rattle.std.specs.Result.{result_and}
+use Rattle.std.proofs.Common.{◌≡◌, List, ℕ, [], subst}
 use Rattle.cr_syntax.specs.declared.unit.Unit as source
 use Rattle.cr_scopes.specs.declared.names.Names.{Names}
 use Rattle.cr_declarations.specs.declared.tree.Tree.{Tree}
@@ -56,9 +55,3 @@ typed_of file bytes unit names judged rest texts typed sound of_file of_texts of
     fits = made.fits;
   };
 }
-
--- what a call that gives nothing makes known is known of a value that stays
-pub stays : {T E : Type 0} (P : T → Type 0) (Q : Type 0) (done : Result Unit E) (value : T) → OnOk done Q → (Q → P value)
-    → IfOk (result_and done (Ok value)) P
-stays P Q (Ok u) value is known = known is
-stays P Q (Err error) value is known = tt

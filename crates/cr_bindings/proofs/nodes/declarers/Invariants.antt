@@ -1,4 +1,3 @@
-use Rattle.std.proofs.Common.{length}
 use Rattle.cr_bindings.specs.Last.{AreLast}
 use Rattle.cr_bindings.specs.Nodes.{name_at}
 use Rattle.cr_bindings.proofs.nodes.declarers.Given as goal

@@ -1,10 +1,22 @@
-use Rattle.std.proofs.Common.{sym, subst, ◌∙◌}
+use Rattle.std.proofs.Common.{ℕ, List, sym, subst, ◌∙◌}
+use Rattle.cr_syntax.specs.declared.unit.Unit as source
+use Rattle.cr_scopes.specs.declared.names.Names.{Names}
 use Rattle.cr_holding.proofs.Kept.{kept}
 use Rattle.cr_columns.specs.Texts.{AreTexts}
 use Rattle.cr_surroundings.specs.Surroundings.{AreSurroundings}
-use Rattle.cr_check.specs.Judged.{IsWholeFirst}
-use Rattle.cr_check.proofs.Found.{judged_by}
+use Rattle.cr_check.specs.declared.judged.Judged.{Judged}
+use Rattle.cr_check.specs.Judged.{IsJudgedFirst, IsWholeFirst}
 use Rattle.cr_check.proofs.judged.judgement.Goals as goal
+
+-- what is judged, by what it is judged by
+judged_by : (file : List ℕ) (unit : source.Unit) (names : Names) (j : Judged) → AreSurroundings file unit names j.surroundings
+    → AreTexts file unit.tokens.list.items unit.nodes j.texts → IsWholeFirst file unit j.surroundings j.texts j.table j.whole
+    → IsJudgedFirst file unit names j
+judged_by file unit names j surroundings texts whole = record {
+  tree = whole.tree;
+  is = record { surroundings = surroundings; texts = texts; whole = whole.is };
+  first = whole.first;
+}
 
 pub returns : goal.returns
 returns c =

@@ -1,4 +1,4 @@
-use Rattle.std.proofs.Common.{rules, ◌≡◌, ◌+◌, ◌∷◌, [], ◌++◌, map, take, sym, subst}
+use Rattle.std.proofs.Common.{rules, ◌≡◌, ◌+◌, map, take, sym, subst}
 use Rattle.cr_types.specs.Types.{type_at}
 use Rattle.cr_types.specs.Relations.{AreRows}
 use Rattle.cr_declared.specs.Functions.{adjusted_type}

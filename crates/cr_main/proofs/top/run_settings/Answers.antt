@@ -16,7 +16,7 @@ pub returns-in-Named-clause-runs : goal.returns-in-Named-clause-runs
 returns-in-Named-clause-runs g c = (
   c.own_name.result.now,
   subst (λ name. IsOwnName name c.own_name.result.now) c.source_name-name.ensures c.own_name.ensures,
-  stored_runs c.args.settings.now (says_of g.J.Judge c.args.bench.now) c.own_name.result.now c.with_steps-law.result.limits c.source_name-name.result.now c.is_saved.result c.with_steps-law.ensures c.source_name-name.ensures c.is_saved.ensures
+  stored_runs c.args.settings.now (says_of g.J.Judge c.args.bench.now) c.own_name.result.now c.with_steps-law.result.limits c.source_name-name.result.now c.is_saved.result c.with_steps-law.ensures.limits c.source_name-name.ensures c.is_saved.ensures
       (g.F.Files.told c.args.files.now)
       (outside g.F.Files c.args.files.now g.O.Sink c.args.out.now) (outside g.F.Files c.run_stored.new.files g.O.Sink c.run_stored.new.out)
       (judging g.J.Judge c.args.bench.now) (judging g.J.Judge c.run_stored.new.bench) c.run_stored.result
@@ -27,7 +27,7 @@ pub returns-in-Ok-clause-runs : goal.returns-in-Ok-clause-runs
 returns-in-Ok-clause-runs g c = (
   c.own_name.result.now,
   subst (λ name. IsOwnName name c.own_name.result.now) c.source_name-name.ensures c.own_name.ensures,
-  made_runs c.args.settings.now (says_of g.J.Judge c.args.bench.now) c.own_name.result.now c.with_steps-law.result.limits c.source_name-name.result.now c.is_saved.result c.with_steps-law.ensures c.source_name-name.ensures c.is_saved.ensures
+  made_runs c.args.settings.now (says_of g.J.Judge c.args.bench.now) c.own_name.result.now c.with_steps-law.result.limits c.source_name-name.result.now c.is_saved.result c.with_steps-law.ensures.limits c.source_name-name.ensures c.is_saved.ensures
       (g.F.Files.told c.args.files.now)
       (outside g.F.Files c.args.files.now g.O.Sink c.args.out.now) (outside g.F.Files c.run_bytes.new.files g.O.Sink c.run_bytes.new.out)
       (judging g.J.Judge c.args.bench.now) (judging g.J.Judge c.run_bytes.new.bench) c.run_bytes.result

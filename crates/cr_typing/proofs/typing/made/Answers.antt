@@ -1,7 +1,7 @@
 use Rattle.std.proofs.Common.{IfOk, subst, sym}
+use Rattle.cr_holding.proofs.Kept.{stays}
 use Rattle.cr_typed.specs.Typed.{IsTyped}
 use Rattle.cr_typing.specs.Made.{IsMade}
-use Rattle.cr_typing.proofs.Made.{stays}
 use Rattle.cr_typing.proofs.typing.made.Goals as goal
 
 pub returns : goal.returns

@@ -1,4 +1,4 @@
-use Rattle.std.proofs.Common.{◌≤◌, ◌<◌, length, None, List, reverse, ap, sym, ◌∙◌, rules}
+use Rattle.std.proofs.Common.{None, List, reverse, ap, sym, ◌∙◌, rules}
 use Rattle.std.proofs.lemmas.List.{get_or_read, get_or_past}
 use Rattle.cr_bindings.specs.declared.scoped.Binding.{Binding}
 use Rattle.cr_bindings.specs.Stacks.{found_in}

@@ -1,4 +1,4 @@
-use Rattle.std.proofs.Common.{◌≡◌, ◌∙◌, sym}
+use Rattle.std.proofs.Common.{◌∙◌, sym}
 use Rattle.std.proofs.lemmas.Bool.{eqb-true, eq-eqb}
 use Rattle.cr_footprint.proofs.Rising.{holds_none, none_held}
 use Rattle.cr_footprint.proofs.cells.Cells.is_empty.Goals as goal

@@ -1,7 +1,8 @@
 // Programs as lists of operations.
-use crate::run;
+use crate::rows::{expect_text, rows, triple};
 use cr_cursor::Stop;
 use cr_eval::Table;
+use cr_exec::run;
 use cr_ints::IntKind;
 use cr_meaning::{
     Access, Callee, Case, Change, Form, Limits, Line, Op, Operator, Parameter, Relation, Run,
@@ -432,13 +433,8 @@ fn shown(alloc: Global, run: &Run, looks: u64) -> Result<String, AllocError> {
     }
 }
 
-fn expect(rt: &impl Abort, found: &str, wanted: &str, row: &str) {
-    assert!(rt; found == wanted, "{row}: {found}");
-}
-
 fn check(rt: &impl Abort, alloc: Global, row: &str) -> Result<(), AllocError> {
-    let (limits, rest) = row.split_once('¦').unwrap_or((row, ""));
-    let (program, wanted) = rest.split_once('¦').unwrap_or((rest, ""));
+    let (limits, program, wanted) = triple(row);
     let mut words = limits.split_whitespace();
     let steps = u64::from(next(&mut words));
     let at = u64::from(next(&mut words));
@@ -449,9 +445,7 @@ fn check(rt: &impl Abort, alloc: Global, row: &str) -> Result<(), AllocError> {
         raised: false,
     };
     let outcome = run(alloc, &table, &mut stop);
-    let found = shown(alloc, &outcome, stop.looks)?;
-    expect(rt, found.as_str(), wanted, row);
-    Ok(())
+    expect_text(rt, shown(alloc, &outcome, stop.looks), wanted, row)
 }
 
 // `1+1+..+1` with 2,000 `+`, a tree as deep, of which main returns the value, 2001.
@@ -474,10 +468,8 @@ fn chain(alloc: Global) -> Result<String, AllocError> {
 #[test]
 fn programs_run(rt: HostRuntime) -> Result<(), Fail> {
     for table in [PROGRAMS, MORE_PROGRAMS, CASES] {
-        for row in table.lines() {
-            if !row.is_empty() {
-                check(&rt, rt.alloc(), row)?;
-            }
+        for row in rows(table) {
+            check(&rt, rt.alloc(), row)?;
         }
     }
     let deep = chain(rt.alloc())?;
