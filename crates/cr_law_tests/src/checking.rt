@@ -1,26 +1,18 @@
-ghost use Rattle.cr_tokens.specs.Tokens.{Tokenizes};
 ghost use Rattle.cr_syntax.specs.Words.{AreSpans};
 
+use crate::texts::unit_of;
 use cr_check::{TypeFault, check};
 use cr_cursor::line_of;
-use cr_decls::parse;
 use cr_scopes::{NameFault, resolve};
-use cr_syntax::{Unit, tokens_are_spans};
-use cr_tokens::{Token, read};
+use cr_syntax::Unit;
+use cr_tokens::Token;
 use std::alloc::{AllocError, Global};
 
 // What a text comes to: `typed`, the first fault of its names or its types with its line, or `no unit`.
 pub(crate) fn checked(alloc: Global, text: &str) -> Result<String, AllocError> {
-    let file = text.as_bytes();
-    match read(alloc, file) {
-        Ok(tokens) => {
-            tokens_are_spans();
-            match parse(alloc, file, &tokens) {
-                Ok(unit) => unit_shown(alloc, file, unit),
-                Err(_) => String::from_str(alloc, "no unit"),
-            }
-        }
-        Err(_) => String::from_str(alloc, "no tokens"),
+    match unit_of(alloc, text)? {
+        Some(unit) => unit_shown(alloc, text.as_bytes(), unit),
+        None => String::from_str(alloc, "no unit"),
     }
 }
 

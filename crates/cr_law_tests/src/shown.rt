@@ -2,15 +2,14 @@
 ghost use Rattle.cr_syntax.specs.Words.{AreSpans};
 ghost use Rattle.cr_typed.specs.Typed.{IsTyped};
 
+use crate::texts::unit_of;
 use cr_check::check;
 use cr_cursor::{Law, Never, Reason, Ruling};
-use cr_decls::parse;
 use cr_lawful::CLaw;
 use cr_meaning::{Limits, Run};
 use cr_outcome::outcome;
 use cr_scopes::resolve;
-use cr_syntax::{Unit, tokens_are_spans};
-use cr_tokens::read;
+use cr_syntax::Unit;
 use cr_typed::Typed;
 use cr_typing::typed;
 use std::alloc::{AllocError, Global};
@@ -52,22 +51,16 @@ fn reason_shown(alloc: Global, reason: Reason) -> Result<String, AllocError> {
 pub(crate) fn shown(alloc: Global, text: &str, limits: Limits) -> Result<String, AllocError> {
     let ruling = ruled(alloc, text.as_bytes(), limits)?;
     if ruling.as_str() == "lawful" {
-        end_shown(alloc, text.as_bytes(), limits)
+        end_shown(alloc, text, limits)
     } else {
         Ok(ruling)
     }
 }
 
-fn end_shown(alloc: Global, file: &[u8], limits: Limits) -> Result<String, AllocError> {
-    match read(alloc, file) {
-        Ok(tokens) => {
-            tokens_are_spans();
-            match parse(alloc, file, &tokens) {
-                Ok(unit) => unit_shown(alloc, file, unit, limits),
-                Err(_) => String::from_str(alloc, "no unit"),
-            }
-        }
-        Err(_) => String::from_str(alloc, "no tokens"),
+fn end_shown(alloc: Global, text: &str, limits: Limits) -> Result<String, AllocError> {
+    match unit_of(alloc, text)? {
+        Some(unit) => unit_shown(alloc, text.as_bytes(), unit, limits),
+        None => String::from_str(alloc, "no unit"),
     }
 }
 
