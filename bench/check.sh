@@ -6,7 +6,7 @@
 # It proves and builds a small timer in a folder of its own, which takes half an hour. Run it by hand.
 set -eu
 . "$(dirname "${BASH_SOURCE[0]}")/timer.sh"
-begin_timer cr_tokens cr_ints cr_rows cr_syntax cr_typed cr_listing cr_machine cr_exprs cr_decls cr_parse_tests cr_events cr_scopes cr_check
+begin_timer cr_tokens cr_ints cr_rows cr_syntax cr_typed cr_syntax_order cr_syntax_machine cr_exprs cr_decls tests_parsers cr_scopes_events cr_scopes cr_check
 {
   cat <<'RT'
 //! Parses the file on standard input, resolves its names and checks it, and prints how long these took and the peak of memory.
@@ -14,7 +14,7 @@ begin_timer cr_tokens cr_ints cr_rows cr_syntax cr_typed cr_listing cr_machine c
 
 use cr_check::{TypeFault, check};
 use cr_decls::parse;
-use cr_parse_tests::are_spans;
+use tests_parsers::are_spans;
 use cr_scopes::{NameFault, Names, resolve};
 use cr_syntax::Unit;
 use std::alloc::{AllocError, Global};

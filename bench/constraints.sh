@@ -32,7 +32,7 @@ export LC_ALL=C
             $0 = substr($0, RSTART + 2)
         }
         print plain $0
-    }' "$top/crates/cr_law_tests/src/checks.rt"
+    }' "$top/crates/tests_law/src/checks.rt"
     # the columns "at fault" and "not at fault" of names and types
     awk -F ' \\| ' '/^\| (K[0-9]+|[12]) \|/ {
         first = $1 ~ /K/ ? 5 : 4

@@ -5,8 +5,8 @@
 # It proves and builds a small timer in a folder of its own, which takes some minutes. Run it by hand.
 set -eu
 . "$(dirname "${BASH_SOURCE[0]}")/timer.sh"
-begin_timer cr_tokens cr_outside cr_cursor cr_rows cr_core cr_claims cr_pool cr_ints cr_syntax cr_machine cr_listing cr_exprs cr_decls cr_analysis \
-  cr_printer cr_edit cr_levels cr_brackets pass_text pass_exprs pass_stmts cr_passes
+begin_timer cr_tokens cr_outside cr_cursor cr_rows cr_core cr_claims cr_pool cr_ints cr_syntax cr_syntax_machine cr_syntax_order cr_exprs cr_decls cr_lawful_analysis \
+  cr_printer pass_edit pass_levels pass_brackets pass_text pass_exprs pass_stmts pass_list
 mkdir -p specs proofs/rejected
 touch specs/Lib.antt
 cat >proofs/rejected/Invariants.antt <<'ANTT'
@@ -39,7 +39,7 @@ ghost use Rattle.cr_pool.specs.Bench.{IsManned};
 
 use cr_cursor::{NoMemory, Passes, TokenLaw, positions};
 use cr_outside::{Answer, Judge, Test};
-use cr_passes::CPasses;
+use pass_list::CPasses;
 use cr_pool::{Bench, EpochEnd, Job, measure};
 use std::alloc::Global;
 use std::io::{self, Read};

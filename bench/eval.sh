@@ -1,10 +1,10 @@
 #!/usr/bin/env bash
 # Prints how many millions of sums, of loads and of stores of an int a second cr_eval::work_one and work_two do on one core, and how
-# many millions of sums of two read ints cr_join::join_two does, with their footprints.
+# many millions of sums of two read ints cr_eval_join::join_two does, with their footprints.
 # It proves and builds a small timer in a folder of its own, which takes some minutes. Run it by hand.
 set -eu
 . "$(dirname "${BASH_SOURCE[0]}")/timer.sh"
-begin_timer cr_rows cr_ints cr_memory cr_footprint cr_library cr_meaning cr_eval cr_join
+begin_timer cr_rows cr_ints cr_memory cr_footprint cr_library cr_meaning cr_eval cr_eval_join
 mkdir -p specs
 touch specs/Lib.antt
 cat >src/main.rt <<'RT'
@@ -18,7 +18,7 @@ use std::time::Instant;
 use cr_eval::{Table, work_one, work_two};
 use cr_footprint::Foot;
 use cr_ints::IntKind;
-use cr_join::{Part, join_two};
+use cr_eval_join::{Part, join_two};
 use cr_meaning::{Access, Change, Form, Limits, Op, Operator, Value, Work};
 use cr_memory::{Guard, Pointer, Scalar, Store};
 use cr_rows::Row;

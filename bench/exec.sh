@@ -5,8 +5,8 @@
 # It proves and builds a small timer in a folder of its own, which takes some minutes. Run it by hand.
 set -eu
 . "$(dirname "${BASH_SOURCE[0]}")/timer.sh"
-begin_timer cr_calls cr_cursor cr_eval cr_exec cr_expressions cr_footprint cr_frames cr_ints cr_join cr_library cr_meaning cr_memory cr_rows \
-  cr_slices cr_stack cr_statements cr_tokens cr_turns cr_world
+begin_timer cr_exec_library cr_cursor cr_eval cr_exec cr_exec_expressions cr_footprint cr_exec_calls cr_ints cr_eval_join cr_library cr_meaning cr_memory cr_rows \
+  cr_exec_slices cr_exec_stack cr_exec_statements cr_tokens cr_exec_turns cr_exec_world
 mkdir -p specs
 touch specs/Lib.antt
 cat >src/main.rt <<'RT'
@@ -41,7 +41,7 @@ calls in a loop¦int;int;read 0;return|2;block|3;place 1;constant 0;assign|5 6;e
 
 RT
 # the reader of operations is that of the tests
-sed -n '/^fn number(/,/^fn shown/p' ../cr_eval_tests/src/programs.rt | sed '$d' >>src/main.rt
+sed -n '/^fn number(/,/^fn shown/p' ../tests_evaluation/src/programs.rt | sed '$d' >>src/main.rt
 cat >>src/main.rt <<'RT'
 
 fn steps_of(run: &Run) -> u64 {

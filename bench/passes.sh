@@ -5,7 +5,7 @@
 # It proves and builds a small timer in a folder of its own, which takes a few minutes. Run it by hand.
 set -eu
 . "$(dirname "${BASH_SOURCE[0]}")/timer.sh"
-begin_timer cr_analysis cr_brackets cr_cursor cr_decls cr_edit cr_exprs cr_ints cr_levels cr_listing cr_machine cr_printer cr_rows cr_syntax cr_tokens \
+begin_timer cr_lawful_analysis pass_brackets cr_cursor cr_decls pass_edit cr_exprs cr_ints pass_levels cr_syntax_order cr_syntax_machine cr_printer cr_rows cr_syntax cr_tokens \
   pass_exprs pass_stmts pass_text
 cat >src/main.rt <<'RT'
 //! Makes the indexes of the file on standard input, and a hundred variants of each level.
@@ -13,9 +13,9 @@ cat >src/main.rt <<'RT'
 
 ghost use Rattle.std.specs.Prelude.{◌≤◌};
 
-use cr_analysis::{Analysis, analyse};
+use cr_lawful_analysis::{Analysis, analyse};
 use cr_cursor::Cursor;
-use cr_edit::{Menu, variant, width};
+use pass_edit::{Menu, variant, width};
 use pass_exprs::expressions;
 use pass_stmts::statements;
 use pass_text::{brackets, count_lines, lines_variant, lines_width, runs_of_tokens};

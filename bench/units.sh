@@ -5,13 +5,13 @@
 # It proves and builds a small timer in a folder of its own, which takes some minutes. Run it by hand.
 set -eu
 . "$(dirname "${BASH_SOURCE[0]}")/timer.sh"
-begin_timer cr_tokens cr_ints cr_rows cr_syntax cr_listing cr_machine cr_exprs cr_decls cr_parse_tests
+begin_timer cr_tokens cr_ints cr_rows cr_syntax cr_syntax_order cr_syntax_machine cr_exprs cr_decls tests_parsers
 cat >src/main.rt <<'RT'
 //! Reads and parses the file on standard input ten times, and prints how long that took.
 #![tactic(auto)]
 
 use cr_decls::parse;
-use cr_parse_tests::are_spans;
+use tests_parsers::are_spans;
 use std::alloc::Global;
 use std::io::{self, Read};
 use std::time::Instant;

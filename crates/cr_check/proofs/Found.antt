@@ -2,10 +2,10 @@
 use Rattle.std.proofs.Common.{◌≡◌, ℕ, ◌-◌, Bool, true, false, List, Option, None, Some, length, inl, inr, refl, sym, subst}
 use Rattle.cr_syntax.specs.declared.unit.Unit as source
 use Rattle.cr_scopes.specs.declared.names.Names.{Names}
-use Rattle.cr_rules.specs.declared.least.Break.{Break}
-use Rattle.cr_rules.specs.Breaks.{IsFirst}
-use Rattle.cr_declarations.specs.declared.tree.Tree.{Tree}
-use Rattle.cr_definitions.specs.Typedefs.{IsFirstTwice}
+use Rattle.cr_check_expressions.specs.declared.least.Break.{Break}
+use Rattle.cr_check_expressions.specs.Breaks.{IsFirst}
+use Rattle.cr_check_declarations.specs.declared.tree.Tree.{Tree}
+use Rattle.cr_check_definitions.specs.Typedefs.{IsFirstTwice}
 use Rattle.cr_check.specs.declared.judged.Judged.{Judged}
 use Rattle.cr_check.specs.declared.fault.TypeFault.{TypeFault}
 use Rattle.cr_check.specs.declared.fault.TypeFault.TheVariants.{NoMemory, Twice, Broken}

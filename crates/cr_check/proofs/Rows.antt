@@ -1,10 +1,10 @@
 -- The rows that declarations name are there.
 use Rattle.std.proofs.Common.{◌≡◌, List}
-use Rattle.cr_types.specs.declared.shape.Shape.{Shape}
-use Rattle.cr_judge.specs.declared.typing.Typing.{Typing}
-use Rattle.cr_judge.specs.Typing.{AreWithin}
-use Rattle.cr_definitions.specs.declared.known.Declarations.{Declarations}
-use Rattle.cr_definitions.specs.Known.{AreKnown}
+use Rattle.cr_check_types.specs.declared.shape.Shape.{Shape}
+use Rattle.cr_check_unit.specs.declared.typing.Typing.{Typing}
+use Rattle.cr_check_unit.specs.Typing.{AreWithin}
+use Rattle.cr_check_definitions.specs.declared.known.Declarations.{Declarations}
+use Rattle.cr_check_definitions.specs.Known.{AreKnown}
 
 pub are_known : (d : Declarations) (shapes : List Shape) (t : Typing) → d.table.now ≡ shapes → d.declared.now ≡ t.declared
     → d.named.now ≡ t.named → d.parameters.now ≡ t.parameters → AreWithin shapes t → AreKnown d

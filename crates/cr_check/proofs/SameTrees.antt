@@ -3,38 +3,38 @@ use Rattle.std.proofs.Common.{◌≡◌, ℕ, ◌⊎◌, ◌∷◌, [], List, Bo
 use Rattle.cr_syntax.specs.declared.node.Kind.{Kind}
 use Rattle.cr_syntax.specs.declared.node.Kind.TheVariants as kind
 use Rattle.cr_syntax.specs.declared.node.Node.{Node}
-use Rattle.cr_places.specs.declared.context.Place.{Place}
-use Rattle.cr_types.specs.declared.shape.Shape.{Shape}
-use Rattle.cr_types.specs.Types.{Qualified, type_at}
-use Rattle.cr_rules.specs.declared.least.Break.{Break}
-use Rattle.cr_rules.specs.Breaks.{IsAmong, fault}
-use Rattle.cr_declared.specs.declared.words.Specified.{Specified}
-use Rattle.cr_declared.specs.declared.declarator.Declarator.{Declarator}
-use Rattle.cr_declared.specs.declared.linkages.Declaration.{Declaration}
-use Rattle.cr_declared.specs.Specifiers.{is_one_type_of, storage_fault_of, inline_fault_of, volatile_fault_of}
-use Rattle.cr_declared.specs.Structures.{is_too_large_of}
-use Rattle.cr_declarations.specs.declared.tree.Tag.{Tag}
-use Rattle.cr_declarations.specs.declared.tree.Tree.{Tree}
-use Rattle.cr_declarations.specs.Before.{Before}
-use Rattle.cr_declarations.specs.Named.{is_declarator, declaration_of, named_by, declared_by as declares_by, parameters_by}
-use Rattle.cr_declarations.specs.Faults as declarations
-use Rattle.cr_declarations.specs.Faults.{Has, has_at, place_of, fault_at, token_if, name_in}
-use Rattle.cr_initial.specs.Known as initial
-use Rattle.cr_initial.specs.Plans.{Entry as Planned, entries_of}
-use Rattle.cr_initialised.specs.Anchors.{anchor_at, anchor_by, names_object}
-use Rattle.cr_initialised.specs.Durations.{is_static}
-use Rattle.cr_initialised.specs.Faults as initialised
-use Rattle.cr_initialised.specs.Initialised.{IsFilled, named_first, planned_by}
-use Rattle.cr_linked.specs.NameTypes.{NameType, type_as, type_or, parameters_or}
-use Rattle.cr_linked.specs.Linked.{Past, linked_in, linkage_by, declaration_by, declaration_at, with_linked, linked_by, seen_by}
-use Rattle.cr_linked.specs.Faults as linked
-use Rattle.cr_rules.specs.Forms.{form_of}
-use Rattle.cr_judge.specs.declared.typing.Typing.{Typing}
-use Rattle.cr_judge.specs.declared.entry.Entry.{Entry}
-use Rattle.cr_judge.specs.declared.statements.Marked.{Marked}
-use Rattle.cr_judge.specs.Typing.{cut, entry_at, before_in, known_in, declared_in, object_in, past_in, own_named, seen_type, name_type, IsRuled, IsRuledIf, IsTyping}
-use Rattle.cr_judge.specs.Breaks.{expression_faults, declaration_faults, object_if, initialiser_faults, linked_faults, IsNodeBreak}
-use Rattle.cr_judge.specs.Statements.{AreMarked, IsUnitBroken}
+use Rattle.cr_check_enclosing.specs.declared.context.Place.{Place}
+use Rattle.cr_check_types.specs.declared.shape.Shape.{Shape}
+use Rattle.cr_check_types.specs.Types.{Qualified, type_at}
+use Rattle.cr_check_expressions.specs.declared.least.Break.{Break}
+use Rattle.cr_check_expressions.specs.Breaks.{IsAmong, fault}
+use Rattle.cr_check_declarators.specs.declared.words.Specified.{Specified}
+use Rattle.cr_check_declarators.specs.declared.declarator.Declarator.{Declarator}
+use Rattle.cr_check_declarators.specs.declared.linkages.Declaration.{Declaration}
+use Rattle.cr_check_declarators.specs.Specifiers.{is_one_type_of, storage_fault_of, inline_fault_of, volatile_fault_of}
+use Rattle.cr_check_declarators.specs.Structures.{is_too_large_of}
+use Rattle.cr_check_declarations.specs.declared.tree.Tag.{Tag}
+use Rattle.cr_check_declarations.specs.declared.tree.Tree.{Tree}
+use Rattle.cr_check_declarations.specs.Before.{Before}
+use Rattle.cr_check_declarations.specs.Named.{is_declarator, declaration_of, named_by, declared_by as declares_by, parameters_by}
+use Rattle.cr_check_declarations.specs.Faults as declarations
+use Rattle.cr_check_declarations.specs.Faults.{Has, has_at, place_of, fault_at, token_if, name_in}
+use Rattle.cr_check_initialisers.specs.Known as initial
+use Rattle.cr_check_initialisers.specs.Plans.{Entry as Planned, entries_of}
+use Rattle.cr_check_initialised.specs.Anchors.{anchor_at, anchor_by, names_object}
+use Rattle.cr_check_initialised.specs.Durations.{is_static}
+use Rattle.cr_check_initialised.specs.Faults as initialised
+use Rattle.cr_check_initialised.specs.Initialised.{IsFilled, named_first, planned_by}
+use Rattle.cr_check_linkage.specs.NameTypes.{NameType, type_as, type_or, parameters_or}
+use Rattle.cr_check_linkage.specs.Linked.{Past, linked_in, linkage_by, declaration_by, declaration_at, with_linked, linked_by, seen_by}
+use Rattle.cr_check_linkage.specs.Faults as linked
+use Rattle.cr_check_expressions.specs.Forms.{form_of}
+use Rattle.cr_check_unit.specs.declared.typing.Typing.{Typing}
+use Rattle.cr_check_unit.specs.declared.entry.Entry.{Entry}
+use Rattle.cr_check_unit.specs.declared.statements.Marked.{Marked}
+use Rattle.cr_check_unit.specs.Typing.{cut, entry_at, before_in, known_in, declared_in, object_in, past_in, own_named, seen_type, name_type, IsRuled, IsRuledIf, IsTyping}
+use Rattle.cr_check_unit.specs.Breaks.{expression_faults, declaration_faults, object_if, initialiser_faults, linked_faults, IsNodeBreak}
+use Rattle.cr_check_unit.specs.Statements.{AreMarked, IsUnitBroken}
 
 -- the same values, wherever they lie
 pub record SameTree (t s : Tree) : Type 0 where

@@ -3,27 +3,27 @@ use Rattle.std.proofs.Common.{◌≡◌, ℕ, ◌-◌, true, false, List, None, 
 use Rattle.cr_tokens.specs.declared.token.Token.{Token}
 use Rattle.cr_syntax.specs.declared.node.Node.{Node}
 use Rattle.cr_syntax.specs.declared.unit.Unit as source
-use Rattle.cr_events.specs.Events.{events_of}
-use Rattle.cr_places.specs.Above.{AreAbove}
-use Rattle.cr_places.specs.Around.{AreAround}
+use Rattle.cr_scopes_events.specs.Events.{events_of}
+use Rattle.cr_check_enclosing.specs.Above.{AreAbove}
+use Rattle.cr_check_enclosing.specs.Around.{AreAround}
 use Rattle.cr_scopes.specs.declared.names.Names.{Names}
 use Rattle.cr_scopes.specs.States.{name_in}
-use Rattle.cr_bindings.specs.declared.bindings.Bindings.{Bindings}
-use Rattle.cr_bindings.specs.Spellings.{AreSpellings}
-use Rattle.cr_bindings.specs.Last.{AreLast}
-use Rattle.cr_bindings.specs.Nodes.{name_at, tag_at}
-use Rattle.cr_bindings.specs.Entities.{content_entity, AreOf}
-use Rattle.cr_bindings.specs.Visible.{AreVisible}
-use Rattle.cr_bindings.specs.Bindings.{AreBindings}
-use Rattle.cr_declarations.specs.declared.tree.Tree.{Tree}
-use Rattle.cr_columns.specs.Texts.{AreTexts}
-use Rattle.cr_surroundings.specs.declared.surroundings.Surroundings.{Surroundings}
-use Rattle.cr_surroundings.specs.Named.{earlier_for, same_for, tag_of, visible_for}
-use Rattle.cr_surroundings.specs.Previous.{before_of}
-use Rattle.cr_surroundings.specs.Surroundings.{AreSurroundings, IsTree}
-use Rattle.cr_rules.specs.declared.least.Break.{Break}
-use Rattle.cr_definitions.specs.Typedefs.{IsFirstTwice}
-use Rattle.cr_definitions.specs.Defined.{is_defined}
+use Rattle.cr_scopes_bindings.specs.declared.bindings.Bindings.{Bindings}
+use Rattle.cr_scopes_bindings.specs.Spellings.{AreSpellings}
+use Rattle.cr_scopes_bindings.specs.Last.{AreLast}
+use Rattle.cr_scopes_bindings.specs.Nodes.{name_at, tag_at}
+use Rattle.cr_scopes_bindings.specs.Entities.{content_entity, AreOf}
+use Rattle.cr_scopes_bindings.specs.Visible.{AreVisible}
+use Rattle.cr_scopes_bindings.specs.Bindings.{AreBindings}
+use Rattle.cr_check_declarations.specs.declared.tree.Tree.{Tree}
+use Rattle.cr_check_literals.specs.Texts.{AreTexts}
+use Rattle.cr_check_surroundings.specs.declared.surroundings.Surroundings.{Surroundings}
+use Rattle.cr_check_surroundings.specs.Named.{earlier_for, same_for, tag_of, visible_for}
+use Rattle.cr_check_surroundings.specs.Previous.{before_of}
+use Rattle.cr_check_surroundings.specs.Surroundings.{AreSurroundings, IsTree}
+use Rattle.cr_check_expressions.specs.declared.least.Break.{Break}
+use Rattle.cr_check_definitions.specs.Typedefs.{IsFirstTwice}
+use Rattle.cr_check_definitions.specs.Defined.{is_defined}
 use Rattle.cr_check.specs.declared.judged.Judged.{Judged}
 use Rattle.cr_check.specs.declared.fault.TypeFault.{TypeFault}
 use Rattle.cr_check.specs.declared.fault.TypeFault.TheVariants.{NoMemory, Twice, Broken}

@@ -4,21 +4,21 @@ use Rattle.cr_tokens.specs.declared.token.Token.{Token}
 use Rattle.cr_syntax.specs.declared.node.Node.{Node}
 use Rattle.cr_syntax.specs.declared.unit.Unit as source
 use Rattle.cr_scopes.specs.declared.names.Names.{Names}
-use Rattle.cr_rules.specs.declared.least.Break.{Break}
-use Rattle.cr_rules.specs.Known.{spelling_of}
-use Rattle.cr_bindings.proofs.One.{one_of}
-use Rattle.cr_columns.specs.Texts.{text_at, AreTexts}
-use Rattle.cr_declarations.specs.declared.tree.Tree.{Tree}
-use Rattle.cr_declarations.specs.Faults.{Has}
-use Rattle.cr_definitions.specs.Typedefs.{IsTwice}
-use Rattle.cr_definitions.specs.Defined.{is_defined}
-use Rattle.cr_surroundings.specs.declared.surroundings.Surroundings.{Surroundings}
-use Rattle.cr_surroundings.specs.Surroundings.{IsTree}
-use Rattle.cr_surroundings.proofs.One.{one_surroundings}
-use Rattle.cr_judge.specs.Typing.{IsTyping}
-use Rattle.cr_judge.specs.Statements.{AreMarked, IsUnitBroken}
-use Rattle.cr_judge.proofs.OneTyping.{one_typing}
-use Rattle.cr_judge.proofs.OneBreak.{same_unit_breaks}
+use Rattle.cr_check_expressions.specs.declared.least.Break.{Break}
+use Rattle.cr_check_expressions.specs.Known.{spelling_of}
+use Rattle.cr_scopes_bindings.proofs.One.{one_of}
+use Rattle.cr_check_literals.specs.Texts.{text_at, AreTexts}
+use Rattle.cr_check_declarations.specs.declared.tree.Tree.{Tree}
+use Rattle.cr_check_declarations.specs.Faults.{Has}
+use Rattle.cr_check_definitions.specs.Typedefs.{IsTwice}
+use Rattle.cr_check_definitions.specs.Defined.{is_defined}
+use Rattle.cr_check_surroundings.specs.declared.surroundings.Surroundings.{Surroundings}
+use Rattle.cr_check_surroundings.specs.Surroundings.{IsTree}
+use Rattle.cr_check_surroundings.proofs.One.{one_surroundings}
+use Rattle.cr_check_unit.specs.Typing.{IsTyping}
+use Rattle.cr_check_unit.specs.Statements.{AreMarked, IsUnitBroken}
+use Rattle.cr_check_unit.proofs.OneTyping.{one_typing}
+use Rattle.cr_check_unit.proofs.OneBreak.{same_unit_breaks}
 use Rattle.cr_check.specs.declared.judged.Judged.{Judged}
 use Rattle.cr_check.specs.declared.fault.TypeFault.{TypeFault}
 use Rattle.cr_check.specs.declared.fault.TypeFault.TheVariants.{NoMemory, Twice, Broken}

@@ -3,23 +3,23 @@ use Rattle.std.specs.Prelude.{◌≡◌, ℕ, List, [], None, slice_index_or}
 use Rattle.cr_tokens.specs.declared.token.Token.{Token}
 use Rattle.cr_syntax.specs.declared.node.Node.{Node}
 use Rattle.cr_syntax.specs.declared.unit.Unit as source
-use Rattle.cr_types.specs.declared.shape.Shape.{Shape}
-use Rattle.cr_types.specs.Types.{type_at, unknown}
+use Rattle.cr_check_types.specs.declared.shape.Shape.{Shape}
+use Rattle.cr_check_types.specs.Types.{type_at, unknown}
 use Rattle.cr_scopes.specs.declared.names.Names.{Names}
-use Rattle.cr_declared.specs.Specifiers.{nothing}
-use Rattle.cr_declared.specs.Declarators.{name_alone}
-use Rattle.cr_rules.specs.declared.known.Declared.TheVariants.{Unclear}
-use Rattle.cr_rules.specs.declared.least.Break.{Break}
-use Rattle.cr_rules.specs.Known.{meaning_by, spelling_of}
-use Rattle.cr_rules.specs.Breaks.{IsFirst}
-use Rattle.cr_declarations.specs.declared.tree.Tree.{Tree}
-use Rattle.cr_columns.specs.Texts.{AreTexts}
-use Rattle.cr_surroundings.specs.declared.surroundings.Surroundings.{Surroundings}
-use Rattle.cr_surroundings.specs.Surroundings.{AreSurroundings, IsTree}
-use Rattle.cr_judge.specs.declared.statements.Whole.{Whole}
-use Rattle.cr_judge.specs.Typing.{IsTyping, AreWithin}
-use Rattle.cr_judge.specs.Statements.{AreMarked, IsUnitBroken}
-use Rattle.cr_definitions.specs.Known.{Known}
+use Rattle.cr_check_declarators.specs.Specifiers.{nothing}
+use Rattle.cr_check_declarators.specs.Declarators.{name_alone}
+use Rattle.cr_check_expressions.specs.declared.known.Declared.TheVariants.{Unclear}
+use Rattle.cr_check_expressions.specs.declared.least.Break.{Break}
+use Rattle.cr_check_expressions.specs.Known.{meaning_by, spelling_of}
+use Rattle.cr_check_expressions.specs.Breaks.{IsFirst}
+use Rattle.cr_check_declarations.specs.declared.tree.Tree.{Tree}
+use Rattle.cr_check_literals.specs.Texts.{AreTexts}
+use Rattle.cr_check_surroundings.specs.declared.surroundings.Surroundings.{Surroundings}
+use Rattle.cr_check_surroundings.specs.Surroundings.{AreSurroundings, IsTree}
+use Rattle.cr_check_unit.specs.declared.statements.Whole.{Whole}
+use Rattle.cr_check_unit.specs.Typing.{IsTyping, AreWithin}
+use Rattle.cr_check_unit.specs.Statements.{AreMarked, IsUnitBroken}
+use Rattle.cr_check_definitions.specs.Known.{Known}
 use Rattle.cr_check.specs.declared.judged.Judged.{Judged}
 
 -- a typing of the unit by its surroundings, and what its statements are judged by

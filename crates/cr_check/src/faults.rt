@@ -6,8 +6,8 @@ ghost use Rattle.cr_check.specs.Checked.{IsFirstFault, IsFound, IsSoundOf, const
 
 use crate::fault::TypeFault;
 use crate::judged::{Judged, declarations_of};
-use cr_definitions::{is_defined, repeated};
-use cr_rules::Break;
+use cr_check_definitions::{is_defined, repeated};
+use cr_check_expressions::Break;
 use cr_scopes::Names;
 use cr_syntax::Unit;
 use std::alloc::{AllocError, Global};

@@ -1,20 +1,20 @@
 // What a unit is judged by.
 ghost use Rattle.std.specs.Prelude.{◌≡◌, IfOk};
 ghost use Rattle.cr_syntax.specs.Words.{AreSpans};
-ghost use Rattle.cr_types.specs.Types.{unknown, IsRow};
-ghost use Rattle.cr_judge.specs.Typing.{AreWithin};
-ghost use Rattle.cr_definitions.specs.Known.{AreKnown, known_of};
+ghost use Rattle.cr_check_types.specs.Types.{unknown, IsRow};
+ghost use Rattle.cr_check_unit.specs.Typing.{AreWithin};
+ghost use Rattle.cr_check_definitions.specs.Known.{AreKnown, known_of};
 ghost use Rattle.cr_check.specs.Judged.{IsJudgedFirst, IsWholeFirst, known_in};
 
-use cr_columns::texts;
-use cr_definitions::Declarations;
+use cr_check_definitions::Declarations;
+use cr_check_literals::texts;
+use cr_check_surroundings::Surroundings;
+use cr_check_types::Table;
+use cr_check_unit::{Whole, judge_unit};
 use cr_holding::holding;
-use cr_judge::{Whole, judge_unit};
 use cr_rows::Row;
 use cr_scopes::Names;
-use cr_surroundings::Surroundings;
 use cr_syntax::Unit;
-use cr_types::Table;
 use std::alloc::{AllocError, Global};
 
 /// What a unit is judged by: what is known of its nodes before, the bytes of its literals, its types, and what its nodes have.

@@ -7,12 +7,12 @@ use Rattle.cr_syntax.specs.Trees.{Trees}
 use Rattle.cr_syntax.specs.Spells.{Is}
 use Rattle.cr_syntax.specs.Reads.{is_word}
 use Rattle.cr_syntax.proofs.Tests.{is_of}
-use Rattle.cr_machine.specs.Machine as m
-use Rattle.cr_machine.specs.Machine.{Goal, Prog, Test, Manner, Reply, call, give, take, type_identifier, has_word, passes, run_here, run_look, run_set, run_take, run_deep, run_pass, run_free, run_seen, run_unseen, run_yes, run_no, run_call, run_fail}
-use Rattle.cr_machine.specs.MachineBody as programs
-use Rattle.cr_machine.specs.MachineBody.{body, may_label, in_compound, is_label, declaration_start, named_statement}
-use Rattle.cr_machine.proofs.MachineFirst.{differs, yes, sorted}
-use Rattle.cr_machine.proofs.MachineMarked.{name_starts_none, label_goes, item_label_goes, expression_goes, item_declares}
+use Rattle.cr_syntax_machine.specs.Machine as m
+use Rattle.cr_syntax_machine.specs.Machine.{Goal, Prog, Test, Manner, Reply, call, give, take, type_identifier, has_word, passes, run_here, run_look, run_set, run_take, run_deep, run_pass, run_free, run_seen, run_unseen, run_yes, run_no, run_call, run_fail}
+use Rattle.cr_syntax_machine.specs.MachineBody as programs
+use Rattle.cr_syntax_machine.specs.MachineBody.{body, may_label, in_compound, is_label, declaration_start, named_statement}
+use Rattle.cr_syntax_machine.proofs.MachineFirst.{differs, yes, sorted}
+use Rattle.cr_syntax_machine.proofs.MachineMarked.{name_starts_none, label_goes, item_label_goes, expression_goes, item_declares}
 use Rattle.cr_exprs.specs.Answers.{RunsTo}
 use Rattle.cr_exprs.proofs.Runs.{handed}
 use Rattle.cr_decls.specs.declared.labels.Labels.{Labels}

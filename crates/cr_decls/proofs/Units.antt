@@ -8,12 +8,12 @@ use Rattle.cr_syntax.specs.Scopes.{Scopes}
 use Rattle.cr_syntax.specs.Trees.{Trees}
 use Rattle.cr_syntax.specs.Units as u
 use Rattle.cr_syntax.specs.Units.{file_scope}
-use Rattle.cr_machine.specs.Machine.{Prog, Reply, Done, Failed, nowhere, unit}
-use Rattle.cr_machine.specs.MachineBody.{body}
-use Rattle.cr_machine.proofs.MachineUnit.{is_parsed, only_refusal}
-use Rattle.cr_machine.proofs.MachineUnits.{unit_is_unit}
-use Rattle.cr_machine.proofs.MachineUnitComplete.{one_unit}
-use Rattle.cr_listing.specs.Listed.{AreListed}
+use Rattle.cr_syntax_machine.specs.Machine.{Prog, Reply, Done, Failed, nowhere, unit}
+use Rattle.cr_syntax_machine.specs.MachineBody.{body}
+use Rattle.cr_syntax_machine.proofs.MachineUnit.{is_parsed, only_refusal}
+use Rattle.cr_syntax_machine.proofs.MachineUnits.{unit_is_unit}
+use Rattle.cr_syntax_machine.proofs.MachineUnitComplete.{one_unit}
+use Rattle.cr_syntax_order.specs.Listed.{AreListed}
 use Rattle.cr_exprs.specs.declared.fault.ParseFault.{ParseFault}
 use Rattle.cr_exprs.specs.declared.fault.ParseFault.TheVariants.{NoMemory, Unexpected, Ended, TooDeep, OutsideSubset}
 use Rattle.cr_exprs.specs.Loose.{AreKept, Replaces}

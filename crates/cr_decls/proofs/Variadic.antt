@@ -5,9 +5,9 @@ use Rattle.cr_syntax.specs.Words.{Lexeme}
 use Rattle.cr_syntax.specs.Scopes.{Scopes}
 use Rattle.cr_syntax.specs.Trees.{Trees, none, node}
 use Rattle.cr_syntax.specs.Units.{own_parameters}
-use Rattle.cr_machine.specs.Machine as m
-use Rattle.cr_machine.specs.Machine.{run_no, run_refuse}
-use Rattle.cr_machine.specs.MachineBody.{may_define, defined, ends_variadic, last_token}
+use Rattle.cr_syntax_machine.specs.Machine as m
+use Rattle.cr_syntax_machine.specs.Machine.{run_no, run_refuse}
+use Rattle.cr_syntax_machine.specs.MachineBody.{may_define, defined, ends_variadic, last_token}
 use Rattle.cr_exprs.specs.declared.fault.ParseFault.TheVariants.{OutsideSubset}
 use Rattle.cr_exprs.specs.Answers.{Refuses}
 use Rattle.cr_decls.specs.Ellipsis.{ellipsis_of}

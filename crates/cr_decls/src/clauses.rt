@@ -3,8 +3,8 @@
 ghost use Rattle.std.specs.Prelude.{◌≡◌, ◌+◌, ◌<◌, ◌≤◌, ◌∷◌, ◌++◌, [], IfOk, IfErr, OnOk, length, option_to_list};
 ghost use Rattle.cr_syntax.specs.Trees.{Trees};
 ghost use Rattle.cr_syntax.specs.Kept.{PartsAreBelow, row_in};
-ghost use Rattle.cr_machine.specs.Machine.{Prog, clause};
-ghost use Rattle.cr_machine.specs.MachineBody.{body};
+ghost use Rattle.cr_syntax_machine.specs.Machine.{Prog, clause};
+ghost use Rattle.cr_syntax_machine.specs.MachineBody.{body};
 ghost use Rattle.cr_exprs.specs.Source.{IsReadable, text_of};
 ghost use Rattle.cr_exprs.specs.Answers.{Answers, Comes, Goes, IsPlaced, IsOptional, tree};
 ghost use Rattle.cr_decls.specs.Programs.{controlling, repeated, first_clause, last_clause, with_step};

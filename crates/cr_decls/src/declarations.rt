@@ -4,8 +4,8 @@ ghost use Rattle.std.specs.Prelude.{◌≡◌, ◌+◌, ◌<◌, ◌≤◌, ◌�
 ghost use Rattle.cr_syntax.specs.Trees.{none, ◌&◌};
 ghost use Rattle.cr_syntax.specs.Kept.{PartsAreBelow};
 ghost use Rattle.cr_syntax.specs.Context.{fresh, past_part};
-ghost use Rattle.cr_machine.specs.Machine.{initializer, initializers, initialized, declaration};
-ghost use Rattle.cr_machine.specs.MachineBody.{body, declared_on};
+ghost use Rattle.cr_syntax_machine.specs.Machine.{initializer, initializers, initialized, declaration};
+ghost use Rattle.cr_syntax_machine.specs.MachineBody.{body, declared_on};
 ghost use Rattle.cr_exprs.specs.Source.{IsReadable, text_of};
 ghost use Rattle.cr_exprs.specs.Answers.{Reads, IsPlaced, IsGrown, tree};
 

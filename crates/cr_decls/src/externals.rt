@@ -2,8 +2,8 @@
 
 ghost use Rattle.std.specs.Prelude.{◌≡◌, ◌+◌, ◌<◌, ◌≤◌, ◌∷◌, [], IfOk, length, reverse};
 ghost use Rattle.cr_syntax.specs.Kept.{PartsAreBelow, row_in};
-ghost use Rattle.cr_machine.specs.Machine.{nowhere, unit, external};
-ghost use Rattle.cr_machine.specs.MachineBody.{body, defined};
+ghost use Rattle.cr_syntax_machine.specs.Machine.{nowhere, unit, external};
+ghost use Rattle.cr_syntax_machine.specs.MachineBody.{body, defined};
 ghost use Rattle.cr_exprs.specs.Source.{IsReadable, text_of};
 ghost use Rattle.cr_exprs.specs.Loose.{Replaces};
 ghost use Rattle.cr_exprs.specs.Answers.{Answers, Reads, IsPlaced, tree};

@@ -2,7 +2,7 @@ ghost use Rattle.std.specs.Prelude.{◌≡◌, ◌<◌, ◌^◌, IfOk, IfErr, le
 ghost use Rattle.cr_syntax.specs.Words.{AreSpans, lexemes_of};
 ghost use Rattle.cr_syntax.specs.Kept.{row_in};
 ghost use Rattle.cr_syntax.specs.Units.{IsTreeOf};
-ghost use Rattle.cr_listing.specs.Listed.{AreListed};
+ghost use Rattle.cr_syntax_order.specs.Listed.{AreListed};
 ghost use Rattle.cr_decls.specs.Unit.{IsOnlyTree, IsRefused, IsOnlyRefusal};
 
 use crate::externals::unit;

@@ -1,5 +1,5 @@
 ghost use Rattle.std.specs.Prelude.{◌≡◌};
-ghost use Rattle.cr_machine.specs.MachineBody.{may_label, may_mark};
+ghost use Rattle.cr_syntax_machine.specs.MachineBody.{may_label, may_mark};
 ghost use Rattle.cr_decls.specs.Programs.{labels_of};
 
 /// Which labels a statement may have (C11 6.8.1).

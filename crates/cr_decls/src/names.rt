@@ -2,7 +2,7 @@
 
 ghost use Rattle.std.specs.Prelude.{◌≡◌, ◌<◌, ◌∷◌, OnOk, IfErr, length};
 ghost use Rattle.cr_syntax.specs.Kept.{PartsAreBelow};
-ghost use Rattle.cr_machine.specs.Machine.{innermost_of};
+ghost use Rattle.cr_syntax_machine.specs.Machine.{innermost_of};
 ghost use Rattle.cr_exprs.specs.Source.{IsReadable, text_of};
 ghost use Rattle.cr_exprs.specs.Answers.{tree};
 ghost use Rattle.cr_exprs.specs.Parts.{declared};

@@ -4,8 +4,8 @@ ghost use Rattle.std.specs.Prelude.{◌≡◌, ◌+◌, ◌<◌, ◌≤◌, [], 
 ghost use Rattle.cr_syntax.specs.Scopes.{Scopes};
 ghost use Rattle.cr_syntax.specs.Trees.{none};
 ghost use Rattle.cr_syntax.specs.Kept.{PartsAreBelow};
-ghost use Rattle.cr_machine.specs.Machine.{plain, expect, made, return_rest};
-ghost use Rattle.cr_machine.specs.MachineBody.{body};
+ghost use Rattle.cr_syntax_machine.specs.Machine.{plain, expect, made, return_rest};
+ghost use Rattle.cr_syntax_machine.specs.MachineBody.{body};
 ghost use Rattle.cr_exprs.specs.Source.{IsReadable, text_of};
 ghost use Rattle.cr_exprs.specs.Answers.{Reads, IsPlaced, tree};
 ghost use Rattle.cr_decls.specs.Programs.{simple, expression_statement, goto_rest};

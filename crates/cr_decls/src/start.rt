@@ -1,9 +1,9 @@
 //! Tests of the next token, and the refusals by rows of the refused forms.
 
 ghost use Rattle.std.specs.Prelude.{◌≡◌, ◌+◌, ◌≤◌, ◌<◌, IsTrue, true, false, OnOk, OnErr, IfErr, length};
-ghost use Rattle.cr_machine.specs.Machine.{has_word, passes, barred};
+ghost use Rattle.cr_syntax_machine.specs.Machine.{has_word, passes, barred};
 ghost use Rattle.cr_syntax.specs.Scopes.{Scopes};
-ghost use Rattle.cr_machine.specs.MachineBody.{is_designator, is_label, is_any, label_start};
+ghost use Rattle.cr_syntax_machine.specs.MachineBody.{is_designator, is_label, is_any, label_start};
 ghost use Rattle.cr_syntax.specs.Units.{begins_statement};
 ghost use Rattle.cr_exprs.specs.Source.{IsReadable, text_of};
 ghost use Rattle.cr_decls.specs.Programs.{is_marked};

@@ -4,8 +4,8 @@ ghost use Rattle.std.specs.Prelude.{◌≡◌, ◌+◌, ◌<◌, ◌≤◌, ◌^
 ghost use Rattle.cr_syntax.specs.Trees.{none, one, ◌&◌};
 ghost use Rattle.cr_syntax.specs.Context.{ends_open};
 ghost use Rattle.cr_syntax.specs.Kept.{PartsAreBelow, AreBelow, row_in};
-ghost use Rattle.cr_machine.specs.Machine.{own_block, nowhere, around, statement, block, if_rest, switch_rest, while_rest, do_rest, for_rest, for_clauses, compound, items, item};
-ghost use Rattle.cr_machine.specs.MachineBody.{body};
+ghost use Rattle.cr_syntax_machine.specs.Machine.{own_block, nowhere, around, statement, block, if_rest, switch_rest, while_rest, do_rest, for_rest, for_clauses, compound, items, item};
+ghost use Rattle.cr_syntax_machine.specs.MachineBody.{body};
 ghost use Rattle.cr_exprs.specs.Source.{IsReadable, text_of};
 ghost use Rattle.cr_exprs.specs.Answers.{Reads, IsPlaced, IsPushed, tree};
 ghost use Rattle.cr_decls.specs.Programs.{labels_of, is_marked, label_rest, case_rest, default_rest, labelled, unlabelled};

@@ -13,14 +13,14 @@ use Rattle.cr_meaning.specs.declared.value.Value.{Value}
 use Rattle.cr_meaning.specs.declared.value.Value.TheVariants as value
 use Rattle.cr_meaning.proofs.Runs.{one_meaning}
 use Rattle.cr_memory.specs.declared.value.Trap.TheVariants as trap
-use Rattle.cr_slices.specs.Looks.{HasLooked, given_up}
-use Rattle.cr_slices.specs.Shown.{Answering, ComesTo}
-use Rattle.cr_slices.specs.declared.machine.Outcome.{Outcome}
-use Rattle.cr_slices.specs.declared.machine.Outcome.TheVariants.{Came, Halted, Stopped}
-use Rattle.cr_slices.specs.declared.nodes.Halted.TheVariants as halted
-use Rattle.cr_turns.specs.declared.held.Held.{Held}
-use Rattle.cr_turns.specs.declared.held.Held.TheVariants as held
-use Rattle.cr_turns.specs.Held.{shows}
+use Rattle.cr_exec_slices.specs.Looks.{HasLooked, given_up}
+use Rattle.cr_exec_slices.specs.Shown.{Answering, ComesTo}
+use Rattle.cr_exec_slices.specs.declared.machine.Outcome.{Outcome}
+use Rattle.cr_exec_slices.specs.declared.machine.Outcome.TheVariants.{Came, Halted, Stopped}
+use Rattle.cr_exec_slices.specs.declared.nodes.Halted.TheVariants as halted
+use Rattle.cr_exec_turns.specs.declared.held.Held.{Held}
+use Rattle.cr_exec_turns.specs.declared.held.Held.TheVariants as held
+use Rattle.cr_exec_turns.specs.Held.{shows}
 use Rattle.cr_exec.specs.Runs.{has_come, run_from, Looked}
 
 -- ---- the meaning

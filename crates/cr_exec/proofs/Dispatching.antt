@@ -1,8 +1,8 @@
 -- The work of a node, by its operation.
 use Rattle.std.proofs.Common.{◌≡◌, ℕ, true, Option, Some, Result, Ok, List, [], ◌∷◌, sym, ◌∙◌, subst, slice_get}
-use Rattle.cr_join.specs.Turns.{is_expression}
-use Rattle.cr_join.specs.Parts.{IsFootOf}
-use Rattle.cr_join.proofs.Turning.{expression_joins}
+use Rattle.cr_eval_join.specs.Turns.{is_expression}
+use Rattle.cr_eval_join.specs.Parts.{IsFootOf}
+use Rattle.cr_eval_join.proofs.Turning.{expression_joins}
 use Rattle.cr_footprint.specs.Foot.{sets, no_events}
 use Rattle.cr_footprint.specs.declared.foot.Foot.{Foot}
 use Rattle.cr_meaning.specs.World.{Program, World, Answer}
@@ -10,11 +10,11 @@ use Rattle.cr_meaning.specs.Nodes.{Act, expression}
 use Rattle.cr_meaning.specs.Meaning.{before_by, join_by}
 use Rattle.cr_meaning.specs.declared.op.Op.{Op}
 use Rattle.cr_meaning.proofs.Merging.{nothing_has_no_sets}
-use Rattle.cr_slices.specs.Turns.{before_for, before_at, join_for, join_at}
-use Rattle.cr_slices.specs.Shown.{Worked, Joined, Leaves}
-use Rattle.cr_slices.specs.declared.nodes.Halted.{Halted}
-use Rattle.cr_turns.specs.declared.held.Held.{Held}
-use Rattle.cr_turns.specs.Held.{shows}
+use Rattle.cr_exec_slices.specs.Turns.{before_for, before_at, join_for, join_at}
+use Rattle.cr_exec_slices.specs.Shown.{Worked, Joined, Leaves}
+use Rattle.cr_exec_slices.specs.declared.nodes.Halted.{Halted}
+use Rattle.cr_exec_turns.specs.declared.held.Held.{Held}
+use Rattle.cr_exec_turns.specs.Held.{shows}
 use Rattle.cr_exec.specs.Runs.{IsNoCall}
 
 module _ (p : Program) (node : ℕ) (op : Op) (answers : List Answer) (before after : World) where

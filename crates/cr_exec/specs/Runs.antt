@@ -10,12 +10,12 @@ use Rattle.cr_meaning.specs.declared.run.Limits.{Limits}
 use Rattle.cr_meaning.specs.declared.run.Run.{Run}
 use Rattle.cr_meaning.specs.declared.run.Run.TheVariants as run
 use Rattle.cr_meaning.specs.declared.value.Value.TheVariants.{Number}
-use Rattle.cr_slices.specs.Looks.{HasLooked}
-use Rattle.cr_slices.specs.declared.machine.Outcome.{Outcome}
-use Rattle.cr_slices.specs.declared.machine.Outcome.TheVariants.{Came, Halted, Stopped}
-use Rattle.cr_slices.specs.declared.nodes.Halted.TheVariants as halted
-use Rattle.cr_turns.specs.declared.held.Held.{Held}
-use Rattle.cr_turns.specs.declared.held.Held.TheVariants as held
+use Rattle.cr_exec_slices.specs.Looks.{HasLooked}
+use Rattle.cr_exec_slices.specs.declared.machine.Outcome.{Outcome}
+use Rattle.cr_exec_slices.specs.declared.machine.Outcome.TheVariants.{Came, Halted, Stopped}
+use Rattle.cr_exec_slices.specs.declared.nodes.Halted.TheVariants as halted
+use Rattle.cr_exec_turns.specs.declared.held.Held.{Held}
+use Rattle.cr_exec_turns.specs.declared.held.Held.TheVariants as held
 
 abbrev pub IsNoCall : Work → Type 0
 IsNoCall work = (callee : Callee) → work ≡ Call callee → ⊥

@@ -2,28 +2,28 @@
 ghost use Rattle.std.specs.Prelude.{◌≡◌, List};
 ghost use Rattle.std.specs.List.{AllZip};
 ghost use Rattle.cr_eval.specs.Table.{program_of};
-ghost use Rattle.cr_join.specs.Turns.{is_expression};
+ghost use Rattle.cr_eval_join.specs.Turns.{is_expression};
 ghost use Rattle.cr_meaning.specs.Nodes.{Act};
 ghost use Rattle.cr_meaning.specs.World.{Answer, World as SpecWorld};
 ghost use Rattle.cr_meaning.specs.Meaning.{before_by, join_by};
-ghost use Rattle.cr_slices.specs.Shown.{Worked, Joined, Leaves, TakesAtMostOne};
-ghost use Rattle.cr_turns.specs.Held.{shows};
-ghost use Rattle.cr_world.specs.Worlds.{world_of};
+ghost use Rattle.cr_exec_slices.specs.Shown.{Worked, Joined, Leaves, TakesAtMostOne};
+ghost use Rattle.cr_exec_turns.specs.Held.{shows};
+ghost use Rattle.cr_exec_world.specs.Worlds.{world_of};
 ghost use Rattle.cr_exec.specs.Runs.{IsNoCall};
 
 use crate::running::Running;
 use cr_eval::Table;
-use cr_expressions::expression;
+use cr_eval_join::Part;
+use cr_exec_calls::{call_before, call_end};
+use cr_exec_expressions::expression;
+use cr_exec_slices::{Halted, Nodes, Way};
+use cr_exec_stack::Stack;
+use cr_exec_statements::{before, statement};
+use cr_exec_turns::{Held, next};
+use cr_exec_world::{World, reach};
 use cr_footprint::Foot;
-use cr_frames::{call_before, call_end};
 use cr_ints::IntKind;
-use cr_join::Part;
 use cr_meaning::{Op, Value, Work};
-use cr_slices::{Halted, Nodes, Way};
-use cr_stack::Stack;
-use cr_statements::{before, statement};
-use cr_turns::{Held, next};
-use cr_world::{World, reach};
 use std::alloc::Global;
 
 /// Whether the node is an expression, no statement, no declaration and not the whole program.

@@ -3,19 +3,19 @@ ghost use Rattle.std.specs.Prelude.{◌≡◌, true, false, ◌-◌, IfOk, IfSom
 ghost use Rattle.cr_eval.specs.Table.{program_of};
 ghost use Rattle.cr_meaning.specs.Meaning.{Means, start_of, root_of, ended_with};
 ghost use Rattle.cr_meaning.specs.declared.run.Run.{Run as SpecRun};
-ghost use Rattle.cr_world.specs.Worlds.{world_of};
+ghost use Rattle.cr_exec_world.specs.Worlds.{world_of};
 ghost use Rattle.cr_exec.specs.Runs.{has_come, run_from, Looked};
 
 use crate::running::Running;
-use cr_calls::status_of;
 use cr_cursor::Stop;
 use cr_eval::Table;
+use cr_exec_library::status_of;
+use cr_exec_slices::{Halted, Outcome, run_nodes};
+use cr_exec_turns::Held;
+use cr_exec_world::{Names, World};
 use cr_meaning::{Limits, Run, Value};
 use cr_memory::Store;
 use cr_rows::Row;
-use cr_slices::{Halted, Outcome, run_nodes};
-use cr_turns::Held;
-use cr_world::{Names, World};
 use std::alloc::{AllocError, Global};
 
 /// The node of the whole program.

@@ -1,5 +1,5 @@
 use cr_eval::Table;
-use cr_world::World;
+use cr_exec_world::World;
 use std::alloc::Global;
 
 /// A program that runs.

@@ -8,8 +8,8 @@ use Rattle.std.specs.Prelude.{Result, Ok, Err, OnErr, option_map}
 use Rattle.cr_syntax.specs.declared.node.Node.{Node}
 use Rattle.cr_syntax.specs.Kept.{PartsAreBelow, AreBelow, AreWithin, NamedOnce, ItemsAreNodes}
 use Rattle.cr_syntax.specs.Trees.{Trees, none, one, row_of, tree_of, grown, trees_of}
-use Rattle.cr_listing.specs.Listed.{AreListed, no_node, one_more}
-use Rattle.cr_listing.proofs.Listings.{joined, among}
+use Rattle.cr_syntax_order.specs.Listed.{AreListed, no_node, one_more}
+use Rattle.cr_syntax_order.proofs.Listings.{joined, among}
 use Rattle.cr_exprs.specs.Behind.{numbers_behind, node_behind, nodes_behind}
 use Rattle.cr_exprs.specs.Loose.{AreKept}
 use Rattle.cr_exprs.specs.Answers.{Keeps, IsPlaced, tree}

@@ -7,12 +7,12 @@ use Rattle.cr_syntax.specs.declared.word.Word.TheVariants as word
 use Rattle.cr_syntax.specs.Words.{Lexeme, word_at, lexemes_of}
 use Rattle.cr_syntax.specs.Units.{is_unused, is_opening, Refusal}
 use Rattle.cr_syntax.specs.Units as u
-use Rattle.cr_machine.specs.Machine as m
-use Rattle.cr_machine.specs.Machine.{Failed, ended, outside, whole, barred, exceeds, has_word}
-use Rattle.cr_machine.specs.MachineBody.{body}
-use Rattle.cr_machine.specs.MachineLaws.{IsStart, start_expression, start_assignment, start_conditional}
+use Rattle.cr_syntax_machine.specs.Machine as m
+use Rattle.cr_syntax_machine.specs.Machine.{Failed, ended, outside, whole, barred, exceeds, has_word}
+use Rattle.cr_syntax_machine.specs.MachineBody.{body}
+use Rattle.cr_syntax_machine.specs.MachineLaws.{IsStart, start_expression, start_assignment, start_conditional}
 use Rattle.cr_syntax.specs.Expressions.{Start, Refused, IsReading}
-use Rattle.cr_machine.proofs.MachineReading.{is_reading}
+use Rattle.cr_syntax_machine.proofs.MachineReading.{is_reading}
 use Rattle.cr_exprs.specs.declared.fault.ParseFault.{ParseFault}
 use Rattle.cr_exprs.specs.declared.fault.ParseFault.TheVariants.{NoMemory, Unexpected, Ended, TooDeep, OutsideSubset}
 use Rattle.cr_exprs.specs.declared.goal.Goal.{Goal}

@@ -10,8 +10,8 @@ use Rattle.std.specs.List.{flat_map}
 use Rattle.std.specs.Prelude.{Result, Ok, Err, IfOk}
 use Rattle.cr_syntax.specs.declared.node.Node.{Node}
 use Rattle.cr_syntax.specs.Kept.{PartsAreBelow, AreBelow, AreWithin, NamedOnce, ItemsAreNodes}
-use Rattle.cr_listing.specs.Listed.{AreListed, no_node}
-use Rattle.cr_listing.proofs.Listings.{cut, behind, among}
+use Rattle.cr_syntax_order.specs.Listed.{AreListed, no_node}
+use Rattle.cr_syntax_order.proofs.Listings.{cut, behind, among}
 use Rattle.cr_exprs.specs.declared.fault.ParseFault.{ParseFault}
 use Rattle.cr_exprs.specs.declared.found.Found.{Found}
 use Rattle.cr_exprs.specs.Loose.{AreKept, Replaces}

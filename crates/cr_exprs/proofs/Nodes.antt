@@ -7,13 +7,13 @@ use Rattle.std.specs.Prelude.{Result, IfOk, IfNone, option_to_list}
 use Rattle.cr_syntax.specs.declared.node.Kind.{Kind}
 use Rattle.cr_syntax.specs.declared.node.Kind.TheVariants as kind
 use Rattle.cr_syntax.specs.declared.part.Part.{Part}
-use Rattle.cr_machine.specs.MachineBody.{row_kind, in_row, in_parameters}
+use Rattle.cr_syntax_machine.specs.MachineBody.{row_kind, in_row, in_parameters}
 use Rattle.cr_exprs.specs.Tables.{is_void}
 use Rattle.cr_syntax.specs.declared.node.Node.{Node}
 use Rattle.cr_syntax.specs.Kept.{PartsAreBelow, AreBelow, row_in}
 use Rattle.cr_syntax.specs.Trees.{Trees, none, node, one, ◌&◌, tree_of, grown, trees_of}
 use Rattle.cr_syntax.proofs.Arena.{tree_at}
-use Rattle.cr_machine.proofs.MachineSpells.{and_and}
+use Rattle.cr_syntax_machine.proofs.MachineSpells.{and_and}
 use Rattle.cr_exprs.specs.declared.fault.ParseFault.{ParseFault}
 use Rattle.cr_exprs.specs.declared.found.Found.{Found}
 use Rattle.cr_exprs.specs.Answers.{tree, Keeps, IsRow}

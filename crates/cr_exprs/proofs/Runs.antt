@@ -16,9 +16,9 @@ use Rattle.cr_syntax.specs.Scopes.{Scopes, enter}
 use Rattle.cr_syntax.specs.Trees.{Trees, none, one, ◌&◌}
 use Rattle.cr_syntax.specs.Reads.{is_word, is_qualifier, same_word}
 use Rattle.cr_syntax.specs.Units.{Refusal}
-use Rattle.cr_machine.specs.Machine as m
-use Rattle.cr_machine.specs.Machine.{Goal, Prog, Test, Manner, opens, Reply, Done, Failed, Cause, too_deep, Allows, passes, brought, around, choose, made, drops, bring, binary, cast, texts, qualifiers, more, member_declarators, give, call, take, peek, when, the, plain, run_give, run_take, run_pass, run_call, run_fail, run_yes, run_no, run_seen, run_here, run_look, run_set, run_bring}
-use Rattle.cr_machine.specs.MachineBody.{body, tighter, may_omit, declarator_start, is_declarator, pointer_end}
+use Rattle.cr_syntax_machine.specs.Machine as m
+use Rattle.cr_syntax_machine.specs.Machine.{Goal, Prog, Test, Manner, opens, Reply, Done, Failed, Cause, too_deep, Allows, passes, brought, around, choose, made, drops, bring, binary, cast, texts, qualifiers, more, member_declarators, give, call, take, peek, when, the, plain, run_give, run_take, run_pass, run_call, run_fail, run_yes, run_no, run_seen, run_here, run_look, run_set, run_bring}
+use Rattle.cr_syntax_machine.specs.MachineBody.{body, tighter, may_omit, declarator_start, is_declarator, pointer_end}
 use Rattle.cr_exprs.specs.declared.fault.ParseFault.{ParseFault}
 use Rattle.cr_exprs.specs.declared.fault.ParseFault.TheVariants.{NoMemory, TooDeep}
 use Rattle.cr_exprs.specs.declared.found.Found.{Found}

@@ -8,8 +8,8 @@ use Rattle.cr_syntax.specs.Kept.{PartsAreBelow, AreBelow}
 use Rattle.cr_syntax.specs.Spells.{AtMost}
 use Rattle.cr_syntax.specs.Units.{most_levels, Refusal}
 use Rattle.cr_syntax.specs.Units as u
-use Rattle.cr_machine.specs.Machine.{Prog, Reply, Done, Failed, Cause, refusal_of, Runs}
-use Rattle.cr_machine.specs.MachineBody.{body}
+use Rattle.cr_syntax_machine.specs.Machine.{Prog, Reply, Done, Failed, Cause, refusal_of, Runs}
+use Rattle.cr_syntax_machine.specs.MachineBody.{body}
 use Rattle.cr_exprs.specs.Loose.{Replaces}
 use Rattle.cr_exprs.specs.declared.fault.ParseFault.{ParseFault}
 use Rattle.cr_exprs.specs.declared.fault.ParseFault.TheVariants.{NoMemory, Unexpected, Ended, TooDeep, OutsideSubset}

@@ -3,7 +3,7 @@
 use Rattle.std.specs.Prelude.{ℕ, List, ◌++◌, length, reverse}
 use Rattle.cr_syntax.specs.declared.node.Node.{Node}
 use Rattle.cr_syntax.specs.Kept.{AreWithin, NamedOnce, ItemsAreNodes}
-use Rattle.cr_listing.specs.Listed.{AreListed}
+use Rattle.cr_syntax_order.specs.Listed.{AreListed}
 
 -- nodes of so many tokens, and those that stand under no parent yet, the last one first
 pub record AreKept (tokens : ℕ) (nodes : List Node) (loose : List ℕ) : Type 0 where

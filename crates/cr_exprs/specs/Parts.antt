@@ -7,9 +7,9 @@ use Rattle.cr_syntax.specs.declared.part.Context.{Context}
 use Rattle.cr_syntax.specs.Context.{past_part}
 use Rattle.cr_syntax.specs.Scopes.{Scopes, enter}
 use Rattle.cr_syntax.specs.Trees.{Trees, none, ◌&◌}
-use Rattle.cr_machine.specs.Machine.{Prog, brought, around, passes, reopens, call, expect, made, expression, conditional}
-use Rattle.cr_machine.specs.Machine as m
-use Rattle.cr_machine.specs.MachineBody.{may_omit, declarator_start, is_declarator}
+use Rattle.cr_syntax_machine.specs.Machine.{Prog, brought, around, passes, reopens, call, expect, made, expression, conditional}
+use Rattle.cr_syntax_machine.specs.Machine as m
+use Rattle.cr_syntax_machine.specs.MachineBody.{may_omit, declarator_start, is_declarator}
 use Rattle.cr_syntax.specs.declared.part.Part.{Part}
 use Rattle.cr_syntax.specs.declared.part.Part.TheVariants as part
 use Rattle.cr_exprs.specs.declared.goal.Goal.{Goal}

@@ -2,7 +2,7 @@ ghost use Rattle.std.specs.Prelude.{◌≡◌, ℕ, ◌+◌, ◌<◌, ◌^◌, �
 ghost use Rattle.cr_syntax.specs.Trees.{Trees, none, node, one, ◌&◌};
 ghost use Rattle.cr_syntax.specs.Kept.{AreBelow, PartsAreBelow, row_in};
 ghost use Rattle.cr_syntax.specs.Context.{is_bare, past_part};
-ghost use Rattle.cr_machine.specs.MachineBody.{is_unary, is_unary_kind, is_identifier, is_declarator, row_kind, in_row, in_parameters};
+ghost use Rattle.cr_syntax_machine.specs.MachineBody.{is_unary, is_unary_kind, is_identifier, is_declarator, row_kind, in_row, in_parameters};
 ghost use Rattle.cr_exprs.specs.Tables.{is_void};
 ghost use Rattle.cr_exprs.specs.Answers.{IsPushed, IsGathered, IsRegathered, IsRow, Keeps, tree};
 

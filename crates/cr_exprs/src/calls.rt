@@ -3,8 +3,8 @@
 ghost use Rattle.std.specs.Prelude.{[], ◌≤◌, IfOk, length};
 ghost use Rattle.cr_syntax.specs.Kept.{PartsAreBelow};
 ghost use Rattle.cr_syntax.specs.Context.{fresh};
-ghost use Rattle.cr_machine.specs.Machine.{named, row, declarator};
-ghost use Rattle.cr_machine.specs.MachineBody.{body};
+ghost use Rattle.cr_syntax_machine.specs.Machine.{named, row, declarator};
+ghost use Rattle.cr_syntax_machine.specs.MachineBody.{body};
 ghost use Rattle.cr_exprs.specs.Source.{IsReadable, text_of};
 ghost use Rattle.cr_exprs.specs.Answers.{Reads, IsPlaced};
 

@@ -4,8 +4,8 @@
 ghost use Rattle.std.specs.Prelude.{◌≡◌, ◌+◌, ◌<◌, ◌≤◌, ◌∷◌, [], true, IfOk, length};
 ghost use Rattle.cr_syntax.specs.Kept.{PartsAreBelow};
 ghost use Rattle.cr_syntax.specs.Reads.{is_word};
-ghost use Rattle.cr_machine.specs.Machine.{passes, expression, assignment, conditional, binary, cast};
-ghost use Rattle.cr_machine.specs.MachineBody.{body, tighter, type_start};
+ghost use Rattle.cr_syntax_machine.specs.Machine.{passes, expression, assignment, conditional, binary, cast};
+ghost use Rattle.cr_syntax_machine.specs.MachineBody.{body, tighter, type_start};
 ghost use Rattle.cr_exprs.specs.Source.{IsReadable, text_of};
 ghost use Rattle.cr_exprs.specs.Answers.{Reads, IsPlaced, tree};
 ghost use Rattle.cr_exprs.specs.Parts.{chosen};

@@ -2,8 +2,8 @@
 //! 6.7.7).
 //!
 //! `expression` reads an expression from some token of a file on, by recursive descent: one function a goal of the
-//! machine in `cr_machine`, whose definition says what it answers. It appends the nodes that it makes in the order of
-//! `cr_listing`, parts before their node, and knows of the scopes which identifiers are types. It stands on the syntax tree
+//! machine in `cr_syntax_machine`, whose definition says what it answers. It appends the nodes that it makes in the order of
+//! `cr_syntax_order`, parts before their node, and knows of the scopes which identifiers are types. It stands on the syntax tree
 //! and the grammar of `cr_syntax`, the tokens and the rows.
 #![tactic(auto)]
 

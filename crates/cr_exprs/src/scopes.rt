@@ -4,7 +4,7 @@ ghost use Rattle.std.specs.Prelude.{◌≡◌, ◌<◌, ◌∷◌, OnOk, IfErr, 
 ghost use Rattle.cr_syntax.specs.Scopes.{enter};
 ghost use Rattle.cr_syntax.specs.Kept.{PartsAreBelow};
 ghost use Rattle.cr_syntax.specs.Context.{is_bare};
-ghost use Rattle.cr_machine.specs.Machine.{brought, innermost_of, around};
+ghost use Rattle.cr_syntax_machine.specs.Machine.{brought, innermost_of, around};
 ghost use Rattle.cr_exprs.specs.Source.{IsReadable, text_of};
 ghost use Rattle.cr_exprs.specs.Answers.{tree};
 ghost use Rattle.cr_exprs.specs.Parts.{declared, entered};

@@ -2,13 +2,13 @@ ghost use Rattle.std.specs.Prelude.{◌≡◌, ℕ, ◌≤◌, ◌<◌, ◌^◌,
 ghost use Rattle.cr_syntax.specs.Words.{AreSpans, spelling_at, word_at};
 ghost use Rattle.cr_syntax.specs.Reads.{is_word, is_qualifier};
 ghost use Rattle.cr_syntax.specs.Units.{is_unused, is_opening};
-ghost use Rattle.cr_machine.specs.Machine.{has_word, passes, has, or, ordinary, type_identifier, declared, verdict, barred, overflows, exceeds, too_deep};
-ghost use Rattle.cr_machine.specs.MachineBody.{is_plain_start, is_specifier_start, is_abstract_start, is_declarator_start};
+ghost use Rattle.cr_syntax_machine.specs.Machine.{has_word, passes, has, or, ordinary, type_identifier, declared, verdict, barred, overflows, exceeds, too_deep};
+ghost use Rattle.cr_syntax_machine.specs.MachineBody.{is_plain_start, is_specifier_start, is_abstract_start, is_declarator_start};
 ghost use Rattle.cr_exprs.specs.Source.{IsReadable, text_of, words_in};
 ghost use Rattle.cr_syntax.specs.Scopes.{Scopes};
 ghost use Rattle.cr_syntax.specs.Trees.{none};
-ghost use Rattle.cr_machine.specs.Machine.{texts, qualifiers};
-ghost use Rattle.cr_machine.specs.MachineBody.{body};
+ghost use Rattle.cr_syntax_machine.specs.Machine.{texts, qualifiers};
+ghost use Rattle.cr_syntax_machine.specs.MachineBody.{body};
 ghost use Rattle.cr_exprs.specs.Answers.{IsRefusal, Gives};
 
 use crate::fault::ParseFault;

@@ -4,8 +4,8 @@ ghost use Rattle.std.specs.Prelude.{◌≡◌, ◌+◌, ◌<◌, ◌≤◌, ◌�
 ghost use Rattle.cr_syntax.specs.Trees.{none, ◌&◌};
 ghost use Rattle.cr_syntax.specs.Kept.{PartsAreBelow};
 ghost use Rattle.cr_syntax.specs.Context.{fresh, past_part};
-ghost use Rattle.cr_machine.specs.Machine.{passes, type_name, row, element, structure, members, member, member_declarators, enumeration, enumerators, enumerator};
-ghost use Rattle.cr_machine.specs.MachineBody.{body, element_start};
+ghost use Rattle.cr_syntax_machine.specs.Machine.{passes, type_name, row, element, structure, members, member, member_declarators, enumeration, enumerators, enumerator};
+ghost use Rattle.cr_syntax_machine.specs.MachineBody.{body, element_start};
 ghost use Rattle.cr_exprs.specs.Source.{IsReadable, text_of};
 ghost use Rattle.cr_exprs.specs.Answers.{Reads, IsPlaced, tree};
 

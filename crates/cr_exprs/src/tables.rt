@@ -1,6 +1,6 @@
 ghost use Rattle.std.specs.Prelude.{◌≡◌, ◌+◌, ◌<◌, IsSome, IfSome, length};
 ghost use Rattle.cr_syntax.specs.Words.{word_at};
-ghost use Rattle.cr_machine.specs.MachineBody.{operators, specifier_words};
+ghost use Rattle.cr_syntax_machine.specs.MachineBody.{operators, specifier_words};
 ghost use Rattle.cr_exprs.specs.Source.{IsReadable, text_of};
 ghost use Rattle.cr_exprs.specs.Tables.{kind_of, kind_of_word, next_level, level_of};
 

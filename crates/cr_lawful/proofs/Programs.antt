@@ -6,15 +6,15 @@ use Rattle.cr_syntax.specs.declared.node.Node.{Node}
 use Rattle.cr_syntax.specs.declared.unit.Unit as source
 use Rattle.cr_syntax.specs.Kept.{AreWithin, PartsAreBelow, NamedOnce, ItemsAreNodes}
 use Rattle.cr_scopes.specs.declared.names.Names.{Names}
-use Rattle.cr_analysis.specs.Analysis as read
-use Rattle.cr_analysis.specs.Analysis.{IsAnalysis, IsParsed, IsRead, Read, unit_read, tree_of}
-use Rattle.cr_analysis.specs.declared.analysis.Analysis.TheVariants.{OfUnit}
-use Rattle.cr_analysis.specs.Members.{structures_of}
+use Rattle.cr_lawful_analysis.specs.Analysis as read
+use Rattle.cr_lawful_analysis.specs.Analysis.{IsAnalysis, IsParsed, IsRead, Read, unit_read, tree_of}
+use Rattle.cr_lawful_analysis.specs.declared.analysis.Analysis.TheVariants.{OfUnit}
+use Rattle.cr_lawful_analysis.specs.Members.{structures_of}
 use Rattle.cr_scopes.specs.Units.{AreUnitNames}
 use Rattle.cr_check.specs.declared.judged.Judged.{Judged}
 use Rattle.cr_check.specs.Checked.{IsSoundOf}
 use Rattle.cr_typed.specs.declared.typed.Typed.{Typed}
-use Rattle.cr_typing.specs.Typed.{IsTypedOf}
+use Rattle.cr_typed_unit.specs.Typed.{IsTypedOf}
 use Rattle.cr_lawful.specs.Programs.{IsProgram}
 use Rattle.cr_lawful.specs.declared.program.Program.{Program}
 

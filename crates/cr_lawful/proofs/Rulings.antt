@@ -9,13 +9,13 @@ use Rattle.cr_tokens.proofs.Faults.{list_no_fault}
 use Rattle.cr_tokens.proofs.Wholes.{one_list}
 use Rattle.cr_syntax.specs.declared.unit.Unit as source
 use Rattle.cr_syntax.specs.Words.{lexemes_of}
-use Rattle.cr_machine.proofs.UnitRefusals.{tree_is_not_refused}
-use Rattle.cr_events.specs.Events.{events_of}
+use Rattle.cr_syntax_machine.proofs.UnitRefusals.{tree_is_not_refused}
+use Rattle.cr_scopes_events.specs.Events.{events_of}
 use Rattle.cr_exprs.specs.declared.fault.ParseFault.{ParseFault}
 use Rattle.cr_exprs.specs.declared.fault.ParseFault.TheVariants.{NoMemory, Unexpected, Ended, TooDeep, OutsideSubset}
 use Rattle.cr_decls.specs.Unit.{IsRefused}
-use Rattle.cr_analysis.specs.Analysis.{AreItsNames, IsParsed, Tree, tree_of}
-use Rattle.cr_analysis.proofs.Same.{same_tree, one_names}
+use Rattle.cr_lawful_analysis.specs.Analysis.{AreItsNames, IsParsed, Tree, tree_of}
+use Rattle.cr_lawful_analysis.proofs.Same.{same_tree, one_names}
 use Rattle.cr_scopes.specs.Resolved.{fault_at}
 use Rattle.cr_scopes.specs.Spelled.{name_of}
 use Rattle.cr_scopes.specs.Units.{AreUnitNames, IsUnitFault}
@@ -28,14 +28,14 @@ use Rattle.cr_check.proofs.Verdicts.{no_fault}
 use Rattle.cr_check.specs.declared.fault.TypeFault.{TypeFault}
 use Rattle.cr_check.specs.declared.fault.TypeFault.TheVariants as type_fault
 use Rattle.cr_typed.specs.declared.typed.Typed.{Typed}
-use Rattle.cr_typing.specs.Typed.{IsTypedOf}
-use Rattle.cr_typing.proofs.OneTypedUnit.{one_typed_unit}
+use Rattle.cr_typed_unit.specs.Typed.{IsTypedOf}
+use Rattle.cr_typed_unit.proofs.OneTypedUnit.{one_typed_unit}
 use Rattle.cr_meaning.specs.declared.run.Limits.{Limits}
 use Rattle.cr_meaning.specs.declared.run.Run.{Run}
 use Rattle.cr_meaning.specs.declared.run.Run.TheVariants as run
 use Rattle.cr_meaning.proofs.Runs.{one_meaning}
-use Rattle.cr_operations.specs.Laws.{Comes}
-use Rattle.cr_operations.specs.Operations.{program_of}
+use Rattle.cr_meaning_operations.specs.Laws.{Comes}
+use Rattle.cr_meaning_operations.specs.Operations.{program_of}
 use Rattle.cr_exec.specs.Runs.{has_come}
 use Rattle.cr_cursor.specs.TokenLaw.{RulesOn, reason_of}
 use Rattle.cr_cursor.specs.declared.law.Reason.{Reason}

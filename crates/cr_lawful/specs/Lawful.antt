@@ -9,8 +9,8 @@ use Rattle.cr_syntax.specs.Units as refusal
 use Rattle.cr_syntax.specs.Words.{lexemes_of}
 use Rattle.cr_exprs.specs.Answers.{refusal_in}
 use Rattle.cr_exprs.specs.declared.fault.ParseFault.{ParseFault}
-use Rattle.cr_analysis.specs.Analysis.{IsParsed, Tree, tree_of}
-use Rattle.cr_events.specs.Events.{events_of}
+use Rattle.cr_lawful_analysis.specs.Analysis.{IsParsed, Tree, tree_of}
+use Rattle.cr_scopes_events.specs.Events.{events_of}
 use Rattle.cr_scopes.specs.Resolved.{IsFirstFault}
 use Rattle.cr_scopes.specs.Units.{AreUnitNames}
 use Rattle.cr_scopes.specs.declared.names.Names.{Names}
@@ -21,11 +21,11 @@ use Rattle.cr_check.specs.Checked.{IsFirstFault as IsFirstTypeFault}
 use Rattle.cr_check.specs.declared.fault.TypeFault.{TypeFault}
 use Rattle.cr_check.specs.declared.fault.TypeFault.TheVariants as type_fault
 use Rattle.cr_typed.specs.declared.typed.Typed.{Typed}
-use Rattle.cr_typing.specs.Typed.{IsTypedOf}
+use Rattle.cr_typed_unit.specs.Typed.{IsTypedOf}
 use Rattle.cr_meaning.specs.declared.run.Limits.{Limits}
 use Rattle.cr_meaning.specs.declared.run.Run.{Run}
 use Rattle.cr_meaning.specs.declared.run.Run.TheVariants as run
-use Rattle.cr_operations.specs.Laws.{Comes}
+use Rattle.cr_meaning_operations.specs.Laws.{Comes}
 use Rattle.cr_cursor.specs.TokenLaw.{IsTokenReason}
 use Rattle.cr_cursor.specs.declared.law.Reason.{Reason}
 use Rattle.cr_cursor.specs.declared.law.Reason.TheVariants as reason

@@ -1,6 +1,6 @@
 -- What is read of a file whose unit breaks no constraint, with its typed unit.
 use Rattle.std.specs.Prelude.{◌≡◌, ℕ, List}
-use Rattle.cr_analysis.specs.Members.{structures_of}
+use Rattle.cr_lawful_analysis.specs.Members.{structures_of}
 use Rattle.cr_check.specs.declared.judged.Judged.{Judged}
 use Rattle.cr_check.specs.Checked.{IsSoundOf}
 use Rattle.cr_lawful.specs.Lawful.{IsTypedUnit}

@@ -7,10 +7,10 @@ ghost use Rattle.cr_lawful.specs.Programs.{IsProgram};
 use crate::program::{Program, reading_of};
 use crate::reasons::run_ruling;
 use crate::units::program_of_file;
-use cr_analysis::LastRead;
 use cr_cursor::{Law, Reason, Ruling, Stop};
+use cr_exec_outcome::outcome;
+use cr_lawful_analysis::LastRead;
 use cr_meaning::Limits;
-use cr_outcome::outcome;
 use cr_typed::Typed;
 use std::alloc::Global;
 

@@ -1,10 +1,10 @@
 // A program, as it is read of a file.
 ghost use Rattle.std.specs.Prelude.{◌≡◌, ℕ, List, IfErr, IfOk, Ok};
-ghost use Rattle.cr_analysis.specs.Analysis.{IsAnalysis};
+ghost use Rattle.cr_lawful_analysis.specs.Analysis.{IsAnalysis};
 ghost use Rattle.cr_lawful.specs.Programs.{IsProgram};
 
-use cr_analysis::Analysis;
 use cr_cursor::Ruling;
+use cr_lawful_analysis::Analysis;
 use cr_rows::Row;
 use cr_scopes::Names;
 use cr_syntax::Unit;

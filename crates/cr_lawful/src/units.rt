@@ -1,7 +1,7 @@
 // The program of a file, or what is ruled where it has none. The stop is asked before each long step.
 ghost use Rattle.std.specs.Prelude.{◌≡◌, IfOk, IfErr, OnOk, false};
 ghost use Rattle.cr_tokens.specs.Tokens.{Tokenizes};
-ghost use Rattle.cr_analysis.specs.Analysis.{IsParsed, tree_of};
+ghost use Rattle.cr_lawful_analysis.specs.Analysis.{IsParsed, tree_of};
 ghost use Rattle.cr_scopes.specs.Units.{AreUnitNames};
 ghost use Rattle.cr_check.specs.Checked.{IsSoundOf};
 ghost use Rattle.cr_lawful.specs.Lawful.{Refuses};
@@ -9,14 +9,14 @@ ghost use Rattle.cr_lawful.specs.Programs.{IsProgram};
 
 use crate::program::{Program, program_of};
 use crate::reasons::{name_ruling, parse_ruling, type_ruling};
-use cr_analysis::structures_of;
 use cr_check::{Judged, check};
 use cr_cursor::{Ruling, Stop, token_ruling};
 use cr_decls::parse;
+use cr_lawful_analysis::structures_of;
 use cr_scopes::{Names, resolve};
 use cr_syntax::{Unit, tokens_are_spans};
 use cr_tokens::{Tokens, read};
-use cr_typing::typed;
+use cr_typed_unit::typed;
 use std::alloc::Global;
 
 pub(crate) fn program_of_file<S: Stop>(

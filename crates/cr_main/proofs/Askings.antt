@@ -2,7 +2,7 @@
 use Rattle.std.proofs.Common.{◌≡◌, ℕ, List, subst, sym, arith}
 use Rattle.cr_outside.specs.Question.{Says as Telling}
 use Rattle.cr_reduce.specs.Bench.{AsksAtMost, CallsAbout, Judging}
-use Rattle.cr_words.specs.Words.{Word}
+use Rattle.cr_main_words.specs.Words.{Word}
 use Rattle.cr_main.specs.Headline.{AsksOnly, AsksOnlyOf}
 use Rattle.cr_main.specs.Headline.AsksOnly.{run_asks, run_asks_nothing}
 use Rattle.cr_main.specs.Headline.AsksOnlyOf.{asks_file, asks_nothing, asks_variants}

@@ -5,8 +5,8 @@ use Rattle.cr_outside.proofs.Counts.{rose_earlier}
 use Rattle.cr_outside.specs.Question.{AnswersAsTold, Says as Telling}
 use Rattle.cr_outside.specs.Test.{one_test_answer}
 use Rattle.cr_outside.specs.declared.judge.Answer.TheVariants.{No}
-use Rattle.cr_passes.specs.Offers.{Offers}
-use Rattle.cr_passes.specs.OfferLaws.{few_variants, levels_at, none_above}
+use Rattle.pass_list.specs.Offers.{Offers}
+use Rattle.pass_list.specs.OfferLaws.{few_variants, levels_at, none_above}
 use Rattle.cr_reduce.specs.Bench.{GoesOn, Judging, RoseAt}
 use Rattle.cr_reduce.specs.declared.end.End.{End}
 use Rattle.cr_reduce.specs.declared.end.Why.{Why}
@@ -18,7 +18,7 @@ use Rattle.cr_reduce.specs.Sizes.{HasSize}
 use Rattle.cr_reduce.proofs.Bounds.{in_time}
 use Rattle.cr_reduce.proofs.Runs.{rose_at-earlier}
 use Rattle.cr_reduce.proofs.Sizes.{size_by_length}
-use Rattle.cr_words.specs.Words.{Word}
+use Rattle.cr_main_words.specs.Words.{Word}
 use Rattle.cr_main.specs.Headline.{Completes, HasAll, enough_for}
 use Rattle.cr_main.specs.Messages.{copy_name, log_name}
 use Rattle.cr_main.specs.Outside.{Fails, IsUnchanged, Outside, Says}

@@ -3,7 +3,7 @@ use Rattle.std.proofs.Common.{◌≡◌, ◌⊎◌, inl, inr, ℕ, Bool, List, s
 use Rattle.cr_log.specs.Texts.{log_text_of, summary_text_of}
 use Rattle.cr_outside.specs.Question.{Says as Telling}
 use Rattle.cr_reduce.specs.Bench.{Judging}
-use Rattle.cr_words.specs.Words.{Word}
+use Rattle.cr_main_words.specs.Words.{Word}
 use Rattle.cr_main.specs.Headline.{HasEnded, HasFinished}
 use Rattle.cr_main.specs.Headline.HasEnded.{finished, untested}
 use Rattle.cr_main.specs.Messages.{copy_name, log_name}

@@ -10,7 +10,7 @@ use Rattle.cr_reduce.specs.declared.end.Why.TheVariants.{Fixed, Limit, Fault, No
 use Rattle.cr_reduce.specs.Ends.{EndsToldBy, calls_beside, outcome_of}
 use Rattle.cr_reduce.specs.Reduction.{Outcome}
 use Rattle.cr_reduce.specs.Search.{ReducesFileAsTold}
-use Rattle.cr_words.specs.Words.{Word}
+use Rattle.cr_main_words.specs.Words.{Word}
 use Rattle.cr_main.specs.Headline.{HasReduced, IsHeadline}
 use Rattle.cr_main.specs.Messages.{copy_name, log_name}
 use Rattle.cr_main.specs.Outside.{IsUnchanged, Outside, Puts, saved}

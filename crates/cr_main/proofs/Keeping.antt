@@ -5,7 +5,7 @@ use Rattle.cr_outside.specs.Files.{put_told}
 use Rattle.cr_outside.specs.Question.{Says as Telling}
 use Rattle.cr_reduce.specs.Bench.{Judging}
 use Rattle.cr_reduce.specs.declared.end.End.{End}
-use Rattle.cr_words.specs.Words.{Word}
+use Rattle.cr_main_words.specs.Words.{Word}
 use Rattle.cr_main.specs.Headline.{KeepsFiles, KeepsTask, Wrote}
 use Rattle.cr_main.specs.Headline.KeepsFiles.{files_kept, files_unchanged}
 use Rattle.cr_main.specs.Headline.KeepsTask.{task_copied, task_unchanged, task_written}

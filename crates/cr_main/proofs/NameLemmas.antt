@@ -3,7 +3,7 @@ use Rattle.std.proofs.Common.{◌≡◌, inl, inr, ℕ, List, [], ◌∷◌, ◌
 use Rattle.std.proofs.lemmas.List.{take-append-drop}
 use Rattle.std.specs.Str.Pattern.{HasCharAt}
 use Rattle.std.proofs.lemmas.Str.Pattern.{drop_at_char}
-use Rattle.cr_words.specs.Names.{HasLastPart}
+use Rattle.cr_main_words.specs.Names.{HasLastPart}
 
 -- what stands behind the last / of a name
 pub behind_slash : (name own : List ℕ) (i j : ℕ) → HasCharAt 47 name i j → own ≡ drop j name → HasLastPart name own

@@ -8,13 +8,13 @@ use Rattle.cr_outside.specs.Question.{Says as Telling}
 use Rattle.cr_outside.specs.Test.{asks_test, tells_test}
 use Rattle.cr_reduce.specs.Bench.{Judging}
 use Rattle.cr_reduce.specs.Reduction.{Within}
-use Rattle.cr_words.specs.Laws.{SameSettings, SameSource}
-use Rattle.cr_words.specs.Names.{IsOwnName, NoSlash, name_of}
-use Rattle.cr_words.specs.Words.{Word}
-use Rattle.cr_words.specs.declared.settings.Settings.{Settings}
-use Rattle.cr_words.specs.declared.source.Source.{Source}
-use Rattle.cr_words.specs.declared.source.Source.TheVariants as source
-use Rattle.cr_words.proofs.Giving.{one_settings}
+use Rattle.cr_main_words.specs.Laws.{SameSettings, SameSource}
+use Rattle.cr_main_words.specs.Names.{IsOwnName, NoSlash, name_of}
+use Rattle.cr_main_words.specs.Words.{Word}
+use Rattle.cr_main_words.specs.declared.settings.Settings.{Settings}
+use Rattle.cr_main_words.specs.declared.source.Source.{Source}
+use Rattle.cr_main_words.specs.declared.source.Source.TheVariants as source
+use Rattle.cr_main_words.proofs.Giving.{one_settings}
 use Rattle.cr_main.specs.Headline.{HasAll, IsTask, enough_for}
 use Rattle.cr_main.specs.Outside.{Outside}
 use Rattle.cr_main.specs.Task.{FileHas, FileLacks, task_of, text_of}

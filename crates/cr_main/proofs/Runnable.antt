@@ -1,13 +1,13 @@
 -- Settings of the command line can be run.
 use Rattle.std.proofs.Common.{◌≡◌, ◌<◌, ◌≤◌, ℕ, List, Option, min, unwrap_or, arith}
-use Rattle.cr_words.specs.Giving.{HasSettings}
-use Rattle.cr_words.specs.declared.settings.Settings.{Settings}
-use Rattle.cr_words.specs.Names.{IsSource}
-use Rattle.cr_words.specs.Numbers.{IsOptional}
-use Rattle.cr_words.specs.Numbers.IsOptional.{no_value, one_value}
-use Rattle.cr_words.specs.Words.{Word}
-use Rattle.cr_words.specs.declared.source.Source.{Source}
-use Rattle.cr_words.specs.declared.source.Source.TheVariants as source
+use Rattle.cr_main_words.specs.Giving.{HasSettings}
+use Rattle.cr_main_words.specs.declared.settings.Settings.{Settings}
+use Rattle.cr_main_words.specs.Names.{IsSource}
+use Rattle.cr_main_words.specs.Numbers.{IsOptional}
+use Rattle.cr_main_words.specs.Numbers.IsOptional.{no_value, one_value}
+use Rattle.cr_main_words.specs.Words.{Word}
+use Rattle.cr_main_words.specs.declared.source.Source.{Source}
+use Rattle.cr_main_words.specs.declared.source.Source.TheVariants as source
 use Rattle.cr_main.specs.Task.{IsMakeable, IsRunnable}
 
 -- The words give no other source than one that can be made.

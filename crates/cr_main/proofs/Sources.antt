@@ -7,9 +7,9 @@ use Rattle.cr_meaning.specs.declared.run.Limits.{Limits}
 use Rattle.cr_outside.specs.Files.{Names}
 use Rattle.cr_outside.specs.Question.{Says}
 use Rattle.cr_reduce.specs.Bench.{Judging}
-use Rattle.cr_words.specs.Names.{name_of}
-use Rattle.cr_words.specs.declared.settings.Settings.{Settings}
-use Rattle.cr_words.specs.declared.source.Source.TheVariants as source
+use Rattle.cr_main_words.specs.Names.{name_of}
+use Rattle.cr_main_words.specs.declared.settings.Settings.{Settings}
+use Rattle.cr_main_words.specs.declared.source.Source.TheVariants as source
 use Rattle.cr_main.specs.Outside.{Outside}
 use Rattle.cr_main.specs.Run.{RunsTask}
 use Rattle.cr_main.specs.Task.{Task, Text, given, saves_of, stored, task_of, text_of}

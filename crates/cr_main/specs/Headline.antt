@@ -13,10 +13,10 @@ use Rattle.cr_reduce.specs.Ends.{EndsAsTold, IsFixedAsTold, most_calls, outcome_
 use Rattle.cr_reduce.specs.Reduction.{Within}
 use Rattle.cr_reduce.specs.Search.{AsksOnlyCandidates, IsAllTold, ReducesFileAsTold}
 use Rattle.cr_reduce.specs.Sizes.{HasSize}
-use Rattle.cr_words.specs.Giving.{HasSettings}
-use Rattle.cr_words.specs.Names.{IsOwnName, name_of}
-use Rattle.cr_words.specs.Words.{Word}
-use Rattle.cr_words.specs.declared.settings.Settings.{Settings}
+use Rattle.cr_main_words.specs.Giving.{HasSettings}
+use Rattle.cr_main_words.specs.Names.{IsOwnName, name_of}
+use Rattle.cr_main_words.specs.Words.{Word}
+use Rattle.cr_main_words.specs.declared.settings.Settings.{Settings}
 use Rattle.cr_main.specs.Messages.{copy_name, log_name}
 use Rattle.cr_main.specs.Outside.{Outside, Puts, saved}
 use Rattle.cr_main.specs.Run.{IsReduction, end_status}

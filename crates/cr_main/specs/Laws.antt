@@ -1,6 +1,6 @@
 -- A law of names.
 use Rattle.std.specs.Prelude.{◌≡◌, ℕ, List}
-use Rattle.cr_words.specs.Names.{IsOwnName}
+use Rattle.cr_main_words.specs.Names.{IsOwnName}
 
 -- a name has one own name at most
 abbrev pub HasOneOwnName : Type 0

@@ -14,10 +14,10 @@ use Rattle.cr_reduce.specs.Trials.{AnswerInRun}
 use Rattle.cr_reduce.specs.declared.end.End.{End}
 use Rattle.cr_reduce.specs.declared.end.Why.{Why}
 use Rattle.cr_reduce.specs.declared.end.Why.TheVariants as why
-use Rattle.cr_words.specs.Giving.{HasNone, HasSettings}
-use Rattle.cr_words.specs.Names.{IsOwnName, name_of}
-use Rattle.cr_words.specs.Words.{Word}
-use Rattle.cr_words.specs.declared.settings.Settings.{Settings}
+use Rattle.cr_main_words.specs.Giving.{HasNone, HasSettings}
+use Rattle.cr_main_words.specs.Names.{IsOwnName, name_of}
+use Rattle.cr_main_words.specs.Words.{Word}
+use Rattle.cr_main_words.specs.declared.settings.Settings.{Settings}
 use Rattle.cr_main.specs.Messages.{copy_name, log_name, usage_line}
 use Rattle.cr_main.specs.Outside.{IsSaved, IsUnchanged, Outside, Puts, Refuses, SaveFails, saved}
 use Rattle.cr_main.specs.Task.{Task, Text, task_of, text_of}

@@ -10,12 +10,12 @@ use Rattle.cr_outside.specs.Files.{Names, content_of}
 use Rattle.cr_outside.specs.Question.{Says}
 use Rattle.cr_outside.specs.Test.{asks_test, tells_test}
 use Rattle.cr_outside.specs.declared.question.Question.{Ghosts as QuestionGhosts}
-use Rattle.cr_passes.specs.Offers.{Offers}
+use Rattle.pass_list.specs.Offers.{Offers}
 use Rattle.cr_reduce.specs.Search.{Search, search_of}
-use Rattle.cr_words.specs.Names.{name_of}
-use Rattle.cr_words.specs.declared.settings.Settings.{Settings}
-use Rattle.cr_words.specs.declared.source.Source.{Source}
-use Rattle.cr_words.specs.declared.source.Source.TheVariants as source
+use Rattle.cr_main_words.specs.Names.{name_of}
+use Rattle.cr_main_words.specs.declared.settings.Settings.{Settings}
+use Rattle.cr_main_words.specs.declared.source.Source.{Source}
+use Rattle.cr_main_words.specs.declared.source.Source.TheVariants as source
 use Rattle.cr_main.specs.declared.task.Task.{Task as Asked}
 
 -- What is searched, why a file is not lawful, how many positions are tried at once at most, the most turns, the file's whole

@@ -1,7 +1,7 @@
 //! The top call of the reducer: it reads the words of the command line, the file, and the law's ruling on it, asks the
 //! test, reduces, and writes the results. Each status has its cause as a clause of `run`, and the headline is a clause
-//! of it too. The steps behind the words are for any passes, law and question. Stands on `cr_reduce`, `cr_words`,
-//! `cr_passes`, `cr_log` and `cr_gen`.
+//! of it too. The steps behind the words are for any passes, law and question. Stands on `cr_reduce`, `cr_main_words`,
+//! `pass_list`, `cr_log` and `cr_gen`.
 #![tactic(auto)]
 
 mod finish;

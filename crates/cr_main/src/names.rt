@@ -1,6 +1,6 @@
 // Names of files.
 ghost use Rattle.std.specs.Prelude.{◌≡◌, ◌++◌, IfOk, string_bytes};
-ghost use Rattle.cr_words.specs.Names.{IsOwnName};
+ghost use Rattle.cr_main_words.specs.Names.{IsOwnName};
 
 use cr_outside::NoMemory;
 use std::alloc::Global;

@@ -6,21 +6,21 @@ ghost use Rattle.cr_main.specs.Headline.{AsksOnly, Completes, HasEnded, IsHeadli
 ghost use Rattle.cr_main.specs.Outside.{outside};
 ghost use Rattle.cr_main.specs.Run.{Runs, RunsTask};
 ghost use Rattle.cr_main.specs.Task.{IsRunnable, saves_of, task_of, text_of};
-ghost use Rattle.cr_words.specs.Names.{IsOwnName, name_of};
-ghost use Rattle.cr_words.specs.Words.{texts_of};
+ghost use Rattle.cr_main_words.specs.Names.{IsOwnName, name_of};
+ghost use Rattle.cr_main_words.specs.Words.{texts_of};
 
 use crate::messages::{USAGE, put};
 use crate::names::own_name;
 use crate::run_task::{run_bytes, run_stored};
 use crate::status;
 use crate::task::Task;
-use cr_analysis::LastRead;
 use cr_gen::make;
 use cr_lawful::CLaw;
+use cr_lawful_analysis::LastRead;
+use cr_main_words::{Settings, Source, WordFault, words};
 use cr_outside::{Files, Judge, Sink};
-use cr_passes::CPasses;
 use cr_pool::Bench;
-use cr_words::{Settings, Source, WordFault, words};
+use pass_list::CPasses;
 use std::alloc::Global;
 use std::thread::Threads;
 

@@ -7,7 +7,7 @@ use Rattle.std.proofs.lemmas.Bool.{true≢false, cases_lt, leb-true, leb-false, 
 use Rattle.std.proofs.lemmas.List.{get_or_past}
 use Rattle.cr_tokens.specs.declared.token.Token.{Token}
 use Rattle.cr_syntax.specs.declared.unit.Unit as tree
-use Rattle.cr_events.specs.declared.event.Event.{Event}
+use Rattle.cr_scopes_events.specs.declared.event.Event.{Event}
 use Rattle.cr_scopes.specs.declared.fault.NameFault.{NameFault}
 use Rattle.cr_scopes.specs.declared.fault.NameFault.TheVariants.{NoMemory, Unknown, Twice}
 use Rattle.cr_scopes.specs.declared.names.Names.{Names}

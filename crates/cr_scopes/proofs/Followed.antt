@@ -5,9 +5,9 @@ use Rattle.std.specs.HashMap.{HashMap, get}
 use Rattle.std.proofs.lemmas.List.{get_or-set_other, length-set}
 use Rattle.std.proofs.lemmas.Grind.{get_or-set_at}
 use Rattle.std.proofs.lemmas.Bool.{true≢false, and_parts, cases_eq, eqb-true, eq-eqb, ne_eqb, cond-true, cond-false}
-use Rattle.cr_events.specs.declared.event.Event.{Event}
-use Rattle.cr_events.specs.declared.event.Event.TheVariants.{Node, Opens, Closes, Name, Member}
-use Rattle.cr_events.specs.declared.event.Role.{Role}
+use Rattle.cr_scopes_events.specs.declared.event.Event.{Event}
+use Rattle.cr_scopes_events.specs.declared.event.Event.TheVariants.{Node, Opens, Closes, Name, Member}
+use Rattle.cr_scopes_events.specs.declared.event.Role.{Role}
 use Rattle.cr_scopes.specs.declared.fault.NameFault.{NameFault}
 use Rattle.cr_scopes.specs.declared.fault.NameFault.TheVariants.{Twice}
 use Rattle.cr_scopes.specs.declared.scope.Space.{Space}

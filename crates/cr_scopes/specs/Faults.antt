@@ -1,10 +1,10 @@
 -- When a name is unknown, or declared twice.
 use Rattle.std.specs.Prelude.{◌==◌, ℕ, zero, Bool, true, false, not, ◌&&◌, ◌||◌, List, Option, None, Some}
 use Rattle.std.specs.Option.{is_some}
-use Rattle.cr_events.specs.declared.event.Role.{Role}
-use Rattle.cr_events.specs.declared.event.Role.TheVariants as role
-use Rattle.cr_events.specs.declared.event.Event.{Event}
-use Rattle.cr_events.specs.declared.event.Event.TheVariants.{Name, Member}
+use Rattle.cr_scopes_events.specs.declared.event.Role.{Role}
+use Rattle.cr_scopes_events.specs.declared.event.Role.TheVariants as role
+use Rattle.cr_scopes_events.specs.declared.event.Event.{Event}
+use Rattle.cr_scopes_events.specs.declared.event.Event.TheVariants.{Name, Member}
 use Rattle.cr_scopes.specs.declared.fault.NameFault.{NameFault}
 use Rattle.cr_scopes.specs.declared.fault.NameFault.TheVariants.{Unknown, Twice}
 use Rattle.cr_scopes.specs.declared.scope.Space.TheVariants.{Ordinary, Content}

@@ -2,10 +2,10 @@
 -- a token is given by `name`, and equal names are equal numbers.
 use Rattle.std.specs.Prelude.{ℕ, zero, suc, ◌-◌, ◌==◌, Bool, true, false, ◌&&◌, ◌||◌, List, [], ◌∷◌, Option, None, Some, if◌then◌else◌}
 use Rattle.std.specs.Option.{is_some}
-use Rattle.cr_events.specs.declared.event.Role.{Role}
-use Rattle.cr_events.specs.declared.event.Role.TheVariants as role
-use Rattle.cr_events.specs.declared.event.Event.{Event}
-use Rattle.cr_events.specs.declared.event.Event.TheVariants.{Node, Opens, Closes, Name, Member}
+use Rattle.cr_scopes_events.specs.declared.event.Role.{Role}
+use Rattle.cr_scopes_events.specs.declared.event.Role.TheVariants as role
+use Rattle.cr_scopes_events.specs.declared.event.Event.{Event}
+use Rattle.cr_scopes_events.specs.declared.event.Event.TheVariants.{Node, Opens, Closes, Name, Member}
 use Rattle.cr_scopes.specs.declared.scope.Space.{Space}
 use Rattle.cr_scopes.specs.declared.scope.Space.TheVariants.{Ordinary, Tag, Content}
 use Rattle.cr_scopes.specs.declared.scope.Place.{Place}

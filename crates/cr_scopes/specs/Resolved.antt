@@ -1,10 +1,10 @@
 -- What names stand for, and the entities of a unit.
 use Rattle.std.specs.Prelude.{◌≡◌, ℕ, zero, suc, ◌+◌, ◌<◌, ◌≤◌, ◌==◌, Bool, true, false, not, ◌&&◌, List, [], ◌∷◌, ◌++◌, Option, None, Some, length, slice_get, slice_index_or, nat_lt, if◌then◌else◌}
 use Rattle.std.specs.Option.{is_some}
-use Rattle.cr_events.specs.declared.event.Role.{Role}
-use Rattle.cr_events.specs.declared.event.Role.TheVariants as role
-use Rattle.cr_events.specs.declared.event.Event.{Event}
-use Rattle.cr_events.specs.declared.event.Event.TheVariants.{Node, Opens, Closes, Name, Member}
+use Rattle.cr_scopes_events.specs.declared.event.Role.{Role}
+use Rattle.cr_scopes_events.specs.declared.event.Role.TheVariants as role
+use Rattle.cr_scopes_events.specs.declared.event.Event.{Event}
+use Rattle.cr_scopes_events.specs.declared.event.Event.TheVariants.{Node, Opens, Closes, Name, Member}
 use Rattle.cr_scopes.specs.declared.names.Entity.{Entity}
 use Rattle.cr_scopes.specs.declared.names.Names.{Names}
 use Rattle.cr_scopes.specs.declared.fault.NameFault.{NameFault}

@@ -2,9 +2,9 @@
 use Rattle.std.specs.Prelude.{◌≡◌, ℕ, ◌<◌, ◌≤◌, ◌==◌, Bool, ◌&&◌, List, Option, None, Some, length, slice_index_or, nat_eq, nat_le, slice_set, drop, if◌then◌else◌}
 use Rattle.std.specs.Map.{lookup}
 use Rattle.std.specs.HashMap.{get}
-use Rattle.cr_events.specs.declared.event.Event.{Event}
+use Rattle.cr_scopes_events.specs.declared.event.Event.{Event}
 use Rattle.cr_scopes.specs.declared.fault.NameFault.{NameFault}
-use Rattle.cr_events.specs.declared.event.Role.{Role}
+use Rattle.cr_scopes_events.specs.declared.event.Role.{Role}
 use Rattle.cr_scopes.specs.declared.scope.Space.{Space}
 use Rattle.cr_scopes.specs.declared.scope.Space.TheVariants.{Ordinary, Tag, Content}
 use Rattle.cr_scopes.specs.declared.scope.Scope.{Scope}

@@ -1,8 +1,8 @@
 -- The names of a unit.
 use Rattle.std.specs.Prelude.{ℕ, List, length}
 use Rattle.cr_syntax.specs.declared.unit.Unit as tree
-use Rattle.cr_events.specs.declared.event.Event.{Event}
-use Rattle.cr_events.specs.Events.{events_of}
+use Rattle.cr_scopes_events.specs.declared.event.Event.{Event}
+use Rattle.cr_scopes_events.specs.Events.{events_of}
 use Rattle.cr_scopes.specs.declared.names.Names.{Names}
 use Rattle.cr_scopes.specs.declared.fault.NameFault.{NameFault}
 use Rattle.cr_scopes.specs.declared.fault.NameFault.TheVariants.{NoMemory, Unknown, Twice}

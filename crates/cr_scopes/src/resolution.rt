@@ -12,7 +12,7 @@ use crate::spelled::names_of;
 use crate::state::{State, follow};
 use crate::table::Table;
 use crate::told::Told;
-use cr_events::{Event, events};
+use cr_scopes_events::{Event, events};
 use cr_syntax::Unit;
 use std::alloc::{AllocError, Global};
 use std::collections::{HashMap, LinkedList};

@@ -8,7 +8,7 @@ ghost use Rattle.cr_scopes.specs.Resolved.{token_of};
 use crate::fault::NameFault;
 use crate::scope::{Found, Look};
 use crate::table::Table;
-use cr_events::Role;
+use cr_scopes_events::Role;
 
 /// What has linkage.
 pub fn links(outermost: bool, role: Role) -> bool

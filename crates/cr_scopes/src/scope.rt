@@ -3,7 +3,7 @@ ghost use Rattle.cr_scopes.specs.Looking.{place_of};
 ghost use Rattle.cr_scopes.specs.Scopes.{blank, said_in, looked, keeps, HasPut, IsTaken, IsNoted, IsNamed};
 
 use crate::table::Table;
-use cr_events::Role;
+use cr_scopes_events::Role;
 use std::alloc::{AllocError, Global};
 use std::collections::LinkedList;
 

@@ -1,7 +1,7 @@
 ghost use Rattle.std.specs.Prelude.{length, ◌≡◌, ◌+◌, ◌-◌, ◌==◌, ◌∷◌, ◌||◌, ◌&&◌, ℕ, List, Some, None, OnOk, IfOk, nat_eq, slice_set, drop, if◌then◌else◌};
 ghost use Rattle.std.specs.Map.{lookup};
 ghost use Rattle.std.specs.HashMap.{get};
-ghost use Rattle.cr_events.specs.declared.event.Event.{Event};
+ghost use Rattle.cr_scopes_events.specs.declared.event.Event.{Event};
 ghost use Rattle.cr_scopes.specs.declared.fault.NameFault.TheVariants.{Twice};
 ghost use Rattle.std.specs.Prelude.{true};
 ghost use Rattle.cr_scopes.specs.Looking.{or_else};
@@ -14,7 +14,7 @@ use crate::rules::{begun, fault_where, is_wrong, links};
 use crate::scope::{OpenScopes, Space, close_scope, find, note, open_scope};
 use crate::table::Table;
 use crate::told::{Told, declares_by, space_of, told_if};
-use cr_events::{Event, Role};
+use cr_scopes_events::{Event, Role};
 use std::alloc::{AllocError, Global};
 use std::collections::HashMap;
 

@@ -2,7 +2,7 @@ ghost use Rattle.std.specs.Prelude.{◌≡◌};
 ghost use Rattle.cr_scopes.specs.Resolved.{space_of, space_number, told_if, declares_by};
 
 use crate::scope::{Found, Look, Space};
-use cr_events::Role;
+use cr_scopes_events::Role;
 
 /// What a token stands for.
 #[derive(Clone, Copy)]

@@ -4,8 +4,8 @@ use Rattle.std.specs.List.{All}
 use Rattle.cr_syntax.specs.Kept.{PartsAreBelow}
 use Rattle.cr_syntax.specs.Words.{AreSpans}
 use Rattle.cr_syntax.specs.declared.typed.CType.TheVariants.{Struct}
-use Rattle.cr_types.specs.Types.{Qualified, plain, pointer, array, unknown, type_at, IsTable}
-use Rattle.cr_types.specs.Layouts.{layout_of}
+use Rattle.cr_check_types.specs.Types.{Qualified, plain, pointer, array, unknown, type_at, IsTable}
+use Rattle.cr_check_types.specs.Layouts.{layout_of}
 use Rattle.cr_typed.specs.declared.typed.Typed.{Typed}
 
 -- each entry is below a number

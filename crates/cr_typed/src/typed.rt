@@ -1,7 +1,7 @@
+use cr_check_types::{Layout, Table};
 use cr_rows::Row;
 use cr_syntax::Node;
 use cr_tokens::Token;
-use cr_types::{Layout, Table};
 
 /// What a declared name stands for in a run (C11 6.2.4).
 #[derive(Clone, Copy)]

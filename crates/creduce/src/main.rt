@@ -5,7 +5,7 @@ ghost use Rattle.std.specs.Prelude.{◌≡◌, IfOk, length};
 
 use cr_main::run;
 use cr_pool::Bench;
-use cr_system::{ProcessJudge, StdFiles, StdOut};
+use creduce_system::{ProcessJudge, StdFiles, StdOut};
 use std::alloc::AllocError;
 use std::process::ExitCode;
 use std::thread::Threads;

@@ -2,14 +2,14 @@
 use Rattle.std.specs.Prelude.{ℕ, ◌-◌, nat_le, List, [], ◌∷◌, length, take, drop, if◌then◌else◌}
 use Rattle.cr_tokens.specs.declared.token.Token.{Token}
 use Rattle.cr_syntax.specs.declared.node.Node.{Node}
-use Rattle.cr_edit.specs.declared.change.Change.{Change}
-use Rattle.cr_edit.specs.declared.change.Text.{Text}
-use Rattle.cr_edit.specs.declared.change.Text.TheVariants.{One, Zero}
-use Rattle.cr_edit.specs.Forms.{nothing_kept}
-use Rattle.cr_edit.specs.Menu.{Offering}
-use Rattle.cr_levels.specs.declared.counted.Counted.{Counted}
-use Rattle.cr_levels.specs.Level.{level_of}
-use Rattle.cr_levels.specs.Nodes.{becoming, in_its_place, node_at}
+use Rattle.pass_edit.specs.declared.change.Change.{Change}
+use Rattle.pass_edit.specs.declared.change.Text.{Text}
+use Rattle.pass_edit.specs.declared.change.Text.TheVariants.{One, Zero}
+use Rattle.pass_edit.specs.Forms.{nothing_kept}
+use Rattle.pass_edit.specs.Menu.{Offering}
+use Rattle.pass_levels.specs.declared.counted.Counted.{Counted}
+use Rattle.pass_levels.specs.Level.{level_of}
+use Rattle.pass_levels.specs.Nodes.{becoming, in_its_place, node_at}
 use Rattle.pass_exprs.specs.Operands.{is_expression, operands_by, operands_of}
 
 -- an expression becomes a constant

@@ -1,13 +1,13 @@
 // The levels of pass c.
 ghost use Rattle.std.specs.Prelude.{◌≡◌, length, IfOk};
-ghost use Rattle.cr_levels.specs.Level.{level_of};
+ghost use Rattle.pass_levels.specs.Level.{level_of};
 ghost use Rattle.pass_exprs.specs.Expressions.{c_offering, constant_gives, first_gives, last_gives, last_of_several, operands_at};
 
 use crate::operands::{Operands, operands_by, operands_of};
-use cr_edit::{Edits, Kept, Menu, Text};
-use cr_levels::{Counted, Level, becoming, first_of, kind_at, list, parts_at, put_in_its_place};
 use cr_syntax::Node;
 use cr_tokens::Token;
+use pass_edit::{Edits, Kept, Menu, Text};
+use pass_levels::{Counted, Level, becoming, first_of, kind_at, list, parts_at, put_in_its_place};
 use std::alloc::{AllocError, Global};
 
 // Each expression becomes a constant.

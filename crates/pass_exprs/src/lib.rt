@@ -1,7 +1,7 @@
 //! The pass of expressions (c): each becomes a constant, or one of its operands.
 //!
 //! It promises that the variants are those of its definition, each made exactly, and where there is room for it without memory. It stands on
-//! `cr_edit`, `cr_levels`, `cr_syntax` and `cr_tokens`.
+//! `pass_edit`, `pass_levels`, `cr_syntax` and `cr_tokens`.
 #![tactic(auto)]
 
 mod levels;

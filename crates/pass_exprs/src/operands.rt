@@ -2,8 +2,8 @@
 ghost use Rattle.std.specs.Prelude.{◌≡◌};
 ghost use Rattle.pass_exprs.specs.Operands.{operands_by, operands_of};
 
-use cr_levels::behind_first;
 use cr_syntax::Kind;
+use pass_levels::behind_first;
 
 /// Which parts of a node are its operands (C11 6.5).
 #[derive(Clone, Copy, PartialEq, Eq)]

@@ -4,12 +4,12 @@ use Rattle.std.specs.List.{list_any}
 use Rattle.cr_syntax.specs.declared.node.Kind.{Kind}
 use Rattle.cr_syntax.specs.declared.node.Kind.TheVariants as kind
 use Rattle.cr_syntax.specs.declared.node.Node.{Node}
-use Rattle.cr_events.specs.declared.declarator.Derivation.{Derivation}
-use Rattle.cr_events.specs.declared.declarator.Derivation.TheVariants.{Function}
-use Rattle.cr_events.specs.Declarators.{declarator_of}
+use Rattle.cr_scopes_events.specs.declared.declarator.Derivation.{Derivation}
+use Rattle.cr_scopes_events.specs.declared.declarator.Derivation.TheVariants.{Function}
+use Rattle.cr_scopes_events.specs.Declarators.{declarator_of}
 use Rattle.cr_scopes.specs.declared.names.Names.{Names}
-use Rattle.cr_levels.specs.Gathered.{gathered}
-use Rattle.cr_levels.specs.Nodes.{node_at}
+use Rattle.pass_levels.specs.Gathered.{gathered}
+use Rattle.pass_levels.specs.Nodes.{node_at}
 use Rattle.pass_params.specs.Functions.{number_of, part_at}
 use Rattle.pass_inline.specs.declared.callees.Body.{Body}
 use Rattle.pass_inline.specs.declared.callees.Body.TheVariants.{Other, Returned, WithoutReturn}

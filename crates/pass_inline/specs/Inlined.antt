@@ -6,17 +6,17 @@ use Rattle.cr_syntax.specs.declared.node.Kind.{Kind}
 use Rattle.cr_syntax.specs.declared.node.Kind.TheVariants as kind
 use Rattle.cr_syntax.specs.declared.node.Node.{Node}
 use Rattle.cr_scopes.specs.declared.names.Names.{Names}
-use Rattle.cr_edit.specs.declared.change.Change.{Change}
-use Rattle.cr_edit.specs.declared.change.Text.TheVariants.{Filled}
-use Rattle.cr_edit.specs.declared.form.Kept.{Kept}
-use Rattle.cr_edit.specs.declared.form.Sign.{Sign}
-use Rattle.cr_edit.specs.declared.form.Sign.TheVariants.{OpenBrace, OpenParenthesis}
-use Rattle.cr_edit.specs.Menu.{Offering}
-use Rattle.cr_levels.specs.declared.counted.Counted.{Counted}
-use Rattle.cr_levels.specs.Gathered.{gathered}
-use Rattle.cr_levels.specs.Level.{level_of}
-use Rattle.cr_levels.specs.Nodes.{node_at}
-use Rattle.cr_levels.specs.Places.{gone, replaced, with_comma}
+use Rattle.pass_edit.specs.declared.change.Change.{Change}
+use Rattle.pass_edit.specs.declared.change.Text.TheVariants.{Filled}
+use Rattle.pass_edit.specs.declared.form.Kept.{Kept}
+use Rattle.pass_edit.specs.declared.form.Sign.{Sign}
+use Rattle.pass_edit.specs.declared.form.Sign.TheVariants.{OpenBrace, OpenParenthesis}
+use Rattle.pass_edit.specs.Menu.{Offering}
+use Rattle.pass_levels.specs.declared.counted.Counted.{Counted}
+use Rattle.pass_levels.specs.Gathered.{gathered}
+use Rattle.pass_levels.specs.Level.{level_of}
+use Rattle.pass_levels.specs.Nodes.{node_at}
+use Rattle.pass_levels.specs.Places.{gone, replaced, with_comma}
 use Rattle.pass_params.specs.Functions.{number_of, part_at, same_number, uses_by}
 use Rattle.pass_params.specs.Ordered.{ordered}
 use Rattle.pass_inline.specs.declared.callees.Body.{Body}

@@ -5,12 +5,12 @@ use Rattle.cr_syntax.specs.declared.node.Kind.{Kind}
 use Rattle.cr_syntax.specs.declared.node.Kind.TheVariants as kind
 use Rattle.cr_syntax.specs.declared.node.Node.{Node}
 use Rattle.cr_scopes.specs.declared.names.Names.{Names}
-use Rattle.cr_edit.specs.declared.form.Bit.{Bit}
-use Rattle.cr_edit.specs.declared.form.Bit.TheVariants as bit
-use Rattle.cr_edit.specs.declared.form.Run.{Run}
-use Rattle.cr_edit.specs.declared.form.Sign.TheVariants.{CloseBrace, CloseParenthesis, Equals, OpenParenthesis, Semicolon}
-use Rattle.cr_levels.specs.Gathered.{gathered}
-use Rattle.cr_levels.specs.Nodes.{node_at}
+use Rattle.pass_edit.specs.declared.form.Bit.{Bit}
+use Rattle.pass_edit.specs.declared.form.Bit.TheVariants as bit
+use Rattle.pass_edit.specs.declared.form.Run.{Run}
+use Rattle.pass_edit.specs.declared.form.Sign.TheVariants.{CloseBrace, CloseParenthesis, Equals, OpenParenthesis, Semicolon}
+use Rattle.pass_levels.specs.Gathered.{gathered}
+use Rattle.pass_levels.specs.Nodes.{node_at}
 use Rattle.pass_params.specs.Functions.{number_of, part_at, row_of, same_number}
 use Rattle.pass_inline.specs.declared.callees.Body.{Body}
 use Rattle.pass_inline.specs.declared.callees.Body.TheVariants.{Other, Returned, WithoutReturn}

@@ -2,14 +2,14 @@
 ghost use Rattle.std.specs.Prelude.{◌≡◌, ◌++◌, map, IfOk, OnOk};
 ghost use Rattle.std.specs.List.{list_any};
 ghost use Rattle.cr_syntax.specs.declared.node.Kind.TheVariants.{FunctionDefinition};
-ghost use Rattle.cr_levels.specs.Nodes.{node_at};
+ghost use Rattle.pass_levels.specs.Nodes.{node_at};
 ghost use Rattle.pass_inline.specs.Callees.{body_by as body_from, body_of, callee_by, callees_in, declared_by as declared_from, declared_in, declared_number, is_within as is_within_by, number_if, returned_by, returned_in, returns_by, returns_in};
 
-use cr_events::{Derivation, declared_by};
-use cr_levels::{behind_first, kind_at, parts_at, span_at};
 use cr_rows::Row;
 use cr_scopes::Names;
+use cr_scopes_events::{Derivation, declared_by};
 use cr_syntax::{Kind, Node};
+use pass_levels::{behind_first, kind_at, parts_at, span_at};
 use pass_params::{number, number_of, part_at};
 use std::alloc::{AllocError, Global};
 

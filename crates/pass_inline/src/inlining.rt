@@ -1,9 +1,9 @@
 // Pass i: calls become what they call.
 ghost use Rattle.std.specs.Prelude.{◌≡◌, ◌++◌, ◌&&◌, None, Some, length, nat_le, slice_index_or, IfOk, OnOk};
 ghost use Rattle.std.specs.List.{flat_map, list_all};
-ghost use Rattle.cr_levels.specs.Gathered.{gathered};
-ghost use Rattle.cr_levels.specs.Level.{level_of};
-ghost use Rattle.cr_levels.specs.Nodes.{node_at};
+ghost use Rattle.pass_levels.specs.Gathered.{gathered};
+ghost use Rattle.pass_levels.specs.Level.{level_of};
+ghost use Rattle.pass_levels.specs.Nodes.{node_at};
 ghost use Rattle.pass_params.specs.Functions.{same_number as same_by};
 ghost use Rattle.pass_inline.specs.Inlined.{call_by, call_gives, callee_at, calls_give, declaration_goes, declarator_goes, definition_goes, facts_in, facts_of, fits, function_goes, goes_too, i_offering, inlining, inlining_by, is_only_use, is_outside, kept_by, node_gone, opening, place_of, statement_by, statements_give};
 ghost use Rattle.pass_inline.specs.declared.known.Way.TheVariants.{Block, Expression};
@@ -11,14 +11,14 @@ ghost use Rattle.pass_inline.specs.declared.known.Way.TheVariants.{Block, Expres
 use crate::callees::{Body, Callee, Declared, callees_in, declared_in, is_within};
 use crate::known::{Known, Way};
 use crate::spelled::{arguments_in, forms_of};
-use cr_edit::{Change, Edits, Kept, Menu, Sign, Text};
-use cr_levels::{
-    Counted, Level, behind_first, gone, kind_at, list, parts_at, replaced, span_at, with_comma,
-};
 use cr_rows::Row;
 use cr_scopes::Names;
 use cr_syntax::{Kind, Node, Unit};
 use cr_tokens::Token;
+use pass_edit::{Change, Edits, Kept, Menu, Sign, Text};
+use pass_levels::{
+    Counted, Level, behind_first, gone, kind_at, list, parts_at, replaced, span_at, with_comma,
+};
 use pass_params::{in_order, number, number_of, part_at, same_number, uses_of};
 use std::alloc::{AllocError, Global};
 

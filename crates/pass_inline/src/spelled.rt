@@ -1,16 +1,16 @@
 // What calls become, spelled anew.
 ghost use Rattle.std.specs.Prelude.{◌≡◌, ◌++◌, map, IfOk, OnOk};
 ghost use Rattle.std.specs.List.{position};
-ghost use Rattle.cr_levels.specs.Nodes.{node_at};
+ghost use Rattle.pass_levels.specs.Nodes.{node_at};
 ghost use Rattle.pass_params.specs.Functions.{part_at as part_by};
 ghost use Rattle.pass_inline.specs.Spelled.{arguments_by, arguments_in, block_form, expression_form, form_of, forms_of, parameter_bits, parameter_number, run_of, token_bits, used_by};
 
 use crate::callees::{Body, Callee, declared_number};
-use cr_edit::{Bit, Run, Sign};
-use cr_levels::{kind_at, parts_at, span_at};
 use cr_rows::Row;
 use cr_scopes::Names;
 use cr_syntax::{Kind, Node};
+use pass_edit::{Bit, Run, Sign};
+use pass_levels::{kind_at, parts_at, span_at};
 use pass_params::{number, number_of, part_at, row_of, same_number};
 use std::alloc::{AllocError, Global};
 

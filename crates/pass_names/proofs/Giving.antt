@@ -2,7 +2,7 @@
 use native.Mathlib.Omega.{arith}
 use Rattle.std.proofs.Common.{◌≡◌, ℕ, ◌+◌, suc, List, ◌++◌, ap, subst, ◌∙◌}
 use Rattle.std.proofs.lemmas.List.{append_assoc}
-use Rattle.cr_levels.specs.Gathered.{gathered}
+use Rattle.pass_levels.specs.Gathered.{gathered}
 
 pub given_more : {X : Type 0} (gives : ℕ → List X) (new all old : List X) (at : ℕ) → new ≡ all ++ gives at → all ≡ old ++ gathered gives at → new ≡ old ++ gathered gives (at + 1)
 given_more gives new all old at more before =

@@ -4,9 +4,9 @@ use Rattle.std.specs.List.{list_any}
 use Rattle.std.specs.Str.{bytes_eq}
 use Rattle.cr_tokens.specs.declared.token.Token.{Token}
 use Rattle.cr_syntax.specs.declared.node.Node.{Node}
-use Rattle.cr_levels.specs.Gathered.{gathered}
-use Rattle.cr_levels.specs.Nodes.{node_at}
-use Rattle.cr_levels.specs.Places.{spelling_at}
+use Rattle.pass_levels.specs.Gathered.{gathered}
+use Rattle.pass_levels.specs.Nodes.{node_at}
+use Rattle.pass_levels.specs.Places.{spelling_at}
 use Rattle.pass_names.specs.declared.members.MemberUse.{MemberUse}
 
 -- the structure whose member a node names

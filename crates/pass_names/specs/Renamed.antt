@@ -4,17 +4,17 @@ use Rattle.std.specs.Ordering.{nat_cmp}
 use Rattle.std.specs.List.{list_any}
 use Rattle.cr_tokens.specs.declared.token.Token.{Token}
 use Rattle.cr_syntax.specs.declared.node.Node.{Node}
-use Rattle.cr_events.specs.Events.{events_of}
+use Rattle.cr_scopes_events.specs.Events.{events_of}
 use Rattle.cr_scopes.specs.declared.names.Entity.{Entity}
 use Rattle.cr_scopes.specs.declared.names.Names.{Names}
-use Rattle.cr_edit.specs.declared.change.Change.{Change}
-use Rattle.cr_edit.specs.declared.change.Text.TheVariants as change_to
-use Rattle.cr_edit.specs.declared.form.Kept.{Kept}
-use Rattle.cr_edit.specs.Forms.{nothing_kept}
-use Rattle.cr_edit.specs.Menu.{Offering}
-use Rattle.cr_levels.specs.Gathered.{gathered}
-use Rattle.cr_levels.specs.Order.{in_order}
-use Rattle.cr_levels.specs.Places.{replaced}
+use Rattle.pass_edit.specs.declared.change.Change.{Change}
+use Rattle.pass_edit.specs.declared.change.Text.TheVariants as change_to
+use Rattle.pass_edit.specs.declared.form.Kept.{Kept}
+use Rattle.pass_edit.specs.Forms.{nothing_kept}
+use Rattle.pass_edit.specs.Menu.{Offering}
+use Rattle.pass_levels.specs.Gathered.{gathered}
+use Rattle.pass_levels.specs.Order.{in_order}
+use Rattle.pass_levels.specs.Places.{replaced}
 use Rattle.pass_names.specs.Reach.{entity_at}
 use Rattle.pass_names.specs.Reserved.{reserved_tokens}
 use Rattle.pass_names.specs.Short.{first_free, short_name}

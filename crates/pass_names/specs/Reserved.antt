@@ -3,11 +3,11 @@ use Rattle.std.specs.Prelude.{ℕ, Bool, ◌&&◌, ◌||◌, List, [], ◌∷◌
 use Rattle.std.specs.List.{flat_map}
 use Rattle.std.specs.Str.{bytes_eq}
 use Rattle.cr_tokens.specs.declared.token.Token.{Token}
-use Rattle.cr_events.specs.declared.event.Event.{Event}
-use Rattle.cr_events.specs.declared.event.Event.TheVariants.{Name}
-use Rattle.cr_events.specs.declared.event.Role.{Role}
-use Rattle.cr_events.specs.declared.event.Role.TheVariants.{Function}
-use Rattle.cr_levels.specs.Places.{spelling_at}
+use Rattle.cr_scopes_events.specs.declared.event.Event.{Event}
+use Rattle.cr_scopes_events.specs.declared.event.Event.TheVariants.{Name}
+use Rattle.cr_scopes_events.specs.declared.event.Role.{Role}
+use Rattle.cr_scopes_events.specs.declared.event.Role.TheVariants.{Function}
+use Rattle.pass_levels.specs.Places.{spelling_at}
 
 abbrev pub is_main : List ℕ → Bool
 is_main text = bytes_eq text (codes "main")

@@ -5,17 +5,17 @@ use Rattle.cr_tokens.specs.declared.token.Token.{Token}
 use Rattle.cr_syntax.specs.declared.node.Kind.{Kind}
 use Rattle.cr_syntax.specs.declared.node.Kind.TheVariants as kind
 use Rattle.cr_syntax.specs.declared.node.Node.{Node}
-use Rattle.cr_events.specs.Declarators.{declarator_of}
-use Rattle.cr_events.specs.Events.{events_of}
+use Rattle.cr_scopes_events.specs.Declarators.{declarator_of}
+use Rattle.cr_scopes_events.specs.Events.{events_of}
 use Rattle.cr_scopes.specs.declared.names.Names.{Names}
-use Rattle.cr_edit.specs.declared.change.Change.{Change}
-use Rattle.cr_edit.specs.Forms.{nothing_kept}
-use Rattle.cr_edit.specs.Menu.{Offering}
-use Rattle.cr_levels.specs.declared.counted.Counted.{Counted}
-use Rattle.cr_levels.specs.Gathered.{gathered}
-use Rattle.cr_levels.specs.Level.{level_of}
-use Rattle.cr_levels.specs.Nodes.{node_at}
-use Rattle.cr_levels.specs.Places.{gone, with_comma}
+use Rattle.pass_edit.specs.declared.change.Change.{Change}
+use Rattle.pass_edit.specs.Forms.{nothing_kept}
+use Rattle.pass_edit.specs.Menu.{Offering}
+use Rattle.pass_levels.specs.declared.counted.Counted.{Counted}
+use Rattle.pass_levels.specs.Gathered.{gathered}
+use Rattle.pass_levels.specs.Level.{level_of}
+use Rattle.pass_levels.specs.Nodes.{node_at}
+use Rattle.pass_levels.specs.Places.{gone, with_comma}
 use Rattle.pass_names.specs.declared.members.MemberUse.{MemberUse}
 use Rattle.pass_names.specs.Members.{is_unused_member, member_uses}
 use Rattle.pass_names.specs.Reach.{are_own, has_no_use_outside, is_within, uses_of}

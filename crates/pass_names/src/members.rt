@@ -2,9 +2,9 @@
 ghost use Rattle.std.specs.Prelude.{◌≡◌, ◌++◌, IfOk, OnOk};
 ghost use Rattle.pass_names.specs.Members.{is_unused_member, is_used_member, member_use_by, member_uses, structure_at};
 
-use cr_levels::{span_at, spelling_at};
 use cr_syntax::Node;
 use cr_tokens::Token;
+use pass_levels::{span_at, spelling_at};
 use std::alloc::{AllocError, Global};
 
 /// A token behind `.` or `->`, and the structure whose member it names, by its content.

@@ -1,10 +1,10 @@
 // Pass u: what has no use.
 ghost use Rattle.std.specs.Prelude.{◌≡◌, ◌++◌, ◌∷◌, [], length, drop, IfOk, OnOk};
 ghost use Rattle.std.specs.List.{flat_map, list_any};
-ghost use Rattle.cr_levels.specs.Gathered.{gathered};
-ghost use Rattle.cr_levels.specs.Level.{level_of};
-ghost use Rattle.cr_levels.specs.Nodes.{node_at};
-ghost use Rattle.cr_levels.specs.Places.{gone as gone_by, with_comma as with_comma_by};
+ghost use Rattle.pass_levels.specs.Gathered.{gathered};
+ghost use Rattle.pass_levels.specs.Level.{level_of};
+ghost use Rattle.pass_levels.specs.Nodes.{node_at};
+ghost use Rattle.pass_levels.specs.Places.{gone as gone_by, with_comma as with_comma_by};
 ghost use Rattle.pass_names.specs.Reach.{is_within as is_within_by};
 ghost use Rattle.pass_names.specs.Members.{member_uses};
 ghost use Rattle.pass_names.specs.Unused.{declaration_by, declarations_give, declarator_gives, declarator_in, declarators_give, enumerator_gives, is_declared_unused, is_empty, is_unused, items_give, member_change, member_gives, members_give, part_at, parts_give, row_gives, u_levels, u_offering};
@@ -12,16 +12,16 @@ ghost use Rattle.pass_names.specs.Unused.{declaration_by, declarations_give, dec
 use crate::members::{MemberUse, is_unused_member, member_uses};
 use crate::reach::{are_own, has_no_use_outside, is_within, uses_of};
 use crate::reserved::reserved_of;
-use cr_edit::{Change, Edits, Kept, Menu};
-use cr_events::declared_by;
-use cr_levels::{
+use cr_rows::Row;
+use cr_scopes::Names;
+use cr_scopes_events::declared_by;
+use cr_syntax::{Kind, Node, Unit};
+use cr_tokens::Token;
+use pass_edit::{Change, Edits, Kept, Menu};
+use pass_levels::{
     Counted, Level, Turns, behind_first, gone, in_turn, kind_at, list, parts_at, span_at,
     with_comma,
 };
-use cr_rows::Row;
-use cr_scopes::Names;
-use cr_syntax::{Kind, Node, Unit};
-use cr_tokens::Token;
 use std::alloc::{AllocError, Global};
 
 // Each external declaration without use goes.

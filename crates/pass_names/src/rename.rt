@@ -2,21 +2,21 @@
 ghost use Rattle.std.specs.Prelude.{◌≡◌, ◌<◌, ◌==◌, ◌++◌, ◌∷◌, [], ℕ, Some, IfOk, map};
 ghost use Rattle.std.specs.Ordering.{nat_cmp};
 ghost use Rattle.std.specs.List.{list_any};
-ghost use Rattle.cr_edit.specs.declared.change.Text.TheVariants as TheText;
-ghost use Rattle.cr_levels.specs.Places.{replaced as replaced_by};
-ghost use Rattle.cr_edit.specs.Forms.{nothing_kept};
-ghost use Rattle.cr_levels.specs.Order.{in_order};
+ghost use Rattle.pass_edit.specs.declared.change.Text.TheVariants as TheText;
+ghost use Rattle.pass_levels.specs.Places.{replaced as replaced_by};
+ghost use Rattle.pass_edit.specs.Forms.{nothing_kept};
+ghost use Rattle.pass_levels.specs.Order.{in_order};
 ghost use Rattle.pass_names.specs.Renamed.{entities_give, r_offering, renaming, renaming_by};
 
 use crate::reach::{declared_at, uses_at};
 use crate::reserved::reserved_of;
 use crate::short::{first_free, short_name};
-use cr_edit::{Change, Edits, Kept, Menu, Text};
-use cr_levels::{Turns, in_turn, replaced, sort};
 use cr_rows::Row;
 use cr_scopes::Names;
 use cr_syntax::Unit;
 use cr_tokens::Token;
+use pass_edit::{Change, Edits, Kept, Menu, Text};
+use pass_levels::{Turns, in_turn, replaced, sort};
 use std::alloc::{AllocError, Global};
 
 // Each entity that isn't reserved has its tokens renamed.

@@ -1,12 +1,12 @@
 // Functions whose names mean something outside the file.
 ghost use Rattle.std.specs.Prelude.{◌≡◌, ◌++◌, IfOk, OnOk};
-ghost use Rattle.cr_events.specs.Events.{events_of};
+ghost use Rattle.cr_scopes_events.specs.Events.{events_of};
 ghost use Rattle.pass_names.specs.Reserved.{is_main, is_of_library, is_reserved, reserved_in, reserved_tokens};
 
-use cr_events::{Event, Role, events};
-use cr_levels::spelling_at;
+use cr_scopes_events::{Event, Role, events};
 use cr_syntax::Unit;
 use cr_tokens::Token;
+use pass_levels::spelling_at;
 use std::alloc::{AllocError, Global};
 
 fn is_main(text: &[u8]) -> bool

@@ -4,8 +4,8 @@ ghost use Rattle.std.specs.List.{list_any};
 ghost use Rattle.std.specs.Str.{bytes_eq};
 ghost use Rattle.pass_names.specs.Short.{first_free, four_letters, is_taken, one_letter, short_name, three_letters, two_letters};
 
-use cr_edit::part;
 use cr_tokens::{Token, is_keyword};
+use pass_edit::part;
 use std::alloc::{AllocError, Global};
 
 fn put_one(out: &mut Vec<u8>, number: u32) -> Result<(), AllocError>

@@ -3,13 +3,13 @@ use Rattle.std.specs.Prelude.{ℕ, ◌+◌, Bool, false, ◌&&◌, ◌==◌, Lis
 use Rattle.cr_syntax.specs.declared.node.Kind.{Kind}
 use Rattle.cr_syntax.specs.declared.node.Kind.TheVariants as kind
 use Rattle.cr_syntax.specs.declared.node.Node.{Node}
-use Rattle.cr_events.specs.declared.declarator.Derivation.{Derivation}
-use Rattle.cr_events.specs.declared.declarator.Derivation.TheVariants.{Function}
-use Rattle.cr_events.specs.Declarators.{declarator_of}
+use Rattle.cr_scopes_events.specs.declared.declarator.Derivation.{Derivation}
+use Rattle.cr_scopes_events.specs.declared.declarator.Derivation.TheVariants.{Function}
+use Rattle.cr_scopes_events.specs.Declarators.{declarator_of}
 use Rattle.cr_scopes.specs.declared.names.Names.{Names}
 use Rattle.cr_scopes.specs.Resolved.{nobody}
-use Rattle.cr_levels.specs.Gathered.{gathered}
-use Rattle.cr_levels.specs.Nodes.{node_at}
+use Rattle.pass_levels.specs.Gathered.{gathered}
+use Rattle.pass_levels.specs.Nodes.{node_at}
 
 -- the part of a number
 abbrev pub part_at : List ℕ → ℕ → ℕ

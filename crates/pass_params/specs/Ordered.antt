@@ -1,11 +1,11 @@
 -- Changes in the order of their places.
 use Rattle.std.specs.Prelude.{ℕ, List, [], ◌∷◌, length, map, slice_index_or}
 use Rattle.std.specs.declared.cmp.Reverse.{Reverse}
-use Rattle.cr_edit.specs.declared.change.Change.{Change}
-use Rattle.cr_edit.specs.declared.change.Text.TheVariants.{Nothing}
-use Rattle.cr_levels.specs.Gathered.{gathered}
-use Rattle.cr_levels.specs.Level.{Place, place_cmp}
-use Rattle.cr_levels.specs.Order.{in_order}
+use Rattle.pass_edit.specs.declared.change.Change.{Change}
+use Rattle.pass_edit.specs.declared.change.Text.TheVariants.{Nothing}
+use Rattle.pass_levels.specs.Gathered.{gathered}
+use Rattle.pass_levels.specs.Level.{Place, place_cmp}
+use Rattle.pass_levels.specs.Order.{in_order}
 
 abbrev pub change_at : List Change → ℕ → Change
 change_at changes at = slice_index_or changes at (record { start = 0; end = 0; text = Nothing })

@@ -6,19 +6,19 @@ use Rattle.cr_tokens.specs.declared.token.Token.{Token}
 use Rattle.cr_syntax.specs.declared.node.Kind.{Kind}
 use Rattle.cr_syntax.specs.declared.node.Kind.TheVariants as kind
 use Rattle.cr_syntax.specs.declared.node.Node.{Node}
-use Rattle.cr_events.specs.declared.declarator.Derivation.{Derivation}
-use Rattle.cr_events.specs.declared.declarator.Derivation.TheVariants.{Function}
-use Rattle.cr_events.specs.Declarators.{declarator_of}
+use Rattle.cr_scopes_events.specs.declared.declarator.Derivation.{Derivation}
+use Rattle.cr_scopes_events.specs.declared.declarator.Derivation.TheVariants.{Function}
+use Rattle.cr_scopes_events.specs.Declarators.{declarator_of}
 use Rattle.cr_scopes.specs.declared.names.Names.{Names}
-use Rattle.cr_edit.specs.declared.change.Change.{Change}
-use Rattle.cr_edit.specs.declared.change.Text.TheVariants.{Void, Zero}
-use Rattle.cr_edit.specs.Forms.{nothing_kept}
-use Rattle.cr_edit.specs.Menu.{Offering}
-use Rattle.cr_levels.specs.declared.counted.Counted.{Counted}
-use Rattle.cr_levels.specs.Gathered.{gathered}
-use Rattle.cr_levels.specs.Level.{level_of}
-use Rattle.cr_levels.specs.Nodes.{node_at}
-use Rattle.cr_levels.specs.Places.{replaced, spelling_at, with_comma}
+use Rattle.pass_edit.specs.declared.change.Change.{Change}
+use Rattle.pass_edit.specs.declared.change.Text.TheVariants.{Void, Zero}
+use Rattle.pass_edit.specs.Forms.{nothing_kept}
+use Rattle.pass_edit.specs.Menu.{Offering}
+use Rattle.pass_levels.specs.declared.counted.Counted.{Counted}
+use Rattle.pass_levels.specs.Gathered.{gathered}
+use Rattle.pass_levels.specs.Level.{level_of}
+use Rattle.pass_levels.specs.Nodes.{node_at}
+use Rattle.pass_levels.specs.Places.{replaced, spelling_at, with_comma}
 use Rattle.pass_params.specs.Functions.{calls_in, count_of, declares_same, functions_in, name_same, number_of, part_at, row_of, uses_by}
 use Rattle.pass_params.specs.Ordered.{ordered}
 

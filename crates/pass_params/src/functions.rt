@@ -1,12 +1,12 @@
 // Functions, their parameters, and their calls.
 ghost use Rattle.std.specs.Prelude.{◌≡◌, ◌++◌, IfOk, OnOk};
-ghost use Rattle.cr_levels.specs.Nodes.{node_at};
+ghost use Rattle.pass_levels.specs.Nodes.{node_at};
 ghost use Rattle.pass_params.specs.Functions.{calls_by, calls_in, count_of, declares_same, functions_by, functions_in, is_next, name_same, names_same, number_of, part_at, row_of, same_number, uses_by};
 
-use cr_events::{Derivation, declared_by};
-use cr_levels::{behind_first, kind_at, parts_at};
 use cr_scopes::Names;
+use cr_scopes_events::{Derivation, declared_by};
 use cr_syntax::{Kind, Node};
+use pass_levels::{behind_first, kind_at, parts_at};
 use std::alloc::{AllocError, Global};
 
 /// The part of a number.

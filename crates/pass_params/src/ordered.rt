@@ -1,11 +1,11 @@
 // Changes in the order of their places.
 ghost use Rattle.std.specs.Prelude.{◌≡◌, [], ◌∷◌, length, IfOk};
-ghost use Rattle.cr_levels.specs.Gathered.{gathered};
+ghost use Rattle.pass_levels.specs.Gathered.{gathered};
 ghost use Rattle.pass_params.specs.Ordered.{change_at, ordered, place_of};
 
-use cr_edit::{Change, Text};
-use cr_levels::sort;
 use cr_rows::Row;
+use pass_edit::{Change, Text};
+use pass_levels::sort;
 use std::alloc::{AllocError, Global};
 use std::cmp::Reverse;
 

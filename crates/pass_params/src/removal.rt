@@ -1,10 +1,10 @@
 // Pass p: parameters.
 ghost use Rattle.std.specs.Prelude.{◌≡◌, ◌++◌, Some, length, IfOk, OnOk};
-ghost use Rattle.cr_levels.specs.Level.{level_of};
-ghost use Rattle.cr_levels.specs.Nodes.{node_at};
-ghost use Rattle.cr_levels.specs.Places.{with_comma as with_comma_by};
+ghost use Rattle.pass_levels.specs.Level.{level_of};
+ghost use Rattle.pass_levels.specs.Nodes.{node_at};
+ghost use Rattle.pass_levels.specs.Places.{with_comma as with_comma_by};
 ghost use Rattle.cr_syntax.specs.declared.node.Kind.TheVariants.{FunctionDefinition};
-ghost use Rattle.cr_events.specs.declared.declarator.Derivation.TheVariants.{Function};
+ghost use Rattle.cr_scopes_events.specs.declared.declarator.Derivation.TheVariants.{Function};
 ghost use Rattle.pass_params.specs.Functions.{calls_in as calls_list, functions_in as functions_list};
 ghost use Rattle.pass_params.specs.Parameters.{changes_of, definition_by, definitions_give, from_call, from_calls, from_declarator, from_declarators, from_list, from_row, is_main, named_gives, p_offering, parameter_gives, parameter_goes, parameter_uses, row_gives, uses_if, zeros};
 
@@ -12,14 +12,14 @@ use crate::functions::{
     calls_in, count_of, declares_same, functions_in, name_same, part_at, row_of, uses_of,
 };
 use crate::ordered::in_order;
-use cr_edit::{Change, Edits, Kept, Menu, Text};
-use cr_events::{Derivation, declared_by};
-use cr_levels::{
-    Counted, Level, kind_at, list, parts_at, replaced, span_at, spelling_at, with_comma,
-};
 use cr_scopes::Names;
+use cr_scopes_events::{Derivation, declared_by};
 use cr_syntax::{Kind, Node, Unit};
 use cr_tokens::Token;
+use pass_edit::{Change, Edits, Kept, Menu, Text};
+use pass_levels::{
+    Counted, Level, kind_at, list, parts_at, replaced, span_at, spelling_at, with_comma,
+};
 use std::alloc::{AllocError, Global};
 
 fn parameter_goes(tokens: &[Token], nodes: &[Node], at: usize, count: usize, node: u32) -> Change

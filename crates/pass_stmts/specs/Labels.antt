@@ -6,10 +6,10 @@ use Rattle.cr_tokens.specs.declared.token.Token.{Token}
 use Rattle.cr_syntax.specs.declared.node.Kind.{Kind}
 use Rattle.cr_syntax.specs.declared.node.Kind.TheVariants.{FunctionDefinition, Goto, Label}
 use Rattle.cr_syntax.specs.declared.node.Node.{Node}
-use Rattle.cr_levels.specs.declared.counted.Counted.{Counted}
-use Rattle.cr_levels.specs.Gathered.{gathered}
-use Rattle.cr_levels.specs.Nodes.{node_at}
-use Rattle.cr_levels.specs.Places.{gone, spelling_at}
+use Rattle.pass_levels.specs.declared.counted.Counted.{Counted}
+use Rattle.pass_levels.specs.Gathered.{gathered}
+use Rattle.pass_levels.specs.Nodes.{node_at}
+use Rattle.pass_levels.specs.Places.{gone, spelling_at}
 use Rattle.pass_stmts.specs.declared.labels.Jump.{Jump}
 
 -- how many definitions are listed when a node of this kind is

@@ -1,8 +1,8 @@
 -- Laws of the printed unit.
 use Rattle.std.specs.Prelude.{◌≡◌, ℕ, List}
 use Rattle.cr_tokens.specs.declared.token.Token.{Token}
-use Rattle.cr_edit.specs.Edit.{edited}
-use Rattle.cr_edit.specs.Menu.{Offering}
+use Rattle.pass_edit.specs.Edit.{edited}
+use Rattle.pass_edit.specs.Menu.{Offering}
 use Rattle.pass_stmts.specs.Printed.{IsPrintedOffering, only_kept, whole_becomes}
 
 -- the variant is the kept text

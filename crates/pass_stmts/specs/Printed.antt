@@ -2,10 +2,10 @@
 use Rattle.std.specs.Prelude.{◌≡◌, ℕ, List, [], ◌∷◌, length}
 use Rattle.cr_tokens.specs.declared.token.Token.{Token}
 use Rattle.cr_tokens.specs.Runs.{spellings}
-use Rattle.cr_edit.specs.declared.change.Change.{Change}
-use Rattle.cr_edit.specs.declared.change.Text.TheVariants as change_to
-use Rattle.cr_edit.specs.declared.form.Kept.{Kept}
-use Rattle.cr_edit.specs.Menu.{Offering}
+use Rattle.pass_edit.specs.declared.change.Change.{Change}
+use Rattle.pass_edit.specs.declared.change.Text.TheVariants as change_to
+use Rattle.pass_edit.specs.declared.form.Kept.{Kept}
+use Rattle.pass_edit.specs.Menu.{Offering}
 use Rattle.cr_printer.specs.Text.{Prints}
 
 -- all bytes of a file become a kept text

@@ -5,13 +5,13 @@ use Rattle.cr_tokens.specs.declared.token.Token.{Token}
 use Rattle.cr_syntax.specs.declared.node.Kind.{Kind}
 use Rattle.cr_syntax.specs.declared.node.Kind.TheVariants.{Compound}
 use Rattle.cr_syntax.specs.declared.node.Node.{Node}
-use Rattle.cr_edit.specs.declared.change.Text.TheVariants.{Nothing, Semicolon}
-use Rattle.cr_edit.specs.Forms.{nothing_kept}
-use Rattle.cr_edit.specs.Menu.{Offering}
-use Rattle.cr_levels.specs.declared.counted.Counted.{Counted}
-use Rattle.cr_levels.specs.Level.{level_of}
-use Rattle.cr_levels.specs.Nodes.{each_becoming, in_its_place, node_at}
-use Rattle.cr_levels.specs.Places.{gone}
+use Rattle.pass_edit.specs.declared.change.Text.TheVariants.{Nothing, Semicolon}
+use Rattle.pass_edit.specs.Forms.{nothing_kept}
+use Rattle.pass_edit.specs.Menu.{Offering}
+use Rattle.pass_levels.specs.declared.counted.Counted.{Counted}
+use Rattle.pass_levels.specs.Level.{level_of}
+use Rattle.pass_levels.specs.Nodes.{each_becoming, in_its_place, node_at}
+use Rattle.pass_levels.specs.Places.{gone}
 use Rattle.pass_stmts.specs.Bodies.{bodies_by, bodies_of, first_body_of, second_branch_of}
 use Rattle.pass_stmts.specs.Labels.{functions_of, jumps_of, labels_give}
 

@@ -2,8 +2,8 @@
 ghost use Rattle.std.specs.Prelude.{◌≡◌};
 ghost use Rattle.pass_stmts.specs.Bodies.{bodies_by, bodies_of, last_of};
 
-use cr_levels::{behind_first, first_of};
 use cr_syntax::Kind;
+use pass_levels::{behind_first, first_of};
 
 /// Which parts of a statement are the statements that it governs (C11 6.8).
 #[derive(Clone, Copy, PartialEq, Eq)]

@@ -1,15 +1,15 @@
 // The level of pass s for labels.
 ghost use Rattle.std.specs.Prelude.{◌≡◌, ◌++◌, length, IfOk, OnOk};
 ghost use Rattle.std.specs.List.{list_any};
-ghost use Rattle.cr_levels.specs.Level.{level_of};
-ghost use Rattle.cr_levels.specs.Nodes.{node_at};
+ghost use Rattle.pass_levels.specs.Level.{level_of};
+ghost use Rattle.pass_levels.specs.Nodes.{node_at};
 ghost use Rattle.pass_stmts.specs.Labels.{counting, function_at, functions_of, jump_by, jumps_of, label_by, label_goes, labels_give, names_label};
 
-use cr_edit::Edits;
-use cr_levels::{Counted, Level, gone, kind_at, list, span_at, spelling_at};
 use cr_rows::Row;
 use cr_syntax::{Kind, Node};
 use cr_tokens::Token;
+use pass_edit::Edits;
+use pass_levels::{Counted, Level, gone, kind_at, list, span_at, spelling_at};
 use std::alloc::{AllocError, Global};
 
 /// What a `goto` names: the token of a label, and the function in which it stands, by its number.

@@ -1,19 +1,19 @@
 // The levels of pass s.
 ghost use Rattle.std.specs.Prelude.{◌≡◌, ◌++◌, IfOk, OnOk};
-ghost use Rattle.cr_levels.specs.Nodes.{node_at};
+ghost use Rattle.pass_levels.specs.Nodes.{node_at};
 ghost use Rattle.pass_stmts.specs.Bodies.{first_body_of, second_branch_of};
 ghost use Rattle.pass_stmts.specs.Statements.{bodies_give, braces_give, elses_give, emptied_give, items_at, items_give, s_offering, unwrapped, unwrapped_by};
 
 use crate::bodies::{Bodies, bodies_by, bodies_of};
 use crate::labels::labels_go;
-use cr_edit::{Kept, Menu, Text};
-use cr_levels::{
-    Counted, Level, behind_first, first_of, gone, kind_at, list, parts_at, put_each_becoming,
-    put_in_its_place, span_at,
-};
 use cr_rows::Row;
 use cr_syntax::{Kind, Node};
 use cr_tokens::Token;
+use pass_edit::{Kept, Menu, Text};
+use pass_levels::{
+    Counted, Level, behind_first, first_of, gone, kind_at, list, parts_at, put_each_becoming,
+    put_in_its_place, span_at,
+};
 use std::alloc::{AllocError, Global};
 
 // Each item of a compound statement goes.

@@ -1,7 +1,7 @@
 //! The passes of statements (s) and of the printed unit (f).
 //!
 //! It promises that the variants of each are those of its definition, each made exactly, and where there is room for it without memory. It
-//! stands on `cr_edit`, `cr_levels`, `cr_printer`, `cr_rows`, `cr_syntax` and `cr_tokens`.
+//! stands on `pass_edit`, `pass_levels`, `cr_printer`, `cr_rows`, `cr_syntax` and `cr_tokens`.
 #![tactic(auto)]
 
 mod bodies;

@@ -1,13 +1,13 @@
 // Pass f: the printed unit.
 ghost use Rattle.std.specs.Prelude.{◌≡◌, IfOk};
 ghost use Rattle.cr_tokens.specs.Tokens.{Tokenizes};
-ghost use Rattle.cr_edit.specs.declared.change.Text.TheVariants as TheText;
+ghost use Rattle.pass_edit.specs.declared.change.Text.TheVariants as TheText;
 ghost use Rattle.pass_stmts.specs.Printed.{IsPrintedOffering, f_offering};
 
-use cr_edit::{Change, Edits, Kept, Menu, Text};
 use cr_printer::print;
 use cr_rows::Row;
 use cr_syntax::Unit;
+use pass_edit::{Change, Edits, Kept, Menu, Text};
 use std::alloc::{AllocError, Global};
 
 /// What pass f offers for a file with this unit: the whole file becomes the printed unit. The error is want of memory.

@@ -8,12 +8,12 @@ use Rattle.std.proofs.lemmas.Bool.{cases_lt}
 use Rattle.std.proofs.lemmas.List.{append-nil, length-drop, take_all}
 use Rattle.std.specs.Prelude.{slice_range}
 use Rattle.cr_cursor.specs.declared.passes.Cursor.{Cursor}
-use Rattle.cr_edit.specs.declared.form.Kept.{Kept}
-use Rattle.cr_edit.specs.Edit.{edited}
-use Rattle.cr_edit.specs.declared.change.Text.TheVariants.{Nothing}
-use Rattle.cr_edit.specs.Glue.{glued, is_word_byte, last_byte}
-use Rattle.cr_edit.proofs.Glues.{bare}
-use Rattle.cr_edit.specs.Laws.{LinesNeedNoSeam}
+use Rattle.pass_edit.specs.declared.form.Kept.{Kept}
+use Rattle.pass_edit.specs.Edit.{edited}
+use Rattle.pass_edit.specs.declared.change.Text.TheVariants.{Nothing}
+use Rattle.pass_edit.specs.Glue.{glued, is_word_byte, last_byte}
+use Rattle.pass_edit.proofs.Glues.{bare}
+use Rattle.pass_edit.specs.Laws.{LinesNeedNoSeam}
 use Rattle.pass_text.specs.Lines.{chunk_of, joined, lines_bytes, lines_gone, lines_of, onto_first}
 use Rattle.pass_text.proofs.LineLemmas.{drop_lines, joined-lines_of, take_lines}
 

@@ -1,12 +1,12 @@
 -- Pass b: brackets and their partners.
 use Rattle.std.specs.Prelude.{◌≡◌, ℕ, ◌+◌, ◌-◌, ◌==◌, List, [], ◌∷◌, map, slice_index, if◌then◌else◌}
 use Rattle.cr_tokens.specs.declared.token.Token.{Token}
-use Rattle.cr_edit.specs.declared.change.Change.{Change}
-use Rattle.cr_edit.specs.Forms.{nothing_kept}
-use Rattle.cr_edit.specs.Menu.{Offering}
-use Rattle.cr_levels.specs.Places.{gone}
-use Rattle.cr_brackets.specs.declared.pair.Pair.{Pair}
-use Rattle.cr_brackets.specs.Nesting.{Nests, NestsNot}
+use Rattle.pass_edit.specs.declared.change.Change.{Change}
+use Rattle.pass_edit.specs.Forms.{nothing_kept}
+use Rattle.pass_edit.specs.Menu.{Offering}
+use Rattle.pass_levels.specs.Places.{gone}
+use Rattle.pass_brackets.specs.declared.pair.Pair.{Pair}
+use Rattle.pass_brackets.specs.Nesting.{Nests, NestsNot}
 
 -- the first byte of each token: that of a bracket is the bracket, and no other token begins with one (C11 6.4.6)
 abbrev pub signs_of : List ℕ → List Token → List ℕ

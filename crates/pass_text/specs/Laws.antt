@@ -3,9 +3,9 @@ use Rattle.std.specs.Prelude.{◌≡◌, ℕ, ◌≤◌, List, [], ◌∷◌, le
 use Rattle.cr_cursor.specs.declared.passes.Cursor.{Cursor}
 use Rattle.cr_tokens.specs.declared.token.Token.{Token}
 use Rattle.cr_tokens.specs.Tokens.{Tokenizes}
-use Rattle.cr_edit.specs.declared.form.Kept.{Kept}
-use Rattle.cr_edit.specs.Edit.{edited}
-use Rattle.cr_edit.specs.Menu.{Offering, level_of}
+use Rattle.pass_edit.specs.declared.form.Kept.{Kept}
+use Rattle.pass_edit.specs.Edit.{edited}
+use Rattle.pass_edit.specs.Menu.{Offering, level_of}
 use Rattle.pass_text.specs.Brackets.{IsBracketOffering}
 use Rattle.pass_text.specs.Lines.{lines_bytes, lines_gone}
 

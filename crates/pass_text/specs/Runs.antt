@@ -1,11 +1,11 @@
 -- Pass t: runs of 16, 8, 4, 2 tokens, and single ones.
 use Rattle.std.specs.Prelude.{ℕ, ◌+◌, ◌-◌, List, [], ◌∷◌, length, map}
 use Rattle.cr_tokens.specs.declared.token.Token.{Token}
-use Rattle.cr_edit.specs.declared.change.Change.{Change}
-use Rattle.cr_edit.specs.Forms.{nothing_kept}
-use Rattle.cr_edit.specs.Menu.{Offering}
-use Rattle.cr_levels.specs.Gathered.{gathered}
-use Rattle.cr_levels.specs.Places.{gone}
+use Rattle.pass_edit.specs.declared.change.Change.{Change}
+use Rattle.pass_edit.specs.Forms.{nothing_kept}
+use Rattle.pass_edit.specs.Menu.{Offering}
+use Rattle.pass_levels.specs.Gathered.{gathered}
+use Rattle.pass_levels.specs.Places.{gone}
 
 -- a token and so many more behind it go
 abbrev pub run_gone : List Token → ℕ → ℕ → List (List Change)

@@ -1,7 +1,7 @@
 // Laws of the passes: each is the contract of a function that does nothing but name the laws it rests on.
 ghost use Rattle.pass_text.specs.Laws.{HasFewBrackets, HasOneBracketOffering, LinesGoByAChange};
 
-use cr_edit::lines_need_no_seam;
+use pass_edit::lines_need_no_seam;
 
 /// A variant of the lines pass is an edit of one change.
 pub fn lines_go_by_a_change()

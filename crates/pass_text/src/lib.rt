@@ -1,7 +1,7 @@
 //! The passes that need no tree: chunks of lines (l), runs of tokens (t), and brackets (b).
 //!
 //! It promises that the variants of each are those of its definition, each made exactly, and where there is room for it without memory. It
-//! stands on `cr_brackets`, `cr_cursor`, `cr_edit`, `cr_levels` and `cr_tokens`.
+//! stands on `pass_brackets`, `cr_cursor`, `pass_edit`, `pass_levels` and `cr_tokens`.
 #![tactic(auto)]
 
 mod laws;

@@ -2,11 +2,11 @@
 ghost use Rattle.std.specs.Prelude.{◌≡◌, ◌++◌, ◌∷◌, [], map, slice_index, IfOk, OnOk};
 ghost use Rattle.pass_text.specs.Brackets.{IsBracketOffering, b_offering, pair_gone, pairs_gone, signs_of};
 
-use cr_brackets::{Pair, partners};
 use cr_cursor::NoMemory;
-use cr_edit::{Edits, Kept, Menu};
-use cr_levels::gone;
 use cr_tokens::Token;
+use pass_brackets::{Pair, partners};
+use pass_edit::{Edits, Kept, Menu};
+use pass_levels::gone;
 use std::alloc::Global;
 
 /// What pass b offers for a file of these tokens: of each bracket and its partner, at level 0 all from the one to the other goes, at level 1

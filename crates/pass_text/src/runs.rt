@@ -1,12 +1,12 @@
 // Pass t: runs of tokens.
 ghost use Rattle.std.specs.Prelude.{◌≡◌, ◌++◌, ◌<◌, List, ℕ, IfOk, OnOk};
-ghost use Rattle.cr_edit.specs.declared.change.Change.{Change as SpecChange};
+ghost use Rattle.pass_edit.specs.declared.change.Change.{Change as SpecChange};
 ghost use Rattle.pass_text.specs.Runs.{run_gone, runs_gone, t_offering};
 
 use cr_cursor::NoMemory;
-use cr_edit::{Edits, Kept, Menu};
-use cr_levels::{Turns, gone, in_turn};
 use cr_tokens::Token;
+use pass_edit::{Edits, Kept, Menu};
+use pass_levels::{Turns, gone, in_turn};
 use std::alloc::Global;
 
 // Runs of one length: a token, and so many more behind it.

@@ -3,9 +3,9 @@ use Rattle.std.specs.Prelude.{option_to_list}
 use Rattle.cr_syntax.specs.declared.node.Kind.TheVariants as kind
 use Rattle.cr_syntax.specs.Trees.{Trees, none, one, ◌&◌}
 use Rattle.cr_syntax.specs.Kept.{row_in}
-use Rattle.cr_machine.specs.Machine as m
-use Rattle.cr_machine.specs.Machine.{plain, opens, give, choose, made, run_give, run_stop, run_take, run_deep, run_pass, run_bar, run_free, run_seen, run_unseen, run_yes, run_no, run_here, run_look, run_set, run_bring, run_call, run_fail}
-use Rattle.cr_machine.specs.MachineBody.{body, assignment_operators, operators, unary_prefixes, cast_prefixes, constants, specifier_words, assigned, operated, prefixed, sized, suffixed, other_primary, other_element}
+use Rattle.cr_syntax_machine.specs.Machine as m
+use Rattle.cr_syntax_machine.specs.Machine.{plain, opens, give, choose, made, run_give, run_stop, run_take, run_deep, run_pass, run_bar, run_free, run_seen, run_unseen, run_yes, run_no, run_here, run_look, run_set, run_bring, run_call, run_fail}
+use Rattle.cr_syntax_machine.specs.MachineBody.{body, assignment_operators, operators, unary_prefixes, cast_prefixes, constants, specifier_words, assigned, operated, prefixed, sized, suffixed, other_primary, other_element}
 use Rattle.cr_exprs.specs.Answers.{tree}
 use Rattle.cr_exprs.proofs.Nodes.{tree_kept, keeps_all, keeps_none, below_empty, row_empty, row_single, is_row_single, row_more, is_row_more, of_row}
 use Rattle.cr_exprs.proofs.Loose.{kept_row, kept_more, kept_behind, placed_push, placed_grown, placed_behind, placed_gathered, placed_regathered}

@@ -2,8 +2,8 @@ use Rattle.std.proofs.Common.{◌+◌, ◌-◌, ◌*◌, ◌<◌, ◌≤◌, [],
 use Rattle.cr_syntax.specs.Trees.{none, ◌&◌}
 use Rattle.cr_syntax.specs.Kept.{PartsAreBelow, AreBelow, row_in}
 use Rattle.cr_syntax.specs.Context.{fresh, past_part}
-use Rattle.cr_machine.specs.Machine as m
-use Rattle.cr_machine.specs.MachineBody.{body}
+use Rattle.cr_syntax_machine.specs.Machine as m
+use Rattle.cr_syntax_machine.specs.MachineBody.{body}
 use Rattle.cr_exprs.specs.Source.{text_of}
 use Rattle.cr_exprs.specs.Tables.{level_of}
 use Rattle.cr_exprs.specs.Loose.{Replaces}

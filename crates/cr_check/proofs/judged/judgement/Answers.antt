@@ -2,8 +2,8 @@ use Rattle.std.proofs.Common.{ℕ, List, sym, subst, ◌∙◌}
 use Rattle.cr_syntax.specs.declared.unit.Unit as source
 use Rattle.cr_scopes.specs.declared.names.Names.{Names}
 use Rattle.cr_holding.proofs.Kept.{kept}
-use Rattle.cr_columns.specs.Texts.{AreTexts}
-use Rattle.cr_surroundings.specs.Surroundings.{AreSurroundings}
+use Rattle.cr_check_literals.specs.Texts.{AreTexts}
+use Rattle.cr_check_surroundings.specs.Surroundings.{AreSurroundings}
 use Rattle.cr_check.specs.declared.judged.Judged.{Judged}
 use Rattle.cr_check.specs.Judged.{IsJudgedFirst, IsWholeFirst}
 use Rattle.cr_check.proofs.judged.judgement.Goals as goal

@@ -1,8 +1,8 @@
 use Rattle.std.proofs.Common.{◌+◌, ◌-◌, ◌*◌, ◌≤◌, [], length, reverse}
 use Rattle.cr_syntax.specs.Trees.{none}
 use Rattle.cr_syntax.specs.Kept.{PartsAreBelow, AreBelow, row_in}
-use Rattle.cr_machine.specs.Machine as m
-use Rattle.cr_machine.specs.MachineBody.{body}
+use Rattle.cr_syntax_machine.specs.Machine as m
+use Rattle.cr_syntax_machine.specs.MachineBody.{body}
 use Rattle.cr_exprs.specs.Source.{text_of}
 use Rattle.cr_exprs.specs.Loose.{Replaces}
 use Rattle.cr_exprs.specs.Answers.{Goes, Keeps}

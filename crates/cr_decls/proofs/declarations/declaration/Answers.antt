@@ -1,8 +1,8 @@
 use Rattle.std.proofs.Common.{refl, sym, ◌∙◌, arith, rules}
-use Rattle.cr_machine.specs.Machine.{run_give, run_take, run_pass, run_here, run_call, run_fail}
+use Rattle.cr_syntax_machine.specs.Machine.{run_give, run_take, run_pass, run_here, run_call, run_fail}
 use Rattle.cr_syntax.specs.Trees.{none, ◌&◌}
 use Rattle.cr_syntax.specs.Context.{fresh, past_part}
-use Rattle.cr_machine.specs.MachineBody.{declared_on}
+use Rattle.cr_syntax_machine.specs.MachineBody.{declared_on}
 use Rattle.std.proofs.Common.{[], ◌∷◌}
 use Rattle.cr_exprs.specs.Answers.{tree}
 use Rattle.cr_exprs.proofs.Loose.{placed_push, placed_behind}

@@ -3,7 +3,7 @@ use Rattle.cr_syntax.specs.declared.node.Node.{Node}
 use Rattle.cr_syntax.specs.Trees.{Trees, none, ◌&◌}
 use Rattle.cr_syntax.specs.Units.{own_parameters}
 use Rattle.cr_exprs.specs.Answers.{tree}
-use Rattle.cr_machine.proofs.MachineSpells.{and_none}
+use Rattle.cr_syntax_machine.proofs.MachineSpells.{and_none}
 use Rattle.cr_decls.specs.Ellipsis.{ellipsis_of}
 use Rattle.cr_decls.proofs.ellipsis.own_ellipsis.Goals as goal
 

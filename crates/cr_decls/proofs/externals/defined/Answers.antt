@@ -1,5 +1,5 @@
 use Rattle.std.proofs.Common.{arith}
-use Rattle.cr_machine.specs.Machine.{run_give, run_yes, run_here, run_look, run_set, run_bring, run_call, run_fail}
+use Rattle.cr_syntax_machine.specs.Machine.{run_give, run_yes, run_here, run_look, run_set, run_bring, run_call, run_fail}
 use Rattle.std.proofs.Common.{[], ◌∷◌}
 use Rattle.cr_exprs.specs.Answers.{tree}
 use Rattle.cr_exprs.proofs.Loose.{placed_push}

@@ -1,9 +1,9 @@
 use Rattle.std.proofs.Common.{refl, sym, ◌∙◌, arith, rules}
-use Rattle.cr_machine.specs.Machine.{plain, opens, call, give, made, run_give, run_stop, run_take, run_deep, run_pass, run_bar, run_free, run_seen, run_unseen, run_yes, run_no, run_here, run_look, run_set, run_bring, run_call, run_fail}
-use Rattle.cr_machine.specs.Machine as m
+use Rattle.cr_syntax_machine.specs.Machine.{plain, opens, call, give, made, run_give, run_stop, run_take, run_deep, run_pass, run_bar, run_free, run_seen, run_unseen, run_yes, run_no, run_here, run_look, run_set, run_bring, run_call, run_fail}
+use Rattle.cr_syntax_machine.specs.Machine as m
 use Rattle.cr_syntax.specs.Trees.{none, ◌&◌}
 use Rattle.cr_syntax.specs.Context.{fresh, past_part}
-use Rattle.cr_machine.specs.MachineBody.{declared_on, defined}
+use Rattle.cr_syntax_machine.specs.MachineBody.{declared_on, defined}
 use Rattle.std.proofs.Common.{[], ◌∷◌}
 use Rattle.cr_exprs.specs.Answers.{tree}
 use Rattle.cr_exprs.proofs.Loose.{placed_push, placed_behind}

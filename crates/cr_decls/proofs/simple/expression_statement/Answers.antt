@@ -1,5 +1,5 @@
 use Rattle.std.proofs.Common.{sym, ◌∙◌, arith}
-use Rattle.cr_machine.specs.Machine.{run_give, run_stop, run_take, run_pass, run_here, run_call, run_fail}
+use Rattle.cr_syntax_machine.specs.Machine.{run_give, run_stop, run_take, run_pass, run_here, run_call, run_fail}
 use Rattle.std.proofs.Common.{[], ◌∷◌}
 use Rattle.cr_exprs.proofs.Loose.{placed_push}
 use Rattle.cr_exprs.proofs.Runs.{exit, fails, stops, finish}

@@ -1,5 +1,5 @@
 use Rattle.std.proofs.Common.{arith}
-use Rattle.cr_machine.specs.Machine.{run_give, run_stop, run_take, run_pass, run_here}
+use Rattle.cr_syntax_machine.specs.Machine.{run_give, run_stop, run_take, run_pass, run_here}
 use Rattle.std.proofs.Common.{[]}
 use Rattle.cr_exprs.proofs.Loose.{placed_push}
 use Rattle.cr_exprs.proofs.Nodes.{keeps_none}

@@ -1,5 +1,5 @@
 use Rattle.std.proofs.Common.{sym, ◌∙◌, arith, rules}
-use Rattle.cr_machine.specs.Machine.{run_give, run_take, run_pass, run_here}
+use Rattle.cr_syntax_machine.specs.Machine.{run_give, run_take, run_pass, run_here}
 use Rattle.std.proofs.Common.{[]}
 use Rattle.cr_exprs.proofs.Loose.{placed_push}
 use Rattle.cr_exprs.proofs.Nodes.{keeps_none}

@@ -1,7 +1,7 @@
 use Rattle.std.proofs.Common.{refl, sym, ap, ◌∙◌, arith, rules}
-use Rattle.cr_machine.specs.Machine.{plain, opens, call, give, made, run_give, run_stop, run_take, run_deep, run_pass, run_bar, run_free, run_seen, run_unseen, run_yes, run_no, run_here, run_look, run_set, run_bring, run_call, run_fail, run_refuse}
-use Rattle.cr_machine.specs.Machine as m
-use Rattle.cr_machine.specs.MachineBody.{body}
+use Rattle.cr_syntax_machine.specs.Machine.{plain, opens, call, give, made, run_give, run_stop, run_take, run_deep, run_pass, run_bar, run_free, run_seen, run_unseen, run_yes, run_no, run_here, run_look, run_set, run_bring, run_call, run_fail, run_refuse}
+use Rattle.cr_syntax_machine.specs.Machine as m
+use Rattle.cr_syntax_machine.specs.MachineBody.{body}
 use Rattle.std.proofs.Common.{[], ◌∷◌}
 use Rattle.cr_exprs.proofs.Loose.{placed_push, placed_behind, kept_row, kept_more}
 use Rattle.cr_exprs.proofs.Nodes.{tree_kept, keeps_all, keeps_none, below_empty, row_empty, row_more, is_row_more, of_row}

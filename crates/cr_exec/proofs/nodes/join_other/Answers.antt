@@ -1,6 +1,6 @@
 use Rattle.std.proofs.Common.{sym, ◌∙◌}
 use Rattle.cr_eval.specs.Table.{program_of}
-use Rattle.cr_world.specs.Worlds.{world_of}
+use Rattle.cr_exec_world.specs.Worlds.{world_of}
 use Rattle.cr_exec.proofs.Dispatching.{expression_here}
 use Rattle.cr_exec.proofs.nodes.join_other.Goals as goal
 

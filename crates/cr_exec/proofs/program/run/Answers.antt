@@ -1,5 +1,5 @@
 use Rattle.cr_eval.specs.Table.{program_of}
-use Rattle.cr_world.specs.Worlds.{world_of}
+use Rattle.cr_exec_world.specs.Worlds.{world_of}
 use Rattle.cr_exec.proofs.Coming.{meant_by, only_this}
 use Rattle.cr_exec.proofs.program.run.Goals as goal
 

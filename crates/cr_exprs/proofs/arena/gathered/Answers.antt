@@ -1,7 +1,7 @@
 use Rattle.std.proofs.Common.{◌≡◌, arith, reverse}
 use Rattle.cr_syntax.specs.Trees.{one}
 use Rattle.cr_syntax.specs.Kept.{row_in}
-use Rattle.cr_machine.specs.MachineBody.{in_row}
+use Rattle.cr_syntax_machine.specs.MachineBody.{in_row}
 use Rattle.cr_exprs.proofs.Nodes.{in_row_lone, in_row_more, ok_tree}
 use Rattle.cr_exprs.proofs.Loose.{gathered_push, gathered_lone}
 use Rattle.cr_exprs.proofs.arena.gathered.Goals as goal

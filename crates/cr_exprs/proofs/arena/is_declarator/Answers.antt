@@ -1,6 +1,6 @@
 use Rattle.std.proofs.Common.{sym}
 use Rattle.cr_syntax.specs.Trees.{none}
-use Rattle.cr_machine.specs.MachineBody.{is_declarator}
+use Rattle.cr_syntax_machine.specs.MachineBody.{is_declarator}
 use Rattle.cr_exprs.proofs.Nodes.{read_as}
 use Rattle.cr_exprs.proofs.arena.is_declarator.Goals as goal
 

@@ -1,5 +1,5 @@
 use Rattle.std.proofs.Common.{sym}
-use Rattle.cr_machine.specs.MachineBody.{is_unary}
+use Rattle.cr_syntax_machine.specs.MachineBody.{is_unary}
 use Rattle.cr_exprs.proofs.Nodes.{read_as}
 use Rattle.cr_exprs.proofs.arena.is_unary.Goals as goal
 

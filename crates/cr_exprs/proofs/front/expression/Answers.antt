@@ -1,8 +1,8 @@
 use Rattle.std.proofs.Common.{[], length, refl, sym, subst, arith}
 use Rattle.cr_syntax.specs.Words.{lexemes_of}
 use Rattle.cr_syntax.specs.Expressions.{Read, IsReading}
-use Rattle.cr_machine.specs.Machine.{Done}
-use Rattle.cr_machine.proofs.MachineReading.{is_reading}
+use Rattle.cr_syntax_machine.specs.Machine.{Done}
+use Rattle.cr_syntax_machine.proofs.MachineReading.{is_reading}
 use Rattle.cr_exprs.specs.Names.{scopes_of}
 use Rattle.cr_exprs.specs.Expression.{start_of}
 use Rattle.cr_exprs.specs.Answers.{IsPlaced}

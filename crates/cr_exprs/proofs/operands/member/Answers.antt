@@ -2,8 +2,8 @@ use Rattle.std.proofs.Common.{[], ◌∷◌, arith}
 use Rattle.cr_exprs.proofs.Nodes.{keeps_none}
 use Rattle.cr_exprs.proofs.Loose.{placed_push}
 use Rattle.cr_exprs.proofs.Runs.{exit, stops, goes_on, handed}
-use Rattle.cr_machine.specs.Machine.{suffixes, run_here, run_take, run_pass, run_stop}
-use Rattle.cr_machine.specs.MachineBody.{body}
+use Rattle.cr_syntax_machine.specs.Machine.{suffixes, run_here, run_take, run_pass, run_stop}
+use Rattle.cr_syntax_machine.specs.MachineBody.{body}
 use Rattle.cr_exprs.proofs.operands.member.Goals as goal
 
 pub returns-in_err-expect-clause-reads : goal.returns-in_err-expect-clause-reads

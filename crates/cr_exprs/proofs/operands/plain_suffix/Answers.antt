@@ -1,8 +1,8 @@
 use Rattle.std.proofs.Common.{sym, ◌∙◌, arith, rules}
 use Rattle.cr_syntax.specs.Trees.{none, ◌&◌}
-use Rattle.cr_machine.specs.Machine as m
-use Rattle.cr_machine.specs.Machine.{plain, run_take, run_pass, run_here}
-use Rattle.cr_machine.specs.MachineBody.{body, postfix_operators, suffixed, suffixes_end}
+use Rattle.cr_syntax_machine.specs.Machine as m
+use Rattle.cr_syntax_machine.specs.Machine.{plain, run_take, run_pass, run_here}
+use Rattle.cr_syntax_machine.specs.MachineBody.{body, postfix_operators, suffixed, suffixes_end}
 use Rattle.cr_exprs.specs.Answers.{tree}
 use Rattle.cr_exprs.proofs.Nodes.{keeps_none}
 use Rattle.cr_exprs.proofs.Loose.{placed_over}

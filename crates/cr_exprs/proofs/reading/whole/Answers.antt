@@ -1,4 +1,4 @@
-use Rattle.cr_machine.specs.Machine.{run_give, run_call, run_fail, run_bar, run_free}
+use Rattle.cr_syntax_machine.specs.Machine.{run_give, run_call, run_fail, run_bar, run_free}
 use Rattle.cr_exprs.proofs.Runs.{exit, fails, stops}
 use Rattle.cr_exprs.proofs.reading.whole.Goals as goal
 

@@ -1,6 +1,6 @@
 use Rattle.std.proofs.Common.{◌≡◌, true, Some, sym, ap, rules}
 use Rattle.cr_syntax.specs.Units.{is_unused}
-use Rattle.cr_machine.specs.Machine.{has_word, refusal_of}
+use Rattle.cr_syntax_machine.specs.Machine.{has_word, refusal_of}
 use Rattle.cr_exprs.specs.Source.{text_of}
 use Rattle.cr_exprs.proofs.Grammar.{unused_barred}
 use Rattle.cr_exprs.proofs.source.bar_unused.Goals as goal

@@ -1,8 +1,8 @@
 use Rattle.std.proofs.Common.{ap, length, subst, sym, ◌∙◌}
 use Rattle.cr_syntax.specs.Kept.{AreWithin}
 use Rattle.cr_tokens.specs.declared.token.Tokens.{Tokens}
-use Rattle.cr_analysis.specs.Analysis.{IsAnalysis}
-use Rattle.cr_analysis.specs.declared.analysis.Analysis.TheVariants.{OfUnit}
+use Rattle.cr_lawful_analysis.specs.Analysis.{IsAnalysis}
+use Rattle.cr_lawful_analysis.specs.declared.analysis.Analysis.TheVariants.{OfUnit}
 use Rattle.cr_lawful.proofs.Programs.{file_is, is_read, named_once, within}
 use Rattle.cr_lawful.proofs.program.reading_of.Goals as goal
 

@@ -1,6 +1,6 @@
 use Rattle.std.proofs.Common.{drop, arith, subst, sym}
 use Rattle.std.proofs.lemmas.Str.Pattern.{NoCharPasses-char}
-use Rattle.cr_words.specs.Names.{NoSlash}
+use Rattle.cr_main_words.specs.Names.{NoSlash}
 use Rattle.cr_main.proofs.NameLemmas.{behind_slash, whole_name}
 use Rattle.cr_main.proofs.names.own_name.Goals as goal
 

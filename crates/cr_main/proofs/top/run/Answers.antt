@@ -2,8 +2,8 @@ use Rattle.std.proofs.Common.{length, refl, subst, sym, ◌∙◌, arith}
 use Rattle.cr_reduce.specs.Bench.{judging, says_of}
 use Rattle.cr_main.specs.Outside.{Says, outside}
 use Rattle.cr_main.specs.Run.Runs.{no_settings, on_task}
-use Rattle.cr_words.specs.Giving.{HasNone, HasSettings}
-use Rattle.cr_words.specs.Words.{texts_of}
+use Rattle.cr_main_words.specs.Giving.{HasNone, HasSettings}
+use Rattle.cr_main_words.specs.Words.{texts_of}
 use Rattle.cr_main.proofs.Askings.{asks_only}
 use Rattle.cr_main.proofs.Runnable.{is_runnable}
 use Rattle.cr_main.proofs.Completing.{completes}

@@ -1,6 +1,6 @@
 use Rattle.std.proofs.Common.{subst}
 use Rattle.cr_reduce.specs.Bench.{judging, says_of}
-use Rattle.cr_words.specs.Names.{IsOwnName}
+use Rattle.cr_main_words.specs.Names.{IsOwnName}
 use Rattle.cr_main.specs.Outside.{outside}
 use Rattle.cr_main.proofs.Files.{law_is_of_programs}
 use Rattle.cr_main.proofs.Sources.{made_runs, stored_runs}

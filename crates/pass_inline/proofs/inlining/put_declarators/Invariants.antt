@@ -1,5 +1,5 @@
 use Rattle.std.proofs.Common.{◌≡◌, ◌++◌}
-use Rattle.cr_levels.specs.Gathered.{gathered}
+use Rattle.pass_levels.specs.Gathered.{gathered}
 use Rattle.pass_inline.specs.Inlined.{declarator_goes, facts_of}
 use Rattle.pass_inline.proofs.inlining.put_declarators.Given as goal
 

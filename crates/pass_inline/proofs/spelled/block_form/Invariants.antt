@@ -1,6 +1,6 @@
 use Rattle.std.proofs.Common.{◌≡◌}
-use Rattle.cr_levels.specs.Gathered.{gathered}
-use Rattle.cr_levels.specs.Nodes.{node_at}
+use Rattle.pass_levels.specs.Gathered.{gathered}
+use Rattle.pass_levels.specs.Nodes.{node_at}
 use Rattle.pass_params.specs.Functions.{part_at}
 use Rattle.pass_inline.specs.Spelled.{parameter_bits}
 use Rattle.pass_inline.proofs.spelled.block_form.Given as goal

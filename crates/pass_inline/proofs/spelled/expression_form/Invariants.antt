@@ -1,5 +1,5 @@
 use Rattle.std.proofs.Common.{◌≡◌, ◌+◌}
-use Rattle.cr_levels.specs.Gathered.{gathered}
+use Rattle.pass_levels.specs.Gathered.{gathered}
 use Rattle.pass_inline.specs.Spelled.{token_bits, used_by}
 use Rattle.pass_inline.proofs.spelled.expression_form.Given as goal
 

@@ -1,5 +1,5 @@
 use Rattle.std.proofs.Common.{◌≡◌, ◌++◌, map, take}
-use Rattle.cr_levels.specs.Nodes.{node_at}
+use Rattle.pass_levels.specs.Nodes.{node_at}
 use Rattle.pass_inline.specs.Spelled.{run_of}
 use Rattle.pass_inline.proofs.spelled.put_arguments.Given as goal
 

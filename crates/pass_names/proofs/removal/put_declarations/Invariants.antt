@@ -1,6 +1,6 @@
 use Rattle.std.proofs.Common.{◌≡◌, ◌++◌, take}
 use Rattle.std.specs.List.{flat_map}
-use Rattle.cr_levels.specs.Nodes.{node_at}
+use Rattle.pass_levels.specs.Nodes.{node_at}
 use Rattle.pass_names.specs.Unused.{declaration_by}
 use Rattle.pass_names.proofs.removal.put_declarations.Given as goal
 

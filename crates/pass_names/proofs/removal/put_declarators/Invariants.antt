@@ -1,5 +1,5 @@
 use Rattle.std.proofs.Common.{◌≡◌, ◌++◌}
-use Rattle.cr_levels.specs.Gathered.{gathered}
+use Rattle.pass_levels.specs.Gathered.{gathered}
 use Rattle.pass_names.specs.Unused.{declarator_gives}
 use Rattle.pass_names.proofs.removal.put_declarators.Given as goal
 

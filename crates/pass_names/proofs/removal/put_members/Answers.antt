@@ -1,4 +1,4 @@
-use Rattle.cr_levels.specs.Nodes.{node_at}
+use Rattle.pass_levels.specs.Nodes.{node_at}
 use Rattle.pass_names.specs.Unused.{member_gives}
 use Rattle.pass_names.proofs.Giving.{given_more}
 use Rattle.pass_names.proofs.removal.put_members.Goals as goal

@@ -1,6 +1,6 @@
 use Rattle.std.proofs.Common.{◌≡◌, ◌++◌}
-use Rattle.cr_levels.specs.Gathered.{gathered}
-use Rattle.cr_levels.specs.Nodes.{node_at}
+use Rattle.pass_levels.specs.Gathered.{gathered}
+use Rattle.pass_levels.specs.Nodes.{node_at}
 use Rattle.pass_names.specs.Unused.{member_gives}
 use Rattle.pass_names.proofs.removal.put_members.Given as goal
 

@@ -1,6 +1,6 @@
 use Rattle.std.proofs.Common.{◌≡◌, map, take}
-use Rattle.cr_edit.specs.declared.change.Text.TheVariants as change_to
-use Rattle.cr_levels.specs.Places.{replaced}
+use Rattle.pass_edit.specs.declared.change.Text.TheVariants as change_to
+use Rattle.pass_levels.specs.Places.{replaced}
 use Rattle.pass_names.proofs.rename.changes.Given as goal
 
 abbrev pub invariant-loop-token : goal.invariant-loop-token

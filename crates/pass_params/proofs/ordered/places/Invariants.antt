@@ -1,5 +1,5 @@
 use Rattle.std.proofs.Common.{◌≡◌, [], ◌∷◌}
-use Rattle.cr_levels.specs.Gathered.{gathered}
+use Rattle.pass_levels.specs.Gathered.{gathered}
 use Rattle.pass_params.specs.Ordered.{place_of}
 use Rattle.pass_params.proofs.ordered.places.Given as goal
 

@@ -1,5 +1,5 @@
 use Rattle.std.proofs.Common.{◌≡◌, ◌++◌}
-use Rattle.cr_levels.specs.Gathered.{gathered}
+use Rattle.pass_levels.specs.Gathered.{gathered}
 use Rattle.pass_params.specs.Parameters.{parameter_gives}
 use Rattle.pass_params.proofs.removal.put_row.Given as goal
 

@@ -1,6 +1,6 @@
 use Rattle.std.proofs.Common.{◌≡◌, ◌++◌, map, take}
-use Rattle.cr_edit.specs.declared.change.Text.TheVariants.{Zero}
-use Rattle.cr_levels.specs.Places.{replaced}
+use Rattle.pass_edit.specs.declared.change.Text.TheVariants.{Zero}
+use Rattle.pass_levels.specs.Places.{replaced}
 use Rattle.pass_params.proofs.removal.put_zeros.Given as goal
 
 abbrev pub invariant-loop-used : goal.invariant-loop-used

@@ -1,6 +1,6 @@
 use Rattle.std.proofs.Common.{◌≡◌}
-use Rattle.cr_levels.specs.Gathered.{gathered}
-use Rattle.cr_levels.specs.Nodes.{node_at}
+use Rattle.pass_levels.specs.Gathered.{gathered}
+use Rattle.pass_levels.specs.Nodes.{node_at}
 use Rattle.pass_stmts.specs.Labels.{function_at, jump_by}
 use Rattle.pass_stmts.proofs.labels.jumps_of.Given as goal
 

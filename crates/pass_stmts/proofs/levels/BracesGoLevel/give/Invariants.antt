@@ -1,6 +1,6 @@
 use Rattle.std.proofs.Common.{◌≡◌, ◌++◌, take}
 use Rattle.std.specs.List.{flat_map}
-use Rattle.cr_levels.specs.Nodes.{node_at}
+use Rattle.pass_levels.specs.Nodes.{node_at}
 use Rattle.pass_stmts.specs.Statements.{unwrapped_by}
 use Rattle.pass_stmts.proofs.levels.BracesGoLevel.give.Given as goal
 

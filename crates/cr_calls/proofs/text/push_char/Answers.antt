@@ -1,5 +1,0 @@
-use Rattle.cr_calls.proofs.Printing.{char_ends}
-use Rattle.cr_calls.proofs.text.push_char.Goals as goal
-
-pub returns-in-Err : goal.returns-in-Err
-returns-in-Err c = char_ends c.args.store.now c.args.at c.args.out.now.items c.args.out.now.items c.in-Err.trap c.in-Err.ensures

@@ -1,0 +1,177 @@
+ghost use Rattle.std.specs.Prelude.{◌≡◌, [], None, length, slice_index_or};
+ghost use Rattle.cr_syntax.specs.Words.{AreSpans};
+ghost use Rattle.cr_check_expressions.specs.declared.known.Declared.TheVariants.{Unclear};
+ghost use Rattle.cr_check_expressions.specs.Known.{spelling_of, declared_by, parameters_in, member_row, row_of_name, named_row};
+
+use cr_check_types::Layout;
+use cr_rows::Row;
+use cr_syntax::Node;
+use cr_tokens::Token;
+
+/// What a node declares. A number is that of a row of types.
+#[derive(Clone, Copy)]
+pub enum Declared {
+    /// An object of a type, and whether it is declared `register`.
+    Object(u32, bool),
+    /// An enumerator of a value.
+    Enumerator(i128),
+    /// A function that gives a type, and whether a call may have more arguments than it has parameters.
+    Function(u32, bool),
+    /// A type.
+    TypeName,
+    /// Nothing, or nothing that is known.
+    Unclear,
+}
+
+/// A member of a structure.
+#[derive(Clone, Copy)]
+pub struct Member {
+    /// The number of its name's spelling.
+    pub name: u32,
+    /// The row of its type.
+    pub row: u32,
+}
+
+/// What is known of a unit where its expressions are judged. Where nothing else is said a column has one entry a node, and
+/// what is not there is as nothing known.
+#[derive(Clone, Copy)]
+pub struct Known<'a> {
+    pub file: &'a [u8],
+    pub tokens: &'a [Token],
+    pub nodes: &'a [Node],
+    /// For each token the number of its spelling.
+    pub names: &'a [u32],
+    /// For each identifier and each call the node that declares its name.
+    pub visible: &'a [Option<u32>],
+    /// What each node declares.
+    pub declared: &'a [Declared],
+    /// The rows of the parameters of what is declared.
+    pub parameters: &'a [Row<u32>],
+    /// The row of the type that a type name names.
+    pub named: &'a [u32],
+    /// The members of each structure, at its content.
+    pub members: &'a [Row<Member>],
+    /// The layout of each structure, at its content.
+    pub layouts: &'a [Layout],
+    /// Whether a structure has a constant member, also in a member or an element of one.
+    pub fixed: &'a [bool],
+    /// The bytes of each string literal, with its closing zero.
+    pub texts: &'a [Row<u8>],
+}
+
+/// The bytes that spell a token; none where there is no token.
+pub(crate) fn spelling<'a>(known: &'a Known, token: u32) -> &'a [u8]
+    requires { AreSpans known.now.file.now known.now.tokens.now }
+    ensures { result.now ≡ spelling_of known.now.file.now known.now.tokens.now token }
+{
+    let at = token as usize;
+    if at < known.tokens.len() {
+        known.tokens[at].spelling(known.file)
+    } else {
+        &[]
+    }
+}
+
+/// The node that declares the name of an identifier or a call.
+pub(crate) fn visible_at(known: &Known, at: u32) -> Option<u32>
+    ensures { result ≡ slice_index_or known.now.visible.now at None }
+{
+    let at = at as usize;
+    if at < known.visible.len() {
+        known.visible[at]
+    } else {
+        None
+    }
+}
+
+/// What a name stands for, by the node that declares it.
+pub(crate) fn declared_by(known: &Known, node: Option<u32>) -> Declared
+    ensures { result ≡ declared_by known.now.declared.now node }
+{
+    match node {
+        Some(node) => declared_at(known.declared, node as usize),
+        None => Declared::Unclear,
+    }
+}
+
+fn declared_at(declared: &[Declared], at: usize) -> Declared
+    ensures { result ≡ slice_index_or declared.now at Unclear }
+{
+    if at < declared.len() {
+        declared[at]
+    } else {
+        Declared::Unclear
+    }
+}
+
+/// The rows of the parameters of what a node declares.
+pub(crate) fn parameters_by<'a>(known: &'a Known, node: Option<u32>) -> &'a [u32]
+    ensures { result.now ≡ parameters_in known.now.parameters.now node }
+{
+    match node {
+        Some(node) => row_at(known.parameters, node as usize),
+        None => &[],
+    }
+}
+
+fn row_at<'a>(rows: &'a [Row<u32>], at: usize) -> &'a [u32]
+    ensures { result.now ≡ slice_index_or rows.now at [] }
+{
+    if at < rows.len() {
+        rows[at].as_slice()
+    } else {
+        &[]
+    }
+}
+
+/// The row of the type that a type name names.
+pub(crate) fn named_by(known: &Known, node: Option<u32>) -> u32
+    ensures { result ≡ named_row known.now.named.now node }
+{
+    match node {
+        Some(node) => number_at(known.named, node as usize),
+        None => 0,
+    }
+}
+
+fn number_at(numbers: &[u32], at: usize) -> u32
+    ensures { result ≡ slice_index_or numbers.now at 0 }
+{
+    if at < numbers.len() { numbers[at] } else { 0 }
+}
+
+/// The row of the member of a structure that a token names.
+pub(crate) fn member_row(known: &Known, structure: u32, token: u32) -> Option<u32>
+    ensures { result ≡ member_row known.now.names.now known.now.members.now structure token }
+{
+    let name = number_at(known.names, token as usize);
+    let at = structure as usize;
+    if at < known.members.len() {
+        row_of_name(known.members[at].as_slice(), name)
+    } else {
+        None
+    }
+}
+
+fn row_of_name(members: &[Member], name: u32) -> Option<u32>
+    ensures { result ≡ row_of_name name members.now }
+{
+    for member in members {
+        if member.name == name {
+            return Some(member.row);
+        }
+    }
+    None
+}
+
+/// The bytes of the string literal at a node, its closing zero among them.
+pub(crate) fn text_length(known: &Known, at: u32) -> usize
+    ensures { result ≡ length (slice_index_or known.now.texts.now at []) }
+{
+    let at = at as usize;
+    if at < known.texts.len() {
+        known.texts[at].len()
+    } else {
+        0
+    }
+}

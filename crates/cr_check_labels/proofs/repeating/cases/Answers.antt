@@ -1,0 +1,10 @@
+use Rattle.cr_check_labels.specs.Again.{same_value}
+use Rattle.cr_check_labels.specs.Labelled.{scene_of}
+use Rattle.cr_check_labels.specs.Marks.{case_at}
+use Rattle.cr_check_labels.proofs.Columns.{all_repeated}
+use Rattle.cr_check_labels.proofs.repeating.cases.Goals as goal
+
+pub returns : goal.returns
+returns c =
+    all_repeated same_value (case_at (scene_of c.args.table.now c.args.labelled.now)) c.in_ok-marks.marks.items c.in_ok-again.again.items _
+    (rw c.deref.ensures.value at c.in_ok-again.ensures) c.in_ok-marks.ensures

@@ -1,6 +1,0 @@
-use Rattle.std.proofs.Common.{◌≡◌}
-use Rattle.cr_columns.specs.Texts.{joined}
-use Rattle.cr_columns.proofs.literals.joined.Given as goal
-
-abbrev pub invariant-loop-at : goal.invariant-loop-at
-invariant-loop-at l = l.bytes.items ≡ joined l.file l.tokens l.first l.at

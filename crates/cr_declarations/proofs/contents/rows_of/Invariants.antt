@@ -1,6 +1,0 @@
-use Rattle.std.proofs.Common.{◌≡◌, take}
-use Rattle.cr_declarations.specs.Before.{rows_of}
-use Rattle.cr_declarations.proofs.contents.rows_of.Given as goal
-
-abbrev pub invariant-loop-member : goal.invariant-loop-member
-invariant-loop-member l = l.rows.items ≡ rows_of (take l.member-index l.members)

@@ -1,9 +1,0 @@
-use Rattle.std.proofs.Common.{◌≡◌, take, slice_index_or}
-use Rattle.std.specs.List.{list_any}
-use Rattle.cr_declared.specs.Declarators.{name_alone}
-use Rattle.cr_declarations.specs.Faults.{is_function}
-use Rattle.cr_declarations.proofs.faults.has_function.Given as goal
-
-abbrev pub invariant-loop-part : goal.invariant-loop-part
-invariant-loop-part l =
-    l.some ≡ list_any (is_function (λ p. slice_index_or l.columns.declarators.now p name_alone)) (take l.part-index l.declarators)

@@ -1,5 +1,0 @@
-use Rattle.cr_declared.proofs.Agreed.{agreed}
-use Rattle.cr_declared.proofs.functions.parameters_agree.Goals as goal
-
-pub returns : goal.returns
-returns c = agreed _ _ _ _ c.agree_in_parameters.ensures

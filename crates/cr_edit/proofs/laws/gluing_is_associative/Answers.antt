@@ -1,5 +1,0 @@
-use Rattle.cr_edit.proofs.Glues.{associative}
-use Rattle.cr_edit.proofs.laws.gluing_is_associative.Goals as goal
-
-pub returns : goal.returns
-returns c = associative

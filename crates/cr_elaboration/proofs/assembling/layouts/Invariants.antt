@@ -1,7 +1,0 @@
-use Rattle.std.proofs.Common.{◌≡◌}
-use Rattle.cr_elaboration.specs.Columns.{layout_at}
-use Rattle.cr_elaboration.specs.Rows.{listed}
-use Rattle.cr_elaboration.proofs.assembling.layouts.Given as goal
-
-abbrev pub invariant-loop-at : goal.invariant-loop-at
-invariant-loop-at l = l.layouts ≡ listed (layout_at l.judged) l.at

@@ -1,8 +1,0 @@
-use Rattle.std.proofs.Common.{◌≡◌, map}
-use Rattle.cr_types.specs.Types.{type_at}
-use Rattle.cr_elaboration.specs.Expressions.{type_of_node}
-use Rattle.cr_elaboration.specs.Rows.{listed, type_in}
-use Rattle.cr_elaboration.proofs.expressions.types.Given as goal
-
-abbrev pub invariant-loop-at : goal.invariant-loop-at
-invariant-loop-at l = map (type_in (type_at l.judged.table.now)) l.types.items ≡ listed (type_of_node l.judged) l.at

@@ -1,8 +1,0 @@
-use Rattle.std.proofs.Common.{◌≡◌}
-use Rattle.cr_elaboration.specs.Reading.{parsed_of}
-use Rattle.cr_elaboration.specs.Functions.{parameters_of}
-use Rattle.cr_elaboration.specs.Rows.{listed}
-use Rattle.cr_elaboration.proofs.functions.parameters.Given as goal
-
-abbrev pub invariant-loop-at : goal.invariant-loop-at
-invariant-loop-at l = l.parameters ≡ listed (parameters_of (parsed_of l.unit) l.judged) l.at

@@ -1,6 +1,0 @@
-use Rattle.cr_bindings.specs.Last.{AreLast}
-use Rattle.cr_elaboration.specs.Entities.{kept_entity}
-use Rattle.cr_elaboration.proofs.lasts.kept.Given as goal
-
-abbrev pub invariant-loop-at : goal.invariant-loop-at
-invariant-loop-at l = AreLast (kept_entity l.nodes l.judged) l.at l.entities l.column.items

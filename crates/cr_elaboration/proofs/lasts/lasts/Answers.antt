@@ -1,7 +1,0 @@
-use Rattle.cr_elaboration.proofs.Lookups.{put_at}
-use Rattle.cr_elaboration.proofs.lasts.lasts.Goals as goal
-
-pub loop-at-preserved : goal.loop-at-preserved
-loop-at-preserved c =
-    put_at _ c.loop-at.at c.in_ok-number.number _ c.entity_of.result _ _ c.loop-at.invariant c.entity_of.ensures c.in_ok-number.ensures
-    c.put.ensures.count c.put.ensures.each

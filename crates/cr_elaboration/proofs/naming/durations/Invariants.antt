@@ -1,7 +1,0 @@
-use Rattle.std.proofs.Common.{◌≡◌}
-use Rattle.cr_elaboration.specs.Names.{duration_of}
-use Rattle.cr_elaboration.specs.Rows.{listed}
-use Rattle.cr_elaboration.proofs.naming.durations.Given as goal
-
-abbrev pub invariant-loop-at : goal.invariant-loop-at
-invariant-loop-at l = l.durations ≡ listed (duration_of l.unit.nodes l.judged) l.at

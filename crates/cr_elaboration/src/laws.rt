@@ -1,6 +1,0 @@
-ghost use Rattle.cr_elaboration.specs.Laws.{OneTyped};
-
-/// A law: of two judgements that are alike, whatever tables their types stand in, the typed units are the same.
-pub fn one_typed()
-    ensures { OneTyped }
-{}

@@ -1,7 +1,0 @@
-use Rattle.std.proofs.Common.{◌≡◌, ◌++◌, take}
-use Rattle.std.specs.List.{flat_map}
-use Rattle.cr_events.specs.Scripts.{members_of}
-use Rattle.cr_events.proofs.script.members.Given as goal
-
-abbrev pub invariant-loop-part : goal.invariant-loop-part
-invariant-loop-part l = l.steps.items ≡ l.initial.steps.items ++ flat_map (members_of l.nodes l.at) (take l.part-index l.parts)

@@ -1,0 +1,279 @@
+// The machine, in slices.
+ghost use Rattle.std.specs.Prelude.{◌≡◌, ◌≢◌, ◌≤◌, ◌<◌, ◌+◌, ◌-◌, ◌*◌, ◌++◌, IfSome, MatchBool, MatchOption, OnOk, replicate, take, false, true};
+ghost use Rattle.cr_meaning.specs.World.{Answer as SpecAnswer, next as followed};
+ghost use Rattle.cr_meaning.specs.Turns.{Enter as TurnsEnter, Resume as TurnsResume, Ready as TurnsReady};
+ghost use Rattle.cr_exec_stack.specs.Waiting.{Waiting, with_more};
+ghost use Rattle.cr_exec_slices.specs.Turns.{way_at, reaching, turning};
+ghost use Rattle.cr_exec_slices.specs.Shown.{fresh_of, place_of, came, ShowsWaiting, TakesAtMostOne, Turns, ComesTo};
+ghost use Rattle.cr_exec_slices.specs.Looks.{HasLooked, given_up};
+ghost use Rattle.cr_exec_slices.specs.declared.machine.Point.{Point as SpecPoint};
+
+use crate::nodes::{Fresh, Halted, Nodes, Way};
+use cr_cursor::Stop;
+use cr_exec_stack::Stack;
+use std::alloc::{AllocError, Global};
+
+/// How many steps are taken between two looks at the stop.
+pub const STEPS_OF_A_SLICE: u64 = 4096;
+
+/// Where the machine stands.
+#[derive(Clone, Copy)]
+pub(crate) enum Point {
+    /// A node is reached.
+    Reach(u32),
+    /// The node on the top goes on.
+    Turn,
+}
+
+/// What a turn comes to.
+#[derive(Clone, Copy)]
+pub(crate) enum Turned {
+    Goes(Point),
+    /// The last node has answered, and its answer is the only one on the stack.
+    Came,
+}
+
+/// How a run ends.
+#[derive(Drop)]
+pub enum Outcome<T> {
+    /// The node has answered.
+    Came(T),
+    Halted(Halted),
+    /// The stop asked to give up.
+    Stopped,
+}
+
+/// So many more parts of the node at work have been passed. The error is want of memory.
+fn pass<N: Nodes>(nodes: &N, stack: &mut Stack<N::Held>, count: usize) -> Result<(), AllocError>
+    ensures { (waiting : Waiting SpecAnswer) → ShowsWaiting N.shows stack.old waiting
+        → OnOk result (ShowsWaiting N.shows stack.new (with_more waiting (replicate count followed))) }
+{
+    for _ in 0..count {
+        stack.give(nodes.passed())?;
+    }
+    Ok(())
+}
+
+/// Gives the node at work answers of parts that were not evaluated. The error is want of memory.
+fn fill<N: Nodes>(nodes: &N, stack: &mut Stack<N::Held>, fresh: Fresh) -> Result<(), AllocError>
+    ensures { (waiting : Waiting SpecAnswer) → ShowsWaiting N.shows stack.old waiting
+        → OnOk result (ShowsWaiting N.shows stack.new (with_more waiting (fresh_of fresh))) }
+{
+    match fresh {
+        Fresh::Nothing => Ok(()),
+        Fresh::Absent => stack.give(nodes.absent()),
+        Fresh::Before(item) => {
+            stack.give(nodes.passed())?;
+            pass(nodes, stack, item)
+        }
+    }
+}
+
+/// A node is reached, and is at work then.
+#[inline]
+fn reach<N: Nodes>(nodes: &mut N, stack: &mut Stack<N::Held>, node: u32) -> Result<Turned, Halted>
+    ensures turns { (waiting : Waiting SpecAnswer) → ShowsWaiting N.shows stack.old waiting
+        → Turns N.shows (N.program nodes.old) (record { place = reaching node; waiting = waiting; world = N.world nodes.old })
+        result stack.new (N.world nodes.new) }
+    ensures program { N.program nodes.new ≡ N.program nodes.old }
+    ensures steps { TakesAtMostOne (N.world nodes.old).steps (N.world nodes.new).steps }
+{
+    nodes.reach(node)?;
+    let Ok(()) = stack.begin(node) else {
+        return Err(Halted::NoMemory);
+    };
+    Ok(Turned::Goes(Point::Turn))
+}
+
+/// The node at work goes on with a part, after work before it.
+fn enter<N: Nodes>(nodes: &mut N, stack: &mut Stack<N::Held>, part: u32) -> Result<Turned, Halted>
+    ensures turns { (waiting : Waiting SpecAnswer) → ShowsWaiting N.shows stack.old waiting
+        → way_at (N.program nodes.old) waiting.top.node waiting.top.done ≡ TurnsEnter part
+        → Turns N.shows (N.program nodes.old) (record { place = turning; waiting = waiting; world = N.world nodes.old })
+        result stack.new (N.world nodes.new) }
+    ensures program { N.program nodes.new ≡ N.program nodes.old }
+    ensures steps { TakesAtMostOne (N.world nodes.old).steps (N.world nodes.new).steps }
+{
+    nodes.before(stack.node(), stack.done())?;
+    Ok(Turned::Goes(Point::Reach(part)))
+}
+
+/// The node at work goes on after such work, as if its parts had answered otherwise.
+fn resume<N: Nodes>(
+    nodes: &mut N,
+    stack: &mut Stack<N::Held>,
+    count: usize,
+    fresh: Fresh,
+) -> Result<Turned, Halted>
+    ensures turns { (waiting : Waiting SpecAnswer) → ShowsWaiting N.shows stack.old waiting
+        → way_at (N.program nodes.old) waiting.top.node waiting.top.done ≡ TurnsResume (take count waiting.top.done ++ fresh_of fresh)
+        → Turns N.shows (N.program nodes.old) (record { place = turning; waiting = waiting; world = N.world nodes.old })
+        result stack.new (N.world nodes.new) }
+    ensures program { N.program nodes.new ≡ N.program nodes.old }
+    ensures steps { TakesAtMostOne (N.world nodes.old).steps (N.world nodes.new).steps }
+{
+    nodes.before(stack.node(), stack.done())?;
+    stack.keep(count);
+    let Ok(()) = fill(nodes, stack, fresh) else {
+        return Err(Halted::NoMemory);
+    };
+    Ok(Turned::Goes(Point::Turn))
+}
+
+/// The node at work does its own work, and its answer is one more of the node that waits for it. It stays where it is, since it is too
+/// large to be handed from call to call.
+#[inline]
+fn join<N: Nodes>(nodes: &mut N, stack: &mut Stack<N::Held>) -> Result<Turned, Halted>
+    ensures turns { (waiting : Waiting SpecAnswer) → ShowsWaiting N.shows stack.old waiting
+        → way_at (N.program nodes.old) waiting.top.node waiting.top.done ≡ TurnsReady
+        → Turns N.shows (N.program nodes.old) (record { place = turning; waiting = waiting; world = N.world nodes.old })
+        result stack.new (N.world nodes.new) }
+    ensures program { N.program nodes.new ≡ N.program nodes.old }
+    ensures steps { TakesAtMostOne (N.world nodes.old).steps (N.world nodes.new).steps }
+{
+    nodes.join(stack)?;
+    if stack.hand_up() {
+        Ok(Turned::Goes(Point::Turn))
+    } else {
+        Ok(Turned::Came)
+    }
+}
+
+/// The node at work goes on.
+#[inline]
+fn go_on<N: Nodes>(nodes: &mut N, stack: &mut Stack<N::Held>) -> Result<Turned, Halted>
+    ensures turns { (waiting : Waiting SpecAnswer) → ShowsWaiting N.shows stack.old waiting
+        → Turns N.shows (N.program nodes.old) (record { place = turning; waiting = waiting; world = N.world nodes.old })
+        result stack.new (N.world nodes.new) }
+    ensures program { N.program nodes.new ≡ N.program nodes.old }
+    ensures steps { TakesAtMostOne (N.world nodes.old).steps (N.world nodes.new).steps }
+{
+    match nodes.next(stack.node(), stack.done()) {
+        Way::Operand(part) => Ok(Turned::Goes(Point::Reach(part))),
+        Way::Enter(part) => enter(nodes, stack, part),
+        Way::Resume(count, fresh) => resume(nodes, stack, count, fresh),
+        Way::Ready => join(nodes, stack),
+        Way::Unknown => Err(Halted::NoMemory),
+    }
+}
+
+/// One turn, which takes a step at most.
+#[inline]
+fn turn<N: Nodes>(nodes: &mut N, stack: &mut Stack<N::Held>, point: Point) -> Result<Turned, Halted>
+    ensures turns { (waiting : Waiting SpecAnswer) → ShowsWaiting N.shows stack.old waiting
+        → Turns N.shows (N.program nodes.old) (record { place = place_of point; waiting = waiting; world = N.world nodes.old })
+        result stack.new (N.world nodes.new) }
+    ensures program { N.program nodes.new ≡ N.program nodes.old }
+    ensures steps { TakesAtMostOne (N.world nodes.old).steps (N.world nodes.new).steps }
+{
+    match point {
+        Point::Reach(node) => reach(nodes, stack, node),
+        Point::Turn => go_on(nodes, stack),
+    }
+}
+
+/// Whether just so many steps are left as a slice is to leave.
+#[inline]
+fn is_at(until: Option<u64>, steps: u64) -> bool
+    ensures { MatchBool result (until ≡ Some steps) (until ≢ Some steps) }
+{
+    match until {
+        Some(until) => until == steps,
+        None => false,
+    }
+}
+
+/// How many turns may still follow that take no step, after one that left `after` of `before` steps.
+#[inline]
+fn turns_left(idle: u32, before: u64, after: u64) -> Option<u32>
+    requires { after ≤ before }
+    ensures { IfSome result (λ left. after * 4294967296 + left < before * 4294967296 + idle) }
+{
+    if after < before {
+        return Some(u32::MAX);
+    }
+    idle.checked_sub(1)
+}
+
+/// Takes turns until so many steps are left, or to the end. Between two steps there are never so many turns that they can't be
+/// counted, in a program of the subset: it declares, passes and leaves no more than its file has.
+fn slice<N: Nodes>(
+    nodes: &mut N,
+    stack: &mut Stack<N::Held>,
+    from: Point,
+    until: Option<u64>,
+) -> Result<Turned, Halted>
+    requires { IfSome until (λ steps. steps ≤ (N.world nodes.old).steps) }
+    ensures turns { (waiting : Waiting SpecAnswer) → ShowsWaiting N.shows stack.old waiting
+        → Turns N.shows (N.program nodes.old) (record { place = place_of from; waiting = waiting; world = N.world nodes.old })
+        result stack.new (N.world nodes.new) }
+    ensures program { N.program nodes.new ≡ N.program nodes.old }
+    ensures fewer { (N.world nodes.new).steps ≤ (N.world nodes.old).steps }
+    ensures within { IfSome until (λ steps. steps ≤ (N.world nodes.new).steps) }
+    ensures paused { (point : SpecPoint) → result ≡ Ok (Turned.Goes point) → until ≡ Some (N.world nodes.new).steps }
+{
+    let mut point = from;
+    let mut idle = u32::MAX;
+    loop {
+        let steps = nodes.steps();
+        if is_at(until, steps) {
+            return Ok(Turned::Goes(point));
+        }
+        point = match turn(nodes, stack, point)? {
+            Turned::Goes(next) => next,
+            Turned::Came => return Ok(Turned::Came),
+        };
+        let Some(left) = turns_left(idle, steps, nodes.steps()) else {
+            return Err(Halted::NoMemory);
+        };
+        idle = left;
+    }
+}
+
+/// How many steps a slice is to leave, if it isn't the last one.
+fn slice_end(steps: u64) -> Option<u64>
+    ensures { MatchOption result (steps < 4096) (λ until. until + 4096 ≡ steps) }
+{
+    steps.checked_sub(STEPS_OF_A_SLICE)
+}
+
+/// The end of a run whose last node has answered.
+fn came<T: Drop>(answer: Option<T>) -> Outcome<T>
+    ensures { result ≡ came answer }
+{
+    match answer {
+        Some(answer) => Outcome::Came(answer),
+        None => Outcome::Halted(Halted::NoMemory),
+    }
+}
+
+/// Runs a program from a node, in which nothing waits: to its answer, to the end of the run, or until the stop asks to give up.
+pub fn run_nodes<N: Nodes, S: Stop>(
+    alloc: Global,
+    nodes: &mut N,
+    node: u32,
+    stop: &mut S,
+) -> Outcome<N::Held>
+    requires { S.raised stop.old ≡ false }
+    ensures meant { ComesTo N.shows (N.program nodes.old) node (N.world nodes.old) result (N.world nodes.new) }
+    ensures stopped { result ≡ Outcome.Stopped → S.raised stop.new ≡ true }
+    ensures held { S.held stop.new ≡ S.held stop.old }
+    ensures program { N.program nodes.new ≡ N.program nodes.old }
+    ensures fewer { (N.world nodes.new).steps ≤ (N.world nodes.old).steps }
+    // There was a look before the first step, and one after each slice.
+    ensures looked { HasLooked (S.looks stop.old) (S.looks stop.new) ((N.world nodes.old).steps - (N.world nodes.new).steps) (given_up result) }
+{
+    let mut stack = Stack::new(alloc, node);
+    let mut point = Point::Turn;
+    loop {
+        if stop.stop() {
+            return Outcome::Stopped;
+        }
+        let until = slice_end(nodes.steps());
+        match slice(nodes, &mut stack, point, until) {
+            Ok(Turned::Goes(next)) => point = next,
+            Ok(Turned::Came) => return came(stack.pop()),
+            Err(halted) => return Outcome::Halted(halted),
+        }
+    }
+}

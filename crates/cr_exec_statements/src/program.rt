@@ -1,0 +1,144 @@
+// The whole program before and behind main (C11 5.1.2).
+ghost use Rattle.std.specs.Prelude.{◌≡◌, List};
+ghost use Rattle.std.specs.List.{AllZip};
+ghost use Rattle.cr_meaning.specs.Language.{went};
+ghost use Rattle.cr_meaning.specs.World.{Answer, next};
+ghost use Rattle.cr_meaning.specs.Nodes.{entering, deeper, last_in};
+ghost use Rattle.cr_meaning.specs.Meaning.{main_entered, program_before, program_end};
+ghost use Rattle.cr_eval.specs.Table.{program_of};
+ghost use Rattle.cr_exec_slices.specs.Shown.{Worked};
+ghost use Rattle.cr_exec_turns.specs.Held.{shows};
+ghost use Rattle.cr_exec_world.specs.Worlds.{world_of};
+ghost use Rattle.cr_exec_statements.specs.Kept.{program_left, Does};
+ghost use Rattle.cr_exec_statements.specs.Parts.{arguments_entered, strings_entered};
+
+use crate::kept::last;
+use cr_eval::Table;
+use cr_exec_slices::Halted;
+use cr_exec_stack::Stack;
+use cr_exec_turns::Held;
+use cr_exec_world::{World, enter, enter_each, mark, shape_for};
+use cr_ints::IntKind;
+use cr_meaning::{Parameter, Value};
+use cr_memory::{Cell, Guard, Pointer, Scalar};
+
+/// One more call runs.
+fn deepen(world: &mut World) -> Result<(), Halted>
+    ensures work { Worked (went next (deeper (world_of world.old))) result (world_of world.new) }
+    ensures steps { world.new.steps ≡ world.old.steps }
+{
+    let Some(depth) = world.depth.checked_add(1) else {
+        return Err(Halted::NoMemory);
+    };
+    world.depth = depth;
+    mark(world)
+}
+
+/// main's parameters get 0 and a pointer to the array (5.1.2.2.1p2): N3.
+fn enter_arguments(
+    table: &Table,
+    world: &mut World,
+    object: u32,
+    count: u32,
+    vector: u32,
+) -> Result<(), Halted>
+    ensures work { Worked (entering (arguments_entered (program_of table.now) object count vector (world_of world.old))) result (world_of world.new) }
+    ensures steps { world.new.steps ≡ world.old.steps }
+{
+    let strings = Pointer::At {
+        object,
+        cell: 0,
+        low: 0,
+        high: 1,
+        stride: 1,
+    };
+    match enter(world, count, shape_for(table, count), &[Cell::Number(0)]) {
+        Ok(()) => enter(
+            world,
+            vector,
+            shape_for(table, vector),
+            &[Cell::Pointer(strings)],
+        ),
+        Err(halted) => Err(halted),
+    }
+}
+
+/// The array of one null pointer comes before the parameters: N3.
+fn enter_main(
+    table: &Table,
+    world: &mut World,
+    strings: Scalar,
+    count: u32,
+    vector: u32,
+) -> Result<(), Halted>
+    ensures work { Worked (entering (strings_entered (program_of table.now) strings count vector (world_of world.old))) result (world_of world.new) }
+    ensures steps { world.new.steps ≡ world.old.steps }
+{
+    match enter(
+        world,
+        vector,
+        &[(strings, Guard::Free)],
+        &[Cell::Pointer(Pointer::Null)],
+    ) {
+        Ok(()) => match world.names.find(vector) {
+            Some(object) => enter_arguments(table, world, object, count, vector),
+            None => Err(Halted::NoMemory),
+        },
+        Err(halted) => Err(halted),
+    }
+}
+
+/// main is called.
+fn call_main(
+    table: &Table,
+    world: &mut World,
+    strings: Scalar,
+    parameters: &[Parameter],
+) -> Result<(), Halted>
+    ensures work { Worked (entering (main_entered (program_of table.now) strings parameters.now (deeper (world_of world.old)))) result (world_of world.new) }
+    ensures steps { world.new.steps ≡ world.old.steps }
+{
+    match deepen(world) {
+        Ok(()) => match parameters {
+            [count, vector] => enter_main(table, world, strings, count.node, vector.node),
+            _ => Ok(()),
+        },
+        Err(halted) => Err(halted),
+    }
+}
+
+/// First the objects of static duration and the literals, in order of their tokens; then main is called: N3.
+pub(crate) fn program_before(
+    table: &Table,
+    world: &mut World,
+    objects: &[u32],
+    parameters: &[Parameter],
+    strings: Scalar,
+    done: &[Held],
+) -> Result<(), Halted>
+    ensures work { Does (λ answers. program_before (program_of table.now) objects.now parameters.now strings answers (world_of world.old)) done.now result (world_of world.new) }
+    ensures steps { world.new.steps ≡ world.old.steps }
+{
+    if done.is_empty() {
+        enter_each(table, world, objects, true)
+    } else {
+        call_main(table, world, strings, parameters)
+    }
+}
+
+fn program_left(answer: Held) -> Held
+    ensures { result ≡ program_left answer }
+{
+    match answer {
+        Held::Returned(value) => Held::Returned(value),
+        _ => Held::Returned(Value::Number(IntKind::Int, 0)),
+    }
+}
+
+/// main's closing brace gives 0 (5.1.2.2.3p1).
+pub(crate) fn program_end(stack: &mut Stack<Held>) -> Held
+    ensures shown { (answers : List Answer) → AllZip shows stack.old.top.done answers → shows result (program_end (last_in answers)) }
+    ensures below { stack.new.below ≡ stack.old.below }
+{
+    program_left(last(stack))
+}

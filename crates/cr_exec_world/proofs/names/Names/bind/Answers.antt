@@ -1,0 +1,10 @@
+use Rattle.std.proofs.Common.{None, rules}
+use Rattle.std.proofs.lemmas.List.{get_or_read}
+use Rattle.cr_exec_world.proofs.Finding.{bound_follows}
+use Rattle.cr_exec_world.proofs.names.Names.bind.Goals as goal
+
+pub invariant_of-self-2 : goal.invariant_of-self-2
+invariant_of-self-2 c =
+    let inside = c.self.inside in
+    bound_follows inside.latest.items inside.entries.items c.push.new.self.items c.args.node c.args.object c.index-before.result.now (search rules)
+    (get_or_read inside.latest.items c.args.node c.index-before.result.now (search rules) c.index-before.ensures None) c.in-Ok.ensures.items c.self.invariant

@@ -1,6 +1,0 @@
-use Rattle.std.proofs.Common.{◌≡◌, ℕ, ◌<◌, Some, List, slice_get}
-use Rattle.cr_fits.specs.Fits.{AreSuited}
-use Rattle.cr_fits.proofs.extents.have_members.Given as goal
-
-abbrev pub invariant-loop-at : goal.invariant-loop-at
-invariant-loop-at l = (node : ℕ) (rows : List ℕ) → node < l.at → slice_get l.members node ≡ Some rows → AreSuited l.extents node rows

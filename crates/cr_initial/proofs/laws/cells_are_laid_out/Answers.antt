@@ -1,5 +1,0 @@
-use Rattle.cr_initial.proofs.Cells.{laid_out}
-use Rattle.cr_initial.proofs.laws.cells_are_laid_out.Goals as goal
-
-pub returns : goal.returns
-returns c = laid_out

@@ -1,5 +1,0 @@
-use Rattle.cr_initial.proofs.Inside.{plan_stays_inside}
-use Rattle.cr_initial.proofs.laws.plans_stay_inside.Goals as goal
-
-pub returns : goal.returns
-returns c = plan_stays_inside

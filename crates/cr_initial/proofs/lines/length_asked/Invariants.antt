@@ -1,9 +1,0 @@
-use Rattle.std.proofs.Common.{◌≡◌, drop, max}
-use Rattle.cr_initial.specs.Known.{known_of}
-use Rattle.cr_initial.specs.Plans.{entries_of, most_asked}
-use Rattle.cr_initial.proofs.lines.length_asked.Given as goal
-
-abbrev pub invariant-loop-line : goal.invariant-loop-line
-invariant-loop-line l =
-    max l.most (most_asked (known_of l.source) l.each (entries_of l.source.table.now (drop l.line-index l.lines)))
-    ≡ most_asked (known_of l.source) l.each (entries_of l.source.table.now l.lines)

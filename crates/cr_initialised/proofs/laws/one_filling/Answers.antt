@@ -1,5 +1,0 @@
-use Rattle.cr_initialised.proofs.Fillings.{one_filling}
-use Rattle.cr_initialised.proofs.laws.one_filling.Goals as goal
-
-pub returns : goal.returns
-returns c = one_filling

@@ -1,6 +1,0 @@
-ghost use Rattle.cr_initialised.specs.Laws.{OneFilling};
-
-/// A law: a node names one type, and has one plan.
-pub fn one_filling()
-    ensures { OneFilling }
-{}

@@ -1,5 +1,0 @@
-use Rattle.cr_kept.proofs.Running.{older_values_fit}
-use Rattle.cr_kept.proofs.laws.older_values_fit.Goals as goal
-
-pub returns : goal.returns
-returns c = older_values_fit

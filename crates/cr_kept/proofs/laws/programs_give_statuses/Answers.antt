@@ -1,5 +1,0 @@
-use Rattle.cr_kept.proofs.Running.{programs_give_statuses}
-use Rattle.cr_kept.proofs.laws.programs_give_statuses.Goals as goal
-
-pub returns : goal.returns
-returns c = programs_give_statuses

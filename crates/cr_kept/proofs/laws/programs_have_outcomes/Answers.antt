@@ -1,5 +1,0 @@
-use Rattle.cr_kept.proofs.Outcomes.{programs_have_outcomes}
-use Rattle.cr_kept.proofs.laws.programs_have_outcomes.Goals as goal
-
-pub returns : goal.returns
-returns c = programs_have_outcomes

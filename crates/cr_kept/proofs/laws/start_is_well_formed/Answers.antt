@@ -1,5 +1,0 @@
-use Rattle.cr_kept.proofs.Worlds.{start_is_well_formed}
-use Rattle.cr_kept.proofs.laws.start_is_well_formed.Goals as goal
-
-pub returns : goal.returns
-returns c = start_is_well_formed

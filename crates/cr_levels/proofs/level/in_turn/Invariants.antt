@@ -1,6 +1,0 @@
-use Rattle.std.proofs.Common.{◌≡◌}
-use Rattle.cr_levels.specs.Gathered.{gathered}
-use Rattle.cr_levels.proofs.level.in_turn.Given as goal
-
-abbrev pub invariant-loop-at : goal.invariant-loop-at
-invariant-loop-at g l = l.edits ≡ gathered (g.T.Turns.gives l.turns) l.at

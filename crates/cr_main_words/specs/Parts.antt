@@ -1,0 +1,23 @@
+-- The parts of the settings.
+use Rattle.std.specs.Prelude.{◌≡◌, ℕ, min, List, [], ◌∷◌, codes, Ok}
+use Rattle.cr_outside.specs.Test.{ReadsTest}
+use Rattle.cr_main_words.specs.Names.{IsSource}
+use Rattle.cr_main_words.specs.Numbers.{IsNumberOr, IsOptional}
+use Rattle.cr_main_words.specs.Words.{Word}
+use Rattle.cr_main_words.specs.declared.settings.Asked.{Asked}
+use Rattle.cr_main_words.specs.declared.settings.Counts.{Counts}
+
+-- the values of the options give these numbers, where there are so many workers
+pub record GivesCounts (values : Word → List Word) (most : ℕ) (counts : Counts) : Type 0 where
+  pub workers : IsNumberOr (min 4 most) 1 (min 32 most) (values (codes "workers")) counts.workers
+  pub window : IsNumberOr 256 1 4096 (values (codes "window")) counts.window
+  pub limit : IsOptional 0 9223372036854775807 (values (codes "limit")) counts.limit
+  pub steps : IsNumberOr 1000000 1 100000000 (values (codes "steps")) counts.steps
+
+-- the positional words ask this about that
+pub record GivesAsked (places : List Word) (asked : Asked) : Type 0 where
+  pub test : Word
+  pub file : Word
+  pub two : places ≡ test ∷ (file ∷ [])
+  pub reads : ReadsTest test (Ok asked.test)
+  pub source : IsSource file asked.source

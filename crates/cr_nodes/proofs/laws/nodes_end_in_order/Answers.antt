@@ -1,8 +1,0 @@
-use Rattle.std.proofs.Common.{length, arith}
-use Rattle.cr_nodes.proofs.Made.{made_in, rises}
-use Rattle.cr_nodes.proofs.Numbers.{occurs}
-use Rattle.cr_nodes.proofs.Order.{in_order}
-use Rattle.cr_nodes.proofs.laws.nodes_end_in_order.Goals as goal
-
-pub returns : goal.returns
-returns c = λ ts limit nodes items below once are u listed. in_order nodes below (λ k n q. rises (made_in u.spells (occurs nodes below items once are (length nodes) k n (omega arith) q)).spells) listed (rises u.spells)

@@ -1,5 +1,0 @@
-use Rattle.cr_nodes.proofs.Order.{own_before}
-use Rattle.cr_nodes.proofs.laws.own_nodes_stand_before.Goals as goal
-
-pub returns : goal.returns
-returns c = own_before

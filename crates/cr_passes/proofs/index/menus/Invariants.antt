@@ -1,7 +1,0 @@
-use Rattle.std.proofs.Common.{◌≡◌, length}
-use Rattle.cr_analysis.specs.Analysis.{read_of}
-use Rattle.cr_passes.specs.Offers.{AreMenus}
-use Rattle.cr_passes.proofs.index.menus.Given as goal
-
-abbrev pub invariant-loop-pass : goal.invariant-loop-pass
-invariant-loop-pass l = (length l.menus.items ≡ l.pass) × AreMenus l.enabled l.file (read_of l.analysis) l.pass l.menus.items

@@ -1,5 +1,0 @@
-use Rattle.std.proofs.Common.{◌<◌, ℕ, length, slice_index}
-use Rattle.cr_rules_tests.proofs.within.all_rows.Given as goal
-
-abbrev pub invariant-loop-at : goal.invariant-loop-at
-invariant-loop-at l = (k : ℕ) → k < l.at → slice_index l.rows k < length l.table

@@ -1,4 +1,0 @@
-use Rattle.cr_shapes.proofs.elements.product.Goals as goal
-
-pub returns-in-Some : goal.returns-in-Some
-returns-in-Some c = λ rest whole h. c.times.ensures rest whole (rw c.in-Some.is at h)

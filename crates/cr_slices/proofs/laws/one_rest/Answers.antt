@@ -1,5 +1,0 @@
-use Rattle.cr_slices.proofs.Ways.{one_rest}
-use Rattle.cr_slices.proofs.laws.one_rest.Goals as goal
-
-pub returns : goal.returns
-returns c = one_rest

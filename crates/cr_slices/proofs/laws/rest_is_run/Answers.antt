@@ -1,5 +1,0 @@
-use Rattle.cr_slices.proofs.Ways.{rest_is_run}
-use Rattle.cr_slices.proofs.laws.rest_is_run.Goals as goal
-
-pub returns : goal.returns
-returns c = rest_is_run

@@ -1,5 +1,0 @@
-use Rattle.cr_slices.proofs.Ways.{run_is_rest}
-use Rattle.cr_slices.proofs.laws.run_is_rest.Goals as goal
-
-pub returns : goal.returns
-returns c = run_is_rest

@@ -1,5 +1,0 @@
-use Rattle.cr_surroundings.specs.Links.{AreLinks}
-use Rattle.cr_surroundings.proofs.links.all_links.Given as goal
-
-abbrev pub invariant-loop-at : goal.invariant-loop-at
-invariant-loop-at l = AreLinks l.bindings l.nodes l.above l.at l.links

@@ -1,0 +1,7 @@
+use Rattle.std.proofs.Common.{length, arith}
+use Rattle.cr_syntax_nodes.proofs.Made.{made_in}
+use Rattle.cr_syntax_nodes.proofs.Numbers.{occurs}
+use Rattle.cr_syntax_nodes.proofs.laws.nodes_are_made.Goals as goal
+
+pub returns : goal.returns
+returns c = λ ts limit nodes items below once are u k n q. made_in u.spells (occurs nodes below items once are (length nodes) k n (omega arith) q)

@@ -1,6 +1,0 @@
-use Rattle.std.proofs.Common.{◌≡◌, take}
-use Rattle.cr_operations.specs.Operations.{ops_from}
-use Rattle.cr_table.proofs.program.ops.Given as goal
-
-abbrev pub invariant-loop-node : goal.invariant-loop-node
-invariant-loop-node l = l.ops.items ≡ ops_from l.nodes 0 (take l.node l.nodes.nodes)

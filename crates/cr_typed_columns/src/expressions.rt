@@ -1,0 +1,281 @@
+// What expressions have in a run.
+ghost use Rattle.std.specs.Prelude.{◌≡◌, ◌<◌, ◌≤◌, ◌&&◌, ◌||◌, ◌==◌, ℕ, [], Some, IfOk, length, map, not, slice_get, slice_index_or, false};
+ghost use Rattle.std.specs.List.{list_any};
+ghost use Rattle.cr_check_types.specs.Types.{type_at, type_of};
+ghost use Rattle.cr_check_operands.specs.Values.{seen_at};
+ghost use Rattle.cr_check_operands.specs.Places.{structure_in as structure_in_lem};
+ghost use Rattle.cr_typed_columns.specs.Reading.{entry_of};
+ghost use Rattle.cr_typed_columns.specs.Rows.{listed, type_in};
+ghost use Rattle.cr_typed_columns.specs.Expressions.{seen_of, type_of_node, value_in, constant_of as constant_of_lem, is_array as is_array_lem, fills_array, is_filling, form_if, is_part, valued_of as valued_of_lem, pointed_structure as pointed_structure_lem, structure_by as structure_by_lem, number_of_name, last_if, chosen_of as chosen_of_lem};
+
+use crate::copying::shape_at;
+use crate::judgement::Judgement;
+use crate::reading::{entry, entry_at, kind_at, kind_of, part_at, part_of};
+use crate::rows::Named;
+use cr_check_constants::Constant;
+use cr_check_expressions::{Form, Member, NO_FACT, form_of, is_valued};
+use cr_check_initialisers::Line;
+use cr_check_operands::Fact;
+use cr_check_types::Table;
+use cr_rows::Row;
+use cr_syntax::{CType, Kind, Node};
+use std::alloc::{AllocError, Global};
+
+fn fact_of(judged: &Judgement, node: Option<u32>) -> Fact
+    ensures { seen_at judged.now.table.now result ≡ seen_of judged.now node }
+{
+    entry(judged.facts, NO_FACT, node)
+}
+
+fn fact_at(judged: &Judgement, at: usize) -> Fact
+    ensures { seen_at judged.now.table.now result ≡ seen_of judged.now (Some at) }
+{
+    entry_at(judged.facts, NO_FACT, at)
+}
+
+fn node_type(judged: &Judgement, at: usize) -> Named
+    ensures { type_in (type_at judged.now.table.now) result ≡ type_of_node judged.now at }
+{
+    Named::Row(fact_at(judged, at).row)
+}
+
+/// The types of expressions, and of what is no expression no type.
+#[tactic(auto, using(crate::proofs::Listed::one_mapped))]
+pub(crate) fn types(
+    alloc: Global,
+    nodes: usize,
+    judged: &Judgement,
+) -> Result<Vec<Named>, AllocError>
+    ensures { IfOk result (λ types. map (type_in (type_at judged.now.table.now)) types.items ≡ listed (type_of_node judged.now) nodes) }
+{
+    let mut types = Vec::new(alloc);
+    for at in 0..nodes {
+        types.push(node_type(judged, at))?;
+    }
+    Ok(types)
+}
+
+// ---- constants
+
+fn value_in(constant: Constant) -> Option<i128>
+    ensures { result ≡ value_in constant }
+{
+    match constant {
+        Constant::Value(value) => Some(value),
+        Constant::Undefined | Constant::NotConstant => None,
+    }
+}
+
+fn constant_of(judged: &Judgement, at: usize) -> Option<i128>
+    ensures { result ≡ constant_of_lem judged.now at }
+{
+    value_in(fact_at(judged, at).constant)
+}
+
+/// The value of each integer constant expression.
+#[tactic(auto, using(crate::proofs::Listed::one_more))]
+pub(crate) fn constants(
+    alloc: Global,
+    nodes: usize,
+    judged: &Judgement,
+) -> Result<Row<Option<i128>>, AllocError>
+    ensures { IfOk result (λ constants. constants ≡ listed (constant_of_lem judged.now) nodes) }
+{
+    let mut constants = Row::new(alloc);
+    for at in 0..nodes {
+        constants.push(constant_of(judged, at))?;
+    }
+    Ok(constants)
+}
+
+// ---- places that are used as values
+
+fn is_array(table: &Table, row: u32) -> bool
+    ensures { result ≡ is_array_lem (type_at table.now row) }
+{
+    match shape_at(table, row).of {
+        CType::Array(..) => true,
+        CType::Pointer(_) | CType::Void | CType::Int(_) => false,
+        CType::Struct(_) | CType::Function(_) | CType::Unknown => false,
+    }
+}
+
+fn set(marks: &mut Vec<bool>, at: usize)
+    ensures count { length marks.new.items ≡ length marks.old.items }
+    ensures each { (i : ℕ) → i < length marks.old.items → slice_index_or marks.new.items i false ≡ (slice_index_or marks.old.items i false || (at == i)) }
+{
+    if at < marks.len() {
+        marks[at] = true;
+    }
+}
+
+// Marks the literal of a line that initialises an array.
+fn mark(table: &Table, marks: &mut Vec<bool>, line: Line)
+    ensures count { length marks.new.items ≡ length marks.old.items }
+    ensures each { (i : ℕ) → i < length marks.old.items → slice_index_or marks.new.items i false ≡ (slice_index_or marks.old.items i false || fills_array table.now i line) }
+{
+    if let Line::Put(put) = line {
+        if is_array(table, put.row) {
+            set(marks, put.node as usize);
+        }
+    }
+}
+
+fn mark_all(table: &Table, marks: &mut Vec<bool>, lines: &[Line])
+    ensures count { length marks.new.items ≡ length marks.old.items }
+    ensures each { (i : ℕ) → i < length marks.old.items → slice_index_or marks.new.items i false ≡ (slice_index_or marks.old.items i false || list_any (fills_array table.now i) lines.now) }
+{
+    for line in lines {
+        mark(table, marks, *line);
+    }
+}
+
+/// The literals that initialise arrays.
+fn filling(alloc: Global, nodes: usize, judged: &Judgement) -> Result<Vec<bool>, AllocError>
+    ensures count { IfOk result (λ marks. length marks.items ≡ nodes) }
+    ensures each { IfOk result (λ marks. (i : ℕ) → i < nodes → slice_index_or marks.items i false ≡ is_filling judged.now i) }
+{
+    let mut marks = vec![in alloc; false; nodes]?;
+    for lines in judged.lines {
+        mark_all(judged.table, &mut marks, lines.as_slice());
+    }
+    Ok(marks)
+}
+
+fn form_if(kind: Option<Kind>) -> Option<Form>
+    ensures { result ≡ form_if kind }
+{
+    match kind {
+        Some(kind) => Some(form_of(kind)),
+        None => None,
+    }
+}
+
+fn is_part(at: usize, part: Option<u32>) -> bool
+    ensures { result ≡ is_part at part }
+{
+    match part {
+        Some(part) => part as usize == at,
+        None => false,
+    }
+}
+
+fn valued_of(nodes: &[Node], judged: &Judgement, marks: &[bool], at: usize) -> bool
+    requires { slice_index_or marks.now at false ≡ is_filling judged.now at }
+    ensures { result ≡ valued_of_lem nodes.now judged.now at }
+{
+    let above = entry_at(judged.above, None, at);
+    let first = is_part(at, part_of(nodes, above, 0));
+    is_valued(form_if(kind_of(nodes, above)), first, fact_at(judged, at))
+        && !entry_at(marks, false, at)
+}
+
+/// Which expressions are places that are used as values.
+#[tactic(auto, using(crate::proofs::Listed::one_more))]
+pub(crate) fn valued(
+    alloc: Global,
+    nodes: &[Node],
+    judged: &Judgement,
+) -> Result<Row<bool>, AllocError>
+    ensures { IfOk result (λ valued. valued ≡ listed (valued_of_lem nodes.now judged.now) (length nodes.now)) }
+{
+    let marks = filling(alloc, nodes.len(), judged)?;
+    let mut valued = Row::new(alloc);
+    for at in 0..nodes.len() {
+        valued.push(valued_of(nodes, judged, &marks, at))?;
+    }
+    Ok(valued)
+}
+
+// ---- members
+
+fn structure_in(table: &Table, row: u32) -> Option<u32>
+    ensures { result ≡ structure_in_lem (type_at table.now row) }
+{
+    match shape_at(table, row).of {
+        CType::Struct(node) => Some(node),
+        CType::Pointer(_) | CType::Array(..) | CType::Void => None,
+        CType::Int(_) | CType::Function(_) | CType::Unknown => None,
+    }
+}
+
+fn pointed_structure(table: &Table, row: u32) -> Option<u32>
+    ensures { result ≡ pointed_structure_lem (type_at table.now row) }
+{
+    match shape_at(table, row).of {
+        CType::Pointer(below) | CType::Array(below, _) => structure_in(table, below),
+        CType::Struct(_) | CType::Void | CType::Int(_) => None,
+        CType::Function(_) | CType::Unknown => None,
+    }
+}
+
+fn structure_by(table: &Table, kind: Option<Kind>, row: u32) -> Option<u32>
+    ensures { result ≡ structure_by_lem kind (type_at table.now row) }
+{
+    match kind {
+        Some(Kind::Member) => structure_in(table, row),
+        Some(Kind::PointerMember) => pointed_structure(table, row),
+        _ => None,
+    }
+}
+
+fn number_of_name(name: u32, members: &[Member]) -> usize
+    ensures { result ≡ number_of_name name members.now }
+{
+    let mut number = 0;
+    while number < members.len() && members[number].name != name {
+        number += 1;
+    }
+    number
+}
+
+fn last_at(nodes: &[Node], at: usize) -> u32
+    ensures { result ≡ last_if (slice_get nodes.now at) }
+{
+    if at < nodes.len() { nodes[at].last } else { 0 }
+}
+
+fn members_of<'a>(members: &'a [Row<Member>], structure: Option<u32>) -> &'a [Member]
+    ensures { result.now ≡ entry_of members.now [] structure }
+{
+    match structure {
+        Some(structure) => members_at(members, structure as usize),
+        None => &[],
+    }
+}
+
+/// The members of a structure.
+pub(crate) fn members_at<'a>(members: &'a [Row<Member>], structure: usize) -> &'a [Member]
+    ensures { result.now ≡ slice_index_or members.now structure [] }
+{
+    if structure < members.len() {
+        members[structure].as_slice()
+    } else {
+        &[]
+    }
+}
+
+fn chosen_of(nodes: &[Node], judged: &Judgement, at: usize) -> usize
+    ensures { result ≡ chosen_of_lem nodes.now judged.now at }
+{
+    let name = entry_at(judged.spellings, 0, last_at(nodes, at) as usize);
+    let row = fact_of(judged, part_at(nodes, at, 0)).row;
+    let structure = structure_by(judged.table, kind_at(nodes, at), row);
+    number_of_name(name, members_of(judged.members, structure))
+}
+
+/// The number of the member that each `.` and `->` names.
+#[tactic(auto, using(crate::proofs::Listed::one_more))]
+pub(crate) fn chosen(
+    alloc: Global,
+    nodes: &[Node],
+    judged: &Judgement,
+) -> Result<Row<usize>, AllocError>
+    ensures { IfOk result (λ chosen. chosen ≡ listed (chosen_of_lem nodes.now judged.now) (length nodes.now)) }
+{
+    let mut chosen = Row::new(alloc);
+    for at in 0..nodes.len() {
+        chosen.push(chosen_of(nodes, judged, at))?;
+    }
+    Ok(chosen)
+}

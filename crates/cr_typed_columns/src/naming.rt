@@ -1,0 +1,352 @@
+// What names have in a run.
+ghost use Rattle.std.specs.Prelude.{◌≡◌, IfOk, length, map, slice_index_or};
+ghost use Rattle.cr_check_types.specs.Types.{type_at, unknown};
+ghost use Rattle.cr_typed_columns.specs.Reading.{parsed_of};
+ghost use Rattle.cr_typed_columns.specs.Entities.{AreFound};
+ghost use Rattle.cr_typed_columns.specs.Rows.{listed, type_in};
+ghost use Rattle.cr_typed_columns.specs.Names.{is_mention, mentioned_token, is_goto, ref_of as ref_of_lem, around_of, is_list, function_above, is_same, is_own, of_parameter, of_object, by_place, by_declared, duration_of as duration_of_lem, type_named, is_initialised, initialised_if, with_initialiser, whole_if, composite_type, or_first, function_type, entity_type, is_here, name_type, named_by, named_of};
+
+use crate::functions::function_of;
+use crate::judgement::Judgement;
+use crate::lasts::{
+    Found, declared_of, definition_of, entity_if, entity_of, first_declared, is_kept,
+    last_declared, whole_of,
+};
+use crate::reading::{entry, entry_at, first_at, kind_at, kind_of, part_at};
+use crate::rows::Named;
+use cr_check_enclosing::{Around, OUTERMOST, Place};
+use cr_check_expressions::Declared;
+use cr_rows::Row;
+use cr_syntax::{Kind, Node, Unit, number_of};
+use cr_typed::Duration;
+use std::alloc::{AllocError, Global};
+
+// ---- entities
+
+fn is_mention(kind: Option<Kind>) -> bool
+    ensures { result ≡ is_mention kind }
+{
+    match kind {
+        Some(Kind::Identifier | Kind::Call | Kind::NameDeclarator) => true,
+        _ => false,
+    }
+}
+
+fn mentioned_token(nodes: &[Node], at: usize) -> Option<u32>
+    ensures { result ≡ mentioned_token nodes.now at }
+{
+    if is_mention(kind_at(nodes, at)) {
+        first_at(nodes, at)
+    } else {
+        None
+    }
+}
+
+fn is_goto(kind: Option<Kind>) -> bool
+    ensures { result ≡ is_goto kind }
+{
+    match kind {
+        Some(Kind::Goto) => true,
+        _ => false,
+    }
+}
+
+fn ref_of(unit: &Unit, judged: &Judgement, found: &Found, at: usize) -> Option<u32>
+    requires { AreFound (parsed_of unit.now) judged.now found.now }
+    ensures { result ≡ ref_of_lem (parsed_of unit.now) judged.now at }
+{
+    let nodes = unit.nodes.as_slice();
+    if is_goto(kind_at(nodes, at)) {
+        entry_at(judged.labels, None, at)
+    } else {
+        let entity = entity_if(judged.names, mentioned_token(nodes, at));
+        first_declared(unit, judged, found, entity)
+    }
+}
+
+/// For each name the node that declares its entity first, and for each `goto` its label.
+#[tactic(auto, using(crate::proofs::Listed::one_more))]
+pub(crate) fn refs(
+    alloc: Global,
+    unit: &Unit,
+    judged: &Judgement,
+    found: &Found,
+) -> Result<Row<Option<u32>>, AllocError>
+    requires { AreFound (parsed_of unit.now) judged.now found.now }
+    ensures { IfOk result (λ refs. refs ≡ listed (ref_of_lem (parsed_of unit.now) judged.now) (length unit.now.nodes)) }
+{
+    let mut refs = Row::new(alloc);
+    for at in 0..unit.nodes.len() {
+        refs.push(ref_of(unit, judged, found, at))?;
+    }
+    Ok(refs)
+}
+
+// ---- durations
+
+fn around_of(judged: &Judgement, node: Option<u32>) -> Around
+    ensures { result ≡ around_of judged.now node }
+{
+    entry(judged.around, OUTERMOST, node)
+}
+
+fn is_list(kind: Option<Kind>) -> bool
+    ensures { result ≡ is_list kind }
+{
+    match kind {
+        Some(Kind::Parameters | Kind::VariadicParameters) => true,
+        _ => false,
+    }
+}
+
+// The function declarator that has a parameter alone or in a list.
+fn function_above(nodes: &[Node], judged: &Judgement, above: Option<u32>) -> Option<u32>
+    ensures { result ≡ function_above nodes.now judged.now above }
+{
+    if is_list(kind_of(nodes, above)) {
+        entry(judged.above, None, above)
+    } else {
+        above
+    }
+}
+
+fn is_same(node: Option<u32>, other: Option<u32>) -> bool
+    ensures { result ≡ is_same node other }
+{
+    match node {
+        Some(node) => is_here(node, other),
+        None => false,
+    }
+}
+
+// Whether a whole declarator is that of a parameter of this definition itself.
+fn is_own(nodes: &[Node], judged: &Judgement, whole: Option<u32>, definition: Option<u32>) -> bool
+    ensures { result ≡ is_own nodes.now judged.now whole definition }
+{
+    match definition {
+        Some(definition) => {
+            let above = entry(judged.above, None, entry(judged.above, None, whole));
+            is_same(
+                function_above(nodes, judged, above),
+                function_of(nodes, judged, definition as usize),
+            )
+        }
+        None => false,
+    }
+}
+
+fn of_parameter(own: bool) -> Duration
+    ensures { result ≡ of_parameter own }
+{
+    if own {
+        Duration::Automatic
+    } else {
+        Duration::NoObject
+    }
+}
+
+fn of_object(is_static: bool, kept: bool) -> Duration
+    ensures { result ≡ of_object is_static kept }
+{
+    match (is_static, kept) {
+        (false, _) => Duration::Automatic,
+        (true, true) => Duration::Static,
+        (true, false) => Duration::NoObject,
+    }
+}
+
+fn by_place(place: Place, own: bool, is_static: bool, kept: bool) -> Duration
+    ensures { result ≡ by_place place own is_static kept }
+{
+    match place {
+        Place::Parameter => of_parameter(own),
+        _ => of_object(is_static, kept),
+    }
+}
+
+fn by_declared(declared: Declared, place: Place, own: bool, is_static: bool, kept: bool) -> Duration
+    ensures { result ≡ by_declared declared place own is_static kept }
+{
+    match declared {
+        Declared::Object(..) => by_place(place, own, is_static, kept),
+        _ => Duration::NoObject,
+    }
+}
+
+fn duration_of(unit: &Unit, judged: &Judgement, found: &Found, at: usize) -> Duration
+    requires { AreFound (parsed_of unit.now) judged.now found.now }
+    ensures { result ≡ duration_of_lem unit.now.nodes judged.now at }
+{
+    let nodes = unit.nodes.as_slice();
+    let whole = whole_of(nodes, judged, at);
+    let around = around_of(judged, whole);
+    let own = is_own(nodes, judged, whole, around.function);
+    let kept = is_kept(unit, judged, found, entity_of(nodes, judged.names, at));
+    let is_static = entry(judged.statics, false, whole);
+    by_declared(
+        declared_of(judged, whole),
+        around.place,
+        own,
+        is_static,
+        kept,
+    )
+}
+
+/// What the object of each declared name is.
+#[tactic(auto, using(crate::proofs::Listed::one_more))]
+pub(crate) fn durations(
+    alloc: Global,
+    unit: &Unit,
+    judged: &Judgement,
+    found: &Found,
+) -> Result<Row<Duration>, AllocError>
+    requires { AreFound (parsed_of unit.now) judged.now found.now }
+    ensures { IfOk result (λ durations. durations ≡ listed (duration_of_lem unit.now.nodes judged.now) (length unit.now.nodes)) }
+{
+    let mut durations = Row::new(alloc);
+    for at in 0..unit.nodes.len() {
+        durations.push(duration_of(unit, judged, found, at))?;
+    }
+    Ok(durations)
+}
+
+// ---- types
+
+fn type_named(judged: &Judgement, node: Option<u32>) -> Named
+    ensures { type_in (type_at judged.now.table.now) result ≡ type_named judged.now node }
+{
+    Named::Row(entry(judged.named, 0, node))
+}
+
+fn is_initialised(kind: Option<Kind>) -> bool
+    ensures { result ≡ is_initialised kind }
+{
+    match kind {
+        Some(Kind::InitDeclarator) => true,
+        _ => false,
+    }
+}
+
+fn with_initialiser(nodes: &[Node], judged: &Judgement, whole: Option<u32>) -> Option<u32>
+    ensures { result ≡ with_initialiser nodes.now judged.now whole }
+{
+    let above = entry(judged.above, None, whole);
+    if is_initialised(kind_of(nodes, above)) {
+        above
+    } else {
+        whole
+    }
+}
+
+fn whole_if(nodes: &[Node], judged: &Judgement, name: Option<u32>) -> Option<u32>
+    ensures { result ≡ whole_if nodes.now judged.now name }
+{
+    match name {
+        Some(name) => whole_of(nodes, judged, name as usize),
+        None => None,
+    }
+}
+
+fn composite_type(unit: &Unit, judged: &Judgement, found: &Found, entity: Option<u32>) -> Named
+    requires { AreFound (parsed_of unit.now) judged.now found.now }
+    ensures { type_in (type_at judged.now.table.now) result ≡ composite_type unit.now.nodes judged.now entity }
+{
+    let nodes = unit.nodes.as_slice();
+    let whole = whole_if(nodes, judged, last_declared(unit, judged, found, entity));
+    Named::Row(entry(judged.composites, 0, with_initialiser(nodes, judged, whole)))
+}
+
+fn function_type(
+    unit: &Unit,
+    judged: &Judgement,
+    found: &Found,
+    at: u32,
+    entity: Option<u32>,
+) -> Named
+    requires { AreFound (parsed_of unit.now) judged.now found.now }
+    ensures { type_in (type_at judged.now.table.now) result ≡ function_type unit.now.nodes judged.now at entity }
+{
+    match definition_of(unit, judged, found, entity) {
+        Some(definition) => Named::Function(definition),
+        None => Named::Function(at),
+    }
+}
+
+fn is_here(at: u32, node: Option<u32>) -> bool
+    ensures { result ≡ is_here at node }
+{
+    match node {
+        Some(node) => node == at,
+        None => false,
+    }
+}
+
+fn entity_type(
+    declared: Declared,
+    unit: &Unit,
+    judged: &Judgement,
+    found: &Found,
+    at: u32,
+    entity: Option<u32>,
+) -> Named
+    requires { AreFound (parsed_of unit.now) judged.now found.now }
+    ensures { type_in (type_at judged.now.table.now) result ≡ entity_type declared unit.now.nodes judged.now at entity }
+{
+    match declared {
+        Declared::Function(..) => function_type(unit, judged, found, at, entity),
+        Declared::Object(..) => composite_type(unit, judged, found, entity),
+        _ => type_named(judged, whole_of(unit.nodes.as_slice(), judged, at as usize)),
+    }
+}
+
+fn name_type(unit: &Unit, judged: &Judgement, found: &Found, at: u32) -> Named
+    requires { AreFound (parsed_of unit.now) judged.now found.now }
+    ensures { type_in (type_at judged.now.table.now) result ≡ name_type (parsed_of unit.now) judged.now at }
+{
+    let nodes = unit.nodes.as_slice();
+    let entity = entity_of(nodes, judged.names, at as usize);
+    let whole = whole_of(nodes, judged, at as usize);
+    if is_here(at, first_declared(unit, judged, found, entity)) {
+        entity_type(declared_of(judged, whole), unit, judged, found, at, entity)
+    } else {
+        type_named(judged, whole)
+    }
+}
+
+fn named_by(unit: &Unit, judged: &Judgement, found: &Found, at: u32) -> Named
+    requires first { type_at judged.now.table.now 0 ≡ unknown }
+    requires found { AreFound (parsed_of unit.now) judged.now found.now }
+    ensures { type_in (type_at judged.now.table.now) result ≡ named_of (parsed_of unit.now) judged.now at }
+{
+    let nodes = unit.nodes.as_slice();
+    match kind_at(nodes, at as usize) {
+        Some(Kind::NameDeclarator) => name_type(unit, judged, found, at),
+        Some(Kind::Cast) => type_named(judged, part_at(nodes, at as usize, 0)),
+        Some(Kind::Return) => Named::Row(entry(
+            judged.results,
+            0,
+            around_of(judged, Some(at)).function,
+        )),
+        _ => Named::Row(0),
+    }
+}
+
+/// The type that each declared name has, each cast names, and the function of each `return` gives.
+#[tactic(auto, using(crate::proofs::Listed::one_mapped))]
+pub(crate) fn named(
+    alloc: Global,
+    unit: &Unit,
+    judged: &Judgement,
+    found: &Found,
+) -> Result<Vec<Named>, AllocError>
+    requires first { type_at judged.now.table.now 0 ≡ unknown }
+    requires found { AreFound (parsed_of unit.now) judged.now found.now }
+    ensures { IfOk result (λ named. map (type_in (type_at judged.now.table.now)) named.items ≡ listed (named_of (parsed_of unit.now) judged.now) (length unit.now.nodes)) }
+{
+    let mut named = Vec::new(alloc);
+    for at in 0..unit.nodes.len() {
+        let number = number_of(at)?;
+        named.push(named_by(unit, judged, found, number))?;
+    }
+    Ok(named)
+}

@@ -1,0 +1,131 @@
+-- What passes the tests is typed.
+use Rattle.std.proofs.Common.{◌≡◌, ℕ, zero, suc, ◌<◌, ◌≤◌, ◌==◌, ◌&&◌, Bool, true, false, List, [], ◌∷◌, Option, Some, None, nat_lt, nat_le, length, slice_get, slice_index, slice_index_or, inl, inr, refl, sym, ap, subst, ◌∙◌, arith}
+use Rattle.std.specs.List.{All, list_all, sum_by, fold}
+use Rattle.std.proofs.lemmas.Bool.{and_parts, cases_lt, eqb-true, leb-true, ltb-true}
+use Rattle.std.proofs.lemmas.List.Elements.{All-from_recursion}
+use Rattle.std.proofs.lemmas.List.Sums.{sum_by-cons}
+use Rattle.cr_syntax.specs.Kept.{PartsAreBelow}
+use Rattle.cr_syntax.specs.Words.{AreSpans}
+use Rattle.cr_syntax.specs.declared.typed.CType.TheVariants.{Void, Int, Pointer, Array, Struct, Function, Unknown}
+use Rattle.cr_check_types.specs.declared.layout.Layout.{Layout}
+use Rattle.cr_check_types.specs.declared.shape.Shape.{Shape}
+use Rattle.cr_check_types.specs.Types.{Qualified, plain, pointer, array, unknown, type_at, IsTable}
+use Rattle.cr_check_types.specs.Layouts.{layout_of}
+use Rattle.cr_typed.specs.declared.typed.Typed.{Typed}
+use Rattle.cr_typed.specs.Typed.{IsTyped, AreBelow, IsBefore, row_cells, MOST_CELLS}
+use Rattle.cr_typed_fit.specs.declared.extents.Extent.{Extent}
+use Rattle.cr_typed_fit.specs.Fits.{HasColumns, HasNumbers, HasRoom, AreExtents, AreSuited, are_below, are_all_below, is_node, is_small, is_before, counts_of, structure_within, extent_of, no_extent, cells_in}
+use Rattle.cr_typed_fit.proofs.Taken.{beyond}
+
+-- ---- tests of all items
+
+pub at_all : {X : Type 0} (p : X → Bool) (xs : List X) (k : ℕ) (x : X) → list_all p xs ≡ true → slice_get xs k ≡ Some x → p x ≡ true
+at_all p [] k x h e = absurd (cc e)
+at_all p (y ∷ ys) zero x h e = let is : y ≡ x = cc e in ap p (sym is) ∙ (and_parts (p y) (list_all p ys) h).0
+at_all p (y ∷ ys) (suc k) x h e = at_all p ys k x (and_parts (p y) (list_all p ys) h).1 e
+
+below_is : (most : ℕ) (numbers : List ℕ) → are_below most numbers ≡ true → AreBelow most numbers
+below_is most numbers h k n e = ltb-true n most (at_all (λ number. nat_lt number most) numbers k n h e)
+
+all_below_is : (most : ℕ) (rows : List (List ℕ)) → are_all_below most rows ≡ true → (k : ℕ) (row : List ℕ) → slice_get rows k ≡ Some row
+    → AreBelow most row
+all_below_is most rows h k row e = below_is most row (at_all (are_below most) rows k row h e)
+
+nodes_are : (nodes : ℕ) (refs : List (Option ℕ)) → list_all (is_node nodes) refs ≡ true → (k n : ℕ) → slice_get refs k ≡ Some (Some n) → n < nodes
+nodes_are nodes refs h k n e = ltb-true n nodes (at_all (is_node nodes) refs k (Some n) h e)
+
+-- ---- cells and structures
+
+read : {X : Type 0} (xs : List X) (k : ℕ) (d : X) → k < length xs → slice_get xs k ≡ Some (slice_index_or xs k d)
+read [] k d h = absurd (omega (arith, h))
+read (x ∷ xs) zero d h = refl
+read (x ∷ xs) (suc k) d h = read xs k d (omega (arith, h))
+
+small_row : (t : Typed) (extents : List Extent) → AreExtents t.shapes t.layouts (length t.shapes) extents → list_all is_small extents ≡ true
+    → (row : ℕ) → row < length t.shapes → row_cells t row ≤ MOST_CELLS
+small_row t extents made small row lt =
+    let count = made.count in
+    let own = slice_index_or extents row no_extent in
+    let e = leb-true own.cells MOST_CELLS (at_all is_small extents row own small (read extents row no_extent (omega (arith, count, lt)))) in
+    let is : (slice_index_or extents row no_extent).cells ≡ row_cells t row = ap (λ x. x.cells) (made.each row lt) in
+    omega (arith, e, is)
+
+small : (t : Typed) (extents : List Extent) → AreExtents t.shapes t.layouts (length t.shapes) extents → list_all is_small extents ≡ true
+    → (row : ℕ) → row_cells t row ≤ MOST_CELLS
+small t extents made tests row = elim (cases_lt row (length t.shapes)) [
+  | inl there ↦ small_row t extents made tests row there
+  | inr gone ↦
+      let e : row_cells t row ≡ 0 = ap (λ type. (layout_of t.layouts type).cells) (beyond t.shapes row gone) in omega (arith, e)
+]
+
+-- the cells of rows that are there
+sum_is : (t : Typed) (extents : List Extent) → AreExtents t.shapes t.layouts (length t.shapes) extents → (rows : List ℕ)
+    → are_below (length t.shapes) rows ≡ true → sum_by (cells_in extents) rows ≡ sum_by (row_cells t) rows
+sum_is t extents made [] h = refl
+sum_is t extents made (row ∷ rows) h =
+    let parts = and_parts (nat_lt row (length t.shapes)) (are_below (length t.shapes) rows) h in
+    let here : cells_in extents row ≡ row_cells t row = ap (λ x. x.cells) (made.each row (ltb-true row (length t.shapes) parts.0)) in
+    let rest = sum_is t extents made rows parts.1 in
+    let one = sum_by-cons (cells_in extents) row rows in
+    let other = sum_by-cons (row_cells t) row rows in
+    omega (arith, here, rest, one, other)
+
+before_by : (node : ℕ) (type : Qualified) → is_before node (structure_within type) ≡ true → IsBefore node type
+before_by node (plain (Struct inner) c v) h = ltb-true inner node h
+before_by node (plain Void c v) h = tt
+before_by node (plain (Int kind) c v) h = tt
+before_by node (plain (Pointer row) c v) h = tt
+before_by node (plain (Array row n) c v) h = tt
+before_by node (plain (Function function) c v) h = tt
+before_by node (plain Unknown c v) h = tt
+before_by node (pointer c v type) h = tt
+before_by node (array n type) h = before_by node type h
+
+before_is : (t : Typed) (extents : List Extent) → AreExtents t.shapes t.layouts (length t.shapes) extents → (node : ℕ) (rows : List ℕ)
+    → are_below (length t.shapes) rows ≡ true → list_all (λ row. is_before node (slice_index_or extents row no_extent).structure) rows ≡ true
+    → All (λ row. IsBefore node (type_at t.shapes row)) rows
+before_is t extents made node rows low h = λ k d lt.
+    let e = read rows k d lt in
+    let row = slice_index_or rows k d in
+    let there = ltb-true row (length t.shapes) (at_all (λ number. nat_lt number (length t.shapes)) rows k row low e) in
+    before_by node (type_at t.shapes row)
+    (ap (λ x. is_before node x.structure) (sym (made.each row there))
+    ∙ at_all (λ row. is_before node (slice_index_or extents row no_extent).structure) rows k row h e)
+
+count_is : (t : Typed) → HasColumns t → (k n : ℕ) → slice_get (counts_of t) k ≡ Some n → n ≡ length t.nodes
+count_is t columns k n e = eqb-true n (length t.nodes) (at_all (λ own. own == length t.nodes) (counts_of t) k n columns.counts e)
+
+pub typed_fits : (t : Typed) (extents : List Extent) → HasColumns t → HasNumbers t → PartsAreBelow t.nodes → AreSpans t.file t.tokens
+    → AreExtents t.shapes t.layouts (length t.shapes) extents → HasRoom t extents → IsTyped t
+typed_fits t extents columns numbers parts spans made room = record {
+  nodes_fit = columns.nodes_fit;
+  parts_below = parts;
+  spans = spans;
+  table = columns.table;
+  no_type = columns.no_type;
+  cells_fit = small t extents made room.small;
+  types_count = count_is t columns 0 (length t.types) refl;
+  types_rows = below_is (length t.shapes) t.types numbers.types;
+  named_count = count_is t columns 1 (length t.named) refl;
+  named_rows = below_is (length t.shapes) t.named numbers.named;
+  refs_count = count_is t columns 2 (length t.refs) refl;
+  refs_nodes = nodes_are (length t.nodes) t.refs numbers.refs;
+  valued_count = count_is t columns 3 (length t.valued) refl;
+  durations_count = count_is t columns 4 (length t.durations) refl;
+  constants_count = count_is t columns 5 (length t.constants) refl;
+  layouts_count = count_is t columns 6 (length t.layouts) refl;
+  members_count = count_is t columns 7 (length t.members) refl;
+  members_rows = all_below_is (length t.shapes) t.members numbers.members;
+  members_fit = λ k rows e.
+      let few = (room.members k rows e).few in
+      let is = sum_is t extents made rows (at_all (are_below (length t.shapes)) t.members k rows numbers.members e) in
+      omega (arith, few, is);
+  members_before = λ k rows e.
+      before_is t extents made k rows (at_all (are_below (length t.shapes)) t.members k rows numbers.members e) (room.members k rows e).before;
+  chosen_count = count_is t columns 8 (length t.chosen) refl;
+  parameters_count = count_is t columns 9 (length t.parameters) refl;
+  parameters_nodes = all_below_is (length t.nodes) t.parameters numbers.parameters;
+  plans_count = count_is t columns 10 (length t.plans) refl;
+  texts_count = count_is t columns 11 (length t.texts) refl;
+  main_node = columns.main_node;
+}

@@ -1,0 +1,96 @@
+-- What is tested of a typed unit's columns.
+use Rattle.std.specs.Prelude.{◌≡◌, ℕ, ◌*◌, ◌<◌, ◌≤◌, ◌==◌, ◌^◌, List, [], ◌∷◌, Bool, true, Option, None, Some, length, nat_lt, nat_le, slice_get, slice_index_or}
+use Rattle.std.specs.List.{list_all, sum_by}
+use Rattle.cr_syntax.specs.declared.typed.CType.{CType}
+use Rattle.cr_syntax.specs.declared.typed.CType.TheVariants.{Struct}
+use Rattle.cr_check_types.specs.declared.layout.Layout.{Layout}
+use Rattle.cr_check_types.specs.declared.shape.Shape.{Shape}
+use Rattle.cr_check_types.specs.Types.{Qualified, plain, pointer, array, unknown, type_at, IsTable}
+use Rattle.cr_check_types.specs.Layouts.{fitted, layout_of}
+use Rattle.cr_typed.specs.declared.typed.Typed.{Typed}
+use Rattle.cr_typed.specs.Typed.{MOST_CELLS}
+use Rattle.cr_typed_fit.specs.declared.extents.Extent.{Extent}
+
+-- ---- columns
+
+-- the entries of each column
+abbrev pub counts_of : Typed → List ℕ
+counts_of t =
+    length t.types ∷ length t.named ∷ length t.refs ∷ length t.valued ∷ length t.durations ∷ length t.constants ∷ length t.layouts
+    ∷ length t.members ∷ length t.chosen ∷ length t.parameters ∷ length t.plans ∷ length t.texts ∷ []
+
+abbrev pub are_all : ℕ → List ℕ → Bool
+are_all count counts = list_all (λ n. n == count) counts
+
+pub record HasColumns (t : Typed) : Type 0 where
+  pub nodes_fit : length t.nodes < 2 ^ 32
+  pub table : IsTable t.shapes
+  pub no_type : type_at t.shapes 0 ≡ unknown
+  pub counts : are_all (length t.nodes) (counts_of t) ≡ true
+  pub main_node : t.main < length t.nodes
+
+abbrev pub are_below : ℕ → List ℕ → Bool
+are_below most numbers = list_all (λ number. nat_lt number most) numbers
+
+abbrev pub are_all_below : ℕ → List (List ℕ) → Bool
+are_all_below most rows = list_all (are_below most) rows
+
+abbrev pub is_node : ℕ → Option ℕ → Bool
+is_node nodes None = true
+is_node nodes (Some number) = nat_lt number nodes
+
+-- rows and nodes are there
+pub record HasNumbers (t : Typed) : Type 0 where
+  pub types : are_below (length t.shapes) t.types ≡ true
+  pub named : are_below (length t.shapes) t.named ≡ true
+  pub refs : list_all (is_node (length t.nodes)) t.refs ≡ true
+  pub members : are_all_below (length t.shapes) t.members ≡ true
+  pub parameters : are_all_below (length t.nodes) t.parameters ≡ true
+
+-- ---- what types take
+
+abbrev pub no_extent : Extent
+no_extent = record { cells = 0; structure = None }
+
+-- the structure that a type is, or that the elements of its arrays are
+abbrev pub structure_within : Qualified → Option ℕ
+structure_within (plain (Struct node) c v) = Some node
+structure_within (plain of c v) = None
+structure_within (pointer c v t) = None
+structure_within (array n t) = structure_within t
+
+abbrev pub extent_of : List Layout → Qualified → Extent
+extent_of layouts type = record { cells = (layout_of layouts type).cells; structure = structure_within type }
+
+-- so many of a type
+abbrev pub times_over : ℕ → Extent → Extent
+times_over count one = record { cells = fitted (count * one.cells); structure = one.structure }
+
+-- those of the first so many rows
+pub record AreExtents (shapes : List Shape) (layouts : List Layout) (rows : ℕ) (extents : List Extent) : Type 0 where
+  pub count : length extents ≡ rows
+  pub each : (row : ℕ) → row < rows → slice_index_or extents row no_extent ≡ extent_of layouts (type_at shapes row)
+
+-- K7
+abbrev pub is_small : Extent → Bool
+is_small extent = nat_le extent.cells MOST_CELLS
+
+-- the structure is of an earlier node, if there is one (6.7.2.1p3)
+abbrev pub is_before : ℕ → Option ℕ → Bool
+is_before node None = true
+is_before node (Some inner) = nat_lt inner node
+
+abbrev pub cells_in : List Extent → ℕ → ℕ
+cells_in extents row = (slice_index_or extents row no_extent).cells
+
+-- the members of a structure, by their rows
+pub record AreSuited (extents : List Extent) (node : ℕ) (rows : List ℕ) : Type 0 where
+  pub few : sum_by (cells_in extents) rows ≤ MOST_CELLS
+  pub before : list_all (λ row. is_before node (slice_index_or extents row no_extent).structure) rows ≡ true
+
+abbrev pub AreMembers : List Extent → List (List ℕ) → Type 0
+AreMembers extents members = (node : ℕ) (rows : List ℕ) → slice_get members node ≡ Some rows → AreSuited extents node rows
+
+pub record HasRoom (t : Typed) (extents : List Extent) : Type 0 where
+  pub small : list_all is_small extents ≡ true
+  pub members : AreMembers extents t.members

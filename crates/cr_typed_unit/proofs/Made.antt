@@ -1,0 +1,57 @@
+-- The columns of a typed unit as they are made.
+use Rattle.std.proofs.Common.{◌≡◌, List, ℕ, [], subst}
+use Rattle.cr_syntax.specs.declared.unit.Unit as source
+use Rattle.cr_scopes.specs.declared.names.Names.{Names}
+use Rattle.cr_check_declarations.specs.declared.tree.Tree.{Tree}
+use Rattle.cr_typed.specs.declared.typed.Typed.{Typed}
+use Rattle.cr_typed_columns.specs.declared.judgement.Judgement.{Judgement}
+use Rattle.cr_typed_columns.specs.Reading.{parsed_of}
+use Rattle.cr_typed_columns.specs.Columns.{IsElaborated}
+use Rattle.cr_check.specs.declared.judged.Judged.{Judged}
+use Rattle.cr_check.specs.Checked.{IsSoundOf}
+use Rattle.cr_typed_unit.specs.Made.{IsMade}
+use Rattle.cr_typed_unit.specs.Typed.{AreColumnsOf, IsTypedOf}
+
+-- the columns are nothing of the literals
+pub with_texts : (names : Names) (judged : Judged) (texts : List (List ℕ)) (t : Tree) (j : Judgement)
+    → AreColumnsOf names (record { surroundings = judged.surroundings; texts = texts; table = judged.table; whole = judged.whole }) t j
+    → AreColumnsOf names judged t j
+with_texts names judged texts t j h = record {
+  table = h.table;
+  names_are = h.names_are;
+  spellings = h.spellings;
+  declarers = h.declarers;
+  above = h.above;
+  around = h.around;
+  facts = h.facts;
+  specified = h.specified;
+  declarators = h.declarators;
+  named = h.named;
+  declared = h.declared;
+  composites = h.composites;
+  statics = h.statics;
+  members = h.members;
+  layouts = h.layouts;
+  lines = h.lines;
+  results = h.results;
+  labels = h.labels;
+}
+
+pub typed_of : (file bytes : List ℕ) (unit : source.Unit) (names : Names) (judged rest : Judged) (texts : List (List ℕ)) (typed : Typed)
+    → (sound : IsSoundOf file unit names judged) → bytes ≡ file → texts ≡ judged.texts
+    → rest ≡ record { surroundings = judged.surroundings; texts = []; table = judged.table; whole = judged.whole }
+    → IsMade bytes unit texts names rest sound.tree typed → IsTypedOf file unit names typed
+typed_of file bytes unit names judged rest texts typed sound of_file of_texts of_judged made = record {
+  judged = judged;
+  by = record {
+    tree = sound.tree;
+    is = sound.is;
+    sound = sound.sound;
+    columns = made.columns;
+    are = with_texts names judged [] sound.tree made.columns
+        (subst (λ j. AreColumnsOf names j sound.tree made.columns) of_judged made.are);
+    elaborated = subst (λ b. IsElaborated b (parsed_of unit) judged.texts made.columns typed) of_file
+        (subst (λ ts. IsElaborated bytes (parsed_of unit) ts made.columns typed) of_texts made.elaborated);
+    fits = made.fits;
+  };
+}

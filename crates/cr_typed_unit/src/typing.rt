@@ -1,0 +1,99 @@
+// The typed unit of a judged one.
+ghost use Rattle.std.specs.Prelude.{◌≡◌, [], IfOk, OnOk};
+ghost use Rattle.cr_syntax.specs.Words.{AreSpans};
+ghost use Rattle.cr_typed.specs.Typed.{IsTyped};
+ghost use Rattle.cr_check.specs.Checked.{IsSoundOf};
+ghost use Rattle.cr_check_declarations.specs.declared.tree.Tree as tree;
+ghost use Rattle.cr_check_types.specs.Types.{type_at, unknown};
+ghost use Rattle.cr_typed_unit.specs.Made.{statics_in, IsMade};
+ghost use Rattle.cr_typed_unit.specs.Typed.{IsTypedOf};
+
+use crate::columns::{judgement_of, statics_of};
+use cr_check::Judged;
+use cr_rows::Row;
+use cr_scopes::Names;
+use cr_syntax::Unit;
+use cr_typed::Typed;
+use cr_typed_columns::typed as elaborated;
+use cr_typed_fit::fits;
+use std::alloc::{AllocError, Global};
+use std::mem;
+
+/// The typed unit of a unit that was judged and has no fault. The error is want of memory.
+pub fn typed(
+    alloc: Global,
+    file: &[u8],
+    unit: Unit,
+    names: &Names,
+    judged: Judged,
+) -> Result<Typed, AllocError>
+    requires spans { AreSpans file.now unit.tokens.list.items }
+    requires sound { IsSoundOf file.now unit names.now judged }
+    ensures { IfOk result (λ typed. IsTypedOf file.now unit names.now typed) }
+{
+    let mut judged = judged;
+    let typed = typed_by(alloc, file, unit, names, &mut judged);
+    drop(judged);
+    typed
+}
+
+fn typed_by(
+    alloc: Global,
+    file: &[u8],
+    unit: Unit,
+    names: &Names,
+    judged: &mut Judged,
+) -> Result<Typed, AllocError>
+    requires spans { AreSpans file.now unit.tokens.list.items }
+    requires sound { IsSoundOf file.now unit names.now judged.old }
+    ensures { IfOk result (λ typed. IsTypedOf file.now unit names.now typed) }
+{
+    let bytes = Row::from_vec(file.to_vec(alloc)?);
+    let statics = statics_of(alloc, file, &unit, judged)?;
+    let texts = texts_of(alloc, judged);
+    made(alloc, bytes, unit, texts, names, judged, statics.as_slice())
+}
+
+// The columns of what was judged of this unit, with these literals, where they fit it.
+fn made(
+    alloc: Global,
+    bytes: Row<u8>,
+    unit: Unit,
+    texts: Row<Row<u8>>,
+    names: &Names,
+    judged: &Judged,
+    statics: &[bool],
+) -> Result<Typed, AllocError>
+    requires spans { AreSpans bytes unit.tokens.list.items }
+    requires first { type_at judged.now.table 0 ≡ unknown }
+    ensures { (t : tree.Tree) → statics.now ≡ statics_in t judged.now.whole.typing.specified → IfOk result (IsMade bytes unit texts names.now judged.now t) }
+{
+    let columns = judgement_of(
+        names,
+        &judged.surroundings,
+        &judged.table,
+        &judged.whole,
+        statics,
+    );
+    let typed = elaborated(alloc, bytes, unit, texts, &columns)?;
+    fitting(alloc, &typed).and(Ok(typed))
+}
+
+// The bytes of the literals, which are taken out.
+fn texts_of(alloc: Global, judged: &mut Judged) -> Row<Row<u8>>
+    ensures texts { result ≡ judged.old.texts }
+    ensures rest { judged.new ≡ record { surroundings = judged.old.surroundings; texts = []; table = judged.old.table; whole = judged.old.whole } }
+{
+    mem::replace(&mut judged.texts, Row::new(alloc))
+}
+
+// Whether the columns fit the unit. Where they don't, that counts as want of memory.
+fn fitting(alloc: Global, typed: &Typed) -> Result<(), AllocError>
+    ensures { OnOk result (IsTyped typed.now) }
+{
+    if fits(alloc, typed)? {
+        Ok(())
+    } else {
+        Err(AllocError)
+    }
+}

@@ -1,8 +1,0 @@
-use Rattle.std.proofs.Common.{◌≡◌, ◌<◌, ℕ, false}
-use Rattle.cr_types.specs.Types.{type_at}
-use Rattle.cr_types.specs.Relations.{are_compatible}
-use Rattle.cr_types.proofs.table.Table.least_compatible.Given as goal
-
-abbrev pub invariant-loop-other : goal.invariant-loop-other
-invariant-loop-other l =
-    (r : ℕ) → r < l.other → are_compatible (type_at l.self r) (type_at l.self l.row) ≡ false

@@ -1,5 +1,0 @@
-use Rattle.cr_typing.proofs.OneTypedUnit.{one_typed_unit}
-use Rattle.cr_typing.proofs.laws.one_typed_unit.Goals as goal
-
-pub returns : goal.returns
-returns c = one_typed_unit

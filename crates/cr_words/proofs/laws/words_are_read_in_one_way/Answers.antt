@@ -1,5 +1,0 @@
-use Rattle.cr_words.proofs.Giving.{one_settings}
-use Rattle.cr_words.proofs.laws.words_are_read_in_one_way.Goals as goal
-
-pub returns : goal.returns
-returns c = one_settings

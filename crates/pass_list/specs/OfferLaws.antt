@@ -1,0 +1,291 @@
+-- A file has one offer, a level has no more variants than the file has bytes, and there are ten passes of 16 levels.
+use native.Mathlib.Omega.{arith}
+use mathlib.Core.Logic.{∥∥₁_elim}
+use Rattle.std.proofs.Props.{props}
+use Rattle.std.proofs.Common.{◌≡◌, ℕ, ◌+◌, ◌-◌, ◌<◌, ◌≤◌, Bool, true, false, List, [], ◌∷◌, Option, Some, None, length, map, if◌then◌else◌, ◌==◌, refl, sym, ap, subst, ◌∙◌, zero, suc, inl, inr}
+use Rattle.std.specs.Prelude.{nat_eq, nat_le, ◌&&◌, slice_index_or}
+use Rattle.std.specs.Int.{div_ceil}
+use Rattle.std.proofs.lemmas.Bool.{cases_lt}
+use Rattle.std.proofs.lemmas.Bool.Decides.{nat_tests}
+use Rattle.std.proofs.lemmas.List.{ext_get_or, get_or_past, length-append}
+use Rattle.std.proofs.lemmas.Option.{none-some}
+use Rattle.cr_tokens.specs.declared.token.Token.{Token}
+use Rattle.cr_tokens.specs.Tokens.{Tokenizes}
+use Rattle.cr_tokens.proofs.Measures.{falls_length}
+use Rattle.cr_cursor.specs.Variants.{Offer}
+use Rattle.pass_edit.specs.declared.change.Change.{Change}
+use Rattle.pass_levels.specs.Gathered.{gathered}
+use Rattle.pass_levels.specs.Places.{gone}
+use Rattle.pass_edit.specs.Menu.{Offering, level_of}
+use Rattle.cr_scopes.specs.declared.names.Names.{Names}
+use Rattle.cr_lawful_analysis.specs.Analysis.{IsRead, Read, Tree, no_tokens, no_unit, of_unit}
+use Rattle.cr_lawful_analysis.proofs.Same.{one_read}
+use Rattle.cr_printer.proofs.Neighbours.{prints_one_text}
+use Rattle.pass_text.specs.Lines.{chunk_of, chunks_of, lines_of}
+use Rattle.pass_text.specs.LineLaws.{chunk_some, div_ceil-le, lines_few}
+use Rattle.pass_text.specs.Runs.{runs_gone, t_offering}
+use Rattle.pass_text.specs.Brackets.{IsBracketOffering}
+use Rattle.pass_text.specs.Brackets.IsBracketOffering.{paired, unpaired}
+use Rattle.pass_text.proofs.BracketLemmas.{few_offered, one_offering}
+use Rattle.pass_stmts.specs.Printed.{IsPrintedOffering, f_offering}
+use Rattle.pass_names.specs.Renamed.{renaming_by}
+use Rattle.pass_names.specs.Short.{first_free}
+use Rattle.pass_list.specs.declared.pass.Pass.{Pass}
+use Rattle.pass_list.specs.declared.pass.Pass.TheVariants.{Brackets, Expressions, Inlined, Lines, NotThere, Parameters, Printed, Renamed, Runs, Statements, Unused}
+use Rattle.pass_list.specs.Passes.{levels_of, pass_by}
+use Rattle.pass_list.specs.Offers.{ByNames, ByStructures, ByTokens, ByTree, IfOn, IsKnown, IsOffered, Known, Offers, is_on, menu_at, nothing, offer_of}
+
+one_on : (on : Bool) (P : Offering → Type 0) (menu other : Offering) → (P menu → P other → menu ≡ other) → IfOn on P menu → IfOn on P other → menu ≡ other
+one_on true P menu other one is also = one is also
+one_on false P menu other one is also = is ∙ sym also
+
+-- what holds of a menu that is offered, and of nothing, holds of a pass's menu
+pub menu_on : (on : Bool) (IsIt P : Offering → Type 0) (menu : Offering) → (IsIt menu → P menu) → P nothing → IfOn on IsIt menu → P menu
+menu_on true IsIt P menu it none is = it is
+menu_on false IsIt P menu it none is = subst P (sym is) none
+
+by_tokens : (tokens : Option (List Token)) (P : List Token → Offering → Type 0) (Q : Offering → Type 0) (menu : Offering)
+    → ((ts : List Token) → tokens ≡ Some ts → P ts menu → Q menu) → Q nothing → ByTokens tokens P menu → Q menu
+by_tokens None P Q menu it none is = subst Q (sym is) none
+by_tokens (Some ts) P Q menu it none is = it ts refl is
+
+by_tree : (tree : Option Tree) (P : Tree → Offering → Type 0) (Q : Offering → Type 0) (menu : Offering)
+    → ((t : Tree) → P t menu → Q menu) → Q nothing → ByTree tree P menu → Q menu
+by_tree None P Q menu it none is = subst Q (sym is) none
+by_tree (Some t) P Q menu it none is = it t is
+
+by_names : (names : Option Names) (P : Names → Offering → Type 0) (Q : Offering → Type 0) (menu : Offering)
+    → ((n : Names) → P n menu → Q menu) → Q nothing → ByNames names P menu → Q menu
+by_names None P Q menu it none is = subst Q (sym is) none
+by_names (Some n) P Q menu it none is = it n is
+
+by_structures : (structures : Option (List (Option ℕ))) (P : List (Option ℕ) → Offering → Type 0) (Q : Offering → Type 0) (menu : Offering)
+    → ((s : List (Option ℕ)) → P s menu → Q menu) → Q nothing → ByStructures structures P menu → Q menu
+by_structures None P Q menu it none is = subst Q (sym is) none
+by_structures (Some s) P Q menu it none is = it s is
+
+-- Each pass offers one menu.
+one_by_tokens : (tokens : Option (List Token)) (P : List Token → Offering → Type 0) (menu other : Offering)
+    → ((ts : List Token) → P ts menu → P ts other → menu ≡ other) → ByTokens tokens P menu → ByTokens tokens P other → menu ≡ other
+one_by_tokens None P menu other one is also = is ∙ sym also
+one_by_tokens (Some ts) P menu other one is also = one ts is also
+
+one_by_tree : (tree : Option Tree) (P : Tree → Offering → Type 0) (menu other : Offering)
+    → ((t : Tree) → P t menu → P t other → menu ≡ other) → ByTree tree P menu → ByTree tree P other → menu ≡ other
+one_by_tree None P menu other one is also = is ∙ sym also
+one_by_tree (Some t) P menu other one is also = one t is also
+
+one_by_names : (names : Option Names) (P : Names → Offering → Type 0) (menu other : Offering)
+    → ((n : Names) → P n menu → P n other → menu ≡ other) → ByNames names P menu → ByNames names P other → menu ≡ other
+one_by_names None P menu other one is also = is ∙ sym also
+one_by_names (Some n) P menu other one is also = one n is also
+
+one_by_structures : (structures : Option (List (Option ℕ))) (P : List (Option ℕ) → Offering → Type 0) (menu other : Offering)
+    → ((s : List (Option ℕ)) → P s menu → P s other → menu ≡ other) → ByStructures structures P menu → ByStructures structures P other → menu ≡ other
+one_by_structures None P menu other one is also = is ∙ sym also
+one_by_structures (Some s) P menu other one is also = one s is also
+
+one_printed : (file : List ℕ) (tokens : List Token) (menu other : Offering) → IsPrintedOffering file tokens menu → IsPrintedOffering file tokens other → menu ≡ other
+one_printed file tokens menu other a b = a.is ∙ ap (f_offering file) (prints_one_text _ a.text b.text a.prints b.prints) ∙ sym b.is
+
+one_offered : (file : List ℕ) (read : Read) (pass : Pass) (menu other : Offering) → IsOffered file read pass menu → IsOffered file read pass other → menu ≡ other
+one_offered file read Lines menu other is also = is ∙ sym also
+one_offered file read Runs menu other is also = one_by_tokens read.tokens _ menu other (λ ts a b. a ∙ sym b) is also
+one_offered file read Brackets menu other is also = one_by_tokens read.tokens _ menu other (λ ts a b. one_offering file ts menu other a b) is also
+one_offered file read Unused menu other is also = one_by_tokens read.tokens _ menu other (λ ts. one_by_tree read.tree _ menu other (λ t. one_by_names read.names _ menu other
+    (λ n. one_by_structures read.structures _ menu other (λ s a b. a.offered ∙ sym b.offered)))) is also
+one_offered file read Statements menu other is also = one_by_tokens read.tokens _ menu other (λ ts. one_by_tree read.tree _ menu other (λ t a b. a.offered ∙ sym b.offered)) is also
+one_offered file read Expressions menu other is also = one_by_tokens read.tokens _ menu other (λ ts. one_by_tree read.tree _ menu other (λ t a b. a.offered ∙ sym b.offered)) is also
+one_offered file read Inlined menu other is also = one_by_tokens read.tokens _ menu other (λ ts. one_by_tree read.tree _ menu other (λ t. one_by_names read.names _ menu other (λ n a b. a.offered ∙ sym b.offered))) is also
+one_offered file read Parameters menu other is also = one_by_tokens read.tokens _ menu other (λ ts. one_by_tree read.tree _ menu other (λ t. one_by_names read.names _ menu other (λ n a b. a.offered ∙ sym b.offered))) is also
+one_offered file read Renamed menu other is also = one_by_tokens read.tokens _ menu other (λ ts. one_by_tree read.tree _ menu other (λ t. one_by_names read.names _ menu other (λ n a b. a.offered ∙ sym b.offered))) is also
+one_offered file read Printed menu other is also = one_by_tokens read.tokens _ menu other (λ ts. one_by_tree read.tree _ menu other (λ t a b. one_printed file ts menu other a.offered b.offered)) is also
+one_offered file read NotThere menu other is also = is ∙ sym also
+
+known_by : (enabled : List Bool) (file : List ℕ) (known other : Known) (a : IsKnown enabled file known) (b : IsKnown enabled file other) → a.read ≡ b.read → known ≡ other
+known_by enabled file known other a b read =
+    let lines = a.lines ∙ sym b.lines in
+    let menus = ext_get_or nothing known.menus other.menus (a.count ∙ sym b.count) (λ i low.
+    let below : i < 10 = subst (λ n. i < n) a.count low in
+    one_on (is_on enabled i) (IsOffered file a.read (pass_by i)) (menu_at known.menus i) (menu_at other.menus i)
+    (one_offered file a.read (pass_by i) (menu_at known.menus i) (menu_at other.menus i)) (a.menus i below)
+    (subst (λ r. IfOn (is_on enabled i) (IsOffered file r (pass_by i)) (menu_at other.menus i)) (sym read) (b.menus i below))) in
+    ap {B = Known} (λ x. record { lines = x; menus = known.menus }) lines ∙ ap {B = Known} (λ x. record { lines = other.lines; menus = x }) menus
+
+one_known : (enabled : List Bool) (file : List ℕ) (known other : Known) → IsKnown enabled file known → IsKnown enabled file other → known ≡ other
+one_known enabled file known other a b =
+    ∥∥₁_elim a.is_read (hlevel props) (λ is. ∥∥₁_elim b.is_read (hlevel props) (λ also. known_by enabled file known other a b (one_read file a.read b.read is also)))
+
+pub one_offer : (enabled : List Bool) (file : List ℕ) (o other : Offer) → Offers enabled file o → Offers enabled file other → o ≡ other
+one_offer enabled file o other a b = a.is ∙ ap (λ k. offer_of k file) (one_known enabled file a.known b.known a.is_known b.is_known) ∙ sym b.is
+
+-- No level stands at or above the number that its pass has.
+no_more : (levels : List (List (List Change))) (level : ℕ) → length levels ≤ level → length (slice_index_or levels level []) ≡ 0
+no_more levels level few = ap length (get_or_past levels level [] few)
+
+without : (menu offered : Offering) (n level : ℕ) → menu ≡ offered → length offered.levels ≡ n → n ≤ level → length (level_of menu level) ≡ 0
+without menu offered n level is count few = no_more menu.levels level (let same = ap (λ (m : Offering). length m.levels) is in omega (arith, same, count, few))
+
+without_brackets : (file : List ℕ) (tokens : List Token) (menu : Offering) (level : ℕ) → IsBracketOffering file tokens menu → 3 ≤ level → length (level_of menu level) ≡ 0
+without_brackets file tokens menu level (paired pairs nests is) few = without menu _ 3 level is refl few
+without_brackets file tokens menu level (unpaired none is) few = without menu _ 3 level is refl few
+
+one_renaming : (number : Option ℕ) (tokens : List Token) (names : Names) (reserved : List ℕ) → length (renaming_by number tokens names reserved).levels ≡ 1
+one_renaming None tokens names reserved = refl
+one_renaming (Some n) tokens names reserved = refl
+
+none_offered : (file : List ℕ) (read : Read) (pass : Pass) (menu : Offering) (level : ℕ) → IsOffered file read pass menu → levels_of pass ≤ level → length (level_of menu level) ≡ 0
+none_offered file read Lines menu level is few = without menu nothing 0 level is refl (omega arith)
+none_offered file read Runs menu level is few = by_tokens read.tokens _ (λ m. length (level_of m level) ≡ 0) menu (λ ts e a. without menu _ 5 level a refl few) refl is
+none_offered file read Brackets menu level is few = by_tokens read.tokens _ (λ m. length (level_of m level) ≡ 0) menu (λ ts e a. without_brackets file ts menu level a few) refl is
+none_offered file read Unused menu level is few = by_tokens read.tokens _ (λ m. length (level_of m level) ≡ 0) menu
+    (λ ts e. by_tree read.tree _ (λ m. length (level_of m level) ≡ 0) menu (λ t. by_names read.names _ (λ m. length (level_of m level) ≡ 0) menu
+    (λ n. by_structures read.structures _ (λ m. length (level_of m level) ≡ 0) menu (λ s a. without menu _ 4 level a.offered refl few) refl) refl) refl) refl is
+none_offered file read Statements menu level is few = by_tokens read.tokens _ (λ m. length (level_of m level) ≡ 0) menu
+    (λ ts e. by_tree read.tree _ (λ m. length (level_of m level) ≡ 0) menu (λ t a. without menu _ 6 level a.offered refl few) refl) refl is
+none_offered file read Expressions menu level is few = by_tokens read.tokens _ (λ m. length (level_of m level) ≡ 0) menu
+    (λ ts e. by_tree read.tree _ (λ m. length (level_of m level) ≡ 0) menu (λ t a. without menu _ 4 level a.offered refl few) refl) refl is
+none_offered file read Inlined menu level is few = by_tokens read.tokens _ (λ m. length (level_of m level) ≡ 0) menu
+    (λ ts e. by_tree read.tree _ (λ m. length (level_of m level) ≡ 0) menu (λ t. by_names read.names _ (λ m. length (level_of m level) ≡ 0) menu
+    (λ n a. without menu _ 2 level a.offered refl few) refl) refl) refl is
+none_offered file read Parameters menu level is few = by_tokens read.tokens _ (λ m. length (level_of m level) ≡ 0) menu
+    (λ ts e. by_tree read.tree _ (λ m. length (level_of m level) ≡ 0) menu (λ t. by_names read.names _ (λ m. length (level_of m level) ≡ 0) menu
+    (λ n a. without menu _ 1 level a.offered refl few) refl) refl) refl is
+none_offered file read Renamed menu level is few = by_tokens read.tokens _ (λ m. length (level_of m level) ≡ 0) menu
+    (λ ts e. by_tree read.tree _ (λ m. length (level_of m level) ≡ 0) menu (λ t. by_names read.names _ (λ m. length (level_of m level) ≡ 0) menu
+    (λ n a. without menu _ 1 level a.offered (one_renaming (first_free file ts) ts n _) few) refl) refl) refl is
+none_offered file read Printed menu level is few = by_tokens read.tokens _ (λ m. length (level_of m level) ≡ 0) menu
+    (λ ts e. by_tree read.tree _ (λ m. length (level_of m level) ≡ 0) menu (λ t a. without menu _ 1 level a.offered.is refl few) refl) refl is
+none_offered file read NotThere menu level is few = without menu nothing 0 level is refl (omega arith)
+
+few_levels : (pass : Pass) → levels_of pass ≤ 15
+few_levels Lines = omega arith
+few_levels Runs = omega arith
+few_levels Brackets = omega arith
+few_levels Unused = omega arith
+few_levels Statements = omega arith
+few_levels Expressions = omega arith
+few_levels Inlined = omega arith
+few_levels Parameters = omega arith
+few_levels Renamed = omega arith
+few_levels Printed = omega arith
+few_levels NotThere = omega arith
+
+-- A level has no more variants than the file has bytes.
+gathered_one : (f : ℕ → List Change) (n : ℕ) → length (gathered (λ at. f at ∷ []) n) ≡ n
+gathered_one f zero = refl
+gathered_one f (suc n) = let rest = gathered_one f n in let both = length-append (gathered (λ at. f at ∷ []) n) (f n ∷ []) in omega (arith, rest, both)
+
+runs_few : (file : List ℕ) (tokens : List Token) → Tokenizes file tokens → (more : ℕ) → length (runs_gone tokens more) ≤ length file
+runs_few file tokens is more =
+    let count = gathered_one (λ at. gone tokens at (at + more) ∷ []) (length tokens - more) in
+    let few = falls_length is.falls in omega (arith, count, few)
+
+level_few : (f : ℕ → List (List Change)) (ks : List ℕ) (most : ℕ) → ((k : ℕ) → length (f k) ≤ most) → (level : ℕ) → length (slice_index_or (map f ks) level []) ≤ most
+level_few f [] most few level = omega arith
+level_few f (k ∷ ks) most few zero = few k
+level_few f (k ∷ ks) most few (suc level) = level_few f ks most few level
+
+runs_offered : (file : List ℕ) (tokens : List Token) → Tokenizes file tokens → (level : ℕ) → length (level_of (t_offering tokens) level) ≤ length file
+runs_offered file tokens is level = level_few (runs_gone tokens) (15 ∷ (7 ∷ (3 ∷ (1 ∷ (0 ∷ []))))) (length file) (runs_few file tokens is) level
+
+pub read_tokens : (file : List ℕ) (read : Read) (tokens : List Token) → IsRead file read → read.tokens ≡ Some tokens → Tokenizes file tokens
+read_tokens file _ tokens (no_tokens none) e = absurd (none-some tokens e)
+read_tokens file _ tokens (no_unit {tokens = ts} is none) e = let same : ts ≡ tokens = cc in subst (Tokenizes file) same is
+read_tokens file _ tokens (of_unit {tokens = ts} is are) e = let same : ts ≡ tokens = cc in subst (Tokenizes file) same is
+
+-- a level that is tested, or isn't there
+tested : (most : ℕ) (menu : Offering) (level : ℕ) → ((level : ℕ) → level < 16 → length (level_of menu level) ≤ most) → (15 ≤ level → length (level_of menu level) ≡ 0) → length (level_of menu level) ≤ most
+tested most menu level few none = elim (cases_lt level 16) [ inl low ↦ few level low | inr high ↦ (let no = none (omega (arith, high)) in omega (arith, no)) ]
+
+few_in : (file : List ℕ) (read : Read) (pass : Pass) (menu : Offering) (level : ℕ) → IsRead file read → IsOffered file read pass menu → length (level_of menu level) ≤ length file
+few_in file read Lines menu level known is = let no = none_offered file read Lines menu level is in subst (λ (m : Offering). length (level_of m level) ≤ length file) (sym is) (omega arith)
+few_in file read Runs menu level known is = by_tokens read.tokens _ (λ m. length (level_of m level) ≤ length file) menu
+    (λ ts e a. subst (λ m. length (level_of m level) ≤ length file) (sym a) (runs_offered file ts (read_tokens file read ts known e) level)) (omega arith) is
+few_in file read Brackets menu level known is = by_tokens read.tokens _ (λ m. length (level_of m level) ≤ length file) menu
+    (λ ts e a. few_offered file ts menu level (read_tokens file read ts known e) a) (omega arith) is
+few_in file read Unused menu level known is = by_tokens read.tokens _ (λ m. length (level_of m level) ≤ length file) menu
+    (λ ts e. by_tree read.tree _ (λ m. length (level_of m level) ≤ length file) menu (λ t. by_names read.names _ (λ m. length (level_of m level) ≤ length file) menu
+    (λ n. by_structures read.structures _ (λ m. length (level_of m level) ≤ length file) menu
+    (λ s a. tested (length file) menu level a.few (λ high. none_offered file read Unused menu level is (omega (arith, high)))) (omega arith)) (omega arith)) (omega arith)) (omega arith) is
+few_in file read Statements menu level known is = by_tokens read.tokens _ (λ m. length (level_of m level) ≤ length file) menu
+    (λ ts e. by_tree read.tree _ (λ m. length (level_of m level) ≤ length file) menu
+    (λ t a. tested (length file) menu level a.few (λ high. none_offered file read Statements menu level is (omega (arith, high)))) (omega arith)) (omega arith) is
+few_in file read Expressions menu level known is = by_tokens read.tokens _ (λ m. length (level_of m level) ≤ length file) menu
+    (λ ts e. by_tree read.tree _ (λ m. length (level_of m level) ≤ length file) menu
+    (λ t a. tested (length file) menu level a.few (λ high. none_offered file read Expressions menu level is (omega (arith, high)))) (omega arith)) (omega arith) is
+few_in file read Inlined menu level known is = by_tokens read.tokens _ (λ m. length (level_of m level) ≤ length file) menu
+    (λ ts e. by_tree read.tree _ (λ m. length (level_of m level) ≤ length file) menu (λ t. by_names read.names _ (λ m. length (level_of m level) ≤ length file) menu
+    (λ n a. tested (length file) menu level a.few (λ high. none_offered file read Inlined menu level is (omega (arith, high)))) (omega arith)) (omega arith)) (omega arith) is
+few_in file read Parameters menu level known is = by_tokens read.tokens _ (λ m. length (level_of m level) ≤ length file) menu
+    (λ ts e. by_tree read.tree _ (λ m. length (level_of m level) ≤ length file) menu (λ t. by_names read.names _ (λ m. length (level_of m level) ≤ length file) menu
+    (λ n a. tested (length file) menu level a.few (λ high. none_offered file read Parameters menu level is (omega (arith, high)))) (omega arith)) (omega arith)) (omega arith) is
+few_in file read Renamed menu level known is = by_tokens read.tokens _ (λ m. length (level_of m level) ≤ length file) menu
+    (λ ts e. by_tree read.tree _ (λ m. length (level_of m level) ≤ length file) menu (λ t. by_names read.names _ (λ m. length (level_of m level) ≤ length file) menu
+    (λ n a. tested (length file) menu level a.few (λ high. none_offered file read Renamed menu level is (omega (arith, high)))) (omega arith)) (omega arith)) (omega arith) is
+few_in file read Printed menu level known is = by_tokens read.tokens _ (λ m. length (level_of m level) ≤ length file) menu
+    (λ ts e. by_tree read.tree _ (λ m. length (level_of m level) ≤ length file) menu
+    (λ t a. tested (length file) menu level a.few (λ high. none_offered file read Printed menu level is (omega (arith, high)))) (omega arith)) (omega arith) is
+few_in file read NotThere menu level known is = subst (λ (m : Offering). length (level_of m level) ≤ length file) (sym is) (omega arith)
+
+-- What holds of every menu that its pass offers, and of nothing, holds of what is known of a pass.
+known_menu : (enabled : List Bool) (file : List ℕ) (known : Known) (pass : ℕ) (Q : Offering → Type 0) → (is : IsKnown enabled file known)
+    → (IsOffered file is.read (pass_by pass) (menu_at known.menus pass) → Q (menu_at known.menus pass)) → Q nothing → Q (menu_at known.menus pass)
+known_menu enabled file known pass Q is it none = elim (cases_lt pass 10) [
+  | inl low ↦ menu_on (is_on enabled pass) (IsOffered file is.read (pass_by pass)) Q (menu_at known.menus pass) it none (is.menus pass low)
+  | inr high ↦ subst Q (sym (get_or_past known.menus pass nothing (let count = is.count in omega (arith, high, count)))) none
+]
+
+pub chunks_few : (lines pass level : ℕ) → chunks_of lines pass level ≤ lines
+chunks_few lines pass level = elim (nat_eq pass 0 && nat_le level 14) as (λ t. (if t then div_ceil lines (chunk_of level) else 0) ≤ lines) [
+  | true ↦ div_ceil-le lines (chunk_of level) (chunk_some level)
+  | false ↦ omega arith
+]
+
+lines_known : (b : Bool) (file : List ℕ) → (if b then length (lines_of file) else 0) ≤ length file
+lines_known true file = lines_few file
+lines_known false file = omega arith
+
+few_known : (enabled : List Bool) (file : List ℕ) (known : Known) (pass level : ℕ) → IsKnown enabled file known → (offer_of known file).widths pass level ≤ length file
+few_known enabled file known pass level is = elim (pass == 0) as (λ t. (if t then chunks_of known.lines 0 level else length (level_of (menu_at known.menus pass) level)) ≤ length file) [
+  | true ↦ (let chunks = chunks_few known.lines 0 level in let lines = lines_known (is_on enabled 0) file in let known_lines = is.lines in omega (arith, chunks, lines, known_lines))
+  | false ↦ known_menu enabled file known pass (λ m. length (level_of m level) ≤ length file) is
+      (λ offered. ∥∥₁_elim is.is_read (hlevel props) (λ read. few_in file is.read (pass_by pass) (menu_at known.menus pass) level read offered)) (omega arith)
+]
+
+pub few_variants : (enabled : List Bool) (file : List ℕ) (o : Offer) (pass level : ℕ) → Offers enabled file o → o.widths pass level ≤ length file
+few_variants enabled file o pass level it = subst (λ x. x.widths pass level ≤ length file) (sym it.is) (few_known enabled file it.known pass level it.is_known)
+
+-- There are 16 levels at most, and ten passes.
+no_chunks : (lines level : ℕ) → 15 ≤ level → chunks_of lines 0 level ≡ 0
+no_chunks lines level above = grind (arith, nat_tests)
+
+behind_lines : (pass chunks others : ℕ) → others ≡ 0 → (if suc pass == 0 then chunks else others) ≡ 0
+behind_lines pass chunks others none =
+    let apart : (suc pass == 0) ≡ false = grind (arith, nat_tests) in subst (λ b. (if b then chunks else others) ≡ 0) (sym apart) none
+
+-- how many levels the pass of a number has
+abbrev pub levels_at : ℕ → ℕ
+levels_at pass = levels_of (pass_by pass)
+
+none_known : (enabled : List Bool) (file : List ℕ) (known : Known) (pass level : ℕ) → IsKnown enabled file known → levels_at pass ≤ level → (offer_of known file).widths pass level ≡ 0
+none_known enabled file known zero level is few = no_chunks known.lines level few
+none_known enabled file known (suc pass) level is few = behind_lines pass (chunks_of known.lines 0 level) (length (level_of (menu_at known.menus (suc pass)) level))
+    (known_menu enabled file known (suc pass) (λ m. length (level_of m level) ≡ 0) is
+    (λ offered. none_offered file is.read (pass_by (suc pass)) (menu_at known.menus (suc pass)) level offered few) refl)
+
+-- No level stands at or above the number that its pass has.
+pub none_above : (enabled : List Bool) (file : List ℕ) (o : Offer) (pass level : ℕ) → Offers enabled file o → levels_at pass ≤ level → o.widths pass level ≡ 0
+none_above enabled file o pass level it few = subst (λ x. x.widths pass level ≡ 0) (sym it.is) (none_known enabled file it.known pass level it.is_known few)
+
+pub no_level : (enabled : List Bool) (file : List ℕ) (o : Offer) (pass level : ℕ) → Offers enabled file o → 15 < level → o.widths pass level ≡ 0
+no_level enabled file o pass level it above = none_above enabled file o pass level it (let few = few_levels (pass_by pass) in omega (arith, few, above))
+
+no_lines : (pass chunks others : ℕ) → 9 < pass → others ≡ 0 → (if pass == 0 then chunks else others) ≡ 0
+no_lines zero chunks others above none = absurd (omega (arith, above))
+no_lines (suc pass) chunks others above none = behind_lines pass chunks others none
+
+pub no_pass : (enabled : List Bool) (file : List ℕ) (o : Offer) (pass level : ℕ) → Offers enabled file o → 9 < pass → o.widths pass level ≡ 0
+no_pass enabled file o pass level it above = subst (λ x. x.widths pass level ≡ 0) (sym it.is)
+    (no_lines pass (chunks_of it.known.lines 0 level) (length (level_of (menu_at it.known.menus pass) level)) above
+    (let count = it.is_known.count in ap (λ (m : Offering). length (level_of m level)) (get_or_past it.known.menus pass nothing (omega (arith, above, count)))))

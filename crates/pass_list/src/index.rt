@@ -1,0 +1,275 @@
+// What is made once for a file.
+ghost use Rattle.std.specs.Prelude.{◌≡◌, ◌≤◌, true, IfOk, MatchOption, length};
+ghost use Rattle.cr_lawful_analysis.specs.Analysis.{IsAnalysis, read_of};
+ghost use Rattle.pass_list.specs.Offers.{AreMenus, ByNames, ByStructures, ByTokens, ByTree, HasFilesTokens, IfOn, IsFew, IsKnown, IsOfFew, IsOffered, is_on, menu_at, nothing};
+ghost use Rattle.pass_list.specs.Passes.{pass_by};
+ghost use Rattle.pass_exprs.specs.Expressions.{c_offering};
+ghost use Rattle.pass_inline.specs.Inlined.{i_offering};
+ghost use Rattle.pass_names.specs.Renamed.{r_offering};
+ghost use Rattle.pass_names.specs.Unused.{u_offering};
+ghost use Rattle.pass_params.specs.Parameters.{p_offering};
+ghost use Rattle.pass_stmts.specs.Printed.{IsPrintedOffering};
+ghost use Rattle.pass_stmts.specs.Statements.{s_offering};
+ghost use Rattle.pass_text.specs.Brackets.{IsBracketOffering};
+ghost use Rattle.pass_text.specs.Runs.{t_offering};
+
+use crate::pass::{Pass, pass_by};
+use cr_cursor::NoMemory;
+use cr_lawful_analysis::Analysis;
+use pass_edit::{Kept, Menu, width};
+use pass_exprs::expressions;
+use pass_inline::inlined;
+use pass_names::{renamed, unused};
+use pass_params::parameters;
+use pass_stmts::{printed, statements};
+use pass_text::{brackets, count_lines, runs_of_tokens};
+use std::alloc::{AllocError, Global};
+use std::marker::Model;
+
+/// What the enabled passes offer for a file: how many lines there are, and a menu for each other pass, by its number.
+#[derive(Drop)]
+pub struct Index {
+    lines: u64,
+    menus: Vec<Menu>,
+}
+
+impl Model for Index {
+    ghost use Rattle.std.specs.Prelude.{◌≤◌};
+    ghost use Rattle.pass_list.specs.Offers.{Known};
+
+    ghost Value = { Known };
+
+    ghost view = { λ i. record { lines = i.lines; menus = i.menus.items } };
+
+    ghost invariant = { λ i. i.lines ≤ 1048576 };
+}
+
+impl Index {
+    /// How many lines pass l goes by: those of the file, or none where it isn't enabled.
+    pub fn line_count(&self) -> u64
+        ensures lines { result ≡ self.now.lines }
+        ensures few { result ≤ 1048576 }
+    {
+        self.lines
+    }
+
+    /// What a pass behind the lines offers, if it is there.
+    pub fn menu(&self, pass: u8) -> Option<&Menu>
+        ensures { MatchOption result (menu_at self.now.menus pass ≡ nothing) (λ menu. menu.now ≡ menu_at self.now.menus pass) }
+    {
+        self.menus.get(pass as usize)
+    }
+}
+
+/// The index of a file of at most 1,048,576 bytes, of which this was read. The error is want of memory.
+pub fn index_of(
+    alloc: Global,
+    enabled: &[bool],
+    file: &[u8],
+    analysis: &Analysis,
+) -> Result<Index, NoMemory>
+    requires short { length file.now ≤ 1048576 }
+    requires analysis { ∥ IsAnalysis file.now analysis.now ∥₁ }
+    requires tokens { HasFilesTokens file.now analysis.now }
+    ensures { IfOk result (λ index. IsKnown enabled.now file.now index) }
+{
+    let lines = if is_on(enabled, 0) {
+        count_lines(file)
+    } else {
+        0
+    };
+    let menus = menus(alloc, enabled, file, analysis)?;
+    Ok(Index { lines, menus })
+}
+
+fn menus(
+    alloc: Global,
+    enabled: &[bool],
+    file: &[u8],
+    analysis: &Analysis,
+) -> Result<Vec<Menu>, NoMemory>
+    requires { HasFilesTokens file.now analysis.now }
+    ensures count { IfOk result (λ menus. length menus.items ≡ 10) }
+    ensures menus { IfOk result (λ menus. AreMenus enabled.now file.now (read_of analysis.now) 10 menus.items) }
+{
+    let mut menus = Vec::new(alloc);
+    for pass in 0..10 {
+        menus.push(menu(alloc, is_on(enabled, pass), pass, file, analysis)?)?;
+    }
+    Ok(menus)
+}
+
+fn is_on(enabled: &[bool], pass: usize) -> bool
+    ensures { result ≡ is_on enabled.now pass }
+{
+    match enabled.get(pass) {
+        Some(on) => *on,
+        None => false,
+    }
+}
+
+fn menu(
+    alloc: Global,
+    on: bool,
+    pass: usize,
+    file: &[u8],
+    analysis: &Analysis,
+) -> Result<Menu, NoMemory>
+    requires { HasFilesTokens file.now analysis.now }
+    ensures { IfOk result (IfOn on (IsOffered file.now (read_of analysis.now) (pass_by pass))) }
+{
+    if on {
+        offered(alloc, pass_by(pass), file, analysis)
+    } else {
+        Ok(nothing(alloc))
+    }
+}
+
+fn offered(alloc: Global, pass: Pass, file: &[u8], analysis: &Analysis) -> Result<Menu, NoMemory>
+    requires { HasFilesTokens file.now analysis.now }
+    ensures { IfOk result (IsOffered file.now (read_of analysis.now) pass) }
+{
+    match pass {
+        Pass::Lines | Pass::NotThere => Ok(nothing(alloc)),
+        Pass::Runs => runs(alloc, analysis),
+        Pass::Brackets => pairs(alloc, file, analysis),
+        Pass::Unused => unused_offered(alloc, file, analysis),
+        Pass::Statements => statements_offered(alloc, file, analysis),
+        Pass::Expressions => expressions_offered(alloc, file, analysis),
+        Pass::Inlined => inlined_offered(alloc, file, analysis),
+        Pass::Parameters => parameters_offered(alloc, file, analysis),
+        Pass::Renamed => renamed_offered(alloc, file, analysis),
+        Pass::Printed => printed_offered(alloc, file, analysis),
+    }
+}
+
+fn nothing(alloc: Global) -> Menu
+    ensures { result ≡ nothing }
+{
+    Menu::new(Vec::new(alloc), Kept::nothing(alloc))
+}
+
+fn runs(alloc: Global, analysis: &Analysis) -> Result<Menu, NoMemory>
+    ensures { IfOk result (ByTokens (read_of analysis.now).tokens (λ tokens menu. menu ≡ t_offering tokens)) }
+{
+    match analysis {
+        Analysis::NoTokens => Ok(nothing(alloc)),
+        Analysis::NoUnit(tokens) => runs_of_tokens(alloc, tokens.as_slice()),
+        Analysis::OfUnit(unit, _, _) => runs_of_tokens(alloc, unit.tokens.list.as_slice()),
+    }
+}
+
+fn pairs(alloc: Global, file: &[u8], analysis: &Analysis) -> Result<Menu, NoMemory>
+    ensures { IfOk result (ByTokens (read_of analysis.now).tokens (IsBracketOffering file.now)) }
+{
+    match analysis {
+        Analysis::NoTokens => Ok(nothing(alloc)),
+        Analysis::NoUnit(tokens) => brackets(alloc, file, tokens.as_slice()),
+        Analysis::OfUnit(unit, _, _) => brackets(alloc, file, unit.tokens.list.as_slice()),
+    }
+}
+
+fn unused_offered(alloc: Global, file: &[u8], analysis: &Analysis) -> Result<Menu, NoMemory>
+    ensures { IfOk result (ByTokens (read_of analysis.now).tokens (λ tokens. ByTree (read_of analysis.now).tree (λ tree. ByNames (read_of analysis.now).names (λ names. ByStructures (read_of analysis.now).structures (λ structures. IsOfFew (length file.now) (λ m. m ≡ u_offering file.now tokens tree.nodes tree.items names structures)))))) }
+{
+    match analysis {
+        Analysis::OfUnit(unit, names, structures) => {
+            let structures = structures.as_slice();
+            if_few(unused(alloc, file, unit, names, structures)?, file.len())
+        }
+        _ => Ok(nothing(alloc)),
+    }
+}
+
+fn inlined_offered(alloc: Global, file: &[u8], analysis: &Analysis) -> Result<Menu, NoMemory>
+    ensures { IfOk result (ByTokens (read_of analysis.now).tokens (λ tokens. ByTree (read_of analysis.now).tree (λ tree. ByNames (read_of analysis.now).names (λ names. IsOfFew (length file.now) (λ m. m ≡ i_offering tokens tree.nodes names))))) }
+{
+    match analysis {
+        Analysis::OfUnit(unit, names, _) => if_few(inlined(alloc, unit, names)?, file.len()),
+        _ => Ok(nothing(alloc)),
+    }
+}
+
+fn parameters_offered(alloc: Global, file: &[u8], analysis: &Analysis) -> Result<Menu, NoMemory>
+    ensures { IfOk result (ByTokens (read_of analysis.now).tokens (λ tokens. ByTree (read_of analysis.now).tree (λ tree. ByNames (read_of analysis.now).names (λ names. IsOfFew (length file.now) (λ m. m ≡ p_offering file.now tokens tree.nodes names))))) }
+{
+    match analysis {
+        Analysis::OfUnit(unit, names, _) => if_few(
+            parameters(alloc, file, unit, names)?,
+            file.len(),
+        ),
+        _ => Ok(nothing(alloc)),
+    }
+}
+
+fn renamed_offered(alloc: Global, file: &[u8], analysis: &Analysis) -> Result<Menu, NoMemory>
+    ensures { IfOk result (ByTokens (read_of analysis.now).tokens (λ tokens. ByTree (read_of analysis.now).tree (λ tree. ByNames (read_of analysis.now).names (λ names. IsOfFew (length file.now) (λ m. m ≡ r_offering file.now tokens tree.nodes tree.items names))))) }
+{
+    match analysis {
+        Analysis::OfUnit(unit, names, _) => if_few(renamed(alloc, file, unit, names)?, file.len()),
+        _ => Ok(nothing(alloc)),
+    }
+}
+
+fn statements_offered(alloc: Global, file: &[u8], analysis: &Analysis) -> Result<Menu, NoMemory>
+    ensures { IfOk result (ByTokens (read_of analysis.now).tokens (λ tokens. ByTree (read_of analysis.now).tree (λ tree. IsOfFew (length file.now) (λ m. m ≡ s_offering file.now tokens tree.nodes)))) }
+{
+    match analysis {
+        Analysis::OfUnit(unit, _, _) => {
+            let tokens = unit.tokens.list.as_slice();
+            if_few(
+                statements(alloc, file, tokens, unit.nodes.as_slice())?,
+                file.len(),
+            )
+        }
+        _ => Ok(nothing(alloc)),
+    }
+}
+
+fn expressions_offered(alloc: Global, file: &[u8], analysis: &Analysis) -> Result<Menu, NoMemory>
+    ensures { IfOk result (ByTokens (read_of analysis.now).tokens (λ tokens. ByTree (read_of analysis.now).tree (λ tree. IsOfFew (length file.now) (λ m. m ≡ c_offering tokens tree.nodes)))) }
+{
+    match analysis {
+        Analysis::OfUnit(unit, _, _) => {
+            let tokens = unit.tokens.list.as_slice();
+            if_few(
+                expressions(alloc, tokens, unit.nodes.as_slice())?,
+                file.len(),
+            )
+        }
+        _ => Ok(nothing(alloc)),
+    }
+}
+
+fn printed_offered(alloc: Global, file: &[u8], analysis: &Analysis) -> Result<Menu, NoMemory>
+    requires { HasFilesTokens file.now analysis.now }
+    ensures { IfOk result (ByTokens (read_of analysis.now).tokens (λ tokens. ByTree (read_of analysis.now).tree (λ tree. IsOfFew (length file.now) (IsPrintedOffering file.now tokens)))) }
+{
+    match analysis {
+        Analysis::OfUnit(unit, _, _) => if_few(printed(alloc, file, unit)?, file.len()),
+        _ => Ok(nothing(alloc)),
+    }
+}
+
+// The menu, where no level has more edits than so many. A level over a tree or its names never has: what it counts has a token of its own.
+fn if_few(menu: Menu, most: usize) -> Result<Menu, NoMemory>
+    ensures same { IfOk result (λ few. few ≡ menu) }
+    ensures few { IfOk result (IsFew most) }
+{
+    if is_few(&menu, most) {
+        Ok(menu)
+    } else {
+        Err(AllocError)
+    }
+}
+
+fn is_few(menu: &Menu, most: usize) -> bool
+    ensures { result ≡ true → IsFew most menu.now }
+{
+    for level in 0..16 {
+        if width(menu, level) > most as u64 {
+            return false;
+        }
+    }
+    true
+}

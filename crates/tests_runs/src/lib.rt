@@ -1,0 +1,30 @@
+//! The tests of `cr_reduce`, `cr_main_words` and `cr_main`, by public names alone.
+//!
+//! They stand above these crates, so that none of them proves its functions once more for its tests. It promises nothing,
+//! and stands on the crates that it tests and on what their values are made of.
+#![tactic(auto)]
+
+#[cfg(test)]
+mod outcomes;
+#[cfg(test)]
+mod programs;
+#[cfg(test)]
+mod reductions;
+#[cfg(test)]
+mod refusals;
+#[cfg(test)]
+mod rehearsed;
+#[cfg(test)]
+mod remembered;
+#[cfg(test)]
+mod rulings;
+#[cfg(test)]
+mod runs;
+#[cfg(test)]
+mod system;
+#[cfg(test)]
+mod tables;
+#[cfg(test)]
+mod words;
+#[cfg(test)]
+mod workers;
