@@ -34,7 +34,8 @@ turns() {
     }'
 }
 
-"$top/creduce" >/dev/null 2>&1 || true
+export CREDUCE_QUIET=1
+"$top/creduce" --limit 0 "has:;" gen:1:1 >/dev/null 2>&1 || true
 echo "lines  turns  seconds  turns a second"
 for lines in 100 1000 10000; do
     wanted=$((lines / 3))

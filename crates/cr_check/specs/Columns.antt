@@ -1,4 +1,4 @@
--- What a unit of a file is judged by.
+-- What a unit of a file is checked by.
 use Rattle.std.specs.Prelude.{◌≡◌, ℕ, List, [], None, slice_index_or}
 use Rattle.cr_tokens.specs.declared.token.Token.{Token}
 use Rattle.cr_syntax.specs.declared.node.Node.{Node}
@@ -20,9 +20,9 @@ use Rattle.cr_check_unit.specs.declared.statements.Whole.{Whole}
 use Rattle.cr_check_unit.specs.Typing.{IsTyping, AreWithin}
 use Rattle.cr_check_unit.specs.Statements.{AreMarked, IsUnitBroken}
 use Rattle.cr_check_definitions.specs.Known.{Known}
-use Rattle.cr_check.specs.declared.judged.Judged.{Judged}
+use Rattle.cr_check.specs.declared.checked.Checked.{Checked}
 
--- a typing of the unit by its surroundings, and what its statements are judged by
+-- a typing of the unit by its surroundings, and what its statements are checked by
 pub record IsWhole (file : List ℕ) (unit : source.Unit) (s : Surroundings) (texts : List (List ℕ)) (shapes : List Shape) (w : Whole) (u : Tree) : Type 0 where
   pub tree : IsTree file unit s u
   pub none : type_at shapes 0 ≡ unknown
@@ -31,7 +31,7 @@ pub record IsWhole (file : List ℕ) (unit : source.Unit) (s : Surroundings) (te
   pub marked : AreMarked shapes u w.typing w.marked
 
 -- the surroundings, the literals and the typing are those of the unit
-pub record IsJudged (file : List ℕ) (unit : source.Unit) (names : Names) (j : Judged) (u : Tree) : Type 0 where
+pub record IsChecked (file : List ℕ) (unit : source.Unit) (names : Names) (j : Checked) (u : Tree) : Type 0 where
   pub surroundings : AreSurroundings file unit names j.surroundings
   pub texts : AreTexts file unit.tokens.list.items unit.nodes j.texts
   pub whole : IsWhole file unit j.surroundings j.texts j.table j.whole u
@@ -40,11 +40,11 @@ pub record IsJudged (file : List ℕ) (unit : source.Unit) (names : Names) (j : 
 abbrev pub IsBrokenBy : List (List ℕ) → List Shape → Whole → Tree → Break → Type 0
 IsBrokenBy texts shapes w u b = IsUnitBroken u texts shapes w.typing w.marked b
 
-abbrev pub IsBrokenIn : Judged → Tree → Break → Type 0
+abbrev pub IsBrokenIn : Checked → Tree → Break → Type 0
 IsBrokenIn j u b = IsBrokenBy j.texts j.table j.whole u b
 
 -- what is known of the declarations
-abbrev pub known_by : List ℕ → List Token → List Node → Judged → Known
+abbrev pub known_by : List ℕ → List Token → List Node → Checked → Known
 known_by file tokens nodes j = record {
   nodes = nodes;
   spelling = spelling_of file tokens;
@@ -56,7 +56,7 @@ known_by file tokens nodes j = record {
   named = λ node. type_at j.table (slice_index_or j.whole.typing.named node 0);
 }
 
-abbrev pub known_in : List ℕ → source.Unit → Judged → Known
+abbrev pub known_in : List ℕ → source.Unit → Checked → Known
 known_in file unit j = known_by file unit.tokens.list.items unit.nodes j
 
 -- and the first break is known
@@ -65,7 +65,7 @@ pub record IsWholeFirst (file : List ℕ) (unit : source.Unit) (s : Surroundings
   pub is : IsWhole file unit s texts shapes w tree
   pub first : IsFirst (IsBrokenBy texts shapes w tree) w.broken
 
-pub record IsJudgedFirst (file : List ℕ) (unit : source.Unit) (names : Names) (j : Judged) : Type 0 where
+pub record IsCheckedFirst (file : List ℕ) (unit : source.Unit) (names : Names) (j : Checked) : Type 0 where
   pub tree : Tree
-  pub is : IsJudged file unit names j tree
+  pub is : IsChecked file unit names j tree
   pub first : IsFirst (IsBrokenIn j tree) j.whole.broken

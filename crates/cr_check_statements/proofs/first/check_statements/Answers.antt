@@ -2,7 +2,7 @@ use Rattle.std.proofs.Common.{sym, subst, ◌+◌, arith}
 use Rattle.cr_check_expressions.specs.Breaks.{IsFirst}
 use Rattle.cr_check_statements.specs.Setting.{scene_of}
 use Rattle.cr_check_statements.proofs.Firsts.{IsBrokenBelow, next, all}
-use Rattle.cr_check_statements.proofs.judged.judge.Goals as goal
+use Rattle.cr_check_statements.proofs.first.check_statements.Goals as goal
 
 pub loop-at-preserved : goal.loop-at-preserved
 loop-at-preserved c =

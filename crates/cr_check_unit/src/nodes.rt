@@ -18,19 +18,19 @@ use std::alloc::{AllocError, Global};
 
 /// What each node of a unit has, and the first constraint that an expression or a declaration breaks.
 #[derive(Drop)]
-pub struct Judged {
+pub struct CheckedNodes {
     pub typing: Typing,
     pub broken: Option<Break>,
 }
 
-/// Judges the expressions and declarations of a unit. `texts` has the bytes of each string literal, with its closing zero. The
+/// Checks the expressions and declarations of a unit. `texts` has the bytes of each string literal, with its closing zero. The
 /// table's first row is that of no type. The error is want of memory.
-pub fn judge(
+pub fn check_nodes(
     alloc: Global,
     table: &mut Table,
     tree: &Tree,
     texts: &[Row<u8>],
-) -> Result<Judged, AllocError>
+) -> Result<CheckedNodes, AllocError>
     requires spans { AreSpans tree.now.file.now tree.now.tokens.now }
     requires first { IsRow table.old 0 unknown }
     ensures within { IfOk result (λ j. AreWithin table.new j.typing) }
@@ -39,14 +39,14 @@ pub fn judge(
     ensures grows { OnOk result (Grows table.old table.new) }
 {
     let mut typing = empty(alloc);
-    let broken = judge_each(alloc, table, tree, texts, &mut typing);
+    let broken = check_each(alloc, table, tree, texts, &mut typing);
     let (broken, typing) = holding(broken, typing)?;
-    Ok(Judged { typing, broken })
+    Ok(CheckedNodes { typing, broken })
 }
 
 // Puts what each node has to the columns, and answers the first row that one breaks.
 #[tactic(auto, using(crate::proofs::Steps::none_yet, crate::proofs::Steps::all_typed, crate::proofs::Steps::first_of_all))]
-fn judge_each(
+fn check_each(
     alloc: Global,
     table: &mut Table,
     tree: &Tree,
@@ -64,7 +64,7 @@ fn judge_each(
     make_room(typing, tree.nodes.len())?;
     let mut broken = None;
     for at in 0..tree.nodes.len() {
-        let one = judge_node(alloc, table, tree, texts, typing, at)?;
+        let one = check_node(alloc, table, tree, texts, typing, at)?;
         broken = lesser(broken, one.broken);
         push(typing, one.entry)?;
     }
@@ -78,7 +78,7 @@ struct One {
     broken: Option<Break>,
 }
 
-fn judge_node(
+fn check_node(
     alloc: Global,
     table: &mut Table,
     tree: &Tree,

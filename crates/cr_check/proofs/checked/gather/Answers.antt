@@ -4,15 +4,15 @@ use Rattle.cr_scopes.specs.declared.names.Names.{Names}
 use Rattle.cr_holding.proofs.Kept.{kept}
 use Rattle.cr_check_literals.specs.Texts.{AreTexts}
 use Rattle.cr_check_surroundings.specs.Surroundings.{AreSurroundings}
-use Rattle.cr_check.specs.declared.judged.Judged.{Judged}
-use Rattle.cr_check.specs.Judged.{IsJudgedFirst, IsWholeFirst}
-use Rattle.cr_check.proofs.judged.judgement.Goals as goal
+use Rattle.cr_check.specs.declared.checked.Checked.{Checked}
+use Rattle.cr_check.specs.Columns.{IsCheckedFirst, IsWholeFirst}
+use Rattle.cr_check.proofs.checked.gather.Goals as goal
 
--- what is judged, by what it is judged by
-judged_by : (file : List ℕ) (unit : source.Unit) (names : Names) (j : Judged) → AreSurroundings file unit names j.surroundings
+-- what is checked, by what it is checked by
+checked_by : (file : List ℕ) (unit : source.Unit) (names : Names) (j : Checked) → AreSurroundings file unit names j.surroundings
     → AreTexts file unit.tokens.list.items unit.nodes j.texts → IsWholeFirst file unit j.surroundings j.texts j.table j.whole
-    → IsJudgedFirst file unit names j
-judged_by file unit names j surroundings texts whole = record {
+    → IsCheckedFirst file unit names j
+checked_by file unit names j surroundings texts whole = record {
   tree = whole.tree;
   is = record { surroundings = surroundings; texts = texts; whole = whole.is };
   first = whole.first;
@@ -31,7 +31,7 @@ returns c =
     let same = sym c.from_vec.ensures in
     let (is, held) = kept (λ w. IsWholeFirst file unit first c.deref.result.now table w) c.whole_of-whole.result first (whole, s)
     (sym c.holding.ensures ∙ c.in_ok-whole.was) c.whole_of-whole.ensures in
-    judged_by file unit names (record { surroundings = s; texts = c.from_vec.result; table = table; whole = whole })
+    checked_by file unit names (record { surroundings = s; texts = c.from_vec.result; table = table; whole = whole })
     (subst (AreSurroundings file unit names) held c.in_ok-surroundings.ensures)
     (subst (AreTexts file unit.tokens.list.items unit.nodes) same
     (subst (λ ns. AreTexts file unit.tokens.list.items ns texts) c.as_slice.ensures

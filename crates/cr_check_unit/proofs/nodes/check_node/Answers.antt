@@ -4,7 +4,7 @@ use Rattle.cr_check_expressions.specs.Breaks.{first_of, lesser}
 use Rattle.cr_check_unit.specs.Typing.{IsRuledIf}
 use Rattle.cr_check_unit.specs.Breaks.{expression_faults, declaration_faults, initialiser_faults, linked_faults}
 use Rattle.cr_check_unit.proofs.Kept.{all_kept}
-use Rattle.cr_check_unit.proofs.judged.judge_node.Goals as goal
+use Rattle.cr_check_unit.proofs.nodes.check_node.Goals as goal
 
 pub broken-requires-clause-within : goal.broken-requires-clause-within
 broken-requires-clause-within c =

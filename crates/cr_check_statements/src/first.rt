@@ -5,7 +5,7 @@ ghost use Rattle.cr_check_statements.specs.Setting.{scene_of, AreResults};
 ghost use Rattle.cr_check_statements.specs.Statements.{faults_of, IsBroken};
 
 use crate::setting::Setting;
-use crate::statements::broken;
+use crate::statements::statement_break;
 use cr_check_expressions::{Break, lesser};
 use cr_check_types::Table;
 use cr_syntax::number_of;
@@ -14,7 +14,7 @@ use std::alloc::AllocError;
 /// The first constraint that a statement of a unit breaks; None where none is broken. The error is want of memory, which comes only
 /// where the number of a node doesn't fit 32 bits.
 #[tactic(auto, using(crate::proofs::Firsts::none_yet))]
-pub fn judge(table: &Table, setting: &Setting) -> Result<Option<Break>, AllocError>
+pub fn check_statements(table: &Table, setting: &Setting) -> Result<Option<Break>, AllocError>
     requires facts { AreFacts table.now setting.now.facts.now }
     requires results { AreResults (length table.now) setting.now }
     ensures { IfOk result (λ first. IsFirst (IsBroken (scene_of table.now setting.now)) first) }
@@ -33,5 +33,5 @@ fn node_fault(table: &Table, setting: &Setting, at: usize) -> Result<Option<Brea
     ensures { IfOk result (λ fault. fault ≡ first_of (faults_of (scene_of table.now setting.now) at)) }
 {
     let number = number_of(at)?;
-    Ok(broken(table, setting, number, &setting.nodes[at]))
+    Ok(statement_break(table, setting, number, &setting.nodes[at]))
 }

@@ -7,10 +7,10 @@ use cr_check_types::{Layout, Table};
 use cr_rows::Row;
 use cr_scopes::Names;
 
-/// What was judged of a unit's nodes. Where nothing else is said a column has one entry a node, and what is not there is as nothing
+/// What was checked of a unit's nodes. Where nothing else is said a column has one entry a node, and what is not there is as nothing
 /// known. A row is one of the table.
 #[derive(Clone, Copy)]
-pub struct Judgement<'a> {
+pub struct CheckedColumns<'a> {
     pub table: &'a Table,
     pub names: &'a Names,
     /// For each token the number of its spelling.
