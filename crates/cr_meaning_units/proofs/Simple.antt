@@ -217,7 +217,7 @@ module _ (t : Typed) (unit : AreOfUnit t) where
   simple defined node n at kind.Do e h = plain t node (op_by t node kind.Do) refl (do_parts (parts_at t node) (all_parts t unit node kind.Do e refl))
   simple defined node n at kind.Cast e h = leaf t node _ (part_at t node 1 ∷ []) _ refl (alone t (part_at t node 1) (all_parts t unit node kind.Cast e refl 1 (part_at t node 1) (part_there t unit node n kind.Cast 1 at e (omega arith))))
   simple defined node n at kind.AddressOf e h = addresses node (part_at t node 0) (kind_at t (part_at t node 0)) refl (all_parts t unit node kind.AddressOf e refl)
-  simple defined node n at kind.Call e h = calls node (callee_of t node) (parts_at t node) (defined node) (all_parts t unit node kind.Call e refl)
+  simple defined node n at kind.Call e h = calls node (callee_of t node) (parts_at t node) (λ parameters rest is_main is. defined node parameters rest is_main e is) (all_parts t unit node kind.Call e refl)
   simple defined node n at kind.Label e h = leaf t node _ (labelled t node ∷ []) _ refl (alone t (labelled t node) (subst (OwnsNone t) (sym (label_part node (ap is_case e)))
       (all_parts t unit node kind.Label e refl 0 (part_at t node 0) (part_there t unit node n kind.Label 0 at e (omega arith)))))
   simple defined node n at kind.Default e h = leaf t node _ (labelled t node ∷ []) _ refl (alone t (labelled t node) (subst (OwnsNone t) (sym (label_part node (ap is_case e)))

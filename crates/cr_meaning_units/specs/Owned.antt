@@ -70,7 +70,8 @@ AreDeclaredOnce t = (declarator : ℕ) → is_automatic t declarator ≡ true �
 
 -- a called function is defined (6.9p5), so that its body is a block
 abbrev pub AreDefined : Typed → Type 0
-AreDefined t = (node : ℕ) (parameters : List Parameter) (rest : ℕ) (is_main : Bool) → callee_of t node ≡ Function parameters rest is_main → kind_at t rest ≡ kind.Compound
+AreDefined t = (node : ℕ) (parameters : List Parameter) (rest : ℕ) (is_main : Bool) → kind_at t node ≡ kind.Call → callee_of t node ≡ Function parameters rest is_main
+    → kind_at t rest ≡ kind.Compound
 
 -- all of it: what the grammar, the initialisers and the names of a unit give
 pub record IsWellDeclared (t : Typed) : Type 0 where
