@@ -7,7 +7,8 @@ top=$(cd "$(dirname "${BASH_SOURCE[0]}")/.." && pwd)
 most=${1:-900}
 folder=$(mktemp -d)
 trap 'rm -rf "$folder"' EXIT
-"$top/creduce" >/dev/null || true # so that it is built
+export CREDUCE_QUIET=1
+"$top/creduce" --limit 0 "has:;" gen:1:1 >/dev/null 2>&1 || true
 
 # One reduction in a folder of its own: what it is called, the test, and the words before it.
 reduction() {
