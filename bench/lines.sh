@@ -1,7 +1,7 @@
 #!/usr/bin/env bash
 # Times reductions of a main of many lines, of which one has the wanted token: seconds, and turns a second.
 # By hand only: bench/lines.sh. A turn is one look at one variant; the turns are counted here from the rules of the lines
-# pass (docs/DEFINITIONS.md), apart from the program.
+# pass (crates/pass_text/README.md), apart from the program.
 set -eu
 top=$(cd "$(dirname "${BASH_SOURCE[0]}")/.." && pwd)
 folder=$(mktemp -d)
