@@ -1,5 +1,5 @@
 -- Files: an optional map from names to bytes. A name and a file are lists of bytes.
-use Rattle.std.specs.Prelude.{◌≡◌, ◌⊎◌, ℕ, List, [], ◌∷◌, take, Option, Some, None, Result, Ok, Err}
+use Rattle.std.specs.Prelude.{◌≡◌, ℕ, List, take, Option, Some, None}
 use Rattle.std.specs.Ordering.{nat_cmp}
 use Rattle.std.specs.Cmp.Lexicographic.{slice_cmp}
 use Rattle.std.specs.FinMap as map
@@ -7,7 +7,6 @@ use Rattle.std.specs.FinMap.{FinMap}
 use Rattle.std.specs.Option.{option_map}
 use Rattle.cr_outside.specs.declared.files.ReadAnswer.{ReadAnswer}
 use Rattle.cr_outside.specs.declared.files.ReadAnswer.TheVariants.{Bytes, Absent}
-use Rattle.cr_outside.specs.declared.files.FileFault.{FileFault}
 
 abbrev pub Names : Type 0
 Names = FinMap (slice_cmp nat_cmp) (List ℕ)
@@ -32,8 +31,3 @@ abbrev pub Reads : Option Names → List ℕ → ℕ → ReadAnswer → Type 0
 Reads (Some files) name most (Bytes bytes) = Shows (content_of files name) most bytes.items
 Reads (Some files) name most Absent = content_of files name ≡ None
 Reads _ _ _ _ = Unit {0}
-
--- What a write leaves: the pair is put, and after a refusal it may be put.
-abbrev pub Writes : Option Names → Option Names → List ℕ → List ℕ → Result (Unit {0}) FileFault → Type 0
-Writes old new name bytes (Ok _) = new ≡ put_told name bytes old
-Writes old new name bytes (Err _) = (new ≡ old) ⊎ (new ≡ put_told name bytes old)

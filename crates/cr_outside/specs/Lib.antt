@@ -1,5 +1,7 @@
 pub mod Faults
 pub mod Files
+pub mod Story
+pub mod Calls
 pub mod Sink
 pub mod Judge
 pub mod MemFiles

@@ -1,5 +1,5 @@
 -- What a question answers about a file, and what it does to the judge.
-use Rattle.std.specs.Prelude.{◌≡◌, ◌⊎◌, ℕ, Bool, true, false, List, Option, Some, None}
+use Rattle.std.specs.Prelude.{◌≡◌, ◌⊎◌, ℕ, Bool, true, false, List, Option, Some}
 use Rattle.cr_outside.specs.Faults.{raised}
 use Rattle.cr_outside.specs.Judge.{Call, Gains}
 use Rattle.cr_outside.specs.declared.judge.Answer.{Answer}

@@ -1,7 +1,7 @@
 // The files of the operating system.
 ghost use Rattle.std.specs.Prelude.{◌≡◌, None};
 
-use cr_outside::{FileFault, Files, ReadAnswer};
+use cr_outside::{FileFault, Files, Outside, ReadAnswer};
 use std::alloc::Global;
 use std::io::{ErrorKind, Read};
 use std::rt::Files as SystemFiles;
@@ -38,9 +38,11 @@ fn read_most<R: SystemFiles>(
     Ok(bytes)
 }
 
-impl<R: SystemFiles> Files for StdFiles<'_, R> {
-    ghost told = { λ _. None };
+impl<R> Outside for StdFiles<'_, R> {
+    ghost story = { λ _. None };
+}
 
+impl<R: SystemFiles> Files for StdFiles<'_, R> {
     ghost faults = { λ s. s.faults };
 
     fn read(&mut self, alloc: Global, name: &str, most: usize) -> ReadAnswer {

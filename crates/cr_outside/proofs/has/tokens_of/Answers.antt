@@ -1,4 +1,3 @@
-use Rattle.std.proofs.Common.{true}
 use Rattle.cr_outside.proofs.Texts.{no_list}
 use Rattle.cr_outside.proofs.has.tokens_of.Goals as goal
 

@@ -1,4 +1,4 @@
-use Rattle.std.proofs.Common.{◌≡◌, true, subst, sym}
+use Rattle.std.proofs.Common.{subst, sym}
 use Rattle.cr_tokens.specs.Runs.{spellings, StandsIn}
 use Rattle.cr_outside.specs.HasText.{HasText}
 use Rattle.cr_outside.proofs.Texts.{stands_of}
