@@ -9,28 +9,28 @@ use Rattle.cr_outside_disk.specs.Moments.{Later, Always, AlwaysTold, Every, Ever
 use Rattle.cr_outside_disk.proofs.Images.{seen_is_image}
 
 -- the story before its newest event
-abbrev back : Story → Story
+abbrev pub back : Story → Story
 back s = record { files = s.files; journal = s.journal; events = drop 1 s.events }
 
-longer : (changes : List Change) (s : Story) → length (after_changes changes s).events ≡ length changes + length s.events
+pub longer : (changes : List Change) (s : Story) → length (after_changes changes s).events ≡ length changes + length s.events
 longer [] s = omega arith
 longer (change ∷ older) s = omega (arith, longer older s)
 
-one_after_another : (newer older : List Change) (s : Story) → after_changes newer (after_changes older s) ≡ after_changes (newer ++ older) s
+pub one_after_another : (newer older : List Change) (s : Story) → after_changes newer (after_changes older s) ≡ after_changes (newer ++ older) s
 one_after_another [] older s = refl
 one_after_another (change ∷ newer) older s = ap (gone_on (Changed change)) (one_after_another newer older s)
 
-later_same : (s : Story) → Later s s
+pub later_same : (s : Story) → Later s s
 later_same s = ([], refl)
 
-later_more : (old new : Story) (change : Change) → Later old new → Later old (gone_on (Changed change) new)
+pub later_more : (old new : Story) (change : Change) → Later old new → Later old (gone_on (Changed change) new)
 later_more old new change (more, is) = (change ∷ more, ap (gone_on (Changed change)) is)
 
 always_more : (P : List ℕ → Type 0) (old new : Story) (change : Change) → Always P old new → Every P (gone_on (Changed change) new) → Always P old (gone_on (Changed change) new)
 always_more P old new change so_far now moment after ([], is) = subst (λ (s : Story). Every P s) is now
 always_more P old new change so_far now moment after (c ∷ more, is) = so_far moment after (more, ap back is)
 
-later_on : (old mid new : Story) → Later old mid → Later mid new → Later old new
+pub later_on : (old mid new : Story) → Later old mid → Later mid new → Later old new
 later_on old mid new (more, is) (most, goes) = (most ++ more, goes ∙ ap (after_changes most) is ∙ one_after_another most more old)
 
 always_same : (P : List ℕ → Type 0) (s : Story) → Every P s → Always P s s
@@ -98,7 +98,7 @@ settled_cut Q P None len was each = was
 settled_cut Q P (Some s) len was each = λ image is. subst P (sym is) (each (seen s) (was (seen s) (seen_is_image s.journal (changes_of s.events))))
 
 -- Of two stories that go on to one, one goes on to the other.
-ends_of : (xs ys : List Change) (a b : Story) → after_changes xs a ≡ after_changes ys b → Later b a ⊎ Later a b
+pub ends_of : (xs ys : List Change) (a b : Story) → after_changes xs a ≡ after_changes ys b → Later b a ⊎ Later a b
 ends_of [] ys a b is = inl (ys, is)
 ends_of (x ∷ xs) [] a b is = inr (x ∷ xs, sym is)
 ends_of (x ∷ xs) (y ∷ ys) a b is = ends_of xs ys a b (ap back is)

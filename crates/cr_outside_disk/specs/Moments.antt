@@ -45,6 +45,17 @@ AlwaysTold P None (Some new) = ⊥
 AlwaysTold P (Some old) None = ⊥
 AlwaysTold P (Some old) (Some new) = Later old new × Always P old new
 
+-- What holds of every image at a moment from the one to the other holds of every image at each later one.
+abbrev pub Lasts : (List ℕ → Type 0) → Story → Story → Type 0
+Lasts P old new = (m n : Story) → Later old m → Later m n → Later n new → Every P m → Every P n
+
+-- The told story has gone on by changes of the journal alone, and what held of each image at a moment on the way still does.
+abbrev pub LastsTold : (List ℕ → Type 0) → Option Story → Option Story → Type 0
+LastsTold P None None = Unit {0}
+LastsTold P None (Some new) = ⊥
+LastsTold P (Some old) None = ⊥
+LastsTold P (Some old) (Some new) = Later old new × Lasts P old new
+
 abbrev pub with_change : Change → Option Story → Option Story
 with_change change told = with_event (Changed change) told
 
