@@ -2,7 +2,8 @@
 use Rattle.std.proofs.Common.{◌≡◌, ◌≢◌, ◌⊎◌, inl, inr, ℕ, ◌+◌, ◌-◌, ◌*◌, ◌<◌, ◌≤◌, List, [], ◌∷◌, ◌++◌, length, get_or, take, drop, Option, Some, None, Vec, refl, sym, ◌∙◌, ap, subst, arith, append_assoc, length-append, length-drop, take-append-drop}
 use Rattle.std.proofs.lemmas.List.{drop-drop, drop_at, take_all, append-nil}
 use Rattle.cr_journal_records.specs.Records.{Body, blocks, StandsFirst, Reads, AtRest, HasGate, IsKept}
-use Rattle.cr_outside.specs.Story.{Story}
+use Rattle.cr_outside.specs.Story.{Story, changes_of}
+use Rattle.cr_outside_disk.proofs.Images.{seen_is_image}
 use Rattle.cr_outside_disk.specs.Moments.{EveryTold, HasLength, Gives, seen, with_change}
 use Rattle.cr_outside.specs.Story.Change.{Synced}
 use Rattle.cr_journal_records.proofs.Blocks.{Sized, length_blocks, blocks_push, sized_push, reads_on, split, sized}
@@ -135,3 +136,10 @@ opened (Some s) at record_read body gives is = sym gives ∙ is
 pub some_bodies : (vecs : List (Vec ℕ Global)) → vecs ≢ [] → bodies_of vecs ≢ []
 some_bodies [] some = λ none. some refl
 some_bodies (v ∷ more) some = λ none. absurd (cc none)
+
+-- where they stand in every image, they are read
+pub rest_reads : (bodies : List Body) (told : Option Story) → EveryTold (AtRest bodies) told → ReadsTold told bodies
+rest_reads bodies None rests = tt
+rest_reads bodies (Some s) rests =
+    let (behind, reads) = rests (seen s) (seen_is_image s.journal (changes_of s.events)) in
+    (0 ∷ behind, reads)

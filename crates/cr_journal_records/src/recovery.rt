@@ -22,6 +22,9 @@ pub fn recover<D: Disk>(disk: &mut D, alloc: Global, len: u64) -> Result<Vec<Vec
     // They are the records of the told file before the first that doesn't stand.
     ensures read { IfOk result (λ bodies. ReadsTold (D.story disk.old) (bodies_of bodies.items)) }
 
+    // The call leaves the same to be read.
+    ensures still { IfOk result (λ bodies. ReadsTold (D.story disk.new) (bodies_of bodies.items)) }
+
     // Where one stands, in every image the same stand, and the gate behind them is there and closed.
     ensures rests { IfOk result (λ bodies. bodies.items ≢ [] → EveryTold (AtRest (bodies_of bodies.items)) (D.story disk.new)) }
 
@@ -116,6 +119,8 @@ fn repair<D: Disk>(disk: &mut D, alloc: Global, count: u64, len: u64) -> Result<
     requires size { D.size disk.old ≡ len }
     requires within { 32 * count ≤ len }
     requires short { len < 2 ^ 61 }
+    ensures still { OnOk result ((bodies : List Body) → length bodies ≡ count → ReadsTold (D.story disk.old) bodies → IsSettled (D.story disk.old)
+        → ReadsTold (D.story disk.new) bodies) }
     ensures rests { OnOk result ((bodies : List Body) → length bodies ≡ count → IsSettled (D.story disk.old) → ReadsTold (D.story disk.old) bodies → bodies ≢ []
         → EveryTold (AtRest bodies) (D.story disk.new)) }
     ensures any_moment { (bodies all : List Body) → length bodies ≡ count → IsSettled (D.story disk.old) → ReadsTold (D.story disk.old) bodies

@@ -73,3 +73,9 @@ returns-clause-lasts g c some =
     let reads = subst (λ t. ReadsTold t (bodies_of c.in_ok-bodies.bodies.items)) (sym c.read_bodies.ensures.same) c.in_ok-bodies.ensures.read in
     lasts_further (Stands some) _ _ _ (subst (λ told. LastsTold (Stands some) (g.D.Outside.story c.args.disk.now) told) (sym c.read_bodies.ensures.same) (lasts_syncs (Stands some) _ _ _ _ (lasts_same (Stands some) _) c.sync.ensures.syncs))
     (c.repair.ensures.lasts (bodies_of c.in_ok-bodies.bodies.items) some (omega (arith, length-map c.in_ok-bodies.bodies.items (λ (v : Vec ℕ Global). v.items), c.len.ensures)) settled reads)
+
+pub returns-clause-still : goal.returns-clause-still
+returns-clause-still g c =
+    let settled = subst IsSettled (sym (c.read_bodies.ensures.same ∙ c.in_ok-sync.ensures.syncs)) (settled_now (g.D.Outside.story c.args.disk.now)) in
+    let reads = subst (λ t. ReadsTold t (bodies_of c.in_ok-bodies.bodies.items)) (sym c.read_bodies.ensures.same) c.in_ok-bodies.ensures.read in
+    c.in_ok-repair.ensures.still (bodies_of c.in_ok-bodies.bodies.items) (omega (arith, length-map c.in_ok-bodies.bodies.items (λ (v : Vec ℕ Global). v.items), c.len.ensures)) reads settled

@@ -2,7 +2,8 @@ use Rattle.std.proofs.Common.{◌≡◌, ◌≢◌, ◌*◌, ◌∷◌, [], List
 use Rattle.cr_journal_records.specs.Records.{AtRest, Body, HasGate, IsKept}
 use Rattle.cr_outside_disk.specs.Moments.{AlwaysTold, EveryTold, HasLength}
 use Rattle.cr_outside_disk.proofs.Moments.{begun}
-use Rattle.cr_journal_records.proofs.Readings.{missing, shut_there, torn_there, both}
+use Rattle.cr_journal_records.proofs.Readings.{missing, shut_there, torn_there, both, rest_reads}
+use Rattle.cr_journal_records.specs.Reading.{ReadsTold}
 use Rattle.cr_outside_disk.specs.Moments.{LastsTold}
 use Rattle.cr_outside_disk.proofs.Lasting.{lasts_same}
 use Rattle.cr_journal_records.specs.Records.{Stands}
@@ -81,3 +82,13 @@ returns-clause-lasts g c bodies some counts settled reads =
     let gate = torn_there bodies c.args.count c.args.len counts told c.read.new.into long (omega (arith, c.if-count-len.false)) settled reads c.in_ok-read.ensures.gives (λ none. omega (arith, c.if-gate-eq0.false, none)) in
     subst (λ t. LastsTold (Stands some) t (g.D.Outside.story c.close.new.disk)) c.read.ensures.same
     (c.close.ensures.lasts bodies some counts (subst (λ t. EveryTold (HasGate bodies) t) (sym c.read.ensures.same) gate))
+
+pub returns-then-gate-eq0-clause-still : goal.returns-then-gate-eq0-clause-still
+returns-then-gate-eq0-clause-still g c bodies counts reads settled = subst (λ t. ReadsTold t bodies) (sym c.read.ensures.same) reads
+
+pub returns-clause-still : goal.returns-clause-still
+returns-clause-still g c bodies counts reads settled =
+    let told = g.D.Outside.story c.args.disk.now in
+    let long = subst (λ n. HasLength told n) c.requires.size (g.met.D.Disk.has_length c.args.disk.now c.requires.ready) in
+    let gate = torn_there bodies c.args.count c.args.len counts told c.read.new.into long (omega (arith, c.if-count-len.false)) settled reads c.in_ok-read.ensures.gives (λ none. omega (arith, c.if-gate-eq0.false, none)) in
+    rest_reads bodies _ (c.in_ok-close.ensures.closed bodies counts (subst (λ t. EveryTold (HasGate bodies) t) (sym c.read.ensures.same) gate))
