@@ -352,11 +352,10 @@ fn lacks_type(table: &Table, nodes: &[Node], case: Case, declared: Declared) -> 
         table,
         nodes,
         9,
-        derived.declarator,
         derived.row,
         declared.base,
     );
-    let object = is_object(case.place, case.class, function, case.initialised);
+    let object = is_object(case.place, case.class, function);
     !whole || (object && !is_whole_object(table, nodes, 9, declared.row))
 }
 
