@@ -8,7 +8,8 @@ top=$(cd "$(dirname "${BASH_SOURCE[0]}")/.." && pwd)
 without=${1:+$(readlink -f "$1")}
 folder=$(mktemp -d)
 trap 'rm -r "$folder"' EXIT
-"$top/creduce" >/dev/null 2>&1 || true
+export CREDUCE_QUIET=1
+"$top/creduce" --limit 0 "has:;" gen:1:1 >/dev/null 2>&1 || true
 program=$top/crates/creduce/out/creduce
 mkdir "$folder/with" "$folder/without"
 

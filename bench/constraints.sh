@@ -15,7 +15,8 @@ program=${CREDUCE:-$top/creduce}
 count=${1:-10000}
 folder=$(mktemp -d)
 trap 'rm -r "$folder"' EXIT
-"$program" >/dev/null 2>&1 || true
+export CREDUCE_QUIET=1
+"$program" --limit 0 "has:;" gen:1:1 >/dev/null 2>&1 || true
 cd "$folder"
 export LC_ALL=C
 

@@ -7,7 +7,7 @@ top=$(cd "$(dirname "${BASH_SOURCE[0]}")/.." && pwd)
 export CREDUCE=${CREDUCE:-$top/creduce}
 folder=$(mktemp -d)
 trap 'rm -r "$folder"' EXIT
-"$CREDUCE" >/dev/null 2>&1 || true
+"$CREDUCE" --limit 0 "has:;" gen:1:1 >/dev/null 2>&1 || true
 mkdir "$folder/run" && cd "$folder/run" || exit 1
 failed=0 passed=0 skipped=0 missing='' command='' wanted='' indent=''
 

@@ -1,7 +1,7 @@
 #!/usr/bin/env bash
 # Times reductions of a main of many lines, of which one has the wanted token: seconds, and turns a second.
 # By hand only: bench/lines.sh. A turn is one look at one variant; the turns are counted here from the rules of the lines
-# pass (docs/DEFINITIONS.md), apart from the program.
+# pass (crates/pass_text/README.md), apart from the program.
 set -eu
 top=$(cd "$(dirname "${BASH_SOURCE[0]}")/.." && pwd)
 folder=$(mktemp -d)
@@ -34,7 +34,8 @@ turns() {
     }'
 }
 
-"$top/creduce" >/dev/null 2>&1 || true
+export CREDUCE_QUIET=1
+"$top/creduce" --limit 0 "has:;" gen:1:1 >/dev/null 2>&1 || true
 echo "lines  turns  seconds  turns a second"
 for lines in 100 1000 10000; do
     wanted=$((lines / 3))

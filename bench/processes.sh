@@ -5,7 +5,8 @@ set -u
 top=$(cd "$(dirname "${BASH_SOURCE[0]}")/.." && pwd)
 folder=$(mktemp -d)
 trap 'rm -r "$folder"' EXIT
-"$top/creduce" >/dev/null 2>&1 || true
+export CREDUCE_QUIET=1
+"$top/creduce" --limit 0 "has:;" gen:1:1 >/dev/null 2>&1 || true
 cd "$folder" || exit 1
 failed=0
 

@@ -9,7 +9,8 @@ begin_reductions() {
     seconds=${1:-0}
     folder=$(mktemp -d)
     trap 'rm -r "$folder"' EXIT
-    "$program" >/dev/null 2>&1 || true
+    export CREDUCE_QUIET=1
+    "$program" --limit 0 "has:;" gen:1:1 >/dev/null 2>&1 || true
     cd "$folder" || exit 1
 }
 

@@ -6,13 +6,13 @@ use Rattle.cr_check_expressions.specs.declared.least.Break.{Break}
 use Rattle.cr_check_expressions.specs.Breaks.{IsFirst}
 use Rattle.cr_check_declarations.specs.declared.tree.Tree.{Tree}
 use Rattle.cr_check_definitions.specs.Typedefs.{IsFirstTwice}
-use Rattle.cr_check.specs.declared.judged.Judged.{Judged}
+use Rattle.cr_check.specs.declared.checked.Checked.{Checked}
 use Rattle.cr_check.specs.declared.fault.TypeFault.{TypeFault}
 use Rattle.cr_check.specs.declared.fault.TypeFault.TheVariants.{NoMemory, Twice, Broken}
-use Rattle.cr_check.specs.Judged.{IsJudged, IsBrokenIn, IsJudgedFirst, known_in}
+use Rattle.cr_check.specs.Columns.{IsChecked, IsBrokenIn, IsCheckedFirst, known_in}
 use Rattle.cr_check.specs.Checked.{AgreesOnTypedefs, HoldsAll, IsFaultIn, IsFirstFault, IsFound, is_program, constraint_of, found_of}
 
-module _ (file : List ℕ) (unit : source.Unit) (names : Names) (j : Judged) (u : Tree) (is : IsJudged file unit names j u) where
+module _ (file : List ℕ) (unit : source.Unit) (names : Names) (j : Checked) (u : Tree) (is : IsChecked file unit names j u) where
   defined_by : (defined : Bool) → AgreesOnTypedefs file unit names j → HoldsAll j u → is_program file unit names j ≡ defined
       → IsFound file unit names j (constraint_of None defined (length unit.tokens.list.items - 1))
   defined_by true typedefs holds e = record { tree = u; is = is; sound = record { typedefs = typedefs; constraints = holds; defined = e } }
@@ -32,16 +32,16 @@ module _ (file : List ℕ) (unit : source.Unit) (names : Names) (j : Judged) (u 
   found_by (Some token) broken first b = record { tree = u; is = is; by = first }
   found_by None broken typedefs b = broken_by broken typedefs b
 
-pub found_is : (file : List ℕ) (unit : source.Unit) (names : Names) (j : Judged) (twice : Option ℕ) → IsJudgedFirst file unit names j
+pub found_is : (file : List ℕ) (unit : source.Unit) (names : Names) (j : Checked) (twice : Option ℕ) → IsCheckedFirst file unit names j
     → IsFirstTwice (known_in file unit j) names twice
     → IsFound file unit names j (found_of twice j.whole.broken (is_program file unit names j) (length unit.tokens.list.items - 1))
 found_is file unit names j twice h t = found_by file unit names j h.tree h.is twice j.whole.broken t h.first
 
-pub fault_is : (file : List ℕ) (unit : source.Unit) (names : Names) (j : Judged) (fault : TypeFault) → IsFaultIn file unit names j fault
+pub fault_is : (file : List ℕ) (unit : source.Unit) (names : Names) (j : Checked) (fault : TypeFault) → IsFaultIn file unit names j fault
     → IsFirstFault file unit names fault
 fault_is file unit names j NoMemory h = tt
-fault_is file unit names j (Twice token) h = record { judged = j; is = h }
-fault_is file unit names j (Broken row token) h = record { judged = j; is = h }
+fault_is file unit names j (Twice token) h = record { checked = j; is = h }
+fault_is file unit names j (Broken row token) h = record { checked = j; is = h }
 
 pub want_is : (file : List ℕ) (unit : source.Unit) (names : Names) (fault : TypeFault) → fault ≡ NoMemory → IsFirstFault file unit names fault
 want_is file unit names fault e = subst (IsFirstFault file unit names) (sym e) tt

@@ -24,10 +24,10 @@ use Rattle.cr_check_surroundings.specs.Surroundings.{AreSurroundings, IsTree}
 use Rattle.cr_check_expressions.specs.declared.least.Break.{Break}
 use Rattle.cr_check_definitions.specs.Typedefs.{IsFirstTwice}
 use Rattle.cr_check_definitions.specs.Defined.{is_defined}
-use Rattle.cr_check.specs.declared.judged.Judged.{Judged}
+use Rattle.cr_check.specs.declared.checked.Checked.{Checked}
 use Rattle.cr_check.specs.declared.fault.TypeFault.{TypeFault}
 use Rattle.cr_check.specs.declared.fault.TypeFault.TheVariants.{NoMemory, Twice, Broken}
-use Rattle.cr_check.specs.Judged.{IsJudged, known_by}
+use Rattle.cr_check.specs.Columns.{IsChecked, known_by}
 use Rattle.cr_check.specs.Checked.{IsFaultBy, IsFirstBroken, IsSound}
 use Rattle.cr_check.specs.Laws.{AreSameLists}
 
@@ -75,8 +75,8 @@ module _ (u v : source.Unit) (same : AreSameLists u v) where
     tags = h.tags;
   }
 
-  pub judged_carried : (file : List ℕ) (names : Names) (j : Judged) (t : Tree) → IsJudged file u names j t → IsJudged file v names j t
-  judged_carried file names j t h = record {
+  pub checked_carried : (file : List ℕ) (names : Names) (j : Checked) (t : Tree) → IsChecked file u names j t → IsChecked file v names j t
+  checked_carried file names j t h = record {
     surroundings = surroundings_carried file names j.surroundings h.surroundings;
     texts = carried (λ ts ns is. AreTexts file ts ns j.texts) h.texts;
     whole = record {
@@ -90,14 +90,14 @@ module _ (u v : source.Unit) (same : AreSameLists u v) where
 
   -- what is found of it too
 
-  pub sound_carried : (file : List ℕ) (names : Names) (j : Judged) (t : Tree) → IsSound file u names j t → IsSound file v names j t
+  pub sound_carried : (file : List ℕ) (names : Names) (j : Checked) (t : Tree) → IsSound file u names j t → IsSound file v names j t
   sound_carried file names j t h = record {
     typedefs = carried (λ ts ns is. IsFirstTwice (known_by file ts ns j) names None) h.typedefs;
     constraints = h.constraints;
     defined = carried (λ ts ns is. is_defined (known_by file ts ns j) is names ≡ true) h.defined;
   }
 
-  broken_carried : (file : List ℕ) (names : Names) (j : Judged) (t : Tree) (b : Break) → IsFirstBroken file u names j t b
+  broken_carried : (file : List ℕ) (names : Names) (j : Checked) (t : Tree) (b : Break) → IsFirstBroken file u names j t b
       → IsFirstBroken file v names j t b
   broken_carried file names j t b (inl first) = inl first
   broken_carried file names j t b (inr lacks) = inr (record {
@@ -106,7 +106,7 @@ module _ (u v : source.Unit) (same : AreSameLists u v) where
     is = carried (λ ts ns is. b ≡ record { token = length ts - 1; row = 40 }) lacks.is;
   })
 
-  fault_carried : (file : List ℕ) (names : Names) (j : Judged) (t : Tree) (fault : TypeFault) → IsFaultBy file u names j t fault
+  fault_carried : (file : List ℕ) (names : Names) (j : Checked) (t : Tree) (fault : TypeFault) → IsFaultBy file u names j t fault
       → IsFaultBy file v names j t fault
   fault_carried file names j t NoMemory h = tt
   fault_carried file names j t (Twice token) h = carried (λ ts ns is. IsFirstTwice (known_by file ts ns j) names (Some token)) h

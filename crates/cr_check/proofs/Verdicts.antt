@@ -1,4 +1,4 @@
--- A unit that is judged twice has one verdict: one that is sound has no fault.
+-- A unit that is checked twice has one verdict: one that is sound has no fault.
 use Rattle.std.proofs.Common.{◌≡◌, ℕ, List, [], None, length, slice_index_or, inl, inr, refl, sym, ap, subst, ◌∙◌}
 use Rattle.cr_tokens.specs.declared.token.Token.{Token}
 use Rattle.cr_syntax.specs.declared.node.Node.{Node}
@@ -19,21 +19,21 @@ use Rattle.cr_check_unit.specs.Typing.{IsTyping}
 use Rattle.cr_check_unit.specs.Statements.{AreMarked, IsUnitBroken}
 use Rattle.cr_check_unit.proofs.OneTyping.{one_typing}
 use Rattle.cr_check_unit.proofs.OneBreak.{same_unit_breaks}
-use Rattle.cr_check.specs.declared.judged.Judged.{Judged}
+use Rattle.cr_check.specs.declared.checked.Checked.{Checked}
 use Rattle.cr_check.specs.declared.fault.TypeFault.{TypeFault}
 use Rattle.cr_check.specs.declared.fault.TypeFault.TheVariants.{NoMemory, Twice, Broken}
-use Rattle.cr_check.specs.Judged.{IsBrokenIn, IsJudged, known_in}
+use Rattle.cr_check.specs.Columns.{IsBrokenIn, IsChecked, known_in}
 use Rattle.cr_check.specs.Checked.{IsFaultBy, IsFaultOf, IsFirstBroken, IsFirstFault, IsSound, IsSoundOf}
 use Rattle.cr_check.specs.Laws.{AreSameLists}
 use Rattle.cr_check.proofs.SameTrees.{SameTree, typing_moved, marked_moved, breaks_moved}
-use Rattle.cr_check.proofs.Units.{judged_carried, sound_carried}
+use Rattle.cr_check.proofs.Units.{checked_carried, sound_carried}
 
--- two judgements that know the same of declarations and break the same
-pub record AgreeOn (file : List ℕ) (unit : source.Unit) (j k : Judged) (t s : Tree) : Type 0 where
+-- two checks that know the same of declarations and break the same
+pub record AgreeOn (file : List ℕ) (unit : source.Unit) (j k : Checked) (t s : Tree) : Type 0 where
   pub known : known_in file unit j ≡ known_in file unit k
   pub breaks : (b : Break) → IsBrokenIn k s b → IsBrokenIn j t b
 
-module _ (file : List ℕ) (unit : source.Unit) (names : Names) (j k : Judged) (t s : Tree) (same : AgreeOn file unit j k t s) (sound : IsSound file unit names j t) where
+module _ (file : List ℕ) (unit : source.Unit) (names : Names) (j k : Checked) (t s : Tree) (same : AgreeOn file unit j k t s) (sound : IsSound file unit names j t) where
   not_broken : (b : Break) → IsFirstBroken file unit names k s b → ⊥
   not_broken b (inl first) = sound.constraints b (same.breaks b first.is)
   not_broken b (inr lacks) =
@@ -44,7 +44,7 @@ module _ (file : List ℕ) (unit : source.Unit) (names : Names) (j k : Judged) (
   by_agreement (Twice token) h other = sound.typedefs token (subst (λ known. IsTwice known names token) (sym same.known) h.0)
   by_agreement (Broken row token) h other = not_broken (record { token = token; row = row }) h.broken
 
--- ---- two judgements of a unit
+-- ---- two checks of a unit
 
 one_texts : (file : List ℕ) (tokens : List Token) (nodes : List Node) (xs ys : List (List ℕ)) → AreTexts file tokens nodes xs
     → AreTexts file tokens nodes ys → xs ≡ ys
@@ -66,16 +66,16 @@ one_tree file unit a b t s same h g = record {
   tags = h.tags ∙ ap (λ (x : Surroundings). x.tags) same ∙ sym g.tags;
 }
 
--- the second judgement, carried to the tree and the texts of the first one
-pub record IsCarried (j k : Judged) (t s : Tree) : Type 0 where
+-- the second check, carried to the tree and the texts of the first one
+pub record IsCarried (j k : Checked) (t s : Tree) : Type 0 where
   pub surroundings : j.surroundings ≡ k.surroundings
   pub texts : k.texts ≡ j.texts
   pub tree : SameTree s t
   pub typing : IsTyping t j.texts k.table k.whole.typing
   pub marked : AreMarked k.table t k.whole.typing k.whole.marked
 
-pub second_carried : (file : List ℕ) (unit : source.Unit) (names : Names) (j k : Judged) (t s : Tree) → IsJudged file unit names j t
-    → IsJudged file unit names k s → IsCarried j k t s
+pub second_carried : (file : List ℕ) (unit : source.Unit) (names : Names) (j k : Checked) (t s : Tree) → IsChecked file unit names j t
+    → IsChecked file unit names k s → IsCarried j k t s
 second_carried file unit names j k t s h g =
     let around : j.surroundings ≡ k.surroundings =
     one_surroundings file unit names j.surroundings k.surroundings h.surroundings g.surroundings in
@@ -89,8 +89,8 @@ second_carried file unit names j k t s h g =
       marked = marked_moved s t k.table k.whole.typing k.whole.marked moved g.whole.marked;
     }
 
-agree : (file : List ℕ) (unit : source.Unit) (names : Names) (j k : Judged) (t s : Tree) → IsJudged file unit names j t
-    → IsJudged file unit names k s → AgreeOn file unit j k t s
+agree : (file : List ℕ) (unit : source.Unit) (names : Names) (j k : Checked) (t s : Tree) → IsChecked file unit names j t
+    → IsChecked file unit names k s → AgreeOn file unit j k t s
 agree file unit names j k t s h g =
     let c = second_carried file unit names j k t s h g in
     let around = c.surroundings in
@@ -115,16 +115,16 @@ agree file unit names j k t s h g =
 
 -- ---- the law
 
-by_judgements : (file : List ℕ) (u v : source.Unit) (names : Names) (judged : Judged) (fault : TypeFault) → AreSameLists u v
-    → IsSoundOf file u names judged → IsFaultOf file v names fault → (fault ≡ NoMemory → ⊥) → ⊥
-by_judgements file u v names j fault same sound found other =
-    let k = found.judged in
+by_columns : (file : List ℕ) (u v : source.Unit) (names : Names) (checked : Checked) (fault : TypeFault) → AreSameLists u v
+    → IsSoundOf file u names checked → IsFaultOf file v names fault → (fault ≡ NoMemory → ⊥) → ⊥
+by_columns file u v names j fault same sound found other =
+    let k = found.checked in
     by_agreement file v names j k sound.tree found.is.tree
-    (agree file v names j k sound.tree found.is.tree (judged_carried u v same file names j sound.tree sound.is) found.is.is)
+    (agree file v names j k sound.tree found.is.tree (checked_carried u v same file names j sound.tree sound.is) found.is.is)
     (sound_carried u v same file names j sound.tree sound.sound) fault found.is.by other
 
-pub no_fault : (file : List ℕ) (u v : source.Unit) (names : Names) (judged : Judged) (fault : TypeFault) → AreSameLists u v
-    → IsSoundOf file u names judged → IsFirstFault file v names fault → (fault ≡ NoMemory → ⊥) → ⊥
+pub no_fault : (file : List ℕ) (u v : source.Unit) (names : Names) (checked : Checked) (fault : TypeFault) → AreSameLists u v
+    → IsSoundOf file u names checked → IsFirstFault file v names fault → (fault ≡ NoMemory → ⊥) → ⊥
 no_fault file u v names j NoMemory same sound found other = other refl
-no_fault file u v names j (Twice token) same sound found other = by_judgements file u v names j (Twice token) same sound found other
-no_fault file u v names j (Broken row token) same sound found other = by_judgements file u v names j (Broken row token) same sound found other
+no_fault file u v names j (Twice token) same sound found other = by_columns file u v names j (Twice token) same sound found other
+no_fault file u v names j (Broken row token) same sound found other = by_columns file u v names j (Broken row token) same sound found other

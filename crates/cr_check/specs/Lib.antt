@@ -1,3 +1,3 @@
-pub mod Judged
+pub mod Columns
 pub mod Checked
 pub mod Laws

@@ -1,11 +1,11 @@
-// The first fault of a judged unit.
+// The first fault of a checked unit.
 ghost use Rattle.std.specs.Prelude.{◌≡◌, ◌-◌, IfErr, IfOk, OnOk, length};
 ghost use Rattle.cr_syntax.specs.Words.{AreSpans};
-ghost use Rattle.cr_check.specs.Judged.{IsJudgedFirst};
+ghost use Rattle.cr_check.specs.Columns.{IsCheckedFirst};
 ghost use Rattle.cr_check.specs.Checked.{IsFirstFault, IsFound, IsSoundOf, constraint_of, found_of};
 
+use crate::checked::{Checked, declarations_of};
 use crate::fault::TypeFault;
-use crate::judged::{Judged, declarations_of};
 use cr_check_definitions::{is_defined, repeated};
 use cr_check_expressions::Break;
 use cr_scopes::Names;
@@ -20,14 +20,14 @@ pub(crate) fn no_fault(
     file: &[u8],
     unit: &Unit,
     names: &Names,
-    judged: &Judged,
+    checked: &Checked,
 ) -> Result<(), TypeFault>
     requires spans { AreSpans file.now unit.now.tokens.list.items }
-    requires judged { IsJudgedFirst file.now unit.now names.now judged.now }
-    ensures sound { OnOk result (IsSoundOf file.now unit.now names.now judged.now) }
+    requires checked { IsCheckedFirst file.now unit.now names.now checked.now }
+    ensures sound { OnOk result (IsSoundOf file.now unit.now names.now checked.now) }
     ensures fault { IfErr result (λ fault. IsFirstFault file.now unit.now names.now fault) }
 {
-    match first_fault(alloc, file, unit, names, judged)? {
+    match first_fault(alloc, file, unit, names, checked)? {
         Some(fault) => Err(fault),
         None => Ok(()),
     }
@@ -40,17 +40,17 @@ fn first_fault(
     file: &[u8],
     unit: &Unit,
     names: &Names,
-    judged: &Judged,
+    checked: &Checked,
 ) -> Result<Option<TypeFault>, AllocError>
     requires spans { AreSpans file.now unit.now.tokens.list.items }
-    requires judged { IsJudgedFirst file.now unit.now names.now judged.now }
-    ensures { IfOk result (λ fault. IsFound file.now unit.now names.now judged.now fault) }
+    requires checked { IsCheckedFirst file.now unit.now names.now checked.now }
+    ensures { IfOk result (λ fault. IsFound file.now unit.now names.now checked.now fault) }
 {
-    let declarations = declarations_of(file, unit, judged);
+    let declarations = declarations_of(file, unit, checked);
     let twice = repeated(alloc, names, &declarations)?;
     let defined = is_defined(unit.items.as_slice(), names, &declarations);
     let last = last_token(unit)?;
-    Ok(first_of(twice, judged.whole.broken, defined, last))
+    Ok(first_of(twice, checked.whole.broken, defined, last))
 }
 
 fn first_of(

@@ -5,13 +5,13 @@
 //! are; `check` promises both. It stands on the surroundings of nodes, the typing of a unit, and what declarations have to be together.
 #![tactic(auto)]
 
+mod checked;
 mod checking;
 mod fault;
 mod faults;
-mod judged;
 mod laws;
 
+pub use checked::Checked;
 pub use checking::check;
 pub use fault::TypeFault;
-pub use judged::Judged;
 pub use laws::a_sound_unit_has_no_fault;

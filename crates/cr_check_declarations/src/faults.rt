@@ -45,7 +45,7 @@ pub struct Own {
 /// The first constraint that a node of a declaration breaks, by what it has itself and what the nodes before it have. A row is judged
 /// only where what it speaks of has types. Not judged here are declarations of linked names (K9, K10) and what initialisers
 /// initialise. The error is want of memory.
-pub fn broken(
+pub fn declaration_break(
     alloc: Global,
     table: &Table,
     tree: &Tree,

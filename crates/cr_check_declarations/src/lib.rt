@@ -24,7 +24,7 @@ pub use contents::{enumerator, structure};
 pub use declaration::{declaration_of, is_declarator, is_initialised, specifiers_in};
 pub use declarators::{declarator, derivations};
 pub use definition::name_in;
-pub use faults::{Own, broken, fault_at, place_of, token_if};
+pub use faults::{Own, declaration_break, fault_at, place_of, token_if};
 pub use lists::{members, parameters};
 pub use names::named;
 pub use ordinary::{class_of, declared};

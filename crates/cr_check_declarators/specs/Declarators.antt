@@ -5,8 +5,8 @@ use Rattle.cr_check_constants.specs.declared.constant.Constant.{Constant}
 use Rattle.cr_check_constants.specs.declared.constant.Constant.TheVariants.{NotConstant, Undefined, Value}
 use Rattle.cr_check_enclosing.specs.declared.context.Place.{Place}
 use Rattle.cr_check_enclosing.specs.declared.context.Place.TheVariants as place
-use Rattle.cr_syntax.specs.declared.typed.CType.{CType}
-use Rattle.cr_syntax.specs.declared.typed.CType.TheVariants as type
+use Rattle.cr_syntax.specs.declared.ctype.CType.{CType}
+use Rattle.cr_syntax.specs.declared.ctype.CType.TheVariants as type
 use Rattle.cr_check_types.specs.Types.{Qualified, plain, pointer, array, unknown}
 use Rattle.cr_check_types.specs.Relations.{turned}
 use Rattle.cr_check_types.specs.declared.layout.Layout.{Layout}

@@ -6,8 +6,8 @@ use Rattle.cr_check_enclosing.specs.declared.context.Place.{Place}
 use Rattle.cr_check_enclosing.specs.declared.context.Place.TheVariants as place
 use Rattle.cr_syntax.specs.declared.node.Kind.{Kind}
 use Rattle.cr_syntax.specs.declared.node.Kind.TheVariants as node
-use Rattle.cr_syntax.specs.declared.typed.CType.{CType}
-use Rattle.cr_syntax.specs.declared.typed.CType.TheVariants as type
+use Rattle.cr_syntax.specs.declared.ctype.CType.{CType}
+use Rattle.cr_syntax.specs.declared.ctype.CType.TheVariants as type
 use Rattle.cr_check_types.specs.Types.{Qualified, plain, pointer, array, unknown}
 use Rattle.cr_check_types.specs.Relations.{qualified}
 use Rattle.cr_check_declarators.specs.declared.words.Base.{Base}

@@ -4,8 +4,8 @@ use Rattle.cr_check_constants.specs.declared.constant.Constant.TheVariants.{NotC
 use Rattle.cr_check_constants.specs.declared.constant.Operand.{Operand}
 use Rattle.cr_check_constants.specs.Literals.{integer_of, character_of}
 use Rattle.cr_syntax.specs.declared.node.Node.{Node}
-use Rattle.cr_syntax.specs.declared.typed.CType.{CType}
-use Rattle.cr_syntax.specs.declared.typed.CType.TheVariants.{Unknown}
+use Rattle.cr_syntax.specs.declared.ctype.CType.{CType}
+use Rattle.cr_syntax.specs.declared.ctype.CType.TheVariants.{Unknown}
 use Rattle.cr_check_types.specs.declared.shape.Shape.{Shape}
 use Rattle.cr_check_types.specs.Types.{Qualified, plain, pointer, array, unknown, type_at}
 use Rattle.cr_check_types.specs.Relations.{is_complete_at, is_defined}

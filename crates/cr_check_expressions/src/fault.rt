@@ -20,7 +20,7 @@ use cr_syntax::Node;
 
 /// The first row of the table of constraints that an expression breaks, by what it has itself and what the nodes before it have. A
 /// row is judged only where what it speaks of has types.
-pub fn broken(
+pub fn expression_break(
     table: &Table,
     known: &Known,
     facts: &[Fact],

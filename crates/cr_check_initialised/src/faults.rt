@@ -22,7 +22,7 @@ use cr_syntax::{Kind, Node};
 /// The first constraint that an initialised declarator breaks by what it initialises: K7 of an array that its initialiser completes,
 /// K11, K12, K13 and K37. `bracket` is that of the declarator without a size, `row` that of the completed type, and the lines are those
 /// of the plan.
-pub fn broken(
+pub fn initialiser_break(
     table: &Table,
     tree: &Tree,
     columns: &Columns,

@@ -14,6 +14,6 @@ mod source;
 
 pub use anchors::anchor_of;
 pub use durations::is_static;
-pub use faults::broken;
+pub use faults::initialiser_break;
 pub use initialised::{Filled, fill};
 pub use laws::one_filling;

@@ -1,8 +1,8 @@
 -- The constraints that an initialiser can break, by what it initialises: K11, K12, K13 and K37.
 use Rattle.std.specs.Prelude.{ℕ, ◌-◌, ◌==◌, ◌&&◌, ◌||◌, List, [], ◌∷◌, ◌++◌, Bool, true, false, not, Option, nat_lt}
 use Rattle.cr_check_constants.specs.declared.constant.Constant.TheVariants.{NotConstant}
-use Rattle.cr_syntax.specs.declared.typed.CType.{CType}
-use Rattle.cr_syntax.specs.declared.typed.CType.TheVariants.{Function, Unknown}
+use Rattle.cr_syntax.specs.declared.ctype.CType.{CType}
+use Rattle.cr_syntax.specs.declared.ctype.CType.TheVariants.{Function, Unknown}
 use Rattle.cr_check_types.specs.Types.{Qualified, plain, pointer, array}
 use Rattle.cr_check_operands.specs.Values.{Valued, value_in, value_of_seen}
 use Rattle.cr_check_operands.specs.Rules.{assignable}

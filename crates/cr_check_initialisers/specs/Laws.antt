@@ -1,6 +1,6 @@
 -- What holds of plans.
 use Rattle.std.specs.Prelude.{◌≡◌, ℕ, ◌+◌, ◌*◌, ◌<◌, ◌≤◌, List, [], ◌∷◌, Bool, false, sum_by, slice_index_or}
-use Rattle.cr_syntax.specs.declared.typed.CType.TheVariants.{Struct}
+use Rattle.cr_syntax.specs.declared.ctype.CType.TheVariants.{Struct}
 use Rattle.cr_check_types.specs.Types.{Qualified, plain, array}
 use Rattle.cr_check_types.specs.Layouts.{nothing}
 use Rattle.cr_check_initialisers.specs.declared.source.Source.{Source}

@@ -3,8 +3,8 @@ use Rattle.std.specs.Prelude.{ℕ, ◌+◌, ◌==◌, ◌&&◌, ◌||◌, List, 
 use Rattle.std.specs.List.{list_all}
 use Rattle.cr_ints.specs.declared.kind.IntKind.{IntKind}
 use Rattle.cr_ints.specs.declared.kind.IntKind.TheVariants.{Char, SChar, UChar}
-use Rattle.cr_syntax.specs.declared.typed.CType.{CType}
-use Rattle.cr_syntax.specs.declared.typed.CType.TheVariants.{Int, Struct, Unknown}
+use Rattle.cr_syntax.specs.declared.ctype.CType.{CType}
+use Rattle.cr_syntax.specs.declared.ctype.CType.TheVariants.{Int, Struct, Unknown}
 use Rattle.cr_check_types.specs.Types.{Qualified, plain, pointer, array}
 use Rattle.cr_check_initialisers.specs.Known.{Known}
 

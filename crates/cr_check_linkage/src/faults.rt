@@ -21,7 +21,7 @@ use cr_syntax::{Kind, Node};
 
 /// The first constraint that a node breaks as one of several declarations of a name (K9, K10), by what these did so far and the type
 /// with which uses see the name.
-pub fn broken(
+pub fn linkage_break(
     table: &Table,
     tree: &Tree,
     columns: &Columns,

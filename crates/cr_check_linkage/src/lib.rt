@@ -14,7 +14,7 @@ mod name_type;
 mod uses;
 
 pub use declaring::linked;
-pub use faults::broken;
+pub use faults::linkage_break;
 pub use joining::TypeRows;
 pub use links::Links;
 pub use name_type::NameRows;

@@ -2,8 +2,8 @@
 use Rattle.std.specs.Prelude.{ℕ, Bool, true, false, not, ◌&&◌, Option, Some, None, List, slice_index_or, if◌then◌else◌}
 use Rattle.cr_ints.specs.declared.kind.IntKind.TheVariants.{Char}
 use Rattle.cr_check_constants.specs.declared.constant.Constant.TheVariants.{NotConstant}
-use Rattle.cr_syntax.specs.declared.typed.CType.{CType}
-use Rattle.cr_syntax.specs.declared.typed.CType.TheVariants.{Int, Struct}
+use Rattle.cr_syntax.specs.declared.ctype.CType.{CType}
+use Rattle.cr_syntax.specs.declared.ctype.CType.TheVariants.{Int, Struct}
 use Rattle.cr_check_types.specs.Types.{Qualified, plain, pointer, array}
 use Rattle.cr_check_operands.specs.Values.{Valued, number, address, structure, valueless, untyped, Seen, no_type, seen_of, place_of, value_in}
 use Rattle.cr_check_operands.specs.Rules.{with_qualifiers_of, assigned_value, updated_value, stepped_value}

@@ -13,8 +13,8 @@ use Rattle.cr_check_constants.specs.declared.operator.Relation.{Relation}
 use Rattle.cr_check_constants.specs.declared.operator.Sign.{Sign}
 use Rattle.cr_check_constants.specs.Constants.{is_not_zero, beside}
 use Rattle.cr_check_constants.specs.Operators.{arithmetic_of, shift_of, relation_of, logical_and_of, logical_or_of, unary_of, not_of, conditional_of, comma_of, cast_of, size_of}
-use Rattle.cr_syntax.specs.declared.typed.CType.{CType}
-use Rattle.cr_syntax.specs.declared.typed.CType.TheVariants.{Void}
+use Rattle.cr_syntax.specs.declared.ctype.CType.{CType}
+use Rattle.cr_syntax.specs.declared.ctype.CType.TheVariants.{Void}
 use Rattle.cr_check_types.specs.Types.{Qualified, plain, pointer, array}
 use Rattle.cr_check_types.specs.Relations.{are_compatible, bare, qualified, composite_of}
 use Rattle.cr_check_operands.specs.declared.logic.Junction.{Junction}

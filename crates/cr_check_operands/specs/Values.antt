@@ -3,8 +3,8 @@ use Rattle.std.specs.Prelude.{◌≡◌, ℕ, suc, ◌<◌, List, Bool, true, fa
 use Rattle.cr_check_constants.specs.declared.constant.Constant.{Constant}
 use Rattle.cr_check_constants.specs.declared.constant.Constant.TheVariants.{NotConstant}
 use Rattle.cr_check_constants.specs.declared.constant.Operand.{Operand}
-use Rattle.cr_syntax.specs.declared.typed.CType.{CType}
-use Rattle.cr_syntax.specs.declared.typed.CType.TheVariants.{Void, Int, Struct, Unknown}
+use Rattle.cr_syntax.specs.declared.ctype.CType.{CType}
+use Rattle.cr_syntax.specs.declared.ctype.CType.TheVariants.{Void, Int, Struct, Unknown}
 use Rattle.cr_check_types.specs.declared.shape.Shape.{Shape}
 use Rattle.cr_check_types.specs.Types.{Qualified, plain, pointer, array, unknown, type_at}
 use Rattle.cr_check_operands.specs.declared.value.Value.{Value}

@@ -1,4 +1,4 @@
--- What the statements of a unit are judged by.
+-- What the statements of a unit are checked by.
 use Rattle.std.specs.Prelude.{ℕ, ◌<◌, Bool, false, List, Option, None, Some, slice_index_or}
 use Rattle.cr_syntax.specs.declared.node.Node.{Node}
 use Rattle.cr_check_enclosing.specs.declared.context.Around.{Around}

@@ -5,10 +5,10 @@
 //! stands on the rules of expressions, the places of nodes and the clauses of loops.
 #![tactic(auto)]
 
-mod judged;
+mod first;
 mod setting;
 mod statements;
 
-pub use judged::judge;
+pub use first::check_statements;
 pub use setting::Setting;
-pub use statements::broken;
+pub use statements::statement_break;

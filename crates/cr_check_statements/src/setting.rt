@@ -6,7 +6,7 @@ use cr_check_enclosing::{Around, OUTERMOST};
 use cr_check_operands::Fact;
 use cr_syntax::Node;
 
-/// What the statements of a unit are judged by. Each column has one entry a node, and what is not there is as nothing known.
+/// What the statements of a unit are checked by. Each column has one entry a node, and what is not there is as nothing known.
 #[derive(Clone, Copy)]
 pub struct Setting<'a> {
     pub nodes: &'a [Node],

@@ -16,8 +16,8 @@ use cr_syntax::{Kind, Node};
 use cr_syntax_nodes::loop_clauses;
 
 /// The first row of the table of constraints that a statement breaks, by what its expressions have and what stands around it. A row
-/// is judged only where what it speaks of has types.
-pub fn broken(table: &Table, setting: &Setting, at: u32, node: &Node) -> Option<Break>
+/// is checked only where what it speaks of has types.
+pub fn statement_break(table: &Table, setting: &Setting, at: u32, node: &Node) -> Option<Break>
     requires facts { AreFacts table.now setting.now.facts.now }
     requires results { AreResults (length table.now) setting.now }
     ensures { result ≡ first_of (faults_in node.now.kind (scene_of table.now setting.now) at node.now) }

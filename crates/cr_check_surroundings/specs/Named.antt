@@ -6,7 +6,7 @@ use Rattle.cr_syntax.specs.declared.node.Kind.TheVariants as kind
 use Rattle.cr_syntax.specs.declared.node.Node.{Node}
 use Rattle.cr_scopes.specs.declared.names.Names.{Names}
 use Rattle.cr_scopes_bindings.specs.declared.bindings.Bindings.{Bindings}
-use Rattle.cr_scopes_bindings.specs.declared.bindings.Tag as bound
+use Rattle.cr_scopes_bindings.specs.declared.bindings.TagBinding.{TagBinding}
 use Rattle.cr_scopes_bindings.specs.Bindings.{declared_name, earlier_node, visible_node, tag_for}
 use Rattle.cr_scopes_bindings.specs.Nodes.{tag_at}
 use Rattle.cr_check_declarations.specs.declared.tree.Tag.{Tag}
@@ -45,7 +45,7 @@ earlier_for b nodes above i = raised_of nodes above (visible_if b (declared_name
 abbrev pub same_for : Bindings → List Node → List (Option ℕ) → ℕ → Option ℕ
 same_for b nodes above i = raised_of nodes above (same_if b (declared_name b nodes i)) i
 
-abbrev pub tag_with : ℕ → bound.Tag → Option ℕ → Option Tag
+abbrev pub tag_with : ℕ → TagBinding → Option ℕ → Option Tag
 tag_with token tag None = None
 tag_with token tag (Some first) = Some (record { token = token; first = first; content = tag.content; declares = tag.declares })
 

@@ -5,12 +5,12 @@ ghost use Rattle.cr_check_surroundings.specs.Named.{tag_of as tag_of_node, tag_w
 
 use cr_check_declarations::Tag;
 use cr_scopes::Names;
-use cr_scopes_bindings::{Bindings, Tag as Bound};
+use cr_scopes_bindings::{Bindings, TagBinding};
 use cr_syntax::{Node, number_of};
 use cr_tokens::Token;
 use std::alloc::{AllocError, Global};
 
-fn tag_with(token: u32, tag: Bound) -> Option<Tag>
+fn tag_with(token: u32, tag: TagBinding) -> Option<Tag>
     ensures { result ≡ tag_with token tag tag.first }
 {
     match tag.first {

@@ -1,7 +1,7 @@
 -- A type is compatible with itself.
 use Rattle.std.proofs.Common.{◌≡◌, ◌==◌, ◌&&◌, ◌||◌, ℕ, ◌+◌, ◌<◌, inl, inr, arith, ap, ◌∙◌, Bool, true, false, refl, eq-eqb}
-use Rattle.cr_syntax.specs.declared.typed.CType.{CType}
-use Rattle.cr_syntax.specs.declared.typed.CType.TheVariants.{Void, Int, Pointer, Array, Struct, Function, Unknown}
+use Rattle.cr_syntax.specs.declared.ctype.CType.{CType}
+use Rattle.cr_syntax.specs.declared.ctype.CType.TheVariants.{Void, Int, Pointer, Array, Struct, Function, Unknown}
 use Rattle.std.proofs.lemmas.Bool.{cases_lt}
 use Rattle.cr_check_types.specs.declared.shape.Shape.{Shape}
 use Rattle.cr_check_types.specs.Types.{Qualified, plain, pointer, array, type_by, type_of}

@@ -1,7 +1,7 @@
 -- Types (C11 6.2.5), as values: a type is a chain, since a pointer and an array have one type below them.
 use Rattle.std.specs.Prelude.{◌≡◌, ℕ, suc, ◌<◌, ◌≤◌, List, [], ◌∷◌, ◌++◌, Bool, false, length, fold, slice_get, slice_index_or, Some}
-use Rattle.cr_syntax.specs.declared.typed.CType.{CType}
-use Rattle.cr_syntax.specs.declared.typed.CType.TheVariants.{Pointer, Array, Unknown}
+use Rattle.cr_syntax.specs.declared.ctype.CType.{CType}
+use Rattle.cr_syntax.specs.declared.ctype.CType.TheVariants.{Pointer, Array, Unknown}
 use Rattle.cr_check_types.specs.declared.shape.Shape.{Shape}
 
 -- A type with its qualifiers, `const` and `volatile` (6.7.3): `plain` is void, an integer, a structure or a function by its

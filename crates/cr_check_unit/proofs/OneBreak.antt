@@ -87,7 +87,7 @@ same_breaks u texts shapes later t s x y b broken =
       ];
     }
 
--- ---- what statements are judged by
+-- ---- what statements are checked by
 
 one_column : {A : Type 0} → (f : ℕ → A) (nothing : A) (bound : ℕ) (xs ys : List A) → AreOf f nothing bound xs → AreOf f nothing bound ys → (k : ℕ)
     → slice_index_or xs k nothing ≡ slice_index_or ys k nothing

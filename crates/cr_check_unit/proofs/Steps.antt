@@ -1,4 +1,4 @@
--- What is known when so many nodes are judged.
+-- What is known when so many nodes are checked.
 use Rattle.std.proofs.Common.{◌≡◌, ℕ, false, ◌+◌, ◌<◌, ◌≤◌, ◌⊎◌, ◌∷◌, [], ◌++◌, List, Option, None, length, take, slice_get, slice_index_or, refl, sym, ap, subst, ◌∙◌, inl, inr, arith, length-append}
 use Rattle.std.proofs.lemmas.Bool.{cases_lt, cases_eq}
 use Rattle.std.proofs.lemmas.List.{take-append-le, take_at, get_or_past}
@@ -217,7 +217,7 @@ pub record IsBrokenBelow (u : Tree) (texts : List (List ℕ)) (shapes : List Sha
   pub among : IsNodeBreak u texts shapes (cut node t) (entry_at t node) node (slice_get u.nodes.now node) b
 
 -- for whatever the table grows to
-pub record AreJudged (u : Tree) (texts : List (List ℕ)) (shapes : List Shape) (t : Typing) (broken : Option Break) (count : ℕ) : Type 0 where
+pub record AreChecked (u : Tree) (texts : List (List ℕ)) (shapes : List Shape) (t : Typing) (broken : Option Break) (count : ℕ) : Type 0 where
   pub low : count ≤ length u.nodes.now
   pub whole : AreWhole t count
   pub within : AreWithin shapes t
@@ -300,13 +300,13 @@ first_more u texts later t e first broken count w is so_far =
     (joined (IsBrokenBelow u texts later t count) (IsNodeBreak u texts later t e count (slice_get u.nodes.now count)) first broken so_far here)
 
 pub next : (u : Tree) (texts : List (List ℕ)) (old new : List Shape) (t : Typing) (e : Entry) (first broken : Option Break) (count : ℕ)
-    → AreJudged u texts old t first count → count < length u.nodes.now → Grows old new → IsWithin new e
+    → AreChecked u texts old t first count → count < length u.nodes.now → Grows old new → IsWithin new e
     → ((later : List Shape) → Grows new later → IsRuledIf u texts later t e count (slice_get u.nodes.now count))
     → ((later : List Shape) → Grows new later → broken ≡ lesser (first_of (expression_faults u texts later t e count (slice_get u.nodes.now count)))
     (lesser (first_of (declaration_faults u later t e count (slice_get u.nodes.now count)))
     (lesser (first_of (initialiser_faults u later t e count (slice_get u.nodes.now count)))
     (first_of (linked_faults u later t e count (slice_get u.nodes.now count))))))
-    → AreJudged u texts new (with_entry t e) (lesser first broken) (count + 1)
+    → AreChecked u texts new (with_entry t e) (lesser first broken) (count + 1)
 next u texts old new t e first broken count h low grows within ruled is = record {
   low = omega (arith, low);
   whole = whole_more t e count h.whole;
@@ -315,7 +315,7 @@ next u texts old new t e first broken count h low grows within ruled is = record
   first = λ later on. first_more u texts later t e first broken count h.whole (is later on) (h.first later (grows_on old new later grows on));
 }
 
-pub none_yet : (u : Tree) (texts : List (List ℕ)) (shapes : List Shape) → IsRow shapes 0 unknown → AreJudged u texts shapes nothing_typed None 0
+pub none_yet : (u : Tree) (texts : List (List ℕ)) (shapes : List Shape) → IsRow shapes 0 unknown → AreChecked u texts shapes nothing_typed None 0
 none_yet u texts shapes row = record {
   low = omega arith;
   whole = record {
@@ -353,7 +353,7 @@ ruled_past : (u : Tree) (texts : List (List ℕ)) (shapes : List Shape) (t : Typ
 ruled_past u texts shapes t e i high = subst (IsRuledIf u texts shapes t e i) (sym (slice_get_past u.nodes.now i high)) tt
 
 pub all_typed : (u : Tree) (texts : List (List ℕ)) (shapes : List Shape) (t : Typing) (first : Option Break) (count : ℕ)
-    → AreJudged u texts shapes t first count → length u.nodes.now ≤ count → IsTyping u texts shapes t
+    → AreChecked u texts shapes t first count → length u.nodes.now ≤ count → IsTyping u texts shapes t
 all_typed u texts shapes t first count h all = record {
   none = h.within.facts.first;
   whole = let low = h.low in subst (AreWhole t) (omega (arith, low, all)) h.whole;
@@ -368,7 +368,7 @@ pub no_break : (u : Tree) (texts : List (List ℕ)) (shapes : List Shape) (t : T
 no_break u texts shapes t e i b x = elim x [ inl y ↦ y | inr z ↦ elim z [ inl v ↦ v | inr w ↦ elim w [ inl p ↦ p | inr q ↦ q ] ] ]
 
 pub first_of_all : (u : Tree) (texts : List (List ℕ)) (shapes : List Shape) (t : Typing) (first : Option Break) (count : ℕ)
-    → AreJudged u texts shapes t first count → length u.nodes.now ≤ count → IsFirst (IsBroken u texts shapes t) first
+    → AreChecked u texts shapes t first count → length u.nodes.now ≤ count → IsFirst (IsBroken u texts shapes t) first
 first_of_all u texts shapes t first count h all =
     same_first (IsBrokenBelow u texts shapes t count) (IsBroken u texts shapes t) first
     (λ b x. record { node = x.node; among = x.among })

@@ -49,7 +49,7 @@ SameReadings = (u : Tree) (texts : List (List ℕ)) (shapes later : List Shape) 
     → IsTyping u texts shapes t → IsTyping u texts later s
     → (before_in shapes t ≡ before_in later s) × (source_in (type_at shapes) u texts t ≡ source_in (type_at later) u texts s)
 
--- what statements are judged by is the same too: which labels repeat, which one a `goto` names, and what functions give
+-- what statements are checked by is the same too: which labels repeat, which one a `goto` names, and what functions give
 abbrev pub SameScenes : Type 0
 SameScenes = (u : Tree) (texts : List (List ℕ)) (shapes later : List Shape) (t s : Typing) (m n : Marked)
     → IsTyping u texts shapes t → IsTyping u texts later s → AreMarked shapes u t m → AreMarked later u s n

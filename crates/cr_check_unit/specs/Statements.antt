@@ -1,4 +1,4 @@
--- What the statements of a unit are judged by, and which constraints a unit breaks.
+-- What the statements of a unit are checked by, and which constraints a unit breaks.
 use Rattle.std.specs.Prelude.{◌≡◌, ℕ, ◌⊎◌, List, Bool, true, false, None, map, slice_get, slice_index_or, if◌then◌else◌}
 use Rattle.cr_syntax.specs.declared.node.Kind.{Kind}
 use Rattle.cr_syntax.specs.declared.node.Kind.TheVariants as kind

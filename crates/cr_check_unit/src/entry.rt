@@ -14,14 +14,14 @@ ghost use Rattle.cr_check_unit.specs.Breaks.{expression_faults, declaration_faul
 
 use crate::typing::{Typing, columns_of, known_of, links_of};
 use cr_check_declarations::{
-    Columns, Own, Tree, broken as declaration_fault, declarator, declared, derivations, enumerator,
-    members, named, parameters, specified, structure,
+    Columns, Own, Tree, declaration_break, declarator, declared, derivations, enumerator, members,
+    named, parameters, specified, structure,
 };
 use cr_check_declarators::Declaration;
-use cr_check_expressions::{Break, Declared, Member, broken as expression_fault, lesser, rule};
-use cr_check_initialised::{anchor_of, broken as initialised_fault, fill};
+use cr_check_expressions::{Break, Declared, Member, expression_break, lesser, rule};
+use cr_check_initialised::{anchor_of, fill, initialiser_break};
 use cr_check_initialisers::{Anchor, Line};
-use cr_check_linkage::{NameRows, broken as linked_fault, composite, linked, seen};
+use cr_check_linkage::{NameRows, composite, linkage_break, linked, seen};
 use cr_check_operands::Fact;
 use cr_check_types::Table;
 use cr_rows::Row;
@@ -155,11 +155,11 @@ pub(crate) fn broken(
     ensures { IfOk result (λ b. b ≡ lesser (first_of (expression_faults tree.now texts.now table.now typing.now entry.now at (Some node.now))) (lesser (first_of (declaration_faults tree.now table.now typing.now entry.now at (Some node.now))) (lesser (first_of (initialiser_faults tree.now table.now typing.now entry.now at (Some node.now))) (first_of (linked_faults tree.now table.now typing.now entry.now at (Some node.now)))))) }
 {
     let known = known_of(tree, texts, typing);
-    let expression = expression_fault(table, &known, typing.facts.as_slice(), at, node, entry.fact);
+    let expression = expression_break(table, &known, typing.facts.as_slice(), at, node, entry.fact);
     let columns = columns_of(typing);
     let own = entry.own;
-    let declaration = declaration_fault(alloc, table, tree, &columns, own, at, node)?;
-    let initialised = initialised_fault(
+    let declaration = declaration_break(alloc, table, tree, &columns, own, at, node)?;
+    let initialised = initialiser_break(
         table,
         tree,
         &columns,
@@ -199,7 +199,7 @@ fn linked_broken(
         row: own.named,
         parameters: entry.parameters.as_slice(),
     };
-    linked_fault(
+    linkage_break(
         table,
         tree,
         &columns,

@@ -6,13 +6,13 @@
 #![tactic(auto)]
 
 mod entry;
-mod judged;
 mod laws;
+mod nodes;
 mod statements;
 mod typing;
 
 pub use entry::Entry;
-pub use judged::{Judged, judge};
 pub use laws::{one_first, one_typing};
-pub use statements::{Marked, Whole, judge_unit};
+pub use nodes::{CheckedNodes, check_nodes};
+pub use statements::{Marked, Whole, check_unit};
 pub use typing::Typing;

@@ -10,19 +10,19 @@ ghost use Rattle.cr_check_labels.specs.Labelled.{scene_of as labelled_scene};
 ghost use Rattle.cr_check_unit.specs.Typing.{IsTyping, AreWithin};
 ghost use Rattle.cr_check_unit.specs.Statements.{labelled_in, scene_in, is_definition, result_in, AreMarked, IsUnitBroken};
 
-use crate::judged::{Judged, judge};
+use crate::nodes::{CheckedNodes, check_nodes};
 use crate::typing::Typing;
 use cr_check_declarations::Tree;
 use cr_check_expressions::{Break, lesser, part_at};
 use cr_check_labels::{Labelled, again, labels};
-use cr_check_statements::{Setting, judge as judge_flow};
+use cr_check_statements::{Setting, check_statements};
 use cr_check_types::Table;
 use cr_holding::holding;
 use cr_rows::Row;
 use cr_syntax::{Kind, Node};
 use std::alloc::{AllocError, Global};
 
-/// What the statements of a unit are judged by, beside what its nodes have: columns with one entry a node.
+/// What the statements of a unit are checked by, beside what its nodes have: columns with one entry a node.
 #[derive(Drop)]
 pub struct Marked {
     /// For each definition of a function the row of the type that it gives.
@@ -41,9 +41,9 @@ pub struct Whole {
     pub broken: Option<Break>,
 }
 
-/// Judges the expressions, declarations and statements of a unit. `texts` has the bytes of each string literal, with its closing
+/// Checks the expressions, declarations and statements of a unit. `texts` has the bytes of each string literal, with its closing
 /// zero. The table's first row is that of no type. The error is want of memory.
-pub fn judge_unit(
+pub fn check_unit(
     alloc: Global,
     table: &mut Table,
     tree: &Tree,
@@ -57,14 +57,14 @@ pub fn judge_unit(
     ensures broken { IfOk result (λ w. IsFirst (IsUnitBroken tree.now texts.now table.new w.typing w.marked) w.broken) }
     ensures grows { OnOk result (Grows table.old table.new) }
 {
-    let judged = judge(alloc, table, tree, texts)?;
-    let marked = marks_of(alloc, table, tree, &judged.typing);
-    let (marked, judged) = holding(marked, judged)?;
-    let statement = statement_fault(table, tree, &judged.typing, &marked);
-    let (statement, (marked, judged)) = holding(statement, (marked, judged))?;
+    let checked = check_nodes(alloc, table, tree, texts)?;
+    let marked = marks_of(alloc, table, tree, &checked.typing);
+    let (marked, checked) = holding(marked, checked)?;
+    let statement = statement_fault(table, tree, &checked.typing, &marked);
+    let (statement, (marked, checked)) = holding(statement, (marked, checked))?;
     Ok(Whole {
-        broken: lesser(judged.broken, statement),
-        typing: judged.typing,
+        broken: lesser(checked.broken, statement),
+        typing: checked.typing,
         marked,
     })
 }
@@ -158,7 +158,7 @@ fn statement_fault(
     ensures { IfOk result (λ b. IsFirst (IsBroken (scene_in table.now tree.now typing.now marked.now)) b) }
 {
     let setting = setting_of(tree, typing, marked);
-    judge_flow(table, &setting)
+    check_statements(table, &setting)
 }
 
 fn setting_of<'a>(tree: &'a Tree<'a>, typing: &'a Typing, marked: &'a Marked) -> Setting<'a>

@@ -3,8 +3,8 @@ use Rattle.std.proofs.Common.{◌≡◌, ℕ, zero, suc, ◌+◌, ◌*◌, ◌<�
 use Rattle.std.specs.List.{All, flat_map}
 use Rattle.cr_memory.specs.declared.value.Scalar.{Scalar}
 use Rattle.cr_memory.specs.declared.value.Guard.{Guard}
-use Rattle.cr_syntax.specs.declared.typed.CType.{CType}
-use Rattle.cr_syntax.specs.declared.typed.CType.TheVariants.{Int, Pointer, Array, Struct}
+use Rattle.cr_syntax.specs.declared.ctype.CType.{CType}
+use Rattle.cr_syntax.specs.declared.ctype.CType.TheVariants.{Int, Pointer, Array, Struct}
 use Rattle.cr_check_types.specs.Types.{Qualified, plain, pointer, array, type_at, type_by}
 use Rattle.cr_check_types.specs.Layouts.{count_of, element_of}
 use Rattle.cr_typed.specs.declared.typed.Typed.{Typed}

@@ -12,7 +12,7 @@ use Rattle.cr_meaning.specs.declared.op.Change.{Change}
 use Rattle.cr_meaning.specs.declared.op.Change.TheVariants.{Arithmetic}
 use Rattle.cr_meaning.specs.declared.op.Work.{Work}
 use Rattle.cr_meaning.specs.declared.op.Work.TheVariants as work
-use Rattle.cr_syntax.specs.declared.typed.CType.TheVariants.{Int}
+use Rattle.cr_syntax.specs.declared.ctype.CType.TheVariants.{Int}
 use Rattle.cr_syntax.specs.declared.node.Kind.{Kind}
 use Rattle.cr_syntax.specs.declared.node.Kind.TheVariants as kind
 use Rattle.cr_typed.specs.declared.typed.Typed.{Typed}

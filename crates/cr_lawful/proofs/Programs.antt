@@ -11,7 +11,7 @@ use Rattle.cr_lawful_analysis.specs.Analysis.{IsAnalysis, IsParsed, IsRead, Read
 use Rattle.cr_lawful_analysis.specs.declared.analysis.Analysis.TheVariants.{OfUnit}
 use Rattle.cr_lawful_analysis.specs.Members.{structures_of}
 use Rattle.cr_scopes.specs.Units.{AreUnitNames}
-use Rattle.cr_check.specs.declared.judged.Judged.{Judged}
+use Rattle.cr_check.specs.declared.checked.Checked.{Checked}
 use Rattle.cr_check.specs.Checked.{IsSoundOf}
 use Rattle.cr_typed.specs.declared.typed.Typed.{Typed}
 use Rattle.cr_typed_unit.specs.Typed.{IsTypedOf}
@@ -19,9 +19,9 @@ use Rattle.cr_lawful.specs.Programs.{IsProgram}
 use Rattle.cr_lawful.specs.declared.program.Program.{Program}
 
 -- what comes of the typed unit and the structures of a sound one is its program
-module _ (file : List ℕ) (u : source.Unit) (names : Names) (judged : Judged) (tokenizes : Tokenizes file u.tokens.list.items)
-    (parsed : IsParsed file u.tokens.list.items (tree_of u)) (known : AreUnitNames file u names) (sound : IsSoundOf file u names judged) where
-  with_names : (p : Program) → p.names ≡ names → IsTypedOf file u names p.typed → p.structures ≡ structures_of u.nodes judged → IsProgram file p
+module _ (file : List ℕ) (u : source.Unit) (names : Names) (checked : Checked) (tokenizes : Tokenizes file u.tokens.list.items)
+    (parsed : IsParsed file u.tokens.list.items (tree_of u)) (known : AreUnitNames file u names) (sound : IsSoundOf file u names checked) where
+  with_names : (p : Program) → p.names ≡ names → IsTypedOf file u names p.typed → p.structures ≡ structures_of u.nodes checked → IsProgram file p
   with_names p same typed structures = record {
     of_file = record {
       unit = u;
@@ -32,17 +32,17 @@ module _ (file : List ℕ) (u : source.Unit) (names : Names) (judged : Judged) (
       checked = typed;
     };
     names_are = same;
-    judged = judged;
+    checked = checked;
     sound = sound;
     structures_are = structures;
   }
 
   pub made : {E F : Type 0} (result : Result Program F) (typed : Result Typed E) (structures : Result (List (Option ℕ)) E)
-      → IfOk typed (IsTypedOf file u names) → IfOk structures (λ s. s ≡ structures_of u.nodes judged)
+      → IfOk typed (IsTypedOf file u names) → IfOk structures (λ s. s ≡ structures_of u.nodes checked)
       → IfOk result (λ p. (p.names ≡ names) × (typed ≡ Ok p.typed) × (structures ≡ Ok p.structures)) → IfOk result (IsProgram file)
   made (Err e) typed structures is are of = tt
   made (Ok p) typed structures is are (same, of_typed, of_structures) =
-      with_names p same (subst (λ r. IfOk r (IsTypedOf file u names)) of_typed is) (subst (λ r. IfOk r (λ s. s ≡ structures_of u.nodes judged)) of_structures are)
+      with_names p same (subst (λ r. IfOk r (IsTypedOf file u names)) of_typed is) (subst (λ r. IfOk r (λ s. s ≡ structures_of u.nodes checked)) of_structures are)
 
 -- a unit as it is read
 abbrev unit_of : Names → List Token → List Node → List ℕ → List (Option ℕ) → Read
@@ -82,14 +82,14 @@ module _ (file : List ℕ) (p : Program) (it : IsProgram file p) where
       → IsAnalysis file (OfUnit u p.names p.structures)
   is_read u tokens nodes items =
       let of = it.of_file in
-      let structures = structures_of of.unit.nodes it.judged in
+      let structures = structures_of of.unit.nodes it.checked in
       subst (IsRead file)
       (ap (λ ts. unit_of of.names ts of.unit.nodes of.unit.items structures) (tokens_are ∙ sym tokens)
       ∙ ap (λ ns. unit_of of.names u.tokens.list.items ns of.unit.items structures) (nodes_are ∙ sym nodes)
       ∙ ap (λ is. unit_of of.names u.tokens.list.items u.nodes is structures) (items_are ∙ sym items)
       ∙ ap (λ names. unit_of names u.tokens.list.items u.nodes u.items structures) (sym it.names_are)
       ∙ ap (unit_of p.names u.tokens.list.items u.nodes u.items) (sym it.structures_are))
-      (read.of_unit {unit = of.unit} {names = of.names} {judged = it.judged} of.tokenizes (record {
+      (read.of_unit {unit = of.unit} {names = of.names} {checked = it.checked} of.tokenizes (record {
         tokens_are = refl;
         parsed = of.parsed;
         known = of.known;

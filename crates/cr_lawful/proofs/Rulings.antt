@@ -159,8 +159,8 @@ no_end limits file typed other outcome why it also ends comes is =
     let none : None ≡ Some why = ap (run_reason file other) ended ∙ is in
     cc
 
--- the judgement by which the unit was typed is sound
-sound_of : (file : List ℕ) (u : source.Unit) (names : Names) (typed : Typed) (h : IsTypedOf file u names typed) → IsSoundOf file u names h.judged
+-- the check by which the unit was typed is sound
+sound_of : (file : List ℕ) (u : source.Unit) (names : Names) (typed : Typed) (h : IsTypedOf file u names typed) → IsSoundOf file u names h.checked
 sound_of file u names typed h = record { tree = h.by.tree; is = h.by.is; sound = h.by.sound }
 
 pub excludes : (limits : Limits) (file : List ℕ) (why : Reason) → IsReason limits file why → IsLawful limits file → ⊥
@@ -178,8 +178,8 @@ excludes limits file why (of_types u names fault are parsed known first is) lawf
     let it = lawful.of_file in
     let same = same_lists file it.unit u it.tokenizes are it.parsed parsed in
     let one = names_by file it.unit u it.names names it.tokenizes are it.parsed parsed it.known known in
-    no_fault file it.unit u names it.checked.judged fault same
-    (subst (λ names. IsSoundOf file it.unit names it.checked.judged) one (sound_of file it.unit it.names lawful.typed it.checked)) first
+    no_fault file it.unit u names it.checked.checked fault same
+    (subst (λ names. IsSoundOf file it.unit names it.checked.checked) one (sound_of file it.unit it.names lawful.typed it.checked)) first
     (λ none. let bad : None ≡ Some why = sym (ap (type_reason file u.tokens.list.items) none) ∙ is in cc)
 excludes limits file why (of_run typed outcome of_file comes is) lawful =
     no_end limits file lawful.typed typed outcome why lawful.of_file of_file lawful.ends comes is

@@ -9,7 +9,7 @@ ghost use Rattle.cr_lawful.specs.Programs.{IsProgram};
 
 use crate::program::{Program, program_of};
 use crate::reasons::{name_ruling, parse_ruling, type_ruling};
-use cr_check::{Judged, check};
+use cr_check::{Checked, check};
 use cr_cursor::{Ruling, Stop, token_ruling};
 use cr_decls::parse;
 use cr_lawful_analysis::structures_of;
@@ -101,7 +101,7 @@ fn with_types<S: Stop>(
     }
     tokens_are_spans();
     match check(alloc, file, &unit, &names) {
-        Ok(judged) => with_columns(alloc, file, unit, names, judged, stop),
+        Ok(checked) => with_columns(alloc, file, unit, names, checked, stop),
         Err(fault) => Err(type_ruling(file, unit.tokens.list.as_slice(), fault)),
     }
 }
@@ -111,25 +111,25 @@ fn with_columns<S: Stop>(
     file: &[u8],
     unit: Unit,
     names: Names,
-    judged: Judged,
+    checked: Checked,
     stop: &mut S,
 ) -> Result<Program, Ruling>
     requires unstopped { S.raised stop.old ≡ false }
     requires tokens { Tokenizes file.now unit.tokens.list.items }
     requires parsed { IsParsed file.now unit.tokens.list.items (tree_of unit) }
     requires known { AreUnitNames file.now unit names }
-    requires sound { IsSoundOf file.now unit names judged }
+    requires sound { IsSoundOf file.now unit names checked }
     ensures program { IfOk result (IsProgram file.now) }
     ensures refused { IfErr result (λ ruling. Refuses file.now (S.raised stop.new) ruling) }
     ensures unstopped { OnOk result (S.raised stop.new ≡ false) }
     ensures held { S.held stop.new ≡ S.held stop.old }
 {
     if stop.stop() {
-        drop((unit, names, judged));
+        drop((unit, names, checked));
         return Err(Ruling::Stopped);
     }
     tokens_are_spans();
-    let structures = structures_of(alloc, &unit, &judged);
-    let typed = typed(alloc, file, unit, &names, judged);
+    let structures = structures_of(alloc, &unit, &checked);
+    let typed = typed(alloc, file, unit, &names, checked);
     program_of(typed, names, structures)
 }

@@ -21,7 +21,7 @@ use Rattle.cr_scopes.specs.declared.told.Told.{Told}
 use Rattle.cr_scopes.specs.Resolved.{AreNames, IsFirstFault, count_of, entity_of, nobody}
 use Rattle.cr_scopes.specs.Spelled.{name_of}
 use Rattle.cr_scopes.specs.Units.{IsUnitFault}
-use Rattle.cr_check.specs.declared.judged.Judged.{Judged}
+use Rattle.cr_check.specs.declared.checked.Checked.{Checked}
 use Rattle.cr_check.specs.declared.fault.TypeFault.{TypeFault}
 use Rattle.cr_check.specs.declared.fault.TypeFault.TheVariants as type_fault
 use Rattle.cr_check.specs.Checked as checked
@@ -54,7 +54,7 @@ pub one_names : (file : List ℕ) (tokens : List Token) (tree : Tree) (names oth
 one_names file tokens tree names other are also = one_entities _ _ names other are.names also.names
 
 -- Two units of the same tokens have the same lists, and the same names.
-same_lists : (file : List ℕ) (tokens : List Token) (u v : source.Unit) (names other : Names) (j k : Judged) → IsUnitOf file tokens u names j
+same_lists : (file : List ℕ) (tokens : List Token) (u v : source.Unit) (names other : Names) (j k : Checked) → IsUnitOf file tokens u names j
     → IsUnitOf file tokens v other k → AreSameLists u v
 same_lists file tokens u v names other j k is also =
     let trees = same_tree file tokens (tree_of u) (tree_of v) is.parsed also.parsed in
@@ -64,7 +64,7 @@ same_lists file tokens u v names other j k is also =
       items = ap (λ (t : Tree). t.items) trees;
     }
 
-one_of_unit : (file : List ℕ) (tokens : List Token) (u v : source.Unit) (names other : Names) (j k : Judged) → IsUnitOf file tokens u names j
+one_of_unit : (file : List ℕ) (tokens : List Token) (u v : source.Unit) (names other : Names) (j k : Checked) → IsUnitOf file tokens u names j
     → IsUnitOf file tokens v other k
     → unit_read tokens (tree_of u) names (structures_of u.nodes j) ≡ unit_read tokens (tree_of v) other (structures_of v.nodes k)
 one_of_unit file tokens u v names other j k is also =
@@ -81,12 +81,12 @@ one_read file _ _ (no_tokens none) (of_unit are a) = absurd (none _ are)
 one_read file _ _ (no_unit are a) (no_tokens none) = absurd (none _ are)
 one_read file _ _ (no_unit {tokens = tokens} are a) (no_unit {tokens = others} also b) =
     ap (λ x. tokens_alone (Some x)) (one_list file tokens others are also)
-one_read file _ _ (no_unit {tokens = tokens} are a) (of_unit {tokens = others} {unit = unit} {names = names} {judged = judged} also b) =
-    absurd (a unit names judged (subst (λ x. IsUnitOf file x unit names judged) (sym (one_list file tokens others are also)) b))
+one_read file _ _ (no_unit {tokens = tokens} are a) (of_unit {tokens = others} {unit = unit} {names = names} {checked = checked} also b) =
+    absurd (a unit names checked (subst (λ x. IsUnitOf file x unit names checked) (sym (one_list file tokens others are also)) b))
 one_read file _ _ (of_unit are a) (no_tokens none) = absurd (none _ are)
-one_read file _ _ (of_unit {tokens = tokens} {unit = unit} {names = names} {judged = judged} are a) (no_unit {tokens = others} also b) =
-    absurd (b unit names judged (subst (λ x. IsUnitOf file x unit names judged) (one_list file tokens others are also) a))
-one_read file _ _ (of_unit {tokens = tokens} {unit = u} {names = names} {judged = j} are a) (of_unit {tokens = others} {unit = v} {names = other} {judged = k} also b) =
+one_read file _ _ (of_unit {tokens = tokens} {unit = unit} {names = names} {checked = checked} are a) (no_unit {tokens = others} also b) =
+    absurd (b unit names checked (subst (λ x. IsUnitOf file x unit names checked) (one_list file tokens others are also) a))
+one_read file _ _ (of_unit {tokens = tokens} {unit = u} {names = names} {checked = j} are a) (of_unit {tokens = others} {unit = v} {names = other} {checked = k} also b) =
     let same = one_list file tokens others are also in
     ap (λ x. unit_read x (tree_of u) names (structures_of u.nodes j)) same
     ∙ one_of_unit file others u v names other j k (subst (λ x. IsUnitOf file x u names j) same a) b
@@ -108,17 +108,17 @@ faulty file tokens tree other names fault parsed first also are =
 
 pub unnamed : (file : List ℕ) (u : source.Unit) (fault : NameFault) → (fault ≡ name_fault.NoMemory → ⊥) → IsUnitFault file u fault
     → IsParsed file u.tokens.list.items (tree_of u) → IsUnread file u.tokens.list.items
-unnamed file u name_fault.NoMemory some first parsed = λ v names judged is. some refl
-unnamed file u (name_fault.Unknown t) some first parsed = λ v names judged is.
+unnamed file u name_fault.NoMemory some first parsed = λ v names checked is. some refl
+unnamed file u (name_fault.Unknown t) some first parsed = λ v names checked is.
     faulty file u.tokens.list.items (tree_of u) (tree_of v) names (name_fault.Unknown t) parsed first is.parsed is.known
-unnamed file u (name_fault.Twice t) some first parsed = λ v names judged is.
+unnamed file u (name_fault.Twice t) some first parsed = λ v names checked is.
     faulty file u.tokens.list.items (tree_of u) (tree_of v) names (name_fault.Twice t) parsed first is.parsed is.known
 
 -- a unit that breaks a constraint is not one that breaks none
 pub unsound : (file : List ℕ) (u : source.Unit) (names : Names) (fault : TypeFault) → (fault ≡ type_fault.NoMemory → ⊥)
     → checked.IsFirstFault file u names fault → IsParsed file u.tokens.list.items (tree_of u)
     → AreItsNames file u.tokens.list.items (tree_of u) names → IsUnread file u.tokens.list.items
-unsound file u names fault some first parsed known = λ v other judged is.
+unsound file u names fault some first parsed known = λ v other checked is.
     let tokens = u.tokens.list.items in
     let trees = same_tree file tokens (tree_of v) (tree_of u) is.parsed parsed in
     let lists : AreSameLists v u = record {
@@ -127,4 +127,4 @@ unsound file u names fault some first parsed known = λ v other judged is.
       items = ap (λ (t : Tree). t.items) trees;
     } in
     let same = one_names file tokens (tree_of u) other names (subst (λ t. AreItsNames file tokens t other) trees is.known) known in
-    no_fault file v u names judged fault lists (subst (λ n. IsSoundOf file v n judged) same is.sound) first some
+    no_fault file v u names checked fault lists (subst (λ n. IsSoundOf file v n checked) same is.sound) first some

@@ -11,7 +11,7 @@ use Rattle.cr_scopes_events.specs.Events.{events_of}
 use Rattle.cr_scopes.specs.declared.names.Names.{Names}
 use Rattle.cr_scopes.specs.Resolved.{AreResolved}
 use Rattle.cr_scopes.specs.Spelled.{name_of}
-use Rattle.cr_check.specs.declared.judged.Judged.{Judged}
+use Rattle.cr_check.specs.declared.checked.Checked.{Checked}
 use Rattle.cr_check.specs.Checked.{IsSoundOf}
 use Rattle.cr_lawful_analysis.specs.declared.analysis.Analysis as the_analysis
 use Rattle.cr_lawful_analysis.specs.declared.analysis.Analysis.TheVariants.{NoTokens, NoUnit, OfUnit}
@@ -36,16 +36,16 @@ pub record IsParsed (file : List ℕ) (tokens : List Token) (tree : Tree) : Type
 abbrev pub AreItsNames : List ℕ → List Token → Tree → Names → Type 0
 AreItsNames file tokens tree names = AreResolved (name_of file tokens) (events_of tokens tree.nodes tree.items) (length tokens) names
 
--- the unit is that of the tokens, its names are known, and it breaks no constraint as it was judged
-pub record IsUnitOf (file : List ℕ) (tokens : List Token) (unit : source.Unit) (names : Names) (judged : Judged) : Type 0 where
+-- the unit is that of the tokens, its names are known, and it breaks no constraint as it was checked
+pub record IsUnitOf (file : List ℕ) (tokens : List Token) (unit : source.Unit) (names : Names) (checked : Checked) : Type 0 where
   pub tokens_are : unit.tokens.list.items ≡ tokens
   pub parsed : IsParsed file tokens (tree_of unit)
   pub known : AreItsNames file tokens (tree_of unit) names
-  pub sound : IsSoundOf file unit names judged
+  pub sound : IsSoundOf file unit names checked
 
 -- the tokens are those of no unit whose names are known and that breaks no constraint
 abbrev pub IsUnread : List ℕ → List Token → Type 0
-IsUnread file tokens = (unit : source.Unit) (names : Names) (judged : Judged) → IsUnitOf file tokens unit names judged → ⊥
+IsUnread file tokens = (unit : source.Unit) (names : Names) (checked : Checked) → IsUnitOf file tokens unit names checked → ⊥
 
 -- What is read of a file: its tokens, and the tree of its unit with its names, and for each node the structure whose member it names, as far
 -- as they are there.
@@ -66,8 +66,8 @@ unit_read tokens tree names structures =
 pub data IsRead (file : List ℕ) : Read → Type 0 where
   no_tokens : HasNoTokens file → IsRead file (tokens_alone None)
   no_unit : {tokens : List Token} → Tokenizes file tokens → IsUnread file tokens → IsRead file (tokens_alone (Some tokens))
-  of_unit : {tokens : List Token} {unit : source.Unit} {names : Names} {judged : Judged} → Tokenizes file tokens
-      → IsUnitOf file tokens unit names judged → IsRead file (unit_read tokens (tree_of unit) names (structures_of unit.nodes judged))
+  of_unit : {tokens : List Token} {unit : source.Unit} {names : Names} {checked : Checked} → Tokenizes file tokens
+      → IsUnitOf file tokens unit names checked → IsRead file (unit_read tokens (tree_of unit) names (structures_of unit.nodes checked))
 
 -- what an analysis has read
 abbrev pub read_of : the_analysis.Analysis → Read

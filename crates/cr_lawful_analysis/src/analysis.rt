@@ -4,7 +4,7 @@ ghost use Rattle.cr_scopes.specs.declared.fault.NameFault.TheVariants as name_fa
 ghost use Rattle.cr_tokens.specs.Tokens.{HasNoTokens, Tokenizes};
 ghost use Rattle.cr_exprs.specs.declared.fault.ParseFault.TheVariants.{NoMemory};
 ghost use Rattle.cr_check.specs.declared.fault.TypeFault.TheVariants as type_fault;
-ghost use Rattle.cr_check.specs.declared.judged.Judged.{Judged};
+ghost use Rattle.cr_check.specs.declared.checked.Checked.{Checked};
 ghost use Rattle.cr_lawful_analysis.specs.Analysis.{AreItsNames, IsAnalysis, IsParsed, IsUnitOf, tree_of};
 ghost use Rattle.cr_lawful_analysis.specs.Members.{structures_of};
 
@@ -109,9 +109,9 @@ fn checked(alloc: Global, file: &[u8], unit: Unit, names: Names) -> Result<Analy
 {
     tokens_are_spans();
     match check(alloc, file, &unit, &names) {
-        Ok(judged) => {
-            let structures = structures_of(alloc, &unit, &judged);
-            drop(judged);
+        Ok(checked) => {
+            let structures = structures_of(alloc, &unit, &checked);
+            drop(checked);
             of_unit(unit, names, structures)
         }
         Err(fault) => {
@@ -127,8 +127,8 @@ fn of_unit(
     names: Names,
     structures: Result<Row<Option<u32>>, AllocError>,
 ) -> Result<Analysis, AllocError>
-    ensures { (file : List ℕ) (judged : Judged) → Tokenizes file unit.tokens.list.items → IsUnitOf file unit.tokens.list.items unit names judged
-        → IfOk structures (λ s. s ≡ structures_of unit.nodes judged) → IfOk result (IsAnalysis file) }
+    ensures { (file : List ℕ) (checked : Checked) → Tokenizes file unit.tokens.list.items → IsUnitOf file unit.tokens.list.items unit names checked
+        → IfOk structures (λ s. s ≡ structures_of unit.nodes checked) → IfOk result (IsAnalysis file) }
 {
     let (structures, (unit, names)) = holding(structures, (unit, names))?;
     Ok(Analysis::OfUnit(unit, names, structures))

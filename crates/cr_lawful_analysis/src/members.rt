@@ -4,7 +4,7 @@ ghost use Rattle.cr_check_operands.specs.Values.{room_of, valued_at};
 ghost use Rattle.cr_check_expressions.specs.Ruled.{AreFacts, facts_at, pointed_structure};
 ghost use Rattle.cr_lawful_analysis.specs.Members.{structure_of, structures_by, structures_of};
 
-use cr_check::Judged;
+use cr_check::Checked;
 use cr_check_expressions::{operand, value};
 use cr_check_operands::{Fact, Value, structure_at};
 use cr_check_types::Table;
@@ -12,17 +12,17 @@ use cr_rows::Row;
 use cr_syntax::{Kind, Node, Unit};
 use std::alloc::{AllocError, Global};
 
-/// For each node of a unit that was judged the structure whose member it names (C11 6.5.2.3), by its content. The error is want of memory.
+/// For each node of a unit that was checked the structure whose member it names (C11 6.5.2.3), by its content. The error is want of memory.
 pub fn structures_of(
     alloc: Global,
     unit: &Unit,
-    judged: &Judged,
+    checked: &Checked,
 ) -> Result<Row<Option<u32>>, AllocError>
-    requires { AreFacts judged.now.table judged.now.whole.typing.facts }
-    ensures { IfOk result (λ structures. structures ≡ structures_of unit.now.nodes judged.now) }
+    requires { AreFacts checked.now.table checked.now.whole.typing.facts }
+    ensures { IfOk result (λ structures. structures ≡ structures_of unit.now.nodes checked.now) }
 {
-    let facts = judged.whole.typing.facts.as_slice();
-    structures(alloc, unit.nodes.as_slice(), &judged.table, facts)
+    let facts = checked.whole.typing.facts.as_slice();
+    structures(alloc, unit.nodes.as_slice(), &checked.table, facts)
 }
 
 // The same of nodes that have these facts.

@@ -9,9 +9,9 @@ use Rattle.cr_tokens.specs.declared.token.TokenKind.TheVariants.{Keyword}
 use Rattle.cr_syntax.specs.declared.node.Node.{Node}
 use Rattle.cr_syntax.specs.declared.node.Kind.{Kind}
 use Rattle.cr_syntax.specs.declared.node.Kind.TheVariants as kind
-use Rattle.cr_syntax.specs.declared.typed.CType.{CType}
-use Rattle.cr_syntax.specs.declared.typed.CType.TheVariants as ctype
-use Rattle.cr_syntax.specs.declared.typed.CType.TheVariants.{Void, Pointer, Array, Struct, Function, Unknown}
+use Rattle.cr_syntax.specs.declared.ctype.CType.{CType}
+use Rattle.cr_syntax.specs.declared.ctype.CType.TheVariants as ctype
+use Rattle.cr_syntax.specs.declared.ctype.CType.TheVariants.{Void, Pointer, Array, Struct, Function, Unknown}
 use Rattle.cr_check_types.specs.declared.shape.Shape.{Shape}
 use Rattle.cr_check_types.specs.declared.layout.Layout.{Layout}
 use Rattle.cr_check_types.specs.Types.{types_of, type_at}

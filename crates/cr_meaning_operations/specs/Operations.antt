@@ -31,7 +31,7 @@ use Rattle.cr_meaning.specs.declared.op.Target.{Target}
 use Rattle.cr_meaning.specs.declared.op.Work.{Work}
 use Rattle.cr_meaning.specs.declared.op.Work.TheVariants as work
 use Rattle.cr_meaning.specs.declared.run.Limits.{Limits}
-use Rattle.cr_syntax.specs.declared.typed.CType.TheVariants.{Int, Function}
+use Rattle.cr_syntax.specs.declared.ctype.CType.TheVariants.{Int, Function}
 use Rattle.cr_syntax.specs.declared.node.Kind.{Kind}
 use Rattle.cr_syntax.specs.declared.node.Kind.TheVariants as kind
 use Rattle.cr_syntax.specs.declared.node.Node.{Node}

@@ -11,7 +11,7 @@ use Rattle.cr_meaning.specs.declared.op.Form.{Form}
 use Rattle.cr_meaning.specs.declared.op.Form.TheVariants as form
 use Rattle.cr_meaning.specs.declared.op.Access.{Access}
 use Rattle.cr_meaning.specs.declared.op.Access.TheVariants as access
-use Rattle.cr_syntax.specs.declared.typed.CType.TheVariants.{Void, Int, Struct}
+use Rattle.cr_syntax.specs.declared.ctype.CType.TheVariants.{Void, Int, Struct}
 use Rattle.cr_typed.specs.declared.typed.Typed.{Typed}
 use Rattle.cr_typed.specs.Typed.{row_cells}
 use Rattle.cr_check_types.specs.Types.{Qualified, plain, pointer, array, types_of, type_at}

@@ -73,7 +73,7 @@ stated : (P : Exits → Type 0) (C : Sort → Type 0) (own : Sort) → IsStateme
 stated P C (statement exits) h f = f exits h
 stated P C own h f = absurd h
 
-node_goes : (p : Program) (sorts : ℕ → Option Sort) (node : ℕ) (op : Op) (w : Work) (own : Sort) (done : List Answer) (base s : World) → op.work ≡ w → Gives p sorts op w own
+pub node_goes : (p : Program) (sorts : ℕ → Option Sort) (node : ℕ) (op : Op) (w : Work) (own : Sort) (done : List Answer) (base s : World) → op.work ≡ w → Gives p sorts op w own
     → HaveSorts sorts op → Here p sorts w op.parts done base s → Goes p sorts node op w own done base s (next_by w op.parts done)
 node_goes p sorts node op work.LogicalAnd own done base s e g have h =
     let w = work.LogicalAnd in
@@ -171,7 +171,7 @@ pub record Course (E : Halt → Type 0) (p : Program) (sorts : ℕ → Option So
   pub node_safe : (node : ℕ) (done : List Answer) (s : World) (i : Going p sorts sees node done s) → SafeWay E p node i.op done s (next_of i.op done)
   pub root_safe : (node : ℕ) (done : List Answer) (s : World) (i : Rooted p sorts sees node done s) → SafeWay E p node i.op done s (next_of i.op done)
 
-not_open : (w : Work) (parts : List ℕ) → is_open w parts 0 ≡ false
+pub not_open : (w : Work) (parts : List ℕ) → is_open w parts 0 ≡ false
 not_open (work.Call (Function parameters rest is_main)) parts = refl
 not_open (work.Call callee) parts = refl
 not_open w parts = refl
@@ -223,7 +223,7 @@ replied E p sorts sees c g s i r run =
 
 -- ---- where nothing is said of ends
 
-nothing_seen : ℕ → ℕ → Bool
+pub nothing_seen : ℕ → ℕ → Bool
 nothing_seen node declared = false
 
 any_safe : (acted : Act) → Safely anything acted
@@ -236,11 +236,11 @@ any_way p node op done s (Enter m) = any_safe (before_by p node op.work done s)
 any_way p node op done s (Resume again) = any_safe (before_by p node op.work done s)
 any_way p node op done s Ready = any_safe (join_by p node op op.work done s)
 
-unseen : (node declared : ℕ) (C : Type 0) → nothing_seen node declared ≡ true → C
+pub unseen : (node declared : ℕ) (C : Type 0) → nothing_seen node declared ≡ true → C
 unfolding nothing_seen
 unseen node declared C e = absurd (cc e)
 
-any_course : (p : Program) (sorts : ℕ → Option Sort) → AreTyped p sorts → Course anything p sorts nothing_seen
+pub any_course : (p : Program) (sorts : ℕ → Option Sort) → AreTyped p sorts → Course anything p sorts nothing_seen
 any_course p sorts typed = record {
   typed = typed;
   scoped = λ node op k m declared e is d. unseen m declared _ d;

@@ -64,7 +64,7 @@ with_sound memory object sound hold few = record {
 
 -- ---- an object less
 
-gone : (objects : List (Option Object)) (number n : ℕ) (live : Object) → (n ≡ number) ⊎ (n ≢ number) → get_or (set objects number None) n None ≡ Some live → get_or objects n None ≡ Some live
+pub gone : (objects : List (Option Object)) (number n : ℕ) (live : Object) → (n ≡ number) ⊎ (n ≢ number) → get_or (set objects number None) n None ≡ Some live → get_or objects n None ≡ Some live
 gone objects number n live (inr other) e = sym (get_or-set_other objects number n None None other) ∙ e
 gone objects number n live (inl same) e = ended objects number n live (cases_lt number (length objects)) same e
   where

@@ -13,7 +13,7 @@ use Rattle.cr_scopes_bindings.specs.Nodes.{name_at, tag_at}
 use Rattle.cr_scopes_bindings.specs.Entities.{entity_at, content_entity, first_of, previous_of, AreDeclaring, AreOf}
 use Rattle.cr_scopes_bindings.specs.Visible.{AreVisible}
 use Rattle.cr_scopes_bindings.specs.declared.bindings.Bindings.{Bindings}
-use Rattle.cr_scopes_bindings.specs.declared.bindings.Tag.{Tag}
+use Rattle.cr_scopes_bindings.specs.declared.bindings.TagBinding.{TagBinding}
 
 pub record AreBindings (file : List ℕ) (unit : tree.Unit) (names : Names) (b : Bindings) : Type 0 where
   pub spellings : AreSpellings file unit.tokens.list.items b.spellings
@@ -53,17 +53,17 @@ earlier_node b token = entry_if b.declarers (slice_index_or b.previous token Non
 abbrev pub first_node : Bindings → Names → ℕ → Option ℕ
 first_node b names token = entry_if b.declarers (first_of names (entity_at names token))
 
-abbrev pub tag_for : Bindings → Names → ℕ → Tag
+abbrev pub tag_for : Bindings → Names → ℕ → TagBinding
 tag_for b names token = record {
   first = entry_if b.specifiers (first_of names (entity_at names token));
   content = entry_if b.contents (entity_at names token);
   declares = slice_index_or b.declaring token false;
 }
 
-abbrev pub tag_if : Bindings → Names → Option ℕ → Option Tag
+abbrev pub tag_if : Bindings → Names → Option ℕ → Option TagBinding
 tag_if b names None = None
 tag_if b names (Some token) = Some (tag_for b names token)
 
 -- what is known of the tag in a specifier
-abbrev pub tag_of : Bindings → Names → List Node → List Token → ℕ → Option Tag
+abbrev pub tag_of : Bindings → Names → List Node → List Token → ℕ → Option TagBinding
 tag_of b names nodes tokens i = tag_if b names (tag_at nodes tokens i)

@@ -41,7 +41,7 @@ pub struct Bindings {
 
 /// What is known of the tag in a specifier of a structure or an enumeration (6.7.2.3).
 #[derive(Clone, Copy)]
-pub struct Tag {
+pub struct TagBinding {
     /// The specifier that declares it first.
     pub first: Option<u32>,
     /// The one with its content.
@@ -177,11 +177,11 @@ impl Bindings {
         entry_at(&self.declarers, first_of(names, entity))
     }
 
-    fn tag_for(&self, names: &Names, token: usize) -> Tag
+    fn tag_for(&self, names: &Names, token: usize) -> TagBinding
         ensures { result ≡ tag_for self.now names.now token }
     {
         let entity = entity_at(names, token);
-        Tag {
+        TagBinding {
             first: entry_at(&self.specifiers, first_of(names, entity)),
             content: entry_at(&self.contents, entity),
             declares: is_marked(self.declaring.as_slice(), token),
@@ -189,7 +189,13 @@ impl Bindings {
     }
 
     /// What is known of the tag in the specifier of a number; None where it has no tag.
-    pub fn tag_of(&self, names: &Names, nodes: &[Node], tokens: &[Token], at: u32) -> Option<Tag>
+    pub fn tag_of(
+        &self,
+        names: &Names,
+        nodes: &[Node],
+        tokens: &[Token],
+        at: u32,
+    ) -> Option<TagBinding>
         ensures { result ≡ tag_of self.now names.now nodes.now tokens.now at }
     {
         match tag_at(nodes, tokens, at as usize) {

@@ -15,5 +15,5 @@ mod scoped;
 mod spellings;
 mod visible;
 
-pub use bindings::{Bindings, Tag};
+pub use bindings::{Bindings, TagBinding};
 pub use last::{link_at, set_link};

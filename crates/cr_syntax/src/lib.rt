@@ -8,15 +8,16 @@
 //! about the grammar. It stands on the tokens, the integer types and the rows.
 #![tactic(auto)]
 
+mod ctype;
 mod laws;
 mod node;
 mod part;
 mod scopes;
 mod shape;
-mod typed;
 mod unit;
 mod word;
 
+pub use ctype::CType;
 pub use laws::{
     latest_declaration_decides, reading_is_spelling, table_is_grammar, tokens_are_spans,
 };
@@ -24,6 +25,5 @@ pub use node::{Kind, Node, number_of};
 pub use part::{Context, MOST_LEVELS, Part};
 pub use scopes::{OpenScopes, Scope, TypeName, begin, enter, is_type};
 pub use shape::{FRESH, ends_open, first, is_bare, past_node, past_token, rest_of};
-pub use typed::{CType, Shape, Typed};
 pub use unit::Unit;
 pub use word::{Word, word_at};

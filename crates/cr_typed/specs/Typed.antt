@@ -3,7 +3,7 @@ use Rattle.std.specs.Prelude.{◌≡◌, ℕ, ◌<◌, ◌≤◌, ◌^◌, List,
 use Rattle.std.specs.List.{All}
 use Rattle.cr_syntax.specs.Kept.{PartsAreBelow}
 use Rattle.cr_syntax.specs.Words.{AreSpans}
-use Rattle.cr_syntax.specs.declared.typed.CType.TheVariants.{Struct}
+use Rattle.cr_syntax.specs.declared.ctype.CType.TheVariants.{Struct}
 use Rattle.cr_check_types.specs.Types.{Qualified, plain, pointer, array, unknown, type_at, IsTable}
 use Rattle.cr_check_types.specs.Layouts.{layout_of}
 use Rattle.cr_typed.specs.declared.typed.Typed.{Typed}

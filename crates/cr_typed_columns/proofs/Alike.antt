@@ -12,7 +12,7 @@ use Rattle.cr_typed.specs.declared.typed.Typed.{Typed}
 use Rattle.cr_typed.specs.declared.typed.Put.{Put}
 use Rattle.cr_check_initialisers.specs.Plans.{Entry, put, excess}
 use Rattle.cr_check_initialisers.proofs.Rows.{beyond}
-use Rattle.cr_typed_columns.specs.declared.judgement.Judgement.{Judgement}
+use Rattle.cr_typed_columns.specs.declared.checked.CheckedColumns.{CheckedColumns}
 use Rattle.cr_typed_columns.specs.Rows.{listed, levels_upto, put_entry, put_type, put_row, AreRowsOf, AreAllRows, AreAllPuts}
 use Rattle.cr_typed_columns.specs.Names.{ref_of, duration_of, named_of}
 use Rattle.cr_typed_columns.specs.Expressions.{type_of_node, constant_of, valued_of, chosen_of}
@@ -172,10 +172,10 @@ types_map : (a : List Shape) (puts : List Put) → map (put_type a) puts ≡ map
 types_map a [] = refl
 types_map a (p ∷ puts) = ap (λ ts. put_type a p ∷ ts) (types_map a puts)
 
-plan_types_same : (j k : Judgement) (i : ℕ) → plan_entries j i ≡ plan_entries k i → plan_types j i ≡ plan_types k i
+plan_types_same : (j k : CheckedColumns) (i : ℕ) → plan_entries j i ≡ plan_entries k i → plan_types j i ≡ plan_types k i
 plan_types_same j k i e = types_map j.table.now (puts_at j i) ∙ ap (map entry_type) e ∙ sym (types_map k.table.now (puts_at k i))
 
-unit_types_same : (u : Parsed) (j k : Judgement) → AreAlike u j k → types_of_unit u j ≡ types_of_unit u k
+unit_types_same : (u : Parsed) (j k : CheckedColumns) → AreAlike u j k → types_of_unit u j ≡ types_of_unit u k
 unit_types_same u j k e =
     rw (
       listed_same (type_of_node j) (type_of_node k) (length u.nodes) e.types,

@@ -14,7 +14,7 @@ use Rattle.cr_check_types.specs.Shared.{levels_of, IsCanonical, IsWithAll}
 use Rattle.cr_typed.specs.declared.typed.Put.{Put}
 use Rattle.cr_check_initialisers.specs.Plans.{Entry, put}
 use Rattle.cr_check_expressions.proofs.Kept.{grows_on}
-use Rattle.cr_typed_columns.specs.declared.judgement.Judgement.{Judgement}
+use Rattle.cr_typed_columns.specs.declared.checked.CheckedColumns.{CheckedColumns}
 use Rattle.cr_typed_columns.specs.declared.rows.Named.{Named}
 use Rattle.cr_typed_columns.specs.declared.assembling.Shaped.{Shaped}
 use Rattle.cr_typed_columns.specs.Rows.{listed, type_in, levels_of_all, levels_upto, put_entry, put_row, AreRowsOf, ArePuts, AreAllRows, AreAllPuts}
@@ -154,7 +154,7 @@ all_puts_more a b entries k all puts g h is = record {
 
 -- ---- a whole table
 
-pub shaped_is : (u : Parsed) (j : Judgement) (s : Shaped) (nodes : List Node) (first after next third : List Shape) (ts ns : List Named)
+pub shaped_is : (u : Parsed) (j : CheckedColumns) (s : Shaped) (nodes : List Node) (first after next third : List Shape) (ts ns : List Named)
     → nodes ≡ u.nodes → IsCanonical s.shapes → length first ≡ 1 → IsRow first 0 unknown
     → map (type_in (type_at j.table.now)) ts ≡ listed (type_of_node j) (length nodes)
     → map (type_in (type_at j.table.now)) ns ≡ listed (named_of u j) (length u.nodes)

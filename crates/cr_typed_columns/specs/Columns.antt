@@ -1,4 +1,4 @@
--- All columns of a typed unit, by what was judged of its nodes.
+-- All columns of a typed unit, by what was checked of its nodes.
 use Rattle.std.specs.Prelude.{◌≡◌, ℕ, ◌++◌, List, [], Bool, true, false, Option, Some, length, map, slice_index_or, if◌then◌else◌}
 use Rattle.cr_syntax.specs.declared.node.Kind.{Kind}
 use Rattle.cr_syntax.specs.declared.node.Kind.TheVariants as kind
@@ -14,7 +14,7 @@ use Rattle.cr_typed.specs.declared.typed.Typed.{Typed}
 use Rattle.cr_typed.specs.declared.typed.Put.{Put}
 use Rattle.cr_check_expressions.specs.declared.known.Member.{Member}
 use Rattle.cr_check_initialisers.specs.Plans.{Entry, puts_of}
-use Rattle.cr_typed_columns.specs.declared.judgement.Judgement.{Judgement}
+use Rattle.cr_typed_columns.specs.declared.checked.CheckedColumns.{CheckedColumns}
 use Rattle.cr_typed_columns.specs.declared.assembling.Columns.{Columns}
 use Rattle.cr_typed_columns.specs.declared.assembling.Entities.{Entities}
 use Rattle.cr_typed_columns.specs.declared.assembling.Shaped.{Shaped}
@@ -33,28 +33,28 @@ is_structure k = false
 abbrev pub member_type : (ℕ → Qualified) → Member → Qualified
 member_type look member = look member.row
 
-abbrev pub member_types : List Node → Judgement → ℕ → List Qualified
+abbrev pub member_types : List Node → CheckedColumns → ℕ → List Qualified
 member_types nodes j i =
     if is_structure (kind_at nodes i) then map (member_type (type_at j.table.now)) (slice_index_or j.members.now i []) else []
 
-abbrev pub layout_at : Judgement → ℕ → Layout
+abbrev pub layout_at : CheckedColumns → ℕ → Layout
 layout_at j i = slice_index_or j.layouts.now i layouts.nothing
 
 -- ---- initialisers (6.7.9)
 
-abbrev pub puts_at : Judgement → ℕ → List Put
+abbrev pub puts_at : CheckedColumns → ℕ → List Put
 puts_at j i = puts_of (slice_index_or j.lines.now i [])
 
-abbrev pub plan_entries : Judgement → ℕ → List Entry
+abbrev pub plan_entries : CheckedColumns → ℕ → List Entry
 plan_entries j i = map (put_entry j.table.now) (puts_at j i)
 
-abbrev pub plan_types : Judgement → ℕ → List Qualified
+abbrev pub plan_types : CheckedColumns → ℕ → List Qualified
 plan_types j i = map (put_type j.table.now) (puts_at j i)
 
 -- ---- the table
 
 -- the types of a unit, each behind those below it: of its expressions, of its names, of its members, and of what is initialised
-abbrev pub types_of_unit : Parsed → Judgement → List Qualified
+abbrev pub types_of_unit : Parsed → CheckedColumns → List Qualified
 types_of_unit u j =
     levels_of_all (listed (type_of_node j) (length u.nodes))
     ++ (levels_of_all (listed (named_of u j) (length u.nodes))
@@ -69,7 +69,7 @@ pub record IsTableOf (types : List Qualified) (shapes : List Shape) : Type 0 whe
   pub canonical : IsCanonical shapes
 
 -- the table, and rows of it
-pub record IsShaped (u : Parsed) (j : Judgement) (s : Shaped) : Type 0 where
+pub record IsShaped (u : Parsed) (j : CheckedColumns) (s : Shaped) : Type 0 where
   pub shapes : IsTableOf (types_of_unit u j) s.shapes
   pub types : AreRowsOf s.shapes (listed (type_of_node j) (length u.nodes)) s.types
   pub named : AreRowsOf s.shapes (listed (named_of u j) (length u.nodes)) s.named
@@ -79,26 +79,26 @@ pub record IsShaped (u : Parsed) (j : Judgement) (s : Shaped) : Type 0 where
 -- ---- the columns
 
 -- what names stand for
-pub record AreEntities (u : Parsed) (j : Judgement) (e : Entities) : Type 0 where
+pub record AreEntities (u : Parsed) (j : CheckedColumns) (e : Entities) : Type 0 where
   pub refs : e.refs ≡ listed (ref_of u j) (length u.nodes)
   pub durations : e.durations ≡ listed (duration_of u.nodes j) (length u.nodes)
   pub parameters : e.parameters ≡ listed (parameters_of u j) (length u.nodes)
 
 -- what nodes give by themselves
-pub record AreValues (nodes : List Node) (j : Judgement) (v : Values) : Type 0 where
+pub record AreValues (nodes : List Node) (j : CheckedColumns) (v : Values) : Type 0 where
   pub valued : v.valued ≡ listed (valued_of nodes j) (length nodes)
   pub constants : v.constants ≡ listed (constant_of j) (length nodes)
   pub layouts_are : v.layouts ≡ listed (layout_at j) (length nodes)
   pub chosen : v.chosen ≡ listed (chosen_of nodes j) (length nodes)
 
 -- all that is worked out of a unit
-pub record AreColumns (file : List ℕ) (u : Parsed) (j : Judgement) (c : Columns) : Type 0 where
+pub record AreColumns (file : List ℕ) (u : Parsed) (j : CheckedColumns) (c : Columns) : Type 0 where
   pub shaped : IsShaped u j c.shaped
   pub entities : AreEntities u j c.entities
   pub values : AreValues u.nodes j c.values
   pub main : c.main ≡ main_of file u
 
-pub record IsElaborated (file : List ℕ) (u : Parsed) (texts : List (List ℕ)) (j : Judgement) (t : Typed) : Type 0 where
+pub record IsElaborated (file : List ℕ) (u : Parsed) (texts : List (List ℕ)) (j : CheckedColumns) (t : Typed) : Type 0 where
   pub file_is : t.file ≡ file
   pub tokens_are : t.tokens ≡ u.tokens
   pub nodes_are : t.nodes ≡ u.nodes

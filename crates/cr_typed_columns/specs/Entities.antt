@@ -15,7 +15,7 @@ use Rattle.cr_check_declarators.specs.declared.words.Storage.{Storage}
 use Rattle.cr_check_declarators.specs.Specifiers.{nothing}
 use Rattle.cr_check_expressions.specs.declared.known.Declared.{Declared}
 use Rattle.cr_check_expressions.specs.declared.known.Declared.TheVariants.{Object, Unclear}
-use Rattle.cr_typed_columns.specs.declared.judgement.Judgement.{Judgement}
+use Rattle.cr_typed_columns.specs.declared.checked.CheckedColumns.{CheckedColumns}
 use Rattle.cr_typed_columns.specs.declared.lasts.Found.{Found}
 use Rattle.cr_typed_columns.specs.Reading.{Parsed, kind_of, part_of, entry_of}
 
@@ -75,10 +75,10 @@ definition_of nodes names entity = last_of (defined_entity nodes names) (length 
 -- ---- objects
 
 -- the whole declarator that declares a name
-abbrev pub whole_of : List Node → Judgement → ℕ → Option ℕ
+abbrev pub whole_of : List Node → CheckedColumns → ℕ → Option ℕ
 whole_of nodes j i = entry_of j.declarers.now None (named_token nodes i)
 
-abbrev pub declared_of : Judgement → Option ℕ → Declared
+abbrev pub declared_of : CheckedColumns → Option ℕ → Declared
 declared_of j whole = entry_of j.declared.now Unclear whole
 
 abbrev pub is_object : Declared → Bool
@@ -98,25 +98,25 @@ is_extern None = false
 is_extern (Some storage) = is_extern_class storage.class
 
 -- an object that a declaration names with `extern` and without an initialiser, which defines none (6.9.2p1, p2)
-abbrev pub is_open : List Node → Judgement → Option ℕ → Bool
+abbrev pub is_open : List Node → CheckedColumns → Option ℕ → Bool
 is_open nodes j whole =
     is_declaration (kind_of nodes (entry_of j.above.now None whole))
     && is_extern (entry_of j.specified.now nothing (part_of nodes (entry_of j.above.now None whole) 0)).storage
 
-abbrev pub keeps : List Node → Judgement → Option ℕ → Bool
+abbrev pub keeps : List Node → CheckedColumns → Option ℕ → Bool
 keeps nodes j whole = is_object (declared_of j whole) && not (is_open nodes j whole)
 
 -- the object that a declaration defines
-abbrev pub kept_entity : List Node → Judgement → ℕ → Option ℕ
+abbrev pub kept_entity : List Node → CheckedColumns → ℕ → Option ℕ
 kept_entity nodes j i = if keeps nodes j (whole_of nodes j i) then entity_of nodes j.names.now i else None
 
 -- some declaration of an object defines it
-abbrev pub is_kept : List Node → Judgement → Option ℕ → Bool
+abbrev pub is_kept : List Node → CheckedColumns → Option ℕ → Bool
 is_kept nodes j entity = is_some (last_of (kept_entity nodes j) (length nodes) (length j.names.now.entities) entity)
 
 -- ---- the columns by which they are found
 
-pub record AreFound (u : Parsed) (j : Judgement) (found : Found) : Type 0 where
+pub record AreFound (u : Parsed) (j : CheckedColumns) (found : Found) : Type 0 where
   pub names : AreLast (named_token u.nodes) (length u.nodes) (length u.tokens) found.names
   pub lasts : AreLast (entity_of u.nodes j.names.now) (length u.nodes) (length j.names.now.entities) found.lasts
   pub definitions : AreLast (defined_entity u.nodes j.names.now) (length u.nodes) (length j.names.now.entities) found.definitions

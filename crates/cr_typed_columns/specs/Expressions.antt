@@ -19,13 +19,13 @@ use Rattle.cr_check_expressions.specs.Ruled.{no_fact}
 use Rattle.cr_check_expressions.specs.Used.{is_valued}
 use Rattle.cr_check_initialisers.specs.declared.lines.Line.{Line}
 use Rattle.cr_check_initialisers.specs.declared.lines.Line.TheVariants as line
-use Rattle.cr_typed_columns.specs.declared.judgement.Judgement.{Judgement}
+use Rattle.cr_typed_columns.specs.declared.checked.CheckedColumns.{CheckedColumns}
 use Rattle.cr_typed_columns.specs.Reading.{kind_of, part_of, entry_of}
 
-abbrev pub seen_of : Judgement → Option ℕ → Seen
+abbrev pub seen_of : CheckedColumns → Option ℕ → Seen
 seen_of j node = seen_at j.table.now (entry_of j.facts.now no_fact node)
 
-abbrev pub type_of_node : Judgement → ℕ → Qualified
+abbrev pub type_of_node : CheckedColumns → ℕ → Qualified
 type_of_node j i = (seen_of j (Some i)).type
 
 -- ---- constants (6.6)
@@ -35,7 +35,7 @@ value_in NotConstant = None
 value_in Undefined = None
 value_in (Value v) = Some v
 
-abbrev pub constant_of : Judgement → ℕ → Option ℤ
+abbrev pub constant_of : CheckedColumns → ℕ → Option ℤ
 constant_of j i = value_in (seen_of j (Some i)).constant
 
 -- ---- places that are used as values (6.3.2.1p2, p3)
@@ -50,7 +50,7 @@ abbrev pub fills_array : List Shape → ℕ → Line → Bool
 fills_array shapes i (line.Put put) = (put.node == i) && is_array (type_at shapes put.row)
 fills_array shapes i (line.Excess list) = false
 
-abbrev pub is_filling : Judgement → ℕ → Bool
+abbrev pub is_filling : CheckedColumns → ℕ → Bool
 is_filling j i = list_any (λ lines. list_any (fills_array j.table.now i) lines) j.lines.now
 
 abbrev pub form_if : Option Kind → Option Form
@@ -62,7 +62,7 @@ is_part i None = false
 is_part i (Some part) = part == i
 
 -- by the form of the node above it, and by whether it is its first part
-abbrev pub valued_of : List Node → Judgement → ℕ → Bool
+abbrev pub valued_of : List Node → CheckedColumns → ℕ → Bool
 valued_of nodes j i =
     is_valued (form_if (kind_of nodes (slice_index_or j.above.now i None))) (is_part i (part_of nodes (slice_index_or j.above.now i None) 0)) (seen_of j (Some i))
     && not (is_filling j i)
@@ -91,7 +91,7 @@ last_if None = 0
 last_if (Some node) = node.last
 
 -- its name is the last token
-abbrev pub chosen_of : List Node → Judgement → ℕ → ℕ
+abbrev pub chosen_of : List Node → CheckedColumns → ℕ → ℕ
 chosen_of nodes j i =
     number_of_name (slice_index_or j.spellings.now (last_if (slice_get nodes i)) 0)
     (entry_of j.members.now [] (structure_by (kind_at nodes i) (seen_of j (part_of nodes (Some i) 0)).type))

@@ -9,7 +9,7 @@ use Rattle.cr_syntax.specs.declared.node.Node.{Node}
 use Rattle.cr_scopes_events.specs.Scripts.{kind_at, parts_at}
 use Rattle.cr_check_expressions.specs.Known.{spelling_of}
 use Rattle.cr_check_declarators.specs.Declarators.{name_alone}
-use Rattle.cr_typed_columns.specs.declared.judgement.Judgement.{Judgement}
+use Rattle.cr_typed_columns.specs.declared.checked.CheckedColumns.{CheckedColumns}
 use Rattle.cr_typed_columns.specs.Reading.{Parsed, part_of, entry_of}
 use Rattle.cr_typed_columns.specs.Entities.{name_node, is_definition, declared_token}
 
@@ -31,10 +31,10 @@ parameter_nodes nodes None = []
 parameter_nodes nodes (Some list) = listed_by (kind_at nodes list) (parts_at nodes list) list
 
 -- the function declarator next to the name of a definition
-abbrev pub function_of : List Node → Judgement → ℕ → Option ℕ
+abbrev pub function_of : List Node → CheckedColumns → ℕ → Option ℕ
 function_of nodes j definition = (entry_of j.declarators.now name_alone (part_of nodes (Some definition) 1)).function
 
-abbrev pub parameters_of : Parsed → Judgement → ℕ → List ℕ
+abbrev pub parameters_of : Parsed → CheckedColumns → ℕ → List ℕ
 parameters_of u j i =
     if is_definition (kind_at u.nodes i)
     then flat_map (λ p. option_to_list (parameter_name u p)) (parameter_nodes u.nodes (part_of u.nodes (function_of u.nodes j i) 1))

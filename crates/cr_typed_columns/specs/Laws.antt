@@ -2,14 +2,14 @@
 use Rattle.std.specs.Prelude.{◌≡◌, ℕ, List}
 use Rattle.cr_typed_columns.specs.Reading.{Parsed}
 use Rattle.cr_typed.specs.declared.typed.Typed.{Typed}
-use Rattle.cr_typed_columns.specs.declared.judgement.Judgement.{Judgement}
+use Rattle.cr_typed_columns.specs.declared.checked.CheckedColumns.{CheckedColumns}
 use Rattle.cr_typed_columns.specs.Names.{ref_of, duration_of, named_of}
 use Rattle.cr_typed_columns.specs.Expressions.{type_of_node, constant_of, valued_of, chosen_of}
 use Rattle.cr_typed_columns.specs.Functions.{parameters_of}
 use Rattle.cr_typed_columns.specs.Columns.{member_types, layout_at, plan_entries, IsElaborated}
 
--- the same was judged of each node, whatever tables the types stand in
-pub record AreAlike (u : Parsed) (j k : Judgement) : Type 0 where
+-- the same was checked of each node, whatever tables the types stand in
+pub record AreAlike (u : Parsed) (j k : CheckedColumns) : Type 0 where
   pub types : (i : ℕ) → type_of_node j i ≡ type_of_node k i
   pub refs : (i : ℕ) → ref_of u j i ≡ ref_of u k i
   pub valued : (i : ℕ) → valued_of u.nodes j i ≡ valued_of u.nodes k i
@@ -22,7 +22,7 @@ pub record AreAlike (u : Parsed) (j k : Judgement) : Type 0 where
   pub parameters : (i : ℕ) → parameters_of u j i ≡ parameters_of u k i
   pub plans : (i : ℕ) → plan_entries j i ≡ plan_entries k i
 
--- of two judgements that are alike the typed units are the same
+-- of two checks that are alike the typed units are the same
 abbrev pub OneTyped : Type 0
-OneTyped = (file : List ℕ) (u : Parsed) (texts : List (List ℕ)) (j k : Judgement) (s t : Typed)
+OneTyped = (file : List ℕ) (u : Parsed) (texts : List (List ℕ)) (j k : CheckedColumns) (s t : Typed)
     → AreAlike u j k → IsElaborated file u texts j s → IsElaborated file u texts k t → s ≡ t

@@ -1,7 +1,7 @@
 -- Columns as lists, and rows of types in a table that has each type once.
 use Rattle.std.specs.Prelude.{◌≡◌, ◌<◌, ℕ, zero, suc, false, List, [], ◌∷◌, ◌++◌, length, map, slice_index_or}
 use Rattle.std.specs.List.{flat_map}
-use Rattle.cr_syntax.specs.declared.typed.CType.TheVariants as type
+use Rattle.cr_syntax.specs.declared.ctype.CType.TheVariants as type
 use Rattle.cr_check_types.specs.declared.shape.Shape.{Shape}
 use Rattle.cr_check_types.specs.Types.{Qualified, plain, type_at}
 use Rattle.cr_check_types.specs.Relations.{AreRows}

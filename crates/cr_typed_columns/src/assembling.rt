@@ -5,11 +5,11 @@ ghost use Rattle.cr_typed_columns.specs.Reading.{parsed_of};
 ghost use Rattle.cr_typed_columns.specs.Entities.{AreFound};
 ghost use Rattle.cr_typed_columns.specs.Rows.{listed};
 ghost use Rattle.cr_typed_columns.specs.Columns.{layout_at as layout_at_lem, AreColumns, AreEntities, AreValues, IsElaborated, IsShaped};
-ghost use Rattle.cr_typed_columns.specs.declared.judgement.Judgement.{Judgement};
+ghost use Rattle.cr_typed_columns.specs.declared.checked.CheckedColumns.{CheckedColumns};
 
+use crate::checked::CheckedColumns;
 use crate::expressions::{chosen, constants, types, valued};
 use crate::functions::{main_of, parameters};
-use crate::judgement::Judgement;
 use crate::lasts::{Found, declarations_of};
 use crate::naming::{durations, named, refs};
 use crate::plans::{members, plans};
@@ -21,25 +21,25 @@ use cr_syntax::{Node, Unit};
 use cr_typed::{Duration, Put, Typed};
 use std::alloc::{AllocError, Global};
 
-/// The typed unit of a file, by what was judged of its nodes and the bytes of its string literals. The judged table's first row is that
+/// The typed unit of a file, by what was checked of its nodes and the bytes of its string literals. The checked table's first row is that
 /// of no type. The error is want of memory.
-pub fn typed(
+pub fn assemble(
     alloc: Global,
     file: Row<u8>,
     unit: Unit,
     texts: Row<Row<u8>>,
-    judged: &Judgement,
+    checked: &CheckedColumns,
 ) -> Result<Typed, AllocError>
     requires spans { AreSpans file unit.tokens.list.items }
-    requires first { type_at judged.now.table.now 0 ≡ unknown }
-    ensures { IfOk result (λ t. IsElaborated file (parsed_of unit) texts judged.now t) }
+    requires first { type_at checked.now.table.now 0 ≡ unknown }
+    ensures { IfOk result (λ t. IsElaborated file (parsed_of unit) texts checked.now t) }
 {
-    let columns = columns_of(alloc, file.as_slice(), &unit, judged)?;
+    let columns = columns_of(alloc, file.as_slice(), &unit, checked)?;
     Ok(put_together(file, unit, texts, columns))
 }
 
 fn put_together(file: Row<u8>, unit: Unit, texts: Row<Row<u8>>, columns: Columns) -> Typed
-    ensures { (j : Judgement) → AreColumns file (parsed_of unit) j columns → IsElaborated file (parsed_of unit) texts j result }
+    ensures { (j : CheckedColumns) → AreColumns file (parsed_of unit) j columns → IsElaborated file (parsed_of unit) texts j result }
 {
     let Columns {
         shaped,
@@ -82,15 +82,15 @@ fn columns_of(
     alloc: Global,
     file: &[u8],
     unit: &Unit,
-    judged: &Judgement,
+    checked: &CheckedColumns,
 ) -> Result<Columns, AllocError>
     requires spans { AreSpans file.now unit.now.tokens.list.items }
-    requires first { type_at judged.now.table.now 0 ≡ unknown }
-    ensures { IfOk result (λ c. AreColumns file.now (parsed_of unit.now) judged.now c) }
+    requires first { type_at checked.now.table.now 0 ≡ unknown }
+    ensures { IfOk result (λ c. AreColumns file.now (parsed_of unit.now) checked.now c) }
 {
     let main = main_of(file, unit)?;
-    let values = values_of(alloc, unit.nodes.as_slice(), judged)?;
-    let (entities, shaped) = named_of(alloc, unit, judged)?;
+    let values = values_of(alloc, unit.nodes.as_slice(), checked)?;
+    let (entities, shaped) = named_of(alloc, unit, checked)?;
     Ok(Columns {
         shaped,
         entities,
@@ -103,15 +103,15 @@ fn columns_of(
 fn named_of(
     alloc: Global,
     unit: &Unit,
-    judged: &Judgement,
+    checked: &CheckedColumns,
 ) -> Result<(Entities, Shaped), AllocError>
-    requires { type_at judged.now.table.now 0 ≡ unknown }
-    ensures entities { IfOk result (λ both. AreEntities (parsed_of unit.now) judged.now both.0) }
-    ensures shaped { IfOk result (λ both. IsShaped (parsed_of unit.now) judged.now both.1) }
+    requires { type_at checked.now.table.now 0 ≡ unknown }
+    ensures entities { IfOk result (λ both. AreEntities (parsed_of unit.now) checked.now both.0) }
+    ensures shaped { IfOk result (λ both. IsShaped (parsed_of unit.now) checked.now both.1) }
 {
-    let found = declarations_of(alloc, unit, judged)?;
-    let entities = entities_of(alloc, unit, judged, &found)?;
-    let shaped = types_of(alloc, unit, judged, &found)?;
+    let found = declarations_of(alloc, unit, checked)?;
+    let entities = entities_of(alloc, unit, checked, &found)?;
+    let shaped = types_of(alloc, unit, checked, &found)?;
     Ok((entities, shaped))
 }
 
@@ -126,15 +126,15 @@ struct Entities {
 fn entities_of(
     alloc: Global,
     unit: &Unit,
-    judged: &Judgement,
+    checked: &CheckedColumns,
     found: &Found,
 ) -> Result<Entities, AllocError>
-    requires { AreFound (parsed_of unit.now) judged.now found.now }
-    ensures { IfOk result (λ e. AreEntities (parsed_of unit.now) judged.now e) }
+    requires { AreFound (parsed_of unit.now) checked.now found.now }
+    ensures { IfOk result (λ e. AreEntities (parsed_of unit.now) checked.now e) }
 {
-    let refs = refs(alloc, unit, judged, found)?;
-    let durations = durations(alloc, unit, judged, found)?;
-    let parameters = parameters(alloc, unit, judged, found)?;
+    let refs = refs(alloc, unit, checked, found)?;
+    let durations = durations(alloc, unit, checked, found)?;
+    let parameters = parameters(alloc, unit, checked, found)?;
     Ok(Entities {
         refs,
         durations,
@@ -151,13 +151,13 @@ struct Values {
     chosen: Row<usize>,
 }
 
-fn values_of(alloc: Global, nodes: &[Node], judged: &Judgement) -> Result<Values, AllocError>
-    ensures { IfOk result (λ v. AreValues nodes.now judged.now v) }
+fn values_of(alloc: Global, nodes: &[Node], checked: &CheckedColumns) -> Result<Values, AllocError>
+    ensures { IfOk result (λ v. AreValues nodes.now checked.now v) }
 {
-    let valued = valued(alloc, nodes, judged)?;
-    let constants = constants(alloc, nodes.len(), judged)?;
-    let layouts = layouts(alloc, nodes.len(), judged)?;
-    let chosen = chosen(alloc, nodes, judged)?;
+    let valued = valued(alloc, nodes, checked)?;
+    let constants = constants(alloc, nodes.len(), checked)?;
+    let layouts = layouts(alloc, nodes.len(), checked)?;
+    let chosen = chosen(alloc, nodes, checked)?;
     Ok(Values {
         valued,
         constants,
@@ -179,21 +179,21 @@ struct Shaped {
 fn types_of(
     alloc: Global,
     unit: &Unit,
-    judged: &Judgement,
+    checked: &CheckedColumns,
     found: &Found,
 ) -> Result<Shaped, AllocError>
-    requires first { type_at judged.now.table.now 0 ≡ unknown }
-    requires found { AreFound (parsed_of unit.now) judged.now found.now }
-    ensures { IfOk result (λ s. IsShaped (parsed_of unit.now) judged.now s) }
+    requires first { type_at checked.now.table.now 0 ≡ unknown }
+    requires found { AreFound (parsed_of unit.now) checked.now found.now }
+    ensures { IfOk result (λ s. IsShaped (parsed_of unit.now) checked.now s) }
 {
     let nodes = unit.nodes.as_slice();
-    let given_types = types(alloc, nodes.len(), judged)?;
-    let given_named = named(alloc, unit, judged, found)?;
+    let given_types = types(alloc, nodes.len(), checked)?;
+    let given_named = named(alloc, unit, checked, found)?;
     let mut shapes = Table::new(alloc)?;
-    let types = rows(alloc, &mut shapes, judged.table, &given_types)?;
-    let named = rows(alloc, &mut shapes, judged.table, &given_named)?;
-    let members = members(alloc, &mut shapes, nodes, judged)?;
-    let plans = plans(alloc, &mut shapes, nodes.len(), judged)?;
+    let types = rows(alloc, &mut shapes, checked.table, &given_types)?;
+    let named = rows(alloc, &mut shapes, checked.table, &given_named)?;
+    let members = members(alloc, &mut shapes, nodes, checked)?;
+    let plans = plans(alloc, &mut shapes, nodes.len(), checked)?;
     shapes.is_canonical();
     Ok(Shaped {
         shapes,
@@ -204,20 +204,20 @@ fn types_of(
     })
 }
 
-fn layout_at(judged: &Judgement, at: usize) -> Layout
-    ensures { result ≡ layout_at_lem judged.now at }
+fn layout_at(checked: &CheckedColumns, at: usize) -> Layout
+    ensures { result ≡ layout_at_lem checked.now at }
 {
-    entry_at(judged.layouts, NOTHING, at)
+    entry_at(checked.layouts, NOTHING, at)
 }
 
 // The layout of each structure.
 #[tactic(auto, using(crate::proofs::Listed::one_more))]
-fn layouts(alloc: Global, nodes: usize, judged: &Judgement) -> Result<Row<Layout>, AllocError>
-    ensures { IfOk result (λ layouts. layouts ≡ listed (layout_at_lem judged.now) nodes) }
+fn layouts(alloc: Global, nodes: usize, checked: &CheckedColumns) -> Result<Row<Layout>, AllocError>
+    ensures { IfOk result (λ layouts. layouts ≡ listed (layout_at_lem checked.now) nodes) }
 {
     let mut layouts = Row::new(alloc);
     for at in 0..nodes {
-        layouts.push(layout_at(judged, at))?;
+        layouts.push(layout_at(checked, at))?;
     }
     Ok(layouts)
 }

@@ -8,8 +8,8 @@ ghost use Rattle.cr_typed_columns.specs.Reading.{entry_of};
 ghost use Rattle.cr_typed_columns.specs.Rows.{listed, type_in};
 ghost use Rattle.cr_typed_columns.specs.Expressions.{seen_of, type_of_node, value_in, constant_of as constant_of_lem, is_array as is_array_lem, fills_array, is_filling, form_if, is_part, valued_of as valued_of_lem, pointed_structure as pointed_structure_lem, structure_by as structure_by_lem, number_of_name, last_if, chosen_of as chosen_of_lem};
 
+use crate::checked::CheckedColumns;
 use crate::copying::shape_at;
-use crate::judgement::Judgement;
 use crate::reading::{entry, entry_at, kind_at, kind_of, part_at, part_of};
 use crate::rows::Named;
 use cr_check_constants::Constant;
@@ -21,22 +21,22 @@ use cr_rows::Row;
 use cr_syntax::{CType, Kind, Node};
 use std::alloc::{AllocError, Global};
 
-fn fact_of(judged: &Judgement, node: Option<u32>) -> Fact
-    ensures { seen_at judged.now.table.now result ≡ seen_of judged.now node }
+fn fact_of(checked: &CheckedColumns, node: Option<u32>) -> Fact
+    ensures { seen_at checked.now.table.now result ≡ seen_of checked.now node }
 {
-    entry(judged.facts, NO_FACT, node)
+    entry(checked.facts, NO_FACT, node)
 }
 
-fn fact_at(judged: &Judgement, at: usize) -> Fact
-    ensures { seen_at judged.now.table.now result ≡ seen_of judged.now (Some at) }
+fn fact_at(checked: &CheckedColumns, at: usize) -> Fact
+    ensures { seen_at checked.now.table.now result ≡ seen_of checked.now (Some at) }
 {
-    entry_at(judged.facts, NO_FACT, at)
+    entry_at(checked.facts, NO_FACT, at)
 }
 
-fn node_type(judged: &Judgement, at: usize) -> Named
-    ensures { type_in (type_at judged.now.table.now) result ≡ type_of_node judged.now at }
+fn node_type(checked: &CheckedColumns, at: usize) -> Named
+    ensures { type_in (type_at checked.now.table.now) result ≡ type_of_node checked.now at }
 {
-    Named::Row(fact_at(judged, at).row)
+    Named::Row(fact_at(checked, at).row)
 }
 
 /// The types of expressions, and of what is no expression no type.
@@ -44,13 +44,13 @@ fn node_type(judged: &Judgement, at: usize) -> Named
 pub(crate) fn types(
     alloc: Global,
     nodes: usize,
-    judged: &Judgement,
+    checked: &CheckedColumns,
 ) -> Result<Vec<Named>, AllocError>
-    ensures { IfOk result (λ types. map (type_in (type_at judged.now.table.now)) types.items ≡ listed (type_of_node judged.now) nodes) }
+    ensures { IfOk result (λ types. map (type_in (type_at checked.now.table.now)) types.items ≡ listed (type_of_node checked.now) nodes) }
 {
     let mut types = Vec::new(alloc);
     for at in 0..nodes {
-        types.push(node_type(judged, at))?;
+        types.push(node_type(checked, at))?;
     }
     Ok(types)
 }
@@ -66,10 +66,10 @@ fn value_in(constant: Constant) -> Option<i128>
     }
 }
 
-fn constant_of(judged: &Judgement, at: usize) -> Option<i128>
-    ensures { result ≡ constant_of_lem judged.now at }
+fn constant_of(checked: &CheckedColumns, at: usize) -> Option<i128>
+    ensures { result ≡ constant_of_lem checked.now at }
 {
-    value_in(fact_at(judged, at).constant)
+    value_in(fact_at(checked, at).constant)
 }
 
 /// The value of each integer constant expression.
@@ -77,13 +77,13 @@ fn constant_of(judged: &Judgement, at: usize) -> Option<i128>
 pub(crate) fn constants(
     alloc: Global,
     nodes: usize,
-    judged: &Judgement,
+    checked: &CheckedColumns,
 ) -> Result<Row<Option<i128>>, AllocError>
-    ensures { IfOk result (λ constants. constants ≡ listed (constant_of_lem judged.now) nodes) }
+    ensures { IfOk result (λ constants. constants ≡ listed (constant_of_lem checked.now) nodes) }
 {
     let mut constants = Row::new(alloc);
     for at in 0..nodes {
-        constants.push(constant_of(judged, at))?;
+        constants.push(constant_of(checked, at))?;
     }
     Ok(constants)
 }
@@ -131,13 +131,13 @@ fn mark_all(table: &Table, marks: &mut Vec<bool>, lines: &[Line])
 }
 
 /// The literals that initialise arrays.
-fn filling(alloc: Global, nodes: usize, judged: &Judgement) -> Result<Vec<bool>, AllocError>
+fn filling(alloc: Global, nodes: usize, checked: &CheckedColumns) -> Result<Vec<bool>, AllocError>
     ensures count { IfOk result (λ marks. length marks.items ≡ nodes) }
-    ensures each { IfOk result (λ marks. (i : ℕ) → i < nodes → slice_index_or marks.items i false ≡ is_filling judged.now i) }
+    ensures each { IfOk result (λ marks. (i : ℕ) → i < nodes → slice_index_or marks.items i false ≡ is_filling checked.now i) }
 {
     let mut marks = vec![in alloc; false; nodes]?;
-    for lines in judged.lines {
-        mark_all(judged.table, &mut marks, lines.as_slice());
+    for lines in checked.lines {
+        mark_all(checked.table, &mut marks, lines.as_slice());
     }
     Ok(marks)
 }
@@ -160,13 +160,13 @@ fn is_part(at: usize, part: Option<u32>) -> bool
     }
 }
 
-fn valued_of(nodes: &[Node], judged: &Judgement, marks: &[bool], at: usize) -> bool
-    requires { slice_index_or marks.now at false ≡ is_filling judged.now at }
-    ensures { result ≡ valued_of_lem nodes.now judged.now at }
+fn valued_of(nodes: &[Node], checked: &CheckedColumns, marks: &[bool], at: usize) -> bool
+    requires { slice_index_or marks.now at false ≡ is_filling checked.now at }
+    ensures { result ≡ valued_of_lem nodes.now checked.now at }
 {
-    let above = entry_at(judged.above, None, at);
+    let above = entry_at(checked.above, None, at);
     let first = is_part(at, part_of(nodes, above, 0));
-    is_valued(form_if(kind_of(nodes, above)), first, fact_at(judged, at))
+    is_valued(form_if(kind_of(nodes, above)), first, fact_at(checked, at))
         && !entry_at(marks, false, at)
 }
 
@@ -175,14 +175,14 @@ fn valued_of(nodes: &[Node], judged: &Judgement, marks: &[bool], at: usize) -> b
 pub(crate) fn valued(
     alloc: Global,
     nodes: &[Node],
-    judged: &Judgement,
+    checked: &CheckedColumns,
 ) -> Result<Row<bool>, AllocError>
-    ensures { IfOk result (λ valued. valued ≡ listed (valued_of_lem nodes.now judged.now) (length nodes.now)) }
+    ensures { IfOk result (λ valued. valued ≡ listed (valued_of_lem nodes.now checked.now) (length nodes.now)) }
 {
-    let marks = filling(alloc, nodes.len(), judged)?;
+    let marks = filling(alloc, nodes.len(), checked)?;
     let mut valued = Row::new(alloc);
     for at in 0..nodes.len() {
-        valued.push(valued_of(nodes, judged, &marks, at))?;
+        valued.push(valued_of(nodes, checked, &marks, at))?;
     }
     Ok(valued)
 }
@@ -255,13 +255,13 @@ pub(crate) fn members_at<'a>(members: &'a [Row<Member>], structure: usize) -> &'
     }
 }
 
-fn chosen_of(nodes: &[Node], judged: &Judgement, at: usize) -> usize
-    ensures { result ≡ chosen_of_lem nodes.now judged.now at }
+fn chosen_of(nodes: &[Node], checked: &CheckedColumns, at: usize) -> usize
+    ensures { result ≡ chosen_of_lem nodes.now checked.now at }
 {
-    let name = entry_at(judged.spellings, 0, last_at(nodes, at) as usize);
-    let row = fact_of(judged, part_at(nodes, at, 0)).row;
-    let structure = structure_by(judged.table, kind_at(nodes, at), row);
-    number_of_name(name, members_of(judged.members, structure))
+    let name = entry_at(checked.spellings, 0, last_at(nodes, at) as usize);
+    let row = fact_of(checked, part_at(nodes, at, 0)).row;
+    let structure = structure_by(checked.table, kind_at(nodes, at), row);
+    number_of_name(name, members_of(checked.members, structure))
 }
 
 /// The number of the member that each `.` and `->` names.
@@ -269,13 +269,13 @@ fn chosen_of(nodes: &[Node], judged: &Judgement, at: usize) -> usize
 pub(crate) fn chosen(
     alloc: Global,
     nodes: &[Node],
-    judged: &Judgement,
+    checked: &CheckedColumns,
 ) -> Result<Row<usize>, AllocError>
-    ensures { IfOk result (λ chosen. chosen ≡ listed (chosen_of_lem nodes.now judged.now) (length nodes.now)) }
+    ensures { IfOk result (λ chosen. chosen ≡ listed (chosen_of_lem nodes.now checked.now) (length nodes.now)) }
 {
     let mut chosen = Row::new(alloc);
     for at in 0..nodes.len() {
-        chosen.push(chosen_of(nodes, judged, at))?;
+        chosen.push(chosen_of(nodes, checked, at))?;
     }
     Ok(chosen)
 }

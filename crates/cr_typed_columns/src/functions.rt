@@ -8,7 +8,7 @@ ghost use Rattle.cr_typed_columns.specs.Entities.{AreFound};
 ghost use Rattle.cr_typed_columns.specs.Rows.{listed};
 ghost use Rattle.cr_typed_columns.specs.Functions.{listed_by, parameter_nodes as parameter_nodes_lem, parameter_name as parameter_name_lem, function_of as function_of_lem, parameters_of as parameters_of_lem, is_spelled_main, is_main as is_main_lem, main_below, main_of as main_of_lem};
 
-use crate::judgement::Judgement;
+use crate::checked::CheckedColumns;
 use crate::lasts::{Found, declared_token, is_definition, name_node};
 use crate::reading::{entry, kind_at, kind_of, part_at, part_of, parts_at};
 use cr_check_declarators::BARE;
@@ -19,13 +19,18 @@ use std::alloc::{AllocError, Global};
 
 // ---- parameters
 
-fn parameter_name(unit: &Unit, judged: &Judgement, found: &Found, parameter: u32) -> Option<u32>
-    requires { AreFound (parsed_of unit.now) judged.now found.now }
+fn parameter_name(
+    unit: &Unit,
+    checked: &CheckedColumns,
+    found: &Found,
+    parameter: u32,
+) -> Option<u32>
+    requires { AreFound (parsed_of unit.now) checked.now found.now }
     ensures { result ≡ parameter_name_lem (parsed_of unit.now) parameter }
 {
     let nodes = unit.nodes.as_slice();
     let token = declared_token(nodes, part_at(nodes, parameter as usize, 1));
-    name_node(unit, judged, found, token)
+    name_node(unit, checked, found, token)
 }
 
 // One parameter more, where it has a name.
@@ -44,44 +49,48 @@ fn put(names: &mut Vec<u32>, name: Option<u32>) -> Result<(), AllocError>
 fn names_of(
     alloc: Global,
     unit: &Unit,
-    judged: &Judgement,
+    checked: &CheckedColumns,
     found: &Found,
     list: &[u32],
 ) -> Result<Vec<u32>, AllocError>
-    requires { AreFound (parsed_of unit.now) judged.now found.now }
+    requires { AreFound (parsed_of unit.now) checked.now found.now }
     ensures { IfOk result (λ names. names.items ≡ flat_map (λ p. option_to_list (parameter_name_lem (parsed_of unit.now) p)) list.now) }
 {
     let mut names = Vec::new(alloc);
     for parameter in list {
-        put(&mut names, parameter_name(unit, judged, found, *parameter))?;
+        put(&mut names, parameter_name(unit, checked, found, *parameter))?;
     }
     Ok(names)
 }
 
 /// The function declarator next to the name of a definition.
-pub(crate) fn function_of(nodes: &[Node], judged: &Judgement, definition: usize) -> Option<u32>
-    ensures { result ≡ function_of_lem nodes.now judged.now definition }
+pub(crate) fn function_of(
+    nodes: &[Node],
+    checked: &CheckedColumns,
+    definition: usize,
+) -> Option<u32>
+    ensures { result ≡ function_of_lem nodes.now checked.now definition }
 {
-    entry(judged.declarators, BARE, part_at(nodes, definition, 1)).function
+    entry(checked.declarators, BARE, part_at(nodes, definition, 1)).function
 }
 
 // The parameters of a definition.
 fn parameters_of(
     alloc: Global,
     unit: &Unit,
-    judged: &Judgement,
+    checked: &CheckedColumns,
     found: &Found,
     at: usize,
 ) -> Result<Row<u32>, AllocError>
-    requires { AreFound (parsed_of unit.now) judged.now found.now }
-    ensures { IfOk result (λ names. names ≡ parameters_of_lem (parsed_of unit.now) judged.now at) }
+    requires { AreFound (parsed_of unit.now) checked.now found.now }
+    ensures { IfOk result (λ names. names ≡ parameters_of_lem (parsed_of unit.now) checked.now at) }
 {
     let nodes = unit.nodes.as_slice();
     if !is_definition(kind_at(nodes, at)) {
         return Ok(Row::new(alloc));
     }
-    let names = match part_of(nodes, function_of(nodes, judged, at), 1) {
-        Some(list) => names_in(alloc, unit, judged, found, list)?,
+    let names = match part_of(nodes, function_of(nodes, checked, at), 1) {
+        Some(list) => names_in(alloc, unit, checked, found, list)?,
         None => Vec::new(alloc),
     };
     Ok(Row::from_vec(names))
@@ -91,20 +100,20 @@ fn parameters_of(
 fn names_in(
     alloc: Global,
     unit: &Unit,
-    judged: &Judgement,
+    checked: &CheckedColumns,
     found: &Found,
     list: u32,
 ) -> Result<Vec<u32>, AllocError>
-    requires { AreFound (parsed_of unit.now) judged.now found.now }
+    requires { AreFound (parsed_of unit.now) checked.now found.now }
     ensures { IfOk result (λ names. names.items ≡ flat_map (λ p. option_to_list (parameter_name_lem (parsed_of unit.now) p)) (parameter_nodes_lem unit.now.nodes (Some list))) }
 {
     let nodes = unit.nodes.as_slice();
     match kind_at(nodes, list as usize) {
         Some(Kind::VoidParameters) => Ok(Vec::new(alloc)),
         Some(Kind::Parameters | Kind::VariadicParameters) => {
-            names_of(alloc, unit, judged, found, parts_at(nodes, list as usize))
+            names_of(alloc, unit, checked, found, parts_at(nodes, list as usize))
         }
-        _ => names_of(alloc, unit, judged, found, &[list]),
+        _ => names_of(alloc, unit, checked, found, &[list]),
     }
 }
 
@@ -113,15 +122,15 @@ fn names_in(
 pub(crate) fn parameters(
     alloc: Global,
     unit: &Unit,
-    judged: &Judgement,
+    checked: &CheckedColumns,
     found: &Found,
 ) -> Result<Row<Row<u32>>, AllocError>
-    requires { AreFound (parsed_of unit.now) judged.now found.now }
-    ensures { IfOk result (λ parameters. parameters ≡ listed (parameters_of_lem (parsed_of unit.now) judged.now) (length unit.now.nodes)) }
+    requires { AreFound (parsed_of unit.now) checked.now found.now }
+    ensures { IfOk result (λ parameters. parameters ≡ listed (parameters_of_lem (parsed_of unit.now) checked.now) (length unit.now.nodes)) }
 {
     let mut parameters = Row::new(alloc);
     for at in 0..unit.nodes.len() {
-        parameters.push(parameters_of(alloc, unit, judged, found, at)?)?;
+        parameters.push(parameters_of(alloc, unit, checked, found, at)?)?;
     }
     Ok(parameters)
 }

@@ -6,7 +6,7 @@ ghost use Rattle.cr_scopes_bindings.specs.Entities.{entity_at as entity_at_lem, 
 ghost use Rattle.cr_typed_columns.specs.Reading.{parsed_of};
 ghost use Rattle.cr_typed_columns.specs.Entities.{is_name, named_token as named_token_lem, last_of, name_node as name_node_lem, entity_of as entity_of_lem, first_declared as first_declared_lem, last_declared as last_declared_lem, is_definition, declared_token as declared_token_lem, defined_entity as defined_entity_lem, definition_of as definition_of_lem, whole_of as whole_of_lem, declared_of as declared_of_lem, is_object, is_declaration, is_extern, is_extern_class, is_open, keeps, kept_entity as kept_entity_lem, is_kept as is_kept_lem, AreFound};
 
-use crate::judgement::Judgement;
+use crate::checked::CheckedColumns;
 use crate::reading::{entry, first_at, kind_at, kind_of, part_at, part_of};
 use cr_check_declarators::{Class, Storage, UNSAID};
 use cr_check_expressions::Declared;
@@ -33,18 +33,18 @@ pub(crate) struct Found {
 pub(crate) fn declarations_of(
     alloc: Global,
     unit: &Unit,
-    judged: &Judgement,
+    checked: &CheckedColumns,
 ) -> Result<Found, AllocError>
-    ensures { IfOk result (λ f. AreFound (parsed_of unit.now) judged.now f) }
+    ensures { IfOk result (λ f. AreFound (parsed_of unit.now) checked.now f) }
 {
     let nodes = unit.nodes.as_slice();
     let tokens = unit.tokens.list.len();
-    let entities = judged.names.entities.len();
+    let entities = checked.names.entities.len();
     Ok(Found {
         names: Row::from_vec(names(alloc, nodes, tokens)?),
-        lasts: Row::from_vec(lasts(alloc, nodes, judged.names, entities)?),
-        definitions: Row::from_vec(definitions(alloc, nodes, judged.names, entities)?),
-        kept: Row::from_vec(kept(alloc, nodes, judged, entities)?),
+        lasts: Row::from_vec(lasts(alloc, nodes, checked.names, entities)?),
+        definitions: Row::from_vec(definitions(alloc, nodes, checked.names, entities)?),
+        kept: Row::from_vec(kept(alloc, nodes, checked, entities)?),
     })
 }
 
@@ -111,11 +111,11 @@ fn names(alloc: Global, nodes: &[Node], tokens: usize) -> Result<Vec<Option<u32>
 /// The node of the identifier that a token declares.
 pub(crate) fn name_node(
     unit: &Unit,
-    judged: &Judgement,
+    checked: &CheckedColumns,
     found: &Found,
     token: Option<u32>,
 ) -> Option<u32>
-    requires { AreFound (parsed_of unit.now) judged.now found.now }
+    requires { AreFound (parsed_of unit.now) checked.now found.now }
     ensures { result ≡ name_node_lem (parsed_of unit.now) token }
 {
     last_in(found.names.as_slice(), token)
@@ -200,25 +200,25 @@ fn first_token(entities: &[Entity], entity: usize) -> Option<u32>
 /// The node that declares an entity first.
 pub(crate) fn first_declared(
     unit: &Unit,
-    judged: &Judgement,
+    checked: &CheckedColumns,
     found: &Found,
     entity: Option<u32>,
 ) -> Option<u32>
-    requires { AreFound (parsed_of unit.now) judged.now found.now }
-    ensures { result ≡ first_declared_lem (parsed_of unit.now) judged.now.names.now entity }
+    requires { AreFound (parsed_of unit.now) checked.now found.now }
+    ensures { result ≡ first_declared_lem (parsed_of unit.now) checked.now.names.now entity }
 {
-    name_node(unit, judged, found, first_of(judged.names, entity))
+    name_node(unit, checked, found, first_of(checked.names, entity))
 }
 
 /// The node that declares an entity last.
 pub(crate) fn last_declared(
     unit: &Unit,
-    judged: &Judgement,
+    checked: &CheckedColumns,
     found: &Found,
     entity: Option<u32>,
 ) -> Option<u32>
-    requires { AreFound (parsed_of unit.now) judged.now found.now }
-    ensures { result ≡ last_declared_lem unit.now.nodes judged.now.names.now entity }
+    requires { AreFound (parsed_of unit.now) checked.now found.now }
+    ensures { result ≡ last_declared_lem unit.now.nodes checked.now.names.now entity }
 {
     last_in(found.lasts.as_slice(), entity)
 }
@@ -274,12 +274,12 @@ fn definitions(
 /// The definition of a function.
 pub(crate) fn definition_of(
     unit: &Unit,
-    judged: &Judgement,
+    checked: &CheckedColumns,
     found: &Found,
     entity: Option<u32>,
 ) -> Option<u32>
-    requires { AreFound (parsed_of unit.now) judged.now found.now }
-    ensures { result ≡ definition_of_lem unit.now.nodes judged.now.names.now entity }
+    requires { AreFound (parsed_of unit.now) checked.now found.now }
+    ensures { result ≡ definition_of_lem unit.now.nodes checked.now.names.now entity }
 {
     last_in(found.definitions.as_slice(), entity)
 }
@@ -287,17 +287,17 @@ pub(crate) fn definition_of(
 // ---- objects
 
 /// The whole declarator that declares a name.
-pub(crate) fn whole_of(nodes: &[Node], judged: &Judgement, at: usize) -> Option<u32>
-    ensures { result ≡ whole_of_lem nodes.now judged.now at }
+pub(crate) fn whole_of(nodes: &[Node], checked: &CheckedColumns, at: usize) -> Option<u32>
+    ensures { result ≡ whole_of_lem nodes.now checked.now at }
 {
-    entry(judged.declarers, None, named_token(nodes, at))
+    entry(checked.declarers, None, named_token(nodes, at))
 }
 
 /// What a whole declarator declares.
-pub(crate) fn declared_of(judged: &Judgement, whole: Option<u32>) -> Declared
-    ensures { result ≡ declared_of_lem judged.now whole }
+pub(crate) fn declared_of(checked: &CheckedColumns, whole: Option<u32>) -> Declared
+    ensures { result ≡ declared_of_lem checked.now whole }
 {
-    entry(judged.declared, Declared::Unclear, whole)
+    entry(checked.declared, Declared::Unclear, whole)
 }
 
 fn is_object(declared: Declared) -> bool
@@ -337,25 +337,25 @@ fn is_extern_class(class: Class) -> bool
 }
 
 // Whether a declaration says `extern` and has no initialiser.
-fn is_open(nodes: &[Node], judged: &Judgement, whole: Option<u32>) -> bool
-    ensures { result ≡ is_open nodes.now judged.now whole }
+fn is_open(nodes: &[Node], checked: &CheckedColumns, whole: Option<u32>) -> bool
+    ensures { result ≡ is_open nodes.now checked.now whole }
 {
-    let above = entry(judged.above, None, whole);
-    let specified = entry(judged.specified, UNSAID, part_of(nodes, above, 0));
+    let above = entry(checked.above, None, whole);
+    let specified = entry(checked.specified, UNSAID, part_of(nodes, above, 0));
     is_declaration(kind_of(nodes, above)) && is_extern(specified.storage)
 }
 
-fn keeps(nodes: &[Node], judged: &Judgement, whole: Option<u32>) -> bool
-    ensures { result ≡ keeps nodes.now judged.now whole }
+fn keeps(nodes: &[Node], checked: &CheckedColumns, whole: Option<u32>) -> bool
+    ensures { result ≡ keeps nodes.now checked.now whole }
 {
-    is_object(declared_of(judged, whole)) && !is_open(nodes, judged, whole)
+    is_object(declared_of(checked, whole)) && !is_open(nodes, checked, whole)
 }
 
-fn kept_entity(nodes: &[Node], judged: &Judgement, at: usize) -> Option<u32>
-    ensures { result ≡ kept_entity_lem nodes.now judged.now at }
+fn kept_entity(nodes: &[Node], checked: &CheckedColumns, at: usize) -> Option<u32>
+    ensures { result ≡ kept_entity_lem nodes.now checked.now at }
 {
-    if keeps(nodes, judged, whole_of(nodes, judged, at)) {
-        entity_of(nodes, judged.names, at)
+    if keeps(nodes, checked, whole_of(nodes, checked, at)) {
+        entity_of(nodes, checked.names, at)
     } else {
         None
     }
@@ -364,23 +364,28 @@ fn kept_entity(nodes: &[Node], judged: &Judgement, at: usize) -> Option<u32>
 fn kept(
     alloc: Global,
     nodes: &[Node],
-    judged: &Judgement,
+    checked: &CheckedColumns,
     entities: usize,
 ) -> Result<Vec<Option<u32>>, AllocError>
-    ensures { IfOk result (λ column. AreLast (kept_entity_lem nodes.now judged.now) (length nodes.now) entities column.items) }
+    ensures { IfOk result (λ column. AreLast (kept_entity_lem nodes.now checked.now) (length nodes.now) entities column.items) }
 {
     let mut column = vec![in alloc; None; entities]?;
     for at in 0..nodes.len() {
         let number = number_of(at)?;
-        put(&mut column, kept_entity(nodes, judged, at), number);
+        put(&mut column, kept_entity(nodes, checked, at), number);
     }
     Ok(column)
 }
 
 /// Whether some declaration of an object defines it.
-pub(crate) fn is_kept(unit: &Unit, judged: &Judgement, found: &Found, entity: Option<u32>) -> bool
-    requires { AreFound (parsed_of unit.now) judged.now found.now }
-    ensures { result ≡ is_kept_lem unit.now.nodes judged.now entity }
+pub(crate) fn is_kept(
+    unit: &Unit,
+    checked: &CheckedColumns,
+    found: &Found,
+    entity: Option<u32>,
+) -> bool
+    requires { AreFound (parsed_of unit.now) checked.now found.now }
+    ensures { result ≡ is_kept_lem unit.now.nodes checked.now entity }
 {
     last_in(found.kept.as_slice(), entity).is_some()
 }

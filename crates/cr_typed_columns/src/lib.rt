@@ -1,4 +1,4 @@
-//! A typed unit from what was judged of its nodes.
+//! A typed unit from what was checked of its nodes.
 //!
 //! The types of the unit go into a table of its own, in which each has one row: those of its expressions, of its declared names, of
 //! its members and of what its initialisers initialise, in the order of the nodes, and each behind the one that stands below it. So
@@ -9,10 +9,10 @@
 #![tactic(auto)]
 
 mod assembling;
+mod checked;
 mod copying;
 mod expressions;
 mod functions;
-mod judgement;
 mod lasts;
 mod laws;
 mod naming;
@@ -20,6 +20,6 @@ mod plans;
 mod reading;
 mod rows;
 
-pub use assembling::typed;
-pub use judgement::Judgement;
+pub use assembling::assemble;
+pub use checked::CheckedColumns;
 pub use laws::one_typed;

@@ -6,8 +6,8 @@ ghost use Rattle.cr_typed_columns.specs.Entities.{AreFound};
 ghost use Rattle.cr_typed_columns.specs.Rows.{listed, type_in};
 ghost use Rattle.cr_typed_columns.specs.Names.{is_mention, mentioned_token, is_goto, ref_of as ref_of_lem, around_of, is_list, function_above, is_same, is_own, of_parameter, of_object, by_place, by_declared, duration_of as duration_of_lem, type_named, is_initialised, initialised_if, with_initialiser, whole_if, composite_type, or_first, function_type, entity_type, is_here, name_type, named_by, named_of};
 
+use crate::checked::CheckedColumns;
 use crate::functions::function_of;
-use crate::judgement::Judgement;
 use crate::lasts::{
     Found, declared_of, definition_of, entity_if, entity_of, first_declared, is_kept,
     last_declared, whole_of,
@@ -51,16 +51,16 @@ fn is_goto(kind: Option<Kind>) -> bool
     }
 }
 
-fn ref_of(unit: &Unit, judged: &Judgement, found: &Found, at: usize) -> Option<u32>
-    requires { AreFound (parsed_of unit.now) judged.now found.now }
-    ensures { result ≡ ref_of_lem (parsed_of unit.now) judged.now at }
+fn ref_of(unit: &Unit, checked: &CheckedColumns, found: &Found, at: usize) -> Option<u32>
+    requires { AreFound (parsed_of unit.now) checked.now found.now }
+    ensures { result ≡ ref_of_lem (parsed_of unit.now) checked.now at }
 {
     let nodes = unit.nodes.as_slice();
     if is_goto(kind_at(nodes, at)) {
-        entry_at(judged.labels, None, at)
+        entry_at(checked.labels, None, at)
     } else {
-        let entity = entity_if(judged.names, mentioned_token(nodes, at));
-        first_declared(unit, judged, found, entity)
+        let entity = entity_if(checked.names, mentioned_token(nodes, at));
+        first_declared(unit, checked, found, entity)
     }
 }
 
@@ -69,25 +69,25 @@ fn ref_of(unit: &Unit, judged: &Judgement, found: &Found, at: usize) -> Option<u
 pub(crate) fn refs(
     alloc: Global,
     unit: &Unit,
-    judged: &Judgement,
+    checked: &CheckedColumns,
     found: &Found,
 ) -> Result<Row<Option<u32>>, AllocError>
-    requires { AreFound (parsed_of unit.now) judged.now found.now }
-    ensures { IfOk result (λ refs. refs ≡ listed (ref_of_lem (parsed_of unit.now) judged.now) (length unit.now.nodes)) }
+    requires { AreFound (parsed_of unit.now) checked.now found.now }
+    ensures { IfOk result (λ refs. refs ≡ listed (ref_of_lem (parsed_of unit.now) checked.now) (length unit.now.nodes)) }
 {
     let mut refs = Row::new(alloc);
     for at in 0..unit.nodes.len() {
-        refs.push(ref_of(unit, judged, found, at))?;
+        refs.push(ref_of(unit, checked, found, at))?;
     }
     Ok(refs)
 }
 
 // ---- durations
 
-fn around_of(judged: &Judgement, node: Option<u32>) -> Around
-    ensures { result ≡ around_of judged.now node }
+fn around_of(checked: &CheckedColumns, node: Option<u32>) -> Around
+    ensures { result ≡ around_of checked.now node }
 {
-    entry(judged.around, OUTERMOST, node)
+    entry(checked.around, OUTERMOST, node)
 }
 
 fn is_list(kind: Option<Kind>) -> bool
@@ -100,11 +100,11 @@ fn is_list(kind: Option<Kind>) -> bool
 }
 
 // The function declarator that has a parameter alone or in a list.
-fn function_above(nodes: &[Node], judged: &Judgement, above: Option<u32>) -> Option<u32>
-    ensures { result ≡ function_above nodes.now judged.now above }
+fn function_above(nodes: &[Node], checked: &CheckedColumns, above: Option<u32>) -> Option<u32>
+    ensures { result ≡ function_above nodes.now checked.now above }
 {
     if is_list(kind_of(nodes, above)) {
-        entry(judged.above, None, above)
+        entry(checked.above, None, above)
     } else {
         above
     }
@@ -120,15 +120,20 @@ fn is_same(node: Option<u32>, other: Option<u32>) -> bool
 }
 
 // Whether a whole declarator is that of a parameter of this definition itself.
-fn is_own(nodes: &[Node], judged: &Judgement, whole: Option<u32>, definition: Option<u32>) -> bool
-    ensures { result ≡ is_own nodes.now judged.now whole definition }
+fn is_own(
+    nodes: &[Node],
+    checked: &CheckedColumns,
+    whole: Option<u32>,
+    definition: Option<u32>,
+) -> bool
+    ensures { result ≡ is_own nodes.now checked.now whole definition }
 {
     match definition {
         Some(definition) => {
-            let above = entry(judged.above, None, entry(judged.above, None, whole));
+            let above = entry(checked.above, None, entry(checked.above, None, whole));
             is_same(
-                function_above(nodes, judged, above),
-                function_of(nodes, judged, definition as usize),
+                function_above(nodes, checked, above),
+                function_of(nodes, checked, definition as usize),
             )
         }
         None => false,
@@ -173,18 +178,18 @@ fn by_declared(declared: Declared, place: Place, own: bool, is_static: bool, kep
     }
 }
 
-fn duration_of(unit: &Unit, judged: &Judgement, found: &Found, at: usize) -> Duration
-    requires { AreFound (parsed_of unit.now) judged.now found.now }
-    ensures { result ≡ duration_of_lem unit.now.nodes judged.now at }
+fn duration_of(unit: &Unit, checked: &CheckedColumns, found: &Found, at: usize) -> Duration
+    requires { AreFound (parsed_of unit.now) checked.now found.now }
+    ensures { result ≡ duration_of_lem unit.now.nodes checked.now at }
 {
     let nodes = unit.nodes.as_slice();
-    let whole = whole_of(nodes, judged, at);
-    let around = around_of(judged, whole);
-    let own = is_own(nodes, judged, whole, around.function);
-    let kept = is_kept(unit, judged, found, entity_of(nodes, judged.names, at));
-    let is_static = entry(judged.statics, false, whole);
+    let whole = whole_of(nodes, checked, at);
+    let around = around_of(checked, whole);
+    let own = is_own(nodes, checked, whole, around.function);
+    let kept = is_kept(unit, checked, found, entity_of(nodes, checked.names, at));
+    let is_static = entry(checked.statics, false, whole);
     by_declared(
-        declared_of(judged, whole),
+        declared_of(checked, whole),
         around.place,
         own,
         is_static,
@@ -197,25 +202,25 @@ fn duration_of(unit: &Unit, judged: &Judgement, found: &Found, at: usize) -> Dur
 pub(crate) fn durations(
     alloc: Global,
     unit: &Unit,
-    judged: &Judgement,
+    checked: &CheckedColumns,
     found: &Found,
 ) -> Result<Row<Duration>, AllocError>
-    requires { AreFound (parsed_of unit.now) judged.now found.now }
-    ensures { IfOk result (λ durations. durations ≡ listed (duration_of_lem unit.now.nodes judged.now) (length unit.now.nodes)) }
+    requires { AreFound (parsed_of unit.now) checked.now found.now }
+    ensures { IfOk result (λ durations. durations ≡ listed (duration_of_lem unit.now.nodes checked.now) (length unit.now.nodes)) }
 {
     let mut durations = Row::new(alloc);
     for at in 0..unit.nodes.len() {
-        durations.push(duration_of(unit, judged, found, at))?;
+        durations.push(duration_of(unit, checked, found, at))?;
     }
     Ok(durations)
 }
 
 // ---- types
 
-fn type_named(judged: &Judgement, node: Option<u32>) -> Named
-    ensures { type_in (type_at judged.now.table.now) result ≡ type_named judged.now node }
+fn type_named(checked: &CheckedColumns, node: Option<u32>) -> Named
+    ensures { type_in (type_at checked.now.table.now) result ≡ type_named checked.now node }
 {
-    Named::Row(entry(judged.named, 0, node))
+    Named::Row(entry(checked.named, 0, node))
 }
 
 fn is_initialised(kind: Option<Kind>) -> bool
@@ -227,10 +232,10 @@ fn is_initialised(kind: Option<Kind>) -> bool
     }
 }
 
-fn with_initialiser(nodes: &[Node], judged: &Judgement, whole: Option<u32>) -> Option<u32>
-    ensures { result ≡ with_initialiser nodes.now judged.now whole }
+fn with_initialiser(nodes: &[Node], checked: &CheckedColumns, whole: Option<u32>) -> Option<u32>
+    ensures { result ≡ with_initialiser nodes.now checked.now whole }
 {
-    let above = entry(judged.above, None, whole);
+    let above = entry(checked.above, None, whole);
     if is_initialised(kind_of(nodes, above)) {
         above
     } else {
@@ -238,35 +243,44 @@ fn with_initialiser(nodes: &[Node], judged: &Judgement, whole: Option<u32>) -> O
     }
 }
 
-fn whole_if(nodes: &[Node], judged: &Judgement, name: Option<u32>) -> Option<u32>
-    ensures { result ≡ whole_if nodes.now judged.now name }
+fn whole_if(nodes: &[Node], checked: &CheckedColumns, name: Option<u32>) -> Option<u32>
+    ensures { result ≡ whole_if nodes.now checked.now name }
 {
     match name {
-        Some(name) => whole_of(nodes, judged, name as usize),
+        Some(name) => whole_of(nodes, checked, name as usize),
         None => None,
     }
 }
 
-fn composite_type(unit: &Unit, judged: &Judgement, found: &Found, entity: Option<u32>) -> Named
-    requires { AreFound (parsed_of unit.now) judged.now found.now }
-    ensures { type_in (type_at judged.now.table.now) result ≡ composite_type unit.now.nodes judged.now entity }
+fn composite_type(
+    unit: &Unit,
+    checked: &CheckedColumns,
+    found: &Found,
+    entity: Option<u32>,
+) -> Named
+    requires { AreFound (parsed_of unit.now) checked.now found.now }
+    ensures { type_in (type_at checked.now.table.now) result ≡ composite_type unit.now.nodes checked.now entity }
 {
     let nodes = unit.nodes.as_slice();
-    let whole = whole_if(nodes, judged, last_declared(unit, judged, found, entity));
-    Named::Row(entry(judged.composites, 0, with_initialiser(nodes, judged, whole)))
+    let whole = whole_if(nodes, checked, last_declared(unit, checked, found, entity));
+    Named::Row(entry(
+        checked.composites,
+        0,
+        with_initialiser(nodes, checked, whole),
+    ))
 }
 
 fn function_type(
     unit: &Unit,
-    judged: &Judgement,
+    checked: &CheckedColumns,
     found: &Found,
     at: u32,
     entity: Option<u32>,
 ) -> Named
-    requires { AreFound (parsed_of unit.now) judged.now found.now }
-    ensures { type_in (type_at judged.now.table.now) result ≡ function_type unit.now.nodes judged.now at entity }
+    requires { AreFound (parsed_of unit.now) checked.now found.now }
+    ensures { type_in (type_at checked.now.table.now) result ≡ function_type unit.now.nodes checked.now at entity }
 {
-    match definition_of(unit, judged, found, entity) {
+    match definition_of(unit, checked, found, entity) {
         Some(definition) => Named::Function(definition),
         None => Named::Function(at),
     }
@@ -284,48 +298,58 @@ fn is_here(at: u32, node: Option<u32>) -> bool
 fn entity_type(
     declared: Declared,
     unit: &Unit,
-    judged: &Judgement,
+    checked: &CheckedColumns,
     found: &Found,
     at: u32,
     entity: Option<u32>,
 ) -> Named
-    requires { AreFound (parsed_of unit.now) judged.now found.now }
-    ensures { type_in (type_at judged.now.table.now) result ≡ entity_type declared unit.now.nodes judged.now at entity }
+    requires { AreFound (parsed_of unit.now) checked.now found.now }
+    ensures { type_in (type_at checked.now.table.now) result ≡ entity_type declared unit.now.nodes checked.now at entity }
 {
     match declared {
-        Declared::Function(..) => function_type(unit, judged, found, at, entity),
-        Declared::Object(..) => composite_type(unit, judged, found, entity),
-        _ => type_named(judged, whole_of(unit.nodes.as_slice(), judged, at as usize)),
+        Declared::Function(..) => function_type(unit, checked, found, at, entity),
+        Declared::Object(..) => composite_type(unit, checked, found, entity),
+        _ => type_named(
+            checked,
+            whole_of(unit.nodes.as_slice(), checked, at as usize),
+        ),
     }
 }
 
-fn name_type(unit: &Unit, judged: &Judgement, found: &Found, at: u32) -> Named
-    requires { AreFound (parsed_of unit.now) judged.now found.now }
-    ensures { type_in (type_at judged.now.table.now) result ≡ name_type (parsed_of unit.now) judged.now at }
+fn name_type(unit: &Unit, checked: &CheckedColumns, found: &Found, at: u32) -> Named
+    requires { AreFound (parsed_of unit.now) checked.now found.now }
+    ensures { type_in (type_at checked.now.table.now) result ≡ name_type (parsed_of unit.now) checked.now at }
 {
     let nodes = unit.nodes.as_slice();
-    let entity = entity_of(nodes, judged.names, at as usize);
-    let whole = whole_of(nodes, judged, at as usize);
-    if is_here(at, first_declared(unit, judged, found, entity)) {
-        entity_type(declared_of(judged, whole), unit, judged, found, at, entity)
+    let entity = entity_of(nodes, checked.names, at as usize);
+    let whole = whole_of(nodes, checked, at as usize);
+    if is_here(at, first_declared(unit, checked, found, entity)) {
+        entity_type(
+            declared_of(checked, whole),
+            unit,
+            checked,
+            found,
+            at,
+            entity,
+        )
     } else {
-        type_named(judged, whole)
+        type_named(checked, whole)
     }
 }
 
-fn named_by(unit: &Unit, judged: &Judgement, found: &Found, at: u32) -> Named
-    requires first { type_at judged.now.table.now 0 ≡ unknown }
-    requires found { AreFound (parsed_of unit.now) judged.now found.now }
-    ensures { type_in (type_at judged.now.table.now) result ≡ named_of (parsed_of unit.now) judged.now at }
+fn named_by(unit: &Unit, checked: &CheckedColumns, found: &Found, at: u32) -> Named
+    requires first { type_at checked.now.table.now 0 ≡ unknown }
+    requires found { AreFound (parsed_of unit.now) checked.now found.now }
+    ensures { type_in (type_at checked.now.table.now) result ≡ named_of (parsed_of unit.now) checked.now at }
 {
     let nodes = unit.nodes.as_slice();
     match kind_at(nodes, at as usize) {
-        Some(Kind::NameDeclarator) => name_type(unit, judged, found, at),
-        Some(Kind::Cast) => type_named(judged, part_at(nodes, at as usize, 0)),
+        Some(Kind::NameDeclarator) => name_type(unit, checked, found, at),
+        Some(Kind::Cast) => type_named(checked, part_at(nodes, at as usize, 0)),
         Some(Kind::Return) => Named::Row(entry(
-            judged.results,
+            checked.results,
             0,
-            around_of(judged, Some(at)).function,
+            around_of(checked, Some(at)).function,
         )),
         _ => Named::Row(0),
     }
@@ -336,17 +360,17 @@ fn named_by(unit: &Unit, judged: &Judgement, found: &Found, at: u32) -> Named
 pub(crate) fn named(
     alloc: Global,
     unit: &Unit,
-    judged: &Judgement,
+    checked: &CheckedColumns,
     found: &Found,
 ) -> Result<Vec<Named>, AllocError>
-    requires first { type_at judged.now.table.now 0 ≡ unknown }
-    requires found { AreFound (parsed_of unit.now) judged.now found.now }
-    ensures { IfOk result (λ named. map (type_in (type_at judged.now.table.now)) named.items ≡ listed (named_of (parsed_of unit.now) judged.now) (length unit.now.nodes)) }
+    requires first { type_at checked.now.table.now 0 ≡ unknown }
+    requires found { AreFound (parsed_of unit.now) checked.now found.now }
+    ensures { IfOk result (λ named. map (type_in (type_at checked.now.table.now)) named.items ≡ listed (named_of (parsed_of unit.now) checked.now) (length unit.now.nodes)) }
 {
     let mut named = Vec::new(alloc);
     for at in 0..unit.nodes.len() {
         let number = number_of(at)?;
-        named.push(named_by(unit, judged, found, number))?;
+        named.push(named_by(unit, checked, found, number))?;
     }
     Ok(named)
 }

@@ -5,9 +5,9 @@ ghost use Rattle.cr_check_types.specs.Shared.{levels_of, IsWithAll};
 ghost use Rattle.cr_typed_columns.specs.Rows.{type_in, levels_of_all, levels_upto, put_entry, put_type, AreRowsOf, ArePuts, AreAllRows, AreAllPuts};
 ghost use Rattle.cr_typed_columns.specs.Columns.{is_structure, member_type, member_types, plan_entries, plan_types};
 
+use crate::checked::CheckedColumns;
 use crate::copying::copied;
 use crate::expressions::members_at;
-use crate::judgement::Judgement;
 use crate::reading::kind_at;
 use crate::rows::{Named, rows};
 use cr_check_expressions::Member;
@@ -29,8 +29,12 @@ fn is_structure(kind: Option<Kind>) -> bool
     }
 }
 
-fn types_of(alloc: Global, judged: &Judgement, members: &[Member]) -> Result<Vec<Named>, AllocError>
-    ensures { IfOk result (λ types. map (type_in (type_at judged.now.table.now)) types.items ≡ map (member_type (type_at judged.now.table.now)) members.now) }
+fn types_of(
+    alloc: Global,
+    checked: &CheckedColumns,
+    members: &[Member],
+) -> Result<Vec<Named>, AllocError>
+    ensures { IfOk result (λ types. map (type_in (type_at checked.now.table.now)) types.items ≡ map (member_type (type_at checked.now.table.now)) members.now) }
 {
     let mut types = Vec::new(alloc);
     for member in members {
@@ -44,18 +48,18 @@ fn member_rows(
     alloc: Global,
     table: &mut Table,
     nodes: &[Node],
-    judged: &Judgement,
+    checked: &CheckedColumns,
     at: usize,
 ) -> Result<Row<u32>, AllocError>
-    ensures made { IfOk result (λ rows. AreRowsOf table.new (member_types nodes.now judged.now at) rows) }
+    ensures made { IfOk result (λ rows. AreRowsOf table.new (member_types nodes.now checked.now at) rows) }
     ensures grows { OnOk result (Grows table.old table.new) }
-    ensures levels { OnOk result (IsWithAll table.old (levels_of_all (member_types nodes.now judged.now at)) table.new) }
+    ensures levels { OnOk result (IsWithAll table.old (levels_of_all (member_types nodes.now checked.now at)) table.new) }
 {
     if is_structure(kind_at(nodes, at)) {
-        let types = types_of(alloc, judged, members_at(judged.members, at))?;
-        rows(alloc, table, judged.table, &types)
+        let types = types_of(alloc, checked, members_at(checked.members, at))?;
+        rows(alloc, table, checked.table, &types)
     } else {
-        rows(alloc, table, judged.table, &[])
+        rows(alloc, table, checked.table, &[])
     }
 }
 
@@ -64,15 +68,15 @@ pub(crate) fn members(
     alloc: Global,
     table: &mut Table,
     nodes: &[Node],
-    judged: &Judgement,
+    checked: &CheckedColumns,
 ) -> Result<Row<Row<u32>>, AllocError>
-    ensures made { IfOk result (λ members. AreAllRows table.new (member_types nodes.now judged.now) (length nodes.now) members) }
+    ensures made { IfOk result (λ members. AreAllRows table.new (member_types nodes.now checked.now) (length nodes.now) members) }
     ensures grows { OnOk result (Grows table.old table.new) }
-    ensures levels { OnOk result (IsWithAll table.old (levels_upto (member_types nodes.now judged.now) (length nodes.now)) table.new) }
+    ensures levels { OnOk result (IsWithAll table.old (levels_upto (member_types nodes.now checked.now) (length nodes.now)) table.new) }
 {
     let mut members = Row::new(alloc);
     for at in 0..nodes.len() {
-        let rows = member_rows(alloc, table, nodes, judged, at)?;
+        let rows = member_rows(alloc, table, nodes, checked, at)?;
         members.push(rows)?;
     }
     Ok(members)
@@ -80,11 +84,11 @@ pub(crate) fn members(
 
 // ---- initialisers
 
-fn lines_at<'a>(judged: &'a Judgement, at: usize) -> &'a [Line]
-    ensures { result.now ≡ slice_index_or judged.now.lines.now at [] }
+fn lines_at<'a>(checked: &'a CheckedColumns, at: usize) -> &'a [Line]
+    ensures { result.now ≡ slice_index_or checked.now.lines.now at [] }
 {
-    if at < judged.lines.len() {
-        judged.lines[at].as_slice()
+    if at < checked.lines.len() {
+        checked.lines[at].as_slice()
     } else {
         &[]
     }
@@ -120,15 +124,15 @@ fn copied_puts(
 fn plan(
     alloc: Global,
     table: &mut Table,
-    judged: &Judgement,
+    checked: &CheckedColumns,
     at: usize,
 ) -> Result<Row<Put>, AllocError>
-    ensures made { IfOk result (λ puts. ArePuts table.new (plan_entries judged.now at) puts) }
+    ensures made { IfOk result (λ puts. ArePuts table.new (plan_entries checked.now at) puts) }
     ensures grows { OnOk result (Grows table.old table.new) }
-    ensures levels { OnOk result (IsWithAll table.old (levels_of_all (plan_types judged.now at)) table.new) }
+    ensures levels { OnOk result (IsWithAll table.old (levels_of_all (plan_types checked.now at)) table.new) }
 {
-    let given = puts(alloc, lines_at(judged, at))?;
-    copied_puts(alloc, table, judged.table, given.as_slice())
+    let given = puts(alloc, lines_at(checked, at))?;
+    copied_puts(alloc, table, checked.table, given.as_slice())
 }
 
 /// What the initialisers of each initialised declarator initialise.
@@ -136,15 +140,15 @@ pub(crate) fn plans(
     alloc: Global,
     table: &mut Table,
     nodes: usize,
-    judged: &Judgement,
+    checked: &CheckedColumns,
 ) -> Result<Row<Row<Put>>, AllocError>
-    ensures made { IfOk result (λ plans. AreAllPuts table.new (plan_entries judged.now) nodes plans) }
+    ensures made { IfOk result (λ plans. AreAllPuts table.new (plan_entries checked.now) nodes plans) }
     ensures grows { OnOk result (Grows table.old table.new) }
-    ensures levels { OnOk result (IsWithAll table.old (levels_upto (plan_types judged.now) nodes) table.new) }
+    ensures levels { OnOk result (IsWithAll table.old (levels_upto (plan_types checked.now) nodes) table.new) }
 {
     let mut plans = Row::new(alloc);
     for at in 0..nodes {
-        let plan = plan(alloc, table, judged, at)?;
+        let plan = plan(alloc, table, checked, at)?;
         plans.push(plan)?;
     }
     Ok(plans)

@@ -13,7 +13,7 @@ use std::alloc::{AllocError, Global};
 /// A type.
 #[derive(Clone, Copy)]
 pub(crate) enum Named {
-    /// What a row of the judged table has.
+    /// What a row of the checked table has.
     Row(u32),
     /// The function of a node.
     Function(u32),

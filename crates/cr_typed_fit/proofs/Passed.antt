@@ -6,7 +6,7 @@ use Rattle.std.proofs.lemmas.List.Elements.{All-from_recursion}
 use Rattle.std.proofs.lemmas.List.Sums.{sum_by-cons}
 use Rattle.cr_syntax.specs.Kept.{PartsAreBelow}
 use Rattle.cr_syntax.specs.Words.{AreSpans}
-use Rattle.cr_syntax.specs.declared.typed.CType.TheVariants.{Void, Int, Pointer, Array, Struct, Function, Unknown}
+use Rattle.cr_syntax.specs.declared.ctype.CType.TheVariants.{Void, Int, Pointer, Array, Struct, Function, Unknown}
 use Rattle.cr_check_types.specs.declared.layout.Layout.{Layout}
 use Rattle.cr_check_types.specs.declared.shape.Shape.{Shape}
 use Rattle.cr_check_types.specs.Types.{Qualified, plain, pointer, array, unknown, type_at, IsTable}

@@ -4,19 +4,19 @@ use Rattle.cr_syntax.specs.declared.unit.Unit as source
 use Rattle.cr_scopes.specs.declared.names.Names.{Names}
 use Rattle.cr_check_declarations.specs.declared.tree.Tree.{Tree}
 use Rattle.cr_typed.specs.declared.typed.Typed.{Typed}
-use Rattle.cr_typed_columns.specs.declared.judgement.Judgement.{Judgement}
+use Rattle.cr_typed_columns.specs.declared.checked.CheckedColumns.{CheckedColumns}
 use Rattle.cr_typed_columns.specs.Reading.{parsed_of}
 use Rattle.cr_typed_columns.specs.Columns.{IsElaborated}
-use Rattle.cr_check.specs.declared.judged.Judged.{Judged}
+use Rattle.cr_check.specs.declared.checked.Checked.{Checked}
 use Rattle.cr_check.specs.Checked.{IsSoundOf}
 use Rattle.cr_typed_unit.specs.Made.{IsMade}
 use Rattle.cr_typed_unit.specs.Typed.{AreColumnsOf, IsTypedOf}
 
 -- the columns are nothing of the literals
-pub with_texts : (names : Names) (judged : Judged) (texts : List (List ℕ)) (t : Tree) (j : Judgement)
-    → AreColumnsOf names (record { surroundings = judged.surroundings; texts = texts; table = judged.table; whole = judged.whole }) t j
-    → AreColumnsOf names judged t j
-with_texts names judged texts t j h = record {
+pub with_texts : (names : Names) (checked : Checked) (texts : List (List ℕ)) (t : Tree) (j : CheckedColumns)
+    → AreColumnsOf names (record { surroundings = checked.surroundings; texts = texts; table = checked.table; whole = checked.whole }) t j
+    → AreColumnsOf names checked t j
+with_texts names checked texts t j h = record {
   table = h.table;
   names_are = h.names_are;
   spellings = h.spellings;
@@ -37,20 +37,20 @@ with_texts names judged texts t j h = record {
   labels = h.labels;
 }
 
-pub typed_of : (file bytes : List ℕ) (unit : source.Unit) (names : Names) (judged rest : Judged) (texts : List (List ℕ)) (typed : Typed)
-    → (sound : IsSoundOf file unit names judged) → bytes ≡ file → texts ≡ judged.texts
-    → rest ≡ record { surroundings = judged.surroundings; texts = []; table = judged.table; whole = judged.whole }
+pub typed_of : (file bytes : List ℕ) (unit : source.Unit) (names : Names) (checked rest : Checked) (texts : List (List ℕ)) (typed : Typed)
+    → (sound : IsSoundOf file unit names checked) → bytes ≡ file → texts ≡ checked.texts
+    → rest ≡ record { surroundings = checked.surroundings; texts = []; table = checked.table; whole = checked.whole }
     → IsMade bytes unit texts names rest sound.tree typed → IsTypedOf file unit names typed
-typed_of file bytes unit names judged rest texts typed sound of_file of_texts of_judged made = record {
-  judged = judged;
+typed_of file bytes unit names checked rest texts typed sound of_file of_texts of_checked made = record {
+  checked = checked;
   by = record {
     tree = sound.tree;
     is = sound.is;
     sound = sound.sound;
     columns = made.columns;
-    are = with_texts names judged [] sound.tree made.columns
-        (subst (λ j. AreColumnsOf names j sound.tree made.columns) of_judged made.are);
-    elaborated = subst (λ b. IsElaborated b (parsed_of unit) judged.texts made.columns typed) of_file
+    are = with_texts names checked [] sound.tree made.columns
+        (subst (λ j. AreColumnsOf names j sound.tree made.columns) of_checked made.are);
+    elaborated = subst (λ b. IsElaborated b (parsed_of unit) checked.texts made.columns typed) of_file
         (subst (λ ts. IsElaborated bytes (parsed_of unit) ts made.columns typed) of_texts made.elaborated);
     fits = made.fits;
   };

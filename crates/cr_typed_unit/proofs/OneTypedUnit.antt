@@ -1,4 +1,4 @@
--- A unit has one typed unit: two judgements of it, or of units with the same lists, say the same of each node.
+-- A unit has one typed unit: two checks of it, or of units with the same lists, say the same of each node.
 use Rattle.std.proofs.Common.{◌≡◌, ℕ, Bool, List, [], Some, length, slice_index_or, refl, sym, ap, subst, ◌∙◌}
 use Rattle.std.proofs.lemmas.List.{ext_get_or}
 use Rattle.cr_syntax.specs.declared.unit.Unit as source
@@ -16,16 +16,16 @@ use Rattle.cr_check_declarations.specs.Faults.{Has}
 use Rattle.cr_check_initialised.specs.Durations.{is_static}
 use Rattle.cr_check_unit.proofs.OneTyping.{one_typing}
 use Rattle.cr_check_unit.proofs.OneBreak.{same_scenes}
-use Rattle.cr_typed_columns.specs.declared.judgement.Judgement.{Judgement}
+use Rattle.cr_typed_columns.specs.declared.checked.CheckedColumns.{CheckedColumns}
 use Rattle.cr_typed_columns.specs.Reading.{parsed_of}
 use Rattle.cr_typed_columns.specs.Rows.{listed}
 use Rattle.cr_typed_columns.specs.Columns.{IsElaborated}
 use Rattle.cr_typed_columns.proofs.Alike.{one_typed}
-use Rattle.cr_check.specs.declared.judged.Judged.{Judged}
-use Rattle.cr_check.specs.Judged.{IsJudged}
+use Rattle.cr_check.specs.declared.checked.Checked.{Checked}
+use Rattle.cr_check.specs.Columns.{IsChecked}
 use Rattle.cr_check.specs.Laws.{AreSameLists}
 use Rattle.cr_check.proofs.SameTrees.{static_moved}
-use Rattle.cr_check.proofs.Units.{judged_carried}
+use Rattle.cr_check.proofs.Units.{checked_carried}
 use Rattle.cr_check.proofs.Verdicts.{second_carried}
 use Rattle.cr_typed_unit.specs.Typed.{AreColumnsOf, IsTypedBy}
 use Rattle.cr_typed_unit.specs.Laws.{OneTypedUnit}
@@ -49,13 +49,13 @@ sorts_alike : (shapes later : List Shape) (rows others : List ℕ) (d e : Declar
     → sort_of d ≡ sort_of e
 sorts_alike shapes later rows others d e same = sort_meant shapes rows d ∙ ap sort_in same ∙ sym (sort_meant later others e)
 
--- ---- columns by what they were judged
+-- ---- columns by what they were checked
 
-abbrev statics_of : Tree → Judged → List Bool
+abbrev statics_of : Tree → Checked → List Bool
 statics_of t a = listed (λ i. is_static t (λ p. slice_index_or a.whole.typing.specified p nothing) (Some i)) (length t.nodes.now)
 
-abbrev judged_values : Names → Judged → Tree → Values
-judged_values names a t = record {
+abbrev checked_values : Names → Checked → Tree → Values
+checked_values names a t = record {
   table = a.table;
   names = names;
   spellings = a.surroundings.bindings.spellings;
@@ -76,7 +76,7 @@ judged_values names a t = record {
   labels = a.whole.marked.labels;
 }
 
-values_are : (names : Names) (a : Judged) (t : Tree) (j : Judgement) → AreColumnsOf names a t j → values_of j ≡ judged_values names a t
+values_are : (names : Names) (a : Checked) (t : Tree) (j : CheckedColumns) → AreColumnsOf names a t j → values_of j ≡ checked_values names a t
 values_are names a t j are = λ x. record {
   table = are.table x;
   names = are.names_are x;
@@ -98,11 +98,11 @@ values_are names a t j are = λ x. record {
   labels = are.labels x;
 }
 
--- ---- two judgements of a unit
+-- ---- two checks of a unit
 
-judged_same : (file : List ℕ) (unit : source.Unit) (names : Names) (a b : Judged) (t s : Tree) → IsJudged file unit names a t
-    → IsJudged file unit names b s → AreSame (judged_values names a t) (judged_values names b s)
-judged_same file unit names a b t s h g =
+checked_same : (file : List ℕ) (unit : source.Unit) (names : Names) (a b : Checked) (t s : Tree) → IsChecked file unit names a t
+    → IsChecked file unit names b s → AreSame (checked_values names a t) (checked_values names b s)
+checked_same file unit names a b t s h g =
     let c = second_carried file unit names a b t s h g in
     let around = c.surroundings in
     let typing = a.whole.typing in
@@ -143,26 +143,26 @@ judged_same file unit names a b t s h g =
       results = λ i. λ x. (scenes x).gives (Some i);
     }
 
-columns_same : (file : List ℕ) (unit : source.Unit) (names : Names) (a b : Judged) (t s : Tree) (j k : Judgement) → IsJudged file unit names a t
-    → IsJudged file unit names b s → AreColumnsOf names a t j → AreColumnsOf names b s k → AreSame (values_of j) (values_of k)
+columns_same : (file : List ℕ) (unit : source.Unit) (names : Names) (a b : Checked) (t s : Tree) (j k : CheckedColumns) → IsChecked file unit names a t
+    → IsChecked file unit names b s → AreColumnsOf names a t j → AreColumnsOf names b s k → AreSame (values_of j) (values_of k)
 columns_same file unit names a b t s j k h g are also =
     subst (λ v. AreSame v (values_of k)) (sym (values_are names a t j are))
-    (subst (AreSame (judged_values names a t)) (sym (values_are names b s k also)) (judged_same file unit names a b t s h g))
+    (subst (AreSame (checked_values names a t)) (sym (values_are names b s k also)) (checked_same file unit names a b t s h g))
 
 -- ---- the law
 
-by_judgements : (file : List ℕ) (u v : source.Unit) (names : Names) (a b : Judged) (one other : Typed) → AreSameLists u v
+by_columns : (file : List ℕ) (u v : source.Unit) (names : Names) (a b : Checked) (one other : Typed) → AreSameLists u v
     → IsTypedBy file u names a one → IsTypedBy file v names b other → one ≡ other
-by_judgements file u v names a b one other same h g =
+by_columns file u v names a b one other same h g =
     let t = h.tree in
     let s = g.tree in
     let unit = parsed_of v in
     let parsed : parsed_of u ≡ unit = λ x. record { tokens = same.tokens x; nodes = same.nodes x; items = same.items x } in
-    let is = judged_carried u v same file names a t h.is in
+    let is = checked_carried u v same file names a t h.is in
     let texts : a.texts ≡ b.texts = sym (second_carried file v names a b t s is g.is).texts in
     let alike = same_alike h.columns g.columns (columns_same file v names a b t s h.columns g.columns is g.is h.are g.are) unit in
     one_typed file unit b.texts h.columns g.columns one other alike
     (subst (λ x. IsElaborated file unit x h.columns one) texts (subst (λ p. IsElaborated file p a.texts h.columns one) parsed h.elaborated)) g.elaborated
 
 pub one_typed_unit : OneTypedUnit
-one_typed_unit file u v names one other same h g = by_judgements file u v names h.judged g.judged one other same h.by g.by
+one_typed_unit file u v names one other same h g = by_columns file u v names h.checked g.checked one other same h.by g.by

@@ -1,8 +1,8 @@
--- Judgements that say the same of each node, whatever tables their types stand in.
+-- Columns that say the same of each node, whatever tables their types stand in.
 use Rattle.std.proofs.Common.{◌≡◌, ℕ, suc, ◌==◌, ◌&&◌, ◌||◌, not, Bool, true, false, List, [], ◌∷◌, Option, None, Some, length, map, slice_get, slice_index_or, if◌then◌else◌, option_to_list, refl, sym, ap, ◌∙◌, arith}
 use Rattle.std.specs.List.{list_any, flat_map}
 use Rattle.std.specs.Option.{is_some}
-use Rattle.cr_syntax.specs.declared.typed.CType.TheVariants as type
+use Rattle.cr_syntax.specs.declared.ctype.CType.TheVariants as type
 use Rattle.cr_syntax.specs.declared.node.Kind.{Kind}
 use Rattle.cr_syntax.specs.declared.node.Kind.TheVariants as kind
 use Rattle.cr_syntax.specs.declared.node.Node.{Node}
@@ -32,7 +32,7 @@ use Rattle.cr_check_initialisers.specs.declared.lines.Line.{Line}
 use Rattle.cr_check_initialisers.specs.declared.lines.Line.TheVariants as line
 use Rattle.cr_check_initialisers.specs.Plans.{Entry, put, excess, entries_of, puts_of}
 use Rattle.cr_check_unit.specs.Laws.{member_at}
-use Rattle.cr_typed_columns.specs.declared.judgement.Judgement.{Judgement}
+use Rattle.cr_typed_columns.specs.declared.checked.CheckedColumns.{CheckedColumns}
 use Rattle.cr_typed_columns.specs.Reading.{Parsed, kind_of, part_of, entry_of}
 use Rattle.cr_typed_columns.specs.Rows.{put_entry}
 use Rattle.cr_typed_columns.specs.Entities.{named_token, last_of, entity_of, first_declared, last_declared, definition_of, is_definition, whole_of, declared_of, is_object, is_declaration, is_extern, is_open, keeps, kept_entity, is_kept}
@@ -42,9 +42,9 @@ use Rattle.cr_typed_columns.specs.Expressions.{seen_of, value_in, is_array, fill
 use Rattle.cr_typed_columns.specs.Columns.{is_structure, member_type, plan_entries}
 use Rattle.cr_typed_columns.specs.Laws.{AreAlike}
 
--- ---- what was judged
+-- ---- what was checked
 
--- the columns of a judgement, wherever they lie
+-- the columns of a check, wherever they lie
 pub record Values : Type 0 where
   pub table : List Shape
   pub names : Names
@@ -65,7 +65,7 @@ pub record Values : Type 0 where
   pub results : List ℕ
   pub labels : List (Option ℕ)
 
-abbrev pub values_of : Judgement → Values
+abbrev pub values_of : CheckedColumns → Values
 values_of j = record {
   table = j.table.now;
   names = j.names.now;
@@ -149,7 +149,7 @@ type_by function_sort function composite named = function
 type_by object_sort function composite named = composite
 type_by other_sort function composite named = named
 
-type_sorted : (d : Declared) (nodes : List Node) (j : Judgement) (i : ℕ) (entity : Option ℕ)
+type_sorted : (d : Declared) (nodes : List Node) (j : CheckedColumns) (i : ℕ) (entity : Option ℕ)
     → entity_type d nodes j i entity
     ≡ type_by (sort_of d) (function_type nodes j i entity) (composite_type nodes j entity) (type_named j (whole_of nodes j i))
 type_sorted (Object row register) nodes j i entity = refl
@@ -207,7 +207,7 @@ any_same f g (x ∷ xs) (y ∷ ys) count each =
 
 -- ---- all that is read of them
 
-module _ (j k : Judgement) (h : AreSame (values_of j) (values_of k)) where
+module _ (j k : CheckedColumns) (h : AreSame (values_of j) (values_of k)) where
   seen_same : (node : Option ℕ) → seen_of j node ≡ seen_of k node
   seen_same None = ap (λ found. record { type = found; lvalue = false; register = false; constant = no_fact.constant; null = false }) h.none
   seen_same (Some i) = h.facts i

@@ -1,11 +1,11 @@
-// What was judged of a unit's nodes, as the columns that a typed unit is made of.
+// What was checked of a unit's nodes, as the columns that a typed unit is made of.
 ghost use Rattle.std.specs.Prelude.{◌≡◌, ℕ, List, IfOk};
 ghost use Rattle.cr_check_declarations.specs.declared.tree.Tree as tree;
 ghost use Rattle.cr_check_surroundings.specs.Surroundings.{IsTree};
 ghost use Rattle.cr_typed_unit.specs.Made.{statics_in};
 ghost use Rattle.cr_typed_unit.specs.Typed.{AreColumnsOf};
 
-use cr_check::Judged;
+use cr_check::Checked;
 use cr_check_declarations::{Columns, Tree};
 use cr_check_initialised::is_static;
 use cr_check_surroundings::Surroundings;
@@ -13,22 +13,22 @@ use cr_check_types::Table;
 use cr_check_unit::{Typing, Whole};
 use cr_scopes::Names;
 use cr_syntax::{Unit, number_of};
-use cr_typed_columns::Judgement;
+use cr_typed_columns::CheckedColumns;
 use std::alloc::{AllocError, Global};
 
-/// The columns of what was judged.
-pub(crate) fn judgement_of<'a>(
+/// The columns of what was checked.
+pub(crate) fn checked_columns<'a>(
     names: &'a Names,
     surroundings: &'a Surroundings,
     table: &'a Table,
     whole: &'a Whole,
     statics: &'a [bool],
-) -> Judgement<'a>
+) -> CheckedColumns<'a>
     ensures table { result.table.now ≡ table.now }
     ensures columns { (texts : List (List ℕ)) (t : tree.Tree) → statics.now ≡ statics_in t whole.now.typing.specified → AreColumnsOf names.now (record { surroundings = surroundings.now; texts = texts; table = table.now; whole = whole.now }) t result }
 {
     let typing = &whole.typing;
-    Judgement {
+    CheckedColumns {
         table,
         names,
         spellings: surroundings.bindings.spellings.as_slice(),
@@ -85,11 +85,11 @@ pub(crate) fn statics_of(
     alloc: Global,
     file: &[u8],
     unit: &Unit,
-    judged: &Judged,
+    checked: &Checked,
 ) -> Result<Vec<bool>, AllocError>
-    ensures { IfOk result (λ column. (t : tree.Tree) → IsTree file.now unit.now judged.now.surroundings t → column.items ≡ statics_in t judged.now.whole.typing.specified) }
+    ensures { IfOk result (λ column. (t : tree.Tree) → IsTree file.now unit.now checked.now.surroundings t → column.items ≡ statics_in t checked.now.whole.typing.specified) }
 {
-    let tree = judged.surroundings.tree(file, unit);
-    let columns = columns_of(&judged.whole.typing);
+    let tree = checked.surroundings.tree(file, unit);
+    let columns = columns_of(&checked.whole.typing);
     statics(alloc, &tree, &columns)
 }

@@ -1,4 +1,4 @@
-// The typed unit of a judged one.
+// The typed unit of a checked one.
 ghost use Rattle.std.specs.Prelude.{◌≡◌, [], IfOk, OnOk};
 ghost use Rattle.cr_syntax.specs.Words.{AreSpans};
 ghost use Rattle.cr_typed.specs.Typed.{IsTyped};
@@ -8,32 +8,32 @@ ghost use Rattle.cr_check_types.specs.Types.{type_at, unknown};
 ghost use Rattle.cr_typed_unit.specs.Made.{statics_in, IsMade};
 ghost use Rattle.cr_typed_unit.specs.Typed.{IsTypedOf};
 
-use crate::columns::{judgement_of, statics_of};
-use cr_check::Judged;
+use crate::columns::{checked_columns, statics_of};
+use cr_check::Checked;
 use cr_rows::Row;
 use cr_scopes::Names;
 use cr_syntax::Unit;
 use cr_typed::Typed;
-use cr_typed_columns::typed as elaborated;
+use cr_typed_columns::assemble;
 use cr_typed_fit::fits;
 use std::alloc::{AllocError, Global};
 use std::mem;
 
-/// The typed unit of a unit that was judged and has no fault. The error is want of memory.
+/// The typed unit of a unit that was checked and has no fault. The error is want of memory.
 pub fn typed(
     alloc: Global,
     file: &[u8],
     unit: Unit,
     names: &Names,
-    judged: Judged,
+    checked: Checked,
 ) -> Result<Typed, AllocError>
     requires spans { AreSpans file.now unit.tokens.list.items }
-    requires sound { IsSoundOf file.now unit names.now judged }
+    requires sound { IsSoundOf file.now unit names.now checked }
     ensures { IfOk result (λ typed. IsTypedOf file.now unit names.now typed) }
 {
-    let mut judged = judged;
-    let typed = typed_by(alloc, file, unit, names, &mut judged);
-    drop(judged);
+    let mut checked = checked;
+    let typed = typed_by(alloc, file, unit, names, &mut checked);
+    drop(checked);
     typed
 }
 
@@ -42,49 +42,57 @@ fn typed_by(
     file: &[u8],
     unit: Unit,
     names: &Names,
-    judged: &mut Judged,
+    checked: &mut Checked,
 ) -> Result<Typed, AllocError>
     requires spans { AreSpans file.now unit.tokens.list.items }
-    requires sound { IsSoundOf file.now unit names.now judged.old }
+    requires sound { IsSoundOf file.now unit names.now checked.old }
     ensures { IfOk result (λ typed. IsTypedOf file.now unit names.now typed) }
 {
     let bytes = Row::from_vec(file.to_vec(alloc)?);
-    let statics = statics_of(alloc, file, &unit, judged)?;
-    let texts = texts_of(alloc, judged);
-    made(alloc, bytes, unit, texts, names, judged, statics.as_slice())
+    let statics = statics_of(alloc, file, &unit, checked)?;
+    let texts = texts_of(alloc, checked);
+    made(
+        alloc,
+        bytes,
+        unit,
+        texts,
+        names,
+        checked,
+        statics.as_slice(),
+    )
 }
 
-// The columns of what was judged of this unit, with these literals, where they fit it.
+// The columns of what was checked of this unit, with these literals, where they fit it.
 fn made(
     alloc: Global,
     bytes: Row<u8>,
     unit: Unit,
     texts: Row<Row<u8>>,
     names: &Names,
-    judged: &Judged,
+    checked: &Checked,
     statics: &[bool],
 ) -> Result<Typed, AllocError>
     requires spans { AreSpans bytes unit.tokens.list.items }
-    requires first { type_at judged.now.table 0 ≡ unknown }
-    ensures { (t : tree.Tree) → statics.now ≡ statics_in t judged.now.whole.typing.specified → IfOk result (IsMade bytes unit texts names.now judged.now t) }
+    requires first { type_at checked.now.table 0 ≡ unknown }
+    ensures { (t : tree.Tree) → statics.now ≡ statics_in t checked.now.whole.typing.specified → IfOk result (IsMade bytes unit texts names.now checked.now t) }
 {
-    let columns = judgement_of(
+    let columns = checked_columns(
         names,
-        &judged.surroundings,
-        &judged.table,
-        &judged.whole,
+        &checked.surroundings,
+        &checked.table,
+        &checked.whole,
         statics,
     );
-    let typed = elaborated(alloc, bytes, unit, texts, &columns)?;
+    let typed = assemble(alloc, bytes, unit, texts, &columns)?;
     fitting(alloc, &typed).and(Ok(typed))
 }
 
 // The bytes of the literals, which are taken out.
-fn texts_of(alloc: Global, judged: &mut Judged) -> Row<Row<u8>>
-    ensures texts { result ≡ judged.old.texts }
-    ensures rest { judged.new ≡ record { surroundings = judged.old.surroundings; texts = []; table = judged.old.table; whole = judged.old.whole } }
+fn texts_of(alloc: Global, checked: &mut Checked) -> Row<Row<u8>>
+    ensures texts { result ≡ checked.old.texts }
+    ensures rest { checked.new ≡ record { surroundings = checked.old.surroundings; texts = []; table = checked.old.table; whole = checked.old.whole } }
 {
-    mem::replace(&mut judged.texts, Row::new(alloc))
+    mem::replace(&mut checked.texts, Row::new(alloc))
 }
 
 // Whether the columns fit the unit. Where they don't, that counts as want of memory.

@@ -11,7 +11,7 @@ use std::process::Abort;
 use std::test::Fail;
 
 // Expressions, the number of the token after them, and their trees as `shown` writes them, with names by their kinds. `T` and `V` are types,
-// but an inner scope makes `V` an object. Worked out by hand from C11 6.5 and 6.7 and the rules of docs/DEFINITIONS.md.
+// but an inner scope makes `V` an object. Worked out by hand from C11 6.5 and 6.7 and the definitions in crates/cr_exprs/README.md.
 const TREES: &str = r#"
 a¦1¦a
 a goto¦1¦a

@@ -10,7 +10,7 @@ use std::process::Abort;
 use std::test::Fail;
 
 // Units and their trees as `shown` writes them, with names by their spelling. Worked out by hand from C11 6.7 to 6.9 and the
-// rules of docs/DEFINITIONS.md.
+// definitions in crates/cr_decls/README.md.
 const TREES: &str = r#"
 -- declarations
 int x;¦Declaration[Int x]

@@ -3,7 +3,7 @@ use cr_tokens::{Token, TokenFault, TokenKind, Tokens, contains, first_fault, rea
 use std::alloc::{AllocError, Global};
 use std::process::Abort;
 
-// Texts and their tokens, after C11 6.4 and the rules of docs/DEFINITIONS.md. A token is the letter of its kind (keyword,
+// Texts and their tokens, after C11 6.4 and the definitions in crates/cr_tokens/README.md. A token is the letter of its kind (keyword,
 // name, integer, character, text, punctuator) and its spelling.
 const LISTS: &str = r#"
 ¦

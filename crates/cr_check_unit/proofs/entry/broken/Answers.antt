@@ -34,7 +34,7 @@ returns c =
     let initialisers = first_of (initialiser_faults_in n.kind (known_in shapes u t) u (before_in shapes t) bracket (object_in shapes t n) type (entries_of shapes e.lines) c.args.at n) in
     c.lesser-2.ensures
     ∙ ap (λ x. lesser x c.lesser.result)
-    (c.broken-expression.ensures
+    (c.expression_break-expression.ensures
     ∙ ap (λ fs. first_of (faults_in (form_of n.kind) own (facts_at shapes fs) (source_of (type_at shapes) known) c.args.at n)) c.as_slice.ensures
     ∙ ap (λ s. first_of (faults_in (form_of n.kind) own (facts_at shapes t.facts) s c.args.at n))
     (c.known_of-known.ensures.source (type_at shapes)))
@@ -46,7 +46,7 @@ returns c =
     ∙ ap (lesser declarations)
     (c.lesser-last.ensures
     ∙ ap (λ x. lesser x c.linked_broken.result)
-    (c.broken-initialised.ensures
+    (c.initialiser_break-initialised.ensures
     ∙ ap (λ k. first_of (initialiser_faults_in n.kind k u (before_at shapes columns) bracket (object_at shapes columns n) type (entries_of shapes c.as_slice-3.result.now) c.args.at n))
     (known_handed shapes u t columns c.as_slice-2.result.now (are.before shapes) are.members c.as_slice-2.ensures)
     ∙ ap (λ b. first_of (initialiser_faults_in n.kind (known_in shapes u t) u b bracket (object_at shapes columns n) type (entries_of shapes c.as_slice-3.result.now) c.args.at n))

@@ -21,6 +21,6 @@ returns c =
     let handed = past_handed shapes t columns links columns_are.declared columns_are.named columns_are.parameters links_are.linked
     links_are.composites links_are.parameters in
     let rows = c.as_slice.ensures in
-    c.broken.ensures
+    c.linkage_break.ensures
     ∙ (λ s. first_of (faults_in n.kind e.linked u (λ p. slice_index_or (columns_are.specified s) p nothing) e.own.declarator (handed s)
     (type_as e.declared (type_at shapes e.own.named) (map (type_at shapes) (rows s))) c.args.at n))

@@ -9,5 +9,5 @@ typed-typed-requires-clause-spans g c = c.tokens_are_spans.ensures c.args.file.n
 
 pub returns-clause-program : goal.returns-clause-program
 returns-clause-program g c =
-    made c.args.file.now c.args.unit c.args.names c.args.judged c.requires.tokens c.requires.parsed c.requires.known c.requires.sound
+    made c.args.file.now c.args.unit c.args.names c.args.checked c.requires.tokens c.requires.parsed c.requires.known c.requires.sound
     c.program_of.result c.typed-typed.result c.structures_of-structures.result c.typed-typed.ensures c.structures_of-structures.ensures c.program_of.ensures.program

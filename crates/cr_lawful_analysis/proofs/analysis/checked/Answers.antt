@@ -5,7 +5,7 @@ use Rattle.cr_lawful_analysis.proofs.Same.{unsound}
 use Rattle.cr_lawful_analysis.proofs.analysis.checked.Goals as goal
 
 pub returns-in-Ok : goal.returns-in-Ok
-returns-in-Ok c = c.of_unit.ensures c.args.file.now c.in-Ok.judged c.requires.tokens (record {
+returns-in-Ok c = c.of_unit.ensures c.args.file.now c.in-Ok.checked c.requires.tokens (record {
   tokens_are = refl;
   parsed = c.requires.parsed;
   known = c.requires.known;

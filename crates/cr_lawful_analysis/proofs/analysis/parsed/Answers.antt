@@ -22,4 +22,4 @@ named-requires-clause-parsed c =
 pub returns-in_ok-refusal-in-Err : goal.returns-in_ok-refusal-in-Err
 returns-in_ok-refusal-in-Err c =
     subst (λ tokens. IsRead c.args.file.now (tokens_alone (Some tokens))) (sym c.from_vec.ensures)
-    (no_unit c.requires (λ unit names judged is. unparsed c.one_first_refusal.ensures.tree _ c.in-Err.fault c.in_ok-refusal-in-Err.ensures c.in-Err.ensures.refused _ is.parsed.is_tree))
+    (no_unit c.requires (λ unit names checked is. unparsed c.one_first_refusal.ensures.tree _ c.in-Err.fault c.in_ok-refusal-in-Err.ensures c.in-Err.ensures.refused _ is.parsed.is_tree))

@@ -7,5 +7,5 @@ abbrev pub invariant-loop-lines : goal.invariant-loop-lines
 invariant-loop-lines l = record {
   count : length l.marks.items ≡ l.nodes;
   each : (i : ℕ) → i < l.nodes → slice_index_or l.marks.items i false
-      ≡ list_any (λ lines. list_any (fills_array l.judged.table.now i) lines) (take l.lines-index l.judged.lines.now);
+      ≡ list_any (λ lines. list_any (fills_array l.checked.table.now i) lines) (take l.lines-index l.checked.lines.now);
 }

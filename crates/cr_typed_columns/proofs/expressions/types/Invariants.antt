@@ -5,4 +5,4 @@ use Rattle.cr_typed_columns.specs.Rows.{listed, type_in}
 use Rattle.cr_typed_columns.proofs.expressions.types.Given as goal
 
 abbrev pub invariant-loop-at : goal.invariant-loop-at
-invariant-loop-at l = map (type_in (type_at l.judged.table.now)) l.types.items ≡ listed (type_of_node l.judged) l.at
+invariant-loop-at l = map (type_in (type_at l.checked.table.now)) l.types.items ≡ listed (type_of_node l.checked) l.at

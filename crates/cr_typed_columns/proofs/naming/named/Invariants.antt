@@ -6,4 +6,4 @@ use Rattle.cr_typed_columns.specs.Rows.{listed, type_in}
 use Rattle.cr_typed_columns.proofs.naming.named.Given as goal
 
 abbrev pub invariant-loop-at : goal.invariant-loop-at
-invariant-loop-at l = map (type_in (type_at l.judged.table.now)) l.named.items ≡ listed (named_of (parsed_of l.unit) l.judged) l.at
+invariant-loop-at l = map (type_in (type_at l.checked.table.now)) l.named.items ≡ listed (named_of (parsed_of l.unit) l.checked) l.at

@@ -10,7 +10,7 @@ loop-at-preserved c =
     let old = c.loop-at.table in
     let new = c.member_rows.new.table in
     rw c.in_ok-push.ensures.ok record {
-      made = all_rows_more old new (member_types c.args.nodes.now c.args.judged.now) c.loop-at.at c.loop-at.members c.in_ok-rows.rows is.grows h.made is.made;
+      made = all_rows_more old new (member_types c.args.nodes.now c.args.checked.now) c.loop-at.at c.loop-at.members c.in_ok-rows.rows is.grows h.made is.made;
       grows = grows_on c.args.table.now old new h.grows is.grows;
-      levels = upto_more c.args.table.now old new (member_types c.args.nodes.now c.args.judged.now) c.loop-at.at h.levels is.levels;
+      levels = upto_more c.args.table.now old new (member_types c.args.nodes.now c.args.checked.now) c.loop-at.at h.levels is.levels;
     }

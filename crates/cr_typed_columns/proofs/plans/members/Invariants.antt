@@ -6,7 +6,7 @@ use Rattle.cr_typed_columns.proofs.plans.members.Given as goal
 
 abbrev pub invariant-loop-at : goal.invariant-loop-at
 invariant-loop-at l = record {
-  made : AreAllRows l.table (member_types l.nodes l.judged) l.at l.members;
+  made : AreAllRows l.table (member_types l.nodes l.checked) l.at l.members;
   grows : Grows l.fn.table l.table;
-  levels : IsWithAll l.fn.table (levels_upto (member_types l.nodes l.judged) l.at) l.table;
+  levels : IsWithAll l.fn.table (levels_upto (member_types l.nodes l.checked) l.at) l.table;
 }

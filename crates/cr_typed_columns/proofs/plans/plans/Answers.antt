@@ -10,7 +10,7 @@ loop-at-preserved c =
     let old = c.loop-at.table in
     let new = c.plan.new.table in
     rw c.in_ok-push.ensures.ok record {
-      made = all_puts_more old new (plan_entries c.args.judged.now) c.loop-at.at c.loop-at.plans c.in_ok-plan.plan is.grows h.made is.made;
+      made = all_puts_more old new (plan_entries c.args.checked.now) c.loop-at.at c.loop-at.plans c.in_ok-plan.plan is.grows h.made is.made;
       grows = grows_on c.args.table.now old new h.grows is.grows;
-      levels = upto_more c.args.table.now old new (plan_types c.args.judged.now) c.loop-at.at h.levels is.levels;
+      levels = upto_more c.args.table.now old new (plan_types c.args.checked.now) c.loop-at.at h.levels is.levels;
     }

@@ -6,7 +6,7 @@ use Rattle.cr_typed_columns.proofs.plans.plans.Given as goal
 
 abbrev pub invariant-loop-at : goal.invariant-loop-at
 invariant-loop-at l = record {
-  made : AreAllPuts l.table (plan_entries l.judged) l.at l.plans;
+  made : AreAllPuts l.table (plan_entries l.checked) l.at l.plans;
   grows : Grows l.fn.table l.table;
-  levels : IsWithAll l.fn.table (levels_upto (plan_types l.judged) l.at) l.table;
+  levels : IsWithAll l.fn.table (levels_upto (plan_types l.checked) l.at) l.table;
 }

@@ -6,4 +6,4 @@ use Rattle.cr_typed_columns.proofs.plans.types_of.Given as goal
 
 abbrev pub invariant-loop-member : goal.invariant-loop-member
 invariant-loop-member l =
-    map (type_in (type_at l.judged.table.now)) l.types.items ≡ map (member_type (type_at l.judged.table.now)) (take l.member-index l.members)
+    map (type_in (type_at l.checked.table.now)) l.types.items ≡ map (member_type (type_at l.checked.table.now)) (take l.member-index l.members)

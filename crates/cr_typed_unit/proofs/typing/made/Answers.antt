@@ -7,12 +7,12 @@ use Rattle.cr_typed_unit.proofs.typing.made.Goals as goal
 pub returns : goal.returns
 returns c = λ t same.
     let typed = c.in_ok-typed.typed in
-    let is = IsMade c.args.bytes c.args.unit c.args.texts c.args.names.now c.args.judged.now t in
+    let is = IsMade c.args.bytes c.args.unit c.args.texts c.args.names.now c.args.checked.now t in
     subst (λ r. IfOk r is) (sym c.and.ensures)
     (stays is (IsTyped typed) c.fitting.result typed c.fitting.ensures
     (λ fits. record {
-      columns = c.judgement_of-columns.result;
-      are = c.judgement_of-columns.ensures.columns c.args.judged.now.texts t same;
+      columns = c.checked_columns-columns.result;
+      are = c.checked_columns-columns.ensures.columns c.args.checked.now.texts t same;
       elaborated = c.in_ok-typed.ensures;
       fits = fits;
     }))

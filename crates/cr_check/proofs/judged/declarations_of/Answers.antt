@@ -1,7 +1,0 @@
-use Rattle.std.proofs.Common.{refl}
-use Rattle.cr_check.proofs.Rows.{are_known}
-use Rattle.cr_check.proofs.judged.declarations_of.Goals as goal
-
-pub returns-clause-within : goal.returns-clause-within
-returns-clause-within c = λ h.
-    are_known _ c.args.judged.now.table c.args.judged.now.whole.typing refl c.as_slice-7.ensures c.as_slice-8.ensures c.as_slice-9.ensures h

@@ -1,9 +1,0 @@
-use Rattle.cr_check_types.specs.Types.{Grows}
-use Rattle.cr_check_unit.proofs.Steps.{AreJudged}
-use Rattle.cr_check_unit.proofs.judged.judge_each.Given as goal
-
-abbrev pub invariant-loop-at : goal.invariant-loop-at
-invariant-loop-at l = record {
-  judged : AreJudged l.tree l.texts l.table l.typing l.broken l.at;
-  grows : Grows l.initial.table l.table;
-}

@@ -1,0 +1,9 @@
+use Rattle.cr_check_types.specs.Types.{Grows}
+use Rattle.cr_check_unit.proofs.Steps.{AreChecked}
+use Rattle.cr_check_unit.proofs.nodes.check_each.Given as goal
+
+abbrev pub invariant-loop-at : goal.invariant-loop-at
+invariant-loop-at l = record {
+  checked : AreChecked l.tree l.texts l.table l.typing l.broken l.at;
+  grows : Grows l.initial.table l.table;
+}

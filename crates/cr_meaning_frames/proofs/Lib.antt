@@ -1,0 +1,3 @@
+pub mod Agreeing
+pub mod Working
+pub mod Framing

@@ -1,0 +1,15 @@
+pub mod Following
+pub mod Orders
+pub mod Steady
+pub mod Whole
+pub mod Leftward
+pub mod Changing
+pub mod Stepping
+pub mod Resting
+pub mod Knowing
+pub mod Leaving
+pub mod Opening
+pub mod Joining
+pub mod Loud
+pub mod Owning
+pub mod Typed

@@ -1,0 +1,4 @@
+pub mod AnyOrder
+pub mod Fixed
+pub mod Owned
+pub mod Laws

@@ -1,0 +1,3 @@
+pub mod Seeing
+pub mod Single
+pub mod Noting

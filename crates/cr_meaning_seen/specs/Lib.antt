@@ -1,0 +1,3 @@
+pub mod Seen
+pub mod Marks
+pub mod Laws

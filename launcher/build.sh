@@ -1,0 +1,169 @@
+# The first build: all crates of the program are proved, and it is built, in a folder of the launcher's (out/build).
+#
+# `rt ci` does it, as the gate: it proves the longest chain first and keeps what passed beside the toolchain, so that after the gate, or
+# where another checkout was built, this takes seconds. Where nothing can be kept there, a call that was stopped would begin anew; then
+# `rt all check` does it, which keeps what it proved in that folder. There is no way round the proofs.
+# shellcheck shell=bash disable=SC2154,SC2034,SC2094 # the files beside it, and creduce, set and use its variables
+
+folder=$top/out/build
+log=$top/out/build.log
+
+# How many crates are proved side by side: one for each processor, and for each 3 GB of memory that is free.
+most() {
+    local processors gigabytes
+    processors=$(nproc 2>/dev/null || echo 1)
+    gigabytes=$(awk '/^MemAvailable:/ { print int($2 / 3145728) }' /proc/meminfo 2>/dev/null)
+    [ "${gigabytes:-0}" -lt "$processors" ] && processors=${gigabytes:-1}
+    [ "$processors" -lt 1 ] && processors=1
+    echo "$processors"
+}
+
+# Each crate with about how many processor seconds it takes, and how many pass at least until all that waits for it is done (docs/GATE.md has
+# what a line of code and a line of proof cost).
+costs() {
+    local name
+    needed >"$folder/needed" && cd "$top/crates" || return 1
+    while read -r name _; do
+        find "$name" \( -name out -o -name must-fail \) -prune -o -name '*.rt' -exec cat {} + | wc -l | sed "s/^/$name rt /"
+        find "$name" \( -name out -o -name must-fail \) -prune -o -name '*.antt' -exec cat {} + | wc -l | sed "s/^/$name antt /"
+    done <"$folder/needed" | awk '
+        NR == FNR { cost[$1] += $3 * ($2 == "rt" ? 0.09 : 0.01); next }
+        { order[++count] = $1; for (k = 2; k <= NF; k++) above[$k] = above[$k] " " $1 }
+        END {
+            for (k = count; k > 0; k--) {
+                name = order[k]; own = int(5 + cost[name]); waits = 0
+                for (j = split(above[name], list, " "); j > 0; j--) if (chain[list[j]] > waits) waits = chain[list[j]]
+                chain[name] = own + waits
+                print name, own, chain[name]
+            }
+        }' - "$folder/needed"
+}
+
+# The folder as the toolchain wants it, with the crates as they stand now; what earlier calls proved in it stays.
+fill() {
+    local name
+    local -a names
+    mkdir -p "$folder/.git" "$folder/crates" && mapfile -t names < <(needed | sed 's/ .*//') && [ "${#names[@]}" -gt 0 ] || return 1
+    for name in "$folder"/crates/*; do
+        if [ -d "$top/crates/${name##*/}" ]; then find "$name" -mindepth 1 -maxdepth 1 ! -name out -exec rm -rf {} +; else rm -rf "$name"; fi
+    done
+    cp "$top/HANDLES" "$folder/" && (cd "$top/crates" && tar cf - --exclude=out --exclude=must-fail "${names[@]}") | tar xf - -C "$folder/crates" &&
+        grep -E "^($(IFS='|' && echo "${names[*]}"))[: ]" "$top/crates.txt" >"$folder/crates.txt"
+}
+
+# Where `rt ci` keeps what passed, and whether it can.
+keeps() {
+    local kept
+    kept=$(dirname "$(dirname "$(dirname "$(readlink -f "$(command -v rt)")")")")/rattle-kept
+    mkdir -p "$kept" 2>/dev/null && [ -w "$kept" ]
+}
+
+prove() {
+    cd "$folder" || return 1
+    if keeps; then exec rt ci; fi
+    rt all check --jobs "$(most)" && cd crates/creduce || return 1
+    # Without words the program ends with status 2, so the file alone shows that it was built.
+    rm -f out/creduce
+    rt run
+    [ -x out/creduce ]
+}
+
+# begin: what progress is reckoned from. Without words of its own it would say that all is still to be done.
+begin() {
+    declare -gA cost=() chain=()
+    local name own waits
+    total=0 proved=0 began=$SECONDS lanes=$(most)
+    while read -r name own waits; do
+        cost[$name]=$own chain[$name]=$waits total=$((total + own))
+    done < <(costs)
+    crates=${#cost[@]} left=$crates taken=0
+}
+
+# left_seconds: about how long it will still take: the work that is left by the pace so far (in the first two minutes also by what processors
+# give), and no less than the longest chain.
+left_seconds() {
+    local name longest=0 spent=$((SECONDS - began))
+    for name in "${!chain[@]}"; do [ "${chain[$name]}" -le "$longest" ] || longest=${chain[$name]}; done
+    awk -v left=$((total - proved)) -v proved="$proved" -v spent=$spent -v lanes="$lanes" -v longest="$longest" 'BEGIN {
+        seconds = left / ((proved + lanes * 120) / (spent + 120))
+        print int(seconds > longest ? seconds : longest) }'
+}
+
+about() { if [ "$1" -lt 90 ]; then echo 'about a minute'; else echo "about $((($1 + 30) / 60)) min"; fi; }
+
+# ended NAME HOW: a crate is proved, or was kept.
+ended() {
+    [ -n "${cost[$1]:-}" ] || return
+    left=$((left - 1))
+    if [ "$2" = kept ]; then total=$((total - cost[$1])) taken=$((taken + 1)); else proved=$((proved + cost[$1])); fi
+    unset "chain[$1]" "cost[$1]"
+    [ "$2" = kept ] && return
+    if [ "$taken" -gt 0 ]; then say "$taken crates were proved on this machine before" && taken=0; fi
+    [ "$left" = 0 ] && say "$1 is proved, the last of $crates: now the program is built and tried" && return
+    say "$1 is proved: $((100 * proved / total)) % of the work is done after $(took $((SECONDS - began))), $left crates and $(about "$(left_seconds)") left"
+}
+
+# follow PID: says what the log tells until that process ends.
+follow() {
+    local line rest=''
+    local is_well='^rt: ([a-z_0-9]+) (proved|is kept|(passed|is proved).*)' is_not='^rt: ([a-z_0-9]+).* NOT PROVED'
+    exec 8<"$log"
+    while :; do
+        kill -0 "$1" 2>/dev/null || rest=last
+        while IFS= read -r line <&8; do
+            if [[ $line =~ $is_not ]]; then say "${BASH_REMATCH[1]} was NOT PROVED"; fi
+            if [[ $line =~ $is_well ]]; then ended "${BASH_REMATCH[1]}" "${BASH_REMATCH[2]#is }"; fi
+        done
+        [ -z "$rest" ] || break
+        sleep 1
+    done
+    exec 8<&-
+}
+
+# Builds the program, or waits for another call that does. The run is a process group of its own, so that all of it ends with this one.
+build() {
+    local pid status
+    command -v rt >/dev/null || {
+        say "the program isn't built yet, and the Rattle toolchain, which proves and builds it, isn't in PATH."
+        say "Unpack the Rattle kit, put its folder bin in PATH, so that 'rt version' answers, and call again."
+        exit 127
+    }
+    if ! mkdir -p "$folder" "${program%/*}" 2>/dev/null || [ ! -w "$folder" ] || [ ! -w "${program%/*}" ]; then
+        say "the program isn't built yet, and $top can't be written by you: have its owner call creduce once, or use a copy of your own."
+        exit 1
+    fi
+    exec 9>"$top/out/lock"
+    if ! flock -n 9; then
+        say "another call builds the program: this one waits for it ($log has what it does)"
+        flock 9
+        ! is_built || return 0
+    fi
+    # The sums and times are those of before: what is edited meanwhile is seen by the next call.
+    if ! { (sums) >"$folder/sums" && cut -c 67- "$folder/sums" >"$folder/files" && (times_of "$folder/files") >"$folder/times" && fill && begin; }; then
+        say "the crates can't be copied to $folder"
+        exit 1
+    fi
+    say "the program isn't built yet. All of its $crates crates are proved for that, once; if you stop this, the next call goes on from there."
+    say "That is $(about "$total") of processor time, and with $lanes at once $(about "$(left_seconds)"), less what was proved on this machine before."
+    : >"$log"
+    set -m
+    PYTHONUNBUFFERED=1 prove >"$log" 2>&1 </dev/null &
+    pid=$!
+    trap 'kill -TERM -- "-$pid" 2>/dev/null; say "stopped; the next call goes on from there"; exit 130' INT TERM HUP
+    follow "$pid"
+    wait "$pid"
+    status=$?
+    trap - INT TERM HUP
+    set +m
+    take "$status" || { say "the program was not built: $log says why"; tail -n 3 "$log" >&2; exit 1; }
+    say "the program is built, in $(took $((SECONDS - began)))"
+    exec 9>&-
+}
+
+# take STATUS: puts the program in its place, if all went well, with the stamp of what it was built of.
+take() {
+    [ "$1" = 0 ] && [ -x "$folder/crates/creduce/out/creduce" ] || return 1
+    mv "$folder/crates/creduce/out/creduce" "$program" && stamp "$folder/sums" "$folder/times" || return 1
+    keeps && rm -rf "$folder"
+    return 0
+}
