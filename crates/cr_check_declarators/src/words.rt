@@ -1,5 +1,5 @@
 ghost use Rattle.std.specs.Prelude.{◌≡◌, ◌||◌};
-ghost use Rattle.cr_check_declarators.specs.Specifiers.{nothing, stored, base_of, first_of, both_bases, both_lengths, both_signs, both_storages, specified_by, joined_of};
+ghost use Rattle.cr_check_declarators.specs.Specifiers.{nothing, is_typedef_word, stored, base_of, first_of, both_bases, both_lengths, both_signs, both_storages, specified_by, joined_of};
 
 use cr_syntax::Kind;
 

@@ -20,7 +20,8 @@ pub fn repeated<K: Hash + Eq + Copy + Drop>(
     let least = least_places(alloc, marks, nodes)?;
     let mut repeated = Vec::new(alloc);
     for at in 0..marks.len() {
-        repeated.push(is_behind(&least, marks[at], place_of(nodes, at)))?;
+        let mark = mark_at(marks, at);
+        repeated.push(is_behind(&least, mark, place_of(nodes, at)))?;
     }
     Ok(repeated)
 }
@@ -35,9 +36,15 @@ fn least_places<K: Hash + Eq + Copy + Drop>(
 {
     let mut least = HashMap::new(alloc);
     for at in 0..marks.len() {
-        note(&mut least, marks[at], place_of(nodes, at))?;
+        note(&mut least, mark_at(marks, at), place_of(nodes, at))?;
     }
     Ok(least)
+}
+
+fn mark_at<K: Copy>(marks: &[Option<K>], at: usize) -> Option<K>
+    ensures { result ≡ mark_in marks.now at }
+{
+    if at < marks.len() { marks[at] } else { None }
 }
 
 // Where a node stands: its first token.

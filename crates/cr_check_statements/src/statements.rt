@@ -1,7 +1,8 @@
-ghost use Rattle.std.specs.Prelude.{◌≡◌, ◌<◌, ◌||◌, ℕ, length, slice_get};
+ghost use Rattle.std.specs.Prelude.{◌≡◌, ◌<◌, ◌≤◌, ◌||◌, ℕ, length, slice_get};
 ghost use Rattle.cr_syntax_nodes.specs.Loops.{clauses_of};
 ghost use Rattle.cr_check_types.specs.Types.{Qualified, type_at};
-ghost use Rattle.cr_check_operands.specs.Values.{seen_at, valued_by};
+ghost use Rattle.cr_check_constants.specs.declared.constant.Constant.TheVariants.{NotConstant};
+ghost use Rattle.cr_check_operands.specs.Values.{room_of, seen_at, value_in, valued_at, valued_by};
 ghost use Rattle.cr_check_expressions.specs.Ruled.{seen_in, facts_at, AreFacts};
 ghost use Rattle.cr_check_expressions.specs.Breaks.{fault, first_of};
 ghost use Rattle.cr_check_statements.specs.Setting.{scene_of, AreResults};
