@@ -12,4 +12,5 @@ pub mod Opening
 pub mod Joining
 pub mod Loud
 pub mod Owning
+pub mod Examples
 pub mod Typed

@@ -1,4 +1,4 @@
--- The quick test of two spellings side by side says whether they stay apart.
+-- Whether two spellings of tokens stay apart is a matter of the bytes where they meet: for each kind of the first one its two halves.
 use Rattle.std.proofs.Common.{◌≡◌, ◌≢◌, ◌⊎◌, inl, inr, ℕ, ◌+◌, ◌-◌, ◌≤◌, ◌<◌, List, [], ◌∷◌, ◌++◌, length, true, false, not, Bool, refl, sym, ◌∙◌, ap, subst, arith, zero-add, add-zero, length-append}
 use Rattle.std.specs.Prelude.{slice_index, slice_range, IsTrue, ◌↔◌}
 use Rattle.std.proofs.lemmas.Bool.{cases_eq}
@@ -7,7 +7,7 @@ use Rattle.cr_tokens.specs.declared.token.TokenKind.{TokenKind}
 use Rattle.cr_tokens.specs.declared.token.TokenKind.TheVariants.{Keyword, Identifier, Integer, Character, Text, Punctuator}
 use Rattle.cr_tokens.specs.Bytes.{IsWordByte, IsDigit, is_among}
 use Rattle.cr_tokens.specs.Words.{IsWord, word_kind_of}
-use Rattle.cr_tokens.specs.Numbers.{IsNumber, IsNumberPart, IsInteger, BeginsNumber}
+use Rattle.cr_tokens.specs.Numbers.{IsNumber, IsNumberPart, IsInteger, BeginsNumber, IsSign, IsExponent}
 use Rattle.cr_tokens.specs.Punctuators.{IsPunctuator, punctuators}
 use Rattle.cr_tokens.specs.Blanks.{OpensComment}
 use Rattle.cr_tokens.specs.Tokens.{IsToken, IsLexeme, Spells, FallsInto}
@@ -19,13 +19,24 @@ use Rattle.cr_tokens.proofs.Ranges.{slice_range-two, slice_range-three}
 use Rattle.cr_tokens.proofs.Firsts.{punctuator_no_other}
 use Rattle.cr_tokens.proofs.Longest.{word_IsToken, number_IsToken, no_comment_at, quote_no_slash, byte_inside, punctuator_no_number}
 use Rattle.cr_printer.specs.Pieces.{Piece, IsOneToken}
-use Rattle.cr_printer.specs.Seams.{IsSpelling, GoesOn, Grows}
+use Rattle.cr_printer.specs.Seams.{IsSpelling}
 use Rattle.cr_printer.proofs.Moves.{Agree, spells_moved, word_moved, number_moved}
 use Rattle.cr_printer.proofs.LineEnds.{OneLine, one_line-append}
 use Rattle.cr_printer.proofs.Stands.{token_at, token_cut, comment_back, splice_line_end, quoted_longest, three_two, sign_short, Dots}
 use Rattle.cr_printer.proofs.Alone.{alone, apart_some, front, one_line, not_empty}
 
-abbrev piece : TokenKind → List ℕ → Piece
+-- a byte goes on with a number that ends in `last` (C11 6.4.8)
+abbrev pub GoesOn : ℕ → ℕ → Type 0
+GoesOn last next = IsWordByte next ⊎ (next ≡ 46) ⊎ (IsSign next × IsExponent last)
+
+-- a punctuator of one byte and the two bytes behind it begin a longer punctuator, a number or a comment
+abbrev pub Grows : ℕ → ℕ → ℕ → Type 0
+Grows sign next after =
+    (is_among punctuators (sign ∷ next ∷ []) ≡ true)
+    ⊎ ((sign ≡ 46) × (IsDigit next ⊎ ((next ≡ 46) × (after ≡ 46))))
+    ⊎ ((sign ≡ 47) × ((next ≡ 47) ⊎ (next ≡ 42)))
+
+abbrev pub piece : TokenKind → List ℕ → Piece
 piece kind s = record { kind = kind; spelling = s }
 
 -- a test that is turned

@@ -10,4 +10,5 @@ pub mod Growth
 pub mod Names
 pub mod Neighbours
 pub mod Lost
+pub mod Spaces
 pub mod Units

@@ -1,5 +1,5 @@
 -- Laws of printing.
-use Rattle.std.specs.Prelude.{◌≡◌, ℕ, ◌+◌, ◌≤◌, List, length, slice_range, All}
+use Rattle.std.specs.Prelude.{◌≡◌, ◌↔◌, ℕ, ◌+◌, ◌≤◌, List, length, slice_range, All}
 use Rattle.cr_tokens.specs.declared.token.Token.{Token}
 use Rattle.cr_tokens.specs.Tokens.{Tokenizes, IsToken}
 use Rattle.cr_tokens.specs.Runs.{spellings}
@@ -9,12 +9,18 @@ use Rattle.cr_syntax.specs.Words.{Lexeme, lexemes_of}
 use Rattle.cr_syntax.specs.Trees.{Trees}
 use Rattle.cr_syntax.specs.Spells.{Limit, Is}
 use Rattle.cr_syntax.specs.Units.{IsUnit, IsTreeOf}
+use Rattle.pass_edit.specs.Forms.{joined}
 use Rattle.cr_printer.specs.Text.{Prints}
 use Rattle.cr_printer.specs.Pieces.{Piece, IsOneToken, HasThreeDots, pieces_of, spellings_of}
 
 -- a list prints as one text at most
 abbrev pub PrintsOneText : Type 0
 PrintsOneText = (spellings : List (List ℕ)) (text other : List ℕ) → Prints spellings text → Prints spellings other → text ≡ other
+
+-- tokens joined as pass i joins them are what they print as: neither has a space that the other has not
+abbrev pub JoinedIsPrinted : Type 0
+JoinedIsPrinted = (pieces : List Piece) (text : List ℕ) → All IsOneToken pieces → length (joined (spellings_of pieces)) ≤ 1048576 →
+    Prints (spellings_of pieces) text ↔ (text ≡ joined (spellings_of pieces))
 
 -- the text has tokens, and they are these pieces
 abbrev pub IsReadAs : List ℕ → List Piece → Type 0

@@ -1,10 +1,7 @@
 -- What is looked at where two spellings meet.
-use Rattle.std.specs.Prelude.{◌≡◌, ℕ, ◌+◌, ◌≤◌, ◌⊎◌, List, [], ◌∷◌, length, true, All, slice_index_or}
+use Rattle.std.specs.Prelude.{◌≡◌, ℕ, ◌+◌, ◌≤◌, ◌⊎◌, List, [], length, All, slice_index_or}
 use Rattle.cr_tokens.specs.declared.token.Token.{Token}
 use Rattle.cr_tokens.specs.declared.token.TokenKind.{TokenKind}
-use Rattle.cr_tokens.specs.Bytes.{IsDigit, IsWordByte, is_among}
-use Rattle.cr_tokens.specs.Numbers.{IsSign, IsExponent}
-use Rattle.cr_tokens.specs.Punctuators.{punctuators}
 use Rattle.cr_tokens.specs.Tokens.{IsToken}
 use Rattle.cr_tokens.specs.Places.{Rise, StaysApart}
 use Rattle.cr_printer.specs.Pieces.{IsOneToken}
@@ -18,17 +15,6 @@ pub record AreInOrder (file : List ℕ) (tokens : List Token) : Type 0 where
 -- read by itself, the spelling is one token
 abbrev pub IsSpelling : List ℕ → Type 0
 IsSpelling s = (kind : TokenKind) × IsOneToken (record { kind = kind; spelling = s })
-
--- a byte goes on with a number that ends in `last` (C11 6.4.8)
-abbrev pub GoesOn : ℕ → ℕ → Type 0
-GoesOn last next = IsWordByte next ⊎ (next ≡ 46) ⊎ (IsSign next × IsExponent last)
-
--- a punctuator of one byte and the two bytes behind it begin a longer punctuator, a number or a comment
-abbrev pub Grows : ℕ → ℕ → ℕ → Type 0
-Grows sign next after =
-    (is_among punctuators (sign ∷ next ∷ []) ≡ true)
-    ⊎ ((sign ≡ 46) × (IsDigit next ⊎ ((next ≡ 46) × (after ≡ 46))))
-    ⊎ ((sign ≡ 47) × ((next ≡ 47) ⊎ (next ≡ 42)))
 
 -- the spelling with number `at` needs no space before it: it's the first, or stays apart from the one before
 abbrev pub NeedsNoSpace : List (List ℕ) → ℕ → Type 0

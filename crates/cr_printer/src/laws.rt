@@ -1,8 +1,13 @@
-ghost use Rattle.cr_printer.specs.Laws.{PrintsOneText, PrintedIsRead, ThreeDotsAreLost, NeighboursStayApart, PrintedIsNoLonger, DotsHaveNames, PrintedPartIsRead, PrintedIsUnit};
+ghost use Rattle.cr_printer.specs.Laws.{PrintsOneText, JoinedIsPrinted, PrintedIsRead, ThreeDotsAreLost, NeighboursStayApart, PrintedIsNoLonger, DotsHaveNames, PrintedPartIsRead, PrintedIsUnit};
 
 /// A law: a list of spellings prints as one text at most.
 pub fn prints_one_text()
     ensures { PrintsOneText }
+{}
+
+/// A law: tokens joined by `needs_space` of pass i are what they print as, so neither has a space that the other has not.
+pub fn joined_is_printed()
+    ensures { JoinedIsPrinted }
 {}
 
 /// A law: reading what a list of tokens prints as gives the list back, where no three dots stand in a row in it.

@@ -86,5 +86,5 @@ fn are_apart(file: &[u8], left: &Token, right: &Token) -> bool
     requires order { left.now.end ≤ right.now.start }
     ensures { IsTrue result ↔ StaysApart (slice_range file.now left.now.start left.now.end) (slice_range file.now right.now.start right.now.end) }
 {
-    stays_apart(left.kind, left.spelling(file), right.spelling(file))
+    stays_apart(left.spelling(file), right.spelling(file))
 }

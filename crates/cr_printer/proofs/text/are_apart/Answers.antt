@@ -1,4 +1,4 @@
-use Rattle.std.proofs.Common.{ℕ, List, sym, subst}
+use Rattle.std.proofs.Common.{List, ℕ, sym, subst}
 use Rattle.cr_printer.specs.Pieces.{IsOneToken}
 use Rattle.cr_printer.proofs.Orders.{one_token}
 use Rattle.cr_printer.proofs.text.are_apart.Goals as goal
@@ -6,7 +6,7 @@ use Rattle.cr_printer.proofs.text.are_apart.Goals as goal
 pub stays_apart-requires-clause-left : goal.stays_apart-requires-clause-left
 stays_apart-requires-clause-left c =
     let P : List ℕ → Type 0 = λ s. IsOneToken (record { kind = c.args.left.now.kind; spelling = s }) in
-    subst P (sym c.spelling.ensures) (one_token c.args.file.now c.args.left.now c.requires.short c.requires.left)
+    (c.args.left.now.kind, subst P (sym c.spelling.ensures) (one_token c.args.file.now c.args.left.now c.requires.short c.requires.left))
 
 pub stays_apart-requires-clause-right : goal.stays_apart-requires-clause-right
 stays_apart-requires-clause-right c =
