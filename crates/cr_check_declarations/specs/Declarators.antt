@@ -1,5 +1,5 @@
 -- What a declarator has, and what it derives from the name outwards (C11 6.7.6, 6.7.7).
-use Rattle.std.specs.Prelude.{ℕ, zero, suc, ◌+◌, ◌-◌, List, not, Option, None, Some, codes, slice_get, if◌then◌else◌}
+use Rattle.std.specs.Prelude.{ℕ, zero, suc, ◌+◌, ◌-◌, List, false, not, Option, None, Some, codes, slice_get, if◌then◌else◌}
 use Rattle.std.specs.Option.{is_some}
 use Rattle.std.specs.Str.{bytes_eq}
 use Rattle.cr_syntax.specs.declared.node.Kind.{Kind}
