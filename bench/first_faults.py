@@ -34,7 +34,7 @@ RULES = [
     (r"size of array .* is (negative|not)|zero-size array|variably", "type 7"),
     (r"returning a function|returning an array|array of functions|declared as a function|invalid storage class for function", "type 8, type 2"),
     (r"incomplete|declared void|storage size of|array of voids|type of formal parameter", "type 6"),
-    (r"conflicting types for|redeclaration of|redefinition of|redeclared as|duplicate member|follows (non-)?static|previously defined", "name 2, type 9, type 10"),
+    (r"conflicting type|redeclaration of|redefinition of|redeclared as|duplicate member|follows (non-)?static|previously defined", "name 2, type 9, type 10"),
     (r"array size missing|flexible array", "type 14"),
     (r"weak declaration|linkage", "type 10"),
 ]
@@ -44,10 +44,11 @@ REASONS = [
     (r"gcc takes it.*type 8|other rules: type 8|another place: type 8", "pointers to functions, structures as results, typedefs of functions, `()` in a declaration (own)"),
     (r"another place: type 42", "gcc tells of a label that isn't there once, at its last `goto`"),
     (r"we take it.*inline function", "6.7.4p7 isn't asked (docs/NUMBERS.md)"),
-    (r"gcc takes it.*type (6|14)|other rules: type (6|14)", "a complete type at once, also with `extern`, and a size at once (own); gcc sees them later, or not"),
+    (r"gcc takes it.*type (6|14)|other rules: type (6|14)|another place: type (6|14)", "a complete type at once, also with `extern`, and a size at once (own); gcc sees them later, or not"),
     (r"gcc takes it.*type 42|other rules: type 42", "no jump goes into a block (own)"),
     (r"gcc takes it.*type 2|other rules: type 2", "the storage class of a function in a block or of `main`'s `for` (own)"),
-    (r"other rules: name", "all names come before the constraints; gcc goes on behind a declaration that it refuses"),
+    (r"other rules: name|another place: name", "all names come before the constraints; gcc tells nothing more of a name whose declaration it refuses"),
+    (r"gcc takes it.*type 16", "a function's name stands only in a call (own)"),
 ]
 
 

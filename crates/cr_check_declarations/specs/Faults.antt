@@ -182,7 +182,7 @@ is_nameless nodes part = not (is_some (parameter_name nodes part))
 abbrev pub parameter_fault : Before → List Node → ℕ → Option ℕ → Option Break
 parameter_fault b nodes i None = None
 parameter_fault b nodes i (Some part) =
-    fault 6 (name_or (parameter_name nodes part) (first_in nodes (Some part))) 
+    fault 6 (name_or (parameter_name nodes part) (first_in nodes (Some part)))
     (not (is_some (declarator_in b.declarator (slice_get (parts_in nodes (Some part)) 1)).function)
     && not (whole_object (is_complete_at nodes i) (b.named part)))
 

@@ -107,8 +107,7 @@ pub fn has_whole_elements(
     requires base { base < length table.now }
     ensures { result ≡ whole_elements (is_complete_at nodes.now at) (type_at table.now derivations) (type_at table.now base) }
 {
-    is_unknown(table, base)
-        || are_whole(table, table.is_complete(nodes, at, base), derivations)
+    is_unknown(table, base) || are_whole(table, table.is_complete(nodes, at, base), derivations)
 }
 
 fn are_whole(table: &Table, complete: bool, derivations: u32) -> bool

@@ -42,7 +42,7 @@ repeats_is eq mark marks place repeated count k h r low =
     r.each k (omega (arith, low, c))
     ∙ ap (λ (n : ℕ). repeats_at eq (mark_in marks) place n k) c
     ∙ same_mark (has_before eq (mark_in marks) place count (place k)) (has_before eq mark place count (place k)) (mark_in marks k)
-        (λ q. among eq mark marks place count count (place k) q h (omega arith))
+    (λ q. among eq mark marks place count count (place k) q h (omega arith))
     ∙ ap (has_mark (has_before eq mark place count (place k))) (h.each k low)
 
 -- all entries

@@ -11,7 +11,9 @@ ghost use Rattle.cr_check_statements.specs.Statements.{is_no_scalar, is_no_integ
 use crate::setting::{Setting, around_at, label_of, repeats, result_row};
 use cr_check_constants::Constant;
 use cr_check_expressions::{Break, NO_FACT, break_if, is_typed, operand, part_at};
-use cr_check_operands::{Fact, Value, is_assignable, is_integer, is_scalar, value_in_row, value_of};
+use cr_check_operands::{
+    Fact, Value, is_assignable, is_integer, is_scalar, value_in_row, value_of,
+};
 use cr_check_types::Table;
 use cr_syntax::{Kind, Node};
 use cr_syntax_nodes::loop_clauses;

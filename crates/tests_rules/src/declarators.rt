@@ -348,13 +348,7 @@ fn lacks_type(table: &Table, nodes: &[Node], case: Case, declared: Declared) -> 
 {
     let derived = declared.derived;
     let function = derived.declarator.function.is_some();
-    let whole = has_whole_elements(
-        table,
-        nodes,
-        9,
-        derived.row,
-        declared.base,
-    );
+    let whole = has_whole_elements(table, nodes, 9, derived.row, declared.base);
     let object = is_object(case.place, case.class, function);
     !whole || (object && !is_whole_object(table, nodes, 9, declared.row))
 }
