@@ -106,7 +106,7 @@ module _ (u v : source.Unit) (same : AreSameLists u v) where
     is = carried (λ ts ns is. b ≡ record { token = length ts - 1; row = 40 }) lacks.is;
   })
 
-  pub fault_carried : (file : List ℕ) (names : Names) (j : Checked) (t : Tree) (fault : TypeFault) → IsFaultBy file u names j t fault
+  fault_carried : (file : List ℕ) (names : Names) (j : Checked) (t : Tree) (fault : TypeFault) → IsFaultBy file u names j t fault
       → IsFaultBy file v names j t fault
   fault_carried file names j t NoMemory h = tt
   fault_carried file names j t (Twice token) h = carried (λ ts ns is. IsFirstTwice (known_by file ts ns j) names (Some token)) h

@@ -1,17 +1,16 @@
--- A unit that is checked twice has one verdict: one that is sound has no fault, and another one has one fault.
-use Rattle.std.proofs.Common.{◌≡◌, ℕ, List, [], Option, None, Some, length, slice_index_or, inl, inr, refl, sym, ap, subst, ◌∙◌, arith}
+-- A unit that is checked twice has one verdict: one that is sound has no fault.
+use Rattle.std.proofs.Common.{◌≡◌, ℕ, List, [], None, length, slice_index_or, inl, inr, refl, sym, ap, subst, ◌∙◌}
 use Rattle.cr_tokens.specs.declared.token.Token.{Token}
 use Rattle.cr_syntax.specs.declared.node.Node.{Node}
 use Rattle.cr_syntax.specs.declared.unit.Unit as source
 use Rattle.cr_scopes.specs.declared.names.Names.{Names}
 use Rattle.cr_check_expressions.specs.declared.least.Break.{Break}
 use Rattle.cr_check_expressions.specs.Known.{spelling_of}
-use Rattle.cr_check_expressions.proofs.Firsts.{one_first, same_first}
 use Rattle.cr_scopes_bindings.proofs.One.{one_of}
 use Rattle.cr_check_literals.specs.Texts.{text_at, AreTexts}
 use Rattle.cr_check_declarations.specs.declared.tree.Tree.{Tree}
 use Rattle.cr_check_declarations.specs.Faults.{Has}
-use Rattle.cr_check_definitions.specs.Typedefs.{IsFirstTwice, IsTwice}
+use Rattle.cr_check_definitions.specs.Typedefs.{IsTwice}
 use Rattle.cr_check_definitions.specs.Defined.{is_defined}
 use Rattle.cr_check_surroundings.specs.declared.surroundings.Surroundings.{Surroundings}
 use Rattle.cr_check_surroundings.specs.Surroundings.{IsTree}
@@ -27,7 +26,7 @@ use Rattle.cr_check.specs.Columns.{IsBrokenIn, IsChecked, known_in}
 use Rattle.cr_check.specs.Checked.{IsFaultBy, IsFaultOf, IsFirstBroken, IsFirstFault, IsSound, IsSoundOf}
 use Rattle.cr_check.specs.Laws.{AreSameLists}
 use Rattle.cr_check.proofs.SameTrees.{SameTree, typing_moved, marked_moved, breaks_moved}
-use Rattle.cr_check.proofs.Units.{checked_carried, fault_carried, sound_carried}
+use Rattle.cr_check.proofs.Units.{checked_carried, sound_carried}
 
 -- two checks that know the same of declarations and break the same
 pub record AgreeOn (file : List ℕ) (unit : source.Unit) (j k : Checked) (t s : Tree) : Type 0 where
@@ -129,56 +128,3 @@ pub no_fault : (file : List ℕ) (u v : source.Unit) (names : Names) (checked : 
 no_fault file u v names j NoMemory same sound found other = other refl
 no_fault file u v names j (Twice token) same sound found other = by_columns file u v names j (Twice token) same sound found other
 no_fault file u v names j (Broken row token) same sound found other = by_columns file u v names j (Broken row token) same sound found other
-
--- ---- a unit has one fault
-
-abbrev fault_if : Option Break → TypeFault
-fault_if None = NoMemory
-fault_if (Some b) = Broken b.row b.token
-
-module _ (file : List ℕ) (unit : source.Unit) (names : Names) (j k : Checked) (t s : Tree) (same : AgreeOn file unit j k t s) (back : AgreeOn file unit k j s t) where
-  moved_twice : (token : ℕ) → IsTwice (known_in file unit j) names token → IsTwice (known_in file unit k) names token
-  moved_twice token h = subst (λ known. IsTwice known names token) same.known h
-
-  one_twice : (a b : ℕ) → IsFirstTwice (known_in file unit j) names (Some a) → IsFirstTwice (known_in file unit k) names (Some b) → a ≡ b
-  one_twice a b h g =
-      let up = g.1 a (moved_twice a h.0) in
-      let down = h.1 b (subst (λ known. IsTwice known names b) (sym same.known) g.0) in
-      omega (arith, up, down)
-
-  one_broken : (b c : Break) → IsFirstBroken file unit names j t b → IsFirstBroken file unit names k s c → Some b ≡ Some c
-  one_broken b c (inl first) (inl last) =
-      one_first (IsBrokenIn k s) (Some b) (Some c) (same_first (IsBrokenIn j t) (IsBrokenIn k s) (Some b) back.breaks same.breaks first) last
-  one_broken b c (inl first) (inr lacks) = absurd (lacks.others b (back.breaks b first.is))
-  one_broken b c (inr lacks) (inl last) = absurd (lacks.others c (same.breaks c last.is))
-  one_broken b c (inr lacks) (inr wants) = ap Some (lacks.is ∙ sym wants.is)
-
-  one_by : (fault other : TypeFault) → IsFaultBy file unit names j t fault → IsFaultBy file unit names k s other → (fault ≡ NoMemory → ⊥)
-      → (other ≡ NoMemory → ⊥) → fault ≡ other
-  one_by NoMemory other h g some also = absurd (some refl)
-  one_by (Twice a) NoMemory h g some also = absurd (also refl)
-  one_by (Twice a) (Twice b) h g some also = ap Twice (one_twice a b h g)
-  one_by (Twice a) (Broken row b) h g some also = absurd (g.typedefs a (moved_twice a h.0))
-  one_by (Broken row a) NoMemory h g some also = absurd (also refl)
-  one_by (Broken row a) (Twice b) h g some also = absurd (h.typedefs b (subst (λ known. IsTwice known names b) (sym same.known) g.0))
-  one_by (Broken row a) (Broken other b) h g some also =
-      ap fault_if (one_broken (record { token = a; row = row }) (record { token = b; row = other }) h.broken g.broken)
-
--- the fault is one of a check
-found_by : (file : List ℕ) (u : source.Unit) (names : Names) (fault : TypeFault) → IsFirstFault file u names fault → (fault ≡ NoMemory → ⊥)
-    → IsFaultOf file u names fault
-found_by file u names NoMemory h some = absurd (some refl)
-found_by file u names (Twice token) h some = h
-found_by file u names (Broken row token) h some = h
-
-pub one_fault : (file : List ℕ) (u v : source.Unit) (names : Names) (fault other : TypeFault) → AreSameLists u v → IsFirstFault file u names fault
-    → IsFirstFault file v names other → (fault ≡ NoMemory → ⊥) → (other ≡ NoMemory → ⊥) → fault ≡ other
-one_fault file u v names fault other same h g some also =
-    let one = found_by file u names fault h some in
-    let two = found_by file v names other g also in
-    let j = one.checked in
-    let k = two.checked in
-    let here = checked_carried u v same file names j one.is.tree one.is.is in
-    one_by file v names j k one.is.tree two.is.tree (agree file v names j k one.is.tree two.is.tree here two.is.is)
-    (agree file v names k j two.is.tree one.is.tree two.is.is here) fault other
-    (fault_carried u v same file names j one.is.tree fault one.is.by) two.is.by some also

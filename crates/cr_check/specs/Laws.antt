@@ -1,4 +1,4 @@
--- Laws of the whole check.
+-- A law of the whole check.
 use Rattle.std.specs.Prelude.{◌≡◌, ℕ, List}
 use Rattle.cr_syntax.specs.declared.unit.Unit as source
 use Rattle.cr_scopes.specs.declared.names.Names.{Names}
@@ -18,8 +18,3 @@ pub record AreSameLists (u v : source.Unit) : Type 0 where
 abbrev pub HasNoFault : Type 0
 HasNoFault = (file : List ℕ) (u v : source.Unit) (names : Names) (checked : Checked) (fault : TypeFault) → AreSameLists u v
     → IsSoundOf file u names checked → IsFirstFault file v names fault → (fault ≡ NoMemory → ⊥) → ⊥
-
--- Two faults of a unit, or of two units with the same lists, are one, by whatever they are checked; of want of memory nothing is said.
-abbrev pub HasOneFault : Type 0
-HasOneFault = (file : List ℕ) (u v : source.Unit) (names : Names) (fault other : TypeFault) → AreSameLists u v
-    → IsFirstFault file u names fault → IsFirstFault file v names other → (fault ≡ NoMemory → ⊥) → (other ≡ NoMemory → ⊥) → fault ≡ other

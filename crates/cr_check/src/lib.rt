@@ -14,4 +14,4 @@ mod laws;
 pub use checked::Checked;
 pub use checking::check;
 pub use fault::TypeFault;
-pub use laws::{a_sound_unit_has_no_fault, a_unit_has_one_fault};
+pub use laws::a_sound_unit_has_no_fault;
