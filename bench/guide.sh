@@ -7,6 +7,7 @@ top=$(cd "$(dirname "${BASH_SOURCE[0]}")/.." && pwd)
 export CREDUCE=${CREDUCE:-$top/creduce}
 folder=$(mktemp -d)
 trap 'rm -r "$folder"' EXIT
+export CREDUCE_QUIET=1
 "$CREDUCE" --limit 0 "has:;" gen:1:1 >/dev/null 2>&1 || true
 mkdir "$folder/run" && cd "$folder/run" || exit 1
 failed=0 passed=0 skipped=0 missing='' command='' wanted='' indent=''
@@ -26,7 +27,7 @@ try() {
         echo "skipped: $command ($missing is not installed)"
         skipped=$((skipped + 1))
     else
-        found=${command//TOP\/creduce/\"\$CREDUCE\"}
+        found=${command//TOP\/creduce /\"\$CREDUCE\" }
         eval "${found//TOP/$top}" >"$folder/out.txt" 2>&1 </dev/null
         found=$(<"$folder/out.txt")
         if like "$found" "$wanted"; then

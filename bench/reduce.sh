@@ -6,6 +6,7 @@
 # at the top.
 set -u
 . "$(dirname "${BASH_SOURCE[0]}")/reductions.sh"
+csmith=$(cd "$(dirname "${BASH_SOURCE[0]}")/../examples" && pwd)/csmith.sh
 begin_reductions
 creduce_peer=${PEER_CREDUCE:-/usr/bin/creduce}
 peer_seconds=${PEER_SECONDS:-600}
@@ -111,38 +112,11 @@ compare 'a generated program of 40 items' 'f3(s)'
 text_of 3 60 whole.c
 compare 'a generated program of 60 items' 'f3(s)'
 
-# headers: what csmith's headers include, as far as a program needs it that has no other library than printf.
-headers() {
-    local bits name
-    mkdir -p headers
-    for name in string float math assert; do : >"headers/$name.h"; done
-    echo 'int printf(const char *, ...);' >headers/stdio.h
-    printf '#define INT_MAX __INT_MAX__\n#define CHAR_BIT 8\n' >headers/limits.h
-    for bits in 8 16 32 64; do
-        printf 'typedef __INT%d_TYPE__ int%d_t;\ntypedef __UINT%d_TYPE__ uint%d_t;\n' $bits $bits $bits $bits
-        printf '#define INT%d_MAX __INT%d_MAX__\n#define INT%d_MIN (-INT%d_MAX - 1)\n' $bits $bits $bits $bits
-        printf '#define UINT%d_MAX __UINT%d_MAX__\n' $bits $bits
-    done >headers/stdint.h
-}
-
-# csmith_of SEED: a csmith program into whole.c, preprocessed, without those of csmith's own functions that it doesn't call. `%X` becomes
-# `%x`, which the profile has. With constants and jumps most of its programs break constraints of C11 that gcc takes with a warning.
-csmith_of() {
-    csmith --quiet --concise --no-argc --no-structs --no-unions --no-bitfields --no-packed-struct --no-volatiles --no-consts --no-jumps \
-        --max-funcs 3 --max-block-depth 2 --seed "$1" >made.c
-    gcc -E -P -nostdinc -Iheaders -I"${CSMITH_HOME:-/usr/include/csmith}" made.c | sed 's/%\(l*\)X/%\1x/' >all.c
-    awk '
-        function named(text) { return match(text, /safe_[a-z0-9_]+|transparent_crc_bytes/) ? substr(text, RSTART, RLENGTH) : "" }
-        NR == FNR { for (rest = $0; (name = named(rest)) != ""; rest = substr(rest, RSTART + RLENGTH)) uses[name]++; next }
-        { part = part $0 "\n" }
-        /^}/ || /^[^ ].*;$/ { if (uses[named(part)] != 1) printf "%s", part; part = "" }' all.c all.c >whole.c
-}
-
 # csmith_taken: the first csmith program of 6 to 9 KB, of a hundred seeds, that the program takes into whole.c; says what it refused.
 csmith_taken() {
     local seed bytes said
     for ((seed = 1; seed <= 100; seed++)); do
-        csmith_of "$seed"
+        "$csmith" "$seed" >whole.c
         bytes=$(wc -c <whole.c)
         [ "$bytes" -ge 6000 ] && [ "$bytes" -le 9000 ] || continue
         said=$("$program" --limit 0 has:main whole.c)
@@ -157,7 +131,6 @@ csmith_taken() {
 
 # A test that runs the program: its output stays the same.
 if command -v csmith >/dev/null && [ -e "${CSMITH_HOME:-/usr/include/csmith}/csmith.h" ]; then
-    headers
     if csmith_taken; then
         gcc -w whole.c -o out && ./out >said
         test_of 'gcc -w f.c -o out && timeout 5 ./out | cmp -s - ../said'

@@ -1,7 +1,8 @@
 #!/bin/sh
-# Interesting while the compiler ends with its own message of a crash, in a file of which another compiler makes a program.
-file=rotate.c cc=../faulty/crashing-cc message='internal compiler error: in expand_switch'
-for tool in timeout gcc "$cc"; do command -v "$tool" >/dev/null || exit 127; done # 127: the test itself has failed
-timeout 20 gcc -std=c11 -pedantic-errors $file -o other || exit 1
-timeout 20 "$cc" -O2 -c $file -o crash.o 2>crash.txt && exit 1 # without the message of the fault any other crash would do
-grep -q "$message" crash.txt
+# Interesting while a compiler ends with its own message of a crash, in a file of which another compiler makes a program. The values may come
+# from the environment: the crashing call in BAD, the other one in GOOD, a part of the message in MESSAGE.
+file=${FILE:-rotate.c} good=${GOOD:-gcc} bad=${BAD:-../faulty/crashing-cc -O2} message=${MESSAGE:-internal compiler error: in expand_switch}
+for tool in timeout ${good%% *} ${bad%% *}; do command -v "$tool" >/dev/null || exit 127; done # 127: the test itself has failed
+timeout 20 $good -std=c11 -pedantic-errors $file -o other || exit 1
+timeout 20 $bad -c $file -o crash.o 2>crash.txt && exit 1 # without the message of the fault any other crash would do
+grep -qF -- "$message" crash.txt

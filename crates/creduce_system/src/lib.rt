@@ -2,10 +2,13 @@
 //!
 //! Each adapter means what its trait in `cr_outside` says. It tells no content, so of the disk nothing is claimed; it answers `Failed`
 //! only where its count of faults rose. What a test program's end answers, and how the shell is told to start it, are definitions in
-//! `specs/Trial.antt`. It stands on `cr_outside` and std alone.
+//! `specs/Trial.antt`. Beside its answers, the judges that share a
+//! `Progress` keep the smallest file that passed the test and say on standard error how far they are. It stands on `cr_outside` and std alone.
 #![tactic(auto)]
 
+mod best;
 mod process_judge;
+mod progress;
 mod std_files;
 mod std_out;
 #[cfg(test)]
@@ -13,5 +16,6 @@ mod tests;
 mod trial;
 
 pub use process_judge::ProcessJudge;
+pub use progress::{Progress, Shown};
 pub use std_files::StdFiles;
 pub use std_out::StdOut;

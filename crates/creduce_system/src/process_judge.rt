@@ -2,12 +2,13 @@
 ghost use Rattle.std.specs.Prelude.{◌≡◌, None};
 ghost use Rattle.creduce_system.specs.Trial.{Answers};
 
+use crate::progress::Progress;
 use crate::trial::Trial;
 use cr_outside::{Answer, Judge};
 use std::alloc::Global;
-use std::io::{self, ErrorKind};
+use std::io::{self, Eprint, ErrorKind};
 use std::process::{ExitStatus, Processes};
-use std::rt::Files;
+use std::rt::{Clock, Files};
 
 /// Runs the user's program as the test. It tells no content, so that all process judges have one key.
 ///
@@ -19,6 +20,7 @@ use std::rt::Files;
 pub struct ProcessJudge<'a, R> {
     rt: &'a R,
     number: u32,
+    progress: Option<&'a Progress>,
     /// How often it was asked. It stays at its last value.
     pub asked: u64,
     /// How often its test has failed. It stays at its last value.
@@ -35,8 +37,21 @@ impl<'a, R> ProcessJudge<'a, R> {
         ProcessJudge {
             rt,
             number,
+            progress: None,
             asked: 0,
             faults: 0,
+        }
+    }
+
+    /// The same judge, which notes its trials with others there: the smallest file that passed is kept, and progress is said.
+    pub fn noting(self, progress: &'a Progress) -> ProcessJudge<'a, R>
+        ensures number { result.number ≡ self.entry.number }
+        ensures asked { result.asked ≡ self.entry.asked }
+        ensures faults { result.faults ≡ self.entry.faults }
+    {
+        ProcessJudge {
+            progress: Some(progress),
+            ..self
         }
     }
 }
@@ -55,7 +70,7 @@ fn answer(outcome: io::Result<ExitStatus>) -> Answer
     }
 }
 
-impl<R: Files + Processes> Judge for ProcessJudge<'_, R> {
+impl<R: Clock + Eprint + Files + Processes> Judge for ProcessJudge<'_, R> {
     type Key = ();
 
     ghost key = { λ _. tt };
@@ -75,6 +90,9 @@ impl<R: Files + Processes> Judge for ProcessJudge<'_, R> {
             Err(_) => return Answer::NoMemory,
         };
         let answer = answer(trial.run(self.rt, alloc, test, file));
+        if let Some(progress) = self.progress {
+            progress.note(self.rt, alloc, name, file, answer == Answer::Yes);
+        }
         if answer == Answer::Failed {
             self.faults = self.faults.saturating_add(1);
         }

@@ -1,4 +1,5 @@
 use crate::process_judge::ProcessJudge;
+use crate::progress::{Progress, Shown};
 use crate::std_files::StdFiles;
 use crate::std_out::StdOut;
 use cr_outside::{Answer, Files, Judge, ReadAnswer, Sink};
@@ -51,4 +52,28 @@ fn a_process_answers_by_its_exit_status(rt: HostRuntime) -> io::Result<()> {
     assert!(rt; fs::read(&rt, "creduce-trial-7/judged.c")?.as_slice() == b"int a;\n".as_slice());
     fs::remove_file(&rt, "creduce-trial-7/judged.c")?;
     fs::remove_dir(&rt, "creduce-trial-7")
+}
+
+/// Tests in turn, and the file that each is asked about.
+const NOTED: [(&str, &str); 5] = [
+    ("/bin/true", "int a, b;"),
+    ("/bin/true", "int b;"),
+    ("/bin/true", "int a[2];"),
+    ("/bin/false", ";"),
+    ("/bin/there-is-no-such-test", ""),
+];
+
+#[test]
+fn the_smallest_file_that_passed_is_kept(rt: HostRuntime) -> io::Result<()> {
+    let progress = Progress::new(&rt, Shown::Lines);
+    let mut judge = ProcessJudge::new(&rt, 8).noting(&progress);
+    for (test, file) in NOTED {
+        let _ = judge.ask(rt.alloc(), test, "noted.c", file.as_bytes());
+    }
+    assert!(rt; fs::read(&rt, "creduce-best/noted.c")?.as_slice() == b"int b;".as_slice());
+    assert!(rt; judge.asked == 5 && judge.faults == 1);
+    fs::remove_file(&rt, "creduce-best/noted.c")?;
+    fs::remove_dir(&rt, "creduce-best")?;
+    fs::remove_file(&rt, "creduce-trial-8/noted.c")?;
+    fs::remove_dir(&rt, "creduce-trial-8")
 }

@@ -52,7 +52,7 @@ impl Trial {
 }
 
 // All is well too where the call failed in this way.
-fn allowing(outcome: io::Result<()>, kind: ErrorKind) -> io::Result<()> {
+pub fn allowing(outcome: io::Result<()>, kind: ErrorKind) -> io::Result<()> {
     match outcome {
         Err(e) if e.kind() != kind => Err(e),
         _ => Ok(()),

@@ -1,4 +1,5 @@
--- A file has one offer, a level has no more variants than the file has bytes, and there are ten passes of 16 levels.
+-- A file has one offer, a level has no more variants than the file has bytes, and there are ten passes of 16 levels: the proofs that the
+-- impl of `Passes` gives of that trait's laws. They stand here since such a proof can name no file of its own crate's `proofs/`.
 use native.Mathlib.Omega.{arith}
 use mathlib.Core.Logic.{∥∥₁_elim}
 use Rattle.std.proofs.Props.{props}
@@ -22,7 +23,7 @@ use Rattle.cr_lawful_analysis.specs.Analysis.{IsRead, Read, Tree, no_tokens, no_
 use Rattle.cr_lawful_analysis.proofs.Same.{one_read}
 use Rattle.cr_printer.proofs.Neighbours.{prints_one_text}
 use Rattle.pass_text.specs.Lines.{chunk_of, chunks_of, lines_of}
-use Rattle.pass_text.specs.LineLaws.{chunk_some, div_ceil-le, lines_few}
+use Rattle.pass_text.proofs.LineLaws.{chunk_some, div_ceil-le, lines_few}
 use Rattle.pass_text.specs.Runs.{runs_gone, t_offering}
 use Rattle.pass_text.specs.Brackets.{IsBracketOffering}
 use Rattle.pass_text.specs.Brackets.IsBracketOffering.{paired, unpaired}

@@ -1,3 +1,4 @@
+pub mod LineLaws
 pub mod LineLemmas
 pub mod LineEdits
 pub mod BracketLemmas

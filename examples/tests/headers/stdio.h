@@ -1,2 +1,0 @@
-int printf(const char *format, ...);
-int putchar(int character);

@@ -1,2 +1,0 @@
-void abort(void);
-void exit(int status);
