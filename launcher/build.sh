@@ -98,7 +98,7 @@ ended() {
     if [ "$2" = kept ]; then total=$((total - cost[$1])) taken=$((taken + 1)); else proved=$((proved + cost[$1])); fi
     unset "chain[$1]" "cost[$1]"
     [ "$2" = kept ] && return
-    if [ "$taken" -gt 0 ]; then say "$taken crates were proved on this machine before" && taken=0; fi
+    if [ "$taken" -gt 0 ]; then say "proved on this machine before: $taken of $crates" && taken=0; fi
     [ "$left" = 0 ] && say "$1 is proved, the last of $crates: now the program is built and tried" && return
     say "$1 is proved: $((100 * proved / total)) % of the work is done after $(took $((SECONDS - began))), $left crates and $(about "$(left_seconds)") left"
 }
