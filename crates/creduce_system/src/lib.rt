@@ -1,14 +1,16 @@
-//! The operating system behind the reducer's traits: its files, standard output, and programs as tests.
+//! The operating system behind the reducer's traits: its files, a journal's file, standard output, and programs as tests.
 //!
 //! Each adapter means what its trait in `cr_outside` says. It tells no content, so of the disk nothing is claimed; it answers `Failed`
 //! only where its count of faults rose. What a test program's end answers, and how the shell is told to start it, are definitions in
 //! `specs/Trial.antt`. Beside its answers, the judges that share a
-//! `Progress` keep the smallest file that passed the test and say on standard error how far they are. It stands on `cr_outside` and std alone.
+//! `Progress` keep the smallest file that passed the test and say on standard error how far they are. It stands on `cr_outside`,
+//! `cr_outside_disk` and std alone.
 #![tactic(auto)]
 
 mod best;
 mod process_judge;
 mod progress;
+mod std_disk;
 mod std_files;
 mod std_out;
 #[cfg(test)]
@@ -17,5 +19,6 @@ mod trial;
 
 pub use process_judge::ProcessJudge;
 pub use progress::{Progress, Shown};
+pub use std_disk::StdDisk;
 pub use std_files::StdFiles;
 pub use std_out::StdOut;

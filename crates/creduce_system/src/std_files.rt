@@ -1,5 +1,6 @@
 // The files of the operating system.
-ghost use Rattle.std.specs.Prelude.{◌≡◌, None};
+ghost use Rattle.std.specs.Prelude.{◌≡◌, ◌≤◌, IsErrOf, None};
+ghost use Rattle.cr_outside.specs.Faults.{Rose};
 
 use cr_outside::{FileFault, Files, Outside, ReadAnswer};
 use std::alloc::Global;
@@ -13,7 +14,7 @@ use std::{fs, io};
 #[derive(Drop)]
 pub struct StdFiles<'a, R> {
     rt: &'a R,
-    faults: u64,
+    pub(crate) faults: u64,
 }
 
 impl<'a, R> StdFiles<'a, R> {
@@ -22,6 +23,21 @@ impl<'a, R> StdFiles<'a, R> {
         ensures { result.faults ≡ 0 }
     {
         StdFiles { rt, faults: 0 }
+    }
+
+    /// What a write answers. A fault is counted.
+    pub fn answer_write(&mut self, written: io::Result<()>) -> Result<(), FileFault>
+        ensures later { self.old.faults ≤ self.new.faults }
+        ensures failed { IsErrOf result FileFault.Failed → Rose self.old.faults self.new.faults }
+    {
+        match written {
+            Ok(()) => Ok(()),
+            Err(e) if e.kind() == ErrorKind::OutOfMemory => Err(FileFault::NoMemory),
+            Err(_) => {
+                self.faults = self.faults.saturating_add(1);
+                Err(FileFault::Failed)
+            }
+        }
     }
 }
 
@@ -60,13 +76,7 @@ impl<R: SystemFiles> Files for StdFiles<'_, R> {
     }
 
     fn write(&mut self, _alloc: Global, name: &str, bytes: &[u8]) -> Result<(), FileFault> {
-        match fs::write(self.rt, name, bytes) {
-            Ok(()) => Ok(()),
-            Err(e) if e.kind() == ErrorKind::OutOfMemory => Err(FileFault::NoMemory),
-            Err(_) => {
-                self.faults = self.faults.saturating_add(1);
-                Err(FileFault::Failed)
-            }
-        }
+        let written = fs::write(self.rt, name, bytes);
+        self.answer_write(written)
     }
 }

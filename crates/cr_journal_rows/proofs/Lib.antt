@@ -1,0 +1,4 @@
+pub mod Codec
+pub mod Firsts
+pub mod Adds
+pub mod Recoveries
