@@ -10,8 +10,15 @@ module _ (P : List ℕ → Type 0) where
   same_then : (s : Story) → Lasts P s s
   same_then s m n from ([], is) to was = subst (λ (t : Story). Every P t) (sym is) was
   same_then s m n (past, from) (c ∷ more, is) (rest, to) was =
-      absurd (omega (arith, ap (λ (t : Story). length t.events) from, ap (λ (t : Story). length t.events) is, ap (λ (t : Story). length t.events) to,
-        longer past s, longer (c ∷ more) m, longer rest n))
+      absurd (omega (
+        arith,
+        ap (λ (t : Story). length t.events) from,
+        ap (λ (t : Story). length t.events) is,
+        ap (λ (t : Story). length t.events) to,
+        longer past s,
+        longer (c ∷ more) m,
+        longer rest n,
+      ))
 
   -- no call yet
   pub lasts_same : (told : Option Story) → LastsTold P told told
