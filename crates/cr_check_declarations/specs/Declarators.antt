@@ -1,11 +1,11 @@
 -- What a declarator has, and what it derives from the name outwards (C11 6.7.6, 6.7.7).
-use Rattle.std.specs.Prelude.{ℕ, zero, suc, ◌+◌, ◌-◌, List, not, Option, None, Some, codes, slice_get, if◌then◌else◌}
+use Rattle.std.specs.Prelude.{ℕ, zero, suc, ◌+◌, ◌-◌, List, false, not, Option, None, Some, codes, slice_get, if◌then◌else◌}
 use Rattle.std.specs.Option.{is_some}
 use Rattle.std.specs.Str.{bytes_eq}
 use Rattle.cr_syntax.specs.declared.node.Kind.{Kind}
 use Rattle.cr_syntax.specs.declared.node.Kind.TheVariants as kind
 use Rattle.cr_syntax.specs.declared.node.Node.{Node}
-use Rattle.cr_check_types.specs.Types.{Qualified, pointer, array, unknown}
+use Rattle.cr_check_types.specs.Types.{Qualified, plain, pointer, array, unknown}
 use Rattle.cr_check_operands.specs.Values.{Seen}
 use Rattle.cr_check_expressions.specs.Ruled.{is_typed}
 use Rattle.cr_check_declarators.specs.declared.declarator.Size.{Size}
@@ -37,9 +37,11 @@ abbrev pub size_in : (ℕ → Seen) → Option ℕ → Size
 size_in at None = size.Open
 size_in at (Some part) = size_of (is_typed (at part)) (at part).constant
 
+-- an array without size has an unknown one; what has none because its size is wrong counts as complete, since it is no type
 abbrev pub count_of : Size → ℕ
 count_of (size.Known count) = count
-count_of other = 0
+count_of size.Open = 0
+count_of other = 1
 
 -- the left bracket stands before the size, or before the right bracket
 abbrev pub bracket_before : List Node → Node → Option ℕ → ℕ
@@ -60,12 +62,18 @@ pointed_by spelling nodes n inner =
 abbrev pub sized_by : Before → Option ℕ → Qualified → Qualified
 sized_by b part inner = array (count_of (size_in b.seen part)) inner
 
--- behind a function declarator what is derived is derived for its result
+-- Behind a function declarator what is derived is derived for its result. Where that is not next to the name, what was derived so far is
+-- of functions, and breaks K8; then a pointer stands in its place, since it has no elements either.
+abbrev pub resulting : Qualified → Qualified
+resulting (plain of c v) = plain of c v
+resulting (pointer c v t) = pointer false false (pointer c v t)
+resulting (array n t) = pointer false false (array n t)
+
 abbrev pub derived_by : Kind → (ℕ → List ℕ) → List Node → Before → Node → Qualified
 derived_by kind.NameDeclarator spelling nodes b n = hole
 derived_by kind.GroupDeclarator spelling nodes b n = inner_derived b (slice_get n.parts 0)
 derived_by kind.AbstractGroup spelling nodes b n = inner_derived b (slice_get n.parts 0)
-derived_by kind.FunctionDeclarator spelling nodes b n = inner_derived b (slice_get n.parts 0)
+derived_by kind.FunctionDeclarator spelling nodes b n = resulting (inner_derived b (slice_get n.parts 0))
 derived_by kind.PointerDeclarator spelling nodes b n = pointed_by spelling nodes n (inner_derived b (slice_get n.parts 0))
 derived_by kind.AbstractPointer spelling nodes b n = pointed_by spelling nodes n (inner_derived b (slice_get n.parts 0))
 derived_by kind.ArrayDeclarator spelling nodes b n = sized_by b (slice_get n.parts 1) (inner_derived b (slice_get n.parts 0))

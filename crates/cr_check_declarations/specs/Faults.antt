@@ -141,11 +141,16 @@ abbrev pub is_nothing : List ℕ → Bool
 is_nothing [] = true
 is_nothing (part ∷ parts) = false
 
+-- all that is declared is functions, and no type names
+abbrev pub declares_functions : (ℕ → Declarator) → Specified → List ℕ → Bool
+declares_functions has said declarators =
+    not (is_typedef (class_of said.storage)) && (not (is_nothing declarators) && list_all (is_function has) declarators)
+
 abbrev pub declaration_faults : (ℕ → Declarator) → Place → Specified → List ℕ → Node → List (Option Break)
 declaration_faults has at said declarators n =
     fault_at 2 (storage_fault_of said at (list_any (is_function has) declarators))
     ∷ fault 3 n.first (is_nothing declarators && not said.declares)
-    ∷ fault_at 4 (inline_fault_of said at (not (is_nothing declarators) && list_all (is_function has) declarators))
+    ∷ fault_at 4 (inline_fault_of said at (declares_functions has said declarators))
     ∷ []
 
 -- ---- definitions of functions
@@ -173,11 +178,13 @@ list_in nodes (Some function) = slice_get (parts_in nodes (Some function)) 1
 abbrev pub is_nameless : List Node → ℕ → Bool
 is_nameless nodes part = not (is_some (parameter_name nodes part))
 
--- K6: a defined parameter has a complete type
+-- K6: a defined parameter has a complete type; one that is declared as a function breaks K8
 abbrev pub parameter_fault : Before → List Node → ℕ → Option ℕ → Option Break
 parameter_fault b nodes i None = None
 parameter_fault b nodes i (Some part) =
-    fault 6 (name_or (parameter_name nodes part) (first_in nodes (Some part))) (not (whole_object (is_complete_at nodes i) (b.named part)))
+    fault 6 (name_or (parameter_name nodes part) (first_in nodes (Some part)))
+    (not (is_some (declarator_in b.declarator (slice_get (parts_in nodes (Some part)) 1)).function)
+    && not (whole_object (is_complete_at nodes i) (b.named part)))
 
 abbrev pub parameter_faults : Before → List Node → ℕ → List ℕ → List (Option Break)
 parameter_faults b nodes i list = argument_faults (λ k. parameter_fault b nodes i (slice_get list k)) (length list)
@@ -194,15 +201,15 @@ definition_faults b nodes i said declarator function =
 -- ---- declarators
 
 -- K6
-abbrev pub is_incomplete : Has → List Node → ℕ → Place → Option Class → Bool → Qualified → Bool
-is_incomplete own nodes i at storage initialised base =
-    not (whole_elements (is_complete_at nodes i) own.declarator own.derived base)
-    || (is_object_of at storage (is_some own.declarator.function) initialised && not (whole_object (is_complete_at nodes i) own.named))
+abbrev pub is_incomplete : Has → List Node → ℕ → Place → Option Class → Qualified → Bool
+is_incomplete own nodes i at storage base =
+    not (whole_elements (is_complete_at nodes i) own.derived base)
+    || (is_object_of at storage (is_some own.declarator.function) && not (whole_object (is_complete_at nodes i) own.named))
 
 -- a declarator of a declaration whose specifiers say and name so much
 abbrev pub declarator_faults : Has → Before → List Node → ℕ → Place → Option Class → Bool → Qualified → ℕ → List (Option Break)
 declarator_faults own b nodes i at storage initialised base name =
-    fault 6 name (is_incomplete own nodes i at storage initialised base)
+    fault 6 name (is_incomplete own nodes i at storage base)
     ∷ fault_at 7 own.declarator.wrong
     ∷ fault_at 7 (cells_fault_of own.declarator (layout_of b.layouts base))
     ∷ fault 8 name (function_fault_of own.declarator at (is_typedef storage) own.named)

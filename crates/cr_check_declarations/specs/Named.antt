@@ -92,9 +92,10 @@ named_by k t said own derived b i n =
 
 -- ---- what names stand for
 
+-- `typedef` counts before any other word beside it
 abbrev pub class_of : Option Storage → Option Class
 class_of None = None
-class_of (Some storage) = Some storage.class
+class_of (Some storage) = if storage.typedefs then Some class.Typedef else Some storage.class
 
 abbrev pub is_typedef : Option Class → Bool
 is_typedef (Some class.Typedef) = true

@@ -4,7 +4,7 @@ ghost use Rattle.cr_check_types.specs.Types.{type_at, IsRow, Grows};
 ghost use Rattle.cr_check_declarators.specs.Declarators.{is_hole_type};
 ghost use Rattle.cr_check_expressions.specs.Known.{spelling_of};
 ghost use Rattle.cr_check_declarations.specs.Before.{before_at, AreColumns};
-ghost use Rattle.cr_check_declarations.specs.Declarators.{first_spelled, star_ends, star_has, size_in, count_of, bracket_before, inner_derived, pointed_by, sized_by, derived_by, star_of, brackets_of, declarator_by};
+ghost use Rattle.cr_check_declarations.specs.Declarators.{first_spelled, star_ends, star_has, size_in, count_of, bracket_before, inner_derived, pointed_by, resulting, sized_by, derived_by, star_of, brackets_of, declarator_by};
 
 use crate::before::{Columns, declarator_of, derivations_at};
 use crate::tree::{Tree, first_of, spelling};
@@ -57,15 +57,15 @@ fn size_in(table: &Table, columns: &Columns, part: Option<u32>) -> Size
     }
 }
 
-// A size that isn't known is 0.
+// An unknown size is 0, and one that is wrong counts as 1.
 fn count_of(size: Size) -> u64
     ensures { result ≡ count_of size }
 {
     match size {
         Size::Known(count) => count,
         Size::Open => 0,
-        Size::Untyped => 0,
-        Size::Wrong => 0,
+        Size::Untyped => 1,
+        Size::Wrong => 1,
     }
 }
 
@@ -106,8 +106,12 @@ pub fn derivations(
     let parts = node.parts.as_slice();
     match node.kind {
         Kind::NameDeclarator => hole(table),
-        Kind::GroupDeclarator | Kind::AbstractGroup | Kind::FunctionDeclarator => {
+        Kind::GroupDeclarator | Kind::AbstractGroup => {
             inner_derived(table, columns, part_at(parts, 0))
+        }
+        Kind::FunctionDeclarator => {
+            let inner = inner_derived(table, columns, part_at(parts, 0))?;
+            resulting(table, inner)
         }
         Kind::PointerDeclarator | Kind::AbstractPointer => pointed_by(table, tree, columns, node),
         Kind::ArrayDeclarator | Kind::AbstractArrayOf => {
@@ -121,6 +125,19 @@ pub fn derivations(
             arrayed(table, inner, count_of(size))
         }
         _ => Ok(0),
+    }
+}
+
+// What is derived behind a function declarator.
+fn resulting(table: &mut Table, inner: u32) -> Result<u32, AllocError>
+    requires { inner < length table.old }
+    ensures made { IfOk result (λ r. IsRow table.new r (resulting (type_at table.old inner))) }
+    ensures grows { OnOk result (Grows table.old table.new) }
+{
+    if is_hole(table, inner) {
+        Ok(inner)
+    } else {
+        pointed(table, inner, false, false)
     }
 }
 

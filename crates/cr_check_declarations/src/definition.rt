@@ -5,7 +5,7 @@ ghost use Rattle.cr_check_expressions.specs.Breaks.{first_of, argument_faults};
 ghost use Rattle.cr_check_declarations.specs.Before.{before_at, AreColumns, first_in};
 ghost use Rattle.cr_check_declarations.specs.Faults.{name_in, parameter_name, list_in, is_nameless, parameter_fault, parameter_faults, definition_faults};
 
-use crate::before::{Columns, named_of};
+use crate::before::{Columns, declarator_of, named_of};
 use crate::faults::{fault_at, name_or};
 use crate::lists::parameter_nodes;
 use crate::tree::{Tree, first_of, parts_of};
@@ -113,7 +113,10 @@ fn parameter_fault(
         Some(part) => {
             let row = named_of(table, columns, Some(part));
             let name = name_or(parameter_name(tree, part), first_of(tree.nodes, Some(part)));
-            break_if(6, name, !is_whole_object(table, tree.nodes, at, row))
+            let declarator = part_at(parts_of(tree.nodes, Some(part)), 1);
+            let function = declarator_of(columns, declarator).function.is_some();
+            let whole = is_whole_object(table, tree.nodes, at, row);
+            break_if(6, name, !function && !whole)
         }
     }
 }

@@ -10,7 +10,7 @@ ghost use Rattle.cr_check_declarators.specs.Declarators.{name_alone, whole_eleme
 ghost use Rattle.cr_check_declarations.specs.Before.{before_at, AreColumns, kind_in, first_in, type_in, specified_in};
 ghost use Rattle.cr_check_declarations.specs.Named.{class_of, declaration_of, specifiers_in, is_initialised};
 ghost use Rattle.cr_check_declarations.specs.Faults.{has_at, fault_at, token_if, place_of, is_specifier, are_specifiers, is_whole, is_lone, is_listed, tag_breaks, tag_fault, brace_before, specifier_faults};
-ghost use Rattle.cr_check_declarations.specs.Faults.{is_function, is_nothing, declaration_faults, is_incomplete, declarator_faults, whole_faults, may_have_initialiser, initialised_faults, enumerator_breaks};
+ghost use Rattle.cr_check_declarations.specs.Faults.{is_function, is_nothing, declares_functions, declaration_faults, is_incomplete, declarator_faults, whole_faults, may_have_initialiser, initialised_faults, enumerator_breaks};
 ghost use Rattle.cr_check_declarations.specs.Faults.{name_or, name_token, other_faults, faults_in};
 
 use crate::before::{Columns, declarator_of, named_of, specified_of};
@@ -248,12 +248,20 @@ fn declaration_fault(
     ensures { result ≡ first_of (declaration_faults (λ p. slice_index_or columns.now.declarators.now p name_alone) place said declarators.now node.now) }
 {
     let some = has_function(columns, declarators);
-    let all = has_functions_alone(columns, declarators);
     let storage = fault_at(2, storage_fault(said, place, some));
     let none = is_nothing(declarators);
     let nothing = break_if(3, node.first, none && !said.declares);
-    let inline = inline_fault(said, place, !none && all);
+    let inline = inline_fault(said, place, declares_functions(columns, said, declarators));
     lesser(storage, lesser(nothing, fault_at(4, inline)))
+}
+
+// Whether all that is declared is functions, and no type names.
+fn declares_functions(columns: &Columns, said: Specified, declarators: &[u32]) -> bool
+    ensures { result ≡ declares_functions (λ p. slice_index_or columns.now.declarators.now p name_alone) said declarators.now }
+{
+    !is_typedef(class_of(said.storage))
+        && !is_nothing(declarators)
+        && has_functions_alone(columns, declarators)
 }
 
 fn is_nothing(parts: &[u32]) -> bool
@@ -389,12 +397,11 @@ fn is_incomplete(table: &Table, tree: &Tree, own: Own, at: u32, of: Of) -> bool
     requires derivations { own.derivations < length table.now }
     requires named { own.named < length table.now }
     requires base { of.base < length table.now }
-    ensures { result ≡ is_incomplete (has_at table.now own) tree.now.nodes.now at of.place of.class of.initialised (type_at table.now of.base) }
+    ensures { result ≡ is_incomplete (has_at table.now own) tree.now.nodes.now at of.place of.class (type_at table.now of.base) }
 {
-    let declarator = own.declarator;
-    let function = declarator.function.is_some();
-    !has_whole_elements(table, tree.nodes, at, declarator, own.derivations, of.base)
-        || (is_object(of.place, of.class, function, of.initialised)
+    let function = own.declarator.function.is_some();
+    !has_whole_elements(table, tree.nodes, at, own.derivations, of.base)
+        || (is_object(of.place, of.class, function)
             && !is_whole_object(table, tree.nodes, at, own.named))
 }
 

@@ -127,12 +127,13 @@ fn value_by(tree: &Tree, class: Option<Class>, function: Option<u32>, row: u32) 
     }
 }
 
-/// The storage class of specifiers.
+/// The storage class of specifiers; `typedef` counts before any other beside it.
 pub fn class_of(storage: Option<Storage>) -> Option<Class>
     ensures { result ≡ class_of storage }
 {
     match storage {
         None => None,
+        Some(storage) if storage.typedefs => Some(Class::Typedef),
         Some(storage) => Some(storage.class),
     }
 }

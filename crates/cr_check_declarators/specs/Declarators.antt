@@ -127,14 +127,15 @@ declared_type declarator derivations base = if is_unjudged declarator base then 
 
 -- ---- complete types (K6)
 
--- each array of the derivations has elements of a complete type (6.7.6.2p1), by whether the type so far is complete
+-- each array of the derivations has elements of a complete type (6.7.6.2p1), by whether the type so far is complete; whatever else the
+-- declarator breaks by itself
 abbrev pub are_whole : Bool → Qualified → Bool
 are_whole complete (plain of c v) = true
 are_whole complete (pointer c v t) = are_whole true t
 are_whole complete (array n t) = complete && are_whole (not (n == 0)) t
 
-abbrev pub whole_elements : (Qualified → Bool) → Declarator → Qualified → Qualified → Bool
-whole_elements complete declarator derivations base = is_unjudged declarator base || are_whole (complete base) derivations
+abbrev pub whole_elements : (Qualified → Bool) → Qualified → Qualified → Bool
+whole_elements complete derivations base = is_unknown base || are_whole (complete base) derivations
 
 -- an object, a member or a defined parameter has a complete type (6.7p7, 6.7.2.1p3, 6.7.6.3p4); for an array of unknown size that is
 -- asked by K14 alone
@@ -147,19 +148,18 @@ whole_object complete (plain of c v) = whole_leaf complete of c v
 whole_object complete (pointer c v t) = complete (pointer c v t)
 whole_object complete (array n t) = n == 0 || complete (array n t)
 
--- which declarations are judged so: those of members, and those that define an object, also tentatively (6.9.2p3, and own for external
--- linkage); one with `extern` and without initialiser defines none
-abbrev pub is_defined : Option Class → Bool → Bool
-is_defined (Some class.Typedef) initialised = false
-is_defined (Some class.Extern) initialised = initialised
-is_defined other initialised = true
+-- which declarations are judged so: those of members, and those of objects, also with `extern` (own: 6.7p7 asks it of a name without
+-- linkage alone); what is declared as a function is judged by K8
+abbrev pub declares_type : Option Class → Bool
+declares_type (Some class.Typedef) = true
+declares_type other = false
 
-abbrev pub is_object_of : Place → Option Class → Bool → Bool → Bool
-is_object_of place.Member class function initialised = true
-is_object_of place.File class function initialised = not function && is_defined class initialised
-is_object_of place.Block class function initialised = not function && is_defined class initialised
-is_object_of place.Clause class function initialised = not function && is_defined class initialised
-is_object_of other class function initialised = false
+abbrev pub is_object_of : Place → Option Class → Bool → Bool
+is_object_of place.Member class function = not function
+is_object_of place.File class function = not function && not (declares_type class)
+is_object_of place.Block class function = not function && not (declares_type class)
+is_object_of place.Clause class function = not function && not (declares_type class)
+is_object_of other class function = false
 
 -- ---- sizes (K7)
 

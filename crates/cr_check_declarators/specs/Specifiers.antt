@@ -37,8 +37,13 @@ nothing = record {
   declares = false;
 }
 
+abbrev pub is_typedef_word : Class → Bool
+is_typedef_word class.Typedef = true
+is_typedef_word other = false
+
 abbrev pub stored : Class → ℕ → Specified
-stored class token = record nothing { storage = Some (record { class = class; token = token; second = None }) }
+stored class token =
+    record nothing { storage = Some (record { class = class; token = token; second = None; typedefs = is_typedef_word class }) }
 
 -- structures and enumerations, with or without their content, and typedef names have a type that is given
 abbrev pub base_of : Kind → Base
@@ -95,7 +100,8 @@ both_signs one other = sign.Several
 abbrev pub both_storages : Option Storage → Option Storage → Option Storage
 both_storages None other = other
 both_storages (Some one) None = Some one
-both_storages (Some one) (Some other) = Some (record one { second = first_of one.second (Some other.token) })
+both_storages (Some one) (Some other) =
+    Some (record one { second = first_of one.second (Some other.token); typedefs = one.typedefs || other.typedefs })
 
 abbrev pub joined_of : Specified → Specified → Specified
 joined_of one other = record {

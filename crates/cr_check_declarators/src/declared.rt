@@ -2,7 +2,7 @@ ghost use Rattle.std.specs.Prelude.{◌≡◌, ◌<◌, ◌||◌, IfOk, OnOk, le
 ghost use Rattle.cr_check_types.specs.Types.{Qualified, type_at, type_by, type_of, plain, pointer, array, IsRow, Grows, unknown};
 ghost use Rattle.cr_check_types.specs.Relations.{is_complete_at};
 ghost use Rattle.cr_check_types.specs.Layouts.{layout_of};
-ghost use Rattle.cr_check_declarators.specs.Declarators.{hole, is_hole_type, is_unknown, is_refused, declared_type, are_whole, whole_elements, whole_object, is_object_of, is_defined, cells_fault_of, may_return, is_declared, function_fault_of, may_be_open, open_fault_of};
+ghost use Rattle.cr_check_declarators.specs.Declarators.{hole, is_hole_type, is_unknown, is_refused, declared_type, are_whole, whole_elements, whole_object, is_object_of, declares_type, cells_fault_of, may_return, is_declared, function_fault_of, may_be_open, open_fault_of};
 
 use crate::declarator::{Declarator, overfull};
 use crate::words::Class;
@@ -94,23 +94,20 @@ fn is_refused(declarator: Declarator) -> bool
     declarator.misplaced || declarator.untyped || declarator.wrong.is_some()
 }
 
-/// Whether each array of a declarator has elements of a complete type at a node (6.7.6.2p1, K6). Where its type isn't known it is not
-/// judged.
+/// Whether each array of a declarator has elements of a complete type at a node (6.7.6.2p1, K6). Where the type of the specifiers isn't
+/// known it is not judged.
 pub fn has_whole_elements(
     table: &Table,
     nodes: &[Node],
     at: u32,
-    declarator: Declarator,
     derivations: u32,
     base: u32,
 ) -> bool
     requires derivations { derivations < length table.now }
     requires base { base < length table.now }
-    ensures { result ≡ whole_elements (is_complete_at nodes.now at) declarator (type_at table.now derivations) (type_at table.now base) }
+    ensures { result ≡ whole_elements (is_complete_at nodes.now at) (type_at table.now derivations) (type_at table.now base) }
 {
-    is_refused(declarator)
-        || is_unknown(table, base)
-        || are_whole(table, table.is_complete(nodes, at, base), derivations)
+    is_unknown(table, base) || are_whole(table, table.is_complete(nodes, at, base), derivations)
 }
 
 fn are_whole(table: &Table, complete: bool, derivations: u32) -> bool
@@ -150,27 +147,24 @@ pub fn is_whole_object(table: &Table, nodes: &[Node], at: u32, row: u32) -> bool
     }
 }
 
-/// Whether a declaration defines an object, or declares a member, so that its type has to be complete (K6). `function` is whether it
-/// declares a function, and `initialised` whether it has an initialiser. Parameters are judged in the definition of their function.
-pub fn is_object(place: Place, class: Option<Class>, function: bool, initialised: bool) -> bool
-    ensures { result ≡ is_object_of place class function initialised }
+/// Whether a declaration declares an object or a member, so that its type has to be complete (K6). `function` is whether it declares a
+/// function. Parameters are judged in the definition of their function.
+pub fn is_object(place: Place, class: Option<Class>, function: bool) -> bool
+    ensures { result ≡ is_object_of place class function }
 {
     match place {
-        Place::Member => true,
-        Place::File | Place::Block | Place::Clause => {
-            !function && is_defined(class, initialised)
-        }
+        Place::Member => !function,
+        Place::File | Place::Block | Place::Clause => !function && !declares_type(class),
         Place::Definition | Place::Parameter | Place::Name => false,
     }
 }
 
-fn is_defined(class: Option<Class>, initialised: bool) -> bool
-    ensures { result ≡ is_defined class initialised }
+fn declares_type(class: Option<Class>) -> bool
+    ensures { result ≡ declares_type class }
 {
     match class {
-        Some(Class::Typedef) => false,
-        Some(Class::Extern) => initialised,
-        _ => true,
+        Some(Class::Typedef) => true,
+        _ => false,
     }
 }
 

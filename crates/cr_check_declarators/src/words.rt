@@ -1,5 +1,5 @@
 ghost use Rattle.std.specs.Prelude.{◌≡◌, ◌||◌};
-ghost use Rattle.cr_check_declarators.specs.Specifiers.{nothing, stored, base_of, first_of, both_bases, both_lengths, both_signs, both_storages, specified_by, joined_of};
+ghost use Rattle.cr_check_declarators.specs.Specifiers.{nothing, is_typedef_word, stored, base_of, first_of, both_bases, both_lengths, both_signs, both_storages, specified_by, joined_of};
 
 use cr_syntax::Kind;
 
@@ -62,6 +62,8 @@ pub struct Storage {
     pub token: u32,
     /// the token of the second, where there is one
     pub second: Option<u32>,
+    /// whether `typedef` is among them: then type names are declared, whatever else stands beside it
+    pub typedefs: bool,
 }
 
 /// What some specifiers say, in whatever order they stand (6.7p1).
@@ -134,8 +136,18 @@ fn stored(class: Class, token: u32) -> Specified
             class,
             token,
             second: None,
+            typedefs: is_typedef_word(class),
         }),
         ..UNSAID
+    }
+}
+
+fn is_typedef_word(class: Class) -> bool
+    ensures { result ≡ is_typedef_word class }
+{
+    match class {
+        Class::Typedef => true,
+        _ => false,
     }
 }
 
@@ -231,6 +243,7 @@ fn both_storages(left: Option<Storage>, right: Option<Storage>) -> Option<Storag
         (Some(_), None) => left,
         (Some(one), Some(other)) => Some(Storage {
             second: first_of(one.second, Some(other.token)),
+            typedefs: one.typedefs || other.typedefs,
             ..one
         }),
     }

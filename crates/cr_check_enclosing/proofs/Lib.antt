@@ -1,2 +1,2 @@
 pub mod Inherited
-pub mod Noted
+pub mod Earlier

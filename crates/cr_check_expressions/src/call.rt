@@ -8,8 +8,9 @@ ghost use Rattle.cr_check_expressions.specs.Ruled.{operands_at, AreFacts, is_par
 ghost use Rattle.cr_check_expressions.specs.Breaks.{is_miscalled, mispasses};
 
 use crate::known::Declared;
-use crate::operands::{NO_FACT, is_type, is_typed, operand, part_at};
-use cr_check_operands::{Fact, Value, is_passable, value_of};
+use crate::operands::{is_type, is_typed, operand, part_at};
+use cr_check_constants::Constant;
+use cr_check_operands::{Fact, Value, is_passable, value_in_row, value_of};
 use cr_check_types::Table;
 
 /// The value of a call (C11 6.5.2.2) of what is declared, with the parameters of these rows; `Unknown` where the number of
@@ -60,7 +61,7 @@ fn result_if(table: &Table, allowed: bool, row: u32) -> Value
     ensures within { room_of result ≤ length table.now }
 {
     if allowed {
-        value_of(table, Fact { row, ..NO_FACT })
+        value_in_row(table, row, Constant::NotConstant)
     } else {
         Value::Unknown
     }

@@ -143,6 +143,7 @@ pub(crate) fn pointed_structure(table: &Table, operand: Value) -> Option<u32>
         Value::Pointer(to) => structure_at(table, to),
         Value::Integer(_) => None,
         Value::Structure(_) => None,
+        Value::Array(_) => None,
         Value::Void => None,
         Value::Unknown => None,
     }

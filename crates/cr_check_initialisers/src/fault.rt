@@ -148,7 +148,7 @@ fn target(source: &Source, row: u32) -> Value
 {
     let fact = Fact {
         row,
-        lvalue: false,
+        lvalue: true,
         register: false,
         constant: Constant::NotConstant,
         null: false,

@@ -32,9 +32,9 @@ fn value_for(control: Value, label: Value) -> Option<i128>
             Value::Integer(label) => {
                 constant_value(cast(promote(control.kind), label.constant).constant)
             }
-            Value::Pointer(_) | Value::Structure(_) | Value::Void | Value::Unknown => None,
+            _ => None,
         },
-        Value::Pointer(_) | Value::Structure(_) | Value::Void | Value::Unknown => None,
+        _ => None,
     }
 }
 

@@ -1,7 +1,7 @@
-// Which labels repeat an earlier one.
+// Which labels repeat one that stands before them.
 ghost use Rattle.std.specs.Prelude.{◌≡◌, ◌<◌, ◌||◌, ℕ, false, None, IfOk, length, slice_index_or};
 ghost use Rattle.cr_check_expressions.specs.Ruled.{AreFacts};
-ghost use Rattle.cr_check_labels.specs.Again.{repeats_at, same_name, same_owner, same_value, AreAgain};
+ghost use Rattle.cr_check_labels.specs.Again.{is_repeated, same_name, same_owner, same_value, AreAgain};
 ghost use Rattle.cr_check_labels.specs.Labelled.{scene_of};
 ghost use Rattle.cr_check_labels.specs.Marks.{case_at as case_of, default_at as default_of, label_at as label_of};
 ghost use Rattle.cr_check_labels.specs.Columns.{AreOf};
@@ -37,10 +37,10 @@ fn case_marks(
 
 fn cases(alloc: Global, table: &Table, labelled: &Labelled) -> Result<Vec<bool>, AllocError>
     requires { AreFacts table.now labelled.now.facts.now }
-    ensures { IfOk result (λ again. AreOf (repeats_at same_value (case_of (scene_of table.now labelled.now))) false (length labelled.now.nodes.now) again.items) }
+    ensures { IfOk result (λ again. AreOf (is_repeated same_value (scene_of table.now labelled.now) (case_of (scene_of table.now labelled.now))) false (length labelled.now.nodes.now) again.items) }
 {
     let marks = case_marks(alloc, table, labelled)?;
-    let again = repeated(alloc, &marks)?;
+    let again = repeated(alloc, &marks, labelled.nodes)?;
     Ok(again)
 }
 
@@ -59,10 +59,10 @@ fn default_marks(
 }
 
 fn defaults(alloc: Global, table: &Table, labelled: &Labelled) -> Result<Vec<bool>, AllocError>
-    ensures { IfOk result (λ again. AreOf (repeats_at same_owner (default_of (scene_of table.now labelled.now))) false (length labelled.now.nodes.now) again.items) }
+    ensures { IfOk result (λ again. AreOf (is_repeated same_owner (scene_of table.now labelled.now) (default_of (scene_of table.now labelled.now))) false (length labelled.now.nodes.now) again.items) }
 {
     let marks = default_marks(alloc, table, labelled)?;
-    let again = repeated(alloc, &marks)?;
+    let again = repeated(alloc, &marks, labelled.nodes)?;
     Ok(again)
 }
 
@@ -81,10 +81,10 @@ fn name_marks(
 }
 
 fn names(alloc: Global, table: &Table, labelled: &Labelled) -> Result<Vec<bool>, AllocError>
-    ensures { IfOk result (λ again. AreOf (repeats_at same_name (label_of (scene_of table.now labelled.now))) false (length labelled.now.nodes.now) again.items) }
+    ensures { IfOk result (λ again. AreOf (is_repeated same_name (scene_of table.now labelled.now) (label_of (scene_of table.now labelled.now))) false (length labelled.now.nodes.now) again.items) }
 {
     let marks = name_marks(alloc, table, labelled)?;
-    let again = repeated(alloc, &marks)?;
+    let again = repeated(alloc, &marks, labelled.nodes)?;
     Ok(again)
 }
 
@@ -120,7 +120,7 @@ fn any_of(
     Ok(again)
 }
 
-/// For each node whether it is a `case`, a `default` or a label that repeats an earlier one of its `switch` or its function: of two
+/// For each node whether it is a `case`, a `default` or a label that repeats one before it in the text, of its `switch` or its function: of two
 /// cases the values count, after the conversion to the promoted type of the controlling expression (C11 6.8.4.2p3, p5). The error is
 /// want of memory.
 #[tactic(auto, using(crate::proofs::Columns::all_again))]

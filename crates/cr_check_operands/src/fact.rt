@@ -1,6 +1,6 @@
 ghost use Rattle.std.specs.Prelude.{◌≡◌, ◌<◌, ◌≤◌, IfOk, OnOk, false, length};
-ghost use Rattle.cr_check_types.specs.Types.{type_at, type_by, room_in, IsRow, Grows};
-ghost use Rattle.cr_check_operands.specs.Values.{valued_at, room_of, value_in, type_of_value, constant_of_value, seen_at, seen_of};
+ghost use Rattle.cr_check_types.specs.Types.{type_at, IsRow, Grows};
+ghost use Rattle.cr_check_operands.specs.Values.{valued_at, room_of, value_in, value_beside_places, value_of_seen, type_of_value, constant_of_value, seen_at, seen_of};
 
 use crate::value::Value;
 use cr_check_constants::{Constant, Operand};
@@ -23,17 +23,33 @@ pub struct Fact {
     pub null: bool,
 }
 
-/// The value of an expression (C11 6.3.2.1): of a place what it holds, of an array the address of its first element.
+/// The value of an expression (C11 6.3.2.1): of a place what it holds, and of an array that is one the address of its first element.
 pub fn value_of(table: &Table, fact: Fact) -> Value
     requires { fact.row < length table.now }
-    ensures is { valued_at table.now result ≡ value_in (type_at table.now fact.row) fact.constant }
+    ensures is { valued_at table.now result ≡ value_of_seen (seen_at table.now fact) }
     ensures within { room_of result ≤ length table.now }
 {
-    value_in_row(table, fact.row, fact.constant)
+    if fact.lvalue {
+        value_in_row(table, fact.row, fact.constant)
+    } else {
+        value_beside_places(table, fact.row, fact.constant)
+    }
 }
 
-/// The value of an expression of a row's type, that is so much of a constant.
-pub(crate) fn value_in_row(table: &Table, row: u32, constant: Constant) -> Value
+// The value of an expression that is no place.
+fn value_beside_places(table: &Table, row: u32, constant: Constant) -> Value
+    requires { row < length table.now }
+    ensures is { valued_at table.now result ≡ value_beside_places (type_at table.now row) constant }
+    ensures within { room_of result ≤ length table.now }
+{
+    match table.shape(row).of {
+        CType::Array(..) => Value::Array(row),
+        _ => value_in_row(table, row, constant),
+    }
+}
+
+/// The value of a place of a row's type, that is so much of a constant. So it is of what a function gives, and of a parameter.
+pub fn value_in_row(table: &Table, row: u32, constant: Constant) -> Value
     requires { row < length table.now }
     ensures is { valued_at table.now result ≡ value_in (type_at table.now row) constant }
     ensures within { room_of result ≤ length table.now }
@@ -72,20 +88,13 @@ fn row_of(table: &mut Table, value: Value) -> Result<u32, AllocError>
     ensures made { IfOk result (λ r. IsRow table.new r (type_of_value (valued_at table.old value))) }
     ensures grows { OnOk result (Grows table.old table.new) }
 {
-    let of = type_of(table, value);
-    table.add(Shape::plain(of))
-}
-
-fn type_of(table: &Table, value: Value) -> CType
-    ensures is { type_by result false false (type_at table.now) ≡ type_of_value (valued_at table.now value) }
-    ensures room { room_in result ≡ room_of value }
-{
     match value {
-        Value::Integer(operand) => CType::Int(operand.kind),
-        Value::Pointer(to) => CType::Pointer(to),
-        Value::Structure(node) => CType::Struct(node),
-        Value::Void => CType::Void,
-        Value::Unknown => CType::Unknown,
+        Value::Array(row) => Ok(row),
+        Value::Integer(operand) => table.add(Shape::plain(CType::Int(operand.kind))),
+        Value::Pointer(to) => table.add(Shape::plain(CType::Pointer(to))),
+        Value::Structure(node) => table.add(Shape::plain(CType::Struct(node))),
+        Value::Void => table.add(Shape::plain(CType::Void)),
+        Value::Unknown => table.add(Shape::plain(CType::Unknown)),
     }
 }
 

@@ -23,7 +23,7 @@ pub use assignment::{assign, compound, increment, is_assignable, is_modifiable, 
 pub use choice::{Branch, conditional};
 pub use comparison::{equality, order};
 pub use conversion::{cast, is_null_cast, size};
-pub use fact::{Fact, fact_of, value_of};
+pub use fact::{Fact, fact_of, value_in_row, value_of};
 pub use logic::{Junction, comma, is_integer, is_scalar, logical, negated, signed};
 pub use place::{
     address, dereference, member, object, pointed_member, structure_at, subscript, text,

@@ -46,6 +46,7 @@ pub(crate) fn scalar_constant(operand: Value) -> Option<Constant>
         Value::Integer(x) => Some(x.constant),
         Value::Pointer(_) => Some(Constant::NotConstant),
         Value::Structure(_) => None,
+        Value::Array(_) => None,
         Value::Void => None,
         Value::Unknown => None,
     }

@@ -9,6 +9,8 @@ pub enum Value {
     Pointer(u32),
     /// A structure, by its node.
     Structure(u32),
+    /// An array that is no place, by the row of its type: it stays an array.
+    Array(u32),
     /// What an expression of type void has (6.3.2.2).
     Void,
     /// What an expression without a type has.

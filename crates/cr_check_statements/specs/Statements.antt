@@ -8,7 +8,7 @@ use Rattle.cr_syntax_nodes.specs.Loops.{clauses_of}
 use Rattle.cr_check_constants.specs.declared.constant.Constant.{Constant}
 use Rattle.cr_check_constants.specs.declared.constant.Constant.TheVariants as constant
 use Rattle.cr_check_types.specs.Types.{Qualified}
-use Rattle.cr_check_operands.specs.Values.{Valued, number, address, structure, valueless, untyped, Seen, value_in, value_of_seen}
+use Rattle.cr_check_operands.specs.Values.{Valued, number, address, structure, whole, valueless, untyped, Seen, value_in, value_of_seen}
 use Rattle.cr_check_operands.specs.Rules.{is_scalar_value, is_integer_value, assignable}
 use Rattle.cr_check_expressions.specs.declared.least.Break.{Break}
 use Rattle.cr_check_expressions.specs.Ruled.{operand, seen_in, is_type, is_typed}
@@ -33,6 +33,7 @@ abbrev pub is_constant : Valued → Bool
 is_constant (number operand) = has_value operand.constant
 is_constant (address t) = false
 is_constant (structure n) = false
+is_constant (whole t) = false
 is_constant valueless = false
 is_constant untyped = false
 
@@ -46,6 +47,7 @@ is_valueless valueless = true
 is_valueless (number operand) = false
 is_valueless (address t) = false
 is_valueless (structure n) = false
+is_valueless (whole t) = false
 is_valueless untyped = false
 
 abbrev pub gives_badly : Qualified → Seen → Bool

@@ -1,7 +1,8 @@
-ghost use Rattle.std.specs.Prelude.{◌≡◌, ◌<◌, ◌||◌, ℕ, length, slice_get};
+ghost use Rattle.std.specs.Prelude.{◌≡◌, ◌<◌, ◌≤◌, ◌||◌, ℕ, length, slice_get};
 ghost use Rattle.cr_syntax_nodes.specs.Loops.{clauses_of};
 ghost use Rattle.cr_check_types.specs.Types.{Qualified, type_at};
-ghost use Rattle.cr_check_operands.specs.Values.{seen_at, valued_by};
+ghost use Rattle.cr_check_constants.specs.declared.constant.Constant.TheVariants.{NotConstant};
+ghost use Rattle.cr_check_operands.specs.Values.{room_of, seen_at, value_in, valued_at, valued_by};
 ghost use Rattle.cr_check_expressions.specs.Ruled.{seen_in, facts_at, AreFacts};
 ghost use Rattle.cr_check_expressions.specs.Breaks.{fault, first_of};
 ghost use Rattle.cr_check_statements.specs.Setting.{scene_of, AreResults};
@@ -10,7 +11,9 @@ ghost use Rattle.cr_check_statements.specs.Statements.{is_no_scalar, is_no_integ
 use crate::setting::{Setting, around_at, label_of, repeats, result_row};
 use cr_check_constants::Constant;
 use cr_check_expressions::{Break, NO_FACT, break_if, is_typed, operand, part_at};
-use cr_check_operands::{Fact, Value, is_assignable, is_integer, is_scalar, value_of};
+use cr_check_operands::{
+    Fact, Value, is_assignable, is_integer, is_scalar, value_in_row, value_of,
+};
 use cr_check_types::Table;
 use cr_syntax::{Kind, Node};
 use cr_syntax_nodes::loop_clauses;
@@ -119,6 +122,7 @@ fn is_constant(value: Value) -> bool
         Value::Integer(operand) => has_value(operand.constant),
         Value::Pointer(_) => false,
         Value::Structure(_) => false,
+        Value::Array(_) => false,
         Value::Void => false,
         Value::Unknown => false,
     }
@@ -142,7 +146,7 @@ fn returns_badly(table: &Table, row: u32, facts: &[Fact], parts: &[u32]) -> bool
 {
     let given = Fact { row, ..NO_FACT };
     match part_at(parts, 0) {
-        None => is_typed(table, given) && !is_void(value_of(table, given)),
+        None => is_typed(table, given) && !is_void(given_value(table, row)),
         Some(_) => gives_badly(table, row, operand(table, facts, parts, 0)),
     }
 }
@@ -155,7 +159,16 @@ fn gives_badly(table: &Table, row: u32, operand: Fact) -> bool
     let given = Fact { row, ..NO_FACT };
     is_typed(table, given)
         && is_typed(table, operand)
-        && !is_assignable(table, value_of(table, given), value_of(table, operand))
+        && !is_assignable(table, given_value(table, row), value_of(table, operand))
+}
+
+// What a function of the row's type gives.
+fn given_value(table: &Table, row: u32) -> Value
+    requires { row < length table.now }
+    ensures is { valued_at table.now result ≡ value_in (type_at table.now row) NotConstant }
+    ensures within { room_of result ≤ length table.now }
+{
+    value_in_row(table, row, Constant::NotConstant)
 }
 
 fn is_void(value: Value) -> bool
@@ -166,6 +179,7 @@ fn is_void(value: Value) -> bool
         Value::Integer(_) => false,
         Value::Pointer(_) => false,
         Value::Structure(_) => false,
+        Value::Array(_) => false,
         Value::Unknown => false,
     }
 }

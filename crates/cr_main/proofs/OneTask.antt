@@ -15,9 +15,11 @@ use Rattle.cr_main_words.specs.declared.settings.Settings.{Settings}
 use Rattle.cr_main_words.specs.declared.source.Source.{Source}
 use Rattle.cr_main_words.specs.declared.source.Source.TheVariants as source
 use Rattle.cr_main_words.proofs.Giving.{one_settings}
-use Rattle.cr_main.specs.Headline.{HasAll, IsTask, enough_for}
-use Rattle.cr_main.specs.Outside.{Outside}
-use Rattle.cr_main.specs.Task.{FileHas, FileLacks, task_of, text_of}
+use Rattle.cr_main_task.specs.Headline.{HasAll, enough_for}
+use Rattle.cr_main_task.specs.Outside.{Outside}
+use Rattle.cr_main_task.specs.Task.{FileHas, FileLacks}
+use Rattle.cr_main.specs.Headline.{IsTask}
+use Rattle.cr_main.specs.Task.{saves_of, task_of, text_of}
 
 -- a name has one own name: what stands behind its last /
 
@@ -61,6 +63,12 @@ same_name (source.Named a) (source.Made number items) same = absurd same
 same_name (source.Made number items) (source.Named b) same = absurd same
 same_name (source.Made number items) (source.Made other more) same = refl
 
+saves_alike : (a b : Source) → SameSource a b → saves_of a ≡ saves_of b
+saves_alike (source.Named a) (source.Named b) same = refl
+saves_alike (source.Named a) (source.Made number items) same = absurd same
+saves_alike (source.Made number items) (source.Named b) same = absurd same
+saves_alike (source.Made number items) (source.Made other more) same = refl
+
 same_has : (files : Option Names) (a b : Source) → SameSource a b → (bytes : List ℕ) → (text_of b files).Has bytes → (text_of a files).Has bytes
 same_has files (source.Named a) (source.Named b) same bytes has = subst (λ n. FileHas files n bytes) (sym same) has
 same_has files (source.Named a) (source.Made number items) same bytes has = absurd same
@@ -83,6 +91,9 @@ module _ (words : List Word) (most : ℕ) (a b : Settings) (own other : List ℕ
 
   pub same_asks : asks_test a.test ≡ asks_test b.test
   same_asks = alike.tests.asks
+
+  pub same_saves : saves_of a.source ≡ saves_of b.source
+  same_saves = saves_alike a.source b.source alike.source
 
   same_tells : (says : Telling) (file : List ℕ) (answer : Bool) → tells_test a.test says own file answer → tells_test b.test says other file answer
   same_tells says file answer it = subst (λ o. tells_test b.test says o file answer) own_alike (alike.tests.tells says own file answer it)

@@ -10,9 +10,10 @@ use Rattle.cr_reduce.specs.Bench.{Judging}
 use Rattle.cr_main_words.specs.Names.{name_of}
 use Rattle.cr_main_words.specs.declared.settings.Settings.{Settings}
 use Rattle.cr_main_words.specs.declared.source.Source.TheVariants as source
-use Rattle.cr_main.specs.Outside.{Outside}
-use Rattle.cr_main.specs.Run.{RunsTask}
-use Rattle.cr_main.specs.Task.{Task, Text, given, saves_of, stored, task_of, text_of}
+use Rattle.cr_main_task.specs.Outside.{Outside}
+use Rattle.cr_main_task.specs.Run.{RunsTask}
+use Rattle.cr_main_task.specs.Task.{Task, Text, given, stored}
+use Rattle.cr_main.specs.Task.{saves_of, task_of, text_of}
 
 -- the task of settings by the law with these limits, under a name
 abbrev task_with : Settings → Says → List ℕ → Limits → List ℕ → Bool → Task

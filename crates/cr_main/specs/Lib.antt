@@ -1,5 +1,4 @@
 pub mod Messages
-pub mod Outside
 pub mod Task
 pub mod Run
 pub mod Headline

@@ -1,16 +1,13 @@
 //! The top call of the reducer: it reads the words of the command line, the file, and the law's ruling on it, asks the
 //! test, reduces, and writes the results. Each status has its cause as a clause of `run`, and the headline is a clause
-//! of it too. The steps behind the words are for any passes, law and question. Stands on `cr_reduce`, `cr_main_words`,
-//! `pass_list`, `cr_log` and `cr_gen`.
+//! of it too. What comes of words is a value, and what is done with it is a run of a task (`cr_main_task`), whose promises
+//! are carried over to the words here. Stands on `cr_main_task`, `cr_main_words`, `cr_lawful`, `pass_list` and `cr_gen`.
 #![tactic(auto)]
 
-mod finish;
+mod given;
 mod laws;
 mod messages;
 mod names;
-mod run_task;
-mod status;
-mod task;
 mod top;
 
 pub use laws::a_name_has_one_own_name;

@@ -1,9 +1,5 @@
 // Names of files.
-ghost use Rattle.std.specs.Prelude.{◌≡◌, ◌++◌, IfOk, string_bytes};
 ghost use Rattle.cr_main_words.specs.Names.{IsOwnName};
-
-use cr_outside::NoMemory;
-use std::alloc::Global;
 
 /// The part of a name after the last `/`, under which a test sees the file.
 pub fn own_name(name: &str) -> &str
@@ -13,13 +9,4 @@ pub fn own_name(name: &str) -> &str
         Some((_, own)) => own,
         None => name,
     }
-}
-
-/// The name of a file beside this one.
-pub fn beside(alloc: Global, name: &str, ending: &str) -> Result<String, NoMemory>
-    ensures { IfOk result (λ made. string_bytes made ≡ name.now ++ ending.now) }
-{
-    let mut made = String::from_str(alloc, name)?;
-    made.push_str(ending)?;
-    Ok(made)
 }

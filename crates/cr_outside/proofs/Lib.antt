@@ -1,3 +1,4 @@
 pub mod Counts
 pub mod Names
+pub mod Stories
 pub mod Texts

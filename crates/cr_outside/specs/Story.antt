@@ -57,14 +57,22 @@ with_event event told = option_map (gone_on event) told
 abbrev pub files_told : Option Story → Option Names
 files_told told = option_map files_now told
 
+-- One story is another's, gone on; neither is told, or both.
+abbrev pub GoesOn : Option Story → Option Story → Type 0
+GoesOn None None = Unit {0}
+GoesOn None (Some new) = ⊥
+GoesOn (Some old) None = ⊥
+GoesOn (Some old) (Some new) = (more : List Event) × (new.files ≡ old.files) × (new.journal ≡ old.journal) × (new.events ≡ more ++ old.events)
+
 -- a call on the files that failed
 abbrev pub IsFault : Event → Type 0
 IsFault (Read name most outcome) = outcome ≡ Failed
 IsFault (Wrote name bytes outcome is_put) = outcome ≡ Failed
 IsFault (Changed change) = ⊥
 
--- Where the story is told, its last event is a call on the files that failed, and came after the earlier time.
+-- Where the story is told, it has gone on, and the last event since is a call on the files that failed.
 abbrev pub EndsWithFault : Option Story → Option Story → Type 0
-EndsWithFault (Some old) (Some new) = (fault : Event) × (more : List Event) × IsFault fault × (new.events ≡ fault ∷ (more ++ old.events))
-EndsWithFault _ None = Unit {0}
+EndsWithFault None None = Unit {0}
 EndsWithFault None (Some new) = ⊥
+EndsWithFault (Some old) None = ⊥
+EndsWithFault (Some old) (Some new) = (fault : Event) × (more : List Event) × IsFault fault × (new.events ≡ fault ∷ (more ++ old.events))

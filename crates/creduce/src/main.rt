@@ -5,8 +5,9 @@ ghost use Rattle.std.specs.Prelude.{◌≡◌, IfOk, length};
 
 use cr_main::run;
 use cr_pool::Bench;
-use creduce_system::{ProcessJudge, StdFiles, StdOut};
+use creduce_system::{ProcessJudge, Progress, Shown, StdFiles, StdOut};
 use std::alloc::AllocError;
+use std::io::IsTerminal;
 use std::process::ExitCode;
 use std::thread::Threads;
 use std::{env, io};
@@ -17,10 +18,22 @@ const NO_MEMORY: u8 = 11;
 /// As many judges as there may be workers.
 const JUDGES: u32 = 32;
 
-fn bench(rt: &HostRuntime) -> Result<Bench<ProcessJudge<'_, HostRuntime>>, AllocError> {
+// How progress is shown: not where the environment asks for quiet, as a line that is renewed on a terminal, else line by line.
+fn shown(rt: &HostRuntime) -> Shown {
+    match env::var(rt, "CREDUCE_QUIET") {
+        Ok(quiet) if quiet.as_str() == "1" => Shown::Nothing,
+        _ if rt.stderr().is_terminal() => Shown::Renewed,
+        _ => Shown::Lines,
+    }
+}
+
+fn bench<'a>(
+    rt: &'a HostRuntime,
+    progress: &'a Progress,
+) -> Result<Bench<ProcessJudge<'a, HostRuntime>>, AllocError> {
     let mut judges = Vec::new(rt.alloc());
     for number in 0..JUDGES {
-        judges.push(ProcessJudge::new(rt, number))?;
+        judges.push(ProcessJudge::new(rt, number).noting(progress))?;
     }
     Bench::new(rt.alloc(), judges)
 }
@@ -44,7 +57,8 @@ fn words(rt: &HostRuntime) -> Result<Vec<String>, AllocError> {
 
 fn reduce(rt: &HostRuntime, threads: &(impl Threads + Sync)) -> Result<u8, AllocError> {
     let words = words(rt)?;
-    let mut bench = bench(rt)?;
+    let progress = Progress::new(rt, shown(rt));
+    let mut bench = bench(rt, &progress)?;
     let mut files = StdFiles::new(rt);
     let mut out = StdOut::new(rt);
     Ok(run(

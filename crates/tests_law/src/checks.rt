@@ -365,6 +365,44 @@ typed¦long long b = 1ll << 40 ; int main ( ) { const int c = 2 ; return ( b >> 
 typed¦typedef int T ; T a [ 2 ] = { 1 , 2 } ; struct s { T m ; const int c ; } x = { 1 , 2 } ; int main ( ) { T * p = a ; x . m = * p + a [ 2 ] ; return x . m - 3 ; }
 typed¦int main ( ) { int a [ 2 ] [ 3 ] = { { 1 , 2 } , { 3 } } ; int * p = & a [ 0 ] [ 2 ] ; for ( int i = 0 ; i < 3 ; i ++ ) { a [ i ] [ 0 ] += i ; } return * p ; }
 typed¦typedef int T ; T a [ ] = { 1 , } ; struct s { T m ; const int c ; } x = { 1 , 2 } ; int main ( ) { T * p = a ; x . m = * p + a [ 1 ] ; return x . m - 3 ; }
+type 43 2¦int main(){L:{\nL\n:;}}
+type 43 2¦int main(){L:\nL\n:;}
+type 43 2¦int main(){L:if(1){\nL\n:;}}
+type 38 2¦int main(){switch(1){case 1:\ncase\n 1:;}}
+type 38 2¦int main(){switch(1){default:\ndefault\n:;}}
+type 38 2¦int main(){switch(1){case 1:;\ncase\n 1:;}}
+type 6 2¦extern void \nx\n;int main(){}
+type 6 2¦extern struct zz \nx\n;int main(){}
+type 6 2¦void \nz\n[0];int main(){}
+type 6 2¦struct zz(*\nz\n)[0];int main(){}
+type 6 2¦void(*\nz\n)(int)[4];int main(){}
+type 6 2¦void \nz\n(int)[4];int main(){}
+type 8 2¦struct n{void \na\n(int);};int main(){}
+type 8 2¦struct n{int \na\n(int);};int main(){}
+type 4 2¦typedef \ninline\n int T(int);int main(){}
+name 2 2¦typedef int S;extern typedef long \nS\n;int main(){}
+name 2 2¦typedef int S;typedef extern long \nS\n;int main(){}
+type 19 2¦struct s{int a[2];}x,y;int main(){return (x=y).a\n[\n0];}
+type 24 2¦struct s{int a[2];}x,y;int main(){return \n*\n(x=y).a;}
+type 38 2¦struct s{int a[2];}x,y;int main(){\nif\n((x=y).a)return 1;return 0;}
+type 37 2¦struct s{int a[2];}x,y;int main(){int*p;p\n=\n(x=y).a;return 0;}
+type 29 2¦struct s{int a[2];}x,y;int main(){return (x=y).a\n+\n1==0;}
+type 19 2¦struct s{int a[2];}x,y;int main(){return 0&&(x=y).a\n[\n0];}
+type 19 2¦struct s{int a[2];}x,y;int main(){return sizeof (x=y).a\n[\n0];}
+type 19 2¦struct s{int a[2];}x,y;int main(){return (1?x:y).a\n[\n1];}
+type 19 2¦struct s{int a[2];}x,y;int main(){return (0,x).a\n[\n1];}
+type 18 2¦struct s{int a[2];}x,y;int f(int*p){return *p;}int main(){return f(\n(\nx=y).a);}
+type 25 2¦struct s{int a[2];}x,y;int main(){return \n!\n(x=y).a;}
+type 30 2¦struct s{int a[2];}x,y;int main(){return (x=y).a\n-\n(x=y).a==0;}
+type 33 2¦struct s{int a[2];}x,y;int main(){return (x=y).a\n==\n0;}
+type 35 2¦struct s{int a[2];}x,y;int main(){return 1\n&&\n(x=y).a;}
+type 36 2¦struct s{int a[2];}x,y;int main(){(1\n?\n(x=y).a:(x=y).a);return 0;}
+type 27 2¦struct s{int a[2];}x,y;int main(){return \n(\nint*)(x=y).a==0;}
+type 37 2¦struct s{int a[2];}x,y;int main(){int*p\n=\n(x=y).a;return 0;}
+type 8 2¦int f(void\ng\n(int)){return 0;}int main(){return 0;}
+type 7 2¦int z[3]\n[\n0];int main(){}
+type 8 2¦void\nz\n[3](int);int main(){}
+typed¦struct s{int a[2];}x,y;int main(){(x=y).a;((x=y).a);(void)(x=y).a;(0,(x=y).a);return sizeof (x=y).a-8;}
 "#;
 
 // The same of typedef names that are declared again, and of definitions.
@@ -385,7 +423,7 @@ typed¦int x;int main(){return x;}
 typed¦extern int x;int main(){return x;}int x;
 typed¦int main(){extern int x;return x;}int x=2;
 type 40 1¦int main(){extern int x;return x;}
-type 40 1¦extern struct s x;int main(){return &x==0;}
+type 6 1¦extern struct s x;int main(){return &x==0;}
 type 40 1¦int f(void);int main(){return sizeof f();}
 typed¦int f(void);int main(){}
 typed¦int f(void);int main(){return f();}int f(void){return 1;}

@@ -32,7 +32,7 @@ file; void; * => * void
 file; void; - => void 6
 file; struct; - => S3
 file; short long; [3] => none
-extern; void; - => void
+extern; void; - => void 6
 extern; int; [] => [] int
 file; int; [] => [] int 14.1
 file; int; [] = => [] int
@@ -57,7 +57,9 @@ file; int; [x] => none 7.1
 file; int; [?] => none
 file; int; [2] [0] => none 7.2
 file; int; [0] [0] => none 7.1
-file; void; [0] => none 7.1
+file; void; [0] => none 6 7.1
+file; void; * [0] => none 6 7.2
+file; void; [x] => none 6 7.1
 file; int; [1048576] => [1048576] int
 file; int; [1048577] => [1048577] int 7.1
 file; int; [1024] [1024] => [1024] [1024] int
@@ -88,6 +90,7 @@ definition; int; () () => none 8
 typedef; int; (p) => function int 8
 parameter; int; (p) => function int 8
 member; int; (p) => function int 8
+member; void; (p) => function void 8
 extern; void; (p) => function void
 definition; int; (p) * [] => function * [] int 14.3";
 
@@ -348,15 +351,8 @@ fn lacks_type(table: &Table, nodes: &[Node], case: Case, declared: Declared) -> 
 {
     let derived = declared.derived;
     let function = derived.declarator.function.is_some();
-    let whole = has_whole_elements(
-        table,
-        nodes,
-        9,
-        derived.declarator,
-        derived.row,
-        declared.base,
-    );
-    let object = is_object(case.place, case.class, function, case.initialised);
+    let whole = has_whole_elements(table, nodes, 9, derived.row, declared.base);
+    let object = is_object(case.place, case.class, function);
     !whole || (object && !is_whole_object(table, nodes, 9, declared.row))
 }
 
@@ -421,7 +417,8 @@ fn size_in(word: &str) -> Size {
 fn count_in(size: Size) -> u64 {
     match size {
         Size::Known(count) => count,
-        _ => 0,
+        Size::Open => 0,
+        Size::Untyped | Size::Wrong => 1,
     }
 }
 

@@ -42,7 +42,8 @@ int; +; int => int
 * int; +; int => * int
 int; +; * S3 => * S3
 const * int; +; int => * int
-[3] int; +; int => * int
+place [3] int; +; int => * int
+[3] int; +; int => none
 * S2; +; int => none
 * void; +; int => none
 * [] int; +; int => none
@@ -83,7 +84,8 @@ int; ||; S3 => none
 void; ||; int => none
 int; ,; * char => * char
 void; ,; char => char
-int; ,; [3] char => * char
+int; ,; place [3] char => * char
+int; ,; [3] char => [3] char
 int; ,; S3 => S3
 void; ,; void => void
 1; ,; 2 => int
@@ -169,7 +171,8 @@ place S3; .; missing => none
 int; passed; long => yes
 const int; passed; int => yes
 * int; passed; 0 => yes
-* int; passed; [3] int => yes
+* int; passed; place [3] int => yes
+* int; passed; [3] int => none
 * int; passed; 1 => none
 * int; passed; * const int => none
 int; passed; void => none
@@ -189,6 +192,7 @@ const UNARY: &str = "\
 &; int => none
 *; * int => place int
 *; place [3] int => place int
+*; [3] int => none
 *; * [3] char => place [3] char
 *; * const S3 => place const S3
 *; * S2 => none
@@ -223,7 +227,8 @@ sizeof; void => none
 sizeof; [] int => none
 scalar; int => yes
 scalar; * S2 => yes
-scalar; [3] int => yes
+scalar; place [3] int => yes
+scalar; [3] int => none
 scalar; S3 => none
 scalar; void => none
 integer; char => yes
@@ -571,6 +576,7 @@ fn room(target: Value) -> usize
 {
     match target {
         Value::Pointer(row) => row as usize + 1,
+        Value::Array(row) => row as usize + 1,
         _ => 0,
     }
 }

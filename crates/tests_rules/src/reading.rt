@@ -153,10 +153,11 @@ fn add(read: &mut Read, node: Node, fact: Fact, anchor: Anchor) -> Result<u32, A
     u32::try_from(at).map_err(|_| AllocError)
 }
 
+// All are places, as arrays and literals are in a file: what the others hold is of the same type.
 fn expression(row: u32, constant: Constant) -> Fact {
     Fact {
         row,
-        lvalue: false,
+        lvalue: true,
         register: false,
         constant,
         null: false,

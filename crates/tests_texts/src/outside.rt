@@ -1,7 +1,7 @@
 use crate::rows::{expect, pair, rows};
 use cr_outside::{
-    Answer, FileFault, Files, Judge, MemFiles, MemSink, Question, ReadAnswer, Scripted, Sink,
-    SinkFault, Test, TestFault,
+    Answer, Event, FileFault, Files, Judge, MemFiles, MemSink, Question, ReadAnswer, Scripted,
+    Sink, SinkFault, Test, TestFault,
 };
 use std::alloc::{AllocError, Global};
 use std::process::Abort;
@@ -52,6 +52,27 @@ fn files_are_read_written_and_fail_where_told(rt: HostRuntime) -> Result<(), All
     expect_read(&rt, files.read(alloc, "b", 9), "new");
     expect_read(&rt, files.read(alloc, "a", 9), "abc");
     Ok(())
+}
+
+#[test]
+fn files_tell_their_calls_the_newest_first(rt: HostRuntime) -> Result<(), AllocError> {
+    let alloc = rt.alloc();
+    let mut files = one_file(alloc, "a", "abc", &[3])?;
+    expect_read(&rt, files.read(alloc, "a", 2), "ab");
+    expect_write(&rt, files.write(alloc, "b", b"x"), Ok(()));
+    expect_read(&rt, files.read(alloc, "b", 9), "failed");
+    let told = texts_of(alloc, files.events())?;
+    let wanted = "Read(\"b\", 9, Failed);Wrote(\"b\", [120], Done, true);Read(\"a\", 2, Done);";
+    expect(&rt, told.as_bytes(), wanted.as_bytes(), wanted);
+    Ok(())
+}
+
+fn texts_of(alloc: Global, events: &[Event]) -> Result<String, AllocError> {
+    let mut texts = String::new(alloc);
+    for event in events {
+        write!(texts, "{event:?};")?;
+    }
+    Ok(texts)
 }
 
 #[test]

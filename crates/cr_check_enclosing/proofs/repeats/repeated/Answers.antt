@@ -1,11 +1,18 @@
-use Rattle.std.proofs.Common.{◌∙◌, None}
-use Rattle.std.proofs.lemmas.List.{get_or_default}
-use Rattle.cr_check_enclosing.proofs.Noted.{noted}
+use Rattle.std.proofs.Common.{ℕ, length, ap, ◌∙◌}
+use Rattle.std.specs.HashMap.{get}
+use Rattle.cr_check_enclosing.specs.Repeats.{has_before, has_mark, is_below, mark_in, place_of, repeats_at}
+use Rattle.cr_check_enclosing.proofs.Earlier.{one_more, same_mark}
 use Rattle.cr_check_enclosing.proofs.repeats.repeated.Goals as goal
 
-pub loop-mark-preserved : goal.loop-mark-preserved
-loop-mark-preserved g c =
-    rw c.in_ok-push.ensures.items (noted g.K.PartialEq.eq _ _ _ _ _ c.mark-item.result c.in_ok-note.field-0
-    c.loop-mark.invariant c.loop-mark-test.true
-    (c.mark-item.is ∙ get_or_default c.args.marks.now c.loop-mark.mark-index c.mark-item.result None c.loop-mark-test.true)
-    c.in_ok-note.ensures.was c.in_ok-note.ensures.now)
+pub loop-at-preserved : goal.loop-at-preserved
+loop-at-preserved g c =
+    rw c.in_ok-push.ensures.items (one_more (repeats_at g.K.PartialEq.eq (mark_in c.args.marks.now) (place_of c.args.nodes.now) (length c.args.marks.now))
+    _ c.loop-at.at _ c.loop-at.invariant
+    (c.is_behind.ensures
+    ∙ same_mark (λ q. is_below (get g.K.PartialEq.eq c.in_ok-least.least q) c.place_of.result)
+    (has_before g.K.PartialEq.eq (mark_in c.args.marks.now) (place_of c.args.nodes.now) (length c.args.marks.now) c.place_of.result) c.mark_at-mark.result
+    (λ q. c.in_ok-least.ensures q c.place_of.result)
+    ∙ ap (λ (p : ℕ). has_mark (has_before g.K.PartialEq.eq (mark_in c.args.marks.now) (place_of c.args.nodes.now) (length c.args.marks.now) p) c.mark_at-mark.result)
+    c.place_of.ensures
+    ∙ ap (has_mark (has_before g.K.PartialEq.eq (mark_in c.args.marks.now) (place_of c.args.nodes.now) (length c.args.marks.now) (place_of c.args.nodes.now c.loop-at.at)))
+    c.mark_at-mark.ensures))

@@ -1,7 +1,8 @@
-use Rattle.std.specs.HashSet.{contains}
-use Rattle.cr_check_enclosing.proofs.Noted.{AreUpto}
+use Rattle.std.proofs.Common.{length}
+use Rattle.cr_check_enclosing.specs.Repeats.{mark_in, place_of, repeats_at}
+use Rattle.cr_check_enclosing.proofs.Earlier.{AreUpto}
 use Rattle.cr_check_enclosing.proofs.repeats.repeated.Given as goal
 
-abbrev pub invariant-loop-mark : goal.invariant-loop-mark
-invariant-loop-mark g l =
-    AreUpto g.K.PartialEq.eq l.marks l.repeated.items (contains g.K.PartialEq.eq l.seen) l.mark-index
+abbrev pub invariant-loop-at : goal.invariant-loop-at
+invariant-loop-at g l =
+    AreUpto (repeats_at g.K.PartialEq.eq (mark_in l.marks) (place_of l.nodes) (length l.marks)) l.at l.repeated.items
