@@ -1,5 +1,5 @@
 -- The law of C programs is a law of programs.
-use Rattle.std.proofs.Common.{◌≡◌, ◌<◌, ℕ, List, length, ap, ◌∙◌, arith}
+use Rattle.std.proofs.Common.{◌≡◌, ◌<◌, ℕ, List, length, refl, ap, ◌∙◌, arith}
 use Rattle.cr_cursor.specs.declared.law.Reason.{Reason}
 use Rattle.cr_cursor.specs.TokenLaw.{reason_of}
 use Rattle.cr_meaning.specs.declared.run.Limits.{Limits}
