@@ -2,7 +2,7 @@ ghost use Rattle.cr_syntax.specs.Words.{AreSpans};
 
 use crate::texts::unit_of;
 use cr_scopes::{Names, resolve};
-use cr_scopes_bindings::{Bindings, Tag};
+use cr_scopes_bindings::{Bindings, TagBinding};
 use cr_syntax::{Node, Unit};
 use std::alloc::{AllocError, Global};
 use std::process::Abort;
@@ -125,7 +125,7 @@ fn push_tag(
     out: &mut String,
     node: &Node,
     nodes: &[Node],
-    tag: Tag,
+    tag: TagBinding,
 ) -> Result<(), AllocError> {
     push_token(alloc, out, ' ', Some(node.first))?;
     push_token(alloc, out, '#', first(nodes, tag.first))?;

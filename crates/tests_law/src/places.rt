@@ -1,5 +1,6 @@
 use crate::texts::unit_of;
 use cr_check_enclosing::{Around, Place, above, all_around, repeated};
+use cr_rows::Row;
 use cr_syntax::{Kind, Node};
 use std::alloc::{AllocError, Global};
 use std::test::Fail;
@@ -53,7 +54,7 @@ fn parts_are_below_their_node(rt: HostRuntime) -> Result<(), Fail> {
 #[test]
 fn marks_are_found_again(rt: HostRuntime) -> Result<(), Fail> {
     let alloc = rt.alloc();
-    // two switches, with equal constants in one and in both
+    // two switches, with equal constants in one and in both; of the three equal ones the second stands first in the text
     let marks: [Option<(u32, i128)>; 7] = [
         Some((9, 1)),
         None,
@@ -63,11 +64,26 @@ fn marks_are_found_again(rt: HostRuntime) -> Result<(), Fail> {
         None,
         Some((9, 1)),
     ];
-    let again = repeated(alloc, &marks)?;
-    let told = [false, false, false, false, true, false, true];
+    let nodes = nodes_at(alloc, &[30, 0, 32, 34, 20, 0, 36])?;
+    let again = repeated(alloc, &marks, &nodes)?;
+    let told = [true, false, false, false, false, false, true];
     let holds = again.as_slice() == told.as_slice();
     assert!(rt; holds);
     Ok(())
+}
+
+// Nodes without parts, each with its first token.
+fn nodes_at(alloc: Global, places: &[u32]) -> Result<Vec<Node>, AllocError> {
+    let mut nodes = Vec::new(alloc);
+    for place in places {
+        nodes.push(Node {
+            kind: Kind::Case,
+            first: *place,
+            last: *place,
+            parts: Row::new(alloc),
+        })?;
+    }
+    Ok(nodes)
 }
 
 fn expect_around(alloc: Global, row: &str) -> Result<(), Fail> {
