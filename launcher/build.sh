@@ -21,13 +21,10 @@ most() {
 # Each crate with about how many processor seconds it takes, and how many pass at least until all that waits for it is done (docs/GATE.md has
 # what a line of code and a line of proof cost).
 costs() {
-    local name
-    needed >"$folder/needed" && cd "$top/crates" || return 1
-    while read -r name _; do
-        find "$name" \( -name out -o -name must-fail \) -prune -o -name '*.rt' -exec cat {} + | wc -l | sed "s/^/$name rt /"
-        find "$name" \( -name out -o -name must-fail \) -prune -o -name '*.antt' -exec cat {} + | wc -l | sed "s/^/$name antt /"
-    done <"$folder/needed" | awk '
-        NR == FNR { cost[$1] += $3 * ($2 == "rt" ? 0.09 : 0.01); next }
+    local -a names
+    needed >"$folder/needed" && mapfile -t names < <(sed 's/ .*//' "$folder/needed") && cd "$top/crates" || return 1
+    find "${names[@]}" \( -name out -o -name must-fail \) -prune -o \( -name '*.rt' -o -name '*.antt' \) -type f -print0 | xargs -0 wc -l | awk '
+        NR == FNR { name = $2; if (sub(/\/.*/, "", name)) cost[name] += $1 * ($2 ~ /rt$/ ? 0.09 : 0.01); next }
         { order[++count] = $1; for (k = 2; k <= NF; k++) above[$k] = above[$k] " " $1 }
         END {
             for (k = count; k > 0; k--) {
