@@ -136,6 +136,17 @@ failed() {
     by_hand "$1" creduce-trial-0
 }
 
+# log_says LOG: the line of the log that is the first that fails, status 14.
+log_says() {
+    local number=${line##* } text
+    text=$(sed -n "$number{p;q;}" "$1" 2>/dev/null | tr -d '\0' | cut -c 1-100)
+    if [ -n "$text" ]; then
+        echo "Line $number of $1 is"
+        echo "    $text"
+    else echo "There is no line $number of $1, or it is empty."; fi
+    echo "Each line must lead to a lawful, smaller file of its size, with a later turn, and the last one to FILE. The --steps and --passes have to be those of the reduction."
+}
+
 # file_says NAME: why a file can't be read or written, if that can be seen.
 file_says() {
     local folder=.
@@ -170,5 +181,6 @@ explain() {
             echo "The test failed on a variant, which lies in a folder creduce-trial-K: it ended there with 126 or 127. FILE holds the best so far."
         fi ;;
     9) file_says "${line#creduce: file fault: }" ;;
+    14) log_says "$test" ;;
     esac
 }

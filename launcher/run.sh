@@ -99,6 +99,6 @@ finish() {
     9* | 11*) best_is_kept ;;
     esac
     case $status in
-    [2-6] | 8 | 9) [ "${CREDUCE_QUIET:-}" = 1 ] || explain "$@" >&2 ;;
+    [2-6] | 8 | 9 | 14) [ "${CREDUCE_QUIET:-}" = 1 ] || explain "$@" >&2 ;;
     esac
 }

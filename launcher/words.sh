@@ -73,10 +73,21 @@ places_fault() {
     if [ -n "$found" ]; then echo "$found"; elif [[ $1 == has:* ]]; then echo "the text of \"$1\" isn't made of one or more whole tokens of C"; fi
 }
 
+# names_fault WORD..: what is wrong with LOG and FILE of a replay.
+names_fault() {
+    local name found
+    [ $# = 2 ] || { echo "LOG and FILE are two words, and here are $#"; return; }
+    for name in "$@"; do
+        case $name in gen:*) found="\"$name\" is no name of a file" ;; *) found=$(file_fault "$name") ;; esac
+        [ -z "$found" ] || { echo "$found"; return; }
+    done
+}
+
 # word_fault WORD..: the first word that is in no form, and why.
 word_fault() {
-    local name value seen=' ' found
+    local name value seen=' ' found valued=$valued rule=places_fault
     local -a rest=()
+    if [ "${1-}" = --replay ]; then shift && valued=' --steps --passes ' rule=names_fault; fi
     while [ $# -gt 0 ]; do
         case $1 in
         --) shift && rest+=("$@") && break ;;
@@ -96,5 +107,5 @@ word_fault() {
         [ -z "$found" ] || { echo "$found"; return; }
         shift
     done
-    places_fault "${rest[@]}"
+    "$rule" "${rest[@]}"
 }

@@ -32,7 +32,7 @@ use Rattle.cr_check.specs.Checked.{IsFaultBy, IsFirstBroken, IsSound}
 use Rattle.cr_check.specs.Laws.{AreSameLists}
 
 module _ (u v : source.Unit) (same : AreSameLists u v) where
-  carried : (P : List Token → List Node → List ℕ → Type 0) → P u.tokens.list.items u.nodes u.items → P v.tokens.list.items v.nodes v.items
+  pub carried : (P : List Token → List Node → List ℕ → Type 0) → P u.tokens.list.items u.nodes u.items → P v.tokens.list.items v.nodes v.items
   carried P h =
       subst (λ ts. P ts v.nodes v.items) same.tokens
       (subst (λ ns. P u.tokens.list.items ns v.items) same.nodes (subst (λ is. P u.tokens.list.items u.nodes is) same.items h))
@@ -106,7 +106,7 @@ module _ (u v : source.Unit) (same : AreSameLists u v) where
     is = carried (λ ts ns is. b ≡ record { token = length ts - 1; row = 40 }) lacks.is;
   })
 
-  fault_carried : (file : List ℕ) (names : Names) (j : Checked) (t : Tree) (fault : TypeFault) → IsFaultBy file u names j t fault
+  pub fault_carried : (file : List ℕ) (names : Names) (j : Checked) (t : Tree) (fault : TypeFault) → IsFaultBy file u names j t fault
       → IsFaultBy file v names j t fault
   fault_carried file names j t NoMemory h = tt
   fault_carried file names j t (Twice token) h = carried (λ ts ns is. IsFirstTwice (known_by file ts ns j) names (Some token)) h

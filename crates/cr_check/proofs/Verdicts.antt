@@ -89,7 +89,7 @@ second_carried file unit names j k t s h g =
       marked = marked_moved s t k.table k.whole.typing k.whole.marked moved g.whole.marked;
     }
 
-agree : (file : List ℕ) (unit : source.Unit) (names : Names) (j k : Checked) (t s : Tree) → IsChecked file unit names j t
+pub agree : (file : List ℕ) (unit : source.Unit) (names : Names) (j k : Checked) (t s : Tree) → IsChecked file unit names j t
     → IsChecked file unit names k s → AgreeOn file unit j k t s
 agree file unit names j k t s h g =
     let c = second_carried file unit names j k t s h g in

@@ -1,3 +1,4 @@
 pub mod Columns
 pub mod Checked
+pub mod NameFaults
 pub mod Laws

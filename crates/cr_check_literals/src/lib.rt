@@ -7,4 +7,4 @@
 mod escape;
 mod literals;
 
-pub use literals::texts;
+pub use literals::{literal_bytes, texts};

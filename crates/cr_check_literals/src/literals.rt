@@ -3,6 +3,7 @@ ghost use Rattle.std.specs.Prelude.{◌≡◌, IfOk};
 ghost use Rattle.cr_syntax.specs.Words.{AreSpans};
 ghost use Rattle.cr_check_constants.specs.Literals.{inside_of};
 ghost use Rattle.cr_check_expressions.specs.Known.{spelling_of};
+ghost use Rattle.cr_check_literals.specs.Characters.{bytes_of};
 ghost use Rattle.cr_check_literals.specs.Texts.{joined as joined_of, literal_of, text_at as text_of, AreTexts};
 
 use crate::escape::put_bytes;
@@ -31,6 +32,15 @@ fn inside(spelling: &[u8]) -> &[u8]
     } else {
         &spelling[1..spelling.len() - 1]
     }
+}
+
+/// The bytes of one string literal by its spelling, escape sequences read; no zero stands behind them. The error is want of memory.
+pub fn literal_bytes(alloc: Global, spelling: &[u8]) -> Result<Vec<u8>, AllocError>
+    ensures { IfOk result (λ bytes. bytes.items ≡ bytes_of (inside_of spelling.now)) }
+{
+    let mut bytes = Vec::new(alloc);
+    put_bytes(&mut bytes, inside(spelling))?;
+    Ok(bytes)
 }
 
 // The bytes of so many adjacent tokens.

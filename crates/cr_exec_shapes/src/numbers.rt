@@ -1,8 +1,11 @@
 ghost use Rattle.std.specs.Prelude.{◌≡◌, ◌<◌, ◌^◌, ℕ, IfOk, OnOk, length, slice_index_or};
+ghost use Rattle.cr_check_types.specs.Relations.{are_compatible, IsLeastRow};
 ghost use Rattle.cr_check_types.specs.Types.{types_of, type_at, unknown};
+ghost use Rattle.cr_exec_shapes.specs.Open.{is_open, AreMarked};
 ghost use Rattle.cr_meaning_operations.specs.Shapes.{first_row};
 
 use cr_check_types::Table;
+use cr_syntax::CType;
 use std::alloc::{AllocError, Global};
 
 // For each row the first one of a compatible type. The error is want of memory, also where the rows don't fit 32 bits.
@@ -15,8 +18,11 @@ pub(crate) fn numbers(alloc: Global, table: &Table) -> Result<Vec<u32>, AllocErr
         → slice_index_or numbers.items row 0 ≡ first_row (types_of table.now) (type_at table.now row) 0) }
 {
     let mut numbers = Vec::new(alloc);
+    let mut marks = Vec::new(alloc);
     for row in 0..rows(table)? {
-        numbers.push(table.least_compatible(row))?;
+        let is_open = is_open(table, marks.as_slice(), row);
+        numbers.push(first(table, marks.as_slice(), row, is_open))?;
+        marks.push(is_open)?;
     }
     Ok(numbers)
 }
@@ -25,4 +31,39 @@ fn rows(table: &Table) -> Result<u32, AllocError>
     ensures { IfOk result (λ count. count ≡ length table.now) }
 {
     u32::try_from(table.len()).map_err(|_| AllocError)
+}
+
+// Whether an array of unknown size stands in the row's type, by what is known of the rows below.
+fn is_open(table: &Table, marks: &[bool], row: u32) -> bool
+    requires within { row < length table.now }
+    requires count { length marks.now ≡ row }
+    requires marked { AreMarked table.now marks.now }
+    ensures { result ≡ is_open (type_at table.now row) }
+{
+    match table.shape(row).of {
+        CType::Pointer(below) => marks[below as usize],
+        CType::Array(below, count) => count == 0 || marks[below as usize],
+        CType::Void | CType::Int(_) | CType::Struct(_) | CType::Function(_) | CType::Unknown =>
+            false,
+    }
+}
+
+// The first row of a compatible type. Another than its own is only asked about where one of both is open.
+fn first(table: &Table, marks: &[bool], row: u32, own_open: bool) -> u32
+    requires within { row < length table.now }
+    requires count { length marks.now ≡ row }
+    requires marked { AreMarked table.now marks.now }
+    requires own { own_open ≡ is_open (type_at table.now row) }
+    ensures { IsLeastRow (λ r. are_compatible (type_at table.now r) (type_at table.now row)) row result }
+{
+    if own_open {
+        return table.least_compatible(row);
+    }
+    table.is_canonical();
+    for other in 0..row {
+        if marks[other as usize] && table.are_compatible(other, row) {
+            return other;
+        }
+    }
+    row
 }

@@ -14,7 +14,7 @@ use Rattle.std.proofs.Math.Seq.{drop-length, take-length}
 use Rattle.std.proofs.lemmas.List.{take-append-drop}
 use Rattle.std.proofs.lemmas.List.Folds.{list_any-append, list_any_at, list_any_none}
 use Rattle.std.specs.List.Sorted.{IsNonDecreasingBy}
-use Rattle.cr_footprint.specs.Cell.{Cell, cell_cmp, same_cell, span, holds, IsRising, IsLeast, IsLeastOf}
+use Rattle.cr_footprint.specs.Cell.{Cell, cell_cmp, same_cell, span, holds, IsRising, IsLeast, IsLeastOf, Spans}
 
 pub cell_total : IsTotalOrder cell_cmp
 cell_total = then_total (on_total (λ (c : Cell). c.0) nat_cmp_total) (on_total (λ (c : Cell). c.1) nat_cmp_total)
@@ -278,6 +278,23 @@ IsRising-one cell = IsRising-cons cell [] (λ d (there : false ≡ true). cc the
 -- a cell put behind all
 pub insert-last : (cells : List Cell) (cell : Cell) → insert cells (length cells) cell ≡ cells ++ cell ∷ []
 insert-last cells cell = rw (take-length cells) (rw (drop-length cells) refl)
+
+-- the cells of a range, and the next one behind them
+below_end : (object first at : ℕ) (c : Cell) → span object first at c ≡ true → cell_cmp c (object, at) ≡ Less
+below_end object first at c there = grind (arith, nat_tests)
+
+pub Spans-more : (object first at : ℕ) (cells : List Cell) → first ≤ at → Spans object first at cells → Spans object first (at + 1) (cells ++ (object, at) ∷ [])
+Spans-more object first at cells low (rising, same) =
+    let cell : Cell = (object, at) in
+    let P : List Cell → Type 0 = IsRising in (
+      subst P (insert-last cells cell) (IsRising-insert cells (length cells) cell rising (omega arith)
+          (λ k d from within. below_end object first at (get_or cells k d) (sym (same (get_or cells k d)) ∙ held cells k d within))
+          (λ k d from within. absurd (omega arith))),
+      λ c. ap (λ l. holds l c) (sym (insert-last cells cell))
+          ∙ holds-insert cells (length cells) cell c
+          ∙ ap (λ b. b || same_cell c cell) (same c)
+          ∙ span-more object first at c low,
+    )
 
 -- the list without cells holds none
 pub holds_none : (cells : List Cell) → length cells ≡ 0 → (c : Cell) → holds cells c ≡ false

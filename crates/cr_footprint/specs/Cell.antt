@@ -28,6 +28,10 @@ abbrev pub IsRising : List Cell → Type 0
 IsRising cells = (i j : ℕ) (d : Cell) → i < j → j < length cells
     → cell_cmp (slice_index_or cells i d) (slice_index_or cells j d) ≡ Less
 
+-- the cells of a range of one object, in rising order
+abbrev pub Spans : ℕ → ℕ → ℕ → List Cell → Type 0
+Spans object first end cells = IsRising cells × ((c : Cell) → holds cells c ≡ span object first end c)
+
 -- c is in the set, and no cell of the set is below it
 pub record IsLeast (set : Cell → Bool) (c : Cell) : Type 0 where
   pub inside : set c ≡ true

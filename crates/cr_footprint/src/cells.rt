@@ -1,7 +1,7 @@
 ghost use Rattle.std.specs.Prelude.{◌≡◌, ◌&&◌, ◌||◌, ◌↔◌, false, find, IfOk, IsTrue, OnOk};
 ghost use Rattle.std.proofs.Props.{props};
 ghost use Rattle.cr_footprint.specs.Merge.{merged};
-ghost use Rattle.cr_footprint.specs.Cell.{Cell, holds, same_cell, span, IsRising, IsLeastOf};
+ghost use Rattle.cr_footprint.specs.Cell.{Cell, holds, same_cell, span, IsRising, IsLeastOf, Spans};
 
 use crate::list::{CellList, Several};
 use smallvec::SmallVec;
@@ -44,6 +44,17 @@ fn merge(alloc: Global, first: &[(u32, u32)], second: &[(u32, u32)]) -> Result<S
             }
         }
     }
+}
+
+/// The cells of an object in a range of numbers, in their order.
+fn spanned(alloc: Global, object: u32, cells: Range<u32>) -> Result<Several, AllocError>
+    ensures { IfOk result (λ all. Spans object cells.start cells.end all.items) }
+{
+    let mut all = SmallVec::with_capacity(alloc, cells.len())?;
+    for cell in cells {
+        all.push((object, cell))?;
+    }
+    Ok(all)
 }
 
 /// A set of cells, as a list in rising order. A single one takes no memory.
@@ -117,11 +128,9 @@ impl Cells {
     pub fn of_span(alloc: Global, object: u32, cells: Range<u32>) -> Result<Cells, AllocError>
         ensures { IfOk result (λ set. (c : Cell) → has set c ≡ span object cells.start cells.end c) }
     {
-        let mut set = Cells::new(alloc);
-        for cell in cells {
-            set.insert((object, cell))?;
-        }
-        Ok(set)
+        let all = spanned(alloc, object, cells)?;
+        let list = CellList::from_cells(alloc, all)?;
+        Ok(Cells { list })
     }
 
     fn insert_all(&mut self, more: &Cells) -> Result<(), AllocError>

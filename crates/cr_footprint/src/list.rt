@@ -97,13 +97,12 @@ impl CellList {
     pub(crate) fn from_cells(alloc: Global, cells: Several) -> Result<CellList, AllocError>
         ensures { IfOk result (λ list. list ≡ cells.items) }
     {
-        match boxed(alloc, cells) {
-            Ok(list) => Ok(CellList {
-                alloc,
-                kept: Kept::More(list),
-            }),
-            Err(failed) => Err(failed),
-        }
+        let kept = match cells.as_slice() {
+            [] => Kept::Nothing,
+            [cell] => Kept::One(*cell),
+            _ => Kept::More(boxed(alloc, cells)?),
+        };
+        Ok(CellList { alloc, kept })
     }
 
     pub(crate) fn allocator(&self) -> Global {

@@ -2,7 +2,7 @@
 -- the next one's gate is there.
 use Rattle.std.specs.Prelude.{◌≡◌, ◌≢◌, ℕ, ◌<◌, ◌≤◌, List, [], ◌∷◌, ◌++◌, length, Option, Some, None}
 use Rattle.cr_outside.specs.Story.{Story}
-use Rattle.cr_outside_disk.specs.Moments.{seen}
+use Rattle.cr_outside_disk.specs.Moments.{EveryTold, LastsTold, seen}
 
 -- what stands behind a gate: 31 bytes
 abbrev pub Body : Type 0
@@ -51,6 +51,10 @@ HasGate bodies image = (gate : ℕ) × (behind : List ℕ) × Reads image bodies
 abbrev pub Stands : List Body → List ℕ → Type 0
 Stands [] image = Unit {0}
 Stands (body ∷ more) image = (behind : List ℕ) × (image ≡ 1 ∷ (body ++ behind)) × (length body ≡ 31) × (0 < length behind) × Stands more behind
+
+-- Where so many bodies stand in every image as this says of them, what stands at one moment stands at each later one.
+abbrev pub LastsWhere : (List Body → List ℕ → Type 0) → ℕ → Option Story → Option Story → Type 0
+LastsWhere Are count old new = (bodies some : List Body) → length bodies ≡ count → EveryTold (Are bodies) old → LastsTold (Stands some) old new
 
 -- In what a read gives no record stands.
 abbrev pub StandsNone : Option Story → Type 0

@@ -1,7 +1,7 @@
 // The records of a journal on a disk.
 ghost use Rattle.std.specs.Prelude.{◌≡◌, ◌+◌, ◌*◌, ◌≤◌, ◌<◌, ◌^◌, ◌++◌, ◌∷◌, [], List, ℕ, true, length, IfOk, IsErrOf, OnOk};
 ghost use Rattle.cr_outside.specs.Faults.{Rose};
-ghost use Rattle.cr_journal_records.specs.Records.{AtRest, Body, HasGate, IsFront, IsKept, Stands, StandsNone};
+ghost use Rattle.cr_journal_records.specs.Records.{AtRest, Body, HasGate, IsFront, IsKept, LastsWhere, Stands, StandsNone};
 ghost use Rattle.cr_outside_disk.specs.Moments.{AlwaysTold, EveryTold, LastsTold};
 
 use cr_outside_disk::{Disk, DiskFault};
@@ -63,7 +63,7 @@ pub fn add<D: Disk>(disk: &mut D, alloc: Global, index: u64, body: &[u8]) -> Res
         → EveryTold (AtRest bodies) (D.story disk.old) → AlwaysTold (IsKept all) (D.story disk.old) (D.story disk.new) }
 
     // What stands at one moment of the call stands at each later one.
-    ensures lasts { (bodies some : List Body) → length bodies ≡ index → EveryTold (AtRest bodies) (D.story disk.old) → LastsTold (Stands some) (D.story disk.old) (D.story disk.new) }
+    ensures lasts { LastsWhere AtRest index (D.story disk.old) (D.story disk.new) }
 
     // Once it answered Ok, the record stands in every image.
     ensures added { OnOk result ((bodies : List Body) → length bodies ≡ index → EveryTold (AtRest bodies) (D.story disk.old)
@@ -105,7 +105,7 @@ pub fn close<D: Disk>(disk: &mut D, alloc: Global, count: u64) -> Result<(), Dis
     requires few { count < 2 ^ 56 }
     ensures any_moment { (bodies all : List Body) → length bodies ≡ count → EveryTold (λ image. IsKept all image × HasGate bodies image) (D.story disk.old)
         → AlwaysTold (IsKept all) (D.story disk.old) (D.story disk.new) }
-    ensures lasts { (bodies some : List Body) → length bodies ≡ count → EveryTold (HasGate bodies) (D.story disk.old) → LastsTold (Stands some) (D.story disk.old) (D.story disk.new) }
+    ensures lasts { LastsWhere HasGate count (D.story disk.old) (D.story disk.new) }
     ensures closed { OnOk result ((bodies : List Body) → length bodies ≡ count → EveryTold (HasGate bodies) (D.story disk.old)
         → EveryTold (AtRest bodies) (D.story disk.new)) }
     ensures ready { OnOk result (D.is_ready disk.new ≡ true) }

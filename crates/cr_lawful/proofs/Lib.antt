@@ -1,2 +1,5 @@
 pub mod Rulings
+pub mod Endings
 mod Programs
+mod OneRefusal
+mod OneReason

@@ -8,22 +8,22 @@ use Rattle.cr_tokens.specs.Tokens.{Tokenizes}
 use Rattle.cr_tokens.proofs.Faults.{list_no_fault}
 use Rattle.cr_tokens.proofs.Wholes.{one_list}
 use Rattle.cr_syntax.specs.declared.unit.Unit as source
+use Rattle.cr_syntax.specs.Units.{FirstRefusal, Refusal}
 use Rattle.cr_syntax.specs.Words.{lexemes_of}
 use Rattle.cr_syntax_machine.proofs.UnitRefusals.{tree_is_not_refused}
-use Rattle.cr_scopes_events.specs.Events.{events_of}
 use Rattle.cr_exprs.specs.declared.fault.ParseFault.{ParseFault}
 use Rattle.cr_exprs.specs.declared.fault.ParseFault.TheVariants.{NoMemory, Unexpected, Ended, TooDeep, OutsideSubset}
 use Rattle.cr_decls.specs.Unit.{IsRefused}
 use Rattle.cr_lawful_analysis.specs.Analysis.{AreItsNames, IsParsed, Tree, tree_of}
 use Rattle.cr_lawful_analysis.proofs.Same.{same_tree, one_names}
-use Rattle.cr_scopes.specs.Resolved.{fault_at}
-use Rattle.cr_scopes.specs.Spelled.{name_of}
-use Rattle.cr_scopes.specs.Units.{AreUnitNames, IsUnitFault}
+use Rattle.cr_scopes.specs.Units.{AreUnitNames}
 use Rattle.cr_scopes.specs.declared.names.Names.{Names}
 use Rattle.cr_scopes.specs.declared.fault.NameFault.{NameFault}
 use Rattle.cr_scopes.specs.declared.fault.NameFault.TheVariants as name_fault
 use Rattle.cr_check.specs.Checked.{IsFirstFault, IsSoundOf}
 use Rattle.cr_check.specs.Laws.{AreSameLists}
+use Rattle.cr_check.specs.NameFaults.{IsFirstNameFault}
+use Rattle.cr_check.proofs.NameFaults.{no_name_fault, sound_repeats_none, twice_is_first}
 use Rattle.cr_check.proofs.Verdicts.{no_fault}
 use Rattle.cr_check.specs.declared.fault.TypeFault.{TypeFault}
 use Rattle.cr_check.specs.declared.fault.TypeFault.TheVariants as type_fault
@@ -37,7 +37,7 @@ use Rattle.cr_meaning.proofs.Runs.{one_meaning}
 use Rattle.cr_meaning_operations.specs.Laws.{Comes}
 use Rattle.cr_meaning_operations.specs.Operations.{program_of}
 use Rattle.cr_exec.specs.Runs.{has_come}
-use Rattle.cr_cursor.specs.TokenLaw.{RulesOn, reason_of}
+use Rattle.cr_cursor.specs.TokenLaw.{IsTokenReason, RulesOn, reason_of}
 use Rattle.cr_cursor.specs.declared.law.Reason.{Reason}
 use Rattle.cr_cursor.specs.declared.law.Ruling.{Ruling}
 use Rattle.cr_cursor.specs.declared.law.Ruling.TheVariants as ruling
@@ -73,18 +73,19 @@ parse_refuses file raised tokens (OutsideSubset k row) are refused = λ limits. 
 
 -- the names are at fault
 pub name_refuses : (file : List ℕ) (raised : Bool) (u : source.Unit) (f : NameFault) → Tokenizes file u.tokens.list.items → IsParsed file u.tokens.list.items (tree_of u)
-    → IsUnitFault file u f → Refuses file raised (ruling_by (name_reason file u.tokens.list.items f))
+    → IsFirstNameFault file u f → Refuses file raised (ruling_by (name_reason file u.tokens.list.items f))
 name_refuses file raised u name_fault.NoMemory are parsed first = tt
-name_refuses file raised u (name_fault.Unknown k) are parsed first = λ limits. of_names are parsed first refl
-name_refuses file raised u (name_fault.Twice k) are parsed first = λ limits. of_names are parsed first refl
+name_refuses file raised u (name_fault.Unknown k) are parsed first = λ limits. of_names u (name_fault.Unknown k) are parsed first refl
+name_refuses file raised u (name_fault.Twice k) are parsed first = λ limits. of_names u (name_fault.Twice k) are parsed first refl
 
--- the types are at fault
+-- the types are at fault; a typedef name that is declared again is a fault of the names
 pub type_refuses : (file : List ℕ) (raised : Bool) (u : source.Unit) (names : Names) (f : TypeFault) → Tokenizes file u.tokens.list.items
     → IsParsed file u.tokens.list.items (tree_of u) → AreUnitNames file u names → IsFirstFault file u names f
     → Refuses file raised (ruling_by (type_reason file u.tokens.list.items f))
 type_refuses file raised u names type_fault.NoMemory are parsed known first = tt
-type_refuses file raised u names (type_fault.Twice k) are parsed known first = λ limits. of_types u names (type_fault.Twice k) are parsed known first refl
-type_refuses file raised u names (type_fault.Broken row k) are parsed known first = λ limits. of_types u names (type_fault.Broken row k) are parsed known first refl
+type_refuses file raised u names (type_fault.Twice k) are parsed known first = λ limits.
+    of_names u (name_fault.Twice k) are parsed (twice_is_first file u names k known first) refl
+type_refuses file raised u names (type_fault.Broken row k) are parsed known first = λ limits. of_types u names row k are parsed known first
 
 -- ---- and with the run
 
@@ -109,20 +110,11 @@ run_rules limits file typed raised run.NoMemory of_file comes stopped = tt
 
 -- ---- no reason stands against a lawful file
 
-parsed_by : (file : List ℕ) (tokens others : List Token) (tree : Tree) → Tokenizes file tokens → Tokenizes file others → IsParsed file tokens tree → IsParsed file others tree
+pub parsed_by : (file : List ℕ) (tokens others : List Token) (tree : Tree) → Tokenizes file tokens → Tokenizes file others → IsParsed file tokens tree → IsParsed file others tree
 parsed_by file tokens others tree are also parsed = subst (λ ts. IsParsed file ts tree) (one_list file tokens others are also) parsed
 
-abbrev AreKnown : List ℕ → List Token → Tree → Type 0
-AreKnown file tokens tree = (event : ℕ) → fault_at (name_of file tokens) (events_of tokens tree.nodes tree.items) event ≡ None
-
-known_by : (file : List ℕ) (tokens others : List Token) (tree other : Tree) → Tokenizes file tokens → Tokenizes file others → IsParsed file tokens tree → IsParsed file others other
-    → AreKnown file tokens tree → AreKnown file others other
-known_by file tokens others tree other are also parsed and_so known =
-    let same = same_tree file others tree other (parsed_by file tokens others tree are also parsed) and_so in
-    subst (AreKnown file others) same (subst (λ ts. AreKnown file ts tree) (one_list file tokens others are also) known)
-
 -- two units of a file have the same lists
-same_lists : (file : List ℕ) (u v : source.Unit) → Tokenizes file u.tokens.list.items → Tokenizes file v.tokens.list.items
+pub same_lists : (file : List ℕ) (u v : source.Unit) → Tokenizes file u.tokens.list.items → Tokenizes file v.tokens.list.items
     → IsParsed file u.tokens.list.items (tree_of u) → IsParsed file v.tokens.list.items (tree_of v) → AreSameLists u v
 same_lists file u v are also parsed and_so =
     let tokens = one_list file u.tokens.list.items v.tokens.list.items are also in
@@ -131,7 +123,7 @@ same_lists file u v are also parsed and_so =
     record { tokens = tokens; nodes = ap (λ tree. tree.nodes) same; items = ap (λ tree. tree.items) same }
 
 -- and the same names
-names_by : (file : List ℕ) (u v : source.Unit) (names other : Names) → Tokenizes file u.tokens.list.items → Tokenizes file v.tokens.list.items
+pub names_by : (file : List ℕ) (u v : source.Unit) (names other : Names) → Tokenizes file u.tokens.list.items → Tokenizes file v.tokens.list.items
     → IsParsed file u.tokens.list.items (tree_of u) → IsParsed file v.tokens.list.items (tree_of v)
     → AreUnitNames file u names → AreUnitNames file v other → names ≡ other
 names_by file u v names other are also parsed and_so known as_well =
@@ -141,13 +133,39 @@ names_by file u v names other are also parsed and_so known as_well =
     (subst (λ t. AreItsNames file v.tokens.list.items t names) trees (subst (λ ts. AreItsNames file ts (tree_of u) names) tokens known)) as_well
 
 -- so a file has one typed unit
-one_unit : (file : List ℕ) (one other : Typed) → IsTypedUnit file one → IsTypedUnit file other → one ≡ other
+pub one_unit : (file : List ℕ) (one other : Typed) → IsTypedUnit file one → IsTypedUnit file other → one ≡ other
 one_unit file one other it also =
     let same = same_lists file it.unit also.unit it.tokenizes also.tokenizes it.parsed also.parsed in
     let names : it.names ≡ also.names =
     names_by file it.unit also.unit it.names also.names it.tokenizes also.tokenizes it.parsed also.parsed it.known also.known in
     one_typed_unit file it.unit also.unit also.names one other same
     (subst (λ names. IsTypedOf file it.unit names one) names it.checked) also.checked
+
+-- which excludes the reasons that are found before its run
+module _ (file : List ℕ) (typed : Typed) (it : IsTypedUnit file typed) where
+  sound : IsSoundOf file it.unit it.names it.checked.checked
+  sound = record { tree = it.checked.by.tree; is = it.checked.by.is; sound = it.checked.by.sound }
+
+  pub no_tokens : (why : Reason) → IsTokenReason file why → ⊥
+  no_tokens why reason = list_no_fault file it.unit.tokens.list.items reason.fault it.tokenizes reason.first
+
+  pub no_refusal : (tokens : List Token) (refused : Refusal) → Tokenizes file tokens → FirstRefusal (lexemes_of file tokens) refused → ⊥
+  no_refusal tokens refused are first =
+      tree_is_not_refused (lexemes_of file tokens) (parsed_by file it.unit.tokens.list.items tokens (tree_of it.unit) it.tokenizes are it.parsed).is_tree first
+
+  pub no_names : (u : source.Unit) (fault : NameFault) → Tokenizes file u.tokens.list.items → IsParsed file u.tokens.list.items (tree_of u)
+      → IsFirstNameFault file u fault → ⊥
+  no_names u fault are parsed first =
+      no_name_fault file it.unit u it.names fault (same_lists file it.unit u it.tokenizes are it.parsed parsed) it.known
+      (sound_repeats_none file it.unit it.names it.checked.checked sound) first
+
+  pub no_types : (u : source.Unit) (names : Names) (row token : ℕ) → Tokenizes file u.tokens.list.items
+      → IsParsed file u.tokens.list.items (tree_of u) → AreUnitNames file u names → IsFirstFault file u names (type_fault.Broken row token) → ⊥
+  no_types u names row token are parsed known first =
+      let same = same_lists file it.unit u it.tokenizes are it.parsed parsed in
+      let one = names_by file it.unit u it.names names it.tokenizes are it.parsed parsed it.known known in
+      no_fault file it.unit u names it.checked.checked (type_fault.Broken row token) same
+      (subst (λ names. IsSoundOf file it.unit names it.checked.checked) one sound) first (λ none. cc)
 
 -- and its run, within the same limits, one outcome; an end is no reason
 no_end : (limits : Limits) (file : List ℕ) (typed other : Typed) (outcome : Run) (why : Reason) → IsTypedUnit file typed → IsTypedUnit file other
@@ -159,27 +177,12 @@ no_end limits file typed other outcome why it also ends comes is =
     let none : None ≡ Some why = ap (run_reason file other) ended ∙ is in
     cc
 
--- the check by which the unit was typed is sound
-sound_of : (file : List ℕ) (u : source.Unit) (names : Names) (typed : Typed) (h : IsTypedOf file u names typed) → IsSoundOf file u names h.checked
-sound_of file u names typed h = record { tree = h.by.tree; is = h.by.is; sound = h.by.sound }
-
 pub excludes : (limits : Limits) (file : List ℕ) (why : Reason) → IsReason limits file why → IsLawful limits file → ⊥
-excludes limits file _ (of_tokens it) lawful =
-    list_no_fault file lawful.of_file.unit.tokens.list.items it.fault lawful.of_file.tokenizes it.first
-excludes limits file _ (of_unit {tokens = tokens} are first) lawful =
-    let it = lawful.of_file in
-    tree_is_not_refused (lexemes_of file tokens) (parsed_by file it.unit.tokens.list.items tokens (tree_of it.unit) it.tokenizes are it.parsed).is_tree first
-excludes limits file _ (of_names {tokens = tokens} {tree = tree} are parsed first is) lawful =
-    let it = lawful.of_file in
-    let none = known_by file it.unit.tokens.list.items tokens (tree_of it.unit) tree it.tokenizes are it.parsed parsed it.known.right first.event in
-    let some = first.is in
-    cc
-excludes limits file why (of_types u names fault are parsed known first is) lawful =
-    let it = lawful.of_file in
-    let same = same_lists file it.unit u it.tokenizes are it.parsed parsed in
-    let one = names_by file it.unit u it.names names it.tokenizes are it.parsed parsed it.known known in
-    no_fault file it.unit u names it.checked.checked fault same
-    (subst (λ names. IsSoundOf file it.unit names it.checked.checked) one (sound_of file it.unit it.names lawful.typed it.checked)) first
-    (λ none. let bad : None ≡ Some why = sym (ap (type_reason file u.tokens.list.items) none) ∙ is in cc)
+excludes limits file why (of_tokens it) lawful = no_tokens file lawful.typed lawful.of_file why it
+excludes limits file _ (of_unit {tokens = tokens} {refused = refused} are first) lawful =
+    no_refusal file lawful.typed lawful.of_file tokens refused are first
+excludes limits file why (of_names u fault are parsed first is) lawful = no_names file lawful.typed lawful.of_file u fault are parsed first
+excludes limits file _ (of_types u names row token are parsed known first) lawful =
+    no_types file lawful.typed lawful.of_file u names row token are parsed known first
 excludes limits file why (of_run typed outcome of_file comes is) lawful =
     no_end limits file lawful.typed typed outcome why lawful.of_file of_file lawful.ends comes is

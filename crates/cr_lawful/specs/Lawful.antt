@@ -9,15 +9,13 @@ use Rattle.cr_syntax.specs.Units as refusal
 use Rattle.cr_syntax.specs.Words.{lexemes_of}
 use Rattle.cr_exprs.specs.Answers.{refusal_in}
 use Rattle.cr_exprs.specs.declared.fault.ParseFault.{ParseFault}
-use Rattle.cr_lawful_analysis.specs.Analysis.{IsParsed, Tree, tree_of}
-use Rattle.cr_scopes_events.specs.Events.{events_of}
-use Rattle.cr_scopes.specs.Resolved.{IsFirstFault}
+use Rattle.cr_lawful_analysis.specs.Analysis.{IsParsed, tree_of}
 use Rattle.cr_scopes.specs.Units.{AreUnitNames}
 use Rattle.cr_scopes.specs.declared.names.Names.{Names}
-use Rattle.cr_scopes.specs.Spelled.{name_of}
 use Rattle.cr_scopes.specs.declared.fault.NameFault.{NameFault}
 use Rattle.cr_scopes.specs.declared.fault.NameFault.TheVariants.{NoMemory, Unknown, Twice}
 use Rattle.cr_check.specs.Checked.{IsFirstFault as IsFirstTypeFault}
+use Rattle.cr_check.specs.NameFaults.{IsFirstNameFault}
 use Rattle.cr_check.specs.declared.fault.TypeFault.{TypeFault}
 use Rattle.cr_check.specs.declared.fault.TypeFault.TheVariants as type_fault
 use Rattle.cr_typed.specs.declared.typed.Typed.{Typed}
@@ -97,17 +95,19 @@ run_reason file typed (run.Left number node) = Some (reason.Left number (node_li
 run_reason file typed other = None
 
 -- The first reason against a file: its tokens have a first fault; or they are no unit, and have a first refusal; or the names of its unit have
--- a first fault; or it breaks a constraint; or its run meets undefined behaviour, or leaves the profile.
+-- a first fault, which may be a typedef name that is declared again with another type; or it breaks a constraint; or its run meets undefined
+-- behaviour, or leaves the profile.
 pub data IsReason (limits : Limits) (file : List ℕ) : Reason → Type 0 where
   of_tokens : {why : Reason} → IsTokenReason file why → IsReason limits file why
   of_unit : {tokens : List Token} {refused : Refusal} → Tokenizes file tokens → FirstRefusal (lexemes_of file tokens) refused
       → IsReason limits file (parse_reason file tokens refused)
-  of_names : {tokens : List Token} {tree : Tree} {fault : NameFault} {why : Reason} → Tokenizes file tokens → IsParsed file tokens tree
-      → IsFirstFault (name_of file tokens) (events_of tokens tree.nodes tree.items) fault → name_reason file tokens fault ≡ Some why
-      → IsReason limits file why
-  of_types : (u : source.Unit) (names : Names) (fault : TypeFault) {why : Reason} → Tokenizes file u.tokens.list.items
-      → IsParsed file u.tokens.list.items (tree_of u) → AreUnitNames file u names → IsFirstTypeFault file u names fault
-      → type_reason file u.tokens.list.items fault ≡ Some why → IsReason limits file why
+  of_names : (u : source.Unit) (fault : NameFault) {why : Reason} → Tokenizes file u.tokens.list.items
+      → IsParsed file u.tokens.list.items (tree_of u) → IsFirstNameFault file u fault
+      → name_reason file u.tokens.list.items fault ≡ Some why → IsReason limits file why
+  of_types : (u : source.Unit) (names : Names) (row token : ℕ) → Tokenizes file u.tokens.list.items
+      → IsParsed file u.tokens.list.items (tree_of u) → AreUnitNames file u names
+      → IsFirstTypeFault file u names (type_fault.Broken row token)
+      → IsReason limits file (reason.Typing row (token_line file u.tokens.list.items token))
   of_run : (typed : Typed) (outcome : Run) {why : Reason} → IsTypedUnit file typed → Comes typed limits outcome
       → run_reason file typed outcome ≡ Some why → IsReason limits file why
 
@@ -145,3 +145,10 @@ abbrev pub run_ruling : List ℕ → Typed → Run → Ruling
 run_ruling file typed (run.Ended status output steps) = ruling.Lawful
 run_ruling file typed run.Stopped = ruling.Stopped
 run_ruling file typed other = ruling_by (run_reason file typed other)
+
+-- where this is the reason against the file, it is the one that is ruled, unless there was a stop, or memory was wanting
+abbrev pub RefusesFor : Reason → Ruling → Type 0
+RefusesFor why ruling.Lawful = ⊥
+RefusesFor why (ruling.Unlawful given) = given ≡ why
+RefusesFor why ruling.Stopped = Unit {0}
+RefusesFor why ruling.NoMemory = Unit {0}

@@ -1,3 +1,4 @@
 pub mod Lawful
 pub mod Programs
+pub mod Runs
 pub mod Laws

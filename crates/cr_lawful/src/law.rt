@@ -1,16 +1,19 @@
 // The law of programs.
 ghost use Rattle.std.specs.Prelude.{◌≡◌, ℕ, List, true, false};
 ghost use Rattle.cr_cursor.specs.declared.law.Reason.{Reason};
-ghost use Rattle.cr_lawful.specs.Lawful.{IsLawful, IsReason, IsTypedUnit, Rules, limits_of};
+ghost use Rattle.cr_lawful.specs.Lawful.{IsLawful, IsReason, IsTypedUnit, RefusesFor, Rules, limits_of};
 ghost use Rattle.cr_lawful.specs.Programs.{IsProgram};
+ghost use Rattle.cr_lawful.specs.Runs.{CameTo, ComesToEnd};
 
+use crate::ends::Ended;
+use crate::last_run::LastRun;
 use crate::program::{Program, reading_of};
 use crate::reasons::run_ruling;
 use crate::units::program_of_file;
 use cr_cursor::{Law, Reason, Ruling, Stop};
 use cr_exec_outcome::outcome;
 use cr_lawful_analysis::LastRead;
-use cr_meaning::Limits;
+use cr_meaning::{Limits, Run};
 use cr_typed::Typed;
 use std::alloc::Global;
 
@@ -22,6 +25,8 @@ pub struct CLaw<'a> {
     pub limits: Limits,
     /// Where what was read of a lawful file is left.
     pub last: Option<&'a LastRead>,
+    /// Where it is left how the run of a lawful file ended.
+    pub runs: Option<&'a LastRun>,
 }
 
 impl<'a> CLaw<'a> {
@@ -38,6 +43,18 @@ impl<'a> CLaw<'a> {
                 output: 65_536,
             },
             last,
+            runs: None,
+        }
+    }
+
+    /// The same law, which leaves there how the run of each lawful file ended.
+    pub fn leaving_runs(self, runs: &'a LastRun) -> CLaw<'a>
+        ensures { result.limits ≡ self.entry.limits }
+    {
+        CLaw {
+            limits: self.limits,
+            last: self.last,
+            runs: Some(runs),
         }
     }
 }
@@ -55,6 +72,8 @@ impl<'a> Law for CLaw<'a> {
         ensures unlawful { (reason : Reason) → result ≡ Ruling.Unlawful reason → IsLawful self.now.limits file.now → ⊥ }
         // It is the first reason: that of the tokens, then of the parser, then of the names, then of the types, then of the run.
         ensures reason { (reason : Reason) → result ≡ Ruling.Unlawful reason → IsReason self.now.limits file.now reason }
+        // Where there is one, it is that one.
+        ensures exact { (reason : Reason) → IsReason self.now.limits file.now reason → RefusesFor reason result }
         ensures stopped { result ≡ Ruling.Stopped → S.raised stop.new ≡ true }
         ensures held { S.held stop.new ≡ S.held stop.old }
     {
@@ -85,7 +104,7 @@ fn ruled_on_program<S: Stop>(
     ensures rules { Rules law.now.limits file.now (S.raised stop.new) result }
     ensures held { S.held stop.new ≡ S.held stop.old }
 {
-    let ruling = ruled_on_run(alloc, file, &program.typed, law.limits, stop);
+    let ruling = ruled_on_run(alloc, file, &program.typed, law, stop);
     if ruling == Ruling::Lawful {
         leave(program, law.last);
     } else {
@@ -110,14 +129,48 @@ fn ruled_on_run<S: Stop>(
     alloc: Global,
     file: &[u8],
     typed: &Typed,
-    limits: Limits,
+    law: &CLaw<'_>,
     stop: &mut S,
 ) -> Ruling
     requires unstopped { S.raised stop.old ≡ false }
     requires unit { IsTypedUnit file.now typed.now }
-    ensures rules { Rules limits file.now (S.raised stop.new) result }
+    ensures rules { Rules law.now.limits file.now (S.raised stop.new) result }
     ensures held { S.held stop.new ≡ S.held stop.old }
 {
-    let run = outcome(alloc, typed, limits, stop);
-    run_ruling(file, typed, &run)
+    let run = outcome(alloc, typed, law.limits, stop);
+    let ruling = run_ruling(file, typed, &run);
+    leave_run(alloc, file, law, run);
+    ruling
+}
+
+// Leaves how a run ended, where the law has a place for that.
+fn leave_run(alloc: Global, file: &[u8], law: &CLaw<'_>, run: Run)
+    requires { CameTo law.now.limits file.now run }
+{
+    match run {
+        Run::Ended {
+            status,
+            output,
+            steps: _,
+        } => leave_end(alloc, file, law, Ended { status, output }),
+        other => drop(other),
+    }
+}
+
+fn leave_end(alloc: Global, file: &[u8], law: &CLaw<'_>, end: Ended)
+    requires { ComesToEnd law.now.limits file.now end.status end.output }
+{
+    match law.runs {
+        Some(runs) => leave_at(alloc, file, law.limits, end, runs),
+        None => drop(end),
+    }
+}
+
+fn leave_at(alloc: Global, file: &[u8], limits: Limits, end: Ended, runs: &LastRun)
+    requires { ComesToEnd limits file.now end.status end.output }
+{
+    match file.to_vec(alloc) {
+        Ok(bytes) => runs.leave(limits, bytes, end),
+        Err(_) => drop(end),
+    }
 }

@@ -1,5 +1,5 @@
 -- What a run promises, from what it comes to: each is a lemma about its task, or of a run that does nothing.
-use Rattle.std.proofs.Common.{◌≡◌, ◌⊎◌, inl, inr, ◌+◌, ◌*◌, ◌≤◌, ℕ, Bool, true, false, List, Option, refl, sym, ap, subst, ◌∙◌, arith}
+use Rattle.std.proofs.Common.{◌≡◌, inl, inr, ◌+◌, ◌*◌, ◌≤◌, ℕ, Bool, false, List, Option, sym, ap, subst, ◌∙◌, arith}
 use Rattle.std.proofs.Math.Nat.{mul-le-mul}
 use Rattle.cr_outside.specs.Files.{Names}
 use Rattle.cr_outside.specs.Question.{Says as Telling}
@@ -17,7 +17,7 @@ use Rattle.cr_main_task.specs.Headline as task
 use Rattle.cr_main_task.specs.Outside.{Outside}
 use Rattle.cr_main_task.specs.Run.{IsReduction, IsToldReduction, RunsTask, by_epochs}
 use Rattle.cr_main_task.specs.Story.{KeepsJournal, journal_told}
-use Rattle.cr_main_task.specs.Task.{Task, given}
+use Rattle.cr_main_task.specs.Task.{Task}
 use Rattle.cr_main_task.proofs.Askings.{task_asks}
 use Rattle.cr_main_task.proofs.Calls.{read_fails, read_goes_on, task_faults, task_quiet}
 use Rattle.cr_main_task.proofs.Completing.{task_free}

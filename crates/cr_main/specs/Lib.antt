@@ -3,3 +3,4 @@ pub mod Task
 pub mod Run
 pub mod Headline
 pub mod Laws
+pub mod More

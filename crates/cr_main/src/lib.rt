@@ -4,11 +4,14 @@
 //! are carried over to the words here. Stands on `cr_main_task`, `cr_main_words`, `cr_lawful`, `pass_list` and `cr_gen`.
 #![tactic(auto)]
 
+mod asked;
 mod given;
 mod laws;
 mod messages;
+mod modes;
 mod names;
 mod top;
 
 pub use laws::a_name_has_one_own_name;
+pub use modes::run_more;
 pub use top::run;

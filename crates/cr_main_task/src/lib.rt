@@ -17,6 +17,7 @@ mod task;
 pub use beginning::begin;
 pub use finish::conclude;
 pub use messages::{Refusal, put, refuse};
-pub use opening::open;
+pub use names::beside;
+pub use opening::{MOST_READ, open, ruled};
 pub use run_task::{run_bytes, run_lawful, run_stored};
 pub use task::Task;

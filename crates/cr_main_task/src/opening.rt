@@ -13,7 +13,7 @@ use cr_outside::{Files, NoMemory, ReadAnswer, Sink};
 use std::alloc::{AllocError, Global};
 
 /// What is read of a file at most: one byte more than a file may have, so that a longer one is refused.
-const MOST: usize = 1_048_577;
+pub const MOST_READ: usize = 1_048_577;
 
 /// Reads the file, and has the law rule on it. The error is the status that the run ends with.
 pub fn open<L: Law, F: Files, O: Sink>(
@@ -29,7 +29,7 @@ pub fn open<L: Law, F: Files, O: Sink>(
     ensures unopened { IfErr result (λ status. Unopened (record { Lawful = L.lawful law.now; Against = L.reasons law.now }) name.now (stored (files_told (F.story files.old)) name.now)
         (outside F.Outside F.Files.own files.old O.Sink out.old) (outside F.Outside F.Files.own files.new O.Sink out.new) status) }
 {
-    let bytes = match files.read(alloc, name, MOST) {
+    let bytes = match files.read(alloc, name, MOST_READ) {
         ReadAnswer::Bytes(bytes) => bytes,
         ReadAnswer::Absent => return Err(refuse(alloc, out, name, Refusal::NoFile)),
         ReadAnswer::Failed => return Err(refuse(alloc, out, name, Refusal::FileFault)),

@@ -32,19 +32,19 @@ use Rattle.cr_main_words.proofs.Results.{one_telling}
 
 -- ---- the same values give the same settings
 
-workers_name : IsAmong (codes "workers") option_names
+pub workers_name : IsAmong (codes "workers") option_names
 workers_name = inl refl
 
-window_name : IsAmong (codes "window") option_names
+pub window_name : IsAmong (codes "window") option_names
 window_name = inr (inl refl)
 
-limit_name : IsAmong (codes "limit") option_names
+pub limit_name : IsAmong (codes "limit") option_names
 limit_name = inr (inr (inl refl))
 
-steps_name : IsAmong (codes "steps") option_names
+pub steps_name : IsAmong (codes "steps") option_names
 steps_name = inr (inr (inr (inl refl)))
 
-passes_name : IsAmong (codes "passes") option_names
+pub passes_name : IsAmong (codes "passes") option_names
 passes_name = inr (inr (inr (inr (inl refl))))
 
 pub moved : (f g : Word → List Word) (places other : List Word) (most : ℕ) (settings : Settings) → ((name : Word) → IsAmong name option_names → f name ≡ g name)
@@ -64,7 +64,7 @@ moved f g places other most settings same words it = record {
 
 -- ---- no value begins with -
 
-abbrev NoMinus : List Word → Type 0
+abbrev pub NoMinus : List Word → Type 0
 NoMinus [] = Unit {0}
 NoMinus (value ∷ values) = (BeginsWith value 45 → ⊥) × NoMinus values
 
@@ -74,7 +74,7 @@ number_plain least most (b ∷ more) n it begins =
     let is : b ≡ 45 = let e = begins.1 in cc in
     let low : digit_value 45 < 10 = subst (λ x. digit_value x < 10) is it.digits.0 in absurd (omega (arith, low))
 
-optional_plain : (least most : ℕ) (values : List Word) (given : Option ℕ) → IsOptional least most values given → NoMinus values
+pub optional_plain : (least most : ℕ) (values : List Word) (given : Option ℕ) → IsOptional least most values given → NoMinus values
 optional_plain least most _ _ no_value = tt
 optional_plain least most _ _ (one_value {word = word} {n = n} it) = (number_plain least most word n it, tt)
 
@@ -82,7 +82,7 @@ letters_plain : (word : Word) (enabled : List Bool) → IsLetters word enabled �
 letters_plain word enabled it begins =
     let bad : false ≡ true = subst (λ w. list_all (has_letter pass_letters) w ≡ true) begins.1 it.known in cc
 
-enabled_plain : (values : List Word) (enabled : List Bool) → IsEnabled values enabled → NoMinus values
+pub enabled_plain : (values : List Word) (enabled : List Bool) → IsEnabled values enabled → NoMinus values
 enabled_plain _ _ all_passes = tt
 enabled_plain _ _ (some_passes {word = word} {enabled = enabled} it) = (letters_plain word enabled it, tt)
 
@@ -95,7 +95,7 @@ plain_at values places most settings it name (inr (inr (inr (inl is)))) = subst 
 plain_at values places most settings it name (inr (inr (inr (inr (inl is))))) = subst (λ n. NoMinus (values n)) (sym is) (enabled_plain (values (codes "passes")) settings.enabled it.passes)
 plain_at values places most settings it name (inr (inr (inr (inr (inr more))))) = absurd more
 
-all_plain : (said : List Said) → IsNamed option_names said → ((name : Word) → IsAmong name option_names → NoMinus (values_of name said)) → IsPlain said
+pub all_plain : (said : List Said) → IsNamed option_names said → ((name : Word) → IsAmong name option_names → NoMinus (values_of name said)) → IsPlain said
 all_plain [] named plain = tt
 all_plain (option n value ∷ said) named plain =
     let own : NoMinus (value ∷ values_of n said) = rw (bytes_same n) at (plain n named.0) in
@@ -134,11 +134,11 @@ one_optional : (least most : ℕ) (values : List Word) (a b : Option ℕ) → Is
 one_optional least most _ _ _ no_value no_value = refl
 one_optional least most _ _ _ (one_value first) (one_value second) = ap Some (first.is ∙ sym second.is)
 
-one_count : (without least most : ℕ) (values : List Word) (a b : ℕ) → IsNumberOr without least most values a → IsNumberOr without least most values b → a ≡ b
+pub one_count : (without least most : ℕ) (values : List Word) (a b : ℕ) → IsNumberOr without least most values a → IsNumberOr without least most values b → a ≡ b
 one_count without least most values a b first second =
     first.2 ∙ ap (λ g. unwrap_or g without) (one_optional least most values first.0 second.0 first.1 second.1) ∙ sym second.2
 
-one_enabled : (values : List Word) (a b : List Bool) → IsEnabled values a → IsEnabled values b → a ≡ b
+pub one_enabled : (values : List Word) (a b : List Bool) → IsEnabled values a → IsEnabled values b → a ≡ b
 one_enabled _ _ _ all_passes all_passes = refl
 one_enabled _ _ _ (some_passes first) (some_passes second) = first.is ∙ sym second.is
 

@@ -8,3 +8,6 @@ pub mod Results
 pub mod Uses
 pub mod NameLemmas
 pub mod Giving
+pub mod Replaying
+pub mod Sifting
+pub mod Asking

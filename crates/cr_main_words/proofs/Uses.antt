@@ -1,5 +1,5 @@
 -- The values of an id, as clap answers them.
-use Rattle.std.proofs.Common.{◌≡◌, List, [], ◌∷◌, length, get_or, Option, option_map, unwrap_or, Result, Err, refl, sym, ap, ◌∙◌, subst, arith}
+use Rattle.std.proofs.Common.{◌≡◌, ◌==◌, true, List, [], ◌∷◌, length, get_or, Option, option_map, unwrap_or, Result, Err, refl, sym, ap, ◌∙◌, subst, arith}
 use Rattle.std.specs.Borrow.{Bor}
 use Rattle.std.specs.Result.{IsErrAnd}
 use Rattle.clap.specs.Matches.{matched_of, raw_values}
@@ -19,6 +19,10 @@ values_are f id values is = values_at-all_of id (rows_of f) ∙ ap (λ v. unwrap
 pub none_of : (values : List (Bor Word)) → length values ≡ 0 → texts values ≡ []
 none_of [] none = refl
 none_of (x ∷ more) none = absurd (omega arith)
+
+pub empty_of : (values : List (Bor Word)) → texts values ≡ [] → (length values == 0) ≡ true
+empty_of [] none = refl
+empty_of (x ∷ more) none = cc
 
 pub one_of : (values : List (Bor Word)) (d : Bor Word) → length values ≡ 1 → texts values ≡ (get_or values 0 d).now ∷ []
 one_of [] d one = absurd (omega arith)

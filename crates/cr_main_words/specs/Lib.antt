@@ -5,4 +5,7 @@ pub mod Letters
 pub mod Names
 pub mod Parts
 pub mod Giving
+pub mod Flags
+pub mod Requests
 pub mod Laws
+pub mod RequestLaws

@@ -4,8 +4,10 @@ use Rattle.cr_outside.specs.Test.{ReadsTest}
 use Rattle.cr_main_words.specs.Names.{IsSource}
 use Rattle.cr_main_words.specs.Numbers.{IsNumberOr, IsOptional}
 use Rattle.cr_main_words.specs.Words.{Word}
+use Rattle.cr_main_words.specs.declared.replay.Names.{Names}
 use Rattle.cr_main_words.specs.declared.settings.Asked.{Asked}
 use Rattle.cr_main_words.specs.declared.settings.Counts.{Counts}
+use Rattle.cr_main_words.specs.declared.source.Source.TheVariants as source
 
 -- the values of the options give these numbers, where there are so many workers
 pub record GivesCounts (values : Word → List Word) (most : ℕ) (counts : Counts) : Type 0 where
@@ -21,3 +23,11 @@ pub record GivesAsked (places : List Word) (asked : Asked) : Type 0 where
   pub two : places ≡ test ∷ (file ∷ [])
   pub reads : ReadsTest test (Ok asked.test)
   pub source : IsSource file asked.source
+
+-- the positional words name these files of a replay
+pub record GivesNames (places : List Word) (names : Names) : Type 0 where
+  pub log : Word
+  pub file : Word
+  pub two : places ≡ log ∷ (file ∷ [])
+  pub log_name : IsSource log (source.Named names.log)
+  pub file_name : IsSource file (source.Named names.file)

@@ -27,9 +27,9 @@ use Rattle.cr_meaning_operations.specs.Operations.{kind_if, kind_at, parts_at, p
 use Rattle.cr_meaning_soundness.specs.Sorts.{IsAmong}
 use Rattle.cr_meaning_soundness.specs.Scopes.{IsPart, is_open}
 use Rattle.cr_meaning_orders.specs.Owned.{objects_of, hands_on}
-use Rattle.cr_meaning_units.specs.Owned.{declared_by, is_declared, declares, owns_by, owns, AreOfUnit, IsInitialiser, AreInitialisers, AreDeclaredOnce}
+use Rattle.cr_meaning_units.specs.Owned.{declared_by, is_declared, declares, owns_by, owns, AreOfUnit, IsInitialiser, AreInitialisers, AreDeclaredOnce, is_owner}
 use Rattle.cr_meaning_units.proofs.Rows.{clear_side, AreClear, clear_laid, IsLoopRow, clear_first, clear_at}
-use Rattle.cr_meaning_units.proofs.Handing.{without_owners, no_owners, counted_at, all_parts, part_there, is_owner, is_declarator, owner_by, without_declarators, no_declarators, without_declarations, no_declarations, OwnsNone, HandsOn, silent, none_of, kind_is, parts_are, laid_at, parts_below, owned_by, owning}
+use Rattle.cr_meaning_units.proofs.Handing.{without_owners, no_owners, counted_at, all_parts, part_there, is_declarator, owner_by, without_declarators, no_declarators, without_declarations, no_declarations, OwnsNone, HandsOn, silent, none_of, kind_is, parts_are, laid_at, parts_below, owned_by, owning}
 
 -- ---- lists
 

@@ -29,7 +29,7 @@ use Rattle.cr_meaning_operations.specs.Operations.{kind_if, kind_at, parts_if, p
 use Rattle.cr_meaning_soundness.specs.Sorts.{IsAmong}
 use Rattle.cr_meaning_soundness.specs.Scopes.{IsPart, is_open}
 use Rattle.cr_meaning_orders.specs.Owned.{objects_of, hands_on}
-use Rattle.cr_meaning_units.specs.Owned.{declared_by, is_declared, owns_by, owns, AreOfUnit, AreDefined}
+use Rattle.cr_meaning_units.specs.Owned.{declared_by, is_declared, owns_by, owns, is_owner, AreOfUnit}
 use Rattle.cr_meaning_units.proofs.Rows.{clear_side, AreClear, clear_laid, clear_at}
 
 -- ---- kinds of nodes with declarators of their own
@@ -41,15 +41,6 @@ is_declarator kind.PointerDeclarator = true
 is_declarator kind.GroupDeclarator = true
 is_declarator kind.ArrayDeclarator = true
 is_declarator other = false
-
-abbrev pub is_owner : Kind → Bool
-is_owner kind.Declaration = true
-is_owner kind.InitDeclarator = true
-is_owner kind.NameDeclarator = true
-is_owner kind.PointerDeclarator = true
-is_owner kind.GroupDeclarator = true
-is_owner kind.ArrayDeclarator = true
-is_owner other = false
 
 -- parts for which no declarator stands, and for which no declaration stands either
 abbrev from_array : Part → Bool

@@ -23,9 +23,9 @@ use Rattle.cr_meaning_operations.specs.Shapes.{form_of}
 use Rattle.cr_meaning_soundness.specs.Sorts.{IsAmong}
 use Rattle.cr_meaning_soundness.specs.Scopes.{IsPart, is_open}
 use Rattle.cr_meaning_orders.specs.Owned.{objects_of, hands_on}
-use Rattle.cr_meaning_units.specs.Owned.{declared_by, is_declared, declares, owns_by, owns, AreOfUnit, AreInitialisers, AreDeclaredOnce, AreDefined}
+use Rattle.cr_meaning_units.specs.Owned.{declared_by, is_declared, declares, owns_by, owns, AreOfUnit, AreInitialisers, AreDeclaredOnce, is_owner, IsBody, AreBodies}
 use Rattle.cr_meaning_units.proofs.Rows.{clear_side}
-use Rattle.cr_meaning_units.proofs.Handing.{is_owner, without_owners, no_owners, OwnsNone, HandsOn, plain, leaf, bare, alone, either, constants, names, all_parts, part_there, none_of, kind_is}
+use Rattle.cr_meaning_units.proofs.Handing.{without_owners, no_owners, OwnsNone, HandsOn, plain, leaf, bare, alone, either, constants, names, all_parts, part_there, none_of, kind_is}
 
 module _ (t : Typed) (unit : AreOfUnit t) where
   -- ---- operands that are taken by turns
@@ -52,22 +52,15 @@ module _ (t : Typed) (unit : AreOfUnit t) where
   do_parts parts f (suc zero) part e = f 1 part e
   do_parts parts f (suc (suc k)) part e = absurd e
 
-  -- ---- calls: the body of a defined function is a block
+  -- ---- calls: they go on with a body
 
-  block_owns_none : (node : ℕ) → kind_at t node ≡ kind.Compound → OwnsNone t node
-  block_owns_none node e declared o = by (slice_get t.nodes node) refl
-    where
-      by : (o : Option Node) → slice_get t.nodes node ≡ o → ⊥
-      by None at = let never : kind.Break ≡ kind.Compound = sym (ap kind_if at) ∙ e in cc
-      by (Some n) at = let F : Kind → Type 0 = λ k. is_owner k ≡ false in none_of t node n at (subst F (sym (sym (kind_is t node n at) ∙ e)) refl) declared o
-
-  calls : (node : ℕ) (c : Callee) (parts : List ℕ) → ((parameters : List Parameter) (rest : ℕ) (is_main : Bool) → c ≡ Function parameters rest is_main → kind_at t rest ≡ kind.Compound)
+  calls : (node : ℕ) (c : Callee) (parts : List ℕ) → ((parameters : List Parameter) (rest : ℕ) (is_main : Bool) → c ≡ Function parameters rest is_main → IsBody t rest)
       → ((k part : ℕ) → slice_get parts k ≡ Some part → OwnsNone t part) → HandsOn t node (node_op parts (work.Call c))
   calls node (Function parameters rest is_main) parts d f = plain t node (node_op parts (work.Call (Function parameters rest is_main))) refl by
     where
       by : (k part : ℕ) → (slice_get parts k ≡ Some part) ⊎ ((k ≡ length parts) × (rest ≡ part)) → OwnsNone t part
       by k part (inl e) = f k part e
-      by k part (inr e) = subst (OwnsNone t) e.1 (block_owns_none rest (d parameters rest is_main refl))
+      by k part (inr e) = let body = d parameters rest is_main refl in subst (OwnsNone t) e.1 (none_of t rest body.own body.at body.plain)
   calls node c parts d f = leaf t node _ parts _ refl f
 
   -- ---- addresses: `&*E` and `&E[I]` take the parts of their operand
@@ -155,73 +148,73 @@ module _ (t : Typed) (unit : AreOfUnit t) where
   is_simple kind.Default = true
   is_simple other = false
 
-  pub simple : (defined : AreDefined t) (node : ℕ) (n : Node) → slice_get t.nodes node ≡ Some n → (k : Kind) → kind_at t node ≡ k → is_simple k ≡ true → HandsOn t node (op_by t node k)
+  pub simple : (bodies : AreBodies t) (node : ℕ) (n : Node) → slice_get t.nodes node ≡ Some n → (k : Kind) → kind_at t node ≡ k → is_simple k ≡ true → HandsOn t node (op_by t node k)
   unfolding rule_of
-  simple defined node n at kind.Comma e h = leaf t node _ (parts_at t node) _ refl (all_parts t unit node kind.Comma e refl)
-  simple defined node n at kind.Assign e h = leaf t node _ (parts_at t node) _ refl (all_parts t unit node kind.Assign e refl)
-  simple defined node n at kind.MultiplyAssign e h = leaf t node _ (parts_at t node) _ refl (all_parts t unit node kind.MultiplyAssign e refl)
-  simple defined node n at kind.DivideAssign e h = leaf t node _ (parts_at t node) _ refl (all_parts t unit node kind.DivideAssign e refl)
-  simple defined node n at kind.RemainderAssign e h = leaf t node _ (parts_at t node) _ refl (all_parts t unit node kind.RemainderAssign e refl)
-  simple defined node n at kind.AddAssign e h = leaf t node _ (parts_at t node) _ refl (all_parts t unit node kind.AddAssign e refl)
-  simple defined node n at kind.SubtractAssign e h = leaf t node _ (parts_at t node) _ refl (all_parts t unit node kind.SubtractAssign e refl)
-  simple defined node n at kind.ShiftLeftAssign e h = leaf t node _ (parts_at t node) _ refl (all_parts t unit node kind.ShiftLeftAssign e refl)
-  simple defined node n at kind.ShiftRightAssign e h = leaf t node _ (parts_at t node) _ refl (all_parts t unit node kind.ShiftRightAssign e refl)
-  simple defined node n at kind.AndAssign e h = leaf t node _ (parts_at t node) _ refl (all_parts t unit node kind.AndAssign e refl)
-  simple defined node n at kind.XorAssign e h = leaf t node _ (parts_at t node) _ refl (all_parts t unit node kind.XorAssign e refl)
-  simple defined node n at kind.OrAssign e h = leaf t node _ (parts_at t node) _ refl (all_parts t unit node kind.OrAssign e refl)
-  simple defined node n at kind.LogicalOr e h = leaf t node _ (parts_at t node) _ refl (all_parts t unit node kind.LogicalOr e refl)
-  simple defined node n at kind.LogicalAnd e h = leaf t node _ (parts_at t node) _ refl (all_parts t unit node kind.LogicalAnd e refl)
-  simple defined node n at kind.Or e h = leaf t node _ (parts_at t node) _ refl (all_parts t unit node kind.Or e refl)
-  simple defined node n at kind.Xor e h = leaf t node _ (parts_at t node) _ refl (all_parts t unit node kind.Xor e refl)
-  simple defined node n at kind.And e h = leaf t node _ (parts_at t node) _ refl (all_parts t unit node kind.And e refl)
-  simple defined node n at kind.ShiftLeft e h = leaf t node _ (parts_at t node) _ refl (all_parts t unit node kind.ShiftLeft e refl)
-  simple defined node n at kind.ShiftRight e h = leaf t node _ (parts_at t node) _ refl (all_parts t unit node kind.ShiftRight e refl)
-  simple defined node n at kind.Add e h = leaf t node _ (parts_at t node) _ refl (all_parts t unit node kind.Add e refl)
-  simple defined node n at kind.Multiply e h = leaf t node _ (parts_at t node) _ refl (all_parts t unit node kind.Multiply e refl)
-  simple defined node n at kind.Divide e h = leaf t node _ (parts_at t node) _ refl (all_parts t unit node kind.Divide e refl)
-  simple defined node n at kind.Remainder e h = leaf t node _ (parts_at t node) _ refl (all_parts t unit node kind.Remainder e refl)
-  simple defined node n at kind.PreIncrement e h = leaf t node _ (parts_at t node) _ refl (all_parts t unit node kind.PreIncrement e refl)
-  simple defined node n at kind.PreDecrement e h = leaf t node _ (parts_at t node) _ refl (all_parts t unit node kind.PreDecrement e refl)
-  simple defined node n at kind.Dereference e h = leaf t node _ (parts_at t node) _ refl (all_parts t unit node kind.Dereference e refl)
-  simple defined node n at kind.Plus e h = leaf t node _ (parts_at t node) _ refl (all_parts t unit node kind.Plus e refl)
-  simple defined node n at kind.Minus e h = leaf t node _ (parts_at t node) _ refl (all_parts t unit node kind.Minus e refl)
-  simple defined node n at kind.Complement e h = leaf t node _ (parts_at t node) _ refl (all_parts t unit node kind.Complement e refl)
-  simple defined node n at kind.Not e h = leaf t node _ (parts_at t node) _ refl (all_parts t unit node kind.Not e refl)
-  simple defined node n at kind.Subscript e h = leaf t node _ (parts_at t node) _ refl (all_parts t unit node kind.Subscript e refl)
-  simple defined node n at kind.Member e h = leaf t node _ (parts_at t node) _ refl (all_parts t unit node kind.Member e refl)
-  simple defined node n at kind.PointerMember e h = leaf t node _ (parts_at t node) _ refl (all_parts t unit node kind.PointerMember e refl)
-  simple defined node n at kind.PostIncrement e h = leaf t node _ (parts_at t node) _ refl (all_parts t unit node kind.PostIncrement e refl)
-  simple defined node n at kind.PostDecrement e h = leaf t node _ (parts_at t node) _ refl (all_parts t unit node kind.PostDecrement e refl)
-  simple defined node n at kind.Group e h = leaf t node _ (parts_at t node) _ refl (all_parts t unit node kind.Group e refl)
-  simple defined node n at kind.ExpressionStatement e h = leaf t node _ (parts_at t node) _ refl (all_parts t unit node kind.ExpressionStatement e refl)
-  simple defined node n at kind.Return e h = leaf t node _ (parts_at t node) _ refl (all_parts t unit node kind.Return e refl)
-  simple defined node n at kind.Equal e h = either t node _ _ _ (leaf t node _ (parts_at t node) _ refl (all_parts t unit node kind.Equal e refl)) (leaf t node _ (parts_at t node) _ refl (all_parts t unit node kind.Equal e refl))
-  simple defined node n at kind.NotEqual e h = either t node _ _ _ (leaf t node _ (parts_at t node) _ refl (all_parts t unit node kind.NotEqual e refl)) (leaf t node _ (parts_at t node) _ refl (all_parts t unit node kind.NotEqual e refl))
-  simple defined node n at kind.Less e h = either t node _ _ _ (leaf t node _ (parts_at t node) _ refl (all_parts t unit node kind.Less e refl)) (leaf t node _ (parts_at t node) _ refl (all_parts t unit node kind.Less e refl))
-  simple defined node n at kind.Greater e h = either t node _ _ _ (leaf t node _ (parts_at t node) _ refl (all_parts t unit node kind.Greater e refl)) (leaf t node _ (parts_at t node) _ refl (all_parts t unit node kind.Greater e refl))
-  simple defined node n at kind.LessEqual e h = either t node _ _ _ (leaf t node _ (parts_at t node) _ refl (all_parts t unit node kind.LessEqual e refl)) (leaf t node _ (parts_at t node) _ refl (all_parts t unit node kind.LessEqual e refl))
-  simple defined node n at kind.GreaterEqual e h = either t node _ _ _ (leaf t node _ (parts_at t node) _ refl (all_parts t unit node kind.GreaterEqual e refl)) (leaf t node _ (parts_at t node) _ refl (all_parts t unit node kind.GreaterEqual e refl))
-  simple defined node n at kind.Subtract e h = either t node _ _ _ (leaf t node _ (parts_at t node) _ refl (all_parts t unit node kind.Subtract e refl)) (leaf t node _ (parts_at t node) _ refl (all_parts t unit node kind.Subtract e refl))
-  simple defined node n at kind.SizeofExpression e h = constants t node (slice_index_or t.constants node None)
-  simple defined node n at kind.SizeofType e h = constants t node (slice_index_or t.constants node None)
-  simple defined node n at kind.Integer e h = constants t node (slice_index_or t.constants node None)
-  simple defined node n at kind.Character e h = constants t node (slice_index_or t.constants node None)
-  simple defined node n at kind.Text e h = leaf t node _ [] _ refl (bare t)
-  simple defined node n at kind.Goto e h = leaf t node _ [] _ refl (bare t)
-  simple defined node n at kind.Break e h = leaf t node _ [] _ refl (bare t)
-  simple defined node n at kind.Continue e h = leaf t node _ [] _ refl (bare t)
-  simple defined node n at kind.Identifier e h = names t node (slice_index_or t.constants node None)
-  simple defined node n at kind.Conditional e h = plain t node (op_by t node kind.Conditional) refl (choice_parts (form_of t (slice_index_or t.types node 0)) (parts_at t node) (all_parts t unit node kind.Conditional e refl))
-  simple defined node n at kind.If e h = plain t node (op_by t node kind.If) refl (if_parts (parts_at t node) (all_parts t unit node kind.If e refl))
-  simple defined node n at kind.While e h = plain t node (op_by t node kind.While) refl (while_parts (parts_at t node) (all_parts t unit node kind.While e refl))
-  simple defined node n at kind.Do e h = plain t node (op_by t node kind.Do) refl (do_parts (parts_at t node) (all_parts t unit node kind.Do e refl))
-  simple defined node n at kind.Cast e h = leaf t node _ (part_at t node 1 ∷ []) _ refl (alone t (part_at t node 1) (all_parts t unit node kind.Cast e refl 1 (part_at t node 1) (part_there t unit node n kind.Cast 1 at e (omega arith))))
-  simple defined node n at kind.AddressOf e h = addresses node (part_at t node 0) (kind_at t (part_at t node 0)) refl (all_parts t unit node kind.AddressOf e refl)
-  simple defined node n at kind.Call e h = calls node (callee_of t node) (parts_at t node) (λ parameters rest is_main is. defined node parameters rest is_main e is) (all_parts t unit node kind.Call e refl)
-  simple defined node n at kind.Label e h = leaf t node _ (labelled t node ∷ []) _ refl (alone t (labelled t node) (subst (OwnsNone t) (sym (label_part node (ap is_case e)))
+  simple bodies node n at kind.Comma e h = leaf t node _ (parts_at t node) _ refl (all_parts t unit node kind.Comma e refl)
+  simple bodies node n at kind.Assign e h = leaf t node _ (parts_at t node) _ refl (all_parts t unit node kind.Assign e refl)
+  simple bodies node n at kind.MultiplyAssign e h = leaf t node _ (parts_at t node) _ refl (all_parts t unit node kind.MultiplyAssign e refl)
+  simple bodies node n at kind.DivideAssign e h = leaf t node _ (parts_at t node) _ refl (all_parts t unit node kind.DivideAssign e refl)
+  simple bodies node n at kind.RemainderAssign e h = leaf t node _ (parts_at t node) _ refl (all_parts t unit node kind.RemainderAssign e refl)
+  simple bodies node n at kind.AddAssign e h = leaf t node _ (parts_at t node) _ refl (all_parts t unit node kind.AddAssign e refl)
+  simple bodies node n at kind.SubtractAssign e h = leaf t node _ (parts_at t node) _ refl (all_parts t unit node kind.SubtractAssign e refl)
+  simple bodies node n at kind.ShiftLeftAssign e h = leaf t node _ (parts_at t node) _ refl (all_parts t unit node kind.ShiftLeftAssign e refl)
+  simple bodies node n at kind.ShiftRightAssign e h = leaf t node _ (parts_at t node) _ refl (all_parts t unit node kind.ShiftRightAssign e refl)
+  simple bodies node n at kind.AndAssign e h = leaf t node _ (parts_at t node) _ refl (all_parts t unit node kind.AndAssign e refl)
+  simple bodies node n at kind.XorAssign e h = leaf t node _ (parts_at t node) _ refl (all_parts t unit node kind.XorAssign e refl)
+  simple bodies node n at kind.OrAssign e h = leaf t node _ (parts_at t node) _ refl (all_parts t unit node kind.OrAssign e refl)
+  simple bodies node n at kind.LogicalOr e h = leaf t node _ (parts_at t node) _ refl (all_parts t unit node kind.LogicalOr e refl)
+  simple bodies node n at kind.LogicalAnd e h = leaf t node _ (parts_at t node) _ refl (all_parts t unit node kind.LogicalAnd e refl)
+  simple bodies node n at kind.Or e h = leaf t node _ (parts_at t node) _ refl (all_parts t unit node kind.Or e refl)
+  simple bodies node n at kind.Xor e h = leaf t node _ (parts_at t node) _ refl (all_parts t unit node kind.Xor e refl)
+  simple bodies node n at kind.And e h = leaf t node _ (parts_at t node) _ refl (all_parts t unit node kind.And e refl)
+  simple bodies node n at kind.ShiftLeft e h = leaf t node _ (parts_at t node) _ refl (all_parts t unit node kind.ShiftLeft e refl)
+  simple bodies node n at kind.ShiftRight e h = leaf t node _ (parts_at t node) _ refl (all_parts t unit node kind.ShiftRight e refl)
+  simple bodies node n at kind.Add e h = leaf t node _ (parts_at t node) _ refl (all_parts t unit node kind.Add e refl)
+  simple bodies node n at kind.Multiply e h = leaf t node _ (parts_at t node) _ refl (all_parts t unit node kind.Multiply e refl)
+  simple bodies node n at kind.Divide e h = leaf t node _ (parts_at t node) _ refl (all_parts t unit node kind.Divide e refl)
+  simple bodies node n at kind.Remainder e h = leaf t node _ (parts_at t node) _ refl (all_parts t unit node kind.Remainder e refl)
+  simple bodies node n at kind.PreIncrement e h = leaf t node _ (parts_at t node) _ refl (all_parts t unit node kind.PreIncrement e refl)
+  simple bodies node n at kind.PreDecrement e h = leaf t node _ (parts_at t node) _ refl (all_parts t unit node kind.PreDecrement e refl)
+  simple bodies node n at kind.Dereference e h = leaf t node _ (parts_at t node) _ refl (all_parts t unit node kind.Dereference e refl)
+  simple bodies node n at kind.Plus e h = leaf t node _ (parts_at t node) _ refl (all_parts t unit node kind.Plus e refl)
+  simple bodies node n at kind.Minus e h = leaf t node _ (parts_at t node) _ refl (all_parts t unit node kind.Minus e refl)
+  simple bodies node n at kind.Complement e h = leaf t node _ (parts_at t node) _ refl (all_parts t unit node kind.Complement e refl)
+  simple bodies node n at kind.Not e h = leaf t node _ (parts_at t node) _ refl (all_parts t unit node kind.Not e refl)
+  simple bodies node n at kind.Subscript e h = leaf t node _ (parts_at t node) _ refl (all_parts t unit node kind.Subscript e refl)
+  simple bodies node n at kind.Member e h = leaf t node _ (parts_at t node) _ refl (all_parts t unit node kind.Member e refl)
+  simple bodies node n at kind.PointerMember e h = leaf t node _ (parts_at t node) _ refl (all_parts t unit node kind.PointerMember e refl)
+  simple bodies node n at kind.PostIncrement e h = leaf t node _ (parts_at t node) _ refl (all_parts t unit node kind.PostIncrement e refl)
+  simple bodies node n at kind.PostDecrement e h = leaf t node _ (parts_at t node) _ refl (all_parts t unit node kind.PostDecrement e refl)
+  simple bodies node n at kind.Group e h = leaf t node _ (parts_at t node) _ refl (all_parts t unit node kind.Group e refl)
+  simple bodies node n at kind.ExpressionStatement e h = leaf t node _ (parts_at t node) _ refl (all_parts t unit node kind.ExpressionStatement e refl)
+  simple bodies node n at kind.Return e h = leaf t node _ (parts_at t node) _ refl (all_parts t unit node kind.Return e refl)
+  simple bodies node n at kind.Equal e h = either t node _ _ _ (leaf t node _ (parts_at t node) _ refl (all_parts t unit node kind.Equal e refl)) (leaf t node _ (parts_at t node) _ refl (all_parts t unit node kind.Equal e refl))
+  simple bodies node n at kind.NotEqual e h = either t node _ _ _ (leaf t node _ (parts_at t node) _ refl (all_parts t unit node kind.NotEqual e refl)) (leaf t node _ (parts_at t node) _ refl (all_parts t unit node kind.NotEqual e refl))
+  simple bodies node n at kind.Less e h = either t node _ _ _ (leaf t node _ (parts_at t node) _ refl (all_parts t unit node kind.Less e refl)) (leaf t node _ (parts_at t node) _ refl (all_parts t unit node kind.Less e refl))
+  simple bodies node n at kind.Greater e h = either t node _ _ _ (leaf t node _ (parts_at t node) _ refl (all_parts t unit node kind.Greater e refl)) (leaf t node _ (parts_at t node) _ refl (all_parts t unit node kind.Greater e refl))
+  simple bodies node n at kind.LessEqual e h = either t node _ _ _ (leaf t node _ (parts_at t node) _ refl (all_parts t unit node kind.LessEqual e refl)) (leaf t node _ (parts_at t node) _ refl (all_parts t unit node kind.LessEqual e refl))
+  simple bodies node n at kind.GreaterEqual e h = either t node _ _ _ (leaf t node _ (parts_at t node) _ refl (all_parts t unit node kind.GreaterEqual e refl)) (leaf t node _ (parts_at t node) _ refl (all_parts t unit node kind.GreaterEqual e refl))
+  simple bodies node n at kind.Subtract e h = either t node _ _ _ (leaf t node _ (parts_at t node) _ refl (all_parts t unit node kind.Subtract e refl)) (leaf t node _ (parts_at t node) _ refl (all_parts t unit node kind.Subtract e refl))
+  simple bodies node n at kind.SizeofExpression e h = constants t node (slice_index_or t.constants node None)
+  simple bodies node n at kind.SizeofType e h = constants t node (slice_index_or t.constants node None)
+  simple bodies node n at kind.Integer e h = constants t node (slice_index_or t.constants node None)
+  simple bodies node n at kind.Character e h = constants t node (slice_index_or t.constants node None)
+  simple bodies node n at kind.Text e h = leaf t node _ [] _ refl (bare t)
+  simple bodies node n at kind.Goto e h = leaf t node _ [] _ refl (bare t)
+  simple bodies node n at kind.Break e h = leaf t node _ [] _ refl (bare t)
+  simple bodies node n at kind.Continue e h = leaf t node _ [] _ refl (bare t)
+  simple bodies node n at kind.Identifier e h = names t node (slice_index_or t.constants node None)
+  simple bodies node n at kind.Conditional e h = plain t node (op_by t node kind.Conditional) refl (choice_parts (form_of t (slice_index_or t.types node 0)) (parts_at t node) (all_parts t unit node kind.Conditional e refl))
+  simple bodies node n at kind.If e h = plain t node (op_by t node kind.If) refl (if_parts (parts_at t node) (all_parts t unit node kind.If e refl))
+  simple bodies node n at kind.While e h = plain t node (op_by t node kind.While) refl (while_parts (parts_at t node) (all_parts t unit node kind.While e refl))
+  simple bodies node n at kind.Do e h = plain t node (op_by t node kind.Do) refl (do_parts (parts_at t node) (all_parts t unit node kind.Do e refl))
+  simple bodies node n at kind.Cast e h = leaf t node _ (part_at t node 1 ∷ []) _ refl (alone t (part_at t node 1) (all_parts t unit node kind.Cast e refl 1 (part_at t node 1) (part_there t unit node n kind.Cast 1 at e (omega arith))))
+  simple bodies node n at kind.AddressOf e h = addresses node (part_at t node 0) (kind_at t (part_at t node 0)) refl (all_parts t unit node kind.AddressOf e refl)
+  simple bodies node n at kind.Call e h = calls node (callee_of t node) (parts_at t node) (λ parameters rest is_main is. bodies node parameters rest is_main e is) (all_parts t unit node kind.Call e refl)
+  simple bodies node n at kind.Label e h = leaf t node _ (labelled t node ∷ []) _ refl (alone t (labelled t node) (subst (OwnsNone t) (sym (label_part node (ap is_case e)))
       (all_parts t unit node kind.Label e refl 0 (part_at t node 0) (part_there t unit node n kind.Label 0 at e (omega arith)))))
-  simple defined node n at kind.Default e h = leaf t node _ (labelled t node ∷ []) _ refl (alone t (labelled t node) (subst (OwnsNone t) (sym (label_part node (ap is_case e)))
+  simple bodies node n at kind.Default e h = leaf t node _ (labelled t node ∷ []) _ refl (alone t (labelled t node) (subst (OwnsNone t) (sym (label_part node (ap is_case e)))
       (all_parts t unit node kind.Default e refl 0 (part_at t node 0) (part_there t unit node n kind.Default 0 at e (omega arith)))))
-  simple defined node n at kind.Case e h = leaf t node _ (labelled t node ∷ []) _ refl (alone t (labelled t node) (subst (OwnsNone t) (sym (case_part node (ap is_case e)))
+  simple bodies node n at kind.Case e h = leaf t node _ (labelled t node ∷ []) _ refl (alone t (labelled t node) (subst (OwnsNone t) (sym (case_part node (ap is_case e)))
       (all_parts t unit node kind.Case e refl 1 (part_at t node 1) (part_there t unit node n kind.Case 1 at e (omega arith)))))
-  simple defined node n at k e h = absurd (false≢true h)
+  simple bodies node n at k e h = absurd (false≢true h)

@@ -68,14 +68,29 @@ AreInitialisers t = (node k : ℕ) (put : Put) → slice_get (slice_index_or t.p
 abbrev pub AreDeclaredOnce : Typed → Type 0
 AreDeclaredOnce t = (declarator : ℕ) → is_automatic t declarator ≡ true → entity_of t (name_of t declarator) ≡ name_of t declarator
 
--- a called function is defined (6.9p5), so that its body is a block
-abbrev pub AreDefined : Typed → Type 0
-AreDefined t = (node : ℕ) (parameters : List Parameter) (rest : ℕ) (is_main : Bool) → kind_at t node ≡ kind.Call → callee_of t node ≡ Function parameters rest is_main
-    → kind_at t rest ≡ kind.Compound
+-- kinds of nodes with declarators of their own
+abbrev pub is_owner : Kind → Bool
+is_owner kind.Declaration = true
+is_owner kind.InitDeclarator = true
+is_owner kind.NameDeclarator = true
+is_owner kind.PointerDeclarator = true
+is_owner kind.GroupDeclarator = true
+is_owner kind.ArrayDeclarator = true
+is_owner other = false
+
+-- a node that declares nothing by itself, as the block that is the body of a function (6.9.1)
+pub record IsBody (t : Typed) (node : ℕ) : Type 0 where
+  pub own : Node
+  pub at : slice_get t.nodes node ≡ Some own
+  pub plain : is_owner own.kind ≡ false
+
+-- what a call of a function goes on with is such a node
+abbrev pub AreBodies : Typed → Type 0
+AreBodies t = (node : ℕ) (parameters : List Parameter) (rest : ℕ) (is_main : Bool) → kind_at t node ≡ kind.Call → callee_of t node ≡ Function parameters rest is_main → IsBody t rest
 
 -- all of it: what the grammar, the initialisers and the names of a unit give
 pub record IsWellDeclared (t : Typed) : Type 0 where
   pub of_unit : AreOfUnit t
   pub initialisers : AreInitialisers t
   pub once : AreDeclaredOnce t
-  pub defined : AreDefined t
+  pub bodies : AreBodies t

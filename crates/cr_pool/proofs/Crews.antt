@@ -7,7 +7,7 @@ use Rattle.cr_core.specs.declared.events.First.{First}
 use Rattle.cr_core.specs.declared.events.First.TheVariants as first
 use Rattle.cr_core.specs.declared.marks.HitKind.{HitKind}
 use Rattle.cr_core.specs.declared.marks.HitKind.TheVariants.{Yes, Failed, Starved}
-use Rattle.cr_core.specs.declared.marks.Mark.TheVariants.{Open}
+use Rattle.cr_core.specs.declared.marks.Mark.TheVariants.{Open, No, Hit}
 use Rattle.cr_core.specs.Row.{Row, marked, placed, under}
 use Rattle.cr_core.specs.Sound.{Sum, total}
 use Rattle.cr_core.specs.State.{IsFirst}
@@ -22,13 +22,15 @@ use Rattle.cr_pool.specs.declared.job.EpochEnd.TheVariants as ending
 use Rattle.cr_pool.specs.declared.job.Job.{Job}
 use Rattle.cr_pool.specs.Crew.{HaveSameJudges, IsSameButPass, IsWorked, judges_in, row_of, rows_of}
 use Rattle.cr_pool.specs.declared.verdict.Verdict.{Verdict}
-use Rattle.cr_pool.specs.Endings.{IsEnd, IsEndAt, IsHitter, IsNoted, TakesNotes, decided_at}
-use Rattle.cr_pool.specs.Epoch.{AsksAt, AsksOnce, EndsBy, Epoch, IsFound, Remembers, WasFound, decided_by, times, variant_of}
+use Rattle.cr_pool.specs.Endings.{IsEnd, IsEndAt, IsHitter, IsNote, IsNoted, NoneNoted, TakesNotes, decided_at}
+use Rattle.cr_pool.specs.Epoch.{ArePut, AsksAt, AsksOnce, CameTo, EndsBy, Epoch, HaveDecided, IsFound, Remembers, times, variant_of}
 use Rattle.cr_pool.specs.Jobs.{IsJudged, epoch_of}
-use Rattle.cr_pool.specs.Kept.{Kept, Keeps}
+use Rattle.cr_pool.specs.Kept.{Kept}
+use Rattle.cr_pool.specs.Sizes.{IsSmaller}
 use Rattle.cr_pool.specs.Tally.{HaveOneKey, Tally, first_says, no_tally, tallies_of, tally_at, tally_of}
-use Rattle.cr_pool.specs.Works.{HitIsSo, NotesAreSo, Works}
-use Rattle.cr_pool.proofs.Ends.{asks_once, fault, found, hit_by, rejected_below, row_at, was_found, within}
+use Rattle.cr_pool.specs.Works.{HitIsSo, NotesAreSo, NotesTell, Works}
+use Rattle.cr_pool.proofs.Ends.{asks_once, fault, found, hit_by, rejected_below, row_at, some_of, was_verdict, within}
+use Rattle.cr_pool.proofs.Sums.{low_or_high}
 use Rattle.cr_pool.proofs.Tries.{asks_none}
 
 -- an element by its place, whatever stands behind the end
@@ -191,6 +193,17 @@ module _ {P I L Q J K : Type 0} (passes : PassesGhosts P I) (law : LawGhosts L) 
       (subst (λ m. NotesAreSo epoch m (tally_of judge u.judge) u.notes.items) (tally_then k d h')
       (subst (λ s. NotesAreSo (e s) (tally_of judge v) (tally_of judge u.judge) u.notes.items) (says_it k d h') it)))
 
+  tells_at : (k : ℕ) → k < length before → NotesTell epoch (row_at (rows_of new) k) (notes_at after k)
+  tells_at k h =
+      let h' = below_old k h in
+      let d = (element old k h').0 in
+      let it = (worked k d h').tell in
+      let e : Says → Epoch = λ says. epoch_of passes law question job says kept in
+      let u = slice_index_or new k d in
+      subst (λ notes. NotesTell epoch (row_at (rows_of new) k) notes) (notes_there k d h')
+      (subst (λ r. NotesTell epoch r u.notes.items) (row_there k d h')
+      (subst (λ s. NotesTell (e s) (row_of u.pass) u.notes.items) (says_it k d h') it))
+
   same_count : length now ≡ length before
   same_count = omega (arith, length-map (judges_in old) (tally_of judge), length-map old (λ (w : Worker J). w.judge), length-map (judges_in new) (tally_of judge), length-map new (λ (w : Worker J). w.judge))
 
@@ -246,24 +259,62 @@ module _ {P I L Q J K : Type 0} (passes : PassesGhosts P I) (law : LawGhosts L) 
     ends first.None ending.NoMemory is it = absurd it
     ends (first.At i kind) end is it = ends_at i kind end is it
 
-    found_there : (file : List ℕ) (said : Verdict) (i : ℕ) → file ≡ variant_of epoch i → IsNoted after i said → WasFound epoch before now file said
-    found_there file said i is it =
+    came_some : (i : ℕ) (said : Verdict) → IsNoted after i said → CameTo epoch before now (variant_of epoch i) (Some said)
+    came_some i said it =
         let d = (element after it.0 it.1.0).0 in
         let below : it.0 < length before = omega (arith, it.1.0, length-map (judges_in old) (tally_of judge), length-map old (λ (w : Worker J). w.judge)) in
         let there : notes_at after it.0 ≡ (slice_index_or after it.0 d).notes.items = get_or-map (λ (w : Worker J). w.notes.items) after it.0 d [] it.1.0 in
         let note = ap (λ (notes : List (Option Verdict)). slice_index_or notes i None) there ∙ it.1.1 d in
         let so = noted_at it.0 below i said note in
-        subst (λ f. WasFound epoch before now f said) (sym is)
-        (was_found epoch before now (rows_of new) (hit_at after) (buffer_at after) same_count row_count works_at says_at sum sums it.0 below (variant_of epoch i) said so)
+        (so.0, was_verdict epoch before now (rows_of new) (hit_at after) (buffer_at after) same_count row_count works_at says_at sum sums it.0 below (variant_of epoch i) said so.1)
 
-    kept_or_found : (n : ℕ) (file : List ℕ) (said : Verdict) → Keeps kept file said ⊎ ((i : ℕ) × (i < n) × (file ≡ variant_of epoch i) × IsNoted after i said)
-        → Keeps kept file said ⊎ ((i : ℕ) × (i < n) × (file ≡ variant_of epoch i) × WasFound epoch before now file said)
-    kept_or_found n file said (inl was) = inl was
-    kept_or_found n file said (inr it) = inr (it.0, it.1, it.2, found_there file said it.0 it.2 it.3)
+    nothing_there : (i k : ℕ) → k < length before → NoneNoted after (length after) i → slice_index_or (notes_at after k) i None ≡ None
+    nothing_there i k below none =
+        let here = below_old k below in
+        let h : k < length after = omega (arith, here) in
+        let d = (element after k h).0 in
+        let there : notes_at after k ≡ (slice_index_or after k d).notes.items = get_or-map (λ (w : Worker J). w.notes.items) after k d [] h in
+        ap (λ (notes : List (Option Verdict)). slice_index_or notes i None) there ∙ none k d h
 
-    -- what is kept of their notes was found in the epoch
-    pub remembered : (n : ℕ) (kept_now : List Kept) → TakesNotes epoch.offer epoch.start n after kept kept_now → Remembers epoch before now n kept_now
-    remembered n kept_now takes file said keeps = kept_or_found n file said (takes file said keeps)
+    none_no : (i : ℕ) → 0 < sum (marked i No) → NoneNoted after (length after) i → IsSmaller (variant_of epoch i) epoch.file → ⊥
+    none_no i some none =
+        let it = some_of (marked i No) (rows_of new) (omega (arith, sums (marked i No), some)) in
+        let below : it.0 < length before = omega (arith, it.1, row_count) in
+        tells_at it.0 below i (inl it.2) (nothing_there i it.0 below none)
+
+    none_yes : (i : ℕ) → 0 < sum (marked i (Hit Yes)) → NoneNoted after (length after) i → IsSmaller (variant_of epoch i) epoch.file → ⊥
+    none_yes i some none =
+        let it = some_of (marked i (Hit Yes)) (rows_of new) (omega (arith, sums (marked i (Hit Yes)), some)) in
+        let below : it.0 < length before = omega (arith, it.1, row_count) in
+        tells_at it.0 below i (inr it.2) (nothing_there i it.0 below none)
+
+    -- what they noted of a position that was rejected, or is a hit that was answered yes, is what the epoch came to there
+    came_at : (i : ℕ) → (0 < sum (marked i No)) ⊎ (0 < sum (marked i (Hit Yes))) → (note : Option Verdict) → IsNote after i note → CameTo epoch before now (variant_of epoch i) note
+    came_at i marks (Some said) it = came_some i said it
+    came_at i (inl h) None it = none_no i h it
+    came_at i (inr h) None it = none_yes i h it
+
+    yes_marks : (i at : ℕ) → i < at + 1 → IsFirst epoch.len sum (first.At at Yes) → (at ≤ i) ⊎ (i < at) → (0 < sum (marked i No)) ⊎ (0 < sum (marked i (Hit Yes)))
+    yes_marks i at low is (inl up) = let there : at ≡ i = omega arith in inr (subst (λ (p : ℕ). 0 < sum (marked p (Hit Yes))) there ((is.at at Yes).0 refl).0)
+    yes_marks i at low is (inr less) = inl (((is.at at Yes).0 refl).1 i less)
+
+    decided_marks : (r : First) → IsFirst epoch.len sum r → (i : ℕ) → i < decided_at epoch.len r → (0 < sum (marked i No)) ⊎ (0 < sum (marked i (Hit Yes)))
+    decided_marks first.None is i low = inl (is.none.0 refl i low)
+    decided_marks (first.At at Yes) is i low = yes_marks i at low is (low_or_high at i)
+    decided_marks (first.At at Failed) is i low = inl (((is.at at Failed).0 refl).1 i low)
+    decided_marks (first.At at Starved) is i low = inl (((is.at at Starved).0 refl).1 i low)
+
+    put_by_notes : (r : First) → IsFirst epoch.len sum r → (n : ℕ) → n ≤ decided_at epoch.len r → (kept_now : List Kept) (lost : ℕ) → TakesNotes epoch.offer epoch.start n after kept kept_now lost
+        → ArePut epoch before now n kept_now lost
+    put_by_notes r is zero fits kept_now lost takes = takes
+    put_by_notes r is (suc n) fits kept_now lost takes =
+        let note = takes.3 in
+        (takes.0, takes.1, put_by_notes r is n (omega arith) takes.0 takes.1 takes.2, (note.0, came_at n (decided_marks r is n (omega arith)) note.0 note.1, note.2))
+
+    -- what is kept of their notes is what the epoch came to
+    pub remembered : (r : First) → IsFirst epoch.len sum r → (end : EpochEnd) → HaveDecided epoch end (decided_at epoch.len r) → (kept_now : List Kept) (lost : ℕ)
+        → TakesNotes epoch.offer epoch.start (decided_at epoch.len r) after kept kept_now lost → Remembers epoch before now end kept_now lost
+    remembered r is end decided kept_now lost takes = (decided_at epoch.len r, decided, put_by_notes r is (decided_at epoch.len r) (omega arith) kept_now lost takes)
 
     -- no trial is open
     pub nothing_open : (i : ℕ) → sum (marked i Open) ≡ 0
@@ -295,9 +346,9 @@ nothing_judged judge e judges = record {
   silent = λ quiet. refl;
 }
 
--- the first hit decides no more positions than the end says
+-- the first hit decides as many positions as the end says
 decided_with : {J : Type 0} (e : Epoch) (workers : List (Worker J)) (at : ℕ) (kind : HitKind) (end : EpochEnd) → at < e.len → IsEndAt e.start workers at kind end
-    → decided_at e.len (first.At at kind) ≤ decided_by e end
+    → HaveDecided e end (decided_at e.len (first.At at kind))
 decided_with e workers at Yes (ending.NoneOf n) within it = absurd it
 decided_with e workers at Yes (ending.Found position bytes) within it = omega (arith, it.0)
 decided_with e workers at Yes (ending.Fault position worker) within it = absurd it
@@ -311,10 +362,10 @@ decided_with e workers at Starved (ending.Found position bytes) within it = absu
 decided_with e workers at Starved (ending.Fault position worker) within it = absurd it
 decided_with e workers at Starved ending.NoMemory within it = omega (arith, within)
 
-pub decided_no_more : {J : Type 0} (e : Epoch) (workers : List (Worker J)) (r : First) (end : EpochEnd) → ((at : ℕ) (kind : HitKind) → r ≡ first.At at kind → at < e.len)
-    → IsEnd e.start e.len workers r end → decided_at e.len r ≤ decided_by e end
-decided_no_more e workers first.None (ending.NoneOf n) within it = omega arith
-decided_no_more e workers first.None (ending.Found position bytes) within it = absurd it
-decided_no_more e workers first.None (ending.Fault position worker) within it = absurd it
-decided_no_more e workers first.None ending.NoMemory within it = absurd it
-decided_no_more e workers (first.At at kind) end within it = decided_with e workers at kind end (within at kind refl) it
+pub have_decided : {J : Type 0} (e : Epoch) (workers : List (Worker J)) (r : First) (end : EpochEnd) → ((at : ℕ) (kind : HitKind) → r ≡ first.At at kind → at < e.len)
+    → IsEnd e.start e.len workers r end → HaveDecided e end (decided_at e.len r)
+have_decided e workers first.None (ending.NoneOf n) within it = refl
+have_decided e workers first.None (ending.Found position bytes) within it = absurd it
+have_decided e workers first.None (ending.Fault position worker) within it = absurd it
+have_decided e workers first.None ending.NoMemory within it = absurd it
+have_decided e workers (first.At at kind) end within it = decided_with e workers at kind end (within at kind refl) it

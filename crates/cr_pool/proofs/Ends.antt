@@ -17,7 +17,8 @@ use Rattle.cr_pool.specs.Epoch.Known.{by_judge, by_kept}
 use Rattle.cr_pool.specs.Tally.{Tally, asked_in, tally_at}
 use Rattle.cr_pool.specs.Trials.IsRejected.{not_smaller, unlawful, answered_no}
 use Rattle.cr_pool.proofs.Works.{one_of}
-use Rattle.cr_pool.specs.Works.{HitIsSo, HitSays, RejectsAt, VerdictIsSo, Works}
+use Rattle.cr_pool.specs.Kept.{IsKept, Keeps}
+use Rattle.cr_pool.specs.Works.{HitIsSo, HitSays, IsVerdict, RejectsAt, VerdictIsSo, Works}
 
 abbrev pub row_at : List Row → ℕ → Row
 row_at rows k = slice_index_or rows k []
@@ -28,7 +29,7 @@ some_part : (f : Row → ℕ) (row : Row) (rows : List Row) → ((0 < f row) ⊎
 some_part f row rows (inl here) later = (zero, omega arith, here)
 some_part f row rows (inr there) later = let it = later there in (suc it.0, omega (arith, it.1), it.2)
 
-some_of : (f : Row → ℕ) (rows : List Row) → 0 < total f rows → (k : ℕ) × (k < length rows) × (0 < f (row_at rows k))
+pub some_of : (f : Row → ℕ) (rows : List Row) → 0 < total f rows → (k : ℕ) × (k < length rows) × (0 < f (row_at rows k))
 some_of f [] h = absurd (omega arith)
 some_of f (row ∷ rows) h = some_part f row rows (one_of (f row) (total f rows) h) (some_of f rows)
 
@@ -75,10 +76,15 @@ module _ (e : Epoch) (before now : List Tally) (rows : List Row) (hits : ℕ →
   answered_by k below variant answer (by_kept kept told) = was_kept kept told
 
   -- a worker's verdict was found in the epoch
-  pub was_found : (k : ℕ) → k < length before → (file : List ℕ) (v : Verdict) → VerdictIsSo e (tally_at before k) (tally_at now k) file v → WasFound e before now file v
+  was_found : (k : ℕ) → k < length before → (file : List ℕ) (v : Verdict) → VerdictIsSo e (tally_at before k) (tally_at now k) file v → WasFound e before now file v
   was_found k below file verdict.Unlawful so = so
   was_found k below file verdict.Yes so = (so.0, answered_by k below file AnswerYes so.1)
   was_found k below file verdict.No so = (so.0, answered_by k below file AnswerNo so.1)
+
+  pub was_verdict : (k : ℕ) → k < length before → (file : List ℕ) (v : Verdict) → IsVerdict e (tally_at before k) (tally_at now k) file v
+      → Keeps e.kept file v ⊎ ((IsKept e.kept file → ⊥) × WasFound e before now file v)
+  was_verdict k below file v (inl was) = inl was
+  was_verdict k below file v (inr it) = inr (it.0, was_found k below file v it.1)
 
   rejected_by : (k : ℕ) → k < length before → (i : ℕ) → RejectsAt e (tally_at before k) (tally_at now k) i → IsRejectedAt e before now i
   rejected_by k below i (not_smaller large) = not_smaller large

@@ -1,15 +1,21 @@
 -- A cache of verdicts as the list of what it keeps.
-use Rattle.std.proofs.Common.{◌≡◌, ◌<◌, ◌⊎◌, inl, inr, ℕ, zero, suc, Bool, true, false, cond, List, [], ◌∷◌, Contains, length, slice_index_or, Option, Some, None, Result, Ok, Err, OnOk, OnErr, refl, sym, ap, subst, ◌∙◌, arith}
-use Rattle.std.specs.Map.{lookup}
+use Rattle.std.proofs.Common.{◌≡◌, ◌+◌, ◌-◌, ◌≤◌, ◌⊎◌, inl, inr, ℕ, zero, suc, Bool, true, false, cond, List, [], ◌∷◌, length, take, Option, Some, None, Result, Ok, Err, OnOk, OnErr, refl, sym, ap, ◌∙◌, arith}
+use Rattle.std.specs.Map.{lookup, lookup_entry, remove_entry}
+use Rattle.std.specs.Option.{option_map_or}
 use Rattle.std.specs.Str.{bytes_eq}
 use Rattle.std.specs.declared.vec.Vec.{Vec}
 use Rattle.std.proofs.lemmas.Bool.{true≢false}
+use Rattle.std.proofs.lemmas.List.{length-map, take-map, take_all}
 use Rattle.std.proofs.lemmas.Slice.Eq.{bytes_eq-Decides}
 use Rattle.lru.specs.LruCache.{LruCache, lru_cache, put_entries}
-use Rattle.lru.proofs.CallerLemmas.{Contains-put_entries, IsPut}
-use Rattle.lru.proofs.Splits.{Contains-head, Contains-tail}
+use Rattle.lru.proofs.CallerLemmas.{Contains-lookup_entry}
 use Rattle.cr_pool.specs.declared.verdict.Verdict.{Verdict}
-use Rattle.cr_pool.specs.Kept.{IsKept, Keeps, kept_in}
+use Rattle.cr_pool.specs.Kept.{IsKept, Keeps, Kept, kept_in, put_kept, without}
+
+most_taken : (n : ℕ) (ks : List Kept) → length (take n ks) ≤ n
+most_taken zero ks = omega arith
+most_taken (suc n) [] = omega arith
+most_taken (suc n) (k ∷ ks) = omega (arith, most_taken n ks)
 
 module _ {A : Type 0} where
   -- a look-up that finds a verdict finds one that is kept
@@ -32,43 +38,90 @@ module _ {A : Type 0} where
     | false ↦ λ other. none_below e es file other (none_kept es file (rw other at none)) kept
   ]) refl
 
-  -- what is kept is one of the pairs
-  pair_of : (es : List (Vec ℕ A × Verdict)) (file : List ℕ) (v : Verdict) → Keeps (kept_in es) file v → (e : Vec ℕ A × Verdict) × Contains es e × (e.0.items ≡ file) × (e.1 ≡ v)
-  pair_of [] file v kept = absurd kept
-  pair_of (e ∷ es) file v (inl here) = (e, Contains-head e es, here.0, here.1)
-  pair_of (e ∷ es) file v (inr there) = let it = pair_of es file v there in (it.0, Contains-tail e es it.0 it.1, it.2, it.3)
+  abbrev same_key : Vec ℕ A → Vec ℕ A → Bool
+  same_key k n = bytes_eq k.items n.items
 
-  keeps_at : (es : List (Vec ℕ A × Verdict)) (e : Vec ℕ A × Verdict) (k : ℕ) → k < length es → slice_index_or es k e ≡ e → Keeps (kept_in es) e.0.items e.1
-  keeps_at [] e k low is = absurd (omega arith)
-  keeps_at (x ∷ es) e zero low is = inl (ap (λ (p : Vec ℕ A × Verdict). p.0.items) is, ap (λ (p : Vec ℕ A × Verdict). p.1) is)
-  keeps_at (x ∷ es) e (suc k) low is = inr (keeps_at es e k (omega arith) is)
+  abbrev kept_of : Vec ℕ A × Verdict → Kept
+  kept_of e = record { file = e.0.items; verdict = e.1 }
 
-  keeps_pair : (es : List (Vec ℕ A × Verdict)) (e : Vec ℕ A × Verdict) (file : List ℕ) (v : Verdict) → Contains es e → e.0.items ≡ file → e.1 ≡ v → Keeps (kept_in es) file v
-  keeps_pair es e file v there same is =
-      subst (λ f. Keeps (kept_in es) f v) same (subst (λ w. Keeps (kept_in es) e.0.items w) is (keeps_at es e there.0 there.1 there.2))
+  module _ (key : Vec ℕ A) where
+    -- the pairs without the one of a key are the kept verdicts without the one on its file
+    without_is : (es : List (Vec ℕ A × Verdict)) → kept_in (remove_entry (same_key key) es) ≡ without key.items (kept_in es)
+    without_is [] = refl
+    without_is (e ∷ es) = elim (bytes_eq key.items e.0.items) as (λ y. kept_in (cond y es (e ∷ remove_entry (same_key key) es)) ≡ cond y (kept_in es) (kept_of e ∷ without key.items (kept_in es))) [
+      | true ↦ refl
+      | false ↦ ap (λ (ks : List Kept). kept_of e ∷ ks) (without_is es)
+    ]
 
-  module _ (c : LruCache (Vec ℕ A) Verdict) (key : Vec ℕ A) (w : Verdict) where
-    abbrev same_key : Vec ℕ A → Vec ℕ A → Bool
-    same_key k n = bytes_eq k.items n.items
+    nothing_goes : (es : List (Vec ℕ A × Verdict)) → lookup_entry (same_key key) es ≡ None → without key.items (kept_in es) ≡ kept_in es
+    nothing_goes [] none = refl
+    nothing_goes (e ∷ es) none = (elim (bytes_eq key.items e.0.items) as (λ y. bytes_eq key.items e.0.items ≡ y → without key.items (kept_in (e ∷ es)) ≡ kept_in (e ∷ es)) [
+      | true ↦ λ same. let here = rw same at none in cc
+      | false ↦ λ other. rw other (ap (λ (ks : List Kept). kept_of e ∷ ks) (nothing_goes es (rw other at none)))
+    ]) refl
 
-    put_on : (e : Vec ℕ A × Verdict) → ((e.0 ≡ key) ⊎ ((x : Verdict) × Contains c.entries (e.0, x) × (same_key key e.0 ≡ true))) → e.0.items ≡ key.items
-    put_on e (inl same) = ap (λ (k : Vec ℕ A). k.items) same
-    put_on e (inr it) = sym ((bytes_eq-Decides key.items e.0.items).0 it.2)
+    one_goes : (es : List (Vec ℕ A × Verdict)) (f : Vec ℕ A × Verdict) → lookup_entry (same_key key) es ≡ Some f → length (remove_entry (same_key key) es) + 1 ≡ length es
+    one_goes [] f found = cc
+    one_goes (e ∷ es) f found = (elim (bytes_eq key.items e.0.items) as (λ y. bytes_eq key.items e.0.items ≡ y → length (remove_entry (same_key key) (e ∷ es)) + 1 ≡ length (e ∷ es)) [
+      | true ↦ λ same. rw same (omega arith)
+      | false ↦ λ other. rw other (omega (arith, one_goes es f (rw other at found)))
+    ]) refl
 
-    by_put : (e : Vec ℕ A × Verdict) (file : List ℕ) (v : Verdict) → e.0.items ≡ file → e.1 ≡ v → Contains c.entries e ⊎ IsPut same_key c key w e
-        → Keeps (kept_in c.entries) file v ⊎ ((file ≡ key.items) × (v ≡ w))
-    by_put e file v same is (inl was) = inl (keeps_pair c.entries e file v was same is)
-    by_put e file v same is (inr put) = inr (sym same ∙ put_on e put.1, sym is ∙ put.0)
+    put_by : (c : LruCache (Vec ℕ A) Verdict) (w : Verdict) (n : ℕ) → c.cap ≡ suc n → length c.entries ≤ suc n → (o : Option (Vec ℕ A × Verdict)) → lookup_entry (same_key key) c.entries ≡ o
+        → kept_in (option_map_or (λ e. (e.0, w) ∷ remove_entry (same_key key) c.entries) o ((key, w) ∷ take (c.cap - 1) c.entries)) ≡ put_kept (suc n) key.items w (kept_in c.entries)
+    put_by c w n most few None none =
+        let room : c.cap - 1 ≡ n = omega (arith, most) in
+        let all : kept_in (take (c.cap - 1) c.entries) ≡ take n (without key.items (kept_in c.entries)) =
+        ap (λ (m : ℕ). kept_in (take m c.entries)) room ∙ sym (take-map kept_of n c.entries) ∙ ap (λ (ks : List Kept). take n ks) (sym (nothing_goes c.entries none)) in
+        ap (λ (ks : List Kept). record { file = key.items; verdict = w } ∷ ks) all
+    put_by c w n most few (Some f) found =
+        let same : f.0.items ≡ key.items = sym ((bytes_eq-Decides key.items f.0.items).0 (Contains-lookup_entry (same_key key) c.entries f found).1) in
+        let rest : List Kept = without key.items (kept_in c.entries) in
+        let fewer : length rest ≤ n = omega (arith, few, one_goes c.entries f found, length-map (remove_entry (same_key key) c.entries) kept_of, ap (λ (ks : List Kept). length ks) (without_is c.entries)) in
+        let all : kept_in (remove_entry (same_key key) c.entries) ≡ take n rest = without_is c.entries ∙ sym (take_all n rest fewer) in
+        ap (λ (file : List ℕ). record { file = file; verdict = w } ∷ kept_in (remove_entry (same_key key) c.entries)) same ∙ ap (λ (ks : List Kept). record { file = key.items; verdict = w } ∷ ks) all
 
-    -- what is kept after a put was kept before, or was put
-    pub keeps_put : (file : List ℕ) (v : Verdict) → Keeps (kept_in (put_entries same_key c key w)) file v → Keeps (kept_in c.entries) file v ⊎ ((file ≡ key.items) × (v ≡ w))
-    keeps_put file v kept =
-        let it = pair_of (put_entries same_key c key w) file v kept in
-        by_put it.0 file v it.2 it.3 (Contains-put_entries same_key c key w it.0 it.1)
+    -- A put into a cache is one into the list of what is kept.
+    pub put_is : (c : LruCache (Vec ℕ A) Verdict) (w : Verdict) → c.cap ≡ 256 → length c.entries ≤ 256 → kept_in (put_entries same_key c key w) ≡ put_kept 256 key.items w (kept_in c.entries)
+    put_is c w most few = put_by c w 255 most few (lookup_entry (same_key key) c.entries) refl
 
-    -- so it is after a put that may have failed
-    pub after_put : {T E : Type 0} (r : Result T E) (new : LruCache (Vec ℕ A) Verdict) (file : List ℕ) → key.items ≡ file → OnOk r (new ≡ lru_cache (put_entries same_key c key w) c.cap) → OnErr r (new ≡ c)
-        → (other : List ℕ) (v : Verdict) → Keeps (kept_in new.entries) other v → Keeps (kept_in c.entries) other v ⊎ ((other ≡ file) × (v ≡ w))
-    after_put (Ok x) new file is put same other v kept =
-        subst (λ f. Keeps (kept_in c.entries) other v ⊎ ((other ≡ f) × (v ≡ w))) is (keeps_put other v (subst (λ n. Keeps (kept_in n.entries) other v) put kept))
-    after_put (Err e) new file is put same other v kept = inl (subst (λ n. Keeps (kept_in n.entries) other v) same kept)
+    -- And no more than 256 are kept then.
+    pub few_put : (c : LruCache (Vec ℕ A) Verdict) (w : Verdict) → c.cap ≡ 256 → length c.entries ≤ 256 → length (put_entries same_key c key w) ≤ 256
+    few_put c w most few =
+        let all : List Kept = record { file = key.items; verdict = w } ∷ without key.items (kept_in c.entries) in
+        omega (arith, length-map (put_entries same_key c key w) kept_of, ap (λ (ks : List Kept). length ks) (put_is c w most few), most_taken 256 all)
+
+    -- The same of a cache that a put has left.
+    pub stored : (c new : LruCache (Vec ℕ A) Verdict) (w : Verdict) → new ≡ lru_cache (put_entries same_key c key w) c.cap → c.cap ≡ 256 → length c.entries ≤ 256
+        → kept_in new.entries ≡ put_kept 256 key.items w (kept_in c.entries)
+    stored c new w is most few = ap (λ (n : LruCache (Vec ℕ A) Verdict). kept_in n.entries) is ∙ put_is c w most few
+
+    pub few_stored : {T E : Type 0} (r : Result T E) (c new : LruCache (Vec ℕ A) Verdict) (w : Verdict) → OnOk r (new ≡ lru_cache (put_entries same_key c key w) c.cap) → OnErr r (new ≡ c)
+        → c.cap ≡ 256 → length c.entries ≤ 256 → length new.entries ≤ 256
+    few_stored (Ok x) c new w put same most few = omega (arith, ap (λ (n : LruCache (Vec ℕ A) Verdict). length n.entries) put, few_put c w most few)
+    few_stored (Err e) c new w put same most few = omega (arith, ap (λ (n : LruCache (Vec ℕ A) Verdict). length n.entries) same, few)
+
+keeps_take : (n : ℕ) (ks : List Kept) (file : List ℕ) (said : Verdict) → Keeps (take n ks) file said → Keeps ks file said
+keeps_take zero ks file said kept = absurd kept
+keeps_take (suc n) [] file said kept = kept
+keeps_take (suc n) (k ∷ ks) file said (inl here) = inl here
+keeps_take (suc n) (k ∷ ks) file said (inr there) = inr (keeps_take n ks file said there)
+
+keeps_without : (other : List ℕ) (ks : List Kept) (file : List ℕ) (said : Verdict) → Keeps (without other ks) file said → Keeps ks file said
+keeps_without other [] file said kept = kept
+keeps_without other (k ∷ ks) file said kept = (elim (bytes_eq other k.file) as (λ y. Keeps (cond y ks (k ∷ without other ks)) file said → Keeps (k ∷ ks) file said) [
+  | true ↦ λ there. inr there
+  | false ↦ λ there. elim there [
+    | inl here ↦ inl here
+    | inr later ↦ inr (keeps_without other ks file said later)
+  ]
+]) kept
+
+keeps_first : (other : List ℕ) (v : Verdict) (ks : List Kept) (file : List ℕ) (said : Verdict) → Keeps (record { file = other; verdict = v } ∷ without other ks) file said
+    → Keeps ks file said ⊎ ((file ≡ other) × (said ≡ v))
+keeps_first other v ks file said (inl here) = inr (sym here.0, sym here.1)
+keeps_first other v ks file said (inr there) = inl (keeps_without other ks file said there)
+
+-- What is kept after a put was kept before, or was put.
+pub keeps_put : (n : ℕ) (other : List ℕ) (v : Verdict) (ks : List Kept) (file : List ℕ) (said : Verdict) → Keeps (put_kept n other v ks) file said → Keeps ks file said ⊎ ((file ≡ other) × (said ≡ v))
+keeps_put n other v ks file said kept = keeps_first other v ks file said (keeps_take n (record { file = other; verdict = v } ∷ without other ks) file said kept)

@@ -9,3 +9,5 @@ mod Ends
 mod Crews
 mod More
 mod Remembering
+mod Notes
+mod Examples

@@ -23,8 +23,11 @@ no_size file fault n (inr it) other has = list_no_fault file has.tokens fault ha
 pub good_is_smaller : (Lawful : List ℕ → Type 0) (file variant : List ℕ) (size n : ℕ) → HasSize file size → IsGood Lawful variant size n → IsSmaller variant file
 good_is_smaller Lawful file variant size n is good = record { new_size = n; old_size = size; new_is = good.has; old_is = is; less = good.less }
 
--- What isn't below the file's size is rejected, whatever was answered.
+-- What isn't below the file's size isn't smaller.
+pub large_no_smaller : (file variant : List ℕ) (size : ℕ) → HasSize file size → IsLarge variant size → IsSmaller variant file → ⊥
+large_no_smaller file variant size is large smaller = omega (arith, large smaller.new_size smaller.new_is, one_size file smaller.old_size size smaller.old_is is, smaller.less)
+
+-- So it is rejected, whatever was answered.
 pub large_is_rejected : (Lawful : List ℕ → Type 0) (Answers : List ℕ → Answer → Type 0) (file variant : List ℕ) (size : ℕ) → HasSize file size → IsLarge variant size
     → IsRejected Lawful Answers file variant
-large_is_rejected Lawful Answers file variant size is large =
-    not_smaller (λ smaller. omega (arith, large smaller.new_size smaller.new_is, one_size file smaller.old_size size smaller.old_is is, smaller.less))
+large_is_rejected Lawful Answers file variant size is large = not_smaller (large_no_smaller file variant size is large)

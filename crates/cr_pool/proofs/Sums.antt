@@ -1,10 +1,20 @@
 -- Lists by their places, and sums over them.
-use Rattle.std.proofs.Common.{◌≡◌, ◌⊎◌, inl, inr, ℕ, ◌+◌, ◌<◌, List, [], ◌∷◌, length, map, set, slice_index_or, take, refl, ap, arith}
+use Rattle.std.proofs.Common.{◌≡◌, ◌⊎◌, inl, inr, ℕ, ◌+◌, ◌<◌, ◌≤◌, List, [], ◌∷◌, length, map, set, slice_index_or, take, refl, ap, arith}
 use Prim.Native.Nat.{zero, suc}
 use Rattle.std.proofs.lemmas.List.{map_more}
 use Rattle.cr_core.specs.Row.{Row}
 use Rattle.cr_core.specs.Sound.{total}
 use Rattle.cr_claims.proofs.Views.{total-append}
+
+one_up : (n m : ℕ) → ((n ≤ m) ⊎ (m < n)) → (suc n ≤ suc m) ⊎ (suc m < suc n)
+one_up n m (inl low) = inl (omega arith)
+one_up n m (inr high) = inr (omega arith)
+
+-- one number is at most another, or above it
+pub low_or_high : (n m : ℕ) → (n ≤ m) ⊎ (m < n)
+low_or_high zero m = inl (omega arith)
+low_or_high (suc n) zero = inr (omega arith)
+low_or_high (suc n) (suc m) = one_up n m (low_or_high n m)
 
 module _ {A : Type 0} where
   -- what stands behind the end doesn't matter below it
@@ -12,6 +22,12 @@ module _ {A : Type 0} where
   index_any [] i c d h = absurd (omega arith)
   index_any (x ∷ xs) zero c d h = refl
   index_any (x ∷ xs) (suc i) c d h = index_any xs i c d (omega arith)
+
+  -- what was written is there
+  pub set_here : (xs : List A) (i : ℕ) (y d : A) → i < length xs → slice_index_or (set xs i y) i d ≡ y
+  set_here [] i y d h = absurd (omega arith)
+  set_here (x ∷ xs) zero y d h = refl
+  set_here (x ∷ xs) (suc i) y d h = set_here xs i y d (omega arith)
 
   -- a write changes nothing above it
   pub set_above : (xs : List A) (i k : ℕ) (y d : A) → i < k → slice_index_or (set xs i y) k d ≡ slice_index_or xs k d

@@ -1,5 +1,5 @@
 -- The trial of one position, by what the question answered.
-use Rattle.std.proofs.Common.{◌≡◌, ◌≢◌, ◌⊎◌, inl, inr, ℕ, ◌+◌, ◌-◌, ◌<◌, ◌≤◌, Bool, true, false, List, [], ◌∷◌, Option, Some, None, refl, sym, ap, subst, arith}
+use Rattle.std.proofs.Common.{◌≡◌, ◌≢◌, ◌⊎◌, inl, inr, ℕ, ◌-◌, ◌<◌, ◌≤◌, Bool, true, false, List, [], ◌∷◌, Option, Some, None, refl, sym, ap, subst, arith}
 use Rattle.std.proofs.lemmas.List.{append-nil}
 use Rattle.cr_core.specs.declared.marks.HitKind.{HitKind}
 use Rattle.cr_core.specs.declared.marks.HitKind.TheVariants as kind
@@ -16,11 +16,11 @@ use Rattle.cr_pool.specs.Answers.{trial_by, trial_of, verdict_of}
 use Rattle.cr_pool.specs.Epoch.{Epoch, AnsweredBy, AsksAt, BeginsRight, IsAbout, Known, times, variant_of}
 use Rattle.cr_pool.specs.Epoch.Known.{by_judge, by_kept}
 use Rattle.cr_pool.specs.Kept.{IsDecided, IsKept, Keeps}
-use Rattle.cr_pool.specs.Sizes.{HasSize}
+use Rattle.cr_pool.specs.Sizes.{HasSize, IsSmaller}
 use Rattle.cr_pool.specs.Tally.{Tally}
 use Rattle.cr_pool.specs.Trials.{IsFailed, IsGood, IsRejected}
 use Rattle.cr_pool.specs.Trials.IsRejected.{answered_no, unlawful}
-use Rattle.cr_pool.specs.Works.{Tries, NoteIsSo, RejectsAt, HitSays, VerdictIsSo}
+use Rattle.cr_pool.specs.Works.{Tries, IsVerdict, MayNoteNothing, NoteIsSo, RejectsAt, HitSays, VerdictIsSo}
 use Rattle.cr_pool.proofs.Runs.{answered_once, is_so, one_count}
 use Rattle.cr_pool.proofs.Sizes.{good_is_smaller}
 
@@ -138,7 +138,8 @@ module _ (e : Epoch) (i : ℕ) (variant : List ℕ) (is : variant ≡ variant_of
   says_by_note NoMemory eq v came told = cc
 
   pub note_by_answer : AnswersAsTold e.asks (e.Tells variant) answer → NoteIsSo e before now i (verdict_of answer)
-  note_by_answer told v came = subst (λ f. VerdictIsSo e before now f v) is (says_by_note answer refl v came told)
+  note_by_answer told v came =
+      subst (λ f. IsSmaller f e.file × IsVerdict e before now f v) is (good_is_smaller e.Lawful e.file variant size n sized good, inr (unkept, says_by_note answer refl v came told))
 
 -- The verdict is known before anything is asked.
 module _ (e : Epoch) (right : BeginsRight e) (before now : Tally) (i : ℕ) (variant : List ℕ) (is : variant ≡ variant_of e i) where
@@ -147,9 +148,13 @@ module _ (e : Epoch) (right : BeginsRight e) (before now : Tally) (i : ℕ) (var
   kept_is_so verdict.Yes kept = let it = right variant verdict.Yes kept in (it.0, by_kept kept it.1)
   kept_is_so verdict.No kept = let it = right variant verdict.No kept in (it.0, by_kept kept it.1)
 
-  so_by : (v : Verdict) → Keeps e.kept variant v ⊎ ((v ≡ verdict.Unlawful) × (e.Lawful variant → ⊥)) → VerdictIsSo e before now variant v
+  so_by : (v : Verdict) → Keeps e.kept variant v ⊎ ((v ≡ verdict.Unlawful) × (e.Lawful variant → ⊥) × (IsKept e.kept variant → ⊥)) → VerdictIsSo e before now variant v
   so_by v (inl kept) = kept_is_so v kept
   so_by v (inr refused) = subst (VerdictIsSo e before now variant) (sym refused.0) refused.1
+
+  noted_by : (v : Verdict) → Keeps e.kept variant v ⊎ ((v ≡ verdict.Unlawful) × (e.Lawful variant → ⊥) × (IsKept e.kept variant → ⊥)) → IsVerdict e before now variant v
+  noted_by v (inl kept) = inl kept
+  noted_by v (inr refused) = inr (refused.2, subst (VerdictIsSo e before now variant) (sym refused.0) refused.1)
 
   module _ (size : ℕ) (sized : HasSize e.file size) (v : Verdict) (known : IsDecided e.Lawful e.kept variant size v) where
     rejects_so : (w : Verdict) → VerdictIsSo e before now variant w → trial_by w ≡ Rejected → IsRejected e.Lawful (Known e before now) e.file variant
@@ -178,7 +183,17 @@ module _ (e : Epoch) (right : BeginsRight e) (before now : Tally) (i : ℕ) (var
     says_by_verdict k came = says_so v (so_by v known.why) k came
 
     pub note_by_verdict : NoteIsSo e before now i (Some v)
-    note_by_verdict w came = let same : v ≡ w = cc in subst (λ f. VerdictIsSo e before now f w) is (subst (VerdictIsSo e before now variant) same (so_by v known.why))
+    note_by_verdict w came =
+        let same : v ≡ w = cc in
+        let smaller : IsSmaller variant e.file = record { new_size = known.size; old_size = size; new_is = known.has; old_is = sized; less = known.less } in
+        subst (λ f. IsSmaller f e.file × IsVerdict e before now f w) is (smaller, subst (IsVerdict e before now variant) same (noted_by v known.why))
 
 pub nothing_noted : (e : Epoch) (before now : Tally) (i : ℕ) → NoteIsSo e before now i None
 nothing_noted e before now i v came = cc
+
+-- Where an answer is no verdict, that it is noted nowhere says nothing.
+pub unnoted_answer : (e : Epoch) (i : ℕ) (answer : Answer) → verdict_of answer ≡ None → MayNoteNothing e i (trial_of answer)
+unnoted_answer e i Yes none = cc
+unnoted_answer e i No none = cc
+unnoted_answer e i Failed none = tt
+unnoted_answer e i NoMemory none = tt

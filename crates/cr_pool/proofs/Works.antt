@@ -7,20 +7,24 @@ use Rattle.cr_core.specs.declared.marks.Mark.{Mark}
 use Rattle.cr_core.specs.declared.marks.Mark.TheVariants.{Open, No, Hit, Skipped}
 use Rattle.cr_core.specs.declared.marks.Entry.{Entry}
 use Rattle.cr_core.specs.Row.{Row, apart, kind_no, mark_no, marked, under}
+use Rattle.cr_claims.specs.Plays.{RisesAbove}
 use Rattle.cr_core.proofs.Rows.{placed-append, marked-append, settled_no}
 use Rattle.cr_outside.specs.declared.judge.Answer.{Answer}
 use Rattle.cr_outside.specs.declared.judge.Answer.TheVariants.{Yes as AnswerYes, No as AnswerNo, Failed as AnswerFailed}
 use Rattle.cr_outside.specs.Judge.{Call}
+use Rattle.cr_pool.specs.declared.trial.Trial.TheVariants as trial
 use Rattle.cr_pool.specs.declared.verdict.Verdict.{Verdict}
 use Rattle.cr_pool.specs.declared.verdict.Verdict.TheVariants as verdict
 use Rattle.cr_pool.specs.Epoch.{Epoch, AreAbout, AsksAt, Known, times, variant_of}
 use Rattle.cr_pool.specs.Epoch.Known.{by_judge, by_kept}
+use Rattle.cr_pool.specs.Sizes.{IsSmaller}
 use Rattle.cr_pool.specs.Tally.{Tally}
 use Rattle.cr_pool.specs.Trials.{GoesOn}
 use Rattle.cr_pool.specs.Trials.IsRejected.{not_smaller, unlawful, answered_no}
-use Rattle.cr_pool.specs.Works.{Works, Tries, IsBlank, NoteIsSo, NotesAreSo, RejectsAt, HitSays, VerdictIsSo}
+use Rattle.cr_pool.specs.Works.{Works, Tries, IsBlank, IsBlankAbove, IsVerdict, MayNoteNothing, NoteIsSo, NotesAreSo, NotesTell, RejectsAt, HitSays, VerdictIsSo}
+use Rattle.cr_pool.proofs.Lists.{append-some, open_at}
 use Rattle.cr_pool.proofs.Runs.{answer_in_run-later, answer_in_run-earlier}
-use Rattle.cr_pool.proofs.Sums.{set_cases}
+use Rattle.cr_pool.proofs.Sums.{set_above, set_cases, set_here}
 use Rattle.cr_pool.proofs.Tries.{asks_none}
 
 abbrev entry : ℕ → Mark → Entry
@@ -105,13 +109,24 @@ verdict_earlier e before middle now file verdict.No on so = (so.0, known_earlier
 pub notes_none : (e : Epoch) (before now : Tally) (len : ℕ) (notes : List (Option Verdict)) → IsBlank len notes → NotesAreSo e before now notes
 notes_none e before now len notes blank i v is = let none = blank.1 i in cc
 
+is_verdict_later : (e : Epoch) (before middle now : Tally) (file : List ℕ) (v : Verdict) → GoesOn middle.calls now.calls → IsVerdict e before middle file v → IsVerdict e before now file v
+is_verdict_later e before middle now file v on (inl was) = inl was
+is_verdict_later e before middle now file v on (inr it) = inr (it.0, verdict_later e before middle now file v on it.1)
+
+is_verdict_earlier : (e : Epoch) (before middle now : Tally) (file : List ℕ) (v : Verdict) → GoesOn before.calls middle.calls → IsVerdict e middle now file v → IsVerdict e before now file v
+is_verdict_earlier e before middle now file v on (inl was) = inl was
+is_verdict_earlier e before middle now file v on (inr it) = inr (it.0, verdict_earlier e before middle now file v on it.1)
+
 note_at : (e : Epoch) (before middle now : Tally) (notes : List (Option Verdict)) (at : ℕ) (said : Option Verdict) → GoesOn before.calls middle.calls → GoesOn middle.calls now.calls
     → NotesAreSo e before middle notes → NoteIsSo e middle now at said → (i : ℕ) (v : Verdict)
     → (slice_index_or (set notes at said) i None ≡ slice_index_or notes i None) ⊎ ((i ≡ at) × (slice_index_or (set notes at said) i None ≡ said))
-    → slice_index_or (set notes at said) i None ≡ Some v → VerdictIsSo e before now (variant_of e i) v
-note_at e before middle now notes at said earlier later old new i v (inl same) is = verdict_later e before middle now (variant_of e i) v later (old i v (sym same ∙ is))
+    → slice_index_or (set notes at said) i None ≡ Some v → IsSmaller (variant_of e i) e.file × IsVerdict e before now (variant_of e i) v
+note_at e before middle now notes at said earlier later old new i v (inl same) is =
+    let it = old i v (sym same ∙ is) in
+    (it.0, is_verdict_later e before middle now (variant_of e i) v later it.1)
 note_at e before middle now notes at said earlier later old new i v (inr here) is =
-    subst (λ j. VerdictIsSo e before now (variant_of e j) v) (sym here.0) (verdict_earlier e before middle now (variant_of e at) v earlier (new v (sym here.1 ∙ is)))
+    let it = new v (sym here.1 ∙ is) in
+    subst (λ j. IsSmaller (variant_of e j) e.file × IsVerdict e before now (variant_of e j) v) (sym here.0) (it.0, is_verdict_earlier e before middle now (variant_of e at) v earlier it.1)
 
 -- The next position was tried, and what it came to is noted.
 pub notes_more : (e : Epoch) (before middle now : Tally) (notes : List (Option Verdict)) (at : ℕ) (said : Option Verdict) → GoesOn before.calls middle.calls → GoesOn middle.calls now.calls
@@ -202,3 +217,60 @@ module _ (e : Epoch) (before middle now : Tally) (hit : Option (ℕ × HitKind))
     few = omega (arith, under-append e.len l (entry at m ∷ []), w.few, t.few);
     later = omega (arith, w.later, t.later);
   }
+
+-- Nothing is marked.
+pub tells_none : (e : Epoch) (notes : List (Option Verdict)) → NotesTell e [] notes
+tells_none e notes i (inl h) = absurd (omega arith)
+tells_none e notes i (inr h) = absurd (omega arith)
+
+-- The next position is skipped.
+pub tells_skips : (e : Epoch) (l : Row) (notes : List (Option Verdict)) (at : ℕ) → NotesTell e l notes → NotesTell e (l ++ entry at Skipped ∷ []) notes
+tells_skips e l notes at tells i (inl h) = tells i (inl (omega (arith, marked-append i No l (entry at Skipped ∷ []))))
+tells_skips e l notes at tells i (inr h) = tells i (inr (omega (arith, marked-append i (Hit Yes) l (entry at Skipped ∷ []))))
+
+-- The next position, of which nothing was noted yet, is marked, and what its trial came to is noted.
+module _ (e : Epoch) (l : Row) (notes : List (Option Verdict)) (at : ℕ) (m : Mark) (note : Option Verdict) (within : at < length notes) (blank : slice_index_or notes at None ≡ None)
+    (tells : NotesTell e l notes) (told : (m ≡ No) ⊎ (m ≡ Hit Yes) → note ≡ None → IsSmaller (variant_of e at) e.file → ⊥) where
+  tells_still : (i : ℕ) → (0 < marked i No l) ⊎ (0 < marked i (Hit Yes) l)
+      → (slice_index_or (set notes at note) i None ≡ slice_index_or notes i None) ⊎ ((i ≡ at) × (slice_index_or (set notes at note) i None ≡ note))
+      → slice_index_or (set notes at note) i None ≡ None → IsSmaller (variant_of e i) e.file → ⊥
+  tells_still i marks (inl same) none = tells i marks (sym same ∙ none)
+  tells_still i marks (inr here) none = tells i marks (subst (λ j. slice_index_or notes j None ≡ None) (sym here.0) blank)
+
+  tells_here : (i : ℕ) → at ≡ i → (m ≡ No) ⊎ (m ≡ Hit Yes) → slice_index_or (set notes at note) i None ≡ None → IsSmaller (variant_of e i) e.file → ⊥
+  tells_here i there marks none =
+      let here = subst (λ j. slice_index_or (set notes at note) j None ≡ None) (sym there) none in
+      subst (λ j. IsSmaller (variant_of e j) e.file → ⊥) there (told marks (sym (set_here notes at note None within) ∙ here))
+
+  tells_no : (i : ℕ) → ((0 < marked i No l) ⊎ (0 < 1 - (apart i at + apart 1 (mark_no m)))) → slice_index_or (set notes at note) i None ≡ None → IsSmaller (variant_of e i) e.file → ⊥
+  tells_no i (inl h) none = tells_still i (inl h) (set_cases notes at i note None) none
+  tells_no i (inr h) none = tells_here i (omega arith) (inl (is_no m (omega arith))) none
+
+  tells_yes : (i : ℕ) → ((0 < marked i (Hit Yes) l) ⊎ (0 < 1 - (apart i at + apart 3 (mark_no m)))) → slice_index_or (set notes at note) i None ≡ None → IsSmaller (variant_of e i) e.file → ⊥
+  tells_yes i (inl h) none = tells_still i (inr h) (set_cases notes at i note None) none
+  tells_yes i (inr h) none = tells_here i (omega arith) (inr (is_hit Yes m (omega arith))) none
+
+  pub tells_more : NotesTell e (l ++ entry at m ∷ []) (set notes at note)
+  tells_more i (inl h) = tells_no i (one_of (marked i No l) (1 - (apart i at + apart 1 (mark_no m))) (omega (arith, marked-append i No l (entry at m ∷ []))))
+  tells_more i (inr h) = tells_yes i (one_of (marked i (Hit Yes) l) (1 - (apart i at + apart 3 (mark_no m))) (omega (arith, marked-append i (Hit Yes) l (entry at m ∷ []))))
+
+pub skips_neither : (Skipped ≡ No) ⊎ (Skipped ≡ Hit Yes) → ⊥
+skips_neither (inl is) = cc
+skips_neither (inr is) = cc
+
+-- A hit that is answered yes is noted.
+pub yes_is_noted : (e : Epoch) (i : ℕ) (k : HitKind) → (Hit k ≡ No) ⊎ (Hit k ≡ Hit Yes) → MayNoteNothing e i (trial.Hit k) → ⊥
+yes_is_noted e i k (inl is) may = cc
+yes_is_noted e i k (inr is) may = subst (λ j. MayNoteNothing e i (trial.Hit j)) (same_hit k Yes is) may
+
+rises_more : (old : Row) (at i : ℕ) → at < i → RisesAbove at old → RisesAbove i old
+rises_more old at i up (inl none) = inl none
+rises_more old at i up (inr low) = inr (omega arith)
+
+-- Above the position that was claimed last nothing is noted.
+pub blank_above : (l old own : Row) (notes : List (Option Verdict)) (at : ℕ) (said : Option Verdict) → own ≡ l ++ entry at Open ∷ [] → RisesAbove at old → IsBlankAbove old notes
+    → IsBlankAbove own (set notes at said)
+blank_above l old own notes at said is rises blank i (inl none) = absurd (append-some l (entry at Open) (sym is ∙ none))
+blank_above l old own notes at said is rises blank i (inr up) =
+    let above : at < i = omega (arith, (open_at own l at is).1, up) in
+    set_above notes at i said None above ∙ blank i (rises_more old at i above rises)

@@ -1,5 +1,5 @@
 -- A bench as clauses see it.
-use Rattle.std.specs.Prelude.{◌<◌, ◌≤◌, List, length}
+use Rattle.std.specs.Prelude.{◌<◌, ◌≤◌, ℕ, List, length}
 use Rattle.cr_cursor.specs.declared.law.Law.{Ghosts as LawGhosts}
 use Rattle.cr_cursor.specs.declared.passes.Passes.{Ghosts as PassesGhosts}
 use Rattle.cr_outside.specs.declared.judge.Judge.{Ghosts as JudgeGhosts}
@@ -10,10 +10,11 @@ use Rattle.cr_pool.specs.Jobs.{epoch_of}
 use Rattle.cr_pool.specs.Kept.{Kept}
 use Rattle.cr_pool.specs.Tally.{HaveOneKey, Tally, first_says, tallies_of, tally_at}
 
--- its judges, and the verdicts that it keeps
+-- its judges, the verdicts that it keeps, and how many its last epoch lost for want of memory
 pub record Benched (J : Type 0) : Type 0 where
   pub judges : List J
   pub kept : List Kept
+  pub lost : ℕ
 
 -- it has 1 to 32 judges, all of one key
 abbrev pub IsManned : {J K : Type 0} → (J → K) → List J → Type 0

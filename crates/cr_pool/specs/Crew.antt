@@ -16,7 +16,7 @@ use Rattle.cr_pool.specs.Epoch.{BeginsRight}
 use Rattle.cr_pool.specs.Jobs.{trying}
 use Rattle.cr_pool.specs.Kept.{Kept}
 use Rattle.cr_pool.specs.Tally.{tally_of}
-use Rattle.cr_pool.specs.Works.{Works, HitIsSo, IsBlank, NotesAreSo}
+use Rattle.cr_pool.specs.Works.{Works, HitIsSo, IsBlank, NotesAreSo, NotesTell}
 
 -- a pass of these claims that has done nothing yet
 abbrev pub IsFresh : Claims → Pass → Type 0
@@ -82,5 +82,6 @@ pub record IsWorked {P I L Q J K : Type 0} (passes : PassesGhosts P I) (law : La
   pub works : Works (trying passes law question judge job old.judge kept) (tally_of judge old.judge) (tally_of judge new.judge) new.hit (row_of new.pass)
   pub hit : HitIsSo (trying passes law question judge job old.judge kept) (tally_of judge old.judge) (tally_of judge new.judge) new.variant.items new.hit
   pub notes : NotesAreSo (trying passes law question judge job old.judge kept) (tally_of judge old.judge) (tally_of judge new.judge) new.notes.items
+  pub tell : NotesTell (trying passes law question judge job old.judge kept) (row_of new.pass) new.notes.items
   pub key : judge.key new.judge ≡ judge.key old.judge
   pub silent : question.asks job.question.now ≡ false → new.judge ≡ old.judge

@@ -1,5 +1,6 @@
 -- How an epoch ends, by its first hit and the worker that hit it, and what is kept of the workers' notes.
-use Rattle.std.specs.Prelude.{◌≡◌, ◌⊎◌, ◌<◌, ◌+◌, ℕ, List, Option, None, Some, length, slice_index_or}
+use Rattle.std.specs.Prelude.{◌≡◌, ◌<◌, ◌+◌, ℕ, List, Option, None, Some, length, slice_index_or}
+use Prim.Native.Nat.{zero, suc}
 use Rattle.cr_core.specs.declared.events.First.{First}
 use Rattle.cr_core.specs.declared.events.First.TheVariants as first
 use Rattle.cr_core.specs.declared.marks.HitKind.{HitKind}
@@ -10,7 +11,7 @@ use Rattle.cr_pool.specs.declared.job.EpochEnd.{EpochEnd}
 use Rattle.cr_pool.specs.declared.job.EpochEnd.TheVariants as ending
 use Rattle.cr_pool.specs.declared.verdict.Verdict.{Verdict}
 use Rattle.cr_pool.specs.Epoch.{variant_at}
-use Rattle.cr_pool.specs.Kept.{Kept, Keeps}
+use Rattle.cr_pool.specs.Kept.{IsPutOrLost, Kept}
 
 -- the worker of this number has this hit
 abbrev pub IsHitter : {J : Type 0} → List (Worker J) → ℕ → HitKind → ℕ → Type 0
@@ -44,7 +45,20 @@ HasNoted {J} workers worker at said = (worker < length workers) × ((d : Worker 
 abbrev pub IsNoted : {J : Type 0} → List (Worker J) → ℕ → Verdict → Type 0
 IsNoted workers at said = (worker : ℕ) × HasNoted workers worker at said
 
--- Each verdict that is kept now was kept before, or is noted of one of the first n positions from `start` on, on that position's variant.
-abbrev pub TakesNotes : {J : Type 0} → Offer → ℕ → ℕ → List (Worker J) → List Kept → List Kept → Type 0
-TakesNotes offer start n workers old new = (file : List ℕ) (said : Verdict) → Keeps new file said
-    → Keeps old file said ⊎ ((i : ℕ) × (i < n) × (file ≡ variant_at offer (start + i)) × IsNoted workers i said)
+-- the first so many workers have noted nothing of a position
+abbrev pub NoneNoted : {J : Type 0} → List (Worker J) → ℕ → ℕ → Type 0
+NoneNoted {J} workers count at = (worker : ℕ) (d : Worker J) → worker < count → slice_index_or (slice_index_or workers worker d).notes.items at None ≡ None
+
+-- what the workers noted of a position: a verdict that one of them noted, or none where none of them did
+abbrev pub IsNote : {J : Type 0} → List (Worker J) → ℕ → Option Verdict → Type 0
+IsNote workers at None = NoneNoted workers (length workers) at
+IsNote workers at (Some said) = IsNoted workers at said
+
+-- what is noted of one position from `start` on was put on that position's variant, or was lost
+abbrev pub TakesNote : {J : Type 0} → Offer → ℕ → ℕ → List (Worker J) → List Kept → ℕ → List Kept → ℕ → Type 0
+TakesNote offer start at workers old gone new lost = (note : Option Verdict) × IsNote workers at note × IsPutOrLost (variant_at offer (start + at)) note old gone new lost
+
+-- what is noted of the first n positions from `start` on was put in order, each on its position's variant, but for so many that were lost
+abbrev pub TakesNotes : {J : Type 0} → Offer → ℕ → ℕ → List (Worker J) → List Kept → List Kept → ℕ → Type 0
+TakesNotes offer start zero workers old new lost = (new ≡ old) × (lost ≡ 0)
+TakesNotes offer start (suc n) workers old new lost = (middle : List Kept) × (gone : ℕ) × TakesNotes offer start n workers old middle gone × TakesNote offer start n workers middle gone new lost

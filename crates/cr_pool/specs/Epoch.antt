@@ -1,5 +1,6 @@
 -- An epoch: which positions are tried, how it ends, and what the judges are asked.
 use Rattle.std.specs.Prelude.{◌≡◌, ◌⊎◌, ℕ, ◌+◌, ◌-◌, ◌<◌, ◌≤◌, Bool, true, List, [], ◌∷◌, ◌++◌, length, Option, Some, None, slice_index_or}
+use Prim.Native.Nat.{zero, suc}
 use Rattle.std.specs.List.{slice_get}
 use Rattle.cr_cursor.specs.declared.passes.Cursor.{Cursor}
 use Rattle.cr_cursor.specs.Variants.{Offer, cursors}
@@ -14,7 +15,7 @@ use Rattle.cr_pool.specs.declared.job.EpochEnd.{EpochEnd}
 use Rattle.cr_pool.specs.declared.job.EpochEnd.TheVariants as ending
 use Rattle.cr_pool.specs.declared.verdict.Verdict.{Verdict}
 use Rattle.cr_pool.specs.declared.verdict.Verdict.TheVariants.{Unlawful, Yes, No}
-use Rattle.cr_pool.specs.Kept.{AreRight, Kept, IsKept, Keeps, KeptAnswer}
+use Rattle.cr_pool.specs.Kept.{AreRight, Kept, IsKept, IsPutOrLost, Keeps, KeptAnswer}
 use Rattle.cr_pool.specs.Sizes.{IsSmaller}
 use Rattle.cr_pool.specs.Tally.{Tally, asked_in, tally_at}
 use Rattle.cr_pool.specs.Trials.{AnswerInRun, IsAccepted, IsFailed, IsRejected}
@@ -131,12 +132,12 @@ pub record AsksOnce (e : Epoch) (before now : List Tally) : Type 0 where
 abbrev pub BeginsRight : Epoch → Type 0
 BeginsRight e = AreRight e.Lawful e.asks e.Tells e.kept
 
--- how many of an epoch's first positions its end was decided by: those up to the first one that wasn't rejected, without it where its trial failed
-abbrev pub decided_by : Epoch → EpochEnd → ℕ
-decided_by e (ending.NoneOf n) = e.len
-decided_by e (ending.Found position bytes) = position + 1 - e.start
-decided_by e (ending.Fault position worker) = position - e.start
-decided_by e ending.NoMemory = e.len
+-- So many of an epoch's first positions decided its end: those up to the first one that wasn't rejected, without it where its trial failed or found no memory.
+abbrev pub HaveDecided : Epoch → EpochEnd → ℕ → Type 0
+HaveDecided e (ending.NoneOf len) n = n ≡ e.len
+HaveDecided e (ending.Found position bytes) n = e.start + n ≡ position + 1
+HaveDecided e (ending.Fault position worker) n = e.start + n ≡ position
+HaveDecided e ending.NoMemory n = n ≤ e.len
 
 -- the verdict on a file was found in an epoch
 abbrev pub WasFound : Epoch → List Tally → List Tally → List ℕ → Verdict → Type 0
@@ -144,10 +145,20 @@ WasFound e before now file Unlawful = e.Lawful file → ⊥
 WasFound e before now file Yes = e.Lawful file × Answered e before now file AnswerYes
 WasFound e before now file No = e.Lawful file × Answered e before now file AnswerNo
 
--- Each verdict that is kept after an epoch was kept before it, or was found in it on the variant of one of so many first positions.
-abbrev pub Remembers : Epoch → List Tally → List Tally → ℕ → List Kept → Type 0
-Remembers e before now n kept = (file : List ℕ) (verdict : Verdict) → Keeps kept file verdict
-    → Keeps e.kept file verdict ⊎ ((i : ℕ) × (i < n) × (file ≡ variant_of e i) × WasFound e before now file verdict)
+-- what an epoch came to on a file, if that is smaller: the verdict that was kept before, and where none was, the one that was found
+abbrev pub CameTo : Epoch → List Tally → List Tally → List ℕ → Option Verdict → Type 0
+CameTo e before now file None = IsSmaller file e.file → ⊥
+CameTo e before now file (Some verdict) = IsSmaller file e.file × (Keeps e.kept file verdict ⊎ ((IsKept e.kept file → ⊥) × WasFound e before now file verdict))
+
+-- What is kept is what was kept before, with what the epoch came to on the variants of its first n positions put in order, but for so many that found no memory.
+abbrev pub ArePut : Epoch → List Tally → List Tally → ℕ → List Kept → ℕ → Type 0
+ArePut e before now zero kept lost = (kept ≡ e.kept) × (lost ≡ 0)
+ArePut e before now (suc n) kept lost = (old : List Kept) × (gone : ℕ) × ArePut e before now n old gone
+    × ((verdict : Option Verdict) × CameTo e before now (variant_of e n) verdict × IsPutOrLost (variant_of e n) verdict old gone kept lost)
+
+-- What is kept after an epoch is what was kept before it, with the verdicts on the variants of the positions that decided its end put in order, but for so many that found no memory.
+abbrev pub Remembers : Epoch → List Tally → List Tally → EpochEnd → List Kept → ℕ → Type 0
+Remembers e before now end kept lost = (n : ℕ) × HaveDecided e end n × ArePut e before now n kept lost
 
 -- Each verdict Yes or No that is kept after an epoch was kept before it, or a judge gave it in the epoch.
 abbrev pub KeepsWhatWasMade : Epoch → List Tally → List Tally → List Kept → Type 0

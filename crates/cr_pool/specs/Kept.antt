@@ -1,5 +1,6 @@
 -- The verdicts that a bench keeps.
-use Rattle.std.specs.Prelude.{◌≡◌, ◌⊎◌, ◌<◌, ℕ, Bool, List, [], ◌∷◌, map}
+use Rattle.std.specs.Prelude.{◌≡◌, ◌⊎◌, ◌+◌, ◌<◌, ◌≤◌, ℕ, Bool, List, [], ◌∷◌, Option, None, Some, cond, length, map, take}
+use Rattle.std.specs.Str.{bytes_eq}
 use Rattle.std.specs.declared.vec.Vec.{Vec}
 use Rattle.cr_outside.specs.declared.judge.Answer.{Answer}
 use Rattle.cr_outside.specs.declared.judge.Answer.TheVariants.{Yes as AnswerYes, No as AnswerNo}
@@ -27,6 +28,25 @@ abbrev pub Keeps : List Kept → List ℕ → Verdict → Type 0
 Keeps [] file verdict = ⊥
 Keeps (k ∷ ks) file verdict = ((k.file ≡ file) × (k.verdict ≡ verdict)) ⊎ Keeps ks file verdict
 
+-- the kept verdicts without the one on a file
+abbrev pub without : List ℕ → List Kept → List Kept
+without file [] = []
+without file (k ∷ ks) = cond (bytes_eq file k.file) ks (k ∷ without file ks)
+
+-- The kept verdicts once one more was put, of at most so many: it stands first, in the place of an older one on the same file, and where that are too many, the last one goes. A look-up changes
+-- nothing, so the last one is the one that was put longest ago.
+abbrev pub put_kept : ℕ → List ℕ → Verdict → List Kept → List Kept
+put_kept most file said kept = take most (record { file = file; verdict = said } ∷ without file kept)
+
+-- A verdict on a file was put: 256 are kept at most, and none on a file of more than 65,536 bytes.
+abbrev pub IsPut : List ℕ → Verdict → List Kept → List Kept → Type 0
+IsPut file said old new = (length file ≤ 65536 → new ≡ put_kept 256 file said old) × (65536 < length file → new ≡ old)
+
+-- The verdict on a file, if there is one, was put, or was lost since no memory was found for it; how many were lost before, and are now.
+abbrev pub IsPutOrLost : List ℕ → Option Verdict → List Kept → ℕ → List Kept → ℕ → Type 0
+IsPutOrLost file None old gone new lost = (new ≡ old) × (lost ≡ gone)
+IsPutOrLost file (Some said) old gone new lost = (IsPut file said old new × (lost ≡ gone)) ⊎ ((new ≡ old) × (lost ≡ gone + 1))
+
 -- a kept verdict gives this answer about a file
 abbrev pub KeptAnswer : List Kept → List ℕ → Answer → Type 0
 KeptAnswer kept file AnswerYes = Keeps kept file Yes
@@ -44,9 +64,9 @@ IsRight Lawful asks Tells file No = Lawful file × AnswersAsTold asks (Tells fil
 abbrev pub AreRight : (List ℕ → Type 0) → Bool → (List ℕ → Bool → Type 0) → List Kept → Type 0
 AreRight Lawful asks Tells kept = (file : List ℕ) (verdict : Verdict) → Keeps kept file verdict → IsRight Lawful asks Tells file verdict
 
--- The verdict on a variant below a bound is known before anything is asked about it: it is kept, or the law refuses the variant.
+-- The verdict on a variant below a bound is known before anything is asked about it: it is kept, or none is and the law refuses the variant.
 pub record IsDecided (Lawful : List ℕ → Type 0) (kept : List Kept) (variant : List ℕ) (bound : ℕ) (verdict : Verdict) : Type 0 where
   pub size : ℕ
   pub has : HasSize variant size
   pub less : size < bound
-  pub why : Keeps kept variant verdict ⊎ ((verdict ≡ Unlawful) × (Lawful variant → ⊥))
+  pub why : Keeps kept variant verdict ⊎ ((verdict ≡ Unlawful) × (Lawful variant → ⊥) × (IsKept kept variant → ⊥))

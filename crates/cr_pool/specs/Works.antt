@@ -1,16 +1,21 @@
 -- What one worker does in an epoch: its own list of entries is its trials.
-use Rattle.std.specs.Prelude.{◌≡◌, ℕ, ◌+◌, ◌-◌, ◌<◌, ◌≤◌, true, List, [], ◌∷◌, Option, Some, None, length, slice_index_or}
+use Rattle.std.specs.Prelude.{◌≡◌, ◌⊎◌, ℕ, ◌+◌, ◌-◌, ◌<◌, ◌≤◌, true, List, [], ◌∷◌, Option, Some, None, length, slice_index_or}
 use Rattle.cr_claims.specs.declared.seats.Pass.{Pass}
 use Rattle.cr_claims.specs.Pass.{view_of}
+use Rattle.cr_claims.specs.Plays.{RisesAbove}
 use Rattle.cr_core.specs.declared.marks.HitKind.{HitKind}
 use Rattle.cr_core.specs.declared.marks.HitKind.TheVariants.{Yes, Failed, Starved}
 use Rattle.cr_core.specs.declared.marks.Mark.TheVariants.{Open, No, Hit}
 use Rattle.cr_core.specs.Row.{Row, apart, placed, marked, under, last_position}
 use Rattle.cr_outside.specs.Faults.{Rose}
 use Rattle.cr_outside.specs.declared.judge.Answer.TheVariants.{Yes as AnswerYes, No as AnswerNo}
+use Rattle.cr_pool.specs.declared.trial.Trial.{Trial}
+use Rattle.cr_pool.specs.declared.trial.Trial.TheVariants as trial
 use Rattle.cr_pool.specs.declared.verdict.Verdict.{Verdict}
 use Rattle.cr_pool.specs.declared.verdict.Verdict.TheVariants as verdict
 use Rattle.cr_pool.specs.Epoch.{Epoch, AnsweredBy, AsksAt, Known, variant_of, times}
+use Rattle.cr_pool.specs.Kept.{IsKept, Keeps}
+use Rattle.cr_pool.specs.Sizes.{IsSmaller}
 use Rattle.cr_pool.specs.Tally.{Tally}
 use Rattle.cr_pool.specs.Trials.{IsAccepted, IsFailed, IsRejected}
 
@@ -35,13 +40,31 @@ VerdictIsSo e before now file verdict.Unlawful = e.Lawful file → ⊥
 VerdictIsSo e before now file verdict.Yes = e.Lawful file × Known e before now file AnswerYes
 VerdictIsSo e before now file verdict.No = e.Lawful file × Known e before now file AnswerNo
 
--- what is noted of a position, if anything, is the verdict on its variant
+-- what a worker noted of a file: the verdict that was kept before the epoch, and where none was, the one that it found
+abbrev pub IsVerdict : Epoch → Tally → Tally → List ℕ → Verdict → Type 0
+IsVerdict e before now file said = Keeps e.kept file said ⊎ ((IsKept e.kept file → ⊥) × VerdictIsSo e before now file said)
+
+-- what is noted of a position, if anything, is the verdict on its variant, which is smaller
 abbrev pub NoteIsSo : Epoch → Tally → Tally → ℕ → Option Verdict → Type 0
-NoteIsSo e before now i note = (said : Verdict) → note ≡ Some said → VerdictIsSo e before now (variant_of e i) said
+NoteIsSo e before now i note = (said : Verdict) → note ≡ Some said → IsSmaller (variant_of e i) e.file × IsVerdict e before now (variant_of e i) said
 
 -- the same of a note for each position
 abbrev pub NotesAreSo : Epoch → Tally → Tally → List (Option Verdict) → Type 0
 NotesAreSo e before now notes = (i : ℕ) → NoteIsSo e before now i (slice_index_or notes i None)
+
+-- where a trial came to this and noted nothing: if it was rejected, the variant isn't smaller, and if it was answered yes, that can't be
+abbrev pub MayNoteNothing : Epoch → ℕ → Trial → Type 0
+MayNoteNothing e i trial.Rejected = IsSmaller (variant_of e i) e.file → ⊥
+MayNoteNothing e i (trial.Hit Yes) = ⊥
+MayNoteNothing e i _ = Unit {0}
+
+-- the same of each position in a worker's list
+abbrev pub NotesTell : Epoch → Row → List (Option Verdict) → Type 0
+NotesTell e own notes = (i : ℕ) → (0 < marked i No own) ⊎ (0 < marked i (Hit Yes) own) → slice_index_or notes i None ≡ None → IsSmaller (variant_of e i) e.file → ⊥
+
+-- nothing is noted of a position above the last one in a worker's list
+abbrev pub IsBlankAbove : Row → List (Option Verdict) → Type 0
+IsBlankAbove own notes = (i : ℕ) → RisesAbove i own → slice_index_or notes i None ≡ None
 
 -- room for a note of each of so many positions, and nothing noted
 abbrev pub IsBlank : ℕ → List (Option Verdict) → Type 0

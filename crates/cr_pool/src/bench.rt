@@ -4,7 +4,7 @@ ghost use Rattle.cr_outside.specs.Faults.{Rose};
 ghost use Rattle.cr_outside.specs.Question.{AnswersAsTold, AsksOnce, CountsOnce};
 ghost use Rattle.cr_pool.specs.Bench.{IsManned, epoch_on, first_tally};
 ghost use Rattle.cr_pool.specs.Crew.{judges_in};
-ghost use Rattle.cr_pool.specs.Epoch.{EndsBy, KeepsWhatWasMade, Remembers, decided_by};
+ghost use Rattle.cr_pool.specs.Epoch.{EndsBy, KeepsWhatWasMade, Remembers};
 ghost use Rattle.cr_pool.specs.Jobs.{IsJudged, IsPlaced};
 ghost use Rattle.cr_pool.specs.Kept.{AreRight};
 ghost use Rattle.cr_pool.specs.Sizes.{HasSize};
@@ -20,11 +20,13 @@ use std::alloc::Global;
 use std::marker::Model;
 use std::thread::Threads;
 
-/// At least one judge, at most 32, all of one key. Clauses see the list of the judges and the verdicts that are kept.
+/// At least one judge, at most 32, all of one key. Clauses see the list of the judges, the verdicts that are kept, and how many the
+/// last epoch lost.
 #[derive(Drop)]
 pub struct Bench<J: Judge> {
     workers: Vec<Worker<J>>,
     verdicts: Verdicts,
+    lost: u64,
 }
 
 impl<J: Judge> Model for Bench<J> {
@@ -33,7 +35,7 @@ impl<J: Judge> Model for Bench<J> {
 
     ghost Value = { Benched J };
 
-    ghost view = { λ b. record { judges = judges_in b.workers.items; kept = b.verdicts } };
+    ghost view = { λ b. record { judges = judges_in b.workers.items; kept = b.verdicts; lost = b.lost } };
 
     ghost invariant = { λ b. IsManned J.key (judges_in b.workers.items) };
 }
@@ -44,10 +46,15 @@ impl<J: Judge + Drop> Bench<J> {
         requires { IsManned J.key judges.items }
         ensures judges { IfOk result (λ bench. bench.judges ≡ judges.items) }
         ensures kept { IfOk result (λ bench. bench.kept ≡ []) }
+        ensures lost { IfOk result (λ bench. bench.lost ≡ 0) }
     {
         let workers = crew_of(alloc, judges)?;
         let verdicts = Verdicts::new(alloc)?;
-        Ok(Bench { workers, verdicts })
+        Ok(Bench {
+            workers,
+            verdicts,
+            lost: 0,
+        })
     }
 }
 
@@ -78,10 +85,18 @@ impl<J: Judge> Bench<J> {
         self.workers.len() as u32
     }
 
+    /// How many verdicts the last epoch found no memory to keep.
+    pub fn lost(&self) -> u64
+        ensures { result ≡ self.now.lost }
+    {
+        self.lost
+    }
+
     /// Forgets the kept verdicts.
     pub fn forget(&mut self)
         ensures judges { self.new.judges ≡ self.old.judges }
         ensures kept { self.new.kept ≡ [] }
+        ensures lost { self.new.lost ≡ self.old.lost }
     {
         self.verdicts.forget();
     }
@@ -106,6 +121,7 @@ impl<J: Judge> Bench<J> {
         ensures some { 0 < length self.old.judges }
         ensures others { drop 1 self.new.judges ≡ drop 1 self.old.judges }
         ensures kept { self.new.kept ≡ self.old.kept }
+        ensures lost { self.new.lost ≡ self.old.lost }
         ensures count { length self.new.judges ≡ length self.old.judges }
         ensures later { (first_tally J.Judge self.old).faults ≤ (first_tally J.Judge self.new).faults }
         ensures failed { result ≡ Answer.Failed → Rose (first_tally J.Judge self.old).faults (first_tally J.Judge self.new).faults }
@@ -121,7 +137,7 @@ impl<J: Judge + Send> Bench<J> {
     /// rejected find none.
     ///
     /// A position whose variant has a kept verdict is neither ruled on nor asked about. What the trials of the positions up to the
-    /// first that isn't rejected came to is kept in its turn, Failed and want of memory never.
+    /// first that isn't rejected came to is put in their order, Failed and want of memory never, and what finds no memory is counted.
     pub fn epoch<R: Threads + Sync, P: Passes + Sync, L: Law + Sync, Q: Question + Sync>(
         &mut self,
         rt: &R,
@@ -141,8 +157,15 @@ impl<J: Judge + Send> Bench<J> {
         ensures kept { AreRight (L.lawful job.now.law.now) (Q.asks job.now.question.now) (Q.tells job.now.question.now (first_says J.key J.says self.old.judges) job.now.name.now) self.new.kept }
         ensures made { KeepsWhatWasMade (epoch_on P.Passes L.Law Q.Question J.Judge job.now self.old) (tallies_of J.Judge self.old.judges) (tallies_of J.Judge self.new.judges) self.new.kept }
         ensures remembers { Remembers (epoch_on P.Passes L.Law Q.Question J.Judge job.now self.old) (tallies_of J.Judge self.old.judges) (tallies_of J.Judge self.new.judges)
-            (decided_by (epoch_on P.Passes L.Law Q.Question J.Judge job.now self.old) result) self.new.kept }
+            result self.new.kept self.new.lost }
     {
-        try_by_some(rt, alloc, job, &mut self.workers, &mut self.verdicts)
+        try_by_some(
+            rt,
+            alloc,
+            job,
+            &mut self.workers,
+            &mut self.verdicts,
+            &mut self.lost,
+        )
     }
 }

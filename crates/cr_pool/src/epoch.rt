@@ -1,7 +1,7 @@
 // One epoch on the bench's workers.
 ghost use Rattle.std.specs.Prelude.{◌≡◌, ◌<◌, ◌≤◌, drop, length};
 ghost use Rattle.cr_pool.specs.Crew.{judges_in};
-ghost use Rattle.cr_pool.specs.Epoch.{BeginsRight, EndsBy, Remembers, decided_by};
+ghost use Rattle.cr_pool.specs.Epoch.{BeginsRight, EndsBy, Remembers};
 ghost use Rattle.cr_pool.specs.Jobs.{IsJudged, IsPlaced, epoch_of};
 ghost use Rattle.cr_pool.specs.Sizes.{HasSize};
 ghost use Rattle.cr_pool.specs.Tally.{HaveOneKey, first_says, tallies_of};
@@ -17,7 +17,7 @@ use cr_outside::{Judge, Question};
 use std::alloc::Global;
 use std::thread::Threads;
 
-/// Tries the positions of a job by all of these workers.
+/// Tries the positions of a job by all of these workers. What is kept of it afterwards is put, and what found no memory counted.
 pub fn try_all<
     R: Threads + Sync,
     P: Passes + Sync,
@@ -30,6 +30,7 @@ pub fn try_all<
     job: &Job<P, L, Q>,
     workers: &mut [Worker<J>],
     verdicts: &mut Verdicts,
+    lost: &mut u64,
 ) -> EpochEnd
 where
     P::Prep: Sync,
@@ -43,8 +44,9 @@ where
     ensures end { EndsBy (epoch_of P.Passes L.Law Q.Question job.now (first_says J.key J.says (judges_in workers.old)) verdicts.old) (tallies_of J.Judge (judges_in workers.old)) (tallies_of J.Judge (judges_in workers.new)) result }
     ensures judges { IsJudged J.Judge (epoch_of P.Passes L.Law Q.Question job.now (first_says J.key J.says (judges_in workers.old)) verdicts.old) (judges_in workers.old) (judges_in workers.new) }
     ensures remembers { Remembers (epoch_of P.Passes L.Law Q.Question job.now (first_says J.key J.says (judges_in workers.old)) verdicts.old) (tallies_of J.Judge (judges_in workers.old)) (tallies_of J.Judge (judges_in workers.new))
-        (decided_by (epoch_of P.Passes L.Law Q.Question job.now (first_says J.key J.says (judges_in workers.old)) verdicts.old) result) verdicts.new }
+        result verdicts.new lost.new }
 {
+    *lost = 0;
     if clear(workers, job.len as usize, job.file.len()).is_err() {
         return EpochEnd::NoMemory;
     }
@@ -56,7 +58,7 @@ where
     run(rt, alloc, &claims, job, verdicts, workers);
     gather(&claims, &mut keeper, workers);
     let first = claims.close(keeper);
-    remember(alloc, job, decided(job.len, first), workers, verdicts);
+    *lost = remember(alloc, job, decided(job.len, first), workers, verdicts);
     end_of(alloc, job.start, job.len, first, workers)
 }
 
@@ -73,6 +75,7 @@ pub fn try_by_some<
     job: &Job<P, L, Q>,
     workers: &mut [Worker<J>],
     verdicts: &mut Verdicts,
+    lost: &mut u64,
 ) -> EpochEnd
 where
     P::Prep: Sync,
@@ -86,9 +89,9 @@ where
     ensures end { EndsBy (epoch_of P.Passes L.Law Q.Question job.now (first_says J.key J.says (judges_in workers.old)) verdicts.old) (tallies_of J.Judge (judges_in workers.old)) (tallies_of J.Judge (judges_in workers.new)) result }
     ensures judges { IsJudged J.Judge (epoch_of P.Passes L.Law Q.Question job.now (first_says J.key J.says (judges_in workers.old)) verdicts.old) (judges_in workers.old) (judges_in workers.new) }
     ensures remembers { Remembers (epoch_of P.Passes L.Law Q.Question job.now (first_says J.key J.says (judges_in workers.old)) verdicts.old) (tallies_of J.Judge (judges_in workers.old)) (tallies_of J.Judge (judges_in workers.new))
-        (decided_by (epoch_of P.Passes L.Law Q.Question job.now (first_says J.key J.says (judges_in workers.old)) verdicts.old) result) verdicts.new }
+        result verdicts.new lost.new }
     ensures others { drop job.now.workers (judges_in workers.new) ≡ drop job.now.workers (judges_in workers.old) }
 {
     let (crew, _) = workers.split_at_mut(job.workers as usize);
-    try_all(rt, alloc, job, crew, verdicts)
+    try_all(rt, alloc, job, crew, verdicts, lost)
 }

@@ -1,12 +1,9 @@
 // What is kept of the workers' notes once an epoch is over.
-ghost use Rattle.std.specs.Prelude.{◌≡◌, ◌⊎◌, ◌≤◌, ◌<◌, ◌+◌, ℕ, List, Some, None, slice_index_or};
-ghost use Rattle.cr_pool.specs.declared.verdict.Verdict.{Verdict};
-ghost use Rattle.cr_pool.specs.Endings.{HasNoted, IsNoted, TakesNotes, decided_at};
-ghost use Rattle.cr_pool.specs.Epoch.{variant_at};
+ghost use Rattle.std.specs.Prelude.{◌≡◌, ◌≤◌, ◌<◌, ◌+◌, ℕ, None, OnErr, OnOk, slice_index_or};
+ghost use Rattle.cr_pool.specs.Endings.{IsNote, TakesNote, TakesNotes, decided_at};
 ghost use Rattle.cr_pool.specs.Jobs.{IsPlaced, offer_of};
 ghost use Rattle.cr_core.specs.declared.events.First.{First};
 ghost use Rattle.cr_core.specs.declared.marks.HitKind.{HitKind};
-ghost use Rattle.cr_pool.specs.Kept.{Keeps};
 
 use crate::crew::Worker;
 use crate::job::Job;
@@ -15,7 +12,7 @@ use crate::verdict::Verdict;
 use crate::verdicts::Verdicts;
 use cr_core::{First, HitKind};
 use cr_cursor::{Law, Passes};
-use cr_outside::Question;
+use cr_outside::{NoMemory, Question};
 use std::alloc::Global;
 
 fn note_at<J>(worker: &Worker<J>, at: u64) -> Option<Verdict>
@@ -29,7 +26,7 @@ fn note_at<J>(worker: &Worker<J>, at: u64) -> Option<Verdict>
 
 /// The verdict that a worker noted of a position, if one did.
 fn noted<J>(workers: &[Worker<J>], at: u64) -> Option<Verdict>
-    ensures { (said : Verdict) → result ≡ Some said → IsNoted workers.now at said }
+    ensures { IsNote workers.now at result }
 {
     for (i, worker) in workers.iter().enumerate() {
         let note = note_at(worker, at);
@@ -48,35 +45,39 @@ fn remember_one<P: Passes, L: Law, Q: Question, J>(
     workers: &[Worker<J>],
     variant: &mut Vec<u8>,
     verdicts: &mut Verdicts,
-)
+) -> Result<(), NoMemory>
     requires within { at < job.now.len }
     requires placed { IsPlaced P.Passes job.now }
-    ensures { (file : List ℕ) (said : Verdict) → Keeps verdicts.new file said
-        → Keeps verdicts.old file said ⊎ ((file ≡ variant_at (offer_of P.Passes job.now) (job.now.start + at)) × IsNoted workers.now at said) }
+    ensures kept { OnOk result ((gone : ℕ) → TakesNote (offer_of P.Passes job.now) job.now.start at workers.now verdicts.old gone verdicts.new gone) }
+    ensures lost { OnErr result ((gone : ℕ) → TakesNote (offer_of P.Passes job.now) job.now.start at workers.now verdicts.old gone verdicts.new (gone + 1)) }
 {
-    if let Some(verdict) = noted(workers, at) {
-        if make(job, at, variant).is_ok() {
-            verdicts.put(alloc, variant, verdict);
-        }
-    }
+    let Some(verdict) = noted(workers, at) else {
+        return Ok(());
+    };
+    make(job, at, variant)?;
+    verdicts.put(alloc, variant, verdict)
 }
 
-/// Keeps what was noted of the first positions, in their order.
+/// Keeps what was noted of the first positions, in their order, and counts what found no memory.
 pub fn remember<P: Passes, L: Law, Q: Question, J>(
     alloc: Global,
     job: &Job<P, L, Q>,
     positions: u64,
     workers: &[Worker<J>],
     verdicts: &mut Verdicts,
-)
+) -> u64
     requires within { positions ≤ job.now.len }
     requires placed { IsPlaced P.Passes job.now }
-    ensures { TakesNotes (offer_of P.Passes job.now) job.now.start positions workers.now verdicts.old verdicts.new }
+    ensures { TakesNotes (offer_of P.Passes job.now) job.now.start positions workers.now verdicts.old verdicts.new result }
 {
     let mut variant = Vec::new(alloc);
+    let mut lost = 0;
     for at in 0..positions {
-        remember_one(alloc, job, at, workers, &mut variant, verdicts);
+        if remember_one(alloc, job, at, workers, &mut variant, verdicts).is_err() {
+            lost += 1;
+        }
     }
+    lost
 }
 
 /// How many of an epoch's first positions decided its end: those up to the first hit, without it where its trial failed.

@@ -13,7 +13,7 @@ ghost use Rattle.cr_pool.specs.Kept.{IsDecided, IsKept};
 ghost use Rattle.cr_pool.specs.Sizes.{HasSize};
 ghost use Rattle.cr_pool.specs.Tally.{tally_of};
 ghost use Rattle.cr_pool.specs.Trials.{IsGood, IsLarge};
-ghost use Rattle.cr_pool.specs.Works.{Tries, NoteIsSo, RejectsAt, HitSays, IsSameList};
+ghost use Rattle.cr_pool.specs.Works.{Tries, MayNoteNothing, NoteIsSo, RejectsAt, HitSays, IsSameList};
 
 use crate::job::Job;
 use crate::looker::Looker;
@@ -173,6 +173,7 @@ pub fn try_position<P: Passes, L: Law, Q: Question, J: Judge>(
     ensures stopped { result ≡ Trial.Stopped → (view_of pass.new).read / 4 < last_position (view_of pass.new).own }
     ensures hit { (kind : HitKind) → result ≡ Trial.Hit kind → HitSays (trying P.Passes L.Law Q.Question J.Judge job.now judge.old verdicts.now) (tally_of J.Judge judge.old) (tally_of J.Judge judge.new) variant.new.items at kind }
     ensures noted { NoteIsSo (trying P.Passes L.Law Q.Question J.Judge job.now judge.old verdicts.now) (tally_of J.Judge judge.old) (tally_of J.Judge judge.new) at note.new }
+    ensures unnoted { note.new ≡ None → MayNoteNothing (trying P.Passes L.Law Q.Question J.Judge job.now judge.old verdicts.now) at result }
     ensures key { J.key judge.new ≡ J.key judge.old }
     ensures silent { Q.asks job.now.question.now ≡ false → judge.new ≡ judge.old }
 {

@@ -1,12 +1,12 @@
 // The verdicts that a bench keeps from one epoch to the next.
-ghost use Rattle.std.specs.Prelude.{◌≡◌, ◌⊎◌, [], IfOk, List, Some, None, ℕ};
-ghost use Rattle.cr_pool.specs.Kept.{IsKept, Keeps};
+ghost use Rattle.std.specs.Prelude.{◌≡◌, ◌≤◌, [], IfOk, OnErr, OnOk, Some, None, length};
+ghost use Rattle.cr_pool.specs.Kept.{IsKept, IsPut, Keeps, kept_in, put_kept};
 ghost use Rattle.cr_pool.specs.declared.verdict.Verdict.{Verdict};
 
 use crate::verdict::Verdict;
 use cr_outside::NoMemory;
 use lru::LruCache;
-use std::alloc::Global;
+use std::alloc::{AllocError, Global};
 use std::marker::Model;
 use std::num::NonZeroUsize;
 
@@ -16,19 +16,40 @@ const MOST: usize = 256;
 /// The longest file on which a verdict is kept, in bytes.
 const LONGEST: usize = 65_536;
 
-/// The verdicts on the files that were tried last. Clauses see the list of them.
+/// The verdicts on the files that were tried last. Clauses see the list of them, the one that was put last first.
 #[derive(Drop)]
 pub struct Verdicts {
     cache: LruCache<Vec<u8>, Verdict>,
 }
 
 impl Model for Verdicts {
-    ghost use Rattle.std.specs.Prelude.{List};
+    ghost use Rattle.std.specs.Prelude.{◌≡◌, ◌≤◌, List, length};
     ghost use Rattle.cr_pool.specs.Kept.{Kept, kept_in};
 
     ghost Value = { List Kept };
 
     ghost view = { λ v. kept_in v.cache.entries };
+
+    ghost invariant = { λ v. (v.cache.cap ≡ 256) × (length v.cache.entries ≤ 256) };
+}
+
+// Puts a verdict on the file that is its key.
+fn store(
+    cache: &mut LruCache<Vec<u8>, Verdict>,
+    key: Vec<u8>,
+    verdict: Verdict,
+) -> Result<(), NoMemory>
+    requires most { cache.old.cap ≡ 256 }
+    requires few { length cache.old.entries ≤ 256 }
+    ensures cap { cache.new.cap ≡ 256 }
+    ensures few { length cache.new.entries ≤ 256 }
+    ensures put { OnOk result (kept_in cache.new.entries ≡ put_kept 256 key.items verdict (kept_in cache.old.entries)) }
+    ensures lost { OnErr result (cache.new ≡ cache.old) }
+{
+    match cache.put(key, verdict) {
+        Ok(_) => Ok(()),
+        Err(_) => Err(AllocError),
+    }
 }
 
 impl Verdicts {
@@ -50,15 +71,17 @@ impl Verdicts {
         self.cache.peek(file).copied()
     }
 
-    /// Keeps a verdict on a file, as the one that was used last. It isn't kept where the file is too long or no memory is left.
-    pub fn put(&mut self, alloc: Global, file: &[u8], verdict: Verdict)
-        ensures { (other : List ℕ) (said : Verdict) → Keeps self.new other said → Keeps self.old other said ⊎ ((other ≡ file.now) × (said ≡ verdict)) }
+    /// Keeps a verdict on a file, as the one that was used last; none on a file that is too long.
+    pub fn put(&mut self, alloc: Global, file: &[u8], verdict: Verdict) -> Result<(), NoMemory>
+        ensures put { OnOk result (IsPut file.now verdict self.old self.new) }
+        ensures lost { OnErr result (self.new ≡ self.old) }
     {
         if file.len() > LONGEST {
-            return;
+            return Ok(());
         }
-        if let Ok(key) = file.to_vec(alloc) {
-            let _ = self.cache.put(key, verdict);
+        match file.to_vec(alloc) {
+            Ok(key) => store(&mut self.cache, key, verdict),
+            Err(_) => Err(AllocError),
         }
     }
 

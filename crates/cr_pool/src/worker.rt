@@ -9,7 +9,7 @@ ghost use Rattle.cr_pool.specs.Epoch.{BeginsRight};
 ghost use Rattle.cr_pool.specs.Jobs.{IsPlaced, trying};
 ghost use Rattle.cr_pool.specs.Sizes.{HasSize};
 ghost use Rattle.cr_pool.specs.Tally.{tally_of};
-ghost use Rattle.cr_pool.specs.Works.{Works, HitIsSo, IsBlank, NotesAreSo};
+ghost use Rattle.cr_pool.specs.Works.{Works, HitIsSo, IsBlank, NotesAreSo, NotesTell};
 
 use crate::job::Job;
 use crate::trial::{Trial, try_position};
@@ -82,6 +82,7 @@ pub fn drive<P: Passes, L: Law, Q: Question, J: Judge>(
     ensures works { Works (trying P.Passes L.Law Q.Question J.Judge job.now judge.old verdicts.now) (tally_of J.Judge judge.old) (tally_of J.Judge judge.new) result (view_of pass.new).own }
     ensures hit { HitIsSo (trying P.Passes L.Law Q.Question J.Judge job.now judge.old verdicts.now) (tally_of J.Judge judge.old) (tally_of J.Judge judge.new) variant.new.items result }
     ensures notes { NotesAreSo (trying P.Passes L.Law Q.Question J.Judge job.now judge.old verdicts.now) (tally_of J.Judge judge.old) (tally_of J.Judge judge.new) notes.new.items }
+    ensures tell { NotesTell (trying P.Passes L.Law Q.Question J.Judge job.now judge.old verdicts.now) (view_of pass.new).own notes.new.items }
     ensures key { J.key judge.new ≡ J.key judge.old }
     ensures silent { Q.asks job.now.question.now ≡ false → judge.new ≡ judge.old }
 {

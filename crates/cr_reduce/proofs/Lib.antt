@@ -9,3 +9,6 @@ pub mod Traces
 pub mod Ends
 pub mod Bounds
 pub mod Epochs
+pub mod Keepings
+pub mod Resumed
+pub mod Fronts

@@ -22,30 +22,30 @@ one_limit : (limit : Option ℕ) (m n : ℕ) → limit ≡ Some m → limit ≡ 
 one_limit limit m n first second = cc
 
 -- An accepted position isn't among rejected ones.
-not_among : (o : Offer) (A R : Trial) (file : List ℕ) (from position to : ℕ) (at : Cursor) → ExcludeEachOther A R → IsFirstAccepted o A R file from position at
+pub not_among : (o : Offer) (A R : Trial) (file : List ℕ) (from position to : ℕ) (at : Cursor) → ExcludeEachOther A R → IsFirstAccepted o A R file from position at
     → AllRejected o R file from to → to ≤ position
 not_among o A R file from position to at apart first all = elim (cases_lt position to) [
   | inl early ↦ absurd (apart file (o.bytes at) first.accepted (all position at first.after early first.there))
   | inr late ↦ late
 ]
 
-inside : (o : Offer) (A R : Trial) (file : List ℕ) (from position : ℕ) (at : Cursor) → IsFirstAccepted o A R file from position at → position < length (cursors_of o)
+pub inside : (o : Offer) (A R : Trial) (file : List ℕ) (from position : ℕ) (at : Cursor) → IsFirstAccepted o A R file from position at → position < length (cursors_of o)
 inside o A R file from position at first = slice_get_within (cursors_of o) position at first.there
 
 -- Two first accepted positions are one.
-one_position : (o : Offer) (A R : Trial) (file : List ℕ) (from position other : ℕ) (at at' : Cursor) → ExcludeEachOther A R
+pub one_position : (o : Offer) (A R : Trial) (file : List ℕ) (from position other : ℕ) (at at' : Cursor) → ExcludeEachOther A R
     → IsFirstAccepted o A R file from position at → IsFirstAccepted o A R file from other at' → position ≡ other
 one_position o A R file from position other at at' apart first second =
     omega (arith, not_among o A R file from position other at apart first second.before, not_among o A R file from other position at' apart second first.before)
 
-one_cursor : (o : Offer) (i j : ℕ) (at at' : Cursor) → slice_get (cursors_of o) i ≡ Some at → slice_get (cursors_of o) j ≡ Some at' → i ≡ j → at ≡ at'
+pub one_cursor : (o : Offer) (i j : ℕ) (at at' : Cursor) → slice_get (cursors_of o) i ≡ Some at → slice_get (cursors_of o) j ≡ Some at' → i ≡ j → at ≡ at'
 one_cursor o i j at at' there there' e = cc
 
 -- A file has one offer at most.
 abbrev pub OffersOne : Proposals → Type 0
 OffersOne p = (file : List ℕ) (o other : Offer) → p file o → p file other → o ≡ other
 
-one_taken : (p : Proposals) (st : State) (at at' : Cursor) (size size' turns turns' : ℕ) (next next' : Offer) → OffersOne p → at ≡ at' → HasSize (st.offer.bytes at) size → HasSize (st.offer.bytes at') size' → turns ≡ turns'
+pub one_taken : (p : Proposals) (st : State) (at at' : Cursor) (size size' turns turns' : ℕ) (next next' : Offer) → OffersOne p → at ≡ at' → HasSize (st.offer.bytes at) size → HasSize (st.offer.bytes at') size' → turns ≡ turns'
     → p (st.offer.bytes at) next → p (st.offer.bytes at') next' → taken st at' size' turns' next' ≡ taken st at size turns next
 one_taken p st at at' size size' turns turns' next next' one same has has' e offered offered' =
     let sizes : size ≡ size' = one_size (st.offer.bytes at') size size' (subst (λ c. HasSize (st.offer.bytes c) size) same has) has' in

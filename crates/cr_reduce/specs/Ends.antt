@@ -40,16 +40,22 @@ pub record IsUntouched (file : List ℕ) (e : End) : Type 0 where
 
 -- By the answers of the run the end is the reduction's, whole, at a fault too. Want of memory leaves what the reduction
 -- comes to after the turns that were made; without memory for what is offered nothing was done.
+abbrev pub EndsAt : (Option ℕ → Outcome → Type 0) → Type 0 → Option ℕ → End → Why → Type 0
+EndsAt reduction untouched limit e Fixed = reduction limit (outcome_of e Fixed)
+EndsAt reduction untouched limit e Limit = reduction limit (outcome_of e Limit)
+EndsAt reduction untouched limit e (Fault turn worker) = reduction limit (outcome_of e (Fault turn worker))
+EndsAt reduction untouched limit e NoMemory = Within limit e.turns × (untouched ⊎ StopsAt reduction e)
+
 abbrev pub EndsBy : (Option ℕ → Outcome → Type 0) → List ℕ → Option ℕ → End → Why → Type 0
-EndsBy reduction file limit e Fixed = reduction limit (outcome_of e Fixed)
-EndsBy reduction file limit e Limit = reduction limit (outcome_of e Limit)
-EndsBy reduction file limit e (Fault turn worker) = reduction limit (outcome_of e (Fault turn worker))
-EndsBy reduction file limit e NoMemory = Within limit e.turns × (IsUntouched file e ⊎ StopsAt reduction e)
+EndsBy reduction file limit e why = EndsAt reduction (IsUntouched file e) limit e why
 
 -- No fault is told: it is one of the turn after the last, and leaves what the reduction comes to after the turns made.
+abbrev pub EndsToldAt : (Option ℕ → Outcome → Type 0) → Type 0 → Option ℕ → End → Why → Type 0
+EndsToldAt reduction untouched limit e (Fault turn worker) = (turn ≡ e.turns + 1) × Within limit e.turns × StopsAt reduction e
+EndsToldAt reduction untouched limit e why = EndsAt reduction untouched limit e why
+
 abbrev pub EndsToldBy : (Option ℕ → Outcome → Type 0) → List ℕ → Option ℕ → End → Why → Type 0
-EndsToldBy reduction file limit e (Fault turn worker) = (turn ≡ e.turns + 1) × Within limit e.turns × StopsAt reduction e
-EndsToldBy reduction file limit e why = EndsBy reduction file limit e why
+EndsToldBy reduction file limit e why = EndsToldAt reduction (IsUntouched file e) limit e why
 
 -- by the answers given in the run
 abbrev pub EndsInRun : Search → Judging → Judging → Option ℕ → List ℕ → End → Type 0

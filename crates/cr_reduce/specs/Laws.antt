@@ -2,8 +2,11 @@
 use Rattle.std.specs.Prelude.{◌≡◌, ℕ, Bool, List, Option}
 use Rattle.cr_outside.specs.Question.{Says}
 use Rattle.cr_pool.specs.Kept.{Kept}
+use Rattle.cr_reduce.specs.Keeping.{EndsOnAsTold, Front, IsFrontOfAll, IsKeptOf, ReducesOnAsTold}
 use Rattle.cr_reduce.specs.Reduction.{Proposals, Trial, State, Outcome}
 use Rattle.cr_reduce.specs.Search.{Search, AcceptsAsTold, RejectsAsTold, ReducesAsTold, ReducesFileAsTold, search_of}
+use Rattle.cr_reduce.specs.declared.end.End.{End}
+use Rattle.cr_reduce.specs.declared.end.Kept.{Kept as KeptRows}
 
 -- no variant is both accepted and rejected
 abbrev pub ExcludeEachOther : Trial → Trial → Type 0
@@ -19,6 +22,15 @@ HasOneOutcome s = (limit : Option ℕ) (st : State) (out other : Outcome) → Re
 -- and so of each file
 abbrev pub HasOneReduction : Search → Type 0
 HasOneReduction s = (limit : Option ℕ) (file : List ℕ) (out other : Outcome) → ReducesFileAsTold s file limit out → ReducesFileAsTold s file limit other → out ≡ other
+
+-- Where a reduction that went on ended, also where it was cut short, what it accepted comes first in what the whole one accepts.
+abbrev pub AcceptsAFront : Search → Type 0
+AcceptsAFront s = (limit : Option ℕ) (kept : KeptRows) (e : End) → EndsOnAsTold s limit kept e → IsFrontOfAll s limit kept e
+
+-- Where a reduction accepts these rows first, it goes on behind them to the same outcome.
+abbrev pub GoesOnToTheSame : Search → Type 0
+GoesOnToTheSame s = (limit : Option ℕ) (file : List ℕ) (kept : KeptRows) (out : Outcome) → IsKeptOf s.Offers file kept → Front kept.accepted.items out.accepted
+    → ReducesFileAsTold s file limit out → ReducesOnAsTold s kept limit out
 
 -- whatever the judges say, and whatever is kept
 abbrev pub ForAnyJudge : Proposals → (List ℕ → Type 0) → Bool → (Says → List ℕ → List ℕ → Bool → Type 0) → (Search → Type 0) → Type 0

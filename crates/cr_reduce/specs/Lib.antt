@@ -6,4 +6,5 @@ pub mod Search
 pub mod Walk
 pub mod Ends
 pub mod Bound
+pub mod Keeping
 pub mod Laws

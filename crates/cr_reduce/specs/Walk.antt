@@ -36,7 +36,7 @@ pub record IsSound {T : Type 0} (p : Proposals) (offer : T → List ℕ → Offe
   pub counted : w.count ≡ length (cursors_of (offer w.prep w.file.items))
   pub few : w.count ≤ 167772160
   pub placed : w.position ≤ w.count
-  pub bounded : w.turns + work_of w ≤ 36028797018963968
+  pub bounded : w.turns + work_of w ≤ 9259400833873739776
 
 -- From one state to another over rejected positions, none or more.
 pub record GoesOver (s : Search) (before now : Judging) (from to : State) : Type 0 where

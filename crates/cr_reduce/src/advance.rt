@@ -1,5 +1,8 @@
 // The steps of the walk, up to its end.
-ghost use Rattle.std.specs.Prelude.{◌≡◌, ◌<◌, ◌≤◌, ℕ, List, IsSome, Some, None, length, false};
+ghost use Rattle.std.specs.Prelude.{◌≡◌, ◌≢◌, ◌<◌, ◌≤◌, ℕ, List, IsSome, Some, None, length, false};
+ghost use Rattle.std.specs.Bool.{OnTrue};
+ghost use Rattle.cr_reduce.specs.Keeping.{Grows};
+ghost use Rattle.cr_reduce.specs.declared.end.Accepted.{Accepted as Row};
 ghost use Rattle.cr_reduce.specs.declared.end.Why.{Why};
 ghost use Rattle.cr_reduce.specs.Bench.{GoesOn, judging, keys_of};
 ghost use Rattle.cr_reduce.specs.Ends.{calls_beside};
@@ -7,7 +10,8 @@ ghost use Rattle.cr_reduce.specs.Reduction.{Within, cursors_of};
 ghost use Rattle.cr_reduce.specs.Search.{AreMade, AreRightBy, searching};
 ghost use Rattle.cr_reduce.specs.Walk.{Advances, AsksFew, AsksOnlyTried, EndsHere, GoesOver, IsSound, Walked, calls_beside_step, state_of, work_of};
 
-use crate::end::{Plan, Why};
+use crate::end::{Accepted, Plan, Why};
+use crate::keeper::Keeper;
 use crate::look::look;
 use crate::walk::Walk;
 use cr_cursor::{Law, Passes};
@@ -75,6 +79,7 @@ pub fn walk_on<
     L: Law + Sync,
     Q: Question + Sync,
     J: Judge + Send,
+    K: Keeper,
 >(
     rt: &R,
     alloc: Global,
@@ -85,6 +90,7 @@ pub fn walk_on<
     name: &str,
     plan: &Plan,
     walk: &mut Walk<P::Prep>,
+    keeper: &mut K,
 ) -> Why
 where
     P::Prep: Sync,
@@ -93,6 +99,10 @@ where
     requires window { (0 < plan.now.window) × (plan.now.window ≤ 4096) }
     requires right { AreRightBy (searching P.Passes passes.now L.Law law.now Q.Question question.now name.now J.Judge bench.old) bench.old.kept }
     requires within { Within plan.now.limit walk.old.turns }
+    requires keeps { K.keeps keeper.old walk.old.accepted.items }
+    ensures keeps { result ≢ Why.NoMemory → K.keeps keeper.new walk.new.accepted.items }
+    ensures kept_on { K.kept_on keeper.old keeper.new walk.new.accepted.items }
+    ensures held { K.held keeper.new ≡ K.held keeper.old }
     ensures walked { Walked (searching P.Passes passes.now L.Law law.now Q.Question question.now name.now J.Judge bench.old)
         (judging J.Judge bench.old) (judging J.Judge bench.new) (state_of (P.offer passes.now) walk.old) (state_of (P.offer passes.now) walk.new) }
     ensures ended { EndsHere (searching P.Passes passes.now L.Law law.now Q.Question question.now name.now J.Judge bench.old)
@@ -107,9 +117,27 @@ where
         (judging J.Judge bench.old) (judging J.Judge bench.new) bench.new.kept }
 {
     loop {
+        let count = walk.accepted.len() as u64;
         let step = advance(rt, alloc, passes, law, question, bench, name, plan, walk);
         if let Some(why) = step {
             return why;
         }
+        if !keep_newest(alloc, keeper, &walk.accepted, count) {
+            return Why::NoMemory;
+        }
     }
+}
+
+// Keeps the newest row, where the rows were so many and one is more. Answers whether it was kept.
+fn keep_newest<K: Keeper>(alloc: Global, keeper: &mut K, rows: &Vec<Accepted>, count: u64) -> bool
+    requires { (old : List Row) × (length old ≡ count) × K.keeps keeper.old old × Grows old rows.now.items }
+    ensures keeps { OnTrue result (K.keeps keeper.new rows.now.items) }
+    ensures kept_on { K.kept_on keeper.old keeper.new rows.now.items }
+    ensures held { K.held keeper.new ≡ K.held keeper.old }
+{
+    if count == rows.len() as u64 {
+        return true;
+    }
+    let row = rows[count as usize];
+    keeper.keep(alloc, row, count).is_ok()
 }

@@ -33,6 +33,18 @@ pub struct End {
     pub why: Why,
 }
 
+/// Where a reduction stands that has accepted rows before: it goes on behind the last of them.
+#[derive(Debug, Drop)]
+pub struct Kept {
+    /// The file that was accepted last, or without rows the first one.
+    pub file: Vec<u8>,
+    /// The last row's cursor; without rows the first cursor.
+    pub at: Cursor,
+    pub accepted: Vec<Accepted>,
+    /// The last row's turn; without rows 0.
+    pub turns: u64,
+}
+
 /// How a reduction is run. Workers and window don't change its outcome.
 #[derive(Clone, Copy, Debug, PartialEq, Eq)]
 pub struct Plan {

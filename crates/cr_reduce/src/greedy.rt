@@ -10,6 +10,7 @@ ghost use Rattle.cr_reduce.specs.Walk.{IsSound, state_of};
 
 use crate::advance::walk_on;
 use crate::end::{End, Plan, Why};
+use crate::keeper::NoKeeper;
 use crate::measure::size_of;
 use crate::walk::Walk;
 use cr_cursor::{Law, Passes, positions};
@@ -83,8 +84,18 @@ where
 {
     match begin(alloc, passes, file) {
         Ok(mut walk) => {
+            let mut keeper = NoKeeper;
             let why = walk_on(
-                rt, alloc, passes, law, question, bench, name, plan, &mut walk,
+                rt,
+                alloc,
+                passes,
+                law,
+                question,
+                bench,
+                name,
+                plan,
+                &mut walk,
+                &mut keeper,
             );
             end_of(walk, why)
         }
@@ -124,7 +135,8 @@ fn begin<P: Passes>(alloc: Global, passes: &P, file: Vec<u8>) -> Result<Walk<P::
     })
 }
 
-fn end_of<T: Drop>(walk: Walk<T>, why: Why) -> End
+/// What a walk ended with.
+pub fn end_of<T: Drop>(walk: Walk<T>, why: Why) -> End
     ensures { result ≡ end_of_walk walk why }
 {
     let Walk {

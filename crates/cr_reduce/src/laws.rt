@@ -1,5 +1,5 @@
 //! What always holds of the reduction by told answers: each law is the clause of a function that does nothing.
-ghost use Rattle.cr_reduce.specs.Laws.{ForAnyJudge, HasOneOutcome, HasOneReduction, ToldTrialsExclude};
+ghost use Rattle.cr_reduce.specs.Laws.{AcceptsAFront, ForAnyJudge, GoesOnToTheSame, HasOneOutcome, HasOneReduction, ToldTrialsExclude};
 
 use cr_cursor::{Law, Passes};
 use cr_outside::Question;
@@ -24,4 +24,22 @@ pub fn a_told_reduction_has_one_outcome<P: Passes, L: Law, Q: Question>(
 
     // and so of each file
     ensures reduction { ForAnyJudge (P.offers passes.now) (L.lawful law.now) (Q.asks question.now) (Q.tells question.now) HasOneReduction }
+{}
+
+/// Where a reduction that went on was cut short, what it accepted comes first in what the whole one accepts.
+pub fn a_reduction_cut_short_accepts_a_front<P: Passes, L: Law, Q: Question>(
+    passes: &P,
+    law: &L,
+    question: &Q,
+)
+    ensures { ForAnyJudge (P.offers passes.now) (L.lawful law.now) (Q.asks question.now) (Q.tells question.now) AcceptsAFront }
+{}
+
+/// A reduction that stopped behind what it had accepted goes on from there to the same outcome.
+pub fn a_reduction_goes_on_to_the_same<P: Passes, L: Law, Q: Question>(
+    passes: &P,
+    law: &L,
+    question: &Q,
+)
+    ensures { ForAnyJudge (P.offers passes.now) (L.lawful law.now) (Q.asks question.now) (Q.tells question.now) GoesOnToTheSame }
 {}

@@ -17,10 +17,10 @@ use Rattle.cr_scopes.specs.declared.scope.Space.{Space}
 use Rattle.cr_scopes.specs.Looking.{unseen}
 use Rattle.cr_scopes.specs.Scopes.{looked}
 use Rattle.cr_scopes.specs.Spelled.{name_of}
-use Rattle.cr_scopes.specs.Resolved.{told, past_of, with_event, fault_if, fault_at, token_of, told_below, AreNames, AreResolved, IsFirstFault}
+use Rattle.cr_scopes.specs.Resolved.{told, past_of, with_event, fault_if, fault_at, token_of, told_below, AreEntities, AreNames, IsFirstOrNone}
 use Rattle.cr_scopes.specs.Building.{told_in}
 use Rattle.cr_scopes.specs.States.{name_in, AreTold, IsState, same_pair, lesser, IsFirstBelow, IsLeast}
-use Rattle.cr_scopes.specs.Units.{unit_events, AreUnitNames, IsUnitFault}
+use Rattle.cr_scopes.specs.Units.{unit_events, AreUnitEntities, AreUnitNames, IsUnitFault, IsUnitFirst}
 
 abbrev token_if : Option NameFault → ℕ
 token_if None = 0
@@ -53,6 +53,7 @@ lesser_is at k f g true le h e = record {
         let b = same_token g other (e ∙ newest_is at j k low newest ∙ eq) in
         omega (arith, a, b)
   ];
+  earliest = h.earliest;
 }
 lesser_is at k f g false le h e = record {
   event = k;
@@ -65,6 +66,10 @@ lesser_is at k f g false le h e = record {
         omega (arith, a, b)
     | inr newest ↦ same_token g other (e ∙ newest_is at j k low newest ∙ eq)
   ];
+  earliest = λ j other older eq.
+      let a = leb-false (token_of f) (token_of g) le in
+      let b = h.first j other older eq in
+      omega (arith, a, b);
 }
 
 pub least_more : (at : ℕ → Option NameFault) (k : ℕ) (a b : Option NameFault) → IsLeast at k a → b ≡ at k → IsLeast at (k + 1) (lesser a b)
@@ -80,6 +85,7 @@ least_more at k None (Some g) h e = record {
     | inl older ↦ absurd (no_fault other (sym (h j older) ∙ eq))
     | inr newest ↦ same_token g other (e ∙ newest_is at j k low newest ∙ eq)
   ];
+  earliest = λ j other older eq. absurd (no_fault other (sym (h j older) ∙ eq));
 }
 least_more at k (Some f) None h e = record {
   event = h.event;
@@ -89,6 +95,7 @@ least_more at k (Some f) None h e = record {
     | inl older ↦ h.first j other older eq
     | inr newest ↦ absurd (no_fault other (e ∙ newest_is at j k low newest ∙ eq))
   ];
+  earliest = h.earliest;
 }
 least_more at k (Some f) (Some g) h e = lesser_is at k f g (nat_le (token_of f) (token_of g)) refl h e
 
@@ -151,67 +158,78 @@ starts name state a b c d e = record {
 no_fault_past : (name : ℕ → ℕ) (events : List Event) (k : ℕ) → length events ≤ k → fault_at name events k ≡ None
 no_fault_past name events k past = ap (fault_if name (past_of events k)) (slice_get_past events k past)
 
--- behind all events
-pub unit_names : (file : List ℕ) (unit : tree.Unit) (row : List ℕ) (rows : List (Option Told)) (found : Names)
+-- ---- behind all events
+
+told_row : (row : List ℕ) (rows : List (Option Told)) (events : List Event) (tokens : ℕ) → length rows ≡ tokens
+    → AreTold (name_in row) (past_of events (length events)) rows → (t : ℕ) → told_in rows t ≡ told_below (name_in row) events tokens t
+told_row row rows events tokens whole h t = elim (cases_lt t tokens) [
+  | inl low ↦
+      h t (omega (arith, low, whole))
+      ∙ sym (cond-true (nat_lt t tokens) (told (name_in row) t (past_of events (length events))) None (lt-ltb t tokens low))
+  | inr past ↦
+      get_or_past rows t None (omega (arith, past, whole))
+      ∙ sym (cond-false (nat_lt t tokens) (told (name_in row) t (past_of events (length events))) None (le-ltb t tokens past))
+]
+
+entities_by : (file : List ℕ) (unit : tree.Unit) (row : List ℕ) (rows : List (Option Told)) (found : Names)
     → ((t : ℕ) → name_in row t ≡ name_of file unit.tokens.list.items t) → length rows ≡ length unit.tokens.list.items
     → AreTold (name_in row) (past_of (unit_events unit) (length (unit_events unit))) rows
-    → IsLeast (fault_at (name_in row) (unit_events unit)) (length (unit_events unit)) None
-    → AreNames (told_in rows) (length rows) found → AreUnitNames file unit found
-unit_names file unit row rows found names whole told_rows least entities =
+    → AreNames (told_in rows) (length rows) found → AreUnitEntities file unit found
+entities_by file unit row rows found names whole told_rows entities =
     let events = unit_events unit in
     let tokens = unit.tokens.list.items in
-    subst (λ name. AreResolved name events (length tokens) found) (λ i. λ t. names t i) (record {
-      right = λ k. elim (cases_lt k (length events)) [
-        | inl low ↦ least k low
-        | inr past ↦ no_fault_past (name_in row) events k past
-      ];
-      names = subst (λ n. AreNames (told_below (name_in row) events (length tokens)) n found) whole
-          (subst (λ at. AreNames at (length rows) found) (λ i. λ t. told_row row rows events (length tokens) whole told_rows t i) entities);
-    })
-  where
-    told_row : (row : List ℕ) (rows : List (Option Told)) (events : List Event) (tokens : ℕ) → length rows ≡ tokens
-        → AreTold (name_in row) (past_of events (length events)) rows → (t : ℕ) → told_in rows t ≡ told_below (name_in row) events tokens t
-    told_row row rows events tokens whole h t = elim (cases_lt t tokens) [
-      | inl low ↦
-          h t (omega (arith, low, whole))
-          ∙ sym (cond-true (nat_lt t tokens) (told (name_in row) t (past_of events (length events))) None (lt-ltb t tokens low))
-      | inr past ↦
-          get_or_past rows t None (omega (arith, past, whole))
-          ∙ sym (cond-false (nat_lt t tokens) (told (name_in row) t (past_of events (length events))) None (le-ltb t tokens past))
-    ]
+    subst (λ name. AreEntities name events (length tokens) found) (λ i. λ t. names t i)
+    (subst (λ n. AreNames (told_below (name_in row) events (length tokens)) n found) whole
+    (subst (λ at. AreNames at (length rows) found) (λ i. λ t. told_row row rows events (length tokens) whole told_rows t i) entities))
 
-first_of_unit : (file : List ℕ) (unit : tree.Unit) (row : List ℕ) (fault : NameFault)
-    → ((t : ℕ) → name_in row t ≡ name_of file unit.tokens.list.items t)
-    → IsFirstBelow (fault_at (name_in row) (unit_events unit)) (length (unit_events unit)) fault
-    → IsFirstFault (name_of file unit.tokens.list.items) (unit_events unit) fault
-first_of_unit file unit row fault names h =
-    subst (λ name. IsFirstFault name (unit_events unit) fault) (λ i. λ t. names t i) (record {
-      event = h.event;
-      is = h.is;
-      first = λ k other e. elim (cases_lt k (length (unit_events unit))) [
-        | inl low ↦ h.first k other low e
-        | inr past ↦ absurd (no_fault other (sym (no_fault_past (name_in row) (unit_events unit) k past) ∙ e))
-      ];
-    })
-
-pub unit_fault : (file : List ℕ) (unit : tree.Unit) (row : List ℕ) (fault : NameFault)
-    → ((t : ℕ) → name_in row t ≡ name_of file unit.tokens.list.items t)
-    → IsFirstBelow (fault_at (name_in row) (unit_events unit)) (length (unit_events unit)) fault
-    → IsUnitFault file unit fault
-unit_fault file unit row NoMemory names h = tt
-unit_fault file unit row (Unknown t) names h = first_of_unit file unit row (Unknown t) names h
-unit_fault file unit row (Twice t) names h = first_of_unit file unit row (Twice t) names h
-
-pub all_resolved : (file : List ℕ) (unit : tree.Unit) (tokens : List Token) (row : List ℕ) (events : List Event) (rows : List (Option Told))
-    (fault : Option NameFault) (found : Names) → tokens ≡ unit.tokens.list.items → events ≡ unit_events unit
+-- what tokens stand for gives the entities of the unit
+pub unit_entities : (file : List ℕ) (unit : tree.Unit) (tokens : List Token) (row : List ℕ) (events : List Event) (rows : List (Option Told))
+    (found : Names) → tokens ≡ unit.tokens.list.items → events ≡ unit_events unit
     → ((t : ℕ) → name_in row t ≡ name_of file tokens t) → length rows ≡ length tokens
-    → AreTold (name_in row) (past_of events (length events)) rows → IsLeast (fault_at (name_in row) events) (length events) fault
-    → fault ≡ None → AreNames (told_in rows) (length rows) found → AreUnitNames file unit found
-all_resolved file unit tokens row events rows fault found t e names whole told_rows least none entities =
-    unit_names file unit row rows found
+    → AreTold (name_in row) (past_of events (length events)) rows → AreNames (told_in rows) (length rows) found → AreUnitEntities file unit found
+unit_entities file unit tokens row events rows found t e names whole told_rows entities =
+    entities_by file unit row rows found
     (subst (λ ts. (k : ℕ) → name_in row k ≡ name_of file ts k) t names)
     (whole ∙ ap length t)
     (subst (λ es. AreTold (name_in row) (past_of es (length es)) rows) e told_rows)
-    (subst (λ f. IsLeast (fault_at (name_in row) (unit_events unit)) (length (unit_events unit)) f) none
-    (subst (λ es. IsLeast (fault_at (name_in row) es) (length es) fault) e least))
     entities
+
+-- the first fault of all events is that of the unit
+first_by : (name : ℕ → ℕ) (events : List Event) (fault : Option NameFault) → IsLeast (fault_at name events) (length events) fault
+    → IsFirstOrNone name events fault
+first_by name events None least = λ k. elim (cases_lt k (length events)) [
+  | inl low ↦ least k low
+  | inr past ↦ no_fault_past name events k past
+]
+first_by name events (Some fault) h = record {
+  event = h.event;
+  is = h.is;
+  first = λ k other e. elim (cases_lt k (length events)) [
+    | inl low ↦ h.first k other low e
+    | inr past ↦ absurd (no_fault other (sym (no_fault_past name events k past) ∙ e))
+  ];
+  earliest = h.earliest;
+}
+
+pub unit_first : (file : List ℕ) (unit : tree.Unit) (tokens : List Token) (row : List ℕ) (events : List Event) (fault : Option NameFault)
+    → tokens ≡ unit.tokens.list.items → events ≡ unit_events unit → ((t : ℕ) → name_in row t ≡ name_of file tokens t)
+    → IsLeast (fault_at (name_in row) events) (length events) fault → IsUnitFirst file unit fault
+unit_first file unit tokens row events fault t e names least =
+    subst (λ name. IsFirstOrNone name (unit_events unit) fault)
+    (λ i. λ k. subst (λ ts. (k : ℕ) → name_in row k ≡ name_of file ts k) t names k i)
+    (subst (λ es. IsFirstOrNone (name_in row) es fault) e (first_by (name_in row) events fault least))
+
+-- what is known of both is what is resolved
+
+fault_of_unit : (file : List ℕ) (unit : tree.Unit) (fault : NameFault) → IsUnitFirst file unit (Some fault) → IsUnitFault file unit fault
+fault_of_unit file unit NoMemory h = tt
+fault_of_unit file unit (Unknown t) h = h
+fault_of_unit file unit (Twice t) h = h
+
+pub first_is : (file : List ℕ) (unit : tree.Unit) (fault : NameFault) (found : Option NameFault) → found ≡ Some fault
+    → IsUnitFirst file unit found → IsUnitFault file unit fault
+first_is file unit fault found e h = fault_of_unit file unit fault (subst (IsUnitFirst file unit) e h)
+
+pub all_resolved : (file : List ℕ) (unit : tree.Unit) (names : Names) (found : Option NameFault) → found ≡ None
+    → IsUnitFirst file unit found → AreUnitEntities file unit names → AreUnitNames file unit names
+all_resolved file unit names found e h are = record { right = subst (IsUnitFirst file unit) e h; names = are }

@@ -3,3 +3,4 @@ pub mod Spellings
 pub mod Followed
 pub mod Built
 pub mod Ended
+pub mod One

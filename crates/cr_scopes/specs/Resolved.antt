@@ -122,17 +122,27 @@ token_of NoMemory = 0
 token_of (Unknown t) = t
 token_of (Twice t) = t
 
--- the fault at the least token
+-- the fault at the least token, and of several there that of the first event
 pub record IsFirstFault (name : ℕ → ℕ) (events : List Event) (fault : NameFault) : Type 0 where
   pub event : ℕ
   pub is : fault_at name events event ≡ Some fault
   pub first : (k : ℕ) (other : NameFault) → fault_at name events k ≡ Some other → token_of fault ≤ token_of other
+  pub earliest : (k : ℕ) (other : NameFault) → k < event → fault_at name events k ≡ Some other → token_of fault < token_of other
+
+-- the first fault, or that there is none
+abbrev pub IsFirstOrNone : (ℕ → ℕ) → List Event → Option NameFault → Type 0
+IsFirstOrNone name events None = (k : ℕ) → fault_at name events k ≡ None
+IsFirstOrNone name events (Some fault) = IsFirstFault name events fault
 
 -- what the first tokens stand for, after all events
 abbrev pub told_below : (ℕ → ℕ) → List Event → ℕ → ℕ → Option Told
 told_below name events tokens t = if nat_lt t tokens then told name t (past_of events (length events)) else None
 
+-- what the names stand for, whether one is at fault or not
+abbrev pub AreEntities : (ℕ → ℕ) → List Event → ℕ → Names → Type 0
+AreEntities name events tokens found = AreNames (told_below name events tokens) tokens found
+
 -- no fault, and what the names stand for
 pub record AreResolved (name : ℕ → ℕ) (events : List Event) (tokens : ℕ) (found : Names) : Type 0 where
   pub right : (k : ℕ) → fault_at name events k ≡ None
-  pub names : AreNames (told_below name events tokens) tokens found
+  pub names : AreEntities name events tokens found

@@ -66,12 +66,13 @@ lesser None second = second
 lesser (Some first) None = Some first
 lesser (Some first) (Some second) = if nat_le (token_of first) (token_of second) then Some first else Some second
 
--- a fault among the first k that is at the least token of them
+-- a fault among the first k that is at the least token of them, and the first one there
 pub record IsFirstBelow (at : ℕ → Option NameFault) (k : ℕ) (fault : NameFault) : Type 0 where
   pub event : ℕ
   pub below : event < k
   pub is : at event ≡ Some fault
   pub first : (j : ℕ) (other : NameFault) → j < k → at j ≡ Some other → token_of fault ≤ token_of other
+  pub earliest : (j : ℕ) (other : NameFault) → j < event → at j ≡ Some other → token_of fault < token_of other
 
 abbrev pub IsLeast : (ℕ → Option NameFault) → ℕ → Option NameFault → Type 0
 IsLeast at k None = (j : ℕ) → j < k → at j ≡ None

@@ -2,7 +2,7 @@ ghost use Rattle.std.specs.Prelude.{◌≡◌, ◌<◌, ℕ, [], Some, IfOk, IfE
 ghost use Rattle.cr_syntax.specs.Words.{AreSpans};
 ghost use Rattle.cr_scopes.specs.Resolved.{past_of, fault_at};
 ghost use Rattle.cr_scopes.specs.States.{name_in, AreTold, IsState, IsLeast};
-ghost use Rattle.cr_scopes.specs.Units.{AreUnitNames, IsUnitFault};
+ghost use Rattle.cr_scopes.specs.Units.{AreUnitEntities, AreUnitNames, IsUnitFault, IsUnitFirst};
 
 use crate::entities::entities_of;
 use crate::fault::NameFault;
@@ -17,24 +17,47 @@ use cr_syntax::Unit;
 use std::alloc::{AllocError, Global};
 use std::collections::{HashMap, LinkedList};
 
+/// What the names of a unit stand for, whether one is at fault or not, and the first fault.
+#[derive(Drop)]
+pub struct Resolution {
+    pub names: Names,
+    pub fault: Option<NameFault>,
+}
+
 /// What the names of a unit stand for (C11 6.2.1 to 6.2.3). Unknown is a used ordinary identifier that no declaration in scope
 /// declares. Twice is a second declaration in one scope and name space of a name without linkage, two typedefs aside, or a
 /// second content of a tag, or a second member of one name. The fault at the least token is answered. Names of members that
 /// are used, and labels, are no entities; whether two typedefs of one name agree is for whoever knows their types.
-#[tactic(auto, using(crate::proofs::Ended::unit_fault))]
+#[tactic(auto, using(crate::proofs::Ended::first_is, crate::proofs::Ended::all_resolved))]
 pub fn resolve(alloc: Global, file: &[u8], unit: &Unit) -> Result<Names, NameFault>
     requires { AreSpans file.now unit.now.tokens.list.items }
     ensures resolved { IfOk result (λ names. AreUnitNames file.now unit.now names) }
     ensures fault { IfErr result (λ fault. IsUnitFault file.now unit.now fault) }
 {
+    let resolution = resolve_whole(alloc, file, unit)?;
+    match resolution.fault {
+        Some(fault) => Err(fault),
+        None => Ok(resolution.names),
+    }
+}
+
+/// The same, with what the names stand for where one is at fault too: a use that names nothing stands for nothing, and of what a scope
+/// declares twice the first declaration stays. The error is want of memory.
+#[tactic(auto, using(crate::proofs::Ended::unit_entities, crate::proofs::Ended::unit_first))]
+pub fn resolve_whole(alloc: Global, file: &[u8], unit: &Unit) -> Result<Resolution, AllocError>
+    requires { AreSpans file.now unit.now.tokens.list.items }
+    ensures names { IfOk result (λ resolution. AreUnitEntities file.now unit.now resolution.names) }
+    ensures fault { IfOk result (λ resolution. IsUnitFirst file.now unit.now resolution.fault) }
+{
     let tokens = unit.tokens.list.as_slice();
     let names = names_of(alloc, file, tokens)?;
     let events = events(alloc, unit)?;
     let followed = follow_all(alloc, &names, &events, tokens.len())?;
-    match followed.fault {
-        Some(fault) => Err(fault),
-        None => Ok(entities_of(alloc, &followed.told)?),
-    }
+    let names = entities_of(alloc, &followed.told)?;
+    Ok(Resolution {
+        names,
+        fault: followed.fault,
+    })
 }
 
 /// What is known behind all events.

@@ -93,7 +93,8 @@ pub fn lesser(first: Option<NameFault>, second: Option<NameFault>) -> Option<Nam
     }
 }
 
-fn token_of(fault: NameFault) -> u32
+/// The token of a fault; 0 for want of memory.
+pub fn token_of(fault: NameFault) -> u32
     ensures { result ≡ token_of fault }
 {
     match fault {

@@ -17,3 +17,4 @@ mod visible;
 
 pub use bindings::{Bindings, TagBinding};
 pub use last::{link_at, set_link};
+pub use nodes::name_at;

@@ -23,7 +23,7 @@ fn named_by(kind: Kind, first: u32, name: Option<u32>) -> Option<u32>
 }
 
 /// The token of the ordinary identifier that a node declares, or that the declarator around it declares.
-pub(crate) fn name_at(nodes: &[Node], at: u32) -> Option<u32>
+pub fn name_at(nodes: &[Node], at: u32) -> Option<u32>
     ensures { result ≡ name_of_node nodes.now at }
 {
     match nodes.get(at as usize) {

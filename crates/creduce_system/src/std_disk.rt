@@ -1,5 +1,5 @@
 // The journal's file in the operating system.
-ghost use Rattle.std.specs.Prelude.{◌≡◌, ◌≤◌, IsErr, IsErrOf, None, is_some, true};
+ghost use Rattle.std.specs.Prelude.{◌≡◌, ◌≤◌, IsErr, IsErrOf, None, is_some, false, true};
 ghost use Rattle.cr_outside.specs.Faults.{Rose};
 
 use crate::std_files::StdFiles;
@@ -27,7 +27,9 @@ pub struct StdDisk<'a, R> {
 
 impl<'a, R> StdDisk<'a, R> {
     /// No journal is open, and no call has failed yet.
-    pub fn new(rt: &'a R) -> StdDisk<'a, R> {
+    pub fn new(rt: &'a R) -> StdDisk<'a, R>
+        ensures none { (result.faults ≡ 0) × (result.has_failed ≡ false) × (is_some result.journal ≡ false) }
+    {
         StdDisk {
             rt,
             files: StdFiles::new(rt),

@@ -77,12 +77,20 @@ abbrev pub IsOffered : List ℕ → Read → Pass → Offering → Type 0
 IsOffered file read Lines menu = menu ≡ nothing
 IsOffered file read Runs menu = ByTokens read.tokens (λ tokens menu. menu ≡ t_offering tokens) menu
 IsOffered file read Brackets menu = ByTokens read.tokens (IsBracketOffering file) menu
-IsOffered file read Unused menu = ByTokens read.tokens (λ tokens. ByTree read.tree (λ tree. ByNames read.names (λ names. ByStructures read.structures (λ structures. IsOfFew (length file) (λ m. m ≡ u_offering file tokens tree.nodes tree.items names structures))))) menu
+IsOffered file read Unused menu =
+    ByTokens read.tokens (λ tokens. ByTree read.tree (λ tree. ByNames read.names (λ names. ByStructures read.structures (λ structures.
+    IsOfFew (length file) (λ m. m ≡ u_offering file tokens tree.nodes tree.items names structures))))) menu
 IsOffered file read Statements menu = ByTokens read.tokens (λ tokens. ByTree read.tree (λ tree. IsOfFew (length file) (λ m. m ≡ s_offering file tokens tree.nodes))) menu
 IsOffered file read Expressions menu = ByTokens read.tokens (λ tokens. ByTree read.tree (λ tree. IsOfFew (length file) (λ m. m ≡ c_offering tokens tree.nodes))) menu
-IsOffered file read Inlined menu = ByTokens read.tokens (λ tokens. ByTree read.tree (λ tree. ByNames read.names (λ names. IsOfFew (length file) (λ m. m ≡ i_offering tokens tree.nodes names)))) menu
-IsOffered file read Parameters menu = ByTokens read.tokens (λ tokens. ByTree read.tree (λ tree. ByNames read.names (λ names. IsOfFew (length file) (λ m. m ≡ p_offering file tokens tree.nodes names)))) menu
-IsOffered file read Renamed menu = ByTokens read.tokens (λ tokens. ByTree read.tree (λ tree. ByNames read.names (λ names. IsOfFew (length file) (λ m. m ≡ r_offering file tokens tree.nodes tree.items names)))) menu
+IsOffered file read Inlined menu =
+    ByTokens read.tokens (λ tokens. ByTree read.tree (λ tree. ByNames read.names (λ names.
+    IsOfFew (length file) (λ m. m ≡ i_offering tokens tree.nodes names)))) menu
+IsOffered file read Parameters menu =
+    ByTokens read.tokens (λ tokens. ByTree read.tree (λ tree. ByNames read.names (λ names.
+    IsOfFew (length file) (λ m. m ≡ p_offering file tokens tree.nodes names)))) menu
+IsOffered file read Renamed menu =
+    ByTokens read.tokens (λ tokens. ByTree read.tree (λ tree. ByNames read.names (λ names.
+    IsOfFew (length file) (λ m. m ≡ r_offering file tokens tree.nodes tree.items names)))) menu
 IsOffered file read Printed menu = ByTokens read.tokens (λ tokens. ByTree read.tree (λ tree. IsOfFew (length file) (IsPrintedOffering file tokens))) menu
 IsOffered file read NotThere menu = menu ≡ nothing
 

@@ -160,7 +160,7 @@ fn runs(alloc: Global, analysis: &Analysis) -> Result<Menu, NoMemory>
 }
 
 fn pairs(alloc: Global, file: &[u8], analysis: &Analysis) -> Result<Menu, NoMemory>
-    ensures { IfOk result (ByTokens (read_of analysis.now).tokens (IsBracketOffering file.now)) }
+    ensures { IfOk result (IsOffered file.now (read_of analysis.now) Pass.Brackets) }
 {
     match analysis {
         Analysis::NoTokens => Ok(nothing(alloc)),
@@ -170,7 +170,7 @@ fn pairs(alloc: Global, file: &[u8], analysis: &Analysis) -> Result<Menu, NoMemo
 }
 
 fn unused_offered(alloc: Global, file: &[u8], analysis: &Analysis) -> Result<Menu, NoMemory>
-    ensures { IfOk result (ByTokens (read_of analysis.now).tokens (λ tokens. ByTree (read_of analysis.now).tree (λ tree. ByNames (read_of analysis.now).names (λ names. ByStructures (read_of analysis.now).structures (λ structures. IsOfFew (length file.now) (λ m. m ≡ u_offering file.now tokens tree.nodes tree.items names structures)))))) }
+    ensures { IfOk result (IsOffered file.now (read_of analysis.now) Pass.Unused) }
 {
     match analysis {
         Analysis::OfUnit(unit, names, structures) => {
@@ -182,7 +182,7 @@ fn unused_offered(alloc: Global, file: &[u8], analysis: &Analysis) -> Result<Men
 }
 
 fn inlined_offered(alloc: Global, file: &[u8], analysis: &Analysis) -> Result<Menu, NoMemory>
-    ensures { IfOk result (ByTokens (read_of analysis.now).tokens (λ tokens. ByTree (read_of analysis.now).tree (λ tree. ByNames (read_of analysis.now).names (λ names. IsOfFew (length file.now) (λ m. m ≡ i_offering tokens tree.nodes names))))) }
+    ensures { IfOk result (IsOffered file.now (read_of analysis.now) Pass.Inlined) }
 {
     match analysis {
         Analysis::OfUnit(unit, names, _) => if_few(inlined(alloc, unit, names)?, file.len()),
@@ -191,7 +191,7 @@ fn inlined_offered(alloc: Global, file: &[u8], analysis: &Analysis) -> Result<Me
 }
 
 fn parameters_offered(alloc: Global, file: &[u8], analysis: &Analysis) -> Result<Menu, NoMemory>
-    ensures { IfOk result (ByTokens (read_of analysis.now).tokens (λ tokens. ByTree (read_of analysis.now).tree (λ tree. ByNames (read_of analysis.now).names (λ names. IsOfFew (length file.now) (λ m. m ≡ p_offering file.now tokens tree.nodes names))))) }
+    ensures { IfOk result (IsOffered file.now (read_of analysis.now) Pass.Parameters) }
 {
     match analysis {
         Analysis::OfUnit(unit, names, _) => if_few(
@@ -203,7 +203,7 @@ fn parameters_offered(alloc: Global, file: &[u8], analysis: &Analysis) -> Result
 }
 
 fn renamed_offered(alloc: Global, file: &[u8], analysis: &Analysis) -> Result<Menu, NoMemory>
-    ensures { IfOk result (ByTokens (read_of analysis.now).tokens (λ tokens. ByTree (read_of analysis.now).tree (λ tree. ByNames (read_of analysis.now).names (λ names. IsOfFew (length file.now) (λ m. m ≡ r_offering file.now tokens tree.nodes tree.items names))))) }
+    ensures { IfOk result (IsOffered file.now (read_of analysis.now) Pass.Renamed) }
 {
     match analysis {
         Analysis::OfUnit(unit, names, _) => if_few(renamed(alloc, file, unit, names)?, file.len()),
@@ -212,7 +212,7 @@ fn renamed_offered(alloc: Global, file: &[u8], analysis: &Analysis) -> Result<Me
 }
 
 fn statements_offered(alloc: Global, file: &[u8], analysis: &Analysis) -> Result<Menu, NoMemory>
-    ensures { IfOk result (ByTokens (read_of analysis.now).tokens (λ tokens. ByTree (read_of analysis.now).tree (λ tree. IsOfFew (length file.now) (λ m. m ≡ s_offering file.now tokens tree.nodes)))) }
+    ensures { IfOk result (IsOffered file.now (read_of analysis.now) Pass.Statements) }
 {
     match analysis {
         Analysis::OfUnit(unit, _, _) => {
@@ -227,7 +227,7 @@ fn statements_offered(alloc: Global, file: &[u8], analysis: &Analysis) -> Result
 }
 
 fn expressions_offered(alloc: Global, file: &[u8], analysis: &Analysis) -> Result<Menu, NoMemory>
-    ensures { IfOk result (ByTokens (read_of analysis.now).tokens (λ tokens. ByTree (read_of analysis.now).tree (λ tree. IsOfFew (length file.now) (λ m. m ≡ c_offering tokens tree.nodes)))) }
+    ensures { IfOk result (IsOffered file.now (read_of analysis.now) Pass.Expressions) }
 {
     match analysis {
         Analysis::OfUnit(unit, _, _) => {
@@ -243,7 +243,7 @@ fn expressions_offered(alloc: Global, file: &[u8], analysis: &Analysis) -> Resul
 
 fn printed_offered(alloc: Global, file: &[u8], analysis: &Analysis) -> Result<Menu, NoMemory>
     requires { HasFilesTokens file.now analysis.now }
-    ensures { IfOk result (ByTokens (read_of analysis.now).tokens (λ tokens. ByTree (read_of analysis.now).tree (λ tree. IsOfFew (length file.now) (IsPrintedOffering file.now tokens)))) }
+    ensures { IfOk result (IsOffered file.now (read_of analysis.now) Pass.Printed) }
 {
     match analysis {
         Analysis::OfUnit(unit, _, _) => if_few(printed(alloc, file, unit)?, file.len()),

@@ -21,6 +21,7 @@ use Rattle.pass_levels.specs.Nodes.{node_at}
 use Rattle.pass_levels.specs.Places.{replaced, spelling_at, with_comma}
 use Rattle.pass_params.specs.Functions.{calls_in, count_of, declares_same, functions_in, name_same, number_of, part_at, row_of, uses_by}
 use Rattle.pass_params.specs.Ordered.{ordered}
+use Rattle.pass_params.specs.declared.removal.ParametersGo.{ParametersGo}
 
 -- a parameter goes from its list with its comma; a list left empty becomes `void`
 abbrev pub parameter_goes : List Token → ℕ → ℕ → Node → Change
@@ -101,6 +102,22 @@ definition_by _ file tokens nodes names functions calls declarator = []
 abbrev pub definitions_give : List ℕ → List Token → List Node → Names → List ℕ → List ℕ → ℕ → List Counted
 definitions_give file tokens nodes names functions calls k =
     definition_by (node_at nodes k).kind file tokens nodes names functions calls (part_at (node_at nodes k).parts 1)
+
+-- ---- the same by what a level stands on
+
+abbrev pub declarator_gives : ParametersGo → ℕ → List Counted
+declarator_gives l declarator =
+    definition_by kind.FunctionDefinition l.file.now l.tokens.now l.nodes.now l.names.now l.functions.now l.calls.now declarator
+
+abbrev pub function_gives : ParametersGo → ℕ → ℕ → List Counted
+function_gives l token function =
+    named_gives l.file.now l.tokens.now l.nodes.now l.names.now l.functions.now l.calls.now (Function function) (Some token)
+
+abbrev pub list_gives : ParametersGo → ℕ → List ℕ → List Counted
+list_gives l token row = row_gives l.tokens.now l.nodes.now l.names.now l.functions.now l.calls.now token row
+
+abbrev pub one_gives : ParametersGo → ℕ → List ℕ → ℕ → List Counted
+one_gives l token row at = parameter_gives l.tokens.now l.nodes.now l.names.now l.functions.now l.calls.now token row at
 
 -- What pass p offers: a parameter goes from each declaration of its function, its argument from each call, and its uses become `0`.
 abbrev pub p_offering : List ℕ → List Token → List Node → Names → Offering

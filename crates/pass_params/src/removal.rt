@@ -6,7 +6,7 @@ ghost use Rattle.pass_levels.specs.Places.{with_comma as with_comma_by};
 ghost use Rattle.cr_syntax.specs.declared.node.Kind.TheVariants.{FunctionDefinition};
 ghost use Rattle.cr_scopes_events.specs.declared.declarator.Derivation.TheVariants.{Function};
 ghost use Rattle.pass_params.specs.Functions.{calls_in as calls_list, functions_in as functions_list};
-ghost use Rattle.pass_params.specs.Parameters.{changes_of, definition_by, definitions_give, from_call, from_calls, from_declarator, from_declarators, from_list, from_row, is_main, named_gives, p_offering, parameter_gives, parameter_goes, parameter_uses, row_gives, uses_if, zeros};
+ghost use Rattle.pass_params.specs.Parameters.{changes_of, declarator_gives, definition_by, definitions_give, from_call, from_calls, from_declarator, from_declarators, from_list, from_row, function_gives, is_main, list_gives, named_gives, one_gives, p_offering, parameter_gives, parameter_goes, parameter_uses, row_gives, uses_if, zeros};
 
 use crate::functions::{
     calls_in, count_of, declares_same, functions_in, name_same, part_at, row_of, uses_of,
@@ -175,20 +175,25 @@ fn put_zeros(tokens: &[Token], uses: &[u32], changes: &mut Vec<Change>) -> Resul
 
 fn changes_of(
     alloc: Global,
-    tokens: &[Token],
-    nodes: &[Node],
-    names: &Names,
-    functions: &[u32],
-    calls: &[u32],
+    level: &ParametersGo,
     token: u32,
     at: usize,
     parameter: u32,
 ) -> Result<Vec<Change>, AllocError>
-    ensures { IfOk result (λ changes. changes.items ≡ changes_of tokens.now nodes.now names.now functions.now calls.now token at parameter) }
+    ensures { IfOk result (λ changes. changes.items ≡ changes_of level.now.tokens.now level.now.nodes.now level.now.names.now level.now.functions.now level.now.calls.now token at parameter) }
 {
     let mut changes = Vec::new(alloc);
-    put_from_declarators(tokens, nodes, names, token, at, functions, &mut changes)?;
-    put_from_calls(tokens, nodes, names, token, at, calls, &mut changes)?;
+    let (tokens, nodes, names) = (level.tokens, level.nodes, level.names);
+    put_from_declarators(
+        tokens,
+        nodes,
+        names,
+        token,
+        at,
+        level.functions,
+        &mut changes,
+    )?;
+    put_from_calls(tokens, nodes, names, token, at, level.calls, &mut changes)?;
     put_zeros(
         tokens,
         parameter_uses(nodes, names, parameter),
@@ -213,17 +218,9 @@ impl Level for ParametersGo<'_> {
 
     fn give(&self, alloc: Global, node: usize, all: &mut Vec<Counted>) -> Result<(), AllocError> {
         match kind_at(self.nodes, node) {
-            Kind::FunctionDefinition => put_definition(
-                alloc,
-                self.file,
-                self.tokens,
-                self.nodes,
-                self.names,
-                self.functions,
-                self.calls,
-                part_at(parts_at(self.nodes, node), 1),
-                all,
-            ),
+            Kind::FunctionDefinition => {
+                put_definition(alloc, self, part_at(parts_at(self.nodes, node), 1), all)
+            }
             _ => Ok(()),
         }
     }
@@ -231,47 +228,34 @@ impl Level for ParametersGo<'_> {
 
 fn put_definition(
     alloc: Global,
-    file: &[u8],
-    tokens: &[Token],
-    nodes: &[Node],
-    names: &Names,
-    functions: &[u32],
-    calls: &[u32],
+    level: &ParametersGo,
     declarator: u32,
     all: &mut Vec<Counted>,
 ) -> Result<(), AllocError>
-    ensures { OnOk result (all.new.items ≡ all.old.items ++ definition_by FunctionDefinition file.now tokens.now nodes.now names.now functions.now calls.now declarator) }
+    ensures { OnOk result (all.new.items ≡ all.old.items ++ declarator_gives level.now declarator) }
 {
-    let declared = declared_by(nodes, declarator);
+    let declared = declared_by(level.nodes, declarator);
     match (declared.next, declared.name) {
-        (Derivation::Function(function), Some(token)) => put_function(
-            alloc, file, tokens, nodes, names, functions, calls, token, function, all,
-        ),
+        (Derivation::Function(function), Some(token)) => {
+            put_function(alloc, level, token, function, all)
+        }
         _ => Ok(()),
     }
 }
 
 fn put_function(
     alloc: Global,
-    file: &[u8],
-    tokens: &[Token],
-    nodes: &[Node],
-    names: &Names,
-    functions: &[u32],
-    calls: &[u32],
+    level: &ParametersGo,
     token: u32,
     function: u32,
     all: &mut Vec<Counted>,
 ) -> Result<(), AllocError>
-    ensures { OnOk result (all.new.items ≡ all.old.items ++ named_gives file.now tokens.now nodes.now names.now functions.now calls.now (Function function) (Some token)) }
+    ensures { OnOk result (all.new.items ≡ all.old.items ++ function_gives level.now token function) }
 {
-    if is_main(spelling_at(file, tokens, token as usize)) {
+    if is_main(spelling_at(level.file, level.tokens, token as usize)) {
         return Ok(());
     }
-    let row = row_of(nodes, function);
-    put_row(
-        alloc, tokens, nodes, names, functions, calls, token, row, all,
-    )
+    put_row(alloc, level, token, row_of(level.nodes, function), all)
 }
 
 fn is_main(text: &[u8]) -> bool
@@ -282,44 +266,32 @@ fn is_main(text: &[u8]) -> bool
 
 fn put_row(
     alloc: Global,
-    tokens: &[Token],
-    nodes: &[Node],
-    names: &Names,
-    functions: &[u32],
-    calls: &[u32],
+    level: &ParametersGo,
     token: u32,
     row: &[u32],
     all: &mut Vec<Counted>,
 ) -> Result<(), AllocError>
-    ensures { OnOk result (all.new.items ≡ all.old.items ++ row_gives tokens.now nodes.now names.now functions.now calls.now token row.now) }
+    ensures { OnOk result (all.new.items ≡ all.old.items ++ list_gives level.now token row.now) }
 {
     for at in 0..row.len() {
-        put_parameter(
-            alloc, tokens, nodes, names, functions, calls, token, row, at, all,
-        )?;
+        put_parameter(alloc, level, token, row, at, all)?;
     }
     Ok(())
 }
 
 fn put_parameter(
     alloc: Global,
-    tokens: &[Token],
-    nodes: &[Node],
-    names: &Names,
-    functions: &[u32],
-    calls: &[u32],
+    level: &ParametersGo,
     token: u32,
     row: &[u32],
     at: usize,
     all: &mut Vec<Counted>,
 ) -> Result<(), AllocError>
-    ensures { OnOk result (all.new.items ≡ all.old.items ++ parameter_gives tokens.now nodes.now names.now functions.now calls.now token row.now at) }
+    ensures { OnOk result (all.new.items ≡ all.old.items ++ one_gives level.now token row.now at) }
 {
     let parameter = part_at(row, at);
-    let (first, last) = span_at(nodes, parameter as usize);
-    let changes = changes_of(
-        alloc, tokens, nodes, names, functions, calls, token, at, parameter,
-    )?;
+    let (first, last) = span_at(level.nodes, parameter as usize);
+    let changes = changes_of(alloc, level, token, at, parameter)?;
     let edit = in_order(alloc, changes.as_slice())?;
     all.push(Counted { first, last, edit })?;
     Ok(())

@@ -11,6 +11,7 @@ fn left(alloc: Global, file: &str, wanted: &str) -> Result<(String, bool), Alloc
     let law = CLaw {
         limits: most(),
         last: Some(&last),
+        runs: None,
     };
     let ruled = ruled_by(alloc, file.as_bytes(), &law)?;
     let lies = matches!(

@@ -151,6 +151,15 @@ token 3 1¦int main(){}/*
 token 2 3¦int main()\n{\n  return 08;\n}\n
 token 4 2¦int main(){\nreturn 'a;}\n
 name 1 1¦int main(){return x;}
+name 2 2¦typedef int T;typedef long\nT;int main(){return\nx;}
+name 2 2¦typedef int T;typedef char\nT;int f(){int y;int\ny;}int main(){return 0;}
+name 1 2¦int f(){return\nx;}typedef int T;typedef long\nT;int main(){return 0;}
+name 2 2¦int f(){int y;int\ny;}typedef int T;typedef long\nT;int main(){return 0;}
+name 1 2¦typedef int T;typedef int T;int main(){return\nx;}
+name 1 2¦typedef int T;typedef int T[\nx];int main(){return 0;}
+name 1 2¦int main(){typedef int T;{typedef long T;}return\nx;}
+name 2 2¦int main(){typedef int T;{typedef long T;}typedef long\nT;return\nx;}
+name 2 2¦typedef int T;int\nT;typedef long\nT;int main(){return x;}
 type 37 1¦int main(){return 1=2;}
 type 40 1¦int x;
 type 40 3¦int f(void);\nint main(void){return f();}\nint x;

@@ -22,7 +22,12 @@ pub(crate) fn most() -> Limits {
 
 // What is ruled on a file by these limits: `lawful`, or the word, the number and the line of the reason.
 pub(crate) fn ruled(alloc: Global, file: &[u8], limits: Limits) -> Result<String, AllocError> {
-    ruled_by(alloc, file, &CLaw { limits, last: None })
+    let law = CLaw {
+        limits,
+        last: None,
+        runs: None,
+    };
+    ruled_by(alloc, file, &law)
 }
 
 // What this law rules on it, in the same words.

@@ -3,7 +3,7 @@ use Rattle.cr_outside.specs.Story.{files_told}
 use Rattle.cr_reduce.specs.Bench.{judging, says_of}
 use Rattle.cr_main_words.specs.Names.{IsOwnName}
 use Rattle.cr_main_task.specs.Outside.{outside}
-use Rattle.cr_main.proofs.LawOfPrograms.{law_is_of_programs}
+use Rattle.cr_main_replay_programs.proofs.LawOfPrograms.{law_is_of_programs}
 use Rattle.cr_main.proofs.Sources.{made_runs, stored_runs}
 use Rattle.cr_main.proofs.given.run_given.Goals as goal
 

@@ -1,8 +1,6 @@
 use Rattle.std.proofs.Common.{length, refl, subst, sym, ◌∙◌, arith}
 use Rattle.cr_reduce.specs.Bench.{judging, says_of}
 use Rattle.cr_main_task.specs.Outside.{Says, outside}
-use Rattle.cr_main.specs.Headline.{Promises}
-use Rattle.cr_main.specs.Run.{Runs}
 use Rattle.cr_main.specs.Run.Runs.{no_settings, on_task, unsorted}
 use Rattle.cr_main_words.specs.Giving.{HasNone, HasSettings}
 use Rattle.cr_main_words.specs.Words.{texts_of}

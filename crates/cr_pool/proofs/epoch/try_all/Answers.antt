@@ -8,13 +8,14 @@ use Rattle.cr_core.specs.Sound.{Sum, total}
 use Rattle.cr_core.specs.State.{IsFirst}
 use Rattle.cr_pool.specs.declared.crew.Worker.{Worker}
 use Rattle.cr_pool.specs.Crew.{IsSameButPass, judges_in, rows_of}
-use Rattle.cr_pool.specs.Epoch.{BeginsRight, EndsBy, Epoch, Remembers, decided_by}
+use Rattle.cr_pool.specs.Endings.{TakesNotes, decided_at}
+use Rattle.cr_pool.specs.Epoch.{BeginsRight, EndsBy, Epoch, Remembers}
 use Rattle.cr_outside.specs.Question.{Says}
 use Rattle.cr_pool.specs.Jobs.{IsJudged, epoch_of}
 use Rattle.cr_pool.specs.Tally.{HaveOneKey, first_says, tallies_of}
 use Rattle.cr_pool.specs.Works.{IsBlank}
-use Rattle.cr_pool.proofs.Crews.{decided_no_more, element, ends, hitter, judged, nothing_judged, nothing_open, remembered, same_judges, says_each}
-use Rattle.cr_pool.proofs.Remembering.{as_before, remembers_among}
+use Rattle.cr_pool.proofs.Crews.{ends, have_decided, hitter, judged, nothing_judged, nothing_open, remembered, same_judges, says_each}
+use Rattle.cr_pool.proofs.Remembering.{as_before}
 use Rattle.cr_pool.proofs.epoch.try_all.Goals as goal
 
 cleared_all : {T E : Type 0} (r : Result T E) (P : Type 0) → is_err r ≡ false → OnOk r P → P
@@ -136,22 +137,23 @@ returns-clause-remembers g c =
     let e : List g.row.J.Denot → Epoch = λ js. epoch_of g.P.Passes g.L.Law g.Q.Question c.args.job.now (first_says g.J.Judge.key g.J.Judge.says js) c.args.verdicts.now in
     let end = c.end_of.result in
     let kept = c.remember.new.verdicts in
+    let lost = c.remember.result in
     let seated = judges_in c.seat.new.workers in
-    let now = judges_in c.run.new.workers in
-    let it = remembered g.P.Passes g.L.Law g.Q.Question g.J.Judge c.args.job.now c.in-Ok.opened.0 c.args.verdicts.now c.seat.new.workers c.run.new.workers c.gather.new.workers c.run.auto.workers (c.gather.auto.workers ∙ c.run.auto.workers) one_key c.run.ensures taken sum sums c.decided.result kept c.remember.ensures in
     let within : (at : ℕ) (kind : HitKind) → c.close-first.result ≡ firsts.At at kind → at < c.args.job.now.len = λ at kind is.
     (hitter g.P.Passes g.L.Law g.Q.Question g.J.Judge c.args.job.now c.in-Ok.opened.0 c.args.verdicts.now c.seat.new.workers c.run.new.workers c.gather.new.workers c.run.auto.workers (c.gather.auto.workers ∙ c.run.auto.workers) one_key c.run.ensures taken sum sums at kind c.close-first.result first is).0 in
-    let no_more = decided_no_more (e seated) c.gather.new.workers c.close-first.result end within c.end_of.ensures.end in
-    let among = remembers_among (e seated) (tallies_of g.J.Judge seated) (tallies_of g.J.Judge now) c.decided.result (decided_by (e seated) end) (omega (arith, no_more, c.decided.ensures.is)) kept it in
-    subst (λ js. Remembers (e js) (tallies_of g.J.Judge js) (tallies_of g.J.Judge (judges_in c.end_of.new.workers)) (decided_by (e js) end) kept) judges
-    (subst (λ js. Remembers (e seated) (tallies_of g.J.Judge seated) (tallies_of g.J.Judge js) (decided_by (e seated) end) kept) (sym left) among)
+    let decided = have_decided (e seated) c.gather.new.workers c.close-first.result end within c.end_of.ensures.end in
+    let takes : TakesNotes (e seated).offer (e seated).start (decided_at c.args.job.now.len c.close-first.result) c.gather.new.workers c.args.verdicts.now kept lost =
+    subst (λ n. TakesNotes (e seated).offer (e seated).start n c.gather.new.workers c.args.verdicts.now kept lost) c.decided.ensures.is c.remember.ensures in
+    let it = remembered g.P.Passes g.L.Law g.Q.Question g.J.Judge c.args.job.now c.in-Ok.opened.0 c.args.verdicts.now c.seat.new.workers c.run.new.workers c.gather.new.workers c.run.auto.workers (c.gather.auto.workers ∙ c.run.auto.workers) one_key c.run.ensures taken sum sums c.close-first.result first end decided kept lost takes in
+    subst (λ js. Remembers (e js) (tallies_of g.J.Judge js) (tallies_of g.J.Judge (judges_in c.end_of.new.workers)) end kept lost) judges
+    (subst (λ js. Remembers (e seated) (tallies_of g.J.Judge seated) (tallies_of g.J.Judge js) end kept lost) (sym left) it)
 
 pub returns-then-is_err-clause-remembers : goal.returns-then-is_err-clause-remembers
 returns-then-is_err-clause-remembers g c =
     let e : Epoch = epoch_of g.P.Passes g.L.Law g.Q.Question c.args.job.now (first_says g.J.Judge.key g.J.Judge.says (judges_in c.args.workers.now)) c.args.verdicts.now in
-    as_before e (tallies_of g.J.Judge (judges_in c.args.workers.now)) (tallies_of g.J.Judge (judges_in c.clear.new.workers)) c.args.job.now.len
+    as_before e (tallies_of g.J.Judge (judges_in c.args.workers.now)) (tallies_of g.J.Judge (judges_in c.clear.new.workers))
 
 pub returns-in-Err-clause-remembers : goal.returns-in-Err-clause-remembers
 returns-in-Err-clause-remembers g c =
     let e : Epoch = epoch_of g.P.Passes g.L.Law g.Q.Question c.args.job.now (first_says g.J.Judge.key g.J.Judge.says (judges_in c.args.workers.now)) c.args.verdicts.now in
-    as_before e (tallies_of g.J.Judge (judges_in c.args.workers.now)) (tallies_of g.J.Judge (judges_in c.clear.new.workers)) c.args.job.now.len
+    as_before e (tallies_of g.J.Judge (judges_in c.args.workers.now)) (tallies_of g.J.Judge (judges_in c.clear.new.workers))

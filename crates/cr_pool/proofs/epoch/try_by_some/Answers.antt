@@ -3,7 +3,7 @@ use Rattle.std.proofs.lemmas.List.{length-map, map-append}
 use Rattle.cr_outside.specs.Question.{Says}
 use Rattle.cr_pool.specs.declared.crew.Worker.{Worker}
 use Rattle.cr_pool.specs.Crew.{judges_in}
-use Rattle.cr_pool.specs.Epoch.{BeginsRight, EndsBy, Epoch, Remembers, decided_by}
+use Rattle.cr_pool.specs.Epoch.{BeginsRight, EndsBy, Epoch, Remembers}
 use Rattle.cr_pool.specs.Jobs.{IsJudged, epoch_of}
 use Rattle.cr_pool.specs.Tally.{HaveOneKey, first_says, tallies_of}
 use Rattle.cr_pool.proofs.More.{ends_more_judges, first_of_some, judged_more, some_one_key}
@@ -81,7 +81,8 @@ returns-clause-remembers g c =
     let new = judges_in c.try_all.new.workers in
     let end = c.try_all.result in
     let kept = c.try_all.new.verdicts in
-    let it = remembers_more_judges g.J.Judge (e (says (judges_in front))) (judges_in front) new (judges_in back) (decided_by (e (says (judges_in front))) end) kept c.try_all.ensures.judges.count c.try_all.ensures.remembers in
-    subst (λ js. Remembers (e (says js)) (tallies_of g.J.Judge js) (tallies_of g.J.Judge (judges_in (c.try_all.new.workers ++ back))) (decided_by (e (says js)) end) kept) (sym all)
-    (subst (λ js. Remembers (e (says both)) (tallies_of g.J.Judge both) (tallies_of g.J.Judge js) (decided_by (e (says both)) end) kept) (sym changed)
-    (subst (λ s. Remembers (e s) (tallies_of g.J.Judge both) (tallies_of g.J.Judge (new ++ judges_in back)) (decided_by (e s) end) kept) first it))
+    let lost = c.try_all.new.lost in
+    let it = remembers_more_judges g.J.Judge (e (says (judges_in front))) (judges_in front) new (judges_in back) end kept lost c.try_all.ensures.judges.count c.try_all.ensures.remembers in
+    subst (λ js. Remembers (e (says js)) (tallies_of g.J.Judge js) (tallies_of g.J.Judge (judges_in (c.try_all.new.workers ++ back))) end kept lost) (sym all)
+    (subst (λ js. Remembers (e (says both)) (tallies_of g.J.Judge both) (tallies_of g.J.Judge js) end kept lost) (sym changed)
+    (subst (λ s. Remembers (e s) (tallies_of g.J.Judge both) (tallies_of g.J.Judge (new ++ judges_in back)) end kept lost) first it))

@@ -29,5 +29,5 @@ returns-in-Unlawful-clause-decided g c = λ verdict is.
       size = c.in-Ok-Some.size;
       has = measured.has;
       less = omega arith;
-      why = inr (cc, c.in-Unlawful.ensures.unlawful c.in-Unlawful.field-0 refl);
+      why = inr (cc, c.in-Unlawful.ensures.unlawful c.in-Unlawful.field-0 refl, c.in_default.ensures.none refl);
     }

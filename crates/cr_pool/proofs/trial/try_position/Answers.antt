@@ -1,13 +1,14 @@
-use Rattle.std.proofs.Common.{◌≡◌, ◌∙◌, ◌<◌, refl, sym, subst, rules}
+use Rattle.std.proofs.Common.{◌≡◌, ◌∙◌, refl, sym, subst, rules}
 use Rattle.cr_outside.specs.Question.{AnswersAsTold, AsksOnce}
 use Rattle.cr_pool.specs.Epoch.{Epoch, Known, variant_of}
 use Rattle.cr_pool.specs.Jobs.{trying}
 use Rattle.cr_pool.specs.Kept.{IsDecided, IsKept}
+use Rattle.cr_pool.specs.Sizes.{IsSmaller}
 use Rattle.cr_pool.specs.Tally.{Tally, tally_of}
 use Rattle.cr_pool.specs.Trials.{IsGood, IsLarge, IsRejected}
-use Rattle.cr_pool.specs.Works.{NoteIsSo}
-use Rattle.cr_pool.proofs.Sizes.{large_is_rejected}
-use Rattle.cr_pool.proofs.Tries.{note_by_answer, note_by_verdict, nothing_noted, rejects_by_no, rejects_by_verdict, says_by_hit, says_by_verdict, tries_asking}
+use Rattle.cr_pool.specs.Works.{MayNoteNothing, NoteIsSo}
+use Rattle.cr_pool.proofs.Sizes.{large_is_rejected, large_no_smaller}
+use Rattle.cr_pool.proofs.Tries.{note_by_answer, note_by_verdict, rejects_by_no, rejects_by_verdict, says_by_hit, says_by_verdict, tries_asking, unnoted_answer}
 use Rattle.cr_pool.proofs.trial.try_position.Given.{Over}
 use Rattle.cr_pool.proofs.trial.try_position.Goals as goal
 
@@ -108,3 +109,20 @@ returns-in-Decided-clause-noted g c =
     let made : variant ≡ variant_of e c.args.at = search rules in
     note_by_verdict e c.requires.right t t c.args.at variant made c.args.job.now.size c.requires.sized c.in-Decided.verdict
     (subst (λ v. IsDecided e.Lawful e.kept v c.args.job.now.size c.in-Decided.verdict) c.deref.ensures.value (c.in-Decided.ensures.decided c.in-Decided.verdict refl))
+
+pub returns-in-Good-clause-unnoted : goal.returns-in-Good-clause-unnoted
+unfolding epoch
+returns-in-Good-clause-unnoted g c = λ none.
+    let e = epoch g c in
+    subst (λ t. MayNoteNothing e c.args.at t) (sym c.came_of.ensures) (unnoted_answer e c.args.at c.ask-answer.result (sym c.said_by.ensures ∙ none))
+
+pub returns-in-Large-clause-unnoted : goal.returns-in-Large-clause-unnoted
+returns-in-Large-clause-unnoted g c = λ _.
+    let e : Epoch = trying g.P.Passes g.L.Law g.Q.Question g.J.Judge c.args.job.now c.args.judge.now c.args.verdicts.now in
+    let variant = c.make.new.variant.items in
+    let made : variant ≡ variant_of e c.args.at = search rules in
+    subst (λ v. IsSmaller v e.file → ⊥) made
+    (large_no_smaller e.file variant c.args.job.now.size c.requires.sized (subst (λ v. IsLarge v c.args.job.now.size) c.deref.ensures.value (c.in-Large.ensures.large refl)))
+
+pub returns-in-Decided-clause-unnoted : goal.returns-in-Decided-clause-unnoted
+returns-in-Decided-clause-unnoted g c = λ none. cc

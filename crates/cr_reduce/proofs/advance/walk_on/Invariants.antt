@@ -14,6 +14,9 @@ invariant-loop-why g l = record {
   few : AsksFew l.plan.window (judging g.J.Judge l.fn.bench) (judging g.J.Judge l.bench) (state_of (g.P.Passes.offer l.passes) l.fn.walk) (state_of (g.P.Passes.offer l.passes) l.walk) 0;
   keys : keys_of g.J.Judge l.bench ≡ keys_of g.J.Judge l.fn.bench;
   silent : g.Q.Question.asks l.question ≡ false → l.bench.judges ≡ l.fn.bench.judges;
+  keeps : g.K.Keeper.keeps l.keeper l.walk.accepted.items;
+  kept_on : g.K.Keeper.kept_on l.fn.keeper l.keeper l.walk.accepted.items;
+  held : g.K.Keeper.held l.keeper ≡ g.K.Keeper.held l.fn.keeper;
   made : AreMade (searching g.P.Passes l.passes g.L.Law l.law g.Q.Question l.question l.name g.J.Judge l.fn.bench) (judging g.J.Judge l.fn.bench) (judging g.J.Judge l.bench) l.bench.kept;
 }
 

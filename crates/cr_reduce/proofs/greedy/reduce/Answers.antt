@@ -1,6 +1,8 @@
 use Rattle.std.proofs.Common.{ap, refl}
 use Rattle.cr_reduce.specs.declared.end.Why.TheVariants.{NoMemory}
 use Rattle.cr_reduce.specs.Bench.{judging}
+use Rattle.cr_reduce.specs.Ends.{IsUntouched}
+use Rattle.cr_reduce.specs.Reduction.{start_of}
 use Rattle.cr_reduce.specs.Search.{AboutCandidate, searching}
 use Rattle.cr_reduce.specs.Walk.{state_of}
 use Rattle.cr_reduce.proofs.Bounds.{in_time}
@@ -13,7 +15,7 @@ pub returns-in-Ok-clause-chain : goal.returns-in-Ok-clause-chain
 returns-in-Ok-clause-chain g c =
     let s = searching g.P.Passes c.args.passes.now g.L.Law c.args.law.now g.Q.Question c.args.question.now c.args.name.now g.J.Judge c.args.bench.now in
     chain_of_walk s (judging g.J.Judge c.args.bench.now) (judging g.J.Judge c.walk_on-why.new.bench) (g.P.Passes.offer c.args.passes.now) c.args.plan.now.limit c.args.file.items
-    (g.P.Passes.offer c.args.passes.now c.in-Ok.walk.prep c.args.file.items) (state_of (g.P.Passes.offer c.args.passes.now) c.in-Ok.walk) c.walk_on-why.new.walk c.walk_on-why.result c.end_of.result c.in-Ok.ensures.offered c.in-Ok.ensures.start c.end_of.ensures c.walk_on-why.ensures.walked c.walk_on-why.ensures.ended c.walk_on-why.ensures.placed c.walk_on-why.ensures.within
+    (start_of c.args.file.items) (IsUntouched c.args.file.items) (g.P.Passes.offer c.args.passes.now c.in-Ok.walk.prep c.args.file.items) (state_of (g.P.Passes.offer c.args.passes.now) c.in-Ok.walk) c.walk_on-why.new.walk c.walk_on-why.result c.end_of.result c.in-Ok.ensures.offered c.in-Ok.ensures.start c.end_of.ensures c.walk_on-why.ensures.walked c.walk_on-why.ensures.ended c.walk_on-why.ensures.placed c.walk_on-why.ensures.within
 
 pub returns-in-Ok-clause-all_rejected : goal.returns-in-Ok-clause-all_rejected
 returns-in-Ok-clause-all_rejected g c = rejected_of_chain (searching g.P.Passes c.args.passes.now g.L.Law c.args.law.now g.Q.Question c.args.question.now c.args.name.now g.J.Judge c.args.bench.now)

@@ -1,7 +1,8 @@
 use Rattle.std.proofs.Common.{◌≡◌, IfOk, length, subst, sym}
 use Rattle.cr_lawful_analysis.specs.Analysis.{read_of}
 use Rattle.pass_names.specs.Renamed.{r_offering}
-use Rattle.pass_list.specs.Offers.{ByNames, ByTokens, ByTree, IsOfFew}
+use Rattle.pass_list.specs.declared.pass.Pass.TheVariants.{Renamed}
+use Rattle.pass_list.specs.Offers.{IsOffered}
 use Rattle.pass_list.proofs.Menus.{of_few}
 use Rattle.pass_list.proofs.index.renamed_offered.Goals as goal
 
@@ -11,5 +12,5 @@ returns-in_ok-renamed-in-OfUnit c =
     let unit = c.in-OfUnit.unit in
     let names = c.in-OfUnit.names in
     let few = of_few c.if_few.result (length file) c.in_ok-renamed-in-OfUnit.field-0 (r_offering file unit.tokens.list.items unit.nodes unit.items names) c.if_few.ensures.same c.if_few.ensures.few c.in_ok-renamed-in-OfUnit.ensures in
-    subst (λ analysis. IfOk c.if_few.result (ByTokens (read_of analysis).tokens (λ tokens. ByTree (read_of analysis).tree (λ tree. ByNames (read_of analysis).names (λ names. IsOfFew (length file) (λ m. m ≡ r_offering file tokens tree.nodes tree.items names))))))
+    subst (λ analysis. IfOk c.if_few.result (IsOffered file (read_of analysis) Renamed))
     (sym c.in-OfUnit.is) few

@@ -1,7 +1,8 @@
 use Rattle.std.proofs.Common.{◌≡◌, IfOk, length, subst, sym}
 use Rattle.cr_lawful_analysis.specs.Analysis.{read_of}
 use Rattle.pass_names.specs.Unused.{u_offering}
-use Rattle.pass_list.specs.Offers.{ByNames, ByStructures, ByTokens, ByTree, IsOfFew}
+use Rattle.pass_list.specs.declared.pass.Pass.TheVariants.{Unused}
+use Rattle.pass_list.specs.Offers.{IsOffered}
 use Rattle.pass_list.proofs.Menus.{of_few}
 use Rattle.pass_list.proofs.index.unused_offered.Goals as goal
 
@@ -13,5 +14,5 @@ returns-in_ok-unused-in-OfUnit c =
     let structures = c.in-OfUnit.structures in
     let of_structures = subst (λ s. c.in_ok-unused-in-OfUnit.field-0 ≡ u_offering file unit.tokens.list.items unit.nodes unit.items names s) c.as_slice-structures.ensures c.in_ok-unused-in-OfUnit.ensures in
     let few = of_few c.if_few.result (length file) c.in_ok-unused-in-OfUnit.field-0 (u_offering file unit.tokens.list.items unit.nodes unit.items names structures) c.if_few.ensures.same c.if_few.ensures.few of_structures in
-    subst (λ analysis. IfOk c.if_few.result (ByTokens (read_of analysis).tokens (λ tokens. ByTree (read_of analysis).tree (λ tree. ByNames (read_of analysis).names (λ names. ByStructures (read_of analysis).structures (λ structures. IsOfFew (length file) (λ m. m ≡ u_offering file tokens tree.nodes tree.items names structures)))))))
+    subst (λ analysis. IfOk c.if_few.result (IsOffered file (read_of analysis) Unused))
     (sym c.in-OfUnit.is) few

@@ -1,20 +1,11 @@
-use Rattle.std.proofs.Common.{◌||◌, ℕ, ap, sym, ◌∙◌, arith, inr}
-use Rattle.cr_footprint.specs.Cell.{same_cell, span}
-use Rattle.cr_footprint.proofs.Rising.{span-more}
+use Rattle.std.proofs.Common.{List, ap, subst, sym, ◌∙◌}
+use Rattle.cr_footprint.specs.Cell.{Cell, holds, IsRising}
 use Rattle.cr_footprint.proofs.cells.Cells.of_span.Goals as goal
 
-pub loop-cell-preserved : goal.loop-cell-preserved
-loop-cell-preserved c =
-    let (ends, (more, at, next)) = c.in-Some.ensures.steps in
-    let (had, _, from, end) = c.loop-cell.invariant in
-    let o = c.args.object in
-    let first = c.args.cells.start in (
-      λ d. c.in_ok-insert.ensures d
-          ∙ ap (λ (b : _). b || same_cell d (o, c.in-Some.cell)) (had d)
-          ∙ ap (λ (n : ℕ). span o first c.loop-cell.cell-iterator.start d || same_cell d (o, n)) at
-          ∙ span-more o first c.loop-cell.cell-iterator.start d from
-          ∙ ap (λ (n : ℕ). span o first n d) (sym next),
-      inr (omega arith),
-      omega arith,
-      ends ∙ end,
-    )
+pub invariant_of-result : goal.invariant_of-result
+invariant_of-result c = record {
+  rising = (let P : List Cell → Type 0 = IsRising in subst P (sym c.in_ok-list.ensures) c.in_ok-all.ensures.0);
+}
+
+pub returns : goal.returns
+returns c d = ap (λ l. holds l d) c.in_ok-list.ensures ∙ c.in_ok-all.ensures.1 d

@@ -1,9 +1,8 @@
-use Rattle.std.proofs.Common.{◌≡◌, ◌++◌, List, drop, length, subst, sym, take, arith}
+use Rattle.std.proofs.Common.{◌++◌, List, drop, length, subst, sym, take, arith}
 use Rattle.cr_pool.specs.declared.crew.Worker.{Worker}
 use Rattle.cr_pool.specs.Bench.{Benched, epoch_on}
 use Rattle.cr_pool.specs.Crew.{judges_in}
-use Rattle.cr_pool.specs.Epoch.{BeginsRight, EndsBy, Epoch, KeepsWhatWasMade, Remembers, decided_by}
-use Rattle.cr_pool.specs.Kept.{AreRight}
+use Rattle.cr_pool.specs.Epoch.{BeginsRight, EndsBy, Epoch, Remembers}
 use Rattle.cr_pool.specs.Tally.{tallies_of}
 use Rattle.cr_pool.proofs.More.{written}
 use Rattle.cr_pool.proofs.Remembering.{made_so, right_still}
@@ -12,7 +11,7 @@ use Rattle.cr_pool.proofs.bench.Bench.epoch.Goals as goal
 pub try_by_some-requires-clause-right : goal.try_by_some-requires-clause-right
 try_by_some-requires-clause-right g c = λ a b.
     let e : Benched g.row.J.Denot → Epoch = λ b. epoch_on g.P.Passes g.L.Law g.Q.Question g.J.Judge c.args.job.now b in
-    let bench : List (Worker g.row.J.Denot) → Benched g.row.J.Denot = λ ws. record { judges = judges_in ws; kept = c.self.inside.verdicts } in
+    let bench : List (Worker g.row.J.Denot) → Benched g.row.J.Denot = λ ws. record { judges = judges_in ws; kept = c.self.inside.verdicts; lost = c.self.inside.lost } in
     subst (λ (ws : List (Worker g.row.J.Denot)). BeginsRight (e (bench ws))) (sym c.deref_mut.ensures.value)
     (subst (λ b. BeginsRight (e b)) (sym c.self.view_is) c.requires.kept)
 
@@ -22,7 +21,7 @@ returns-clause-end g c =
     let new = c.try_by_some.new.workers in
     let end = c.try_by_some.result in
     let e : Benched g.row.J.Denot → Epoch = λ b. epoch_on g.P.Passes g.L.Law g.Q.Question g.J.Judge c.args.job.now b in
-    let bench : List (Worker g.row.J.Denot) → Benched g.row.J.Denot = λ ws. record { judges = judges_in ws; kept = c.self.inside.verdicts } in
+    let bench : List (Worker g.row.J.Denot) → Benched g.row.J.Denot = λ ws. record { judges = judges_in ws; kept = c.self.inside.verdicts; lost = c.self.inside.lost } in
     let all = written inside.len new (drop (length new) inside.items) (omega (arith, c.try_by_some.auto.workers, c.deref_mut.ensures.len, inside.ok.0)) in
     let it : EndsBy (e (bench c.deref_mut.result.now)) (tallies_of g.J.Judge (judges_in c.deref_mut.result.now)) (tallies_of g.J.Judge (judges_in new)) end = c.try_by_some.ensures.end in
     subst (λ b. EndsBy (e b) (tallies_of g.J.Judge b.judges) (tallies_of g.J.Judge (judges_in (take inside.len (new ++ drop (length new) inside.items)))) end) c.self.view_is
@@ -36,12 +35,13 @@ returns-clause-remembers g c =
     let end = c.try_by_some.result in
     let kept = c.try_by_some.new.verdicts in
     let e : Benched g.row.J.Denot → Epoch = λ b. epoch_on g.P.Passes g.L.Law g.Q.Question g.J.Judge c.args.job.now b in
-    let bench : List (Worker g.row.J.Denot) → Benched g.row.J.Denot = λ ws. record { judges = judges_in ws; kept = c.self.inside.verdicts } in
+    let bench : List (Worker g.row.J.Denot) → Benched g.row.J.Denot = λ ws. record { judges = judges_in ws; kept = c.self.inside.verdicts; lost = c.self.inside.lost } in
     let all = written inside.len new (drop (length new) inside.items) (omega (arith, c.try_by_some.auto.workers, c.deref_mut.ensures.len, inside.ok.0)) in
-    let it : Remembers (e (bench c.deref_mut.result.now)) (tallies_of g.J.Judge (judges_in c.deref_mut.result.now)) (tallies_of g.J.Judge (judges_in new)) (decided_by (e (bench c.deref_mut.result.now)) end) kept = c.try_by_some.ensures.remembers in
-    subst (λ b. Remembers (e b) (tallies_of g.J.Judge b.judges) (tallies_of g.J.Judge (judges_in (take inside.len (new ++ drop (length new) inside.items)))) (decided_by (e b) end) kept) c.self.view_is
-    (subst (λ (ws : List (Worker g.row.J.Denot)). Remembers (e (bench inside.items)) (tallies_of g.J.Judge (judges_in inside.items)) (tallies_of g.J.Judge (judges_in ws)) (decided_by (e (bench inside.items)) end) kept) (sym all)
-    (subst (λ (ws : List (Worker g.row.J.Denot)). Remembers (e (bench ws)) (tallies_of g.J.Judge (judges_in ws)) (tallies_of g.J.Judge (judges_in new)) (decided_by (e (bench ws)) end) kept) c.deref_mut.ensures.value it))
+    let lost = c.try_by_some.new.lost in
+    let it : Remembers (e (bench c.deref_mut.result.now)) (tallies_of g.J.Judge (judges_in c.deref_mut.result.now)) (tallies_of g.J.Judge (judges_in new)) end kept lost = c.try_by_some.ensures.remembers in
+    subst (λ b. Remembers (e b) (tallies_of g.J.Judge b.judges) (tallies_of g.J.Judge (judges_in (take inside.len (new ++ drop (length new) inside.items)))) end kept lost) c.self.view_is
+    (subst (λ (ws : List (Worker g.row.J.Denot)). Remembers (e (bench inside.items)) (tallies_of g.J.Judge (judges_in inside.items)) (tallies_of g.J.Judge (judges_in ws)) end kept lost) (sym all)
+    (subst (λ (ws : List (Worker g.row.J.Denot)). Remembers (e (bench ws)) (tallies_of g.J.Judge (judges_in ws)) (tallies_of g.J.Judge (judges_in new)) end kept lost) c.deref_mut.ensures.value it))
 
 pub returns-clause-kept : goal.returns-clause-kept
 returns-clause-kept g c =
@@ -49,7 +49,7 @@ returns-clause-kept g c =
     let new = c.try_by_some.new.workers in
     let e : Epoch = epoch_on g.P.Passes g.L.Law g.Q.Question g.J.Judge c.args.job.now c.args.self.now in
     right_still e (tallies_of g.J.Judge c.args.self.now.judges) (tallies_of g.J.Judge (judges_in (take inside.len (new ++ drop (length new) inside.items))))
-    (decided_by e c.try_by_some.result) c.requires.kept c.try_by_some.new.verdicts (returns-clause-remembers g c)
+    c.requires.kept c.try_by_some.result c.try_by_some.new.verdicts c.try_by_some.new.lost (returns-clause-remembers g c)
 
 pub returns-clause-made : goal.returns-clause-made
 returns-clause-made g c =
@@ -57,4 +57,4 @@ returns-clause-made g c =
     let new = c.try_by_some.new.workers in
     let e : Epoch = epoch_on g.P.Passes g.L.Law g.Q.Question g.J.Judge c.args.job.now c.args.self.now in
     made_so e (tallies_of g.J.Judge c.args.self.now.judges) (tallies_of g.J.Judge (judges_in (take inside.len (new ++ drop (length new) inside.items))))
-    (decided_by e c.try_by_some.result) c.requires.kept c.try_by_some.new.verdicts (returns-clause-remembers g c)
+    c.requires.kept c.try_by_some.result c.try_by_some.new.verdicts c.try_by_some.new.lost (returns-clause-remembers g c)

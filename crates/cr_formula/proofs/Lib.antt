@@ -1,0 +1,5 @@
+pub mod Heads
+pub mod Once
+pub mod Refusals
+pub mod Statuses
+pub mod Texts

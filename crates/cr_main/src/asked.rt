@@ -1,0 +1,107 @@
+// What words ask for is done.
+ghost use Rattle.std.specs.Prelude.{◌≡◌, ◌++◌, ℕ, List, codes, false, length, true};
+ghost use Rattle.cr_outside.specs.Test.{asks_test};
+ghost use Rattle.cr_reduce.specs.Bench.{judging, keys_of, says_of};
+ghost use Rattle.cr_main.specs.More.{Does, IsFormula, IsQuiet, IsUnbuilt, MayRun, RunsAsked};
+ghost use Rattle.cr_main.specs.Task.{IsRunnable};
+ghost use Rattle.cr_main_task.specs.Outside.{outside};
+ghost use Rattle.cr_main_words.specs.Flags.{plain_modes};
+
+use crate::given::run_given;
+use crate::messages::USAGE;
+use cr_main_replay_programs::replay_programs;
+use cr_main_task::{put, status};
+use cr_main_words::{Engine, Modes, Request, Settings};
+use cr_outside::{Files, Judge, Sink, Test};
+use cr_pool::Bench;
+use std::alloc::Global;
+use std::thread::Threads;
+
+/// Does what words ask for.
+pub fn run_request<R: Threads + Sync, F: Files, J: Judge + Send, O: Sink>(
+    rt: &R,
+    alloc: Global,
+    request: &Request,
+    files: &mut F,
+    bench: &mut Bench<J>,
+    out: &mut O,
+) -> u8
+    requires runnable { MayRun (length bench.old.judges) request.now }
+    ensures does { Does request.now (says_of J.Judge bench.old)
+        (outside F.Outside F.Files.own files.old O.Sink out.old) (outside F.Outside F.Files.own files.new O.Sink out.new)
+        (judging J.Judge bench.old) (judging J.Judge bench.new) result }
+    ensures silent { IsQuiet request.now → bench.new.judges ≡ bench.old.judges }
+    ensures keys { keys_of J.Judge bench.new ≡ keys_of J.Judge bench.old }
+{
+    match request {
+        Request::Reduction(settings, modes) => {
+            run_asked(rt, alloc, settings, *modes, files, bench, out)
+        }
+        Request::Replay(asked) => replay_programs(
+            alloc,
+            asked.steps,
+            asked.enabled,
+            asked.log.as_str(),
+            asked.file.as_str(),
+            files,
+            out,
+        ),
+    }
+}
+
+// Runs the reducer as these settings ask, in these modes. A mode that isn't built is answered as words in no form are.
+fn run_asked<R: Threads + Sync, F: Files, J: Judge + Send, O: Sink>(
+    rt: &R,
+    alloc: Global,
+    settings: &Settings,
+    modes: Modes,
+    files: &mut F,
+    bench: &mut Bench<J>,
+    out: &mut O,
+) -> u8
+    requires runnable { IsRunnable (length bench.old.judges) settings.now }
+    ensures runs { RunsAsked settings.now modes (says_of J.Judge bench.old)
+        (outside F.Outside F.Files.own files.old O.Sink out.old) (outside F.Outside F.Files.own files.new O.Sink out.new)
+        (judging J.Judge bench.old) (judging J.Judge bench.new) result }
+    ensures idle { IsUnbuilt settings.now modes → bench.new.judges ≡ bench.old.judges }
+    ensures silent { asks_test settings.now.test ≡ false → bench.new.judges ≡ bench.old.judges }
+    ensures keys { keys_of J.Judge bench.new ≡ keys_of J.Judge bench.old }
+{
+    if has_flag(modes) {
+        return put(out, USAGE.as_bytes(), status::USAGE, status::USAGE);
+    }
+    if is_formula(&settings.test) {
+        return put(out, USAGE.as_bytes(), status::USAGE, status::USAGE);
+    }
+    run_given(rt, alloc, settings, files, bench, out)
+}
+
+fn has_flag(modes: Modes) -> bool
+    ensures flag { result ≡ true → modes ≡ plain_modes → ⊥ }
+    ensures none { result ≡ false → modes ≡ plain_modes }
+{
+    match modes.engine {
+        Engine::Plain => modes.any_order,
+        Engine::Journal | Engine::Resume | Engine::Standing => true,
+    }
+}
+
+fn is_formula(test: &Test) -> bool
+    ensures formula { result ≡ true → IsFormula test.now }
+    ensures other { result ≡ false → IsFormula test.now → ⊥ }
+{
+    match test {
+        Test::Program(path) => begins_with_if(path.as_bytes()),
+        Test::Has(_) => false,
+    }
+}
+
+fn begins_with_if(path: &[u8]) -> bool
+    ensures formula { result ≡ true → (rest : List ℕ) × (path.now ≡ codes "if:" ++ rest) }
+    ensures other { result ≡ false → (rest : List ℕ) → path.now ≡ codes "if:" ++ rest → ⊥ }
+{
+    match path.strip_prefix(b"if:") {
+        Some(_) => true,
+        None => false,
+    }
+}

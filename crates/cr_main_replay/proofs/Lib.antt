@@ -1,0 +1,6 @@
+pub mod Readings
+pub mod Rulings
+pub mod Real
+pub mod Statuses
+pub mod Promises
+pub mod Exact

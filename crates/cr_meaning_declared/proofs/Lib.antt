@@ -1,0 +1,6 @@
+pub mod Nodes
+pub mod Plans
+pub mod Free
+pub mod Bodies
+pub mod Once
+pub mod Runs

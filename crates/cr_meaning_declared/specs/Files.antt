@@ -1,0 +1,21 @@
+-- The typed unit of a file.
+use Rattle.std.specs.Prelude.{ℕ, List, length}
+use Rattle.cr_syntax.specs.declared.unit.Unit as source
+use Rattle.cr_syntax.specs.Kept.{row_in}
+use Rattle.cr_syntax.specs.Words.{lexemes_of}
+use Rattle.cr_syntax.specs.Units.{IsTreeOf}
+use Rattle.cr_syntax_order.specs.Listed.{AreListed}
+use Rattle.cr_scopes.specs.declared.names.Names.{Names}
+use Rattle.cr_scopes.specs.Units.{AreUnitNames}
+use Rattle.cr_typed.specs.declared.typed.Typed.{Typed}
+use Rattle.cr_typed_unit.specs.Typed.{IsTypedOf}
+
+-- The tokens of the file are those of a unit, whose nodes are listed in order and whose names are known; it breaks no constraint, and is
+-- typed so. This is what `IsTypedUnit` of `cr_lawful` says of a file but for the way from its bytes to the tokens.
+pub record IsUnitOfFile (file : List ℕ) (typed : Typed) : Type 0 where
+  pub unit : source.Unit
+  pub names : Names
+  pub is_tree : IsTreeOf (lexemes_of file unit.tokens.list.items) (row_in unit.nodes unit.items)
+  pub listed : AreListed unit.nodes 0 unit.items (length unit.nodes)
+  pub known : AreUnitNames file unit names
+  pub checked : IsTypedOf file unit names typed
