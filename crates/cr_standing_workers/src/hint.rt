@@ -12,6 +12,7 @@ pub struct Hint {
 }
 
 impl Hint {
+    /// Of no epoch yet, which is numbered 0, and of no hit.
     pub fn new() -> Hint {
         Hint {
             epoch: AtomicU64::new(0),
