@@ -13,7 +13,7 @@ use Rattle.cr_syntax.specs.declared.ctype.CType.TheVariants.{Int, Void}
 use Rattle.cr_typed.specs.declared.typed.Typed.{Typed}
 use Rattle.cr_check_types.specs.Types.{Qualified, plain, pointer as to, array}
 use Rattle.cr_check_operands.specs.Values.{Seen, Valued, number as a_number, address, whole, untyped, type_of_value, value_in, value_of_seen, value_beside_places, seen_of}
-use Rattle.cr_check_operands.specs.Rules.{shifted_value, difference_value, order_value, equality_value, logical_by, logical_value, scalar_constant, negated_by, negated_value, moved, an_int, are_alike, are_related, is_zero, is_bool, keeps_volatile, target_of, cast_by, is_null_cast_of}
+use Rattle.cr_check_operands.specs.Rules.{shifted_value, difference_value, order_value, equality_value, logical_by, logical_value, scalar_constant, negated_by, negated_value, an_int, are_alike, are_related, is_zero, is_bool, keeps_volatile, target_of, cast_by, is_null_cast_of}
 use Rattle.cr_check_expressions.specs.Ruled.{given, is_typed, is_type, converted}
 use Rattle.cr_meaning.specs.World.{Program}
 use Rattle.cr_meaning.specs.declared.op.Op.{Op}

@@ -9,7 +9,7 @@ use Rattle.cr_syntax.specs.declared.ctype.CType.TheVariants.{Int}
 use Rattle.cr_check_types.specs.Types.{Qualified, plain, pointer as to, array}
 use Rattle.cr_typed.specs.declared.typed.Typed.{Typed}
 use Rattle.cr_check_operands.specs.Values.{Seen, Valued, number as a_number, address, whole, untyped, value_in, value_beside_places, value_of_seen}
-use Rattle.cr_check_operands.specs.Rules.{integers_value, sum_value, moved}
+use Rattle.cr_check_operands.specs.Rules.{integers_value, sum_value}
 use Rattle.cr_check_expressions.specs.Known.{Source}
 use Rattle.cr_check_expressions.specs.Ruled.{given, is_typed, is_type, complete}
 use Rattle.cr_meaning.specs.World.{Program}

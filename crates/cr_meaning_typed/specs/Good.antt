@@ -1,6 +1,5 @@
 -- What the operation of a node has to be, and the sorts of values and places.
 use Rattle.std.specs.Prelude.{ℕ, Bool, false, Option, slice_index_or, if◌then◌else◌}
-use Rattle.cr_syntax.specs.declared.node.Kind.TheVariants as kind
 use Rattle.cr_syntax.specs.declared.ctype.CType.TheVariants.{Int, Struct}
 use Rattle.cr_check_types.specs.Types.{Qualified, plain, pointer as to, array}
 use Rattle.cr_typed.specs.declared.typed.Typed.{Typed}
