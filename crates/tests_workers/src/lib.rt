@@ -7,6 +7,8 @@
 #[cfg(test)]
 mod claiming;
 #[cfg(test)]
+mod crowd;
+#[cfg(test)]
 mod epochs;
 #[cfg(test)]
 mod events;
