@@ -241,14 +241,23 @@ fn window_of(case: &Case) -> u32
     }
 }
 
+fn expect_behind(
+    rt: &(impl Abort + Threads + Sync),
+    alloc: Global,
+    case: &Case,
+) -> Result<(), AllocError> {
+    let window = window_of(case);
+    let so = ends_so(rt, alloc, case, 4, window)?;
+    assert!(rt; so, "{}", case.told("what"));
+    Ok(())
+}
+
 #[test]
 fn what_befalls_a_judge_behind_the_first_accepted_file_decides_nothing(
     rt: HostRuntime,
 ) -> Result<(), AllocError> {
     for own in BEHIND.split("\n\n") {
-        let case = Case::of(BEHIND, own);
-        let so = ends_so(&rt, rt.alloc(), &case, 4, window_of(&case))?;
-        assert!(rt; so, "{}", case.told("what"));
+        expect_behind(&rt, rt.alloc(), &Case::of(BEHIND, own))?;
     }
     Ok(())
 }
