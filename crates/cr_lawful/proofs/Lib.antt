@@ -1,4 +1,5 @@
 pub mod Rulings
+pub mod Looks
 pub mod Endings
 mod Programs
 mod OneRefusal

@@ -1,4 +1,5 @@
 pub mod Lawful
+pub mod Looks
 pub mod Programs
 pub mod Runs
 pub mod Laws

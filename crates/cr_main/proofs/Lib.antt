@@ -3,4 +3,6 @@ pub mod Runnable
 pub mod OneTask
 pub mod Promises
 pub mod Sources
+pub mod Paths
 pub mod More
+pub mod Completing

@@ -64,7 +64,8 @@ pub fn run_given<R: Threads + Sync, F: Files, J: Judge + Send, O: Sink>(
     }
 }
 
-fn source_name(source: &Source) -> &str
+/// The name of a source; a made text is called `gen.c`.
+pub fn source_name(source: &Source) -> &str
     ensures { result.now ≡ name_of source.now }
 {
     match source {
@@ -73,7 +74,8 @@ fn source_name(source: &Source) -> &str
     }
 }
 
-fn is_saved(source: &Source) -> bool
+/// Whether what comes of a source is written.
+pub fn is_saved(source: &Source) -> bool
     ensures { result ≡ saves_of source.now }
 {
     matches!(source, Source::Named(_))

@@ -1,2 +1,4 @@
 pub mod Headline
 pub mod Bound
+pub mod Opened
+pub mod Promises

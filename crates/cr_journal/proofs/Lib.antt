@@ -1,0 +1,4 @@
+pub mod Adds
+pub mod Ended
+pub mod Led
+pub mod Replayed

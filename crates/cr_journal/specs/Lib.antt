@@ -1,0 +1,4 @@
+pub mod Keeping
+pub mod Replay
+pub mod Times
+pub mod Laws

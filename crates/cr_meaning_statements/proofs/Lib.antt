@@ -1,0 +1,3 @@
+pub mod Goods
+pub mod Controls
+pub mod Given

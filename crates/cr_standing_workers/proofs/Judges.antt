@@ -1,0 +1,98 @@
+-- What is done to the judges, and what their answers say.
+use Rattle.std.proofs.Common.{◌≡◌, ◌≢◌, ℕ, suc, ◌<◌, ◌≤◌, Bool, true, false, List, [], ◌∷◌, ◌++◌, length, slice_index_or, refl, ap, ◌∙◌, inl, inr, ◌⊎◌, arith}
+use Rattle.cr_outside.specs.declared.judge.Answer.{Answer}
+use Rattle.cr_outside.specs.declared.judge.Answer.TheVariants.{Yes, No, Failed, NoMemory}
+use Rattle.cr_outside.specs.declared.judge.Judge.{Ghosts as JudgeGhosts}
+use Rattle.cr_outside.specs.Faults.{Rose}
+use Rattle.cr_outside.specs.Question.{AnswersAsTold, AsksOnce, Says}
+use Rattle.cr_pool.specs.Sizes.{HasSize, IsSmaller}
+use Rattle.cr_pool.specs.Tally.{HaveOneKey, first_says}
+use Rattle.cr_pool.specs.Trials.{IsGood, IsLarge}
+use Rattle.cr_pool.specs.Trials.IsRejected.{not_smaller, unlawful, answered_no}
+use Rattle.cr_pool.proofs.Sizes.{large_no_smaller}
+use Rattle.cr_reduce.specs.Bench.{Each, judging_of}
+use Rattle.cr_reduce.specs.Search.{Search}
+use Rattle.cr_reduce.proofs.Runs.{called_first, goes_on-refl, goes_on-trans, goes_on_first}
+use Rattle.cr_standing_workers.specs.declared.trial.Tried.TheVariants as tried
+use Rattle.cr_standing_workers.specs.Channels.{AllAre}
+use Rattle.cr_standing_workers.specs.Serving.{Serves}
+use Rattle.cr_standing_workers.specs.Told.{TriedSays, tried_of}
+
+module _ {J K : Type 0} (judge : JudgeGhosts J K) (asks : Bool) where
+  pub serves-refl : (j : J) → Serves judge asks j j
+  serves-refl j = record { key = refl; goes_on = goes_on-refl (judging_of judge (j ∷ [])); silent = λ _. refl }
+
+  pub serves-trans : (a b c : J) → Serves judge asks a b → Serves judge asks b c → Serves judge asks a c
+  serves-trans a b c first second = record {
+    key = second.key ∙ first.key;
+    goes_on = goes_on-trans (judging_of judge (a ∷ [])) (judging_of judge (b ∷ [])) (judging_of judge (c ∷ [])) first.goes_on second.goes_on;
+    silent = λ quiet. second.silent quiet ∙ first.silent quiet;
+  }
+
+  -- one question was asked
+  pub serves_asking : (old new : J) (name file : List ℕ) (answer : Answer) → judge.key new ≡ judge.key old → (asks ≡ true → AsksOnce (judge.calls old) (judge.calls new) name file answer)
+      → (asks ≡ false → new ≡ old) → judge.faults old ≤ judge.faults new → Serves judge asks old new
+  serves_asking old new name file answer key once silent later = record {
+    key = key;
+    goes_on = goes_on_first judge asks (old ∷ []) (new ∷ []) name file answer (omega arith) refl refl once (λ quiet. ap (λ j. j ∷ []) (silent quiet)) later;
+    silent = silent;
+  }
+
+  pub each-refl : (js : List J) → Each (Serves judge asks) js js
+  each-refl [] = tt
+  each-refl (j ∷ js) = (serves-refl j, each-refl js)
+
+  pub each_more : (xs ys : List J) (x y : J) → Each (Serves judge asks) xs ys → Serves judge asks x y → Each (Serves judge asks) (xs ++ x ∷ []) (ys ++ y ∷ [])
+  each_more [] [] x y all it = (it, tt)
+  each_more [] (b ∷ ys) x y all it = absurd all
+  each_more (a ∷ xs) [] x y all it = absurd all
+  each_more (a ∷ xs) (b ∷ ys) x y all it = (all.0, each_more xs ys x y all.1 it)
+
+  pub each_length : (xs ys : List J) → Each (Serves judge asks) xs ys → length ys ≡ length xs
+  each_length [] [] all = refl
+  each_length [] (b ∷ ys) all = absurd all
+  each_length (a ∷ xs) [] all = absurd all
+  each_length (a ∷ xs) (b ∷ ys) all = ap suc (each_length xs ys all.1)
+
+-- each of a list and one more
+pub all_front : {A : Type 0} (Is : A → Type 0) (xs : List A) (x : A) → AllAre Is (xs ++ x ∷ []) → AllAre Is xs
+all_front Is [] x all = tt
+all_front Is (y ∷ xs) x all = (all.0, all_front Is xs x all.1)
+
+pub all_last : {A : Type 0} (Is : A → Type 0) (xs : List A) (x : A) → AllAre Is (xs ++ x ∷ []) → Is x
+all_last Is [] x all = all.0
+all_last Is (y ∷ xs) x all = all_last Is xs x all.1
+
+-- judges of one key say the same
+all_with : {J K : Type 0} (key : J → K) (says : K → Says) (k : K) (js : List J) → ((i : ℕ) (d : J) → i < length js → key (slice_index_or js i d) ≡ k) → AllAre (λ j. says (key j) ≡ says k) js
+all_with key says k [] each = tt
+all_with key says k (j ∷ js) each = (ap says (each 0 j (omega arith)), all_with key says k js (λ i d low. each (suc i) d (omega arith)))
+
+pub all_say : {J K : Type 0} (key : J → K) (says : K → Says) (js : List J) → HaveOneKey key js → AllAre (λ j. says (key j) ≡ first_says key says js) js
+all_say key says [] one = tt
+all_say key says (j ∷ js) one = all_with key says (key j) (j ∷ js) (λ i d low. one i 0 d low (omega arith))
+
+-- what the answer says of a variant that is smaller and lawful
+asked_if : (asks : Bool) (answer : Answer) → (asks ≡ false → answer ≢ Failed) → answer ≡ Failed → asks ≡ true
+asked_if true answer unfailing is = refl
+asked_if false answer unfailing is = absurd (unfailing refl is)
+
+smaller_than : (Lawful : List ℕ → Type 0) (file variant : List ℕ) (size n : ℕ) → HasSize file size → IsGood Lawful variant size n → IsSmaller variant file
+smaller_than Lawful file variant size n sized good = record { new_size = n; old_size = size; new_is = good.has; old_is = sized; less = good.less }
+
+pub says_asked : {J K : Type 0} (judge : JudgeGhosts J K) (s : Search) (old new : J) (file variant : List ℕ) (size n : ℕ) (answer : Answer) → HasSize file size → IsGood s.Lawful variant size n
+    → AnswersAsTold s.asks (s.Tells variant) answer → (s.asks ≡ true → AsksOnce (judge.calls old) (judge.calls new) s.name variant answer) → (s.asks ≡ false → answer ≢ Failed)
+    → (answer ≡ Failed → Rose (judge.faults old) (judge.faults new))
+    → TriedSays s (judging_of judge (old ∷ [])) (judging_of judge (new ∷ [])) file variant (tried_of answer)
+says_asked judge s old new file variant size n Yes sized good told once unfailing rose = record { smaller = smaller_than s.Lawful file variant size n sized good; lawful = good.lawful; answered = told }
+says_asked judge s old new file variant size n No sized good told once unfailing rose = answered_no told
+says_asked judge s old new file variant size n Failed sized good told once unfailing rose =
+    let asked = asked_if s.asks Failed unfailing refl in
+    let made = called_first (judge.calls old ∷ []) (judge.calls new ∷ []) s.name variant Failed (λ is. cc) (once asked, refl) in
+    record { smaller = smaller_than s.Lawful file variant size n sized good; lawful = good.lawful; failed = record { asked = asked; called = made; rose = rose refl } }
+says_asked judge s old new file variant size n NoMemory sized good told once unfailing rose = tt
+
+-- and of one that isn't
+pub says_bad : (s : Search) (file variant : List ℕ) (size : ℕ) → HasSize file size → IsLarge variant size ⊎ (s.Lawful variant → ⊥) → (before now : _) → TriedSays s before now file variant tried.No
+says_bad s file variant size sized (inl large) before now = not_smaller (large_no_smaller file variant size sized large)
+says_bad s file variant size sized (inr against) before now = unlawful against

@@ -1,0 +1,103 @@
+-- What a trial says where the answers are told, and the reduction by such trials.
+use Rattle.std.specs.Prelude.{◌≡◌, ℕ, ◌<◌, List, [], length, Option, Some}
+use Rattle.std.specs.List.{slice_get}
+use Rattle.cr_cursor.specs.declared.law.Law.{Ghosts as LawGhosts}
+use Rattle.cr_cursor.specs.declared.passes.Passes.{Ghosts as PassesGhosts}
+use Rattle.cr_cursor.specs.declared.passes.Cursor.{Cursor}
+use Rattle.cr_cursor.specs.Variants.{Offer}
+use Rattle.cr_outside.specs.declared.judge.Answer.{Answer}
+use Rattle.cr_outside.specs.declared.judge.Answer.TheVariants as answer
+use Rattle.cr_outside.specs.declared.question.Question.{Ghosts as QuestionGhosts}
+use Rattle.cr_outside.specs.Question.{AnswersAsTold, Says}
+use Rattle.cr_pool.specs.Sizes.{HasSize}
+use Rattle.cr_pool.specs.Trials.{IsAccepted, IsRejected}
+use Rattle.cr_reduce.specs.Bench.{Judging}
+use Rattle.cr_reduce.specs.Ends.{EndsBy}
+use Rattle.cr_reduce.specs.Reduction.{Outcome, Reduces, State, cursors_of, start_of}
+use Rattle.cr_reduce.specs.Search.{FailsInRun, Search, search_of}
+use Rattle.cr_reduce.specs.declared.end.End.{End}
+use Rattle.cr_standing_workers.specs.declared.orders.Trial.{Trial}
+use Rattle.cr_standing_workers.specs.declared.orders.Trial.TheVariants.{No, Yes, Skipped}
+use Rattle.cr_standing_workers.specs.declared.task.Task.{Task}
+use Rattle.cr_standing_workers.specs.declared.trial.Tried.{Tried}
+use Rattle.cr_standing_workers.specs.declared.trial.Tried.TheVariants as tried
+
+-- The search of a task, by what the judges say. Nothing is kept before it.
+abbrev pub searching_by : {P I L Q : Type 0} → PassesGhosts P I → LawGhosts L → QuestionGhosts Q → Task P L Q → Says → Search
+searching_by passes law question t says = search_of (passes.offers t.passes.now) (law.lawful t.law.now) (question.asks t.question.now) (question.tells t.question.now) says t.name.now []
+
+-- where the answer is told, that one; where it isn't, any
+abbrev pub IfTold : Search → List ℕ → Answer → Type 0
+IfTold s variant answer = AnswersAsTold s.asks (s.Tells variant) answer
+
+-- A variant is accepted where it is smaller, lawful and, where the answer is told, answered yes.
+abbrev pub AcceptsIfTold : Search → List ℕ → List ℕ → Type 0
+AcceptsIfTold s = IsAccepted s.Lawful (IfTold s)
+
+-- It is rejected where it isn't smaller, isn't lawful or, where the answer is told, is answered no. Where it isn't told, nothing is said.
+abbrev pub RejectsIfTold : Search → List ℕ → List ℕ → Type 0
+RejectsIfTold s = IsRejected s.Lawful (IfTold s)
+
+-- what a reply says of a variant of a file
+abbrev pub SaysOf : Search → Trial → List ℕ → List ℕ → Type 0
+SaysOf s No file variant = RejectsIfTold s file variant
+SaysOf s Yes file variant = AcceptsIfTold s file variant
+SaysOf s Skipped file variant = Unit {0}
+
+-- what a trial says of it that a judge made from one time to another
+abbrev pub TriedSays : Search → Judging → Judging → List ℕ → List ℕ → Tried → Type 0
+TriedSays s before now file variant tried.No = RejectsIfTold s file variant
+TriedSays s before now file variant tried.Yes = AcceptsIfTold s file variant
+TriedSays s before now file variant tried.Failed = FailsInRun s before now 0 file variant
+TriedSays s before now file variant tried.Stopped = Unit {0}
+TriedSays s before now file variant tried.NoMemory = Unit {0}
+
+abbrev pub tried_of : Answer → Tried
+tried_of answer.Yes = tried.Yes
+tried_of answer.No = tried.No
+tried_of answer.Failed = tried.Failed
+tried_of answer.NoMemory = tried.NoMemory
+
+-- of the variant at a position of an offer
+abbrev pub AtPosition : Offer → ℕ → (List ℕ → Type 0) → Type 0
+AtPosition offer position Holds = (at : Cursor) → slice_get (cursors_of offer) position ≡ Some at → Holds (offer.bytes at)
+
+-- what a reply says of a position of a file: of the variant there, in what is offered for the file
+abbrev pub SaysAt : Search → List ℕ → ℕ → Trial → Type 0
+SaysAt s file position trial = (offer : Offer) → s.Offers file offer → AtPosition offer position (SaysOf s trial file)
+
+-- how the first judge's own trial of a position failed
+abbrev pub FailsAt : Search → Judging → Judging → List ℕ → Offer → ℕ → Type 0
+FailsAt s before now file offer position = (at : Cursor) × (slice_get (cursors_of offer) position ≡ Some at) × FailsInRun s before now 0 file (offer.bytes at)
+
+-- what a trial of a position says: a reply that may be given, or how the test failed
+abbrev pub TriedAt : Search → Judging → Judging → (List ℕ → ℕ → Trial → Type 0) → List ℕ → Offer → ℕ → Tried → Type 0
+TriedAt s before now Replies file offer position tried.No = Replies file position No
+TriedAt s before now Replies file offer position tried.Yes = Replies file position Yes
+TriedAt s before now Replies file offer position tried.Failed = FailsAt s before now file offer position
+TriedAt s before now Replies file offer position tried.Stopped = Unit {0}
+TriedAt s before now Replies file offer position tried.NoMemory = Unit {0}
+
+-- An order names a position of what is offered for its file, with that file's index and size.
+pub record IsPlace {T : Type 0} (s : Search) (offer : T → List ℕ → Offer) (prep : T) (file : List ℕ) (size position : ℕ) : Type 0 where
+  pub offered : s.Offers file (offer prep file)
+  pub sized : HasSize file size
+  pub below : position < length (cursors_of (offer prep file))
+
+-- The orders and replies of a subject are those of this search.
+pub record IsAbout {T : Type 0} (s : Search) (offer : T → List ℕ → Offer) (Orders : T → List ℕ → ℕ → ℕ → Type 0) (Replies : List ℕ → ℕ → Trial → Type 0) : Type 0 where
+  pub order_in : (prep : T) (file : List ℕ) (size position : ℕ) → IsPlace s offer prep file size position → Orders prep file size position
+  pub order_out : (prep : T) (file : List ℕ) (size position : ℕ) → Orders prep file size position → IsPlace s offer prep file size position
+  pub reply_in : (file : List ℕ) (position : ℕ) (trial : Trial) → SaysAt s file position trial → Replies file position trial
+  pub reply_out : (file : List ℕ) (position : ℕ) (trial : Trial) → Replies file position trial → SaysAt s file position trial
+
+-- the reduction from a state on by such trials, where the faults are those of a run
+abbrev pub ReducesIfTold : Search → Judging → Judging → Option ℕ → State → Outcome → Type 0
+ReducesIfTold s before now limit st out = Reduces s.Offers (AcceptsIfTold s) (RejectsIfTold s) (FailsInRun s before now) limit st out
+
+-- and of a whole file
+abbrev pub ReducesFileIfTold : Search → Judging → Judging → List ℕ → Option ℕ → Outcome → Type 0
+ReducesFileIfTold s before now file limit out = (offer : Offer) × s.Offers file offer × ReducesIfTold s before now limit (start_of file offer) out
+
+abbrev pub EndsIfTold : Search → Judging → Judging → Option ℕ → List ℕ → End → Type 0
+EndsIfTold s before now limit file e = EndsBy (ReducesFileIfTold s before now file) file limit e e.why

@@ -1,0 +1,27 @@
+//! Workers that stay for a whole reduction: what goes between them and their caller, and what they do.
+//!
+//! Orders, each a position of a file, go through one ruled channel, and replies come back through another. The rules are that each
+//! order is one of a position of its file's offer, and that each reply says what is so. Both are about the passes, the law, the
+//! question and the judges of one reduction, which the channels' types carry as a parameter, `Subject`. A worker tries what is ordered:
+//! it makes the variant, measures it, has the law rule on it where it is smaller, and asks the question where it is lawful too.
+//!
+//! The crate promises that no reply is sent but a true one, and what becomes of the judge. It stands on `cr_reduce`'s definitions,
+//! `cr_cursor`, `cr_outside`, `cr_pool` and `crossbeam_channel`.
+#![tactic(auto)]
+
+mod channels;
+mod hint;
+mod orders;
+mod task;
+mod trial;
+mod work;
+
+pub use channels::{
+    Fit, Lines, Seat, True, another_seat, next_order, next_reply, open_order, send_order,
+    send_reply, stop_workers,
+};
+pub use hint::{Hint, Watch};
+pub use orders::{Order, Place, Reply, Shared, Subject, Trial};
+pub use task::Task;
+pub use trial::{Tried, make_variant, try_at};
+pub use work::{Word, answer, serve};
