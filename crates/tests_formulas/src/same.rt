@@ -33,9 +33,9 @@ fn reduced(
     row: &str,
 ) -> Result<Vec<u8>, AllocError> {
     let words = words_of(alloc, words)?;
-    let found = outcome(rt, alloc, &words, file)?;
-    assert!(rt; found.0 == status, "{row}");
-    match found.2 {
+    let (ended, _, after, _, _) = outcome(rt, alloc, &words, file)?;
+    assert!(rt; ended == status, "{row}");
+    match after {
         Some(after) => Ok(after),
         None => Ok(Vec::new(alloc)),
     }

@@ -1,4 +1,6 @@
 // Judges who fail if they are asked at all, since a formula asks none.
+ghost use Rattle.std.specs.Prelude.{None};
+
 use cr_outside::{Answer, Judge};
 use cr_pool::Bench;
 use std::alloc::{AllocError, Global};
