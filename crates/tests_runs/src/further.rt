@@ -1,0 +1,291 @@
+// Whole runs by the top call that knows all that words may ask for. What is wanted was found by hand from the rules of the command line
+// and of logs.
+use crate::outcomes::{more_status_of, words_in};
+use crate::runs::{FAULTS, JUDGED, MADE, files_hold, files_of, rehearsed_bench, sink_of, words_of};
+use crate::tables::{Case, bytes_of};
+use cr_outside::MemFiles;
+use std::alloc::{AllocError, Global};
+use std::process::Abort;
+use std::thread::Threads;
+
+/// Flags of modes that aren't built, and words in no form: nothing is done.
+const UNBUILT: &str = "\
+what a journal
+words --journal has:b abc.c
+name abc.c
+before int main(){␊int a;␊int b;␊}␊
+status 2
+output creduce: usage: creduce [--workers N] [--window N] [--limit N] [--steps N] [--passes LETTERS] TEST FILE␊
+after same
+copy none
+log none
+
+what a journal that is gone on from
+words has:b abc.c --resume
+
+what standing workers
+words --standing has:b abc.c
+
+what any order
+words has:b --any-order abc.c
+
+what standing workers on a generated program
+words --standing has:main gen:7:1
+
+what two engines
+words --journal --standing has:b abc.c
+
+what a flag that comes twice
+words --any-order --any-order has:b abc.c
+
+what a journal of a generated program
+words --journal has:main gen:7:1
+
+what a flag without words
+words --journal
+
+what a replay without a file
+words --replay abc.c.log
+
+what a replay of a generated program
+words --replay abc.c.log gen:7:1
+
+what a replay with workers
+words --replay --workers=1 abc.c.log abc.c
+
+what a replay behind another word
+words --steps 7 --replay abc.c.log abc.c
+";
+
+/// Logs that are checked. The files are there before and after as they are told.
+const REPLAYS: &str = "\
+what the log of a reduction
+words --replay t.c.log t.c
+name t.c
+failing none
+mute none
+status 0
+output t.c replay yes accepted 1␊
+after int b;␊int main(){}␊
+copy int a;␊int b;␊int main(){}␊
+log l 14 0 98 16␊end fixed 98 34␊
+
+what its passes and steps enough
+words --replay --passes l --steps=100 t.c.log t.c
+
+what another size
+log l 14 0 97 16␊end fixed 98 34␊
+status 14
+output creduce: replay: line 1␊
+
+what a byte more in the file
+after int b;␊int main(){}␊␊
+status 14
+output creduce: replay: line 2␊
+
+what an empty log
+log ∅
+status 14
+output creduce: replay: line 1␊
+
+what a pass that isn't enabled
+words --replay --passes t t.c.log t.c
+status 14
+output creduce: replay: line 1␊
+
+what a cursor beyond every level
+log l 255 0 98 16␊end fixed 98 34␊
+status 14
+output creduce: replay: line 1␊
+
+what a cursor beyond the width
+log l 14 18446744073709551615 98 16␊end fixed 98 34␊
+status 14
+output creduce: replay: line 1␊
+
+what the largest number as a size
+log l 14 0 18446744073709551615 16␊end fixed 98 34␊
+status 14
+output creduce: replay: line 1␊
+
+what the largest number as the last size
+log l 14 0 98 16␊end fixed 18446744073709551615 34␊
+status 14
+output creduce: replay: line 2␊
+
+what a size above the largest number
+log l 14 0 98 16␊end fixed 18446744073709551616 34␊
+status 14
+output creduce: replay: line 2␊
+
+what the largest numbers as turns
+log l 14 0 98 18446744073709551615␊end fixed 98 18446744073709551615␊
+
+what turns that fall
+log l 14 0 98 35␊end fixed 98 34␊
+status 14
+output creduce: replay: line 2␊
+
+what no copy
+copy none
+status 3
+output creduce: no file t.c.orig␊
+
+what no log
+log none
+status 3
+output creduce: no file t.c.log␊
+
+what a log of another name
+words --replay other.log t.c
+status 3
+output creduce: no file other.log␊
+
+what no file
+after none
+status 3
+output creduce: no file t.c␊
+
+what the copy can't be read
+failing 1
+status 9
+output creduce: file fault: t.c.orig␊
+
+what the log can't be read
+failing 2
+status 9
+output creduce: file fault: t.c.log␊
+
+what the file can't be read
+failing 3
+status 9
+output creduce: file fault: t.c␊
+
+what a copy that isn't in the subset
+copy int a;␊int main(){return b;}␊
+status 4
+output creduce: t.c.orig:2: not in the subset: name 1␊
+
+what a copy whose run isn't defined
+copy int main(){␊1/0;}␊
+status 5
+output creduce: t.c.orig:2: not defined: U2␊
+
+what the answer can't be put
+mute 1
+status 10
+output ∅
+
+what a refusal can't be put
+log ∅
+mute 1
+status 14
+output ∅
+";
+
+// Whether the case runs as it is wanted.
+fn runs_so(
+    rt: &(impl Threads + Sync),
+    alloc: Global,
+    case: &Case,
+    words: &[String],
+    files: &mut MemFiles,
+) -> Result<bool, AllocError> {
+    let mut bench = rehearsed_bench(alloc, case)?;
+    let mut out = sink_of(alloc, case)?;
+    let status = more_status_of(rt, alloc, words, files, &mut bench, &mut out);
+    if u64::from(status) == case.number("status") && case.tells(alloc, "output", out.bytes())? {
+        files_hold(alloc, files, case)
+    } else {
+        Ok(false)
+    }
+}
+
+fn expect_plain(
+    rt: &(impl Abort + Threads + Sync),
+    alloc: Global,
+    case: &Case,
+) -> Result<(), AllocError> {
+    let words = words_of(alloc, case)?;
+    let mut files = files_of(alloc, case)?;
+    let so = runs_so(rt, alloc, case, &words, &mut files)?;
+    assert!(rt; so, "{}", case.told("what"));
+    Ok(())
+}
+
+#[test]
+fn words_without_flag_come_to_what_they_come_to_without_the_further_modes(
+    rt: HostRuntime,
+) -> Result<(), AllocError> {
+    for table in [FAULTS, JUDGED, MADE] {
+        for own in table.split("\n\n") {
+            expect_plain(&rt, rt.alloc(), &Case::of(table, own))?;
+        }
+    }
+    Ok(())
+}
+
+fn expect_unbuilt(
+    rt: &(impl Abort + Threads + Sync),
+    alloc: Global,
+    case: &Case,
+) -> Result<(), AllocError> {
+    let words = words_in(alloc, case.told("words"))?;
+    let mut files = files_of(alloc, case)?;
+    let so = runs_so(rt, alloc, case, &words, &mut files)?;
+    assert!(rt; so, "{}", case.told("what"));
+    Ok(())
+}
+
+#[test]
+fn for_a_mode_that_is_not_built_nothing_is_done(rt: HostRuntime) -> Result<(), AllocError> {
+    for own in UNBUILT.split("\n\n") {
+        expect_unbuilt(&rt, rt.alloc(), &Case::of(UNBUILT, own))?;
+    }
+    Ok(())
+}
+
+// One more file, where the case tells what it has.
+fn push_told(
+    alloc: Global,
+    pairs: &mut Vec<(String, Vec<u8>)>,
+    name: &str,
+    told: &str,
+) -> Result<(), AllocError> {
+    if told != "none" {
+        let name = String::from_str(alloc, name)?;
+        pairs.push((name, bytes_of(alloc, told)?))?;
+    }
+    Ok(())
+}
+
+fn replay_files(alloc: Global, case: &Case) -> Result<MemFiles, AllocError> {
+    let mut pairs = Vec::new(alloc);
+    push_told(alloc, &mut pairs, "t.c.orig", case.told("copy"))?;
+    push_told(alloc, &mut pairs, "t.c.log", case.told("log"))?;
+    push_told(alloc, &mut pairs, "t.c", case.told("after"))?;
+    let failing = case.numbers(alloc, "failing")?;
+    Ok(MemFiles::new(pairs, failing))
+}
+
+fn expect_replay(
+    rt: &(impl Abort + Threads + Sync),
+    alloc: Global,
+    case: &Case,
+) -> Result<(), AllocError> {
+    let words = words_in(alloc, case.told("words"))?;
+    let mut files = replay_files(alloc, case)?;
+    let so = runs_so(rt, alloc, case, &words, &mut files)?;
+    assert!(rt; so, "{}", case.told("what"));
+    Ok(())
+}
+
+#[test]
+fn a_replay_comes_to_the_status_of_its_log_and_writes_nothing(
+    rt: HostRuntime,
+) -> Result<(), AllocError> {
+    for own in REPLAYS.split("\n\n") {
+        expect_replay(&rt, rt.alloc(), &Case::of(REPLAYS, own))?;
+    }
+    Ok(())
+}
