@@ -174,7 +174,6 @@ explain() {
     6)
         case $test in
         has:*) echo "FILE hasn't the tokens of \"${test#has:}\" side by side." ;;
-        if:*) echo "The formula is false of FILE, by its tokens and by the run that is made of it." ;;
         *) echo "It ended with another status than 0, or by a signal." && by_hand "$test" creduce-trial-0 ;;
         esac ;;
     8)

@@ -59,19 +59,6 @@ file_fault() {
     esac
 }
 
-# formula_fault WORD: why it spells no formula, by its look.
-formula_fault() {
-    local bare name number ending='ends[[:space:]]*\([[:space:]]*([^)]*)\)' unquoted='(has|prints)[[:space:]]*\([[:space:]]*([^"/[:space:]]|$)'
-    bare=$(sed -E ':a; N; $!ba; s/"(\\.|[^"\\])*"/""/g' <<<"${1#if:}"$'\n')
-    name=$(grep -ow '[[:alpha:]_][[:alnum:]_]*' <<<"$bare" | grep -vxm 1 -e has -e prints -e ends -e same -e and -e or -e not)
-    if [[ $bare =~ $unquoted ]]; then echo "the texts of has and prints stand in quotation marks, which a shell takes away: put the whole word in '..'"
-    elif [ -n "$name" ]; then echo "\"$name\" is none of has(\"TEXT\"), prints(\"TEXT\"), ends(N), same, and(F,F), or(F,F) and not(F)"
-    elif [[ $bare =~ $ending ]] && number=${BASH_REMATCH[1]} && ! [[ $number =~ ^(0|[1-9][0-9]{0,2})[[:space:]]*$ && $number -le 255 ]]; then echo "ends takes a plain number from 0 to 255, and not \"$number\""
-    elif [ "$(tr -dc '(' <<<"$bare")" != "$(tr -dc ')' <<<"$bare" | tr ')' '(')" ]; then echo "in \"$1\" the brackets don't pair"
-    else echo "\"$1\" is no formula: has(\"TEXT\") with whole tokens of C, prints(\"TEXT\"), ends(N), same, and(F,F), or(F,F) and not(F) are, at most 64 deep"
-    fi
-}
-
 # places_fault WORD..: what is wrong with TEST and FILE.
 places_fault() {
     local found
@@ -83,7 +70,7 @@ places_fault() {
     esac
     [ -n "$1" ] || { echo "TEST is an empty word"; return; }
     found=$(file_fault "$2")
-    if [ -n "$found" ]; then echo "$found"; elif [[ $1 == has:* ]]; then echo "the text of \"$1\" isn't made of one or more whole tokens of C"; elif [[ $1 == if:* ]]; then formula_fault "$1"; fi
+    if [ -n "$found" ]; then echo "$found"; elif [[ $1 == has:* ]]; then echo "the text of \"$1\" isn't made of one or more whole tokens of C"; fi
 }
 
 # names_fault WORD..: what is wrong with LOG and FILE of a replay.

@@ -1,5 +1,4 @@
 pub mod Rulings
-pub mod Looks
 pub mod Endings
 mod Programs
 mod OneRefusal

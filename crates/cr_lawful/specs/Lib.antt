@@ -1,5 +1,4 @@
 pub mod Lawful
-pub mod Looks
 pub mod Programs
 pub mod Runs
 pub mod Laws

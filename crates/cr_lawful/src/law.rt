@@ -2,7 +2,6 @@
 ghost use Rattle.std.specs.Prelude.{◌≡◌, ℕ, List, true, false};
 ghost use Rattle.cr_cursor.specs.declared.law.Reason.{Reason};
 ghost use Rattle.cr_lawful.specs.Lawful.{IsLawful, IsReason, IsTypedUnit, RefusesFor, Rules, limits_of};
-ghost use Rattle.cr_lawful.specs.Looks.{HasLookedThrough, Looks};
 ghost use Rattle.cr_lawful.specs.Programs.{IsProgram};
 ghost use Rattle.cr_lawful.specs.Runs.{CameTo, ComesToEnd};
 
@@ -77,8 +76,6 @@ impl<'a> Law for CLaw<'a> {
         ensures exact { (reason : Reason) → IsReason self.now.limits file.now reason → RefusesFor reason result }
         ensures stopped { result ≡ Ruling.Stopped → S.raised stop.new ≡ true }
         ensures held { S.held stop.new ≡ S.held stop.old }
-        // A run that came to its end was always soon to be stopped.
-        ensures looked { result ≡ Ruling.Lawful → HasLookedThrough self.now.limits file.now (S.looks stop.old) (S.looks stop.new) }
     {
         ruled(alloc, file, self, stop)
     }
@@ -88,7 +85,6 @@ fn ruled<S: Stop>(alloc: Global, file: &[u8], law: &CLaw<'_>, stop: &mut S) -> R
     requires { S.raised stop.old ≡ false }
     ensures rules { Rules law.now.limits file.now (S.raised stop.new) result }
     ensures held { S.held stop.new ≡ S.held stop.old }
-    ensures looks { Looks law.now.limits file.now (S.looks stop.old) (S.looks stop.new) result }
 {
     match program_of_file(alloc, file, stop) {
         Ok(program) => ruled_on_program(alloc, file, program, law, stop),
@@ -107,7 +103,6 @@ fn ruled_on_program<S: Stop>(
     requires program { IsProgram file.now program }
     ensures rules { Rules law.now.limits file.now (S.raised stop.new) result }
     ensures held { S.held stop.new ≡ S.held stop.old }
-    ensures looks { Looks law.now.limits file.now (S.looks stop.old) (S.looks stop.new) result }
 {
     let ruling = ruled_on_run(alloc, file, &program.typed, law, stop);
     if ruling == Ruling::Lawful {
@@ -141,7 +136,6 @@ fn ruled_on_run<S: Stop>(
     requires unit { IsTypedUnit file.now typed.now }
     ensures rules { Rules law.now.limits file.now (S.raised stop.new) result }
     ensures held { S.held stop.new ≡ S.held stop.old }
-    ensures looks { Looks law.now.limits file.now (S.looks stop.old) (S.looks stop.new) result }
 {
     let run = outcome(alloc, typed, law.limits, stop);
     let ruling = run_ruling(file, typed, &run);

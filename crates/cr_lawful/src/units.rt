@@ -5,7 +5,6 @@ ghost use Rattle.cr_lawful_analysis.specs.Analysis.{IsParsed, tree_of};
 ghost use Rattle.cr_scopes.specs.Units.{AreUnitEntities, AreUnitNames, IsUnitFirst};
 ghost use Rattle.cr_check.specs.Checked.{IsSoundOf};
 ghost use Rattle.cr_lawful.specs.Lawful.{Refuses};
-ghost use Rattle.cr_lawful.specs.Looks.{IsNotBelow};
 ghost use Rattle.cr_lawful.specs.Programs.{IsProgram};
 
 use crate::program::{Program, program_of};
@@ -30,7 +29,6 @@ pub(crate) fn program_of_file<S: Stop>(
     ensures refused { IfErr result (λ ruling. Refuses file.now (S.raised stop.new) ruling) }
     ensures unstopped { OnOk result (S.raised stop.new ≡ false) }
     ensures held { S.held stop.new ≡ S.held stop.old }
-    ensures looks { IsNotBelow (S.looks stop.old) (S.looks stop.new) }
 {
     match read(alloc, file) {
         Ok(tokens) => program_of_tokens(alloc, file, &tokens, stop),
@@ -50,7 +48,6 @@ fn program_of_tokens<S: Stop>(
     ensures refused { IfErr result (λ ruling. Refuses file.now (S.raised stop.new) ruling) }
     ensures unstopped { OnOk result (S.raised stop.new ≡ false) }
     ensures held { S.held stop.new ≡ S.held stop.old }
-    ensures looks { IsNotBelow (S.looks stop.old) (S.looks stop.new) }
 {
     tokens_are_spans();
     match parse(alloc, file, tokens) {
@@ -72,7 +69,6 @@ fn with_names<S: Stop>(
     ensures refused { IfErr result (λ ruling. Refuses file.now (S.raised stop.new) ruling) }
     ensures unstopped { OnOk result (S.raised stop.new ≡ false) }
     ensures held { S.held stop.new ≡ S.held stop.old }
-    ensures looks { IsNotBelow (S.looks stop.old) (S.looks stop.new) }
 {
     if stop.stop() {
         return Err(Ruling::Stopped);
@@ -100,7 +96,6 @@ fn with_resolution<S: Stop>(
     ensures refused { IfErr result (λ ruling. Refuses file.now (S.raised stop.new) ruling) }
     ensures unstopped { OnOk result (S.raised stop.new ≡ false) }
     ensures held { S.held stop.new ≡ S.held stop.old }
-    ensures looks { IsNotBelow (S.looks stop.old) (S.looks stop.new) }
 {
     if stop.stop() {
         drop((unit, resolution));
@@ -148,7 +143,6 @@ fn with_types<S: Stop>(
     ensures refused { IfErr result (λ ruling. Refuses file.now (S.raised stop.new) ruling) }
     ensures unstopped { OnOk result (S.raised stop.new ≡ false) }
     ensures held { S.held stop.new ≡ S.held stop.old }
-    ensures looks { IsNotBelow (S.looks stop.old) (S.looks stop.new) }
 {
     tokens_are_spans();
     match check(alloc, file, &unit, &names) {
@@ -174,7 +168,6 @@ fn with_columns<S: Stop>(
     ensures refused { IfErr result (λ ruling. Refuses file.now (S.raised stop.new) ruling) }
     ensures unstopped { OnOk result (S.raised stop.new ≡ false) }
     ensures held { S.held stop.new ≡ S.held stop.old }
-    ensures looks { IsNotBelow (S.looks stop.old) (S.looks stop.new) }
 {
     if stop.stop() {
         drop((unit, names, checked));

@@ -3,6 +3,4 @@ pub mod Runnable
 pub mod OneTask
 pub mod Promises
 pub mod Sources
-pub mod Paths
 pub mod More
-pub mod Completing

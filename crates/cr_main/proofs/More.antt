@@ -1,11 +1,8 @@
 -- What is promised of all that words may ask for, from what it comes to.
 use Rattle.std.proofs.Common.{◌≡◌, ◌⊎◌, ◌<◌, inl, inr, ℕ, List, codes, refl, sym, ap, subst, ◌∙◌, arith}
-use Rattle.cr_formula.specs.Forms.{Form, Spells}
 use Rattle.cr_outside.specs.Question.{Says as Telling}
 use Rattle.cr_outside.specs.Story.{EndsWithFault}
 use Rattle.cr_reduce.specs.Bench.{Judging}
-use Rattle.cr_main_formula.proofs.Headline.{formula_done}
-use Rattle.cr_main_formula.proofs.Promises.{formula_faults, formula_finished, formula_journal, formula_keeps, formula_never_fails}
 use Rattle.cr_main_replay.proofs.Promises.{replay_faults, replay_files, replay_keeps_journal}
 use Rattle.cr_main_replay.proofs.Statuses.{replayed}
 use Rattle.cr_main_task.specs.Outside.{Outside}
@@ -23,22 +20,18 @@ use Rattle.cr_main_words.specs.declared.request.Request.{Request}
 use Rattle.cr_main_words.specs.declared.request.Request.TheVariants as request
 use Rattle.cr_main_words.specs.declared.settings.Settings.{Settings}
 use Rattle.cr_main_words.proofs.Asking.{one_modes, plain_reduction}
-use Rattle.cr_main_words.proofs.Giving.{one_settings}
-use Rattle.cr_main.specs.Headline.{AsksOnly, Promises}
+use Rattle.cr_main.specs.Headline.{AsksOnly, KeepsFiles, NeedsNoJudge, Promises}
 use Rattle.cr_main.specs.Headline.AsksOnly.{run_asks_nothing}
 use Rattle.cr_main.specs.Headline.KeepsFiles.{files_unchanged}
-use Rattle.cr_main.specs.More.{Does, EndsMore, IsFormula, IsFormulaTask, IsPlain, IsQuiet, IsSilent, KeepsMore, MayRun, RunsMore, RunsWord, replaying_by, word_of}
-use Rattle.cr_main.specs.More.EndsMore.{of_formula, of_nothing, of_reduction, of_replay}
-use Rattle.cr_main.specs.More.KeepsMore.{kept_by_formula, kept_by_task}
-use Rattle.cr_main.specs.More.RunsAsked.{by_word, plain, unbuilt}
+use Rattle.cr_main.specs.More.{Does, EndsMore, IsPlain, IsQuiet, IsUnbuilt, MayRun, RunsMore, replaying_by}
+use Rattle.cr_main.specs.More.EndsMore.{of_nothing, of_reduction, of_replay}
+use Rattle.cr_main.specs.More.RunsAsked.{plain, unbuilt}
 use Rattle.cr_main.specs.More.RunsMore.{asks_nothing, reduction, replay, unread_words}
-use Rattle.cr_main.specs.More.RunsWord.{by_formula, spells_none, unread_word}
 use Rattle.cr_main.specs.Run.{Runs}
 use Rattle.cr_main.specs.Run.Runs.{no_settings, on_task, unsorted}
-use Rattle.cr_main.specs.Task.{formula_task_of, task_of, text_of}
+use Rattle.cr_main.specs.Task.{task_of, text_of}
 use Rattle.cr_main.proofs.OneTask.{same_asks}
-use Rattle.cr_main.proofs.Paths.{same_formula}
-use Rattle.cr_main.proofs.Promises.{opens_fails, opens_keep, opens_on, promises}
+use Rattle.cr_main.proofs.Promises.{promises}
 use Rattle.cr_main.proofs.Runnable.{is_runnable}
 
 plain_flags : (words : List Word) → HasNoFlag words → GivesModes words plain_modes
@@ -53,11 +46,10 @@ plain_flags words none = record {
 plain_settings : (words : List Word) (most : ℕ) (settings : Settings) (modes : Modes) → HasReduction words most settings modes → modes ≡ plain_modes → HasSettings words most settings
 plain_settings words most settings modes asks is = ((plain_reduction words most settings).0 (subst (HasReduction words most settings) is asks)).1
 
-plain_modes_asked : (words : List Word) (most : ℕ) (settings : Settings) (modes : Modes) → HasReduction words most settings modes → IsPlain words most → modes ≡ plain_modes
-plain_modes_asked words most settings modes asks it = one_modes words modes plain_modes asks.flags (plain_flags words it.no_flag)
-
-no_formula_asked : (words : List Word) (most : ℕ) (settings : Settings) (modes : Modes) → HasReduction words most settings modes → IsPlain words most → IsFormula settings.test → ⊥
-no_formula_asked words most settings modes asks it = it.no_formula settings (plain_settings words most settings modes asks (plain_modes_asked words most settings modes asks it))
+plain_is_built : (words : List Word) (most : ℕ) (settings : Settings) (modes : Modes) → HasReduction words most settings modes → IsPlain words most → IsUnbuilt settings modes → ⊥
+plain_is_built words most settings modes asks it (inl other) = other (one_modes words modes plain_modes asks.flags (plain_flags words it.no_flag))
+plain_is_built words most settings modes asks it (inr formula) =
+    it.no_formula settings (plain_settings words most settings modes asks (one_modes words modes plain_modes asks.flags (plain_flags words it.no_flag))) formula
 
 module _ (words : List Word) (most : ℕ) (says : Telling) (old new : Outside) (before after : Judging) (status : ℕ) where
   plain_runs : (settings : Settings) (modes : Modes) (own : List ℕ) → HasReduction words most settings modes → modes ≡ plain_modes → IsOwnName (name_of settings.source) own
@@ -69,8 +61,7 @@ module _ (words : List Word) (most : ℕ) (says : Telling) (old new : Outside) (
   as_run (asks_nothing none idle said) it =
       no_settings (λ settings has. none (request.Reduction settings plain_modes) ((plain_reduction words most settings).1 (it.no_flag, has))) idle said
   as_run (unread_words same quiet is) it = unsorted same quiet is
-  as_run (reduction settings modes asks (unbuilt why idle said)) it = absurd (why (plain_modes_asked words most settings modes asks it))
-  as_run (reduction settings modes asks (by_word is formula run)) it = absurd (no_formula_asked words most settings modes asks it formula)
+  as_run (reduction settings modes asks (unbuilt why idle said)) it = absurd (plain_is_built words most settings modes asks it why)
   as_run (reduction settings modes asks (plain own is none is_own run)) it = on_task settings own (plain_settings words most settings modes asks is) is_own run
   as_run (replay asked asks quiet run) it = absurd (it.no_replay asks.0 asks.1)
 
@@ -78,88 +69,43 @@ module _ (words : List Word) (most : ℕ) (says : Telling) (old new : Outside) (
   pub plain_promises : RunsMore words most says old new before after status → IsPlain words most → Promises words most says old new before after status
   plain_promises runs it = promises words most says old new before after status (as_run runs it)
 
-  formula_asked : (settings : Settings) (modes : Modes) (form : Form) (own : List ℕ) → HasReduction words most settings modes → modes ≡ plain_modes → Spells (word_of settings.test) form
-      → IsOwnName (name_of settings.source) own → IsFormulaTask words most settings form own
-  formula_asked settings modes form own asks is spells is_own = record { asks = subst (HasReduction words most settings) is asks; spells = spells; is_own = is_own }
-
-  ends_by_word : (settings : Settings) (modes : Modes) → HasReduction words most settings modes → modes ≡ plain_modes → RunsWord settings (word_of settings.test) old new before after status
-      → EndsMore words most says old new before after status
-  ends_by_word settings modes asks is (spells_none none idle said) = of_nothing (put_status old new _ 2 status said)
-  ends_by_word settings modes asks is (unread_word same quiet starved) = of_nothing (inr starved)
-  ends_by_word settings modes asks is (by_formula form own spells is_own quiet run) =
-      let f = formula_task_of settings form own in
-      let text = text_of settings.source old.files in
-      of_formula settings form own (formula_asked settings modes form own asks is spells is_own) (formula_done f text old new before after status run)
-      (formula_finished f text old new before after status run) (formula_never_fails f text old new before after status run)
-
   pub ends_more : RunsMore words most says old new before after status → EndsMore words most says old new before after status
   ends_more (asks_nothing none idle said) = of_nothing (put_status old new _ 2 status said)
   ends_more (unread_words same quiet is) = of_nothing (inr is)
   ends_more (reduction settings modes asks (unbuilt why idle said)) = of_nothing (put_status old new _ 2 status said)
-  ends_more (reduction settings modes asks (by_word is formula run)) = ends_by_word settings modes asks is run
   ends_more (reduction settings modes asks (plain own is none is_own run)) =
-      let it = plain_runs settings modes own asks is is_own run in of_reduction modes settings asks none it.headline it.finished
+      let it = plain_runs settings modes own asks is is_own run in of_reduction modes settings asks it.headline it.finished
   ends_more (replay asked asks quiet run) = of_replay asked asks (replayed (replaying_by asked) old new status run)
 
-  keeps_by_word : (settings : Settings) (modes : Modes) → HasReduction words most settings modes → modes ≡ plain_modes → RunsWord settings (word_of settings.test) old new before after status
-      → KeepsMore words most says old new after
-  keeps_by_word settings modes asks is (spells_none none idle said) = kept_by_task (files_unchanged idle.files)
-  keeps_by_word settings modes asks is (unread_word same quiet starved) = kept_by_task (files_unchanged (ap (λ o. o.files) same))
-  keeps_by_word settings modes asks is (by_formula form own spells is_own quiet run) =
-      kept_by_formula settings form own (formula_asked settings modes form own asks is spells is_own)
-      (formula_keeps (formula_task_of settings form own) (text_of settings.source old.files) old new before after status run)
-
-  pub keeps_more : RunsMore words most says old new before after status → KeepsMore words most says old new after
-  keeps_more (asks_nothing none idle said) = kept_by_task (files_unchanged idle.files)
-  keeps_more (unread_words same quiet is) = kept_by_task (files_unchanged (ap (λ o. o.files) same))
-  keeps_more (reduction settings modes asks (unbuilt why idle said)) = kept_by_task (files_unchanged idle.files)
-  keeps_more (reduction settings modes asks (by_word is formula run)) = keeps_by_word settings modes asks is run
-  keeps_more (reduction settings modes asks (plain own is none is_own run)) = kept_by_task (plain_runs settings modes own asks is is_own run).files_kept
-  keeps_more (replay asked asks quiet run) = kept_by_task (files_unchanged (replay_files (replaying_by asked) old new status run))
+  pub keeps_more : RunsMore words most says old new before after status → KeepsFiles words most says old new after
+  keeps_more (asks_nothing none idle said) = files_unchanged idle.files
+  keeps_more (unread_words same quiet is) = files_unchanged (ap (λ o. o.files) same)
+  keeps_more (reduction settings modes asks (unbuilt why idle said)) = files_unchanged idle.files
+  keeps_more (reduction settings modes asks (plain own is none is_own run)) = (plain_runs settings modes own asks is is_own run).files_kept
+  keeps_more (replay asked asks quiet run) = files_unchanged (replay_files (replaying_by asked) old new status run)
 
   not_nine : (status ≡ 2) ⊎ (status ≡ 11) → status ≡ 9 → ⊥
   not_nine (inl is) nine = absurd (omega (arith, is, nine))
   not_nine (inr is) nine = absurd (omega (arith, is, nine))
 
-  fault_by_word : (settings : Settings) → RunsWord settings (word_of settings.test) old new before after status → status ≡ 9 → EndsWithFault old.story new.story
-  fault_by_word settings (spells_none none idle said) nine = absurd (not_nine (put_status old new _ 2 status said) nine)
-  fault_by_word settings (unread_word same quiet starved) nine = absurd (not_nine (inr starved) nine)
-  fault_by_word settings (by_formula form own spells is_own quiet run) nine =
-      formula_faults (formula_task_of settings form own) (text_of settings.source old.files) old new before after status
-      (opens_on settings.source old.files) (opens_fails settings.source old.files) nine run
-
   pub fault_more : RunsMore words most says old new before after status → status ≡ 9 → EndsWithFault old.story new.story
   fault_more (asks_nothing none idle said) nine = absurd (not_nine (put_status old new _ 2 status said) nine)
   fault_more (unread_words same quiet is) nine = absurd (not_nine (inr is) nine)
   fault_more (reduction settings modes asks (unbuilt why idle said)) nine = absurd (not_nine (put_status old new _ 2 status said) nine)
-  fault_more (reduction settings modes asks (by_word is formula run)) nine = fault_by_word settings run nine
   fault_more (reduction settings modes asks (plain own is none is_own run)) nine = (plain_runs settings modes own asks is is_own run).fault_last nine
   fault_more (replay asked asks quiet run) nine = replay_faults (replaying_by asked) old new status run nine
-
-  journal_by_word : (settings : Settings) → RunsWord settings (word_of settings.test) old new before after status → KeepsJournal old.story new.story
-  journal_by_word settings (spells_none none idle said) = ap journal_told idle.story
-  journal_by_word settings (unread_word same quiet starved) = ap (λ o. journal_told o.story) same
-  journal_by_word settings (by_formula form own spells is_own quiet run) =
-      formula_journal (formula_task_of settings form own) (text_of settings.source old.files) old new before after status (opens_keep settings.source old.files) run
 
   pub journal_more : RunsMore words most says old new before after status → KeepsJournal old.story new.story
   journal_more (asks_nothing none idle said) = ap journal_told idle.story
   journal_more (unread_words same quiet is) = ap (λ o. journal_told o.story) same
   journal_more (reduction settings modes asks (unbuilt why idle said)) = ap journal_told idle.story
-  journal_more (reduction settings modes asks (by_word is formula run)) = journal_by_word settings run
   journal_more (reduction settings modes asks (plain own is none is_own run)) = (plain_runs settings modes own asks is is_own run).journal_kept
   journal_more (replay asked asks quiet run) = replay_keeps_journal (replaying_by asked) old new status run
-
-  quiet_by_word : (settings : Settings) → RunsWord settings (word_of settings.test) old new before after status → after ≡ before
-  quiet_by_word settings (spells_none none idle said) = idle.judges
-  quiet_by_word settings (unread_word same quiet starved) = quiet
-  quiet_by_word settings (by_formula form own spells is_own quiet run) = quiet
 
   pub asks_more : RunsMore words most says old new before after status → AsksOnly words most says old before after
   asks_more (asks_nothing none idle said) = run_asks_nothing idle.judges
   asks_more (unread_words same quiet is) = run_asks_nothing quiet
   asks_more (reduction settings modes asks (unbuilt why idle said)) = run_asks_nothing idle.judges
-  asks_more (reduction settings modes asks (by_word is formula run)) = run_asks_nothing (quiet_by_word settings run)
   asks_more (reduction settings modes asks (plain own is none is_own run)) = (plain_runs settings modes own asks is is_own run).asks_only
   asks_more (replay asked asks quiet run) = run_asks_nothing quiet
 
@@ -168,13 +114,10 @@ module _ (words : List Word) (most : ℕ) (says : Telling) (old new : Outside) (
   more_of (request.Replay settings) asks it = replay settings asks it.0 it.1
 
   -- where no judge is needed, none is asked, be it that nothing is done
-  pub quiet_more : (asked : Request) → Asks words most asked → Does asked says old new before after status → IsSilent words most → IsQuiet asked
+  pub quiet_more : (asked : Request) → Asks words most asked → Does asked says old new before after status → NeedsNoJudge words most → IsQuiet asked
   quiet_more (request.Reduction settings modes) asks (unbuilt why idle said) needs = inl why
-  quiet_more (request.Reduction settings modes) asks (by_word is formula run) needs = inr (inl formula)
-  quiet_more (request.Reduction settings modes) asks (plain own is none is_own run) (inl needs) =
-      inr (inr (sym (same_asks words most needs.0 settings needs.1 own needs.2 (record { gives = plain_settings words most settings modes asks is; is_own = is_own })) ∙ needs.3))
-  quiet_more (request.Reduction settings modes) asks (plain own is none is_own run) (inr formula) =
-      absurd (none (same_formula formula.0.test settings.test (one_settings (rest_of words) most formula.0 settings formula.2.rest asks.rest).tests formula.3))
+  quiet_more (request.Reduction settings modes) asks (plain own is none is_own run) needs =
+      inr (sym (same_asks words most needs.0 settings needs.1 own needs.2 (record { gives = plain_settings words most settings modes asks is; is_own = is_own })) ∙ needs.3)
   quiet_more (request.Replay settings) asks it needs = tt
 
 -- what words ask for can be done

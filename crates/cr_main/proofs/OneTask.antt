@@ -57,7 +57,7 @@ pub one_own : (name own other : List ℕ) → IsOwnName name own → IsOwnName n
 one_own name own other first second = own_is name own first ∙ sym (own_is name other second)
 
 -- the settings that words give are alike, and so are their files
-pub same_name : (a b : Source) → SameSource a b → name_of a ≡ name_of b
+same_name : (a b : Source) → SameSource a b → name_of a ≡ name_of b
 same_name (source.Named a) (source.Named b) same = same
 same_name (source.Named a) (source.Made number items) same = absurd same
 same_name (source.Made number items) (source.Named b) same = absurd same
@@ -69,13 +69,13 @@ saves_alike (source.Named a) (source.Made number items) same = absurd same
 saves_alike (source.Made number items) (source.Named b) same = absurd same
 saves_alike (source.Made number items) (source.Made other more) same = refl
 
-pub same_has : (files : Option Names) (a b : Source) → SameSource a b → (bytes : List ℕ) → (text_of b files).Has bytes → (text_of a files).Has bytes
+same_has : (files : Option Names) (a b : Source) → SameSource a b → (bytes : List ℕ) → (text_of b files).Has bytes → (text_of a files).Has bytes
 same_has files (source.Named a) (source.Named b) same bytes has = subst (λ n. FileHas files n bytes) (sym same) has
 same_has files (source.Named a) (source.Made number items) same bytes has = absurd same
 same_has files (source.Made number items) (source.Named b) same bytes has = absurd same
 same_has files (source.Made number items) (source.Made other more) same bytes has = has ∙ sym (ap (λ n. generated n items) same.0 ∙ ap (λ n. generated other n) same.1)
 
-pub same_lacks : (files : Option Names) (a b : Source) → SameSource a b → (text_of b files).Lacks → (text_of a files).Lacks
+same_lacks : (files : Option Names) (a b : Source) → SameSource a b → (text_of b files).Lacks → (text_of a files).Lacks
 same_lacks files (source.Named a) (source.Named b) same lacks = subst (λ n. FileLacks files n) (sym same) lacks
 same_lacks files (source.Named a) (source.Made number items) same lacks = absurd same
 same_lacks files (source.Made number items) (source.Named b) same lacks = absurd same

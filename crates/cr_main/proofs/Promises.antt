@@ -43,26 +43,26 @@ use Rattle.cr_main.proofs.OneTask.{all_alike, same_saves}
 told_of : (t : Task) (since after : Judging) (bytes : List ℕ) (end : End) → IsReduction t since after bytes end → IsToldReduction t bytes end
 told_of t since after bytes end it = record { reduction = it.reduction; fixed_point = it.fixed_point }
 
-pub passes_levels : (enabled : List Bool) → HasLevels (Offers enabled) levels_at
+passes_levels : (enabled : List Bool) → HasLevels (Offers enabled) levels_at
 passes_levels enabled = record { none_above = none_above enabled; few = few_variants enabled }
 
 -- what is enough for the size is enough for the bytes
-pub bytes_enough : (n size : ℕ) → size ≤ 12 * n → enough_turns levels_at size ≤ task.enough_for n
+bytes_enough : (n size : ℕ) → size ≤ 12 * n → enough_turns levels_at size ≤ task.enough_for n
 bytes_enough n size small =
     let levels : 42 * size ≤ 504 * n = omega arith in
     let rounds : size + 1 ≤ 12 * n + 1 = omega arith in
     omega (arith, mul-le-mul levels rounds)
 
 -- what is made of the story to have the bytes
-pub opens_on : (s : Source) (files : Option Names) (end : Outcome) (old new : Option Story) → (text_of s files).Opens end old new → GoesOn old new
+opens_on : (s : Source) (files : Option Names) (end : Outcome) (old new : Option Story) → (text_of s files).Opens end old new → GoesOn old new
 opens_on (source.Named name) files end old new calls = read_goes_on (name_of (source.Named name)) end old new calls
 opens_on (source.Made number items) files end old new calls = subst (GoesOn old) (sym calls.1) (goes_nowhere old)
 
-pub opens_fails : (s : Source) (files : Option Names) (old new : Option Story) → (text_of s files).Opens Failed old new → EndsWithFault old new
+opens_fails : (s : Source) (files : Option Names) (old new : Option Story) → (text_of s files).Opens Failed old new → EndsWithFault old new
 opens_fails (source.Named name) files old new calls = read_fails (name_of (source.Named name)) old new calls
 opens_fails (source.Made number items) files old new calls = let never = calls.0 in cc
 
-pub opens_keep : (s : Source) (files : Option Names) (end : Outcome) (old new : Option Story) → (text_of s files).Opens end old new → KeepsJournal old new
+opens_keep : (s : Source) (files : Option Names) (end : Outcome) (old new : Option Story) → (text_of s files).Opens end old new → KeepsJournal old new
 opens_keep (source.Named name) files end old new calls = read_keeps_journal (name_of (source.Named name)) end old new calls
 opens_keep (source.Made number items) files end old new calls = ap journal_told calls.1
 

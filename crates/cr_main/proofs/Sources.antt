@@ -1,50 +1,44 @@
--- A run by the code's values is one by the values of the settings.
+-- A run by the code's task is one by the task of the settings.
 use Rattle.std.proofs.Common.{◌≡◌, ℕ, Bool, List, Option, String, subst, sym}
 use Rattle.std.specs.Global.{Global}
-use Rattle.cr_formula.specs.Forms.{Form}
 use Rattle.cr_gen.specs.Program.{generated}
 use Rattle.cr_lawful.specs.Lawful.{IsLawful, IsReason, limits_of}
 use Rattle.cr_meaning.specs.declared.run.Limits.{Limits}
 use Rattle.cr_outside.specs.Files.{Names}
 use Rattle.cr_outside.specs.Question.{Says}
+use Rattle.cr_reduce.specs.Bench.{Judging}
 use Rattle.cr_main_words.specs.Names.{name_of}
 use Rattle.cr_main_words.specs.declared.settings.Settings.{Settings}
 use Rattle.cr_main_words.specs.declared.source.Source.TheVariants as source
-use Rattle.cr_main_formula.specs.Formulas.{FormulaTask}
+use Rattle.cr_main_task.specs.Outside.{Outside}
+use Rattle.cr_main_task.specs.Run.{RunsTask}
 use Rattle.cr_main_task.specs.Task.{Task, Text, given, stored}
-use Rattle.cr_main.specs.Task.{formula_task_of, saves_of, task_of, text_of}
+use Rattle.cr_main.specs.Task.{saves_of, task_of, text_of}
 
 -- the task of settings by the law with these limits, under a name
-abbrev pub task_with : Settings → Says → List ℕ → Limits → List ℕ → Bool → Task
+abbrev task_with : Settings → Says → List ℕ → Limits → List ℕ → Bool → Task
 task_with settings says own limits name saves =
     let task = task_of settings says own in
     record task { search = record task.search { Lawful = IsLawful limits }; Against = IsReason limits; name = name; saves = saves }
 
--- that by a formula
-abbrev pub formula_task_with : Settings → Form → List ℕ → Limits → List ℕ → Bool → FormulaTask
-formula_task_with settings form own limits name saves = record (formula_task_of settings form own) { limits = limits; name = name; saves = saves }
-
--- The limits are those of the settings, and so is the name, and whether files are written: what a run of such a task comes to.
-module _ (settings : Settings) (limits : Limits) (name : List ℕ) (saves : Bool)
-    (limited : limits ≡ limits_of settings.steps) (named : name ≡ name_of settings.source) (saved : saves ≡ saves_of settings.source) (told : Option Names)
-    (Runs : Limits → List ℕ → Bool → Text → Type 0) where
-  by_settings : (text : Text) → Runs limits name saves text → Runs (limits_of settings.steps) (name_of settings.source) (saves_of settings.source) text
+module _ (settings : Settings) (says : Says) (own : List ℕ) (limits : Limits) (name : List ℕ) (saves : Bool)
+    (limited : limits ≡ limits_of settings.steps) (named : name ≡ name_of settings.source) (saved : saves ≡ saves_of settings.source) (told : Option Names) (old new : Outside) (before after : Judging) (status : ℕ) where
+  -- the limits are those of the settings, and so is the name, and whether files are written
+  by_settings : (text : Text) → RunsTask (task_with settings says own limits name saves) text old new before after status → RunsTask (task_of settings says own) text old new before after status
   by_settings text run =
-      subst (λ b. Runs (limits_of settings.steps) (name_of settings.source) b text) saved
-      (subst (λ n. Runs (limits_of settings.steps) n saves text) named
-      (subst (λ l. Runs l name saves text) limited run))
+      subst (λ b. RunsTask (record (task_of settings says own) { saves = b }) text old new before after status) saved
+      (subst (λ n. RunsTask (record (task_of settings says own) { name = n; saves = saves }) text old new before after status) named
+      (subst (λ l. RunsTask (task_with settings says own l name saves) text old new before after status) limited run))
 
-  pub stored_runs : (file : String Global) → settings.source ≡ source.Named file → Runs limits name saves (stored told name)
-      → Runs (limits_of settings.steps) (name_of settings.source) (saves_of settings.source) (text_of settings.source told)
+  pub stored_runs : (file : String Global) → settings.source ≡ source.Named file → RunsTask (task_with settings says own limits name saves) (stored told name) old new before after status
+      → RunsTask (task_of settings says own) (text_of settings.source told) old new before after status
   stored_runs file is run =
-      let At = λ (text : Text). Runs (limits_of settings.steps) (name_of settings.source) (saves_of settings.source) text in
-      subst (λ s. At (text_of s told)) (sym is)
-      (subst (λ s. At (stored told (name_of s))) is
-      (subst (λ n. At (stored told n)) named (by_settings (stored told name) run)))
+      subst (λ s. RunsTask (task_of settings says own) (text_of s told) old new before after status) (sym is)
+      (subst (λ s. RunsTask (task_of settings says own) (stored told (name_of s)) old new before after status) is
+      (subst (λ n. RunsTask (task_of settings says own) (stored told n) old new before after status) named (by_settings (stored told name) run)))
 
   pub made_runs : (number items : ℕ) (bytes : List ℕ) → settings.source ≡ source.Made number items → bytes ≡ generated number items
-      → Runs limits name saves (given bytes) → Runs (limits_of settings.steps) (name_of settings.source) (saves_of settings.source) (text_of settings.source told)
+      → RunsTask (task_with settings says own limits name saves) (given bytes) old new before after status → RunsTask (task_of settings says own) (text_of settings.source told) old new before after status
   made_runs number items bytes is made run =
-      let At = λ (text : Text). Runs (limits_of settings.steps) (name_of settings.source) (saves_of settings.source) text in
-      subst (λ s. At (text_of s told)) (sym is)
-      (subst (λ b. At (given b)) made (by_settings (given bytes) run))
+      subst (λ s. RunsTask (task_of settings says own) (text_of s told) old new before after status) (sym is)
+      (subst (λ b. RunsTask (task_of settings says own) (given b) old new before after status) made (by_settings (given bytes) run))

@@ -1,13 +1,11 @@
 -- What a run comes to, of all that words may ask for.
-use Rattle.std.specs.Prelude.{◌≡◌, ◌≢◌, ◌⊎◌, ℕ, false, List, [], ◌++◌, codes}
+use Rattle.std.specs.Prelude.{◌≡◌, ◌≢◌, ◌⊎◌, ℕ, false, List, ◌++◌, codes}
 use Rattle.std.specs.String.{string_bytes}
-use Rattle.cr_formula.specs.Forms.{Form, Spells}
 use Rattle.cr_outside.specs.Question.{Says}
 use Rattle.cr_outside.specs.Test.{asks_test}
 use Rattle.cr_outside.specs.declared.test.Test.{Test}
 use Rattle.cr_outside.specs.declared.test.Test.TheVariants as test
 use Rattle.cr_reduce.specs.Bench.{Judging}
-use Rattle.cr_main_formula.specs.Formulas.{HasAllBound, HasFormulaFinished, IsFormulaHeadline, KeepsFormula, RunsFormula}
 use Rattle.cr_main_replay.specs.Replay.{IsReplayed, Replaying, RunsReplay}
 use Rattle.cr_main_replay_programs.specs.Replay.{replaying_of}
 use Rattle.cr_main_task.specs.Outside.{Outside, Puts}
@@ -23,44 +21,24 @@ use Rattle.cr_main_words.specs.declared.replay.ReplaySettings.{ReplaySettings}
 use Rattle.cr_main_words.specs.declared.request.Request.{Request}
 use Rattle.cr_main_words.specs.declared.request.Request.TheVariants as request
 use Rattle.cr_main_words.specs.declared.settings.Settings.{Settings}
-use Rattle.cr_main.specs.Headline.{HasEnded, IsHeadline, KeepsFiles, NeedsNoJudge}
+use Rattle.cr_main.specs.Headline.{HasEnded, IsHeadline}
 use Rattle.cr_main.specs.Messages.{usage_line}
 use Rattle.cr_main.specs.Run.{DoesNothing}
-use Rattle.cr_main.specs.Task.{IsRunnable, formula_task_of, task_of, text_of}
-
--- a word begins with if:
-abbrev pub BeginsWithIf : List ℕ → Type 0
-BeginsWithIf word = (rest : List ℕ) × (word ≡ codes "if:" ++ rest)
+use Rattle.cr_main.specs.Task.{IsRunnable, task_of, text_of}
 
 -- the test is no path of a program, but a formula: it begins with if:
 abbrev pub IsFormula : Test → Type 0
 IsFormula (test.Has text) = ⊥
-IsFormula (test.Program path) = BeginsWithIf (string_bytes path)
+IsFormula (test.Program path) = (rest : List ℕ) × (string_bytes path ≡ codes "if:" ++ rest)
 
--- the word that the path of a test is; a text has none
-abbrev pub word_of : Test → List ℕ
-word_of (test.Has text) = []
-word_of (test.Program path) = string_bytes path
-
--- a mode that isn't built is asked for: a flag
-abbrev pub IsUnbuilt : Modes → Type 0
-IsUnbuilt modes = modes ≢ plain_modes
-
--- What a run by a word that begins with if: comes to.
-pub data RunsWord (settings : Settings) (word : List ℕ) (old new : Outside) (before after : Judging) (status : ℕ) : Type 0 where
-  -- 2: it spells no formula
-  spells_none : ((form : Form) → Spells word form → ⊥) → DoesNothing old new before after → Puts old new usage_line 2 2 status → RunsWord settings word old new before after status
-  -- 11: no memory was left to read it
-  unread_word : new ≡ old → after ≡ before → status ≡ 11 → RunsWord settings word old new before after status
-  -- by the formula, which asks no judge
-  by_formula : (form : Form) (own : List ℕ) → Spells word form → IsOwnName (name_of settings.source) own → after ≡ before
-      → RunsFormula (formula_task_of settings form own) (text_of settings.source old.files) old new before after status → RunsWord settings word old new before after status
+-- a mode that isn't built is asked for: a flag, or a formula
+abbrev pub IsUnbuilt : Settings → Modes → Type 0
+IsUnbuilt settings modes = (modes ≢ plain_modes) ⊎ IsFormula settings.test
 
 -- What a reduction with these settings, in these modes, comes to.
 pub data RunsAsked (settings : Settings) (modes : Modes) (says : Says) (old new : Outside) (before after : Judging) (status : ℕ) : Type 0 where
   -- 2: it isn't built
-  unbuilt : IsUnbuilt modes → DoesNothing old new before after → Puts old new usage_line 2 2 status → RunsAsked settings modes says old new before after status
-  by_word : modes ≡ plain_modes → IsFormula settings.test → RunsWord settings (word_of settings.test) old new before after status → RunsAsked settings modes says old new before after status
+  unbuilt : IsUnbuilt settings modes → DoesNothing old new before after → Puts old new usage_line 2 2 status → RunsAsked settings modes says old new before after status
   plain : (own : List ℕ) → modes ≡ plain_modes → (IsFormula settings.test → ⊥) → IsOwnName (name_of settings.source) own
       → RunsTask (task_of settings says own) (text_of settings.source old.files) old new before after status → RunsAsked settings modes says old new before after status
 
@@ -80,7 +58,7 @@ MayRun most (request.Replay asked) = Unit {0}
 
 -- no judge is needed for it
 abbrev pub IsQuiet : Request → Type 0
-IsQuiet (request.Reduction settings modes) = IsUnbuilt modes ⊎ IsFormula settings.test ⊎ (asks_test settings.test ≡ false)
+IsQuiet (request.Reduction settings modes) = IsUnbuilt settings modes ⊎ (asks_test settings.test ≡ false)
 IsQuiet (request.Replay asked) = Unit {0}
 
 -- What a run of the command line comes to.
@@ -101,40 +79,11 @@ pub record IsPlain (words : List Word) (most : ℕ) : Type 0 where
   pub no_replay : (others : List Word) → IsReplay words others → ⊥
   pub no_formula : (settings : Settings) → HasSettings words most settings → IsFormula settings.test → ⊥
 
--- What is asked of a run is by a formula: the words ask for a plain reduction with these settings, whose test spells it, and the file has
--- this own name.
-pub record IsFormulaTask (words : List Word) (most : ℕ) (settings : Settings) (form : Form) (own : List ℕ) : Type 0 where
-  pub asks : HasReduction words most settings plain_modes
-  pub spells : Spells (word_of settings.test) form
-  pub is_own : IsOwnName (name_of settings.source) own
-
--- What stands at 0, 7, 8 and 10: of a reduction the headline, or its files as far as it went; of one by a formula likewise, with no
--- premise on the outside, and 8 doesn't come; of a replay, that **the log leads from the copy to the file**.
+-- What stands at 0, 7, 8 and 10: of a reduction the headline, or its files as far as it went; of a replay, that **the log leads
+-- from the copy to the file**.
 pub data EndsMore (words : List Word) (most : ℕ) (says : Says) (old new : Outside) (before after : Judging) (status : ℕ) : Type 0 where
-  of_reduction : (modes : Modes) (settings : Settings) → HasReduction words most settings modes → (IsFormula settings.test → ⊥) → ((status ≡ 0) ⊎ (status ≡ 7) → IsHeadline words most says old new before after status)
+  of_reduction : (modes : Modes) (settings : Settings) → HasReduction words most settings modes → ((status ≡ 0) ⊎ (status ≡ 7) → IsHeadline words most says old new before after status)
       → ((status ≡ 8) ⊎ (status ≡ 10) → HasEnded words most says old new status) → EndsMore words most says old new before after status
-  of_formula : (settings : Settings) (form : Form) (own : List ℕ) → IsFormulaTask words most settings form own
-      → ((status ≡ 0) ⊎ (status ≡ 7) → IsFormulaHeadline (formula_task_of settings form own) (text_of settings.source old.files) old new before after status)
-      → (status ≡ 10 → HasFormulaFinished (formula_task_of settings form own) (text_of settings.source old.files) old new status) → (status ≡ 8 → ⊥) → EndsMore words most says old new before after status
   of_replay : (asked : ReplaySettings) → Asks words most (request.Replay asked) → ((status ≡ 0) ⊎ (status ≡ 10) → IsReplayed (replaying_by asked) old.files)
       → EndsMore words most says old new before after status
   of_nothing : (status ≡ 2) ⊎ (status ≡ 11) → EndsMore words most says old new before after status
-
--- What holds of the files at every status.
-pub data KeepsMore (words : List Word) (most : ℕ) (says : Says) (old new : Outside) (after : Judging) : Type 0 where
-  kept_by_task : KeepsFiles words most says old new after → KeepsMore words most says old new after
-  kept_by_formula : (settings : Settings) (form : Form) (own : List ℕ) → IsFormulaTask words most settings form own
-      → KeepsFormula (formula_task_of settings form own) (text_of settings.source old.files) old new after → KeepsMore words most says old new after
-
--- Completeness of a run by a formula: with all that it needs, it ends with 0, or for want of memory.
-abbrev pub CompletesByFormula : List Word → ℕ → Outside → Outside → Judging → Judging → ℕ → Type 0
-CompletesByFormula words most old new before after status = (settings : Settings) (form : Form) (own : List ℕ) → IsFormulaTask words most settings form own
-    → HasAllBound (formula_task_of settings form own) (text_of settings.source old.files) old new before after → (status ≡ 0) ⊎ (status ≡ 11)
-
--- what is asked of a run is by a word that begins with if:
-abbrev pub AsksByFormula : List Word → ℕ → Type 0
-AsksByFormula words most = (settings : Settings) × (modes : Modes) × HasReduction words most settings modes × IsFormula settings.test
-
--- what is asked of a run needs no judge: its test is a text that the file must have, or a formula
-abbrev pub IsSilent : List Word → ℕ → Type 0
-IsSilent words most = NeedsNoJudge words most ⊎ AsksByFormula words most

@@ -1,6 +1,5 @@
 -- The task that settings of the command line give.
 use Rattle.std.specs.Prelude.{◌<◌, ◌≤◌, ℕ, Bool, true, false, List, [], Option}
-use Rattle.cr_formula.specs.Forms.{Form}
 use Rattle.cr_gen.specs.Program.{generated}
 use Rattle.cr_lawful.specs.Lawful.{IsLawful, IsReason, limits_of}
 use Rattle.cr_outside.specs.Files.{Names}
@@ -8,7 +7,6 @@ use Rattle.cr_outside.specs.Question.{Says}
 use Rattle.cr_outside.specs.Test.{asks_test, tells_test}
 use Rattle.pass_list.specs.Offers.{Offers}
 use Rattle.cr_reduce.specs.Search.{search_of}
-use Rattle.cr_main_formula.specs.Formulas.{FormulaTask}
 use Rattle.cr_main_task.specs.Task.{Task, Text, given, stored}
 use Rattle.cr_main_words.specs.Names.{name_of}
 use Rattle.cr_main_words.specs.declared.settings.Settings.{Settings}
@@ -34,19 +32,6 @@ task_of settings says own = record {
   window = settings.window;
   limit = settings.limit;
   name = name_of settings.source;
-  saves = saves_of settings.source;
-}
-
--- that of settings whose test is a formula
-abbrev pub formula_task_of : Settings → Form → List ℕ → FormulaTask
-formula_task_of settings form own = record {
-  Offers = Offers settings.enabled;
-  limits = limits_of settings.steps;
-  form = form;
-  window = settings.window;
-  limit = settings.limit;
-  name = name_of settings.source;
-  own = own;
   saves = saves_of settings.source;
 }
 

@@ -1,13 +1,12 @@
 // What words ask for is done.
-ghost use Rattle.std.specs.Prelude.{◌≡◌, MatchOption, false, length, string_bytes, true};
+ghost use Rattle.std.specs.Prelude.{◌≡◌, ◌++◌, ℕ, List, codes, false, length, true};
 ghost use Rattle.cr_outside.specs.Test.{asks_test};
 ghost use Rattle.cr_reduce.specs.Bench.{judging, keys_of, says_of};
-ghost use Rattle.cr_main.specs.More.{BeginsWithIf, Does, IsFormula, IsQuiet, IsUnbuilt, MayRun, RunsAsked, word_of};
+ghost use Rattle.cr_main.specs.More.{Does, IsFormula, IsQuiet, IsUnbuilt, MayRun, RunsAsked};
 ghost use Rattle.cr_main.specs.Task.{IsRunnable};
 ghost use Rattle.cr_main_task.specs.Outside.{outside};
 ghost use Rattle.cr_main_words.specs.Flags.{plain_modes};
 
-use crate::formulas::run_word;
 use crate::given::run_given;
 use crate::messages::USAGE;
 use cr_main_replay_programs::replay_programs;
@@ -64,18 +63,17 @@ fn run_asked<R: Threads + Sync, F: Files, J: Judge + Send, O: Sink>(
     ensures runs { RunsAsked settings.now modes (says_of J.Judge bench.old)
         (outside F.Outside F.Files.own files.old O.Sink out.old) (outside F.Outside F.Files.own files.new O.Sink out.new)
         (judging J.Judge bench.old) (judging J.Judge bench.new) result }
-    ensures idle { IsUnbuilt modes → bench.new.judges ≡ bench.old.judges }
-    ensures formula { IsFormula settings.now.test → bench.new.judges ≡ bench.old.judges }
+    ensures idle { IsUnbuilt settings.now modes → bench.new.judges ≡ bench.old.judges }
     ensures silent { asks_test settings.now.test ≡ false → bench.new.judges ≡ bench.old.judges }
     ensures keys { keys_of J.Judge bench.new ≡ keys_of J.Judge bench.old }
 {
     if has_flag(modes) {
         return put(out, USAGE.as_bytes(), status::USAGE, status::USAGE);
     }
-    match formula_word(&settings.test) {
-        Some(word) => run_word(rt, alloc, settings, word, files, bench, out),
-        None => run_given(rt, alloc, settings, files, bench, out),
+    if is_formula(&settings.test) {
+        return put(out, USAGE.as_bytes(), status::USAGE, status::USAGE);
     }
+    run_given(rt, alloc, settings, files, bench, out)
 }
 
 fn has_flag(modes: Modes) -> bool
@@ -88,29 +86,19 @@ fn has_flag(modes: Modes) -> bool
     }
 }
 
-// The word of a test that begins with `if:`.
-fn formula_word(test: &Test) -> Option<&str>
-    ensures { MatchOption result (IsFormula test.now → ⊥) (λ word. IsFormula test.now × (word.now ≡ word_of test.now)) }
+fn is_formula(test: &Test) -> bool
+    ensures formula { result ≡ true → IsFormula test.now }
+    ensures other { result ≡ false → IsFormula test.now → ⊥ }
 {
     match test {
-        Test::Program(path) => formula_in(path),
-        Test::Has(_) => None,
-    }
-}
-
-fn formula_in(path: &String) -> Option<&str>
-    ensures { MatchOption result (BeginsWithIf (string_bytes path.now) → ⊥) (λ word. BeginsWithIf (string_bytes path.now) × (word.now ≡ string_bytes path.now)) }
-{
-    if begins_with_if(path.as_bytes()) {
-        Some(path.as_str())
-    } else {
-        None
+        Test::Program(path) => begins_with_if(path.as_bytes()),
+        Test::Has(_) => false,
     }
 }
 
 fn begins_with_if(path: &[u8]) -> bool
-    ensures formula { result ≡ true → BeginsWithIf path.now }
-    ensures other { result ≡ false → BeginsWithIf path.now → ⊥ }
+    ensures formula { result ≡ true → (rest : List ℕ) × (path.now ≡ codes "if:" ++ rest) }
+    ensures other { result ≡ false → (rest : List ℕ) → path.now ≡ codes "if:" ++ rest → ⊥ }
 {
     match path.strip_prefix(b"if:") {
         Some(_) => true,

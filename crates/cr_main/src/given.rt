@@ -64,8 +64,7 @@ pub fn run_given<R: Threads + Sync, F: Files, J: Judge + Send, O: Sink>(
     }
 }
 
-/// The name of a source; a made text is called `gen.c`.
-pub fn source_name(source: &Source) -> &str
+fn source_name(source: &Source) -> &str
     ensures { result.now ≡ name_of source.now }
 {
     match source {
@@ -74,8 +73,7 @@ pub fn source_name(source: &Source) -> &str
     }
 }
 
-/// Whether what comes of a source is written.
-pub fn is_saved(source: &Source) -> bool
+fn is_saved(source: &Source) -> bool
     ensures { result ≡ saves_of source.now }
 {
     matches!(source, Source::Named(_))

@@ -4,8 +4,8 @@ ghost use Rattle.cr_outside.specs.Story.{EndsWithFault};
 ghost use Rattle.cr_reduce.specs.Bench.{judging, keys_of, says_of};
 ghost use Rattle.cr_main_task.specs.Outside.{outside};
 ghost use Rattle.cr_main_task.specs.Story.{KeepsJournal};
-ghost use Rattle.cr_main.specs.Headline.{AsksOnly, Promises};
-ghost use Rattle.cr_main.specs.More.{CompletesByFormula, EndsMore, IsPlain, IsSilent, KeepsMore, RunsMore};
+ghost use Rattle.cr_main.specs.Headline.{AsksOnly, KeepsFiles, NeedsNoJudge, Promises};
+ghost use Rattle.cr_main.specs.More.{EndsMore, IsPlain, RunsMore};
 ghost use Rattle.cr_main_words.specs.Words.{texts_of};
 
 use crate::asked::run_request;
@@ -38,14 +38,13 @@ pub fn run_more<R: Threads + Sync, F: Files, J: Judge + Send, O: Sink, D: Disk>(
         (outside F.Outside F.Files.own files.old O.Sink out.old) (outside F.Outside F.Files.own files.new O.Sink out.new)
         (judging J.Judge bench.old) (judging J.Judge bench.new) result }
 
-    // At 0 and 7 the headline holds, at 8 and 10 the files are those of the reduction as far as it went; or at 0 and 10 the log leads to the
-    // file. Of a formula the headline has no premise on the outside, and where it asks for the same behaviour, the result has it.
+    // At 0 and 7 the headline holds, at 8 and 10 the files are those of the reduction as far as it went; or at 0 and 10 the log leads to the file.
     ensures ends { EndsMore (texts_of list.now) (length bench.old.judges) (says_of J.Judge bench.old)
         (outside F.Outside F.Files.own files.old O.Sink out.old) (outside F.Outside F.Files.own files.new O.Sink out.new)
         (judging J.Judge bench.old) (judging J.Judge bench.new) result }
 
     // At every status the file holds its old bytes, or the result's with the bytes read in its copy.
-    ensures files_kept { KeepsMore (texts_of list.now) (length bench.old.judges) (says_of J.Judge bench.old)
+    ensures files_kept { KeepsFiles (texts_of list.now) (length bench.old.judges) (says_of J.Judge bench.old)
         (outside F.Outside F.Files.own files.old O.Sink out.old) (outside F.Outside F.Files.own files.new O.Sink out.new) (judging J.Judge bench.new) }
 
     // At 9 no call on the files follows the one that failed, where the files tell their calls.
@@ -53,14 +52,10 @@ pub fn run_more<R: Threads + Sync, F: Files, J: Judge + Send, O: Sink, D: Disk>(
     ensures journal_kept { KeepsJournal (F.story files.old) (F.story files.new) }
 
     // The test is asked about nothing but the file and smaller, lawful variants of the chain's files, and how often is bounded; a
-    // formula and a replay ask no judge.
+    // replay asks about nothing.
     ensures asks_only { AsksOnly (texts_of list.now) (length bench.old.judges) (says_of J.Judge bench.old) (outside F.Outside F.Files.own files.old O.Sink out.old)
         (judging J.Judge bench.old) (judging J.Judge bench.new) }
-    // Completeness of a formula: with all that it needs, a run by it ends with 0, or for want of memory.
-    ensures completes { CompletesByFormula (texts_of list.now) (length bench.old.judges)
-        (outside F.Outside F.Files.own files.old O.Sink out.old) (outside F.Outside F.Files.own files.new O.Sink out.new)
-        (judging J.Judge bench.old) (judging J.Judge bench.new) result }
-    ensures silent { IsSilent (texts_of list.now) (length bench.old.judges) → bench.new.judges ≡ bench.old.judges }
+    ensures silent { NeedsNoJudge (texts_of list.now) (length bench.old.judges) → bench.new.judges ≡ bench.old.judges }
     ensures keys { keys_of J.Judge bench.new ≡ keys_of J.Judge bench.old }
     ensures disk { disk.new ≡ disk.old }
 {

@@ -1,4 +1,2 @@
 pub mod Headline
 pub mod Bound
-pub mod Opened
-pub mod Promises

@@ -6,7 +6,7 @@ ghost use Rattle.cr_lawful.specs.Lawful.{IsLawful, IsReason};
 ghost use Rattle.cr_main_task.specs.Outside.{outside};
 ghost use Rattle.cr_main_task.specs.Run.{RunsTask};
 ghost use Rattle.cr_main_task.specs.Task.{IsOfPrograms, given, stored};
-ghost use Rattle.cr_main_formula.specs.Formulas.{IsFormulaHeadline, RunsFormula, bound_to, formula_task};
+ghost use Rattle.cr_main_formula.specs.Formulas.{IsFormulaHeadline, RunsFormula, bound_to};
 
 use cr_cursor::Passes;
 use cr_formula::Formula;
@@ -32,11 +32,11 @@ where
     requires law { IsOfPrograms (IsLawful task.now.law.now.limits) (IsReason task.now.law.now.limits) }
     requires workers { (0 < task.now.workers) × (task.now.workers ≤ length bench.old.judges) }
     requires window { (0 < task.now.window) × (task.now.window ≤ 4096) }
-    ensures runs { RunsFormula (formula_task P.Passes task.now) (stored (files_told (F.story files.old)) task.now.name.now)
+    ensures runs { RunsFormula P.Passes task.now (stored (files_told (F.story files.old)) task.now.name.now)
         (outside F.Outside F.Files.own files.old O.Sink out.old) (outside F.Outside F.Files.own files.new O.Sink out.new)
         (judging J.Judge bench.old) (judging J.Judge bench.new) result }
     // At 0 and 7 the headline holds, whatever the outside does.
-    ensures headline { (result ≡ 0) ⊎ (result ≡ 7) → IsFormulaHeadline (formula_task P.Passes task.now) (stored (files_told (F.story files.old)) task.now.name.now)
+    ensures headline { (result ≡ 0) ⊎ (result ≡ 7) → IsFormulaHeadline P.Passes task.now (stored (files_told (F.story files.old)) task.now.name.now)
         (outside F.Outside F.Files.own files.old O.Sink out.old) (outside F.Outside F.Files.own files.new O.Sink out.new)
         (judging J.Judge bench.old) (judging J.Judge bench.new) result }
     ensures silent { bench.new.judges ≡ bench.old.judges }
@@ -65,11 +65,11 @@ where
     requires law { IsOfPrograms (IsLawful task.now.law.now.limits) (IsReason task.now.law.now.limits) }
     requires workers { (0 < task.now.workers) × (task.now.workers ≤ length bench.old.judges) }
     requires window { (0 < task.now.window) × (task.now.window ≤ 4096) }
-    ensures runs { RunsFormula (formula_task P.Passes task.now) (given bytes.items)
+    ensures runs { RunsFormula P.Passes task.now (given bytes.items)
         (outside F.Outside F.Files.own files.old O.Sink out.old) (outside F.Outside F.Files.own files.new O.Sink out.new)
         (judging J.Judge bench.old) (judging J.Judge bench.new) result }
     // At 0 and 7 the headline holds, whatever the outside does.
-    ensures headline { (result ≡ 0) ⊎ (result ≡ 7) → IsFormulaHeadline (formula_task P.Passes task.now) (given bytes.items)
+    ensures headline { (result ≡ 0) ⊎ (result ≡ 7) → IsFormulaHeadline P.Passes task.now (given bytes.items)
         (outside F.Outside F.Files.own files.old O.Sink out.old) (outside F.Outside F.Files.own files.new O.Sink out.new)
         (judging J.Judge bench.old) (judging J.Judge bench.new) result }
     ensures silent { bench.new.judges ≡ bench.old.judges }
@@ -100,7 +100,7 @@ where
     requires window { (0 < task.now.window) × (task.now.window ≤ 4096) }
     requires forgot { bench.old.kept ≡ [] }
     requires lawful { IsLawful task.now.law.now.limits bytes.items }
-    ensures runs { RunsTask (bound_to (formula_task P.Passes task.now) bytes.items) (given bytes.items)
+    ensures runs { RunsTask (bound_to P.Passes task.now bytes.items) (given bytes.items)
         (outside F.Outside F.Files.own files.old O.Sink out.old) (outside F.Outside F.Files.own files.new O.Sink out.new)
         (judging J.Judge bench.old) (judging J.Judge bench.new) result }
     ensures silent { bench.new.judges ≡ bench.old.judges }
@@ -130,7 +130,7 @@ where
     requires forgot { bench.old.kept ≡ [] }
     requires lawful { IsLawful task.now.law.now.limits bytes.items }
     requires input { input.items ≡ bytes.items }
-    ensures runs { RunsTask (bound_to (formula_task P.Passes task.now) bytes.items) (given bytes.items)
+    ensures runs { RunsTask (bound_to P.Passes task.now bytes.items) (given bytes.items)
         (outside F.Outside F.Files.own files.old O.Sink out.old) (outside F.Outside F.Files.own files.new O.Sink out.new)
         (judging J.Judge bench.old) (judging J.Judge bench.new) result }
     ensures silent { bench.new.judges ≡ bench.old.judges }

@@ -25,7 +25,7 @@ use Rattle.cr_meaning.specs.declared.op.Work.TheVariants as work
 use Rattle.cr_meaning_operations.specs.Shapes.{type_of_node, value_type, as_value, kind_in, cells_with, structure_cells, shape_of, repeated, form_by, form_of, number_of}
 use Rattle.cr_meaning_operations.specs.Operations.{node_op, parts_at, unary, left_row, program_of}
 use Rattle.cr_meaning_soundness.specs.Sorts.{Sort, number, pointer, place, cells}
-use Rattle.cr_meaning_typed.specs.Good.{IsGood, value_sort, row_at}
+use Rattle.cr_meaning_typed.specs.Good.{Known, IsGood, value_sort, row_at, sort_at}
 use Rattle.cr_meaning_typed.specs.Columns.{AreColumns, IsValueAt, IsGoodAt}
 use Rattle.cr_meaning_typed.proofs.Goods as good
 use Rattle.cr_meaning_typed.proofs.Meets.{good_as, one_plain}
@@ -41,22 +41,22 @@ unfolding promoted_kind
 signs_by p op (plain (Int k) x y) c own e h = record { operand = λ row. refl; is = ap (λ (o : Seen). o.type) e }
 signs_by p op a c own e h = absurd (false≢true (sym (ap (λ (o : Seen). is_type o.type) e) ∙ h))
 
-pub signs : (p : Program) (t : Typed) (sorts : ℕ → Option Sort) (sees : ℕ → Bool) (at : ℕ → Seen) → AreColumns t at → (i a : ℕ) (op : Sign) (operator : Operated)
+pub signs : (p : Program) (t : Typed) (k : Known) (sees : ℕ → Bool) (at : ℕ → Seen) → AreColumns t at → (i a : ℕ) (op : Sign) (operator : Operated)
     → parts_at t i ≡ a ∷ [] → at i ≡ given (signed_value operator (value_of_seen (at a))) → is_typed (at i) ≡ true
-    → IsValueAt p t sorts a → IsGoodAt p t sorts sees i (unary t i op)
-signs p t sorts sees at columns i a op operator e f h sa =
+    → IsValueAt p t k a → IsGoodAt p t k sees i (unary t i op)
+signs p t k sees at columns i a op operator e f h sa =
     let made = one_plain (signed_value operator) (λ t. refl) (at a) (at i) f h in
     let ruled = signs_by p operator (at a).type (at a).constant (at i) made h in
     let both = subst (λ x. Signs p x (type_of_node t i)) (sym (columns.types a)) (subst (λ x. Signs p (at a).type x) (sym (columns.types i)) ruled) in
     let kind = kind_in (value_type t a) in
-    good_as p sorts sees (unary t i op) (node_op (a ∷ []) (work.Unary op (promote_of kind))) (value_sort p (row_at t i) (type_of_node t i)) (number (promote_of kind))
+    good_as p (sort_at p t k) sees (unary t i op) (node_op (a ∷ []) (work.Unary op (promote_of kind))) (value_sort p (row_at t i) (type_of_node t i)) (number (promote_of kind))
     (ap (λ ps. node_op ps (work.Unary op (promote_of (kind_in (value_type t (slice_index_or ps 0 0)))))) e)
     (ap (value_sort p (row_at t i)) both.is)
-    (good.unary p sorts sees a kind (promote_of kind) op (sa ∙ ap Some (both.operand (row_at t a))))
+    (good.unary p (sort_at p t k) sees a kind (promote_of kind) op (sa ∙ ap Some (both.operand (row_at t a))))
 
 -- ---- kinds of cells
 
-abbrev pub kinds : List (Scalar × Guard) → List Scalar
+abbrev kinds : List (Scalar × Guard) → List Scalar
 kinds shape = map (λ own. own.0) shape
 
 kinds_append : (xs ys : List (Scalar × Guard)) → kinds (xs ++ ys) ≡ kinds xs ++ kinds ys
@@ -66,7 +66,7 @@ kinds_append (x ∷ xs) ys = ap (λ rest. x.0 ∷ rest) (kinds_append xs ys)
 both_append : (xs ys us vs : List (Scalar × Guard)) → kinds xs ≡ kinds us → kinds ys ≡ kinds vs → kinds (xs ++ ys) ≡ kinds (us ++ vs)
 both_append xs ys us vs e f = kinds_append xs ys ∙ (λ j. e j ++ f j) ∙ sym (kinds_append us vs)
 
-pub repeated_same : (n : ℕ) (xs us : List (Scalar × Guard)) → kinds xs ≡ kinds us → kinds (repeated n xs) ≡ kinds (repeated n us)
+repeated_same : (n : ℕ) (xs us : List (Scalar × Guard)) → kinds xs ≡ kinds us → kinds (repeated n xs) ≡ kinds (repeated n us)
 repeated_same zero xs us e = refl
 repeated_same (suc n) xs us e = both_append xs (repeated n xs) us (repeated n us) e (repeated_same n xs us e)
 
@@ -82,7 +82,7 @@ module _ (t : Typed) (look : Bool → ℕ → List (Scalar × Guard)) (same : (c
   rows_same c d [] = refl
   rows_same c d (row ∷ rows) = both_append _ _ _ _ (cells_same c d (type_at t.shapes row)) (rows_same c d rows)
 
-pub structures_same : (more : ℕ) (t : Typed) (c d : Bool) (node : ℕ) → kinds (structure_cells more t c node) ≡ kinds (structure_cells more t d node)
+structures_same : (more : ℕ) (t : Typed) (c d : Bool) (node : ℕ) → kinds (structure_cells more t c node) ≡ kinds (structure_cells more t d node)
 structures_same zero t c d node = refl
 structures_same (suc more) t c d node = rows_same t (structure_cells more t) (structures_same more t) c d (slice_index_or t.members node [])
 
@@ -92,20 +92,20 @@ kinds_same t node c v d w = structures_same (length t.nodes) t (false || c) (fal
 -- ---- assignments
 
 -- an array that is no place is assigned to nothing
-pub refused : (modifiable : Bool) (target : Valued) (t : Qualified) → assigned_value modifiable target (whole t) ≡ untyped
+refused : (modifiable : Bool) (target : Valued) (t : Qualified) → assigned_value modifiable target (whole t) ≡ untyped
 refused true (a_number x) t = refl
 refused true (address u) t = refl
 refused true (structure n) t = refl
 refused true target t = refl
 refused false target t = refl
 
-pub chosen : (b : Bool) (v : Valued) (own : Seen) → own ≡ given (if b then v else untyped) → is_typed own ≡ true → (b ≡ true) × (own.type ≡ type_of_value v)
+chosen : (b : Bool) (v : Valued) (own : Seen) → own ≡ given (if b then v else untyped) → is_typed own ≡ true → (b ≡ true) × (own.type ≡ type_of_value v)
 chosen true v own e h = (refl, ap (λ (o : Seen). o.type) e)
 chosen false v own e h = absurd (false≢true (sym (ap (λ (o : Seen). is_type o.type) e) ∙ h))
 
 module _ (t : Typed) (limits : Limits) (sorts : ℕ → Option Sort) (sees : ℕ → Bool) (a b count left right row : ℕ) where
   -- two structures of one node have the same kinds
-  pub row_kinds : (n : ℕ) (c v d w : Bool) (one other : ℕ) → type_at t.shapes one ≡ plain (Struct n) c v → type_at t.shapes other ≡ plain (Struct n) d w
+  row_kinds : (n : ℕ) (c v d w : Bool) (one other : ℕ) → type_at t.shapes one ≡ plain (Struct n) c v → type_at t.shapes other ≡ plain (Struct n) d w
       → (program_of t limits).kinds one ≡ (program_of t limits).kinds other
   row_kinds n c v d w one other e f = ap (λ type. kinds (shape_of t type)) e ∙ kinds_same t n c v d w ∙ sym (ap (λ type. kinds (shape_of t type)) f)
 
@@ -135,11 +135,11 @@ module _ (t : Typed) (limits : Limits) (sorts : ℕ → Option Sort) (sees : ℕ
   assigns fixed (array n x) y c own ok ex ey er h e sa sb = absurd (false≢true ok)
   assigns fixed x y c own ok ex ey er h e sa sb = absurd (false≢true h)
 
-pub assignments : (t : Typed) (limits : Limits) (sorts : ℕ → Option Sort) (sees : ℕ → Bool) (at : ℕ → Seen) (s : Source) → AreColumns t at → (i a b count : ℕ)
+pub assignments : (t : Typed) (limits : Limits) (k : Known) (sees : ℕ → Bool) (at : ℕ → Seen) (s : Source) → AreColumns t at → (i a b count : ℕ)
     → parts_at t i ≡ a ∷ b ∷ [] → at i ≡ given (assigned (complete s i) s.fixed (at a) (value_of_seen (at b))) → is_typed (at i) ≡ true
-    → sorts a ≡ Some (place count) → IsValueAt (program_of t limits) t sorts b
-    → IsGoodAt (program_of t limits) t sorts sees i (node_op (parts_at t i) (work.Assign (form_of t (left_row t i))))
-assignments t limits sorts sees at s columns i a b count e f h sa sb =
+    → sort_at (program_of t limits) t k a ≡ Some (place count) → IsValueAt (program_of t limits) t k b
+    → IsGoodAt (program_of t limits) t k sees i (node_op (parts_at t i) (work.Assign (form_of t (left_row t i))))
+assignments t limits k sees at s columns i a b count e f h sa sb =
     let p = program_of t limits in
     let x = (at a).type in
     let y = (at b).type in
@@ -148,8 +148,8 @@ assignments t limits sorts sees at s columns i a b count e f h sa sb =
     let parts = and_parts ((at a).lvalue && (is_changeable s.fixed x && complete s i x)) (assignable (value_in x NotConstant) (value_in y (at b).constant)) both.0 in
     let place_is = and_parts (at a).lvalue (is_changeable s.fixed x && complete s i x) parts.0 in
     let ok = and_parts (is_changeable s.fixed x) (complete s i x) place_is.1 in
-    let it = assigns t limits sorts sees a b count (row_at t a) (row_at t b) (row_at t i) s.fixed x y (at b).constant (at i).type ok.0 (columns.types a) (columns.types b) (columns.types i)
+    let it = assigns t limits (sort_at p t k) sees a b count (row_at t a) (row_at t b) (row_at t i) s.fixed x y (at b).constant (at i).type ok.0 (columns.types a) (columns.types b) (columns.types i)
     parts.1 both.1 sa (sb ∙ ap (λ q. Some (value_sort p (row_at t b) q)) (columns.types b)) in
-    good_as p sorts sees (node_op (parts_at t i) (work.Assign (form_of t (left_row t i)))) (node_op (a ∷ b ∷ []) (work.Assign (form_by t (row_at t a) x))) (value_sort p (row_at t i) (type_of_node t i)) (value_sort p (row_at t i) (at i).type)
+    good_as p (sort_at p t k) sees (node_op (parts_at t i) (work.Assign (form_of t (left_row t i)))) (node_op (a ∷ b ∷ []) (work.Assign (form_by t (row_at t a) x))) (value_sort p (row_at t i) (type_of_node t i)) (value_sort p (row_at t i) (at i).type)
     (ap (λ ps. node_op ps (work.Assign (form_of t (row_at t (slice_index_or ps 0 0))))) e ∙ ap (λ q. node_op (a ∷ b ∷ []) (work.Assign (form_by t (row_at t a) q))) (columns.types a))
     (ap (value_sort p (row_at t i)) (columns.types i)) it

@@ -23,7 +23,7 @@ use Rattle.cr_meaning_soundness.specs.Rules.{GivesObject, IsFunctionCall, IsValu
 use Rattle.cr_meaning_soundness.specs.Operands.{IsNumber, IsPointerSort, IsScalar, IsConverted, IsPlaceSort, IsObjectForm, TakesArguments}
 use Rattle.cr_meaning_typed.specs.Good.{IsGood}
 
-pub is_value : (p : Program) (f : Form) → IsValue (sort_of p f)
+is_value : (p : Program) (f : Form) → IsValue (sort_of p f)
 is_value p form.Void = tt
 is_value p (form.Number kind) = tt
 is_value p (form.Pointer to) = tt
@@ -37,14 +37,14 @@ module _ (p : Program) (sorts : ℕ → Option Sort) (sees : ℕ → Bool) where
       let same : a ≡ node = cc (sym e ∙ f) in
       let kept : own ≡ sort = cc (sym h ∙ ap sorts same ∙ g) in subst P kept q
 
-  pub none_there : (k node : ℕ) → slice_get [] k ≡ Some node → HasSort sorts node
+  none_there : (k node : ℕ) → slice_get [] k ≡ Some node → HasSort sorts node
   none_there k node e = absurd (cc e)
 
-  pub one_there : (a : ℕ) (sa : Sort) → sorts a ≡ Some sa → (k node : ℕ) → slice_get (a ∷ []) k ≡ Some node → HasSort sorts node
+  one_there : (a : ℕ) (sa : Sort) → sorts a ≡ Some sa → (k node : ℕ) → slice_get (a ∷ []) k ≡ Some node → HasSort sorts node
   one_there a sa h zero node e = (sa, (let same : a ≡ node = cc e in sym (ap sorts same) ∙ h))
   one_there a sa h (suc k) node e = none_there k node e
 
-  pub two_there : (a b : ℕ) (sa sb : Sort) → sorts a ≡ Some sa → sorts b ≡ Some sb → (k node : ℕ) → slice_get (a ∷ b ∷ []) k ≡ Some node → HasSort sorts node
+  two_there : (a b : ℕ) (sa sb : Sort) → sorts a ≡ Some sa → sorts b ≡ Some sb → (k node : ℕ) → slice_get (a ∷ b ∷ []) k ≡ Some node → HasSort sorts node
   two_there a b sa sb h g zero node e = (sa, (let same : a ≡ node = cc e in sym (ap sorts same) ∙ h))
   two_there a b sa sb h g (suc k) node e = one_there b sb g k node e
 

@@ -1,5 +1,5 @@
 -- Names as places, and where statements stand.
-use Rattle.std.proofs.Common.{◌≡◌, ℕ, ◌<◌, ◌%◌, Bool, true, false, List, Option, None, Some, length, refl, sym, ap, ◌∙◌, slice_get, slice_index_or, if◌then◌else◌, nat_lt}
+use Rattle.std.proofs.Common.{◌≡◌, ℕ, ◌<◌, ◌%◌, Bool, true, false, not, ◌&&◌, List, Option, None, Some, length, refl, sym, ap, subst, ◌∙◌, slice_get, slice_index_or, if◌then◌else◌, nat_lt}
 use Rattle.std.proofs.lemmas.Bool.{false≢true, lt-ltb}
 use Rattle.cr_syntax.specs.declared.node.Kind.{Kind}
 use Rattle.cr_syntax.specs.declared.node.Kind.TheVariants as kind
@@ -18,13 +18,13 @@ use Rattle.cr_meaning_operations.specs.Operations.{entity_of, identifier_by}
 use Rattle.cr_meaning_soundness.specs.Sorts.{Sort, place}
 use Rattle.cr_meaning_soundness.specs.Statements.{in_block}
 use Rattle.cr_meaning_soundness.specs.Rules.{Uses, GivesObject, IsValue}
-use Rattle.cr_meaning_typed.specs.Good.{IsGood, value_sort, place_sort, row_at}
+use Rattle.cr_meaning_typed.specs.Good.{Known, IsGood, value_sort, row_at, expression_sort, sort_at}
 use Rattle.cr_meaning_typed.specs.Placed.{IsObject, IsNamed, exits_in, exits_of_parts, is_statement_with_parts}
 use Rattle.cr_meaning_typed.proofs.Goods as good
 
 module _ (p : Program) (t : Typed) (row count : ℕ) where
   -- a place of an object's type, as it is used
-  pub valued_uses : (type : Qualified) → IsObject t count type → Uses p (access_by t row type) count (value_sort p row type)
+  valued_uses : (type : Qualified) → IsObject t count type → Uses p (access_by t row type) count (value_sort p row type)
   valued_uses (plain (Int kind) c v) h = refl
   valued_uses (plain (Struct node) c v) h = refl
   valued_uses (plain other c v) h = absurd h
@@ -32,11 +32,11 @@ module _ (p : Program) (t : Typed) (row count : ℕ) where
   valued_uses (array n b) h = (refl, h.0, h.1)
 
   pub uses_at : (valued : Bool) (type : Qualified) → IsObject t count type
-      → Uses p (if valued then access_by t row type else access.Unused) count (if valued then value_sort p row type else place count)
+      → Uses p (if valued then access_by t row type else access.Unused) count (if true && not valued then place count else value_sort p row type)
   uses_at true type h = valued_uses type h
   uses_at false type h = refl
 
-  pub worth_at : (valued : Bool) (type : Qualified) → IsObject t count type → IsValue (if valued then value_sort p row type else place count)
+  worth_at : (valued : Bool) (type : Qualified) → IsObject t count type → IsValue (if true && not valued then place count else value_sort p row type)
   worth_at true (plain (Int kind) c v) h = tt
   worth_at true (plain (Struct node) c v) h = tt
   worth_at true (plain other c v) h = absurd h
@@ -44,8 +44,8 @@ module _ (p : Program) (t : Typed) (row count : ℕ) where
   worth_at true (array n b) h = tt
   worth_at false type h = tt
 
-  pub gives_at : (node : ℕ) (valued : Bool) (type : Qualified) → length (p.shape node) ≡ count → IsObject t count type
-      → GivesObject p (if valued then access_by t row type else access.Unused) node (if valued then value_sort p row type else place count)
+  gives_at : (node : ℕ) (valued : Bool) (type : Qualified) → length (p.shape node) ≡ count → IsObject t count type
+      → GivesObject p (if valued then access_by t row type else access.Unused) node (if true && not valued then place count else value_sort p row type)
   gives_at node true (plain (Int kind) c v) e h = refl
   gives_at node true (plain (Struct of) c v) e h = refl
   gives_at node true (plain other c v) e h = absurd h
@@ -53,15 +53,18 @@ module _ (p : Program) (t : Typed) (row count : ℕ) where
   gives_at node true (array n b) e h = (refl, h.0, ap (λ m. m % cells_of t b) e ∙ h.1)
   gives_at node false type e h = ap place (sym e)
 
-pub names : (p : Program) (t : Typed) (sorts : ℕ → Option Sort) (sees : ℕ → Bool) (i : ℕ) → IsNamed p t i → sees (entity_of t i) ≡ true
-    → IsGood p sorts sees (identifier_by t i None) (place_sort p t i (length (p.shape (entity_of t i))))
-names p t sorts sees i h s =
+pub names : (p : Program) (t : Typed) (k : Known) (sees : ℕ → Bool) (i : ℕ) → IsNamed p t k i → sees (entity_of t i) ≡ true
+    → IsGood p (sort_at p t k) sees (identifier_by t i None) (expression_sort p t k i)
+names p t k sees i h s =
     let count = length (p.shape (entity_of t i)) in
     let row = row_at t i in
     let valued = slice_index_or t.valued i false in
     let type = type_of_node t i in
-    good.named p sorts sees (entity_of t i) (access_of t i) (place_sort p t i count) (worth_at p t row count valued type h.object) h.some
-    (gives_at p t row count (entity_of t i) valued type refl h.object) s
+    let own : Sort = if true && not valued then place count else value_sort p row type in
+    let same : expression_sort p t k i ≡ own = λ j. if h.lvalue j && not valued then place (h.size j) else value_sort p row type in
+    subst (IsGood p (sort_at p t k) sees (identifier_by t i None)) (sym same)
+    (good.named p (sort_at p t k) sees (entity_of t i) (access_of t i) own (worth_at p t row count valued type h.object) h.some
+    (gives_at p t row count (entity_of t i) valued type refl h.object) s)
 
 -- ---- statements
 

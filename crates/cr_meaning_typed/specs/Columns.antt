@@ -11,10 +11,9 @@ use Rattle.cr_check_expressions.specs.Ruled.{given, is_typed, complete}
 use Rattle.cr_meaning.specs.World.{Program}
 use Rattle.cr_meaning.specs.declared.op.Operator.{Operator}
 use Rattle.cr_meaning.specs.declared.op.Op.{Op}
-use Rattle.cr_meaning_soundness.specs.Sorts.{Sort}
 use Rattle.cr_meaning_operations.specs.Shapes.{type_of_node}
 use Rattle.cr_meaning_operations.specs.Operations.{parts_at, integers, sum, constant}
-use Rattle.cr_meaning_typed.specs.Good.{IsGood, value_sort, row_at}
+use Rattle.cr_meaning_typed.specs.Good.{Known, IsGood, value_sort, row_at, sort_at}
 
 abbrev pub constant_value : Constant → Option ℤ
 constant_value (constant.Value v) = Some v
@@ -26,18 +25,18 @@ pub record AreColumns (t : Typed) (at : ℕ → Seen) : Type 0 where
   pub constants : (i : ℕ) → slice_index_or t.constants i None ≡ constant_value (at i).constant
 
 -- a node gives its value
-abbrev pub IsValueAt : Program → Typed → (ℕ → Option Sort) → ℕ → Type 0
-IsValueAt p t sorts a = sorts a ≡ Some (value_sort p (row_at t a) (type_of_node t a))
+abbrev pub IsValueAt : Program → Typed → Known → ℕ → Type 0
+IsValueAt p t k a = sort_at p t k a ≡ Some (value_sort p (row_at t a) (type_of_node t a))
 
-abbrev pub IsGoodAt : Program → Typed → (ℕ → Option Sort) → (ℕ → Bool) → ℕ → Op → Type 0
-IsGoodAt p t sorts sees i op = IsGood p sorts sees op (value_sort p (row_at t i) (type_of_node t i))
+abbrev pub IsGoodAt : Program → Typed → Known → (ℕ → Bool) → ℕ → Op → Type 0
+IsGoodAt p t k sees i op = IsGood p (sort_at p t k) sees op (value_sort p (row_at t i) (type_of_node t i))
 
 abbrev pub IntegersAreGood : Type 0
-IntegersAreGood = (p : Program) (t : Typed) (sorts : ℕ → Option Sort) (sees : ℕ → Bool) (at : ℕ → Seen) → AreColumns t at → (i a b : ℕ) (op : Operator) (operator : Arithmetic)
+IntegersAreGood = (p : Program) (t : Typed) (k : Known) (sees : ℕ → Bool) (at : ℕ → Seen) → AreColumns t at → (i a b : ℕ) (op : Operator) (operator : Arithmetic)
     → parts_at t i ≡ a ∷ b ∷ [] → at i ≡ given (integers_value operator (value_of_seen (at a)) (value_of_seen (at b))) → is_typed (at i) ≡ true
-    → IsValueAt p t sorts a → IsValueAt p t sorts b → IsGoodAt p t sorts sees i (integers t i op)
+    → IsValueAt p t k a → IsValueAt p t k b → IsGoodAt p t k sees i (integers t i op)
 
 abbrev pub SumsAreGood : Type 0
-SumsAreGood = (p : Program) (t : Typed) (sorts : ℕ → Option Sort) (sees : ℕ → Bool) (at : ℕ → Seen) (s : Source) → AreColumns t at → (i a b : ℕ)
+SumsAreGood = (p : Program) (t : Typed) (k : Known) (sees : ℕ → Bool) (at : ℕ → Seen) (s : Source) → AreColumns t at → (i a b : ℕ)
     → parts_at t i ≡ a ∷ b ∷ [] → at i ≡ given (sum_value (complete s i) (value_of_seen (at a)) (value_of_seen (at b))) → is_typed (at i) ≡ true
-    → IsValueAt p t sorts a → IsValueAt p t sorts b → IsGoodAt p t sorts sees i (sum t i)
+    → IsValueAt p t k a → IsValueAt p t k b → IsGoodAt p t k sees i (sum t i)

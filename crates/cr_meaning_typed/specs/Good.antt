@@ -1,12 +1,18 @@
--- What the operation of a node has to be, and the sorts of values and places.
-use Rattle.std.specs.Prelude.{ℕ, Bool, false, Option, slice_index_or, if◌then◌else◌}
+-- What the operation of a node has to be, and the sorts of a typed unit's nodes.
+use Rattle.std.specs.Prelude.{ℕ, Bool, true, false, not, ◌&&◌, Option, Some, None, slice_get, slice_index_or, if◌then◌else◌}
+use Rattle.cr_syntax.specs.declared.node.Kind.{Kind}
+use Rattle.cr_syntax.specs.declared.node.Kind.TheVariants as kind
+use Rattle.cr_syntax.specs.declared.node.Node.{Node}
 use Rattle.cr_syntax.specs.declared.ctype.CType.TheVariants.{Int, Struct}
 use Rattle.cr_check_types.specs.Types.{Qualified, plain, pointer as to, array}
 use Rattle.cr_typed.specs.declared.typed.Typed.{Typed}
 use Rattle.cr_meaning.specs.World.{Program}
 use Rattle.cr_meaning.specs.declared.op.Op.{Op}
 use Rattle.cr_meaning_operations.specs.Shapes.{type_of_node}
-use Rattle.cr_meaning_soundness.specs.Sorts.{Sort, void, number, pointer, place, cells}
+use Rattle.cr_check_expressions.specs.declared.form.Form.{Form}
+use Rattle.cr_check_expressions.specs.declared.form.Form.TheVariants as form
+use Rattle.cr_check_expressions.specs.Forms.{form_of}
+use Rattle.cr_meaning_soundness.specs.Sorts.{Exits, Sort, void, number, pointer, place, cells, statement}
 use Rattle.cr_meaning_soundness.specs.Rules.{IsTyped}
 use Rattle.cr_meaning_soundness.specs.Operands.{Demands}
 
@@ -14,6 +20,12 @@ use Rattle.cr_meaning_soundness.specs.Operands.{Demands}
 pub record IsGood (p : Program) (sorts : ℕ → Option Sort) (sees : ℕ → Bool) (op : Op) (own : Sort) : Type 0 where
   pub typed : IsTyped p sorts op own
   pub demands : Demands sorts sees op op.work
+
+-- what is known of nodes beside the columns: which expressions are places, the cells of these, and what statements may come to
+pub record Known : Type 0 where
+  pub lvalue : ℕ → Bool
+  pub size : ℕ → ℕ
+  pub exits : ℕ → Exits
 
 -- ---- sorts
 
@@ -27,6 +39,30 @@ value_sort p row other = void
 abbrev pub row_at : Typed → ℕ → ℕ
 row_at t node = slice_index_or t.types node 0
 
--- a place of so many cells, as the node uses it (6.3.2.1p2, p3)
-abbrev pub place_sort : Program → Typed → ℕ → ℕ → Sort
-place_sort p t node count = if slice_index_or t.valued node false then value_sort p (row_at t node) (type_of_node t node) else place count
+abbrev pub expression_sort : Program → Typed → Known → ℕ → Sort
+expression_sort p t k node =
+    if k.lvalue node && not (slice_index_or t.valued node false) then place (k.size node) else value_sort p (row_at t node) (type_of_node t node)
+
+abbrev pub is_statement : Kind → Bool
+is_statement kind.Compound = true
+is_statement kind.ExpressionStatement = true
+is_statement kind.If = true
+is_statement kind.While = true
+is_statement kind.Return = true
+is_statement kind.Declaration = true
+is_statement kind.NameDeclarator = true
+is_statement kind.PointerDeclarator = true
+is_statement kind.ArrayDeclarator = true
+is_statement kind.GroupDeclarator = true
+is_statement other = false
+
+abbrev pub by_form : Program → Typed → Known → ℕ → Form → Option Sort
+by_form p t k node form.Other = None
+by_form p t k node f = Some (expression_sort p t k node)
+
+abbrev pub sort_if : Program → Typed → Known → ℕ → Option Node → Option Sort
+sort_if p t k node None = None
+sort_if p t k node (Some n) = if is_statement n.kind then Some (statement (k.exits node)) else by_form p t k node (form_of n.kind)
+
+abbrev pub sort_at : Program → Typed → Known → ℕ → Option Sort
+sort_at p t k node = sort_if p t k node (slice_get t.nodes node)

@@ -14,9 +14,9 @@ use Rattle.cr_meaning.specs.declared.op.Form.{Form}
 use Rattle.cr_meaning.specs.declared.op.Target.{Target}
 use Rattle.cr_meaning_operations.specs.Shapes.{type_of_node, cells_of}
 use Rattle.cr_meaning_operations.specs.Operations.{entity_of, identifier_by}
-use Rattle.cr_meaning_soundness.specs.Sorts.{Exits, Sort}
+use Rattle.cr_meaning_soundness.specs.Sorts.{Exits}
 use Rattle.cr_meaning_soundness.specs.Statements.{in_loop, in_block}
-use Rattle.cr_meaning_typed.specs.Good.{IsGood, place_sort}
+use Rattle.cr_meaning_typed.specs.Good.{Known, IsGood, expression_sort, sort_at}
 
 -- ---- names
 
@@ -28,15 +28,16 @@ IsObject t count (to c v below) = Unit {0}
 IsObject t count (array n below) = (1 ≤ cells_of t below) × (count % cells_of t below ≡ 0)
 IsObject t count other = ⊥
 
--- the object that a name names has cells, whole elements where it is an array
-pub record IsNamed (p : Program) (t : Typed) (i : ℕ) : Type 0 where
+-- the object that a name names has cells, whole elements where it is an array, and as many as are said of the place
+pub record IsNamed (p : Program) (t : Typed) (k : Known) (i : ℕ) : Type 0 where
+  pub lvalue : k.lvalue i ≡ true
   pub some : 1 ≤ length (p.shape (entity_of t i))
   pub object : IsObject t (length (p.shape (entity_of t i))) (type_of_node t i)
+  pub size : k.size i ≡ length (p.shape (entity_of t i))
 
--- they give that place, as it is used
 abbrev pub NamesAreGood : Type 0
-NamesAreGood = (p : Program) (t : Typed) (sorts : ℕ → Option Sort) (sees : ℕ → Bool) (i : ℕ) → IsNamed p t i → sees (entity_of t i) ≡ true
-    → IsGood p sorts sees (identifier_by t i None) (place_sort p t i (length (p.shape (entity_of t i))))
+NamesAreGood = (p : Program) (t : Typed) (k : Known) (sees : ℕ → Bool) (i : ℕ) → IsNamed p t k i → sees (entity_of t i) ≡ true
+    → IsGood p (sort_at p t k) sees (identifier_by t i None) (expression_sort p t k i)
 
 -- ---- statements
 

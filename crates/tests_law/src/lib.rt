@@ -21,8 +21,6 @@ mod left;
 #[cfg(test)]
 mod limits;
 #[cfg(test)]
-mod looks;
-#[cfg(test)]
 mod names;
 #[cfg(test)]
 mod places;

@@ -78,8 +78,8 @@ fn epoch<R: Threads + Abort + Sync, L: Law + Sync, J: Judge + Send>(
     Ok(bench.epoch(rt, alloc, &job))
 }
 
-/// Whether a count reaches a number while it is looked at many times.
-pub(crate) fn reaches(count: &AtomicU64, wanted: u64) -> bool {
+// Whether a count reaches a number while it is looked at many times.
+fn reaches(count: &AtomicU64, wanted: u64) -> bool {
     for _ in 0..10_000_000 {
         if count.load(Ordering::SeqCst) >= wanted {
             return true;

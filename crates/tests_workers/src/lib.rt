@@ -7,8 +7,6 @@
 #[cfg(test)]
 mod claiming;
 #[cfg(test)]
-mod crowd;
-#[cfg(test)]
 mod epochs;
 #[cfg(test)]
 mod events;

@@ -1,5 +1,4 @@
-// How much a bench keeps: 256 verdicts, each on a file of at most 65,536 bytes. So the files are 16 MiB together at most. On a file
-// whose verdict is kept the law isn't asked to rule again, and no judge is asked.
+// How much a bench keeps: 256 verdicts, each on a file of at most 65,536 bytes. So the files are 16 MiB together at most.
 ghost use Rattle.std.specs.Prelude.{◌≡◌, ◌<◌, ◌≤◌, [], IfOk, None, length};
 
 use crate::epochs::{rejected_all, size_of};
@@ -39,19 +38,15 @@ impl<'a> Judge for Refusing<'a> {
     }
 }
 
-// Finds every file lawful, and counts its rulings.
-#[derive(Drop)]
-struct Anything<'a> {
-    rulings: &'a AtomicU64,
-}
+// Finds every file lawful.
+struct Anything;
 
-impl<'a> Law for Anything<'a> {
+impl Law for Anything {
     ghost lawful = { λ _ _. Unit {0} };
 
     ghost reasons = { λ _ _ _. Unit {0} };
 
     fn rule<S: Stop>(&self, _alloc: Global, _file: &[u8], _stop: &mut S) -> Ruling {
-        self.rulings.fetch_add(1, Ordering::SeqCst);
         Ruling::Lawful
     }
 }
@@ -65,25 +60,14 @@ fn bench_of(alloc: Global, calls: &AtomicU64) -> Result<Bench<Refusing<'_>>, NoM
     Bench::new(alloc, judges)
 }
 
-// How many calls a judge had, and a law, if as many.
-fn both(calls: &AtomicU64, rulings: &AtomicU64) -> Option<u64> {
-    let asked = calls.load(Ordering::SeqCst);
-    if rulings.load(Ordering::SeqCst) == asked {
-        Some(asked)
-    } else {
-        None
-    }
-}
-
-// How many calls the judge had, and the law too, after an epoch of the variants that lack one of the last lines, and after another one of
-// the first of them.
+// How many calls were made after an epoch of the variants that lack one of the last lines, and after another one of the first of them.
 fn asked_twice<R: Threads + Abort + Sync>(
     rt: &R,
     alloc: Global,
     file: &[u8],
     lines: u64,
     again: u64,
-) -> Result<(Option<u64>, Option<u64>), NoMemory>
+) -> Result<(u64, u64), NoMemory>
     requires { (again ≤ lines) × (lines ≤ 4096) }
 {
     assert!(rt; file.len() <= 1_048_576);
@@ -94,13 +78,11 @@ fn asked_twice<R: Threads + Abort + Sync>(
     let count = positions(&passes, &prep);
     assert!(rt; lines <= count);
     let calls = AtomicU64::new(0);
-    let rulings = AtomicU64::new(0);
-    let law = Anything { rulings: &rulings };
     let mut bench = bench_of(alloc, &calls)?;
     let mut job = Job {
         passes: &passes,
         prep: &prep,
-        law: &law,
+        law: &Anything,
         question: &question,
         name: "t.c",
         file,
@@ -110,11 +92,11 @@ fn asked_twice<R: Threads + Abort + Sync>(
         workers: 1,
     };
     let first = bench.epoch(rt, alloc, &job);
-    let asked = both(&calls, &rulings);
+    let asked = calls.load(Ordering::SeqCst);
     job.len = again;
     let second = bench.epoch(rt, alloc, &job);
     assert!(rt; rejected_all(&first, lines) && rejected_all(&second, again));
-    Ok((asked, both(&calls, &rulings)))
+    Ok((asked, calls.load(Ordering::SeqCst)))
 }
 
 fn push_front(alloc: Global, file: &mut Vec<u8>, number: u64) -> Result<(), NoMemory> {
@@ -131,8 +113,8 @@ fn push_line(alloc: Global, file: &mut Vec<u8>, number: u64, bytes: u64) -> Resu
     file.extend_from_slice(b"*/\n")
 }
 
-/// A file of lines of so many bytes, with the numbers from 1,000 to before another.
-pub(crate) fn lines(alloc: Global, end: u64, bytes: u64) -> Result<Vec<u8>, NoMemory> {
+// A file of lines of so many bytes, with the numbers from 1,000 to before another.
+fn lines(alloc: Global, end: u64, bytes: u64) -> Result<Vec<u8>, NoMemory> {
     let mut file = Vec::new(alloc);
     for line in 1000..end {
         push_line(alloc, &mut file, line, bytes)?;
@@ -140,8 +122,7 @@ pub(crate) fn lines(alloc: Global, end: u64, bytes: u64) -> Result<Vec<u8>, NoMe
     Ok(file)
 }
 
-// Of so many lines, each of so many bytes, the variants that lack one of the last are ruled on and asked about, and then the first of
-// them again.
+// Of so many lines, each of so many bytes, the variants that lack one of the last are asked about, and then the first of them again.
 fn expect_calls<R: Threads + Abort + Sync>(
     rt: &R,
     alloc: Global,
@@ -152,7 +133,7 @@ fn expect_calls<R: Threads + Abort + Sync>(
     requires { (asked.1 ≤ asked.0) × (asked.0 ≤ 4096) }
 {
     let seen = asked_twice(rt, alloc, file, asked.0, asked.1)?;
-    assert!(rt; seen == (Some(wanted.0), Some(wanted.1)));
+    assert!(rt; seen == wanted, "{} {}", seen.0, seen.1);
     Ok(())
 }
 

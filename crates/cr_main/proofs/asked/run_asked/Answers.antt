@@ -1,23 +1,20 @@
-use Rattle.std.proofs.Common.{refl, subst}
-use Rattle.cr_reduce.specs.Bench.{judging}
-use Rattle.cr_main_task.specs.Outside.{Says, outside}
-use Rattle.cr_main.specs.More.{RunsWord}
-use Rattle.cr_main.specs.More.RunsAsked.{by_word, plain, unbuilt}
+use Rattle.std.proofs.Common.{inl, inr, refl, subst}
+use Rattle.cr_main_task.specs.Outside.{Says}
+use Rattle.cr_main.specs.More.RunsAsked.{plain, unbuilt}
 use Rattle.cr_main.proofs.asked.run_asked.Goals as goal
 
 pub returns-then-has_flag-clause-runs : goal.returns-then-has_flag-clause-runs
 returns-then-has_flag-clause-runs g c =
-    unbuilt (c.has_flag.ensures.flag c.if-has_flag.true) (record { story = refl; files = refl; judges = refl })
+    unbuilt (inl (c.has_flag.ensures.flag c.if-has_flag.true)) (record { story = refl; files = refl; judges = refl })
     (subst (λ line. Says (g.O.Sink.told c.args.out.now) (g.O.Sink.told c.put.new.out) (g.O.Sink.faults c.args.out.now) (g.O.Sink.faults c.put.new.out) line 2 2 c.put.result)
     c.as_bytes.ensures.value c.put.ensures)
 
-pub returns-in-Some-clause-runs : goal.returns-in-Some-clause-runs
-returns-in-Some-clause-runs g c =
-    by_word (c.has_flag.ensures.none c.if-has_flag.false) c.in-Some.ensures.0
-    (subst (λ word. RunsWord c.args.settings.now word
-    (outside g.F.Outside g.F.Files c.args.files.now g.O.Sink c.args.out.now) (outside g.F.Outside g.F.Files c.run_word.new.files g.O.Sink c.run_word.new.out)
-    (judging g.J.Judge c.args.bench.now) (judging g.J.Judge c.run_word.new.bench) c.run_word.result) c.in-Some.ensures.1 c.run_word.ensures.runs)
+pub returns-then-is_formula-clause-runs : goal.returns-then-is_formula-clause-runs
+returns-then-is_formula-clause-runs g c =
+    unbuilt (inr (c.is_formula.ensures.formula c.if-is_formula.true)) (record { story = refl; files = refl; judges = refl })
+    (subst (λ line. Says (g.O.Sink.told c.args.out.now) (g.O.Sink.told c.put-then-is_formula.new.out) (g.O.Sink.faults c.args.out.now) (g.O.Sink.faults c.put-then-is_formula.new.out) line 2 2 c.put-then-is_formula.result)
+    c.as_bytes-then-is_formula.ensures.value c.put-then-is_formula.ensures)
 
-pub returns-in-None-clause-runs : goal.returns-in-None-clause-runs
-returns-in-None-clause-runs g c =
-    plain c.run_given.ensures.runs.0 (c.has_flag.ensures.none c.if-has_flag.false) c.in-None.ensures c.run_given.ensures.runs.1 c.run_given.ensures.runs.2
+pub returns-clause-runs : goal.returns-clause-runs
+returns-clause-runs g c =
+    plain c.run_given.ensures.runs.0 (c.has_flag.ensures.none c.if-has_flag.false) (c.is_formula.ensures.other c.if-is_formula.false) c.run_given.ensures.runs.1 c.run_given.ensures.runs.2

@@ -4,7 +4,6 @@ use Rattle.cr_main_task.specs.Outside.{Says, outside}
 use Rattle.cr_main_words.specs.Requests.{Asks, AsksNothing}
 use Rattle.cr_main_words.specs.Words.{texts_of}
 use Rattle.cr_main.specs.More.RunsMore.{asks_nothing, unread_words}
-use Rattle.cr_main.proofs.Completing.{completes_more}
 use Rattle.cr_main.proofs.More.{asks_more, ends_more, fault_more, journal_more, keeps_more, may_run, more_of, plain_promises, quiet_more}
 use Rattle.cr_main.proofs.modes.run_more.Goals as goal
 
@@ -46,11 +45,6 @@ returns-clause-journal_kept g c = journal_more (texts_of c.args.list.now) (lengt
 
 pub returns-clause-asks_only : goal.returns-clause-asks_only
 returns-clause-asks_only g c = asks_more (texts_of c.args.list.now) (length c.args.bench.now.judges) (says_of g.J.Judge c.args.bench.now)
-    (outside g.F.Outside g.F.Files c.args.files.now g.O.Sink c.args.out.now) (outside g.F.Outside g.F.Files c.run_request-status.new.files g.O.Sink c.run_request-status.new.out)
-    (judging g.J.Judge c.args.bench.now) (judging g.J.Judge c.run_request-status.new.bench) c.run_request-status.result (returns-clause-runs g c)
-
-pub returns-clause-completes : goal.returns-clause-completes
-returns-clause-completes g c = completes_more (texts_of c.args.list.now) (length c.args.bench.now.judges) (says_of g.J.Judge c.args.bench.now)
     (outside g.F.Outside g.F.Files c.args.files.now g.O.Sink c.args.out.now) (outside g.F.Outside g.F.Files c.run_request-status.new.files g.O.Sink c.run_request-status.new.out)
     (judging g.J.Judge c.args.bench.now) (judging g.J.Judge c.run_request-status.new.bench) c.run_request-status.result (returns-clause-runs g c)
 
@@ -96,11 +90,6 @@ returns-in-Err-Usage-clause-asks_only g c = asks_more (texts_of c.args.list.now)
     (outside g.F.Outside g.F.Files c.args.files.now g.O.Sink c.args.out.now) (outside g.F.Outside g.F.Files c.args.files.now g.O.Sink c.put.new.out)
     (judging g.J.Judge c.args.bench.now) (judging g.J.Judge c.args.bench.now) c.put.result (returns-in-Err-Usage-clause-runs g c)
 
-pub returns-in-Err-Usage-clause-completes : goal.returns-in-Err-Usage-clause-completes
-returns-in-Err-Usage-clause-completes g c = completes_more (texts_of c.args.list.now) (length c.args.bench.now.judges) (says_of g.J.Judge c.args.bench.now)
-    (outside g.F.Outside g.F.Files c.args.files.now g.O.Sink c.args.out.now) (outside g.F.Outside g.F.Files c.args.files.now g.O.Sink c.put.new.out)
-    (judging g.J.Judge c.args.bench.now) (judging g.J.Judge c.args.bench.now) c.put.result (returns-in-Err-Usage-clause-runs g c)
-
 pub returns-in-Err-NoMemory-clause-runs : goal.returns-in-Err-NoMemory-clause-runs
 returns-in-Err-NoMemory-clause-runs g c = unread_words refl refl refl
 
@@ -131,10 +120,5 @@ returns-in-Err-NoMemory-clause-journal_kept g c = journal_more (texts_of c.args.
 
 pub returns-in-Err-NoMemory-clause-asks_only : goal.returns-in-Err-NoMemory-clause-asks_only
 returns-in-Err-NoMemory-clause-asks_only g c = asks_more (texts_of c.args.list.now) (length c.args.bench.now.judges) (says_of g.J.Judge c.args.bench.now)
-    (outside g.F.Outside g.F.Files c.args.files.now g.O.Sink c.args.out.now) (outside g.F.Outside g.F.Files c.args.files.now g.O.Sink c.args.out.now)
-    (judging g.J.Judge c.args.bench.now) (judging g.J.Judge c.args.bench.now) 11 (returns-in-Err-NoMemory-clause-runs g c)
-
-pub returns-in-Err-NoMemory-clause-completes : goal.returns-in-Err-NoMemory-clause-completes
-returns-in-Err-NoMemory-clause-completes g c = completes_more (texts_of c.args.list.now) (length c.args.bench.now.judges) (says_of g.J.Judge c.args.bench.now)
     (outside g.F.Outside g.F.Files c.args.files.now g.O.Sink c.args.out.now) (outside g.F.Outside g.F.Files c.args.files.now g.O.Sink c.args.out.now)
     (judging g.J.Judge c.args.bench.now) (judging g.J.Judge c.args.bench.now) 11 (returns-in-Err-NoMemory-clause-runs g c)

@@ -5,7 +5,7 @@ use Rattle.cr_main_task.specs.Outside.{outside}
 use Rattle.cr_main_task.specs.Run.HasAsked.{asked_nothing}
 use Rattle.cr_main_task.specs.Run.RunsBy.{starves}
 use Rattle.cr_main_task.specs.Task.{given}
-use Rattle.cr_main_formula.specs.Formulas.{bound_to, formula_task}
+use Rattle.cr_main_formula.specs.Formulas.{bound_to}
 use Rattle.cr_main_formula.proofs.Bound.{rebound}
 use Rattle.cr_main_formula.proofs.by_formula.run_bound.Goals as goal
 
@@ -22,7 +22,7 @@ pub returns-clause-runs : goal.returns-clause-runs
 returns-clause-runs g c =
     let asked = c.args.task.now in
     let bound = c.in-Ok.bound in
-    rebound (bound_to (formula_task g.P.Passes asked) c.args.bytes.items) bound.formula.now asked.question.now bound.limits asked.law.now.limits bound.input.items c.args.bytes.items (given c.args.bytes.items)
+    rebound (bound_to g.P.Passes asked c.args.bytes.items) bound.formula.now asked.question.now bound.limits asked.law.now.limits bound.input.items c.args.bytes.items (given c.args.bytes.items)
     (outside g.F.Outside g.F.Files c.args.files.now g.O.Sink c.args.out.now) (outside g.F.Outside g.F.Files c.run_lawful.new.files g.O.Sink c.run_lawful.new.out)
     (judging g.J.Judge c.args.bench.now) (judging g.J.Judge c.run_lawful.new.bench) c.run_lawful.result
     c.in-Ok.ensures.formula c.in-Ok.ensures.limits (ap (λ v. v.items) c.in-Ok.ensures.input ∙ c.requires.input) c.run_lawful.ensures.runs

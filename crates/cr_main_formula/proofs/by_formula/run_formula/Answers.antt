@@ -5,7 +5,7 @@ use Rattle.cr_main_task.specs.Opening.RunsBound.{not_opened, on_bytes}
 use Rattle.cr_main_task.specs.Outside.{outside}
 use Rattle.cr_main_task.specs.Run.{RunsTask}
 use Rattle.cr_main_task.specs.Task.{given, stored}
-use Rattle.cr_main_formula.specs.Formulas.{bound_to, formula_task}
+use Rattle.cr_main_formula.specs.Formulas.{bound_to}
 use Rattle.cr_main_formula.proofs.Headline.{formula_done}
 use Rattle.cr_main_formula.proofs.by_formula.run_formula.Goals as goal
 
@@ -17,12 +17,12 @@ returns-in-Ok-clause-runs g c =
     let read = outside g.F.Outside g.F.Files c.open.new.files g.O.Sink c.open.new.out in
     let new = outside g.F.Outside g.F.Files c.run_opened.new.files g.O.Sink c.run_opened.new.out in
     on_bytes c.in-Ok.bytes.items read c.in-Ok.ensures.opened
-    (subst (λ (js : List g.row.J.Denot). RunsTask (bound_to (formula_task g.P.Passes c.args.task.now) c.in-Ok.bytes.items) (given c.in-Ok.bytes.items) read new (judging_of g.J.Judge js)
+    (subst (λ (js : List g.row.J.Denot). RunsTask (bound_to g.P.Passes c.args.task.now c.in-Ok.bytes.items) (given c.in-Ok.bytes.items) read new (judging_of g.J.Judge js)
     (judging g.J.Judge c.run_opened.new.bench) c.run_opened.result) c.forget.ensures.judges c.run_opened.ensures.runs)
 
 pub returns-in-Ok-clause-headline : goal.returns-in-Ok-clause-headline
 returns-in-Ok-clause-headline g c = λ done.
-    formula_done (formula_task g.P.Passes c.args.task.now) (stored (files_told (g.F.Outside.story c.args.files.now)) c.args.task.now.name.now)
+    formula_done g.P.Passes c.args.task.now (stored (files_told (g.F.Outside.story c.args.files.now)) c.args.task.now.name.now)
     (outside g.F.Outside g.F.Files c.args.files.now g.O.Sink c.args.out.now) (outside g.F.Outside g.F.Files c.run_opened.new.files g.O.Sink c.run_opened.new.out)
     (judging g.J.Judge c.args.bench.now) (judging g.J.Judge c.run_opened.new.bench) c.run_opened.result (returns-in-Ok-clause-runs g c) done
 
@@ -31,6 +31,6 @@ returns-in-Err-clause-runs g c = not_opened c.in-Err.ensures.unopened (ap (λ (j
 
 pub returns-in-Err-clause-headline : goal.returns-in-Err-clause-headline
 returns-in-Err-clause-headline g c = λ done.
-    formula_done (formula_task g.P.Passes c.args.task.now) (stored (files_told (g.F.Outside.story c.args.files.now)) c.args.task.now.name.now)
+    formula_done g.P.Passes c.args.task.now (stored (files_told (g.F.Outside.story c.args.files.now)) c.args.task.now.name.now)
     (outside g.F.Outside g.F.Files c.args.files.now g.O.Sink c.args.out.now) (outside g.F.Outside g.F.Files c.open.new.files g.O.Sink c.open.new.out)
     (judging g.J.Judge c.args.bench.now) (judging g.J.Judge c.forget.new.self) c.in-Err.status (returns-in-Err-clause-runs g c) done

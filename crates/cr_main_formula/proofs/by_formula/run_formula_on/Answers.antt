@@ -5,7 +5,7 @@ use Rattle.cr_main_task.specs.Opening.Unopened.{ruled_out, unopened}
 use Rattle.cr_main_task.specs.Outside.{outside}
 use Rattle.cr_main_task.specs.Run.{RunsTask}
 use Rattle.cr_main_task.specs.Task.{given}
-use Rattle.cr_main_formula.specs.Formulas.{bound_to, formula_task}
+use Rattle.cr_main_formula.specs.Formulas.{bound_to}
 use Rattle.cr_main_formula.proofs.Headline.{formula_done}
 use Rattle.cr_main_formula.proofs.by_formula.run_formula_on.Goals as goal
 
@@ -23,12 +23,12 @@ returns-in-Ok-None-clause-runs g c =
       lawful = c.in-Ok-None.ensures.lawful (ap Ok c.in-Ok-None.field-0-is);
       same = record { files = refl; output = refl; file_faults = omega arith; output_faults = refl };
     })
-    (subst (λ (js : List g.row.J.Denot). RunsTask (bound_to (formula_task g.P.Passes c.args.task.now) c.args.bytes.items) (given c.args.bytes.items) old new (judging_of g.J.Judge js)
+    (subst (λ (js : List g.row.J.Denot). RunsTask (bound_to g.P.Passes c.args.task.now c.args.bytes.items) (given c.args.bytes.items) old new (judging_of g.J.Judge js)
     (judging g.J.Judge c.run_opened.new.bench) c.run_opened.result) c.forget.ensures.judges c.run_opened.ensures.runs)
 
 pub returns-in-Ok-None-clause-headline : goal.returns-in-Ok-None-clause-headline
 returns-in-Ok-None-clause-headline g c = λ done.
-    formula_done (formula_task g.P.Passes c.args.task.now) (given c.args.bytes.items)
+    formula_done g.P.Passes c.args.task.now (given c.args.bytes.items)
     (outside g.F.Outside g.F.Files c.args.files.now g.O.Sink c.args.out.now) (outside g.F.Outside g.F.Files c.run_opened.new.files g.O.Sink c.run_opened.new.out)
     (judging g.J.Judge c.args.bench.now) (judging g.J.Judge c.run_opened.new.bench) c.run_opened.result (returns-in-Ok-None-clause-runs g c) done
 
@@ -41,7 +41,7 @@ returns-in-Ok-Some-clause-runs g c =
 
 pub returns-in-Ok-Some-clause-headline : goal.returns-in-Ok-Some-clause-headline
 returns-in-Ok-Some-clause-headline g c = λ done.
-    formula_done (formula_task g.P.Passes c.args.task.now) (given c.args.bytes.items)
+    formula_done g.P.Passes c.args.task.now (given c.args.bytes.items)
     (outside g.F.Outside g.F.Files c.args.files.now g.O.Sink c.args.out.now) (outside g.F.Outside g.F.Files c.args.files.now g.O.Sink c.refuse.new.out)
     (judging g.J.Judge c.args.bench.now) (judging g.J.Judge c.forget.new.self) c.refuse.result (returns-in-Ok-Some-clause-runs g c) done
 
@@ -51,6 +51,6 @@ returns-in-Err-clause-runs g c =
 
 pub returns-in-Err-clause-headline : goal.returns-in-Err-clause-headline
 returns-in-Err-clause-headline g c = λ done.
-    formula_done (formula_task g.P.Passes c.args.task.now) (given c.args.bytes.items)
+    formula_done g.P.Passes c.args.task.now (given c.args.bytes.items)
     (outside g.F.Outside g.F.Files c.args.files.now g.O.Sink c.args.out.now) (outside g.F.Outside g.F.Files c.args.files.now g.O.Sink c.args.out.now)
     (judging g.J.Judge c.args.bench.now) (judging g.J.Judge c.forget.new.self) 11 (returns-in-Err-clause-runs g c) done

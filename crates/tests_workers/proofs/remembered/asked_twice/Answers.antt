@@ -1,12 +1,18 @@
-use Rattle.std.proofs.Common.{◌≡◌, ℕ, Bool, List, [], ◌∷◌, true, length, ap, refl, subst, sym, arith}
+use Rattle.std.proofs.Common.{◌≡◌, ◌+◌, ◌^◌, ◌<◌, ◌≤◌, ℕ, Bool, List, [], ◌∷◌, true, length, ap, refl, subst, sym, arith}
+use Rattle.cr_cursor.specs.Variants.{cursors}
+use Rattle.cr_cursor.specs.declared.passes.Passes.{Ghosts as PassesGhosts}
 use Rattle.cr_outside.specs.Question.{Says}
 use Rattle.cr_outside.specs.Test.{tells_test}
 use Rattle.cr_outside.specs.declared.test.Test.TheVariants.{Program}
+use Rattle.cr_pool.specs.declared.job.Job.{Job}
+use Rattle.cr_pool.specs.Jobs.{IsPlaced, offer_of}
 use Rattle.cr_pool.specs.Kept.{AreRight, Kept}
 use Rattle.cr_pool.specs.Tally.{first_says}
-use Rattle.tests_workers.proofs.Placing.{placed}
 use Rattle.tests_workers.specs.contracts.remembered.RefusingJudge.TheImpl.{ghosts as judge}
 use Rattle.tests_workers.proofs.remembered.asked_twice.Goals as goal
+
+placed : {P I L Q : Type 0} (passes : PassesGhosts P I) (job : Job P L Q I) → job.start + job.len ≤ length (cursors (offer_of passes job).widths) → job.start + job.len < 2 ^ 64 → IsPlaced passes job
+placed passes job among fits = record { among = among; fits = fits }
 
 -- where all judges have one key, as many of them say the same
 same_says : {J K : Type 0} (key : J → K) (says : K → Says) → ((x y : J) → key x ≡ key y) → (a b : List J) → length a ≡ length b → first_says key says a ≡ first_says key says b

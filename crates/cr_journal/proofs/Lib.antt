@@ -1,4 +1,0 @@
-pub mod Adds
-pub mod Ended
-pub mod Led
-pub mod Replayed

@@ -1,4 +1,0 @@
-pub mod Keeping
-pub mod Replay
-pub mod Times
-pub mod Laws

@@ -1,3 +1,0 @@
-pub mod Goods
-pub mod Controls
-pub mod Given
