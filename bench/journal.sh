@@ -40,7 +40,7 @@ fn are_whole(bodies: &[Vec<u8>]) -> bool {
         if body.as_slice() != body_of(number).as_slice() {
             return false;
         }
-        number = if number < 250 { number + 1 } else { 0 };
+        number = (number + 1) % 251;
     }
     true
 }
