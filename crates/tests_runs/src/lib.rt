@@ -1,11 +1,9 @@
-//! The tests of `cr_reduce` and `cr_main`, by public names alone.
+//! The tests of `cr_reduce`, `cr_main_words` and `cr_main`, by public names alone.
 //!
 //! They stand above these crates, so that none of them proves its functions once more for its tests. It promises nothing,
 //! and stands on the crates that it tests and on what their values are made of.
 #![tactic(auto)]
 
-#[cfg(test)]
-mod further;
 #[cfg(test)]
 mod outcomes;
 #[cfg(test)]

@@ -1,8 +1,7 @@
 // Runs on a file and a sink in memory, and what they come to.
 use crate::rehearsed::silent_bench;
-use cr_main::{run, run_more};
+use cr_main::run;
 use cr_outside::{Files, Judge, MemFiles, MemSink, ReadAnswer, Sink};
-use cr_outside_disk::MemDisk;
 use cr_pool::Bench;
 use std::alloc::{AllocError, Global};
 use std::thread::Threads;
@@ -46,19 +45,6 @@ pub(crate) fn status_of<F: Files, J: Judge + Send, O: Sink>(
     out: &mut O,
 ) -> u8 {
     run(rt, alloc, words, files, bench, out)
-}
-
-/// The same by the top call that knows all that words may ask for, beside an empty disk.
-pub(crate) fn more_status_of<F: Files, J: Judge + Send, O: Sink>(
-    rt: &(impl Threads + Sync),
-    alloc: Global,
-    words: &[String],
-    files: &mut F,
-    bench: &mut Bench<J>,
-    out: &mut O,
-) -> u8 {
-    let mut disk = MemDisk::new(Vec::new(alloc), Vec::new(alloc));
-    run_more(rt, alloc, words, files, bench, &mut disk, out)
 }
 
 /// One file with its name.

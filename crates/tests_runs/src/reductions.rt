@@ -77,48 +77,6 @@ end 0 14 0 33 15, 31 fixed
 after int c;
 ";
 
-/// Four judges who fail, or for whom no memory is left, on files: behind the first accepted one that decides nothing, since the positions
-/// of `int b;` with `int c;` and of `int a;` with `int c;`, 15 and 16, lie above that of `int a;` with `int b;`, 14.
-const BEHIND: &str = "\
-what the test fails on a file behind the first accepted one
-before int a;␊int b;␊int c;␊
-test t
-limit none
-window 8
-call 1 yes int a;␊int b;␊
-call 1 yes int b;␊
-call 1 failed int b;␊int c;␊
-end 0 13 1 68 15, 0 14 0 34 16, 32 fixed
-after int b;␊
-
-what it fails on two files behind it
-window 18
-call 1 yes int a;␊int b;␊
-call 1 yes int b;␊
-call 1 failed int b;␊int c;␊
-call 1 failed int a;␊int c;␊
-
-what no memory is left on a file behind it
-call 1 yes int a;␊int b;␊
-call 1 yes int b;␊
-call 1 starved int b;␊int c;␊
-
-what no memory is left on two files behind it
-window 18
-call 1 yes int a;␊int b;␊
-call 1 yes int b;␊
-call 1 starved int b;␊int c;␊
-call 1 starved int a;␊int c;␊
-
-what no memory is left on a file before it, one position at a time
-window 1
-call 1 yes int a;␊int b;␊
-call 1 yes int b;␊
-call 1 starved int c;␊
-end 13 no memory
-after same
-";
-
 /// How a reduction ended, but for its file.
 pub(crate) fn told(alloc: Global, end: &End) -> Result<String, AllocError> {
     let mut told = String::new(alloc);
@@ -165,19 +123,17 @@ fn case_end(
     rt: &(impl Threads + Sync),
     alloc: Global,
     case: &Case,
-    workers: u32,
     window: u32,
 ) -> Result<Option<End>, AllocError>
-    requires workers { (0 < workers) × (workers ≤ 32) }
-    requires window { (0 < window) × (window ≤ 4096) }
+    requires { (0 < window) × (window ≤ 4096) }
 {
     let Ok(test) = Test::read(alloc, case.told("test")) else {
         return Ok(None);
     };
     let file = case.before(alloc)?;
-    let mut bench = knowing_bench(alloc, case, u64::from(workers))?;
+    let mut bench = knowing_bench(alloc, case, 1)?;
     let plan = Plan {
-        workers,
+        workers: 1,
         window,
         limit: case.told("limit").parse().ok(),
     };
@@ -199,13 +155,11 @@ fn ends_so(
     rt: &(impl Threads + Sync),
     alloc: Global,
     case: &Case,
-    workers: u32,
     window: u32,
 ) -> Result<bool, AllocError>
-    requires workers { (0 < workers) × (workers ≤ 32) }
-    requires window { (0 < window) × (window ≤ 4096) }
+    requires { (0 < window) × (window ≤ 4096) }
 {
-    match case_end(rt, alloc, case, workers, window)? {
+    match case_end(rt, alloc, case, window)? {
         Some(end) => tells_end(alloc, case, &end),
         None => Ok(false),
     }
@@ -216,9 +170,9 @@ fn expect_end(
     alloc: Global,
     case: &Case,
 ) -> Result<(), AllocError> {
-    let so = ends_so(rt, alloc, case, 1, 1)?
-        && ends_so(rt, alloc, case, 1, 8)?
-        && ends_so(rt, alloc, case, 1, 256)?;
+    let so = ends_so(rt, alloc, case, 1)?
+        && ends_so(rt, alloc, case, 8)?
+        && ends_so(rt, alloc, case, 256)?;
     assert!(rt; so, "{}", case.told("what"));
     Ok(())
 }
@@ -227,37 +181,6 @@ fn expect_end(
 fn small_files_are_reduced_by_their_tests(rt: HostRuntime) -> Result<(), AllocError> {
     for own in CASES.split("\n\n") {
         expect_end(&rt, rt.alloc(), &Case::of(CASES, own))?;
-    }
-    Ok(())
-}
-
-fn window_of(case: &Case) -> u32
-    ensures { (0 < result) × (result ≤ 4096) }
-{
-    match case.told("window") {
-        "1" => 1,
-        "18" => 18,
-        _ => 8,
-    }
-}
-
-fn expect_behind(
-    rt: &(impl Abort + Threads + Sync),
-    alloc: Global,
-    case: &Case,
-) -> Result<(), AllocError> {
-    let window = window_of(case);
-    let so = ends_so(rt, alloc, case, 4, window)?;
-    assert!(rt; so, "{}", case.told("what"));
-    Ok(())
-}
-
-#[test]
-fn what_befalls_a_judge_behind_the_first_accepted_file_decides_nothing(
-    rt: HostRuntime,
-) -> Result<(), AllocError> {
-    for own in BEHIND.split("\n\n") {
-        expect_behind(&rt, rt.alloc(), &Case::of(BEHIND, own))?;
     }
     Ok(())
 }

@@ -188,16 +188,6 @@ what a byte more
 before int main(){}
 many 1048565 ␠
 
-what as many parentheses as bytes
-before ∅
-many 1048576 (
-output creduce: long.c:1: not in the subset: token 5␊
-
-what as many parentheses as tokens
-before ∅
-many 262144 (
-output creduce: long.c:1: not in the subset: parse 1␊
-
 what as many levels as a file may have
 before int main()
 many 128 {, 128 }

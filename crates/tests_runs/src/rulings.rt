@@ -42,47 +42,9 @@ t.c:2: not defined: U16¦int printf(const char *, ...);␊int main(void){printf(
 the test says no to t.c¦int printf(const char *, ...);␊int main(void){printf(\"%s%c%x%%\",\"a\",66,255);}␊
 ";
 
-/// The same at the limits of output and of cells.
-const LIMITS: &str = "\
-the test says no to t.c¦int putchar(int);int main(){for(int i=0;i<65536;i++)putchar(65);}
-t.c:1: left the profile: N4¦int putchar(int);int main(){for(int i=0;i<65537;i++)putchar(65);}
-the test says no to t.c¦int a[1048576];int main(){}
-t.c:1: left the profile: N3¦int a[1048576];int b;int main(){}
-t.c:1: not in the subset: type 7¦char a[1048577];int main(){}
-";
-
-/// The same of files that C11 forbids and no number stands for, and of some that C11 allows and a number refuses.
-const KNOWN: &str = "\
-the test says no to t.c¦int main(void) { for (int f(void);;) return 0; }
-the test says no to t.c¦inline int main(void) { return 0; }
-the test says no to t.c¦static int main(void) { return 0; }
-the test says no to t.c¦static int n; inline int f(void) { return n; } int main(void) { return 0; }
-the test says no to t.c¦inline int f(void) { return 0; } int main(void) { return f(); }
-the test says no to t.c¦enum e { A } x; enum f { B } *p = &x; int main(void) { return 0; }
-the test says no to t.c¦int main(void) { register int a[2] = { 1 }; return a[0]; }
-the test says no to t.c¦int main(void) { int i = 1; i += (i = 1, 2); return i; }
-t.c:1: not in the subset: type 10¦typedef void V; int f(V) { return 0; } int main(void) { return 0; }
-t.c:1: not in the subset: type 19¦struct s { int a[2]; } x, y; int main(void) { (x = y).a[0]; return 0; }
-t.c:1: not in the subset: type 24¦struct s { int a[2]; } x, y; int main(void) { *(x = y).a; return 0; }
-t.c:1: not in the subset: type 25¦struct s { int a[2]; } x, y; int main(void) { !(x = y).a; return 0; }
-the test says no to t.c¦struct s { int a[2]; } x, y; int main(void) { ((x = y).a); return sizeof (x = y).a == 0; }
-the test says no to t.c¦struct s { int a[2]; } x, y; int main(void) { 0, (x = y).a; (void)(x = y).a; return 0; }
-";
-
-// The status that comes with a line.
-fn status_in(line: &str) -> u8 {
-    if line.starts_with("the test") {
-        6
-    } else if line.contains("not in the subset") {
-        4
-    } else {
-        5
-    }
-}
-
 // What a run comes to that puts this line and writes nothing.
 fn refused(alloc: Global, line: &str, file: &[u8]) -> Result<Outcome, AllocError> {
-    let status = status_in(line);
+    let status = if line.starts_with("the test") { 6 } else { 5 };
     let put = format!(in alloc; "creduce: {line}\n")?.into_bytes();
     let after = file.to_vec(alloc)?;
     Ok((status, put, Some(after), None, None))
@@ -126,31 +88,13 @@ fn a_statement_is_taken_where_it_is_defined_and_within_the_profile(
     Ok(())
 }
 
-fn expect_files(
-    rt: &(impl Abort + Threads + Sync),
-    alloc: Global,
-    rows: &str,
-) -> Result<(), AllocError> {
-    for row in rows.lines() {
-        let (line, text) = row.split_once('¦').unwrap_or(("", ""));
-        expect_line(rt, alloc, line, text)?;
-    }
-    Ok(())
-}
-
 #[test]
 fn a_file_is_taken_where_its_run_is_defined_and_within_the_profile(
     rt: HostRuntime,
 ) -> Result<(), AllocError> {
-    expect_files(&rt, rt.alloc(), FILES)
-}
-
-#[test]
-fn a_file_is_taken_up_to_the_limits_of_output_and_cells(rt: HostRuntime) -> Result<(), AllocError> {
-    expect_files(&rt, rt.alloc(), LIMITS)
-}
-
-#[test]
-fn the_known_limits_are_as_they_are_listed(rt: HostRuntime) -> Result<(), AllocError> {
-    expect_files(&rt, rt.alloc(), KNOWN)
+    for row in FILES.lines() {
+        let (line, text) = row.split_once('¦').unwrap_or(("", ""));
+        expect_line(&rt, rt.alloc(), line, text)?;
+    }
+    Ok(())
 }

@@ -124,8 +124,7 @@ copy same
 log l 13 5 1362 26␊l 13 7 1131 29␊l 14 0 1121 31␊l 14 1 992 33␊l 14 3 747 36␊l 14 6 711 40␊l 14 6 672 41␊l 14 9 636 45␊l 14 2 499 70␊l 14 4 442 73␊end fixed 442 103␊
 ";
 
-/// Calls that fail.
-pub(crate) const FAULTS: &str = "\
+const FAULTS: &str = "\
 what the read fails
 passes l
 workers 1
@@ -216,7 +215,7 @@ output ∅
 
 /// The judge awaits these calls, in this order, by the test of the path `w.sh` and under the name `abc.c`. A chunk of four lines or
 /// more takes one of main's braces along, which leaves no unit to ask about, and of those of two lines only the one in the middle doesn't.
-pub(crate) const JUDGED: &str = "\
+const JUDGED: &str = "\
 what yes to two variants, asked in the order of positions under the file's own name
 passes l
 workers 1
@@ -335,7 +334,7 @@ log none
 
 /// Generated programs, of which nothing is written. The size of this one is its 185 bytes, 8 for each of its 58 tokens, and
 /// their weights, which are 45 together.
-pub(crate) const MADE: &str = "\
+const MADE: &str = "\
 what a generated program without this text
 passes l
 workers 1
@@ -465,7 +464,7 @@ log end fault 167 15␊
 ";
 
 /// The words of a case: its options, and behind them what it tells of words.
-pub(crate) fn words_of(alloc: Global, case: &Case) -> Result<Vec<String>, AllocError> {
+fn words_of(alloc: Global, case: &Case) -> Result<Vec<String>, AllocError> {
     let all = format!(in alloc;
         "--workers={} --window={} --passes={} {}",
         case.told("workers"),
@@ -477,7 +476,7 @@ pub(crate) fn words_of(alloc: Global, case: &Case) -> Result<Vec<String>, AllocE
 }
 
 /// The files of a case: one of its name. Where a failing write is late, it puts its file all the same.
-pub(crate) fn files_of(alloc: Global, case: &Case) -> Result<MemFiles, AllocError> {
+fn files_of(alloc: Global, case: &Case) -> Result<MemFiles, AllocError> {
     let failing = case.numbers(alloc, "failing")?;
     let pairs = one_file(alloc, case.told("name"), case.before(alloc)?)?;
     Ok(match case.told("late") {
@@ -486,8 +485,7 @@ pub(crate) fn files_of(alloc: Global, case: &Case) -> Result<MemFiles, AllocErro
     })
 }
 
-/// The sink of a case.
-pub(crate) fn sink_of(alloc: Global, case: &Case) -> Result<MemSink, AllocError> {
+fn sink_of(alloc: Global, case: &Case) -> Result<MemSink, AllocError> {
     let failing = case.numbers(alloc, "mute")?;
     let kept = case.told("keeps").parse().unwrap_or(0);
     Ok(MemSink::part(alloc, failing, kept))
@@ -508,12 +506,8 @@ fn holds(
     }
 }
 
-/// Whether the files are those that the case tells.
-pub(crate) fn files_hold(
-    alloc: Global,
-    files: &mut MemFiles,
-    case: &Case,
-) -> Result<bool, AllocError> {
+// Whether the files are those that the case tells.
+fn files_hold(alloc: Global, files: &mut MemFiles, case: &Case) -> Result<bool, AllocError> {
     Ok(
         holds(alloc, files, case, "", "after")?
             && holds(alloc, files, case, ".orig", "copy")?
@@ -550,8 +544,8 @@ fn expect_run<J: Judge + Send>(
     Ok(())
 }
 
-/// A bench of the case's judge and three others, who fail if they are asked at all.
-pub(crate) fn rehearsed_bench(alloc: Global, case: &Case) -> Result<Bench<Rehearsed>, AllocError> {
+// A bench of the case's judge and three others, who fail if they are asked at all.
+fn rehearsed_bench(alloc: Global, case: &Case) -> Result<Bench<Rehearsed>, AllocError> {
     let first = Rehearsed::new("w.sh", "abc.c", case.calls(alloc)?);
     let mut judges = Vec::new(alloc);
     judges.push(first)?;

@@ -116,8 +116,6 @@ fn answer_of(word: &str) -> Answer {
         Answer::Yes
     } else if word == "no" {
         Answer::No
-    } else if word == "starved" {
-        Answer::NoMemory
     } else {
         Answer::Failed
     }

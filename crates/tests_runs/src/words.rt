@@ -1,43 +1,194 @@
-// Words that start a run, and words that don't. What is wanted was found by hand from the rules of the command line.
-use crate::outcomes::{status_of, words_in};
+// The command line. What is wanted was found by hand from its rules.
+use crate::outcomes::status_of;
 use crate::rehearsed::silent_bench;
-use cr_outside::{MemFiles, MemSink};
+use cr_main_words::{Settings, Source, WordFault, words};
+use cr_outside::{MemFiles, MemSink, Test};
 use std::alloc::{AllocError, Global};
+use std::process::Abort;
 use std::thread::Threads;
 
-/// Whether lists of words, which stand behind it, give settings where there is one worker: then the run goes on
+/// What lists of words give where there are 32 workers, and behind it the words, each behind a bar: workers, window,
+/// limit, steps, passes, the test and the file, or `no`.
+const LISTS: &str = "\
+4 256 none 1000000 ltbusciprf has f.c|has:b|f.c
+4 256 5 1000000 ltbusciprf has f.c|--limit=5|has:b|f.c
+4 256 5 1000000 ltbusciprf has f.c|--limit|5|has:b|f.c
+4 256 5 1000000 ltbusciprf has f.c|has:b|--limit|5|f.c
+4 256 5 1000000 ltbusciprf has f.c|has:b|f.c|--limit=5
+4 256 0 1000000 ltbusciprf has f.c|--limit|0|has:b|f.c
+4 256 9 1000000 ltbusciprf has f.c|--limit=0000000000000000009|has:b|f.c
+4 256 9223372036854775807 1000000 ltbusciprf has f.c|--limit=9223372036854775807|has:b|f.c
+4 8 none 1000000 ltbusciprf has f.c|--window=8|--|has:b|f.c
+4 1 none 1000000 ltbusciprf has f.c|--window|1|has:b|f.c
+4 4096 none 1000000 ltbusciprf has f.c|has:b|f.c|--window|4096
+1 256 none 1000000 ltbusciprf has f.c|--workers=1|has:b|f.c
+32 256 none 1000000 ltbusciprf has f.c|--workers|32|has:b|f.c
+4 256 none 1 ltbusciprf has f.c|--steps|1|has:b|f.c
+4 256 none 100000000 ltbusciprf has f.c|--steps=100000000|has:b|f.c
+4 256 none 1000000 l has f.c|--passes|l|has:b|f.c
+4 256 none 1000000 tsf has f.c|--passes=fst|has:b|f.c
+4 256 none 1000000 ltbusciprf has f.c|--passes|frpicsubtl|has:b|f.c
+2 16 7 99 bc t.sh f.c|--steps|99|t.sh|--workers=2|--passes|cb|f.c|--limit|7|--window=16
+4 256 none 1000000 ltbusciprf has f.c|has:b|--|f.c
+4 256 none 1000000 ltbusciprf has -x.c|--|has:b|-x.c
+4 256 none 1000000 ltbusciprf has --limit=4|has:b|--|--limit=4
+4 256 none 1000000 ltbusciprf has -|has:b|-
+4 256 none 1000000 ltbusciprf - f.c|-|f.c
+4 256 none 1000000 ltbusciprf -- f.c|--|--|f.c
+4 256 none 1000000 ltbusciprf has d/...c|has:b|d/...c
+4 256 none 1000000 ltbusciprf has /gen:1:1|has:b|/gen:1:1
+4 256 none 1000000 ltbusciprf has gen 7 40|has:b|gen:7:40
+4 256 none 1000000 ltbusciprf has gen 2147483647 10000|has:b|gen:2147483647:10000
+4 256 none 1000000 ltbusciprf has gen 0 1|has:b|gen:000:01
+no
+no|has:b
+no|--limit=5
+no|has:b|f.c|g.c
+no|has:b|f.c|--|g.c
+no|--passes|f|t|w.sh|w.c
+no||f.c
+no|has:|f.c
+no|has:b|
+no|has:b|d/
+no|has:b|d/..
+no|has:b|gen:7:0
+no|has:b|gen:7:10001
+no|has:b|gen:2147483648:1
+no|has:b|gen:7
+no|has:b|gen:1:1:1
+no|--|has:b|gen:
+no|--limit|1|--limit|2|has:b|f.c
+no|--limit=1|has:b|f.c|--limit|1
+no|has:b|f.c|--limit
+no|--limit|-|has:b|f.c
+no|--limit|--|has:b|f.c
+no|--limit=-5|has:b|f.c
+no|--limit=|has:b|f.c
+no|--limit=+5|has:b|f.c
+no|--limit=5x|has:b|f.c
+no|--limit=00000000000000000005|has:b|f.c
+no|--limit=9223372036854775808|has:b|f.c
+no|--limits=5|has:b|f.c
+no|-limit=5|has:b|f.c
+no|--workers|33|has:b|f.c
+no|--workers|0|has:b|f.c
+no|--window|0|has:b|f.c
+no|--window|4097|has:b|f.c
+no|--steps|0|has:b|f.c
+no|--steps|100000001|has:b|f.c
+no|--passes|ll|has:b|f.c
+no|--passes=|has:b|f.c
+no|--passes|lx|has:b|f.c
+no|--help|has:b|f.c
+no|has:b|-x.c
+";
+
+/// Lists of words, each word behind a bar, and whether they give settings where there is one worker: then the run goes on
 /// to look for the file, which isn't there.
 const STARTS: &str = "\
-yes --limit 5 has:b f.c
-yes --workers=1 --window=256 --steps=1000000 has:b f.c
-no --workers 2 has:b f.c
-yes --window=8 -- has:b f.c
-yes --steps 7 has:b f.c
-yes --steps=1 has:b f.c
-yes --steps 100000000 has:b f.c
-no --steps 0 has:b f.c
-no --steps=100000001 has:b f.c
-yes --passes l has:b f.c
-yes --passes=tl has:b f.c
-yes --passes t has:b f.c
-yes --passes ltb has:b f.c
-yes --passes ltbu has:b f.c
-yes --passes f has:b f.c
-yes --passes sclf has:b f.c
-yes --passes rl has:b f.c
-yes --passes li has:b f.c
-yes --passes ip has:b f.c
-yes --passes pl has:b f.c
-no has:b
+yes|--limit|5|has:b|f.c
+yes|--workers=1|--window=256|--steps=1000000|has:b|f.c
+no|--workers|2|has:b|f.c
+yes|--window=8|--|has:b|f.c
+yes|--steps|7|has:b|f.c
+yes|--steps=1|has:b|f.c
+yes|--steps|100000000|has:b|f.c
+no|--steps|0|has:b|f.c
+no|--steps=100000001|has:b|f.c
+yes|--passes|l|has:b|f.c
+yes|--passes=tl|has:b|f.c
+yes|--passes|t|has:b|f.c
+yes|--passes|ltb|has:b|f.c
+yes|--passes|ltbu|has:b|f.c
+yes|--passes|f|has:b|f.c
+yes|--passes|sclf|has:b|f.c
+yes|--passes|rl|has:b|f.c
+yes|--passes|li|has:b|f.c
+yes|--passes|ip|has:b|f.c
+yes|--passes|pl|has:b|f.c
+no|has:b
 ";
+
+fn list_of(alloc: Global, line: &str) -> Result<Vec<String>, AllocError> {
+    let mut list = Vec::new(alloc);
+    for word in line.split('|').skip(1) {
+        list.push(String::from_str(alloc, word)?)?;
+    }
+    Ok(list)
+}
+
+fn tell_numbers(told: &mut String, found: &Settings) -> Result<(), AllocError> {
+    write!(told, "{} {} ", found.workers, found.window)?;
+    match found.limit {
+        Some(limit) => write!(told, "{limit}")?,
+        None => write!(told, "none")?,
+    }
+    write!(told, " {} ", found.steps)
+}
+
+fn tell_passes(told: &mut String, found: &Settings) -> Result<(), AllocError> {
+    for (letter, on) in "ltbusciprf".chars().zip(found.enabled.iter()) {
+        if *on {
+            told.push(letter)?;
+        }
+    }
+    Ok(())
+}
+
+fn tell_test(told: &mut String, test: &Test) -> Result<(), AllocError> {
+    match test {
+        Test::Has(_) => write!(told, " has "),
+        Test::Program(path) => write!(told, " {} ", path.as_str()),
+    }
+}
+
+fn tell_source(told: &mut String, source: &Source) -> Result<(), AllocError> {
+    match source {
+        Source::Named(name) => write!(told, "{}", name.as_str()),
+        Source::Made(number, items) => write!(told, "gen {number} {items}"),
+    }
+}
+
+fn told(alloc: Global, found: &Settings) -> Result<String, AllocError> {
+    let mut told = String::new(alloc);
+    tell_numbers(&mut told, found)?;
+    tell_passes(&mut told, found)?;
+    tell_test(&mut told, &found.test)?;
+    tell_source(&mut told, &found.source)?;
+    Ok(told)
+}
+
+fn answer(alloc: Global, line: &str) -> Result<String, AllocError> {
+    let list = list_of(alloc, line)?;
+    match words(alloc, &list, 32) {
+        Ok(found) => told(alloc, &found),
+        Err(WordFault::Usage) => String::from_str(alloc, "no"),
+        Err(WordFault::NoMemory) => String::from_str(alloc, "no memory"),
+    }
+}
+
+fn expect_answer(rt: &impl Abort, alloc: Global, line: &str) -> Result<(), AllocError> {
+    let found = answer(alloc, line)?;
+    let wanted = line.split('|').next().unwrap_or("");
+    assert!(rt; found.as_str() == wanted, "{line}");
+    Ok(())
+}
+
+#[test]
+fn words_give_their_settings_or_none(rt: HostRuntime) -> Result<(), AllocError> {
+    for line in LISTS.lines() {
+        expect_answer(&rt, rt.alloc(), line)?;
+    }
+    Ok(())
+}
 
 // The status of a run by one worker, who isn't asked, where there are no files.
 fn fileless_status(
     rt: &(impl Threads + Sync),
     alloc: Global,
-    words: &str,
+    line: &str,
 ) -> Result<u8, AllocError> {
-    let list = words_in(alloc, words)?;
+    let list = list_of(alloc, line)?;
     let mut bench = silent_bench(alloc, 1)?;
     let mut files = MemFiles::new(Vec::new(alloc), Vec::new(alloc));
     let mut out = MemSink::new(alloc, Vec::new(alloc));
@@ -47,25 +198,9 @@ fn fileless_status(
 #[test]
 fn words_without_settings_start_no_run(rt: HostRuntime) -> Result<(), AllocError> {
     for line in STARTS.lines() {
-        let (answer, words) = line.split_once(' ').unwrap_or(("", ""));
-        let status = fileless_status(&rt, rt.alloc(), words)?;
-        let wanted = if answer == "yes" { 3 } else { 2 };
+        let status = fileless_status(&rt, rt.alloc(), line)?;
+        let wanted = if line.starts_with("yes") { 3 } else { 2 };
         assert!(rt; status == wanted, "{line}: {status}");
     }
-    Ok(())
-}
-
-#[test]
-fn no_words_come_to_their_status_also_where_nothing_can_be_put(
-    rt: HostRuntime,
-) -> Result<(), AllocError> {
-    let alloc = rt.alloc();
-    let mut bench = silent_bench(alloc, 1)?;
-    let mut files = MemFiles::new(Vec::new(alloc), Vec::new(alloc));
-    let mut failing = Vec::new(alloc);
-    failing.push(1)?;
-    let mut out = MemSink::new(alloc, failing);
-    let status = status_of(&rt, alloc, &[], &mut files, &mut bench, &mut out);
-    assert!(rt; status == 2 && out.bytes().is_empty());
     Ok(())
 }
