@@ -95,12 +95,7 @@ pub fn run<S: Stop>(alloc: Global, table: &Table, stop: &mut S) -> Run
 }
 
 /// Runs a program as `run` does, while a watch sees where its nodes begin and end. The watch comes back with the outcome.
-pub fn run_seen<S: Stop, W: Watch>(
-    alloc: Global,
-    table: &Table,
-    stop: &mut S,
-    watch: W,
-) -> (Run, W)
+pub fn run_seen<S: Stop, W: Watch>(alloc: Global, table: &Table, stop: &mut S, watch: W) -> (Run, W)
     requires { S.raised stop.old ≡ false }
     ensures meant { has_come result.0 ≡ true → Means (program_of table.now) result.0 }
     ensures only { (outcome : SpecRun) → Means (program_of table.now) outcome → has_come result.0 ≡ true → outcome ≡ result.0 }

@@ -39,9 +39,9 @@ loop-until-preserved g c =
       continues = λ waiting h marks n.
           let now : List Mark → Type 0 = g.N.Nodes.has_seen c.turn.new.nodes in
           continues_turned g.N.Nodes.shows (g.N.Nodes.has_seen c.loop-until.nodes) now
-    (g.N.Nodes.program c.args.nodes.now) (g.N.Nodes.program c.loop-until.nodes) (record { place = place_of c.args.from; waiting = waiting; world = (g.N.Nodes.world c.args.nodes.now, marks) }) c.loop-until.point c.in-Goes.next c.loop-until.stack c.turn.new.stack
-    (g.N.Nodes.world c.loop-until.nodes) (g.N.Nodes.world c.turn.new.nodes) (Ok c.in_ok-next.field-0) (c.loop-until.invariant.continues waiting h marks n) c.loop-until.invariant.program is
-    (λ w i more m. c.in_ok-next.ensures.turns w i more m);
+          (g.N.Nodes.program c.args.nodes.now) (g.N.Nodes.program c.loop-until.nodes) (record { place = place_of c.args.from; waiting = waiting; world = (g.N.Nodes.world c.args.nodes.now, marks) }) c.loop-until.point c.in-Goes.next c.loop-until.stack c.turn.new.stack
+          (g.N.Nodes.world c.loop-until.nodes) (g.N.Nodes.world c.turn.new.nodes) (Ok c.in_ok-next.field-0) (c.loop-until.invariant.continues waiting h marks n) c.loop-until.invariant.program is
+          (λ w i more m. c.in_ok-next.ensures.turns w i more m);
       program = c.turn.ensures.program ∙ c.loop-until.invariant.program;
       fewer = let k = step.kept in omega (arith, k, c.loop-until.invariant.fewer);
       within = still_ahead c.args.until (g.N.Nodes.world c.loop-until.nodes).steps (g.N.Nodes.world c.turn.new.nodes).steps c.loop-until.invariant.within (λ e. c.if-is_at.ensures (e ∙ ap (λ k. Some k) (sym c.steps-steps.ensures))) step.few;
