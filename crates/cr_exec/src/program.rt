@@ -103,7 +103,7 @@ pub fn run_seen<S: Stop, W: Watch>(alloc: Global, table: &Table, stop: &mut S, w
     ensures held { S.held stop.new ≡ S.held stop.old }
     ensures looked { Looked result.0 table.now.limits.steps (S.looks stop.old) (S.looks stop.new) }
     // It has seen the marks of this run, where it knew of none before.
-    ensures seen { W.knows watch [] → has_come result.0 ≡ true → IsWatched (W.knows result.1) (program_of table.now) result.0 }
+    ensures seen { W.knows watch (program_of table.now) [] → has_come result.0 ≡ true → IsWatched (W.knows result.1 (program_of table.now)) (program_of table.now) result.0 }
 {
     let Some(root) = root_of(table) else {
         return (Run::NoMemory, watch);

@@ -5,7 +5,7 @@ ghost use Rattle.cr_eval.specs.Table.{program_of};
 ghost use Rattle.cr_exec_world.specs.Worlds.{world_of};
 ghost use Rattle.cr_meaning.specs.Events.{Event};
 ghost use Rattle.cr_meaning.specs.Nodes.{events_of};
-ghost use Rattle.cr_meaning.specs.World.{Answer};
+ghost use Rattle.cr_meaning.specs.World.{Program as SpecProgram, Answer};
 ghost use Rattle.cr_meaning_seen.specs.Marks.{Mark, began, left};
 ghost use Rattle.cr_exec_turns.specs.Held.{shows};
 
@@ -18,17 +18,18 @@ use std::alloc::Global;
 
 /// Sees where nodes begin and end in a run, those of a called function's body within its call.
 pub trait Watch {
-    /// What the watch knows of the nodes that have begun and ended so far, in turn.
-    ghost knows: { Self → List Mark → Type 0 };
+    /// What the watch knows of the nodes that have begun and ended so far in the run of a program, in turn.
+    ghost knows: { Self → SpecProgram → List Mark → Type 0 };
 
     /// A node is reached.
     fn begin(&mut self, node: u32) -> Result<(), NoMemory>
-        ensures { (marks : List Mark) → knows self.old marks → OnOk result (knows self.new (marks ++ began node ∷ [])) };
+        ensures { (p : SpecProgram) (marks : List Mark) → knows self.old p marks → OnOk result (knows self.new p (marks ++ began node ∷ [])) };
 
     /// A node has come to its answer, with what its evaluation read and wrote: nothing, where it is no expression. A node that `exit` or
     /// `abort` cuts off has no end.
     fn end(&mut self, node: u32, foot: &Foot) -> Result<(), NoMemory>
-        ensures { (marks : List Mark) (events : List Event) → knows self.old marks → IsFootOf foot.now events → OnOk result (knows self.new (marks ++ left node events ∷ [])) };
+        ensures { (p : SpecProgram) (marks : List Mark) (events : List Event) → knows self.old p marks → IsFootOf foot.now events
+            → OnOk result (knows self.new p (marks ++ left node events ∷ [])) };
 }
 
 /// A program that runs, and what sees its nodes.
@@ -40,7 +41,8 @@ pub(crate) struct Watched<'a, W: Watch> {
 
 /// The watch sees a node's end with the footprint of its answer.
 fn end<W: Watch>(alloc: Global, watch: &mut W, node: u32, held: &Held) -> Result<(), NoMemory>
-    ensures { (marks : List Mark) (answer : Answer) → W.knows watch.old marks → shows held.now answer → OnOk result (W.knows watch.new (marks ++ left node (events_of answer) ∷ [])) }
+    ensures { (p : SpecProgram) (marks : List Mark) (answer : Answer) → W.knows watch.old p marks → shows held.now answer
+        → OnOk result (W.knows watch.new p (marks ++ left node (events_of answer) ∷ [])) }
 {
     match held {
         Held::Part(part) => watch.end(node, &part.foot),
@@ -60,7 +62,7 @@ impl<'a, W: Watch> Nodes for Watched<'a, W> {
 
     ghost shows = { shows };
 
-    ghost has_seen = { λ watched marks. W.knows watched.watch marks };
+    ghost has_seen = { λ watched marks. W.knows watched.watch (program_of watched.running.table.now) marks };
 
     fn steps(&self) -> u64 {
         self.running.steps()
