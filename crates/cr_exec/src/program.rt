@@ -94,16 +94,18 @@ pub fn run<S: Stop>(alloc: Global, table: &Table, stop: &mut S) -> Run
     run_from(table.limits, running.world, outcome)
 }
 
-/// Runs a program as `run` does, while a watch sees where its nodes begin and end. The watch comes back with the outcome.
+/// Runs a program as `run` does, while a watch, which knows of none yet, sees where its nodes begin and end. It comes back with the
+/// outcome.
 pub fn run_seen<S: Stop, W: Watch>(alloc: Global, table: &Table, stop: &mut S, watch: W) -> (Run, W)
-    requires { S.raised stop.old ≡ false }
+    requires unstopped { S.raised stop.old ≡ false }
+    requires fresh { W.knows watch (program_of table.now) [] }
     ensures meant { has_come result.0 ≡ true → Means (program_of table.now) result.0 }
     ensures only { (outcome : SpecRun) → Means (program_of table.now) outcome → has_come result.0 ≡ true → outcome ≡ result.0 }
     ensures stopped { result.0 ≡ Run.Stopped → S.raised stop.new ≡ true }
     ensures held { S.held stop.new ≡ S.held stop.old }
     ensures looked { Looked result.0 table.now.limits.steps (S.looks stop.old) (S.looks stop.new) }
-    // It has seen the marks of this run, where it knew of none before.
-    ensures seen { W.knows watch (program_of table.now) [] → has_come result.0 ≡ true → IsWatched (W.knows result.1 (program_of table.now)) (program_of table.now) result.0 }
+    // It has seen the marks of this run.
+    ensures seen { has_come result.0 ≡ true → IsWatched (W.knows result.1 (program_of table.now)) (program_of table.now) result.0 }
 {
     let Some(root) = root_of(table) else {
         return (Run::NoMemory, watch);
