@@ -18,3 +18,4 @@ pub mod Bound
 pub mod Begun
 pub mod Calls
 pub mod Journals
+pub mod Others

@@ -1,5 +1,5 @@
 // What stands before a reduction.
-ghost use Rattle.std.specs.Prelude.{◌≡◌, IfErr, IfOk, false, length};
+ghost use Rattle.std.specs.Prelude.{◌≡◌, IfErr, IfOk, drop, false, length};
 ghost use Rattle.cr_cursor.specs.TokenLaw.{IsTokenized};
 ghost use Rattle.cr_reduce.specs.Bench.{judging, keys_of, says_of};
 ghost use Rattle.cr_reduce.specs.Sizes.{HasSize};
@@ -33,6 +33,7 @@ pub fn begin<P: Passes, L: Law, Q: Question, F: Files, J: Judge, O: Sink>(
         (outside F.Outside F.Files.own files.old O.Sink out.old) (outside F.Outside F.Files.own files.new O.Sink out.new) (judging J.Judge bench.old) (judging J.Judge bench.new) size) }
     ensures stopped { IfErr result (λ status. StopsEarly (task_for P.Passes L.Law Q.Question task.now (says_of J.Judge bench.old)) bytes.now.items
         (outside F.Outside F.Files.own files.old O.Sink out.old) (outside F.Outside F.Files.own files.new O.Sink out.new) (judging J.Judge bench.old) (judging J.Judge bench.new) status) }
+    ensures others { drop 1 bench.new.judges ≡ drop 1 bench.old.judges }
     ensures silent { Q.asks task.now.question.now ≡ false → bench.new.judges ≡ bench.old.judges }
     ensures keys { keys_of J.Judge bench.new ≡ keys_of J.Judge bench.old }
     ensures says { says_of J.Judge bench.new ≡ says_of J.Judge bench.old }

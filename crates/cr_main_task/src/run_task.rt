@@ -1,5 +1,5 @@
 // The steps of a run behind the words, for any passes, law and question.
-ghost use Rattle.std.specs.Prelude.{◌≡◌, ◌<◌, ◌≤◌, [], false, length};
+ghost use Rattle.std.specs.Prelude.{◌≡◌, ◌<◌, ◌≤◌, [], drop, false, length};
 ghost use Rattle.cr_outside.specs.Story.{files_told};
 ghost use Rattle.cr_reduce.specs.Bench.{judging, keys_of, says_of};
 ghost use Rattle.cr_main_task.specs.Outside.{outside};
@@ -44,6 +44,8 @@ where
     ensures runs { RunsTask (task_for P.Passes L.Law Q.Question task.now (says_of J.Judge bench.old)) (stored (files_told (F.story files.old)) task.now.name.now)
         (outside F.Outside F.Files.own files.old O.Sink out.old) (outside F.Outside F.Files.own files.new O.Sink out.new)
         (judging J.Judge bench.old) (judging J.Judge bench.new) result }
+    // Workers that the task doesn't ask for do nothing.
+    ensures others { drop task.now.workers bench.new.judges ≡ drop task.now.workers bench.old.judges }
     ensures silent { Q.asks task.now.question.now ≡ false → bench.new.judges ≡ bench.old.judges }
     ensures keys { keys_of J.Judge bench.new ≡ keys_of J.Judge bench.old }
 {
@@ -81,6 +83,8 @@ where
     ensures runs { RunsTask (task_for P.Passes L.Law Q.Question task.now (says_of J.Judge bench.old)) (given bytes.items)
         (outside F.Outside F.Files.own files.old O.Sink out.old) (outside F.Outside F.Files.own files.new O.Sink out.new)
         (judging J.Judge bench.old) (judging J.Judge bench.new) result }
+    // Workers that the task doesn't ask for do nothing.
+    ensures others { drop task.now.workers bench.new.judges ≡ drop task.now.workers bench.old.judges }
     ensures silent { Q.asks task.now.question.now ≡ false → bench.new.judges ≡ bench.old.judges }
     ensures keys { keys_of J.Judge bench.new ≡ keys_of J.Judge bench.old }
 {
@@ -120,6 +124,8 @@ where
     ensures runs { RunsTask (task_for P.Passes L.Law Q.Question task.now (says_of J.Judge bench.old)) (given bytes.items)
         (outside F.Outside F.Files.own files.old O.Sink out.old) (outside F.Outside F.Files.own files.new O.Sink out.new)
         (judging J.Judge bench.old) (judging J.Judge bench.new) result }
+    // Workers that the task doesn't ask for do nothing.
+    ensures others { drop task.now.workers bench.new.judges ≡ drop task.now.workers bench.old.judges }
     ensures silent { Q.asks task.now.question.now ≡ false → bench.new.judges ≡ bench.old.judges }
     ensures keys { keys_of J.Judge bench.new ≡ keys_of J.Judge bench.old }
 {

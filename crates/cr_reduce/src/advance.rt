@@ -1,5 +1,5 @@
 // The steps of the walk, up to its end.
-ghost use Rattle.std.specs.Prelude.{◌≡◌, ◌≢◌, ◌<◌, ◌≤◌, ℕ, List, IsSome, Some, None, length, false};
+ghost use Rattle.std.specs.Prelude.{◌≡◌, ◌≢◌, ◌<◌, ◌≤◌, ℕ, List, IsSome, Some, None, drop, length, false};
 ghost use Rattle.std.specs.Bool.{OnTrue};
 ghost use Rattle.cr_reduce.specs.Keeping.{Grows};
 ghost use Rattle.cr_reduce.specs.declared.end.Accepted.{Accepted as Row};
@@ -53,6 +53,7 @@ where
     ensures few { AsksFew plan.now.window (judging J.Judge bench.old) (judging J.Judge bench.new)
         (state_of (P.offer passes.now) walk.old) (state_of (P.offer passes.now) walk.new) (calls_beside_step plan.now.window result) }
     ensures keys { keys_of J.Judge bench.new ≡ keys_of J.Judge bench.old }
+    ensures others { drop plan.now.workers bench.new.judges ≡ drop plan.now.workers bench.old.judges }
     ensures silent { Q.asks question.now ≡ false → bench.new.judges ≡ bench.old.judges }
     ensures goes_on { GoesOn (judging J.Judge bench.old) (judging J.Judge bench.new) }
     ensures made { AreMade (searching P.Passes passes.now L.Law law.now Q.Question question.now name.now J.Judge bench.old)
@@ -112,6 +113,7 @@ where
     ensures few { AsksFew plan.now.window (judging J.Judge bench.old) (judging J.Judge bench.new)
         (state_of (P.offer passes.now) walk.old) (state_of (P.offer passes.now) walk.new) (calls_beside plan.now.window result) }
     ensures keys { keys_of J.Judge bench.new ≡ keys_of J.Judge bench.old }
+    ensures others { drop plan.now.workers bench.new.judges ≡ drop plan.now.workers bench.old.judges }
     ensures silent { Q.asks question.now ≡ false → bench.new.judges ≡ bench.old.judges }
     ensures made { AreMade (searching P.Passes passes.now L.Law law.now Q.Question question.now name.now J.Judge bench.old)
         (judging J.Judge bench.old) (judging J.Judge bench.new) bench.new.kept }

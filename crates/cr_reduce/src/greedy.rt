@@ -1,5 +1,5 @@
 // The reduction.
-ghost use Rattle.std.specs.Prelude.{◌≡◌, ◌≢◌, ◌<◌, ◌≤◌, ℕ, length, IfErr, IfOk, false};
+ghost use Rattle.std.specs.Prelude.{◌≡◌, ◌≢◌, ◌<◌, ◌≤◌, ℕ, drop, length, IfErr, IfOk, false};
 ghost use Rattle.cr_reduce.specs.Bench.{AsksAtMost, GoesOn, judging, keys_of};
 ghost use Rattle.cr_reduce.specs.Bound.{HasLevels, enough_turns};
 ghost use Rattle.cr_reduce.specs.Ends.{end_of_walk, EndsAsTold, EndsInRun, FaultsWithCause, IsFixedAsTold, IsFixedInRun, most_calls};
@@ -72,6 +72,9 @@ where
     // With turns enough it ends for another reason.
     ensures in_time { (levels : ℕ → ℕ) (size : ℕ) → HasLevels (P.offers passes.now) levels → HasSize file.items size → Within plan.now.limit (enough_turns levels size) → result.why ≢ Why.Limit }
     ensures keys { keys_of J.Judge bench.new ≡ keys_of J.Judge bench.old }
+
+    // Workers that the plan doesn't ask for do nothing.
+    ensures others { drop plan.now.workers bench.new.judges ≡ drop plan.now.workers bench.old.judges }
 
     // A question that asks no judge leaves the judges as they were.
     ensures silent { Q.asks question.now ≡ false → bench.new.judges ≡ bench.old.judges }

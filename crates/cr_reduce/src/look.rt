@@ -1,5 +1,5 @@
 // The positions of one epoch.
-ghost use Rattle.std.specs.Prelude.{◌≡◌, ◌≢◌, ◌<◌, ◌≤◌, ◌+◌, ◌-◌, ℕ, IsSome, Some, None, false, length};
+ghost use Rattle.std.specs.Prelude.{◌≡◌, ◌≢◌, ◌<◌, ◌≤◌, ◌+◌, ◌-◌, ℕ, IsSome, Some, None, drop, false, length};
 ghost use Rattle.cr_reduce.specs.Bench.{AsksAtMost, GoesOn, judging, keys_of};
 ghost use Rattle.cr_reduce.specs.Reduction.{Within};
 ghost use Rattle.cr_reduce.specs.Search.{AreMade, AreRightBy, searching};
@@ -62,6 +62,7 @@ where
         (judging J.Judge bench.old) (judging J.Judge bench.new) (state_of (P.offer passes.now) walk.now) }
     ensures few { AsksAtMost len (judging J.Judge bench.old) (judging J.Judge bench.new) }
     ensures keys { keys_of J.Judge bench.new ≡ keys_of J.Judge bench.old }
+    ensures others { drop workers bench.new.judges ≡ drop workers bench.old.judges }
     ensures silent { Q.asks question.now ≡ false → bench.new.judges ≡ bench.old.judges }
     ensures goes_on { GoesOn (judging J.Judge bench.old) (judging J.Judge bench.new) }
     ensures made { AreMade (searching P.Passes passes.now L.Law law.now Q.Question question.now name.now J.Judge bench.old)
@@ -123,6 +124,7 @@ where
     ensures few { AsksFew plan.now.window (judging J.Judge bench.old) (judging J.Judge bench.new)
         (state_of (P.offer passes.now) walk.old) (state_of (P.offer passes.now) walk.new) (calls_beside_step plan.now.window result) }
     ensures keys { keys_of J.Judge bench.new ≡ keys_of J.Judge bench.old }
+    ensures others { drop plan.now.workers bench.new.judges ≡ drop plan.now.workers bench.old.judges }
     ensures silent { Q.asks question.now ≡ false → bench.new.judges ≡ bench.old.judges }
     ensures goes_on { GoesOn (judging J.Judge bench.old) (judging J.Judge bench.new) }
     ensures made { AreMade (searching P.Passes passes.now L.Law law.now Q.Question question.now name.now J.Judge bench.old)

@@ -1,5 +1,5 @@
 // The reduction, from where it stood, each acceptance told to a keeper.
-ghost use Rattle.std.specs.Prelude.{◌≡◌, ◌≢◌, ◌<◌, ◌≤◌, ◌^◌, ℕ, length, IfErr, IfOk, false};
+ghost use Rattle.std.specs.Prelude.{◌≡◌, ◌≢◌, ◌<◌, ◌≤◌, ◌^◌, ℕ, drop, length, IfErr, IfOk, false};
 ghost use Rattle.cr_reduce.specs.Bench.{GoesOn, judging, keys_of};
 ghost use Rattle.cr_reduce.specs.Ends.{FaultsWithCause, IsFixedAsTold, IsFixedInRun};
 ghost use Rattle.cr_reduce.specs.Keeping.{AsksFewOn, AsksOnlyBehind, BeginsFirst, EndsOnAsTold, EndsOnInRun, end_as_kept, goes_on_at};
@@ -79,6 +79,9 @@ where
     ensures kept_on { K.kept_on keeper.old keeper.new result.accepted.items }
     ensures held { K.held keeper.new ≡ K.held keeper.old }
     ensures keys { keys_of J.Judge bench.new ≡ keys_of J.Judge bench.old }
+
+    // Workers that the plan doesn't ask for do nothing.
+    ensures others { drop plan.now.workers bench.new.judges ≡ drop plan.now.workers bench.old.judges }
 
     // A question that asks no judge leaves the judges as they were.
     ensures silent { Q.asks question.now ≡ false → bench.new.judges ≡ bench.old.judges }

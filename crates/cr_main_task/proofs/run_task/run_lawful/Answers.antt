@@ -7,6 +7,7 @@ use Rattle.cr_main_task.specs.Outside.{outside}
 use Rattle.cr_main_task.specs.Run.{IsReduction, by_epochs}
 use Rattle.cr_main_task.specs.Task.{Task, task_for}
 use Rattle.cr_main_task.proofs.Begun.{nothing_yet, stopped, whole}
+use Rattle.cr_main_task.proofs.Others.{beyond}
 use Rattle.cr_main_task.proofs.Outcomes.{end_passes, end_sized}
 use Rattle.cr_main_task.proofs.run_task.run_lawful.Goals as goal
 
@@ -48,3 +49,9 @@ returns-clause-runs g c =
       cause = c.reduce-end.ensures.cause;
     })))
     c.conclude.ensures.1 c.conclude.ensures.2
+
+pub returns-in-Err-clause-others : goal.returns-in-Err-clause-others
+returns-in-Err-clause-others g c = beyond 1 c.args.task.now.workers c.begin.new.bench.judges c.args.bench.now.judges c.requires.workers.0 c.begin.ensures.others
+
+pub returns-clause-others : goal.returns-clause-others
+returns-clause-others g c = c.reduce-end.ensures.others ∙ beyond 1 c.args.task.now.workers c.begin.new.bench.judges c.args.bench.now.judges c.requires.workers.0 c.begin.ensures.others

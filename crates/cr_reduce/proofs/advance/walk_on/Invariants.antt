@@ -1,4 +1,4 @@
-use Rattle.std.proofs.Common.{◌≡◌, false}
+use Rattle.std.proofs.Common.{◌≡◌, drop, false}
 use Rattle.cr_reduce.specs.Bench.{judging, keys_of}
 use Rattle.cr_reduce.specs.Reduction.{Within}
 use Rattle.cr_reduce.specs.Search.{AreMade, searching}
@@ -13,6 +13,7 @@ invariant-loop-why g l = record {
   within : Within l.plan.limit l.walk.turns;
   few : AsksFew l.plan.window (judging g.J.Judge l.fn.bench) (judging g.J.Judge l.bench) (state_of (g.P.Passes.offer l.passes) l.fn.walk) (state_of (g.P.Passes.offer l.passes) l.walk) 0;
   keys : keys_of g.J.Judge l.bench ≡ keys_of g.J.Judge l.fn.bench;
+  others : drop l.plan.workers l.bench.judges ≡ drop l.plan.workers l.fn.bench.judges;
   silent : g.Q.Question.asks l.question ≡ false → l.bench.judges ≡ l.fn.bench.judges;
   keeps : g.K.Keeper.keeps l.keeper l.walk.accepted.items;
   kept_on : g.K.Keeper.kept_on l.fn.keeper l.keeper l.walk.accepted.items;
