@@ -1,0 +1,4 @@
+pub mod Opening
+pub mod Stacking
+pub mod Watching
+pub mod Judging

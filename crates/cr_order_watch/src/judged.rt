@@ -1,0 +1,29 @@
+// The run of a program, and whether its order is fixed.
+ghost use Rattle.std.specs.Prelude.{◌≡◌, true, false};
+ghost use Rattle.cr_eval.specs.Table.{program_of};
+ghost use Rattle.cr_exec.specs.Runs.{has_come, Looked};
+ghost use Rattle.cr_meaning.specs.Meaning.{Means};
+ghost use Rattle.cr_meaning.specs.declared.run.Run.{Run as SpecRun};
+ghost use Rattle.cr_order_watch.specs.Judged.{IsJudged};
+
+use crate::watch::OrderWatch;
+use cr_cursor::Stop;
+use cr_eval::Table;
+use cr_exec::run_seen;
+use cr_meaning::Run;
+use std::alloc::Global;
+
+/// Runs a program as `run` of `cr_exec` does, and finds the first node whose operands see one another (C11 6.5p3): the first one that
+/// ends, or that the end of the run cuts off, of several that are cut off at once the innermost.
+pub fn run_judged<S: Stop>(alloc: Global, table: &Table, stop: &mut S) -> (Run, Option<u32>)
+    requires { S.raised stop.old ≡ false }
+    ensures meant { has_come result.0 ≡ true → Means (program_of table.now) result.0 }
+    ensures only { (outcome : SpecRun) → Means (program_of table.now) outcome → has_come result.0 ≡ true → outcome ≡ result.0 }
+    ensures stopped { result.0 ≡ Run.Stopped → S.raised stop.new ≡ true }
+    ensures held { S.held stop.new ≡ S.held stop.old }
+    ensures looked { Looked result.0 table.now.limits.steps (S.looks stop.old) (S.looks stop.new) }
+    ensures judged { has_come result.0 ≡ true → IsJudged (program_of table.now) result.0 result.1 }
+{
+    let (run, watch) = run_seen(alloc, table, stop, OrderWatch::new(alloc, table));
+    (run, watch.first_loose())
+}
