@@ -1,8 +1,8 @@
 -- What the machine's outcome says of the program's meaning.
 use Rattle.std.specs.Prelude.{ℤ}
 use Rattle.cr_ints.specs.declared.kind.IntKind.{IntKind}
-use Rattle.std.proofs.Common.{◌≡◌, ℕ, ◌+◌, ◌-◌, ◌≤◌, Bool, true, false, true≢false, Option, Some, None, refl, sym, ap, ◌∙◌, subst, arith}
-use Rattle.cr_meaning.specs.Language.{gave, ended, Runs}
+use Rattle.std.proofs.Common.{◌≡◌, ℕ, ◌+◌, ◌-◌, ◌≤◌, Bool, true, false, true≢false, Option, Some, None, List, [], refl, sym, ap, ◌∙◌, subst, arith}
+use Rattle.cr_meaning.specs.Language.{gave, ended}
 use Rattle.cr_meaning.specs.World.{Program, World, Answer, Halt, stopped, exited}
 use Rattle.cr_meaning.specs.Meaning.{Means, body, operands, root_of, start_of, run_of, ended_with}
 use Rattle.cr_meaning.specs.Library.{status_of}
@@ -14,26 +14,46 @@ use Rattle.cr_meaning.specs.declared.value.Value.TheVariants as value
 use Rattle.cr_meaning.proofs.Runs.{one_meaning}
 use Rattle.cr_memory.specs.declared.value.Trap.TheVariants as trap
 use Rattle.cr_exec_slices.specs.Looks.{HasLooked, given_up}
-use Rattle.cr_exec_slices.specs.Shown.{Answering, ComesTo}
+use Rattle.cr_meaning_seen.specs.Marks.{Mark}
+use Rattle.cr_meaning_seen.proofs.Seeing.{sights_are_runs}
+use Rattle.cr_exec_slices.specs.Shown.{Answering, ComesTo, MarkedRun}
+use Rattle.cr_exec_slices.proofs.Watching.{came_seen, ended_seen}
 use Rattle.cr_exec_slices.specs.declared.machine.Outcome.{Outcome}
 use Rattle.cr_exec_slices.specs.declared.machine.Outcome.TheVariants.{Came, Halted, Stopped}
 use Rattle.cr_exec_slices.specs.declared.nodes.Halted.TheVariants as halted
 use Rattle.cr_exec_turns.specs.declared.held.Held.{Held}
 use Rattle.cr_exec_turns.specs.declared.held.Held.TheVariants as held
 use Rattle.cr_exec_turns.specs.Held.{shows}
-use Rattle.cr_exec.specs.Runs.{has_come, run_from, Looked}
+use Rattle.cr_exec.specs.Runs.{has_come, run_from, IsWatched, Looked}
 
 -- ---- the meaning
 
-module _ (p : Program) (w : World) where
-  number_comes : (kind : IntKind) (v : ℤ) → ComesTo shows p (root_of p) (start_of p.limits) (Came (held.Returned (value.Number kind v))) w → Means p (ended_with p.limits (status_of v) w)
-  number_comes kind v h = record {
-    reply = gave h.answer w;
-    runs = h.holds;
-    comes = ap (λ (a : Answer). run_of p.limits (gave a w)) h.shown;
-  }
+-- what is seen is a run, which comes to this
+pub means_so : (knows : List Mark → Type 0) (p : Program) (outcome : Run) → IsWatched knows p outcome → Means p outcome
+means_so knows p outcome h = record {
+  reply = h.reply;
+  runs = sights_are_runs p (body p (operands (root_of p) [])) (start_of p.limits) h.reply h.forest h.seen;
+  comes = h.comes;
+}
 
-  comes_so : (outcome : Outcome Held) → ComesTo shows p (root_of p) (start_of p.limits) outcome w → has_come (run_from p.limits w outcome) ≡ true → Means p (run_from p.limits w outcome)
+module _ (now : List Mark → Type 0) (p : Program) (w : World) where
+  number_comes : (kind : IntKind) (v : ℤ) → ComesTo shows now p (root_of p) (start_of p.limits) (Came (held.Returned (value.Number kind v))) w → IsWatched now p (ended_with p.limits (status_of v) w)
+  number_comes kind v h =
+      let i = came_seen now p (root_of p) (start_of p.limits) w h.answer h.holds in
+      record {
+        reply = gave h.answer w;
+        forest = i.0;
+        seen = i.1.0;
+        comes = ap (λ (a : Answer). run_of p.limits (gave a w)) h.shown;
+        known = i.1.1;
+      }
+
+  halt_comes : (halt : Halt) (outcome : Run) → run_of p.limits (ended halt) ≡ Some outcome → MarkedRun now p (root_of p) (start_of p.limits) (λ marks. ended (halt, marks)) → IsWatched now p outcome
+  halt_comes halt outcome e h =
+      let i = ended_seen now p (root_of p) (start_of p.limits) halt h in
+      record { reply = ended halt; forest = i.0; seen = i.1.0; comes = e; known = i.1.1 }
+
+  comes_so : (outcome : Outcome Held) → ComesTo shows now p (root_of p) (start_of p.limits) outcome w → has_come (run_from p.limits w outcome) ≡ true → IsWatched now p (run_from p.limits w outcome)
   comes_so (Came (held.Returned (value.Number kind v))) h e = number_comes kind v h
   comes_so (Came (held.Returned value.Nothing)) h e = absurd (true≢false (sym e))
   comes_so (Came (held.Returned (value.Pointer at))) h e = absurd (true≢false (sym e))
@@ -44,20 +64,24 @@ module _ (p : Program) (w : World) where
   comes_so (Came held.Broke) h e = absurd (true≢false (sym e))
   comes_so (Came held.Continued) h e = absurd (true≢false (sym e))
   comes_so (Came (held.Jumped label)) h e = absurd (true≢false (sym e))
-  comes_so (Halted (halted.Undefined number node)) h e = record { reply = ended (stopped (trap.Undefined number) node); runs = h; comes = refl }
-  comes_so (Halted (halted.Left number node)) h e = record { reply = ended (stopped (trap.Left number) node); runs = h; comes = refl }
-  comes_so (Halted (halted.Exited status)) h e = record { reply = ended (exited status w); runs = h; comes = refl }
+  comes_so (Halted (halted.Undefined number node)) h e = halt_comes (stopped (trap.Undefined number) node) _ refl h
+  comes_so (Halted (halted.Left number node)) h e = halt_comes (stopped (trap.Left number) node) _ refl h
+  comes_so (Halted (halted.Exited status)) h e = halt_comes (exited status w) _ refl h
   comes_so (Halted halted.NoMemory) h e = absurd (true≢false (sym e))
   comes_so Stopped h e = absurd (true≢false (sym e))
 
 -- from the world that a run begins with
-pub meant_by : (p : Program) (root : ℕ) (before after : World) (outcome : Outcome Held) (result : Run) → root ≡ root_of p → before ≡ start_of p.limits
-    → ComesTo shows p root before outcome after → result ≡ run_from p.limits after outcome → has_come result ≡ true → Means p result
-meant_by p root before after outcome result r b h e come =
-    let P : ℕ → Type 0 = λ n. ComesTo shows p n before outcome after in
-    let Q : World → Type 0 = λ w. ComesTo shows p (root_of p) w outcome after in
-    let R : Run → Type 0 = λ o. Means p o in
-    subst R (sym e) (comes_so p after outcome (subst Q b (subst P r h)) (ap has_come (sym e) ∙ come))
+pub watched_by : (now : List Mark → Type 0) (p : Program) (root : ℕ) (before after : World) (outcome : Outcome Held) (result : Run) → root ≡ root_of p → before ≡ start_of p.limits
+    → ComesTo shows now p root before outcome after → result ≡ run_from p.limits after outcome → has_come result ≡ true → IsWatched now p result
+watched_by now p root before after outcome result r b h e come =
+    let P : ℕ → Type 0 = λ n. ComesTo shows now p n before outcome after in
+    let Q : World → Type 0 = λ w. ComesTo shows now p (root_of p) w outcome after in
+    let R : Run → Type 0 = λ o. IsWatched now p o in
+    subst R (sym e) (comes_so now p after outcome (subst Q b (subst P r h)) (ap has_come (sym e) ∙ come))
+
+pub meant_by : (now : List Mark → Type 0) (p : Program) (root : ℕ) (before after : World) (outcome : Outcome Held) (result : Run) → root ≡ root_of p → before ≡ start_of p.limits
+    → ComesTo shows now p root before outcome after → result ≡ run_from p.limits after outcome → has_come result ≡ true → Means p result
+meant_by now p root before after outcome result r b h e come = means_so now p result (watched_by now p root before after outcome result r b h e come)
 
 pub only_this : (p : Program) (result : Run) → (has_come result ≡ true → Means p result) → (outcome : Run) → Means p outcome → has_come result ≡ true → outcome ≡ result
 only_this p result f outcome m e = one_meaning p outcome result m (f e)

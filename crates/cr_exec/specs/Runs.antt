@@ -1,8 +1,11 @@
 -- What a run answers.
-use Rattle.std.specs.Prelude.{◌≡◌, ℕ, ◌≤◌, Bool, true, false}
+use Rattle.std.specs.Prelude.{◌≡◌, ℕ, ◌≤◌, Bool, true, false, Some, List, []}
 use Rattle.cr_meaning.specs.Library.{status_of}
-use Rattle.cr_meaning.specs.World.{World}
-use Rattle.cr_meaning.specs.Meaning.{ended_with}
+use Rattle.cr_meaning.specs.Language.{Reply, gave, ended}
+use Rattle.cr_meaning.specs.World.{Program, World, Answer, Halt}
+use Rattle.cr_meaning.specs.Meaning.{operands, body, root_of, start_of, run_of, ended_with}
+use Rattle.cr_meaning_seen.specs.Seen.{Forest, Sees}
+use Rattle.cr_meaning_seen.specs.Marks.{Mark, marks_around, marks_until}
 use Rattle.cr_meaning.specs.declared.op.Callee.{Callee}
 use Rattle.cr_meaning.specs.declared.op.Work.{Work}
 use Rattle.cr_meaning.specs.declared.op.Work.TheVariants.{Call}
@@ -43,3 +46,16 @@ Looked (run.Ended status output steps) most before after = HasLooked before afte
 Looked run.Stopped most before after = (taken : ℕ) × ((taken ≤ most) × HasLooked before after taken 4096)
 Looked run.NoMemory most before after = Unit {0}
 Looked other most before after = (taken : ℕ) × ((taken ≤ most) × HasLooked before after taken 0)
+
+-- the marks of a whole program's run, of which this is seen: its own node isn't reached, so it has no begin, and an end where it came to its answer
+abbrev pub marks_by : Program → Reply Answer World Halt → Forest → List Mark
+marks_by p (gave answer world) forest = marks_around (operands (root_of p) []) forest answer
+marks_by p (ended halt) forest = marks_until (operands (root_of p) []) forest
+
+-- the program's run comes to this, and this is known of where its nodes began and ended, in turn
+pub record IsWatched (knows : List Mark → Type 0) (p : Program) (outcome : Run) : Type 0 where
+  pub reply : Reply Answer World Halt
+  pub forest : Forest
+  pub seen : Sees p (body p (operands (root_of p) [])) (start_of p.limits) reply forest
+  pub comes : run_of p.limits reply ≡ Some outcome
+  pub known : knows (marks_by p reply forest)

@@ -8,5 +8,7 @@
 mod nodes;
 mod program;
 mod running;
+mod watch;
 
-pub use program::run;
+pub use program::{run, run_seen};
+pub use watch::Watch;

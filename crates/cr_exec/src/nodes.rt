@@ -141,6 +141,9 @@ impl<'a> Nodes for Running<'a> {
 
     ghost shows = { shows };
 
+    // Nobody watches.
+    ghost has_seen = { λ running marks. Unit {0} };
+
     #[inline]
     fn steps(&self) -> u64 {
         self.world.steps

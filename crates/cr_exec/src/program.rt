@@ -1,12 +1,13 @@
 // The run of a whole program.
-ghost use Rattle.std.specs.Prelude.{◌≡◌, true, false, ◌-◌, IfOk, IfSome};
+ghost use Rattle.std.specs.Prelude.{◌≡◌, [], true, false, ◌-◌, IfOk, IfSome};
 ghost use Rattle.cr_eval.specs.Table.{program_of};
 ghost use Rattle.cr_meaning.specs.Meaning.{Means, start_of, root_of, ended_with};
 ghost use Rattle.cr_meaning.specs.declared.run.Run.{Run as SpecRun};
 ghost use Rattle.cr_exec_world.specs.Worlds.{world_of};
-ghost use Rattle.cr_exec.specs.Runs.{has_come, run_from, Looked};
+ghost use Rattle.cr_exec.specs.Runs.{has_come, run_from, IsWatched, Looked};
 
 use crate::running::Running;
+use crate::watch::{Watch, Watched};
 use cr_cursor::Stop;
 use cr_eval::Table;
 use cr_exec_library::status_of;
@@ -91,4 +92,34 @@ pub fn run<S: Stop>(alloc: Global, table: &Table, stop: &mut S) -> Run
     };
     let outcome = run_nodes(alloc, &mut running, root, stop);
     run_from(table.limits, running.world, outcome)
+}
+
+/// Runs a program as `run` does, while a watch, which knows of none yet, sees where its nodes begin and end. It comes back with the
+/// outcome.
+pub fn run_seen<S: Stop, W: Watch>(alloc: Global, table: &Table, stop: &mut S, watch: W) -> (Run, W)
+    requires unstopped { S.raised stop.old ≡ false }
+    requires fresh { W.knows watch (program_of table.now) [] }
+    ensures meant { has_come result.0 ≡ true → Means (program_of table.now) result.0 }
+    ensures only { (outcome : SpecRun) → Means (program_of table.now) outcome → has_come result.0 ≡ true → outcome ≡ result.0 }
+    ensures stopped { result.0 ≡ Run.Stopped → S.raised stop.new ≡ true }
+    ensures held { S.held stop.new ≡ S.held stop.old }
+    ensures looked { Looked result.0 table.now.limits.steps (S.looks stop.old) (S.looks stop.new) }
+    // It has seen the marks of this run.
+    ensures seen { has_come result.0 ≡ true → IsWatched (W.knows result.1 (program_of table.now)) (program_of table.now) result.0 }
+{
+    let Some(root) = root_of(table) else {
+        return (Run::NoMemory, watch);
+    };
+    let Ok(world) = start(alloc, table) else {
+        return (Run::NoMemory, watch);
+    };
+    let running = Running {
+        alloc,
+        table,
+        world,
+    };
+    let mut watched = Watched { running, watch };
+    let outcome = run_nodes(alloc, &mut watched, root, stop);
+    let Watched { running, watch } = watched;
+    (run_from(table.limits, running.world, outcome), watch)
 }

@@ -1,5 +1,5 @@
 -- Looks at the stop, and steps between them.
-use Rattle.std.proofs.Common.{◌≡◌, ◌≢◌, ℕ, ◌+◌, ◌-◌, ◌*◌, ◌^◌, ◌<◌, ◌≤◌, min, Option, Some, None, Bool, false, ◌||◌, ap, refl, subst, ◌∙◌, arith}
+use Rattle.std.proofs.Common.{◌≡◌, ◌≢◌, ℕ, ◌+◌, ◌-◌, ◌^◌, ◌<◌, ◌≤◌, min, Option, Some, None, Bool, false, ◌||◌, ap, refl, subst, ◌∙◌, arith}
 use Rattle.std.specs.Prelude.{IfSome, MatchOption}
 use Rattle.cr_cursor.specs.Stops.{after_look}
 use Rattle.cr_exec_slices.specs.Looks.{HasLooked, IsBetweenSlices}

@@ -6,9 +6,10 @@ use Rattle.cr_meaning.specs.Language.{went, halts, gave, ended, Runs}
 use Rattle.cr_meaning.specs.World.{Program, World, Answer, next, Halt, stopped, exited}
 use Rattle.cr_meaning.specs.Turns.{Way, Operand, Enter, Resume, Ready, absent, from_item}
 use Rattle.cr_meaning.specs.Nodes.{Act}
-use Rattle.cr_meaning.specs.Meaning.{body, operands}
+use Rattle.cr_meaning.specs.Meaning.{operands}
 use Rattle.cr_exec_stack.specs.Waiting.{Pending, Waiting}
-use Rattle.cr_exec_slices.specs.Turns.{Place, reaching, turning, State, RestOf, Leads}
+use Rattle.cr_exec_slices.specs.Turns.{Place, reaching, turning, State, End, RestOf, Leads}
+use Rattle.cr_meaning_seen.specs.Marks.{Mark, noted_body}
 use Rattle.cr_exec_slices.specs.declared.nodes.Halted.{Halted}
 use Rattle.cr_exec_slices.specs.declared.nodes.Halted.TheVariants.{Undefined, Left, Exited, NoMemory}
 use Rattle.cr_exec_slices.specs.declared.nodes.Fresh.{Fresh}
@@ -82,6 +83,11 @@ LeavesBy shows act (Err halted) answers world = Halting (λ halt. act ≡ halts 
 pub record Leaves {T : Type 0} (shows : T → Answer → Type 0) (act : Act) (result : Result (Unit {0}) Halted) (answers : List T) (world : World) : Type 0 where
   pub leaves : LeavesBy shows act result answers world
 
+-- where it isn't want of memory
+abbrev pub Moved : Result (Unit {0}) Halted → Type 0 → Type 0
+Moved (Err NoMemory) P = Unit {0}
+Moved result P = P
+
 -- steps that are left, before and after
 pub record TakesAtMostOne (before after : ℕ) : Type 0 where
   pub kept : after ≤ before
@@ -104,22 +110,35 @@ place_of (Reach node) = reaching node
 place_of Turn = turning
 
 -- a state to which a run from the start has come, as the machine keeps it
-pub record Continues {T : Type 0} (shows : T → Answer → Type 0) (p : Program) (start : State) (point : Point) (held : Waiting T) (world : World) : Type 0 where
+pub record Continues {T : Type 0} (shows : T → Answer → Type 0) (now : List Mark → Type 0) (p : Program) (start : State) (point : Point) (held : Waiting T) (world : World) : Type 0 where
   pub waiting : Waiting Answer
+  pub marks : List Mark
+  pub is_now : now marks
   pub shown : ShowsWaiting shows held waiting
-  pub leads : Leads p start (record { place = place_of point; waiting = waiting; world = world })
+  pub leads : Leads p start (record { place = place_of point; waiting = waiting; world = (world, marks) })
 
-abbrev pub TurnsTo : {T : Type 0} → (T → Answer → Type 0) → Program → State → Turned → Waiting T → World → Type 0
-TurnsTo shows p start (Goes point) held world = Continues shows p start point held world
-TurnsTo shows p start Came held world = Alone shows held.top.done (λ meant. RestOf p start (gave meant world))
+-- an end with marks that are so
+pub record MarkedRest (now : List Mark → Type 0) (p : Program) (start : State) (end : List Mark → End) : Type 0 where
+  pub marks : List Mark
+  pub is_now : now marks
+  pub rest : RestOf p start (end marks)
 
-abbrev pub TurnsBy : {T : Type 0} → (T → Answer → Type 0) → Program → State → Result Turned Halted → Waiting T → World → Type 0
-TurnsBy shows p start (Ok turned) held world = TurnsTo shows p start turned held world
-TurnsBy shows p start (Err halted) held world = Halting (λ halt. RestOf p start (ended halt)) halted world
+pub record MarkedRun (now : List Mark → Type 0) (p : Program) (node : ℕ) (start : World) (end : List Mark → End) : Type 0 where
+  pub marks : List Mark
+  pub is_now : now marks
+  pub run : Runs (noted_body p) (noted_body p (operands node [])) (start, []) (end marks)
+
+abbrev pub TurnsTo : {T : Type 0} → (T → Answer → Type 0) → (List Mark → Type 0) → Program → State → Turned → Waiting T → World → Type 0
+TurnsTo shows now p start (Goes point) held world = Continues shows now p start point held world
+TurnsTo shows now p start Came held world = Alone shows held.top.done (λ meant. MarkedRest now p start (λ marks. gave meant (world, marks)))
+
+abbrev pub TurnsBy : {T : Type 0} → (T → Answer → Type 0) → (List Mark → Type 0) → Program → State → Result Turned Halted → Waiting T → World → Type 0
+TurnsBy shows now p start (Ok turned) held world = TurnsTo shows now p start turned held world
+TurnsBy shows now p start (Err halted) held world = Halting (λ halt. MarkedRest now p start (λ marks. ended (halt, marks))) halted world
 
 -- from a state the machine comes to this result
-pub record Turns {T : Type 0} (shows : T → Answer → Type 0) (p : Program) (start : State) (result : Result Turned Halted) (held : Waiting T) (world : World) : Type 0 where
-  pub turns : TurnsBy shows p start result held world
+pub record Turns {T : Type 0} (shows : T → Answer → Type 0) (now : List Mark → Type 0) (p : Program) (start : State) (result : Result Turned Halted) (held : Waiting T) (world : World) : Type 0 where
+  pub turns : TurnsBy shows now p start result held world
 
 -- a run that has come to the last node's answer
 abbrev pub came : {T : Type 0} → Option T → Outcome T
@@ -127,9 +146,9 @@ came (Some answer) = outcome.Came answer
 came None = outcome.Halted NoMemory
 
 -- a run from a node, in which nothing waits, is the meaning's
-abbrev pub ComesTo : {T : Type 0} → (T → Answer → Type 0) → Program → ℕ → World → Outcome T → World → Type 0
-ComesTo shows p node start (outcome.Came held) world =
-    Answering shows held (λ answer. Runs (body p) (body p (operands node [])) start (gave answer world))
-ComesTo shows p node start (outcome.Halted halted) world =
-    Halting (λ halt. Runs (body p) (body p (operands node [])) start (ended halt)) halted world
-ComesTo shows p node start outcome.Stopped world = Unit {0}
+abbrev pub ComesTo : {T : Type 0} → (T → Answer → Type 0) → (List Mark → Type 0) → Program → ℕ → World → Outcome T → World → Type 0
+ComesTo shows now p node start (outcome.Came held) world =
+    Answering shows held (λ answer. MarkedRun now p node start (λ marks. gave answer (world, marks)))
+ComesTo shows now p node start (outcome.Halted halted) world =
+    Halting (λ halt. MarkedRun now p node start (λ marks. ended (halt, marks))) halted world
+ComesTo shows now p node start outcome.Stopped world = Unit {0}

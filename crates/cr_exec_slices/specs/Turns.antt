@@ -1,13 +1,14 @@
 -- The rest of a C program's run, and what the machine asks of the program's nodes.
 use Rattle.std.specs.Prelude.{ℕ, Option, Some, None, List, [], ◌∷◌, ◌++◌, map, slice_get}
-use Rattle.cr_meaning.specs.Language.{Reply, Prog, give, call}
+use Rattle.cr_meaning.specs.Language.{Reply, give, call}
 use Rattle.cr_meaning.specs.World.{Program, World, Answer, Halt, untyped}
 use Rattle.cr_meaning.specs.Turns.{Way, Ready, next_of}
 use Rattle.cr_meaning.specs.Nodes.{Act, stops}
-use Rattle.cr_meaning.specs.Meaning.{Goal, reach, operands, Meaning, body, reached, before_by, join_by}
+use Rattle.cr_meaning.specs.Meaning.{reach, operands, reached, before_by, join_by}
 use Rattle.cr_meaning.specs.declared.op.Op.{Op}
 use Rattle.cr_exec_stack.specs.Waiting.{Pending, Waiting}
 use Rattle.cr_exec_slices.specs.Rest.{Rests}
+use Rattle.cr_meaning_seen.specs.Marks.{Mark, Noting, noted_body}
 
 -- ---- where a run stands
 
@@ -19,26 +20,26 @@ pub data Place : Type 0 where
 pub record State : Type 0 where
   pub place : Place
   pub waiting : Waiting Answer
-  pub world : World
+  pub world : World × List Mark
 
 -- a program's operation is at work, and nothing waits
-abbrev pub first_state : ℕ → World → State
+abbrev pub first_state : ℕ → World × List Mark → State
 first_state node world = record { place = turning; waiting = record { top = record { node = node; done = [] }; below = [] }; world = world }
 
 abbrev pub End : Type 0
-End = Reply Answer World Halt
+End = Reply Answer (World × List Mark) (Halt × List Mark)
 
 -- ---- the rest of a run
 
 -- what a node that waits does with the answer of its part
-abbrev pub continuing : Pending Answer → Answer → Meaning
+abbrev pub continuing : Pending Answer → Answer → Noting
 continuing pending answer = call (operands pending.node (pending.done ++ answer ∷ [])) give
 
-abbrev pub RestAt : Program → Place → Waiting Answer → World → End → Type 0
+abbrev pub RestAt : Program → Place → Waiting Answer → World × List Mark → End → Type 0
 RestAt p (reaching node) waiting world r =
-    Rests (body p) (body p (reach node)) (map continuing (waiting.top ∷ waiting.below)) world r
+    Rests (noted_body p) (noted_body p (reach node)) (map continuing (waiting.top ∷ waiting.below)) world r
 RestAt p turning waiting world r =
-    Rests (body p) (body p (operands waiting.top.node waiting.top.done)) (map continuing waiting.below) world r
+    Rests (noted_body p) (noted_body p (operands waiting.top.node waiting.top.done)) (map continuing waiting.below) world r
 
 -- the end that a program comes to from a state, when all that waits is finished from the uppermost on
 pub record RestOf (p : Program) (state : State) (r : End) : Type 0 where

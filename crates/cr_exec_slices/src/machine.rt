@@ -1,10 +1,11 @@
 // The machine, in slices.
-ghost use Rattle.std.specs.Prelude.{◌≡◌, ◌≢◌, ◌≤◌, ◌<◌, ◌+◌, ◌-◌, ◌*◌, ◌++◌, IfSome, MatchBool, MatchOption, OnOk, replicate, take, false, true};
+ghost use Rattle.std.specs.Prelude.{◌≡◌, ◌≢◌, ◌≤◌, ◌<◌, ◌+◌, ◌-◌, ◌*◌, ◌++◌, IfSome, MatchBool, MatchOption, OnOk, replicate, take, false, true, List, []};
 ghost use Rattle.cr_meaning.specs.World.{Answer as SpecAnswer, next as followed};
 ghost use Rattle.cr_meaning.specs.Turns.{Enter as TurnsEnter, Resume as TurnsResume, Ready as TurnsReady};
 ghost use Rattle.cr_exec_stack.specs.Waiting.{Waiting, with_more};
 ghost use Rattle.cr_exec_slices.specs.Turns.{way_at, reaching, turning};
 ghost use Rattle.cr_exec_slices.specs.Shown.{fresh_of, place_of, came, ShowsWaiting, TakesAtMostOne, Turns, ComesTo};
+ghost use Rattle.cr_meaning_seen.specs.Marks.{Mark};
 ghost use Rattle.cr_exec_slices.specs.Looks.{HasLooked, given_up};
 ghost use Rattle.cr_exec_slices.specs.declared.machine.Point.{Point as SpecPoint};
 
@@ -73,7 +74,8 @@ fn fill<N: Nodes>(nodes: &N, stack: &mut Stack<N::Held>, fresh: Fresh) -> Result
 #[inline]
 fn reach<N: Nodes>(nodes: &mut N, stack: &mut Stack<N::Held>, node: u32) -> Result<Turned, Halted>
     ensures turns { (waiting : Waiting SpecAnswer) → ShowsWaiting N.shows stack.old waiting
-        → Turns N.shows (N.program nodes.old) (record { place = reaching node; waiting = waiting; world = N.world nodes.old })
+        → (marks : List Mark) → N.has_seen nodes.old marks
+        → Turns N.shows (N.has_seen nodes.new) (N.program nodes.old) (record { place = reaching node; waiting = waiting; world = (N.world nodes.old, marks) })
         result stack.new (N.world nodes.new) }
     ensures program { N.program nodes.new ≡ N.program nodes.old }
     ensures steps { TakesAtMostOne (N.world nodes.old).steps (N.world nodes.new).steps }
@@ -89,7 +91,8 @@ fn reach<N: Nodes>(nodes: &mut N, stack: &mut Stack<N::Held>, node: u32) -> Resu
 fn enter<N: Nodes>(nodes: &mut N, stack: &mut Stack<N::Held>, part: u32) -> Result<Turned, Halted>
     ensures turns { (waiting : Waiting SpecAnswer) → ShowsWaiting N.shows stack.old waiting
         → way_at (N.program nodes.old) waiting.top.node waiting.top.done ≡ TurnsEnter part
-        → Turns N.shows (N.program nodes.old) (record { place = turning; waiting = waiting; world = N.world nodes.old })
+        → (marks : List Mark) → N.has_seen nodes.old marks
+        → Turns N.shows (N.has_seen nodes.new) (N.program nodes.old) (record { place = turning; waiting = waiting; world = (N.world nodes.old, marks) })
         result stack.new (N.world nodes.new) }
     ensures program { N.program nodes.new ≡ N.program nodes.old }
     ensures steps { TakesAtMostOne (N.world nodes.old).steps (N.world nodes.new).steps }
@@ -107,7 +110,8 @@ fn resume<N: Nodes>(
 ) -> Result<Turned, Halted>
     ensures turns { (waiting : Waiting SpecAnswer) → ShowsWaiting N.shows stack.old waiting
         → way_at (N.program nodes.old) waiting.top.node waiting.top.done ≡ TurnsResume (take count waiting.top.done ++ fresh_of fresh)
-        → Turns N.shows (N.program nodes.old) (record { place = turning; waiting = waiting; world = N.world nodes.old })
+        → (marks : List Mark) → N.has_seen nodes.old marks
+        → Turns N.shows (N.has_seen nodes.new) (N.program nodes.old) (record { place = turning; waiting = waiting; world = (N.world nodes.old, marks) })
         result stack.new (N.world nodes.new) }
     ensures program { N.program nodes.new ≡ N.program nodes.old }
     ensures steps { TakesAtMostOne (N.world nodes.old).steps (N.world nodes.new).steps }
@@ -126,7 +130,8 @@ fn resume<N: Nodes>(
 fn join<N: Nodes>(nodes: &mut N, stack: &mut Stack<N::Held>) -> Result<Turned, Halted>
     ensures turns { (waiting : Waiting SpecAnswer) → ShowsWaiting N.shows stack.old waiting
         → way_at (N.program nodes.old) waiting.top.node waiting.top.done ≡ TurnsReady
-        → Turns N.shows (N.program nodes.old) (record { place = turning; waiting = waiting; world = N.world nodes.old })
+        → (marks : List Mark) → N.has_seen nodes.old marks
+        → Turns N.shows (N.has_seen nodes.new) (N.program nodes.old) (record { place = turning; waiting = waiting; world = (N.world nodes.old, marks) })
         result stack.new (N.world nodes.new) }
     ensures program { N.program nodes.new ≡ N.program nodes.old }
     ensures steps { TakesAtMostOne (N.world nodes.old).steps (N.world nodes.new).steps }
@@ -143,7 +148,8 @@ fn join<N: Nodes>(nodes: &mut N, stack: &mut Stack<N::Held>) -> Result<Turned, H
 #[inline]
 fn go_on<N: Nodes>(nodes: &mut N, stack: &mut Stack<N::Held>) -> Result<Turned, Halted>
     ensures turns { (waiting : Waiting SpecAnswer) → ShowsWaiting N.shows stack.old waiting
-        → Turns N.shows (N.program nodes.old) (record { place = turning; waiting = waiting; world = N.world nodes.old })
+        → (marks : List Mark) → N.has_seen nodes.old marks
+        → Turns N.shows (N.has_seen nodes.new) (N.program nodes.old) (record { place = turning; waiting = waiting; world = (N.world nodes.old, marks) })
         result stack.new (N.world nodes.new) }
     ensures program { N.program nodes.new ≡ N.program nodes.old }
     ensures steps { TakesAtMostOne (N.world nodes.old).steps (N.world nodes.new).steps }
@@ -161,7 +167,8 @@ fn go_on<N: Nodes>(nodes: &mut N, stack: &mut Stack<N::Held>) -> Result<Turned, 
 #[inline]
 fn turn<N: Nodes>(nodes: &mut N, stack: &mut Stack<N::Held>, point: Point) -> Result<Turned, Halted>
     ensures turns { (waiting : Waiting SpecAnswer) → ShowsWaiting N.shows stack.old waiting
-        → Turns N.shows (N.program nodes.old) (record { place = place_of point; waiting = waiting; world = N.world nodes.old })
+        → (marks : List Mark) → N.has_seen nodes.old marks
+        → Turns N.shows (N.has_seen nodes.new) (N.program nodes.old) (record { place = place_of point; waiting = waiting; world = (N.world nodes.old, marks) })
         result stack.new (N.world nodes.new) }
     ensures program { N.program nodes.new ≡ N.program nodes.old }
     ensures steps { TakesAtMostOne (N.world nodes.old).steps (N.world nodes.new).steps }
@@ -205,7 +212,8 @@ fn slice<N: Nodes>(
 ) -> Result<Turned, Halted>
     requires { IfSome until (λ steps. steps ≤ (N.world nodes.old).steps) }
     ensures turns { (waiting : Waiting SpecAnswer) → ShowsWaiting N.shows stack.old waiting
-        → Turns N.shows (N.program nodes.old) (record { place = place_of from; waiting = waiting; world = N.world nodes.old })
+        → (marks : List Mark) → N.has_seen nodes.old marks
+        → Turns N.shows (N.has_seen nodes.new) (N.program nodes.old) (record { place = place_of from; waiting = waiting; world = (N.world nodes.old, marks) })
         result stack.new (N.world nodes.new) }
     ensures program { N.program nodes.new ≡ N.program nodes.old }
     ensures fewer { (N.world nodes.new).steps ≤ (N.world nodes.old).steps }
@@ -255,7 +263,7 @@ pub fn run_nodes<N: Nodes, S: Stop>(
     stop: &mut S,
 ) -> Outcome<N::Held>
     requires { S.raised stop.old ≡ false }
-    ensures meant { ComesTo N.shows (N.program nodes.old) node (N.world nodes.old) result (N.world nodes.new) }
+    ensures meant { N.has_seen nodes.old [] → ComesTo N.shows (N.has_seen nodes.new) (N.program nodes.old) node (N.world nodes.old) result (N.world nodes.new) }
     ensures stopped { result ≡ Outcome.Stopped → S.raised stop.new ≡ true }
     ensures held { S.held stop.new ≡ S.held stop.old }
     ensures program { N.program nodes.new ≡ N.program nodes.old }

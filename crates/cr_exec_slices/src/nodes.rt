@@ -1,8 +1,10 @@
 // The work of single nodes.
-ghost use Rattle.std.specs.Prelude.{◌≡◌, ◌≢◌, ◌≤◌, ◌+◌, List};
+ghost use Rattle.std.specs.Prelude.{◌≡◌, ◌≢◌, ◌≤◌, ◌+◌, ◌++◌, ◌∷◌, [], List, Ok, Err};
 ghost use Rattle.std.specs.List.{AllZip};
 ghost use Rattle.cr_meaning.specs.World.{Program as SpecProgram, World as SpecWorld, Answer as SpecAnswer, next as followed};
 ghost use Rattle.cr_meaning.specs.Turns.{absent as nothing_asked};
+ghost use Rattle.cr_meaning.specs.Nodes.{events_of};
+ghost use Rattle.cr_meaning_seen.specs.Marks.{Mark, began, left};
 ghost use Rattle.cr_exec_slices.specs.Turns.{way_at, reached_at, before_at, join_at};
 ghost use Rattle.cr_exec_slices.specs.Shown.{way_of, Worked, Leaves, TakesAtMostOne};
 
@@ -59,6 +61,9 @@ pub trait Nodes {
     /// An answer of the meaning, as it is kept.
     ghost shows: { Self.Held → SpecAnswer → Type 0 };
 
+    /// What is known of the nodes that have begun and come to answers so far. Where nobody watches it says nothing.
+    ghost has_seen: { Self → List Mark → Type 0 };
+
     /// How many steps are left.
     fn steps(&self) -> u64
         ensures { result ≡ (world self.now).steps };
@@ -66,6 +71,7 @@ pub trait Nodes {
     /// A node is reached, which may take a step.
     fn reach(&mut self, node: u32) -> Result<(), Halted>
         ensures work { Worked (reached_at (program self.old) node (world self.old)) result (world self.new) }
+        ensures seen { (marks : List Mark) → has_seen self.old marks → result ≢ Err Halted.NoMemory → has_seen self.new (marks ++ began node ∷ []) }
         ensures program { program self.new ≡ program self.old }
         ensures steps { TakesAtMostOne (world self.old).steps (world self.new).steps };
 
@@ -78,6 +84,7 @@ pub trait Nodes {
     fn before(&mut self, node: u32, done: &[Self::Held]) -> Result<(), Halted>
         ensures work { (answers : List SpecAnswer) → AllZip shows done.now answers
             → Worked (before_at (program self.old) node answers (world self.old)) result (world self.new) }
+        ensures seen { (marks : List Mark) → has_seen self.old marks → has_seen self.new marks }
         ensures program { program self.new ≡ program self.old }
         ensures steps { TakesAtMostOne (world self.old).steps (world self.new).steps };
 
@@ -85,6 +92,9 @@ pub trait Nodes {
     fn join(&mut self, stack: &mut Stack<Self::Held>) -> Result<(), Halted>
         ensures work { (answers : List SpecAnswer) → AllZip shows stack.old.top.done answers
             → Leaves shows (join_at (program self.old) stack.old.top.node answers (world self.old)) result stack.new.top.done (world self.new) }
+        ensures ended { (marks : List Mark) (held : Self.Held) (answer : SpecAnswer) → has_seen self.old marks → result ≡ Ok tt → stack.new.top.done ≡ held ∷ [] → shows held answer
+            → has_seen self.new (marks ++ left stack.old.top.node (events_of answer) ∷ []) }
+        ensures cut { (marks : List Mark) → has_seen self.old marks → result ≢ Ok tt → result ≢ Err Halted.NoMemory → has_seen self.new marks }
         ensures below { stack.new.below ≡ stack.old.below }
         ensures program { program self.new ≡ program self.old }
         ensures steps { (world self.new).steps ≡ (world self.old).steps };

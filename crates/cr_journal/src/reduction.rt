@@ -1,5 +1,5 @@
 // A reduction that goes on, each acceptance in the journal before the next.
-ghost use Rattle.std.specs.Prelude.{◌≡◌, ◌<◌, ◌≤◌, ◌+◌, ◌*◌, ◌^◌, ℕ, List, length, true, false};
+ghost use Rattle.std.specs.Prelude.{◌≡◌, ◌<◌, ◌≤◌, ◌+◌, ◌*◌, ◌^◌, ℕ, List, drop, length, true, false};
 ghost use Rattle.cr_journal_records.specs.Records.{AtRest, Body, IsKept, Stands};
 ghost use Rattle.cr_journal.specs.Keeping.{AtEnd, IsReductionOn, OfEnd, Rests, journal_of};
 ghost use Rattle.cr_outside.specs.Faults.{Rose};
@@ -84,6 +84,7 @@ where
     ensures later { D.faults disk.old ≤ D.faults disk.new }
     ensures failed { result ≡ KeptEnd.Disk → Rose (D.faults disk.old) (D.faults disk.new) × (D.has_failed disk.new ≡ true) }
     ensures keys { keys_of J.Judge bench.new ≡ keys_of J.Judge bench.old }
+    ensures others { drop plan.now.workers bench.new.judges ≡ drop plan.now.workers bench.old.judges }
     ensures silent { Q.asks question.now ≡ false → bench.new.judges ≡ bench.old.judges }
     ensures later_calls { GoesOn (judging J.Judge bench.old) (judging J.Judge bench.new) }
     ensures right_after { AreRightBy (searching P.Passes passes.now L.Law law.now Q.Question question.now name.now J.Judge bench.old) bench.new.kept }

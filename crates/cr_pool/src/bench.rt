@@ -12,6 +12,7 @@ ghost use Rattle.cr_pool.specs.Tally.{first_says, tallies_of};
 
 use crate::crew::Worker;
 use crate::epoch::try_by_some;
+use crate::heard::ask_by;
 use crate::job::{EpochEnd, Job};
 use crate::verdicts::Verdicts;
 use cr_cursor::{Law, Passes};
@@ -27,6 +28,8 @@ pub struct Bench<J: Judge> {
     workers: Vec<Worker<J>>,
     verdicts: Verdicts,
     lost: u64,
+    // False once a question was answered without a judge, until a judge is asked.
+    asks: bool,
 }
 
 impl<J: Judge> Model for Bench<J> {
@@ -54,6 +57,7 @@ impl<J: Judge + Drop> Bench<J> {
             workers,
             verdicts,
             lost: 0,
+            asks: true,
         })
     }
 }
@@ -70,6 +74,7 @@ fn crew_of<J: Drop>(alloc: Global, judges: Vec<J>) -> Result<Vec<Worker<J>>, NoM
             hit: None,
             variant: Vec::new(alloc),
             notes: Vec::new(alloc),
+            asked: false,
         })?;
     }
     Ok(workers)
@@ -127,13 +132,15 @@ impl<J: Judge> Bench<J> {
         ensures failed { result ≡ Answer.Failed → Rose (first_tally J.Judge self.old).faults (first_tally J.Judge self.new).faults }
     {
         let worker = &mut self.workers[0];
-        question.ask(alloc, &mut worker.judge, name, file)
+        let (answer, asked) = ask_by(alloc, question, &mut worker.judge, name, file);
+        self.asks = asked;
+        answer
     }
 }
 
 impl<J: Judge + Send> Bench<J> {
-    /// Tries the positions of a job by its workers, each in a thread of its own where one can be made, and ends as one worker that
-    /// tries them in order would. It wants memory where the words of the claims, the workers' buffers or the first trial that isn't
+    /// Tries the positions of a job by its workers, each in a thread of its own where one can be made and is worth it, and ends as one
+    /// worker that tries them in order would. It wants memory where the words of the claims, the workers' buffers or the first trial that isn't
     /// rejected find none.
     ///
     /// A position whose variant has a kept verdict is neither ruled on nor asked about. What the trials of the positions up to the
@@ -166,6 +173,7 @@ impl<J: Judge + Send> Bench<J> {
             &mut self.workers,
             &mut self.verdicts,
             &mut self.lost,
+            &mut self.asks,
         )
     }
 }

@@ -9,6 +9,7 @@ ghost use Rattle.cr_pool.specs.Sizes.{HasSize};
 ghost use Rattle.cr_pool.specs.Crew.{HaveSameJudges, HaveSameNotes, IsFresh, IsReady, IsSameButPass, IsWorked, Keeps, Rests, TakesIn, row_of, rows_of};
 ghost use Rattle.cr_pool.specs.Works.{IsBlank};
 
+use crate::heard::Heard;
 use crate::job::Job;
 use crate::verdict::Verdict;
 use crate::verdicts::Verdicts;
@@ -33,6 +34,8 @@ pub struct Worker<J> {
     pub variant: Vec<u8>,
     /// The verdicts that it came to in the last epoch, each at its position.
     pub notes: Vec<Option<Verdict>>,
+    /// Whether its judge was asked in the last epoch.
+    pub asked: bool,
 }
 
 fn clear_one<J>(worker: &mut Worker<J>, len: usize, room: usize) -> Result<(), NoMemory>
@@ -134,20 +137,25 @@ fn work<P: Passes, L: Law, Q: Question, J: Judge>(
     ensures { IsWorked P.Passes L.Law Q.Question J.Judge job.now claims.now verdicts.now worker.old worker.new }
 {
     if let Some(pass) = &mut worker.pass {
+        let mut heard = Heard {
+            judge: &mut worker.judge,
+            asked: false,
+        };
         worker.hit = drive(
             alloc,
             claims,
             job,
             verdicts,
             pass,
-            &mut worker.judge,
+            &mut heard,
             &mut worker.variant,
             &mut worker.notes,
         );
+        worker.asked = heard.asked;
     }
 }
 
-/// Lets all workers do their part, each in a thread of its own where one can be made.
+/// Lets all workers do their part, in at most so many threads. In one, the first worker does all that there is to do.
 pub fn run<R: Threads + Sync, P: Passes + Sync, L: Law + Sync, Q: Question + Sync, J: Judge + Send>(
     rt: &R,
     alloc: Global,
@@ -155,17 +163,17 @@ pub fn run<R: Threads + Sync, P: Passes + Sync, L: Law + Sync, Q: Question + Syn
     job: &Job<P, L, Q>,
     verdicts: &Verdicts,
     workers: &mut [Worker<J>],
+    threads: usize,
 )
 where
     P::Prep: Sync,
     requires placed { IsPlaced P.Passes job.now }
     requires sized { HasSize job.now.file.now job.now.size }
     requires len { job.now.len ≡ len_of claims.now }
-    requires some { 0 < length workers.old }
+    requires threads { 0 < threads }
     requires ready { All (λ w. IsReady P.Passes L.Law Q.Question J.Judge job.now claims.now verdicts.now w) workers.old }
     ensures { (k : ℕ) (d : Worker J) → k < length workers.old → IsWorked P.Passes L.Law Q.Question J.Judge job.now claims.now verdicts.now (slice_index_or workers.old k d) (slice_index_or workers.new k d) }
 {
-    let threads = workers.len();
     thread::for_each_mut(
         rt,
         workers,

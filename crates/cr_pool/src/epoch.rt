@@ -17,6 +17,23 @@ use cr_outside::{Judge, Question};
 use std::alloc::Global;
 use std::thread::Threads;
 
+/// From so many bytes on the trials of a file are worth a thread each, whatever is asked.
+const LARGE: usize = 65_536;
+
+// In how many threads so many workers try the variants of a file of so many bytes: in one where no judge is waited for and a trial is
+// done sooner than what it would be tried ahead for.
+fn threads_for(workers: usize, bytes: usize, asks: bool) -> usize
+    requires { 0 < workers }
+    ensures { 0 < result }
+{
+    if asks || bytes >= LARGE { workers } else { 1 }
+}
+
+// Whether the judge of one of these workers was asked in the last epoch.
+fn have_asked<J>(workers: &[Worker<J>]) -> bool {
+    workers.iter().any(|worker| worker.asked)
+}
+
 /// Tries the positions of a job by all of these workers. What is kept of it afterwards is put, and what found no memory counted.
 pub fn try_all<
     R: Threads + Sync,
@@ -31,6 +48,7 @@ pub fn try_all<
     workers: &mut [Worker<J>],
     verdicts: &mut Verdicts,
     lost: &mut u64,
+    asks: &mut bool,
 ) -> EpochEnd
 where
     P::Prep: Sync,
@@ -55,7 +73,9 @@ where
         Err(_) => return EpochEnd::NoMemory,
     };
     seat(&claims, &mut keeper, workers);
-    run(rt, alloc, &claims, job, verdicts, workers);
+    let threads = threads_for(workers.len(), job.file.len(), *asks);
+    run(rt, alloc, &claims, job, verdicts, workers, threads);
+    *asks = *asks || have_asked(workers);
     gather(&claims, &mut keeper, workers);
     let first = claims.close(keeper);
     *lost = remember(alloc, job, decided(job.len, first), workers, verdicts);
@@ -76,6 +96,7 @@ pub fn try_by_some<
     workers: &mut [Worker<J>],
     verdicts: &mut Verdicts,
     lost: &mut u64,
+    asks: &mut bool,
 ) -> EpochEnd
 where
     P::Prep: Sync,
@@ -93,5 +114,5 @@ where
     ensures others { drop job.now.workers (judges_in workers.new) ≡ drop job.now.workers (judges_in workers.old) }
 {
     let (crew, _) = workers.split_at_mut(job.workers as usize);
-    try_all(rt, alloc, job, crew, verdicts, lost)
+    try_all(rt, alloc, job, crew, verdicts, lost, asks)
 }

@@ -13,6 +13,7 @@ mod bench;
 mod crew;
 mod ending;
 mod epoch;
+mod heard;
 mod job;
 mod looker;
 mod measuring;

@@ -1,13 +1,16 @@
-use Rattle.std.proofs.Common.{◌≡◌, ◌≤◌, ◌+◌, Ok, refl, ◌∙◌, arith}
+use Rattle.std.proofs.Common.{◌≡◌, ◌+◌, Ok, Err, [], List, sym, subst, refl, ◌∙◌, arith}
+use Rattle.cr_meaning_seen.specs.Marks.{Mark}
 use Rattle.cr_exec_slices.specs.Turns.{first_state}
-use Rattle.cr_exec_slices.specs.declared.machine.Turned.TheVariants.{Goes}
-use Rattle.cr_exec_slices.proofs.Keeping.{continues_at_first, continues_turned}
+use Rattle.cr_exec_slices.specs.declared.machine.Turned.TheVariants.{Goes, Came}
+use Rattle.cr_exec_slices.specs.declared.machine.Outcome.{Outcome}
+use Rattle.cr_exec_slices.specs.Shown.{ComesTo}
+use Rattle.cr_exec_slices.proofs.Keeping.{continues_at_first, continues_turned, continues_all, comes_to, halts_as}
 use Rattle.cr_exec_slices.proofs.Looking.{no_look, looked_and_paused, left_over, not_raised}
 use Rattle.cr_exec_slices.proofs.machine.run_nodes.Goals as goal
 
 pub loop-stop-init : goal.loop-stop-init
 loop-stop-init g c = record {
-  continues = continues_at_first g.N.Nodes.shows (g.N.Nodes.program c.args.nodes.now) c.args.node c.new-stack.result (g.N.Nodes.world c.args.nodes.now) c.new-stack.ensures;
+  continues = λ first. continues_at_first g.N.Nodes.shows (g.N.Nodes.has_seen c.args.nodes.now) (g.N.Nodes.program c.args.nodes.now) c.args.node c.new-stack.result (g.N.Nodes.world c.args.nodes.now) c.new-stack.ensures first;
   program = refl;
   fewer = omega arith;
   raised = c.requires;
@@ -21,9 +24,10 @@ loop-stop-preserved g c =
     let steps : (g.N.Nodes.world c.slice.new.nodes).steps + 4096 ≡ (g.N.Nodes.world c.loop-stop.nodes).steps =
     left_over c.slice_end-until.result c.steps.result (g.N.Nodes.world c.slice.new.nodes).steps c.slice_end-until.ensures (c.slice.ensures.paused c.in-Ok-Goes.next is) ∙ c.steps.ensures in
     record {
-      continues = continues_turned g.N.Nodes.shows (g.N.Nodes.program c.args.nodes.now) (g.N.Nodes.program c.loop-stop.nodes)
-          (first_state c.args.node (g.N.Nodes.world c.args.nodes.now)) c.loop-stop.point c.in-Ok-Goes.next c.loop-stop.stack c.slice.new.stack
-          (g.N.Nodes.world c.loop-stop.nodes) (g.N.Nodes.world c.slice.new.nodes) c.slice.result c.loop-stop.invariant.continues c.loop-stop.invariant.program is c.slice.ensures.turns;
+      continues = λ first. continues_turned g.N.Nodes.shows (g.N.Nodes.has_seen c.loop-stop.nodes)
+          (g.N.Nodes.has_seen c.slice.new.nodes) (g.N.Nodes.program c.args.nodes.now) (g.N.Nodes.program c.loop-stop.nodes)
+          (first_state c.args.node (g.N.Nodes.world c.args.nodes.now, [])) c.loop-stop.point c.in-Ok-Goes.next c.loop-stop.stack c.slice.new.stack
+          (g.N.Nodes.world c.loop-stop.nodes) (g.N.Nodes.world c.slice.new.nodes) c.slice.result (c.loop-stop.invariant.continues first) c.loop-stop.invariant.program is (λ waiting h marks n. c.slice.ensures.turns waiting h marks n);
       program = c.slice.ensures.program ∙ c.loop-stop.invariant.program;
       fewer = omega (arith, c.slice.ensures.fewer, c.loop-stop.invariant.fewer);
       raised = not_raised (g.S.Stop.raised c.loop-stop.stop) c.stop.result (g.S.Stop.raised c.stop.new.self) c.stop.ensures.raised c.loop-stop.invariant.raised c.if-stop.false;
@@ -32,3 +36,24 @@ loop-stop-preserved g c =
           (g.N.Nodes.world c.args.nodes.now).steps (g.N.Nodes.world c.loop-stop.nodes).steps (g.N.Nodes.world c.slice.new.nodes).steps
           c.loop-stop.invariant.looked c.stop.ensures.looks c.loop-stop.invariant.fewer steps;
     }
+
+pub returns-in-Ok-Came-clause-meant : goal.returns-in-Ok-Came-clause-meant
+returns-in-Ok-Came-clause-meant g c = λ first.
+    let now : List Mark → Type 0 = g.N.Nodes.has_seen c.slice.new.nodes in
+    let is : c.slice.result ≡ Ok Came = cc in
+    let turned = continues_all g.N.Nodes.shows (g.N.Nodes.has_seen c.loop-stop.nodes)
+    now (g.N.Nodes.program c.args.nodes.now) (g.N.Nodes.program c.loop-stop.nodes) (first_state c.args.node (g.N.Nodes.world c.args.nodes.now, [])) c.loop-stop.point c.loop-stop.stack c.slice.new.stack
+    (g.N.Nodes.world c.loop-stop.nodes) (g.N.Nodes.world c.slice.new.nodes) c.slice.result (Ok Came) (c.loop-stop.invariant.continues first) c.loop-stop.invariant.program is
+    (λ waiting h marks n. c.slice.ensures.turns waiting h marks n) in
+    let F : Outcome g.row.N-Held.Denot → Type 0 = λ o. ComesTo g.N.Nodes.shows now (g.N.Nodes.program c.args.nodes.now) c.args.node (g.N.Nodes.world c.args.nodes.now) o (g.N.Nodes.world c.slice.new.nodes) in
+    subst F (sym c.came.ensures) (comes_to g.N.Nodes.shows now (g.N.Nodes.program c.args.nodes.now) c.args.node (g.N.Nodes.world c.args.nodes.now) (g.N.Nodes.world c.slice.new.nodes) c.slice.new.stack c.pop.new.self c.pop.result turned c.pop.ensures.last)
+
+pub returns-in-Err-clause-meant : goal.returns-in-Err-clause-meant
+returns-in-Err-clause-meant g c = λ first.
+    let now : List Mark → Type 0 = g.N.Nodes.has_seen c.slice.new.nodes in
+    let is : c.slice.result ≡ Err c.in-Err.halted = cc in
+    halts_as g.N.Nodes.shows now (g.N.Nodes.program c.args.nodes.now) c.args.node (g.N.Nodes.world c.args.nodes.now) (g.N.Nodes.world c.slice.new.nodes) c.in-Err.halted c.slice.new.stack
+    (continues_all g.N.Nodes.shows (g.N.Nodes.has_seen c.loop-stop.nodes)
+    now (g.N.Nodes.program c.args.nodes.now) (g.N.Nodes.program c.loop-stop.nodes) (first_state c.args.node (g.N.Nodes.world c.args.nodes.now, [])) c.loop-stop.point c.loop-stop.stack c.slice.new.stack
+    (g.N.Nodes.world c.loop-stop.nodes) (g.N.Nodes.world c.slice.new.nodes) c.slice.result (Err c.in-Err.halted) (c.loop-stop.invariant.continues first) c.loop-stop.invariant.program is
+    (λ waiting h marks n. c.slice.ensures.turns waiting h marks n))

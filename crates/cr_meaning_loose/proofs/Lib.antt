@@ -1,0 +1,4 @@
+pub mod Tracing
+pub mod Summing
+pub mod Adding
+pub mod Judging

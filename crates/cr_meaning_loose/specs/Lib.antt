@@ -1,0 +1,4 @@
+pub mod Loose
+pub mod Sums
+pub mod Levels
+pub mod Laws
