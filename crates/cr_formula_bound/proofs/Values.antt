@@ -1,6 +1,6 @@
 -- The value of a formula by what was found, and by how the runs end.
 use Rattle.std.specs.Prelude.{IsTrue, ◌↔◌}
-use Rattle.std.proofs.Common.{◌≡◌, inl, inr, ℕ, Bool, List, Option, Some, None, refl, sym, subst}
+use Rattle.std.proofs.Common.{◌≡◌, inl, inr, ℕ, Bool, true, false, List, Option, Some, None, refl, sym, subst}
 use Rattle.cr_outside.specs.declared.judge.Answer.{Answer}
 use Rattle.cr_outside.specs.declared.judge.Answer.TheVariants.{Yes, No, Failed, NoMemory}
 use Rattle.cr_meaning.specs.declared.run.Limits.{Limits}
@@ -58,6 +58,17 @@ value_found f limits input file end ended a one found came is =
     let alike = holds_alike f (EndedWith end) E (EndedWith (Some ended)) F file
     (found_alike E end (one limits file) found) (found_alike F (Some ended) (one limits input) came) in
     answers_alike (HoldsBy f end ended file) (Value f input limits file) a alike.0 alike.1 is
+
+-- what was asked of the runs is answered
+pub answered : (P : Type 0) (holds : Bool) (a : Answer) → (IsTrue holds ↔ P) → (IsTrue holds → a ≡ Yes) → (holds ≡ false → a ≡ No) → AnswersBy P a
+answered P true a is holds fails = subst (AnswersBy P) (sym (holds refl)) (is.0 refl)
+answered P false a is holds fails = subst (AnswersBy P) (sym (fails refl)) (λ it. let bad : false ≡ true = is.1 it in cc)
+
+pub value_asked : (f : Form) (limits : Limits) (input file : List ℕ) (end : Option Ended) (ended : Ended) (holds : Bool) (a : Answer) → HasOneEnd
+    → EndsAs (ComesToEnd limits file) end → ComesToEnd limits input ended.status ended.output
+    → (IsTrue holds ↔ HoldsBy f end ended file) → (IsTrue holds → a ≡ Yes) → (holds ≡ false → a ≡ No) → AnswersBy (Value f input limits file) a
+value_asked f limits input file end ended b a one found came is holds fails =
+    value_found f limits input file end ended a one found came (answered (HoldsBy f end ended file) b a is holds fails)
 
 -- tests of the leaves
 pub prints_some : (holds : Bool) (text : List ℕ) (end : Ended) → (IsTrue holds ↔ StandsIn text end.output) → (IsTrue holds ↔ PrintsBy text (Some end))

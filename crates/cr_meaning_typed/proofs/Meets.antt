@@ -67,7 +67,7 @@ pub record Agree (p : Program) (a b own : Qualified) : Type 0 where
   pub right : (row : ℕ) → value_sort p row b ≡ number (kind_in (as_value b))
   pub is : own ≡ plain (Int (common_of (kind_in (as_value a)) (kind_in (as_value b)))) false false
 
-integers_right : (op : Arithmetic) (v : Valued) (t : Qualified) → integers_value op v (whole t) ≡ untyped
+pub integers_right : (op : Arithmetic) (v : Valued) (t : Qualified) → integers_value op v (whole t) ≡ untyped
 integers_right op (a_number x) t = refl
 integers_right op v t = refl
 
@@ -112,7 +112,7 @@ sum_parts t ps =
 abbrev sum_by : Typed → ℕ → ℕ → Qualified → Qualified → Op
 sum_by t a b x y = node_op (a ∷ b ∷ []) (work.Binary (change_of t operator.Add false (common_kind (as_value x) (as_value y)) (as_value x) (as_value y)))
 
-sum_right : (complete : Qualified → Bool) (v : Valued) (t : Qualified) → sum_value complete v (whole t) ≡ untyped
+pub sum_right : (complete : Qualified → Bool) (v : Valued) (t : Qualified) → sum_value complete v (whole t) ≡ untyped
 sum_right complete (a_number x) t = refl
 sum_right complete (address u) t = refl
 sum_right complete v t = refl

@@ -63,51 +63,51 @@ stored (array n t) k = refl
 moves_on : (complete : Qualified → Bool) (t : Qualified) → is_decayed (moved complete t) ≡ true
 moves_on complete t = either (complete t) (address t) untyped refl refl
 
-integers : (operator : Arithmetic) (x y : Valued) → is_decayed (integers_value operator x y) ≡ true
+pub integers : (operator : Arithmetic) (x y : Valued) → is_decayed (integers_value operator x y) ≡ true
 integers operator (number x) (number y) = refl
 integers operator x y = refl
 
-shifts : (operator : Shift) (x y : Valued) → is_decayed (shifted_value operator x y) ≡ true
+pub shifts : (operator : Shift) (x y : Valued) → is_decayed (shifted_value operator x y) ≡ true
 shifts operator (number x) (number y) = refl
 shifts operator x y = refl
 
-sums : (complete : Qualified → Bool) (x y : Valued) → is_decayed (sum_value complete x y) ≡ true
+pub sums : (complete : Qualified → Bool) (x y : Valued) → is_decayed (sum_value complete x y) ≡ true
 sums complete (number x) (number y) = refl
 sums complete (address t) (number y) = moves_on complete t
 sums complete (number x) (address t) = moves_on complete t
 sums complete x y = refl
 
-differences : (complete : Qualified → Bool) (x y : Valued) → is_decayed (difference_value complete x y) ≡ true
+pub differences : (complete : Qualified → Bool) (x y : Valued) → is_decayed (difference_value complete x y) ≡ true
 differences complete (number x) (number y) = refl
 differences complete (address t) (number y) = moves_on complete t
 differences complete (address t) (address u) = either (complete t && (complete u && are_alike t u)) _ untyped refl refl
 differences complete x y = refl
 
-orders : (operator : Relation) (x y : Valued) → is_decayed (order_value operator x y) ≡ true
+pub orders : (operator : Relation) (x y : Valued) → is_decayed (order_value operator x y) ≡ true
 orders operator (number x) (number y) = refl
 orders operator (address t) (address u) = either (are_alike t u) an_int untyped refl refl
 orders operator x y = refl
 
-equalities : (operator : Relation) (x y : Valued) → is_decayed (equality_value operator x y) ≡ true
+pub equalities : (operator : Relation) (x y : Valued) → is_decayed (equality_value operator x y) ≡ true
 equalities operator (number x) (number y) = refl
 equalities operator (address t) (address u) = either (are_related t u) an_int untyped refl refl
 equalities operator (address t) (number y) = either (is_zero y.constant) an_int untyped refl refl
 equalities operator (number x) (address u) = either (is_zero x.constant) an_int untyped refl refl
 equalities operator x y = refl
 
-junctions : (operator : Junction) (x y : Option Constant) → is_decayed (logical_by operator x y) ≡ true
+pub junctions : (operator : Junction) (x y : Option Constant) → is_decayed (logical_by operator x y) ≡ true
 junctions operator (Some x) (Some y) = refl
 junctions operator x y = refl
 
-negates : (x : Option Constant) → is_decayed (negated_by x) ≡ true
+pub negates : (x : Option Constant) → is_decayed (negated_by x) ≡ true
 negates (Some x) = refl
 negates None = refl
 
-signs : (operator : Sign) (x : Valued) → is_decayed (signed_value operator x) ≡ true
+pub signs : (operator : Sign) (x : Valued) → is_decayed (signed_value operator x) ≡ true
 signs operator (number x) = refl
 signs operator x = refl
 
-sizes : (complete : Bool) (bytes : ℕ) → is_decayed (size_value complete bytes) ≡ true
+pub sizes : (complete : Bool) (bytes : ℕ) → is_decayed (size_value complete bytes) ≡ true
 sizes complete bytes = either complete _ untyped refl refl
 
 merges : (l r : Bool) (t u : Qualified) → is_decayed (merged l r t u) ≡ true
@@ -123,11 +123,11 @@ picks condition l r (address t) (number y) = either (is_zero y.constant) (addres
 picks condition l r (number x) (address u) = either (is_zero x.constant) (address u) untyped refl refl
 picks condition l r x y = refl
 
-chooses : (condition : Option Constant) (l r : Bool) (x y : Valued) → is_decayed (conditional_by condition l r x y) ≡ true
+pub chooses : (condition : Option Constant) (l r : Bool) (x y : Valued) → is_decayed (conditional_by condition l r x y) ≡ true
 chooses (Some condition) l r x y = picks condition l r x y
 chooses None l r x y = refl
 
-casts : (x y : Valued) → is_decayed (cast_by x y) ≡ true
+pub casts : (x y : Valued) → is_decayed (cast_by x y) ≡ true
 casts valueless untyped = refl
 casts valueless y = refl
 casts (number x) (number y) = refl
@@ -136,7 +136,7 @@ casts (address t) (number y) = either (is_zero y.constant) (address t) untyped r
 casts (address t) (address u) = either (keeps_volatile t u) (address t) untyped refl refl
 casts x y = refl
 
-addresses : (s : Seen) → is_decayed (address_value s) ≡ true
+pub addresses : (s : Seen) → is_decayed (address_value s) ≡ true
 addresses s = either (s.lvalue && not s.register) (address s.type) untyped refl refl
 
 steps_by : (complete : Qualified → Bool) (x : Valued) → is_decayed (stepped_by complete x) ≡ true
@@ -144,10 +144,10 @@ steps_by complete (number x) = refl
 steps_by complete (address t) = moves_on complete t
 steps_by complete x = refl
 
-steps : (complete : Qualified → Bool) (fixed : ℕ → Bool) (s : Seen) → is_decayed (stepped complete fixed s) ≡ true
+pub steps : (complete : Qualified → Bool) (fixed : ℕ → Bool) (s : Seen) → is_decayed (stepped complete fixed s) ≡ true
 steps complete fixed s = either (is_modifiable_seen complete fixed s) (stepped_by complete (stored_value s)) untyped (steps_by complete (stored_value s)) refl
 
-assigns : (complete : Qualified → Bool) (fixed : ℕ → Bool) (s : Seen) (y : Valued) → is_decayed (assigned complete fixed s y) ≡ true
+pub assigns : (complete : Qualified → Bool) (fixed : ℕ → Bool) (s : Seen) (y : Valued) → is_decayed (assigned complete fixed s y) ≡ true
 assigns complete fixed s y = either (is_modifiable_seen complete fixed s && assignable (stored_value s) y) (stored_value s) untyped (stored s.type NotConstant) refl
 
 updates_by : (complete : Qualified → Bool) (moves : Bool) (x y : Valued) → is_decayed (updated_by complete moves x y) ≡ true
@@ -155,7 +155,7 @@ updates_by complete moves (number x) (number y) = refl
 updates_by complete moves (address t) (number y) = either moves (moved complete t) untyped (moves_on complete t) refl
 updates_by complete moves x y = refl
 
-updates : (complete : Qualified → Bool) (fixed : ℕ → Bool) (moves : Bool) (s : Seen) (y : Valued) → is_decayed (updated complete fixed moves s y) ≡ true
+pub updates : (complete : Qualified → Bool) (fixed : ℕ → Bool) (moves : Bool) (s : Seen) (y : Valued) → is_decayed (updated complete fixed moves s y) ≡ true
 updates complete fixed moves s y =
     either (is_modifiable_seen complete fixed s) (updated_by complete moves (stored_value s) y) untyped (updates_by complete moves (stored_value s) y) refl
 

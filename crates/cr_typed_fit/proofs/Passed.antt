@@ -1,20 +1,17 @@
--- What passes the tests is typed.
-use Rattle.std.proofs.Common.{◌≡◌, ℕ, zero, suc, ◌<◌, ◌≤◌, ◌==◌, ◌&&◌, Bool, true, false, List, [], ◌∷◌, Option, Some, None, nat_lt, nat_le, length, slice_get, slice_index, slice_index_or, inl, inr, refl, sym, ap, subst, ◌∙◌, arith}
-use Rattle.std.specs.List.{All, list_all, sum_by, fold}
-use Rattle.std.proofs.lemmas.Bool.{and_parts, cases_lt, eqb-true, leb-true, ltb-true}
-use Rattle.std.proofs.lemmas.List.Elements.{All-from_recursion}
+-- What passes the tests fits.
+use Rattle.std.proofs.Common.{◌≡◌, ℕ, zero, suc, ◌<◌, ◌≤◌, Bool, true, List, [], ◌∷◌, Option, Some, nat_lt, length, slice_get, slice_index_or, inl, inr, refl, sym, ap, ◌∙◌, arith}
+use Rattle.std.specs.List.{All, list_all, sum_by}
+use Rattle.std.proofs.lemmas.Bool.{and_parts, cases_lt, leb-true, ltb-true}
+use Rattle.std.proofs.lemmas.List.{get_or_past}
 use Rattle.std.proofs.lemmas.List.Sums.{sum_by-cons}
 use Rattle.cr_syntax.specs.Kept.{PartsAreBelow}
-use Rattle.cr_syntax.specs.Words.{AreSpans}
 use Rattle.cr_syntax.specs.declared.ctype.CType.TheVariants.{Void, Int, Pointer, Array, Struct, Function, Unknown}
-use Rattle.cr_check_types.specs.declared.layout.Layout.{Layout}
-use Rattle.cr_check_types.specs.declared.shape.Shape.{Shape}
-use Rattle.cr_check_types.specs.Types.{Qualified, plain, pointer, array, unknown, type_at, IsTable}
+use Rattle.cr_check_types.specs.Types.{Qualified, plain, pointer, array, type_at}
 use Rattle.cr_check_types.specs.Layouts.{layout_of}
 use Rattle.cr_typed.specs.declared.typed.Typed.{Typed}
-use Rattle.cr_typed.specs.Typed.{IsTyped, AreBelow, IsBefore, row_cells, MOST_CELLS}
+use Rattle.cr_typed.specs.Typed.{AreBelow, IsBefore, row_cells, MOST_CELLS}
 use Rattle.cr_typed_fit.specs.declared.extents.Extent.{Extent}
-use Rattle.cr_typed_fit.specs.Fits.{HasColumns, HasNumbers, HasRoom, AreExtents, AreSuited, are_below, are_all_below, is_node, is_small, is_before, counts_of, structure_within, extent_of, no_extent, cells_in}
+use Rattle.cr_typed_fit.specs.Fits.{HasNodes, HasNumbers, HasRoom, IsFitting, AreExtents, are_below, are_all_below, is_node, is_small, is_before, structure_within, extent_of, no_extent, cells_in}
 use Rattle.cr_typed_fit.proofs.Taken.{beyond}
 
 -- ---- tests of all items
@@ -41,6 +38,15 @@ read [] k d h = absurd (omega (arith, h))
 read (x ∷ xs) zero d h = refl
 read (x ∷ xs) (suc k) d h = read xs k d (omega (arith, h))
 
+-- what any row takes, one that isn't there too
+taken : (t : Typed) (extents : List Extent) → AreExtents t.shapes t.layouts (length t.shapes) extents → (row : ℕ)
+    → slice_index_or extents row no_extent ≡ extent_of t.layouts (type_at t.shapes row)
+taken t extents made row = elim (cases_lt row (length t.shapes)) [
+  | inl there ↦ made.each row there
+  | inr gone ↦
+      (let count = made.count in get_or_past extents row no_extent (omega (arith, count, gone)) ∙ sym (ap (extent_of t.layouts) (beyond t.shapes row gone)))
+]
+
 small_row : (t : Typed) (extents : List Extent) → AreExtents t.shapes t.layouts (length t.shapes) extents → list_all is_small extents ≡ true
     → (row : ℕ) → row < length t.shapes → row_cells t row ≤ MOST_CELLS
 small_row t extents made small row lt =
@@ -58,14 +64,12 @@ small t extents made tests row = elim (cases_lt row (length t.shapes)) [
       let e : row_cells t row ≡ 0 = ap (λ type. (layout_of t.layouts type).cells) (beyond t.shapes row gone) in omega (arith, e)
 ]
 
--- the cells of rows that are there
 sum_is : (t : Typed) (extents : List Extent) → AreExtents t.shapes t.layouts (length t.shapes) extents → (rows : List ℕ)
-    → are_below (length t.shapes) rows ≡ true → sum_by (cells_in extents) rows ≡ sum_by (row_cells t) rows
-sum_is t extents made [] h = refl
-sum_is t extents made (row ∷ rows) h =
-    let parts = and_parts (nat_lt row (length t.shapes)) (are_below (length t.shapes) rows) h in
-    let here : cells_in extents row ≡ row_cells t row = ap (λ x. x.cells) (made.each row (ltb-true row (length t.shapes) parts.0)) in
-    let rest = sum_is t extents made rows parts.1 in
+    → sum_by (cells_in extents) rows ≡ sum_by (row_cells t) rows
+sum_is t extents made [] = refl
+sum_is t extents made (row ∷ rows) =
+    let here : cells_in extents row ≡ row_cells t row = ap (λ x. x.cells) (taken t extents made row) in
+    let rest = sum_is t extents made rows in
     let one = sum_by-cons (cells_in extents) row rows in
     let other = sum_by-cons (row_cells t) row rows in
     omega (arith, here, rest, one, other)
@@ -82,50 +86,23 @@ before_by node (pointer c v type) h = tt
 before_by node (array n type) h = before_by node type h
 
 before_is : (t : Typed) (extents : List Extent) → AreExtents t.shapes t.layouts (length t.shapes) extents → (node : ℕ) (rows : List ℕ)
-    → are_below (length t.shapes) rows ≡ true → list_all (λ row. is_before node (slice_index_or extents row no_extent).structure) rows ≡ true
+    → list_all (λ row. is_before node (slice_index_or extents row no_extent).structure) rows ≡ true
     → All (λ row. IsBefore node (type_at t.shapes row)) rows
-before_is t extents made node rows low h = λ k d lt.
-    let e = read rows k d lt in
+before_is t extents made node rows h = λ k d lt.
     let row = slice_index_or rows k d in
-    let there = ltb-true row (length t.shapes) (at_all (λ number. nat_lt number (length t.shapes)) rows k row low e) in
     before_by node (type_at t.shapes row)
-    (ap (λ x. is_before node x.structure) (sym (made.each row there))
-    ∙ at_all (λ row. is_before node (slice_index_or extents row no_extent).structure) rows k row h e)
+    (ap (λ x. is_before node x.structure) (sym (taken t extents made row))
+    ∙ at_all (λ own. is_before node (slice_index_or extents own no_extent).structure) rows k row h (read rows k d lt))
 
-count_is : (t : Typed) → HasColumns t → (k n : ℕ) → slice_get (counts_of t) k ≡ Some n → n ≡ length t.nodes
-count_is t columns k n e = eqb-true n (length t.nodes) (at_all (λ own. own == length t.nodes) (counts_of t) k n columns.counts e)
-
-pub typed_fits : (t : Typed) (extents : List Extent) → HasColumns t → HasNumbers t → PartsAreBelow t.nodes → AreSpans t.file t.tokens
-    → AreExtents t.shapes t.layouts (length t.shapes) extents → HasRoom t extents → IsTyped t
-typed_fits t extents columns numbers parts spans made room = record {
-  nodes_fit = columns.nodes_fit;
+pub all_fit : (t : Typed) (extents : List Extent) → HasNodes t → HasNumbers t → PartsAreBelow t.nodes
+    → AreExtents t.shapes t.layouts (length t.shapes) extents → HasRoom t extents → IsFitting t
+all_fit t extents nodes numbers parts made room = record {
+  nodes_fit = nodes.nodes_fit;
   parts_below = parts;
-  spans = spans;
-  table = columns.table;
-  no_type = columns.no_type;
   cells_fit = small t extents made room.small;
-  types_count = count_is t columns 0 (length t.types) refl;
-  types_rows = below_is (length t.shapes) t.types numbers.types;
-  named_count = count_is t columns 1 (length t.named) refl;
-  named_rows = below_is (length t.shapes) t.named numbers.named;
-  refs_count = count_is t columns 2 (length t.refs) refl;
   refs_nodes = nodes_are (length t.nodes) t.refs numbers.refs;
-  valued_count = count_is t columns 3 (length t.valued) refl;
-  durations_count = count_is t columns 4 (length t.durations) refl;
-  constants_count = count_is t columns 5 (length t.constants) refl;
-  layouts_count = count_is t columns 6 (length t.layouts) refl;
-  members_count = count_is t columns 7 (length t.members) refl;
-  members_rows = all_below_is (length t.shapes) t.members numbers.members;
-  members_fit = λ k rows e.
-      let few = (room.members k rows e).few in
-      let is = sum_is t extents made rows (at_all (are_below (length t.shapes)) t.members k rows numbers.members e) in
-      omega (arith, few, is);
-  members_before = λ k rows e.
-      before_is t extents made k rows (at_all (are_below (length t.shapes)) t.members k rows numbers.members e) (room.members k rows e).before;
-  chosen_count = count_is t columns 8 (length t.chosen) refl;
-  parameters_count = count_is t columns 9 (length t.parameters) refl;
+  members_fit = λ k rows e. let few = (room.members k rows e).few in let is = sum_is t extents made rows in omega (arith, few, is);
+  members_before = λ k rows e. before_is t extents made k rows (room.members k rows e).before;
   parameters_nodes = all_below_is (length t.nodes) t.parameters numbers.parameters;
-  plans_count = count_is t columns 10 (length t.plans) refl;
-  texts_count = count_is t columns 11 (length t.texts) refl;
-  main_node = columns.main_node;
+  main_node = nodes.main_node;
 }

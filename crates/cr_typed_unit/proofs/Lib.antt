@@ -1,3 +1,4 @@
+mod Fitted
 mod Made
 mod SameValues
 mod Statics

@@ -1,6 +1,7 @@
 -- The columns of a typed unit as they are made.
 use Rattle.std.proofs.Common.{◌≡◌, List, ℕ, [], subst}
 use Rattle.cr_syntax.specs.declared.unit.Unit as source
+use Rattle.cr_syntax.specs.Words.{AreSpans}
 use Rattle.cr_scopes.specs.declared.names.Names.{Names}
 use Rattle.cr_check_declarations.specs.declared.tree.Tree.{Tree}
 use Rattle.cr_typed.specs.declared.typed.Typed.{Typed}
@@ -11,6 +12,7 @@ use Rattle.cr_check.specs.declared.checked.Checked.{Checked}
 use Rattle.cr_check.specs.Checked.{IsSoundOf}
 use Rattle.cr_typed_unit.specs.Made.{IsMade}
 use Rattle.cr_typed_unit.specs.Typed.{AreColumnsOf, IsTypedOf}
+use Rattle.cr_typed_unit.proofs.Fitted.{is_typed}
 
 -- the columns are nothing of the literals
 pub with_texts : (names : Names) (checked : Checked) (texts : List (List ℕ)) (t : Tree) (j : CheckedColumns)
@@ -38,10 +40,10 @@ with_texts names checked texts t j h = record {
 }
 
 pub typed_of : (file bytes : List ℕ) (unit : source.Unit) (names : Names) (checked rest : Checked) (texts : List (List ℕ)) (typed : Typed)
-    → (sound : IsSoundOf file unit names checked) → bytes ≡ file → texts ≡ checked.texts
+    → (sound : IsSoundOf file unit names checked) → AreSpans file unit.tokens.list.items → bytes ≡ file → texts ≡ checked.texts
     → rest ≡ record { surroundings = checked.surroundings; texts = []; table = checked.table; whole = checked.whole }
     → IsMade bytes unit texts names rest sound.tree typed → IsTypedOf file unit names typed
-typed_of file bytes unit names checked rest texts typed sound of_file of_texts of_checked made = record {
+typed_of file bytes unit names checked rest texts typed sound spans of_file of_texts of_checked made = record {
   checked = checked;
   by = record {
     tree = sound.tree;
@@ -50,8 +52,11 @@ typed_of file bytes unit names checked rest texts typed sound of_file of_texts o
     columns = made.columns;
     are = with_texts names checked [] sound.tree made.columns
         (subst (λ j. AreColumnsOf names j sound.tree made.columns) of_checked made.are);
-    elaborated = subst (λ b. IsElaborated b (parsed_of unit) checked.texts made.columns typed) of_file
-        (subst (λ ts. IsElaborated bytes (parsed_of unit) ts made.columns typed) of_texts made.elaborated);
-    fits = made.fits;
+    elaborated = elaborated;
+    fits = is_typed file unit checked.texts made.columns typed elaborated spans sound.is.texts.count made.fits;
   };
 }
+  where
+    elaborated : IsElaborated file (parsed_of unit) checked.texts made.columns typed
+    elaborated = subst (λ b. IsElaborated b (parsed_of unit) checked.texts made.columns typed) of_file
+        (subst (λ ts. IsElaborated bytes (parsed_of unit) ts made.columns typed) of_texts made.elaborated)

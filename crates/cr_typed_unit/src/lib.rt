@@ -1,7 +1,8 @@
 //! A unit without fault as a typed unit, which can be run.
 //!
-//! `typed` makes the columns of a unit that was checked and found without fault; `specs/Typed.antt` says which those are. That they fit the
-//! unit, which a run asks, is tested. It stands on the whole check, on the columns of a typed unit and on the test of their fit.
+//! `typed` makes the columns of a unit that was checked and found without fault; `specs/Typed.antt` says which those are. That they have
+//! what a run asks is proved, but for the numbers and types of `cr_typed_fit`, which are tested. It stands on the whole check, on the
+//! columns of a typed unit and on the test of their fit.
 #![tactic(auto)]
 
 mod columns;

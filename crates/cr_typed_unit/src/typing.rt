@@ -1,10 +1,10 @@
 // The typed unit of a checked one.
 ghost use Rattle.std.specs.Prelude.{◌≡◌, [], IfOk, OnOk};
 ghost use Rattle.cr_syntax.specs.Words.{AreSpans};
-ghost use Rattle.cr_typed.specs.Typed.{IsTyped};
 ghost use Rattle.cr_check.specs.Checked.{IsSoundOf};
 ghost use Rattle.cr_check_declarations.specs.declared.tree.Tree as tree;
 ghost use Rattle.cr_check_types.specs.Types.{type_at, unknown};
+ghost use Rattle.cr_typed_fit.specs.Fits.{IsFitting};
 ghost use Rattle.cr_typed_unit.specs.Made.{statics_in, IsMade};
 ghost use Rattle.cr_typed_unit.specs.Typed.{IsTypedOf};
 
@@ -95,9 +95,9 @@ fn texts_of(alloc: Global, checked: &mut Checked) -> Row<Row<u8>>
     mem::replace(&mut checked.texts, Row::new(alloc))
 }
 
-// Whether the columns fit the unit. Where they don't, that counts as want of memory.
+// Whether its numbers and types fit the unit. Where they don't, that counts as want of memory.
 fn fitting(alloc: Global, typed: &Typed) -> Result<(), AllocError>
-    ensures { OnOk result (IsTyped typed.now) }
+    ensures { OnOk result (IsFitting typed.now) }
 {
     if fits(alloc, typed)? {
         Ok(())

@@ -1,12 +1,12 @@
 -- The menus of the passes, one after the other.
 use native.Mathlib.Omega.{arith}
-use Rattle.std.proofs.Common.{◌≡◌, ℕ, ◌+◌, Bool, List, [], ◌∷◌, ◌++◌, Result, Ok, Err, IfOk, length, get_or, sym, subst, ◌∙◌, inl, inr}
+use Rattle.std.proofs.Common.{◌≡◌, ℕ, ◌+◌, Bool, List, [], ◌∷◌, ◌++◌, length, get_or, sym, subst, ◌∙◌, inl, inr}
 use Rattle.std.proofs.Math.ListN.{get_or-append}
 use Rattle.std.proofs.Math.Seq.{get_or-append_seam}
 use Rattle.std.proofs.lemmas.Bool.{cases_lt}
 use Rattle.cr_lawful_analysis.specs.Analysis.{Read}
 use Rattle.pass_edit.specs.Menu.{Offering}
-use Rattle.pass_list.specs.Offers.{AreMenus, IfOn, IsFew, IsOfFew, IsOffered, is_on, nothing}
+use Rattle.pass_list.specs.Offers.{AreMenus, IfOn, IsOffered, is_on, nothing}
 use Rattle.pass_list.specs.Passes.{pass_by}
 
 pub menus_more : (enabled : List Bool) (file : List ℕ) (read : Read) (menus : List Offering) (menu : Offering) (at : ℕ) → length menus ≡ at
@@ -21,9 +21,3 @@ menus_more enabled file read menus menu at count are is pass low = elim (cases_l
       subst (IfOn (is_on enabled pass) (IsOffered file read (pass_by pass))) (sym found)
       (subst (λ n. IfOn (is_on enabled n) (IsOffered file read (pass_by n)) menu) here is))
 ]
-
--- a menu that is known, and whose levels have no more edits than so many
-pub of_few : {E : Type 0} (result : Result Offering E) (most : ℕ) (menu offered : Offering) → IfOk result (λ m. m ≡ menu) → IfOk result (IsFew most) → menu ≡ offered
-    → IfOk result (IsOfFew most (λ m. m ≡ offered))
-of_few (Ok m) most menu offered same few is = record { offered = same ∙ is; few = few }
-of_few (Err e) most menu offered same few is = tt

@@ -8,18 +8,22 @@ use Rattle.std.specs.Prelude.{nat_eq, nat_le, ◌&&◌, slice_index_or}
 use Rattle.std.specs.Int.{div_ceil}
 use Rattle.std.proofs.lemmas.Bool.{cases_lt}
 use Rattle.std.proofs.lemmas.Bool.Decides.{nat_tests}
-use Rattle.std.proofs.lemmas.List.{ext_get_or, get_or_past, length-append}
+use Rattle.std.proofs.lemmas.List.{ext_get_or, get_or_past, length-append, length-map}
 use Rattle.std.proofs.lemmas.Option.{none-some}
 use Rattle.cr_tokens.specs.declared.token.Token.{Token}
 use Rattle.cr_tokens.specs.Tokens.{Tokenizes}
 use Rattle.cr_tokens.proofs.Measures.{falls_length}
 use Rattle.cr_cursor.specs.Variants.{Offer}
+use Rattle.cr_syntax.specs.Spells.{AtMost}
+use Rattle.cr_syntax.specs.Units.{most_levels}
+use Rattle.cr_syntax.specs.Words.{lexeme_of, lexemes_of}
 use Rattle.pass_edit.specs.declared.change.Change.{Change}
 use Rattle.pass_levels.specs.Gathered.{gathered}
 use Rattle.pass_levels.specs.Places.{gone}
 use Rattle.pass_edit.specs.Menu.{Offering, level_of}
 use Rattle.cr_scopes.specs.declared.names.Names.{Names}
-use Rattle.cr_lawful_analysis.specs.Analysis.{IsRead, Read, Tree, no_tokens, no_unit, of_unit}
+use Rattle.cr_lawful_analysis.specs.Analysis.{AreItsNames, IsParsed, IsRead, Read, Tree, no_tokens, no_unit, of_unit, tokens_alone, tree_of, unit_read}
+use Rattle.cr_lawful_analysis.specs.Members.{structures_of}
 use Rattle.cr_lawful_analysis.proofs.Same.{one_read}
 use Rattle.cr_printer.proofs.Neighbours.{prints_one_text}
 use Rattle.pass_text.specs.Lines.{chunk_of, chunks_of, lines_of}
@@ -31,6 +35,13 @@ use Rattle.pass_text.proofs.BracketLemmas.{few_offered, one_offering}
 use Rattle.pass_stmts.specs.Printed.{IsPrintedOffering, f_offering}
 use Rattle.pass_names.specs.Renamed.{renaming_by}
 use Rattle.pass_names.specs.Short.{first_free}
+use Rattle.pass_widths.specs.Few.{AreFew, AreOfUnit}
+use Rattle.pass_widths.proofs.Calls.{inlined_few}
+use Rattle.pass_widths.proofs.Expressions.{expressions_few}
+use Rattle.pass_widths.proofs.Names.{printed_few, renamed_few}
+use Rattle.pass_widths.proofs.Parameters.{parameters_few}
+use Rattle.pass_widths.proofs.Statements.{statements_few}
+use Rattle.pass_widths.proofs.Unused.{unused_few}
 use Rattle.pass_list.specs.declared.pass.Pass.{Pass}
 use Rattle.pass_list.specs.declared.pass.Pass.TheVariants.{Brackets, Expressions, Inlined, Lines, NotThere, Parameters, Printed, Renamed, Runs, Statements, Unused}
 use Rattle.pass_list.specs.Passes.{levels_of, pass_by}
@@ -94,13 +105,13 @@ one_offered file read Lines menu other is also = is ∙ sym also
 one_offered file read Runs menu other is also = one_by_tokens read.tokens _ menu other (λ ts a b. a ∙ sym b) is also
 one_offered file read Brackets menu other is also = one_by_tokens read.tokens _ menu other (λ ts a b. one_offering file ts menu other a b) is also
 one_offered file read Unused menu other is also = one_by_tokens read.tokens _ menu other (λ ts. one_by_tree read.tree _ menu other (λ t. one_by_names read.names _ menu other
-    (λ n. one_by_structures read.structures _ menu other (λ s a b. a.offered ∙ sym b.offered)))) is also
-one_offered file read Statements menu other is also = one_by_tokens read.tokens _ menu other (λ ts. one_by_tree read.tree _ menu other (λ t a b. a.offered ∙ sym b.offered)) is also
-one_offered file read Expressions menu other is also = one_by_tokens read.tokens _ menu other (λ ts. one_by_tree read.tree _ menu other (λ t a b. a.offered ∙ sym b.offered)) is also
-one_offered file read Inlined menu other is also = one_by_tokens read.tokens _ menu other (λ ts. one_by_tree read.tree _ menu other (λ t. one_by_names read.names _ menu other (λ n a b. a.offered ∙ sym b.offered))) is also
-one_offered file read Parameters menu other is also = one_by_tokens read.tokens _ menu other (λ ts. one_by_tree read.tree _ menu other (λ t. one_by_names read.names _ menu other (λ n a b. a.offered ∙ sym b.offered))) is also
-one_offered file read Renamed menu other is also = one_by_tokens read.tokens _ menu other (λ ts. one_by_tree read.tree _ menu other (λ t. one_by_names read.names _ menu other (λ n a b. a.offered ∙ sym b.offered))) is also
-one_offered file read Printed menu other is also = one_by_tokens read.tokens _ menu other (λ ts. one_by_tree read.tree _ menu other (λ t a b. one_printed file ts menu other a.offered b.offered)) is also
+    (λ n. one_by_structures read.structures _ menu other (λ s a b. a ∙ sym b)))) is also
+one_offered file read Statements menu other is also = one_by_tokens read.tokens _ menu other (λ ts. one_by_tree read.tree _ menu other (λ t a b. a ∙ sym b)) is also
+one_offered file read Expressions menu other is also = one_by_tokens read.tokens _ menu other (λ ts. one_by_tree read.tree _ menu other (λ t a b. a ∙ sym b)) is also
+one_offered file read Inlined menu other is also = one_by_tokens read.tokens _ menu other (λ ts. one_by_tree read.tree _ menu other (λ t. one_by_names read.names _ menu other (λ n a b. a ∙ sym b))) is also
+one_offered file read Parameters menu other is also = one_by_tokens read.tokens _ menu other (λ ts. one_by_tree read.tree _ menu other (λ t. one_by_names read.names _ menu other (λ n a b. a ∙ sym b))) is also
+one_offered file read Renamed menu other is also = one_by_tokens read.tokens _ menu other (λ ts. one_by_tree read.tree _ menu other (λ t. one_by_names read.names _ menu other (λ n a b. a ∙ sym b))) is also
+one_offered file read Printed menu other is also = one_by_tokens read.tokens _ menu other (λ ts. one_by_tree read.tree _ menu other (λ t a b. one_printed file ts menu other a b)) is also
 one_offered file read NotThere menu other is also = is ∙ sym also
 
 known_by : (enabled : List Bool) (file : List ℕ) (known other : Known) (a : IsKnown enabled file known) (b : IsKnown enabled file other) → a.read ≡ b.read → known ≡ other
@@ -141,22 +152,22 @@ none_offered file read Runs menu level is few = by_tokens read.tokens _ (λ m. l
 none_offered file read Brackets menu level is few = by_tokens read.tokens _ (λ m. length (level_of m level) ≡ 0) menu (λ ts e a. without_brackets file ts menu level a few) refl is
 none_offered file read Unused menu level is few = by_tokens read.tokens _ (λ m. length (level_of m level) ≡ 0) menu
     (λ ts e. by_tree read.tree _ (λ m. length (level_of m level) ≡ 0) menu (λ t. by_names read.names _ (λ m. length (level_of m level) ≡ 0) menu
-    (λ n. by_structures read.structures _ (λ m. length (level_of m level) ≡ 0) menu (λ s a. without menu _ 4 level a.offered refl few) refl) refl) refl) refl is
+    (λ n. by_structures read.structures _ (λ m. length (level_of m level) ≡ 0) menu (λ s a. without menu _ 4 level a refl few) refl) refl) refl) refl is
 none_offered file read Statements menu level is few = by_tokens read.tokens _ (λ m. length (level_of m level) ≡ 0) menu
-    (λ ts e. by_tree read.tree _ (λ m. length (level_of m level) ≡ 0) menu (λ t a. without menu _ 6 level a.offered refl few) refl) refl is
+    (λ ts e. by_tree read.tree _ (λ m. length (level_of m level) ≡ 0) menu (λ t a. without menu _ 6 level a refl few) refl) refl is
 none_offered file read Expressions menu level is few = by_tokens read.tokens _ (λ m. length (level_of m level) ≡ 0) menu
-    (λ ts e. by_tree read.tree _ (λ m. length (level_of m level) ≡ 0) menu (λ t a. without menu _ 4 level a.offered refl few) refl) refl is
+    (λ ts e. by_tree read.tree _ (λ m. length (level_of m level) ≡ 0) menu (λ t a. without menu _ 4 level a refl few) refl) refl is
 none_offered file read Inlined menu level is few = by_tokens read.tokens _ (λ m. length (level_of m level) ≡ 0) menu
     (λ ts e. by_tree read.tree _ (λ m. length (level_of m level) ≡ 0) menu (λ t. by_names read.names _ (λ m. length (level_of m level) ≡ 0) menu
-    (λ n a. without menu _ 2 level a.offered refl few) refl) refl) refl is
+    (λ n a. without menu _ 2 level a refl few) refl) refl) refl is
 none_offered file read Parameters menu level is few = by_tokens read.tokens _ (λ m. length (level_of m level) ≡ 0) menu
     (λ ts e. by_tree read.tree _ (λ m. length (level_of m level) ≡ 0) menu (λ t. by_names read.names _ (λ m. length (level_of m level) ≡ 0) menu
-    (λ n a. without menu _ 1 level a.offered refl few) refl) refl) refl is
+    (λ n a. without menu _ 1 level a refl few) refl) refl) refl is
 none_offered file read Renamed menu level is few = by_tokens read.tokens _ (λ m. length (level_of m level) ≡ 0) menu
     (λ ts e. by_tree read.tree _ (λ m. length (level_of m level) ≡ 0) menu (λ t. by_names read.names _ (λ m. length (level_of m level) ≡ 0) menu
-    (λ n a. without menu _ 1 level a.offered (one_renaming (first_free file ts) ts n _) few) refl) refl) refl is
+    (λ n a. without menu _ 1 level a (one_renaming (first_free file ts) ts n _) few) refl) refl) refl is
 none_offered file read Printed menu level is few = by_tokens read.tokens _ (λ m. length (level_of m level) ≡ 0) menu
-    (λ ts e. by_tree read.tree _ (λ m. length (level_of m level) ≡ 0) menu (λ t a. without menu _ 1 level a.offered.is refl few) refl) refl is
+    (λ ts e. by_tree read.tree _ (λ m. length (level_of m level) ≡ 0) menu (λ t a. without menu _ 1 level a.is refl few) refl) refl is
 none_offered file read NotThere menu level is few = without menu nothing 0 level is refl (omega arith)
 
 few_levels : (pass : Pass) → levels_of pass ≤ 15
@@ -195,39 +206,72 @@ read_tokens file _ tokens (no_tokens none) e = absurd (none-some tokens e)
 read_tokens file _ tokens (no_unit {tokens = ts} is none) e = let same : ts ≡ tokens = cc in subst (Tokenizes file) same is
 read_tokens file _ tokens (of_unit {tokens = ts} is are) e = let same : ts ≡ tokens = cc in subst (Tokenizes file) same is
 
--- a level that is tested, or isn't there
-tested : (most : ℕ) (menu : Offering) (level : ℕ) → ((level : ℕ) → level < 16 → length (level_of menu level) ≤ most) → (15 ≤ level → length (level_of menu level) ≡ 0) → length (level_of menu level) ≤ most
-tested most menu level few none = elim (cases_lt level 16) [ inl low ↦ few level low | inr high ↦ (let no = none (omega (arith, high)) in omega (arith, no)) ]
+-- A unit that is read, its nodes listed in order.
+lexemes_count : (file : List ℕ) (tokens : List Token) → length (lexemes_of file tokens) ≡ length tokens
+lexemes_count file tokens = length-map tokens (lexeme_of file)
 
-few_in : (file : List ℕ) (read : Read) (pass : Pass) (menu : Offering) (level : ℕ) → IsRead file read → IsOffered file read pass menu → length (level_of menu level) ≤ length file
-few_in file read Lines menu level known is = let no = none_offered file read Lines menu level is in subst (λ (m : Offering). length (level_of m level) ≤ length file) (sym is) (omega arith)
-few_in file read Runs menu level known is = by_tokens read.tokens _ (λ m. length (level_of m level) ≤ length file) menu
-    (λ ts e a. subst (λ m. length (level_of m level) ≤ length file) (sym a) (runs_offered file ts (read_tokens file read ts known e) level)) (omega arith) is
-few_in file read Brackets menu level known is = by_tokens read.tokens _ (λ m. length (level_of m level) ≤ length file) menu
-    (λ ts e a. few_offered file ts menu level (read_tokens file read ts known e) a) (omega arith) is
-few_in file read Unused menu level known is = by_tokens read.tokens _ (λ m. length (level_of m level) ≤ length file) menu
-    (λ ts e. by_tree read.tree _ (λ m. length (level_of m level) ≤ length file) menu (λ t. by_names read.names _ (λ m. length (level_of m level) ≤ length file) menu
-    (λ n. by_structures read.structures _ (λ m. length (level_of m level) ≤ length file) menu
-    (λ s a. tested (length file) menu level a.few (λ high. none_offered file read Unused menu level is (omega (arith, high)))) (omega arith)) (omega arith)) (omega arith)) (omega arith) is
-few_in file read Statements menu level known is = by_tokens read.tokens _ (λ m. length (level_of m level) ≤ length file) menu
-    (λ ts e. by_tree read.tree _ (λ m. length (level_of m level) ≤ length file) menu
-    (λ t a. tested (length file) menu level a.few (λ high. none_offered file read Statements menu level is (omega (arith, high)))) (omega arith)) (omega arith) is
-few_in file read Expressions menu level known is = by_tokens read.tokens _ (λ m. length (level_of m level) ≤ length file) menu
-    (λ ts e. by_tree read.tree _ (λ m. length (level_of m level) ≤ length file) menu
-    (λ t a. tested (length file) menu level a.few (λ high. none_offered file read Expressions menu level is (omega (arith, high)))) (omega arith)) (omega arith) is
-few_in file read Inlined menu level known is = by_tokens read.tokens _ (λ m. length (level_of m level) ≤ length file) menu
-    (λ ts e. by_tree read.tree _ (λ m. length (level_of m level) ≤ length file) menu (λ t. by_names read.names _ (λ m. length (level_of m level) ≤ length file) menu
-    (λ n a. tested (length file) menu level a.few (λ high. none_offered file read Inlined menu level is (omega (arith, high)))) (omega arith)) (omega arith)) (omega arith) is
-few_in file read Parameters menu level known is = by_tokens read.tokens _ (λ m. length (level_of m level) ≤ length file) menu
-    (λ ts e. by_tree read.tree _ (λ m. length (level_of m level) ≤ length file) menu (λ t. by_names read.names _ (λ m. length (level_of m level) ≤ length file) menu
-    (λ n a. tested (length file) menu level a.few (λ high. none_offered file read Parameters menu level is (omega (arith, high)))) (omega arith)) (omega arith)) (omega arith) is
-few_in file read Renamed menu level known is = by_tokens read.tokens _ (λ m. length (level_of m level) ≤ length file) menu
-    (λ ts e. by_tree read.tree _ (λ m. length (level_of m level) ≤ length file) menu (λ t. by_names read.names _ (λ m. length (level_of m level) ≤ length file) menu
-    (λ n a. tested (length file) menu level a.few (λ high. none_offered file read Renamed menu level is (omega (arith, high)))) (omega arith)) (omega arith)) (omega arith) is
-few_in file read Printed menu level known is = by_tokens read.tokens _ (λ m. length (level_of m level) ≤ length file) menu
-    (λ ts e. by_tree read.tree _ (λ m. length (level_of m level) ≤ length file) menu
-    (λ t a. tested (length file) menu level a.few (λ high. none_offered file read Printed menu level is (omega (arith, high)))) (omega arith)) (omega arith) is
-few_in file read NotThere menu level known is = subst (λ (m : Offering). length (level_of m level) ≤ length file) (sym is) (omega arith)
+of_parsed : {file : List ℕ} {tokens : List Token} {tree : Tree} → IsParsed file tokens tree → AreOfUnit (length tokens) tree.nodes tree.items
+of_parsed {file = file} {tokens = tokens} it = record {
+  lexemes = lexemes_of file tokens;
+  limit = AtMost most_levels;
+  count_is = lexemes_count file tokens;
+  is_unit = it.is_tree.is_unit;
+  below = it.below;
+  listed = it.listed;
+}
+
+-- no more than the tokens are no more than the bytes
+fewer : (file : List ℕ) (tokens : List Token) (menu offered : Offering) → Tokenizes file tokens → menu ≡ offered → AreFew (length tokens) offered → AreFew (length file) menu
+fewer file tokens menu offered is same few = subst (AreFew (length file)) (sym same) (λ level. let le = few level in let all = falls_length is.falls in omega (arith, le, all))
+
+none_few : (most : ℕ) (menu : Offering) → menu ≡ nothing → AreFew most menu
+none_few most menu is = subst (AreFew most) (sym is) (λ level. omega arith)
+
+of_tokens_few : (file : List ℕ) (tokens : List Token) (pass : Pass) (menu : Offering) → Tokenizes file tokens → IsOffered file (tokens_alone (Some tokens)) pass menu → AreFew (length file) menu
+of_tokens_few file tokens Runs menu is offered = subst (AreFew (length file)) (sym offered) (runs_offered file tokens is)
+of_tokens_few file tokens Brackets menu is offered = λ level. few_offered file tokens menu level is offered
+of_tokens_few file tokens Lines menu is offered = none_few (length file) menu offered
+of_tokens_few file tokens Unused menu is offered = none_few (length file) menu offered
+of_tokens_few file tokens Statements menu is offered = none_few (length file) menu offered
+of_tokens_few file tokens Expressions menu is offered = none_few (length file) menu offered
+of_tokens_few file tokens Inlined menu is offered = none_few (length file) menu offered
+of_tokens_few file tokens Parameters menu is offered = none_few (length file) menu offered
+of_tokens_few file tokens Renamed menu is offered = none_few (length file) menu offered
+of_tokens_few file tokens Printed menu is offered = none_few (length file) menu offered
+of_tokens_few file tokens NotThere menu is offered = none_few (length file) menu offered
+
+no_tokens_few : (file : List ℕ) (pass : Pass) (menu : Offering) → IsOffered file (tokens_alone None) pass menu → AreFew (length file) menu
+no_tokens_few file Runs menu offered = none_few (length file) menu offered
+no_tokens_few file Brackets menu offered = none_few (length file) menu offered
+no_tokens_few file Lines menu offered = none_few (length file) menu offered
+no_tokens_few file Unused menu offered = none_few (length file) menu offered
+no_tokens_few file Statements menu offered = none_few (length file) menu offered
+no_tokens_few file Expressions menu offered = none_few (length file) menu offered
+no_tokens_few file Inlined menu offered = none_few (length file) menu offered
+no_tokens_few file Parameters menu offered = none_few (length file) menu offered
+no_tokens_few file Renamed menu offered = none_few (length file) menu offered
+no_tokens_few file Printed menu offered = none_few (length file) menu offered
+no_tokens_few file NotThere menu offered = none_few (length file) menu offered
+
+of_unit_few : (file : List ℕ) (tokens : List Token) (tree : Tree) (names : Names) (structures : List (Option ℕ)) (pass : Pass) (menu : Offering) → Tokenizes file tokens
+    → IsParsed file tokens tree → AreItsNames file tokens tree names → IsOffered file (unit_read tokens tree names structures) pass menu → AreFew (length file) menu
+of_unit_few file tokens tree names structures Runs menu is parsed known offered = subst (AreFew (length file)) (sym offered) (runs_offered file tokens is)
+of_unit_few file tokens tree names structures Brackets menu is parsed known offered = λ level. few_offered file tokens menu level is offered
+of_unit_few file tokens tree names structures Lines menu is parsed known offered = none_few (length file) menu offered
+of_unit_few file tokens tree names structures Unused menu is parsed known offered = fewer file tokens menu _ is offered (unused_few file tokens names (of_parsed parsed) structures)
+of_unit_few file tokens tree names structures Statements menu is parsed known offered = fewer file tokens menu _ is offered (statements_few file tokens (of_parsed parsed))
+of_unit_few file tokens tree names structures Expressions menu is parsed known offered = fewer file tokens menu _ is offered (expressions_few tokens (of_parsed parsed))
+of_unit_few file tokens tree names structures Inlined menu is parsed known offered = fewer file tokens menu _ is offered (inlined_few tokens names (of_parsed parsed))
+of_unit_few file tokens tree names structures Parameters menu is parsed known offered = fewer file tokens menu _ is offered (parameters_few file tokens names (of_parsed parsed))
+of_unit_few file tokens tree names structures Renamed menu is parsed known offered = fewer file tokens menu _ is offered (renamed_few file tokens tree.nodes tree.items names _ known.names)
+of_unit_few file tokens tree names structures Printed menu is parsed known offered = fewer file tokens menu menu is refl (printed_few file tokens tree.nodes tree.items menu (of_parsed parsed) offered)
+of_unit_few file tokens tree names structures NotThere menu is parsed known offered = none_few (length file) menu offered
+
+few_in : (file : List ℕ) (read : Read) (pass : Pass) (menu : Offering) → IsRead file read → IsOffered file read pass menu → AreFew (length file) menu
+few_in file _ pass menu (no_tokens none) offered = no_tokens_few file pass menu offered
+few_in file _ pass menu (no_unit {tokens = tokens} is none) offered = of_tokens_few file tokens pass menu is offered
+few_in file _ pass menu (of_unit {tokens = tokens} {unit = unit} {names = names} {checked = checked} is it) offered =
+    of_unit_few file tokens (tree_of unit) names (structures_of unit.nodes checked) pass menu is it.parsed it.known offered
 
 -- What holds of every menu that its pass offers, and of nothing, holds of what is known of a pass.
 known_menu : (enabled : List Bool) (file : List ℕ) (known : Known) (pass : ℕ) (Q : Offering → Type 0) → (is : IsKnown enabled file known)
@@ -251,7 +295,7 @@ few_known : (enabled : List Bool) (file : List ℕ) (known : Known) (pass level 
 few_known enabled file known pass level is = elim (pass == 0) as (λ t. (if t then chunks_of known.lines 0 level else length (level_of (menu_at known.menus pass) level)) ≤ length file) [
   | true ↦ (let chunks = chunks_few known.lines 0 level in let lines = lines_known (is_on enabled 0) file in let known_lines = is.lines in omega (arith, chunks, lines, known_lines))
   | false ↦ known_menu enabled file known pass (λ m. length (level_of m level) ≤ length file) is
-      (λ offered. ∥∥₁_elim is.is_read (hlevel props) (λ read. few_in file is.read (pass_by pass) (menu_at known.menus pass) level read offered)) (omega arith)
+      (λ offered. ∥∥₁_elim is.is_read (hlevel props) (λ read. few_in file is.read (pass_by pass) (menu_at known.menus pass) read offered level)) (omega arith)
 ]
 
 pub few_variants : (enabled : List Bool) (file : List ℕ) (o : Offer) (pass level : ℕ) → Offers enabled file o → o.widths pass level ≤ length file

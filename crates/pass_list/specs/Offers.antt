@@ -1,5 +1,5 @@
 -- What the passes offer for a file.
-use Rattle.std.specs.Prelude.{◌≡◌, ◌<◌, ◌≤◌, ℕ, Bool, true, false, List, [], Option, Some, None, length, slice_index_or, ◌==◌, if◌then◌else◌}
+use Rattle.std.specs.Prelude.{◌≡◌, ◌<◌, ℕ, Bool, true, false, List, [], Option, Some, None, length, slice_index_or, ◌==◌, if◌then◌else◌}
 use Rattle.cr_tokens.specs.declared.token.Token.{Token}
 use Rattle.cr_tokens.specs.Tokens.{Tokenizes}
 use Rattle.cr_cursor.specs.Variants.{Offer}
@@ -63,35 +63,21 @@ abbrev pub ByStructures : Option (List (Option ℕ)) → (List (Option ℕ) → 
 ByStructures None IsOffered menu = menu ≡ nothing
 ByStructures (Some structures) IsOffered menu = IsOffered structures menu
 
--- no level has more edits than so many
-abbrev pub IsFew : ℕ → Offering → Type 0
-IsFew most menu = (level : ℕ) → level < 16 → length (level_of menu level) ≤ most
-
--- what is offered, of which no level has more edits than so many
-pub record IsOfFew (most : ℕ) (IsIt : Offering → Type 0) (menu : Offering) : Type 0 where
-  pub offered : IsIt menu
-  pub few : IsFew most menu
-
 -- What a pass behind the lines offers by what is read of a file.
 abbrev pub IsOffered : List ℕ → Read → Pass → Offering → Type 0
 IsOffered file read Lines menu = menu ≡ nothing
 IsOffered file read Runs menu = ByTokens read.tokens (λ tokens menu. menu ≡ t_offering tokens) menu
 IsOffered file read Brackets menu = ByTokens read.tokens (IsBracketOffering file) menu
 IsOffered file read Unused menu =
-    ByTokens read.tokens (λ tokens. ByTree read.tree (λ tree. ByNames read.names (λ names. ByStructures read.structures (λ structures.
-    IsOfFew (length file) (λ m. m ≡ u_offering file tokens tree.nodes tree.items names structures))))) menu
-IsOffered file read Statements menu = ByTokens read.tokens (λ tokens. ByTree read.tree (λ tree. IsOfFew (length file) (λ m. m ≡ s_offering file tokens tree.nodes))) menu
-IsOffered file read Expressions menu = ByTokens read.tokens (λ tokens. ByTree read.tree (λ tree. IsOfFew (length file) (λ m. m ≡ c_offering tokens tree.nodes))) menu
-IsOffered file read Inlined menu =
-    ByTokens read.tokens (λ tokens. ByTree read.tree (λ tree. ByNames read.names (λ names.
-    IsOfFew (length file) (λ m. m ≡ i_offering tokens tree.nodes names)))) menu
-IsOffered file read Parameters menu =
-    ByTokens read.tokens (λ tokens. ByTree read.tree (λ tree. ByNames read.names (λ names.
-    IsOfFew (length file) (λ m. m ≡ p_offering file tokens tree.nodes names)))) menu
+    ByTokens read.tokens (λ tokens. ByTree read.tree (λ tree. ByNames read.names (λ names. ByStructures read.structures (λ structures m.
+    m ≡ u_offering file tokens tree.nodes tree.items names structures)))) menu
+IsOffered file read Statements menu = ByTokens read.tokens (λ tokens. ByTree read.tree (λ tree m. m ≡ s_offering file tokens tree.nodes)) menu
+IsOffered file read Expressions menu = ByTokens read.tokens (λ tokens. ByTree read.tree (λ tree m. m ≡ c_offering tokens tree.nodes)) menu
+IsOffered file read Inlined menu = ByTokens read.tokens (λ tokens. ByTree read.tree (λ tree. ByNames read.names (λ names m. m ≡ i_offering tokens tree.nodes names))) menu
+IsOffered file read Parameters menu = ByTokens read.tokens (λ tokens. ByTree read.tree (λ tree. ByNames read.names (λ names m. m ≡ p_offering file tokens tree.nodes names))) menu
 IsOffered file read Renamed menu =
-    ByTokens read.tokens (λ tokens. ByTree read.tree (λ tree. ByNames read.names (λ names.
-    IsOfFew (length file) (λ m. m ≡ r_offering file tokens tree.nodes tree.items names)))) menu
-IsOffered file read Printed menu = ByTokens read.tokens (λ tokens. ByTree read.tree (λ tree. IsOfFew (length file) (IsPrintedOffering file tokens))) menu
+    ByTokens read.tokens (λ tokens. ByTree read.tree (λ tree. ByNames read.names (λ names m. m ≡ r_offering file tokens tree.nodes tree.items names))) menu
+IsOffered file read Printed menu = ByTokens read.tokens (λ tokens. ByTree read.tree (λ tree. IsPrintedOffering file tokens)) menu
 IsOffered file read NotThere menu = menu ≡ nothing
 
 -- the tokens of a unit that is read are the file's

@@ -1,7 +1,7 @@
 // What is made once for a file.
-ghost use Rattle.std.specs.Prelude.{◌≡◌, ◌≤◌, true, IfOk, MatchOption, length};
+ghost use Rattle.std.specs.Prelude.{◌≡◌, ◌≤◌, IfOk, MatchOption, length};
 ghost use Rattle.cr_lawful_analysis.specs.Analysis.{IsAnalysis, read_of};
-ghost use Rattle.pass_list.specs.Offers.{AreMenus, ByNames, ByStructures, ByTokens, ByTree, HasFilesTokens, IfOn, IsFew, IsKnown, IsOfFew, IsOffered, is_on, menu_at, nothing};
+ghost use Rattle.pass_list.specs.Offers.{AreMenus, ByNames, ByStructures, ByTokens, ByTree, HasFilesTokens, IfOn, IsKnown, IsOffered, is_on, menu_at, nothing};
 ghost use Rattle.pass_list.specs.Passes.{pass_by};
 ghost use Rattle.pass_exprs.specs.Expressions.{c_offering};
 ghost use Rattle.pass_inline.specs.Inlined.{i_offering};
@@ -16,14 +16,14 @@ ghost use Rattle.pass_text.specs.Runs.{t_offering};
 use crate::pass::{Pass, pass_by};
 use cr_cursor::NoMemory;
 use cr_lawful_analysis::Analysis;
-use pass_edit::{Kept, Menu, width};
+use pass_edit::{Kept, Menu};
 use pass_exprs::expressions;
 use pass_inline::inlined;
 use pass_names::{renamed, unused};
 use pass_params::parameters;
 use pass_stmts::{printed, statements};
 use pass_text::{brackets, count_lines, runs_of_tokens};
-use std::alloc::{AllocError, Global};
+use std::alloc::Global;
 use std::marker::Model;
 
 /// What the enabled passes offer for a file: how many lines there are, and a menu for each other pass, by its number.
@@ -174,8 +174,7 @@ fn unused_offered(alloc: Global, file: &[u8], analysis: &Analysis) -> Result<Men
 {
     match analysis {
         Analysis::OfUnit(unit, names, structures) => {
-            let structures = structures.as_slice();
-            if_few(unused(alloc, file, unit, names, structures)?, file.len())
+            unused(alloc, file, unit, names, structures.as_slice())
         }
         _ => Ok(nothing(alloc)),
     }
@@ -185,7 +184,7 @@ fn inlined_offered(alloc: Global, file: &[u8], analysis: &Analysis) -> Result<Me
     ensures { IfOk result (IsOffered file.now (read_of analysis.now) Pass.Inlined) }
 {
     match analysis {
-        Analysis::OfUnit(unit, names, _) => if_few(inlined(alloc, unit, names)?, file.len()),
+        Analysis::OfUnit(unit, names, _) => inlined(alloc, unit, names),
         _ => Ok(nothing(alloc)),
     }
 }
@@ -194,10 +193,7 @@ fn parameters_offered(alloc: Global, file: &[u8], analysis: &Analysis) -> Result
     ensures { IfOk result (IsOffered file.now (read_of analysis.now) Pass.Parameters) }
 {
     match analysis {
-        Analysis::OfUnit(unit, names, _) => if_few(
-            parameters(alloc, file, unit, names)?,
-            file.len(),
-        ),
+        Analysis::OfUnit(unit, names, _) => parameters(alloc, file, unit, names),
         _ => Ok(nothing(alloc)),
     }
 }
@@ -206,7 +202,7 @@ fn renamed_offered(alloc: Global, file: &[u8], analysis: &Analysis) -> Result<Me
     ensures { IfOk result (IsOffered file.now (read_of analysis.now) Pass.Renamed) }
 {
     match analysis {
-        Analysis::OfUnit(unit, names, _) => if_few(renamed(alloc, file, unit, names)?, file.len()),
+        Analysis::OfUnit(unit, names, _) => renamed(alloc, file, unit, names),
         _ => Ok(nothing(alloc)),
     }
 }
@@ -217,10 +213,7 @@ fn statements_offered(alloc: Global, file: &[u8], analysis: &Analysis) -> Result
     match analysis {
         Analysis::OfUnit(unit, _, _) => {
             let tokens = unit.tokens.list.as_slice();
-            if_few(
-                statements(alloc, file, tokens, unit.nodes.as_slice())?,
-                file.len(),
-            )
+            statements(alloc, file, tokens, unit.nodes.as_slice())
         }
         _ => Ok(nothing(alloc)),
     }
@@ -232,10 +225,7 @@ fn expressions_offered(alloc: Global, file: &[u8], analysis: &Analysis) -> Resul
     match analysis {
         Analysis::OfUnit(unit, _, _) => {
             let tokens = unit.tokens.list.as_slice();
-            if_few(
-                expressions(alloc, tokens, unit.nodes.as_slice())?,
-                file.len(),
-            )
+            expressions(alloc, tokens, unit.nodes.as_slice())
         }
         _ => Ok(nothing(alloc)),
     }
@@ -246,30 +236,7 @@ fn printed_offered(alloc: Global, file: &[u8], analysis: &Analysis) -> Result<Me
     ensures { IfOk result (IsOffered file.now (read_of analysis.now) Pass.Printed) }
 {
     match analysis {
-        Analysis::OfUnit(unit, _, _) => if_few(printed(alloc, file, unit)?, file.len()),
+        Analysis::OfUnit(unit, _, _) => printed(alloc, file, unit),
         _ => Ok(nothing(alloc)),
     }
-}
-
-// The menu, where no level has more edits than so many. A level over a tree or its names never has: what it counts has a token of its own.
-fn if_few(menu: Menu, most: usize) -> Result<Menu, NoMemory>
-    ensures same { IfOk result (λ few. few ≡ menu) }
-    ensures few { IfOk result (IsFew most) }
-{
-    if is_few(&menu, most) {
-        Ok(menu)
-    } else {
-        Err(AllocError)
-    }
-}
-
-fn is_few(menu: &Menu, most: usize) -> bool
-    ensures { result ≡ true → IsFew most menu.now }
-{
-    for level in 0..16 {
-        if width(menu, level) > most as u64 {
-            return false;
-        }
-    }
-    true
 }

@@ -1,3 +1,4 @@
 pub mod Functions
+pub mod Grouped
 pub mod Ordered
 pub mod Parameters

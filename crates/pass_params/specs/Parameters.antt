@@ -107,17 +107,17 @@ definitions_give file tokens nodes names functions calls k =
 
 abbrev pub declarator_gives : ParametersGo → ℕ → List Counted
 declarator_gives l declarator =
-    definition_by kind.FunctionDefinition l.file.now l.tokens.now l.nodes.now l.names.now l.functions.now l.calls.now declarator
+    definition_by kind.FunctionDefinition l.file.now l.tokens.now l.known.now.nodes.now l.known.now.names.now l.known.now.functions.now l.known.now.calls.now declarator
 
 abbrev pub function_gives : ParametersGo → ℕ → ℕ → List Counted
 function_gives l token function =
-    named_gives l.file.now l.tokens.now l.nodes.now l.names.now l.functions.now l.calls.now (Function function) (Some token)
+    named_gives l.file.now l.tokens.now l.known.now.nodes.now l.known.now.names.now l.known.now.functions.now l.known.now.calls.now (Function function) (Some token)
 
 abbrev pub list_gives : ParametersGo → ℕ → List ℕ → List Counted
-list_gives l token row = row_gives l.tokens.now l.nodes.now l.names.now l.functions.now l.calls.now token row
+list_gives l token row = row_gives l.tokens.now l.known.now.nodes.now l.known.now.names.now l.known.now.functions.now l.known.now.calls.now token row
 
 abbrev pub one_gives : ParametersGo → ℕ → List ℕ → ℕ → List Counted
-one_gives l token row at = parameter_gives l.tokens.now l.nodes.now l.names.now l.functions.now l.calls.now token row at
+one_gives l token row at = parameter_gives l.tokens.now l.known.now.nodes.now l.known.now.names.now l.known.now.functions.now l.known.now.calls.now token row at
 
 -- What pass p offers: a parameter goes from each declaration of its function, its argument from each call, and its uses become `0`.
 abbrev pub p_offering : List ℕ → List Token → List Node → Names → Offering

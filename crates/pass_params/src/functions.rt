@@ -68,7 +68,8 @@ pub fn name_same(names: &Names, token: u32, other: u32) -> bool
     same_number(number_of(names, token), number_of(names, other))
 }
 
-fn is_next(function: u32, next: Derivation) -> bool
+/// Whether a function's declarator is the next one.
+pub fn is_next(function: u32, next: Derivation) -> bool
     ensures { result ≡ is_next function next }
 {
     match next {

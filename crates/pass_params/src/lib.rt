@@ -6,6 +6,7 @@
 #![tactic(auto)]
 
 mod functions;
+mod grouped;
 mod ordered;
 mod removal;
 

@@ -9,8 +9,9 @@ ghost use Rattle.pass_params.specs.Functions.{calls_in as calls_list, functions_
 ghost use Rattle.pass_params.specs.Parameters.{changes_of, declarator_gives, definition_by, definitions_give, from_call, from_calls, from_declarator, from_declarators, from_list, from_row, function_gives, is_main, list_gives, named_gives, one_gives, p_offering, parameter_gives, parameter_goes, parameter_uses, row_gives, uses_if, zeros};
 
 use crate::functions::{
-    calls_in, count_of, declares_same, functions_in, name_same, part_at, row_of, uses_of,
+    calls_in, count_of, declares_same, functions_in, name_same, number_of, part_at, row_of, uses_of,
 };
+use crate::grouped::{Known, calls_by, chosen, declarations_by};
 use crate::ordered::in_order;
 use cr_scopes::Names;
 use cr_scopes_events::{Derivation, declared_by};
@@ -180,20 +181,15 @@ fn changes_of(
     at: usize,
     parameter: u32,
 ) -> Result<Vec<Change>, AllocError>
-    ensures { IfOk result (λ changes. changes.items ≡ changes_of level.now.tokens.now level.now.nodes.now level.now.names.now level.now.functions.now level.now.calls.now token at parameter) }
+    ensures { IfOk result (λ changes. changes.items ≡ changes_of level.now.tokens.now level.now.known.now.nodes.now level.now.known.now.names.now level.now.known.now.functions.now level.now.known.now.calls.now token at parameter) }
 {
     let mut changes = Vec::new(alloc);
-    let (tokens, nodes, names) = (level.tokens, level.nodes, level.names);
-    put_from_declarators(
-        tokens,
-        nodes,
-        names,
-        token,
-        at,
-        level.functions,
-        &mut changes,
-    )?;
-    put_from_calls(tokens, nodes, names, token, at, level.calls, &mut changes)?;
+    let (tokens, nodes, names) = (level.tokens, level.known.nodes, level.known.names);
+    let number = number_of(names, token);
+    let declarations = chosen(level.known.declarations, number, level.known.functions);
+    put_from_declarators(tokens, nodes, names, token, at, declarations, &mut changes)?;
+    let called = chosen(level.known.called, number, level.known.calls);
+    put_from_calls(tokens, nodes, names, token, at, called, &mut changes)?;
     put_zeros(
         tokens,
         parameter_uses(nodes, names, parameter),
@@ -207,19 +203,21 @@ fn changes_of(
 struct ParametersGo<'a> {
     file: &'a [u8],
     tokens: &'a [Token],
-    nodes: &'a [Node],
-    names: &'a Names,
-    functions: &'a [u32],
-    calls: &'a [u32],
+    known: &'a Known<'a>,
 }
 
 impl Level for ParametersGo<'_> {
-    ghost gives = { λ l k. definitions_give l.file.now l.tokens.now l.nodes.now l.names.now l.functions.now l.calls.now k };
+    ghost gives = { λ l k. definitions_give l.file.now l.tokens.now l.known.now.nodes.now l.known.now.names.now l.known.now.functions.now l.known.now.calls.now k };
 
     fn give(&self, alloc: Global, node: usize, all: &mut Vec<Counted>) -> Result<(), AllocError> {
-        match kind_at(self.nodes, node) {
+        match kind_at(self.known.nodes, node) {
             Kind::FunctionDefinition => {
-                put_definition(alloc, self, part_at(parts_at(self.nodes, node), 1), all)
+                put_definition(
+                    alloc,
+                    self,
+                    part_at(parts_at(self.known.nodes, node), 1),
+                    all,
+                )
             }
             _ => Ok(()),
         }
@@ -234,7 +232,7 @@ fn put_definition(
 ) -> Result<(), AllocError>
     ensures { OnOk result (all.new.items ≡ all.old.items ++ declarator_gives level.now declarator) }
 {
-    let declared = declared_by(level.nodes, declarator);
+    let declared = declared_by(level.known.nodes, declarator);
     match (declared.next, declared.name) {
         (Derivation::Function(function), Some(token)) => {
             put_function(alloc, level, token, function, all)
@@ -255,7 +253,13 @@ fn put_function(
     if is_main(spelling_at(level.file, level.tokens, token as usize)) {
         return Ok(());
     }
-    put_row(alloc, level, token, row_of(level.nodes, function), all)
+    put_row(
+        alloc,
+        level,
+        token,
+        row_of(level.known.nodes, function),
+        all,
+    )
 }
 
 fn is_main(text: &[u8]) -> bool
@@ -290,7 +294,7 @@ fn put_parameter(
     ensures { OnOk result (all.new.items ≡ all.old.items ++ one_gives level.now token row.now at) }
 {
     let parameter = part_at(row, at);
-    let (first, last) = span_at(level.nodes, parameter as usize);
+    let (first, last) = span_at(level.known.nodes, parameter as usize);
     let changes = changes_of(alloc, level, token, at, parameter)?;
     let edit = in_order(alloc, changes.as_slice())?;
     all.push(Counted { first, last, edit })?;
@@ -308,23 +312,27 @@ fn level(
 {
     let functions = functions_in(alloc, nodes)?;
     let calls = calls_in(alloc, nodes)?;
-    list(
-        alloc,
-        nodes.len(),
-        &ParametersGo {
-            file,
-            tokens,
-            nodes,
-            names,
-            functions: functions.as_slice(),
-            calls: calls.as_slice(),
-        },
-    )
+    let declarations = declarations_by(alloc, nodes, names, functions.as_slice())?;
+    let called = calls_by(alloc, nodes, names, calls.as_slice())?;
+    let known = Known {
+        nodes,
+        names,
+        functions: functions.as_slice(),
+        calls: calls.as_slice(),
+        declarations: declarations.as_slice(),
+        called: called.as_slice(),
+    };
+    let level = ParametersGo {
+        file,
+        tokens,
+        known: &known,
+    };
+    list(alloc, nodes.len(), &level)
 }
 
 /// What pass p offers for a file's unit with these names: each parameter of a defined function, other than main's, goes with its comma from
 /// each declaration of the function, where a list left empty becomes `void`; its argument goes with its comma from each call; and its uses
-/// become `0`. It takes time by the parameters times the calls and the declarators of functions. The error is want of memory.
+/// become `0`. The error is want of memory.
 pub fn parameters(
     alloc: Global,
     file: &[u8],

@@ -24,5 +24,5 @@ returns c =
     let statics = c.as_slice.ensures.value ∙ c.in_ok-statics.ensures sound.tree sound.is.whole.tree
     ∙ sym (ap (λ (j : Checked). statics_in sound.tree j.whole.typing.specified) rest) in
     IfOk-weaker c.made.result _ _
-    (λ typed. typed_of c.args.file.now _ c.args.unit c.args.names.now c.args.checked.now _ _ typed sound bytes c.texts_of-texts.ensures.texts rest)
+    (λ typed. typed_of c.args.file.now _ c.args.unit c.args.names.now c.args.checked.now _ _ typed sound c.requires.spans bytes c.texts_of-texts.ensures.texts rest)
     (c.made.ensures sound.tree statics)

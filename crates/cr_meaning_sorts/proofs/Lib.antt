@@ -1,0 +1,4 @@
+pub mod Operands
+pub mod Objects
+pub mod Values
+pub mod Expressions

@@ -1,0 +1,5 @@
+pub mod Labels
+pub mod Statements
+pub mod Whole
+pub mod Files
+pub mod Around

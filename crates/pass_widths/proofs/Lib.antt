@@ -1,0 +1,13 @@
+pub mod Counted
+pub mod Own
+pub mod Paid
+pub mod Rows
+pub mod Credits
+pub mod Levels
+pub mod Nodes
+pub mod Expressions
+pub mod Statements
+pub mod Unused
+pub mod Calls
+pub mod Names
+pub mod Parameters
