@@ -6,3 +6,4 @@ pub mod Sources
 pub mod Paths
 pub mod More
 pub mod Completing
+pub mod Others

@@ -1,5 +1,5 @@
 -- What a run promises, in a few words: each follows from what it comes to, step by step.
-use Rattle.std.specs.Prelude.{◌≡◌, ◌⊎◌, ◌+◌, ◌*◌, ◌-◌, ℕ, List, false, length}
+use Rattle.std.specs.Prelude.{◌≡◌, ◌⊎◌, ◌+◌, ◌*◌, ◌-◌, ℕ, List, drop, false, length}
 use Rattle.cr_outside.specs.Question.{Says}
 use Rattle.cr_outside.specs.Story.{EndsWithFault}
 use Rattle.cr_outside.specs.Test.{asks_test}
@@ -61,6 +61,10 @@ pub data AsksOnly (words : List Word) (most : ℕ) (says : Says) (old : Outside)
   run_asks_nothing : after ≡ before → AsksOnly words most says old before after
   run_asks : (settings : Settings) (own : List ℕ) → IsTask words most settings own → AsksOnlyOf (task_of settings says own) (text_of settings.source old.files) before after
       → AsksOnly words most says old before after
+
+-- Workers beyond those that the words ask for do nothing: their judges are as they were.
+abbrev pub KeepsToWorkers : {J : Type 0} → List Word → ℕ → List J → List J → Type 0
+KeepsToWorkers words most old new = (settings : Settings) → HasSettings words most settings → drop settings.workers new ≡ drop settings.workers old
 
 -- All that a run promises of the outside and of what was asked.
 pub record Promises (words : List Word) (most : ℕ) (says : Says) (old new : Outside) (before after : Judging) (status : ℕ) : Type 0 where

@@ -1,5 +1,5 @@
 -- What a run comes to, of all that words may ask for.
-use Rattle.std.specs.Prelude.{◌≡◌, ◌≢◌, ◌⊎◌, ℕ, false, List, [], ◌++◌, codes}
+use Rattle.std.specs.Prelude.{◌≡◌, ◌≢◌, ◌⊎◌, ℕ, false, List, [], ◌++◌, codes, drop}
 use Rattle.std.specs.String.{string_bytes}
 use Rattle.cr_formula.specs.Forms.{Form, Spells}
 use Rattle.cr_outside.specs.Question.{Says}
@@ -82,6 +82,15 @@ MayRun most (request.Replay asked) = Unit {0}
 abbrev pub IsQuiet : Request → Type 0
 IsQuiet (request.Reduction settings modes) = IsUnbuilt modes ⊎ IsFormula settings.test ⊎ (asks_test settings.test ≡ false)
 IsQuiet (request.Replay asked) = Unit {0}
+
+-- judges beyond the workers that it asks for are as they were; a replay has none
+abbrev pub LeavesOthers : {J : Type 0} → Request → List J → List J → Type 0
+LeavesOthers (request.Reduction settings modes) old new = drop settings.workers new ≡ drop settings.workers old
+LeavesOthers (request.Replay asked) old new = new ≡ old
+
+-- Workers beyond those that the words ask for do nothing.
+abbrev pub KeepsToAsked : {J : Type 0} → List Word → ℕ → List J → List J → Type 0
+KeepsToAsked words most old new = (asked : Request) → Asks words most asked → LeavesOthers asked old new
 
 -- What a run of the command line comes to.
 pub data RunsMore (words : List Word) (most : ℕ) (says : Says) (old new : Outside) (before after : Judging) (status : ℕ) : Type 0 where

@@ -1,8 +1,8 @@
 // What words ask for is done.
-ghost use Rattle.std.specs.Prelude.{◌≡◌, MatchOption, false, length, string_bytes, true};
+ghost use Rattle.std.specs.Prelude.{◌≡◌, MatchOption, drop, false, length, string_bytes, true};
 ghost use Rattle.cr_outside.specs.Test.{asks_test};
 ghost use Rattle.cr_reduce.specs.Bench.{judging, keys_of, says_of};
-ghost use Rattle.cr_main.specs.More.{BeginsWithIf, Does, IsFormula, IsQuiet, IsUnbuilt, MayRun, RunsAsked, word_of};
+ghost use Rattle.cr_main.specs.More.{BeginsWithIf, Does, IsFormula, IsQuiet, IsUnbuilt, LeavesOthers, MayRun, RunsAsked, word_of};
 ghost use Rattle.cr_main.specs.Task.{IsRunnable};
 ghost use Rattle.cr_main_task.specs.Outside.{outside};
 ghost use Rattle.cr_main_words.specs.Flags.{plain_modes};
@@ -31,6 +31,7 @@ pub fn run_request<R: Threads + Sync, F: Files, J: Judge + Send, O: Sink>(
     ensures does { Does request.now (says_of J.Judge bench.old)
         (outside F.Outside F.Files.own files.old O.Sink out.old) (outside F.Outside F.Files.own files.new O.Sink out.new)
         (judging J.Judge bench.old) (judging J.Judge bench.new) result }
+    ensures others { LeavesOthers request.now bench.old.judges bench.new.judges }
     ensures silent { IsQuiet request.now → bench.new.judges ≡ bench.old.judges }
     ensures keys { keys_of J.Judge bench.new ≡ keys_of J.Judge bench.old }
 {
@@ -66,6 +67,7 @@ fn run_asked<R: Threads + Sync, F: Files, J: Judge + Send, O: Sink>(
         (judging J.Judge bench.old) (judging J.Judge bench.new) result }
     ensures idle { IsUnbuilt modes → bench.new.judges ≡ bench.old.judges }
     ensures formula { IsFormula settings.now.test → bench.new.judges ≡ bench.old.judges }
+    ensures others { drop settings.now.workers bench.new.judges ≡ drop settings.now.workers bench.old.judges }
     ensures silent { asks_test settings.now.test ≡ false → bench.new.judges ≡ bench.old.judges }
     ensures keys { keys_of J.Judge bench.new ≡ keys_of J.Judge bench.old }
 {

@@ -1,5 +1,5 @@
 // A run behind the words.
-ghost use Rattle.std.specs.Prelude.{◌≡◌, ℕ, List, false, length};
+ghost use Rattle.std.specs.Prelude.{◌≡◌, ℕ, List, drop, false, length};
 ghost use Rattle.cr_outside.specs.Story.{files_told};
 ghost use Rattle.cr_outside.specs.Test.{asks_test};
 ghost use Rattle.cr_reduce.specs.Bench.{judging, keys_of, says_of};
@@ -34,6 +34,7 @@ pub fn run_given<R: Threads + Sync, F: Files, J: Judge + Send, O: Sink>(
         × RunsTask (task_of settings.now (says_of J.Judge bench.old) own) (text_of settings.now.source (files_told (F.story files.old)))
         (outside F.Outside F.Files.own files.old O.Sink out.old) (outside F.Outside F.Files.own files.new O.Sink out.new)
         (judging J.Judge bench.old) (judging J.Judge bench.new) result }
+    ensures others { drop settings.now.workers bench.new.judges ≡ drop settings.now.workers bench.old.judges }
     ensures silent { asks_test settings.now.test ≡ false → bench.new.judges ≡ bench.old.judges }
     ensures keys { keys_of J.Judge bench.new ≡ keys_of J.Judge bench.old }
 {

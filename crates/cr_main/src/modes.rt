@@ -5,7 +5,7 @@ ghost use Rattle.cr_reduce.specs.Bench.{judging, keys_of, says_of};
 ghost use Rattle.cr_main_task.specs.Outside.{outside};
 ghost use Rattle.cr_main_task.specs.Story.{KeepsJournal};
 ghost use Rattle.cr_main.specs.Headline.{AsksOnly, Promises};
-ghost use Rattle.cr_main.specs.More.{CompletesByFormula, EndsMore, IsPlain, IsSilent, KeepsMore, RunsMore};
+ghost use Rattle.cr_main.specs.More.{CompletesByFormula, EndsMore, IsPlain, IsSilent, KeepsMore, KeepsToAsked, RunsMore};
 ghost use Rattle.cr_main_words.specs.Words.{texts_of};
 
 use crate::asked::run_request;
@@ -60,6 +60,9 @@ pub fn run_more<R: Threads + Sync, F: Files, J: Judge + Send, O: Sink, D: Disk>(
     ensures completes { CompletesByFormula (texts_of list.now) (length bench.old.judges)
         (outside F.Outside F.Files.own files.old O.Sink out.old) (outside F.Outside F.Files.own files.new O.Sink out.new)
         (judging J.Judge bench.old) (judging J.Judge bench.new) result }
+
+    // Workers beyond those that the words ask for do nothing.
+    ensures others { KeepsToAsked (texts_of list.now) (length bench.old.judges) bench.old.judges bench.new.judges }
     ensures silent { IsSilent (texts_of list.now) (length bench.old.judges) → bench.new.judges ≡ bench.old.judges }
     ensures keys { keys_of J.Judge bench.new ≡ keys_of J.Judge bench.old }
     ensures disk { disk.new ≡ disk.old }

@@ -4,7 +4,7 @@ ghost use Rattle.cr_outside.specs.Story.{EndsWithFault};
 ghost use Rattle.cr_reduce.specs.Bench.{judging, keys_of, says_of};
 ghost use Rattle.cr_main_task.specs.Outside.{outside};
 ghost use Rattle.cr_main_task.specs.Story.{KeepsJournal};
-ghost use Rattle.cr_main.specs.Headline.{AsksOnly, Completes, HasEnded, IsHeadline, KeepsFiles, NeedsNoFiles, NeedsNoJudge};
+ghost use Rattle.cr_main.specs.Headline.{AsksOnly, Completes, HasEnded, IsHeadline, KeepsFiles, KeepsToWorkers, NeedsNoFiles, NeedsNoJudge};
 ghost use Rattle.cr_main.specs.Run.{Runs};
 ghost use Rattle.cr_main_words.specs.Words.{texts_of};
 
@@ -59,6 +59,9 @@ pub fn run<R: Threads + Sync, F: Files, J: Judge + Send, O: Sink>(
     ensures completes { Completes (texts_of list.now) (length bench.old.judges) (says_of J.Judge bench.old)
         (outside F.Outside F.Files.own files.old O.Sink out.old) (outside F.Outside F.Files.own files.new O.Sink out.new)
         (judging J.Judge bench.old) (judging J.Judge bench.new) result }
+
+    // Workers beyond those that the words ask for do nothing.
+    ensures others { KeepsToWorkers (texts_of list.now) (length bench.old.judges) bench.old.judges bench.new.judges }
 
     // A test that asks no judge leaves the bench as it was.
     ensures silent { NeedsNoJudge (texts_of list.now) (length bench.old.judges) → bench.new.judges ≡ bench.old.judges }

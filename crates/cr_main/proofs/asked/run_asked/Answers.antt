@@ -1,4 +1,4 @@
-use Rattle.std.proofs.Common.{refl, subst}
+use Rattle.std.proofs.Common.{ap, drop, refl, subst}
 use Rattle.cr_reduce.specs.Bench.{judging}
 use Rattle.cr_main_task.specs.Outside.{Says, outside}
 use Rattle.cr_main.specs.More.{RunsWord}
@@ -21,3 +21,12 @@ returns-in-Some-clause-runs g c =
 pub returns-in-None-clause-runs : goal.returns-in-None-clause-runs
 returns-in-None-clause-runs g c =
     plain c.run_given.ensures.runs.0 (c.has_flag.ensures.none c.if-has_flag.false) c.in-None.ensures c.run_given.ensures.runs.1 c.run_given.ensures.runs.2
+
+pub returns-then-has_flag-clause-others : goal.returns-then-has_flag-clause-others
+returns-then-has_flag-clause-others g c = refl
+
+pub returns-in-Some-clause-others : goal.returns-in-Some-clause-others
+returns-in-Some-clause-others g c = ap (drop c.args.settings.now.workers) c.run_word.ensures.silent
+
+pub returns-in-None-clause-others : goal.returns-in-None-clause-others
+returns-in-None-clause-others g c = c.run_given.ensures.others

@@ -5,7 +5,7 @@ use Rattle.cr_main_replay.specs.Replay.{RunsReplay}
 use Rattle.cr_main_replay_programs.specs.Replay.{replaying_of}
 use Rattle.cr_main_task.specs.Outside.{outside}
 use Rattle.cr_main_words.specs.declared.request.Request.{Request}
-use Rattle.cr_main.specs.More.{Does}
+use Rattle.cr_main.specs.More.{Does, LeavesOthers}
 use Rattle.cr_main.proofs.asked.run_request.Goals as goal
 
 pub returns-in-Reduction-clause-does : goal.returns-in-Reduction-clause-does
@@ -26,3 +26,9 @@ returns-in-Replay-clause-does g c =
       subst (λ log. RunsReplay (replaying_of asked.steps asked.enabled log (string_bytes asked.file)) old new c.replay_programs.result) c.as_str.ensures.value
           (subst (λ file. RunsReplay (replaying_of asked.steps asked.enabled c.as_str.result.now file) old new c.replay_programs.result) c.as_str-in-Replay.ensures.value c.replay_programs.ensures.runs),
     )
+
+pub returns-in-Reduction-clause-others : goal.returns-in-Reduction-clause-others
+returns-in-Reduction-clause-others g c = subst (λ (r : Request). LeavesOthers r c.args.bench.now.judges c.run_asked.new.bench.judges) (sym c.in-Reduction.is) c.run_asked.ensures.others
+
+pub returns-in-Replay-clause-others : goal.returns-in-Replay-clause-others
+returns-in-Replay-clause-others g c = subst (λ (r : Request). LeavesOthers r c.args.bench.now.judges c.args.bench.now.judges) (sym c.in-Replay.is) refl

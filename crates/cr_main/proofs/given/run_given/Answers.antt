@@ -1,4 +1,4 @@
-use Rattle.std.proofs.Common.{subst}
+use Rattle.std.proofs.Common.{refl, subst}
 use Rattle.cr_outside.specs.Story.{files_told}
 use Rattle.cr_reduce.specs.Bench.{judging, says_of}
 use Rattle.cr_main_words.specs.Names.{IsOwnName}
@@ -43,3 +43,24 @@ returns-in-Ok-clause-runs g c =
           (judging g.J.Judge c.args.bench.now) (judging g.J.Judge c.run_bytes.new.bench) c.run_bytes.result)
           c.in-Made.number c.in-Made.items c.in-Ok.text.items c.in-Made.is c.in-Ok.ensures.text c.run_bytes.ensures.runs,
     )
+
+pub returns-in-Named-clause-others : goal.returns-in-Named-clause-others
+returns-in-Named-clause-others g c = c.run_stored.ensures.others
+
+pub returns-in-Ok-clause-others : goal.returns-in-Ok-clause-others
+returns-in-Ok-clause-others g c = c.run_bytes.ensures.others
+
+pub returns-clause-others : goal.returns-clause-others
+returns-clause-others g c = refl
+
+pub returns-in-Named-clause-silent : goal.returns-in-Named-clause-silent
+returns-in-Named-clause-silent g c = c.run_stored.ensures.silent
+
+pub returns-in-Ok-clause-silent : goal.returns-in-Ok-clause-silent
+returns-in-Ok-clause-silent g c = c.run_bytes.ensures.silent
+
+pub returns-in-Named-clause-keys : goal.returns-in-Named-clause-keys
+returns-in-Named-clause-keys g c = c.run_stored.ensures.keys
+
+pub returns-in-Ok-clause-keys : goal.returns-in-Ok-clause-keys
+returns-in-Ok-clause-keys g c = c.run_bytes.ensures.keys

@@ -6,6 +6,7 @@ use Rattle.cr_main_words.specs.Words.{texts_of}
 use Rattle.cr_main.specs.More.RunsMore.{asks_nothing, unread_words}
 use Rattle.cr_main.proofs.Completing.{completes_more}
 use Rattle.cr_main.proofs.More.{asks_more, ends_more, fault_more, journal_more, keeps_more, may_run, more_of, plain_promises, quiet_more}
+use Rattle.cr_main.proofs.Others.{leaves_all, to_asked}
 use Rattle.cr_main.proofs.modes.run_more.Goals as goal
 
 pub run_request-status-requires-clause-runnable : goal.run_request-status-requires-clause-runnable
@@ -54,6 +55,10 @@ returns-clause-completes g c = completes_more (texts_of c.args.list.now) (length
     (outside g.F.Outside g.F.Files c.args.files.now g.O.Sink c.args.out.now) (outside g.F.Outside g.F.Files c.run_request-status.new.files g.O.Sink c.run_request-status.new.out)
     (judging g.J.Judge c.args.bench.now) (judging g.J.Judge c.run_request-status.new.bench) c.run_request-status.result (returns-clause-runs g c)
 
+pub returns-clause-others : goal.returns-clause-others
+returns-clause-others g c = to_asked (texts_of c.args.list.now) (length c.args.bench.now.judges) c.args.bench.now.judges c.run_request-status.new.bench.judges c.in-Ok.request
+    (subst (λ n. Asks (texts_of c.args.list.now) n c.in-Ok.request) c.workers.ensures.count c.in-Ok.ensures.request) c.run_request-status.ensures.others
+
 pub returns-clause-silent : goal.returns-clause-silent
 returns-clause-silent g c = λ needs. c.run_request-status.ensures.silent
     (quiet_more (texts_of c.args.list.now) (length c.args.bench.now.judges) (says_of g.J.Judge c.args.bench.now)
@@ -101,6 +106,9 @@ returns-in-Err-Usage-clause-completes g c = completes_more (texts_of c.args.list
     (outside g.F.Outside g.F.Files c.args.files.now g.O.Sink c.args.out.now) (outside g.F.Outside g.F.Files c.args.files.now g.O.Sink c.put.new.out)
     (judging g.J.Judge c.args.bench.now) (judging g.J.Judge c.args.bench.now) c.put.result (returns-in-Err-Usage-clause-runs g c)
 
+pub returns-in-Err-Usage-clause-others : goal.returns-in-Err-Usage-clause-others
+returns-in-Err-Usage-clause-others g c = λ asked asks. leaves_all c.args.bench.now.judges asked
+
 pub returns-in-Err-NoMemory-clause-runs : goal.returns-in-Err-NoMemory-clause-runs
 returns-in-Err-NoMemory-clause-runs g c = unread_words refl refl refl
 
@@ -138,3 +146,6 @@ pub returns-in-Err-NoMemory-clause-completes : goal.returns-in-Err-NoMemory-clau
 returns-in-Err-NoMemory-clause-completes g c = completes_more (texts_of c.args.list.now) (length c.args.bench.now.judges) (says_of g.J.Judge c.args.bench.now)
     (outside g.F.Outside g.F.Files c.args.files.now g.O.Sink c.args.out.now) (outside g.F.Outside g.F.Files c.args.files.now g.O.Sink c.args.out.now)
     (judging g.J.Judge c.args.bench.now) (judging g.J.Judge c.args.bench.now) 11 (returns-in-Err-NoMemory-clause-runs g c)
+
+pub returns-in-Err-NoMemory-clause-others : goal.returns-in-Err-NoMemory-clause-others
+returns-in-Err-NoMemory-clause-others g c = λ asked asks. leaves_all c.args.bench.now.judges asked

@@ -5,6 +5,7 @@ use Rattle.cr_main.specs.Run.Runs.{no_settings, on_task, unsorted}
 use Rattle.cr_main_words.specs.Giving.{HasNone, HasSettings}
 use Rattle.cr_main_words.specs.Words.{texts_of}
 use Rattle.cr_main.proofs.OneTask.{same_asks}
+use Rattle.cr_main.proofs.Others.{to_workers}
 use Rattle.cr_main.proofs.Promises.{promises}
 use Rattle.cr_main.proofs.Runnable.{is_runnable}
 use Rattle.cr_main.proofs.top.run.Goals as goal
@@ -55,6 +56,10 @@ pub returns-in-Ok-clause-completes : goal.returns-in-Ok-clause-completes
 returns-in-Ok-clause-completes g c = (promises (texts_of c.args.list.now) (length c.args.bench.now.judges) (says_of g.J.Judge c.args.bench.now)
     (outside g.F.Outside g.F.Files c.args.files.now g.O.Sink c.args.out.now) (outside g.F.Outside g.F.Files c.run_given.new.files g.O.Sink c.run_given.new.out)
     (judging g.J.Judge c.args.bench.now) (judging g.J.Judge c.run_given.new.bench) c.run_given.result (returns-in-Ok-clause-runs g c)).completes
+
+pub returns-in-Ok-clause-others : goal.returns-in-Ok-clause-others
+returns-in-Ok-clause-others g c = to_workers (texts_of c.args.list.now) (length c.args.bench.now.judges) c.args.bench.now.judges c.run_given.new.bench.judges c.in-Ok.settings
+    (subst (λ n. HasSettings (texts_of c.args.list.now) n c.in-Ok.settings) c.workers.ensures.count c.in-Ok.ensures.settings) c.run_given.ensures.others
 
 pub returns-in-Ok-clause-silent : goal.returns-in-Ok-clause-silent
 returns-in-Ok-clause-silent g c = λ none.
@@ -149,3 +154,9 @@ pub returns-in-Err-NoMemory-clause-completes : goal.returns-in-Err-NoMemory-clau
 returns-in-Err-NoMemory-clause-completes g c = (promises (texts_of c.args.list.now) (length c.args.bench.now.judges) (says_of g.J.Judge c.args.bench.now)
     (outside g.F.Outside g.F.Files c.args.files.now g.O.Sink c.args.out.now) (outside g.F.Outside g.F.Files c.args.files.now g.O.Sink c.args.out.now)
     (judging g.J.Judge c.args.bench.now) (judging g.J.Judge c.args.bench.now) 11 (returns-in-Err-NoMemory-clause-runs g c)).completes
+
+pub returns-in-Err-Usage-clause-others : goal.returns-in-Err-Usage-clause-others
+returns-in-Err-Usage-clause-others g c = λ settings gives. refl
+
+pub returns-in-Err-NoMemory-clause-others : goal.returns-in-Err-NoMemory-clause-others
+returns-in-Err-NoMemory-clause-others g c = λ settings gives. refl
