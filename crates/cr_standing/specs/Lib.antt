@@ -1,0 +1,4 @@
+pub mod Slots
+pub mod Walk
+pub mod Crew
+pub mod Ends
