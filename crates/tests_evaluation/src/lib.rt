@@ -13,6 +13,8 @@ mod evaluate;
 #[cfg(test)]
 mod expressions;
 #[cfg(test)]
+mod orders;
+#[cfg(test)]
 mod programs;
 #[cfg(test)]
 mod rows;

@@ -78,10 +78,10 @@ const CASES: &str = "
 
 // A stop that asks to give up at one of its looks.
 #[derive(Drop)]
-struct Once {
-    looks: u64,
-    at: u64,
-    raised: bool,
+pub(crate) struct Once {
+    pub(crate) looks: u64,
+    pub(crate) at: u64,
+    pub(crate) raised: bool,
 }
 
 impl Stop for Once {
@@ -383,7 +383,7 @@ fn shape(alloc: Global, name: &str, text: &str) -> Result<Row<(Scalar, Guard)>, 
     }
 }
 
-fn table(alloc: Global, program: &str, steps: u64) -> Result<Table, AllocError> {
+pub(crate) fn table(alloc: Global, program: &str, steps: u64) -> Result<Table, AllocError> {
     let mut ops = Vec::new(alloc);
     let mut shapes = Vec::new(alloc);
     let mut literals = Vec::new(alloc);
