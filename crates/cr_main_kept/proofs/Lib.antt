@@ -1,0 +1,6 @@
+pub mod Headers
+pub mod Stories
+pub mod Ends
+pub mod Over
+pub mod Safe
+pub mod Surviving

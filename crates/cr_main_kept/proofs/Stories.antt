@@ -1,0 +1,46 @@
+-- What events of the files and changes of the journal leave of each other.
+use Rattle.std.proofs.Common.{◌≡◌, ℕ, Bool, true, false, List, [], ◌∷◌, length, Option, Some, None, Result, Ok, Err, refl, sym, ◌∙◌, ap, subst, arith}
+use Rattle.std.specs.Prelude.{IfOk, OnOk}
+use Rattle.cr_outside_disk.specs.declared.disk.DiskFault.{DiskFault}
+use Rattle.cr_journal.specs.Keeping.{Rests}
+use Rattle.cr_journal_records.specs.Records.{Body, IsKept, Stands, StandsFirst, StandsNone}
+use Rattle.cr_outside.specs.Story.{Change, Story, files_told, gone_on, with_event}
+use Rattle.cr_outside.specs.Story.Event.{Read, Wrote, Changed}
+use Rattle.cr_outside.specs.declared.story.Outcome.{Outcome}
+use Rattle.cr_outside_disk.specs.Moments.{HasLength, seen}
+use Rattle.cr_outside_disk.proofs.Lasting.{lasts_same}
+use Rattle.cr_outside_disk.proofs.Moments.{begun}
+use Rattle.cr_main_kept.specs.Kept.{Journals}
+use Rattle.cr_main_task.specs.Outside.{story_saved}
+use Rattle.cr_reduce.specs.declared.end.Accepted.{Accepted}
+
+-- nothing was called
+pub journals_same : (Are : List Body → Type 0) (told : Option Story) → Journals Are told told
+journals_same Are told = record { lasts = λ some. lasts_same (Stands some) told; kept = λ all are was. begun (IsKept all) told was }
+
+pub none_read : (told : Option Story) (name : List ℕ) (most : ℕ) (outcome : Outcome) → StandsNone told → StandsNone (with_event (Read name most outcome) told)
+none_read None name most outcome none = tt
+none_read (Some s) name most outcome none = none
+
+pub none_saved : (saves : Bool) (told : Option Story) (name bytes : List ℕ) → StandsNone told → StandsNone (story_saved saves name bytes told)
+none_saved true None name bytes none = tt
+none_saved true (Some s) name bytes none = none
+none_saved false told name bytes none = none
+
+-- in an empty journal none stands
+pub none_empty : (told : Option Story) → HasLength told 0 → StandsNone told
+none_empty None empty = tt
+none_empty (Some s) empty = nothing (seen s) empty where
+  nothing : (image : List ℕ) → length image ≡ 0 → StandsFirst image → ⊥
+  nothing [] empty stands = stands
+  nothing (gate ∷ behind) empty stands = cc
+
+pub rests_read : (rows : List Accepted) (told : Option Story) (name : List ℕ) (most : ℕ) (outcome : Outcome) → Rests rows told → Rests rows (with_event (Read name most outcome) told)
+rests_read rows None name most outcome rests = rests
+rests_read rows (Some s) name most outcome rests = rests
+
+-- the length that a start answers is the told file's
+pub started_length : (told : Option Story) (result : Result ℕ DiskFault) (ready : Bool) (size : ℕ) → (ready ≡ true → HasLength told size) → OnOk result (ready ≡ true)
+    → IfOk result (λ len. size ≡ len) → IfOk result (HasLength told)
+started_length told (Ok len) ready size has is_ready is = subst (HasLength told) is (has is_ready)
+started_length told (Err fault) ready size has is_ready is = tt

@@ -1,0 +1,18 @@
+-- The header of a run's journal.
+use Rattle.std.specs.Prelude.{◌≡◌, ℕ, List, Option, Some, None}
+use Rattle.cr_journal_rows.specs.declared.header.Header.{Header}
+use Rattle.cr_reduce.specs.Sizes.{HasSize}
+use Rattle.cr_main_kept.specs.declared.header.Marks.{Marks}
+
+-- 2^64 - 1 stands for no limit
+abbrev pub limit_mark : Option ℕ → ℕ
+limit_mark (Some limit) = limit
+limit_mark None = 18446744073709551615
+
+abbrev pub header_of : Marks → Option ℕ → ℕ → Header
+header_of marks limit size = record { passes = marks.passes; steps = marks.steps; limit = limit_mark limit; size = size }
+
+-- The header is that of these settings, and its size is that of these bytes, where they have one.
+pub record Fits (marks : Marks) (limit : Option ℕ) (header : Header) (bytes : List ℕ) : Type 0 where
+  pub settings : header ≡ header_of marks limit header.size
+  pub size : (n : ℕ) → HasSize bytes n → header.size ≡ n

@@ -1,0 +1,183 @@
+-- What a run comes to whose reduction is kept in a journal.
+use Rattle.std.specs.Prelude.{◌≡◌, ◌≢◌, ℕ, ◌<◌, ◌^◌, Bool, true, false, List, [], ◌∷◌, Option, Some, None, Ok, Err}
+use Rattle.std.specs.Global.{Vec}
+use Rattle.cr_cursor.specs.declared.law.Reason.{Reason}
+use Rattle.cr_cursor.specs.Variants.{cursor}
+use Rattle.cr_journal.specs.Keeping.{IsReductionOn, journal_of}
+use Rattle.cr_journal.specs.Laws.{chain_in, most_turns}
+use Rattle.cr_journal.specs.Replay.{IsReplayed}
+use Rattle.cr_journal_records.specs.Records.{AtRest, Body, IsFront, IsKept, Stands, StandsNone}
+use Rattle.cr_journal_rows.specs.Forms.{RecoversTold, bodies_of, header_body}
+use Rattle.cr_journal_rows.specs.declared.fault.JournalFault.{JournalFault}
+use Rattle.cr_journal_rows.specs.declared.fault.JournalFault.TheVariants as fault
+use Rattle.cr_journal_rows.specs.declared.header.Header.{Header}
+use Rattle.cr_outside.specs.Faults.{Rose}
+use Rattle.cr_outside.specs.Files.{Names, Shows, content_of}
+use Rattle.cr_outside.specs.Story.{Story, files_told}
+use Rattle.cr_outside.specs.declared.story.Outcome.{Outcome}
+use Rattle.cr_outside.specs.declared.story.Outcome.TheVariants as outcome
+use Rattle.cr_outside_disk.specs.Moments.{AlwaysTold, EveryTold, HasLength, LastsTold}
+use Rattle.cr_reduce.specs.Bench.{Judging}
+use Rattle.cr_reduce.specs.declared.end.Accepted.{Accepted}
+use Rattle.cr_reduce.specs.declared.end.End.{End}
+use Rattle.cr_reduce.specs.declared.end.Kept.{Kept}
+use Rattle.cr_reduce.specs.declared.end.Why.TheVariants as why
+use Rattle.cr_reduce.specs.Keeping.{ReducesOnAsTold}
+use Rattle.cr_reduce.specs.Reduction.{Outcome as Reduced}
+use Rattle.cr_reduce.specs.Search.{IsAllTold, Search}
+use Rattle.cr_reduce.specs.Sizes.{HasSize}
+use Rattle.cr_replay.specs.Chains.{BreaksAt}
+use Rattle.cr_main_kept.specs.Header.{Fits, header_of}
+use Rattle.cr_main_kept.specs.Lines.{IsDiskFault, PutsFault, fault_line, refused_line}
+use Rattle.cr_main_kept.specs.declared.header.Marks.{Marks}
+use Rattle.cr_main_task.specs.Beginning.{HasBegun, StopsEarly}
+use Rattle.cr_main_task.specs.Messages.{copy_name}
+use Rattle.cr_main_task.specs.Opening.{IsOpened, Unopened, law_of}
+use Rattle.cr_main_task.specs.Outside.{IsUnchanged, Outside, Puts, Refuses}
+use Rattle.cr_main_task.specs.Run.{Concludes}
+use Rattle.cr_main_task.specs.Task.{IsRead, Task, FileLacks, most_read, stored}
+use Rattle.cr_main_task.specs.declared.messages.Refusal.TheVariants as refusal
+
+-- What a call on the journal makes of the story: changes of the journal alone. What stands in it keeps standing; and at every
+-- moment each image is kept for records of which this holds, if each was before.
+pub record Journals (Are : List Body → Type 0) (old new : Option Story) : Type 0 where
+  pub lasts : (some : List Body) → LastsTold (Stands some) old new
+  pub kept : (all : List Body) → Are all → EveryTold (IsKept all) old → AlwaysTold (IsKept all) old new
+
+-- Nothing was called but the disk.
+pub record IsJournalled (Are : List Body → Type 0) (old new : Outside) : Type 0 where
+  pub journal : Journals Are old.story new.story
+  pub output : new.output ≡ old.output
+  pub output_faults : new.output_faults ≡ old.output_faults
+
+-- whatever records, as where a journal is recovered
+abbrev pub AnyRecords : List Body → Type 0
+AnyRecords all = Unit {0}
+
+-- records that begin with this header, as where a journal is begun
+abbrev pub BeginWith : Header → List Body → Type 0
+BeginWith header all = IsFront (header_body header ∷ []) all
+
+-- the header that stands, and what the whole reduction accepts, where it goes on behind these rows
+pub record AreOfReduction (s : Search) (limit : Option ℕ) (kept : Kept) (old : Option Story) (all : List Body) : Type 0 where
+  pub told : IsAllTold s
+  pub header : Body
+  pub rests : EveryTold (AtRest (journal_of header kept.accepted.items)) old
+  pub out : Reduced
+  pub reduction : ReducesOnAsTold s kept limit out
+  pub are : all ≡ journal_of header out.accepted
+
+-- the line for a fault of the journal was put
+abbrev pub Stops : Outside → Outside → List ℕ → JournalFault → ℕ → Type 0
+Stops old new name why status = PutsFault old.output new.output old.output_faults new.output_faults name why status
+
+-- How a kept reduction ends, that began where `kept` stands.
+pub data EndsKept (t : Task) (kept : Kept) (old_size : ℕ) (old new : Outside) (before after : Judging) (has_failed : Bool) (status : ℕ) : Type 0 where
+  -- 12: the disk failed, and neither the file nor the log was written
+  cut_off : (e : End) → e.why ≡ why.NoMemory → IsReductionOn t.search before after t.window t.limit kept e
+      → Journals (AreOfReduction t.search t.limit kept old.story) old.story new.story → has_failed ≡ true
+      → Puts old new (fault_line t.name) 12 12 status → EndsKept t kept old_size old new before after has_failed status
+  -- 0, 7, 8, 9, 10, 11: as a reduction without a journal
+  concluded : (e : End) (reduced : Outside) (size : ℕ) → IsReductionOn t.search before after t.window t.limit kept e
+      → IsJournalled (AreOfReduction t.search t.limit kept old.story) old reduced → HasSize e.file.items size
+      → Concludes t.saves t.name reduced new e old_size size status → EndsKept t kept old_size old new before after has_failed status
+
+-- where a reduction without rows stands
+pub record IsFirst (bytes : List ℕ) (kept : Kept) : Type 0 where
+  pub file : kept.file.items ≡ bytes
+  pub at : kept.at ≡ cursor 0 0 0
+  pub none : kept.accepted.items ≡ []
+  pub unturned : kept.turns ≡ 0
+
+-- A run that begins a journal.
+pub data RunsFirst (t : Task) (marks : Marks) (old new : Outside) (before after : Judging) (has_failed : Bool) (status : ℕ) : Type 0 where
+  -- 3, 4, 5, 9, 11: the file was not read, or the law is against it
+  unopened : Unopened (law_of t) t.name (stored (files_told old.story) t.name) old new status → after ≡ before → RunsFirst t marks old new before after has_failed status
+  -- 6, 8, 9, 11: the test doesn't say yes, or the copy was not saved
+  stopped : (bytes : List ℕ) (read : Outside) → IsOpened (law_of t) (stored (files_told old.story) t.name) old read bytes → StopsEarly t bytes read new before after status
+      → RunsFirst t marks old new before after has_failed status
+  -- 11, 12: the journal was not begun
+  unbegun : (bytes : List ℕ) (read copied : Outside) (size : ℕ) (why : JournalFault) → IsOpened (law_of t) (stored (files_told old.story) t.name) old read bytes
+      → HasBegun t bytes read copied before after size → Journals (BeginWith (header_of marks t.limit size)) copied.story new.story → IsDiskFault why has_failed → Stops copied new t.name why status
+      → RunsFirst t marks old new before after has_failed status
+  -- the journal was begun, once the copy was saved, and the reduction goes on with it
+  begun : (bytes : List ℕ) (read copied started : Outside) (since : Judging) (size : ℕ) (kept : Kept) → IsOpened (law_of t) (stored (files_told old.story) t.name) old read bytes
+      → HasBegun t bytes read copied before since size → IsJournalled (BeginWith (header_of marks t.limit size)) copied started
+      → EveryTold (AtRest (bodies_of (header_of marks t.limit size) [])) started.story → IsFirst bytes kept → EndsKept t kept size started new since after has_failed status
+      → RunsFirst t marks old new before after has_failed status
+
+-- where the map is told, these are the first bytes of the file, so many at most
+abbrev pub FileBegins : Option Names → List ℕ → List ℕ → Type 0
+FileBegins None name bytes = Unit {0}
+FileBegins (Some files) name bytes = Shows (content_of files name) most_read bytes
+
+-- The copy was read.
+pub record HasCopy (name : List ℕ) (old new : Outside) (bytes : List ℕ) : Type 0 where
+  pub calls : IsRead (copy_name name) outcome.Done old.story new.story
+  pub begins : FileBegins (files_told old.story) (copy_name name) bytes
+  pub same : IsUnchanged old new
+
+-- It was not: 3, 9, 11, with the copy's name.
+pub data LacksCopy (name : List ℕ) (old new : Outside) (status : ℕ) : Type 0 where
+  not_there : FileLacks (files_told old.story) (copy_name name) → IsRead (copy_name name) outcome.Absent old.story new.story → Refuses old new (copy_name name) refusal.NoFile status
+      → LacksCopy name old new status
+  unread : Rose old.file_faults new.file_faults → IsRead (copy_name name) outcome.Failed old.story new.story → Refuses old new (copy_name name) refusal.FileFault status
+      → LacksCopy name old new status
+  wanting : IsRead (copy_name name) outcome.NoMemory old.story new.story → new.output ≡ old.output → status ≡ 11 → LacksCopy name old new status
+
+-- the same task, but that nothing is saved: the copy is there
+abbrev pub asking : Task → Task
+asking t = record t { saves = false }
+
+-- A run on the lawful bytes of the copy, that goes on behind these rows.
+pub data FollowsOn (t : Task) (bytes : List ℕ) (rows : List Accepted) (old new : Outside) (before after : Judging) (has_failed : Bool) (status : ℕ) : Type 0 where
+  -- 6, 8, 11: the test doesn't say yes
+  stopped : StopsEarly (asking t) bytes old new before after status → FollowsOn t bytes rows old new before after has_failed status
+  -- 13: this row is the first that doesn't follow
+  differs : (asked : Outside) (size i : ℕ) → HasBegun (asking t) bytes old asked before after size → BreaksAt (chain_in t.search t.limit) bytes 0 rows i → new.story ≡ asked.story
+      → Puts asked new (refused_line t.name i) 13 13 status → FollowsOn t bytes rows old new before after has_failed status
+  -- 11, 12: no memory was left for the rows, or the journal was not opened again
+  closed : (asked : Outside) (size : ℕ) (why : JournalFault) → HasBegun (asking t) bytes old asked before after size → new.story ≡ asked.story → IsDiskFault why has_failed
+      → Stops asked new t.name why status → FollowsOn t bytes rows old new before after has_failed status
+  -- the rows were followed, and the reduction goes on behind them
+  followed : (asked : Outside) (since : Judging) (size : ℕ) (kept : Kept) → HasBegun (asking t) bytes old asked before since size → IsReplayed (chain_in t.search t.limit) bytes rows kept
+      → most_turns t.limit < 2 ^ 64 → EndsKept t kept size asked new since after has_failed status → FollowsOn t bytes rows old new before after has_failed status
+
+-- A run that goes on with the journal of this header and of these rows.
+pub data RunsFurther (t : Task) (marks : Marks) (header : Header) (rows : List Accepted) (old new : Outside) (before after : Judging) (has_failed : Bool) (status : ℕ) : Type 0 where
+  -- 3, 9, 11: the copy was not read
+  uncopied : LacksCopy t.name old new status → after ≡ before → RunsFurther t marks header rows old new before after has_failed status
+  -- 13: the header is another one's
+  foreign : (bytes : List ℕ) (read : Outside) → HasCopy t.name old read bytes → (Fits marks t.limit header bytes → ⊥) → new.story ≡ read.story → after ≡ before
+      → Puts read new (refused_line t.name 0) 13 13 status → RunsFurther t marks header rows old new before after has_failed status
+  -- 4, 5: the law is against the copy
+  ruled_out : (bytes : List ℕ) (read : Outside) (reason : Reason) → HasCopy t.name old read bytes → Fits marks t.limit header bytes → (t.search.Lawful bytes → ⊥) → t.Against bytes reason
+      → new.story ≡ read.story → after ≡ before → Refuses read new t.name (refusal.Against reason) status → RunsFurther t marks header rows old new before after has_failed status
+  -- 11: no memory was left to measure the copy or to rule on it
+  starved : (bytes : List ℕ) (read : Outside) → HasCopy t.name old read bytes → new ≡ read → after ≡ before → status ≡ 11 → RunsFurther t marks header rows old new before after has_failed status
+  -- it is lawful
+  lawful : (bytes : List ℕ) (read : Outside) → HasCopy t.name old read bytes → Fits marks t.limit header bytes → t.search.Lawful bytes
+      → FollowsOn t bytes rows read new before after has_failed status → RunsFurther t marks header rows old new before after has_failed status
+
+-- A run that keeps a journal.
+pub data RunsJournal (t : Task) (marks : Marks) (old new : Outside) (before after : Judging) (has_failed : Bool) (status : ℕ) : Type 0 where
+  -- 11, 12: the journal was not opened
+  unstarted : (why : JournalFault) → IsDiskFault why has_failed → new.story ≡ old.story → after ≡ before → Stops old new t.name why status
+      → RunsJournal t marks old new before after has_failed status
+  -- 13: there is one already
+  found : (len : ℕ) → HasLength old.story len → len ≢ 0 → new.story ≡ old.story → after ≡ before → Puts old new (refused_line t.name 0) 13 13 status
+      → RunsJournal t marks old new before after has_failed status
+  fresh : (started : Outside) → HasLength old.story 0 → IsJournalled AnyRecords old started → StandsNone started.story → RunsFirst t marks started new before after has_failed status
+      → RunsJournal t marks old new before after has_failed status
+
+-- A run that goes on.
+pub data RunsResume (t : Task) (marks : Marks) (old new : Outside) (before after : Judging) (has_failed : Bool) (status : ℕ) : Type 0 where
+  -- 11, 12, 13: the journal was not recovered, or a record of it isn't in the form
+  unrecovered : (why : JournalFault) → RecoversTold old.story (Err why) → (why ≡ fault.Disk → has_failed ≡ true) → Journals AnyRecords old.story new.story → after ≡ before
+      → Stops old new t.name why status → RunsResume t marks old new before after has_failed status
+  -- no header stands, so it begins
+  anew : (started : Outside) → RecoversTold old.story (Ok None) → IsJournalled AnyRecords old started → StandsNone started.story → RunsFirst t marks started new before after has_failed status
+      → RunsResume t marks old new before after has_failed status
+  further : (started : Outside) (header : Header) (rows : Vec Accepted) → RecoversTold old.story (Ok (Some (header, rows))) → IsJournalled AnyRecords old started
+      → EveryTold (AtRest (bodies_of header rows.items)) started.story
+      → RunsFurther t marks header rows.items started new before after has_failed status → RunsResume t marks old new before after has_failed status

@@ -1,0 +1,163 @@
+// A run that goes on behind the rows of a journal.
+ghost use Rattle.std.specs.Prelude.{◌≡◌, ◌<◌, ◌≤◌, ◌^◌, ℕ, [], IfErr, IfOk, length, false, true};
+ghost use Rattle.cr_journal.specs.Keeping.{Rests};
+ghost use Rattle.cr_journal.specs.Laws.{most_turns};
+ghost use Rattle.cr_main_kept.specs.Header.{Fits};
+ghost use Rattle.cr_main_kept.specs.Kept.{FollowsOn, HasCopy, LacksCopy, RunsFurther};
+ghost use Rattle.cr_main_task.specs.Outside.{outside};
+ghost use Rattle.cr_main_task.specs.Task.{IsOfPrograms, task_for};
+ghost use Rattle.cr_reduce.specs.Bench.{judging, keys_of, says_of};
+
+use crate::header::{MOST_TURNS, Marks, fits, most_turns};
+use crate::journal;
+use crate::lines::{put_refused, put_stop};
+use crate::reduction::reduce_on;
+use cr_cursor::{Law, Passes};
+use cr_journal::replay;
+use cr_journal_rows::Header;
+use cr_main_task::{MOST_READ, Refusal, Task, begin, beside, refuse, ruled, status};
+use cr_outside::{Files, Judge, Question, ReadAnswer, Sink};
+use cr_outside_disk::Disk;
+use cr_pool::Bench;
+use cr_reduce::Accepted;
+use std::alloc::Global;
+use std::thread::Threads;
+
+/// Reads the copy, and goes on from it where the header is that of this run.
+pub fn run_further<
+    R: Threads + Sync,
+    P: Passes + Sync,
+    L: Law + Sync,
+    Q: Question + Sync,
+    W: Files + Disk,
+    J: Judge + Send,
+    O: Sink,
+>(
+    rt: &R,
+    alloc: Global,
+    task: &Task<'_, P, L, Q>,
+    marks: Marks,
+    header: Header,
+    rows: Vec<Accepted>,
+    world: &mut W,
+    bench: &mut Bench<J>,
+    out: &mut O,
+) -> u8
+where
+    P::Prep: Sync,
+    requires law { IsOfPrograms (L.lawful task.now.law.now) (L.reasons task.now.law.now) }
+    requires workers { (0 < task.now.workers) × (task.now.workers ≤ length bench.old.judges) }
+    requires window { (0 < task.now.window) × (task.now.window ≤ 4096) }
+    requires forgot { bench.old.kept ≡ [] }
+    requires rests { Rests rows.items (W.story world.old) }
+    ensures runs { RunsFurther (task_for P.Passes L.Law Q.Question task.now (says_of J.Judge bench.old)) marks header rows.items
+        (outside W.Outside W.Files.own world.old O.Sink out.old) (outside W.Outside W.Files.own world.new O.Sink out.new)
+        (judging J.Judge bench.old) (judging J.Judge bench.new) (W.Disk.has_failed world.new) result }
+    ensures silent { Q.asks task.now.question.now ≡ false → bench.new.judges ≡ bench.old.judges }
+    ensures keys { keys_of J.Judge bench.new ≡ keys_of J.Judge bench.old }
+{
+    let bytes = match read_copy(alloc, task.name, world, out) {
+        Ok(bytes) => bytes,
+        Err(status) => return status,
+    };
+    match fits(alloc, header, marks, task.limit, &bytes) {
+        Ok(true) => {}
+        Ok(false) => return put_refused(alloc, out, task.name, 0),
+        Err(_) => return status::NO_MEMORY,
+    }
+    match ruled(alloc, task.law, &bytes) {
+        Ok(None) => follow_on(rt, alloc, task, bytes, rows, world, bench, out),
+        Ok(Some(reason)) => refuse(alloc, out, task.name, Refusal::Against(reason)),
+        Err(_) => status::NO_MEMORY,
+    }
+}
+
+// Reads the copy of the file of this name. The error is the status that the run ends with.
+fn read_copy<W: Files, O: Sink>(
+    alloc: Global,
+    name: &str,
+    world: &mut W,
+    out: &mut O,
+) -> Result<Vec<u8>, u8>
+    ensures has { IfOk result (λ bytes. HasCopy name.now
+        (outside W.Outside W.Files.own world.old O.Sink out.old) (outside W.Outside W.Files.own world.new O.Sink out.new) bytes.items) }
+    ensures lacks { IfErr result (λ status. LacksCopy name.now
+        (outside W.Outside W.Files.own world.old O.Sink out.old) (outside W.Outside W.Files.own world.new O.Sink out.new) status) }
+{
+    let copy = match beside(alloc, name, ".orig") {
+        Ok(copy) => copy,
+        Err(_) => return Err(status::NO_MEMORY),
+    };
+    let copy = copy.as_str();
+    match world.read(alloc, copy, MOST_READ) {
+        ReadAnswer::Bytes(bytes) => Ok(bytes),
+        ReadAnswer::Absent => Err(refuse(alloc, out, copy, Refusal::NoFile)),
+        ReadAnswer::Failed => Err(refuse(alloc, out, copy, Refusal::FileFault)),
+        ReadAnswer::NoMemory => Err(status::NO_MEMORY),
+    }
+}
+
+// Asks the test about the lawful bytes of the copy, follows the rows from them, and reduces behind these.
+fn follow_on<
+    R: Threads + Sync,
+    P: Passes + Sync,
+    L: Law + Sync,
+    Q: Question + Sync,
+    W: Files + Disk,
+    J: Judge + Send,
+    O: Sink,
+>(
+    rt: &R,
+    alloc: Global,
+    task: &Task<'_, P, L, Q>,
+    bytes: Vec<u8>,
+    rows: Vec<Accepted>,
+    world: &mut W,
+    bench: &mut Bench<J>,
+    out: &mut O,
+) -> u8
+where
+    P::Prep: Sync,
+    requires law { IsOfPrograms (L.lawful task.now.law.now) (L.reasons task.now.law.now) }
+    requires workers { (0 < task.now.workers) × (task.now.workers ≤ length bench.old.judges) }
+    requires window { (0 < task.now.window) × (task.now.window ≤ 4096) }
+    requires forgot { bench.old.kept ≡ [] }
+    requires lawful { L.lawful task.now.law.now bytes.items }
+    requires rests { Rests rows.items (W.story world.old) }
+    ensures follows { FollowsOn (task_for P.Passes L.Law Q.Question task.now (says_of J.Judge bench.old)) bytes.items rows.items
+        (outside W.Outside W.Files.own world.old O.Sink out.old) (outside W.Outside W.Files.own world.new O.Sink out.new)
+        (judging J.Judge bench.old) (judging J.Judge bench.new) (W.Disk.has_failed world.new) result }
+    ensures silent { Q.asks task.now.question.now ≡ false → bench.new.judges ≡ bench.old.judges }
+    ensures keys { keys_of J.Judge bench.new ≡ keys_of J.Judge bench.old }
+{
+    // The copy is there.
+    let asking = Task {
+        passes: task.passes,
+        law: task.law,
+        question: task.question,
+        workers: task.workers,
+        window: task.window,
+        limit: task.limit,
+        name: task.name,
+        own: task.own,
+        saves: false,
+    };
+    let size = match begin(alloc, &asking, &bytes, world, bench, out) {
+        Ok(size) => size,
+        Err(status) => return status,
+    };
+    let limit = most_turns(task.limit);
+    let kept = match replay(alloc, task.passes, task.law, bytes, rows, limit) {
+        Ok(kept) => kept,
+        Err(fault) => return put_stop(alloc, out, task.name, fault),
+    };
+    // Turns that no reduction comes to, as only a limit above them lets through.
+    if kept.turns > MOST_TURNS {
+        return status::NO_MEMORY;
+    }
+    let count = kept.accepted.len() as u64;
+    if let Err(fault) = journal::reopen(alloc, task.name, count, world) {
+        return put_stop(alloc, out, task.name, fault);
+    }
+    reduce_on(rt, alloc, task, kept, size, world, bench, out)
+}

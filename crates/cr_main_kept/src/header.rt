@@ -1,0 +1,85 @@
+// The header of a run's journal.
+ghost use Rattle.std.specs.Prelude.{◌≡◌, Ok, true, false};
+ghost use Rattle.cr_main_kept.specs.Header.{Fits, header_of, limit_mark};
+ghost use Rattle.cr_journal.specs.Laws.{most_turns};
+
+use cr_journal_rows::Header;
+use cr_outside::NoMemory;
+use cr_pool::measure;
+use std::alloc::Global;
+
+/// What a journal's header has of the settings, beside the limit.
+#[derive(Clone, Copy, Debug, PartialEq, Eq)]
+pub struct Marks {
+    /// The enabled passes: bit k for pass k, from the lowest.
+    pub passes: u16,
+    /// The most steps of a run.
+    pub steps: u64,
+}
+
+/// The mark of no limit.
+const UNLIMITED: u64 = u64::MAX;
+
+/// The most turns of a row where there is no limit.
+pub const MOST_TURNS: u64 = (1 << 63) - 1;
+
+/// The header of a reduction of a file of this size.
+pub fn header_of(marks: Marks, limit: Option<u64>, size: u64) -> Header
+    ensures { result ≡ header_of marks limit size }
+{
+    Header {
+        passes: marks.passes,
+        steps: marks.steps,
+        limit: limit_mark(limit),
+        size,
+    }
+}
+
+fn limit_mark(limit: Option<u64>) -> u64
+    ensures { result ≡ limit_mark limit }
+{
+    match limit {
+        Some(limit) => limit,
+        None => UNLIMITED,
+    }
+}
+
+/// The most turns of a row.
+pub fn most_turns(limit: Option<u64>) -> u64
+    ensures { result ≡ most_turns limit }
+{
+    match limit {
+        Some(limit) => limit,
+        None => MOST_TURNS,
+    }
+}
+
+/// Whether a header is that of these settings and of these bytes. Bytes that don't tokenise have no size, and fit any.
+pub fn fits(
+    alloc: Global,
+    header: Header,
+    marks: Marks,
+    limit: Option<u64>,
+    bytes: &[u8],
+) -> Result<bool, NoMemory>
+    ensures fits { result ≡ Ok true → Fits marks limit header bytes.now }
+    ensures differs { result ≡ Ok false → Fits marks limit header bytes.now → ⊥ }
+{
+    if !is_of(header, marks, limit) {
+        return Ok(false);
+    }
+    match measure(alloc, bytes)? {
+        Some(size) => Ok(size == header.size),
+        None => Ok(true),
+    }
+}
+
+// Whether a header is that of these settings, for a file of its own size.
+fn is_of(header: Header, marks: Marks, limit: Option<u64>) -> bool
+    ensures same { result ≡ true → header ≡ header_of marks limit header.size }
+    ensures other { result ≡ false → header ≡ header_of marks limit header.size → ⊥ }
+{
+    header.passes == marks.passes
+        && header.steps == marks.steps
+        && header.limit == limit_mark(limit)
+}

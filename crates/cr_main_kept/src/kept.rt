@@ -1,0 +1,111 @@
+// The runs that keep a journal.
+ghost use Rattle.std.specs.Prelude.{◌≡◌, ◌<◌, ◌≤◌, length, false, true};
+ghost use Rattle.cr_main_kept.specs.Kept.{RunsJournal, RunsResume};
+ghost use Rattle.cr_main_kept.specs.Surviving.{Survives};
+ghost use Rattle.cr_main_task.specs.Outside.{outside};
+ghost use Rattle.cr_main_task.specs.Task.{IsOfPrograms, task_for};
+ghost use Rattle.cr_reduce.specs.Bench.{judging, keys_of, says_of};
+
+use crate::further::run_further;
+use crate::header::Marks;
+use crate::journal;
+use crate::lines::{from_disk, put_refused, put_stop};
+use crate::started::run_first;
+use cr_cursor::{Law, Passes};
+use cr_journal_rows::recover;
+use cr_main_task::Task;
+use cr_outside::{Files, Judge, Question, Sink};
+use cr_outside_disk::Disk;
+use cr_pool::Bench;
+use std::alloc::Global;
+use std::thread::Threads;
+
+/// Runs the task with a journal beside the file, which has to be empty or not there: each acceptance is in it before the
+/// reduction goes on. The status is 12 where a call on the journal failed, 13 where there is one already, else as of a run
+/// without a journal.
+pub fn run_journal<
+    R: Threads + Sync,
+    P: Passes + Sync,
+    L: Law + Sync,
+    Q: Question + Sync,
+    W: Files + Disk,
+    J: Judge + Send,
+    O: Sink,
+>(
+    rt: &R,
+    alloc: Global,
+    task: &Task<'_, P, L, Q>,
+    marks: Marks,
+    world: &mut W,
+    bench: &mut Bench<J>,
+    out: &mut O,
+) -> u8
+where
+    P::Prep: Sync,
+    requires law { IsOfPrograms (L.lawful task.now.law.now) (L.reasons task.now.law.now) }
+    requires saves { task.now.saves ≡ true }
+    requires workers { (0 < task.now.workers) × (task.now.workers ≤ length bench.old.judges) }
+    requires window { (0 < task.now.window) × (task.now.window ≤ 4096) }
+    ensures runs { RunsJournal (task_for P.Passes L.Law Q.Question task.now (says_of J.Judge bench.old)) marks
+        (outside W.Outside W.Files.own world.old O.Sink out.old) (outside W.Outside W.Files.own world.new O.Sink out.new)
+        (judging J.Judge bench.old) (judging J.Judge bench.new) (W.Disk.has_failed world.new) result }
+    ensures survives { Survives (task_for P.Passes L.Law Q.Question task.now (says_of J.Judge bench.old)) marks
+        (outside W.Outside W.Files.own world.old O.Sink out.old) (outside W.Outside W.Files.own world.new O.Sink out.new) result }
+    ensures silent { Q.asks task.now.question.now ≡ false → bench.new.judges ≡ bench.old.judges }
+    ensures keys { keys_of J.Judge bench.new ≡ keys_of J.Judge bench.old }
+{
+    bench.forget();
+    match journal::start(alloc, task.name, world) {
+        Ok(0) => run_first(rt, alloc, task, marks, world, bench, out),
+        Ok(_) => put_refused(alloc, out, task.name, 0),
+        Err(fault) => put_stop(alloc, out, task.name, from_disk(fault)),
+    }
+}
+
+/// Goes on with the journal beside the file, from the copy, behind the last acceptance that stands in it; where none was begun
+/// it begins one. The status is 12 where a call on the journal failed, 13 where a record isn't in the form, the header isn't that
+/// of this run, or a row doesn't follow; else as of a run without a journal.
+pub fn run_resume<
+    R: Threads + Sync,
+    P: Passes + Sync,
+    L: Law + Sync,
+    Q: Question + Sync,
+    W: Files + Disk,
+    J: Judge + Send,
+    O: Sink,
+>(
+    rt: &R,
+    alloc: Global,
+    task: &Task<'_, P, L, Q>,
+    marks: Marks,
+    world: &mut W,
+    bench: &mut Bench<J>,
+    out: &mut O,
+) -> u8
+where
+    P::Prep: Sync,
+    requires law { IsOfPrograms (L.lawful task.now.law.now) (L.reasons task.now.law.now) }
+    requires saves { task.now.saves ≡ true }
+    requires workers { (0 < task.now.workers) × (task.now.workers ≤ length bench.old.judges) }
+    requires window { (0 < task.now.window) × (task.now.window ≤ 4096) }
+    ensures runs { RunsResume (task_for P.Passes L.Law Q.Question task.now (says_of J.Judge bench.old)) marks
+        (outside W.Outside W.Files.own world.old O.Sink out.old) (outside W.Outside W.Files.own world.new O.Sink out.new)
+        (judging J.Judge bench.old) (judging J.Judge bench.new) (W.Disk.has_failed world.new) result }
+    ensures survives { Survives (task_for P.Passes L.Law Q.Question task.now (says_of J.Judge bench.old)) marks
+        (outside W.Outside W.Files.own world.old O.Sink out.old) (outside W.Outside W.Files.own world.new O.Sink out.new) result }
+    ensures silent { Q.asks task.now.question.now ≡ false → bench.new.judges ≡ bench.old.judges }
+    ensures keys { keys_of J.Judge bench.new ≡ keys_of J.Judge bench.old }
+{
+    bench.forget();
+    let len = match journal::start(alloc, task.name, world) {
+        Ok(len) => len,
+        Err(fault) => return put_stop(alloc, out, task.name, from_disk(fault)),
+    };
+    match recover(world, alloc, len) {
+        Ok(None) => run_first(rt, alloc, task, marks, world, bench, out),
+        Ok(Some((header, rows))) => run_further(
+            rt, alloc, task, marks, header, rows, world, bench, out,
+        ),
+        Err(fault) => put_stop(alloc, out, task.name, fault),
+    }
+}
