@@ -8,6 +8,7 @@
 mod asked;
 mod formulas;
 mod given;
+mod kept;
 mod laws;
 mod messages;
 mod modes;

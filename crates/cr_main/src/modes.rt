@@ -9,9 +9,10 @@ ghost use Rattle.cr_main.specs.More.{CompletesByFormula, EndsMore, IsPlain, IsSi
 ghost use Rattle.cr_main_words.specs.Words.{texts_of};
 
 use crate::asked::run_request;
+use crate::kept::run_kept;
 use crate::messages::USAGE;
 use cr_main_task::{put, status};
-use cr_main_words::{WordFault, request_of};
+use cr_main_words::{Engine, Request, WordFault, request_of};
 use cr_outside::{Files, Judge, Sink};
 use cr_outside_disk::Disk;
 use cr_pool::Bench;
@@ -19,7 +20,7 @@ use std::alloc::Global;
 use std::thread::Threads;
 
 /// Does what the words after the program's name ask for, and answers the exit status. The disk is a journal's.
-pub fn run_more<R: Threads + Sync, F: Files, J: Judge + Send, O: Sink, D: Disk>(
+pub fn run_more<R: Threads + Sync, F: Files, J: Judge + Send, O: Sink, D: Files + Disk>(
     rt: &R,
     alloc: Global,
     list: &[String],
@@ -64,8 +65,6 @@ pub fn run_more<R: Threads + Sync, F: Files, J: Judge + Send, O: Sink, D: Disk>(
     ensures keys { keys_of J.Judge bench.new ≡ keys_of J.Judge bench.old }
     ensures disk { disk.new ≡ disk.old }
 {
-    // No mode that is built needs it.
-    let _journal = disk;
     let request = match request_of(alloc, list, bench.workers()) {
         Ok(request) => request,
         Err(WordFault::Usage) => {
@@ -73,6 +72,11 @@ pub fn run_more<R: Threads + Sync, F: Files, J: Judge + Send, O: Sink, D: Disk>(
         }
         Err(WordFault::NoMemory) => return status::NO_MEMORY,
     };
+    if let Request::Reduction(settings, modes) = &request {
+        if modes.engine == Engine::Journal || modes.engine == Engine::Resume {
+            return run_kept(rt, alloc, settings, modes.engine == Engine::Resume, disk, bench, out);
+        }
+    }
     let status = run_request(rt, alloc, &request, files, bench, out);
     drop(request);
     status
