@@ -2,21 +2,35 @@
 use Rattle.std.proofs.Common.{◌≡◌, ℕ, Bool, true, false, List, [], ◌∷◌, length, Option, Some, None, Result, Ok, Err, refl, sym, ◌∙◌, ap, subst, arith}
 use Rattle.std.specs.Prelude.{IfOk, OnOk}
 use Rattle.cr_outside_disk.specs.declared.disk.DiskFault.{DiskFault}
-use Rattle.cr_journal.specs.Keeping.{Rests}
-use Rattle.cr_journal_records.specs.Records.{Body, IsKept, Stands, StandsFirst, StandsNone}
+use Rattle.cr_journal.specs.Keeping.{Rests, journal_of}
+use Rattle.cr_journal_records.specs.Records.{AtRest, Body, IsKept, Stands, StandsFirst, StandsNone}
 use Rattle.cr_outside.specs.Story.{Change, Story, files_told, gone_on, with_event}
 use Rattle.cr_outside.specs.Story.Event.{Read, Wrote, Changed}
 use Rattle.cr_outside.specs.declared.story.Outcome.{Outcome}
-use Rattle.cr_outside_disk.specs.Moments.{HasLength, seen}
+use Rattle.cr_outside_disk.specs.Moments.{AlwaysTold, EveryTold, HasLength, LastsTold, seen}
 use Rattle.cr_outside_disk.proofs.Lasting.{lasts_same}
 use Rattle.cr_outside_disk.proofs.Moments.{begun}
-use Rattle.cr_main_kept.specs.Kept.{Journals}
+use Rattle.cr_main_kept.specs.Kept.{AreOfReduction, Journals}
 use Rattle.cr_main_task.specs.Outside.{story_saved}
+use Rattle.cr_reduce.specs.Keeping.{ReducesOnAsTold}
+use Rattle.cr_reduce.specs.Reduction.{Outcome as Reduced}
+use Rattle.cr_reduce.specs.Search.{IsAllTold, Search}
 use Rattle.cr_reduce.specs.declared.end.Accepted.{Accepted}
+use Rattle.cr_reduce.specs.declared.end.Kept.{Kept}
 
 -- nothing was called
 pub journals_same : (Are : List Body → Type 0) (told : Option Story) → Journals Are told told
 journals_same Are told = record { lasts = λ some. lasts_same (Stands some) told; kept = λ all are was. begun (IsKept all) told was }
+
+-- what a reduction that is kept makes of the journal
+pub journals_of : (s : Search) (limit : Option ℕ) (kept : Kept) (old new : Option Story) → ((some : List Body) → LastsTold (Stands some) old new)
+    → (IsAllTold s → (out : Reduced) → ReducesOnAsTold s kept limit out → (header : Body) → EveryTold (AtRest (journal_of header kept.accepted.items)) old
+      → AlwaysTold (IsKept (journal_of header out.accepted)) old new)
+    → Journals (AreOfReduction s limit kept old) old new
+journals_of s limit kept old new lasts moment = record {
+  lasts = lasts;
+  kept = λ all are was. subst (λ (l : List Body). AlwaysTold (IsKept l) old new) (sym are.are) (moment are.told are.out are.reduction are.header are.rests);
+}
 
 pub none_read : (told : Option Story) (name : List ℕ) (most : ℕ) (outcome : Outcome) → StandsNone told → StandsNone (with_event (Read name most outcome) told)
 none_read None name most outcome none = tt

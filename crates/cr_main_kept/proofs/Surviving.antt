@@ -145,16 +145,16 @@ FitAll [] = Unit {0}
 FitAll (row ∷ more) = RowFits row × FitAll more
 
 step_fits : (s : Search) (limit : Option ℕ) → HasLevels s.Offers (λ pass. 16) → most_turns limit < 2 ^ 64 → (file next : List ℕ) (turns : ℕ) (row : Accepted) → IsStep (chain_in s limit) file turns row next → RowFits row
-step_fits s limit levels below file next turns row step = record {
+step_fits s limit levels below file next turns row step = let within : row.turn ≤ most_turns limit = step.within in record {
   index = omega (arith, step.there, levels.few file step.offer row.at.pass row.at.level step.offered, step.old_size.tokenizes.short);
   size = omega (arith, size_by_length next row.size step.new_size, step.new_size.tokenizes.short);
-  turn = omega (arith, step.within, below);
+  turn = omega (arith, within, below);
 }
 
 rows_fit : (s : Search) (limit : Option ℕ) → HasLevels s.Offers (λ pass. 16) → most_turns limit < 2 ^ 64 → (file last : List ℕ) (before count : ℕ) (rows : List Accepted) → Follows (chain_in s limit) file before rows last count → FitAll rows
 rows_fit s limit levels below file last before count [] follows = tt
-rows_fit s limit levels below file last before count (row ∷ rows) (further {next = next} step more) =
-    (step_fits s limit levels below file next before row step, rows_fit s limit levels below next last row.turn count rows more)
+rows_fit s limit levels below file last before count (row ∷ rows) (further step more) =
+    (step_fits s limit levels below file _ before row step, rows_fit s limit levels below _ last row.turn count rows more)
 
 -- rows whose bodies come first come first themselves
 rows_front : (rows all : List Accepted) → FitAll rows → FitAll all → IsFront (map row_body rows) (map row_body all) → Front rows all
@@ -476,8 +476,9 @@ module _ (t : Task) (marks : Marks) (bytes : List ℕ) (size : ℕ) (out : Outco
       (nothing old.story new.story (same ∙ begun.copied.story) safe, λ done. absurd (never_stops asked new why status put done))
   follows_on h rows old new before after has_failed status told safe rests (on.followed asked since old_size kept_at begun replayed below ends) =
       let (more, all_is) = come_first (bodies_of h rows) old.story told safe rests in
-      let header_is : header ≡ header_body h = cc all_is in
-      let rest_is : rest ≡ map row_body rows ++ more = cc all_is in
+      let all : header ∷ rest ≡ header_body h ∷ (map row_body rows ++ more) = all_is in
+      let header_is : header ≡ header_body h = cc all in
+      let rest_is : rest ≡ map row_body rows ++ more = cc all in
       let tokenized = of_programs.tokenizes bytes whole.lawful in
       let (last, turns, all_follow) = accepted_follows t.search levels t.limit bytes out out.accepted tokenized whole.reduction ([], sym (append-nil out.accepted)) in
       let front : Front rows out.accepted =

@@ -1,5 +1,5 @@
 -- The header of a run's journal.
-use Rattle.std.specs.Prelude.{◌≡◌, ℕ, List, Option, Some, None}
+use Rattle.std.specs.Prelude.{◌≡◌, ℕ, ◌+◌, Bool, true, false, List, get_or, Option, Some, None}
 use Rattle.cr_journal_rows.specs.declared.header.Header.{Header}
 use Rattle.cr_reduce.specs.Sizes.{HasSize}
 use Rattle.cr_main_kept.specs.declared.header.Marks.{Marks}
@@ -8,6 +8,16 @@ use Rattle.cr_main_kept.specs.declared.header.Marks.{Marks}
 abbrev pub limit_mark : Option ℕ → ℕ
 limit_mark (Some limit) = limit
 limit_mark None = 18446744073709551615
+
+abbrev pub bit : Bool → ℕ → ℕ
+bit true value = value
+bit false value = 0
+
+-- bit k is that of pass k, from the lowest
+abbrev pub passes_mark : List Bool → ℕ
+passes_mark enabled =
+    bit (get_or enabled 0 false) 1 + bit (get_or enabled 1 false) 2 + bit (get_or enabled 2 false) 4 + bit (get_or enabled 3 false) 8 + bit (get_or enabled 4 false) 16
+    + bit (get_or enabled 5 false) 32 + bit (get_or enabled 6 false) 64 + bit (get_or enabled 7 false) 128 + bit (get_or enabled 8 false) 256 + bit (get_or enabled 9 false) 512
 
 abbrev pub header_of : Marks → Option ℕ → ℕ → Header
 header_of marks limit size = record { passes = marks.passes; steps = marks.steps; limit = limit_mark limit; size = size }

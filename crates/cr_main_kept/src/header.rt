@@ -1,6 +1,6 @@
 // The header of a run's journal.
-ghost use Rattle.std.specs.Prelude.{◌≡◌, Ok, true, false};
-ghost use Rattle.cr_main_kept.specs.Header.{Fits, header_of, limit_mark};
+ghost use Rattle.std.specs.Prelude.{◌≡◌, ◌≤◌, Ok, true, false};
+ghost use Rattle.cr_main_kept.specs.Header.{Fits, bit, header_of, limit_mark, passes_mark};
 ghost use Rattle.cr_journal.specs.Laws.{most_turns};
 
 use cr_journal_rows::Header;
@@ -22,6 +22,29 @@ const UNLIMITED: u64 = u64::MAX;
 
 /// The most turns of a row where there is no limit.
 pub const MOST_TURNS: u64 = (1 << 63) - 1;
+
+/// The mark of the enabled passes.
+pub fn passes_mark(enabled: [bool; 10]) -> u16
+    ensures { result ≡ passes_mark enabled }
+{
+    bit(enabled[0], 1)
+        + bit(enabled[1], 2)
+        + bit(enabled[2], 4)
+        + bit(enabled[3], 8)
+        + bit(enabled[4], 16)
+        + bit(enabled[5], 32)
+        + bit(enabled[6], 64)
+        + bit(enabled[7], 128)
+        + bit(enabled[8], 256)
+        + bit(enabled[9], 512)
+}
+
+fn bit(is_enabled: bool, value: u16) -> u16
+    ensures is { result ≡ bit is_enabled value }
+    ensures most { result ≤ value }
+{
+    if is_enabled { value } else { 0 }
+}
 
 /// The header of a reduction of a file of this size.
 pub fn header_of(marks: Marks, limit: Option<u64>, size: u64) -> Header

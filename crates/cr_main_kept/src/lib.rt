@@ -14,5 +14,5 @@ mod lines;
 mod reduction;
 mod started;
 
-pub use header::Marks;
+pub use header::{Marks, passes_mark};
 pub use kept::{run_journal, run_resume};

@@ -1,12 +1,12 @@
 use Rattle.std.proofs.Common.{List, [], refl, subst}
 use Rattle.cr_journal.specs.Keeping.{IsReductionOn}
-use Rattle.cr_journal_records.specs.Records.{Stands}
-use Rattle.cr_pool.specs.Kept.{Kept}
+use Rattle.cr_pool.specs.Kept.{Kept as Verdicts}
 use Rattle.cr_reduce.specs.Bench.{judging, says_of}
 use Rattle.cr_reduce.specs.Search.{searching}
+use Rattle.cr_main_kept.specs.Kept.{AreOfReduction, Journals}
 use Rattle.cr_main_kept.specs.Kept.EndsKept.{concluded, cut_off}
 use Rattle.cr_main_kept.proofs.Ends.{kept_passes, kept_sized}
-use Rattle.cr_main_kept.proofs.Stories.{only_lasts}
+use Rattle.cr_main_kept.proofs.Stories.{journals_of}
 use Rattle.cr_main_task.specs.Outside.{outside}
 use Rattle.cr_main_task.specs.Task.{Task, task_for}
 use Rattle.cr_main_kept.proofs.reduction.reduce_on.Goals as goal
@@ -23,24 +23,30 @@ conclude-requires-clause-passes g c =
 
 pub returns-in-Done-clause-ends : goal.returns-in-Done-clause-ends
 returns-in-Done-clause-ends g c =
-    let later : List Kept → Task = λ kept. let t = task_for g.P.Passes g.L.Law g.Q.Question c.args.task.now (says_of g.J.Judge c.args.bench.now) in record t { search = record t.search { kept = kept } } in
+    let later : List Verdicts → Task = λ verdicts. let t = task_for g.P.Passes g.L.Law g.Q.Question c.args.task.now (says_of g.J.Judge c.args.bench.now) in record t { search = record t.search { kept = verdicts } } in
     let before = judging g.J.Judge c.args.bench.now in
     let after = judging g.J.Judge c.reduce_kept.new.bench in
+    let old = g.W.Outside.story c.args.world.now in
+    let new = g.W.Outside.story c.reduce_kept.new.disk in
     concluded c.in-Done.end (outside g.W.Outside g.W.Files c.reduce_kept.new.disk g.O.Sink c.args.out.now) c.conclude.ensures.0
-    (subst (λ kept. IsReductionOn (later kept).search before after c.args.task.now.window c.args.task.now.limit c.args.kept c.in-Done.end) c.requires.forgot c.in-Done.ensures.goes_on)
+    (subst (λ verdicts. IsReductionOn (later verdicts).search before after c.args.task.now.window c.args.task.now.limit c.args.kept c.in-Done.end) c.requires.forgot c.in-Done.ensures.goes_on)
     (record {
-      story = only_lasts (Stands []) (g.W.Outside.story c.args.world.now) (g.W.Outside.story c.reduce_kept.new.disk) (c.in-Done.ensures.lasts []);
+      journal = subst (λ verdicts. Journals (AreOfReduction (later verdicts).search c.args.task.now.limit c.args.kept old) old new) c.requires.forgot
+          (journals_of (later c.args.bench.now.kept).search c.args.task.now.limit c.args.kept old new c.in-Done.ensures.lasts c.in-Done.ensures.any_moment);
       output = refl;
       output_faults = refl;
     }) c.conclude.ensures.1 c.conclude.ensures.2
 
 pub returns-in-Disk-clause-ends : goal.returns-in-Disk-clause-ends
 returns-in-Disk-clause-ends g c =
-    let later : List Kept → Task = λ kept. let t = task_for g.P.Passes g.L.Law g.Q.Question c.args.task.now (says_of g.J.Judge c.args.bench.now) in record t { search = record t.search { kept = kept } } in
+    let later : List Verdicts → Task = λ verdicts. let t = task_for g.P.Passes g.L.Law g.Q.Question c.args.task.now (says_of g.J.Judge c.args.bench.now) in record t { search = record t.search { kept = verdicts } } in
     let before = judging g.J.Judge c.args.bench.now in
     let after = judging g.J.Judge c.reduce_kept.new.bench in
+    let old = g.W.Outside.story c.args.world.now in
+    let new = g.W.Outside.story c.reduce_kept.new.disk in
     let cut = c.in-Disk.ensures.goes_on in
     cut_off cut.0 cut.1
-    (subst (λ kept. IsReductionOn (later kept).search before after c.args.task.now.window c.args.task.now.limit c.args.kept cut.0) c.requires.forgot cut.2)
-    (only_lasts (Stands []) (g.W.Outside.story c.args.world.now) (g.W.Outside.story c.reduce_kept.new.disk) (c.in-Disk.ensures.lasts []))
+    (subst (λ verdicts. IsReductionOn (later verdicts).search before after c.args.task.now.window c.args.task.now.limit c.args.kept cut.0) c.requires.forgot cut.2)
+    (subst (λ verdicts. Journals (AreOfReduction (later verdicts).search c.args.task.now.limit c.args.kept old) old new) c.requires.forgot
+    (journals_of (later c.args.bench.now.kept).search c.args.task.now.limit c.args.kept old new c.in-Disk.ensures.lasts c.in-Disk.ensures.any_moment))
     (c.in-Disk.ensures.failed refl).1 c.put_fault.ensures
