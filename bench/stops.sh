@@ -10,7 +10,7 @@ top=$(cd "$(dirname "${BASH_SOURCE[0]}")/.." && pwd)
 most=${1:-200}
 begin_reductions 0.05
 cp "$top/examples/clamp/thermostat.c" whole.c
-printf '#!/bin/sh\nsleep %s\ngrep -q "zones\\[.*current" f.c && grep -q clamp f.c\n' "$seconds" >slow.sh
+printf '#!/bin/sh\nsleep %s\ngrep -q clamp f.c && grep -q "for (" f.c && grep -q printf f.c\n' "$seconds" >slow.sh
 chmod +x slow.sh
 words=(--workers 4 ./slow.sh f.c)
 
