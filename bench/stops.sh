@@ -27,14 +27,16 @@ same() { cmp -s f.c whole.result && cmp -s f.c.log whole.log || failed "after $1
 cp whole.c f.c
 begun=$SECONDS
 "$program" "${words[@]}" >plain.txt || failed "the plain reduction ended with $?"
-echo "without a stop: $((SECONDS - begun)) s, $(cat plain.txt)"
+whole=$((SECONDS - begun))
+echo "without a stop: $whole s, $(cat plain.txt)"
 mv f.c whole.result && mv f.c.log whole.log && rm -f f.c.orig
 
-# killed WORDS..: begins the program, lets it run for a random time below three seconds, and kills it; fails where it ended before.
+# killed WORDS..: begins the program, lets it run for a random time, at most a third of what a whole reduction takes, and kills it; fails
+# where it ended before.
 killed() {
     "$program" "$@" "${words[@]}" >said.txt 2>&1 &
     local it=$!
-    sleep "$((RANDOM % 3)).$(printf '%03d' $((RANDOM % 1000)))"
+    sleep "$((RANDOM % (whole / 3 + 1))).$(printf '%03d' $((RANDOM % 1000)))"
     kill -KILL "$it" 2>/dev/null
     wait "$it" 2>/dev/null
     status=$?

@@ -1,6 +1,7 @@
 pub mod Headers
 pub mod Stories
 pub mod Ends
+pub mod Copies
 pub mod Over
 pub mod Safe
 pub mod Surviving

@@ -46,28 +46,28 @@ use Rattle.cr_replay.specs.Chains.{Chain, Follows, IsStep}
 use Rattle.cr_replay.specs.Chains.Follows.{further, there}
 use Rattle.cr_main_kept.specs.Header.{header_of}
 use Rattle.cr_main_kept.specs.Kept.{AreOfReduction, AnyRecords, BeginWith, EndsKept, FileBegins, FollowsOn, HasCopy, IsFirst, IsJournalled, Journals, LacksCopy, RunsFirst, RunsFurther, RunsJournal, RunsResume, Stops, asking}
-use Rattle.cr_main_kept.specs.Kept.EndsKept as ending
-use Rattle.cr_main_kept.specs.Kept.RunsFirst as first
-use Rattle.cr_main_kept.specs.Kept.FollowsOn as on
-use Rattle.cr_main_kept.specs.Kept.RunsFurther as further_on
-use Rattle.cr_main_kept.specs.Kept.LacksCopy as lacks
-use Rattle.cr_main_kept.specs.Kept.RunsJournal as keeping
-use Rattle.cr_main_kept.specs.Kept.RunsResume as resuming
+use Rattle.cr_main_kept.specs.Kept.EndsKept.{cut_off as ending_cut_off, concluded as ending_concluded}
+use Rattle.cr_main_kept.specs.Kept.RunsFirst.{unopened as first_unopened, stopped as first_stopped, unbegun as first_unbegun, begun as first_begun}
+use Rattle.cr_main_kept.specs.Kept.FollowsOn.{stopped as on_stopped, differs as on_differs, closed as on_closed, followed as on_followed}
+use Rattle.cr_main_kept.specs.Kept.RunsFurther.{uncopied as further_on_uncopied, foreign as further_on_foreign, ruled_out as further_on_ruled_out, starved as further_on_starved, lawful as further_on_lawful}
+use Rattle.cr_main_kept.specs.Kept.LacksCopy.{not_there as lacks_not_there, unread as lacks_unread, wanting as lacks_wanting}
+use Rattle.cr_main_kept.specs.Kept.RunsJournal.{unstarted as keeping_unstarted, found as keeping_found, fresh as keeping_fresh}
+use Rattle.cr_main_kept.specs.Kept.RunsResume.{unrecovered as resuming_unrecovered, anew as resuming_anew, further as resuming_further}
 use Rattle.cr_main_kept.specs.Lines.{fault_line, refused_line}
 use Rattle.cr_main_kept.specs.Stops.{SafeTold, StaysSafe, StaysSafeTold}
 use Rattle.cr_main_kept.specs.Surviving.{HasResult, IsSafeFor, IsWhole, Survives}
 use Rattle.cr_main_kept.specs.declared.header.Marks.{Marks}
 use Rattle.cr_main_kept.proofs.Safe.{copy_phase, file_phase, first_may, first_of, journal_phase, no_phase, other_phase, phases, put_other, put_same, read_phase, safe_now}
 use Rattle.cr_main_task.specs.Beginning.{HasBegun, StopsEarly}
-use Rattle.cr_main_task.specs.Beginning.StopsEarly as early
+use Rattle.cr_main_task.specs.Beginning.StopsEarly.{refused as early_refused, wanting as early_wanting, not_copied as early_not_copied}
 use Rattle.cr_main_task.specs.Messages.{copy_name, log_name}
 use Rattle.cr_main_task.specs.Opening.{IsOpened, Unopened, law_of}
-use Rattle.cr_main_task.specs.Opening.Unopened as unopened
+use Rattle.cr_main_task.specs.Opening.Unopened.{not_there as unopened_not_there, ruled_out as unopened_ruled_out, unread as unopened_unread, unopened as unopened_unopened}
 use Rattle.cr_main_task.specs.Outside.{Fails, IsSaved, Outside, Puts, SaveFails, story_saved}
-use Rattle.cr_main_task.specs.Outside.Fails as fails
+use Rattle.cr_main_task.specs.Outside.Fails.{call_failed as fails_call_failed, starved as fails_starved}
 use Rattle.cr_main_task.specs.Outside.Says.{said_whole, said_cut, said_starved}
 use Rattle.cr_main_task.specs.Run.{Concludes, end_status}
-use Rattle.cr_main_task.specs.Run.Concludes as concludes
+use Rattle.cr_main_task.specs.Run.Concludes.{unfinished as concludes_unfinished, unwritten as concludes_unwritten, unlogged as concludes_unlogged, summed_up as concludes_summed_up}
 use Rattle.cr_main_task.specs.declared.messages.Refusal.TheVariants as refusal
 use Rattle.cr_main_task.specs.Task.{FileHas, IsOfPrograms, IsRead, Task, most_read, stored}
 use Rattle.cr_main_task.proofs.Headlines.{IsDone, is_of_ends, not_done}
@@ -235,10 +235,10 @@ module _ (t : Task) (marks : Marks) (bytes : List ℕ) (size : ℕ) (out : Outco
 
   write_fails : (saving : Bool) (old new : Outside) (other given : List ℕ) (status : ℕ) → ((end : Called) (is_put : Bool) → Stays old.story (with_event (Wrote other given end is_put) old.story)) → Safe old.story
       → Fails saving old new other given status → Stays old.story new.story
-  write_fails saving old new other given status each safe (fails.call_failed saving_is rose (is_put, is) said) = subst (Stays old.story) (sym is) (each called.Failed is_put)
-  write_fails saving old new other given status each safe (fails.starved (inl same) silent is) = nothing old.story new.story same safe
-  write_fails saving old new other given status each safe (fails.starved (inr (saving_is, inl same)) silent is) = nothing old.story new.story same safe
-  write_fails saving old new other given status each safe (fails.starved (inr (saving_is, inr (is_put, tells))) silent is) = subst (Stays old.story) (sym tells) (each called.NoMemory is_put)
+  write_fails saving old new other given status each safe (fails_call_failed saving_is rose (is_put, is) said) = subst (Stays old.story) (sym is) (each called.Failed is_put)
+  write_fails saving old new other given status each safe (fails_starved (inl same) silent is) = nothing old.story new.story same safe
+  write_fails saving old new other given status each safe (fails_starved (inr (saving_is, inl same)) silent is) = nothing old.story new.story same safe
+  write_fails saving old new other given status each safe (fails_starved (inr (saving_is, inr (is_put, tells))) silent is) = subst (Stays old.story) (sym tells) (each called.NoMemory is_put)
 
   saved_story : (other given : List ℕ) (told new : Option Story) → new ≡ story_saved t.saves other given told → new ≡ with_event (Wrote other given called.Done true) told
   saved_story other given told new is = subst (λ (b : Bool). new ≡ story_saved b other given told) saves is
@@ -276,12 +276,12 @@ module _ (t : Task) (marks : Marks) (bytes : List ℕ) (size : ℕ) (out : Outco
   concluded : (kept_at : Kept) (reduced new : Outside) (end : End) (new_size status : ℕ) → ReducesOnAsTold t.search kept_at t.limit out → Safe reduced.story → EveryTold StandsFirst reduced.story
       → EndsToldAt (ReducesOnAsTold t.search kept_at) (IsAsKept kept_at end) t.limit end end.why → HasSize end.file.items new_size
       → Concludes t.saves t.name reduced new end size new_size status → Promises reduced new status
-  concluded kept_at reduced new end new_size status goes safe stands told sized (concludes.unfinished same is) = (nothing reduced.story new.story (ap (λ (o : Outside). o.story) same) safe, λ done. absurd (never_11 status is done))
-  concluded kept_at reduced new end new_size status goes safe stands told sized (concludes.unwritten ended wrong) = (
+  concluded kept_at reduced new end new_size status goes safe stands told sized (concludes_unfinished same is) = (nothing reduced.story new.story (ap (λ (o : Outside). o.story) same) safe, λ done. absurd (never_11 status is done))
+  concluded kept_at reduced new end new_size status goes safe stands told sized (concludes_unwritten ended wrong) = (
     write_fails t.saves reduced new t.name end.file.items status (λ e is_put. write_file reduced.story end.file.items e is_put stands safe) safe wrong.fails,
     λ done. absurd (fails_is t.saves reduced new t.name status wrong.fails (is_of_ends status done)),
   )
-  concluded kept_at reduced new end new_size status goes safe stands told sized (concludes.unlogged written ended first wrong) =
+  concluded kept_at reduced new end new_size status goes safe stands told sized (concludes_unlogged written ended first wrong) =
       let text = log_text_of end new_size in
       let one_more : Stays reduced.story written.story = subst (Stays reduced.story) (sym (saved_story t.name end.file.items reduced.story written.story first.story)) (write_file reduced.story end.file.items called.Done true stands safe) in
       let still = now_safe reduced.story written.story one_more in
@@ -289,7 +289,7 @@ module _ (t : Task) (marks : Marks) (bytes : List ℕ) (size : ℕ) (out : Outco
         then_stays reduced.story written.story new.story one_more (write_fails t.saves written new (log_name t.name) text status (λ e is_put. write_log written.story text e is_put still) still wrong.fails),
         λ done. absurd (fails_is t.saves written new (log_name t.name) status wrong.fails (is_of_ends status done)),
       )
-  concluded kept_at reduced new end new_size status goes safe stands told sized (concludes.summed_up ended files calls said) =
+  concluded kept_at reduced new end new_size status goes safe stands told sized (concludes_summed_up ended files calls said) =
       let text = log_text_of end new_size in
       let mid = with_event (Wrote t.name end.file.items called.Done true) reduced.story in
       let one_more : Stays reduced.story mid = write_file reduced.story end.file.items called.Done true stands safe in
@@ -333,14 +333,14 @@ module _ (t : Task) (marks : Marks) (bytes : List ℕ) (size : ℕ) (out : Outco
 
   ends_so : (kept_at : Kept) (old_size : ℕ) (old new : Outside) (before after : Judging) (has_failed : Bool) (status : ℕ) → old_size ≡ size → ReducesOnAsTold t.search kept_at t.limit out → Safe old.story
       → EveryTold (AtRest (journal_of header kept_at.accepted.items)) old.story → EndsKept t kept_at old_size old new before after has_failed status → Promises old new status
-  ends_so kept_at old_size old new before after has_failed status size_is goes safe rests (ending.cut_off end ended claims journal failed put) =
+  ends_so kept_at old_size old new before after has_failed status size_is goes safe rests (ending_cut_off end ended claims journal failed put) =
       let are : AreOfReduction t.search t.limit kept_at old.story (header ∷ rest) = record { told = whole.told; header = header; rests = rests; out = out; reduction = goes; are = refl } in
       let stands = first_everywhere header old.story (rest_first header (map row_body kept_at.accepted.items) old.story rests) in
       (
         journal_stays old.story new.story safe (AreOfReduction t.search t.limit kept_at old.story) journal are (inr (copy_there old.story safe stands)),
         λ done. absurd (never_put old new _ 12 status put (λ e. omega (arith, e)) (λ e. omega (arith, e)) done),
       )
-  ends_so kept_at old_size old new before after has_failed status size_is goes safe rests (ending.concluded end reduced new_size claims journalled sized ends) =
+  ends_so kept_at old_size old new before after has_failed status size_is goes safe rests (ending_concluded end reduced new_size claims journalled sized ends) =
       let are : AreOfReduction t.search t.limit kept_at old.story (header ∷ rest) = record { told = whole.told; header = header; rests = rests; out = out; reduction = goes; are = refl } in
       let header_there = rest_first header (map row_body kept_at.accepted.items) old.story rests in
       let stands = first_everywhere header old.story header_there in
@@ -362,20 +362,20 @@ module _ (t : Task) (marks : Marks) (bytes : List ℕ) (size : ℕ) (out : Outco
   never_13 old new n status put done = never_put old new (refused_line t.name n) 13 status put (λ e. omega (arith, e)) (λ e. omega (arith, e)) done
 
   not_opened : (old new : Outside) (status : ℕ) → Safe old.story → Unopened (law_of t) t.name (stored (files_told old.story) t.name) old new status → Promises old new status
-  not_opened old new status safe (unopened.not_there lacks files calls said) =
+  not_opened old new status safe (unopened_not_there lacks files calls said) =
       (read_stays t.name called.Absent old.story new.story calls safe, λ done. absurd (refused_is old new t.name refusal.NoFile status said (is_of_ends status done)))
-  not_opened old new status safe (unopened.ruled_out reason other has against why files calls said) =
+  not_opened old new status safe (unopened_ruled_out reason other has against why files calls said) =
       (read_stays t.name called.Done old.story new.story calls safe, λ done. absurd (refused_is old new t.name (refusal.Against reason) status said (is_of_ends status done)))
-  not_opened old new status safe (unopened.unread rose files calls said) =
+  not_opened old new status safe (unopened_unread rose files calls said) =
       (read_stays t.name called.Failed old.story new.story calls safe, λ done. absurd (refused_is old new t.name refusal.FileFault status said (is_of_ends status done)))
-  not_opened old new status safe (unopened.unopened files (inl calls) silent is) = (read_stays t.name called.Done old.story new.story calls safe, λ done. absurd (never_11 status is done))
-  not_opened old new status safe (unopened.unopened files (inr calls) silent is) = (read_stays t.name called.NoMemory old.story new.story calls safe, λ done. absurd (never_11 status is done))
+  not_opened old new status safe (unopened_unopened files (inl calls) silent is) = (read_stays t.name called.Done old.story new.story calls safe, λ done. absurd (never_11 status is done))
+  not_opened old new status safe (unopened_unopened files (inr calls) silent is) = (read_stays t.name called.NoMemory old.story new.story calls safe, λ done. absurd (never_11 status is done))
 
   stops_early : (old new : Outside) (before after : Judging) (status : ℕ) → Safe old.story → StopsEarly t bytes old new before after status → Promises old new status
-  stops_early old new before after status safe (early.refused r causes asked files calls said) =
+  stops_early old new before after status safe (early_refused r causes asked files calls said) =
       (nothing old.story new.story calls.1 safe, λ done. absurd (refused_is old new t.name r status said (is_of_ends status done)))
-  stops_early old new before after status safe (early.wanting asked files told silent is) = (nothing old.story new.story told safe, λ done. absurd (never_11 status is done))
-  stops_early old new before after status safe (early.not_copied answered wrong) = (
+  stops_early old new before after status safe (early_wanting asked files told silent is) = (nothing old.story new.story told safe, λ done. absurd (never_11 status is done))
+  stops_early old new before after status safe (early_not_copied answered wrong) = (
     write_fails t.saves old new copy bytes status (λ e is_put. write_copy old.story e is_put safe) safe wrong.fails,
     λ done. absurd (fails_is t.saves old new copy status wrong.fails (is_of_ends status done)),
   )
@@ -403,13 +403,13 @@ module _ (t : Task) (marks : Marks) (bytes : List ℕ) (size : ℕ) (out : Outco
 
   runs_first : (old new : Outside) (before after : Judging) (has_failed : Bool) (status : ℕ) → IsStory old.story → Safe old.story → StandsNone old.story
       → RunsFirst t marks old new before after has_failed status → Promises old new status
-  runs_first old new before after has_failed status told safe none (first.unopened wrong quiet) = not_opened old new status safe wrong
-  runs_first old new before after has_failed status told safe none (first.stopped other read opened stops) =
+  runs_first old new before after has_failed status told safe none (first_unopened wrong quiet) = not_opened old new status safe wrong
+  runs_first old new before after has_failed status told safe none (first_stopped other read opened stops) =
       let is : other ≡ bytes = one_content old.story t.name other bytes told opened.has (file_there old.story safe none) in
       let to_read = read_stays t.name called.Done old.story read.story opened.calls safe in
       from_earlier old read new status to_read opened.same.output
       (stops_early read new before after status (now_safe old.story read.story to_read) (subst (λ (b : List ℕ). StopsEarly t b read new before after status) is stops))
-  runs_first old new before after has_failed status told safe none (first.unbegun other read copied old_size why opened begun journal cause put) =
+  runs_first old new before after has_failed status told safe none (first_unbegun other read copied old_size why opened begun journal cause put) =
       let is : other ≡ bytes = one_content old.story t.name other bytes told opened.has (file_there old.story safe none) in
       let to_read = read_stays t.name called.Done old.story read.story opened.calls safe in
       let (to_copied, copy_is, size_is) = begun_stays read copied before after old_size (now_safe old.story read.story to_read) (subst (λ (b : List ℕ). HasBegun t b read copied before after old_size) is begun) in
@@ -419,7 +419,7 @@ module _ (t : Task) (marks : Marks) (bytes : List ℕ) (size : ℕ) (out : Outco
         then_stays old.story copied.story new.story all (journal_stays copied.story new.story (now_safe old.story copied.story all) (BeginWith (header_of marks t.limit old_size)) journal are (inr copy_is)),
         λ done. absurd (never_stops copied new why status put done),
       )
-  runs_first old new before after has_failed status told safe none (first.begun other read copied started since old_size kept_at opened begun journalled rests is_first ends) =
+  runs_first old new before after has_failed status told safe none (first_begun other read copied started since old_size kept_at opened begun journalled rests is_first ends) =
       let is : other ≡ bytes = one_content old.story t.name other bytes told opened.has (file_there old.story safe none) in
       let to_read = read_stays t.name called.Done old.story read.story opened.calls safe in
       let begun_here = subst (λ (b : List ℕ). HasBegun t b read copied before since old_size) is begun in
@@ -439,15 +439,15 @@ module _ (t : Task) (marks : Marks) (bytes : List ℕ) (size : ℕ) (out : Outco
   -- ---- a run that goes on
 
   quiet_fails : (old new : Outside) (other given : List ℕ) (status : ℕ) → Fails false old new other given status → new.story ≡ old.story
-  quiet_fails old new other given status (fails.call_failed saving rose tells said) = cc
-  quiet_fails old new other given status (fails.starved (inl same) silent is) = same
-  quiet_fails old new other given status (fails.starved (inr (saving, tells)) silent is) = cc
+  quiet_fails old new other given status (fails_call_failed saving rose tells said) = cc
+  quiet_fails old new other given status (fails_starved (inl same) silent is) = same
+  quiet_fails old new other given status (fails_starved (inr (saving, tells)) silent is) = cc
 
   stops_asking : (old new : Outside) (before after : Judging) (status : ℕ) → Safe old.story → StopsEarly (asking t) bytes old new before after status → Promises old new status
-  stops_asking old new before after status safe (early.refused r causes asked files calls said) =
+  stops_asking old new before after status safe (early_refused r causes asked files calls said) =
       (nothing old.story new.story calls.1 safe, λ done. absurd (refused_is old new t.name r status said (is_of_ends status done)))
-  stops_asking old new before after status safe (early.wanting asked files told silent is) = (nothing old.story new.story told safe, λ done. absurd (never_11 status is done))
-  stops_asking old new before after status safe (early.not_copied answered wrong) = (
+  stops_asking old new before after status safe (early_wanting asked files told silent is) = (nothing old.story new.story told safe, λ done. absurd (never_11 status is done))
+  stops_asking old new before after status safe (early_not_copied answered wrong) = (
     nothing old.story new.story (quiet_fails old new copy bytes status wrong.fails) safe,
     λ done. absurd (fails_is false old new copy status wrong.fails (is_of_ends status done)),
   )
@@ -469,12 +469,12 @@ module _ (t : Task) (marks : Marks) (bytes : List ℕ) (size : ℕ) (out : Outco
 
   follows_on : (h : Header) (rows : List Accepted) (old new : Outside) (before after : Judging) (has_failed : Bool) (status : ℕ) → IsStory old.story → Safe old.story
       → EveryTold (AtRest (bodies_of h rows)) old.story → FollowsOn t bytes rows old new before after has_failed status → Promises old new status
-  follows_on h rows old new before after has_failed status told safe rests (on.stopped stops) = stops_asking old new before after status safe stops
-  follows_on h rows old new before after has_failed status told safe rests (on.differs asked old_size n begun breaks same put) =
+  follows_on h rows old new before after has_failed status told safe rests (on_stopped stops) = stops_asking old new before after status safe stops
+  follows_on h rows old new before after has_failed status told safe rests (on_differs asked old_size n begun breaks same put) =
       (nothing old.story new.story (same ∙ begun.copied.story) safe, λ done. absurd (never_13 asked new n status put done))
-  follows_on h rows old new before after has_failed status told safe rests (on.closed asked old_size why begun same cause put) =
+  follows_on h rows old new before after has_failed status told safe rests (on_closed asked old_size why begun same cause put) =
       (nothing old.story new.story (same ∙ begun.copied.story) safe, λ done. absurd (never_stops asked new why status put done))
-  follows_on h rows old new before after has_failed status told safe rests (on.followed asked since old_size kept_at begun replayed below ends) =
+  follows_on h rows old new before after has_failed status told safe rests (on_followed asked started since old_size kept_at begun replayed below reopened ends) =
       let (more, all_is) = come_first (bodies_of h rows) old.story told safe rests in
       let all : header ∷ rest ≡ header_body h ∷ (map row_body rows ++ more) = all_is in
       let header_is : header ≡ header_body h = cc all in
@@ -484,28 +484,29 @@ module _ (t : Task) (marks : Marks) (bytes : List ℕ) (size : ℕ) (out : Outco
       let front : Front rows out.accepted =
       rows_front rows out.accepted (rows_fit t.search t.limit levels below bytes kept_at.file.items 0 kept_at.turns rows replayed.follows) (rows_fit t.search t.limit levels below bytes last 0 turns out.accepted all_follow) (more, rest_is) in
       let kept_front : Front kept_at.accepted.items out.accepted = subst (λ (l : List Accepted). Front l out.accepted) (sym replayed.same) front in
-      let stays = nothing old.story asked.story begun.copied.story safe in
-      let asked_rests : EveryTold (AtRest (journal_of header kept_at.accepted.items)) asked.story =
-      subst (λ (told : Option Story). EveryTold (AtRest (journal_of header kept_at.accepted.items)) told) (sym begun.copied.story)
+      let started_is : started.story ≡ old.story = reopened.story ∙ begun.copied.story in
+      let stays = nothing old.story started.story started_is safe in
+      let asked_rests : EveryTold (AtRest (journal_of header kept_at.accepted.items)) started.story =
+      subst (λ (told : Option Story). EveryTold (AtRest (journal_of header kept_at.accepted.items)) told) (sym started_is)
       (subst (λ (l : List Accepted). EveryTold (AtRest (journal_of header l)) old.story) (sym replayed.same) (subst (λ (b : Body). EveryTold (AtRest (journal_of b rows)) old.story) (sym header_is) rests)) in
-      from_earlier old asked new status stays begun.copied.output
-      (ends_so kept_at old_size asked new since after has_failed status (one_size bytes old_size size begun.sized whole.sized) (goes_from kept_at replayed.is_kept kept_front) (now_safe old.story asked.story stays) asked_rests ends)
+      from_earlier old started new status stays (reopened.output ∙ begun.copied.output)
+      (ends_so kept_at old_size started new since after has_failed status (one_size bytes old_size size begun.sized whole.sized) (goes_from kept_at replayed.is_kept kept_front) (now_safe old.story started.story stays) asked_rests ends)
 
   runs_further : (h : Header) (rows : List Accepted) (old new : Outside) (before after : Judging) (has_failed : Bool) (status : ℕ) → IsStory old.story → Safe old.story
       → EveryTold (AtRest (bodies_of h rows)) old.story → RunsFurther t marks h rows old new before after has_failed status → Promises old new status
-  runs_further h rows old new before after has_failed status told safe rests (further_on.uncopied (lacks.not_there gone calls said) quiet) =
+  runs_further h rows old new before after has_failed status told safe rests (further_on_uncopied (lacks_not_there gone calls said) quiet) =
       (read_stays copy called.Absent old.story new.story calls safe, λ done. absurd (refused_is old new copy refusal.NoFile status said (is_of_ends status done)))
-  runs_further h rows old new before after has_failed status told safe rests (further_on.uncopied (lacks.unread rose calls said) quiet) =
+  runs_further h rows old new before after has_failed status told safe rests (further_on_uncopied (lacks_unread rose calls said) quiet) =
       (read_stays copy called.Failed old.story new.story calls safe, λ done. absurd (refused_is old new copy refusal.FileFault status said (is_of_ends status done)))
-  runs_further h rows old new before after has_failed status told safe rests (further_on.uncopied (lacks.wanting calls silent is) quiet) =
+  runs_further h rows old new before after has_failed status told safe rests (further_on_uncopied (lacks_wanting calls silent is) quiet) =
       (read_stays copy called.NoMemory old.story new.story calls safe, λ done. absurd (never_11 status is done))
-  runs_further h rows old new before after has_failed status told safe rests (further_on.foreign other read has another same quiet put) =
+  runs_further h rows old new before after has_failed status told safe rests (further_on_foreign other read has another same quiet put) =
       (subst (Stays old.story) (sym same) (read_stays copy called.Done old.story read.story has.calls safe), λ done. absurd (never_13 read new 0 status put done))
-  runs_further h rows old new before after has_failed status told safe rests (further_on.ruled_out other read reason has fits against why same quiet said) =
+  runs_further h rows old new before after has_failed status told safe rests (further_on_ruled_out other read reason has fits against why same quiet said) =
       (subst (Stays old.story) (sym same) (read_stays copy called.Done old.story read.story has.calls safe), λ done. absurd (refused_is read new t.name (refusal.Against reason) status said (is_of_ends status done)))
-  runs_further h rows old new before after has_failed status told safe rests (further_on.starved other read has same quiet is) =
+  runs_further h rows old new before after has_failed status told safe rests (further_on_starved other read has same quiet is) =
       (subst (Stays old.story) (sym (ap (λ (o : Outside). o.story) same)) (read_stays copy called.Done old.story read.story has.calls safe), λ done. absurd (never_11 status is done))
-  runs_further h rows old new before after has_failed status told safe rests (further_on.lawful other read has fits is_lawful follows) =
+  runs_further h rows old new before after has_failed status told safe rests (further_on_lawful other read has fits is_lawful follows) =
       let stands = first_everywhere (header_body h) old.story (rest_first (header_body h) (map row_body rows) old.story rests) in
       let is : other ≡ bytes = begins_whole old.story copy bytes other told (copy_there old.story safe stands) short has.begins in
       let to_read = read_stays copy called.Done old.story read.story has.calls safe in
@@ -521,21 +522,21 @@ module _ (t : Task) (marks : Marks) (bytes : List ℕ) (size : ℕ) (out : Outco
   recovered_stays old new safe journal = journal_stays old new safe AnyRecords journal tt (inl (journal.kept [] tt))
 
   runs_journal : (old new : Outside) (before after : Judging) (has_failed : Bool) (status : ℕ) → IsStory old.story → Safe old.story → RunsJournal t marks old new before after has_failed status → Promises old new status
-  runs_journal old new before after has_failed status told safe (keeping.unstarted why cause same quiet put) = (nothing old.story new.story same safe, λ done. absurd (never_stops old new why status put done))
-  runs_journal old new before after has_failed status told safe (keeping.found len has some same quiet put) = (nothing old.story new.story same safe, λ done. absurd (never_13 old new 0 status put done))
-  runs_journal old new before after has_failed status told safe (keeping.fresh started empty journalled none runs) =
+  runs_journal old new before after has_failed status told safe (keeping_unstarted why cause same quiet put) = (nothing old.story new.story same safe, λ done. absurd (never_stops old new why status put done))
+  runs_journal old new before after has_failed status told safe (keeping_found len has some same quiet put) = (nothing old.story new.story same safe, λ done. absurd (never_13 old new 0 status put done))
+  runs_journal old new before after has_failed status told safe (keeping_fresh started empty journalled none runs) =
       let stays = recovered_stays old.story started.story safe journalled.journal in
       from_earlier old started new status stays journalled.output
       (runs_first started new before after has_failed status (still_story old.story started.story stays told) (now_safe old.story started.story stays) none runs)
 
   runs_resume : (old new : Outside) (before after : Judging) (has_failed : Bool) (status : ℕ) → IsStory old.story → Safe old.story → RunsResume t marks old new before after has_failed status → Promises old new status
-  runs_resume old new before after has_failed status told safe (resuming.unrecovered why recovers cause journal quiet put) =
+  runs_resume old new before after has_failed status told safe (resuming_unrecovered why recovers cause journal quiet put) =
       (recovered_stays old.story new.story safe journal, λ done. absurd (never_stops old new why status put done))
-  runs_resume old new before after has_failed status told safe (resuming.anew started recovers journalled none runs) =
+  runs_resume old new before after has_failed status told safe (resuming_anew started recovers journalled none runs) =
       let stays = recovered_stays old.story started.story safe journalled.journal in
       from_earlier old started new status stays journalled.output
       (runs_first started new before after has_failed status (still_story old.story started.story stays told) (now_safe old.story started.story stays) none runs)
-  runs_resume old new before after has_failed status told safe (resuming.further started h rows recovers journalled rests runs) =
+  runs_resume old new before after has_failed status told safe (resuming_further started h rows recovers journalled rests runs) =
       let stays = recovered_stays old.story started.story safe journalled.journal in
       from_earlier old started new status stays journalled.output
       (runs_further h rows.items started new before after has_failed status (still_story old.story started.story stays told) (now_safe old.story started.story stays) rests runs)

@@ -129,6 +129,12 @@ pub data LacksCopy (name : List ℕ) (old new : Outside) (status : ℕ) : Type 0
 abbrev pub asking : Task → Task
 asking t = record t { saves = false }
 
+-- The journal was opened once more: nothing changes.
+pub record IsReopened (old new : Outside) : Type 0 where
+  pub story : new.story ≡ old.story
+  pub output : new.output ≡ old.output
+  pub output_faults : new.output_faults ≡ old.output_faults
+
 -- A run on the lawful bytes of the copy, that goes on behind these rows.
 pub data FollowsOn (t : Task) (bytes : List ℕ) (rows : List Accepted) (old new : Outside) (before after : Judging) (has_failed : Bool) (status : ℕ) : Type 0 where
   -- 6, 8, 11: the test doesn't say yes
@@ -140,8 +146,8 @@ pub data FollowsOn (t : Task) (bytes : List ℕ) (rows : List Accepted) (old new
   closed : (asked : Outside) (size : ℕ) (why : JournalFault) → HasBegun (asking t) bytes old asked before after size → new.story ≡ asked.story → IsDiskFault why has_failed
       → Stops asked new t.name why status → FollowsOn t bytes rows old new before after has_failed status
   -- the rows were followed, and the reduction goes on behind them
-  followed : (asked : Outside) (since : Judging) (size : ℕ) (kept : Kept) → HasBegun (asking t) bytes old asked before since size → IsReplayed (chain_in t.search t.limit) bytes rows kept
-      → most_turns t.limit < 2 ^ 64 → EndsKept t kept size asked new since after has_failed status → FollowsOn t bytes rows old new before after has_failed status
+  followed : (asked started : Outside) (since : Judging) (size : ℕ) (kept : Kept) → HasBegun (asking t) bytes old asked before since size → IsReplayed (chain_in t.search t.limit) bytes rows kept
+      → most_turns t.limit < 2 ^ 64 → IsReopened asked started → EndsKept t kept size started new since after has_failed status → FollowsOn t bytes rows old new before after has_failed status
 
 -- A run that goes on with the journal of this header and of these rows.
 pub data RunsFurther (t : Task) (marks : Marks) (header : Header) (rows : List Accepted) (old new : Outside) (before after : Judging) (has_failed : Bool) (status : ℕ) : Type 0 where
