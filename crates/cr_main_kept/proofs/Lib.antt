@@ -2,6 +2,7 @@ pub mod Headers
 pub mod Stories
 pub mod Ends
 pub mod Copies
+pub mod Going
 pub mod Over
 pub mod Safe
 pub mod Surviving

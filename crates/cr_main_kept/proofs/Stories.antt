@@ -2,6 +2,10 @@
 use Rattle.std.proofs.Common.{◌≡◌, ℕ, Bool, true, false, List, [], ◌∷◌, length, Option, Some, None, Result, Ok, Err, refl, sym, ◌∙◌, ap, subst, arith}
 use Rattle.std.specs.Prelude.{IfOk, OnOk}
 use Rattle.cr_outside_disk.specs.declared.disk.DiskFault.{DiskFault}
+use Rattle.cr_outside_disk.specs.declared.disk.DiskFault.TheVariants.{Failed, NoMemory}
+use Rattle.cr_journal_rows.specs.Faults.{fault_of_disk}
+use Rattle.cr_journal_rows.specs.Forms.{RecoversTold}
+use Rattle.cr_main_kept.specs.Lines.{IsDiskFault}
 use Rattle.cr_journal.specs.Keeping.{Rests, journal_of}
 use Rattle.cr_journal_records.specs.Records.{AtRest, Body, IsKept, Stands, StandsFirst, StandsNone}
 use Rattle.cr_outside.specs.Story.{Change, Story, files_told, gone_on, with_event}
@@ -58,3 +62,13 @@ pub started_length : (told : Option Story) (result : Result ℕ DiskFault) (read
     → IfOk result (λ len. size ≡ len) → IfOk result (HasLength told)
 started_length told (Ok len) ready size has is_ready is = subst (HasLength told) is (has is_ready)
 started_length told (Err fault) ready size has is_ready is = tt
+
+-- a fault of the disk has its cause, and nothing is said of what it recovers
+pub disk_cause : (fault : DiskFault) (has_failed : Bool) → (fault ≡ Failed → has_failed ≡ true) → IsDiskFault (fault_of_disk fault) has_failed
+disk_cause Failed has_failed cause = cause refl
+disk_cause NoMemory has_failed cause = tt
+
+pub recovers_none : (told : Option Story) (fault : DiskFault) → RecoversTold told (Err (fault_of_disk fault))
+recovers_none None fault = tt
+recovers_none (Some s) Failed = tt
+recovers_none (Some s) NoMemory = tt

@@ -1,5 +1,5 @@
 // The header of a run's journal.
-ghost use Rattle.std.specs.Prelude.{◌≡◌, ◌≤◌, Ok, true, false};
+ghost use Rattle.std.specs.Prelude.{◌≡◌, ◌<◌, ◌≤◌, ◌^◌, Ok, true, false};
 ghost use Rattle.cr_main_kept.specs.Header.{Fits, bit, header_of, limit_mark, passes_mark};
 ghost use Rattle.cr_journal.specs.Laws.{most_turns};
 
@@ -69,7 +69,8 @@ fn limit_mark(limit: Option<u64>) -> u64
 
 /// The most turns of a row.
 pub fn most_turns(limit: Option<u64>) -> u64
-    ensures { result ≡ most_turns limit }
+    ensures is { result ≡ most_turns limit }
+    ensures below { most_turns limit < 2 ^ 64 }
 {
     match limit {
         Some(limit) => limit,

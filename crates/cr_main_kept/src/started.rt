@@ -60,8 +60,9 @@ where
         Err(status) => return status,
     };
     let header = header_of(marks, task.limit, size);
-    if let Err(fault) = journal::begin(alloc, task.name, &header, world) {
-        return put_stop(alloc, out, task.name, fault);
+    match journal::begin(alloc, task.name, &header, world) {
+        Ok(()) => {}
+        Err(fault) => return put_stop(alloc, out, task.name, fault),
     }
     reduce_on(
         rt,

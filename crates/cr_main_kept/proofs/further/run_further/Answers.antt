@@ -1,37 +1,39 @@
-use Rattle.std.proofs.Common.{rules, ◌≡◌, ◌<◌, ◌≤◌, ◌^◌, ℕ, [], IfErr, IfOk, length, false, true, ◌+◌, ◌-◌, ◌*◌, ◌/◌, ◌%◌, Bool, nat_eq, nat_lt, List, ◌∷◌, ◌++◌, slice_index_or, slice_set, bit_and, bit_or, w8, w32, w64, Bor, MutBor}
-use Rattle.cr_journal.specs.Keeping.{Rests}
-use Rattle.cr_journal.specs.Laws.{most_turns}
+use Rattle.std.proofs.Common.{◌≡◌, ℕ, List, Ok, ap, refl, subst, sym}
+use Rattle.cr_outside.specs.declared.story.Outcome.TheVariants.{Done}
 use Rattle.cr_main_kept.specs.Header.{Fits}
-use Rattle.cr_main_kept.specs.Kept.{FollowsOn, HasCopy, LacksCopy, RunsFurther}
+use Rattle.cr_journal.specs.Keeping.{Rests}
+use Rattle.cr_main_kept.specs.Kept.RunsFurther.{foreign, lawful, ruled_out, starved, uncopied}
+use Rattle.cr_main_kept.proofs.Stories.{rests_read}
+use Rattle.cr_main_task.specs.Messages.{copy_name}
 use Rattle.cr_main_task.specs.Outside.{outside}
-use Rattle.cr_main_task.specs.Task.{IsOfPrograms, task_for}
-use Rattle.cr_reduce.specs.Bench.{judging, keys_of, says_of}
+use Rattle.cr_main_task.specs.Task.{most_read}
 use Rattle.cr_main_kept.proofs.further.run_further.Goals as goal
 
--- src/further.rt:61:24
 pub returns-in-Err-clause-runs : goal.returns-in-Err-clause-runs
-returns-in-Err-clause-runs g c = ?
+returns-in-Err-clause-runs g c = uncopied c.in-Err.ensures.lacks refl
 
--- src/further.rt:65:22
 pub returns-in-Ok-false-clause-runs : goal.returns-in-Ok-false-clause-runs
-returns-in-Ok-false-clause-runs g c = ?
+returns-in-Ok-false-clause-runs g c =
+    foreign c.in-Ok.bytes.items (outside g.W.Outside g.W.Files c.read_copy.new.world g.O.Sink c.read_copy.new.out) c.in-Ok.ensures.has
+    (subst (λ (b : List ℕ). Fits c.args.marks c.args.task.now.limit c.args.header b → ⊥) c.deref.ensures.value (c.in-Ok-false.ensures.differs (ap Ok c.in-Ok-false.field-0-is))) refl refl c.put_refused.ensures
 
--- src/further.rt:66:19
 pub returns-in-Err-fits-clause-runs : goal.returns-in-Err-fits-clause-runs
-returns-in-Err-fits-clause-runs g c = ?
+returns-in-Err-fits-clause-runs g c = starved c.in-Ok.bytes.items (outside g.W.Outside g.W.Files c.read_copy.new.world g.O.Sink c.read_copy.new.out) c.in-Ok.ensures.has refl refl refl
 
--- src/further.rt:69:21
 pub follow_on-requires-clause-rests : goal.follow_on-requires-clause-rests
-follow_on-requires-clause-rests g c κs within = ?
+follow_on-requires-clause-rests g c κs within =
+    subst (Rests c.args.rows.items) (sym c.in-Ok.ensures.has.calls) (rests_read c.args.rows.items (g.W.Outside.story c.args.world.now) (copy_name c.args.task.now.name.now) most_read Done c.requires.rests)
 
--- src/further.rt:27:1
 pub returns-in-Ok-None-clause-runs : goal.returns-in-Ok-None-clause-runs
-returns-in-Ok-None-clause-runs g c = ?
+returns-in-Ok-None-clause-runs g c =
+    lawful c.in-Ok.bytes.items (outside g.W.Outside g.W.Files c.read_copy.new.world g.O.Sink c.read_copy.new.out) c.in-Ok.ensures.has
+    (subst (Fits c.args.marks c.args.task.now.limit c.args.header) c.deref.ensures.value (c.in-Ok-true.ensures.fits (ap Ok c.in-Ok-true.field-0-is))) (c.in-Ok-None.ensures.lawful (ap Ok c.in-Ok-None.field-0-is)) c.follow_on.ensures.follows
 
--- src/further.rt:27:1
 pub returns-in-Ok-Some-clause-runs : goal.returns-in-Ok-Some-clause-runs
-returns-in-Ok-Some-clause-runs g c = ?
+returns-in-Ok-Some-clause-runs g c =
+    ruled_out c.in-Ok.bytes.items (outside g.W.Outside g.W.Files c.read_copy.new.world g.O.Sink c.read_copy.new.out) c.in-Ok-Some.reason c.in-Ok.ensures.has
+    (subst (Fits c.args.marks c.args.task.now.limit c.args.header) c.deref.ensures.value (c.in-Ok-true.ensures.fits (ap Ok c.in-Ok-true.field-0-is)))
+    (c.in-Ok-Some.ensures.unlawful c.in-Ok-Some.reason (ap Ok c.in-Ok-Some.field-0-is)) (c.in-Ok-Some.ensures.against c.in-Ok-Some.reason (ap Ok c.in-Ok-Some.field-0-is)) refl refl c.refuse.ensures
 
--- src/further.rt:27:1
 pub returns-in-Err-ruled-clause-runs : goal.returns-in-Err-ruled-clause-runs
-returns-in-Err-ruled-clause-runs g c = ?
+returns-in-Err-ruled-clause-runs g c = starved c.in-Ok.bytes.items (outside g.W.Outside g.W.Files c.read_copy.new.world g.O.Sink c.read_copy.new.out) c.in-Ok.ensures.has refl refl refl

@@ -1,5 +1,6 @@
-use Rattle.std.proofs.Common.{subst, sym}
+use Rattle.std.proofs.Common.{◌≡◌, ℕ, subst, sym}
 use Rattle.cr_journal_rows.specs.declared.fault.JournalFault.{JournalFault}
+use Rattle.cr_journal_rows.specs.declared.fault.JournalFault.TheVariants as fault
 use Rattle.cr_main_kept.specs.Lines.{PutsFault}
 use Rattle.cr_main_kept.proofs.lines.put_stop.Goals as goal
 
@@ -16,4 +17,7 @@ returns-in-Bad g c =
 pub returns-in-Differs : goal.returns-in-Differs
 returns-in-Differs g c =
     subst (λ (f : JournalFault). PutsFault (g.O.Sink.told c.args.out.now) (g.O.Sink.told c.put_refused-in-Differs.new.out) (g.O.Sink.faults c.args.out.now) (g.O.Sink.faults c.put_refused-in-Differs.new.out) c.args.name.now f c.put_refused-in-Differs.result)
-    (sym c.in-Differs.is) c.put_refused-in-Differs.ensures
+    (sym c.in-Differs.is)
+    (let same : c.from.result ≡ c.in-Differs.number = cc c.from.ensures in
+    subst (λ (n : ℕ). PutsFault (g.O.Sink.told c.args.out.now) (g.O.Sink.told c.put_refused-in-Differs.new.out) (g.O.Sink.faults c.args.out.now) (g.O.Sink.faults c.put_refused-in-Differs.new.out) c.args.name.now (fault.Differs n) c.put_refused-in-Differs.result)
+    same c.put_refused-in-Differs.ensures)
