@@ -9,6 +9,7 @@ ghost use Rattle.cr_reduce.specs.Bench.{judging, keys_of, says_of};
 use crate::further::run_further;
 use crate::header::Marks;
 use crate::journal;
+use crate::laws::a_kept_run_survives_its_stops;
 use crate::lines::{from_disk, put_refused, put_stop};
 use crate::started::run_first;
 use cr_cursor::{Law, Passes};
@@ -54,6 +55,7 @@ where
     ensures silent { Q.asks task.now.question.now ≡ false → bench.new.judges ≡ bench.old.judges }
     ensures keys { keys_of J.Judge bench.new ≡ keys_of J.Judge bench.old }
 {
+    a_kept_run_survives_its_stops(task.passes, task.law, task.question);
     bench.forget();
     match journal::start(alloc, task.name, world) {
         Ok(0) => run_first(rt, alloc, task, marks, world, bench, out),
@@ -96,6 +98,7 @@ where
     ensures silent { Q.asks task.now.question.now ≡ false → bench.new.judges ≡ bench.old.judges }
     ensures keys { keys_of J.Judge bench.new ≡ keys_of J.Judge bench.old }
 {
+    a_kept_run_survives_its_stops(task.passes, task.law, task.question);
     bench.forget();
     let len = match journal::start(alloc, task.name, world) {
         Ok(len) => len,

@@ -15,7 +15,7 @@ returns-in-Err-clause-runs g c = uncopied c.in-Err.ensures.lacks refl
 pub returns-in-Ok-false-clause-runs : goal.returns-in-Ok-false-clause-runs
 returns-in-Ok-false-clause-runs g c =
     foreign c.in-Ok.bytes.items (outside g.W.Outside g.W.Files c.read_copy.new.world g.O.Sink c.read_copy.new.out) c.in-Ok.ensures.has
-    (subst (λ (b : List ℕ). Fits c.args.marks c.args.task.now.limit c.args.header b → ⊥) c.deref.ensures.value (c.in-Ok-false.ensures.differs (ap Ok c.in-Ok-false.field-0-is))) refl refl c.put_refused.ensures
+    (subst (λ (b : List ℕ). Fits c.args.marks c.args.task.now.limit c.args.header b → ⊥) c.deref.ensures.value (c.in-Ok-false.ensures.differs (ap Ok c.in-Ok-false.field-0-test))) refl refl c.put_refused.ensures
 
 pub returns-in-Err-fits-clause-runs : goal.returns-in-Err-fits-clause-runs
 returns-in-Err-fits-clause-runs g c = starved c.in-Ok.bytes.items (outside g.W.Outside g.W.Files c.read_copy.new.world g.O.Sink c.read_copy.new.out) c.in-Ok.ensures.has refl refl refl
@@ -27,12 +27,12 @@ follow_on-requires-clause-rests g c κs within =
 pub returns-in-Ok-None-clause-runs : goal.returns-in-Ok-None-clause-runs
 returns-in-Ok-None-clause-runs g c =
     lawful c.in-Ok.bytes.items (outside g.W.Outside g.W.Files c.read_copy.new.world g.O.Sink c.read_copy.new.out) c.in-Ok.ensures.has
-    (subst (Fits c.args.marks c.args.task.now.limit c.args.header) c.deref.ensures.value (c.in-Ok-true.ensures.fits (ap Ok c.in-Ok-true.field-0-is))) (c.in-Ok-None.ensures.lawful (ap Ok c.in-Ok-None.field-0-is)) c.follow_on.ensures.follows
+    (subst (Fits c.args.marks c.args.task.now.limit c.args.header) c.deref.ensures.value (c.in-Ok-true.ensures.fits (ap Ok c.in-Ok-true.field-0-test))) (c.in-Ok-None.ensures.lawful (ap Ok c.in-Ok-None.field-0-is)) c.follow_on.ensures.follows
 
 pub returns-in-Ok-Some-clause-runs : goal.returns-in-Ok-Some-clause-runs
 returns-in-Ok-Some-clause-runs g c =
     ruled_out c.in-Ok.bytes.items (outside g.W.Outside g.W.Files c.read_copy.new.world g.O.Sink c.read_copy.new.out) c.in-Ok-Some.reason c.in-Ok.ensures.has
-    (subst (Fits c.args.marks c.args.task.now.limit c.args.header) c.deref.ensures.value (c.in-Ok-true.ensures.fits (ap Ok c.in-Ok-true.field-0-is)))
+    (subst (Fits c.args.marks c.args.task.now.limit c.args.header) c.deref.ensures.value (c.in-Ok-true.ensures.fits (ap Ok c.in-Ok-true.field-0-test)))
     (c.in-Ok-Some.ensures.unlawful c.in-Ok-Some.reason (ap Ok c.in-Ok-Some.field-0-is)) (c.in-Ok-Some.ensures.against c.in-Ok-Some.reason (ap Ok c.in-Ok-Some.field-0-is)) refl refl c.refuse.ensures
 
 pub returns-in-Err-ruled-clause-runs : goal.returns-in-Err-ruled-clause-runs

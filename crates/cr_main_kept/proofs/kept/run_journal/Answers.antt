@@ -1,5 +1,4 @@
 use Rattle.std.proofs.Common.{◌≡◌, ℕ, List, Option, Some, None, Ok, Err, inl, inr, ap, refl, subst, sym}
-use Rattle.cr_journal.proofs.Led.{levels}
 use Rattle.cr_journal_records.specs.Records.{AtRest}
 use Rattle.cr_journal_rows.specs.Forms.{RecoversTold, bodies_of, header_body}
 use Rattle.cr_journal_rows.specs.declared.fault.JournalFault.{JournalFault}
@@ -7,14 +6,12 @@ use Rattle.cr_outside.specs.Story.{Story}
 use Rattle.cr_outside_disk.specs.Moments.{EveryTold, HasLength}
 use Rattle.cr_pool.specs.Tally.{first_says}
 use Rattle.cr_reduce.specs.Bench.{judging, judging_of, says_of}
-use Rattle.cr_reduce.proofs.OneOutcome.{told_apart}
 use Rattle.std.specs.Prelude.{IfSome}
 use Rattle.cr_main_kept.specs.Kept.{AnyRecords, Journals, RunsFirst, RunsFurther}
 use Rattle.cr_main_kept.specs.Kept.RunsJournal.{fresh, found, unstarted}
 use Rattle.cr_main_kept.specs.Kept.RunsResume.{anew, further, unrecovered}
 use Rattle.cr_main_kept.specs.Lines.{IsDiskFault}
 use Rattle.cr_main_kept.proofs.Stories.{disk_cause, journals_same, none_empty, recovers_none}
-use Rattle.cr_main_kept.proofs.Surviving.{run_survives}
 use Rattle.cr_main_task.specs.Outside.{outside}
 use Rattle.cr_main_task.specs.Task.{task_for}
 use Rattle.cr_main_kept.proofs.kept.run_journal.Goals as goal
@@ -22,7 +19,7 @@ use Rattle.cr_main_kept.proofs.kept.run_journal.Goals as goal
 pub returns-in-Ok-eq0-clause-runs : goal.returns-in-Ok-eq0-clause-runs
 returns-in-Ok-eq0-clause-runs g c =
     let started = outside g.W.Outside g.W.Files c.start.new.disk g.O.Sink c.args.out.now in
-    let empty = subst (HasLength (g.W.Outside.story c.start.new.disk)) c.in-Ok-eq0.field-0-is c.in-Ok-eq0.ensures.length in
+    let empty = subst (HasLength (g.W.Outside.story c.start.new.disk)) c.in-Ok-eq0.field-0-test c.in-Ok-eq0.ensures.length in
     fresh started (subst (λ (told : Option Story). HasLength told 0) c.start.ensures.same empty)
     (record {
       journal = subst (Journals AnyRecords (g.W.Outside.story c.args.world.now)) (sym c.start.ensures.same) (journals_same AnyRecords (g.W.Outside.story c.args.world.now));
@@ -36,34 +33,25 @@ returns-in-Ok-eq0-clause-runs g c =
 
 pub returns-in-Ok-clause-runs : goal.returns-in-Ok-clause-runs
 returns-in-Ok-clause-runs g c =
-    found c.in-Ok.field-0 (subst (λ (told : Option Story). HasLength told c.in-Ok.field-0) c.start.ensures.same c.in-Ok.ensures.length) c.in-Ok.field-0-is c.start.ensures.same
+    found c.in-Ok.field-0 (subst (λ (told : Option Story). HasLength told c.in-Ok.field-0) c.start.ensures.same c.in-Ok.ensures.length) c.in-Ok.field-0-test c.start.ensures.same
     (ap (λ (js : List g.row.J.Denot). judging_of g.J.Judge js) c.forget.ensures.judges) c.put_refused.ensures
 
 pub returns-in-Err-clause-runs : goal.returns-in-Err-clause-runs
 returns-in-Err-clause-runs g c =
-    unstarted c.from_disk.result (subst (λ (why : JournalFault). IsDiskFault why (g.W.Disk.has_failed c.start.new.disk)) (sym c.from_disk.ensures) (disk_cause c.in-Err.fault (g.W.Disk.has_failed c.start.new.disk) (λ is. c.in-Err.ensures.failed is)))
+    unstarted c.from_disk.result (subst (λ (why : JournalFault). IsDiskFault why (g.W.Disk.has_failed c.start.new.disk)) (sym c.from_disk.ensures) (disk_cause c.in-Err.fault (g.W.Disk.has_failed c.start.new.disk) (λ is. c.in-Err.ensures.failed (ap Err is))))
     c.start.ensures.same (ap (λ (js : List g.row.J.Denot). judging_of g.J.Judge js) c.forget.ensures.judges) c.put_stop.ensures
 
 pub returns-in-Ok-eq0-clause-survives : goal.returns-in-Ok-eq0-clause-survives
 returns-in-Ok-eq0-clause-survives g c =
-    let t = task_for g.P.Passes g.L.Law g.Q.Question c.args.task.now (says_of g.J.Judge c.args.bench.now) in
-    run_survives t c.args.marks (outside g.W.Outside g.W.Files c.args.world.now g.O.Sink c.args.out.now) (outside g.W.Outside g.W.Files c.run_first.new.world g.O.Sink c.run_first.new.out)
-    (judging g.J.Judge c.args.bench.now) (judging g.J.Judge c.run_first.new.bench) (g.W.Disk.has_failed c.run_first.new.world) c.run_first.result c.requires.saves c.requires.law (g.met.P.Passes.one c.args.task.now.passes.now)
-    (told_apart t.search.Lawful t.search.Tells (g.met.Q.Question.one_answer c.args.task.now.question.now (says_of g.J.Judge c.args.bench.now) c.args.task.now.own.now))
-    (levels t.search (g.met.P.Passes.few c.args.task.now.passes.now) (g.met.P.Passes.sixteen_levels c.args.task.now.passes.now)) (inl (returns-in-Ok-eq0-clause-runs g c))
+    c.a_kept_run_survives_its_stops.ensures (says_of g.J.Judge c.args.bench.now) c.args.task.now.own.now c.args.task.now.window c.args.task.now.limit c.args.task.now.name.now c.args.task.now.saves c.args.marks (outside g.W.Outside g.W.Files c.args.world.now g.O.Sink c.args.out.now) (outside g.W.Outside g.W.Files c.run_first.new.world g.O.Sink c.run_first.new.out)
+    (judging g.J.Judge c.args.bench.now) (judging g.J.Judge c.run_first.new.bench) (g.W.Disk.has_failed c.run_first.new.world) c.run_first.result c.requires.saves c.requires.law (inl (returns-in-Ok-eq0-clause-runs g c))
 
 pub returns-in-Ok-clause-survives : goal.returns-in-Ok-clause-survives
 returns-in-Ok-clause-survives g c =
-    let t = task_for g.P.Passes g.L.Law g.Q.Question c.args.task.now (says_of g.J.Judge c.args.bench.now) in
-    run_survives t c.args.marks (outside g.W.Outside g.W.Files c.args.world.now g.O.Sink c.args.out.now) (outside g.W.Outside g.W.Files c.start.new.disk g.O.Sink c.put_refused.new.out)
-    (judging g.J.Judge c.args.bench.now) (judging g.J.Judge c.forget.new.self) (g.W.Disk.has_failed c.start.new.disk) c.put_refused.result c.requires.saves c.requires.law (g.met.P.Passes.one c.args.task.now.passes.now)
-    (told_apart t.search.Lawful t.search.Tells (g.met.Q.Question.one_answer c.args.task.now.question.now (says_of g.J.Judge c.args.bench.now) c.args.task.now.own.now))
-    (levels t.search (g.met.P.Passes.few c.args.task.now.passes.now) (g.met.P.Passes.sixteen_levels c.args.task.now.passes.now)) (inl (returns-in-Ok-clause-runs g c))
+    c.a_kept_run_survives_its_stops.ensures (says_of g.J.Judge c.args.bench.now) c.args.task.now.own.now c.args.task.now.window c.args.task.now.limit c.args.task.now.name.now c.args.task.now.saves c.args.marks (outside g.W.Outside g.W.Files c.args.world.now g.O.Sink c.args.out.now) (outside g.W.Outside g.W.Files c.start.new.disk g.O.Sink c.put_refused.new.out)
+    (judging g.J.Judge c.args.bench.now) (judging g.J.Judge c.forget.new.self) (g.W.Disk.has_failed c.start.new.disk) c.put_refused.result c.requires.saves c.requires.law (inl (returns-in-Ok-clause-runs g c))
 
 pub returns-in-Err-clause-survives : goal.returns-in-Err-clause-survives
 returns-in-Err-clause-survives g c =
-    let t = task_for g.P.Passes g.L.Law g.Q.Question c.args.task.now (says_of g.J.Judge c.args.bench.now) in
-    run_survives t c.args.marks (outside g.W.Outside g.W.Files c.args.world.now g.O.Sink c.args.out.now) (outside g.W.Outside g.W.Files c.start.new.disk g.O.Sink c.put_stop.new.out)
-    (judging g.J.Judge c.args.bench.now) (judging g.J.Judge c.forget.new.self) (g.W.Disk.has_failed c.start.new.disk) c.put_stop.result c.requires.saves c.requires.law (g.met.P.Passes.one c.args.task.now.passes.now)
-    (told_apart t.search.Lawful t.search.Tells (g.met.Q.Question.one_answer c.args.task.now.question.now (says_of g.J.Judge c.args.bench.now) c.args.task.now.own.now))
-    (levels t.search (g.met.P.Passes.few c.args.task.now.passes.now) (g.met.P.Passes.sixteen_levels c.args.task.now.passes.now)) (inl (returns-in-Err-clause-runs g c))
+    c.a_kept_run_survives_its_stops.ensures (says_of g.J.Judge c.args.bench.now) c.args.task.now.own.now c.args.task.now.window c.args.task.now.limit c.args.task.now.name.now c.args.task.now.saves c.args.marks (outside g.W.Outside g.W.Files c.args.world.now g.O.Sink c.args.out.now) (outside g.W.Outside g.W.Files c.start.new.disk g.O.Sink c.put_stop.new.out)
+    (judging g.J.Judge c.args.bench.now) (judging g.J.Judge c.forget.new.self) (g.W.Disk.has_failed c.start.new.disk) c.put_stop.result c.requires.saves c.requires.law (inl (returns-in-Err-clause-runs g c))
