@@ -33,7 +33,7 @@ returns-in-Ok-eq0-clause-runs g c =
 
 pub returns-in-Ok-clause-runs : goal.returns-in-Ok-clause-runs
 returns-in-Ok-clause-runs g c =
-    found c.in-Ok.field-0 (subst (λ (told : Option Story). HasLength told c.in-Ok.field-0) c.start.ensures.same c.in-Ok.ensures.length) c.in-Ok.field-0-test c.start.ensures.same
+    found c.in-Ok.field-0 (subst (λ (told : Option Story). HasLength told c.in-Ok.field-0) c.start.ensures.same c.in-Ok.ensures.length) c.in-Ok.field-0-test.1 c.start.ensures.same
     (ap (λ (js : List g.row.J.Denot). judging_of g.J.Judge js) c.forget.ensures.judges) c.put_refused.ensures
 
 pub returns-in-Err-clause-runs : goal.returns-in-Err-clause-runs
