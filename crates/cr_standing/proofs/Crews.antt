@@ -1,0 +1,99 @@
+-- What comes back once the workers are joined, and what the reduction says then.
+use Rattle.std.proofs.Common.{◌≡◌, ℕ, zero, suc, ◌+◌, ◌<◌, ◌≤◌, Bool, List, [], ◌∷◌, ◌++◌, length, slice_index_or, vec_capacity, Option, refl, sym, ap, subst, ◌∙◌, arith}
+use Rattle.std.specs.Arc.{arc_value}
+use Rattle.std.specs.List.{remove}
+use Rattle.cr_cursor.specs.Variants.{Offer}
+use Rattle.cr_outside.specs.declared.judge.Judge.{Ghosts as JudgeGhosts}
+use Rattle.cr_reduce.specs.Bench.{Each, judging_of}
+use Rattle.cr_reduce.specs.declared.end.End.{End}
+use Rattle.cr_reduce.specs.declared.end.Why.{Why}
+use Rattle.cr_reduce.specs.declared.end.Why.TheVariants.{Fixed, Limit, Fault, NoMemory}
+use Rattle.cr_reduce.specs.Ends.{EndsBy, end_of_walk}
+use Rattle.cr_reduce.specs.Reduction.{State, Within, cursors_of, start_of}
+use Rattle.cr_reduce.specs.Search.{Search}
+use Rattle.cr_reduce.specs.Trials.{HasFailed}
+use Rattle.cr_reduce.specs.Walk.{EndsHere}
+use Rattle.cr_standing.specs.declared.crew.Ended.{Ended}
+use Rattle.cr_standing.specs.declared.walk.Walk.{Walk}
+use Rattle.cr_standing.specs.Crew.{IsDone}
+use Rattle.cr_standing.specs.Ends.{EndsStanding, IsManaged}
+use Rattle.cr_standing.specs.Walk.{Leads, plain, standing_at}
+use Rattle.cr_standing_workers.specs.Serving.{Serves}
+use Rattle.cr_standing_workers.specs.Told.{ReducesFileIfTold}
+use Rattle.cr_standing_workers.proofs.Judges.{each-refl, each_more}
+use Rattle.cr_standing.proofs.Reading.{ends_if_told, nothing_done}
+
+module _ {J K T : Type 0} (s : Search) (judge : JudgeGhosts J K) (asks : Bool) (offer : T → List ℕ → Offer) (limit : Option ℕ) where
+  -- one worker more was joined
+  pub one_joined : (made : ℕ) (walk : Walk T) (given : J) (others : List J) (other back : J) (e new : Ended J T) → IsDone s judge asks offer limit made walk given others e → Serves judge asks other back
+      → (new.judges.items ≡ e.judges.items ++ back ∷ []) × (vec_capacity new.judges ≡ vec_capacity e.judges) → (new.walk ≡ e.walk) × (new.why ≡ e.why)
+      → IsDone s judge asks offer limit made walk given (others ++ other ∷ []) new
+  one_joined made walk given others other back e new it served list same = record {
+    first = it.first;
+    rest = it.rest ++ back ∷ [];
+    judges = list.0 ∙ ap (λ (l : List J). l ++ back ∷ []) it.judges;
+    serves = it.serves;
+    others_serve = each_more judge asks others it.rest other back it.others_serve served;
+    room = subst (λ n. made < n) (sym list.1) it.room;
+    leads = subst (λ (w : Walk T). Leads s (standing_at offer walk) (standing_at offer w)) (sym same.0) it.leads;
+    placed = subst (λ (w : Walk T). w.position ≤ length (cursors_of (offer (arc_value w.shared).prep w.file.items))) (sym same.0) it.placed;
+    within = subst (λ (w : Walk T). Within limit w.turns) (sym same.0) it.within;
+    ended = subst (λ (why : Why). EndsHere s (judging_of judge (given ∷ [])) (judging_of judge (it.first ∷ [])) limit (standing_at offer new.walk) why) (sym same.1)
+        (subst (λ (w : Walk T). EndsHere s (judging_of judge (given ∷ [])) (judging_of judge (it.first ∷ [])) limit (standing_at offer w) e.why) (sym same.0) it.ended);
+    of_first = λ turn worker is. it.of_first turn worker (sym same.1 ∙ is);
+  }
+
+  wider : (name variant : List ℕ) (a b : J) (as bs : List J) → HasFailed s.asks name (judging_of judge (a ∷ [])) (judging_of judge (b ∷ [])) 0 variant
+      → HasFailed s.asks name (judging_of judge (a ∷ as)) (judging_of judge (b ∷ bs)) 0 variant
+  wider name variant a b as bs it = record { asked = it.asked; called = it.called; rose = it.rose }
+
+  first_ends : (st : State) (why : Why) (a b : J) (as bs : List J) → ((turn worker : ℕ) → why ≡ Fault turn worker → worker ≡ 0) → EndsHere s (judging_of judge (a ∷ [])) (judging_of judge (b ∷ [])) limit st why
+      → EndsHere s (judging_of judge (a ∷ as)) (judging_of judge (b ∷ bs)) limit st why
+  first_ends st Fixed a b as bs zero_is ended = ended
+  first_ends st Limit a b as bs zero_is ended = ended
+  first_ends st NoMemory a b as bs zero_is ended = ended
+  first_ends st (Fault turn worker) a b as bs zero_is ended =
+      let here = ended.2 in
+      let f = here.failed in
+      let is_zero : worker ≡ 0 = zero_is turn worker refl in
+      let v = st.offer.bytes here.at in
+      let narrow = subst (λ w. HasFailed s.asks s.name (judging_of judge (a ∷ [])) (judging_of judge (b ∷ [])) w v) is_zero f.failed in
+      let wide = subst (λ w. HasFailed s.asks s.name (judging_of judge (a ∷ as)) (judging_of judge (b ∷ bs)) w v) (sym is_zero) (wider s.name v a b as bs narrow) in
+      (ended.0, ended.1, record { at = here.at; there = here.there; failed = record { smaller = f.smaller; lawful = f.lawful; failed = wide } })
+
+  -- of all judges
+  pub managed : (made : ℕ) (walk : Walk T) (given : J) (others : List J) (e : Ended J T) → IsDone s judge asks offer limit made walk given others e → IsManaged s judge asks offer limit walk (given ∷ others) e
+  managed made walk given others e it = record {
+    serve = subst (λ (l : List J). Each (Serves judge asks) (given ∷ others) l) (sym it.judges) (it.serves, it.others_serve);
+    leads = it.leads;
+    placed = it.placed;
+    within = it.within;
+    ended = subst (λ (l : List J). EndsHere s (judging_of judge (given ∷ others)) (judging_of judge l) limit (standing_at offer e.walk) e.why) (sym it.judges)
+        (first_ends (standing_at offer e.walk) e.why given it.first others it.rest it.of_first it.ended);
+    of_first = it.of_first;
+  }
+
+  -- the end
+  pub ended_walk : (file : List ℕ) (first : Offer) (walk : Walk T) (given : List J) (e : Ended J T) (end : End) → IsManaged s judge asks offer limit walk given e → s.Offers file first → standing_at offer walk ≡ start_of file first
+      → end ≡ end_of_walk (plain e.walk) e.why → EndsStanding s judge asks limit file given e.judges.items end
+  ended_walk file first walk given e end it offered begins is =
+      let before = judging_of judge given in
+      let now = judging_of judge e.judges.items in
+      record {
+        chain = subst (λ (x : End). EndsBy (ReducesFileIfTold s before now file) file limit x x.why) (sym is)
+            (ends_if_told s before now offer file first offered (plain e.walk) (subst (λ (st : State). Leads s st (standing_at offer e.walk)) begins it.leads) limit e.why it.ended it.placed it.within);
+        of_first = λ turn worker fault. it.of_first turn worker (ap (λ (x : End). x.why) (sym is) ∙ fault);
+        serve = it.serve;
+      }
+
+  pub ended_untouched : (file : List ℕ) (given : List J) (end : End) → end.file.items ≡ file → (end.accepted.items ≡ []) × (end.turns ≡ 0) × (end.why ≡ NoMemory) → EndsStanding s judge asks limit file given given end
+  ended_untouched file given end same rest = record {
+    chain = nothing_done s (judging_of judge given) (judging_of judge given) limit file end same rest.0 rest.1 rest.2;
+    of_first = λ turn worker fault. let other : NoMemory ≡ Fault turn worker = sym rest.2 ∙ fault in cc;
+    serve = each-refl judge asks given;
+  }
+
+-- the first of a list, and the rest
+pub split_first : {A : Type 0} (xs : List A) (x : A) (ys : List A) → 0 < length xs → x ≡ slice_index_or xs 0 x → ys ≡ remove xs 0 → xs ≡ x ∷ ys
+split_first [] x ys some value rest = absurd (omega arith)
+split_first (a ∷ as) x ys some value rest = ap (λ z. z ∷ as) (sym value) ∙ ap (λ l. x ∷ l) (sym rest)

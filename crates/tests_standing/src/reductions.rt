@@ -1,0 +1,142 @@
+// Reductions of three lines by the lines pass. What is wanted was found by hand from the rules of the pass and of the reduction.
+ghost use Rattle.std.specs.Prelude.{◌≡◌, ◌<◌, ◌≤◌, IfOk, length};
+ghost use Rattle.cr_pool.specs.Bench.{IsManned};
+
+use crate::judges::{Knowing, Meeting};
+use cr_cursor::TokenLaw;
+use cr_outside::{Answer, Judge, Test};
+use cr_reduce::{End, Plan, Why};
+use cr_standing::reduce_standing;
+use cr_tokens::read;
+use pass_list::CPasses;
+use std::alloc::{AllocError, Global};
+use std::process::Abort;
+use std::sync::Wait;
+use std::sync::atomic::{AtomicU64, Ordering};
+use std::thread::Threads;
+
+const LINES: &[u8] = b"int a;\nint b;\nint c;\n";
+
+const TWO: &[u8] = b"int a;\nint b;\n";
+
+const ONE: &[u8] = b"int b;\n";
+
+const KNOWN: &[(&[u8], Answer)] = &[(TWO, Answer::Yes), (ONE, Answer::Yes)];
+
+const WITH_A_FAULT: &[(&[u8], Answer)] = &[
+    (TWO, Answer::Yes),
+    (ONE, Answer::Yes),
+    (b"int b;\nint c;\n", Answer::Failed),
+];
+
+const FAILING: &[(&[u8], Answer)] = &[(b"int c;\n", Answer::Failed)];
+
+/// The end of the reduction of the lines, and the judges.
+fn reduced<R: Threads + Wait + Abort + Sync, J: Judge + Send + Drop>(
+    rt: &R,
+    alloc: Global,
+    judges: Vec<J>,
+    window: u32,
+) -> Result<(Vec<J>, End), AllocError>
+    requires manned { IsManned J.key judges.items }
+    requires window { (0 < window) × (window ≤ 4096) }
+{
+    let file = Vec::from_array(alloc, *b"int a;\nint b;\nint c;\n")?;
+    let Ok(_tokens) = read(alloc, &file) else {
+        panic!(rt; "the lines don't tokenise");
+    };
+    let plan = Plan {
+        workers: judges.len() as u32,
+        window,
+        limit: None,
+    };
+    let question = Test::Program(String::from_str(alloc, "t")?);
+    let passes = CPasses::lines();
+    Ok(reduce_standing(
+        rt, alloc, &passes, &TokenLaw, &question, judges, "t.c", file, &plan,
+    ))
+}
+
+fn is_wanted(end: &End) -> bool {
+    end.file.as_slice() == ONE && end.turns == 32 && end.why == Why::Fixed && end.accepted.len() == 2
+        && end.accepted[0].turn == 15
+        && end.accepted[0].size == 68
+        && end.accepted[0].at.index == 1
+        && end.accepted[1].turn == 16
+        && end.accepted[1].size == 34
+        && end.accepted[1].at.index == 0
+}
+
+fn knowing(
+    alloc: Global,
+    known: &'static [(&'static [u8], Answer)],
+    count: u64,
+) -> Result<Vec<Knowing>, AllocError>
+    ensures { IfOk result (λ judges. length judges.items ≡ count) }
+{
+    let mut judges = Vec::new(alloc);
+    for _ in 0..count {
+        judges.push(Knowing::new(known, 0))?;
+    }
+    Ok(judges)
+}
+
+#[test]
+fn any_number_of_workers_come_to_the_same(rt: HostRuntime) -> Result<(), AllocError> {
+    for workers in 1..5u64 {
+        for window in [1u32, 2, 8, 256] {
+            let judges = knowing(rt.alloc(), KNOWN, workers)?;
+            let (judges, end) = reduced(&rt, rt.alloc(), judges, window)?;
+            assert!(rt; is_wanted(&end));
+            assert!(rt; judges.len() as u64 == workers);
+        }
+    }
+    Ok(())
+}
+
+#[test]
+fn a_failed_test_above_the_hit_is_dropped(rt: HostRuntime) -> Result<(), AllocError> {
+    let judges = knowing(rt.alloc(), WITH_A_FAULT, 4)?;
+    let (_, end) = reduced(&rt, rt.alloc(), judges, 8)?;
+    assert!(rt; is_wanted(&end));
+    Ok(())
+}
+
+#[test]
+fn a_worker_whose_test_fails_ends_nothing(rt: HostRuntime) -> Result<(), AllocError> {
+    let mut judges = Vec::new(rt.alloc());
+    judges.push(Knowing::new(KNOWN, 0))?;
+    judges.push(Knowing::new(KNOWN, 100))?;
+    let (_, end) = reduced(&rt, rt.alloc(), judges, 8)?;
+    assert!(rt; is_wanted(&end));
+    Ok(())
+}
+
+#[test]
+fn the_first_judges_failed_test_ends_it(rt: HostRuntime) -> Result<(), AllocError> {
+    let judges = knowing(rt.alloc(), FAILING, 2)?;
+    let (judges, end) = reduced(&rt, rt.alloc(), judges, 8)?;
+    assert!(rt; end.why == Why::Fault(14, 0));
+    assert!(rt; end.turns == 13 && end.file.as_slice() == LINES);
+    assert!(rt; judges[0].faults > 0);
+    Ok(())
+}
+
+#[test]
+fn trials_run_at_once(rt: HostRuntime) -> Result<(), AllocError> {
+    let begun = AtomicU64::new(0);
+    let missed = AtomicU64::new(0);
+    let mut judges = Vec::new(rt.alloc());
+    for _ in 0..2 {
+        judges.push(Meeting {
+            begun: &begun,
+            missed: &missed,
+            asked: 0,
+        })?;
+    }
+    let (judges, end) = reduced(&rt, rt.alloc(), judges, 8)?;
+    assert!(rt; end.why == Why::Fixed && end.turns == 18);
+    assert!(rt; missed.load(Ordering::SeqCst) == 0);
+    drop(judges);
+    Ok(())
+}
