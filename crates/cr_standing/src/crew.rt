@@ -37,6 +37,7 @@ fn alone<R: Wait, S: Subject<P::Prep>, P: Passes, L: Law, Q: Question, J: Judge 
     mut judge: J,
     mut judges: Vec<J>,
     made: usize,
+    stops: usize,
     mut seat: Seat<P::Prep>,
     ahead: u64,
     plan: &Plan,
@@ -56,7 +57,7 @@ fn alone<R: Wait, S: Subject<P::Prep>, P: Passes, L: Law, Q: Question, J: Judge 
         rt, alloc, task, lines, &mut judge, &mut seat, ahead, plan, &mut walk,
     );
     lines.hint.begin(0);
-    stop_workers(rt, lines, &mut seat, made);
+    stop_workers(rt, lines, &mut seat, stops);
     judges.push_reserved(judge);
     Ended { judges, walk, why }
 }
@@ -76,7 +77,7 @@ fn hand_on<J: Drop, T: Drop>(ended: Ended<J, T>, other: J) -> Ended<J, T>
     Ended { judges, walk, why }
 }
 
-/// Starts the workers, the last first, walks, and joins them.
+/// Starts the workers, so many, the last first, walks, and joins them. Of the other judges, the first ones work; those behind them do nothing.
 pub fn crew<
     R: Threads + Wait + Sync,
     S: Subject<P::Prep> + Send + Sync,
@@ -93,6 +94,7 @@ pub fn crew<
     mut others: Vec<J>,
     judges: Vec<J>,
     made: usize,
+    stops: usize,
     mut seat: Seat<P::Prep>,
     ahead: u64,
     plan: &Plan,
@@ -114,9 +116,15 @@ where
 {
     let Some(other) = others.pop() else {
         return alone(
-            rt, alloc, task, lines, judge, judges, made, seat, ahead, plan, walk,
+            rt, alloc, task, lines, judge, judges, made, stops, seat, ahead, plan, walk,
         );
     };
+    if others.len() >= stops {
+        let ended = crew(
+            rt, alloc, task, lines, judge, others, judges, made, stops, seat, ahead, plan, walk,
+        );
+        return hand_on(ended, other);
+    }
     let other_seat = another_seat(alloc, lines, &mut seat);
     thread::scope(
         thread::scope_env(),
@@ -153,7 +161,7 @@ where
                 { serve(rt, alloc, task, lines, other, other_seat) },
             );
             let ended = crew(
-                rt, alloc, task, lines, judge, others, judges, made, seat, ahead, plan, walk,
+                rt, alloc, task, lines, judge, others, judges, made, stops, seat, ahead, plan, walk,
             );
             let other = match started {
                 Ok(handle) => handle.join(rt),

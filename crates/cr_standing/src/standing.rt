@@ -55,7 +55,7 @@ where
     P::Prep: Send + Sync,
     requires tokenizes { (n : ℕ) × HasSize file.items n }
     requires manned { IsManned J.key judges.items }
-    requires workers { plan.now.workers ≡ length judges.items }
+    requires workers { (0 < plan.now.workers) × (plan.now.workers ≤ length judges.items) }
     requires window { (0 < plan.now.window) × (plan.now.window ≤ 4096) }
 
     // For any judge, a chain of accepted variants: each is lawful, smaller and, where the answer about it is told, answered yes. A fault
@@ -120,6 +120,7 @@ where
     requires about { IsAbout (searching_by P.Passes L.Law Q.Question task.now S.told) (P.offer task.now.passes.now) S.orders S.replies }
     requires told { AllAre (λ j. J.says (J.key j) ≡ S.told) judges.items }
     requires some { (0 < length judges.items) × (length judges.items ≤ 32) }
+    requires workers { (0 < plan.now.workers) × (plan.now.workers ≤ length judges.items) }
     requires tokenizes { (n : ℕ) × HasSize file.items n }
     requires window { (0 < plan.now.window) × (plan.now.window ≤ 4096) }
     ensures ends { EndsStanding (searching_by P.Passes L.Law Q.Question task.now S.told) J.Judge (Q.asks task.now.question.now) plan.now.limit file.items judges.items result.0.items result.1 }
@@ -127,7 +128,7 @@ where
     let Ok(back) = Vec::with_capacity(alloc, judges.len()) else {
         return (judges, untouched(alloc, file));
     };
-    let capacity = plan.window as usize + judges.len();
+    let capacity = plan.window as usize + plan.workers as usize;
     let Ok((orders, orders_out, orders_pass)) = bounded_with::<
         Order<P::Prep>,
         (),
@@ -161,7 +162,7 @@ where
         replies: replies_pass,
         variant: Vec::new(alloc),
     };
-    let ahead = u64::from(plan.window).min(AHEAD * judges.len() as u64);
+    let ahead = u64::from(plan.window).min(AHEAD * u64::from(plan.workers));
     let Ended { judges, walk, why } = man(
         rt, alloc, task, &lines, judges, back, seat, ahead, plan, walk,
     );
@@ -193,6 +194,7 @@ where
     requires about { IsAbout (searching_by P.Passes L.Law Q.Question task.now S.told) (P.offer task.now.passes.now) S.orders S.replies }
     requires told { AllAre (λ j. J.says (J.key j) ≡ S.told) judges.items }
     requires some { 0 < length judges.items }
+    requires workers { 0 < plan.now.workers }
     requires joined { AreJoined lines.now }
     requires seats { AreSeats lines.now seat }
     requires sound { IsSound (P.offers task.now.passes.now) (P.offer task.now.passes.now) walk }
@@ -203,7 +205,8 @@ where
 {
     let judge = judges.remove(0);
     let made = judges.len();
+    let stops = plan.workers as usize - 1;
     crew(
-        rt, alloc, task, lines, judge, judges, back, made, seat, ahead, plan, walk,
+        rt, alloc, task, lines, judge, judges, back, made, stops, seat, ahead, plan, walk,
     )
 }
