@@ -20,7 +20,7 @@ use Rattle.cr_standing.specs.Ends.{EndsStanding, IsManaged}
 use Rattle.cr_standing.specs.Walk.{Leads, plain, standing_at}
 use Rattle.cr_standing_workers.specs.Serving.{Serves}
 use Rattle.cr_standing_workers.specs.Told.{ReducesFileIfTold}
-use Rattle.cr_standing_workers.proofs.Judges.{each-refl, each_more}
+use Rattle.cr_standing_workers.proofs.Judges.{each-refl, each_length, each_more}
 use Rattle.cr_standing.proofs.Reading.{ends_if_told, nothing_done}
 
 module _ {J K T : Type 0} (s : Search) (judge : JudgeGhosts J K) (asks : Bool) (offer : T → List ℕ → Offer) (limit : Option ℕ) where
@@ -43,22 +43,28 @@ module _ {J K T : Type 0} (s : Search) (judge : JudgeGhosts J K) (asks : Bool) (
     of_first = λ turn worker is. it.of_first turn worker (sym same.1 ∙ is);
   }
 
-  wider : (name variant : List ℕ) (a b : J) (as bs : List J) → HasFailed s.asks name (judging_of judge (a ∷ [])) (judging_of judge (b ∷ [])) 0 variant
-      → HasFailed s.asks name (judging_of judge (a ∷ as)) (judging_of judge (b ∷ bs)) 0 variant
-  wider name variant a b as bs it = record { asked = it.asked; called = it.called; rose = it.rose }
+  -- there is room for one more
+  pub has_room : (made : ℕ) (walk : Walk T) (given : J) (others : List J) (e : Ended J T) → IsDone s judge asks offer limit made walk given others e → length others < made → length e.judges.items < vec_capacity e.judges
+  has_room made walk given others e it few =
+      let len = each_length judge asks others it.rest it.others_serve in
+      subst (λ (l : List J). length l < vec_capacity e.judges) (sym it.judges) (omega (arith, len, few, it.room))
 
-  first_ends : (st : State) (why : Why) (a b : J) (as bs : List J) → ((turn worker : ℕ) → why ≡ Fault turn worker → worker ≡ 0) → EndsHere s (judging_of judge (a ∷ [])) (judging_of judge (b ∷ [])) limit st why
-      → EndsHere s (judging_of judge (a ∷ as)) (judging_of judge (b ∷ bs)) limit st why
-  first_ends st Fixed a b as bs zero_is ended = ended
-  first_ends st Limit a b as bs zero_is ended = ended
-  first_ends st NoMemory a b as bs zero_is ended = ended
-  first_ends st (Fault turn worker) a b as bs zero_is ended =
+  wider : (name variant : List ℕ) (a b : J) (xs ys : List J) → HasFailed s.asks name (judging_of judge (a ∷ [])) (judging_of judge (b ∷ [])) 0 variant
+      → HasFailed s.asks name (judging_of judge (a ∷ xs)) (judging_of judge (b ∷ ys)) 0 variant
+  wider name variant a b xs ys it = record { asked = it.asked; called = it.called; rose = it.rose }
+
+  first_ends : (st : State) (why : Why) (a b : J) (xs ys : List J) → ((turn worker : ℕ) → why ≡ Fault turn worker → worker ≡ 0) → EndsHere s (judging_of judge (a ∷ [])) (judging_of judge (b ∷ [])) limit st why
+      → EndsHere s (judging_of judge (a ∷ xs)) (judging_of judge (b ∷ ys)) limit st why
+  first_ends st Fixed a b xs ys zero_is ended = ended
+  first_ends st Limit a b xs ys zero_is ended = ended
+  first_ends st NoMemory a b xs ys zero_is ended = ended
+  first_ends st (Fault turn worker) a b xs ys zero_is ended =
       let here = ended.2 in
       let f = here.failed in
       let is_zero : worker ≡ 0 = zero_is turn worker refl in
       let v = st.offer.bytes here.at in
       let narrow = subst (λ w. HasFailed s.asks s.name (judging_of judge (a ∷ [])) (judging_of judge (b ∷ [])) w v) is_zero f.failed in
-      let wide = subst (λ w. HasFailed s.asks s.name (judging_of judge (a ∷ as)) (judging_of judge (b ∷ bs)) w v) (sym is_zero) (wider s.name v a b as bs narrow) in
+      let wide = subst (λ w. HasFailed s.asks s.name (judging_of judge (a ∷ xs)) (judging_of judge (b ∷ ys)) w v) (sym is_zero) (wider s.name v a b xs ys narrow) in
       (ended.0, ended.1, record { at = here.at; there = here.there; failed = record { smaller = f.smaller; lawful = f.lawful; failed = wide } })
 
   -- of all judges
@@ -96,4 +102,4 @@ module _ {J K T : Type 0} (s : Search) (judge : JudgeGhosts J K) (asks : Bool) (
 -- the first of a list, and the rest
 pub split_first : {A : Type 0} (xs : List A) (x : A) (ys : List A) → 0 < length xs → x ≡ slice_index_or xs 0 x → ys ≡ remove xs 0 → xs ≡ x ∷ ys
 split_first [] x ys some value rest = absurd (omega arith)
-split_first (a ∷ as) x ys some value rest = ap (λ z. z ∷ as) (sym value) ∙ ap (λ l. x ∷ l) (sym rest)
+split_first (a ∷ more) x ys some value rest = ap (λ z. z ∷ more) (sym value) ∙ ap (λ l. x ∷ l) (sym rest)

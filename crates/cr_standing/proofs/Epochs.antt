@@ -1,9 +1,11 @@
 -- What an epoch's positions come to.
-use Rattle.std.proofs.Common.{◌≡◌, ◌≢◌, ℕ, zero, suc, ◌+◌, ◌<◌, ◌≤◌, List, [], ◌∷◌, length, slice_index_or, replicate, Option, Some, None, get_or, refl, sym, ap, subst, arith}
+use Rattle.std.proofs.Common.{◌≡◌, ◌≢◌, ℕ, zero, suc, ◌+◌, ◌<◌, ◌≤◌, List, [], ◌∷◌, length, slice_index_or, replicate, Option, Some, None, Result, Ok, Err, OnOk, get_or, refl, sym, ap, subst, arith}
+use Rattle.std.proofs.lemmas.Option.{slice_get-get_or}
 use Rattle.std.specs.List.{slice_get}
 use native.Mathlib.Decide.{ℕ_discrete, dec_lt}
 use Rattle.cr_cursor.specs.declared.passes.Cursor.{Cursor}
-use Rattle.cr_cursor.specs.Variants.{Offer}
+use Rattle.cr_cursor.specs.Variants.{Offer, cursor}
+use Rattle.cr_pool.specs.Sizes.{IsSmaller}
 use Rattle.cr_reduce.specs.Bench.{GoesOn, Judging}
 use Rattle.cr_reduce.specs.declared.end.Why.{Why}
 use Rattle.cr_reduce.specs.declared.end.Why.TheVariants as why
@@ -16,7 +18,7 @@ use Rattle.cr_standing.specs.declared.epoch.EpochEnd.TheVariants.{NoneOf, Found,
 use Rattle.cr_standing_workers.specs.declared.orders.Trial.{Trial}
 use Rattle.cr_standing_workers.specs.declared.orders.Trial.TheVariants.{No, Yes, Skipped}
 use Rattle.cr_standing.specs.Slots.{AllNo, EpochSays, SlotSays, SlotsSay}
-use Rattle.cr_standing_workers.specs.Told.{AcceptsIfTold, FailsAt, IsAbout, RejectsIfTold}
+use Rattle.cr_standing_workers.specs.Told.{AcceptsIfTold, AtPosition, FailsAt, IsAbout, RejectsIfTold}
 
 -- positions that are rejected
 
@@ -31,21 +33,37 @@ no_more R file a b c before here is position low high = elim (ℕ_discrete posit
 
 pub rejected : {T : Type 0} (s : Search) (make : T → List ℕ → Offer) (Orders : T → List ℕ → ℕ → ℕ → Type 0) (Replies : List ℕ → ℕ → Trial → Type 0) → IsAbout s make Orders Replies
     → (file : List ℕ) (offer : Offer) (from to : ℕ) → s.Offers file offer → AllNo Replies file from to → AllRejected offer (RejectsIfTold s) file from to
-rejected s make Orders Replies about file offer from to offered no position at low high there = about.reply_out file position No (no position low high) offer offered at there
+rejected s make Orders Replies about file offer from to offered each position at low high there = about.reply_out file position No (each position low high) offer offered at there
 
 pub first_found : {T : Type 0} (s : Search) (make : T → List ℕ → Offer) (Orders : T → List ℕ → ℕ → ℕ → Type 0) (Replies : List ℕ → ℕ → Trial → Type 0) → IsAbout s make Orders Replies
     → (file : List ℕ) (offer : Offer) (from position : ℕ) (at : Cursor) → s.Offers file offer → from ≤ position → slice_get (cursors_of offer) position ≡ Some at → AllNo Replies file from position → Replies file position Yes
     → IsFirstAccepted offer (AcceptsIfTold s) (RejectsIfTold s) file from position at
-first_found s make Orders Replies about file offer from position at offered low there no yes = record {
+first_found s make Orders Replies about file offer from position at offered low there each said = record {
   after = low;
   there = there;
-  accepted = about.reply_out file position Yes yes offer offered at there;
-  before = rejected s make Orders Replies about file offer from position offered no;
+  accepted = about.reply_out file position Yes said offer offered at there;
+  before = rejected s make Orders Replies about file offer from position offered each;
 }
+
+-- an accepted variant is smaller
+pub found_smaller : {T : Type 0} (s : Search) (make : T → List ℕ → Offer) (Orders : T → List ℕ → ℕ → ℕ → Type 0) (Replies : List ℕ → ℕ → Trial → Type 0) → IsAbout s make Orders Replies
+    → (file : List ℕ) (offer : Offer) (position : ℕ) (variant : List ℕ) → s.Offers file offer → position < length (cursors_of offer) → Replies file position Yes → AtPosition offer position (λ bytes. variant ≡ bytes) → IsSmaller variant file
+found_smaller s make Orders Replies about file offer position variant offered below said made =
+    let at = get_or (cursors_of offer) position (cursor 0 0 0) in
+    let there : slice_get (cursors_of offer) position ≡ Some at = slice_get-get_or (cursors_of offer) position (cursor 0 0 0) below in
+    subst (λ v. IsSmaller v file) (sym (made at there)) (about.reply_out file position Yes said offer offered at there).smaller
+
+-- what follows of success
+pub on_ok : {A E : Type 0} (r : Result A E) (P Q : Type 0) → (P → Q) → OnOk r P → OnOk r Q
+on_ok (Ok a) P Q f it = f it
+on_ok (Err e) P Q f it = tt
 
 -- slots
 
-blank_is : (n i : ℕ) → slice_index_or (replicate n (None {A = Trial})) i None ≡ None
+abbrev nothing : Option Trial
+nothing = None
+
+blank_is : (n i : ℕ) → slice_index_or (replicate n nothing) i None ≡ None
 blank_is zero i = refl
 blank_is (suc n) zero = refl
 blank_is (suc n) (suc i) = blank_is n i
@@ -57,8 +75,8 @@ blank_says R file start n slots is i low = subst (SlotSays R file (start + i)) (
 
 fails_earlier : (s : Search) (before middle now : Judging) (file : List ℕ) (offer : Offer) (position : ℕ) → GoesOn before middle → FailsAt s middle now file offer position → FailsAt s before now file offer position
 fails_earlier s before middle now file offer position on it =
-    let f = it.1.1 in
-    (it.0, it.1.0, record { smaller = f.smaller; lawful = f.lawful; failed = has_failed-earlier s.asks s.name before middle now 0 (offer.bytes it.0) on f.failed })
+    let f = it.2 in
+    (it.0, it.1, record { smaller = f.smaller; lawful = f.lawful; failed = has_failed-earlier s.asks s.name before middle now 0 (offer.bytes it.0) on f.failed })
 
 pub epoch_earlier : (s : Search) (before middle now : Judging) (R : List ℕ → ℕ → Trial → Type 0) (file : List ℕ) (offer : Offer) (start count : ℕ) (end : EpochEnd) → GoesOn before middle
     → EpochSays s middle now R file offer start count end → EpochSays s before now R file offer start count end

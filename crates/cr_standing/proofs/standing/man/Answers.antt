@@ -6,12 +6,12 @@ use Rattle.cr_standing.proofs.Crews.{managed, split_first}
 use Rattle.cr_standing.proofs.standing.man.Goals as goal
 
 pub crew-requires-clause-told : goal.crew-requires-clause-told
-crew-requires-clause-told g c =
+crew-requires-clause-told g c = λ sends shares.
     let split = split_first c.args.judges.items c.remove-judge.result c.remove-judge.new.self.items c.requires.some c.remove-judge.ensures.value c.remove-judge.ensures.items in
     (subst (AllAre (λ j. g.J.Judge.says (g.J.Judge.key j) ≡ g.S.Subject.told)) split c.requires.told).0
 
 pub crew-requires-clause-all_told : goal.crew-requires-clause-all_told
-crew-requires-clause-all_told g c =
+crew-requires-clause-all_told g c = λ sends shares.
     let split = split_first c.args.judges.items c.remove-judge.result c.remove-judge.new.self.items c.requires.some c.remove-judge.ensures.value c.remove-judge.ensures.items in
     (subst (AllAre (λ j. g.J.Judge.says (g.J.Judge.key j) ≡ g.S.Subject.told)) split c.requires.told).1
 

@@ -31,21 +31,12 @@ loop-preserved g c =
       within = c.in_default.ensures.within;
     }
 
-pub returns-in-Some-clause-serves : goal.returns-in-Some-clause-serves
-returns-in-Some-clause-serves g c = serves-trans g.J.Judge (g.Q.Question.asks c.args.task.now.question.now) c.args.judge.now c.loop.judge c.advance.new.judge c.loop.invariant.serves c.in-Some.ensures.serves
+pub returns-in-Some-advance-clause-serves : goal.returns-in-Some-advance-clause-serves
+returns-in-Some-advance-clause-serves g c = serves-trans g.J.Judge (g.Q.Question.asks c.args.task.now.question.now) c.args.judge.now c.loop.judge c.advance.new.judge c.loop.invariant.serves c.in-Some-advance.ensures.serves
 
-pub returns-in-Some-clause-leads : goal.returns-in-Some-clause-leads
-returns-in-Some-clause-leads g c =
-    let s = searching_by g.P.Passes g.L.Law g.Q.Question c.args.task.now g.S.Subject.told in
-    let offer = g.P.Passes.offer c.args.task.now.passes.now in
-    leads-trans s (standing_at offer c.args.walk.now) (standing_at offer c.loop.walk) (standing_at offer c.advance.new.walk) c.loop.invariant.leads c.in-Some.ensures.leads
-
-pub returns-in-Some-clause-ended : goal.returns-in-Some-clause-ended
-returns-in-Some-clause-ended g c =
+pub returns-in-Some-advance-clause-ended : goal.returns-in-Some-advance-clause-ended
+returns-in-Some-advance-clause-ended g c =
     let s = searching_by g.P.Passes g.L.Law g.Q.Question c.args.task.now g.S.Subject.told in
     let offer = g.P.Passes.offer c.args.task.now.passes.now in
     ends_earlier s (judging_of g.J.Judge (c.args.judge.now ∷ [])) (judging_of g.J.Judge (c.loop.judge ∷ [])) (judging_of g.J.Judge (c.advance.new.judge ∷ [])) c.args.plan.now.limit (standing_at offer c.advance.new.walk)
-    c.in-Some.why c.loop.invariant.serves.goes_on (c.in-Some.ensures.ended c.in-Some.why refl)
-
-pub returns-in-Some-clause-first : goal.returns-in-Some-clause-first
-returns-in-Some-clause-first g c = λ turn worker is. c.in-Some.ensures.first turn worker (ap Some is)
+    c.in-Some-advance.why c.loop.invariant.serves.goes_on (c.in-Some-advance.ensures.ended c.in-Some-advance.why refl)

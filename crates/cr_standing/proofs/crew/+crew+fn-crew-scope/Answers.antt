@@ -1,0 +1,72 @@
+use Rattle.std.proofs.Common.{rules, ◌≡◌, ◌<◌, ◌++◌, ◌∷◌, List, [], length, ap, sym, subst, arith}
+use Rattle.std.proofs.lemmas.List.{length_push}
+use Rattle.cr_standing.specs.Crew.{IsDone}
+use Rattle.cr_standing_workers.specs.Channels.{AllAre}
+use Rattle.cr_standing_workers.specs.Serving.{Serves}
+use Rattle.cr_standing_workers.specs.Told.{searching_by}
+use Rattle.cr_standing_workers.proofs.Judges.{all_front, all_last, serves-refl}
+use Rattle.cr_standing.proofs.Crews.{has_room, one_joined}
+use Rattle.cr_standing.proofs.crew.+crew+fn-crew-scope.Goals as goal
+use Rattle.cr_standing.proofs.crew.+crew+fn-crew-scope.Goals.{scope-in-Ok, scope-in-Err}
+
+pub hand_on-requires : goal.hand_on-requires
+hand_on-requires g c =
+    let s = searching_by g.P.Passes g.L.Law g.Q.Question c.args.task.now g.S.Subject.told in
+    let asks = g.Q.Question.asks c.args.task.now.question.now in
+    let offer = g.P.Passes.offer c.args.task.now.passes.now in
+    let limit = c.args.plan.now.limit in
+    let len = ap (λ (l : List g.row.J.Denot). length l) c.in-Some.ensures.items in
+    let more = length_push c.pop.new.self.items c.in-Some.other in
+    record { room = has_room s g.J.Judge asks offer limit c.args.made c.args.walk c.args.judge c.pop.new.self.items c.crew-ended.result c.crew-ended.ensures (omega (arith, c.requires.few, len, more)) }
+
+pub returns-then-len-stops : goal.returns-then-len-stops
+returns-then-len-stops g c =
+    let s = searching_by g.P.Passes g.L.Law g.Q.Question c.args.task.now g.S.Subject.told in
+    let asks = g.Q.Question.asks c.args.task.now.question.now in
+    let offer = g.P.Passes.offer c.args.task.now.passes.now in
+    let limit = c.args.plan.now.limit in
+    subst (λ (l : List g.row.J.Denot). IsDone s g.J.Judge asks offer limit c.args.made c.args.walk c.args.judge l c.hand_on.result) (sym c.in-Some.ensures.items)
+    (one_joined s g.J.Judge asks offer limit c.args.made c.args.walk c.args.judge c.pop.new.self.items c.in-Some.other c.in-Some.other c.crew-ended.result c.hand_on.result c.crew-ended.ensures
+    (serves-refl g.J.Judge asks c.in-Some.other) c.hand_on.ensures.judges c.hand_on.ensures.same)
+
+pub scoped-requires : goal.scoped-requires
+scoped-requires g c =
+    let Says = λ (j : g.row.J.Denot). g.J.Judge.says (g.J.Judge.key j) ≡ g.S.Subject.told in
+    let all = subst (λ (l : List g.row.J.Denot). AllAre Says l) c.in-Some.ensures.items c.requires.all_told in
+    let len = ap (λ (l : List g.row.J.Denot). length l) c.in-Some.ensures.items in
+    let more = length_push c.pop.new.self.items c.in-Some.other in
+    record {
+      at = λ a. record {
+        sync = search rules;
+        about = c.requires.about;
+        told = c.requires.told;
+        other_told = all_last Says c.pop.new.self.items c.in-Some.other all;
+        all_told = all_front Says c.pop.new.self.items c.in-Some.other all;
+        joined = c.requires.joined;
+        seats = c.another_seat-other_seat.ensures.seats;
+        other_seat = c.another_seat-other_seat.ensures.another;
+        sound = c.requires.sound;
+        window = c.requires.window;
+        within = c.requires.within;
+        room = c.requires.room;
+        few = omega (arith, c.requires.few, len, more);
+      };
+    }
+
+pub scope-hand_on-requires : goal.scope-hand_on-requires
+scope-hand_on-requires g t c =
+    let s = searching_by g.P.Passes g.L.Law g.Q.Question c.captures.task.now g.S.Subject.told in
+    let asks = g.Q.Question.asks c.captures.task.now.question.now in
+    let offer = g.P.Passes.offer c.captures.task.now.passes.now in
+    let limit = c.captures.plan.now.limit in
+    record { room = has_room s g.J.Judge asks offer limit c.captures.made c.captures.walk c.captures.judge c.captures.others.items c.crew-ended.result c.crew-ended.ensures c.requires.few }
+
+pub scope-returns : goal.scope-returns
+scope-returns g t c =
+    let s = searching_by g.P.Passes g.L.Law g.Q.Question c.captures.task.now g.S.Subject.told in
+    let asks = g.Q.Question.asks c.captures.task.now.question.now in
+    let offer = g.P.Passes.offer c.captures.task.now.passes.now in
+    let limit = c.captures.plan.now.limit in
+    let served : Serves g.J.Judge asks c.captures.other c.match-started.other = elim c.match-started.branch [ scope-in-Ok w ↦ search rules | scope-in-Err w ↦ search rules ] in
+    one_joined s g.J.Judge asks offer limit c.captures.made c.captures.walk c.captures.judge c.captures.others.items c.captures.other c.match-started.other c.crew-ended.result c.hand_on.result c.crew-ended.ensures
+    served c.hand_on.ensures.judges c.hand_on.ensures.same
