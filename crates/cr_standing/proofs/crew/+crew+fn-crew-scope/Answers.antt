@@ -1,4 +1,4 @@
-use Rattle.std.proofs.Common.{rules, ◌≡◌, ◌<◌, ◌++◌, ◌∷◌, List, [], length, ap, sym, subst, arith}
+use Rattle.std.proofs.Common.{rules, ◌≡◌, ◌<◌, ◌*◌, ◌+◌, ◌++◌, ◌∷◌, List, [], length, ap, sym, subst, arith}
 use Rattle.std.proofs.lemmas.List.{length_push}
 use Rattle.cr_standing.specs.Crew.{IsDone}
 use Rattle.cr_standing_workers.specs.Channels.{AllAre}
@@ -10,7 +10,7 @@ use Rattle.cr_standing.proofs.crew.+crew+fn-crew-scope.Goals as goal
 use Rattle.cr_standing.proofs.crew.+crew+fn-crew-scope.Goals.{scope-in-Ok, scope-in-Err}
 
 pub hand_on-requires : goal.hand_on-requires
-hand_on-requires g c =
+hand_on-requires g t c =
     let s = searching_by g.P.Passes g.L.Law g.Q.Question c.args.task.now g.S.Subject.told in
     let asks = g.Q.Question.asks c.args.task.now.question.now in
     let offer = g.P.Passes.offer c.args.task.now.passes.now in
@@ -20,7 +20,7 @@ hand_on-requires g c =
     record { room = has_room s g.J.Judge asks offer limit c.args.made c.args.walk c.args.judge c.pop.new.self.items c.crew-ended.result c.crew-ended.ensures (omega (arith, c.requires.few, len, more)) }
 
 pub returns-then-len-stops : goal.returns-then-len-stops
-returns-then-len-stops g c =
+returns-then-len-stops g t c =
     let s = searching_by g.P.Passes g.L.Law g.Q.Question c.args.task.now g.S.Subject.told in
     let asks = g.Q.Question.asks c.args.task.now.question.now in
     let offer = g.P.Passes.offer c.args.task.now.passes.now in
@@ -30,28 +30,16 @@ returns-then-len-stops g c =
     (serves-refl g.J.Judge asks c.in-Some.other) c.hand_on.ensures.judges c.hand_on.ensures.same)
 
 pub scoped-requires : goal.scoped-requires
-scoped-requires g c =
+scoped-requires g t c =
     let Says = λ (j : g.row.J.Denot). g.J.Judge.says (g.J.Judge.key j) ≡ g.S.Subject.told in
     let all = subst (λ (l : List g.row.J.Denot). AllAre Says l) c.in-Some.ensures.items c.requires.all_told in
     let len = ap (λ (l : List g.row.J.Denot). length l) c.in-Some.ensures.items in
     let more = length_push c.pop.new.self.items c.in-Some.other in
-    record {
-      at = λ a. record {
-        sync = search rules;
-        about = c.requires.about;
-        told = c.requires.told;
-        other_told = all_last Says c.pop.new.self.items c.in-Some.other all;
-        all_told = all_front Says c.pop.new.self.items c.in-Some.other all;
-        joined = c.requires.joined;
-        seats = c.another_seat-other_seat.ensures.seats;
-        other_seat = c.another_seat-other_seat.ensures.another;
-        sound = c.requires.sound;
-        window = c.requires.window;
-        within = c.requires.within;
-        room = c.requires.room;
-        few = omega (arith, c.requires.few, len, more);
-      };
-    }
+    let other_told : g.J.Judge.says (g.J.Judge.key c.in-Some.other) ≡ g.S.Subject.told = all_last Says c.pop.new.self.items c.in-Some.other all in
+    let all_told : AllAre (λ j. g.J.Judge.says (g.J.Judge.key j) ≡ g.S.Subject.told) c.pop.new.self.items = all_front Says c.pop.new.self.items c.in-Some.other all in
+    let few : length c.pop.new.self.items < c.args.made = omega (arith, c.requires.few, len, more) in
+    let falls : 2 * length c.pop.new.self.items + 1 < 2 * length c.args.others.items = omega (arith, len, more) in
+    search (rules, other_told, all_told, few, falls)
 
 pub scope-hand_on-requires : goal.scope-hand_on-requires
 scope-hand_on-requires g t c =

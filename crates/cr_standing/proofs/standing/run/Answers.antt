@@ -43,6 +43,6 @@ returns g c =
     let offer = g.P.Passes.offer c.args.task.now.passes.now in
     let limit = c.args.plan.now.limit in
     record {
-      ends = ended_walk s g.J.Judge asks offer limit c.args.file.items (offer (arc_value c.in-Ok-begin.walk.shared).prep c.args.file.items) c.in-Ok-begin.walk c.args.judges.items c.man.result c.end_of.result
-          c.man.ensures c.in-Ok-begin.ensures.offered c.in-Ok-begin.ensures.start c.end_of.ensures;
+      ends = ended_walk s g.J.Judge asks offer limit c.args.file.items (offer (arc_value c.in-Ok-begin.walk.shared).prep c.args.file.items) c.in-Ok-begin.walk c.args.judges.items c.man-judges.result c.end_of.result
+          c.man-judges.ensures c.in-Ok-begin.ensures.offered c.in-Ok-begin.ensures.start c.end_of.ensures;
     }
