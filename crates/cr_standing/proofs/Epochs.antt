@@ -1,5 +1,5 @@
 -- What an epoch's positions come to.
-use Rattle.std.proofs.Common.{◌≡◌, ◌≢◌, ℕ, zero, suc, ◌+◌, ◌<◌, ◌≤◌, List, [], ◌∷◌, length, slice_index_or, replicate, Option, Some, None, Result, Ok, Err, OnOk, get_or, refl, sym, ap, subst, arith}
+use Rattle.std.proofs.Common.{◌≡◌, ℕ, zero, suc, ◌+◌, ◌<◌, ◌≤◌, List, length, slice_index_or, replicate, Option, Some, None, Result, Ok, Err, OnOk, get_or, refl, sym, ap, subst, arith}
 use Rattle.std.proofs.lemmas.Option.{slice_get-get_or}
 use Rattle.std.specs.List.{slice_get}
 use native.Mathlib.Decide.{ℕ_discrete, dec_lt}
@@ -10,13 +10,13 @@ use Rattle.cr_reduce.specs.Bench.{GoesOn, Judging}
 use Rattle.cr_reduce.specs.declared.end.Why.{Why}
 use Rattle.cr_reduce.specs.declared.end.Why.TheVariants as why
 use Rattle.cr_reduce.specs.Reduction.{AllRejected, IsFirstAccepted, State, cursors_of}
-use Rattle.cr_reduce.specs.Search.{FailsInRun, Search}
+use Rattle.cr_reduce.specs.Search.{Search}
 use Rattle.cr_reduce.specs.Walk.{EndsHere}
 use Rattle.cr_reduce.proofs.Runs.{has_failed-earlier}
 use Rattle.cr_standing.specs.declared.epoch.EpochEnd.{EpochEnd}
 use Rattle.cr_standing.specs.declared.epoch.EpochEnd.TheVariants.{NoneOf, Found, Fault, NoMemory}
 use Rattle.cr_standing_workers.specs.declared.orders.Trial.{Trial}
-use Rattle.cr_standing_workers.specs.declared.orders.Trial.TheVariants.{No, Yes, Skipped}
+use Rattle.cr_standing_workers.specs.declared.orders.Trial.TheVariants.{No, Yes}
 use Rattle.cr_standing.specs.Slots.{AllNo, EpochSays, SlotSays, SlotsSay}
 use Rattle.cr_standing_workers.specs.Told.{AcceptsIfTold, AtPosition, FailsAt, IsAbout, RejectsIfTold}
 
@@ -69,7 +69,7 @@ blank_is (suc n) zero = refl
 blank_is (suc n) (suc i) = blank_is n i
 
 pub blank_says : (R : List ℕ → ℕ → Trial → Type 0) (file : List ℕ) (start n : ℕ) (slots : List (Option Trial)) → slots ≡ replicate n None → SlotsSay R file start slots
-blank_says R file start n slots is i low = subst (SlotSays R file (start + i)) (sym (ap (λ l. slice_index_or l i None) is) ) (subst (SlotSays R file (start + i)) (sym (blank_is n i)) tt)
+blank_says R file start n slots is i low = subst (SlotSays R file (start + i)) (sym (ap (λ l. slice_index_or l i None) is)) (subst (SlotSays R file (start + i)) (sym (blank_is n i)) tt)
 
 -- a fault since a later moment is one since an earlier one
 

@@ -1,5 +1,5 @@
 -- A reduction by trials that say what is so where the answers are told.
-use Rattle.std.proofs.Common.{◌≡◌, ◌≢◌, ℕ, ◌+◌, ◌<◌, ◌≤◌, Bool, true, false, List, [], length, Option, Some, None, inl, inr, refl, sym, ap, subst, ◌∙◌, arith}
+use Rattle.std.proofs.Common.{◌≡◌, ◌≢◌, ℕ, ◌+◌, ◌≤◌, true, List, [], length, Option, Some, None, inl, inr, refl, sym, ap, subst, arith}
 use Rattle.std.proofs.lemmas.Bool.{cases_lt}
 use Rattle.std.specs.List.{slice_get}
 use Rattle.cr_cursor.specs.declared.passes.Cursor.{Cursor}
@@ -11,8 +11,8 @@ use Rattle.cr_reduce.specs.declared.end.End.{End}
 use Rattle.cr_reduce.specs.declared.end.Why.{Why}
 use Rattle.cr_reduce.specs.declared.end.Why.TheVariants.{Fixed, Limit, Fault, NoMemory}
 use Rattle.cr_reduce.specs.declared.walk.Walk.{Walk as PlainWalk}
-use Rattle.cr_reduce.specs.Ends.{EndsBy, EndsToldBy, FaultsWithCause, IsFixedAsTold, IsUntouched, StopsAt, end_of_walk, outcome_of}
-use Rattle.cr_reduce.specs.Reduction.{AllRejected, IsFirstAccepted, Outcome, State, Within, cursors_of, ends, moved, next_round, none_fails, start_of, taken}
+use Rattle.cr_reduce.specs.Ends.{EndsBy, EndsToldBy, FaultsWithCause, IsFixedAsTold, StopsAt, end_of_walk, outcome_of}
+use Rattle.cr_reduce.specs.Reduction.{AllRejected, IsFirstAccepted, Outcome, State, Within, cursors_of, ends, moved, next_round, none_fails, start_of}
 use Rattle.cr_reduce.specs.Reduction.Reduces.{accepts, fails, fixed, new_round, spent}
 use Rattle.cr_reduce.specs.Search.{AcceptsAsTold, FailsInRun, IsAllTold, ReducesFileAsTold, RejectsAsTold, Search}
 use Rattle.cr_reduce.specs.Sizes.{HasSize}

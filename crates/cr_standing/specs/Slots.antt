@@ -8,7 +8,7 @@ use Rattle.cr_standing.specs.declared.epoch.EpochEnd.TheVariants.{NoneOf, Found,
 use Rattle.cr_standing.specs.declared.collect.Front.{Front}
 use Rattle.cr_standing.specs.declared.collect.Front.TheVariants as front
 use Rattle.cr_standing_workers.specs.declared.orders.Trial.{Trial}
-use Rattle.cr_standing_workers.specs.declared.orders.Trial.TheVariants.{No, Yes, Skipped}
+use Rattle.cr_standing_workers.specs.declared.orders.Trial.TheVariants.{No, Yes}
 use Rattle.cr_standing_workers.specs.Told.{FailsAt}
 
 -- what is known of a position of a file: nothing, or what was replied

@@ -1,5 +1,5 @@
 -- The walk of a reduction by standing workers, in the words of the plain one.
-use Rattle.std.specs.Prelude.{◌≡◌, ℕ, ◌+◌, ◌≤◌, List, Option}
+use Rattle.std.specs.Prelude.{◌≡◌, ℕ, ◌≤◌, List, Option}
 use Rattle.std.specs.Arc.{arc_value}
 use Rattle.cr_cursor.specs.Variants.{Offer}
 use Rattle.cr_pool.specs.Sizes.{IsMeasured}

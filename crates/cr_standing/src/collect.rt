@@ -7,7 +7,9 @@ ghost use Rattle.cr_standing_workers.specs.Told.{IsAbout, searching_by};
 
 use cr_cursor::{Law, Passes};
 use cr_outside::{Judge, Question};
-use cr_standing_workers::{Lines, Order, Reply, Seat, Shared, Subject, Task, Trial, answer, next_reply, open_order};
+use cr_standing_workers::{
+    Lines, Order, Reply, Seat, Shared, Subject, Task, Trial, answer, next_reply, open_order,
+};
 use std::alloc::Global;
 use std::sync::Wait;
 
@@ -124,14 +126,7 @@ pub fn help<R: Wait, S: Subject<P::Prep>, P: Passes, L: Law, Q: Question, J: Jud
     let Some(Order::Try(place)) = open_order(rt, lines, seat) else {
         return false;
     };
-    let reply = answer::<S, P, L, Q, J>(
-        alloc,
-        task,
-        lines.hint,
-        judge,
-        place,
-        &mut seat.variant,
-    );
+    let reply = answer::<S, P, L, Q, J>(alloc, task, lines.hint, judge, place, &mut seat.variant);
     take::<S, P::Prep>(epoch, file, start, slots, &reply);
     true
 }

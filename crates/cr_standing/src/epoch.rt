@@ -11,7 +11,9 @@ ghost use Rattle.cr_standing.specs.declared.epoch.EpochEnd.{EpochEnd};
 use crate::collect::{Front, first_open, hear, help};
 use cr_cursor::{Law, Never, Passes};
 use cr_outside::{Judge, Question};
-use cr_standing_workers::{Lines, Order, Place, Seat, Shared, Subject, Task, Trial, Tried, send_order, try_at};
+use cr_standing_workers::{
+    Lines, Order, Place, Seat, Shared, Subject, Task, Trial, Tried, send_order, try_at,
+};
 use std::alloc::Global;
 use std::sync::{Arc, Wait};
 

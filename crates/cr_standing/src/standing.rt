@@ -129,12 +129,9 @@ where
         return (judges, untouched(alloc, file));
     };
     let capacity = plan.window as usize + plan.workers as usize;
-    let Ok((orders, orders_out, orders_pass)) = bounded_with::<
-        Order<P::Prep>,
-        (),
-        Fit<S>,
-        Global,
-    >(alloc, capacity) else {
+    let Ok((orders, orders_out, orders_pass)) = bounded_with::<Order<P::Prep>, (), Fit<S>, Global>(
+        alloc, capacity,
+    ) else {
         return (judges, untouched(alloc, file));
     };
     let Ok((replies, replies_out, replies_pass)) = bounded_with::<

@@ -50,11 +50,7 @@ fn share<P: Passes>(
 }
 
 /// The walk before its first position, or the file back where no memory is left.
-pub fn begin<P: Passes>(
-    alloc: Global,
-    passes: &P,
-    file: Vec<u8>,
-) -> Result<Walk<P::Prep>, Vec<u8>>
+pub fn begin<P: Passes>(alloc: Global, passes: &P, file: Vec<u8>) -> Result<Walk<P::Prep>, Vec<u8>>
     requires { (n : ℕ) × HasSize file.items n }
     ensures sound { IfOk result (IsSound (P.offers passes.now) (P.offer passes.now)) }
     ensures offered { IfOk result (λ walk. P.offers passes.now file.items (P.offer passes.now (arc_value walk.shared).prep file.items)) }

@@ -252,7 +252,16 @@ pub fn walk_on<R: Wait, S: Subject<P::Prep>, P: Passes, L: Law, Q: Question, J: 
     };
     for _ in rt.forever() {
         if let Some(why) = advance(
-            rt, alloc, task, lines, judge, seat, ahead, plan, walk, &mut course,
+            rt,
+            alloc,
+            task,
+            lines,
+            judge,
+            seat,
+            ahead,
+            plan,
+            walk,
+            &mut course,
         ) {
             return why;
         }

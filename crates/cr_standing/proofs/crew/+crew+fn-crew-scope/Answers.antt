@@ -1,4 +1,4 @@
-use Rattle.std.proofs.Common.{rules, ◌≡◌, ◌<◌, ◌*◌, ◌+◌, ◌++◌, ◌∷◌, List, [], length, ap, sym, subst, arith}
+use Rattle.std.proofs.Common.{rules, ◌≡◌, ◌<◌, ◌*◌, ◌+◌, List, length, ap, sym, subst, arith}
 use Rattle.std.proofs.lemmas.List.{length_push}
 use Rattle.cr_standing.specs.Crew.{IsDone}
 use Rattle.cr_standing_workers.specs.Channels.{AllAre}

@@ -1,4 +1,4 @@
-use Rattle.std.proofs.Common.{[], ◌∷◌, ◌+◌, length, ap, refl, sym, subst, arith, ◌∙◌}
+use Rattle.std.proofs.Common.{[], ◌∷◌, length, ap, refl, sym, subst, arith, ◌∙◌}
 use Rattle.std.specs.Arc.{arc_value}
 use Rattle.cr_reduce.specs.Bench.{judging_of}
 use Rattle.cr_standing.specs.Slots.{EpochSays}

@@ -1,4 +1,4 @@
-use Rattle.std.proofs.Common.{◌≡◌, ◌∷◌, List, sym, subst}
+use Rattle.std.proofs.Common.{◌≡◌, sym, subst}
 use Rattle.cr_standing.specs.Ends.{IsManaged}
 use Rattle.cr_standing_workers.specs.Channels.{AllAre}
 use Rattle.cr_standing_workers.specs.Told.{searching_by}

@@ -1,4 +1,4 @@
-use Rattle.std.proofs.Common.{[], ◌∷◌, Some, ap, refl, ◌∙◌}
+use Rattle.std.proofs.Common.{[], ◌∷◌, ap, refl, ◌∙◌}
 use Rattle.cr_reduce.specs.Bench.{judging_of}
 use Rattle.cr_standing.specs.Walk.{standing_at}
 use Rattle.cr_standing_workers.specs.Told.{searching_by}
