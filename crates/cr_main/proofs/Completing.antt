@@ -22,7 +22,7 @@ use Rattle.cr_main_words.specs.declared.settings.Settings.{Settings}
 use Rattle.cr_main_words.proofs.Asking.{one_modes, one_request}
 use Rattle.cr_main_words.proofs.Giving.{one_settings}
 use Rattle.cr_main.specs.More.{CompletesByFormula, IsFormulaTask, RunsMore, RunsWord, word_of}
-use Rattle.cr_main.specs.More.RunsAsked.{by_word, plain, unbuilt}
+use Rattle.cr_main.specs.More.RunsAsked.{by_word, plain, standing, unbuilt}
 use Rattle.cr_main.specs.More.RunsMore.{asks_nothing, reduction, replay, unread_words}
 use Rattle.cr_main.specs.More.RunsWord.{by_formula, spells_none, unread_word}
 use Rattle.cr_main.specs.Task.{formula_task_of, text_of}
@@ -69,8 +69,10 @@ module _ (words : List Word) (most : ℕ) (says : Telling) (old new : Outside) (
   pub completes_more : RunsMore words most says old new before after status → CompletesByFormula words most old new before after status
   completes_more (asks_nothing none idle said) = λ a form own task all. absurd (none (request.Reduction a plain_modes) task.asks)
   completes_more (unread_words same quiet is) = λ a form own task all. inr is
-  completes_more (reduction b modes asks (unbuilt why idle said)) = λ a form own task all. absurd (why (one_modes words modes plain_modes asks.flags task.asks.flags))
+  completes_more (reduction b modes asks (unbuilt why idle said)) = λ a form own task all. absurd (why.0 (one_modes words modes plain_modes asks.flags task.asks.flags))
   completes_more (reduction b modes asks (by_word is formula run)) = word_completes b modes asks run
   completes_more (reduction b modes asks (plain name is none is_own run)) = λ a form own task all.
+      absurd (none (same_formula a.test b.test (alike a b modes task.asks asks).tests (spelled_is_formula a.test form task.spells)))
+  completes_more (reduction b modes asks (standing name is none is_own run)) = λ a form own task all.
       absurd (none (same_formula a.test b.test (alike a b modes task.asks asks).tests (spelled_is_formula a.test form task.spells)))
   completes_more (replay asked asks quiet run) = λ a form own task all. absurd (one_request words most (request.Reduction a plain_modes) (request.Replay asked) task.asks asks)

@@ -1,6 +1,7 @@
 pub mod NameLemmas
 pub mod Runnable
 pub mod OneTask
+pub mod NoFlags
 pub mod Promises
 pub mod Sources
 pub mod Paths

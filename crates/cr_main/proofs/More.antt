@@ -8,6 +8,8 @@ use Rattle.cr_main_formula.proofs.Headline.{formula_done}
 use Rattle.cr_main_formula.proofs.Promises.{formula_faults, formula_finished, formula_journal, formula_keeps, formula_never_fails}
 use Rattle.cr_main_replay.proofs.Promises.{replay_faults, replay_files, replay_keeps_journal}
 use Rattle.cr_main_replay.proofs.Statuses.{replayed}
+use Rattle.cr_main_standing.specs.Standing.{RunsStanding}
+use Rattle.cr_main_standing.proofs.Promises.{standing_done, standing_ends, standing_faults, standing_goes_on, standing_journal, standing_keeps}
 use Rattle.cr_main_task.specs.Outside.{Outside}
 use Rattle.cr_main_task.specs.Run.{RunsTask}
 use Rattle.cr_main_task.specs.Story.{KeepsJournal, journal_told}
@@ -24,18 +26,20 @@ use Rattle.cr_main_words.specs.declared.request.Request.TheVariants as request
 use Rattle.cr_main_words.specs.declared.settings.Settings.{Settings}
 use Rattle.cr_main_words.proofs.Asking.{one_modes, plain_reduction}
 use Rattle.cr_main_words.proofs.Giving.{one_settings}
-use Rattle.cr_main.specs.Headline.{AsksOnly, Promises}
+use Rattle.cr_main.specs.Headline.{Promises}
 use Rattle.cr_main.specs.Headline.AsksOnly.{run_asks_nothing}
 use Rattle.cr_main.specs.Headline.KeepsFiles.{files_unchanged}
-use Rattle.cr_main.specs.More.{Does, EndsMore, IsFormula, IsFormulaTask, IsPlain, IsQuiet, IsSilent, KeepsMore, MayRun, RunsMore, RunsWord, replaying_by, word_of}
-use Rattle.cr_main.specs.More.EndsMore.{of_formula, of_nothing, of_reduction, of_replay}
-use Rattle.cr_main.specs.More.KeepsMore.{kept_by_formula, kept_by_task}
-use Rattle.cr_main.specs.More.RunsAsked.{by_word, plain, unbuilt}
+use Rattle.cr_main.specs.More.{AsksMore, Does, EndsMore, IsFormula, IsFormulaTask, IsPlain, IsQuiet, IsSilent, IsStandingTask, KeepsMore, MayRun, RunsMore, RunsWord, replaying_by, standing_modes, word_of}
+use Rattle.cr_main.specs.More.AsksMore.{asks_as_run, asks_by_standing}
+use Rattle.cr_main.specs.More.EndsMore.{of_formula, of_nothing, of_reduction, of_replay, of_standing}
+use Rattle.cr_main.specs.More.KeepsMore.{kept_by_formula, kept_by_standing, kept_by_task}
+use Rattle.cr_main.specs.More.RunsAsked.{by_word, plain, standing, unbuilt}
 use Rattle.cr_main.specs.More.RunsMore.{asks_nothing, reduction, replay, unread_words}
 use Rattle.cr_main.specs.More.RunsWord.{by_formula, spells_none, unread_word}
 use Rattle.cr_main.specs.Run.{Runs}
 use Rattle.cr_main.specs.Run.Runs.{no_settings, on_task, unsorted}
 use Rattle.cr_main.specs.Task.{formula_task_of, task_of, text_of}
+use Rattle.cr_main.proofs.NoFlags.{settings_have_no_standing}
 use Rattle.cr_main.proofs.OneTask.{same_asks}
 use Rattle.cr_main.proofs.Paths.{same_formula}
 use Rattle.cr_main.proofs.Promises.{opens_fails, opens_keep, opens_on, promises}
@@ -69,9 +73,10 @@ module _ (words : List Word) (most : ℕ) (says : Telling) (old new : Outside) (
   as_run (asks_nothing none idle said) it =
       no_settings (λ settings has. none (request.Reduction settings plain_modes) ((plain_reduction words most settings).1 (it.no_flag, has))) idle said
   as_run (unread_words same quiet is) it = unsorted same quiet is
-  as_run (reduction settings modes asks (unbuilt why idle said)) it = absurd (why (plain_modes_asked words most settings modes asks it))
+  as_run (reduction settings modes asks (unbuilt why idle said)) it = absurd (why.0 (plain_modes_asked words most settings modes asks it))
   as_run (reduction settings modes asks (by_word is formula run)) it = absurd (no_formula_asked words most settings modes asks it formula)
   as_run (reduction settings modes asks (plain own is none is_own run)) it = on_task settings own (plain_settings words most settings modes asks is) is_own run
+  as_run (reduction settings modes asks (standing own is none is_own run)) it = let never : standing_modes ≡ plain_modes = sym is ∙ plain_modes_asked words most settings modes asks it in cc
   as_run (replay asked asks quiet run) it = absurd (it.no_replay asks.0 asks.1)
 
   -- on words without flag, `--replay` and formula it is `run`
@@ -92,6 +97,10 @@ module _ (words : List Word) (most : ℕ) (says : Telling) (old new : Outside) (
       of_formula settings form own (formula_asked settings modes form own asks is spells is_own) (formula_done f text old new before after status run)
       (formula_finished f text old new before after status run) (formula_never_fails f text old new before after status run)
 
+  standing_asked : (settings : Settings) (modes : Modes) (own : List ℕ) → HasReduction words most settings modes → modes ≡ standing_modes → (IsFormula settings.test → ⊥)
+      → IsOwnName (name_of settings.source) own → IsStandingTask words most settings own
+  standing_asked settings modes own asks is none is_own = record { asks = subst (HasReduction words most settings) is asks; no_formula = none; is_own = is_own }
+
   pub ends_more : RunsMore words most says old new before after status → EndsMore words most says old new before after status
   ends_more (asks_nothing none idle said) = of_nothing (put_status old new _ 2 status said)
   ends_more (unread_words same quiet is) = of_nothing (inr is)
@@ -99,6 +108,11 @@ module _ (words : List Word) (most : ℕ) (says : Telling) (old new : Outside) (
   ends_more (reduction settings modes asks (by_word is formula run)) = ends_by_word settings modes asks is run
   ends_more (reduction settings modes asks (plain own is none is_own run)) =
       let it = plain_runs settings modes own asks is is_own run in of_reduction modes settings asks none it.headline it.finished
+  ends_more (reduction settings modes asks (standing own is none is_own run)) =
+      let t = task_of settings says own in
+      let text = text_of settings.source old.files in
+      of_standing settings own (standing_asked settings modes own asks is none is_own) (λ done. standing_done t text old new before after status run done)
+      (λ late. standing_ends t text old new before after status run late)
   ends_more (replay asked asks quiet run) = of_replay asked asks (replayed (replaying_by asked) old new status run)
 
   keeps_by_word : (settings : Settings) (modes : Modes) → HasReduction words most settings modes → modes ≡ plain_modes → RunsWord settings (word_of settings.test) old new before after status
@@ -115,6 +129,8 @@ module _ (words : List Word) (most : ℕ) (says : Telling) (old new : Outside) (
   keeps_more (reduction settings modes asks (unbuilt why idle said)) = kept_by_task (files_unchanged idle.files)
   keeps_more (reduction settings modes asks (by_word is formula run)) = keeps_by_word settings modes asks is run
   keeps_more (reduction settings modes asks (plain own is none is_own run)) = kept_by_task (plain_runs settings modes own asks is is_own run).files_kept
+  keeps_more (reduction settings modes asks (standing own is none is_own run)) =
+      kept_by_standing settings own (standing_asked settings modes own asks is none is_own) (standing_keeps (task_of settings says own) (text_of settings.source old.files) old new before after status run)
   keeps_more (replay asked asks quiet run) = kept_by_task (files_unchanged (replay_files (replaying_by asked) old new status run))
 
   not_nine : (status ≡ 2) ⊎ (status ≡ 11) → status ≡ 9 → ⊥
@@ -134,6 +150,8 @@ module _ (words : List Word) (most : ℕ) (says : Telling) (old new : Outside) (
   fault_more (reduction settings modes asks (unbuilt why idle said)) nine = absurd (not_nine (put_status old new _ 2 status said) nine)
   fault_more (reduction settings modes asks (by_word is formula run)) nine = fault_by_word settings run nine
   fault_more (reduction settings modes asks (plain own is none is_own run)) nine = (plain_runs settings modes own asks is is_own run).fault_last nine
+  fault_more (reduction settings modes asks (standing own is none is_own run)) nine =
+      standing_faults (task_of settings says own) (text_of settings.source old.files) old new before after status (opens_on settings.source old.files) (opens_fails settings.source old.files) nine run
   fault_more (replay asked asks quiet run) nine = replay_faults (replaying_by asked) old new status run nine
 
   journal_by_word : (settings : Settings) → RunsWord settings (word_of settings.test) old new before after status → KeepsJournal old.story new.story
@@ -148,6 +166,8 @@ module _ (words : List Word) (most : ℕ) (says : Telling) (old new : Outside) (
   journal_more (reduction settings modes asks (unbuilt why idle said)) = ap journal_told idle.story
   journal_more (reduction settings modes asks (by_word is formula run)) = journal_by_word settings run
   journal_more (reduction settings modes asks (plain own is none is_own run)) = (plain_runs settings modes own asks is is_own run).journal_kept
+  journal_more (reduction settings modes asks (standing own is none is_own run)) =
+      standing_journal (task_of settings says own) (text_of settings.source old.files) old new before after status (opens_keep settings.source old.files) run
   journal_more (replay asked asks quiet run) = replay_keeps_journal (replaying_by asked) old new status run
 
   quiet_by_word : (settings : Settings) → RunsWord settings (word_of settings.test) old new before after status → after ≡ before
@@ -155,13 +175,15 @@ module _ (words : List Word) (most : ℕ) (says : Telling) (old new : Outside) (
   quiet_by_word settings (unread_word same quiet starved) = quiet
   quiet_by_word settings (by_formula form own spells is_own quiet run) = quiet
 
-  pub asks_more : RunsMore words most says old new before after status → AsksOnly words most says old before after
-  asks_more (asks_nothing none idle said) = run_asks_nothing idle.judges
-  asks_more (unread_words same quiet is) = run_asks_nothing quiet
-  asks_more (reduction settings modes asks (unbuilt why idle said)) = run_asks_nothing idle.judges
-  asks_more (reduction settings modes asks (by_word is formula run)) = run_asks_nothing (quiet_by_word settings run)
-  asks_more (reduction settings modes asks (plain own is none is_own run)) = (plain_runs settings modes own asks is is_own run).asks_only
-  asks_more (replay asked asks quiet run) = run_asks_nothing quiet
+  pub asks_more : RunsMore words most says old new before after status → AsksMore words most says old before after
+  asks_more (asks_nothing none idle said) = asks_as_run (run_asks_nothing idle.judges)
+  asks_more (unread_words same quiet is) = asks_as_run (run_asks_nothing quiet)
+  asks_more (reduction settings modes asks (unbuilt why idle said)) = asks_as_run (run_asks_nothing idle.judges)
+  asks_more (reduction settings modes asks (by_word is formula run)) = asks_as_run (run_asks_nothing (quiet_by_word settings run))
+  asks_more (reduction settings modes asks (plain own is none is_own run)) = asks_as_run (plain_runs settings modes own asks is is_own run).asks_only
+  asks_more (reduction settings modes asks (standing own is none is_own run)) =
+      asks_by_standing settings own (standing_asked settings modes own asks is none is_own) (standing_goes_on (task_of settings says own) (text_of settings.source old.files) old new before after status run)
+  asks_more (replay asked asks quiet run) = asks_as_run (run_asks_nothing quiet)
 
   pub more_of : (asked : Request) → Asks words most asked → Does asked says old new before after status → RunsMore words most says old new before after status
   more_of (request.Reduction settings modes) asks it = reduction settings modes asks it
@@ -174,6 +196,10 @@ module _ (words : List Word) (most : ℕ) (says : Telling) (old new : Outside) (
   quiet_more (request.Reduction settings modes) asks (plain own is none is_own run) (inl needs) =
       inr (inr (sym (same_asks words most needs.0 settings needs.1 own needs.2 (record { gives = plain_settings words most settings modes asks is; is_own = is_own })) ∙ needs.3))
   quiet_more (request.Reduction settings modes) asks (plain own is none is_own run) (inr formula) =
+      absurd (none (same_formula formula.0.test settings.test (one_settings (rest_of words) most formula.0 settings formula.2.rest asks.rest).tests formula.3))
+  quiet_more (request.Reduction settings modes) asks (standing own is none is_own run) (inl needs) =
+      absurd (settings_have_no_standing words most needs.0 settings needs.2.gives (subst (HasReduction words most settings) is asks))
+  quiet_more (request.Reduction settings modes) asks (standing own is none is_own run) (inr formula) =
       absurd (none (same_formula formula.0.test settings.test (one_settings (rest_of words) most formula.0 settings formula.2.rest asks.rest).tests formula.3))
   quiet_more (request.Replay settings) asks it needs = tt
 

@@ -6,10 +6,12 @@ use Rattle.cr_outside.specs.Question.{Says}
 use Rattle.cr_outside.specs.Test.{asks_test}
 use Rattle.cr_outside.specs.declared.test.Test.{Test}
 use Rattle.cr_outside.specs.declared.test.Test.TheVariants as test
-use Rattle.cr_reduce.specs.Bench.{Judging}
+use Rattle.cr_reduce.specs.Bench.{GoesOn, Judging}
 use Rattle.cr_main_formula.specs.Formulas.{HasAllBound, HasFormulaFinished, IsFormulaHeadline, KeepsFormula, RunsFormula}
 use Rattle.cr_main_replay.specs.Replay.{IsReplayed, Replaying, RunsReplay}
 use Rattle.cr_main_replay_programs.specs.Replay.{replaying_of}
+use Rattle.cr_main_standing.specs.Standing.{RunsStanding, by_standing}
+use Rattle.cr_main_task.specs.Headline.{HasReduced, KeepsTask, TaskEnded}
 use Rattle.cr_main_task.specs.Outside.{Outside, Puts}
 use Rattle.cr_main_task.specs.Run.{RunsTask}
 use Rattle.cr_main_words.specs.Flags.{plain_modes}
@@ -18,12 +20,13 @@ use Rattle.cr_main_words.specs.Names.{IsOwnName, name_of}
 use Rattle.cr_main_words.specs.RequestLaws.{HasNoFlag}
 use Rattle.cr_main_words.specs.Requests.{Asks, AsksNothing, HasReduction, IsReplay}
 use Rattle.cr_main_words.specs.Words.{Word}
+use Rattle.cr_main_words.specs.declared.modes.Engine.TheVariants as engine
 use Rattle.cr_main_words.specs.declared.modes.Modes.{Modes}
 use Rattle.cr_main_words.specs.declared.replay.ReplaySettings.{ReplaySettings}
 use Rattle.cr_main_words.specs.declared.request.Request.{Request}
 use Rattle.cr_main_words.specs.declared.request.Request.TheVariants as request
 use Rattle.cr_main_words.specs.declared.settings.Settings.{Settings}
-use Rattle.cr_main.specs.Headline.{HasEnded, IsHeadline, KeepsFiles, NeedsNoJudge}
+use Rattle.cr_main.specs.Headline.{AsksOnly, HasEnded, IsHeadline, KeepsFiles, NeedsNoJudge}
 use Rattle.cr_main.specs.Messages.{usage_line}
 use Rattle.cr_main.specs.Run.{DoesNothing}
 use Rattle.cr_main.specs.Task.{IsRunnable, formula_task_of, task_of, text_of}
@@ -42,9 +45,13 @@ abbrev pub word_of : Test → List ℕ
 word_of (test.Has text) = []
 word_of (test.Program path) = string_bytes path
 
--- a mode that isn't built is asked for: a flag
-abbrev pub IsUnbuilt : Modes → Type 0
-IsUnbuilt modes = modes ≢ plain_modes
+-- the modes of words whose one flag is --standing
+abbrev pub standing_modes : Modes
+standing_modes = record { engine = engine.Standing; any_order = false }
+
+-- what isn't built is asked for: another flag than --standing, or that one with a formula
+abbrev pub IsUnbuilt : Settings → Modes → Type 0
+IsUnbuilt settings modes = (modes ≢ plain_modes) × (modes ≡ standing_modes → IsFormula settings.test)
 
 -- What a run by a word that begins with if: comes to.
 pub data RunsWord (settings : Settings) (word : List ℕ) (old new : Outside) (before after : Judging) (status : ℕ) : Type 0 where
@@ -59,10 +66,12 @@ pub data RunsWord (settings : Settings) (word : List ℕ) (old new : Outside) (b
 -- What a reduction with these settings, in these modes, comes to.
 pub data RunsAsked (settings : Settings) (modes : Modes) (says : Says) (old new : Outside) (before after : Judging) (status : ℕ) : Type 0 where
   -- 2: it isn't built
-  unbuilt : IsUnbuilt modes → DoesNothing old new before after → Puts old new usage_line 2 2 status → RunsAsked settings modes says old new before after status
+  unbuilt : IsUnbuilt settings modes → DoesNothing old new before after → Puts old new usage_line 2 2 status → RunsAsked settings modes says old new before after status
   by_word : modes ≡ plain_modes → IsFormula settings.test → RunsWord settings (word_of settings.test) old new before after status → RunsAsked settings modes says old new before after status
   plain : (own : List ℕ) → modes ≡ plain_modes → (IsFormula settings.test → ⊥) → IsOwnName (name_of settings.source) own
       → RunsTask (task_of settings says own) (text_of settings.source old.files) old new before after status → RunsAsked settings modes says old new before after status
+  standing : (own : List ℕ) → modes ≡ standing_modes → (IsFormula settings.test → ⊥) → IsOwnName (name_of settings.source) own
+      → RunsStanding (task_of settings says own) (text_of settings.source old.files) old new before after status → RunsAsked settings modes says old new before after status
 
 -- the log and the file that are asked for, the steps and the passes
 abbrev pub replaying_by : ReplaySettings → Replaying
@@ -80,7 +89,7 @@ MayRun most (request.Replay asked) = Unit {0}
 
 -- no judge is needed for it
 abbrev pub IsQuiet : Request → Type 0
-IsQuiet (request.Reduction settings modes) = IsUnbuilt modes ⊎ IsFormula settings.test ⊎ (asks_test settings.test ≡ false)
+IsQuiet (request.Reduction settings modes) = IsUnbuilt settings modes ⊎ IsFormula settings.test ⊎ (asks_test settings.test ≡ false)
 IsQuiet (request.Replay asked) = Unit {0}
 
 -- What a run of the command line comes to.
@@ -108,11 +117,20 @@ pub record IsFormulaTask (words : List Word) (most : ℕ) (settings : Settings) 
   pub spells : Spells (word_of settings.test) form
   pub is_own : IsOwnName (name_of settings.source) own
 
--- What stands at 0, 7, 8 and 10: of a reduction the headline, or its files as far as it went; of one by a formula likewise, with no
+-- What is asked of a run is by standing workers, with these settings, and the file has this own name.
+pub record IsStandingTask (words : List Word) (most : ℕ) (settings : Settings) (own : List ℕ) : Type 0 where
+  pub asks : HasReduction words most settings standing_modes
+  pub no_formula : IsFormula settings.test → ⊥
+  pub is_own : IsOwnName (name_of settings.source) own
+
+-- What stands at 0, 7, 8 and 10: of a reduction the headline, or its files as far as it went, by standing workers too; of one by a formula likewise, with no
 -- premise on the outside, and 8 doesn't come; of a replay, that **the log leads from the copy to the file**.
 pub data EndsMore (words : List Word) (most : ℕ) (says : Says) (old new : Outside) (before after : Judging) (status : ℕ) : Type 0 where
   of_reduction : (modes : Modes) (settings : Settings) → HasReduction words most settings modes → (IsFormula settings.test → ⊥) → ((status ≡ 0) ⊎ (status ≡ 7) → IsHeadline words most says old new before after status)
       → ((status ≡ 8) ⊎ (status ≡ 10) → HasEnded words most says old new status) → EndsMore words most says old new before after status
+  of_standing : (settings : Settings) (own : List ℕ) → IsStandingTask words most settings own
+      → ((status ≡ 0) ⊎ (status ≡ 7) → HasReduced (task_of settings says own) (by_standing (task_of settings says own)) (text_of settings.source old.files) old new before after status)
+      → ((status ≡ 8) ⊎ (status ≡ 10) → TaskEnded (task_of settings says own) (text_of settings.source old.files) old new status) → EndsMore words most says old new before after status
   of_formula : (settings : Settings) (form : Form) (own : List ℕ) → IsFormulaTask words most settings form own
       → ((status ≡ 0) ⊎ (status ≡ 7) → IsFormulaHeadline (formula_task_of settings form own) (text_of settings.source old.files) old new before after status)
       → (status ≡ 10 → HasFormulaFinished (formula_task_of settings form own) (text_of settings.source old.files) old new status) → (status ≡ 8 → ⊥) → EndsMore words most says old new before after status
@@ -123,8 +141,15 @@ pub data EndsMore (words : List Word) (most : ℕ) (says : Says) (old new : Outs
 -- What holds of the files at every status.
 pub data KeepsMore (words : List Word) (most : ℕ) (says : Says) (old new : Outside) (after : Judging) : Type 0 where
   kept_by_task : KeepsFiles words most says old new after → KeepsMore words most says old new after
+  kept_by_standing : (settings : Settings) (own : List ℕ) → IsStandingTask words most settings own
+      → KeepsTask (task_of settings says own) (by_standing (task_of settings says own)) (text_of settings.source old.files) old new after → KeepsMore words most says old new after
   kept_by_formula : (settings : Settings) (form : Form) (own : List ℕ) → IsFormulaTask words most settings form own
       → KeepsFormula (formula_task_of settings form own) (text_of settings.source old.files) old new after → KeepsMore words most says old new after
+
+-- What the test is asked. Of standing workers no more is said than that no call is taken back.
+pub data AsksMore (words : List Word) (most : ℕ) (says : Says) (old : Outside) (before after : Judging) : Type 0 where
+  asks_as_run : AsksOnly words most says old before after → AsksMore words most says old before after
+  asks_by_standing : (settings : Settings) (own : List ℕ) → IsStandingTask words most settings own → GoesOn before after → AsksMore words most says old before after
 
 -- Completeness of a run by a formula: with all that it needs, it ends with 0, or for want of memory.
 abbrev pub CompletesByFormula : List Word → ℕ → Outside → Outside → Judging → Judging → ℕ → Type 0

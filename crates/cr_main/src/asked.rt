@@ -1,8 +1,8 @@
 // What words ask for is done.
-ghost use Rattle.std.specs.Prelude.{◌≡◌, MatchOption, false, length, string_bytes, true};
+ghost use Rattle.std.specs.Prelude.{◌≡◌, ◌≢◌, MatchOption, false, length, string_bytes, true};
 ghost use Rattle.cr_outside.specs.Test.{asks_test};
 ghost use Rattle.cr_reduce.specs.Bench.{judging, keys_of, says_of};
-ghost use Rattle.cr_main.specs.More.{BeginsWithIf, Does, IsFormula, IsQuiet, IsUnbuilt, MayRun, RunsAsked, word_of};
+ghost use Rattle.cr_main.specs.More.{BeginsWithIf, Does, IsFormula, IsQuiet, IsUnbuilt, MayRun, RunsAsked, standing_modes, word_of};
 ghost use Rattle.cr_main.specs.Task.{IsRunnable};
 ghost use Rattle.cr_main_task.specs.Outside.{outside};
 ghost use Rattle.cr_main_words.specs.Flags.{plain_modes};
@@ -10,16 +10,18 @@ ghost use Rattle.cr_main_words.specs.Flags.{plain_modes};
 use crate::formulas::run_word;
 use crate::given::run_given;
 use crate::messages::USAGE;
+use crate::standing::run_given_standing;
 use cr_main_replay_programs::replay_programs;
 use cr_main_task::{put, status};
 use cr_main_words::{Engine, Modes, Request, Settings};
 use cr_outside::{Files, Judge, Sink, Test};
 use cr_pool::Bench;
 use std::alloc::Global;
+use std::sync::Wait;
 use std::thread::Threads;
 
 /// Does what words ask for.
-pub fn run_request<R: Threads + Sync, F: Files, J: Judge + Send, O: Sink>(
+pub fn run_request<R: Threads + Wait + Sync, F: Files, J: Judge + Send + Drop, O: Sink>(
     rt: &R,
     alloc: Global,
     request: &Request,
@@ -51,7 +53,7 @@ pub fn run_request<R: Threads + Sync, F: Files, J: Judge + Send, O: Sink>(
 }
 
 // Runs the reducer as these settings ask, in these modes. A mode that isn't built is answered as words in no form are.
-fn run_asked<R: Threads + Sync, F: Files, J: Judge + Send, O: Sink>(
+fn run_asked<R: Threads + Wait + Sync, F: Files, J: Judge + Send + Drop, O: Sink>(
     rt: &R,
     alloc: Global,
     settings: &Settings,
@@ -64,27 +66,39 @@ fn run_asked<R: Threads + Sync, F: Files, J: Judge + Send, O: Sink>(
     ensures runs { RunsAsked settings.now modes (says_of J.Judge bench.old)
         (outside F.Outside F.Files.own files.old O.Sink out.old) (outside F.Outside F.Files.own files.new O.Sink out.new)
         (judging J.Judge bench.old) (judging J.Judge bench.new) result }
-    ensures idle { IsUnbuilt modes → bench.new.judges ≡ bench.old.judges }
+    ensures idle { IsUnbuilt settings.now modes → bench.new.judges ≡ bench.old.judges }
     ensures formula { IsFormula settings.now.test → bench.new.judges ≡ bench.old.judges }
     ensures silent { asks_test settings.now.test ≡ false → bench.new.judges ≡ bench.old.judges }
     ensures keys { keys_of J.Judge bench.new ≡ keys_of J.Judge bench.old }
 {
-    if has_flag(modes) {
-        return put(out, USAGE.as_bytes(), status::USAGE, status::USAGE);
-    }
-    match formula_word(&settings.test) {
-        Some(word) => run_word(rt, alloc, settings, word, files, bench, out),
-        None => run_given(rt, alloc, settings, files, bench, out),
+    match (way_of(modes), formula_word(&settings.test)) {
+        (Way::Plain, Some(word)) => run_word(rt, alloc, settings, word, files, bench, out),
+        (Way::Plain, None) => run_given(rt, alloc, settings, files, bench, out),
+        (Way::Standing, None) => run_given_standing(rt, alloc, settings, files, bench, out),
+        (Way::Standing, Some(_)) | (Way::Unbuilt, _) => {
+            put(out, USAGE.as_bytes(), status::USAGE, status::USAGE)
+        }
     }
 }
 
-fn has_flag(modes: Modes) -> bool
-    ensures flag { result ≡ true → modes ≡ plain_modes → ⊥ }
-    ensures none { result ≡ false → modes ≡ plain_modes }
+/// How a reduction is made, as far as it is built.
+enum Way {
+    /// By epochs of threads.
+    Plain,
+    /// By threads that stand for the whole reduction.
+    Standing,
+    Unbuilt,
+}
+
+fn way_of(modes: Modes) -> Way
+    ensures plain { result ≡ Way.Plain → modes ≡ plain_modes }
+    ensures standing { result ≡ Way.Standing → modes ≡ standing_modes }
+    ensures unbuilt { result ≡ Way.Unbuilt → (modes ≢ plain_modes) × (modes ≢ standing_modes) }
 {
-    match modes.engine {
-        Engine::Plain => modes.any_order,
-        Engine::Journal | Engine::Resume | Engine::Standing => true,
+    match (modes.engine, modes.any_order) {
+        (Engine::Plain, false) => Way::Plain,
+        (Engine::Standing, false) => Way::Standing,
+        _ => Way::Unbuilt,
     }
 }
 

@@ -12,6 +12,7 @@ mod laws;
 mod messages;
 mod modes;
 mod names;
+mod standing;
 mod top;
 
 pub use laws::a_name_has_one_own_name;

@@ -4,8 +4,8 @@ ghost use Rattle.cr_outside.specs.Story.{EndsWithFault};
 ghost use Rattle.cr_reduce.specs.Bench.{judging, keys_of, says_of};
 ghost use Rattle.cr_main_task.specs.Outside.{outside};
 ghost use Rattle.cr_main_task.specs.Story.{KeepsJournal};
-ghost use Rattle.cr_main.specs.Headline.{AsksOnly, Promises};
-ghost use Rattle.cr_main.specs.More.{CompletesByFormula, EndsMore, IsPlain, IsSilent, KeepsMore, RunsMore};
+ghost use Rattle.cr_main.specs.Headline.{Promises};
+ghost use Rattle.cr_main.specs.More.{AsksMore, CompletesByFormula, EndsMore, IsPlain, IsSilent, KeepsMore, RunsMore};
 ghost use Rattle.cr_main_words.specs.Words.{texts_of};
 
 use crate::asked::run_request;
@@ -16,10 +16,17 @@ use cr_outside::{Files, Judge, Sink};
 use cr_outside_disk::Disk;
 use cr_pool::Bench;
 use std::alloc::Global;
+use std::sync::Wait;
 use std::thread::Threads;
 
 /// Does what the words after the program's name ask for, and answers the exit status. The disk is a journal's.
-pub fn run_more<R: Threads + Sync, F: Files, J: Judge + Send, O: Sink, D: Disk>(
+pub fn run_more<
+    R: Threads + Wait + Sync,
+    F: Files,
+    J: Judge + Send + Drop,
+    O: Sink,
+    D: Disk,
+>(
     rt: &R,
     alloc: Global,
     list: &[String],
@@ -38,7 +45,7 @@ pub fn run_more<R: Threads + Sync, F: Files, J: Judge + Send, O: Sink, D: Disk>(
         (outside F.Outside F.Files.own files.old O.Sink out.old) (outside F.Outside F.Files.own files.new O.Sink out.new)
         (judging J.Judge bench.old) (judging J.Judge bench.new) result }
 
-    // At 0 and 7 the headline holds, at 8 and 10 the files are those of the reduction as far as it went; or at 0 and 10 the log leads to the
+    // At 0 and 7 the headline holds, by standing workers too, at 8 and 10 the files are those of the reduction as far as it went; or at 0 and 10 the log leads to the
     // file. Of a formula the headline has no premise on the outside, and where it asks for the same behaviour, the result has it.
     ensures ends { EndsMore (texts_of list.now) (length bench.old.judges) (says_of J.Judge bench.old)
         (outside F.Outside F.Files.own files.old O.Sink out.old) (outside F.Outside F.Files.own files.new O.Sink out.new)
@@ -53,8 +60,8 @@ pub fn run_more<R: Threads + Sync, F: Files, J: Judge + Send, O: Sink, D: Disk>(
     ensures journal_kept { KeepsJournal (F.story files.old) (F.story files.new) }
 
     // The test is asked about nothing but the file and smaller, lawful variants of the chain's files, and how often is bounded; a
-    // formula and a replay ask no judge.
-    ensures asks_only { AsksOnly (texts_of list.now) (length bench.old.judges) (says_of J.Judge bench.old) (outside F.Outside F.Files.own files.old O.Sink out.old)
+    // formula and a replay ask no judge. Of standing workers this isn't said.
+    ensures asks_only { AsksMore (texts_of list.now) (length bench.old.judges) (says_of J.Judge bench.old) (outside F.Outside F.Files.own files.old O.Sink out.old)
         (judging J.Judge bench.old) (judging J.Judge bench.new) }
     // Completeness of a formula: with all that it needs, a run by it ends with 0, or for want of memory.
     ensures completes { CompletesByFormula (texts_of list.now) (length bench.old.judges)

@@ -18,6 +18,7 @@ use cr_cursor::{Law, Passes};
 use cr_outside::{Answer, Judge, NoMemory, Question};
 use std::alloc::Global;
 use std::marker::Model;
+use std::mem;
 use std::thread::Threads;
 
 /// At least one judge, at most 32, all of one key. Clauses see the list of the judges, the verdicts that are kept, and how many the
@@ -55,6 +56,28 @@ impl<J: Judge + Drop> Bench<J> {
             verdicts,
             lost: 0,
         })
+    }
+}
+
+impl<J: Judge + Drop> Bench<J> {
+    /// Lends the workers for some work, which hands them back in their order, each with a judge of its judge's key. The kept verdicts
+    /// are forgotten.
+    pub fn lend<R, F: FnOnce(Vec<Worker<J>>) -> (Vec<Worker<J>>, R)>(
+        &mut self,
+        alloc: Global,
+        work: F,
+    ) -> R
+        requires ready { (workers : _) → judges_in workers.items ≡ self.old.judges → F.pre work workers }
+        requires back { (workers : _) (r : _) → judges_in workers.items ≡ self.old.judges → F.post work workers r → map J.key (judges_in r.0.items) ≡ map J.key self.old.judges }
+        ensures work { (workers : _) × (r : _) × (judges_in workers.items ≡ self.old.judges) × F.post work workers r × (judges_in r.0.items ≡ self.new.judges) × (result ≡ r.1) }
+        ensures kept { self.new.kept ≡ [] }
+        ensures lost { self.new.lost ≡ self.old.lost }
+    {
+        let workers = mem::replace(&mut self.workers, Vec::new(alloc));
+        let (workers, result) = work(workers);
+        self.workers = workers;
+        self.verdicts.forget();
+        result
     }
 }
 

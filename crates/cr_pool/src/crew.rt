@@ -26,13 +26,13 @@ use std::thread::Threads;
 pub struct Worker<J> {
     pub judge: J,
     /// There while an epoch runs.
-    pub pass: Option<Pass>,
+    pub(crate) pass: Option<Pass>,
     /// The position that was a hit in the last epoch, if one was.
-    pub hit: Option<(u64, HitKind)>,
+    pub(crate) hit: Option<(u64, HitKind)>,
     /// The variant that was made last.
-    pub variant: Vec<u8>,
+    pub(crate) variant: Vec<u8>,
     /// The verdicts that it came to in the last epoch, each at its position.
-    pub notes: Vec<Option<Verdict>>,
+    pub(crate) notes: Vec<Option<Verdict>>,
 }
 
 fn clear_one<J>(worker: &mut Worker<J>, len: usize, room: usize) -> Result<(), NoMemory>

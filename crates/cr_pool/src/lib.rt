@@ -14,6 +14,7 @@ mod crew;
 mod ending;
 mod epoch;
 mod job;
+mod lending;
 mod looker;
 mod measuring;
 mod remembered;
@@ -23,6 +24,9 @@ mod verdicts;
 mod worker;
 
 pub use bench::Bench;
+pub use crew::Worker;
 pub use job::{EpochEnd, Job};
 pub use looker::Looker;
 pub use measuring::measure;
+pub use verdict::Verdict;
+pub use verdicts::Verdicts;

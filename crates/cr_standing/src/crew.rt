@@ -43,7 +43,7 @@ fn alone<R: Wait, S: Subject<P::Prep>, P: Passes, L: Law, Q: Question, J: Judge 
     plan: &Plan,
     mut walk: Walk<P::Prep>,
 ) -> Ended<J, P::Prep>
-    requires about { IsAbout (searching_by P.Passes L.Law Q.Question task.now S.told) (P.offer task.now.passes.now) S.orders S.replies }
+    requires about { IsAbout (searching_by P.Passes L.Law Q.Question task.now S.told) (P.offer task.now.passes.now) S.orders S.replies S.verdicts }
     requires told { J.says (J.key judge) ≡ S.told }
     requires joined { AreJoined lines.now }
     requires seats { AreSeats lines.now seat }
@@ -102,7 +102,7 @@ pub fn crew<
 ) -> Ended<J, P::Prep>
 where
     P::Prep: Send + Sync,
-    requires about { IsAbout (searching_by P.Passes L.Law Q.Question task.now S.told) (P.offer task.now.passes.now) S.orders S.replies }
+    requires about { IsAbout (searching_by P.Passes L.Law Q.Question task.now S.told) (P.offer task.now.passes.now) S.orders S.replies S.verdicts }
     requires told { J.says (J.key judge) ≡ S.told }
     requires all_told { AllAre (λ j. J.says (J.key j) ≡ S.told) others.items }
     requires joined { AreJoined lines.now }
@@ -131,7 +131,7 @@ where
         rt,
         |scope| -> Ended<J, P::Prep>
             requires sync { IsSync R.row }
-            requires about { IsAbout (searching_by P.Passes L.Law Q.Question task.now S.told) (P.offer task.now.passes.now) S.orders S.replies }
+            requires about { IsAbout (searching_by P.Passes L.Law Q.Question task.now S.told) (P.offer task.now.passes.now) S.orders S.replies S.verdicts }
             requires told { J.says (J.key judge) ≡ S.told }
             requires other_told { J.says (J.key other) ≡ S.told }
             requires all_told { AllAre (λ j. J.says (J.key j) ≡ S.told) others.items }
@@ -153,7 +153,7 @@ where
             let started = scope.spawn_with(
                 word,
                 move || -> J
-                    requires about { IsAbout (searching_by P.Passes L.Law Q.Question task.now S.told) (P.offer task.now.passes.now) S.orders S.replies }
+                    requires about { IsAbout (searching_by P.Passes L.Law Q.Question task.now S.told) (P.offer task.now.passes.now) S.orders S.replies S.verdicts }
                     requires told { J.says (J.key other) ≡ S.told }
                     requires joined { AreJoined lines.now }
                     requires seats { AreSeats lines.now other_seat }

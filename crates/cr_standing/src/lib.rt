@@ -1,6 +1,6 @@
 //! The greedy reduction by workers that stay for the whole of it.
 //!
-//! `reduce_standing` starts a thread for each judge but the first, once. The caller sends orders, each a position of a file, through
+//! `reduce_by_judges` starts a thread for each judge but the first, once. The caller sends orders, each a position of a file, through
 //! a channel; the workers try the variants there and reply through another. Each channel has a rule: that each order is one of a
 //! position of its file's offer, and that each reply says what is so. Both rules are about the passes, the law, the question and the
 //! judges of this call, which the types of the channels carry as a parameter that the call picks. The caller works too, decides an
@@ -16,8 +16,10 @@
 mod collect;
 mod crew;
 mod epoch;
+mod lent;
 mod standing;
 mod walk;
 mod walking;
 
-pub use standing::reduce_standing;
+pub use lent::reduce_standing;
+pub use standing::reduce_by_judges;

@@ -19,11 +19,11 @@ use crate::walk::{Walk, begin, end_of};
 use cr_cursor::{Law, Passes};
 use cr_outside::{Judge, Question};
 use cr_reduce::{End, Plan, Why};
-use cr_standing_workers::{Fit, Hint, Lines, Order, Reply, Seat, Subject, Task, True};
+use cr_standing_workers::{Fit, Hint, Lines, Memory, Order, Reply, Seat, Subject, Task, True};
 use crossbeam_channel::bounded_with;
 use std::alloc::Global;
 use std::marker::Brand;
-use std::sync::Wait;
+use std::sync::{Mutex, Wait};
 use std::thread::Threads;
 
 /// How many orders may be out for each thread.
@@ -32,9 +32,8 @@ const AHEAD: u64 = 8;
 /// Reduces a lawful file as `reduce` of `cr_reduce` does, by these judges, each in a thread that stays for the whole reduction, but the
 /// first, which is the caller's. Hands the judges back in their order.
 ///
-/// It may wait: for the judges, and for the workers. Where a thread can't be started the others do its part. The judges' verdicts
-/// aren't remembered.
-pub fn reduce_standing<
+/// It may wait: for the judges, and for the workers. Where a thread can't be started the others do its part.
+pub fn reduce_by_judges<
     R: Threads + Wait + Sync,
     P: Passes + Sync,
     L: Law + Sync,
@@ -117,7 +116,7 @@ fn run<
 ) -> (Vec<J>, End)
 where
     P::Prep: Send + Sync,
-    requires about { IsAbout (searching_by P.Passes L.Law Q.Question task.now S.told) (P.offer task.now.passes.now) S.orders S.replies }
+    requires about { IsAbout (searching_by P.Passes L.Law Q.Question task.now S.told) (P.offer task.now.passes.now) S.orders S.replies S.verdicts }
     requires told { AllAre (λ j. J.says (J.key j) ≡ S.told) judges.items }
     requires some { (0 < length judges.items) × (length judges.items ≤ 32) }
     requires workers { (0 < plan.now.workers) × (plan.now.workers ≤ length judges.items) }
@@ -142,17 +141,22 @@ where
     >(alloc, capacity) else {
         return (judges, untouched(alloc, file));
     };
+    let Ok(remembered) = Memory::<S, P::Prep>::new(alloc) else {
+        return (judges, untouched(alloc, file));
+    };
     let walk = match begin(alloc, task.passes, file) {
         Ok(walk) => walk,
         Err(file) => return (judges, untouched(alloc, file)),
     };
     let hint = Hint::new();
+    let memory = Mutex::new(remembered);
     let lines = Lines {
         orders: &orders,
         orders_out: &orders_out,
         replies: &replies,
         replies_out: &replies_out,
         hint: &hint,
+        memory: &memory,
     };
     let seat = Seat {
         orders: orders_pass,
@@ -188,7 +192,7 @@ fn man<
 ) -> Ended<J, P::Prep>
 where
     P::Prep: Send + Sync,
-    requires about { IsAbout (searching_by P.Passes L.Law Q.Question task.now S.told) (P.offer task.now.passes.now) S.orders S.replies }
+    requires about { IsAbout (searching_by P.Passes L.Law Q.Question task.now S.told) (P.offer task.now.passes.now) S.orders S.replies S.verdicts }
     requires told { AllAre (λ j. J.says (J.key j) ≡ S.told) judges.items }
     requires some { 0 < length judges.items }
     requires workers { 0 < plan.now.workers }

@@ -55,7 +55,7 @@ fn try_next<R: Wait, S: Subject<P::Prep>, P: Passes, L: Law, Q: Question, J: Jud
     len: u64,
     course: &mut Course,
 ) -> EpochEnd
-    requires about { IsAbout (searching_by P.Passes L.Law Q.Question task.now S.told) (P.offer task.now.passes.now) S.orders S.replies }
+    requires about { IsAbout (searching_by P.Passes L.Law Q.Question task.now S.told) (P.offer task.now.passes.now) S.orders S.replies S.verdicts }
     requires told { J.says (J.key judge.old) ≡ S.told }
     requires joined { AreJoined lines.now }
     requires seats { AreSeats lines.now seat.old }
@@ -98,7 +98,7 @@ fn take_found<S: Subject<P::Prep>, P: Passes, L: Law, Q: Question>(
     walk: &mut Walk<P::Prep>,
     position: u64,
 ) -> Result<(), NoMemory>
-    requires about { IsAbout (searching_by P.Passes L.Law Q.Question task.now S.told) (P.offer task.now.passes.now) S.orders S.replies }
+    requires about { IsAbout (searching_by P.Passes L.Law Q.Question task.now S.told) (P.offer task.now.passes.now) S.orders S.replies S.verdicts }
     requires sound { IsSound (P.offers task.now.passes.now) (P.offer task.now.passes.now) walk.old }
     requires from { walk.old.position ≤ position }
     requires below { position < walk.old.count }
@@ -127,7 +127,7 @@ fn look<R: Wait, S: Subject<P::Prep>, P: Passes, L: Law, Q: Question, J: Judge>(
     walk: &mut Walk<P::Prep>,
     course: &mut Course,
 ) -> Option<Why>
-    requires about { IsAbout (searching_by P.Passes L.Law Q.Question task.now S.told) (P.offer task.now.passes.now) S.orders S.replies }
+    requires about { IsAbout (searching_by P.Passes L.Law Q.Question task.now S.told) (P.offer task.now.passes.now) S.orders S.replies S.verdicts }
     requires told { J.says (J.key judge.old) ≡ S.told }
     requires joined { AreJoined lines.now }
     requires seats { AreSeats lines.now seat.old }
@@ -183,7 +183,7 @@ fn advance<R: Wait, S: Subject<P::Prep>, P: Passes, L: Law, Q: Question, J: Judg
     walk: &mut Walk<P::Prep>,
     course: &mut Course,
 ) -> Option<Why>
-    requires about { IsAbout (searching_by P.Passes L.Law Q.Question task.now S.told) (P.offer task.now.passes.now) S.orders S.replies }
+    requires about { IsAbout (searching_by P.Passes L.Law Q.Question task.now S.told) (P.offer task.now.passes.now) S.orders S.replies S.verdicts }
     requires told { J.says (J.key judge.old) ≡ S.told }
     requires joined { AreJoined lines.now }
     requires seats { AreSeats lines.now seat.old }
@@ -228,7 +228,7 @@ pub fn walk_on<R: Wait, S: Subject<P::Prep>, P: Passes, L: Law, Q: Question, J: 
     plan: &Plan,
     walk: &mut Walk<P::Prep>,
 ) -> Why
-    requires about { IsAbout (searching_by P.Passes L.Law Q.Question task.now S.told) (P.offer task.now.passes.now) S.orders S.replies }
+    requires about { IsAbout (searching_by P.Passes L.Law Q.Question task.now S.told) (P.offer task.now.passes.now) S.orders S.replies S.verdicts }
     requires told { J.says (J.key judge.old) ≡ S.told }
     requires joined { AreJoined lines.now }
     requires seats { AreSeats lines.now seat.old }

@@ -1,6 +1,8 @@
 -- The rules of the two channels.
 use Rattle.std.specs.Prelude.{◌≡◌, ℕ, ◌+◌, ◌<◌, List, [], ◌∷◌}
 use Rattle.std.specs.Arc.{arc_value}
+use Rattle.cr_pool.specs.declared.verdict.Verdict.{Verdict}
+use Rattle.cr_pool.specs.Kept.{Keeps, Kept}
 use Rattle.crossbeam_channel.specs.Claims.{IsSeatAt}
 use Rattle.crossbeam_channel.specs.Ends.{receives_on, sends_on}
 use Rattle.cr_standing_workers.specs.declared.channels.Lines.{Lines}
@@ -11,6 +13,10 @@ use Rattle.cr_standing_workers.specs.declared.orders.Place.{Place}
 use Rattle.cr_standing_workers.specs.declared.orders.Reply.{Reply}
 use Rattle.cr_standing_workers.specs.declared.orders.Shared.{Shared}
 use Rattle.cr_standing_workers.specs.declared.orders.Trial.{Trial}
+
+-- each of these verdicts may be remembered
+abbrev pub AreRemembered : (List ℕ → Verdict → Type 0) → List Kept → Type 0
+AreRemembered Verdicts kept = (file : List ℕ) (verdict : Verdict) → Keeps kept file verdict → Verdicts file verdict
 
 -- each of these is so
 abbrev pub AllAre : {A : Type 0} → (A → Type 0) → List A → Type 0

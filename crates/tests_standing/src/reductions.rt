@@ -6,7 +6,7 @@ use crate::judges::{Knowing, Meeting};
 use cr_cursor::TokenLaw;
 use cr_outside::{Answer, Judge, Test};
 use cr_reduce::{End, Plan, Why};
-use cr_standing::reduce_standing;
+use cr_standing::reduce_by_judges;
 use cr_tokens::read;
 use pass_list::CPasses;
 use std::alloc::{AllocError, Global};
@@ -52,7 +52,7 @@ fn reduced<R: Threads + Wait + Abort + Sync, J: Judge + Send + Drop>(
     };
     let question = Test::Program(String::from_str(alloc, "t")?);
     let passes = CPasses::lines();
-    Ok(reduce_standing(
+    Ok(reduce_by_judges(
         rt, alloc, &passes, &TokenLaw, &question, judges, "t.c", file, &plan,
     ))
 }

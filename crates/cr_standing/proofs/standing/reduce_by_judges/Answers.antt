@@ -4,10 +4,10 @@ use Rattle.cr_pool.specs.Tally.{first_says}
 use Rattle.cr_reduce.specs.Search.{search_of}
 use Rattle.cr_standing_workers.proofs.Judges.{all_say}
 use Rattle.cr_standing.proofs.Reading.{cause_of, ends_as_told, fixed_as_told, in_time}
-use Rattle.cr_standing.proofs.standing.reduce_standing.Goals as goal
+use Rattle.cr_standing.proofs.standing.reduce_by_judges.Goals as goal
 
 pub run-requires-clause-about : goal.run-requires-clause-about
-run-requires-clause-about g c = λ sends shares. record { order_in = λ _ _ _ _ it. it; order_out = λ _ _ _ _ it. it; reply_in = λ _ _ _ it. it; reply_out = λ _ _ _ it. it }
+run-requires-clause-about g c = λ sends shares. record { order_in = λ _ _ _ _ it. it; order_out = λ _ _ _ _ it. it; reply_in = λ _ _ _ it. it; reply_out = λ _ _ _ it. it; verdict_in = λ _ _ it. it; verdict_out = λ _ _ it. it }
 
 pub run-requires-clause-told : goal.run-requires-clause-told
 run-requires-clause-told g c = λ sends shares. all_say g.J.Judge.key g.J.Judge.says c.args.judges.items c.requires.manned.2
