@@ -7,8 +7,9 @@ use Rattle.cr_outside.specs.declared.judge.Answer.TheVariants.{Yes, No, Failed, 
 use Rattle.cr_meaning.specs.declared.run.Limits.{Limits}
 use Rattle.cr_formula.specs.Forms.{Form}
 use Rattle.cr_formula.specs.Forms.Form.{both, either, ends, has, negated, prints, same}
-use Rattle.cr_lawful.specs.Runs.{ComesToEnd}
+use Rattle.cr_lawful.specs.Runs.{ComesToEnd, EndsAs}
 use Rattle.cr_lawful.specs.declared.ends.Ended.{Ended}
+use Rattle.cr_formula_bound.specs.declared.file_end.FileEnd.{FileEnd}
 
 -- the bytes stand in others as an unbroken run
 abbrev pub StandsIn : List ℕ → List ℕ → Type 0
@@ -67,3 +68,7 @@ EndsBy status end = (output : List ℕ) × EndedWith end status output
 
 abbrev pub SameBy : Option Ended → Ended → Type 0
 SameBy end input = (status : ℕ) × (output : List ℕ) × EndedWith end status output × EndedWith (Some input) status output
+
+-- what is known of how a file's run ends is right
+abbrev pub IsKnown : Ending → FileEnd → Type 0
+IsKnown E run = run.is_known ≡ true → EndsAs E run.end

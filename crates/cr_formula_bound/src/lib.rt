@@ -4,6 +4,7 @@
 #![tactic(auto)]
 
 mod bound;
+mod file_end;
 mod run;
 mod value;
 

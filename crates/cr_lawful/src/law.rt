@@ -7,7 +7,7 @@ ghost use Rattle.cr_lawful.specs.Programs.{IsProgram};
 ghost use Rattle.cr_lawful.specs.Runs.{CameTo, ComesToEnd};
 
 use crate::ends::Ended;
-use crate::last_run::LastRun;
+use crate::last_runs::LastRuns;
 use crate::program::{Program, reading_of};
 use crate::reasons::run_ruling;
 use crate::units::program_of_file;
@@ -26,8 +26,8 @@ pub struct CLaw<'a> {
     pub limits: Limits,
     /// Where what was read of a lawful file is left.
     pub last: Option<&'a LastRead>,
-    /// Where it is left how the run of a lawful file ended.
-    pub runs: Option<&'a LastRun>,
+    /// Where it is left how the runs of lawful files ended.
+    pub runs: Option<&'a LastRuns>,
 }
 
 impl<'a> CLaw<'a> {
@@ -49,7 +49,7 @@ impl<'a> CLaw<'a> {
     }
 
     /// The same law, which leaves there how the run of each lawful file ended.
-    pub fn leaving_runs(self, runs: &'a LastRun) -> CLaw<'a>
+    pub fn leaving_runs(self, runs: &'a LastRuns) -> CLaw<'a>
         ensures { result.limits ≡ self.entry.limits }
     {
         CLaw {
@@ -172,7 +172,7 @@ fn leave_end(alloc: Global, file: &[u8], law: &CLaw<'_>, end: Ended)
     }
 }
 
-fn leave_at(alloc: Global, file: &[u8], limits: Limits, end: Ended, runs: &LastRun)
+fn leave_at(alloc: Global, file: &[u8], limits: Limits, end: Ended, runs: &LastRuns)
     requires { ComesToEnd limits file.now end.status end.output }
 {
     match file.to_vec(alloc) {

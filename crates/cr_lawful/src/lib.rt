@@ -6,11 +6,11 @@
 //! the first constraint that it breaks, then the case at which its run ends. It stands on the lexer, the parsers, the names, the whole
 //! check and the run of a typed unit, and on `cr_cursor` for the trait.
 //!
-//! `end_of` says how the run of a file ends; `LastRun` is where the law leaves that of the last lawful file.
+//! `end_of` says how the run of a file ends; `LastRuns` is where the law leaves those of the last lawful files.
 #![tactic(auto)]
 
 mod ends;
-mod last_run;
+mod last_runs;
 mod law;
 mod laws;
 mod program;
@@ -18,6 +18,6 @@ mod reasons;
 mod units;
 
 pub use ends::{Ended, a_file_has_one_end, end_of};
-pub use last_run::LastRun;
+pub use last_runs::LastRuns;
 pub use law::CLaw;
 pub use laws::{a_file_has_one_reason, lawful_files_have_no_reason};

@@ -14,7 +14,7 @@ use crate::messages::USAGE;
 use crate::names::own_name;
 use cr_formula::{Formula, FormulaFault};
 use cr_gen::make;
-use cr_lawful::{CLaw, LastRun};
+use cr_lawful::{CLaw, LastRuns};
 use cr_lawful_analysis::LastRead;
 use cr_main_formula::{run_formula, run_formula_on};
 use cr_main_task::{Task, put, status};
@@ -73,8 +73,11 @@ fn run_by<R: Threads + Sync, F: Files, J: Judge + Send, O: Sink>(
     ensures keys { keys_of J.Judge bench.new ≡ keys_of J.Judge bench.old }
 {
     let name = source_name(&settings.source);
+    let own = own_name(name);
+    let Ok(runs) = LastRuns::new(alloc, settings.workers) else {
+        return status::NO_MEMORY;
+    };
     let last = LastRead::new();
-    let runs = LastRun::new();
     let passes = CPasses {
         enabled: settings.enabled,
         last: Some(&last),
@@ -88,7 +91,7 @@ fn run_by<R: Threads + Sync, F: Files, J: Judge + Send, O: Sink>(
         window: settings.window,
         limit: settings.limit,
         name,
-        own: own_name(name),
+        own,
         saves: is_saved(&settings.source),
     };
     match &settings.source {
