@@ -1,5 +1,6 @@
 // Judges for tests.
 ghost use Rattle.std.specs.Prelude.{None};
+
 use cr_outside::{Answer, Judge};
 use std::alloc::Global;
 use std::sync::atomic::{AtomicU64, Ordering};

@@ -58,7 +58,10 @@ fn reduced<R: Threads + Wait + Abort + Sync, J: Judge + Send + Drop>(
 }
 
 fn is_wanted(end: &End) -> bool {
-    end.file.as_slice() == ONE && end.turns == 32 && end.why == Why::Fixed && end.accepted.len() == 2
+    end.file.as_slice() == ONE
+        && end.turns == 32
+        && end.why == Why::Fixed
+        && end.accepted.len() == 2
         && end.accepted[0].turn == 15
         && end.accepted[0].size == 68
         && end.accepted[0].at.index == 1
