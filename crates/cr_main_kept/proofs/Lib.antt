@@ -3,6 +3,4 @@ pub mod Stories
 pub mod Ends
 pub mod Copies
 pub mod Going
-pub mod Over
-pub mod Safe
 pub mod Surviving

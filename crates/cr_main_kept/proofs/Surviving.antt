@@ -17,6 +17,9 @@ use Rattle.cr_journal_rows.specs.declared.fault.JournalFault.{JournalFault}
 use Rattle.cr_journal_rows.specs.declared.fault.JournalFault.TheVariants as journal_fault
 use Rattle.cr_journal_rows.specs.declared.header.Header.{Header}
 use Rattle.cr_journal_rows.proofs.Codec.{one_row}
+use Rattle.cr_journal_stops.specs.Laws.{Spares}
+use Rattle.cr_journal_stops.specs.Stops.{SafeTold, StaysSafe, StaysSafeTold}
+use Rattle.cr_journal_stops.proofs.Safe.{copy_phase, file_phase, first_may, first_of, journal_phase, no_phase, other_phase, phases, put_other, put_same, read_phase, safe_now}
 use Rattle.cr_log.specs.Texts.{log_text_of, summary_text_of}
 use Rattle.cr_outside.specs.Files.{Shows}
 use Rattle.cr_outside.specs.Sink.{appended}
@@ -24,7 +27,7 @@ use Rattle.cr_outside.specs.Story.{Story, changes_of, files_now, files_told, wit
 use Rattle.cr_outside.specs.Story.Event.{Read, Wrote}
 use Rattle.cr_outside.specs.declared.story.Outcome.{Outcome as Called}
 use Rattle.cr_outside.specs.declared.story.Outcome.TheVariants as called
-use Rattle.cr_outside_disk.specs.Moments.{AlwaysTold, EveryTold, LastsTold, seen}
+use Rattle.cr_outside_disk.specs.Moments.{EveryTold, seen}
 use Rattle.cr_outside_disk.proofs.Images.{seen_is_image}
 use Rattle.cr_reduce.specs.Bench.{Judging}
 use Rattle.cr_reduce.specs.Bound.{HasLevels}
@@ -54,10 +57,8 @@ use Rattle.cr_main_kept.specs.Kept.LacksCopy.{not_there as lacks_not_there, unre
 use Rattle.cr_main_kept.specs.Kept.RunsJournal.{unstarted as keeping_unstarted, found as keeping_found, fresh as keeping_fresh}
 use Rattle.cr_main_kept.specs.Kept.RunsResume.{unrecovered as resuming_unrecovered, anew as resuming_anew, further as resuming_further}
 use Rattle.cr_main_kept.specs.Lines.{fault_line, refused_line}
-use Rattle.cr_main_kept.specs.Stops.{SafeTold, StaysSafe, StaysSafeTold}
 use Rattle.cr_main_kept.specs.Surviving.{HasResult, IsSafeFor, IsWhole, Survives}
 use Rattle.cr_main_kept.specs.declared.header.Marks.{Marks}
-use Rattle.cr_main_kept.proofs.Safe.{copy_phase, file_phase, first_may, first_of, journal_phase, no_phase, other_phase, phases, put_other, put_same, read_phase, safe_now}
 use Rattle.cr_main_task.specs.Beginning.{HasBegun, StopsEarly}
 use Rattle.cr_main_task.specs.Beginning.StopsEarly.{refused as early_refused, wanting as early_wanting, not_copied as early_not_copied}
 use Rattle.cr_main_task.specs.Messages.{copy_name, log_name}
@@ -259,9 +260,14 @@ module _ (t : Task) (marks : Marks) (bytes : List ℕ) (size : ℕ) (out : Outco
   first_everywhere : (h : Body) (told : Option Story) → EveryTold (Stands (h ∷ [])) told → EveryTold StandsFirst told
   first_everywhere h told stands = weaker (Stands (h ∷ [])) StandsFirst told (λ image. first_of h [] image) stands
 
+  -- once the copy is there, any call on the journal spares
+  spared : (old new : Option Story) → FileHas (files_told old) copy bytes → Spares copy bytes old new
+  spared None new has = inr tt
+  spared (Some s) new has = inr has
+
   -- a call on the journal
   journal_stays : (old new : Option Story) → Safe old → (Are : List Body → Type 0) → Journals Are old new → Are (header ∷ rest)
-      → ((EveryTold (IsKept []) old → AlwaysTold (IsKept []) old new) ⊎ FileHas (files_told old) copy bytes) → Stays old new
+      → Spares copy bytes old new → Stays old new
   journal_stays old new safe Are journal are spares =
       journal_phase copy t.name bytes header rest old new safe (journal.kept (header ∷ rest) are (kept_told old safe)) spares journal.lasts
 
@@ -334,14 +340,14 @@ module _ (t : Task) (marks : Marks) (bytes : List ℕ) (size : ℕ) (out : Outco
   ends_so kept_at old_size old new before after has_failed status size_is goes safe rests (ending_cut_off end ended claims journal failed put) =
       let are : AreOfReduction t.search t.limit kept_at old.story (header ∷ rest) = record { told = whole.told; header = header; rests = rests; out = out; reduction = goes; are = refl } in
       let stands = first_everywhere header old.story (rest_first header (map row_body kept_at.accepted.items) old.story rests) in (
-        journal_stays old.story new.story safe (AreOfReduction t.search t.limit kept_at old.story) journal are (inr (copy_there old.story safe stands)),
+        journal_stays old.story new.story safe (AreOfReduction t.search t.limit kept_at old.story) journal are (spared old.story new.story (copy_there old.story safe stands)),
         λ done. absurd (never_put old new _ 12 status put (λ e. omega (arith, e)) (λ e. omega (arith, e)) done),
       )
   ends_so kept_at old_size old new before after has_failed status size_is goes safe rests (ending_concluded end reduced new_size claims journalled sized ends) =
       let are : AreOfReduction t.search t.limit kept_at old.story (header ∷ rest) = record { told = whole.told; header = header; rests = rests; out = out; reduction = goes; are = refl } in
       let header_there = rest_first header (map row_body kept_at.accepted.items) old.story rests in
       let stands = first_everywhere header old.story header_there in
-      let first = journal_stays old.story reduced.story safe (AreOfReduction t.search t.limit kept_at old.story) journalled.journal are (inr (copy_there old.story safe stands)) in
+      let first = journal_stays old.story reduced.story safe (AreOfReduction t.search t.limit kept_at old.story) journalled.journal are (spared old.story reduced.story (copy_there old.story safe stands)) in
       let still_stands = first_everywhere header reduced.story (lasts_now (Stands (header ∷ [])) old.story reduced.story (journalled.journal.lasts (header ∷ [])) header_there) in
       from_earlier old reduced new status first journalled.output
       (concluded kept_at reduced new end new_size status goes (now_safe old.story reduced.story first) still_stands (claims.reduction whole.told) sized
@@ -411,7 +417,7 @@ module _ (t : Task) (marks : Marks) (bytes : List ℕ) (size : ℕ) (out : Outco
       let (to_copied, copy_is, size_is) = begun_stays read copied before after old_size (now_safe old.story read.story to_read) (subst (λ (b : List ℕ). HasBegun t b read copied before after old_size) is begun) in
       let all = then_stays old.story read.story copied.story to_read to_copied in
       let are : BeginWith (header_of marks t.limit old_size) (header ∷ rest) = (rest, (λ i. header_body (header_of marks t.limit (sym size_is i)) ∷ rest)) in (
-        then_stays old.story copied.story new.story all (journal_stays copied.story new.story (now_safe old.story copied.story all) (BeginWith (header_of marks t.limit old_size)) journal are (inr copy_is)),
+        then_stays old.story copied.story new.story all (journal_stays copied.story new.story (now_safe old.story copied.story all) (BeginWith (header_of marks t.limit old_size)) journal are (spared copied.story new.story copy_is)),
         λ done. absurd (never_stops copied new why status put done),
       )
   runs_first old new before after has_failed status told safe none (first_begun other read copied started since old_size kept_at opened begun journalled rests is_first ends) =
@@ -422,7 +428,7 @@ module _ (t : Task) (marks : Marks) (bytes : List ℕ) (size : ℕ) (out : Outco
       let all = then_stays old.story read.story copied.story to_read to_copied in
       let are : BeginWith (header_of marks t.limit old_size) (header ∷ rest) = (rest, (λ i. header_body (header_of marks t.limit (sym size_is i)) ∷ rest)) in
       let to_started = then_stays old.story copied.story started.story all
-      (journal_stays copied.story started.story (now_safe old.story copied.story all) (BeginWith (header_of marks t.limit old_size)) journalled.journal are (inr copy_is)) in
+      (journal_stays copied.story started.story (now_safe old.story copied.story all) (BeginWith (header_of marks t.limit old_size)) journalled.journal are (spared copied.story started.story copy_is)) in
       let first_kept = subst (λ (b : List ℕ). IsFirst b kept_at) is is_first in
       let none_yet : Front kept_at.accepted.items out.accepted = (out.accepted, ap (λ (l : List Accepted). l ++ out.accepted) (sym first_kept.none)) in
       let header_rests : EveryTold (AtRest (journal_of header kept_at.accepted.items)) started.story =

@@ -1,19 +1,17 @@
 -- A run that is kept survives its stops: the theorem, for one call.
-use Rattle.std.specs.Prelude.{◌≡◌, ◌⊎◌, ℕ, List, [], Option, Some}
+use Rattle.std.specs.Prelude.{◌≡◌, ◌⊎◌, ℕ, List, Some}
 use Rattle.cr_journal_records.specs.Records.{Body}
 use Rattle.cr_journal_rows.specs.Forms.{bodies_of}
+use Rattle.cr_journal_stops.specs.Stops.{IsSafe, StaysSafe}
 use Rattle.cr_log.specs.Texts.{log_text_of, summary_text_of}
-use Rattle.cr_outside.specs.Files.{content_of}
 use Rattle.cr_outside.specs.Sink.{appended}
-use Rattle.cr_outside.specs.Story.{Story, files_now, files_told}
-use Rattle.cr_outside_disk.specs.Moments.{IsImage}
+use Rattle.cr_outside.specs.Story.{Story, files_told}
 use Rattle.cr_reduce.specs.Ends.{outcome_of}
 use Rattle.cr_reduce.specs.Reduction.{Outcome}
 use Rattle.cr_reduce.specs.Search.{IsAllTold, ReducesFileAsTold}
 use Rattle.cr_reduce.specs.Sizes.{HasSize}
 use Rattle.cr_reduce.specs.declared.end.End.{End}
 use Rattle.cr_main_kept.specs.Header.{header_of}
-use Rattle.cr_main_kept.specs.Stops.{IsSafe, StaysSafe}
 use Rattle.cr_main_kept.specs.declared.header.Marks.{Marks}
 use Rattle.cr_main_task.specs.Messages.{copy_name, log_name}
 use Rattle.cr_main_task.specs.Outside.{Outside}
@@ -54,17 +52,3 @@ Survives t marks old new status =
     (bytes : List ℕ) (size : ℕ) (out : Outcome) (first : Story) → IsWhole t bytes size out → old.story ≡ Some first → IsSafeFor t marks bytes size out first
     → (last : Story) × (new.story ≡ Some last) × StaysSafe (copy_name t.name) t.name bytes (records_of t marks size out) first last
     × ((status ≡ 0) ⊎ (status ≡ 7) → HasResult t bytes size out old new status)
-
--- ---- between two calls
-
--- the story that begins where power was cut: the files as they were, and an image of the journal
-abbrev pub cut_at : Story → List ℕ → Story
-cut_at s image = record { files = files_now s; journal = image; events = [] }
-
--- What could be gone on with can be after a cut of the power, whatever it left of the journal.
-abbrev pub CutsAreSafe : Type 0
-CutsAreSafe = (copy name bytes : List ℕ) (all : List Body) (s : Story) (image : List ℕ) → IsSafe copy name bytes all s → IsImage s image → IsSafe copy name bytes all (cut_at s image)
-
--- A file that is there, and an empty journal, can be gone on with.
-abbrev pub BeginningsAreSafe : Type 0
-BeginningsAreSafe = (copy name bytes : List ℕ) (all : List Body) (s : Story) → s.journal ≡ [] → s.events ≡ [] → content_of (files_now s) name ≡ Some bytes → IsSafe copy name bytes all s

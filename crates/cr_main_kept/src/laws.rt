@@ -1,6 +1,5 @@
-//! What always holds of stops: each law is the clause of a function that does nothing.
+//! What always holds of kept runs: the law is the clause of a function that does nothing.
 ghost use Rattle.cr_main_kept.specs.Laws.{RunsSurvive};
-ghost use Rattle.cr_main_kept.specs.Surviving.{BeginningsAreSafe, CutsAreSafe};
 
 use cr_cursor::{Law, Passes};
 use cr_outside::Question;
@@ -12,10 +11,4 @@ pub fn a_kept_run_survives_its_stops<P: Passes, L: Law, Q: Question>(
     question: &Q,
 )
     ensures { RunsSurvive (P.offers passes.now) (L.lawful law.now) (L.reasons law.now) (Q.asks question.now) (Q.tells question.now) }
-{}
-
-/// Before the first run, and after a cut of the power at any moment, a reduction can be gone on with.
-pub fn a_stop_leaves_what_can_be_gone_on_with()
-    ensures beginnings { BeginningsAreSafe }
-    ensures cuts { CutsAreSafe }
 {}
