@@ -5,9 +5,9 @@ ghost use Rattle.cr_pool.specs.Bench.{IsManned};
 use crate::judges::{Knowing, Meeting};
 use cr_cursor::TokenLaw;
 use cr_outside::{Answer, Judge, Test};
+use cr_pool::measure;
 use cr_reduce::{End, Plan, Why};
 use cr_standing::reduce_standing;
-use cr_tokens::read;
 use pass_list::CPasses;
 use std::alloc::{AllocError, Global};
 use std::process::Abort;
@@ -42,8 +42,8 @@ fn reduced<R: Threads + Wait + Abort + Sync, J: Judge + Send + Drop>(
     requires window { (0 < window) × (window ≤ 4096) }
 {
     let file = Vec::from_array(alloc, *b"int a;\nint b;\nint c;\n")?;
-    let Ok(_tokens) = read(alloc, &file) else {
-        panic!(rt; "the lines don't tokenise");
+    let Some(_size) = measure(alloc, file.as_slice())? else {
+        panic!(rt; "the lines have no size");
     };
     let plan = Plan {
         workers: judges.len() as u32,
@@ -121,7 +121,7 @@ fn the_first_judges_failed_test_ends_it(rt: HostRuntime) -> Result<(), AllocErro
     let (judges, end) = reduced(&rt, rt.alloc(), judges, 8)?;
     assert!(rt; end.why == Why::Fault(14, 0));
     assert!(rt; end.turns == 13 && end.file.as_slice() == LINES);
-    assert!(rt; judges[0].faults > 0);
+    assert!(rt; judges.first().is_some_and(|judge| judge.faults > 0));
     Ok(())
 }
 
@@ -130,13 +130,16 @@ fn trials_run_at_once(rt: HostRuntime) -> Result<(), AllocError> {
     let begun = AtomicU64::new(0);
     let missed = AtomicU64::new(0);
     let mut judges = Vec::new(rt.alloc());
-    for _ in 0..2 {
-        judges.push(Meeting {
-            begun: &begun,
-            missed: &missed,
-            asked: 0,
-        })?;
-    }
+    judges.push(Meeting {
+        begun: &begun,
+        missed: &missed,
+        asked: 0,
+    })?;
+    judges.push(Meeting {
+        begun: &begun,
+        missed: &missed,
+        asked: 0,
+    })?;
     let (judges, end) = reduced(&rt, rt.alloc(), judges, 8)?;
     assert!(rt; end.why == Why::Fixed && end.turns == 18);
     assert!(rt; missed.load(Ordering::SeqCst) == 0);
