@@ -21,7 +21,7 @@ pub enum JournalFault {
     Differs(u32),
 }
 
-/// The fault of a call on the disk.
+/// What a refused call on the disk is to a journal.
 pub fn from_disk(fault: DiskFault) -> JournalFault
     ensures { result ≡ fault_of_disk fault }
 {

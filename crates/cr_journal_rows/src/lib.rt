@@ -12,7 +12,7 @@ mod laws;
 mod number;
 mod row;
 
-pub use fault::JournalFault;
+pub use fault::{JournalFault, from_disk};
 pub use header::Header;
 pub use journal::{add, begin, recover};
 pub use laws::a_body_is_of_one_row;

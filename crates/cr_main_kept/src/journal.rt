@@ -6,8 +6,7 @@ ghost use Rattle.cr_main_kept.specs.Lines.{IsDiskFault};
 ghost use Rattle.cr_main_kept.specs.Kept.{BeginWith, Journals};
 ghost use Rattle.cr_outside_disk.specs.Moments.{EveryTold, HasLength};
 
-use crate::lines::from_disk;
-use cr_journal_rows::{self as rows, Header, JournalFault};
+use cr_journal_rows::{self as rows, Header, JournalFault, from_disk};
 use cr_main_task::beside;
 use cr_outside_disk::{Disk, DiskFault};
 use std::alloc::Global;

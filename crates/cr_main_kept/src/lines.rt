@@ -1,13 +1,11 @@
 // What a run puts on the output about its journal.
 ghost use Rattle.std.specs.Prelude.{◌≡◌, IfOk};
-ghost use Rattle.cr_journal_rows.specs.Faults.{fault_of_disk};
 ghost use Rattle.cr_main_kept.specs.Lines.{PutsFault, fault_line, refused_line};
 ghost use Rattle.cr_main_task.specs.Outside.{Says};
 
 use cr_journal_rows::JournalFault;
 use cr_main_task::{put, status};
 use cr_outside::{NoMemory, Sink};
-use cr_outside_disk::DiskFault;
 use std::alloc::Global;
 
 /// A call on the journal failed.
@@ -45,16 +43,6 @@ pub fn put_stop<O: Sink>(alloc: Global, out: &mut O, name: &str, fault: JournalF
         JournalFault::Disk => put_fault(alloc, out, name),
         JournalFault::Bad(number) => put_refused(alloc, out, name, number),
         JournalFault::Differs(number) => put_refused(alloc, out, name, u64::from(number)),
-    }
-}
-
-/// What a fault of the disk is to the journal.
-pub fn from_disk(fault: DiskFault) -> JournalFault
-    ensures { result ≡ fault_of_disk fault }
-{
-    match fault {
-        DiskFault::Failed => JournalFault::Disk,
-        DiskFault::NoMemory => JournalFault::NoMemory,
     }
 }
 

@@ -1,6 +1,6 @@
 use cr_cursor::Cursor;
-use cr_journal_rows::{Header, JournalFault, add, begin, recover};
-use cr_outside_disk::{Disk, DiskFault, MemDisk};
+use cr_journal_rows::{Header, JournalFault, add, begin, from_disk, recover};
+use cr_outside_disk::{Disk, MemDisk};
 use cr_reduce::Accepted;
 use std::alloc::{AllocError, Global};
 use std::process::Abort;
@@ -111,19 +111,12 @@ pub(crate) fn recovered(alloc: Global, disk: &mut MemDisk) -> Result<String, All
 /// Makes the journal of the header and the row.
 pub(crate) fn make<D: Disk>(disk: &mut D, alloc: Global) -> Result<(), JournalFault> {
     if let Err(fault) = disk.start(alloc, "f.c.journal") {
-        return Err(of_disk(fault));
+        return Err(from_disk(fault));
     }
     begin(disk, alloc, &HEADER)?;
     match add(disk, alloc, 0, &ROW) {
         Ok(()) => Ok(()),
-        Err(fault) => Err(of_disk(fault)),
-    }
-}
-
-fn of_disk(fault: DiskFault) -> JournalFault {
-    match fault {
-        DiskFault::Failed => JournalFault::Disk,
-        DiskFault::NoMemory => JournalFault::NoMemory,
+        Err(fault) => Err(from_disk(fault)),
     }
 }
 
