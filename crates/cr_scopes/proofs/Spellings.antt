@@ -1,16 +1,17 @@
 -- A map from spellings to their first tokens.
-use Rattle.std.proofs.Common.{◌≡◌, ℕ, suc, ◌+◌, ◌<◌, Bool, true, false, List, [], ◌∷◌, ◌++◌, Option, None, Some, length, slice_index_or, nat_lt, if◌then◌else◌, refl, sym, ap, subst, ◌∙◌, inl, inr, arith, length-append}
+use Rattle.std.proofs.Common.{◌≡◌, ◌≢◌, ℕ, suc, ◌+◌, ◌<◌, ◌==◌, ◌&&◌, Bool, true, false, List, [], ◌∷◌, ◌++◌, Option, None, Some, length, replicate, slice_index, slice_index_or, slice_set, nat_lt, if◌then◌else◌, refl, sym, ap, subst, ◌∙◌, inl, inr, arith, length-append}
 use Rattle.std.specs.Str.{bytes_eq}
 use Rattle.std.specs.declared.vec.Vec.{Vec}
 use Rattle.std.proofs.lemmas.Slice.Eq.{bytes_eq-Decides}
-use Rattle.std.proofs.lemmas.Bool.{true≢false, cases_lt, cond-true, cond-false, lt-ltb, le-ltb}
-use Rattle.std.proofs.lemmas.List.{get_or_past}
+use Rattle.std.proofs.lemmas.Bool.{true≢false, cases_lt, eqb-true, eqb-false, cond-true, cond-false, lt-ltb, le-ltb}
+use Rattle.std.proofs.lemmas.List.{get_or_past, get_or-set_same, get_or-set_other, get_or-replicate, length-replicate}
 use Rattle.std.proofs.Math.ListN.{get_or-append}
 use Rattle.std.proofs.Math.Seq.{get_or-append_seam}
 use Rattle.indexmap.specs.IndexMap.{insert_entry}
 use Rattle.cr_tokens.specs.declared.token.Token.{Token}
 use Rattle.cr_scopes.specs.Looking.{or_else, or_given}
-use Rattle.cr_scopes.specs.Spelled.{spelling_of, first_spelled, name_of, known_as}
+use Rattle.cr_scopes.specs.Spelled.{spelling_of, first_spelled, name_of, known_as, said_in}
+use Rattle.cr_scopes.specs.declared.spelled.Known.{Known}
 use Rattle.cr_scopes.specs.States.{name_in}
 
 or_none : (o : Option ℕ) → o ≡ or_else o None
@@ -121,3 +122,96 @@ named_step file tokens old names k number first sp o h f is at =
     one_named file tokens names k first h
     (f ∙ ap (λ x. or_given x number) (o sp) ∙ ap (or_given (first_spelled file tokens sp k)) is
     ∙ ap (λ x. or_given (first_spelled file tokens x k) k) at)
+
+-- ---- spellings of one byte, by their bytes
+
+and_false : (b : Bool) → (b && false) ≡ false
+and_false true = refl
+and_false false = refl
+
+and_true : (b : Bool) → (b && true) ≡ b
+and_true true = refl
+and_true false = refl
+
+-- a column without entries
+none_in : (n b : ℕ) → slice_index_or {A = Option ℕ} (replicate {A = Option ℕ} n None) b None ≡ None
+none_in n b = elim (cases_lt b n) [
+  | inl low ↦ get_or-replicate {A = Option ℕ} n b None None low
+  | inr high ↦ get_or_past {X = Option ℕ} (replicate {A = Option ℕ} n None) b None (omega (arith, high, length-replicate {A = Option ℕ} n None))
+]
+
+pub nothing_said : (known : Known) (n : ℕ) → known.bytes ≡ replicate {A = Option ℕ} n None → known.words.entries ≡ [] → (s : List ℕ) → said_in known s ≡ None
+nothing_said known n bytes words [] = ap (λ es. known_as es []) words
+nothing_said known n bytes words (b ∷ []) = ap (λ column. slice_index_or column b None) bytes ∙ none_in n b
+nothing_said known n bytes words (b ∷ next ∷ rest) = ap (λ es. known_as es (b ∷ next ∷ rest)) words
+
+-- a byte that wasn't known
+pub byte_put : (old new : List (Option ℕ)) (byte number : ℕ) → new ≡ slice_set old byte (Some number) → byte < length old → slice_index_or old byte None ≡ None
+    → (b : ℕ) → slice_index_or new b None ≡ or_else (slice_index_or old b None) (if b == byte then Some number else None)
+byte_put old new byte number is low none b = ap (λ column. slice_index_or column b None) is ∙ by (b == byte) refl
+  where
+    by : (same : Bool) → (b == byte) ≡ same
+        → slice_index_or (slice_set old byte (Some number)) b None ≡ or_else (slice_index_or old b None) (if b == byte then Some number else None)
+    by true e =
+        let at : b ≡ byte = eqb-true b byte e in
+        rw (e, at) (get_or-set_same old byte (Some number) None low ∙ sym (ap (λ o. or_else o (Some number)) none))
+    by false e =
+        rw e (get_or-set_other old byte b (Some number) None (eqb-false b byte e) ∙ or_none (slice_index_or old b None))
+
+-- one that was
+pub byte_kept : (old : List (Option ℕ)) (byte number first : ℕ) → slice_index_or old byte None ≡ Some first
+    → (b : ℕ) → slice_index_or old b None ≡ or_else (slice_index_or old b None) (if b == byte then Some number else None)
+byte_kept old byte number first is b = by (b == byte) refl
+  where
+    by : (same : Bool) → (b == byte) ≡ same
+        → slice_index_or old b None ≡ or_else (slice_index_or old b None) (if b == byte then Some number else None)
+    by true e =
+        let at : slice_index_or old b None ≡ Some first = ap (λ x. slice_index_or old x None) (eqb-true b byte e) ∙ is in
+        rw e (at ∙ sym (ap (λ o. or_else o (Some number)) at))
+    by false e = rw e (or_none (slice_index_or old b None))
+
+-- what is known of a spelling of one byte, and of another
+pub byte_said : (known : Known) (sp : List ℕ) → length sp ≡ 1 → said_in known sp ≡ slice_index_or known.bytes (slice_index sp 0) None
+byte_said known [] one = absurd (omega (arith, one))
+byte_said known (b ∷ []) one = refl
+byte_said known (b ∷ next ∷ rest) one = absurd (omega (arith, one))
+
+pub word_said : (known : Known) (sp : List ℕ) → length sp ≢ 1 → said_in known sp ≡ known_as known.words.entries sp
+word_said known [] other = refl
+word_said known (b ∷ []) other = absurd (other refl)
+word_said known (b ∷ next ∷ rest) other = refl
+
+byte_by : (old new : Known) (byte number : ℕ) → new.words.entries ≡ old.words.entries
+    → ((b : ℕ) → slice_index_or new.bytes b None ≡ or_else (slice_index_or old.bytes b None) (if b == byte then Some number else None))
+    → (s : List ℕ) → said_in new s ≡ or_else (said_in old s) (if bytes_eq s (byte ∷ []) then Some number else None)
+byte_by old new byte number words h [] = ap (λ es. known_as es []) words ∙ or_none (known_as old.words.entries [])
+byte_by old new byte number words h (b ∷ []) =
+    h b ∙ ap (λ same. or_else (slice_index_or old.bytes b None) (if same then Some number else None)) (sym (and_true (b == byte)))
+byte_by old new byte number words h (b ∷ next ∷ rest) =
+    let was = known_as old.words.entries (b ∷ next ∷ rest) in
+    ap (λ es. known_as es (b ∷ next ∷ rest)) words ∙ or_none was
+    ∙ ap (λ same. or_else was (if same then Some number else None)) (sym (and_false (b == byte)))
+
+-- a spelling of one byte more
+pub byte_more : (old new : Known) (sp : List ℕ) (number : ℕ) → length sp ≡ 1 → new.words.entries ≡ old.words.entries
+    → ((b : ℕ) → slice_index_or new.bytes b None ≡ or_else (slice_index_or old.bytes b None) (if b == slice_index sp 0 then Some number else None))
+    → (s : List ℕ) → said_in new s ≡ or_else (said_in old s) (if bytes_eq s sp then Some number else None)
+byte_more old new [] number one words h s = absurd (omega (arith, one))
+byte_more old new (b ∷ []) number one words h s = byte_by old new b number words h s
+byte_more old new (b ∷ next ∷ rest) number one words h s = absurd (omega (arith, one))
+
+no_byte : (b : ℕ) (sp : List ℕ) → length sp ≢ 1 → bytes_eq (b ∷ []) sp ≡ false
+no_byte b [] other = refl
+no_byte b (x ∷ []) other = absurd (other refl)
+no_byte b (x ∷ next ∷ rest) other = and_false (b == x)
+
+-- another spelling more
+pub word_more : (old new : Known) (sp : List ℕ) (number : ℕ) → length sp ≢ 1 → new.bytes ≡ old.bytes
+    → ((s : List ℕ) → known_as new.words.entries s ≡ or_else (known_as old.words.entries s) (if bytes_eq s sp then Some number else None))
+    → (s : List ℕ) → said_in new s ≡ or_else (said_in old s) (if bytes_eq s sp then Some number else None)
+word_more old new sp number other bytes h [] = h []
+word_more old new sp number other bytes h (b ∷ []) =
+    let was = slice_index_or old.bytes b None in
+    ap (λ column. slice_index_or column b None) bytes ∙ or_none was
+    ∙ ap (λ same. or_else was (if same then Some number else None)) (sym (no_byte b sp other))
+word_more old new sp number other bytes h (b ∷ next ∷ rest) = h (b ∷ next ∷ rest)
