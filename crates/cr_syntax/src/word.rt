@@ -1,4 +1,4 @@
-ghost use Rattle.std.specs.Prelude.{◌≡◌, ◌≤◌, length, slice_range};
+ghost use Rattle.std.specs.Prelude.{◌≡◌, ◌≤◌, ◌∷◌, [], length, slice_range};
 ghost use Rattle.cr_syntax.specs.Words.{word_in, word_of, keyword_table, punctuator_table, entries_of};
 
 use cr_tokens::{Token, TokenKind};
@@ -309,7 +309,41 @@ pub fn word_at(file: &[u8], token: &Token) -> Word
         TokenKind::Character => Word::Character,
         TokenKind::Text => Word::Text,
         TokenKind::Keyword => find(&KEYWORDS, spelling),
-        TokenKind::Punctuator => find(&PUNCTUATORS, spelling),
+        TokenKind::Punctuator => punctuator(spelling),
+    }
+}
+
+fn punctuator(spelling: &[u8]) -> Word
+    ensures { result ≡ word_in punctuator_table spelling.now }
+{
+    match spelling {
+        [byte] => punctuator_of(*byte),
+        _ => find(&PUNCTUATORS, spelling),
+    }
+}
+
+// The punctuator of one byte. The common ones are told by it, so that for most tokens no table is sought through.
+fn punctuator_of(byte: u8) -> Word
+    ensures { result ≡ word_in punctuator_table (byte ∷ []) }
+{
+    match byte {
+        b';' => Word::Semicolon,
+        b',' => Word::Comma,
+        b'(' => Word::LeftParen,
+        b')' => Word::RightParen,
+        b'=' => Word::Equal,
+        b'{' => Word::LeftBrace,
+        b'}' => Word::RightBrace,
+        b'*' => Word::Star,
+        b'[' => Word::LeftBracket,
+        b']' => Word::RightBracket,
+        b'+' => Word::Plus,
+        b'-' => Word::Minus,
+        b'&' => Word::Ampersand,
+        b'<' => Word::Less,
+        b'.' => Word::Dot,
+        b'>' => Word::Greater,
+        _ => find(&PUNCTUATORS, &[byte]),
     }
 }
 
