@@ -5,7 +5,7 @@ use Rattle.cr_meaning.specs.Meaning.{Means}
 use Rattle.cr_meaning.specs.declared.run.Run.{Run}
 use Rattle.cr_exec_table.specs.Table.{AreSame}
 
-same_program : (one other : Program) → AreSame one other → one ≡ other
+pub same_program : (one other : Program) → AreSame one other → one ≡ other
 same_program one other same = λ i. record {
   ops = same.ops i;
   shape = λ node. same.shape node i;

@@ -96,6 +96,10 @@ refused_rules limits file raised (ruling.Unlawful why) refuses = refuses limits
 refused_rules limits file raised ruling.Stopped refuses = refuses
 refused_rules limits file raised ruling.NoMemory refuses = tt
 
+pub rules_in_all : (limits : Limits) (file : List ℕ) (raised : Bool) (r : Ruling) → Refuses file raised r ⊎ Rules limits file raised r → Rules limits file raised r
+rules_in_all limits file raised r (inl refuses) = refused_rules limits file raised r refuses
+rules_in_all limits file raised r (inr rules) = rules
+
 -- the ruling on what the run of the file's unit came to
 pub run_rules : (limits : Limits) (file : List ℕ) (typed : Typed) (raised : Bool) (outcome : Run) → IsTypedUnit file typed
     → (has_come outcome ≡ true → Comes typed limits outcome) → (outcome ≡ run.Stopped → raised ≡ true)

@@ -1,9 +1,10 @@
 // A place for what the run of one file came to.
 ghost use Rattle.std.specs.Prelude.{◌≡◌, IfSome, IsTrue};
-ghost use Rattle.cr_lawful.specs.Runs.{ComesToEnd};
+ghost use Rattle.cr_lawful.specs.Runs.{CameTo, ComesToEnd};
 
 use crate::ends::Ended;
-use cr_meaning::Limits;
+use cr_meaning::{Limits, Run};
+use std::alloc::Global;
 use std::sync::Mutex;
 
 /// A file's bytes with how its run within limits ended.
@@ -51,6 +52,38 @@ impl LastRun {
             return None;
         }
         Some(known.end)
+    }
+}
+
+/// Leaves how a file's run within limits ended, where there is a place for that.
+pub fn leave_run(alloc: Global, file: &[u8], limits: Limits, runs: Option<&LastRun>, run: Run)
+    requires { CameTo limits file.now run }
+{
+    match run {
+        Run::Ended {
+            status,
+            output,
+            steps: _,
+        } => leave_end(alloc, file, limits, runs, Ended { status, output }),
+        other => drop(other),
+    }
+}
+
+fn leave_end(alloc: Global, file: &[u8], limits: Limits, runs: Option<&LastRun>, end: Ended)
+    requires { ComesToEnd limits file.now end.status end.output }
+{
+    match runs {
+        Some(runs) => leave_at(alloc, file, limits, end, runs),
+        None => drop(end),
+    }
+}
+
+fn leave_at(alloc: Global, file: &[u8], limits: Limits, end: Ended, runs: &LastRun)
+    requires { ComesToEnd limits file.now end.status end.output }
+{
+    match file.to_vec(alloc) {
+        Ok(bytes) => runs.leave(limits, bytes, end),
+        Err(_) => drop(end),
     }
 }
 

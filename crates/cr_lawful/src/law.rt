@@ -1,20 +1,16 @@
 // The law of programs.
-ghost use Rattle.std.specs.Prelude.{◌≡◌, ℕ, List, true, false};
+ghost use Rattle.std.specs.Prelude.{◌≡◌, true, false};
 ghost use Rattle.cr_cursor.specs.declared.law.Reason.{Reason};
 ghost use Rattle.cr_lawful.specs.Lawful.{IsLawful, IsReason, IsTypedUnit, RefusesFor, Rules, limits_of};
 ghost use Rattle.cr_lawful.specs.Looks.{HasLookedThrough, Looks};
-ghost use Rattle.cr_lawful.specs.Programs.{IsProgram};
-ghost use Rattle.cr_lawful.specs.Runs.{CameTo, ComesToEnd};
 
-use crate::ends::Ended;
-use crate::last_run::LastRun;
-use crate::program::{Program, reading_of};
+use crate::last_run::{LastRun, leave_run};
 use crate::reasons::run_ruling;
-use crate::units::program_of_file;
+use crate::ruled::{RunLaw, ruled_by};
 use cr_cursor::{Law, Reason, Ruling, Stop};
 use cr_exec_outcome::outcome;
 use cr_lawful_analysis::LastRead;
-use cr_meaning::{Limits, Run};
+use cr_meaning::Limits;
 use cr_typed::Typed;
 use std::alloc::Global;
 
@@ -80,103 +76,25 @@ impl<'a> Law for CLaw<'a> {
         // A run that came to its end was always soon to be stopped.
         ensures looked { result ≡ Ruling.Lawful → HasLookedThrough self.now.limits file.now (S.looks stop.old) (S.looks stop.new) }
     {
-        ruled(alloc, file, self, stop)
+        ruled_by(alloc, file, self, self.last, stop)
     }
 }
 
-fn ruled<S: Stop>(alloc: Global, file: &[u8], law: &CLaw<'_>, stop: &mut S) -> Ruling
-    requires { S.raised stop.old ≡ false }
-    ensures rules { Rules law.now.limits file.now (S.raised stop.new) result }
-    ensures held { S.held stop.new ≡ S.held stop.old }
-    ensures looks { Looks law.now.limits file.now (S.looks stop.old) (S.looks stop.new) result }
-{
-    match program_of_file(alloc, file, stop) {
-        Ok(program) => ruled_on_program(alloc, file, program, law, stop),
-        Err(ruling) => ruling,
-    }
-}
+impl<'a> RunLaw for CLaw<'a> {
+    ghost limits = { λ law. law.limits };
 
-fn ruled_on_program<S: Stop>(
-    alloc: Global,
-    file: &[u8],
-    program: Program,
-    law: &CLaw<'_>,
-    stop: &mut S,
-) -> Ruling
-    requires unstopped { S.raised stop.old ≡ false }
-    requires program { IsProgram file.now program }
-    ensures rules { Rules law.now.limits file.now (S.raised stop.new) result }
-    ensures held { S.held stop.new ≡ S.held stop.old }
-    ensures looks { Looks law.now.limits file.now (S.looks stop.old) (S.looks stop.new) result }
-{
-    let ruling = ruled_on_run(alloc, file, &program.typed, law, stop);
-    if ruling == Ruling::Lawful {
-        leave(program, law.last);
-    } else {
-        drop(program);
-    }
-    ruling
-}
+    ghost rules = { λ law file raised ruling. Rules law.limits file raised ruling };
 
-fn leave(program: Program, last: Option<&LastRead>)
-    requires { (file : List ℕ) × IsProgram file program }
-{
-    match last {
-        Some(last) => {
-            let (bytes, analysis) = reading_of(program);
-            last.leave(bytes, analysis);
-        }
-        None => drop(program),
-    }
-}
-
-fn ruled_on_run<S: Stop>(
-    alloc: Global,
-    file: &[u8],
-    typed: &Typed,
-    law: &CLaw<'_>,
-    stop: &mut S,
-) -> Ruling
-    requires unstopped { S.raised stop.old ≡ false }
-    requires unit { IsTypedUnit file.now typed.now }
-    ensures rules { Rules law.now.limits file.now (S.raised stop.new) result }
-    ensures held { S.held stop.new ≡ S.held stop.old }
-    ensures looks { Looks law.now.limits file.now (S.looks stop.old) (S.looks stop.new) result }
-{
-    let run = outcome(alloc, typed, law.limits, stop);
-    let ruling = run_ruling(file, typed, &run);
-    leave_run(alloc, file, law, run);
-    ruling
-}
-
-// Leaves how a run ended, where the law has a place for that.
-fn leave_run(alloc: Global, file: &[u8], law: &CLaw<'_>, run: Run)
-    requires { CameTo law.now.limits file.now run }
-{
-    match run {
-        Run::Ended {
-            status,
-            output,
-            steps: _,
-        } => leave_end(alloc, file, law, Ended { status, output }),
-        other => drop(other),
-    }
-}
-
-fn leave_end(alloc: Global, file: &[u8], law: &CLaw<'_>, end: Ended)
-    requires { ComesToEnd law.now.limits file.now end.status end.output }
-{
-    match law.runs {
-        Some(runs) => leave_at(alloc, file, law.limits, end, runs),
-        None => drop(end),
-    }
-}
-
-fn leave_at(alloc: Global, file: &[u8], limits: Limits, end: Ended, runs: &LastRun)
-    requires { ComesToEnd limits file.now end.status end.output }
-{
-    match file.to_vec(alloc) {
-        Ok(bytes) => runs.leave(limits, bytes, end),
-        Err(_) => drop(end),
+    fn ruled_on_run<S: Stop>(
+        &self,
+        alloc: Global,
+        file: &[u8],
+        typed: &Typed,
+        stop: &mut S,
+    ) -> Ruling {
+        let run = outcome(alloc, typed, self.limits, stop);
+        let ruling = run_ruling(file, typed, &run);
+        leave_run(alloc, file, self.limits, self.runs, run);
+        ruling
     }
 }

@@ -6,7 +6,8 @@
 //! the first constraint that it breaks, then the case at which its run ends. It stands on the lexer, the parsers, the names, the whole
 //! check and the run of a typed unit, and on `cr_cursor` for the trait.
 //!
-//! `end_of` says how the run of a file ends; `LastRun` is where the law leaves that of the last lawful file.
+//! `ruled_by` rules on a file for any law of runs, a `RunLaw`, of which `CLaw` is one. `end_of` says how the run of a file ends; `LastRun` is
+//! where the law leaves that of the last lawful file.
 #![tactic(auto)]
 
 mod ends;
@@ -15,9 +16,12 @@ mod law;
 mod laws;
 mod program;
 mod reasons;
+mod ruled;
 mod units;
 
 pub use ends::{Ended, a_file_has_one_end, end_of};
-pub use last_run::LastRun;
+pub use last_run::{LastRun, leave_run};
 pub use law::CLaw;
 pub use laws::{a_file_has_one_reason, lawful_files_have_no_reason};
+pub use reasons::run_ruling;
+pub use ruled::{RunLaw, ruled_by};

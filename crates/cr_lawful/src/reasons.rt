@@ -72,7 +72,8 @@ fn node_line(file: &[u8], typed: &Typed, node: u32) -> u32
     }
 }
 
-pub(crate) fn run_ruling(file: &[u8], typed: &Typed, run: &Run) -> Ruling
+/// What is ruled on what the run of a file's typed unit came to: Lawful, where it ended.
+pub fn run_ruling(file: &[u8], typed: &Typed, run: &Run) -> Ruling
     requires { length file.now ≤ 1048576 }
     ensures { result ≡ run_ruling file.now typed.now run.now }
 {

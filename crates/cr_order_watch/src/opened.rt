@@ -100,57 +100,30 @@ fn one_more(alloc: Global, below: Open, piece: Piece) -> Result<Open, NoMemory>
         → IsSum p piece.loud piece.foot (tree number inner (Some events) bare)
         → IfOk result (λ new. IsOpen p new (record { number = level.number; done = onto level.done (tree number inner (Some events) bare) }) levels) }
 {
-    let Open {
-        node,
-        operands,
-        ended,
-        asked,
-        fixed,
-        loud,
-        foot,
-    } = below;
-    let ended = ended + 1;
-    if !fixed {
-        return Ok(Open {
-            node,
-            operands,
-            ended,
-            asked,
-            fixed,
-            loud,
-            foot,
-        });
+    let ended = below.ended + 1;
+    if !below.fixed {
+        return Ok(Open { ended, ..below });
     }
-    if both(loud, piece.loud) {
+    if both(below.loud, piece.loud) {
         return Ok(Open {
-            node,
-            operands,
             ended,
-            asked,
             fixed: false,
-            loud,
-            foot,
+            ..below
         });
     }
-    let louder = either(loud, piece.loud);
-    match foot.beside(piece.foot) {
+    let loud = either(below.loud, piece.loud);
+    match below.foot.beside(piece.foot) {
         Ok(foot) => Ok(Open {
-            node,
-            operands,
             ended,
-            asked,
-            fixed,
-            loud: louder,
+            loud,
             foot,
+            ..below
         }),
         Err(FootEnd::Conflict(_, _)) => Ok(Open {
-            node,
-            operands,
             ended,
-            asked,
             fixed: false,
-            loud,
             foot: Foot::none(alloc),
+            ..below
         }),
         Err(FootEnd::NoMemory) => Err(AllocError),
     }
@@ -162,25 +135,12 @@ fn behind(below: Open, piece: Piece) -> Result<Open, NoMemory>
         → below.asked ≡ true → IsSum p piece.loud piece.foot (tree number inner (Some events) bare)
         → IfOk result (λ new. IsOpen p new (record { number = level.number; done = onto level.done (tree number inner (Some events) bare) }) levels) }
 {
-    let Open {
-        node,
-        operands,
-        ended,
-        asked,
-        fixed,
-        loud,
-        foot,
-    } = below;
-    let louder = either(loud, piece.loud);
-    match foot.then(piece.foot) {
+    let loud = either(below.loud, piece.loud);
+    match below.foot.then(piece.foot) {
         Ok(foot) => Ok(Open {
-            node,
-            operands,
-            ended,
-            asked,
-            fixed,
-            loud: louder,
+            loud,
             foot,
+            ..below
         }),
         Err(end) => Err(end),
     }

@@ -1,6 +1,6 @@
 use Rattle.std.proofs.Common.{◌≡◌, subst, sym}
 use Rattle.cr_lawful.specs.Runs.{ComesToEnd}
-use Rattle.cr_lawful.proofs.law.leave_at.Goals as goal
+use Rattle.cr_lawful.proofs.last_run.leave_at.Goals as goal
 
 pub leave-requires : goal.leave-requires
 leave-requires c =
