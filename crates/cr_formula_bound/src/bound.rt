@@ -85,6 +85,10 @@ impl<'a> Question for Bound<'a> {
 
     ghost one_answer = { λ b says name file holds fails. fails holds };
 
+    fn uses_judge(&self) -> bool {
+        false
+    }
+
     fn ask<J: Judge>(&self, alloc: Global, judge: &mut J, _name: &str, file: &[u8]) -> Answer {
         let mut run = FileEnd::unasked();
         value_of(self.formula, self, alloc, judge, file, &mut run)

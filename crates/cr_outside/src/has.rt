@@ -92,6 +92,10 @@ impl Question for Has {
 
     ghost one_answer = { λ text says name file has lacks. lacks has };
 
+    fn uses_judge(&self) -> bool {
+        false
+    }
+
     fn ask<J: Judge>(&self, alloc: Global, _judge: &mut J, _name: &str, file: &[u8]) -> Answer {
         match tokens_of(alloc, file) {
             Ok(Some(tokens)) => self.ask_tokens(file, &tokens),

@@ -14,6 +14,10 @@ pub trait Question {
     /// Whether the question uses the judge. Where it doesn't, its answer is always told.
     ghost asks: { Self → Bool };
 
+    /// Whether the question uses the judge.
+    fn uses_judge(&self) -> bool
+        ensures { result ≡ asks self.now };
+
     /// Asks about `file`, which a test sees under the name `name`.
     fn ask<J: Judge>(&self, alloc: Global, judge: &mut J, name: &str, file: &[u8]) -> Answer
         ensures told { AnswersAsTold (asks self.now) (tells self.now (J.says (J.key judge.old)) name.now file.now) result }

@@ -62,6 +62,13 @@ impl Question for Test {
 
     ghost one_answer = { one_test_answer };
 
+    fn uses_judge(&self) -> bool {
+        match self {
+            Test::Has(_) => false,
+            Test::Program(_) => true,
+        }
+    }
+
     fn ask<J: Judge>(&self, alloc: Global, judge: &mut J, name: &str, file: &[u8]) -> Answer {
         match self {
             Test::Has(has) => has.ask(alloc, judge, name, file),
