@@ -67,7 +67,7 @@ impl<J: Judge + Drop> Bench<J> {
         alloc: Global,
         work: F,
     ) -> R
-        requires ready { (workers : _) → judges_in workers.items ≡ self.old.judges → F.pre work workers }
+        requires ready { (workers : _) → judges_in workers.items ≡ self.old.judges → IsManned J.key self.old.judges → F.pre work workers }
         requires back { (workers : _) (r : _) → judges_in workers.items ≡ self.old.judges → F.post work workers r → map J.key (judges_in r.0.items) ≡ map J.key self.old.judges }
         ensures work { (workers : _) × (r : _) × (judges_in workers.items ≡ self.old.judges) × F.post work workers r × (judges_in r.0.items ≡ self.new.judges) × (result ≡ r.1) }
         ensures kept { self.new.kept ≡ [] }
