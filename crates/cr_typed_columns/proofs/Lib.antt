@@ -1,4 +1,5 @@
 pub mod Copies
+pub mod Kept
 pub mod Lookups
 pub mod Listed
 pub mod Grown

@@ -1,9 +1,9 @@
 -- Columns as lists, and rows of types in a table that has each type once.
-use Rattle.std.specs.Prelude.{◌≡◌, ◌<◌, ℕ, zero, suc, false, List, [], ◌∷◌, ◌++◌, length, map, slice_index_or}
+use Rattle.std.specs.Prelude.{◌≡◌, ◌<◌, ℕ, zero, suc, false, List, [], ◌∷◌, ◌++◌, Option, None, Some, length, map, slice_index_or}
 use Rattle.std.specs.List.{flat_map}
 use Rattle.cr_syntax.specs.declared.ctype.CType.TheVariants as type
 use Rattle.cr_check_types.specs.declared.shape.Shape.{Shape}
-use Rattle.cr_check_types.specs.Types.{Qualified, plain, type_at}
+use Rattle.cr_check_types.specs.Types.{Qualified, plain, type_at, IsRow}
 use Rattle.cr_check_types.specs.Relations.{AreRows}
 use Rattle.cr_check_types.specs.Shared.{levels_of}
 use Rattle.cr_typed.specs.declared.typed.Put.{Put}
@@ -37,6 +37,20 @@ pub record AreRowsOf (shapes : List Shape) (types : List Qualified) (rows : List
 abbrev pub type_in : (ℕ → Qualified) → Named → Qualified
 type_in look (Row row) = look row
 type_in look (Function node) = plain (type.Function node) false false
+
+-- each of these types has a row
+abbrev pub AreThere : List Shape → List Qualified → Type 0
+AreThere shapes [] = Unit {0}
+AreThere shapes (type ∷ types) = ((row : ℕ) × IsRow shapes row type) × AreThere shapes types
+
+-- a row of a type that another table has in a row of its own, with rows of all its levels
+pub record IsKept (from shapes : List Shape) (own row : ℕ) : Type 0 where
+  pub is : IsRow shapes row (type_at from own)
+  pub levels : AreThere shapes (levels_of (type_at from own))
+
+-- for rows of one table those of the same types in another, as far as they are known
+abbrev pub AreKept : List Shape → List Shape → List (Option ℕ) → Type 0
+AreKept from shapes known = (own row : ℕ) → slice_index_or known own None ≡ Some row → IsKept from shapes own row
 
 -- ---- initialisers
 

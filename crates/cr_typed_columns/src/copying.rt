@@ -4,8 +4,10 @@ ghost use Rattle.cr_check_types.specs.declared.shape.Shape as shape;
 ghost use Rattle.cr_check_types.specs.Types.{Qualified, type_at, type_of, room_of, IsRow, Grows};
 ghost use Rattle.cr_check_types.specs.Shared.{levels_of, IsWithAll};
 ghost use Rattle.cr_typed_columns.specs.Levels.{above as type_above, wrapped, flat_type, IsStep, IsFlat};
+ghost use Rattle.cr_typed_columns.specs.Rows.{AreKept};
 
 use cr_check_types::{Shape, Table};
+use cr_scopes_bindings::{link_at, set_link};
 use cr_syntax::CType;
 use std::alloc::{AllocError, Global};
 
@@ -49,6 +51,75 @@ pub(crate) fn copied(
     let flat = table.add(levels.flat)?;
     let made = raised(table, levels.list, flat)?;
     Ok(made)
+}
+
+/// The same, which keeps the row that each row of the other table has. A chain of types of which each is asked for costs a level each.
+#[tactic(auto, using(crate::proofs::Kept::grows_none))]
+pub(crate) fn copied_once(
+    alloc: Global,
+    table: &mut Table,
+    from: &Table,
+    known: &mut Vec<Option<u32>>,
+    row: u32,
+) -> Result<u32, AllocError>
+    requires { AreKept from.now table.old known.old.items }
+    ensures made { IfOk result (λ r. IsRow table.new r (type_at from.now row)) }
+    ensures grows { OnOk result (Grows table.old table.new) }
+    ensures levels { OnOk result (IsWithAll table.old (levels_of (type_at from.now row)) table.new) }
+    ensures kept { OnOk result (AreKept from.now table.new known.new.items) }
+{
+    match link_at(known, row as usize) {
+        Some(made) => Ok(made),
+        None => {
+            let made = copied_on(alloc, table, from, known, row)?;
+            set_link(known, row as usize, Some(made));
+            Ok(made)
+        }
+    }
+}
+
+// The row of a type, which is one level above a row that is kept, or copied whole.
+#[tactic(auto, using(crate::proofs::Kept::kept_levels))]
+fn copied_on(
+    alloc: Global,
+    table: &mut Table,
+    from: &Table,
+    known: &[Option<u32>],
+    row: u32,
+) -> Result<u32, AllocError>
+    requires { AreKept from.now table.old known.now }
+    ensures made { IfOk result (λ r. IsRow table.new r (type_at from.now row)) }
+    ensures grows { OnOk result (Grows table.old table.new) }
+    ensures levels { OnOk result (IsWithAll table.old (levels_of (type_at from.now row)) table.new) }
+{
+    match step_of(shape_at(from, row)) {
+        Step::Above(level, below) => match link_at(known, below as usize) {
+            Some(base) => raised_on(table, from, row, level, below, base),
+            None => copied(alloc, table, from, row),
+        },
+        Step::Flat(_) => copied(alloc, table, from, row),
+    }
+}
+
+// The row of a type that is a level above one that has a row.
+fn raised_on(
+    table: &mut Table,
+    from: &Table,
+    row: u32,
+    level: Level,
+    below: u32,
+    base: u32,
+) -> Result<u32, AllocError>
+    requires base { IsRow table.old base (type_at from.now below) }
+    requires levels { IsWithAll table.old (levels_of (type_at from.now below)) table.old }
+    requires above { type_at from.now row ≡ type_above level (type_at from.now below) }
+    ensures made { IfOk result (λ r. IsRow table.new r (type_at from.now row)) }
+    ensures grows { OnOk result (Grows table.old table.new) }
+    ensures levels { OnOk result (IsWithAll table.old (levels_of (type_at from.now row)) table.new) }
+{
+    let shape = shape_above(level, base);
+    let raised = table.add(shape)?;
+    Ok(raised)
 }
 
 /// The shape of a row; that of no type where there is no such row.

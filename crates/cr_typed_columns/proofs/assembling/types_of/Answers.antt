@@ -10,7 +10,7 @@ pub returns : goal.returns
 returns c =
     let look = type_in (type_at c.args.checked.now.table.now) in
     let shaped : Shaped = record { shapes = c.plans.new.table; types = c.in_ok-types.types; named = c.in_ok-named.named; members = c.in_ok-members.members; plans = c.in_ok-plans.plans } in
-    shaped_is (parsed_of c.args.unit.now) c.args.checked.now shaped c.as_slice-nodes.result.now c.in_ok-shapes.shapes c.rows.new.table c.rows-2.new.table c.members.new.table
+    shaped_is (parsed_of c.args.unit.now) c.args.checked.now shaped c.as_slice-nodes.result.now c.in_ok-shapes.shapes c.rows_once.new.table c.rows_once-2.new.table c.members.new.table
     c.deref.result.now c.deref-2.result.now c.as_slice-nodes.ensures c.is_canonical.ensures c.in_ok-shapes.ensures.alone c.in_ok-shapes.ensures.first
     (ap (map look) c.deref.ensures.value ∙ c.in_ok-given_types.ensures) (ap (map look) c.deref-2.ensures.value ∙ c.in_ok-given_named.ensures)
     c.in_ok-types.ensures.made c.in_ok-types.ensures.levels c.in_ok-named.ensures.made c.in_ok-named.ensures.grows c.in_ok-named.ensures.levels
