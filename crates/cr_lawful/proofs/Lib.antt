@@ -3,4 +3,4 @@ pub mod Looks
 pub mod Endings
 mod Programs
 mod OneRefusal
-mod OneReason
+pub mod OneReason
