@@ -1,6 +1,6 @@
 pub mod Sizes
 pub mod Runs
-mod Keeping
+pub mod Keeping
 mod Sums
 mod Tries
 mod Lists
@@ -11,3 +11,4 @@ mod More
 mod Remembering
 mod Notes
 mod Examples
+mod Keys

@@ -12,13 +12,13 @@ ghost use Rattle.cr_pool.specs.Tally.{first_says, tallies_of};
 
 use crate::crew::Worker;
 use crate::epoch::try_by_some;
-use crate::heard::ask_by;
 use crate::job::{EpochEnd, Job};
 use crate::verdicts::Verdicts;
 use cr_cursor::{Law, Passes};
 use cr_outside::{Answer, Judge, NoMemory, Question};
 use std::alloc::Global;
 use std::marker::Model;
+use std::mem;
 use std::thread::Threads;
 
 /// At least one judge, at most 32, all of one key. Clauses see the list of the judges, the verdicts that are kept, and how many the
@@ -28,8 +28,6 @@ pub struct Bench<J: Judge> {
     workers: Vec<Worker<J>>,
     verdicts: Verdicts,
     lost: u64,
-    // False once a question was answered without a judge, until a judge is asked.
-    asks: bool,
 }
 
 impl<J: Judge> Model for Bench<J> {
@@ -57,8 +55,29 @@ impl<J: Judge + Drop> Bench<J> {
             workers,
             verdicts,
             lost: 0,
-            asks: true,
         })
+    }
+}
+
+impl<J: Judge + Drop> Bench<J> {
+    /// Lends the workers for some work, which hands them back in their order, each with a judge of its judge's key. The kept verdicts
+    /// are forgotten.
+    pub fn lend<R, F: FnOnce(Vec<Worker<J>>) -> (Vec<Worker<J>>, R)>(
+        &mut self,
+        alloc: Global,
+        work: F,
+    ) -> R
+        requires ready { (workers : _) → judges_in workers.items ≡ self.old.judges → IsManned J.key self.old.judges → F.pre work workers }
+        requires back { (workers : _) (r : _) → judges_in workers.items ≡ self.old.judges → F.post work workers r → map J.key (judges_in r.0.items) ≡ map J.key self.old.judges }
+        ensures work { (workers : _) × (r : _) × (judges_in workers.items ≡ self.old.judges) × F.post work workers r × (judges_in r.0.items ≡ self.new.judges) × (result ≡ r.1) }
+        ensures kept { self.new.kept ≡ [] }
+        ensures lost { self.new.lost ≡ self.old.lost }
+    {
+        let workers = mem::replace(&mut self.workers, Vec::new(alloc));
+        let (workers, result) = work(workers);
+        self.workers = workers;
+        self.verdicts.forget();
+        result
     }
 }
 
@@ -74,7 +93,6 @@ fn crew_of<J: Drop>(alloc: Global, judges: Vec<J>) -> Result<Vec<Worker<J>>, NoM
             hit: None,
             variant: Vec::new(alloc),
             notes: Vec::new(alloc),
-            asked: false,
         })?;
     }
     Ok(workers)
@@ -132,9 +150,7 @@ impl<J: Judge> Bench<J> {
         ensures failed { result ≡ Answer.Failed → Rose (first_tally J.Judge self.old).faults (first_tally J.Judge self.new).faults }
     {
         let worker = &mut self.workers[0];
-        let (answer, asked) = ask_by(alloc, question, &mut worker.judge, name, file);
-        self.asks = asked;
-        answer
+        question.ask(alloc, &mut worker.judge, name, file)
     }
 }
 
@@ -173,7 +189,6 @@ impl<J: Judge + Send> Bench<J> {
             &mut self.workers,
             &mut self.verdicts,
             &mut self.lost,
-            &mut self.asks,
         )
     }
 }

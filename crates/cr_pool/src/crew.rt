@@ -9,7 +9,6 @@ ghost use Rattle.cr_pool.specs.Sizes.{HasSize};
 ghost use Rattle.cr_pool.specs.Crew.{HaveSameJudges, HaveSameNotes, IsFresh, IsReady, IsSameButPass, IsWorked, Keeps, Rests, TakesIn, row_of, rows_of};
 ghost use Rattle.cr_pool.specs.Works.{IsBlank};
 
-use crate::heard::Heard;
 use crate::job::Job;
 use crate::verdict::Verdict;
 use crate::verdicts::Verdicts;
@@ -27,15 +26,13 @@ use std::thread::Threads;
 pub struct Worker<J> {
     pub judge: J,
     /// There while an epoch runs.
-    pub pass: Option<Pass>,
+    pub(crate) pass: Option<Pass>,
     /// The position that was a hit in the last epoch, if one was.
-    pub hit: Option<(u64, HitKind)>,
+    pub(crate) hit: Option<(u64, HitKind)>,
     /// The variant that was made last.
-    pub variant: Vec<u8>,
+    pub(crate) variant: Vec<u8>,
     /// The verdicts that it came to in the last epoch, each at its position.
-    pub notes: Vec<Option<Verdict>>,
-    /// Whether its judge was asked in the last epoch.
-    pub asked: bool,
+    pub(crate) notes: Vec<Option<Verdict>>,
 }
 
 fn clear_one<J>(worker: &mut Worker<J>, len: usize, room: usize) -> Result<(), NoMemory>
@@ -137,21 +134,16 @@ fn work<P: Passes, L: Law, Q: Question, J: Judge>(
     ensures { IsWorked P.Passes L.Law Q.Question J.Judge job.now claims.now verdicts.now worker.old worker.new }
 {
     if let Some(pass) = &mut worker.pass {
-        let mut heard = Heard {
-            judge: &mut worker.judge,
-            asked: false,
-        };
         worker.hit = drive(
             alloc,
             claims,
             job,
             verdicts,
             pass,
-            &mut heard,
+            &mut worker.judge,
             &mut worker.variant,
             &mut worker.notes,
         );
-        worker.asked = heard.asked;
     }
 }
 

@@ -29,11 +29,6 @@ fn threads_for(workers: usize, bytes: usize, asks: bool) -> usize
     if asks || bytes >= LARGE { workers } else { 1 }
 }
 
-// Whether the judge of one of these workers was asked in the last epoch.
-fn have_asked<J>(workers: &[Worker<J>]) -> bool {
-    workers.iter().any(|worker| worker.asked)
-}
-
 /// Tries the positions of a job by all of these workers. What is kept of it afterwards is put, and what found no memory counted.
 pub fn try_all<
     R: Threads + Sync,
@@ -48,7 +43,6 @@ pub fn try_all<
     workers: &mut [Worker<J>],
     verdicts: &mut Verdicts,
     lost: &mut u64,
-    asks: &mut bool,
 ) -> EpochEnd
 where
     P::Prep: Sync,
@@ -73,9 +67,8 @@ where
         Err(_) => return EpochEnd::NoMemory,
     };
     seat(&claims, &mut keeper, workers);
-    let threads = threads_for(workers.len(), job.file.len(), *asks);
+    let threads = threads_for(workers.len(), job.file.len(), job.question.uses_judge());
     run(rt, alloc, &claims, job, verdicts, workers, threads);
-    *asks = *asks || have_asked(workers);
     gather(&claims, &mut keeper, workers);
     let first = claims.close(keeper);
     *lost = remember(alloc, job, decided(job.len, first), workers, verdicts);
@@ -96,7 +89,6 @@ pub fn try_by_some<
     workers: &mut [Worker<J>],
     verdicts: &mut Verdicts,
     lost: &mut u64,
-    asks: &mut bool,
 ) -> EpochEnd
 where
     P::Prep: Sync,
@@ -114,5 +106,5 @@ where
     ensures others { drop job.now.workers (judges_in workers.new) ≡ drop job.now.workers (judges_in workers.old) }
 {
     let (crew, _) = workers.split_at_mut(job.workers as usize);
-    try_all(rt, alloc, job, crew, verdicts, lost, asks)
+    try_all(rt, alloc, job, crew, verdicts, lost)
 }

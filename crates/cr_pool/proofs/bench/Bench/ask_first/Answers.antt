@@ -11,8 +11,8 @@ use Rattle.cr_pool.proofs.bench.Bench.ask_first.Goals as goal
 pub invariant_of-self : goal.invariant_of-self
 invariant_of-self g c =
     let first = c.index_mut-worker.result.now in
-    manned_still g.J.Judge c.self.inside.workers.items (record first { judge = c.ask_by-answer.new.judge }) first
-    (c.ask_by-answer.ensures.key ∙ ap (λ (w : Worker g.row.J.Denot). g.J.Judge.key w.judge) c.index_mut-worker.ensures.value) c.self.invariant
+    manned_still g.J.Judge c.self.inside.workers.items (record first { judge = c.ask.new.judge }) first
+    (c.ask.ensures.key ∙ ap (λ (w : Worker g.row.J.Denot). g.J.Judge.key w.judge) c.index_mut-worker.ensures.value) c.self.invariant
 
 pub returns-clause-once : goal.returns-clause-once
 returns-clause-once g c = λ uses.
@@ -21,14 +21,14 @@ returns-clause-once g c = λ uses.
     let some : 0 < length workers = omega (arith, c.self.invariant.0, length-map workers (λ (w : Worker g.row.J.Denot). w.judge)) in
     let before = ap (λ (b : Benched g.row.J.Denot). tally_at (tallies_of g.J.Judge b.judges) 0) (sym c.self.view_is) ∙ first_before g.J.Judge workers first some
     ∙ ap (λ (w : Worker g.row.J.Denot). tally_of g.J.Judge w.judge) (sym c.index_mut-worker.ensures.value) in
-    let after = first_after g.J.Judge workers (record first { judge = c.ask_by-answer.new.judge }) some in
-    let changed = judges_in (set workers 0 (record first { judge = c.ask_by-answer.new.judge })) in
-    subst (λ t. AsksOnce t.calls (tally_at (tallies_of g.J.Judge changed) 0).calls c.args.name.now c.args.file.now c.ask_by-answer.result.0) (sym before)
-    (subst (λ t. AsksOnce (g.J.Judge.calls first.judge) t.calls c.args.name.now c.args.file.now c.ask_by-answer.result.0) (sym after) (c.ask_by-answer.ensures.once uses))
+    let after = first_after g.J.Judge workers (record first { judge = c.ask.new.judge }) some in
+    let changed = judges_in (set workers 0 (record first { judge = c.ask.new.judge })) in
+    subst (λ t. AsksOnce t.calls (tally_at (tallies_of g.J.Judge changed) 0).calls c.args.name.now c.args.file.now c.ask.result) (sym before)
+    (subst (λ t. AsksOnce (g.J.Judge.calls first.judge) t.calls c.args.name.now c.args.file.now c.ask.result) (sym after) (c.ask.ensures.once uses))
 
 pub returns-clause-keys : goal.returns-clause-keys
 returns-clause-keys g c =
     let first = c.index_mut-worker.result.now in
     let workers = c.self.inside.workers.items in
-    subst (λ (b : Benched g.row.J.Denot). map g.J.Judge.key (judges_in (set workers 0 (record first { judge = c.ask_by-answer.new.judge }))) ≡ map g.J.Judge.key b.judges) c.self.view_is
-    (keys_still g.J.Judge workers (record first { judge = c.ask_by-answer.new.judge }) first (c.ask_by-answer.ensures.key ∙ ap (λ (w : Worker g.row.J.Denot). g.J.Judge.key w.judge) c.index_mut-worker.ensures.value))
+    subst (λ (b : Benched g.row.J.Denot). map g.J.Judge.key (judges_in (set workers 0 (record first { judge = c.ask.new.judge }))) ≡ map g.J.Judge.key b.judges) c.self.view_is
+    (keys_still g.J.Judge workers (record first { judge = c.ask.new.judge }) first (c.ask.ensures.key ∙ ap (λ (w : Worker g.row.J.Denot). g.J.Judge.key w.judge) c.index_mut-worker.ensures.value))
