@@ -19,5 +19,6 @@ mod walk;
 pub use end::{Accepted, End, Kept, Plan, Why};
 pub use greedy::reduce;
 pub use keeper::{Keeper, NoKeeper};
+pub use look::length_of;
 pub use measure::size_of;
 pub use resuming::resume;

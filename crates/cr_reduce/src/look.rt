@@ -16,7 +16,7 @@ use std::alloc::Global;
 use std::thread::Threads;
 
 /// How many positions are tried at once: as many as the window allows, as are left in the round, and as the limit leaves.
-fn length_of(plan: &Plan, left: u64, turns: u64) -> u64
+pub fn length_of(plan: &Plan, left: u64, turns: u64) -> u64
     requires some { 0 < left }
     requires window { (0 < plan.now.window) × (plan.now.window ≤ 4096) }
     requires more { plan.now.limit ≢ Some turns }
