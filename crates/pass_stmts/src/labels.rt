@@ -3,7 +3,7 @@ ghost use Rattle.std.specs.Prelude.{◌≡◌, ◌++◌, length, IfOk, OnOk};
 ghost use Rattle.std.specs.List.{list_any};
 ghost use Rattle.pass_levels.specs.Level.{level_of};
 ghost use Rattle.pass_levels.specs.Nodes.{node_at};
-ghost use Rattle.pass_stmts.specs.Labels.{counting, function_at, functions_of, jump_by, jumps_of, label_by, label_goes, labels_give, names_label};
+ghost use Rattle.pass_stmts.specs.Labels.{counting, function_at, functions_of, jump_by, jumps_of, label_goes, labels_give, names_label};
 
 use cr_rows::Row;
 use cr_syntax::{Kind, Node};
@@ -33,28 +33,33 @@ impl Level for LabelsGo<'_> {
     ghost gives = { λ l k. labels_give l.file.now l.tokens.now l.nodes.now l.functions.now l.jumps.now k };
 
     fn give(&self, alloc: Global, node: usize, all: &mut Vec<Counted>) -> Result<(), AllocError> {
-        let (first, _) = span_at(self.nodes, node);
-        let function = function_at(self.functions, node);
-        let named = is_named(self.file, self.tokens, self.jumps, function, first as usize);
-        put_label(alloc, self.tokens, self.nodes, node, named, all)
+        match kind_at(self.nodes, node) {
+            Kind::Label => put_label(alloc, self, node, all),
+            _ => Ok(()),
+        }
     }
 }
 
+// Only at a label the jumps are gone through.
 fn put_label(
     alloc: Global,
-    tokens: &[Token],
-    nodes: &[Node],
+    source: &LabelsGo,
     node: usize,
-    named: bool,
     all: &mut Vec<Counted>,
 ) -> Result<(), AllocError>
-    ensures { OnOk result (all.new.items ≡ all.old.items ++ label_by (node_at nodes.now node).kind named tokens.now (node_at nodes.now node)) }
+    requires { (node_at source.now.nodes.now node).kind ≡ Kind.Label }
+    ensures { OnOk result (all.new.items ≡ all.old.items ++ labels_give source.now.file.now source.now.tokens.now source.now.nodes.now source.now.functions.now source.now.jumps.now node) }
 {
-    match kind_at(nodes, node) {
-        Kind::Label => if !named {
-            all.push(label_goes(alloc, tokens, nodes, node)?)?;
-        },
-        _ => {}
+    let (first, _) = span_at(source.nodes, node);
+    let function = function_at(source.functions, node);
+    if !is_named(
+        source.file,
+        source.tokens,
+        source.jumps,
+        function,
+        first as usize,
+    ) {
+        all.push(label_goes(alloc, source.tokens, source.nodes, node)?)?;
     }
     Ok(())
 }
