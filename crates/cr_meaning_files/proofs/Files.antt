@@ -23,14 +23,14 @@ use Rattle.cr_typed.specs.declared.typed.Typed.{Typed}
 use Rattle.cr_typed_unit.specs.Typed.{IsTypedBy}
 use Rattle.cr_meaning.specs.declared.run.Limits.{Limits}
 use Rattle.cr_meaning_operations.specs.Shapes.{kind_in}
-use Rattle.cr_meaning_operations.specs.Operations.{kind_if, kind_at, part_at}
+use Rattle.cr_meaning_operations.specs.Operations.{kind_if, kind_at, part_at, program_of}
 use Rattle.cr_meaning_typed.specs.Typing.{has_value, is_expression}
 use Rattle.cr_meaning_typed.specs.Whole as readable
 use Rattle.cr_meaning_typed.proofs.Units.{all_worth}
 use Rattle.cr_meaning_judged.specs.Judged.{seen_in, source_of, scene_of, IsJudged}
 use Rattle.cr_meaning_judged.proofs.Judged.{judged}
 use Rattle.cr_meaning_declared.specs.Files.{IsUnitOfFile}
-use Rattle.cr_meaning_sorts.specs.Founded.{is_known, AreInRange, AreReached}
+use Rattle.cr_meaning_sorts.specs.Founded.{is_known, AreInRange, AreReached, AreCalls}
 use Rattle.cr_meaning_whole.specs.Statements.{BlocksRise}
 use Rattle.cr_meaning_whole.specs.Whole.{IsReady}
 use Rattle.cr_meaning_whole.proofs.Around.{rise}
@@ -43,6 +43,7 @@ use Rattle.cr_meaning_files.proofs.Laid.{read_operand, laid_out}
 use Rattle.cr_meaning_files.proofs.Reaching.{reached}
 use Rattle.cr_meaning_files.proofs.Standing.{statements}
 use Rattle.cr_meaning_files.proofs.Enumerators.{IsNumbered, numbered_by, named_number}
+use Rattle.cr_meaning_files.proofs.Calls.{call_names, text_there}
 use Rattle.cr_meaning_files.proofs.Mains.{initialisers_run, names_here, main_defined, body_kind, body_runs, body_exits}
 
 -- a constant that is spelled has the operand of its spelling
@@ -131,6 +132,13 @@ module _ (file : List ℕ) (t : Typed) (it : IsUnitOfFile file t) where
         of_kind kind.SizeofType same h = left.ranged i x v r (ap is_sized same) e f
         of_kind k same h = absurd (false≢true h)
 
+    calls : AreCalls (program_of t limits) t (judgement_of file t it)
+    calls i r e =
+        let n = closed.there i r in
+        let named = call_names file t it left.reads i n.0 n.1 (sym (ap kind_if n.1) ∙ e) in
+        let called = left.called i named.0 r e named.1 in
+        record { signature = named.0; stands = named.1; gives = called.0; called = called.1 }
+
     ready : IsReady t limits (judgement_of file t it) (scene_of made_by.tree checked) sees
     ready = record {
       founded = record {
@@ -138,10 +146,10 @@ module _ (file : List ℕ) (t : Typed) (it : IsUnitOfFile file t) where
           judged = record { columns = is.columns; ruled = is.ruled; worth = worth left.reads; casts = is.casts; texts = is.texts };
           laid = told.expressions left.reads;
           reached = closed;
-          named = left.named;
+          named = record { objects = left.visible.objects; literals = λ i r is. (text_there file t it i is, left.visible.literals i r is) };
           placed = left.placed;
           ranged = ranged;
-          calls = left.calls;
+          calls = calls;
         };
         laid = told.statements;
         blocks = blocks;

@@ -10,4 +10,5 @@ pub mod Reaching
 pub mod Standing
 pub mod Enumerators
 pub mod Mains
+pub mod Calls
 pub mod Files

@@ -10,6 +10,7 @@ use Rattle.cr_check_constants.specs.declared.constant.Operand.{Operand}
 use Rattle.cr_check_operands.specs.Values.{number as a_number}
 use Rattle.cr_check_types.specs.Types.{type_at}
 use Rattle.cr_check_expressions.specs.Forms.{form_of}
+use Rattle.cr_check_expressions.specs.Known.{Signature, a_function}
 use Rattle.cr_check_expressions.specs.Ruled.{facts_at, given}
 use Rattle.cr_check_enclosing.specs.Around.{outermost}
 use Rattle.cr_check_unit.specs.Typing.{cut, source_in}
@@ -23,12 +24,14 @@ use Rattle.cr_meaning.specs.declared.run.Limits.{Limits}
 use Rattle.cr_meaning.specs.declared.run.Run.{Run}
 use Rattle.cr_meaning_soundness.specs.Programs.{AreMainParameters}
 use Rattle.cr_meaning_soundness.specs.Sorts.{IsAmong}
-use Rattle.cr_meaning_operations.specs.Operations.{kind_at, name_of, entity_of, parameter_of, strings_of, program_of}
+use Rattle.cr_meaning_operations.specs.Operations.{kind_at, callee_of, name_of, entity_of, parameter_of, strings_of, program_of}
+use Rattle.cr_meaning_typed.specs.Placed.{IsNamed}
 use Rattle.cr_meaning_typed.specs.Typing.{is_expression, IsRead}
 use Rattle.cr_meaning_judged.specs.Judged.{seen_in, source_of, scene_of}
 use Rattle.cr_meaning_declared.specs.Files.{IsUnitOfFile}
-use Rattle.cr_meaning_sorts.specs.Table.{Judgement, result_of, exits_at}
-use Rattle.cr_meaning_sorts.specs.Founded.{AreNamed, ArePlaced, AreCalls}
+use Rattle.cr_meaning_calls.specs.Calls.{IsGiven, IsCalled}
+use Rattle.cr_meaning_sorts.specs.Table.{Judgement, sorts_in, result_of, exits_at}
+use Rattle.cr_meaning_sorts.specs.Founded.{ArePlaced}
 use Rattle.cr_meaning_whole.specs.Statements.{IsIn, IsInitialised, is_declarator}
 use Rattle.cr_meaning_whole.specs.Whole.{AreSeen}
 use Rattle.cr_meaning_files.specs.Reached.{is_reached}
@@ -64,6 +67,16 @@ pub record AreMains (t : Typed) (limits : Limits) (j : Judgement) : Type 0 where
   pub parameters : AreMainParameters (program_of t limits) (strings_of t (slice_index_or t.parameters t.main [])) (map (parameter_of t) (slice_index_or t.parameters t.main []))
   pub gives : result_of t j (Some t.main) ≡ form.Number IntegerKind
 
+-- the objects of names are there, with cells, and names and literals are seen where they stand
+pub record AreVisible (p : Program) (t : Typed) (j : Judgement) (sees : ℕ → ℕ → Bool) : Type 0 where
+  pub objects : (i : ℕ) (n : Node) → j.runs i ≡ true → slice_get t.nodes i ≡ Some n → n.kind ≡ kind.Identifier → (j.at i).lvalue ≡ true → IsNamed p t i × (sees i (entity_of t i) ≡ true)
+  pub literals : (i : ℕ) → j.runs i ≡ true → kind_at t i ≡ kind.Text → sees i i ≡ true
+
+-- the function that a call names gives nothing or a scalar, and is defined as it is called, or one of the library's
+abbrev pub AreCalled : Program → Typed → Judgement → Type 0
+AreCalled p t j = (i : ℕ) (signature : Signature) → j.runs i ≡ true → kind_at t i ≡ kind.Call → (j.source i).stands i ≡ a_function signature
+    → IsGiven signature.gives × IsCalled p t (sorts_in p t j) signature (callee_of t i)
+
 -- a `return` stands in a function that gives nothing or a scalar, and the label of a `goto` in a block around it; declarators see their objects,
 -- and initialisers set parts that have the cells of their types
 pub record AreStated (p : Program) (t : Typed) (j : Judgement) (sees : ℕ → ℕ → Bool) : Type 0 where
@@ -76,10 +89,10 @@ pub record AreStated (p : Program) (t : Typed) (j : Judgement) (sees : ℕ → �
 -- members lie within structures, sizes in range; that calls, main and initialisers are as they were declared; which node sees which object.
 pub record IsLeftOpen (file : List ℕ) (t : Typed) (it : IsUnitOfFile file t) (limits : Limits) (sees : ℕ → ℕ → Bool) : Type 0 where
   pub reads : AreRead file t it
-  pub named : AreNamed (program_of t limits) t (judgement_of file t it) sees
+  pub visible : AreVisible (program_of t limits) t (judgement_of file t it) sees
   pub placed : ArePlaced t limits (judgement_of file t it)
   pub ranged : SizesAreInRange t (judgement_of file t it)
-  pub calls : AreCalls (program_of t limits) t (judgement_of file t it)
+  pub called : AreCalled (program_of t limits) t (judgement_of file t it)
   pub stated : AreStated (program_of t limits) t (judgement_of file t it) sees
   pub mains : AreMains t limits (judgement_of file t it)
   pub seen : AreSeen t limits sees
