@@ -23,14 +23,14 @@ use Rattle.cr_typed.specs.declared.typed.Typed.{Typed}
 use Rattle.cr_typed_unit.specs.Typed.{IsTypedBy}
 use Rattle.cr_meaning.specs.declared.run.Limits.{Limits}
 use Rattle.cr_meaning_operations.specs.Shapes.{kind_in}
-use Rattle.cr_meaning_operations.specs.Operations.{kind_if, kind_at, part_at, program_of}
+use Rattle.cr_meaning_operations.specs.Operations.{kind_if, kind_at, parts_if, parts_at, part_at, program_of}
 use Rattle.cr_meaning_typed.specs.Typing.{has_value, is_expression}
 use Rattle.cr_meaning_typed.specs.Whole as readable
 use Rattle.cr_meaning_typed.proofs.Units.{all_worth}
 use Rattle.cr_meaning_judged.specs.Judged.{seen_in, source_of, scene_of, IsJudged}
 use Rattle.cr_meaning_judged.proofs.Judged.{judged}
 use Rattle.cr_meaning_declared.specs.Files.{IsUnitOfFile}
-use Rattle.cr_meaning_sorts.specs.Founded.{is_known, AreInRange, AreReached, AreCalls}
+use Rattle.cr_meaning_sorts.specs.Founded.{is_known, IsFound, AreInRange, AreReached, AreCalls}
 use Rattle.cr_meaning_whole.specs.Statements.{BlocksRise}
 use Rattle.cr_meaning_whole.specs.Whole.{IsReady}
 use Rattle.cr_meaning_whole.proofs.Around.{rise}
@@ -44,6 +44,7 @@ use Rattle.cr_meaning_files.proofs.Reaching.{reached}
 use Rattle.cr_meaning_files.proofs.Standing.{statements}
 use Rattle.cr_meaning_files.proofs.Enumerators.{IsNumbered, numbered_by, named_number}
 use Rattle.cr_meaning_files.proofs.Calls.{call_names, text_there}
+use Rattle.cr_meaning_files.proofs.Members.{member_named}
 use Rattle.cr_meaning_files.proofs.Mains.{initialisers_run, names_here, main_defined, body_kind, body_runs, body_exits}
 
 -- a constant that is spelled has the operand of its spelling
@@ -139,6 +140,16 @@ module _ (file : List ℕ) (t : Typed) (it : IsUnitOfFile file t) where
         let called = left.called i named.0 r e named.1 in
         record { signature = named.0; stands = named.1; gives = called.0; called = called.1 }
 
+    members : (i a : ℕ) → is_reached t i ≡ true → kind_at t i ≡ kind.Member → slice_get (parts_at t i) 0 ≡ Some a → IsFound t limits (judgement_of file t it) i a
+    members i a r e first =
+        let n = closed.there i r in
+        let member = left.in_place.members i a r e first in
+        record {
+          is = member_named file t it i a n.0 n.1 (sym (ap kind_if n.1) ∙ e) (ap (λ o. slice_get (parts_if o) 0) (sym n.1) ∙ first) (worth left.reads i (ap (λ k. is_expression (form_of k)) e));
+          within = member.within;
+          structure = member.structure;
+        }
+
     ready : IsReady t limits (judgement_of file t it) (scene_of made_by.tree checked) sees
     ready = record {
       founded = record {
@@ -147,7 +158,7 @@ module _ (file : List ℕ) (t : Typed) (it : IsUnitOfFile file t) where
           laid = told.expressions left.reads;
           reached = closed;
           named = record { objects = left.visible.objects; literals = λ i r is. (text_there file t it i is, left.visible.literals i r is) };
-          placed = left.placed;
+          placed = record { cells = left.in_place.cells; members = members; pointed_members = left.in_place.pointed_members };
           ranged = ranged;
           calls = calls;
         };

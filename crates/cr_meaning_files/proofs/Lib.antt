@@ -11,4 +11,5 @@ pub mod Standing
 pub mod Enumerators
 pub mod Mains
 pub mod Calls
+pub mod Members
 pub mod Files

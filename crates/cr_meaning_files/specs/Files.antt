@@ -24,14 +24,16 @@ use Rattle.cr_meaning.specs.declared.run.Limits.{Limits}
 use Rattle.cr_meaning.specs.declared.run.Run.{Run}
 use Rattle.cr_meaning_soundness.specs.Programs.{AreMainParameters}
 use Rattle.cr_meaning_soundness.specs.Sorts.{IsAmong}
-use Rattle.cr_meaning_operations.specs.Operations.{kind_at, callee_of, name_of, entity_of, parameter_of, strings_of, program_of}
+use Rattle.cr_meaning_operations.specs.Shapes.{type_of_node}
+use Rattle.cr_meaning_operations.specs.Operations.{kind_at, parts_at, pointed, left_type, callee_of, name_of, entity_of, parameter_of, strings_of, program_of}
 use Rattle.cr_meaning_typed.specs.Placed.{IsNamed}
 use Rattle.cr_meaning_typed.specs.Typing.{is_expression, IsRead}
 use Rattle.cr_meaning_judged.specs.Judged.{seen_in, source_of, scene_of}
 use Rattle.cr_meaning_declared.specs.Files.{IsUnitOfFile}
+use Rattle.cr_meaning_expressions.specs.Places.{HasCells, IsMemberIn, AreAmong}
 use Rattle.cr_meaning_calls.specs.Calls.{IsGiven, IsCalled}
 use Rattle.cr_meaning_sorts.specs.Table.{Judgement, sorts_in, result_of, exits_at}
-use Rattle.cr_meaning_sorts.specs.Founded.{ArePlaced}
+use Rattle.cr_meaning_sorts.specs.Founded.{is_followed}
 use Rattle.cr_meaning_whole.specs.Statements.{IsIn, IsInitialised, is_declarator}
 use Rattle.cr_meaning_whole.specs.Whole.{AreSeen}
 use Rattle.cr_meaning_files.specs.Reached.{is_reached}
@@ -67,6 +69,17 @@ pub record AreMains (t : Typed) (limits : Limits) (j : Judgement) : Type 0 where
   pub parameters : AreMainParameters (program_of t limits) (strings_of t (slice_index_or t.parameters t.main [])) (map (parameter_of t) (slice_index_or t.parameters t.main []))
   pub gives : result_of t j (Some t.main) ≡ form.Number IntegerKind
 
+-- the member that a node names lies within its structure
+pub record IsMember (t : Typed) (limits : Limits) (j : Judgement) (i a : ℕ) : Type 0 where
+  pub within : IsMemberIn t i (type_of_node t a)
+  pub structure : (j.at a).lvalue ≡ false → AreAmong t limits i a
+
+-- places that a run may reach have whole cells, and members lie within their structures
+pub record AreInPlace (t : Typed) (limits : Limits) (j : Judgement) : Type 0 where
+  pub cells : (i : ℕ) → j.runs i ≡ true → is_followed (kind_at t i) ≡ true → HasCells t i
+  pub members : (i a : ℕ) → j.runs i ≡ true → kind_at t i ≡ kind.Member → slice_get (parts_at t i) 0 ≡ Some a → IsMember t limits j i a
+  pub pointed_members : (i : ℕ) → j.runs i ≡ true → kind_at t i ≡ kind.PointerMember → IsMemberIn t i (pointed (left_type t i))
+
 -- the objects of names are there, with cells, and names and literals are seen where they stand
 pub record AreVisible (p : Program) (t : Typed) (j : Judgement) (sees : ℕ → ℕ → Bool) : Type 0 where
   pub objects : (i : ℕ) (n : Node) → j.runs i ≡ true → slice_get t.nodes i ≡ Some n → n.kind ≡ kind.Identifier → (j.at i).lvalue ≡ true → IsNamed p t i × (sees i (entity_of t i) ≡ true)
@@ -90,7 +103,7 @@ pub record AreStated (p : Program) (t : Typed) (j : Judgement) (sees : ℕ → �
 pub record IsLeftOpen (file : List ℕ) (t : Typed) (it : IsUnitOfFile file t) (limits : Limits) (sees : ℕ → ℕ → Bool) : Type 0 where
   pub reads : AreRead file t it
   pub visible : AreVisible (program_of t limits) t (judgement_of file t it) sees
-  pub placed : ArePlaced t limits (judgement_of file t it)
+  pub in_place : AreInPlace t limits (judgement_of file t it)
   pub ranged : SizesAreInRange t (judgement_of file t it)
   pub called : AreCalled (program_of t limits) t (judgement_of file t it)
   pub stated : AreStated (program_of t limits) t (judgement_of file t it) sees
