@@ -31,16 +31,18 @@ use Rattle.cr_meaning_judged.specs.Judged.{seen_in, source_of, scene_of, IsJudge
 use Rattle.cr_meaning_judged.proofs.Judged.{judged}
 use Rattle.cr_meaning_declared.specs.Files.{IsUnitOfFile}
 use Rattle.cr_meaning_sorts.specs.Founded.{is_known, IsFound, AreInRange, AreReached, AreCalls}
-use Rattle.cr_meaning_whole.specs.Statements.{BlocksRise}
+use Rattle.cr_meaning_whole.specs.Statements.{BlocksRise, IsIn}
 use Rattle.cr_meaning_whole.specs.Whole.{IsReady}
 use Rattle.cr_meaning_whole.proofs.Around.{rise}
 use Rattle.cr_meaning_whole.proofs.Whole.{outcomes}
-use Rattle.cr_meaning_files.specs.Reached.{is_reached}
+use Rattle.cr_meaning_files.specs.Reached.{is_item, is_reached}
 use Rattle.cr_meaning_files.specs.Files.{judgement_of, is_sized, AreRead, IsLeftOpen, FilesHaveOutcomes}
 use Rattle.cr_meaning_files.specs.Laws.{IsTold, AreTold, AreClosed, AreWorth, EnumeratorsAreNumbers, MainsAreDefined}
 use Rattle.cr_meaning_files.proofs.Filling.{unit}
 use Rattle.cr_meaning_files.proofs.Laid.{read_operand, laid_out}
+use Rattle.cr_meaning_files.proofs.Living.{reached_lives}
 use Rattle.cr_meaning_files.proofs.Reaching.{reached}
+use Rattle.cr_meaning_files.proofs.Functions.{function_there}
 use Rattle.cr_meaning_files.proofs.Standing.{statements}
 use Rattle.cr_meaning_files.proofs.Enumerators.{IsNumbered, numbered_by, named_number}
 use Rattle.cr_meaning_files.proofs.Calls.{call_names, text_there}
@@ -150,6 +152,11 @@ module _ (file : List ℕ) (t : Typed) (it : IsUnitOfFile file t) where
           structure = member.structure;
         }
 
+    returns : (i : ℕ) → is_reached t i ≡ true → kind_at t i ≡ kind.Return → IsIn (judgement_of file t it) i
+    returns i r e =
+        let function = function_there file t it i (reached_lives t (unit file t it) i r) (ap is_item e) in
+        record { definition = function.0; is = function.1; result = left.stated.returns i function.0 r e function.1 }
+
     ready : IsReady t limits (judgement_of file t it) (scene_of made_by.tree checked) sees
     ready = record {
       founded = record {
@@ -173,7 +180,7 @@ module _ (file : List ℕ) (t : Typed) (it : IsUnitOfFile file t) where
           returns = λ i n at same. sym (is.returns i n at same);
         };
         declared = record {
-          returns = left.stated.returns;
+          returns = returns;
           gotos = left.stated.gotos;
           declarators = left.stated.declarators;
           names = names_here t;

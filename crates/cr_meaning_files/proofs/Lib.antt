@@ -10,6 +10,7 @@ pub mod Reaching
 pub mod Standing
 pub mod Enumerators
 pub mod Mains
+pub mod Functions
 pub mod Calls
 pub mod Members
 pub mod Files

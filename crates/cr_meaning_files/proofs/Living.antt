@@ -43,7 +43,7 @@ module _ (t : Typed) (unit : AreOfUnit t) where
   abbrev all : ℕ
   all = length t.nodes
 
-  lives_is : (a : ℕ) → lives t a ≡ (is_static_initialiser t a (kind_at t a) || lives_below t (lives t) a (above a))
+  pub lives_is : (a : ℕ) → lives t a ≡ (is_static_initialiser t a (kind_at t a) || lives_below t (lives t) a (above a))
   lives_is a =
       ap (λ b. is_static_initialiser t a (kind_at t a) || b) (below_same (lives_by all t) (lives t) a (above a)
       (λ i e. let low = above_low a i e in enough all (suc all) i (omega (arith, low.0)) (omega (arith, low.0)) (omega (arith, low.1))))
@@ -66,20 +66,25 @@ module _ (t : Typed) (unit : AreOfUnit t) where
 
   -- ---- where a node goes on
 
-  pub going : (a : ℕ) (k own : Kind) → is_going k ≡ true → (is_expression (form_of own) || is_item own) ≡ true → goes_on t a k own ≡ true
-  going a k own g h = or_left (is_going k && (is_expression (form_of own) || is_item own)) _ (and_from _ _ g h)
+  pub going : (a : ℕ) (k own : Kind) → is_going k ≡ true → is_expression (form_of own) ≡ true → goes_on t a k own ≡ true
+  going a k own g h =
+      or_left (is_going k && (is_expression (form_of own) || (is_item k && is_item own))) _ (and_from _ _ g (or_left (is_expression (form_of own)) (is_item k && is_item own) h))
+
+  pub item_goes : (a : ℕ) (k own : Kind) → is_going k ≡ true → is_item k ≡ true → is_item own ≡ true → goes_on t a k own ≡ true
+  item_goes a k own g i h =
+      or_left (is_going k && (is_expression (form_of own) || (is_item k && is_item own))) _ (and_from _ _ g (or_right (is_expression (form_of own)) (is_item k && is_item own) (and_from _ _ i h)))
 
   pub case_goes : (a : ℕ) (k own : Kind) → is_case k ≡ true → is_item own ≡ true → goes_on t a k own ≡ true
-  case_goes a k own g h = or_right (is_going k && (is_expression (form_of own) || is_item own)) _ (or_left (is_case k && is_item own) _ (and_from _ _ g h))
+  case_goes a k own g h = or_right (is_going k && (is_expression (form_of own) || (is_item k && is_item own))) _ (or_left (is_case k && is_item own) _ (and_from _ _ g h))
 
   pub listing_goes : (a : ℕ) (k own : Kind) → is_listing k ≡ true → (is_expression (form_of own) || is_list own) ≡ true → goes_on t a k own ≡ true
   listing_goes a k own g h =
-      or_right (is_going k && (is_expression (form_of own) || is_item own)) _ (or_right (is_case k && is_item own) _
+      or_right (is_going k && (is_expression (form_of own) || (is_item k && is_item own))) _ (or_right (is_case k && is_item own) _
       (or_left (is_listing k && (is_expression (form_of own) || is_list own)) _ (and_from _ _ g h)))
 
   pub declaration_goes : (a : ℕ) (k own : Kind) → is_declaration k ≡ true → is_declaring own ≡ true → is_automatic t a ≡ true → goes_on t a k own ≡ true
   declaration_goes a k own g h x =
-      or_right (is_going k && (is_expression (form_of own) || is_item own)) _ (or_right (is_case k && is_item own) _
+      or_right (is_going k && (is_expression (form_of own) || (is_item k && is_item own))) _ (or_right (is_case k && is_item own) _
       (or_right (is_listing k && (is_expression (form_of own) || is_list own)) _ (and_from _ _ g (and_from _ _ h x))))
 
   -- ---- what is reached

@@ -30,7 +30,7 @@ item_runs k e = or_right (is_expression (form_of k)) (is_statement k) (item_is k
 module _ (t : Typed) (unit : AreOfUnit t) where
   -- from a node that goes on to an expression
   pub to_expression : (i k a : ℕ) → HasPart t unit i k a → lives t i ≡ true → is_going (kind_at t i) ≡ true → is_expression (form_of (kind_at t a)) ≡ true → lives t a ≡ true
-  to_expression i k a h live g e = goes t unit a i (as_part t unit i k a h) (going t unit a (kind_at t i) (kind_at t a) g (or_left (is_expression (form_of (kind_at t a))) (is_item (kind_at t a)) e)) live
+  to_expression i k a h live g e = goes t unit a i (as_part t unit i k a h) (going t unit a (kind_at t i) (kind_at t a) g e) live
 
   pub expression_reached : (i k a : ℕ) → HasPart t unit i k a → lives t i ≡ true → (is_going (kind_at t i) && not (is_address (kind_at t i))) ≡ true → is_expression (form_of (kind_at t a)) ≡ true → is_reached t a ≡ true
   expression_reached i k a h live g e =

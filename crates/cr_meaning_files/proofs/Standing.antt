@@ -22,9 +22,9 @@ use Rattle.cr_meaning_whole.specs.Statements.{is_statement, has_condition, has_i
 use Rattle.cr_meaning_files.specs.Reached.{is_item, is_declaring, is_list, is_listing, is_going, is_address, goes_on, lives, is_run_kind, is_reached}
 use Rattle.cr_meaning_files.specs.Files.{judgement_of}
 use Rattle.cr_meaning_files.proofs.Grammar.{part_in, Stands, is_of}
-use Rattle.cr_meaning_files.proofs.Tables.{is_expression_part, is_item_part, is_declaring_part, expression_there, item_there, declaring_there, condition, inner, item_is, item_apart, declaring_is, going_lists_nothing, listing_apart, branch_counts, while_counts, do_counts, return_counts, statement_counts, switch_counts, label_counts, switch_body, block_items, declared_parts}
+use Rattle.cr_meaning_files.proofs.Tables.{is_expression_part, is_item_part, is_declaring_part, expression_there, item_there, declaring_there, condition, inner, inner_kind, item_is, item_apart, declaring_is, going_lists_nothing, listing_apart, branch_counts, while_counts, do_counts, return_counts, statement_counts, switch_counts, label_counts, switch_body, block_items, declared_parts}
 use Rattle.cr_meaning_files.proofs.Tree.{HasPart, has_part, as_part, counted_by, exactly, at_most, needed}
-use Rattle.cr_meaning_files.proofs.Living.{goes, going, case_goes, declaration_goes, reached_lives, reached_kind, reach, unpassed, unfollowed}
+use Rattle.cr_meaning_files.proofs.Living.{goes, item_goes, case_goes, declaration_goes, reached_lives, reached_kind, reach, unpassed, unfollowed}
 use Rattle.cr_meaning_files.proofs.Reaching.{expression_runs, item_runs, expression_reached}
 use Rattle.cr_meaning_files.proofs.Loops.{from_at, step_there, IsWhole, whole}
 use Rattle.cr_meaning_files.proofs.Filling.{unit, put_there}
@@ -71,12 +71,13 @@ module _ (file : List ℕ) (t : Typed) (it : IsUnitOfFile file t) where
   within i k a h item = record { plain = (item_is (kind_at t a) item).1.0; apart = item_apart t a (kind_at t a) item; around = around_at file t it i k a h }
 
   -- it is reached with it
-  item_reached : (i k a : ℕ) → HasPart t u i k a → lives t i ≡ true → (is_going (kind_at t i) || is_case (kind_at t i)) ≡ true → is_item (kind_at t a) ≡ true → is_reached t a ≡ true
-  item_reached i k a h live on item =
+  item_reached : (i k a : ℕ) → HasPart t u i k a → lives t i ≡ true → (is_going (kind_at t i) || is_case (kind_at t i)) ≡ true → is_item (kind_at t i) ≡ true → is_item (kind_at t a) ≡ true
+      → is_reached t a ≡ true
+  item_reached i k a h live on own item =
       reach t u a (goes t u a i (as_part t u i k a h) (by (is_going (kind_at t i)) refl) live) (item_runs (kind_at t a) item) (unfollowed t u a (item_is (kind_at t a) item).1.1)
     where
       by : (b : Bool) → is_going (kind_at t i) ≡ b → goes_on t a (kind_at t i) (kind_at t a) ≡ true
-      by true e = going t u a (kind_at t i) (kind_at t a) e (or_right (is_expression (form_of (kind_at t a))) (is_item (kind_at t a)) item)
+      by true e = item_goes t u a (kind_at t i) (kind_at t a) e own item
       by false e = case_goes t u a (kind_at t i) (kind_at t a) (other_one (is_going (kind_at t i)) (is_case (kind_at t i)) on e) item
 
   -- an `if` has three parts at the most
@@ -92,7 +93,7 @@ module _ (file : List ℕ) (t : Typed) (it : IsUnitOfFile file t) where
 
   inners_run : (i k a : ℕ) → is_reached t i ≡ true → has_inner (kind_at t i) k ≡ true → slice_get (parts_at t i) k ≡ Some a → is_reached t a ≡ true
   inners_run i k a r h e =
-      item_reached i k a (has_part t u i k a e) (reached_lives t u i r) (inner (kind_at t i) k (few_parts i k a e) h).1 (inner_item i k a h e)
+      item_reached i k a (has_part t u i k a e) (reached_lives t u i r) (inner (kind_at t i) k (few_parts i k a e) h).1 (inner_kind (kind_at t i) k h) (inner_item i k a h e)
 
   -- ---- conditions
 
@@ -152,7 +153,7 @@ module _ (file : List ℕ) (t : Typed) (it : IsUnitOfFile file t) where
       let item : is_item (kind_at t (part_at t i 1)) ≡ true = ap is_item block in
       let on : (is_going (kind_at t i) || is_case (kind_at t i)) ≡ true = ap (λ c. is_going c || is_case c) is in
       let live = goes t u (part_at t i 1) i (as_part t u i 1 (part_at t i 1) body)
-      (going t u (part_at t i 1) (kind_at t i) (kind_at t (part_at t i 1)) (ap is_going is) (or_right (is_expression (form_of (kind_at t (part_at t i 1)))) (is_item (kind_at t (part_at t i 1))) item))
+      (item_goes t u (part_at t i 1) (kind_at t i) (kind_at t (part_at t i 1)) (ap is_going is) (ap is_item is) item)
       (reached_lives t u i r) in
       record {
         selects = needed t u i 0 kind.Switch is refl (omega (arith, two));
@@ -160,7 +161,7 @@ module _ (file : List ℕ) (t : Typed) (it : IsUnitOfFile file t) where
         block = block;
         within = slice_get_within t.nodes (part_at t i 1) body.own body.own_at;
         items_run = λ k a e. (let part = has_part t u (part_at t i 1) k a e in
-            item_reached (part_at t i 1) k a part live (ap (λ c. is_going c || is_case c) block)
+            item_reached (part_at t i 1) k a part live (ap (λ c. is_going c || is_case c) block) item
             (item_there (part_in (side_of (kind_at t (part_at t i 1))) k) (kind_at t a) (ap (λ c. is_of is_item_part (part_in (side_of c) k)) block ∙ block_items k) part.stands));
       }
 
@@ -174,7 +175,7 @@ module _ (file : List ℕ) (t : Typed) (it : IsUnitOfFile file t) where
 
       by : (b : Bool) → is_expression (form_of (kind_at t a)) ≡ b → is_reached t a ≡ true
       by true f = expression_reached t u i k a part (reached_lives t u i r) (ap (λ c. is_going c && not (is_address c)) is) f
-      by false f = item_reached i k a part (reached_lives t u i r) (ap (λ c. is_going c || is_case c) is) (other_one (is_expression (form_of (kind_at t a))) (is_item (kind_at t a)) (w.kinds k a e) f)
+      by false f = item_reached i k a part (reached_lives t u i r) (ap (λ c. is_going c || is_case c) is) (ap is_item is) (other_one (is_expression (form_of (kind_at t a))) (is_item (kind_at t a)) (w.kinds k a e) f)
 
   fors : (i : ℕ) (n : Node) → is_reached t i ≡ true → slice_get t.nodes i ≡ Some n → n.kind ≡ kind.For → IsFor t (judgement_of file t it) n i
   fors i n r at for =

@@ -244,6 +244,17 @@ inner c (suc (suc (suc k))) few h = by (is_branch c) refl
     by true e = let least_is = few (only_branch c e) in absurd (omega (arith, least_is))
     by false e = and_parts _ _ (row _ _ (ap (λ b. b || has_within c (suc (suc (suc k)))) (sym e) ∙ within_more c k) h)
 
+-- it stands within an item
+pub inner_kind : (c : Kind) (k : ℕ) → has_inner c k ≡ true → is_item c ≡ true
+inner_kind kind.If k h = refl
+inner_kind kind.While k h = refl
+inner_kind kind.Do k h = refl
+inner_kind kind.Label k h = refl
+inner_kind kind.Default k h = refl
+inner_kind kind.Case k h = refl
+inner_kind kind.Compound k h = refl
+inner_kind c k h = absurd (false≢true h)
+
 -- ---- what is evaluated
 
 abbrev is_taken : Kind → ℕ → Bool
@@ -331,6 +342,21 @@ declaring_is kind.GroupDeclarator h = (refl, refl)
 declaring_is kind.ArrayDeclarator h = (refl, refl)
 declaring_is kind.FunctionDeclarator h = (refl, refl)
 declaring_is c h = absurd (false≢true h)
+
+-- what is no item
+pub item_lists_nothing : (c : Kind) → is_item c ≡ true → (is_list c ≡ false) × (is_declaring c ≡ false)
+item_lists_nothing kind.InitializerList h = absurd (false≢true h)
+item_lists_nothing kind.InitDeclarator h = absurd (false≢true h)
+item_lists_nothing kind.NameDeclarator h = absurd (false≢true h)
+item_lists_nothing kind.PointerDeclarator h = absurd (false≢true h)
+item_lists_nothing kind.GroupDeclarator h = absurd (false≢true h)
+item_lists_nothing kind.ArrayDeclarator h = absurd (false≢true h)
+item_lists_nothing kind.FunctionDeclarator h = absurd (false≢true h)
+item_lists_nothing c h = (refl, refl)
+
+pub case_item : (c : Kind) → is_case c ≡ true → is_item c ≡ true
+case_item kind.Case h = refl
+case_item c h = absurd (false≢true h)
 
 -- ---- what has no initialisers
 

@@ -31,10 +31,11 @@ use Rattle.cr_meaning_typed.specs.Typing.{is_expression, IsRead}
 use Rattle.cr_meaning_judged.specs.Judged.{seen_in, source_of, scene_of}
 use Rattle.cr_meaning_declared.specs.Files.{IsUnitOfFile}
 use Rattle.cr_meaning_expressions.specs.Places.{HasCells, IsMemberIn, AreAmong}
+use Rattle.cr_meaning_statements.specs.Statements.{IsResult}
 use Rattle.cr_meaning_calls.specs.Calls.{IsGiven, IsCalled}
 use Rattle.cr_meaning_sorts.specs.Table.{Judgement, sorts_in, result_of, exits_at}
 use Rattle.cr_meaning_sorts.specs.Founded.{is_followed}
-use Rattle.cr_meaning_whole.specs.Statements.{IsIn, IsInitialised, is_declarator}
+use Rattle.cr_meaning_whole.specs.Statements.{IsInitialised, is_declarator}
 use Rattle.cr_meaning_whole.specs.Whole.{AreSeen}
 use Rattle.cr_meaning_files.specs.Reached.{is_reached}
 
@@ -90,10 +91,10 @@ abbrev pub AreCalled : Program → Typed → Judgement → Type 0
 AreCalled p t j = (i : ℕ) (signature : Signature) → j.runs i ≡ true → kind_at t i ≡ kind.Call → (j.source i).stands i ≡ a_function signature
     → IsGiven signature.gives × IsCalled p t (sorts_in p t j) signature (callee_of t i)
 
--- a `return` stands in a function that gives nothing or a scalar, and the label of a `goto` in a block around it; declarators see their objects,
+-- the function around a `return` gives nothing or a scalar, and the label of a `goto` in a block around it; declarators see their objects,
 -- and initialisers set parts that have the cells of their types
 pub record AreStated (p : Program) (t : Typed) (j : Judgement) (sees : ℕ → ℕ → Bool) : Type 0 where
-  pub returns : (i : ℕ) → j.runs i ≡ true → kind_at t i ≡ kind.Return → IsIn j i
+  pub returns : (i definition : ℕ) → j.runs i ≡ true → kind_at t i ≡ kind.Return → (j.around i).function ≡ Some definition → IsResult (j.gives (Some definition))
   pub gotos : (i : ℕ) → j.runs i ≡ true → kind_at t i ≡ kind.Goto → IsAmong (entity_of t i) (exits_at t j i).labels
   pub declarators : (i : ℕ) → j.runs i ≡ true → is_declarator (kind_at t i) ≡ true → sees i (name_of t i) ≡ true
   pub initialised : (i : ℕ) → j.runs i ≡ true → kind_at t i ≡ kind.InitDeclarator → IsInitialised p t j sees i

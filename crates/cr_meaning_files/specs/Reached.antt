@@ -70,14 +70,14 @@ is_address k = false
 
 -- ---- from a node to its parts
 
--- expressions but `sizeof`, and statements but a `case`, go on with all their expressions and statements
+-- expressions but `sizeof` go on with all their expressions, and statements but a `case` with statements too
 abbrev pub is_going : Kind → Bool
 is_going k = (is_expression (form_of k) && not (is_size k)) || (is_item k && not (is_case k || is_declaration k))
 
 -- a `case` with its statement, a declarator and a list with their initialisers, and a declaration with the declarators of automatic objects
 abbrev pub goes_on : Typed → ℕ → Kind → Kind → Bool
 goes_on t part k own =
-    (is_going k && (is_expression (form_of own) || is_item own))
+    (is_going k && (is_expression (form_of own) || (is_item k && is_item own)))
     || ((is_case k && is_item own)
     || ((is_listing k && (is_expression (form_of own) || is_list own)) || (is_declaration k && (is_declaring own && is_automatic t part))))
 
