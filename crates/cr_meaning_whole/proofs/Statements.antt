@@ -308,6 +308,13 @@ module _ (t : Typed) (limits : Limits) (j : Judgement) (scene : Scene) (sees : �
         put_there k node None is e rest = absurd (cc e)
         put_there k node (Some put) is e rest = let same : put.node ≡ node = cc e in subst (HasSort table) same (rest put is)
 
+    -- a declarator of a function declares no object
+    function_good : Good (node_op [] work.Declaration)
+    function_good = record { typed = record { gives = tt; parts = λ k node is. absurd (none k node is) }; demands = tt }
+      where
+        none : (k node : ℕ) → slice_get [] k ≡ Some node → ⊥
+        none k node e = cc e
+
     -- ---- all kinds
 
     good : (k : Kind) → kind_at t i ≡ k → is_statement k ≡ true → Good (op_by t i k)
@@ -333,6 +340,7 @@ module _ (t : Typed) (limits : Limits) (j : Judgement) (scene : Scene) (sees : �
     good kind.NameDeclarator e s = declared_good i (ap (sees i) (sym (founded.declared.names i e)) ∙ founded.declared.declarators i runs (ap is_declarator e))
     good kind.PointerDeclarator e s = declared_good (name_of t i) (founded.declared.declarators i runs (ap is_declarator e))
     good kind.GroupDeclarator e s = declared_good (name_of t i) (founded.declared.declarators i runs (ap is_declarator e))
+    good kind.FunctionDeclarator e s = function_good
     good kind.ArrayDeclarator e s = declared_good (name_of t i) (founded.declared.declarators i runs (ap is_declarator e))
     good k e s = absurd (false≢true s)
 

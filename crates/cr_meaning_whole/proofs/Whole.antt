@@ -73,7 +73,7 @@ initialiser_plain : (t : Typed) (a : ℕ) (k : Kind) → is_static_initialiser t
 initialiser_plain t a kind.InitDeclarator e = refl
 initialiser_plain t a k e = absurd (false≢true e)
 
-is_initialiser : (t : Typed) (k a : ℕ) → slice_get (nodes_from (is_static_initialiser t) 0 t.nodes) k ≡ Some a → is_static_initialiser t a (kind_at t a) ≡ true
+pub is_initialiser : (t : Typed) (k a : ℕ) → slice_get (nodes_from (is_static_initialiser t) 0 t.nodes) k ≡ Some a → is_static_initialiser t a (kind_at t a) ≡ true
 is_initialiser t k a e =
     let x = passed (is_static_initialiser t) 0 t.nodes k a e in
     let same : a ≡ x.place = (let place = x.is in omega (arith, place)) in

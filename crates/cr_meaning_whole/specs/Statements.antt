@@ -50,6 +50,7 @@ is_statement kind.NameDeclarator = true
 is_statement kind.PointerDeclarator = true
 is_statement kind.GroupDeclarator = true
 is_statement kind.ArrayDeclarator = true
+is_statement kind.FunctionDeclarator = true
 is_statement k = false
 
 -- these parts of a statement are expressions that it evaluates

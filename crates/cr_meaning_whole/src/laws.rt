@@ -1,7 +1,6 @@
 //! What a reader expects of a typed unit's run. The program calls none of these functions.
 ghost use Rattle.cr_meaning_whole.specs.Statements.{NodesAreGood};
 ghost use Rattle.cr_meaning_whole.specs.Whole.{UnitsHaveOutcomes};
-ghost use Rattle.cr_meaning_whole.specs.Files.{FilesHaveOutcomes};
 
 /// Of all nodes of a unit that a run may reach, in one table.
 pub fn nodes_are_good()
@@ -11,9 +10,4 @@ pub fn nodes_are_good()
 /// The run of a unit comes to a status, or to a numbered case at a node, and never to operands that no program has.
 pub fn units_have_outcomes()
     ensures { UnitsHaveOutcomes }
-{}
-
-/// The same of the typed unit of a file, of which what the check gives is no premise.
-pub fn files_have_outcomes()
-    ensures { FilesHaveOutcomes }
 {}

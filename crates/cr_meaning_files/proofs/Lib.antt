@@ -1,0 +1,16 @@
+pub mod Grammar
+pub mod Tables
+pub mod Tree
+pub mod Living
+pub mod Putting
+pub mod Filling
+pub mod Laid
+pub mod Loops
+pub mod Reaching
+pub mod Standing
+pub mod Enumerators
+pub mod Mains
+pub mod Functions
+pub mod Calls
+pub mod Members
+pub mod Files

@@ -1,0 +1,157 @@
+-- The parts of a unit's nodes: what stands there, how many there are, and which node is above each.
+use Rattle.std.proofs.Common.{◌≡◌, ℕ, zero, suc, ◌+◌, ◌<◌, ◌≤◌, ◌==◌, Bool, true, false, ◌&&◌, ◌||◌, not, cond, List, [], ◌∷◌, ◌++◌, Option, None, Some, length, nat_lt, slice_get, slice_index, slice_index_or, refl, sym, subst, ap, ◌∙◌, arith}
+use Rattle.std.specs.List.{count_by, flat_map}
+use Rattle.std.proofs.lemmas.Bool.{cases_lt, eq-eqb, ne_eqb, false≢true, lt-ltb}
+use Rattle.std.proofs.lemmas.List.Sums.{sum_by-append, sum_by-cons}
+use Rattle.std.proofs.lemmas.Option.{slice_get_within, get_or_from_slice_get, slice_get-get_or}
+use Rattle.cr_syntax.specs.declared.node.Kind.{Kind}
+use Rattle.cr_syntax.specs.declared.node.Kind.TheVariants as kind
+use Rattle.cr_syntax.specs.declared.node.Node.{Node}
+use Rattle.cr_syntax.specs.Kept.{AreBelow, row_in}
+use Rattle.cr_syntax.specs.Tables.{side_of}
+use Rattle.cr_syntax_nodes.specs.Nodes.{least, most, IsUpTo, IsCounted}
+use Rattle.cr_syntax_nodes.specs.Laid.{IsLaid}
+use Rattle.cr_syntax_nodes.proofs.Made.{made_in}
+use Rattle.cr_syntax_nodes.proofs.Numbers.{occurs, some_at}
+use Rattle.cr_syntax_nodes.proofs.Counts.{counted, row_counted}
+use Rattle.cr_typed.specs.declared.typed.Typed.{Typed}
+use Rattle.cr_meaning_operations.specs.Operations.{kind_if, kind_at, parts_if, parts_at, part_at}
+use Rattle.cr_meaning_units.specs.Owned.{AreOfUnit}
+use Rattle.cr_meaning_units.proofs.Handing.{laid_at, parts_below}
+use Rattle.cr_meaning_names.proofs.Parents.{IsPartOf}
+use Rattle.cr_meaning_files.proofs.Grammar.{part_in, Stands, stands}
+use Rattle.cr_meaning_files.proofs.Tables.{is_jump}
+
+-- ---- a number that stands twice in a list
+
+abbrev times : List ℕ → ℕ → ℕ
+times ps k = count_by (λ p. p == k) ps
+
+once_more : (p k : ℕ) (ps : List ℕ) → times (p ∷ ps) k ≡ cond (p == k) 1 0 + times ps k
+once_more p k ps = sum_by-cons (λ x. cond (x == k) 1 0) p ps
+
+abbrev weight : Bool → ℕ
+weight b = cond b 1 0
+
+has_it : (ps : List ℕ) (j p : ℕ) → slice_get ps j ≡ Some p → 1 ≤ times ps p
+has_it [] j p e = absurd (cc e)
+has_it (q ∷ ps) zero p e =
+    let same : q ≡ p = cc e in
+    let one : weight (q == p) ≡ weight true = ap weight (eq-eqb q p same) in
+    let more = once_more q p ps in
+    omega (arith, one, more)
+has_it (q ∷ ps) (suc j) p e = let rest = has_it ps j p e in let more = once_more q p ps in omega (arith, rest, more)
+
+has_both : (ps : List ℕ) (j k p : ℕ) → j < k → slice_get ps j ≡ Some p → slice_get ps k ≡ Some p → 2 ≤ times ps p
+has_both [] j k p less e f = absurd (cc e)
+has_both (q ∷ ps) zero zero p less e f = absurd (omega (arith, less))
+has_both (q ∷ ps) zero (suc k) p less e f =
+    let same : q ≡ p = cc e in
+    let one : weight (q == p) ≡ weight true = ap weight (eq-eqb q p same) in
+    let rest = has_it ps k p f in
+    let more = once_more q p ps in
+    omega (arith, one, rest, more)
+has_both (q ∷ ps) (suc j) zero p less e f = absurd (omega (arith, less))
+has_both (q ∷ ps) (suc j) (suc k) p less e f = let rest = has_both ps j k p (omega (arith, less)) e f in let more = once_more q p ps in omega (arith, rest, more)
+
+abbrev parts_in : List Node → List ℕ
+parts_in ns = flat_map (λ n. n.parts) ns
+
+in_all : (ns : List Node) (a : ℕ) (n : Node) (p : ℕ) → slice_get ns a ≡ Some n → times n.parts p ≤ times (parts_in ns) p
+in_all [] a n p e = absurd (cc e)
+in_all (x ∷ ns) zero n p e =
+    let same : x ≡ n = cc e in
+    let one : times x.parts p ≡ times n.parts p = ap (λ (y : Node). times y.parts p) same in
+    let more : times (parts_in (x ∷ ns)) p ≡ times x.parts p + times (parts_in ns) p = sum_by-append (λ y. cond (y == p) 1 0) x.parts (parts_in ns) in
+    omega (arith, one, more)
+in_all (x ∷ ns) (suc a) n p e =
+    let rest = in_all ns a n p e in
+    let more : times (parts_in (x ∷ ns)) p ≡ times x.parts p + times (parts_in ns) p = sum_by-append (λ y. cond (y == p) 1 0) x.parts (parts_in ns) in
+    omega (arith, rest, more)
+
+module _ (t : Typed) (unit : AreOfUnit t) where
+  -- ---- a part of a node
+
+  kind_there : (i : ℕ) (n : Node) → slice_get t.nodes i ≡ Some n → kind_at t i ≡ n.kind
+  kind_there i n at = ap kind_if at
+
+  -- a node with a part is there
+  pub record HasPart (i k a : ℕ) : Type 0 where
+    pub node : Node
+    pub at : slice_get t.nodes i ≡ Some node
+    pub is : slice_get node.parts k ≡ Some a
+    pub own : Node
+    pub own_at : slice_get t.nodes a ≡ Some own
+    pub below : a < i
+    pub stands : Stands (part_in (side_of (kind_at t i)) k) (kind_at t a)
+
+  pub has_part : (i k a : ℕ) → slice_get (parts_at t i) k ≡ Some a → HasPart i k a
+  has_part i k a e = by (slice_get t.nodes i) refl
+    where
+      by : (o : Option Node) → slice_get t.nodes i ≡ o → HasPart i k a
+      by None at = absurd (none (ap (λ o. slice_get (parts_if o) k) (sym at) ∙ e))
+        where
+          none : slice_get [] k ≡ Some a → ⊥
+          none f = cc f
+      by (Some n) at =
+          let is : slice_get n.parts k ≡ Some a = ap (λ o. slice_get (parts_if o) k) (sym at) ∙ e in
+          let own = stands t.nodes unit.below unit.tokens (side_of n.kind) n.parts n.first (n.last + 1) (parts_below t unit i n at) (laid_at t unit i n at) k a is in
+          let few = slice_get_within n.parts k a is in
+          let low = unit.below i n at k few in
+          let same : slice_index n.parts k ≡ a = get_or_from_slice_get n.parts k a _ is in
+          record {
+            node = n;
+            at = at;
+            is = is;
+            own = own.0;
+            own_at = own.1.0;
+            below = omega (arith, low, same);
+            stands = subst (λ c. Stands (part_in (side_of c) k) (kind_at t a)) (sym (ap kind_if at)) (subst (λ c. Stands (part_in (side_of n.kind) k) c) (sym (ap kind_if own.1.0)) own.1.1);
+          }
+
+  pub as_part : (i k a : ℕ) → HasPart i k a → IsPartOf t unit a i
+  as_part i k a h = record { parent = h.node; at = h.at; place = k; is = h.is }
+
+  -- ---- how many parts
+
+  counted_at : (i : ℕ) (n : Node) → slice_get t.nodes i ≡ Some n → IsCounted (side_of n.kind) (length n.parts)
+  counted_at i n at =
+      subst (IsCounted (side_of n.kind)) (row_counted t.nodes unit.below n.parts (parts_below t unit i n at))
+      (counted (made_in unit.is_unit.spells (occurs t.nodes unit.below t.items unit.once unit.are (length t.nodes) i n (omega arith) at)).spells)
+
+  -- a node of a kind other than the one of nodes that aren't there
+  pub counted_by : (i : ℕ) (k : Kind) → kind_at t i ≡ k → is_jump k ≡ false → IsCounted (side_of k) (length (parts_at t i))
+  counted_by i k is apart = by (slice_get t.nodes i) refl
+    where
+      by : (o : Option Node) → slice_get t.nodes i ≡ o → IsCounted (side_of k) (length (parts_at t i))
+      by None at = absurd (false≢true (sym apart ∙ ap is_jump (sym is ∙ ap kind_if at)))
+      by (Some n) at =
+          subst (λ (ps : List ℕ). IsCounted (side_of k) (length ps)) (sym (ap parts_if at)) (subst (λ c. IsCounted (side_of c) (length n.parts)) (sym (ap kind_if at) ∙ is) (counted_at i n at))
+
+  pub exactly : (i : ℕ) (k : Kind) (m : ℕ) → kind_at t i ≡ k → is_jump k ≡ false → least (side_of k) ≡ m → most (side_of k) ≡ Some m → length (parts_at t i) ≡ m
+  exactly i k m is apart low high =
+      let c = counted_by i k is apart in
+      let up : length (parts_at t i) ≤ m = subst (λ o. IsUpTo o (length (parts_at t i))) high c.most in
+      let down = c.least in
+      omega (arith, up, down, low)
+
+  pub at_most : (i : ℕ) (k : Kind) (m : ℕ) → kind_at t i ≡ k → is_jump k ≡ false → most (side_of k) ≡ Some m → length (parts_at t i) ≤ m
+  at_most i k m is apart high = subst (λ o. IsUpTo o (length (parts_at t i))) high (counted_by i k is apart).most
+
+  -- a part that must be there
+  pub needed : (i k : ℕ) (c : Kind) → kind_at t i ≡ c → is_jump c ≡ false → k < least (side_of c) → slice_get (parts_at t i) k ≡ Some (part_at t i k)
+  needed i k c is apart few = let down = (counted_by i c is apart).least in slice_get-get_or (parts_at t i) k 0 (omega (arith, few, down))
+
+  -- ---- a part stands in one place
+
+  pub one_place : (i j k a : ℕ) (n : Node) → slice_get t.nodes i ≡ Some n → slice_get n.parts j ≡ Some a → slice_get n.parts k ≡ Some a → j < k → ⊥
+  one_place i j k a n at e f less =
+      let few = slice_get_within n.parts j a e in
+      let low = unit.below i n at j few in
+      let same : slice_index n.parts j ≡ a = get_or_from_slice_get n.parts j a _ e in
+      let within = slice_get_within t.nodes i n at in
+      let two = has_both n.parts j k a less e f in
+      let all = in_all t.nodes i n a at in
+      let once = unit.once a (omega (arith, low, same, within)) in
+      let parts : times (parts_in t.nodes ++ t.items) a ≡ times (parts_in t.nodes) a + times t.items a = sum_by-append (λ x. cond (x == a) 1 0) (parts_in t.nodes) t.items in
+      absurd (omega (arith, two, all, once, parts))

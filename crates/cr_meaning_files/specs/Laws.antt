@@ -1,0 +1,45 @@
+-- What the grammar and the check give of a file's typed unit.
+use Rattle.std.specs.Prelude.{◌≡◌, ℕ, ℤ, true, List, Option, None, slice_index_or}
+use Rattle.cr_ints.specs.declared.kind.IntKind.TheVariants.{Int as IntegerKind}
+use Rattle.cr_ints.specs.IntKind.{Represents}
+use Rattle.cr_syntax.specs.declared.node.Kind.TheVariants as kind
+use Rattle.cr_check_expressions.specs.Forms.{form_of}
+use Rattle.cr_check_expressions.specs.Known.{an_enumerator}
+use Rattle.cr_typed.specs.declared.typed.Typed.{Typed}
+use Rattle.cr_meaning_operations.specs.Operations.{kind_at, part_at}
+use Rattle.cr_meaning_typed.specs.Typing.{has_value, is_expression}
+use Rattle.cr_meaning_declared.specs.Files.{IsUnitOfFile}
+use Rattle.cr_meaning_sorts.specs.Founded.{AreLaidOut, AreReached}
+use Rattle.cr_meaning_whole.specs.Statements.{AreStatementsLaid}
+use Rattle.cr_meaning_files.specs.Reached.{is_reached}
+use Rattle.cr_meaning_files.specs.Files.{judgement_of, AreRead}
+
+-- expressions have as many parts as their rules read, all of them expressions, used as values but where a place is taken; and only a literal
+-- fills an array
+pub record IsTold (file : List ℕ) (t : Typed) (it : IsUnitOfFile file t) : Type 0 where
+  pub expressions : AreRead file t it → AreLaidOut t (judgement_of file t it)
+  pub statements : AreStatementsLaid t (judgement_of file t it)
+
+abbrev pub AreTold : Type 0
+AreTold = (file : List ℕ) (t : Typed) (it : IsUnitOfFile file t) → IsTold file t it
+
+abbrev pub AreClosed : Type 0
+AreClosed = (file : List ℕ) (t : Typed) (it : IsUnitOfFile file t) → AreReached t (judgement_of file t it)
+
+-- each expression has a value, where what it reads is known
+abbrev pub AreWorth : Type 0
+AreWorth = (file : List ℕ) (t : Typed) (it : IsUnitOfFile file t) → AreRead file t it → (i : ℕ) → is_expression (form_of (kind_at t i)) ≡ true
+    → has_value ((judgement_of file t it).at i).type ≡ true
+
+-- an enumerator that a name stands for lies in int (6.7.2.2p2)
+abbrev pub EnumeratorsAreNumbers : Type 0
+EnumeratorsAreNumbers = (file : List ℕ) (t : Typed) (it : IsUnitOfFile file t) (i node : ℕ) (v : ℤ) → ((judgement_of file t it).source i).stands node ≡ an_enumerator v → Represents IntegerKind v
+
+-- main is a definition (5.1.2.2.1), whose body is a block that a run reaches
+pub record IsMain (t : Typed) : Type 0 where
+  pub defines : kind_at t t.main ≡ kind.FunctionDefinition
+  pub block : kind_at t (part_at t t.main 2) ≡ kind.Compound
+  pub reached : is_reached t (part_at t t.main 2) ≡ true
+
+abbrev pub MainsAreDefined : Type 0
+MainsAreDefined = (file : List ℕ) (t : Typed) → IsUnitOfFile file t → IsMain t

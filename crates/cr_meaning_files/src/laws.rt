@@ -1,0 +1,33 @@
+//! What a reader expects of the run of a file's typed unit. The program calls none of these functions.
+ghost use Rattle.cr_meaning_files.specs.Laws.{AreClosed, AreTold, AreWorth, EnumeratorsAreNumbers, MainsAreDefined};
+ghost use Rattle.cr_meaning_files.specs.Files.{FilesHaveOutcomes};
+
+/// What a run may reach has its operands, its statements and its declarators with it.
+pub fn nodes_are_told()
+    ensures { AreTold }
+{}
+
+/// With a node a run may reach what is evaluated with it.
+pub fn runs_are_closed()
+    ensures { AreClosed }
+{}
+
+/// Each expression of a file's unit has a value, where what it reads of names and members is known.
+pub fn expressions_are_worth()
+    ensures { AreWorth }
+{}
+
+/// An enumerator that a name stands for lies in int.
+pub fn enumerators_are_numbers()
+    ensures { EnumeratorsAreNumbers }
+{}
+
+/// The body of main is a block, which a run reaches.
+pub fn mains_are_defined()
+    ensures { MainsAreDefined }
+{}
+
+/// The run of a file's typed unit comes to a status, or to a numbered case at a node, and never to operands that no program has.
+pub fn files_have_outcomes()
+    ensures { FilesHaveOutcomes }
+{}
