@@ -159,12 +159,27 @@ file_says() {
     else df -h "$folder" | tail -n 1 | awk '{ print "The disk of that folder has " $4 " free." }'; fi
 }
 
+# journal_fault NAME: why a journal can't be used, if that can be seen.
+journal_fault() {
+    echo "No record of it is lost, and FILE is as it was. Another run of creduce may have it open, or:"
+    file_says "$1"
+}
+
+# journal_refused RECORD: why a journal isn't that of this reduction.
+journal_refused() {
+    if [ "$1" != 0 ]; then echo "Record $1 of it is no variant of the file before it, by these --passes and --steps, or isn't in the form."
+    elif has_mode --journal; then echo "$name.journal is there already: go on with it by --resume in the place of --journal, or remove it to begin anew."
+    else echo "Its header isn't in the form, or has other --passes, --steps or --limit, or $name.orig isn't the file that it began with."; fi
+}
+
 # explain WORD..: what there is to say beside the program's line.
 explain() {
     local found test=${places[0]:-}
     case $status in
     2) found=$(word_fault "$@") && echo "${found:-The words are in no form.}" && echo "$top/creduce --help says which words there are." ;;
-    3) [ -e "$name" ] || echo "FILE is looked for from the folder $PWD." ;;
+    3)
+        if [ "$line" = "creduce: no file $name.orig" ]; then echo "--resume goes on from $name.orig, which has the bytes that were read."
+        elif [ ! -e "$name" ]; then echo "FILE is looked for from the folder $PWD."; fi ;;
     4 | 5)
         if [[ $line =~ ^creduce:\ (.*):([0-9]+):\ not\ in\ the\ subset:\ (token|parse|name|type)\ ([0-9]+)$ ]]; then
             refusal "${BASH_REMATCH[1]}" "${BASH_REMATCH[2]}" "${BASH_REMATCH[3]/type/K}" "${BASH_REMATCH[4]}"
@@ -182,6 +197,8 @@ explain() {
             echo "The test failed on a variant, which lies in a folder creduce-trial-K: it ended there with 126 or 127. FILE holds the best so far."
         fi ;;
     9) file_says "${line#creduce: file fault: }" ;;
+    12) journal_fault "${line#creduce: journal fault: }" ;;
+    13) journal_refused "${line##* }" ;;
     14) log_says "$test" ;;
     esac
 }

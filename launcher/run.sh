@@ -20,6 +20,7 @@ stop() {
     [ -z "$watcher" ] || kill -TERM -- "-$watcher" 2>/dev/null
     clear_line
     best_is_kept
+    how_on "${given[@]}"
     rm -f "$said"
     trap - "$1"
     kill -s "$1" $$
@@ -40,6 +41,20 @@ best_is_kept() {
     if [ -n "$name" ] && [ -f "$best" ]; then hint "creduce: $name is as it was; the smallest variant that passed the test is $best ($(wc -c <"$best") bytes)"; fi
 }
 
+# how_on WORD..: how a run that ended before its time is gone on with.
+how_on() {
+    local word words=''
+    if has_mode --journal || has_mode --resume; then
+        for word in "$@"; do
+            [ "$word" != --journal ] || word=--resume
+            words+=" $(printf %q "$word")"
+        done
+        hint "creduce: this goes on with it, behind the last variant kept in $name.journal, or anew where none is, when --journal would be refused: creduce$words"
+    elif [ -n "$name" ]; then
+        hint "creduce: nothing more is kept of this run; one with --journal is gone on with by --resume"
+    fi
+}
+
 # watch: says each minute which trials have run for longer than that.
 watch() {
     local seconds words
@@ -52,7 +67,7 @@ watch() {
 
 # run_program WORD..: sets line to what it put and status to how it ended.
 run_program() {
-    said=$(mktemp) watcher='' run=$$.$(date +%s%N) pid=''
+    said=$(mktemp) watcher='' run=$$.$(date +%s%N) pid='' given=("$@")
     set -m
     CREDUCE_RUN=$run "$program" "$@" >"$said" &
     pid=$!
@@ -92,13 +107,15 @@ finish() {
         clear_line
         say "the program was ended by signal $((status - 128)), and its tests with it"
         best_is_kept
+        how_on "$@"
         return
     fi
     case $status$line in
     0* | 7* | 10* | 8*' fault') [ -z "$name" ] || { rm -f "$best" && rmdir creduce-best; } 2>/dev/null ;;
-    9* | 11*) best_is_kept ;;
+    9* | 11* | 12*) best_is_kept ;;
     esac
     case $status in
-    [2-6] | 8 | 9 | 14) [ "${CREDUCE_QUIET:-}" = 1 ] || explain "$@" >&2 ;;
+    [2-6] | 8 | 9 | 1[2-4]) [ "${CREDUCE_QUIET:-}" = 1 ] || explain "$@" >&2 ;;
     esac
+    [ "$status" != 12 ] || how_on "$@"
 }

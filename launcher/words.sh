@@ -19,8 +19,18 @@ read_words() {
     done
 }
 
-# Whether FILE and FILE.orig are written by a run with these words.
-writes() { [ "${#places[@]}" = 2 ] && [[ ${modes[*]:-} != *--resume* ]] && [[ ${places[1]} != gen:* ]] && [ "${1:-}" != --replay ]; }
+# Whether FILE is written by a run with these words.
+writes() { [ "${#places[@]}" = 2 ] && [[ ${places[1]} != gen:* ]] && [ "${1:-}" != --replay ]; }
+
+# has_mode FLAG: whether the flag stands among the words.
+has_mode() { [[ " ${modes[*]:-} " == *" $1 "* ]]; }
+
+# goes_on FILE: whether a run with these words goes on with the journal of FILE, and so reads FILE.orig in the place of writing it.
+goes_on() {
+    local gate
+    has_mode --resume && [ -f "$1.journal" ] && [ "$(wc -c <"$1.journal")" -ge 33 ] || return
+    gate=$(od -An -N1 -tu1 "$1.journal") && [ "${gate// /}" = 1 ]
+}
 
 # number VALUE LEAST MOST: whether it is a number of 1 to 19 digits from LEAST, which is 0 or 1, to MOST.
 number() {
@@ -96,15 +106,28 @@ names_fault() {
     done
 }
 
+# journal_word_fault: why no journal is kept with these words, where one is asked for.
+journal_word_fault() {
+    has_mode --journal || has_mode --resume || return
+    if has_mode --journal && has_mode --resume; then echo '--journal begins a journal and --resume goes on with one: only one of them may stand'
+    elif [ "${modes[0]}" = "${modes[1]:-}" ]; then echo "${modes[0]} stands twice"
+    elif [ "${#modes[@]}" -gt 1 ]; then echo "${modes[0]} and ${modes[1]} don't go together"
+    elif [[ ${places[0]:-} == if:* ]]; then echo 'a run by a formula keeps no journal'
+    elif [[ ${places[1]:-} == gen:* ]]; then echo 'a generated program has no journal'
+    else return 1; fi
+}
+
 # word_fault WORD..: the first word that is in no form, and why.
 word_fault() {
     local name value seen=' ' found valued=$valued rule=places_fault
     local -a rest=()
+    found=$(journal_word_fault) && [ "${1-}" != --replay ] && echo "$found" && return
     if [ "${1-}" = --replay ]; then shift && valued=' --steps --passes ' rule=names_fault; fi
     while [ $# -gt 0 ]; do
         case $1 in
         --) shift && rest+=("$@") && break ;;
         --*=*) name=${1%%=*} value=${1#*=} ;;
+        --journal | --resume) [ "$rule" = names_fault ] || { shift && continue; } && name=$1 value='' ;;
         --*) name=$1 value='' ;;
         -?*) echo "\"$1\" is no option"; return ;;
         *) rest+=("$1") && shift && continue ;;

@@ -1,5 +1,5 @@
 -- Completeness of a run by a formula, from what it comes to.
-use Rattle.std.proofs.Common.{◌≡◌, inl, inr, ℕ, List, length, refl, subst}
+use Rattle.std.proofs.Common.{◌≡◌, inl, inr, ℕ, Bool, List, length, refl, subst}
 use Rattle.cr_formula.specs.Forms.{Form}
 use Rattle.cr_formula.proofs.Texts.{one_formula}
 use Rattle.cr_formula_bound.specs.Values.{Value}
@@ -21,8 +21,8 @@ use Rattle.cr_main_words.specs.declared.request.Request.TheVariants as request
 use Rattle.cr_main_words.specs.declared.settings.Settings.{Settings}
 use Rattle.cr_main_words.proofs.Asking.{one_modes, one_request}
 use Rattle.cr_main_words.proofs.Giving.{one_settings}
-use Rattle.cr_main.specs.More.{CompletesByFormula, IsFormulaTask, RunsMore, RunsWord, word_of}
-use Rattle.cr_main.specs.More.RunsAsked.{by_word, plain, unbuilt}
+use Rattle.cr_main.specs.More.{CompletesByFormula, RunsMore, RunsWord, word_of}
+use Rattle.cr_main.specs.More.RunsAsked.{by_word, kept, plain, unbuilt}
 use Rattle.cr_main.specs.More.RunsMore.{asks_nothing, reduction, replay, unread_words}
 use Rattle.cr_main.specs.More.RunsWord.{by_formula, spells_none, unread_word}
 use Rattle.cr_main.specs.Task.{formula_task_of, text_of}
@@ -52,7 +52,7 @@ all_bound a b form other own name old new before after same back forms all =
       },
     )
 
-module _ (words : List Word) (most : ℕ) (says : Telling) (old new : Outside) (before after : Judging) (status : ℕ) where
+module _ (words : List Word) (most : ℕ) (says : Telling) (old new : Outside) (before after : Judging) (has_failed : Bool) (status : ℕ) where
   alike : (a b : Settings) (modes : Modes) → HasReduction words most a plain_modes → HasReduction words most b modes → SameSettings a b
   alike a b modes first second = one_settings (rest_of words) most a b first.rest second.rest
 
@@ -66,11 +66,13 @@ module _ (words : List Word) (most : ℕ) (says : Telling) (old new : Outside) (
       formula_free (formula_task_of b other name) (text_of b.source old.files) old new before after status levels_at (passes_levels b.enabled) bytes_enough
       (all_bound a b form other own name old new before after same back forms all) run
 
-  pub completes_more : RunsMore words most says old new before after status → CompletesByFormula words most old new before after status
+  pub completes_more : RunsMore words most says old new before after has_failed status → CompletesByFormula words most old new before after status
   completes_more (asks_nothing none idle said) = λ a form own task all. absurd (none (request.Reduction a plain_modes) task.asks)
   completes_more (unread_words same quiet is) = λ a form own task all. inr is
-  completes_more (reduction b modes asks (unbuilt why idle said)) = λ a form own task all. absurd (why (one_modes words modes plain_modes asks.flags task.asks.flags))
+  completes_more (reduction b modes asks (unbuilt why idle said)) = λ a form own task all. absurd (why.0 (one_modes words modes plain_modes asks.flags task.asks.flags))
   completes_more (reduction b modes asks (by_word is formula run)) = word_completes b modes asks run
   completes_more (reduction b modes asks (plain name is none is_own run)) = λ a form own task all.
+      absurd (none (same_formula a.test b.test (alike a b modes task.asks asks).tests (spelled_is_formula a.test form task.spells)))
+  completes_more (reduction b modes asks (kept resumes name is none is_own run survives)) = λ a form own task all.
       absurd (none (same_formula a.test b.test (alike a b modes task.asks asks).tests (spelled_is_formula a.test form task.spells)))
   completes_more (replay asked asks quiet run) = λ a form own task all. absurd (one_request words most (request.Reduction a plain_modes) (request.Replay asked) task.asks asks)

@@ -83,10 +83,10 @@ same_lacks files (source.Made number items) (source.Made other more) same lacks 
 
 -- two tasks of the same words
 module _ (words : List Word) (most : ℕ) (a b : Settings) (own other : List ℕ) (first : IsTask words most a own) (second : IsTask words most b other) where
-  alike : SameSettings a b
+  pub alike : SameSettings a b
   alike = one_settings words most a b first.gives second.gives
 
-  own_alike : own ≡ other
+  pub own_alike : own ≡ other
   own_alike = one_own (name_of b.source) own other (subst (λ n. IsOwnName n own) (same_name a.source b.source alike.source) first.is_own) second.is_own
 
   pub same_asks : asks_test a.test ≡ asks_test b.test
@@ -95,7 +95,7 @@ module _ (words : List Word) (most : ℕ) (a b : Settings) (own other : List ℕ
   pub same_saves : saves_of a.source ≡ saves_of b.source
   same_saves = saves_alike a.source b.source alike.source
 
-  same_tells : (says : Telling) (file : List ℕ) (answer : Bool) → tells_test a.test says own file answer → tells_test b.test says other file answer
+  pub same_tells : (says : Telling) (file : List ℕ) (answer : Bool) → tells_test a.test says own file answer → tells_test b.test says other file answer
   same_tells says file answer it = subst (λ o. tells_test b.test says o file answer) own_alike (alike.tests.tells says own file answer it)
 
   -- what one task has, the other has

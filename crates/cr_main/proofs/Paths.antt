@@ -1,5 +1,5 @@
 -- Tests that agree have one path.
-use Rattle.std.proofs.Common.{◌≡◌, Bool, true, false, [], Option, Some, None, String, cond, refl, sym, ap, subst}
+use Rattle.std.proofs.Common.{◌≡◌, Bool, true, false, [], Some, None, String, cond, refl, sym, ap, subst}
 use Rattle.std.specs.Global.{Global}
 use Rattle.std.specs.Str.{bytes_eq}
 use Rattle.std.specs.String.{string_bytes}

@@ -24,15 +24,20 @@ task_with settings says own limits name saves =
 abbrev pub formula_task_with : Settings → Form → List ℕ → Limits → List ℕ → Bool → FormulaTask
 formula_task_with settings form own limits name saves = record (formula_task_of settings form own) { limits = limits; name = name; saves = saves }
 
+-- what holds of limits, a name and whether files are written, holds of those of the settings, where they are these
+pub of_settings : (settings : Settings) (limits : Limits) (name : List ℕ) (saves : Bool) → limits ≡ limits_of settings.steps → name ≡ name_of settings.source → saves ≡ saves_of settings.source
+    → (Holds : Limits → List ℕ → Bool → Type 0) → Holds limits name saves → Holds (limits_of settings.steps) (name_of settings.source) (saves_of settings.source)
+of_settings settings limits name saves limited named saved Holds it =
+    subst (λ b. Holds (limits_of settings.steps) (name_of settings.source) b) saved
+    (subst (λ n. Holds (limits_of settings.steps) n saves) named
+    (subst (λ l. Holds l name saves) limited it))
+
 -- The limits are those of the settings, and so is the name, and whether files are written: what a run of such a task comes to.
 module _ (settings : Settings) (limits : Limits) (name : List ℕ) (saves : Bool)
     (limited : limits ≡ limits_of settings.steps) (named : name ≡ name_of settings.source) (saved : saves ≡ saves_of settings.source) (told : Option Names)
     (Runs : Limits → List ℕ → Bool → Text → Type 0) where
   by_settings : (text : Text) → Runs limits name saves text → Runs (limits_of settings.steps) (name_of settings.source) (saves_of settings.source) text
-  by_settings text run =
-      subst (λ b. Runs (limits_of settings.steps) (name_of settings.source) b text) saved
-      (subst (λ n. Runs (limits_of settings.steps) n saves text) named
-      (subst (λ l. Runs l name saves text) limited run))
+  by_settings text run = of_settings settings limits name saves limited named saved (λ l n b. Runs l n b text) run
 
   pub stored_runs : (file : String Global) → settings.source ≡ source.Named file → Runs limits name saves (stored told name)
       → Runs (limits_of settings.steps) (name_of settings.source) (saves_of settings.source) (text_of settings.source told)

@@ -9,6 +9,8 @@ use Rattle.cr_outside.specs.Test.{asks_test, tells_test}
 use Rattle.pass_list.specs.Offers.{Offers}
 use Rattle.cr_reduce.specs.Search.{search_of}
 use Rattle.cr_main_formula.specs.Formulas.{FormulaTask}
+use Rattle.cr_main_kept.specs.Header.{passes_mark}
+use Rattle.cr_main_kept.specs.declared.header.Marks.{Marks}
 use Rattle.cr_main_task.specs.Task.{Task, Text, given, stored}
 use Rattle.cr_main_words.specs.Names.{name_of}
 use Rattle.cr_main_words.specs.declared.settings.Settings.{Settings}
@@ -37,7 +39,11 @@ task_of settings says own = record {
   saves = saves_of settings.source;
 }
 
--- that of settings whose test is a formula
+-- what the header of a journal has of settings, beside the limit
+abbrev pub marks_of : Settings → Marks
+marks_of settings = record { passes = passes_mark settings.enabled; steps = settings.steps }
+
+-- the task of settings whose test is a formula
 abbrev pub formula_task_of : Settings → Form → List ℕ → FormulaTask
 formula_task_of settings form own = record {
   Offers = Offers settings.enabled;

@@ -10,14 +10,14 @@ ghost use Rattle.cr_main_task.specs.Outside.{outside};
 ghost use Rattle.cr_main_words.specs.Names.{IsOwnName, name_of};
 
 use crate::given::{is_saved, source_name};
-use crate::messages::USAGE;
+use crate::messages::put_usage;
 use crate::names::own_name;
 use cr_formula::{Formula, FormulaFault};
 use cr_gen::make;
 use cr_lawful::{CLaw, LastRun};
 use cr_lawful_analysis::LastRead;
 use cr_main_formula::{run_formula, run_formula_on};
-use cr_main_task::{Task, put, status};
+use cr_main_task::{Task, status};
 use cr_main_words::{Settings, Source};
 use cr_outside::{Files, Judge, Sink};
 use cr_pool::Bench;
@@ -44,9 +44,7 @@ pub fn run_word<R: Threads + Sync, F: Files, J: Judge + Send, O: Sink>(
 {
     let formula = match Formula::read(alloc, word) {
         Ok(formula) => formula,
-        Err(FormulaFault::Form) => {
-            return put(out, USAGE.as_bytes(), status::USAGE, status::USAGE);
-        }
+        Err(FormulaFault::Form) => return put_usage(out),
         Err(FormulaFault::NoMemory) => return status::NO_MEMORY,
     };
     let status = run_by(rt, alloc, settings, &formula, files, bench, out);

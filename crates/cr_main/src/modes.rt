@@ -4,13 +4,13 @@ ghost use Rattle.cr_outside.specs.Story.{EndsWithFault};
 ghost use Rattle.cr_reduce.specs.Bench.{judging, keys_of, says_of};
 ghost use Rattle.cr_main_task.specs.Outside.{outside};
 ghost use Rattle.cr_main_task.specs.Story.{KeepsJournal};
-ghost use Rattle.cr_main.specs.Headline.{AsksOnly, Promises};
-ghost use Rattle.cr_main.specs.More.{CompletesByFormula, EndsMore, IsPlain, IsSilent, KeepsMore, KeepsToAsked, RunsMore};
+ghost use Rattle.cr_main.specs.Headline.{Promises};
+ghost use Rattle.cr_main.specs.More.{AsksForJournal, AsksMore, CompletesByFormula, EndsMore, IsPlain, IsSilent, KeepsMore, KeepsToAsked, RunsMore, SurvivesMore};
 ghost use Rattle.cr_main_words.specs.Words.{texts_of};
 
 use crate::asked::run_request;
-use crate::messages::USAGE;
-use cr_main_task::{put, status};
+use crate::messages::put_usage;
+use cr_main_task::status;
 use cr_main_words::{WordFault, request_of};
 use cr_outside::{Files, Judge, Sink};
 use cr_outside_disk::Disk;
@@ -18,65 +18,68 @@ use cr_pool::Bench;
 use std::alloc::Global;
 use std::thread::Threads;
 
-/// Does what the words after the program's name ask for, and answers the exit status. The disk is a journal's.
-pub fn run_more<R: Threads + Sync, F: Files, J: Judge + Send, O: Sink, D: Disk>(
+/// Does what the words after the program's name ask for, and answers the exit status. The files and the disk of a journal
+/// are one object, whose story has the order of all calls on them.
+pub fn run_more<R: Threads + Sync, W: Files + Disk, J: Judge + Send, O: Sink>(
     rt: &R,
     alloc: Global,
     list: &[String],
-    files: &mut F,
+    world: &mut W,
     bench: &mut Bench<J>,
-    disk: &mut D,
     out: &mut O,
 ) -> u8
     // Each status comes exactly at its place and with its cause.
     ensures runs { RunsMore (texts_of list.now) (length bench.old.judges) (says_of J.Judge bench.old)
-        (outside F.Outside F.Files.own files.old O.Sink out.old) (outside F.Outside F.Files.own files.new O.Sink out.new)
-        (judging J.Judge bench.old) (judging J.Judge bench.new) result }
+        (outside W.Outside W.Files.own world.old O.Sink out.old) (outside W.Outside W.Files.own world.new O.Sink out.new)
+        (judging J.Judge bench.old) (judging J.Judge bench.new) (W.Disk.has_failed world.new) result }
 
     // On words without flag, `--replay` and formula it promises all that `run` does.
     ensures plain { IsPlain (texts_of list.now) (length bench.old.judges) → Promises (texts_of list.now) (length bench.old.judges) (says_of J.Judge bench.old)
-        (outside F.Outside F.Files.own files.old O.Sink out.old) (outside F.Outside F.Files.own files.new O.Sink out.new)
+        (outside W.Outside W.Files.own world.old O.Sink out.old) (outside W.Outside W.Files.own world.new O.Sink out.new)
         (judging J.Judge bench.old) (judging J.Judge bench.new) result }
 
     // At 0 and 7 the headline holds, at 8 and 10 the files are those of the reduction as far as it went; or at 0 and 10 the log leads to the
-    // file. Of a formula the headline has no premise on the outside, and where it asks for the same behaviour, the result has it.
+    // file. Of a formula the headline has no premise on the outside, and where it asks for the same behaviour, the result has it. With a
+    // journal the reduction is that from the first position, or from where its rows lead; at 12 the call on the disk made last failed, and
+    // at 12 and 13 neither the file nor the log was written.
     ensures ends { EndsMore (texts_of list.now) (length bench.old.judges) (says_of J.Judge bench.old)
-        (outside F.Outside F.Files.own files.old O.Sink out.old) (outside F.Outside F.Files.own files.new O.Sink out.new)
-        (judging J.Judge bench.old) (judging J.Judge bench.new) result }
+        (outside W.Outside W.Files.own world.old O.Sink out.old) (outside W.Outside W.Files.own world.new O.Sink out.new)
+        (judging J.Judge bench.old) (judging J.Judge bench.new) (W.Disk.has_failed world.new) result }
+
+    // A run that keeps a journal can be gone on with after a stop at any moment of it, wherever it could before; what stands in the journal
+    // keeps standing; and at 0 and 7 the file, the log and the summary are those of a reduction without a stop.
+    ensures survives { SurvivesMore (texts_of list.now) (length bench.old.judges) (says_of J.Judge bench.old)
+        (outside W.Outside W.Files.own world.old O.Sink out.old) (outside W.Outside W.Files.own world.new O.Sink out.new) result }
 
     // At every status the file holds its old bytes, or the result's with the bytes read in its copy.
     ensures files_kept { KeepsMore (texts_of list.now) (length bench.old.judges) (says_of J.Judge bench.old)
-        (outside F.Outside F.Files.own files.old O.Sink out.old) (outside F.Outside F.Files.own files.new O.Sink out.new) (judging J.Judge bench.new) }
+        (outside W.Outside W.Files.own world.old O.Sink out.old) (outside W.Outside W.Files.own world.new O.Sink out.new) (judging J.Judge bench.new) }
 
     // At 9 no call on the files follows the one that failed, where the files tell their calls.
-    ensures fault_last { result ≡ 9 → EndsWithFault (F.story files.old) (F.story files.new) }
-    ensures journal_kept { KeepsJournal (F.story files.old) (F.story files.new) }
+    ensures fault_last { result ≡ 9 → EndsWithFault (W.story world.old) (W.story world.new) }
+    // Where the words ask for no journal, none is changed.
+    ensures journal_kept { (AsksForJournal (texts_of list.now) (length bench.old.judges) → ⊥) → KeepsJournal (W.story world.old) (W.story world.new) }
 
     // The test is asked about nothing but the file and smaller, lawful variants of the chain's files, and how often is bounded; a
     // formula and a replay ask no judge.
-    ensures asks_only { AsksOnly (texts_of list.now) (length bench.old.judges) (says_of J.Judge bench.old) (outside F.Outside F.Files.own files.old O.Sink out.old)
+    ensures asks_only { AsksMore (texts_of list.now) (length bench.old.judges) (says_of J.Judge bench.old) (outside W.Outside W.Files.own world.old O.Sink out.old)
         (judging J.Judge bench.old) (judging J.Judge bench.new) }
     // Completeness of a formula: with all that it needs, a run by it ends with 0, or for want of memory.
     ensures completes { CompletesByFormula (texts_of list.now) (length bench.old.judges)
-        (outside F.Outside F.Files.own files.old O.Sink out.old) (outside F.Outside F.Files.own files.new O.Sink out.new)
+        (outside W.Outside W.Files.own world.old O.Sink out.old) (outside W.Outside W.Files.own world.new O.Sink out.new)
         (judging J.Judge bench.old) (judging J.Judge bench.new) result }
 
     // Workers beyond those that the words ask for do nothing.
     ensures others { KeepsToAsked (texts_of list.now) (length bench.old.judges) bench.old.judges bench.new.judges }
     ensures silent { IsSilent (texts_of list.now) (length bench.old.judges) → bench.new.judges ≡ bench.old.judges }
     ensures keys { keys_of J.Judge bench.new ≡ keys_of J.Judge bench.old }
-    ensures disk { disk.new ≡ disk.old }
 {
-    // No mode that is built needs it.
-    let _journal = disk;
     let request = match request_of(alloc, list, bench.workers()) {
         Ok(request) => request,
-        Err(WordFault::Usage) => {
-            return put(out, USAGE.as_bytes(), status::USAGE, status::USAGE);
-        }
+        Err(WordFault::Usage) => return put_usage(out),
         Err(WordFault::NoMemory) => return status::NO_MEMORY,
     };
-    let status = run_request(rt, alloc, &request, files, bench, out);
+    let status = run_request(rt, alloc, &request, world, bench, out);
     drop(request);
     status
 }

@@ -9,8 +9,8 @@ ghost use Rattle.cr_main.specs.Run.{Runs};
 ghost use Rattle.cr_main_words.specs.Words.{texts_of};
 
 use crate::given::run_given;
-use crate::messages::USAGE;
-use cr_main_task::{put, status};
+use crate::messages::put_usage;
+use cr_main_task::status;
 use cr_main_words::{WordFault, words};
 use cr_outside::{Files, Judge, Sink};
 use cr_pool::Bench;
@@ -71,7 +71,7 @@ pub fn run<R: Threads + Sync, F: Files, J: Judge + Send, O: Sink>(
 {
     match words(alloc, list, bench.workers()) {
         Ok(settings) => run_given(rt, alloc, &settings, files, bench, out),
-        Err(WordFault::Usage) => put(out, USAGE.as_bytes(), status::USAGE, status::USAGE),
+        Err(WordFault::Usage) => put_usage(out),
         Err(WordFault::NoMemory) => status::NO_MEMORY,
     }
 }

@@ -1,6 +1,5 @@
 -- Whether a header fits.
-use Rattle.std.proofs.Common.{◌≡◌, ℕ, List, Option, Bool, true, false, nat_eq, sym, ◌∙◌}
-use Rattle.std.proofs.lemmas.Bool.{eq-eqb, eqb-true}
+use Rattle.std.proofs.Common.{◌≡◌, ℕ, List, Option, sym, ◌∙◌}
 use Rattle.cr_journal_rows.specs.declared.header.Header.{Header}
 use Rattle.cr_main_kept.specs.Header.{Fits, header_of}
 use Rattle.cr_main_kept.specs.declared.header.Marks.{Marks}

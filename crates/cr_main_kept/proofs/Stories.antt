@@ -1,5 +1,5 @@
 -- What events of the files and changes of the journal leave of each other.
-use Rattle.std.proofs.Common.{◌≡◌, ℕ, Bool, true, false, List, [], ◌∷◌, length, Option, Some, None, Result, Ok, Err, refl, sym, ◌∙◌, ap, subst, arith}
+use Rattle.std.proofs.Common.{◌≡◌, ℕ, Bool, true, false, List, [], ◌∷◌, length, Option, Some, None, Result, Ok, Err, refl, sym, subst}
 use Rattle.std.specs.Prelude.{IfOk, OnOk}
 use Rattle.cr_outside_disk.specs.declared.disk.DiskFault.{DiskFault}
 use Rattle.cr_outside_disk.specs.declared.disk.DiskFault.TheVariants.{Failed, NoMemory}
@@ -8,8 +8,8 @@ use Rattle.cr_journal_rows.specs.Forms.{RecoversTold}
 use Rattle.cr_main_kept.specs.Lines.{IsDiskFault}
 use Rattle.cr_journal.specs.Keeping.{Rests, journal_of}
 use Rattle.cr_journal_records.specs.Records.{AtRest, Body, IsKept, Stands, StandsFirst, StandsNone}
-use Rattle.cr_outside.specs.Story.{Change, Story, files_told, gone_on, with_event}
-use Rattle.cr_outside.specs.Story.Event.{Read, Wrote, Changed}
+use Rattle.cr_outside.specs.Story.{Story, with_event}
+use Rattle.cr_outside.specs.Story.Event.{Read}
 use Rattle.cr_outside.specs.declared.story.Outcome.{Outcome}
 use Rattle.cr_outside_disk.specs.Moments.{AlwaysTold, EveryTold, HasLength, LastsTold, seen}
 use Rattle.cr_outside_disk.proofs.Lasting.{lasts_same}

@@ -1,11 +1,9 @@
 -- A run that is kept survives its stops.
-use Rattle.std.proofs.Common.{◌≡◌, ◌⊎◌, inl, inr, ℕ, ◌+◌, ◌^◌, ◌<◌, ◌≤◌, Bool, true, false, List, [], ◌∷◌, ◌++◌, map, take, length, Option, Some, None, Ok, Err, codes, refl, sym, ◌∙◌, ap, subst, arith, length-append}
+use Rattle.std.proofs.Common.{◌≡◌, ◌⊎◌, inl, inr, ℕ, ◌^◌, ◌<◌, ◌≤◌, Bool, true, false, List, [], ◌∷◌, ◌++◌, map, take, length, Option, Some, None, codes, refl, sym, ◌∙◌, ap, subst, arith, length-append}
 use Rattle.std.proofs.lemmas.List.{append-nil, take_all}
-use Rattle.std.specs.Global.{Vec}
 use Rattle.cr_cursor.specs.Variants.{Offer}
 use Rattle.cr_journal.specs.Keeping.{journal_of}
 use Rattle.cr_journal.specs.Laws.{chain_in, most_turns}
-use Rattle.cr_journal.specs.Replay.{IsReplayed}
 use Rattle.cr_journal.specs.Times.{lasts_now}
 use Rattle.cr_journal.proofs.Led.{accepted_follows}
 use Rattle.cr_journal_records.specs.Records.{AtRest, Body, IsFront, IsKept, Reads, Stands, StandsFirst, StandsNone}
@@ -34,7 +32,7 @@ use Rattle.cr_reduce.specs.Bound.{HasLevels}
 use Rattle.cr_reduce.specs.Ends.{EndsToldAt, outcome_of}
 use Rattle.cr_reduce.specs.Keeping.{Front, IsAsKept, IsBehind, IsKeptOf, ReducesOnAsTold, kept_state}
 use Rattle.cr_reduce.specs.Laws.{ExcludeEachOther}
-use Rattle.cr_reduce.specs.Reduction.{Outcome, Reduces, none_fails, Within}
+use Rattle.cr_reduce.specs.Reduction.{Outcome, Reduces, none_fails}
 use Rattle.cr_reduce.specs.Search.{AcceptsAsTold, ChainsTo, RejectsAsTold, Search}
 use Rattle.cr_reduce.specs.Sizes.{HasSize}
 use Rattle.cr_reduce.specs.declared.end.Accepted.{Accepted}
@@ -42,13 +40,13 @@ use Rattle.cr_reduce.specs.declared.end.End.{End}
 use Rattle.cr_reduce.specs.declared.end.Kept.{Kept}
 use Rattle.cr_reduce.specs.declared.end.Why.{Why}
 use Rattle.cr_reduce.specs.declared.end.Why.TheVariants.{Fixed, Limit, Fault, NoMemory}
-use Rattle.cr_reduce.proofs.OneOutcome.{OffersOne, one_outcome, one_reduction}
+use Rattle.cr_reduce.proofs.OneOutcome.{OffersOne, one_outcome}
 use Rattle.cr_reduce.proofs.Resumed.{goes_on_behind}
 use Rattle.cr_reduce.proofs.Sizes.{one_size, size_by_length}
-use Rattle.cr_replay.specs.Chains.{Chain, Follows, IsStep}
-use Rattle.cr_replay.specs.Chains.Follows.{further, there}
+use Rattle.cr_replay.specs.Chains.{Follows, IsStep}
+use Rattle.cr_replay.specs.Chains.Follows.{further}
 use Rattle.cr_main_kept.specs.Header.{header_of}
-use Rattle.cr_main_kept.specs.Kept.{AreOfReduction, AnyRecords, BeginWith, EndsKept, FileBegins, FollowsOn, HasCopy, IsFirst, IsJournalled, Journals, LacksCopy, RunsFirst, RunsFurther, RunsJournal, RunsResume, Stops, asking}
+use Rattle.cr_main_kept.specs.Kept.{AreOfReduction, AnyRecords, BeginWith, EndsKept, FileBegins, FollowsOn, IsFirst, Journals, RunsFirst, RunsFurther, RunsJournal, RunsResume, Stops, asking}
 use Rattle.cr_main_kept.specs.Kept.EndsKept.{cut_off as ending_cut_off, concluded as ending_concluded}
 use Rattle.cr_main_kept.specs.Kept.RunsFirst.{unopened as first_unopened, stopped as first_stopped, unbegun as first_unbegun, begun as first_begun}
 use Rattle.cr_main_kept.specs.Kept.FollowsOn.{stopped as on_stopped, differs as on_differs, closed as on_closed, followed as on_followed}
@@ -62,9 +60,9 @@ use Rattle.cr_main_kept.specs.declared.header.Marks.{Marks}
 use Rattle.cr_main_task.specs.Beginning.{HasBegun, StopsEarly}
 use Rattle.cr_main_task.specs.Beginning.StopsEarly.{refused as early_refused, wanting as early_wanting, not_copied as early_not_copied}
 use Rattle.cr_main_task.specs.Messages.{copy_name, log_name}
-use Rattle.cr_main_task.specs.Opening.{IsOpened, Unopened, law_of}
+use Rattle.cr_main_task.specs.Opening.{Unopened, law_of}
 use Rattle.cr_main_task.specs.Opening.Unopened.{not_there as unopened_not_there, ruled_out as unopened_ruled_out, unread as unopened_unread, unopened as unopened_unopened}
-use Rattle.cr_main_task.specs.Outside.{Fails, IsSaved, Outside, Puts, SaveFails, story_saved}
+use Rattle.cr_main_task.specs.Outside.{Fails, Outside, Puts, story_saved}
 use Rattle.cr_main_task.specs.Outside.Fails.{call_failed as fails_call_failed, starved as fails_starved}
 use Rattle.cr_main_task.specs.Outside.Says.{said_whole, said_cut, said_starved}
 use Rattle.cr_main_task.specs.Run.{Concludes, end_status}

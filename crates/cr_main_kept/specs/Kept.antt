@@ -14,7 +14,6 @@ use Rattle.cr_journal_rows.specs.declared.header.Header.{Header}
 use Rattle.cr_outside.specs.Faults.{Rose}
 use Rattle.cr_outside.specs.Files.{Names, Shows, content_of}
 use Rattle.cr_outside.specs.Story.{Story, files_told}
-use Rattle.cr_outside.specs.declared.story.Outcome.{Outcome}
 use Rattle.cr_outside.specs.declared.story.Outcome.TheVariants as outcome
 use Rattle.cr_outside_disk.specs.Moments.{AlwaysTold, EveryTold, HasLength, LastsTold}
 use Rattle.cr_reduce.specs.Bench.{Judging}

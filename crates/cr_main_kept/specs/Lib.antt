@@ -3,3 +3,4 @@ pub mod Lines
 pub mod Kept
 pub mod Surviving
 pub mod Laws
+pub mod Promises

@@ -1,5 +1,5 @@
 // A run that goes on behind the rows of a journal.
-ghost use Rattle.std.specs.Prelude.{◌≡◌, ◌<◌, ◌≤◌, ◌^◌, ℕ, [], IfErr, IfOk, length, false, true};
+ghost use Rattle.std.specs.Prelude.{◌≡◌, ◌<◌, ◌≤◌, ◌^◌, ℕ, [], IfErr, IfOk, length, false, true, drop};
 ghost use Rattle.cr_journal.specs.Keeping.{Rests};
 ghost use Rattle.cr_journal.specs.Laws.{most_turns};
 ghost use Rattle.cr_main_kept.specs.Header.{Fits};
@@ -53,6 +53,8 @@ where
     ensures runs { RunsFurther (task_for P.Passes L.Law Q.Question task.now (says_of J.Judge bench.old)) marks header rows.items
         (outside W.Outside W.Files.own world.old O.Sink out.old) (outside W.Outside W.Files.own world.new O.Sink out.new)
         (judging J.Judge bench.old) (judging J.Judge bench.new) (W.Disk.has_failed world.new) result }
+    // Workers that the task doesn't ask for do nothing.
+    ensures others { drop task.now.workers bench.new.judges ≡ drop task.now.workers bench.old.judges }
     ensures silent { Q.asks task.now.question.now ≡ false → bench.new.judges ≡ bench.old.judges }
     ensures keys { keys_of J.Judge bench.new ≡ keys_of J.Judge bench.old }
 {
@@ -127,6 +129,8 @@ where
     ensures follows { FollowsOn (task_for P.Passes L.Law Q.Question task.now (says_of J.Judge bench.old)) bytes.items rows.items
         (outside W.Outside W.Files.own world.old O.Sink out.old) (outside W.Outside W.Files.own world.new O.Sink out.new)
         (judging J.Judge bench.old) (judging J.Judge bench.new) (W.Disk.has_failed world.new) result }
+    // Workers that the task doesn't ask for do nothing.
+    ensures others { drop task.now.workers bench.new.judges ≡ drop task.now.workers bench.old.judges }
     ensures silent { Q.asks task.now.question.now ≡ false → bench.new.judges ≡ bench.old.judges }
     ensures keys { keys_of J.Judge bench.new ≡ keys_of J.Judge bench.old }
 {

@@ -1,5 +1,5 @@
 // The runs that keep a journal.
-ghost use Rattle.std.specs.Prelude.{◌≡◌, ◌<◌, ◌≤◌, length, false, true};
+ghost use Rattle.std.specs.Prelude.{◌≡◌, ◌<◌, ◌≤◌, length, false, true, drop};
 ghost use Rattle.cr_main_kept.specs.Kept.{RunsJournal, RunsResume};
 ghost use Rattle.cr_main_kept.specs.Surviving.{Survives};
 ghost use Rattle.cr_main_task.specs.Outside.{outside};
@@ -52,6 +52,8 @@ where
         (judging J.Judge bench.old) (judging J.Judge bench.new) (W.Disk.has_failed world.new) result }
     ensures survives { Survives (task_for P.Passes L.Law Q.Question task.now (says_of J.Judge bench.old)) marks
         (outside W.Outside W.Files.own world.old O.Sink out.old) (outside W.Outside W.Files.own world.new O.Sink out.new) result }
+    // Workers that the task doesn't ask for do nothing.
+    ensures others { drop task.now.workers bench.new.judges ≡ drop task.now.workers bench.old.judges }
     ensures silent { Q.asks task.now.question.now ≡ false → bench.new.judges ≡ bench.old.judges }
     ensures keys { keys_of J.Judge bench.new ≡ keys_of J.Judge bench.old }
 {
@@ -95,6 +97,8 @@ where
         (judging J.Judge bench.old) (judging J.Judge bench.new) (W.Disk.has_failed world.new) result }
     ensures survives { Survives (task_for P.Passes L.Law Q.Question task.now (says_of J.Judge bench.old)) marks
         (outside W.Outside W.Files.own world.old O.Sink out.old) (outside W.Outside W.Files.own world.new O.Sink out.new) result }
+    // Workers that the task doesn't ask for do nothing.
+    ensures others { drop task.now.workers bench.new.judges ≡ drop task.now.workers bench.old.judges }
     ensures silent { Q.asks task.now.question.now ≡ false → bench.new.judges ≡ bench.old.judges }
     ensures keys { keys_of J.Judge bench.new ≡ keys_of J.Judge bench.old }
 {

@@ -1,5 +1,5 @@
 // A reduction that is kept, and how the run ends then.
-ghost use Rattle.std.specs.Prelude.{◌≡◌, ◌<◌, ◌≤◌, ◌+◌, ◌*◌, ◌^◌, All, ℕ, [], length, true, false};
+ghost use Rattle.std.specs.Prelude.{◌≡◌, ◌<◌, ◌≤◌, ◌+◌, ◌*◌, ◌^◌, All, ℕ, [], length, true, false, drop};
 ghost use Rattle.cr_journal.specs.Keeping.{Rests};
 ghost use Rattle.cr_main_kept.specs.Kept.{EndsKept};
 ghost use Rattle.cr_main_task.specs.Outside.{outside};
@@ -55,6 +55,8 @@ where
     ensures ends { EndsKept (task_for P.Passes L.Law Q.Question task.now (says_of J.Judge bench.old)) kept old_size
         (outside W.Outside W.Files.own world.old O.Sink out.old) (outside W.Outside W.Files.own world.new O.Sink out.new)
         (judging J.Judge bench.old) (judging J.Judge bench.new) (W.Disk.has_failed world.new) result }
+    // Workers that the task doesn't ask for do nothing.
+    ensures others { drop task.now.workers bench.new.judges ≡ drop task.now.workers bench.old.judges }
     ensures silent { Q.asks task.now.question.now ≡ false → bench.new.judges ≡ bench.old.judges }
     ensures keys { keys_of J.Judge bench.new ≡ keys_of J.Judge bench.old }
 {

@@ -1,5 +1,5 @@
 // A run that begins a journal.
-ghost use Rattle.std.specs.Prelude.{◌≡◌, ◌<◌, ◌≤◌, [], length, false, true};
+ghost use Rattle.std.specs.Prelude.{◌≡◌, ◌<◌, ◌≤◌, [], length, false, true, drop};
 ghost use Rattle.cr_journal_records.specs.Records.{StandsNone};
 ghost use Rattle.cr_main_kept.specs.Kept.{IsFirst, RunsFirst};
 ghost use Rattle.cr_main_task.specs.Outside.{outside};
@@ -48,6 +48,8 @@ where
     ensures runs { RunsFirst (task_for P.Passes L.Law Q.Question task.now (says_of J.Judge bench.old)) marks
         (outside W.Outside W.Files.own world.old O.Sink out.old) (outside W.Outside W.Files.own world.new O.Sink out.new)
         (judging J.Judge bench.old) (judging J.Judge bench.new) (W.Disk.has_failed world.new) result }
+    // Workers that the task doesn't ask for do nothing.
+    ensures others { drop task.now.workers bench.new.judges ≡ drop task.now.workers bench.old.judges }
     ensures silent { Q.asks task.now.question.now ≡ false → bench.new.judges ≡ bench.old.judges }
     ensures keys { keys_of J.Judge bench.new ≡ keys_of J.Judge bench.old }
 {

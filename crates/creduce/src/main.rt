@@ -1,12 +1,13 @@
-//! `creduce [--workers N] [--window N] [--limit N] [--steps N] [--passes LETTERS] TEST FILE`: reduces FILE while the test says yes, and
-//! `creduce --replay [--steps N] [--passes LETTERS] LOG FILE` checks a log; it ends with the status of `run_more`, which see.
+//! `creduce [--workers N] [--window N] [--limit N] [--steps N] [--passes LETTERS] TEST FILE`: reduces FILE while the test says yes, with
+//! `--journal` so that `--resume` goes on after a stop, and `creduce --replay [--steps N] [--passes LETTERS] LOG FILE` checks a log; it
+//! ends with the status of `run_more`, which see.
 #![tactic(auto)]
 
 ghost use Rattle.std.specs.Prelude.{◌≡◌, IfOk, length};
 
 use cr_main::run_more;
 use cr_pool::Bench;
-use creduce_system::{ProcessJudge, Progress, Shown, StdDisk, StdFiles, StdOut};
+use creduce_system::{ProcessJudge, Progress, Shown, StdDisk, StdOut};
 use std::alloc::AllocError;
 use std::io::IsTerminal;
 use std::process::ExitCode;
@@ -60,16 +61,15 @@ fn reduce(rt: &HostRuntime, threads: &(impl Threads + Sync)) -> Result<u8, Alloc
     let words = words(rt)?;
     let progress = Progress::new(rt, shown(rt));
     let mut bench = bench(rt, &progress)?;
-    let mut files = StdFiles::new(rt);
-    let mut disk = StdDisk::new(rt);
+    // The files, and the journal beside one of them.
+    let mut world = StdDisk::new(rt);
     let mut out = StdOut::new(rt);
     Ok(run_more(
         threads,
         rt.alloc(),
         &words,
-        &mut files,
+        &mut world,
         &mut bench,
-        &mut disk,
         &mut out,
     ))
 }

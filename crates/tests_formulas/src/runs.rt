@@ -47,35 +47,31 @@ fn status_of<J: Judge + Send>(
     rt: &(impl Threads + Sync),
     alloc: Global,
     words: &[String],
-    files: &mut MemFiles,
+    world: &mut MemDisk,
     bench: &mut Bench<J>,
     out: &mut MemSink,
 ) -> u8 {
-    let mut disk = MemDisk::new(Vec::new(alloc), Vec::new(alloc));
-    run_more(rt, alloc, words, files, bench, &mut disk, out)
+    run_more(rt, alloc, words, world, bench, out)
 }
 
 // What a file has, where it is there.
-fn content(alloc: Global, files: &mut MemFiles, name: &str) -> Option<Vec<u8>> {
+fn content(alloc: Global, files: &mut MemDisk, name: &str) -> Option<Vec<u8>> {
     match files.read(alloc, name, 2_000_000) {
         ReadAnswer::Bytes(bytes) => Some(bytes),
         ReadAnswer::Absent | ReadAnswer::Failed | ReadAnswer::NoMemory => None,
     }
 }
 
-fn one_file(alloc: Global, file: Vec<u8>) -> Result<MemFiles, AllocError> {
+// The file, and an empty journal.
+fn one_file(alloc: Global, file: Vec<u8>) -> Result<MemDisk, AllocError> {
     let name = String::from_str(alloc, "t.c")?;
     let mut pairs = Vec::new(alloc);
     pairs.push((name, file))?;
-    Ok(MemFiles::new(pairs, Vec::new(alloc)))
+    let files = MemFiles::new(pairs, Vec::new(alloc));
+    Ok(MemDisk::beside(files, Vec::new(alloc)))
 }
 
-fn seen(
-    alloc: Global,
-    status: u8,
-    put: &[u8],
-    files: &mut MemFiles,
-) -> Result<Outcome, AllocError> {
+fn seen(alloc: Global, status: u8, put: &[u8], files: &mut MemDisk) -> Result<Outcome, AllocError> {
     let put = put.to_vec(alloc)?;
     let after = content(alloc, files, "t.c");
     let copy = content(alloc, files, "t.c.orig");

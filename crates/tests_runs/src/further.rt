@@ -4,14 +4,15 @@ use crate::outcomes::{more_status_of, words_in};
 use crate::runs::{FAULTS, JUDGED, MADE, files_hold, files_of, rehearsed_bench, sink_of, words_of};
 use crate::tables::{Case, bytes_of};
 use cr_outside::MemFiles;
+use cr_outside_disk::MemDisk;
 use std::alloc::{AllocError, Global};
 use std::process::Abort;
 use std::thread::Threads;
 
 /// Flags of modes that aren't built, and words in no form: nothing is done.
 const UNBUILT: &str = "\
-what a journal
-words --journal has:b abc.c
+what a journal of a run by a formula
+words --journal if:same abc.c
 name abc.c
 before int main(){␊int a;␊int b;␊}␊
 status 2
@@ -20,8 +21,8 @@ after same
 copy none
 log none
 
-what a journal that is gone on from
-words has:b abc.c --resume
+what a journal of a run by a formula that is gone on from
+words if:has(\"b\") abc.c --resume
 
 what standing workers
 words --standing has:b abc.c
@@ -189,13 +190,14 @@ fn runs_so(
     alloc: Global,
     case: &Case,
     words: &[String],
-    files: &mut MemFiles,
+    files: MemFiles,
 ) -> Result<bool, AllocError> {
     let mut bench = rehearsed_bench(alloc, case)?;
     let mut out = sink_of(alloc, case)?;
-    let status = more_status_of(rt, alloc, words, files, &mut bench, &mut out);
+    let mut world = MemDisk::beside(files, Vec::new(alloc));
+    let status = more_status_of(rt, alloc, words, &mut world, &mut bench, &mut out);
     if u64::from(status) == case.number("status") && case.tells(alloc, "output", out.bytes())? {
-        files_hold(alloc, files, case)
+        files_hold(alloc, &mut world, case)
     } else {
         Ok(false)
     }
@@ -207,8 +209,8 @@ fn expect_plain(
     case: &Case,
 ) -> Result<(), AllocError> {
     let words = words_of(alloc, case)?;
-    let mut files = files_of(alloc, case)?;
-    let so = runs_so(rt, alloc, case, &words, &mut files)?;
+    let files = files_of(alloc, case)?;
+    let so = runs_so(rt, alloc, case, &words, files)?;
     assert!(rt; so, "{}", case.told("what"));
     Ok(())
 }
@@ -231,8 +233,8 @@ fn expect_unbuilt(
     case: &Case,
 ) -> Result<(), AllocError> {
     let words = words_in(alloc, case.told("words"))?;
-    let mut files = files_of(alloc, case)?;
-    let so = runs_so(rt, alloc, case, &words, &mut files)?;
+    let files = files_of(alloc, case)?;
+    let so = runs_so(rt, alloc, case, &words, files)?;
     assert!(rt; so, "{}", case.told("what"));
     Ok(())
 }
@@ -274,8 +276,8 @@ fn expect_replay(
     case: &Case,
 ) -> Result<(), AllocError> {
     let words = words_in(alloc, case.told("words"))?;
-    let mut files = replay_files(alloc, case)?;
-    let so = runs_so(rt, alloc, case, &words, &mut files)?;
+    let files = replay_files(alloc, case)?;
+    let so = runs_so(rt, alloc, case, &words, files)?;
     assert!(rt; so, "{}", case.told("what"));
     Ok(())
 }

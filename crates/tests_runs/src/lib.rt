@@ -7,6 +7,8 @@
 #[cfg(test)]
 mod further;
 #[cfg(test)]
+mod kept;
+#[cfg(test)]
 mod outcomes;
 #[cfg(test)]
 mod programs;

@@ -48,17 +48,16 @@ pub(crate) fn status_of<F: Files, J: Judge + Send, O: Sink>(
     run(rt, alloc, words, files, bench, out)
 }
 
-/// The same by the top call that knows all that words may ask for, beside an empty disk.
-pub(crate) fn more_status_of<F: Files, J: Judge + Send, O: Sink>(
+/// The same by the top call that knows all that words may ask for, with a journal beside the files.
+pub(crate) fn more_status_of<J: Judge + Send, O: Sink>(
     rt: &(impl Threads + Sync),
     alloc: Global,
     words: &[String],
-    files: &mut F,
+    world: &mut MemDisk,
     bench: &mut Bench<J>,
     out: &mut O,
 ) -> u8 {
-    let mut disk = MemDisk::new(Vec::new(alloc), Vec::new(alloc));
-    run_more(rt, alloc, words, files, bench, &mut disk, out)
+    run_more(rt, alloc, words, world, bench, out)
 }
 
 /// One file with its name.
@@ -74,7 +73,7 @@ pub(crate) fn one_file(
 }
 
 /// What a file has, where it is there.
-pub(crate) fn content(alloc: Global, files: &mut MemFiles, name: &str) -> Option<Vec<u8>> {
+pub(crate) fn content<F: Files>(alloc: Global, files: &mut F, name: &str) -> Option<Vec<u8>> {
     match files.read(alloc, name, 2_000_000) {
         ReadAnswer::Bytes(bytes) => Some(bytes),
         ReadAnswer::Absent | ReadAnswer::Failed | ReadAnswer::NoMemory => None,

@@ -4,7 +4,7 @@ use crate::outcomes::{content, one_file, status_of, words_in};
 use crate::rehearsed::{Rehearsed, knowing_bench};
 use crate::tables::{Case, tell};
 use cr_log::{Log, read_log};
-use cr_outside::{Judge, MemFiles, MemSink};
+use cr_outside::{Files, Judge, MemFiles, MemSink};
 use cr_pool::Bench;
 use std::alloc::{AllocError, Global};
 use std::process::Abort;
@@ -494,9 +494,9 @@ pub(crate) fn sink_of(alloc: Global, case: &Case) -> Result<MemSink, AllocError>
 }
 
 // Whether a file beside the case's one, by the ending of its name, is what the case tells under this word.
-fn holds(
+fn holds<F: Files>(
     alloc: Global,
-    files: &mut MemFiles,
+    files: &mut F,
     case: &Case,
     ending: &str,
     word: &str,
@@ -509,9 +509,9 @@ fn holds(
 }
 
 /// Whether the files are those that the case tells.
-pub(crate) fn files_hold(
+pub(crate) fn files_hold<F: Files>(
     alloc: Global,
-    files: &mut MemFiles,
+    files: &mut F,
     case: &Case,
 ) -> Result<bool, AllocError> {
     Ok(

@@ -1,11 +1,9 @@
-use Rattle.std.proofs.Common.{inl, refl, subst, ◌∙◌}
+use Rattle.std.proofs.Common.{subst, ◌∙◌}
 use Rattle.cr_formula.specs.Forms.{form_of}
 use Rattle.cr_outside.specs.Story.{files_told}
 use Rattle.cr_reduce.specs.Bench.{judging}
 use Rattle.cr_main_words.specs.Names.{IsOwnName}
 use Rattle.cr_main_formula.specs.Formulas.{RunsFormula}
-use Rattle.cr_main_task.specs.Opening.RunsBound.{not_opened}
-use Rattle.cr_main_task.specs.Opening.Unopened.{unopened}
 use Rattle.cr_main_task.specs.Outside.{outside}
 use Rattle.cr_main_replay_programs.proofs.LawOfPrograms.{law_is_of_programs}
 use Rattle.cr_main.proofs.Sources.{formula_task_with, made_runs, stored_runs}

@@ -1,7 +1,6 @@
-use Rattle.std.proofs.Common.{List, ap, refl, subst}
+use Rattle.std.proofs.Common.{List, ap, refl}
 use Rattle.cr_formula.specs.Forms.{form_of}
 use Rattle.cr_reduce.specs.Bench.{judging_of}
-use Rattle.cr_main_task.specs.Outside.{Says}
 use Rattle.cr_main.specs.More.RunsWord.{by_formula, spells_none, unread_word}
 use Rattle.cr_main.proofs.formulas.run_word.Goals as goal
 
@@ -12,9 +11,7 @@ returns-clause-runs g c =
 
 pub returns-in-Err-Form-clause-runs : goal.returns-in-Err-Form-clause-runs
 returns-in-Err-Form-clause-runs g c =
-    spells_none (c.in-Err-Form.ensures.none cc) (record { story = refl; files = refl; judges = refl })
-    (subst (λ line. Says (g.O.Sink.told c.args.out.now) (g.O.Sink.told c.put.new.out) (g.O.Sink.faults c.args.out.now) (g.O.Sink.faults c.put.new.out) line 2 2 c.put.result)
-    c.as_bytes.ensures.value c.put.ensures)
+    spells_none (c.in-Err-Form.ensures.none cc) (record { story = refl; files = refl; judges = refl }) c.put_usage.ensures
 
 pub returns-in-Err-NoMemory-clause-runs : goal.returns-in-Err-NoMemory-clause-runs
 returns-in-Err-NoMemory-clause-runs g c = unread_word refl refl refl

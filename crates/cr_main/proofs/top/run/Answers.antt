@@ -1,6 +1,6 @@
 use Rattle.std.proofs.Common.{length, refl, subst, sym, ◌∙◌, arith}
 use Rattle.cr_reduce.specs.Bench.{judging, says_of}
-use Rattle.cr_main_task.specs.Outside.{Says, outside}
+use Rattle.cr_main_task.specs.Outside.{outside}
 use Rattle.cr_main.specs.Run.Runs.{no_settings, on_task, unsorted}
 use Rattle.cr_main_words.specs.Giving.{HasNone, HasSettings}
 use Rattle.cr_main_words.specs.Words.{texts_of}
@@ -69,48 +69,47 @@ returns-in-Ok-clause-silent g c = λ none.
 
 pub returns-in-Err-Usage-clause-runs : goal.returns-in-Err-Usage-clause-runs
 returns-in-Err-Usage-clause-runs g c = no_settings (subst (HasNone (texts_of c.args.list.now)) c.workers.ensures.count (c.in-Err-Usage.ensures.usage cc)) (record { story = refl; files = refl; judges = refl })
-    (subst (λ line. Says (g.O.Sink.told c.args.out.now) (g.O.Sink.told c.put.new.out) (g.O.Sink.faults c.args.out.now) (g.O.Sink.faults c.put.new.out) line 2 2 c.put.result)
-    c.as_bytes.ensures.value c.put.ensures)
+    c.put_usage.ensures
 
 pub returns-in-Err-Usage-clause-headline : goal.returns-in-Err-Usage-clause-headline
 returns-in-Err-Usage-clause-headline g c = (promises (texts_of c.args.list.now) (length c.args.bench.now.judges) (says_of g.J.Judge c.args.bench.now)
-    (outside g.F.Outside g.F.Files c.args.files.now g.O.Sink c.args.out.now) (outside g.F.Outside g.F.Files c.args.files.now g.O.Sink c.put.new.out)
-    (judging g.J.Judge c.args.bench.now) (judging g.J.Judge c.args.bench.now) c.put.result (returns-in-Err-Usage-clause-runs g c)).headline
+    (outside g.F.Outside g.F.Files c.args.files.now g.O.Sink c.args.out.now) (outside g.F.Outside g.F.Files c.args.files.now g.O.Sink c.put_usage.new.out)
+    (judging g.J.Judge c.args.bench.now) (judging g.J.Judge c.args.bench.now) c.put_usage.result (returns-in-Err-Usage-clause-runs g c)).headline
 
 pub returns-in-Err-Usage-clause-finished : goal.returns-in-Err-Usage-clause-finished
 returns-in-Err-Usage-clause-finished g c = (promises (texts_of c.args.list.now) (length c.args.bench.now.judges) (says_of g.J.Judge c.args.bench.now)
-    (outside g.F.Outside g.F.Files c.args.files.now g.O.Sink c.args.out.now) (outside g.F.Outside g.F.Files c.args.files.now g.O.Sink c.put.new.out)
-    (judging g.J.Judge c.args.bench.now) (judging g.J.Judge c.args.bench.now) c.put.result (returns-in-Err-Usage-clause-runs g c)).finished
+    (outside g.F.Outside g.F.Files c.args.files.now g.O.Sink c.args.out.now) (outside g.F.Outside g.F.Files c.args.files.now g.O.Sink c.put_usage.new.out)
+    (judging g.J.Judge c.args.bench.now) (judging g.J.Judge c.args.bench.now) c.put_usage.result (returns-in-Err-Usage-clause-runs g c)).finished
 
 pub returns-in-Err-Usage-clause-files_kept : goal.returns-in-Err-Usage-clause-files_kept
 returns-in-Err-Usage-clause-files_kept g c = (promises (texts_of c.args.list.now) (length c.args.bench.now.judges) (says_of g.J.Judge c.args.bench.now)
-    (outside g.F.Outside g.F.Files c.args.files.now g.O.Sink c.args.out.now) (outside g.F.Outside g.F.Files c.args.files.now g.O.Sink c.put.new.out)
-    (judging g.J.Judge c.args.bench.now) (judging g.J.Judge c.args.bench.now) c.put.result (returns-in-Err-Usage-clause-runs g c)).files_kept
+    (outside g.F.Outside g.F.Files c.args.files.now g.O.Sink c.args.out.now) (outside g.F.Outside g.F.Files c.args.files.now g.O.Sink c.put_usage.new.out)
+    (judging g.J.Judge c.args.bench.now) (judging g.J.Judge c.args.bench.now) c.put_usage.result (returns-in-Err-Usage-clause-runs g c)).files_kept
 
 pub returns-in-Err-Usage-clause-fault_last : goal.returns-in-Err-Usage-clause-fault_last
 returns-in-Err-Usage-clause-fault_last g c = (promises (texts_of c.args.list.now) (length c.args.bench.now.judges) (says_of g.J.Judge c.args.bench.now)
-    (outside g.F.Outside g.F.Files c.args.files.now g.O.Sink c.args.out.now) (outside g.F.Outside g.F.Files c.args.files.now g.O.Sink c.put.new.out)
-    (judging g.J.Judge c.args.bench.now) (judging g.J.Judge c.args.bench.now) c.put.result (returns-in-Err-Usage-clause-runs g c)).fault_last
+    (outside g.F.Outside g.F.Files c.args.files.now g.O.Sink c.args.out.now) (outside g.F.Outside g.F.Files c.args.files.now g.O.Sink c.put_usage.new.out)
+    (judging g.J.Judge c.args.bench.now) (judging g.J.Judge c.args.bench.now) c.put_usage.result (returns-in-Err-Usage-clause-runs g c)).fault_last
 
 pub returns-in-Err-Usage-clause-no_files : goal.returns-in-Err-Usage-clause-no_files
 returns-in-Err-Usage-clause-no_files g c = (promises (texts_of c.args.list.now) (length c.args.bench.now.judges) (says_of g.J.Judge c.args.bench.now)
-    (outside g.F.Outside g.F.Files c.args.files.now g.O.Sink c.args.out.now) (outside g.F.Outside g.F.Files c.args.files.now g.O.Sink c.put.new.out)
-    (judging g.J.Judge c.args.bench.now) (judging g.J.Judge c.args.bench.now) c.put.result (returns-in-Err-Usage-clause-runs g c)).no_files
+    (outside g.F.Outside g.F.Files c.args.files.now g.O.Sink c.args.out.now) (outside g.F.Outside g.F.Files c.args.files.now g.O.Sink c.put_usage.new.out)
+    (judging g.J.Judge c.args.bench.now) (judging g.J.Judge c.args.bench.now) c.put_usage.result (returns-in-Err-Usage-clause-runs g c)).no_files
 
 pub returns-in-Err-Usage-clause-journal_kept : goal.returns-in-Err-Usage-clause-journal_kept
 returns-in-Err-Usage-clause-journal_kept g c = (promises (texts_of c.args.list.now) (length c.args.bench.now.judges) (says_of g.J.Judge c.args.bench.now)
-    (outside g.F.Outside g.F.Files c.args.files.now g.O.Sink c.args.out.now) (outside g.F.Outside g.F.Files c.args.files.now g.O.Sink c.put.new.out)
-    (judging g.J.Judge c.args.bench.now) (judging g.J.Judge c.args.bench.now) c.put.result (returns-in-Err-Usage-clause-runs g c)).journal_kept
+    (outside g.F.Outside g.F.Files c.args.files.now g.O.Sink c.args.out.now) (outside g.F.Outside g.F.Files c.args.files.now g.O.Sink c.put_usage.new.out)
+    (judging g.J.Judge c.args.bench.now) (judging g.J.Judge c.args.bench.now) c.put_usage.result (returns-in-Err-Usage-clause-runs g c)).journal_kept
 
 pub returns-in-Err-Usage-clause-asks_only : goal.returns-in-Err-Usage-clause-asks_only
 returns-in-Err-Usage-clause-asks_only g c = (promises (texts_of c.args.list.now) (length c.args.bench.now.judges) (says_of g.J.Judge c.args.bench.now)
-    (outside g.F.Outside g.F.Files c.args.files.now g.O.Sink c.args.out.now) (outside g.F.Outside g.F.Files c.args.files.now g.O.Sink c.put.new.out)
-    (judging g.J.Judge c.args.bench.now) (judging g.J.Judge c.args.bench.now) c.put.result (returns-in-Err-Usage-clause-runs g c)).asks_only
+    (outside g.F.Outside g.F.Files c.args.files.now g.O.Sink c.args.out.now) (outside g.F.Outside g.F.Files c.args.files.now g.O.Sink c.put_usage.new.out)
+    (judging g.J.Judge c.args.bench.now) (judging g.J.Judge c.args.bench.now) c.put_usage.result (returns-in-Err-Usage-clause-runs g c)).asks_only
 
 pub returns-in-Err-Usage-clause-completes : goal.returns-in-Err-Usage-clause-completes
 returns-in-Err-Usage-clause-completes g c = (promises (texts_of c.args.list.now) (length c.args.bench.now.judges) (says_of g.J.Judge c.args.bench.now)
-    (outside g.F.Outside g.F.Files c.args.files.now g.O.Sink c.args.out.now) (outside g.F.Outside g.F.Files c.args.files.now g.O.Sink c.put.new.out)
-    (judging g.J.Judge c.args.bench.now) (judging g.J.Judge c.args.bench.now) c.put.result (returns-in-Err-Usage-clause-runs g c)).completes
+    (outside g.F.Outside g.F.Files c.args.files.now g.O.Sink c.args.out.now) (outside g.F.Outside g.F.Files c.args.files.now g.O.Sink c.put_usage.new.out)
+    (judging g.J.Judge c.args.bench.now) (judging g.J.Judge c.args.bench.now) c.put_usage.result (returns-in-Err-Usage-clause-runs g c)).completes
 
 pub returns-in-Err-NoMemory-clause-runs : goal.returns-in-Err-NoMemory-clause-runs
 returns-in-Err-NoMemory-clause-runs g c = unsorted refl refl refl

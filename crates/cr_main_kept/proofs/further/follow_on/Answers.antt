@@ -1,4 +1,4 @@
-use Rattle.std.proofs.Common.{◌≡◌, ℕ, Some, Err, ap, refl, subst}
+use Rattle.std.proofs.Common.{ℕ, Some, Err, ap, refl, subst, ◌∙◌}
 use Rattle.cr_journal.specs.Replay.{IsReplayed}
 use Rattle.cr_outside.specs.Question.{Says}
 use Rattle.cr_reduce.specs.Bench.{judging, says_of}
@@ -7,6 +7,7 @@ use Rattle.cr_main_kept.specs.Kept.{EndsKept}
 use Rattle.cr_main_kept.specs.Kept.FollowsOn.{closed, followed, stopped}
 use Rattle.cr_main_task.specs.Outside.{outside}
 use Rattle.cr_main_task.specs.Task.{task_for}
+use Rattle.cr_main_task.proofs.Others.{beyond}
 use Rattle.cr_main_kept.proofs.Going.{unfollowed}
 use Rattle.cr_main_kept.proofs.further.follow_on.Goals as goal
 
@@ -35,3 +36,18 @@ returns-clause-follows g c =
     c.most_turns-limit.ensures.below (record { story = c.reopen.ensures.same; output = refl; output_faults = refl })
     (subst (λ (says : Says). EndsKept (task_for g.P.Passes g.L.Law g.Q.Question c.args.task.now says) c.in-Ok-replay.kept c.in-Ok.size started new
     (judging g.J.Judge c.begin.new.bench) (judging g.J.Judge c.reduce_on.new.bench) (g.W.Disk.has_failed c.reduce_on.new.world) c.reduce_on.result) c.in-Ok.ensures.says c.reduce_on.ensures.ends)
+
+pub returns-in-Err-clause-others : goal.returns-in-Err-clause-others
+returns-in-Err-clause-others g c = beyond 1 c.args.task.now.workers c.begin.new.bench.judges c.args.bench.now.judges c.requires.workers.0 c.begin.ensures.others
+
+pub returns-in-Err-replay-clause-others : goal.returns-in-Err-replay-clause-others
+returns-in-Err-replay-clause-others g c = beyond 1 c.args.task.now.workers c.begin.new.bench.judges c.args.bench.now.judges c.requires.workers.0 c.begin.ensures.others
+
+pub returns-in-Err-reopen-clause-others : goal.returns-in-Err-reopen-clause-others
+returns-in-Err-reopen-clause-others g c = beyond 1 c.args.task.now.workers c.begin.new.bench.judges c.args.bench.now.judges c.requires.workers.0 c.begin.ensures.others
+
+pub returns-clause-others : goal.returns-clause-others
+returns-clause-others g c = c.reduce_on.ensures.others ∙ beyond 1 c.args.task.now.workers c.begin.new.bench.judges c.args.bench.now.judges c.requires.workers.0 c.begin.ensures.others
+
+pub returns-then-kept-gt-MOST_TURNS-clause-others : goal.returns-then-kept-gt-MOST_TURNS-clause-others
+returns-then-kept-gt-MOST_TURNS-clause-others g c = beyond 1 c.args.task.now.workers c.begin.new.bench.judges c.args.bench.now.judges c.requires.workers.0 c.begin.ensures.others

@@ -1,4 +1,4 @@
-use Rattle.std.proofs.Common.{◌≡◌, ℕ, List, Ok, ap, refl, subst, sym}
+use Rattle.std.proofs.Common.{ℕ, List, Ok, ap, refl, subst, sym}
 use Rattle.cr_outside.specs.declared.story.Outcome.TheVariants.{Done}
 use Rattle.cr_main_kept.specs.Header.{Fits}
 use Rattle.cr_journal.specs.Keeping.{Rests}

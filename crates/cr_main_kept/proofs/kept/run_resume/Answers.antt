@@ -1,17 +1,16 @@
-use Rattle.std.proofs.Common.{◌≡◌, ℕ, List, Option, Some, None, Ok, Err, inl, inr, ap, refl, subst, sym}
+use Rattle.std.proofs.Common.{List, Option, Some, None, Ok, Err, inr, ap, refl, subst, sym}
 use Rattle.cr_journal_records.specs.Records.{AtRest}
 use Rattle.cr_journal_rows.specs.Forms.{RecoversTold, bodies_of, header_body}
 use Rattle.cr_journal_rows.specs.declared.fault.JournalFault.{JournalFault}
 use Rattle.cr_outside.specs.Story.{Story}
-use Rattle.cr_outside_disk.specs.Moments.{EveryTold, HasLength}
+use Rattle.cr_outside_disk.specs.Moments.{EveryTold}
 use Rattle.cr_pool.specs.Tally.{first_says}
 use Rattle.cr_reduce.specs.Bench.{judging, judging_of, says_of}
 use Rattle.std.specs.Prelude.{IfSome}
 use Rattle.cr_main_kept.specs.Kept.{AnyRecords, Journals, RunsFirst, RunsFurther}
-use Rattle.cr_main_kept.specs.Kept.RunsJournal.{fresh, found, unstarted}
 use Rattle.cr_main_kept.specs.Kept.RunsResume.{anew, further, unrecovered}
 use Rattle.cr_main_kept.specs.Lines.{IsDiskFault}
-use Rattle.cr_main_kept.proofs.Stories.{disk_cause, journals_same, none_empty, recovers_none}
+use Rattle.cr_main_kept.proofs.Stories.{disk_cause, journals_same, recovers_none}
 use Rattle.cr_main_task.specs.Outside.{outside}
 use Rattle.cr_main_task.specs.Task.{task_for}
 use Rattle.cr_main_kept.proofs.kept.run_resume.Goals as goal

@@ -1,4 +1,4 @@
-use Rattle.std.proofs.Common.{List, [], refl, subst}
+use Rattle.std.proofs.Common.{List, refl, subst}
 use Rattle.cr_journal.specs.Keeping.{IsReductionOn}
 use Rattle.cr_pool.specs.Kept.{Kept as Verdicts}
 use Rattle.cr_reduce.specs.Bench.{judging, says_of}

@@ -1,17 +1,16 @@
-use Rattle.std.proofs.Common.{◌≡◌, ℕ, [], refl, subst, sym}
-use Rattle.cr_cursor.specs.Variants.{cursor}
-use Rattle.cr_journal.specs.Keeping.{Rests, journal_of}
+use Rattle.std.proofs.Common.{[], refl, subst, sym, ◌∙◌}
+use Rattle.cr_journal.specs.Keeping.{Rests}
 use Rattle.cr_journal_rows.specs.Forms.{bodies_of, header_body}
 use Rattle.cr_journal_rows.specs.declared.header.Header.{Header}
 use Rattle.cr_journal_records.specs.Records.{AtRest}
 use Rattle.cr_outside.specs.Question.{Says}
 use Rattle.cr_outside_disk.specs.Moments.{EveryTold}
-use Rattle.cr_reduce.specs.Bench.{judging, says_of}
-use Rattle.cr_main_kept.specs.Header.{header_of}
+use Rattle.cr_reduce.specs.Bench.{judging}
 use Rattle.cr_main_kept.specs.Kept.{BeginWith, EndsKept, Journals}
 use Rattle.cr_main_kept.specs.Kept.RunsFirst.{begun, stopped, unbegun, unopened}
 use Rattle.cr_main_task.specs.Outside.{outside}
 use Rattle.cr_main_task.specs.Task.{task_for}
+use Rattle.cr_main_task.proofs.Others.{beyond}
 use Rattle.cr_main_kept.proofs.started.run_first.Goals as goal
 
 pub returns-in-Err-clause-runs : goal.returns-in-Err-clause-runs
@@ -47,3 +46,12 @@ returns-clause-runs g c =
     c.first.ensures
     (subst (λ (says : Says). EndsKept (task_for g.P.Passes g.L.Law g.Q.Question c.args.task.now says) c.first.result c.in-Ok-begin.size started new
     (judging g.J.Judge c.begin.new.bench) (judging g.J.Judge c.reduce_on.new.bench) (g.W.Disk.has_failed c.reduce_on.new.world) c.reduce_on.result) c.in-Ok-begin.ensures.says c.reduce_on.ensures.ends)
+
+pub returns-in-Err-begin-clause-others : goal.returns-in-Err-begin-clause-others
+returns-in-Err-begin-clause-others g c = beyond 1 c.args.task.now.workers c.begin.new.bench.judges c.args.bench.now.judges c.requires.workers.0 c.begin.ensures.others
+
+pub returns-in-Err-begin-2-clause-others : goal.returns-in-Err-begin-2-clause-others
+returns-in-Err-begin-2-clause-others g c = beyond 1 c.args.task.now.workers c.begin.new.bench.judges c.args.bench.now.judges c.requires.workers.0 c.begin.ensures.others
+
+pub returns-clause-others : goal.returns-clause-others
+returns-clause-others g c = c.reduce_on.ensures.others ∙ beyond 1 c.args.task.now.workers c.begin.new.bench.judges c.args.bench.now.judges c.requires.workers.0 c.begin.ensures.others
