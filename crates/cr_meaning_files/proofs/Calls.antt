@@ -1,5 +1,5 @@
 -- What a call names is a function (K17), and a literal has bytes, its zero at least (C11 6.4.5p6).
-use Rattle.std.proofs.Common.{◌≡◌, ℕ, ◌+◌, ◌<◌, ◌≤◌, ◌-◌, Bool, true, false, List, [], ◌∷◌, ◌++◌, Option, None, Some, length, inl, inr, refl, sym, ap, subst, ◌∙◌, slice_get, slice_index_or, arith}
+use Rattle.std.proofs.Common.{◌≡◌, ℕ, ◌+◌, ◌≤◌, ◌-◌, Bool, true, false, List, [], ◌∷◌, ◌++◌, Option, None, Some, length, inl, refl, sym, ap, subst, ◌∙◌, slice_get, slice_index_or, arith}
 use Rattle.std.proofs.lemmas.Bool.{false≢true}
 use Rattle.std.proofs.lemmas.List.{length_push}
 use Rattle.std.proofs.lemmas.Option.{slice_get_within}
@@ -7,14 +7,12 @@ use Rattle.cr_syntax.specs.declared.node.Kind.{Kind}
 use Rattle.cr_syntax.specs.declared.node.Kind.TheVariants as kind
 use Rattle.cr_syntax.specs.declared.node.Node.{Node}
 use Rattle.cr_check_operands.specs.Values.{Seen, seen_at}
-use Rattle.cr_check_types.specs.Types.{type_at}
-use Rattle.cr_check_expressions.specs.declared.form.Form.TheVariants as form
 use Rattle.cr_check_expressions.specs.Forms.{form_of}
 use Rattle.cr_check_expressions.specs.Breaks.{faults_in, call_faults}
 use Rattle.cr_check_expressions.specs.Known.{Meaning, Signature, an_object, an_enumerator, a_function, a_type, unclear}
 use Rattle.cr_check_expressions.specs.Ruled.{facts_at}
 use Rattle.cr_check_literals.specs.Texts.{joined, text_by, text_if}
-use Rattle.cr_check_unit.specs.Typing.{cut, entry_at, source_in}
+use Rattle.cr_check_unit.specs.Typing.{cut, entry_at}
 use Rattle.cr_check_unit.specs.Breaks.{IsNodeBreak}
 use Rattle.cr_check.specs.declared.checked.Checked.{Checked}
 use Rattle.cr_typed.specs.declared.typed.Typed.{Typed}

@@ -1,5 +1,5 @@
 -- The values of enumerators lie in int (C11 6.7.2.2p2).
-use Rattle.std.proofs.Common.{◌≡◌, ℕ, ℤ, pos, ◌+ℤ◌, ◌<◌, ◌≤◌, inl, inr, Bool, true, false, List, [], Option, None, Some, length, take, refl, sym, ap, subst, ◌∙◌, slice_get, slice_index_or, arith, if◌then◌else◌}
+use Rattle.std.proofs.Common.{◌≡◌, ℕ, ℤ, pos, ◌+ℤ◌, inl, inr, Bool, true, false, List, Option, None, Some, length, take, refl, sym, ap, subst, ◌∙◌, slice_get, slice_index_or, arith, if◌then◌else◌}
 use Rattle.std.proofs.lemmas.Bool.{cases_lt, false≢true, true≢false}
 use Rattle.std.proofs.lemmas.List.{get_or_past, get_or-take, length-take}
 use Rattle.cr_ints.specs.declared.kind.IntKind.TheVariants.{Int as IntegerKind}
@@ -9,13 +9,13 @@ use Rattle.cr_syntax.specs.declared.node.Kind.TheVariants as kind
 use Rattle.cr_syntax.specs.declared.node.Node.{Node}
 use Rattle.cr_syntax_nodes.proofs.Numbers.{some_at}
 use Rattle.cr_check_types.specs.declared.shape.Shape.{Shape}
-use Rattle.cr_check_types.specs.Types.{Qualified, type_at}
+use Rattle.cr_check_types.specs.Types.{Qualified}
 use Rattle.cr_check_constants.specs.declared.constant.Constant.TheVariants.{Value}
 use Rattle.cr_check_constants.specs.declared.constant.Operand.{Operand}
 use Rattle.cr_check_operands.specs.Values.{Seen, number as a_number}
 use Rattle.cr_check_expressions.specs.declared.known.Declared.{Declared}
 use Rattle.cr_check_expressions.specs.declared.known.Declared.TheVariants.{Object, Enumerator, Function, TypeName, Unclear}
-use Rattle.cr_check_expressions.specs.Known.{Meaning, an_object, an_enumerator, a_function, a_type, unclear, meaning_by, declared_by}
+use Rattle.cr_check_expressions.specs.Known.{meaning_by, declared_by}
 use Rattle.cr_check_expressions.specs.Ruled.{given, named_by, is_type}
 use Rattle.cr_check_declarators.specs.declared.words.Specified.{Specified}
 use Rattle.cr_check_declarators.specs.declared.words.Class.{Class}
@@ -27,7 +27,7 @@ use Rattle.cr_check_declarators.specs.Structures.{next_of, enumerated_of, value_
 use Rattle.cr_check_declarations.specs.Before.{enumerated_in, kind_in}
 use Rattle.cr_check_declarations.specs.Contents.{enumerator_by, given_in}
 use Rattle.cr_check_declarations.specs.declared.tree.Tree.{Tree}
-use Rattle.cr_check_declarations.specs.Named.{class_of, is_typedef, is_register, is_variadic, value_by, declared_as, ordinary_by, ordinary_of, names_ordinary, specifiers_in, constant_by, named_declared, declares_name, declared_by as declares_by, declaration_of}
+use Rattle.cr_check_declarations.specs.Named.{class_of, is_typedef, value_by, ordinary_by, ordinary_of, names_ordinary, specifiers_in, constant_by, named_declared, declares_name, declared_by as declares_by, declaration_of}
 use Rattle.cr_check_ranges.proofs.Ranges.{enumerators}
 use Rattle.cr_check_unit.specs.declared.typing.Typing.{Typing}
 use Rattle.cr_check_unit.specs.Typing.{cut, entry_at, before_in, IsRuled, IsRuledIf, IsTyping}

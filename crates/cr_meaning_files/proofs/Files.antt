@@ -1,5 +1,5 @@
 -- What the grammar and the check give of a file's unit isn't premised.
-use Rattle.std.proofs.Common.{◌≡◌, ℕ, ℤ, Bool, true, false, Option, None, Some, List, inl, refl, sym, ap, subst, ◌∙◌, slice_get, slice_index_or}
+use Rattle.std.proofs.Common.{◌≡◌, ℕ, ℤ, Bool, true, Option, None, Some, List, inl, refl, sym, ap, subst, ◌∙◌, slice_get, slice_index_or}
 use Rattle.std.proofs.lemmas.Bool.{false≢true}
 use Rattle.cr_ints.specs.declared.kind.IntKind.TheVariants.{Int as IntegerKind}
 use Rattle.cr_ints.specs.IntKind.{Represents}
@@ -8,12 +8,11 @@ use Rattle.cr_syntax.specs.declared.node.Kind.TheVariants as kind
 use Rattle.cr_syntax.specs.declared.node.Node.{Node}
 use Rattle.cr_check_types.specs.Types.{Qualified, type_at}
 use Rattle.cr_check_constants.specs.declared.constant.Operand.{Operand}
-use Rattle.cr_check_constants.specs.declared.constant.Constant.TheVariants.{Value}
 use Rattle.cr_check_constants.specs.Literals.{integer_of, character_of}
 use Rattle.cr_check_operands.specs.Values.{Seen, number as a_number}
 use Rattle.cr_check_expressions.specs.declared.known.Declared.{Declared}
 use Rattle.cr_check_expressions.specs.declared.known.Declared.TheVariants.{Object, Enumerator, Function, TypeName, Unclear}
-use Rattle.cr_check_expressions.specs.Known.{Meaning, an_object, an_enumerator, a_function, a_type, unclear, meaning_by}
+use Rattle.cr_check_expressions.specs.Known.{an_enumerator, meaning_by}
 use Rattle.cr_check_expressions.specs.Forms.{form_of}
 use Rattle.cr_check_expressions.specs.Ruled.{given, literal, is_type, ruled}
 use Rattle.cr_check_ranges.specs.Laws.{IsInRange}
@@ -23,7 +22,7 @@ use Rattle.cr_typed.specs.declared.typed.Typed.{Typed}
 use Rattle.cr_typed_unit.specs.Typed.{IsTypedBy}
 use Rattle.cr_meaning.specs.declared.run.Limits.{Limits}
 use Rattle.cr_meaning_operations.specs.Shapes.{kind_in}
-use Rattle.cr_meaning_operations.specs.Operations.{kind_if, kind_at, parts_if, parts_at, part_at, program_of}
+use Rattle.cr_meaning_operations.specs.Operations.{kind_if, kind_at, parts_if, parts_at, program_of}
 use Rattle.cr_meaning_typed.specs.Typing.{has_value, is_expression}
 use Rattle.cr_meaning_typed.specs.Whole as readable
 use Rattle.cr_meaning_typed.proofs.Units.{all_worth}

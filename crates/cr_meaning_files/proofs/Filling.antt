@@ -1,35 +1,31 @@
 -- The plans of a file's typed unit: what they put is reached with its declarator, and only a literal fills an array (C11 6.7.9p14).
-use Rattle.std.proofs.Common.{◌≡◌, ℕ, zero, suc, ◌+◌, ◌<◌, ◌≤◌, ◌==◌, Bool, true, false, ◌&&◌, ◌||◌, not, List, [], ◌∷◌, ◌++◌, Option, None, Some, length, map, slice_get, slice_index_or, inl, inr, refl, sym, subst, ap, ◌∙◌, arith}
+use Rattle.std.proofs.Common.{◌≡◌, ℕ, zero, suc, ◌<◌, ◌==◌, Bool, true, false, ◌&&◌, ◌||◌, not, List, [], ◌∷◌, ◌++◌, Option, None, Some, length, map, slice_get, slice_index_or, inl, inr, refl, sym, subst, ap, ◌∙◌, arith}
 use Rattle.std.specs.List.{list_any}
-use Rattle.std.proofs.lemmas.Bool.{and_parts, false≢true, cases_lt, eqb-true, or_right, not-true, not-false}
+use Rattle.std.proofs.lemmas.Bool.{and_parts, false≢true, cases_lt, eqb-true}
 use Rattle.std.proofs.lemmas.List.{get_or_past, get_or-take}
-use Rattle.std.proofs.lemmas.Option.{slice_get_within, get_or_from_slice_get}
 use Rattle.cr_syntax.specs.declared.node.Kind.{Kind}
 use Rattle.cr_syntax.specs.declared.node.Kind.TheVariants as kind
 use Rattle.cr_syntax.specs.declared.node.Node.{Node}
-use Rattle.cr_syntax.specs.declared.ctype.CType.{CType}
 use Rattle.cr_syntax.specs.declared.ctype.CType.TheVariants.{Unknown}
 use Rattle.cr_syntax_nodes.proofs.Numbers.{some_at}
-use Rattle.cr_check_types.specs.declared.layout.Layout.{Layout}
 use Rattle.cr_check_types.specs.declared.shape.Shape.{Shape}
 use Rattle.cr_check_types.specs.Types.{Qualified, plain, pointer, array, type_at}
 use Rattle.cr_check_expressions.specs.declared.least.Break.{Break}
 use Rattle.cr_check_expressions.specs.Breaks.{fault, IsAmong as IsBreakAmong}
-use Rattle.cr_check_expressions.specs.Forms.{form_of}
 use Rattle.cr_check_expressions.specs.Ruled.{facts_at, no_fact}
 use Rattle.cr_check_operands.specs.Values.{Seen, seen_at}
 use Rattle.cr_check_initialisers.specs.declared.lines.Line.{Line}
 use Rattle.cr_check_initialisers.specs.declared.lines.Line.TheVariants as line
 use Rattle.cr_check_initialisers.specs.Known.{Known, is_list_if, is_text, is_text_if, parts_if as initial_parts_if}
 use Rattle.cr_check_initialisers.specs.Places.{Place, is_unknown}
-use Rattle.cr_check_initialisers.specs.Plans.{Entry, put, excess, entry_of, entries_of, puts_of}
+use Rattle.cr_check_initialisers.specs.Plans.{Entry, put, entry_of, entries_of, puts_of}
 use Rattle.cr_check_initialisers.specs.Faults.{is_badly_typed, is_bad_literal, is_varying, faults_of, plan_faults}
 use Rattle.cr_check_initialised.specs.Initialised.{Planned, planned_by, IsFilled}
 use Rattle.cr_check_initialised.specs.Faults.{faults_in, equals_before}
 use Rattle.cr_check_initialised.specs.Durations.{is_static}
 use Rattle.cr_check_unit.specs.declared.typing.Typing.{Typing}
 use Rattle.cr_check_unit.specs.Typing.{cut, entry_at, known_in, before_in, object_in, IsRuled, IsRuledIf}
-use Rattle.cr_check_unit.specs.Breaks.{initialiser_faults, IsNodeBreak}
+use Rattle.cr_check_unit.specs.Breaks.{IsNodeBreak}
 use Rattle.cr_typed.specs.declared.typed.Typed.{Typed}
 use Rattle.cr_typed.specs.declared.typed.Put.{Put}
 use Rattle.cr_typed_columns.specs.Rows.{put_entry}
@@ -37,14 +33,14 @@ use Rattle.cr_typed_columns.specs.Expressions.{fills_array, is_array, is_filling
 use Rattle.cr_typed_unit.specs.Typed.{IsTypedBy}
 use Rattle.cr_meaning_operations.specs.Operations.{kind_if, kind_at, parts_if, parts_at}
 use Rattle.cr_meaning_typed.specs.Laws.{HoldsAll}
-use Rattle.cr_meaning_typed.specs.Typing.{has_value, is_expression}
+use Rattle.cr_meaning_typed.specs.Typing.{has_value}
 use Rattle.cr_meaning_typed.proofs.Worth.{unbroken}
 use Rattle.cr_meaning_judged.specs.Judged.{seen_in}
 use Rattle.cr_meaning_units.specs.Owned.{AreOfUnit}
 use Rattle.cr_meaning_declared.specs.Files.{IsUnitOfFile}
 use Rattle.cr_meaning_declared.proofs.Nodes.{of_unit}
-use Rattle.cr_meaning_files.specs.Reached.{is_list, lives}
-use Rattle.cr_meaning_files.proofs.Putting.{IsPut, IsEntry, AreEntries, second, filled_if, line_at, of_initialised}
+use Rattle.cr_meaning_files.specs.Reached.{is_list}
+use Rattle.cr_meaning_files.proofs.Putting.{IsPut, AreEntries, second, filled_if, line_at, of_initialised}
 
 -- ---- an entry of which a test holds
 

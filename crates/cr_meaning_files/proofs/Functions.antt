@@ -1,5 +1,5 @@
 -- A statement that a run reaches stands in a function (C11 6.9.1).
-use Rattle.std.proofs.Common.{◌≡◌, ℕ, zero, suc, ◌+◌, ◌<◌, ◌⊎◌, inl, inr, Bool, true, false, ◌&&◌, ◌||◌, List, Option, None, Some, length, refl, sym, ap, subst, ◌∙◌, slice_get, slice_index_or}
+use Rattle.std.proofs.Common.{◌≡◌, ℕ, zero, suc, ◌⊎◌, inl, inr, Bool, true, false, ◌&&◌, ◌||◌, List, Option, None, Some, length, refl, sym, ap, ◌∙◌, slice_get, slice_index_or}
 use Rattle.std.proofs.lemmas.Bool.{and_parts, false≢true}
 use Rattle.cr_syntax.specs.declared.node.Kind.{Kind}
 use Rattle.cr_syntax.specs.declared.node.Kind.TheVariants as kind
@@ -15,7 +15,7 @@ use Rattle.cr_meaning_names.proofs.Parents.{IsPartOf, above_some}
 use Rattle.cr_meaning_declared.specs.Files.{IsUnitOfFile}
 use Rattle.cr_meaning_files.specs.Reached.{is_item, is_declaring, is_list, is_listing, is_definition, is_block, is_going, goes_on, lives_below, lives_by, lives}
 use Rattle.cr_meaning_files.proofs.Tables.{item_is, item_apart, item_lists_nothing, case_item}
-use Rattle.cr_meaning_files.proofs.Tree.{HasPart, has_part}
+use Rattle.cr_meaning_files.proofs.Tree.{has_part}
 use Rattle.cr_meaning_files.proofs.Filling.{unit}
 use Rattle.cr_meaning_files.proofs.Laid.{around_at}
 

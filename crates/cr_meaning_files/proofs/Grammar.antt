@@ -1,9 +1,7 @@
 -- Which part of the grammar stands in each place of a node's parts, and what kinds of nodes stand for it.
-use Rattle.std.proofs.Common.{◌≡◌, ℕ, zero, suc, ◌+◌, ◌<◌, ◌==◌, inl, inr, Bool, true, false, ◌&&◌, ◌||◌, not, List, [], ◌∷◌, Option, None, Some, drop, length, nat_lt, slice_get, refl, sym, subst, ap, ◌∙◌, arith}
-use Rattle.std.proofs.lemmas.Bool.{and_parts, false≢true, or_right, eqb-true, ltb-true}
-use Rattle.cr_syntax.specs.declared.word.Word.{Word}
+use Rattle.std.proofs.Common.{◌≡◌, ℕ, zero, suc, ◌+◌, inl, inr, Bool, true, false, ◌||◌, not, List, [], ◌∷◌, Option, None, Some, drop, length, slice_get, subst}
+use Rattle.std.proofs.lemmas.Bool.{false≢true, or_right}
 use Rattle.cr_syntax.specs.declared.node.Kind.{Kind}
-use Rattle.cr_syntax.specs.declared.node.Kind.TheVariants as kind
 use Rattle.cr_syntax.specs.declared.node.Node.{Node}
 use Rattle.cr_syntax.specs.declared.part.Part.{Part}
 use Rattle.cr_syntax.specs.declared.part.Part.TheVariants as part
@@ -11,11 +9,9 @@ use Rattle.cr_syntax.specs.Words.{Lexeme}
 use Rattle.cr_syntax.specs.Trees.{Trees, none, node}
 use Rattle.cr_syntax.specs.Symbols as symbol
 use Rattle.cr_syntax.specs.Grammar.{Side}
-use Rattle.cr_syntax.specs.Tables.{rule_of, part_of, side_of}
 use Rattle.cr_syntax.specs.Kept.{AreBelow, PartsAreBelow, row_in}
 use Rattle.cr_syntax.proofs.Arena.{below_first, below_rest, row_at}
-use Rattle.cr_syntax_nodes.specs.Nodes.{least, most}
-use Rattle.cr_syntax_nodes.specs.Laid.{expressions, parts_of, is_among, stands_for, AreInRow, AreInList, IsLaid}
+use Rattle.cr_syntax_nodes.specs.Laid.{is_among, stands_for, AreInRow, AreInList, IsLaid}
 use Rattle.cr_syntax_nodes.proofs.Numbers.{some_at}
 
 -- ---- places

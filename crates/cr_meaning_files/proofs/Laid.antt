@@ -1,23 +1,19 @@
 -- What the grammar gives of a file's typed unit: its expressions have their operands, and statements their parts.
-use Rattle.std.proofs.Common.{◌≡◌, ℕ, zero, suc, ◌+◌, ◌<◌, ◌≤◌, ◌==◌, ◌⊎◌, inl, inr, Bool, true, false, ◌&&◌, ◌||◌, not, List, [], ◌∷◌, ◌++◌, Option, None, Some, length, nat_lt, slice_get, slice_index_or, refl, sym, subst, ap, ◌∙◌, arith, if◌then◌else◌}
-use Rattle.std.proofs.lemmas.Bool.{and_parts, false≢true, cases_lt, eq-eqb, ne_eqb, eqb-true, lt-ltb, or_left, or_right}
+use Rattle.std.proofs.Common.{◌≡◌, ℕ, zero, suc, ◌<◌, ◌==◌, Bool, true, false, ◌&&◌, ◌||◌, not, List, Option, None, Some, length, slice_get, slice_index_or, refl, sym, ap, ◌∙◌, arith, if◌then◌else◌}
+use Rattle.std.proofs.lemmas.Bool.{false≢true, eq-eqb, ne_eqb, eqb-true, lt-ltb}
 use Rattle.std.proofs.lemmas.Option.{slice_get_within}
-use Rattle.cr_syntax.specs.declared.node.Kind.{Kind}
 use Rattle.cr_syntax.specs.declared.node.Kind.TheVariants as kind
 use Rattle.cr_syntax.specs.declared.node.Node.{Node}
-use Rattle.cr_syntax.specs.Tables.{rule_of, side_of}
+use Rattle.cr_syntax.specs.Tables.{side_of}
 use Rattle.cr_scopes_events.specs.Scripts as scripts
-use Rattle.cr_check_enclosing.specs.declared.context.Around.{Around}
-use Rattle.cr_check_enclosing.specs.Above.{above_of}
 use Rattle.cr_check_enclosing.specs.Around.{inside, inside_if, below, outermost}
-use Rattle.cr_check_operands.specs.Values.{Seen, seen_at}
-use Rattle.cr_check_expressions.specs.declared.form.Form.{Form}
+use Rattle.cr_check_operands.specs.Values.{seen_at}
 use Rattle.cr_check_expressions.specs.Forms.{form_of}
 use Rattle.cr_check_expressions.specs.Ruled.{no_fact}
 use Rattle.cr_check_expressions.specs.Used.{takes_place, is_valued}
 use Rattle.cr_check.specs.declared.checked.Checked.{Checked}
 use Rattle.cr_typed.specs.declared.typed.Typed.{Typed}
-use Rattle.cr_typed_columns.specs.Reading.{kind_of, part_of, entry_of}
+use Rattle.cr_typed_columns.specs.Reading.{kind_of, part_of}
 use Rattle.cr_typed_columns.specs.Expressions.{form_if, is_part, is_filling, seen_of, valued_of}
 use Rattle.cr_typed_unit.specs.Typed.{IsTypedBy}
 use Rattle.cr_meaning_operations.specs.Operations.{kind_if, kind_at, parts_if, parts_at, part_at}
@@ -28,10 +24,10 @@ use Rattle.cr_meaning_judged.specs.Judged.{seen_in, source_of, scene_of, IsJudge
 use Rattle.cr_meaning_judged.proofs.Judged.{judged}
 use Rattle.cr_meaning_names.proofs.Parents.{IsPartOf, above_is, one_parent}
 use Rattle.cr_meaning_declared.specs.Files.{IsUnitOfFile}
-use Rattle.cr_meaning_sorts.specs.Founded.{parts_of, IsOperand, AreLaidOut}
+use Rattle.cr_meaning_sorts.specs.Founded.{IsOperand, AreLaidOut}
 use Rattle.cr_meaning_files.specs.Reached.{is_list, is_listing}
 use Rattle.cr_meaning_files.specs.Files.{judgement_of}
-use Rattle.cr_meaning_files.proofs.Grammar.{part_in, Stands, is_of}
+use Rattle.cr_meaning_files.proofs.Grammar.{part_in, is_of}
 use Rattle.cr_meaning_files.proofs.Tables.{is_expression_part, expression_there, asked, argument, counts, counted_there, asked_there}
 use Rattle.cr_meaning_files.proofs.Tree.{HasPart, has_part, as_part, exactly, needed, one_place}
 use Rattle.cr_meaning_files.proofs.Filling.{unit, filling}

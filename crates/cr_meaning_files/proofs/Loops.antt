@@ -1,6 +1,6 @@
 -- The clauses of a `for`, as its operation finds them, are those that the check reads (C11 6.8.5.3).
-use Rattle.std.proofs.Common.{◌≡◌, ℕ, zero, suc, ◌+◌, ◌<◌, ◌≤◌, ◌==◌, ◌⊎◌, inl, inr, Bool, true, false, ◌||◌, List, [], ◌∷◌, ◌++◌, Option, None, Some, length, option_to_list, slice_get, refl, sym, subst, ap, ◌∙◌, arith, if◌then◌else◌}
-use Rattle.std.proofs.lemmas.Bool.{eq-eqb, eqb-true, ne_eqb, or_left, or_right, false≢true}
+use Rattle.std.proofs.Common.{◌≡◌, ℕ, zero, suc, ◌+◌, ◌<◌, ◌≤◌, ◌==◌, inl, inr, Bool, true, false, ◌||◌, List, [], ◌∷◌, ◌++◌, Option, None, Some, length, option_to_list, slice_get, refl, sym, subst, ap, ◌∙◌, arith, if◌then◌else◌}
+use Rattle.std.proofs.lemmas.Bool.{eq-eqb, ne_eqb, or_left, or_right, false≢true}
 use Rattle.cr_syntax.specs.declared.word.Word.{Word}
 use Rattle.cr_syntax.specs.declared.word.Word.TheVariants as word
 use Rattle.cr_syntax.specs.declared.node.Kind.{Kind}
@@ -10,7 +10,7 @@ use Rattle.cr_syntax.specs.declared.part.Part.TheVariants as part
 use Rattle.cr_syntax.specs.Kept.{row_in}
 use Rattle.cr_syntax.specs.Tables.{rule_of, side_of}
 use Rattle.cr_syntax_nodes.specs.Laid.{stands_for, IsLaid}
-use Rattle.cr_syntax_nodes.specs.Loops.{clauses_of, IsPartAt, IsClauseAt, IsFirstClauseAt, IsLoop}
+use Rattle.cr_syntax_nodes.specs.Loops.{clauses_of, IsClauseAt, IsFirstClauseAt, IsLoop}
 use Rattle.cr_syntax_nodes.proofs.Loops.{loop}
 use Rattle.cr_check_expressions.specs.Forms.{form_of}
 use Rattle.cr_typed.specs.declared.typed.Typed.{Typed}

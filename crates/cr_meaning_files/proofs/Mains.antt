@@ -1,12 +1,8 @@
 -- `main` is a definition, whose body is reached (C11 5.1.2.2.1).
-use Rattle.std.proofs.Common.{◌≡◌, ℕ, zero, suc, ◌+◌, ◌<◌, ◌≤◌, inl, inr, Bool, true, false, ◌&&◌, List, [], ◌∷◌, Option, None, Some, length, slice_get, refl, sym, ap, subst, ◌∙◌, arith, if◌then◌else◌}
-use Rattle.std.specs.List.{list_any}
-use Rattle.std.specs.Str.{bytes_eq}
-use Rattle.std.specs.Prelude.{codes}
+use Rattle.std.proofs.Common.{◌≡◌, ℕ, zero, suc, ◌<◌, inl, inr, Bool, true, false, List, [], Option, None, Some, length, slice_get, refl, sym, ap, subst, ◌∙◌, arith, if◌then◌else◌}
 use Rattle.std.proofs.lemmas.Bool.{and_parts, and_from, false≢true, cases_lt, or_right}
 use Rattle.std.proofs.lemmas.Option.{slice_get_within}
 use Rattle.cr_ints.specs.declared.kind.IntKind.TheVariants.{Int as IntegerKind}
-use Rattle.cr_tokens.specs.declared.token.Token.{Token}
 use Rattle.cr_syntax.specs.declared.node.Kind.{Kind}
 use Rattle.cr_syntax.specs.declared.node.Kind.TheVariants as kind
 use Rattle.cr_syntax.specs.declared.node.Node.{Node}
@@ -16,20 +12,19 @@ use Rattle.cr_scopes_events.specs.Scripts as scripts
 use Rattle.cr_scopes_events.specs.Declarators.{declarator_of}
 use Rattle.cr_check_enclosing.specs.declared.context.Around.{Around}
 use Rattle.cr_check_enclosing.specs.Around.{inside}
-use Rattle.cr_check_expressions.specs.Known.{spelling_of}
 use Rattle.cr_check_expressions.specs.Forms.{form_of}
 use Rattle.cr_check_definitions.specs.Known.{Known}
 use Rattle.cr_check_definitions.specs.Mains.{is_main_by, is_main, has_main, is_named_main, has_mains_type}
 use Rattle.cr_check_definitions.specs.Mains as mains
 use Rattle.cr_check.specs.Columns.{known_in}
 use Rattle.cr_typed.specs.declared.typed.Typed.{Typed}
-use Rattle.cr_typed_columns.specs.Reading.{Parsed, parsed_of, part_of}
+use Rattle.cr_typed_columns.specs.Reading.{Parsed, parsed_of}
 use Rattle.cr_typed_columns.specs.Entities.{declared_token, is_definition as is_definition_if}
 use Rattle.cr_typed_columns.specs.Functions as functions
 use Rattle.cr_typed_unit.specs.Typed.{IsTypedBy}
 use Rattle.cr_meaning.specs.declared.op.Form.{Form}
 use Rattle.cr_meaning.specs.declared.op.Form.TheVariants as form
-use Rattle.cr_meaning_operations.specs.Operations.{kind_if, kind_at, parts_at, part_at, is_name, name_by, name_of, nodes_from, is_static_initialiser}
+use Rattle.cr_meaning_operations.specs.Operations.{kind_if, kind_at, part_at, is_name, name_by, name_of, nodes_from, is_static_initialiser}
 use Rattle.cr_meaning_typed.specs.Typing.{is_expression}
 use Rattle.cr_meaning_typed.specs.Placed.{exits_in}
 use Rattle.cr_meaning_soundness.specs.Statements.{of_function}

@@ -1,5 +1,5 @@
 -- The member that an expression names is the one that the columns name (C11 6.5.2.3p3).
-use Rattle.std.proofs.Common.{◌≡◌, ℕ, zero, suc, ◌+◌, ◌<◌, ◌==◌, Bool, true, false, ◌&&◌, List, [], ◌∷◌, Option, None, Some, length, map, take, nat_lt, refl, sym, ap, subst, ◌∙◌, slice_get, slice_index_or, arith, if◌then◌else◌}
+use Rattle.std.proofs.Common.{◌≡◌, ℕ, zero, suc, ◌<◌, ◌==◌, Bool, true, false, List, [], ◌∷◌, Option, None, Some, length, map, take, nat_lt, refl, sym, ap, ◌∙◌, slice_get, slice_index_or, arith, if◌then◌else◌}
 use Rattle.std.proofs.lemmas.Bool.{and_parts, false≢true, ltb-true}
 use Rattle.std.proofs.lemmas.List.{get_or-take}
 use Rattle.std.proofs.lemmas.Option.{slice_get_within}
@@ -8,12 +8,10 @@ use Rattle.cr_syntax.specs.declared.node.Kind.{Kind}
 use Rattle.cr_syntax.specs.declared.node.Kind.TheVariants as kind
 use Rattle.cr_syntax.specs.declared.node.Node.{Node}
 use Rattle.cr_scopes_events.specs.Scripts as scripts
-use Rattle.cr_check_types.specs.declared.shape.Shape.{Shape}
 use Rattle.cr_check_types.specs.Relations.{is_content, is_content_if, is_defined}
 use Rattle.cr_check_types.specs.Types.{Qualified, plain, pointer as to, array, type_at}
 use Rattle.cr_check_operands.specs.Values.{Seen, seen_at}
 use Rattle.cr_check_operands.specs.Places.{structure_in, found_by, member_of}
-use Rattle.cr_check_expressions.specs.declared.form.Form.TheVariants as form
 use Rattle.cr_check_expressions.specs.declared.known.Member.{Member}
 use Rattle.cr_check_expressions.specs.Known.{row_of_name}
 use Rattle.cr_check_expressions.specs.Forms.{form_of}
@@ -22,12 +20,12 @@ use Rattle.cr_check_unit.specs.declared.typing.Typing.{Typing}
 use Rattle.cr_check.specs.declared.checked.Checked.{Checked}
 use Rattle.cr_typed.specs.declared.typed.Typed.{Typed}
 use Rattle.cr_typed_columns.specs.Reading.{part_of, entry_of}
-use Rattle.cr_typed_columns.specs.Columns.{is_structure, member_types}
+use Rattle.cr_typed_columns.specs.Columns.{is_structure}
 use Rattle.cr_typed_columns.specs.Expressions.{number_of_name, last_if, structure_by, chosen_of, seen_of}
 use Rattle.cr_typed_unit.specs.Typed.{IsTypedBy}
-use Rattle.cr_meaning_operations.specs.Shapes.{type_of_node, structure_of, members_of}
-use Rattle.cr_meaning_operations.specs.Operations.{kind_if, kind_at, parts_if, parts_at, chosen_row}
-use Rattle.cr_meaning_typed.specs.Typing.{has_value, is_expression}
+use Rattle.cr_meaning_operations.specs.Shapes.{type_of_node, structure_of}
+use Rattle.cr_meaning_operations.specs.Operations.{chosen_row}
+use Rattle.cr_meaning_typed.specs.Typing.{has_value}
 use Rattle.cr_meaning_typed.proofs.Units.{listed_at}
 use Rattle.cr_meaning_judged.specs.Judged.{seen_in, source_of, scene_of, IsJudged}
 use Rattle.cr_meaning_judged.proofs.Judged.{judged}

@@ -1,17 +1,14 @@
 -- What the plans of initialisers put stands below their declarators, and an array is put a literal alone (C11 6.7.9).
-use Rattle.std.proofs.Common.{◌≡◌, ℕ, zero, suc, ◌+◌, ◌<◌, ◌==◌, Bool, true, false, ◌&&◌, ◌||◌, not, List, [], ◌∷◌, ◌++◌, Option, None, Some, length, map, nat_lt, slice_get, slice_index_or, inl, inr, refl, sym, subst, ap, ◌∙◌, arith}
-use Rattle.std.proofs.lemmas.Bool.{and_parts, or_right, false≢true, lt-ltb, not-true, not-false}
-use Rattle.std.proofs.lemmas.Option.{slice_get_within}
+use Rattle.std.proofs.Common.{◌≡◌, ℕ, zero, suc, ◌<◌, Bool, true, false, ◌&&◌, ◌||◌, List, [], ◌∷◌, ◌++◌, Option, None, Some, map, nat_lt, slice_get, refl, sym, subst, ap, ◌∙◌, arith}
+use Rattle.std.proofs.lemmas.Bool.{and_parts, false≢true, lt-ltb}
 use Rattle.cr_syntax.specs.declared.node.Kind.{Kind}
 use Rattle.cr_syntax.specs.declared.node.Kind.TheVariants as kind
-use Rattle.cr_syntax.specs.declared.node.Node.{Node}
 use Rattle.cr_syntax.specs.Tables.{rule_of, side_of}
 use Rattle.cr_check_types.specs.declared.layout.Layout.{Layout}
 use Rattle.cr_check_types.specs.declared.shape.Shape.{Shape}
-use Rattle.cr_check_types.specs.Types.{Qualified, plain, pointer, array, type_at}
+use Rattle.cr_check_types.specs.Types.{Qualified}
 use Rattle.cr_check_expressions.specs.Forms.{form_of}
 use Rattle.cr_check_initialisers.specs.declared.lines.Line.{Line}
-use Rattle.cr_check_initialisers.specs.declared.lines.Line.TheVariants as line
 use Rattle.cr_check_initialisers.specs.Known.{Known}
 use Rattle.cr_check_initialisers.specs.Places.{Place, opens}
 use Rattle.cr_check_initialisers.specs.Plans.{Entry, put, excess, Fills, ends, exceeds, braces, whole, elided, loses, IsPlan, by_expression, by_list, entry_of}
@@ -23,8 +20,8 @@ use Rattle.cr_meaning_units.specs.Owned.{AreOfUnit}
 use Rattle.cr_meaning_names.proofs.Parents.{IsPartOf}
 use Rattle.cr_meaning_files.specs.Reached.{is_list, is_listing, lives}
 use Rattle.cr_meaning_files.proofs.Grammar.{part_in, Stands}
-use Rattle.cr_meaning_files.proofs.Tables.{is_initialiser_part, initialiser_there}
-use Rattle.cr_meaning_files.proofs.Tree.{HasPart, has_part, as_part}
+use Rattle.cr_meaning_files.proofs.Tables.{initialiser_there}
+use Rattle.cr_meaning_files.proofs.Tree.{has_part, as_part}
 use Rattle.cr_meaning_files.proofs.Living.{goes, listing_goes}
 
 -- ---- which nodes have a plan

@@ -1,10 +1,9 @@
 -- What a run may reach is closed: with a node it has what is evaluated with it.
-use Rattle.std.proofs.Common.{◌≡◌, ℕ, zero, suc, ◌+◌, ◌<◌, ◌≤◌, Bool, true, false, ◌&&◌, ◌||◌, not, List, Option, None, Some, length, slice_get, refl, sym, subst, ap, ◌∙◌, arith}
-use Rattle.std.proofs.lemmas.Bool.{and_parts, or_left, or_right, false≢true, not-true}
+use Rattle.std.proofs.Common.{◌≡◌, ℕ, true, false, ◌&&◌, not, Some, slice_get, refl, sym, ap, ◌∙◌, arith}
+use Rattle.std.proofs.lemmas.Bool.{and_parts, or_left, or_right, not-true}
 use Rattle.std.proofs.lemmas.Option.{slice_get_within}
 use Rattle.cr_syntax.specs.declared.node.Kind.{Kind}
 use Rattle.cr_syntax.specs.declared.node.Kind.TheVariants as kind
-use Rattle.cr_syntax.specs.declared.node.Node.{Node}
 use Rattle.cr_syntax.specs.Tables.{side_of}
 use Rattle.cr_check_expressions.specs.Forms.{form_of}
 use Rattle.cr_typed.specs.declared.typed.Typed.{Typed}
@@ -14,7 +13,7 @@ use Rattle.cr_meaning_units.specs.Owned.{AreOfUnit}
 use Rattle.cr_meaning_sorts.specs.Founded.{is_evaluated, is_followed, AreReached}
 use Rattle.cr_meaning_sorts.specs.Table.{Judgement}
 use Rattle.cr_meaning_whole.specs.Statements.{is_statement}
-use Rattle.cr_meaning_files.specs.Reached.{is_item, is_address, is_going, lives, is_passed, is_run_kind, is_reached}
+use Rattle.cr_meaning_files.specs.Reached.{is_item, is_address, is_going, lives, is_run_kind, is_reached}
 use Rattle.cr_meaning_files.proofs.Grammar.{part_in, is_of}
 use Rattle.cr_meaning_files.proofs.Tables.{is_expression_part, expression_there, asked, evaluated, evaluated_part, item_is, counts, counted_there, followed_count, followed_parts, followed_asked, followed_goes, addressed}
 use Rattle.cr_meaning_files.proofs.Tree.{HasPart, has_part, as_part, exactly}

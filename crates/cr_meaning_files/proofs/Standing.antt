@@ -1,28 +1,26 @@
 -- What the grammar gives of statements, and that what is executed with a node is reached with it.
-use Rattle.std.proofs.Common.{◌≡◌, ℕ, zero, suc, ◌+◌, ◌<◌, ◌≤◌, ◌⊎◌, inl, inr, Bool, true, false, ◌&&◌, ◌||◌, not, List, [], ◌∷◌, Option, None, Some, drop, length, slice_get, slice_index_or, refl, sym, subst, ap, ◌∙◌, arith, if◌then◌else◌}
+use Rattle.std.proofs.Common.{◌≡◌, ℕ, zero, suc, ◌+◌, ◌<◌, ◌⊎◌, inl, inr, Bool, true, false, ◌&&◌, ◌||◌, not, List, [], ◌∷◌, Some, drop, length, slice_get, slice_index_or, refl, sym, subst, ap, ◌∙◌, arith, if◌then◌else◌}
 use Rattle.std.specs.List.{filter}
-use Rattle.std.proofs.lemmas.Bool.{and_parts, false≢true, or_left, or_right, not-true, cases_lt}
+use Rattle.std.proofs.lemmas.Bool.{and_parts, false≢true, or_right, cases_lt}
 use Rattle.std.proofs.lemmas.Option.{slice_get_within}
 use Rattle.cr_syntax.specs.declared.node.Kind.{Kind}
 use Rattle.cr_syntax.specs.declared.node.Kind.TheVariants as kind
 use Rattle.cr_syntax.specs.declared.node.Node.{Node}
 use Rattle.cr_syntax.specs.Tables.{side_of}
-use Rattle.cr_syntax_nodes.specs.Nodes.{least, most}
 use Rattle.cr_syntax_nodes.specs.Loops.{clauses_of}
-use Rattle.cr_check_enclosing.specs.Around.{inside, outermost}
 use Rattle.cr_check_expressions.specs.Forms.{form_of}
 use Rattle.cr_typed.specs.declared.typed.Typed.{Typed}
 use Rattle.cr_typed.specs.declared.typed.Put.{Put}
-use Rattle.cr_meaning_operations.specs.Operations.{kind_if, kind_at, parts_at, part_at, is_case, is_declaration, is_automatic, declarators_of, labelled, first_at, part_from, clause_end, clause_objects, unless_body, last_part, is_static_initialiser}
+use Rattle.cr_meaning_operations.specs.Operations.{kind_if, kind_at, parts_at, part_at, is_case, is_declaration, is_automatic, declarators_of, labelled, first_at, part_from, clause_end, clause_objects, unless_body, last_part}
 use Rattle.cr_meaning_typed.specs.Typing.{is_expression}
 use Rattle.cr_meaning_units.specs.Owned.{AreOfUnit}
 use Rattle.cr_meaning_declared.specs.Files.{IsUnitOfFile}
 use Rattle.cr_meaning_sorts.specs.Founded.{IsOperand}
-use Rattle.cr_meaning_whole.specs.Statements.{is_statement, has_condition, has_inner, is_labelled, IsInner, IsCondition, IsFor, IsSwitch, AreStatementsLaid}
-use Rattle.cr_meaning_files.specs.Reached.{is_item, is_declaring, is_list, is_listing, is_going, is_address, goes_on, lives, is_run_kind, is_reached}
+use Rattle.cr_meaning_whole.specs.Statements.{is_statement, has_condition, has_inner, is_labelled, IsInner, IsFor, IsSwitch, AreStatementsLaid}
+use Rattle.cr_meaning_files.specs.Reached.{is_item, is_list, is_listing, is_going, is_address, goes_on, lives, is_reached}
 use Rattle.cr_meaning_files.specs.Files.{judgement_of}
 use Rattle.cr_meaning_files.proofs.Grammar.{part_in, Stands, is_of}
-use Rattle.cr_meaning_files.proofs.Tables.{is_expression_part, is_item_part, is_declaring_part, expression_there, item_there, declaring_there, condition, inner, inner_kind, item_is, item_apart, declaring_is, going_lists_nothing, listing_apart, branch_counts, while_counts, do_counts, return_counts, statement_counts, switch_counts, label_counts, switch_body, block_items, declared_parts}
+use Rattle.cr_meaning_files.proofs.Tables.{is_item_part, is_declaring_part, expression_there, item_there, declaring_there, condition, inner, inner_kind, item_is, item_apart, declaring_is, going_lists_nothing, listing_apart, branch_counts, while_counts, do_counts, return_counts, statement_counts, switch_counts, label_counts, switch_body, block_items, declared_parts}
 use Rattle.cr_meaning_files.proofs.Tree.{HasPart, has_part, as_part, counted_by, exactly, at_most, needed}
 use Rattle.cr_meaning_files.proofs.Living.{goes, item_goes, case_goes, declaration_goes, reached_lives, reached_kind, reach, unpassed, unfollowed}
 use Rattle.cr_meaning_files.proofs.Reaching.{expression_runs, item_runs, expression_reached}

@@ -1,5 +1,5 @@
 -- Tables of kinds: which parts of a node are expressions, which statements, and how many there are (C11 6.5, 6.8).
-use Rattle.std.proofs.Common.{◌≡◌, ℕ, zero, suc, ◌+◌, ◌<◌, ◌==◌, Bool, true, false, ◌&&◌, ◌||◌, not, List, [], ◌∷◌, Option, None, Some, nat_lt, refl, sym, ap, ◌∙◌, arith}
+use Rattle.std.proofs.Common.{◌≡◌, ℕ, zero, suc, ◌<◌, ◌==◌, Bool, true, false, ◌&&◌, ◌||◌, not, List, Option, None, Some, nat_lt, refl, sym, ap, ◌∙◌, arith}
 use Rattle.std.proofs.lemmas.Bool.{and_parts, false≢true, eqb-true, ltb-true}
 use Rattle.cr_syntax.specs.declared.node.Kind.{Kind}
 use Rattle.cr_syntax.specs.declared.node.Kind.TheVariants as kind
@@ -10,7 +10,7 @@ use Rattle.cr_syntax_nodes.specs.Nodes.{least, most}
 use Rattle.cr_syntax_nodes.specs.Laid.{expressions, is_among, stands_for, parts_of as alternatives_of}
 use Rattle.cr_check_expressions.specs.Forms.{form_of}
 use Rattle.cr_typed.specs.declared.typed.Typed.{Typed}
-use Rattle.cr_meaning_operations.specs.Operations.{is_case, is_declaration, is_static_initialiser}
+use Rattle.cr_meaning_operations.specs.Operations.{is_case, is_static_initialiser}
 use Rattle.cr_meaning_typed.specs.Typing.{is_asked, is_expression}
 use Rattle.cr_meaning_sorts.specs.Founded.{parts_of, is_evaluated, is_followed}
 use Rattle.cr_meaning_whole.specs.Statements.{is_statement, has_condition, has_inner}

@@ -1,18 +1,15 @@
 -- The parts of a unit's nodes: what stands there, how many there are, and which node is above each.
-use Rattle.std.proofs.Common.{◌≡◌, ℕ, zero, suc, ◌+◌, ◌<◌, ◌≤◌, ◌==◌, Bool, true, false, ◌&&◌, ◌||◌, not, cond, List, [], ◌∷◌, ◌++◌, Option, None, Some, length, nat_lt, slice_get, slice_index, slice_index_or, refl, sym, subst, ap, ◌∙◌, arith}
+use Rattle.std.proofs.Common.{◌≡◌, ℕ, zero, suc, ◌+◌, ◌<◌, ◌≤◌, ◌==◌, Bool, true, false, cond, List, [], ◌∷◌, ◌++◌, Option, None, Some, length, slice_get, slice_index, refl, sym, subst, ap, ◌∙◌, arith}
 use Rattle.std.specs.List.{count_by, flat_map}
-use Rattle.std.proofs.lemmas.Bool.{cases_lt, eq-eqb, ne_eqb, false≢true, lt-ltb}
+use Rattle.std.proofs.lemmas.Bool.{eq-eqb, false≢true}
 use Rattle.std.proofs.lemmas.List.Sums.{sum_by-append, sum_by-cons}
 use Rattle.std.proofs.lemmas.Option.{slice_get_within, get_or_from_slice_get, slice_get-get_or}
 use Rattle.cr_syntax.specs.declared.node.Kind.{Kind}
-use Rattle.cr_syntax.specs.declared.node.Kind.TheVariants as kind
 use Rattle.cr_syntax.specs.declared.node.Node.{Node}
-use Rattle.cr_syntax.specs.Kept.{AreBelow, row_in}
 use Rattle.cr_syntax.specs.Tables.{side_of}
 use Rattle.cr_syntax_nodes.specs.Nodes.{least, most, IsUpTo, IsCounted}
-use Rattle.cr_syntax_nodes.specs.Laid.{IsLaid}
 use Rattle.cr_syntax_nodes.proofs.Made.{made_in}
-use Rattle.cr_syntax_nodes.proofs.Numbers.{occurs, some_at}
+use Rattle.cr_syntax_nodes.proofs.Numbers.{occurs}
 use Rattle.cr_syntax_nodes.proofs.Counts.{counted, row_counted}
 use Rattle.cr_typed.specs.declared.typed.Typed.{Typed}
 use Rattle.cr_meaning_operations.specs.Operations.{kind_if, kind_at, parts_if, parts_at, part_at}

@@ -1,5 +1,5 @@
 -- What the grammar and the check give of a file's typed unit.
-use Rattle.std.specs.Prelude.{◌≡◌, ℕ, ℤ, true, List, Option, None, slice_index_or}
+use Rattle.std.specs.Prelude.{◌≡◌, ℕ, ℤ, true, List}
 use Rattle.cr_ints.specs.declared.kind.IntKind.TheVariants.{Int as IntegerKind}
 use Rattle.cr_ints.specs.IntKind.{Represents}
 use Rattle.cr_syntax.specs.declared.node.Kind.TheVariants as kind
