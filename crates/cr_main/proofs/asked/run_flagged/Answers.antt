@@ -1,7 +1,7 @@
-use Rattle.std.proofs.Common.{refl, subst}
+use Rattle.std.proofs.Common.{subst}
 use Rattle.cr_main_words.specs.Requests.{Suits}
 use Rattle.cr_main_words.specs.declared.modes.Modes.{Modes}
-use Rattle.cr_main.specs.More.RunsAsked.{kept, unbuilt}
+use Rattle.cr_main.specs.More.RunsAsked.{kept}
 use Rattle.cr_main.proofs.More.{kept_saves}
 use Rattle.cr_main.proofs.asked.run_flagged.Goals as goal
 
@@ -15,14 +15,16 @@ returns-in-Some-clause-runs g c =
     kept c.in-Some.resumes it.0 c.in-Some.ensures.kept c.requires.no_formula it.1 it.2 it.3
 
 pub returns-in-Some-clause-idle : goal.returns-in-Some-clause-idle
-returns-in-Some-clause-idle g c = λ none. absurd (c.requires.no_formula (none.1 (c.in-Some.resumes, c.in-Some.ensures.kept)))
+returns-in-Some-clause-idle g c = λ none. absurd (c.requires.no_formula (none.1.0 (c.in-Some.resumes, c.in-Some.ensures.kept)))
 
 pub returns-in-Some-clause-others : goal.returns-in-Some-clause-others
 returns-in-Some-clause-others g c = c.run_kept.ensures.others
 
+pub run_unkept-requires-clause-no_journal : goal.run_unkept-requires-clause-no_journal
+run_unkept-requires-clause-no_journal g c = λ sends shares. c.in-None.ensures.kept
+
 pub returns-in-None-clause-runs : goal.returns-in-None-clause-runs
-returns-in-None-clause-runs g c =
-    unbuilt (c.requires.flag, λ kept. absurd (c.in-None.ensures.kept kept)) (record { story = refl; files = refl; judges = refl }) c.put_usage.ensures
+returns-in-None-clause-runs g c = c.run_unkept.ensures.runs
 
 pub returns-in-None-clause-others : goal.returns-in-None-clause-others
-returns-in-None-clause-others g c = refl
+returns-in-None-clause-others g c = c.run_unkept.ensures.others
