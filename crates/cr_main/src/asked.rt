@@ -190,14 +190,15 @@ fn run_unkept<R: Threads + Sync, W: Files + Disk, J: Judge + Send, O: Sink>(
 }
 
 // Whether the one flag is that on orders.
-#[tactic(auto, using(crate::proofs::OrderedModes::ordered_is, crate::proofs::OrderedModes::unordered, crate::proofs::OrderedModes::no_plain))]
 fn is_ordered(modes: Modes) -> bool
     ensures so { result ≡ true → modes ≡ ordered_modes }
     ensures other { result ≡ false → modes ≡ ordered_modes → ⊥ }
 {
     match modes.engine {
         Engine::Plain => modes.any_order,
-        Engine::Journal | Engine::Resume | Engine::Standing => false,
+        Engine::Journal => false,
+        Engine::Resume => false,
+        Engine::Standing => false,
     }
 }
 

@@ -28,3 +28,18 @@ returns-in-None-clause-runs g c = c.run_unkept.ensures.runs
 
 pub returns-in-None-clause-others : goal.returns-in-None-clause-others
 returns-in-None-clause-others g c = c.run_unkept.ensures.others
+
+pub run_unkept-requires-clause-no_formula : goal.run_unkept-requires-clause-no_formula
+run_unkept-requires-clause-no_formula g c = λ sends shares. c.requires.no_formula
+
+pub run_unkept-requires-clause-flag : goal.run_unkept-requires-clause-flag
+run_unkept-requires-clause-flag g c = λ sends shares. c.requires.flag
+
+pub returns-in-None-clause-idle : goal.returns-in-None-clause-idle
+returns-in-None-clause-idle g c = c.run_unkept.ensures.idle
+
+pub returns-in-None-clause-silent : goal.returns-in-None-clause-silent
+returns-in-None-clause-silent g c = c.run_unkept.ensures.silent
+
+pub returns-in-None-clause-keys : goal.returns-in-None-clause-keys
+returns-in-None-clause-keys g c = c.run_unkept.ensures.keys

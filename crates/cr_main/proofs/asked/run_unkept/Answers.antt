@@ -20,3 +20,21 @@ returns-clause-runs g c =
 
 pub returns-clause-others : goal.returns-clause-others
 returns-clause-others g c = refl
+
+pub returns-then-is_ordered-clause-silent : goal.returns-then-is_ordered-clause-silent
+returns-then-is_ordered-clause-silent g c = c.run_ordered.ensures.silent
+
+pub returns-then-is_ordered-clause-keys : goal.returns-then-is_ordered-clause-keys
+returns-then-is_ordered-clause-keys g c = c.run_ordered.ensures.keys
+
+pub returns-clause-idle : goal.returns-clause-idle
+returns-clause-idle g c = λ none. refl
+
+pub returns-clause-silent : goal.returns-clause-silent
+returns-clause-silent g c = λ quiet. refl
+
+pub returns-clause-keys : goal.returns-clause-keys
+returns-clause-keys g c = refl
+
+pub run_ordered-requires-clause-runnable : goal.run_ordered-requires-clause-runnable
+run_ordered-requires-clause-runnable g c = λ sends shares. c.requires.runnable

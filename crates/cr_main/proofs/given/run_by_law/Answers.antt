@@ -51,8 +51,8 @@ returns-in-Named-clause-others g c = c.run_stored.ensures.others
 pub returns-in-Ok-clause-others : goal.returns-in-Ok-clause-others
 returns-in-Ok-clause-others g c = c.run_bytes.ensures.others
 
-pub returns-clause-others : goal.returns-clause-others
-returns-clause-others g c = refl
+pub returns-in-Err-clause-others : goal.returns-in-Err-clause-others
+returns-in-Err-clause-others g c = refl
 
 pub returns-in-Named-clause-silent : goal.returns-in-Named-clause-silent
 returns-in-Named-clause-silent g c = c.run_stored.ensures.silent
@@ -65,3 +65,9 @@ returns-in-Named-clause-keys g c = c.run_stored.ensures.keys
 
 pub returns-in-Ok-clause-keys : goal.returns-in-Ok-clause-keys
 returns-in-Ok-clause-keys g c = c.run_bytes.ensures.keys
+
+pub returns-in-Err-clause-silent : goal.returns-in-Err-clause-silent
+returns-in-Err-clause-silent g c = λ quiet. refl
+
+pub returns-in-Err-clause-keys : goal.returns-in-Err-clause-keys
+returns-in-Err-clause-keys g c = refl

@@ -29,3 +29,6 @@ returns-clause-others g c = c.run_by_law.ensures.others
 
 pub returns-clause-silent : goal.returns-clause-silent
 returns-clause-silent g c = c.run_by_law.ensures.silent
+
+pub returns-clause-keys : goal.returns-clause-keys
+returns-clause-keys g c = c.run_by_law.ensures.keys
