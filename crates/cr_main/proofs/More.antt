@@ -235,7 +235,7 @@ module _ (words : List Word) (most : ℕ) (says : Telling) (old new : Outside) (
   survives_more (unread_words same quiet is) = λ a name task. unmoved (task_of a says name) (marks_of a) old new status same is
   survives_more (reduction b modes asks (unbuilt why idle said)) = λ a name task.
       absurd (task.no_formula (same_formula b.test a.test (one_settings (rest_of words) most b a asks.rest task.asks.rest).tests
-      (why.1.0 (task.resumes, one_modes words modes (kept_modes task.resumes) asks.flags task.asks.flags))))
+      (why.1 (task.resumes, one_modes words modes (kept_modes task.resumes) asks.flags task.asks.flags))))
   survives_more (reduction b modes asks (by_word is formula run)) = λ a name task. absurd (not_plain task.resumes (one_modes words (kept_modes task.resumes) modes task.asks.flags asks.flags ∙ is))
   survives_more (reduction b modes asks (plain own is none is_own run)) = λ a name task. absurd (not_plain task.resumes (one_modes words (kept_modes task.resumes) modes task.asks.flags asks.flags ∙ is))
   survives_more (reduction b modes asks (in_order own is none is_own run)) = λ a name task. absurd (no_journal task.resumes (one_modes words (kept_modes task.resumes) modes task.asks.flags asks.flags ∙ is))

@@ -15,7 +15,7 @@ returns-in-Some-clause-runs g c =
     kept c.in-Some.resumes it.0 c.in-Some.ensures.kept c.requires.no_formula it.1 it.2 it.3
 
 pub returns-in-Some-clause-idle : goal.returns-in-Some-clause-idle
-returns-in-Some-clause-idle g c = λ none. absurd (c.requires.no_formula (none.1.0 (c.in-Some.resumes, c.in-Some.ensures.kept)))
+returns-in-Some-clause-idle g c = λ none. absurd (c.requires.no_formula (none.1 (c.in-Some.resumes, c.in-Some.ensures.kept)))
 
 pub returns-in-Some-clause-others : goal.returns-in-Some-clause-others
 returns-in-Some-clause-others g c = c.run_kept.ensures.others

@@ -8,14 +8,14 @@ returns-then-is_ordered-clause-runs g c =
     in_order it.0 (c.is_ordered.ensures.so c.if-is_ordered.true) c.requires.no_formula it.1 it.2
 
 pub returns-then-is_ordered-clause-idle : goal.returns-then-is_ordered-clause-idle
-returns-then-is_ordered-clause-idle g c = λ none. absurd (c.requires.no_formula (none.1.1 (c.is_ordered.ensures.so c.if-is_ordered.true)))
+returns-then-is_ordered-clause-idle g c = λ none. absurd (c.requires.no_formula (none.2 (c.is_ordered.ensures.so c.if-is_ordered.true)))
 
 pub returns-then-is_ordered-clause-others : goal.returns-then-is_ordered-clause-others
 returns-then-is_ordered-clause-others g c = c.run_ordered.ensures.others
 
 pub returns-clause-runs : goal.returns-clause-runs
 returns-clause-runs g c =
-    unbuilt (c.requires.flag, (λ kept. absurd (c.requires.no_journal kept), λ is. absurd (c.is_ordered.ensures.other c.if-is_ordered.false is)))
+    unbuilt (c.requires.flag, λ kept. absurd (c.requires.no_journal kept), λ is. absurd (c.is_ordered.ensures.other c.if-is_ordered.false is))
     (record { story = refl; files = refl; judges = refl }) c.put_usage.ensures
 
 pub returns-clause-others : goal.returns-clause-others
