@@ -6,6 +6,7 @@ pub mod Sources
 pub mod Paths
 pub mod OrderedLaw
 pub mod OrderedModes
+pub mod StandingModes
 pub mod KeptModes
 pub mod KeptTask
 pub mod More

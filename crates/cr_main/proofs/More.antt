@@ -13,6 +13,7 @@ use Rattle.cr_main_kept.specs.declared.header.Marks.{Marks}
 use Rattle.cr_main_kept.proofs.Promises.{kept_promises}
 use Rattle.cr_main_replay.proofs.Promises.{replay_faults, replay_files, replay_keeps_journal}
 use Rattle.cr_main_replay.proofs.Statuses.{replayed}
+use Rattle.cr_main_standing.proofs.Promises.{standing_done, standing_ends, standing_faults, standing_goes_on, standing_journal, standing_keeps}
 use Rattle.cr_main_task.specs.Outside.{Outside}
 use Rattle.cr_main_task.specs.Run.{RunsTask, by_epochs}
 use Rattle.cr_main_task.specs.Task.{Task}
@@ -24,7 +25,7 @@ use Rattle.cr_main_task.proofs.Headlines.{few_asked, task_done}
 use Rattle.cr_main_task.proofs.Journals.{task_keeps_journal}
 use Rattle.cr_main_task.proofs.Keeping.{task_keeps}
 use Rattle.cr_main_task.proofs.Statuses.{put_status}
-use Rattle.cr_main_words.specs.Flags.{GivesModes, is_journal, is_resume, plain_modes, rest_of}
+use Rattle.cr_main_words.specs.Flags.{GivesModes, is_journal, is_resume, is_standing, plain_modes, rest_of}
 use Rattle.cr_main_words.specs.Giving.{HasSettings}
 use Rattle.cr_main_words.specs.Names.{IsOwnName, name_of}
 use Rattle.cr_main_words.specs.RequestLaws.{HasNoFlag}
@@ -41,11 +42,11 @@ use Rattle.cr_main_words.proofs.Giving.{one_settings}
 use Rattle.cr_main.specs.Headline.{Promises}
 use Rattle.cr_main.specs.Headline.AsksOnly.{run_asks_nothing}
 use Rattle.cr_main.specs.Headline.KeepsFiles.{files_unchanged}
-use Rattle.cr_main.specs.More.{AsksForJournal, AsksMore, Does, EndsMore, IsFormula, IsFormulaTask, IsKeptTask, IsOrderedTask, IsPlain, IsQuiet, IsSilent, KeepsMore, MayRun, RunsKept, RunsMore, RunsWord, SurvivesMore, kept_modes, ordered_modes, replaying_by, word_of}
-use Rattle.cr_main.specs.More.AsksMore.{asked_by_task, asked_in_order, asked_with_journal}
-use Rattle.cr_main.specs.More.EndsMore.{of_formula, of_kept, of_nothing, of_ordered, of_reduction, of_replay}
-use Rattle.cr_main.specs.More.KeepsMore.{kept_by_formula, kept_by_task, kept_in_order, kept_with_journal}
-use Rattle.cr_main.specs.More.RunsAsked.{by_word, in_order, kept, plain, unbuilt}
+use Rattle.cr_main.specs.More.{AsksForJournal, AsksMore, Does, EndsMore, IsFormula, IsFormulaTask, IsKeptTask, IsOrderedTask, IsPlain, IsQuiet, IsSilent, IsStandingTask, KeepsMore, MayRun, RunsKept, RunsMore, RunsWord, SurvivesMore, kept_modes, ordered_modes, replaying_by, standing_modes, word_of}
+use Rattle.cr_main.specs.More.AsksMore.{asked_by_standing, asked_by_task, asked_in_order, asked_with_journal}
+use Rattle.cr_main.specs.More.EndsMore.{of_formula, of_kept, of_nothing, of_ordered, of_reduction, of_replay, of_standing}
+use Rattle.cr_main.specs.More.KeepsMore.{kept_by_formula, kept_by_standing, kept_by_task, kept_in_order, kept_with_journal}
+use Rattle.cr_main.specs.More.RunsAsked.{by_word, in_order, kept, plain, standing, unbuilt}
 use Rattle.cr_main.specs.More.RunsMore.{asks_nothing, reduction, replay, unread_words}
 use Rattle.cr_main.specs.More.RunsWord.{by_formula, spells_none, unread_word}
 use Rattle.cr_main.specs.Run.{Runs}
@@ -86,6 +87,13 @@ not_ordered is = let differ = ap (λ (m : Modes). m.any_order) is in cc
 no_journal : (resumes : Bool) → kept_modes resumes ≡ ordered_modes → ⊥
 no_journal resumes is = let differ = ap (λ (m : Modes). m.any_order) is in cc
 
+not_standing : standing_modes ≡ plain_modes → ⊥
+not_standing is = let differ = ap (λ (m : Modes). is_standing m.engine) is in cc
+
+kept_not_standing : (resumes : Bool) → kept_modes resumes ≡ standing_modes → ⊥
+kept_not_standing true is = let differ = ap (λ (m : Modes). is_standing m.engine) is in cc
+kept_not_standing false is = let differ = ap (λ (m : Modes). is_standing m.engine) is in cc
+
 -- with a journal the file is one of a name, which is written
 pub kept_saves : (resumes : Bool) (from : Source) → Suits (kept_modes resumes).engine from → saves_of from ≡ true
 kept_saves resumes (source.Named name) suits = refl
@@ -112,6 +120,7 @@ module _ (words : List Word) (most : ℕ) (says : Telling) (old new : Outside) (
   as_run (reduction settings modes asks (plain own is none is_own run)) it = on_task settings own (plain_settings words most settings modes asks is) is_own run
   as_run (reduction settings modes asks (in_order own is none is_own run)) it = absurd (not_ordered (sym is ∙ plain_modes_asked words most settings modes asks it))
   as_run (reduction settings modes asks (kept resumes own is none is_own run survives)) it = absurd (not_plain resumes (sym is ∙ plain_modes_asked words most settings modes asks it))
+  as_run (reduction settings modes asks (standing own is none is_own run)) it = absurd (not_standing (sym is ∙ plain_modes_asked words most settings modes asks it))
   as_run (replay asked asks quiet run) it = absurd (it.no_replay asks.0 asks.1)
 
   -- on words without flag, `--replay` and formula it is `run`
@@ -133,6 +142,11 @@ module _ (words : List Word) (most : ℕ) (says : Telling) (old new : Outside) (
   ordered_asked : (settings : Settings) (modes : Modes) (own : List ℕ) → HasReduction words most settings modes → modes ≡ ordered_modes → (IsFormula settings.test → ⊥)
       → IsOwnName (name_of settings.source) own → IsOrderedTask words most settings own
   ordered_asked settings modes own asks is none is_own = record { asks = subst (HasReduction words most settings) is asks; no_formula = none; is_own = is_own }
+
+  -- a run by standing workers
+  standing_asked : (settings : Settings) (modes : Modes) (own : List ℕ) → HasReduction words most settings modes → modes ≡ standing_modes → (IsFormula settings.test → ⊥)
+      → IsOwnName (name_of settings.source) own → IsStandingTask words most settings own
+  standing_asked settings modes own asks is none is_own = record { asks = subst (HasReduction words most settings) is asks; no_formula = none; is_own = is_own }
 
   formula_asked : (settings : Settings) (modes : Modes) (form : Form) (own : List ℕ) → HasReduction words most settings modes → modes ≡ plain_modes → Spells (word_of settings.test) form
       → IsOwnName (name_of settings.source) own → IsFormulaTask words most settings form own
@@ -163,6 +177,11 @@ module _ (words : List Word) (most : ℕ) (says : Telling) (old new : Outside) (
       (λ late. task_ends t (by_epochs t) (told_of t) text old new status late before after run)
   ends_more (reduction settings modes asks (kept resumes own is none is_own run survives)) =
       let it = kept_here settings modes resumes own asks is run in of_kept settings own (kept_asked settings modes resumes own asks is none is_own) it.ends it.failed it.refused
+  ends_more (reduction settings modes asks (standing own is none is_own run)) =
+      let t = task_of settings says own in
+      let text = text_of settings.source old.files in
+      of_standing settings own (standing_asked settings modes own asks is none is_own) (λ done. standing_done t text old new before after status run done)
+      (λ late. standing_ends t text old new before after status run late)
   ends_more (replay asked asks quiet run) = of_replay asked asks (replayed (replaying_by asked) old new status run)
 
   keeps_by_word : (settings : Settings) (modes : Modes) → HasReduction words most settings modes → modes ≡ plain_modes → RunsWord settings (word_of settings.test) old new before after status
@@ -184,6 +203,8 @@ module _ (words : List Word) (most : ℕ) (says : Telling) (old new : Outside) (
       kept_in_order settings own (ordered_asked settings modes own asks is none is_own) (task_keeps t (by_epochs t) (text_of settings.source old.files) old new before after status run)
   keeps_more (reduction settings modes asks (kept resumes own is none is_own run survives)) =
       kept_with_journal settings own (kept_asked settings modes resumes own asks is none is_own) (kept_here settings modes resumes own asks is run).files_kept
+  keeps_more (reduction settings modes asks (standing own is none is_own run)) =
+      kept_by_standing settings own (standing_asked settings modes own asks is none is_own) (standing_keeps (task_of settings says own) (text_of settings.source old.files) old new before after status run)
   keeps_more (replay asked asks quiet run) = kept_by_task (files_unchanged (replay_files (replaying_by asked) old new status run))
 
   not_nine : (status ≡ 2) ⊎ (status ≡ 11) → status ≡ 9 → ⊥
@@ -208,6 +229,8 @@ module _ (words : List Word) (most : ℕ) (says : Telling) (old new : Outside) (
       task_faults t (by_epochs t) (text_of settings.source old.files) (λ a b same. subst (GoesOn a) (sym same) (goes_nowhere a)) (opens_on settings.source old.files) (opens_fails settings.source old.files)
       old new status nine before after run
   fault_more (reduction settings modes asks (kept resumes own is none is_own run survives)) nine = (kept_here settings modes resumes own asks is run).fault_last nine
+  fault_more (reduction settings modes asks (standing own is none is_own run)) nine =
+      standing_faults (task_of settings says own) (text_of settings.source old.files) old new before after status (opens_on settings.source old.files) (opens_fails settings.source old.files) nine run
   fault_more (replay asked asks quiet run) nine = replay_faults (replaying_by asked) old new status run nine
 
   journal_by_word : (settings : Settings) → RunsWord settings (word_of settings.test) old new before after status → KeepsJournal old.story new.story
@@ -227,6 +250,8 @@ module _ (words : List Word) (most : ℕ) (says : Telling) (old new : Outside) (
       task_keeps_journal t (by_epochs t) (text_of settings.source old.files) (λ a b same. ap journal_told same) (opens_keep settings.source old.files) old new before after status run
   journal_more (reduction settings modes asks (kept resumes own is none is_own run survives)) unasked =
       absurd (unasked (settings, own, kept_asked settings modes resumes own asks is none is_own))
+  journal_more (reduction settings modes asks (standing own is none is_own run)) unasked =
+      standing_journal (task_of settings says own) (text_of settings.source old.files) old new before after status (opens_keep settings.source old.files) run
   journal_more (replay asked asks quiet run) unasked = replay_keeps_journal (replaying_by asked) old new status run
 
   -- what a task of the words survives, each does
@@ -241,6 +266,8 @@ module _ (words : List Word) (most : ℕ) (says : Telling) (old new : Outside) (
   survives_more (reduction b modes asks (in_order own is none is_own run)) = λ a name task. absurd (no_journal task.resumes (one_modes words (kept_modes task.resumes) modes task.asks.flags asks.flags ∙ is))
   survives_more (reduction b modes asks (kept resumes own is none is_own run survives)) = λ a name task.
       survives_alike (rest_of words) most b a own name (record { gives = asks.rest; is_own = is_own }) (record { gives = task.asks.rest; is_own = task.is_own }) says old new status survives
+  survives_more (reduction b modes asks (standing own is none is_own run)) = λ a name task.
+      absurd (kept_not_standing task.resumes (one_modes words (kept_modes task.resumes) modes task.asks.flags asks.flags ∙ is))
   survives_more (replay asked asks quiet run) = λ a name task. absurd (one_request words most (request.Reduction a (kept_modes task.resumes)) (request.Replay asked) task.asks asks)
 
   quiet_by_word : (settings : Settings) → RunsWord settings (word_of settings.test) old new before after status → after ≡ before
@@ -258,6 +285,8 @@ module _ (words : List Word) (most : ℕ) (says : Telling) (old new : Outside) (
       asked_in_order settings own (ordered_asked settings modes own asks is none is_own) (task_asks (ordered_task_of settings says own) (text_of settings.source old.files) old new before after status run)
   asks_more (reduction settings modes asks (kept resumes own is none is_own run survives)) =
       asked_with_journal settings own (kept_asked settings modes resumes own asks is none is_own) (kept_here settings modes resumes own asks is run).asks_only
+  asks_more (reduction settings modes asks (standing own is none is_own run)) =
+      asked_by_standing settings own (standing_asked settings modes own asks is none is_own) (standing_goes_on (task_of settings says own) (text_of settings.source old.files) old new before after status run)
   asks_more (replay asked asks quiet run) = asked_by_task (run_asks_nothing quiet)
 
   pub more_of : (asked : Request) → Asks words most asked → Does asked says old new before after has_failed status → RunsMore words most says old new before after has_failed status

@@ -7,7 +7,7 @@ use Rattle.cr_outside.specs.Story.{files_told}
 use Rattle.cr_outside.specs.Test.{asks_test}
 use Rattle.cr_outside.specs.declared.test.Test.{Test}
 use Rattle.cr_outside.specs.declared.test.Test.TheVariants as test
-use Rattle.cr_reduce.specs.Bench.{AsksAtMost, Judging}
+use Rattle.cr_reduce.specs.Bench.{AsksAtMost, GoesOn, Judging}
 use Rattle.cr_main_formula.specs.Formulas.{HasAllBound, HasFormulaFinished, IsFormulaHeadline, KeepsFormula, RunsFormula}
 use Rattle.cr_main_kept.specs.Kept.{RunsJournal, RunsResume}
 use Rattle.cr_main_kept.specs.Promises.{AsksOnlyOn, CopiesAtMost, EndsOn, KeepsFilesOn}
@@ -15,6 +15,7 @@ use Rattle.cr_main_kept.specs.Surviving.{Survives}
 use Rattle.cr_main_kept.specs.declared.header.Marks.{Marks}
 use Rattle.cr_main_replay.specs.Replay.{IsReplayed, Replaying, RunsReplay}
 use Rattle.cr_main_replay_programs.specs.Replay.{replaying_of}
+use Rattle.cr_main_standing.specs.Standing.{RunsStanding, by_standing}
 use Rattle.cr_main_task.specs.Headline.{AsksOnlyOf, HasReduced, KeepsTask, TaskEnded}
 use Rattle.cr_main_task.specs.Outside.{Outside, Puts}
 use Rattle.cr_main_task.specs.Run.{RunsTask, by_epochs}
@@ -61,9 +62,13 @@ IsKept modes = (resumes : Bool) × (modes ≡ kept_modes resumes)
 abbrev pub ordered_modes : Modes
 ordered_modes = record { engine = engine.Plain; any_order = true }
 
--- what isn't built is asked for: several flags, standing workers, or a flag and a run by a formula
+-- the modes of a list with one flag, by which threads stand for the whole reduction
+abbrev pub standing_modes : Modes
+standing_modes = record { engine = engine.Standing; any_order = false }
+
+-- what isn't built is asked for: several flags, or a flag and a run by a formula
 abbrev pub IsUnbuilt : Settings → Modes → Type 0
-IsUnbuilt settings modes = (modes ≢ plain_modes) × (IsKept modes → IsFormula settings.test) × (modes ≡ ordered_modes → IsFormula settings.test)
+IsUnbuilt settings modes = (modes ≢ plain_modes) × (IsKept modes → IsFormula settings.test) × (modes ≡ ordered_modes → IsFormula settings.test) × (modes ≡ standing_modes → IsFormula settings.test)
 
 -- what a run comes to that begins a journal, or that goes on with it
 abbrev pub RunsKept : Bool → Task → Marks → Outside → Outside → Judging → Judging → Bool → ℕ → Type 0
@@ -92,6 +97,8 @@ pub data RunsAsked (settings : Settings) (modes : Modes) (says : Says) (old new 
   kept : (resumes : Bool) (own : List ℕ) → modes ≡ kept_modes resumes → (IsFormula settings.test → ⊥) → IsOwnName (name_of settings.source) own
       → RunsKept resumes (task_of settings says own) (marks_of settings) old new before after has_failed status → Survives (task_of settings says own) (marks_of settings) old new status
       → RunsAsked settings modes says old new before after has_failed status
+  standing : (own : List ℕ) → modes ≡ standing_modes → (IsFormula settings.test → ⊥) → IsOwnName (name_of settings.source) own
+      → RunsStanding (task_of settings says own) (text_of settings.source old.files) old new before after status → RunsAsked settings modes says old new before after has_failed status
 
 -- the log and the file that are asked for, the steps and the passes
 abbrev pub replaying_by : ReplaySettings → Replaying
@@ -157,6 +164,13 @@ pub record IsKeptTask (words : List Word) (most : ℕ) (settings : Settings) (ow
 abbrev pub AsksForJournal : List Word → ℕ → Type 0
 AsksForJournal words most = (settings : Settings) × (own : List ℕ) × IsKeptTask words most settings own
 
+-- What is asked of a run is by standing workers: the words ask for that with these settings, whose test is no formula, and the file has this
+-- own name.
+pub record IsStandingTask (words : List Word) (most : ℕ) (settings : Settings) (own : List ℕ) : Type 0 where
+  pub asks : HasReduction words most settings standing_modes
+  pub no_formula : IsFormula settings.test → ⊥
+  pub is_own : IsOwnName (name_of settings.source) own
+
 -- **A run that keeps a journal survives its stops.**
 abbrev pub SurvivesMore : List Word → ℕ → Says → Outside → Outside → ℕ → Type 0
 SurvivesMore words most says old new status = (settings : Settings) (own : List ℕ) → IsKeptTask words most settings own → Survives (task_of settings says own) (marks_of settings) old new status
@@ -190,6 +204,10 @@ pub data EndsMore (words : List Word) (most : ℕ) (says : Says) (old new : Outs
       → (((status ≡ 0) ⊎ (status ≡ 7)) ⊎ ((status ≡ 8) ⊎ (status ≡ 10)) → EndsOn (task_of settings says own) old new after status)
       → (status ≡ 12 → (has_failed ≡ true) × CopiesAtMost (task_of settings says own) (files_told old.story) (files_told new.story)) → (status ≡ 13 → files_told new.story ≡ files_told old.story)
       → EndsMore words most says old new before after has_failed status
+  -- of one by standing workers the same as of every reduction
+  of_standing : (settings : Settings) (own : List ℕ) → IsStandingTask words most settings own
+      → ((status ≡ 0) ⊎ (status ≡ 7) → HasReduced (task_of settings says own) (by_standing (task_of settings says own)) (text_of settings.source old.files) old new before after status)
+      → ((status ≡ 8) ⊎ (status ≡ 10) → TaskEnded (task_of settings says own) (text_of settings.source old.files) old new status) → EndsMore words most says old new before after has_failed status
   of_nothing : (status ≡ 2) ⊎ (status ≡ 11) → EndsMore words most says old new before after has_failed status
 
 -- What holds of the files at every status.
@@ -201,14 +219,17 @@ pub data KeepsMore (words : List Word) (most : ℕ) (says : Says) (old new : Out
       → KeepsTask (ordered_task_of settings says own) (by_epochs (ordered_task_of settings says own)) (text_of settings.source old.files) old new after → KeepsMore words most says old new after
   kept_with_journal : (settings : Settings) (own : List ℕ) → IsKeptTask words most settings own → KeepsFilesOn (task_of settings says own) (files_told old.story) (files_told new.story) after
       → KeepsMore words most says old new after
+  kept_by_standing : (settings : Settings) (own : List ℕ) → IsStandingTask words most settings own
+      → KeepsTask (task_of settings says own) (by_standing (task_of settings says own)) (text_of settings.source old.files) old new after → KeepsMore words most says old new after
 
--- What the test is asked.
+-- What the test is asked. Of standing workers no more is said than that no call is taken back.
 pub data AsksMore (words : List Word) (most : ℕ) (says : Says) (old : Outside) (before after : Judging) : Type 0 where
   asked_by_task : AsksOnly words most says old before after → AsksMore words most says old before after
   asked_in_order : (settings : Settings) (own : List ℕ) → IsOrderedTask words most settings own
       → AsksOnlyOf (ordered_task_of settings says own) (text_of settings.source old.files) before after → AsksMore words most says old before after
   asked_with_journal : (settings : Settings) (own : List ℕ) → IsKeptTask words most settings own → AsksOnlyOn (task_of settings says own) (files_told old.story) before after
       → AsksMore words most says old before after
+  asked_by_standing : (settings : Settings) (own : List ℕ) → IsStandingTask words most settings own → GoesOn before after → AsksMore words most says old before after
 
 -- Completeness of a run by a formula: with all that it needs, it ends with 0, or for want of memory.
 abbrev pub CompletesByFormula : List Word → ℕ → Outside → Outside → Judging → Judging → ℕ → Type 0

@@ -2,7 +2,7 @@
 ghost use Rattle.std.specs.Prelude.{◌≡◌, MatchOption, drop, false, length, string_bytes, true};
 ghost use Rattle.cr_outside.specs.Test.{asks_test};
 ghost use Rattle.cr_reduce.specs.Bench.{judging, keys_of, says_of};
-ghost use Rattle.cr_main.specs.More.{BeginsWithIf, Does, IsFormula, IsKept, IsQuiet, IsUnbuilt, LeavesOthers, MayRun, RunsAsked, kept_modes, ordered_modes, word_of};
+ghost use Rattle.cr_main.specs.More.{BeginsWithIf, Does, IsFormula, IsKept, IsQuiet, IsUnbuilt, LeavesOthers, MayRun, RunsAsked, kept_modes, ordered_modes, standing_modes, word_of};
 ghost use Rattle.cr_main.specs.Task.{IsRunnable};
 ghost use Rattle.cr_main_task.specs.Outside.{outside};
 ghost use Rattle.cr_main_words.specs.Flags.{plain_modes};
@@ -12,16 +12,18 @@ use crate::formulas::run_word;
 use crate::given::{run_given, run_ordered};
 use crate::kept::run_kept;
 use crate::messages::put_usage;
+use crate::standing::run_given_standing;
 use cr_main_replay_programs::replay_programs;
 use cr_main_words::{Engine, Modes, Request, Settings};
 use cr_outside::{Files, Judge, Sink, Test};
 use cr_outside_disk::Disk;
 use cr_pool::Bench;
 use std::alloc::Global;
+use std::sync::Wait;
 use std::thread::Threads;
 
 /// Does what words ask for.
-pub fn run_request<R: Threads + Sync, W: Files + Disk, J: Judge + Send, O: Sink>(
+pub fn run_request<R: Threads + Wait + Sync, W: Files + Disk, J: Judge + Send + Drop, O: Sink>(
     rt: &R,
     alloc: Global,
     request: &Request,
@@ -54,7 +56,7 @@ pub fn run_request<R: Threads + Sync, W: Files + Disk, J: Judge + Send, O: Sink>
 }
 
 // Runs the reducer as these settings ask, in these modes. What isn't built is answered as words in no form are.
-fn run_asked<R: Threads + Sync, W: Files + Disk, J: Judge + Send, O: Sink>(
+fn run_asked<R: Threads + Wait + Sync, W: Files + Disk, J: Judge + Send + Drop, O: Sink>(
     rt: &R,
     alloc: Global,
     settings: &Settings,
@@ -107,7 +109,7 @@ fn run_by_word<R: Threads + Sync, W: Files + Disk, J: Judge + Send, O: Sink>(
 }
 
 // Runs by a test that is no formula.
-fn run_tested<R: Threads + Sync, W: Files + Disk, J: Judge + Send, O: Sink>(
+fn run_tested<R: Threads + Wait + Sync, W: Files + Disk, J: Judge + Send + Drop, O: Sink>(
     rt: &R,
     alloc: Global,
     settings: &Settings,
@@ -134,7 +136,7 @@ fn run_tested<R: Threads + Sync, W: Files + Disk, J: Judge + Send, O: Sink>(
 }
 
 // Runs by a test that is no formula, as flags ask: with a journal, or not at all.
-fn run_flagged<R: Threads + Sync, W: Files + Disk, J: Judge + Send, O: Sink>(
+fn run_flagged<R: Threads + Wait + Sync, W: Files + Disk, J: Judge + Send + Drop, O: Sink>(
     rt: &R,
     alloc: Global,
     settings: &Settings,
@@ -161,8 +163,9 @@ fn run_flagged<R: Threads + Sync, W: Files + Disk, J: Judge + Send, O: Sink>(
     }
 }
 
-// Runs by a test that is no formula, as flags ask that keep no journal: with no run that hangs on an order, or not at all.
-fn run_unkept<R: Threads + Sync, W: Files + Disk, J: Judge + Send, O: Sink>(
+// Runs by a test that is no formula, as flags ask that keep no journal: with no run that hangs on an order, by standing
+// workers, or not at all.
+fn run_unkept<R: Threads + Wait + Sync, W: Files + Disk, J: Judge + Send + Drop, O: Sink>(
     rt: &R,
     alloc: Global,
     settings: &Settings,
@@ -186,6 +189,9 @@ fn run_unkept<R: Threads + Sync, W: Files + Disk, J: Judge + Send, O: Sink>(
     if is_ordered(modes) {
         return run_ordered(rt, alloc, settings, world, bench, out);
     }
+    if is_standing(modes) {
+        return run_given_standing(rt, alloc, settings, world, bench, out);
+    }
     put_usage(out)
 }
 
@@ -199,6 +205,23 @@ fn is_ordered(modes: Modes) -> bool
         Engine::Journal => false,
         Engine::Resume => false,
         Engine::Standing => false,
+    }
+}
+
+// Whether the one flag is that on standing workers.
+#[tactic(auto, using(crate::proofs::StandingModes::standing_is, crate::proofs::StandingModes::ordered_not, crate::proofs::StandingModes::plain_not, crate::proofs::StandingModes::journal_not, crate::proofs::StandingModes::resume_not))]
+fn is_standing(modes: Modes) -> bool
+    ensures so { result ≡ true → modes ≡ standing_modes }
+    ensures other { result ≡ false → modes ≡ standing_modes → ⊥ }
+{
+    if modes.any_order {
+        return false;
+    }
+    match modes.engine {
+        Engine::Standing => true,
+        Engine::Plain => false,
+        Engine::Journal => false,
+        Engine::Resume => false,
     }
 }
 

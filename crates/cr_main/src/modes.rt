@@ -16,11 +16,12 @@ use cr_outside::{Files, Judge, Sink};
 use cr_outside_disk::Disk;
 use cr_pool::Bench;
 use std::alloc::Global;
+use std::sync::Wait;
 use std::thread::Threads;
 
 /// Does what the words after the program's name ask for, and answers the exit status. The files and the disk of a journal
 /// are one object, whose story has the order of all calls on them.
-pub fn run_more<R: Threads + Sync, W: Files + Disk, J: Judge + Send, O: Sink>(
+pub fn run_more<R: Threads + Wait + Sync, W: Files + Disk, J: Judge + Send + Drop, O: Sink>(
     rt: &R,
     alloc: Global,
     list: &[String],

@@ -5,6 +5,7 @@ use Rattle.std.specs.List.{slice_get}
 use native.Mathlib.Decide.{ℕ_discrete, dec_lt}
 use Rattle.cr_cursor.specs.declared.passes.Cursor.{Cursor}
 use Rattle.cr_cursor.specs.Variants.{Offer, cursor}
+use Rattle.cr_pool.specs.declared.verdict.Verdict.{Verdict}
 use Rattle.cr_pool.specs.Sizes.{IsSmaller}
 use Rattle.cr_reduce.specs.Bench.{GoesOn, Judging}
 use Rattle.cr_reduce.specs.declared.end.Why.{Why}
@@ -31,24 +32,24 @@ no_joined R file a b c first second position low high = elim (dec_lt position b)
 pub no_more : (R : List ℕ → ℕ → Trial → Type 0) (file : List ℕ) (a b c : ℕ) → AllNo R file a b → R file b No → c ≡ b + 1 → AllNo R file a c
 no_more R file a b c before here is position low high = elim (ℕ_discrete position b) [ yes e ↦ subst (λ p. R file p No) (sym e) here | no ne ↦ before position low (omega arith) ]
 
-pub rejected : {T : Type 0} (s : Search) (make : T → List ℕ → Offer) (Orders : T → List ℕ → ℕ → ℕ → Type 0) (Replies : List ℕ → ℕ → Trial → Type 0) → IsAbout s make Orders Replies
+pub rejected : {T : Type 0} (s : Search) (make : T → List ℕ → Offer) (Orders : T → List ℕ → ℕ → ℕ → Type 0) (Replies : List ℕ → ℕ → Trial → Type 0) (Verdicts : List ℕ → Verdict → Type 0) → IsAbout s make Orders Replies Verdicts
     → (file : List ℕ) (offer : Offer) (from to : ℕ) → s.Offers file offer → AllNo Replies file from to → AllRejected offer (RejectsIfTold s) file from to
-rejected s make Orders Replies about file offer from to offered each position at low high there = about.reply_out file position No (each position low high) offer offered at there
+rejected s make Orders Replies Verdicts about file offer from to offered each position at low high there = about.reply_out file position No (each position low high) offer offered at there
 
-pub first_found : {T : Type 0} (s : Search) (make : T → List ℕ → Offer) (Orders : T → List ℕ → ℕ → ℕ → Type 0) (Replies : List ℕ → ℕ → Trial → Type 0) → IsAbout s make Orders Replies
+pub first_found : {T : Type 0} (s : Search) (make : T → List ℕ → Offer) (Orders : T → List ℕ → ℕ → ℕ → Type 0) (Replies : List ℕ → ℕ → Trial → Type 0) (Verdicts : List ℕ → Verdict → Type 0) → IsAbout s make Orders Replies Verdicts
     → (file : List ℕ) (offer : Offer) (from position : ℕ) (at : Cursor) → s.Offers file offer → from ≤ position → slice_get (cursors_of offer) position ≡ Some at → AllNo Replies file from position → Replies file position Yes
     → IsFirstAccepted offer (AcceptsIfTold s) (RejectsIfTold s) file from position at
-first_found s make Orders Replies about file offer from position at offered low there each said = record {
+first_found s make Orders Replies Verdicts about file offer from position at offered low there each said = record {
   after = low;
   there = there;
   accepted = about.reply_out file position Yes said offer offered at there;
-  before = rejected s make Orders Replies about file offer from position offered each;
+  before = rejected s make Orders Replies Verdicts about file offer from position offered each;
 }
 
 -- an accepted variant is smaller
-pub found_smaller : {T : Type 0} (s : Search) (make : T → List ℕ → Offer) (Orders : T → List ℕ → ℕ → ℕ → Type 0) (Replies : List ℕ → ℕ → Trial → Type 0) → IsAbout s make Orders Replies
+pub found_smaller : {T : Type 0} (s : Search) (make : T → List ℕ → Offer) (Orders : T → List ℕ → ℕ → ℕ → Type 0) (Replies : List ℕ → ℕ → Trial → Type 0) (Verdicts : List ℕ → Verdict → Type 0) → IsAbout s make Orders Replies Verdicts
     → (file : List ℕ) (offer : Offer) (position : ℕ) (variant : List ℕ) → s.Offers file offer → position < length (cursors_of offer) → Replies file position Yes → AtPosition offer position (λ bytes. variant ≡ bytes) → IsSmaller variant file
-found_smaller s make Orders Replies about file offer position variant offered below said made =
+found_smaller s make Orders Replies Verdicts about file offer position variant offered below said made =
     let at = get_or (cursors_of offer) position (cursor 0 0 0) in
     let there : slice_get (cursors_of offer) position ≡ Some at = slice_get-get_or (cursors_of offer) position (cursor 0 0 0) below in
     subst (λ v. IsSmaller v file) (sym (made at there)) (about.reply_out file position Yes said offer offered at there).smaller

@@ -1,3 +1,4 @@
 pub mod Reading
 pub mod Epochs
 pub mod Crews
+pub mod Lending

@@ -112,7 +112,7 @@ pub fn help<R: Wait, S: Subject<P::Prep>, P: Passes, L: Law, Q: Question, J: Jud
     start: u64,
     slots: &mut [Option<Trial>],
 ) -> bool
-    requires about { IsAbout (searching_by P.Passes L.Law Q.Question task.now S.told) (P.offer task.now.passes.now) S.orders S.replies }
+    requires about { IsAbout (searching_by P.Passes L.Law Q.Question task.now S.told) (P.offer task.now.passes.now) S.orders S.replies S.verdicts }
     requires told { J.says (J.key judge.old) ≡ S.told }
     requires joined { AreJoined lines.now }
     requires seats { AreSeats lines.now seat.old }
@@ -126,7 +126,7 @@ pub fn help<R: Wait, S: Subject<P::Prep>, P: Passes, L: Law, Q: Question, J: Jud
     let Some(Order::Try(place)) = open_order(rt, lines, seat) else {
         return false;
     };
-    let reply = answer::<S, P, L, Q, J>(alloc, task, lines.hint, judge, place, &mut seat.variant);
+    let reply = answer(rt, alloc, task, lines, judge, place, &mut seat.variant);
     take::<S, P::Prep>(epoch, file, start, slots, &reply);
     true
 }

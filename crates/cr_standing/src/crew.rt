@@ -43,7 +43,7 @@ fn alone<R: Wait, S: Subject<P::Prep>, P: Passes, L: Law, Q: Question, J: Judge 
     plan: &Plan,
     mut walk: Walk<P::Prep>,
 ) -> Ended<J, P::Prep>
-    requires about { IsAbout (searching_by P.Passes L.Law Q.Question task.now S.told) (P.offer task.now.passes.now) S.orders S.replies }
+    requires about { IsAbout (searching_by P.Passes L.Law Q.Question task.now S.told) (P.offer task.now.passes.now) S.orders S.replies S.verdicts }
     requires told { J.says (J.key judge) ≡ S.told }
     requires joined { AreJoined lines.now }
     requires seats { AreSeats lines.now seat }
@@ -51,7 +51,7 @@ fn alone<R: Wait, S: Subject<P::Prep>, P: Passes, L: Law, Q: Question, J: Judge 
     requires window { (0 < plan.now.window) × (plan.now.window ≤ 4096) }
     requires within { Within plan.now.limit walk.turns }
     requires room { (judges.items ≡ []) × (made < vec_capacity judges) }
-    ensures { IsDone (searching_by P.Passes L.Law Q.Question task.now S.told) J.Judge (Q.asks task.now.question.now) (P.offer task.now.passes.now) plan.now.limit made walk judge [] result }
+    ensures { IsDone (searching_by P.Passes L.Law Q.Question task.now S.told) J.Judge (Q.asks task.now.question.now) (P.offer task.now.passes.now) plan.now.limit made stops walk judge [] result }
 {
     let why = walk_on(
         rt, alloc, task, lines, &mut judge, &mut seat, ahead, plan, &mut walk,
@@ -102,7 +102,7 @@ pub fn crew<
 ) -> Ended<J, P::Prep>
 where
     P::Prep: Send + Sync,
-    requires about { IsAbout (searching_by P.Passes L.Law Q.Question task.now S.told) (P.offer task.now.passes.now) S.orders S.replies }
+    requires about { IsAbout (searching_by P.Passes L.Law Q.Question task.now S.told) (P.offer task.now.passes.now) S.orders S.replies S.verdicts }
     requires told { J.says (J.key judge) ≡ S.told }
     requires all_told { AllAre (λ j. J.says (J.key j) ≡ S.told) others.items }
     requires joined { AreJoined lines.now }
@@ -112,7 +112,7 @@ where
     requires within { Within plan.now.limit walk.turns }
     requires room { (judges.items ≡ []) × (made < vec_capacity judges) }
     requires few { length others.items ≤ made }
-    ensures { IsDone (searching_by P.Passes L.Law Q.Question task.now S.told) J.Judge (Q.asks task.now.question.now) (P.offer task.now.passes.now) plan.now.limit made walk judge others.items result }
+    ensures { IsDone (searching_by P.Passes L.Law Q.Question task.now S.told) J.Judge (Q.asks task.now.question.now) (P.offer task.now.passes.now) plan.now.limit made stops walk judge others.items result }
 {
     let Some(other) = others.pop() else {
         return alone(
@@ -131,7 +131,7 @@ where
         rt,
         |scope| -> Ended<J, P::Prep>
             requires sync { IsSync R.row }
-            requires about { IsAbout (searching_by P.Passes L.Law Q.Question task.now S.told) (P.offer task.now.passes.now) S.orders S.replies }
+            requires about { IsAbout (searching_by P.Passes L.Law Q.Question task.now S.told) (P.offer task.now.passes.now) S.orders S.replies S.verdicts }
             requires told { J.says (J.key judge) ≡ S.told }
             requires other_told { J.says (J.key other) ≡ S.told }
             requires all_told { AllAre (λ j. J.says (J.key j) ≡ S.told) others.items }
@@ -143,7 +143,8 @@ where
             requires within { Within plan.now.limit walk.turns }
             requires room { (judges.items ≡ []) × (made < vec_capacity judges) }
             requires few { length others.items < made }
-            ensures { IsDone (searching_by P.Passes L.Law Q.Question task.entry.now S.told) J.Judge (Q.asks task.entry.now.question.now) (P.offer task.entry.now.passes.now) plan.entry.now.limit made walk judge
+            requires works { length others.items < stops }
+            ensures { IsDone (searching_by P.Passes L.Law Q.Question task.entry.now S.told) J.Judge (Q.asks task.entry.now.question.now) (P.offer task.entry.now.passes.now) plan.entry.now.limit made stops walk judge
                 (others.items ++ other ∷ []) result }
         {
             let word = Word {
@@ -153,7 +154,7 @@ where
             let started = scope.spawn_with(
                 word,
                 move || -> J
-                    requires about { IsAbout (searching_by P.Passes L.Law Q.Question task.now S.told) (P.offer task.now.passes.now) S.orders S.replies }
+                    requires about { IsAbout (searching_by P.Passes L.Law Q.Question task.now S.told) (P.offer task.now.passes.now) S.orders S.replies S.verdicts }
                     requires told { J.says (J.key other) ≡ S.told }
                     requires joined { AreJoined lines.now }
                     requires seats { AreSeats lines.now other_seat }

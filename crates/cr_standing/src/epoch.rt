@@ -91,7 +91,7 @@ fn go_on<R: Wait, S: Subject<P::Prep>, P: Passes, L: Law, Q: Question, J: Judge>
     slots: &mut [Option<Trial>],
     course: &mut Course,
 )
-    requires about { IsAbout (searching_by P.Passes L.Law Q.Question task.now S.told) (P.offer task.now.passes.now) S.orders S.replies }
+    requires about { IsAbout (searching_by P.Passes L.Law Q.Question task.now S.told) (P.offer task.now.passes.now) S.orders S.replies S.verdicts }
     requires told { J.says (J.key judge.old) ≡ S.told }
     requires joined { AreJoined lines.now }
     requires seats { AreSeats lines.now seat.old }
@@ -137,7 +137,7 @@ fn step<R: Wait, S: Subject<P::Prep>, P: Passes, L: Law, Q: Question, J: Judge>(
     slots: &mut [Option<Trial>],
     course: &mut Course,
 ) -> Option<EpochEnd>
-    requires about { IsAbout (searching_by P.Passes L.Law Q.Question task.now S.told) (P.offer task.now.passes.now) S.orders S.replies }
+    requires about { IsAbout (searching_by P.Passes L.Law Q.Question task.now S.told) (P.offer task.now.passes.now) S.orders S.replies S.verdicts }
     requires told { J.says (J.key judge.old) ≡ S.told }
     requires joined { AreJoined lines.now }
     requires seats { AreSeats lines.now seat.old }
@@ -162,9 +162,11 @@ fn step<R: Wait, S: Subject<P::Prep>, P: Passes, L: Law, Q: Question, J: Judge>(
         Front::Unsure(i) => {
             course.at = i;
             let mut never = Never { looks: 0 };
-            match try_at::<S, P, L, Q, J, Never>(
+            match try_at(
+                rt,
                 alloc,
                 task,
+                lines.memory,
                 judge,
                 file,
                 start + i as u64,
@@ -216,7 +218,7 @@ pub fn try_slots<R: Wait, S: Subject<P::Prep>, P: Passes, L: Law, Q: Question, J
     slots: &mut [Option<Trial>],
     course: &mut Course,
 ) -> EpochEnd
-    requires about { IsAbout (searching_by P.Passes L.Law Q.Question task.now S.told) (P.offer task.now.passes.now) S.orders S.replies }
+    requires about { IsAbout (searching_by P.Passes L.Law Q.Question task.now S.told) (P.offer task.now.passes.now) S.orders S.replies S.verdicts }
     requires told { J.says (J.key judge.old) ≡ S.told }
     requires joined { AreJoined lines.now }
     requires seats { AreSeats lines.now seat.old }

@@ -16,6 +16,7 @@
 mod collect;
 mod crew;
 mod epoch;
+mod running;
 mod standing;
 mod walk;
 mod walking;

@@ -1,39 +1,30 @@
-// The reduction.
-ghost use Rattle.std.specs.Prelude.{◌≡◌, ◌≢◌, ◌<◌, ◌≤◌, ◌+◌, [], ℕ, length, map, vec_capacity};
+// The reduction by the workers of a bench.
+ghost use Rattle.std.specs.Prelude.{◌≡◌, ◌≢◌, ◌<◌, ◌≤◌, [], ℕ, drop, false, length};
 ghost use Rattle.cr_pool.specs.Bench.{IsManned};
+ghost use Rattle.cr_pool.specs.Crew.{judges_in};
 ghost use Rattle.cr_pool.specs.Tally.{first_says};
-ghost use Rattle.cr_reduce.specs.Bench.{Each, judging_of};
+ghost use Rattle.cr_reduce.specs.Bench.{GoesOn, judging, keys_of, says_of};
 ghost use Rattle.cr_reduce.specs.Bound.{HasLevels, enough_turns};
 ghost use Rattle.cr_reduce.specs.Ends.{EndsAsTold, FaultsWithCause, IsFixedAsTold};
-ghost use Rattle.cr_reduce.specs.Reduction.{Within, start_of};
+ghost use Rattle.cr_reduce.specs.Reduction.{Within};
 ghost use Rattle.cr_reduce.specs.Search.{IsAllTold, search_of};
 ghost use Rattle.cr_reduce.specs.Sizes.{HasSize};
-ghost use Rattle.cr_standing_workers.specs.Channels.{AllAre, AreJoined, AreSeats};
-ghost use Rattle.cr_standing.specs.Ends.{EndsStanding, IsManaged};
-ghost use Rattle.cr_standing_workers.specs.Serving.{Serves};
-ghost use Rattle.cr_standing_workers.specs.Told.{EndsIfTold, IsAbout, searching_by};
-ghost use Rattle.cr_standing.specs.Walk.{IsSound, standing_at};
+ghost use Rattle.cr_standing.specs.Ends.{EndsStanding};
+ghost use Rattle.cr_standing_workers.specs.Told.{EndsIfTold};
 
-use crate::crew::{Ended, crew};
-use crate::walk::{Walk, begin, end_of};
+use crate::running::reduce_by_judges;
 use cr_cursor::{Law, Passes};
 use cr_outside::{Judge, Question};
+use cr_pool::{Bench, Worker};
 use cr_reduce::{End, Plan, Why};
-use cr_standing_workers::{Fit, Hint, Lines, Order, Reply, Seat, Subject, Task, True};
-use crossbeam_channel::bounded_with;
 use std::alloc::Global;
-use std::marker::Brand;
 use std::sync::Wait;
 use std::thread::Threads;
 
-/// How many orders may be out for each thread.
-const AHEAD: u64 = 8;
-
-/// Reduces a lawful file as `reduce` of `cr_reduce` does, by these judges, each in a thread that stays for the whole reduction, but the
-/// first, which is the caller's. Hands the judges back in their order.
+/// Reduces a lawful file as `reduce` of `cr_reduce` does, by the workers of a bench, each in a thread that stays for the whole reduction,
+/// but the first, which is the caller's. What the bench keeps is forgotten.
 ///
-/// It may wait: for the judges, and for the workers. Where a thread can't be started the others do its part. The judges' verdicts
-/// aren't remembered.
+/// It may wait: for the judges, and for the workers. Where a thread can't be started the others do its part.
 pub fn reduce_standing<
     R: Threads + Wait + Sync,
     P: Passes + Sync,
@@ -46,164 +37,51 @@ pub fn reduce_standing<
     passes: &P,
     law: &L,
     question: &Q,
-    judges: Vec<J>,
+    bench: &mut Bench<J>,
     name: &str,
     file: Vec<u8>,
     plan: &Plan,
-) -> (Vec<J>, End)
+) -> End
 where
     P::Prep: Send + Sync,
     requires tokenizes { (n : ℕ) × HasSize file.items n }
-    requires manned { IsManned J.key judges.items }
-    requires workers { (0 < plan.now.workers) × (plan.now.workers ≤ length judges.items) }
+    requires workers { (0 < plan.now.workers) × (plan.now.workers ≤ length bench.old.judges) }
     requires window { (0 < plan.now.window) × (plan.now.window ≤ 4096) }
 
     // For any judge, a chain of accepted variants: each is lawful, smaller and, where the answer about it is told, answered yes. A fault
     // is a failed test of the next position, asked of the first judge in this call.
-    ensures chain { EndsIfTold (search_of (P.offers passes.now) (L.lawful law.now) (Q.asks question.now) (Q.tells question.now) (first_says J.key J.says judges.items) name.now [])
-        (judging_of J.Judge judges.items) (judging_of J.Judge result.0.items) plan.now.limit file.items result.1 }
-    ensures first { (turn worker : ℕ) → result.1.why ≡ Why.Fault turn worker → worker ≡ 0 }
+    ensures chain { EndsIfTold (search_of (P.offers passes.now) (L.lawful law.now) (Q.asks question.now) (Q.tells question.now) (says_of J.Judge bench.old) name.now [])
+        (judging J.Judge bench.old) (judging J.Judge bench.new) plan.now.limit file.items result }
+    ensures first { (turn worker : ℕ) → result.why ≡ Why.Fault turn worker → worker ≡ 0 }
 
     // Where the answers are told, it is the one-thread first-accepted reduction.
-    ensures reduction { IsAllTold (search_of (P.offers passes.now) (L.lawful law.now) (Q.asks question.now) (Q.tells question.now) (first_says J.key J.says judges.items) name.now [])
-        → EndsAsTold (search_of (P.offers passes.now) (L.lawful law.now) (Q.asks question.now) (Q.tells question.now) (first_says J.key J.says judges.items) name.now []) plan.now.limit file.items result.1 }
-    ensures fixed_point { IsAllTold (search_of (P.offers passes.now) (L.lawful law.now) (Q.asks question.now) (Q.tells question.now) (first_says J.key J.says judges.items) name.now [])
-        → result.1.why ≡ Why.Fixed → IsFixedAsTold (search_of (P.offers passes.now) (L.lawful law.now) (Q.asks question.now) (Q.tells question.now) (first_says J.key J.says judges.items) name.now []) result.1.file.items }
-    ensures cause { FaultsWithCause (search_of (P.offers passes.now) (L.lawful law.now) (Q.asks question.now) (Q.tells question.now) (first_says J.key J.says judges.items) name.now [])
-        (judging_of J.Judge judges.items) (judging_of J.Judge result.0.items) result.1.why }
+    ensures reduction { IsAllTold (search_of (P.offers passes.now) (L.lawful law.now) (Q.asks question.now) (Q.tells question.now) (says_of J.Judge bench.old) name.now [])
+        → EndsAsTold (search_of (P.offers passes.now) (L.lawful law.now) (Q.asks question.now) (Q.tells question.now) (says_of J.Judge bench.old) name.now []) plan.now.limit file.items result }
+    ensures fixed_point { IsAllTold (search_of (P.offers passes.now) (L.lawful law.now) (Q.asks question.now) (Q.tells question.now) (says_of J.Judge bench.old) name.now [])
+        → result.why ≡ Why.Fixed → IsFixedAsTold (search_of (P.offers passes.now) (L.lawful law.now) (Q.asks question.now) (Q.tells question.now) (says_of J.Judge bench.old) name.now []) result.file.items }
+    ensures cause { FaultsWithCause (search_of (P.offers passes.now) (L.lawful law.now) (Q.asks question.now) (Q.tells question.now) (says_of J.Judge bench.old) name.now [])
+        (judging J.Judge bench.old) (judging J.Judge bench.new) result.why }
 
     // With turns enough it ends for another reason.
-    ensures in_time { (levels : ℕ → ℕ) (size : ℕ) → HasLevels (P.offers passes.now) levels → HasSize file.items size → Within plan.now.limit (enough_turns levels size) → result.1.why ≢ Why.Limit }
+    ensures in_time { (levels : ℕ → ℕ) (size : ℕ) → HasLevels (P.offers passes.now) levels → HasSize file.items size → Within plan.now.limit (enough_turns levels size) → result.why ≢ Why.Limit }
 
-    // The judges come back in their order, each with its key; a question that asks no judge leaves them as they were.
-    ensures judges { Each (Serves J.Judge (Q.asks question.now)) judges.items result.0.items }
+    // The judges keep their places, their keys and the order of their calls; a question that asks none leaves them as they were, and
+    // so are those that the plan doesn't ask for.
+    ensures keys { keys_of J.Judge bench.new ≡ keys_of J.Judge bench.old }
+    ensures goes_on { GoesOn (judging J.Judge bench.old) (judging J.Judge bench.new) }
+    ensures silent { Q.asks question.now ≡ false → bench.new.judges ≡ bench.old.judges }
+    ensures others { drop plan.now.workers bench.new.judges ≡ drop plan.now.workers bench.old.judges }
+    ensures forgot { bench.new.kept ≡ [] }
 {
-    let task = Task {
-        passes,
-        law,
-        question,
-        name,
-    };
-    run::<R, Brand, P, L, Q, J>(rt, alloc, &task, judges, file, plan)
-}
-
-fn untouched(alloc: Global, file: Vec<u8>) -> End
-    ensures file { result.file ≡ file }
-    ensures rest { (result.accepted.items ≡ []) × (result.turns ≡ 0) × (result.why ≡ Why.NoMemory) }
-{
-    End {
-        file,
-        accepted: Vec::new(alloc),
-        turns: 0,
-        why: Why::NoMemory,
-    }
-}
-
-/// The reduction, from its channels on.
-fn run<
-    R: Threads + Wait + Sync,
-    S: Subject<P::Prep> + Send + Sync,
-    P: Passes + Sync,
-    L: Law + Sync,
-    Q: Question + Sync,
-    J: Judge + Send + Drop,
->(
-    rt: &R,
-    alloc: Global,
-    task: &Task<'_, P, L, Q>,
-    judges: Vec<J>,
-    file: Vec<u8>,
-    plan: &Plan,
-) -> (Vec<J>, End)
-where
-    P::Prep: Send + Sync,
-    requires about { IsAbout (searching_by P.Passes L.Law Q.Question task.now S.told) (P.offer task.now.passes.now) S.orders S.replies }
-    requires told { AllAre (λ j. J.says (J.key j) ≡ S.told) judges.items }
-    requires some { (0 < length judges.items) × (length judges.items ≤ 32) }
-    requires workers { (0 < plan.now.workers) × (plan.now.workers ≤ length judges.items) }
-    requires tokenizes { (n : ℕ) × HasSize file.items n }
-    requires window { (0 < plan.now.window) × (plan.now.window ≤ 4096) }
-    ensures ends { EndsStanding (searching_by P.Passes L.Law Q.Question task.now S.told) J.Judge (Q.asks task.now.question.now) plan.now.limit file.items judges.items result.0.items result.1 }
-{
-    let Ok(back) = Vec::with_capacity(alloc, judges.len()) else {
-        return (judges, untouched(alloc, file));
-    };
-    let capacity = plan.window as usize + plan.workers as usize;
-    let Ok((orders, orders_out, orders_pass)) = bounded_with::<Order<P::Prep>, (), Fit<S>, Global>(
-        alloc, capacity,
-    ) else {
-        return (judges, untouched(alloc, file));
-    };
-    let Ok((replies, replies_out, replies_pass)) = bounded_with::<
-        Reply<P::Prep>,
-        (),
-        True<S>,
-        Global,
-    >(alloc, capacity) else {
-        return (judges, untouched(alloc, file));
-    };
-    let walk = match begin(alloc, task.passes, file) {
-        Ok(walk) => walk,
-        Err(file) => return (judges, untouched(alloc, file)),
-    };
-    let hint = Hint::new();
-    let lines = Lines {
-        orders: &orders,
-        orders_out: &orders_out,
-        replies: &replies,
-        replies_out: &replies_out,
-        hint: &hint,
-    };
-    let seat = Seat {
-        orders: orders_pass,
-        replies: replies_pass,
-        variant: Vec::new(alloc),
-    };
-    let ahead = u64::from(plan.window).min(AHEAD * u64::from(plan.workers));
-    let Ended { judges, walk, why } = man(
-        rt, alloc, task, &lines, judges, back, seat, ahead, plan, walk,
-    );
-    (judges, end_of(walk, why))
-}
-
-/// The walk by these judges, the first of which is the caller's.
-fn man<
-    R: Threads + Wait + Sync,
-    S: Subject<P::Prep> + Send + Sync,
-    P: Passes + Sync,
-    L: Law + Sync,
-    Q: Question + Sync,
-    J: Judge + Send + Drop,
->(
-    rt: &R,
-    alloc: Global,
-    task: &Task<'_, P, L, Q>,
-    lines: &Lines<'_, S, P::Prep>,
-    mut judges: Vec<J>,
-    back: Vec<J>,
-    seat: Seat<P::Prep>,
-    ahead: u64,
-    plan: &Plan,
-    walk: Walk<P::Prep>,
-) -> Ended<J, P::Prep>
-where
-    P::Prep: Send + Sync,
-    requires about { IsAbout (searching_by P.Passes L.Law Q.Question task.now S.told) (P.offer task.now.passes.now) S.orders S.replies }
-    requires told { AllAre (λ j. J.says (J.key j) ≡ S.told) judges.items }
-    requires some { 0 < length judges.items }
-    requires workers { 0 < plan.now.workers }
-    requires joined { AreJoined lines.now }
-    requires seats { AreSeats lines.now seat }
-    requires sound { IsSound (P.offers task.now.passes.now) (P.offer task.now.passes.now) walk }
-    requires window { (0 < plan.now.window) × (plan.now.window ≤ 4096) }
-    requires within { Within plan.now.limit walk.turns }
-    requires room { (back.items ≡ []) × (length judges.items ≤ vec_capacity back) }
-    ensures { IsManaged (searching_by P.Passes L.Law Q.Question task.now S.told) J.Judge (Q.asks task.now.question.now) (P.offer task.now.passes.now) plan.now.limit walk judges.items result }
-{
-    let judge = judges.remove(0);
-    let made = judges.len();
-    let stops = plan.workers as usize - 1;
-    crew(
-        rt, alloc, task, lines, judge, judges, back, made, stops, seat, ahead, plan, walk,
+    bench.lend(
+        alloc,
+        |workers: Vec<Worker<J>>| -> (Vec<Worker<J>>, End)
+            requires tokenizes { (n : ℕ) × HasSize file.items n }
+            requires manned { IsManned J.key (judges_in workers.items) }
+            requires workers { (0 < plan.now.workers) × (plan.now.workers ≤ length workers.items) }
+            requires window { (0 < plan.now.window) × (plan.now.window ≤ 4096) }
+            ensures { EndsStanding (search_of (P.offers passes.entry.now) (L.lawful law.entry.now) (Q.asks question.entry.now) (Q.tells question.entry.now) (first_says J.key J.says (judges_in workers.items)) name.entry.now [])
+                J.Judge (Q.asks question.entry.now) plan.entry.now.limit plan.entry.now.workers file.items (judges_in workers.items) (judges_in result.0.items) result.1 }
+        { reduce_by_judges(rt, alloc, passes, law, question, workers, name, file, plan) },
     )
 }

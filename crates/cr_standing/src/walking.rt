@@ -3,7 +3,7 @@ ghost use Rattle.std.specs.Prelude.{◌≡◌, ◌≢◌, ◌<◌, ◌≤◌, �
 ghost use Rattle.std.specs.Arc.{arc_value};
 ghost use Rattle.cr_reduce.specs.Bench.{judging_of};
 ghost use Rattle.cr_reduce.specs.Reduction.{Within, cursors_of};
-ghost use Rattle.cr_reduce.specs.Walk.{EndsHere, IsLength};
+ghost use Rattle.cr_reduce.specs.Walk.{EndsHere};
 ghost use Rattle.cr_reduce.specs.declared.end.Why.{Why};
 ghost use Rattle.cr_standing_workers.specs.Channels.{AreJoined, AreSeats};
 ghost use Rattle.cr_standing_workers.specs.Serving.{Serves};
@@ -15,25 +15,10 @@ use crate::epoch::{Course, EpochEnd, try_slots};
 use crate::walk::{Walk, take};
 use cr_cursor::{Law, Passes};
 use cr_outside::{Judge, NoMemory, Question};
-use cr_reduce::{Plan, Why};
+use cr_reduce::{Plan, Why, length_of};
 use cr_standing_workers::{Lines, Seat, Subject, Task, Trial, make_variant};
 use std::alloc::Global;
 use std::sync::Wait;
-
-/// How many positions are tried in an epoch: as many as the window allows, as are left in the round, and as the limit leaves.
-fn length_of(plan: &Plan, left: u64, turns: u64) -> u64
-    requires some { 0 < left }
-    requires window { (0 < plan.now.window) × (plan.now.window ≤ 4096) }
-    requires more { plan.now.limit ≢ Some turns }
-    requires within { Within plan.now.limit turns }
-    ensures { IsLength plan.now.limit plan.now.window left turns result }
-{
-    let most = left.min(u64::from(plan.window));
-    match plan.limit {
-        Some(limit) => most.min(limit - turns),
-        None => most,
-    }
-}
 
 /// Nothing is known so far.
 fn blank(alloc: Global, len: usize) -> Result<Vec<Option<Trial>>, NoMemory>
@@ -55,7 +40,7 @@ fn try_next<R: Wait, S: Subject<P::Prep>, P: Passes, L: Law, Q: Question, J: Jud
     len: u64,
     course: &mut Course,
 ) -> EpochEnd
-    requires about { IsAbout (searching_by P.Passes L.Law Q.Question task.now S.told) (P.offer task.now.passes.now) S.orders S.replies }
+    requires about { IsAbout (searching_by P.Passes L.Law Q.Question task.now S.told) (P.offer task.now.passes.now) S.orders S.replies S.verdicts }
     requires told { J.says (J.key judge.old) ≡ S.told }
     requires joined { AreJoined lines.now }
     requires seats { AreSeats lines.now seat.old }
@@ -98,7 +83,7 @@ fn take_found<S: Subject<P::Prep>, P: Passes, L: Law, Q: Question>(
     walk: &mut Walk<P::Prep>,
     position: u64,
 ) -> Result<(), NoMemory>
-    requires about { IsAbout (searching_by P.Passes L.Law Q.Question task.now S.told) (P.offer task.now.passes.now) S.orders S.replies }
+    requires about { IsAbout (searching_by P.Passes L.Law Q.Question task.now S.told) (P.offer task.now.passes.now) S.orders S.replies S.verdicts }
     requires sound { IsSound (P.offers task.now.passes.now) (P.offer task.now.passes.now) walk.old }
     requires from { walk.old.position ≤ position }
     requires below { position < walk.old.count }
@@ -127,7 +112,7 @@ fn look<R: Wait, S: Subject<P::Prep>, P: Passes, L: Law, Q: Question, J: Judge>(
     walk: &mut Walk<P::Prep>,
     course: &mut Course,
 ) -> Option<Why>
-    requires about { IsAbout (searching_by P.Passes L.Law Q.Question task.now S.told) (P.offer task.now.passes.now) S.orders S.replies }
+    requires about { IsAbout (searching_by P.Passes L.Law Q.Question task.now S.told) (P.offer task.now.passes.now) S.orders S.replies S.verdicts }
     requires told { J.says (J.key judge.old) ≡ S.told }
     requires joined { AreJoined lines.now }
     requires seats { AreSeats lines.now seat.old }
@@ -183,7 +168,7 @@ fn advance<R: Wait, S: Subject<P::Prep>, P: Passes, L: Law, Q: Question, J: Judg
     walk: &mut Walk<P::Prep>,
     course: &mut Course,
 ) -> Option<Why>
-    requires about { IsAbout (searching_by P.Passes L.Law Q.Question task.now S.told) (P.offer task.now.passes.now) S.orders S.replies }
+    requires about { IsAbout (searching_by P.Passes L.Law Q.Question task.now S.told) (P.offer task.now.passes.now) S.orders S.replies S.verdicts }
     requires told { J.says (J.key judge.old) ≡ S.told }
     requires joined { AreJoined lines.now }
     requires seats { AreSeats lines.now seat.old }
@@ -228,7 +213,7 @@ pub fn walk_on<R: Wait, S: Subject<P::Prep>, P: Passes, L: Law, Q: Question, J: 
     plan: &Plan,
     walk: &mut Walk<P::Prep>,
 ) -> Why
-    requires about { IsAbout (searching_by P.Passes L.Law Q.Question task.now S.told) (P.offer task.now.passes.now) S.orders S.replies }
+    requires about { IsAbout (searching_by P.Passes L.Law Q.Question task.now S.told) (P.offer task.now.passes.now) S.orders S.replies S.verdicts }
     requires told { J.says (J.key judge.old) ≡ S.told }
     requires joined { AreJoined lines.now }
     requires seats { AreSeats lines.now seat.old }

@@ -7,16 +7,21 @@ use Rattle.cr_outside.specs.Faults.{Rose}
 use Rattle.cr_outside.specs.Question.{AnswersAsTold, AsksOnce, Says}
 use Rattle.cr_pool.specs.Sizes.{HasSize, IsSmaller}
 use Rattle.cr_pool.specs.Tally.{HaveOneKey, first_says}
-use Rattle.cr_pool.specs.Trials.{IsGood, IsLarge}
+use Rattle.cr_pool.specs.declared.verdict.Verdict.{Verdict}
+use Rattle.cr_pool.specs.declared.verdict.Verdict.TheVariants as verdict
+use Rattle.cr_pool.specs.Kept.{IsRight}
+use Rattle.cr_pool.specs.Trials.{IsLarge}
 use Rattle.cr_pool.specs.Trials.IsRejected.{not_smaller, unlawful, answered_no}
 use Rattle.cr_pool.proofs.Sizes.{large_no_smaller}
-use Rattle.cr_reduce.specs.Bench.{Each, judging_of}
+use Rattle.cr_reduce.specs.Bench.{Each, Judging, judging_of}
 use Rattle.cr_reduce.specs.Search.{Search}
 use Rattle.cr_reduce.proofs.Runs.{called_first, goes_on-refl, goes_on-trans, goes_on_first}
+use Rattle.cr_standing_workers.specs.declared.trial.Found.{Found}
+use Rattle.cr_standing_workers.specs.declared.trial.Found.TheVariants as found
 use Rattle.cr_standing_workers.specs.declared.trial.Tried.TheVariants as tried
 use Rattle.cr_standing_workers.specs.Channels.{AllAre}
 use Rattle.cr_standing_workers.specs.Serving.{Serves}
-use Rattle.cr_standing_workers.specs.Told.{TriedSays, tried_of}
+use Rattle.cr_standing_workers.specs.Told.{FoundSays, TriedSays, found_of, tried_of}
 
 module _ {J K : Type 0} (judge : JudgeGhosts J K) (asks : Bool) where
   pub serves-refl : (j : J) → Serves judge asks j j
@@ -77,22 +82,37 @@ asked_if : (asks : Bool) (answer : Answer) → (asks ≡ false → answer ≢ Fa
 asked_if true answer unfailing is = refl
 asked_if false answer unfailing is = absurd (unfailing refl is)
 
-smaller_than : (Lawful : List ℕ → Type 0) (file variant : List ℕ) (size n : ℕ) → HasSize file size → IsGood Lawful variant size n → IsSmaller variant file
-smaller_than Lawful file variant size n sized good = record { new_size = n; old_size = size; new_is = good.has; old_is = sized; less = good.less }
+smaller_than : (file variant : List ℕ) (size n : ℕ) → HasSize file size → HasSize variant n → n < size → IsSmaller variant file
+smaller_than file variant size n sized has less = record { new_size = n; old_size = size; new_is = has; old_is = sized; less = less }
 
-pub says_asked : {J K : Type 0} (judge : JudgeGhosts J K) (s : Search) (old new : J) (file variant : List ℕ) (size n : ℕ) (answer : Answer) → HasSize file size → IsGood s.Lawful variant size n
+-- of a lawful one that was asked about
+pub found_asked : {J K : Type 0} (judge : JudgeGhosts J K) (s : Search) (old new : J) (variant : List ℕ) (answer : Answer) → s.Lawful variant
     → AnswersAsTold s.asks (s.Tells variant) answer → (s.asks ≡ true → AsksOnce (judge.calls old) (judge.calls new) s.name variant answer) → (s.asks ≡ false → answer ≢ Failed)
     → (answer ≡ Failed → Rose (judge.faults old) (judge.faults new))
-    → TriedSays s (judging_of judge (old ∷ [])) (judging_of judge (new ∷ [])) file variant (tried_of answer)
-says_asked judge s old new file variant size n Yes sized good told once unfailing rose = record { smaller = smaller_than s.Lawful file variant size n sized good; lawful = good.lawful; answered = told }
-says_asked judge s old new file variant size n No sized good told once unfailing rose = answered_no told
-says_asked judge s old new file variant size n Failed sized good told once unfailing rose =
+    → FoundSays s (judging_of judge (old ∷ [])) (judging_of judge (new ∷ [])) variant (found_of answer)
+found_asked judge s old new variant Yes lawful told once unfailing rose = (lawful, told)
+found_asked judge s old new variant No lawful told once unfailing rose = (lawful, told)
+found_asked judge s old new variant Failed lawful told once unfailing rose =
     let asked = asked_if s.asks Failed unfailing refl in
     let made = called_first (judge.calls old ∷ []) (judge.calls new ∷ []) s.name variant Failed (λ is. cc) (once asked, refl) in
-    record { smaller = smaller_than s.Lawful file variant size n sized good; lawful = good.lawful; failed = record { asked = asked; called = made; rose = rose refl } }
-says_asked judge s old new file variant size n NoMemory sized good told once unfailing rose = tt
+    (lawful, record { asked = asked; called = made; rose = rose refl })
+found_asked judge s old new variant NoMemory lawful told once unfailing rose = tt
 
--- and of one that isn't
-pub says_bad : (s : Search) (file variant : List ℕ) (size : ℕ) → HasSize file size → IsLarge variant size ⊎ (s.Lawful variant → ⊥) → (before now : _) → TriedSays s before now file variant tried.No
-says_bad s file variant size sized (inl large) before now = not_smaller (large_no_smaller file variant size sized large)
-says_bad s file variant size sized (inr against) before now = unlawful against
+-- what was found of a smaller variant is what its trial comes to
+pub tried_found : (s : Search) (before now : Judging) (file variant : List ℕ) (size n : ℕ) (it : Found) → HasSize file size → HasSize variant n → n < size → FoundSays s before now variant it
+    → TriedSays s before now file variant (tried_of it)
+tried_found s before now file variant size n (found.Verdict verdict.Yes) sized has less says = record { smaller = smaller_than file variant size n sized has less; lawful = says.0; answered = says.1 }
+tried_found s before now file variant size n (found.Verdict verdict.No) sized has less says = answered_no says.1
+tried_found s before now file variant size n (found.Verdict verdict.Unlawful) sized has less says = unlawful says
+tried_found s before now file variant size n found.Stopped sized has less says = tt
+tried_found s before now file variant size n found.Failed sized has less says = record { smaller = smaller_than file variant size n sized has less; lawful = says.0; failed = says.1 }
+tried_found s before now file variant size n found.NoMemory sized has less says = tt
+
+-- and one that isn't smaller is rejected
+pub says_large : (s : Search) (file variant : List ℕ) (size : ℕ) → HasSize file size → IsLarge variant size → (before now : Judging) → TriedSays s before now file variant tried.No
+says_large s file variant size sized large before now = not_smaller (large_no_smaller file variant size sized large)
+
+-- a verdict that is remembered is right
+pub recalled : (s : Search) (before now : Judging) (Verdicts : List ℕ → Verdict → Type 0) → ((file : List ℕ) (v : Verdict) → Verdicts file v → IsRight s.Lawful s.asks s.Tells file v)
+    → (file : List ℕ) (v : Verdict) → Verdicts file v → FoundSays s before now file (found.Verdict v)
+recalled s before now Verdicts out file v it = out file v it

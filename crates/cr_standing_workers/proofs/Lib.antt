@@ -1,3 +1,4 @@
 pub mod Rules
 pub mod Judges
 pub mod Places
+mod Memories

@@ -1,3 +1,4 @@
 pub mod Told
 pub mod Serving
+pub mod Remembering
 pub mod Channels

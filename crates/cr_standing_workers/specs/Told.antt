@@ -9,16 +9,22 @@ use Rattle.cr_outside.specs.declared.judge.Answer.{Answer}
 use Rattle.cr_outside.specs.declared.judge.Answer.TheVariants as answer
 use Rattle.cr_outside.specs.declared.question.Question.{Ghosts as QuestionGhosts}
 use Rattle.cr_outside.specs.Question.{AnswersAsTold, Says}
+use Rattle.cr_pool.specs.declared.verdict.Verdict.{Verdict}
+use Rattle.cr_pool.specs.declared.verdict.Verdict.TheVariants as verdict
+use Rattle.cr_pool.specs.Kept.{IsRight}
 use Rattle.cr_pool.specs.Sizes.{HasSize}
 use Rattle.cr_pool.specs.Trials.{IsAccepted, IsRejected}
 use Rattle.cr_reduce.specs.Bench.{Judging}
 use Rattle.cr_reduce.specs.Ends.{EndsBy}
 use Rattle.cr_reduce.specs.Reduction.{Outcome, Reduces, State, cursors_of, start_of}
 use Rattle.cr_reduce.specs.Search.{FailsInRun, Search, search_of}
+use Rattle.cr_reduce.specs.Trials.{HasFailed}
 use Rattle.cr_reduce.specs.declared.end.End.{End}
 use Rattle.cr_standing_workers.specs.declared.orders.Trial.{Trial}
 use Rattle.cr_standing_workers.specs.declared.orders.Trial.TheVariants.{No, Yes, Skipped}
 use Rattle.cr_standing_workers.specs.declared.task.Task.{Task}
+use Rattle.cr_standing_workers.specs.declared.trial.Found.{Found}
+use Rattle.cr_standing_workers.specs.declared.trial.Found.TheVariants as found
 use Rattle.cr_standing_workers.specs.declared.trial.Tried.{Tried}
 use Rattle.cr_standing_workers.specs.declared.trial.Tried.TheVariants as tried
 
@@ -52,11 +58,26 @@ TriedSays s before now file variant tried.Failed = FailsInRun s before now 0 fil
 TriedSays s before now file variant tried.Stopped = Unit {0}
 TriedSays s before now file variant tried.NoMemory = Unit {0}
 
-abbrev pub tried_of : Answer → Tried
-tried_of answer.Yes = tried.Yes
-tried_of answer.No = tried.No
-tried_of answer.Failed = tried.Failed
-tried_of answer.NoMemory = tried.NoMemory
+-- what was found of a file by a judge from one time to another: a verdict that is right, or how the test failed
+abbrev pub FoundSays : Search → Judging → Judging → List ℕ → Found → Type 0
+FoundSays s before now file (found.Verdict verdict) = IsRight s.Lawful s.asks s.Tells file verdict
+FoundSays s before now file found.Failed = s.Lawful file × HasFailed s.asks s.name before now 0 file
+FoundSays s before now file found.Stopped = Unit {0}
+FoundSays s before now file found.NoMemory = Unit {0}
+
+abbrev pub found_of : Answer → Found
+found_of answer.Yes = found.Verdict verdict.Yes
+found_of answer.No = found.Verdict verdict.No
+found_of answer.Failed = found.Failed
+found_of answer.NoMemory = found.NoMemory
+
+abbrev pub tried_of : Found → Tried
+tried_of (found.Verdict verdict.Yes) = tried.Yes
+tried_of (found.Verdict verdict.No) = tried.No
+tried_of (found.Verdict verdict.Unlawful) = tried.No
+tried_of found.Stopped = tried.Stopped
+tried_of found.Failed = tried.Failed
+tried_of found.NoMemory = tried.NoMemory
 
 -- of the variant at a position of an offer
 abbrev pub AtPosition : Offer → ℕ → (List ℕ → Type 0) → Type 0
@@ -84,12 +105,14 @@ pub record IsPlace {T : Type 0} (s : Search) (offer : T → List ℕ → Offer) 
   pub sized : HasSize file size
   pub below : position < length (cursors_of (offer prep file))
 
--- The orders and replies of a subject are those of this search.
-pub record IsAbout {T : Type 0} (s : Search) (offer : T → List ℕ → Offer) (Orders : T → List ℕ → ℕ → ℕ → Type 0) (Replies : List ℕ → ℕ → Trial → Type 0) : Type 0 where
+-- The orders, replies and verdicts of a subject are those of this search.
+pub record IsAbout {T : Type 0} (s : Search) (offer : T → List ℕ → Offer) (Orders : T → List ℕ → ℕ → ℕ → Type 0) (Replies : List ℕ → ℕ → Trial → Type 0) (Verdicts : List ℕ → Verdict → Type 0) : Type 0 where
   pub order_in : (prep : T) (file : List ℕ) (size position : ℕ) → IsPlace s offer prep file size position → Orders prep file size position
   pub order_out : (prep : T) (file : List ℕ) (size position : ℕ) → Orders prep file size position → IsPlace s offer prep file size position
   pub reply_in : (file : List ℕ) (position : ℕ) (trial : Trial) → SaysAt s file position trial → Replies file position trial
   pub reply_out : (file : List ℕ) (position : ℕ) (trial : Trial) → Replies file position trial → SaysAt s file position trial
+  pub verdict_in : (file : List ℕ) (verdict : Verdict) → IsRight s.Lawful s.asks s.Tells file verdict → Verdicts file verdict
+  pub verdict_out : (file : List ℕ) (verdict : Verdict) → Verdicts file verdict → IsRight s.Lawful s.asks s.Tells file verdict
 
 -- the reduction from a state on by such trials, where the faults are those of a run
 abbrev pub ReducesIfTold : Search → Judging → Judging → Option ℕ → State → Outcome → Type 0

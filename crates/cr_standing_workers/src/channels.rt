@@ -5,12 +5,13 @@ ghost use Rattle.crossbeam_channel.specs.Ends.{receives_on, sends_on};
 ghost use Rattle.cr_standing_workers.specs.Channels.{AreJoined, AreSeats, IsFit, IsTrue};
 
 use crate::hint::Hint;
+use crate::memory::Memory;
 use crate::orders::{Order, Reply, Subject};
 use crossbeam_channel::protocol::{Lesson, Outcome, Protocol, Split};
 use crossbeam_channel::{Pass, RuledReceiver, RuledSender};
 use std::alloc::Global;
 use std::marker::PhantomData;
-use std::sync::Wait;
+use std::sync::{Mutex, Wait};
 
 /// Each order is one that may be given.
 pub struct Fit<S> {
@@ -71,7 +72,7 @@ impl Split<()> for Twin {
     ghost right = { λ v. tt };
 }
 
-/// The ends of both channels, and the hint, which all threads share.
+/// The ends of both channels, the hint, and what is remembered, which all threads share.
 #[derive(Drop)]
 pub struct Lines<'a, S: Subject<T>, T: Drop> {
     pub orders: &'a RuledSender<Order<T>, (), Fit<S>>,
@@ -79,6 +80,7 @@ pub struct Lines<'a, S: Subject<T>, T: Drop> {
     pub replies: &'a RuledSender<Reply<T>, (), True<S>>,
     pub replies_out: &'a RuledReceiver<Reply<T>, (), True<S>>,
     pub hint: &'a Hint,
+    pub memory: &'a Mutex<Memory<S, T>>,
 }
 
 /// What each thread has of its own: its passes of both channels, and a buffer for variants.

@@ -11,6 +11,7 @@
 
 mod channels;
 mod hint;
+mod memory;
 mod orders;
 mod task;
 mod trial;
@@ -21,6 +22,7 @@ pub use channels::{
     send_reply, stop_workers,
 };
 pub use hint::{Hint, Watch};
+pub use memory::Memory;
 pub use orders::{Order, Place, Reply, Shared, Subject, Trial};
 pub use task::Task;
 pub use trial::{Tried, make_variant, try_at};

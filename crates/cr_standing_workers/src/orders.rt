@@ -1,6 +1,7 @@
 // What goes between the caller and its workers.
 ghost use Rattle.std.specs.Prelude.{ℕ, List, None};
 ghost use Rattle.cr_outside.specs.Question.{Says};
+ghost use Rattle.cr_pool.specs.declared.verdict.Verdict.{Verdict};
 ghost use Rattle.cr_standing_workers.specs.declared.orders.Trial.{Trial};
 
 use std::alloc::Global;
@@ -54,6 +55,9 @@ pub trait Subject<T> {
 
     /// The replies that may be given: of a file, a position and what is said of it.
     ghost replies: { List ℕ → ℕ → Trial → Type 0 };
+
+    /// The verdicts that may be remembered: of a file.
+    ghost verdicts: { List ℕ → Verdict → Type 0 };
 }
 
 impl<T> Subject<T> for Brand {
@@ -62,4 +66,6 @@ impl<T> Subject<T> for Brand {
     ghost orders = { λ prep file size position. ⊥ };
 
     ghost replies = { λ file position trial. ⊥ };
+
+    ghost verdicts = { λ file verdict. ⊥ };
 }

@@ -1,18 +1,21 @@
 // The trial of one position.
-ghost use Rattle.std.specs.Prelude.{◌≡◌, ◌<◌, ◌⊎◌, ◌∷◌, [], ℕ, List, false, length, OnOk};
+ghost use Rattle.std.specs.Prelude.{◌≡◌, ◌<◌, ◌∷◌, [], ℕ, List, Ok, false, length, true, OnOk};
 ghost use Rattle.cr_pool.specs.Sizes.{HasSize};
-ghost use Rattle.cr_pool.specs.Trials.{IsGood, IsLarge};
+ghost use Rattle.cr_pool.specs.declared.verdict.Verdict.{Verdict};
+ghost use Rattle.cr_pool.specs.Trials.{IsLarge};
 ghost use Rattle.cr_reduce.specs.Bench.{judging_of};
 ghost use Rattle.cr_reduce.specs.Reduction.{cursors_of};
 ghost use Rattle.cr_standing_workers.specs.Serving.{Serves};
-ghost use Rattle.cr_standing_workers.specs.Told.{AtPosition, IsAbout, TriedAt, TriedSays, searching_by, tried_of};
+ghost use Rattle.cr_standing_workers.specs.Told.{AtPosition, FoundSays, IsAbout, TriedAt, TriedSays, found_of, searching_by, tried_of};
 
+use crate::memory::Memory;
 use crate::orders::{Shared, Subject};
 use crate::task::Task;
 use cr_cursor::{Law, Passes, Ruling, Stop, cursor_at};
 use cr_outside::{Answer, Judge, NoMemory, Question};
-use cr_pool::measure;
+use cr_pool::{Verdict, measure};
 use std::alloc::Global;
+use std::sync::{Mutex, Wait};
 
 /// What a trial came to.
 pub enum Tried {
@@ -25,13 +28,11 @@ pub enum Tried {
     NoMemory,
 }
 
-/// What was found of a variant before anything is asked about it.
-enum Weighed {
-    /// It is smaller and lawful.
-    Good,
-    /// It isn't.
-    Bad,
+/// What was found of a variant that is smaller.
+enum Found {
+    Verdict(Verdict),
     Stopped,
+    Failed,
     NoMemory,
 }
 
@@ -49,78 +50,141 @@ pub fn make_variant<P: Passes>(
     passes.variant(&file.prep, &file.bytes, cursor, variant)
 }
 
-/// Measures a variant, and has the law rule on it where it is below the limit.
-fn weigh<L: Law, T: Stop>(
-    alloc: Global,
-    law: &L,
-    variant: &[u8],
-    limit: u64,
-    stop: &mut T,
-) -> Weighed
-    requires { T.raised stop.old ≡ false }
-    ensures good { result ≡ Weighed.Good → (n : ℕ) × IsGood (L.lawful law.now) variant.now limit n }
-    ensures bad { result ≡ Weighed.Bad → IsLarge variant.now limit ⊎ (L.lawful law.now variant.now → ⊥) }
+/// Whether a variant is below the limit.
+fn is_below(alloc: Global, variant: &[u8], limit: u64) -> Result<bool, NoMemory>
+    ensures below { result ≡ Ok true → (n : ℕ) × HasSize variant.now n × (n < limit) }
+    ensures large { result ≡ Ok false → IsLarge variant.now limit }
 {
-    let size = match measure(alloc, variant) {
-        Ok(Some(size)) => size,
-        Ok(None) => return Weighed::Bad,
-        Err(_) => return Weighed::NoMemory,
-    };
-    if size >= limit {
-        return Weighed::Bad;
-    }
-    match law.rule(alloc, variant, stop) {
-        Ruling::Lawful => Weighed::Good,
-        Ruling::Unlawful(_) => Weighed::Bad,
-        Ruling::Stopped => Weighed::Stopped,
-        Ruling::NoMemory => Weighed::NoMemory,
+    match measure(alloc, variant)? {
+        Some(size) => Ok(size < limit),
+        None => Ok(false),
     }
 }
 
-/// Tries a variant of a file of this size: the law rules on it where it is smaller, and where it is lawful too, the question is asked.
-fn try_variant<P: Passes, L: Law, Q: Question, J: Judge, T: Stop>(
+fn found_by(answer: Answer) -> Found
+    ensures { result ≡ found_of answer }
+{
+    match answer {
+        Answer::Yes => Found::Verdict(Verdict::Yes),
+        Answer::No => Found::Verdict(Verdict::No),
+        Answer::Failed => Found::Failed,
+        Answer::NoMemory => Found::NoMemory,
+    }
+}
+
+fn tried_by(found: Found) -> Tried
+    ensures { result ≡ tried_of found }
+{
+    match found {
+        Found::Verdict(Verdict::Yes) => Tried::Yes,
+        Found::Verdict(Verdict::Unlawful | Verdict::No) => Tried::No,
+        Found::Stopped => Tried::Stopped,
+        Found::Failed => Tried::Failed,
+        Found::NoMemory => Tried::NoMemory,
+    }
+}
+
+/// Has the law rule on a variant, and asks the question where it is lawful.
+fn find_out<P: Passes, L: Law, Q: Question, J: Judge, T: Stop>(
     alloc: Global,
     task: &Task<'_, P, L, Q>,
+    judge: &mut J,
+    variant: &[u8],
+    stop: &mut T,
+) -> Found
+    requires { T.raised stop.old ≡ false }
+    ensures says { FoundSays (searching_by P.Passes L.Law Q.Question task.now (J.says (J.key judge.old)))
+        (judging_of J.Judge (judge.old ∷ [])) (judging_of J.Judge (judge.new ∷ [])) variant.now result }
+    ensures serves { Serves J.Judge (Q.asks task.now.question.now) judge.old judge.new }
+{
+    match task.law.rule(alloc, variant, stop) {
+        Ruling::Lawful => found_by(task.question.ask(alloc, judge, task.name, variant)),
+        Ruling::Unlawful(_) => Found::Verdict(Verdict::Unlawful),
+        Ruling::Stopped => Found::Stopped,
+        Ruling::NoMemory => Found::NoMemory,
+    }
+}
+
+/// Remembers what was found, where it is a verdict.
+fn remember<R: Wait, S: Subject<T>, T: Drop>(
+    rt: &R,
+    alloc: Global,
+    memory: &Mutex<Memory<S, T>>,
+    variant: &[u8],
+    found: &Found,
+)
+    requires { (verdict : Verdict) → found.now ≡ Found.Verdict verdict → S.verdicts variant.now verdict }
+{
+    if let Found::Verdict(verdict) = found {
+        memory.lock(rt).put(alloc, variant, *verdict);
+    }
+}
+
+/// What is remembered of a variant or, where nothing is, what is found out of it.
+fn recall<R: Wait, S: Subject<P::Prep>, P: Passes, L: Law, Q: Question, J: Judge, T: Stop>(
+    rt: &R,
+    alloc: Global,
+    task: &Task<'_, P, L, Q>,
+    memory: &Mutex<Memory<S, P::Prep>>,
+    judge: &mut J,
+    variant: &[u8],
+    stop: &mut T,
+) -> Found
+    requires about { IsAbout (searching_by P.Passes L.Law Q.Question task.now S.told) (P.offer task.now.passes.now) S.orders S.replies S.verdicts }
+    requires told { J.says (J.key judge.old) ≡ S.told }
+    requires unraised { T.raised stop.old ≡ false }
+    ensures says { FoundSays (searching_by P.Passes L.Law Q.Question task.now S.told)
+        (judging_of J.Judge (judge.old ∷ [])) (judging_of J.Judge (judge.new ∷ [])) variant.now result }
+    ensures serves { Serves J.Judge (Q.asks task.now.question.now) judge.old judge.new }
+{
+    let known = memory.lock(rt).find(variant);
+    if let Some(verdict) = known {
+        return Found::Verdict(verdict);
+    }
+    let found = find_out(alloc, task, judge, variant, stop);
+    remember(rt, alloc, memory, variant, &found);
+    found
+}
+
+/// Tries a variant of a file of this size: where it is smaller, and nothing is remembered of it, the law rules on it, and where it is
+/// lawful too, the question is asked.
+fn try_variant<R: Wait, S: Subject<P::Prep>, P: Passes, L: Law, Q: Question, J: Judge, T: Stop>(
+    rt: &R,
+    alloc: Global,
+    task: &Task<'_, P, L, Q>,
+    memory: &Mutex<Memory<S, P::Prep>>,
     judge: &mut J,
     variant: &[u8],
     size: u64,
     stop: &mut T,
 ) -> Tried
-    requires { T.raised stop.old ≡ false }
-    ensures says { (file : List ℕ) → HasSize file size → TriedSays (searching_by P.Passes L.Law Q.Question task.now (J.says (J.key judge.old)))
+    requires about { IsAbout (searching_by P.Passes L.Law Q.Question task.now S.told) (P.offer task.now.passes.now) S.orders S.replies S.verdicts }
+    requires told { J.says (J.key judge.old) ≡ S.told }
+    requires unraised { T.raised stop.old ≡ false }
+    ensures says { (file : List ℕ) → HasSize file size → TriedSays (searching_by P.Passes L.Law Q.Question task.now S.told)
         (judging_of J.Judge (judge.old ∷ [])) (judging_of J.Judge (judge.new ∷ [])) file variant.now result }
     ensures serves { Serves J.Judge (Q.asks task.now.question.now) judge.old judge.new }
 {
-    match weigh(alloc, task.law, variant, size, stop) {
-        Weighed::Good => came_of(task.question.ask(alloc, judge, task.name, variant)),
-        Weighed::Bad => Tried::No,
-        Weighed::Stopped => Tried::Stopped,
-        Weighed::NoMemory => Tried::NoMemory,
-    }
-}
-
-fn came_of(answer: Answer) -> Tried
-    ensures { result ≡ tried_of answer }
-{
-    match answer {
-        Answer::Yes => Tried::Yes,
-        Answer::No => Tried::No,
-        Answer::Failed => Tried::Failed,
-        Answer::NoMemory => Tried::NoMemory,
+    match is_below(alloc, variant, size) {
+        Ok(true) => tried_by(recall(rt, alloc, task, memory, judge, variant, stop)),
+        Ok(false) => Tried::No,
+        Err(_) => Tried::NoMemory,
     }
 }
 
 /// Tries the variant at a position of a file, one that may be ordered.
-pub fn try_at<S: Subject<P::Prep>, P: Passes, L: Law, Q: Question, J: Judge, T: Stop>(
+pub fn try_at<R: Wait, S: Subject<P::Prep>, P: Passes, L: Law, Q: Question, J: Judge, T: Stop>(
+    rt: &R,
     alloc: Global,
     task: &Task<'_, P, L, Q>,
+    memory: &Mutex<Memory<S, P::Prep>>,
     judge: &mut J,
     file: &Shared<P::Prep>,
     position: u64,
     variant: &mut Vec<u8>,
     stop: &mut T,
 ) -> Tried
-    requires about { IsAbout (searching_by P.Passes L.Law Q.Question task.now S.told) (P.offer task.now.passes.now) S.orders S.replies }
+    requires about { IsAbout (searching_by P.Passes L.Law Q.Question task.now S.told) (P.offer task.now.passes.now) S.orders S.replies S.verdicts }
     requires told { J.says (J.key judge.old) ≡ S.told }
     requires is_open { S.orders file.now.prep file.now.bytes.items file.now.size position }
     requires unraised { T.raised stop.old ≡ false }
@@ -131,5 +195,5 @@ pub fn try_at<S: Subject<P::Prep>, P: Passes, L: Law, Q: Question, J: Judge, T: 
     if make_variant(task.passes, file, position, variant).is_err() {
         return Tried::NoMemory;
     }
-    try_variant(alloc, task, judge, variant, file.size, stop)
+    try_variant(rt, alloc, task, memory, judge, variant, file.size, stop)
 }

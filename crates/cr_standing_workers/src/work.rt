@@ -6,7 +6,7 @@ ghost use Rattle.cr_standing_workers.specs.Serving.{Serves};
 ghost use Rattle.cr_standing_workers.specs.Told.{IsAbout, searching_by};
 
 use crate::channels::{Lines, Seat, next_order, send_reply};
-use crate::hint::{Hint, Watch};
+use crate::hint::Watch;
 use crate::orders::{Order, Place, Reply, Subject, Trial};
 use crate::task::Task;
 use crate::trial::{Tried, try_at};
@@ -32,38 +32,41 @@ impl<'a, Q: Question, J: Judge> Promise<J> for Word<'a, Q, J> {
 
 /// Tries the position of an order, and replies. What needn't be tried any more, and what the judge or the memory failed on, is
 /// skipped.
-pub fn answer<S: Subject<P::Prep>, P: Passes, L: Law, Q: Question, J: Judge>(
+pub fn answer<R: Wait, S: Subject<P::Prep>, P: Passes, L: Law, Q: Question, J: Judge>(
+    rt: &R,
     alloc: Global,
     task: &Task<'_, P, L, Q>,
-    hint: &Hint,
+    lines: &Lines<'_, S, P::Prep>,
     judge: &mut J,
     place: Place<P::Prep>,
     variant: &mut Vec<u8>,
 ) -> Reply<P::Prep>
-    requires about { IsAbout (searching_by P.Passes L.Law Q.Question task.now S.told) (P.offer task.now.passes.now) S.orders S.replies }
+    requires about { IsAbout (searching_by P.Passes L.Law Q.Question task.now S.told) (P.offer task.now.passes.now) S.orders S.replies S.verdicts }
     requires told { J.says (J.key judge.old) ≡ S.told }
     requires is_open { IsOpen S.orders place }
     ensures is_true { IsTrue S.replies result }
     ensures serves { Serves J.Judge (Q.asks task.now.question.now) judge.old judge.new }
 {
-    let trial = try_place::<S, P, L, Q, J>(alloc, task, hint, judge, &place, variant);
+    let trial = try_place(rt, alloc, task, lines, judge, &place, variant);
     Reply { place, trial }
 }
 
-fn try_place<S: Subject<P::Prep>, P: Passes, L: Law, Q: Question, J: Judge>(
+fn try_place<R: Wait, S: Subject<P::Prep>, P: Passes, L: Law, Q: Question, J: Judge>(
+    rt: &R,
     alloc: Global,
     task: &Task<'_, P, L, Q>,
-    hint: &Hint,
+    lines: &Lines<'_, S, P::Prep>,
     judge: &mut J,
     place: &Place<P::Prep>,
     variant: &mut Vec<u8>,
 ) -> Trial
-    requires about { IsAbout (searching_by P.Passes L.Law Q.Question task.now S.told) (P.offer task.now.passes.now) S.orders S.replies }
+    requires about { IsAbout (searching_by P.Passes L.Law Q.Question task.now S.told) (P.offer task.now.passes.now) S.orders S.replies S.verdicts }
     requires told { J.says (J.key judge.old) ≡ S.told }
     requires is_open { IsOpen S.orders place.now }
     ensures is_true { S.replies (arc_value place.now.file).bytes.items place.now.position result }
     ensures serves { Serves J.Judge (Q.asks task.now.question.now) judge.old judge.new }
 {
+    let hint = lines.hint;
     if hint.is_moot(place.epoch, place.position) {
         return Trial::Skipped;
     }
@@ -74,9 +77,11 @@ fn try_place<S: Subject<P::Prep>, P: Passes, L: Law, Q: Question, J: Judge>(
         raised: false,
         looks: 0,
     };
-    match try_at::<S, P, L, Q, J, Watch<'_>>(
+    match try_at(
+        rt,
         alloc,
         task,
+        lines.memory,
         judge,
         &place.file,
         place.position,
@@ -101,7 +106,7 @@ pub fn serve<R: Wait, S: Subject<P::Prep>, P: Passes, L: Law, Q: Question, J: Ju
     mut judge: J,
     mut seat: Seat<P::Prep>,
 ) -> J
-    requires about { IsAbout (searching_by P.Passes L.Law Q.Question task.now S.told) (P.offer task.now.passes.now) S.orders S.replies }
+    requires about { IsAbout (searching_by P.Passes L.Law Q.Question task.now S.told) (P.offer task.now.passes.now) S.orders S.replies S.verdicts }
     requires told { J.says (J.key judge) ≡ S.told }
     requires joined { AreJoined lines.now }
     requires seats { AreSeats lines.now seat }
@@ -111,14 +116,7 @@ pub fn serve<R: Wait, S: Subject<P::Prep>, P: Passes, L: Law, Q: Question, J: Ju
         let Some(Order::Try(place)) = next_order(rt, lines, &mut seat) else {
             break;
         };
-        let said = answer::<S, P, L, Q, J>(
-            alloc,
-            task,
-            lines.hint,
-            &mut judge,
-            place,
-            &mut seat.variant,
-        );
+        let said = answer(rt, alloc, task, lines, &mut judge, place, &mut seat.variant);
         if !send_reply(rt, lines, &mut seat, said) {
             break;
         }

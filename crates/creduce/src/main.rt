@@ -11,6 +11,7 @@ use creduce_system::{ProcessJudge, Progress, Shown, StdDisk, StdOut};
 use std::alloc::AllocError;
 use std::io::IsTerminal;
 use std::process::ExitCode;
+use std::sync::Wait;
 use std::thread::Threads;
 use std::{env, io};
 
@@ -57,7 +58,7 @@ fn words(rt: &HostRuntime) -> Result<Vec<String>, AllocError> {
     }
 }
 
-fn reduce(rt: &HostRuntime, threads: &(impl Threads + Sync)) -> Result<u8, AllocError> {
+fn reduce(rt: &HostRuntime, threads: &(impl Threads + Wait + Sync)) -> Result<u8, AllocError> {
     let words = words(rt)?;
     let progress = Progress::new(rt, shown(rt));
     let mut bench = bench(rt, &progress)?;
@@ -75,7 +76,7 @@ fn reduce(rt: &HostRuntime, threads: &(impl Threads + Sync)) -> Result<u8, Alloc
 }
 
 fn main(rt: HostRuntime) -> ExitCode {
-    // The runtime comes twice: only under the bound `Threads` may it make threads, and then it is any such type.
+    // The runtime comes twice: only under the bounds `Threads` and `Wait` may it make threads that wait for each other, and then it is any such type.
     let status = match reduce(&rt, &rt) {
         Ok(status) => status,
         Err(_) => NO_MEMORY,

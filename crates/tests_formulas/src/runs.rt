@@ -7,6 +7,7 @@ use cr_outside_disk::MemDisk;
 use cr_pool::Bench;
 use std::alloc::{AllocError, Global};
 use std::process::Abort;
+use std::sync::Wait;
 use std::thread::Threads;
 
 /// What a run comes to: its status, what it puts, and the file, its copy and its log, where they are there.
@@ -43,8 +44,8 @@ if:same t.c¦0¦t.c size 109 to 63 accepted 4 turns 85 fixed␊¦int main(void){
 "#;
 
 // The status of a run. It tells nothing else of what is ensured, which no test needs and each proof of a caller would carry.
-fn status_of<J: Judge + Send>(
-    rt: &(impl Threads + Sync),
+fn status_of<J: Judge + Send + Drop>(
+    rt: &(impl Threads + Wait + Sync),
     alloc: Global,
     words: &[String],
     world: &mut MemDisk,
@@ -81,7 +82,7 @@ fn seen(alloc: Global, status: u8, put: &[u8], files: &mut MemDisk) -> Result<Ou
 
 /// What a run of these words comes to, by judges who fail if they are asked at all.
 pub(crate) fn outcome(
-    rt: &(impl Threads + Sync),
+    rt: &(impl Threads + Wait + Sync),
     alloc: Global,
     words: &[String],
     file: Vec<u8>,
@@ -124,7 +125,7 @@ fn wanted(
 
 /// A row: the words, the status, what is put, the file before, and the rest.
 pub(crate) fn expect_row(
-    rt: &(impl Abort + Threads + Sync),
+    rt: &(impl Abort + Threads + Wait + Sync),
     alloc: Global,
     row: &str,
 ) -> Result<(), AllocError> {

@@ -3,6 +3,7 @@ use crate::runs::outcome;
 use crate::texts::{bytes_of, words_of};
 use std::alloc::{AllocError, Global};
 use std::process::Abort;
+use std::sync::Wait;
 use std::thread::Threads;
 
 /// The status and the output of a program.
@@ -25,7 +26,7 @@ const PROGRAMS: &str = r#"
 
 // That a run of these words on the file ends with this status, and what the file has then.
 fn reduced(
-    rt: &(impl Abort + Threads + Sync),
+    rt: &(impl Abort + Threads + Wait + Sync),
     alloc: Global,
     words: &str,
     file: Vec<u8>,
@@ -42,7 +43,7 @@ fn reduced(
 }
 
 fn expect_same(
-    rt: &(impl Abort + Threads + Sync),
+    rt: &(impl Abort + Threads + Wait + Sync),
     alloc: Global,
     row: &str,
 ) -> Result<(), AllocError> {

@@ -1,12 +1,13 @@
 // Whole runs by the top call that knows all that words may ask for. What is wanted was found by hand from the rules of the command line
 // and of logs.
 use crate::outcomes::{more_status_of, words_in};
-use crate::runs::{FAULTS, JUDGED, MADE, files_hold, files_of, rehearsed_bench, sink_of, words_of};
+use crate::runs::{FAULTS, JUDGED, MADE, SHARED, files_hold, files_of, rehearsed_bench, sink_of, words_of};
 use crate::tables::{Case, bytes_of};
 use cr_outside::MemFiles;
 use cr_outside_disk::MemDisk;
 use std::alloc::{AllocError, Global};
 use std::process::Abort;
+use std::sync::Wait;
 use std::thread::Threads;
 
 /// Flags of modes that aren't built, and words in no form: nothing is done.
@@ -24,8 +25,8 @@ log none
 what a journal of a run by a formula that is gone on from
 words if:has(\"b\") abc.c --resume
 
-what standing workers
-words --standing has:b abc.c
+what standing workers by a formula
+words --standing if:same abc.c
 
 what any order with a journal
 words has:b --any-order abc.c --journal
@@ -33,8 +34,8 @@ words has:b --any-order abc.c --journal
 what any order by a formula
 words --any-order if:same abc.c
 
-what standing workers on a generated program
-words --standing has:main gen:7:1
+what standing workers in any order
+words --standing --any-order has:b abc.c
 
 what two engines
 words --journal --standing has:b abc.c
@@ -218,7 +219,7 @@ output ∅
 
 // Whether the case runs as it is wanted.
 fn runs_so(
-    rt: &(impl Threads + Sync),
+    rt: &(impl Threads + Wait + Sync),
     alloc: Global,
     case: &Case,
     words: &[String],
@@ -236,7 +237,7 @@ fn runs_so(
 }
 
 fn expect_plain(
-    rt: &(impl Abort + Threads + Sync),
+    rt: &(impl Abort + Threads + Wait + Sync),
     alloc: Global,
     case: &Case,
 ) -> Result<(), AllocError> {
@@ -259,8 +260,31 @@ fn words_without_flag_come_to_what_they_come_to_without_the_further_modes(
     Ok(())
 }
 
+fn expect_standing(
+    rt: &(impl Abort + Threads + Wait + Sync),
+    alloc: Global,
+    case: &Case,
+) -> Result<(), AllocError> {
+    let mut words = words_of(alloc, case)?;
+    words.push(String::from_str(alloc, "--standing")?)?;
+    let files = files_of(alloc, case)?;
+    let so = runs_so(rt, alloc, case, &words, files)?;
+    assert!(rt; so, "{}", case.told("what"));
+    Ok(())
+}
+
+#[test]
+fn standing_workers_come_to_what_epochs_come_to(rt: HostRuntime) -> Result<(), AllocError> {
+    for table in [FAULTS, JUDGED, MADE, SHARED] {
+        for own in table.split("\n\n") {
+            expect_standing(&rt, rt.alloc(), &Case::of(table, own))?;
+        }
+    }
+    Ok(())
+}
+
 fn expect_asked(
-    rt: &(impl Abort + Threads + Sync),
+    rt: &(impl Abort + Threads + Wait + Sync),
     alloc: Global,
     case: &Case,
 ) -> Result<(), AllocError> {
@@ -313,7 +337,7 @@ fn replay_files(alloc: Global, case: &Case) -> Result<MemFiles, AllocError> {
 }
 
 fn expect_replay(
-    rt: &(impl Abort + Threads + Sync),
+    rt: &(impl Abort + Threads + Wait + Sync),
     alloc: Global,
     case: &Case,
 ) -> Result<(), AllocError> {

@@ -6,6 +6,7 @@ use cr_outside::{MemFiles, MemSink};
 use cr_outside_disk::MemDisk;
 use std::alloc::{AllocError, Global};
 use std::process::Abort;
+use std::sync::Wait;
 use std::thread::Threads;
 
 /// The header of a run of `t.c` with the first pass alone, in hexadecimal digits: an open gate, the passes, 1,000,000 steps, no limit, the size
@@ -222,31 +223,32 @@ fn journal_of(alloc: Global, told: &str) -> Result<Vec<u8>, AllocError> {
     Ok(bytes)
 }
 
-// One more file of this name, where it is there.
+// One more file of this name, where it is told what it has.
 fn push_file(
     alloc: Global,
     pairs: &mut Vec<(String, Vec<u8>)>,
     name: &str,
     content: Option<Vec<u8>>,
 ) -> Result<(), AllocError> {
-    let Some(content) = content else {
-        return Ok(());
-    };
-    let name = String::from_str(alloc, name)?;
-    pairs.push((name, content))?;
+    if let Some(content) = content {
+        pairs.push((String::from_str(alloc, name)?, content))?;
+    }
     Ok(())
 }
 
-// A file and its copy, where they are there.
-fn files_of(
+// A file and its copy, with this journal, of which these calls fail.
+fn world_of(
     alloc: Global,
     file: Option<Vec<u8>>,
     copy: Option<Vec<u8>>,
-) -> Result<MemFiles, AllocError> {
+    journal: Vec<u8>,
+    failing: Vec<u64>,
+) -> Result<MemDisk, AllocError> {
     let mut pairs = Vec::new(alloc);
     push_file(alloc, &mut pairs, "t.c", file)?;
     push_file(alloc, &mut pairs, "t.c.orig", copy)?;
-    Ok(MemFiles::new(pairs, Vec::new(alloc)))
+    let files = MemFiles::new(pairs, Vec::new(alloc)).with_journal(journal);
+    Ok(MemDisk::beside(files, failing))
 }
 
 fn told(alloc: Global, case: &Case, word: &str) -> Result<Option<Vec<u8>>, AllocError> {
@@ -258,27 +260,17 @@ fn told(alloc: Global, case: &Case, word: &str) -> Result<Option<Vec<u8>>, Alloc
 
 // The world before a case, of which this call on the disk fails, from 1.
 fn before(alloc: Global, case: &Case, failing: u64) -> Result<MemDisk, AllocError> {
+    let file = told(alloc, case, "before")?;
+    let copy = told(alloc, case, "copied")?;
+    let journal = journal_of(alloc, case.told("journal"))?;
     let mut fails = Vec::new(alloc);
     fails.push(failing)?;
-    let journal = journal_of(alloc, case.told("journal"))?;
-    let copy = told(alloc, case, "copied")?;
-    let file = told(alloc, case, "before")?;
-    let files = files_of(alloc, file, copy)?;
-    Ok(MemDisk::beside(files.with_journal(journal), fails))
-}
-
-// The world behind a stop, with the image of this filling.
-fn stopped(alloc: Global, world: &mut MemDisk, fill: u8) -> Result<MemDisk, AllocError> {
-    let image = world.image(alloc, fill)?;
-    let file = content(alloc, world, "t.c");
-    let copy = content(alloc, world, "t.c.orig");
-    let files = files_of(alloc, file, copy)?;
-    Ok(MemDisk::beside(files.with_journal(image), Vec::new(alloc)))
+    world_of(alloc, file, copy, journal, fails)
 }
 
 // The status of a run with these words, and what it puts.
 fn run_so(
-    rt: &(impl Threads + Sync),
+    rt: &(impl Threads + Wait + Sync),
     alloc: Global,
     words: &str,
     world: &mut MemDisk,
@@ -290,22 +282,6 @@ fn run_so(
     Ok((status, out.bytes().to_vec(alloc)?))
 }
 
-// Whether a run with these words comes to this status and to what the case puts.
-fn comes_to(
-    rt: &(impl Threads + Sync),
-    alloc: Global,
-    case: &Case,
-    words: &str,
-    world: &mut MemDisk,
-) -> Result<bool, AllocError> {
-    let (status, put) = run_so(rt, alloc, words, world)?;
-    if u64::from(status) == case.number("status") {
-        case.tells(alloc, "output", &put)
-    } else {
-        Ok(false)
-    }
-}
-
 fn has(
     alloc: Global,
     case: &Case,
@@ -313,8 +289,7 @@ fn has(
     world: &mut MemDisk,
     name: &str,
 ) -> Result<bool, AllocError> {
-    let wanted = told(alloc, case, word)?;
-    Ok(wanted == content(alloc, world, name))
+    Ok(told(alloc, case, word)? == content(alloc, world, name))
 }
 
 // Whether the files are those that the case tells.
@@ -326,37 +301,25 @@ fn files_hold(alloc: Global, case: &Case, world: &mut MemDisk) -> Result<bool, A
     )
 }
 
-// Whether the journal is what the case tells, in each image of it.
-fn journal_holds(alloc: Global, case: &Case, world: &MemDisk) -> Result<bool, AllocError> {
-    let wanted = journal_of(alloc, case.told("then"))?;
+// Whether the case comes to what it tells, and leaves the journal that it tells in each image.
+fn holds(rt: &(impl Threads + Wait + Sync), alloc: Global, case: &Case) -> Result<bool, AllocError> {
+    let mut world = before(alloc, case, 0)?;
+    let (status, put) = run_so(rt, alloc, case.told("words"), &mut world)?;
     let image = world.image(alloc, 255)?;
-    Ok(image == wanted)
-}
-
-fn holds(
-    rt: &(impl Threads + Sync),
-    alloc: Global,
-    case: &Case,
-    world: &mut MemDisk,
-) -> Result<bool, AllocError> {
     Ok(
-        comes_to(rt, alloc, case, case.told("words"), world)?
-            && journal_holds(alloc, case, world)?
-            && files_hold(alloc, case, world)?,
+        u64::from(status) == case.number("status")
+            && case.tells(alloc, "output", &put)?
+            && image == journal_of(alloc, case.told("then"))?
+            && files_hold(alloc, case, &mut world)?,
     )
 }
 
-fn holds_whole(rt: &(impl Threads + Sync), alloc: Global, case: &Case) -> Result<bool, AllocError> {
-    let mut world = before(alloc, case, 0)?;
-    holds(rt, alloc, case, &mut world)
-}
-
 fn expect(
-    rt: &(impl Abort + Threads + Sync),
+    rt: &(impl Abort + Threads + Wait + Sync),
     alloc: Global,
     case: &Case,
 ) -> Result<(), AllocError> {
-    let so = holds_whole(rt, alloc, case)?;
+    let so = holds(rt, alloc, case)?;
     assert!(rt; so, "{}", case.told("what"));
     Ok(())
 }
@@ -369,97 +332,61 @@ fn a_journal_is_begun_gone_on_with_or_refused(rt: HostRuntime) -> Result<(), All
     Ok(())
 }
 
-// Whether a run with the image of this filling goes on to what the case tells.
-fn resumes(
-    rt: &(impl Threads + Sync),
-    alloc: Global,
-    case: &Case,
-    world: &mut MemDisk,
-    fill: u8,
-) -> Result<bool, AllocError> {
-    let mut next = stopped(alloc, world, fill)?;
-    resumes_in(rt, alloc, case, &mut next)
-}
-
-fn resumes_in(
-    rt: &(impl Threads + Sync),
-    alloc: Global,
-    case: &Case,
-    next: &mut MemDisk,
-) -> Result<bool, AllocError> {
-    Ok(
-        comes_to(rt, alloc, case, "--resume --passes l has:b t.c", next)?
-            && files_hold(alloc, case, next)?,
-    )
-}
-
-// Whether the file is as it was before the case, and no log is there.
-fn stays(alloc: Global, case: &Case, world: &mut MemDisk) -> Result<bool, AllocError> {
-    Ok(has(alloc, case, "before", world, "t.c")? && content(alloc, world, "t.c.log").is_none())
-}
-
-// How a run ends whose call on the disk may fail: nothing where none did; else whether it says so.
-fn fails(
-    rt: &(impl Threads + Sync),
-    alloc: Global,
-    case: &Case,
-    world: &mut MemDisk,
-) -> Result<Option<bool>, AllocError> {
-    let (status, put) = run_so(rt, alloc, case.told("words"), world)?;
-    let line = "creduce: journal fault: t.c.journal\n";
-    Ok(match status {
-        0 => None,
-        12 => Some(put.as_slice() == line.as_bytes()),
-        _ => Some(false),
-    })
-}
-
-// The same, and that it writes no result, and that the next run goes on to what the case tells, whatever the stop leaves.
+// Of a run whose call on the disk of this number fails: nothing where it has no such call; else whether it ends so, without a result, and
+// the next run goes on to what the case tells, whatever the stop leaves.
 fn goes_on_behind(
-    rt: &(impl Threads + Sync),
-    alloc: Global,
-    case: &Case,
-    world: &mut MemDisk,
-) -> Result<Option<bool>, AllocError> {
-    let Some(said) = fails(rt, alloc, case, world)? else {
-        return Ok(None);
-    };
-    let goes_on = stays(alloc, case, world)?
-        && resumes(rt, alloc, case, world, 0)?
-        && resumes(rt, alloc, case, world, 1)?
-        && resumes(rt, alloc, case, world, 255)?;
-    Ok(Some(said && goes_on))
-}
-
-fn with_failing(
-    rt: &(impl Threads + Sync),
+    rt: &(impl Threads + Wait + Sync),
     alloc: Global,
     case: &Case,
     failing: u64,
 ) -> Result<Option<bool>, AllocError> {
     let mut world = before(alloc, case, failing)?;
-    goes_on_behind(rt, alloc, case, &mut world)
+    let (status, put) = run_so(rt, alloc, case.told("words"), &mut world)?;
+    if status == 0 {
+        return Ok(None);
+    }
+    let ends = status == 12 && put.as_slice() == b"creduce: journal fault: t.c.journal\n";
+    let file = content(alloc, &mut world, "t.c");
+    let log = content(alloc, &mut world, "t.c.log");
+    let stays = file == told(alloc, case, "before")? && log.is_none();
+    let goes_on = resumes(rt, alloc, case, &mut world, 0)?
+        && resumes(rt, alloc, case, &mut world, 1)?
+        && resumes(rt, alloc, case, &mut world, 255)?;
+    Ok(Some(ends && stays && goes_on))
+}
+
+// Whether a run goes on to what the case tells with the image of this filling.
+fn resumes(
+    rt: &(impl Threads + Wait + Sync),
+    alloc: Global,
+    case: &Case,
+    world: &mut MemDisk,
+    fill: u8,
+) -> Result<bool, AllocError> {
+    let image = world.image(alloc, fill)?;
+    let file = content(alloc, world, "t.c");
+    let copy = content(alloc, world, "t.c.orig");
+    let mut next = world_of(alloc, file, copy, image, Vec::new(alloc))?;
+    let (status, put) = run_so(rt, alloc, "--resume --passes l has:b t.c", &mut next)?;
+    Ok(status == 0 && case.tells(alloc, "output", &put)? && files_hold(alloc, case, &mut next)?)
 }
 
 // How many calls on the disk a case has, each of which may fail.
 fn calls(
-    rt: &(impl Abort + Threads + Sync),
+    rt: &(impl Abort + Threads + Wait + Sync),
     alloc: Global,
     case: &Case,
 ) -> Result<u64, AllocError> {
     let mut calls = 0;
-    for failing in 1..=99 {
-        let Some(so) = with_failing(rt, alloc, case, failing)? else {
-            return Ok(calls);
-        };
-        assert!(rt; so, "{} {failing}", case.told("what"));
-        calls = failing;
+    while let Some(so) = goes_on_behind(rt, alloc, case, calls + 1)? {
+        calls += 1;
+        assert!(rt; so, "{} {calls}", case.told("what"));
     }
     Ok(calls)
 }
 
 fn expect_calls(
-    rt: &(impl Abort + Threads + Sync),
+    rt: &(impl Abort + Threads + Wait + Sync),
     alloc: Global,
     case: &Case,
 ) -> Result<(), AllocError> {

@@ -5,6 +5,7 @@ use cr_outside::{Files, Judge, MemFiles, MemSink, ReadAnswer, Sink};
 use cr_outside_disk::MemDisk;
 use cr_pool::Bench;
 use std::alloc::{AllocError, Global};
+use std::sync::Wait;
 use std::thread::Threads;
 
 /// What a run comes to: its status, what it puts, and the file, its copy and its log, where they are there.
@@ -49,8 +50,8 @@ pub(crate) fn status_of<F: Files, J: Judge + Send, O: Sink>(
 }
 
 /// The same by the top call that knows all that words may ask for, with a journal beside the files.
-pub(crate) fn more_status_of<J: Judge + Send, O: Sink>(
-    rt: &(impl Threads + Sync),
+pub(crate) fn more_status_of<J: Judge + Send + Drop, O: Sink>(
+    rt: &(impl Threads + Wait + Sync),
     alloc: Global,
     words: &[String],
     world: &mut MemDisk,

@@ -356,7 +356,7 @@ output gen.c size 694 to 694 accepted 0 turns 0 limit␊
 ";
 
 /// The three lines by several workers and windows, each time with the log of one.
-const SHARED: &str = "\
+pub(crate) const SHARED: &str = "\
 what four workers and a small window
 passes l
 workers 4

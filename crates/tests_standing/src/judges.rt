@@ -3,8 +3,6 @@ ghost use Rattle.std.specs.Prelude.{None};
 
 use cr_outside::{Answer, Judge};
 use std::alloc::Global;
-use std::sync::atomic::{AtomicU64, Ordering};
-use std::thread;
 
 /// Knows what to say about some files, and says no to all others. Its first calls fail, so many. It tells nothing.
 #[derive(Drop)]
@@ -58,46 +56,5 @@ impl Judge for Knowing {
             self.faults = self.faults.saturating_add(1);
         }
         answer
-    }
-}
-
-// Whether a count reaches a number while it is looked at many times.
-fn reaches(count: &AtomicU64, wanted: u64) -> bool {
-    for _ in 0..10_000_000 {
-        if count.load(Ordering::SeqCst) >= wanted {
-            return true;
-        }
-        thread::yield_now();
-    }
-    false
-}
-
-/// Says no, and the call that begins first ends only once another has begun.
-#[derive(Drop)]
-pub(crate) struct Meeting<'a> {
-    pub(crate) begun: &'a AtomicU64,
-    pub(crate) missed: &'a AtomicU64,
-    pub(crate) asked: u64,
-}
-
-impl<'a> Judge for Meeting<'a> {
-    type Key = ();
-
-    ghost key = { λ _. tt };
-
-    ghost says = { λ _ _ _ _. None };
-
-    ghost asked = { λ j. j.asked };
-
-    ghost calls = { λ _. None };
-
-    ghost faults = { λ _. 0 };
-
-    fn ask(&mut self, _alloc: Global, _test: &str, _name: &str, _file: &[u8]) -> Answer {
-        self.asked = self.asked.saturating_add(1);
-        if self.begun.fetch_add(1, Ordering::SeqCst) == 0 && !reaches(self.begun, 2) {
-            self.missed.store(1, Ordering::SeqCst);
-        }
-        Answer::No
     }
 }

@@ -7,4 +7,6 @@
 #[cfg(test)]
 mod judges;
 #[cfg(test)]
+mod random;
+#[cfg(test)]
 mod reductions;

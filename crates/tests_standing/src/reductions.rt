@@ -1,11 +1,10 @@
 // Reductions of three lines by the lines pass. What is wanted was found by hand from the rules of the pass and of the reduction.
-ghost use Rattle.std.specs.Prelude.{◌≡◌, ◌<◌, ◌≤◌, IfOk, length};
-ghost use Rattle.cr_pool.specs.Bench.{IsManned};
+ghost use Rattle.std.specs.Prelude.{◌≡◌, ◌<◌, ◌≤◌};
 
-use crate::judges::{Knowing, Meeting};
+use crate::judges::Knowing;
 use cr_cursor::TokenLaw;
 use cr_outside::{Answer, Judge, Test};
-use cr_pool::measure;
+use cr_pool::{Bench, Worker, measure};
 use cr_reduce::{End, Plan, Why};
 use cr_standing::reduce_standing;
 use pass_list::CPasses;
@@ -14,6 +13,7 @@ use std::process::Abort;
 use std::sync::Wait;
 use std::sync::atomic::{AtomicU64, Ordering};
 use std::thread::Threads;
+use tests_workers::meeting_bench;
 
 const LINES: &[u8] = b"int a;\nint b;\nint c;\n";
 
@@ -31,14 +31,13 @@ const WITH_A_FAULT: &[(&[u8], Answer)] = &[
 
 const FAILING: &[(&[u8], Answer)] = &[(b"int c;\n", Answer::Failed)];
 
-/// The end of the reduction of the lines, and the judges.
+/// The end of the reduction of the lines by all judges of a bench.
 fn reduced<R: Threads + Wait + Abort + Sync, J: Judge + Send + Drop>(
     rt: &R,
     alloc: Global,
-    judges: Vec<J>,
+    bench: &mut Bench<J>,
     window: u32,
-) -> Result<(Vec<J>, End), AllocError>
-    requires manned { IsManned J.key judges.items }
+) -> Result<End, AllocError>
     requires window { (0 < window) × (window ≤ 4096) }
 {
     let file = Vec::from_array(alloc, *b"int a;\nint b;\nint c;\n")?;
@@ -46,14 +45,14 @@ fn reduced<R: Threads + Wait + Abort + Sync, J: Judge + Send + Drop>(
         panic!(rt; "the lines have no size");
     };
     let plan = Plan {
-        workers: judges.len() as u32,
+        workers: bench.workers(),
         window,
         limit: None,
     };
     let question = Test::Program(String::from_str(alloc, "t")?);
     let passes = CPasses::lines();
     Ok(reduce_standing(
-        rt, alloc, &passes, &TokenLaw, &question, judges, "t.c", file, &plan,
+        rt, alloc, &passes, &TokenLaw, &question, bench, "t.c", file, &plan,
     ))
 }
 
@@ -70,28 +69,45 @@ fn is_wanted(end: &End) -> bool {
         && end.accepted[1].at.index == 0
 }
 
+/// A bench of so many judges that know this.
 fn knowing(
     alloc: Global,
     known: &'static [(&'static [u8], Answer)],
     count: u64,
-) -> Result<Vec<Knowing>, AllocError>
-    ensures { IfOk result (λ judges. length judges.items ≡ count) }
+) -> Result<Bench<Knowing>, AllocError>
+    requires { (0 < count) × (count ≤ 32) }
 {
     let mut judges = Vec::new(alloc);
     for _ in 0..count {
         judges.push(Knowing::new(known, 0))?;
     }
-    Ok(judges)
+    Bench::new(alloc, judges)
+}
+
+/// How often the first judge failed.
+fn faults_of_first(alloc: Global, bench: &mut Bench<Knowing>) -> u64 {
+    bench.lend(
+        alloc,
+        |workers: Vec<Worker<Knowing>>| -> (Vec<Worker<Knowing>>, u64)
+            ensures { result.0 ≡ workers }
+        {
+            let faults = match workers.first() {
+                Some(worker) => worker.judge.faults,
+                None => 0,
+            };
+            (workers, faults)
+        },
+    )
 }
 
 #[test]
 fn any_number_of_workers_come_to_the_same(rt: HostRuntime) -> Result<(), AllocError> {
     for workers in 1..5u64 {
         for window in [1u32, 2, 8, 256] {
-            let judges = knowing(rt.alloc(), KNOWN, workers)?;
-            let (judges, end) = reduced(&rt, rt.alloc(), judges, window)?;
+            let mut bench = knowing(rt.alloc(), KNOWN, workers)?;
+            let end = reduced(&rt, rt.alloc(), &mut bench, window)?;
             assert!(rt; is_wanted(&end));
-            assert!(rt; judges.len() as u64 == workers);
+            assert!(rt; u64::from(bench.workers()) == workers);
         }
     }
     Ok(())
@@ -99,8 +115,8 @@ fn any_number_of_workers_come_to_the_same(rt: HostRuntime) -> Result<(), AllocEr
 
 #[test]
 fn a_failed_test_above_the_hit_is_dropped(rt: HostRuntime) -> Result<(), AllocError> {
-    let judges = knowing(rt.alloc(), WITH_A_FAULT, 4)?;
-    let (_, end) = reduced(&rt, rt.alloc(), judges, 8)?;
+    let mut bench = knowing(rt.alloc(), WITH_A_FAULT, 4)?;
+    let end = reduced(&rt, rt.alloc(), &mut bench, 8)?;
     assert!(rt; is_wanted(&end));
     Ok(())
 }
@@ -110,18 +126,19 @@ fn a_worker_whose_test_fails_ends_nothing(rt: HostRuntime) -> Result<(), AllocEr
     let mut judges = Vec::new(rt.alloc());
     judges.push(Knowing::new(KNOWN, 0))?;
     judges.push(Knowing::new(KNOWN, 100))?;
-    let (_, end) = reduced(&rt, rt.alloc(), judges, 8)?;
+    let mut bench = Bench::new(rt.alloc(), judges)?;
+    let end = reduced(&rt, rt.alloc(), &mut bench, 8)?;
     assert!(rt; is_wanted(&end));
     Ok(())
 }
 
 #[test]
 fn the_first_judges_failed_test_ends_it(rt: HostRuntime) -> Result<(), AllocError> {
-    let judges = knowing(rt.alloc(), FAILING, 2)?;
-    let (judges, end) = reduced(&rt, rt.alloc(), judges, 8)?;
+    let mut bench = knowing(rt.alloc(), FAILING, 2)?;
+    let end = reduced(&rt, rt.alloc(), &mut bench, 8)?;
     assert!(rt; end.why == Why::Fault(14, 0));
     assert!(rt; end.turns == 13 && end.file.as_slice() == LINES);
-    assert!(rt; judges.first().is_some_and(|judge| judge.faults > 0));
+    assert!(rt; faults_of_first(rt.alloc(), &mut bench) > 0);
     Ok(())
 }
 
@@ -129,20 +146,9 @@ fn the_first_judges_failed_test_ends_it(rt: HostRuntime) -> Result<(), AllocErro
 fn trials_run_at_once(rt: HostRuntime) -> Result<(), AllocError> {
     let begun = AtomicU64::new(0);
     let missed = AtomicU64::new(0);
-    let mut judges = Vec::new(rt.alloc());
-    judges.push(Meeting {
-        begun: &begun,
-        missed: &missed,
-        asked: 0,
-    })?;
-    judges.push(Meeting {
-        begun: &begun,
-        missed: &missed,
-        asked: 0,
-    })?;
-    let (judges, end) = reduced(&rt, rt.alloc(), judges, 8)?;
+    let mut bench = meeting_bench(rt.alloc(), &begun, &missed)?;
+    let end = reduced(&rt, rt.alloc(), &mut bench, 8)?;
     assert!(rt; end.why == Why::Fixed && end.turns == 18);
     assert!(rt; missed.load(Ordering::SeqCst) == 0);
-    drop(judges);
     Ok(())
 }

@@ -1,7 +1,8 @@
 // As many workers work as are asked for.
 ghost use Rattle.std.specs.Prelude.{◌≡◌, ◌<◌, ◌≤◌, [], IfOk, None, length};
 
-use crate::epochs::{reaches, rejected_all, size_of};
+use crate::epochs::{rejected_all, size_of};
+use crate::meeting::reaches;
 use crate::remembered::lines;
 use cr_cursor::{NoMemory, Passes, TokenLaw, positions};
 use cr_outside::{Answer, Judge, Test};

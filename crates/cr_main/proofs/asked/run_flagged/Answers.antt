@@ -43,3 +43,9 @@ returns-in-None-clause-silent g c = c.run_unkept.ensures.silent
 
 pub returns-in-None-clause-keys : goal.returns-in-None-clause-keys
 returns-in-None-clause-keys g c = c.run_unkept.ensures.keys
+
+pub returns-in-Some-clause-silent : goal.returns-in-Some-clause-silent
+returns-in-Some-clause-silent g c = c.run_kept.ensures.silent
+
+pub returns-in-Some-clause-keys : goal.returns-in-Some-clause-keys
+returns-in-Some-clause-keys g c = c.run_kept.ensures.keys

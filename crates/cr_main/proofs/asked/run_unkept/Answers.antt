@@ -1,5 +1,5 @@
 use Rattle.std.proofs.Common.{refl}
-use Rattle.cr_main.specs.More.RunsAsked.{in_order, unbuilt}
+use Rattle.cr_main.specs.More.RunsAsked.{in_order, standing, unbuilt}
 use Rattle.cr_main.proofs.asked.run_unkept.Goals as goal
 
 pub returns-then-is_ordered-clause-runs : goal.returns-then-is_ordered-clause-runs
@@ -13,9 +13,26 @@ returns-then-is_ordered-clause-idle g c = λ none. absurd (c.requires.no_formula
 pub returns-then-is_ordered-clause-others : goal.returns-then-is_ordered-clause-others
 returns-then-is_ordered-clause-others g c = c.run_ordered.ensures.others
 
+pub returns-then-is_standing-clause-runs : goal.returns-then-is_standing-clause-runs
+returns-then-is_standing-clause-runs g c =
+    let it = c.run_given_standing.ensures.runs in
+    standing it.0 (c.is_standing.ensures.so c.if-is_standing.true) c.requires.no_formula it.1 it.2
+
+pub returns-then-is_standing-clause-idle : goal.returns-then-is_standing-clause-idle
+returns-then-is_standing-clause-idle g c = λ none. absurd (c.requires.no_formula (none.3 (c.is_standing.ensures.so c.if-is_standing.true)))
+
+pub returns-then-is_standing-clause-others : goal.returns-then-is_standing-clause-others
+returns-then-is_standing-clause-others g c = c.run_given_standing.ensures.others
+
+pub returns-then-is_standing-clause-silent : goal.returns-then-is_standing-clause-silent
+returns-then-is_standing-clause-silent g c = c.run_given_standing.ensures.silent
+
+pub returns-then-is_standing-clause-keys : goal.returns-then-is_standing-clause-keys
+returns-then-is_standing-clause-keys g c = c.run_given_standing.ensures.keys
+
 pub returns-clause-runs : goal.returns-clause-runs
-returns-clause-runs g c =
-    unbuilt (c.requires.flag, λ kept. absurd (c.requires.no_journal kept), λ is. absurd (c.is_ordered.ensures.other c.if-is_ordered.false is))
+returns-clause-runs g c = unbuilt
+    (c.requires.flag, λ kept. absurd (c.requires.no_journal kept), λ is. absurd (c.is_ordered.ensures.other c.if-is_ordered.false is), λ is. absurd (c.is_standing.ensures.other c.if-is_standing.false is))
     (record { story = refl; files = refl; judges = refl }) c.put_usage.ensures
 
 pub returns-clause-others : goal.returns-clause-others

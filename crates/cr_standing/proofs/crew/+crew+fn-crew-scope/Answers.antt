@@ -1,4 +1,4 @@
-use Rattle.std.proofs.Common.{rules, ◌≡◌, ◌<◌, ◌*◌, ◌+◌, List, length, ap, sym, subst, arith}
+use Rattle.std.proofs.Common.{rules, inl, inr, refl, ◌≡◌, ◌<◌, ◌*◌, ◌+◌, List, length, ap, sym, subst, arith}
 use Rattle.std.proofs.lemmas.List.{length_push}
 use Rattle.cr_standing.specs.Crew.{IsDone}
 use Rattle.cr_standing_workers.specs.Channels.{AllAre}
@@ -17,7 +17,7 @@ hand_on-requires g t c =
     let limit = c.args.plan.now.limit in
     let len = ap (λ (l : List g.row.J.Denot). length l) c.in-Some.ensures.items in
     let more = length_push c.pop.new.self.items c.in-Some.other in
-    record { room = has_room s g.J.Judge asks offer limit c.args.made c.args.walk c.args.judge c.pop.new.self.items c.crew-ended.result c.crew-ended.ensures (omega (arith, c.requires.few, len, more)) }
+    record { room = has_room s g.J.Judge asks offer limit c.args.made c.args.stops c.args.walk c.args.judge c.pop.new.self.items c.crew-ended.result c.crew-ended.ensures (omega (arith, c.requires.few, len, more)) }
 
 pub returns-then-len-stops : goal.returns-then-len-stops
 returns-then-len-stops g t c =
@@ -25,9 +25,9 @@ returns-then-len-stops g t c =
     let asks = g.Q.Question.asks c.args.task.now.question.now in
     let offer = g.P.Passes.offer c.args.task.now.passes.now in
     let limit = c.args.plan.now.limit in
-    subst (λ (l : List g.row.J.Denot). IsDone s g.J.Judge asks offer limit c.args.made c.args.walk c.args.judge l c.hand_on.result) (sym c.in-Some.ensures.items)
-    (one_joined s g.J.Judge asks offer limit c.args.made c.args.walk c.args.judge c.pop.new.self.items c.in-Some.other c.in-Some.other c.crew-ended.result c.hand_on.result c.crew-ended.ensures
-    (serves-refl g.J.Judge asks c.in-Some.other) c.hand_on.ensures.judges c.hand_on.ensures.same)
+    subst (λ (l : List g.row.J.Denot). IsDone s g.J.Judge asks offer limit c.args.made c.args.stops c.args.walk c.args.judge l c.hand_on.result) (sym c.in-Some.ensures.items)
+    (one_joined s g.J.Judge asks offer limit c.args.made c.args.stops c.args.walk c.args.judge c.pop.new.self.items c.in-Some.other c.in-Some.other c.crew-ended.result c.hand_on.result c.crew-ended.ensures
+    (serves-refl g.J.Judge asks c.in-Some.other) (inl refl) c.hand_on.ensures.judges c.hand_on.ensures.same)
 
 pub scoped-requires : goal.scoped-requires
 scoped-requires g t c =
@@ -38,8 +38,9 @@ scoped-requires g t c =
     let other_told : g.J.Judge.says (g.J.Judge.key c.in-Some.other) ≡ g.S.Subject.told = all_last Says c.pop.new.self.items c.in-Some.other all in
     let all_told : AllAre (λ j. g.J.Judge.says (g.J.Judge.key j) ≡ g.S.Subject.told) c.pop.new.self.items = all_front Says c.pop.new.self.items c.in-Some.other all in
     let few : length c.pop.new.self.items < c.args.made = omega (arith, c.requires.few, len, more) in
+    let works : length c.pop.new.self.items < c.args.stops = search rules in
     let falls : 2 * length c.pop.new.self.items + 1 < 2 * length c.args.others.items = omega (arith, len, more) in
-    search (rules, other_told, all_told, few, falls)
+    search (rules, other_told, all_told, few, works, falls)
 
 pub scope-hand_on-requires : goal.scope-hand_on-requires
 scope-hand_on-requires g t c =
@@ -47,7 +48,7 @@ scope-hand_on-requires g t c =
     let asks = g.Q.Question.asks c.captures.task.now.question.now in
     let offer = g.P.Passes.offer c.captures.task.now.passes.now in
     let limit = c.captures.plan.now.limit in
-    record { room = has_room s g.J.Judge asks offer limit c.captures.made c.captures.walk c.captures.judge c.captures.others.items c.crew-ended.result c.crew-ended.ensures c.requires.few }
+    record { room = has_room s g.J.Judge asks offer limit c.captures.made c.captures.stops c.captures.walk c.captures.judge c.captures.others.items c.crew-ended.result c.crew-ended.ensures c.requires.few }
 
 pub scope-returns : goal.scope-returns
 scope-returns g t c =
@@ -56,5 +57,5 @@ scope-returns g t c =
     let offer = g.P.Passes.offer c.captures.task.now.passes.now in
     let limit = c.captures.plan.now.limit in
     let served : Serves g.J.Judge asks c.captures.other c.match-started.other = elim c.match-started.branch [ scope-in-Ok w ↦ search rules | scope-in-Err w ↦ search rules ] in
-    one_joined s g.J.Judge asks offer limit c.captures.made c.captures.walk c.captures.judge c.captures.others.items c.captures.other c.match-started.other c.crew-ended.result c.hand_on.result c.crew-ended.ensures
-    served c.hand_on.ensures.judges c.hand_on.ensures.same
+    one_joined s g.J.Judge asks offer limit c.captures.made c.captures.stops c.captures.walk c.captures.judge c.captures.others.items c.captures.other c.match-started.other c.crew-ended.result c.hand_on.result c.crew-ended.ensures
+    served (inr c.requires.works) c.hand_on.ensures.judges c.hand_on.ensures.same

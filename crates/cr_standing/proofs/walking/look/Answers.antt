@@ -14,7 +14,7 @@ returns-in-NoneOf-clause-leads g c =
     let sound = c.requires.sound.as_plain in
     let to = walk.position + c.length_of-len.result in
     leads_over s (standing_at make walk) to (walk.turns + c.length_of-len.result) (omega arith) (omega (arith, c.length_of-len.ensures.placed, c.requires.below, sound.counted))
-    (rejected s make g.S.Subject.orders g.S.Subject.replies c.requires.about walk.file.items (make (arc_value walk.shared).prep walk.file.items) walk.position to sound.offered c.in-NoneOf.ensures.says)
+    (rejected s make g.S.Subject.orders g.S.Subject.replies g.S.Subject.verdicts c.requires.about walk.file.items (make (arc_value walk.shared).prep walk.file.items) walk.position to sound.offered c.in-NoneOf.ensures.says)
     (omega arith)
 
 pub returns-in-Fault-clause-leads : goal.returns-in-Fault-clause-leads
@@ -26,5 +26,5 @@ returns-in-Fault-clause-leads g c =
     let at = c.in-Fault.position in
     let says = c.in-Fault.ensures.says in
     leads_over s (standing_at make walk) at (walk.turns + (at - walk.position)) says.0 (omega (arith, says.1, c.length_of-len.ensures.placed, c.requires.below, sound.counted))
-    (rejected s make g.S.Subject.orders g.S.Subject.replies c.requires.about walk.file.items (make (arc_value walk.shared).prep walk.file.items) walk.position at sound.offered says.2)
+    (rejected s make g.S.Subject.orders g.S.Subject.replies g.S.Subject.verdicts c.requires.about walk.file.items (make (arc_value walk.shared).prep walk.file.items) walk.position at sound.offered says.2)
     (omega (arith, says.0))

@@ -17,7 +17,7 @@ take-requires-clause-smaller g c =
     let now = arc_value walk.shared in
     let made = subst (λ (file : List ℕ). AtPosition (make now.prep file) c.args.position (λ (bytes : List ℕ). c.make_variant.new.variant.items ≡ bytes)) c.requires.sound.same
     (subst (λ (sh : Shared g.row.P-Prep.Denot). AtPosition (make sh.prep sh.bytes.items) c.args.position (λ (bytes : List ℕ). c.make_variant.new.variant.items ≡ bytes)) c.deref.ensures c.in_ok-make_variant.ensures) in
-    found_smaller s make g.S.Subject.orders g.S.Subject.replies c.requires.about walk.file.items (make now.prep walk.file.items) c.args.position c.make_variant.new.variant.items
+    found_smaller s make g.S.Subject.orders g.S.Subject.replies g.S.Subject.verdicts c.requires.about walk.file.items (make now.prep walk.file.items) c.args.position c.make_variant.new.variant.items
     sound.offered (omega (arith, c.requires.below, sound.counted)) c.requires.found made
 
 pub returns-clause-leads : goal.returns-clause-leads
@@ -29,6 +29,6 @@ returns-clause-leads g c =
     let to = standing_at make c.take.new.walk in
     on_ok c.take.result (IsTaken (g.P.Passes.offers c.args.task.now.passes.now) from c.args.position to) (Leads s from to)
     (λ it. leads_taken s from to c.args.position it.at
-    (first_found s make g.S.Subject.orders g.S.Subject.replies c.requires.about walk.file.items (make (arc_value walk.shared).prep walk.file.items) walk.position c.args.position it.at
+    (first_found s make g.S.Subject.orders g.S.Subject.replies g.S.Subject.verdicts c.requires.about walk.file.items (make (arc_value walk.shared).prep walk.file.items) walk.position c.args.position it.at
     c.requires.sound.as_plain.offered c.requires.from it.there c.requires.rejected c.requires.found) it)
     c.take.ensures.taken
