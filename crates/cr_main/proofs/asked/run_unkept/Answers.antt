@@ -55,3 +55,6 @@ returns-clause-keys g c = refl
 
 pub run_ordered-requires-clause-runnable : goal.run_ordered-requires-clause-runnable
 run_ordered-requires-clause-runnable g c = λ sends shares. c.requires.runnable
+
+pub run_given_standing-requires-clause-runnable : goal.run_given_standing-requires-clause-runnable
+run_given_standing-requires-clause-runnable g c = λ sends shares. c.requires.runnable
