@@ -1,12 +1,15 @@
 -- What every end of a reduction by standing workers has.
-use Rattle.std.proofs.Common.{inl, inr, ℕ, List, Option, sym, subst}
+use Rattle.std.proofs.Common.{inl, inr, ℕ, List, [], Option, arith, sym, subst}
 use Rattle.cr_reduce.specs.Bench.{Judging}
 use Rattle.cr_reduce.specs.declared.end.End.{End}
 use Rattle.cr_reduce.specs.Ends.{outcome_of}
 use Rattle.cr_reduce.specs.Reduction.{start_of}
 use Rattle.cr_reduce.specs.Search.{FailsInRun, Search}
-use Rattle.cr_main_task.proofs.Outcomes.{InPasses, Sized, no_passes, out_passes, out_sized, some_reduction}
+use Rattle.cr_main_task.proofs.Outcomes.{InPasses, Sized, out_passes, out_sized, some_reduction}
 use Rattle.cr_standing_workers.specs.Told.{AcceptsIfTold, EndsIfTold, ReducesFileIfTold, RejectsIfTold}
+
+no_passes : InPasses []
+no_passes = λ k d below. absurd (omega arith)
 
 module _ (s : Search) (before now : Judging) (limit : Option ℕ) (file : List ℕ) (end : End) (chain : EndsIfTold s before now limit file end) where
   pub end_sized : Sized file → Sized end.file.items
