@@ -117,17 +117,26 @@ journal_word_fault() {
     else return 1; fi
 }
 
+# order_word_fault: why nothing is asked of orders with these words, where that is asked for.
+order_word_fault() {
+    has_mode --any-order || return
+    if [ "${modes[0]}" = "${modes[1]:-}" ]; then echo "${modes[0]} stands twice"
+    elif [ "${#modes[@]}" -gt 1 ]; then echo "${modes[0]} and ${modes[1]} don't go together"
+    elif [[ ${places[0]:-} == if:* ]]; then echo '--any-order takes a test program or has:TEXT, and no formula'
+    else return 1; fi
+}
+
 # word_fault WORD..: the first word that is in no form, and why.
 word_fault() {
     local name value seen=' ' found valued=$valued rule=places_fault
     local -a rest=()
-    found=$(journal_word_fault) && [ "${1-}" != --replay ] && echo "$found" && return
+    found=$(journal_word_fault || order_word_fault) && [ "${1-}" != --replay ] && echo "$found" && return
     if [ "${1-}" = --replay ]; then shift && valued=' --steps --passes ' rule=names_fault; fi
     while [ $# -gt 0 ]; do
         case $1 in
         --) shift && rest+=("$@") && break ;;
         --*=*) name=${1%%=*} value=${1#*=} ;;
-        --journal | --resume) [ "$rule" = names_fault ] || { shift && continue; } && name=$1 value='' ;;
+        --journal | --resume | --any-order) [ "$rule" = names_fault ] || { shift && continue; } && name=$1 value='' ;;
         --*) name=$1 value='' ;;
         -?*) echo "\"$1\" is no option"; return ;;
         *) rest+=("$1") && shift && continue ;;

@@ -22,7 +22,7 @@ use Rattle.cr_main_words.specs.declared.settings.Settings.{Settings}
 use Rattle.cr_main_words.proofs.Asking.{one_modes, one_request}
 use Rattle.cr_main_words.proofs.Giving.{one_settings}
 use Rattle.cr_main.specs.More.{CompletesByFormula, RunsMore, RunsWord, word_of}
-use Rattle.cr_main.specs.More.RunsAsked.{by_word, kept, plain, unbuilt}
+use Rattle.cr_main.specs.More.RunsAsked.{by_word, in_order, kept, plain, unbuilt}
 use Rattle.cr_main.specs.More.RunsMore.{asks_nothing, reduction, replay, unread_words}
 use Rattle.cr_main.specs.More.RunsWord.{by_formula, spells_none, unread_word}
 use Rattle.cr_main.specs.Task.{formula_task_of, text_of}
@@ -72,6 +72,8 @@ module _ (words : List Word) (most : ℕ) (says : Telling) (old new : Outside) (
   completes_more (reduction b modes asks (unbuilt why idle said)) = λ a form own task all. absurd (why.0 (one_modes words modes plain_modes asks.flags task.asks.flags))
   completes_more (reduction b modes asks (by_word is formula run)) = word_completes b modes asks run
   completes_more (reduction b modes asks (plain name is none is_own run)) = λ a form own task all.
+      absurd (none (same_formula a.test b.test (alike a b modes task.asks asks).tests (spelled_is_formula a.test form task.spells)))
+  completes_more (reduction b modes asks (in_order name is none is_own run)) = λ a form own task all.
       absurd (none (same_formula a.test b.test (alike a b modes task.asks asks).tests (spelled_is_formula a.test form task.spells)))
   completes_more (reduction b modes asks (kept resumes name is none is_own run survives)) = λ a form own task all.
       absurd (none (same_formula a.test b.test (alike a b modes task.asks asks).tests (spelled_is_formula a.test form task.spells)))

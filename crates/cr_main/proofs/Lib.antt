@@ -4,6 +4,8 @@ pub mod OneTask
 pub mod Promises
 pub mod Sources
 pub mod Paths
+pub mod OrderedLaw
+pub mod OrderedModes
 pub mod KeptModes
 pub mod KeptTask
 pub mod More

@@ -2,7 +2,8 @@
 use Rattle.std.proofs.Common.{◌≡◌, ◌⊎◌, ◌<◌, inl, inr, ℕ, Bool, true, false, List, codes, refl, sym, ap, subst, ◌∙◌, arith}
 use Rattle.cr_formula.specs.Forms.{Form, Spells}
 use Rattle.cr_outside.specs.Question.{Says as Telling}
-use Rattle.cr_outside.specs.Story.{EndsWithFault}
+use Rattle.cr_outside.specs.Story.{EndsWithFault, GoesOn}
+use Rattle.cr_outside.proofs.Stories.{goes_nowhere}
 use Rattle.cr_reduce.specs.Bench.{Judging}
 use Rattle.cr_main_formula.proofs.Headline.{formula_done}
 use Rattle.cr_main_formula.proofs.Promises.{formula_faults, formula_finished, formula_journal, formula_keeps, formula_never_fails}
@@ -13,9 +14,15 @@ use Rattle.cr_main_kept.proofs.Promises.{kept_promises}
 use Rattle.cr_main_replay.proofs.Promises.{replay_faults, replay_files, replay_keeps_journal}
 use Rattle.cr_main_replay.proofs.Statuses.{replayed}
 use Rattle.cr_main_task.specs.Outside.{Outside}
-use Rattle.cr_main_task.specs.Run.{RunsTask}
+use Rattle.cr_main_task.specs.Run.{RunsTask, by_epochs}
 use Rattle.cr_main_task.specs.Task.{Task}
 use Rattle.cr_main_task.specs.Story.{KeepsJournal, journal_told}
+use Rattle.cr_main_task.proofs.Askings.{task_asks}
+use Rattle.cr_main_task.proofs.Calls.{task_faults}
+use Rattle.cr_main_task.proofs.Endings.{task_ends}
+use Rattle.cr_main_task.proofs.Headlines.{few_asked, task_done}
+use Rattle.cr_main_task.proofs.Journals.{task_keeps_journal}
+use Rattle.cr_main_task.proofs.Keeping.{task_keeps}
 use Rattle.cr_main_task.proofs.Statuses.{put_status}
 use Rattle.cr_main_words.specs.Flags.{GivesModes, is_journal, is_resume, plain_modes, rest_of}
 use Rattle.cr_main_words.specs.Giving.{HasSettings}
@@ -34,19 +41,19 @@ use Rattle.cr_main_words.proofs.Giving.{one_settings}
 use Rattle.cr_main.specs.Headline.{Promises}
 use Rattle.cr_main.specs.Headline.AsksOnly.{run_asks_nothing}
 use Rattle.cr_main.specs.Headline.KeepsFiles.{files_unchanged}
-use Rattle.cr_main.specs.More.{AsksForJournal, AsksMore, Does, EndsMore, IsFormula, IsFormulaTask, IsKeptTask, IsPlain, IsQuiet, IsSilent, KeepsMore, MayRun, RunsKept, RunsMore, RunsWord, SurvivesMore, kept_modes, replaying_by, word_of}
-use Rattle.cr_main.specs.More.AsksMore.{asked_by_task, asked_with_journal}
-use Rattle.cr_main.specs.More.EndsMore.{of_formula, of_kept, of_nothing, of_reduction, of_replay}
-use Rattle.cr_main.specs.More.KeepsMore.{kept_by_formula, kept_by_task, kept_with_journal}
-use Rattle.cr_main.specs.More.RunsAsked.{by_word, kept, plain, unbuilt}
+use Rattle.cr_main.specs.More.{AsksForJournal, AsksMore, Does, EndsMore, IsFormula, IsFormulaTask, IsKeptTask, IsOrderedTask, IsPlain, IsQuiet, IsSilent, KeepsMore, MayRun, RunsKept, RunsMore, RunsWord, SurvivesMore, kept_modes, ordered_modes, replaying_by, word_of}
+use Rattle.cr_main.specs.More.AsksMore.{asked_by_task, asked_in_order, asked_with_journal}
+use Rattle.cr_main.specs.More.EndsMore.{of_formula, of_kept, of_nothing, of_ordered, of_reduction, of_replay}
+use Rattle.cr_main.specs.More.KeepsMore.{kept_by_formula, kept_by_task, kept_in_order, kept_with_journal}
+use Rattle.cr_main.specs.More.RunsAsked.{by_word, in_order, kept, plain, unbuilt}
 use Rattle.cr_main.specs.More.RunsMore.{asks_nothing, reduction, replay, unread_words}
 use Rattle.cr_main.specs.More.RunsWord.{by_formula, spells_none, unread_word}
 use Rattle.cr_main.specs.Run.{Runs}
 use Rattle.cr_main.specs.Run.Runs.{no_settings, on_task, unsorted}
-use Rattle.cr_main.specs.Task.{formula_task_of, marks_of, saves_of, task_of, text_of}
+use Rattle.cr_main.specs.Task.{formula_task_of, marks_of, ordered_task_of, saves_of, task_of, text_of}
 use Rattle.cr_main.proofs.KeptTask.{survives_alike, unmoved}
 use Rattle.cr_main.proofs.Paths.{same_formula}
-use Rattle.cr_main.proofs.Promises.{opens_fails, opens_keep, opens_on, promises}
+use Rattle.cr_main.proofs.Promises.{opens_fails, opens_keep, opens_on, promises, told_of}
 use Rattle.cr_main.proofs.Runnable.{is_runnable}
 
 plain_flags : (words : List Word) → HasNoFlag words → GivesModes words plain_modes
@@ -72,6 +79,13 @@ not_plain : (resumes : Bool) → kept_modes resumes ≡ plain_modes → ⊥
 not_plain true is = let differ = ap (λ (m : Modes). is_resume m.engine) is in cc
 not_plain false is = let differ = ap (λ (m : Modes). is_journal m.engine) is in cc
 
+-- nor are those with the flag on orders, and they keep no journal
+not_ordered : ordered_modes ≡ plain_modes → ⊥
+not_ordered is = let differ = ap (λ (m : Modes). m.any_order) is in cc
+
+no_journal : (resumes : Bool) → kept_modes resumes ≡ ordered_modes → ⊥
+no_journal resumes is = let differ = ap (λ (m : Modes). m.any_order) is in cc
+
 -- with a journal the file is one of a name, which is written
 pub kept_saves : (resumes : Bool) (from : Source) → Suits (kept_modes resumes).engine from → saves_of from ≡ true
 kept_saves resumes (source.Named name) suits = refl
@@ -96,6 +110,7 @@ module _ (words : List Word) (most : ℕ) (says : Telling) (old new : Outside) (
   as_run (reduction settings modes asks (unbuilt why idle said)) it = absurd (why.0 (plain_modes_asked words most settings modes asks it))
   as_run (reduction settings modes asks (by_word is formula run)) it = absurd (no_formula_asked words most settings modes asks it formula)
   as_run (reduction settings modes asks (plain own is none is_own run)) it = on_task settings own (plain_settings words most settings modes asks is) is_own run
+  as_run (reduction settings modes asks (in_order own is none is_own run)) it = absurd (not_ordered (sym is ∙ plain_modes_asked words most settings modes asks it))
   as_run (reduction settings modes asks (kept resumes own is none is_own run survives)) it = absurd (not_plain resumes (sym is ∙ plain_modes_asked words most settings modes asks it))
   as_run (replay asked asks quiet run) it = absurd (it.no_replay asks.0 asks.1)
 
@@ -113,6 +128,11 @@ module _ (words : List Word) (most : ℕ) (says : Telling) (old new : Outside) (
   kept_here settings modes resumes own asks is run =
       kept_promises (task_of settings says own) (marks_of settings) old new before after has_failed status
       (kept_saves resumes settings.source (subst (HasReduction words most settings) is asks).suits) (kept_run resumes (task_of settings says own) (marks_of settings) old new before after has_failed status run)
+
+  -- a run whose programs run alike in any order
+  ordered_asked : (settings : Settings) (modes : Modes) (own : List ℕ) → HasReduction words most settings modes → modes ≡ ordered_modes → (IsFormula settings.test → ⊥)
+      → IsOwnName (name_of settings.source) own → IsOrderedTask words most settings own
+  ordered_asked settings modes own asks is none is_own = record { asks = subst (HasReduction words most settings) is asks; no_formula = none; is_own = is_own }
 
   formula_asked : (settings : Settings) (modes : Modes) (form : Form) (own : List ℕ) → HasReduction words most settings modes → modes ≡ plain_modes → Spells (word_of settings.test) form
       → IsOwnName (name_of settings.source) own → IsFormulaTask words most settings form own
@@ -135,6 +155,12 @@ module _ (words : List Word) (most : ℕ) (says : Telling) (old new : Outside) (
   ends_more (reduction settings modes asks (by_word is formula run)) = ends_by_word settings modes asks is run
   ends_more (reduction settings modes asks (plain own is none is_own run)) =
       let it = plain_runs settings modes own asks is is_own run in of_reduction modes settings asks none it.headline it.finished
+  ends_more (reduction settings modes asks (in_order own is none is_own run)) =
+      let t = ordered_task_of settings says own in
+      let text = text_of settings.source old.files in
+      of_ordered settings own (ordered_asked settings modes own asks is none is_own)
+      (λ done. let it = task_done t (by_epochs t) (told_of t) text old new status done before after run in record { reduced = it; few = few_asked t text old new before after status done it })
+      (λ late. task_ends t (by_epochs t) (told_of t) text old new status late before after run)
   ends_more (reduction settings modes asks (kept resumes own is none is_own run survives)) =
       let it = kept_here settings modes resumes own asks is run in of_kept settings own (kept_asked settings modes resumes own asks is none is_own) it.ends it.failed it.refused
   ends_more (replay asked asks quiet run) = of_replay asked asks (replayed (replaying_by asked) old new status run)
@@ -153,6 +179,9 @@ module _ (words : List Word) (most : ℕ) (says : Telling) (old new : Outside) (
   keeps_more (reduction settings modes asks (unbuilt why idle said)) = kept_by_task (files_unchanged idle.files)
   keeps_more (reduction settings modes asks (by_word is formula run)) = keeps_by_word settings modes asks is run
   keeps_more (reduction settings modes asks (plain own is none is_own run)) = kept_by_task (plain_runs settings modes own asks is is_own run).files_kept
+  keeps_more (reduction settings modes asks (in_order own is none is_own run)) =
+      let t = ordered_task_of settings says own in
+      kept_in_order settings own (ordered_asked settings modes own asks is none is_own) (task_keeps t (by_epochs t) (text_of settings.source old.files) old new before after status run)
   keeps_more (reduction settings modes asks (kept resumes own is none is_own run survives)) =
       kept_with_journal settings own (kept_asked settings modes resumes own asks is none is_own) (kept_here settings modes resumes own asks is run).files_kept
   keeps_more (replay asked asks quiet run) = kept_by_task (files_unchanged (replay_files (replaying_by asked) old new status run))
@@ -174,6 +203,10 @@ module _ (words : List Word) (most : ℕ) (says : Telling) (old new : Outside) (
   fault_more (reduction settings modes asks (unbuilt why idle said)) nine = absurd (not_nine (put_status old new _ 2 status said) nine)
   fault_more (reduction settings modes asks (by_word is formula run)) nine = fault_by_word settings run nine
   fault_more (reduction settings modes asks (plain own is none is_own run)) nine = (plain_runs settings modes own asks is is_own run).fault_last nine
+  fault_more (reduction settings modes asks (in_order own is none is_own run)) nine =
+      let t = ordered_task_of settings says own in
+      task_faults t (by_epochs t) (text_of settings.source old.files) (λ a b same. subst (GoesOn a) (sym same) (goes_nowhere a)) (opens_on settings.source old.files) (opens_fails settings.source old.files)
+      old new status nine before after run
   fault_more (reduction settings modes asks (kept resumes own is none is_own run survives)) nine = (kept_here settings modes resumes own asks is run).fault_last nine
   fault_more (replay asked asks quiet run) nine = replay_faults (replaying_by asked) old new status run nine
 
@@ -189,6 +222,9 @@ module _ (words : List Word) (most : ℕ) (says : Telling) (old new : Outside) (
   journal_more (reduction settings modes asks (unbuilt why idle said)) unasked = ap journal_told idle.story
   journal_more (reduction settings modes asks (by_word is formula run)) unasked = journal_by_word settings run
   journal_more (reduction settings modes asks (plain own is none is_own run)) unasked = (plain_runs settings modes own asks is is_own run).journal_kept
+  journal_more (reduction settings modes asks (in_order own is none is_own run)) unasked =
+      let t = ordered_task_of settings says own in
+      task_keeps_journal t (by_epochs t) (text_of settings.source old.files) (λ a b same. ap journal_told same) (opens_keep settings.source old.files) old new before after status run
   journal_more (reduction settings modes asks (kept resumes own is none is_own run survives)) unasked =
       absurd (unasked (settings, own, kept_asked settings modes resumes own asks is none is_own))
   journal_more (replay asked asks quiet run) unasked = replay_keeps_journal (replaying_by asked) old new status run
@@ -202,6 +238,7 @@ module _ (words : List Word) (most : ℕ) (says : Telling) (old new : Outside) (
       (why.1 (task.resumes, one_modes words modes (kept_modes task.resumes) asks.flags task.asks.flags))))
   survives_more (reduction b modes asks (by_word is formula run)) = λ a name task. absurd (not_plain task.resumes (one_modes words (kept_modes task.resumes) modes task.asks.flags asks.flags ∙ is))
   survives_more (reduction b modes asks (plain own is none is_own run)) = λ a name task. absurd (not_plain task.resumes (one_modes words (kept_modes task.resumes) modes task.asks.flags asks.flags ∙ is))
+  survives_more (reduction b modes asks (in_order own is none is_own run)) = λ a name task. absurd (no_journal task.resumes (one_modes words (kept_modes task.resumes) modes task.asks.flags asks.flags ∙ is))
   survives_more (reduction b modes asks (kept resumes own is none is_own run survives)) = λ a name task.
       survives_alike (rest_of words) most b a own name (record { gives = asks.rest; is_own = is_own }) (record { gives = task.asks.rest; is_own = task.is_own }) says old new status survives
   survives_more (replay asked asks quiet run) = λ a name task. absurd (one_request words most (request.Reduction a (kept_modes task.resumes)) (request.Replay asked) task.asks asks)
@@ -217,6 +254,8 @@ module _ (words : List Word) (most : ℕ) (says : Telling) (old new : Outside) (
   asks_more (reduction settings modes asks (unbuilt why idle said)) = asked_by_task (run_asks_nothing idle.judges)
   asks_more (reduction settings modes asks (by_word is formula run)) = asked_by_task (run_asks_nothing (quiet_by_word settings run))
   asks_more (reduction settings modes asks (plain own is none is_own run)) = asked_by_task (plain_runs settings modes own asks is is_own run).asks_only
+  asks_more (reduction settings modes asks (in_order own is none is_own run)) =
+      asked_in_order settings own (ordered_asked settings modes own asks is none is_own) (task_asks (ordered_task_of settings says own) (text_of settings.source old.files) old new before after status run)
   asks_more (reduction settings modes asks (kept resumes own is none is_own run survives)) =
       asked_with_journal settings own (kept_asked settings modes resumes own asks is none is_own) (kept_here settings modes resumes own asks is run).asks_only
   asks_more (replay asked asks quiet run) = asked_by_task (run_asks_nothing quiet)

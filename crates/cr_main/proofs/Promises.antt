@@ -40,7 +40,7 @@ use Rattle.cr_main.specs.Task.{saves_of, task_of, text_of}
 use Rattle.cr_main.proofs.OneTask.{all_alike, same_saves}
 
 -- where the answers are told, the reduction by epochs is the one-thread first-accepted one
-told_of : (t : Task) (since after : Judging) (bytes : List ℕ) (end : End) → IsReduction t since after bytes end → IsToldReduction t bytes end
+pub told_of : (t : Task) (since after : Judging) (bytes : List ℕ) (end : End) → IsReduction t since after bytes end → IsToldReduction t bytes end
 told_of t since after bytes end it = record { reduction = it.reduction; fixed_point = it.fixed_point }
 
 pub passes_levels : (enabled : List Bool) → HasLevels (Offers enabled) levels_at

@@ -1,5 +1,5 @@
 -- What a run comes to, of all that words may ask for.
-use Rattle.std.specs.Prelude.{◌≡◌, ◌≢◌, ◌⊎◌, ℕ, Bool, true, false, List, [], ◌++◌, codes, cond, drop}
+use Rattle.std.specs.Prelude.{◌≡◌, ◌≢◌, ◌⊎◌, ◌+◌, ◌*◌, ◌-◌, ℕ, Bool, true, false, List, [], ◌++◌, codes, cond, drop, length}
 use Rattle.std.specs.String.{string_bytes}
 use Rattle.cr_formula.specs.Forms.{Form, Spells}
 use Rattle.cr_outside.specs.Question.{Says}
@@ -7,7 +7,7 @@ use Rattle.cr_outside.specs.Story.{files_told}
 use Rattle.cr_outside.specs.Test.{asks_test}
 use Rattle.cr_outside.specs.declared.test.Test.{Test}
 use Rattle.cr_outside.specs.declared.test.Test.TheVariants as test
-use Rattle.cr_reduce.specs.Bench.{Judging}
+use Rattle.cr_reduce.specs.Bench.{AsksAtMost, Judging}
 use Rattle.cr_main_formula.specs.Formulas.{HasAllBound, HasFormulaFinished, IsFormulaHeadline, KeepsFormula, RunsFormula}
 use Rattle.cr_main_kept.specs.Kept.{RunsJournal, RunsResume}
 use Rattle.cr_main_kept.specs.Promises.{AsksOnlyOn, CopiesAtMost, EndsOn, KeepsFilesOn}
@@ -15,8 +15,9 @@ use Rattle.cr_main_kept.specs.Surviving.{Survives}
 use Rattle.cr_main_kept.specs.declared.header.Marks.{Marks}
 use Rattle.cr_main_replay.specs.Replay.{IsReplayed, Replaying, RunsReplay}
 use Rattle.cr_main_replay_programs.specs.Replay.{replaying_of}
+use Rattle.cr_main_task.specs.Headline.{AsksOnlyOf, HasReduced, KeepsTask, TaskEnded}
 use Rattle.cr_main_task.specs.Outside.{Outside, Puts}
-use Rattle.cr_main_task.specs.Run.{RunsTask}
+use Rattle.cr_main_task.specs.Run.{RunsTask, by_epochs}
 use Rattle.cr_main_task.specs.Task.{Task}
 use Rattle.cr_main_words.specs.Flags.{plain_modes}
 use Rattle.cr_main_words.specs.Giving.{HasSettings}
@@ -33,7 +34,7 @@ use Rattle.cr_main_words.specs.declared.settings.Settings.{Settings}
 use Rattle.cr_main.specs.Headline.{AsksOnly, HasEnded, IsHeadline, KeepsFiles}
 use Rattle.cr_main.specs.Messages.{usage_line}
 use Rattle.cr_main.specs.Run.{DoesNothing}
-use Rattle.cr_main.specs.Task.{IsRunnable, formula_task_of, marks_of, task_of, text_of}
+use Rattle.cr_main.specs.Task.{IsRunnable, formula_task_of, marks_of, ordered_task_of, task_of, text_of}
 
 -- a word begins with if:
 abbrev pub BeginsWithIf : List ℕ → Type 0
@@ -56,9 +57,13 @@ kept_modes resumes = record { engine = cond resumes engine.Resume engine.Journal
 abbrev pub IsKept : Modes → Type 0
 IsKept modes = (resumes : Bool) × (modes ≡ kept_modes resumes)
 
--- what isn't built is asked for: another flag, or a journal of a run by a formula
+-- the modes of a list with the one flag that asks for programs which run alike in any order
+abbrev pub ordered_modes : Modes
+ordered_modes = record { engine = engine.Plain; any_order = true }
+
+-- what isn't built is asked for: several flags, standing workers, or a flag and a run by a formula
 abbrev pub IsUnbuilt : Settings → Modes → Type 0
-IsUnbuilt settings modes = (modes ≢ plain_modes) × (IsKept modes → IsFormula settings.test)
+IsUnbuilt settings modes = (modes ≢ plain_modes) × (IsKept modes → IsFormula settings.test) × (modes ≡ ordered_modes → IsFormula settings.test)
 
 -- what a run comes to that begins a journal, or that goes on with it
 abbrev pub RunsKept : Bool → Task → Marks → Outside → Outside → Judging → Judging → Bool → ℕ → Type 0
@@ -82,6 +87,8 @@ pub data RunsAsked (settings : Settings) (modes : Modes) (says : Says) (old new 
   by_word : modes ≡ plain_modes → IsFormula settings.test → RunsWord settings (word_of settings.test) old new before after status → RunsAsked settings modes says old new before after has_failed status
   plain : (own : List ℕ) → modes ≡ plain_modes → (IsFormula settings.test → ⊥) → IsOwnName (name_of settings.source) own
       → RunsTask (task_of settings says own) (text_of settings.source old.files) old new before after status → RunsAsked settings modes says old new before after has_failed status
+  in_order : (own : List ℕ) → modes ≡ ordered_modes → (IsFormula settings.test → ⊥) → IsOwnName (name_of settings.source) own
+      → RunsTask (ordered_task_of settings says own) (text_of settings.source old.files) old new before after status → RunsAsked settings modes says old new before after has_failed status
   kept : (resumes : Bool) (own : List ℕ) → modes ≡ kept_modes resumes → (IsFormula settings.test → ⊥) → IsOwnName (name_of settings.source) own
       → RunsKept resumes (task_of settings says own) (marks_of settings) old new before after has_failed status → Survives (task_of settings says own) (marks_of settings) old new status
       → RunsAsked settings modes says old new before after has_failed status
@@ -154,11 +161,25 @@ AsksForJournal words most = (settings : Settings) × (own : List ℕ) × IsKeptT
 abbrev pub SurvivesMore : List Word → ℕ → Says → Outside → Outside → ℕ → Type 0
 SurvivesMore words most says old new status = (settings : Settings) (own : List ℕ) → IsKeptTask words most settings own → Survives (task_of settings says own) (marks_of settings) old new status
 
+-- What is asked of a run is that programs run alike in any order: the words ask for that with these settings, whose test is no formula, and
+-- the file has this own name.
+pub record IsOrderedTask (words : List Word) (most : ℕ) (settings : Settings) (own : List ℕ) : Type 0 where
+  pub asks : HasReduction words most settings ordered_modes
+  pub no_formula : IsFormula settings.test → ⊥
+  pub is_own : IsOwnName (name_of settings.source) own
+
+-- **The headline, where no lawful program's run hangs on an order of operands.**
+pub record IsOrderedHeadline (settings : Settings) (own : List ℕ) (says : Says) (old new : Outside) (before after : Judging) (status : ℕ) : Type 0 where
+  pub reduced : HasReduced (ordered_task_of settings says own) (by_epochs (ordered_task_of settings says own)) (text_of settings.source old.files) old new before after status
+  pub few : AsksAtMost (reduced.end.turns + length reduced.end.accepted.items * (settings.window - 1) + 1) before after
+
 -- What stands at 0, 7, 8 and 10: of a reduction the headline, or its files as far as it went; of one by a formula likewise, with no
 -- premise on the outside, and 8 doesn't come; of a replay, that **the log leads from the copy to the file**.
 pub data EndsMore (words : List Word) (most : ℕ) (says : Says) (old new : Outside) (before after : Judging) (has_failed : Bool) (status : ℕ) : Type 0 where
   of_reduction : (modes : Modes) (settings : Settings) → HasReduction words most settings modes → (IsFormula settings.test → ⊥) → ((status ≡ 0) ⊎ (status ≡ 7) → IsHeadline words most says old new before after status)
       → ((status ≡ 8) ⊎ (status ≡ 10) → HasEnded words most says old new status) → EndsMore words most says old new before after has_failed status
+  of_ordered : (settings : Settings) (own : List ℕ) → IsOrderedTask words most settings own → ((status ≡ 0) ⊎ (status ≡ 7) → IsOrderedHeadline settings own says old new before after status)
+      → ((status ≡ 8) ⊎ (status ≡ 10) → TaskEnded (ordered_task_of settings says own) (text_of settings.source old.files) old new status) → EndsMore words most says old new before after has_failed status
   of_formula : (settings : Settings) (form : Form) (own : List ℕ) → IsFormulaTask words most settings form own
       → ((status ≡ 0) ⊎ (status ≡ 7) → IsFormulaHeadline (formula_task_of settings form own) (text_of settings.source old.files) old new before after status)
       → (status ≡ 10 → HasFormulaFinished (formula_task_of settings form own) (text_of settings.source old.files) old new status) → (status ≡ 8 → ⊥) → EndsMore words most says old new before after has_failed status
@@ -176,12 +197,16 @@ pub data KeepsMore (words : List Word) (most : ℕ) (says : Says) (old new : Out
   kept_by_task : KeepsFiles words most says old new after → KeepsMore words most says old new after
   kept_by_formula : (settings : Settings) (form : Form) (own : List ℕ) → IsFormulaTask words most settings form own
       → KeepsFormula (formula_task_of settings form own) (text_of settings.source old.files) old new after → KeepsMore words most says old new after
+  kept_in_order : (settings : Settings) (own : List ℕ) → IsOrderedTask words most settings own
+      → KeepsTask (ordered_task_of settings says own) (by_epochs (ordered_task_of settings says own)) (text_of settings.source old.files) old new after → KeepsMore words most says old new after
   kept_with_journal : (settings : Settings) (own : List ℕ) → IsKeptTask words most settings own → KeepsFilesOn (task_of settings says own) (files_told old.story) (files_told new.story) after
       → KeepsMore words most says old new after
 
 -- What the test is asked.
 pub data AsksMore (words : List Word) (most : ℕ) (says : Says) (old : Outside) (before after : Judging) : Type 0 where
   asked_by_task : AsksOnly words most says old before after → AsksMore words most says old before after
+  asked_in_order : (settings : Settings) (own : List ℕ) → IsOrderedTask words most settings own
+      → AsksOnlyOf (ordered_task_of settings says own) (text_of settings.source old.files) before after → AsksMore words most says old before after
   asked_with_journal : (settings : Settings) (own : List ℕ) → IsKeptTask words most settings own → AsksOnlyOn (task_of settings says own) (files_told old.story) before after
       → AsksMore words most says old before after
 

@@ -2,7 +2,9 @@
 use Rattle.std.specs.Prelude.{◌<◌, ◌≤◌, ℕ, Bool, true, false, List, [], Option}
 use Rattle.cr_formula.specs.Forms.{Form}
 use Rattle.cr_gen.specs.Program.{generated}
+use Rattle.cr_cursor.specs.declared.law.Reason.{Reason}
 use Rattle.cr_lawful.specs.Lawful.{IsLawful, IsReason, limits_of}
+use Rattle.cr_order.specs.Orders.{IsLawfulInOrder, IsOrderReason}
 use Rattle.cr_outside.specs.Files.{Names}
 use Rattle.cr_outside.specs.Question.{Says}
 use Rattle.cr_outside.specs.Test.{asks_test, tells_test}
@@ -27,17 +29,24 @@ abbrev pub saves_of : Source → Bool
 saves_of (source.Named name) = true
 saves_of (source.Made number items) = false
 
--- the task of settings, for judges who say this, with the file's own name: the enabled passes, the law of
--- programs whose runs take at most the steps of the settings, and the test
-abbrev pub task_of : Settings → Says → List ℕ → Task
-task_of settings says own = record {
-  search = search_of (Offers settings.enabled) (IsLawful (limits_of settings.steps)) (asks_test settings.test) (tells_test settings.test) says own [];
-  Against = IsReason (limits_of settings.steps);
+-- the task of settings by a law, for judges who say this, with the file's own name: the enabled passes, and the test
+abbrev pub task_by : (List ℕ → Type 0) → (List ℕ → Reason → Type 0) → Settings → Says → List ℕ → Task
+task_by Lawful Against settings says own = record {
+  search = search_of (Offers settings.enabled) Lawful (asks_test settings.test) (tells_test settings.test) says own [];
+  Against = Against;
   window = settings.window;
   limit = settings.limit;
   name = name_of settings.source;
   saves = saves_of settings.source;
 }
+
+-- the law is that of programs whose runs take at most the steps of the settings
+abbrev pub task_of : Settings → Says → List ℕ → Task
+task_of settings says own = task_by (IsLawful (limits_of settings.steps)) (IsReason (limits_of settings.steps)) settings says own
+
+-- and these runs hang on no order of operands
+abbrev pub ordered_task_of : Settings → Says → List ℕ → Task
+ordered_task_of settings says own = task_by (IsLawfulInOrder (limits_of settings.steps)) (IsOrderReason (limits_of settings.steps)) settings says own
 
 -- what the header of a journal has of settings, beside the limit
 abbrev pub marks_of : Settings → Marks

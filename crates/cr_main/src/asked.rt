@@ -2,14 +2,14 @@
 ghost use Rattle.std.specs.Prelude.{◌≡◌, MatchOption, drop, false, length, string_bytes, true};
 ghost use Rattle.cr_outside.specs.Test.{asks_test};
 ghost use Rattle.cr_reduce.specs.Bench.{judging, keys_of, says_of};
-ghost use Rattle.cr_main.specs.More.{BeginsWithIf, Does, IsFormula, IsKept, IsQuiet, IsUnbuilt, LeavesOthers, MayRun, RunsAsked, kept_modes, word_of};
+ghost use Rattle.cr_main.specs.More.{BeginsWithIf, Does, IsFormula, IsKept, IsQuiet, IsUnbuilt, LeavesOthers, MayRun, RunsAsked, kept_modes, ordered_modes, word_of};
 ghost use Rattle.cr_main.specs.Task.{IsRunnable};
 ghost use Rattle.cr_main_task.specs.Outside.{outside};
 ghost use Rattle.cr_main_words.specs.Flags.{plain_modes};
 ghost use Rattle.cr_main_words.specs.Requests.{Suits};
 
 use crate::formulas::run_word;
-use crate::given::run_given;
+use crate::given::{run_given, run_ordered};
 use crate::kept::run_kept;
 use crate::messages::put_usage;
 use cr_main_replay_programs::replay_programs;
@@ -157,7 +157,48 @@ fn run_flagged<R: Threads + Sync, W: Files + Disk, J: Judge + Send, O: Sink>(
 {
     match resuming(modes) {
         Some(resumes) => run_kept(rt, alloc, settings, resumes, world, bench, out),
-        None => put_usage(out),
+        None => run_unkept(rt, alloc, settings, modes, world, bench, out),
+    }
+}
+
+// Runs by a test that is no formula, as flags ask that keep no journal: with no run that hangs on an order, or not at all.
+fn run_unkept<R: Threads + Sync, W: Files + Disk, J: Judge + Send, O: Sink>(
+    rt: &R,
+    alloc: Global,
+    settings: &Settings,
+    modes: Modes,
+    world: &mut W,
+    bench: &mut Bench<J>,
+    out: &mut O,
+) -> u8
+    requires runnable { IsRunnable (length bench.old.judges) settings.now }
+    requires no_formula { IsFormula settings.now.test → ⊥ }
+    requires flag { modes ≡ plain_modes → ⊥ }
+    requires no_journal { IsKept modes → ⊥ }
+    ensures runs { RunsAsked settings.now modes (says_of J.Judge bench.old)
+        (outside W.Outside W.Files.own world.old O.Sink out.old) (outside W.Outside W.Files.own world.new O.Sink out.new)
+        (judging J.Judge bench.old) (judging J.Judge bench.new) (W.Disk.has_failed world.new) result }
+    ensures idle { IsUnbuilt settings.now modes → bench.new.judges ≡ bench.old.judges }
+    ensures others { drop settings.now.workers bench.new.judges ≡ drop settings.now.workers bench.old.judges }
+    ensures silent { asks_test settings.now.test ≡ false → bench.new.judges ≡ bench.old.judges }
+    ensures keys { keys_of J.Judge bench.new ≡ keys_of J.Judge bench.old }
+{
+    if is_ordered(modes) {
+        return run_ordered(rt, alloc, settings, world, bench, out);
+    }
+    put_usage(out)
+}
+
+// Whether the one flag is that on orders.
+fn is_ordered(modes: Modes) -> bool
+    ensures so { result ≡ true → modes ≡ ordered_modes }
+    ensures other { result ≡ false → modes ≡ ordered_modes → ⊥ }
+{
+    match modes.engine {
+        Engine::Plain => modes.any_order,
+        Engine::Journal => false,
+        Engine::Resume => false,
+        Engine::Standing => false,
     }
 }
 

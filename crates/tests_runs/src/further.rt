@@ -27,8 +27,11 @@ words if:has(\"b\") abc.c --resume
 what standing workers
 words --standing has:b abc.c
 
-what any order
-words has:b --any-order abc.c
+what any order with a journal
+words has:b --any-order abc.c --journal
+
+what any order by a formula
+words --any-order if:same abc.c
 
 what standing workers on a generated program
 words --standing has:main gen:7:1
@@ -56,6 +59,35 @@ words --replay --workers=1 abc.c.log abc.c
 
 what a replay behind another word
 words --steps 7 --replay abc.c.log abc.c
+";
+
+/// Files whose run may hang on no order. Nothing is written.
+const ORDERED: &str = "\
+what a read beside a call that writes it
+words --any-order --passes l has:main abc.c
+name abc.c
+before int x;int f(void){x=1;return 2;}␊int main(){return x+f();}␊
+status 5
+output creduce: abc.c:2: left the profile: N8␊
+after same
+copy none
+log none
+
+what two calls
+before int x;int f(void){x=1;return 2;}int g(void){return 3;}␊int main(){return f()+g();}␊
+
+what an exit in an operand
+before void exit(int);␊int h(void){exit(0);}int main(){return h()+1/0;}␊
+
+what an undefined operation behind such a node
+before int f(void){return 1;}␊int main(){f()+f();␊return 1/0;}␊
+output creduce: abc.c:3: not defined: U2␊
+
+what a file that no test takes, whose run hangs on none
+words --any-order --passes l has:no abc.c
+before int x;int f(void){x=1;return 2;}␊int main(){int y=5;x=f();return y+f();}␊
+status 6
+output creduce: the test says no to abc.c␊
 ";
 
 /// Logs that are checked. The files are there before and after as they are told.
@@ -227,7 +259,7 @@ fn words_without_flag_come_to_what_they_come_to_without_the_further_modes(
     Ok(())
 }
 
-fn expect_unbuilt(
+fn expect_asked(
     rt: &(impl Abort + Threads + Sync),
     alloc: Global,
     case: &Case,
@@ -242,7 +274,17 @@ fn expect_unbuilt(
 #[test]
 fn for_a_mode_that_is_not_built_nothing_is_done(rt: HostRuntime) -> Result<(), AllocError> {
     for own in UNBUILT.split("\n\n") {
-        expect_unbuilt(&rt, rt.alloc(), &Case::of(UNBUILT, own))?;
+        expect_asked(&rt, rt.alloc(), &Case::of(UNBUILT, own))?;
+    }
+    Ok(())
+}
+
+#[test]
+fn with_any_order_a_file_whose_run_hangs_on_one_is_refused(
+    rt: HostRuntime,
+) -> Result<(), AllocError> {
+    for own in ORDERED.split("\n\n") {
+        expect_asked(&rt, rt.alloc(), &Case::of(ORDERED, own))?;
     }
     Ok(())
 }

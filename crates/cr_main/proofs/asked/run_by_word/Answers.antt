@@ -7,7 +7,7 @@ use Rattle.cr_main.proofs.asked.run_by_word.Goals as goal
 
 pub returns-then-has_flag-clause-runs : goal.returns-then-has_flag-clause-runs
 returns-then-has_flag-clause-runs g c =
-    unbuilt (c.has_flag.ensures.flag c.if-has_flag.true, λ kept. c.requires.formula) (record { story = refl; files = refl; judges = refl }) c.put_usage.ensures
+    unbuilt (c.has_flag.ensures.flag c.if-has_flag.true, λ kept. c.requires.formula, λ is. c.requires.formula) (record { story = refl; files = refl; judges = refl }) c.put_usage.ensures
 
 pub returns-clause-runs : goal.returns-clause-runs
 returns-clause-runs g c =
