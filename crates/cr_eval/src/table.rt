@@ -1,6 +1,7 @@
 use cr_meaning::{Limits, Op};
 use cr_memory::{Cell, Guard, Scalar};
 use cr_rows::Row;
+use cr_sequence::Times;
 
 /// What the nodes of a program do, and what this needs of its types and objects; made once for a program.
 #[derive(Drop)]
@@ -8,11 +9,11 @@ pub struct Table {
     /// The operation of each node, and behind them that of the whole program.
     pub ops: Row<Op>,
     /// For each node that declares an object or is a literal the kinds and guards of the object's cells.
-    pub shapes: Row<Row<(Scalar, Guard)>>,
+    pub shapes: Row<Times<(Scalar, Guard)>>,
     /// For each string literal its bytes with the closing zero (C11 6.4.5p6).
     pub literals: Row<Option<Row<Cell>>>,
     /// For each row of the table of types the kinds of its cells.
-    pub kinds: Row<Row<Scalar>>,
+    pub kinds: Row<Times<Scalar>>,
     pub limits: Limits,
 }
 
@@ -26,7 +27,7 @@ impl Table {
         ensures { result.now ≡ (program_of self.now).kinds row }
     {
         match self.kinds.as_slice().get(row as usize) {
-            Some(kinds) => kinds.as_slice(),
+            Some(kinds) => kinds.as_slice().unwrap_or(&[]),
             None => &[],
         }
     }

@@ -254,7 +254,10 @@ fn fill(
 ) -> Result<(), Trap>
     ensures { Answers (Ok (with_parts (zeroed (program_of table.now) store.old object declared) object sets.now)) (leaving store.new result) }
 {
-    match blank(alloc, shape_for(table, declared), store, object) {
+    let Some(shape) = shape_for(table, declared) else {
+        return Err(Trap::NoMemory);
+    };
+    match blank(shape, store, object) {
         Ok(()) => write_parts(store, object, sets),
         Err(_) => Err(Trap::NoMemory),
     }
@@ -325,7 +328,10 @@ fn fill_one(
 ) -> Result<(), Trap>
     ensures { Answers (Ok (with_parts (zeroed (program_of table.now) store.old object declared) object ((set.0, set.1 ∷ []) ∷ []))) (leaving store.new result) }
 {
-    match blank(alloc, shape_for(table, declared), store, object) {
+    let Some(shape) = shape_for(table, declared) else {
+        return Err(Trap::NoMemory);
+    };
+    match blank(shape, store, object) {
         Ok(()) => write(store, object, set.0, &[set.1]),
         Err(_) => Err(Trap::NoMemory),
     }

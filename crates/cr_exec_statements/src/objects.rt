@@ -95,7 +95,7 @@ pub(crate) fn declare(
     let Some(object) = world.names.find(declared) else {
         return Err(Halted::NoMemory);
     };
-    match clear(alloc, shape_for(table, declared), &mut world.store, object) {
+    match clear(&mut world.store, object) {
         Ok(()) => Ok(()),
         Err(_) => Err(Halted::NoMemory),
     }

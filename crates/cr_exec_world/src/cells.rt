@@ -1,13 +1,13 @@
 // The cells of an object, set whatever their guards.
 ghost use Rattle.std.specs.Prelude.{◌≡◌, Ok, [], ◌∷◌, map, IsTrue, IfOk};
-ghost use Rattle.cr_memory.specs.Memory.{zero_of, live_object, count_of};
+ghost use Rattle.cr_memory.specs.Memory.{zero_of};
 ghost use Rattle.cr_memory.specs.Access.{with_cells};
 ghost use Rattle.cr_eval.specs.Answers.{Answers, leaving};
 ghost use Rattle.cr_meaning.specs.World.{unset_again};
 ghost use Rattle.cr_exec_world.specs.Cells.{set_each};
 
 use cr_memory::{Cell, Guard, Pointer, Scalar, Store, Trap};
-use std::alloc::{AllocError, Global};
+use cr_sequence::Times;
 
 /// Sets one cell of a live object.
 fn write_one(store: &mut Store, object: u32, place: u32, cell: Cell) -> Result<(), Trap>
@@ -50,54 +50,15 @@ pub fn write(store: &mut Store, object: u32, from: u32, cells: &[Cell]) -> Resul
     write_each(store, object, from, cells)
 }
 
-/// Whether a live object has just so many cells.
-fn has_count(store: &Store, object: u32, cells: usize) -> bool
-    ensures { IsTrue result → count_of (live_object store.now object) ≡ cells }
-{
-    let Ok(count) = u32::try_from(cells) else {
-        return false;
-    };
-    count != 0
-        && store.kind_of(object, count - 1).is_some()
-        && store.kind_of(object, count).is_none()
-}
-
-fn unset(alloc: Global, shape: &[(Scalar, Guard)]) -> Result<Vec<Cell>, AllocError>
-    ensures { IfOk result (λ cells. cells.items ≡ map (λ _. Cell.Unset) shape.now) }
-{
-    shape.iter().map(|_| Cell::Unset).collect(alloc)
-}
-
-fn write_unset(
-    alloc: Global,
-    shape: &[(Scalar, Guard)],
-    store: &mut Store,
-    object: u32,
-) -> Result<(), Trap>
-    ensures { Answers (Ok (with_cells store.old object 0 (map (λ _. Cell.Unset) shape.now))) (leaving store.new result) }
-{
-    if shape.len() == 1 {
-        return write_one(store, object, 0, Cell::Unset);
-    }
-    match unset(alloc, shape) {
-        Ok(cells) => write(store, object, 0, &cells),
-        Err(_) => Err(Trap::NoMemory),
-    }
-}
-
-/// Nothing is in the cells of an object of this shape again (C11 6.2.4p6).
-pub fn clear(
-    alloc: Global,
-    shape: &[(Scalar, Guard)],
-    store: &mut Store,
-    object: u32,
-) -> Result<(), Trap>
+/// Nothing is in the cells of an object again (C11 6.2.4p6).
+pub fn clear(store: &mut Store, object: u32) -> Result<(), Trap>
     ensures { Answers (Ok (unset_again store.old object)) (leaving store.new result) }
 {
-    if !has_count(store, object, shape.len()) {
+    if !store.is_live(object) {
         return Err(Trap::NoMemory);
     }
-    write_unset(alloc, shape, store, object)
+    store.clear(object);
+    Ok(())
 }
 
 fn zero_of(kind: Scalar) -> Cell
@@ -109,23 +70,32 @@ fn zero_of(kind: Scalar) -> Cell
     }
 }
 
-fn zeros(alloc: Global, shape: &[(Scalar, Guard)]) -> Result<Vec<Cell>, AllocError>
-    ensures { IfOk result (λ cells. cells.items ≡ map (λ own. zero_of own.0) shape.now) }
-{
-    shape.iter().map(|own| zero_of(own.0)).collect(alloc)
+fn blank_from(store: &mut Store, object: u32, from: u32, one: &[(Scalar, Guard)]) -> Result<(), Trap> {
+    let mut place = from;
+    for own in one {
+        write_one(store, object, place, zero_of(own.0))?;
+        let Some(after) = place.checked_add(1) else {
+            return Err(Trap::NoMemory);
+        };
+        place = after;
+    }
+    Ok(())
 }
 
 /// The cells of a node's object are zero or null (6.7.9p10, p19).
-pub fn blank(
-    alloc: Global,
-    shape: &[(Scalar, Guard)],
-    store: &mut Store,
-    object: u32,
-) -> Result<(), Trap>
+pub fn blank(shape: &Times<(Scalar, Guard)>, store: &mut Store, object: u32) -> Result<(), Trap>
     ensures { Answers (Ok (with_cells store.old object 0 (map (λ own. zero_of own.0) shape.now))) (leaving store.new result) }
 {
-    match zeros(alloc, shape) {
-        Ok(cells) => write(store, object, 0, &cells),
-        Err(_) => Err(Trap::NoMemory),
+    if !store.is_live(object) {
+        return Err(Trap::NoMemory);
     }
+    let mut place: u32 = 0;
+    for _turn in 0..shape.times() {
+        blank_from(store, object, place, shape.one())?;
+        let Some(after) = place.checked_add(shape.one().len() as u32) else {
+            return Err(Trap::NoMemory);
+        };
+        place = after;
+    }
+    Ok(())
 }

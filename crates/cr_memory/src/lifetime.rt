@@ -5,10 +5,14 @@ ghost use Rattle.cr_memory.specs.Flat.{span_at, span_of, HasRoom, MovesDown};
 use crate::flat::copy_down;
 use crate::spans::Spans;
 use crate::value::{Cell, Guard, Pointer, Scalar};
-use std::alloc::AllocError;
+use cr_sequence::Sequence;
+use std::alloc::{AllocError, Global};
 
 /// So many slots stay with the store, whether they are used or not.
 const KEPT: usize = 1024;
+
+/// An object of more cells takes room when they are set.
+const WIDE: usize = 1024;
 
 /// Whether one more object of so many cells has room, and a number.
 pub(crate) fn has_room(spans: &Spans, most: u32, live: u32, count: usize) -> bool
@@ -29,52 +33,79 @@ fn first_cell(own: (Scalar, Guard), zero: bool) -> Cell
     }
 }
 
-/// The cells of a new object, behind those that are there. There is room for them.
-fn append(
-    cells: &mut Vec<Cell>,
-    shapes: &mut Vec<(Scalar, Guard)>,
-    shape: &[(Scalar, Guard)],
-    zero: bool,
-)
-    requires cell_room { vec_len cells.old + length shape.now ≤ vec_capacity cells.old }
-    requires shape_room { vec_len shapes.old + length shape.now ≤ vec_capacity shapes.old }
-    ensures cells { cells.new.items ≡ cells.old.items ++ map (first_cell zero) shape.now }
-    ensures shapes { shapes.new.items ≡ shapes.old.items ++ shape.now }
+/// The cells of a new object, behind those that are there, or some of them.
+fn append_cells(cells: &mut Sequence<Cell>, shape: &[(Scalar, Guard)], zero: bool) -> Result<(), AllocError>
 {
     for own in shape {
-        cells.push(first_cell(*own, zero)).unwrap();
-        shapes.push(*own).unwrap();
+        cells.push(first_cell(*own, zero))?;
+    }
+    Ok(())
+}
+
+fn append_shape(shapes: &mut Sequence<(Scalar, Guard)>, shape: &[(Scalar, Guard)]) -> Result<(), AllocError>
+{
+    for own in shape {
+        shapes.push(*own)?;
+    }
+    Ok(())
+}
+
+/// Enters an object of elements of a shape behind the others, or changes nothing.
+pub(crate) fn enter(
+    alloc: Global,
+    spans: &mut Spans,
+    cells: &mut Sequence<Cell>,
+    shapes: &mut Sequence<(Scalar, Guard)>,
+    shape: &[(Scalar, Guard)],
+    times: u32,
+    zero: bool,
+) -> Result<u32, AllocError>
+{
+    let first = cells.len();
+    match append(alloc, cells, shapes, shape, times, zero) {
+        Ok(()) => match spans.enter(first, shape.len() as u32 * times) {
+            Ok(number) => Ok(number),
+            Err(error) => {
+                cells.truncate(first);
+                shapes.truncate(first);
+                Err(error)
+            }
+        },
+        Err(error) => {
+            cells.truncate(first);
+            shapes.truncate(first);
+            Err(error)
+        }
     }
 }
 
-/// Enters an object behind the others, or changes nothing.
-pub(crate) fn enter(
-    spans: &mut Spans,
-    cells: &mut Vec<Cell>,
-    shapes: &mut Vec<(Scalar, Guard)>,
+fn append(
+    alloc: Global,
+    cells: &mut Sequence<Cell>,
+    shapes: &mut Sequence<(Scalar, Guard)>,
     shape: &[(Scalar, Guard)],
+    times: u32,
     zero: bool,
-) -> Result<u32, AllocError>
-    requires few { length spans.old < 4294967295 }
-    requires small { length shape.now < 2 ^ 32 }
-    ensures number { IfOk result (λ number. number ≡ length spans.old) }
-    ensures spans { OnOk result (spans.new ≡ spans.old ++ span_of (length cells.old.items) (length shape.now) ∷ []) }
-    ensures cells { OnOk result (cells.new.items ≡ cells.old.items ++ map (first_cell zero) shape.now) }
-    ensures shapes { OnOk result (shapes.new.items ≡ shapes.old.items ++ shape.now) }
-    ensures same_spans { OnErr result (spans.new ≡ spans.old) }
-    ensures same_cells { OnErr result (cells.new.items ≡ cells.old.items) }
-    ensures same_shapes { OnErr result (shapes.new.items ≡ shapes.old.items) }
+) -> Result<(), AllocError>
 {
-    cells.reserve(shape.len())?;
-    shapes.reserve(shape.len())?;
-    let number = spans.enter(cells.len(), shape.len() as u32)?;
-    append(cells, shapes, shape, zero);
-    Ok(number)
+    if shape.len() * times as usize > WIDE && times > 1 {
+        let mut first = Vec::with_capacity(alloc, shape.len())?;
+        for own in shape {
+            first.push(first_cell(*own, zero))?;
+        }
+        cells.push_stretch(first, times as usize)?;
+        return shapes.push_stretch(shape.to_vec(alloc)?, times as usize);
+    }
+    for _turn in 0..times {
+        append_cells(cells, shape, zero)?;
+        append_shape(shapes, shape)?;
+    }
+    Ok(())
 }
 
 /// Gives memory back where most of it stands idle.
 pub(crate) fn give_back<T: Drop>(items: &mut Vec<T>)
-    ensures { items.new.items ≡ items.old.items }
+    ensures { items.new ≡ items.old }
 {
     let count = items.len();
     if items.capacity() / 4 > count && items.capacity() > KEPT {
@@ -83,26 +114,25 @@ pub(crate) fn give_back<T: Drop>(items: &mut Vec<T>)
 }
 
 /// Drops the items from a place on.
-pub(crate) fn cut<T: Drop>(items: &mut Vec<T>, end: usize)
-    ensures { items.new.items ≡ take end items.old.items }
+pub(crate) fn cut<T: Copy>(items: &mut Sequence<T>, end: usize)
+    ensures { items.new ≡ take end items.old }
 {
     items.truncate(end);
-    give_back(items);
 }
 
 /// Moves the cells of a live object down to a place, and answers where they end.
 pub(crate) fn move_down(
     spans: &mut Spans,
-    cells: &mut Vec<Cell>,
-    shapes: &mut Vec<(Scalar, Guard)>,
+    cells: &mut Sequence<Cell>,
+    shapes: &mut Sequence<(Scalar, Guard)>,
     number: u32,
     to: usize,
 ) -> usize
     requires live { (span_at spans.old number).alive ≡ true }
     requires down { to ≤ (span_at spans.old number).first }
-    requires room { HasRoom spans.old (length cells.old.items) }
-    requires same_length { length shapes.old.items ≡ length cells.old.items }
-    ensures { MovesDown spans.old cells.old.items shapes.old.items number to spans.new cells.new.items shapes.new.items result }
+    requires room { HasRoom spans.old (length cells.old) }
+    requires same_length { length shapes.old ≡ length cells.old }
+    ensures { MovesDown spans.old cells.old shapes.old number to spans.new cells.new shapes.new result }
 {
     let span = spans.get(number);
     let count = span.count as usize;

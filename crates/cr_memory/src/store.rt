@@ -8,6 +8,7 @@ ghost use Rattle.cr_memory.specs.Laws.{HoldsKinds};
 use crate::spans::Spans;
 use crate::value::{Cell, Guard, NO_ROOM, Pointer, Scalar, Trap};
 use crate::{arithmetic, flat, lifetime};
+use cr_sequence::Sequence;
 use std::alloc::Global;
 use std::marker::Model;
 
@@ -17,8 +18,9 @@ pub struct Store {
     most: u32,
     live: u32,
     spans: Spans,
-    cells: Vec<Cell>,
-    shape: Vec<(Scalar, Guard)>,
+    cells: Sequence<Cell>,
+    shape: Sequence<(Scalar, Guard)>,
+    alloc: Global,
 }
 
 impl Model for Store {
@@ -27,9 +29,9 @@ impl Model for Store {
 
     ghost Value = { Memory };
 
-    ghost view = { λ s. memory_of s.most s.spans s.cells.items s.shape.items };
+    ghost view = { λ s. memory_of s.most s.spans s.cells s.shape };
 
-    ghost invariant = { λ s. IsStored s.most s.live s.spans s.cells.items s.shape.items };
+    ghost invariant = { λ s. IsStored s.most s.live s.spans s.cells s.shape };
 }
 
 impl Store {
@@ -41,8 +43,9 @@ impl Store {
             most,
             live: 0,
             spans: Spans::new(alloc),
-            cells: Vec::new(alloc),
-            shape: Vec::new(alloc),
+            cells: Sequence::new(alloc),
+            shape: Sequence::new(alloc),
+            alloc,
         }
     }
 
@@ -170,15 +173,34 @@ impl Store {
         ensures kept { KeepsPointers self.old self.new }
         ensures continues { Continues self.old self.new }
     {
-        let count = shape.len();
+        self.enter_times(shape, 1, zero)
+    }
+
+    /// Enters an object of elements of a shape, so many of them. A large one costs by its elements' shape, and each of its cells
+    /// when it is first set.
+    pub fn enter_times(&mut self, shape: &[(Scalar, Guard)], times: u32, zero: bool) -> Result<u32, Trap>
+        ensures entered { IfOk result (λ number. (number ≡ length self.old.objects) × (self.new ≡ with_object self.old (new_object zero (repeated times shape.now)))) }
+
+        ensures no_room { (result ≡ Err (Trap.Left NO_ROOM)) ↔ (has_room self.old (length (repeated times shape.now)) ≡ false) }
+        ensures causes { IfErr result (λ trap. (trap ≡ Trap.Left NO_ROOM) ⊎ (trap ≡ Trap.NoMemory)) }
+        ensures refused { OnErr result (self.new ≡ self.old) }
+
+        ensures kept { KeepsPointers self.old self.new }
+        ensures continues { Continues self.old self.new }
+    {
+        let Some(count) = shape.len().checked_mul(times as usize) else {
+            return Err(Trap::Left(NO_ROOM));
+        };
         if !lifetime::has_room(&self.spans, self.most, self.live, count) {
             return Err(Trap::Left(NO_ROOM));
         }
         match lifetime::enter(
+            self.alloc,
             &mut self.spans,
             &mut self.cells,
             &mut self.shape,
             shape,
+            times,
             zero,
         ) {
             Ok(number) => {
@@ -187,6 +209,17 @@ impl Store {
             }
             Err(_) => Err(Trap::NoMemory),
         }
+    }
+
+    /// Nothing is in the cells of a live object again (6.2.4p6).
+    pub fn clear(&mut self, object: u32)
+        requires { IsSome (live_object self.old object) }
+        ensures cleared { self.new ≡ with_cells self.old object 0 (map (λ _. Unset) (some_object (live_object self.old object)).cells) }
+        ensures kept { KeepsPointers self.old self.new }
+        ensures continues { Continues self.old self.new }
+    {
+        let span = self.spans.get(object);
+        flat::unset(&mut self.cells, span.first, span.count as usize);
     }
 
     /// Ends the lifetime of a live object (6.2.4p2). The last that was entered leaves fastest; another one in the time of
