@@ -1,0 +1,342 @@
+ghost use Rattle.std.specs.Prelude.{◌≡◌, ℕ, ◌+◌, ◌-◌, ◌*◌, ◌<◌, ◌≤◌, ◌++◌, ◌∷◌, [], IfOk, OnOk, OnErr, length, map, slice_get, slice_set, take, Some};
+ghost use Rattle.std.specs.List.{flat_map};
+ghost use Rattle.cr_sequence.specs.Kept.{repeated};
+ghost use Rattle.cr_sequence.specs.Stretches.{items_in, all_items, AreCounted, BeginsBy, BeginsFrom, Changes, Done, Holds, Placed};
+
+use crate::stretch::Stretch;
+use std::alloc::{AllocError, Global};
+use std::marker::Model;
+
+/// More items there aren't.
+const MOST: usize = 1 << 40;
+
+/// A stretch, how many items stand before it, and those behind it.
+#[derive(Drop)]
+pub struct Part<T> {
+    pub start: usize,
+    pub stretch: Stretch<T>,
+    pub after: Vec<T>,
+}
+
+/// A list: plain items, and behind them parts that each begin with a stretch.
+#[derive(Drop)]
+pub struct Sequence<T> {
+    alloc: Global,
+    count: usize,
+    flat: Vec<T>,
+    parts: Vec<Part<T>>,
+}
+
+impl<T> Model for Sequence<T> {
+    ghost use Rattle.std.specs.Prelude.{◌≡◌, ◌≤◌, List, length};
+    ghost use Rattle.std.specs.Coded.{coded_list};
+    ghost use Rattle.cr_sequence.specs.Stretches.{all_items, AreCounted};
+
+    ghost Value = { List T };
+
+    ghost coded = { coded_list T.code };
+
+    ghost view = { λ s. all_items s.flat.items s.parts.items };
+
+    ghost invariant = { λ s. AreCounted s.count s.flat.items s.parts.items };
+}
+
+fn start_at<T>(parts: &Vec<Part<T>>, index: usize) -> usize
+    requires { index < length parts.now.items }
+    ensures { (part : Part T) → slice_get parts.now.items index ≡ Some part → part.start ≡ result }
+{
+    parts[index].start
+}
+
+// The last part that begins at an index or before it.
+fn part_of<T>(parts: &Vec<Part<T>>, index: usize) -> usize
+    requires some { 0 < length parts.now.items }
+    requires first { BeginsBy parts.now.items 0 index }
+    ensures { Holds parts.now.items index result }
+{
+    let mut low = 0;
+    let mut high = parts.len();
+    while high - low > 1 {
+        let middle = low + (high - low) / 2;
+        if start_at(parts, middle) <= index {
+            low = middle;
+        } else {
+            high = middle;
+        }
+    }
+    low
+}
+
+// The part in which an index stands that isn't among the plain items, and the place in it.
+fn placed<T>(count: usize, flat: &Vec<T>, parts: &Vec<Part<T>>, index: usize) -> (usize, usize)
+    requires counted { AreCounted count flat.now.items parts.now.items }
+    requires within { index < count }
+    requires behind { length flat.now.items ≤ index }
+    ensures number { result.0 < length parts.now.items }
+    ensures place { (part : Part T) → slice_get parts.now.items result.0 ≡ Some part → (result.1 ≡ index - part.start) × Placed flat.now.items parts.now.items index part result.0 }
+{
+    let number = part_of(parts, index);
+    let start = start_at(parts, number);
+    (number, index.saturating_sub(start))
+}
+
+#[inline]
+fn get_in<T: Copy>(part: &Part<T>, place: usize) -> T
+    requires { place < length (items_in part.now) }
+    ensures { slice_get (items_in part.now) place ≡ Some result }
+{
+    let count = part.stretch.len();
+    if place < count {
+        part.stretch.get(place)
+    } else {
+        part.after[place - count]
+    }
+}
+
+#[inline]
+fn set_in<T: Copy>(part: &mut Part<T>, place: usize, item: T)
+    requires { place < length (items_in part.old) }
+    ensures start { part.new.start ≡ part.old.start }
+    ensures items { items_in part.new ≡ slice_set (items_in part.old) place item }
+{
+    let count = part.stretch.len();
+    if place < count {
+        part.stretch.set(place, item);
+    } else {
+        part.after[place - count] = item;
+    }
+}
+
+fn push_in<T: Copy>(part: &mut Part<T>, item: T) -> Result<(), AllocError>
+    ensures start { part.new.start ≡ part.old.start }
+    ensures pushed { OnOk result (items_in part.new ≡ items_in part.old ++ item ∷ []) }
+    ensures refused { OnErr result (items_in part.new ≡ items_in part.old) }
+{
+    part.after.push(item)?;
+    Ok(())
+}
+
+fn cut_in<T: Copy>(part: &mut Part<T>, count: usize)
+    ensures start { part.new.start ≡ part.old.start }
+    ensures items { items_in part.new ≡ take count (items_in part.old) }
+{
+    let own = part.stretch.len();
+    part.stretch.truncate(count);
+    part.after.truncate(count.saturating_sub(own));
+}
+
+fn get_at<T: Copy>(parts: &Vec<Part<T>>, number: usize, place: usize) -> T
+    requires number { number < length parts.now.items }
+    requires place { (part : Part T) → slice_get parts.now.items number ≡ Some part → place < length (items_in part) }
+    ensures { (part : Part T) → slice_get parts.now.items number ≡ Some part → slice_get (items_in part) place ≡ Some result }
+{
+    get_in(&parts[number], place)
+}
+
+fn set_at<T: Copy>(parts: &mut Vec<Part<T>>, number: usize, place: usize, item: T)
+    requires number { number < length parts.old.items }
+    requires place { (part : Part T) → slice_get parts.old.items number ≡ Some part → place < length (items_in part) }
+    ensures { (part : Part T) → slice_get parts.old.items number ≡ Some part → Changes parts.old.items number parts.new.items part (slice_set (items_in part) place item) }
+{
+    set_in(&mut parts[number], place, item);
+}
+
+fn push_at<T: Copy>(parts: &mut Vec<Part<T>>, number: usize, item: T) -> Result<(), AllocError>
+    requires { number < length parts.old.items }
+    ensures pushed { OnOk result ((part : Part T) → slice_get parts.old.items number ≡ Some part → Changes parts.old.items number parts.new.items part (items_in part ++ item ∷ [])) }
+    ensures refused { OnErr result ((part : Part T) → slice_get parts.old.items number ≡ Some part → Changes parts.old.items number parts.new.items part (items_in part)) }
+{
+    push_in(&mut parts[number], item)
+}
+
+fn cut_at<T: Copy>(parts: &mut Vec<Part<T>>, number: usize, count: usize)
+    requires { number < length parts.old.items }
+    ensures { (part : Part T) → slice_get parts.old.items number ≡ Some part → Changes parts.old.items number parts.new.items part (take count (items_in part)) }
+{
+    cut_in(&mut parts[number], count);
+}
+
+#[tactic(auto, using(crate::proofs::Parts::alone_by))]
+fn part_with<T>(alloc: Global, start: usize, stretch: Stretch<T>) -> Part<T>
+    ensures start { result.start ≡ start }
+    ensures items { items_in result ≡ stretch }
+{
+    Part {
+        start,
+        stretch,
+        after: Vec::new(alloc),
+    }
+}
+
+fn push_part<T: Copy>(parts: &mut Vec<Part<T>>, part: Part<T>) -> Result<(), AllocError>
+    ensures pushed { OnOk result (parts.new.items ≡ parts.old.items ++ part ∷ []) }
+    ensures refused { OnErr result (parts.new.items ≡ parts.old.items) }
+{
+    match parts.push(part) {
+        Ok(()) => Ok(()),
+        Err(_) => Err(AllocError),
+    }
+}
+
+fn push_flat<T: Copy>(flat: &mut Vec<T>, item: T) -> Result<(), AllocError>
+    ensures pushed { OnOk result (flat.new.items ≡ flat.old.items ++ item ∷ []) }
+    ensures refused { OnErr result (flat.new.items ≡ flat.old.items) }
+{
+    flat.push(item)?;
+    Ok(())
+}
+
+// One more item, behind all.
+fn push_behind<T: Copy>(
+    count: usize,
+    flat: &mut Vec<T>,
+    parts: &mut Vec<Part<T>>,
+    item: T,
+) -> Result<(), AllocError>
+    requires counted { AreCounted count flat.old.items parts.old.items }
+    requires few { count < 2199023255552 }
+    ensures pushed { OnOk result (Done (count + 1) flat.new.items parts.new.items (all_items flat.old.items parts.old.items ++ item ∷ [])) }
+    ensures refused { OnErr result (Done count flat.new.items parts.new.items (all_items flat.old.items parts.old.items)) }
+{
+    let number = parts.len();
+    if number == 0 {
+        push_flat(flat, item)
+    } else {
+        push_at(parts, number - 1, item)
+    }
+}
+
+// The first items alone.
+fn cut_behind<T: Copy>(count: usize, flat: &mut Vec<T>, parts: &mut Vec<Part<T>>, size: usize)
+    requires counted { AreCounted count flat.old.items parts.old.items }
+    requires less { size < count }
+    ensures { Done size flat.new.items parts.new.items (take size (all_items flat.old.items parts.old.items)) }
+{
+    let kept = parts_before(parts, size);
+    parts.truncate(kept);
+    if kept == 0 {
+        flat.truncate(size);
+    } else {
+        let start = start_at(parts, kept - 1);
+        cut_at(parts, kept - 1, size.saturating_sub(start));
+    }
+}
+
+impl<T: Copy> Sequence<T> {
+    /// No item yet. It takes no memory.
+    pub fn new(alloc: Global) -> Sequence<T>
+        ensures { result ≡ [] }
+    {
+        Sequence {
+            alloc,
+            count: 0,
+            flat: Vec::new(alloc),
+            parts: Vec::new(alloc),
+        }
+    }
+
+    /// How many items there are.
+    #[inline]
+    pub fn len(&self) -> usize
+        ensures { result ≡ length self.now }
+    {
+        self.count
+    }
+
+    /// An item.
+    #[inline]
+    pub fn get(&self, index: usize) -> T
+        requires { index < length self.now }
+        ensures { slice_get self.now index ≡ Some result }
+    {
+        let plain = self.flat.len();
+        if index < plain {
+            self.flat[index]
+        } else {
+            let (number, place) = placed(self.count, &self.flat, &self.parts, index);
+            get_at(&self.parts, number, place)
+        }
+    }
+
+    /// Sets an item. It takes no memory, so it can't fail.
+    #[inline]
+    pub fn set(&mut self, index: usize, item: T)
+        requires { index < length self.old }
+        ensures { self.new ≡ slice_set self.old index item }
+    {
+        let plain = self.flat.len();
+        if index < plain {
+            self.flat[index] = item;
+        } else {
+            let (number, place) = placed(self.count, &self.flat, &self.parts, index);
+            set_at(&mut self.parts, number, place, item);
+        }
+    }
+
+    /// One more item. The error is want of memory.
+    pub fn push(&mut self, item: T) -> Result<(), AllocError>
+        ensures pushed { OnOk result (self.new ≡ self.old ++ item ∷ []) }
+        ensures refused { OnErr result (self.new ≡ self.old) }
+    {
+        if self.count >= MOST {
+            return Err(AllocError);
+        }
+        match push_behind(self.count, &mut self.flat, &mut self.parts, item) {
+            Ok(()) => {
+                self.count += 1;
+                Ok(())
+            }
+            Err(error) => Err(error),
+        }
+    }
+
+    /// A pattern so many times, which takes no room until its items are set. The error is want of memory.
+    pub fn push_stretch(&mut self, pattern: Vec<T>, times: usize) -> Result<(), AllocError>
+        requires some { 0 < length pattern.items }
+        requires few { times * length pattern.items ≤ 4294967296 }
+        ensures pushed { OnOk result (self.new ≡ self.old ++ repeated times pattern.items) }
+        ensures refused { OnErr result (self.new ≡ self.old) }
+    {
+        if self.count >= MOST {
+            return Err(AllocError);
+        }
+        let stretch = Stretch::new(self.alloc, pattern, times)?;
+        let count = stretch.len();
+        let part = part_with(self.alloc, self.count, stretch);
+        match push_part(&mut self.parts, part) {
+            Ok(()) => {
+                self.count += count;
+                Ok(())
+            }
+            Err(error) => Err(error),
+        }
+    }
+
+    /// Drops the items from a place on.
+    pub fn truncate(&mut self, count: usize)
+        ensures { self.new ≡ take count self.old }
+    {
+        if count >= self.count {
+            return;
+        }
+        cut_behind(self.count, &mut self.flat, &mut self.parts, count);
+        self.count = count;
+    }
+}
+
+// How many parts begin before an index.
+fn parts_before<T>(parts: &Vec<Part<T>>, index: usize) -> usize
+    ensures within { result ≤ length parts.now.items }
+    ensures before { 0 < result → BeginsBy parts.now.items (result - 1) index }
+    ensures behind { BeginsFrom parts.now.items result index }
+{
+    let mut count = parts.len();
+    while count > 0 {
+        let start = start_at(parts, count - 1);
+        if start < index {
+            return count;
+        }
+        count -= 1;
+    }
+    0
+}
