@@ -1,14 +1,15 @@
 -- Items by the part in which they stand, and parts that change.
-use Rattle.std.proofs.Common.{◌≡◌, ◌≢◌, ℕ, zero, suc, ◌+◌, ◌-◌, ◌<◌, ◌≤◌, ◌⊎◌, inl, inr, Option, Some, None, List, [], ◌∷◌, ◌++◌, length, get_or, set, take, drop, refl, sym, ap, subst, ◌∙◌, arith, length-append, length-set, get_or-set_other, get_or-set_same}
+use Rattle.std.proofs.Common.{◌≡◌, ◌≢◌, ℕ, zero, suc, ◌+◌, ◌-◌, ◌<◌, ◌≤◌, Bool, true, false, ◌⊎◌, inl, inr, Some, List, [], ◌∷◌, ◌++◌, map, length, get_or, set, take, drop, refl, sym, ap, subst, ◌∙◌, arith, length-append, length-drop, length-set, get_or-set_other, get_or-set_same}
 use Rattle.std.specs.Prelude.{slice_get}
 use Rattle.std.specs.List.{flat_map}
 use Rattle.std.proofs.lemmas.Bool.{cases_eq, cases_lt}
 use Rattle.std.proofs.lemmas.Grind.{flat_map-append}
-use Rattle.std.proofs.Math.Seq.{take-append-add}
-use Rattle.std.proofs.lemmas.List.{length-take-le, take_more, take_all, take-set-le, take-append-le, get_or_append_left, get_or-append_right, set-append_left, set-append_right}
+use Rattle.std.proofs.Math.Seq.{take-append-add, take-append_seam, drop-append-add, drop-append_seam, set-append_seam}
+use Rattle.cr_sequence.specs.Kept.{repeated}
+use Rattle.std.proofs.lemmas.List.{length-map, take-append-drop, drop_more, length-take-le, take_more, take_all, take-set-le, take-append-le, get_or_append_left, get_or-append_right, set-append_left, set-append_right}
 use Rattle.std.proofs.lemmas.Option.{slice_get_within, slice_get-get_or, get_or_from_slice_get}
 use Rattle.cr_sequence.specs.declared.sequence.Part.{Part}
-use Rattle.cr_sequence.specs.Stretches.{items_in, all_items, AreCounted, BeginsBy, BeginsFrom, Holds, Placed, Changes, Done}
+use Rattle.cr_sequence.specs.Stretches.{items_in, all_items, AreCounted, BeginsBy, BeginsFrom, Holds, Placed, Changes, Done, filled}
 
 -- the items of the parts before one
 abbrev pub before : {X : Type 0} → List (Part X) → ℕ → List X
@@ -509,7 +510,7 @@ stretch_done count size flat parts part own counted start is e few =
 own_part : {Y : Type 0} (xs : List Y) (n : ℕ) (own : Y) → n < length xs → own ≡ get_or xs n own → slice_get xs n ≡ Some own
 own_part xs n own h e = slice_get-get_or xs n own h ∙ ap Some (sym e)
 
-one_part : {Y : Type 0} (xs : List Y) (n : ℕ) (own y : Y) → n < length xs → own ≡ get_or xs n own → slice_get xs n ≡ Some y → own ≡ y
+pub one_part : {Y : Type 0} (xs : List Y) (n : ℕ) (own y : Y) → n < length xs → own ≡ get_or xs n own → slice_get xs n ≡ Some y → own ≡ y
 one_part xs n own y h e is = let found = own_part xs n own h e in cc (found, is)
 
 pub placed_there : {X : Type 0} (parts : List (Part X)) (number place : ℕ) (own : Part X) → number < length parts → own ≡ get_or parts number own
@@ -573,3 +574,96 @@ cut_last count size kept start cut flat parts then counted h less behind some be
     let done = cut_done (length (all_items flat (take kept parts))) size flat (take kept parts) then (kept - 1) cut made.counted (omega arith) changes made.enough
     (λ part at. let s = is part at in let b = before some part (taken_part parts kept part some at) in omega arith) in
     record { counted = done.counted; shown = done.shown ∙ made.same }
+
+-- ---- so many items that are one value
+
+map_const : {Y : Type 0} (xs : List Y) (value : Y) → map (λ _. value) xs ≡ repeated (length xs) (value ∷ [])
+map_const [] value = refl
+map_const (x ∷ xs) value = ap (λ r. value ∷ r) (map_const xs value)
+
+filled_middle : {Y : Type 0} (xs own ys : List Y) (value : Y) → filled (xs ++ (own ++ ys)) (length xs) (length own) value ≡ xs ++ (map (λ _. value) own ++ ys)
+filled_middle {Y = Y} xs own ys value =
+    let made : List Y → List Y → List Y → List Y = λ a b c. a ++ (b ++ c) in
+    let first : take (length xs) (xs ++ (own ++ ys)) ≡ xs = take-append_seam xs (own ++ ys) in
+    let last : drop (length xs + length own) (xs ++ (own ++ ys)) ≡ ys = drop-append-add xs (own ++ ys) (length own) ∙ drop-append_seam own ys in
+    ap (λ a. made a (repeated (length own) (value ∷ [])) (drop (length xs + length own) (xs ++ (own ++ ys)))) first
+    ∙ ap (λ c. made xs (repeated (length own) (value ∷ [])) c) last
+    ∙ ap (λ b. made xs b ys) (sym (map_const own value))
+
+abbrev pub emptied : {X : Type 0} → X → Part X → List X
+emptied value part = map (λ _. value) part.stretch ++ part.after.items
+
+pub fill_done : {X : Type 0} (count : ℕ) (flat : List X) (parts then : List (Part X)) (from size number place : ℕ) (value : X) → AreCounted count flat parts → number < length parts
+    → ((part : Part X) → slice_get parts number ≡ Some part → (place ≡ from - part.start) × Placed flat parts from part number)
+    → place ≡ 0 → ((part : Part X) → slice_get parts number ≡ Some part → length part.stretch ≡ size)
+    → ChangesTo parts number then (emptied value) → Done count flat then (filled (all_items flat parts) from size value)
+fill_done {X = X} count flat parts then from size number place value counted h placed none whole changes =
+    let part = there parts number h in
+    let at = placed part.0 part.1 in
+    let change = changes part.0 part.1 in
+    let own = part.0.stretch in
+    let more = part.0.after.items in
+    let xs = flat ++ before parts number in
+    let rest = behind parts number in
+    let new_own : List X = map (λ _. value) own in
+    let P : List (Part X) → Type 0 = λ ps. Done count flat ps (filled (all_items flat parts) from size value) in
+    let low = at.1.from in
+    let zero_place = at.0 in
+    let start = at.1.start in
+    let begin : length xs ≡ from = omega (arith, length-append flat (before parts number)) in
+    let old : all_items flat parts ≡ xs ++ (own ++ (more ++ rest)) =
+    ap (λ r. flat ++ r) (unchanged parts number part.0 part.1 ∙ ap (λ r. before parts number ++ r) (joined_end own more rest)) ∙ sym (joined_end flat (before parts number) (own ++ (more ++ rest))) in
+    let made : all_items flat (set parts number change.new) ≡ xs ++ (new_own ++ (more ++ rest)) =
+    ap (λ r. flat ++ r) (changed parts number part.0 change.new part.1 ∙ ap (λ r. before parts number ++ r) (ap (λ r. r ++ rest) change.shows ∙ joined_end new_own more rest))
+    ∙ sym (joined_end flat (before parts number) (new_own ++ (more ++ rest))) in
+    let shown : filled (all_items flat parts) from size value ≡ xs ++ (new_own ++ (more ++ rest)) =
+    ap (λ r. filled r from size value) old
+    ∙ ap (λ n. filled (xs ++ (own ++ (more ++ rest))) n size value) (sym begin)
+    ∙ ap (λ n. filled (xs ++ (own ++ (more ++ rest))) (length xs) n value) (sym (whole part.0 part.1))
+    ∙ filled_middle xs own (more ++ rest) value in
+    let sizes : length (items_in change.new) ≡ length (items_in part.0) =
+    ap length change.shows ∙ length-append new_own more ∙ ap (λ n. n + length more) (length-map own (λ _. value)) ∙ sym (length-append own more) in
+    subst P (sym change.is) (record {
+      counted = kept count flat parts number part.0 change.new counted part.1 change.start sizes;
+      shown = made ∙ sym shown;
+    })
+
+-- none yet, and one more
+pub filled_none : {Y : Type 0} (xs : List Y) (from : ℕ) (value : Y) → xs ≡ filled xs from 0 value
+filled_none xs from value = sym (ap (λ n. take from xs ++ drop n xs) (omega arith) ∙ take-append-drop from xs)
+
+repeated_more : {Y : Type 0} (n : ℕ) (value : Y) → repeated (suc n) (value ∷ []) ≡ repeated n (value ∷ []) ++ value ∷ []
+repeated_more zero value = refl
+repeated_more (suc n) value = ap (λ r. value ∷ r) (repeated_more n value)
+
+length-one : {Y : Type 0} (n : ℕ) (value : Y) → length (repeated n (value ∷ [])) ≡ n
+length-one zero value = refl
+length-one (suc n) value = ap suc (length-one n value)
+
+pub filled_more : {Y : Type 0} (xs : List Y) (from i : ℕ) (value : Y) → from + i < length xs
+    → set (filled xs from i value) (from + i) value ≡ filled xs from (i + 1) value
+filled_more xs from i value h =
+    let a = take from xs in
+    let b = repeated i (value ∷ []) in
+    let c = drop (from + i + 1) xs in
+    let size : length (a ++ b) ≡ from + i = omega (arith, length-append a b, length-take-le from xs (omega arith), length-one i value) in
+    let next : i + 1 ≡ suc i = omega arith in
+    let place : from + (i + 1) ≡ from + i + 1 = omega arith in
+    ap (λ r. set (a ++ (b ++ r)) (from + i) value) (drop_more xs (from + i) value h)
+    ∙ ap (λ r. set r (from + i) value) (sym (joined_end a b (get_or xs (from + i) value ∷ c)))
+    ∙ ap (λ n. set ((a ++ b) ++ get_or xs (from + i) value ∷ c) n value) (sym size)
+    ∙ set-append_seam (a ++ b) (get_or xs (from + i) value) c value
+    ∙ joined_end a b (value ∷ c)
+    ∙ ap (λ r. a ++ r) (sym (joined_end b (value ∷ []) c) ∙ ap (λ r. r ++ c) (sym (repeated_more i value)))
+    ∙ ap (λ n. a ++ (repeated n (value ∷ []) ++ c)) (sym next)
+    ∙ ap (λ n. a ++ (repeated (i + 1) (value ∷ []) ++ drop n xs)) (sym place)
+
+pub length-filled : {Y : Type 0} (xs : List Y) (from count : ℕ) (value : Y) → from + count ≤ length xs → length (filled xs from count value) ≡ length xs
+length-filled xs from count value h =
+    omega (arith, length-append (take from xs) (repeated count (value ∷ []) ++ drop (from + count) xs), length-append (repeated count (value ∷ [])) (drop (from + count) xs),
+    length-one count value, length-take-le from xs (omega arith), length-drop (from + count) xs)
+
+pub whole_counted : {X : Type 0} (result : Bool) (count : ℕ) (flat : List X) (parts then : List (Part X)) (items : List X) → AreCounted count flat parts
+    → (result ≡ true → Done count flat then items) → (result ≡ false → then ≡ parts) → AreCounted count flat then
+whole_counted true count flat parts then items counted done same = (done refl).counted
+whole_counted false count flat parts then items counted done same = subst (λ ps. AreCounted count flat ps) (sym (same refl)) counted

@@ -1,7 +1,8 @@
 -- Stretches one behind another, and the items behind each.
-use Rattle.std.specs.Prelude.{◌≡◌, ℕ, ◌+◌, ◌-◌, ◌<◌, ◌≤◌, ◌^◌, List, ◌++◌, length, take, drop, slice_get, slice_set, Some}
+use Rattle.std.specs.Prelude.{◌≡◌, ℕ, ◌+◌, ◌-◌, ◌<◌, ◌≤◌, ◌^◌, List, ◌++◌, length, take, drop, ◌∷◌, [], slice_get, slice_set, Some}
 use Rattle.std.specs.List.{flat_map}
 use Rattle.cr_sequence.specs.declared.sequence.Part.{Part}
+use Rattle.cr_sequence.specs.Kept.{repeated}
 
 -- a stretch and the items behind it
 abbrev pub items_in : {X : Type 0} → Part X → List X
@@ -50,3 +51,7 @@ pub record Changes {X : Type 0} (parts : List (Part X)) (number : ℕ) (then : L
 pub record Done {X : Type 0} (count : ℕ) (flat : List X) (parts : List (Part X)) (items : List X) : Type 0 where
   pub counted : AreCounted count flat parts
   pub shown : all_items flat parts ≡ items
+
+-- so many items from a place on are one value
+abbrev pub filled : {X : Type 0} → List X → ℕ → ℕ → X → List X
+filled items from count value = take from items ++ (repeated count (value ∷ []) ++ drop (from + count) items)

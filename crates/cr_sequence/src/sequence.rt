@@ -1,7 +1,7 @@
-ghost use Rattle.std.specs.Prelude.{◌≡◌, ℕ, ◌+◌, ◌-◌, ◌*◌, ◌<◌, ◌≤◌, ◌++◌, ◌∷◌, [], IfOk, OnOk, OnErr, length, map, slice_get, slice_set, take, Some};
+ghost use Rattle.std.specs.Prelude.{◌≡◌, ℕ, ◌+◌, ◌-◌, ◌*◌, ◌<◌, ◌≤◌, ◌++◌, ◌∷◌, [], IfOk, OnOk, OnErr, length, map, slice_get, slice_set, take, true, false, Some};
 ghost use Rattle.std.specs.List.{flat_map};
 ghost use Rattle.cr_sequence.specs.Kept.{repeated};
-ghost use Rattle.cr_sequence.specs.Stretches.{items_in, all_items, AreCounted, BeginsBy, BeginsFrom, Changes, Done, Holds, Placed};
+ghost use Rattle.cr_sequence.specs.Stretches.{items_in, all_items, AreCounted, BeginsBy, BeginsFrom, Changes, Done, filled, Holds, Placed};
 
 use crate::stretch::Stretch;
 use std::alloc::{AllocError, Global};
@@ -206,6 +206,66 @@ fn push_behind<T: Copy>(
     }
 }
 
+fn has_stretch<T: Copy>(parts: &Vec<Part<T>>, number: usize, size: usize) -> bool
+    requires { number < length parts.now.items }
+    ensures { result ≡ true → (part : Part T) → slice_get parts.now.items number ≡ Some part → length part.stretch ≡ size }
+{
+    parts[number].stretch.len() == size
+}
+
+fn fill_in<T: Copy>(part: &mut Part<T>, value: T)
+    ensures start { part.new.start ≡ part.old.start }
+    ensures items { items_in part.new ≡ map (λ _. value) part.old.stretch ++ part.old.after.items }
+{
+    part.stretch.fill(value);
+}
+
+fn fill_at<T: Copy>(parts: &mut Vec<Part<T>>, number: usize, value: T)
+    requires { number < length parts.old.items }
+    ensures { (part : Part T) → slice_get parts.old.items number ≡ Some part → Changes parts.old.items number parts.new.items part (map (λ _. value) part.stretch ++ part.after.items) }
+{
+    fill_in(&mut parts[number], value);
+}
+
+// Where so many items from a place on are a whole stretch, each is one value now; else nothing changes.
+fn fill_stretch<T: Copy>(
+    count: usize,
+    flat: &Vec<T>,
+    parts: &mut Vec<Part<T>>,
+    from: usize,
+    size: usize,
+    value: T,
+) -> bool
+    requires counted { AreCounted count flat.now.items parts.old.items }
+    requires within { from < count }
+    requires behind { length flat.now.items ≤ from }
+    ensures done { result ≡ true → Done count flat.now.items parts.new.items (filled (all_items flat.now.items parts.old.items) from size value) }
+    ensures same { result ≡ false → parts.new.items ≡ parts.old.items }
+{
+    let (number, place) = placed(count, flat, parts, from);
+    if place != 0 {
+        return false;
+    }
+    let whole = has_stretch(parts, number, size);
+    if whole {
+        fill_at(parts, number, value);
+        true
+    } else {
+        false
+    }
+}
+
+// One item after another.
+fn set_each<T: Copy>(items: &mut Sequence<T>, from: usize, count: usize, value: T)
+    requires within { from + count ≤ length items.old }
+    requires few { from + count ≤ 2199023255552 }
+    ensures { items.new ≡ filled items.old from count value }
+{
+    for i in 0..count {
+        items.set(from + i, value);
+    }
+}
+
 // The first items alone.
 fn cut_behind<T: Copy>(count: usize, flat: &mut Vec<T>, parts: &mut Vec<Part<T>>, size: usize)
     requires counted { AreCounted count flat.old.items parts.old.items }
@@ -310,6 +370,40 @@ impl<T: Copy> Sequence<T> {
             }
             Err(error) => Err(error),
         }
+    }
+
+    /// So many items from a place on are one value. It takes no memory, and where they are a whole stretch, a step for each block
+    /// at most.
+    pub fn fill(&mut self, from: usize, count: usize, value: T)
+        requires { from + count ≤ length self.old }
+        ensures { self.new ≡ filled self.old from count value }
+    {
+        if !self.fill_whole(from, count, value) {
+            set_each(self, from, count, value);
+        }
+    }
+
+    fn fill_whole(&mut self, from: usize, count: usize, value: T) -> bool
+        requires { from + count ≤ length self.old }
+        ensures few { from + count ≤ 2199023255552 }
+        ensures done { result ≡ true → self.new ≡ filled self.old from count value }
+        ensures same { result ≡ false → self.new ≡ self.old }
+    {
+        let plain = self.flat.len();
+        if from < plain {
+            return false;
+        }
+        if from >= self.count {
+            return false;
+        }
+        fill_stretch(
+            self.count,
+            &self.flat,
+            &mut self.parts,
+            from,
+            count,
+            value,
+        )
     }
 
     /// Drops the items from a place on.

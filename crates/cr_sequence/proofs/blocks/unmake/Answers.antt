@@ -1,4 +1,4 @@
-use Rattle.std.proofs.Common.{◌≡◌, ℕ, ◌+◌, ◌*◌, ◌≤◌, Option, Some, None, List, get_or, refl, arith}
+use Rattle.std.proofs.Common.{◌≡◌, ℕ, ◌+◌, ◌*◌, ◌≤◌, Option, Some, None, get_or, refl, arith}
 use Rattle.cr_sequence.proofs.blocks.unmake.Goals as goal
 
 none_by : (own : Option ℕ) → ((number : ℕ) → own ≡ Some number → number * 256 + 256 ≤ 0) → own ≡ None

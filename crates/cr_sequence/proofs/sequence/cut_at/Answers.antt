@@ -1,4 +1,4 @@
-use Rattle.std.proofs.Common.{set, take}
+use Rattle.std.proofs.Common.{take}
 use Rattle.cr_sequence.specs.Stretches.{items_in}
 use Rattle.cr_sequence.proofs.Parts.{changed_by}
 use Rattle.cr_sequence.proofs.sequence.cut_at.Goals as goal

@@ -1,4 +1,3 @@
-use Rattle.std.proofs.Common.{◌≡◌}
 use Rattle.cr_sequence.proofs.Parts.{placed_there, same_read}
 use Rattle.cr_sequence.proofs.sequence.get_at.Goals as goal
 

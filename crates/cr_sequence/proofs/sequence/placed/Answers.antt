@@ -1,4 +1,4 @@
-use Rattle.std.proofs.Common.{◌∙◌, sym, ap, arith}
+use Rattle.std.proofs.Common.{arith}
 use Rattle.cr_sequence.proofs.Parts.{placed, some_part}
 use Rattle.cr_sequence.proofs.sequence.placed.Goals as goal
 

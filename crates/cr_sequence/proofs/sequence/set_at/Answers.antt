@@ -1,4 +1,4 @@
-use Rattle.std.proofs.Common.{set, take}
+use Rattle.std.proofs.Common.{set}
 use Rattle.cr_sequence.specs.Stretches.{items_in}
 use Rattle.cr_sequence.proofs.Parts.{changed_by, placed_there}
 use Rattle.cr_sequence.proofs.sequence.set_at.Goals as goal

@@ -1,4 +1,4 @@
-use Rattle.std.proofs.Common.{◌++◌, ◌∷◌, [], ap, ◌∙◌, arith}
+use Rattle.std.proofs.Common.{◌++◌, ◌∷◌, [], ap, ◌∙◌}
 use Rattle.cr_sequence.proofs.sequence.Sequence.push.Goals as goal
 
 pub invariant_of-self : goal.invariant_of-self

@@ -1,4 +1,4 @@
-use Rattle.std.proofs.Common.{length, ap, sym, ◌∙◌, arith}
+use Rattle.std.proofs.Common.{length, ap, sym, ◌∙◌}
 use Rattle.cr_sequence.proofs.Showing.{length-shown, fill_shown}
 use Rattle.cr_sequence.proofs.stretch.Stretch.fill.Goals as goal
 

@@ -1,4 +1,4 @@
-use Rattle.std.proofs.Common.{◌≡◌, ◌*◌, length, ap, sym, ◌∙◌, arith}
+use Rattle.std.proofs.Common.{◌*◌, ap, ◌∙◌, arith}
 use Rattle.cr_sequence.specs.Kept.{items_of}
 use Rattle.cr_sequence.proofs.Making.{none_used}
 use Rattle.cr_sequence.proofs.Showing.{new_shown}

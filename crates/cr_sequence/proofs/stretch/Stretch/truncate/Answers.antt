@@ -1,4 +1,4 @@
-use Rattle.std.proofs.Common.{length, ap, sym, ◌∙◌, arith}
+use Rattle.std.proofs.Common.{length, ap, sym, arith}
 use Rattle.std.proofs.lemmas.List.{take_all}
 use Rattle.cr_sequence.proofs.Showing.{length-shown, take_shown}
 use Rattle.cr_sequence.proofs.stretch.Stretch.truncate.Goals as goal
