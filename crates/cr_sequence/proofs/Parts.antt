@@ -9,7 +9,7 @@ use Rattle.cr_sequence.specs.Kept.{repeated}
 use Rattle.std.proofs.lemmas.List.{length-map, take-append-drop, drop_more, length-take-le, take_more, take_all, take-set-le, take-append-le, get_or_append_left, get_or-append_right, set-append_left, set-append_right}
 use Rattle.std.proofs.lemmas.Option.{slice_get_within, slice_get-get_or, get_or_from_slice_get}
 use Rattle.cr_sequence.specs.declared.sequence.Part.{Part}
-use Rattle.cr_sequence.specs.Stretches.{items_in, all_items, AreCounted, BeginsBy, BeginsFrom, Holds, Placed, Changes, Done, filled}
+use Rattle.cr_sequence.specs.Stretches.{items_in, all_items, AreCounted, BeginsBy, BeginsFrom, Holds, Placed, Changes, ChangesTo, Done, filled}
 
 -- the items of the parts before one
 abbrev pub before : {X : Type 0} → List (Part X) → ℕ → List X
@@ -303,9 +303,6 @@ pub there : {Y : Type 0} (xs : List Y) (n : ℕ) → n < length xs → (x : Y) �
 there [] n h = absurd (omega arith)
 there (x ∷ xs) zero h = (x, refl)
 there (x ∷ xs) (suc n) h = there xs n (omega arith)
-
-abbrev pub ChangesTo : {X : Type 0} → List (Part X) → ℕ → List (Part X) → (Part X → List X) → Type 0
-ChangesTo {X = X} parts number then items = (part : Part X) → slice_get parts number ≡ Some part → Changes parts number then part (items part)
 
 pub set_done : {X : Type 0} (count : ℕ) (flat : List X) (parts then : List (Part X)) (index number place : ℕ) (item : X) → AreCounted count flat parts → number < length parts
     → ((part : Part X) → slice_get parts number ≡ Some part → (place ≡ index - part.start) × Placed flat parts index part number)
@@ -660,8 +657,14 @@ filled_more xs from i value h =
 
 pub length-filled : {Y : Type 0} (xs : List Y) (from count : ℕ) (value : Y) → from + count ≤ length xs → length (filled xs from count value) ≡ length xs
 length-filled xs from count value h =
-    omega (arith, length-append (take from xs) (repeated count (value ∷ []) ++ drop (from + count) xs), length-append (repeated count (value ∷ [])) (drop (from + count) xs),
-    length-one count value, length-take-le from xs (omega arith), length-drop (from + count) xs)
+    omega (
+      arith,
+      length-append (take from xs) (repeated count (value ∷ []) ++ drop (from + count) xs),
+      length-append (repeated count (value ∷ [])) (drop (from + count) xs),
+      length-one count value,
+      length-take-le from xs (omega arith),
+      length-drop (from + count) xs,
+    )
 
 pub whole_counted : {X : Type 0} (result : Bool) (count : ℕ) (flat : List X) (parts then : List (Part X)) (items : List X) → AreCounted count flat parts
     → (result ≡ true → Done count flat then items) → (result ≡ false → then ≡ parts) → AreCounted count flat then

@@ -1,5 +1,5 @@
 -- A pattern that comes over and over, and the items of those blocks alone that were written. What it shows is the whole list.
-use Rattle.std.specs.Prelude.{◌≡◌, ℕ, zero, suc, ◌+◌, ◌*◌, ◌/◌, ◌%◌, ◌<◌, ◌≤◌, Option, Some, None, List, [], ◌++◌, map, length, sum_by, slice_index_or, vec_len, vec_capacity}
+use Rattle.std.specs.Prelude.{◌≡◌, ◌≢◌, ℕ, zero, suc, ◌+◌, ◌*◌, ◌/◌, ◌%◌, ◌<◌, ◌≤◌, Option, Some, None, List, [], ◌++◌, map, length, sum_by, slice_index_or, vec_len, vec_capacity}
 use Rattle.std.specs.Global.{Vec}
 use Rattle.std.specs.List.{range_with_len}
 
@@ -23,6 +23,14 @@ item_in first pattern blocks pool place = in_block first pattern pool place (blo
 -- the list that it shows
 abbrev pub items_of : {X : Type 0} → ℕ → X → List X → List (Option ℕ) → List X → List X
 items_of count first pattern blocks pool = map (item_in first pattern blocks pool) (range_with_len 0 count)
+
+-- two ways of keeping show the same items: all of them, or all but one
+abbrev pub ShowAlike : {X : Type 0} → X → List X → List (Option ℕ) → List X → List (Option ℕ) → List X → Type 0
+ShowAlike first pattern blocks pool then left = (place : ℕ) → item_in first pattern then left place ≡ item_in first pattern blocks pool place
+
+abbrev pub ShowOthersAlike : {X : Type 0} → ℕ → X → List X → List (Option ℕ) → List X → List (Option ℕ) → List X → Type 0
+ShowOthersAlike place first pattern blocks pool then left =
+    (other : ℕ) → other ≢ place → item_in first pattern then left other ≡ item_in first pattern blocks pool other
 
 abbrev pub used : Option ℕ → ℕ
 used None = 0

@@ -40,12 +40,21 @@ pub record Placed {X : Type 0} (flat : List X) (parts : List (Part X)) (index : 
   pub start : part.start ≡ length flat + length (flat_map items_in (take number parts))
   pub is : slice_get parts number ≡ Some part
 
+-- the same of the part of a number, with the place in it
+abbrev pub IsPlaced : {X : Type 0} → List X → List (Part X) → ℕ → ℕ → ℕ → Type 0
+IsPlaced {X = X} flat parts index number place =
+    (part : Part X) → slice_get parts number ≡ Some part → (place ≡ index - part.start) × Placed flat parts index part number
+
 -- a part has other items, and begins where it began
 pub record Changes {X : Type 0} (parts : List (Part X)) (number : ℕ) (then : List (Part X)) (part : Part X) (items : List X) : Type 0 where
   pub new : Part X
   pub is : then ≡ slice_set parts number new
   pub start : new.start ≡ part.start
   pub shows : items_in new ≡ items
+
+-- the part of a number changes, to items by what it is
+abbrev pub ChangesTo : {X : Type 0} → List (Part X) → ℕ → List (Part X) → (Part X → List X) → Type 0
+ChangesTo {X = X} parts number then items = (part : Part X) → slice_get parts number ≡ Some part → Changes parts number then part (items part)
 
 -- what is left shows these items
 pub record Done {X : Type 0} (count : ℕ) (flat : List X) (parts : List (Part X)) (items : List X) : Type 0 where

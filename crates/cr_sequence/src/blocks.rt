@@ -1,5 +1,5 @@
 ghost use Rattle.std.specs.Prelude.{◌≡◌, ◌≢◌, ℕ, ◌+◌, ◌*◌, ◌/◌, ◌%◌, ◌<◌, ◌≤◌, None, Some, IfOk, length, slice_index_or, vec_len, vec_capacity};
-ghost use Rattle.cr_sequence.specs.Kept.{item_in, IsKept};
+ghost use Rattle.cr_sequence.specs.Kept.{item_in, IsKept, ShowAlike, ShowOthersAlike};
 
 use std::alloc::{AllocError, Global};
 
@@ -79,7 +79,7 @@ fn make<T: Copy>(
     ensures kept { IsKept blocks.new.items pool.new }
     ensures count { length blocks.new.items ≡ length blocks.old.items }
     ensures there { slice_index_or blocks.new.items block None ≡ Some result }
-    ensures same { (place : ℕ) → item_in first pattern.now.items blocks.new.items pool.new.items place ≡ item_in first pattern.now.items blocks.old.items pool.old.items place }
+    ensures same { ShowAlike first pattern.now.items blocks.old.items pool.old.items blocks.new.items pool.new.items }
 {
     let number = (pool.len() / 256) as u32;
     fill(first, pattern, pool, block * BLOCK, BLOCK);
@@ -102,7 +102,7 @@ fn made<T: Copy>(
     ensures kept { IsKept blocks.new.items pool.new }
     ensures count { length blocks.new.items ≡ length blocks.old.items }
     ensures there { slice_index_or blocks.new.items block None ≡ Some result }
-    ensures same { (place : ℕ) → item_in first pattern.now.items blocks.new.items pool.new.items place ≡ item_in first pattern.now.items blocks.old.items pool.old.items place }
+    ensures same { ShowAlike first pattern.now.items blocks.old.items pool.old.items blocks.new.items pool.new.items }
 {
     match blocks[block] {
         Some(number) => number,
@@ -126,7 +126,7 @@ pub(crate) fn set<T: Copy>(
     ensures kept { IsKept blocks.new.items pool.new }
     ensures count { length blocks.new.items ≡ length blocks.old.items }
     ensures there { item_in first pattern.now.items blocks.new.items pool.new.items place ≡ value }
-    ensures others { (other : ℕ) → other ≢ place → item_in first pattern.now.items blocks.new.items pool.new.items other ≡ item_in first pattern.now.items blocks.old.items pool.old.items other }
+    ensures others { ShowOthersAlike place first pattern.now.items blocks.old.items pool.old.items blocks.new.items pool.new.items }
 {
     let number = made(first, pattern, blocks, pool, place / BLOCK);
     pool[number as usize * 256 + place % BLOCK] = value;

@@ -1,7 +1,7 @@
 ghost use Rattle.std.specs.Prelude.{◌≡◌, ℕ, ◌+◌, ◌-◌, ◌*◌, ◌<◌, ◌≤◌, ◌++◌, ◌∷◌, [], IfOk, OnOk, OnErr, length, map, slice_get, slice_set, take, true, false, Some};
 ghost use Rattle.std.specs.List.{flat_map};
 ghost use Rattle.cr_sequence.specs.Kept.{repeated};
-ghost use Rattle.cr_sequence.specs.Stretches.{items_in, all_items, AreCounted, BeginsBy, BeginsFrom, Changes, Done, filled, Holds, Placed};
+ghost use Rattle.cr_sequence.specs.Stretches.{items_in, all_items, AreCounted, BeginsBy, BeginsFrom, ChangesTo, Done, filled, Holds, IsPlaced};
 
 use crate::stretch::Stretch;
 use std::alloc::{AllocError, Global};
@@ -73,7 +73,7 @@ fn placed<T>(count: usize, flat: &Vec<T>, parts: &Vec<Part<T>>, index: usize) ->
     requires within { index < count }
     requires behind { length flat.now.items ≤ index }
     ensures number { result.0 < length parts.now.items }
-    ensures place { (part : Part T) → slice_get parts.now.items result.0 ≡ Some part → (result.1 ≡ index - part.start) × Placed flat.now.items parts.now.items index part result.0 }
+    ensures place { IsPlaced flat.now.items parts.now.items index result.0 result.1 }
 {
     let number = part_of(parts, index);
     let start = start_at(parts, number);
@@ -136,22 +136,22 @@ fn get_at<T: Copy>(parts: &Vec<Part<T>>, number: usize, place: usize) -> T
 fn set_at<T: Copy>(parts: &mut Vec<Part<T>>, number: usize, place: usize, item: T)
     requires number { number < length parts.old.items }
     requires place { (part : Part T) → slice_get parts.old.items number ≡ Some part → place < length (items_in part) }
-    ensures { (part : Part T) → slice_get parts.old.items number ≡ Some part → Changes parts.old.items number parts.new.items part (slice_set (items_in part) place item) }
+    ensures { ChangesTo parts.old.items number parts.new.items (λ part. slice_set (items_in part) place item) }
 {
     set_in(&mut parts[number], place, item);
 }
 
 fn push_at<T: Copy>(parts: &mut Vec<Part<T>>, number: usize, item: T) -> Result<(), AllocError>
     requires { number < length parts.old.items }
-    ensures pushed { OnOk result ((part : Part T) → slice_get parts.old.items number ≡ Some part → Changes parts.old.items number parts.new.items part (items_in part ++ item ∷ [])) }
-    ensures refused { OnErr result ((part : Part T) → slice_get parts.old.items number ≡ Some part → Changes parts.old.items number parts.new.items part (items_in part)) }
+    ensures pushed { OnOk result (ChangesTo parts.old.items number parts.new.items (λ part. items_in part ++ item ∷ [])) }
+    ensures refused { OnErr result (ChangesTo parts.old.items number parts.new.items items_in) }
 {
     push_in(&mut parts[number], item)
 }
 
 fn cut_at<T: Copy>(parts: &mut Vec<Part<T>>, number: usize, count: usize)
     requires { number < length parts.old.items }
-    ensures { (part : Part T) → slice_get parts.old.items number ≡ Some part → Changes parts.old.items number parts.new.items part (take count (items_in part)) }
+    ensures { ChangesTo parts.old.items number parts.new.items (λ part. take count (items_in part)) }
 {
     cut_in(&mut parts[number], count);
 }
@@ -222,7 +222,7 @@ fn fill_in<T: Copy>(part: &mut Part<T>, value: T)
 
 fn fill_at<T: Copy>(parts: &mut Vec<Part<T>>, number: usize, value: T)
     requires { number < length parts.old.items }
-    ensures { (part : Part T) → slice_get parts.old.items number ≡ Some part → Changes parts.old.items number parts.new.items part (map (λ _. value) part.stretch ++ part.after.items) }
+    ensures { ChangesTo parts.old.items number parts.new.items (λ part. map (λ _. value) part.stretch ++ part.after.items) }
 {
     fill_in(&mut parts[number], value);
 }
@@ -396,14 +396,7 @@ impl<T: Copy> Sequence<T> {
         if from >= self.count {
             return false;
         }
-        fill_stretch(
-            self.count,
-            &self.flat,
-            &mut self.parts,
-            from,
-            count,
-            value,
-        )
+        fill_stretch(self.count, &self.flat, &mut self.parts, from, count, value)
     }
 
     /// Drops the items from a place on.
