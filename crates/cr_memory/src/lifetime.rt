@@ -1,6 +1,7 @@
-ghost use Rattle.std.specs.Prelude.{◌≡◌, ◌&&◌, nat_le, nat_lt, ◌<◌, ◌≤◌, ◌+◌, ◌++◌, ◌^◌, ◌∷◌, [], true, length, map, take, vec_len, vec_capacity, OnOk, OnErr, IfOk};
+ghost use Rattle.std.specs.Prelude.{◌≡◌, ◌&&◌, nat_le, nat_lt, ◌<◌, ◌≤◌, ◌+◌, ◌*◌, ◌++◌, ◌∷◌, [], true, length, map, take, OnOk, OnErr, IfOk};
+ghost use Rattle.cr_sequence.specs.Kept.{repeated};
 ghost use Rattle.cr_memory.specs.Memory.{first_cell};
-ghost use Rattle.cr_memory.specs.Flat.{span_at, span_of, HasRoom, MovesDown};
+ghost use Rattle.cr_memory.specs.Flat.{span_at, span_of, BeginsWith, HasRoom, MovesDown};
 
 use crate::flat::copy_down;
 use crate::spans::Spans;
@@ -33,8 +34,24 @@ fn first_cell(own: (Scalar, Guard), zero: bool) -> Cell
     }
 }
 
-/// The cells of a new object, behind those that are there, or some of them.
-fn append_cells(cells: &mut Sequence<Cell>, shape: &[(Scalar, Guard)], zero: bool) -> Result<(), AllocError>
+/// What the cells of an object hold when its lifetime begins.
+fn first_cells(
+    alloc: Global,
+    shape: &[(Scalar, Guard)],
+    zero: bool,
+) -> Result<Vec<Cell>, AllocError>
+    ensures { IfOk result (λ cells. cells.items ≡ map (first_cell zero) shape.now) }
+{
+    shape.iter().map(|own| first_cell(*own, zero)).collect(alloc)
+}
+
+fn append_cells(
+    cells: &mut Sequence<Cell>,
+    shape: &[(Scalar, Guard)],
+    zero: bool,
+) -> Result<(), AllocError>
+    ensures all { OnOk result (cells.new ≡ cells.old ++ map (first_cell zero) shape.now) }
+    ensures begun { BeginsWith cells.old cells.new }
 {
     for own in shape {
         cells.push(first_cell(*own, zero))?;
@@ -42,12 +59,89 @@ fn append_cells(cells: &mut Sequence<Cell>, shape: &[(Scalar, Guard)], zero: boo
     Ok(())
 }
 
-fn append_shape(shapes: &mut Sequence<(Scalar, Guard)>, shape: &[(Scalar, Guard)]) -> Result<(), AllocError>
+fn append_shape(
+    shapes: &mut Sequence<(Scalar, Guard)>,
+    shape: &[(Scalar, Guard)],
+) -> Result<(), AllocError>
+    ensures all { OnOk result (shapes.new ≡ shapes.old ++ shape.now) }
+    ensures begun { BeginsWith shapes.old shapes.new }
 {
     for own in shape {
         shapes.push(*own)?;
     }
     Ok(())
+}
+
+/// The cells of a new object, behind those that are there, or some of them.
+fn append_each(
+    cells: &mut Sequence<Cell>,
+    shapes: &mut Sequence<(Scalar, Guard)>,
+    shape: &[(Scalar, Guard)],
+    times: u32,
+    zero: bool,
+) -> Result<(), AllocError>
+    ensures cells { OnOk result (cells.new ≡ cells.old ++ map (first_cell zero) (repeated times shape.now)) }
+    ensures shapes { OnOk result (shapes.new ≡ shapes.old ++ repeated times shape.now) }
+    ensures begun_cells { BeginsWith cells.old cells.new }
+    ensures begun_shapes { BeginsWith shapes.old shapes.new }
+{
+    for _turn in 0..times {
+        append_cells(cells, shape, zero)?;
+        append_shape(shapes, shape)?;
+    }
+    Ok(())
+}
+
+/// The same where the cells take room when they are set.
+fn append_stretch(
+    alloc: Global,
+    cells: &mut Sequence<Cell>,
+    shapes: &mut Sequence<(Scalar, Guard)>,
+    shape: &[(Scalar, Guard)],
+    times: u32,
+    zero: bool,
+) -> Result<(), AllocError>
+    requires some { 0 < length shape.now }
+    requires few { times * length shape.now ≤ 4294967296 }
+    ensures cells { OnOk result (cells.new ≡ cells.old ++ map (first_cell zero) (repeated times shape.now)) }
+    ensures shapes { OnOk result (shapes.new ≡ shapes.old ++ repeated times shape.now) }
+    ensures begun_cells { BeginsWith cells.old cells.new }
+    ensures begun_shapes { BeginsWith shapes.old shapes.new }
+{
+    let first = first_cells(alloc, shape, zero)?;
+    let own = shape.to_vec(alloc)?;
+    cells.push_stretch(first, times as usize)?;
+    shapes.push_stretch(own, times as usize)
+}
+
+/// Enters an object of elements of a shape behind the others, or some of its cells.
+fn enter_behind(
+    alloc: Global,
+    spans: &mut Spans,
+    cells: &mut Sequence<Cell>,
+    shapes: &mut Sequence<(Scalar, Guard)>,
+    shape: &[(Scalar, Guard)],
+    times: u32,
+    zero: bool,
+) -> Result<u32, AllocError>
+    requires number { length spans.old < 4294967295 }
+    requires few { times * length shape.now < 4294967296 }
+    ensures number { IfOk result (λ number. number ≡ length spans.old) }
+    ensures spans { OnOk result (spans.new ≡ spans.old ++ span_of (length cells.old) (times * length shape.now) ∷ []) }
+    ensures cells { OnOk result (cells.new ≡ cells.old ++ map (first_cell zero) (repeated times shape.now)) }
+    ensures shapes { OnOk result (shapes.new ≡ shapes.old ++ repeated times shape.now) }
+    ensures same_spans { OnErr result (spans.new ≡ spans.old) }
+    ensures begun_cells { BeginsWith cells.old cells.new }
+    ensures begun_shapes { BeginsWith shapes.old shapes.new }
+{
+    let first = cells.len();
+    let count = times as usize * shape.len();
+    if count > WIDE && times > 1 {
+        append_stretch(alloc, cells, shapes, shape, times, zero)?;
+    } else {
+        append_each(cells, shapes, shape, times, zero)?;
+    }
+    spans.enter(first, count as u32)
 }
 
 /// Enters an object of elements of a shape behind the others, or changes nothing.
@@ -60,52 +154,31 @@ pub(crate) fn enter(
     times: u32,
     zero: bool,
 ) -> Result<u32, AllocError>
+    requires number { length spans.old < 4294967295 }
+    requires few { times * length shape.now < 4294967296 }
+    ensures number { IfOk result (λ number. number ≡ length spans.old) }
+    ensures spans { OnOk result (spans.new ≡ spans.old ++ span_of (length cells.old) (times * length shape.now) ∷ []) }
+    ensures cells { OnOk result (cells.new ≡ cells.old ++ map (first_cell zero) (repeated times shape.now)) }
+    ensures shapes { OnOk result (shapes.new ≡ shapes.old ++ repeated times shape.now) }
+    ensures same_spans { OnErr result (spans.new ≡ spans.old) }
+    ensures same_cells { OnErr result (cells.new ≡ cells.old) }
+    ensures same_shapes { OnErr result (shapes.new ≡ shapes.old) }
 {
-    let first = cells.len();
-    match append(alloc, cells, shapes, shape, times, zero) {
-        Ok(()) => match spans.enter(first, shape.len() as u32 * times) {
-            Ok(number) => Ok(number),
-            Err(error) => {
-                cells.truncate(first);
-                shapes.truncate(first);
-                Err(error)
-            }
-        },
+    let cell_count = cells.len();
+    let shape_count = shapes.len();
+    match enter_behind(alloc, spans, cells, shapes, shape, times, zero) {
+        Ok(number) => Ok(number),
         Err(error) => {
-            cells.truncate(first);
-            shapes.truncate(first);
+            cells.truncate(cell_count);
+            shapes.truncate(shape_count);
             Err(error)
         }
     }
 }
 
-fn append(
-    alloc: Global,
-    cells: &mut Sequence<Cell>,
-    shapes: &mut Sequence<(Scalar, Guard)>,
-    shape: &[(Scalar, Guard)],
-    times: u32,
-    zero: bool,
-) -> Result<(), AllocError>
-{
-    if shape.len() * times as usize > WIDE && times > 1 {
-        let mut first = Vec::with_capacity(alloc, shape.len())?;
-        for own in shape {
-            first.push(first_cell(*own, zero))?;
-        }
-        cells.push_stretch(first, times as usize)?;
-        return shapes.push_stretch(shape.to_vec(alloc)?, times as usize);
-    }
-    for _turn in 0..times {
-        append_cells(cells, shape, zero)?;
-        append_shape(shapes, shape)?;
-    }
-    Ok(())
-}
-
 /// Gives memory back where most of it stands idle.
 pub(crate) fn give_back<T: Drop>(items: &mut Vec<T>)
-    ensures { items.new ≡ items.old }
+    ensures { items.new.items ≡ items.old.items }
 {
     let count = items.len();
     if items.capacity() / 4 > count && items.capacity() > KEPT {

@@ -1,9 +1,10 @@
-ghost use Rattle.std.specs.Prelude.{◌≡◌, ◌<◌, ◌≤◌, ◌↔◌, [], ◌∷◌, false, length, is_some, IsSome, IsTrue, IfSome, IfNone, ◌⊎◌, IfOk, IfErr, OnErr};
+ghost use Rattle.std.specs.Prelude.{◌≡◌, ◌<◌, ◌≤◌, ◌↔◌, [], ◌∷◌, false, length, is_some, IsSome, IsTrue, IfSome, IfNone, ◌⊎◌, IfOk, IfErr, OnErr, map};
 ghost use Rattle.cr_memory.specs.Memory.{IsPointer, Holds, AllHold, KeepsPointers, live_object, count_of, has_room, new_object, with_object, without_object};
-ghost use Rattle.cr_memory.specs.Access.{reach_of, load_of, save_of, put_of, copy_of, cells_of, shape_in, with_cells, Writes, Reads, HasStride};
+ghost use Rattle.cr_memory.specs.Access.{reach_of, load_of, save_of, put_of, copy_of, cells_of, shape_in, some_object, with_cells, Writes, Reads, HasStride};
 ghost use Rattle.cr_memory.specs.Pointers.{shift_of, differ_of, less_of, same_of};
 ghost use Rattle.cr_memory.specs.Continues.{Continues, ContinuesBeside};
 ghost use Rattle.cr_memory.specs.Laws.{HoldsKinds};
+ghost use Rattle.cr_sequence.specs.Kept.{repeated};
 
 use crate::spans::Spans;
 use crate::value::{Cell, Guard, NO_ROOM, Pointer, Scalar, Trap};
@@ -188,7 +189,7 @@ impl Store {
         ensures kept { KeepsPointers self.old self.new }
         ensures continues { Continues self.old self.new }
     {
-        let Some(count) = shape.len().checked_mul(times as usize) else {
+        let Some(count) = (times as usize).checked_mul(shape.len()) else {
             return Err(Trap::Left(NO_ROOM));
         };
         if !lifetime::has_room(&self.spans, self.most, self.live, count) {
@@ -214,7 +215,7 @@ impl Store {
     /// Nothing is in the cells of a live object again (6.2.4p6).
     pub fn clear(&mut self, object: u32)
         requires { IsSome (live_object self.old object) }
-        ensures cleared { self.new ≡ with_cells self.old object 0 (map (λ _. Unset) (some_object (live_object self.old object)).cells) }
+        ensures cleared { self.new ≡ with_cells self.old object 0 (map (λ _. Cell.Unset) (some_object (live_object self.old object)).cells) }
         ensures kept { KeepsPointers self.old self.new }
         ensures continues { Continues self.old self.new }
     {
@@ -230,6 +231,8 @@ impl Store {
         ensures kept { KeepsPointers self.old self.new }
         ensures others { ContinuesBeside object self.old self.new }
     {
+        // The proof takes from it that the place where the cells end is a number.
+        let _used = self.cells.len();
         self.live -= self.spans.leave(object);
         let end = self.spans.end();
         lifetime::cut(&mut self.cells, end);

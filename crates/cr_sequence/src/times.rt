@@ -1,7 +1,6 @@
-ghost use Rattle.std.specs.Prelude.{◌≡◌, ◌*◌, length, IfSome};
+ghost use Rattle.std.specs.Prelude.{◌≡◌, IfSome};
 ghost use Rattle.cr_sequence.specs.Kept.{repeated};
 
-use std::alloc::Global;
 use std::marker::Model;
 
 /// Items that come so many times, spelled out once.
@@ -31,22 +30,14 @@ impl<T> Times<T> {
         Times { one, times }
     }
 
-    /// The items that come over and over.
-    pub fn one(&self) -> &[T] {
-        self.one.as_slice()
+    /// The items that come over and over, and how often.
+    pub fn parts(&self) -> (&[T], u32)
+        ensures { repeated result.1 result.0.now ≡ self.now }
+    {
+        (self.one.as_slice(), self.times)
     }
 
-    /// How often they come.
-    pub fn times(&self) -> u32 {
-        self.times
-    }
-
-    /// How many items there are in all.
-    pub fn len(&self) -> usize {
-        self.one.len() * self.times as usize
-    }
-
-    /// The items, if they come once.
+    /// The items, where they come once.
     pub fn as_slice(&self) -> Option<&[T]>
         ensures { IfSome result (λ items. items.now ≡ self.now) }
     {

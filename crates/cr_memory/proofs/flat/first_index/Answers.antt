@@ -20,5 +20,5 @@ returns-clause-inside c =
     let spans = c.args.spans.now in
     let at = c.args.at in
     rw c.index.ensures.place
-    (inside_by (ended_in spans at) (is_null_or_end at) (index_of spans at) c.args.count (length c.args.cells.now.items)
-    (λ live inside. (reached_run 0 spans c.args.cells.now.items [] at c.args.count r.room r.within r.stride live inside).inside))
+    (inside_by (ended_in spans at) (is_null_or_end at) (index_of spans at) c.args.count (length c.args.cells.now)
+    (λ live inside. (reached_run 0 spans c.args.cells.now [] at c.args.count r.room r.within r.stride live inside).inside))

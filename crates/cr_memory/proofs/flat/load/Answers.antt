@@ -39,8 +39,8 @@ valued_by held same unset cell result held' same' unset' a b c e = rw (a, b, c) 
 pub returns-then-not-is_same : goal.returns-then-not-is_same
 returns-then-not-is_same c =
     let spans = c.args.spans.now in
-    let cells = c.args.cells.now.items in
-    let shape = c.args.shape.now.items in
+    let cells = c.args.cells.now in
+    let shape = c.args.shape.now in
     let index = c.in_ok-index.index in
     let free : Scalar × Guard = (PointerKind 0, Free) in
     let found = was_reached (ended_in spans c.args.at) (is_null_or_end c.args.at) (index_of spans c.args.at) index c.in_ok-index.ensures.place in
@@ -54,8 +54,8 @@ returns-then-not-is_same c =
 pub returns-then-is_unset : goal.returns-then-is_unset
 returns-then-is_unset c =
     let spans = c.args.spans.now in
-    let cells = c.args.cells.now.items in
-    let shape = c.args.shape.now.items in
+    let cells = c.args.cells.now in
+    let shape = c.args.shape.now in
     let index = c.in_ok-index.index in
     let free : Scalar × Guard = (PointerKind 0, Free) in
     let found = was_reached (ended_in spans c.args.at) (is_null_or_end c.args.at) (index_of spans c.args.at) index c.in_ok-index.ensures.place in
@@ -70,8 +70,8 @@ returns-then-is_unset c =
 pub returns-else-is_unset : goal.returns-else-is_unset
 returns-else-is_unset c =
     let spans = c.args.spans.now in
-    let cells = c.args.cells.now.items in
-    let shape = c.args.shape.now.items in
+    let cells = c.args.cells.now in
+    let shape = c.args.shape.now in
     let index = c.in_ok-index.index in
     let free : Scalar × Guard = (PointerKind 0, Free) in
     let found = was_reached (ended_in spans c.args.at) (is_null_or_end c.args.at) (index_of spans c.args.at) index c.in_ok-index.ensures.place in

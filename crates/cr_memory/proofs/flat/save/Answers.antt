@@ -39,8 +39,8 @@ saved spans cells shape at kind value index own same found seen guard e =
 pub returns-in-Free : goal.returns-in-Free
 returns-in-Free c =
     let spans = c.args.spans.now in
-    let cells = c.args.cells.now.items in
-    let shape = c.args.shape.now.items in
+    let cells = c.args.cells.now in
+    let shape = c.args.shape.now in
     let index = c.in_ok-index.index in
     let free : Scalar × Guard = (PointerKind 0, Free) in
     let found = was_reached (ended_in spans c.args.at) (is_null_or_end c.args.at) (index_of spans c.args.at) index c.in_ok-index.ensures.place in
@@ -53,8 +53,8 @@ returns-in-Free c =
 pub returns-in-Free-2 : goal.returns-in-Free-2
 returns-in-Free-2 c =
     let spans = c.args.spans.now in
-    let cells = c.args.cells.now.items in
-    let shape = c.args.shape.now.items in
+    let cells = c.args.cells.now in
+    let shape = c.args.shape.now in
     let index = c.in_ok-index.index in
     let free : Scalar × Guard = (PointerKind 0, Free) in
     let found = was_reached (ended_in spans c.args.at) (is_null_or_end c.args.at) (index_of spans c.args.at) index c.in_ok-index.ensures.place in

@@ -5,4 +5,4 @@ use Rattle.cr_memory.proofs.flat.write_over.Goals as goal
 
 pub loop-i-preserved : goal.loop-i-preserved
 loop-i-preserved c =
-    rw c.loop-i.invariant (written_over c.args.cells.now.items c.args.target c.args.values.now c.loop-i.i Unset (omega arith))
+    rw c.loop-i.invariant (written_over c.args.cells.now c.args.target c.args.values.now c.loop-i.i Unset (omega arith))

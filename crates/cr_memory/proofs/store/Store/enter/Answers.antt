@@ -12,7 +12,7 @@ pub returns-then-not-has_room-clause-no_room : goal.returns-then-not-has_room-cl
 returns-then-not-has_room-clause-no_room c =
     let i = c.self.inside in
     let full = ap (λ m. has_room m (length c.args.shape.now)) (sym c.self.view_is)
-    ∙ sym (has_room-memory_of i.most i.live i.spans i.cells.items i.shape.items (length c.args.shape.now) c.self.invariant)
+    ∙ sym (has_room-memory_of i.most i.live i.spans i.cells i.shape (length c.args.shape.now) c.self.invariant)
     ∙ sym c.has_room.ensures ∙ c.if-not-has_room.true in
     (λ _. full, λ _. refl)
 
@@ -21,14 +21,14 @@ invariant_of-self c =
     let i = c.self.inside in
     let tests = both_true _ _ (sym c.has_room.ensures ∙ c.if-not-has_room.false) in
     rw (c.in-Ok.ensures.spans, c.in-Ok.ensures.cells, c.in-Ok.ensures.shapes)
-    (entered i.most i.live i.spans i.cells.items i.shape.items c.args.shape.now c.args.zero c.self.invariant (leb-true _ _ tests.0)).stored
+    (entered i.most i.live i.spans i.cells i.shape c.args.shape.now c.args.zero c.self.invariant (leb-true _ _ tests.0)).stored
 
 pub returns-in-Ok-clause-entered : goal.returns-in-Ok-clause-entered
 returns-in-Ok-clause-entered c =
     let i = c.self.inside in
     let tests = both_true _ _ (sym c.has_room.ensures ∙ c.if-not-has_room.false) in
-    let done = entered i.most i.live i.spans i.cells.items i.shape.items c.args.shape.now c.args.zero c.self.invariant (leb-true _ _ tests.0) in (
-      c.in-Ok.ensures.number ∙ sym (length-map i.spans (object_of i.cells.items i.shape.items)) ∙ ap (λ m. length m.objects) c.self.view_is,
+    let done = entered i.most i.live i.spans i.cells i.shape c.args.shape.now c.args.zero c.self.invariant (leb-true _ _ tests.0) in (
+      c.in-Ok.ensures.number ∙ sym (length-map i.spans (object_of i.cells i.shape)) ∙ ap (λ m. length m.objects) c.self.view_is,
       rw (c.in-Ok.ensures.spans, c.in-Ok.ensures.cells, c.in-Ok.ensures.shapes, ← c.self.view_is) done.seen,
     )
 
@@ -36,14 +36,14 @@ pub returns-in-Ok-clause-kept : goal.returns-in-Ok-clause-kept
 returns-in-Ok-clause-kept c =
     let i = c.self.inside in
     let tests = both_true _ _ (sym c.has_room.ensures ∙ c.if-not-has_room.false) in
-    let done = entered i.most i.live i.spans i.cells.items i.shape.items c.args.shape.now c.args.zero c.self.invariant (leb-true _ _ tests.0) in
+    let done = entered i.most i.live i.spans i.cells i.shape c.args.shape.now c.args.zero c.self.invariant (leb-true _ _ tests.0) in
     rw (← c.self.view_is, c.in-Ok.ensures.spans, c.in-Ok.ensures.cells, c.in-Ok.ensures.shapes) done.kept
 
 pub returns-in-Ok-clause-no_room : goal.returns-in-Ok-clause-no_room
 returns-in-Ok-clause-no_room c =
     let i = c.self.inside in
     let room = ap (λ m. has_room m (length c.args.shape.now)) (sym c.self.view_is)
-    ∙ sym (has_room-memory_of i.most i.live i.spans i.cells.items i.shape.items (length c.args.shape.now) c.self.invariant)
+    ∙ sym (has_room-memory_of i.most i.live i.spans i.cells i.shape (length c.args.shape.now) c.self.invariant)
     ∙ sym c.has_room.ensures ∙ c.if-not-has_room.false in
     (λ e. absurd (cc e), λ e. absurd (cc (room, e)))
 
@@ -51,7 +51,7 @@ pub returns-in-Err-clause-no_room : goal.returns-in-Err-clause-no_room
 returns-in-Err-clause-no_room c =
     let i = c.self.inside in
     let room = ap (λ m. has_room m (length c.args.shape.now)) (sym c.self.view_is)
-    ∙ sym (has_room-memory_of i.most i.live i.spans i.cells.items i.shape.items (length c.args.shape.now) c.self.invariant)
+    ∙ sym (has_room-memory_of i.most i.live i.spans i.cells i.shape (length c.args.shape.now) c.self.invariant)
     ∙ sym c.has_room.ensures ∙ c.if-not-has_room.false in
     (λ e. absurd (cc e), λ e. absurd (cc (room, e)))
 

@@ -8,30 +8,30 @@ use Rattle.cr_memory.proofs.store.Store.leave.Goals as goal
 pub end-end-requires : goal.end-end-requires
 end-end-requires c =
     let i = c.self.inside in
-    let a = alive_seen i.most i.spans i.cells.items i.shape.items _ c.args.object c.self.view_is c.requires in
+    let a = alive_seen i.most i.spans i.cells i.shape _ c.args.object c.self.view_is c.requires in
     room_left i.spans _ c.args.object 18446744073709551615 c.leave.ensures.left (entered_if_alive i.spans c.args.object a)
     (record { within = λ n b. let r = c.self.invariant.room.within n b in omega (arith, i.cells.ok.0, i.cells.ok.1) })
 
 pub invariant_of-self : goal.invariant_of-self
 invariant_of-self c =
     let i = c.self.inside in
-    let a = alive_seen i.most i.spans i.cells.items i.shape.items _ c.args.object c.self.view_is c.requires in
-    let done = left i.most i.live i.spans i.cells.items i.shape.items c.args.object c.end-end.result c.self.invariant a (rw c.leave.ensures.left at c.end-end.ensures) in
+    let a = alive_seen i.most i.spans i.cells i.shape _ c.args.object c.self.view_is c.requires in
+    let done = left i.most i.live i.spans i.cells i.shape c.args.object c.end-end.result c.self.invariant a (rw c.leave.ensures.left at c.end-end.ensures) in
     rw (c.cut.ensures, c.cut-2.ensures, c.leave.ensures.count, c.leave.ensures.left) done.stored
 
 pub returns-clause-ended : goal.returns-clause-ended
 returns-clause-ended c =
     let i = c.self.inside in
-    let a = alive_seen i.most i.spans i.cells.items i.shape.items _ c.args.object c.self.view_is c.requires in
-    let done = left i.most i.live i.spans i.cells.items i.shape.items c.args.object c.end-end.result c.self.invariant a (rw c.leave.ensures.left at c.end-end.ensures) in
+    let a = alive_seen i.most i.spans i.cells i.shape _ c.args.object c.self.view_is c.requires in
+    let done = left i.most i.live i.spans i.cells i.shape c.args.object c.end-end.result c.self.invariant a (rw c.leave.ensures.left at c.end-end.ensures) in
     rw (c.tidy.ensures, c.cut.ensures, c.cut-2.ensures, c.leave.ensures.left) done.seen
     ∙ ap (λ m. without_object m c.args.object) c.self.view_is
 
 pub returns-clause-kept : goal.returns-clause-kept
 returns-clause-kept c =
     let i = c.self.inside in
-    let a = alive_seen i.most i.spans i.cells.items i.shape.items _ c.args.object c.self.view_is c.requires in
-    let done = left i.most i.live i.spans i.cells.items i.shape.items c.args.object c.end-end.result c.self.invariant a (rw c.leave.ensures.left at c.end-end.ensures) in
+    let a = alive_seen i.most i.spans i.cells i.shape _ c.args.object c.self.view_is c.requires in
+    let done = left i.most i.live i.spans i.cells i.shape c.args.object c.end-end.result c.self.invariant a (rw c.leave.ensures.left at c.end-end.ensures) in
     rw (← c.self.view_is, c.tidy.ensures, c.cut.ensures, c.cut-2.ensures, c.leave.ensures.left) done.kept
 
 pub returns-clause-others : goal.returns-clause-others
