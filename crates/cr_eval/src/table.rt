@@ -2,6 +2,7 @@ use cr_meaning::{Limits, Op};
 use cr_memory::{Cell, Guard, Scalar};
 use cr_rows::Row;
 use cr_sequence::Times;
+use std::alloc::{AllocError, Global};
 
 /// What the nodes of a program do, and what this needs of its types and objects; made once for a program.
 #[derive(Drop)]
@@ -18,17 +19,38 @@ pub struct Table {
 }
 
 impl Table {
-    ghost use Rattle.std.specs.Prelude.{◌≡◌, length};
+    ghost use Rattle.std.specs.Prelude.{◌≡◌, IfOk, IfSome, length};
     ghost use Rattle.cr_eval.specs.Table.{program_of};
 
-    /// The kinds of the cells of a row of the table of types.
+    /// The kinds of the cells of a row of the table of types, if they are spelled out: those of what is no array.
     #[inline]
-    pub fn kinds_of(&self, row: u32) -> &[Scalar]
-        ensures { result.now ≡ (program_of self.now).kinds row }
+    pub fn kinds_of(&self, row: u32) -> Option<&[Scalar]>
+        ensures { IfSome result (λ kinds. kinds.now ≡ (program_of self.now).kinds row) }
     {
         match self.kinds.as_slice().get(row as usize) {
-            Some(kinds) => kinds.as_slice().unwrap_or(&[]),
-            None => &[],
+            Some(kinds) => kinds.as_slice(),
+            None => Some(&[]),
+        }
+    }
+
+    /// The same, spelled out.
+    pub fn spelled_kinds(&self, alloc: Global, row: u32) -> Result<Vec<Scalar>, AllocError>
+        ensures { IfOk result (λ kinds. kinds.items ≡ (program_of self.now).kinds row) }
+    {
+        match self.kinds.as_slice().get(row as usize) {
+            Some(kinds) => kinds.spelled(alloc),
+            None => Ok(Vec::new(alloc)),
+        }
+    }
+
+    /// How many cells a row of the table of types has.
+    #[inline]
+    pub fn cells_of(&self, row: u32) -> usize
+        ensures { result ≡ length ((program_of self.now).kinds row) }
+    {
+        match self.kinds.as_slice().get(row as usize) {
+            Some(kinds) => kinds.len(),
+            None => 0,
         }
     }
 

@@ -69,12 +69,22 @@ pub(crate) fn object_cells(
 {
     let elements = types.elements(row);
     let one = single(alloc, types, structures, elements.shape)?;
+    elements_of(one, elements.count)
+}
+
+// The cells of elements one behind another, spelled out once. Elements without cells aren't counted.
+fn elements_of(
+    one: Vec<(Scalar, Guard)>,
+    count: Option<u64>,
+) -> Result<Times<(Scalar, Guard)>, AllocError>
+    ensures { (n : ℕ) → Counted count 1 n → IfOk result (λ all. all ≡ repeated n one.items) }
+{
     if is_none(&one) {
-        return Ok(Times::new(one, 1));
+        return Times::new(one, 1);
     }
-    match elements.count {
+    match count {
         Some(count) => match u32::try_from(count) {
-            Ok(count) => Ok(Times::new(one, count)),
+            Ok(times) => Times::new(one, times),
             Err(_) => Err(AllocError),
         },
         None => Err(AllocError),

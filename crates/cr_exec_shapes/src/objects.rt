@@ -63,7 +63,7 @@ fn shape(
 fn literal_shape(alloc: Global, text: &[u8]) -> Result<Times<(Scalar, Guard)>, AllocError>
     ensures { IfOk result (λ shape. shape ≡ map (λ byte. (Int Char, Literal)) text.now) }
 {
-    Ok(Times::new(char_cells(alloc, text)?, 1))
+    Times::new(char_cells(alloc, text)?, 1)
 }
 
 fn char_cells(alloc: Global, text: &[u8]) -> Result<Vec<(Scalar, Guard)>, AllocError>
@@ -150,7 +150,8 @@ fn kinds_of(
     ensures { IfOk result (λ kinds. kinds ≡ map (λ own. own.0) (shape_of types.now (type_at types.now.shapes row))) }
 {
     let cells = object_cells(alloc, types, structures, row)?;
-    Ok(Times::new(kinds_in(alloc, cells.one())?, cells.times()))
+    let (one, times) = cells.parts();
+    Times::new(kinds_in(alloc, one)?, times)
 }
 
 fn kinds_in(alloc: Global, cells: &[(Scalar, Guard)]) -> Result<Vec<Scalar>, AllocError>

@@ -106,7 +106,10 @@ fn literal(
         Form::Void => Ok(Row::new(alloc)),
         Form::Number(kind) => elements(alloc, store, object, &[Scalar::Int(kind)]),
         Form::Pointer(to) => elements(alloc, store, object, &[Scalar::Pointer(to)]),
-        Form::Cells(row) => elements(alloc, store, object, table.kinds_of(row)),
+        Form::Cells(row) => match table.spelled_kinds(alloc, row) {
+            Ok(kinds) => elements(alloc, store, object, &kinds),
+            Err(_) => Err(Trap::NoMemory),
+        },
     }
 }
 
@@ -257,7 +260,7 @@ fn fill(
     let Some(shape) = shape_for(table, declared) else {
         return Err(Trap::NoMemory);
     };
-    match blank(shape, store, object) {
+    match blank(alloc, shape, store, object) {
         Ok(()) => write_parts(store, object, sets),
         Err(_) => Err(Trap::NoMemory),
     }
@@ -331,7 +334,7 @@ fn fill_one(
     let Some(shape) = shape_for(table, declared) else {
         return Err(Trap::NoMemory);
     };
-    match blank(shape, store, object) {
+    match blank(alloc, shape, store, object) {
         Ok(()) => write(store, object, set.0, &[set.1]),
         Err(_) => Err(Trap::NoMemory),
     }

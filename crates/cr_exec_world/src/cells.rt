@@ -8,6 +8,7 @@ ghost use Rattle.cr_exec_world.specs.Cells.{set_each};
 
 use cr_memory::{Cell, Guard, Pointer, Scalar, Store, Trap};
 use cr_sequence::Times;
+use std::alloc::{AllocError, Global};
 
 /// Sets one cell of a live object.
 fn write_one(store: &mut Store, object: u32, place: u32, cell: Cell) -> Result<(), Trap>
@@ -70,32 +71,30 @@ fn zero_of(kind: Scalar) -> Cell
     }
 }
 
-fn blank_from(store: &mut Store, object: u32, from: u32, one: &[(Scalar, Guard)]) -> Result<(), Trap> {
-    let mut place = from;
-    for own in one {
-        write_one(store, object, place, zero_of(own.0))?;
-        let Some(after) = place.checked_add(1) else {
-            return Err(Trap::NoMemory);
-        };
-        place = after;
-    }
-    Ok(())
+fn zeros_of(alloc: Global, shape: &[(Scalar, Guard)]) -> Result<Vec<Cell>, AllocError>
+    ensures { IfOk result (λ cells. cells.items ≡ map (λ own. zero_of own.0) shape.now) }
+{
+    shape.iter().map(|own| zero_of(own.0)).collect(alloc)
+}
+
+fn zeros(alloc: Global, shape: &Times<(Scalar, Guard)>) -> Result<Vec<Cell>, AllocError>
+    ensures { IfOk result (λ cells. cells.items ≡ map (λ own. zero_of own.0) shape.now) }
+{
+    let (one, times) = shape.parts();
+    Times::new(zeros_of(alloc, one)?, times)?.spelled(alloc)
 }
 
 /// The cells of a node's object are zero or null (6.7.9p10, p19).
-pub fn blank(shape: &Times<(Scalar, Guard)>, store: &mut Store, object: u32) -> Result<(), Trap>
+pub fn blank(
+    alloc: Global,
+    shape: &Times<(Scalar, Guard)>,
+    store: &mut Store,
+    object: u32,
+) -> Result<(), Trap>
     ensures { Answers (Ok (with_cells store.old object 0 (map (λ own. zero_of own.0) shape.now))) (leaving store.new result) }
 {
-    if !store.is_live(object) {
-        return Err(Trap::NoMemory);
+    match zeros(alloc, shape) {
+        Ok(cells) => write(store, object, 0, &cells),
+        Err(_) => Err(Trap::NoMemory),
     }
-    let mut place: u32 = 0;
-    for _turn in 0..shape.times() {
-        blank_from(store, object, place, shape.one())?;
-        let Some(after) = place.checked_add(shape.one().len() as u32) else {
-            return Err(Trap::NoMemory);
-        };
-        place = after;
-    }
-    Ok(())
 }

@@ -57,7 +57,8 @@ fn enter_new(
     ensures work { Worked (entering (enter_object (world_of world.old) node (new_object zero shape.now))) result (world_of world.new) }
     ensures steps { world.new.steps ≡ world.old.steps }
 {
-    match world.store.enter_times(shape.one(), shape.times(), zero) {
+    let (one, times) = shape.parts();
+    match world.store.enter_times(one, times, zero) {
         Ok(object) => bind(world, node, object),
         Err(Trap::Left(number)) => Err(Halted::Left(number, node)),
         Err(_) => Err(Halted::NoMemory),

@@ -1,7 +1,10 @@
 -- Items written over others, one after another.
-use Rattle.std.proofs.Common.{◌≡◌, ℕ, suc, ◌+◌, ◌<◌, ◌≤◌, List, [], ◌∷◌, ◌++◌, length, get_or, set, take, drop, refl, sym, ap, ◌∙◌, arith, length-drop, length-set, get_or-set_other}
-use Rattle.std.proofs.lemmas.List.{set_comm, take_more, drop_more, get_or-drop, get_or-take, length-take-le}
+use Rattle.std.proofs.Common.{◌≡◌, ℕ, suc, ◌+◌, ◌<◌, ◌≤◌, List, [], ◌∷◌, ◌++◌, length, get_or, set, take, drop, refl, sym, ap, ◌∙◌, arith, length-drop, length-set, get_or-set_other, get_or-set_same}
+use Rattle.std.proofs.lemmas.List.{set_comm, take_more, take-append-drop, take-set-le, drop-set-lt, drop_more, get_or-drop, get_or-take, length-take-le}
+use Rattle.cr_sequence.specs.Kept.{repeated}
+use Rattle.cr_sequence.specs.Stretches.{filled}
 use Rattle.cr_memory.specs.Access.{overwritten}
+use Rattle.cr_memory.proofs.Repeating.{joined, length-one}
 
 pub length-overwritten : {X : Type 0} (xs : List X) (place : ℕ) (vs : List X) → length (overwritten xs place vs) ≡ length xs
 length-overwritten xs place [] = refl
@@ -75,3 +78,29 @@ copied_up_to xs source target count i next x e up below within read =
     let size : length (take count (drop source xs)) ≡ count = length-take-le count (drop source xs) (omega (arith, length-drop source xs)) in
     rw e (copied_up xs (take count (drop source xs)) source target i x up (omega arith)
     (λ d. get_or-take count (drop source xs) i d below ∙ get_or-drop source xs i d) (rw e at read))
+
+-- what is written, between what stands before and behind it
+pub overwritten-parts : {X : Type 0} (xs : List X) (place : ℕ) (vs : List X) → place + length vs ≤ length xs
+    → overwritten xs place vs ≡ take place xs ++ (vs ++ drop (place + length vs) xs)
+overwritten-parts xs place [] h = let e : place ≡ place + 0 = omega arith in sym (take-append-drop place xs) ∙ ap (λ n. take place xs ++ drop n xs) e
+overwritten-parts xs place (v ∷ vs) h =
+    let within : place < length xs = omega arith in
+    let one : suc place ≡ place + 1 = omega arith in
+    let rest : suc place + length vs ≡ place + suc (length vs) = omega arith in
+    let front : take (suc place) (set xs place v) ≡ take place xs ++ v ∷ [] =
+    ap (λ n. take n (set xs place v)) one ∙ take_more (set xs place v) place v (omega (arith, length-set xs place v))
+    ∙ ap (λ ys. ys ++ get_or (set xs place v) place v ∷ []) (take-set-le place xs place v (omega arith))
+    ∙ ap (λ y. take place xs ++ y ∷ []) (get_or-set_same xs place v v within) in
+    let back : drop (suc place + length vs) (set xs place v) ≡ drop (place + suc (length vs)) xs =
+    drop-set-lt (suc place + length vs) xs place v (omega arith) ∙ ap (λ n. drop n xs) rest in
+    overwritten-parts (set xs place v) (suc place) vs (omega (arith, length-set xs place v))
+    ∙ ap (λ ys. ys ++ (vs ++ drop (suc place + length vs) (set xs place v))) front
+    ∙ ap (λ ys. (take place xs ++ v ∷ []) ++ (vs ++ ys)) back
+    ∙ joined (take place xs) (v ∷ []) (vs ++ drop (place + suc (length vs)) xs)
+
+pub filled-overwritten : {X : Type 0} (xs : List X) (from count : ℕ) (v : X) → from + count ≤ length xs
+    → filled xs from count v ≡ overwritten xs from (repeated count (v ∷ []))
+filled-overwritten xs from count v h =
+    let size : length (repeated count (v ∷ [])) ≡ count = length-one count v in
+    ap (λ n. take from xs ++ (repeated count (v ∷ []) ++ drop (from + n) xs)) (sym size)
+    ∙ sym (overwritten-parts xs from (repeated count (v ∷ [])) (omega arith))

@@ -1,5 +1,6 @@
 ghost use Rattle.std.specs.Prelude.{◌≡◌, ◌<◌, ◌≤◌, ◌↔◌, ℕ, ◌+◌, length, true, false, map, take, drop, slice_set, Ok, IsTrue, IfNone, IfSome, IfOk};
 ghost use Rattle.std.specs.List.{list_any};
+ghost use Rattle.cr_sequence.specs.Stretches.{filled};
 ghost use Rattle.cr_memory.specs.Kind.{is_same};
 ghost use Rattle.cr_memory.specs.Access.{is_null_or_end, is_unset, is_literal, is_constant, have_kinds, have_same_kinds, overwritten, reaching, reach_by, Writes, Reads, HasStride};
 ghost use Rattle.cr_memory.specs.Flat.{span_at, ended_in, held_ended_in, index_of, PlaceIn, PointerIn, HoldsIn, HasRoom, cell_or, shape_or, flat_load, flat_save, flat_put, flat_copy, flat_cells};
@@ -31,7 +32,7 @@ fn own_at(shape: &Sequence<(Scalar, Guard)>, index: usize) -> (Scalar, Guard)
 /// So many cells from a place on are unset again, whatever their guards.
 pub(crate) fn unset(cells: &mut Sequence<Cell>, from: usize, count: usize)
     requires { from + count ≤ length cells.old }
-    ensures { cells.new ≡ filled cells.old from count Unset }
+    ensures { cells.new ≡ filled cells.old from count Cell.Unset }
 {
     cells.fill(from, count, Cell::Unset);
 }
@@ -87,7 +88,12 @@ fn index(spans: &Spans, cells: &Sequence<Cell>, at: Pointer) -> Result<usize, Tr
 }
 
 /// The place of the first of the cells of an element that a pointer points to.
-fn first_index(spans: &Spans, cells: &Sequence<Cell>, at: Pointer, count: usize) -> Result<usize, Trap>
+fn first_index(
+    spans: &Spans,
+    cells: &Sequence<Cell>,
+    at: Pointer,
+    count: usize,
+) -> Result<usize, Trap>
     requires within { PointerIn spans.now at }
     requires stride { HasStride at count }
     requires room { HasRoom spans.now (length cells.now) }
@@ -196,7 +202,12 @@ fn has_constant(shape: &Sequence<(Scalar, Guard)>, from: usize, count: usize) ->
     false
 }
 
-fn have_same_kinds(shape: &Sequence<(Scalar, Guard)>, left: usize, right: usize, count: usize) -> bool
+fn have_same_kinds(
+    shape: &Sequence<(Scalar, Guard)>,
+    left: usize,
+    right: usize,
+    count: usize,
+) -> bool
     requires left { left + count ≤ length shape.now }
     requires right { right + count ≤ length shape.now }
     ensures { result ≡ have_same_kinds (take count (drop left shape.now)) (take count (drop right shape.now)) }
@@ -262,7 +273,12 @@ pub(crate) fn put(
 }
 
 /// Copies items to a place before theirs.
-pub(crate) fn copy_down<T: Copy>(items: &mut Sequence<T>, source: usize, target: usize, count: usize)
+pub(crate) fn copy_down<T: Copy>(
+    items: &mut Sequence<T>,
+    source: usize,
+    target: usize,
+    count: usize,
+)
     requires down { target ≤ source }
     requires within { source + count ≤ length items.old }
     ensures { items.new ≡ overwritten items.old target (take count (drop source items.old)) }
@@ -323,7 +339,12 @@ pub(crate) fn copy(
     Ok(())
 }
 
-fn copied(alloc: Global, cells: &Sequence<Cell>, from: usize, count: usize) -> Result<Vec<Cell>, AllocError>
+fn copied(
+    alloc: Global,
+    cells: &Sequence<Cell>,
+    from: usize,
+    count: usize,
+) -> Result<Vec<Cell>, AllocError>
     requires { from + count ≤ length cells.now }
     ensures { IfOk result (λ all. all.items ≡ take count (drop from cells.now)) }
 {

@@ -15,12 +15,26 @@ const KEPT: usize = 1024;
 /// An object of more cells takes room when they are set.
 const WIDE: usize = 1024;
 
-/// Whether one more object of so many cells has room, and a number.
-pub(crate) fn has_room(spans: &Spans, most: u32, live: u32, count: usize) -> bool
-    requires { live ≤ most }
-    ensures { result ≡ (nat_le (live + count) most && nat_lt (length spans.now) 4294967295) }
+/// How many cells so many elements of a shape have; so many as there can't be, where there are more.
+pub(crate) fn cells_in(shape: &[(Scalar, Guard)], times: u32) -> usize
+    ensures exact { length (repeated times shape.now) < 4294967296 → result ≡ length (repeated times shape.now) }
+    ensures large { 4294967296 ≤ length (repeated times shape.now) → 4294967296 ≤ result }
 {
-    count <= (most - live) as usize && spans.entered() < u32::MAX
+    (times as usize).saturating_mul(shape.len())
+}
+
+/// Whether one more object of so many elements has room, and a number.
+pub(crate) fn has_room(
+    spans: &Spans,
+    most: u32,
+    live: u32,
+    shape: &[(Scalar, Guard)],
+    times: u32,
+) -> bool
+    requires { live ≤ most }
+    ensures { result ≡ (nat_le (live + length (repeated times shape.now)) most && nat_lt (length spans.now) 4294967295) }
+{
+    cells_in(shape, times) <= (most - live) as usize && spans.entered() < u32::MAX
 }
 
 /// What a cell holds when its object's lifetime begins.
@@ -42,9 +56,13 @@ fn first_cells(
 ) -> Result<Vec<Cell>, AllocError>
     ensures { IfOk result (λ cells. cells.items ≡ map (first_cell zero) shape.now) }
 {
-    shape.iter().map(|own| first_cell(*own, zero)).collect(alloc)
+    shape
+        .iter()
+        .map(|own| first_cell(*own, zero))
+        .collect(alloc)
 }
 
+#[tactic(auto, using(crate::proofs::Repeating::begins_more))]
 fn append_cells(
     cells: &mut Sequence<Cell>,
     shape: &[(Scalar, Guard)],
@@ -59,6 +77,7 @@ fn append_cells(
     Ok(())
 }
 
+#[tactic(auto, using(crate::proofs::Repeating::begins_more))]
 fn append_shape(
     shapes: &mut Sequence<(Scalar, Guard)>,
     shape: &[(Scalar, Guard)],
@@ -72,7 +91,8 @@ fn append_shape(
     Ok(())
 }
 
-/// The cells of a new object, behind those that are there, or some of them.
+/// The cells of so many elements, one by one.
+#[tactic(auto, using(crate::proofs::Repeating::begins_more, crate::proofs::Repeating::begins_after, cr_sequence::proofs::Showing::repeated_more))]
 fn append_each(
     cells: &mut Sequence<Cell>,
     shapes: &mut Sequence<(Scalar, Guard)>,
@@ -93,6 +113,40 @@ fn append_each(
 }
 
 /// The same where the cells take room when they are set.
+#[tactic(auto, using(crate::proofs::Repeating::begins_same))]
+fn stretch_cells(
+    alloc: Global,
+    cells: &mut Sequence<Cell>,
+    shape: &[(Scalar, Guard)],
+    times: u32,
+    zero: bool,
+) -> Result<(), AllocError>
+    requires some { 0 < length shape.now }
+    requires few { times * length shape.now ≤ 4294967296 }
+    ensures all { OnOk result (cells.new ≡ cells.old ++ map (first_cell zero) (repeated times shape.now)) }
+    ensures begun { BeginsWith cells.old cells.new }
+{
+    let first = first_cells(alloc, shape, zero)?;
+    cells.push_stretch(first, times as usize)
+}
+
+#[tactic(auto, using(crate::proofs::Repeating::begins_same))]
+fn stretch_shape(
+    alloc: Global,
+    shapes: &mut Sequence<(Scalar, Guard)>,
+    shape: &[(Scalar, Guard)],
+    times: u32,
+) -> Result<(), AllocError>
+    requires some { 0 < length shape.now }
+    requires few { times * length shape.now ≤ 4294967296 }
+    ensures all { OnOk result (shapes.new ≡ shapes.old ++ repeated times shape.now) }
+    ensures begun { BeginsWith shapes.old shapes.new }
+{
+    let own = shape.to_vec(alloc)?;
+    shapes.push_stretch(own, times as usize)
+}
+
+#[tactic(auto, using(crate::proofs::Repeating::begins_same))]
 fn append_stretch(
     alloc: Global,
     cells: &mut Sequence<Cell>,
@@ -108,10 +162,30 @@ fn append_stretch(
     ensures begun_cells { BeginsWith cells.old cells.new }
     ensures begun_shapes { BeginsWith shapes.old shapes.new }
 {
-    let first = first_cells(alloc, shape, zero)?;
-    let own = shape.to_vec(alloc)?;
-    cells.push_stretch(first, times as usize)?;
-    shapes.push_stretch(own, times as usize)
+    stretch_cells(alloc, cells, shape, times, zero)?;
+    stretch_shape(alloc, shapes, shape, times)
+}
+
+/// The cells of a new object, behind those that are there, or some of them.
+fn append(
+    alloc: Global,
+    cells: &mut Sequence<Cell>,
+    shapes: &mut Sequence<(Scalar, Guard)>,
+    shape: &[(Scalar, Guard)],
+    times: u32,
+    zero: bool,
+) -> Result<(), AllocError>
+    requires few { length (repeated times shape.now) < 4294967296 }
+    ensures cells { OnOk result (cells.new ≡ cells.old ++ map (first_cell zero) (repeated times shape.now)) }
+    ensures shapes { OnOk result (shapes.new ≡ shapes.old ++ repeated times shape.now) }
+    ensures begun_cells { BeginsWith cells.old cells.new }
+    ensures begun_shapes { BeginsWith shapes.old shapes.new }
+{
+    if times > 1 && cells_in(shape, times) > WIDE {
+        append_stretch(alloc, cells, shapes, shape, times, zero)
+    } else {
+        append_each(cells, shapes, shape, times, zero)
+    }
 }
 
 /// Enters an object of elements of a shape behind the others, or some of its cells.
@@ -125,9 +199,9 @@ fn enter_behind(
     zero: bool,
 ) -> Result<u32, AllocError>
     requires number { length spans.old < 4294967295 }
-    requires few { times * length shape.now < 4294967296 }
+    requires few { length (repeated times shape.now) < 4294967296 }
     ensures number { IfOk result (λ number. number ≡ length spans.old) }
-    ensures spans { OnOk result (spans.new ≡ spans.old ++ span_of (length cells.old) (times * length shape.now) ∷ []) }
+    ensures spans { OnOk result (spans.new ≡ spans.old ++ span_of (length cells.old) (length (repeated times shape.now)) ∷ []) }
     ensures cells { OnOk result (cells.new ≡ cells.old ++ map (first_cell zero) (repeated times shape.now)) }
     ensures shapes { OnOk result (shapes.new ≡ shapes.old ++ repeated times shape.now) }
     ensures same_spans { OnErr result (spans.new ≡ spans.old) }
@@ -135,13 +209,8 @@ fn enter_behind(
     ensures begun_shapes { BeginsWith shapes.old shapes.new }
 {
     let first = cells.len();
-    let count = times as usize * shape.len();
-    if count > WIDE && times > 1 {
-        append_stretch(alloc, cells, shapes, shape, times, zero)?;
-    } else {
-        append_each(cells, shapes, shape, times, zero)?;
-    }
-    spans.enter(first, count as u32)
+    append(alloc, cells, shapes, shape, times, zero)?;
+    spans.enter(first, cells_in(shape, times) as u32)
 }
 
 /// Enters an object of elements of a shape behind the others, or changes nothing.
@@ -155,9 +224,9 @@ pub(crate) fn enter(
     zero: bool,
 ) -> Result<u32, AllocError>
     requires number { length spans.old < 4294967295 }
-    requires few { times * length shape.now < 4294967296 }
+    requires few { length (repeated times shape.now) < 4294967296 }
     ensures number { IfOk result (λ number. number ≡ length spans.old) }
-    ensures spans { OnOk result (spans.new ≡ spans.old ++ span_of (length cells.old) (times * length shape.now) ∷ []) }
+    ensures spans { OnOk result (spans.new ≡ spans.old ++ span_of (length cells.old) (length (repeated times shape.now)) ∷ []) }
     ensures cells { OnOk result (cells.new ≡ cells.old ++ map (first_cell zero) (repeated times shape.now)) }
     ensures shapes { OnOk result (shapes.new ≡ shapes.old ++ repeated times shape.now) }
     ensures same_spans { OnErr result (spans.new ≡ spans.old) }

@@ -1,6 +1,6 @@
-ghost use Rattle.std.specs.Prelude.{◌≡◌, ◌<◌, ◌≤◌, ◌↔◌, [], ◌∷◌, false, length, is_some, IsSome, IsTrue, IfSome, IfNone, ◌⊎◌, IfOk, IfErr, OnErr, map};
+ghost use Rattle.std.specs.Prelude.{◌≡◌, ◌<◌, ◌≤◌, ◌↔◌, [], ◌∷◌, false, length, is_some, IsSome, IsTrue, IfSome, IfNone, ◌⊎◌, IfOk, IfErr, OnErr, replicate};
 ghost use Rattle.cr_memory.specs.Memory.{IsPointer, Holds, AllHold, KeepsPointers, live_object, count_of, has_room, new_object, with_object, without_object};
-ghost use Rattle.cr_memory.specs.Access.{reach_of, load_of, save_of, put_of, copy_of, cells_of, shape_in, some_object, with_cells, Writes, Reads, HasStride};
+ghost use Rattle.cr_memory.specs.Access.{reach_of, load_of, save_of, put_of, copy_of, cells_of, shape_in, with_cells, Writes, Reads, HasStride};
 ghost use Rattle.cr_memory.specs.Pointers.{shift_of, differ_of, less_of, same_of};
 ghost use Rattle.cr_memory.specs.Continues.{Continues, ContinuesBeside};
 ghost use Rattle.cr_memory.specs.Laws.{HoldsKinds};
@@ -179,7 +179,12 @@ impl Store {
 
     /// Enters an object of elements of a shape, so many of them. A large one costs by its elements' shape, and each of its cells
     /// when it is first set.
-    pub fn enter_times(&mut self, shape: &[(Scalar, Guard)], times: u32, zero: bool) -> Result<u32, Trap>
+    pub fn enter_times(
+        &mut self,
+        shape: &[(Scalar, Guard)],
+        times: u32,
+        zero: bool,
+    ) -> Result<u32, Trap>
         ensures entered { IfOk result (λ number. (number ≡ length self.old.objects) × (self.new ≡ with_object self.old (new_object zero (repeated times shape.now)))) }
 
         ensures no_room { (result ≡ Err (Trap.Left NO_ROOM)) ↔ (has_room self.old (length (repeated times shape.now)) ≡ false) }
@@ -189,10 +194,7 @@ impl Store {
         ensures kept { KeepsPointers self.old self.new }
         ensures continues { Continues self.old self.new }
     {
-        let Some(count) = (times as usize).checked_mul(shape.len()) else {
-            return Err(Trap::Left(NO_ROOM));
-        };
-        if !lifetime::has_room(&self.spans, self.most, self.live, count) {
+        if !lifetime::has_room(&self.spans, self.most, self.live, shape, times) {
             return Err(Trap::Left(NO_ROOM));
         }
         match lifetime::enter(
@@ -205,7 +207,7 @@ impl Store {
             zero,
         ) {
             Ok(number) => {
-                self.live += count as u32;
+                self.live += lifetime::cells_in(shape, times) as u32;
                 Ok(number)
             }
             Err(_) => Err(Trap::NoMemory),
@@ -215,7 +217,7 @@ impl Store {
     /// Nothing is in the cells of a live object again (6.2.4p6).
     pub fn clear(&mut self, object: u32)
         requires { IsSome (live_object self.old object) }
-        ensures cleared { self.new ≡ with_cells self.old object 0 (map (λ _. Cell.Unset) (some_object (live_object self.old object)).cells) }
+        ensures cleared { self.new ≡ with_cells self.old object 0 (replicate (count_of (live_object self.old object)) Cell.Unset) }
         ensures kept { KeepsPointers self.old self.new }
         ensures continues { Continues self.old self.new }
     {

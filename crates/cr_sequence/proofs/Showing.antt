@@ -2,7 +2,7 @@
 use Rattle.std.proofs.Common.{◌≡◌, ◌≢◌, ℕ, zero, suc, ◌+◌, ◌-◌, ◌*◌, ◌/◌, ◌%◌, ◌<◌, ◌≤◌, ◌⊎◌, inl, inr, Option, None, List, [], ◌∷◌, ◌++◌, map, length, get_or, set, take, refl, sym, ap, ◌∙◌, arith, length-append, length-set, get_or-set_other, get_or-set_same}
 use Rattle.std.specs.List.{range_with_len}
 use Rattle.std.proofs.lemmas.Bool.{cases_eq, cases_lt}
-use Rattle.std.proofs.lemmas.List.{same_lists, length-map, get_or_append_left, get_or-append_right}
+use Rattle.std.proofs.lemmas.List.{append-nil, same_lists, length-map, get_or_append_left, get_or-append_right}
 use Rattle.std.proofs.lemmas.List.FromFn.{take-map-range_with_len, length-map-range_with_len, get_or-map-range_with_len}
 use Rattle.std.proofs.lemmas.Nat.{mod-mul-add}
 use Rattle.cr_sequence.specs.Kept.{repeated, in_block, item_in, items_of}
@@ -128,3 +128,12 @@ fill_shown {X = X} count value pattern blocks pool old e one none =
     same_everywhere value [] k d h = absurd (omega arith)
     same_everywhere value (x ∷ xs) zero d h = refl
     same_everywhere value (x ∷ xs) (suc k) d h = same_everywhere value xs k d (omega arith)
+
+joined : {X : Type 0} (a b c : List X) → (a ++ b) ++ c ≡ a ++ (b ++ c)
+joined [] b c = refl
+joined (x ∷ a) b c = ap (λ r. x ∷ r) (joined a b c)
+
+-- once more at the end
+pub repeated_more : {X : Type 0} (n : ℕ) (xs : List X) → repeated n xs ++ xs ≡ repeated (n + 1) xs
+repeated_more zero xs = sym (append-nil xs)
+repeated_more (suc n) xs = joined xs (repeated n xs) xs ∙ ap (λ r. xs ++ r) (repeated_more n xs)

@@ -7,6 +7,9 @@ use crate::stretch::Stretch;
 use std::alloc::{AllocError, Global};
 use std::marker::Model;
 
+/// So many slots stay, whether they are used or not.
+const KEPT: usize = 1024;
+
 /// More items there aren't.
 const MOST: usize = 1 << 40;
 
@@ -116,13 +119,23 @@ fn push_in<T: Copy>(part: &mut Part<T>, item: T) -> Result<(), AllocError>
     Ok(())
 }
 
+// The first items alone. Memory is given back where most of it stands idle.
+fn cut_items<T: Copy>(items: &mut Vec<T>, count: usize)
+    ensures { items.new.items ≡ take count items.old.items }
+{
+    items.truncate(count);
+    if items.capacity() / 4 > count && items.capacity() > KEPT {
+        items.shrink_to(count * 2);
+    }
+}
+
 fn cut_in<T: Copy>(part: &mut Part<T>, count: usize)
     ensures start { part.new.start ≡ part.old.start }
     ensures items { items_in part.new ≡ take count (items_in part.old) }
 {
     let own = part.stretch.len();
     part.stretch.truncate(count);
-    part.after.truncate(count.saturating_sub(own));
+    cut_items(&mut part.after, count.saturating_sub(own));
 }
 
 fn get_at<T: Copy>(parts: &Vec<Part<T>>, number: usize, place: usize) -> T
@@ -275,7 +288,7 @@ fn cut_behind<T: Copy>(count: usize, flat: &mut Vec<T>, parts: &mut Vec<Part<T>>
     let kept = parts_before(parts, size);
     parts.truncate(kept);
     if kept == 0 {
-        flat.truncate(size);
+        cut_items(flat, size);
     } else {
         let start = start_at(parts, kept - 1);
         cut_at(parts, kept - 1, size.saturating_sub(start));

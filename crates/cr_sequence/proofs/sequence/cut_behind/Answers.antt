@@ -15,7 +15,7 @@ cut_at-requires g c =
 
 pub returns-then-kept-eq0 : goal.returns-then-kept-eq0
 returns-then-kept-eq0 g c =
-    rw (c.truncate.ensures.items, c.truncate-then-kept-eq0.ensures.items)
+    rw (c.truncate.ensures.items, c.cut_items.ensures)
     (cut_flat c.args.count c.args.size c.parts_before-kept.result c.args.flat.now.items c.args.parts.now.items c.requires.counted c.parts_before-kept.ensures.within c.requires.less
     c.parts_before-kept.ensures.behind (omega arith))
 

@@ -7,4 +7,4 @@ returns-clause-items g c =
     let own = c.args.part.now.stretch in
     let rest = c.args.part.now.after.items in
     let left : c.saturating_sub.result ≡ c.args.count - length own = omega (arith, c.len-own.ensures, c.saturating_sub.ensures) in
-    rw (c.truncate.ensures, c.truncate-2.ensures.items) (ap (λ n. take c.args.count own ++ take n rest) left ∙ take_both own rest c.args.count)
+    rw (c.truncate.ensures, c.cut_items.ensures) (ap (λ n. take c.args.count own ++ take n rest) left ∙ take_both own rest c.args.count)

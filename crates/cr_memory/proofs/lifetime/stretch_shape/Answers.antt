@@ -1,0 +1,8 @@
+use Rattle.std.proofs.Common.{◌≡◌, ◌++◌, length, ap, sym, subst, ◌∙◌, arith}
+use Rattle.std.specs.Prelude.{OnOk}
+use Rattle.cr_sequence.specs.Kept.{repeated}
+use Rattle.cr_memory.proofs.Repeating.{begins_either}
+use Rattle.cr_memory.proofs.lifetime.stretch_shape.Goals as goal
+
+pub returns-clause-begun : goal.returns-clause-begun
+returns-clause-begun c = begins_either c.args.shapes.now _ c.push_stretch.new.self c.push_stretch.result c.push_stretch.ensures.pushed c.push_stretch.ensures.refused
