@@ -29,6 +29,15 @@ fn own_at(shape: &Sequence<(Scalar, Guard)>, index: usize) -> (Scalar, Guard)
     shape.get(index)
 }
 
+/// A place behind another one, among so many.
+#[inline]
+pub(crate) fn place_in(count: usize, from: usize, by: usize) -> usize
+    requires { from + by ≤ count }
+    ensures { result ≡ from + by }
+{
+    from + by
+}
+
 /// So many cells from a place on are unset again, whatever their guards.
 pub(crate) fn unset(cells: &mut Sequence<Cell>, from: usize, count: usize)
     requires { from + count ≤ length cells.old }
@@ -81,7 +90,7 @@ fn index(spans: &Spans, cells: &Sequence<Cell>, at: Pointer) -> Result<usize, Tr
     if !span.alive {
         Err(Trap::Undefined(ENDED))
     } else if cell < high {
-        Ok(span.first + cell as usize)
+        Ok(place_in(cells.len(), span.first, cell as usize))
     } else {
         Err(Trap::Undefined(NULL_OR_END))
     }
@@ -183,7 +192,7 @@ fn has_literal(shape: &Sequence<(Scalar, Guard)>, from: usize, count: usize) -> 
     ensures { result ≡ list_any (λ s. is_literal s.1) (take count (drop from shape.now)) }
 {
     for i in 0..count {
-        if own_at(shape, from + i).1 == Guard::Literal {
+        if own_at(shape, place_in(shape.len(), from, i)).1 == Guard::Literal {
             return true;
         }
     }
@@ -195,7 +204,7 @@ fn has_constant(shape: &Sequence<(Scalar, Guard)>, from: usize, count: usize) ->
     ensures { result ≡ list_any (λ s. is_constant s.1) (take count (drop from shape.now)) }
 {
     for i in 0..count {
-        if own_at(shape, from + i).1 == Guard::Constant {
+        if own_at(shape, place_in(shape.len(), from, i)).1 == Guard::Constant {
             return true;
         }
     }
@@ -213,7 +222,9 @@ fn have_same_kinds(
     ensures { result ≡ have_same_kinds (take count (drop left shape.now)) (take count (drop right shape.now)) }
 {
     for i in 0..count {
-        if !is_same(own_at(shape, left + i).0, own_at(shape, right + i).0) {
+        let one = own_at(shape, place_in(shape.len(), left, i));
+        let other = own_at(shape, place_in(shape.len(), right, i));
+        if !is_same(one.0, other.0) {
             return false;
         }
     }
@@ -225,7 +236,7 @@ fn have_kinds(shape: &Sequence<(Scalar, Guard)>, from: usize, kinds: &[Scalar]) 
     ensures { result ≡ have_kinds (take (length kinds.now) (drop from shape.now)) kinds.now }
 {
     for i in 0..kinds.len() {
-        if !is_same(own_at(shape, from + i).0, kinds[i]) {
+        if !is_same(own_at(shape, place_in(shape.len(), from, i)).0, kinds[i]) {
             return false;
         }
     }
@@ -238,7 +249,8 @@ fn write_over(cells: &mut Sequence<Cell>, target: usize, values: &[Cell])
     ensures { cells.new ≡ overwritten cells.old target values.now }
 {
     for i in 0..values.len() {
-        cells.set(target + i, values[i]);
+        let at = place_in(cells.len(), target, i);
+        cells.set(at, values[i]);
     }
 }
 
@@ -284,7 +296,10 @@ pub(crate) fn copy_down<T: Copy>(
     ensures { items.new ≡ overwritten items.old target (take count (drop source items.old)) }
 {
     for i in 0..count {
-        items.set(target + i, items.get(source + i));
+        let to = place_in(items.len(), target, i);
+        let from = place_in(items.len(), source, i);
+        let item = items.get(from);
+        items.set(to, item);
     }
 }
 
@@ -295,7 +310,10 @@ fn copy_up(cells: &mut Sequence<Cell>, source: usize, target: usize, count: usiz
     ensures { cells.new ≡ overwritten cells.old target (take count (drop source cells.old)) }
 {
     for i in (0..count).rev() {
-        cells.set(target + i, cells.get(source + i));
+        let to = place_in(cells.len(), target, i);
+        let from = place_in(cells.len(), source, i);
+        let cell = cells.get(from);
+        cells.set(to, cell);
     }
 }
 
@@ -350,7 +368,7 @@ fn copied(
 {
     let mut all = Vec::with_capacity(alloc, count)?;
     for i in 0..count {
-        all.push(cell_at(cells, from + i))?;
+        all.push(cell_at(cells, place_in(cells.len(), from, i)))?;
     }
     Ok(all)
 }
@@ -385,7 +403,8 @@ pub(crate) fn begin(spans: &Spans, cells: &mut Sequence<Cell>, object: u32, cell
     requires { (span_at spans.now object).first + cell < length cells.old }
     ensures { cells.new ≡ slice_set cells.old ((span_at spans.now object).first + cell) value }
 {
-    cells.set(spans.get(object).first + cell as usize, value);
+    let at = place_in(cells.len(), spans.get(object).first, cell as usize);
+    cells.set(at, value);
 }
 
 /// Whether a pointer names an object that was entered, into an array of whole elements, within its cells where it lives.
@@ -441,5 +460,5 @@ pub(crate) fn kind_of(
     if !span.alive || cell >= span.count {
         return None;
     }
-    Some(own_at(shape, span.first + cell as usize).0)
+    Some(own_at(shape, place_in(shape.len(), span.first, cell as usize)).0)
 }

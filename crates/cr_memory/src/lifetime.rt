@@ -3,7 +3,7 @@ ghost use Rattle.cr_sequence.specs.Kept.{repeated};
 ghost use Rattle.cr_memory.specs.Memory.{first_cell};
 ghost use Rattle.cr_memory.specs.Flat.{span_at, span_of, BeginsWith, HasRoom, MovesDown};
 
-use crate::flat::copy_down;
+use crate::flat::{copy_down, place_in};
 use crate::spans::Spans;
 use crate::value::{Cell, Guard, Pointer, Scalar};
 use cr_sequence::Sequence;
@@ -278,8 +278,9 @@ pub(crate) fn move_down(
 {
     let span = spans.get(number);
     let count = span.count as usize;
+    let end = place_in(cells.len(), to, count);
     copy_down(cells, span.first, to, count);
     copy_down(shapes, span.first, to, count);
     spans.move_to(number, to);
-    to + count
+    end
 }

@@ -42,11 +42,9 @@ returns-in-Free c =
     let cells = c.args.cells.now in
     let shape = c.args.shape.now in
     let index = c.in_ok-index.index in
-    let free : Scalar × Guard = (PointerKind 0, Free) in
     let found = was_reached (ended_in spans c.args.at) (is_null_or_end c.args.at) (index_of spans c.args.at) index c.in_ok-index.ensures.place in
-    let within : index < length cells = c.in_ok-index.ensures.inside in
-    let seen = get_or_read shape index _ (omega (arith, c.requires.same_length)) c.index-2.ensures free in
-    let same : is_same c.index-2.result.now.0 c.args.kind ≡ false = cc in
+    let seen = c.own_at-own.ensures in
+    let same : is_same c.own_at-own.result.0 c.args.kind ≡ false = cc in
     let P : Result (List Cell) Trap → Type 0 = λ x. Writes x (Err (Left OTHER_TYPE)) cells cells in
     subst P (saved spans cells shape c.args.at c.args.kind c.args.value index _ false found seen c.in-Free.is same) (refl, refl)
 
@@ -56,10 +54,8 @@ returns-in-Free-2 c =
     let cells = c.args.cells.now in
     let shape = c.args.shape.now in
     let index = c.in_ok-index.index in
-    let free : Scalar × Guard = (PointerKind 0, Free) in
     let found = was_reached (ended_in spans c.args.at) (is_null_or_end c.args.at) (index_of spans c.args.at) index c.in_ok-index.ensures.place in
-    let within : index < length cells = c.in_ok-index.ensures.inside in
-    let seen = get_or_read shape index _ (omega (arith, c.requires.same_length)) c.index-2.ensures free in
-    let same : is_same c.index-2.result.now.0 c.args.kind ≡ true = cc in
+    let seen = c.own_at-own.ensures in
+    let same : is_same c.own_at-own.result.0 c.args.kind ≡ true = cc in
     let P : Result (List Cell) Trap → Type 0 = λ x. Writes x (Ok (tt {0})) cells (set cells index c.args.value) in
     subst P (saved spans cells shape c.args.at c.args.kind c.args.value index _ true found seen c.in-Free-2.is same) (refl, refl)

@@ -3,8 +3,8 @@ use Rattle.cr_sequence.specs.Kept.{repeated}
 use Rattle.cr_memory.specs.Memory.{first_cell}
 use Rattle.cr_memory.proofs.lifetime.append_each.Given as goal
 
-abbrev pub invariant-loop-_turn : goal.invariant-loop-_turn
-invariant-loop-_turn l = record {
+abbrev pub invariant-loop-turn : goal.invariant-loop-turn
+invariant-loop-turn l = record {
   cells : l.cells ≡ l.fn.cells ++ map (first_cell l.zero) (repeated l._turn l.shape);
   shapes : l.shapes ≡ l.fn.shapes ++ repeated l._turn l.shape;
 }

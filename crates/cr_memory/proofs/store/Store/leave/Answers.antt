@@ -10,7 +10,7 @@ end-end-requires c =
     let i = c.self.inside in
     let a = alive_seen i.most i.spans i.cells i.shape _ c.args.object c.self.view_is c.requires in
     room_left i.spans _ c.args.object 18446744073709551615 c.leave.ensures.left (entered_if_alive i.spans c.args.object a)
-    (record { within = λ n b. let r = c.self.invariant.room.within n b in omega (arith, i.cells.ok.0, i.cells.ok.1) })
+    (record { within = λ n b. let r = c.self.invariant.room.within n b in omega (arith, c.len-used.ensures, c.ranges.len-used) })
 
 pub invariant_of-self : goal.invariant_of-self
 invariant_of-self c =
