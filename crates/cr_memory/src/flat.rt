@@ -236,7 +236,9 @@ fn have_kinds(shape: &Sequence<(Scalar, Guard)>, from: usize, kinds: &[Scalar]) 
     ensures { result ≡ have_kinds (take (length kinds.now) (drop from shape.now)) kinds.now }
 {
     for i in 0..kinds.len() {
-        if !is_same(own_at(shape, place_in(shape.len(), from, i)).0, kinds[i]) {
+        let kind = kinds[i];
+        let own = own_at(shape, place_in(shape.len(), from, i));
+        if !is_same(own.0, kind) {
             return false;
         }
     }

@@ -23,6 +23,14 @@ pub(crate) fn cells_in(shape: &[(Scalar, Guard)], times: u32) -> usize
     (times as usize).saturating_mul(shape.len())
 }
 
+/// Whether the cells of so many elements may live beside those that live.
+fn may_live(most: u32, live: u32, shape: &[(Scalar, Guard)], times: u32) -> bool
+    requires { live ≤ most }
+    ensures { result ≡ nat_le (live + length (repeated times shape.now)) most }
+{
+    cells_in(shape, times) <= (most - live) as usize
+}
+
 /// Whether one more object of so many elements has room, and a number.
 pub(crate) fn has_room(
     spans: &Spans,
@@ -34,7 +42,7 @@ pub(crate) fn has_room(
     requires { live ≤ most }
     ensures { result ≡ (nat_le (live + length (repeated times shape.now)) most && nat_lt (length spans.now) 4294967295) }
 {
-    cells_in(shape, times) <= (most - live) as usize && spans.entered() < u32::MAX
+    may_live(most, live, shape, times) && spans.entered() < u32::MAX
 }
 
 /// What a cell holds when its object's lifetime begins.

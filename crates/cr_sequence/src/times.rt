@@ -26,7 +26,7 @@ impl<T> Model for Times<T> {
     ghost invariant = { λ t. t.count ≡ length (repeated t.times t.one.items) };
 }
 
-impl<T> Times<T> {
+impl<T: Copy> Times<T> {
     /// Items so many times. The error is that they can't be counted.
     pub fn new(one: Vec<T>, times: u32) -> Result<Times<T>, AllocError>
         ensures { IfOk result (λ all. all ≡ repeated times one.items) }
@@ -61,9 +61,7 @@ impl<T> Times<T> {
             None
         }
     }
-}
 
-impl<T: Copy> Times<T> {
     /// All of them, one behind another.
     pub fn spelled(&self, alloc: Global) -> Result<Vec<T>, AllocError>
         ensures { IfOk result (λ all. all.items ≡ self.now) }
