@@ -1,5 +1,5 @@
 pub mod Repeating
-pub mod Kinds
+pub mod KindRuns
 pub mod Overwriting
 pub mod View
 pub mod Living

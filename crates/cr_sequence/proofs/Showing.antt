@@ -136,4 +136,6 @@ joined (x ∷ a) b c = ap (λ r. x ∷ r) (joined a b c)
 -- once more at the end
 pub repeated_more : {X : Type 0} (n : ℕ) (xs : List X) → repeated n xs ++ xs ≡ repeated (n + 1) xs
 repeated_more zero xs = sym (append-nil xs)
-repeated_more (suc n) xs = joined xs (repeated n xs) xs ∙ ap (λ r. xs ++ r) (repeated_more n xs)
+repeated_more (suc n) xs =
+    let next : suc (n + 1) ≡ suc n + 1 = omega arith in
+    joined xs (repeated n xs) xs ∙ ap (λ r. xs ++ r) (repeated_more n xs) ∙ ap (λ k. repeated k xs) next

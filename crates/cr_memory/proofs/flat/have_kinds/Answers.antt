@@ -3,7 +3,7 @@ use Rattle.std.proofs.lemmas.List.{get_or_read}
 use Rattle.cr_memory.specs.Kind.{is_same}
 use Rattle.cr_memory.specs.Access.{have_kinds}
 use Rattle.cr_memory.specs.Flat.{shape_or}
-use Rattle.cr_memory.proofs.Kinds.{kinds_more}
+use Rattle.cr_memory.proofs.KindRuns.{kinds_more}
 use Rattle.cr_memory.proofs.flat.have_kinds.Goals as goal
 
 pub returns-then-not-is_same : goal.returns-then-not-is_same

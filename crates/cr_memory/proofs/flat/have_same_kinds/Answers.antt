@@ -2,7 +2,7 @@ use Rattle.std.proofs.Common.{◌≡◌, ◌+◌, ◌-◌, ◌&&◌, true, false
 use Rattle.cr_memory.specs.Kind.{is_same}
 use Rattle.cr_memory.specs.Access.{have_same_kinds}
 use Rattle.cr_memory.specs.Flat.{shape_or}
-use Rattle.cr_memory.proofs.Kinds.{same_more}
+use Rattle.cr_memory.proofs.KindRuns.{same_more}
 use Rattle.cr_memory.proofs.flat.have_same_kinds.Goals as goal
 
 pub returns-then-not-is_same : goal.returns-then-not-is_same
