@@ -1,7 +1,9 @@
 // Whole runs by the top call that knows all that words may ask for. What is wanted was found by hand from the rules of the command line
 // and of logs.
 use crate::outcomes::{more_status_of, words_in};
-use crate::runs::{FAULTS, JUDGED, MADE, SHARED, files_hold, files_of, rehearsed_bench, sink_of, words_of};
+use crate::runs::{
+    FAULTS, JUDGED, MADE, SHARED, files_hold, files_of, rehearsed_bench, sink_of, words_of,
+};
 use crate::tables::{Case, bytes_of};
 use cr_outside::MemFiles;
 use cr_outside_disk::MemDisk;

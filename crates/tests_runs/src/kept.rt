@@ -302,7 +302,11 @@ fn files_hold(alloc: Global, case: &Case, world: &mut MemDisk) -> Result<bool, A
 }
 
 // Whether the case comes to what it tells, and leaves the journal that it tells in each image.
-fn holds(rt: &(impl Threads + Wait + Sync), alloc: Global, case: &Case) -> Result<bool, AllocError> {
+fn holds(
+    rt: &(impl Threads + Wait + Sync),
+    alloc: Global,
+    case: &Case,
+) -> Result<bool, AllocError> {
     let mut world = before(alloc, case, 0)?;
     let (status, put) = run_so(rt, alloc, case.told("words"), &mut world)?;
     let image = world.image(alloc, 255)?;
