@@ -349,7 +349,8 @@ fn goes_on_behind(
     if status == 0 {
         return Ok(None);
     }
-    let ends = status == 12 && put.as_slice() == b"creduce: journal fault: t.c.journal\n";
+    let ends = status == 12
+        && put.as_slice() == b"creduce: journal fault: t.c.journal\n".as_slice();
     let file = content(alloc, &mut world, "t.c");
     let log = content(alloc, &mut world, "t.c.log");
     let stays = file == told(alloc, case, "before")? && log.is_none();
