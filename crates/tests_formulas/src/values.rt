@@ -13,7 +13,6 @@ use cr_meaning::Limits;
 use cr_outside::{Answer, Question};
 use std::alloc::{AllocError, Global};
 use std::process::Abort;
-use std::sync::Wait;
 use std::thread::Threads;
 
 /// Files by names.
@@ -255,7 +254,7 @@ fn words_with(alloc: Global, word: &str) -> Result<Vec<String>, AllocError> {
 
 // A run without a turn on a file that is its own input ends by what is answered of it.
 fn expect_run(
-    rt: &(impl Abort + Threads + Wait + Sync),
+    rt: &(impl Abort + Threads + Sync),
     alloc: Global,
     row: &str,
 ) -> Result<(), AllocError> {

@@ -25,6 +25,8 @@ mod looks;
 #[cfg(test)]
 mod names;
 #[cfg(test)]
+mod orders;
+#[cfg(test)]
 mod places;
 #[cfg(test)]
 mod programs;

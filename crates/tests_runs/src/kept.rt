@@ -349,8 +349,7 @@ fn goes_on_behind(
     if status == 0 {
         return Ok(None);
     }
-    let ends = status == 12
-        && put.as_slice() == b"creduce: journal fault: t.c.journal\n".as_slice();
+    let ends = status == 12 && put.as_slice() == b"creduce: journal fault: t.c.journal\n";
     let file = content(alloc, &mut world, "t.c");
     let log = content(alloc, &mut world, "t.c.log");
     let stays = file == told(alloc, case, "before")? && log.is_none();
