@@ -1,9 +1,7 @@
 // Whole runs by the top call that knows all that words may ask for. What is wanted was found by hand from the rules of the command line
 // and of logs.
 use crate::outcomes::{more_status_of, words_in};
-use crate::runs::{
-    FAULTS, JUDGED, MADE, SHARED, files_hold, files_of, rehearsed_bench, sink_of, words_of,
-};
+use crate::runs::{FAULTS, JUDGED, MADE, files_hold, files_of, rehearsed_bench, sink_of, words_of};
 use crate::tables::{Case, bytes_of};
 use cr_outside::MemFiles;
 use cr_outside_disk::MemDisk;
@@ -62,35 +60,6 @@ words --replay --workers=1 abc.c.log abc.c
 
 what a replay behind another word
 words --steps 7 --replay abc.c.log abc.c
-";
-
-/// Files whose run may hang on no order. Nothing is written.
-const ORDERED: &str = "\
-what a read beside a call that writes it
-words --any-order --passes l has:main abc.c
-name abc.c
-before int x;int f(void){x=1;return 2;}␊int main(){return x+f();}␊
-status 5
-output creduce: abc.c:2: left the profile: N8␊
-after same
-copy none
-log none
-
-what two calls
-before int x;int f(void){x=1;return 2;}int g(void){return 3;}␊int main(){return f()+g();}␊
-
-what an exit in an operand
-before void exit(int);␊int h(void){exit(0);}int main(){return h()+1/0;}␊
-
-what an undefined operation behind such a node
-before int f(void){return 1;}␊int main(){f()+f();␊return 1/0;}␊
-output creduce: abc.c:3: not defined: U2␊
-
-what a file that no test takes, whose run hangs on none
-words --any-order --passes l has:no abc.c
-before int x;int f(void){x=1;return 2;}␊int main(){int y=5;x=f();return y+f();}␊
-status 6
-output creduce: the test says no to abc.c␊
 ";
 
 /// Logs that are checked. The files are there before and after as they are told.
@@ -262,29 +231,6 @@ fn words_without_flag_come_to_what_they_come_to_without_the_further_modes(
     Ok(())
 }
 
-fn expect_standing(
-    rt: &(impl Abort + Threads + Wait + Sync),
-    alloc: Global,
-    case: &Case,
-) -> Result<(), AllocError> {
-    let mut words = words_of(alloc, case)?;
-    words.push(String::from_str(alloc, "--standing")?)?;
-    let files = files_of(alloc, case)?;
-    let so = runs_so(rt, alloc, case, &words, files)?;
-    assert!(rt; so, "{}", case.told("what"));
-    Ok(())
-}
-
-#[test]
-fn standing_workers_come_to_what_epochs_come_to(rt: HostRuntime) -> Result<(), AllocError> {
-    for table in [FAULTS, JUDGED, MADE, SHARED] {
-        for own in table.split("\n\n") {
-            expect_standing(&rt, rt.alloc(), &Case::of(table, own))?;
-        }
-    }
-    Ok(())
-}
-
 fn expect_asked(
     rt: &(impl Abort + Threads + Wait + Sync),
     alloc: Global,
@@ -301,16 +247,6 @@ fn expect_asked(
 fn for_a_mode_that_is_not_built_nothing_is_done(rt: HostRuntime) -> Result<(), AllocError> {
     for own in UNBUILT.split("\n\n") {
         expect_asked(&rt, rt.alloc(), &Case::of(UNBUILT, own))?;
-    }
-    Ok(())
-}
-
-#[test]
-fn with_any_order_a_file_whose_run_hangs_on_one_is_refused(
-    rt: HostRuntime,
-) -> Result<(), AllocError> {
-    for own in ORDERED.split("\n\n") {
-        expect_asked(&rt, rt.alloc(), &Case::of(ORDERED, own))?;
     }
     Ok(())
 }

@@ -7,8 +7,6 @@
 #[cfg(test)]
 mod further;
 #[cfg(test)]
-mod kept;
-#[cfg(test)]
 mod outcomes;
 #[cfg(test)]
 mod programs;
