@@ -44,7 +44,7 @@ best_is_kept() {
 # how_on WORD..: how a run that ended before its time is gone on with.
 how_on() {
     local word words=''
-    if has_mode --journal || has_mode --resume; then
+    if keeps_journal; then
         for word in "$@"; do
             [ "$word" != --journal ] || word=--resume
             words+=" $(printf %q "$word")"

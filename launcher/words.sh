@@ -25,6 +25,9 @@ writes() { [ "${#places[@]}" = 2 ] && [[ ${places[1]} != gen:* ]] && [ "${1:-}" 
 # has_mode FLAG: whether the flag stands among the words.
 has_mode() { [[ " ${modes[*]:-} " == *" $1 "* ]]; }
 
+# Whether these words keep a journal, or go on with one.
+keeps_journal() { has_mode --journal || has_mode --resume; }
+
 # goes_on FILE: whether a run with these words goes on with the journal of FILE, and so reads FILE.orig in the place of writing it.
 goes_on() {
     local gate
@@ -106,31 +109,26 @@ names_fault() {
     done
 }
 
-# journal_word_fault: why no journal is kept with these words, where one is asked for.
-journal_word_fault() {
-    has_mode --journal || has_mode --resume || return
-    if has_mode --journal && has_mode --resume; then echo '--journal begins a journal and --resume goes on with one: only one of them may stand'
-    elif [ "${modes[0]}" = "${modes[1]:-}" ]; then echo "${modes[0]} stands twice"
-    elif [ "${#modes[@]}" -gt 1 ]; then echo "${modes[0]} and ${modes[1]} don't go together"
-    elif [[ ${places[0]:-} == if:* ]]; then echo 'a run by a formula keeps no journal'
-    elif [[ ${places[1]:-} == gen:* ]]; then echo 'a generated program has no journal'
-    else return 1; fi
-}
-
-# lone_word_fault: why these words, with a flag that stands alone, ask for nothing.
-lone_word_fault() {
-    has_mode --any-order || has_mode --standing || return
-    if [ "${modes[0]}" = "${modes[1]:-}" ]; then echo "${modes[0]} stands twice"
-    elif [ "${#modes[@]}" -gt 1 ]; then echo "${modes[0]} and ${modes[1]} don't go together"
-    elif [[ ${places[0]:-} == if:* ]]; then echo "${modes[0]} takes a test program or has:TEXT, and no formula"
-    else return 1; fi
+# modes_fault: why no run is asked for by these flags together, or with this FILE.
+modes_fault() {
+    local flag engine='' seen=' '
+    [ "${#modes[@]}" -gt 0 ] || return
+    if has_mode --journal && has_mode --resume; then echo '--journal begins a journal and --resume goes on with one: only one of them may stand'; return; fi
+    for flag in "${modes[@]}"; do
+        [[ $seen != *" $flag "* ]] || { echo "$flag stands twice"; return; }
+        seen+="$flag "
+        [ "$flag" != --any-order ] || continue
+        [ -z "$engine" ] || { echo "$engine and $flag don't go together"; return; }
+        engine=$flag
+    done
+    [[ ${places[1]:-} == gen:* ]] && keeps_journal && echo 'a generated program has no journal'
 }
 
 # word_fault WORD..: the first word that is in no form, and why.
 word_fault() {
     local name value seen=' ' found valued=$valued rule=places_fault
     local -a rest=()
-    found=$(journal_word_fault || lone_word_fault) && [ "${1-}" != --replay ] && echo "$found" && return
+    found=$(modes_fault) && [ "${1-}" != --replay ] && echo "$found" && return
     if [ "${1-}" = --replay ]; then shift && valued=' --steps --passes ' rule=names_fault; fi
     while [ $# -gt 0 ]; do
         case $1 in

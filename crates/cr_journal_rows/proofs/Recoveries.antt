@@ -9,7 +9,7 @@ use Rattle.cr_journal_records.specs.Reading as reading
 use Rattle.cr_journal_records.specs.Reading.{ReadsTold}
 use Rattle.cr_journal_records.specs.Records.{AtRest, Body, Reads, StandsFirst, StandsNone}
 use Rattle.cr_journal_records.proofs.Blocks.{Sized, sized}
-use Rattle.cr_journal_rows.specs.Forms.{ReadsBodies, RecoversTold, bodies_of, row_body}
+use Rattle.cr_journal_rows.specs.Forms.{AllFit, ReadsBodies, RecoversTold, bodies_of, row_body}
 use Rattle.cr_journal_rows.specs.declared.fault.JournalFault.{JournalFault}
 use Rattle.cr_journal_rows.specs.declared.fault.JournalFault.TheVariants.{NoMemory, Disk, Bad, Differs}
 use Rattle.cr_journal_rows.specs.declared.header.Header.{Header}
@@ -31,7 +31,7 @@ module _ (bodies : List (Vec ℕ Global)) where
 
   recovers_from : (s : Story) (result : Found) → ReadsTold (Some s) (reading.bodies_of bodies) → ReadsBodies bodies result → RecoversTold (Some s) result
   recovers_from s (Ok None) reads none = none_stand (Some s) reads none
-  recovers_from s (Ok (Some (header, rows))) (rest, reads) (same, low) = (rest, subst (λ (l : List Body). Reads (seen s) l rest) same reads, low)
+  recovers_from s (Ok (Some (header, rows))) (rest, reads) (same, low, fits) = (rest, subst (λ (l : List Body). Reads (seen s) l rest) same reads, low)
   recovers_from s (Err (Bad i)) (rest, reads) bad = (reading.bodies_of bodies, rest, reads, bad (all_sized (reading.bodies_of bodies) (sized (seen s) (reading.bodies_of bodies) rest reads)))
   recovers_from s (Err NoMemory) reads found = tt
   recovers_from s (Err Disk) reads found = tt
@@ -54,13 +54,18 @@ some_bodies (body ∷ more) header rows same none = cc none
 pub rests_then : (told : Option Story) (bodies : List (Vec ℕ Global)) (result : Found) → (bodies ≢ [] → EveryTold (AtRest (reading.bodies_of bodies)) told) → ReadsBodies bodies result
     → IfOk result (λ found. IfSome found (λ journal. EveryTold (AtRest (bodies_of journal.0 journal.1.items)) told))
 rests_then told bodies (Ok None) rests found = tt
-rests_then told bodies (Ok (Some (header, rows))) rests (same, low) =
+rests_then told bodies (Ok (Some (header, rows))) rests (same, low, fits) =
     subst (λ (l : List Body). EveryTold (AtRest l) told) same (rests (some_bodies bodies header rows.items same))
 rests_then told bodies (Err fault) rests found = tt
 
 pub long_then : (size : ℕ) (bodies : List (Vec ℕ Global)) (result : Found) → (bodies ≢ [] → 32 * length bodies + 1 ≤ size) → ReadsBodies bodies result
     → IfOk result (λ found. IfSome found (λ journal. 32 * length journal.1.items + 33 ≤ size))
 long_then size bodies (Ok None) long found = tt
-long_then size bodies (Ok (Some (header, rows))) long (same, low) =
+long_then size bodies (Ok (Some (header, rows))) long (same, low, fits) =
     omega (arith, long (some_bodies bodies header rows.items same), ap length same, length-map bodies (λ (v : Vec ℕ Global). v.items), length-map rows.items row_body)
 long_then size bodies (Err fault) long found = tt
+
+pub fits_then : (bodies : List (Vec ℕ Global)) (result : Found) → ReadsBodies bodies result → IfOk result (λ found. IfSome found (λ journal. AllFit journal.0 journal.1.items))
+fits_then bodies (Ok None) found = tt
+fits_then bodies (Ok (Some (header, rows))) (same, low, fits) = fits
+fits_then bodies (Err fault) found = tt

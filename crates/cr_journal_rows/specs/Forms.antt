@@ -27,6 +27,18 @@ row_body row = (row.at.pass ∷ row.at.level ∷ []) ++ to_le_bytes w64 row.at.i
 abbrev pub bodies_of : Header → List Accepted → List Body
 bodies_of header rows = header_body header ∷ map row_body rows
 
+-- the numbers of a row fit their bytes
+pub record RowFits (row : Accepted) : Type 0 where
+  pub index : row.at.index < 2 ^ 64
+  pub size : row.size < 2 ^ 64
+  pub turn : row.turn < 2 ^ 64
+
+pub record HeaderFits (h : Header) : Type 0 where
+  pub passes : h.passes < 2 ^ 16
+  pub steps : h.steps < 2 ^ 64
+  pub limit : h.limit < 2 ^ 64
+  pub size : h.size < 2 ^ 64
+
 abbrev pub HasEnding : Body → Type 0
 HasEnding body = drop 26 body ≡ ending
 
@@ -35,7 +47,11 @@ abbrev pub HasRowForm : Body → Type 0
 HasRowForm body = HasEnding body × (get_or body 0 0 ≤ 9)
 
 abbrev pub IsRowBody : Body → Accepted → Type 0
-IsRowBody body row = (body ≡ row_body row) × (row.at.pass ≤ 9)
+IsRowBody body row = (body ≡ row_body row) × (row.at.pass ≤ 9) × RowFits row
+
+-- the numbers of a header and of rows fit their bytes
+abbrev pub AllFit : Header → List Accepted → Type 0
+AllFit header rows = HeaderFits header × All RowFits rows
 
 -- the form of the record of this number
 abbrev pub HasForm : ℕ → Body → Type 0
@@ -64,7 +80,7 @@ RecoversTold (Some s) result = Recovers (seen s) result
 -- what is read of bodies
 abbrev pub ReadsBodies : List (Vec ℕ) → Result (Option (Header × Vec Accepted)) JournalFault → Type 0
 ReadsBodies bodies (Ok None) = bodies ≡ []
-ReadsBodies bodies (Ok (Some (header, rows))) = (reading.bodies_of bodies ≡ bodies_of header rows.items) × All (λ row. row.at.pass ≤ 9) rows.items
+ReadsBodies bodies (Ok (Some (header, rows))) = (reading.bodies_of bodies ≡ bodies_of header rows.items) × All (λ row. row.at.pass ≤ 9) rows.items × AllFit header rows.items
 ReadsBodies bodies (Err (Bad i)) = All (λ body. length body ≡ 31) (reading.bodies_of bodies) → IsFirstBad (reading.bodies_of bodies) i
 ReadsBodies bodies (Err (Differs i)) = ⊥
 ReadsBodies bodies (Err Disk) = ⊥
@@ -79,23 +95,11 @@ pub record IsFirstBadRow (bodies : List Body) (i : ℕ) : Type 0 where
   pub before : (j : ℕ) → j < row → HasRowForm (get_or bodies j [])
 
 abbrev pub ReadsRows : List (Vec ℕ) → Result (Vec Accepted) JournalFault → Type 0
-ReadsRows bodies (Ok rows) = (reading.bodies_of bodies ≡ map row_body rows.items) × All (λ row. row.at.pass ≤ 9) rows.items
+ReadsRows bodies (Ok rows) = (reading.bodies_of bodies ≡ map row_body rows.items) × All (λ row. row.at.pass ≤ 9) rows.items × All RowFits rows.items
 ReadsRows bodies (Err (Bad i)) = All (λ body. length body ≡ 31) (reading.bodies_of bodies) → IsFirstBadRow (reading.bodies_of bodies) i
 ReadsRows bodies (Err (Differs i)) = ⊥
 ReadsRows bodies (Err Disk) = ⊥
 ReadsRows bodies (Err NoMemory) = Unit {0}
-
--- the numbers of a row fit their bytes
-pub record RowFits (row : Accepted) : Type 0 where
-  pub index : row.at.index < 2 ^ 64
-  pub size : row.size < 2 ^ 64
-  pub turn : row.turn < 2 ^ 64
-
-pub record HeaderFits (h : Header) : Type 0 where
-  pub passes : h.passes < 2 ^ 16
-  pub steps : h.steps < 2 ^ 64
-  pub limit : h.limit < 2 ^ 64
-  pub size : h.size < 2 ^ 64
 
 -- two rows with one body are one
 abbrev pub OneRow : Type 0

@@ -1,6 +1,6 @@
 // The first record.
 ghost use Rattle.std.specs.Prelude.{◌≡◌, length, IfOk, IfSome, None};
-ghost use Rattle.cr_journal_rows.specs.Forms.{HasEnding, header_body};
+ghost use Rattle.cr_journal_rows.specs.Forms.{HasEnding, HeaderFits, header_body};
 
 use crate::number::{take_u16, take_u64};
 use crate::row::{ENDING, is_ending};
@@ -35,6 +35,7 @@ pub fn body_of(alloc: Global, header: &Header) -> Result<Vec<u8>, AllocError>
 /// The header of a body.
 pub fn read_header(body: &[u8]) -> Option<Header>
     ensures header { IfSome result (λ header. body.now ≡ header_body header) }
+    ensures fits { IfSome result HeaderFits }
     ensures none { result ≡ None → length body.now ≡ 31 → HasEnding body.now → ⊥ }
 {
     let (passes, rest) = take_u16(body)?;

@@ -3,7 +3,7 @@ ghost use Rattle.std.specs.Prelude.{◌≡◌, ◌≢◌, ◌+◌, ◌*◌, ◌�
 ghost use Rattle.cr_outside.specs.Faults.{Rose};
 ghost use Rattle.cr_outside_disk.specs.Moments.{AlwaysTold, EveryTold, LastsTold};
 ghost use Rattle.cr_journal_records.specs.Records.{AtRest, Body, IsFront, IsKept, Stands, StandsNone};
-ghost use Rattle.cr_journal_rows.specs.Forms.{ReadsBodies, RecoversTold, bodies_of, header_body, row_body};
+ghost use Rattle.cr_journal_rows.specs.Forms.{AllFit, ReadsBodies, RecoversTold, bodies_of, header_body, row_body};
 ghost use Rattle.cr_reduce.specs.declared.end.Accepted.{Accepted as Row};
 
 use crate::JournalFault;
@@ -108,6 +108,7 @@ pub fn recover<D: Disk>(
     ensures later { D.faults disk.old ≤ D.faults disk.new }
     ensures failed { result ≡ Err JournalFault.Disk → Rose (D.faults disk.old) (D.faults disk.new) × (D.has_failed disk.new ≡ true) }
     ensures never { (i : ℕ) → result ≢ Err (JournalFault.Differs i) }
+    ensures fits { IfOk result (λ found. IfSome found (λ journal. AllFit journal.0 journal.1.items)) }
 {
     let bodies = match records::recover(disk, alloc, len) {
         Ok(bodies) => bodies,

@@ -2,13 +2,10 @@ pub mod NameLemmas
 pub mod Runnable
 pub mod OneTask
 pub mod Promises
-pub mod Sources
 pub mod Paths
+pub mod Sources
 pub mod OrderedLaw
-pub mod OrderedModes
-pub mod StandingModes
-pub mod KeptModes
-pub mod KeptTask
-pub mod More
-pub mod Completing
+pub mod Alike
+pub mod ByEngine
 pub mod Others
+pub mod More

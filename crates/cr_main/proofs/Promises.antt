@@ -145,7 +145,8 @@ module _ (words : List Word) (most : ℕ) (says : Telling) (old new : Outside) (
   completes (no_settings none idle said) = λ settings own is_task all. absurd (none settings is_task.gives)
   completes (unsorted same quiet is) = λ settings own is_task all. inr is
   completes (on_task given_by name gives is_own run) = λ settings own is_task all.
-      task_free (task_of given_by says name) (text_of given_by.source old.files) old new before after
+      let t = task_of given_by says name in
+      task_free t (by_epochs t) (told_of t) (λ since now bytes end it. it.cause) (text_of given_by.source old.files) old new before after
       (all_alike words most settings given_by own name is_task (record { gives = gives; is_own = is_own }) says old new before after all)
       levels_at (passes_levels given_by.enabled) bytes_enough (λ file. one_test_answer given_by.test says name file) status run
 

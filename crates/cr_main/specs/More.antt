@@ -1,41 +1,47 @@
 -- What a run comes to, of all that words may ask for.
-use Rattle.std.specs.Prelude.{◌≡◌, ◌≢◌, ◌⊎◌, ◌+◌, ◌*◌, ◌-◌, ℕ, Bool, true, false, List, [], ◌++◌, codes, cond, drop, length}
+use Rattle.std.specs.Prelude.{◌≡◌, ◌⊎◌, ◌+◌, ◌*◌, ◌-◌, ℕ, Bool, true, false, List, [], ◌++◌, codes, drop, length}
 use Rattle.std.specs.String.{string_bytes}
 use Rattle.cr_formula.specs.Forms.{Form, Spells}
+use Rattle.cr_lawful.specs.Lawful.{limits_of}
+use Rattle.cr_meaning.specs.declared.run.Limits.{Limits}
 use Rattle.cr_outside.specs.Question.{Says}
 use Rattle.cr_outside.specs.Story.{files_told}
 use Rattle.cr_outside.specs.Test.{asks_test}
 use Rattle.cr_outside.specs.declared.test.Test.{Test}
 use Rattle.cr_outside.specs.declared.test.Test.TheVariants as test
 use Rattle.cr_reduce.specs.Bench.{AsksAtMost, GoesOn, Judging}
-use Rattle.cr_main_formula.specs.Formulas.{HasAllBound, HasFormulaFinished, IsFormulaHeadline, KeepsFormula, RunsFormula}
+use Rattle.cr_main_formula.specs.Formulas.{IsFormulaHeadline}
+use Rattle.cr_main_kept.specs.Completing.{CompletesFirst, CompletesOn}
 use Rattle.cr_main_kept.specs.Kept.{RunsJournal, RunsResume}
+use Rattle.cr_main_kept.specs.KeptTask.{KeptTask, at}
 use Rattle.cr_main_kept.specs.Promises.{AsksOnlyOn, CopiesAtMost, EndsOn, KeepsFilesOn}
 use Rattle.cr_main_kept.specs.Surviving.{Survives}
 use Rattle.cr_main_kept.specs.declared.header.Marks.{Marks}
 use Rattle.cr_main_replay.specs.Replay.{IsReplayed, Replaying, RunsReplay}
 use Rattle.cr_main_replay_programs.specs.Replay.{replaying_of}
-use Rattle.cr_main_standing.specs.Standing.{RunsStanding, by_standing}
-use Rattle.cr_main_task.specs.Headline.{AsksOnlyOf, HasReduced, KeepsTask, TaskEnded}
+use Rattle.cr_main_standing.specs.Standing.{by_standing}
+use Rattle.cr_main_task.specs.Bound.{AsksBound, BoundEnded, HasAllBound, HasReducedBound, KeepsBound}
+use Rattle.cr_main_task.specs.Opening.{RunsBound}
 use Rattle.cr_main_task.specs.Outside.{Outside, Puts}
-use Rattle.cr_main_task.specs.Run.{RunsTask, by_epochs}
-use Rattle.cr_main_task.specs.Task.{Task}
-use Rattle.cr_main_words.specs.Flags.{plain_modes}
+use Rattle.cr_main_task.specs.Run.{Claiming, by_epochs}
+use Rattle.cr_main_task.specs.Task.{Task, Text}
 use Rattle.cr_main_words.specs.Giving.{HasSettings}
 use Rattle.cr_main_words.specs.Names.{IsOwnName, name_of}
 use Rattle.cr_main_words.specs.RequestLaws.{HasNoFlag}
 use Rattle.cr_main_words.specs.Requests.{Asks, AsksNothing, HasReduction, IsReplay, Suits}
 use Rattle.cr_main_words.specs.Words.{Word}
+use Rattle.cr_main_words.specs.declared.modes.Engine.{Engine}
 use Rattle.cr_main_words.specs.declared.modes.Engine.TheVariants as engine
 use Rattle.cr_main_words.specs.declared.modes.Modes.{Modes}
 use Rattle.cr_main_words.specs.declared.replay.ReplaySettings.{ReplaySettings}
 use Rattle.cr_main_words.specs.declared.request.Request.{Request}
 use Rattle.cr_main_words.specs.declared.request.Request.TheVariants as request
 use Rattle.cr_main_words.specs.declared.settings.Settings.{Settings}
-use Rattle.cr_main.specs.Headline.{AsksOnly, HasEnded, IsHeadline, KeepsFiles}
+use Rattle.cr_main_words.specs.declared.source.Source.{Source}
 use Rattle.cr_main.specs.Messages.{usage_line}
 use Rattle.cr_main.specs.Run.{DoesNothing}
-use Rattle.cr_main.specs.Task.{IsRunnable, formula_task_of, marks_of, ordered_task_of, task_of, text_of}
+use Rattle.cr_main.specs.Task.{IsRunnable, Query, asked_of, marks_of, text_of}
+use Rattle.cr_main.specs.Task.Query.{by_form, by_test}
 
 -- a word begins with if:
 abbrev pub BeginsWithIf : List ℕ → Type 0
@@ -51,54 +57,43 @@ abbrev pub word_of : Test → List ℕ
 word_of (test.Has text) = []
 word_of (test.Program path) = string_bytes path
 
--- the modes of a list with one flag, by which a journal is begun or gone on with
-abbrev pub kept_modes : Bool → Modes
-kept_modes resumes = record { engine = cond resumes engine.Resume engine.Journal; any_order = false }
+-- a test of the words means this: the formula that it spells, or itself
+abbrev pub Means : Test → Query → Type 0
+Means given by_test = IsFormula given → ⊥
+Means given (by_form form) = IsFormula given × Spells (word_of given) form
 
-abbrev pub IsKept : Modes → Type 0
-IsKept modes = (resumes : Bool) × (modes ≡ kept_modes resumes)
+-- a journal is begun or gone on with
+abbrev pub IsKept : Engine → Type 0
+IsKept engine.Journal = Unit {0}
+IsKept engine.Resume = Unit {0}
+IsKept _ = ⊥
 
--- the modes of a list with the one flag that asks for programs which run alike in any order
-abbrev pub ordered_modes : Modes
-ordered_modes = record { engine = engine.Plain; any_order = true }
+-- what a reduction by epochs of workers comes to
+abbrev pub RunsPlain : KeptTask → Source → Outside → Outside → Judging → Judging → ℕ → Type 0
+RunsPlain k source old new before after status = RunsBound k.law (at k) (λ bytes. by_epochs (at k bytes)) k.name (text_of source old.files) old new before after status
 
--- the modes of a list with one flag, by which threads stand for the whole reduction
-abbrev pub standing_modes : Modes
-standing_modes = record { engine = engine.Standing; any_order = false }
-
--- what isn't built is asked for: several flags, or a flag and a run by a formula
-abbrev pub IsUnbuilt : Settings → Modes → Type 0
-IsUnbuilt settings modes = (modes ≢ plain_modes) × (IsKept modes → IsFormula settings.test) × (modes ≡ ordered_modes → IsFormula settings.test) × (modes ≡ standing_modes → IsFormula settings.test)
-
--- what a run comes to that begins a journal, or that goes on with it
-abbrev pub RunsKept : Bool → Task → Marks → Outside → Outside → Judging → Judging → Bool → ℕ → Type 0
-RunsKept true t marks old new before after has_failed status = RunsResume t marks old new before after has_failed status
-RunsKept false t marks old new before after has_failed status = RunsJournal t marks old new before after has_failed status
-
--- What a run by a word that begins with if: comes to.
-pub data RunsWord (settings : Settings) (word : List ℕ) (old new : Outside) (before after : Judging) (status : ℕ) : Type 0 where
-  -- 2: it spells no formula
-  spells_none : ((form : Form) → Spells word form → ⊥) → DoesNothing old new before after → Puts old new usage_line 2 2 status → RunsWord settings word old new before after status
-  -- 11: no memory was left to read it
-  unread_word : new ≡ old → after ≡ before → status ≡ 11 → RunsWord settings word old new before after status
-  -- by the formula, which asks no judge
-  by_formula : (form : Form) (own : List ℕ) → Spells word form → IsOwnName (name_of settings.source) own → after ≡ before
-      → RunsFormula (formula_task_of settings form own) (text_of settings.source old.files) old new before after status → RunsWord settings word old new before after status
+-- What a reduction comes to, by an engine.
+abbrev pub RunsIn : Engine → KeptTask → Marks → Source → Outside → Outside → Judging → Judging → Bool → ℕ → Type 0
+RunsIn engine.Plain k marks source old new before after has_failed status = RunsPlain k source old new before after status
+RunsIn engine.Standing k marks source old new before after has_failed status =
+    RunsBound k.law (at k) (λ bytes. by_standing (at k bytes)) k.name (text_of source old.files) old new before after status
+RunsIn engine.Journal k marks source old new before after has_failed status =
+    RunsJournal k marks old new before after has_failed status × Survives k marks old new status
+RunsIn engine.Resume k marks source old new before after has_failed status =
+    RunsResume k marks old new before after has_failed status × Survives k marks old new status
 
 -- What a reduction with these settings, in these modes, comes to. Whether the call on the disk made last failed is told beside the status.
 pub data RunsAsked (settings : Settings) (modes : Modes) (says : Says) (old new : Outside) (before after : Judging) (has_failed : Bool) (status : ℕ) : Type 0 where
-  -- 2: it isn't built
-  unbuilt : IsUnbuilt settings modes → DoesNothing old new before after → Puts old new usage_line 2 2 status → RunsAsked settings modes says old new before after has_failed status
-  by_word : modes ≡ plain_modes → IsFormula settings.test → RunsWord settings (word_of settings.test) old new before after status → RunsAsked settings modes says old new before after has_failed status
-  plain : (own : List ℕ) → modes ≡ plain_modes → (IsFormula settings.test → ⊥) → IsOwnName (name_of settings.source) own
-      → RunsTask (task_of settings says own) (text_of settings.source old.files) old new before after status → RunsAsked settings modes says old new before after has_failed status
-  in_order : (own : List ℕ) → modes ≡ ordered_modes → (IsFormula settings.test → ⊥) → IsOwnName (name_of settings.source) own
-      → RunsTask (ordered_task_of settings says own) (text_of settings.source old.files) old new before after status → RunsAsked settings modes says old new before after has_failed status
-  kept : (resumes : Bool) (own : List ℕ) → modes ≡ kept_modes resumes → (IsFormula settings.test → ⊥) → IsOwnName (name_of settings.source) own
-      → RunsKept resumes (task_of settings says own) (marks_of settings) old new before after has_failed status → Survives (task_of settings says own) (marks_of settings) old new status
+  -- 2: the test begins with if:, and spells no formula
+  spells_none : IsFormula settings.test → ((form : Form) → Spells (word_of settings.test) form → ⊥) → DoesNothing old new before after → Puts old new usage_line 2 2 status
       → RunsAsked settings modes says old new before after has_failed status
-  standing : (own : List ℕ) → modes ≡ standing_modes → (IsFormula settings.test → ⊥) → IsOwnName (name_of settings.source) own
-      → RunsStanding (task_of settings says own) (text_of settings.source old.files) old new before after status → RunsAsked settings modes says old new before after has_failed status
+  -- 11: no memory was left to read the formula
+  unread_word : new ≡ old → after ≡ before → status ≡ 11 → RunsAsked settings modes says old new before after has_failed status
+  -- a question that uses no judge asks none
+  reduces : (query : Query) (own : List ℕ) → Means settings.test query → IsOwnName (name_of settings.source) own
+      → ((asked_of settings modes.any_order query says own).asks ≡ false → after ≡ before)
+      → RunsIn modes.engine (asked_of settings modes.any_order query says own) (marks_of settings) settings.source old new before after has_failed status
+      → RunsAsked settings modes says old new before after has_failed status
 
 -- the log and the file that are asked for, the steps and the passes
 abbrev pub replaying_by : ReplaySettings → Replaying
@@ -116,7 +111,7 @@ MayRun most (request.Replay asked) = Unit {0}
 
 -- no judge is needed for it
 abbrev pub IsQuiet : Request → Type 0
-IsQuiet (request.Reduction settings modes) = IsUnbuilt settings modes ⊎ IsFormula settings.test ⊎ (asks_test settings.test ≡ false)
+IsQuiet (request.Reduction settings modes) = IsFormula settings.test ⊎ (asks_test settings.test ≡ false)
 IsQuiet (request.Replay asked) = Unit {0}
 
 -- judges beyond the workers that it asks for are as they were; a replay has none
@@ -146,95 +141,95 @@ pub record IsPlain (words : List Word) (most : ℕ) : Type 0 where
   pub no_replay : (others : List Word) → IsReplay words others → ⊥
   pub no_formula : (settings : Settings) → HasSettings words most settings → IsFormula settings.test → ⊥
 
--- What is asked of a run is by a formula: the words ask for a plain reduction with these settings, whose test spells it, and the file has
--- this own name.
-pub record IsFormulaTask (words : List Word) (most : ℕ) (settings : Settings) (form : Form) (own : List ℕ) : Type 0 where
-  pub asks : HasReduction words most settings plain_modes
-  pub spells : Spells (word_of settings.test) form
-  pub is_own : IsOwnName (name_of settings.source) own
-
--- What is asked of a run is to keep a journal: the words ask for that with these settings, whose test is no formula, and the file has this
+-- What is asked of a run is a reduction: the words ask for it with these settings, in these modes, the test means this, and the file has this
 -- own name.
-pub record IsKeptTask (words : List Word) (most : ℕ) (settings : Settings) (own : List ℕ) : Type 0 where
-  pub resumes : Bool
-  pub asks : HasReduction words most settings (kept_modes resumes)
-  pub no_formula : IsFormula settings.test → ⊥
+pub record IsReducing (words : List Word) (most : ℕ) (settings : Settings) (modes : Modes) (query : Query) (own : List ℕ) : Type 0 where
+  pub asks : HasReduction words most settings modes
+  pub means : Means settings.test query
   pub is_own : IsOwnName (name_of settings.source) own
 
 abbrev pub AsksForJournal : List Word → ℕ → Type 0
-AsksForJournal words most = (settings : Settings) × (own : List ℕ) × IsKeptTask words most settings own
-
--- What is asked of a run is by standing workers: the words ask for that with these settings, whose test is no formula, and the file has this
--- own name.
-pub record IsStandingTask (words : List Word) (most : ℕ) (settings : Settings) (own : List ℕ) : Type 0 where
-  pub asks : HasReduction words most settings standing_modes
-  pub no_formula : IsFormula settings.test → ⊥
-  pub is_own : IsOwnName (name_of settings.source) own
+AsksForJournal words most = (settings : Settings) × (modes : Modes) × (query : Query) × (own : List ℕ) × IsReducing words most settings modes query own × IsKept modes.engine
 
 -- **A run that keeps a journal survives its stops.**
 abbrev pub SurvivesMore : List Word → ℕ → Says → Outside → Outside → ℕ → Type 0
-SurvivesMore words most says old new status = (settings : Settings) (own : List ℕ) → IsKeptTask words most settings own → Survives (task_of settings says own) (marks_of settings) old new status
+SurvivesMore words most says old new status = (settings : Settings) (modes : Modes) (query : Query) (own : List ℕ) → IsReducing words most settings modes query own → IsKept modes.engine
+    → Survives (asked_of settings modes.any_order query says own) (marks_of settings) old new status
 
--- What is asked of a run is that programs run alike in any order: the words ask for that with these settings, whose test is no formula, and
--- the file has this own name.
-pub record IsOrderedTask (words : List Word) (most : ℕ) (settings : Settings) (own : List ℕ) : Type 0 where
-  pub asks : HasReduction words most settings ordered_modes
-  pub no_formula : IsFormula settings.test → ⊥
-  pub is_own : IsOwnName (name_of settings.source) own
+-- **The headline**, by an engine of which this is claimed: of a formula with no premise on the outside.
+abbrev pub HeadlineOf : Query → Limits → (List ℕ → Task) → (List ℕ → Claiming) → Text → Outside → Outside → Judging → Judging → ℕ → Type 0
+HeadlineOf by_test limits at By text old new before after status = HasReducedBound at By text old new before after status
+HeadlineOf (by_form form) limits at By text old new before after status = IsFormulaHeadline form limits at By text old new before after status
 
--- **The headline, where no lawful program's run hangs on an order of operands.**
-pub record IsOrderedHeadline (settings : Settings) (own : List ℕ) (says : Says) (old new : Outside) (before after : Judging) (status : ℕ) : Type 0 where
-  pub reduced : HasReduced (ordered_task_of settings says own) (by_epochs (ordered_task_of settings says own)) (text_of settings.source old.files) old new before after status
-  pub few : AsksAtMost (reduced.end.turns + length reduced.end.accepted.items * (settings.window - 1) + 1) before after
+-- How a run ends by such an engine: at 0 and 7 with the headline, at 8 and 10 with the files of the reduction as far as it went.
+pub record EndsBy (settings : Settings) (query : Query) (k : KeptTask) (By : List ℕ → Claiming) (old new : Outside) (before after : Judging) (status : ℕ) : Type 0 where
+  pub headline : (status ≡ 0) ⊎ (status ≡ 7) → HeadlineOf query (limits_of settings.steps) (at k) By (text_of settings.source old.files) old new before after status
+  pub finished : (status ≡ 8) ⊎ (status ≡ 10) → BoundEnded (at k) (text_of settings.source old.files) old new status
 
--- What stands at 0, 7, 8 and 10: of a reduction the headline, or its files as far as it went; of one by a formula likewise, with no
--- premise on the outside, and 8 doesn't come; of a replay, that **the log leads from the copy to the file**.
+-- By epochs the judges are asked about the file, and then at most once for each turn and, for each acceptance, for the positions of its epoch behind it.
+abbrev pub AsksFew : Settings → KeptTask → Outside → Outside → Judging → Judging → ℕ → Type 0
+AsksFew settings k old new before after status = (it : HasReducedBound (at k) (λ bytes. by_epochs (at k bytes)) (text_of settings.source old.files) old new before after status)
+    → (status ≡ 0) ⊎ (status ≡ 7) → AsksAtMost (it.reduced.end.turns + length it.reduced.end.accepted.items * (settings.window - 1) + 1) before after
+
+-- How a run ends that keeps a journal: at 12 the call on the disk made last failed; at 12 and 13 neither the file nor the log was written.
+pub record EndsWithJournal (k : KeptTask) (old new : Outside) (after : Judging) (has_failed : Bool) (status : ℕ) : Type 0 where
+  pub ends : ((status ≡ 0) ⊎ (status ≡ 7)) ⊎ ((status ≡ 8) ⊎ (status ≡ 10)) → EndsOn k old new after status
+  pub failed : status ≡ 12 → (has_failed ≡ true) × CopiesAtMost k.name (files_told old.story) (files_told new.story)
+  pub refused : status ≡ 13 → files_told new.story ≡ files_told old.story
+
+abbrev pub EndsIn : Engine → Settings → Query → KeptTask → Outside → Outside → Judging → Judging → Bool → ℕ → Type 0
+EndsIn engine.Plain settings query k old new before after has_failed status =
+    EndsBy settings query k (λ bytes. by_epochs (at k bytes)) old new before after status × AsksFew settings k old new before after status
+EndsIn engine.Standing settings query k old new before after has_failed status = EndsBy settings query k (λ bytes. by_standing (at k bytes)) old new before after status
+EndsIn engine.Journal settings query k old new before after has_failed status = EndsWithJournal k old new after has_failed status
+EndsIn engine.Resume settings query k old new before after has_failed status = EndsWithJournal k old new after has_failed status
+
+-- What stands at 0, 7, 8 and 10, and with a journal at 12 and 13; 8 comes only where the question uses a judge. Of a replay, that **the
+-- log leads from the copy to the file**.
 pub data EndsMore (words : List Word) (most : ℕ) (says : Says) (old new : Outside) (before after : Judging) (has_failed : Bool) (status : ℕ) : Type 0 where
-  of_reduction : (modes : Modes) (settings : Settings) → HasReduction words most settings modes → (IsFormula settings.test → ⊥) → ((status ≡ 0) ⊎ (status ≡ 7) → IsHeadline words most says old new before after status)
-      → ((status ≡ 8) ⊎ (status ≡ 10) → HasEnded words most says old new status) → EndsMore words most says old new before after has_failed status
-  of_ordered : (settings : Settings) (own : List ℕ) → IsOrderedTask words most settings own → ((status ≡ 0) ⊎ (status ≡ 7) → IsOrderedHeadline settings own says old new before after status)
-      → ((status ≡ 8) ⊎ (status ≡ 10) → TaskEnded (ordered_task_of settings says own) (text_of settings.source old.files) old new status) → EndsMore words most says old new before after has_failed status
-  of_formula : (settings : Settings) (form : Form) (own : List ℕ) → IsFormulaTask words most settings form own
-      → ((status ≡ 0) ⊎ (status ≡ 7) → IsFormulaHeadline (formula_task_of settings form own) (text_of settings.source old.files) old new before after status)
-      → (status ≡ 10 → HasFormulaFinished (formula_task_of settings form own) (text_of settings.source old.files) old new status) → (status ≡ 8 → ⊥) → EndsMore words most says old new before after has_failed status
+  of_reduction : (settings : Settings) (modes : Modes) (query : Query) (own : List ℕ) → IsReducing words most settings modes query own
+      → EndsIn modes.engine settings query (asked_of settings modes.any_order query says own) old new before after has_failed status
+      → (status ≡ 8 → (asked_of settings modes.any_order query says own).asks ≡ true) → EndsMore words most says old new before after has_failed status
   of_replay : (asked : ReplaySettings) → Asks words most (request.Replay asked) → ((status ≡ 0) ⊎ (status ≡ 10) → IsReplayed (replaying_by asked) old.files)
       → EndsMore words most says old new before after has_failed status
-  -- of one that keeps a journal; 12: the call on the disk made last failed; at 12 and 13 neither the file nor the log was written
-  of_kept : (settings : Settings) (own : List ℕ) → IsKeptTask words most settings own
-      → (((status ≡ 0) ⊎ (status ≡ 7)) ⊎ ((status ≡ 8) ⊎ (status ≡ 10)) → EndsOn (task_of settings says own) old new after status)
-      → (status ≡ 12 → (has_failed ≡ true) × CopiesAtMost (task_of settings says own) (files_told old.story) (files_told new.story)) → (status ≡ 13 → files_told new.story ≡ files_told old.story)
-      → EndsMore words most says old new before after has_failed status
-  -- of one by standing workers the same as of every reduction
-  of_standing : (settings : Settings) (own : List ℕ) → IsStandingTask words most settings own
-      → ((status ≡ 0) ⊎ (status ≡ 7) → HasReduced (task_of settings says own) (by_standing (task_of settings says own)) (text_of settings.source old.files) old new before after status)
-      → ((status ≡ 8) ⊎ (status ≡ 10) → TaskEnded (task_of settings says own) (text_of settings.source old.files) old new status) → EndsMore words most says old new before after has_failed status
   of_nothing : (status ≡ 2) ⊎ (status ≡ 11) → EndsMore words most says old new before after has_failed status
 
 -- What holds of the files at every status.
+abbrev pub KeepsIn : Engine → Source → KeptTask → Outside → Outside → Judging → Type 0
+KeepsIn engine.Plain source k old new after = KeepsBound (at k) (λ bytes. by_epochs (at k bytes)) (text_of source old.files) old new after
+KeepsIn engine.Standing source k old new after = KeepsBound (at k) (λ bytes. by_standing (at k bytes)) (text_of source old.files) old new after
+KeepsIn engine.Journal source k old new after = KeepsFilesOn k (files_told old.story) (files_told new.story) after
+KeepsIn engine.Resume source k old new after = KeepsFilesOn k (files_told old.story) (files_told new.story) after
+
 pub data KeepsMore (words : List Word) (most : ℕ) (says : Says) (old new : Outside) (after : Judging) : Type 0 where
-  kept_by_task : KeepsFiles words most says old new after → KeepsMore words most says old new after
-  kept_by_formula : (settings : Settings) (form : Form) (own : List ℕ) → IsFormulaTask words most settings form own
-      → KeepsFormula (formula_task_of settings form own) (text_of settings.source old.files) old new after → KeepsMore words most says old new after
-  kept_in_order : (settings : Settings) (own : List ℕ) → IsOrderedTask words most settings own
-      → KeepsTask (ordered_task_of settings says own) (by_epochs (ordered_task_of settings says own)) (text_of settings.source old.files) old new after → KeepsMore words most says old new after
-  kept_with_journal : (settings : Settings) (own : List ℕ) → IsKeptTask words most settings own → KeepsFilesOn (task_of settings says own) (files_told old.story) (files_told new.story) after
-      → KeepsMore words most says old new after
-  kept_by_standing : (settings : Settings) (own : List ℕ) → IsStandingTask words most settings own
-      → KeepsTask (task_of settings says own) (by_standing (task_of settings says own)) (text_of settings.source old.files) old new after → KeepsMore words most says old new after
+  more_unchanged : new.files ≡ old.files → KeepsMore words most says old new after
+  more_kept : (settings : Settings) (modes : Modes) (query : Query) (own : List ℕ) → IsReducing words most settings modes query own
+      → KeepsIn modes.engine settings.source (asked_of settings modes.any_order query says own) old new after → KeepsMore words most says old new after
 
 -- What the test is asked. Of standing workers no more is said than that no call is taken back.
-pub data AsksMore (words : List Word) (most : ℕ) (says : Says) (old : Outside) (before after : Judging) : Type 0 where
-  asked_by_task : AsksOnly words most says old before after → AsksMore words most says old before after
-  asked_in_order : (settings : Settings) (own : List ℕ) → IsOrderedTask words most settings own
-      → AsksOnlyOf (ordered_task_of settings says own) (text_of settings.source old.files) before after → AsksMore words most says old before after
-  asked_with_journal : (settings : Settings) (own : List ℕ) → IsKeptTask words most settings own → AsksOnlyOn (task_of settings says own) (files_told old.story) before after
-      → AsksMore words most says old before after
-  asked_by_standing : (settings : Settings) (own : List ℕ) → IsStandingTask words most settings own → GoesOn before after → AsksMore words most says old before after
+abbrev pub AsksIn : Engine → Source → KeptTask → Outside → Judging → Judging → Type 0
+AsksIn engine.Plain source k old before after = AsksBound (at k) (text_of source old.files) before after
+AsksIn engine.Standing source k old before after = GoesOn before after
+AsksIn engine.Journal source k old before after = AsksOnlyOn k (files_told old.story) before after
+AsksIn engine.Resume source k old before after = AsksOnlyOn k (files_told old.story) before after
 
--- Completeness of a run by a formula: with all that it needs, it ends with 0, or for want of memory.
-abbrev pub CompletesByFormula : List Word → ℕ → Outside → Outside → Judging → Judging → ℕ → Type 0
-CompletesByFormula words most old new before after status = (settings : Settings) (form : Form) (own : List ℕ) → IsFormulaTask words most settings form own
-    → HasAllBound (formula_task_of settings form own) (text_of settings.source old.files) old new before after → (status ≡ 0) ⊎ (status ≡ 11)
+-- A question that uses no judge asks none.
+pub data AsksMore (words : List Word) (most : ℕ) (says : Says) (old : Outside) (before after : Judging) : Type 0 where
+  more_asks_nothing : after ≡ before → AsksMore words most says old before after
+  more_asks : (settings : Settings) (modes : Modes) (query : Query) (own : List ℕ) → IsReducing words most settings modes query own
+      → AsksIn modes.engine settings.source (asked_of settings modes.any_order query says own) old before after
+      → ((asked_of settings modes.any_order query says own).asks ≡ false → after ≡ before) → AsksMore words most says old before after
+
+-- Completeness, by an engine: with all that it needs, a run ends with 0, or for want of memory.
+abbrev pub CompletesIn : Engine → Settings → KeptTask → Outside → Outside → Judging → Judging → Bool → ℕ → Type 0
+CompletesIn engine.Plain settings k old new before after has_failed status = HasAllBound (at k) (text_of settings.source old.files) old new before after → (status ≡ 0) ⊎ (status ≡ 11)
+CompletesIn engine.Standing settings k old new before after has_failed status = HasAllBound (at k) (text_of settings.source old.files) old new before after → (status ≡ 0) ⊎ (status ≡ 11)
+CompletesIn engine.Journal settings k old new before after has_failed status = CompletesFirst k old new before after has_failed status
+CompletesIn engine.Resume settings k old new before after has_failed status = CompletesOn k (marks_of settings) old new before after has_failed status
+
+abbrev pub CompletesMore : List Word → ℕ → Says → Outside → Outside → Judging → Judging → Bool → ℕ → Type 0
+CompletesMore words most says old new before after has_failed status = (settings : Settings) (modes : Modes) (query : Query) (own : List ℕ) → IsReducing words most settings modes query own
+    → CompletesIn modes.engine settings (asked_of settings modes.any_order query says own) old new before after has_failed status
 
 -- what is asked of a run needs no judge: its test is a formula, or a text that the file must have
 abbrev pub IsSilent : List Word → ℕ → Type 0

@@ -1,20 +1,22 @@
 // What words ask for is done.
 ghost use Rattle.std.specs.Prelude.{◌≡◌, MatchOption, drop, false, length, string_bytes, true};
+ghost use Rattle.cr_formula.specs.Forms.{Form, Spells, form_of};
 ghost use Rattle.cr_outside.specs.Test.{asks_test};
 ghost use Rattle.cr_reduce.specs.Bench.{judging, keys_of, says_of};
-ghost use Rattle.cr_main.specs.More.{BeginsWithIf, Does, IsFormula, IsKept, IsQuiet, IsUnbuilt, LeavesOthers, MayRun, RunsAsked, kept_modes, ordered_modes, standing_modes, word_of};
+ghost use Rattle.cr_main.specs.More.{BeginsWithIf, Does, IsFormula, IsQuiet, LeavesOthers, MayRun, RunsAsked, word_of};
 ghost use Rattle.cr_main.specs.Task.{IsRunnable};
 ghost use Rattle.cr_main_task.specs.Outside.{outside};
-ghost use Rattle.cr_main_words.specs.Flags.{plain_modes};
 ghost use Rattle.cr_main_words.specs.Requests.{Suits};
 
-use crate::formulas::run_word;
-use crate::given::{run_given, run_ordered};
-use crate::kept::run_kept;
+use crate::given::run_in_modes;
 use crate::messages::put_usage;
-use crate::standing::run_given_standing;
+use cr_formula::{Formula, FormulaFault};
+use cr_lawful::{CLaw, LastRun};
+use cr_lawful_analysis::LastRead;
+use cr_main_formula::ByFormula;
 use cr_main_replay_programs::replay_programs;
-use cr_main_words::{Engine, Modes, Request, Settings};
+use cr_main_task::{Unbound, status};
+use cr_main_words::{Modes, Request, Settings};
 use cr_outside::{Files, Judge, Sink, Test};
 use cr_outside_disk::Disk;
 use cr_pool::Bench;
@@ -55,7 +57,7 @@ pub fn run_request<R: Threads + Wait + Sync, W: Files + Disk, J: Judge + Send + 
     }
 }
 
-// Runs the reducer as these settings ask, in these modes. What isn't built is answered as words in no form are.
+// Runs the reducer as these settings ask, in these modes. A test that begins as a formula and spells none is answered as words in no form are.
 fn run_asked<R: Threads + Wait + Sync, W: Files + Disk, J: Judge + Send + Drop, O: Sink>(
     rt: &R,
     alloc: Global,
@@ -70,46 +72,27 @@ fn run_asked<R: Threads + Wait + Sync, W: Files + Disk, J: Judge + Send + Drop, 
     ensures runs { RunsAsked settings.now modes (says_of J.Judge bench.old)
         (outside W.Outside W.Files.own world.old O.Sink out.old) (outside W.Outside W.Files.own world.new O.Sink out.new)
         (judging J.Judge bench.old) (judging J.Judge bench.new) (W.Disk.has_failed world.new) result }
-    ensures idle { IsUnbuilt settings.now modes → bench.new.judges ≡ bench.old.judges }
-    ensures formula { IsFormula settings.now.test → bench.new.judges ≡ bench.old.judges }
     ensures others { drop settings.now.workers bench.new.judges ≡ drop settings.now.workers bench.old.judges }
+    ensures formula { IsFormula settings.now.test → bench.new.judges ≡ bench.old.judges }
     ensures silent { asks_test settings.now.test ≡ false → bench.new.judges ≡ bench.old.judges }
     ensures keys { keys_of J.Judge bench.new ≡ keys_of J.Judge bench.old }
 {
-    match formula_word(&settings.test) {
-        Some(word) => run_by_word(rt, alloc, settings, modes, word, world, bench, out),
-        None => run_tested(rt, alloc, settings, modes, world, bench, out),
-    }
-}
-
-// Runs by a word that begins with `if:`.
-fn run_by_word<R: Threads + Sync, W: Files + Disk, J: Judge + Send, O: Sink>(
-    rt: &R,
-    alloc: Global,
-    settings: &Settings,
-    modes: Modes,
-    word: &str,
-    world: &mut W,
-    bench: &mut Bench<J>,
-    out: &mut O,
-) -> u8
-    requires runnable { IsRunnable (length bench.old.judges) settings.now }
-    requires formula { IsFormula settings.now.test }
-    requires spelled { word.now ≡ word_of settings.now.test }
-    ensures runs { RunsAsked settings.now modes (says_of J.Judge bench.old)
-        (outside W.Outside W.Files.own world.old O.Sink out.old) (outside W.Outside W.Files.own world.new O.Sink out.new)
-        (judging J.Judge bench.old) (judging J.Judge bench.new) (W.Disk.has_failed world.new) result }
-    ensures silent { bench.new.judges ≡ bench.old.judges }
-    ensures keys { keys_of J.Judge bench.new ≡ keys_of J.Judge bench.old }
-{
-    if has_flag(modes) {
-        return put_usage(out);
-    }
-    run_word(rt, alloc, settings, word, world, bench, out)
+    let word = match formula_word(&settings.test) {
+        Some(word) => word,
+        None => return run_by_test(rt, alloc, settings, modes, world, bench, out),
+    };
+    let formula = match Formula::read(alloc, word) {
+        Ok(formula) => formula,
+        Err(FormulaFault::Form) => return put_usage(out),
+        Err(FormulaFault::NoMemory) => return status::NO_MEMORY,
+    };
+    let status = run_by_formula(rt, alloc, settings, modes, &formula, world, bench, out);
+    drop(formula);
+    status
 }
 
 // Runs by a test that is no formula.
-fn run_tested<R: Threads + Wait + Sync, W: Files + Disk, J: Judge + Send + Drop, O: Sink>(
+fn run_by_test<R: Threads + Wait + Sync, W: Files + Disk, J: Judge + Send + Drop, O: Sink>(
     rt: &R,
     alloc: Global,
     settings: &Settings,
@@ -124,130 +107,57 @@ fn run_tested<R: Threads + Wait + Sync, W: Files + Disk, J: Judge + Send + Drop,
     ensures runs { RunsAsked settings.now modes (says_of J.Judge bench.old)
         (outside W.Outside W.Files.own world.old O.Sink out.old) (outside W.Outside W.Files.own world.new O.Sink out.new)
         (judging J.Judge bench.old) (judging J.Judge bench.new) (W.Disk.has_failed world.new) result }
-    ensures idle { IsUnbuilt settings.now modes → bench.new.judges ≡ bench.old.judges }
     ensures others { drop settings.now.workers bench.new.judges ≡ drop settings.now.workers bench.old.judges }
     ensures silent { asks_test settings.now.test ≡ false → bench.new.judges ≡ bench.old.judges }
     ensures keys { keys_of J.Judge bench.new ≡ keys_of J.Judge bench.old }
 {
-    if has_flag(modes) {
-        return run_flagged(rt, alloc, settings, modes, world, bench, out);
-    }
-    run_given(rt, alloc, settings, world, bench, out)
+    let last = LastRead::new();
+    let law = CLaw::with_steps(settings.steps, Some(&last));
+    let asking = Unbound {
+        question: &settings.test,
+    };
+    run_in_modes(rt, alloc, settings, modes, &law, &asking, world, bench, out)
 }
 
-// Runs by a test that is no formula, as flags ask: with a journal, or not at all.
-fn run_flagged<R: Threads + Wait + Sync, W: Files + Disk, J: Judge + Send + Drop, O: Sink>(
+// Runs by a formula. The law leaves how the run of each lawful file ended, so that the formula doesn't run it again.
+fn run_by_formula<R: Threads + Wait + Sync, W: Files + Disk, J: Judge + Send + Drop, O: Sink>(
     rt: &R,
     alloc: Global,
     settings: &Settings,
     modes: Modes,
+    formula: &Formula,
     world: &mut W,
     bench: &mut Bench<J>,
     out: &mut O,
 ) -> u8
     requires runnable { IsRunnable (length bench.old.judges) settings.now }
     requires suits { Suits modes.engine settings.now.source }
-    requires no_formula { IsFormula settings.now.test → ⊥ }
-    requires flag { modes ≡ plain_modes → ⊥ }
+    requires formula { IsFormula settings.now.test }
+    requires spelled { Spells (word_of settings.now.test) (form_of formula.now) }
     ensures runs { RunsAsked settings.now modes (says_of J.Judge bench.old)
         (outside W.Outside W.Files.own world.old O.Sink out.old) (outside W.Outside W.Files.own world.new O.Sink out.new)
         (judging J.Judge bench.old) (judging J.Judge bench.new) (W.Disk.has_failed world.new) result }
-    ensures idle { IsUnbuilt settings.now modes → bench.new.judges ≡ bench.old.judges }
     ensures others { drop settings.now.workers bench.new.judges ≡ drop settings.now.workers bench.old.judges }
-    ensures silent { asks_test settings.now.test ≡ false → bench.new.judges ≡ bench.old.judges }
+    ensures silent { bench.new.judges ≡ bench.old.judges }
     ensures keys { keys_of J.Judge bench.new ≡ keys_of J.Judge bench.old }
 {
-    match resuming(modes) {
-        Some(resumes) => run_kept(rt, alloc, settings, resumes, world, bench, out),
-        None => run_unkept(rt, alloc, settings, modes, world, bench, out),
-    }
+    let last = LastRead::new();
+    let runs = LastRun::new();
+    let law = CLaw::with_steps(settings.steps, Some(&last)).leaving_runs(&runs);
+    let asking = asking_by(formula, &law);
+    run_in_modes(rt, alloc, settings, modes, &law, &asking, world, bench, out)
 }
 
-// Runs by a test that is no formula, as flags ask that keep no journal: with no run that hangs on an order, by standing
-// workers, or not at all.
-fn run_unkept<R: Threads + Wait + Sync, W: Files + Disk, J: Judge + Send + Drop, O: Sink>(
-    rt: &R,
-    alloc: Global,
-    settings: &Settings,
-    modes: Modes,
-    world: &mut W,
-    bench: &mut Bench<J>,
-    out: &mut O,
-) -> u8
-    requires runnable { IsRunnable (length bench.old.judges) settings.now }
-    requires no_formula { IsFormula settings.now.test → ⊥ }
-    requires flag { modes ≡ plain_modes → ⊥ }
-    requires no_journal { IsKept modes → ⊥ }
-    ensures runs { RunsAsked settings.now modes (says_of J.Judge bench.old)
-        (outside W.Outside W.Files.own world.old O.Sink out.old) (outside W.Outside W.Files.own world.new O.Sink out.new)
-        (judging J.Judge bench.old) (judging J.Judge bench.new) (W.Disk.has_failed world.new) result }
-    ensures idle { IsUnbuilt settings.now modes → bench.new.judges ≡ bench.old.judges }
-    ensures others { drop settings.now.workers bench.new.judges ≡ drop settings.now.workers bench.old.judges }
-    ensures silent { asks_test settings.now.test ≡ false → bench.new.judges ≡ bench.old.judges }
-    ensures keys { keys_of J.Judge bench.new ≡ keys_of J.Judge bench.old }
+// What a run by a formula asks, within the limits of a law that leaves how runs end.
+fn asking_by<'a>(formula: &'a Formula, law: &CLaw<'a>) -> ByFormula<'a>
+    ensures formula { result.formula.now ≡ formula.entry.now }
+    ensures limits { result.limits ≡ law.now.limits }
 {
-    if is_ordered(modes) {
-        return run_ordered(rt, alloc, settings, world, bench, out);
-    }
-    if is_standing(modes) {
-        return run_given_standing(rt, alloc, settings, world, bench, out);
-    }
-    put_usage(out)
-}
-
-// Whether the one flag is that on orders.
-fn is_ordered(modes: Modes) -> bool
-    ensures so { result ≡ true → modes ≡ ordered_modes }
-    ensures other { result ≡ false → modes ≡ ordered_modes → ⊥ }
-{
-    match modes.engine {
-        Engine::Plain => modes.any_order,
-        Engine::Journal => false,
-        Engine::Resume => false,
-        Engine::Standing => false,
-    }
-}
-
-// Whether the one flag is that on standing workers.
-#[tactic(auto, using(crate::proofs::StandingModes::standing_is, crate::proofs::StandingModes::ordered_not, crate::proofs::StandingModes::plain_not, crate::proofs::StandingModes::journal_not, crate::proofs::StandingModes::resume_not))]
-fn is_standing(modes: Modes) -> bool
-    ensures so { result ≡ true → modes ≡ standing_modes }
-    ensures other { result ≡ false → modes ≡ standing_modes → ⊥ }
-{
-    if modes.any_order {
-        return false;
-    }
-    match modes.engine {
-        Engine::Standing => true,
-        Engine::Plain => false,
-        Engine::Journal => false,
-        Engine::Resume => false,
-    }
-}
-
-fn has_flag(modes: Modes) -> bool
-    ensures flag { result ≡ true → modes ≡ plain_modes → ⊥ }
-    ensures none { result ≡ false → modes ≡ plain_modes }
-{
-    match modes.engine {
-        Engine::Plain => modes.any_order,
-        Engine::Journal | Engine::Resume | Engine::Standing => true,
-    }
-}
-
-// Whether a journal is gone on with, where one is kept.
-#[tactic(auto, using(crate::proofs::KeptModes::kept_is, crate::proofs::KeptModes::ordered_apart, crate::proofs::KeptModes::plain_apart, crate::proofs::KeptModes::standing_apart))]
-fn resuming(modes: Modes) -> Option<bool>
-    ensures kept { MatchOption result (IsKept modes → ⊥) (λ resumes. modes ≡ kept_modes resumes) }
-{
-    if modes.any_order {
-        return None;
-    }
-    match modes.engine {
-        Engine::Journal => Some(false),
-        Engine::Resume => Some(true),
-        Engine::Plain => None,
-        Engine::Standing => None,
+    let runs = law.runs;
+    ByFormula {
+        formula,
+        limits: law.limits,
+        runs,
     }
 }
 

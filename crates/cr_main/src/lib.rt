@@ -6,14 +6,13 @@
 #![tactic(auto)]
 
 mod asked;
-mod formulas;
+mod engines;
 mod given;
-mod kept;
 mod laws;
 mod messages;
 mod modes;
 mod names;
-mod standing;
+mod source;
 mod top;
 
 pub use laws::a_name_has_one_own_name;

@@ -5,7 +5,7 @@ ghost use Rattle.cr_reduce.specs.Bench.{judging, keys_of, says_of};
 ghost use Rattle.cr_main_task.specs.Outside.{outside};
 ghost use Rattle.cr_main_task.specs.Story.{KeepsJournal};
 ghost use Rattle.cr_main.specs.Headline.{Promises};
-ghost use Rattle.cr_main.specs.More.{AsksForJournal, AsksMore, CompletesByFormula, EndsMore, IsPlain, IsSilent, KeepsMore, KeepsToAsked, RunsMore, SurvivesMore};
+ghost use Rattle.cr_main.specs.More.{AsksForJournal, AsksMore, CompletesMore, EndsMore, IsPlain, IsSilent, KeepsMore, KeepsToAsked, RunsMore, SurvivesMore};
 ghost use Rattle.cr_main_words.specs.Words.{texts_of};
 
 use crate::asked::run_request;
@@ -65,10 +65,10 @@ pub fn run_more<R: Threads + Wait + Sync, W: Files + Disk, J: Judge + Send + Dro
     // formula and a replay ask no judge.
     ensures asks_only { AsksMore (texts_of list.now) (length bench.old.judges) (says_of J.Judge bench.old) (outside W.Outside W.Files.own world.old O.Sink out.old)
         (judging J.Judge bench.old) (judging J.Judge bench.new) }
-    // Completeness of a formula: with all that it needs, a run by it ends with 0, or for want of memory.
-    ensures completes { CompletesByFormula (texts_of list.now) (length bench.old.judges)
+    // Completeness: with all that it needs, a run ends with 0, or for want of memory.
+    ensures completes { CompletesMore (texts_of list.now) (length bench.old.judges) (says_of J.Judge bench.old)
         (outside W.Outside W.Files.own world.old O.Sink out.old) (outside W.Outside W.Files.own world.new O.Sink out.new)
-        (judging J.Judge bench.old) (judging J.Judge bench.new) result }
+        (judging J.Judge bench.old) (judging J.Judge bench.new) (W.Disk.has_failed world.new) result }
 
     // Workers beyond those that the words ask for do nothing.
     ensures others { KeepsToAsked (texts_of list.now) (length bench.old.judges) bench.old.judges bench.new.judges }

@@ -1,40 +1,31 @@
 -- The headline of a run by a formula.
-use Rattle.std.proofs.Common.{inl, inr, ℕ, List, refl, subst}
+use Rattle.std.proofs.Common.{inl, inr, ℕ, List, subst}
 use Rattle.cr_reduce.specs.Bench.{Judging}
 use Rattle.cr_formula.specs.Forms.{Form}
 use Rattle.cr_formula_bound.specs.Values.{Value}
 use Rattle.cr_lawful.specs.Runs.{ComesToEnd}
 use Rattle.cr_meaning.specs.declared.run.Limits.{Limits}
+use Rattle.cr_main_task.specs.Bound.{HasReducedBound}
+use Rattle.cr_main_task.specs.Opening.{read_of}
 use Rattle.cr_main_task.specs.Outside.{Outside}
-use Rattle.cr_main_task.specs.Run.{by_epochs}
-use Rattle.cr_main_task.specs.Task.{Text, given}
-use Rattle.cr_main_task.proofs.Bound.{bound_done}
-use Rattle.cr_main_task.proofs.Headlines.{IsDone}
+use Rattle.cr_main_task.specs.Run.{Claiming}
+use Rattle.cr_main_task.specs.Task.{Task, Text}
 use Rattle.cr_main_task.proofs.Results.{result_tells}
-use Rattle.cr_main_formula.specs.Formulas.{AsksSame, FormulaTask, IsFormulaHeadline, RunsFormula, bound_to, law_within}
+use Rattle.cr_main_formula.specs.Formulas.{AsksSame, IsByFormula, IsFormulaHeadline}
 
 -- a file of which such a formula is true behaves as the input
-alike : (f : Form) (input : List ℕ) (limits : Limits) (file : List ℕ) → AsksSame f → Value f input limits file
+alike : (form : Form) (input : List ℕ) (limits : Limits) (file : List ℕ) → AsksSame form → Value form input limits file
     → (status : ℕ) × (output : List ℕ) × ComesToEnd limits input status output × ComesToEnd limits file status output
-alike f input limits file (inl is) holds =
+alike form input limits file (inl is) holds =
     let it = subst (λ g. Value g input limits file) is holds in (it.0, it.1, it.3, it.2)
-alike f input limits file (inr is) holds =
+alike form input limits file (inr is) holds =
     let it = subst (λ g. Value g input limits file) is.1 holds in (it.0.0, it.0.1, it.0.3, it.0.2)
 
-module _ (f : FormulaTask) (text : Text) (old new : Outside) (before after : Judging) (status : ℕ) where
-  pub formula_done : RunsFormula f text old new before after status → IsDone status → IsFormulaHeadline f text old new before after status
-  formula_done run done =
-      let it = bound_done (law_within f.limits) (bound_to f) (λ bytes. by_epochs (bound_to f bytes))
-      (λ bytes since now read end claims. record { reduction = claims.reduction; fixed_point = claims.fixed_point })
-      f.name text old new before after status run done in
-      let bytes = it.0 in
-      let t = bound_to f bytes in
-      record {
-        bytes = bytes;
-        has = it.1;
-        lawful = it.2;
-        reduced = it.3;
-        all_told = λ file. inl refl;
-        behaves = λ is. alike f.form bytes f.limits it.3.end.file.items is
-            (result_tells t (by_epochs t) (given bytes) old new before after status it.3 (λ file. inl refl));
-      }
+pub formula_headline : (form : Form) (limits : Limits) (at : List ℕ → Task) (By : List ℕ → Claiming) (text : Text) (old new : Outside) (before after : Judging) (status : ℕ)
+    → IsByFormula form limits at → HasReducedBound at By text old new before after status → IsFormulaHeadline form limits at By text old new before after status
+formula_headline form limits at By text old new before after status by it = record {
+  bound = it;
+  all_told = λ file. inl (by.quiet it.bytes);
+  behaves = λ is. alike form it.bytes limits it.reduced.end.file.items is (by.holds it.bytes it.reduced.end.file.items
+      (result_tells (at it.bytes) (By it.bytes) (read_of text it.bytes) old new before after status it.reduced (λ file. inl (by.quiet it.bytes))));
+}

@@ -1,4 +1,1 @@
 pub mod Headline
-pub mod Bound
-pub mod Opened
-pub mod Promises

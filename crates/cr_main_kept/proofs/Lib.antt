@@ -5,3 +5,5 @@ pub mod Copies
 pub mod Going
 pub mod Promises
 pub mod Surviving
+pub mod Completing
+pub mod CompletingOn

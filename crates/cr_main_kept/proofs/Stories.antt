@@ -5,6 +5,7 @@ use Rattle.cr_outside_disk.specs.declared.disk.DiskFault.{DiskFault}
 use Rattle.cr_outside_disk.specs.declared.disk.DiskFault.TheVariants.{Failed, NoMemory}
 use Rattle.cr_journal_rows.specs.Faults.{fault_of_disk}
 use Rattle.cr_journal_rows.specs.Forms.{RecoversTold}
+use Rattle.cr_journal_rows.specs.declared.fault.JournalFault.TheVariants.{Differs}
 use Rattle.cr_main_kept.specs.Lines.{IsDiskFault}
 use Rattle.cr_journal.specs.Keeping.{Rests, journal_of}
 use Rattle.cr_journal_records.specs.Records.{AtRest, Body, IsKept, Stands, StandsFirst, StandsNone}
@@ -67,6 +68,10 @@ started_length told (Err fault) ready size has is_ready is = tt
 pub disk_cause : (fault : DiskFault) (has_failed : Bool) → (fault ≡ Failed → has_failed ≡ true) → IsDiskFault (fault_of_disk fault) has_failed
 disk_cause Failed has_failed cause = cause refl
 disk_cause NoMemory has_failed cause = tt
+
+pub never_differs : (fault : DiskFault) (i : ℕ) → fault_of_disk fault ≡ Differs i → ⊥
+never_differs Failed i is = cc
+never_differs NoMemory i is = cc
 
 pub recovers_none : (told : Option Story) (fault : DiskFault) → RecoversTold told (Err (fault_of_disk fault))
 recovers_none None fault = tt

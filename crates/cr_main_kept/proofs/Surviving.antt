@@ -46,21 +46,23 @@ use Rattle.cr_reduce.proofs.Sizes.{one_size, size_by_length}
 use Rattle.cr_replay.specs.Chains.{Follows, IsStep}
 use Rattle.cr_replay.specs.Chains.Follows.{further}
 use Rattle.cr_main_kept.specs.Header.{header_of}
-use Rattle.cr_main_kept.specs.Kept.{AreOfReduction, AnyRecords, BeginWith, EndsKept, FileBegins, FollowsOn, IsFirst, Journals, RunsFirst, RunsFurther, RunsJournal, RunsResume, Stops, asking}
+use Rattle.cr_main_kept.specs.Kept.{AreOfReduction, AnyRecords, BeginWith, EndsKept, FileBegins, FollowsOn, IsFirst, Journals, RunsFirst, RunsFurther, RunsJournal, RunsResume, StartsOn, Stops, asking}
 use Rattle.cr_main_kept.specs.Kept.EndsKept.{cut_off as ending_cut_off, concluded as ending_concluded}
-use Rattle.cr_main_kept.specs.Kept.RunsFirst.{unopened as first_unopened, stopped as first_stopped, unbegun as first_unbegun, begun as first_begun}
+use Rattle.cr_main_kept.specs.Kept.StartsOn.{stopped as starts_stopped, unbegun as starts_unbegun, begun as starts_begun}
+use Rattle.cr_main_kept.specs.Kept.RunsFirst.{unopened as first_unopened, opened as first_opened}
 use Rattle.cr_main_kept.specs.Kept.FollowsOn.{stopped as on_stopped, differs as on_differs, closed as on_closed, followed as on_followed}
 use Rattle.cr_main_kept.specs.Kept.RunsFurther.{uncopied as further_on_uncopied, foreign as further_on_foreign, ruled_out as further_on_ruled_out, starved as further_on_starved, lawful as further_on_lawful}
 use Rattle.cr_main_kept.specs.Kept.LacksCopy.{not_there as lacks_not_there, unread as lacks_unread, wanting as lacks_wanting}
 use Rattle.cr_main_kept.specs.Kept.RunsJournal.{unstarted as keeping_unstarted, found as keeping_found, fresh as keeping_fresh}
 use Rattle.cr_main_kept.specs.Kept.RunsResume.{unrecovered as resuming_unrecovered, anew as resuming_anew, further as resuming_further}
+use Rattle.cr_main_kept.specs.KeptTask.{KeptTask, at}
 use Rattle.cr_main_kept.specs.Lines.{fault_line, refused_line}
 use Rattle.cr_main_kept.specs.Surviving.{HasResult, IsSafeFor, IsWhole, Survives}
 use Rattle.cr_main_kept.specs.declared.header.Marks.{Marks}
 use Rattle.cr_main_task.specs.Beginning.{HasBegun, StopsEarly}
 use Rattle.cr_main_task.specs.Beginning.StopsEarly.{refused as early_refused, wanting as early_wanting, not_copied as early_not_copied}
 use Rattle.cr_main_task.specs.Messages.{copy_name, log_name}
-use Rattle.cr_main_task.specs.Opening.{Unopened, law_of}
+use Rattle.cr_main_task.specs.Opening.{Unopened}
 use Rattle.cr_main_task.specs.Opening.Unopened.{not_there as unopened_not_there, ruled_out as unopened_ruled_out, unread as unopened_unread, unopened as unopened_unopened}
 use Rattle.cr_main_task.specs.Outside.{Fails, Outside, Puts, story_saved}
 use Rattle.cr_main_task.specs.Outside.Fails.{call_failed as fails_call_failed, starved as fails_starved}
@@ -117,7 +119,7 @@ copy_log_apart name is = omega (arith, ap length is, length-append name (codes "
 
 -- ---- what files have
 
-one_content : (told : Option Story) (name a b : List ℕ) → IsStory told → FileHas (files_told told) name a → FileHas (files_told told) name b → a ≡ b
+pub one_content : (told : Option Story) (name a b : List ℕ) → IsStory told → FileHas (files_told told) name a → FileHas (files_told told) name b → a ≡ b
 one_content None name a b is first second = absurd is
 one_content (Some s) name a b is first second = cc (sym first ∙ second)
 
@@ -130,7 +132,7 @@ has_still : (told : Option Story) (name other given bytes : List ℕ) (end : Cal
 has_still None name other given bytes end apart has = tt
 has_still (Some s) name other given bytes end apart has = put_other (files_now s) name other given apart ∙ has
 
-begins_whole : (told : Option Story) (name a b : List ℕ) → IsStory told → FileHas (files_told told) name a → length a ≤ 1048577 → FileBegins (files_told told) name b → b ≡ a
+pub begins_whole : (told : Option Story) (name a b : List ℕ) → IsStory told → FileHas (files_told told) name a → length a ≤ 1048577 → FileBegins (files_told told) name b → b ≡ a
 begins_whole None name a b is has short begins = absurd is
 begins_whole (Some s) name a b is has short begins =
     let shown : b ≡ take most_read a = subst (λ (content : Option (List ℕ)). Shows content most_read b) has begins in
@@ -150,13 +152,13 @@ step_fits s limit levels below file next turns row step = let within : row.turn 
   turn = omega (arith, within, below);
 }
 
-rows_fit : (s : Search) (limit : Option ℕ) → HasLevels s.Offers (λ pass. 16) → most_turns limit < 2 ^ 64 → (file last : List ℕ) (before count : ℕ) (rows : List Accepted) → Follows (chain_in s limit) file before rows last count → FitAll rows
+pub rows_fit : (s : Search) (limit : Option ℕ) → HasLevels s.Offers (λ pass. 16) → most_turns limit < 2 ^ 64 → (file last : List ℕ) (before count : ℕ) (rows : List Accepted) → Follows (chain_in s limit) file before rows last count → FitAll rows
 rows_fit s limit levels below file last before count [] follows = tt
 rows_fit s limit levels below file last before count (row ∷ rows) (further step more) =
     (step_fits s limit levels below file _ before row step, rows_fit s limit levels below _ last row.turn count rows more)
 
 -- rows whose bodies come first come first themselves
-rows_front : (rows all : List Accepted) → FitAll rows → FitAll all → IsFront (map row_body rows) (map row_body all) → Front rows all
+pub rows_front : (rows all : List Accepted) → FitAll rows → FitAll all → IsFront (map row_body rows) (map row_body all) → Front rows all
 rows_front [] all few fit front = (all, refl)
 rows_front (row ∷ rows) [] few fit (more, is) = cc
 rows_front (row ∷ rows) (other ∷ others) few fit (more, is) =
@@ -168,9 +170,13 @@ rows_front (row ∷ rows) (other ∷ others) few fit (more, is) =
 
 -- ---- one call of a run
 
-module _ (t : Task) (marks : Marks) (bytes : List ℕ) (size : ℕ) (out : Outcome) (whole : IsWhole t bytes size out) (saves : t.saves ≡ true)
-    (of_programs : IsOfPrograms t.search.Lawful t.Against) (one : OffersOne t.search.Offers)
-    (apart : ExcludeEachOther (AcceptsAsTold t.search) (RejectsAsTold t.search)) (levels : HasLevels t.search.Offers (λ pass. 16)) where
+module _ (k : KeptTask) (marks : Marks) (bytes : List ℕ) (size : ℕ) (out : Outcome) (whole : IsWhole (at k bytes) bytes size out) (saves : k.saves ≡ true)
+    (of_programs : IsOfPrograms k.law.Lawful k.law.Against) (one : OffersOne k.Offers)
+    (apart : ExcludeEachOther (AcceptsAsTold (at k bytes).search) (RejectsAsTold (at k bytes).search)) (levels : HasLevels k.Offers (λ pass. 16)) where
+  -- the task of these bytes
+  abbrev t : Task
+  t = at k bytes
+
   abbrev header : Body
   header = header_body (header_of marks t.limit size)
 
@@ -193,10 +199,10 @@ module _ (t : Task) (marks : Marks) (bytes : List ℕ) (size : ℕ) (out : Outco
   then_stays : (a b c : Option Story) → Stays a b → Stays b c → Stays a c
   then_stays a b c first second = phases copy t.name bytes header rest a b c first second
 
-  now_safe : (a b : Option Story) → Stays a b → Safe b
+  pub now_safe : (a b : Option Story) → Stays a b → Safe b
   now_safe a b stays = safe_now copy t.name bytes header rest a b stays
 
-  still_story : (a b : Option Story) → Stays a b → IsStory a → IsStory b
+  pub still_story : (a b : Option Story) → Stays a b → IsStory a → IsStory b
   still_story None b stays is = absurd is
   still_story (Some old) None stays is = stays
   still_story (Some old) (Some new) stays is = tt
@@ -213,11 +219,11 @@ module _ (t : Task) (marks : Marks) (bytes : List ℕ) (size : ℕ) (out : Outco
 
   -- ---- what the files have
 
-  file_there : (told : Option Story) → Safe told → StandsNone told → FileHas (files_told told) t.name bytes
+  pub file_there : (told : Option Story) → Safe told → StandsNone told → FileHas (files_told told) t.name bytes
   file_there None safe none = tt
   file_there (Some s) safe none = safe.unchanged (seen s) (seen_is_image s.journal (changes_of s.events)) none
 
-  copy_there : (told : Option Story) → Safe told → EveryTold StandsFirst told → FileHas (files_told told) copy bytes
+  pub copy_there : (told : Option Story) → Safe told → EveryTold StandsFirst told → FileHas (files_told told) copy bytes
   copy_there None safe stands = tt
   copy_there (Some s) safe stands =
       let is = seen_is_image s.journal (changes_of s.events) in
@@ -225,7 +231,7 @@ module _ (t : Task) (marks : Marks) (bytes : List ℕ) (size : ℕ) (out : Outco
 
   -- ---- the calls
 
-  read_stays : (other : List ℕ) (end : Called) (old new : Option Story) → IsRead other end old new → Safe old → Stays old new
+  pub read_stays : (other : List ℕ) (end : Called) (old new : Option Story) → IsRead other end old new → Safe old → Stays old new
   read_stays other called.Done old new is safe = subst (Stays old) (sym is) (read_phase copy t.name bytes header rest old other most_read called.Done safe)
   read_stays other called.Absent old new is safe = subst (Stays old) (sym is) (read_phase copy t.name bytes header rest old other most_read called.Absent safe)
   read_stays other called.Failed old new is safe = subst (Stays old) (sym is) (read_phase copy t.name bytes header rest old other most_read called.Failed safe)
@@ -252,10 +258,10 @@ module _ (t : Task) (marks : Marks) (bytes : List ℕ) (size : ℕ) (out : Outco
   write_log told given end is_put safe = other_phase copy t.name bytes header rest told (log_name t.name) given end is_put (copy_log_apart t.name) (log_apart t.name) safe
 
   -- a header that stands in every image
-  rest_first : (h : Body) (more : List Body) (told : Option Story) → EveryTold (AtRest (h ∷ more)) told → EveryTold (Stands (h ∷ [])) told
+  pub rest_first : (h : Body) (more : List Body) (told : Option Story) → EveryTold (AtRest (h ∷ more)) told → EveryTold (Stands (h ∷ [])) told
   rest_first h more told rests = weaker (AtRest (h ∷ more)) (Stands (h ∷ [])) told (λ image (last, (behind, is, long, some, inner)). (behind, is, long, some, tt)) rests
 
-  first_everywhere : (h : Body) (told : Option Story) → EveryTold (Stands (h ∷ [])) told → EveryTold StandsFirst told
+  pub first_everywhere : (h : Body) (told : Option Story) → EveryTold (Stands (h ∷ [])) told → EveryTold StandsFirst told
   first_everywhere h told stands = weaker (Stands (h ∷ [])) StandsFirst told (λ image. first_of h [] image) stands
 
   -- once the copy is there, any call on the journal spares
@@ -271,7 +277,7 @@ module _ (t : Task) (marks : Marks) (bytes : List ℕ) (size : ℕ) (out : Outco
 
   -- ---- how a kept reduction ends
 
-  same_outcome : (kept_at : Kept) (other : Outcome) → ReducesOnAsTold t.search kept_at t.limit out → ReducesOnAsTold t.search kept_at t.limit other → other ≡ out
+  pub same_outcome : (kept_at : Kept) (other : Outcome) → ReducesOnAsTold t.search kept_at t.limit out → ReducesOnAsTold t.search kept_at t.limit other → other ≡ out
   same_outcome kept_at other (offer, offered, run) (other_offer, other_offered, other_run) =
       let is : other_offer ≡ offer = one kept_at.file.items other_offer offer other_offered offered in
       one_outcome t.search.Offers (AcceptsAsTold t.search) (RejectsAsTold t.search) none_fails t.limit (kept_state kept_at.file.items offer kept_at.at kept_at.accepted.items kept_at.turns) other out one (λ worker f v never. never) apart
@@ -362,7 +368,7 @@ module _ (t : Task) (marks : Marks) (bytes : List ℕ) (size : ℕ) (out : Outco
   never_13 : (old new : Outside) (n status : ℕ) → Puts old new (refused_line t.name n) 13 13 status → IsDone status → ⊥
   never_13 old new n status put done = never_put old new (refused_line t.name n) 13 status put (λ e. omega (arith, e)) (λ e. omega (arith, e)) done
 
-  not_opened : (old new : Outside) (status : ℕ) → Safe old.story → Unopened (law_of t) t.name (stored (files_told old.story) t.name) old new status → Promises old new status
+  not_opened : (old new : Outside) (status : ℕ) → Safe old.story → Unopened k.law k.name (stored (files_told old.story) k.name) old new status → Promises old new status
   not_opened old new status safe (unopened_not_there lacks files calls said) =
       (read_stays t.name called.Absent old.story new.story calls safe, λ done. absurd (refused_is old new t.name refusal.NoFile status said (is_of_ends status done)))
   not_opened old new status safe (unopened_ruled_out reason other has against why files calls said) =
@@ -381,7 +387,7 @@ module _ (t : Task) (marks : Marks) (bytes : List ℕ) (size : ℕ) (out : Outco
     λ done. absurd (fails_is t.saves old new copy status wrong.fails (is_of_ends status done)),
   )
 
-  goes_from : (kept_at : Kept) → IsKeptOf t.search.Offers bytes kept_at → Front kept_at.accepted.items out.accepted → ReducesOnAsTold t.search kept_at t.limit out
+  pub goes_from : (kept_at : Kept) → IsKeptOf t.search.Offers bytes kept_at → Front kept_at.accepted.items out.accepted → ReducesOnAsTold t.search kept_at t.limit out
   goes_from kept_at is front =
       goes_on_behind t.search.Offers (AcceptsAsTold t.search) (RejectsAsTold t.search) none_fails t.limit bytes kept_at.file.items out kept_at.accepted.items kept_at.at kept_at.turns one is.chain is.behind front whole.reduction
 
@@ -401,39 +407,34 @@ module _ (t : Task) (marks : Marks) (bytes : List ℕ) (size : ℕ) (out : Outco
         one_size bytes old_size size begun.sized whole.sized,
       )
 
-  runs_first : (old new : Outside) (before after : Judging) (has_failed : Bool) (status : ℕ) → IsStory old.story → Safe old.story → StandsNone old.story
-      → RunsFirst t marks old new before after has_failed status → Promises old new status
-  runs_first old new before after has_failed status told safe none (first_unopened wrong quiet) = not_opened old new status safe wrong
-  runs_first old new before after has_failed status told safe none (first_stopped other read opened stops) =
-      let is : other ≡ bytes = one_content old.story t.name other bytes told opened.has (file_there old.story safe none) in
-      let to_read = read_stays t.name called.Done old.story read.story opened.calls safe in
-      from_earlier old read new status to_read opened.same.output
-      (stops_early read new before after status (now_safe old.story read.story to_read) (subst (λ (b : List ℕ). StopsEarly t b read new before after status) is stops))
-  runs_first old new before after has_failed status told safe none (first_unbegun other read copied old_size why opened begun journal cause put) =
-      let is : other ≡ bytes = one_content old.story t.name other bytes told opened.has (file_there old.story safe none) in
-      let to_read = read_stays t.name called.Done old.story read.story opened.calls safe in
-      let (to_copied, copy_is, size_is) = begun_stays read copied before after old_size (now_safe old.story read.story to_read) (subst (λ (b : List ℕ). HasBegun t b read copied before after old_size) is begun) in
-      let all = then_stays old.story read.story copied.story to_read to_copied in
+  starts_on : (old new : Outside) (before after : Judging) (has_failed : Bool) (status : ℕ) → Safe old.story → StartsOn t marks bytes old new before after has_failed status → Promises old new status
+  starts_on old new before after has_failed status safe (starts_stopped stops) = stops_early old new before after status safe stops
+  starts_on old new before after has_failed status safe (starts_unbegun copied old_size why begun journal cause put) =
+      let (to_copied, copy_is, size_is) = begun_stays old copied before after old_size safe begun in
       let are : BeginWith (header_of marks t.limit old_size) (header ∷ rest) = (rest, (λ i. header_body (header_of marks t.limit (sym size_is i)) ∷ rest)) in (
-        then_stays old.story copied.story new.story all (journal_stays copied.story new.story (now_safe old.story copied.story all) (BeginWith (header_of marks t.limit old_size)) journal are (spared copied.story new.story copy_is)),
+        then_stays old.story copied.story new.story to_copied (journal_stays copied.story new.story (now_safe old.story copied.story to_copied) (BeginWith (header_of marks t.limit old_size)) journal are (spared copied.story new.story copy_is)),
         λ done. absurd (never_stops copied new why status put done),
       )
-  runs_first old new before after has_failed status told safe none (first_begun other read copied started since old_size kept_at opened begun journalled rests is_first ends) =
-      let is : other ≡ bytes = one_content old.story t.name other bytes told opened.has (file_there old.story safe none) in
-      let to_read = read_stays t.name called.Done old.story read.story opened.calls safe in
-      let begun_here = subst (λ (b : List ℕ). HasBegun t b read copied before since old_size) is begun in
-      let (to_copied, copy_is, size_is) = begun_stays read copied before since old_size (now_safe old.story read.story to_read) begun_here in
-      let all = then_stays old.story read.story copied.story to_read to_copied in
+  starts_on old new before after has_failed status safe (starts_begun copied started since old_size kept_at begun journalled rests is_first ends) =
+      let (to_copied, copy_is, size_is) = begun_stays old copied before since old_size safe begun in
       let are : BeginWith (header_of marks t.limit old_size) (header ∷ rest) = (rest, (λ i. header_body (header_of marks t.limit (sym size_is i)) ∷ rest)) in
-      let to_started = then_stays old.story copied.story started.story all
-      (journal_stays copied.story started.story (now_safe old.story copied.story all) (BeginWith (header_of marks t.limit old_size)) journalled.journal are (spared copied.story started.story copy_is)) in
-      let first_kept = subst (λ (b : List ℕ). IsFirst b kept_at) is is_first in
-      let none_yet : Front kept_at.accepted.items out.accepted = (out.accepted, ap (λ (l : List Accepted). l ++ out.accepted) (sym first_kept.none)) in
+      let to_started = then_stays old.story copied.story started.story to_copied
+      (journal_stays copied.story started.story (now_safe old.story copied.story to_copied) (BeginWith (header_of marks t.limit old_size)) journalled.journal are (spared copied.story started.story copy_is)) in
+      let none_yet : Front kept_at.accepted.items out.accepted = (out.accepted, ap (λ (l : List Accepted). l ++ out.accepted) (sym is_first.none)) in
       let header_rests : EveryTold (AtRest (journal_of header kept_at.accepted.items)) started.story =
-      subst (λ (rows : List Accepted). EveryTold (AtRest (journal_of header rows)) started.story) (sym first_kept.none)
+      subst (λ (rows : List Accepted). EveryTold (AtRest (journal_of header rows)) started.story) (sym is_first.none)
       (subst (λ (n : ℕ). EveryTold (AtRest (bodies_of (header_of marks t.limit n) [])) started.story) size_is rests) in
-      from_earlier old started new status to_started (journalled.output ∙ begun_here.copied.output ∙ opened.same.output)
-      (ends_so kept_at old_size started new since after has_failed status size_is (goes_from kept_at (first_is_kept kept_at first_kept) none_yet) (now_safe old.story started.story to_started) header_rests ends)
+      from_earlier old started new status to_started (journalled.output ∙ begun.copied.output)
+      (ends_so kept_at old_size started new since after has_failed status size_is (goes_from kept_at (first_is_kept kept_at is_first) none_yet) (now_safe old.story started.story to_started) header_rests ends)
+
+  runs_first : (old new : Outside) (before after : Judging) (has_failed : Bool) (status : ℕ) → IsStory old.story → Safe old.story → StandsNone old.story
+      → RunsFirst k marks old new before after has_failed status → Promises old new status
+  runs_first old new before after has_failed status told safe none (first_unopened wrong quiet) = not_opened old new status safe wrong
+  runs_first old new before after has_failed status told safe none (first_opened other read opened starts) =
+      let is : other ≡ bytes = one_content old.story k.name other bytes told opened.has (file_there old.story safe none) in
+      let to_read = read_stays k.name called.Done old.story read.story opened.calls safe in
+      from_earlier old read new status to_read opened.same.output
+      (starts_on read new before after has_failed status (now_safe old.story read.story to_read) (subst (λ (b : List ℕ). StartsOn (at k b) marks b read new before after has_failed status) is starts))
 
   -- ---- a run that goes on
 
@@ -451,15 +452,15 @@ module _ (t : Task) (marks : Marks) (bytes : List ℕ) (size : ℕ) (out : Outco
     λ done. absurd (fails_is false old new copy status wrong.fails (is_of_ends status done)),
   )
 
-  every_read : (P : List ℕ → Type 0) (told : Option Story) (other : List ℕ) (most : ℕ) (end : Called) → EveryTold P told → EveryTold P (with_event (Read other most end) told)
+  pub every_read : (P : List ℕ → Type 0) (told : Option Story) (other : List ℕ) (most : ℕ) (end : Called) → EveryTold P told → EveryTold P (with_event (Read other most end) told)
   every_read P None other most end holds = tt
   every_read P (Some s) other most end holds = holds
 
-  front_of_kept : (bodies all : List Body) (image last : List ℕ) → IsKept all image → Reads image bodies last → IsFront bodies all
+  pub front_of_kept : (bodies all : List Body) (image last : List ℕ) → IsKept all image → Reads image bodies last → IsFront bodies all
   front_of_kept bodies all image last (kept some left reads front torn) as_read = subst (λ (l : List Body). IsFront l all) (reads_once image some bodies left last reads as_read).0 front
 
   -- the records that were recovered come first
-  come_first : (bodies : List Body) (told : Option Story) → IsStory told → Safe told → EveryTold (AtRest bodies) told → IsFront bodies (header ∷ rest)
+  pub come_first : (bodies : List Body) (told : Option Story) → IsStory told → Safe told → EveryTold (AtRest bodies) told → IsFront bodies (header ∷ rest)
   come_first bodies None story safe rests = absurd story
   come_first bodies (Some s) story safe rests =
       let is = seen_is_image s.journal (changes_of s.events) in
@@ -469,7 +470,7 @@ module _ (t : Task) (marks : Marks) (bytes : List ℕ) (size : ℕ) (out : Outco
   follows_on : (h : Header) (rows : List Accepted) (old new : Outside) (before after : Judging) (has_failed : Bool) (status : ℕ) → IsStory old.story → Safe old.story
       → EveryTold (AtRest (bodies_of h rows)) old.story → FollowsOn t bytes rows old new before after has_failed status → Promises old new status
   follows_on h rows old new before after has_failed status told safe rests (on_stopped stops) = stops_asking old new before after status safe stops
-  follows_on h rows old new before after has_failed status told safe rests (on_differs asked old_size n begun breaks same put) =
+  follows_on h rows old new before after has_failed status told safe rests (on_differs asked old_size n begun breaks below same put) =
       (nothing old.story new.story (same ∙ begun.copied.story) safe, λ done. absurd (never_13 asked new n status put done))
   follows_on h rows old new before after has_failed status told safe rests (on_closed asked old_size why begun same cause put) =
       (nothing old.story new.story (same ∙ begun.copied.story) safe, λ done. absurd (never_stops asked new why status put done))
@@ -492,14 +493,14 @@ module _ (t : Task) (marks : Marks) (bytes : List ℕ) (size : ℕ) (out : Outco
       (ends_so kept_at old_size started new since after has_failed status (one_size bytes old_size size begun.sized whole.sized) (goes_from kept_at replayed.is_kept kept_front) (now_safe old.story started.story stays) asked_rests ends)
 
   runs_further : (h : Header) (rows : List Accepted) (old new : Outside) (before after : Judging) (has_failed : Bool) (status : ℕ) → IsStory old.story → Safe old.story
-      → EveryTold (AtRest (bodies_of h rows)) old.story → RunsFurther t marks h rows old new before after has_failed status → Promises old new status
+      → EveryTold (AtRest (bodies_of h rows)) old.story → RunsFurther k marks h rows old new before after has_failed status → Promises old new status
   runs_further h rows old new before after has_failed status told safe rests (further_on_uncopied (lacks_not_there gone calls said) quiet) =
       (read_stays copy called.Absent old.story new.story calls safe, λ done. absurd (refused_is old new copy refusal.NoFile status said (is_of_ends status done)))
   runs_further h rows old new before after has_failed status told safe rests (further_on_uncopied (lacks_unread rose calls said) quiet) =
       (read_stays copy called.Failed old.story new.story calls safe, λ done. absurd (refused_is old new copy refusal.FileFault status said (is_of_ends status done)))
   runs_further h rows old new before after has_failed status told safe rests (further_on_uncopied (lacks_wanting calls silent is) quiet) =
       (read_stays copy called.NoMemory old.story new.story calls safe, λ done. absurd (never_11 status is done))
-  runs_further h rows old new before after has_failed status told safe rests (further_on_foreign other read has another same quiet put) =
+  runs_further h rows old new before after has_failed status told safe rests (further_on_foreign other read has another fit same quiet put) =
       (subst (Stays old.story) (sym same) (read_stays copy called.Done old.story read.story has.calls safe), λ done. absurd (never_13 read new 0 status put done))
   runs_further h rows old new before after has_failed status told safe rests (further_on_ruled_out other read reason has fits against why same quiet said) =
       (subst (Stays old.story) (sym same) (read_stays copy called.Done old.story read.story has.calls safe), λ done. absurd (refused_is read new t.name (refusal.Against reason) status said (is_of_ends status done)))
@@ -513,14 +514,14 @@ module _ (t : Task) (marks : Marks) (bytes : List ℕ) (size : ℕ) (out : Outco
       subst (λ (m : Option Story). EveryTold (AtRest (bodies_of h rows)) m) (sym has.calls) (every_read (AtRest (bodies_of h rows)) old.story copy most_read called.Done rests) in
       from_earlier old read new status to_read has.same.output
       (follows_on h rows read new before after has_failed status (still_story old.story read.story to_read told) (now_safe old.story read.story to_read) read_rests
-      (subst (λ (b : List ℕ). FollowsOn t b rows read new before after has_failed status) is follows))
+      (subst (λ (b : List ℕ). FollowsOn (at k b) b rows read new before after has_failed status) is follows))
 
   -- ---- the two runs
 
-  recovered_stays : (old new : Option Story) → Safe old → Journals AnyRecords old new → Stays old new
+  pub recovered_stays : (old new : Option Story) → Safe old → Journals AnyRecords old new → Stays old new
   recovered_stays old new safe journal = journal_stays old new safe AnyRecords journal tt (inl (journal.kept [] tt))
 
-  runs_journal : (old new : Outside) (before after : Judging) (has_failed : Bool) (status : ℕ) → IsStory old.story → Safe old.story → RunsJournal t marks old new before after has_failed status → Promises old new status
+  runs_journal : (old new : Outside) (before after : Judging) (has_failed : Bool) (status : ℕ) → IsStory old.story → Safe old.story → RunsJournal k marks old new before after has_failed status → Promises old new status
   runs_journal old new before after has_failed status told safe (keeping_unstarted why cause same quiet put) = (nothing old.story new.story same safe, λ done. absurd (never_stops old new why status put done))
   runs_journal old new before after has_failed status told safe (keeping_found len has some same quiet put) = (nothing old.story new.story same safe, λ done. absurd (never_13 old new 0 status put done))
   runs_journal old new before after has_failed status told safe (keeping_fresh started empty journalled none runs) =
@@ -528,14 +529,14 @@ module _ (t : Task) (marks : Marks) (bytes : List ℕ) (size : ℕ) (out : Outco
       from_earlier old started new status stays journalled.output
       (runs_first started new before after has_failed status (still_story old.story started.story stays told) (now_safe old.story started.story stays) none runs)
 
-  runs_resume : (old new : Outside) (before after : Judging) (has_failed : Bool) (status : ℕ) → IsStory old.story → Safe old.story → RunsResume t marks old new before after has_failed status → Promises old new status
-  runs_resume old new before after has_failed status told safe (resuming_unrecovered why recovers cause journal quiet put) =
+  runs_resume : (old new : Outside) (before after : Judging) (has_failed : Bool) (status : ℕ) → IsStory old.story → Safe old.story → RunsResume k marks old new before after has_failed status → Promises old new status
+  runs_resume old new before after has_failed status told safe (resuming_unrecovered why recovers never cause journal quiet put) =
       (recovered_stays old.story new.story safe journal, λ done. absurd (never_stops old new why status put done))
   runs_resume old new before after has_failed status told safe (resuming_anew started recovers journalled none runs) =
       let stays = recovered_stays old.story started.story safe journalled.journal in
       from_earlier old started new status stays journalled.output
       (runs_first started new before after has_failed status (still_story old.story started.story stays told) (now_safe old.story started.story stays) none runs)
-  runs_resume old new before after has_failed status told safe (resuming_further started h rows recovers journalled rests runs) =
+  runs_resume old new before after has_failed status told safe (resuming_further started h rows recovers journalled rests fits runs) =
       let stays = recovered_stays old.story started.story safe journalled.journal in
       from_earlier old started new status stays journalled.output
       (runs_further h rows.items started new before after has_failed status (still_story old.story started.story stays told) (now_safe old.story started.story stays) rests runs)
@@ -545,12 +546,12 @@ module _ (t : Task) (marks : Marks) (bytes : List ℕ) (size : ℕ) (out : Outco
   told_ends (Some old) None s is stays = elim stays [ ]
   told_ends (Some old) (Some last) s is stays = let same : old ≡ s = cc is in (last, refl, subst (λ (m : Story). StaysSafe copy t.name bytes (header ∷ rest) m last) same stays)
 
-  is_story : (told : Option Story) (s : Story) → told ≡ Some s → IsStory told
+  pub is_story : (told : Option Story) (s : Story) → told ≡ Some s → IsStory told
   is_story None s is = cc
   is_story (Some old) s is = tt
 
   pub survives : (old new : Outside) (before after : Judging) (has_failed : Bool) (status : ℕ) (s : Story) → old.story ≡ Some s → IsSafeFor t marks bytes size out s
-      → RunsJournal t marks old new before after has_failed status ⊎ RunsResume t marks old new before after has_failed status
+      → RunsJournal k marks old new before after has_failed status ⊎ RunsResume k marks old new before after has_failed status
       → (last : Story) × (new.story ≡ Some last) × StaysSafe copy t.name bytes (header ∷ rest) s last × (IsDone status → HasResult t bytes size out old new status)
   survives old new before after has_failed status s is safe runs =
       let told_safe : Safe old.story = subst (λ (m : Option Story). Safe m) (sym is) safe in
@@ -562,8 +563,8 @@ module _ (t : Task) (marks : Marks) (bytes : List ℕ) (size : ℕ) (out : Outco
       (last, last_is, stays, it.1)
 
 -- each run survives its stops
-pub run_survives : (t : Task) (marks : Marks) (old new : Outside) (before after : Judging) (has_failed : Bool) (status : ℕ) → t.saves ≡ true → IsOfPrograms t.search.Lawful t.Against → OffersOne t.search.Offers
-    → ExcludeEachOther (AcceptsAsTold t.search) (RejectsAsTold t.search) → HasLevels t.search.Offers (λ pass. 16)
-    → RunsJournal t marks old new before after has_failed status ⊎ RunsResume t marks old new before after has_failed status → Survives t marks old new status
-run_survives t marks old new before after has_failed status saves of_programs one apart levels runs bytes size out s whole is safe =
-    survives t marks bytes size out whole saves of_programs one apart levels old new before after has_failed status s is safe runs
+pub run_survives : (k : KeptTask) (marks : Marks) (old new : Outside) (before after : Judging) (has_failed : Bool) (status : ℕ) → k.saves ≡ true → IsOfPrograms k.law.Lawful k.law.Against → OffersOne k.Offers
+    → ((bytes : List ℕ) → ExcludeEachOther (AcceptsAsTold (at k bytes).search) (RejectsAsTold (at k bytes).search)) → HasLevels k.Offers (λ pass. 16)
+    → RunsJournal k marks old new before after has_failed status ⊎ RunsResume k marks old new before after has_failed status → Survives k marks old new status
+run_survives k marks old new before after has_failed status saves of_programs one apart levels runs bytes size out s whole is safe =
+    survives k marks bytes size out whole saves of_programs one (apart bytes) levels old new before after has_failed status s is safe runs

@@ -1,5 +1,6 @@
 -- The header of a run's journal.
-use Rattle.std.specs.Prelude.{◌≡◌, ℕ, ◌+◌, Bool, true, false, List, get_or, Option, Some, None}
+use Rattle.std.specs.Prelude.{◌≡◌, ◌<◌, ◌^◌, ℕ, ◌+◌, Bool, true, false, List, get_or, Option, Some, None}
+use Rattle.cr_journal_rows.specs.Forms.{HeaderFits}
 use Rattle.cr_journal_rows.specs.declared.header.Header.{Header}
 use Rattle.cr_reduce.specs.Sizes.{HasSize}
 use Rattle.cr_main_kept.specs.declared.header.Marks.{Marks}
@@ -26,3 +27,7 @@ header_of marks limit size = record { passes = marks.passes; steps = marks.steps
 pub record Fits (marks : Marks) (limit : Option ℕ) (header : Header) (bytes : List ℕ) : Type 0 where
   pub settings : header ≡ header_of marks limit header.size
   pub size : (n : ℕ) → HasSize bytes n → header.size ≡ n
+
+-- The numbers of these settings fit the bytes of a header.
+abbrev pub MarksFit : Marks → Option ℕ → Type 0
+MarksFit marks limit = (size : ℕ) → size < 2 ^ 64 → HeaderFits (header_of marks limit size)

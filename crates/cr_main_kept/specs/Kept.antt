@@ -7,7 +7,7 @@ use Rattle.cr_journal.specs.Keeping.{IsReductionOn, journal_of}
 use Rattle.cr_journal.specs.Laws.{chain_in, most_turns}
 use Rattle.cr_journal.specs.Replay.{IsReplayed}
 use Rattle.cr_journal_records.specs.Records.{AtRest, Body, IsFront, IsKept, Stands, StandsNone}
-use Rattle.cr_journal_rows.specs.Forms.{RecoversTold, bodies_of, header_body}
+use Rattle.cr_journal_rows.specs.Forms.{AllFit, RecoversTold, bodies_of, header_body}
 use Rattle.cr_journal_rows.specs.declared.fault.JournalFault.{JournalFault}
 use Rattle.cr_journal_rows.specs.declared.fault.JournalFault.TheVariants as fault
 use Rattle.cr_journal_rows.specs.declared.header.Header.{Header}
@@ -26,12 +26,13 @@ use Rattle.cr_reduce.specs.Reduction.{Outcome as Reduced}
 use Rattle.cr_reduce.specs.Search.{IsAllTold, Search}
 use Rattle.cr_reduce.specs.Sizes.{HasSize}
 use Rattle.cr_replay.specs.Chains.{BreaksAt}
-use Rattle.cr_main_kept.specs.Header.{Fits, header_of}
+use Rattle.cr_main_kept.specs.Header.{Fits, MarksFit, header_of}
+use Rattle.cr_main_kept.specs.KeptTask.{KeptTask, at}
 use Rattle.cr_main_kept.specs.Lines.{IsDiskFault, PutsFault, fault_line, refused_line}
 use Rattle.cr_main_kept.specs.declared.header.Marks.{Marks}
 use Rattle.cr_main_task.specs.Beginning.{HasBegun, StopsEarly}
 use Rattle.cr_main_task.specs.Messages.{copy_name}
-use Rattle.cr_main_task.specs.Opening.{IsOpened, Unopened, law_of}
+use Rattle.cr_main_task.specs.Opening.{IsOpened, Unopened}
 use Rattle.cr_main_task.specs.Outside.{IsUnchanged, Outside, Puts, Refuses}
 use Rattle.cr_main_task.specs.Run.{Concludes}
 use Rattle.cr_main_task.specs.Task.{IsRead, Task, FileLacks, most_read, stored}
@@ -88,22 +89,26 @@ pub record IsFirst (bytes : List ℕ) (kept : Kept) : Type 0 where
   pub none : kept.accepted.items ≡ []
   pub unturned : kept.turns ≡ 0
 
--- A run that begins a journal.
-pub data RunsFirst (t : Task) (marks : Marks) (old new : Outside) (before after : Judging) (has_failed : Bool) (status : ℕ) : Type 0 where
-  -- 3, 4, 5, 9, 11: the file was not read, or the law is against it
-  unopened : Unopened (law_of t) t.name (stored (files_told old.story) t.name) old new status → after ≡ before → RunsFirst t marks old new before after has_failed status
+-- A run on the lawful bytes of the file, that begins a journal.
+pub data StartsOn (t : Task) (marks : Marks) (bytes : List ℕ) (old new : Outside) (before after : Judging) (has_failed : Bool) (status : ℕ) : Type 0 where
   -- 6, 8, 9, 11: the test doesn't say yes, or the copy was not saved
-  stopped : (bytes : List ℕ) (read : Outside) → IsOpened (law_of t) (stored (files_told old.story) t.name) old read bytes → StopsEarly t bytes read new before after status
-      → RunsFirst t marks old new before after has_failed status
+  stopped : StopsEarly t bytes old new before after status → StartsOn t marks bytes old new before after has_failed status
   -- 11, 12: the journal was not begun
-  unbegun : (bytes : List ℕ) (read copied : Outside) (size : ℕ) (why : JournalFault) → IsOpened (law_of t) (stored (files_told old.story) t.name) old read bytes
-      → HasBegun t bytes read copied before after size → Journals (BeginWith (header_of marks t.limit size)) copied.story new.story → IsDiskFault why has_failed → Stops copied new t.name why status
-      → RunsFirst t marks old new before after has_failed status
+  unbegun : (copied : Outside) (size : ℕ) (why : JournalFault) → HasBegun t bytes old copied before after size
+      → Journals (BeginWith (header_of marks t.limit size)) copied.story new.story → IsDiskFault why has_failed → Stops copied new t.name why status
+      → StartsOn t marks bytes old new before after has_failed status
   -- the journal was begun, once the copy was saved, and the reduction goes on with it
-  begun : (bytes : List ℕ) (read copied started : Outside) (since : Judging) (size : ℕ) (kept : Kept) → IsOpened (law_of t) (stored (files_told old.story) t.name) old read bytes
-      → HasBegun t bytes read copied before since size → IsJournalled (BeginWith (header_of marks t.limit size)) copied started
-      → EveryTold (AtRest (bodies_of (header_of marks t.limit size) [])) started.story → IsFirst bytes kept → EndsKept t kept size started new since after has_failed status
-      → RunsFirst t marks old new before after has_failed status
+  begun : (copied started : Outside) (since : Judging) (size : ℕ) (kept : Kept) → HasBegun t bytes old copied before since size
+      → IsJournalled (BeginWith (header_of marks t.limit size)) copied started → EveryTold (AtRest (bodies_of (header_of marks t.limit size) [])) started.story
+      → IsFirst bytes kept → EndsKept t kept size started new since after has_failed status → StartsOn t marks bytes old new before after has_failed status
+
+-- A run that begins a journal.
+pub data RunsFirst (k : KeptTask) (marks : Marks) (old new : Outside) (before after : Judging) (has_failed : Bool) (status : ℕ) : Type 0 where
+  -- 3, 4, 5, 9, 11: the file was not read, or the law is against it
+  unopened : Unopened k.law k.name (stored (files_told old.story) k.name) old new status → after ≡ before → RunsFirst k marks old new before after has_failed status
+  -- it was, and its task is the one of its bytes
+  opened : (bytes : List ℕ) (read : Outside) → IsOpened k.law (stored (files_told old.story) k.name) old read bytes → StartsOn (at k bytes) marks bytes read new before after has_failed status
+      → RunsFirst k marks old new before after has_failed status
 
 -- where the map is told, these are the first bytes of the file, so many at most
 abbrev pub FileBegins : Option Names → List ℕ → List ℕ → Type 0
@@ -139,7 +144,7 @@ pub data FollowsOn (t : Task) (bytes : List ℕ) (rows : List Accepted) (old new
   -- 6, 8, 11: the test doesn't say yes
   stopped : StopsEarly (asking t) bytes old new before after status → FollowsOn t bytes rows old new before after has_failed status
   -- 13: this row is the first that doesn't follow
-  differs : (asked : Outside) (size i : ℕ) → HasBegun (asking t) bytes old asked before after size → BreaksAt (chain_in t.search t.limit) bytes 0 rows i → new.story ≡ asked.story
+  differs : (asked : Outside) (size i : ℕ) → HasBegun (asking t) bytes old asked before after size → BreaksAt (chain_in t.search t.limit) bytes 0 rows i → most_turns t.limit < 2 ^ 64 → new.story ≡ asked.story
       → Puts asked new (refused_line t.name i) 13 13 status → FollowsOn t bytes rows old new before after has_failed status
   -- 11, 12: no memory was left for the rows, or the journal was not opened again
   closed : (asked : Outside) (size : ℕ) (why : JournalFault) → HasBegun (asking t) bytes old asked before after size → new.story ≡ asked.story → IsDiskFault why has_failed
@@ -149,40 +154,40 @@ pub data FollowsOn (t : Task) (bytes : List ℕ) (rows : List Accepted) (old new
       → most_turns t.limit < 2 ^ 64 → IsReopened asked started → EndsKept t kept size started new since after has_failed status → FollowsOn t bytes rows old new before after has_failed status
 
 -- A run that goes on with the journal of this header and of these rows.
-pub data RunsFurther (t : Task) (marks : Marks) (header : Header) (rows : List Accepted) (old new : Outside) (before after : Judging) (has_failed : Bool) (status : ℕ) : Type 0 where
+pub data RunsFurther (k : KeptTask) (marks : Marks) (header : Header) (rows : List Accepted) (old new : Outside) (before after : Judging) (has_failed : Bool) (status : ℕ) : Type 0 where
   -- 3, 9, 11: the copy was not read
-  uncopied : LacksCopy t.name old new status → after ≡ before → RunsFurther t marks header rows old new before after has_failed status
+  uncopied : LacksCopy k.name old new status → after ≡ before → RunsFurther k marks header rows old new before after has_failed status
   -- 13: the header is another one's
-  foreign : (bytes : List ℕ) (read : Outside) → HasCopy t.name old read bytes → (Fits marks t.limit header bytes → ⊥) → new.story ≡ read.story → after ≡ before
-      → Puts read new (refused_line t.name 0) 13 13 status → RunsFurther t marks header rows old new before after has_failed status
+  foreign : (bytes : List ℕ) (read : Outside) → HasCopy k.name old read bytes → (Fits marks k.limit header bytes → ⊥) → MarksFit marks k.limit → new.story ≡ read.story → after ≡ before
+      → Puts read new (refused_line k.name 0) 13 13 status → RunsFurther k marks header rows old new before after has_failed status
   -- 4, 5: the law is against the copy
-  ruled_out : (bytes : List ℕ) (read : Outside) (reason : Reason) → HasCopy t.name old read bytes → Fits marks t.limit header bytes → (t.search.Lawful bytes → ⊥) → t.Against bytes reason
-      → new.story ≡ read.story → after ≡ before → Refuses read new t.name (refusal.Against reason) status → RunsFurther t marks header rows old new before after has_failed status
-  -- 11: no memory was left to measure the copy or to rule on it
-  starved : (bytes : List ℕ) (read : Outside) → HasCopy t.name old read bytes → new ≡ read → after ≡ before → status ≡ 11 → RunsFurther t marks header rows old new before after has_failed status
-  -- it is lawful
-  lawful : (bytes : List ℕ) (read : Outside) → HasCopy t.name old read bytes → Fits marks t.limit header bytes → t.search.Lawful bytes
-      → FollowsOn t bytes rows read new before after has_failed status → RunsFurther t marks header rows old new before after has_failed status
+  ruled_out : (bytes : List ℕ) (read : Outside) (reason : Reason) → HasCopy k.name old read bytes → Fits marks k.limit header bytes → (k.law.Lawful bytes → ⊥) → k.law.Against bytes reason
+      → new.story ≡ read.story → after ≡ before → Refuses read new k.name (refusal.Against reason) status → RunsFurther k marks header rows old new before after has_failed status
+  -- 11: no memory was left to measure the copy, to rule on it, or for the question about it
+  starved : (bytes : List ℕ) (read : Outside) → HasCopy k.name old read bytes → new ≡ read → after ≡ before → status ≡ 11 → RunsFurther k marks header rows old new before after has_failed status
+  -- it is lawful, and its task is the one of its bytes
+  lawful : (bytes : List ℕ) (read : Outside) → HasCopy k.name old read bytes → Fits marks k.limit header bytes → k.law.Lawful bytes
+      → FollowsOn (at k bytes) bytes rows read new before after has_failed status → RunsFurther k marks header rows old new before after has_failed status
 
 -- A run that keeps a journal.
-pub data RunsJournal (t : Task) (marks : Marks) (old new : Outside) (before after : Judging) (has_failed : Bool) (status : ℕ) : Type 0 where
+pub data RunsJournal (k : KeptTask) (marks : Marks) (old new : Outside) (before after : Judging) (has_failed : Bool) (status : ℕ) : Type 0 where
   -- 11, 12: the journal was not opened
-  unstarted : (why : JournalFault) → IsDiskFault why has_failed → new.story ≡ old.story → after ≡ before → Stops old new t.name why status
-      → RunsJournal t marks old new before after has_failed status
+  unstarted : (why : JournalFault) → IsDiskFault why has_failed → new.story ≡ old.story → after ≡ before → Stops old new k.name why status
+      → RunsJournal k marks old new before after has_failed status
   -- 13: there is one already
-  found : (len : ℕ) → HasLength old.story len → len ≢ 0 → new.story ≡ old.story → after ≡ before → Puts old new (refused_line t.name 0) 13 13 status
-      → RunsJournal t marks old new before after has_failed status
-  fresh : (started : Outside) → HasLength old.story 0 → IsJournalled AnyRecords old started → StandsNone started.story → RunsFirst t marks started new before after has_failed status
-      → RunsJournal t marks old new before after has_failed status
+  found : (len : ℕ) → HasLength old.story len → len ≢ 0 → new.story ≡ old.story → after ≡ before → Puts old new (refused_line k.name 0) 13 13 status
+      → RunsJournal k marks old new before after has_failed status
+  fresh : (started : Outside) → HasLength old.story 0 → IsJournalled AnyRecords old started → StandsNone started.story → RunsFirst k marks started new before after has_failed status
+      → RunsJournal k marks old new before after has_failed status
 
 -- A run that goes on.
-pub data RunsResume (t : Task) (marks : Marks) (old new : Outside) (before after : Judging) (has_failed : Bool) (status : ℕ) : Type 0 where
+pub data RunsResume (k : KeptTask) (marks : Marks) (old new : Outside) (before after : Judging) (has_failed : Bool) (status : ℕ) : Type 0 where
   -- 11, 12, 13: the journal was not recovered, or a record of it isn't in the form
-  unrecovered : (why : JournalFault) → RecoversTold old.story (Err why) → (why ≡ fault.Disk → has_failed ≡ true) → Journals AnyRecords old.story new.story → after ≡ before
-      → Stops old new t.name why status → RunsResume t marks old new before after has_failed status
+  unrecovered : (why : JournalFault) → RecoversTold old.story (Err why) → ((i : ℕ) → why ≢ fault.Differs i) → (why ≡ fault.Disk → has_failed ≡ true) → Journals AnyRecords old.story new.story → after ≡ before
+      → Stops old new k.name why status → RunsResume k marks old new before after has_failed status
   -- no header stands, so it begins
-  anew : (started : Outside) → RecoversTold old.story (Ok None) → IsJournalled AnyRecords old started → StandsNone started.story → RunsFirst t marks started new before after has_failed status
-      → RunsResume t marks old new before after has_failed status
+  anew : (started : Outside) → RecoversTold old.story (Ok None) → IsJournalled AnyRecords old started → StandsNone started.story → RunsFirst k marks started new before after has_failed status
+      → RunsResume k marks old new before after has_failed status
   further : (started : Outside) (header : Header) (rows : Vec Accepted) → RecoversTold old.story (Ok (Some (header, rows))) → IsJournalled AnyRecords old started
-      → EveryTold (AtRest (bodies_of header rows.items)) started.story
-      → RunsFurther t marks header rows.items started new before after has_failed status → RunsResume t marks old new before after has_failed status
+      → EveryTold (AtRest (bodies_of header rows.items)) started.story → AllFit header rows.items
+      → RunsFurther k marks header rows.items started new before after has_failed status → RunsResume k marks old new before after has_failed status

@@ -12,6 +12,7 @@ use Rattle.cr_reduce.specs.Search.{IsAllTold, ReducesFileAsTold}
 use Rattle.cr_reduce.specs.Sizes.{HasSize}
 use Rattle.cr_reduce.specs.declared.end.End.{End}
 use Rattle.cr_main_kept.specs.Header.{header_of}
+use Rattle.cr_main_kept.specs.KeptTask.{KeptTask, at}
 use Rattle.cr_main_kept.specs.declared.header.Marks.{Marks}
 use Rattle.cr_main_task.specs.Messages.{copy_name, log_name}
 use Rattle.cr_main_task.specs.Outside.{Outside}
@@ -47,8 +48,8 @@ pub record HasResult (t : Task) (bytes : List ℕ) (size : ℕ) (out : Outcome) 
 
 -- What a call promises where what it finds can be gone on with: so it can at every moment of the call, and what stands in the
 -- journal keeps standing; and at 0 and 7 all is as without any stop.
-abbrev pub Survives : Task → Marks → Outside → Outside → ℕ → Type 0
-Survives t marks old new status =
-    (bytes : List ℕ) (size : ℕ) (out : Outcome) (first : Story) → IsWhole t bytes size out → old.story ≡ Some first → IsSafeFor t marks bytes size out first
-    → (last : Story) × (new.story ≡ Some last) × StaysSafe (copy_name t.name) t.name bytes (records_of t marks size out) first last
-    × ((status ≡ 0) ⊎ (status ≡ 7) → HasResult t bytes size out old new status)
+abbrev pub Survives : KeptTask → Marks → Outside → Outside → ℕ → Type 0
+Survives k marks old new status =
+    (bytes : List ℕ) (size : ℕ) (out : Outcome) (first : Story) → IsWhole (at k bytes) bytes size out → old.story ≡ Some first → IsSafeFor (at k bytes) marks bytes size out first
+    → (last : Story) × (new.story ≡ Some last) × StaysSafe (copy_name k.name) k.name bytes (records_of (at k bytes) marks size out) first last
+    × ((status ≡ 0) ⊎ (status ≡ 7) → HasResult (at k bytes) bytes size out old new status)

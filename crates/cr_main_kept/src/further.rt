@@ -1,9 +1,10 @@
 // A run that goes on behind the rows of a journal.
-ghost use Rattle.std.specs.Prelude.{◌≡◌, ◌<◌, ◌≤◌, ◌^◌, ℕ, [], IfErr, IfOk, length, false, true, drop};
+ghost use Rattle.std.specs.Prelude.{◌≡◌, ◌<◌, ◌≤◌, ◌^◌, ℕ, List, [], IfErr, IfOk, length, false, true, drop};
 ghost use Rattle.cr_journal.specs.Keeping.{Rests};
 ghost use Rattle.cr_journal.specs.Laws.{most_turns};
 ghost use Rattle.cr_main_kept.specs.Header.{Fits};
 ghost use Rattle.cr_main_kept.specs.Kept.{FollowsOn, HasCopy, LacksCopy, RunsFurther};
+ghost use Rattle.cr_main_kept.specs.KeptTask.{kept_task};
 ghost use Rattle.cr_main_task.specs.Outside.{outside};
 ghost use Rattle.cr_main_task.specs.Task.{IsOfPrograms, task_for};
 ghost use Rattle.cr_reduce.specs.Bench.{judging, keys_of, says_of};
@@ -15,7 +16,7 @@ use crate::reduction::reduce_on;
 use cr_cursor::{Law, Passes};
 use cr_journal::replay;
 use cr_journal_rows::Header;
-use cr_main_task::{MOST_READ, Refusal, Task, begin, beside, refuse, ruled, status};
+use cr_main_task::{Asked, Asking, MOST_READ, Refusal, Task, begin, beside, refuse, ruled, status};
 use cr_outside::{Files, Judge, Question, ReadAnswer, Sink};
 use cr_outside_disk::Disk;
 use cr_pool::Bench;
@@ -28,14 +29,14 @@ pub fn run_further<
     R: Threads + Sync,
     P: Passes + Sync,
     L: Law + Sync,
-    Q: Question + Sync,
+    A: Asking + Sync,
     W: Files + Disk,
     J: Judge + Send,
     O: Sink,
 >(
     rt: &R,
     alloc: Global,
-    task: &Task<'_, P, L, Q>,
+    task: &Task<'_, P, L, A>,
     marks: Marks,
     header: Header,
     rows: Vec<Accepted>,
@@ -45,17 +46,19 @@ pub fn run_further<
 ) -> u8
 where
     P::Prep: Sync,
+    A::Bound: Sync,
     requires law { IsOfPrograms (L.lawful task.now.law.now) (L.reasons task.now.law.now) }
+    requires binds { (bytes : List ℕ) → L.lawful task.now.law.now bytes → A.binds task.now.asking.now bytes }
     requires workers { (0 < task.now.workers) × (task.now.workers ≤ length bench.old.judges) }
     requires window { (0 < task.now.window) × (task.now.window ≤ 4096) }
     requires forgot { bench.old.kept ≡ [] }
     requires rests { Rests rows.items (W.story world.old) }
-    ensures runs { RunsFurther (task_for P.Passes L.Law Q.Question task.now (says_of J.Judge bench.old)) marks header rows.items
+    ensures runs { RunsFurther (kept_task P.Passes L.Law A.Asking task.now (says_of J.Judge bench.old)) marks header rows.items
         (outside W.Outside W.Files.own world.old O.Sink out.old) (outside W.Outside W.Files.own world.new O.Sink out.new)
         (judging J.Judge bench.old) (judging J.Judge bench.new) (W.Disk.has_failed world.new) result }
     // Workers that the task doesn't ask for do nothing.
     ensures others { drop task.now.workers bench.new.judges ≡ drop task.now.workers bench.old.judges }
-    ensures silent { Q.asks task.now.question.now ≡ false → bench.new.judges ≡ bench.old.judges }
+    ensures silent { A.asks task.now.asking.now ≡ false → bench.new.judges ≡ bench.old.judges }
     ensures keys { keys_of J.Judge bench.new ≡ keys_of J.Judge bench.old }
 {
     let bytes = match read_copy(alloc, task.name, world, out) {
@@ -68,8 +71,12 @@ where
         Err(_) => return status::NO_MEMORY,
     }
     match ruled(alloc, task.law, &bytes) {
-        Ok(None) => follow_on(rt, alloc, task, bytes, rows, world, bench, out),
-        Ok(Some(reason)) => refuse(alloc, out, task.name, Refusal::Against(reason)),
+        Ok(None) => {}
+        Ok(Some(reason)) => return refuse(alloc, out, task.name, Refusal::Against(reason)),
+        Err(_) => return status::NO_MEMORY,
+    }
+    match Asked::bind(alloc, task.asking, &bytes) {
+        Ok(question) => follow_on(rt, alloc, task, &question, bytes, rows, world, bench, out),
         Err(_) => status::NO_MEMORY,
     }
 }
@@ -104,6 +111,7 @@ fn follow_on<
     R: Threads + Sync,
     P: Passes + Sync,
     L: Law + Sync,
+    A,
     Q: Question + Sync,
     W: Files + Disk,
     J: Judge + Send,
@@ -111,7 +119,8 @@ fn follow_on<
 >(
     rt: &R,
     alloc: Global,
-    task: &Task<'_, P, L, Q>,
+    task: &Task<'_, P, L, A>,
+    question: &Q,
     bytes: Vec<u8>,
     rows: Vec<Accepted>,
     world: &mut W,
@@ -126,19 +135,19 @@ where
     requires forgot { bench.old.kept ≡ [] }
     requires lawful { L.lawful task.now.law.now bytes.items }
     requires rests { Rests rows.items (W.story world.old) }
-    ensures follows { FollowsOn (task_for P.Passes L.Law Q.Question task.now (says_of J.Judge bench.old)) bytes.items rows.items
+    ensures follows { FollowsOn (task_for P.Passes L.Law Q.Question task.now question.now (says_of J.Judge bench.old)) bytes.items rows.items
         (outside W.Outside W.Files.own world.old O.Sink out.old) (outside W.Outside W.Files.own world.new O.Sink out.new)
         (judging J.Judge bench.old) (judging J.Judge bench.new) (W.Disk.has_failed world.new) result }
     // Workers that the task doesn't ask for do nothing.
     ensures others { drop task.now.workers bench.new.judges ≡ drop task.now.workers bench.old.judges }
-    ensures silent { Q.asks task.now.question.now ≡ false → bench.new.judges ≡ bench.old.judges }
+    ensures silent { Q.asks question.now ≡ false → bench.new.judges ≡ bench.old.judges }
     ensures keys { keys_of J.Judge bench.new ≡ keys_of J.Judge bench.old }
 {
     // The copy is there.
-    let asking = Task {
+    let unsaved = Task {
         passes: task.passes,
         law: task.law,
-        question: task.question,
+        asking: task.asking,
         workers: task.workers,
         window: task.window,
         limit: task.limit,
@@ -146,7 +155,7 @@ where
         own: task.own,
         saves: false,
     };
-    let size = match begin(alloc, &asking, &bytes, world, bench, out) {
+    let size = match begin(alloc, &unsaved, question, &bytes, world, bench, out) {
         Ok(size) => size,
         Err(status) => return status,
     };
@@ -163,5 +172,5 @@ where
     if let Err(fault) = journal::reopen(alloc, task.name, count, world) {
         return put_stop(alloc, out, task.name, fault);
     }
-    reduce_on(rt, alloc, task, kept, size, world, bench, out)
+    reduce_on(rt, alloc, task, question, kept, size, world, bench, out)
 }

@@ -1,6 +1,6 @@
 // The header of a run's journal.
 ghost use Rattle.std.specs.Prelude.{◌≡◌, ◌<◌, ◌≤◌, ◌^◌, Ok, true, false};
-ghost use Rattle.cr_main_kept.specs.Header.{Fits, bit, header_of, limit_mark, passes_mark};
+ghost use Rattle.cr_main_kept.specs.Header.{Fits, MarksFit, bit, header_of, limit_mark, passes_mark};
 ghost use Rattle.cr_journal.specs.Laws.{most_turns};
 
 use cr_journal_rows::Header;
@@ -59,7 +59,8 @@ pub fn header_of(marks: Marks, limit: Option<u64>, size: u64) -> Header
 }
 
 fn limit_mark(limit: Option<u64>) -> u64
-    ensures { result ≡ limit_mark limit }
+    ensures is { result ≡ limit_mark limit }
+    ensures below { limit_mark limit < 2 ^ 64 }
 {
     match limit {
         Some(limit) => limit,
@@ -79,6 +80,7 @@ pub fn most_turns(limit: Option<u64>) -> u64
 }
 
 /// Whether a header is that of these settings and of these bytes. Bytes that don't tokenise have no size, and fit any.
+#[tactic(auto, using(crate::proofs::Headers::marks_fit))]
 pub fn fits(
     alloc: Global,
     header: Header,
@@ -88,6 +90,7 @@ pub fn fits(
 ) -> Result<bool, NoMemory>
     ensures fits { result ≡ Ok true → Fits marks limit header bytes.now }
     ensures differs { result ≡ Ok false → Fits marks limit header bytes.now → ⊥ }
+    ensures bounded { MarksFit marks limit }
 {
     if !is_of(header, marks, limit) {
         return Ok(false);
@@ -102,8 +105,10 @@ pub fn fits(
 fn is_of(header: Header, marks: Marks, limit: Option<u64>) -> bool
     ensures same { result ≡ true → header ≡ header_of marks limit header.size }
     ensures other { result ≡ false → header ≡ header_of marks limit header.size → ⊥ }
+    ensures passes { marks.passes < 2 ^ 16 }
+    ensures steps { marks.steps < 2 ^ 64 }
+    ensures limit { limit_mark limit < 2 ^ 64 }
 {
-    header.passes == marks.passes
-        && header.steps == marks.steps
-        && header.limit == limit_mark(limit)
+    let most = limit_mark(limit);
+    header.passes == marks.passes && header.steps == marks.steps && header.limit == most
 }

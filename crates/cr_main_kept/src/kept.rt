@@ -1,9 +1,10 @@
 // The runs that keep a journal.
-ghost use Rattle.std.specs.Prelude.{◌≡◌, ◌<◌, ◌≤◌, length, false, true, drop};
+ghost use Rattle.std.specs.Prelude.{◌≡◌, ◌<◌, ◌≤◌, ℕ, List, length, false, true, drop};
 ghost use Rattle.cr_main_kept.specs.Kept.{RunsJournal, RunsResume};
+ghost use Rattle.cr_main_kept.specs.KeptTask.{kept_task};
 ghost use Rattle.cr_main_kept.specs.Surviving.{Survives};
 ghost use Rattle.cr_main_task.specs.Outside.{outside};
-ghost use Rattle.cr_main_task.specs.Task.{IsOfPrograms, task_for};
+ghost use Rattle.cr_main_task.specs.Task.{IsOfPrograms};
 ghost use Rattle.cr_reduce.specs.Bench.{judging, keys_of, says_of};
 
 use crate::further::run_further;
@@ -14,8 +15,8 @@ use crate::lines::{put_refused, put_stop};
 use crate::started::run_first;
 use cr_cursor::{Law, Passes};
 use cr_journal_rows::{from_disk, recover};
-use cr_main_task::Task;
-use cr_outside::{Files, Judge, Question, Sink};
+use cr_main_task::{Asking, Task};
+use cr_outside::{Files, Judge, Sink};
 use cr_outside_disk::Disk;
 use cr_pool::Bench;
 use std::alloc::Global;
@@ -28,14 +29,14 @@ pub fn run_journal<
     R: Threads + Sync,
     P: Passes + Sync,
     L: Law + Sync,
-    Q: Question + Sync,
+    A: Asking + Sync,
     W: Files + Disk,
     J: Judge + Send,
     O: Sink,
 >(
     rt: &R,
     alloc: Global,
-    task: &Task<'_, P, L, Q>,
+    task: &Task<'_, P, L, A>,
     marks: Marks,
     world: &mut W,
     bench: &mut Bench<J>,
@@ -43,21 +44,23 @@ pub fn run_journal<
 ) -> u8
 where
     P::Prep: Sync,
+    A::Bound: Sync,
     requires law { IsOfPrograms (L.lawful task.now.law.now) (L.reasons task.now.law.now) }
+    requires binds { (bytes : List ℕ) → L.lawful task.now.law.now bytes → A.binds task.now.asking.now bytes }
     requires saves { task.now.saves ≡ true }
     requires workers { (0 < task.now.workers) × (task.now.workers ≤ length bench.old.judges) }
     requires window { (0 < task.now.window) × (task.now.window ≤ 4096) }
-    ensures runs { RunsJournal (task_for P.Passes L.Law Q.Question task.now (says_of J.Judge bench.old)) marks
+    ensures runs { RunsJournal (kept_task P.Passes L.Law A.Asking task.now (says_of J.Judge bench.old)) marks
         (outside W.Outside W.Files.own world.old O.Sink out.old) (outside W.Outside W.Files.own world.new O.Sink out.new)
         (judging J.Judge bench.old) (judging J.Judge bench.new) (W.Disk.has_failed world.new) result }
-    ensures survives { Survives (task_for P.Passes L.Law Q.Question task.now (says_of J.Judge bench.old)) marks
+    ensures survives { Survives (kept_task P.Passes L.Law A.Asking task.now (says_of J.Judge bench.old)) marks
         (outside W.Outside W.Files.own world.old O.Sink out.old) (outside W.Outside W.Files.own world.new O.Sink out.new) result }
     // Workers that the task doesn't ask for do nothing.
     ensures others { drop task.now.workers bench.new.judges ≡ drop task.now.workers bench.old.judges }
-    ensures silent { Q.asks task.now.question.now ≡ false → bench.new.judges ≡ bench.old.judges }
+    ensures silent { A.asks task.now.asking.now ≡ false → bench.new.judges ≡ bench.old.judges }
     ensures keys { keys_of J.Judge bench.new ≡ keys_of J.Judge bench.old }
 {
-    a_kept_run_survives_its_stops(task.passes, task.law, task.question);
+    a_kept_run_survives_its_stops(task.passes, task.law, task.asking);
     bench.forget();
     match journal::start(alloc, task.name, world) {
         Ok(0) => run_first(rt, alloc, task, marks, world, bench, out),
@@ -73,14 +76,14 @@ pub fn run_resume<
     R: Threads + Sync,
     P: Passes + Sync,
     L: Law + Sync,
-    Q: Question + Sync,
+    A: Asking + Sync,
     W: Files + Disk,
     J: Judge + Send,
     O: Sink,
 >(
     rt: &R,
     alloc: Global,
-    task: &Task<'_, P, L, Q>,
+    task: &Task<'_, P, L, A>,
     marks: Marks,
     world: &mut W,
     bench: &mut Bench<J>,
@@ -88,21 +91,23 @@ pub fn run_resume<
 ) -> u8
 where
     P::Prep: Sync,
+    A::Bound: Sync,
     requires law { IsOfPrograms (L.lawful task.now.law.now) (L.reasons task.now.law.now) }
+    requires binds { (bytes : List ℕ) → L.lawful task.now.law.now bytes → A.binds task.now.asking.now bytes }
     requires saves { task.now.saves ≡ true }
     requires workers { (0 < task.now.workers) × (task.now.workers ≤ length bench.old.judges) }
     requires window { (0 < task.now.window) × (task.now.window ≤ 4096) }
-    ensures runs { RunsResume (task_for P.Passes L.Law Q.Question task.now (says_of J.Judge bench.old)) marks
+    ensures runs { RunsResume (kept_task P.Passes L.Law A.Asking task.now (says_of J.Judge bench.old)) marks
         (outside W.Outside W.Files.own world.old O.Sink out.old) (outside W.Outside W.Files.own world.new O.Sink out.new)
         (judging J.Judge bench.old) (judging J.Judge bench.new) (W.Disk.has_failed world.new) result }
-    ensures survives { Survives (task_for P.Passes L.Law Q.Question task.now (says_of J.Judge bench.old)) marks
+    ensures survives { Survives (kept_task P.Passes L.Law A.Asking task.now (says_of J.Judge bench.old)) marks
         (outside W.Outside W.Files.own world.old O.Sink out.old) (outside W.Outside W.Files.own world.new O.Sink out.new) result }
     // Workers that the task doesn't ask for do nothing.
     ensures others { drop task.now.workers bench.new.judges ≡ drop task.now.workers bench.old.judges }
-    ensures silent { Q.asks task.now.question.now ≡ false → bench.new.judges ≡ bench.old.judges }
+    ensures silent { A.asks task.now.asking.now ≡ false → bench.new.judges ≡ bench.old.judges }
     ensures keys { keys_of J.Judge bench.new ≡ keys_of J.Judge bench.old }
 {
-    a_kept_run_survives_its_stops(task.passes, task.law, task.question);
+    a_kept_run_survives_its_stops(task.passes, task.law, task.asking);
     bench.forget();
     let len = match journal::start(alloc, task.name, world) {
         Ok(len) => len,

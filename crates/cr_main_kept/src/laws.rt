@@ -2,13 +2,9 @@
 ghost use Rattle.cr_main_kept.specs.Laws.{RunsSurvive};
 
 use cr_cursor::{Law, Passes};
-use cr_outside::Question;
+use cr_main_task::Asking;
 
 /// What a kept run comes to survives its stops.
-pub fn a_kept_run_survives_its_stops<P: Passes, L: Law, Q: Question>(
-    passes: &P,
-    law: &L,
-    question: &Q,
-)
-    ensures { RunsSurvive (P.offers passes.now) (L.lawful law.now) (L.reasons law.now) (Q.asks question.now) (Q.tells question.now) }
+pub fn a_kept_run_survives_its_stops<P: Passes, L: Law, A: Asking>(passes: &P, law: &L, asking: &A)
+    ensures { RunsSurvive (P.offers passes.now) (record { Lawful = L.lawful law.now; Against = L.reasons law.now }) (A.asks asking.now) (λ bytes. A.tells (A.key asking.now bytes)) }
 {}

@@ -24,6 +24,7 @@ pub fn reduce_on<
     R: Threads + Sync,
     P: Passes + Sync,
     L: Law + Sync,
+    A,
     Q: Question + Sync,
     W: Files + Disk,
     J: Judge + Send,
@@ -31,7 +32,8 @@ pub fn reduce_on<
 >(
     rt: &R,
     alloc: Global,
-    task: &Task<'_, P, L, Q>,
+    task: &Task<'_, P, L, A>,
+    question: &Q,
     kept: Kept,
     old_size: u64,
     world: &mut W,
@@ -52,12 +54,12 @@ where
     requires ready { W.Disk.is_ready world.old ≡ true }
     requires long { 32 * length kept.accepted.items + 33 ≤ W.Disk.size world.old }
     requires rests { Rests kept.accepted.items (W.story world.old) }
-    ensures ends { EndsKept (task_for P.Passes L.Law Q.Question task.now (says_of J.Judge bench.old)) kept old_size
+    ensures ends { EndsKept (task_for P.Passes L.Law Q.Question task.now question.now (says_of J.Judge bench.old)) kept old_size
         (outside W.Outside W.Files.own world.old O.Sink out.old) (outside W.Outside W.Files.own world.new O.Sink out.new)
         (judging J.Judge bench.old) (judging J.Judge bench.new) (W.Disk.has_failed world.new) result }
     // Workers that the task doesn't ask for do nothing.
     ensures others { drop task.now.workers bench.new.judges ≡ drop task.now.workers bench.old.judges }
-    ensures silent { Q.asks task.now.question.now ≡ false → bench.new.judges ≡ bench.old.judges }
+    ensures silent { Q.asks question.now ≡ false → bench.new.judges ≡ bench.old.judges }
     ensures keys { keys_of J.Judge bench.new ≡ keys_of J.Judge bench.old }
 {
     let plan = Plan {
@@ -70,7 +72,7 @@ where
         alloc,
         task.passes,
         task.law,
-        task.question,
+        question,
         bench,
         world,
         task.own,

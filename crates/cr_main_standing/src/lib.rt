@@ -5,4 +5,4 @@
 
 mod run;
 
-pub use run::{run_standing, run_standing_on};
+pub use run::run_standing;

@@ -8,10 +8,11 @@ use Rattle.cr_reduce.specs.declared.end.End.{End}
 use Rattle.cr_reduce.specs.declared.end.Why.{Why}
 use Rattle.cr_reduce.specs.declared.end.Why.TheVariants.{Fixed, Limit, Fault, NoMemory}
 use Rattle.cr_reduce.specs.Bound.{HasLevels, enough_turns}
-use Rattle.cr_reduce.specs.Ends.{FaultsWithCause}
-use Rattle.cr_reduce.specs.Reduction.{Within}
+use Rattle.cr_reduce.specs.Ends.{EndsToldBy, FaultsWithCause, outcome_of}
+use Rattle.cr_reduce.specs.Reduction.{Within, none_fails}
+use Rattle.cr_reduce.specs.Search.{AcceptsAsTold, ReducesFileAsTold, RejectsAsTold, Search}
 use Rattle.cr_reduce.specs.Sizes.{HasSize}
-use Rattle.cr_reduce.proofs.Bounds.{in_time}
+use Rattle.cr_reduce.proofs.Bounds.{ends_in_time}
 use Rattle.cr_reduce.proofs.Runs.{rose_at-earlier}
 use Rattle.cr_reduce.proofs.Sizes.{size_by_length}
 use Rattle.cr_main_task.specs.Headline.{HasAll, enough_for}
@@ -19,7 +20,7 @@ use Rattle.cr_main_task.specs.Messages.{copy_name, log_name}
 use Rattle.cr_main_task.specs.Outside.{Fails, IsUnchanged, Outside, Says}
 use Rattle.cr_main_task.specs.Outside.Fails.{call_failed, starved}
 use Rattle.cr_main_task.specs.Outside.Says.{said_whole, said_cut, said_starved}
-use Rattle.cr_main_task.specs.Run.{Causes, Concludes, Finishes, IsReduction, RunsTask, by_epochs, end_status}
+use Rattle.cr_main_task.specs.Run.{Causes, Claiming, Concludes, Finishes, IsToldReduction, RunsBy, end_status}
 use Rattle.cr_main_task.specs.Run.Concludes.{unfinished, unwritten, unlogged, summed_up}
 use Rattle.cr_main_task.specs.Run.Finishes.{unstarted, uncopied, reduced}
 use Rattle.cr_main_task.specs.Run.RunsBy.{reduces, refuses, starves}
@@ -35,8 +36,19 @@ fewer_within : (limit : Option ℕ) (m n : ℕ) → m ≤ n → Within limit n �
 fewer_within None m n less within = tt
 fewer_within (Some most) m n less within = omega arith
 
--- a run of a task with all it needs, whose passes have these levels, and whose test doesn't tell both answers
-module _ (t : Task) (text : Text) (old new : Outside) (before after : Judging) (all : HasAll t text old new before after) (levels : ℕ → ℕ) (has : HasLevels t.search.Offers levels)
+-- a told reduction ends before a limit that is large enough
+told_in_time : (s : Search) (limit : Option ℕ) (file : List ℕ) (end : End) (why : Why) → EndsToldBy (ReducesFileAsTold s file) file limit end why
+    → (levels : ℕ → ℕ) (size : ℕ) → HasLevels s.Offers levels → HasSize file size → Within limit (enough_turns levels size) → why ≡ Limit → ⊥
+told_in_time s limit file end Fixed run levels size has sized enough is = cc
+told_in_time s limit file end Limit run levels size has sized enough is =
+    ends_in_time s.Offers (AcceptsAsTold s) (RejectsAsTold s) none_fails levels size limit has (λ f v it. it.smaller) file run.0 (outcome_of end Limit) run.1 sized enough run.2 refl
+told_in_time s limit file end (Fault turn worker) run levels size has sized enough is = cc
+told_in_time s limit file end NoMemory run levels size has sized enough is = cc
+
+-- A run of a task with all it needs, whose passes have these levels, and whose test doesn't tell both answers. What is claimed of its
+-- reduction is the told one, and each fault has its cause.
+module _ (t : Task) (By : Claiming) (told_of : (since now : Judging) (bytes : List ℕ) (end : End) → By.Claims since now bytes end → IsToldReduction t bytes end)
+    (cause_of : (since now : Judging) (bytes : List ℕ) (end : End) → By.Claims since now bytes end → FaultsWithCause t.search since now end.why) (text : Text) (old new : Outside) (before after : Judging) (all : HasAll t text old new before after) (levels : ℕ → ℕ) (has : HasLevels t.search.Offers levels)
     (bytes_enough : (n size : ℕ) → size ≤ 12 * n → enough_turns levels size ≤ enough_for n)
     (apart : (file : List ℕ) → t.search.Tells file true → t.search.Tells file false → ⊥) where
   file_never_fails : {bytes : List ℕ} (saves : Bool) (read : Outside) (name : List ℕ) (status : ℕ) → old.file_faults ≤ read.file_faults → Fails saves read new name bytes status → IsFree status
@@ -56,9 +68,9 @@ module _ (t : Task) (text : Text) (old new : Outside) (before after : Judging) (
   never_refuses refusal.TestFailed failed = all.no_judge_fault 0 failed.3
   never_refuses refusal.FileFault rose = all.no_file_fault rose
 
-  never_limit : (since : Judging) (bytes : List ℕ) (end : End) (size : ℕ) → bytes ≡ all.bytes → HasSize bytes size → IsReduction t since after bytes end → end.why ≡ Limit → ⊥
-  never_limit since bytes end size is sized reduction =
-      in_time t.search since after t.limit bytes end end.why reduction.chain levels size has sized
+  never_limit : (since : Judging) (bytes : List ℕ) (end : End) (size : ℕ) → bytes ≡ all.bytes → HasSize bytes size → By.Claims since after bytes end → end.why ≡ Limit → ⊥
+  never_limit since bytes end size is sized claims =
+      told_in_time t.search t.limit bytes end end.why ((told_of since after bytes end claims).reduction all.all_told) levels size has sized
       (fewer_within t.limit (enough_turns levels size) (enough_for (length bytes)) (bytes_enough (length bytes) size (size_by_length bytes size sized))
       (subst (λ b. Within t.limit (enough_for (length b))) (sym is) all.enough))
 
@@ -83,14 +95,14 @@ module _ (t : Task) (text : Text) (old new : Outside) (before after : Judging) (
   conclude_free saves name copied end old_size size status files outputs free (summed_up ended put calls said) = said_free copied.output_faults copied.output _ (end_status end.why) status outputs free said
 
   finish_free : (read : Outside) (since : Judging) (bytes : List ℕ) (status : ℕ) → IsUnchanged old read → GoesOn before since → bytes ≡ all.bytes
-      → Finishes t bytes (by_epochs t) read new since after status → IsFree status
+      → Finishes t bytes By read new since after status → IsFree status
   finish_free read since bytes status unmoved on is (unstarted none quiet starved_so) = inr starved_so
   finish_free read since bytes status unmoved on is (uncopied fails quiet) = file_never_fails t.saves read (copy_name t.name) status unmoved.file_faults fails.fails
   finish_free read since bytes status unmoved on is (reduced copied end old_size size copy reduction old_sized sized ends) =
       conclude_free t.saves t.name copied end old_size size status (omega (arith, unmoved.file_faults, copy.file_faults)) (omega (arith, unmoved.output_faults, copy.output_faults))
-      (end_free since end.why on (never_limit since bytes end old_size is old_sized reduction) reduction.cause) ends
+      (end_free since end.why on (never_limit since bytes end old_size is old_sized reduction) (cause_of since after bytes end reduction)) ends
 
-  pub task_free : (status : ℕ) → RunsTask t text old new before after status → IsFree status
+  pub task_free : (status : ℕ) → RunsBy t By text old new before after status → IsFree status
   task_free status (refuses r causes asked files calls said) = absurd (never_refuses r causes)
   task_free status (starves asked files calls silent is) = inr is
   task_free status (reduces bytes read since unmoved calls answered finishes) = finish_free read since bytes status unmoved answered.asked.goes_on (all.there bytes answered.asked.has) finishes

@@ -2,7 +2,7 @@ pub mod Puts
 pub mod Writes
 pub mod Conclusions
 pub mod Outcomes
-pub mod Asking
+pub mod Answering
 pub mod Files
 pub mod Statuses
 pub mod Headlines
@@ -14,7 +14,10 @@ pub mod Results
 pub mod Earlier
 pub mod Opened
 pub mod Reading
+pub mod Unopened
+pub mod Unfailing
 pub mod Bound
+pub mod Bindings
 pub mod Begun
 pub mod Calls
 pub mod Journals

@@ -6,3 +6,4 @@ pub mod Run
 pub mod Headline
 pub mod Opening
 pub mod Beginning
+pub mod Bound

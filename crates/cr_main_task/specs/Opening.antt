@@ -33,6 +33,10 @@ pub data Unopened (law : Ruled) (name : List ℕ) (text : Text) (old new : Outsi
   unread : Rose old.file_faults new.file_faults → new.files ≡ old.files → text.Opens Failed old.story new.story → Refuses old new name refusal.FileFault status → Unopened law name text old new status
   unopened : new.files ≡ old.files → MayOpen text old.story new.story → new.output ≡ old.output → status ≡ 11 → Unopened law name text old new status
 
+-- these bytes, which were read of the text
+abbrev pub read_of : Text → List ℕ → Text
+read_of text bytes = record { Has = λ b. b ≡ bytes; Lacks = ⊥; Opens = text.Opens }
+
 -- What a run comes to whose task is made from the bytes read.
 pub data RunsBound (law : Ruled) (at : List ℕ → Task) (By : List ℕ → Claiming) (name : List ℕ) (text : Text) (old new : Outside) (before after : Judging) (status : ℕ) : Type 0 where
   not_opened : Unopened law name text old new status → after ≡ before → RunsBound law at By name text old new before after status

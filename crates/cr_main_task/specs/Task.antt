@@ -12,6 +12,7 @@ use Rattle.cr_outside.specs.declared.story.Outcome.{Outcome}
 use Rattle.cr_outside.specs.declared.story.Outcome.TheVariants.{Done, NoMemory}
 use Rattle.cr_outside.specs.declared.question.Question.{Ghosts as QuestionGhosts}
 use Rattle.cr_reduce.specs.Search.{Search, search_of}
+use Rattle.cr_main_task.specs.declared.asking.Asking.{Ghosts as AskingGhosts}
 use Rattle.cr_main_task.specs.declared.task.Task.{Task as Asked}
 
 -- What is searched, why a file is not lawful, how many positions are tried at once at most, the most turns, the file's whole
@@ -24,16 +25,25 @@ pub record Task : Type 1 where
   pub name : List ℕ
   pub saves : Bool
 
--- the task of the code's value, where the judges say this; no verdict is kept when it begins
-abbrev pub task_for : {P I L Q : Type 0} → PassesGhosts P I → LawGhosts L → QuestionGhosts Q → Asked P L Q → Says → Task
-task_for passes law question asked says = record {
-  search = search_of (passes.offers asked.passes.now) (law.lawful asked.law.now) (question.asks asked.question.now) (question.tells asked.question.now) says asked.own.now [];
+-- the task of the code's value with a question that uses the judge so, and tells this, where the judges say this; no verdict is kept when
+-- it begins
+abbrev pub task_with : {P I L A : Type 0} → PassesGhosts P I → LawGhosts L → Asked P L A → Bool → (Says → List ℕ → List ℕ → Bool → Type 0) → Says → Task
+task_with passes law asked asks Tells says = record {
+  search = search_of (passes.offers asked.passes.now) (law.lawful asked.law.now) asks Tells says asked.own.now [];
   Against = law.reasons asked.law.now;
   window = asked.window;
   limit = asked.limit;
   name = asked.name.now;
   saves = asked.saves;
 }
+
+-- that with this question
+abbrev pub task_for : {P I L A Q : Type 0} → PassesGhosts P I → LawGhosts L → QuestionGhosts Q → Asked P L A → Q → Says → Task
+task_for passes law question asked one says = task_with passes law asked (question.asks one) (question.tells one) says
+
+-- and that with the question that is made from these bytes
+abbrev pub task_at : {P I L A B : Type 0} → PassesGhosts P I → LawGhosts L → AskingGhosts A B → Asked P L A → Says → List ℕ → Task
+task_at passes law asking asked says bytes = task_with passes law asked (asking.asks asked.asking.now) (asking.tells (asking.key asked.asking.now bytes)) says
 
 -- What is known of the bytes that a run begins with: what the file may have, whether it may be missing, and what is made of
 -- the story to have them, with this outcome.

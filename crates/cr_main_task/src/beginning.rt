@@ -19,9 +19,10 @@ use cr_reduce::size_of;
 use std::alloc::Global;
 
 /// Asks the test about lawful bytes, and saves the copy where it says yes: their size, or the status that the run ends with.
-pub fn begin<P: Passes, L: Law, Q: Question, F: Files, J: Judge, O: Sink>(
+pub fn begin<P: Passes, L: Law, A, Q: Question, F: Files, J: Judge, O: Sink>(
     alloc: Global,
-    task: &Task<'_, P, L, Q>,
+    task: &Task<'_, P, L, A>,
+    question: &Q,
     bytes: &Vec<u8>,
     files: &mut F,
     bench: &mut Bench<J>,
@@ -29,18 +30,18 @@ pub fn begin<P: Passes, L: Law, Q: Question, F: Files, J: Judge, O: Sink>(
 ) -> Result<u64, u8>
     requires law { IsOfPrograms (L.lawful task.now.law.now) (L.reasons task.now.law.now) }
     requires lawful { L.lawful task.now.law.now bytes.now.items }
-    ensures begun { IfOk result (λ size. HasBegun (task_for P.Passes L.Law Q.Question task.now (says_of J.Judge bench.old)) bytes.now.items
+    ensures begun { IfOk result (λ size. HasBegun (task_for P.Passes L.Law Q.Question task.now question.now (says_of J.Judge bench.old)) bytes.now.items
         (outside F.Outside F.Files.own files.old O.Sink out.old) (outside F.Outside F.Files.own files.new O.Sink out.new) (judging J.Judge bench.old) (judging J.Judge bench.new) size) }
-    ensures stopped { IfErr result (λ status. StopsEarly (task_for P.Passes L.Law Q.Question task.now (says_of J.Judge bench.old)) bytes.now.items
+    ensures stopped { IfErr result (λ status. StopsEarly (task_for P.Passes L.Law Q.Question task.now question.now (says_of J.Judge bench.old)) bytes.now.items
         (outside F.Outside F.Files.own files.old O.Sink out.old) (outside F.Outside F.Files.own files.new O.Sink out.new) (judging J.Judge bench.old) (judging J.Judge bench.new) status) }
     ensures others { drop 1 bench.new.judges ≡ drop 1 bench.old.judges }
-    ensures silent { Q.asks task.now.question.now ≡ false → bench.new.judges ≡ bench.old.judges }
+    ensures silent { Q.asks question.now ≡ false → bench.new.judges ≡ bench.old.judges }
     ensures keys { keys_of J.Judge bench.new ≡ keys_of J.Judge bench.old }
     ensures says { says_of J.Judge bench.new ≡ says_of J.Judge bench.old }
     ensures kept { bench.new.kept ≡ bench.old.kept }
     ensures count { length bench.new.judges ≡ length bench.old.judges }
 {
-    match bench.ask_first(alloc, task.question, task.own, bytes) {
+    match bench.ask_first(alloc, question, task.own, bytes) {
         Answer::Yes => copy(alloc, task, bytes, files, out),
         Answer::No => Err(refuse(alloc, out, task.name, Refusal::SaysNo)),
         Answer::Failed => Err(refuse(alloc, out, task.name, Refusal::TestFailed)),
@@ -49,9 +50,9 @@ pub fn begin<P: Passes, L: Law, Q: Question, F: Files, J: Judge, O: Sink>(
 }
 
 // Saves the copy of bytes that tokenise.
-fn copy<P: Passes, L: Law, Q: Question, F: Files, O: Sink>(
+fn copy<P: Passes, L: Law, A, F: Files, O: Sink>(
     alloc: Global,
-    task: &Task<'_, P, L, Q>,
+    task: &Task<'_, P, L, A>,
     bytes: &Vec<u8>,
     files: &mut F,
     out: &mut O,

@@ -13,14 +13,14 @@ use crate::status;
 use crate::task::Task;
 use cr_cursor::{Law, Passes};
 use cr_log::{log_text, summary_text};
-use cr_outside::{Files, NoMemory, Question, Sink};
+use cr_outside::{Files, NoMemory, Sink};
 use cr_reduce::{End, Why, size_of};
 use std::alloc::{AllocError, Global};
 
 /// Saves the result and the log, and puts the summary.
-pub fn conclude<P: Passes, L: Law, Q: Question, F: Files, O: Sink>(
+pub fn conclude<P: Passes, L: Law, A, F: Files, O: Sink>(
     alloc: Global,
-    task: &Task<'_, P, L, Q>,
+    task: &Task<'_, P, L, A>,
     end: &End,
     old_size: u64,
     files: &mut F,

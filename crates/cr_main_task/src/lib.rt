@@ -4,6 +4,7 @@
 //! of its reduction. Stands on `cr_reduce`, `cr_log` and `cr_outside`.
 #![tactic(auto)]
 
+mod asking;
 mod beginning;
 mod finish;
 mod messages;
@@ -14,10 +15,11 @@ mod saving;
 pub mod status;
 mod task;
 
+pub use asking::{Asked, Asking, Unbound};
 pub use beginning::begin;
 pub use finish::conclude;
 pub use messages::{Refusal, put, refuse};
 pub use names::beside;
 pub use opening::{MOST_READ, open, ruled};
-pub use run_task::{run_bytes, run_lawful, run_stored};
+pub use run_task::run_lawful;
 pub use task::Task;

@@ -1,15 +1,13 @@
 // The steps of a run behind the words, for any passes, law and question.
 ghost use Rattle.std.specs.Prelude.{◌≡◌, ◌<◌, ◌≤◌, [], drop, false, length};
-ghost use Rattle.cr_outside.specs.Story.{files_told};
 ghost use Rattle.cr_reduce.specs.Bench.{judging, keys_of, says_of};
 ghost use Rattle.cr_main_task.specs.Outside.{outside};
 ghost use Rattle.cr_main_task.specs.Run.{RunsTask};
-ghost use Rattle.cr_main_task.specs.Task.{IsOfPrograms, given, stored, task_for};
+ghost use Rattle.cr_main_task.specs.Task.{IsOfPrograms, given, task_at, task_for};
 
+use crate::asking::{Asked, Asking};
 use crate::beginning::begin;
 use crate::finish::conclude;
-use crate::messages::{Refusal, refuse};
-use crate::opening::{open, ruled};
 use crate::status;
 use crate::task::Task;
 use cr_cursor::{Law, Passes};
@@ -19,57 +17,19 @@ use cr_reduce::{Plan, reduce};
 use std::alloc::Global;
 use std::thread::Threads;
 
-/// Reads the file, and runs on its bytes.
-pub fn run_stored<
+/// Runs on lawful bytes: asks the test about them, and reduces them where it says yes.
+pub fn run_lawful<
     R: Threads + Sync,
     P: Passes + Sync,
     L: Law + Sync,
-    Q: Question + Sync,
+    A: Asking + Sync,
     F: Files,
     J: Judge + Send,
     O: Sink,
 >(
     rt: &R,
     alloc: Global,
-    task: &Task<'_, P, L, Q>,
-    files: &mut F,
-    bench: &mut Bench<J>,
-    out: &mut O,
-) -> u8
-where
-    P::Prep: Sync,
-    requires law { IsOfPrograms (L.lawful task.now.law.now) (L.reasons task.now.law.now) }
-    requires workers { (0 < task.now.workers) × (task.now.workers ≤ length bench.old.judges) }
-    requires window { (0 < task.now.window) × (task.now.window ≤ 4096) }
-    ensures runs { RunsTask (task_for P.Passes L.Law Q.Question task.now (says_of J.Judge bench.old)) (stored (files_told (F.story files.old)) task.now.name.now)
-        (outside F.Outside F.Files.own files.old O.Sink out.old) (outside F.Outside F.Files.own files.new O.Sink out.new)
-        (judging J.Judge bench.old) (judging J.Judge bench.new) result }
-    // Workers that the task doesn't ask for do nothing.
-    ensures others { drop task.now.workers bench.new.judges ≡ drop task.now.workers bench.old.judges }
-    ensures silent { Q.asks task.now.question.now ≡ false → bench.new.judges ≡ bench.old.judges }
-    ensures keys { keys_of J.Judge bench.new ≡ keys_of J.Judge bench.old }
-{
-    // What it keeps may be of another test, or of another file's name.
-    bench.forget();
-    match open(alloc, task.law, task.name, files, out) {
-        Ok(bytes) => run_lawful(rt, alloc, task, bytes, files, bench, out),
-        Err(status) => status,
-    }
-}
-
-/// Runs on these bytes.
-pub fn run_bytes<
-    R: Threads + Sync,
-    P: Passes + Sync,
-    L: Law + Sync,
-    Q: Question + Sync,
-    F: Files,
-    J: Judge + Send,
-    O: Sink,
->(
-    rt: &R,
-    alloc: Global,
-    task: &Task<'_, P, L, Q>,
+    task: &Task<'_, P, L, A>,
     bytes: Vec<u8>,
     files: &mut F,
     bench: &mut Bench<J>,
@@ -77,30 +37,35 @@ pub fn run_bytes<
 ) -> u8
 where
     P::Prep: Sync,
+    A::Bound: Sync,
     requires law { IsOfPrograms (L.lawful task.now.law.now) (L.reasons task.now.law.now) }
     requires workers { (0 < task.now.workers) × (task.now.workers ≤ length bench.old.judges) }
     requires window { (0 < task.now.window) × (task.now.window ≤ 4096) }
-    ensures runs { RunsTask (task_for P.Passes L.Law Q.Question task.now (says_of J.Judge bench.old)) (given bytes.items)
+    requires lawful { L.lawful task.now.law.now bytes.items }
+    requires binds { A.binds task.now.asking.now bytes.items }
+    ensures runs { RunsTask (task_at P.Passes L.Law A.Asking task.now (says_of J.Judge bench.old) bytes.items) (given bytes.items)
         (outside F.Outside F.Files.own files.old O.Sink out.old) (outside F.Outside F.Files.own files.new O.Sink out.new)
         (judging J.Judge bench.old) (judging J.Judge bench.new) result }
     // Workers that the task doesn't ask for do nothing.
     ensures others { drop task.now.workers bench.new.judges ≡ drop task.now.workers bench.old.judges }
-    ensures silent { Q.asks task.now.question.now ≡ false → bench.new.judges ≡ bench.old.judges }
+    ensures silent { A.asks task.now.asking.now ≡ false → bench.new.judges ≡ bench.old.judges }
     ensures keys { keys_of J.Judge bench.new ≡ keys_of J.Judge bench.old }
 {
+    let question = match Asked::bind(alloc, task.asking, &bytes) {
+        Ok(question) => question,
+        Err(_) => return status::NO_MEMORY,
+    };
+    // What it keeps may be of another test, or of another file's name.
     bench.forget();
-    match ruled(alloc, task.law, &bytes) {
-        Ok(None) => run_lawful(rt, alloc, task, bytes, files, bench, out),
-        Ok(Some(reason)) => refuse(alloc, out, task.name, Refusal::Against(reason)),
-        Err(_) => status::NO_MEMORY,
-    }
+    run_bound(rt, alloc, task, &question, bytes, files, bench, out)
 }
 
-/// Runs on lawful bytes: asks the test about them, and reduces them where it says yes.
-pub fn run_lawful<
+// Runs on lawful bytes by the question that was made from them.
+fn run_bound<
     R: Threads + Sync,
     P: Passes + Sync,
     L: Law + Sync,
+    A,
     Q: Question + Sync,
     F: Files,
     J: Judge + Send,
@@ -108,7 +73,8 @@ pub fn run_lawful<
 >(
     rt: &R,
     alloc: Global,
-    task: &Task<'_, P, L, Q>,
+    task: &Task<'_, P, L, A>,
+    question: &Q,
     bytes: Vec<u8>,
     files: &mut F,
     bench: &mut Bench<J>,
@@ -121,15 +87,14 @@ where
     requires window { (0 < task.now.window) × (task.now.window ≤ 4096) }
     requires forgot { bench.old.kept ≡ [] }
     requires lawful { L.lawful task.now.law.now bytes.items }
-    ensures runs { RunsTask (task_for P.Passes L.Law Q.Question task.now (says_of J.Judge bench.old)) (given bytes.items)
+    ensures runs { RunsTask (task_for P.Passes L.Law Q.Question task.now question.now (says_of J.Judge bench.old)) (given bytes.items)
         (outside F.Outside F.Files.own files.old O.Sink out.old) (outside F.Outside F.Files.own files.new O.Sink out.new)
         (judging J.Judge bench.old) (judging J.Judge bench.new) result }
-    // Workers that the task doesn't ask for do nothing.
     ensures others { drop task.now.workers bench.new.judges ≡ drop task.now.workers bench.old.judges }
-    ensures silent { Q.asks task.now.question.now ≡ false → bench.new.judges ≡ bench.old.judges }
+    ensures silent { Q.asks question.now ≡ false → bench.new.judges ≡ bench.old.judges }
     ensures keys { keys_of J.Judge bench.new ≡ keys_of J.Judge bench.old }
 {
-    let old_size = match begin(alloc, task, &bytes, files, bench, out) {
+    let old_size = match begin(alloc, task, question, &bytes, files, bench, out) {
         Ok(old_size) => old_size,
         Err(status) => return status,
     };
@@ -143,7 +108,7 @@ where
         alloc,
         task.passes,
         task.law,
-        task.question,
+        question,
         bench,
         task.own,
         bytes,

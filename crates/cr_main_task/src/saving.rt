@@ -7,7 +7,7 @@ use crate::names::beside;
 use crate::status;
 use crate::task::Task;
 use cr_cursor::{Law, Passes};
-use cr_outside::{FileFault, Files, Question, Sink};
+use cr_outside::{FileFault, Files, Sink};
 use std::alloc::Global;
 
 /// Saves a file. Answers a status where the run ends here.
@@ -35,9 +35,9 @@ pub fn save<F: Files, O: Sink>(
 }
 
 /// Saves a file beside the task's own.
-pub fn save_beside<P: Passes, L: Law, Q: Question, F: Files, O: Sink>(
+pub fn save_beside<P: Passes, L: Law, A, F: Files, O: Sink>(
     alloc: Global,
-    task: &Task<'_, P, L, Q>,
+    task: &Task<'_, P, L, A>,
     files: &mut F,
     out: &mut O,
     ending: &str,

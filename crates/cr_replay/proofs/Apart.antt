@@ -20,7 +20,7 @@ module _ (c : Chain) (one_offer : (file : List ℕ) (o other : Offer) → c.Offe
   follows_once (one ∷ more) file last last' turns n n' (further {next = a} s r) (further {next = b} t q) =
       follows_once more b last last' one.turn n n' (subst (λ f. Follows c f one.turn more last n) (same_step file turns one a b s t) r) q
 
-  never_both : (rows : List Accepted) (file last : List ℕ) (turns n k : ℕ) → Follows c file turns rows last n → BreaksAt c file turns rows k → ⊥
+  pub never_both : (rows : List Accepted) (file last : List ℕ) (turns n k : ℕ) → Follows c file turns rows last n → BreaksAt c file turns rows k → ⊥
   never_both [] file last turns n k _ x3 = elim x3 [ ]
   never_both (one ∷ more) file last turns n k (further {next = a} s r) (here nowhere) = nowhere a s
   never_both (one ∷ more) file last turns n _ (further {next = a} s r) (behind {next = b} {k = k} t q) =

@@ -4,7 +4,7 @@ use Rattle.std.proofs.lemmas.List.Elements.{All-push}
 use Rattle.std.specs.declared.alloc.Global.{Global}
 use Rattle.cr_reduce.specs.declared.end.Accepted.{Accepted}
 use Rattle.cr_journal_records.specs.Reading.{bodies_of}
-use Rattle.cr_journal_rows.specs.Forms.{HasRowForm, IsFirstBadRow, row_body}
+use Rattle.cr_journal_rows.specs.Forms.{HasRowForm, IsFirstBadRow, RowFits, row_body}
 use Rattle.cr_journal_rows.proofs.Firsts.{bad_row, one_more}
 use Rattle.cr_journal_rows.proofs.row.read_rows.Goals as goal
 
@@ -36,4 +36,5 @@ loop-body-preserved c =
     record {
       so_far = one_more bodies rows behind item so_far row is ∙ ap (λ (l : List Accepted). map row_body l ++ bodies_of behind) (sym c.in-Ok.ensures.items);
       low = subst (All (λ (r : Accepted). r.at.pass ≤ 9)) (sym c.in-Ok.ensures.items) (All-push (λ (r : Accepted). r.at.pass ≤ 9) rows row c.loop-body.invariant.low c.in-Some.ensures.row.1);
+      fits = subst (All RowFits) (sym c.in-Ok.ensures.items) (All-push RowFits rows row c.loop-body.invariant.fits c.in-Some.ensures.row.2);
     }

@@ -1,73 +1,47 @@
-use Rattle.std.proofs.Common.{refl, subst}
-use Rattle.cr_outside.specs.Story.{files_told}
+use Rattle.std.proofs.Common.{◌≡◌, false, subst, sym}
 use Rattle.cr_reduce.specs.Bench.{judging, says_of}
-use Rattle.cr_main_words.specs.Names.{IsOwnName}
 use Rattle.cr_main_task.specs.Outside.{outside}
-use Rattle.cr_main_task.specs.Run.{RunsTask}
-use Rattle.cr_lawful.specs.Lawful.{limits_of}
-use Rattle.cr_main.specs.Task.{task_by}
-use Rattle.cr_main.proofs.Sources.{made_runs, stored_runs}
+use Rattle.cr_main_task.specs.Task.{IsOfPrograms}
+use Rattle.cr_main.specs.More.{RunsIn}
+use Rattle.cr_main.specs.Task.{asked_by, marks_of}
 use Rattle.cr_main.proofs.given.run_by_law.Goals as goal
 
-pub run_stored-requires-clause-law : goal.run_stored-requires-clause-law
-run_stored-requires-clause-law g c = λ a b. c.requires.law
+pub run_by_engine-requires-clause-task : goal.run_by_engine-requires-clause-task
+run_by_engine-requires-clause-task g c = λ sends shares. c.task_by-task.ensures.task
 
-pub run_bytes-requires-clause-law : goal.run_bytes-requires-clause-law
-run_bytes-requires-clause-law g c = λ a b. c.requires.law
+pub run_by_engine-requires-clause-runnable : goal.run_by_engine-requires-clause-runnable
+run_by_engine-requires-clause-runnable g c = λ sends shares. c.requires.runnable
 
-pub returns-in-Named-clause-runs : goal.returns-in-Named-clause-runs
-returns-in-Named-clause-runs g c =
+pub run_by_engine-requires-clause-suits : goal.run_by_engine-requires-clause-suits
+run_by_engine-requires-clause-suits g c = λ sends shares. c.requires.suits
+
+pub run_by_engine-requires-clause-law : goal.run_by_engine-requires-clause-law
+run_by_engine-requires-clause-law g c = λ sends shares. subst (λ l. IsOfPrograms (g.L.Law.lawful l) (g.L.Law.reasons l)) (sym c.task_by-task.ensures.law) c.requires.law
+
+pub run_by_engine-requires-clause-binds : goal.run_by_engine-requires-clause-binds
+run_by_engine-requires-clause-binds g c = λ sends shares bytes lawful.
+    subst (λ a. g.A.Asking.binds a bytes) (sym c.task_by-task.ensures.asking) (c.requires.binds bytes (subst (λ l. g.L.Law.lawful l bytes) c.task_by-task.ensures.law lawful))
+
+pub returns-clause-runs : goal.returns-clause-runs
+returns-clause-runs g c =
     let settings = c.args.settings.now in
-    let own = c.own_name.result.now in
-    let old = outside g.F.Outside g.F.Files c.args.files.now g.O.Sink c.args.out.now in
-    let new = outside g.F.Outside g.F.Files c.run_stored.new.files g.O.Sink c.run_stored.new.out in (
-      own,
-      subst (λ name. IsOwnName name own) c.source_name-name.ensures c.own_name.ensures,
-      stored_runs settings (limits_of settings.steps) c.source_name-name.result.now c.is_saved.result refl c.source_name-name.ensures c.is_saved.ensures
-          (files_told (g.F.Outside.story c.args.files.now))
-          (λ limits name saves text. RunsTask (record (task_by (g.L.Law.lawful c.args.law.now) (g.L.Law.reasons c.args.law.now) settings (says_of g.J.Judge c.args.bench.now) own) { name = name; saves = saves }) text old new
-          (judging g.J.Judge c.args.bench.now) (judging g.J.Judge c.run_stored.new.bench) c.run_stored.result)
-          c.in-Named.field-0 c.in-Named.is c.run_stored.ensures.runs,
+    let task = c.task_by-task.result in
+    let says = says_of g.J.Judge c.args.bench.now in
+    let old = outside g.W.Outside g.W.Files c.args.world.now g.O.Sink c.args.out.now in
+    let new = outside g.W.Outside g.W.Files c.run_by_engine.new.world g.O.Sink c.run_by_engine.new.out in
+    let before = judging g.J.Judge c.args.bench.now in
+    let after = judging g.J.Judge c.run_by_engine.new.bench in
+    let has_failed = g.W.Disk.has_failed c.run_by_engine.new.world in (
+      task.own.now,
+      c.task_by-task.ensures.own,
+      subst (λ l. RunsIn c.args.engine (asked_by (record { Lawful = g.L.Law.lawful l; Against = g.L.Law.reasons l }) (g.A.Asking.asks c.args.asking.now) (λ bytes. g.A.Asking.tells (g.A.Asking.key c.args.asking.now bytes)) settings says task.own.now)
+          (marks_of settings) settings.source old new before after has_failed c.run_by_engine.result) c.task_by-task.ensures.law
+          (subst (λ a. RunsIn c.args.engine (asked_by (record { Lawful = g.L.Law.lawful task.law.now; Against = g.L.Law.reasons task.law.now }) (g.A.Asking.asks a) (λ bytes. g.A.Asking.tells (g.A.Asking.key a bytes)) settings says task.own.now)
+          (marks_of settings) settings.source old new before after has_failed c.run_by_engine.result) c.task_by-task.ensures.asking c.run_by_engine.ensures.runs),
     )
 
-pub returns-in-Ok-clause-runs : goal.returns-in-Ok-clause-runs
-returns-in-Ok-clause-runs g c =
-    let settings = c.args.settings.now in
-    let own = c.own_name.result.now in
-    let old = outside g.F.Outside g.F.Files c.args.files.now g.O.Sink c.args.out.now in
-    let new = outside g.F.Outside g.F.Files c.run_bytes.new.files g.O.Sink c.run_bytes.new.out in (
-      own,
-      subst (λ name. IsOwnName name own) c.source_name-name.ensures c.own_name.ensures,
-      made_runs settings (limits_of settings.steps) c.source_name-name.result.now c.is_saved.result refl c.source_name-name.ensures c.is_saved.ensures
-          (files_told (g.F.Outside.story c.args.files.now))
-          (λ limits name saves text. RunsTask (record (task_by (g.L.Law.lawful c.args.law.now) (g.L.Law.reasons c.args.law.now) settings (says_of g.J.Judge c.args.bench.now) own) { name = name; saves = saves }) text old new
-          (judging g.J.Judge c.args.bench.now) (judging g.J.Judge c.run_bytes.new.bench) c.run_bytes.result)
-          c.in-Made.number c.in-Made.items c.in-Ok.text.items c.in-Made.is c.in-Ok.ensures.text c.run_bytes.ensures.runs,
-    )
+pub returns-clause-others : goal.returns-clause-others
+returns-clause-others g c = c.run_by_engine.ensures.others
 
-pub returns-in-Named-clause-others : goal.returns-in-Named-clause-others
-returns-in-Named-clause-others g c = c.run_stored.ensures.others
-
-pub returns-in-Ok-clause-others : goal.returns-in-Ok-clause-others
-returns-in-Ok-clause-others g c = c.run_bytes.ensures.others
-
-pub returns-in-Err-clause-others : goal.returns-in-Err-clause-others
-returns-in-Err-clause-others g c = refl
-
-pub returns-in-Named-clause-silent : goal.returns-in-Named-clause-silent
-returns-in-Named-clause-silent g c = c.run_stored.ensures.silent
-
-pub returns-in-Ok-clause-silent : goal.returns-in-Ok-clause-silent
-returns-in-Ok-clause-silent g c = c.run_bytes.ensures.silent
-
-pub returns-in-Named-clause-keys : goal.returns-in-Named-clause-keys
-returns-in-Named-clause-keys g c = c.run_stored.ensures.keys
-
-pub returns-in-Ok-clause-keys : goal.returns-in-Ok-clause-keys
-returns-in-Ok-clause-keys g c = c.run_bytes.ensures.keys
-
-pub returns-in-Err-clause-silent : goal.returns-in-Err-clause-silent
-returns-in-Err-clause-silent g c = λ quiet. refl
-
-pub returns-in-Err-clause-keys : goal.returns-in-Err-clause-keys
-returns-in-Err-clause-keys g c = refl
+pub returns-clause-silent : goal.returns-clause-silent
+returns-clause-silent g c = λ quiet. c.run_by_engine.ensures.silent (subst (λ a. g.A.Asking.asks a ≡ false) (sym c.task_by-task.ensures.asking) quiet)

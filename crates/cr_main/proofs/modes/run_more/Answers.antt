@@ -4,8 +4,7 @@ use Rattle.cr_main_task.specs.Outside.{outside}
 use Rattle.cr_main_words.specs.Requests.{Asks, AsksNothing}
 use Rattle.cr_main_words.specs.Words.{texts_of}
 use Rattle.cr_main.specs.More.RunsMore.{asks_nothing, unread_words}
-use Rattle.cr_main.proofs.Completing.{completes_more}
-use Rattle.cr_main.proofs.More.{asks_more, ends_more, fault_more, journal_more, keeps_more, may_run, more_of, plain_promises, quiet_more, survives_more}
+use Rattle.cr_main.proofs.More.{asks_more, completes_more, ends_more, fault_more, journal_more, keeps_more, may_run, more_of, plain_promises, quiet_more, survives_more}
 use Rattle.cr_main.proofs.Others.{leaves_all, to_asked}
 use Rattle.cr_main.proofs.modes.run_more.Goals as goal
 

@@ -16,11 +16,11 @@ returns-in-Err-clause-follows g c = stopped c.in-Err.ensures.stopped
 
 pub returns-in-Err-replay-clause-follows : goal.returns-in-Err-replay-clause-follows
 returns-in-Err-replay-clause-follows g c =
-    unfollowed (task_for g.P.Passes g.L.Law g.Q.Question c.args.task.now (says_of g.J.Judge c.args.bench.now)) c.args.bytes.items c.args.rows.items
+    unfollowed (task_for g.P.Passes g.L.Law g.Q.Question c.args.task.now c.args.question.now (says_of g.J.Judge c.args.bench.now)) c.args.bytes.items c.args.rows.items
     (outside g.W.Outside g.W.Files c.args.world.now g.O.Sink c.args.out.now) (outside g.W.Outside g.W.Files c.begin.new.files g.O.Sink c.begin.new.out) (outside g.W.Outside g.W.Files c.begin.new.files g.O.Sink c.put_stop.new.out)
     (judging g.J.Judge c.args.bench.now) (judging g.J.Judge c.begin.new.bench) (g.W.Disk.has_failed c.begin.new.files) c.put_stop.result c.in-Ok.size c.in-Err-replay.fault c.in-Ok.ensures.begun
     (λ i is. subst (λ (l : ℕ). BreaksAt (chain_of g.P.Passes c.args.task.now.passes.now g.L.Law c.args.task.now.law.now (Some l)) c.args.bytes.items 0 c.args.rows.items i) c.most_turns-limit.ensures.is (c.in-Err-replay.ensures.differs i (ap Err is)))
-    (λ is. c.in-Err-replay.ensures.never_disk (ap Err is)) (λ i is. c.in-Err-replay.ensures.never_bad i (ap Err is)) refl c.put_stop.ensures
+    (λ is. c.in-Err-replay.ensures.never_disk (ap Err is)) (λ i is. c.in-Err-replay.ensures.never_bad i (ap Err is)) c.most_turns-limit.ensures.below refl c.put_stop.ensures
 
 pub returns-in-Err-reopen-clause-follows : goal.returns-in-Err-reopen-clause-follows
 returns-in-Err-reopen-clause-follows g c =
@@ -34,7 +34,7 @@ returns-clause-follows g c =
     followed (outside g.W.Outside g.W.Files c.begin.new.files g.O.Sink c.begin.new.out) started (judging g.J.Judge c.begin.new.bench) c.in-Ok.size c.in-Ok-replay.kept c.in-Ok.ensures.begun
     (subst (λ (l : ℕ). IsReplayed (chain_of g.P.Passes c.args.task.now.passes.now g.L.Law c.args.task.now.law.now (Some l)) c.args.bytes.items c.args.rows.items c.in-Ok-replay.kept) c.most_turns-limit.ensures.is c.in-Ok-replay.ensures.replayed)
     c.most_turns-limit.ensures.below (record { story = c.reopen.ensures.same; output = refl; output_faults = refl })
-    (subst (λ (says : Says). EndsKept (task_for g.P.Passes g.L.Law g.Q.Question c.args.task.now says) c.in-Ok-replay.kept c.in-Ok.size started new
+    (subst (λ (says : Says). EndsKept (task_for g.P.Passes g.L.Law g.Q.Question c.args.task.now c.args.question.now says) c.in-Ok-replay.kept c.in-Ok.size started new
     (judging g.J.Judge c.begin.new.bench) (judging g.J.Judge c.reduce_on.new.bench) (g.W.Disk.has_failed c.reduce_on.new.world) c.reduce_on.result) c.in-Ok.ensures.says c.reduce_on.ensures.ends)
 
 pub returns-in-Err-clause-others : goal.returns-in-Err-clause-others

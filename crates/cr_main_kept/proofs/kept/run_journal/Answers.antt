@@ -9,7 +9,7 @@ use Rattle.cr_main_kept.specs.Kept.RunsJournal.{fresh, found, unstarted}
 use Rattle.cr_main_kept.specs.Lines.{IsDiskFault}
 use Rattle.cr_main_kept.proofs.Stories.{disk_cause, journals_same, none_empty}
 use Rattle.cr_main_task.specs.Outside.{outside}
-use Rattle.cr_main_task.specs.Task.{task_for}
+use Rattle.cr_main_kept.specs.KeptTask.{kept_task}
 use Rattle.cr_main_kept.proofs.kept.run_journal.Goals as goal
 
 pub returns-in-Ok-eq0-clause-runs : goal.returns-in-Ok-eq0-clause-runs
@@ -23,7 +23,7 @@ returns-in-Ok-eq0-clause-runs g c =
       output_faults = refl;
     })
     (none_empty (g.W.Outside.story c.start.new.disk) empty)
-    (subst (λ (js : List g.row.J.Denot). RunsFirst (task_for g.P.Passes g.L.Law g.Q.Question c.args.task.now (first_says g.J.Judge.key g.J.Judge.says js)) c.args.marks started
+    (subst (λ (js : List g.row.J.Denot). RunsFirst (kept_task g.P.Passes g.L.Law g.A.Asking c.args.task.now (first_says g.J.Judge.key g.J.Judge.says js)) c.args.marks started
     (outside g.W.Outside g.W.Files c.run_first.new.world g.O.Sink c.run_first.new.out) (judging_of g.J.Judge js) (judging g.J.Judge c.run_first.new.bench) (g.W.Disk.has_failed c.run_first.new.world) c.run_first.result)
     c.forget.ensures.judges c.run_first.ensures.runs)
 

@@ -13,17 +13,17 @@ use Rattle.cr_main_kept.proofs.reduction.reduce_on.Goals as goal
 
 pub conclude-requires-clause-sized : goal.conclude-requires-clause-sized
 conclude-requires-clause-sized g c =
-    kept_sized (searching g.P.Passes c.args.task.now.passes.now g.L.Law c.args.task.now.law.now g.Q.Question c.args.task.now.question.now c.args.task.now.own.now g.J.Judge c.args.bench.now)
+    kept_sized (searching g.P.Passes c.args.task.now.passes.now g.L.Law c.args.task.now.law.now g.Q.Question c.args.question.now c.args.task.now.own.now g.J.Judge c.args.bench.now)
     (judging g.J.Judge c.args.bench.now) (judging g.J.Judge c.reduce_kept-end.new.bench) c.args.task.now.limit c.args.kept c.in-Done.end c.in-Done.ensures.goes_on.chain c.requires.tokenizes
 
 pub conclude-requires-clause-passes : goal.conclude-requires-clause-passes
 conclude-requires-clause-passes g c =
-    kept_passes (searching g.P.Passes c.args.task.now.passes.now g.L.Law c.args.task.now.law.now g.Q.Question c.args.task.now.question.now c.args.task.now.own.now g.J.Judge c.args.bench.now)
+    kept_passes (searching g.P.Passes c.args.task.now.passes.now g.L.Law c.args.task.now.law.now g.Q.Question c.args.question.now c.args.task.now.own.now g.J.Judge c.args.bench.now)
     (judging g.J.Judge c.args.bench.now) (judging g.J.Judge c.reduce_kept-end.new.bench) c.args.task.now.limit c.args.kept c.in-Done.end c.in-Done.ensures.goes_on.chain c.requires.passes
 
 pub returns-in-Done-clause-ends : goal.returns-in-Done-clause-ends
 returns-in-Done-clause-ends g c =
-    let later : List Verdicts → Task = λ verdicts. let t = task_for g.P.Passes g.L.Law g.Q.Question c.args.task.now (says_of g.J.Judge c.args.bench.now) in record t { search = record t.search { kept = verdicts } } in
+    let later : List Verdicts → Task = λ verdicts. let t = task_for g.P.Passes g.L.Law g.Q.Question c.args.task.now c.args.question.now (says_of g.J.Judge c.args.bench.now) in record t { search = record t.search { kept = verdicts } } in
     let before = judging g.J.Judge c.args.bench.now in
     let after = judging g.J.Judge c.reduce_kept-end.new.bench in
     let old = g.W.Outside.story c.args.world.now in
@@ -39,7 +39,7 @@ returns-in-Done-clause-ends g c =
 
 pub returns-in-Disk-clause-ends : goal.returns-in-Disk-clause-ends
 returns-in-Disk-clause-ends g c =
-    let later : List Verdicts → Task = λ verdicts. let t = task_for g.P.Passes g.L.Law g.Q.Question c.args.task.now (says_of g.J.Judge c.args.bench.now) in record t { search = record t.search { kept = verdicts } } in
+    let later : List Verdicts → Task = λ verdicts. let t = task_for g.P.Passes g.L.Law g.Q.Question c.args.task.now c.args.question.now (says_of g.J.Judge c.args.bench.now) in record t { search = record t.search { kept = verdicts } } in
     let before = judging g.J.Judge c.args.bench.now in
     let after = judging g.J.Judge c.reduce_kept-end.new.bench in
     let old = g.W.Outside.story c.args.world.now in

@@ -1,26 +1,16 @@
-use Rattle.std.proofs.Common.{}
-use Rattle.cr_outside.specs.Story.{files_told}
+use Rattle.std.proofs.Common.{◌≡◌, subst}
 use Rattle.cr_reduce.specs.Bench.{judging, says_of}
-use Rattle.cr_main_standing.specs.Standing.{by_standing}
+use Rattle.cr_main_standing.specs.Standing.{RunsStanding}
 use Rattle.cr_main_task.specs.Outside.{outside}
-use Rattle.cr_main_task.specs.Task.{stored, task_for}
-use Rattle.cr_main_task.proofs.Reading.{runs_there, runs_unopened}
+use Rattle.cr_main_task.specs.Task.{given}
+use Rattle.cr_main_task.proofs.Bindings.{bound_task}
 use Rattle.cr_main_standing.proofs.run.run_standing.Goals as goal
 
-pub open-requires : goal.open-requires
-open-requires g c = record { law = c.requires.law }
-
-pub returns-in-Ok-clause-runs : goal.returns-in-Ok-clause-runs
-returns-in-Ok-clause-runs g c =
-    let t = task_for g.P.Passes g.L.Law g.Q.Question c.args.task.now (says_of g.J.Judge c.args.bench.now) in
-    runs_there t (by_standing t) (stored (files_told (g.F.Outside.story c.args.files.now)) c.args.task.now.name.now)
-    (outside g.F.Outside g.F.Files c.args.files.now g.O.Sink c.args.out.now) (outside g.F.Outside g.F.Files c.open.new.files g.O.Sink c.open.new.out)
-    (outside g.F.Outside g.F.Files c.run_opened.new.files g.O.Sink c.run_opened.new.out) c.in-Ok.bytes.items c.in-Ok.ensures.opened
-    (judging g.J.Judge c.args.bench.now) (judging g.J.Judge c.run_opened.new.bench) c.run_opened.result c.run_opened.ensures.runs
-
-pub returns-in-Err-clause-runs : goal.returns-in-Err-clause-runs
-returns-in-Err-clause-runs g c =
-    let t = task_for g.P.Passes g.L.Law g.Q.Question c.args.task.now (says_of g.J.Judge c.args.bench.now) in
-    runs_unopened t (by_standing t) (stored (files_told (g.F.Outside.story c.args.files.now)) c.args.task.now.name.now)
-    (outside g.F.Outside g.F.Files c.args.files.now g.O.Sink c.args.out.now) (outside g.F.Outside g.F.Files c.open.new.files g.O.Sink c.open.new.out)
-    (judging g.J.Judge c.args.bench.now) c.in-Err.status c.in-Err.ensures.unopened
+pub returns-clause-runs : goal.returns-clause-runs
+returns-clause-runs g c =
+    let question = c.in-Ok.question in
+    let old = outside g.F.Outside g.F.Files c.args.files.now g.O.Sink c.args.out.now in
+    let new = outside g.F.Outside g.F.Files c.run_bound.new.files g.O.Sink c.run_bound.new.out in
+    let key = subst (λ bytes. g.A.Asking.bound_key question.bound ≡ g.A.Asking.key c.args.task.now.asking.now bytes) c.deref.ensures.value c.in-Ok.ensures.key in
+    subst (λ t. RunsStanding t (given c.args.bytes.items) old new (judging g.J.Judge c.args.bench.now) (judging g.J.Judge c.run_bound.new.bench) c.run_bound.result)
+    (bound_task g.P.Passes g.L.Law g.A.Asking c.args.task.now question.bound (says_of g.J.Judge c.args.bench.now) c.args.bytes.items c.in-Ok.ensures.asks key) c.run_bound.ensures.runs

@@ -9,7 +9,7 @@ use Rattle.cr_main_task.specs.Run.HasAsked.{asked_file}
 use Rattle.cr_main_task.specs.Beginning.StopsEarly.{refused, wanting}
 use Rattle.cr_main_task.specs.Task.{task_for}
 use Rattle.cr_main_task.specs.declared.messages.Refusal.TheVariants as refusal
-use Rattle.cr_main_task.proofs.Asking.{is_answered, is_asked}
+use Rattle.cr_main_task.proofs.Answering.{is_answered, is_asked}
 use Rattle.cr_main_task.proofs.Begun.{begun_by, stopped_by}
 use Rattle.cr_main_task.proofs.beginning.begin.Goals as goal
 
@@ -18,7 +18,7 @@ copy-requires g c = c.requires.law.tokenizes c.args.bytes.now.items c.requires.l
 
 pub returns-in-Yes-clause-begun : goal.returns-in-Yes-clause-begun
 returns-in-Yes-clause-begun g c =
-    let t = task_for g.P.Passes g.L.Law g.Q.Question c.args.task.now (says_of g.J.Judge c.args.bench.now) in
+    let t = task_for g.P.Passes g.L.Law g.Q.Question c.args.task.now c.args.question.now (says_of g.J.Judge c.args.bench.now) in
     let old = c.args.bench.now.judges in
     let new = c.ask_first.new.self.judges in
     let before = judging g.J.Judge c.args.bench.now in
@@ -33,7 +33,7 @@ returns-in-Yes-clause-begun g c =
 
 pub returns-in-Yes-clause-stopped : goal.returns-in-Yes-clause-stopped
 returns-in-Yes-clause-stopped g c =
-    let t = task_for g.P.Passes g.L.Law g.Q.Question c.args.task.now (says_of g.J.Judge c.args.bench.now) in
+    let t = task_for g.P.Passes g.L.Law g.Q.Question c.args.task.now c.args.question.now (says_of g.J.Judge c.args.bench.now) in
     let old = c.args.bench.now.judges in
     let new = c.ask_first.new.self.judges in
     let before = judging g.J.Judge c.args.bench.now in
@@ -48,7 +48,7 @@ returns-in-Yes-clause-stopped g c =
 
 pub returns-in-No-clause-stopped : goal.returns-in-No-clause-stopped
 returns-in-No-clause-stopped g c =
-    let t = task_for g.P.Passes g.L.Law g.Q.Question c.args.task.now (says_of g.J.Judge c.args.bench.now) in
+    let t = task_for g.P.Passes g.L.Law g.Q.Question c.args.task.now c.args.question.now (says_of g.J.Judge c.args.bench.now) in
     let old = c.args.bench.now.judges in
     let new = c.ask_first.new.self.judges in
     let before = judging g.J.Judge c.args.bench.now in
@@ -63,7 +63,7 @@ returns-in-No-clause-stopped g c =
 
 pub returns-in-Failed-clause-stopped : goal.returns-in-Failed-clause-stopped
 returns-in-Failed-clause-stopped g c =
-    let t = task_for g.P.Passes g.L.Law g.Q.Question c.args.task.now (says_of g.J.Judge c.args.bench.now) in
+    let t = task_for g.P.Passes g.L.Law g.Q.Question c.args.task.now c.args.question.now (says_of g.J.Judge c.args.bench.now) in
     let old = c.args.bench.now.judges in
     let new = c.ask_first.new.self.judges in
     let before = judging g.J.Judge c.args.bench.now in
@@ -78,7 +78,7 @@ returns-in-Failed-clause-stopped g c =
 
 pub returns-in-NoMemory-clause-stopped : goal.returns-in-NoMemory-clause-stopped
 returns-in-NoMemory-clause-stopped g c =
-    let t = task_for g.P.Passes g.L.Law g.Q.Question c.args.task.now (says_of g.J.Judge c.args.bench.now) in
+    let t = task_for g.P.Passes g.L.Law g.Q.Question c.args.task.now c.args.question.now (says_of g.J.Judge c.args.bench.now) in
     let old = c.args.bench.now.judges in
     let new = c.ask_first.new.self.judges in
     let before = judging g.J.Judge c.args.bench.now in
