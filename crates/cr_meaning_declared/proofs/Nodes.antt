@@ -1,5 +1,5 @@
 -- The nodes of a file's typed unit are those of a unit of the grammar.
-use Rattle.std.proofs.Common.{ℕ, List, length, sym, subst}
+use Rattle.std.proofs.Common.{◌≡◌, ℕ, List, length, refl, sym, subst}
 use Rattle.cr_tokens.specs.declared.token.Token.{Token}
 use Rattle.cr_syntax.specs.declared.node.Node.{Node}
 use Rattle.cr_syntax.specs.Kept.{AreWithin, PartsAreBelow, NamedOnce, ItemsAreNodes, row_in}
@@ -28,3 +28,8 @@ of_unit file t it = record {
 
     both : (F : List Node → List ℕ → Type 0) → F it.unit.nodes it.unit.items → F t.nodes t.items
     both F h = subst (F t.nodes) (sym made.items_are) (subst (λ ns. F ns it.unit.items) (sym made.nodes_are) h)
+
+-- their tokens are those of the file
+pub unit_tokens : (file : List ℕ) (t : Typed) (it : IsUnitOfFile file t) → (of_unit file t it).tokens ≡ lexemes_of file it.unit.tokens.list.items
+unfolding of_unit
+unit_tokens file t it = refl

@@ -19,7 +19,7 @@ use Rattle.cr_typed.specs.declared.typed.Typed.{Typed}
 use Rattle.cr_typed_unit.specs.Typed.{IsTypedBy}
 use Rattle.cr_meaning_operations.specs.Operations.{kind_if, kind_at}
 use Rattle.cr_meaning_typed.specs.Laws.{HoldsAll}
-use Rattle.cr_meaning_typed.specs.Typing.{is_expression, IsClear, IsRead}
+use Rattle.cr_meaning_typed.specs.Typing.{has_value, is_expression, IsClear, IsRead}
 use Rattle.cr_meaning_typed.proofs.Worth.{unbroken}
 use Rattle.cr_meaning_judged.specs.Judged.{source_of}
 use Rattle.cr_meaning_declared.specs.Files.{IsUnitOfFile}
@@ -55,13 +55,15 @@ module _ (file : List ℕ) (t : Typed) (it : IsUnitOfFile file t) where
         among = subst (λ o. IsNodeBreak made_by.tree checked.texts checked.table (cut i checked.whole.typing) (entry_at checked.whole.typing i) i o b) (sym (here i n at)) (inl among);
       }))
 
-  pub call_names : AreRead file t it → (i : ℕ) (n : Node) → slice_get t.nodes i ≡ Some n → n.kind ≡ kind.Call → (s : Signature) × ((source_of made_by.tree checked i).stands i ≡ a_function s)
+  pub call_names : AreRead file t it → (i : ℕ) (n : Node) → slice_get t.nodes i ≡ Some n → n.kind ≡ kind.Call
+      → (s : Signature) × (((source_of made_by.tree checked i).stands i ≡ a_function s) × (has_value s.gives ≡ true))
   call_names reads i n at is =
       let source = source_of made_by.tree checked i in
       let before = facts_at checked.table (cut i checked.whole.typing).facts in
       let own = seen_at checked.table (entry_at checked.whole.typing i).fact in
-      function_alone (source.stands i) _ source.nodes n.first n.parts (subst (λ k. HoldsAll (faults_in (form_of k) own before source i n)) is (holds i n at))
-      (subst (λ k. IsRead (form_of k) before source i n) is (reads i n (here i n at) (ap (λ k. is_expression (form_of k)) is)))
+      let clear = subst (λ k. IsRead (form_of k) before source i n) is (reads i n (here i n at) (ap (λ k. is_expression (form_of k)) is)) in
+      let named = function_alone (source.stands i) _ source.nodes n.first n.parts (subst (λ k. HoldsAll (faults_in (form_of k) own before source i n)) is (holds i n at)) clear in
+      (named.0, (named.1, (subst IsClear named.1 clear).0))
 
   pub text_there : (i : ℕ) → kind_at t i ≡ kind.Text → 1 ≤ length (slice_index_or t.texts i [])
   text_there i is = by (slice_get t.nodes i) refl

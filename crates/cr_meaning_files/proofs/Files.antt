@@ -1,42 +1,56 @@
 -- What the grammar and the check give of a file's unit isn't premised.
-use Rattle.std.proofs.Common.{◌≡◌, ℕ, ℤ, Bool, true, Option, None, Some, List, inl, refl, sym, ap, subst, ◌∙◌, slice_get, slice_index_or}
+use Rattle.std.proofs.Common.{◌≡◌, ℕ, ℤ, ◌<◌, ◌^◌, Bool, true, false, Option, None, Some, List, inl, refl, sym, ap, subst, ◌∙◌, slice_get, slice_index_or, arith, if◌then◌else◌}
 use Rattle.std.proofs.lemmas.Bool.{false≢true}
 use Rattle.cr_ints.specs.declared.kind.IntKind.TheVariants.{Int as IntegerKind}
 use Rattle.cr_ints.specs.IntKind.{Represents}
 use Rattle.cr_syntax.specs.declared.node.Kind.{Kind}
 use Rattle.cr_syntax.specs.declared.node.Kind.TheVariants as kind
 use Rattle.cr_syntax.specs.declared.node.Node.{Node}
+use Rattle.cr_check_types.specs.declared.layout.Layout.{Layout}
 use Rattle.cr_check_types.specs.Types.{Qualified, type_at}
+use Rattle.cr_check_types.specs.Relations.{is_complete_at}
+use Rattle.cr_check_types.specs.Layouts.{layout_of}
 use Rattle.cr_check_constants.specs.declared.constant.Operand.{Operand}
 use Rattle.cr_check_constants.specs.Literals.{integer_of, character_of}
+use Rattle.cr_check_constants.specs.Operators.{size_of}
 use Rattle.cr_check_operands.specs.Values.{Seen, number as a_number}
+use Rattle.cr_check_operands.specs.Rules.{size_value, with_qualifiers_of}
+use Rattle.cr_check_operands.specs.Places.{member_of}
 use Rattle.cr_check_expressions.specs.declared.known.Declared.{Declared}
 use Rattle.cr_check_expressions.specs.declared.known.Declared.TheVariants.{Object, Enumerator, Function, TypeName, Unclear}
 use Rattle.cr_check_expressions.specs.Known.{an_enumerator, meaning_by}
 use Rattle.cr_check_expressions.specs.Forms.{form_of}
-use Rattle.cr_check_expressions.specs.Ruled.{given, literal, is_type, ruled}
+use Rattle.cr_check_expressions.specs.Ruled.{given, literal, is_type, complete, operand, sized, ruled}
 use Rattle.cr_check_ranges.specs.Laws.{IsInRange}
-use Rattle.cr_check_ranges.proofs.Ranges.{integers, characters}
+use Rattle.cr_check_ranges.proofs.Ranges.{integers, characters, sizes}
 use Rattle.cr_check.specs.declared.checked.Checked.{Checked}
 use Rattle.cr_typed.specs.declared.typed.Typed.{Typed}
 use Rattle.cr_typed_unit.specs.Typed.{IsTypedBy}
+use Rattle.cr_meaning.specs.World.{Program}
+use Rattle.cr_meaning.specs.declared.op.Parameter.{Parameter}
+use Rattle.cr_meaning.specs.declared.op.Callee.TheVariants.{Function}
 use Rattle.cr_meaning.specs.declared.run.Limits.{Limits}
-use Rattle.cr_meaning_operations.specs.Shapes.{kind_in}
-use Rattle.cr_meaning_operations.specs.Operations.{kind_if, kind_at, parts_if, parts_at, program_of}
-use Rattle.cr_meaning_typed.specs.Typing.{has_value, is_expression}
+use Rattle.cr_meaning_soundness.specs.Sorts.{Sort}
+use Rattle.cr_meaning_operations.specs.Shapes.{type_of_node, named_type, kind_in}
+use Rattle.cr_meaning_operations.specs.Operations.{kind_if, kind_at, parts_if, parts_at, pointed, left_type, entity_of, function_in, callee_of, op_of, program_of}
+use Rattle.cr_meaning_typed.specs.Typing.{has_value, is_asked, is_expression}
 use Rattle.cr_meaning_typed.specs.Whole as readable
 use Rattle.cr_meaning_typed.proofs.Units.{all_worth}
 use Rattle.cr_meaning_judged.specs.Judged.{seen_in, source_of, scene_of, IsJudged}
 use Rattle.cr_meaning_judged.proofs.Judged.{judged}
 use Rattle.cr_meaning_declared.specs.Files.{IsUnitOfFile}
-use Rattle.cr_meaning_sorts.specs.Founded.{is_known, IsFound, AreInRange, AreReached, AreCalls}
-use Rattle.cr_meaning_whole.specs.Statements.{BlocksRise, IsIn}
+use Rattle.cr_meaning_expressions.specs.Places.{HasCells, IsMemberIn}
+use Rattle.cr_meaning_sorts.specs.Table.{Judgement, sort_at, sorts_in}
+use Rattle.cr_meaning_sorts.specs.Founded.{is_known, is_followed, IsFound, AreInRange, AreReached, AreCalls}
+use Rattle.cr_meaning_whole.specs.Statements.{BlocksRise, IsIn, IsFounded}
 use Rattle.cr_meaning_whole.specs.Whole.{IsReady}
 use Rattle.cr_meaning_whole.proofs.Around.{rise}
+use Rattle.cr_meaning_whole.proofs.Statements.{nodes}
 use Rattle.cr_meaning_whole.proofs.Whole.{outcomes}
-use Rattle.cr_meaning_files.specs.Reached.{is_item, is_reached}
-use Rattle.cr_meaning_files.specs.Files.{judgement_of, is_sized, AreRead, IsLeftOpen, FilesHaveOutcomes}
-use Rattle.cr_meaning_files.specs.Laws.{IsTold, AreTold, AreClosed, AreWorth, EnumeratorsAreNumbers, MainsAreDefined}
+use Rattle.cr_meaning_files.specs.Reached.{is_item, is_definition, is_reached}
+use Rattle.cr_meaning_files.specs.Seen.{sees}
+use Rattle.cr_meaning_files.specs.Files.{judgement_of, AreRead, IsDefined, IsDeclaredSo, IsLeftOpen, FilesHaveOutcomes}
+use Rattle.cr_meaning_files.specs.Laws.{IsTold, AreTold, AreClosed, AreWorth, EnumeratorsAreNumbers, MainsAreDefined, LabelsStandAround, DeclaratorsSeeObjects}
 use Rattle.cr_meaning_files.proofs.Filling.{unit}
 use Rattle.cr_meaning_files.proofs.Laid.{read_operand, laid_out}
 use Rattle.cr_meaning_files.proofs.Living.{reached_lives}
@@ -45,8 +59,17 @@ use Rattle.cr_meaning_files.proofs.Functions.{function_there}
 use Rattle.cr_meaning_files.proofs.Standing.{statements}
 use Rattle.cr_meaning_files.proofs.Enumerators.{IsNumbered, numbered_by, named_number}
 use Rattle.cr_meaning_files.proofs.Calls.{call_names, text_there}
-use Rattle.cr_meaning_files.proofs.Members.{member_named}
+use Rattle.cr_meaning_files.proofs.Results.{function_gives, returned_given}
+use Rattle.cr_meaning_files.proofs.Followed.{followed_type}
+use Rattle.cr_meaning_files.proofs.Returns.{result}
+use Rattle.cr_meaning_files.proofs.Members.{chosen_type, member_chosen, pointed_chosen}
+use Rattle.cr_meaning_files.proofs.Made.{complete_whole, whole_object, member_in}
+use Rattle.cr_meaning_files.proofs.Apart.{among}
 use Rattle.cr_meaning_files.proofs.Mains.{initialisers_run, names_here, main_defined, body_kind, body_runs, body_exits}
+use Rattle.cr_meaning_files.proofs.Scoped.{IsScoped, AllReached, IsBodyOf, by_kind}
+use Rattle.cr_meaning_files.proofs.Sight.{declarators, initialised, literals, seen}
+use Rattle.cr_meaning_files.proofs.Callees.{body_of, called}
+use Rattle.cr_meaning_files.proofs.Labels.{gotos}
 
 -- a constant that is spelled has the operand of its spelling
 spelled : (o : Option Operand) (x : Operand) (own : Seen) → own ≡ given (literal o) → own ≡ given (a_number x) → ((y : Operand) → o ≡ Some y → IsInRange y) → IsInRange x
@@ -57,6 +80,22 @@ spelled (Some y) x own e f h v g =
     let values : x.constant ≡ y.constant = ap (λ (s : Seen). s.constant) both in
     subst (λ k. Represents k v) (sym kinds) (h y refl v (sym values ∙ g))
 
+-- what gives a size is a constant that is spelled, where the type is complete
+abbrev size_if : Bool → ℕ → Option Operand
+size_if complete bytes = if complete then Some (size_of bytes) else None
+
+sized_is : (complete : Bool) (bytes : ℕ) → size_value complete bytes ≡ literal (size_if complete bytes)
+sized_is true bytes = refl
+sized_is false bytes = refl
+
+size_is : (complete : Bool) (bytes : ℕ) (y : Operand) → size_if complete bytes ≡ Some y → bytes < 2 ^ 64 → IsInRange y
+size_is true bytes y e low = let same : size_of bytes ≡ y = cc e in subst IsInRange same (sizes bytes low)
+size_is false bytes y e low = absurd (cc e)
+
+-- a type's size counts as one that 64 bits hold
+size_fits : (layouts : List Layout) (type : Qualified) → (layout_of layouts type).size < 2 ^ 64
+size_fits layouts type = omega arith
+
 -- an enumerator is that of its declaration
 enumerator_is : (look : ℕ → Qualified) (rows : List ℕ) (d : Declared) (v : ℤ) → IsNumbered d → meaning_by look rows d ≡ an_enumerator v → Represents IntegerKind v
 enumerator_is look rows (Object row register) v h e = absurd (cc e)
@@ -64,6 +103,22 @@ enumerator_is look rows (Enumerator w) v h e = let same : w ≡ v = cc e in subs
 enumerator_is look rows (Function row more) v h e = absurd (cc e)
 enumerator_is look rows TypeName v h e = absurd (cc e)
 enumerator_is look rows Unclear v h e = absurd (cc e)
+
+followed_expression : (k : Kind) → is_followed k ≡ true → is_expression (form_of k) ≡ true
+followed_expression kind.Dereference h = refl
+followed_expression kind.Subscript h = refl
+followed_expression k h = absurd (false≢true h)
+
+only_definition : (k : Kind) → is_definition k ≡ true → k ≡ kind.FunctionDefinition
+only_definition kind.FunctionDefinition h = refl
+only_definition k h = absurd (false≢true h)
+
+definition_there : (t : Typed) (d : ℕ) → is_definition (kind_at t d) ≡ true → (n : Node) × ((slice_get t.nodes d ≡ Some n) × (n.kind ≡ kind.FunctionDefinition))
+definition_there t d h = by (slice_get t.nodes d) refl
+  where
+    by : (o : Option Node) → slice_get t.nodes d ≡ o → (n : Node) × ((slice_get t.nodes d ≡ Some n) × (n.kind ≡ kind.FunctionDefinition))
+    by None at = absurd (false≢true (ap (λ o. is_definition (kind_if o)) (sym at) ∙ h))
+    by (Some n) at = (n, (at, only_definition n.kind (ap (λ o. is_definition (kind_if o)) (sym at) ∙ h)))
 
 module _ (file : List ℕ) (t : Typed) (it : IsUnitOfFile file t) where
   abbrev checked : Checked
@@ -111,7 +166,13 @@ module _ (file : List ℕ) (t : Typed) (it : IsUnitOfFile file t) where
       enumerator_is (type_at checked.table) _ _ v
       (numbered_by made_by.tree checked.texts checked.table checked.whole.typing made_by.is.whole.typing i (slice_index_or made_by.tree.visible.now node None)) e
 
-  module _ (limits : Limits) (sees : ℕ → ℕ → Bool) (left : IsLeftOpen file t it limits sees) where
+  module _ (limits : Limits) (left : IsLeftOpen file t it limits) (few : limits.output < 2 ^ 31) where
+    abbrev j : Judgement
+    j = judgement_of file t it
+
+    abbrev p : Program
+    p = program_of t limits
+
     ranged : AreInRange t (judgement_of file t it)
     ranged i x v r known e f = of_kind (kind_at t i) refl known
       where
@@ -120,6 +181,13 @@ module _ (file : List ℕ) (t : Typed) (it : IsUnitOfFile file t) where
 
         rule : (k : Kind) → kind_at t i ≡ k → seen_in checked i ≡ ruled (form_of k) (seen_in checked) (source_of made_by.tree checked i) i there.0
         rule k same = is.ruled i there.0 there.1 ∙ ap (λ k. ruled (form_of k) (seen_in checked) (source_of made_by.tree checked i) i there.0) (sym (ap kind_if there.1) ∙ same)
+
+        of_size : (type : Qualified) → seen_in checked i ≡ given (sized (source_of made_by.tree checked i) i type) → Represents x.kind v
+        of_size type own =
+            let source = source_of made_by.tree checked i in
+            let bytes = (layout_of source.layouts type).size in
+            let known = complete source i type in
+            spelled (size_if known bytes) x (seen_in checked i) (own ∙ ap given (sized_is known bytes)) e (λ y q. size_is known bytes y q (size_fits source.layouts type)) v f
 
         of_kind : (k : Kind) → kind_at t i ≡ k → is_known k ≡ true → Represents x.kind v
         of_kind kind.Integer same h =
@@ -130,62 +198,107 @@ module _ (file : List ℕ) (t : Typed) (it : IsUnitOfFile file t) where
             named_number (type_at checked.table) _ _ x v
             (numbered_by made_by.tree checked.texts checked.table checked.whole.typing made_by.is.whole.typing i (slice_index_or made_by.tree.visible.now i None))
             (sym (rule kind.Identifier same) ∙ e) f
-        of_kind kind.SizeofExpression same h = left.ranged i x v r (ap is_sized same) e f
-        of_kind kind.SizeofType same h = left.ranged i x v r (ap is_sized same) e f
+        of_kind kind.SizeofExpression same h = of_size (operand (seen_in checked) there.0.parts 0).type (rule kind.SizeofExpression same)
+        of_kind kind.SizeofType same h = of_size ((source_of made_by.tree checked i).named (slice_get there.0.parts 0)) (rule kind.SizeofType same)
         of_kind k same h = absurd (false≢true h)
 
     calls : AreCalls (program_of t limits) t (judgement_of file t it)
     calls i r e =
         let n = closed.there i r in
         let named = call_names file t it left.reads i n.0 n.1 (sym (ap kind_if n.1) ∙ e) in
-        let called = left.called i named.0 r e named.1 in
-        record { signature = named.0; stands = named.1; gives = called.0; called = called.1 }
+        let returned = function_gives made_by.tree checked.texts checked.table checked.whole.typing made_by.is.whole.typing (λ b broken. made_by.sound.constraints b (inl broken)) i (slice_index_or made_by.tree.visible.now i None) _ named.0 named.1.0 in
+        record { signature = named.0; stands = named.1.0; gives = returned_given named.0.gives returned named.1.1; called = called file t it i (program_of t limits) named.0 left.mains.gives (callee_of t i) refl (left.called i named.0 r e named.1.0) }
 
     members : (i a : ℕ) → is_reached t i ≡ true → kind_at t i ≡ kind.Member → slice_get (parts_at t i) 0 ≡ Some a → IsFound t limits (judgement_of file t it) i a
     members i a r e first =
         let n = closed.there i r in
-        let member = left.in_place.members i a r e first in
+        let own = member_chosen file t it i a n.0 n.1 (sym (ap kind_if n.1) ∙ e) (ap (λ o. slice_get (parts_if o) 0) (sym n.1) ∙ first) (worth left.reads i (ap (λ k. is_expression (form_of k)) e)) in
+        let named : type_of_node t i ≡ with_qualifiers_of (type_of_node t a) own.0 = is.columns.types i ∙ ap (λ (s : Seen). s.type) own.1.1 ∙ ap (λ whole. with_qualifiers_of whole own.0) (sym (is.columns.types a)) in
         record {
-          is = member_named file t it i a n.0 n.1 (sym (ap kind_if n.1) ∙ e) (ap (λ o. slice_get (parts_if o) 0) (sym n.1) ∙ first) (worth left.reads i (ap (λ k. is_expression (form_of k)) e));
-          within = member.within;
-          structure = member.structure;
+          is = own.1.1 ∙ ap (λ type. member_of (Some type) (seen_in checked a)) (sym (chosen_type it.unit.nodes t i (type_of_node t a) own.0 own.1.0));
+          within = member_in file t it left.members i (type_of_node t a) own.0 own.1.0 named;
+          structure = λ value. among file t it left.members limits i (slice_index_or t.types a 0) own.0 own.1.0;
         }
+
+    pointed_members : (i : ℕ) → is_reached t i ≡ true → kind_at t i ≡ kind.PointerMember → IsMemberIn t i (pointed (left_type t i))
+    pointed_members i r e =
+        let n = closed.there i r in
+        let part = (told.expressions left.reads).operands i 0 (ap (λ k. is_asked (form_of k) 0) e) in
+        let own = pointed_chosen file t it i part.0 n.0 n.1 (sym (ap kind_if n.1) ∙ e) (ap (λ o. slice_get (parts_if o) 0) (sym n.1) ∙ part.1.is) (worth left.reads i (ap (λ k. is_expression (form_of k)) e)) in
+        member_in file t it left.members i (pointed (left_type t i)) own.0 own.1.0 (is.columns.types i ∙ own.1.1)
 
     returns : (i : ℕ) → is_reached t i ≡ true → kind_at t i ≡ kind.Return → IsIn (judgement_of file t it) i
     returns i r e =
         let function = function_there file t it i (reached_lives t (unit file t it) i r) (ap is_item e) in
-        record { definition = function.0; is = function.1; result = left.stated.returns i function.0 r e function.1 }
+        let n = definition_there t function.0 function.1.1 in
+        record { definition = function.0; is = function.1.0; result = result file t it function.0 n.0 n.1.0 n.1.1 (left.stated.returns i function.0 r e function.1.0) }
 
-    ready : IsReady t limits (judgement_of file t it) (scene_of made_by.tree checked) sees
-    ready = record {
-      founded = record {
-        expressions = record {
-          judged = record { columns = is.columns; ruled = is.ruled; worth = worth left.reads; casts = is.casts; texts = is.texts };
-          laid = told.expressions left.reads;
-          reached = closed;
-          named = record { objects = left.visible.objects; literals = λ i r is. (text_there file t it i is, left.visible.literals i r is) };
-          placed = record { cells = left.in_place.cells; members = members; pointed_members = left.in_place.pointed_members };
-          ranged = ranged;
-          calls = calls;
-        };
-        laid = told.statements;
-        blocks = blocks;
-        allowed = record {
-          at = is.sees;
-          nodes = is.nodes;
-          around = is.stands;
-          gives = λ function. refl;
-          allowed = is.allowed;
-          returns = λ i n at same. sym (is.returns i n at same);
-        };
-        declared = record {
-          returns = returns;
-          gotos = left.stated.gotos;
-          declarators = left.stated.declarators;
-          names = names_here t;
-          initialised = left.stated.initialised;
-        };
+    -- what a pointer to an object of a complete type is followed to
+    cells : (i : ℕ) → is_reached t i ≡ true → is_followed (kind_at t i) ≡ true → HasCells t i
+    cells i r h =
+        let n = closed.there i r in
+        let source = source_of made_by.tree checked i in
+        let expression = followed_expression (kind_at t i) h in
+        let rule = is.ruled i n.0 n.1 ∙ ap (λ k. ruled (form_of k) (seen_in checked) source i n.0) (sym (ap kind_if n.1)) in
+        let whole = followed_type (kind_at t i) (seen_in checked) source i n.0 h rule (worth left.reads i expression) in
+        let complete : is_complete_at t.nodes i (type_of_node t i) ≡ true = (λ k. is_complete_at (sym nodes_are k) i (is.columns.types i k)) ∙ whole in
+        whole_object file t it left.members (type_of_node t i) (complete_whole t i (type_of_node t i) complete) (made_by.fits.cells_fit (slice_index_or t.types i 0))
+
+    founded : IsFounded t limits j (scene_of made_by.tree checked) (sees t)
+    founded = record {
+      expressions = record {
+        judged = record { columns = is.columns; ruled = is.ruled; worth = worth left.reads; casts = is.casts; texts = is.texts };
+        laid = told.expressions left.reads;
+        reached = closed;
+        named = record { objects = left.visible; literals = λ i r is. (text_there file t it i is, literals file t it i is) };
+        placed = record { cells = cells; members = members; pointed_members = pointed_members };
+        ranged = ranged;
+        calls = calls;
       };
+      laid = told.statements;
+      blocks = blocks;
+      allowed = record {
+        at = is.sees;
+        nodes = is.nodes;
+        around = is.stands;
+        gives = λ function. refl;
+        allowed = is.allowed;
+        returns = λ i n at same. sym (is.returns i n at same);
+      };
+      declared = record {
+        returns = returns;
+        gotos = λ i r e. let n = closed.there i r in gotos file t it i n.0 n.1 e;
+        declarators = declarators file t it;
+        names = names_here t;
+        initialised = λ i r e. left.stated.initialised i r e (initialised file t it i r e (left.stated.statics i));
+      };
+    }
+
+    -- ---- which node sees which object
+
+    runs_if : (i : ℕ) (own : Sort) → sorts_in p t j i ≡ Some own → is_reached t i ≡ true
+    runs_if i own e = by (is_reached t i) refl e
+      where
+        by : (b : Bool) → is_reached t i ≡ b → (if b then Some (sort_at p t j i) else None) ≡ Some own → is_reached t i ≡ true
+        by true r f = r
+        by false r f = absurd (cc f)
+
+    parts_run : (i : ℕ) → is_reached t i ≡ true → AllReached file t it (op_of t i)
+    parts_run i r k part e = let has = (nodes t limits j (scene_of made_by.tree checked) (sees t) founded few i r).typed.parts k part e in runs_if part has.0 has.1
+
+    goes_on : (i : ℕ) → is_reached t i ≡ true → kind_at t i ≡ kind.Call → (parameters : List Parameter) (rest : ℕ) (is_main : Bool) → callee_of t i ≡ Function parameters rest is_main → IsBodyOf t (unit file t it) parameters rest
+    goes_on i r e parameters rest is_main same =
+        let n = closed.there i r in
+        let named = call_names file t it left.reads i n.0 n.1 (sym (ap kind_if n.1) ∙ e) in
+        let defined : IsDefined p t j named.0 (function_in (named_type t (entity_of t i))) parameters = subst (IsDeclaredSo p t j named.0 i) same (left.called i named.0 r e named.1.0) in
+        body_of file t it i parameters rest is_main same defined.defines
+
+    scoped : (i : ℕ) → is_reached t i ≡ true → IsScoped file t it i (op_of t i)
+    scoped i r = let n = closed.there i r in by_kind file t it goes_on i n.0 n.1 (kind_at t i) refl (parts_run i r) r
+
+    ready : IsReady t limits j (scene_of made_by.tree checked) (sees t)
+    ready = record {
+      founded = founded;
       started = record {
         parameters = left.mains.parameters;
         body_runs = body_runs file t it;
@@ -193,7 +306,7 @@ module _ (file : List ℕ) (t : Typed) (it : IsUnitOfFile file t) where
         body_exits = body_exits file t it left.mains.gives;
         initialisers_run = initialisers_run file t it;
       };
-      seen = left.seen;
+      seen = seen file t it limits scoped;
     }
 
 pub tells : AreTold
@@ -211,6 +324,12 @@ numbers file t it i node v e = enumerators file t it i node v e
 pub defined : MainsAreDefined
 defined file t it = record { defines = main_defined file t it; block = body_kind file t it; reached = body_runs file t it }
 
+pub labelled : LabelsStandAround
+labelled file t it i r e = let n = (closed file t it).there i r in gotos file t it i n.0 n.1 e
+
+pub see : DeclaratorsSeeObjects
+see file t it i r h = declarators file t it i r h
+
 pub files : FilesHaveOutcomes
-files file t it limits sees left cells few reply run =
-    outcomes t limits (judgement_of file t it) (scene_of it.checked.by.tree it.checked.checked) sees (ready file t it limits sees left) cells few reply run
+files file t it limits left cells few reply run =
+    outcomes t limits (judgement_of file t it) (scene_of it.checked.by.tree it.checked.checked) (sees t) (ready file t it limits left few) cells few reply run

@@ -1,5 +1,5 @@
 -- A statement that a run reaches stands in a function (C11 6.9.1).
-use Rattle.std.proofs.Common.{◌≡◌, ℕ, zero, suc, ◌⊎◌, inl, inr, Bool, true, false, ◌&&◌, ◌||◌, List, Option, None, Some, length, refl, sym, ap, ◌∙◌, slice_get, slice_index_or}
+use Rattle.std.proofs.Common.{◌≡◌, ℕ, zero, suc, inl, inr, Bool, true, false, ◌&&◌, ◌||◌, List, Option, None, Some, length, refl, sym, ap, ◌∙◌, slice_get, slice_index_or}
 use Rattle.std.proofs.lemmas.Bool.{and_parts, false≢true}
 use Rattle.cr_syntax.specs.declared.node.Kind.{Kind}
 use Rattle.cr_syntax.specs.declared.node.Kind.TheVariants as kind
@@ -16,6 +16,7 @@ use Rattle.cr_meaning_declared.specs.Files.{IsUnitOfFile}
 use Rattle.cr_meaning_files.specs.Reached.{is_item, is_declaring, is_list, is_listing, is_definition, is_block, is_going, goes_on, lives_below, lives_by, lives}
 use Rattle.cr_meaning_files.proofs.Tables.{item_is, item_apart, item_lists_nothing, case_item}
 use Rattle.cr_meaning_files.proofs.Tree.{has_part}
+use Rattle.cr_meaning_files.proofs.Living.{one_of}
 use Rattle.cr_meaning_files.proofs.Filling.{unit}
 use Rattle.cr_meaning_files.proofs.Laid.{around_at}
 
@@ -30,11 +31,6 @@ begins_function : (k : Kind) (i : ℕ) (a : Around) → is_definition k ≡ true
 unfolding inside
 begins_function kind.FunctionDefinition i a h = refl
 begins_function k i a h = absurd (false≢true h)
-
--- one of two that holds
-one_of : (a b : Bool) → (a || b) ≡ true → (a ≡ true) ⊎ (b ≡ true)
-one_of true b h = inl refl
-one_of false b h = inr h
 
 against : (b : Bool) → b ≡ false → b ≡ true → ⊥
 against b e f = false≢true (sym e ∙ f)
@@ -71,7 +67,7 @@ module _ (file : List ℕ) (t : Typed) (it : IsUnitOfFile file t) where
   around i = slice_index_or it.checked.checked.surroundings.around i outermost
 
   abbrev HasFunction : ℕ → Type 0
-  HasFunction i = (definition : ℕ) × ((around i).function ≡ Some definition)
+  HasFunction i = (definition : ℕ) × (((around i).function ≡ Some definition) × (is_definition (kind_at t definition) ≡ true))
 
   -- what a node has from the one above it
   from_above : (i p : ℕ) → IsPartOf t u i p → around i ≡ inside (kind_at t p) p (around p)
@@ -90,12 +86,12 @@ module _ (file : List ℕ) (t : Typed) (it : IsUnitOfFile file t) where
       by (Some p) e h outside =
           let part = above_some t u (length t.nodes) i p e in
           elim (one_of (is_definition (kind_at t p) && is_block (kind_at t i)) _ h) [
-            | inl x ↦ (p, ap (λ (a : Around). a.function) (from_above i p part) ∙ begins_function (kind_at t p) p (around p) (and_parts (is_definition (kind_at t p)) _ x).0)
+            | inl x ↦ (let defines = (and_parts (is_definition (kind_at t p)) _ x).0 in (p, (ap (λ (a : Around). a.function) (from_above i p part) ∙ begins_function (kind_at t p) p (around p) defines, defines)))
             | inr x ↦
                 (let both = and_parts (goes_on t i (kind_at t p) (kind_at t i)) (lives_by m t p) x in
                 let outer = from_item t i (kind_at t p) (kind_at t i) item both.0 in
                 let rest = outside p both.1 outer in
-                (rest.0, ap (λ (a : Around). a.function) (from_above i p part) ∙ hands_on (kind_at t p) p (around p) outer ∙ rest.1))
+                (rest.0, (ap (λ (a : Around). a.function) (from_above i p part) ∙ hands_on (kind_at t p) p (around p) outer ∙ rest.1.0, rest.1.1)))
           ]
 
   pub function_there : (i : ℕ) → lives t i ≡ true → is_item (kind_at t i) ≡ true → HasFunction i

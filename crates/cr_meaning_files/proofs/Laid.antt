@@ -43,7 +43,7 @@ module _ (file : List ℕ) (t : Typed) (it : IsUnitOfFile file t) where
   is = judged file it.unit it.names checked t made_by
 
   -- the node above a part, by its column
-  above_at : (a i : ℕ) → IsPartOf t (unit file t it) a i → a < i → slice_index_or checked.surroundings.above a None ≡ Some i
+  pub above_at : (a i : ℕ) → IsPartOf t (unit file t it) a i → a < i → slice_index_or checked.surroundings.above a None ≡ Some i
   above_at a i h low = is.above_are.each a (let within = slice_get_within t.nodes i h.parent h.at in omega (arith, low, within)) ∙ above_is t (unit file t it) a i h
 
   -- ---- what a part has from above

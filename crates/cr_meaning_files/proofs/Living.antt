@@ -1,5 +1,5 @@
 -- What a run may reach goes on from a node to its parts.
-use Rattle.std.proofs.Common.{◌≡◌, ℕ, zero, suc, ◌+◌, ◌<◌, ◌≤◌, Bool, true, false, ◌&&◌, ◌||◌, not, Option, None, Some, length, slice_get, refl, sym, ap, ◌∙◌, arith}
+use Rattle.std.proofs.Common.{◌≡◌, ℕ, zero, suc, ◌+◌, ◌<◌, ◌≤◌, ◌⊎◌, inl, inr, Bool, true, false, ◌&&◌, ◌||◌, not, Option, None, Some, length, slice_get, refl, sym, ap, ◌∙◌, arith}
 use Rattle.std.proofs.lemmas.Bool.{and_parts, and_from, false≢true, or_left, or_right}
 use Rattle.std.proofs.lemmas.Option.{slice_get_within}
 use Rattle.cr_syntax.specs.declared.node.Kind.{Kind}
@@ -16,16 +16,21 @@ use Rattle.cr_meaning_names.proofs.Parents.{IsPartOf, above_is, above_some, part
 use Rattle.cr_meaning_sorts.specs.Founded.{is_followed}
 use Rattle.cr_meaning_files.specs.Reached.{is_item, is_declaring, is_list, is_listing, is_definition, is_block, is_address, is_going, goes_on, lives_below, lives_by, lives, is_below_address, is_passed, is_run_kind, is_reached}
 
+-- one of two that holds
+pub one_of : (a b : Bool) → (a || b) ≡ true → (a ≡ true) ⊎ (b ≡ true)
+one_of true b h = inl refl
+one_of false b h = inr h
+
 false_or : (a b : Bool) → a ≡ false → (a || b) ≡ b
 false_or true b e = absurd (false≢true (sym e))
 false_or false b e = refl
 
 module _ (t : Typed) (unit : AreOfUnit t) where
-  abbrev above : ℕ → Option ℕ
+  abbrev pub above : ℕ → Option ℕ
   above a = above_of t.nodes (length t.nodes) a
 
   -- a node stands below the one above it
-  above_low : (a i : ℕ) → above a ≡ Some i → (a < i) × (i < length t.nodes)
+  pub above_low : (a i : ℕ) → above a ≡ Some i → (a < i) × (i < length t.nodes)
   above_low a i e = let h = above_some t unit (length t.nodes) a i e in (part_below t unit a i h, slice_get_within t.nodes i h.parent h.at)
 
   below_same : (f g : ℕ → Bool) (a : ℕ) (o : Option ℕ) → ((i : ℕ) → o ≡ Some i → f i ≡ g i) → lives_below t f a o ≡ lives_below t g a o

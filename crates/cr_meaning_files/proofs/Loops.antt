@@ -30,6 +30,11 @@ expression_declares_nothing : (k : Kind) → is_expression (form_of k) ≡ true 
 expression_declares_nothing kind.Declaration h = absurd (false≢true h)
 expression_declares_nothing k h = refl
 
+statement_declares_nothing : (k : Kind) → stands_for part.Statement k ≡ true → is_declaration k ≡ false
+unfolding rule_of
+statement_declares_nothing kind.Declaration h = absurd (false≢true h)
+statement_declares_nothing k h = refl
+
 -- the last number of a row
 last_is : (xs : List ℕ) (body : ℕ) → last_part (xs ++ body ∷ []) ≡ body
 last_is [] body = refl
@@ -126,6 +131,26 @@ module _ (t : Typed) where
     kind_in (p ∷ qs) zero q h e = let same : p ≡ q = cc e in subst IsKind same h.0
     kind_in (p ∷ qs) (suc k) q h e = kind_in qs k q h.1 e
 
+    -- none of these is a declaration
+    abbrev DeclareNothing : List ℕ → Type 0
+    DeclareNothing [] = Unit {0}
+    DeclareNothing (q ∷ qs) = (is_declaration (kind_at t q) ≡ false) × DeclareNothing qs
+
+    clause_declares_nothing : (w : Word) (o : Option ℕ) (i j : ℕ) (qs : List ℕ) → IsClauseAt unit.tokens t.nodes w o i j → DeclareNothing qs → DeclareNothing (option_to_list o ++ qs)
+    clause_declares_nothing w None i j qs c h = h
+    clause_declares_nothing w (Some p) i j qs c h = (expression_declares_nothing (kind_at t p) (of_expression p c.0 c.1.0.at c.1.0.stands), h)
+
+    no_declaration : (qs : List ℕ) (k q : ℕ) → DeclareNothing qs → slice_get qs k ≡ Some q → is_declaration (kind_at t q) ≡ false
+    no_declaration [] k q h e = absurd (cc e)
+    no_declaration (p ∷ qs) zero q h e = let same : p ≡ q = cc e in subst (λ x. is_declaration (kind_at t x) ≡ false) same h.0
+    no_declaration (p ∷ qs) (suc k) q h e = no_declaration qs k q h.1 e
+
+    -- so a declaration is the first clause
+    declares_first : (o : Option ℕ) (qs : List ℕ) (k q : ℕ) → DeclareNothing qs → slice_get (option_to_list o ++ qs) k ≡ Some q → is_declaration (kind_at t q) ≡ true → o ≡ Some q
+    declares_first None qs k q h e d = absurd (false≢true (sym (no_declaration qs k q h e) ∙ d))
+    declares_first (Some p) qs zero q h e d = e
+    declares_first (Some p) qs (suc k) q h e d = absurd (false≢true (sym (no_declaration qs k q h e) ∙ d))
+
     -- ---- the first clause
 
     abbrev First : Option ℕ → ℕ → ℕ → Type 0
@@ -179,6 +204,7 @@ module _ (t : Typed) where
       pub kinds : (k a : ℕ) → slice_get (parts_at t i) k ≡ Some a → (is_expression (form_of (kind_at t a)) || is_item (kind_at t a)) ≡ true
       pub body_at : (k : ℕ) × (slice_get (parts_at t i) k ≡ Some (last_part (parts_at t i)))
       pub body : is_item (kind_at t (last_part (parts_at t i))) ≡ true
+      pub declares : (k a : ℕ) → slice_get (parts_at t i) k ≡ Some a → is_declaration (kind_at t a) ≡ true → part_from t (parts_at t i) (first_at t i + 2) ≡ Some a
 
     loop_at : (i : ℕ) (n : Node) → slice_get t.nodes i ≡ Some n → n.kind ≡ kind.For → IsLoop unit.tokens t.nodes n (clauses_of t.nodes n)
     loop_at i n at is =
@@ -208,13 +234,17 @@ module _ (t : Typed) where
         let last = last_there (parts_at t i) l.number (option_to_list c.first ++ (option_to_list c.test ++ option_to_list c.step)) (row ∙ in_front (option_to_list c.first) (option_to_list c.test) (option_to_list c.step) l.number) in
         let kinds = first_kinds c.first (n.first + 1 + 1) l.test_at _ l.first
         (clause_kinds word.Semicolon c.test l.test_at l.step_at _ l.test (clause_kinds word.RightParen c.step l.step_at l.body_at _ l.step (of_item l.number l.body l.is_body.at body_item, tt))) in
+        let plain = clause_declares_nothing word.Semicolon c.test l.test_at l.step_at _ l.test
+        (clause_declares_nothing word.RightParen c.step l.step_at l.body_at _ l.step (ap (λ o. is_declaration (kind_if o)) l.is_body.at ∙ statement_declares_nothing l.body.kind l.is_body.stands, tt)) in
+        let first_is = ap (part_from t (parts_at t i)) begins ∙ ap (λ ps. part_from t ps (n.first + 1 + 1)) row ∙ first_found c.first (n.first + 1 + 1) l.test_at _ l.first test.0 in
         record {
-          first = ap (part_from t (parts_at t i)) begins ∙ ap (λ ps. part_from t ps (n.first + 1 + 1)) row ∙ first_found c.first (n.first + 1 + 1) l.test_at _ l.first test.0;
+          first = first_is;
           test_from = l.test_at;
           test_is = ap (λ m. clause_end t m c.first + 1) begins ∙ first_end c.first (n.first + 1 + 1) l.test_at l.first;
           test = ap (λ ps. part_from t ps l.test_at) row ∙ first_passed c.first (n.first + 1 + 1) l.test_at _ l.first ∙ clause_found word.Semicolon c.test l.test_at l.step_at _ l.test step.0;
           expression = test_expression c.test l.test_at l.step_at l.test;
           kinds = λ k a e. kind_in _ k a kinds (ap (λ ps. slice_get ps k) (sym row) ∙ e);
           body_at = last.1;
+          declares = λ k a e d. first_is ∙ declares_first c.first _ k a plain (ap (λ ps. slice_get ps k) (sym row) ∙ e) d;
           body = ap (λ p. is_item (kind_at t p)) last.0 ∙ ap (λ o. is_item (kind_if o)) l.is_body.at ∙ body_item;
         }

@@ -50,12 +50,12 @@ only_definition (Some k) e = by k e
     by kind.FunctionDefinition e = refl
     by k e = absurd (false≢true e)
 
-body_only : (c : Kind) → Stands (part_in (side_of kind.FunctionDefinition) 2) c → c ≡ kind.Compound
+pub body_only : (c : Kind) → Stands (part_in (side_of kind.FunctionDefinition) 2) c → c ≡ kind.Compound
 unfolding rule_of
 body_only kind.Compound h = refl
 body_only c h = absurd (false≢true h)
 
-definition_counts : least (side_of kind.FunctionDefinition) ≡ 3
+pub definition_counts : least (side_of kind.FunctionDefinition) ≡ 3
 unfolding rule_of
 definition_counts = refl
 
@@ -147,21 +147,35 @@ module _ (file : List ℕ) (t : Typed) (it : IsUnitOfFile file t) where
       of_kind None e = absurd (cc e)
       of_kind (Some n) e = cc e
 
-  body : HasPart t u t.main 2 (part_at t t.main 2)
-  body = has_part t u t.main 2 (part_at t t.main 2) (needed t u t.main 2 kind.FunctionDefinition main_defined refl (let three = definition_counts in omega (arith, three)))
+  -- ---- the body of a definition
+
+  module _ (d : ℕ) (defines : kind_at t d ≡ kind.FunctionDefinition) where
+    abbrev own : ℕ
+    own = part_at t d 2
+
+    pub body_at : HasPart t u d 2 own
+    body_at = has_part t u d 2 own (needed t u d 2 kind.FunctionDefinition defines refl (let three = definition_counts in omega (arith, three)))
+
+    pub block_at : kind_at t own ≡ kind.Compound
+    block_at = body_only (kind_at t own) (subst (λ c. Stands (part_in (side_of c) 2) (kind_at t own)) defines body_at.stands)
+
+    pub reached_at : is_reached t own ≡ true
+    reached_at =
+        reach t u own (body_lives t u own d (as_part t u d 2 own body_at) (ap is_definition defines) (ap is_block block_at)) (ap is_run_kind block_at) (unfollowed t u own (ap is_followed block_at))
+
+    -- it gives what the function does
+    pub exits_of : exits_at t (judgement_of file t it) own ≡ of_function (result_of t (judgement_of file t it) (Some d))
+    exits_of =
+        let j = judgement_of file t it in
+        ap (λ k. if is_static_initialiser t own k then of_function (form.Number IntegerKind) else exits_in (labels_of t j) (result_of t j) (j.around own)) block_at
+        ∙ ap (exits_in (labels_of t j) (result_of t j)) (around_at file t it d 2 own body_at ∙ ap (λ k. inside k d (j.around d)) defines)
+        ∙ inside_function (labels_of t j) (result_of t j) d (j.around d) refl
 
   pub body_kind : kind_at t (part_at t t.main 2) ≡ kind.Compound
-  body_kind = body_only (kind_at t (part_at t t.main 2)) (subst (λ c. Stands (part_in (side_of c) 2) (kind_at t (part_at t t.main 2))) main_defined body.stands)
+  body_kind = block_at t.main main_defined
 
   pub body_runs : is_reached t (part_at t t.main 2) ≡ true
-  body_runs =
-      reach t u (part_at t t.main 2) (body_lives t u (part_at t t.main 2) t.main (as_part t u t.main 2 (part_at t t.main 2) body) (ap is_definition main_defined) (ap is_block body_kind))
-      (ap is_run_kind body_kind) (unfollowed t u (part_at t t.main 2) (ap is_followed body_kind))
+  body_runs = reached_at t.main main_defined
 
   pub body_exits : result_of t (judgement_of file t it) (Some t.main) ≡ form.Number IntegerKind → exits_at t (judgement_of file t it) (part_at t t.main 2) ≡ of_function (form.Number IntegerKind)
-  body_exits e =
-      let j = judgement_of file t it in
-      ap (λ k. if is_static_initialiser t (part_at t t.main 2) k then of_function (form.Number IntegerKind) else exits_in (labels_of t j) (result_of t j) (j.around (part_at t t.main 2))) body_kind
-      ∙ ap (exits_in (labels_of t j) (result_of t j)) (around_at file t it t.main 2 (part_at t t.main 2) body ∙ ap (λ k. inside k t.main (j.around t.main)) main_defined)
-      ∙ inside_function (labels_of t j) (result_of t j) t.main (j.around t.main) refl
-      ∙ ap of_function e
+  body_exits e = exits_of t.main main_defined ∙ ap of_function e

@@ -58,6 +58,8 @@ module _ (t : Typed) (unit : AreOfUnit t) where
     pub low : i < b
     pub under : i < d
     pub lives : lives t d ≡ true → lives t i ≡ true
+    -- what goes up from initialisers to what has them goes up to the declarator
+    pub climbs : (test : ℕ → Bool) → ((a c : ℕ) → IsPartOf t unit a c → is_listing (kind_at t c) ≡ true → test a ≡ true → test c ≡ true) → test i ≡ true → test d ≡ true
     pub kinds : (is_expression (form_of (kind_at t i)) || is_list (kind_at t i)) ≡ true
 
   abbrev AreGiven : ℕ → ℕ → List ℕ → Type 0
@@ -106,6 +108,7 @@ module _ (t : Typed) (unit : AreOfUnit t) where
             low = low;
             under = omega (arith, low, under);
             lives = λ live. goes t unit q i (as_part t unit i k q h) (listing_goes t unit q (kind_at t i) (kind_at t q) lists kinds) (one.lives live);
+            climbs = λ test f e. one.climbs test f (f q i (as_part t unit i k q h) lists e);
             kinds = kinds;
           }
 
@@ -123,6 +126,7 @@ module _ (t : Typed) (unit : AreOfUnit t) where
         low = h.below;
         under = h.below;
         lives = λ live. goes t unit p d (as_part t unit d 1 p h) (listing_goes t unit p (kind_at t d) (kind_at t p) lists kinds) live;
+        climbs = λ test f e. f p d (as_part t unit d 1 p h) lists e;
         kinds = kinds;
       }
 

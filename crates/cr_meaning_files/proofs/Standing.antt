@@ -28,7 +28,7 @@ use Rattle.cr_meaning_files.proofs.Loops.{from_at, step_there, IsWhole, whole}
 use Rattle.cr_meaning_files.proofs.Filling.{unit, put_there}
 use Rattle.cr_meaning_files.proofs.Laid.{around_at, operand, operand_at}
 
-other_one : (a b : Bool) → (a || b) ≡ true → a ≡ false → b ≡ true
+pub other_one : (a b : Bool) → (a || b) ≡ true → a ≡ false → b ≡ true
 other_one true b h e = absurd (false≢true (sym e))
 other_one false b h e = h
 
@@ -37,12 +37,12 @@ this_one true b h e = refl
 this_one false b h e = absurd (false≢true (sym e ∙ h))
 
 -- what passes a test passes it, and is one of the list
-record IsFiltered (test : ℕ → Bool) (items : List ℕ) (item : ℕ) : Type 0 where
-  passes : test item ≡ true
-  place : ℕ
-  at : slice_get items place ≡ Some item
+pub record IsFiltered (test : ℕ → Bool) (items : List ℕ) (item : ℕ) : Type 0 where
+  pub passes : test item ≡ true
+  pub place : ℕ
+  pub at : slice_get items place ≡ Some item
 
-filtered : (test : ℕ → Bool) (items : List ℕ) (k item : ℕ) → slice_get (filter test items) k ≡ Some item → IsFiltered test items item
+pub filtered : (test : ℕ → Bool) (items : List ℕ) (k item : ℕ) → slice_get (filter test items) k ≡ Some item → IsFiltered test items item
 filtered test [] k item e = absurd (cc e)
 filtered test (x ∷ items) k item e = by (test x) refl k e (λ m f. later (filtered test items m item f))
   where
@@ -55,7 +55,7 @@ filtered test (x ∷ items) k item e = by (test x) refl k e (λ m f. later (filt
     by true q (suc m) f rest = rest m f
     by false q k f rest = rest k f
 
-behind_first : (ps : List ℕ) (m a : ℕ) → slice_get (drop 1 ps) m ≡ Some a → slice_get ps (suc m) ≡ Some a
+pub behind_first : (ps : List ℕ) (m a : ℕ) → slice_get (drop 1 ps) m ≡ Some a → slice_get ps (suc m) ≡ Some a
 behind_first [] m a e = absurd (cc e)
 behind_first (p ∷ ps) m a e = e
 
@@ -121,7 +121,7 @@ module _ (file : List ℕ) (t : Typed) (it : IsUnitOfFile file t) where
 
   -- ---- labels
 
-  labels : (i : ℕ) → is_labelled (kind_at t i) ≡ true → (k : ℕ) × ((has_inner (kind_at t i) k ≡ true) × (slice_get (parts_at t i) k ≡ Some (labelled t i)))
+  pub labels : (i : ℕ) → is_labelled (kind_at t i) ≡ true → (k : ℕ) × ((has_inner (kind_at t i) k ≡ true) × (slice_get (parts_at t i) k ≡ Some (labelled t i)))
   labels i h = by (kind_at t i) refl h
     where
       first : (c : Kind) → kind_at t i ≡ c → is_case c ≡ false → labelled t i ≡ part_at t i 0
@@ -165,7 +165,7 @@ module _ (file : List ℕ) (t : Typed) (it : IsUnitOfFile file t) where
 
   -- ---- `for`
 
-  loop_runs : (i : ℕ) (n : Node) → IsWhole t u i n → kind_at t i ≡ kind.For → is_reached t i ≡ true → (k a : ℕ) → slice_get (parts_at t i) k ≡ Some a → is_reached t a ≡ true
+  pub loop_runs : (i : ℕ) (n : Node) → IsWhole t u i n → kind_at t i ≡ kind.For → is_reached t i ≡ true → (k a : ℕ) → slice_get (parts_at t i) k ≡ Some a → is_reached t a ≡ true
   loop_runs i n w is r k a e = by (is_expression (form_of (kind_at t a))) refl
     where
       part : HasPart t u i k a

@@ -14,7 +14,7 @@ use Rattle.cr_meaning_operations.specs.Operations.{is_case, is_static_initialise
 use Rattle.cr_meaning_typed.specs.Typing.{is_asked, is_expression}
 use Rattle.cr_meaning_sorts.specs.Founded.{parts_of, is_evaluated, is_followed}
 use Rattle.cr_meaning_whole.specs.Statements.{is_statement, has_condition, has_inner}
-use Rattle.cr_meaning_files.specs.Reached.{is_item, is_declaring, is_list, is_listing, is_going, is_address}
+use Rattle.cr_meaning_files.specs.Reached.{is_item, is_declaring, is_list, is_listing, is_block, is_going, is_address}
 use Rattle.cr_meaning_files.proofs.Grammar.{part_in, Stands, is_of, of_part, row, among_drop}
 
 -- ---- parts for which expressions stand
@@ -342,6 +342,16 @@ declaring_is kind.GroupDeclarator h = (refl, refl)
 declaring_is kind.ArrayDeclarator h = (refl, refl)
 declaring_is kind.FunctionDeclarator h = (refl, refl)
 declaring_is c h = absurd (false≢true h)
+
+-- it is neither an expression nor a list, nor an item
+pub declaring_apart : (c : Kind) → is_declaring c ≡ true → ((is_expression (form_of c) ≡ false) × (is_item c ≡ false)) × ((is_list c ≡ false) × (is_block c ≡ false))
+declaring_apart kind.InitDeclarator h = ((refl, refl), (refl, refl))
+declaring_apart kind.NameDeclarator h = ((refl, refl), (refl, refl))
+declaring_apart kind.PointerDeclarator h = ((refl, refl), (refl, refl))
+declaring_apart kind.GroupDeclarator h = ((refl, refl), (refl, refl))
+declaring_apart kind.ArrayDeclarator h = ((refl, refl), (refl, refl))
+declaring_apart kind.FunctionDeclarator h = ((refl, refl), (refl, refl))
+declaring_apart c h = absurd (false≢true h)
 
 -- what is no item
 pub item_lists_nothing : (c : Kind) → is_item c ≡ true → (is_list c ≡ false) × (is_declaring c ≡ false)

@@ -21,13 +21,13 @@ use Rattle.cr_meaning_files.proofs.Tables.{is_jump}
 
 -- ---- a number that stands twice in a list
 
-abbrev times : List ℕ → ℕ → ℕ
+abbrev pub times : List ℕ → ℕ → ℕ
 times ps k = count_by (λ p. p == k) ps
 
-once_more : (p k : ℕ) (ps : List ℕ) → times (p ∷ ps) k ≡ cond (p == k) 1 0 + times ps k
+pub once_more : (p k : ℕ) (ps : List ℕ) → times (p ∷ ps) k ≡ cond (p == k) 1 0 + times ps k
 once_more p k ps = sum_by-cons (λ x. cond (x == k) 1 0) p ps
 
-abbrev weight : Bool → ℕ
+abbrev pub weight : Bool → ℕ
 weight b = cond b 1 0
 
 has_it : (ps : List ℕ) (j p : ℕ) → slice_get ps j ≡ Some p → 1 ≤ times ps p

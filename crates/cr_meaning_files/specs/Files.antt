@@ -1,17 +1,12 @@
 -- The run of a file's typed unit comes to a status, or to a numbered case: what the grammar and the check give of its tree is no premise.
-use Rattle.std.specs.Prelude.{◌≡◌, ℕ, ℤ, ◌<◌, ◌^◌, Bool, true, false, Some, List, [], map, slice_get, slice_index_or}
+use Rattle.std.specs.Prelude.{◌≡◌, ℕ, ◌<◌, ◌^◌, true, false, Some, List, [], map, length, slice_get, slice_index_or}
 use Rattle.cr_ints.specs.declared.kind.IntKind.TheVariants.{Int as IntegerKind}
-use Rattle.cr_ints.specs.IntKind.{Represents}
-use Rattle.cr_syntax.specs.declared.node.Kind.{Kind}
 use Rattle.cr_syntax.specs.declared.node.Kind.TheVariants as kind
 use Rattle.cr_syntax.specs.declared.node.Node.{Node}
-use Rattle.cr_check_constants.specs.declared.constant.Constant.TheVariants.{Value}
-use Rattle.cr_check_constants.specs.declared.constant.Operand.{Operand}
-use Rattle.cr_check_operands.specs.Values.{number as a_number}
 use Rattle.cr_check_types.specs.Types.{type_at}
 use Rattle.cr_check_expressions.specs.Forms.{form_of}
 use Rattle.cr_check_expressions.specs.Known.{Signature, a_function}
-use Rattle.cr_check_expressions.specs.Ruled.{facts_at, given}
+use Rattle.cr_check_expressions.specs.Ruled.{facts_at}
 use Rattle.cr_check_enclosing.specs.Around.{outermost}
 use Rattle.cr_check_unit.specs.Typing.{cut, source_in}
 use Rattle.cr_typed.specs.declared.typed.Typed.{Typed}
@@ -20,24 +15,26 @@ use Rattle.cr_meaning.specs.Language.{Reply, Runs}
 use Rattle.cr_meaning.specs.World.{Program, World, Answer, Halt}
 use Rattle.cr_meaning.specs.Meaning.{body, operands, root_of, start_of, run_of}
 use Rattle.cr_meaning.specs.declared.op.Form.TheVariants as form
+use Rattle.cr_meaning.specs.declared.op.Parameter.{Parameter}
+use Rattle.cr_meaning.specs.declared.op.Callee.{Callee}
+use Rattle.cr_meaning.specs.declared.op.Callee.TheVariants.{Function}
 use Rattle.cr_meaning.specs.declared.run.Limits.{Limits}
 use Rattle.cr_meaning.specs.declared.run.Run.{Run}
 use Rattle.cr_meaning_soundness.specs.Programs.{AreMainParameters}
-use Rattle.cr_meaning_soundness.specs.Sorts.{IsAmong}
-use Rattle.cr_meaning_operations.specs.Shapes.{type_of_node}
-use Rattle.cr_meaning_operations.specs.Operations.{kind_at, parts_at, pointed, left_type, callee_of, name_of, entity_of, parameter_of, strings_of, program_of}
+use Rattle.cr_meaning_soundness.specs.Sorts.{sort_of}
+use Rattle.cr_meaning_typed.specs.Good.{value_sort}
+use Rattle.cr_meaning_operations.specs.Shapes.{named_type}
+use Rattle.cr_meaning_operations.specs.Operations.{kind_at, callee_of, function_in, name_of, entity_of, parameter_of, strings_of, is_lasting, is_static_initialiser, program_of}
 use Rattle.cr_meaning_typed.specs.Placed.{IsNamed}
-use Rattle.cr_meaning_typed.specs.Typing.{is_expression, IsRead}
+use Rattle.cr_meaning_typed.specs.Typing.{has_value, is_expression, IsRead}
 use Rattle.cr_meaning_judged.specs.Judged.{seen_in, source_of, scene_of}
 use Rattle.cr_meaning_declared.specs.Files.{IsUnitOfFile}
-use Rattle.cr_meaning_expressions.specs.Places.{HasCells, IsMemberIn, AreAmong}
-use Rattle.cr_meaning_statements.specs.Statements.{IsResult}
-use Rattle.cr_meaning_calls.specs.Calls.{IsGiven, IsCalled}
-use Rattle.cr_meaning_sorts.specs.Table.{Judgement, sorts_in, result_of, exits_at}
-use Rattle.cr_meaning_sorts.specs.Founded.{is_followed}
-use Rattle.cr_meaning_whole.specs.Statements.{IsInitialised, is_declarator}
-use Rattle.cr_meaning_whole.specs.Whole.{AreSeen}
+use Rattle.cr_meaning_calls.specs.Calls.{IsParameter, IsCalled}
+use Rattle.cr_meaning_sorts.specs.Table.{Judgement, sorts_in, result_of}
+use Rattle.cr_meaning_whole.specs.Statements.{IsInitialised}
 use Rattle.cr_meaning_files.specs.Reached.{is_reached}
+use Rattle.cr_meaning_files.specs.Seen.{sees}
+use Rattle.cr_meaning_files.specs.Structures.{AreMembersWhole}
 
 -- what was judged of a file's unit, where a run may reach these nodes
 abbrev pub judgement_of : (file : List ℕ) (t : Typed) → IsUnitOfFile file t → Judgement
@@ -56,63 +53,50 @@ AreRead file t it = (i : ℕ) (n : Node) → slice_get it.checked.by.tree.nodes.
     → IsRead (form_of n.kind) (facts_at it.checked.checked.table (cut i it.checked.checked.whole.typing).facts)
     (source_in (type_at it.checked.checked.table) it.checked.by.tree it.checked.checked.texts (cut i it.checked.checked.whole.typing)) i n
 
--- sizes lie in the range of their kind: of constants that are spelled, and of enumerators, this is known
-abbrev pub is_sized : Kind → Bool
-is_sized kind.SizeofExpression = true
-is_sized kind.SizeofType = true
-is_sized k = false
-
-abbrev pub SizesAreInRange : Typed → Judgement → Type 0
-SizesAreInRange t j = (i : ℕ) (x : Operand) (v : ℤ) → j.runs i ≡ true → is_sized (kind_at t i) ≡ true → j.at i ≡ given (a_number x) → x.constant ≡ Value v → Represents x.kind v
-
 -- main gives an int, and its parameters are those of 5.1.2.2.1
 pub record AreMains (t : Typed) (limits : Limits) (j : Judgement) : Type 0 where
   pub parameters : AreMainParameters (program_of t limits) (strings_of t (slice_index_or t.parameters t.main [])) (map (parameter_of t) (slice_index_or t.parameters t.main []))
   pub gives : result_of t j (Some t.main) ≡ form.Number IntegerKind
 
--- the member that a node names lies within its structure
-pub record IsMember (t : Typed) (limits : Limits) (j : Judgement) (i a : ℕ) : Type 0 where
-  pub within : IsMemberIn t i (type_of_node t a)
-  pub structure : (j.at a).lvalue ≡ false → AreAmong t limits i a
+-- the objects of names are there, with cells, and their nodes see them
+abbrev pub AreVisible : Program → Typed → Judgement → Type 0
+AreVisible p t j = (i : ℕ) (n : Node) → j.runs i ≡ true → slice_get t.nodes i ≡ Some n → n.kind ≡ kind.Identifier → (j.at i).lvalue ≡ true → IsNamed p t i × (sees t i (entity_of t i) ≡ true)
 
--- places that a run may reach have whole cells, and members lie within their structures
-pub record AreInPlace (t : Typed) (limits : Limits) (j : Judgement) : Type 0 where
-  pub cells : (i : ℕ) → j.runs i ≡ true → is_followed (kind_at t i) ≡ true → HasCells t i
-  pub members : (i a : ℕ) → j.runs i ≡ true → kind_at t i ≡ kind.Member → slice_get (parts_at t i) 0 ≡ Some a → IsMember t limits j i a
-  pub pointed_members : (i : ℕ) → j.runs i ≡ true → kind_at t i ≡ kind.PointerMember → IsMemberIn t i (pointed (left_type t i))
+-- a called function is defined, with as many parameters as it is called with, of the same types, and with the same result (K9, K18, K40)
+pub record IsDefined (p : Program) (t : Typed) (j : Judgement) (signature : Signature) (definition : ℕ) (parameters : List Parameter) : Type 0 where
+  pub defines : kind_at t definition ≡ kind.FunctionDefinition
+  pub gives : (row : ℕ) → value_sort p row signature.gives ≡ sort_of p (result_of t j (Some definition))
+  pub count : length parameters ≡ signature.count
+  pub closed : signature.more ≡ false
+  pub each : (k : ℕ) (own : Parameter) → slice_get parameters k ≡ Some own → IsParameter p t signature k own
 
--- the objects of names are there, with cells, and names and literals are seen where they stand
-pub record AreVisible (p : Program) (t : Typed) (j : Judgement) (sees : ℕ → ℕ → Bool) : Type 0 where
-  pub objects : (i : ℕ) (n : Node) → j.runs i ≡ true → slice_get t.nodes i ≡ Some n → n.kind ≡ kind.Identifier → (j.at i).lvalue ≡ true → IsNamed p t i × (sees i (entity_of t i) ≡ true)
-  pub literals : (i : ℕ) → j.runs i ≡ true → kind_at t i ≡ kind.Text → sees i i ≡ true
+-- or it is one of the library's
+abbrev pub IsDeclaredSo : Program → Typed → Judgement → Signature → ℕ → Callee → Type 0
+IsDeclaredSo p t j signature i (Function parameters rest is_main) = IsDefined p t j signature (function_in (named_type t (entity_of t i))) parameters
+IsDeclaredSo p t j signature i other = IsCalled p t (sorts_in p t j) signature other
 
--- the function that a call names gives nothing or a scalar, and is defined as it is called, or one of the library's
 abbrev pub AreCalled : Program → Typed → Judgement → Type 0
-AreCalled p t j = (i : ℕ) (signature : Signature) → j.runs i ≡ true → kind_at t i ≡ kind.Call → (j.source i).stands i ≡ a_function signature
-    → IsGiven signature.gives × IsCalled p t (sorts_in p t j) signature (callee_of t i)
+AreCalled p t j = (i : ℕ) (signature : Signature) → j.runs i ≡ true → kind_at t i ≡ kind.Call → (j.source i).stands i ≡ a_function signature → IsDeclaredSo p t j signature i (callee_of t i)
 
--- the function around a `return` gives nothing or a scalar, and the label of a `goto` in a block around it; declarators see their objects,
--- and initialisers set parts that have the cells of their types
-pub record AreStated (p : Program) (t : Typed) (j : Judgement) (sees : ℕ → ℕ → Bool) : Type 0 where
-  pub returns : (i definition : ℕ) → j.runs i ≡ true → kind_at t i ≡ kind.Return → (j.around i).function ≡ Some definition → IsResult (j.gives (Some definition))
-  pub gotos : (i : ℕ) → j.runs i ≡ true → kind_at t i ≡ kind.Goto → IsAmong (entity_of t i) (exits_at t j i).labels
-  pub declarators : (i : ℕ) → j.runs i ≡ true → is_declarator (kind_at t i) ≡ true → sees i (name_of t i) ≡ true
-  pub initialised : (i : ℕ) → j.runs i ≡ true → kind_at t i ≡ kind.InitDeclarator → IsInitialised p t j sees i
+-- what the function around a `return` gives is known; the object that is initialised before main is one of static duration, and
+-- initialisers set parts that have the cells of their types
+pub record AreStated (p : Program) (t : Typed) (j : Judgement) : Type 0 where
+  pub returns : (i definition : ℕ) → j.runs i ≡ true → kind_at t i ≡ kind.Return → (j.around i).function ≡ Some definition → has_value (j.gives (Some definition)) ≡ true
+  pub statics : (i : ℕ) → is_static_initialiser t i (kind_at t i) ≡ true → is_lasting t (entity_of t (name_of t i)) (kind_at t (entity_of t (name_of t i))) ≡ true
+  pub initialised : (i : ℕ) → j.runs i ≡ true → kind_at t i ≡ kind.InitDeclarator → sees t i (entity_of t (name_of t i)) ≡ true → IsInitialised p t j (sees t) i
 
--- What is premised still, each under its own name: that names and members are known where they are read; that objects have whole cells,
--- members lie within structures, sizes in range; that calls, main and initialisers are as they were declared; which node sees which object.
-pub record IsLeftOpen (file : List ℕ) (t : Typed) (it : IsUnitOfFile file t) (limits : Limits) (sees : ℕ → ℕ → Bool) : Type 0 where
+-- What is premised still, each under its own name: that names and members are known where they are read; that the objects of names have
+-- whole cells, and their nodes see them; that members have types of objects; that calls, main and initialisers are as they were declared.
+pub record IsLeftOpen (file : List ℕ) (t : Typed) (it : IsUnitOfFile file t) (limits : Limits) : Type 0 where
   pub reads : AreRead file t it
-  pub visible : AreVisible (program_of t limits) t (judgement_of file t it) sees
-  pub in_place : AreInPlace t limits (judgement_of file t it)
-  pub ranged : SizesAreInRange t (judgement_of file t it)
+  pub visible : AreVisible (program_of t limits) t (judgement_of file t it)
+  pub members : AreMembersWhole t
   pub called : AreCalled (program_of t limits) t (judgement_of file t it)
-  pub stated : AreStated (program_of t limits) t (judgement_of file t it) sees
+  pub stated : AreStated (program_of t limits) t (judgement_of file t it)
   pub mains : AreMains t limits (judgement_of file t it)
-  pub seen : AreSeen t limits sees
 
 -- within limits, whatever the run of a file's typed unit comes to is an outcome: a status, or one of U1 to U16 and N1 to N7 at a node
 abbrev pub FilesHaveOutcomes : Type 0
-FilesHaveOutcomes = (file : List ℕ) (t : Typed) (it : IsUnitOfFile file t) (limits : Limits) (sees : ℕ → ℕ → Bool) → IsLeftOpen file t it limits sees
+FilesHaveOutcomes = (file : List ℕ) (t : Typed) (it : IsUnitOfFile file t) (limits : Limits) → IsLeftOpen file t it limits
     → limits.cells < 2 ^ 63 → limits.output < 2 ^ 31 → (reply : Reply Answer World Halt)
     → (let p = program_of t limits in Runs (body p) (body p (operands (root_of p) [])) (start_of limits) reply) → (outcome : Run) × (run_of limits reply ≡ Some outcome)

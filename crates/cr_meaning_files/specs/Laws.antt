@@ -6,12 +6,15 @@ use Rattle.cr_syntax.specs.declared.node.Kind.TheVariants as kind
 use Rattle.cr_check_expressions.specs.Forms.{form_of}
 use Rattle.cr_check_expressions.specs.Known.{an_enumerator}
 use Rattle.cr_typed.specs.declared.typed.Typed.{Typed}
-use Rattle.cr_meaning_operations.specs.Operations.{kind_at, part_at}
+use Rattle.cr_meaning_operations.specs.Operations.{kind_at, part_at, name_of, entity_of}
 use Rattle.cr_meaning_typed.specs.Typing.{has_value, is_expression}
 use Rattle.cr_meaning_declared.specs.Files.{IsUnitOfFile}
 use Rattle.cr_meaning_sorts.specs.Founded.{AreLaidOut, AreReached}
-use Rattle.cr_meaning_whole.specs.Statements.{AreStatementsLaid}
+use Rattle.cr_meaning_sorts.specs.Table.{exits_at}
+use Rattle.cr_meaning_soundness.specs.Sorts.{IsAmong}
+use Rattle.cr_meaning_whole.specs.Statements.{is_declarator, AreStatementsLaid}
 use Rattle.cr_meaning_files.specs.Reached.{is_reached}
+use Rattle.cr_meaning_files.specs.Seen.{sees}
 use Rattle.cr_meaning_files.specs.Files.{judgement_of, AreRead}
 
 -- expressions have as many parts as their rules read, all of them expressions, used as values but where a place is taken; and only a literal
@@ -43,3 +46,12 @@ pub record IsMain (t : Typed) : Type 0 where
 
 abbrev pub MainsAreDefined : Type 0
 MainsAreDefined = (file : List ℕ) (t : Typed) → IsUnitOfFile file t → IsMain t
+
+-- the label of a `goto` is one of a block around it (6.8.6.1p1, K42)
+abbrev pub LabelsStandAround : Type 0
+LabelsStandAround = (file : List ℕ) (t : Typed) (it : IsUnitOfFile file t) (i : ℕ) → is_reached t i ≡ true → kind_at t i ≡ kind.Goto
+    → IsAmong (entity_of t i) (exits_at t (judgement_of file t it) i).labels
+
+-- a declarator sees the object that it declares, since a block or a `for` around it enters that (6.2.4p6, 6.8.2p2, 6.8.5.3p1)
+abbrev pub DeclaratorsSeeObjects : Type 0
+DeclaratorsSeeObjects = (file : List ℕ) (t : Typed) → IsUnitOfFile file t → (i : ℕ) → is_reached t i ≡ true → is_declarator (kind_at t i) ≡ true → sees t i (name_of t i) ≡ true

@@ -1,3 +1,5 @@
 pub mod Reached
+pub mod Seen
+pub mod Structures
 pub mod Files
 pub mod Laws

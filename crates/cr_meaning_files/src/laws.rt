@@ -1,5 +1,5 @@
 //! What a reader expects of the run of a file's typed unit. The program calls none of these functions.
-ghost use Rattle.cr_meaning_files.specs.Laws.{AreClosed, AreTold, AreWorth, EnumeratorsAreNumbers, MainsAreDefined};
+ghost use Rattle.cr_meaning_files.specs.Laws.{AreClosed, AreTold, AreWorth, DeclaratorsSeeObjects, EnumeratorsAreNumbers, LabelsStandAround, MainsAreDefined};
 ghost use Rattle.cr_meaning_files.specs.Files.{FilesHaveOutcomes};
 
 /// What a run may reach has its operands, its statements and its declarators with it.
@@ -25,6 +25,16 @@ pub fn enumerators_are_numbers()
 /// The body of main is a block, which a run reaches.
 pub fn mains_are_defined()
     ensures { MainsAreDefined }
+{}
+
+/// The label of a goto is one of a block around it.
+pub fn labels_stand_around()
+    ensures { LabelsStandAround }
+{}
+
+/// A declarator sees the object that it declares.
+pub fn declarators_see_objects()
+    ensures { DeclaratorsSeeObjects }
 {}
 
 /// The run of a file's typed unit comes to a status, or to a numbered case at a node, and never to operands that no program has.
