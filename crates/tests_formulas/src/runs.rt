@@ -23,7 +23,6 @@ pub(crate) type Outcome = (
 const ROWS: &str = r#"
 if:same␠same t.c¦2¦creduce: usage: creduce [--workers N] [--window N] [--limit N] [--steps N] [--passes LETTERS] TEST FILE␊¦int main(){}¦int main(){}
 if: t.c¦2¦creduce: usage: creduce [--workers N] [--window N] [--limit N] [--steps N] [--passes LETTERS] TEST FILE␊¦int main(){}¦int main(){}
---standing if:same t.c¦2¦creduce: usage: creduce [--workers N] [--window N] [--limit N] [--steps N] [--passes LETTERS] TEST FILE␊¦int main(){}¦int main(){}
 if:ends(3) t.c¦6¦creduce: the test says no to t.c␊¦int main(void){return 0;}␊¦int main(void){return 0;}␊
 if:not(same) t.c¦6¦creduce: the test says no to t.c␊¦int main(void){return 0;}␊¦int main(void){return 0;}␊
 if:same s.c¦3¦creduce: no file s.c␊¦int main(){}¦int main(){}
@@ -33,6 +32,11 @@ if:same --steps=100 t.c¦5¦creduce: t.c:1: left the profile: N1␊¦int main(){
 if:ends(0) t.c¦0¦t.c size 109 to 63 accepted 4 turns 85 fixed␊¦int main(void){return 0;}␊¦int main(){}¦t 3 6 85 32␊t 4 3 73 37␊t 4 5 64 40␊f 0 0 63 48␊end fixed 63 85␊
 if:same t.c¦0¦t.c size 109 to 63 accepted 4 turns 85 fixed␊¦int main(void){return 0;}␊¦int main(){}¦t 3 6 85 32␊t 4 3 73 37␊t 4 5 64 40␊f 0 0 63 48␊end fixed 63 85␊
 --workers 1 if:same t.c¦0¦t.c size 109 to 63 accepted 4 turns 85 fixed␊¦int main(void){return 0;}␊¦int main(){}¦t 3 6 85 32␊t 4 3 73 37␊t 4 5 64 40␊f 0 0 63 48␊end fixed 63 85␊
+--standing if:same t.c¦0¦t.c size 109 to 63 accepted 4 turns 85 fixed␊¦int main(void){return 0;}␊¦int main(){}¦t 3 6 85 32␊t 4 3 73 37␊t 4 5 64 40␊f 0 0 63 48␊end fixed 63 85␊
+--any-order if:same t.c¦0¦t.c size 109 to 63 accepted 4 turns 85 fixed␊¦int main(void){return 0;}␊¦int main(){}¦t 3 6 85 32␊t 4 3 73 37␊t 4 5 64 40␊f 0 0 63 48␊end fixed 63 85␊
+--any-order --standing if:same t.c¦0¦t.c size 109 to 63 accepted 4 turns 85 fixed␊¦int main(void){return 0;}␊¦int main(){}¦t 3 6 85 32␊t 4 3 73 37␊t 4 5 64 40␊f 0 0 63 48␊end fixed 63 85␊
+--journal if:same t.c¦0¦t.c size 109 to 63 accepted 4 turns 85 fixed␊¦int main(void){return 0;}␊¦int main(){}¦t 3 6 85 32␊t 4 3 73 37␊t 4 5 64 40␊f 0 0 63 48␊end fixed 63 85␊
+--resume --any-order if:same t.c¦0¦t.c size 109 to 63 accepted 4 turns 85 fixed␊¦int main(void){return 0;}␊¦int main(){}¦t 3 6 85 32␊t 4 3 73 37␊t 4 5 64 40␊f 0 0 63 48␊end fixed 63 85␊
 --passes l if:same t.c¦0¦t.c size 132 to 64 accepted 1 turns 31 fixed␊¦int a;␊int b;␊int main(){}␊¦int main(){}␊¦l 13 0 64 14␊end fixed 64 31␊
 --passes l --limit 0 if:same t.c¦7¦t.c size 132 to 132 accepted 0 turns 0 limit␊¦int a;␊int b;␊int main(){}␊¦int a;␊int b;␊int main(){}␊¦end limit 132 0␊
 --passes l if:and(same,has("b")) t.c¦0¦t.c size 167 to 99 accepted 2 turns 40 fixed␊¦int main(){␊int a;␊int b;␊int c;␊}␊¦int main(){␊int b;␊}␊¦l 14 1 133 19␊l 14 2 99 21␊end fixed 99 40␊

@@ -20,18 +20,21 @@ pub(crate) fn most() -> Limits {
     CLaw::with_steps(1_000_000, None).limits
 }
 
-// What is ruled on a file by these limits: `lawful`, or the word, the number and the line of the reason.
-pub(crate) fn ruled(alloc: Global, file: &[u8], limits: Limits) -> Result<String, AllocError> {
-    let law = CLaw {
+fn law_within(limits: Limits) -> CLaw<'static> {
+    CLaw {
         limits,
         last: None,
         runs: None,
-    };
-    ruled_by(alloc, file, &law)
+    }
+}
+
+// What is ruled on a file by these limits: `lawful`, or the word, the number and the line of the reason.
+pub(crate) fn ruled(alloc: Global, file: &[u8], limits: Limits) -> Result<String, AllocError> {
+    ruled_by(alloc, file, &law_within(limits))
 }
 
 // What this law rules on it, in the same words.
-pub(crate) fn ruled_by(alloc: Global, file: &[u8], law: &CLaw<'_>) -> Result<String, AllocError> {
+pub(crate) fn ruled_by<L: Law>(alloc: Global, file: &[u8], law: &L) -> Result<String, AllocError> {
     match law.rule(alloc, file, &mut Never { looks: 0 }) {
         Ruling::Lawful => String::from_str(alloc, "lawful"),
         Ruling::Unlawful(reason) => reason_shown(alloc, reason),
@@ -54,7 +57,17 @@ fn reason_shown(alloc: Global, reason: Reason) -> Result<String, AllocError> {
 
 // The same, and behind `lawful` the status of the run and what it prints.
 pub(crate) fn shown(alloc: Global, text: &str, limits: Limits) -> Result<String, AllocError> {
-    let ruling = ruled(alloc, text.as_bytes(), limits)?;
+    shown_by(alloc, text, limits, &law_within(limits))
+}
+
+// The same of this law.
+fn shown_by<L: Law>(
+    alloc: Global,
+    text: &str,
+    limits: Limits,
+    law: &L,
+) -> Result<String, AllocError> {
+    let ruling = ruled_by(alloc, text.as_bytes(), law)?;
     if ruling.as_str() == "lawful" {
         end_shown(alloc, text, limits)
     } else {
@@ -109,8 +122,18 @@ pub(crate) fn try_file(
     wanted: &str,
     text: &str,
 ) -> Result<(), AllocError> {
+    try_by(alloc, wrong, wanted, text, &law_within(most()))
+}
+
+fn try_by<L: Law>(
+    alloc: Global,
+    wrong: &mut String,
+    wanted: &str,
+    text: &str,
+    law: &L,
+) -> Result<(), AllocError> {
     let file = plain(alloc, text)?;
-    let found = shown(alloc, file.as_str(), most())?;
+    let found = shown_by(alloc, file.as_str(), most(), law)?;
     if found == plain(alloc, wanted)? {
         Ok(())
     } else {
@@ -129,10 +152,15 @@ pub(crate) fn none_of(wrong: String) -> Result<(), Fail> {
 
 // Tries a table's rows: a ruling, and behind `¦` the file.
 pub(crate) fn expect_all(alloc: Global, table: &str) -> Result<(), Fail> {
+    expect_all_by(alloc, table, &law_within(most()))
+}
+
+// The same of this law, which has the limits of `most`.
+pub(crate) fn expect_all_by<L: Law>(alloc: Global, table: &str, law: &L) -> Result<(), Fail> {
     let mut wrong = String::new(alloc);
     for row in table.lines() {
         if let Some((wanted, text)) = row.split_once('¦') {
-            try_file(alloc, &mut wrong, wanted, text)?;
+            try_by(alloc, &mut wrong, wanted, text, law)?;
         }
     }
     none_of(wrong)

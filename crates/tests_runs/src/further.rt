@@ -1,8 +1,12 @@
 // Whole runs by the top call that knows all that words may ask for. What is wanted was found by hand from the rules of the command line
 // and of logs.
 use crate::outcomes::{more_status_of, words_in};
-use crate::runs::{FAULTS, JUDGED, MADE, files_hold, files_of, rehearsed_bench, sink_of, words_of};
-use crate::tables::{Case, bytes_of};
+use crate::runs::{
+    FAULTS, JUDGED, MADE, REDUCTIONS, SHARED, files_hold, files_of, rehearsed_bench, sink_of,
+    words_of,
+};
+use crate::tables::{Case, push_told};
+use crate::ways::{AS_TOLD, Way, with};
 use cr_outside::MemFiles;
 use cr_outside_disk::MemDisk;
 use std::alloc::{AllocError, Global};
@@ -10,10 +14,10 @@ use std::process::Abort;
 use std::sync::Wait;
 use std::thread::Threads;
 
-/// Flags of modes that aren't built, and words in no form: nothing is done.
-const UNBUILT: &str = "\
-what a journal of a run by a formula
-words --journal if:same abc.c
+/// Words in no form, though each of them has a use elsewhere: nothing is done.
+const REFUSED: &str = "\
+what a journal by standing workers
+words --journal --standing has:b abc.c
 name abc.c
 before int main(){␊int a;␊int b;␊}␊
 status 2
@@ -22,32 +26,35 @@ after same
 copy none
 log none
 
-what a journal of a run by a formula that is gone on from
-words if:has(\"b\") abc.c --resume
+what a journal that is gone on with by standing workers
+words --any-order --resume if:same abc.c --standing
 
-what standing workers by a formula
-words --standing if:same abc.c
+what a journal that is begun and gone on with
+words --journal --resume has:b abc.c
 
-what any order with a journal
-words has:b --any-order abc.c --journal
+what a journal twice
+words --journal --any-order --journal has:b abc.c
 
-what any order by a formula
-words --any-order if:same abc.c
+what to go on twice
+words --resume has:b --resume abc.c
 
-what standing workers in any order
-words --standing --any-order has:b abc.c
+what standing workers twice
+words --standing if:same abc.c --standing
 
-what two engines
-words --journal --standing has:b abc.c
-
-what a flag that comes twice
-words --any-order --any-order has:b abc.c
+what any order twice
+words --any-order --any-order if:same abc.c
 
 what a journal of a generated program
 words --journal has:main gen:7:1
 
+what a journal of a generated program that is gone on with by a formula in any order
+words --resume --any-order if:same gen:7:1
+
 what a flag without words
 words --journal
+
+what a word that spells no formula behind flags
+words --standing --any-order if:and(same abc.c
 
 what a replay without a file
 words --replay abc.c.log
@@ -60,6 +67,47 @@ words --replay --workers=1 abc.c.log abc.c
 
 what a replay behind another word
 words --steps 7 --replay abc.c.log abc.c
+
+what a replay in any order
+words --replay --any-order abc.c.log abc.c
+
+what a replay behind a flag
+words --any-order --replay abc.c.log abc.c
+
+what a replay by standing workers
+words --replay abc.c.log abc.c --standing
+
+what a replay with a journal
+words --replay --journal abc.c.log abc.c
+";
+
+/// Files whose run may hang on no order. Nothing is written.
+const ORDERED: &str = "\
+what a read beside a call that writes it
+words --any-order --passes l has:main abc.c
+name abc.c
+before int x;int f(void){x=1;return 2;}␊int main(){return x+f();}␊
+status 5
+output creduce: abc.c:2: left the profile: N8␊
+after same
+copy none
+log none
+
+what two calls
+before int x;int f(void){x=1;return 2;}int g(void){return 3;}␊int main(){return f()+g();}␊
+
+what an exit in an operand
+before void exit(int);␊int h(void){exit(0);}int main(){return h()+1/0;}␊
+
+what an undefined operation behind such a node
+before int f(void){return 1;}␊int main(){f()+f();␊return 1/0;}␊
+output creduce: abc.c:3: not defined: U2␊
+
+what a file that no test takes, whose run hangs on none
+words --any-order --passes l has:no abc.c
+before int x;int f(void){x=1;return 2;}␊int main(){int y=5;x=f();return y+f();}␊
+status 6
+output creduce: the test says no to abc.c␊
 ";
 
 /// Logs that are checked. The files are there before and after as they are told.
@@ -207,15 +255,17 @@ fn runs_so(
     }
 }
 
-fn expect_plain(
+/// A case comes to what it tells, also where its words are asked for in this way.
+pub(crate) fn expect_by(
     rt: &(impl Abort + Threads + Wait + Sync),
     alloc: Global,
+    way: Way,
     case: &Case,
 ) -> Result<(), AllocError> {
-    let words = words_of(alloc, case)?;
+    let words = words_of(alloc, way, case)?;
     let files = files_of(alloc, case)?;
     let so = runs_so(rt, alloc, case, &words, files)?;
-    assert!(rt; so, "{}", case.told("what"));
+    assert!(rt; so, "{} {}", case.told("what"), way.flags);
     Ok(())
 }
 
@@ -225,7 +275,17 @@ fn words_without_flag_come_to_what_they_come_to_without_the_further_modes(
 ) -> Result<(), AllocError> {
     for table in [FAULTS, JUDGED, MADE] {
         for own in table.split("\n\n") {
-            expect_plain(&rt, rt.alloc(), &Case::of(table, own))?;
+            expect_by(&rt, rt.alloc(), AS_TOLD, &Case::of(table, own))?;
+        }
+    }
+    Ok(())
+}
+
+#[test]
+fn standing_workers_come_to_what_epochs_come_to(rt: HostRuntime) -> Result<(), AllocError> {
+    for table in [REDUCTIONS, FAULTS, JUDGED, MADE, SHARED] {
+        for own in table.split("\n\n") {
+            expect_by(&rt, rt.alloc(), with("--standing"), &Case::of(table, own))?;
         }
     }
     Ok(())
@@ -244,23 +304,19 @@ fn expect_asked(
 }
 
 #[test]
-fn for_a_mode_that_is_not_built_nothing_is_done(rt: HostRuntime) -> Result<(), AllocError> {
-    for own in UNBUILT.split("\n\n") {
-        expect_asked(&rt, rt.alloc(), &Case::of(UNBUILT, own))?;
+fn by_words_in_no_form_nothing_is_done(rt: HostRuntime) -> Result<(), AllocError> {
+    for own in REFUSED.split("\n\n") {
+        expect_asked(&rt, rt.alloc(), &Case::of(REFUSED, own))?;
     }
     Ok(())
 }
 
-// One more file, where the case tells what it has.
-fn push_told(
-    alloc: Global,
-    pairs: &mut Vec<(String, Vec<u8>)>,
-    name: &str,
-    told: &str,
+#[test]
+fn with_any_order_a_file_whose_run_hangs_on_one_is_refused(
+    rt: HostRuntime,
 ) -> Result<(), AllocError> {
-    if told != "none" {
-        let name = String::from_str(alloc, name)?;
-        pairs.push((name, bytes_of(alloc, told)?))?;
+    for own in ORDERED.split("\n\n") {
+        expect_asked(&rt, rt.alloc(), &Case::of(ORDERED, own))?;
     }
     Ok(())
 }

@@ -5,7 +5,11 @@
 #![tactic(auto)]
 
 #[cfg(test)]
+mod combined;
+#[cfg(test)]
 mod further;
+#[cfg(test)]
+mod kept;
 #[cfg(test)]
 mod outcomes;
 #[cfg(test)]
@@ -26,6 +30,8 @@ mod runs;
 mod system;
 #[cfg(test)]
 mod tables;
+#[cfg(test)]
+mod ways;
 #[cfg(test)]
 mod words;
 #[cfg(test)]

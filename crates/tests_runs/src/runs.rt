@@ -1,8 +1,9 @@
 // Whole runs on files, a sink and judges in memory. What is wanted was found by hand from the rules of the command line,
 // of the passes and of the reduction.
-use crate::outcomes::{content, one_file, status_of, words_in};
+use crate::outcomes::{content, one_file, status_of};
 use crate::rehearsed::{Rehearsed, knowing_bench};
 use crate::tables::{Case, tell};
+use crate::ways::{AS_TOLD, Way, words_by};
 use cr_log::{Log, read_log};
 use cr_outside::{Files, Judge, MemFiles, MemSink};
 use cr_pool::Bench;
@@ -11,7 +12,8 @@ use std::process::Abort;
 use std::test::Fail;
 use std::thread::Threads;
 
-const REDUCTIONS: &str = "\
+/// Reductions of files with a `has:` test.
+pub(crate) const REDUCTIONS: &str = "\
 what three lines of main
 passes l
 workers 1
@@ -464,8 +466,8 @@ after int main(){␊int a;␊int b;␊int c;␊}␊
 log end fault 167 15␊
 ";
 
-/// The words of a case: its options, and behind them what it tells of words.
-pub(crate) fn words_of(alloc: Global, case: &Case) -> Result<Vec<String>, AllocError> {
+/// The words of a case, asked for in this way: its options, and behind them what it tells of words.
+pub(crate) fn words_of(alloc: Global, way: Way, case: &Case) -> Result<Vec<String>, AllocError> {
     let all = format!(in alloc;
         "--workers={} --window={} --passes={} {}",
         case.told("workers"),
@@ -473,7 +475,7 @@ pub(crate) fn words_of(alloc: Global, case: &Case) -> Result<Vec<String>, AllocE
         case.told("passes"),
         case.told("words")
     )?;
-    words_in(alloc, all.as_str())
+    words_by(alloc, way, all.as_str())
 }
 
 /// The files of a case: one of its name. Where a failing write is late, it puts its file all the same.
@@ -528,7 +530,7 @@ fn runs_so<J: Judge + Send>(
     case: &Case,
     bench: &mut Bench<J>,
 ) -> Result<bool, AllocError> {
-    let words = words_of(alloc, case)?;
+    let words = words_of(alloc, AS_TOLD, case)?;
     let mut out = sink_of(alloc, case)?;
     let mut files = files_of(alloc, case)?;
     let status = status_of(rt, alloc, &words, &mut files, bench, &mut out);
@@ -633,7 +635,7 @@ fn log_of(
     alloc: Global,
     case: &Case,
 ) -> Result<Option<Vec<u8>>, AllocError> {
-    let words = words_of(alloc, case)?;
+    let words = words_of(alloc, AS_TOLD, case)?;
     let mut files = files_of(alloc, case)?;
     let mut bench = rehearsed_bench(alloc, case)?;
     let mut out = MemSink::new(alloc, Vec::new(alloc));

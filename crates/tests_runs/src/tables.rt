@@ -148,6 +148,20 @@ pub(crate) fn bytes_of(alloc: Global, text: &str) -> Result<Vec<u8>, AllocError>
     Ok(bytes)
 }
 
+/// One more file, if it is told what it has.
+pub(crate) fn push_told(
+    alloc: Global,
+    pairs: &mut Vec<(String, Vec<u8>)>,
+    name: &str,
+    told: &str,
+) -> Result<(), AllocError> {
+    if told != "none" {
+        let name = String::from_str(alloc, name)?;
+        pairs.push((name, bytes_of(alloc, told)?))?;
+    }
+    Ok(())
+}
+
 fn byte_of(c: char) -> u8 {
     let code = c as u32;
     match c {

@@ -1,11 +1,13 @@
 // Runs by several workers on real threads.
 ghost use Rattle.std.specs.Prelude.{◌≡◌, ◌≤◌, IfOk, None, length};
 
-use crate::outcomes::{Outcome, outcome, words_of};
-use cr_outside::{Answer, Judge};
+use crate::outcomes::{Outcome, content, more_status_of, one_file, outcome, words_of};
+use cr_outside::{Answer, Judge, MemFiles, MemSink};
+use cr_outside_disk::MemDisk;
 use cr_pool::Bench;
 use std::alloc::{AllocError, Global};
 use std::process::Abort;
+use std::sync::Wait;
 use std::sync::atomic::{AtomicU64, Ordering};
 use std::thread;
 use std::thread::Threads;
@@ -96,6 +98,31 @@ fn trials_of_a_run_go_on_at_once(rt: HostRuntime) -> Result<(), AllocError> {
     let missed = AtomicU64::new(0);
     let mut bench = waiting_bench(rt.alloc(), &begun, &missed)?;
     expect_kept(&rt, rt.alloc(), &mut bench)?;
+    assert!(rt; missed.load(Ordering::SeqCst) == 0);
+    Ok(())
+}
+
+// The log that a run by standing workers leaves.
+fn standing_log(
+    rt: &(impl Threads + Wait + Sync),
+    alloc: Global,
+    bench: &mut Bench<Waiting<'_>>,
+) -> Result<Option<Vec<u8>>, AllocError> {
+    let words = words_of(alloc, 2, 256, "--standing --passes l w.sh t.c")?;
+    let pairs = one_file(alloc, "t.c", KEPT.to_vec(alloc)?)?;
+    let mut world = MemDisk::beside(MemFiles::new(pairs, Vec::new(alloc)), Vec::new(alloc));
+    let mut out = MemSink::new(alloc, Vec::new(alloc));
+    more_status_of(rt, alloc, &words, &mut world, bench, &mut out);
+    Ok(content(alloc, &mut world, "t.c.log"))
+}
+
+#[test]
+fn trials_of_a_run_by_standing_workers_go_on_at_once(rt: HostRuntime) -> Result<(), AllocError> {
+    let begun = AtomicU64::new(0);
+    let missed = AtomicU64::new(0);
+    let mut bench = waiting_bench(rt.alloc(), &begun, &missed)?;
+    let log = standing_log(&rt, rt.alloc(), &mut bench)?;
+    assert!(rt; log.as_deref() == Some(KEPT_LOG));
     assert!(rt; missed.load(Ordering::SeqCst) == 0);
     Ok(())
 }

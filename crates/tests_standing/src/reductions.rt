@@ -5,7 +5,7 @@ use crate::judges::Knowing;
 use cr_cursor::TokenLaw;
 use cr_outside::{Answer, Judge, Test};
 use cr_pool::{Bench, Worker, measure};
-use cr_reduce::{End, Plan, Why};
+use cr_reduce::{Accepted, End, Plan, Why};
 use cr_standing::reduce_standing;
 use pass_list::CPasses;
 use std::alloc::{AllocError, Global};
@@ -56,17 +56,22 @@ fn reduced<R: Threads + Wait + Abort + Sync, J: Judge + Send + Drop>(
     ))
 }
 
+/// Whether this was accepted: the first pass's variant at a level and an index, with its size and its turn.
+fn is_row(one: &Accepted, level: u8, index: u64, size: u64, turn: u64) -> bool {
+    one.at.pass == 0
+        && one.at.level == level
+        && one.at.index == index
+        && one.size == size
+        && one.turn == turn
+}
+
 fn is_wanted(end: &End) -> bool {
     end.file.as_slice() == ONE
         && end.turns == 32
         && end.why == Why::Fixed
         && end.accepted.len() == 2
-        && end.accepted[0].turn == 15
-        && end.accepted[0].size == 68
-        && end.accepted[0].at.index == 1
-        && end.accepted[1].turn == 16
-        && end.accepted[1].size == 34
-        && end.accepted[1].at.index == 0
+        && is_row(&end.accepted[0], 13, 1, 68, 15)
+        && is_row(&end.accepted[1], 14, 0, 34, 16)
 }
 
 /// A bench of so many judges that know this.
