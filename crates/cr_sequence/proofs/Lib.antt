@@ -1,0 +1,4 @@
+pub mod Making
+pub mod Showing
+pub mod Parts
+pub mod Writing
