@@ -1,3 +1,4 @@
+pub mod Repeating
 pub mod Rows
 pub mod Parts
 pub mod Beyond

@@ -1,5 +1,6 @@
 pub mod Repeating
 pub mod KindRuns
+pub mod Entering
 pub mod Overwriting
 pub mod View
 pub mod Living

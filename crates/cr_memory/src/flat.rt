@@ -189,24 +189,28 @@ pub(crate) fn save(
 
 // On a plain run of a shape, and one by one where there is none.
 
+#[inline]
 fn run_has_literal(shape: &[(Scalar, Guard)]) -> bool
     ensures { result ≡ list_any (λ s. is_literal s.1) shape.now }
 {
     shape.iter().any(|s| s.1 == Guard::Literal)
 }
 
+#[inline]
 fn run_has_constant(shape: &[(Scalar, Guard)]) -> bool
     ensures { result ≡ list_any (λ s. is_constant s.1) shape.now }
 {
     shape.iter().any(|s| s.1 == Guard::Constant)
 }
 
+#[inline]
 fn runs_have_same_kinds(left: &[(Scalar, Guard)], right: &[(Scalar, Guard)]) -> bool
     ensures { result ≡ have_same_kinds left.now right.now }
 {
     left.iter().zip(right).all(|(l, r)| is_same(l.0, r.0))
 }
 
+#[inline]
 fn run_has_kinds(shape: &[(Scalar, Guard)], kinds: &[Scalar]) -> bool
     ensures { result ≡ have_kinds shape.now kinds.now }
 {
@@ -216,6 +220,7 @@ fn run_has_kinds(shape: &[(Scalar, Guard)], kinds: &[Scalar]) -> bool
         .all(|(own, kind)| is_same(own.0, *kind))
 }
 
+#[inline]
 fn has_literal(shape: &Sequence<(Scalar, Guard)>, from: usize, count: usize) -> bool
     requires { from + count ≤ length shape.now }
     ensures { result ≡ list_any (λ s. is_literal s.1) (take count (drop from shape.now)) }
@@ -235,6 +240,7 @@ fn is_literal(own: (Scalar, Guard)) -> bool
     }
 }
 
+#[inline(never)]
 fn has_literal_each(shape: &Sequence<(Scalar, Guard)>, from: usize, count: usize) -> bool
     requires { from + count ≤ length shape.now }
     ensures { result ≡ list_any (λ s. is_literal s.1) (take count (drop from shape.now)) }
@@ -247,6 +253,7 @@ fn has_literal_each(shape: &Sequence<(Scalar, Guard)>, from: usize, count: usize
     false
 }
 
+#[inline]
 fn has_constant(shape: &Sequence<(Scalar, Guard)>, from: usize, count: usize) -> bool
     requires { from + count ≤ length shape.now }
     ensures { result ≡ list_any (λ s. is_constant s.1) (take count (drop from shape.now)) }
@@ -266,6 +273,7 @@ fn is_constant(own: (Scalar, Guard)) -> bool
     }
 }
 
+#[inline(never)]
 fn has_constant_each(shape: &Sequence<(Scalar, Guard)>, from: usize, count: usize) -> bool
     requires { from + count ≤ length shape.now }
     ensures { result ≡ list_any (λ s. is_constant s.1) (take count (drop from shape.now)) }
@@ -278,6 +286,7 @@ fn has_constant_each(shape: &Sequence<(Scalar, Guard)>, from: usize, count: usiz
     false
 }
 
+#[inline]
 fn have_same_kinds(
     shape: &Sequence<(Scalar, Guard)>,
     left: usize,
@@ -294,6 +303,7 @@ fn have_same_kinds(
     }
 }
 
+#[inline(never)]
 fn have_same_kinds_each(
     shape: &Sequence<(Scalar, Guard)>,
     left: usize,
@@ -314,6 +324,7 @@ fn have_same_kinds_each(
     true
 }
 
+#[inline]
 fn have_kinds(shape: &Sequence<(Scalar, Guard)>, from: usize, kinds: &[Scalar]) -> bool
     requires { from + length kinds.now ≤ length shape.now }
     ensures { result ≡ have_kinds (take (length kinds.now) (drop from shape.now)) kinds.now }
@@ -324,6 +335,7 @@ fn have_kinds(shape: &Sequence<(Scalar, Guard)>, from: usize, kinds: &[Scalar]) 
     }
 }
 
+#[inline(never)]
 fn have_kinds_each(shape: &Sequence<(Scalar, Guard)>, from: usize, kinds: &[Scalar]) -> bool
     requires { from + length kinds.now ≤ length shape.now }
     ensures { result ≡ have_kinds (take (length kinds.now) (drop from shape.now)) kinds.now }
@@ -338,6 +350,7 @@ fn have_kinds_each(shape: &Sequence<(Scalar, Guard)>, from: usize, kinds: &[Scal
 }
 
 /// Writes values over the cells from a place on.
+#[inline]
 fn write_over(cells: &mut Sequence<Cell>, target: usize, values: &[Cell])
     requires { target + length values.now ≤ length cells.old }
     ensures { cells.new ≡ overwritten cells.old target values.now }
@@ -376,6 +389,7 @@ pub(crate) fn put(
 }
 
 /// Copies items to another place.
+#[inline]
 pub(crate) fn copy_items<T: Copy>(
     items: &mut Sequence<T>,
     source: usize,
@@ -425,6 +439,7 @@ pub(crate) fn copy(
     Ok(())
 }
 
+#[inline]
 fn copied(
     alloc: Global,
     cells: &Sequence<Cell>,
@@ -440,6 +455,7 @@ fn copied(
     }
 }
 
+#[inline(never)]
 fn copied_each(
     alloc: Global,
     cells: &Sequence<Cell>,

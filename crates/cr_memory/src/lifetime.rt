@@ -1,4 +1,4 @@
-ghost use Rattle.std.specs.Prelude.{◌≡◌, ◌&&◌, nat_le, nat_lt, ◌<◌, ◌≤◌, ◌+◌, ◌*◌, ◌++◌, ◌∷◌, [], true, length, map, take, OnOk, OnErr, IfOk};
+ghost use Rattle.std.specs.Prelude.{◌≡◌, ◌&&◌, nat_le, nat_lt, ◌<◌, ◌≤◌, ◌+◌, ◌*◌, ◌++◌, ◌∷◌, [], true, false, length, map, take, OnOk, OnErr, IfOk, IfSome};
 ghost use Rattle.cr_sequence.specs.Kept.{repeated};
 ghost use Rattle.cr_memory.specs.Memory.{first_cell};
 ghost use Rattle.cr_memory.specs.Flat.{span_at, span_of, BeginsWith, HasRoom, MovesDown};
@@ -71,7 +71,7 @@ fn first_cells(
 }
 
 #[tactic(auto, using(crate::proofs::Repeating::begins_more))]
-fn append_cells(
+fn push_cells(
     cells: &mut Sequence<Cell>,
     shape: &[(Scalar, Guard)],
     zero: bool,
@@ -86,7 +86,7 @@ fn append_cells(
 }
 
 #[tactic(auto, using(crate::proofs::Repeating::begins_more))]
-fn append_shape(
+fn push_shape(
     shapes: &mut Sequence<(Scalar, Guard)>,
     shape: &[(Scalar, Guard)],
 ) -> Result<(), AllocError>
@@ -99,25 +99,137 @@ fn append_shape(
     Ok(())
 }
 
-/// The cells of so many elements, one by one.
+/// The cells of so many elements at once, where they are unset and stand plain; else nothing changes.
+#[inline]
+fn append_unset(
+    cells: &mut Sequence<Cell>,
+    shape: &[(Scalar, Guard)],
+    times: u32,
+    zero: bool,
+) -> bool
+    requires few { length (repeated times shape.now) < 4294967296 }
+    ensures all { result ≡ true → cells.new ≡ cells.old ++ map (first_cell zero) (repeated times shape.now) }
+    ensures same { result ≡ false → cells.new ≡ cells.old }
+{
+    if zero {
+        return false;
+    }
+    cells.extend_plain_with(cells_in(shape, times), Cell::Unset)
+}
+
+/// The same one by one, wherever they stand.
 #[tactic(auto, using(crate::proofs::Repeating::begins_more, crate::proofs::Repeating::begins_after, cr_sequence::proofs::Showing::repeated_more))]
-fn append_each(
+#[inline(never)]
+fn append_cells_each(
+    cells: &mut Sequence<Cell>,
+    shape: &[(Scalar, Guard)],
+    times: u32,
+    zero: bool,
+) -> Result<(), AllocError>
+    ensures all { OnOk result (cells.new ≡ cells.old ++ map (first_cell zero) (repeated times shape.now)) }
+    ensures begun { BeginsWith cells.old cells.new }
+{
+    for _turn in 0..times {
+        push_cells(cells, shape, zero)?;
+    }
+    Ok(())
+}
+
+#[tactic(auto, using(crate::proofs::Repeating::begins_more))]
+#[inline]
+fn append_cells(
+    cells: &mut Sequence<Cell>,
+    shape: &[(Scalar, Guard)],
+    times: u32,
+    zero: bool,
+) -> Result<(), AllocError>
+    requires few { length (repeated times shape.now) < 4294967296 }
+    ensures all { OnOk result (cells.new ≡ cells.old ++ map (first_cell zero) (repeated times shape.now)) }
+    ensures begun { BeginsWith cells.old cells.new }
+{
+    if append_unset(cells, shape, times, zero) {
+        return Ok(());
+    }
+    append_cells_each(cells, shape, times, zero)
+}
+
+/// The kind and guard of an element of one cell.
+#[inline]
+fn alone(shape: &[(Scalar, Guard)]) -> Option<(Scalar, Guard)>
+    ensures { IfSome result (λ own. shape.now ≡ own ∷ []) }
+{
+    match shape {
+        [own] => Some(*own),
+        _ => None,
+    }
+}
+
+/// The kinds and guards of elements of one cell, or of one element, at once, where they stand plain; else nothing changes.
+#[inline]
+fn append_run(shapes: &mut Sequence<(Scalar, Guard)>, shape: &[(Scalar, Guard)], times: u32) -> bool
+    ensures all { result ≡ true → shapes.new ≡ shapes.old ++ repeated times shape.now }
+    ensures same { result ≡ false → shapes.new ≡ shapes.old }
+{
+    if let Some(own) = alone(shape) {
+        return shapes.extend_plain_with(times as usize, own);
+    }
+    if times == 1 {
+        return shapes.extend_plain(shape);
+    }
+    false
+}
+
+/// The same one by one, of whatever elements.
+#[tactic(auto, using(crate::proofs::Repeating::begins_more, crate::proofs::Repeating::begins_after, cr_sequence::proofs::Showing::repeated_more))]
+#[inline(never)]
+fn append_shape_each(
+    shapes: &mut Sequence<(Scalar, Guard)>,
+    shape: &[(Scalar, Guard)],
+    times: u32,
+) -> Result<(), AllocError>
+    ensures all { OnOk result (shapes.new ≡ shapes.old ++ repeated times shape.now) }
+    ensures begun { BeginsWith shapes.old shapes.new }
+{
+    for _turn in 0..times {
+        push_shape(shapes, shape)?;
+    }
+    Ok(())
+}
+
+#[tactic(auto, using(crate::proofs::Repeating::begins_more))]
+#[inline]
+fn append_shape(
+    shapes: &mut Sequence<(Scalar, Guard)>,
+    shape: &[(Scalar, Guard)],
+    times: u32,
+) -> Result<(), AllocError>
+    ensures all { OnOk result (shapes.new ≡ shapes.old ++ repeated times shape.now) }
+    ensures begun { BeginsWith shapes.old shapes.new }
+{
+    if append_run(shapes, shape, times) {
+        return Ok(());
+    }
+    append_shape_each(shapes, shape, times)
+}
+
+/// The cells of so many elements, spelled out.
+#[tactic(auto, using(crate::proofs::Repeating::begins_same))]
+#[inline]
+fn append_plain(
     cells: &mut Sequence<Cell>,
     shapes: &mut Sequence<(Scalar, Guard)>,
     shape: &[(Scalar, Guard)],
     times: u32,
     zero: bool,
 ) -> Result<(), AllocError>
+    requires few { length (repeated times shape.now) < 4294967296 }
     ensures cells { OnOk result (cells.new ≡ cells.old ++ map (first_cell zero) (repeated times shape.now)) }
     ensures shapes { OnOk result (shapes.new ≡ shapes.old ++ repeated times shape.now) }
     ensures begun_cells { BeginsWith cells.old cells.new }
     ensures begun_shapes { BeginsWith shapes.old shapes.new }
 {
-    for _turn in 0..times {
-        append_cells(cells, shape, zero)?;
-        append_shape(shapes, shape)?;
-    }
-    Ok(())
+    append_cells(cells, shape, times, zero)?;
+    append_shape(shapes, shape, times)
 }
 
 /// The same where the cells take room when they are set.
@@ -155,6 +267,7 @@ fn stretch_shape(
 }
 
 #[tactic(auto, using(crate::proofs::Repeating::begins_same))]
+#[inline(never)]
 fn append_stretch(
     alloc: Global,
     cells: &mut Sequence<Cell>,
@@ -175,6 +288,7 @@ fn append_stretch(
 }
 
 /// The cells of a new object, behind those that are there, or some of them.
+#[inline]
 fn append(
     alloc: Global,
     cells: &mut Sequence<Cell>,
@@ -192,7 +306,7 @@ fn append(
     if times > 1 && cells_in(shape, times) > WIDE {
         append_stretch(alloc, cells, shapes, shape, times, zero)
     } else {
-        append_each(cells, shapes, shape, times, zero)
+        append_plain(cells, shapes, shape, times, zero)
     }
 }
 

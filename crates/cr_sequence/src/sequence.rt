@@ -246,6 +246,34 @@ fn push_behind<T: Copy>(
     }
 }
 
+// Whether so many more items are few enough, and would be plain.
+#[inline]
+fn may_extend<T>(count: usize, parts: &Vec<Part<T>>, more: usize) -> bool
+    ensures few { result ≡ true → count + more ≤ 2199023255552 }
+    ensures plain { result ≡ true → length parts.now.items ≡ 0 }
+{
+    count <= MOST && more <= MOST && parts.len() == 0
+}
+
+// More plain items, or none where memory is wanting.
+#[inline]
+fn extend_flat<T: Copy>(flat: &mut Vec<T>, items: &[T]) -> bool
+    ensures extended { result ≡ true → flat.new.items ≡ flat.old.items ++ items.now }
+    ensures same { result ≡ false → flat.new.items ≡ flat.old.items }
+{
+    flat.extend_from_slice(items).is_ok()
+}
+
+#[inline]
+fn extend_flat_with<T: Copy>(flat: &mut Vec<T>, count: usize, item: T) -> bool
+    requires few { length flat.old.items + count ≤ 2199023255552 }
+    ensures extended { result ≡ true → flat.new.items ≡ flat.old.items ++ repeated count (item ∷ []) }
+    ensures same { result ≡ false → flat.new.items ≡ flat.old.items }
+{
+    let longer = flat.len() + count;
+    flat.resize(longer, item).is_ok()
+}
+
 fn has_stretch<T: Copy>(parts: &Vec<Part<T>>, number: usize, size: usize) -> bool
     requires { number < length parts.now.items }
     ensures { result ≡ true → (part : Part T) → slice_get parts.now.items number ≡ Some part → length part.stretch ≡ size }
@@ -296,6 +324,7 @@ fn fill_stretch<T: Copy>(
 }
 
 // One item after another.
+#[inline(never)]
 fn set_each<T: Copy>(items: &mut Sequence<T>, from: usize, count: usize, value: T)
     requires within { from + count ≤ length items.old }
     requires few { from + count ≤ 2199023255552 }
@@ -347,6 +376,7 @@ fn plain_run<T>(flat: &Vec<T>, from: usize, count: usize) -> &[T]
 }
 
 // Writes items over plain ones, from a place on.
+#[inline]
 fn write_over<T: Copy>(items: &mut Vec<T>, at: usize, more: &[T])
     requires { at + length more.now ≤ length items.old.items }
     ensures { items.new.items ≡ overwritten items.old.items at more.now }
@@ -357,6 +387,7 @@ fn write_over<T: Copy>(items: &mut Vec<T>, at: usize, more: &[T])
 }
 
 // The same one by one, wherever they stand.
+#[inline(never)]
 fn set_all<T: Copy>(items: &mut Sequence<T>, at: usize, more: &[T])
     requires within { at + length more.now ≤ length items.old }
     requires few { at + length more.now ≤ 2199023255552 }
@@ -368,6 +399,7 @@ fn set_all<T: Copy>(items: &mut Sequence<T>, at: usize, more: &[T])
 }
 
 // Copies plain items to a place before theirs.
+#[inline]
 fn copy_down<T: Copy>(items: &mut Vec<T>, from: usize, to: usize, count: usize)
     requires down { to ≤ from }
     requires within { from + count ≤ length items.old.items }
@@ -379,6 +411,7 @@ fn copy_down<T: Copy>(items: &mut Vec<T>, from: usize, to: usize, count: usize)
 }
 
 // Copies plain items to a place after theirs.
+#[inline]
 fn copy_up<T: Copy>(items: &mut Vec<T>, from: usize, to: usize, count: usize)
     requires up { from < to }
     requires within { to + count ≤ length items.old.items }
@@ -428,6 +461,7 @@ fn set_up<T: Copy>(items: &mut Sequence<T>, from: usize, to: usize, count: usize
     }
 }
 
+#[inline(never)]
 fn copy_each<T: Copy>(items: &mut Sequence<T>, from: usize, to: usize, count: usize)
     requires from { from + count ≤ length items.old }
     requires to { to + count ≤ length items.old }
@@ -503,6 +537,7 @@ impl<T: Copy> Sequence<T> {
     }
 
     /// Writes items over those from a place on. It takes no memory, so it can't fail.
+    #[inline]
     pub fn overwrite(&mut self, at: usize, items: &[T])
         requires { at + length items.now ≤ length self.old }
         ensures { self.new ≡ overwritten self.old at items.now }
@@ -512,6 +547,7 @@ impl<T: Copy> Sequence<T> {
         }
     }
 
+    #[inline]
     fn overwrite_plain(&mut self, at: usize, items: &[T]) -> bool
         requires { at + length items.now ≤ length self.old }
         ensures few { at + length items.now ≤ 2199023255552 }
@@ -526,6 +562,7 @@ impl<T: Copy> Sequence<T> {
     }
 
     /// Copies so many items from one place on over those from another one on, as they were before the first is written.
+    #[inline]
     pub fn copy_within(&mut self, from: usize, to: usize, count: usize)
         requires from { from + count ≤ length self.old }
         requires to { to + count ≤ length self.old }
@@ -536,6 +573,7 @@ impl<T: Copy> Sequence<T> {
         }
     }
 
+    #[inline]
     fn copy_plain(&mut self, from: usize, to: usize, count: usize) -> bool
         requires from { from + count ≤ length self.old }
         requires to { to + count ≤ length self.old }
@@ -567,6 +605,39 @@ impl<T: Copy> Sequence<T> {
             }
             Err(error) => Err(error),
         }
+    }
+
+    /// More items, behind all, where all are plain and there is memory; else nothing changes.
+    #[inline]
+    pub fn extend_plain(&mut self, items: &[T]) -> bool
+        ensures extended { result ≡ true → self.new ≡ self.old ++ items.now }
+        ensures same { result ≡ false → self.new ≡ self.old }
+    {
+        let more = items.len();
+        if !may_extend(self.count, &self.parts, more) {
+            return false;
+        }
+        if !extend_flat(&mut self.flat, items) {
+            return false;
+        }
+        self.count += more;
+        true
+    }
+
+    /// The same with one item so many times.
+    #[inline]
+    pub fn extend_plain_with(&mut self, count: usize, item: T) -> bool
+        ensures extended { result ≡ true → self.new ≡ self.old ++ repeated count (item ∷ []) }
+        ensures same { result ≡ false → self.new ≡ self.old }
+    {
+        if !may_extend(self.count, &self.parts, count) {
+            return false;
+        }
+        if !extend_flat_with(&mut self.flat, count, item) {
+            return false;
+        }
+        self.count += count;
+        true
     }
 
     /// A pattern so many times, which takes no room until its items are set. The error is want of memory.

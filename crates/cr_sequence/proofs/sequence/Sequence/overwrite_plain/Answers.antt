@@ -1,6 +1,6 @@
 use Rattle.std.proofs.Common.{length, ap, ◌∙◌, arith}
 use Rattle.cr_sequence.specs.Written.{overwritten}
-use Rattle.cr_sequence.specs.Stretches.{all_items, AreCounted}
+use Rattle.cr_sequence.specs.Stretches.{all_items}
 use Rattle.cr_sequence.proofs.Writing.{flat_overwritten}
 use Rattle.cr_sequence.proofs.sequence.Sequence.overwrite_plain.Goals as goal
 
