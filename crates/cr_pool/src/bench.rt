@@ -13,6 +13,7 @@ ghost use Rattle.cr_pool.specs.Tally.{first_says, tallies_of};
 use crate::crew::Worker;
 use crate::epoch::try_by_some;
 use crate::job::{EpochEnd, Job};
+use crate::verdict::Verdict;
 use crate::verdicts::Verdicts;
 use cr_cursor::{Law, Passes};
 use cr_outside::{Answer, Judge, NoMemory, Question};
@@ -81,6 +82,15 @@ impl<J: Judge + Drop> Bench<J> {
     }
 }
 
+// How many variants a worker noted a No about in the last epoch that it did.
+fn refusals<J>(worker: &Worker<J>) -> u64 {
+    let noes = worker
+        .notes
+        .iter()
+        .filter(|note| **note == Some(Verdict::No));
+    noes.count() as u64
+}
+
 // The workers of these judges.
 fn crew_of<J: Drop>(alloc: Global, judges: Vec<J>) -> Result<Vec<Worker<J>>, NoMemory>
     ensures { IfOk result (λ workers. judges_in workers.items ≡ judges.items) }
@@ -113,6 +123,16 @@ impl<J: Judge> Bench<J> {
         ensures { result ≡ self.now.lost }
     {
         self.lost
+    }
+
+    /// How many variants the first of so many workers, in the last epoch that they did, came to a No about. It is no more than a hint
+    /// of how often the next ones may be refused: no clause rests on it.
+    pub fn refused(&self, workers: u32) -> u64 {
+        let mut count: u64 = 0;
+        for worker in self.workers.iter().take(workers as usize) {
+            count = count.saturating_add(refusals(worker));
+        }
+        count
     }
 
     /// Forgets the kept verdicts.

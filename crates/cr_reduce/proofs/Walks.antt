@@ -1,6 +1,6 @@
 -- The numbers of a walk, and what its steps complete.
-use Rattle.std.proofs.Common.{◌≡◌, ℕ, ◌+◌, ◌*◌, ◌-◌, ◌<◌, ◌≤◌, Bool, true, false, List, length, Option, Some, None, ap, subst, sym, refl, arith}
-use Rattle.std.proofs.lemmas.List.{length_push}
+use Rattle.std.proofs.Common.{◌≡◌, ◌∙◌, ℕ, ◌+◌, ◌*◌, ◌-◌, ◌<◌, ◌≤◌, Bool, true, false, List, drop, length, Option, Some, None, ap, subst, sym, refl, arith}
+use Rattle.std.proofs.lemmas.List.{drop-drop, length_push}
 use Rattle.std.proofs.Math.Nat.{suc-mul}
 use Rattle.std.specs.List.{slice_get}
 use Rattle.cr_cursor.specs.declared.passes.Cursor.{Cursor}
@@ -60,6 +60,13 @@ few_taken p window len before now from to position short low few it =
     let one : Accepted = record { at = it.at; size = it.size; turn = it.turns } in
     let more = ap (λ n. n * (window - 1)) (length_push from.accepted one) in
     subst (λ st. AsksFew window before now from st 0) (sym it.is) (omega (arith, few, it.count, more, suc-mul (length from.accepted) (window - 1)))
+
+-- What is the same behind the first few is the same behind more.
+pub drop_more : {A : Type 0} (few more : ℕ) (xs ys : List A) → few ≤ more → drop few xs ≡ drop few ys → drop more xs ≡ drop more ys
+drop_more few more xs ys fewer same =
+    let rest = more - few in
+    let all : few + rest ≡ more = omega (arith, fewer) in
+    subst (λ n. drop n xs ≡ drop n ys) all (sym (drop-drop rest few xs) ∙ ap (drop rest) same ∙ drop-drop rest few ys)
 
 -- what the steps complete
 

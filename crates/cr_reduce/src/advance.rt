@@ -13,6 +13,7 @@ ghost use Rattle.cr_reduce.specs.Walk.{Advances, AsksFew, AsksOnlyTried, EndsHer
 use crate::end::{Accepted, Plan, Why};
 use crate::keeper::Keeper;
 use crate::look::look;
+use crate::pace::Pace;
 use crate::walk::Walk;
 use cr_cursor::{Law, Passes};
 use cr_outside::{Judge, Question};
@@ -30,6 +31,7 @@ fn advance<R: Threads + Sync, P: Passes + Sync, L: Law + Sync, Q: Question + Syn
     bench: &mut Bench<J>,
     name: &str,
     plan: &Plan,
+    pace: &mut Pace,
     walk: &mut Walk<P::Prep>,
 ) -> Option<Why>
 where
@@ -70,7 +72,9 @@ where
     if plan.limit == Some(walk.turns) {
         return Some(Why::Limit);
     }
-    look(rt, alloc, passes, law, question, bench, name, plan, walk)
+    look(
+        rt, alloc, passes, law, question, bench, name, plan, pace, walk,
+    )
 }
 
 /// Goes on until the walk ends, and says why.
@@ -118,9 +122,12 @@ where
     ensures made { AreMade (searching P.Passes passes.now L.Law law.now Q.Question question.now name.now J.Judge bench.old)
         (judging J.Judge bench.old) (judging J.Judge bench.new) bench.new.kept }
 {
+    let mut pace = Pace::new(question.uses_judge());
     loop {
         let count = walk.accepted.len() as u64;
-        let step = advance(rt, alloc, passes, law, question, bench, name, plan, walk);
+        let step = advance(
+            rt, alloc, passes, law, question, bench, name, plan, &mut pace, walk,
+        );
         if let Some(why) = step {
             return why;
         }

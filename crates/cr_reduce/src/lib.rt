@@ -12,6 +12,7 @@ mod keeper;
 pub mod laws;
 mod look;
 mod measure;
+mod pace;
 mod resuming;
 mod take;
 mod walk;

@@ -7,6 +7,7 @@ ghost use Rattle.cr_reduce.specs.Walk.{AsksFew, AsksOnlyTried, EndsHere, EpochSa
 ghost use Rattle.cr_reduce.specs.declared.end.Why.{Why};
 
 use crate::end::{Plan, Why};
+use crate::pace::Pace;
 use crate::take::take;
 use crate::walk::Walk;
 use cr_cursor::{Law, Passes};
@@ -99,6 +100,7 @@ pub fn look<
     bench: &mut Bench<J>,
     name: &str,
     plan: &Plan,
+    pace: &mut Pace,
     walk: &mut Walk<P::Prep>,
 ) -> Option<Why>
 where
@@ -130,7 +132,8 @@ where
     ensures made { AreMade (searching P.Passes passes.now L.Law law.now Q.Question question.now name.now J.Judge bench.old)
         (judging J.Judge bench.old) (judging J.Judge bench.new) bench.new.kept }
 {
-    let len = length_of(plan, walk.count - walk.position, walk.turns);
+    let step = pace.within(plan);
+    let len = length_of(&step, walk.count - walk.position, walk.turns);
     match try_next(
         rt,
         alloc,
@@ -139,17 +142,21 @@ where
         question,
         bench,
         name,
-        plan.workers,
+        step.workers,
         walk,
         len,
     ) {
         EpochEnd::NoneOf(passed) => {
             walk.position += passed;
             walk.turns += passed;
+            pace.go_on(passed, bench.refused(step.workers));
             None
         }
         EpochEnd::Found(position, variant) => match take(alloc, passes, walk, position, variant) {
-            Ok(()) => None,
+            Ok(()) => {
+                pace.accept();
+                None
+            }
             Err(_) => Some(Why::NoMemory),
         },
         EpochEnd::Fault(position, worker) => {

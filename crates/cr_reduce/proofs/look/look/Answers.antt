@@ -3,7 +3,7 @@ use Rattle.cr_reduce.specs.Bench.{judging}
 use Rattle.cr_reduce.specs.Search.{searching}
 use Rattle.cr_reduce.specs.Walk.{state_of}
 use Rattle.cr_reduce.specs.Walk.MovesOn.{passed}
-use Rattle.cr_reduce.proofs.Walks.{few_taken, goes_over_all, takes_first}
+use Rattle.cr_reduce.proofs.Walks.{drop_more, few_taken, goes_over_all, takes_first}
 use Rattle.cr_reduce.proofs.look.look.Goals as goal
 
 pub returns-in-NoneOf-clause-moved : goal.returns-in-NoneOf-clause-moved
@@ -22,4 +22,19 @@ pub returns-in-Ok-clause-few : goal.returns-in-Ok-clause-few
 returns-in-Ok-clause-few g c =
     few_taken (g.P.Passes.offers c.args.passes.now) c.args.plan.now.window c.length_of-len.result (judging g.J.Judge c.args.bench.now) (judging g.J.Judge c.try_next.new.bench)
     (state_of (g.P.Passes.offer c.args.passes.now) c.args.walk.now) (state_of (g.P.Passes.offer c.args.passes.now) c.take.new.walk) c.in-Found.position
-    c.length_of-len.ensures.few c.in-Found.ensures.says.1.2.after c.try_next.ensures.few c.in-Ok.ensures.taken
+    (omega (arith, c.length_of-len.ensures.few, c.within-step.ensures.window)) c.in-Found.ensures.says.1.2.after c.try_next.ensures.few c.in-Ok.ensures.taken
+
+pub returns-in-NoneOf-clause-others : goal.returns-in-NoneOf-clause-others
+returns-in-NoneOf-clause-others g c = drop_more c.within-step.result.workers c.args.plan.now.workers c.try_next.new.bench.judges c.args.bench.now.judges c.within-step.ensures.workers.1 c.try_next.ensures.others
+
+pub returns-in-Ok-clause-others : goal.returns-in-Ok-clause-others
+returns-in-Ok-clause-others g c = drop_more c.within-step.result.workers c.args.plan.now.workers c.try_next.new.bench.judges c.args.bench.now.judges c.within-step.ensures.workers.1 c.try_next.ensures.others
+
+pub returns-in-Err-clause-others : goal.returns-in-Err-clause-others
+returns-in-Err-clause-others g c = drop_more c.within-step.result.workers c.args.plan.now.workers c.try_next.new.bench.judges c.args.bench.now.judges c.within-step.ensures.workers.1 c.try_next.ensures.others
+
+pub returns-in-Fault-clause-others : goal.returns-in-Fault-clause-others
+returns-in-Fault-clause-others g c = drop_more c.within-step.result.workers c.args.plan.now.workers c.try_next.new.bench.judges c.args.bench.now.judges c.within-step.ensures.workers.1 c.try_next.ensures.others
+
+pub returns-in-NoMemory-clause-others : goal.returns-in-NoMemory-clause-others
+returns-in-NoMemory-clause-others g c = drop_more c.within-step.result.workers c.args.plan.now.workers c.try_next.new.bench.judges c.args.bench.now.judges c.within-step.ensures.workers.1 c.try_next.ensures.others
