@@ -1,12 +1,12 @@
 #!/usr/bin/env bash
 # Prints what a cr_memory::Store does on one core: the peak of the process's memory after ten million objects came and went while ten
-# lived; how many millions of `load`, of `save`, and of `enter` with `leave` it does a second; and how long it looks for one of many
-# live objects.
+# lived; how many millions of `load`, of `save`, of `begin`, of `copy` and of `cells` (of three cells each), and of `enter` with `leave`
+# it does a second; and how long it looks for one of many live objects.
 # It proves and builds a small timer in a folder of its own, which takes a few minutes. Run it by hand.
 set -eu
 . "$(dirname "${BASH_SOURCE[0]}")/timer.sh"
 begin_timer cr_ints cr_memory
-mkdir -p specs proofs/saves
+mkdir -p specs proofs/saves proofs/copies
 touch specs/Lib.antt
 
 cat >proofs/saves/Invariants.antt <<'ANTT'
@@ -16,12 +16,23 @@ use Rattle.timer.proofs.saves.Given as goal
 abbrev pub invariant-loop-value : goal.invariant-loop-value
 invariant-loop-value l = IsPointer l.store l.at
 ANTT
+cat >proofs/copies/Invariants.antt <<'ANTT'
+use Rattle.cr_memory.specs.Memory.{IsPointer}
+use Rattle.timer.proofs.copies.Given as goal
+
+abbrev pub invariant-loop-turn : goal.invariant-loop-turn
+invariant-loop-turn l = record {
+  from : IsPointer l.store l.from;
+  to : IsPointer l.store l.to;
+}
+ANTT
 cat >src/main.rt <<'RT'
 //! Loads, saves, enters, leaves and looks up many times, and prints how long each took and how much memory was held.
 #![tactic(auto)]
 
-ghost use Rattle.std.specs.Prelude.{◌<◌};
+ghost use Rattle.std.specs.Prelude.{◌<◌, length};
 ghost use Rattle.cr_memory.specs.Memory.{IsPointer};
+ghost use Rattle.cr_memory.specs.Access.{HasStride};
 
 use std::alloc::Global;
 use std::fs;
@@ -85,6 +96,48 @@ fn saves(store: &mut Store, at: Pointer) -> u64
     for value in 0..TIMES {
         let cell = Cell::Number((value % 1000) as i128);
         if store.holds(INT, cell) && store.save(at, INT, cell).is_ok() && answers < TIMES {
+            answers += 1;
+        }
+    }
+    answers
+}
+
+fn begins(store: &mut Store, object: u32) -> u64 {
+    let mut answers = 0;
+    for value in 0..TIMES {
+        if let Some(kind) = store.kind_of(object, 2) {
+            let cell = Cell::Number((value % 1000) as i128);
+            if store.holds(kind, cell) && answers < TIMES {
+                store.begin(object, 2, cell);
+                answers += 1;
+            }
+        }
+    }
+    answers
+}
+
+fn copies(store: &mut Store, from: Pointer, to: Pointer, count: u32) -> u64
+    requires from { IsPointer store.old from }
+    requires to { IsPointer store.old to }
+    requires from_stride { HasStride from count }
+    requires to_stride { HasStride to count }
+{
+    let mut answers = 0;
+    for _turn in 0..TIMES / 10 {
+        if store.copy(from, to, count).is_ok() && answers < TIMES {
+            answers += 1;
+        }
+    }
+    answers
+}
+
+fn takes(alloc: Global, store: &Store, from: Pointer, kinds: &[Scalar]) -> u64
+    requires pointer { IsPointer store.now from }
+    requires stride { HasStride from (length kinds.now) }
+{
+    let mut answers = 0;
+    for _turn in 0..TIMES / 10 {
+        if store.cells(alloc, from, kinds).is_ok() && answers < TIMES {
             answers += 1;
         }
     }
@@ -176,6 +229,28 @@ fn print_accesses(rt: &HostRuntime) -> io::Result<()> {
     Ok(())
 }
 
+fn print_structures(rt: &HostRuntime) -> io::Result<()> {
+    let mut store = Store::new(rt.alloc(), 1000);
+    let _ = store.enter(&SHAPE, true);
+    let _ = store.enter(&SHAPE, true);
+    let start = Instant::now(rt)?;
+    let answers = begins(&mut store, 0);
+    println!(rt; "timed begin {} {}", answers, start.elapsed(rt)?.as_micros())?;
+    let from = Pointer::At { object: 0, cell: 0, low: 0, high: 3, stride: 3 };
+    let to = Pointer::At { object: 1, cell: 0, low: 0, high: 3, stride: 3 };
+    if store.is_pointer(from) {
+        let start = Instant::now(rt)?;
+        let answers = takes(rt.alloc(), &store, from, &[INT; 3]);
+        println!(rt; "timed cells of a structure of three {} {}", answers, start.elapsed(rt)?.as_micros())?;
+    }
+    if store.is_pointer(from) && store.is_pointer(to) {
+        let start = Instant::now(rt)?;
+        let answers = copies(&mut store, from, to, 3);
+        println!(rt; "timed copy of a structure of three {} {}", answers, start.elapsed(rt)?.as_micros())?;
+    }
+    Ok(())
+}
+
 fn print_looks(rt: &HostRuntime, count: u32) -> io::Result<()>
     requires { 0 < count }
 {
@@ -195,6 +270,7 @@ fn print_looks(rt: &HostRuntime, count: u32) -> io::Result<()>
 fn main(rt: HostRuntime) -> io::Result<()> {
     print_memory(&rt)?;
     print_accesses(&rt)?;
+    print_structures(&rt)?;
     print_looks(&rt, 1000)?;
     print_looks(&rt, 100_000)?;
     print_looks(&rt, 1_000_000)?;

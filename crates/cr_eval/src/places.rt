@@ -116,7 +116,9 @@ fn used_structure(
 ) -> Result<Did, Trap>
     ensures { Answers (used (program_of table.now) (Access.Cells row) store.now at) (meant store.now result) }
 {
-    let kinds = table.kinds_of(row);
+    let Some(kinds) = table.kinds_of(row) else {
+        return Err(Trap::NoMemory);
+    };
     if misfits(kinds.len(), at) {
         return Err(Trap::Left(OTHER_TYPE));
     }

@@ -24,7 +24,7 @@ fn cells_in(table: &Table, form: Form) -> usize
     match form {
         Form::Void => 0,
         Form::Number(_) | Form::Pointer(_) => 1,
-        Form::Cells(row) => table.kinds_of(row).len(),
+        Form::Cells(row) => table.cells_of(row),
     }
 }
 
@@ -113,12 +113,10 @@ fn stored(
     ensures { Answers (stored (program_of table.now) store.old form at value.now) (leaving store.new result) }
 {
     match (form, value) {
-        (Form::Cells(row), Value::Cells(cells)) => put(
-            store,
-            at,
-            table.kinds_of(row),
-            cells.as_slice(),
-        ),
+        (Form::Cells(row), Value::Cells(cells)) => match table.kinds_of(row) {
+            Some(kinds) => put(store, at, kinds, cells.as_slice()),
+            None => Err(Trap::NoMemory),
+        },
         _ => stored_scalar(table, store, form, at, value),
     }
 }

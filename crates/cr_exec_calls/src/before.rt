@@ -18,7 +18,7 @@ use cr_eval::Table;
 use cr_eval_join::UNSEQUENCED;
 use cr_exec_slices::Halted;
 use cr_exec_turns::Held;
-use cr_exec_world::{World, enter, mark, shape_for};
+use cr_exec_world::{World, enter, mark, spelled_for};
 use cr_meaning::{Callee, Parameter, Value};
 use cr_memory::{Cell, Trap};
 use std::alloc::Global;
@@ -47,7 +47,9 @@ fn enter_parameter(
     ensures work { Worked (entering (enter_object (world_of world.old) parameter.node (with_argument (program_of table.now) parameter value.now))) result (world_of world.new) }
     ensures steps { world.new.steps ≡ world.old.steps }
 {
-    let shape = shape_for(table, parameter.node);
+    let Some(shape) = spelled_for(table, parameter.node) else {
+        return Err(Halted::NoMemory);
+    };
     match value {
         Value::Number(_, number) => enter(world, parameter.node, shape, &[Cell::Number(*number)]),
         Value::Pointer(at) => enter(world, parameter.node, shape, &[Cell::Pointer(*at)]),

@@ -1,4 +1,6 @@
+pub mod Repeating
 pub mod Rows
 pub mod Parts
 pub mod Beyond
 pub mod Open
+pub mod Listed

@@ -8,6 +8,7 @@ use crate::types::Types;
 use cr_check_types::Shape;
 use cr_memory::{Guard, Scalar};
 use cr_rows::Row;
+use cr_sequence::Times;
 use cr_syntax::CType;
 use std::alloc::{AllocError, Global};
 
@@ -56,18 +57,38 @@ fn cells_of(
     repeated(alloc, &one, elements.count)
 }
 
-// The cells of a row's type, by those of all structures.
+// The cells of a row's type, by those of all structures: those of an element, and how often it comes.
 pub(crate) fn object_cells(
     alloc: Global,
     types: &Types,
     structures: &Vec<Row<(Scalar, Guard)>>,
     row: u32,
-) -> Result<Vec<(Scalar, Guard)>, AllocError>
+) -> Result<Times<(Scalar, Guard)>, AllocError>
     requires { AreStructures types.now structures.now.items }
-    ensures { IfOk result (λ cells. cells.items ≡ shape_of types.now (type_at types.now.shapes row)) }
+    ensures { IfOk result (λ cells. cells ≡ shape_of types.now (type_at types.now.shapes row)) }
 {
-    let cells = cells_of(alloc, types, structures, row)?;
-    Ok(cells)
+    let elements = types.elements(row);
+    let one = single(alloc, types, structures, elements.shape)?;
+    elements_of(one, elements.count)
+}
+
+// The cells of elements one behind another, spelled out once. Elements without cells aren't counted.
+fn elements_of(
+    one: Vec<(Scalar, Guard)>,
+    count: Option<u64>,
+) -> Result<Times<(Scalar, Guard)>, AllocError>
+    ensures { (n : ℕ) → Counted count 1 n → IfOk result (λ all. all ≡ repeated n one.items) }
+{
+    if is_none(&one) {
+        return Times::new(one, 1);
+    }
+    match count {
+        Some(count) => match u32::try_from(count) {
+            Ok(times) => Times::new(one, times),
+            Err(_) => Err(AllocError),
+        },
+        None => Err(AllocError),
+    }
 }
 
 // The cells of what is no array.

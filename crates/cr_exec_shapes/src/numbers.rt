@@ -1,7 +1,7 @@
-ghost use Rattle.std.specs.Prelude.{◌≡◌, ◌<◌, ◌^◌, ℕ, IfOk, OnOk, length, slice_index_or};
+ghost use Rattle.std.specs.Prelude.{◌≡◌, ◌<◌, ◌^◌, ◌++◌, ℕ, IfOk, OnOk, length, slice_index_or};
 ghost use Rattle.cr_check_types.specs.Relations.{are_compatible, IsLeastRow};
 ghost use Rattle.cr_check_types.specs.Types.{types_of, type_at, unknown};
-ghost use Rattle.cr_exec_shapes.specs.Open.{is_open, AreMarked};
+ghost use Rattle.cr_exec_shapes.specs.Open.{is_open, AreListed, AreMarked, listed_if};
 ghost use Rattle.cr_meaning_operations.specs.Shapes.{first_row};
 
 use cr_check_types::Table;
@@ -9,7 +9,7 @@ use cr_syntax::CType;
 use std::alloc::{AllocError, Global};
 
 // For each row the first one of a compatible type. The error is want of memory, also where the rows don't fit 32 bits.
-#[tactic(auto, using(crate::proofs::Rows::first_is_least))]
+#[tactic(auto, using(crate::proofs::Rows::first_is_least, crate::proofs::Listed::listed_none))]
 pub(crate) fn numbers(alloc: Global, table: &Table) -> Result<Vec<u32>, AllocError>
     requires { type_at table.now 0 ≡ unknown }
     ensures fit { OnOk result (length table.now < 2 ^ 32) }
@@ -19,10 +19,12 @@ pub(crate) fn numbers(alloc: Global, table: &Table) -> Result<Vec<u32>, AllocErr
 {
     let mut numbers = Vec::new(alloc);
     let mut marks = Vec::new(alloc);
+    let mut open_rows = Vec::new(alloc);
     for row in 0..rows(table)? {
         let is_open = is_open(table, marks.as_slice(), row);
-        numbers.push(first(table, marks.as_slice(), row, is_open))?;
+        numbers.push(first(table, open_rows.as_slice(), row, is_open))?;
         marks.push(is_open)?;
+        list_if(&mut open_rows, row, is_open)?;
     }
     Ok(numbers)
 }
@@ -48,11 +50,20 @@ fn is_open(table: &Table, marks: &[bool], row: u32) -> bool
     }
 }
 
+fn list_if(rows: &mut Vec<u32>, row: u32, is: bool) -> Result<(), AllocError>
+    ensures { OnOk result (rows.new.items ≡ rows.old.items ++ listed_if is row) }
+{
+    if is {
+        rows.push(row)?;
+        return Ok(());
+    }
+    Ok(())
+}
+
 // The first row of a compatible type. Another than its own is only asked about where one of both is open.
-fn first(table: &Table, marks: &[bool], row: u32, own_open: bool) -> u32
+fn first(table: &Table, open_rows: &[u32], row: u32, own_open: bool) -> u32
     requires within { row < length table.now }
-    requires count { length marks.now ≡ row }
-    requires marked { AreMarked table.now marks.now }
+    requires listed { AreListed table.now open_rows.now row }
     requires own { own_open ≡ is_open (type_at table.now row) }
     ensures { IsLeastRow (λ r. are_compatible (type_at table.now r) (type_at table.now row)) row result }
 {
@@ -60,8 +71,9 @@ fn first(table: &Table, marks: &[bool], row: u32, own_open: bool) -> u32
         return table.least_compatible(row);
     }
     table.is_canonical();
-    for other in 0..row {
-        if marks[other as usize] && table.are_compatible(other, row) {
+    for at in 0..open_rows.len() {
+        let other = open_rows[at];
+        if table.are_compatible(other, row) {
             return other;
         }
     }

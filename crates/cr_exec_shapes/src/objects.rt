@@ -12,6 +12,7 @@ use crate::types::Types;
 use cr_ints::{IntKind, convert};
 use cr_memory::{Cell, Guard, Scalar};
 use cr_rows::Row;
+use cr_sequence::Times;
 use cr_syntax::Kind;
 use std::alloc::{AllocError, Global};
 
@@ -20,7 +21,7 @@ pub fn shapes(
     alloc: Global,
     types: &Types,
     structures: &Vec<Row<(Scalar, Guard)>>,
-) -> Result<Row<Row<(Scalar, Guard)>>, AllocError>
+) -> Result<Row<Times<(Scalar, Guard)>>, AllocError>
     requires { AreStructures types.now structures.now.items }
     ensures { IfOk result (λ shapes. (node : ℕ)
         → slice_index_or shapes node [] ≡ object_shape types.now node (kind_at types.now node)) }
@@ -37,7 +38,7 @@ fn object_shape(
     types: &Types,
     structures: &Vec<Row<(Scalar, Guard)>>,
     node: u32,
-) -> Result<Row<(Scalar, Guard)>, AllocError>
+) -> Result<Times<(Scalar, Guard)>, AllocError>
     requires { AreStructures types.now structures.now.items }
     ensures { IfOk result (λ shape. shape ≡ object_shape types.now node (kind_at types.now node)) }
 {
@@ -52,17 +53,17 @@ fn shape(
     types: &Types,
     structures: &Vec<Row<(Scalar, Guard)>>,
     row: u32,
-) -> Result<Row<(Scalar, Guard)>, AllocError>
+) -> Result<Times<(Scalar, Guard)>, AllocError>
     requires { AreStructures types.now structures.now.items }
     ensures { IfOk result (λ shape. shape ≡ shape_of types.now (type_at types.now.shapes row)) }
 {
-    Ok(Row::from_vec(object_cells(alloc, types, structures, row)?))
+    object_cells(alloc, types, structures, row)
 }
 
-fn literal_shape(alloc: Global, text: &[u8]) -> Result<Row<(Scalar, Guard)>, AllocError>
+fn literal_shape(alloc: Global, text: &[u8]) -> Result<Times<(Scalar, Guard)>, AllocError>
     ensures { IfOk result (λ shape. shape ≡ map (λ byte. (Int Char, Literal)) text.now) }
 {
-    Ok(Row::from_vec(char_cells(alloc, text)?))
+    Times::new(char_cells(alloc, text)?, 1)
 }
 
 fn char_cells(alloc: Global, text: &[u8]) -> Result<Vec<(Scalar, Guard)>, AllocError>
@@ -127,7 +128,7 @@ pub fn kinds(
     alloc: Global,
     types: &Types,
     structures: &Vec<Row<(Scalar, Guard)>>,
-) -> Result<Row<Row<Scalar>>, AllocError>
+) -> Result<Row<Times<Scalar>>, AllocError>
     requires { AreStructures types.now structures.now.items }
     ensures { IfOk result (λ kinds. (row : ℕ)
         → slice_index_or kinds row [] ≡ map (λ own. own.0) (shape_of types.now (type_at types.now.shapes row))) }
@@ -144,12 +145,13 @@ fn kinds_of(
     types: &Types,
     structures: &Vec<Row<(Scalar, Guard)>>,
     row: u32,
-) -> Result<Row<Scalar>, AllocError>
+) -> Result<Times<Scalar>, AllocError>
     requires { AreStructures types.now structures.now.items }
     ensures { IfOk result (λ kinds. kinds ≡ map (λ own. own.0) (shape_of types.now (type_at types.now.shapes row))) }
 {
     let cells = object_cells(alloc, types, structures, row)?;
-    Ok(Row::from_vec(kinds_in(alloc, &cells)?))
+    let (one, times) = cells.parts();
+    Times::new(kinds_in(alloc, one)?, times)
 }
 
 fn kinds_in(alloc: Global, cells: &[(Scalar, Guard)]) -> Result<Vec<Scalar>, AllocError>

@@ -106,7 +106,10 @@ fn literal(
         Form::Void => Ok(Row::new(alloc)),
         Form::Number(kind) => elements(alloc, store, object, &[Scalar::Int(kind)]),
         Form::Pointer(to) => elements(alloc, store, object, &[Scalar::Pointer(to)]),
-        Form::Cells(row) => elements(alloc, store, object, table.kinds_of(row)),
+        Form::Cells(row) => match table.spelled_kinds(alloc, row) {
+            Ok(kinds) => elements(alloc, store, object, &kinds),
+            Err(_) => Err(Trap::NoMemory),
+        },
     }
 }
 
@@ -254,7 +257,10 @@ fn fill(
 ) -> Result<(), Trap>
     ensures { Answers (Ok (with_parts (zeroed (program_of table.now) store.old object declared) object sets.now)) (leaving store.new result) }
 {
-    match blank(alloc, shape_for(table, declared), store, object) {
+    let Some(shape) = shape_for(table, declared) else {
+        return Err(Trap::NoMemory);
+    };
+    match blank(alloc, shape, store, object) {
         Ok(()) => write_parts(store, object, sets),
         Err(_) => Err(Trap::NoMemory),
     }
@@ -325,7 +331,10 @@ fn fill_one(
 ) -> Result<(), Trap>
     ensures { Answers (Ok (with_parts (zeroed (program_of table.now) store.old object declared) object ((set.0, set.1 ∷ []) ∷ []))) (leaving store.new result) }
 {
-    match blank(alloc, shape_for(table, declared), store, object) {
+    let Some(shape) = shape_for(table, declared) else {
+        return Err(Trap::NoMemory);
+    };
+    match blank(alloc, shape, store, object) {
         Ok(()) => write(store, object, set.0, &[set.1]),
         Err(_) => Err(Trap::NoMemory),
     }

@@ -11,8 +11,7 @@ use crate::controls::after_two;
 use cr_eval::Table;
 use cr_exec_slices::Halted;
 use cr_exec_turns::Held;
-use cr_exec_world::{World, clear, open, shape_for, step};
-use std::alloc::Global;
+use cr_exec_world::{World, clear, open, step};
 
 /// A compound statement begins: N3.
 #[inline]
@@ -83,19 +82,14 @@ pub(crate) fn switch_before(
 
 /// A declarator without initialiser: its object holds nothing again (6.2.4p6).
 #[inline]
-pub(crate) fn declare(
-    alloc: Global,
-    table: &Table,
-    world: &mut World,
-    declared: u32,
-) -> Result<(), Halted>
+pub(crate) fn declare(world: &mut World, declared: u32) -> Result<(), Halted>
     ensures work { (node : ℕ) → Worked (unset_by node declared (world_of world.old)) result (world_of world.new) }
     ensures steps { world.new.steps ≡ world.old.steps }
 {
     let Some(object) = world.names.find(declared) else {
         return Err(Halted::NoMemory);
     };
-    match clear(alloc, shape_for(table, declared), &mut world.store, object) {
+    match clear(&mut world.store, object) {
         Ok(()) => Ok(()),
         Err(_) => Err(Halted::NoMemory),
     }

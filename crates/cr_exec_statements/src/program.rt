@@ -17,7 +17,7 @@ use cr_eval::Table;
 use cr_exec_slices::Halted;
 use cr_exec_stack::Stack;
 use cr_exec_turns::Held;
-use cr_exec_world::{World, enter, enter_each, mark, shape_for};
+use cr_exec_world::{World, enter, enter_each, mark, spelled_for};
 use cr_ints::IntKind;
 use cr_meaning::{Parameter, Value};
 use cr_memory::{Cell, Guard, Pointer, Scalar};
@@ -52,13 +52,11 @@ fn enter_arguments(
         high: 1,
         stride: 1,
     };
-    match enter(world, count, shape_for(table, count), &[Cell::Number(0)]) {
-        Ok(()) => enter(
-            world,
-            vector,
-            shape_for(table, vector),
-            &[Cell::Pointer(strings)],
-        ),
+    let (Some(one), Some(other)) = (spelled_for(table, count), spelled_for(table, vector)) else {
+        return Err(Halted::NoMemory);
+    };
+    match enter(world, count, one, &[Cell::Number(0)]) {
+        Ok(()) => enter(world, vector, other, &[Cell::Pointer(strings)]),
         Err(halted) => Err(halted),
     }
 }

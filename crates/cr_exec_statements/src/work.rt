@@ -49,7 +49,7 @@ pub fn statement(
         Work::Continue => Ok(Held::Continued),
         Work::Goto(label) => Ok(Held::Jumped(*label)),
         Work::Return(form) => return_end(alloc, world, node, *form, stack.done()),
-        Work::Declare(declared) => passing(declare(alloc, table, world, *declared)),
+        Work::Declare(declared) => passing(declare(world, *declared)),
         Work::Initialise(declared, lines) => passing(initialise(
             alloc,
             table,

@@ -1,16 +1,14 @@
 -- Cells of a live object that are set one after another.
-use Rattle.std.proofs.Common.{◌≡◌, ℕ, suc, ◌+◌, ◌<◌, Bool, true, false, Option, Some, None, List, [], ◌∷◌, length, refl, sym, ap, ◌∙◌, subst, set, get_or-set_same, ◌++◌, map, replicate, arith}
+use Rattle.std.proofs.Common.{◌≡◌, ℕ, suc, ◌+◌, ◌<◌, Bool, true, false, Option, Some, None, List, [], ◌∷◌, length, refl, sym, ap, ◌∙◌, subst, set, get_or-set_same, ◌++◌, arith}
 use Rattle.std.specs.Prelude.{is_some}
 use Rattle.std.proofs.lemmas.List.{set-set, set-get_or, set_at, get_or_push, length-map}
 use Rattle.cr_memory.specs.declared.value.Cell.{Cell}
-use Rattle.cr_memory.specs.declared.value.Cell.TheVariants.{Unset}
 use Rattle.cr_memory.specs.declared.value.Scalar.{Scalar}
 use Rattle.cr_memory.specs.declared.value.Guard.{Guard}
-use Rattle.cr_memory.specs.Memory.{Object, Memory, live_object, count_of, first_cell, new_object, with_object}
+use Rattle.cr_memory.specs.Memory.{Object, Memory, live_object, first_cell, new_object, with_object}
 use Rattle.cr_memory.specs.Access.{some_object, overwritten, with_cells}
 use Rattle.cr_memory.proofs.Continuing.{entered_if_some}
 use Rattle.cr_memory.proofs.Moving.{overwritten-whole}
-use Rattle.cr_meaning.specs.World.{unset_again}
 use Rattle.cr_exec_world.specs.Cells.{set_each}
 
 pub some_if : (o : Option Object) → is_some o ≡ true → (x : Object) × (o ≡ Some x)
@@ -59,14 +57,6 @@ all_at m o place (cell ∷ cells) x e =
 pub all_set : (m : Memory) (o place : ℕ) (cells : List Cell) → is_some (live_object m o) ≡ true → set_each m o place cells ≡ with_cells m o place cells
 all_set m o place cells h = let x = some_if (live_object m o) h in all_at m o place cells x.0 x.1
 
-each_unset : (shape : List (Scalar × Guard)) → replicate (length shape) Unset ≡ map (λ _. Unset) shape
-each_unset [] = refl
-each_unset (own ∷ shape) = ap (λ (cells : List Cell). Unset ∷ cells) (each_unset shape)
-
-pub unset_so : (m : Memory) (o : ℕ) (shape : List (Scalar × Guard)) → count_of (live_object m o) ≡ length shape
-    → unset_again m o ≡ with_cells m o 0 (map (λ _. Unset) shape)
-unset_so m o shape e = ap (λ (cells : List Cell). with_cells m o 0 cells) (ap (λ (n : ℕ). replicate n Unset) e ∙ each_unset shape)
-
 -- an object that has just been entered, with all its cells set
 pub filled : (m blank : Memory) (shape : List (Scalar × Guard)) (cells : List Cell) (n : ℕ) → n ≡ length m.objects → blank ≡ with_object m (new_object false shape)
     → length cells ≡ length shape → with_cells blank n 0 cells ≡ with_object m (record { cells = cells; shape = shape })
@@ -80,8 +70,3 @@ filled m blank shape cells n number entered size =
     (ap (λ (cs : List Cell). set (m.objects ++ Some x ∷ []) n (Some (record { cells = cs; shape = shape })))
     (overwritten-whole x.cells cells (size ∙ sym (length-map shape (first_cell false))))
     ∙ set_at m.objects (Some x) [] (Some full) n (sym number)))
-
-pub one_unset : (shape : List (Scalar × Guard)) → length shape ≡ 1 → map (λ _. Unset) shape ≡ Unset ∷ []
-one_unset [] e = absurd (omega arith)
-one_unset (own ∷ []) e = refl
-one_unset (own ∷ (other ∷ shape)) e = absurd (omega arith)

@@ -1,12 +1,13 @@
 // The cells of an object, set whatever their guards.
 ghost use Rattle.std.specs.Prelude.{◌≡◌, Ok, [], ◌∷◌, map, IsTrue, IfOk};
-ghost use Rattle.cr_memory.specs.Memory.{zero_of, live_object, count_of};
+ghost use Rattle.cr_memory.specs.Memory.{zero_of};
 ghost use Rattle.cr_memory.specs.Access.{with_cells};
 ghost use Rattle.cr_eval.specs.Answers.{Answers, leaving};
 ghost use Rattle.cr_meaning.specs.World.{unset_again};
 ghost use Rattle.cr_exec_world.specs.Cells.{set_each};
 
 use cr_memory::{Cell, Guard, Pointer, Scalar, Store, Trap};
+use cr_sequence::Times;
 use std::alloc::{AllocError, Global};
 
 /// Sets one cell of a live object.
@@ -50,54 +51,15 @@ pub fn write(store: &mut Store, object: u32, from: u32, cells: &[Cell]) -> Resul
     write_each(store, object, from, cells)
 }
 
-/// Whether a live object has just so many cells.
-fn has_count(store: &Store, object: u32, cells: usize) -> bool
-    ensures { IsTrue result → count_of (live_object store.now object) ≡ cells }
-{
-    let Ok(count) = u32::try_from(cells) else {
-        return false;
-    };
-    count != 0
-        && store.kind_of(object, count - 1).is_some()
-        && store.kind_of(object, count).is_none()
-}
-
-fn unset(alloc: Global, shape: &[(Scalar, Guard)]) -> Result<Vec<Cell>, AllocError>
-    ensures { IfOk result (λ cells. cells.items ≡ map (λ _. Cell.Unset) shape.now) }
-{
-    shape.iter().map(|_| Cell::Unset).collect(alloc)
-}
-
-fn write_unset(
-    alloc: Global,
-    shape: &[(Scalar, Guard)],
-    store: &mut Store,
-    object: u32,
-) -> Result<(), Trap>
-    ensures { Answers (Ok (with_cells store.old object 0 (map (λ _. Cell.Unset) shape.now))) (leaving store.new result) }
-{
-    if shape.len() == 1 {
-        return write_one(store, object, 0, Cell::Unset);
-    }
-    match unset(alloc, shape) {
-        Ok(cells) => write(store, object, 0, &cells),
-        Err(_) => Err(Trap::NoMemory),
-    }
-}
-
-/// Nothing is in the cells of an object of this shape again (C11 6.2.4p6).
-pub fn clear(
-    alloc: Global,
-    shape: &[(Scalar, Guard)],
-    store: &mut Store,
-    object: u32,
-) -> Result<(), Trap>
+/// Nothing is in the cells of an object again (C11 6.2.4p6).
+pub fn clear(store: &mut Store, object: u32) -> Result<(), Trap>
     ensures { Answers (Ok (unset_again store.old object)) (leaving store.new result) }
 {
-    if !has_count(store, object, shape.len()) {
+    if !store.is_live(object) {
         return Err(Trap::NoMemory);
     }
-    write_unset(alloc, shape, store, object)
+    store.clear(object);
+    Ok(())
 }
 
 fn zero_of(kind: Scalar) -> Cell
@@ -109,16 +71,23 @@ fn zero_of(kind: Scalar) -> Cell
     }
 }
 
-fn zeros(alloc: Global, shape: &[(Scalar, Guard)]) -> Result<Vec<Cell>, AllocError>
+fn zeros_of(alloc: Global, shape: &[(Scalar, Guard)]) -> Result<Vec<Cell>, AllocError>
     ensures { IfOk result (λ cells. cells.items ≡ map (λ own. zero_of own.0) shape.now) }
 {
     shape.iter().map(|own| zero_of(own.0)).collect(alloc)
 }
 
+fn zeros(alloc: Global, shape: &Times<(Scalar, Guard)>) -> Result<Vec<Cell>, AllocError>
+    ensures { IfOk result (λ cells. cells.items ≡ map (λ own. zero_of own.0) shape.now) }
+{
+    let (one, times) = shape.parts();
+    Times::new(zeros_of(alloc, one)?, times)?.spelled(alloc)
+}
+
 /// The cells of a node's object are zero or null (6.7.9p10, p19).
 pub fn blank(
     alloc: Global,
-    shape: &[(Scalar, Guard)],
+    shape: &Times<(Scalar, Guard)>,
     store: &mut Store,
     object: u32,
 ) -> Result<(), Trap>

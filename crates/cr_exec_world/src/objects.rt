@@ -1,5 +1,5 @@
 // Objects and their lifetimes (C11 6.2.4).
-ghost use Rattle.std.specs.Prelude.{◌≡◌, None, Some, ◌∷◌, IfErr, OnOk, MatchOption};
+ghost use Rattle.std.specs.Prelude.{◌≡◌, None, Some, ◌∷◌, IfErr, OnOk, MatchOption, IfSome};
 ghost use Rattle.cr_memory.specs.Memory.{new_object};
 ghost use Rattle.cr_meaning.specs.World.{enter_object, enter_all, bound, marked, left_by, closed, next};
 ghost use Rattle.cr_meaning.specs.Language.{went};
@@ -16,14 +16,22 @@ use cr_eval::Table;
 use cr_exec_slices::Halted;
 use cr_memory::{Cell, Guard, Scalar, Store, Trap};
 use cr_rows::Row;
+use cr_sequence::Times;
 
 /// The kinds and guards of the cells of a node's object.
-pub fn shape_for(table: &Table, node: u32) -> &[(Scalar, Guard)]
-    ensures { result.now ≡ (program_of table.now).shape node }
+pub fn shape_for(table: &Table, node: u32) -> Option<&Times<(Scalar, Guard)>>
+    ensures { IfSome result (λ shape. shape.now ≡ (program_of table.now).shape node) }
 {
-    match table.shapes.as_slice().get(node as usize) {
+    table.shapes.as_slice().get(node as usize)
+}
+
+/// The same where they are spelled out: those of what is no array.
+pub fn spelled_for(table: &Table, node: u32) -> Option<&[(Scalar, Guard)]>
+    ensures { IfSome result (λ shape. shape.now ≡ (program_of table.now).shape node) }
+{
+    match shape_for(table, node) {
         Some(shape) => shape.as_slice(),
-        None => &[],
+        None => None,
     }
 }
 
@@ -43,13 +51,14 @@ fn bind(world: &mut World, node: u32, object: u32) -> Result<(), Halted>
 fn enter_new(
     world: &mut World,
     node: u32,
-    shape: &[(Scalar, Guard)],
+    shape: &Times<(Scalar, Guard)>,
     zero: bool,
 ) -> Result<(), Halted>
     ensures work { Worked (entering (enter_object (world_of world.old) node (new_object zero shape.now))) result (world_of world.new) }
     ensures steps { world.new.steps ≡ world.old.steps }
 {
-    match world.store.enter(shape, zero) {
+    let (one, times) = shape.parts();
+    match world.store.enter_times(one, times, zero) {
         Ok(object) => bind(world, node, object),
         Err(Trap::Left(number)) => Err(Halted::Left(number, node)),
         Err(_) => Err(Halted::NoMemory),
@@ -94,12 +103,17 @@ fn enter_made(table: &Table, world: &mut World, node: u32, is_static: bool) -> R
     ensures work { Worked (entering (enter_object (world_of world.old) node (made_by is_static (program_of table.now) node))) result (world_of world.new) }
     ensures steps { world.new.steps ≡ world.old.steps }
 {
-    let shape = shape_for(table, node);
+    let Some(shape) = shape_for(table, node) else {
+        return Err(Halted::NoMemory);
+    };
     if !is_static {
         return enter_new(world, node, shape, false);
     }
     match literal_for(table, node) {
-        Some(cells) => enter(world, node, shape, cells.as_slice()),
+        Some(cells) => match shape.as_slice() {
+            Some(shape) => enter(world, node, shape, cells.as_slice()),
+            None => Err(Halted::NoMemory),
+        },
         None => enter_new(world, node, shape, true),
     }
 }

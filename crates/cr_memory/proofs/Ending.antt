@@ -1,5 +1,5 @@
 -- Leaving: the store stays well formed without the cells that no live object has, and shows the object ended.
-use Rattle.std.proofs.Common.{◌≡◌, ◌≢◌, ℕ, zero, suc, ◌+◌, ◌-◌, ◌<◌, ◌≤◌, true, false, ◌⊎◌, inl, inr, Option, Some, None, IsSome, List, map, length, set, take, drop, refl, sym, ap, ◌∙◌, subst, arith, length-set, get_or-set_other, get_or-set_same}
+use Rattle.std.proofs.Common.{◌≡◌, ◌≢◌, ℕ, ◌+◌, ◌-◌, ◌<◌, ◌≤◌, true, false, ◌⊎◌, inl, inr, Option, Some, None, IsSome, List, map, length, set, take, drop, refl, sym, ap, ◌∙◌, subst, arith, length-set, get_or-set_other, get_or-set_same}
 use Rattle.std.specs.Prelude.{sum_by}
 use Rattle.std.proofs.lemmas.List.{length-take-le, set-set, map-set, drop-take, take-take, get_or-take}
 use Rattle.std.proofs.lemmas.List.Sums.{sum_by-set}
@@ -105,6 +105,13 @@ pub record Left (most live : ℕ) (spans : List Span) (cells : List Cell) (shape
       ≡ without_object (memory_of most spans cells shape) number
   pub kept : KeepsPointers (memory_of most spans cells shape)
       (memory_of most (left_of spans number) (take end cells) (take end shape))
+
+pub count_within : (spans : List Span) (number : ℕ) → number < length spans → (span_at spans number).alive ≡ true
+    → (span_at spans number).count ≤ sum_by span_count spans
+count_within spans number h a =
+    let gone = sum_by-set span_count spans number ended_span ended_span h in
+    let was : span_count (span_at spans number) ≡ (span_at spans number).count = rw a refl in
+    omega arith
 
 live_left : (spans : List Span) (number live : ℕ) → number < length spans → (span_at spans number).alive ≡ true → live ≡ sum_by span_count spans
     → live - (span_at spans number).count ≡ sum_by span_count (left_of spans number)

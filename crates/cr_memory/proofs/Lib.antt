@@ -1,3 +1,6 @@
+pub mod Repeating
+pub mod KindRuns
+pub mod Entering
 pub mod Overwriting
 pub mod View
 pub mod Living
@@ -5,6 +8,7 @@ pub mod Reaching
 pub mod Comparing
 pub mod Writing
 pub mod Storing
+pub mod Clearing
 pub mod Lifetimes
 pub mod Ending
 pub mod Moving

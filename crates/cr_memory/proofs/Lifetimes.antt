@@ -1,6 +1,7 @@
 -- Entering and leaving: the store stays well formed, and shows the memory with the object entered or ended.
 use Rattle.std.proofs.Common.{zero-add, ◌≡◌, ℕ, suc, ◌+◌, ◌-◌, ◌<◌, ◌≤◌, Bool, true, false, nat_le, nat_lt, ◌&&◌, ◌⊎◌, inl, inr, Option, Some, List, [], ◌∷◌, ◌++◌, map, length, get_or, take, drop, pos, refl, sym, ap, ◌∙◌, arith, length-append, length-drop}
 use Rattle.std.specs.Prelude.{sum_by}
+use Rattle.std.proofs.lemmas.Bool.{cases_lt, leb-true, le-leb}
 use Rattle.std.proofs.lemmas.Int.{ints}
 use Rattle.std.proofs.lemmas.List.{length-map, map-append, get_or_append_left, get_or_push, get_or_past, get_or-append_right, length_push, take-append-le, drop-append-le, drop_at, take_all, get_or-map}
 use Rattle.std.proofs.lemmas.List.Sums.{sum_by-append}
@@ -48,6 +49,25 @@ pub has_room-memory_of : (most live : ℕ) (spans : List Span) (cells : List Cel
 has_room-memory_of most live spans cells shape count s =
     ap (λ n. nat_le (n + count) most && nat_lt (length spans) 4294967295) (s.counted ∙ sym (live_cells-memory_of most spans cells shape s.room))
     ∙ ap (λ n. nat_le (live_cells (memory_of most spans cells shape) + count) most && nat_lt n 4294967295) (sym (length-map spans (object_of cells shape)))
+
+-- a test of the room for so many cells, of which a count is known that is exact where it can be
+same_tests : (a b c d : ℕ) (p q : Bool) → nat_le a b ≡ p → nat_le c d ≡ q → (a ≤ b → c ≤ d) → (c ≤ d → a ≤ b) → nat_le a b ≡ nat_le c d
+same_tests a b c d true true e f on back = e ∙ sym f
+same_tests a b c d true false e f on back = absurd (cc (f, le-leb c d (on (leb-true a b e))))
+same_tests a b c d false true e f on back = absurd (cc (e, le-leb a b (back (leb-true c d f))))
+same_tests a b c d false false e f on back = e ∙ sym f
+
+fits_by : (live most count cells : ℕ) → live ≤ most → (cells < 4294967296) ⊎ (4294967296 ≤ cells) → most < 4294967296
+    → (cells < 4294967296 → count ≡ cells) → (4294967296 ≤ cells → 4294967296 ≤ count)
+    → (count ≤ most - live → live + cells ≤ most) × (live + cells ≤ most → count ≤ most - live)
+fits_by live most count cells few (inl small) h exact large = let e = exact small in (λ f. omega arith, λ f. omega arith)
+fits_by live most count cells few (inr many) h exact large = let e = large many in (λ f. absurd (omega arith), λ f. absurd (omega arith))
+
+pub room_alike : (live most count cells : ℕ) → live ≤ most → most < 4294967296
+    → (cells < 4294967296 → count ≡ cells) → (4294967296 ≤ cells → 4294967296 ≤ count) → nat_le count (most - live) ≡ nat_le (live + cells) most
+room_alike live most count cells few h exact large =
+    let f = fits_by live most count cells few (cases_lt cells 4294967296) h exact large in
+    same_tests count (most - live) (live + cells) most _ _ refl refl f.0 f.1
 
 -- ---- entering
 

@@ -1,7 +1,7 @@
 -- Closing gaps: an object moves down, and the store shows the same memory.
 use Rattle.std.proofs.Common.{zero-add, add-zero, min, ◌≡◌, ◌≢◌, ℕ, zero, suc, ◌+◌, ◌-◌, ◌<◌, ◌≤◌, true, false, ◌⊎◌, inl, inr, Option, Some, None, List, [], ◌∷◌, map, length, get_or, set, take, drop, sym, ap, ◌∙◌, subst, arith, length-drop, length-set, get_or-set_other, get_or-set_same}
 use Rattle.std.specs.Prelude.{sum_by}
-use Rattle.std.proofs.lemmas.List.{same_lists, length-map, length-take, length-take-le, map-set, set-get_or, set-set, get_or-drop, get_or-take, get_or-map}
+use Rattle.std.proofs.lemmas.List.{same_lists, length-take, length-take-le, map-set, set-get_or, set-set, get_or-drop, get_or-take, get_or-map}
 use Rattle.std.proofs.lemmas.List.Sums.{sum_by-set}
 use Rattle.cr_memory.specs.declared.value.Pointer.{Pointer}
 use Rattle.cr_memory.specs.declared.value.Pointer.TheVariants.{Null, At}

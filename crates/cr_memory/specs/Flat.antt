@@ -159,6 +159,10 @@ flat_cells spans cells shape = cells_by (ended_in spans) (run_in spans cells) (r
 abbrev pub flat_equality : List Span → Pointer → Pointer → Result Bool Trap
 flat_equality spans = equality_by (λ object. (span_at spans object).count)
 
+-- the items begin with others
+abbrev pub BeginsWith : {X : Type 0} → List X → List X → Type 0
+BeginsWith items more = take (length items) more ≡ items
+
 -- a live object was moved down to a place, where its cells end now
 pub record MovesDown (spans : List Span) (cells : List Cell) (shape : List (Scalar × Guard)) (number to : ℕ)
     (spans' : List Span) (cells' : List Cell) (shape' : List (Scalar × Guard)) (end : ℕ) : Type 0 where

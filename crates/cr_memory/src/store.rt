@@ -1,13 +1,15 @@
-ghost use Rattle.std.specs.Prelude.{◌≡◌, ◌<◌, ◌≤◌, ◌↔◌, [], ◌∷◌, false, length, is_some, IsSome, IsTrue, IfSome, IfNone, ◌⊎◌, IfOk, IfErr, OnErr};
+ghost use Rattle.std.specs.Prelude.{◌≡◌, ◌<◌, ◌≤◌, ◌↔◌, [], ◌∷◌, false, length, is_some, IsSome, IsTrue, IfSome, IfNone, ◌⊎◌, IfOk, IfErr, OnErr, replicate};
 ghost use Rattle.cr_memory.specs.Memory.{IsPointer, Holds, AllHold, KeepsPointers, live_object, count_of, has_room, new_object, with_object, without_object};
 ghost use Rattle.cr_memory.specs.Access.{reach_of, load_of, save_of, put_of, copy_of, cells_of, shape_in, with_cells, Writes, Reads, HasStride};
 ghost use Rattle.cr_memory.specs.Pointers.{shift_of, differ_of, less_of, same_of};
 ghost use Rattle.cr_memory.specs.Continues.{Continues, ContinuesBeside};
 ghost use Rattle.cr_memory.specs.Laws.{HoldsKinds};
+ghost use Rattle.cr_sequence.specs.Kept.{repeated};
 
 use crate::spans::Spans;
 use crate::value::{Cell, Guard, NO_ROOM, Pointer, Scalar, Trap};
 use crate::{arithmetic, flat, lifetime};
+use cr_sequence::Sequence;
 use std::alloc::Global;
 use std::marker::Model;
 
@@ -17,8 +19,9 @@ pub struct Store {
     most: u32,
     live: u32,
     spans: Spans,
-    cells: Vec<Cell>,
-    shape: Vec<(Scalar, Guard)>,
+    cells: Sequence<Cell>,
+    shape: Sequence<(Scalar, Guard)>,
+    alloc: Global,
 }
 
 impl Model for Store {
@@ -27,9 +30,9 @@ impl Model for Store {
 
     ghost Value = { Memory };
 
-    ghost view = { λ s. memory_of s.most s.spans s.cells.items s.shape.items };
+    ghost view = { λ s. memory_of s.most s.spans s.cells s.shape };
 
-    ghost invariant = { λ s. IsStored s.most s.live s.spans s.cells.items s.shape.items };
+    ghost invariant = { λ s. IsStored s.most s.live s.spans s.cells s.shape };
 }
 
 impl Store {
@@ -41,8 +44,9 @@ impl Store {
             most,
             live: 0,
             spans: Spans::new(alloc),
-            cells: Vec::new(alloc),
-            shape: Vec::new(alloc),
+            cells: Sequence::new(alloc),
+            shape: Sequence::new(alloc),
+            alloc,
         }
     }
 
@@ -170,23 +174,55 @@ impl Store {
         ensures kept { KeepsPointers self.old self.new }
         ensures continues { Continues self.old self.new }
     {
-        let count = shape.len();
-        if !lifetime::has_room(&self.spans, self.most, self.live, count) {
+        self.enter_times(shape, 1, zero)
+    }
+
+    /// Enters an object of elements of a shape, so many of them. A large one costs by its elements' shape, and each of its cells
+    /// when it is first set.
+    pub fn enter_times(
+        &mut self,
+        shape: &[(Scalar, Guard)],
+        times: u32,
+        zero: bool,
+    ) -> Result<u32, Trap>
+        ensures entered { IfOk result (λ number. (number ≡ length self.old.objects) × (self.new ≡ with_object self.old (new_object zero (repeated times shape.now)))) }
+
+        ensures no_room { (result ≡ Err (Trap.Left NO_ROOM)) ↔ (has_room self.old (length (repeated times shape.now)) ≡ false) }
+        ensures causes { IfErr result (λ trap. (trap ≡ Trap.Left NO_ROOM) ⊎ (trap ≡ Trap.NoMemory)) }
+        ensures refused { OnErr result (self.new ≡ self.old) }
+
+        ensures kept { KeepsPointers self.old self.new }
+        ensures continues { Continues self.old self.new }
+    {
+        if !lifetime::has_room(&self.spans, self.most, self.live, shape, times) {
             return Err(Trap::Left(NO_ROOM));
         }
         match lifetime::enter(
+            self.alloc,
             &mut self.spans,
             &mut self.cells,
             &mut self.shape,
             shape,
+            times,
             zero,
         ) {
             Ok(number) => {
-                self.live += count as u32;
+                self.live += lifetime::cells_in(shape, times) as u32;
                 Ok(number)
             }
             Err(_) => Err(Trap::NoMemory),
         }
+    }
+
+    /// Nothing is in the cells of a live object again (6.2.4p6).
+    pub fn clear(&mut self, object: u32)
+        requires { IsSome (live_object self.old object) }
+        ensures cleared { self.new ≡ with_cells self.old object 0 (replicate (count_of (live_object self.old object)) Cell.Unset) }
+        ensures kept { KeepsPointers self.old self.new }
+        ensures continues { Continues self.old self.new }
+    {
+        let span = self.spans.get(object);
+        flat::unset(&mut self.cells, span.first, span.count as usize);
     }
 
     /// Ends the lifetime of a live object (6.2.4p2). The last that was entered leaves fastest; another one in the time of
@@ -197,6 +233,8 @@ impl Store {
         ensures kept { KeepsPointers self.old self.new }
         ensures others { ContinuesBeside object self.old self.new }
     {
+        // The proof takes from it that the place where the cells end is a number.
+        let _used = lifetime::size_of(&self.cells);
         self.live -= self.spans.leave(object);
         let end = self.spans.end();
         lifetime::cut(&mut self.cells, end);

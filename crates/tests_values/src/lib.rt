@@ -11,6 +11,8 @@ mod footprint;
 #[cfg(test)]
 mod ints;
 #[cfg(test)]
+mod large;
+#[cfg(test)]
 mod library;
 #[cfg(test)]
 mod lists;

@@ -1,5 +1,5 @@
 use crate::rows::{expect_text, number, rows, triple};
-use crate::stores::{INT, LONG, enter, has_stride, leave, load, place};
+use crate::stores::{INT, LONG, SEVEN, copy, enter, has_stride, leave, load, place, save};
 use cr_ints::IntKind;
 use cr_memory::{Cell, Guard, Pointer, Scalar, Store, Trap};
 use std::alloc::{AllocError, Global};
@@ -137,32 +137,6 @@ fn begin(rt: &impl Abort, store: &mut Store, object: u32, cell: u32, value: Cell
     }
 }
 
-fn save(
-    rt: &impl Abort,
-    store: &mut Store,
-    at: Pointer,
-    kind: Scalar,
-    value: Cell,
-) -> Result<(), Trap> {
-    assert!(rt; store.is_pointer(at));
-    assert!(rt; store.holds(kind, value));
-    store.save(at, kind, value)
-}
-
-fn copy(
-    rt: &impl Abort,
-    store: &mut Store,
-    from: Pointer,
-    to: Pointer,
-    count: u32,
-) -> Result<(), Trap> {
-    assert!(rt; store.is_pointer(from));
-    assert!(rt; store.is_pointer(to));
-    assert!(rt; has_stride(from, count));
-    assert!(rt; has_stride(to, count));
-    store.copy(from, to, count)
-}
-
 fn expect_load(rt: &impl Abort, store: &Store, at: Pointer, wanted: Result<Cell, Trap>) {
     let found = load(rt, store, at, INT);
     assert!(rt; found == wanted, "{at:?}");
@@ -232,8 +206,6 @@ fn a_load_answers_the_first_case(rt: HostRuntime) -> Result<(), AllocError> {
     }
     Ok(())
 }
-
-const SEVEN: Cell = Cell::Number(7);
 
 fn expect_saved(
     rt: &impl Abort,

@@ -10,6 +10,8 @@ pub(crate) const INT: Scalar = Scalar::Int(IntKind::Int);
 
 pub(crate) const LONG: Scalar = Scalar::Int(IntKind::Long);
 
+pub(crate) const SEVEN: Cell = Cell::Number(7);
+
 /// A place in an array of elements of `stride` cells, from `low` to below `high`.
 pub(crate) fn place(object: u32, cell: u32, low: u32, high: u32, stride: u32) -> Pointer
     ensures { result ≡ Pointer.At object cell low high stride }
@@ -56,4 +58,30 @@ pub(crate) fn load(
 ) -> Result<Cell, Trap> {
     assert!(rt; store.is_pointer(at));
     store.load(at, kind)
+}
+
+pub(crate) fn save(
+    rt: &impl Abort,
+    store: &mut Store,
+    at: Pointer,
+    kind: Scalar,
+    value: Cell,
+) -> Result<(), Trap> {
+    assert!(rt; store.is_pointer(at));
+    assert!(rt; store.holds(kind, value));
+    store.save(at, kind, value)
+}
+
+pub(crate) fn copy(
+    rt: &impl Abort,
+    store: &mut Store,
+    from: Pointer,
+    to: Pointer,
+    count: u32,
+) -> Result<(), Trap> {
+    assert!(rt; store.is_pointer(from));
+    assert!(rt; store.is_pointer(to));
+    assert!(rt; has_stride(from, count));
+    assert!(rt; has_stride(to, count));
+    store.copy(from, to, count)
 }

@@ -1,10 +1,6 @@
-use Rattle.std.proofs.Common.{◌≡◌, ◌+◌, ◌≤◌, ℕ, Bool, true, false, Result, Ok, IfOk, List, length, [], refl}
-use Rattle.cr_memory.specs.declared.value.Pointer.{Pointer}
-use Rattle.cr_memory.specs.declared.value.Cell.{Cell}
-use Rattle.cr_memory.specs.declared.value.Trap.{Trap}
-use Rattle.cr_memory.specs.declared.span.Span.{Span}
-use Rattle.cr_memory.specs.Access.{is_null_or_end, reaching, HasStride}
-use Rattle.cr_memory.specs.Flat.{ended_in, index_of, PointerIn, HasRoom}
+use Rattle.std.proofs.Common.{◌≡◌, ◌+◌, ◌≤◌, ℕ, Bool, true, false, Ok, IfOk, length, [], refl}
+use Rattle.cr_memory.specs.Access.{is_null_or_end, reaching}
+use Rattle.cr_memory.specs.Flat.{ended_in, index_of}
 use Rattle.cr_memory.proofs.Reaching.{reached_run}
 use Rattle.cr_memory.proofs.flat.first_index.Goals as goal
 
@@ -20,5 +16,5 @@ returns-clause-inside c =
     let spans = c.args.spans.now in
     let at = c.args.at in
     rw c.index.ensures.place
-    (inside_by (ended_in spans at) (is_null_or_end at) (index_of spans at) c.args.count (length c.args.cells.now.items)
-    (λ live inside. (reached_run 0 spans c.args.cells.now.items [] at c.args.count r.room r.within r.stride live inside).inside))
+    (inside_by (ended_in spans at) (is_null_or_end at) (index_of spans at) c.args.count (length c.args.cells.now)
+    (λ live inside. (reached_run 0 spans c.args.cells.now [] at c.args.count r.room r.within r.stride live inside).inside))

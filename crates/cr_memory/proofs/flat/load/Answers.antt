@@ -1,12 +1,8 @@
-use Rattle.std.proofs.Common.{◌≡◌, ℕ, Bool, true, false, not, ◌<◌, length, List, Result, Ok, Err, sym, ap, ◌∙◌, refl, arith, if◌then◌else◌}
-use Rattle.std.proofs.lemmas.List.{get_or_read}
+use Rattle.std.proofs.Common.{◌≡◌, ℕ, Bool, true, false, not, List, Result, Ok, Err, sym, ap, ◌∙◌, refl, if◌then◌else◌}
 use Rattle.cr_memory.specs.declared.value.Pointer.{Pointer}
 use Rattle.cr_memory.specs.declared.value.Scalar.{Scalar}
-use Rattle.cr_memory.specs.declared.value.Scalar.TheVariants.{Pointer as PointerKind}
 use Rattle.cr_memory.specs.declared.value.Cell.{Cell}
-use Rattle.cr_memory.specs.declared.value.Cell.TheVariants.{Unset}
 use Rattle.cr_memory.specs.declared.value.Guard.{Guard}
-use Rattle.cr_memory.specs.declared.value.Guard.TheVariants.{Free}
 use Rattle.cr_memory.specs.declared.value.Trap.{Trap}
 use Rattle.cr_memory.specs.declared.value.Trap.TheVariants.{Undefined, Left}
 use Rattle.cr_memory.specs.declared.value.TheConstants.{ENDED, UNSET, OTHER_TYPE}
@@ -39,46 +35,40 @@ valued_by held same unset cell result held' same' unset' a b c e = rw (a, b, c) 
 pub returns-then-not-is_same : goal.returns-then-not-is_same
 returns-then-not-is_same c =
     let spans = c.args.spans.now in
-    let cells = c.args.cells.now.items in
-    let shape = c.args.shape.now.items in
+    let cells = c.args.cells.now in
+    let shape = c.args.shape.now in
     let index = c.in_ok-index.index in
-    let free : Scalar × Guard = (PointerKind 0, Free) in
     let found = was_reached (ended_in spans c.args.at) (is_null_or_end c.args.at) (index_of spans c.args.at) index c.in_ok-index.ensures.place in
-    let within : index < length cells = c.in_ok-index.ensures.inside in
-    let read = get_or_read cells index _ within c.index-cell.ensures Unset in
-    let seen = get_or_read shape index _ (omega (arith, c.requires.same_length)) c.index-else-holds_ended.ensures free in
-    let held : held_ended_in spans c.index-cell.result.now ≡ false = cc in
-    let same : is_same c.index-else-holds_ended.result.now.0 c.args.kind ≡ false = cc in
-    sym (valued_by _ _ _ c.index-cell.result.now (Err (Left OTHER_TYPE)) _ _ _ held same refl refl) ∙ loaded spans cells shape c.args.at c.args.kind index _ _ found read seen
+    let read = c.cell_at-cell.ensures in
+    let seen = c.own_at.ensures in
+    let held : held_ended_in spans c.cell_at-cell.result ≡ false = cc in
+    let same : is_same c.own_at.result.0 c.args.kind ≡ false = cc in
+    sym (valued_by _ _ _ c.cell_at-cell.result (Err (Left OTHER_TYPE)) _ _ _ held same refl refl) ∙ loaded spans cells shape c.args.at c.args.kind index _ _ found read seen
 
 pub returns-then-is_unset : goal.returns-then-is_unset
 returns-then-is_unset c =
     let spans = c.args.spans.now in
-    let cells = c.args.cells.now.items in
-    let shape = c.args.shape.now.items in
+    let cells = c.args.cells.now in
+    let shape = c.args.shape.now in
     let index = c.in_ok-index.index in
-    let free : Scalar × Guard = (PointerKind 0, Free) in
     let found = was_reached (ended_in spans c.args.at) (is_null_or_end c.args.at) (index_of spans c.args.at) index c.in_ok-index.ensures.place in
-    let within : index < length cells = c.in_ok-index.ensures.inside in
-    let read = get_or_read cells index _ within c.index-cell.ensures Unset in
-    let seen = get_or_read shape index _ (omega (arith, c.requires.same_length)) c.index-else-holds_ended.ensures free in
-    let held : held_ended_in spans c.index-cell.result.now ≡ false = cc in
-    let same : is_same c.index-else-holds_ended.result.now.0 c.args.kind ≡ true = cc in
-    let unset : is_unset c.index-cell.result.now ≡ true = cc in
-    sym (valued_by _ _ _ c.index-cell.result.now (Err (Undefined UNSET)) _ _ _ held same unset refl) ∙ loaded spans cells shape c.args.at c.args.kind index _ _ found read seen
+    let read = c.cell_at-cell.ensures in
+    let seen = c.own_at.ensures in
+    let held : held_ended_in spans c.cell_at-cell.result ≡ false = cc in
+    let same : is_same c.own_at.result.0 c.args.kind ≡ true = cc in
+    let unset : is_unset c.cell_at-cell.result ≡ true = cc in
+    sym (valued_by _ _ _ c.cell_at-cell.result (Err (Undefined UNSET)) _ _ _ held same unset refl) ∙ loaded spans cells shape c.args.at c.args.kind index _ _ found read seen
 
 pub returns-else-is_unset : goal.returns-else-is_unset
 returns-else-is_unset c =
     let spans = c.args.spans.now in
-    let cells = c.args.cells.now.items in
-    let shape = c.args.shape.now.items in
+    let cells = c.args.cells.now in
+    let shape = c.args.shape.now in
     let index = c.in_ok-index.index in
-    let free : Scalar × Guard = (PointerKind 0, Free) in
     let found = was_reached (ended_in spans c.args.at) (is_null_or_end c.args.at) (index_of spans c.args.at) index c.in_ok-index.ensures.place in
-    let within : index < length cells = c.in_ok-index.ensures.inside in
-    let read = get_or_read cells index _ within c.index-cell.ensures Unset in
-    let seen = get_or_read shape index _ (omega (arith, c.requires.same_length)) c.index-else-holds_ended.ensures free in
-    let held : held_ended_in spans c.index-cell.result.now ≡ false = cc in
-    let same : is_same c.index-else-holds_ended.result.now.0 c.args.kind ≡ true = cc in
-    let unset : is_unset c.index-cell.result.now ≡ false = cc in
-    sym (valued_by _ _ _ c.index-cell.result.now (Ok c.index-cell.result.now) _ _ _ held same unset refl) ∙ loaded spans cells shape c.args.at c.args.kind index _ _ found read seen
+    let read = c.cell_at-cell.ensures in
+    let seen = c.own_at.ensures in
+    let held : held_ended_in spans c.cell_at-cell.result ≡ false = cc in
+    let same : is_same c.own_at.result.0 c.args.kind ≡ true = cc in
+    let unset : is_unset c.cell_at-cell.result ≡ false = cc in
+    sym (valued_by _ _ _ c.cell_at-cell.result (Ok c.cell_at-cell.result) _ _ _ held same unset refl) ∙ loaded spans cells shape c.args.at c.args.kind index _ _ found read seen

@@ -1,12 +1,9 @@
-use Rattle.std.proofs.Common.{◌≡◌, ℕ, Bool, true, false, not, ◌<◌, length, set, subst, List, Result, Ok, Err, sym, ap, ◌∙◌, refl, arith, if◌then◌else◌}
-use Rattle.std.proofs.lemmas.List.{get_or_read}
+use Rattle.std.proofs.Common.{◌≡◌, ℕ, Bool, true, false, not, set, subst, List, Result, Ok, Err, sym, ap, ◌∙◌, refl, if◌then◌else◌}
 use Rattle.cr_memory.specs.declared.value.Pointer.{Pointer}
 use Rattle.cr_memory.specs.declared.value.Scalar.{Scalar}
-use Rattle.cr_memory.specs.declared.value.Scalar.TheVariants.{Pointer as PointerKind}
 use Rattle.cr_memory.specs.declared.value.Cell.{Cell}
-use Rattle.cr_memory.specs.declared.value.Cell.TheVariants.{Unset}
 use Rattle.cr_memory.specs.declared.value.Guard.{Guard}
-use Rattle.cr_memory.specs.declared.value.Guard.TheVariants.{Free, Constant, Literal}
+use Rattle.cr_memory.specs.declared.value.Guard.TheVariants.{Free}
 use Rattle.cr_memory.specs.declared.value.Trap.{Trap}
 use Rattle.cr_memory.specs.declared.value.Trap.TheVariants.{Undefined, Left}
 use Rattle.cr_memory.specs.declared.value.TheConstants.{LITERAL_WRITTEN, CONSTANT_WRITTEN, OTHER_TYPE}
@@ -39,27 +36,23 @@ saved spans cells shape at kind value index own same found seen guard e =
 pub returns-in-Free : goal.returns-in-Free
 returns-in-Free c =
     let spans = c.args.spans.now in
-    let cells = c.args.cells.now.items in
-    let shape = c.args.shape.now.items in
+    let cells = c.args.cells.now in
+    let shape = c.args.shape.now in
     let index = c.in_ok-index.index in
-    let free : Scalar × Guard = (PointerKind 0, Free) in
     let found = was_reached (ended_in spans c.args.at) (is_null_or_end c.args.at) (index_of spans c.args.at) index c.in_ok-index.ensures.place in
-    let within : index < length cells = c.in_ok-index.ensures.inside in
-    let seen = get_or_read shape index _ (omega (arith, c.requires.same_length)) c.index-2.ensures free in
-    let same : is_same c.index-2.result.now.0 c.args.kind ≡ false = cc in
+    let seen = c.own_at-own.ensures in
+    let same : is_same c.own_at-own.result.0 c.args.kind ≡ false = cc in
     let P : Result (List Cell) Trap → Type 0 = λ x. Writes x (Err (Left OTHER_TYPE)) cells cells in
     subst P (saved spans cells shape c.args.at c.args.kind c.args.value index _ false found seen c.in-Free.is same) (refl, refl)
 
 pub returns-in-Free-2 : goal.returns-in-Free-2
 returns-in-Free-2 c =
     let spans = c.args.spans.now in
-    let cells = c.args.cells.now.items in
-    let shape = c.args.shape.now.items in
+    let cells = c.args.cells.now in
+    let shape = c.args.shape.now in
     let index = c.in_ok-index.index in
-    let free : Scalar × Guard = (PointerKind 0, Free) in
     let found = was_reached (ended_in spans c.args.at) (is_null_or_end c.args.at) (index_of spans c.args.at) index c.in_ok-index.ensures.place in
-    let within : index < length cells = c.in_ok-index.ensures.inside in
-    let seen = get_or_read shape index _ (omega (arith, c.requires.same_length)) c.index-2.ensures free in
-    let same : is_same c.index-2.result.now.0 c.args.kind ≡ true = cc in
+    let seen = c.own_at-own.ensures in
+    let same : is_same c.own_at-own.result.0 c.args.kind ≡ true = cc in
     let P : Result (List Cell) Trap → Type 0 = λ x. Writes x (Ok (tt {0})) cells (set cells index c.args.value) in
-    subst P (saved spans cells shape c.args.at c.args.kind c.args.value index _ true found seen c.in-Free-2.is same) (refl, refl)
+    rw c.set.ensures (subst P (saved spans cells shape c.args.at c.args.kind c.args.value index _ true found seen c.in-Free-2.is same) (refl, refl))

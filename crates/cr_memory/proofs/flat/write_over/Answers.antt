@@ -1,8 +1,6 @@
-use Rattle.std.proofs.Common.{arith}
-use Rattle.cr_memory.specs.declared.value.Cell.TheVariants.{Unset}
-use Rattle.cr_memory.proofs.Overwriting.{written_over}
+use Rattle.std.proofs.Common.{◌∙◌}
+use Rattle.cr_memory.proofs.Overwriting.{same_overwritten}
 use Rattle.cr_memory.proofs.flat.write_over.Goals as goal
 
-pub loop-i-preserved : goal.loop-i-preserved
-loop-i-preserved c =
-    rw c.loop-i.invariant (written_over c.args.cells.now.items c.args.target c.args.values.now c.loop-i.i Unset (omega arith))
+pub returns : goal.returns
+returns c = c.overwrite.ensures ∙ same_overwritten c.args.cells.now c.args.target c.args.values.now

@@ -1,4 +1,4 @@
-use Rattle.std.proofs.Common.{sym, ap, ◌∙◌}
+use Rattle.std.proofs.Common.{ap}
 use Rattle.cr_memory.proofs.Living.{got, got_none, kept_removed, removed, stays_ended}
 use Rattle.cr_memory.proofs.spans.Spans.leave.Goals as goal
 

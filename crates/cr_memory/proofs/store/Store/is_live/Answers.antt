@@ -6,5 +6,5 @@ use Rattle.cr_memory.proofs.store.Store.is_live.Goals as goal
 pub returns : goal.returns
 returns c =
     let i = c.self.inside in
-    ap (λ s. s.alive) c.get.ensures ∙ sym (lives-memory_of i.most i.spans i.cells.items i.shape.items c.args.object)
+    ap (λ s. s.alive) c.get.ensures ∙ sym (lives-memory_of i.most i.spans i.cells i.shape c.args.object)
     ∙ ap (λ m. is_some (live_object m c.args.object)) c.self.view_is

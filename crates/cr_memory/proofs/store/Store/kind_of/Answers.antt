@@ -51,9 +51,9 @@ some_seen most spans cells shape memory number place (Some kind) view room h =
 pub returns-clause-some : goal.returns-clause-some
 returns-clause-some c =
     let i = c.self.inside in
-    some_seen i.most i.spans i.cells.items i.shape.items _ c.args.object c.args.cell c.kind_of.result c.self.view_is c.self.invariant.room c.kind_of.ensures.some
+    some_seen i.most i.spans i.cells i.shape _ c.args.object c.args.cell c.kind_of.result c.self.view_is c.self.invariant.room c.kind_of.ensures.some
 
 pub returns-clause-none : goal.returns-clause-none
 returns-clause-none c =
     let i = c.self.inside in
-    none_seen i.most i.spans i.cells.items i.shape.items _ c.args.object c.args.cell c.kind_of.result c.self.view_is c.self.invariant.room c.kind_of.ensures.none
+    none_seen i.most i.spans i.cells i.shape _ c.args.object c.args.cell c.kind_of.result c.self.view_is c.self.invariant.room c.kind_of.ensures.none

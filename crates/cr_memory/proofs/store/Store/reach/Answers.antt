@@ -7,5 +7,5 @@ use Rattle.cr_memory.proofs.store.Store.reach.Goals as goal
 pub returns : goal.returns
 returns c =
     let i = c.self.inside in
-    c.reach.ensures ∙ ap (λ b. reaching b (is_null_or_end c.args.at) (Ok tt)) (sym (has_ended-memory_of i.most i.spans i.cells.items i.shape.items c.args.at))
+    c.reach.ensures ∙ ap (λ b. reaching b (is_null_or_end c.args.at) (Ok tt)) (sym (has_ended-memory_of i.most i.spans i.cells i.shape c.args.at))
     ∙ ap (λ m. reach_of m c.args.at) c.self.view_is

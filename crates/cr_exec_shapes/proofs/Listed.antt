@@ -1,0 +1,112 @@
+-- The open rows, as a list that rises.
+use Rattle.std.proofs.Common.{◌≡◌, ◌<◌, ◌≤◌, ◌+◌, ◌++◌, ◌∷◌, [], ℕ, List, Bool, true, false, inl, inr, refl, sym, ap, ◌∙◌, arith, length, slice_index_or, length-append}
+use Rattle.std.proofs.Math.ListN.{get_or-append}
+use Rattle.std.proofs.Math.Seq.{get_or-append_seam}
+use Rattle.std.proofs.lemmas.List.{append-nil}
+use Rattle.std.proofs.lemmas.Bool.{cases_Bool, cases_lt, true≢false}
+use Rattle.cr_check_types.specs.declared.shape.Shape.{Shape}
+use Rattle.cr_check_types.specs.Types.{type_at}
+use Rattle.cr_check_types.specs.Relations.{are_compatible}
+use Rattle.cr_check_types.specs.Shared.{IsCanonical}
+use Rattle.cr_exec_shapes.specs.Open.{is_open, AreListed, IsAmong, listed_if}
+use Rattle.cr_exec_shapes.proofs.Open.{closed_apart}
+
+pub listed_none : (shapes : List Shape) → AreListed shapes [] 0
+listed_none shapes = record {
+  below = λ at lt. absurd (omega (arith, lt));
+  rising = λ left right low lt. absurd (omega (arith, lt));
+  all = λ row lt is. absurd (omega (arith, lt));
+}
+
+-- one more row, which isn't open
+listed_past : (shapes : List Shape) (rows : List ℕ) (row : ℕ) → AreListed shapes rows row → is_open (type_at shapes row) ≡ false
+    → AreListed shapes rows (row + 1)
+listed_past shapes rows row h closed = record {
+  below = λ at lt. let one = h.below at lt in omega (arith, one);
+  rising = h.rising;
+  all = λ r lt is. elim (cases_lt r row) [
+    | inl older ↦ h.all r older is
+    | inr newest ↦
+        let here : r ≡ row = omega (arith, lt, newest) in
+        absurd (true≢false (sym is ∙ ap (λ k. is_open (type_at shapes k)) here ∙ closed))
+  ];
+}
+
+older : (rows : List ℕ) (row k : ℕ) → k < length rows → slice_index_or (rows ++ row ∷ []) k 0 ≡ slice_index_or rows k 0
+older rows row k lt = get_or-append rows (row ∷ []) 0 k lt
+
+newest : (rows : List ℕ) (row k : ℕ) → k ≡ length rows → slice_index_or (rows ++ row ∷ []) k 0 ≡ row
+newest rows row k e = ap (λ i. slice_index_or (rows ++ row ∷ []) i 0) e ∙ get_or-append_seam rows row [] 0
+
+-- one more row, which is open
+listed_new : (shapes : List Shape) (rows : List ℕ) (row : ℕ) → AreListed shapes rows row → AreListed shapes (rows ++ row ∷ []) (row + 1)
+listed_new shapes rows row h =
+    let size : length (rows ++ row ∷ []) ≡ length rows + 1 = length-append rows (row ∷ []) in
+    record {
+      below = λ at lt. elim (cases_lt at (length rows)) [
+        | inl old ↦ let one = h.below at old in let e = older rows row at old in omega (arith, one, e)
+        | inr new ↦ let e = newest rows row at (omega (arith, new, lt, size)) in omega (arith, e)
+      ];
+      rising = λ left right low lt. elim (cases_lt right (length rows)) [
+        | inl old ↦
+            let before : left < length rows = omega (arith, low, old) in
+            let one = h.rising left right low old in
+            let e = older rows row left before in
+            let f = older rows row right old in
+            omega (arith, one, e, f)
+        | inr new ↦
+            let before : left < length rows = omega (arith, low, lt, size) in
+            let one = h.below left before in
+            let e = older rows row left before in
+            let f = newest rows row right (omega (arith, new, lt, size)) in
+            omega (arith, one, e, f)
+      ];
+      all = λ r lt is. elim (cases_lt r row) [
+        | inl old ↦
+            let found = h.all r old is in
+            record {
+              at = found.at;
+              within = let w = found.within in omega (arith, w, size);
+              is = older rows row found.at found.within ∙ found.is;
+            }
+        | inr new ↦
+            let here : row ≡ r = omega (arith, lt, new) in
+            record {
+              at = length rows;
+              within = omega (arith, size);
+              is = newest rows row (length rows) refl ∙ here;
+            }
+      ];
+    }
+
+pub listed_more : (shapes : List Shape) (rows then : List ℕ) (row : ℕ) (is : Bool) → AreListed shapes rows row → is ≡ is_open (type_at shapes row)
+    → then ≡ rows ++ listed_if is row → AreListed shapes then (row + 1)
+listed_more shapes rows then row true h is e = rw e (listed_new shapes rows row h)
+listed_more shapes rows then row false h is e = rw (e ∙ append-nil rows) (listed_past shapes rows row h (sym is))
+
+-- where none of the listed rows before a place is compatible with a row that isn't open, no row before the one of that place is
+pub none_before : (shapes : List Shape) (rows : List ℕ) (row at : ℕ) → IsCanonical shapes → AreListed shapes rows row → row < length shapes
+    → is_open (type_at shapes row) ≡ false
+    → ((k : ℕ) → k < at → are_compatible (type_at shapes (slice_index_or rows k 0)) (type_at shapes row) ≡ false)
+    → (other : ℕ) → other < row → ((k : ℕ) → k < length rows → slice_index_or rows k 0 ≡ other → k < at)
+    → are_compatible (type_at shapes other) (type_at shapes row) ≡ false
+none_before shapes rows row at canonical h within closed none other low before = elim (cases_Bool (is_open (type_at shapes other))) [
+  | inl is ↦
+      let found = h.all other low is in
+      ap (λ r. are_compatible (type_at shapes r) (type_at shapes row)) (sym found.is) ∙ none found.at (before found.at found.within found.is)
+  | inr shut ↦ closed_apart shapes canonical other row low within shut closed
+]
+
+-- a smaller row is listed before
+pub is_before : (shapes : List Shape) (rows : List ℕ) (row at k : ℕ) → AreListed shapes rows row → at < length rows → k < length rows
+    → slice_index_or rows k 0 < slice_index_or rows at 0 → k < at
+is_before shapes rows row at k h lt within less = elim (cases_lt k at) [
+  | inl low ↦ low
+  | inr high ↦ elim (cases_lt at k) [
+    | inl over ↦ let rising = h.rising at k over within in absurd (omega (arith, rising, less))
+    | inr same ↦
+        let e : k ≡ at = omega (arith, high, same) in
+        let f : slice_index_or rows k 0 ≡ slice_index_or rows at 0 = ap (λ i. slice_index_or rows i 0) e in
+        absurd (omega (arith, f, less))
+  ]
+]

@@ -1,9 +1,0 @@
-use Rattle.std.proofs.Common.{◌-◌, arith}
-use Rattle.cr_memory.proofs.Overwriting.{copied_up_to}
-use Rattle.cr_memory.proofs.flat.copy_up.Goals as goal
-
-pub loop-i-preserved : goal.loop-i-preserved
-loop-i-preserved c =
-    rw c.loop-i.invariant
-    (copied_up_to c.args.cells.now.items c.args.source c.args.target c.args.count (c.loop-i.i - 1) c.loop-i.i c.index.result.now
-    (omega arith) c.requires.up (omega arith) (omega arith) (rw c.loop-i.invariant at c.index.ensures))
