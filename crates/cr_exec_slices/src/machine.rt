@@ -192,18 +192,18 @@ fn is_at(until: Option<u64>, steps: u64) -> bool
 
 /// How many turns may still follow that take no step, after one that left `after` of `before` steps.
 #[inline]
-fn turns_left(idle: u32, before: u64, after: u64) -> Option<u32>
+fn turns_left(idle: u64, before: u64, after: u64) -> Option<u64>
     requires { after ≤ before }
-    ensures { IfSome result (λ left. after * 4294967296 + left < before * 4294967296 + idle) }
+    ensures { IfSome result (λ left. after * 18446744073709551616 + left < before * 18446744073709551616 + idle) }
 {
     if after < before {
-        return Some(u32::MAX);
+        return Some(u64::MAX);
     }
     idle.checked_sub(1)
 }
 
-/// Takes turns until so many steps are left, or to the end. Between two steps there are never so many turns that they can't be
-/// counted, in a program of the subset: it declares, passes and leaves no more than its file has.
+/// Takes turns until so many steps are left, or to the end. Between two steps there are never 2^64 turns, which would take longer than
+/// there is time; a program of the subset declares, passes and leaves no more than its file has.
 fn slice<N: Nodes>(
     nodes: &mut N,
     stack: &mut Stack<N::Held>,
@@ -221,7 +221,7 @@ fn slice<N: Nodes>(
     ensures paused { (point : SpecPoint) → result ≡ Ok (Turned.Goes point) → until ≡ Some (N.world nodes.new).steps }
 {
     let mut point = from;
-    let mut idle = u32::MAX;
+    let mut idle = u64::MAX;
     loop {
         let steps = nodes.steps();
         if is_at(until, steps) {

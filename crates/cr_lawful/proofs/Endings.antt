@@ -1,7 +1,8 @@
 -- How the run of a file ends, from what its steps answer, and that it ends in one way.
 use mathlib.Core.Logic.{∥∥₁_elim}
 use Rattle.std.proofs.Props.{props}
-use Rattle.std.proofs.Common.{◌≡◌, ℕ, Bool, true, List, Option, Result, Ok, Err, IfOk, refl, sym, subst}
+use Rattle.std.proofs.Common.{◌≡◌, ◌≢◌, ℕ, Bool, true, false, List, Option, Result, Ok, Err, IfOk, refl, sym, subst}
+use Rattle.std.proofs.lemmas.Bool.{true≢false}
 use Rattle.cr_typed.specs.declared.typed.Typed.{Typed}
 use Rattle.cr_meaning.specs.declared.run.Limits.{Limits}
 use Rattle.cr_meaning.specs.declared.run.Run.{Run}
@@ -60,6 +61,13 @@ pub refused_if : {E : Type 0} (limits : Limits) (file : List ℕ) (raised : Bool
     → IfOk r (EndsAs (ComesToEnd limits file))
 refused_if limits file raised ruled (Ok found) refuses is = refused_as limits file raised ruled found refuses is
 refused_if limits file raised ruled (Err e) refuses is = tt
+
+-- it is not ruled lawful, nor stopped where no stop was raised
+pub refused_only : (file : List ℕ) (raised : Bool) (ruled : Ruling) → Refuses file raised ruled → ruled ≢ ruling.Lawful
+refused_only file raised ruled refuses = λ is. subst (Refuses file raised) is refuses
+
+pub refused_unstopped : (file : List ℕ) (ruled : Ruling) → Refuses file false ruled → ruled ≢ ruling.Stopped
+refused_unstopped file ruled refuses = λ is. true≢false (sym (subst (Refuses file false) is refuses))
 
 pub came_to : (limits : Limits) (file : List ℕ) (typed : Typed) (outcome : Run) → IsTypedUnit file typed → (has_come outcome ≡ true → Comes typed limits outcome)
     → CameTo limits file outcome

@@ -1,5 +1,5 @@
 // What the run of a file comes to.
-ghost use Rattle.std.specs.Prelude.{IfOk};
+ghost use Rattle.std.specs.Prelude.{◌≢◌, IfOk};
 ghost use Rattle.cr_lawful.specs.Runs.{ComesToEnd, EndIn, EndsAs, HasOneEnd, NoEndIn};
 
 use crate::units::program_of_file;
@@ -34,18 +34,21 @@ pub fn end_of(alloc: Global, file: &[u8], limits: Limits) -> Result<Option<Ended
 
 // The end of a file without a program.
 fn no_end_in(ruling: Ruling) -> Result<Option<Ended>, AllocError>
+    requires refused { ruling ≢ Ruling.Lawful }
+    requires unstopped { ruling ≢ Ruling.Stopped }
     ensures { IfOk result (NoEndIn ruling) }
 {
     match ruling {
         Ruling::Unlawful(_) => Ok(None),
-        Ruling::Lawful => Err(AllocError),
-        Ruling::Stopped => Err(AllocError),
+        Ruling::Lawful => unreachable!(),
+        Ruling::Stopped => unreachable!(),
         Ruling::NoMemory => Err(AllocError),
     }
 }
 
 // The end that a run came to.
 fn end_in(run: Run) -> Result<Option<Ended>, AllocError>
+    requires { run ≢ Run.Stopped }
     ensures { IfOk result (EndIn run) }
 {
     match run {
@@ -56,7 +59,7 @@ fn end_in(run: Run) -> Result<Option<Ended>, AllocError>
         } => Ok(Some(Ended { status, output })),
         Run::Undefined(_, _) => Ok(None),
         Run::Left(_, _) => Ok(None),
-        Run::Stopped => Err(AllocError),
+        Run::Stopped => unreachable!(),
         Run::NoMemory => Err(AllocError),
     }
 }

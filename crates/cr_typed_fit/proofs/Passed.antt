@@ -1,17 +1,16 @@
 -- What passes the tests fits.
-use Rattle.std.proofs.Common.{◌≡◌, ℕ, zero, suc, ◌<◌, ◌≤◌, Bool, true, List, [], ◌∷◌, Option, Some, nat_lt, length, slice_get, slice_index_or, inl, inr, refl, sym, ap, ◌∙◌, arith}
+use Rattle.std.proofs.Common.{◌≡◌, ℕ, zero, suc, ◌<◌, ◌≤◌, Bool, true, List, [], ◌∷◌, Some, length, slice_get, slice_index_or, inl, inr, refl, sym, ap, ◌∙◌, arith}
 use Rattle.std.specs.List.{All, list_all, sum_by}
 use Rattle.std.proofs.lemmas.Bool.{and_parts, cases_lt, leb-true, ltb-true}
 use Rattle.std.proofs.lemmas.List.{get_or_past}
 use Rattle.std.proofs.lemmas.List.Sums.{sum_by-cons}
-use Rattle.cr_syntax.specs.Kept.{PartsAreBelow}
 use Rattle.cr_syntax.specs.declared.ctype.CType.TheVariants.{Void, Int, Pointer, Array, Struct, Function, Unknown}
 use Rattle.cr_check_types.specs.Types.{Qualified, plain, pointer, array, type_at}
 use Rattle.cr_check_types.specs.Layouts.{layout_of}
 use Rattle.cr_typed.specs.declared.typed.Typed.{Typed}
-use Rattle.cr_typed.specs.Typed.{AreBelow, IsBefore, row_cells, MOST_CELLS}
+use Rattle.cr_typed.specs.Typed.{IsBefore, row_cells, MOST_CELLS}
 use Rattle.cr_typed_fit.specs.declared.extents.Extent.{Extent}
-use Rattle.cr_typed_fit.specs.Fits.{HasNodes, HasNumbers, HasRoom, IsFitting, AreExtents, are_below, are_all_below, is_node, is_small, is_before, structure_within, extent_of, no_extent, cells_in}
+use Rattle.cr_typed_fit.specs.Fits.{HasRoom, IsFitting, AreExtents, is_small, is_before, structure_within, extent_of, no_extent, cells_in}
 use Rattle.cr_typed_fit.proofs.Taken.{beyond}
 
 -- ---- tests of all items
@@ -20,16 +19,6 @@ pub at_all : {X : Type 0} (p : X → Bool) (xs : List X) (k : ℕ) (x : X) → l
 at_all p [] k x h e = absurd (cc e)
 at_all p (y ∷ ys) zero x h e = let is : y ≡ x = cc e in ap p (sym is) ∙ (and_parts (p y) (list_all p ys) h).0
 at_all p (y ∷ ys) (suc k) x h e = at_all p ys k x (and_parts (p y) (list_all p ys) h).1 e
-
-below_is : (most : ℕ) (numbers : List ℕ) → are_below most numbers ≡ true → AreBelow most numbers
-below_is most numbers h k n e = ltb-true n most (at_all (λ number. nat_lt number most) numbers k n h e)
-
-all_below_is : (most : ℕ) (rows : List (List ℕ)) → are_all_below most rows ≡ true → (k : ℕ) (row : List ℕ) → slice_get rows k ≡ Some row
-    → AreBelow most row
-all_below_is most rows h k row e = below_is most row (at_all (are_below most) rows k row h e)
-
-nodes_are : (nodes : ℕ) (refs : List (Option ℕ)) → list_all (is_node nodes) refs ≡ true → (k n : ℕ) → slice_get refs k ≡ Some (Some n) → n < nodes
-nodes_are nodes refs h k n e = ltb-true n nodes (at_all (is_node nodes) refs k (Some n) h e)
 
 -- ---- cells and structures
 
@@ -94,15 +83,9 @@ before_is t extents made node rows h = λ k d lt.
     (ap (λ x. is_before node x.structure) (sym (taken t extents made row))
     ∙ at_all (λ own. is_before node (slice_index_or extents own no_extent).structure) rows k row h (read rows k d lt))
 
-pub all_fit : (t : Typed) (extents : List Extent) → HasNodes t → HasNumbers t → PartsAreBelow t.nodes
-    → AreExtents t.shapes t.layouts (length t.shapes) extents → HasRoom t extents → IsFitting t
-all_fit t extents nodes numbers parts made room = record {
-  nodes_fit = nodes.nodes_fit;
-  parts_below = parts;
+pub all_fit : (t : Typed) (extents : List Extent) → AreExtents t.shapes t.layouts (length t.shapes) extents → HasRoom t extents → IsFitting t
+all_fit t extents made room = record {
   cells_fit = small t extents made room.small;
-  refs_nodes = nodes_are (length t.nodes) t.refs numbers.refs;
   members_fit = λ k rows e. let few = (room.members k rows e).few in let is = sum_is t extents made rows in omega (arith, few, is);
   members_before = λ k rows e. before_is t extents made k rows (room.members k rows e).before;
-  parameters_nodes = all_below_is (length t.nodes) t.parameters numbers.parameters;
-  main_node = nodes.main_node;
 }

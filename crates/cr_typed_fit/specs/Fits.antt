@@ -1,49 +1,22 @@
--- What is tested of a typed unit's columns.
-use Rattle.std.specs.Prelude.{◌≡◌, ℕ, ◌*◌, ◌<◌, ◌≤◌, ◌^◌, List, Bool, true, Option, None, Some, length, nat_lt, nat_le, slice_get, slice_index_or}
+-- What is tested of a typed unit's types.
+use Rattle.std.specs.Prelude.{◌≡◌, ℕ, ◌*◌, ◌<◌, ◌≤◌, List, Bool, true, Option, None, Some, length, nat_lt, nat_le, slice_get, slice_index_or}
 use Rattle.std.specs.List.{All, list_all, sum_by}
-use Rattle.cr_syntax.specs.Kept.{PartsAreBelow}
 use Rattle.cr_syntax.specs.declared.ctype.CType.TheVariants.{Struct}
 use Rattle.cr_check_types.specs.declared.layout.Layout.{Layout}
 use Rattle.cr_check_types.specs.declared.shape.Shape.{Shape}
 use Rattle.cr_check_types.specs.Types.{Qualified, plain, pointer, array, type_at}
 use Rattle.cr_check_types.specs.Layouts.{fitted, layout_of}
 use Rattle.cr_typed.specs.declared.typed.Typed.{Typed}
-use Rattle.cr_typed.specs.Typed.{MOST_CELLS, AreBelow, IsBefore, row_cells}
+use Rattle.cr_typed.specs.Typed.{MOST_CELLS, IsBefore, row_cells}
 use Rattle.cr_typed_fit.specs.declared.extents.Extent.{Extent}
 
--- ---- what is said of a typed unit whose columns fit
+-- ---- what is said of a typed unit whose types fit
 
--- its numbers name what is there, and its types have the cells and structures that they may have
+-- they have the cells and structures that they may have
 pub record IsFitting (t : Typed) : Type 0 where
-  pub nodes_fit : length t.nodes < 2 ^ 32
-  pub parts_below : PartsAreBelow t.nodes
   pub cells_fit : (row : ℕ) → row_cells t row ≤ MOST_CELLS
-  pub refs_nodes : (k n : ℕ) → slice_get t.refs k ≡ Some (Some n) → n < length t.nodes
   pub members_fit : (k : ℕ) (rows : List ℕ) → slice_get t.members k ≡ Some rows → sum_by (row_cells t) rows ≤ MOST_CELLS
   pub members_before : (k : ℕ) (rows : List ℕ) → slice_get t.members k ≡ Some rows → All (λ row. IsBefore k (type_at t.shapes row)) rows
-  pub parameters_nodes : (k : ℕ) (names : List ℕ) → slice_get t.parameters k ≡ Some names → AreBelow (length t.nodes) names
-  pub main_node : t.main < length t.nodes
-
--- ---- nodes
-
-pub record HasNodes (t : Typed) : Type 0 where
-  pub nodes_fit : length t.nodes < 2 ^ 32
-  pub main_node : t.main < length t.nodes
-
-abbrev pub are_below : ℕ → List ℕ → Bool
-are_below most numbers = list_all (λ number. nat_lt number most) numbers
-
-abbrev pub are_all_below : ℕ → List (List ℕ) → Bool
-are_all_below most rows = list_all (are_below most) rows
-
-abbrev pub is_node : ℕ → Option ℕ → Bool
-is_node nodes None = true
-is_node nodes (Some number) = nat_lt number nodes
-
--- the nodes that names and parameters stand for are there
-pub record HasNumbers (t : Typed) : Type 0 where
-  pub refs : list_all (is_node (length t.nodes)) t.refs ≡ true
-  pub parameters : are_all_below (length t.nodes) t.parameters ≡ true
 
 -- ---- what types take
 

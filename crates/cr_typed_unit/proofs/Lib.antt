@@ -1,4 +1,5 @@
 mod Fitted
+mod Numbers
 mod Made
 mod SameValues
 mod Statics

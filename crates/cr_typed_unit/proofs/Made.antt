@@ -1,5 +1,5 @@
 -- The columns of a typed unit as they are made.
-use Rattle.std.proofs.Common.{◌≡◌, List, ℕ, [], subst}
+use Rattle.std.proofs.Common.{◌≡◌, ◌<◌, ◌^◌, List, ℕ, [], length, subst}
 use Rattle.cr_syntax.specs.declared.unit.Unit as source
 use Rattle.cr_syntax.specs.Words.{AreSpans}
 use Rattle.cr_scopes.specs.declared.names.Names.{Names}
@@ -41,22 +41,24 @@ with_texts names checked texts t j h = record {
 
 pub typed_of : (file bytes : List ℕ) (unit : source.Unit) (names : Names) (checked rest : Checked) (texts : List (List ℕ)) (typed : Typed)
     → (sound : IsSoundOf file unit names checked) → AreSpans file unit.tokens.list.items → bytes ≡ file → texts ≡ checked.texts
-    → rest ≡ record { surroundings = checked.surroundings; texts = []; table = checked.table; whole = checked.whole }
+    → rest ≡ record { surroundings = checked.surroundings; texts = []; table = checked.table; whole = checked.whole } → length unit.nodes < 2 ^ 32
     → IsMade bytes unit texts names rest sound.tree typed → IsTypedOf file unit names typed
-typed_of file bytes unit names checked rest texts typed sound spans of_file of_texts of_checked made = record {
+typed_of file bytes unit names checked rest texts typed sound spans of_file of_texts of_checked few made = record {
   checked = checked;
   by = record {
     tree = sound.tree;
     is = sound.is;
     sound = sound.sound;
     columns = made.columns;
-    are = with_texts names checked [] sound.tree made.columns
-        (subst (λ j. AreColumnsOf names j sound.tree made.columns) of_checked made.are);
+    are = columns;
     elaborated = elaborated;
-    fits = is_typed file unit checked.texts made.columns typed elaborated spans sound.is.texts.count made.fits;
+    fits = is_typed file unit names checked sound.tree made.columns typed sound.is sound.sound columns elaborated spans few made.fits;
   };
 }
   where
+    columns : AreColumnsOf names checked sound.tree made.columns
+    columns = with_texts names checked [] sound.tree made.columns (subst (λ j. AreColumnsOf names j sound.tree made.columns) of_checked made.are)
+
     elaborated : IsElaborated file (parsed_of unit) checked.texts made.columns typed
     elaborated = subst (λ b. IsElaborated b (parsed_of unit) checked.texts made.columns typed) of_file
         (subst (λ ts. IsElaborated bytes (parsed_of unit) ts made.columns typed) of_texts made.elaborated)

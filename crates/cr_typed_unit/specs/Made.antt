@@ -19,7 +19,7 @@ use Rattle.cr_typed_unit.specs.Typed.{AreColumnsOf}
 abbrev pub statics_in : Tree → List Specified → List Bool
 statics_in t specified = listed (λ i. is_static t (λ p. slice_index_or specified p nothing) (Some i)) (length t.nodes.now)
 
--- a typed unit of these bytes and literals by what was checked, which its numbers and types fit
+-- a typed unit of these bytes and literals by what was checked, which its types fit
 pub record IsMade (bytes : List ℕ) (unit : source.Unit) (texts : List (List ℕ)) (names : Names) (checked : Checked) (t : Tree) (typed : Typed) : Type 0 where
   pub columns : CheckedColumns
   pub are : AreColumnsOf names checked t columns

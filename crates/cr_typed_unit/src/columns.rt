@@ -1,5 +1,5 @@
 // What was checked of a unit's nodes, as the columns that a typed unit is made of.
-ghost use Rattle.std.specs.Prelude.{◌≡◌, ℕ, List, IfOk};
+ghost use Rattle.std.specs.Prelude.{◌≡◌, ◌<◌, ◌^◌, ℕ, List, IfOk, OnOk, length};
 ghost use Rattle.cr_check_declarations.specs.declared.tree.Tree as tree;
 ghost use Rattle.cr_check_surroundings.specs.Surroundings.{IsTree};
 ghost use Rattle.cr_typed_unit.specs.Made.{statics_in};
@@ -70,16 +70,18 @@ fn columns_of<'a>(typing: &'a Typing) -> Columns<'a>
 
 #[tactic(auto, using(crate::proofs::Statics::one_more))]
 fn statics(alloc: Global, tree: &Tree, columns: &Columns) -> Result<Vec<bool>, AllocError>
-    ensures { IfOk result (λ column. column.items ≡ statics_in tree.now columns.now.specified.now) }
+    ensures column { IfOk result (λ column. column.items ≡ statics_in tree.now columns.now.specified.now) }
+    ensures few { OnOk result (length tree.now.nodes.now < 2 ^ 32) }
 {
+    let count = number_of(tree.nodes.len())?;
     let mut column = Vec::new(alloc);
-    for at in 0..tree.nodes.len() {
-        column.push(is_static(tree, columns, Some(number_of(at)?)))?;
+    for at in 0..count {
+        column.push(is_static(tree, columns, Some(at)))?;
     }
     Ok(column)
 }
 
-/// Whether the object that each node declares is of static duration, by any tree of the unit.
+/// Whether the object that each node declares is of static duration, by any tree of the unit, whose nodes have numbers.
 #[tactic(auto, using(crate::proofs::Statics::of_any_tree))]
 pub(crate) fn statics_of(
     alloc: Global,
@@ -87,7 +89,8 @@ pub(crate) fn statics_of(
     unit: &Unit,
     checked: &Checked,
 ) -> Result<Vec<bool>, AllocError>
-    ensures { IfOk result (λ column. (t : tree.Tree) → IsTree file.now unit.now checked.now.surroundings t → column.items ≡ statics_in t checked.now.whole.typing.specified) }
+    ensures column { IfOk result (λ column. (t : tree.Tree) → IsTree file.now unit.now checked.now.surroundings t → column.items ≡ statics_in t checked.now.whole.typing.specified) }
+    ensures few { OnOk result (length unit.now.nodes < 2 ^ 32) }
 {
     let tree = checked.surroundings.tree(file, unit);
     let columns = columns_of(&checked.whole.typing);

@@ -62,7 +62,7 @@ fn typed_by(
     )
 }
 
-// The columns of what was checked of this unit, with these literals, where they fit it.
+// The columns of what was checked of this unit, with these literals, where their types fit it.
 fn made(
     alloc: Global,
     bytes: Row<u8>,
@@ -95,7 +95,7 @@ fn texts_of(alloc: Global, checked: &mut Checked) -> Row<Row<u8>>
     mem::replace(&mut checked.texts, Row::new(alloc))
 }
 
-// Whether its numbers and types fit the unit. Where they don't, that counts as want of memory.
+// Whether its types fit the unit. Where they don't, that counts as want of memory.
 fn fitting(alloc: Global, typed: &Typed) -> Result<(), AllocError>
     ensures { OnOk result (IsFitting typed.now) }
 {

@@ -18,4 +18,4 @@ invariant-loop-until g l = record {
 }
 
 abbrev pub decreases-loop-until : goal.decreases-loop-until
-decreases-loop-until g l = (g.N.Nodes.world l.nodes).steps * 4294967296 + l.idle
+decreases-loop-until g l = (g.N.Nodes.world l.nodes).steps * 18446744073709551616 + l.idle

@@ -1,5 +1,4 @@
 use Rattle.std.proofs.Common.{length, subst}
-use Rattle.cr_syntax.specs.Kept.{PartsAreBelow}
 use Rattle.cr_typed_fit.specs.Fits.{AreExtents, HasRoom}
 use Rattle.cr_typed_fit.proofs.Passed.{all_fit}
 use Rattle.cr_typed_fit.proofs.fitting.fits.Goals as goal
@@ -8,7 +7,5 @@ pub returns : goal.returns
 returns c = λ e.
     let t = c.args.typed.now in
     let extents = c.in_ok-extents.extents.items in
-    all_fit t extents (c.has_nodes.ensures c.if-not-has_nodes.false) (c.has_numbers.ensures c.if-not-has_numbers.false)
-    (subst PartsAreBelow c.as_slice-2.ensures (c.are_parts_before.ensures c.if-not-are_parts_before.false))
-    (subst (λ layouts. AreExtents t.shapes layouts (length t.shapes) extents) c.as_slice.ensures c.in_ok-extents.ensures)
+    all_fit t extents (subst (λ layouts. AreExtents t.shapes layouts (length t.shapes) extents) c.as_slice.ensures c.in_ok-extents.ensures)
     (subst (HasRoom t) c.deref.ensures.value (c.has_room.ensures e))

@@ -21,8 +21,8 @@ returns c =
     let sound = c.requires.sound in
     let rest = c.texts_of-texts.ensures.rest in
     let bytes = c.from_vec-bytes.ensures ∙ c.in_ok-to_vec.ensures.items_if_clones_equal (λ x y same. same) in
-    let statics = c.as_slice.ensures.value ∙ c.in_ok-statics.ensures sound.tree sound.is.whole.tree
+    let statics = c.as_slice.ensures.value ∙ c.in_ok-statics.ensures.column sound.tree sound.is.whole.tree
     ∙ sym (ap (λ (j : Checked). statics_in sound.tree j.whole.typing.specified) rest) in
     IfOk-weaker c.made.result _ _
-    (λ typed. typed_of c.args.file.now _ c.args.unit c.args.names.now c.args.checked.now _ _ typed sound c.requires.spans bytes c.texts_of-texts.ensures.texts rest)
+    (λ typed. typed_of c.args.file.now _ c.args.unit c.args.names.now c.args.checked.now _ _ typed sound c.requires.spans bytes c.texts_of-texts.ensures.texts rest c.in_ok-statics.ensures.few)
     (c.made.ensures sound.tree statics)
