@@ -902,7 +902,7 @@ module _ (file : List ℕ) (t : Typed) (it : IsUnitOfFile file t) where
         let count : length t.tokens ≡ length it.unit.tokens.list.items = ap length made_by.elaborated.tokens_are in
         omega (arith, low, high, count)
 
-    token_is : entities.named_token it.unit.nodes own ≡ Some n.first
+    pub token_is : entities.named_token it.unit.nodes own ≡ Some n.first
     token_is =
         ap (λ ns. entities.named_token ns own) nodes_are
         ∙ ap (λ o. if entities.is_name (scripts.kind_if o) then scripts.first_if o else None) here
@@ -913,7 +913,7 @@ module _ (file : List ℕ) (t : Typed) (it : IsUnitOfFile file t) where
         ap (entry_of columns.declarers.now None) token_is ∙ ap (λ column. slice_index_or column n.first None) made_by.are.declarers
         ∙ made_by.is.surroundings.bindings.declarers.each n.first few_tokens
 
-    alone : IsAlone n.first (past_of (unit_events it.unit) (length (unit_events it.unit)))
+    pub alone : IsAlone n.first (past_of (unit_events it.unit) (length (unit_events it.unit)))
     alone = by (entities.whole_of it.unit.nodes columns own) refl automatic
       where
         by : (o : Option ℕ) → entities.whole_of it.unit.nodes columns own ≡ o
@@ -1002,20 +1002,26 @@ module _ (file : List ℕ) (t : Typed) (it : IsUnitOfFile file t) where
                 let w = (unit.within first x.0 x.1.0).0 in
                 sym (named_once t unit order own first n x.0 n.first here is refl x.1.0 (ap is_named x.1.1) (omega (arith, same)) (omega (arith, same)) (omega (arith, same, w)))
 
-  pub once : AreDeclaredOnce t
-  once declarator h = elim (cases_lt (name_of t declarator) (length t.nodes)) [
+  -- ---- automatic objects
+
+  -- such an object is that of a declared identifier
+  pub record IsAutomatic (own : ℕ) : Type 0 where
+    pub node : Node
+    pub at : slice_get t.nodes own ≡ Some node
+    pub is : node.kind ≡ kind.NameDeclarator
+    pub automatic : is_automatic_by (names.duration_of it.unit.nodes columns own) ≡ true
+
+  pub automatic_at : (own : ℕ) → is_automatic_by (slice_index_or t.durations own duration.NoObject) ≡ true → IsAutomatic own
+  automatic_at own h = elim (cases_lt own (length t.nodes)) [
     | inl low ↦ by low
-    | inr past ↦ absurd (false≢true (sym (ap is_automatic_by (get_or_past t.durations (name_of t declarator) duration.NoObject (let c = made_by.fits.durations_count in omega (arith, past, c)))) ∙ h))
+    | inr past ↦ absurd (false≢true (sym (ap is_automatic_by (get_or_past t.durations own duration.NoObject (let c = made_by.fits.durations_count in omega (arith, past, c)))) ∙ h))
   ]
     where
-      own : ℕ
-      own = name_of t declarator
-
       count : length t.nodes ≡ length it.unit.nodes
       count = ap length made_by.elaborated.nodes_are
 
-      by : own < length t.nodes → entity_of t own ≡ own
-      by low = refs (slice_index_or t.refs own None) refl
+      by : own < length t.nodes → IsAutomatic own
+      by low = record { node = n.0; at = n.1.0; is = n.1.1; automatic = automatic }
         where
           automatic : is_automatic_by (names.duration_of it.unit.nodes columns own) ≡ true
           automatic = ap is_automatic_by (sym (ap (λ ds. slice_index_or ds own duration.NoObject) made_by.elaborated.durations ∙ listed_at (names.duration_of it.unit.nodes columns) (length it.unit.nodes) own duration.NoObject (omega (arith, low, count)))) ∙ h
@@ -1031,9 +1037,20 @@ module _ (file : List ℕ) (t : Typed) (it : IsUnitOfFile file t) where
           n : (x : Node) × ((slice_get t.nodes own ≡ Some x) × (x.kind ≡ kind.NameDeclarator))
           n = node_of t unit order own kind.NameDeclarator (ap (λ ns. scripts.kind_at ns own) (sym nodes_are) ∙ is_name)
 
-          refs : (o : Option ℕ) → slice_index_or t.refs own None ≡ o → entity_if (slice_index_or t.refs own None) own ≡ own
-          refs None e = ap (λ o. entity_if o own) e
-          refs (Some first) e =
-              let ref : names.ref_of (parsed_of it.unit) columns own ≡ Some first =
-              sym (ap (λ rs. slice_index_or rs own None) made_by.elaborated.refs ∙ listed_at (names.ref_of (parsed_of it.unit) columns) (length it.unit.nodes) own None (omega (arith, low, count))) ∙ e in
-              ap (λ o. entity_if o own) e ∙ first_own own n.0 n.1.0 n.1.1 automatic first ref
+  pub once : AreDeclaredOnce t
+  once declarator h = refs (slice_index_or t.refs (name_of t declarator) None) refl
+    where
+      own : ℕ
+      own = name_of t declarator
+
+      it_is : IsAutomatic own
+      it_is = automatic_at own h
+
+      refs : (o : Option ℕ) → slice_index_or t.refs own None ≡ o → entity_if (slice_index_or t.refs own None) own ≡ own
+      refs None e = ap (λ o. entity_if o own) e
+      refs (Some first) e =
+          let low = slice_get_within t.nodes own it_is.node it_is.at in
+          let count : length t.nodes ≡ length it.unit.nodes = ap length made_by.elaborated.nodes_are in
+          let ref : names.ref_of (parsed_of it.unit) columns own ≡ Some first =
+          sym (ap (λ rs. slice_index_or rs own None) made_by.elaborated.refs ∙ listed_at (names.ref_of (parsed_of it.unit) columns) (length it.unit.nodes) own None (omega (arith, low, count))) ∙ e in
+          ap (λ o. entity_if o own) e ∙ first_own own it_is.node it_is.at it_is.is it_is.automatic first ref

@@ -33,6 +33,7 @@ use Rattle.cr_meaning.specs.declared.run.Limits.{Limits}
 use Rattle.cr_meaning_soundness.specs.Sorts.{Sort}
 use Rattle.cr_meaning_operations.specs.Shapes.{type_of_node, named_type, kind_in}
 use Rattle.cr_meaning_operations.specs.Operations.{kind_if, kind_at, parts_if, parts_at, pointed, left_type, entity_of, function_in, callee_of, op_of, program_of}
+use Rattle.cr_meaning_typed.specs.Placed.{IsNamed}
 use Rattle.cr_meaning_typed.specs.Typing.{has_value, is_asked, is_expression}
 use Rattle.cr_meaning_typed.specs.Whole as readable
 use Rattle.cr_meaning_typed.proofs.Units.{all_worth}
@@ -61,6 +62,9 @@ use Rattle.cr_meaning_files.proofs.Enumerators.{IsNumbered, numbered_by, named_n
 use Rattle.cr_meaning_files.proofs.Calls.{call_names, text_there}
 use Rattle.cr_meaning_files.proofs.Results.{function_gives, returned_given}
 use Rattle.cr_meaning_files.proofs.Followed.{followed_type}
+use Rattle.cr_meaning_known.specs.Sighted.{AreSighted}
+use Rattle.cr_meaning_found.proofs.Names.{declared as are_declared}
+use Rattle.cr_meaning_files.proofs.Declared.{types_known, read, members_whole}
 use Rattle.cr_meaning_files.proofs.Returns.{result}
 use Rattle.cr_meaning_files.proofs.Members.{chosen_type, member_chosen, pointed_chosen}
 use Rattle.cr_meaning_files.proofs.Made.{complete_whole, whole_object, member_in}
@@ -68,6 +72,7 @@ use Rattle.cr_meaning_files.proofs.Apart.{among}
 use Rattle.cr_meaning_files.proofs.Mains.{initialisers_run, names_here, main_defined, body_kind, body_runs, body_exits}
 use Rattle.cr_meaning_files.proofs.Scoped.{IsScoped, AllReached, IsBodyOf, by_kind}
 use Rattle.cr_meaning_files.proofs.Sight.{declarators, initialised, literals, seen}
+use Rattle.cr_meaning_files.proofs.Named.{named_seen}
 use Rattle.cr_meaning_files.proofs.Callees.{body_of, called}
 use Rattle.cr_meaning_files.proofs.Labels.{gotos}
 
@@ -173,6 +178,10 @@ module _ (file : List ℕ) (t : Typed) (it : IsUnitOfFile file t) where
     abbrev p : Program
     p = program_of t limits
 
+    -- what names and tags find is declared
+    sighted : AreSighted made_by.tree
+    sighted = are_declared file it.unit it.names checked.surroundings made_by.tree made_by.is.surroundings made_by.is.whole.tree left.found
+
     ranged : AreInRange t (judgement_of file t it)
     ranged i x v r known e f = of_kind (kind_at t i) refl known
       where
@@ -205,33 +214,33 @@ module _ (file : List ℕ) (t : Typed) (it : IsUnitOfFile file t) where
     calls : AreCalls (program_of t limits) t (judgement_of file t it)
     calls i r e =
         let n = closed.there i r in
-        let named = call_names file t it left.reads i n.0 n.1 (sym (ap kind_if n.1) ∙ e) in
+        let named = call_names file t it (read file t it sighted) i n.0 n.1 (sym (ap kind_if n.1) ∙ e) in
         let returned = function_gives made_by.tree checked.texts checked.table checked.whole.typing made_by.is.whole.typing (λ b broken. made_by.sound.constraints b (inl broken)) i (slice_index_or made_by.tree.visible.now i None) _ named.0 named.1.0 in
         record { signature = named.0; stands = named.1.0; gives = returned_given named.0.gives returned named.1.1; called = called file t it i (program_of t limits) named.0 left.mains.gives (callee_of t i) refl (left.called i named.0 r e named.1.0) }
 
     members : (i a : ℕ) → is_reached t i ≡ true → kind_at t i ≡ kind.Member → slice_get (parts_at t i) 0 ≡ Some a → IsFound t limits (judgement_of file t it) i a
     members i a r e first =
         let n = closed.there i r in
-        let own = member_chosen file t it i a n.0 n.1 (sym (ap kind_if n.1) ∙ e) (ap (λ o. slice_get (parts_if o) 0) (sym n.1) ∙ first) (worth left.reads i (ap (λ k. is_expression (form_of k)) e)) in
+        let own = member_chosen file t it i a n.0 n.1 (sym (ap kind_if n.1) ∙ e) (ap (λ o. slice_get (parts_if o) 0) (sym n.1) ∙ first) (worth (read file t it sighted) i (ap (λ k. is_expression (form_of k)) e)) in
         let named : type_of_node t i ≡ with_qualifiers_of (type_of_node t a) own.0 = is.columns.types i ∙ ap (λ (s : Seen). s.type) own.1.1 ∙ ap (λ whole. with_qualifiers_of whole own.0) (sym (is.columns.types a)) in
         record {
           is = own.1.1 ∙ ap (λ type. member_of (Some type) (seen_in checked a)) (sym (chosen_type it.unit.nodes t i (type_of_node t a) own.0 own.1.0));
-          within = member_in file t it left.members i (type_of_node t a) own.0 own.1.0 named;
-          structure = λ value. among file t it left.members limits i (slice_index_or t.types a 0) own.0 own.1.0;
+          within = member_in file t it (members_whole file t it sighted left.typedefs) i (type_of_node t a) own.0 own.1.0 named;
+          structure = λ value. among file t it (members_whole file t it sighted left.typedefs) limits i (slice_index_or t.types a 0) own.0 own.1.0;
         }
 
     pointed_members : (i : ℕ) → is_reached t i ≡ true → kind_at t i ≡ kind.PointerMember → IsMemberIn t i (pointed (left_type t i))
     pointed_members i r e =
         let n = closed.there i r in
-        let part = (told.expressions left.reads).operands i 0 (ap (λ k. is_asked (form_of k) 0) e) in
-        let own = pointed_chosen file t it i part.0 n.0 n.1 (sym (ap kind_if n.1) ∙ e) (ap (λ o. slice_get (parts_if o) 0) (sym n.1) ∙ part.1.is) (worth left.reads i (ap (λ k. is_expression (form_of k)) e)) in
-        member_in file t it left.members i (pointed (left_type t i)) own.0 own.1.0 (is.columns.types i ∙ own.1.1)
+        let part = (told.expressions (read file t it sighted)).operands i 0 (ap (λ k. is_asked (form_of k) 0) e) in
+        let own = pointed_chosen file t it i part.0 n.0 n.1 (sym (ap kind_if n.1) ∙ e) (ap (λ o. slice_get (parts_if o) 0) (sym n.1) ∙ part.1.is) (worth (read file t it sighted) i (ap (λ k. is_expression (form_of k)) e)) in
+        member_in file t it (members_whole file t it sighted left.typedefs) i (pointed (left_type t i)) own.0 own.1.0 (is.columns.types i ∙ own.1.1)
 
     returns : (i : ℕ) → is_reached t i ≡ true → kind_at t i ≡ kind.Return → IsIn (judgement_of file t it) i
     returns i r e =
         let function = function_there file t it i (reached_lives t (unit file t it) i r) (ap is_item e) in
         let n = definition_there t function.0 function.1.1 in
-        record { definition = function.0; is = function.1.0; result = result file t it function.0 n.0 n.1.0 n.1.1 (left.stated.returns i function.0 r e function.1.0) }
+        record { definition = function.0; is = function.1.0; result = result file t it (types_known file t it sighted) function.0 n.0 n.1.0 n.1.1 }
 
     -- what a pointer to an object of a complete type is followed to
     cells : (i : ℕ) → is_reached t i ≡ true → is_followed (kind_at t i) ≡ true → HasCells t i
@@ -240,17 +249,20 @@ module _ (file : List ℕ) (t : Typed) (it : IsUnitOfFile file t) where
         let source = source_of made_by.tree checked i in
         let expression = followed_expression (kind_at t i) h in
         let rule = is.ruled i n.0 n.1 ∙ ap (λ k. ruled (form_of k) (seen_in checked) source i n.0) (sym (ap kind_if n.1)) in
-        let whole = followed_type (kind_at t i) (seen_in checked) source i n.0 h rule (worth left.reads i expression) in
+        let whole = followed_type (kind_at t i) (seen_in checked) source i n.0 h rule (worth (read file t it sighted) i expression) in
         let complete : is_complete_at t.nodes i (type_of_node t i) ≡ true = (λ k. is_complete_at (sym nodes_are k) i (is.columns.types i k)) ∙ whole in
-        whole_object file t it left.members (type_of_node t i) (complete_whole t i (type_of_node t i) complete) (made_by.fits.cells_fit (slice_index_or t.types i 0))
+        whole_object file t it (members_whole file t it sighted left.typedefs) (type_of_node t i) (complete_whole t i (type_of_node t i) complete) (made_by.fits.cells_fit (slice_index_or t.types i 0))
+
+    objects : (i : ℕ) (n : Node) → is_reached t i ≡ true → slice_get t.nodes i ≡ Some n → n.kind ≡ kind.Identifier → (seen_in checked i).lvalue ≡ true → IsNamed p t i × (sees t i (entity_of t i) ≡ true)
+    objects i n r at is l = let own = left.visible i n r at is l in (own.0, named_seen file t it i (ap kind_if at ∙ is) own.1)
 
     founded : IsFounded t limits j (scene_of made_by.tree checked) (sees t)
     founded = record {
       expressions = record {
-        judged = record { columns = is.columns; ruled = is.ruled; worth = worth left.reads; casts = is.casts; texts = is.texts };
-        laid = told.expressions left.reads;
+        judged = record { columns = is.columns; ruled = is.ruled; worth = worth (read file t it sighted); casts = is.casts; texts = is.texts };
+        laid = told.expressions (read file t it sighted);
         reached = closed;
-        named = record { objects = left.visible; literals = λ i r is. (text_there file t it i is, literals file t it i is) };
+        named = record { objects = objects; literals = λ i r is. (text_there file t it i is, literals file t it i is) };
         placed = record { cells = cells; members = members; pointed_members = pointed_members };
         ranged = ranged;
         calls = calls;
@@ -289,7 +301,7 @@ module _ (file : List ℕ) (t : Typed) (it : IsUnitOfFile file t) where
     goes_on : (i : ℕ) → is_reached t i ≡ true → kind_at t i ≡ kind.Call → (parameters : List Parameter) (rest : ℕ) (is_main : Bool) → callee_of t i ≡ Function parameters rest is_main → IsBodyOf t (unit file t it) parameters rest
     goes_on i r e parameters rest is_main same =
         let n = closed.there i r in
-        let named = call_names file t it left.reads i n.0 n.1 (sym (ap kind_if n.1) ∙ e) in
+        let named = call_names file t it (read file t it sighted) i n.0 n.1 (sym (ap kind_if n.1) ∙ e) in
         let defined : IsDefined p t j named.0 (function_in (named_type t (entity_of t i))) parameters = subst (IsDeclaredSo p t j named.0 i) same (left.called i named.0 r e named.1.0) in
         body_of file t it i parameters rest is_main same defined.defines
 

@@ -16,13 +16,17 @@ pub mod Mains
 pub mod Functions
 pub mod Calls
 pub mod Results
+pub mod Fitting
+pub mod Shaped
 pub mod Returns
 pub mod Followed
 pub mod Cells
 pub mod Members
 pub mod Made
+pub mod Declared
 pub mod Apart
 pub mod Scoped
 pub mod Sight
+pub mod Named
 pub mod Callees
 pub mod Files

@@ -32,6 +32,7 @@ use Rattle.cr_meaning_typed.proofs.Worth.{unbroken}
 use Rattle.cr_meaning_units.specs.Owned.{AreOfUnit}
 use Rattle.cr_meaning_declared.specs.Files.{IsUnitOfFile}
 use Rattle.cr_meaning_statements.specs.Statements.{IsResult}
+use Rattle.cr_meaning_known.specs.Known.{AreKnown}
 use Rattle.cr_meaning_files.specs.Files.{judgement_of}
 use Rattle.cr_meaning_files.proofs.Grammar.{part_in, Stands}
 use Rattle.cr_meaning_files.proofs.Tree.{HasPart, has_part, as_part, needed}
@@ -129,5 +130,12 @@ module _ (file : List ℕ) (t : Typed) (it : IsUnitOfFile file t) where
         ∙ of_kind made_by.tree checked.texts checked.table typing made_by.is.whole.typing (λ b broken. made_by.sound.constraints b (inl broken)) (part_at t d 1) part.own (here (part_at t d 1) part.own part.own_at)
         part.own.kind refl (ap (λ c. declares_name c) (sym (ap kind_if part.own_at)) ∙ k) d above_is function_is
 
-  pub result : (d : ℕ) (n : Node) → slice_get t.nodes d ≡ Some n → n.kind ≡ kind.FunctionDefinition → has_value ((judgement_of file t it).gives (Some d)) ≡ true → IsResult ((judgement_of file t it).gives (Some d))
-  result d n at defines known = result_is ((judgement_of file t it).gives (Some d)) (returned d n at defines) known
+    -- and that is known
+    gives_known : AreKnown made_by.tree checked.table typing → has_value ((judgement_of file t it).gives (Some d)) ≡ true
+    gives_known known =
+        let k = declarator_names (kind_at t (part_at t d 1)) (subst (λ c. Stands (part_in (side_of c) 1) (kind_at t (part_at t d 1))) (ap kind_if at ∙ defines) part.stands) in
+        ap has_value gives_is
+        ∙ (known (part_at t d 1) part.own (here (part_at t d 1) part.own part.own_at)).declared (ap (λ c. declares_name c) (sym (ap kind_if part.own_at)) ∙ k) d above_is
+
+  pub result : AreKnown made_by.tree checked.table typing → (d : ℕ) (n : Node) → slice_get t.nodes d ≡ Some n → n.kind ≡ kind.FunctionDefinition → IsResult ((judgement_of file t it).gives (Some d))
+  result known d n at defines = result_is ((judgement_of file t it).gives (Some d)) (returned d n at defines) (gives_known d n at defines known)

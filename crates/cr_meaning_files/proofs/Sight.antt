@@ -8,6 +8,7 @@ use Rattle.cr_syntax.specs.declared.node.Kind.TheVariants as kind
 use Rattle.cr_syntax.specs.declared.node.Node.{Node}
 use Rattle.cr_syntax.specs.Tables.{rule_of, side_of}
 use Rattle.cr_syntax.specs.Kept.{row_in}
+use Rattle.cr_scopes_sight.specs.Scopes.{is_blocklike}
 use Rattle.cr_typed.specs.declared.typed.Typed.{Typed}
 use Rattle.cr_meaning.specs.declared.run.Limits.{Limits}
 use Rattle.cr_meaning_soundness.specs.Sorts.{IsAmong}
@@ -42,7 +43,7 @@ use Rattle.cr_meaning_files.proofs.Scoped.{IsScoped}
 -- ---- lists
 
 -- a node that passes a test is one of those that do
-among_passed : (test : ℕ → Kind → Bool) (from : ℕ) (nodes : List Node) (m : ℕ) (n : Node) → slice_get nodes m ≡ Some n → test (from + m) n.kind ≡ true → IsAmong (from + m) (nodes_from test from nodes)
+pub among_passed : (test : ℕ → Kind → Bool) (from : ℕ) (nodes : List Node) (m : ℕ) (n : Node) → slice_get nodes m ≡ Some n → test (from + m) n.kind ≡ true → IsAmong (from + m) (nodes_from test from nodes)
 among_passed test from [] m n e h = absurd (cc e)
 among_passed test from (x ∷ nodes) zero n e h =
     let same : x ≡ n = cc e in
@@ -123,7 +124,7 @@ only_loop : (k : Kind) → is_loop k ≡ true → k ≡ kind.For
 only_loop kind.For h = refl
 only_loop k h = absurd (false≢true h)
 
-only_declaration : (k : Kind) → is_declaration k ≡ true → k ≡ kind.Declaration
+pub only_declaration : (k : Kind) → is_declaration k ≡ true → k ≡ kind.Declaration
 only_declaration kind.Declaration h = refl
 only_declaration k h = absurd (false≢true h)
 
@@ -169,8 +170,18 @@ module _ (file : List ℕ) (t : Typed) (it : IsUnitOfFile file t) where
       let one = clear_at is_declaration without_declarations no_declarations t.nodes u.below n.parts (parts_below t u q n at) row k p e in
       ap (λ o. is_declaration (kind_if o)) one.1.0 ∙ one.1.1
 
+  pub holds_declaration : (q p : ℕ) → IsPartOf t u p q → kind_at t p ≡ kind.Declaration → is_blocklike (kind_at t q) ≡ true
+  holds_declaration q p h is = by (one_of (is_block (kind_at t q)) _ (declarations_stand (kind_at t q)))
+    where
+      by : (is_block (kind_at t q) ≡ true) ⊎ ((is_loop (kind_at t q) || clear_side is_declaration without_declarations no_declarations (side_of (kind_at t q))) ≡ true) → is_blocklike (kind_at t q) ≡ true
+      by (inl b) = ap is_blocklike (only_block (kind_at t q) b)
+      by (inr x) = elim (one_of (is_loop (kind_at t q)) _ x) [
+        | inl l ↦ ap is_blocklike (only_loop (kind_at t q) l)
+        | inr clear ↦ absurd (false≢true (sym (no_declaration q h.place p h.parent h.at (subst (λ k. clear_side is_declaration without_declarations no_declarations (side_of k) ≡ true) (ap kind_if h.at) clear) h.is) ∙ ap is_declaration is))
+      ]
+
   -- the declarators of automatic objects in a declaration are among those that the node above enters
-  entered : (q p d : ℕ) → IsPartOf t u p q → kind_at t p ≡ kind.Declaration → owns t p d ≡ true → IsAmong d (entered_for t q (kind_at t q) p)
+  pub entered : (q p d : ℕ) → IsPartOf t u p q → kind_at t p ≡ kind.Declaration → owns t p d ≡ true → IsAmong d (entered_for t q (kind_at t q) p)
   entered q p d h is o = by (one_of (is_block (kind_at t q)) _ (declarations_stand (kind_at t q)))
     where
       here : slice_get (parts_at t q) h.place ≡ Some p

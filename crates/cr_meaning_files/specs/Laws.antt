@@ -15,6 +15,7 @@ use Rattle.cr_meaning_soundness.specs.Sorts.{IsAmong}
 use Rattle.cr_meaning_whole.specs.Statements.{is_declarator, AreStatementsLaid}
 use Rattle.cr_meaning_files.specs.Reached.{is_reached}
 use Rattle.cr_meaning_files.specs.Seen.{sees}
+use Rattle.cr_meaning_files.specs.Local.{is_named_locally}
 use Rattle.cr_meaning_files.specs.Files.{judgement_of, AreRead}
 
 -- expressions have as many parts as their rules read, all of them expressions, used as values but where a place is taken; and only a literal
@@ -55,3 +56,7 @@ LabelsStandAround = (file : List ℕ) (t : Typed) (it : IsUnitOfFile file t) (i 
 -- a declarator sees the object that it declares, since a block or a `for` around it enters that (6.2.4p6, 6.8.2p2, 6.8.5.3p1)
 abbrev pub DeclaratorsSeeObjects : Type 0
 DeclaratorsSeeObjects = (file : List ℕ) (t : Typed) → IsUnitOfFile file t → (i : ℕ) → is_reached t i ≡ true → is_declarator (kind_at t i) ≡ true → sees t i (name_of t i) ≡ true
+
+-- a name sees the automatic object that a block or a `for` around it declares (6.2.1p4, 6.2.4p5)
+abbrev pub NamesSeeObjects : Type 0
+NamesSeeObjects = (file : List ℕ) (t : Typed) → IsUnitOfFile file t → (i : ℕ) → kind_at t i ≡ kind.Identifier → is_named_locally t i ≡ true → sees t i (entity_of t i) ≡ true

@@ -14,6 +14,6 @@ IsWhole t (to c v below) = Unit {0}
 IsWhole t (array n below) = (1 ≤ n) × IsWhole t below
 IsWhole t other = ⊥
 
--- the members of structures have types of objects (6.7.2.1p3, K6)
+-- the members of structures have types of objects (6.7.2.1p3, K6, K14)
 abbrev pub AreMembersWhole : Typed → Type 0
 AreMembersWhole t = (node k row : ℕ) → slice_get (slice_index_or t.members node []) k ≡ Some row → IsWhole t (type_at t.shapes row)

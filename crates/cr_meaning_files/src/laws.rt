@@ -1,5 +1,5 @@
 //! What a reader expects of the run of a file's typed unit. The program calls none of these functions.
-ghost use Rattle.cr_meaning_files.specs.Laws.{AreClosed, AreTold, AreWorth, DeclaratorsSeeObjects, EnumeratorsAreNumbers, LabelsStandAround, MainsAreDefined};
+ghost use Rattle.cr_meaning_files.specs.Laws.{AreClosed, AreTold, AreWorth, DeclaratorsSeeObjects, EnumeratorsAreNumbers, LabelsStandAround, MainsAreDefined, NamesSeeObjects};
 ghost use Rattle.cr_meaning_files.specs.Files.{FilesHaveOutcomes};
 
 /// What a run may reach has its operands, its statements and its declarators with it.
@@ -35,6 +35,11 @@ pub fn labels_stand_around()
 /// A declarator sees the object that it declares.
 pub fn declarators_see_objects()
     ensures { DeclaratorsSeeObjects }
+{}
+
+/// A name sees the object of a block or a `for` that it names.
+pub fn names_see_objects()
+    ensures { NamesSeeObjects }
 {}
 
 /// The run of a file's typed unit comes to a status, or to a numbered case at a node, and never to operands that no program has.

@@ -191,14 +191,23 @@ two_tokens ts kind.EnumContent (tree_node k a b t u) i j n h r =
     let less = header ts kind.EnumContent k a b t u i j refl h in let o = opened r in let more = o.1.0 in let end = forth o.1.1 in omega (arith, less, more, end)
 two_tokens ts of u i j n h r = absurd (false≢true n)
 
--- a declared identifier has no parts, and one token
-none_laid : (ts : List Lexeme) (l : Kind) (a b : ℕ) (v u : Trees) (i j : ℕ) → IsLaid ts (side_of kind.NameDeclarator) (tree_node l a b v u) i j → ⊥
-unfolding rule_of
-none_laid ts l a b v u i j h = h.1
+-- an identifier that is declared, or used as an expression, has no parts, and one token
+abbrev pub is_word : Kind → Bool
+is_word kind.NameDeclarator = true
+is_word kind.Identifier = true
+is_word other = false
 
-one_laid : (ts : List Lexeme) (i j : ℕ) → IsLaid ts (side_of kind.NameDeclarator) none i (j + 1) → j ≡ i
+none_laid : (ts : List Lexeme) (of : Kind) (l : Kind) (a b : ℕ) (v u : Trees) (i j : ℕ) → is_word of ≡ true → IsLaid ts (side_of of) (tree_node l a b v u) i j → ⊥
 unfolding rule_of
-one_laid ts i j h = let e = h.1 in omega (arith, e)
+none_laid ts kind.NameDeclarator l a b v u i j w h = h.1
+none_laid ts kind.Identifier l a b v u i j w h = h.1
+none_laid ts of l a b v u i j w h = absurd (false≢true w)
+
+one_laid : (ts : List Lexeme) (of : Kind) (i j : ℕ) → is_word of ≡ true → IsLaid ts (side_of of) none i (j + 1) → j ≡ i
+unfolding rule_of
+one_laid ts kind.NameDeclarator i j w h = let e = h.1 in omega (arith, e)
+one_laid ts kind.Identifier i j w h = let e = h.1 in omega (arith, e)
+one_laid ts of i j w h = absurd (false≢true w)
 
 -- ---- of a unit
 
@@ -206,21 +215,21 @@ module _ (t : Typed) (unit : AreOfUnit t) (listed : AreListed t.nodes 0 t.items 
   rise_at : (k : ℕ) (n : Node) → slice_get t.nodes k ≡ Some n → Rises n.first (n.last + 1) (row_in t.nodes n.parts)
   rise_at k n q = rises (made_in unit.is_unit.spells (occurs t.nodes unit.below t.items unit.once unit.are (length t.nodes) k n (omega arith) q)).spells
 
-  -- a declared identifier has no parts, and one token
-  pub name_alone : (k : ℕ) (n : Node) → slice_get t.nodes k ≡ Some n → n.kind ≡ kind.NameDeclarator → (n.parts ≡ []) × (n.last ≡ n.first)
-  name_alone k n at is = by n.parts refl
+  -- such an identifier has no parts, and one token
+  pub word_alone : (k : ℕ) (n : Node) → slice_get t.nodes k ≡ Some n → is_word n.kind ≡ true → (n.parts ≡ []) × (n.last ≡ n.first)
+  word_alone k n at is = by n.parts refl
     where
-      laid : IsLaid unit.tokens (side_of kind.NameDeclarator) (row_in t.nodes n.parts) n.first (n.last + 1)
-      laid = subst (λ (x : Kind). IsLaid unit.tokens (side_of x) (row_in t.nodes n.parts) n.first (n.last + 1)) is (laid_at t unit k n at)
+      laid : IsLaid unit.tokens (side_of n.kind) (row_in t.nodes n.parts) n.first (n.last + 1)
+      laid = laid_at t unit k n at
 
       never : (q : ℕ) (rest : List ℕ) (x : Node) → n.parts ≡ q ∷ rest → slice_get t.nodes q ≡ Some x → ⊥
       never q rest x e there =
           let row = ap (row_in t.nodes) e ∙ row_at t.nodes unit.below q x rest there in
-          none_laid unit.tokens x.kind x.first (x.last + 1) (row_in t.nodes x.parts) (row_in t.nodes rest) n.first (n.last + 1)
-          (subst (λ u. IsLaid unit.tokens (side_of kind.NameDeclarator) u n.first (n.last + 1)) row laid)
+          none_laid unit.tokens n.kind x.kind x.first (x.last + 1) (row_in t.nodes x.parts) (row_in t.nodes rest) n.first (n.last + 1) is
+          (subst (λ u. IsLaid unit.tokens (side_of n.kind) u n.first (n.last + 1)) row laid)
 
       by : (ps : List ℕ) → n.parts ≡ ps → (n.parts ≡ []) × (n.last ≡ n.first)
-      by [] e = (e, one_laid unit.tokens n.first n.last (subst (λ ps. IsLaid unit.tokens (side_of kind.NameDeclarator) (row_in t.nodes ps) n.first (n.last + 1)) e laid))
+      by [] e = (e, one_laid unit.tokens n.kind n.first n.last is (subst (λ ps. IsLaid unit.tokens (side_of n.kind) (row_in t.nodes ps) n.first (n.last + 1)) e laid))
       by (q ∷ rest) e =
           let G : List ℕ → Type 0 = λ ps. (i : ℕ) → i < length ps → slice_index ps i < k in
           let b : q < k = subst G e (unit.below k n at) 0 (omega arith) in
@@ -228,17 +237,25 @@ module _ (t : Typed) (unit : AreOfUnit t) (listed : AreListed t.nodes 0 t.items 
           let x = some_at t.nodes q (omega (arith, b, w)) in
           absurd (never q rest x.0 e x.1)
 
-  -- a node named by the token of a declared identifier is that one
-  pub named_once : (k l : ℕ) (n m : Node) (token : ℕ) → slice_get t.nodes k ≡ Some n → n.kind ≡ kind.NameDeclarator → n.first ≡ token → slice_get t.nodes l ≡ Some m → is_named m.kind ≡ true
+  -- a node named by its token is that one
+  pub word_once : (k l : ℕ) (n m : Node) (token : ℕ) → slice_get t.nodes k ≡ Some n → is_word n.kind ≡ true → n.first ≡ token → slice_get t.nodes l ≡ Some m → is_named m.kind ≡ true
       → m.first ≤ token → token ≤ m.first + 1 → token ≤ m.last → k ≡ l
-  named_once k l n m token here is first there named low high ends =
-      let one = name_alone k n here is in
+  word_once k l n m token here is first there named low high ends =
+      let one = word_alone k n here is in
       one_node t.nodes unit.below rise_at listed (rises unit.is_unit.spells) k l n m token here one.0 first (one.1 ∙ first) there low ends
       (λ q rest x e at.
       let row = ap (row_in t.nodes) e ∙ row_at t.nodes unit.below q x rest at in
       let h = subst (λ u. IsLaid unit.tokens (side_of m.kind) u m.first (m.last + 1)) row (laid_at t unit l m there) in
       let less = header unit.tokens m.kind x.kind x.first (x.last + 1) (row_in t.nodes x.parts) (row_in t.nodes rest) m.first (m.last + 1) named h in
       omega (arith, less, high))
+
+  pub name_alone : (k : ℕ) (n : Node) → slice_get t.nodes k ≡ Some n → n.kind ≡ kind.NameDeclarator → (n.parts ≡ []) × (n.last ≡ n.first)
+  name_alone k n at is = word_alone k n at (ap is_word is)
+
+  -- as that of a declared identifier
+  pub named_once : (k l : ℕ) (n m : Node) (token : ℕ) → slice_get t.nodes k ≡ Some n → n.kind ≡ kind.NameDeclarator → n.first ≡ token → slice_get t.nodes l ≡ Some m → is_named m.kind ≡ true
+      → m.first ≤ token → token ≤ m.first + 1 → token ≤ m.last → k ≡ l
+  named_once k l n m token here is first there named low high ends = word_once k l n m token here (ap is_word is) first there named low high ends
 
   -- so the token of a tag isn't one
   pub no_tag : (k l : ℕ) (n m : Node) → slice_get t.nodes k ≡ Some n → n.kind ≡ kind.NameDeclarator → slice_get t.nodes l ≡ Some m → is_tagged m.kind ≡ true → m.first + 1 ≡ n.first → ⊥

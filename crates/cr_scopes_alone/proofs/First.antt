@@ -27,7 +27,7 @@ behind : (at : ℕ → Option Told) (a : ℕ) → begins (at a) a ≡ true → c
 behind at a h = ap (λ b. if b then count_of at a + 1 else count_of at a) h
 
 -- two tokens that begin entities of one number are one
-one_number : (at : ℕ → Option Told) (a b : ℕ) → begins (at a) a ≡ true → begins (at b) b ≡ true → count_of at a ≡ count_of at b → a ≡ b
+pub one_number : (at : ℕ → Option Told) (a b : ℕ) → begins (at a) a ≡ true → begins (at b) b ≡ true → count_of at a ≡ count_of at b → a ≡ b
 one_number at a b h g e = elim (cases_lt a b) [
   | inl less ↦ (let x = rises at (suc a) b (omega (arith, less)) in let y = behind at a h in absurd (omega (arith, e, x, y)))
   | inr le ↦ elim (cases_lt b a) [
@@ -37,7 +37,7 @@ one_number at a b h g e = elim (cases_lt a b) [
 ]
 
 -- the number of an entity is how many begin before the token that it begins with
-number_is : (at : ℕ → Option Told) (o : Option Told) (k : ℕ) → number_of at o ≡ Some k → (x : Told) × ((o ≡ Some x) × ((begins (at x.first) x.first ≡ true) × (count_of at x.first ≡ k)))
+pub number_is : (at : ℕ → Option Told) (o : Option Told) (k : ℕ) → number_of at o ≡ Some k → (x : Told) × ((o ≡ Some x) × ((begins (at x.first) x.first ≡ true) × (count_of at x.first ≡ k)))
 number_is at None k e = absurd cc
 number_is at (Some x) k e = by (begins (at x.first) x.first) refl e
   where
@@ -46,10 +46,10 @@ number_is at (Some x) k e = by (begins (at x.first) x.first) refl e
     by true q e = let same : count_of at x.first ≡ k = cc in (x, (refl, (q, same)))
     by false q e = absurd cc
 
-some_same : {A : Type 0} (x y : A) → Some x ≡ Some y → x ≡ y
+pub some_same : {A : Type 0} (x y : A) → Some x ≡ Some y → x ≡ y
 some_same x y e = cc
 
-number_same : (o : Option ℕ) (k : ℕ) → is_number o k ≡ true → o ≡ Some k
+pub number_same : (o : Option ℕ) (k : ℕ) → is_number o k ≡ true → o ≡ Some k
 number_same None k e = absurd (false≢true e)
 number_same (Some j) k e = ap Some (eqb-true j k e)
 
@@ -104,14 +104,14 @@ module _ (at : ℕ → Option Told) (tok k : ℕ) (own : Told) (own_at : at tok 
 abbrev at_of : (ℕ → ℕ) → List Event → ℕ → ℕ → Option Told
 at_of name events tokens t = told_below name events tokens t
 
-told_there : (name : ℕ → ℕ) (events : List Event) (tokens t : ℕ) (x : Told) → told_below name events tokens t ≡ Some x → told name t (past_of events (length events)) ≡ Some x
+pub told_there : (name : ℕ → ℕ) (events : List Event) (tokens t : ℕ) (x : Told) → told_below name events tokens t ≡ Some x → told name t (past_of events (length events)) ≡ Some x
 told_there name events tokens t x e = by (nat_lt t tokens) e
   where
     by : (b : Bool) → (if b then told name t (past_of events (length events)) else None) ≡ Some x → told name t (past_of events (length events)) ≡ Some x
     by true e = e
     by false e = absurd cc
 
-within_is : (count : ℕ) (o : Option ℕ) (e : ℕ) → entity_within count o ≡ Some e → (o ≡ Some e) × (nat_lt e count ≡ true)
+pub within_is : (count : ℕ) (o : Option ℕ) (e : ℕ) → entity_within count o ≡ Some e → (o ≡ Some e) × (nat_lt e count ≡ true)
 within_is count None e h = absurd cc
 within_is count (Some k) e h = by (nat_lt k count) refl h
   where

@@ -51,13 +51,13 @@ not_type : (r : Role) → is_plain r ≡ true → is_typedef r ≡ false
 not_type role.Typedef h = absurd (false≢true h)
 not_type r h = refl
 
-not_tag : (r : Role) → is_plain r ≡ true → stands_in Tag r ≡ true → ⊥
+pub not_tag : (r : Role) → is_plain r ≡ true → stands_in Tag r ≡ true → ⊥
 not_tag role.Content h g = absurd (false≢true h)
 not_tag role.Alone h g = absurd (false≢true h)
 not_tag role.Mentioned h g = absurd (false≢true h)
 not_tag r h g = absurd (false≢true g)
 
-alone_plain : (outermost : Bool) (r : Role) → stands_alone outermost r ≡ true → is_plain r ≡ true
+pub alone_plain : (outermost : Bool) (r : Role) → stands_alone outermost r ≡ true → is_plain r ≡ true
 alone_plain outermost r h = (and_parts (is_plain r) (not (links outermost r)) h).0
 
 alone_links : (outermost : Bool) (r : Role) → stands_alone outermost r ≡ true → links outermost r ≡ false
@@ -97,7 +97,7 @@ module _ (name : ℕ → ℕ) (tok : ℕ) where
   linked_not s (Node i ∷ past) a e = linked_not s past a e
 
   -- what begins with the token is told there
-  begun_first : (past : List Event) (t : ℕ) (r : Role) → IsAlone tok past → (begun name past t r).first ≡ tok → t ≡ tok
+  pub begun_first : (past : List Event) (t : ℕ) (r : Role) → IsAlone tok past → (begun name past t r).first ≡ tok → t ≡ tok
   begun_first past t r a e = by (links (is_outermost past) r) (linked name (name t) past) refl e
     where
       by : (b : Bool) (o : Option ℕ) → linked name (name t) past ≡ o → (if b then or_given o t else t) ≡ tok → t ≡ tok

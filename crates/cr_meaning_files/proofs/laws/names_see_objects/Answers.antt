@@ -1,0 +1,5 @@
+use Rattle.cr_meaning_files.proofs.Named.{named_locally}
+use Rattle.cr_meaning_files.proofs.laws.names_see_objects.Goals as goal
+
+pub returns : goal.returns
+returns c = named_locally

@@ -1,0 +1,40 @@
+-- Which names are of objects that a block or a `for` around them declares (C11 6.2.1p4, 6.2.4p5).
+use Rattle.std.specs.Prelude.{ℕ, zero, suc, Bool, false, not, ◌&&◌, Option, None, Some, length, slice_index_or, if◌then◌else◌}
+use Rattle.std.specs.List.{list_any}
+use Rattle.std.specs.Option.{is_some}
+use Rattle.cr_check_enclosing.specs.Above.{above_of}
+use Rattle.cr_typed.specs.declared.typed.Typed.{Typed}
+use Rattle.cr_typed.specs.declared.typed.Duration.TheVariants as duration
+use Rattle.cr_meaning_operations.specs.Operations.{kind_at, entity_of, is_automatic_by, is_declaration, is_static_initialiser, nodes_from}
+use Rattle.cr_meaning_units.specs.Owned.{owns}
+use Rattle.cr_meaning_sight.specs.Under.{is_under}
+
+-- the innermost declaration around a node
+abbrev pub declaration_if : Typed → (ℕ → Option ℕ) → Option ℕ → Option ℕ
+declaration_if t outside None = None
+declaration_if t outside (Some node) = if is_declaration (kind_at t node) then Some node else outside node
+
+abbrev pub declaration_by : ℕ → Typed → ℕ → Option ℕ
+declaration_by zero t part = None
+declaration_by (suc more) t part = declaration_if t (declaration_by more t) (above_of t.nodes (length t.nodes) part)
+
+abbrev pub declaration_around : Typed → ℕ → Option ℕ
+declaration_around t part = declaration_by (suc (length t.nodes)) t part
+
+-- it stands in another node, and has the object among those of its declarators
+abbrev pub is_held_by : Typed → ℕ → Option ℕ → Bool
+is_held_by t declared None = false
+is_held_by t declared (Some declaration) = is_some (above_of t.nodes (length t.nodes) declaration) && owns t declaration declared
+
+-- an automatic object that isn't a parameter
+abbrev pub is_local : Typed → ℕ → Bool
+is_local t declared =
+    is_automatic_by (slice_index_or t.durations declared duration.NoObject) && is_held_by t declared (declaration_around t declared)
+
+-- a node in an initialiser that is executed before main
+abbrev pub is_early : Typed → ℕ → Bool
+is_early t node = list_any (λ start. is_under t start node) (nodes_from (is_static_initialiser t) 0 t.nodes)
+
+-- a name that its scope alone shows to see its object
+abbrev pub is_named_locally : Typed → ℕ → Bool
+is_named_locally t node = is_local t (entity_of t node) && not (is_early t node)

@@ -1,0 +1,12 @@
+pub mod Types
+pub mod Naming
+pub mod Specifying
+pub mod Sizes
+pub mod Declaring
+pub mod Listing
+pub mod Reading
+pub mod Known
+pub mod Open
+pub mod Classes
+pub mod Full
+pub mod Sized

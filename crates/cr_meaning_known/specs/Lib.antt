@@ -1,0 +1,5 @@
+pub mod Shaped
+pub mod Sighted
+pub mod Sized
+pub mod Known
+pub mod Laws
