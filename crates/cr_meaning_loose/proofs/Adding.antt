@@ -9,7 +9,7 @@ use Rattle.cr_meaning_seen.specs.Seen.{Forest, bare, node as tree, onto, piece}
 use Rattle.cr_meaning_frames.specs.Frame.{ArePlain}
 use Rattle.cr_meaning_orders.specs.Fixed.{Spares, IsFixedNode}
 use Rattle.cr_meaning_loose.specs.Sums.{is_loud_at, reads_cell, writes_cell, is_loud, is_read, is_written, do_meet}
-use Rattle.cr_meaning_loose.specs.Levels.{count_of}
+use Rattle.cr_meaning_loose.specs.Lists.{count_of}
 use Rattle.cr_meaning_loose.proofs.Summing.{Found, found, held_by, free_of, plain_so, plain_quiet, plain_kept, quiet_writes, spares_so, spares_written}
 
 -- ---- pieces of one and one more
@@ -17,16 +17,16 @@ use Rattle.cr_meaning_loose.proofs.Summing.{Found, found, held_by, free_of, plai
 abbrev alone : ℕ → Forest → Option (List Event) → Forest
 alone number inner end = tree number inner end bare
 
-before_it : (done more : Forest) (place : ℕ) → place < count_of done → piece (onto done more) place ≡ piece done place
+pub before_it : (done more : Forest) (place : ℕ) → place < count_of done → piece (onto done more) place ≡ piece done place
 before_it bare more place few = absurd (omega (arith, few))
 before_it (tree number inner end next) more zero few = refl
 before_it (tree number inner end next) more (suc place) few = before_it next more place (omega (arith, few))
 
-at_it : (done : Forest) (number : ℕ) (inner : Forest) (end : Option (List Event)) → piece (onto done (alone number inner end)) (count_of done) ≡ Some (alone number inner end)
+pub at_it : (done : Forest) (number : ℕ) (inner : Forest) (end : Option (List Event)) → piece (onto done (alone number inner end)) (count_of done) ≡ Some (alone number inner end)
 at_it bare number inner end = refl
 at_it (tree m f x next) number inner end = at_it next number inner end
 
-few_are : (done operand : Forest) (place : ℕ) → piece done place ≡ Some operand → place < count_of done
+pub few_are : (done operand : Forest) (place : ℕ) → piece done place ≡ Some operand → place < count_of done
 few_are bare operand place is = absurd cc
 few_are (tree number inner end next) operand zero is = omega arith
 few_are (tree number inner end next) operand (suc place) is = let f = few_are next operand place is in omega (arith, f)

@@ -15,7 +15,7 @@ use Rattle.cr_meaning_seen.specs.Seen.{Forest, bare, node as tree, onto, Occurs,
 use Rattle.cr_meaning_frames.specs.Frame.{reads_in, AreReadsIn, IsPlainNode, ArePlain}
 use Rattle.cr_meaning_orders.specs.Fixed.{spares, Spares}
 use Rattle.cr_meaning_loose.specs.Sums.{among, some_in, is_noisy_op, is_loud_at, reads_cell, writes_cell, is_loud, is_read, is_written}
-use Rattle.cr_meaning_loose.specs.Levels.{count_of}
+use Rattle.cr_meaning_loose.specs.Lists.{count_of}
 
 -- ---- evaluations within
 

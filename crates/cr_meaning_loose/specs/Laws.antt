@@ -1,21 +1,22 @@
 -- What a reader expects of the first loose evaluation.
-use Rattle.std.specs.Prelude.{◌≡◌, ℕ, List}
+use Rattle.std.specs.Prelude.{◌≡◌, ℕ, Some, List}
 use Rattle.cr_meaning.specs.Language.{gave, ended}
 use Rattle.cr_meaning.specs.World.{Program, World, Answer, Halt}
 use Rattle.cr_meaning.specs.Meaning.{Goal, Meaning, operands}
 use Rattle.cr_meaning_seen.specs.Seen.{Forest, Sees}
 use Rattle.cr_meaning_seen.specs.Marks.{marks_around, marks_until}
 use Rattle.cr_meaning_orders.specs.Fixed.{IsFixed}
-use Rattle.cr_meaning_loose.specs.Loose.{IsFirstLoose}
+use Rattle.cr_meaning_loose.specs.Lists.{Lists}
+use Rattle.cr_meaning_loose.specs.Loose.{Judged}
 use Rattle.cr_meaning_loose.specs.Levels.{levels_of, closed}
 
--- a forest with a loose evaluation isn't fixed
+-- where an evaluation or a list in a program's run is loose, not all is fixed
 abbrev pub LooseIsNotFixed : Type 0
-LooseIsNotFixed = (p : Program) (loose : ℕ) (forest : Forest) → IsFirstLoose p loose forest → IsFixed p forest → ⊥
+LooseIsNotFixed = (p : Program) (lists : Lists) (loose : ℕ) (forest : Forest) → Judged p lists forest (Some loose) → IsFixed p forest → ⊥
 
--- and one evaluation at most is the first
+-- and one node at most is the first
 abbrev pub OneIsFirst : Type 0
-OneIsFirst = (p : Program) (one other : ℕ) (forest : Forest) → IsFirstLoose p one forest → IsFirstLoose p other forest → one ≡ other
+OneIsFirst = (p : Program) (lists : Lists) (one other : ℕ) (forest : Forest) → Judged p lists forest (Some one) → Judged p lists forest (Some other) → one ≡ other
 
 -- by its marks what is seen of a run is known, whether it came to an answer or was cut off
 abbrev pub MarksTellForests : Type 0

@@ -1,9 +1,10 @@
 -- The nodes that have begun and not ended, by the marks so far.
-use Rattle.std.specs.Prelude.{ℕ, suc, zero, ◌⊎◌, Option, Some, None, List, [], ◌∷◌}
+use Rattle.std.specs.Prelude.{ℕ, zero, ◌⊎◌, Option, Some, None, List, [], ◌∷◌}
 use Rattle.cr_meaning_seen.specs.Seen.{Forest, bare, node, onto}
 use Rattle.cr_meaning_seen.specs.Marks.{Mark, began, left}
 use Rattle.cr_meaning.specs.World.{Program}
 use Rattle.cr_meaning_orders.specs.Fixed.{IsFixed}
+use Rattle.cr_meaning_loose.specs.Lists.{Lists, AreListsFine}
 use Rattle.cr_meaning_loose.specs.Loose.{IsFirstLoose}
 
 -- such a node, with the evaluations within it that have ended
@@ -37,18 +38,20 @@ closed_with cut (top ∷ below ∷ rest) = closed_with (node top.number (onto to
 abbrev pub closed : List Level → Forest
 closed levels = closed_with bare levels
 
--- how many evaluations stand side by side
-abbrev pub count_of : Forest → ℕ
-count_of bare = zero
-count_of (node number inner end next) = suc (count_of next)
+-- the number of the whole program
+abbrev pub bottom_of : List Level → ℕ
+bottom_of [] = zero
+bottom_of (top ∷ []) = top.number
+bottom_of (top ∷ below ∷ rest) = bottom_of (below ∷ rest)
 
 -- ---- which of what has ended is loose
 
-abbrev pub AreAllFixed : Program → List Level → Type 0
-AreAllFixed p [] = Unit {0}
-AreAllFixed p (top ∷ below) = IsFixed p top.done × AreAllFixed p below
+-- none of the evaluations, and no list that has ended
+abbrev pub AreAllFixed : Program → Lists → List Level → Type 0
+AreAllFixed p lists [] = Unit {0}
+AreAllFixed p lists (top ∷ below) = (IsFixed p top.done × AreListsFine p lists top.number bare top.done) × AreAllFixed p lists below
 
 -- the first one stands in one of the levels, and in none below
-abbrev pub IsFailed : Program → ℕ → List Level → Type 0
-IsFailed p loose [] = ⊥
-IsFailed p loose (top ∷ below) = (AreAllFixed p below × IsFirstLoose p loose top.done) ⊎ IsFailed p loose below
+abbrev pub IsFailed : Program → Lists → ℕ → List Level → Type 0
+IsFailed p lists loose [] = ⊥
+IsFailed p lists loose (top ∷ below) = (AreAllFixed p lists below × IsFirstLoose p lists loose top.number bare top.done) ⊎ IsFailed p lists loose below

@@ -1,3 +1,4 @@
+pub mod Lists
 pub mod Loose
 pub mod Sums
 pub mod Levels

@@ -76,7 +76,7 @@ impl<'a> RunLaw for OrderLaw<'a> {
         stop: &mut S,
     ) -> Ruling {
         let (run, loose) = outcome_judged(alloc, typed, self.limits, stop);
-        let run = ended_in_order(typed, run, loose);
+        let run = ended_in_order(run, loose);
         let ruling = run_ruling(file, typed, &run);
         leave_run(alloc, file, self.limits, self.runs, run);
         ruling

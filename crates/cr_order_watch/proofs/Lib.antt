@@ -1,4 +1,6 @@
 pub mod Opening
+pub mod Gathering
+pub mod Listing
 pub mod Stacking
 pub mod Watching
 pub mod Judging

@@ -15,10 +15,11 @@ use Rattle.cr_meaning.specs.World.{Program}
 use Rattle.cr_meaning_seen.specs.Seen.{Forest, bare, node as tree, onto}
 use Rattle.cr_meaning_orders.specs.Fixed.{IsFixedNode}
 use Rattle.cr_meaning_loose.specs.Sums.{is_noisy_op, is_loud_at, reads_cell, writes_cell, is_loud, is_read, is_written, do_meet}
-use Rattle.cr_meaning_loose.specs.Levels.{Level, count_of}
+use Rattle.cr_meaning_loose.specs.Lists.{operands_at, count_of}
+use Rattle.cr_meaning_loose.specs.Levels.{Level}
 use Rattle.cr_meaning_loose.proofs.Summing.{some_onto}
 use Rattle.cr_meaning_loose.proofs.Adding.{bare_fixed, behind_fixed, was_fixed, more_fixed, both_loud_are_loose, met_are_loose}
-use Rattle.cr_order_watch.specs.Known.{operands_at, is_asked, IsSum, IsOpen}
+use Rattle.cr_order_watch.specs.Known.{is_asked, IsSum, IsOpen}
 use Rattle.cr_order_watch.specs.declared.opened.Open.{Open}
 
 -- ---- a node that begins

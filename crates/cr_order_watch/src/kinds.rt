@@ -3,8 +3,8 @@ ghost use Rattle.std.specs.Prelude.{◌≡◌, slice_get};
 ghost use Rattle.cr_eval.specs.Table.{program_of};
 ghost use Rattle.cr_meaning.specs.Quiet.{is_quiet_work};
 ghost use Rattle.cr_meaning_orders.specs.AnyOrder.{is_free};
+ghost use Rattle.cr_meaning_loose.specs.Lists.{operands_at};
 ghost use Rattle.cr_meaning_loose.specs.Sums.{is_noisy_op};
-ghost use Rattle.cr_order_watch.specs.Known.{operands_at};
 
 use cr_eval::Table;
 use cr_meaning::Work;

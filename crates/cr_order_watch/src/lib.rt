@@ -7,6 +7,7 @@ mod cells;
 mod judged;
 mod kinds;
 mod levels;
+mod lists;
 mod opened;
 mod watch;
 

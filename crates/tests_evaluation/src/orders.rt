@@ -6,7 +6,7 @@ use cr_order_watch::run_judged;
 use std::alloc::{AllocError, Global};
 use std::process::Abort;
 
-// A program as in `programs`, and its status with the first node whose operands see one another. By hand, with `int x, y;`,
+// A program as in `programs`, and its status with the first node whose operands see one another; it has no initialiser list. By hand, with `int x, y;`,
 // `int f(void){x=1;return 2;}` and `int h(void){exit(0);}`: `x+f()`; `x=f()`; `f()+f()`; `y+f()`; `f()+(x+f())`; `h()+1/0`;
 // `k(5,6)` of `k(int a,int b){exit(a);}`; `int a[2]={f(),f()}`; `k(x,f())` of `k(int a,int b){return a;}`; `y=y+1`.
 const ORDERS: &str = "
@@ -38,7 +38,7 @@ fn check(rt: &impl Abort, alloc: Global, row: &str) -> Result<(), AllocError> {
         at: 0,
         raised: false,
     };
-    let (run, loose) = run_judged(alloc, &table, &mut stop);
+    let (run, loose) = run_judged(alloc, &table, &[], &mut stop);
     expect_text(rt, shown(alloc, &run, loose), wanted, row)
 }
 

@@ -10,6 +10,7 @@ use cr_meaning::{
 };
 use cr_memory::{Cell, Guard, Scalar};
 use cr_rows::Row;
+use cr_sequence::Times;
 use std::alloc::{AllocError, Global};
 use std::process::Abort;
 use std::str::SplitWhitespace;
@@ -350,27 +351,37 @@ fn alike(
     alloc: Global,
     count: usize,
     cell: (Scalar, Guard),
-) -> Result<Row<(Scalar, Guard)>, AllocError> {
+) -> Result<Times<(Scalar, Guard)>, AllocError> {
     let mut cells = Vec::new(alloc);
     for _ in 0..count {
         cells.push(cell)?;
     }
-    Ok(Row::from_vec(cells))
+    Times::new(cells, 1)
 }
 
-fn pair(alloc: Global) -> Result<Row<(Scalar, Guard)>, AllocError> {
+fn elements(
+    alloc: Global,
+    count: u32,
+    cell: (Scalar, Guard),
+) -> Result<Times<(Scalar, Guard)>, AllocError> {
+    let mut cells = Vec::new(alloc);
+    cells.push(cell)?;
+    Times::new(cells, count)
+}
+
+fn pair(alloc: Global) -> Result<Times<(Scalar, Guard)>, AllocError> {
     let mut cells = Vec::new(alloc);
     cells.push((INT, Guard::Free))?;
     cells.push((TO_INT, Guard::Free))?;
-    Ok(Row::from_vec(cells))
+    Times::new(cells, 1)
 }
 
-fn shape(alloc: Global, name: &str, text: &str) -> Result<Row<(Scalar, Guard)>, AllocError> {
+fn shape(alloc: Global, name: &str, text: &str) -> Result<Times<(Scalar, Guard)>, AllocError> {
     match name {
         "int" => alike(alloc, 1, (INT, Guard::Free)),
         "const" => alike(alloc, 1, (INT, Guard::Constant)),
-        "array" => alike(alloc, 4, (INT, Guard::Free)),
-        "many" => alike(alloc, 513, (INT, Guard::Free)),
+        "array" => elements(alloc, 4, (INT, Guard::Free)),
+        "many" => elements(alloc, 513, (INT, Guard::Free)),
         "pointer" => alike(alloc, 1, (TO_INT, Guard::Free)),
         "strings" => alike(alloc, 1, (TO_POINTER, Guard::Free)),
         "pair" => pair(alloc),
@@ -379,7 +390,7 @@ fn shape(alloc: Global, name: &str, text: &str) -> Result<Row<(Scalar, Guard)>, 
             text.len().saturating_add(1),
             (Scalar::Int(IntKind::Char), Guard::Literal),
         ),
-        _ => Ok(Row::new(alloc)),
+        _ => Times::new(Vec::new(alloc), 1),
     }
 }
 

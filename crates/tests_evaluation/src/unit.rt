@@ -1,11 +1,12 @@
 // The hand-made unit.
 use crate::rows::rows;
 use cr_eval::Table;
-use cr_exec_world::{Names, World, close, enter, mark, shape_for};
+use cr_exec_world::{Names, World, close, enter, mark, spelled_for};
 use cr_ints::IntKind;
 use cr_meaning::{Limits, Value};
 use cr_memory::{Cell, Guard, Pointer, Scalar, Store};
 use cr_rows::Row;
+use cr_sequence::Times;
 use std::alloc::{AllocError, Global};
 
 // Its objects by the node that declares each, which is the number of its line: its name, its cells and what they hold. `i` is an int,
@@ -96,8 +97,8 @@ fn own(letter: u8) -> (Scalar, Guard) {
     }
 }
 
-fn shape(alloc: Global, letters: &str) -> Result<Row<(Scalar, Guard)>, AllocError> {
-    let mut shape = Row::new(alloc);
+fn shape(alloc: Global, letters: &str) -> Result<Vec<(Scalar, Guard)>, AllocError> {
+    let mut shape = Vec::new(alloc);
     for letter in letters.as_bytes() {
         shape.push(own(*letter))?;
     }
@@ -115,15 +116,15 @@ fn cell(word: &str) -> Cell {
 
 fn push_shape(alloc: Global, table: &mut Table, row: &str) -> Result<(), AllocError> {
     let letters = row.split_whitespace().nth(1).unwrap_or("");
-    table.shapes.push(shape(alloc, letters)?)
+    table.shapes.push(Times::new(shape(alloc, letters)?, 1)?)
 }
 
 // The rows of the table of types: the structure of `t` and `u`.
 fn push_kinds(alloc: Global, table: &mut Table) -> Result<(), AllocError> {
-    let mut kinds = Row::new(alloc);
+    let mut kinds = Vec::new(alloc);
     kinds.push(Scalar::Int(IntKind::Int))?;
     kinds.push(Scalar::Pointer(0))?;
-    table.kinds.push(kinds)
+    table.kinds.push(Times::new(kinds, 1)?)
 }
 
 fn fill_table(alloc: Global, table: &mut Table) -> Result<(), AllocError> {
@@ -173,7 +174,10 @@ fn enter_row(
     row: &str,
 ) -> Result<(), AllocError> {
     let cells = cells_of(alloc, row)?;
-    enter(world, node, shape_for(table, node), &cells).map_err(|_| AllocError)
+    let Some(shape) = spelled_for(table, node) else {
+        return Err(AllocError);
+    };
+    enter(world, node, shape, &cells).map_err(|_| AllocError)
 }
 
 fn make_world(alloc: Global) -> Result<World, AllocError> {

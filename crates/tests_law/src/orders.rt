@@ -8,7 +8,7 @@ use std::test::Fail;
 
 // A ruling of the law of programs that run alike in any order, and the file, as in `rulings`. N8 is `left 8`, and stands on the line of the
 // first node whose operands see one another. The initialisers of a declarator are those of all lists in its list, with no order among them
-// (C11 6.7.9p23), so N8 stands at the brace of the outer list, also where two of an inner list see one another.
+// (C11 6.7.9p23), and N8 stands at the brace of the innermost list that has both.
 const ORDERS: &str = r#"
 left 8 2¦int x;int f(void){x=1;return 2;}int g(void){return 3;}\nint main(){return x+f();}
 left 8 2¦int x;int f(void){x=1;return 2;}int g(void){return 3;}\nint main(){return f()+g();}
@@ -46,7 +46,7 @@ lawful 2¦int x;int f(void){x=1;return 2;}int g(void){return 3;}\nint main(){int
 left 8 2¦int x;int f(void){x=1;return 2;}int g(void){return 3;}\nint main(){int a[2]={x,f()};return a[0];}
 lawful 3¦int x;int f(void){x=1;return 2;}int g(void){return 3;}\nint main(){int a[2]={f()};return a[0]+x;}
 left 8 3¦int x;int f(void){x=1;return 2;}int g(void){return 3;}\nint main(){int a[2][2]=\n{{f(),1},\n{g(),2}};return a[0][0];}
-left 8 2¦int x;int f(void){x=1;return 2;}int g(void){return 3;}\nint main(){int a[2][2]={{1,2},\n{g(),g()}};return a[0][0];}
+left 8 3¦int x;int f(void){x=1;return 2;}int g(void){return 3;}\nint main(){int a[2][2]={{1,2},\n{g(),g()}};return a[0][0];}
 left 8 1¦int main(){int i=0;int a[2]={i++,i++};return a[0];}
 lawful 3¦int x;int f(void){x=1;return 2;}int g(void){return 3;}\nint main(){int a=f(),b=x;return a+b;}
 lawful 1¦int x;int f(void){x=1;return 2;}int g(void){return 3;}\nint a[4];int main(){return &a[f()-2]==a;}
@@ -147,6 +147,30 @@ left 8 2¦void exit(int);int k(void){exit(4);}\nint main(){int x=1;x+=k();return
 lawful 4¦void exit(int);int k(void){exit(4);}\nint main(){int x=1;if(x)k();return x;}
 "#;
 
+// Lists within lists: the first of them to end that has two which see one another, before or behind an evaluation within an initialiser, and
+// where `exit` or `abort` cuts several off the innermost that has another initialiser.
+const LISTS: &str = r#"
+left 8 4¦int f(void){return 1;}int g(void){return 3;}\nint main(){int a[2][2]=\n{{1,2},\n{f(),g()}};return a[0][0];}
+left 8 3¦int f(void){return 1;}int g(void){return 3;}\nint main(){int a[2][2]=\n{{f(),2},\n{1,g()}};return a[0][0];}
+left 8 4¦int f(void){return 1;}int g(void){return 3;}\nint main(){int a[3][2]=\n{{f(),2},\n{f(),g()},\n{f(),f()}};return a[0][0];}
+left 8 4¦struct s{int a,b[2];};int f(void){return 1;}int g(void){return 3;}\nint main(){struct s t=\n{f(),\n{g(),g()}};return t.a;}
+left 8 3¦int f(void){return 1;}int g(void){return 3;}\nint main(){int a[2]=\n{f(),\n{g()}};return a[0];}
+left 8 3¦int f(void){return 1;}int g(void){return 3;}\nint main(){int a[2][2]=\n{f(),\ng(),1,2};return a[0][0];}
+left 8 5¦int f(void){return 1;}int g(void){return 3;}\nint main(){int a[1][2][2]=\n{{\n{1,2},\n{f(),g()}}};return a[0][0][0];}
+left 8 4¦int f(void){return 1;}int g(void){return 3;}\nint main(){int a[1][2][2]=\n{\n{{1,f()},\n{g(),2}}};return a[0][0][0];}
+left 8 4¦int x;int f(void){x=1;return 2;}int g(void){return 3;}\nint main(){int a[2][2]=\n{\n{f(),g()},\n{1,\nx+f()}};return a[0][0];}
+left 8 5¦int x;int f(void){x=1;return 2;}int g(void){return 3;}\nint main(){int a[2][2]=\n{{1,f()},\n{g(),\nx+f()}};return a[0][0];}
+left 8 4¦int x;int f(void){x=1;return 2;}int g(void){return 3;}\nint main(){int a[2][2]=\n{{1,\nx+f()},\n{f(),g()}};return a[0][0];}
+left 8 4¦int x;int f(void){x=1;return 2;}\nint main(){int a[2][2]=\n{{3,4},\n{x,f()}};return a[0][0];}
+lawful 2¦int x;int f(void){x=1;return 2;}\nint main(){int a[2][2]={{f(),4},{3,5}};return a[0][0];}
+left 8 4¦void exit(int);int k(void){exit(4);}\nint main(){int a[2][2]=\n{{1,2},\n{k(),3}};return a[0][0];}
+left 8 3¦void exit(int);int k(void){exit(4);}\nint main(){int a[2][2]=\n{{1,2},\n{k()}};return a[0][0];}
+left 8 4¦void abort(void);int k(void){abort();}\nint main(){int a[1][2][2]=\n{{\n{1,k()}}};return a[0][0][0];}
+lawful 4¦void exit(int);int k(void){exit(4);}\nint main(){int a[1][1]={{k()}};return a[0][0];}
+left 8 3¦int f(void){return 1;}void exit(int);int k(void){exit(4);}\nint main(){int a[2][2]=\n{{f(),2},\n{k()}};return a[0][0];}
+left 8 3¦int f(void){return 1;}void exit(int);int k(void){exit(4);}\nint main(){int a[2][2]={\n{f(),f()},\n{1,k()}};return a[0][0];}
+"#;
+
 // The same files by the law that asks nothing of the order.
 const BY_CLAW: &str = r#"
 lawful 2¦int x;int f(void){x=1;return 2;}int g(void){return 3;}\nint main(){return x+f();}
@@ -180,7 +204,8 @@ fn a_run_hangs_on_no_order_or_n8_stands_at_the_node(rt: HostRuntime) -> Result<(
 
 #[test]
 fn each_form_of_a_node_has_its_operands_in_any_order(rt: HostRuntime) -> Result<(), Fail> {
-    expect_all_by(rt.alloc(), FORMS, &law())
+    expect_all_by(rt.alloc(), FORMS, &law())?;
+    expect_all_by(rt.alloc(), LISTS, &law())
 }
 
 #[test]
