@@ -34,6 +34,7 @@ pub fn parse(alloc: Global, file: &[u8], tokens: &Tokens) -> Result<Unit, ParseF
     let mut scopes = LinkedList::new(alloc);
     begin(alloc, &mut scopes)?;
     let mut nodes = Row::new(alloc);
+    nodes.reserve(list.len())?;
     let items = unit(alloc, &source, &mut scopes, &mut nodes)?;
     let list = list.to_vec(alloc)?;
     Ok(Unit::new(Tokens { list }, nodes, items))
