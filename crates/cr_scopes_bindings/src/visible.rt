@@ -1,7 +1,7 @@
 // The declaration that is visible where a name is written.
-ghost use Rattle.std.specs.Prelude.{◌≡◌, OnOk, IfOk, length};
-ghost use Rattle.cr_scopes_bindings.specs.Stacks.{entered};
-ghost use Rattle.cr_scopes_bindings.specs.Visible.{seen_by, AreVisible};
+ghost use Rattle.std.specs.Prelude.{◌≡◌, OnOk, IfOk, true, false, length, slice_index_or, slice_set, if◌then◌else◌};
+ghost use Rattle.cr_scopes_bindings.specs.Stacks.{entered, found_in};
+ghost use Rattle.cr_scopes_bindings.specs.Visible.{marked_by, seen_by, AreVisible};
 ghost use Rattle.cr_scopes.specs.Looking.{stands_in};
 ghost use Rattle.cr_scopes.specs.States.{name_in};
 ghost use Rattle.cr_scopes.specs.Units.{unit_events};
@@ -34,14 +34,44 @@ fn is_declaration(role: Role) -> bool
     }
 }
 
+// Whether a token was named; one that is none wasn't.
+fn is_marked(named: &[bool], token: u32) -> bool
+    ensures { result ≡ slice_index_or named.now token false }
+{
+    if (token as usize) < named.len() {
+        named[token as usize]
+    } else {
+        false
+    }
+}
+
+fn mark(named: &mut Vec<bool>, token: u32)
+    ensures { named.new.items ≡ slice_set named.old.items token true }
+{
+    if (token as usize) < named.len() {
+        named[token as usize] = true;
+    }
+}
+
+// What is visible at a token is found where it is first named.
+fn find(scoped: &Scoped, named: &[bool], visible: &mut Vec<Option<u32>>, token: u32, name: u32)
+    ensures { visible.new.items ≡ (if slice_index_or named.now token false then visible.old.items else slice_set visible.old.items token (found_in scoped.now name)) }
+{
+    if !is_marked(named, token) {
+        set_link(visible, token as usize, scoped.find(name));
+    }
+}
+
 fn follow(
     scoped: &mut Scoped,
+    named: &mut Vec<bool>,
     visible: &mut Vec<Option<u32>>,
     spellings: &[u32],
     event: Event,
 ) -> Result<(), AllocError>
     ensures scoped { OnOk result (scoped.new ≡ entered (name_in spellings.now) event scoped.old) }
-    ensures visible { OnOk result (visible.new.items ≡ seen_by (name_in spellings.now) event scoped.old visible.old.items) }
+    ensures named { OnOk result (named.new.items ≡ marked_by event named.old.items) }
+    ensures visible { OnOk result (visible.new.items ≡ seen_by (name_in spellings.now) event scoped.old named.old.items visible.old.items) }
 {
     match event {
         Event::Opens => scoped.open(),
@@ -51,7 +81,8 @@ fn follow(
         }
         Event::Name(token, role) => {
             let name = spelling_at(spellings, token);
-            set_link(visible, token as usize, scoped.find(name));
+            find(scoped, named.as_slice(), visible, token, name);
+            mark(named, token);
             if is_declaration(role) {
                 scoped.bind(name, token)
             } else {
@@ -71,9 +102,10 @@ fn visible_by(
     ensures { IfOk result (λ column. AreVisible (name_in spellings.now) events.now tokens column.items) }
 {
     let mut scoped = Scoped::new(alloc, tokens)?;
+    let mut named = vec![in alloc; false; tokens]?;
     let mut visible = vec![in alloc; None; tokens]?;
     for event in events {
-        follow(&mut scoped, &mut visible, spellings, *event)?;
+        follow(&mut scoped, &mut named, &mut visible, spellings, *event)?;
     }
     Ok(visible)
 }

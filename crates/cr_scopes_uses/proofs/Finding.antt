@@ -11,7 +11,7 @@ use Rattle.cr_scopes.specs.declared.scope.Look.{Look}
 use Rattle.cr_scopes.specs.Looking.{is_outermost, stands_in, begun, noted_if, look}
 use Rattle.cr_scopes.specs.Faults.{wrong_by}
 use Rattle.cr_scopes.specs.Resolved.{past_of}
-use Rattle.cr_scopes_bindings.specs.Visible.{latest, visible}
+use Rattle.cr_scopes_bindings.specs.Visible.{is_named, latest, visible}
 use Rattle.cr_scopes_alone.specs.Sight.{is_used}
 use Rattle.cr_scopes_alone.proofs.Telling.{AreRight, all_right}
 use Rattle.cr_scopes_uses.specs.Uses.{is_use, is_declared, is_before, Finds}
@@ -67,16 +67,16 @@ module _ (name : ℕ → ℕ) where
 
   finds : (token : ℕ) (past : List Event) → AreRight name past → is_use token past ≡ true → Finds name token past
   finds token [] right h = absurd (false≢true h)
-  finds token (Name t r ∷ past) right h = by (token == t) refl h (λ x. finds token past right.1 x)
+  finds token (Name t r ∷ past) right h = by ((token == t) && not (is_named token past)) refl h (λ x. finds token past right.1 x)
     where
-      by : (b : Bool) → (token == t) ≡ b → (if b then is_used r else is_use token past) ≡ true → (is_use token past ≡ true → Finds name token past) → Finds name token (Name t r ∷ past)
+      by : (b : Bool) → ((token == t) && not (is_named token past)) ≡ b → (if b then is_used r else is_use token past) ≡ true → (is_use token past ≡ true → Finds name token past) → Finds name token (Name t r ∷ past)
       by true q h rest =
           let x = in_scope (name t) zero past (used_right (is_outermost past) r (look name Ordinary (name t) zero past) _ h right.0) in
           record {
             declared = x.declared;
             is = ap (λ b. if b then latest name (name t) zero past else visible name past token) q ∙ x.is;
             before = ap (λ b. if b then is_declared x.declared past else is_before x.declared token past) q ∙ x.told;
-            same = x.same ∙ ap name (sym (eqb-true token t q));
+            same = x.same ∙ ap name (sym (eqb-true token t (and_parts (token == t) (not (is_named token past)) q).0));
           }
       by false q h rest =
           let x = rest h in

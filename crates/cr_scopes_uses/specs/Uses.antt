@@ -1,16 +1,16 @@
 -- Uses of names, and the declarations before them, by events, the latest first (C11 6.2.1p7).
-use Rattle.std.specs.Prelude.{◌≡◌, ◌==◌, ◌&&◌, ◌||◌, ℕ, Bool, true, false, List, [], ◌∷◌, Some, if◌then◌else◌}
+use Rattle.std.specs.Prelude.{◌≡◌, ◌==◌, ◌&&◌, ◌||◌, ℕ, Bool, true, false, not, List, [], ◌∷◌, Some, if◌then◌else◌}
 use Rattle.cr_scopes_events.specs.declared.event.Event.{Event}
 use Rattle.cr_scopes_events.specs.declared.event.Event.TheVariants.{Node, Opens, Closes, Name, Member}
 use Rattle.cr_scopes.specs.declared.scope.Space.TheVariants.{Ordinary}
 use Rattle.cr_scopes.specs.Looking.{stands_in}
-use Rattle.cr_scopes_bindings.specs.Visible.{visible}
+use Rattle.cr_scopes_bindings.specs.Visible.{is_named, visible}
 use Rattle.cr_scopes_alone.specs.Sight.{is_used}
 
--- the latest event of a token uses it
+-- the first event of a token uses it
 abbrev pub is_use : ℕ → List Event → Bool
 is_use token [] = false
-is_use token (Name t r ∷ past) = if token == t then is_used r else is_use token past
+is_use token (Name t r ∷ past) = if (token == t) && not (is_named token past) then is_used r else is_use token past
 is_use token (Opens ∷ past) = is_use token past
 is_use token (Closes ∷ past) = is_use token past
 is_use token (Member t k ∷ past) = is_use token past
@@ -25,10 +25,10 @@ is_declared token (Closes ∷ past) = is_declared token past
 is_declared token (Member t k ∷ past) = is_declared token past
 is_declared token (Node i ∷ past) = is_declared token past
 
--- and that before the latest event of another token
+-- and that before the first event of another token
 abbrev pub is_before : ℕ → ℕ → List Event → Bool
 is_before declared token [] = false
-is_before declared token (Name t r ∷ past) = if token == t then is_declared declared past else is_before declared token past
+is_before declared token (Name t r ∷ past) = if (token == t) && not (is_named token past) then is_declared declared past else is_before declared token past
 is_before declared token (Opens ∷ past) = is_before declared token past
 is_before declared token (Closes ∷ past) = is_before declared token past
 is_before declared token (Member t k ∷ past) = is_before declared token past

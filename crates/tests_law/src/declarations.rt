@@ -18,6 +18,7 @@ int x;int main(){{extern int x;}return x;} => 11>1=1 11<1 15>1=1
 int f(int a){return a;} => 8>4=4
 int f(int a);int f(int a){return f(a);} => 8>1=1 8<1 15>8=1 17>11=11
 int x;static int x; => 5>1=1 5<1
+int f(int*p);int f(int a[sizeof f(0)]){return 0;} => 9>1=1 9<1 15>1=1
 enum{A,B=A};int f(){int A=B;return A;} => 6>2=2 15>2=15 17>4=4 20>15=15
 int *a[3];int main(){return sizeof a;} => 14>1=1
 struct s*p;struct s{int a;};struct s q; => 0#0/5+ 5#0/5+ 13#0/5

@@ -16,6 +16,7 @@ lawful 0¦struct s{int a;int b;};int main(){struct s z={1,2};struct s w[2]={z,3,
 lawful 1¦int y={{1}};int main(){return y;}
 lawful 0¦int g(void);int main(){int g(void);return g();}int g(void){return 0;}
 lawful 0¦static int s;extern int s;int main(){return s;}
+lawful 0¦int f(int*p);int f(int a[sizeof(f(0))]){return 0;}int main(){return f(0);}
 lawful 0¦int main(void)\n{\n  signed char c = 127;\n  short s = 32767;\n  c++;\n  s += 1;\n  return c == -128 && s == -32768 ? 0 : 1;\n}\n
 lawful 0¦struct s { int a; int b; };\nint main(void)\n{\n  struct s x, y;\n  int b[3] = { 7 };\n  static int z;\n  x.a = 1;\n  y = x;\n  return y.a + b[2] + z == 1 ? 0 : 1;\n}\n
 lawful 0¦int g;\nint f(int x)\n{\n  g = g * 2 + x;\n  return g;\n}\nint main(void)\n{\n  int r = f(1) + f(2);\n  return r > 0 && g + f(0) ? 0 : 1;\n}\n
