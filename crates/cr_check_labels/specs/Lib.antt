@@ -3,3 +3,4 @@ pub mod Columns
 pub mod Marks
 pub mod Again
 pub mod Gotos
+pub mod Kinds

@@ -1,14 +1,16 @@
 // The labels that `goto`s name.
 ghost use Rattle.std.specs.Prelude.{◌≡◌, ◌+◌, ℕ, None, Some, IfOk, OnOk, length, slice_get, if◌then◌else◌};
+ghost use Rattle.std.specs.List.{list_any};
 ghost use Rattle.std.specs.HashMap.{get};
 ghost use Rattle.cr_check_labels.specs.Again.{same_name};
 ghost use Rattle.cr_check_labels.specs.Gotos.{found_from, goto_at as goto_of, is_key, item_label as item_label_of, last_labelled, AreLabels};
 ghost use Rattle.cr_check_labels.specs.Labelled.{scene_of};
+ghost use Rattle.cr_check_labels.specs.Kinds.{is_goto};
 
 use crate::labelled::{Labelled, around_at, name_at};
 use crate::marks::label_at;
 use cr_check_types::Table;
-use cr_syntax::{Kind, number_of};
+use cr_syntax::{Kind, Node, number_of};
 use std::alloc::{AllocError, Global};
 use std::collections::HashMap;
 
@@ -101,6 +103,27 @@ fn goto_at(
     }
 }
 
+fn is_goto(kind: Kind) -> bool
+    ensures { result ≡ is_goto kind }
+{
+    match kind {
+        Kind::Goto => true,
+        _ => false,
+    }
+}
+
+// Whether there is any `goto`; most units have none.
+fn has_gotos(nodes: &[Node]) -> bool
+    ensures { result ≡ list_any (λ n. is_goto n.kind) nodes.now }
+{
+    for node in nodes {
+        if is_goto(node.kind) {
+            return true;
+        }
+    }
+    false
+}
+
 /// For each `goto` the label that it names: the one of its name on an item of the innermost compound statement around it that has one;
 /// None where there is none (C11 6.8.6.1p1). The error is want of memory.
 #[tactic(auto, using(crate::proofs::Columns::one_more))]
@@ -111,6 +134,10 @@ pub fn labels(
 ) -> Result<Vec<Option<u32>>, AllocError>
     ensures { IfOk result (λ labels. AreLabels (scene_of table.now labelled.now) labels.items) }
 {
+    if !has_gotos(labelled.nodes) {
+        let none = vec![in alloc; None; labelled.nodes.len()]?;
+        return Ok(none);
+    }
     let held = item_labels(alloc, table, labelled)?;
     let mut labels = Vec::with_capacity(alloc, labelled.nodes.len())?;
     for at in 0..labelled.nodes.len() {

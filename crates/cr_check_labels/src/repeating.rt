@@ -1,8 +1,10 @@
 // Which labels repeat one that stands before them.
 ghost use Rattle.std.specs.Prelude.{◌≡◌, ◌<◌, ◌||◌, ℕ, false, None, IfOk, length, slice_index_or};
+ghost use Rattle.std.specs.List.{list_any};
 ghost use Rattle.cr_check_expressions.specs.Ruled.{AreFacts};
 ghost use Rattle.cr_check_labels.specs.Again.{is_repeated, same_name, same_owner, same_value, AreAgain};
 ghost use Rattle.cr_check_labels.specs.Labelled.{scene_of};
+ghost use Rattle.cr_check_labels.specs.Kinds.{is_label};
 ghost use Rattle.cr_check_labels.specs.Marks.{case_at as case_of, default_at as default_of, label_at as label_of};
 ghost use Rattle.cr_check_labels.specs.Columns.{AreOf};
 
@@ -10,6 +12,7 @@ use crate::labelled::{Labelled, around_at};
 use crate::marks::{case_at, default_at, label_at};
 use cr_check_enclosing::repeated;
 use cr_check_types::Table;
+use cr_syntax::{Kind, Node};
 use std::alloc::{AllocError, Global};
 
 // A label by its function and its name.
@@ -120,6 +123,27 @@ fn any_of(
     Ok(again)
 }
 
+fn is_label(kind: Kind) -> bool
+    ensures { result ≡ is_label kind }
+{
+    match kind {
+        Kind::Case | Kind::Default | Kind::Label => true,
+        _ => false,
+    }
+}
+
+// Whether there is any label; most units have none.
+fn has_labels(nodes: &[Node]) -> bool
+    ensures { result ≡ list_any (λ n. is_label n.kind) nodes.now }
+{
+    for node in nodes {
+        if is_label(node.kind) {
+            return true;
+        }
+    }
+    false
+}
+
 /// For each node whether it is a `case`, a `default` or a label that repeats one before it in the text, of its `switch` or its function: of two
 /// cases the values count, after the conversion to the promoted type of the controlling expression (C11 6.8.4.2p3, p5). The error is
 /// want of memory.
@@ -128,6 +152,10 @@ pub fn again(alloc: Global, table: &Table, labelled: &Labelled) -> Result<Vec<bo
     requires { AreFacts table.now labelled.now.facts.now }
     ensures { IfOk result (λ again. AreAgain (scene_of table.now labelled.now) again.items) }
 {
+    if !has_labels(labelled.nodes) {
+        let none = vec![in alloc; false; labelled.nodes.len()]?;
+        return Ok(none);
+    }
     let cases = cases(alloc, table, labelled)?;
     let defaults = defaults(alloc, table, labelled)?;
     let names = names(alloc, table, labelled)?;

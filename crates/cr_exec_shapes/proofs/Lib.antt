@@ -4,3 +4,4 @@ pub mod Parts
 pub mod Beyond
 pub mod Open
 pub mod Listed
+pub mod Sums

@@ -1,5 +1,5 @@
 -- What the code keeps of the types of a unit, and how it finds their cells.
-use Rattle.std.specs.Prelude.{◌≡◌, ℕ, ◌*◌, ◌^◌, ◌<◌, Bool, true, false, Option, Some, None, List, [], ◌∷◌, length, map, slice_index_or}
+use Rattle.std.specs.Prelude.{◌≡◌, ℕ, ◌*◌, ◌^◌, ◌<◌, ◌≤◌, Bool, true, false, Option, Some, None, List, [], ◌∷◌, length, map, sum_by, take, slice_index_or}
 use Rattle.cr_memory.specs.declared.value.Scalar.{Scalar}
 use Rattle.cr_memory.specs.declared.value.Scalar.TheVariants as scalar
 use Rattle.cr_memory.specs.declared.value.Guard.{Guard}
@@ -8,15 +8,24 @@ use Rattle.cr_syntax.specs.declared.ctype.CType.{CType}
 use Rattle.cr_syntax.specs.declared.ctype.CType.TheVariants.{Int, Pointer, Array, Struct}
 use Rattle.cr_check_types.specs.Types.{type_at}
 use Rattle.cr_typed.specs.declared.typed.Typed.{Typed}
-use Rattle.cr_typed.specs.Typed.{IsTyped}
+use Rattle.cr_typed.specs.Typed.{IsTyped, row_cells}
 use Rattle.cr_meaning_operations.specs.Shapes.{number_of, guard_of, structure_cells}
 
--- for each row the number of its type
-pub record AreNumbers (t : Typed) (numbers : List ℕ) : Type 0 where
+-- the cells before each of some members, and those of all, where there are any
+abbrev pub AreSums : Typed → List ℕ → List ℕ → Type 0
+AreSums t members sums = (index : ℕ) → index ≤ length members → slice_index_or sums index 0 ≡ sum_by (row_cells t) (take index members)
+
+-- the same of each structure, by its node
+abbrev pub AreOffsets : Typed → List (List ℕ) → Type 0
+AreOffsets t offsets = (node : ℕ) → AreSums t (slice_index_or t.members node []) (slice_index_or offsets node [])
+
+-- for each row the number of its type, and for each structure where its members stand
+pub record AreNumbered (t : Typed) (numbers : List ℕ) (offsets : List (List ℕ)) : Type 0 where
   pub typed : IsTyped t
   pub rows_fit : length t.shapes < 2 ^ 32
   pub count : length numbers ≡ length t.shapes
   pub each : (row : ℕ) → slice_index_or numbers row 0 ≡ number_of t (type_at t.shapes row)
+  pub before : AreOffsets t offsets
 
 -- ---- elements
 

@@ -9,6 +9,7 @@ mod elements;
 mod nodes;
 mod numbers;
 mod objects;
+mod offsets;
 mod types;
 
 pub use cells::structures;

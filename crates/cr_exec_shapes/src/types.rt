@@ -1,10 +1,11 @@
-ghost use Rattle.std.specs.Prelude.{◌≡◌, ◌≤◌, [], false, IfOk, length, sum_by, slice_index_or, ℕ};
+ghost use Rattle.std.specs.Prelude.{◌≡◌, ◌≤◌, [], false, IfOk, length, sum_by, take, slice_index_or, ℕ};
 ghost use Rattle.cr_check_types.specs.Types.{type_at, type_of, room_of, Qualified};
 ghost use Rattle.cr_typed.specs.Typed.{IsTyped, row_cells, MOST_CELLS};
 ghost use Rattle.cr_meaning_operations.specs.Shapes.{as_value, value_type, number_of, stride_of, form_of, access_by, access_of, structure_of, members_of, offset_in};
 ghost use Rattle.cr_meaning_operations.specs.Operations.{pointed};
 
 use crate::numbers::numbers;
+use crate::offsets::{before_member, cells_in, offsets};
 use cr_check_types::Shape;
 use cr_meaning::{Access, Form};
 use cr_memory::Scalar;
@@ -20,27 +21,35 @@ pub struct Types<'a> {
     typed: &'a Typed,
     // For each row the number of its type, which pointers are told apart by.
     numbers: Vec<u32>,
+    // For each structure, by its node, the cells before each member and those of all.
+    offsets: Vec<Row<u32>>,
 }
 
 impl<'a> Model for Types<'a> {
     ghost use Rattle.cr_typed.specs.declared.typed.Typed as column;
-    ghost use Rattle.cr_exec_shapes.specs.Types.{AreNumbers};
+    ghost use Rattle.cr_exec_shapes.specs.Types.{AreNumbered};
 
     ghost Value = { column.Typed };
 
     ghost view = { λ types. types.typed.now };
 
-    ghost invariant = { λ types. AreNumbers types.typed.now types.numbers.items };
+    ghost invariant = { λ types. AreNumbered types.typed.now types.numbers.items types.offsets.items };
 }
 
 impl<'a> Types<'a> {
-    /// The types of a unit. Its time grows with the number of different types, times that of those with an array of unknown size in them.
+    /// The types of a unit. Its time grows with the number of different types, times that of those with an array of unknown size in them,
+    /// and with the members of its structures.
     pub fn new(alloc: Global, typed: &'a Typed) -> Result<Types<'a>, AllocError>
         requires { IsTyped typed.now }
         ensures { IfOk result (λ types. types ≡ typed.now) }
     {
         let numbers = numbers(alloc, &typed.shapes)?;
-        Ok(Types { typed, numbers })
+        let offsets = offsets(alloc, typed)?;
+        Ok(Types {
+            typed,
+            numbers,
+            offsets,
+        })
     }
 
     /// The unit.
@@ -93,16 +102,10 @@ impl<'a> Types<'a> {
     }
 
     /// The scalars in a row's type.
-    #[tactic(auto, using(crate::proofs::Rows::beyond))]
     pub fn cells(&self, row: u32) -> u32
         ensures { result ≡ row_cells self.now row }
     {
-        if (row as usize) < self.typed.shapes.len() {
-            let layouts = self.typed.layouts.as_slice();
-            self.typed.shapes.layout(layouts, row).cells as u32
-        } else {
-            0
-        }
+        cells_in(self.typed, row)
     }
 
     /// The number of a row's type: the first row of a compatible type.
@@ -202,12 +205,21 @@ impl<'a> Types<'a> {
     pub fn offset(&self, row: u32, index: usize) -> u32
         ensures { result ≡ offset_in self.now (type_at self.now.shapes row) index }
     {
-        let members = self.members(row);
-        let mut cells = 0;
-        for at in 0..index.min(members.len()) {
-            cells += self.cells(members[at]);
+        self.offset_at(structure_of(self.shape(row)), index)
+    }
+
+    // The same by the structure's node.
+    #[tactic(auto, using(crate::proofs::Sums::offset_within, crate::proofs::Sums::offset_past))]
+    fn offset_at(&self, node: u32, index: usize) -> u32
+        ensures { result ≡ sum_by (row_cells self.now) (take index (slice_index_or self.now.members node [])) }
+    {
+        let offsets = row_at(self.offsets.as_slice(), node);
+        let members = self.members_at(node);
+        if index < members.len() {
+            before_member(offsets, index)
+        } else {
+            before_member(offsets, members.len())
         }
-        cells
     }
 }
 

@@ -1,8 +1,8 @@
 -- The way on by the answers that are kept is the meaning's.
-use Rattle.std.proofs.Common.{◌≡◌, ◌≢◌, ℕ, suc, ◌==◌, Bool, true, false, if◌then◌else◌, Option, Some, None, List, [], ◌∷◌, ◌++◌, length, take, drop, slice_get, refl, sym, ap, ◌∙◌, subst, get_or, ◌<◌, ◌-◌, ◌+◌, arith}
+use Rattle.std.proofs.Common.{◌≡◌, ◌≢◌, ℕ, zero, suc, ◌==◌, Bool, true, false, if◌then◌else◌, Option, Some, None, List, [], ◌∷◌, ◌++◌, length, take, drop, slice_get, refl, sym, ap, ◌∙◌, subst, get_or, ◌<◌, ◌-◌, ◌+◌, arith}
 use Rattle.std.specs.List.{AllZip}
 use Rattle.std.proofs.lemmas.Bool.{true≢false}
-use Rattle.std.proofs.lemmas.List.{drop_more}
+use Rattle.std.proofs.lemmas.List.{drop_more, append_assoc}
 use Rattle.cr_ints.specs.declared.kind.IntKind.{IntKind}
 use Rattle.cr_ints.specs.Conversions.{convert_of}
 use Rattle.cr_meaning.specs.Events.{Event}
@@ -167,36 +167,84 @@ for_goes first control step body (h ∷ done) (a ∷ answers) z = begun_alike fi
 
 -- ---- lists of items
 
-resume_is : (answers before : List Answer) (count : ℕ) (o : Option ℕ) → before ≡ take count answers → meant.resume_at before o ≡ way_of answers (kept.resume_at count o)
-resume_is answers before count None e = refl
-resume_is answers before count (Some item) e = ap (λ (all : List Answer). meant.Resume (all ++ meant.from_item item)) e
+none_first : (more : List Answer) (a : Answer) → [] ≡ a ∷ more → ⊥
+none_first more a e = let lengths : 0 ≡ suc (length more) = ap length e in omega arith
 
-after_goes : (answers before : List Answer) (count : ℕ) (items : List ℕ) (labels : List Target) (at : ℕ) (h : Held) (a : Answer) → before ≡ take count answers → shows h a
-    → meant.after_item before items labels at a ≡ way_of answers (kept.after_item count items labels at h)
-after_goes answers before count items labels at (held.Part given) (part v events) e s = refl
-after_goes answers before count items labels at (held.Part given) other e s = absurd s
-after_goes answers before count items labels at held.Next a e s =
+-- a list up to its next entry, and behind it
+one_further : (answers more : List Answer) (count : ℕ) (a : Answer) → drop count answers ≡ a ∷ more → take (suc count) answers ≡ take count answers ++ a ∷ []
+one_further [] more zero a e = absurd (none_first more a e)
+one_further [] more (suc count) a e = absurd (none_first more a e)
+one_further (b ∷ answers) more zero a e = ap (λ (all : List Answer). take 1 all) e
+one_further (b ∷ answers) more (suc count) a e = ap (λ (all : List Answer). b ∷ all) (one_further answers more count a e)
+
+behind_further : (answers more : List Answer) (count : ℕ) (a : Answer) → drop count answers ≡ a ∷ more → drop (suc count) answers ≡ more
+behind_further [] more zero a e = absurd (none_first more a e)
+behind_further [] more (suc count) a e = absurd (none_first more a e)
+behind_further (b ∷ answers) more zero a e = ap (λ (all : List Answer). drop 1 all) e
+behind_further (b ∷ answers) more (suc count) a e = behind_further answers more count a e
+
+-- what stays of items that the next one follows is what would come anew
+stays : (answers more : List Answer) (count item : ℕ) → drop count answers ≡ next ∷ more → take count answers ++ meant.from_item (suc item) ≡ take (suc count) answers ++ meant.from_item item
+stays answers more count item e =
+    sym (append_assoc (take count answers) (next ∷ []) (meant.from_item item))
+    ∙ ap (λ (all : List Answer). all ++ meant.from_item item) (sym (one_further answers more count next e))
+
+behind_is : (answers more : List Answer) (count : ℕ) (rest : List Held) (item : ℕ) → drop count answers ≡ more → AllZip shows rest more
+    → meant.Resume (take count answers ++ meant.from_item item) ≡ way_of answers (kept.resume_behind count rest item)
+behind_is answers more count [] item e z = refl
+behind_is answers [] count (held.Next ∷ rest) (suc item) e z = absurd z
+behind_is answers (a ∷ more) count (held.Next ∷ rest) (suc item) e z =
+    let is = e ∙ ap (λ (b : Answer). b ∷ more) z.0 in
+    ap meant.Resume (stays answers more count item is)
+    ∙ behind_is answers more (suc count) rest item (behind_further answers more count next is) z.1
+behind_is answers more count (held.Next ∷ rest) zero e z = refl
+behind_is answers more count (held.Part given ∷ rest) item e z = refl
+behind_is answers more count (held.Broke ∷ rest) item e z = refl
+behind_is answers more count (held.Continued ∷ rest) item e z = refl
+behind_is answers more count (held.Jumped label ∷ rest) item e z = refl
+behind_is answers more count (held.Returned v ∷ rest) item e z = refl
+
+dropped_shown : (count : ℕ) (done : List Held) (answers : List Answer) → AllZip shows done answers → AllZip shows (drop count done) (drop count answers)
+dropped_shown zero done answers z = z
+dropped_shown (suc count) [] [] z = z
+dropped_shown (suc count) [] (a ∷ answers) z = absurd z
+dropped_shown (suc count) (h ∷ done) [] z = absurd z
+dropped_shown (suc count) (h ∷ done) (a ∷ answers) z = dropped_shown count done answers z.1
+
+resume_is : (answers before : List Answer) (count : ℕ) (done : List Held) (o : Option ℕ) → before ≡ take count answers → AllZip shows done answers
+    → meant.resume_at before o ≡ way_of answers (kept.resume_at count done o)
+resume_is answers before count done None e z = refl
+resume_is answers before count done (Some item) e z =
+    ap (λ (all : List Answer). meant.Resume (all ++ meant.from_item item)) e
+    ∙ behind_is answers (drop count answers) count (drop count done) item refl (dropped_shown count done answers z)
+
+after_goes : (answers before : List Answer) (count : ℕ) (items : List ℕ) (labels : List Target) (done : List Held) (at : ℕ) (h : Held) (a : Answer) → before ≡ take count answers
+    → AllZip shows done answers → shows h a
+    → meant.after_item before items labels at a ≡ way_of answers (kept.after_item count items labels done at h)
+after_goes answers before count items labels done at (held.Part given) (part v events) e z s = refl
+after_goes answers before count items labels done at (held.Part given) other e z s = absurd s
+after_goes answers before count items labels done at held.Next a e z s =
     ap (λ (x : Answer). meant.after_item before items labels at x) s ∙ operand_is answers (slice_get items at)
-after_goes answers before count items labels at held.Broke a e s = ap (λ (x : Answer). meant.after_item before items labels at x) s
-after_goes answers before count items labels at held.Continued a e s = ap (λ (x : Answer). meant.after_item before items labels at x) s
-after_goes answers before count items labels at (held.Jumped label) a e s =
-    ap (λ (x : Answer). meant.after_item before items labels at x) s ∙ resume_is answers before count (meant.item_at labels label) e
-after_goes answers before count items labels at (held.Returned v) a e s = ap (λ (x : Answer). meant.after_item before items labels at x) s
+after_goes answers before count items labels done at held.Broke a e z s = ap (λ (x : Answer). meant.after_item before items labels at x) s
+after_goes answers before count items labels done at held.Continued a e z s = ap (λ (x : Answer). meant.after_item before items labels at x) s
+after_goes answers before count items labels done at (held.Jumped label) a e z s =
+    ap (λ (x : Answer). meant.after_item before items labels at x) s ∙ resume_is answers before count done (meant.item_at labels label) e z
+after_goes answers before count items labels done at (held.Returned v) a e z s = ap (λ (x : Answer). meant.after_item before items labels at x) s
 
 -- behind so many answers
-behind : (answers before : List Answer) (count : ℕ) (items : List ℕ) (labels : List Target) (h : Held) (a : Answer) (done : List Held) (more : List Answer) → before ≡ take count answers
-    → shows h a → AllZip shows done more
-    → meant.after_item before items labels (length more) (meant.last_of a more) ≡ way_of answers (kept.after_item count items labels (length done) (kept.last_of h done))
-behind answers before count items labels h a done more e s z =
+behind : (answers before : List Answer) (count : ℕ) (items : List ℕ) (labels : List Target) (all : List Held) (h : Held) (a : Answer) (done : List Held) (more : List Answer)
+    → before ≡ take count answers → AllZip shows all answers → shows h a → AllZip shows done more
+    → meant.after_item before items labels (length more) (meant.last_of a more) ≡ way_of answers (kept.after_item count items labels all (length done) (kept.last_of h done))
+behind answers before count items labels all h a done more e y s z =
     ap (λ (n : ℕ). meant.after_item before items labels n (meant.last_of a more)) (same_count done more z)
-    ∙ after_goes answers before count items labels (length done) (kept.last_of h done) (meant.last_of a more) e (last_shown h a done more s z)
+    ∙ after_goes answers before count items labels all (length done) (kept.last_of h done) (meant.last_of a more) e y (last_shown h a done more s z)
 
 block_goes : (items : List ℕ) (labels : List Target) (done : List Held) (answers : List Answer) → AllZip shows done answers
     → meant.block_next items labels answers ≡ way_of answers (kept.block_way items labels done)
 block_goes items labels [] [] z = refl
 block_goes items labels [] (a ∷ answers) z = absurd z
 block_goes items labels (h ∷ done) [] z = absurd z
-block_goes items labels (h ∷ done) (a ∷ answers) z = behind (a ∷ answers) [] 0 items labels h a done answers refl z.0 z.1
+block_goes items labels (h ∷ done) (a ∷ answers) z = behind (a ∷ answers) [] 0 items labels (h ∷ done) h a done answers refl z z.0 z.1
 
 case_value : (kind : IntKind) (cases : List Case) (other : Option ℕ) (v : Value) (events : List Event)
     → meant.case_for kind cases other (part v events) ≡ kept.value_case kind cases other v
@@ -221,11 +269,11 @@ switch_goes kind parts cases other labels [] [] z = operand_is [] (slice_get par
 switch_goes kind parts cases other labels [] (a ∷ answers) z = absurd z
 switch_goes kind parts cases other labels (h ∷ done) [] z = absurd z
 switch_goes kind parts cases other labels (h ∷ []) (a ∷ []) z =
-    ap (λ (o : Option ℕ). meant.resume_at (a ∷ []) o) (case_shown kind cases other h a z.0) ∙ resume_is (a ∷ []) (a ∷ []) 1 (kept.case_for kind cases other h) refl
+    ap (λ (o : Option ℕ). meant.resume_at (a ∷ []) o) (case_shown kind cases other h a z.0) ∙ resume_is (a ∷ []) (a ∷ []) 1 (h ∷ []) (kept.case_for kind cases other h) refl z
 switch_goes kind parts cases other labels (h ∷ []) (a ∷ (b ∷ answers)) z = absurd z.1
 switch_goes kind parts cases other labels (h ∷ (k ∷ done)) (a ∷ []) z = absurd z.1
 switch_goes kind parts cases other labels (h ∷ (k ∷ done)) (a ∷ (b ∷ answers)) z =
-    behind (a ∷ (b ∷ answers)) (a ∷ []) 1 (drop 1 parts) labels k b done answers refl z.1.0 z.1.1
+    behind (a ∷ (b ∷ answers)) (a ∷ []) 1 (drop 1 parts) labels (h ∷ (k ∷ done)) k b done answers refl z z.1.0 z.1.1
 
 body_by : (answers : List Answer) (body : ℕ) (o : Option ℕ) (b : Bool)
     → (if b then meant.Enter body else meant.operand o) ≡ way_of answers (if b then way.Enter body else kept.operand o)
@@ -335,3 +383,46 @@ pub case_passed : (kind : IntKind) (cases : List Case) (i : ℕ) (case : Case) (
 case_passed kind cases i case other v room is same =
     sym (step_false kind (get_or cases i case) (drop (i + 1) cases) other v is)
     ∙ (ap (λ (cs : List Case). kept.value_case kind cs other v) (sym (drop_more cases i case room)) ∙ same)
+
+-- ---- jumps
+
+-- an answer that stays, and what follows on it
+goes_on_behind : (count at : ℕ) (done : List Held) (left : ℕ) → kept.is_passed (slice_get done at) ≡ true
+    → kept.resume_behind count (drop at done) (suc left) ≡ kept.resume_behind (suc count) (drop (suc at) done) left
+goes_on_behind count zero [] left e = absurd (true≢false (sym e))
+goes_on_behind count (suc at) [] left e = absurd (true≢false (sym e))
+goes_on_behind count zero (held.Next ∷ done) left e = refl
+goes_on_behind count zero (held.Part given ∷ done) left e = absurd (true≢false (sym e))
+goes_on_behind count zero (held.Broke ∷ done) left e = absurd (true≢false (sym e))
+goes_on_behind count zero (held.Continued ∷ done) left e = absurd (true≢false (sym e))
+goes_on_behind count zero (held.Jumped label ∷ done) left e = absurd (true≢false (sym e))
+goes_on_behind count zero (held.Returned v ∷ done) left e = absurd (true≢false (sym e))
+goes_on_behind count (suc at) (h ∷ done) left e = goes_on_behind count at done left e
+
+pub stays_on : (count : ℕ) (done : List Held) (left further fewer : ℕ) → further ≡ suc count → left ≡ suc fewer → kept.is_passed (slice_get done count) ≡ true
+    → kept.resume_behind count (drop count done) left ≡ kept.resume_behind further (drop further done) fewer
+stays_on count done left further fewer f l e =
+    ap (kept.resume_behind count (drop count done)) l
+    ∙ (goes_on_behind count count done fewer e ∙ ap (λ (n : ℕ). kept.resume_behind n (drop n done) fewer) (sym f))
+
+pub stays_no_more : (count at : ℕ) (done : List Held) (left : ℕ) → kept.is_passed (slice_get done at) ≡ false
+    → kept.resume_behind count (drop at done) left ≡ way.Resume count (fresh.Before left)
+stays_no_more count zero [] left e = refl
+stays_no_more count (suc at) [] left e = refl
+stays_no_more count zero (held.Next ∷ done) left e = absurd (true≢false e)
+stays_no_more count zero (held.Part given ∷ done) left e = refl
+stays_no_more count zero (held.Broke ∷ done) left e = refl
+stays_no_more count zero (held.Continued ∷ done) left e = refl
+stays_no_more count zero (held.Jumped label ∷ done) left e = refl
+stays_no_more count zero (held.Returned v ∷ done) left e = refl
+stays_no_more count (suc at) (h ∷ done) left e = stays_no_more count at done left e
+
+pub none_left : (count : ℕ) (rest : List Held) (left : ℕ) → left ≡ 0 → kept.resume_behind count rest left ≡ way.Resume count (fresh.Before left)
+none_left count [] left e = refl
+none_left count (held.Next ∷ rest) zero e = refl
+none_left count (held.Next ∷ rest) (suc left) e = absurd (omega arith)
+none_left count (held.Part given ∷ rest) left e = refl
+none_left count (held.Broke ∷ rest) left e = refl
+none_left count (held.Continued ∷ rest) left e = refl
+none_left count (held.Jumped label ∷ rest) left e = refl
+none_left count (held.Returned v ∷ rest) left e = refl

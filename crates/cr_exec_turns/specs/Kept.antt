@@ -1,5 +1,5 @@
 -- The way on of a statement's node by the answers that are kept. It is the meaning's: see the law in the proofs of `next`.
-use Rattle.std.specs.Prelude.{◌≡◌, ℕ, ◌==◌, int_le, ◌&&◌, Bool, true, false, Option, Some, None, List, [], ◌∷◌, length, drop, slice_get, if◌then◌else◌}
+use Rattle.std.specs.Prelude.{◌≡◌, ℕ, suc, ◌==◌, int_le, ◌&&◌, Bool, true, false, Option, Some, None, List, [], ◌∷◌, length, drop, slice_get, if◌then◌else◌}
 use Rattle.cr_ints.specs.declared.kind.IntKind.{IntKind}
 use Rattle.cr_ints.specs.Conversions.{convert_of}
 use Rattle.cr_meaning.specs.Values.{truth_of}
@@ -54,18 +54,28 @@ abbrev pub last_of : Held → List Held → Held
 last_of first [] = first
 last_of first (later ∷ rest) = last_of later rest
 
-abbrev pub resume_at : ℕ → Option ℕ → Way
-resume_at count None = Ready
-resume_at count (Some item) = Resume count (Before item)
+-- the answer of a part that the next item follows
+abbrev pub is_passed : Option Held → Bool
+is_passed (Some held.Next) = true
+is_passed other = false
 
-abbrev pub after_item : ℕ → List ℕ → List Target → ℕ → Held → Way
-after_item count items labels at held.Next = operand (slice_get items at)
-after_item count items labels at (held.Jumped label) = resume_at count (item_at labels label)
-after_item count items labels at other = Ready
+-- At an item, behind so many answers: those of items that the next one follows stay, and only as many fewer come anew.
+abbrev pub resume_behind : ℕ → List Held → ℕ → Way
+resume_behind count (held.Next ∷ behind) (suc item) = resume_behind (suc count) behind item
+resume_behind count behind item = Resume count (Before item)
+
+abbrev pub resume_at : ℕ → List Held → Option ℕ → Way
+resume_at count done None = Ready
+resume_at count done (Some item) = resume_behind count (drop count done) item
+
+abbrev pub after_item : ℕ → List ℕ → List Target → List Held → ℕ → Held → Way
+after_item count items labels done at held.Next = operand (slice_get items at)
+after_item count items labels done at (held.Jumped label) = resume_at count done (item_at labels label)
+after_item count items labels done at other = Ready
 
 abbrev pub block_way : List ℕ → List Target → List Held → Way
 block_way items labels [] = Resume 0 (Before 0)
-block_way items labels (entry ∷ done) = after_item 0 items labels (length done) (last_of entry done)
+block_way items labels (entry ∷ done) = after_item 0 items labels (entry ∷ done) (length done) (last_of entry done)
 
 -- a case has this number
 abbrev pub is_case : IntKind → Case → Value → Bool
@@ -83,8 +93,9 @@ case_for kind cases other answer = None
 
 abbrev pub switch_way : IntKind → List ℕ → List Case → Option ℕ → List Target → List Held → Way
 switch_way kind parts cases other labels [] = operand (slice_get parts 0)
-switch_way kind parts cases other labels (control ∷ []) = resume_at 1 (case_for kind cases other control)
-switch_way kind parts cases other labels (control ∷ entry ∷ done) = after_item 1 (drop 1 parts) labels (length done) (last_of entry done)
+switch_way kind parts cases other labels (control ∷ []) = resume_at 1 (control ∷ []) (case_for kind cases other control)
+switch_way kind parts cases other labels (control ∷ entry ∷ done) =
+    after_item 1 (drop 1 parts) labels (control ∷ entry ∷ done) (length done) (last_of entry done)
 
 abbrev pub body_way : List ℕ → ℕ → ℕ → Way
 body_way parts body count = if count == length parts then Enter body else operand (slice_get parts count)

@@ -187,9 +187,9 @@ pub fn row_of(alloc: Global, part: u32) -> Result<Row<u32>, ParseFault>
     ensures ok { IfOk result (λ parts. parts ≡ part ∷ []) }
     ensures err { IfErr result (λ fault. fault ≡ ParseFault.NoMemory) }
 {
-    let mut parts = Row::new(alloc);
+    let mut parts = Vec::with_capacity(alloc, 4)?;
     parts.push(part)?;
-    Ok(parts)
+    Ok(Row::from_vec(parts))
 }
 
 /// The row of specifiers of these parts: one alone makes no node.

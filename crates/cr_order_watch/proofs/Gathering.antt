@@ -1,7 +1,6 @@
 -- Some operands, gone through from the first on.
-use Rattle.std.proofs.Common.{◌≡◌, refl, sym, ◌∙◌, ap, subst, arith, inl, inr}
-use Rattle.std.specs.Prelude.{ℕ, zero, suc, ◌+◌, ◌<◌, ◌≤◌, Bool, true, false, ◌&&◌, ◌||◌, Option, Some, None, List, [], ◌∷◌, length, slice_get}
-use Rattle.std.proofs.lemmas.Bool.{true≢false, false≢true}
+use Rattle.std.proofs.Common.{◌≡◌, refl, sym, ◌∙◌, ap, subst, arith}
+use Rattle.std.specs.Prelude.{ℕ, zero, suc, ◌<◌, Bool, true, false, ◌&&◌, ◌||◌, Some, None, List, [], ◌∷◌, length, slice_get}
 use Rattle.cr_footprint.specs.Cell.{Cell, IsLeast}
 use Rattle.cr_footprint.specs.Foot.{Sets, sets, union_of, meets}
 use Rattle.cr_footprint.specs.declared.foot.Foot.{Foot}

@@ -1,9 +1,9 @@
 -- What the watch found of a run.
-use Rattle.std.proofs.Common.{◌≡◌, refl, sym, ◌∙◌, ap, subst}
+use Rattle.std.proofs.Common.{◌≡◌, refl, ◌∙◌, ap, subst}
 use Rattle.std.specs.Option.{option_eq}
 use Rattle.std.specs.Cmp.Lexicographic.{pointwise}
 use Rattle.std.proofs.lemmas.Bool.{false≢true, and_parts, eqb-true}
-use Rattle.std.specs.Prelude.{ℕ, ◌&&◌, eqb, true, Option, Some, None, List, [], ◌∷◌, length}
+use Rattle.std.specs.Prelude.{ℕ, eqb, true, Option, Some, None, List, [], ◌∷◌, length}
 use Rattle.cr_meaning.specs.Language.{Reply, gave, ended}
 use Rattle.cr_meaning.specs.World.{Program, World, Answer, Halt, next, exited}
 use Rattle.cr_meaning.specs.Meaning.{start_of, root_of}

@@ -1,6 +1,6 @@
 -- What is kept of the initialisers of lists, and what it tells of a list.
 use Rattle.std.proofs.Common.{◌≡◌, refl, sym, ◌∙◌, ap, subst, arith, inl, inr, take, drop, get_or}
-use Rattle.std.specs.Prelude.{ℕ, zero, suc, ◌+◌, ◌-◌, ◌<◌, ◌≤◌, ◌==◌, ◌⊎◌, min, Bool, true, false, not, ◌&&◌, ◌||◌, Option, Some, None, List, [], ◌∷◌, ◌++◌, length, slice_get, slice_index_or, Result, Ok, Err, IfOk, IfSome, IfNone}
+use Rattle.std.specs.Prelude.{ℕ, zero, suc, ◌+◌, ◌-◌, ◌<◌, ◌≤◌, ◌==◌, ◌⊎◌, Bool, true, false, not, ◌&&◌, ◌||◌, Option, Some, None, List, [], ◌∷◌, ◌++◌, length, slice_get, slice_index_or, Result, Ok, Err, IfOk, IfSome, IfNone}
 use Rattle.std.specs.List.{list_any}
 use Rattle.std.proofs.lemmas.Bool.{true≢false, false≢true, cases_Bool, cases_eq, eqb-true}
 use Rattle.std.proofs.lemmas.Bool.Decides.{nat_tests}
@@ -14,7 +14,7 @@ use Rattle.cr_meaning_orders.specs.Fixed.{IsFixedNode}
 use Rattle.cr_meaning_loose.specs.Lists.{Lists, operands_at, stands_in, around_by, around, is_some_list, is_listed, goes_on, count_of, do_all, from_by, last_of, last_in, one_if, IsListFixed, IsListFine, AreFine, IsFirstNot}
 use Rattle.cr_meaning_loose.specs.Levels.{Level}
 use Rattle.cr_meaning_loose.proofs.Adding.{at_it, few_fixed}
-use Rattle.cr_meaning_loose.proofs.Listing.{dropped, prefix_fixed, fine_by, all_fine, counts_more, last_on, last_off, last_in_listed, stands_is_listed}
+use Rattle.cr_meaning_loose.proofs.Listing.{fine_by, all_fine, counts_more, last_on, last_off, last_in_listed}
 use Rattle.cr_order_watch.specs.Known.{IsSum, IsOpen, IsOwner, IsDecided, IsFirstOf, ArePieces, HasPieces, Hold, Before, at_first, behind_one, IsBehind, IsCutBy, by_list, by_operand, by_itself, by_none}
 use Rattle.cr_order_watch.specs.declared.opened.Open.{Open}
 use Rattle.cr_order_watch.specs.declared.opened.Piece.{Piece}

@@ -1,15 +1,15 @@
 -- What is kept of a node that is open, as evaluations within it end.
 use Rattle.std.proofs.Common.{◌≡◌, refl, sym, ◌∙◌, ap, subst, arith, inl, inr}
-use Rattle.std.specs.Prelude.{ℕ, zero, suc, ◌+◌, ◌<◌, ◌≤◌, ◌⊎◌, min, nat_lt, Bool, true, false, not, ◌&&◌, ◌||◌, Option, Some, None, List, [], ◌∷◌, length, ◌==◌, slice_get}
+use Rattle.std.specs.Prelude.{ℕ, ◌+◌, ◌<◌, ◌≤◌, ◌⊎◌, nat_lt, Bool, true, false, not, ◌&&◌, ◌||◌, Some, List, [], ◌∷◌, length, ◌==◌, slice_get}
 use Rattle.std.specs.List.{list_any}
-use Rattle.std.proofs.lemmas.Bool.{true≢false, false≢true, or_parts, or_from, or_left, or_right, or_cases, cases_Bool, ltb-true, ltb-false, eqb-true}
+use Rattle.std.proofs.lemmas.Bool.{true≢false, false≢true, or_parts, or_left, or_right, or_cases, cases_Bool, ltb-true, ltb-false, eqb-true}
 use Rattle.std.proofs.lemmas.Bool.Decides.{nat_tests}
 use Rattle.cr_footprint.specs.Cell.{Cell, same_cell, holds, IsLeast}
-use Rattle.cr_footprint.specs.Foot.{Sets, sets, no_events, union_of, then_of, accesses, meets}
+use Rattle.cr_footprint.specs.Foot.{Sets, sets, no_events, union_of, then_of, meets}
 use Rattle.cr_footprint.specs.declared.foot.Foot.{Foot}
 use Rattle.cr_eval_join.specs.Parts.{IsFootOf}
 use Rattle.cr_meaning.specs.Events.{Event, is_side_effect}
-use Rattle.cr_meaning.specs.Merged.{reads_at, writes_at, sets_of}
+use Rattle.cr_meaning.specs.Merged.{reads_at, writes_at}
 use Rattle.cr_meaning.specs.Quiet.{is_noisy}
 use Rattle.cr_meaning.specs.World.{Program}
 use Rattle.cr_meaning_seen.specs.Seen.{Forest, bare, node as tree, onto}

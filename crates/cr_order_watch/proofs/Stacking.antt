@@ -1,14 +1,11 @@
 -- The nodes that are open, and their levels.
 use Rattle.std.proofs.Common.{◌≡◌, refl, sym, ◌∙◌, ap, subst, arith, inl, inr, length-append}
-use Rattle.std.specs.Prelude.{ℕ, zero, suc, ◌+◌, ◌-◌, ◌<◌, ◌≤◌, ◌⊎◌, min, nat_lt, Bool, true, false, not, ◌&&◌, ◌||◌, Option, Some, None, List, [], ◌∷◌, ◌++◌, length, slice_get, if◌then◌else◌}
-use Rattle.std.proofs.lemmas.Bool.{true≢false, false≢true, cases_Bool, ltb-true, ltb-false, ltb_from_iff}
-use Rattle.cr_meaning.specs.Events.{Event}
+use Rattle.std.specs.Prelude.{ℕ, ◌-◌, ◌<◌, ◌≤◌, ◌⊎◌, min, nat_lt, Bool, true, false, ◌||◌, Option, Some, None, List, [], ◌∷◌, ◌++◌, length, slice_get}
+use Rattle.std.proofs.lemmas.Bool.{true≢false, cases_Bool, ltb-true, ltb-false}
 use Rattle.cr_meaning.specs.World.{Program}
-use Rattle.cr_meaning.specs.declared.op.Op.{Op}
 use Rattle.cr_meaning_seen.specs.Seen.{Forest, bare, node as tree, onto, here, within as deeper}
-use Rattle.cr_meaning_orders.specs.AnyOrder.{is_free}
 use Rattle.cr_meaning_orders.specs.Fixed.{IsFixedNode, IsFixed}
-use Rattle.cr_meaning_loose.specs.Lists.{Lists, operands_at, operands_by, count_of, IsListFine, AreFine, IsFirstNot, AreListsFine}
+use Rattle.cr_meaning_loose.specs.Lists.{Lists, operands_at, operands_by, count_of, IsListFine, AreListsFine}
 use Rattle.cr_meaning_loose.specs.Loose.{IsFixedAt, IsFirstLoose, in_list, Judged}
 use Rattle.cr_meaning_loose.specs.Levels.{Level, bottom_of, closed_with, closed, AreAllFixed}
 use Rattle.cr_meaning_loose.proofs.Adding.{behind_fixed, was_fixed, cut_is_loose}

@@ -1,13 +1,13 @@
 -- What the watch knows, mark by mark.
-use Rattle.std.proofs.Common.{◌≡◌, refl, sym, ◌∙◌, ap, subst, arith, inl, inr}
-use Rattle.std.specs.Prelude.{ℕ, ◌<◌, ◌≤◌, nat_lt, ◌⊎◌, Bool, true, false, Option, Some, None, List, [], ◌∷◌, ◌++◌, length, slice_get, is_some}
+use Rattle.std.proofs.Common.{◌≡◌, refl, sym, ◌∙◌, ap, subst, arith, inr}
+use Rattle.std.specs.Prelude.{ℕ, ◌≤◌, nat_lt, Bool, true, false, Option, Some, None, List, [], ◌∷◌, ◌++◌, length, is_some}
 use Rattle.std.proofs.lemmas.Bool.{true≢false, false≢true, or_parts, ltb-false}
 use Rattle.std.proofs.lemmas.List.{append-nil}
 use Rattle.cr_meaning.specs.Events.{Event}
 use Rattle.cr_meaning.specs.World.{Program}
 use Rattle.cr_meaning_seen.specs.Seen.{Forest, bare, node as tree, onto}
 use Rattle.cr_meaning_seen.specs.Marks.{Mark, began, left}
-use Rattle.cr_meaning_loose.specs.Lists.{Lists, operands_at, count_of, IsListFine, AreFine, IsFirstNot}
+use Rattle.cr_meaning_loose.specs.Lists.{Lists, operands_at, count_of, IsListFine, AreFine}
 use Rattle.cr_meaning_loose.specs.Loose.{IsFirstLoose, Judged}
 use Rattle.cr_meaning_loose.specs.Levels.{Level, stepped, stepped_all, first_levels, levels_of, bottom_of, closed, AreAllFixed, IsFailed}
 use Rattle.cr_meaning_loose.proofs.Tracing.{stepped_after}

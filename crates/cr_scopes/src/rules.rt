@@ -1,12 +1,14 @@
 ghost use Rattle.std.specs.Prelude.{◌≡◌, nat_eq};
 ghost use Rattle.std.specs.Map.{lookup};
 ghost use Rattle.cr_scopes.specs.Looking.{links, begun_by};
+ghost use Rattle.cr_scopes.specs.Scopes.{looked};
+ghost use Rattle.cr_scopes.specs.declared.scope.Space.TheVariants.{Content, Ordinary};
 ghost use Rattle.cr_scopes.specs.Faults.{clashes, wrong_by, fault_by, fault_where};
 ghost use Rattle.cr_scopes.specs.States.{lesser};
 ghost use Rattle.cr_scopes.specs.Resolved.{token_of};
 
 use crate::fault::NameFault;
-use crate::scope::{Found, Look};
+use crate::scope::{Found, OpenScopes, Space, find};
 use crate::table::Table;
 use cr_scopes_events::Role;
 
@@ -44,16 +46,16 @@ fn clashes(outermost: bool, found: Option<Found>, role: Role) -> bool
     }
 }
 
-/// Whether a name may not be what it is written as.
-pub fn is_wrong(outermost: bool, role: Role, ordinary: Look, content: Look) -> bool
-    ensures { result ≡ wrong_by outermost role ordinary content }
+/// Whether a name may not be what it is written as. No space is looked through that its role doesn't ask of.
+pub fn is_wrong(scopes: &OpenScopes, outermost: bool, role: Role, name: u32) -> bool
+    ensures { result ≡ wrong_by outermost role (looked Ordinary name scopes.now) (looked Content name scopes.now) }
 {
     match role {
-        Role::Used => ordinary.seen.is_none(),
-        Role::Content => content.here.is_some(),
+        Role::Used => find(scopes, Space::Ordinary, name).seen.is_none(),
+        Role::Content => find(scopes, Space::Content, name).here.is_some(),
         Role::Alone => false,
         Role::Mentioned => false,
-        role => clashes(outermost, ordinary.here, role),
+        role => clashes(outermost, find(scopes, Space::Ordinary, name).here, role),
     }
 }
 

@@ -11,9 +11,9 @@ ghost use Rattle.cr_scopes.specs.States.{name_in, same_pair, IsState, HasLinked,
 
 use crate::fault::NameFault;
 use crate::rules::{begun, fault_where, is_wrong, links};
-use crate::scope::{OpenScopes, Space, close_scope, find, note, open_scope};
+use crate::scope::{OpenScopes, close_scope, find, note, open_scope};
 use crate::table::Table;
-use crate::told::{Told, declares_by, space_of, told_if};
+use crate::told::{Told, declares, space_of, told_if};
 use cr_scopes_events::{Event, Role};
 use std::alloc::{AllocError, Global};
 use std::collections::HashMap;
@@ -136,10 +136,8 @@ fn named(
     ensures named { OnOk result (HasNamed name token role state.old state.new) }
 {
     let outermost = state.depth == 0;
-    let ordinary = find(&state.scopes, Space::Ordinary, name);
-    let content = find(&state.scopes, Space::Content, name);
-    let wrong = is_wrong(outermost, role, ordinary, content);
-    let declares = declares_by(role, find(&state.scopes, Space::Tag, name));
+    let wrong = is_wrong(&state.scopes, outermost, role, name);
+    let declares = declares(&state.scopes, role, name);
     let found = begun(&state.linked, name, token, role, outermost);
     note(alloc, &mut state.scopes, name, found)?;
     link(&mut state.linked, name, token, links(outermost, role))?;

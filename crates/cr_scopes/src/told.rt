@@ -1,7 +1,9 @@
 ghost use Rattle.std.specs.Prelude.{◌≡◌};
 ghost use Rattle.cr_scopes.specs.Resolved.{space_of, space_number, told_if, declares_by};
+ghost use Rattle.cr_scopes.specs.Scopes.{looked};
+ghost use Rattle.cr_scopes.specs.declared.scope.Space.TheVariants.{Tag};
 
-use crate::scope::{Found, Look, Space};
+use crate::scope::{Found, OpenScopes, Space, find};
 use cr_scopes_events::Role;
 
 /// What a token stands for.
@@ -50,13 +52,13 @@ pub fn told_if(declares: bool, role: Role, found: Option<Found>) -> Option<Told>
     }
 }
 
-/// Whether a name declares, by what is found of it as a tag.
-pub fn declares_by(role: Role, tag: Look) -> bool
-    ensures { result ≡ declares_by role tag }
+/// Whether a name declares; among the tags it is looked for only where it is mentioned.
+pub fn declares(scopes: &OpenScopes, role: Role, name: u32) -> bool
+    ensures { result ≡ declares_by role (looked Tag name scopes.now) }
 {
     match role {
         Role::Used => false,
-        Role::Mentioned => tag.seen.is_none(),
+        Role::Mentioned => find(scopes, Space::Tag, name).seen.is_none(),
         _ => true,
     }
 }

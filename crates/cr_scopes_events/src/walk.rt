@@ -41,7 +41,7 @@ fn walked(
 ) -> Result<Vec<Event>, AllocError>
     ensures { IfOk result (λ es. es.items ≡ to_come (events_at tokens.now nodes.now) left.items) }
 {
-    let mut events = Vec::new(alloc);
+    let mut events = Vec::with_capacity(alloc, nodes.len())?;
     let mut steps = Vec::new(alloc);
     while let Some(step) = left.pop() {
         walk_on(tokens, nodes, step, &mut left, &mut steps, &mut events)?;

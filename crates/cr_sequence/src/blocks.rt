@@ -20,11 +20,7 @@ pub(crate) fn none_each(alloc: Global, count: usize) -> Result<Vec<Option<u32>>,
     ensures count { IfOk result (λ all. length all.items ≡ count) }
     ensures none { IfOk result (λ all. (block : ℕ) → slice_index_or all.items block None ≡ None) }
 {
-    let mut all = Vec::with_capacity(alloc, count)?;
-    for _turn in 0..count {
-        all.push(None)?;
-    }
-    Ok(all)
+    Vec::from_elem(alloc, None, count)
 }
 
 /// An item.

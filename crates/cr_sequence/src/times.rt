@@ -1,4 +1,4 @@
-ghost use Rattle.std.specs.Prelude.{◌≡◌, ◌++◌, IfOk, IfSome, OnOk, length};
+ghost use Rattle.std.specs.Prelude.{◌≡◌, IfOk, IfSome, length};
 ghost use Rattle.cr_sequence.specs.Kept.{repeated};
 
 use crate::stretch::size_of;
@@ -78,16 +78,7 @@ fn times_over<T: Copy>(alloc: Global, one: &Vec<T>, times: u32) -> Result<Vec<T>
 {
     let mut all = Vec::new(alloc);
     for _turn in 0..times {
-        extend(&mut all, one)?;
+        all.extend_from_slice(one.as_slice())?;
     }
     Ok(all)
-}
-
-fn extend<T: Copy>(all: &mut Vec<T>, more: &Vec<T>) -> Result<(), AllocError>
-    ensures { OnOk result (all.new.items ≡ all.old.items ++ more.now.items) }
-{
-    for own in more {
-        all.push(*own)?;
-    }
-    Ok(())
 }

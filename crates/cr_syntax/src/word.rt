@@ -1,7 +1,7 @@
 ghost use Rattle.std.specs.Prelude.{◌≡◌, ◌≤◌, ◌∷◌, [], length, slice_range};
 ghost use Rattle.cr_syntax.specs.Words.{word_in, word_of, keyword_table, punctuator_table, entries_of};
 
-use cr_tokens::{Token, TokenKind};
+use cr_tokens::{Token, TokenKind, same_spelling};
 
 /// What a token is to the grammar: a keyword (C11 6.4.1), a punctuator (6.4.6), or one of the four
 /// kinds whose spelling the grammar doesn't ask for.
@@ -351,7 +351,7 @@ fn find(table: &[(&str, Word)], spelling: &[u8]) -> Word
     ensures { result ≡ word_in (entries_of table.now) spelling.now }
 {
     for (text, word) in table {
-        if text.as_bytes() == spelling {
+        if same_spelling(text.as_bytes(), spelling) {
             return *word;
         }
     }

@@ -1,4 +1,4 @@
-ghost use Rattle.std.specs.Prelude.{◌≡◌, ◌↔◌, ◌≤◌, ◌<◌, ℕ, IsTrue, slice_index, length, nat_eq, true, false};
+ghost use Rattle.std.specs.Prelude.{◌≡◌, ◌↔◌, ◌≤◌, ◌<◌, [], ℕ, IsTrue, slice_index, length, nat_eq, true, false};
 ghost use Rattle.std.specs.List.{list_any};
 ghost use Rattle.std.specs.Cmp.Lexicographic.{pointwise};
 ghost use Rattle.cr_tokens.specs.Bytes.{IsDigit, IsOctalDigit, IsHexDigit, IsNondigit, IsWordByte, IsSpace, IsIndent};
@@ -76,12 +76,40 @@ pub fn run_end<F: Fn(u8) -> bool>(file: &[u8], from: usize, class: F) -> usize
     file.len()
 }
 
+/// Whether two spellings are the same. They are short, and most differ at once, so they are compared byte by byte.
+pub fn same_spelling(one: &[u8], other: &[u8]) -> bool
+    ensures { result ≡ pointwise nat_eq one.now other.now }
+{
+    let mut rest = other;
+    for byte in one {
+        match rest {
+            [] => return false,
+            [first, others @ ..] => {
+                if *byte != *first {
+                    return false;
+                }
+                rest = others;
+            }
+        }
+    }
+    ends(rest)
+}
+
+fn ends(rest: &[u8]) -> bool
+    ensures { result ≡ pointwise nat_eq [] rest.now }
+{
+    match rest {
+        [] => true,
+        _ => false,
+    }
+}
+
 /// Whether a spelling stands in a table.
 pub fn is_among(table: &[&[u8]], spelling: &[u8]) -> bool
     ensures { result ≡ list_any (λ t. pointwise nat_eq t.now spelling.now) table.now }
 {
     for entry in table {
-        if *entry == spelling {
+        if same_spelling(*entry, spelling) {
             return true;
         }
     }

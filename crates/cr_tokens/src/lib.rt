@@ -19,6 +19,7 @@ mod run;
 mod token;
 mod word;
 
+pub use bytes::same_spelling;
 pub use measure::size;
 pub use reader::{first_fault, read};
 pub use run::contains;

@@ -1,5 +1,5 @@
 // A list of edits.
-ghost use Rattle.std.specs.Prelude.{◌≡◌, ◌≤◌, [], ◌∷◌, ◌++◌, ◌+◌, length, slice_index_or, IfOk, OnOk, OnErr};
+ghost use Rattle.std.specs.Prelude.{◌≡◌, ◌≤◌, [], ◌∷◌, ◌++◌, length, slice_index_or, OnOk, OnErr};
 
 use crate::Change;
 use std::alloc::{AllocError, Global};
@@ -8,8 +8,8 @@ use std::marker::Model;
 // Where an edit's changes stand in the list of all changes.
 #[derive(Clone, Copy, Drop)]
 pub struct Span {
-    from: u32,
-    to: u32,
+    from: usize,
+    to: usize,
 }
 
 /// Edits in order, each a list of changes. There are at most 1,048,576 of them, as many as a file has bytes. Clauses see the list of their
@@ -59,13 +59,12 @@ impl Edits {
         ensures { result.now ≡ slice_index_or self.now at [] }
     {
         match self.spans.get(at) {
-            Some(span) => &self.changes[span.from as usize..span.to as usize],
+            Some(span) => &self.changes[span.from..span.to],
             None => &[],
         }
     }
 
-    /// Puts an edit at the end. The error is want of memory, which is answered too where there are 1,048,576 edits, or their changes would
-    /// be more than 4,294,967,295.
+    /// Puts an edit at the end. The error is want of memory, which is answered too where there are 1,048,576 edits.
     pub fn push(&mut self, edit: &[Change]) -> Result<(), AllocError>
         ensures ok { OnOk result (self.new ≡ self.old ++ edit.now ∷ []) }
         ensures err { OnErr result (self.new ≡ self.old) }
@@ -73,31 +72,11 @@ impl Edits {
         if self.spans.len() >= MOST {
             return Err(AllocError);
         }
-        let span = span_behind(self.changes.len(), edit.len())?;
         self.spans.reserve(1)?;
+        let from = self.changes.len();
         self.changes.extend_from_slice(edit)?;
-        self.spans.push(span)?;
+        let to = self.changes.len();
+        self.spans.push(Span { from, to })?;
         Ok(())
-    }
-}
-
-// The places of so many changes behind so many others.
-fn span_behind(before: usize, changes: usize) -> Result<Span, AllocError>
-    ensures from { IfOk result (λ span. span.from ≡ before) }
-    ensures to { IfOk result (λ span. span.to ≡ before + changes) }
-{
-    let to = before.checked_add(changes).ok_or(AllocError)?;
-    Ok(Span {
-        from: place(before)?,
-        to: place(to)?,
-    })
-}
-
-fn place(at: usize) -> Result<u32, AllocError>
-    ensures { IfOk result (λ place. place ≡ at) }
-{
-    match u32::try_from(at) {
-        Ok(place) => Ok(place),
-        Err(_) => Err(AllocError),
     }
 }

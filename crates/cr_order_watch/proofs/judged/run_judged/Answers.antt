@@ -1,4 +1,4 @@
-use Rattle.std.proofs.Common.{◌≡◌, ◌∙◌, sym, subst}
+use Rattle.std.proofs.Common.{◌∙◌, sym, subst}
 use Rattle.std.specs.Prelude.{ℕ, List, Option}
 use Rattle.cr_eval.specs.Table.{program_of}
 use Rattle.cr_meaning_loose.specs.Lists.{around}

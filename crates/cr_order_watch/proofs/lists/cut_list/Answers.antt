@@ -1,4 +1,4 @@
-use Rattle.std.proofs.Common.{◌≡◌, ◌∙◌, ap, sym, subst, arith}
+use Rattle.std.proofs.Common.{◌≡◌, ap, sym, subst, arith}
 use Rattle.std.specs.Prelude.{ℕ, ◌+◌, ◌-◌, None, true, not}
 use Rattle.cr_meaning_seen.specs.Seen.{bare, node as tree}
 use Rattle.cr_meaning_loose.specs.Lists.{around_by, around, IsListFine}

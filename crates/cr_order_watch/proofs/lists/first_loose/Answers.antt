@@ -1,5 +1,5 @@
-use Rattle.std.proofs.Common.{◌≡◌, ◌∙◌, ap, sym, subst, arith}
-use Rattle.std.specs.Prelude.{ℕ, ◌+◌, ◌-◌, Some, List, false}
+use Rattle.std.proofs.Common.{◌≡◌, sym, subst, arith}
+use Rattle.std.specs.Prelude.{ℕ, ◌+◌, ◌-◌, Some, false}
 use Rattle.cr_meaning_seen.specs.Seen.{bare, node as tree}
 use Rattle.cr_meaning_loose.specs.Lists.{around_by, around, IsListFine}
 use Rattle.cr_order_watch.proofs.Listing.{Rest, rest_starts, rest_goes, rest_finds, rest_none, rest_over, rest_next, decided_true, decided_false}

@@ -1,4 +1,4 @@
-use Rattle.std.proofs.Common.{◌≡◌, ◌∙◌, ap, sym, subst}
+use Rattle.std.proofs.Common.{◌∙◌, ap, sym, subst}
 use Rattle.std.specs.Prelude.{List, Some}
 use Rattle.cr_meaning.specs.World.{Program}
 use Rattle.cr_meaning_loose.specs.Lists.{around, goes_on, last_in}

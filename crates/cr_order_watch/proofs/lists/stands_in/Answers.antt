@@ -1,5 +1,5 @@
 use Rattle.std.proofs.Common.{◌≡◌, ◌∙◌, ap, sym, arith}
-use Rattle.std.specs.Prelude.{ℕ, ◌+◌, ◌-◌, ◌==◌, ◌||◌}
+use Rattle.std.specs.Prelude.{◌+◌, ◌-◌, ◌==◌, ◌||◌}
 use Rattle.std.specs.List.{list_any}
 use Rattle.cr_meaning_loose.specs.Lists.{around_by}
 use Rattle.cr_order_watch.proofs.Listing.{chain_goes, chain_ends, chain_over, other_number}

@@ -1,4 +1,4 @@
-use Rattle.std.proofs.Common.{◌∙◌, subst}
+use Rattle.std.proofs.Common.{◌∙◌}
 use Rattle.cr_order_watch.proofs.Listing.{pieces_grow}
 use Rattle.cr_order_watch.proofs.opened.grown.Goals as goal
 

@@ -1,4 +1,3 @@
-use Rattle.std.proofs.Common.{arith}
 use Rattle.std.specs.Prelude.{◌∷◌}
 use Rattle.cr_meaning_loose.specs.Lists.{around}
 use Rattle.cr_order_watch.proofs.Opening.{asked_still}

@@ -1,4 +1,4 @@
-use Rattle.std.proofs.Common.{◌≡◌, ◌∙◌, arith, refl, sym, subst}
+use Rattle.std.proofs.Common.{refl, sym, subst}
 use Rattle.std.specs.Prelude.{List, Some}
 use Rattle.cr_meaning_seen.specs.Seen.{bare, node as tree, onto}
 use Rattle.cr_order_watch.proofs.Listing.{owner_so, with_pieces, room_before}

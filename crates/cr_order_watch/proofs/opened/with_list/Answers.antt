@@ -1,4 +1,3 @@
-use Rattle.std.proofs.Common.{◌≡◌}
 use Rattle.cr_order_watch.proofs.opened.with_list.Goals as goal
 
 pub returns-in-Ok : goal.returns-in-Ok

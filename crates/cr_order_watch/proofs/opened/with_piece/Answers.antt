@@ -1,5 +1,5 @@
-use Rattle.std.proofs.Common.{◌≡◌, ◌∙◌, ap, sym, subst}
-use Rattle.std.specs.Prelude.{ℕ, None, Some, slice_index_or}
+use Rattle.std.proofs.Common.{◌∙◌, ap, sym}
+use Rattle.std.specs.Prelude.{None, slice_index_or}
 use Rattle.cr_order_watch.proofs.Listing.{listed_on, listed_off, if_ok_weaker}
 use Rattle.cr_order_watch.proofs.opened.with_piece.Goals as goal
 
