@@ -1,5 +1,6 @@
 -- The typed unit of a file.
 use Rattle.std.specs.Prelude.{ℕ, List, length}
+use Rattle.cr_tokens.specs.Tokens.{Tokenizes}
 use Rattle.cr_syntax.specs.declared.unit.Unit as source
 use Rattle.cr_syntax.specs.Kept.{row_in}
 use Rattle.cr_syntax.specs.Words.{lexemes_of}
@@ -11,10 +12,11 @@ use Rattle.cr_typed.specs.declared.typed.Typed.{Typed}
 use Rattle.cr_typed_unit.specs.Typed.{IsTypedOf}
 
 -- The tokens of the file are those of a unit, whose nodes are listed in order and whose names are known; it breaks no constraint, and is
--- typed so. This is what `IsTypedUnit` of `cr_lawful` says of a file but for the way from its bytes to the tokens.
+-- typed so. This is what `IsTypedUnit` of `cr_lawful` says of a file.
 pub record IsUnitOfFile (file : List ℕ) (typed : Typed) : Type 0 where
   pub unit : source.Unit
   pub names : Names
+  pub tokenizes : Tokenizes file unit.tokens.list.items
   pub is_tree : IsTreeOf (lexemes_of file unit.tokens.list.items) (row_in unit.nodes unit.items)
   pub listed : AreListed unit.nodes 0 unit.items (length unit.nodes)
   pub known : AreUnitNames file unit names

@@ -1,0 +1,7 @@
+pub mod Apart
+pub mod Orderly
+pub mod Names
+pub mod Tags
+pub mod Found
+pub mod Constants
+pub mod Asked
