@@ -1,0 +1,4 @@
+pub mod Spelled
+pub mod Parameters
+pub mod Columns
+pub mod Files
