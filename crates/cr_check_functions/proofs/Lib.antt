@@ -1,0 +1,4 @@
+pub mod Outlines
+pub mod Linked
+pub mod Chained
+pub mod Followed

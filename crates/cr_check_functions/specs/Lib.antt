@@ -1,0 +1,3 @@
+pub mod Linked
+pub mod Outlines
+pub mod Laws

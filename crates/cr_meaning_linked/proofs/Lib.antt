@@ -1,0 +1,4 @@
+pub mod Owned
+pub mod Sorts
+pub mod Order
+pub mod Columns
