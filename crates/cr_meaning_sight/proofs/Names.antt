@@ -163,7 +163,7 @@ module _ (file : List ℕ) (t : Typed) (it : IsUnitOfFile file t) where
             let same : own.node.first ≡ token = eqb-true own.node.first token (sym (ap (λ o. is_number o token) (token_is file t it e own.node own.at own.is own.automatic)) ∙ key) in
             ap Some (sym same)
 
-    seen : names.ref_of (parsed_of it.unit) columns i ≡ Some e
+    pub seen : names.ref_of (parsed_of it.unit) columns i ≡ Some e
         → IsSeen (spelled_name file it.unit.tokens.list.items) own.node.first m.first (past_of (events_of it.unit.tokens.list.items t.nodes t.items) (length (events_of it.unit.tokens.list.items t.nodes t.items)))
     seen ref =
         subst (λ es. IsSeen (spelled_name file it.unit.tokens.list.items) own.node.first m.first (past_of es (length es))) moved
@@ -183,7 +183,7 @@ module _ (file : List ℕ) (t : Typed) (it : IsUnitOfFile file t) where
             (are_under t unit order holder e i own.node m own.at own.is i_at i_is inner q) (apart t unit order holder e i own.node m own.at own.is i_at i_is inner q) (seen ref))
 
   -- what a name that declares nothing stands for is another node
-  entity_there : (i : ℕ) (m : Node) → slice_get t.nodes i ≡ Some m → m.kind ≡ kind.Identifier → IsAutomatic file t it (entity_of t i) → names.ref_of (parsed_of it.unit) columns i ≡ Some (entity_of t i)
+  pub entity_there : (i : ℕ) (m : Node) → slice_get t.nodes i ≡ Some m → m.kind ≡ kind.Identifier → IsAutomatic file t it (entity_of t i) → names.ref_of (parsed_of it.unit) columns i ≡ Some (entity_of t i)
   entity_there i m at is own = by (slice_index_or t.refs i None) refl
     where
       count : length t.nodes ≡ length it.unit.nodes
