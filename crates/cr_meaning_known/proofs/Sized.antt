@@ -440,6 +440,20 @@ module _ (u : Tree) (texts : List (List ℕ)) (shapes : List Shape) (t : Typing)
       all_below zero i low n at = absurd (omega (arith, low))
       all_below (suc m) i low n at = node_closed i n at (λ p less. all_below m p (omega (arith, low, less)))
 
+      -- what a declarator without such a bracket declares
+      pub bracketless : (p : ℕ) (m : Node) → slice_get u.nodes.now p ≡ Some m → is_declarator m.kind ≡ true → is_some (entry_at t p).own.declarator.sizeless ≡ false → closed_at p
+      bracketless p m at is none = by (declaration_of u.nodes.now u.above.now p) refl
+        where
+          by : (o : Option ℕ) → declaration_of u.nodes.now u.above.now p ≡ o → closed_at p
+          by None e =
+              closed_plain p m at (declarator_plain m.kind is)
+              (ap is_open (named_declarator m.kind u (said_at p) (entry_at t p).own.declarator (type_at shapes (entry_at t p).own.derivations) (before_in shapes (cut p t)) p m is)
+              ∙ ap (λ o. is_open (type_by u.nodes.now (before_in shapes (cut p t)) (entry_at t p).own.declarator (type_at shapes (entry_at t p).own.derivations) o)) e)
+          by (Some d) e =
+              let base = base_of d (declaration_is u.nodes.now u.above.now p d e) in
+              let low = shaped.ordered p d base.number m at (declarator_names m.kind is) e base.is in
+              declarator_closed p d m at is e base low ((all_below (suc base.number) base.number (omega arith) base.part.own base.part.at).specifiers base.specifier) none
+
       members_sized : (i : ℕ) → AllSized shapes (slice_index_or t.members i [])
       members_sized i k member e = elim (cases_lt i (length u.nodes.now)) [
         | inl low ↦ (let n = some_at u.nodes.now i low in (all_below (suc i) i (omega arith) n.0 n.1).members k member e)
