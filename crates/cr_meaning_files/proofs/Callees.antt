@@ -1,6 +1,6 @@
 -- A call goes on with the body of the definition that is called, for which it enters the parameters (C11 6.5.2.2, 6.9.1).
 use Rattle.std.specs.Prelude.{codes}
-use Rattle.std.proofs.Common.{◌≡◌, ℕ, ◌==◌, Bool, true, false, List, [], None, Some, drop, map, slice_index_or, sym, subst, ap, ◌∙◌, if◌then◌else◌}
+use Rattle.std.proofs.Common.{◌≡◌, ℕ, ◌==◌, Bool, true, false, List, [], None, Some, drop, map, slice_index_or, refl, sym, subst, ap, ◌∙◌, if◌then◌else◌}
 use Rattle.std.proofs.lemmas.Bool.{eqb-true}
 use Rattle.cr_ints.specs.declared.kind.IntKind.TheVariants.{Int as IntegerKind}
 use Rattle.cr_syntax.specs.declared.node.Kind.TheVariants as kind
@@ -27,6 +27,7 @@ use Rattle.cr_meaning_files.proofs.Tree.{as_part}
 use Rattle.cr_meaning_files.proofs.Filling.{unit}
 use Rattle.cr_meaning_files.proofs.Mains.{body_at, block_at, reached_at, exits_of}
 use Rattle.cr_meaning_files.proofs.Scoped.{IsBodyOf}
+use Rattle.cr_meaning_files.proofs.Library.{is_of_library}
 use Rattle.cr_meaning_files.proofs.Sight.{same_nodes, parameters_entered}
 
 -- another callee than one of the library is the function that is defined
@@ -76,9 +77,10 @@ module _ (file : List ℕ) (t : Typed) (it : IsUnitOfFile file t) (i : ℕ) wher
         ∙ ap (λ k. Some (if is_expression (form_of k) then expression_sort p t j (part_at t definition 2) else statement (exits_at t j (part_at t definition 2)))) (block_at file t it definition defines)
         ∙ ap (λ e. Some (statement e)) (exits_of file t it definition defines)
 
-    pub called : (signature : Signature) → result_of t (judgement_of file t it) (Some t.main) ≡ form.Number IntegerKind → (c : Callee) → callee_of t i ≡ c → IsDeclaredSo p t (judgement_of file t it) signature i c
-        → IsCalled p t (sorts_in p t (judgement_of file t it)) signature c
-    called signature main (callee.Function parameters rest is_main) e h =
+    pub called : (signature : Signature) → result_of t (judgement_of file t it) (Some t.main) ≡ form.Number IntegerKind
+        → ((c : Callee) → callee_of t i ≡ c → is_of_library c ≡ true → IsCalled p t (sorts_in p t (judgement_of file t it)) signature c)
+        → (c : Callee) → callee_of t i ≡ c → IsDeclaredSo p t (judgement_of file t it) signature i c → IsCalled p t (sorts_in p t (judgement_of file t it)) signature c
+    called signature main library (callee.Function parameters rest is_main) e h =
         let own = of_call parameters rest is_main e in
         record {
           result = result_of t (judgement_of file t it) (Some definition);
@@ -89,4 +91,4 @@ module _ (file : List ℕ) (t : Typed) (it : IsUnitOfFile file t) (i : ℕ) wher
           closed = h.closed;
           each = h.each;
         }
-    called signature main c e h = h
+    called signature main library c e h = library c e refl

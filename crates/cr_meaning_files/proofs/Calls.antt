@@ -65,6 +65,14 @@ module _ (file : List ℕ) (t : Typed) (it : IsUnitOfFile file t) where
       let named = function_alone (source.stands i) _ source.nodes n.first n.parts (subst (λ k. HoldsAll (faults_in (form_of k) own before source i n)) is (holds i n at)) clear in
       (named.0, (named.1, (subst IsClear named.1 clear).0))
 
+  -- and its type is known
+  pub call_clear : AreRead file t it → (i : ℕ) (n : Node) → slice_get t.nodes i ≡ Some n → n.kind ≡ kind.Call
+      → (s : Signature) → (source_of made_by.tree checked i).stands i ≡ a_function s → IsClear (a_function s)
+  call_clear reads i n at is s stands =
+      let source = source_of made_by.tree checked i in
+      let before = facts_at checked.table (cut i checked.whole.typing).facts in
+      subst IsClear stands (subst (λ k. IsRead (form_of k) before source i n) is (reads i n (here i n at) (ap (λ k. is_expression (form_of k)) is)))
+
   pub text_there : (i : ℕ) → kind_at t i ≡ kind.Text → 1 ≤ length (slice_index_or t.texts i [])
   text_there i is = by (slice_get t.nodes i) refl
     where

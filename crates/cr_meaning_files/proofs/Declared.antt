@@ -14,12 +14,13 @@ use Rattle.cr_typed.specs.declared.typed.Typed.{Typed}
 use Rattle.cr_typed_unit.specs.Typed.{IsTypedBy}
 use Rattle.cr_meaning_declared.specs.Files.{IsUnitOfFile}
 use Rattle.cr_meaning_known.specs.Sighted.{AreSighted}
-use Rattle.cr_meaning_known.specs.Sized.{is_open, AreTypedefs}
+use Rattle.cr_meaning_known.specs.Sized.{is_open}
 use Rattle.cr_meaning_typed.specs.Typing.{has_value}
 use Rattle.cr_meaning_known.specs.Known.{IsMemberType, AreKnown}
 use Rattle.cr_meaning_known.proofs.Listing.{mapped}
 use Rattle.cr_meaning_known.proofs.Known.{known, readable}
 use Rattle.cr_meaning_known.proofs.Sized.{sized}
+use Rattle.cr_meaning_typedefs.proofs.Files.{are_seen}
 use Rattle.cr_meaning_files.specs.Files.{AreRead}
 use Rattle.cr_meaning_files.specs.Structures.{AreMembersWhole}
 use Rattle.cr_meaning_files.proofs.Made.{complete_whole}
@@ -69,13 +70,13 @@ module _ (file : List ℕ) (t : Typed) (it : IsUnitOfFile file t) (sighted : Are
           (x.0, (ap (λ ms. slice_get (slice_index_or ms d []) k) (sym made_by.are.members) ∙ x.1.0, ap (λ table. type_at table x.0.row) (sym made_by.are.table) ∙ x.1.1))
 
   -- no member is an array of unknown size
-  member_sized : AreTypedefs made_by.tree → (d k : ℕ) (m : Member) → slice_get (slice_index_or it.checked.checked.whole.typing.members d []) k ≡ Some m → is_open (type_at it.checked.checked.table m.row) ≡ false
-  member_sized typedefs =
+  member_sized : (d k : ℕ) (m : Member) → slice_get (slice_index_or it.checked.checked.whole.typing.members d []) k ≡ Some m → is_open (type_at it.checked.checked.table m.row) ≡ false
+  member_sized =
       sized made_by.tree it.checked.checked.texts it.checked.checked.table it.checked.checked.whole.typing made_by.is.whole.typing (λ b broken. made_by.sound.constraints b (inl broken)) (shaped file t it) sighted
-      (surrounded file t it) typedefs
+      (surrounded file t it) (are_seen file t it)
 
-  pub members_whole : AreTypedefs made_by.tree → AreMembersWhole t
-  members_whole typedefs d k row e = elim (cases_lt d (length it.unit.nodes)) [
+  pub members_whole : AreMembersWhole t
+  members_whole d k row e = elim (cases_lt d (length it.unit.nodes)) [
     | inl low ↦
         (let m = checked_member d k row low e in
         let nodes : length made_by.tree.nodes.now ≡ length it.unit.nodes = ap length made_by.is.whole.tree.nodes in
@@ -84,7 +85,7 @@ module _ (file : List ℕ) (t : Typed) (it : IsUnitOfFile file t) (sighted : Are
         let nodes_are = made_by.is.whole.tree.nodes ∙ sym made_by.elaborated.nodes_are in
         complete_whole t is.declarator (type_at t.shapes row)
         (ap (λ ns. is_complete_at ns is.declarator (type_at t.shapes row)) (sym nodes_are)
-        ∙ sized_complete (is_complete_at made_by.tree.nodes.now is.declarator) (type_at t.shapes row) is.known (sym (ap is_open m.1.1) ∙ member_sized typedefs d k m.0 m.1.0) is.complete))
+        ∙ sized_complete (is_complete_at made_by.tree.nodes.now is.declarator) (type_at t.shapes row) is.known (sym (ap is_open m.1.1) ∙ member_sized d k m.0 m.1.0) is.complete))
     | inr past ↦
         (let own = made_by.fits.members_count in
         let count : length t.nodes ≡ length it.unit.nodes = ap length made_by.elaborated.nodes_are in

@@ -59,11 +59,14 @@ use Rattle.cr_meaning_files.proofs.Reaching.{reached}
 use Rattle.cr_meaning_files.proofs.Functions.{function_there}
 use Rattle.cr_meaning_files.proofs.Standing.{statements}
 use Rattle.cr_meaning_files.proofs.Enumerators.{IsNumbered, numbered_by, named_number}
-use Rattle.cr_meaning_files.proofs.Calls.{call_names, text_there}
+use Rattle.cr_meaning_files.proofs.Calls.{call_names, call_clear, text_there}
+use Rattle.cr_meaning_files.proofs.Library.{library_called}
 use Rattle.cr_meaning_files.proofs.Results.{function_gives, returned_given}
 use Rattle.cr_meaning_files.proofs.Followed.{followed_type}
 use Rattle.cr_meaning_known.specs.Sighted.{AreSighted}
 use Rattle.cr_meaning_found.proofs.Names.{declared as are_declared}
+use Rattle.cr_meaning_told.proofs.Asked.{all_found}
+use Rattle.cr_meaning_typedefs.proofs.Files.{no_enumerators}
 use Rattle.cr_meaning_files.proofs.Declared.{types_known, read, members_whole}
 use Rattle.cr_meaning_files.proofs.Returns.{result}
 use Rattle.cr_meaning_files.proofs.Members.{chosen_type, member_chosen, pointed_chosen}
@@ -72,7 +75,8 @@ use Rattle.cr_meaning_files.proofs.Apart.{among}
 use Rattle.cr_meaning_files.proofs.Mains.{initialisers_run, names_here, main_defined, body_kind, body_runs, body_exits}
 use Rattle.cr_meaning_files.proofs.Scoped.{IsScoped, AllReached, IsBodyOf, by_kind}
 use Rattle.cr_meaning_files.proofs.Sight.{declarators, initialised, literals, seen}
-use Rattle.cr_meaning_files.proofs.Named.{named_seen}
+use Rattle.cr_meaning_files.proofs.Lasting.{initialised_lasts}
+use Rattle.cr_meaning_files.proofs.Parameters.{named_seen}
 use Rattle.cr_meaning_files.proofs.Callees.{body_of, called}
 use Rattle.cr_meaning_files.proofs.Labels.{gotos}
 
@@ -180,7 +184,7 @@ module _ (file : List ℕ) (t : Typed) (it : IsUnitOfFile file t) where
 
     -- what names and tags find is declared
     sighted : AreSighted made_by.tree
-    sighted = are_declared file it.unit it.names checked.surroundings made_by.tree made_by.is.surroundings made_by.is.whole.tree left.found
+    sighted = are_declared file it.unit it.names checked.surroundings made_by.tree made_by.is.surroundings made_by.is.whole.tree (all_found file t it (record { typed = no_enumerators file t it }))
 
     ranged : AreInRange t (judgement_of file t it)
     ranged i x v r known e f = of_kind (kind_at t i) refl known
@@ -216,7 +220,14 @@ module _ (file : List ℕ) (t : Typed) (it : IsUnitOfFile file t) where
         let n = closed.there i r in
         let named = call_names file t it (read file t it sighted) i n.0 n.1 (sym (ap kind_if n.1) ∙ e) in
         let returned = function_gives made_by.tree checked.texts checked.table checked.whole.typing made_by.is.whole.typing (λ b broken. made_by.sound.constraints b (inl broken)) i (slice_index_or made_by.tree.visible.now i None) _ named.0 named.1.0 in
-        record { signature = named.0; stands = named.1.0; gives = returned_given named.0.gives returned named.1.1; called = called file t it i (program_of t limits) named.0 left.mains.gives (callee_of t i) refl (left.called i named.0 r e named.1.0) }
+        let is = sym (ap kind_if n.1) ∙ e in
+        let library = library_called file t it i n.0 n.1 is (program_of t limits) (sorts_in (program_of t limits) t (judgement_of file t it)) named.0 named.1.0 (call_clear file t it (read file t it sighted) i n.0 n.1 is named.0 named.1.0) in
+        record {
+          signature = named.0;
+          stands = named.1.0;
+          gives = returned_given named.0.gives returned named.1.1;
+          called = called file t it i (program_of t limits) named.0 left.mains.gives library (callee_of t i) refl (left.called i named.0 r e named.1.0);
+        }
 
     members : (i a : ℕ) → is_reached t i ≡ true → kind_at t i ≡ kind.Member → slice_get (parts_at t i) 0 ≡ Some a → IsFound t limits (judgement_of file t it) i a
     members i a r e first =
@@ -225,8 +236,8 @@ module _ (file : List ℕ) (t : Typed) (it : IsUnitOfFile file t) where
         let named : type_of_node t i ≡ with_qualifiers_of (type_of_node t a) own.0 = is.columns.types i ∙ ap (λ (s : Seen). s.type) own.1.1 ∙ ap (λ whole. with_qualifiers_of whole own.0) (sym (is.columns.types a)) in
         record {
           is = own.1.1 ∙ ap (λ type. member_of (Some type) (seen_in checked a)) (sym (chosen_type it.unit.nodes t i (type_of_node t a) own.0 own.1.0));
-          within = member_in file t it (members_whole file t it sighted left.typedefs) i (type_of_node t a) own.0 own.1.0 named;
-          structure = λ value. among file t it (members_whole file t it sighted left.typedefs) limits i (slice_index_or t.types a 0) own.0 own.1.0;
+          within = member_in file t it (members_whole file t it sighted) i (type_of_node t a) own.0 own.1.0 named;
+          structure = λ value. among file t it (members_whole file t it sighted) limits i (slice_index_or t.types a 0) own.0 own.1.0;
         }
 
     pointed_members : (i : ℕ) → is_reached t i ≡ true → kind_at t i ≡ kind.PointerMember → IsMemberIn t i (pointed (left_type t i))
@@ -234,7 +245,7 @@ module _ (file : List ℕ) (t : Typed) (it : IsUnitOfFile file t) where
         let n = closed.there i r in
         let part = (told.expressions (read file t it sighted)).operands i 0 (ap (λ k. is_asked (form_of k) 0) e) in
         let own = pointed_chosen file t it i part.0 n.0 n.1 (sym (ap kind_if n.1) ∙ e) (ap (λ o. slice_get (parts_if o) 0) (sym n.1) ∙ part.1.is) (worth (read file t it sighted) i (ap (λ k. is_expression (form_of k)) e)) in
-        member_in file t it (members_whole file t it sighted left.typedefs) i (pointed (left_type t i)) own.0 own.1.0 (is.columns.types i ∙ own.1.1)
+        member_in file t it (members_whole file t it sighted) i (pointed (left_type t i)) own.0 own.1.0 (is.columns.types i ∙ own.1.1)
 
     returns : (i : ℕ) → is_reached t i ≡ true → kind_at t i ≡ kind.Return → IsIn (judgement_of file t it) i
     returns i r e =
@@ -251,7 +262,7 @@ module _ (file : List ℕ) (t : Typed) (it : IsUnitOfFile file t) where
         let rule = is.ruled i n.0 n.1 ∙ ap (λ k. ruled (form_of k) (seen_in checked) source i n.0) (sym (ap kind_if n.1)) in
         let whole = followed_type (kind_at t i) (seen_in checked) source i n.0 h rule (worth (read file t it sighted) i expression) in
         let complete : is_complete_at t.nodes i (type_of_node t i) ≡ true = (λ k. is_complete_at (sym nodes_are k) i (is.columns.types i k)) ∙ whole in
-        whole_object file t it (members_whole file t it sighted left.typedefs) (type_of_node t i) (complete_whole t i (type_of_node t i) complete) (made_by.fits.cells_fit (slice_index_or t.types i 0))
+        whole_object file t it (members_whole file t it sighted) (type_of_node t i) (complete_whole t i (type_of_node t i) complete) (made_by.fits.cells_fit (slice_index_or t.types i 0))
 
     objects : (i : ℕ) (n : Node) → is_reached t i ≡ true → slice_get t.nodes i ≡ Some n → n.kind ≡ kind.Identifier → (seen_in checked i).lvalue ≡ true → IsNamed p t i × (sees t i (entity_of t i) ≡ true)
     objects i n r at is l = let own = left.visible i n r at is l in (own.0, named_seen file t it i (ap kind_if at ∙ is) own.1)
@@ -282,7 +293,7 @@ module _ (file : List ℕ) (t : Typed) (it : IsUnitOfFile file t) where
         gotos = λ i r e. let n = closed.there i r in gotos file t it i n.0 n.1 e;
         declarators = declarators file t it;
         names = names_here t;
-        initialised = λ i r e. left.stated.initialised i r e (initialised file t it i r e (left.stated.statics i));
+        initialised = λ i r e. left.stated.initialised i r e (initialised file t it i r e (initialised_lasts file t it i e (left.stated.statics i)));
       };
     }
 

@@ -27,6 +27,9 @@ pub mod Declared
 pub mod Apart
 pub mod Scoped
 pub mod Sight
+pub mod Lasting
 pub mod Named
+pub mod Library
+pub mod Parameters
 pub mod Callees
 pub mod Files

@@ -18,7 +18,7 @@ use Rattle.cr_typed.specs.declared.typed.Typed.{Typed}
 use Rattle.cr_typed.specs.declared.typed.Duration.TheVariants as duration
 use Rattle.cr_meaning_soundness.specs.Sorts.{IsAmong}
 use Rattle.cr_meaning_typed.specs.Typing.{is_expression}
-use Rattle.cr_meaning_operations.specs.Operations.{kind_if, kind_at, parts_if, entity_of, is_automatic_by, is_declaration, is_lasting, is_static_initialiser, nodes_from}
+use Rattle.cr_meaning_operations.specs.Operations.{kind_if, kind_at, parts_if, entity_of, is_automatic_by, is_declaration, is_static_initialiser, nodes_from}
 use Rattle.cr_meaning_units.specs.Owned.{owns, AreOfUnit}
 use Rattle.cr_meaning_units.proofs.Rows.{clear_side, clear_laid, clear_at}
 use Rattle.cr_meaning_units.proofs.Handing.{laid_at, parts_below}
@@ -28,11 +28,11 @@ use Rattle.cr_meaning_sight.specs.Under.{is_under}
 use Rattle.cr_meaning_sight.proofs.Under.{under_at, directly, deeper, further, not_above, outermost_outside}
 use Rattle.cr_meaning_sight.proofs.Names.{stands}
 use Rattle.cr_meaning_files.specs.Reached.{is_item, is_definition}
-use Rattle.cr_meaning_files.specs.Seen.{entered_for, finds, sees}
-use Rattle.cr_meaning_files.specs.Local.{declaration_if, declaration_by, declaration_around, is_held_by, is_local, is_early, is_named_locally}
+use Rattle.cr_meaning_files.specs.Seen.{entered_for, finds}
+use Rattle.cr_meaning_files.specs.Local.{declaration_if, declaration_by, declaration_around, is_held_by, is_local, is_early}
 use Rattle.cr_meaning_files.proofs.Living.{one_of}
 use Rattle.cr_meaning_files.proofs.Loops.{whole}
-use Rattle.cr_meaning_files.proofs.Seen.{as_seen, finds_entered, finds_outside}
+use Rattle.cr_meaning_files.proofs.Seen.{finds_entered, finds_outside}
 use Rattle.cr_meaning_files.proofs.Filling.{unit}
 use Rattle.cr_meaning_files.proofs.Sight.{among_passed, only_declaration, holds_declaration, entered}
 
@@ -71,7 +71,7 @@ running_plain k h = refl
 
 -- ---- lists
 
-any_among : (test : ℕ → Bool) (xs : List ℕ) (x : ℕ) → IsAmong x xs → test x ≡ true → list_any test xs ≡ true
+pub any_among : (test : ℕ → Bool) (xs : List ℕ) (x : ℕ) → IsAmong x xs → test x ≡ true → list_any test xs ≡ true
 any_among test [] x h e = absurd h
 any_among test (y ∷ xs) x (inl same) e = or_left (test y) (list_any test xs) (ap test same ∙ e)
 any_among test (y ∷ xs) x (inr h) e = or_right (test y) (list_any test xs) (any_among test xs x h e)
@@ -89,7 +89,7 @@ module _ (file : List ℕ) (t : Typed) (it : IsUnitOfFile file t) where
   abbrev above : ℕ → Option ℕ
   above a = above_of t.nodes (length t.nodes) a
 
-  plain_part : (a i : ℕ) → IsPartOf t u a i → is_definition (kind_at t a) ≡ false
+  pub plain_part : (a i : ℕ) → IsPartOf t u a i → is_definition (kind_at t a) ≡ false
   plain_part a i h = elim (one_of (is_for h.parent.kind) _ (sides_without h.parent.kind)) [
     | inl loop ↦ running_plain (kind_at t a) ((whole t u i h.parent h.at (only_for h.parent.kind loop)).kinds h.place a (ap (λ o. slice_get (parts_if o) h.place) h.at ∙ h.is))
     | inr clear ↦
@@ -166,7 +166,7 @@ module _ (file : List ℕ) (t : Typed) (it : IsUnitOfFile file t) where
 
   -- ---- the name of a local object
 
-  finds_local : (i : ℕ) → kind_at t i ≡ kind.Identifier → is_local t (entity_of t i) ≡ true → is_early t i ≡ false → finds t i (entity_of t i) ≡ true
+  pub finds_local : (i : ℕ) → kind_at t i ≡ kind.Identifier → is_local t (entity_of t i) ≡ true → is_early t i ≡ false → finds t i (entity_of t i) ≡ true
   finds_local i is local early =
       let both = and_parts (is_automatic_by (slice_index_or t.durations (entity_of t i) duration.NoObject)) (is_held_by t (entity_of t i) (declaration_around t (entity_of t i))) local in
       by both.0 (declaration_around t (entity_of t i)) refl both.1
@@ -188,15 +188,3 @@ module _ (file : List ℕ) (t : Typed) (it : IsUnitOfFile file t) where
           at : (o : Option ℕ) → above p ≡ o → (is_some o ≡ true) × (owns t p (entity_of t i) ≡ true) → finds t i (entity_of t i) ≡ true
           at None f both = absurd (false≢true both.0)
           at (Some a) f both = in_block automatic p a (around_is (suc (length t.nodes)) (entity_of t i) p q) (above_some t u (length t.nodes) p a f) both.1
-
-  pub named_locally : (i : ℕ) → kind_at t i ≡ kind.Identifier → is_named_locally t i ≡ true → sees t i (entity_of t i) ≡ true
-  named_locally i is local =
-      let both = and_parts (is_local t (entity_of t i)) (not (is_early t i)) local in
-      as_seen t i (entity_of t i) (or_right (is_lasting t (entity_of t i) (kind_at t (entity_of t i))) (finds t i (entity_of t i)) (finds_local i is both.0 (not-true (is_early t i) both.1)))
-
-  pub named_seen : (i : ℕ) → kind_at t i ≡ kind.Identifier → (is_named_locally t i ≡ false → sees t i (entity_of t i) ≡ true) → sees t i (entity_of t i) ≡ true
-  named_seen i is otherwise = by (is_named_locally t i) refl
-    where
-      by : (b : Bool) → is_named_locally t i ≡ b → sees t i (entity_of t i) ≡ true
-      by true q = named_locally i is q
-      by false q = otherwise q

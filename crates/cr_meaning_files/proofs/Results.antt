@@ -34,6 +34,7 @@ use Rattle.cr_check_unit.specs.Breaks.{IsNodeBreak, IsBroken}
 use Rattle.cr_meaning_typed.specs.Laws.{HoldsAll}
 use Rattle.cr_meaning_typed.specs.Typing.{has_value}
 use Rattle.cr_meaning_typed.proofs.Worth.{unbroken}
+use Rattle.cr_meaning_known.proofs.Declaring.{declarator_holds}
 use Rattle.cr_meaning_calls.specs.Calls.{IsGiven}
 
 -- the result of a function may be returned
@@ -111,18 +112,6 @@ initialised_holds own said u i n d h =
     not-false may (unbroken 11 (first_in u.nodes.now (slice_get n.parts 1)) (not may) [] h)
 
 -- what a declarator breaks it breaks as a whole one
-declarator_holds : (k : Kind) (own : Has) (b : Before) (u : Tree) (i : ℕ) (n : Node) → is_declarator k ≡ true → HoldsAll (faults_in k own b u i n) → HoldsAll (whole_faults own b u i (declaration_of u.nodes.now u.above.now i))
-declarator_holds kind.NameDeclarator own b u i n d h = h
-declarator_holds kind.GroupDeclarator own b u i n d h = h
-declarator_holds kind.PointerDeclarator own b u i n d h = h
-declarator_holds kind.ArrayDeclarator own b u i n d h = h
-declarator_holds kind.FunctionDeclarator own b u i n d h = h
-declarator_holds kind.AbstractPointer own b u i n d h = h
-declarator_holds kind.AbstractGroup own b u i n d h = h
-declarator_holds kind.AbstractArray own b u i n d h = h
-declarator_holds kind.AbstractArrayOf own b u i n d h = h
-declarator_holds k own b u i n d h = absurd (false≢true d)
-
 module _ (u : Tree) (texts : List (List ℕ)) (shapes : List Shape) (t : Typing) (h : IsTyping u texts shapes t) (holds : (b : Break) → IsBroken u texts shapes t b → ⊥) where
   abbrev look : ℕ → Qualified
   look = type_at shapes

@@ -24,6 +24,7 @@ use Rattle.cr_meaning_units.specs.Owned.{AreOfUnit}
 use Rattle.cr_meaning_names.proofs.Parents.{IsPartOf}
 use Rattle.cr_meaning_declared.specs.Files.{IsUnitOfFile}
 use Rattle.cr_meaning_whole.specs.Statements.{is_labelled}
+use Rattle.cr_meaning_known.proofs.Listing.{behind_first}
 use Rattle.cr_meaning_files.specs.Reached.{is_definition, is_reached}
 use Rattle.cr_meaning_files.specs.Seen.{entered_for, knows, sees}
 use Rattle.cr_meaning_files.proofs.Tables.{switch_counts, switch_body}
@@ -32,7 +33,7 @@ use Rattle.cr_meaning_files.proofs.Tree.{has_part, as_part, needed}
 use Rattle.cr_meaning_files.proofs.Seen.{enters_nothing, listing_enters_nothing, of_reached, as_seen, lasting_seen, climbs, up, from_body}
 use Rattle.cr_meaning_files.proofs.Filling.{unit, put_there}
 use Rattle.cr_meaning_files.proofs.Loops.{from_at, step_there, whole}
-use Rattle.cr_meaning_files.proofs.Standing.{filtered, behind_first, labels, loop_runs}
+use Rattle.cr_meaning_files.proofs.Standing.{filtered, labels, loop_runs}
 
 -- ---- which work takes its operands alone
 

@@ -17,6 +17,7 @@ use Rattle.cr_meaning_units.specs.Owned.{AreOfUnit}
 use Rattle.cr_meaning_declared.specs.Files.{IsUnitOfFile}
 use Rattle.cr_meaning_sorts.specs.Founded.{IsOperand}
 use Rattle.cr_meaning_whole.specs.Statements.{is_statement, has_condition, has_inner, is_labelled, IsInner, IsFor, IsSwitch, AreStatementsLaid}
+use Rattle.cr_meaning_known.proofs.Listing.{behind_first}
 use Rattle.cr_meaning_files.specs.Reached.{is_item, is_list, is_listing, is_going, is_address, goes_on, lives, is_reached}
 use Rattle.cr_meaning_files.specs.Files.{judgement_of}
 use Rattle.cr_meaning_files.proofs.Grammar.{part_in, Stands, is_of}
@@ -54,10 +55,6 @@ filtered test (x ∷ items) k item e = by (test x) refl k e (λ m f. later (filt
     by true q zero f rest = let same : x ≡ item = cc f in record { passes = ap test (sym same) ∙ q; place = 0; at = ap Some same }
     by true q (suc m) f rest = rest m f
     by false q k f rest = rest k f
-
-pub behind_first : (ps : List ℕ) (m a : ℕ) → slice_get (drop 1 ps) m ≡ Some a → slice_get ps (suc m) ≡ Some a
-behind_first [] m a e = absurd (cc e)
-behind_first (p ∷ ps) m a e = e
 
 module _ (file : List ℕ) (t : Typed) (it : IsUnitOfFile file t) where
   abbrev u : AreOfUnit t

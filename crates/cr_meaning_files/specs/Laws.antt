@@ -57,6 +57,6 @@ LabelsStandAround = (file : List ℕ) (t : Typed) (it : IsUnitOfFile file t) (i 
 abbrev pub DeclaratorsSeeObjects : Type 0
 DeclaratorsSeeObjects = (file : List ℕ) (t : Typed) → IsUnitOfFile file t → (i : ℕ) → is_reached t i ≡ true → is_declarator (kind_at t i) ≡ true → sees t i (name_of t i) ≡ true
 
--- a name sees the automatic object that a block or a `for` around it declares (6.2.1p4, 6.2.4p5)
+-- a name sees the automatic object that a block or a `for` around it declares, or the definition around it as a parameter (6.2.1p4, 6.2.4p5)
 abbrev pub NamesSeeObjects : Type 0
 NamesSeeObjects = (file : List ℕ) (t : Typed) → IsUnitOfFile file t → (i : ℕ) → kind_at t i ≡ kind.Identifier → is_named_locally t i ≡ true → sees t i (entity_of t i) ≡ true

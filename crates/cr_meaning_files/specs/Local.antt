@@ -1,5 +1,5 @@
--- Which names are of objects that a block or a `for` around them declares (C11 6.2.1p4, 6.2.4p5).
-use Rattle.std.specs.Prelude.{ℕ, zero, suc, Bool, false, not, ◌&&◌, Option, None, Some, length, slice_index_or, if◌then◌else◌}
+-- Which names are of objects that a block or a `for` declares, or that a definition enters as parameters (C11 6.2.1p4, 6.2.4p5, 6.9.1p9).
+use Rattle.std.specs.Prelude.{ℕ, zero, suc, Bool, false, not, ◌&&◌, ◌||◌, [], Option, None, Some, length, slice_index_or, if◌then◌else◌}
 use Rattle.std.specs.List.{list_any}
 use Rattle.std.specs.Option.{is_some}
 use Rattle.cr_check_enclosing.specs.Above.{above_of}
@@ -8,6 +8,7 @@ use Rattle.cr_typed.specs.declared.typed.Duration.TheVariants as duration
 use Rattle.cr_meaning_operations.specs.Operations.{kind_at, entity_of, is_automatic_by, is_declaration, is_static_initialiser, nodes_from}
 use Rattle.cr_meaning_units.specs.Owned.{owns}
 use Rattle.cr_meaning_sight.specs.Under.{is_under}
+use Rattle.cr_meaning_files.specs.Seen.{is_one_of}
 
 -- the innermost declaration around a node
 abbrev pub declaration_if : Typed → (ℕ → Option ℕ) → Option ℕ → Option ℕ
@@ -31,10 +32,21 @@ abbrev pub is_local : Typed → ℕ → Bool
 is_local t declared =
     is_automatic_by (slice_index_or t.durations declared duration.NoObject) && is_held_by t declared (declaration_around t declared)
 
+-- an object that a definition enters as one of its parameters (6.9.1p9), by so many definitions
+abbrev pub is_parameter_below : ℕ → Typed → ℕ → Bool
+is_parameter_below zero t declared = false
+is_parameter_below (suc d) t declared = is_one_of (slice_index_or t.parameters d []) declared || is_parameter_below d t declared
+
+abbrev pub is_parameter : Typed → ℕ → Bool
+is_parameter t declared = is_parameter_below (length t.nodes) t declared
+
+abbrev pub is_own_parameter : Typed → ℕ → Bool
+is_own_parameter t declared = is_automatic_by (slice_index_or t.durations declared duration.NoObject) && is_parameter t declared
+
 -- a node in an initialiser that is executed before main
 abbrev pub is_early : Typed → ℕ → Bool
 is_early t node = list_any (λ start. is_under t start node) (nodes_from (is_static_initialiser t) 0 t.nodes)
 
 -- a name that its scope alone shows to see its object
 abbrev pub is_named_locally : Typed → ℕ → Bool
-is_named_locally t node = is_local t (entity_of t node) && not (is_early t node)
+is_named_locally t node = (is_local t (entity_of t node) || is_own_parameter t (entity_of t node)) && not (is_early t node)

@@ -1,4 +1,4 @@
-use Rattle.cr_meaning_files.proofs.Named.{named_locally}
+use Rattle.cr_meaning_files.proofs.Parameters.{named_locally}
 use Rattle.cr_meaning_files.proofs.laws.names_see_objects.Goals as goal
 
 pub returns : goal.returns
