@@ -82,7 +82,7 @@ token_with file [] k w h = let never : None ≡ Some w = h in absurd cc
 token_with file (own ∷ tokens) zero w h = record { own = own; at = refl; is = cc }
 token_with file (own ∷ tokens) (suc k) w h = let x = token_with file tokens k w h in record { own = x.own; at = x.at; is = x.is }
 
-token_is : (file : List ℕ) (from after : ℕ) (tokens : List Token) → FallsInto file from after tokens → (k : ℕ) (own : Token) → slice_get tokens k ≡ Some own → IsToken file own
+pub token_is : (file : List ℕ) (from after : ℕ) (tokens : List Token) → FallsInto file from after tokens → (k : ℕ) (own : Token) → slice_get tokens k ≡ Some own → IsToken file own
 token_is file from after [] nothing k own e = let never : None ≡ Some own = e in absurd cc
 token_is file from after tokens (blank {to = to} b rest) k own e = token_is file to after tokens rest k own e
 token_is file from after (_ ∷ tokens) (token t begin is rest) zero own e = let same : t ≡ own = cc in subst (IsToken file) same is

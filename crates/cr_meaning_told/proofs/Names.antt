@@ -33,7 +33,7 @@ use Rattle.cr_meaning_found.specs.Found.{IsOrdinary}
 use Rattle.cr_meaning_told.specs.Told.{IsFoundBefore}
 
 -- the last number with a key is the one behind which there is none
-last_is : (key : ℕ → Option ℕ) (bound k p : ℕ) → key p ≡ Some k → p < bound → ((q : ℕ) → p < q → key q ≡ Some k → ⊥) → last_with key bound k ≡ Some p
+pub last_is : (key : ℕ → Option ℕ) (bound k p : ℕ) → key p ≡ Some k → p < bound → ((q : ℕ) → p < q → key q ≡ Some k → ⊥) → last_with key bound k ≡ Some p
 last_is key zero k p e low none = absurd (omega (arith, low))
 last_is key (suc bound) k p e low none = by (is_number (key bound) k) refl (λ less. last_is key bound k p e less none)
   where
@@ -63,13 +63,13 @@ use_name kind.TypedefName first h = refl
 use_name k first h = absurd (false≢true h)
 
 -- a declaration is none with an initialiser
-at_declaration : {A : Type 0} (k : Kind) → is_declaration k ≡ true → (other own none : A) → (if named.is_initialised (Some k) then other else (if named.is_declaration (Some k) then own else none)) ≡ own
+pub at_declaration : {A : Type 0} (k : Kind) → is_declaration k ≡ true → (other own none : A) → (if named.is_initialised (Some k) then other else (if named.is_declaration (Some k) then own else none)) ≡ own
 at_declaration kind.Declaration h other own none = refl
 at_declaration kind.FunctionDefinition h other own none = refl
 at_declaration kind.Parameter h other own none = refl
 at_declaration k h other own none = absurd (false≢true h)
 
-holds : {A : Type 0} (k : Kind) → is_declaration k ≡ true → (own none : A) → (if named.is_declaration (Some k) then own else none) ≡ own
+pub holds : {A : Type 0} (k : Kind) → is_declaration k ≡ true → (own none : A) → (if named.is_declaration (Some k) then own else none) ≡ own
 holds kind.Declaration h own none = refl
 holds kind.FunctionDefinition h own none = refl
 holds kind.Parameter h own none = refl
@@ -81,12 +81,12 @@ ordinary_kind kind.FunctionDefinition h = refl
 ordinary_kind kind.Parameter h = refl
 ordinary_kind k h = absurd (false≢true h)
 
-initial : (k : Kind) (parts : List ℕ) (p : ℕ) → initialises k parts p ≡ true → (k ≡ kind.InitDeclarator) × (slice_get parts 0 ≡ Some p)
+pub initial : (k : Kind) (parts : List ℕ) (p : ℕ) → initialises k parts p ≡ true → (k ≡ kind.InitDeclarator) × (slice_get parts 0 ≡ Some p)
 initial kind.InitDeclarator [] p h = absurd (false≢true h)
 initial kind.InitDeclarator (q ∷ ps) p h = (refl, ap Some (eqb-true q p h))
 initial k parts p h = absurd (false≢true h)
 
-not_initial : (k : Kind) → is_declaration k ≡ true → k ≡ kind.InitDeclarator → ⊥
+pub not_initial : (k : Kind) → is_declaration k ≡ true → k ≡ kind.InitDeclarator → ⊥
 not_initial k h e = false≢true (sym (ap is_declaration e) ∙ h)
 
 module _ (file : List ℕ) (unit : source.Unit) (names : Names) (s : Surroundings) (u : Tree) (are : AreSurroundings file unit names s) (tree : IsTree file unit s u) (known : AreUnitNames file unit names)

@@ -1,6 +1,6 @@
 -- What the columns of a check say of a typedef name.
-use Rattle.std.proofs.Common.{◌≡◌, ℕ, zero, suc, ◌<◌, ◌&&◌, inl, inr, Bool, true, false, List, [], ◌∷◌, Option, None, Some, length, nat_lt, slice_get, slice_index_or, refl, sym, ap, subst, ◌∙◌, if◌then◌else◌, arith}
-use Rattle.std.proofs.lemmas.Bool.{false≢true, and_parts, cases_lt, eqb-true, eq-eqb}
+use Rattle.std.proofs.Common.{◌≡◌, ℕ, suc, ◌<◌, ◌&&◌, inl, inr, Bool, true, false, List, [], ◌∷◌, Option, None, Some, length, nat_lt, slice_get, slice_index_or, refl, sym, ap, subst, ◌∙◌, if◌then◌else◌}
+use Rattle.std.proofs.lemmas.Bool.{false≢true, and_parts}
 use Rattle.std.proofs.lemmas.Option.{slice_get_within}
 use Rattle.cr_syntax.specs.declared.node.Kind.{Kind}
 use Rattle.cr_syntax.specs.declared.node.Kind.TheVariants as kind
@@ -14,11 +14,10 @@ use Rattle.cr_scopes_events.specs.Scripts as scripts
 use Rattle.cr_scopes_events.specs.Scripts.{storage_of}
 use Rattle.cr_scopes_events.proofs.Descents.{declarator_ruled}
 use Rattle.cr_scopes.specs.declared.names.Names.{Names}
-use Rattle.cr_scopes.specs.Resolved.{is_number, past_of}
+use Rattle.cr_scopes.specs.Resolved.{past_of}
 use Rattle.cr_scopes.specs.Spelled.{name_of}
 use Rattle.cr_scopes.specs.States.{name_in}
 use Rattle.cr_scopes.specs.Units.{unit_events}
-use Rattle.cr_scopes_bindings.specs.Last.{last_with}
 use Rattle.cr_scopes_bindings.specs.Nodes.{named_by, named_if, name_at}
 use Rattle.cr_scopes_bindings.specs.Visible.{visible}
 use Rattle.cr_scopes_bindings.specs.Bindings.{entry_if}
@@ -33,28 +32,7 @@ use Rattle.cr_check_surroundings.specs.Surroundings.{AreSurroundings, IsTree}
 use Rattle.cr_check_surroundings.specs.Named.{used_by, used_name, visible_if}
 use Rattle.cr_check_surroundings.specs.Raised.{initialises, raised_by, raised_if, raised, raised_of}
 use Rattle.cr_meaning_known.specs.Sized.{IsTypedef}
-
--- the last number with a key has it, and there is one where a number has it
-last_is : (key : ℕ → Option ℕ) (bound k p : ℕ) → key p ≡ Some k → p < bound → ((q : ℕ) → p < q → key q ≡ Some k → ⊥) → last_with key bound k ≡ Some p
-last_is key zero k p e low none = absurd (omega (arith, low))
-last_is key (suc bound) k p e low none = by (is_number (key bound) k) refl (λ less. last_is key bound k p e less none)
-  where
-    has : (o : Option ℕ) → is_number o k ≡ true → o ≡ Some k
-    has None h = absurd (false≢true h)
-    has (Some j) h = ap Some (eqb-true j k h)
-
-    itself : is_number (key p) k ≡ true
-    itself = ap (λ o. is_number o k) e ∙ eq-eqb k k refl
-
-    by : (b : Bool) → is_number (key bound) k ≡ b → (p < bound → last_with key bound k ≡ Some p) → last_with key (suc bound) k ≡ Some p
-    by true q rest = elim (cases_lt p bound) [
-      | inl less ↦ absurd (none bound less (has (key bound) q))
-      | inr ge ↦ (let same : bound ≡ p = omega (arith, ge, low) in ap (λ b. if b then Some bound else last_with key bound k) q ∙ ap Some same)
-    ]
-    by false q rest = elim (cases_lt p bound) [
-      | inl less ↦ ap (λ b. if b then Some bound else last_with key bound k) q ∙ rest less
-      | inr ge ↦ (let same : bound ≡ p = omega (arith, ge, low) in absurd (false≢true (sym q ∙ ap (λ x. is_number (key x) k) same ∙ itself)))
-    ]
+use Rattle.cr_meaning_told.proofs.Names.{last_is, at_declaration, holds, initial, not_initial}
 
 -- ---- kinds
 
@@ -62,26 +40,6 @@ external_declares : (k : Kind) → is_external k ≡ true → is_declaration k �
 external_declares kind.Declaration h = refl
 external_declares kind.FunctionDefinition h = refl
 external_declares k h = absurd (false≢true h)
-
-at_declaration : {A : Type 0} (k : Kind) → is_declaration k ≡ true → (other own none : A) → (if named.is_initialised (Some k) then other else (if named.is_declaration (Some k) then own else none)) ≡ own
-at_declaration kind.Declaration h other own none = refl
-at_declaration kind.FunctionDefinition h other own none = refl
-at_declaration kind.Parameter h other own none = refl
-at_declaration k h other own none = absurd (false≢true h)
-
-holds : {A : Type 0} (k : Kind) → is_declaration k ≡ true → (own none : A) → (if named.is_declaration (Some k) then own else none) ≡ own
-holds kind.Declaration h own none = refl
-holds kind.FunctionDefinition h own none = refl
-holds kind.Parameter h own none = refl
-holds k h own none = absurd (false≢true h)
-
-initial : (k : Kind) (parts : List ℕ) (p : ℕ) → initialises k parts p ≡ true → (k ≡ kind.InitDeclarator) × (slice_get parts 0 ≡ Some p)
-initial kind.InitDeclarator [] p h = absurd (false≢true h)
-initial kind.InitDeclarator (q ∷ ps) p h = (refl, ap Some (eqb-true q p h))
-initial k parts p h = absurd (false≢true h)
-
-not_initial : (k : Kind) → is_declaration k ≡ true → k ≡ kind.InitDeclarator → ⊥
-not_initial k h e = false≢true (sym (ap is_declaration e) ∙ h)
 
 -- a node whose declarator has a name is a declarator, so that is its name
 pub name_of_node : (nodes : List Node) (i token : ℕ) → (declarator_of nodes i).name ≡ Some token → name_at nodes i ≡ Some token

@@ -1,17 +1,11 @@
 -- Each token of a file has some bytes (C11 6.4).
-use Rattle.std.proofs.Common.{◌≡◌, ℕ, zero, suc, ◌<◌, List, [], ◌∷◌, None, Some, length, slice_get, slice_range, refl, sym, ap, subst, ◌∙◌, arith}
+use Rattle.std.proofs.Common.{◌≡◌, ℕ, zero, suc, ◌<◌, List, [], ◌∷◌, Some, length, slice_get, slice_range, refl, sym, ap, ◌∙◌, arith}
 use Rattle.cr_tokens.specs.declared.token.Token.{Token}
-use Rattle.cr_tokens.specs.Tokens.{IsToken, FallsInto, Tokenizes}
-use Rattle.cr_tokens.specs.Tokens.FallsInto.{nothing, blank, token}
+use Rattle.cr_tokens.specs.Tokens.{Tokenizes}
 use Rattle.cr_tokens.proofs.Ranges.{slice_range-length}
 use Rattle.cr_scopes.specs.Spelled.{spelling_if}
 use Rattle.cr_scopes_typedefs.specs.Sees.{AreSpelled}
-
-token_is : {file : List ℕ} {from after : ℕ} {tokens : List Token} → FallsInto file from after tokens → (k : ℕ) (own : Token) → slice_get tokens k ≡ Some own → IsToken file own
-token_is nothing k own e = let never : None ≡ Some own = e in absurd cc
-token_is (blank b rest) k own e = token_is rest k own e
-token_is {file = file} (token t begin is rest) zero own e = let same : t ≡ own = cc in subst (IsToken file) same is
-token_is (token t begin is rest) (suc k) own e = token_is rest k own e
+use Rattle.cr_meaning_told.proofs.Constants.{token_is}
 
 token_there : (tokens : List Token) (k : ℕ) → k < length tokens → (own : Token) × (slice_get tokens k ≡ Some own)
 token_there [] k low = absurd (omega (arith, low))
@@ -21,7 +15,7 @@ token_there (t ∷ tokens) (suc k) low = token_there tokens k (omega (arith, low
 pub spelled : (file : List ℕ) (tokens : List Token) → Tokenizes file tokens → AreSpelled file tokens
 spelled file tokens h k low empty =
     let own = token_there tokens k low in
-    let is = token_is h.falls k own.0 own.1 in
+    let is = token_is file 0 _ tokens h.falls k own.0 own.1 in
     let long = slice_range-length file own.0.start own.0.end is.inside in
     let none : length (slice_range file own.0.start own.0.end) ≡ 0 = ap length (sym (ap (spelling_if file) own.1) ∙ empty) in
     let some = is.not_empty in
