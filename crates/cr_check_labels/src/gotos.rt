@@ -116,12 +116,7 @@ fn is_goto(kind: Kind) -> bool
 fn has_gotos(nodes: &[Node]) -> bool
     ensures { result ≡ list_any (λ n. is_goto n.kind) nodes.now }
 {
-    for node in nodes {
-        if is_goto(node.kind) {
-            return true;
-        }
-    }
-    false
+    nodes.iter().any(|node| is_goto(node.kind))
 }
 
 /// For each `goto` the label that it names: the one of its name on an item of the innermost compound statement around it that has one;

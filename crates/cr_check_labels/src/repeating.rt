@@ -136,12 +136,7 @@ fn is_label(kind: Kind) -> bool
 fn has_labels(nodes: &[Node]) -> bool
     ensures { result ≡ list_any (λ n. is_label n.kind) nodes.now }
 {
-    for node in nodes {
-        if is_label(node.kind) {
-            return true;
-        }
-    }
-    false
+    nodes.iter().any(|node| is_label(node.kind))
 }
 
 /// For each node whether it is a `case`, a `default` or a label that repeats one before it in the text, of its `switch` or its function: of two

@@ -22,7 +22,8 @@ struct Known {
 #[tactic(auto, using(crate::proofs::Spellings::known_step, crate::proofs::Spellings::named_step, crate::proofs::Spellings::all_named))]
 pub fn names_of(alloc: Global, file: &[u8], tokens: &[Token]) -> Result<Vec<u32>, AllocError>
     requires { AreSpans file.now tokens.now }
-    ensures { IfOk result (λ names. (t : ℕ) → name_in names.items t ≡ name_of file.now tokens.now t) }
+    ensures count { IfOk result (λ names. length names.items ≡ length tokens.now) }
+    ensures each { IfOk result (λ names. (t : ℕ) → name_in names.items t ≡ name_of file.now tokens.now t) }
 {
     let mut known = nothing_known(alloc);
     let mut names = Vec::with_capacity(alloc, tokens.len())?;

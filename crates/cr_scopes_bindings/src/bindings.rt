@@ -12,10 +12,9 @@ ghost use Rattle.cr_syntax.specs.Words.{AreSpans};
 use crate::entities::{declaring, entity_at, first_of, is_marked, previous};
 use crate::last::link_at;
 use crate::nodes::{contents, declarers, name_at, specifiers, tag_at};
-use crate::spellings::spellings;
 use crate::visible::visible;
 use cr_rows::Row;
-use cr_scopes::Names;
+use cr_scopes::{Names, names_of};
 use cr_syntax::{Node, Unit};
 use cr_tokens::Token;
 use std::alloc::{AllocError, Global};
@@ -68,7 +67,7 @@ fn seen(alloc: Global, file: &[u8], unit: &Unit) -> Result<(Vec<u32>, Vec<Option
     ensures spellings { IfOk result (λ both. AreSpellings file.now unit.now.tokens.list.items both.0.items) }
     ensures visible { IfOk result (λ both. AreVisible (name_in both.0.items) (unit_events unit.now) (length unit.now.tokens.list.items) both.1.items) }
 {
-    let spellings = spellings(alloc, file, unit.tokens.list.as_slice())?;
+    let spellings = names_of(alloc, file, unit.tokens.list.as_slice())?;
     let visible = visible(alloc, unit, spellings.as_slice())?;
     Ok((spellings, visible))
 }

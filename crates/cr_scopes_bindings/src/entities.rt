@@ -32,7 +32,8 @@ pub(crate) fn entity_at(names: &Names, token: usize) -> Option<usize>
     )
 }
 
-fn mark(column: &mut Vec<bool>, at: usize)
+/// Sets a mark; a column has none where it doesn't reach.
+pub(crate) fn mark(column: &mut Vec<bool>, at: usize)
     ensures { column.new.items ≡ slice_set column.old.items at true }
 {
     if at < column.len() {

@@ -12,7 +12,6 @@ mod entities;
 mod last;
 mod nodes;
 mod scoped;
-mod spellings;
 mod visible;
 
 pub use bindings::{Bindings, TagBinding};

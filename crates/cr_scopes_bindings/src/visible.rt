@@ -7,6 +7,7 @@ ghost use Rattle.cr_scopes.specs.States.{name_in};
 ghost use Rattle.cr_scopes.specs.Units.{unit_events};
 ghost use Rattle.cr_scopes.specs.declared.scope.Space.TheVariants.{Ordinary};
 
+use crate::entities::{is_marked, mark};
 use crate::last::set_link;
 use crate::scoped::Scoped;
 use cr_scopes_events::{Event, Role, events};
@@ -34,30 +35,11 @@ fn is_declaration(role: Role) -> bool
     }
 }
 
-// Whether a token was named; one that is none wasn't.
-fn is_marked(named: &[bool], token: u32) -> bool
-    ensures { result ≡ slice_index_or named.now token false }
-{
-    if (token as usize) < named.len() {
-        named[token as usize]
-    } else {
-        false
-    }
-}
-
-fn mark(named: &mut Vec<bool>, token: u32)
-    ensures { named.new.items ≡ slice_set named.old.items token true }
-{
-    if (token as usize) < named.len() {
-        named[token as usize] = true;
-    }
-}
-
 // What is visible at a token is found where it is first named.
 fn find(scoped: &Scoped, named: &[bool], visible: &mut Vec<Option<u32>>, token: u32, name: u32)
     ensures { visible.new.items ≡ (if slice_index_or named.now token false then visible.old.items else slice_set visible.old.items token (found_in scoped.now name)) }
 {
-    if !is_marked(named, token) {
+    if !is_marked(named, token as usize) {
         set_link(visible, token as usize, scoped.find(name));
     }
 }
@@ -82,7 +64,7 @@ fn follow(
         Event::Name(token, role) => {
             let name = spelling_at(spellings, token);
             find(scoped, named.as_slice(), visible, token, name);
-            mark(named, token);
+            mark(named, token as usize);
             if is_declaration(role) {
                 scoped.bind(name, token)
             } else {

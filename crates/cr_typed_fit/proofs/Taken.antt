@@ -1,15 +1,14 @@
 -- What a row takes, by its shape and the rows before it.
-use Rattle.std.proofs.Common.{◌≡◌, ℕ, ◌+◌, ◌*◌, ◌<◌, ◌≤◌, Bool, Some, None, List, [], ◌∷◌, ◌++◌, length, fold, slice_index_or, refl, sym, ap, subst, ◌∙◌, arith, length-append}
+use Rattle.std.proofs.Common.{◌≡◌, ℕ, ◌+◌, ◌*◌, ◌≤◌, Bool, Some, None, List, [], ◌∷◌, length, fold, slice_index_or, refl, sym, ap, ◌∙◌, arith, length-append}
 use Rattle.std.proofs.Math.Nat.{mul_assoc, mul_comm}
 use Rattle.std.proofs.lemmas.List.{get_or_past}
 use Rattle.cr_syntax.specs.declared.ctype.CType.{CType}
 use Rattle.cr_syntax.specs.declared.ctype.CType.TheVariants.{Void, Int, Pointer, Array, Struct, Function, Unknown}
 use Rattle.cr_check_types.specs.declared.layout.Layout.{Layout}
 use Rattle.cr_check_types.specs.declared.shape.Shape.{Shape}
-use Rattle.cr_check_types.specs.Types.{Qualified, array, unknown, type_by, type_of, with_row, types_of, type_at, room_in}
+use Rattle.cr_check_types.specs.Types.{Qualified, array, unknown, type_by, type_of, with_row, types_of, type_at}
 use Rattle.cr_check_types.specs.Layouts.{fitted, count_of, element_of, single_of, layout_of}
 use Rattle.cr_check_types.proofs.Fitted.{cut}
-use Rattle.cr_typed_fit.specs.declared.extents.Extent.{Extent}
 use Rattle.cr_typed_fit.specs.Fits.{structure_within, extent_of, times_over}
 
 -- a row that isn't there has no type

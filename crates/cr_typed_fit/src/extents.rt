@@ -1,8 +1,9 @@
 // What the types of rows take.
-ghost use Rattle.std.specs.Prelude.{◌≡◌, ◌<◌, ◌≤◌, IfOk, IsTrue, length, slice_index_or};
+ghost use Rattle.std.specs.Prelude.{◌≡◌, ◌<◌, IfOk, IsTrue, length, slice_index_or};
 ghost use Rattle.std.specs.List.{list_all, sum_by};
 ghost use Rattle.cr_check_types.specs.Types.{type_at};
-ghost use Rattle.cr_typed_fit.specs.Fits.{AreExtents, HasRoom, AreMembers, extent_of, no_extent, is_small, is_before, cells_in, times_over};
+ghost use Rattle.cr_check_types.specs.Layouts.{fitted};
+ghost use Rattle.cr_typed_fit.specs.Fits.{AreExtents, HasRoom, AreMembers, AreSuited, extent_of, no_extent, is_small, is_before, cells_in, times_over};
 
 use cr_check_types::{Layout, Shape, Table};
 use cr_rows::Row;
@@ -83,7 +84,8 @@ fn taken_by(extents: &[Extent], row: u32) -> Extent
 
 /// Whether types have the cells and structures that the constraints let them have.
 pub(crate) fn has_room(typed: &Typed, extents: &[Extent]) -> bool
-    ensures { IsTrue result → HasRoom typed.now extents.now }
+    ensures only { IsTrue result → HasRoom typed.now extents.now }
+    ensures every { HasRoom typed.now extents.now → IsTrue result }
 {
     are_small(extents) && have_members(extents, typed.members.as_slice())
 }
@@ -102,15 +104,22 @@ fn is_small(extent: Extent) -> bool
 
 #[tactic(auto, using(crate::proofs::Rows::members_more, crate::proofs::Rows::members_all))]
 fn have_members(extents: &[Extent], members: &[Row<u32>]) -> bool
-    ensures { IsTrue result → AreMembers extents.now members.now }
+    ensures only { IsTrue result → AreMembers extents.now members.now }
+    ensures every { AreMembers extents.now members.now → IsTrue result }
 {
     for at in 0..members.len() {
-        let rows = members[at].as_slice();
-        if !are_few(extents, rows) || !are_before(extents, rows, at) {
+        if !are_suited(extents, members[at].as_slice(), at) {
             return false;
         }
     }
     true
+}
+
+fn are_suited(extents: &[Extent], rows: &[u32], node: usize) -> bool
+    ensures only { IsTrue result → AreSuited extents.now node rows.now }
+    ensures every { AreSuited extents.now node rows.now → IsTrue result }
+{
+    cells_of(extents, rows) <= MOST_CELLS && are_before(extents, rows, node)
 }
 
 fn are_before(extents: &[Extent], rows: &[u32], node: usize) -> bool
@@ -129,15 +138,13 @@ fn is_before(node: usize, structure: Option<u32>) -> bool
     }
 }
 
-fn are_few(extents: &[Extent], rows: &[u32]) -> bool
-    ensures { IsTrue result → sum_by (cells_in extents.now) rows.now ≤ 1048576 }
+// The cells of these together; a number that doesn't fit counts as the greatest.
+fn cells_of(extents: &[Extent], rows: &[u32]) -> u64
+    ensures { result ≡ fitted (sum_by (cells_in extents.now) rows.now) }
 {
     let mut sum: u64 = 0;
     for row in rows {
         sum = sum.saturating_add(taken_by(extents, *row).cells);
-        if sum > MOST_CELLS {
-            return false;
-        }
     }
-    true
+    sum
 }

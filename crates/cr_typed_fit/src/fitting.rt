@@ -7,7 +7,8 @@ use std::alloc::{AllocError, Global};
 
 /// Whether the types of a typed unit have the cells and structures that the constraints let them have. The error is want of memory.
 pub fn fits(alloc: Global, typed: &Typed) -> Result<bool, AllocError>
-    ensures { IfOk result (λ fit. IsTrue fit → IsFitting typed.now) }
+    ensures only { IfOk result (λ fit. IsTrue fit → IsFitting typed.now) }
+    ensures every { IfOk result (λ fit. IsFitting typed.now → IsTrue fit) }
 {
     let extents = extents_of(alloc, &typed.shapes, typed.layouts.as_slice())?;
     Ok(has_room(typed, &extents))
