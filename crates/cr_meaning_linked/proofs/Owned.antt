@@ -107,7 +107,7 @@ module _ (t : Typed) (unit : AreOfUnit t) (order : AreListed t.nodes 0 t.items (
         | inr le ↦ whole_is t unit order x.own x.node x.at x.is q r mine its le (alone i q m d)
       ]
 
-  one_declaration : (i q j r : ℕ) (m n : Node) (d : IsDeclarer t.nodes token i q m) (e : IsDeclarer t.nodes token j r n) → i ≡ j
+  pub one_declaration : (i q j r : ℕ) (m n : Node) (d : IsDeclarer t.nodes token i q m) (e : IsDeclarer t.nodes token j r n) → i ≡ j
   one_declaration i q j r m n d e = elim d.declares [
     | inl own ↦ elim e.declares [
       | inl other ↦ one_parent t unit q i j (subst (λ y. IsPartOf t unit y i) own (part_of i q m d)) (subst (λ y. IsPartOf t unit y j) (other ∙ sym same) (part_of j r n e))

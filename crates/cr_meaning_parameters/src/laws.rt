@@ -1,0 +1,7 @@
+//! A law of the parameters of a unit's definitions. The program calls none of these functions.
+ghost use Rattle.cr_meaning_parameters.specs.Laws.{ParametersHaveTheirTypes};
+
+/// The objects of a definition's parameters have the types of its function's list.
+pub fn parameters_have_their_types()
+    ensures { ParametersHaveTheirTypes }
+{}
