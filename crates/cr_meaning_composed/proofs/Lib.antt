@@ -1,0 +1,10 @@
+pub mod Sizes
+pub mod Begun
+pub mod Apart
+pub mod Steps
+pub mod Named
+pub mod Standing
+pub mod Owning
+pub mod Planned
+pub mod Naming
+pub mod Owned
