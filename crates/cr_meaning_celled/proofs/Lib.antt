@@ -1,0 +1,4 @@
+pub mod Seen
+pub mod Names
+pub mod Types
+pub mod Cells

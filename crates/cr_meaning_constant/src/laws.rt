@@ -1,0 +1,12 @@
+//! Laws of names in constant initialisers. The program calls none of these functions.
+ghost use Rattle.cr_meaning_constant.specs.Laws.{AnchoredNamesLast, NamesAreToldOnce};
+
+/// A name of an object whose address is constant stands for no automatic object.
+pub fn anchored_names_last()
+    ensures { AnchoredNamesLast }
+{}
+
+/// A name that stands among no definition's parameters is told once.
+pub fn names_are_told_once()
+    ensures { NamesAreToldOnce }
+{}

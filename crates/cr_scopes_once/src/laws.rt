@@ -1,0 +1,12 @@
+//! Laws of names that are told once. The program calls none of these functions.
+ghost use Rattle.cr_scopes_once.specs.Laws.{NamesAreToldOnce, WhatIsVisibleIsMeant};
+
+/// A name is told no oftener than nodes lead to it.
+pub fn names_are_told_once()
+    ensures { NamesAreToldOnce }
+{}
+
+/// What is visible where an identifier without linkage is named is its declaration.
+pub fn visible_is_meant()
+    ensures { WhatIsVisibleIsMeant }
+{}
