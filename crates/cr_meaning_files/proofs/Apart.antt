@@ -21,13 +21,13 @@ use Rattle.cr_meaning_operations.specs.Shapes.{cells_of, cells_with, structure_c
 use Rattle.cr_meaning_operations.specs.Operations.{kind_if, kind_at, chosen_row, program_of}
 use Rattle.cr_meaning_declared.specs.Files.{IsUnitOfFile}
 use Rattle.cr_meaning_files.specs.Structures.{IsWhole, AreMembersWhole}
-use Rattle.cr_meaning_files.proofs.Cells.{elements, elements_few, Structured, before_structured}
+use Rattle.cr_meaning_files.proofs.Cells.{elements, elements_few, Structured, all_structured, before_structured}
 use Rattle.cr_meaning_files.proofs.Members.{IsChosen}
 use Rattle.cr_meaning_files.proofs.Made.{content_at, rows_at, sum_is}
 
 -- ---- lists
 
-map_flat_map : {X A B : Type 0} (h : A → B) (f : X → List A) (xs : List X) → map h (flat_map f xs) ≡ flat_map (λ x. map h (f x)) xs
+pub map_flat_map : {X A B : Type 0} (h : A → B) (f : X → List A) (xs : List X) → map h (flat_map f xs) ≡ flat_map (λ x. map h (f x)) xs
 map_flat_map h f [] = refl
 map_flat_map h f (x ∷ xs) = map-append h (f x) (flat_map f xs) ∙ ap (λ r. map h (f x) ++ r) (map_flat_map h f xs)
 
@@ -37,7 +37,7 @@ flat_map_same f g (x ∷ xs) h =
     ap (λ a. a ++ flat_map f xs) (All-head (λ x. f x ≡ g x) x xs h)
     ∙ ap (λ b. g x ++ b) (flat_map_same f g xs (All-tail (λ x. f x ≡ g x) x xs h))
 
-map_repeated : {X A : Type 0} (f : X → A) (n : ℕ) (xs : List X) → map f (repeated n xs) ≡ repeated n (map f xs)
+pub map_repeated : {X A : Type 0} (f : X → A) (n : ℕ) (xs : List X) → map f (repeated n xs) ≡ repeated n (map f xs)
 map_repeated f zero xs = refl
 map_repeated f (suc n) xs = map-append f xs (repeated n xs) ∙ ap (λ r. map f xs ++ r) (map_repeated f n xs)
 
@@ -70,7 +70,7 @@ one_of g f (row ∷ rows) (suc k) low same =
 -- ---- the kinds of cells
 
 -- they are the same whether an object is constant
-abbrev kinds_of : List (Scalar × Guard) → List Scalar
+abbrev pub kinds_of : List (Scalar × Guard) → List Scalar
 kinds_of cells = map (λ own. own.0) cells
 
 same_kinds : (f g : Bool → ℕ → List (Scalar × Guard)) (t : Typed) (node : ℕ) → ((c d : Bool) (j : ℕ) → j < node → kinds_of (f c j) ≡ kinds_of (g d j))
@@ -109,7 +109,7 @@ total g f (row ∷ rows) same =
     omega (arith, head, rest, all, sum)
 
 -- a value of a type has the cells of an object of it
-form_kinds : (t : Typed) (limits : Limits) (row : ℕ) (type : Qualified) → type_at t.shapes row ≡ type → IsWhole t type → kinds_in (program_of t limits) (form_by t row type) ≡ kinds_of (shape_of t type)
+pub form_kinds : (t : Typed) (limits : Limits) (row : ℕ) (type : Qualified) → type_at t.shapes row ≡ type → IsWhole t type → kinds_in (program_of t limits) (form_by t row type) ≡ kinds_of (shape_of t type)
 form_kinds t limits row (plain (Int k) c v) e whole = refl
 form_kinds t limits row (plain (Struct node) c v) e whole = ap (λ x. kinds_of (shape_of t x)) e
 form_kinds t limits row (plain of c v) e whole = absurd whole
@@ -132,7 +132,7 @@ module _ (file : List ℕ) (t : Typed) (it : IsUnitOfFile file t) where
       ∙ sym (map_flat_map (λ (own : Scalar × Guard). own.0) (λ row. cells_with (structure_cells k t) t e (type_at t.shapes row)) (slice_index_or t.members d []))
 
   -- those of a structure are those of its members
-  parts_are : (m d : ℕ) → d < length t.nodes → d < m → (c : Bool) → kinds_of (structure_cells m t c d) ≡ flat_map (λ row. kinds_of (shape_of t (type_at t.shapes row))) (slice_index_or t.members d [])
+  pub parts_are : (m d : ℕ) → d < length t.nodes → d < m → (c : Bool) → kinds_of (structure_cells m t c d) ≡ flat_map (λ row. kinds_of (shape_of t (type_at t.shapes row))) (slice_index_or t.members d [])
   parts_are zero d low a c = absurd (omega (arith, a))
   parts_are (suc m) d low a c =
       map_flat_map (λ (own : Scalar × Guard). own.0) (λ row. cells_with (structure_cells m t) t c (type_at t.shapes row)) (slice_index_or t.members d [])
@@ -159,6 +159,10 @@ module _ (file : List ℕ) (t : Typed) (it : IsUnitOfFile file t) where
             ap length (parts_are (length t.nodes) d low low c)
             ∙ total (λ row. kinds_of (shape_of t (type_at t.shapes row))) (row_cells t) (slice_index_or t.members d []) (rows_counted d low h)
             ∙ sym (sum_is file t it d low (ap (λ ns. scripts.kind_at ns d) (sym it.checked.by.elaborated.nodes_are) ∙ content_at (slice_get t.nodes d) content))
+
+    -- what has a type of objects has as many cells as its layout says
+    pub counted : (type : Qualified) → IsWhole t type → cells_of t type ≤ MOST_CELLS → length (kinds_of (shape_of t type)) ≡ cells_of t type
+    counted type whole few = counted_type t false type whole (all_structured (IsCounted t) (λ d. counted_below (suc d) d (omega arith)) type) few
 
     pub among : (limits : Limits) (i at : ℕ) (type : Qualified) → IsChosen it.unit.nodes t i (type_at t.shapes at) type
         → take (row_cells t (chosen_row t i (type_at t.shapes at))) (drop (offset_in t (type_at t.shapes at) (slice_index_or t.chosen i 0)) ((program_of t limits).kinds at))

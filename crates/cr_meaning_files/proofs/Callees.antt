@@ -1,6 +1,6 @@
 -- A call goes on with the body of the definition that is called, for which it enters the parameters (C11 6.5.2.2, 6.9.1).
 use Rattle.std.specs.Prelude.{codes}
-use Rattle.std.proofs.Common.{◌≡◌, ℕ, ◌==◌, Bool, true, false, List, [], None, Some, drop, map, slice_index_or, refl, sym, subst, ap, ◌∙◌, if◌then◌else◌}
+use Rattle.std.proofs.Common.{◌≡◌, ℕ, suc, ◌==◌, Bool, true, false, List, [], ◌∷◌, None, Some, length, drop, map, slice_get, slice_index_or, refl, sym, subst, ap, ◌∙◌, if◌then◌else◌}
 use Rattle.std.proofs.lemmas.Bool.{eqb-true}
 use Rattle.cr_ints.specs.declared.kind.IntKind.TheVariants.{Int as IntegerKind}
 use Rattle.cr_syntax.specs.declared.node.Kind.TheVariants as kind
@@ -13,13 +13,14 @@ use Rattle.cr_meaning.specs.declared.op.Parameter.{Parameter}
 use Rattle.cr_meaning.specs.declared.op.Callee.{Callee}
 use Rattle.cr_meaning.specs.declared.op.Callee.TheVariants as callee
 use Rattle.cr_meaning_operations.specs.Shapes.{named_type, value_type}
-use Rattle.cr_meaning_operations.specs.Operations.{kind_at, parts_at, part_at, entity_of, function_in, parameter_of, function_of, calls, is_text, callee_of}
+use Rattle.cr_meaning_operations.specs.Operations.{kind_if, kind_at, parts_at, part_at, entity_of, function_in, parameter_of, function_of, calls, is_text, callee_of}
 use Rattle.cr_meaning_soundness.specs.Sorts.{statement, IsAmong}
 use Rattle.cr_meaning_soundness.specs.Statements.{of_function}
 use Rattle.cr_meaning_typed.specs.Typing.{is_expression}
 use Rattle.cr_meaning_units.specs.Owned.{AreOfUnit}
 use Rattle.cr_meaning_declared.specs.Files.{IsUnitOfFile}
-use Rattle.cr_meaning_calls.specs.Calls.{IsCalled}
+use Rattle.cr_meaning_calls.specs.Calls.{IsParameter, IsCalled}
+use Rattle.cr_meaning_called.specs.Laws.{IsMeant, IsFitting}
 use Rattle.cr_meaning_sorts.specs.Table.{result_of, expression_sort, exits_at, sort_at, sorts_in}
 use Rattle.cr_meaning_files.specs.Reached.{is_definition}
 use Rattle.cr_meaning_files.specs.Files.{judgement_of, IsDeclaredSo}
@@ -45,6 +46,10 @@ of_program false false true d texts t definition parameters rest is_main e = abs
 of_program false false false true texts t definition parameters rest is_main e = absurd (cc e)
 of_program false false false false texts t definition parameters rest is_main e = record { parameters_are = cc e; rest_is = cc e; main_is = cc e }
 
+as_many : (f : ℕ → Parameter) (xs : List ℕ) → length (map f xs) ≡ length xs
+as_many f [] = refl
+as_many f (x ∷ xs) = ap suc (as_many f xs)
+
 module _ (file : List ℕ) (t : Typed) (it : IsUnitOfFile file t) (i : ℕ) where
   abbrev u : AreOfUnit t
   u = unit file t it
@@ -55,6 +60,10 @@ module _ (file : List ℕ) (t : Typed) (it : IsUnitOfFile file t) (i : ℕ) wher
   of_call : (parameters : List Parameter) (rest : ℕ) (is_main : Bool) → callee_of t i ≡ callee.Function parameters rest is_main → IsOf t definition parameters rest is_main
   of_call parameters rest is_main e =
       of_program (calls t i (codes "printf")) (calls t i (codes "putchar")) (calls t i (codes "exit")) (calls t i (codes "abort")) (map (λ part. is_text (value_type t part)) (drop 1 (parts_at t i))) t definition parameters rest is_main e
+
+  -- what is meant is a definition
+  pub defines_function : IsMeant file t it i definition → kind_at t definition ≡ kind.FunctionDefinition
+  defines_function h = ap kind_if h.defines.at ∙ h.body
 
   pub body_of : (parameters : List Parameter) (rest : ℕ) (is_main : Bool) → callee_of t i ≡ callee.Function parameters rest is_main → kind_at t definition ≡ kind.FunctionDefinition → IsBodyOf t u parameters rest
   body_of parameters rest is_main e defines =
@@ -79,16 +88,19 @@ module _ (file : List ℕ) (t : Typed) (it : IsUnitOfFile file t) (i : ℕ) wher
 
     pub called : (signature : Signature) → result_of t (judgement_of file t it) (Some t.main) ≡ form.Number IntegerKind
         → ((c : Callee) → callee_of t i ≡ c → is_of_library c ≡ true → IsCalled p t (sorts_in p t (judgement_of file t it)) signature c)
-        → (c : Callee) → callee_of t i ≡ c → IsDeclaredSo p t (judgement_of file t it) signature i c → IsCalled p t (sorts_in p t (judgement_of file t it)) signature c
-    called signature main library (callee.Function parameters rest is_main) e h =
+        → (IsMeant file t it i definition → IsFitting file t it p signature definition)
+        → (IsMeant file t it i definition → signature.more ≡ false) → (IsMeant file t it i definition → (k : ℕ) (own : Parameter) → slice_get (map (parameter_of t) (slice_index_or t.parameters definition [])) k ≡ Some own → IsParameter p t signature k own)
+        → (c : Callee) → callee_of t i ≡ c → IsDeclaredSo file t it i c → IsCalled p t (sorts_in p t (judgement_of file t it)) signature c
+    called signature main library fitting closed taken (callee.Function parameters rest is_main) e h =
         let own = of_call parameters rest is_main e in
+        let fits = fitting h in
         record {
           result = result_of t (judgement_of file t it) (Some definition);
-          gives = h.gives;
-          body = ap (sorts_in p t (judgement_of file t it)) (sym own.rest_is) ∙ body_sort h.defines;
+          gives = fits.gives;
+          body = ap (sorts_in p t (judgement_of file t it)) (sym own.rest_is) ∙ body_sort (defines_function h);
           main = λ is. ap (λ d. result_of t (judgement_of file t it) (Some d)) (eqb-true definition t.main (own.main_is ∙ is)) ∙ main;
-          count = h.count;
-          closed = h.closed;
-          each = h.each;
+          count = ap length (sym own.parameters_are) ∙ as_many (parameter_of t) (slice_index_or t.parameters definition []) ∙ fits.count;
+          closed = closed h;
+          each = λ k own_k f. taken h k own_k (ap (λ ps. slice_get ps k) own.parameters_are ∙ f);
         }
-    called signature main library c e h = library c e refl
+    called signature main library fitting closed taken c e h = library c e refl

@@ -26,7 +26,7 @@ use Rattle.cr_meaning_files.specs.Structures.{AreMembersWhole}
 use Rattle.cr_meaning_files.proofs.Made.{complete_whole}
 use Rattle.cr_meaning_files.proofs.Shaped.{shaped, surrounded}
 
-image : {A B : Type 0} (f : A → B) (xs : List A) (k : ℕ) (x : A) → slice_get xs k ≡ Some x → slice_get (map f xs) k ≡ Some (f x)
+pub image : {A B : Type 0} (f : A → B) (xs : List A) (k : ℕ) (x : A) → slice_get xs k ≡ Some x → slice_get (map f xs) k ≡ Some (f x)
 image f [] k x e = absurd (cc e)
 image f (y ∷ xs) zero x e = let same : y ≡ x = cc e in ap (λ z. Some (f z)) same
 image f (y ∷ xs) (suc k) x e = image f xs k x e

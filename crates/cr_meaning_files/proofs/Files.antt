@@ -1,5 +1,5 @@
 -- What the grammar and the check give of a file's unit isn't premised.
-use Rattle.std.proofs.Common.{◌≡◌, ℕ, ℤ, ◌<◌, ◌^◌, Bool, true, false, Option, None, Some, List, inl, refl, sym, ap, subst, ◌∙◌, slice_get, slice_index_or, arith, if◌then◌else◌}
+use Rattle.std.proofs.Common.{◌≡◌, ℕ, ℤ, ◌<◌, ◌^◌, Bool, true, false, Option, None, Some, List, [], map, inl, refl, sym, ap, subst, ◌∙◌, slice_get, slice_index_or, arith, if◌then◌else◌}
 use Rattle.std.proofs.lemmas.Bool.{false≢true}
 use Rattle.cr_ints.specs.declared.kind.IntKind.TheVariants.{Int as IntegerKind}
 use Rattle.cr_ints.specs.IntKind.{Represents}
@@ -32,26 +32,28 @@ use Rattle.cr_meaning.specs.declared.op.Callee.TheVariants.{Function}
 use Rattle.cr_meaning.specs.declared.run.Limits.{Limits}
 use Rattle.cr_meaning_soundness.specs.Sorts.{Sort}
 use Rattle.cr_meaning_operations.specs.Shapes.{type_of_node, named_type, kind_in}
-use Rattle.cr_meaning_operations.specs.Operations.{kind_if, kind_at, parts_if, parts_at, pointed, left_type, entity_of, function_in, callee_of, op_of, program_of}
+use Rattle.cr_meaning_operations.specs.Operations.{kind_if, kind_at, parts_if, parts_at, pointed, left_type, name_of, entity_of, function_in, parameter_of, callee_of, is_static_initialiser, op_of, program_of}
 use Rattle.cr_meaning_typed.specs.Placed.{IsNamed}
 use Rattle.cr_meaning_typed.specs.Typing.{has_value, is_asked, is_expression}
 use Rattle.cr_meaning_typed.specs.Whole as readable
 use Rattle.cr_meaning_typed.proofs.Units.{all_worth}
+use Rattle.cr_meaning_typed.proofs.Worth.{worth_typed}
 use Rattle.cr_meaning_judged.specs.Judged.{seen_in, source_of, scene_of, IsJudged}
 use Rattle.cr_meaning_judged.proofs.Judged.{judged}
 use Rattle.cr_meaning_declared.specs.Files.{IsUnitOfFile}
+use Rattle.cr_meaning_calls.specs.Calls.{IsParameter}
 use Rattle.cr_meaning_expressions.specs.Places.{HasCells, IsMemberIn}
 use Rattle.cr_meaning_sorts.specs.Table.{Judgement, sort_at, sorts_in}
 use Rattle.cr_meaning_sorts.specs.Founded.{is_known, is_followed, IsFound, AreInRange, AreReached, AreCalls}
-use Rattle.cr_meaning_whole.specs.Statements.{BlocksRise, IsIn, IsFounded}
+use Rattle.cr_meaning_whole.specs.Statements.{BlocksRise, IsIn, IsInitialised, IsFounded}
 use Rattle.cr_meaning_whole.specs.Whole.{IsReady}
 use Rattle.cr_meaning_whole.proofs.Around.{rise}
 use Rattle.cr_meaning_whole.proofs.Statements.{nodes}
 use Rattle.cr_meaning_whole.proofs.Whole.{outcomes}
 use Rattle.cr_meaning_files.specs.Reached.{is_item, is_definition, is_reached}
 use Rattle.cr_meaning_files.specs.Seen.{sees}
-use Rattle.cr_meaning_files.specs.Files.{judgement_of, AreRead, IsDefined, IsDeclaredSo, IsLeftOpen, FilesHaveOutcomes}
-use Rattle.cr_meaning_files.specs.Laws.{IsTold, AreTold, AreClosed, AreWorth, EnumeratorsAreNumbers, MainsAreDefined, LabelsStandAround, DeclaratorsSeeObjects}
+use Rattle.cr_meaning_files.specs.Files.{judgement_of, AreRead, IsDeclaredSo, IsLeftOpen, FilesHaveOutcomes}
+use Rattle.cr_meaning_files.specs.Laws.{IsTold, AreTold, AreClosed, AreWorth, EnumeratorsAreNumbers, MainsAreDefined, LabelsStandAround, DeclaratorsSeeObjects, EarlyNamesLast}
 use Rattle.cr_meaning_files.proofs.Filling.{unit}
 use Rattle.cr_meaning_files.proofs.Laid.{read_operand, laid_out}
 use Rattle.cr_meaning_files.proofs.Living.{reached_lives}
@@ -63,12 +65,18 @@ use Rattle.cr_meaning_files.proofs.Calls.{call_names, call_clear, text_there}
 use Rattle.cr_meaning_files.proofs.Library.{library_called}
 use Rattle.cr_meaning_files.proofs.Results.{function_gives, returned_given}
 use Rattle.cr_meaning_files.proofs.Followed.{followed_type}
+use Rattle.cr_meaning_called.specs.Laws.{IsMeant}
+use Rattle.cr_meaning_called.proofs.Fitting.{fitting}
+use Rattle.cr_meaning_called.proofs.Objects.{objects as parameters_taken}
+use Rattle.cr_meaning_closed.proofs.Closed.{calls_closed}
 use Rattle.cr_meaning_known.specs.Sighted.{AreSighted}
+use Rattle.cr_meaning_objects.proofs.Statics.{static_first}
 use Rattle.cr_meaning_found.proofs.Names.{declared as are_declared}
 use Rattle.cr_meaning_told.proofs.Asked.{all_found}
 use Rattle.cr_meaning_typedefs.proofs.Files.{no_enumerators}
 use Rattle.cr_meaning_files.proofs.Declared.{types_known, read, members_whole}
 use Rattle.cr_meaning_files.proofs.Returns.{result}
+use Rattle.cr_meaning_files.proofs.Shaped.{shaped}
 use Rattle.cr_meaning_files.proofs.Members.{chosen_type, member_chosen, pointed_chosen}
 use Rattle.cr_meaning_files.proofs.Made.{complete_whole, whole_object, member_in}
 use Rattle.cr_meaning_files.proofs.Apart.{among}
@@ -76,8 +84,13 @@ use Rattle.cr_meaning_files.proofs.Mains.{initialisers_run, names_here, main_def
 use Rattle.cr_meaning_files.proofs.Scoped.{IsScoped, AllReached, IsBodyOf, by_kind}
 use Rattle.cr_meaning_files.proofs.Sight.{declarators, initialised, literals, seen}
 use Rattle.cr_meaning_files.proofs.Lasting.{initialised_lasts}
-use Rattle.cr_meaning_files.proofs.Parameters.{named_seen}
-use Rattle.cr_meaning_files.proofs.Callees.{body_of, called}
+use Rattle.cr_meaning_files.proofs.Entered.{named_seen}
+use Rattle.cr_meaning_files.proofs.Early.{early_lasts, automatic_late}
+use Rattle.cr_meaning_files.proofs.Initialised.{initialises}
+use Rattle.cr_meaning_files.proofs.Started.{definition_item, main_has, gives}
+use Rattle.cr_meaning_files.proofs.Callees.{body_of, called, defines_function}
+use Rattle.cr_meaning_files.proofs.Shaped.{shaped}
+use Rattle.cr_meaning_files.proofs.Passed.{passed_types}
 use Rattle.cr_meaning_files.proofs.Labels.{gotos}
 
 -- a constant that is spelled has the operand of its spelling
@@ -175,16 +188,16 @@ module _ (file : List ℕ) (t : Typed) (it : IsUnitOfFile file t) where
       enumerator_is (type_at checked.table) _ _ v
       (numbered_by made_by.tree checked.texts checked.table checked.whole.typing made_by.is.whole.typing i (slice_index_or made_by.tree.visible.now node None)) e
 
+  -- what names and tags find is declared
+  sighted : AreSighted made_by.tree
+  sighted = are_declared file it.unit it.names checked.surroundings made_by.tree made_by.is.surroundings made_by.is.whole.tree (all_found file t it (record { typed = no_enumerators file t it }))
+
   module _ (limits : Limits) (left : IsLeftOpen file t it limits) (few : limits.output < 2 ^ 31) where
     abbrev j : Judgement
     j = judgement_of file t it
 
     abbrev p : Program
     p = program_of t limits
-
-    -- what names and tags find is declared
-    sighted : AreSighted made_by.tree
-    sighted = are_declared file it.unit it.names checked.surroundings made_by.tree made_by.is.surroundings made_by.is.whole.tree (all_found file t it (record { typed = no_enumerators file t it }))
 
     ranged : AreInRange t (judgement_of file t it)
     ranged i x v r known e f = of_kind (kind_at t i) refl known
@@ -219,14 +232,31 @@ module _ (file : List ℕ) (t : Typed) (it : IsUnitOfFile file t) where
     calls i r e =
         let n = closed.there i r in
         let named = call_names file t it (read file t it sighted) i n.0 n.1 (sym (ap kind_if n.1) ∙ e) in
+        let rule = is.ruled i n.0 n.1 in
         let returned = function_gives made_by.tree checked.texts checked.table checked.whole.typing made_by.is.whole.typing (λ b broken. made_by.sound.constraints b (inl broken)) i (slice_index_or made_by.tree.visible.now i None) _ named.0 named.1.0 in
         let is = sym (ap kind_if n.1) ∙ e in
-        let library = library_called file t it i n.0 n.1 is (program_of t limits) (sorts_in (program_of t limits) t (judgement_of file t it)) named.0 named.1.0 (call_clear file t it (read file t it sighted) i n.0 n.1 is named.0 named.1.0) in
+        let clear = call_clear file t it (read file t it sighted) i n.0 n.1 is named.0 named.1.0 in
+        let library = library_called file t it i n.0 n.1 is (program_of t limits) (sorts_in (program_of t limits) t (judgement_of file t it)) named.0 named.1.0 clear in
+        let given = returned_given named.0.gives returned named.1.1 in
+        let definition = function_in (named_type t (entity_of t i)) in
+        let typed = worth_typed (seen_in checked i).type (worth (read file t it sighted) i (ap (λ k. is_expression (form_of k)) e)) in
+        let worths : (k a : ℕ) → slice_get n.0.parts k ≡ Some a → has_value (seen_in checked a).type ≡ true = λ k a f.
+        worth (read file t it sighted) a ((told.expressions (read file t it sighted)).arguments i k a e (ap (λ o. slice_get (parts_if o) k) n.1 ∙ f)).expression in
+        let takes_no_more : IsMeant file t it i definition → named.0.more ≡ false = λ h.
+        let own = definition_item file t it definition h.own h.defines.at h.body in
+        calls_closed file t it (shaped file t it) sighted i definition own.0 named.0 named.1.0 h own.1 in
+        let taken : IsMeant file t it i definition → (k : ℕ) (own : Parameter) → slice_get (map (parameter_of t) (slice_index_or t.parameters definition [])) k ≡ Some own
+        → IsParameter (program_of t limits) t named.0 k own = λ h k own f.
+        parameters_taken file t it (shaped file t it) sighted limits i definition named.0 named.1.0 h
+        (passed_types named.0 (seen_in checked) (source_of made_by.tree checked i) i n.0 (rule ∙ ap (λ c. ruled (form_of c) (seen_in checked) (source_of made_by.tree checked i) i n.0) is) named.1.0 typed (takes_no_more h) worths clear.1)
+        k own f in
         record {
           signature = named.0;
           stands = named.1.0;
-          gives = returned_given named.0.gives returned named.1.1;
-          called = called file t it i (program_of t limits) named.0 left.mains.gives library (callee_of t i) refl (left.called i named.0 r e named.1.0);
+          gives = given;
+          called = called file t it i (program_of t limits) named.0 (gives file t it sighted limits) library
+              (λ meant. fitting file t it (shaped file t it) sighted (program_of t limits) i definition named.0 named.1.0 given meant) takes_no_more taken (callee_of t i) refl
+              (left.called i named.0 r e named.1.0);
         }
 
     members : (i a : ℕ) → is_reached t i ≡ true → kind_at t i ≡ kind.Member → slice_get (parts_at t i) 0 ≡ Some a → IsFound t limits (judgement_of file t it) i a
@@ -265,7 +295,13 @@ module _ (file : List ℕ) (t : Typed) (it : IsUnitOfFile file t) where
         whole_object file t it (members_whole file t it sighted) (type_of_node t i) (complete_whole t i (type_of_node t i) complete) (made_by.fits.cells_fit (slice_index_or t.types i 0))
 
     objects : (i : ℕ) (n : Node) → is_reached t i ≡ true → slice_get t.nodes i ≡ Some n → n.kind ≡ kind.Identifier → (seen_in checked i).lvalue ≡ true → IsNamed p t i × (sees t i (entity_of t i) ≡ true)
-    objects i n r at is l = let own = left.visible i n r at is l in (own.0, named_seen file t it i (ap kind_if at ∙ is) own.1)
+    objects i n r at is l = let own = left.visible i n r at is l in (own.0, named_seen file t it i (ap kind_if at ∙ is) (automatic_late file t it sighted (worth (read file t it sighted)) i n at is r l) own.1)
+
+    -- the lines of an initialised declarator
+    completes : (i : ℕ) → is_reached t i ≡ true → kind_at t i ≡ kind.InitDeclarator → sees t i (entity_of t (name_of t i)) ≡ true → IsInitialised p t j (sees t) i
+    completes i r e seen =
+        let n = closed.there i r in
+        initialises file t it sighted (members_whole file t it sighted) (worth (read file t it sighted)) limits i n.0 n.1 (left.completed i r e) seen
 
     founded : IsFounded t limits j (scene_of made_by.tree checked) (sees t)
     founded = record {
@@ -293,7 +329,7 @@ module _ (file : List ℕ) (t : Typed) (it : IsUnitOfFile file t) where
         gotos = λ i r e. let n = closed.there i r in gotos file t it i n.0 n.1 e;
         declarators = declarators file t it;
         names = names_here t;
-        initialised = λ i r e. left.stated.initialised i r e (initialised file t it i r e (initialised_lasts file t it i e (left.stated.statics i)));
+        initialised = λ i r e. completes i r e (initialised file t it i r e (initialised_lasts file t it i e (λ h. static_first file t it (shaped file t it) sighted (name_of t i) (sym (ap (is_static_initialiser t i) e) ∙ h))));
       };
     }
 
@@ -313,8 +349,8 @@ module _ (file : List ℕ) (t : Typed) (it : IsUnitOfFile file t) where
     goes_on i r e parameters rest is_main same =
         let n = closed.there i r in
         let named = call_names file t it (read file t it sighted) i n.0 n.1 (sym (ap kind_if n.1) ∙ e) in
-        let defined : IsDefined p t j named.0 (function_in (named_type t (entity_of t i))) parameters = subst (IsDeclaredSo p t j named.0 i) same (left.called i named.0 r e named.1.0) in
-        body_of file t it i parameters rest is_main same defined.defines
+        let own : IsMeant file t it i (function_in (named_type t (entity_of t i))) = subst (IsDeclaredSo file t it i) same (left.called i named.0 r e named.1.0) in
+        body_of file t it i parameters rest is_main same (defines_function file t it i own)
 
     scoped : (i : ℕ) → is_reached t i ≡ true → IsScoped file t it i (op_of t i)
     scoped i r = let n = closed.there i r in by_kind file t it goes_on i n.0 n.1 (kind_at t i) refl (parts_run i r) r
@@ -323,10 +359,10 @@ module _ (file : List ℕ) (t : Typed) (it : IsUnitOfFile file t) where
     ready = record {
       founded = founded;
       started = record {
-        parameters = left.mains.parameters;
+        parameters = (main_has file t it sighted limits).parameters;
         body_runs = body_runs file t it;
         body_plain = ap (λ k. is_expression (form_of k)) (body_kind file t it);
-        body_exits = body_exits file t it left.mains.gives;
+        body_exits = body_exits file t it (gives file t it sighted limits);
         initialisers_run = initialisers_run file t it;
       };
       seen = seen file t it limits scoped;
@@ -352,6 +388,9 @@ labelled file t it i r e = let n = (closed file t it).there i r in gotos file t 
 
 pub see : DeclaratorsSeeObjects
 see file t it i r h = declarators file t it i r h
+
+pub before_main : EarlyNamesLast
+before_main file t it i n at is r lvalue early = let s = sighted file t it in early_lasts file t it s (worth file t it (read file t it s)) i n at is r lvalue early
 
 pub files : FilesHaveOutcomes
 files file t it limits left cells few reply run =

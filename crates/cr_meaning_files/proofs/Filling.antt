@@ -72,7 +72,7 @@ parts_same : (o : Option Node) → initial_parts_if o ≡ parts_if o
 parts_same None = refl
 parts_same (Some n) = refl
 
-text_kind : (o : Option Node) → is_text_if o ≡ true → kind_if o ≡ kind.Text
+pub text_kind : (o : Option Node) → is_text_if o ≡ true → kind_if o ≡ kind.Text
 text_kind None e = absurd (false≢true e)
 text_kind (Some n) e = of_kind n.kind e
   where
@@ -100,9 +100,13 @@ holds_one k static equals (y ∷ xs) h zero x e b among =
 holds_one k static equals (y ∷ xs) h (suc m) x e b among =
     holds_one k static equals xs (λ c a. h c (among_right c (faults_of k static equals y) (plan_faults k static equals xs) a)) m x e b among
 
-typed_well : (k : Known) (static : Bool) (equals : ℕ) (place : Place) (node user : ℕ) → HoldsAll (faults_of k static equals (put place node user)) → is_badly_typed k place.type node ≡ false
+pub typed_well : (k : Known) (static : Bool) (equals : ℕ) (place : Place) (node user : ℕ) → HoldsAll (faults_of k static equals (put place node user)) → is_badly_typed k place.type node ≡ false
 typed_well k static equals place node user h =
     unbroken 37 equals (is_badly_typed k place.type node) (fault 13 (k.first node) (is_bad_literal k place.type node) ∷ fault 12 (k.first node) (is_varying k static node) ∷ []) h
+
+pub spelled_well : (k : Known) (static : Bool) (equals : ℕ) (place : Place) (node user : ℕ) → HoldsAll (faults_of k static equals (put place node user)) → is_bad_literal k place.type node ≡ false
+spelled_well k static equals place node user h =
+    unbroken 13 (k.first node) (is_bad_literal k place.type node) (fault 12 (k.first node) (is_varying k static node) ∷ []) (λ b among. h b (inr among))
 
 -- where nothing is planned nothing is put
 nothing_put : (k : Known) (d : ℕ) (o : Option Planned) (type named : Qualified) (xs : List Entry) → o ≡ None → IsFilled k d o type named xs → xs ≡ []
@@ -120,13 +124,13 @@ literal_alone k (array n t) node a u h = by (k.literal node) (is_unknown (k.seen
     by false true e h = absurd (false≢true (sym e))
     by false false e h = absurd (false≢true (sym h))
 
-known_type : (t : Qualified) → has_value t ≡ true → is_unknown t ≡ false
+pub known_type : (t : Qualified) → has_value t ≡ true → is_unknown t ≡ false
 known_type (plain Unknown c v) h = absurd (false≢true h)
 known_type (plain of c v) h = refl
 known_type (pointer c v t) h = refl
 known_type (array n t) h = refl
 
-entry_get : (shapes : List Shape) (lines : List Line) (m : ℕ) (x : Line) → slice_get lines m ≡ Some x → slice_get (map (entry_of shapes) lines) m ≡ Some (entry_of shapes x)
+pub entry_get : (shapes : List Shape) (lines : List Line) (m : ℕ) (x : Line) → slice_get lines m ≡ Some x → slice_get (map (entry_of shapes) lines) m ≡ Some (entry_of shapes x)
 entry_get shapes [] m x e = absurd (cc e)
 entry_get shapes (y ∷ lines) zero x e = let same : y ≡ x = cc e in ap (λ z. Some (entry_of shapes z)) same
 entry_get shapes (y ∷ lines) (suc m) x e = entry_get shapes lines m x e
@@ -144,16 +148,16 @@ module _ (file : List ℕ) (t : Typed) (it : IsUnitOfFile file t) where
   abbrev shapes : List Shape
   shapes = it.checked.checked.table
 
-  nodes_are : made_by.tree.nodes.now ≡ t.nodes
+  pub nodes_are : made_by.tree.nodes.now ≡ t.nodes
   nodes_are = made_by.is.whole.tree.nodes ∙ sym made_by.elaborated.nodes_are
 
-  abbrev known : ℕ → Known
+  abbrev pub known : ℕ → Known
   known d = known_in shapes made_by.tree (cut d typing)
 
-  listed_is : (i : ℕ) → is_list_if (slice_get made_by.tree.nodes.now i) ≡ is_list (kind_at t i)
+  pub listed_is : (i : ℕ) → is_list_if (slice_get made_by.tree.nodes.now i) ≡ is_list (kind_at t i)
   listed_is i = list_if (slice_get made_by.tree.nodes.now i) ∙ ap (λ ns. is_list (kind_if (slice_get ns i))) nodes_are
 
-  initialisers_are : (i : ℕ) → initial_parts_if (slice_get made_by.tree.nodes.now i) ≡ parts_at t i
+  pub initialisers_are : (i : ℕ) → initial_parts_if (slice_get made_by.tree.nodes.now i) ≡ parts_at t i
   initialisers_are i = parts_same (slice_get made_by.tree.nodes.now i) ∙ ap (λ ns. parts_if (slice_get ns i)) nodes_are
 
   -- what fills an array is put there by a declarator
@@ -162,13 +166,19 @@ module _ (file : List ℕ) (t : Typed) (it : IsUnitOfFile file t) where
     pub user : ℕ
     pub put : IsPut t unit declarator user a
     pub single : is_list (kind_at t a) ≡ false
+    pub is : kind_at t declarator ≡ kind.InitDeclarator
+    pub number : ℕ
+    pub own : Put
+    pub own_at : slice_get (slice_index_or typing.lines declarator []) number ≡ Some (line.Put own)
+    pub own_is : own.node ≡ a
+    pub arranged : is_array (type_at shapes own.row) ≡ true
     pub text : has_value (seen_in it.checked.checked a).type ≡ true → kind_at t a ≡ kind.Text
 
   module _ (d : ℕ) (n : Node) (at : slice_get t.nodes d ≡ Some n) where
-    ruled : IsRuled made_by.tree it.checked.checked.texts shapes (cut d typing) (entry_at typing d) d n
+    pub ruled : IsRuled made_by.tree it.checked.checked.texts shapes (cut d typing) (entry_at typing d) d n
     ruled = subst (IsRuledIf made_by.tree it.checked.checked.texts shapes (cut d typing) (entry_at typing d) d) (ap (λ ns. slice_get ns d) nodes_are ∙ at) (made_by.is.whole.typing.each d)
 
-    abbrev lines : List Line
+    abbrev pub lines : List Line
     lines = slice_index_or typing.lines d []
 
     entries : AreEntries t unit d (entries_of shapes lines)
@@ -180,8 +190,24 @@ module _ (file : List ℕ) (t : Typed) (it : IsUnitOfFile file t) where
     unfolding entries_of
     entries_at = entries
 
+    -- what has an entry is an initialised declarator
+    pub nothing_there : (k : Kind) → n.kind ≡ k → planned_by k (cut d typing).layouts (object_in shapes (cut d typing) n) n.parts ≡ None → (m : ℕ) (x : Entry) → slice_get (map (entry_of shapes) lines) m ≡ Some x → ⊥
+    unfolding entries_of
+    nothing_there k is nothing m x e =
+        let unplanned = ap (λ c. planned_by c (cut d typing).layouts (object_in shapes (cut d typing) n) n.parts) is ∙ nothing in
+        let empty : map (entry_of shapes) lines ≡ [] = nothing_put (known d) d _ _ _ (map (entry_of shapes) lines) unplanned ruled.filled in
+        let never : slice_get [] m ≡ Some x = ap (λ xs. slice_get xs m) (sym empty) ∙ e in
+        cc never
+
+    pub initialised : (m : ℕ) (x : Entry) → slice_get (map (entry_of shapes) lines) m ≡ Some x → n.kind ≡ kind.InitDeclarator
+    initialised m x e = by n.kind refl
+      where
+        by : (k : Kind) → n.kind ≡ k → n.kind ≡ kind.InitDeclarator
+        by kind.InitDeclarator is = is
+        by k is = absurd (nothing_there k is refl m x e)
+
     -- no entry breaks a constraint
-    holds : (m : ℕ) (x : Entry) → slice_get (map (entry_of shapes) lines) m ≡ Some x → HoldsAll (faults_of (known d) (is_static made_by.tree (before_in shapes (cut d typing)).specified (Some d)) (equals_before made_by.tree.nodes.now n) x)
+    pub holds : (m : ℕ) (x : Entry) → slice_get (map (entry_of shapes) lines) m ≡ Some x → HoldsAll (faults_of (known d) (is_static made_by.tree (before_in shapes (cut d typing)).specified (Some d)) (equals_before made_by.tree.nodes.now n) x)
     unfolding entries_of
     holds m x e = by n.kind refl
       where
@@ -193,24 +219,17 @@ module _ (file : List ℕ) (t : Typed) (it : IsUnitOfFile file t) where
               among = subst (λ o. IsNodeBreak made_by.tree it.checked.checked.texts shapes (cut d typing) (entry_at typing d) d o b) (sym (ap (λ ns. slice_get ns d) nodes_are ∙ at)) (inr (inr (inl among)));
             }))
 
-        none : (k : Kind) → n.kind ≡ k → planned_by k (cut d typing).layouts (object_in shapes (cut d typing) n) n.parts ≡ None → HoldsAll (faults_of (known d) (is_static made_by.tree (before_in shapes (cut d typing)).specified (Some d)) (equals_before made_by.tree.nodes.now n) x)
-        none k is nothing =
-            let unplanned = ap (λ c. planned_by c (cut d typing).layouts (object_in shapes (cut d typing) n) n.parts) is ∙ nothing in
-            let empty : map (entry_of shapes) lines ≡ [] = nothing_put (known d) d _ _ _ (map (entry_of shapes) lines) unplanned ruled.filled in
-            let never : slice_get [] m ≡ Some x = ap (λ xs. slice_get xs m) (sym empty) ∙ e in
-            absurd (cc never)
-
         by : (k : Kind) → n.kind ≡ k → HoldsAll (faults_of (known d) (is_static made_by.tree (before_in shapes (cut d typing)).specified (Some d)) (equals_before made_by.tree.nodes.now n) x)
         by kind.InitDeclarator is =
             holds_one (known d) (is_static made_by.tree (before_in shapes (cut d typing)).specified (Some d)) (equals_before made_by.tree.nodes.now n) (map (entry_of shapes) lines)
             (λ b among. (subst (λ c. HoldsAll (faults_in c (known d) made_by.tree (before_in shapes (cut d typing)) (entry_at typing d).own.declarator.sizeless (object_in shapes (cut d typing) n)
             (type_at shapes (entry_at typing d).own.named) (map (entry_of shapes) lines) d n)) is all) b (inr among)) m x e
-        by k is = none k is refl
+        by k is = absurd (nothing_there k is refl m x e)
 
     -- ---- a literal that fills an array
 
     -- what a node has before the declarator is what it has
-    seen_low : (a : ℕ) → a < d → facts_at shapes (cut d typing).facts a ≡ seen_in it.checked.checked a
+    pub seen_low : (a : ℕ) → a < d → facts_at shapes (cut d typing).facts a ≡ seen_in it.checked.checked a
     seen_low a low = ap (seen_at shapes) (get_or-take d typing.facts a no_fact low)
 
     text_at : (m : ℕ) (x : Put) → slice_get lines m ≡ Some (line.Put x) → is_array (type_at shapes x.row) ≡ true → x.node < d → has_value (seen_in it.checked.checked x.node).type ≡ true → kind_at t x.node ≡ kind.Text
@@ -231,6 +250,12 @@ module _ (file : List ℕ) (t : Typed) (it : IsUnitOfFile file t) where
           user = x.user;
           put = own.0;
           single = own.1;
+          is = ap kind_if at ∙ initialised m (entry_of shapes (line.Put x)) (entry_get shapes lines m (line.Put x) e);
+          number = m;
+          own = x;
+          own_at = e;
+          own_is = refl;
+          arranged = both.1;
           text = λ worth. text_at m x e both.1 own.0.under worth;
         })
     filling_line m a (line.Excess list) e f = absurd (false≢true f)

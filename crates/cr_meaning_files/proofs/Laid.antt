@@ -25,11 +25,12 @@ use Rattle.cr_meaning_judged.proofs.Judged.{judged}
 use Rattle.cr_meaning_names.proofs.Parents.{IsPartOf, above_is, one_parent}
 use Rattle.cr_meaning_declared.specs.Files.{IsUnitOfFile}
 use Rattle.cr_meaning_sorts.specs.Founded.{IsOperand, AreLaidOut}
+use Rattle.cr_meaning_initialised.proofs.Twice.{one_place}
 use Rattle.cr_meaning_files.specs.Reached.{is_list, is_listing}
 use Rattle.cr_meaning_files.specs.Files.{judgement_of}
 use Rattle.cr_meaning_files.proofs.Grammar.{part_in, is_of}
 use Rattle.cr_meaning_files.proofs.Tables.{is_expression_part, expression_there, asked, argument, counts, counted_there, asked_there}
-use Rattle.cr_meaning_files.proofs.Tree.{HasPart, has_part, as_part, exactly, needed, one_place}
+use Rattle.cr_meaning_files.proofs.Tree.{HasPart, has_part, as_part, exactly, needed}
 use Rattle.cr_meaning_files.proofs.Filling.{unit, filling}
 
 module _ (file : List ℕ) (t : Typed) (it : IsUnitOfFile file t) where
@@ -83,7 +84,7 @@ module _ (file : List ℕ) (t : Typed) (it : IsUnitOfFile file t) where
       ap (λ vs. slice_index_or vs a false) made_by.elaborated.valued ∙ listed_at (valued_of it.unit.nodes made_by.columns) (length it.unit.nodes) a false (omega (arith, low, count))
 
   -- a place is used as a value, but where its node takes a place
-  valued_is : (i k a : ℕ) → HasPart t (unit file t it) i k a → is_filling made_by.columns a ≡ false
+  pub valued_is : (i k a : ℕ) → HasPart t (unit file t it) i k a → is_filling made_by.columns a ≡ false
       → slice_index_or t.valued a false ≡ ((seen_in checked a).lvalue && not ((k == 0) && takes_place (form_of (kind_at t i))))
   valued_is i k a h unfilled =
       let part = as_part t (unit file t it) i k a h in

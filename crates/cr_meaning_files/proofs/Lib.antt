@@ -31,5 +31,15 @@ pub mod Lasting
 pub mod Named
 pub mod Library
 pub mod Parameters
+pub mod Outside
+pub mod Passed
 pub mod Callees
+pub mod Completed
+pub mod Small
+pub mod Whole
+pub mod Initialised
+pub mod Started
+pub mod Planned
+pub mod Early
+pub mod Entered
 pub mod Files

@@ -43,7 +43,7 @@ use Rattle.cr_meaning_files.proofs.Tree.{has_part, needed}
 use Rattle.cr_meaning_files.proofs.Filling.{unit}
 use Rattle.cr_meaning_files.proofs.Members.{IsChosen, chosen_type, member_rows}
 
-map_map : {A B C : Type 0} (f : B → C) (g : A → B) (xs : List A) → map f (map g xs) ≡ map (λ x. f (g x)) xs
+pub map_map : {A B C : Type 0} (f : B → C) (g : A → B) (xs : List A) → map f (map g xs) ≡ map (λ x. f (g x)) xs
 map_map f g [] = refl
 map_map f g (x ∷ xs) = ap (λ ys. f (g x) ∷ ys) (map_map f g xs)
 
@@ -134,7 +134,7 @@ module _ (file : List ℕ) (t : Typed) (it : IsUnitOfFile file t) where
 
   -- ---- the layouts are those that were checked
 
-  layouts_at : (d : ℕ) → slice_index_or t.layouts d nothing ≡ slice_index_or typing.layouts d nothing
+  pub layouts_at : (d : ℕ) → slice_index_or t.layouts d nothing ≡ slice_index_or typing.layouts d nothing
   layouts_at d = elim (cases_lt d (length it.unit.nodes)) [
     | inl low ↦
         ap (λ ls. slice_index_or ls d nothing) made_by.elaborated.layouts_are ∙ listed_at (layout_at made_by.columns) (length it.unit.nodes) d nothing low
@@ -146,7 +146,7 @@ module _ (file : List ℕ) (t : Typed) (it : IsUnitOfFile file t) where
         get_or_past t.layouts d nothing (omega (arith, own, count, past)) ∙ sym (get_or_past typing.layouts d nothing (omega (arith, theirs, nodes, past))))
   ]
 
-  early_single : (d : ℕ) (type : Qualified) → IsBefore d type → single_of (take d typing.layouts) (element_of type) ≡ single_of t.layouts (element_of type)
+  pub early_single : (d : ℕ) (type : Qualified) → IsBefore d type → single_of (take d typing.layouts) (element_of type) ≡ single_of t.layouts (element_of type)
   early_single d (plain (Struct inner) c v) low = get_or-take d typing.layouts inner nothing low ∙ sym (layouts_at inner)
   early_single d (plain of c v) low = refl
   early_single d (to c v below) low = refl
@@ -195,7 +195,7 @@ module _ (file : List ℕ) (t : Typed) (it : IsUnitOfFile file t) where
       let there : slice_get made_by.tree.nodes.now d ≡ Some n = ap (λ ns. slice_get ns d) (made_by.is.whole.tree.nodes ∙ sym made_by.elaborated.nodes_are) ∙ at in
       subst (IsRuledIf made_by.tree checked.texts checked.table (cut d typing) (entry_at typing d) d) there (h.each d)
 
-  rows_some : (d : ℕ) → d < length t.nodes → kind_at t d ≡ kind.StructContent → 1 ≤ length (slice_index_or t.members d [])
+  pub rows_some : (d : ℕ) → d < length t.nodes → kind_at t d ≡ kind.StructContent → 1 ≤ length (slice_index_or t.members d [])
   rows_some d low content =
       let u = unit file t it in
       let p = part_at t d 0 in

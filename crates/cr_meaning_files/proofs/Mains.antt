@@ -1,6 +1,6 @@
 -- `main` is a definition, whose body is reached (C11 5.1.2.2.1).
-use Rattle.std.proofs.Common.{◌≡◌, ℕ, zero, suc, ◌<◌, inl, inr, Bool, true, false, List, [], Option, None, Some, length, slice_get, refl, sym, ap, subst, ◌∙◌, arith, if◌then◌else◌}
-use Rattle.std.proofs.lemmas.Bool.{and_parts, and_from, false≢true, cases_lt, or_right}
+use Rattle.std.proofs.Common.{◌≡◌, ℕ, zero, suc, ◌<◌, true, false, List, [], Option, None, Some, length, slice_get, refl, sym, ap, subst, ◌∙◌, arith, if◌then◌else◌}
+use Rattle.std.proofs.lemmas.Bool.{and_parts, false≢true, or_right}
 use Rattle.std.proofs.lemmas.Option.{slice_get_within}
 use Rattle.cr_ints.specs.declared.kind.IntKind.TheVariants.{Int as IntegerKind}
 use Rattle.cr_syntax.specs.declared.node.Kind.{Kind}
@@ -9,17 +9,12 @@ use Rattle.cr_syntax.specs.declared.node.Node.{Node}
 use Rattle.cr_syntax.specs.Tables.{rule_of, side_of}
 use Rattle.cr_syntax_nodes.specs.Nodes.{least}
 use Rattle.cr_scopes_events.specs.Scripts as scripts
-use Rattle.cr_scopes_events.specs.Declarators.{declarator_of}
 use Rattle.cr_check_enclosing.specs.declared.context.Around.{Around}
 use Rattle.cr_check_enclosing.specs.Around.{inside}
 use Rattle.cr_check_expressions.specs.Forms.{form_of}
-use Rattle.cr_check_definitions.specs.Known.{Known}
-use Rattle.cr_check_definitions.specs.Mains.{is_main_by, is_main, has_main, is_named_main, has_mains_type}
-use Rattle.cr_check_definitions.specs.Mains as mains
-use Rattle.cr_check.specs.Columns.{known_in}
 use Rattle.cr_typed.specs.declared.typed.Typed.{Typed}
-use Rattle.cr_typed_columns.specs.Reading.{Parsed, parsed_of}
-use Rattle.cr_typed_columns.specs.Entities.{declared_token, is_definition as is_definition_if}
+use Rattle.cr_typed_columns.specs.Reading.{parsed_of}
+use Rattle.cr_typed_columns.specs.Entities.{is_definition as is_definition_if}
 use Rattle.cr_typed_columns.specs.Functions as functions
 use Rattle.cr_typed_unit.specs.Typed.{IsTypedBy}
 use Rattle.cr_meaning.specs.declared.op.Form.{Form}
@@ -31,6 +26,7 @@ use Rattle.cr_meaning_soundness.specs.Statements.{of_function}
 use Rattle.cr_meaning_sorts.specs.Table.{labels_of, result_of, exits_at}
 use Rattle.cr_meaning_units.specs.Owned.{AreOfUnit}
 use Rattle.cr_meaning_declared.specs.Files.{IsUnitOfFile}
+use Rattle.cr_meaning_mains.proofs.Mains.{main_is}
 use Rattle.cr_meaning_whole.proofs.Whole.{is_initialiser}
 use Rattle.cr_meaning_whole.specs.Statements.{is_statement}
 use Rattle.cr_meaning_sorts.specs.Founded.{is_followed}
@@ -39,7 +35,7 @@ use Rattle.cr_meaning_files.proofs.Grammar.{part_in, Stands}
 use Rattle.cr_meaning_files.proofs.Tree.{HasPart, has_part, as_part, needed}
 use Rattle.cr_meaning_files.proofs.Living.{starts, body_lives, reach, unfollowed}
 use Rattle.cr_meaning_files.specs.Files.{judgement_of}
-use Rattle.cr_meaning_files.proofs.Filling.{unit, found}
+use Rattle.cr_meaning_files.proofs.Filling.{unit}
 use Rattle.cr_meaning_files.proofs.Laid.{around_at}
 
 only_definition : (o : Option Kind) → is_definition_if o ≡ true → o ≡ Some kind.FunctionDefinition
@@ -62,19 +58,6 @@ definition_counts = refl
 starts_kind : (t : Typed) (a : ℕ) (k : Kind) → is_static_initialiser t a k ≡ true → (is_statement k ≡ true) × (is_followed k ≡ false)
 starts_kind t a kind.InitDeclarator e = (refl, refl)
 starts_kind t a k e = absurd (false≢true e)
-
--- the last node that defines main does
-last_main : (file : List ℕ) (u : Parsed) (m i : ℕ) → i < m → functions.is_main file u i ≡ true → functions.is_main file u (functions.main_below file u m) ≡ true
-last_main file u zero i low e = absurd (omega (arith, low))
-last_main file u (suc m) i low e = by (functions.is_main file u m) refl (λ less. last_main file u m i less e)
-  where
-    by : (b : Bool) → functions.is_main file u m ≡ b → (i < m → functions.is_main file u (functions.main_below file u m) ≡ true)
-        → functions.is_main file u (if functions.is_main file u m then m else functions.main_below file u m) ≡ true
-    by true q rest = ap (λ b. functions.is_main file u (if b then m else functions.main_below file u m)) q ∙ q
-    by false q rest = ap (λ b. functions.is_main file u (if b then m else functions.main_below file u m)) q ∙ rest (elim (cases_lt i m) [
-      | inl less ↦ less
-      | inr ge ↦ (let same : i ≡ m = omega (arith, low, ge) in absurd (false≢true (sym q ∙ ap (functions.is_main file u) (sym same) ∙ e)))
-    ])
 
 -- a body gives what its function gives
 inside_function : (labels : Option ℕ → List ℕ) (result : Option ℕ → Form) (definition : ℕ) (a : Around) → labels None ≡ []
@@ -101,9 +84,6 @@ module _ (file : List ℕ) (t : Typed) (it : IsUnitOfFile file t) where
   abbrev u : AreOfUnit t
   u = unit file t it
 
-  abbrev known : Known
-  known = known_in file it.unit it.checked.checked
-
   -- ---- initialisers of static objects
 
   pub initialisers_run : (k a : ℕ) → slice_get (nodes_from (is_static_initialiser t) 0 t.nodes) k ≡ Some a → is_reached t a ≡ true
@@ -114,33 +94,9 @@ module _ (file : List ℕ) (t : Typed) (it : IsUnitOfFile file t) where
 
   -- ---- main
 
-  of_item : (item : ℕ) (o : Option Kind) → scripts.kind_at it.unit.nodes item ≡ o → is_main_by known item o ≡ true → (item < length it.unit.nodes) × (functions.is_main file (parsed_of it.unit) item ≡ true)
-  of_item item None e h = absurd (false≢true h)
-  of_item item (Some k) e h = by k e h
-    where
-      within : (o : Option Node) → slice_get it.unit.nodes item ≡ o → (c : Kind) → scripts.kind_if o ≡ Some c → item < length it.unit.nodes
-      within None at c f = absurd (cc f)
-      within (Some n) at c f = slice_get_within it.unit.nodes item n at
-
-      spelled : (o : Option ℕ) → mains.is_main_if known o ≡ true → functions.is_spelled_main file (parsed_of it.unit).tokens (declared_token it.unit.nodes o) ≡ true
-      spelled None f = absurd (false≢true f)
-      spelled (Some d) f = by (declarator_of it.unit.nodes d).name (and_parts (is_named_main known d) (has_mains_type (known.stands d)) f).0
-        where
-          by : (o : Option ℕ) → mains.is_spelled_main known o ≡ true → functions.is_spelled_main file (parsed_of it.unit).tokens o ≡ true
-          by None g = absurd (false≢true g)
-          by (Some token) g = g
-
-      by : (k : Kind) → scripts.kind_at it.unit.nodes item ≡ Some k → is_main_by known item (Some k) ≡ true → (item < length it.unit.nodes) × (functions.is_main file (parsed_of it.unit) item ≡ true)
-      by kind.FunctionDefinition e h =
-          (within (slice_get it.unit.nodes item) refl kind.FunctionDefinition e, and_from _ _ (ap is_definition_if e) (spelled (slice_get (scripts.parts_at it.unit.nodes item) 1) h))
-      by k e h = absurd (false≢true h)
-
   pub main_defined : kind_at t t.main ≡ kind.FunctionDefinition
   main_defined =
-      let item = found (is_main known) it.unit.items (and_parts (has_main known it.unit.items) _ made_by.sound.defined).0 in
-      let there = of_item item.item (scripts.kind_at it.unit.nodes item.item) refl item.passes in
-      let last = last_main file (parsed_of it.unit) (length it.unit.nodes) item.item there.0 there.1 in
-      let defined = only_definition (scripts.kind_at it.unit.nodes (functions.main_of file (parsed_of it.unit))) (and_parts _ _ last).0 in
+      let defined = only_definition (scripts.kind_at it.unit.nodes (functions.main_of file (parsed_of it.unit))) (and_parts _ _ (main_is file t it)).0 in
       ap (kind_at t) made_by.elaborated.main ∙ of_kind (slice_get t.nodes (functions.main_of file (parsed_of it.unit))) (ap (λ ns. scripts.kind_at ns (functions.main_of file (parsed_of it.unit))) made_by.elaborated.nodes_are ∙ defined)
     where
       of_kind : (o : Option Node) → scripts.kind_if o ≡ Some kind.FunctionDefinition → kind_if o ≡ kind.FunctionDefinition

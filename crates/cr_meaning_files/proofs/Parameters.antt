@@ -43,7 +43,7 @@ use Rattle.cr_typed_columns.specs.Entities as entities
 use Rattle.cr_typed_columns.specs.Functions as functions
 use Rattle.cr_typed_unit.specs.Typed.{IsTypedBy}
 use Rattle.cr_meaning_soundness.specs.Sorts.{IsAmong}
-use Rattle.cr_meaning_operations.specs.Operations.{kind_if, kind_at, parts_if, parts_at, part_at, entity_of, is_automatic_by, is_static_by, is_lasting, is_static_initialiser, nodes_from}
+use Rattle.cr_meaning_operations.specs.Operations.{kind_if, kind_at, parts_if, parts_at, part_at, entity_of, is_automatic_by, is_lasting, is_static_initialiser, nodes_from}
 use Rattle.cr_meaning_units.specs.Owned.{AreOfUnit}
 use Rattle.cr_meaning_units.proofs.Rows.{clear_side, clear_laid, clear_at}
 use Rattle.cr_meaning_units.proofs.Handing.{laid_at, parts_below}
@@ -65,9 +65,9 @@ use Rattle.cr_meaning_files.proofs.Grammar.{Stands, part_in}
 use Rattle.cr_meaning_files.proofs.Living.{one_of, lives_is}
 use Rattle.cr_meaning_files.proofs.Seen.{as_seen, finds_entered, finds_outside}
 use Rattle.cr_meaning_files.proofs.Filling.{unit}
-use Rattle.cr_meaning_files.proofs.Tree.{HasPart, has_part, as_part, at_most, one_place}
+use Rattle.cr_meaning_files.proofs.Tree.{HasPart, has_part, as_part, at_most}
+use Rattle.cr_meaning_initialised.proofs.Twice.{one_place}
 use Rattle.cr_meaning_files.proofs.Mains.{body_only, body_at, block_at}
-use Rattle.cr_meaning_files.proofs.Lasting.{static_seen}
 use Rattle.cr_meaning_files.proofs.Sight.{among_passed, parameters_entered}
 use Rattle.cr_meaning_files.proofs.Named.{any_among, plain_part, finds_local}
 
@@ -78,19 +78,19 @@ only_definition kind.FunctionDefinition h = refl
 only_definition k h = absurd (false≢true h)
 
 -- a declarator of a function has its name's declarator, and one list at the most
-list_counts : most (side_of kind.FunctionDeclarator) ≡ Some 2
+pub list_counts : most (side_of kind.FunctionDeclarator) ≡ Some 2
 unfolding rule_of
 list_counts = refl
 
 -- statements, declarations and initialised declarators
-abbrev is_inner : Kind → Bool
+abbrev pub is_inner : Kind → Bool
 is_inner kind.InitDeclarator = true
 is_inner k = is_item k
 
 abbrev inner_kinds : List Kind
 inner_kinds = kind.InitDeclarator ∷ kind.Compound ∷ kind.ExpressionStatement ∷ kind.If ∷ kind.Switch ∷ kind.While ∷ kind.Do ∷ kind.For ∷ kind.Label ∷ kind.Case ∷ kind.Default ∷ kind.Goto ∷ kind.Break ∷ kind.Continue ∷ kind.Return ∷ kind.Declaration ∷ []
 
-abbrev is_outer : Part → Bool
+abbrev pub is_outer : Part → Bool
 is_outer p = list_all (λ k. not (stands_for p k)) inner_kinds
 
 all_at : (p : Part) (ks : List Kind) (n : ℕ) (k : Kind) → list_all (λ c. not (stands_for p c)) ks ≡ true → slice_get ks n ≡ Some k → stands_for p k ≡ true → ⊥
@@ -100,7 +100,7 @@ all_at p (c ∷ ks) zero k h e s =
     false≢true (sym (not-true (stands_for p c) (and_parts (not (stands_for p c)) _ h).0) ∙ subst (λ (x : Kind). stands_for p x ≡ true) (sym same) s)
 all_at p (c ∷ ks) (suc n) k h e s = all_at p ks n k (and_parts (not (stands_for p c)) _ h).1 e s
 
-no_inner : (p : Part) (k : Kind) → is_outer p ≡ true → stands_for p k ≡ true → is_inner k ≡ false
+pub no_inner : (p : Part) (k : Kind) → is_outer p ≡ true → stands_for p k ≡ true → is_inner k ≡ false
 no_inner p kind.InitDeclarator c s = absurd (all_at p inner_kinds 0 kind.InitDeclarator c refl s)
 no_inner p kind.Compound c s = absurd (all_at p inner_kinds 1 kind.Compound c refl s)
 no_inner p kind.ExpressionStatement c s = absurd (all_at p inner_kinds 2 kind.ExpressionStatement c refl s)
@@ -246,7 +246,7 @@ module _ (file : List ℕ) (t : Typed) (it : IsUnitOfFile file t) where
   -- ---- what stands above nodes
 
   -- a definition has nothing above it
-  outermost : (d : ℕ) → is_definition (kind_at t d) ≡ true → above d ≡ None
+  pub outermost : (d : ℕ) → is_definition (kind_at t d) ≡ true → above d ≡ None
   outermost d defines = by (above d) refl
     where
       by : (o : Option ℕ) → above d ≡ o → o ≡ None
@@ -314,7 +314,7 @@ module _ (file : List ℕ) (t : Typed) (it : IsUnitOfFile file t) where
   ruled i n at = subst (IsRuledIf tree it.checked.checked.texts shapes (cut i typing) (entry_at typing i) i) (ap (λ ns. slice_get ns i) tree_nodes ∙ at) (made_by.is.whole.typing.each i)
 
   -- it is a function declarator, that declarator itself or one under it
-  abbrev Found : ℕ → ℕ → Type 0
+  abbrev pub Found : ℕ → ℕ → Type 0
   Found a l = ((l ≡ a) ⊎ (is_under t a l ≡ true)) × (kind_at t l ≡ kind.FunctionDeclarator)
 
   module _ (a : ℕ) (m : Node) (at : slice_get t.nodes a ≡ Some m) (rest : (b : ℕ) → b < a → (l : ℕ) → (declarator b).function ≡ Some l → Found b l) where
@@ -356,7 +356,7 @@ module _ (file : List ℕ) (t : Typed) (it : IsUnitOfFile file t) where
     found_at : (l : ℕ) → (declarator a).function ≡ Some l → Found a l
     found_at l f = by_kind m.kind refl l (sym (ap (λ (y : Declarator). y.function) (ruled a m at).declarator) ∙ f)
 
-  found_below : (fuel a : ℕ) → a < fuel → a < length t.nodes → (l : ℕ) → (declarator a).function ≡ Some l → Found a l
+  pub found_below : (fuel a : ℕ) → a < fuel → a < length t.nodes → (l : ℕ) → (declarator a).function ≡ Some l → Found a l
   found_below zero a low few l f = absurd (omega (arith, low))
   found_below (suc fuel) a low few l f = by (slice_get t.nodes a) refl (λ b less. found_below fuel b (omega (arith, low, less)) (omega (arith, less, few)))
     where
@@ -588,7 +588,7 @@ module _ (file : List ℕ) (t : Typed) (it : IsUnitOfFile file t) where
         by : (y : ℕ) × (IsPartOf t u a y × ((y ≡ l) ⊎ (listing y ≡ true))) → ((y : ℕ) → a < y → listing y ≡ true → is_inner (kind_at t y) ≡ false) → is_inner (kind_at t a) ≡ false
         by z rest = clear z.0 z.1.0 (elim z.1.1 [ inl same ↦ list_plain z.0 same | inr g ↦ rest z.0 (part_below t u a z.0 z.1.0) g ]) (no_definition z.0 z.1.1)
 
-    unlived_by : (fuel a : ℕ) → length t.nodes ≤ fuel + a → listing a ≡ true → lives t a ≡ false
+    pub unlived_by : (fuel a : ℕ) → length t.nodes ≤ fuel + a → listing a ≡ true → lives t a ≡ false
     unlived_by zero a high f = let z = list_above a f in let low = part_below t u a z.0 z.1.0 in let few = slice_get_within t.nodes z.0 z.1.0.parent z.1.0.at in absurd (omega (arith, high, low, few))
     unlived_by (suc fuel) a high f = by (list_above a f) (λ y low g. unlived_by fuel y (omega (arith, high, low)) g)
       where
@@ -686,12 +686,12 @@ module _ (file : List ℕ) (t : Typed) (it : IsUnitOfFile file t) where
 
   -- ---- a definition's parameters
 
-  parameters_are : (d : ℕ) → d < length t.nodes → slice_index_or t.parameters d [] ≡ functions.parameters_of (parsed_of it.unit) columns d
+  pub parameters_are : (d : ℕ) → d < length t.nodes → slice_index_or t.parameters d [] ≡ functions.parameters_of (parsed_of it.unit) columns d
   parameters_are d low =
       ap (λ ps. slice_index_or ps d []) made_by.elaborated.parameters
       ∙ listed_at (functions.parameters_of (parsed_of it.unit) columns) (length it.unit.nodes) d [] (let c : length t.nodes ≡ length it.unit.nodes = ap length made_by.elaborated.nodes_are in omega (arith, low, c))
 
-  unit_parts : (i k p : ℕ) → slice_get (scripts.parts_at it.unit.nodes i) k ≡ Some p → slice_get (parts_at t i) k ≡ Some p
+  pub unit_parts : (i k p : ℕ) → slice_get (scripts.parts_at it.unit.nodes i) k ≡ Some p → slice_get (parts_at t i) k ≡ Some p
   unit_parts i k p e = same (slice_get t.nodes i) refl (ap (λ ns. slice_get (scripts.parts_at ns i) k) (sym nodes_are) ∙ e)
     where
       same : (o : Option Node) → slice_get t.nodes i ≡ o → slice_get (scripts.parts_at t.nodes i) k ≡ Some p → slice_get (parts_at t i) k ≡ Some p
@@ -817,12 +817,3 @@ module _ (file : List ℕ) (t : Typed) (it : IsUnitOfFile file t) where
         | inl here ↦ as_seen t i (entity_of t i) (or_right (is_lasting t (entity_of t i) (kind_at t (entity_of t i))) (finds t i (entity_of t i)) (finds_local file t it i is here early))
         | inr own ↦ (let parts = and_parts (is_automatic_by (slice_index_or t.durations (entity_of t i) duration.NoObject)) (is_parameter t (entity_of t i)) own in seen_parameter i is parts.0 parts.1 early)
       ]
-
-  pub named_seen : (i : ℕ) → kind_at t i ≡ kind.Identifier
-      → (is_named_locally t i ≡ false → is_static_by (slice_index_or t.durations (entity_of t i) duration.NoObject) ≡ false → sees t i (entity_of t i) ≡ true) → sees t i (entity_of t i) ≡ true
-  named_seen i is otherwise = by (is_named_locally t i) refl (is_static_by (slice_index_or t.durations (entity_of t i) duration.NoObject)) refl
-    where
-      by : (b : Bool) → is_named_locally t i ≡ b → (c : Bool) → is_static_by (slice_index_or t.durations (entity_of t i) duration.NoObject) ≡ c → sees t i (entity_of t i) ≡ true
-      by true q c r = named_locally i is q
-      by false q true r = static_seen file t it i is r
-      by false q false r = otherwise q r

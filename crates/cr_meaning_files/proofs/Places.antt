@@ -23,7 +23,7 @@ use Rattle.cr_meaning_units.proofs.Handing.{laid_at}
 use Rattle.cr_meaning_names.proofs.Parents.{above_is, above_some, part_below}
 use Rattle.cr_meaning_declared.specs.Files.{IsUnitOfFile}
 use Rattle.cr_meaning_declared.proofs.Nodes.{of_unit, unit_tokens}
-use Rattle.cr_meaning_files.proofs.Tree.{times, weight, once_more}
+use Rattle.cr_meaning_initialised.proofs.Twice.{times, weight, once_more}
 use Rattle.cr_meaning_files.proofs.Living.{one_of, above}
 
 -- a node is an item of the unit, or a part of a node that stands in a place
@@ -93,7 +93,7 @@ in_parts (n ∷ ns) k p e = elim (in_either n.parts (flat_map (λ n. n.parts) ns
 ]
 
 module _ (t : Typed) (u : AreOfUnit t) where
-  item_there : (p : ℕ) → p < length t.nodes → above t u p ≡ None → (k : ℕ) × (slice_get t.items k ≡ Some p)
+  pub item_there : (p : ℕ) → p < length t.nodes → above t u p ≡ None → (k : ℕ) × (slice_get t.items k ≡ Some p)
   item_there p low e =
       let one = u.once p low in
       let all = has_place (flat_map (λ n. n.parts) t.nodes ++ t.items) p (omega (arith, one)) in

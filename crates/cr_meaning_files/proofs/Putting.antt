@@ -40,7 +40,7 @@ pub of_initialised : (k : Kind) (layouts : List Layout) (object : Option Qualifi
 of_initialised kind.InitDeclarator layouts object parts q e = (refl, second_part layouts object (slice_get parts 1) q e)
 of_initialised k layouts object parts q e = absurd (cc e)
 
-lists_at : (k : Known) (b i : ℕ) → opens k b i ≡ true → k.listed i ≡ true
+pub lists_at : (k : Known) (b i : ℕ) → opens k b i ≡ true → k.listed i ≡ true
 unfolding opens
 lists_at k b i o = (and_parts (nat_lt i b) (k.listed i) o).1
 
@@ -59,7 +59,8 @@ module _ (t : Typed) (unit : AreOfUnit t) where
     pub under : i < d
     pub lives : lives t d ≡ true → lives t i ≡ true
     -- what goes up from initialisers to what has them goes up to the declarator
-    pub climbs : (test : ℕ → Bool) → ((a c : ℕ) → IsPartOf t unit a c → is_listing (kind_at t c) ≡ true → test a ≡ true → test c ≡ true) → test i ≡ true → test d ≡ true
+    pub climbs : (test : ℕ → Bool) → ((a c : ℕ) → IsPartOf t unit a c → is_listing (kind_at t c) ≡ true → (is_expression (form_of (kind_at t a)) || is_list (kind_at t a)) ≡ true → test a ≡ true → test c ≡ true)
+        → test i ≡ true → test d ≡ true
     pub kinds : (is_expression (form_of (kind_at t i)) || is_list (kind_at t i)) ≡ true
 
   abbrev AreGiven : ℕ → ℕ → List ℕ → Type 0
@@ -108,7 +109,7 @@ module _ (t : Typed) (unit : AreOfUnit t) where
             low = low;
             under = omega (arith, low, under);
             lives = λ live. goes t unit q i (as_part t unit i k q h) (listing_goes t unit q (kind_at t i) (kind_at t q) lists kinds) (one.lives live);
-            climbs = λ test f e. one.climbs test f (f q i (as_part t unit i k q h) lists e);
+            climbs = λ test f e. one.climbs test f (f q i (as_part t unit i k q h) lists kinds e);
             kinds = kinds;
           }
 
@@ -126,7 +127,7 @@ module _ (t : Typed) (unit : AreOfUnit t) where
         low = h.below;
         under = h.below;
         lives = λ live. goes t unit p d (as_part t unit d 1 p h) (listing_goes t unit p (kind_at t d) (kind_at t p) lists kinds) live;
-        climbs = λ test f e. f p d (as_part t unit d 1 p h) lists e;
+        climbs = λ test f e. f p d (as_part t unit d 1 p h) lists kinds e;
         kinds = kinds;
       }
 

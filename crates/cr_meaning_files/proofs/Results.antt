@@ -77,7 +77,7 @@ by_kind look k nodes said own row e d h = where_said look (declares_name k) (ord
 -- ---- the constraints
 
 -- K8
-function_holds : (own : Has) (b : Before) (nodes : List Node) (i : ℕ) (at : Place) (storage : Option Class) (initialised : Bool) (base : Qualified) (name : ℕ)
+pub function_holds : (own : Has) (b : Before) (nodes : List Node) (i : ℕ) (at : Place) (storage : Option Class) (initialised : Bool) (base : Qualified) (name : ℕ)
     → HoldsAll (declarator_faults own b nodes i at storage initialised base name) → function_fault_of own.declarator at (is_typedef storage) own.named ≡ false
 function_holds own b nodes i at storage initialised base name h =
     unbroken 8 name (function_fault_of own.declarator at (is_typedef storage) own.named)

@@ -99,7 +99,7 @@ module _ (file : List ℕ) (t : Typed) (it : IsUnitOfFile file t) where
     own_part = ap (λ o. slice_get (parts_if o) 1) (sym at) ∙ (needed t u d 1 kind.FunctionDefinition (ap kind_if at ∙ defines) refl (let three = definition_counts in omega (arith, three)))
 
     -- what the function gives is what its declarator names
-    gives_is : (judgement_of file t it).gives (Some d) ≡ type_at checked.table (slice_index_or typing.named (part_at t d 1) 0)
+    pub gives_is : (judgement_of file t it).gives (Some d) ≡ type_at checked.table (slice_index_or typing.named (part_at t d 1) 0)
     gives_is =
         ap (λ rs. type_at checked.table (slice_index_or rs d 0)) made_by.is.whole.marked.results
         ∙ ap (type_at checked.table) (mapped_at (result_in typing.named) made_by.tree.nodes.now d n (here d n at)

@@ -165,7 +165,7 @@ module _ (file : List ℕ) (t : Typed) (it : IsUnitOfFile file t) where
   put i is k part d e g =
       let x = put_at (slice_index_or t.plans i []) k part e in
       let there = put_there file t it i k x.0 x.1.0 in
-      there.0.climbs (λ a. knows t a d) (λ a c h lists f. up t u c a d h (listing_enters_nothing (kind_at t c) lists) f) (ap (λ a. knows t a d) x.1.1 ∙ g)
+      there.0.climbs (λ a. knows t a d) (λ a c h lists kinds f. up t u c a d h (listing_enters_nothing (kind_at t c) lists) f) (ap (λ a. knows t a d) x.1.1 ∙ g)
 
   -- ---- what enters objects
 

@@ -59,7 +59,7 @@ among_passed test from (x ∷ nodes) (suc m) n e h =
     by true r = inr r
     by false r = r
 
-any_filtered : (test other : ℕ → Bool) (items : List ℕ) (k item : ℕ) → slice_get items k ≡ Some item → test item ≡ true → other item ≡ true → list_any other (filter test items) ≡ true
+pub any_filtered : (test other : ℕ → Bool) (items : List ℕ) (k item : ℕ) → slice_get items k ≡ Some item → test item ≡ true → other item ≡ true → list_any other (filter test items) ≡ true
 any_filtered test other [] k item e h g = absurd (cc e)
 any_filtered test other (x ∷ items) k item e h g = by (test x) refl k e (λ m f. any_filtered test other items m item f h g)
   where
@@ -70,7 +70,7 @@ any_filtered test other (x ∷ items) k item e h g = by (test x) refl k e (λ m 
     by false q zero f rest = let same : x ≡ item = cc f in absurd (false≢true (sym q ∙ ap test same ∙ h))
     by false q (suc m) f rest = rest m f
 
-drop_first : (ps : List ℕ) (m a : ℕ) → slice_get ps (suc m) ≡ Some a → slice_get (drop 1 ps) m ≡ Some a
+pub drop_first : (ps : List ℕ) (m a : ℕ) → slice_get ps (suc m) ≡ Some a → slice_get (drop 1 ps) m ≡ Some a
 drop_first [] m a e = absurd (cc e)
 drop_first (p ∷ ps) m a e = e
 
@@ -106,7 +106,7 @@ unfolding rule_of
 declarations_stand kind.Compound = refl
 declarations_stand k = refl
 
-specifiers_declare_nothing : (k : Kind) → Stands (part_in (side_of kind.Declaration) 0) k → is_declaring k ≡ false
+pub specifiers_declare_nothing : (k : Kind) → Stands (part_in (side_of kind.Declaration) 0) k → is_declaring k ≡ false
 unfolding rule_of
 specifiers_declare_nothing kind.InitDeclarator h = absurd (false≢true h)
 specifiers_declare_nothing kind.NameDeclarator h = absurd (false≢true h)

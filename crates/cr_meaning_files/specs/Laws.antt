@@ -1,12 +1,16 @@
 -- What the grammar and the check give of a file's typed unit.
-use Rattle.std.specs.Prelude.{◌≡◌, ℕ, ℤ, true, List}
+use Rattle.std.specs.Prelude.{◌≡◌, ◌≤◌, ℕ, ℤ, true, false, List, Some, slice_get, slice_index_or}
 use Rattle.cr_ints.specs.declared.kind.IntKind.TheVariants.{Int as IntegerKind}
 use Rattle.cr_ints.specs.IntKind.{Represents}
 use Rattle.cr_syntax.specs.declared.node.Kind.TheVariants as kind
+use Rattle.cr_syntax.specs.declared.node.Node.{Node}
+use Rattle.cr_scopes.specs.Units.{unit_events}
+use Rattle.cr_scopes_once.specs.Told.{count_of}
 use Rattle.cr_check_expressions.specs.Forms.{form_of}
 use Rattle.cr_check_expressions.specs.Known.{an_enumerator}
 use Rattle.cr_typed.specs.declared.typed.Typed.{Typed}
-use Rattle.cr_meaning_operations.specs.Operations.{kind_at, part_at, name_of, entity_of}
+use Rattle.cr_typed.specs.declared.typed.Duration.TheVariants as duration
+use Rattle.cr_meaning_operations.specs.Operations.{kind_at, part_at, name_of, entity_of, is_automatic_by}
 use Rattle.cr_meaning_typed.specs.Typing.{has_value, is_expression}
 use Rattle.cr_meaning_declared.specs.Files.{IsUnitOfFile}
 use Rattle.cr_meaning_sorts.specs.Founded.{AreLaidOut, AreReached}
@@ -15,7 +19,7 @@ use Rattle.cr_meaning_soundness.specs.Sorts.{IsAmong}
 use Rattle.cr_meaning_whole.specs.Statements.{is_declarator, AreStatementsLaid}
 use Rattle.cr_meaning_files.specs.Reached.{is_reached}
 use Rattle.cr_meaning_files.specs.Seen.{sees}
-use Rattle.cr_meaning_files.specs.Local.{is_named_locally}
+use Rattle.cr_meaning_files.specs.Local.{is_entered, is_early, is_named_locally}
 use Rattle.cr_meaning_files.specs.Files.{judgement_of, AreRead}
 
 -- expressions have as many parts as their rules read, all of them expressions, used as values but where a place is taken; and only a literal
@@ -60,3 +64,17 @@ DeclaratorsSeeObjects = (file : List ℕ) (t : Typed) → IsUnitOfFile file t �
 -- a name sees the automatic object that a block or a `for` around it declares, or the definition around it as a parameter (6.2.1p4, 6.2.4p5)
 abbrev pub NamesSeeObjects : Type 0
 NamesSeeObjects = (file : List ℕ) (t : Typed) → IsUnitOfFile file t → (i : ℕ) → kind_at t i ≡ kind.Identifier → is_named_locally t i ≡ true → sees t i (entity_of t i) ≡ true
+
+-- a name that a run may reach is told once, since it stands among no definition's parameters, which are told twice (6.9.1)
+abbrev pub ReachedNamesAreToldOnce : Type 0
+ReachedNamesAreToldOnce = (file : List ℕ) (t : Typed) (it : IsUnitOfFile file t) (i : ℕ) (n : Node) → slice_get t.nodes i ≡ Some n → n.kind ≡ kind.Identifier → is_reached t i ≡ true
+    → count_of n.first (unit_events it.unit) ≤ 1
+
+-- what is executed before main names no automatic object, since it is made of constants and of constant addresses (6.2.4p3, 6.6p9, 6.7.9p4, K12)
+abbrev pub EarlyNamesLast : Type 0
+EarlyNamesLast = (file : List ℕ) (t : Typed) (it : IsUnitOfFile file t) (i : ℕ) (n : Node) → slice_get t.nodes i ≡ Some n → n.kind ≡ kind.Identifier → is_reached t i ≡ true
+    → ((judgement_of file t it).at i).lvalue ≡ true → is_early t i ≡ true → is_automatic_by (slice_index_or t.durations (entity_of t i) duration.NoObject) ≡ false
+
+-- an automatic object is declared in a block or a `for`, or is a parameter of a definition (6.2.4p5, 6.9.1p9)
+abbrev pub AutomaticObjectsAreEntered : Type 0
+AutomaticObjectsAreEntered = (file : List ℕ) (t : Typed) → IsUnitOfFile file t → (e : ℕ) → is_automatic_by (slice_index_or t.durations e duration.NoObject) ≡ true → is_entered t e ≡ true

@@ -1,9 +1,10 @@
 -- Which names are of objects that a block or a `for` declares, or that a definition enters as parameters (C11 6.2.1p4, 6.2.4p5, 6.9.1p9).
-use Rattle.std.specs.Prelude.{ℕ, zero, suc, Bool, false, not, ◌&&◌, ◌||◌, [], Option, None, Some, length, slice_index_or, if◌then◌else◌}
+use Rattle.std.specs.Prelude.{ℕ, zero, suc, Bool, true, false, not, ◌&&◌, ◌||◌, [], Option, None, Some, length, slice_index_or, if◌then◌else◌}
 use Rattle.std.specs.List.{list_any}
 use Rattle.std.specs.Option.{is_some}
 use Rattle.cr_check_enclosing.specs.Above.{above_of}
 use Rattle.cr_typed.specs.declared.typed.Typed.{Typed}
+use Rattle.cr_typed.specs.declared.typed.Duration.{Duration}
 use Rattle.cr_typed.specs.declared.typed.Duration.TheVariants as duration
 use Rattle.cr_meaning_operations.specs.Operations.{kind_at, entity_of, is_automatic_by, is_declaration, is_static_initialiser, nodes_from}
 use Rattle.cr_meaning_units.specs.Owned.{owns}
@@ -47,6 +48,15 @@ is_own_parameter t declared = is_automatic_by (slice_index_or t.durations declar
 abbrev pub is_early : Typed → ℕ → Bool
 is_early t node = list_any (λ start. is_under t start node) (nodes_from (is_static_initialiser t) 0 t.nodes)
 
+-- an object of the program: an `extern` one that is defined nowhere is none
+abbrev pub is_object_by : Duration → Bool
+is_object_by duration.NoObject = false
+is_object_by d = true
+
+-- an automatic object that a block, a `for` or a definition enters
+abbrev pub is_entered : Typed → ℕ → Bool
+is_entered t declared = is_local t declared || is_own_parameter t declared
+
 -- a name that its scope alone shows to see its object
 abbrev pub is_named_locally : Typed → ℕ → Bool
-is_named_locally t node = (is_local t (entity_of t node) || is_own_parameter t (entity_of t node)) && not (is_early t node)
+is_named_locally t node = is_entered t (entity_of t node) && not (is_early t node)

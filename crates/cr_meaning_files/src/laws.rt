@@ -1,5 +1,5 @@
 //! What a reader expects of the run of a file's typed unit. The program calls none of these functions.
-ghost use Rattle.cr_meaning_files.specs.Laws.{AreClosed, AreTold, AreWorth, DeclaratorsSeeObjects, EnumeratorsAreNumbers, LabelsStandAround, MainsAreDefined, NamesSeeObjects};
+ghost use Rattle.cr_meaning_files.specs.Laws.{AreClosed, AreTold, AreWorth, AutomaticObjectsAreEntered, DeclaratorsSeeObjects, EarlyNamesLast, EnumeratorsAreNumbers, LabelsStandAround, MainsAreDefined, NamesSeeObjects, ReachedNamesAreToldOnce};
 ghost use Rattle.cr_meaning_files.specs.Files.{FilesHaveOutcomes};
 
 /// What a run may reach has its operands, its statements and its declarators with it.
@@ -40,6 +40,21 @@ pub fn declarators_see_objects()
 /// A name sees the object of a block or a `for` that it names.
 pub fn names_see_objects()
     ensures { NamesSeeObjects }
+{}
+
+/// A name that a run may reach is told once.
+pub fn reached_names_are_told_once()
+    ensures { ReachedNamesAreToldOnce }
+{}
+
+/// What is executed before main names no automatic object.
+pub fn early_names_last()
+    ensures { EarlyNamesLast }
+{}
+
+/// An automatic object is declared in a block or a `for`, or is a parameter of a definition.
+pub fn automatic_objects_are_entered()
+    ensures { AutomaticObjectsAreEntered }
 {}
 
 /// The run of a file's typed unit comes to a status, or to a numbered case at a node, and never to operands that no program has.
