@@ -75,7 +75,7 @@ fn follow(
     }
 }
 
-fn visible_by(
+pub(crate) fn visible_by(
     alloc: Global,
     spellings: &[u32],
     events: &[Event],
