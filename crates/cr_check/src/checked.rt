@@ -13,7 +13,7 @@ use cr_check_types::Table;
 use cr_check_unit::{Whole, check_unit};
 use cr_holding::holding;
 use cr_rows::Row;
-use cr_scopes::{Heard, Names};
+use cr_scopes::Names;
 use cr_syntax::Unit;
 use std::alloc::{AllocError, Global};
 
@@ -32,7 +32,6 @@ pub(crate) fn gather(
     file: &[u8],
     unit: &Unit,
     names: &Names,
-    heard: Heard,
 ) -> Result<Checked, AllocError>
     requires { AreSpans file.now unit.now.tokens.list.items }
     ensures { IfOk result (λ j. IsCheckedFirst file.now unit.now names.now j) }
@@ -40,7 +39,7 @@ pub(crate) fn gather(
     let tokens = unit.tokens.list.as_slice();
     let texts = texts(alloc, file, tokens, unit.nodes.as_slice())?;
     let mut table = Table::new(alloc)?;
-    let surroundings = Surroundings::new(alloc, file, unit, names, heard)?;
+    let surroundings = Surroundings::new(alloc, file, unit, names)?;
     let whole = whole_of(alloc, &mut table, file, unit, &surroundings, &texts);
     let (whole, surroundings) = holding(whole, surroundings)?;
     Ok(Checked {

@@ -7,7 +7,7 @@ ghost use Rattle.cr_check.specs.NameFaults.{IsFirstNameFault, IsFirstRepeated, N
 
 use crate::checked::{declarations_of, gather};
 use cr_check_definitions::repeated;
-use cr_scopes::{Heard, NameFault, Names, token_of};
+use cr_scopes::{NameFault, Names, token_of};
 use cr_scopes_bindings::{link_at, name_at};
 use cr_syntax::{Node, Unit, number_of};
 use std::alloc::{AllocError, Global};
@@ -21,7 +21,6 @@ pub fn first_name_fault(
     file: &[u8],
     unit: &Unit,
     names: &Names,
-    heard: Heard,
     fault: NameFault,
 ) -> Result<NameFault, AllocError>
     requires spans { AreSpans file.now unit.now.tokens.list.items }
@@ -32,7 +31,7 @@ pub fn first_name_fault(
     if !is_declared_again(unit.nodes.as_slice(), names, token_of(fault))? {
         return Ok(fault);
     }
-    let token = first_repeated(alloc, file, unit, names, heard)?;
+    let token = first_repeated(alloc, file, unit, names)?;
     Ok(lesser(fault, token))
 }
 
@@ -102,12 +101,11 @@ fn first_repeated(
     file: &[u8],
     unit: &Unit,
     names: &Names,
-    heard: Heard,
 ) -> Result<Option<u32>, AllocError>
     requires { AreSpans file.now unit.now.tokens.list.items }
     ensures { IfOk result (λ token. IsFirstRepeated file.now unit.now names.now token) }
 {
-    let checked = gather(alloc, file, unit, names, heard)?;
+    let checked = gather(alloc, file, unit, names)?;
     repeated(alloc, names, &declarations_of(file, unit, &checked))
 }
 

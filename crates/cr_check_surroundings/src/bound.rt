@@ -8,7 +8,7 @@ use crate::tagged::tags;
 use cr_check_declarations::Tag;
 use cr_holding::holding;
 use cr_rows::Row;
-use cr_scopes::{Heard, Names};
+use cr_scopes::Names;
 use cr_scopes_bindings::Bindings;
 use cr_syntax::Unit;
 use std::alloc::{AllocError, Global};
@@ -27,7 +27,6 @@ pub(crate) fn bind_nodes(
     file: &[u8],
     unit: &Unit,
     names: &Names,
-    heard: Heard,
     above: &[Option<u32>],
 ) -> Result<BoundNodes, AllocError>
     requires { AreSpans file.now unit.now.tokens.list.items }
@@ -35,7 +34,7 @@ pub(crate) fn bind_nodes(
 {
     let tokens = unit.tokens.list.as_slice();
     let nodes = unit.nodes.as_slice();
-    let bindings = Bindings::new(alloc, file, unit, names, heard)?;
+    let bindings = Bindings::new(alloc, file, unit, names)?;
     let links = all_links(alloc, &bindings, nodes, above);
     let (links, bindings) = holding(links, bindings)?;
     let tags = tags(alloc, &bindings, names, nodes, tokens);

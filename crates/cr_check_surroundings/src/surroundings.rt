@@ -7,7 +7,7 @@ use crate::previous::previous;
 use cr_check_declarations::{Tag, Tree};
 use cr_check_enclosing::{Around, above, all_around};
 use cr_rows::Row;
-use cr_scopes::{Heard, Names};
+use cr_scopes::Names;
 use cr_scopes_bindings::Bindings;
 use cr_syntax::Unit;
 use std::alloc::{AllocError, Global};
@@ -44,7 +44,6 @@ impl Surroundings {
         file: &[u8],
         unit: &Unit,
         names: &Names,
-        heard: Heard,
     ) -> Result<Surroundings, AllocError>
         requires { AreSpans file.now unit.now.tokens.list.items }
         ensures { IfOk result (λ found. AreSurroundings file.now unit.now names.now found) }
@@ -53,7 +52,7 @@ impl Surroundings {
         let above = above(alloc, nodes)?;
         let around = all_around(alloc, nodes, &above)?;
         let previous = previous(alloc, nodes)?;
-        let bound = bind_nodes(alloc, file, unit, names, heard, &above)?;
+        let bound = bind_nodes(alloc, file, unit, names, &above)?;
         Ok(Surroundings {
             bindings: bound.bindings,
             above: Row::from_vec(above),

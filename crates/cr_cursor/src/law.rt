@@ -1,13 +1,12 @@
 // The law that a file must obey.
 ghost use Rattle.std.specs.Prelude.{◌≡◌, ◌≢◌, ◌≤◌, ◌⊎◌, ◌==◌, ℕ, List, false, true, length, count_by};
 ghost use Rattle.cr_tokens.specs.Faults.{FirstTokenFault};
-ghost use Rattle.cr_tokens.specs.Tokens.{Tokenizes};
 ghost use Rattle.cr_tokens.specs.Places.{line_of as line_of_place};
 ghost use Rattle.cr_cursor.specs.TokenLaw.{RulesOn};
 ghost use Rattle.cr_cursor.specs.declared.law.Reason.{Reason};
 
 use crate::stop::Stop;
-use cr_tokens::{TokenFault, Tokens, read};
+use cr_tokens::{TokenFault, read};
 use std::alloc::Global;
 
 /// What a law rules on a file.
@@ -46,22 +45,6 @@ pub trait Law {
         ensures reason { (reason : Reason) → result ≡ Ruling.Unlawful reason → reasons self.now file.now reason }
         ensures stopped { result ≡ Ruling.Stopped → S.raised stop.new ≡ true }
         ensures held { S.held stop.new ≡ S.held stop.old };
-
-    /// Rules on a file whose tokens are read already.
-    fn rule_read<S: Stop>(
-        &self,
-        alloc: Global,
-        file: &[u8],
-        tokens: Tokens,
-        stop: &mut S,
-    ) -> Ruling
-        requires unstopped { S.raised stop.old ≡ false }
-        requires read { Tokenizes file.now tokens.list.items }
-        ensures lawful { result ≡ Ruling.Lawful → lawful self.now file.now }
-        ensures unlawful { (reason : Reason) → result ≡ Ruling.Unlawful reason → lawful self.now file.now → ⊥ }
-        ensures reason { (reason : Reason) → result ≡ Ruling.Unlawful reason → reasons self.now file.now reason }
-        ensures stopped { result ≡ Ruling.Stopped → S.raised stop.new ≡ true }
-        ensures held { S.held stop.new ≡ S.held stop.old };
 }
 
 /// The law that a file tokenises.
@@ -89,17 +72,6 @@ impl Law for TokenLaw {
             Err(fault) => fault,
         };
         token_ruling(file, fault)
-    }
-
-    fn rule_read<S: Stop>(
-        &self,
-        _alloc: Global,
-        _file: &[u8],
-        tokens: Tokens,
-        _stop: &mut S,
-    ) -> Ruling {
-        drop(tokens);
-        Ruling::Lawful
     }
 }
 

@@ -75,7 +75,7 @@ fn is_plain_char(types: &Types, row: u32) -> bool
 }
 
 // The definition of the function that a name declares.
-pub(crate) fn function_in(types: &Types, declared: u32) -> u32
+fn function_in(types: &Types, declared: u32) -> u32
     ensures { result ≡ function_in (named_type types.now declared) }
 {
     match types.shape(types.named_row(declared)).of {

@@ -4,7 +4,7 @@ ghost use Rattle.cr_typed.specs.Typed.{IsTyped};
 ghost use Rattle.cr_meaning_operations.specs.Operations.{ops_from, unit_op, nodes_from, is_lasting, is_static_initialiser, kind_at, strings_of};
 ghost use Rattle.cr_exec_table.specs.Table.{IsTableOf, one_if, strings_in};
 
-use crate::calls::{function_in, names, parameters};
+use crate::calls::{names, parameters};
 use crate::nodes::Nodes;
 use crate::op::op;
 use cr_eval::Table;
@@ -47,56 +47,12 @@ fn table_of(alloc: Global, types: Types, limits: Limits) -> Result<Table, AllocE
 fn ops(alloc: Global, nodes: &Nodes) -> Result<Row<Op>, AllocError>
     ensures { IfOk result (λ ops. ops ≡ ops_from nodes.now 0 nodes.now.nodes ++ unit_op nodes.now ∷ []) }
 {
-    let count = nodes.types().count();
-    let reached = reached(alloc, nodes)?;
-    let mut ops = Vec::with_capacity(alloc, count as usize + 1)?;
-    for node in 0..count {
-        if reached[node as usize] {
-            ops.push(op(alloc, nodes, node)?)?;
-        } else {
-            ops.push(Op {
-                parts: Row::new(alloc),
-                work: Work::Labelled,
-                access: Access::Unused,
-            })?;
-        }
+    let mut ops = Vec::new(alloc);
+    for node in 0..nodes.types().count() {
+        ops.push(op(alloc, nodes, node)?)?;
     }
     ops.push(unit_op(alloc, nodes)?)?;
     Ok(Row::from_vec(ops))
-}
-
-// Which nodes stand outside functions, or in one that is called by main or by what it calls.
-fn reached(alloc: Global, nodes: &Nodes) -> Result<Vec<bool>, AllocError> {
-    let types = nodes.types();
-    let count = types.count() as usize;
-    let mut marks = vec![in alloc; true; count]?;
-    let mut begins = vec![in alloc; 0; count]?;
-    let mut begin: usize = 0;
-    for item in types.typed().items.as_slice() {
-        let end = *item as usize;
-        if matches!(types.kind(*item), Kind::FunctionDefinition) {
-            begins[end] = begin;
-            for at in begin..end + 1 {
-                marks[at] = false;
-            }
-        }
-        begin = end + 1;
-    }
-    let mut left = Vec::new(alloc);
-    left.push(types.typed().main)?;
-    while let Some(function) = left.pop() {
-        let end = function as usize;
-        if !marks[end] {
-            for at in begins[end]..end + 1 {
-                marks[at] = true;
-                let node = at as u32;
-                if matches!(types.kind(node), Kind::Call) {
-                    left.push(function_in(types, nodes.entity(node)))?;
-                }
-            }
-        }
-    }
-    Ok(marks)
 }
 
 // The operation of the whole program (C11 5.1.2.2.1).

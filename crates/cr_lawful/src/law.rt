@@ -6,12 +6,11 @@ ghost use Rattle.cr_lawful.specs.Looks.{HasLookedThrough, Looks};
 
 use crate::last_run::{LastRun, leave_run};
 use crate::reasons::run_ruling;
-use crate::ruled::{RunLaw, ruled_by, ruled_by_tokens};
+use crate::ruled::{RunLaw, ruled_by};
 use cr_cursor::{Law, Reason, Ruling, Stop};
 use cr_exec_outcome::outcome;
 use cr_lawful_analysis::LastRead;
 use cr_meaning::Limits;
-use cr_tokens::Tokens;
 use cr_typed::Typed;
 use std::alloc::Global;
 
@@ -78,16 +77,6 @@ impl<'a> Law for CLaw<'a> {
         ensures looked { result ≡ Ruling.Lawful → HasLookedThrough self.now.limits file.now (S.looks stop.old) (S.looks stop.new) }
     {
         ruled_by(alloc, file, self, self.last, stop)
-    }
-
-    fn rule_read<S: Stop>(
-        &self,
-        alloc: Global,
-        file: &[u8],
-        tokens: Tokens,
-        stop: &mut S,
-    ) -> Ruling {
-        ruled_by_tokens(alloc, file, tokens, self, self.last, stop)
     }
 }
 

@@ -14,7 +14,7 @@ use cr_check::{Checked, check, first_name_fault};
 use cr_cursor::{Ruling, Stop, token_ruling};
 use cr_decls::parse;
 use cr_lawful_analysis::structures_of;
-use cr_scopes::{Heard, NameFault, Names, Resolution, resolve_whole};
+use cr_scopes::{NameFault, Names, Resolution, resolve_whole};
 use cr_syntax::{Unit, tokens_are_spans};
 use cr_tokens::{Tokens, read};
 use cr_typed_unit::typed;
@@ -38,7 +38,7 @@ pub(crate) fn program_of_file<S: Stop>(
     }
 }
 
-pub(crate) fn program_of_tokens<S: Stop>(
+fn program_of_tokens<S: Stop>(
     alloc: Global,
     file: &[u8],
     tokens: &Tokens,
@@ -106,10 +106,9 @@ fn with_resolution<S: Stop>(
         drop((unit, resolution));
         return Err(Ruling::Stopped);
     }
-    let Resolution { names, fault, heard } = resolution;
-    match fault {
-        Some(fault) => Err(ruled_on_names(alloc, file, &unit, &names, heard, fault)),
-        None => with_types(alloc, file, unit, names, heard, stop),
+    match resolution.fault {
+        Some(fault) => Err(ruled_on_names(alloc, file, &unit, &resolution.names, fault)),
+        None => with_types(alloc, file, unit, resolution.names, stop),
     }
 }
 
@@ -119,7 +118,6 @@ fn ruled_on_names(
     file: &[u8],
     unit: &Unit,
     names: &Names,
-    heard: Heard,
     fault: NameFault,
 ) -> Ruling
     requires tokens { Tokenizes file.now unit.now.tokens.list.items }
@@ -129,7 +127,7 @@ fn ruled_on_names(
     ensures { (raised : Bool) → Refuses file.now raised result }
 {
     tokens_are_spans();
-    match first_name_fault(alloc, file, unit, names, heard, fault) {
+    match first_name_fault(alloc, file, unit, names, fault) {
         Ok(first) => name_ruling(file, unit.tokens.list.as_slice(), first),
         Err(_) => Ruling::NoMemory,
     }
@@ -140,7 +138,6 @@ fn with_types<S: Stop>(
     file: &[u8],
     unit: Unit,
     names: Names,
-    heard: Heard,
     stop: &mut S,
 ) -> Result<Program, Ruling>
     requires unstopped { S.raised stop.old ≡ false }
@@ -154,7 +151,7 @@ fn with_types<S: Stop>(
     ensures looks { IsNotBelow (S.looks stop.old) (S.looks stop.new) }
 {
     tokens_are_spans();
-    match check(alloc, file, &unit, &names, heard) {
+    match check(alloc, file, &unit, &names) {
         Ok(checked) => with_columns(alloc, file, unit, names, checked, stop),
         Err(fault) => Err(type_ruling(file, unit.tokens.list.as_slice(), fault)),
     }

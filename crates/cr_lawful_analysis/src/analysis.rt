@@ -14,7 +14,7 @@ use cr_decls::parse;
 use cr_exprs::ParseFault;
 use cr_holding::holding;
 use cr_rows::Row;
-use cr_scopes::{Heard, NameFault, Names, Resolution, resolve_whole};
+use cr_scopes::{NameFault, Names, resolve};
 use cr_syntax::{Unit, tokens_are_spans};
 use cr_syntax_machine::one_first_refusal;
 use cr_tokens::{Token, TokenFault, Tokens, read};
@@ -83,10 +83,9 @@ fn named(alloc: Global, file: &[u8], unit: Unit) -> Result<Analysis, AllocError>
     ensures { IfOk result (IsAnalysis file.now) }
 {
     tokens_are_spans();
-    let Resolution { names, fault, heard } = resolve_whole(alloc, file, &unit)?;
-    match fault {
-        None => checked(alloc, file, unit, names, heard),
-        Some(fault) => {
+    match resolve(alloc, file, &unit) {
+        Ok(names) => checked(alloc, file, unit, names),
+        Err(fault) => {
             name_refusal(fault)?;
             Ok(Analysis::NoUnit(Row::from_vec(unit.tokens.list)))
         }
@@ -102,14 +101,14 @@ fn name_refusal(fault: NameFault) -> Result<(), AllocError>
     }
 }
 
-fn checked(alloc: Global, file: &[u8], unit: Unit, names: Names, heard: Heard) -> Result<Analysis, AllocError>
+fn checked(alloc: Global, file: &[u8], unit: Unit, names: Names) -> Result<Analysis, AllocError>
     requires tokens { Tokenizes file.now unit.tokens.list.items }
     requires parsed { IsParsed file.now unit.tokens.list.items (tree_of unit) }
     requires known { AreItsNames file.now unit.tokens.list.items (tree_of unit) names }
     ensures { IfOk result (IsAnalysis file.now) }
 {
     tokens_are_spans();
-    match check(alloc, file, &unit, &names, heard) {
+    match check(alloc, file, &unit, &names) {
         Ok(checked) => {
             let structures = structures_of(alloc, &unit, &checked);
             drop(checked);

@@ -8,10 +8,9 @@ ghost use Rattle.cr_order.specs.Orders.{IsLawfulInOrder, IsOrderReason, OrderRul
 use crate::judged::outcome_judged;
 use crate::loose::ended_in_order;
 use cr_cursor::{Law, Reason, Ruling, Stop};
-use cr_lawful::{CLaw, LastRun, RunLaw, a_file_has_one_reason, leave_run, ruled_by, ruled_by_tokens, run_ruling};
+use cr_lawful::{CLaw, LastRun, RunLaw, a_file_has_one_reason, leave_run, ruled_by, run_ruling};
 use cr_lawful_analysis::LastRead;
 use cr_meaning::Limits;
-use cr_tokens::Tokens;
 use cr_typed::Typed;
 use std::alloc::Global;
 
@@ -61,16 +60,6 @@ impl<'a> Law for OrderLaw<'a> {
     {
         a_file_has_one_reason();
         ruled_by(alloc, file, self, self.last, stop)
-    }
-
-    fn rule_read<S: Stop>(
-        &self,
-        alloc: Global,
-        file: &[u8],
-        tokens: Tokens,
-        stop: &mut S,
-    ) -> Ruling {
-        ruled_by_tokens(alloc, file, tokens, self, self.last, stop)
     }
 }
 

@@ -17,13 +17,13 @@ ghost use Rattle.cr_pool.specs.Works.{Tries, MayNoteNothing, NoteIsSo, RejectsAt
 
 use crate::job::Job;
 use crate::looker::Looker;
+use crate::measuring::measure;
 use crate::verdict::Verdict;
 use crate::verdicts::Verdicts;
 use cr_claims::{Claims, Pass};
 use cr_core::HitKind;
 use cr_cursor::{Law, Passes, Ruling, cursor_at};
 use cr_outside::{Answer, Judge, NoMemory, Question};
-use cr_tokens::{Tokens, read, size};
 use std::alloc::Global;
 
 /// What the trial of a position came to.
@@ -61,7 +61,7 @@ pub fn make<P: Passes, L: Law, Q: Question>(
 }
 
 /// Rules on a file, and gives up once a lower position than the claimed one is a hit.
-fn rule_on<L: Law>(alloc: Global, claims: &Claims, law: &L, file: &[u8], tokens: Tokens, pass: &mut Pass) -> Ruling
+fn rule_on<L: Law>(alloc: Global, claims: &Claims, law: &L, file: &[u8], pass: &mut Pass) -> Ruling
     requires of { IsOf claims.now pass.old }
     requires is_open { last_mark (view_of pass.old).own ≡ Open }
     ensures stays { IsOf claims.now pass.new }
@@ -75,7 +75,7 @@ fn rule_on<L: Law>(alloc: Global, claims: &Claims, law: &L, file: &[u8], tokens:
         pass,
         raised: false,
     };
-    law.rule_read(alloc, file, tokens, &mut looker)
+    law.rule(alloc, file, &mut looker)
 }
 
 /// Measures a variant. Where it is below the limit and no verdict on it is kept, the law rules on it.
@@ -98,22 +98,18 @@ fn screen<L: Law>(
     ensures decided { (verdict : Verdict) → result ≡ Screened.Decided verdict → IsDecided (L.lawful law.now) verdicts.now variant.now limit verdict }
     ensures stopped { result ≡ Screened.Stopped → (view_of pass.new).read / 4 < last_position (view_of pass.new).own }
 {
-    let tokens = match read(alloc, variant) {
-        Ok(tokens) => tokens,
-        Err(fault) => {
-            if fault.is_want() {
-                return Screened::NoMemory;
-            }
-            return Screened::Large;
-        }
+    let size = match measure(alloc, variant) {
+        Ok(Some(size)) => size,
+        Ok(None) => return Screened::Large,
+        Err(_) => return Screened::NoMemory,
     };
-    if size(variant, &tokens) >= limit {
+    if size >= limit {
         return Screened::Large;
     }
     if let Some(verdict) = verdicts.find(variant) {
         return Screened::Decided(verdict);
     }
-    match rule_on(alloc, claims, law, variant, tokens, pass) {
+    match rule_on(alloc, claims, law, variant, pass) {
         Ruling::Lawful => Screened::Good,
         Ruling::Unlawful(_) => Screened::Decided(Verdict::Unlawful),
         Ruling::Stopped => Screened::Stopped,

@@ -19,6 +19,6 @@ mod told;
 
 pub use fault::NameFault;
 pub use names::{Entity, Names};
-pub use resolution::{Heard, Resolution, resolve, resolve_whole};
+pub use resolution::{Resolution, resolve, resolve_whole};
 pub use rules::token_of;
 pub use spelled::names_of;

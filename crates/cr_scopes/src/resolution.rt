@@ -22,14 +22,6 @@ use std::collections::{HashMap, LinkedList};
 pub struct Resolution {
     pub names: Names,
     pub fault: Option<NameFault>,
-    pub heard: Heard,
-}
-
-/// What is read of a unit before its names are followed: for each token the number of its spelling, and the events.
-#[derive(Drop)]
-pub struct Heard {
-    pub spellings: Vec<u32>,
-    pub events: Vec<Event>,
 }
 
 /// What the names of a unit stand for (C11 6.2.1 to 6.2.3). Unknown is a used ordinary identifier that no declaration in scope
@@ -58,14 +50,13 @@ pub fn resolve_whole(alloc: Global, file: &[u8], unit: &Unit) -> Result<Resoluti
     ensures fault { IfOk result (λ resolution. IsUnitFirst file.now unit.now resolution.fault) }
 {
     let tokens = unit.tokens.list.as_slice();
-    let spellings = names_of(alloc, file, tokens)?;
+    let names = names_of(alloc, file, tokens)?;
     let events = events(alloc, unit)?;
-    let followed = follow_all(alloc, &spellings, &events, tokens.len())?;
+    let followed = follow_all(alloc, &names, &events, tokens.len())?;
     let names = entities_of(alloc, &followed.told)?;
     Ok(Resolution {
         names,
         fault: followed.fault,
-        heard: Heard { spellings, events },
     })
 }
 

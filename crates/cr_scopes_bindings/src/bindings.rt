@@ -12,9 +12,9 @@ ghost use Rattle.cr_syntax.specs.Words.{AreSpans};
 use crate::entities::{declaring, entity_at, first_of, is_marked, previous};
 use crate::last::link_at;
 use crate::nodes::{contents, declarers, name_at, specifiers, tag_at};
-use crate::visible::visible_by;
+use crate::visible::visible;
 use cr_rows::Row;
-use cr_scopes::{Heard, Names};
+use cr_scopes::{Names, names_of};
 use cr_syntax::{Node, Unit};
 use cr_tokens::Token;
 use std::alloc::{AllocError, Global};
@@ -62,15 +62,13 @@ fn entry_at(column: &Row<Option<u32>>, number: Option<usize>) -> Option<u32>
 }
 
 // The number of each token's spelling, and what is visible there.
-fn seen(alloc: Global, unit: &Unit, heard: Heard) -> Result<(Vec<u32>, Vec<Option<u32>>), AllocError>
+fn seen(alloc: Global, file: &[u8], unit: &Unit) -> Result<(Vec<u32>, Vec<Option<u32>>), AllocError>
+    requires { AreSpans file.now unit.now.tokens.list.items }
+    ensures spellings { IfOk result (λ both. AreSpellings file.now unit.now.tokens.list.items both.0.items) }
+    ensures visible { IfOk result (λ both. AreVisible (name_in both.0.items) (unit_events unit.now) (length unit.now.tokens.list.items) both.1.items) }
 {
-    let Heard { spellings, events } = heard;
-    let visible = visible_by(
-        alloc,
-        spellings.as_slice(),
-        events.as_slice(),
-        unit.tokens.list.len(),
-    )?;
+    let spellings = names_of(alloc, file, unit.tokens.list.as_slice())?;
+    let visible = visible(alloc, unit, spellings.as_slice())?;
     Ok((spellings, visible))
 }
 
@@ -108,13 +106,12 @@ impl Bindings {
         file: &[u8],
         unit: &Unit,
         names: &Names,
-        heard: Heard,
     ) -> Result<Bindings, AllocError>
         requires { AreSpans file.now unit.now.tokens.list.items }
         ensures { IfOk result (λ found. AreBindings file.now unit.now names.now found) }
     {
         let tokens = unit.tokens.list.as_slice();
-        let (spellings, visible) = seen(alloc, unit, heard)?;
+        let (spellings, visible) = seen(alloc, file, unit)?;
         let (declaring, previous) = repeated(alloc, names)?;
         let nodes = unit.nodes.as_slice();
         let (declarers, specifiers, contents) = nodes_of(alloc, names, nodes, tokens)?;

@@ -75,7 +75,7 @@ fn follow(
     }
 }
 
-pub(crate) fn visible_by(
+fn visible_by(
     alloc: Global,
     spellings: &[u32],
     events: &[Event],
