@@ -157,14 +157,14 @@ nodes_same nodes (Some list) =
 -- ---- constraints
 
 -- K8
-well_placed : (own : Declarator) (at : Place) (typedef : Bool) (result : Qualified) → function_fault_of own at typedef result ≡ false → own.misplaced ≡ false
+pub well_placed : (own : Declarator) (at : Place) (typedef : Bool) (result : Qualified) → function_fault_of own at typedef result ≡ false → own.misplaced ≡ false
 well_placed own at typedef result h = by (is_some own.function) h
   where
     by : (b : Bool) → (if b then own.misplaced || (not (is_declared at typedef own.empty) || not (may_return result)) else own.misplaced) ≡ false → own.misplaced ≡ false
     by true e = (or_parts own.misplaced (not (is_declared at typedef own.empty) || not (may_return result)) e).0
     by false e = e
 
-function_holds : (own : Has) (b : Before) (nodes : List Node) (i : ℕ) (at : Place) (storage : Option Class) (initialised : Bool) (base : Qualified) (name : ℕ)
+pub function_holds : (own : Has) (b : Before) (nodes : List Node) (i : ℕ) (at : Place) (storage : Option Class) (initialised : Bool) (base : Qualified) (name : ℕ)
     → HoldsAll (declarator_faults own b nodes i at storage initialised base name) → function_fault_of own.declarator at (is_typedef storage) own.named ≡ false
 function_holds own b nodes i at storage initialised base name h =
     unbroken 8 name (function_fault_of own.declarator at (is_typedef storage) own.named)

@@ -1,20 +1,14 @@
 -- What an identifier of a file's unit sees, and stands for.
-use Rattle.std.proofs.Common.{◌≡◌, ℕ, ◌<◌, ◌≤◌, inl, inr, true, false, None, Some, List, length, slice_get, slice_index_or, refl, sym, subst, ap, ◌∙◌, arith}
-use Rattle.std.proofs.lemmas.Bool.{false≢true}
+use Rattle.std.proofs.Common.{◌≡◌, ℕ, ◌<◌, ◌≤◌, inl, inr, true, false, None, Some, List, length, slice_get, slice_index_or, sym, subst, ap, ◌∙◌, arith}
 use Rattle.std.proofs.lemmas.Option.{slice_get_within}
 use Rattle.cr_syntax.specs.declared.node.Kind.{Kind}
 use Rattle.cr_syntax.specs.declared.node.Kind.TheVariants as kind
 use Rattle.cr_syntax.specs.declared.node.Node.{Node}
 use Rattle.cr_syntax_order.specs.Listed.{AreListed}
 use Rattle.cr_scopes_events.specs.declared.event.Role.{Role}
-use Rattle.cr_scopes_events.specs.declared.naming.Storage.{Storage as Word}
-use Rattle.cr_scopes_events.specs.declared.naming.Storage.TheVariants.{NoWord, TypedefWord, ExternWord}
-use Rattle.cr_scopes_events.specs.declared.declarator.Derivation.{Derivation}
-use Rattle.cr_scopes_events.specs.declared.declarator.Derivation.TheVariants.{Nothing, Function as Derived, Other}
 use Rattle.cr_scopes_events.specs.declared.event.Event.{Event}
 use Rattle.cr_scopes_events.specs.Declarators.{declarator_of}
 use Rattle.cr_scopes_events.specs.Scripts as scripts
-use Rattle.cr_scopes_events.specs.Scripts.{role_by}
 use Rattle.cr_scopes_events.specs.Events.{events_of}
 use Rattle.cr_scopes.specs.Resolved.{past_of}
 use Rattle.cr_scopes.specs.Spelled.{name_of as spelled_name}
@@ -26,7 +20,7 @@ use Rattle.cr_scopes_bindings.specs.Bindings.{entry_if}
 use Rattle.cr_scopes_bindings.specs.Visible.{visible}
 use Rattle.cr_scopes_shared.specs.Sorts.{Never}
 use Rattle.cr_scopes_sight.specs.Scopes.{is_using}
-use Rattle.cr_scopes_tellings.specs.Tellings.{is_use, is_tagged, Telling, by_declaration, by_parameter, by_enumerator, by_tag, by_use}
+use Rattle.cr_scopes_tellings.specs.Tellings.{Telling, by_declaration, by_parameter, by_enumerator, by_tag, by_use}
 use Rattle.cr_scopes_tellings.proofs.Scripts.{all_told}
 use Rattle.cr_scopes_told.specs.Told.{AreApart, IsTold, IsDeclaredBelow}
 use Rattle.cr_scopes_told.proofs.Walks.{told}
@@ -48,33 +42,12 @@ use Rattle.cr_meaning_told.proofs.Orderly.{apart, named_within}
 use Rattle.cr_meaning_told.proofs.Names.{last_is}
 use Rattle.cr_meaning_objects.proofs.Alone.{linked_or_alone}
 use Rattle.cr_meaning_objects.proofs.Declaring.{is_silent, never_told, declares_entity, token_low}
+use Rattle.cr_meaning_objects.proofs.Statics.{role_speaks, tagged_same, use_same}
 use Rattle.cr_meaning_celled.specs.Laws
-use Rattle.cr_meaning_celled.specs.Laws.{IsSteady, IsSeen}
+use Rattle.cr_meaning_celled.specs.Laws.{IsSeen}
 use Rattle.cr_meaning_celled.proofs.Seen.{stand}
 
 -- ---- kinds and roles
-
-use_same : (k : Kind) → is_use k ≡ true → leaves.is_use k ≡ true
-use_same kind.Identifier h = refl
-use_same kind.Call h = refl
-use_same kind.TypedefName h = refl
-use_same k h = absurd (false≢true h)
-
-tagged_same : (k : Kind) → is_tagged k ≡ true → leaves.is_tagged k ≡ true
-tagged_same kind.StructTag h = refl
-tagged_same kind.EnumTag h = refl
-tagged_same kind.StructContent h = refl
-tagged_same kind.EnumContent h = refl
-tagged_same k h = absurd (false≢true h)
-
-role_speaks : (w : Word) (next : Derivation) → is_silent (role_by w next) ≡ false
-role_speaks TypedefWord next = refl
-role_speaks ExternWord Nothing = refl
-role_speaks ExternWord (Derived f) = refl
-role_speaks ExternWord Other = refl
-role_speaks NoWord Nothing = refl
-role_speaks NoWord (Derived f) = refl
-role_speaks NoWord Other = refl
 
 used_kind : (k : Kind) → k ≡ kind.Identifier → is_using k ≡ true
 used_kind k e = ap is_using e

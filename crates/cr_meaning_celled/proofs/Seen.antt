@@ -10,9 +10,8 @@ use Rattle.cr_scopes.specs.declared.names.Names.{Names}
 use Rattle.cr_scopes.specs.declared.told.Told.{Told}
 use Rattle.cr_scopes.specs.declared.scope.Space.TheVariants.{Ordinary}
 use Rattle.cr_scopes.specs.declared.scope.Found.{Found}
-use Rattle.cr_scopes.specs.declared.scope.Look.{Look}
 use Rattle.cr_scopes.specs.Looking.{stands_in, begun, noted_if, look}
-use Rattle.cr_scopes.specs.Resolved.{space_of, space_number, declares_by, told_if, told_of, told, begins, count_of as count_before, number_of, past_of, told_below, AreResolved}
+use Rattle.cr_scopes.specs.Resolved.{space_of, space_number, told_if, told_of, told, begins, count_of as count_before, number_of, past_of, told_below, AreResolved}
 use Rattle.cr_scopes_bindings.specs.Entities.{entity_within, entity_at}
 use Rattle.cr_scopes_bindings.specs.Visible.{is_named, latest, visible}
 use Rattle.cr_scopes_alone.specs.Alone.{IsAlone}
@@ -20,25 +19,10 @@ use Rattle.cr_scopes_alone.specs.Sight.{is_used}
 use Rattle.cr_scopes_alone.proofs.Telling.{AreRight, all_right, token_told}
 use Rattle.cr_scopes_alone.proofs.First.{number_is, told_there, within_is}
 use Rattle.cr_scopes_uses.specs.Uses.{is_use}
-use Rattle.cr_scopes_told.proofs.Events.{onto, all_came}
+use Rattle.cr_scopes_told.proofs.Events.{all_came}
 use Rattle.cr_scopes_once.specs.Told.{count_of}
+use Rattle.cr_scopes_once.proofs.Meaning.{ordinary_space, ordinary_declares, only_used, count_onto}
 use Rattle.cr_meaning_celled.specs.Laws
-
--- what is told as an ordinary identifier declares one
-ordinary_space : (r : Role) → stands_in Ordinary r ≡ true → space_of r ≡ Ordinary
-ordinary_space role.Content h = absurd (false≢true h)
-ordinary_space role.Alone h = absurd (false≢true h)
-ordinary_space role.Mentioned h = absurd (false≢true h)
-ordinary_space r h = refl
-
-ordinary_declares : (r : Role) (l : Look) → stands_in Ordinary r ≡ true → declares_by r l ≡ true
-ordinary_declares role.Used l h = absurd (false≢true h)
-ordinary_declares role.Mentioned l h = absurd (false≢true h)
-ordinary_declares r l h = refl
-
-only_used : (r : Role) → is_used r ≡ true → r ≡ role.Used
-only_used role.Used h = refl
-only_used r h = absurd (false≢true h)
 
 module _ (name : ℕ → ℕ) (x : ℕ) where
   not_told : (past : List Event) → count_of x past ≤ 0 → told name x past ≡ None
@@ -197,10 +181,6 @@ module _ (name : ℕ → ℕ) (x : ℕ) where
     used_alone (Closes ∷ past) a w few used z e h = used_alone past a w (omega (arith, few)) used z e h
     used_alone (Member t k ∷ past) a w few used z e h = used_alone past a w (omega (arith, few)) used z e h
     used_alone (Node i ∷ past) a w few used z e h = used_alone past a w (omega (arith, few)) used z e h
-
-count_onto : (s : ℕ) (past es : List Event) → count_of s (onto past es) ≡ count_of s past + count_of s es
-count_onto s past [] = omega arith
-count_onto s past (e ∷ es) = let h = count_onto s (e ∷ past) es in omega (arith, h)
 
 -- ---- the law
 

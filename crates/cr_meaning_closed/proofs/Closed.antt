@@ -1,7 +1,6 @@
 -- A definition whose own parameters end in `...` would be a refused form of the grammar (C11 6.9.1).
-use Rattle.std.proofs.Common.{◌≡◌, ℕ, zero, suc, ◌+◌, ◌<◌, ◌≤◌, ◌==◌, ◌||◌, Bool, true, false, not, List, [], ◌∷◌, Option, None, Some, length, slice_get, slice_index_or, ◌⊎◌, inl, inr, refl, sym, ap, subst, ◌∙◌, arith, if◌then◌else◌}
-use Rattle.std.specs.Option.{is_some}
-use Rattle.std.proofs.lemmas.Bool.{false≢true, and_from, or_left, or_parts, eq-eqb}
+use Rattle.std.proofs.Common.{◌≡◌, ℕ, zero, suc, ◌+◌, ◌<◌, ◌≤◌, ◌==◌, ◌||◌, Bool, true, false, List, [], ◌∷◌, Option, None, Some, length, slice_get, slice_index_or, ◌⊎◌, inl, inr, refl, sym, ap, subst, ◌∙◌, arith, if◌then◌else◌}
+use Rattle.std.proofs.lemmas.Bool.{false≢true, and_from, or_left, eq-eqb}
 use Rattle.cr_syntax.specs.declared.node.Kind.{Kind}
 use Rattle.cr_syntax.specs.declared.node.Kind.TheVariants as kind
 use Rattle.cr_syntax.specs.declared.node.Node.{Node}
@@ -25,23 +24,18 @@ use Rattle.cr_scopes_events.specs.declared.declarator.Derivation.TheVariants as 
 use Rattle.cr_scopes_events.specs.Declarators.{declarator_of}
 use Rattle.cr_scopes_events.specs.Scripts as scripts
 use Rattle.cr_scopes_shared.specs.Origins.{IsDeclarer}
-use Rattle.cr_check_enclosing.specs.declared.context.Place.{Place}
-use Rattle.cr_check_types.specs.Types.{Qualified}
 use Rattle.cr_check_expressions.specs.declared.known.Declared.TheVariants.{Function, TypeName, Unclear}
 use Rattle.cr_check_declarators.specs.declared.words.Class.{Class}
 use Rattle.cr_check_declarators.specs.declared.declarator.Declarator.{Declarator}
-use Rattle.cr_check_declarators.specs.Specifiers.{is_member}
-use Rattle.cr_check_declarators.specs.Declarators.{may_return, is_declared, function_fault_of, open_fault_of}
 use Rattle.cr_check_declarations.specs.declared.tree.Tree.{Tree}
 use Rattle.cr_check_declarations.specs.Before.{Before, kind_if, parts_if, kind_in, specified_in, type_in}
 use Rattle.cr_check_declarations.specs.Named.{is_declarator, class_of, is_typedef, is_initialised, is_variadic_list, is_variadic, value_by, specifiers_in, declaration_of}
-use Rattle.cr_check_declarations.specs.Faults.{Has as HasNode, has_at, fault_at, token_if, place_of, name_token, declarator_faults, whole_faults}
+use Rattle.cr_check_declarations.specs.Faults.{Has as HasNode, has_at, place_of, name_token, whole_faults}
 use Rattle.cr_check_unit.specs.declared.typing.Typing.{Typing}
 use Rattle.cr_check_unit.specs.Typing.{cut, entry_at, before_in}
 use Rattle.cr_typed.specs.declared.typed.Typed.{Typed}
 use Rattle.cr_typed_unit.specs.Typed.{IsTypedBy}
 use Rattle.cr_meaning_typed.specs.Laws.{HoldsAll}
-use Rattle.cr_meaning_typed.proofs.Worth.{unbroken}
 use Rattle.cr_meaning_units.specs.Owned.{AreOfUnit}
 use Rattle.cr_meaning_units.proofs.Handing.{laid_at, parts_below}
 use Rattle.cr_meaning_known.specs.Shaped.{fits, IsShaped}
@@ -53,6 +47,7 @@ use Rattle.cr_meaning_parameters.proofs.Lists.{good}
 use Rattle.cr_meaning_chained.proofs.Known.{is_typing, holds, nodes_are, owned, there, definition_declares, IsOwned}
 use Rattle.cr_meaning_objects.proofs.Alone.{declared_is}
 use Rattle.cr_meaning_called.proofs.Meant.{is_alike}
+use Rattle.cr_meaning_called.proofs.Fitting.{well_placed, function_holds}
 use Rattle.cr_meaning_closed.specs.Laws
 use Rattle.cr_meaning_closed.proofs.Own.{IsOwn, opened, own_list}
 
@@ -65,20 +60,6 @@ function_made : (c : Bool) (nodes : List Node) (of : Option Class) (f : Option �
 function_made true nodes of f row x more e = absurd cc
 function_made false nodes of None row x more e = absurd cc
 function_made false nodes of (Some l) row x more e = (l, (refl, cc))
-
--- K8
-well_placed : (own : Declarator) (at : Place) (typedef : Bool) (result : Qualified) → function_fault_of own at typedef result ≡ false → own.misplaced ≡ false
-well_placed own at typedef result h = by (is_some own.function) h
-  where
-    by : (b : Bool) → (if b then own.misplaced || (not (is_declared at typedef own.empty) || not (may_return result)) else own.misplaced) ≡ false → own.misplaced ≡ false
-    by true e = (or_parts own.misplaced (not (is_declared at typedef own.empty) || not (may_return result)) e).0
-    by false e = e
-
-function_holds : (own : HasNode) (b : Before) (nodes : List Node) (i : ℕ) (at : Place) (storage : Option Class) (initialised : Bool) (base : Qualified) (name : ℕ)
-    → HoldsAll (declarator_faults own b nodes i at storage initialised base name) → function_fault_of own.declarator at (is_typedef storage) own.named ≡ false
-function_holds own b nodes i at storage initialised base name h =
-    unbroken 8 name (function_fault_of own.declarator at (is_typedef storage) own.named)
-    (fault_at 14 (open_fault_of own.declarator at storage initialised) ∷ fault_at 41 (token_if (is_member at) own.declarator.volatile) ∷ []) (λ x among. h x (inr (inr (inr among))))
 
 only_variadic : (k : Kind) → is_variadic_list (Some k) ≡ true → k ≡ kind.VariadicParameters
 only_variadic kind.VariadicParameters h = refl

@@ -13,15 +13,11 @@ use Rattle.cr_syntax_nodes.proofs.Made.{made_in, rises}
 use Rattle.cr_syntax_nodes.proofs.Numbers.{some_at, occurs}
 use Rattle.cr_syntax_nodes.proofs.Order.{in_order}
 use Rattle.cr_scopes_events.specs.declared.event.Role.{Role}
-use Rattle.cr_scopes_events.specs.declared.naming.Storage.{Storage as Word}
-use Rattle.cr_scopes_events.specs.declared.naming.Storage.TheVariants.{TypedefWord, ExternWord, NoWord}
-use Rattle.cr_scopes_events.specs.declared.declarator.Derivation.{Derivation}
-use Rattle.cr_scopes_events.specs.declared.declarator.Derivation.TheVariants.{Nothing, Function as Derived, Other}
 use Rattle.cr_scopes_events.specs.declared.declarator.Declarator.{Declarator as Told}
 use Rattle.cr_scopes_events.specs.Values.{before}
 use Rattle.cr_scopes_events.specs.Declarators.{nowhere, declared_by as names_by, declared_if, declarator_of}
 use Rattle.cr_scopes_events.specs.Scripts as scripts
-use Rattle.cr_scopes_events.specs.Scripts.{role_by, storage_of}
+use Rattle.cr_scopes_events.specs.Scripts.{storage_of}
 use Rattle.cr_scopes_events.specs.Events.{events_of}
 use Rattle.cr_scopes_events.proofs.Descents.{declarator_ruled}
 use Rattle.cr_scopes.specs.Resolved.{is_number, past_of}
@@ -32,7 +28,7 @@ use Rattle.cr_scopes_bindings.specs.Nodes.{named_by, named_if, name_at}
 use Rattle.cr_scopes_bindings.specs.Entities as bound
 use Rattle.cr_scopes_shared.specs.Sorts.{Never}
 use Rattle.cr_scopes_shared.specs.Origins.{is_external, IsDeclarer}
-use Rattle.cr_scopes_tellings.specs.Tellings.{is_use, is_tagged, Telling, by_declaration, by_parameter, by_enumerator, by_tag, by_use}
+use Rattle.cr_scopes_tellings.specs.Tellings.{Telling, by_declaration, by_parameter, by_enumerator, by_tag, by_use}
 use Rattle.cr_scopes_tellings.proofs.Scripts.{all_told}
 use Rattle.cr_check_types.specs.declared.shape.Shape.{Shape}
 use Rattle.cr_check_types.specs.Types.{Qualified, type_at, unknown}
@@ -72,6 +68,7 @@ use Rattle.cr_meaning_objects.specs.Laws.{DeclaresObject}
 use Rattle.cr_meaning_objects.proofs.Declaring.{is_silent, never_told, IsLast, last_there, entity_of_declared, few_of, declares_entity, first_declares, first_least}
 use Rattle.cr_meaning_objects.proofs.Alone.{declared_is}
 use Rattle.cr_meaning_objects.proofs.Objects.{value_there, follows_at}
+use Rattle.cr_meaning_objects.proofs.Statics.{role_speaks, tagged_same, use_same}
 use Rattle.cr_meaning_composed.specs.Laws
 use Rattle.cr_meaning_composed.specs.Laws.{Becomes, IsObject}
 use Rattle.cr_meaning_composed.proofs.Sizes.{becomes_itself, becomes_further}
@@ -87,28 +84,6 @@ number_is None k h = absurd (false≢true h)
 number_is (Some j) k h = ap Some (eqb-true j k h)
 
 -- ---- what tells a declared name
-
-use_same : (k : Kind) → is_use k ≡ true → leaves.is_use k ≡ true
-use_same kind.Identifier h = refl
-use_same kind.Call h = refl
-use_same kind.TypedefName h = refl
-use_same k h = absurd (false≢true h)
-
-tagged_same : (k : Kind) → is_tagged k ≡ true → leaves.is_tagged k ≡ true
-tagged_same kind.StructTag h = refl
-tagged_same kind.EnumTag h = refl
-tagged_same kind.StructContent h = refl
-tagged_same kind.EnumContent h = refl
-tagged_same k h = absurd (false≢true h)
-
-role_speaks : (w : Word) (next : Derivation) → is_silent (role_by w next) ≡ false
-role_speaks TypedefWord next = refl
-role_speaks ExternWord Nothing = refl
-role_speaks ExternWord (Derived f) = refl
-role_speaks ExternWord Other = refl
-role_speaks NoWord Nothing = refl
-role_speaks NoWord (Derived f) = refl
-role_speaks NoWord Other = refl
 
 -- an enumerator has no declarator
 enumerator_nameless : (k : Kind) (at : ℕ → Told) (i : ℕ) (n : Node) (token : ℕ) → k ≡ kind.Enumerator → (names_by k at i n).name ≡ Some token → ⊥

@@ -14,14 +14,13 @@ use Rattle.cr_scopes_events.specs.Scripts as scripts
 use Rattle.cr_scopes_shared.specs.Origins.{is_external, IsDeclarer}
 use Rattle.cr_check_types.specs.declared.shape.Shape.{Shape}
 use Rattle.cr_check_enclosing.specs.Above.{above_of}
-use Rattle.cr_check_expressions.specs.declared.known.Declared.{Declared}
-use Rattle.cr_check_expressions.specs.declared.known.Declared.TheVariants.{Object, Enumerator, Unclear}
+use Rattle.cr_check_expressions.specs.declared.known.Declared.TheVariants.{Object, Enumerator}
 use Rattle.cr_check_declarators.specs.declared.words.Specified.{Specified}
 use Rattle.cr_check_declarators.specs.declared.declarator.Declarator.{Declarator}
 use Rattle.cr_check_declarators.specs.declared.enumerators.Enumerated.{Enumerated}
 use Rattle.cr_check_declarations.specs.declared.tree.Tree.{Tree}
 use Rattle.cr_check_declarations.specs.Before.{kind_in, kind_if}
-use Rattle.cr_check_declarations.specs.Named.{is_declaration, is_initialised, above_in, declaration_at, declaration_of, names_ordinary, ordinary_of, declares_name, constant_by, declared_by}
+use Rattle.cr_check_declarations.specs.Named.{is_declaration, is_initialised, above_in, declaration_at, declaration_of, names_ordinary, ordinary_of, declares_name, declared_by}
 use Rattle.cr_check_unit.specs.declared.typing.Typing.{Typing}
 use Rattle.cr_check_unit.specs.Typing.{cut, entry_at, before_in}
 use Rattle.cr_typed.specs.declared.typed.Typed.{Typed}
@@ -36,24 +35,13 @@ use Rattle.cr_meaning_declared.specs.Files.{IsUnitOfFile}
 use Rattle.cr_meaning_declared.proofs.Nodes.{of_unit}
 use Rattle.cr_meaning_chained.proofs.Known.{is_typing, holds, there}
 use Rattle.cr_meaning_objects.specs.Laws.{DeclaresObject}
+use Rattle.cr_meaning_objects.proofs.Statics.{no_constant, object_if}
 use Rattle.cr_meaning_composed.specs.Laws
 
 some_same : {A : Type 0} (x y : A) → Some x ≡ Some y → x ≡ y
 some_same x y e = cc
 
 -- ---- what declares an object
-
-no_constant : (e : Option Enumerated) (row : ℕ) (register : Bool) → constant_by e ≡ Object row register → ⊥
-no_constant None row register h = cc
-no_constant (Some own) row register h = by own.value h
-  where
-    by : (o : Option ℤ) → (elim o [ None ↦ Unclear | Some value ↦ Enumerator value ]) ≡ Object row register → ⊥
-    by None h = cc
-    by (Some value) h = cc
-
-object_if : (b : Bool) (d : Declared) (row : ℕ) (register : Bool) → (if b then d else Unclear) ≡ Object row register → (b ≡ true) × (d ≡ Object row register)
-object_if true d row register h = (refl, h)
-object_if false d row register h = absurd cc
 
 object_declares : (k : Kind) (nodes : List Node) (said : ℕ → Specified) (own : Declarator) (row : ℕ) (e : Option Enumerated) (d : Option ℕ) (x : ℕ) (register : Bool) → declared_by k nodes said own row e d ≡ Object x register
     → names_ordinary (kind_in nodes d) ≡ true

@@ -1,6 +1,6 @@
 -- From one declaration of an object to the next one its composite type keeps what the earlier ones tell (C11 6.2.7p3, p4, K9).
 use Rattle.std.proofs.Common.{◌≡◌, ℕ, zero, suc, ◌<◌, ◌&&◌, Bool, true, false, not, List, [], ◌∷◌, Option, None, Some, map, nat_lt, slice_get, slice_index_or, ◌⊎◌, inl, inr, refl, sym, subst, ap, ◌∙◌, arith, if◌then◌else◌}
-use Rattle.std.proofs.lemmas.Bool.{cases_lt, false≢true, eqb-true, eq-eqb, lt-ltb, ltb-true, and_parts, not-false}
+use Rattle.std.proofs.lemmas.Bool.{cases_lt, false≢true, eq-eqb, lt-ltb, not-false}
 use Rattle.std.proofs.lemmas.List.{get_or-take}
 use Rattle.cr_syntax.specs.declared.node.Kind.{Kind}
 use Rattle.cr_syntax.specs.declared.node.Kind.TheVariants as kind
@@ -48,45 +48,11 @@ use Rattle.cr_meaning_chained.proofs.Known.{words, IsOwned, owned, nodes_are, is
 use Rattle.cr_meaning_objects.specs.Laws.{DeclaresObject}
 use Rattle.cr_meaning_objects.proofs.Declaring.{IsLast, last_there, entity_of_declared}
 use Rattle.cr_meaning_objects.proofs.Alone.{value_made, declared_is}
-use Rattle.cr_meaning_objects.proofs.Objects.{shared, follows_at}
+use Rattle.cr_meaning_objects.proofs.Objects.{shared, follows_at, raised_is}
 use Rattle.cr_meaning_composed.specs.Laws.{Becomes}
 use Rattle.cr_meaning_composed.proofs.Sizes.{becomes_further, becomes_typed, joined_own, joined_earlier}
 
 -- ---- what the declaration before is read from
-
--- an initialised declarator, before the next declaration
-record IsInitialised (nodes : List Node) (a r q : ℕ) : Type 0 where
-  node : Node
-  at : slice_get nodes a ≡ Some node
-  is : node.kind ≡ kind.InitDeclarator
-  first : slice_get node.parts 0 ≡ Some r
-  below : a < q
-
-first_part : (part : ℕ) (ps : List ℕ) → is_first part ps ≡ true → slice_get ps 0 ≡ Some part
-first_part part [] h = absurd (false≢true h)
-first_part part (x ∷ xs) h = ap Some (eqb-true x part h)
-
-initial : (k : Kind) (ps : List ℕ) (r : ℕ) → initialises k ps r ≡ true → (k ≡ kind.InitDeclarator) × (slice_get ps 0 ≡ Some r)
-initial kind.InitDeclarator ps r h = (refl, first_part r ps h)
-initial k ps r h = absurd (false≢true h)
-
-raised_is : (nodes : List Node) (above : List (Option ℕ)) (r q : ℕ) → (raised nodes above r q ≡ r) ⊎ ((a : ℕ) × ((raised nodes above r q ≡ a) × IsInitialised nodes a r q))
-raised_is nodes above r q = over (slice_index_or above r None) refl
-  where
-    over : (o : Option ℕ) → slice_index_or above r None ≡ o → (raised nodes above r q ≡ r) ⊎ ((a : ℕ) × ((raised nodes above r q ≡ a) × IsInitialised nodes a r q))
-    over None e = inl (ap (λ o. raised_if nodes o r q) e)
-    over (Some a) e = node (slice_get nodes a) refl
-      where
-        node : (o : Option Node) → slice_get nodes a ≡ o → (raised nodes above r q ≡ r) ⊎ ((a : ℕ) × ((raised nodes above r q ≡ a) × IsInitialised nodes a r q))
-        node None f = inl (ap (λ o. raised_if nodes o r q) e ∙ ap (λ o. raised_by o a r q) f)
-        node (Some n) f = by (initialises n.kind n.parts r && nat_lt a q) refl
-          where
-            by : (b : Bool) → (initialises n.kind n.parts r && nat_lt a q) ≡ b → (raised nodes above r q ≡ r) ⊎ ((a : ℕ) × ((raised nodes above r q ≡ a) × IsInitialised nodes a r q))
-            by false g = inl (ap (λ o. raised_if nodes o r q) e ∙ ap (λ o. raised_by o a r q) f ∙ ap (λ b. if b then a else r) g)
-            by true g =
-                let both = and_parts (initialises n.kind n.parts r) (nat_lt a q) g in
-                let x = initial n.kind n.parts r both.0 in
-                inr (a, (ap (λ o. raised_if nodes o r q) e ∙ ap (λ o. raised_by o a r q) f ∙ ap (λ b. if b then a else r) g, record { node = n; at = f; is = x.0; first = x.1; below = ltb-true a q both.1 }))
 
 first_is : (ps : List ℕ) (r : ℕ) → slice_get ps 0 ≡ Some r → is_first r ps ≡ true
 first_is [] r e = absurd cc

@@ -27,7 +27,7 @@ use Rattle.cr_check_declarators.specs.Declarators.{name_alone, function_by, is_h
 use Rattle.cr_check_declarations.specs.Before.{kind_in, kind_if as kind_of_node, specified_in}
 use Rattle.cr_check_declarations.specs.Declarators.{declarator_by, inner_derived}
 use Rattle.cr_check_declarations.specs.Before.{declarator_in}
-use Rattle.cr_check_declarations.specs.Named.{class_of, is_typedef, is_initialised, is_declarator, is_declaration as is_declaration_kind, declares_name, constant_by, names_ordinary, ordinary_by, ordinary_of, specifiers_in, declared_by as declares_by, above_in, declaration_at, declaration_of}
+use Rattle.cr_check_declarations.specs.Named.{class_of, is_typedef, is_initialised, is_declarator, is_declaration as is_declaration_kind, declares_name, names_ordinary, ordinary_by, ordinary_of, specifiers_in, declared_by as declares_by, above_in, declaration_at, declaration_of}
 use Rattle.cr_check_declarations.specs.Faults.{has_at, is_specifier, whole_faults}
 use Rattle.cr_check_unit.specs.Typing.{cut, entry_at, before_in}
 use Rattle.cr_meaning_typed.specs.Laws.{HoldsAll}
@@ -37,6 +37,7 @@ use Rattle.cr_meaning_known.proofs.Declaring.{declarator_holds}
 use Rattle.cr_meaning_chained.proofs.Known.{definitions}
 use Rattle.cr_meaning_objects.proofs.Alone.{value_made}
 use Rattle.cr_meaning_objects.proofs.Declaring.{IsLast, last_there}
+use Rattle.cr_meaning_objects.proofs.Statics.{no_constant, object_if, only_initialised}
 use Rattle.cr_meaning_files.proofs.Living.{one_of}
 use Rattle.cr_meaning_files.proofs.Parameters.{list_counts, found_below, unit_parts, parameters_are, named_locally}
 use Rattle.cr_meaning_files.proofs.Lasting.{static_seen}
@@ -137,18 +138,6 @@ last_below key (suc b) k i e = by (is_number (key b) k) e (λ x. last_below key 
 
 -- ---- what declares an object
 
-object_if : (b : Bool) (d : Declared) (row : ℕ) (register : Bool) → (if b then d else Unclear) ≡ Object row register → (b ≡ true) × (d ≡ Object row register)
-object_if true d row register h = (refl, h)
-object_if false d row register h = let never : Unclear ≡ Object row register = h in absurd cc
-
-no_constant : (e : Option Enumerated) (row : ℕ) (register : Bool) → constant_by e ≡ Object row register → ⊥
-no_constant None row register h = let never : Unclear ≡ Object row register = h in cc
-no_constant (Some own) row register h = by own.value h
-  where
-    by : (o : Option ℤ) → (elim o [ None ↦ Unclear | Some value ↦ Enumerator value ]) ≡ Object row register → ⊥
-    by None h = let never : Unclear ≡ Object row register = h in cc
-    by (Some value) h = let never : Enumerator value ≡ Object row register = h in cc
-
 by_specifiers : (nodes : List Node) (saying : ℕ → Specified) (own : Declarator) (row : ℕ) (o : Option ℕ) (x : ℕ) (register : Bool) → ordinary_by nodes saying own row o ≡ Object x register → own.function ≡ None
 by_specifiers nodes saying own row None x register h = let never : Unclear ≡ Object x register = h in absurd cc
 by_specifiers nodes saying own row (Some s) x register h = (value_made (is_typedef (class_of (saying s).storage)) nodes (class_of (saying s).storage) own.function row x register h).1
@@ -201,10 +190,6 @@ ordinary_kind kind.Declaration h = inl refl
 ordinary_kind kind.FunctionDefinition h = inr (inl refl)
 ordinary_kind kind.Parameter h = inr (inr refl)
 ordinary_kind k h = absurd (false≢true h)
-
-only_initialised : (o : Option Kind) → is_initialised o ≡ true → o ≡ Some kind.InitDeclarator
-only_initialised (Some kind.InitDeclarator) h = refl
-only_initialised o h = absurd (false≢true h)
 
 place_init : (k : Kind) (i : ℕ) (a : Around) → k ≡ kind.InitDeclarator → (inside k i a).place ≡ a.place
 unfolding inside

@@ -15,9 +15,8 @@ use Rattle.cr_scopes_events.specs.declared.naming.Storage.{Storage as Word}
 use Rattle.cr_scopes_events.specs.declared.naming.Storage.TheVariants.{TypedefWord, ExternWord, NoWord}
 use Rattle.cr_scopes_events.specs.declared.declarator.Derivation.{Derivation}
 use Rattle.cr_scopes_events.specs.declared.declarator.Derivation.TheVariants.{Nothing, Function as Derived, Other}
-use Rattle.cr_scopes_events.specs.declared.declarator.Declarator.{Declarator as Named}
 use Rattle.cr_scopes_events.specs.Values.{before}
-use Rattle.cr_scopes_events.specs.Declarators.{nowhere, declared_by as names_by, declared_if, declarator_of}
+use Rattle.cr_scopes_events.specs.Declarators.{nowhere, declared_if, declarator_of}
 use Rattle.cr_scopes_events.specs.Scripts as scripts
 use Rattle.cr_scopes_events.specs.Scripts.{role_by}
 use Rattle.cr_scopes_events.specs.Events.{events_of}
@@ -91,6 +90,7 @@ use Rattle.cr_meaning_objects.specs.Laws.{DeclaresObject}
 use Rattle.cr_meaning_objects.proofs.Declaring.{IsLast, never_told, last_there, entity_of_declared, few_of, token_low}
 use Rattle.cr_meaning_objects.proofs.Alone.{Stands, in_file, in_block, in_clause, declared_is, stands_there}
 use Rattle.cr_meaning_objects.proofs.Objects.{value_there, follows_at}
+use Rattle.cr_meaning_objects.proofs.Statics.{tagged_same, enumerator_nameless}
 use Rattle.cr_meaning_kept.specs.Laws
 use Rattle.cr_meaning_kept.proofs.Uses.{is_telling, IsUsed, first_of_site, declared_told, is_used_there}
 
@@ -150,17 +150,6 @@ plain_role ExternWord Other = refl
 plain_role NoWord Nothing = refl
 plain_role NoWord (Derived f) = refl
 plain_role NoWord Other = refl
-
-tagged_same : (k : Kind) → is_tagged k ≡ true → leaves.is_tagged k ≡ true
-tagged_same kind.StructTag h = refl
-tagged_same kind.EnumTag h = refl
-tagged_same kind.StructContent h = refl
-tagged_same kind.EnumContent h = refl
-tagged_same k h = absurd (false≢true h)
-
--- an enumerator has no declarator
-enumerator_nameless : (k : Kind) (at : ℕ → Named) (i : ℕ) (n : Node) (token : ℕ) → k ≡ kind.Enumerator → (names_by k at i n).name ≡ Some token → ⊥
-enumerator_nameless k at i n token e f = let never : None ≡ Some token = sym (ap (λ x. (names_by x at i n).name) e) ∙ f in cc
 
 -- a value is an object or a function
 value_sort : (nodes : List Node) (of : Option Class) (f : Option ℕ) (row : ℕ) (d : Declared) → d ≡ value_by nodes of f row → ((x : ℕ) × ((register : Bool) × (d ≡ Object x register))) ⊎ ((x : ℕ) × ((more : Bool) × (d ≡ Function x more)))

@@ -3,7 +3,6 @@ use Rattle.std.proofs.Common.{◌≡◌, ℕ, Bool, true, false, ◌&&◌, List,
 use Rattle.std.proofs.lemmas.Bool.{false≢true, and_parts}
 use Rattle.std.proofs.lemmas.List.{get_or-take}
 use Rattle.std.proofs.lemmas.Option.{slice_get_within}
-use Rattle.cr_syntax.specs.declared.node.Kind.{Kind}
 use Rattle.cr_syntax.specs.declared.node.Kind.TheVariants as kind
 use Rattle.cr_syntax.specs.declared.node.Node.{Node}
 use Rattle.cr_scopes_bindings.specs.Bindings.{entry_if}
@@ -19,7 +18,6 @@ use Rattle.cr_check_expressions.specs.Ruled as rules
 use Rattle.cr_check_declarators.specs.declared.words.Class.{Class}
 use Rattle.cr_check_declarators.specs.declared.words.Specified.{Specified}
 use Rattle.cr_check_declarators.specs.declared.declarator.Declarator.{Declarator}
-use Rattle.cr_check_declarators.specs.declared.enumerators.Enumerated.{Enumerated}
 use Rattle.cr_check_declarations.specs.declared.tree.Tree.{Tree}
 use Rattle.cr_check_declarations.specs.Before.{Before, kind_in, declarator_in}
 use Rattle.cr_check_declarations.specs.Declarators.{declarator_by}
@@ -37,6 +35,7 @@ use Rattle.cr_meaning_declared.specs.Files.{IsUnitOfFile}
 use Rattle.cr_meaning_chained.proofs.Known.{is_typing, holds, there, declarator_names}
 use Rattle.cr_meaning_told.proofs.Names.{initial}
 use Rattle.cr_meaning_objects.specs.Laws.{DeclaresObject}
+use Rattle.cr_meaning_objects.proofs.Alone.{declares_by_kind}
 use Rattle.cr_meaning_kept.specs.Laws
 use Rattle.cr_meaning_kept.specs.Laws.{SeesObject}
 
@@ -55,10 +54,6 @@ place_object look rows TypeName h = absurd (false≢true h)
 place_object look rows Unclear h = absurd (false≢true h)
 
 -- ---- what two declarators of a declaration declare
-
-declares_by_kind : (k : Kind) (nodes : List Node) (said : ℕ → Specified) (own : Declarator) (row : ℕ) (e : Option Enumerated) (d : Option ℕ) → declares_name k ≡ true → declared_by k nodes said own row e d ≡ ordinary_of nodes said own row d
-declares_by_kind kind.Enumerator nodes said own row e d h = absurd (false≢true h)
-declares_by_kind k nodes said own row e d h = ap (λ b. if b then ordinary_of nodes said own row d else Unclear) h
 
 value_object : (nodes : List Node) (c : Option Class) (f : Option ℕ) (row other : ℕ) → IsObject (value_by nodes c f row) → IsObject (value_by nodes c f other)
 value_object nodes c None row other h = (other, (is_register c, refl))

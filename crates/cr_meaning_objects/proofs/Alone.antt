@@ -201,7 +201,7 @@ value_made true nodes of f row x register e = absurd cc
 value_made false nodes of None row x register e = (refl, refl)
 value_made false nodes of (Some f) row x register e = absurd cc
 
-declares_by_kind : (k : Kind) (nodes : List Node) (said : ℕ → Specified) (own : Declarator) (row : ℕ) (e : Option Enumerated) (d : Option ℕ) → declares_name k ≡ true → declared_by k nodes said own row e d ≡ ordinary_of nodes said own row d
+pub declares_by_kind : (k : Kind) (nodes : List Node) (said : ℕ → Specified) (own : Declarator) (row : ℕ) (e : Option Enumerated) (d : Option ℕ) → declares_name k ≡ true → declared_by k nodes said own row e d ≡ ordinary_of nodes said own row d
 declares_by_kind kind.Enumerator nodes said own row e d h = absurd (false≢true h)
 declares_by_kind k nodes said own row e d h = ap (λ b. if b then ordinary_of nodes said own row d else Unclear) h
 

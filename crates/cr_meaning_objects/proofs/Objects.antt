@@ -51,12 +51,12 @@ use Rattle.cr_meaning_objects.proofs.Alone.{value_made, declared_is, untyped, li
 
 -- ---- what the declaration before is read from
 
-record IsInitialised (nodes : List Node) (a r q : ℕ) : Type 0 where
-  node : Node
-  at : slice_get nodes a ≡ Some node
-  is : node.kind ≡ kind.InitDeclarator
-  first : slice_get node.parts 0 ≡ Some r
-  below : a < q
+pub record IsInitialised (nodes : List Node) (a r q : ℕ) : Type 0 where
+  pub node : Node
+  pub at : slice_get nodes a ≡ Some node
+  pub is : node.kind ≡ kind.InitDeclarator
+  pub first : slice_get node.parts 0 ≡ Some r
+  pub below : a < q
 
 first_part : (part : ℕ) (ps : List ℕ) → is_first part ps ≡ true → slice_get ps 0 ≡ Some part
 first_part part [] h = absurd (false≢true h)
@@ -66,7 +66,7 @@ initial : (k : Kind) (ps : List ℕ) (r : ℕ) → initialises k ps r ≡ true �
 initial kind.InitDeclarator ps r h = (refl, first_part r ps h)
 initial k ps r h = absurd (false≢true h)
 
-raised_is : (nodes : List Node) (above : List (Option ℕ)) (r q : ℕ) → (raised nodes above r q ≡ r) ⊎ ((a : ℕ) × ((raised nodes above r q ≡ a) × IsInitialised nodes a r q))
+pub raised_is : (nodes : List Node) (above : List (Option ℕ)) (r q : ℕ) → (raised nodes above r q ≡ r) ⊎ ((a : ℕ) × ((raised nodes above r q ≡ a) × IsInitialised nodes a r q))
 raised_is nodes above r q = over (slice_index_or above r None) refl
   where
     over : (o : Option ℕ) → slice_index_or above r None ≡ o → (raised nodes above r q ≡ r) ⊎ ((a : ℕ) × ((raised nodes above r q ≡ a) × IsInitialised nodes a r q))

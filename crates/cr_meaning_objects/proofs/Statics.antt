@@ -121,7 +121,7 @@ made_static row register p own (in_clause e) = subst (λ x. is_static_by (names.
 
 -- ---- what declares an object
 
-no_constant : (e : Option Enumerated) (row : ℕ) (register : Bool) → constant_by e ≡ Object row register → ⊥
+pub no_constant : (e : Option Enumerated) (row : ℕ) (register : Bool) → constant_by e ≡ Object row register → ⊥
 no_constant None row register h = cc
 no_constant (Some own) row register h = by own.value h
   where
@@ -129,7 +129,7 @@ no_constant (Some own) row register h = by own.value h
     by None h = cc
     by (Some value) h = cc
 
-object_if : (b : Bool) (d : Declared) (row : ℕ) (register : Bool) → (if b then d else Unclear) ≡ Object row register → (b ≡ true) × (d ≡ Object row register)
+pub object_if : (b : Bool) (d : Declared) (row : ℕ) (register : Bool) → (if b then d else Unclear) ≡ Object row register → (b ≡ true) × (d ≡ Object row register)
 object_if true d row register h = (refl, h)
 object_if false d row register h = absurd cc
 
@@ -157,7 +157,7 @@ no_specifier kind.AbstractArray h g = false≢true g
 no_specifier kind.AbstractArrayOf h g = false≢true g
 no_specifier k h g = false≢true h
 
-only_initialised : (o : Option Kind) → is_initialised o ≡ true → o ≡ Some kind.InitDeclarator
+pub only_initialised : (o : Option Kind) → is_initialised o ≡ true → o ≡ Some kind.InitDeclarator
 only_initialised (Some kind.InitDeclarator) h = refl
 only_initialised o h = absurd (false≢true h)
 
@@ -200,20 +200,20 @@ place_init k i a e = ap (λ x. place_inside x i a) e
 
 -- ---- what tells a declared name
 
-use_same : (k : Kind) → is_use k ≡ true → leaves.is_use k ≡ true
+pub use_same : (k : Kind) → is_use k ≡ true → leaves.is_use k ≡ true
 use_same kind.Identifier h = refl
 use_same kind.Call h = refl
 use_same kind.TypedefName h = refl
 use_same k h = absurd (false≢true h)
 
-tagged_same : (k : Kind) → is_tagged k ≡ true → leaves.is_tagged k ≡ true
+pub tagged_same : (k : Kind) → is_tagged k ≡ true → leaves.is_tagged k ≡ true
 tagged_same kind.StructTag h = refl
 tagged_same kind.EnumTag h = refl
 tagged_same kind.StructContent h = refl
 tagged_same kind.EnumContent h = refl
 tagged_same k h = absurd (false≢true h)
 
-role_speaks : (w : Word) (next : Derivation) → is_silent (role_by w next) ≡ false
+pub role_speaks : (w : Word) (next : Derivation) → is_silent (role_by w next) ≡ false
 role_speaks TypedefWord next = refl
 role_speaks ExternWord Nothing = refl
 role_speaks ExternWord (Derived f) = refl
@@ -223,7 +223,7 @@ role_speaks NoWord (Derived f) = refl
 role_speaks NoWord Other = refl
 
 -- an enumerator has no declarator
-enumerator_nameless : (k : Kind) (at : ℕ → Named) (i : ℕ) (n : Node) (token : ℕ) → k ≡ kind.Enumerator → (names_by k at i n).name ≡ Some token → ⊥
+pub enumerator_nameless : (k : Kind) (at : ℕ → Named) (i : ℕ) (n : Node) (token : ℕ) → k ≡ kind.Enumerator → (names_by k at i n).name ≡ Some token → ⊥
 enumerator_nameless k at i n token e f = let never : None ≡ Some token = sym (ap (λ x. (names_by x at i n).name) e) ∙ f in cc
 
 module _ (file : List ℕ) (t : Typed) (it : IsUnitOfFile file t) where

@@ -25,18 +25,18 @@ use Rattle.cr_scopes_once.specs.Told.{count_of}
 use Rattle.cr_scopes_once.specs.Laws
 
 -- what is told as an ordinary identifier declares one
-ordinary_space : (r : Role) → stands_in Ordinary r ≡ true → space_of r ≡ Ordinary
+pub ordinary_space : (r : Role) → stands_in Ordinary r ≡ true → space_of r ≡ Ordinary
 ordinary_space role.Content h = absurd (false≢true h)
 ordinary_space role.Alone h = absurd (false≢true h)
 ordinary_space role.Mentioned h = absurd (false≢true h)
 ordinary_space r h = refl
 
-ordinary_declares : (r : Role) (l : Look) → stands_in Ordinary r ≡ true → declares_by r l ≡ true
+pub ordinary_declares : (r : Role) (l : Look) → stands_in Ordinary r ≡ true → declares_by r l ≡ true
 ordinary_declares role.Used l h = absurd (false≢true h)
 ordinary_declares role.Mentioned l h = absurd (false≢true h)
 ordinary_declares r l h = refl
 
-only_used : (r : Role) → is_used r ≡ true → r ≡ role.Used
+pub only_used : (r : Role) → is_used r ≡ true → r ≡ role.Used
 only_used role.Used h = refl
 only_used r h = absurd (false≢true h)
 
@@ -52,7 +52,7 @@ not_named s (Closes ∷ past) h = not_named s past (omega (arith, h))
 not_named s (Member t k ∷ past) h = not_named s past (omega (arith, h))
 not_named s (Node i ∷ past) h = not_named s past (omega (arith, h))
 
-count_onto : (s : ℕ) (past es : List Event) → count_of s (onto past es) ≡ count_of s past + count_of s es
+pub count_onto : (s : ℕ) (past es : List Event) → count_of s (onto past es) ≡ count_of s past + count_of s es
 count_onto s past [] = omega arith
 count_onto s past (e ∷ es) = let h = count_onto s (e ∷ past) es in omega (arith, h)
 
