@@ -1,12 +1,13 @@
 // The law that a file must obey.
 ghost use Rattle.std.specs.Prelude.{◌≡◌, ◌≢◌, ◌≤◌, ◌⊎◌, ◌==◌, ℕ, List, false, true, length, count_by};
 ghost use Rattle.cr_tokens.specs.Faults.{FirstTokenFault};
+ghost use Rattle.cr_tokens.specs.Tokens.{Tokenizes};
 ghost use Rattle.cr_tokens.specs.Places.{line_of as line_of_place};
 ghost use Rattle.cr_cursor.specs.TokenLaw.{RulesOn};
 ghost use Rattle.cr_cursor.specs.declared.law.Reason.{Reason};
 
 use crate::stop::Stop;
-use cr_tokens::{TokenFault, read};
+use cr_tokens::{TokenFault, Tokens, read};
 use std::alloc::Global;
 
 /// What a law rules on a file.
@@ -45,6 +46,22 @@ pub trait Law {
         ensures reason { (reason : Reason) → result ≡ Ruling.Unlawful reason → reasons self.now file.now reason }
         ensures stopped { result ≡ Ruling.Stopped → S.raised stop.new ≡ true }
         ensures held { S.held stop.new ≡ S.held stop.old };
+
+    /// Rules as `rule` does on a file whose tokens were read before.
+    fn rule_on_tokens<S: Stop>(
+        &self,
+        alloc: Global,
+        file: &[u8],
+        tokens: &Tokens,
+        stop: &mut S,
+    ) -> Ruling
+        requires unstopped { S.raised stop.old ≡ false }
+        requires tokens { Tokenizes file.now tokens.now.list.items }
+        ensures lawful { result ≡ Ruling.Lawful → lawful self.now file.now }
+        ensures unlawful { (reason : Reason) → result ≡ Ruling.Unlawful reason → lawful self.now file.now → ⊥ }
+        ensures reason { (reason : Reason) → result ≡ Ruling.Unlawful reason → reasons self.now file.now reason }
+        ensures stopped { result ≡ Ruling.Stopped → S.raised stop.new ≡ true }
+        ensures held { S.held stop.new ≡ S.held stop.old };
 }
 
 /// The law that a file tokenises.
@@ -72,6 +89,16 @@ impl Law for TokenLaw {
             Err(fault) => fault,
         };
         token_ruling(file, fault)
+    }
+
+    fn rule_on_tokens<S: Stop>(
+        &self,
+        _alloc: Global,
+        _file: &[u8],
+        _tokens: &Tokens,
+        _stop: &mut S,
+    ) -> Ruling {
+        Ruling::Lawful
     }
 }
 

@@ -1,16 +1,18 @@
 // The law of programs.
 ghost use Rattle.std.specs.Prelude.{◌≡◌, true, false};
 ghost use Rattle.cr_cursor.specs.declared.law.Reason.{Reason};
+ghost use Rattle.cr_tokens.specs.Tokens.{Tokenizes};
 ghost use Rattle.cr_lawful.specs.Lawful.{IsLawful, IsReason, IsTypedUnit, RefusesFor, Rules, limits_of};
 ghost use Rattle.cr_lawful.specs.Looks.{HasLookedThrough, Looks};
 
 use crate::last_run::{LastRun, leave_run};
 use crate::reasons::run_ruling;
-use crate::ruled::{RunLaw, ruled_by};
+use crate::ruled::{RunLaw, ruled_by, ruled_by_tokens};
 use cr_cursor::{Law, Reason, Ruling, Stop};
 use cr_exec_outcome::outcome;
 use cr_lawful_analysis::LastRead;
 use cr_meaning::Limits;
+use cr_tokens::Tokens;
 use cr_typed::Typed;
 use std::alloc::Global;
 
@@ -77,6 +79,29 @@ impl<'a> Law for CLaw<'a> {
         ensures looked { result ≡ Ruling.Lawful → HasLookedThrough self.now.limits file.now (S.looks stop.old) (S.looks stop.new) }
     {
         ruled_by(alloc, file, self, self.last, stop)
+    }
+
+    fn rule_on_tokens<S: Stop>(
+        &self,
+        alloc: Global,
+        file: &[u8],
+        tokens: &Tokens,
+        stop: &mut S,
+    ) -> Ruling
+        requires unstopped { S.raised stop.old ≡ false }
+        requires tokens { Tokenizes file.now tokens.now.list.items }
+        ensures lawful { result ≡ Ruling.Lawful → IsLawful self.now.limits file.now }
+        ensures unlawful { (reason : Reason) → result ≡ Ruling.Unlawful reason → IsLawful self.now.limits file.now → ⊥ }
+        // It is the first reason: that of the tokens, then of the parser, then of the names, then of the types, then of the run.
+        ensures reason { (reason : Reason) → result ≡ Ruling.Unlawful reason → IsReason self.now.limits file.now reason }
+        // Where there is one, it is that one.
+        ensures exact { (reason : Reason) → IsReason self.now.limits file.now reason → RefusesFor reason result }
+        ensures stopped { result ≡ Ruling.Stopped → S.raised stop.new ≡ true }
+        ensures held { S.held stop.new ≡ S.held stop.old }
+        // A run that came to its end was always soon to be stopped.
+        ensures looked { result ≡ Ruling.Lawful → HasLookedThrough self.now.limits file.now (S.looks stop.old) (S.looks stop.new) }
+    {
+        ruled_by_tokens(alloc, file, tokens, self, self.last, stop)
     }
 }
 

@@ -24,4 +24,4 @@ pub use last_run::{LastRun, leave_run};
 pub use law::CLaw;
 pub use laws::{a_file_has_one_reason, lawful_files_have_no_reason};
 pub use reasons::run_ruling;
-pub use ruled::{RunLaw, ruled_by};
+pub use ruled::{RunLaw, ruled_by, ruled_by_tokens};

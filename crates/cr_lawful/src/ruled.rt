@@ -2,14 +2,16 @@
 ghost use Rattle.std.specs.Prelude.{◌≡◌, ◌⊎◌, ℕ, Bool, List, false};
 ghost use Rattle.cr_cursor.specs.declared.law.Ruling.{Ruling};
 ghost use Rattle.cr_meaning.specs.declared.run.Limits.{Limits as SpecLimits};
+ghost use Rattle.cr_tokens.specs.Tokens.{Tokenizes};
 ghost use Rattle.cr_lawful.specs.Lawful.{IsTypedUnit, Refuses};
 ghost use Rattle.cr_lawful.specs.Looks.{Looks};
 ghost use Rattle.cr_lawful.specs.Programs.{IsProgram};
 
 use crate::program::{Program, reading_of};
-use crate::units::program_of_file;
+use crate::units::{program_of_file, program_of_tokens};
 use cr_cursor::{Ruling, Stop};
 use cr_lawful_analysis::LastRead;
+use cr_tokens::Tokens;
 use cr_typed::Typed;
 use std::alloc::Global;
 
@@ -51,6 +53,27 @@ pub fn ruled_by<L: RunLaw, S: Stop>(
     ensures looks { Looks (L.limits law.now) file.now (S.looks stop.old) (S.looks stop.new) result }
 {
     match program_of_file(alloc, file, stop) {
+        Ok(program) => ruled_on_program(alloc, file, program, law, last, stop),
+        Err(ruling) => ruling,
+    }
+}
+
+/// The same of a file whose tokens were read before.
+pub fn ruled_by_tokens<L: RunLaw, S: Stop>(
+    alloc: Global,
+    file: &[u8],
+    tokens: &Tokens,
+    law: &L,
+    last: Option<&LastRead>,
+    stop: &mut S,
+) -> Ruling
+    requires unstopped { S.raised stop.old ≡ false }
+    requires tokens { Tokenizes file.now tokens.now.list.items }
+    ensures rules { Refuses file.now (S.raised stop.new) result ⊎ L.rules law.now file.now (S.raised stop.new) result }
+    ensures held { S.held stop.new ≡ S.held stop.old }
+    ensures looks { Looks (L.limits law.now) file.now (S.looks stop.old) (S.looks stop.new) result }
+{
+    match program_of_tokens(alloc, file, tokens, stop) {
         Ok(program) => ruled_on_program(alloc, file, program, law, last, stop),
         Err(ruling) => ruling,
     }

@@ -38,7 +38,7 @@ pub(crate) fn program_of_file<S: Stop>(
     }
 }
 
-fn program_of_tokens<S: Stop>(
+pub(crate) fn program_of_tokens<S: Stop>(
     alloc: Global,
     file: &[u8],
     tokens: &Tokens,

@@ -1,6 +1,7 @@
 // The law of programs that run alike in any order.
 ghost use Rattle.std.specs.Prelude.{◌≡◌, true, false};
 ghost use Rattle.cr_cursor.specs.declared.law.Reason.{Reason};
+ghost use Rattle.cr_tokens.specs.Tokens.{Tokenizes};
 ghost use Rattle.cr_lawful.specs.Lawful.{RefusesFor};
 ghost use Rattle.cr_lawful.specs.Looks.{HasLookedThrough};
 ghost use Rattle.cr_order.specs.Orders.{IsLawfulInOrder, IsOrderReason, OrderRules};
@@ -8,9 +9,12 @@ ghost use Rattle.cr_order.specs.Orders.{IsLawfulInOrder, IsOrderReason, OrderRul
 use crate::judged::outcome_judged;
 use crate::loose::ended_in_order;
 use cr_cursor::{Law, Reason, Ruling, Stop};
-use cr_lawful::{CLaw, LastRun, RunLaw, a_file_has_one_reason, leave_run, ruled_by, run_ruling};
+use cr_lawful::{
+    CLaw, LastRun, RunLaw, a_file_has_one_reason, leave_run, ruled_by, ruled_by_tokens, run_ruling,
+};
 use cr_lawful_analysis::LastRead;
 use cr_meaning::Limits;
+use cr_tokens::Tokens;
 use cr_typed::Typed;
 use std::alloc::Global;
 
@@ -60,6 +64,30 @@ impl<'a> Law for OrderLaw<'a> {
     {
         a_file_has_one_reason();
         ruled_by(alloc, file, self, self.last, stop)
+    }
+
+    fn rule_on_tokens<S: Stop>(
+        &self,
+        alloc: Global,
+        file: &[u8],
+        tokens: &Tokens,
+        stop: &mut S,
+    ) -> Ruling
+        requires unstopped { S.raised stop.old ≡ false }
+        requires tokens { Tokenizes file.now tokens.now.list.items }
+        ensures lawful { result ≡ Ruling.Lawful → IsLawfulInOrder self.now.limits file.now }
+        ensures unlawful { (reason : Reason) → result ≡ Ruling.Unlawful reason → IsLawfulInOrder self.now.limits file.now → ⊥ }
+        // It is the reason of `CLaw`, or else N8.
+        ensures reason { (reason : Reason) → result ≡ Ruling.Unlawful reason → IsOrderReason self.now.limits file.now reason }
+        // Where there is one, it is that one.
+        ensures exact { (reason : Reason) → IsOrderReason self.now.limits file.now reason → RefusesFor reason result }
+        ensures stopped { result ≡ Ruling.Stopped → S.raised stop.new ≡ true }
+        ensures held { S.held stop.new ≡ S.held stop.old }
+        // A run that came to its end was always soon to be stopped.
+        ensures looked { result ≡ Ruling.Lawful → HasLookedThrough self.now.limits file.now (S.looks stop.old) (S.looks stop.new) }
+    {
+        a_file_has_one_reason();
+        ruled_by_tokens(alloc, file, tokens, self, self.last, stop)
     }
 }
 

@@ -27,6 +27,6 @@ pub use bench::Bench;
 pub use crew::Worker;
 pub use job::{EpochEnd, Job};
 pub use looker::Looker;
-pub use measuring::measure;
+pub use measuring::{Measured, measure, read_and_measure};
 pub use verdict::Verdict;
 pub use verdicts::Verdicts;

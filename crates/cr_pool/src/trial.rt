@@ -5,6 +5,7 @@ ghost use Rattle.cr_core.specs.declared.marks.Mark.TheVariants.{Open};
 ghost use Rattle.cr_core.specs.declared.marks.HitKind.{HitKind};
 ghost use Rattle.cr_claims.specs.Pass.{view_of, IsOf};
 ghost use Rattle.cr_cursor.specs.declared.law.Reason.{Reason};
+ghost use Rattle.cr_tokens.specs.Tokens.{Tokenizes};
 ghost use Rattle.cr_pool.specs.declared.verdict.Verdict.{Verdict};
 ghost use Rattle.cr_pool.specs.Answers.{trial_by, trial_of, verdict_of};
 ghost use Rattle.cr_pool.specs.Epoch.{BeginsRight, variant_at};
@@ -17,13 +18,14 @@ ghost use Rattle.cr_pool.specs.Works.{Tries, MayNoteNothing, NoteIsSo, RejectsAt
 
 use crate::job::Job;
 use crate::looker::Looker;
-use crate::measuring::measure;
+use crate::measuring::read_and_measure;
 use crate::verdict::Verdict;
 use crate::verdicts::Verdicts;
 use cr_claims::{Claims, Pass};
 use cr_core::HitKind;
 use cr_cursor::{Law, Passes, Ruling, cursor_at};
 use cr_outside::{Answer, Judge, NoMemory, Question};
+use cr_tokens::Tokens;
 use std::alloc::Global;
 
 /// What the trial of a position came to.
@@ -61,7 +63,15 @@ pub fn make<P: Passes, L: Law, Q: Question>(
 }
 
 /// Rules on a file, and gives up once a lower position than the claimed one is a hit.
-fn rule_on<L: Law>(alloc: Global, claims: &Claims, law: &L, file: &[u8], pass: &mut Pass) -> Ruling
+fn rule_on<L: Law>(
+    alloc: Global,
+    claims: &Claims,
+    law: &L,
+    file: &[u8],
+    tokens: &Tokens,
+    pass: &mut Pass,
+) -> Ruling
+    requires tokens { Tokenizes file.now tokens.now.list.items }
     requires of { IsOf claims.now pass.old }
     requires is_open { last_mark (view_of pass.old).own ≡ Open }
     ensures stays { IsOf claims.now pass.new }
@@ -75,7 +85,7 @@ fn rule_on<L: Law>(alloc: Global, claims: &Claims, law: &L, file: &[u8], pass: &
         pass,
         raised: false,
     };
-    law.rule(alloc, file, &mut looker)
+    law.rule_on_tokens(alloc, file, tokens, &mut looker)
 }
 
 /// Measures a variant. Where it is below the limit and no verdict on it is kept, the law rules on it.
@@ -98,18 +108,18 @@ fn screen<L: Law>(
     ensures decided { (verdict : Verdict) → result ≡ Screened.Decided verdict → IsDecided (L.lawful law.now) verdicts.now variant.now limit verdict }
     ensures stopped { result ≡ Screened.Stopped → (view_of pass.new).read / 4 < last_position (view_of pass.new).own }
 {
-    let size = match measure(alloc, variant) {
-        Ok(Some(size)) => size,
+    let found = match read_and_measure(alloc, variant) {
+        Ok(Some(found)) => found,
         Ok(None) => return Screened::Large,
         Err(_) => return Screened::NoMemory,
     };
-    if size >= limit {
+    if found.size >= limit {
         return Screened::Large;
     }
     if let Some(verdict) = verdicts.find(variant) {
         return Screened::Decided(verdict);
     }
-    match rule_on(alloc, claims, law, variant, pass) {
+    match rule_on(alloc, claims, law, variant, &found.tokens, pass) {
         Ruling::Lawful => Screened::Good,
         Ruling::Unlawful(_) => Screened::Decided(Verdict::Unlawful),
         Ruling::Stopped => Screened::Stopped,

@@ -1,8 +1,8 @@
 -- What is remembered once one more verdict was put.
-use Rattle.std.proofs.Common.{◌≡◌, ◌<◌, ℕ, List, length, Result, Ok, Err, OnOk, OnErr, inl, inr, sym, subst, arith}
+use Rattle.std.proofs.Common.{◌≡◌, ℕ, List, length, Result, Ok, Err, OnOk, OnErr, inl, inr, sym, subst, arith}
 use native.Mathlib.Decide.{dec_lt}
 use Rattle.cr_pool.specs.declared.verdict.Verdict.{Verdict}
-use Rattle.cr_pool.specs.Kept.{IsPut, Keeps, Kept, put_kept}
+use Rattle.cr_pool.specs.Kept.{IsPut, Kept, put_kept}
 use Rattle.cr_pool.proofs.Keeping.{keeps_put}
 use Rattle.cr_standing_workers.specs.Remembering.{AreRemembered}
 

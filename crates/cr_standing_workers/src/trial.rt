@@ -1,5 +1,7 @@
 // The trial of one position.
-ghost use Rattle.std.specs.Prelude.{◌≡◌, ◌<◌, ◌∷◌, [], ℕ, List, Ok, false, length, true, OnOk};
+ghost use Rattle.std.specs.Prelude.{◌≡◌, ◌<◌, ◌∷◌, [], ℕ, List, None, Ok, Some, false, length, OnOk};
+ghost use Rattle.cr_tokens.specs.declared.token.Tokens.{Tokens as SpecTokens};
+ghost use Rattle.cr_tokens.specs.Tokens.{Tokenizes};
 ghost use Rattle.cr_pool.specs.Sizes.{HasSize};
 ghost use Rattle.cr_pool.specs.declared.verdict.Verdict.{Verdict};
 ghost use Rattle.cr_pool.specs.Trials.{IsLarge};
@@ -13,7 +15,8 @@ use crate::orders::{Shared, Subject};
 use crate::task::Task;
 use cr_cursor::{Law, Passes, Ruling, Stop, cursor_at};
 use cr_outside::{Answer, Judge, NoMemory, Question};
-use cr_pool::{Verdict, measure};
+use cr_pool::{Verdict, read_and_measure};
+use cr_tokens::Tokens;
 use std::alloc::Global;
 use std::sync::{Mutex, Wait};
 
@@ -50,15 +53,18 @@ pub fn make_variant<P: Passes>(
     passes.variant(&file.prep, &file.bytes, cursor, variant)
 }
 
-/// Whether a variant is below the limit.
-fn is_below(alloc: Global, variant: &[u8], limit: u64) -> Result<bool, NoMemory>
-    ensures below { result ≡ Ok true → (n : ℕ) × HasSize variant.now n × (n < limit) }
-    ensures large { result ≡ Ok false → IsLarge variant.now limit }
+/// The tokens of a variant that is below the limit.
+fn read_below(alloc: Global, variant: &[u8], limit: u64) -> Result<Option<Tokens>, NoMemory>
+    ensures below { (tokens : SpecTokens) → result ≡ Ok (Some tokens) → Tokenizes variant.now tokens.list.items × ((n : ℕ) × HasSize variant.now n × (n < limit)) }
+    ensures large { result ≡ Ok None → IsLarge variant.now limit }
 {
-    match measure(alloc, variant)? {
-        Some(size) => Ok(size < limit),
-        None => Ok(false),
+    let Some(found) = read_and_measure(alloc, variant)? else {
+        return Ok(None);
+    };
+    if found.size >= limit {
+        return Ok(None);
     }
+    Ok(Some(found.tokens))
 }
 
 fn found_by(answer: Answer) -> Found
@@ -90,14 +96,16 @@ fn find_out<P: Passes, L: Law, Q: Question, J: Judge, T: Stop>(
     task: &Task<'_, P, L, Q>,
     judge: &mut J,
     variant: &[u8],
+    tokens: &Tokens,
     stop: &mut T,
 ) -> Found
-    requires { T.raised stop.old ≡ false }
+    requires unraised { T.raised stop.old ≡ false }
+    requires tokens { Tokenizes variant.now tokens.now.list.items }
     ensures says { FoundSays (searching_by P.Passes L.Law Q.Question task.now (J.says (J.key judge.old)))
         (judging_of J.Judge (judge.old ∷ [])) (judging_of J.Judge (judge.new ∷ [])) variant.now result }
     ensures serves { Serves J.Judge (Q.asks task.now.question.now) judge.old judge.new }
 {
-    match task.law.rule(alloc, variant, stop) {
+    match task.law.rule_on_tokens(alloc, variant, tokens, stop) {
         Ruling::Lawful => found_by(task.question.ask(alloc, judge, task.name, variant)),
         Ruling::Unlawful(_) => Found::Verdict(Verdict::Unlawful),
         Ruling::Stopped => Found::Stopped,
@@ -128,8 +136,10 @@ fn recall<R: Wait, S: Subject<P::Prep>, P: Passes, L: Law, Q: Question, J: Judge
     memory: &Mutex<Memory<S, P::Prep>>,
     judge: &mut J,
     variant: &[u8],
+    tokens: &Tokens,
     stop: &mut T,
 ) -> Found
+    requires tokens { Tokenizes variant.now tokens.now.list.items }
     requires about { IsAbout (searching_by P.Passes L.Law Q.Question task.now S.told) (P.offer task.now.passes.now) S.orders S.replies S.verdicts }
     requires told { J.says (J.key judge.old) ≡ S.told }
     requires unraised { T.raised stop.old ≡ false }
@@ -141,7 +151,7 @@ fn recall<R: Wait, S: Subject<P::Prep>, P: Passes, L: Law, Q: Question, J: Judge
     if let Some(verdict) = known {
         return Found::Verdict(verdict);
     }
-    let found = find_out(alloc, task, judge, variant, stop);
+    let found = find_out(alloc, task, judge, variant, tokens, stop);
     remember(rt, alloc, memory, variant, &found);
     found
 }
@@ -165,9 +175,11 @@ fn try_variant<R: Wait, S: Subject<P::Prep>, P: Passes, L: Law, Q: Question, J: 
         (judging_of J.Judge (judge.old ∷ [])) (judging_of J.Judge (judge.new ∷ [])) file variant.now result }
     ensures serves { Serves J.Judge (Q.asks task.now.question.now) judge.old judge.new }
 {
-    match is_below(alloc, variant, size) {
-        Ok(true) => tried_by(recall(rt, alloc, task, memory, judge, variant, stop)),
-        Ok(false) => Tried::No,
+    match read_below(alloc, variant, size) {
+        Ok(Some(tokens)) => tried_by(recall(
+            rt, alloc, task, memory, judge, variant, &tokens, stop,
+        )),
+        Ok(None) => Tried::No,
         Err(_) => Tried::NoMemory,
     }
 }

@@ -8,6 +8,7 @@ use crate::meeting::{meeting_bench, reaches};
 use cr_cursor::{Law, NoMemory, Passes, Reason, Ruling, Stop, TokenLaw, positions};
 use cr_outside::{Answer, Judge, Test};
 use cr_pool::{Bench, EpochEnd, Job, measure};
+use cr_tokens::{Tokens, read};
 use pass_list::CPasses;
 use std::alloc::Global;
 use std::process::Abort;
@@ -103,7 +104,20 @@ impl<'a> Law for Waiting<'a> {
 
     ghost reasons = { λ _ _ _. Unit {0} };
 
-    fn rule<S: Stop>(&self, _alloc: Global, file: &[u8], stop: &mut S) -> Ruling {
+    fn rule<S: Stop>(&self, alloc: Global, file: &[u8], stop: &mut S) -> Ruling {
+        match read(alloc, file) {
+            Ok(tokens) => self.rule_on_tokens(alloc, file, &tokens, stop),
+            Err(_) => Ruling::NoMemory,
+        }
+    }
+
+    fn rule_on_tokens<S: Stop>(
+        &self,
+        _alloc: Global,
+        file: &[u8],
+        _tokens: &Tokens,
+        stop: &mut S,
+    ) -> Ruling {
         if self.unlawful != file {
             return Ruling::Lawful;
         }

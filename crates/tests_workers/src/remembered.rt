@@ -6,6 +6,7 @@ use crate::epochs::{rejected_all, size_of};
 use cr_cursor::{Law, NoMemory, Passes, Ruling, Stop, positions};
 use cr_outside::{Answer, Judge, Test};
 use cr_pool::{Bench, Job};
+use cr_tokens::{Tokens, read};
 use pass_list::CPasses;
 use std::alloc::Global;
 use std::process::Abort;
@@ -50,7 +51,20 @@ impl<'a> Law for Anything<'a> {
 
     ghost reasons = { λ _ _ _. Unit {0} };
 
-    fn rule<S: Stop>(&self, _alloc: Global, _file: &[u8], _stop: &mut S) -> Ruling {
+    fn rule<S: Stop>(&self, alloc: Global, file: &[u8], stop: &mut S) -> Ruling {
+        match read(alloc, file) {
+            Ok(tokens) => self.rule_on_tokens(alloc, file, &tokens, stop),
+            Err(_) => Ruling::NoMemory,
+        }
+    }
+
+    fn rule_on_tokens<S: Stop>(
+        &self,
+        _alloc: Global,
+        _file: &[u8],
+        _tokens: &Tokens,
+        _stop: &mut S,
+    ) -> Ruling {
         self.rulings.fetch_add(1, Ordering::SeqCst);
         Ruling::Lawful
     }

@@ -6,12 +6,12 @@ use Rattle.cr_pool.proofs.trial.rule_on.Goals as goal
 
 pub returns-clause-stays : goal.returns-clause-stays
 returns-clause-stays g c =
-    let held = ap (λ (h : Seat ℕ View × ℕ). h.0) c.rule.ensures.held in
-    let stays = steady_of c.args.claims.now c.args.pass.now c.rule.new.stop.pass.now held c.requires.of in
+    let held = ap (λ (h : Seat ℕ View × ℕ). h.0) c.rule_on_tokens.ensures.held in
+    let stays = steady_of c.args.claims.now c.args.pass.now c.rule_on_tokens.new.stop.pass.now held c.requires.of in
     search rules
 
 pub returns-clause-same : goal.returns-clause-same
 returns-clause-same g c =
-    let held = ap (λ (h : Seat ℕ View × ℕ). h.0) c.rule.ensures.held in
-    let same = steady_list c.args.pass.now c.rule.new.stop.pass.now held in
+    let held = ap (λ (h : Seat ℕ View × ℕ). h.0) c.rule_on_tokens.ensures.held in
+    let same = steady_list c.args.pass.now c.rule_on_tokens.new.stop.pass.now held in
     search rules
