@@ -10,10 +10,10 @@ use Rattle.cr_typed.specs.declared.typed.Typed.{Typed}
 use Rattle.cr_typed_columns.specs.Reading.{parsed_of}
 use Rattle.cr_typed_columns.specs.Columns.{IsElaborated}
 use Rattle.cr_meaning_units.specs.Owned.{AreOfUnit}
-use Rattle.cr_meaning_declared.specs.Files.{IsUnitOfFile}
+use Rattle.cr_meaning_declared.specs.Files.{IsAssembledFile, IsUnitOfFile, assembled}
 
-pub of_unit : (file : List ℕ) (t : Typed) → IsUnitOfFile file t → AreOfUnit t
-of_unit file t it = record {
+pub unit_of : (file : List ℕ) (t : Typed) → IsAssembledFile file t → AreOfUnit t
+unit_of file t it = record {
   tokens = lexemes_of file it.unit.tokens.list.items;
   limit = AtMost most_levels;
   within = subst (λ (ts : List Token). AreWithin (length ts) t.nodes) (sym made.tokens_are) (subst (AreWithin (length it.unit.tokens.list.items)) (sym made.nodes_are) it.unit.within);
@@ -30,6 +30,14 @@ of_unit file t it = record {
     both F h = subst (F t.nodes) (sym made.items_are) (subst (λ ns. F ns it.unit.items) (sym made.nodes_are) h)
 
 -- their tokens are those of the file
+pub tokens_of : (file : List ℕ) (t : Typed) (it : IsAssembledFile file t) → (unit_of file t it).tokens ≡ lexemes_of file it.unit.tokens.list.items
+unfolding unit_of
+tokens_of file t it = refl
+
+-- and so it is of what has passed the test
+pub of_unit : (file : List ℕ) (t : Typed) → IsUnitOfFile file t → AreOfUnit t
+of_unit file t it = unit_of file t (assembled file t it)
+
 pub unit_tokens : (file : List ℕ) (t : Typed) (it : IsUnitOfFile file t) → (of_unit file t it).tokens ≡ lexemes_of file it.unit.tokens.list.items
 unfolding of_unit
-unit_tokens file t it = refl
+unit_tokens file t it = tokens_of file t (assembled file t it)

@@ -30,8 +30,8 @@ use Rattle.cr_typed.specs.declared.typed.Typed.{Typed}
 use Rattle.cr_meaning_typed.specs.Typing.{IsThere}
 use Rattle.cr_meaning_known.specs.Sighted.{IsSpelled}
 use Rattle.cr_meaning_units.proofs.Handing.{laid_at}
-use Rattle.cr_meaning_declared.specs.Files.{IsUnitOfFile}
-use Rattle.cr_meaning_declared.proofs.Nodes.{of_unit, unit_tokens}
+use Rattle.cr_meaning_declared.specs.Files.{IsAssembledFile}
+use Rattle.cr_meaning_declared.proofs.Nodes.{unit_of, tokens_of}
 use Rattle.cr_meaning_told.specs.Laws
 use Rattle.cr_meaning_told.proofs.Found.{moved}
 
@@ -99,7 +99,7 @@ character_laid : (ts : List Lexeme) (t : Typed) (ps : List ℕ) (i j : ℕ) → 
 unfolding rule_of
 character_laid ts t ps i j h = h.0
 
-module _ (file : List ℕ) (t : Typed) (it : IsUnitOfFile file t) where
+module _ (file : List ℕ) (t : Typed) (it : IsAssembledFile file t) where
   abbrev tokens : List Token
   tokens = it.unit.tokens.list.items
 
@@ -133,14 +133,14 @@ module _ (file : List ℕ) (t : Typed) (it : IsUnitOfFile file t) where
   spelled : (i : ℕ) (n : Node) → slice_get t.nodes i ≡ Some n → (k : Kind) → n.kind ≡ k → IsSpelled u (form_of k) n.first
   spelled i n at kind.Integer e =
       of_integer n.first
-      (subst (λ ts. Is ts n.first word.Integer) (unit_tokens file t it)
-      (integer_laid (of_unit file t it).tokens t n.parts n.first (n.last + 1)
-      (subst (λ (k : Kind). IsLaid (of_unit file t it).tokens (side_of k) (row_in t.nodes n.parts) n.first (n.last + 1)) e (laid_at t (of_unit file t it) i n at))))
+      (subst (λ ts. Is ts n.first word.Integer) (tokens_of file t it)
+      (integer_laid (unit_of file t it).tokens t n.parts n.first (n.last + 1)
+      (subst (λ (k : Kind). IsLaid (unit_of file t it).tokens (side_of k) (row_in t.nodes n.parts) n.first (n.last + 1)) e (laid_at t (unit_of file t it) i n at))))
   spelled i n at kind.Character e =
       of_character n.first
-      (subst (λ ts. Is ts n.first word.Character) (unit_tokens file t it)
-      (character_laid (of_unit file t it).tokens t n.parts n.first (n.last + 1)
-      (subst (λ (k : Kind). IsLaid (of_unit file t it).tokens (side_of k) (row_in t.nodes n.parts) n.first (n.last + 1)) e (laid_at t (of_unit file t it) i n at))))
+      (subst (λ ts. Is ts n.first word.Character) (tokens_of file t it)
+      (character_laid (unit_of file t it).tokens t n.parts n.first (n.last + 1)
+      (subst (λ (k : Kind). IsLaid (unit_of file t it).tokens (side_of k) (row_in t.nodes n.parts) n.first (n.last + 1)) e (laid_at t (unit_of file t it) i n at))))
   spelled i n at k e = tt
 
 pub constants : Laws.ConstantsHaveValues

@@ -17,8 +17,8 @@ use Rattle.cr_typed_columns.specs.Columns.{IsElaborated}
 use Rattle.cr_meaning_known.specs.Sighted.{is_use}
 use Rattle.cr_meaning_units.specs.Owned.{AreOfUnit}
 use Rattle.cr_meaning_names.proofs.Parents.{part_below, above_is}
-use Rattle.cr_meaning_declared.specs.Files.{IsUnitOfFile}
-use Rattle.cr_meaning_declared.proofs.Nodes.{of_unit}
+use Rattle.cr_meaning_declared.specs.Files.{IsAssembledFile}
+use Rattle.cr_meaning_declared.proofs.Nodes.{unit_of}
 use Rattle.cr_meaning_told.specs.Laws
 use Rattle.cr_meaning_told.proofs.Orderly.{apart, named_within, tags_apart, tag_within, initialised_plain}
 use Rattle.cr_meaning_told.proofs.Names.{found}
@@ -30,12 +30,12 @@ using kind.Call h = refl
 using kind.TypedefName h = refl
 using k h = absurd (false≢true h)
 
-module _ (file : List ℕ) (t : Typed) (it : IsUnitOfFile file t) where
+module _ (file : List ℕ) (t : Typed) (it : IsAssembledFile file t) where
   made : IsElaborated file (parsed_of it.unit) it.checked.checked.texts it.checked.by.columns t
   made = it.checked.by.elaborated
 
   unit : AreOfUnit t
-  unit = of_unit file t it
+  unit = unit_of file t it
 
   abbrev nodes_are : t.nodes ≡ it.unit.nodes
   nodes_are = it.checked.by.elaborated.nodes_are

@@ -25,8 +25,8 @@ use Rattle.cr_check_surroundings.specs.Surroundings.{IsTree}
 use Rattle.cr_typed.specs.declared.typed.Typed.{Typed}
 use Rattle.cr_meaning_units.specs.Owned.{AreOfUnit}
 use Rattle.cr_meaning_names.proofs.Parents.{part_below, above_is}
-use Rattle.cr_meaning_declared.specs.Files.{IsUnitOfFile}
-use Rattle.cr_meaning_declared.proofs.Nodes.{of_unit}
+use Rattle.cr_meaning_declared.specs.Files.{IsAssembledFile}
+use Rattle.cr_meaning_declared.proofs.Nodes.{unit_of}
 use Rattle.cr_meaning_told.proofs.Orderly.{apart, named_within}
 use Rattle.cr_meaning_typedefs.specs.Laws
 use Rattle.cr_meaning_typedefs.proofs.Spelled.{spelled}
@@ -90,9 +90,9 @@ stand_apart nodes a = record {
 
 -- ---- of a file
 
-module _ (file : List ℕ) (t : Typed) (it : IsUnitOfFile file t) where
+module _ (file : List ℕ) (t : Typed) (it : IsAssembledFile file t) where
   unit : AreOfUnit t
-  unit = of_unit file t it
+  unit = unit_of file t it
 
   abbrev nodes_are : t.nodes ≡ it.unit.nodes
   nodes_are = it.checked.by.elaborated.nodes_are

@@ -1,6 +1,6 @@
 mod Fitted
 mod Numbers
-mod Made
+pub mod Made
 mod SameValues
 mod Statics
 pub mod OneTypedUnit

@@ -8,10 +8,11 @@ use Rattle.cr_typed.specs.declared.typed.Typed.{Typed}
 use Rattle.cr_typed_columns.specs.declared.checked.CheckedColumns.{CheckedColumns}
 use Rattle.cr_typed_columns.specs.Reading.{parsed_of}
 use Rattle.cr_typed_columns.specs.Columns.{IsElaborated}
+use Rattle.cr_typed_fit.specs.Fits.{IsFitting}
 use Rattle.cr_check.specs.declared.checked.Checked.{Checked}
 use Rattle.cr_check.specs.Checked.{IsSoundOf}
 use Rattle.cr_typed_unit.specs.Made.{IsMade}
-use Rattle.cr_typed_unit.specs.Typed.{AreColumnsOf, IsTypedOf}
+use Rattle.cr_typed_unit.specs.Typed.{AreColumnsOf, IsAssembledOf, IsTypedOf}
 use Rattle.cr_typed_unit.proofs.Fitted.{is_typed}
 
 -- the columns are nothing of the literals
@@ -39,26 +40,36 @@ with_texts names checked texts t j h = record {
   labels = h.labels;
 }
 
-pub typed_of : (file bytes : List ℕ) (unit : source.Unit) (names : Names) (checked rest : Checked) (texts : List (List ℕ)) (typed : Typed)
-    → (sound : IsSoundOf file unit names checked) → AreSpans file unit.tokens.list.items → bytes ≡ file → texts ≡ checked.texts
-    → rest ≡ record { surroundings = checked.surroundings; texts = []; table = checked.table; whole = checked.whole } → length unit.nodes < 2 ^ 32
-    → IsMade bytes unit texts names rest sound.tree typed → IsTypedOf file unit names typed
-typed_of file bytes unit names checked rest texts typed sound spans of_file of_texts of_checked few made = record {
+pub assembled_of : (file bytes : List ℕ) (unit : source.Unit) (names : Names) (checked rest : Checked) (texts : List (List ℕ)) (typed : Typed)
+    → (sound : IsSoundOf file unit names checked) → bytes ≡ file → texts ≡ checked.texts
+    → rest ≡ record { surroundings = checked.surroundings; texts = []; table = checked.table; whole = checked.whole }
+    → IsMade bytes unit texts names rest sound.tree typed → IsAssembledOf file unit names typed
+assembled_of file bytes unit names checked rest texts typed sound of_file of_texts of_checked made = record {
   checked = checked;
   by = record {
     tree = sound.tree;
     is = sound.is;
     sound = sound.sound;
     columns = made.columns;
-    are = columns;
-    elaborated = elaborated;
-    fits = is_typed file unit names checked sound.tree made.columns typed sound.is sound.sound columns elaborated spans few made.fits;
+    are = with_texts names checked [] sound.tree made.columns (subst (λ j. AreColumnsOf names j sound.tree made.columns) of_checked made.are);
+    elaborated =
+        subst (λ b. IsElaborated b (parsed_of unit) checked.texts made.columns typed) of_file
+        (subst (λ ts. IsElaborated bytes (parsed_of unit) ts made.columns typed) of_texts made.elaborated);
   };
 }
-  where
-    columns : AreColumnsOf names checked sound.tree made.columns
-    columns = with_texts names checked [] sound.tree made.columns (subst (λ j. AreColumnsOf names j sound.tree made.columns) of_checked made.are)
 
-    elaborated : IsElaborated file (parsed_of unit) checked.texts made.columns typed
-    elaborated = subst (λ b. IsElaborated b (parsed_of unit) checked.texts made.columns typed) of_file
-        (subst (λ ts. IsElaborated bytes (parsed_of unit) ts made.columns typed) of_texts made.elaborated)
+-- what fits is typed
+pub typed_of : (file : List ℕ) (unit : source.Unit) (names : Names) (typed : Typed) → AreSpans file unit.tokens.list.items → length unit.nodes < 2 ^ 32
+    → IsAssembledOf file unit names typed → IsFitting typed → IsTypedOf file unit names typed
+typed_of file unit names typed spans few of fits = record {
+  checked = of.checked;
+  by = record {
+    tree = of.by.tree;
+    is = of.by.is;
+    sound = of.by.sound;
+    columns = of.by.columns;
+    are = of.by.are;
+    elaborated = of.by.elaborated;
+    fits = is_typed file unit names of.checked of.by.tree of.by.columns typed of.by.is of.by.sound of.by.are of.by.elaborated spans few fits;
+  };
+}

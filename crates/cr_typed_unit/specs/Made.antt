@@ -11,7 +11,6 @@ use Rattle.cr_typed_columns.specs.declared.checked.CheckedColumns.{CheckedColumn
 use Rattle.cr_typed_columns.specs.Reading.{parsed_of}
 use Rattle.cr_typed_columns.specs.Rows.{listed}
 use Rattle.cr_typed_columns.specs.Columns.{IsElaborated}
-use Rattle.cr_typed_fit.specs.Fits.{IsFitting}
 use Rattle.cr_check.specs.declared.checked.Checked.{Checked}
 use Rattle.cr_typed_unit.specs.Typed.{AreColumnsOf}
 
@@ -19,9 +18,8 @@ use Rattle.cr_typed_unit.specs.Typed.{AreColumnsOf}
 abbrev pub statics_in : Tree → List Specified → List Bool
 statics_in t specified = listed (λ i. is_static t (λ p. slice_index_or specified p nothing) (Some i)) (length t.nodes.now)
 
--- a typed unit of these bytes and literals by what was checked, which its types fit
+-- a typed unit of these bytes and literals by what was checked
 pub record IsMade (bytes : List ℕ) (unit : source.Unit) (texts : List (List ℕ)) (names : Names) (checked : Checked) (t : Tree) (typed : Typed) : Type 0 where
   pub columns : CheckedColumns
   pub are : AreColumnsOf names checked t columns
   pub elaborated : IsElaborated bytes (parsed_of unit) texts columns typed
-  pub fits : IsFitting typed

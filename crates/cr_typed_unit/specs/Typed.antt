@@ -36,7 +36,20 @@ pub record AreColumnsOf (names : Names) (checked : Checked) (t : Tree) (j : Chec
   pub results : j.results.now ≡ checked.whole.marked.results
   pub labels : j.labels.now ≡ checked.whole.marked.labels
 
--- the unit has no fault by this check, and the columns are what was checked
+-- the unit has no fault by this check, and the columns are what was checked: so it is assembled, before it is tested whether its types fit it
+pub record IsAssembledBy (file : List ℕ) (unit : source.Unit) (names : Names) (checked : Checked) (typed : Typed) : Type 0 where
+  pub tree : Tree
+  pub is : IsChecked file unit names checked tree
+  pub sound : IsSound file unit names checked tree
+  pub columns : CheckedColumns
+  pub are : AreColumnsOf names checked tree columns
+  pub elaborated : IsElaborated file (parsed_of unit) checked.texts columns typed
+
+pub record IsAssembledOf (file : List ℕ) (unit : source.Unit) (names : Names) (typed : Typed) : Type 0 where
+  pub checked : Checked
+  pub by : IsAssembledBy file unit names checked typed
+
+-- and the same with what a run asks
 pub record IsTypedBy (file : List ℕ) (unit : source.Unit) (names : Names) (checked : Checked) (typed : Typed) : Type 0 where
   pub tree : Tree
   pub is : IsChecked file unit names checked tree

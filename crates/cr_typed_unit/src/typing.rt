@@ -1,12 +1,12 @@
 // The typed unit of a checked one.
-ghost use Rattle.std.specs.Prelude.{◌≡◌, [], IfOk, OnOk};
+ghost use Rattle.std.specs.Prelude.{◌≡◌, ◌<◌, ◌^◌, [], IfOk, OnOk, length};
 ghost use Rattle.cr_syntax.specs.Words.{AreSpans};
 ghost use Rattle.cr_check.specs.Checked.{IsSoundOf};
 ghost use Rattle.cr_check_declarations.specs.declared.tree.Tree as tree;
 ghost use Rattle.cr_check_types.specs.Types.{type_at, unknown};
 ghost use Rattle.cr_typed_fit.specs.Fits.{IsFitting};
 ghost use Rattle.cr_typed_unit.specs.Made.{statics_in, IsMade};
-ghost use Rattle.cr_typed_unit.specs.Typed.{IsTypedOf};
+ghost use Rattle.cr_typed_unit.specs.Typed.{IsAssembledOf, IsTypedOf};
 
 use crate::columns::{checked_columns, statics_of};
 use cr_check::Checked;
@@ -48,6 +48,23 @@ fn typed_by(
     requires sound { IsSoundOf file.now unit names.now checked.old }
     ensures { IfOk result (λ typed. IsTypedOf file.now unit names.now typed) }
 {
+    let typed = assembled(alloc, file, unit, names, checked)?;
+    fitting(alloc, &typed).and(Ok(typed))
+}
+
+// What is assembled of the unit, before it is tested whether its types fit it; its nodes have numbers.
+fn assembled(
+    alloc: Global,
+    file: &[u8],
+    unit: Unit,
+    names: &Names,
+    checked: &mut Checked,
+) -> Result<Typed, AllocError>
+    requires spans { AreSpans file.now unit.tokens.list.items }
+    requires sound { IsSoundOf file.now unit names.now checked.old }
+    ensures assembled { IfOk result (λ typed. IsAssembledOf file.now unit names.now typed) }
+    ensures few { OnOk result (length unit.nodes < 2 ^ 32) }
+{
     let bytes = Row::from_vec(file.to_vec(alloc)?);
     let statics = statics_of(alloc, file, &unit, checked)?;
     let texts = texts_of(alloc, checked);
@@ -62,7 +79,7 @@ fn typed_by(
     )
 }
 
-// The columns of what was checked of this unit, with these literals, where their types fit it.
+// The columns of what was checked of this unit, with these literals.
 fn made(
     alloc: Global,
     bytes: Row<u8>,
@@ -83,8 +100,7 @@ fn made(
         &checked.whole,
         statics,
     );
-    let typed = assemble(alloc, bytes, unit, texts, &columns)?;
-    fitting(alloc, &typed).and(Ok(typed))
+    assemble(alloc, bytes, unit, texts, &columns)
 }
 
 // The bytes of the literals, which are taken out.

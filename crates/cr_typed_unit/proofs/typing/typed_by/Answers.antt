@@ -1,28 +1,14 @@
-use Rattle.std.proofs.Common.{◌≡◌, ◌∙◌, sym, ap, subst}
-use Rattle.std.proofs.lemmas.Result.{IfOk-weaker}
-use Rattle.cr_syntax.specs.Words.{AreSpans}
-use Rattle.cr_check_types.specs.Types.{type_at, unknown}
-use Rattle.cr_check.specs.declared.checked.Checked.{Checked}
-use Rattle.cr_typed_unit.specs.Made.{statics_in}
+use Rattle.std.proofs.Common.{IfOk, subst, sym}
+use Rattle.cr_holding.proofs.Kept.{stays}
+use Rattle.cr_typed_fit.specs.Fits.{IsFitting}
+use Rattle.cr_typed_unit.specs.Typed.{IsTypedOf}
 use Rattle.cr_typed_unit.proofs.Made.{typed_of}
 use Rattle.cr_typed_unit.proofs.typing.typed_by.Goals as goal
 
-pub made-requires-clause-spans : goal.made-requires-clause-spans
-made-requires-clause-spans c =
-    let bytes = c.from_vec-bytes.ensures ∙ c.in_ok-to_vec.ensures.items_if_clones_equal (λ x y same. same) in
-    subst (λ file. AreSpans file c.args.unit.tokens.list.items) (sym bytes) c.requires.spans
-
-pub made-requires-clause-first : goal.made-requires-clause-first
-made-requires-clause-first c =
-    subst (λ (j : Checked). type_at j.table 0 ≡ unknown) (sym c.texts_of-texts.ensures.rest) c.requires.sound.is.whole.none
-
 pub returns : goal.returns
 returns c =
-    let sound = c.requires.sound in
-    let rest = c.texts_of-texts.ensures.rest in
-    let bytes = c.from_vec-bytes.ensures ∙ c.in_ok-to_vec.ensures.items_if_clones_equal (λ x y same. same) in
-    let statics = c.as_slice.ensures.value ∙ c.in_ok-statics.ensures.column sound.tree sound.is.whole.tree
-    ∙ sym (ap (λ (j : Checked). statics_in sound.tree j.whole.typing.specified) rest) in
-    IfOk-weaker c.made.result _ _
-    (λ typed. typed_of c.args.file.now _ c.args.unit c.args.names.now c.args.checked.now _ _ typed sound c.requires.spans bytes c.texts_of-texts.ensures.texts rest c.in_ok-statics.ensures.few)
-    (c.made.ensures sound.tree statics)
+    let typed = c.in_ok-typed.typed in
+    let is = IsTypedOf c.args.file.now c.args.unit c.args.names.now in
+    subst (λ r. IfOk r is) (sym c.and.ensures)
+    (stays is (IsFitting typed) c.fitting.result typed c.fitting.ensures
+    (typed_of c.args.file.now c.args.unit c.args.names.now typed c.requires.spans c.in_ok-typed.ensures.few c.in_ok-typed.ensures.assembled))
