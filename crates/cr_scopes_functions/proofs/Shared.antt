@@ -1,5 +1,6 @@
--- Tokens that are told as functions of one name declare one entity: what is linked first by the name.
-use Rattle.std.proofs.Common.{◌≡◌, ℕ, zero, suc, ◌+◌, ◌-◌, ◌<◌, ◌≤◌, ◌==◌, Bool, true, false, not, ◌&&◌, ◌||◌, List, [], ◌∷◌, ◌++◌, Option, None, Some, length, slice_get, inl, inr, refl, sym, subst, ap, ◌∙◌, arith}
+-- Tokens that are told as functions of one name declare one entity: what is linked first by the name. Each other one declares what is linked, or
+-- its own.
+use Rattle.std.proofs.Common.{◌≡◌, ℕ, zero, suc, ◌+◌, ◌-◌, ◌<◌, ◌≤◌, ◌==◌, Bool, true, false, not, ◌&&◌, ◌||◌, ◌⊎◌, List, [], ◌∷◌, ◌++◌, Option, None, Some, length, slice_get, inl, inr, refl, sym, subst, ap, ◌∙◌, arith}
 use Rattle.std.specs.Prelude.{if◌then◌else◌}
 use Rattle.std.specs.List.{list_any}
 use Rattle.std.specs.Option.{is_some}
@@ -263,6 +264,45 @@ module _ (name : ℕ → ℕ) where
   own_first y (Member u k ∷ past) h n w f = let x = own_first y past h n w f in record { own = x.own; is = x.is; declares_it = x.declares_it; first_is = x.first_is }
   own_first y (Node i ∷ past) h n w f = let x = own_first y past h n w f in record { own = x.own; is = x.is; declares_it = x.declares_it; first_is = x.first_is }
 
+  -- an event that names nothing changes nothing
+  as_is : (t first : ℕ) (past now : List Event) → told name t now ≡ told name t past → StandsFor t first past → StandsFor t first now
+  as_is t first past now e h = record { own = h.own; is = e ∙ h.is; declares_it = h.declares_it; first_is = h.first_is }
+
+  -- what is told as no type, no tag and no use stands for itself, or for what is linked by its name
+  record StandsSomehow (t : ℕ) (past : List Event) : Type 0 where
+    first : ℕ
+    stands_for : StandsFor t first past
+    origin : (first ≡ t) ⊎ (linked name (name t) past ≡ Some first)
+
+  value_first : (t : ℕ) (past : List Event) → is_named t past ≡ true → Never is_other t past → AreRight name past → StandsSomehow t past
+  value_first t [] h n w = absurd (false≢true h)
+  value_first t (Name u r ∷ past) h n w = by (t == u) refl (λ q. value_first t past (behind (t == u) (is_named t past) q h) n.1 w.1)
+    where
+      by : (b : Bool) → (t == u) ≡ b → ((t == u) ≡ false → StandsSomehow t past) → StandsSomehow t (Name u r ∷ past)
+      by true q rest =
+          let same : t ≡ u = eqb-true t u q in
+          let x = stands past u r (n.0 (sym same)) w.0 in
+          record {
+            first = x.own.first;
+            stands_for = record { own = x.own; is = ap (λ b. if b then told_of name past u r else told name t past) q ∙ x.is; declares_it = x.declares_it; first_is = refl };
+            origin = origin x (links (is_outermost past) r) refl;
+          }
+        where
+          origin : (x : Stands past u r (told_of name past u r)) (b : Bool) → links (is_outermost past) r ≡ b → (x.own.first ≡ t) ⊎ (linked name (name t) (Name u r ∷ past) ≡ Some x.own.first)
+          origin x true k = let same : t ≡ u = eqb-true t u q in inr (ap (λ z. linked name (name z) (Name u r ∷ past)) same ∙ x.with_linkage k)
+          origin x false k = inl (x.alone k ∙ sym (eqb-true t u q))
+      by false q rest =
+          let x = rest q in
+          record { first = x.first; stands_for = other_event t u x.first r past q x.stands_for; origin = later_origin x.first x.origin }
+        where
+          later_origin : (first : ℕ) → (first ≡ t) ⊎ (linked name (name t) past ≡ Some first) → (first ≡ t) ⊎ (linked name (name t) (Name u r ∷ past) ≡ Some first)
+          later_origin first (inl e) = inl e
+          later_origin first (inr e) = inr (linked_later (name t) past (Name u r) first e)
+  value_first t (Opens ∷ past) h n w = let x = value_first t past h n w in record { first = x.first; stands_for = as_is t x.first past (Opens ∷ past) refl x.stands_for; origin = x.origin }
+  value_first t (Closes ∷ past) h n w = let x = value_first t past h n w in record { first = x.first; stands_for = as_is t x.first past (Closes ∷ past) refl x.stands_for; origin = x.origin }
+  value_first t (Member u k ∷ past) h n w = let x = value_first t past h n w in record { first = x.first; stands_for = as_is t x.first past (Member u k ∷ past) refl x.stands_for; origin = x.origin }
+  value_first t (Node i ∷ past) h n w = let x = value_first t past h n w in record { first = x.first; stands_for = as_is t x.first past (Node i ∷ past) refl x.stands_for; origin = x.origin }
+
 -- ---- entities
 
 one_more : (b : Bool) (n : ℕ) → n ≤ (if b then n + 1 else n)
@@ -389,5 +429,24 @@ module _ (name : ℕ → ℕ) (events : List Event) (tokens : ℕ) (names : Name
       let b = begun_there (name one) x.0 x.1.0 in
       (count_of at x.0, (entity_is one x.0 low b x.1.1, entity_is other x.0 less b (subst (λ z. StandsFor name other z whole) first y.1.1)))
 
+  -- what is told as no type, no tag and no use declares an entity
+  entity : (t : ℕ) → t < tokens → is_named t whole ≡ true → Never is_other t whole → (k : ℕ) × (declared_entity names t ≡ Some k)
+  entity t low named never = (count_of at x.first, entity_is t x.first low (by x.origin) x.stands_for)
+    where
+      x : StandsSomehow name t whole
+      x = value_first name t whole named never right
+
+      by : (x.first ≡ t) ⊎ (linked name (name t) whole ≡ Some x.first) → IsBegun x.first
+      by (inl e) =
+          let f = x.stands_for in
+          record {
+            low = subst (λ y. y < tokens) (sym e) low;
+            begins_there = subst (λ y. begins (at y) y ≡ true) (sym e) (ap (λ o. begins o t) (told_there t f.own low f.is) ∙ and_from f.own.declares (f.own.first == t) f.declares_it (eq-eqb f.own.first t (f.first_is ∙ e)));
+          }
+      by (inr e) = begun_there (name t) x.first e
+
 pub share : Laws.FunctionsShareEntities
 share name events tokens names one other resolved values low less f g same = both name events tokens names resolved values one other low less f g same
+
+pub has_entity : Laws.ToldNamesHaveEntities
+has_entity name events tokens names token resolved values low named never = entity name events tokens names resolved values token low named never

@@ -9,8 +9,9 @@ use Rattle.cr_scopes.specs.declared.names.Names.{Names}
 use Rattle.cr_scopes.specs.Resolved.{AreResolved, past_of}
 use Rattle.cr_scopes_bindings.specs.Entities.{declared_entity}
 use Rattle.cr_scopes_bindings.specs.Visible.{is_named}
+use Rattle.cr_scopes_shared.specs.Sorts.{Never}
 use Rattle.cr_scopes_shared.specs.Origins.{IsDeclarer}
-use Rattle.cr_scopes_functions.specs.Functions.{IsFunction, AreValues}
+use Rattle.cr_scopes_functions.specs.Functions.{is_other, IsFunction, AreValues}
 
 -- where no name is at fault, two tokens that are told as functions of one name declare one entity, in whatever scopes (6.2.2p2)
 abbrev pub FunctionsShareEntities : Type 0
@@ -22,3 +23,8 @@ FunctionsShareEntities = (name : ℕ → ℕ) (events : List Event) (tokens : �
 abbrev pub DefinitionsAreTold : Type 0
 DefinitionsAreTold = (tokens : List Token) (nodes : List Node) (items : List ℕ) (place i q token : ℕ) (m : Node) → slice_get items place ≡ Some i → IsDeclarer nodes token i q m
     → m.kind ≡ kind.FunctionDefinition → is_named token (past_of (events_of tokens nodes items) (length (events_of tokens nodes items))) ≡ true
+
+-- and each token that is told as no type, no tag and no use declares an entity (6.2.2)
+abbrev pub ToldNamesHaveEntities : Type 0
+ToldNamesHaveEntities = (name : ℕ → ℕ) (events : List Event) (tokens : ℕ) (names : Names) (token : ℕ) → AreResolved name events tokens names → AreValues tokens (past_of events (length events))
+    → token < tokens → is_named token (past_of events (length events)) ≡ true → Never is_other token (past_of events (length events)) → (entity : ℕ) × (declared_entity names token ≡ Some entity)

@@ -17,7 +17,7 @@ use Rattle.cr_scopes_uses.specs.Uses.{is_use}
 use Rattle.cr_scopes.specs.Faults.{is_typedef}
 use Rattle.cr_scopes_meant.specs.Laws
 use Rattle.cr_scopes_meant.specs.Laws.{times, is_other, AreSorted}
-use Rattle.cr_scopes_meant.proofs.Linked.{stood_for, StandsFor, IsUse, used, function_told, IsFirst, first_is, first_told}
+use Rattle.cr_scopes_meant.proofs.Linked.{stood_for, StandsFor, IsUse, used, linked_told, IsFirst, first_is, first_told}
 
 -- ---- how many entities begin
 
@@ -105,7 +105,7 @@ module _ (name : ℕ → ℕ) (events : List Event) (tokens : ℕ) (names : Name
   y = site.first
 
   mine : StandsFor name declared true whole
-  mine = function_told name declared whole right never site.named
+  mine = linked_told name declared whole right never site.named
 
   same_first : mine.first ≡ y
   same_first = let both : Some mine.first ≡ Some y = sym mine.linked_first ∙ ap (λ s. linked name s whole) site.same ∙ site.linked_first in cc

@@ -23,9 +23,10 @@ use Rattle.cr_scopes_meant.specs.Laws.{times, is_other}
 
 -- ---- roles
 
-only_function : (r : Role) → is_other r ≡ false → r ≡ role.Function
-only_function role.Function h = refl
-only_function r h = absurd (false≢true (sym h))
+always_links : (outermost : Bool) (r : Role) → is_other r ≡ false → links outermost r ≡ true
+always_links outermost role.Function h = refl
+always_links outermost role.ExternObject h = refl
+always_links outermost r h = absurd (false≢true (sym h))
 
 only_used : (r : Role) → is_used r ≡ true → r ≡ role.Used
 only_used role.Used h = refl
@@ -214,34 +215,34 @@ module _ (name : ℕ → ℕ) where
   alone_role past t role.Enumerator d w h = alone past t role.Enumerator refl refl refl w h
   alone_role past t r d w h = absurd (false≢true d)
 
-  -- ---- a token that is always told as a function
+  -- ---- a token that is always told as what has linkage
 
   pub record StandsFor (token : ℕ) (declares : Bool) (past : List Event) : Type 0 where
     pub first : ℕ
     pub is : told name token past ≡ Some (stood_for first declares)
     pub linked_first : linked name (name token) past ≡ Some first
 
-  pub function_told : (x : ℕ) (past : List Event) → AreRight name past → Never is_other x past → is_named x past ≡ true → StandsFor x true past
-  function_told x [] right never named = absurd (false≢true named)
-  function_told x (Name t r ∷ past) right never named = by (x == t) refl named (λ n. function_told x past right.1 never.1 n)
+  pub linked_told : (x : ℕ) (past : List Event) → AreRight name past → Never is_other x past → is_named x past ≡ true → StandsFor x true past
+  linked_told x [] right never named = absurd (false≢true named)
+  linked_told x (Name t r ∷ past) right never named = by (x == t) refl named (λ n. linked_told x past right.1 never.1 n)
     where
       by : (b : Bool) → (x == t) ≡ b → (b || is_named x past) ≡ true → (is_named x past ≡ true → StandsFor x true past) → StandsFor x true (Name t r ∷ past)
       by true q n rest =
           let same : t ≡ x = sym (eqb-true x t q) in
-          let is = only_function r (never.0 same) in
-          let own = linked_role past t r right.0 (ap (links (is_outermost past)) is) in
+          let has = always_links (is_outermost past) r (never.0 same) in
+          let own = linked_role past t r right.0 has in
           record {
             first = own.found.first;
-            is = ap (λ b. if b then told_of name past t r else told name x past) q ∙ told_role past t r (ap is_declared is) own.found own.seen;
+            is = ap (λ b. if b then told_of name past t r else told name x past) q ∙ told_role past t r (links_declared (is_outermost past) r has) own.found own.seen;
             linked_first = ap (λ y. linked name (name y) (Name t r ∷ past)) (sym same) ∙ own.first;
           }
       by false q n rest =
           let own = rest n in
           record { first = own.first; is = ap (λ b. if b then told_of name past t r else told name x past) q ∙ own.is; linked_first = stays (name x) past t r own.first own.linked_first }
-  function_told x (Opens ∷ past) right never named = let y = function_told x past right never named in record { first = y.first; is = y.is; linked_first = y.linked_first }
-  function_told x (Closes ∷ past) right never named = let y = function_told x past right never named in record { first = y.first; is = y.is; linked_first = y.linked_first }
-  function_told x (Member t k ∷ past) right never named = let y = function_told x past right never named in record { first = y.first; is = y.is; linked_first = y.linked_first }
-  function_told x (Node i ∷ past) right never named = let y = function_told x past right never named in record { first = y.first; is = y.is; linked_first = y.linked_first }
+  linked_told x (Opens ∷ past) right never named = let y = linked_told x past right never named in record { first = y.first; is = y.is; linked_first = y.linked_first }
+  linked_told x (Closes ∷ past) right never named = let y = linked_told x past right never named in record { first = y.first; is = y.is; linked_first = y.linked_first }
+  linked_told x (Member t k ∷ past) right never named = let y = linked_told x past right never named in record { first = y.first; is = y.is; linked_first = y.linked_first }
+  linked_told x (Node i ∷ past) right never named = let y = linked_told x past right never named in record { first = y.first; is = y.is; linked_first = y.linked_first }
 
   -- ---- what is in scope
 
@@ -265,8 +266,7 @@ module _ (name : ℕ → ℕ) where
       by : (b : Bool) → (stands_in Ordinary r && (name t == s)) ≡ b → (if b then Some t else latest name s zero past) ≡ Some x → (latest name s zero past ≡ Some x → IsSeen s zero x past) → IsSeen s zero x (Name t r ∷ past)
       by true q e rest =
           let same : t ≡ x = cc in
-          let is = only_function r (never.0 same) in
-          let own = linked_role past t r right.0 (ap (links (is_outermost past)) is) in
+          let own = linked_role past t r right.0 (always_links (is_outermost past) r (never.0 same)) in
           let spelled = eqb-true (name t) s (and_parts (stands_in Ordinary r) (name t == s) q).1 in
           record {
             found = own.found;

@@ -1,4 +1,4 @@
--- A law of names that are used for functions (C11 6.2.1p4, 6.2.2p2).
+-- A law of names that are used for functions, and for what is declared `extern` (C11 6.2.1p4, 6.2.2p2).
 use Rattle.std.specs.Prelude.{◌≡◌, ℕ, suc, ◌<◌, ◌≤◌, ◌==◌, Bool, true, false, List, [], ◌∷◌, Some, length, if◌then◌else◌}
 use Rattle.cr_scopes_events.specs.declared.event.Role.{Role}
 use Rattle.cr_scopes_events.specs.declared.event.Role.TheVariants as role
@@ -21,9 +21,10 @@ times token (Closes ∷ past) = times token past
 times token (Member t k ∷ past) = times token past
 times token (Node i ∷ past) = times token past
 
--- anything but the name of a function
+-- anything but what has linkage wherever it is told: a function, and what is declared `extern` (6.2.2p4, p5)
 abbrev pub is_other : Role → Bool
 is_other role.Function = false
+is_other role.ExternObject = false
 is_other r = true
 
 -- what events tell of tokens: each is told as one sort alone, and a value's is one of the unit's, and isn't used
@@ -32,7 +33,7 @@ pub record AreSorted (events : List Event) (tokens : ℕ) : Type 0 where
   pub within : (token : ℕ) → (Never is_value token (past_of events (length events)) → ⊥) → token < tokens
   pub unused : (token : ℕ) → (Never is_value token (past_of events (length events)) → ⊥) → Never is_used token (past_of events (length events))
 
--- where no name is at fault, a name that is used once, and sees what is always told as a function, stands for the entity that this declares
+-- where no name is at fault, a name that is used once, and sees what is always told as a function or with `extern`, stands for the entity that this declares
 abbrev pub UsesStandForDeclarations : Type 0
 UsesStandForDeclarations = (name : ℕ → ℕ) (events : List Event) (tokens : ℕ) (names : Names) (token declared : ℕ) → AreResolved name events tokens names → AreSorted events tokens → token < tokens → declared < tokens
     → is_use token (past_of events (length events)) ≡ true → times token (past_of events (length events)) ≤ 1 → visible name (past_of events (length events)) token ≡ Some declared

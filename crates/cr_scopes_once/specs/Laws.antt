@@ -10,12 +10,17 @@ use Rattle.cr_scopes_bindings.specs.Entities.{entity_at, first_of}
 use Rattle.cr_scopes_bindings.specs.Visible.{visible}
 use Rattle.cr_scopes_alone.specs.Alone.{IsAlone}
 use Rattle.cr_scopes_uses.specs.Uses.{is_use}
-use Rattle.cr_scopes_once.specs.Told.{count_of, weight_of, AreWeights}
+use Rattle.cr_scopes_once.specs.Told.{count_of, weight_of, AreWeights, AreBounds}
 
 -- a token is told no oftener than the items of a unit lead to it
 abbrev pub NamesAreToldOnce : Type 0
 NamesAreToldOnce = (tokens : List Token) (nodes : List Node) (items : List ℕ) (weight : ℕ → ℕ) (token : ℕ) → AreWeights nodes weight token
     → count_of token (events_of tokens nodes items) ≤ weight_of weight items
+
+-- and where something declares it, no oftener than nodes tell it at the most
+abbrev pub TokensAreToldWithinBounds : Type 0
+TokensAreToldWithinBounds = (tokens : List Token) (nodes : List Node) (items : List ℕ) (within declaring : ℕ → ℕ) (token : ℕ) → AreBounds nodes within declaring token
+    → count_of token (events_of tokens nodes items) ≤ weight_of within items
 
 -- where no name is at fault, what is visible at a name that is told once is the identifier without linkage that the name stands for (6.2.1p4)
 abbrev pub WhatIsVisibleIsMeant : Type 0

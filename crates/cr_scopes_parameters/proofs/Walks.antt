@@ -3,6 +3,7 @@ use Rattle.std.proofs.Common.{◌≡◌, ℕ, zero, suc, ◌+◌, ◌-◌, ◌<�
 use Rattle.std.specs.Prelude.{if◌then◌else◌}
 use Rattle.std.specs.List.{flat_map}
 use Rattle.std.proofs.lemmas.Bool.{false≢true, ltb-true, eqb-true, eq-eqb}
+use Rattle.std.proofs.lemmas.Option.{slice_get_within}
 use Rattle.cr_tokens.specs.declared.token.Token.{Token}
 use Rattle.cr_syntax.specs.declared.node.Kind.{Kind}
 use Rattle.cr_syntax.specs.declared.node.Kind.TheVariants as kind
@@ -383,9 +384,6 @@ module _ (nodes : List Node) where
 
         -- the definition itself: its parameters and the items of its body stand inside
         module _ (same_i : i ≡ definition_at) where
-          own_is : its.own ≡ m
-          own_is = some_same its.own m (sym its.at ∙ ap (slice_get nodes) (sym same_i) ∙ here_i)
-
           list_fine : (q : ℕ) → under q ≡ false → (d : Derivation) → (declarator_of nodes q).next ≡ d → Fine true (inside (list_of nodes d)) ⊎ Fine false (inside (list_of nodes d))
           list_fine q mode (derivation.Function l) e = by (l == list) refl
             where
@@ -413,7 +411,7 @@ module _ (nodes : List Node) where
           items_inside : (rest : List ℕ) → drop 2 m.parts ≡ rest → Fine true (flat_map (items_of nodes) rest)
           items_inside [] e = steps.nothing name tok site at true
           items_inside (q ∷ []) e =
-              let same : q ≡ body = its.bodied q (subst (λ (y : Node). slice_get y.parts 2 ≡ Some q) (sym own_is) (third q [] e)) in
+              let same : q ≡ body = its.bodied q m (ap (slice_get nodes) (sym same_i) ∙ here_i) (third q [] e) in
               fine_both true (items_of nodes q) [] (through true (parts_at nodes q) (λ k p f. body_items k p (ap (λ x. slice_get (parts_at nodes x) k) (sym same) ∙ f))) (steps.nothing name tok site at true)
           items_inside (q ∷ r ∷ rest) e = absurd (no_fourth q r rest e)
 
@@ -603,3 +601,33 @@ module _ (nodes : List Node) where
 
 pub inside_alone : Laws.ParametersStayInside
 inside_alone tokens nodes items name definition_at list body under token site its orderly is_under apart = unseen nodes tokens items name definition_at list body under token site its orderly is_under apart
+
+-- no definition tells the list once more, so its number may be one that no node has, and that of its body too
+pub list_alone : Laws.ListsStayInside
+list_alone tokens nodes items name list under token site lone orderly within apart =
+    inside_alone tokens nodes items name (length nodes) list (length nodes) under token site
+    (record {
+      bodied = λ q m at e. absurd (no_node m at);
+      block = λ m at. absurd (no_node m at);
+      function = λ m at. subst (λ (x : Node). x.kind ≡ kind.FunctionDeclarator) (some_same lone.own m (sym lone.at ∙ at)) lone.declares;
+      no_other_list = λ i q m at is e next. absurd (lone.no_definition i q m at is e next);
+      bodied_apart = lone.no_body;
+      no_other_body = λ i k m at e. (let below = orderly.below i k (length nodes) m at e in let few = slice_get_within nodes i m at in absurd (omega (arith, below, few)));
+    })
+    orderly
+    (record {
+      parts = λ i k p m at e other only. within.parts i k p m at e only;
+      parameters = within.listed;
+      items_of = λ k p m at e. absurd (no_node m at);
+      top = within.top;
+      definition_out = within.above (length nodes) past_list;
+      list_out = within.above list (omega arith);
+      body_out = within.above (length nodes) past_list;
+    })
+    apart
+  where
+    no_node : (m : Node) → slice_get nodes (length nodes) ≡ Some m → ⊥
+    no_node m at = let few = slice_get_within nodes (length nodes) m at in omega (arith, few)
+
+    past_list : list ≤ length nodes
+    past_list = let few = slice_get_within nodes list lone.own lone.at in omega (arith, few)
