@@ -29,12 +29,12 @@ some_same x y e = cc
 
 -- ---- statements, declarations and definitions
 
-abbrev standing : List Kind
+abbrev pub standing : List Kind
 standing =
     kind.Compound ∷ kind.ExpressionStatement ∷ kind.If ∷ kind.Switch ∷ kind.While ∷ kind.Do ∷ kind.For ∷ kind.Label ∷ kind.Case ∷ kind.Default ∷ kind.Goto ∷ kind.Break ∷ kind.Continue ∷ kind.Return ∷ kind.Declaration
     ∷ kind.FunctionDefinition ∷ []
 
-abbrev stands_alone : Kind → Bool
+abbrev pub stands_alone : Kind → Bool
 stands_alone kind.Compound = true
 stands_alone kind.ExpressionStatement = true
 stands_alone kind.If = true
@@ -54,16 +54,16 @@ stands_alone kind.FunctionDefinition = true
 stands_alone k = false
 
 -- no such kind stands for the part
-abbrev without : Part → Bool
+abbrev pub without : Part → Bool
 without p = not (list_any (λ k. stands_for p k) standing)
 
-among : (test : Kind → Bool) (ks : List Kind) (i : ℕ) (k : Kind) → slice_get ks i ≡ Some k → test k ≡ true → list_any test ks ≡ true
+pub among : (test : Kind → Bool) (ks : List Kind) (i : ℕ) (k : Kind) → slice_get ks i ≡ Some k → test k ≡ true → list_any test ks ≡ true
 among test [] i k e h = absurd cc
 among test (x ∷ ks) zero k e h = let same : x ≡ k = cc in or_left (test x) (list_any test ks) (ap test same ∙ h)
 among test (x ∷ ks) (suc i) k e h = or_right (test x) (list_any test ks) (among test ks i k e h)
 
 -- where such a kind stands in the list
-place_of : (k : Kind) → stands_alone k ≡ true → (i : ℕ) × (slice_get standing i ≡ Some k)
+pub place_of : (k : Kind) → stands_alone k ≡ true → (i : ℕ) × (slice_get standing i ≡ Some k)
 place_of kind.Compound h = (0, refl)
 place_of kind.ExpressionStatement h = (1, refl)
 place_of kind.If h = (2, refl)
@@ -82,7 +82,7 @@ place_of kind.Declaration h = (14, refl)
 place_of kind.FunctionDefinition h = (15, refl)
 place_of k h = absurd (false≢true h)
 
-clears : (p : Part) (k : Kind) → without p ≡ true → stands_for p k ≡ true → stands_alone k ≡ false
+pub clears : (p : Part) (k : Kind) → without p ≡ true → stands_for p k ≡ true → stands_alone k ≡ false
 clears p k c s = by (stands_alone k) refl
   where
     by : (b : Bool) → stands_alone k ≡ b → stands_alone k ≡ false
@@ -112,7 +112,7 @@ sides_clear kind.Declaration h = absurd (false≢true (sym h))
 sides_clear kind.FunctionDefinition h = absurd (false≢true (sym h))
 sides_clear k h = refl
 
-external_alone : (k : Kind) → is_external k ≡ true → stands_alone k ≡ true
+pub external_alone : (k : Kind) → is_external k ≡ true → stands_alone k ≡ true
 external_alone kind.Declaration h = refl
 external_alone kind.FunctionDefinition h = refl
 external_alone k h = absurd (false≢true h)
@@ -142,7 +142,7 @@ module _ (t : Typed) (unit : AreOfUnit t) (order : AreListed t.nodes 0 t.items (
 
   -- ---- what stands alone stands under nothing else
 
-  alone_above : (x y : ℕ) (h : IsPartOf t unit x y) (n : Node) → slice_get t.nodes x ≡ Some n → stands_alone n.kind ≡ true → stands_alone h.parent.kind ≡ true
+  pub alone_above : (x y : ℕ) (h : IsPartOf t unit x y) (n : Node) → slice_get t.nodes x ≡ Some n → stands_alone n.kind ≡ true → stands_alone h.parent.kind ≡ true
   alone_above x y h n at alone = by (stands_alone h.parent.kind) refl
     where
       by : (b : Bool) → stands_alone h.parent.kind ≡ b → b ≡ true

@@ -7,4 +7,5 @@ pub mod Standing
 pub mod Owning
 pub mod Planned
 pub mod Naming
+pub mod Told
 pub mod Owned

@@ -515,6 +515,12 @@ module _ (file : List ℕ) (t : Typed) (it : IsUnitOfFile file t) where
               ∙ l.is,
         )
 
+    -- it declares the entity
+    first_stands : key (entity_of t node) ≡ Some k
+    first_stands =
+        let y = first_there exists.0 (sym refers ∙ exists.1) in
+        ap (λ o. key (entity_if o node)) exists.1 ∙ ap (bound.entity_if it.names) (token_at exists.0 y.other y.name_is) ∙ y.stands
+
     completes : Becomes (named q) (named_type t (entity_of t node))
     completes =
         let o = owned file t it shaped token x.declaration q x.holder x.declarer in
@@ -564,3 +570,46 @@ complete file t it shaped sighted node q x = completes file t it shaped sighted 
 
 pub initialised : Laws.InitialisersComplete
 initialised file t it shaped sighted node q x i n at is first = initialises file t it shaped sighted node q x i n at is first
+
+module _ (file : List ℕ) (t : Typed) (it : IsUnitOfFile file t) (shaped : IsShaped it.checked.by.tree) (sighted : AreSighted it.checked.by.tree) (node q : ℕ) (x : IsObject file t it node q) (i : ℕ)
+    (e : entities.entity_of it.unit.nodes it.names i ≡ Some x.entity) where
+  abbrev y : IsNamed file t it shaped sighted node q x i
+  y = named_there file t it shaped sighted node q x i e
+
+  abbrev its_value : DeclaresValue t.nodes y.other
+  its_value = w file t it shaped sighted node q x i y.other y.name_is y.stands
+
+  -- its declarator declares the object
+  its_object : IsObject file t it i its_value.declarator
+  its_object = record {
+    own = y.name_is.node;
+    at = y.name_is.at;
+    is = y.name_is.is;
+    entity = x.entity;
+    declares = ap (bound.declared_entity it.names) y.name_is.first ∙ theirs file t it shaped sighted node q x i y.other y.name_is y.stands;
+    declaration = its_value.declaration;
+    holder = its_value.node;
+    declarer = subst (λ z. IsDeclarer t.nodes z its_value.declaration its_value.declarator its_value.node) (sym y.name_is.first) its_value.is;
+    object = object file t it shaped sighted node q x i y.other y.name_is y.stands;
+  }
+
+  its_entity : entity_of t i ≡ entity_of t node
+  unfolding its_object
+  its_entity =
+      let first = exists file t it shaped sighted node q x in
+      ap (λ o. entity_if o i) (refers file t it shaped sighted i its_value.declarator its_object ∙ sym (refers file t it shaped sighted node q x) ∙ first.1) ∙ sym (ap (λ o. entity_if o node) first.1)
+
+pub objects_named : Laws.NamesOfObjectsAreObjects
+objects_named file t it shaped sighted node q x i e = (
+  (its_value file t it shaped sighted node q x i e).declarator,
+  (
+    its_object file t it shaped sighted node q x i e,
+    (
+      (let y = named_there file t it shaped sighted node q x i e in whole file t it shaped sighted node q x i y.other y.name_is y.stands),
+      its_entity file t it shaped sighted node q x i e,
+    ),
+  ),
+)
+
+pub firsts : Laws.FirstsDeclareTheirObjects
+firsts file t it shaped sighted node q x = first_stands file t it shaped sighted node q x

@@ -1,20 +1,24 @@
--- An initialised declarator whose name has an entity is a declared name of an object.
+-- An initialised declarator of an object is a declared name of an object.
 use Rattle.std.proofs.Common.{Some, sym, ap, ◌∙◌}
-use Rattle.cr_scopes_bindings.specs.Entities.{declared_entity}
+use Rattle.cr_meaning_objects.proofs.Objects.{value_there}
 use Rattle.cr_meaning_composed.specs.Laws
+use Rattle.cr_meaning_composed.proofs.Naming.{has_name}
 use Rattle.cr_meaning_composed.proofs.Standing.{stand}
 use Rattle.cr_meaning_composed.proofs.Owning.{name_there}
+use Rattle.cr_meaning_composed.proofs.Told.{declared}
 
 pub own : Laws.InitialisersAreObjects
-own file t it shaped i q token entity n at is first object name declares =
-    let x = name_there file t it shaped i q token n at is first name in
-    let d = stand file t it shaped i q x.0.first n at is first object (name ∙ ap Some (sym x.1.1.1)) in
+own file t it shaped sighted i q n at is first object =
+    let name = has_name file t it shaped i q n at is first in
+    let x = name_there file t it shaped i q name.0 n at is first name.1 in
+    let d = stand file t it shaped i q x.0.first n at is first object (name.1 ∙ ap Some (sym x.1.1.1)) in
+    let k = declared file t it shaped x.0.first (record { declaration = d.0; declarator = q; node = d.1.0; is = d.1.1; value = value_there file t it shaped sighted x.0.first d.0 q d.1.0 d.1.1 object }) in
     record {
       own = x.0;
       at = x.1.0;
       is = x.1.1.0;
-      entity = entity;
-      declares = ap (declared_entity it.names) x.1.1.1 ∙ declares;
+      entity = k.0;
+      declares = k.1;
       declaration = d.0;
       holder = d.1.0;
       declarer = d.1.1;

@@ -1,5 +1,5 @@
 -- An initialised declarator of an object stands in a declaration (C11 6.7p1).
-use Rattle.std.proofs.Common.{◌≡◌, ℕ, ℤ, zero, suc, ◌+◌, Bool, true, false, not, List, Option, None, Some, length, slice_get, slice_index_or, inr, refl, sym, ap, ◌∙◌, if◌then◌else◌}
+use Rattle.std.proofs.Common.{◌≡◌, ℕ, zero, suc, ◌+◌, Bool, true, false, not, List, Option, None, Some, length, slice_get, slice_index_or, inr, refl, sym, ap, ◌∙◌, if◌then◌else◌}
 use Rattle.std.proofs.lemmas.Bool.{both_ways, false≢true, not-true}
 use Rattle.std.proofs.lemmas.Option.{slice_get_within}
 use Rattle.cr_syntax.specs.declared.node.Kind.{Kind}
@@ -14,7 +14,7 @@ use Rattle.cr_scopes_events.specs.Scripts as scripts
 use Rattle.cr_scopes_shared.specs.Origins.{is_external, IsDeclarer}
 use Rattle.cr_check_types.specs.declared.shape.Shape.{Shape}
 use Rattle.cr_check_enclosing.specs.Above.{above_of}
-use Rattle.cr_check_expressions.specs.declared.known.Declared.TheVariants.{Object, Enumerator}
+use Rattle.cr_check_expressions.specs.declared.known.Declared.TheVariants.{Object}
 use Rattle.cr_check_declarators.specs.declared.words.Specified.{Specified}
 use Rattle.cr_check_declarators.specs.declared.declarator.Declarator.{Declarator}
 use Rattle.cr_check_declarators.specs.declared.enumerators.Enumerated.{Enumerated}

@@ -9,11 +9,13 @@ use Rattle.cr_check_types.specs.Types.{Qualified, type_at}
 use Rattle.cr_check_types.specs.Relations.{composite_of}
 use Rattle.cr_check_unit.specs.Typing.{cut, object_in}
 use Rattle.cr_typed.specs.declared.typed.Typed.{Typed}
+use Rattle.cr_typed_columns.specs.Entities as declared
 use Rattle.cr_meaning_operations.specs.Shapes.{named_type}
 use Rattle.cr_meaning_operations.specs.Operations.{entity_of, name_of}
 use Rattle.cr_meaning_known.specs.Shaped.{IsShaped}
 use Rattle.cr_meaning_known.specs.Sighted.{AreSighted}
 use Rattle.cr_meaning_declared.specs.Files.{IsUnitOfFile}
+use Rattle.cr_meaning_linked.specs.Laws.{DeclaresValue}
 use Rattle.cr_meaning_objects.specs.Laws.{DeclaresObject}
 
 -- the other is the same type but for sizes that became known: it is the composite of both (6.2.7p3)
@@ -41,6 +43,17 @@ abbrev pub CompositesComplete : Type 0
 CompositesComplete = (file : List ℕ) (t : Typed) (it : IsUnitOfFile file t) → IsShaped it.checked.by.tree → AreSighted it.checked.by.tree
     → (node q : ℕ) → IsObject file t it node q → Becomes (named_at file t it q) (named_type t (entity_of t node))
 
+-- its first declaration, for which its names stand, is one of it
+abbrev pub FirstsDeclareTheirObjects : Type 0
+FirstsDeclareTheirObjects = (file : List ℕ) (t : Typed) (it : IsUnitOfFile file t) → IsShaped it.checked.by.tree → AreSighted it.checked.by.tree
+    → (node q : ℕ) (x : IsObject file t it node q) → declared.entity_of it.unit.nodes it.names (entity_of t node) ≡ Some x.entity
+
+-- and each declared name of its entity is one of the object, by its own whole declarator
+abbrev pub NamesOfObjectsAreObjects : Type 0
+NamesOfObjectsAreObjects = (file : List ℕ) (t : Typed) (it : IsUnitOfFile file t) → IsShaped it.checked.by.tree → AreSighted it.checked.by.tree
+    → (node q : ℕ) (x : IsObject file t it node q) (i : ℕ) → declared.entity_of it.unit.nodes it.names i ≡ Some x.entity
+    → (r : ℕ) × (IsObject file t it i r × ((declared.whole_of it.unit.nodes it.checked.by.columns i ≡ Some r) × (entity_of t i ≡ entity_of t node)))
+
 -- and that which an initialiser completes (6.7.9p22)
 abbrev pub InitialisersComplete : Type 0
 InitialisersComplete = (file : List ℕ) (t : Typed) (it : IsUnitOfFile file t) → IsShaped it.checked.by.tree → AreSighted it.checked.by.tree
@@ -64,11 +77,16 @@ abbrev pub InitialisersHaveNames : Type 0
 InitialisersHaveNames = (file : List ℕ) (t : Typed) (it : IsUnitOfFile file t) → IsShaped it.checked.by.tree
     → (i q : ℕ) (n : Node) → slice_get t.nodes i ≡ Some n → n.kind ≡ kind.InitDeclarator → slice_get n.parts 0 ≡ Some q → (token : ℕ) × ((declarator_of t.nodes q).name ≡ Some token)
 
--- so where that name has an entity, the law on initialisers is of it
+-- a declared object or function has an entity: its declaration is told (6.2.1p7)
+abbrev pub DeclaredValuesHaveEntities : Type 0
+DeclaredValuesHaveEntities = (file : List ℕ) (t : Typed) (it : IsUnitOfFile file t) → IsShaped it.checked.by.tree
+    → (token : ℕ) → DeclaresValue t.nodes token → (entity : ℕ) × (declared_entity it.names token ≡ Some entity)
+
+-- so the law on initialisers is of each initialised declarator that declares an object
 abbrev pub InitialisersAreObjects : Type 0
-InitialisersAreObjects = (file : List ℕ) (t : Typed) (it : IsUnitOfFile file t) → IsShaped it.checked.by.tree
-    → (i q token entity : ℕ) (n : Node) → slice_get t.nodes i ≡ Some n → n.kind ≡ kind.InitDeclarator → slice_get n.parts 0 ≡ Some q → DeclaresObject it.checked.checked.whole.typing q
-    → (declarator_of t.nodes q).name ≡ Some token → declared_entity it.names token ≡ Some entity → IsObject file t it (name_of t i) q
+InitialisersAreObjects = (file : List ℕ) (t : Typed) (it : IsUnitOfFile file t) → IsShaped it.checked.by.tree → AreSighted it.checked.by.tree
+    → (i q : ℕ) (n : Node) → slice_get t.nodes i ≡ Some n → n.kind ≡ kind.InitDeclarator → slice_get n.parts 0 ≡ Some q → DeclaresObject it.checked.checked.whole.typing q
+    → IsObject file t it (name_of t i) q
 
 -- what an initialiser is read for is an object that its declarator declares
 abbrev pub PlannedDeclareObjects : Type 0

@@ -1,9 +1,19 @@
 //! Laws of the composite type of an object of a file's unit. The program calls none of these functions.
-ghost use Rattle.cr_meaning_composed.specs.Laws.{CompositesComplete, InitialisersAreObjects, InitialisersComplete, InitialisersHaveNames, InitialisersNameTheirTokens, InitialisersStandInDeclarations, PlannedDeclareObjects};
+ghost use Rattle.cr_meaning_composed.specs.Laws.{CompositesComplete, DeclaredValuesHaveEntities, FirstsDeclareTheirObjects, InitialisersAreObjects, InitialisersComplete, InitialisersHaveNames, InitialisersNameTheirTokens, InitialisersStandInDeclarations, NamesOfObjectsAreObjects, PlannedDeclareObjects};
 
 /// An object has the type of each of its declarators, but for sizes that became known.
 pub fn composites_complete()
     ensures { CompositesComplete }
+{}
+
+/// Its first declaration is one of it.
+pub fn firsts_declare_their_objects()
+    ensures { FirstsDeclareTheirObjects }
+{}
+
+/// And so is each declaration of its entity.
+pub fn names_of_objects_are_objects()
+    ensures { NamesOfObjectsAreObjects }
 {}
 
 /// And that which an initialiser completes.
@@ -31,7 +41,12 @@ pub fn initialisers_have_names()
     ensures { InitialisersHaveNames }
 {}
 
-/// Where its name has an entity, it is the object's.
+/// The name of a declared object or function has an entity.
+pub fn declared_values_have_entities()
+    ensures { DeclaredValuesHaveEntities }
+{}
+
+/// An initialised declarator of an object is a declared name of it.
 pub fn initialisers_are_objects()
     ensures { InitialisersAreObjects }
 {}

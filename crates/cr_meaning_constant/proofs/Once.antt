@@ -2,6 +2,7 @@
 use Rattle.std.proofs.Common.{◌≡◌, ℕ, zero, suc, ◌+◌, ◌<◌, ◌≤◌, ◌==◌, ◌⊎◌, inl, inr, Bool, true, false, ◌||◌, List, [], ◌∷◌, Option, None, Some, length, drop, slice_get, refl, sym, ap, subst, ◌∙◌, arith, if◌then◌else◌}
 use Rattle.std.proofs.lemmas.Bool.{false≢true, or_left, or_right, eqb-true, eq-eqb, ne_eqb}
 use Rattle.std.proofs.lemmas.Option.{slice_get_within}
+use Rattle.cr_syntax.specs.declared.node.Kind.{Kind}
 use Rattle.cr_syntax.specs.declared.node.Kind.TheVariants as kind
 use Rattle.cr_syntax.specs.declared.node.Node.{Node}
 use Rattle.cr_syntax_order.specs.Listed.{AreListed, no_node, one_more}
@@ -51,7 +52,13 @@ other : (b c : Bool) → (b || c) ≡ true → (b ≡ true) ⊎ (c ≡ true)
 other true c h = inl refl
 other false c h = inr h
 
-module _ (file : List ℕ) (t : Typed) (it : IsUnitOfFile file t) (i : ℕ) (n : Node) (at : slice_get t.nodes i ≡ Some n) (is : n.kind ≡ kind.Identifier) (outside : IsOutside t i) where
+used_same : (k : Kind) → is_using k ≡ true → is_use k ≡ true
+used_same kind.Identifier h = refl
+used_same kind.Call h = refl
+used_same kind.TypedefName h = refl
+used_same k h = absurd (false≢true h)
+
+module _ (file : List ℕ) (t : Typed) (it : IsUnitOfFile file t) (i : ℕ) (n : Node) (at : slice_get t.nodes i ≡ Some n) (using : is_using n.kind ≡ true) (outside : IsOutside t i) where
   unit : AreOfUnit t
   unit = of_unit file t it
 
@@ -173,9 +180,6 @@ module _ (file : List ℕ) (t : Typed) (it : IsUnitOfFile file t) (i : ℕ) (n :
       by true q = let own : weight a ≡ 1 = ap (λ b. if b then 1 else 0) (or_right (a == i) (is_under t a i) q) in let few = parts_lone a m there in omega (arith, own, few)
       by false q = let few = parts_led a m there q in omega (arith, few)
 
-  using : is_using n.kind ≡ true
-  using = ap is_using is
-
   uses_few : (a : ℕ) (m : Node) → slice_get t.nodes a ≡ Some m → is_using m.kind ≡ true → m.first ≡ n.first → weight_of weight m.parts + 1 ≤ weight a
   uses_few a m there used first =
       let same : a ≡ i = are_apart.uses a i m n there at used using first in
@@ -187,7 +191,7 @@ module _ (file : List ℕ) (t : Typed) (it : IsUnitOfFile file t) (i : ℕ) (n :
   undeclared : (q : ℕ) → (declarator_of t.nodes q).name ≡ Some n.first → ⊥
   undeclared q e =
       let x = (reaches t.nodes (λ a. Unit {0}) (λ a b m there derives f g. tt) q tt).name n.first e in
-      no_use t unit order x.0 i x.1.0 n x.1.1.0 x.1.1.1.0.0 at (ap is_use is) (sym x.1.1.1.0.1)
+      no_use t unit order x.0 i x.1.0 n x.1.1.0 x.1.1.1.0.0 at (used_same n.kind using) (sym x.1.1.1.0.1)
 
   no_enumerator : (a : ℕ) (m : Node) → slice_get t.nodes a ≡ Some m → m.kind ≡ kind.Enumerator → m.first ≡ n.first → ⊥
   no_enumerator a m there enumerates first =
@@ -232,4 +236,4 @@ module _ (file : List ℕ) (t : Typed) (it : IsUnitOfFile file t) (i : ℕ) (n :
       moved = ap (λ ns. events_of it.unit.tokens.list.items ns it.unit.items) nodes_are ∙ ap (events_of it.unit.tokens.list.items t.nodes) (sym made_by.elaborated.items_are)
 
 pub once : Laws.NamesAreToldOnce
-once file t it i n at is outside = counted file t it i n at is outside
+once file t it i n at using outside = counted file t it i n at using outside

@@ -3,6 +3,7 @@ use Rattle.std.specs.Prelude.{◌≡◌, ◌≤◌, ℕ, true, false, List, Some
 use Rattle.cr_syntax.specs.declared.node.Kind.TheVariants as kind
 use Rattle.cr_syntax.specs.declared.node.Node.{Node}
 use Rattle.cr_scopes.specs.Units.{unit_events}
+use Rattle.cr_scopes_sight.specs.Scopes.{is_using}
 use Rattle.cr_scopes_once.specs.Told.{count_of}
 use Rattle.cr_check_anchored.specs.Anchored.{is_anchored}
 use Rattle.cr_typed.specs.declared.typed.Typed.{Typed}
@@ -19,7 +20,7 @@ AnchoredNamesLast = (file : List ℕ) (t : Typed) (it : IsUnitOfFile file t) →
     → (seen_in it.checked.checked i).lvalue ≡ true → is_anchored it.checked.checked.table it.checked.checked.whole.typing i ≡ true → count_of n.first (unit_events it.unit) ≤ 1
     → is_automatic_by (slice_index_or t.durations (entity_of t i) duration.NoObject) ≡ false
 
--- and it is told once where it stands among no definition's parameters, which are told twice (6.9.1)
+-- and a name that is used, also a called one, is told once where it stands among no definition's parameters, which are told twice (6.9.1)
 abbrev pub NamesAreToldOnce : Type 0
-NamesAreToldOnce = (file : List ℕ) (t : Typed) (it : IsUnitOfFile file t) (i : ℕ) (n : Node) → slice_get t.nodes i ≡ Some n → n.kind ≡ kind.Identifier → IsOutside t i
+NamesAreToldOnce = (file : List ℕ) (t : Typed) (it : IsUnitOfFile file t) (i : ℕ) (n : Node) → slice_get t.nodes i ≡ Some n → is_using n.kind ≡ true → IsOutside t i
     → count_of n.first (unit_events it.unit) ≤ 1

@@ -6,7 +6,7 @@ pub fn anchored_names_last()
     ensures { AnchoredNamesLast }
 {}
 
-/// A name that stands among no definition's parameters is told once.
+/// A name that is used, also a called one, is told once where it stands among no definition's parameters.
 pub fn names_are_told_once()
     ensures { NamesAreToldOnce }
 {}

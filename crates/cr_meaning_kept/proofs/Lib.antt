@@ -1,3 +1,4 @@
 pub mod Uses
+pub mod Defined
 pub mod Kept
 pub mod Seen

@@ -55,7 +55,7 @@ use Rattle.cr_meaning_mains.proofs.Spelled.{alike}
 
 -- ---- roles
 
-function_role : (s : Storage) (next : Derivation) (l : ℕ) → next ≡ derivation.Function l → is_value (role_by s next) ≡ true → role_by s next ≡ role.Function
+pub function_role : (s : Storage) (next : Derivation) (l : ℕ) → next ≡ derivation.Function l → is_value (role_by s next) ≡ true → role_by s next ≡ role.Function
 function_role s next l e v = ap (role_by s) e ∙ by s (ap (λ n. is_value (role_by s n)) (sym e) ∙ v)
   where
     by : (s : Storage) → is_value (role_by s (derivation.Function l)) ≡ true → role_by s (derivation.Function l) ≡ role.Function
@@ -63,7 +63,7 @@ function_role s next l e v = ap (role_by s) e ∙ by s (ap (λ n. is_value (role
     by ExternWord h = refl
     by NoWord h = refl
 
-value_plain : (r : Role) → is_value r ≡ true → is_other r ≡ false
+pub value_plain : (r : Role) → is_value r ≡ true → is_other r ≡ false
 value_plain role.Object h = refl
 value_plain role.ExternObject h = refl
 value_plain role.Function h = refl
@@ -116,10 +116,10 @@ enumerator_only k h = absurd (false≢true h)
 
 -- ---- events by their numbers
 
-abbrev At : List Event → ℕ → ℕ → Role → Type 0
+abbrev pub At : List Event → ℕ → ℕ → Role → Type 0
 At events token k r = slice_get events k ≡ Some (Name token r)
 
-never_past : (test : Role → Bool) (events : List Event) (token : ℕ) → ((k : ℕ) (r : Role) → At events token k r → test r ≡ false) → (n : ℕ) → Never test token (past_of events n)
+pub never_past : (test : Role → Bool) (events : List Event) (token : ℕ) → ((k : ℕ) (r : Role) → At events token k r → test r ≡ false) → (n : ℕ) → Never test token (past_of events n)
 never_past test events token h zero = tt
 never_past test events token h (suc n) = by (slice_get events n) refl (never_past test events token h n)
   where
@@ -193,11 +193,11 @@ module _ (file : List ℕ) (t : Typed) (it : IsUnitOfFile file t) where
   abbrev whole : List Event
   whole = past_of events (length events)
 
-  is_told : (token k : ℕ) (r : Role) → At events token k r → IsTold t.nodes token r
+  pub is_told : (token k : ℕ) (r : Role) → At events token k r → IsTold t.nodes token r
   is_told token k r e =
       told_past t.nodes events (length events) k token r (subst (λ ns. AreTold ns whole) nodes_are (all_told it.unit.tokens.list.items it.unit.nodes it.unit.items)) (slice_get_within events k (Name token r) e) e
 
-  telling : (token k : ℕ) (r : Role) → At events token k r → Telling t.nodes token r
+  pub telling : (token k : ℕ) (r : Role) → At events token k r → Telling t.nodes token r
   telling token k r e = subst (λ ns. Telling ns token r) nodes_are (told_at (Telling it.unit.nodes) events k token r (all_telling it.unit.tokens.list.items it.unit.nodes it.unit.items) e)
 
   -- ---- a token that a declaration or a definition declares
@@ -219,7 +219,7 @@ module _ (file : List ℕ) (t : Typed) (it : IsUnitOfFile file t) where
     no_tags x n at is e = no_tag t unit order own.own x own.node n own.at own.is at (tagged_same n.kind is) (e ∙ sym own.first)
 
     -- no parameter has its name
-    no_parameter : tellings.IsDeclarer t.nodes token tellings.is_parameter → ⊥
+    pub no_parameter : tellings.IsDeclarer t.nodes token tellings.is_parameter → ⊥
     no_parameter p = elim p.declares [
       | inl e ↦ elim d.declares [
         | inl f ↦ apart (one_parent t unit q i p.node (subst (λ y. IsPartOf t unit y i) f (part_of t unit order token i q m d)) (subst (λ y. IsPartOf t unit y p.node) (e ∙ same) part_p))
@@ -279,7 +279,7 @@ module _ (file : List ℕ) (t : Typed) (it : IsUnitOfFile file t) where
               | inr le ↦ whole_is t unit order own.own own.node own.at own.is p.declarator q its mine le alone_p
             ]
 
-    no_enumerator : tellings.IsBearer t.nodes token tellings.is_enumerator → ⊥
+    pub no_enumerator : tellings.IsBearer t.nodes token tellings.is_enumerator → ⊥
     no_enumerator e =
         let is = enumerator_only e.own.kind e.is in
         let first = e.first in
@@ -307,7 +307,7 @@ module _ (file : List ℕ) (t : Typed) (it : IsUnitOfFile file t) where
     role_of = role_by (storage_of t.nodes m.parts) (declarator_of t.nodes q).next
 
     -- which is what its declaration tells
-    each : (k : ℕ) (r : Role) → At events token k r → role_of ≡ r
+    pub each : (k : ℕ) (r : Role) → At events token k r → role_of ≡ r
     each k r e = by (is_told token k r e)
       where
         by : IsTold t.nodes token r → role_of ≡ r
@@ -317,7 +317,8 @@ module _ (file : List ℕ) (t : Typed) (it : IsUnitOfFile file t) where
 
   -- ---- the unit's events
 
-  values : AreValues (length it.unit.tokens.list.items) whole
+  -- what is told as a value is one of its tokens, and is told as nothing else
+  pub values : AreValues (length it.unit.tokens.list.items) whole
   values token = by (decide events token (length events))
     where
       of_told : (k : ℕ) (r : Role) → is_value r ≡ true → IsTold t.nodes token r → At events token k r → (token < length it.unit.tokens.list.items) × Never is_other token whole

@@ -2,3 +2,4 @@ pub mod Heads
 pub mod Lists
 pub mod Names
 pub mod Parameters
+pub mod Objects

@@ -202,19 +202,19 @@ module _ (file : List ℕ) (t : Typed) (it : IsUnitOfFile file t) where
       ∙ listed_at (names.named_of parsed columns) (length it.unit.nodes) i unknown (omega (arith, low, few))
 
   -- the token of a declared identifier
-  token_at : (i : ℕ) (n : Node) → slice_get t.nodes i ≡ Some n → n.kind ≡ kind.NameDeclarator → entities.named_token it.unit.nodes i ≡ Some n.first
+  pub token_at : (i : ℕ) (n : Node) → slice_get t.nodes i ≡ Some n → n.kind ≡ kind.NameDeclarator → entities.named_token it.unit.nodes i ≡ Some n.first
   token_at i n at is =
       ap (λ ns. entities.named_token ns i) nodes_are ∙ ap (λ o. if entities.is_name (scripts.kind_if o) then scripts.first_if o else None) at
       ∙ ap (λ k. if entities.is_name (Some k) then Some n.first else None) is
 
   -- and a node that has one is such an identifier
-  record IsName (i token : ℕ) : Type 0 where
-    node : Node
-    at : slice_get t.nodes i ≡ Some node
-    is : node.kind ≡ kind.NameDeclarator
-    first : node.first ≡ token
+  pub record IsName (i token : ℕ) : Type 0 where
+    pub node : Node
+    pub at : slice_get t.nodes i ≡ Some node
+    pub is : node.kind ≡ kind.NameDeclarator
+    pub first : node.first ≡ token
 
-  name_there : (i token : ℕ) → entities.named_token it.unit.nodes i ≡ Some token → IsName i token
+  pub name_there : (i token : ℕ) → entities.named_token it.unit.nodes i ≡ Some token → IsName i token
   name_there i token e = by (slice_get t.nodes i) refl (ap (λ ns. entities.named_token ns i) (sym nodes_are) ∙ e)
     where
       by_kind : (m : Node) → slice_get t.nodes i ≡ Some m → (k : Kind) → m.kind ≡ k → (if entities.is_name (Some k) then Some m.first else None) ≡ Some token → IsName i token
@@ -228,7 +228,7 @@ module _ (file : List ℕ) (t : Typed) (it : IsUnitOfFile file t) where
       by (Some m) at f = by_kind m at m.kind refl (sym (ap (λ o. if entities.is_name (scripts.kind_if o) then scripts.first_if o else None) at) ∙ f)
 
   -- one token, one identifier
-  one_name : (i j token : ℕ) → IsName i token → IsName j token → i ≡ j
+  pub one_name : (i j token : ℕ) → IsName i token → IsName j token → i ≡ j
   one_name i j token x y =
       let w = (unit.within j y.node y.at).0 in
       let same = y.first in
@@ -258,7 +258,7 @@ module _ (file : List ℕ) (t : Typed) (it : IsUnitOfFile file t) where
     own_name : IsName own token
     own_name = record { node = has_own.node; at = has_own.at; is = has_own.is; first = has_own.first }
 
-    own_low : own < length t.nodes
+    pub own_low : own < length t.nodes
     own_low = slice_get_within t.nodes own has_own.node has_own.at
 
     own_token : entities.named_token it.unit.nodes own ≡ Some token
@@ -313,7 +313,7 @@ module _ (file : List ℕ) (t : Typed) (it : IsUnitOfFile file t) where
     low_p : p < length t.nodes
     low_p = slice_get_within t.nodes p np at_p
 
-    whole_of_own : entities.whole_of it.unit.nodes columns own ≡ Some p
+    pub whole_of_own : entities.whole_of it.unit.nodes columns own ≡ Some p
     whole_of_own =
         ap (entry_of columns.declarers.now None) own_token ∙ ap (λ column. slice_index_or column token None) made_by.are.declarers
         ∙ made_by.is.surroundings.bindings.declarers.each token few_tokens
@@ -449,7 +449,7 @@ module _ (file : List ℕ) (t : Typed) (it : IsUnitOfFile file t) where
     abbrev declared : Declared
     declared = slice_index_or typing.declared p Unclear
 
-    above_p : entry_of columns.above.now None (Some p) ≡ Some x
+    pub above_p : entry_of columns.above.now None (Some p) ≡ Some x
     above_p =
         ap (λ column. slice_index_or column p None) made_by.are.above
         ∙ made_by.is.surroundings.above.each p (let c = count in let l = low_p in omega (arith, c, l))

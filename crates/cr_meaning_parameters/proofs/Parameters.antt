@@ -1,8 +1,8 @@
 -- A definition enters an object for each parameter in the list of its function, with the word of its type (C11 6.9.1p7).
-use Rattle.std.proofs.Common.{◌≡◌, ℕ, ℤ, zero, suc, ◌+◌, ◌-◌, ◌||◌, ◌⊎◌, inl, inr, Bool, true, false, not, List, [], ◌∷◌, ◌++◌, Option, None, Some, length, map, option_to_list, slice_get, slice_index_or, refl, sym, ap, subst, ◌∙◌, arith, if◌then◌else◌}
+use Rattle.std.proofs.Common.{◌≡◌, ℕ, ℤ, zero, suc, ◌+◌, ◌-◌, ◌<◌, ◌&&◌, ◌||◌, ◌⊎◌, inl, inr, Bool, true, false, not, List, [], ◌∷◌, ◌++◌, Option, None, Some, length, map, option_to_list, slice_get, slice_index_or, refl, sym, ap, subst, ◌∙◌, arith, if◌then◌else◌}
 use Rattle.std.specs.List.{flat_map, list_any}
 use Rattle.std.specs.Option.{is_some}
-use Rattle.std.proofs.lemmas.Bool.{false≢true, or_parts, not-false, not-true}
+use Rattle.std.proofs.lemmas.Bool.{cases_lt, false≢true, or_parts, not-false, not-true}
 use Rattle.std.proofs.lemmas.Option.{slice_get_within}
 use Rattle.cr_syntax.specs.declared.node.Kind.{Kind}
 use Rattle.cr_syntax.specs.declared.node.Kind.TheVariants as kind
@@ -24,23 +24,24 @@ use Rattle.cr_check_enclosing.specs.declared.context.Place.TheVariants as place
 use Rattle.cr_check_enclosing.specs.Around.{outermost, inside}
 use Rattle.cr_check_types.specs.declared.shape.Shape.{Shape}
 use Rattle.cr_check_types.specs.Types.{Qualified, type_at}
+use Rattle.cr_check_types.specs.Relations.{is_complete_at}
 use Rattle.cr_check_expressions.specs.declared.known.Declared.{Declared}
 use Rattle.cr_check_expressions.specs.declared.known.Declared.TheVariants.{Enumerator, TypeName, Unclear}
 use Rattle.cr_check_expressions.specs.declared.least.Break.{Break}
-use Rattle.cr_check_expressions.specs.Breaks.{fault}
+use Rattle.cr_check_expressions.specs.Breaks.{fault, argument_faults}
 use Rattle.cr_check_declarators.specs.declared.words.Specified.{Specified}
 use Rattle.cr_check_declarators.specs.declared.words.Class.{Class}
 use Rattle.cr_check_declarators.specs.declared.declarator.Declarator.{Declarator}
 use Rattle.cr_check_declarators.specs.declared.enumerators.Enumerated.{Enumerated}
 use Rattle.cr_check_declarators.specs.Specifiers.{is_member}
 use Rattle.cr_check_declarators.specs.Functions.{adjusted_type}
-use Rattle.cr_check_declarators.specs.Declarators.{name_alone, is_declared, may_return, declared_type, function_fault_of, open_fault_of}
+use Rattle.cr_check_declarators.specs.Declarators.{name_alone, is_declared, may_return, declared_type, whole_object, function_fault_of, open_fault_of}
 use Rattle.cr_check_declarations.specs.declared.tree.Tree.{Tree}
 use Rattle.cr_check_declarations.specs.Before as early
 use Rattle.cr_check_declarations.specs.Before.{Before, kind_in, type_in, specified_in, declarator_in}
 use Rattle.cr_check_declarations.specs.Named as declarations
 use Rattle.cr_check_declarations.specs.Named.{is_declarator, is_initialised, is_declaration, is_parameter, is_typedef, class_of, type_by, named_by, value_by, ordinary_by, ordinary_of, names_ordinary, specifiers_in, constant_by, declared_by, declares_name, declaration_of}
-use Rattle.cr_check_declarations.specs.Faults.{Has, has_at, fault_at, token_if, place_of, name_or, name_in, list_in, name_token, is_nameless, is_specifier, parameter_name, parameter_faults, definition_faults, declarator_faults, whole_faults, faults_in}
+use Rattle.cr_check_declarations.specs.Faults.{Has, has_at, fault_at, token_if, place_of, name_or, name_in, list_in, name_token, is_nameless, is_specifier, parameter_name, parameter_fault, parameter_faults, definition_faults, declarator_faults, whole_faults, faults_in}
 use Rattle.cr_check_unit.specs.declared.typing.Typing.{Typing}
 use Rattle.cr_check_unit.specs.Typing.{cut, entry_at, before_in}
 use Rattle.cr_check_unit.specs.Breaks.{IsBroken}
@@ -62,7 +63,7 @@ use Rattle.cr_meaning_declared.specs.Files.{IsUnitOfFile}
 use Rattle.cr_meaning_declared.proofs.Nodes.{of_unit}
 use Rattle.cr_meaning_declared.proofs.Bodies.{listed_at}
 use Rattle.cr_meaning_known.specs.Shaped.{is_parameter_kind, fits, IsPart, IsShaped}
-use Rattle.cr_meaning_known.proofs.Naming.{declaration_here, ruled, holds_all, declarator_early, named_early}
+use Rattle.cr_meaning_known.proofs.Naming.{both, declaration_here, ruled, holds_all, declarator_early, named_early}
 use Rattle.cr_meaning_known.proofs.Declaring.{declarator_holds}
 use Rattle.cr_meaning_parameters.specs.Laws
 use Rattle.cr_meaning_parameters.specs.Laws.{AreParameters}
@@ -251,6 +252,14 @@ none_at test [] k x h e = absurd (cc e)
 none_at test (y ∷ xs) zero x h e = let same : y ≡ x = cc e in ap test (sym same) ∙ (or_parts (test y) (list_any test xs) h).0
 none_at test (y ∷ xs) (suc k) x h e = none_at test xs k x (or_parts (test y) (list_any test xs) h).1 e
 
+-- of the arguments' faults each is absent
+one_argument : (each : ℕ → Option Break) (n k : ℕ) → k < n → HoldsAll (argument_faults each n) → HoldsAll (each k ∷ [])
+one_argument each zero k low h = absurd (omega (arith, low))
+one_argument each (suc n) k low h = elim (cases_lt k n) [
+  | inl less ↦ one_argument each n k less (λ x among. h x (inr among))
+  | inr le ↦ (let same : n ≡ k = omega (arith, low, le) in subst (λ i. HoldsAll (each i ∷ [])) same (λ x among. elim among [ inl own ↦ h x (inl own) | inr none ↦ none ]))
+]
+
 same_lists : (nodes : List Node) (o : Option ℕ) → functions.parameter_nodes nodes o ≡ declarations.parameter_nodes nodes o
 same_lists nodes None = refl
 same_lists nodes (Some list) = by (slice_get nodes list)
@@ -358,7 +367,7 @@ module _ (file : List ℕ) (t : Typed) (it : IsUnitOfFile file t) (shaped : IsSh
     placed : place_of tree p ≡ place.Parameter
     placed = ap (λ (a : Around). a.place) part.around ∙ parameter_place nx.kind x (slice_index_or tree.around.now x outermost) is
 
-    plain : (has p).function ≡ None
+    pub plain : (has p).function ≡ None
     plain = let f = function_at p x part.own part.at declarator_is.0 declaration in plain_parameter (has p) (place_of tree p) f.0 (named p) placed f.1
 
     unfunctional : is_function (slice_index_or typing.declared p Unclear) ≡ false
@@ -368,17 +377,17 @@ module _ (file : List ℕ) (t : Typed) (it : IsUnitOfFile file t) (shaped : IsSh
         ∙ no_function part.own.kind tree.nodes.now (before_in shapes (cut p typing)).specified (has p) (entry_at typing p).own.named (entry_at typing p).own.enumerated (declaration_of tree.nodes.now tree.above.now p) plain
 
     -- the parameter has the type of its declarator, which is adjusted
-    parameter_head : head (named x) ≡ head (named p)
+    pub parameter_head : head (named x) ≡ head (named p)
     parameter_head =
         named_head tree texts shapes typing made_by.is.whole.typing holds x nx at_x (ap (λ k. is_initialised (Some k)) is)
         ∙ ap (λ k. head (named_by k tree (entry_at typing x).own.specified (has x) (type_at shapes (entry_at typing x).own.derivations) (before_in shapes (cut x typing)) x nx)) is
         ∙ ap (λ o. head (type_in (before_in shapes (cut x typing)).named o)) second
         ∙ ap head (named_early tree texts shapes typing made_by.is.whole.typing holds x nx at_x p part.below)
 
-    abbrev given : Qualified
+    abbrev pub given : Qualified
     given = declared_type (has p) (type_at shapes (entry_at typing p).own.derivations) (type_in (before_in shapes (cut p typing)).named (specifiers_in tree.nodes.now (Some x)))
 
-    declarator_head : head (named p) ≡ adjusted_type (head given)
+    pub declarator_head : head (named p) ≡ adjusted_type (head given)
     declarator_head =
         let b = before_in shapes (cut p typing) in
         let derived = type_at shapes (entry_at typing p).own.derivations in
@@ -457,10 +466,10 @@ module _ (file : List ℕ) (t : Typed) (it : IsUnitOfFile file t) (shaped : IsSh
           absurd (false≢true (ap is_declarator (sym never) ∙ ap (λ k. fits k 1 part_is.own.kind) (sym is_definition) ∙ part_is.fits)))
     ]
 
-    second : slice_get m.parts 1 ≡ Some q
+    pub second : slice_get m.parts 1 ≡ Some q
     second = first_part ∙ ap Some same
 
-    definer : IsPart tree d m 1 q
+    pub definer : IsPart tree d m 1 q
     definer = shaped.parts d m here 1 q second
 
     name : (declarator_of tree.nodes.now q).name ≡ Some token
@@ -573,6 +582,42 @@ module _ (file : List ℕ) (t : Typed) (it : IsUnitOfFile file t) (shaped : IsSh
         by : (o : Option ℕ) → (has q).function ≡ o → is_some o ≡ true → (l : ℕ) × ((declarator_of t.nodes q).next ≡ derivation.Function l)
         by None e h = absurd (false≢true h)
         by (Some l) e h = (l, ap (λ ns. (declarator_of ns q).next) (sym tree_nodes) ∙ (own_list l e).next)
+
+    -- which is that of its function
+    pub function_at_name : (l : ℕ) → (declarator_of t.nodes q).next ≡ derivation.Function l → (has q).function ≡ Some l
+    function_at_name l e = by (has q).function refl (ap is_some (sym function_is) ∙ there)
+      where
+        by : (o : Option ℕ) → (has q).function ≡ o → is_some o ≡ true → (has q).function ≡ Some l
+        by None f h = absurd (false≢true h)
+        by (Some own) f h =
+            let both : derivation.Function own ≡ derivation.Function l = sym (ap (λ ns. (declarator_of ns q).next) (sym tree_nodes) ∙ (own_list own f).next) ∙ e in
+            let same : own ≡ l = cc both in
+            f ∙ ap Some same
+
+    -- K6
+    pub parameter_whole : (l : ℕ) → (declarator_of t.nodes q).next ≡ derivation.Function l
+        → (k x p : ℕ) → slice_get (declarations.parameter_nodes tree.nodes.now (list_in tree.nodes.now (Some l))) k ≡ Some x → slice_get (early.parts_in tree.nodes.now (Some x)) 1 ≡ Some p
+        → x < d → p < d → (has p).function ≡ None → whole_object (is_complete_at tree.nodes.now d) (named x) ≡ true
+    parameter_whole l l_next k x p e second x_low p_low unlike =
+        ap (whole_object (is_complete_at tree.nodes.now d)) (sym (named_early tree texts shapes typing made_by.is.whole.typing holds d m here x x_low))
+        ∙ both (not (is_some (declarator_in b.declarator (slice_get (early.parts_in tree.nodes.now (Some x)) 1)).function)) (whole_object (is_complete_at tree.nodes.now d) (b.named x))
+        (unbroken 6 (name_or (parameter_name tree.nodes.now x) (early.first_in tree.nodes.now (Some x)))
+        (not (is_some (declarator_in b.declarator (slice_get (early.parts_in tree.nodes.now (Some x)) 1)).function) && not (whole_object (is_complete_at tree.nodes.now d) (b.named x))) [] judged)
+        plain_is
+      where
+        in_list : slice_get list k ≡ Some x
+        in_list = ap (λ ps. slice_get ps k) (list_is l (function_at_name l l_next)) ∙ e
+
+        judged : HoldsAll (parameter_fault b tree.nodes.now d (Some x) ∷ [])
+        judged =
+            subst (λ o. HoldsAll (parameter_fault b tree.nodes.now d o ∷ [])) in_list
+            (one_argument (λ j. parameter_fault b tree.nodes.now d (slice_get list j)) (length list) k (slice_get_within list k x in_list) (λ y among. held y (inr (inr (inr (inr among))))))
+
+        plain_is : not (is_some (declarator_in b.declarator (slice_get (early.parts_in tree.nodes.now (Some x)) 1)).function) ≡ true
+        plain_is =
+            ap (λ o. not (is_some (declarator_in b.declarator o).function)) second
+            ∙ ap (λ (y : Declarator). not (is_some y.function)) (declarator_early tree texts shapes typing made_by.is.whole.typing holds d m here p p_low)
+            ∙ ap (λ o. not (is_some o)) unlike
 
 pub function_next : (file : List ℕ) (t : Typed) (it : IsUnitOfFile file t) → IsShaped it.checked.by.tree → (token d q : ℕ) (m : Node) → IsDeclarer t.nodes token d q m → m.kind ≡ kind.FunctionDefinition
     → (l : ℕ) × ((declarator_of t.nodes q).next ≡ derivation.Function l)
