@@ -23,7 +23,7 @@ use Rattle.cr_meaning_calls.specs.Calls.{IsParameter, IsCalled}
 use Rattle.cr_meaning_called.specs.Laws.{IsMeant, IsFitting}
 use Rattle.cr_meaning_sorts.specs.Table.{result_of, expression_sort, exits_at, sort_at, sorts_in}
 use Rattle.cr_meaning_files.specs.Reached.{is_definition}
-use Rattle.cr_meaning_files.specs.Files.{judgement_of, IsDeclaredSo}
+use Rattle.cr_meaning_files.specs.Files.{judgement_of}
 use Rattle.cr_meaning_files.proofs.Tree.{as_part}
 use Rattle.cr_meaning_files.proofs.Filling.{unit}
 use Rattle.cr_meaning_files.proofs.Mains.{body_at, block_at, reached_at, exits_of}
@@ -90,9 +90,11 @@ module _ (file : List ℕ) (t : Typed) (it : IsUnitOfFile file t) (i : ℕ) wher
         → ((c : Callee) → callee_of t i ≡ c → is_of_library c ≡ true → IsCalled p t (sorts_in p t (judgement_of file t it)) signature c)
         → (IsMeant file t it i definition → IsFitting file t it p signature definition)
         → (IsMeant file t it i definition → signature.more ≡ false) → (IsMeant file t it i definition → (k : ℕ) (own : Parameter) → slice_get (map (parameter_of t) (slice_index_or t.parameters definition [])) k ≡ Some own → IsParameter p t signature k own)
-        → (c : Callee) → callee_of t i ≡ c → IsDeclaredSo file t it i c → IsCalled p t (sorts_in p t (judgement_of file t it)) signature c
-    called signature main library fitting closed taken (callee.Function parameters rest is_main) e h =
+        → ((parameters : List Parameter) (rest : ℕ) (is_main : Bool) → callee_of t i ≡ callee.Function parameters rest is_main → IsMeant file t it i definition)
+        → (c : Callee) → callee_of t i ≡ c → IsCalled p t (sorts_in p t (judgement_of file t it)) signature c
+    called signature main library fitting closed taken meant (callee.Function parameters rest is_main) e =
         let own = of_call parameters rest is_main e in
+        let h = meant parameters rest is_main e in
         let fits = fitting h in
         record {
           result = result_of t (judgement_of file t it) (Some definition);
@@ -103,4 +105,4 @@ module _ (file : List ℕ) (t : Typed) (it : IsUnitOfFile file t) (i : ℕ) wher
           closed = closed h;
           each = λ k own_k f. taken h k own_k (ap (λ ps. slice_get ps k) own.parameters_are ∙ f);
         }
-    called signature main library fitting closed taken c e h = library c e refl
+    called signature main library fitting closed taken meant c e = library c e refl

@@ -52,14 +52,14 @@ repeated_flat f (suc n) x = ap (λ r. f x ++ r) (repeated_flat f n x)
 
 -- ---- types that stand before a node
 
-before_later : (at later : ℕ) → at ≤ later → (type : Qualified) → IsBefore at type → IsBefore later type
+pub before_later : (at later : ℕ) → at ≤ later → (type : Qualified) → IsBefore at type → IsBefore later type
 before_later at later le (plain (Struct node) c v) h = omega (arith, le, h)
 before_later at later le (plain of c v) h = tt
 before_later at later le (to c v below) h = tt
 before_later at later le (array n below) h = before_later at later le below h
 
 -- what is complete at a node has structures of earlier nodes
-complete_before : (nodes : List Node) (at : ℕ) (type : Qualified) → is_complete_at nodes at type ≡ true → IsBefore at type
+pub complete_before : (nodes : List Node) (at : ℕ) (type : Qualified) → is_complete_at nodes at type ≡ true → IsBefore at type
 complete_before nodes at (plain (Struct node) c v) e = ltb-true node at (and_parts (nat_lt node at) (is_content_if (slice_get nodes node)) e).0
 complete_before nodes at (plain of c v) e = tt
 complete_before nodes at (to c v below) e = tt

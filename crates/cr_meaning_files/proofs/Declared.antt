@@ -12,7 +12,7 @@ use Rattle.cr_check_declarators.specs.Declarators.{whole_object}
 use Rattle.cr_typed_columns.specs.Columns.{is_structure}
 use Rattle.cr_typed.specs.declared.typed.Typed.{Typed}
 use Rattle.cr_typed_unit.specs.Typed.{IsTypedBy}
-use Rattle.cr_meaning_declared.specs.Files.{IsUnitOfFile}
+use Rattle.cr_meaning_declared.specs.Files.{IsUnitOfFile, assembled}
 use Rattle.cr_meaning_known.specs.Sighted.{AreSighted}
 use Rattle.cr_meaning_known.specs.Sized.{is_open}
 use Rattle.cr_meaning_typed.specs.Typing.{has_value}
@@ -73,7 +73,7 @@ module _ (file : List ℕ) (t : Typed) (it : IsUnitOfFile file t) (sighted : Are
   member_sized : (d k : ℕ) (m : Member) → slice_get (slice_index_or it.checked.checked.whole.typing.members d []) k ≡ Some m → is_open (type_at it.checked.checked.table m.row) ≡ false
   member_sized =
       sized made_by.tree it.checked.checked.texts it.checked.checked.table it.checked.checked.whole.typing made_by.is.whole.typing (λ b broken. made_by.sound.constraints b (inl broken)) (shaped file t it) sighted
-      (surrounded file t it) (are_seen file t it)
+      (surrounded file t it) (are_seen file t (assembled file t it))
 
   pub members_whole : AreMembersWhole t
   members_whole d k row e = elim (cases_lt d (length it.unit.nodes)) [

@@ -9,6 +9,7 @@ use Rattle.cr_syntax.specs.declared.node.Node.{Node}
 use Rattle.cr_syntax.specs.Tables.{rule_of, side_of}
 use Rattle.cr_syntax.specs.Kept.{row_in}
 use Rattle.cr_syntax_nodes.specs.Nodes.{least, most}
+use Rattle.cr_scopes_sight.specs.Scopes.{is_using}
 use Rattle.cr_check_enclosing.specs.Above.{above_of}
 use Rattle.cr_check_types.specs.declared.shape.Shape.{Shape}
 use Rattle.cr_check_expressions.specs.Forms.{form_of}
@@ -46,7 +47,7 @@ use Rattle.cr_meaning_files.proofs.Tree.{has_part, exactly, at_most, needed}
 use Rattle.cr_meaning_files.proofs.Living.{one_of, lives_is, reached_lives}
 use Rattle.cr_meaning_files.proofs.Filling.{unit, nodes_are, listed_is, found}
 use Rattle.cr_meaning_files.proofs.Shaped.{shaped}
-use Rattle.cr_meaning_files.proofs.Parameters.{is_inner, is_outer, no_inner, outermost}
+use Rattle.cr_meaning_files.proofs.Lists.{is_inner, is_outer, no_inner, outermost}
 use Rattle.cr_meaning_files.proofs.Outside.{told_once}
 use Rattle.cr_meaning_files.proofs.Planned.{value_type, planned, lasting}
 
@@ -448,7 +449,7 @@ module _ (file : List ℕ) (t : Typed) (it : IsUnitOfFile file t) (sighted : Are
       let initial = is_initialiser t start.place start.item start.at in
       let d = there start.item initial in
       let held = anchored_under start.item d.0 d.1.0 d.1.1 (only_static t start.item (kind_at t start.item) initial).1 (length t.nodes) i (omega arith) start.passes (reached_lives t u i r) in
-      last file t it (shaped file t it) i n at is lvalue (held.0 (ap (λ k. is_expression (form_of k)) (ap kind_if at ∙ is))) (told_once file t it i n at is r)
+      last file t it (shaped file t it) i n at is lvalue (held.0 (ap (λ k. is_expression (form_of k)) (ap kind_if at ∙ is))) (told_once file t it i n at (ap is_using is) r)
 
   -- so the name of an automatic object stands in no initialiser that is executed before main
   pub automatic_late : (i : ℕ) (n : Node) → slice_get t.nodes i ≡ Some n → n.kind ≡ kind.Identifier → is_reached t i ≡ true → (seen_in it.checked.checked i).lvalue ≡ true

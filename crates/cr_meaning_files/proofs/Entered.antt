@@ -1,5 +1,5 @@
 -- An automatic object is declared by a declaration in a block or a `for`, or by a parameter of a definition (C11 6.2.4p5, 6.9.1p9).
-use Rattle.std.proofs.Common.{◌≡◌, ℕ, ℤ, zero, suc, ◌+◌, ◌<◌, ◌≤◌, ◌==◌, ◌⊎◌, inl, inr, Bool, true, false, ◌||◌, not, List, [], ◌∷◌, ◌++◌, Option, None, Some, drop, length, slice_get, slice_index_or, refl, sym, ap, subst, ◌∙◌, arith, if◌then◌else◌}
+use Rattle.std.proofs.Common.{◌≡◌, ℕ, zero, suc, ◌+◌, ◌<◌, ◌≤◌, ◌==◌, ◌⊎◌, inl, inr, Bool, true, false, ◌||◌, not, List, [], ◌∷◌, ◌++◌, Option, None, Some, drop, length, slice_get, slice_index_or, refl, sym, ap, subst, ◌∙◌, arith, if◌then◌else◌}
 use Rattle.std.specs.Prelude.{option_to_list}
 use Rattle.std.specs.List.{list_any, flat_map}
 use Rattle.std.specs.Option.{is_some}
@@ -39,7 +39,8 @@ use Rattle.cr_meaning_objects.proofs.Alone.{value_made}
 use Rattle.cr_meaning_objects.proofs.Declaring.{IsLast, last_there}
 use Rattle.cr_meaning_objects.proofs.Statics.{no_constant, object_if, only_initialised}
 use Rattle.cr_meaning_files.proofs.Living.{one_of}
-use Rattle.cr_meaning_files.proofs.Parameters.{list_counts, found_below, unit_parts, parameters_are, named_locally}
+use Rattle.cr_meaning_files.proofs.Lists.{list_counts}
+use Rattle.cr_meaning_files.proofs.Parameters.{found_below, unit_parts, parameters_are, named_locally}
 use Rattle.cr_meaning_files.proofs.Lasting.{static_seen}
 use Rattle.cr_meaning_files.proofs.Grammar.{row}
 use Rattle.cr_meaning_files.proofs.Tables.{initialiser_there}
@@ -59,7 +60,7 @@ use Rattle.cr_check_enclosing.specs.Above.{above_of}
 use Rattle.cr_check_enclosing.specs.Around.{outermost, inside, below}
 use Rattle.cr_check_types.specs.declared.shape.Shape.{Shape}
 use Rattle.cr_check_expressions.specs.declared.known.Declared.{Declared}
-use Rattle.cr_check_expressions.specs.declared.known.Declared.TheVariants.{Object, Enumerator, Function, Unclear}
+use Rattle.cr_check_expressions.specs.declared.known.Declared.TheVariants.{Object, Function, Unclear}
 use Rattle.cr_check_declarators.specs.declared.words.Specified.{Specified}
 use Rattle.cr_check_declarators.specs.Specifiers.{nothing}
 use Rattle.cr_check_declarations.specs.declared.tree.Tree.{Tree}

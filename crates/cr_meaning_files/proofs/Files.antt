@@ -1,11 +1,12 @@
 -- What the grammar and the check give of a file's unit isn't premised.
-use Rattle.std.proofs.Common.{◌≡◌, ℕ, ℤ, ◌<◌, ◌^◌, Bool, true, false, Option, None, Some, List, [], map, inl, refl, sym, ap, subst, ◌∙◌, slice_get, slice_index_or, arith, if◌then◌else◌}
+use Rattle.std.proofs.Common.{◌≡◌, ℕ, ℤ, ◌<◌, ◌^◌, Bool, true, false, Option, None, Some, List, [], map, ◌⊎◌, inl, inr, refl, sym, ap, subst, ◌∙◌, slice_get, slice_index_or, arith, if◌then◌else◌}
 use Rattle.std.proofs.lemmas.Bool.{false≢true}
 use Rattle.cr_ints.specs.declared.kind.IntKind.TheVariants.{Int as IntegerKind}
 use Rattle.cr_ints.specs.IntKind.{Represents}
 use Rattle.cr_syntax.specs.declared.node.Kind.{Kind}
 use Rattle.cr_syntax.specs.declared.node.Kind.TheVariants as kind
 use Rattle.cr_syntax.specs.declared.node.Node.{Node}
+use Rattle.cr_scopes_sight.specs.Scopes.{is_using}
 use Rattle.cr_check_types.specs.declared.layout.Layout.{Layout}
 use Rattle.cr_check_types.specs.Types.{Qualified, type_at}
 use Rattle.cr_check_types.specs.Relations.{is_complete_at}
@@ -18,7 +19,7 @@ use Rattle.cr_check_operands.specs.Rules.{size_value, with_qualifiers_of}
 use Rattle.cr_check_operands.specs.Places.{member_of}
 use Rattle.cr_check_expressions.specs.declared.known.Declared.{Declared}
 use Rattle.cr_check_expressions.specs.declared.known.Declared.TheVariants.{Object, Enumerator, Function, TypeName, Unclear}
-use Rattle.cr_check_expressions.specs.Known.{an_enumerator, meaning_by}
+use Rattle.cr_check_expressions.specs.Known.{Signature, a_function, an_enumerator, meaning_by}
 use Rattle.cr_check_expressions.specs.Forms.{form_of}
 use Rattle.cr_check_expressions.specs.Ruled.{given, literal, is_type, complete, operand, sized, ruled}
 use Rattle.cr_check_ranges.specs.Laws.{IsInRange}
@@ -40,7 +41,7 @@ use Rattle.cr_meaning_typed.proofs.Units.{all_worth}
 use Rattle.cr_meaning_typed.proofs.Worth.{worth_typed}
 use Rattle.cr_meaning_judged.specs.Judged.{seen_in, source_of, scene_of, IsJudged}
 use Rattle.cr_meaning_judged.proofs.Judged.{judged}
-use Rattle.cr_meaning_declared.specs.Files.{IsUnitOfFile}
+use Rattle.cr_meaning_declared.specs.Files.{IsUnitOfFile, assembled}
 use Rattle.cr_meaning_calls.specs.Calls.{IsParameter}
 use Rattle.cr_meaning_expressions.specs.Places.{HasCells, IsMemberIn}
 use Rattle.cr_meaning_sorts.specs.Table.{Judgement, sort_at, sorts_in}
@@ -49,11 +50,14 @@ use Rattle.cr_meaning_whole.specs.Statements.{BlocksRise, IsIn, IsInitialised, I
 use Rattle.cr_meaning_whole.specs.Whole.{IsReady}
 use Rattle.cr_meaning_whole.proofs.Around.{rise}
 use Rattle.cr_meaning_whole.proofs.Statements.{nodes}
-use Rattle.cr_meaning_whole.proofs.Whole.{outcomes}
+use Rattle.cr_meaning_declared.proofs.Runs.{files_run_alike}
+use Rattle.cr_meaning_whole.proofs.Whole.{outcomes, typed}
 use Rattle.cr_meaning_files.specs.Reached.{is_item, is_definition, is_reached}
 use Rattle.cr_meaning_files.specs.Seen.{sees}
-use Rattle.cr_meaning_files.specs.Files.{judgement_of, AreRead, IsDeclaredSo, IsLeftOpen, FilesHaveOutcomes}
-use Rattle.cr_meaning_files.specs.Laws.{IsTold, AreTold, AreClosed, AreWorth, EnumeratorsAreNumbers, MainsAreDefined, LabelsStandAround, DeclaratorsSeeObjects, EarlyNamesLast}
+use Rattle.cr_meaning_files.specs.Local.{is_object_by}
+use Rattle.cr_typed.specs.declared.typed.Duration.TheVariants as duration
+use Rattle.cr_meaning_files.specs.Files.{judgement_of, AreRead, AreVisible, FilesHaveOutcomes, FilesAreWellTyped, FixedFilesRunAlike}
+use Rattle.cr_meaning_files.specs.Laws.{IsTold, AreTold, AreClosed, AreWorth, EnumeratorsAreNumbers, MainsAreDefined, LabelsStandAround, DeclaratorsSeeObjects, EarlyNamesLast, ObjectsHaveWholeCells, NodesNameWholeCells, PlacesNameObjects}
 use Rattle.cr_meaning_files.proofs.Filling.{unit}
 use Rattle.cr_meaning_files.proofs.Laid.{read_operand, laid_out}
 use Rattle.cr_meaning_files.proofs.Living.{reached_lives}
@@ -66,14 +70,13 @@ use Rattle.cr_meaning_files.proofs.Library.{library_called}
 use Rattle.cr_meaning_files.proofs.Results.{function_gives, returned_given}
 use Rattle.cr_meaning_files.proofs.Followed.{followed_type}
 use Rattle.cr_meaning_called.specs.Laws.{IsMeant}
+use Rattle.cr_meaning_files.proofs.Objects.{has_cells, names_cells}
+use Rattle.cr_meaning_files.proofs.Defined.{define}
 use Rattle.cr_meaning_called.proofs.Fitting.{fitting}
 use Rattle.cr_meaning_called.proofs.Objects.{objects as parameters_taken}
 use Rattle.cr_meaning_closed.proofs.Closed.{calls_closed}
 use Rattle.cr_meaning_known.specs.Sighted.{AreSighted}
 use Rattle.cr_meaning_objects.proofs.Statics.{static_first}
-use Rattle.cr_meaning_found.proofs.Names.{declared as are_declared}
-use Rattle.cr_meaning_told.proofs.Asked.{all_found}
-use Rattle.cr_meaning_typedefs.proofs.Files.{no_enumerators}
 use Rattle.cr_meaning_files.proofs.Declared.{types_known, read, members_whole}
 use Rattle.cr_meaning_files.proofs.Returns.{result}
 use Rattle.cr_meaning_files.proofs.Shaped.{shaped}
@@ -85,11 +88,16 @@ use Rattle.cr_meaning_files.proofs.Scoped.{IsScoped, AllReached, IsBodyOf, by_ki
 use Rattle.cr_meaning_files.proofs.Sight.{declarators, initialised, literals, seen}
 use Rattle.cr_meaning_files.proofs.Lasting.{initialised_lasts}
 use Rattle.cr_meaning_files.proofs.Entered.{named_seen}
+use Rattle.cr_meaning_files.proofs.Outside.{told_once}
 use Rattle.cr_meaning_files.proofs.Early.{early_lasts, automatic_late}
+use Rattle.cr_meaning_files.proofs.Mentioned.{mentioned_named, mentioned_object}
+use Rattle.cr_meaning_files.proofs.Received.{received_named, received_object}
+use Rattle.cr_meaning_files.specs.Celled.{SeesDeclared, SeesParameter}
+use Rattle.cr_meaning_files.proofs.Designated.{places}
 use Rattle.cr_meaning_files.proofs.Initialised.{initialises}
 use Rattle.cr_meaning_files.proofs.Started.{definition_item, main_has, gives}
 use Rattle.cr_meaning_files.proofs.Callees.{body_of, called, defines_function}
-use Rattle.cr_meaning_files.proofs.Shaped.{shaped}
+use Rattle.cr_meaning_files.proofs.Assembled.{tree_sighted}
 use Rattle.cr_meaning_files.proofs.Passed.{passed_types}
 use Rattle.cr_meaning_files.proofs.Labels.{gotos}
 
@@ -190,9 +198,24 @@ module _ (file : List ℕ) (t : Typed) (it : IsUnitOfFile file t) where
 
   -- what names and tags find is declared
   sighted : AreSighted made_by.tree
-  sighted = are_declared file it.unit it.names checked.surroundings made_by.tree made_by.is.surroundings made_by.is.whole.tree (all_found file t it (record { typed = no_enumerators file t it }))
+  sighted = tree_sighted file t (assembled file t it)
 
-  module _ (limits : Limits) (left : IsLeftOpen file t it limits) (few : limits.output < 2 ^ 31) where
+  -- what is named as a place is an object of the program, of a declaration or of a parameter
+  visible : (limits : Limits) → AreVisible (program_of t limits) t (judgement_of file t it)
+  visible limits i n r at identifier l = by (places file t it (shaped file t it) sighted i n at identifier l (told_once file t it i n at (ap is_using identifier) r))
+    where
+      by : SeesDeclared file t it i n.first ⊎ SeesParameter file t it n.first → IsNamed (program_of t limits) t i × (is_object_by (slice_index_or t.durations (entity_of t i) duration.NoObject) ≡ true)
+      by (inl s) = (
+        mentioned_named file t it sighted i n at identifier (told_once file t it i n at (ap is_using identifier) r) l s (members_whole file t it sighted) (worth (read file t it sighted)) limits,
+        mentioned_object file t it sighted i n at identifier (told_once file t it i n at (ap is_using identifier) r) l s,
+      )
+      by (inr s) = (
+        received_named file t it i n at identifier r l s (members_whole file t it sighted) limits
+            (ap has_value (is.columns.types i) ∙ worth (read file t it sighted) i (ap (λ k. is_expression (form_of k)) (ap kind_if at ∙ identifier))),
+        received_object file t it i n at identifier r l s,
+      )
+
+  module _ (limits : Limits) (few : limits.output < 2 ^ 31) where
     abbrev j : Judgement
     j = judgement_of file t it
 
@@ -228,6 +251,14 @@ module _ (file : List ℕ) (t : Typed) (it : IsUnitOfFile file t) where
         of_kind kind.SizeofType same h = of_size ((source_of made_by.tree checked i).named (slice_get there.0.parts 0)) (rule kind.SizeofType same)
         of_kind k same h = absurd (false≢true h)
 
+    -- a call of a function of the unit's own means its definition (K40)
+    meant : (i : ℕ) → is_reached t i ≡ true → kind_at t i ≡ kind.Call → (signature : Signature) → (source_of made_by.tree checked i).stands i ≡ a_function signature
+        → (parameters : List Parameter) (rest : ℕ) (is_main : Bool) → callee_of t i ≡ Function parameters rest is_main → IsMeant file t it i (function_in (named_type t (entity_of t i)))
+    meant i r e signature stands parameters rest is_main same =
+        let n = closed.there i r in
+        let is = sym (ap kind_if n.1) ∙ e in
+        define file t it (shaped file t it) sighted i n.0 n.1 is (told_once file t it i n.0 n.1 (ap is_using is) r) signature stands parameters rest is_main same
+
     calls : AreCalls (program_of t limits) t (judgement_of file t it)
     calls i r e =
         let n = closed.there i r in
@@ -255,8 +286,7 @@ module _ (file : List ℕ) (t : Typed) (it : IsUnitOfFile file t) where
           stands = named.1.0;
           gives = given;
           called = called file t it i (program_of t limits) named.0 (gives file t it sighted limits) library
-              (λ meant. fitting file t it (shaped file t it) sighted (program_of t limits) i definition named.0 named.1.0 given meant) takes_no_more taken (callee_of t i) refl
-              (left.called i named.0 r e named.1.0);
+              (λ h. fitting file t it (shaped file t it) sighted (program_of t limits) i definition named.0 named.1.0 given h) takes_no_more taken (meant i r e named.0 named.1.0) (callee_of t i) refl;
         }
 
     members : (i a : ℕ) → is_reached t i ≡ true → kind_at t i ≡ kind.Member → slice_get (parts_at t i) 0 ≡ Some a → IsFound t limits (judgement_of file t it) i a
@@ -295,13 +325,13 @@ module _ (file : List ℕ) (t : Typed) (it : IsUnitOfFile file t) where
         whole_object file t it (members_whole file t it sighted) (type_of_node t i) (complete_whole t i (type_of_node t i) complete) (made_by.fits.cells_fit (slice_index_or t.types i 0))
 
     objects : (i : ℕ) (n : Node) → is_reached t i ≡ true → slice_get t.nodes i ≡ Some n → n.kind ≡ kind.Identifier → (seen_in checked i).lvalue ≡ true → IsNamed p t i × (sees t i (entity_of t i) ≡ true)
-    objects i n r at is l = let own = left.visible i n r at is l in (own.0, named_seen file t it i (ap kind_if at ∙ is) (automatic_late file t it sighted (worth (read file t it sighted)) i n at is r l) own.1)
+    objects i n r at is l = let own = visible limits i n r at is l in (own.0, named_seen file t it i (ap kind_if at ∙ is) (automatic_late file t it sighted (worth (read file t it sighted)) i n at is r l) own.1)
 
     -- the lines of an initialised declarator
     completes : (i : ℕ) → is_reached t i ≡ true → kind_at t i ≡ kind.InitDeclarator → sees t i (entity_of t (name_of t i)) ≡ true → IsInitialised p t j (sees t) i
     completes i r e seen =
         let n = closed.there i r in
-        initialises file t it sighted (members_whole file t it sighted) (worth (read file t it sighted)) limits i n.0 n.1 (left.completed i r e) seen
+        initialises file t it sighted (members_whole file t it sighted) (worth (read file t it sighted)) limits i n.0 n.1 seen
 
     founded : IsFounded t limits j (scene_of made_by.tree checked) (sees t)
     founded = record {
@@ -349,8 +379,7 @@ module _ (file : List ℕ) (t : Typed) (it : IsUnitOfFile file t) where
     goes_on i r e parameters rest is_main same =
         let n = closed.there i r in
         let named = call_names file t it (read file t it sighted) i n.0 n.1 (sym (ap kind_if n.1) ∙ e) in
-        let own : IsMeant file t it i (function_in (named_type t (entity_of t i))) = subst (IsDeclaredSo file t it i) same (left.called i named.0 r e named.1.0) in
-        body_of file t it i parameters rest is_main same (defines_function file t it i own)
+        body_of file t it i parameters rest is_main same (defines_function file t it i (meant i r e named.0 named.1.0 parameters rest is_main same))
 
     scoped : (i : ℕ) → is_reached t i ≡ true → IsScoped file t it i (op_of t i)
     scoped i r = let n = closed.there i r in by_kind file t it goes_on i n.0 n.1 (kind_at t i) refl (parts_run i r) r
@@ -393,5 +422,23 @@ pub before_main : EarlyNamesLast
 before_main file t it i n at is r lvalue early = let s = sighted file t it in early_lasts file t it s (worth file t it (read file t it s)) i n at is r lvalue early
 
 pub files : FilesHaveOutcomes
-files file t it limits left cells few reply run =
-    outcomes t limits (judgement_of file t it) (scene_of it.checked.by.tree it.checked.checked) (sees t) (ready file t it limits left few) cells few reply run
+files file t it limits cells few reply run =
+    outcomes t limits (judgement_of file t it) (scene_of it.checked.by.tree it.checked.checked) (sees t) (ready file t it limits few) cells few reply run
+
+pub well_typed : FilesAreWellTyped
+well_typed file t it limits few = typed t limits (judgement_of file t it) (scene_of it.checked.by.tree it.checked.checked) (sees t) (ready file t it limits few) few
+
+pub alike : FixedFilesRunAlike
+alike file t limits it cells few fixed one other comes any =
+    files_run_alike file t limits (sorts_in (program_of t limits) t (judgement_of file t it)) it (well_typed file t it limits few) cells fixed one other comes any
+
+pub objects_cells : ObjectsHaveWholeCells
+objects_cells file t it limits node q x there_is =
+    let s = sighted file t it in has_cells file t it s (members_whole file t it s) (worth file t it (read file t it s)) limits node q x there_is
+
+pub nodes_cells : NodesNameWholeCells
+nodes_cells file t it limits node q p i x declared type entity there_is =
+    let s = sighted file t it in names_cells file t it s (members_whole file t it s) (worth file t it (read file t it s)) limits node q p i x declared type entity there_is
+
+pub place_names : PlacesNameObjects
+place_names file t it limits i n r at is l = visible file t it limits i n r at is l

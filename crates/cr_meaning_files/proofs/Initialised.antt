@@ -68,7 +68,8 @@ use Rattle.cr_meaning_files.proofs.Apart.{form_kinds}
 use Rattle.cr_meaning_files.proofs.Declared.{image}
 use Rattle.cr_meaning_files.proofs.Completed.{IsEarly, complete_early, cells, sorts_are, are_cells, have_parts}
 use Rattle.cr_meaning_files.proofs.Small.{completed_few, element_few}
-use Rattle.cr_meaning_files.proofs.Whole.{element_complete, completed_complete}
+use Rattle.cr_meaning_files.proofs.Whole.{planned_object, element_complete, completed_complete}
+use Rattle.cr_meaning_files.proofs.Composed.{object_cells}
 
 -- ---- lists
 
@@ -263,6 +264,69 @@ module _ (file : List ℕ) (t : Typed) (it : IsUnitOfFile file t) (sighted : Are
           let bytes = few in
           omega (arith, rule, count, bytes)
 
+  -- ---- the completed type, where an array that it fills by an expression alone takes a literal
+
+  abbrev TakesText : Type 0
+  TakesText = (node : ℕ) → map (entry_of shapes) (slice_index_or typing.lines i []) ≡ put (object_place completed) node i ∷ [] → is_array completed ≡ true → kind_at t node ≡ kind.Text
+
+  module _ (texts : TakesText) (init : n.kind ≡ kind.InitDeclarator) where
+    bytes : (q : Planned) → is_array completed ≡ true → IsPlan k completed i q.initialiser (entries_of shapes (slice_index_or typing.lines i [])) → slice_get (parts_at t i) 1 ≡ Some q.initialiser → HaveBytes k i q.initialiser
+    unfolding entries_of
+    bytes q a plan second_is = record {
+      alone = λ o. by o plan;
+      first = λ j rest e literal.
+          let parts : parts_at t q.initialiser ≡ j ∷ rest = sym (initialisers_are file t it q.initialiser) ∙ e in
+          let inner = has_part t (unit file t it) q.initialiser 0 j (ap (λ xs. slice_get xs 0) parts) in
+          let less = inner.below in
+          let node = ap (λ ns. kind_if (slice_get ns j)) (sym (nodes_are file t it)) ∙ text_kind (slice_get made_by.tree.nodes.now j) literal in
+          text_bytes j (omega (arith, less, under)) node;
+    }
+      where
+        under : q.initialiser < i
+        under = (has_part t (unit file t it) i 1 q.initialiser second_is).below
+
+        by : opens k i q.initialiser ≡ false → IsPlan k completed i q.initialiser (map (entry_of shapes) (slice_index_or typing.lines i [])) → 1 ≤ count_in (k.seen q.initialiser).type
+        by o (by_expression shut e) = text_bytes q.initialiser under (texts q.initialiser e a)
+        by o (by_list opened f) = absurd (false≢true (sym o ∙ opened))
+
+    -- an array that its initialiser completes has elements
+    sized_is : (q : Planned) (first : List Entry) → IsPlan k q.type i q.initialiser first → completed ≡ sized q.type (length_asked k q.type first)
+        → IsPlan k completed i q.initialiser (entries_of shapes (slice_index_or typing.lines i [])) → slice_get (parts_at t i) 1 ≡ Some q.initialiser → is_open completed ≡ false
+    sized_is q first is_first is plan second_is = by q.type refl
+      where
+        as_type : (type : Qualified) → q.type ≡ type → completed ≡ sized type (length_asked k type first)
+        as_type type f = is ∙ ap (λ x. sized x (length_asked k x first)) f
+
+        by : (type : Qualified) → q.type ≡ type → is_open completed ≡ false
+        by (plain of c v) f = ap is_open (as_type (plain of c v) f)
+        by (to c v below) f = ap is_open (as_type (to c v below) f)
+        by (array m below) f = of_test (m == 0) refl
+          where
+            of_test : (b : Bool) → (m == 0) ≡ b → is_open completed ≡ false
+            of_test false g = ap is_open (as_type (array m below) f ∙ ap (λ c. array (if c then length_asked k (array m below) first else m) below) g) ∙ g
+            of_test true g =
+                let zeroed : q.type ≡ array 0 below = f ∙ ap (λ n. array n below) (eqb-true m 0 g) in
+                let own : completed ≡ array (length_asked k (array 0 below) first) below = as_type (array 0 below) zeroed in
+                let early = complete_early file t it made i below (element_complete file t it sighted i n at (length_asked k (array 0 below) first) below own) (element_few file t it sighted i (length_asked k (array 0 below) first) below own) in
+                let few = asked_for k (IsEarly file t it made i) (have_parts file t it made i) below i q.initialiser first early (bytes q (ap is_array own) plan second_is) (subst (λ type. IsPlan k type i q.initialiser first) zeroed is_first) in
+                ap is_open own ∙ ne_eqb (length_asked k (array 0 below) first) 0 (λ e. absurd (omega (arith, few, e)))
+
+    -- so what is planned is complete before its declarator
+    early_by : (q : Planned) → planned_by n.kind (cut i typing).layouts (object_in shapes (cut i typing) n) n.parts ≡ Some q → IsEarly file t it made i completed
+    early_by q f = by (planned_by n.kind (cut i typing).layouts (object_in shapes (cut i typing) n) n.parts) refl _ (ruled file t it i n at).filled
+      where
+        none_planned : {A : Type 0} {o : Option A} (x : A) → o ≡ Some x → o ≡ None → ⊥
+        none_planned x e g = cc (sym e ∙ g)
+
+        by : (o : Option Planned) → planned_by n.kind (cut i typing).layouts (object_in shapes (cut i typing) n) n.parts ≡ o → (type : Qualified)
+            → IsFilled k i o type completed (entries_of shapes (slice_index_or typing.lines i [])) → IsEarly file t it made i completed
+        by None g type h = absurd (none_planned q f g)
+        by (Some p) g type h =
+            let second_is = ap (λ o. slice_get (parts_if o) 1) at ∙ (of_initialised n.kind (cut i typing).layouts (object_in shapes (cut i typing) n) n.parts p g).1 in
+            complete_early file t it made i completed
+            (completed_complete file t it sighted i n at init p g completed (length_asked k p.type h.first) refl h.is (sized_is p h.first h.is_first h.is h.plan second_is))
+            (completed_few file t it sighted i)
+
   -- ---- one put
 
   module _ (m : ℕ) (own : Put) (e : slice_get (slice_index_or t.plans i []) m ≡ Some own) where
@@ -383,62 +447,15 @@ module _ (file : List ℕ) (t : Typed) (it : IsUnitOfFile file t) (sighted : Are
         only zero f = cc f
         only (suc m) f = absurd (cc f)
 
-    bytes : (q : Planned) → is_array completed ≡ true → IsPlan k completed i q.initialiser (entries_of shapes (slice_index_or typing.lines i [])) → slice_get (parts_at t i) 1 ≡ Some q.initialiser → HaveBytes k i q.initialiser
-    unfolding entries_of
-    bytes q a plan second_is = record {
-      alone = λ o. by o plan;
-      first = λ j rest e literal.
-          let parts : parts_at t q.initialiser ≡ j ∷ rest = sym (initialisers_are file t it q.initialiser) ∙ e in
-          let inner = has_part t (unit file t it) q.initialiser 0 j (ap (λ xs. slice_get xs 0) parts) in
-          let less = inner.below in
-          let node = ap (λ ns. kind_if (slice_get ns j)) (sym (nodes_are file t it)) ∙ text_kind (slice_get made_by.tree.nodes.now j) literal in
-          text_bytes j (omega (arith, less, under)) node;
-    }
-      where
-        under : q.initialiser < i
-        under = (has_part t (unit file t it) i 1 q.initialiser second_is).below
-
-        by : opens k i q.initialiser ≡ false → IsPlan k completed i q.initialiser (map (entry_of shapes) (slice_index_or typing.lines i [])) → 1 ≤ count_in (k.seen q.initialiser).type
-        by o (by_expression shut e) = text_bytes q.initialiser under (alone_text q.initialiser e a)
-        by o (by_list opened f) = absurd (false≢true (sym o ∙ opened))
-
-    -- an array that its initialiser completes has elements
-    sized_is : (q : Planned) (first : List Entry) → IsPlan k q.type i q.initialiser first → completed ≡ sized q.type (length_asked k q.type first)
-        → IsPlan k completed i q.initialiser (entries_of shapes (slice_index_or typing.lines i [])) → slice_get (parts_at t i) 1 ≡ Some q.initialiser → is_open completed ≡ false
-    sized_is q first is_first is plan second_is = by q.type refl
-      where
-        as_type : (type : Qualified) → q.type ≡ type → completed ≡ sized type (length_asked k type first)
-        as_type type f = is ∙ ap (λ x. sized x (length_asked k x first)) f
-
-        by : (type : Qualified) → q.type ≡ type → is_open completed ≡ false
-        by (plain of c v) f = ap is_open (as_type (plain of c v) f)
-        by (to c v below) f = ap is_open (as_type (to c v below) f)
-        by (array m below) f = of_test (m == 0) refl
-          where
-            of_test : (b : Bool) → (m == 0) ≡ b → is_open completed ≡ false
-            of_test false g = ap is_open (as_type (array m below) f ∙ ap (λ c. array (if c then length_asked k (array m below) first else m) below) g) ∙ g
-            of_test true g =
-                let zeroed : q.type ≡ array 0 below = f ∙ ap (λ n. array n below) (eqb-true m 0 g) in
-                let own : completed ≡ array (length_asked k (array 0 below) first) below = as_type (array 0 below) zeroed in
-                let early = complete_early file t it made i below (element_complete file t it sighted i n at init_is (length_asked k (array 0 below) first) below own) (element_few file t it sighted i (length_asked k (array 0 below) first) below own) in
-                let few = asked_for k (IsEarly file t it made i) (have_parts file t it made i) below i q.initialiser first early (bytes q (ap is_array own) plan second_is) (subst (λ type. IsPlan k type i q.initialiser first) zeroed is_first) in
-                ap is_open own ∙ ne_eqb (length_asked k (array 0 below) first) 0 (λ e. absurd (omega (arith, few, e)))
-
     -- so it is complete before its declarator
     early_is : IsEarly file t it made i completed
-    early_is = by (planned_by n.kind (cut i typing).layouts (object_in shapes (cut i typing) n) n.parts) refl _ (ruled file t it i n at).filled
-      where
-        nothing : {A : Type 0} {o : Option A} → ((x : A) × (o ≡ Some x)) → o ≡ None → ⊥
-        nothing x f = cc (sym x.1 ∙ f)
+    early_is = let q = planned_of_line c.number (put_entry t.shapes own) own_entry in early_by alone_text init_is q.0 q.1
 
-        by : (o : Option Planned) → planned_by n.kind (cut i typing).layouts (object_in shapes (cut i typing) n) n.parts ≡ o → (type : Qualified)
-            → IsFilled k i o type completed (entries_of shapes (slice_index_or typing.lines i [])) → IsEarly file t it made i completed
-        by None q type h = absurd (nothing (planned_of_line c.number (put_entry t.shapes own) own_entry) q)
-        by (Some q) f type h =
-            let second_is = ap (λ o. slice_get (parts_if o) 1) at ∙ (of_initialised n.kind (cut i typing).layouts (object_in shapes (cut i typing) n) n.parts q f).1 in
-            complete_early file t it made i completed
-            (completed_complete file t it sighted i n at init_is q f completed (length_asked k q.type h.first) refl h.is (sized_is q h.first h.is_first h.is h.plan second_is))
-            (completed_few file t it sighted i)
+    -- and its object has the cells of that type
+    object_is : sorts_of_cells (p.shape (entity_of t (name_of t i))) ≡ cells file t it made i completed
+    object_is =
+        let q = planned_of_line c.number (put_entry t.shapes own) own_entry in
+        object_cells file t it sighted limits i n at init_is q.0.type (planned_object n.kind (cut i typing).layouts (object_in shapes (cut i typing) n) n.parts q.0 q.1) early_is.whole
 
     -- ---- it is taken
 
@@ -483,10 +500,28 @@ module _ (file : List ℕ) (t : Typed) (it : IsUnitOfFile file t) (sighted : Are
           own_sorts : sorts_of p (form_of t own.row) ≡ cells file t it made i (type_at t.shapes own.row)
           own_sorts = ap (map sort_of_scalar) (form_kinds t limits own.row (type_at t.shapes own.row) refl placed.whole.whole) ∙ sym (sorts_are (shape_of t (type_at t.shapes own.row)))
 
+  -- ---- whether it has a put or not
+
+  -- where it is filled by an expression alone, it has one
+  lone_put : (node : ℕ) → map (entry_of shapes) (slice_index_or typing.lines i []) ≡ put (object_place completed) node i ∷ [] → (own : Put) × (slice_get (slice_index_or t.plans i []) 0 ≡ Some own)
+  lone_put node e = by (slice_index_or typing.lines i []) e (slice_index_or t.plans i []) plan_is
+    where
+      in_plans : (xs : List Put) (count : ℕ) → length (map (put_entry t.shapes) xs) ≡ suc count → (own : Put) × (slice_get xs 0 ≡ Some own)
+      in_plans [] count f = absurd (omega (arith, f))
+      in_plans (x ∷ xs) count f = (x, refl)
+
+      by : (lines : List Line) → map (entry_of shapes) lines ≡ put (object_place completed) node i ∷ [] → (xs : List Put) → map (put_entry t.shapes) xs ≡ map (put_entry shapes) (puts_of lines)
+          → (own : Put) × (slice_get xs 0 ≡ Some own)
+      by [] f xs g = absurd (cc f)
+      by (line.Put p ∷ lines) f xs g = in_plans xs (length (map (put_entry shapes) (puts_of lines))) (ap (λ (es : List Entry). length es) g)
+      by (line.Excess l ∷ lines) f xs g = absurd (cc f)
+
+  pub completed_early : n.kind ≡ kind.InitDeclarator → (q : Planned) → planned_by n.kind (cut i typing).layouts (object_in shapes (cut i typing) n) n.parts ≡ Some q → IsEarly file t it made i completed
+  completed_early init q f = early_by (λ node e a. (let x = lone_put node e in alone_text 0 x.0 x.1 node e a)) init q f
+
   -- ---- all of them
 
-  pub initialises : sorts_of_cells (p.shape (entity_of t (name_of t i))) ≡ cells file t it made i completed → sees t i (entity_of t (name_of t i)) ≡ true
-      → IsInitialised p t j (sees t) i
-  initialises object seen =
-      let both = set_lines p t (sorts_in p t j) (entity_of t (name_of t i)) (slice_index_or t.plans i []) (λ m own e. is_line m own e (early_is m own e) (entity_of t (name_of t i)) object) in
+  pub initialises : sees t i (entity_of t (name_of t i)) ≡ true → IsInitialised p t j (sees t) i
+  initialises seen =
+      let both = set_lines p t (sorts_in p t j) (entity_of t (name_of t i)) (slice_index_or t.plans i []) (λ m own e. is_line m own e (early_is m own e) (entity_of t (name_of t i)) (object_is m own e)) in
       record { sees_it = seen; lines = both.0; take = both.1 }

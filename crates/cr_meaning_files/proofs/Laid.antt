@@ -1,12 +1,12 @@
 -- What the grammar gives of a file's typed unit: its expressions have their operands, and statements their parts.
-use Rattle.std.proofs.Common.{◌≡◌, ℕ, zero, suc, ◌<◌, ◌==◌, Bool, true, false, ◌&&◌, ◌||◌, not, List, Option, None, Some, length, slice_get, slice_index_or, refl, sym, ap, ◌∙◌, arith, if◌then◌else◌}
-use Rattle.std.proofs.lemmas.Bool.{false≢true, eq-eqb, ne_eqb, eqb-true, lt-ltb}
+use Rattle.std.proofs.Common.{◌≡◌, ℕ, zero, suc, ◌<◌, ◌==◌, Bool, true, false, ◌&&◌, ◌||◌, not, List, Option, None, Some, length, slice_get, slice_index_or, refl, sym, ap, ◌∙◌, arith}
+use Rattle.std.proofs.lemmas.Bool.{false≢true, eq-eqb, ne_eqb, eqb-true}
 use Rattle.std.proofs.lemmas.Option.{slice_get_within}
 use Rattle.cr_syntax.specs.declared.node.Kind.TheVariants as kind
 use Rattle.cr_syntax.specs.declared.node.Node.{Node}
 use Rattle.cr_syntax.specs.Tables.{side_of}
 use Rattle.cr_scopes_events.specs.Scripts as scripts
-use Rattle.cr_check_enclosing.specs.Around.{inside, inside_if, below, outermost}
+use Rattle.cr_check_enclosing.specs.Around.{inside, outermost}
 use Rattle.cr_check_operands.specs.Values.{seen_at}
 use Rattle.cr_check_expressions.specs.Forms.{form_of}
 use Rattle.cr_check_expressions.specs.Ruled.{no_fact}
@@ -16,13 +16,13 @@ use Rattle.cr_typed.specs.declared.typed.Typed.{Typed}
 use Rattle.cr_typed_columns.specs.Reading.{kind_of, part_of}
 use Rattle.cr_typed_columns.specs.Expressions.{form_if, is_part, is_filling, seen_of, valued_of}
 use Rattle.cr_typed_unit.specs.Typed.{IsTypedBy}
-use Rattle.cr_meaning_operations.specs.Operations.{kind_if, kind_at, parts_if, parts_at, part_at}
+use Rattle.cr_meaning_operations.specs.Operations.{kind_if, kind_at, parts_at, part_at}
 use Rattle.cr_meaning_typed.specs.Typing.{has_value, is_asked, is_expression}
 use Rattle.cr_meaning_typed.specs.Whole as readable
 use Rattle.cr_meaning_typed.proofs.Units.{listed_at}
 use Rattle.cr_meaning_judged.specs.Judged.{seen_in, source_of, scene_of, IsJudged}
 use Rattle.cr_meaning_judged.proofs.Judged.{judged}
-use Rattle.cr_meaning_names.proofs.Parents.{IsPartOf, above_is, one_parent}
+use Rattle.cr_meaning_names.proofs.Parents.{IsPartOf, one_parent}
 use Rattle.cr_meaning_declared.specs.Files.{IsUnitOfFile}
 use Rattle.cr_meaning_sorts.specs.Founded.{IsOperand, AreLaidOut}
 use Rattle.cr_meaning_initialised.proofs.Twice.{one_place}
@@ -30,7 +30,8 @@ use Rattle.cr_meaning_files.specs.Reached.{is_list, is_listing}
 use Rattle.cr_meaning_files.specs.Files.{judgement_of}
 use Rattle.cr_meaning_files.proofs.Grammar.{part_in, is_of}
 use Rattle.cr_meaning_files.proofs.Tables.{is_expression_part, expression_there, asked, argument, counts, counted_there, asked_there}
-use Rattle.cr_meaning_files.proofs.Tree.{HasPart, has_part, as_part, exactly, needed}
+use Rattle.cr_meaning_files.proofs.Tree.{HasPart, has_part, as_part, exactly, needed, operands_read}
+use Rattle.cr_meaning_files.proofs.Above.{column_above, column_around}
 use Rattle.cr_meaning_files.proofs.Filling.{unit, filling}
 
 module _ (file : List ℕ) (t : Typed) (it : IsUnitOfFile file t) where
@@ -45,20 +46,11 @@ module _ (file : List ℕ) (t : Typed) (it : IsUnitOfFile file t) where
 
   -- the node above a part, by its column
   pub above_at : (a i : ℕ) → IsPartOf t (unit file t it) a i → a < i → slice_index_or checked.surroundings.above a None ≡ Some i
-  above_at a i h low = is.above_are.each a (let within = slice_get_within t.nodes i h.parent h.at in omega (arith, low, within)) ∙ above_is t (unit file t it) a i h
+  above_at = column_above t (unit file t it) checked.surroundings.above checked.surroundings.around is.above_are is.around_are
 
-  -- ---- what a part has from above
-
+  -- what a part has from above
   pub around_at : (i k a : ℕ) → HasPart t (unit file t it) i k a → slice_index_or checked.surroundings.around a outermost ≡ inside (kind_at t i) i (slice_index_or checked.surroundings.around i outermost)
-  around_at i k a h =
-      let part = as_part t (unit file t it) i k a h in
-      let within = slice_get_within t.nodes i h.node h.at in
-      let low = h.below in
-      is.around_are.each a (omega (arith, within, low))
-      ∙ ap (below t.nodes (λ p. slice_index_or checked.surroundings.around p outermost) a) (above_at a i part low)
-      ∙ ap (λ b. if b then inside_if (slice_get t.nodes i) i (slice_index_or checked.surroundings.around i outermost) else outermost) (lt-ltb a i low)
-      ∙ ap (λ o. inside_if o i (slice_index_or checked.surroundings.around i outermost)) h.at
-      ∙ ap (λ c. inside c i (slice_index_or checked.surroundings.around i outermost)) (sym (ap kind_if h.at))
+  around_at = column_around t (unit file t it) checked.surroundings.above checked.surroundings.around is.above_are is.around_are
 
   -- ---- which places are used as values
 
@@ -140,17 +132,7 @@ module _ (file : List ℕ) (t : Typed) (it : IsUnitOfFile file t) where
 
   -- the operands of an expression, as its rule reads them
   pub read_operand : (i : ℕ) (n : Node) → slice_get t.nodes i ≡ Some n → (k : ℕ) → is_asked (form_of n.kind) k ≡ true → readable.IsOperand t.nodes i n.parts k
-  read_operand i n at k h =
-      let o = asked_operand i k (ap (λ c. is_asked (form_of c) k) (ap kind_if at) ∙ h) in
-      let part = has_part t (unit file t it) i k o.0 o.1.is in
-      record {
-        number = o.0;
-        node = part.own;
-        is = ap (λ x. slice_get (parts_if x) k) (sym at) ∙ o.1.is;
-        below = o.1.below;
-        at = part.own_at;
-        expression = ap (λ x. is_expression (form_of (kind_if x))) (sym part.own_at) ∙ o.1.expression;
-      }
+  read_operand = operands_read t (unit file t it)
 
   no_value : (b : Bool) (f : Bool) → f ≡ true → (b && not f) ≡ false
   no_value true true e = refl

@@ -9,14 +9,14 @@ use Rattle.cr_tokens.specs.declared.token.Token.{Token}
 use Rattle.cr_syntax.specs.declared.ctype.CType.TheVariants.{Int, Void}
 use Rattle.cr_syntax.specs.declared.node.Kind.TheVariants as kind
 use Rattle.cr_syntax.specs.declared.node.Node.{Node}
-use Rattle.cr_check_types.specs.Types.{Qualified, plain, pointer as to, array}
+use Rattle.cr_check_types.specs.Types.{Qualified, plain, pointer as to}
 use Rattle.cr_check_expressions.specs.Known.{Signature, a_function, spelling_of}
 use Rattle.cr_check_expressions.specs.Known as expressions
 use Rattle.cr_check_expressions.specs.Ruled.{is_parameter}
 use Rattle.cr_check_declarators.specs.declared.functions.Library.{Library}
 use Rattle.cr_check_declarators.specs.declared.functions.Library.TheVariants.{Printf, Putchar, Abort, Exit}
-use Rattle.cr_check_declarators.specs.Functions.{is_int, is_plain_int, is_plain_void, is_format, takes_one, library_of, library_type}
-use Rattle.cr_check_callees.specs.Laws.{IsTyped, IsOf}
+use Rattle.cr_check_declarators.specs.Functions.{is_int, is_plain_int, is_plain_void, is_format, takes_one, library_of}
+use Rattle.cr_check_callees.specs.Laws.{IsOf}
 use Rattle.cr_check_callees.proofs.Callees.{calls_typed}
 use Rattle.cr_typed.specs.declared.typed.Typed.{Typed}
 use Rattle.cr_typed_unit.specs.Typed.{IsTypedBy}

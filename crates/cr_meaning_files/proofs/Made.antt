@@ -152,7 +152,7 @@ module _ (file : List ℕ) (t : Typed) (it : IsUnitOfFile file t) where
   early_single d (to c v below) low = refl
   early_single d (array n below) low = early_single d below low
 
-  early : (d : ℕ) (type : Qualified) → IsBefore d type → layout_of (take d typing.layouts) type ≡ layout_of t.layouts type
+  pub early : (d : ℕ) (type : Qualified) → IsBefore d type → layout_of (take d typing.layouts) type ≡ layout_of t.layouts type
   early d type low = ap (times (count_of type)) (early_single d type low)
 
   -- ---- a structure has the cells of its members

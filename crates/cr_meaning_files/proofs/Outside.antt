@@ -20,7 +20,7 @@ use Rattle.cr_meaning_files.specs.Laws
 use Rattle.cr_meaning_files.proofs.Living.{one_of, reached_lives}
 use Rattle.cr_meaning_files.proofs.Filling.{unit}
 use Rattle.cr_meaning_files.proofs.Tree.{has_part, at_most}
-use Rattle.cr_meaning_files.proofs.Parameters.{list_counts, unlived_by}
+use Rattle.cr_meaning_files.proofs.Lists.{list_counts, unlived_by}
 
 module _ (file : List ℕ) (t : Typed) (it : IsUnitOfFile file t) where
   abbrev u : AreOfUnit t
@@ -66,8 +66,7 @@ module _ (file : List ℕ) (t : Typed) (it : IsUnitOfFile file t) where
       by : (b : Bool) → leads t i x ≡ b → b ≡ false
       by false f = refl
       by true f =
-          absurd (false≢true (sym (unlived_by file t it d l x q (ap kind_if at ∙ defines) (has_part t u d 1 q (ap (λ o. slice_get (parts_if o) 1) at ∙ e)) found.1.1.1 listed (has_part t u l 1 x first)
-          (length t.nodes) i (omega arith) (turned f)) ∙ reached_lives t u i r))
+          absurd (false≢true (sym (unlived_by file t it l x listed (has_part t u l 1 x first) (length t.nodes) i (omega arith) (turned f)) ∙ reached_lives t u i r))
 
 pub told_once : Laws.ReachedNamesAreToldOnce
 told_once file t it i n at is r = once file t it i n at is (stands_outside file t it i r)

@@ -1,7 +1,6 @@
 -- Each node of a unit stands in a place, and no identifier labels a statement that isn't an item of a block (C11 6.8.1).
-use Rattle.std.proofs.Common.{◌≡◌, ℕ, zero, suc, ◌+◌, ◌<◌, ◌≤◌, ◌==◌, ◌⊎◌, inl, inr, Bool, true, false, ◌&&◌, ◌||◌, List, [], ◌∷◌, ◌++◌, Option, None, Some, length, slice_get, slice_index_or, refl, sym, subst, ap, ◌∙◌, arith}
-use Rattle.std.specs.List.{flat_map}
-use Rattle.std.proofs.lemmas.Bool.{and_from, false≢true, or_left, or_right, eqb-true, eq-eqb}
+use Rattle.std.proofs.Common.{◌≡◌, ℕ, zero, suc, ◌+◌, ◌<◌, ◌≤◌, ◌==◌, inl, inr, Bool, true, false, ◌&&◌, ◌||◌, List, [], ◌∷◌, Option, None, Some, length, slice_get, slice_index_or, refl, sym, subst, ap, ◌∙◌, arith}
+use Rattle.std.proofs.lemmas.Bool.{and_from, false≢true, or_left, or_right, eq-eqb}
 use Rattle.std.proofs.lemmas.Option.{slice_get_within}
 use Rattle.cr_syntax.specs.declared.word.Word.TheVariants as word
 use Rattle.cr_syntax.specs.declared.node.Kind.{Kind}
@@ -20,10 +19,10 @@ use Rattle.cr_syntax_nodes.specs.Laid.{IsLaid}
 use Rattle.cr_typed.specs.declared.typed.Typed.{Typed}
 use Rattle.cr_meaning_units.specs.Owned.{AreOfUnit}
 use Rattle.cr_meaning_units.proofs.Handing.{laid_at}
-use Rattle.cr_meaning_names.proofs.Parents.{above_is, above_some, part_below}
+use Rattle.cr_meaning_names.proofs.Parents.{above_some, part_below}
 use Rattle.cr_meaning_declared.specs.Files.{IsUnitOfFile}
 use Rattle.cr_meaning_declared.proofs.Nodes.{of_unit, unit_tokens}
-use Rattle.cr_meaning_initialised.proofs.Twice.{times, weight, once_more}
+use Rattle.cr_meaning_composed.proofs.Told.{item_there}
 use Rattle.cr_meaning_files.proofs.Living.{one_of, above}
 
 -- a node is an item of the unit, or a part of a node that stands in a place
@@ -68,49 +67,13 @@ module _ (wrong : Kind → Place → Bool) (token : ℕ) where
 
 -- ---- each node stands somewhere
 
-has_place : (ps : List ℕ) (p : ℕ) → 1 ≤ times ps p → (k : ℕ) × (slice_get ps k ≡ Some p)
-has_place [] p h = absurd (omega (arith, h))
-has_place (q ∷ ps) p h = by (q == p) refl (λ f. has_place ps p f)
-  where
-    by : (b : Bool) → (q == p) ≡ b → (1 ≤ times ps p → (k : ℕ) × (slice_get ps k ≡ Some p)) → (k : ℕ) × (slice_get (q ∷ ps) k ≡ Some p)
-    by true e rest = (0, ap Some (eqb-true q p e))
-    by false e rest =
-        let none : weight (q == p) ≡ 0 = ap weight e in
-        let more = once_more q p ps in
-        let r = rest (omega (arith, h, more, none)) in
-        (suc r.0, r.1)
-
-in_either : (xs ys : List ℕ) (k p : ℕ) → slice_get (xs ++ ys) k ≡ Some p → ((m : ℕ) × (slice_get xs m ≡ Some p)) ⊎ ((m : ℕ) × (slice_get ys m ≡ Some p))
-in_either [] ys k p e = inr (k, e)
-in_either (x ∷ xs) ys zero p e = inl (0, e)
-in_either (x ∷ xs) ys (suc k) p e = elim (in_either xs ys k p e) [ inl r ↦ inl (suc r.0, r.1) | inr r ↦ inr r ]
-
-in_parts : (ns : List Node) (k p : ℕ) → slice_get (flat_map (λ n. n.parts) ns) k ≡ Some p → (a : ℕ) × ((n : Node) × ((slice_get ns a ≡ Some n) × ((m : ℕ) × (slice_get n.parts m ≡ Some p))))
-in_parts [] k p e = absurd (cc e)
-in_parts (n ∷ ns) k p e = elim (in_either n.parts (flat_map (λ n. n.parts) ns) k p e) [
-  | inl r ↦ (0, (n, (refl, r)))
-  | inr r ↦ (let x = in_parts ns r.0 p r.1 in (suc x.0, x.1))
-]
-
 module _ (t : Typed) (u : AreOfUnit t) where
-  pub item_there : (p : ℕ) → p < length t.nodes → above t u p ≡ None → (k : ℕ) × (slice_get t.items k ≡ Some p)
-  item_there p low e =
-      let one = u.once p low in
-      let all = has_place (flat_map (λ n. n.parts) t.nodes ++ t.items) p (omega (arith, one)) in
-      elim (in_either (flat_map (λ n. n.parts) t.nodes) t.items all.0 p all.1) [
-        | inl r ↦ (let x = in_parts t.nodes r.0 p r.1 in absurd (never x.0 (above_is t u p x.0 (record { parent = x.1.0; at = x.1.1.0; place = x.1.1.1.0; is = x.1.1.1.1 }))))
-        | inr r ↦ r
-      ]
-    where
-      never : (a : ℕ) → above t u p ≡ Some a → ⊥
-      never a f = let both : None ≡ Some a = sym e ∙ f in absurd (cc both)
-
   standing_by : (m p : ℕ) → length t.nodes ≤ m + p → p < length t.nodes → (at : Place) × StandsAt t.nodes t.items p at
   standing_by zero p all low = absurd (omega (arith, all, low))
   standing_by (suc m) p all low = by (above t u p) refl (λ i more within. standing_by m i (omega (arith, all, more)) within)
     where
       by : (o : Option ℕ) → above t u p ≡ o → ((i : ℕ) → p < i → i < length t.nodes → (at : Place) × StandsAt t.nodes t.items i at) → (at : Place) × StandsAt t.nodes t.items p at
-      by None e rest = let x = item_there p low e in (elsewhere, an_item x.0 x.1)
+      by None e rest = let x = item_there t u p low e in (elsewhere, an_item x.0 x.1)
       by (Some i) e rest =
           let h = above_some t u (length t.nodes) p i e in
           let r = rest i (part_below t u p i h) (slice_get_within t.nodes i h.parent h.at) in

@@ -66,7 +66,7 @@ use Rattle.cr_meaning_fitting.proofs.Bounding.{bounded, structures}
 use Rattle.cr_meaning_fitting.proofs.Literals.{literals}
 use Rattle.cr_meaning_objects.proofs.Declaring.{last_there}
 use Rattle.cr_meaning_typedefs.proofs.Files.{are_seen}
-use Rattle.cr_meaning_declared.specs.Files.{IsUnitOfFile}
+use Rattle.cr_meaning_declared.specs.Files.{IsUnitOfFile, assembled}
 use Rattle.cr_meaning_declared.proofs.Bodies.{listed_at}
 use Rattle.cr_meaning_files.proofs.Grammar.{part_in, Stands, is_of, of_part, row, among_drop}
 use Rattle.cr_meaning_files.proofs.Tables.{is_jump}
@@ -89,7 +89,7 @@ abbrev pub is_naming : Kind → Bool
 is_naming kind.NameDeclarator = true
 is_naming k = is_around k
 
-abbrev is_naming_part : Part → Bool
+abbrev pub is_naming_part : Part → Bool
 is_naming_part part.Declarator = true
 is_naming_part part.DirectDeclarator = true
 is_naming_part p = false
@@ -104,7 +104,7 @@ naming_stand part.Declarator k c s = row _ _ (naming_kinds k) s
 naming_stand part.DirectDeclarator k c s = row _ _ (naming_kinds k) (among_drop 1 (part_of k) (alternatives_of part.Declarator) s)
 naming_stand p k c s = absurd (false≢true c)
 
-naming_there : (o : Option Part) (k : Kind) → is_of is_naming_part o ≡ true → Stands o k → is_naming k ≡ true
+pub naming_there : (o : Option Part) (k : Kind) → is_of is_naming_part o ≡ true → Stands o k → is_naming k ≡ true
 naming_there = of_part is_naming_part is_naming naming_stand
 
 -- what has a declarator as its first part
@@ -455,7 +455,7 @@ module _ (file : List ℕ) (t : Typed) (it : IsUnitOfFile file t) where
     bounds : IsBounded tree.nodes.now typing.layouts (length tree.nodes.now) (type_at shapes by_words.row)
     bounds =
         subst (Declares (λ r. IsBounded tree.nodes.now typing.layouts (length tree.nodes.now) (type_at shapes r))) by_words.object
-        (bounded tree it.checked.checked.texts shapes typing made_by.is.whole.typing (λ b broken. made_by.sound.constraints b (inl broken)) (shaped file t it) (surrounded file t it) sighted (are_seen file t it)
+        (bounded tree it.checked.checked.texts shapes typing made_by.is.whole.typing (λ b broken. made_by.sound.constraints b (inl broken)) (shaped file t it) (surrounded file t it) sighted (are_seen file t (assembled file t it))
         (literals file it.unit.tokens.list.items it.unit.nodes it.checked.checked.texts it.tokenizes made_by.is.texts) (length tree.nodes.now) (omega arith) f.inner).declared
 
     structure_few : (node : ℕ) → (slice_index_or (cut d typing).layouts node no_layout).cells ≤ MOST_CELLS

@@ -26,7 +26,7 @@ use Rattle.cr_check_declarators.specs.Declarators.{may_return, is_declared, func
 use Rattle.cr_check_declarators.specs.Linkages.{linkage_of, may_be_initialised_of}
 use Rattle.cr_check_declarations.specs.declared.tree.Tree.{Tree}
 use Rattle.cr_check_declarations.specs.Before.{Before, kind_in, first_in, type_in, specified_in}
-use Rattle.cr_check_declarations.specs.Named.{class_of, is_typedef, is_initialised, is_declarator, declares_name, value_by, ordinary_by, ordinary_of, names_ordinary, specifiers_in, constant_by, declared_by as declares_by, declaration_of}
+use Rattle.cr_check_declarations.specs.Named.{class_of, is_typedef, is_initialised, declares_name, value_by, ordinary_by, ordinary_of, names_ordinary, specifiers_in, constant_by, declared_by as declares_by, declaration_of}
 use Rattle.cr_check_declarations.specs.Faults.{Has, has_at, fault_at, token_if, place_of, name_token, declarator_faults, whole_faults, may_have_initialiser, initialised_faults, faults_in}
 use Rattle.cr_check_unit.specs.declared.typing.Typing.{Typing}
 use Rattle.cr_check_unit.specs.Typing.{cut, entry_at, before_in, IsRuledIf, IsTyping}

@@ -8,6 +8,7 @@ use Rattle.cr_syntax.specs.declared.node.Node.{Node}
 use Rattle.cr_syntax.specs.Tables.{side_of}
 use Rattle.cr_syntax_order.specs.Listed.{AreListed, no_node, one_more}
 use Rattle.cr_syntax_nodes.proofs.Order.{own_before}
+use Rattle.cr_check_enclosing.specs.Above.{AreAbove}
 use Rattle.cr_check_enclosing.specs.Around.{outermost, inside, AreAround}
 use Rattle.cr_check_declarations.specs.declared.tree.Tree.{Tree}
 use Rattle.cr_check_declarations.specs.Before as before
@@ -15,21 +16,19 @@ use Rattle.cr_check_declarations.specs.Named.{is_initialised, is_declaration, de
 use Rattle.cr_check_declarations.specs.Faults.{is_specifier}
 use Rattle.cr_check.specs.declared.checked.Checked.{Checked}
 use Rattle.cr_typed.specs.declared.typed.Typed.{Typed}
-use Rattle.cr_typed_unit.specs.Typed.{IsTypedBy}
+use Rattle.cr_typed_unit.specs.Typed.{IsAssembledBy}
 use Rattle.cr_meaning_operations.specs.Operations.{kind_if, kind_at, parts_if, parts_at, part_at}
 use Rattle.cr_meaning_typed.specs.Whole as readable
-use Rattle.cr_meaning_judged.specs.Judged.{seen_in, source_of, scene_of, IsJudged}
-use Rattle.cr_meaning_judged.proofs.Judged.{judged}
 use Rattle.cr_meaning_units.specs.Owned.{AreOfUnit}
 use Rattle.cr_meaning_names.proofs.Parents.{IsPartOf, above_some}
-use Rattle.cr_meaning_declared.specs.Files.{IsUnitOfFile}
+use Rattle.cr_meaning_declared.specs.Files.{IsUnitOfFile, IsAssembledFile, assembled}
+use Rattle.cr_meaning_declared.proofs.Nodes.{unit_of}
 use Rattle.cr_meaning_known.specs.Shaped.{fits, is_filled, IsPart, IsThere, IsShaped}
 use Rattle.cr_meaning_known.proofs.Naming.{declaration_is}
 use Rattle.cr_meaning_known.proofs.Declaring.{has_specifiers}
 use Rattle.cr_meaning_files.proofs.Grammar.{part_in, Stands}
-use Rattle.cr_meaning_files.proofs.Tree.{HasPart, has_part, as_part, at_most, needed}
-use Rattle.cr_meaning_files.proofs.Filling.{unit}
-use Rattle.cr_meaning_files.proofs.Laid.{above_at, around_at, read_operand}
+use Rattle.cr_meaning_files.proofs.Tree.{HasPart, has_part, as_part, at_most, needed, operands_read}
+use Rattle.cr_meaning_files.proofs.Above.{column_above, column_around}
 use Rattle.cr_meaning_files.proofs.Fitting.{fitting, filling, apart, inner_apart, initialised_counts}
 
 -- ---- nodes that are listed in order
@@ -64,21 +63,25 @@ behind_inner : {ns : List Node} {from end : ℕ} {ps : List ℕ} → AreListed n
 behind_inner no_node s f k p j q m e there g = absurd (cc f)
 behind_inner (one_more {p = x} at below rest) s f k p j q m e there g = let same : x ≡ s = cc f in let low = inner_low rest k p j q m e there g in omega (arith, same, low)
 
-module _ (file : List ℕ) (t : Typed) (it : IsUnitOfFile file t) where
+-- before it is tested whether the unit fits
+module _ (file : List ℕ) (t : Typed) (it : IsAssembledFile file t) where
   abbrev checked : Checked
   checked = it.checked.checked
 
-  abbrev made_by : IsTypedBy file it.unit it.names checked t
+  abbrev made_by : IsAssembledBy file it.unit it.names checked t
   made_by = it.checked.by
 
   abbrev u : Tree
   u = made_by.tree
 
   abbrev own : AreOfUnit t
-  own = unit file t it
+  own = unit_of file t it
 
-  abbrev is : IsJudged t (seen_in checked) (source_of made_by.tree checked) (scene_of made_by.tree checked) checked.surroundings.above checked.surroundings.around
-  is = judged file it.unit it.names checked t made_by
+  above_are : AreAbove t.nodes checked.surroundings.above
+  above_are = subst (λ ns. AreAbove ns checked.surroundings.above) (sym made_by.elaborated.nodes_are) made_by.is.surroundings.above
+
+  around_are : AreAround t.nodes checked.surroundings.above checked.surroundings.around
+  around_are = subst (λ ns. AreAround ns checked.surroundings.above checked.surroundings.around) (sym made_by.elaborated.nodes_are) made_by.is.surroundings.around
 
   nodes_are : made_by.tree.nodes.now ≡ t.nodes
   nodes_are = made_by.is.whole.tree.nodes ∙ sym made_by.elaborated.nodes_are
@@ -101,7 +104,7 @@ module _ (file : List ℕ) (t : Typed) (it : IsUnitOfFile file t) where
 
   around_there : (i : ℕ) (n : Node) → slice_get t.nodes i ≡ Some n → (place part : ℕ) → HasPart t own i place part → slice_index_or u.around.now part outermost ≡ inside n.kind i (slice_index_or u.around.now i outermost)
   around_there i n at place part h =
-      ap (λ xs. slice_index_or xs part outermost) made_by.is.whole.tree.around ∙ around_at file t it i place part h
+      ap (λ xs. slice_index_or xs part outermost) made_by.is.whole.tree.around ∙ column_around t own checked.surroundings.above checked.surroundings.around above_are around_are i place part h
       ∙ ap (λ c. inside c i (slice_index_or checked.surroundings.around i outermost)) (ap kind_if at)
       ∙ ap (λ xs. inside n.kind i (slice_index_or xs i outermost)) (sym made_by.is.whole.tree.around)
 
@@ -112,7 +115,8 @@ module _ (file : List ℕ) (t : Typed) (it : IsUnitOfFile file t) where
         own = h.own;
         at = there part h.own h.own_at;
         below = h.below;
-        above = ap (λ xs. slice_index_or xs part None) made_by.is.whole.tree.above ∙ above_at file t it part i (as_part t own i place part h) h.below;
+        above = ap (λ xs. slice_index_or xs part None) made_by.is.whole.tree.above
+            ∙ column_above t own checked.surroundings.above checked.surroundings.around above_are around_are part i (as_part t own i place part h) h.below;
         around = around_there i n (here i n at) place part h;
         fits = fits_there i n (here i n at) place part h;
       }
@@ -130,7 +134,7 @@ module _ (file : List ℕ) (t : Typed) (it : IsUnitOfFile file t) where
   -- ---- what stands above a declarator
 
   above_part : (i a : ℕ) → i < length t.nodes → slice_index_or u.above.now i None ≡ Some a → IsPartOf t own i a
-  above_part i a low e = above_some t own (length t.nodes) i a (sym (is.above_are.each i low) ∙ sym (ap (λ xs. slice_index_or xs i None) made_by.is.whole.tree.above) ∙ e)
+  above_part i a low e = above_some t own (length t.nodes) i a (sym (above_are.each i low) ∙ sym (ap (λ xs. slice_index_or xs i None) made_by.is.whole.tree.above) ∙ e)
 
   -- an initialised declarator stands in no other
   plain_above : (i : ℕ) (n : Node) → slice_get t.nodes i ≡ Some n → n.kind ≡ kind.InitDeclarator → is_initialised (before.kind_in u.nodes.now (slice_index_or u.above.now i None)) ≡ false
@@ -222,18 +226,25 @@ module _ (file : List ℕ) (t : Typed) (it : IsUnitOfFile file t) where
           of_test true g x = inner a e g x
           of_test false g x = outer a e x
 
-  pub shaped : IsShaped made_by.tree
-  shaped = record {
+  pub tree_shaped : IsShaped made_by.tree
+  tree_shaped = record {
     parts = parts;
     filled = filled;
     ordered = ordered;
     initialised = initialised;
-    operands = λ i n at k asked. subst (λ ns. readable.IsOperand ns i n.parts k) (sym nodes_are) (read_operand file t it i n (here i n at) k asked);
+    operands = λ i n at k asked. subst (λ ns. readable.IsOperand ns i n.parts k) (sym nodes_are) (operands_read t own i n (here i n at) k asked);
   }
 
   -- and each node has from above what its surroundings have
-  pub surrounded : AreAround u.nodes.now u.above.now u.around.now
-  surrounded =
+  pub tree_surrounded : AreAround u.nodes.now u.above.now u.around.now
+  tree_surrounded =
       subst (λ ns. AreAround ns u.above.now u.around.now) (sym nodes_are)
       (subst (λ xs. AreAround t.nodes xs u.around.now) (sym made_by.is.whole.tree.above)
-      (subst (λ xs. AreAround t.nodes checked.surroundings.above xs) (sym made_by.is.whole.tree.around) is.around_are))
+      (subst (λ xs. AreAround t.nodes checked.surroundings.above xs) (sym made_by.is.whole.tree.around) around_are))
+
+-- and so it is of what has passed the test
+pub shaped : (file : List ℕ) (t : Typed) (it : IsUnitOfFile file t) → IsShaped it.checked.by.tree
+shaped file t it = tree_shaped file t (assembled file t it)
+
+pub surrounded : (file : List ℕ) (t : Typed) (it : IsUnitOfFile file t) → (let u = it.checked.by.tree in AreAround u.nodes.now u.above.now u.around.now)
+surrounded file t it = tree_surrounded file t (assembled file t it)

@@ -10,7 +10,7 @@ use Rattle.cr_typed.specs.declared.typed.Typed.{Typed}
 use Rattle.cr_typed.specs.Typed.{MOST_CELLS}
 use Rattle.cr_typed_unit.specs.Typed.{IsTypedBy}
 use Rattle.cr_meaning_operations.specs.Shapes.{cells_of}
-use Rattle.cr_meaning_declared.specs.Files.{IsUnitOfFile}
+use Rattle.cr_meaning_declared.specs.Files.{IsUnitOfFile, assembled}
 use Rattle.cr_meaning_known.specs.Sighted.{AreSighted}
 use Rattle.cr_meaning_fitting.specs.Bounded.{IsBounded, IsBoundedIn}
 use Rattle.cr_meaning_fitting.proofs.Bounding.{bounded, structures}
@@ -32,9 +32,9 @@ module _ (file : List ℕ) (t : Typed) (it : IsUnitOfFile file t) (sighted : Are
   abbrev last : ℕ
   last = length made_by.tree.nodes.now
 
-  bounds : (i : ℕ) → IsBoundedIn made_by.tree.nodes.now typing.layouts checked.table last typing i
+  pub bounds : (i : ℕ) → IsBoundedIn made_by.tree.nodes.now typing.layouts checked.table last typing i
   bounds i =
-      bounded made_by.tree checked.texts checked.table typing made_by.is.whole.typing (λ b broken. made_by.sound.constraints b (inl broken)) (shaped file t it) (surrounded file t it) sighted (are_seen file t it)
+      bounded made_by.tree checked.texts checked.table typing made_by.is.whole.typing (λ b broken. made_by.sound.constraints b (inl broken)) (shaped file t it) (surrounded file t it) sighted (are_seen file t (assembled file t it))
       (literals file it.unit.tokens.list.items it.unit.nodes checked.texts it.tokenizes made_by.is.texts) last (omega arith) i
 
   structure_few : (node : ℕ) → (slice_index_or t.layouts node nothing).cells ≤ MOST_CELLS

@@ -1,5 +1,5 @@
 -- Main gives an int, and has the parameters of 5.1.2.2.1.
-use Rattle.std.proofs.Common.{◌≡◌, ℕ, true, false, List, Option, None, Some, length, slice_get, refl, sym, ap, ◌∙◌}
+use Rattle.std.proofs.Common.{◌≡◌, ℕ, true, List, Option, None, Some, length, slice_get, refl, sym, ap, ◌∙◌}
 use Rattle.std.proofs.lemmas.Bool.{false≢true}
 use Rattle.std.proofs.lemmas.Option.{slice_get_within}
 use Rattle.cr_ints.specs.declared.kind.IntKind.TheVariants.{Int as IntegerKind}
@@ -20,12 +20,12 @@ use Rattle.cr_meaning_units.specs.Owned.{AreOfUnit}
 use Rattle.cr_meaning_names.proofs.Parents.{above_some}
 use Rattle.cr_meaning_declared.specs.Files.{IsUnitOfFile}
 use Rattle.cr_meaning_known.specs.Sighted.{AreSighted}
+use Rattle.cr_meaning_composed.proofs.Told.{item_there}
 use Rattle.cr_meaning_mains.specs.Laws.{IsMain}
 use Rattle.cr_meaning_mains.proofs.Mains.{declared_so}
 use Rattle.cr_meaning_files.specs.Reached.{is_definition}
 use Rattle.cr_meaning_files.specs.Files.{judgement_of}
 use Rattle.cr_meaning_files.proofs.Filling.{unit}
-use Rattle.cr_meaning_files.proofs.Places.{item_there}
 use Rattle.cr_meaning_files.proofs.Mains.{main_defined}
 use Rattle.cr_meaning_files.proofs.Shaped.{shaped}
 use Rattle.cr_meaning_files.proofs.Returns.{gives_is}

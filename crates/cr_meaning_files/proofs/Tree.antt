@@ -1,5 +1,5 @@
 -- The parts of a unit's nodes: what stands there, how many there are, and which node is above each.
-use Rattle.std.proofs.Common.{◌≡◌, ℕ, ◌+◌, ◌<◌, ◌≤◌, false, List, [], Option, None, Some, length, slice_get, slice_index, refl, sym, subst, ap, ◌∙◌, arith}
+use Rattle.std.proofs.Common.{◌≡◌, ℕ, ◌+◌, ◌<◌, ◌≤◌, true, false, List, [], Option, None, Some, length, slice_get, slice_index, refl, sym, subst, ap, ◌∙◌, arith}
 use Rattle.std.proofs.lemmas.Bool.{false≢true}
 use Rattle.std.proofs.lemmas.Option.{slice_get_within, get_or_from_slice_get, slice_get-get_or}
 use Rattle.cr_syntax.specs.declared.node.Kind.{Kind}
@@ -9,13 +9,16 @@ use Rattle.cr_syntax_nodes.specs.Nodes.{least, most, IsUpTo, IsCounted}
 use Rattle.cr_syntax_nodes.proofs.Made.{made_in}
 use Rattle.cr_syntax_nodes.proofs.Numbers.{occurs}
 use Rattle.cr_syntax_nodes.proofs.Counts.{counted, row_counted}
+use Rattle.cr_check_expressions.specs.Forms.{form_of}
 use Rattle.cr_typed.specs.declared.typed.Typed.{Typed}
 use Rattle.cr_meaning_operations.specs.Operations.{kind_if, kind_at, parts_if, parts_at, part_at}
+use Rattle.cr_meaning_typed.specs.Typing.{is_asked, is_expression}
+use Rattle.cr_meaning_typed.specs.Whole as readable
 use Rattle.cr_meaning_units.specs.Owned.{AreOfUnit}
 use Rattle.cr_meaning_units.proofs.Handing.{laid_at, parts_below}
 use Rattle.cr_meaning_names.proofs.Parents.{IsPartOf}
-use Rattle.cr_meaning_files.proofs.Grammar.{part_in, Stands, stands}
-use Rattle.cr_meaning_files.proofs.Tables.{is_jump}
+use Rattle.cr_meaning_files.proofs.Grammar.{part_in, Stands, stands, is_of}
+use Rattle.cr_meaning_files.proofs.Tables.{is_expression_part, expression_there, is_jump, asked, asked_there}
 
 module _ (t : Typed) (unit : AreOfUnit t) where
   -- ---- a part of a node
@@ -89,3 +92,20 @@ module _ (t : Typed) (unit : AreOfUnit t) where
   -- a part that must be there
   pub needed : (i k : ℕ) (c : Kind) → kind_at t i ≡ c → is_jump c ≡ false → k < least (side_of c) → slice_get (parts_at t i) k ≡ Some (part_at t i k)
   needed i k c is apart few = let down = (counted_by i c is apart).least in slice_get-get_or (parts_at t i) k 0 (omega (arith, few, down))
+
+  -- the operands of an expression, as its rule reads them
+  pub operands_read : (i : ℕ) (n : Node) → slice_get t.nodes i ≡ Some n → (k : ℕ) → is_asked (form_of n.kind) k ≡ true → readable.IsOperand t.nodes i n.parts k
+  operands_read i n at k h =
+      let told = asked n.kind k h in
+      let apart = asked_there n.kind k h in
+      let is = needed i k n.kind (ap kind_if at) apart.0 told.1 in
+      let part = has_part i k (part_at t i k) is in
+      let places = ap (λ c. is_of is_expression_part (part_in (side_of c) k)) (ap kind_if at) ∙ told.0 in
+      record {
+        number = part_at t i k;
+        node = part.own;
+        is = ap (λ o. slice_get (parts_if o) k) (sym at) ∙ is;
+        below = part.below;
+        at = part.own_at;
+        expression = ap (λ o. is_expression (form_of (kind_if o))) (sym part.own_at) ∙ expression_there (part_in (side_of (kind_at t i)) k) (kind_at t (part_at t i k)) places part.stands;
+      }

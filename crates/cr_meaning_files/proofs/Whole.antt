@@ -58,7 +58,7 @@ use Rattle.cr_meaning_fitting.proofs.Names.{declares_all}
 use Rattle.cr_meaning_fitting.proofs.Bounding.{own_bounded_at}
 use Rattle.cr_meaning_fitting.proofs.Literals.{literals}
 use Rattle.cr_meaning_typedefs.proofs.Files.{are_seen}
-use Rattle.cr_meaning_declared.specs.Files.{IsUnitOfFile}
+use Rattle.cr_meaning_declared.specs.Files.{IsUnitOfFile, assembled}
 use Rattle.cr_meaning_files.proofs.Grammar.{part_in, Stands}
 use Rattle.cr_meaning_files.proofs.Tree.{has_part, at_most}
 use Rattle.cr_meaning_files.proofs.Filling.{unit, nodes_are, ruled}
@@ -70,17 +70,17 @@ use Rattle.cr_meaning_files.proofs.Sight.{holds_declaration}
 
 -- ---- what declares an object
 
-abbrev declares_object : Declared → Bool
+abbrev pub declares_object : Declared → Bool
 declares_object (Object row register) = true
 declares_object d = false
 
 -- of a declaration of ordinary identifiers, without `typedef`, and no function
-record DeclaresObject (nodes : List Node) (said : ℕ → Specified) (own : Declarator) (d : Option ℕ) : Type 0 where
-  declaration : ℕ
-  is : d ≡ Some declaration
-  ordinary : names_ordinary (kind_in nodes (Some declaration)) ≡ true
-  plain : is_typedef (class_of (specified_in said (specifiers_in nodes (Some declaration))).storage) ≡ false
-  object : is_some own.function ≡ false
+pub record DeclaresObject (nodes : List Node) (said : ℕ → Specified) (own : Declarator) (d : Option ℕ) : Type 0 where
+  pub declaration : ℕ
+  pub is : d ≡ Some declaration
+  pub ordinary : names_ordinary (kind_in nodes (Some declaration)) ≡ true
+  pub plain : is_typedef (class_of (specified_in said (specifiers_in nodes (Some declaration))).storage) ≡ false
+  pub object : is_some own.function ≡ false
 
 by_class : (nodes : List Node) (storage : Option Class) (own : Declarator) (row : ℕ) → declares_object (declared_as nodes storage own row) ≡ true → (is_typedef storage ≡ false) × (is_some own.function ≡ false)
 by_class nodes storage own row e = by (is_typedef storage) own.function e
@@ -122,7 +122,7 @@ object_type look rows TypeName row type h e = absurd (cc e)
 object_type look rows Unclear row type h e = absurd (cc e)
 
 -- what is planned is planned of an object
-planned_object : (k : Kind) (layouts : List Layout) (object : Option Qualified) (parts : List ℕ) (q : Planned) → planned_by k layouts object parts ≡ Some q → object ≡ Some q.type
+pub planned_object : (k : Kind) (layouts : List Layout) (object : Option Qualified) (parts : List ℕ) (q : Planned) → planned_by k layouts object parts ≡ Some q → object ≡ Some q.type
 planned_object kind.InitDeclarator layouts object parts q e = by object (slice_get parts 1) e
   where
     of_test : (b : Bool) (type : Qualified) (i : ℕ) → planned_if b type i ≡ Some q → Some type ≡ Some q.type
@@ -138,7 +138,7 @@ planned_object k layouts object parts q e = absurd (cc e)
 -- ---- places
 
 -- at file scope, in a block or in a clause
-abbrev is_scope : Place → Bool
+abbrev pub is_scope : Place → Bool
 is_scope place.File = true
 is_scope place.Block = true
 is_scope place.Clause = true
@@ -150,11 +150,11 @@ holder_place kind.Compound i a h = refl
 holder_place kind.For i a h = refl
 holder_place k i a h = absurd (false≢true h)
 
-initialised_place : (k : Kind) (i : ℕ) (a : Around) → k ≡ kind.InitDeclarator → (inside k i a).place ≡ a.place
+pub initialised_place : (k : Kind) (i : ℕ) (a : Around) → k ≡ kind.InitDeclarator → (inside k i a).place ≡ a.place
 unfolding inside
 initialised_place k i a e = ap (λ c. (inside c i a).place) e
 
-declaration_place : (k : Kind) (i : ℕ) (a : Around) → k ≡ kind.Declaration → (inside k i a).place ≡ a.place
+pub declaration_place : (k : Kind) (i : ℕ) (a : Around) → k ≡ kind.Declaration → (inside k i a).place ≡ a.place
 unfolding inside
 declaration_place k i a e = ap (λ c. (inside c i a).place) e
 
@@ -255,7 +255,7 @@ module _ (file : List ℕ) (t : Typed) (it : IsUnitOfFile file t) (sighted : Are
   around p = slice_index_or it.checked.checked.surroundings.around p outermost
 
   -- a declaration stands at file scope, in a block or in a clause
-  declaration_scope : (d : ℕ) → d < length t.nodes → kind_at t d ≡ kind.Declaration → is_scope (around d).place ≡ true
+  pub declaration_scope : (d : ℕ) → d < length t.nodes → kind_at t d ≡ kind.Declaration → is_scope (around d).place ≡ true
   declaration_scope d low of = by (above_of t.nodes (length t.nodes) d) refl
     where
       by : (o : Option ℕ) → above_of t.nodes (length t.nodes) d ≡ o → is_scope (around d).place ≡ true
@@ -265,6 +265,46 @@ module _ (file : List ℕ) (t : Typed) (it : IsUnitOfFile file t) (sighted : Are
           let h = above_some t (unit file t it) (length t.nodes) d x q in
           let part = has_part t (unit file t it) x h.place d (ap (λ o. slice_get (parts_if o) h.place) h.at ∙ h.is) in
           ap (λ (a : Around). is_scope a.place) (around_at file t it x h.place d part) ∙ holder_place (kind_at t x) x (around x) (holds_declaration file t it x d h of)
+
+  -- the elements of an array that a node names are complete
+  pub element_complete : (i : ℕ) (n : Node) → slice_get t.nodes i ≡ Some n → (most : ℕ) (below : Qualified) → type_at table (slice_index_or typing.named i 0) ≡ array most below → is_complete_at t.nodes i below ≡ true
+  element_complete i n at most below g =
+      let bound = subst (IsBounded ns typing.layouts i) g
+      (own_bounded_at u it.checked.checked.texts table typing made_by.is.whole.typing (λ b broken. made_by.sound.constraints b (inl broken)) (shaped file t it) (surrounded file t it) sighted (are_seen file t (assembled file t it))
+      (literals file it.unit.tokens.list.items it.unit.nodes it.checked.checked.texts it.tokenizes made_by.is.texts) i n (ap (λ xs. slice_get xs i) (nodes_are file t it) ∙ at)).named in
+      ap (λ xs. is_complete_at xs i below) (sym (nodes_are file t it)) ∙ bound.1.0
+
+  -- ---- a declarator that declares an object
+
+  module _ (q : ℕ) (node : Node) (q_at : slice_get t.nodes q ≡ Some node) (declarator : is_declarator node.kind ≡ true) (object : declares_object (slice_index_or typing.declared q Unclear) ≡ true) where
+    abbrev own_said : ℕ → Specified
+    own_said = (before_in table (cut q typing)).specified
+
+    abbrev own_has : Has
+    own_has = has_at table (entry_at typing q).own
+
+    q_at_u : slice_get ns q ≡ Some node
+    q_at_u = ap (λ xs. slice_get xs q) (nodes_are file t it) ∙ q_at
+
+    pub declares : DeclaresObject ns own_said (entry_at typing q).own.declarator (declaration_of ns u.above.now q)
+    declares =
+        by_kind node.kind ns own_said (entry_at typing q).own.declarator (entry_at typing q).own.named (entry_at typing q).own.enumerated (declaration_of ns u.above.now q) declarator
+        (ap declares_object (sym (ruled file t it q node q_at).declared) ∙ object)
+
+    -- what is asked of it
+    pub asked : HoldsAll (whole_faults own_has (before_in table (cut q typing)) u q (Some declares.declaration))
+    asked =
+        subst (λ o. HoldsAll (whole_faults own_has (before_in table (cut q typing)) u q o)) declares.is
+        (declarator_holds node.kind own_has (before_in table (cut q typing)) u q node declarator
+        (all u it.checked.checked.texts table typing made_by.is.whole.typing (λ b broken. made_by.sound.constraints b (inl broken)) q node q_at_u))
+
+    own_known : has_value own_has.named ≡ true
+    own_known = (types_known file t it sighted q node q_at_u).declared (declarator_names node.kind declarator) declares.declaration declares.is
+
+    -- K6: at file scope, in a block or in a clause its type is complete, unless it is an array of unknown size
+    pub complete_there : is_scope (place_of u q) ≡ true → is_open own_has.named ≡ false → is_complete_at ns q own_has.named ≡ true
+    complete_there scope closed =
+        sized_whole (is_complete_at ns q) own_has.named own_known closed (object_whole own_has (before_in table (cut q typing)) ns q (place_of u q) _ _ _ _ scope declares.plain declares.object asked)
 
   module _ (i : ℕ) (n : Node) (at : slice_get t.nodes i ≡ Some n) (init : n.kind ≡ kind.InitDeclarator) where
     at_u : slice_get ns i ≡ Some n
@@ -347,21 +387,10 @@ module _ (file : List ℕ) (t : Typed) (it : IsUnitOfFile file t) (sighted : Are
         by true f = f
         by false f = absurd (cc f)
 
-    -- the elements of an array that it names are complete
-    pub element_complete : (most : ℕ) (below : Qualified) → type_at table (slice_index_or typing.named i 0) ≡ array most below → is_complete_at t.nodes i below ≡ true
-    element_complete most below g =
-        let bound = subst (IsBounded ns typing.layouts i) g
-        (own_bounded_at u it.checked.checked.texts table typing made_by.is.whole.typing (λ b broken. made_by.sound.constraints b (inl broken)) (shaped file t it) (surrounded file t it) sighted (are_seen file t it)
-        (literals file it.unit.tokens.list.items it.unit.nodes it.checked.checked.texts it.tokenizes made_by.is.texts) i n at_u).named in
-        ap (λ xs. is_complete_at xs i below) (sym (nodes_are file t it)) ∙ bound.1.0
-
     -- ---- the object's type
 
     abbrev said : ℕ → Specified
     said = (before_in table (cut q typing)).specified
-
-    abbrev own : Has
-    own = has_at table (entry_at typing q).own
 
     abbrev column : Declared
     column = declared_by (cut i typing).declared (Some q)
@@ -390,25 +419,14 @@ module _ (file : List ℕ) (t : Typed) (it : IsUnitOfFile file t) (sighted : Are
           (declares_all (λ row. row ≡ (entry_at typing q).own.named) part.own.kind ns said (entry_at typing q).own.declarator (entry_at typing q).own.named (entry_at typing q).own.enumerated (declaration_of ns u.above.now q) refl))
           object_is
 
-      declares : DeclaresObject ns said (entry_at typing q).own.declarator (declaration_of ns u.above.now q)
-      declares =
-          by_kind part.own.kind ns said (entry_at typing q).own.declarator (entry_at typing q).own.named (entry_at typing q).own.enumerated (declaration_of ns u.above.now q) declarator
-          (ap declares_object (sym column_is) ∙ both.0)
-
-      whole : whole_object (is_complete_at ns q) own.named ≡ true
-      whole =
-          object_whole own (before_in table (cut q typing)) ns q (place_of u q) _ _ _ _ (scope declares.declaration declares.is declares.ordinary) declares.plain declares.object
-          (subst (λ o. HoldsAll (whole_faults own (before_in table (cut q typing)) u q o)) declares.is
-          (declarator_holds part.own.kind own (before_in table (cut q typing)) u q part.own declarator
-          (all u it.checked.checked.texts table typing made_by.is.whole.typing (λ b broken. made_by.sound.constraints b (inl broken)) q part.own part.at)))
-
-      known : has_value own.named ≡ true
-      known = (types_known file t it sighted q part.own part.at).declared (declarator_names part.own.kind declarator) declares.declaration declares.is
+      object : declares_object (slice_index_or typing.declared q Unclear) ≡ true
+      object = ap declares_object (sym (get_or-take i typing.declared q Unclear part.below)) ∙ both.0
 
       -- of known size
       pub object_complete : is_open p.type ≡ false → is_complete_at t.nodes i p.type ≡ true
       object_complete known_size =
-          let at_q = subst (λ type. is_complete_at ns q type ≡ true) both.1 (sized_whole (is_complete_at ns q) own.named known (ap is_open both.1 ∙ known_size) whole) in
+          let d = declares q part.own q_at declarator object in
+          let at_q = subst (λ type. is_complete_at ns q type ≡ true) both.1 (complete_there q part.own q_at declarator object (scope d.declaration d.is d.ordinary) (ap is_open both.1 ∙ known_size)) in
           let below = part.below in
           ap (λ xs. is_complete_at xs i p.type) (sym (nodes_are file t it)) ∙ complete_later ns q i (omega (arith, below)) p.type at_q
 
@@ -422,7 +440,7 @@ module _ (file : List ℕ) (t : Typed) (it : IsUnitOfFile file t) (sighted : Are
 
           of_array : (below : Qualified) → named ≡ array most below → is_complete_at t.nodes i named ≡ true
           of_array below g =
-              let complete = element_complete most below (is_named ∙ g) in
+              let complete = element_complete i n at most below (is_named ∙ g) in
               subst (λ x. is_complete_at t.nodes i x ≡ true) (sym g) ((λ j. not ((ap is_open (sym g) ∙ known_size) j) && complete j))
 
           by : (type : Qualified) → p.type ≡ type → is_complete_at t.nodes i named ≡ true

@@ -1,26 +1,33 @@
 -- What the grammar and the check give of a file's typed unit.
-use Rattle.std.specs.Prelude.{◌≡◌, ◌≤◌, ℕ, ℤ, true, false, List, Some, slice_get, slice_index_or}
+use Rattle.std.specs.Prelude.{◌≡◌, ◌≤◌, ◌⊎◌, ℕ, ℤ, true, false, List, Some, length, slice_get, slice_index_or}
 use Rattle.cr_ints.specs.declared.kind.IntKind.TheVariants.{Int as IntegerKind}
 use Rattle.cr_ints.specs.IntKind.{Represents}
 use Rattle.cr_syntax.specs.declared.node.Kind.TheVariants as kind
 use Rattle.cr_syntax.specs.declared.node.Node.{Node}
 use Rattle.cr_scopes.specs.Units.{unit_events}
+use Rattle.cr_scopes_sight.specs.Scopes.{is_using}
 use Rattle.cr_scopes_once.specs.Told.{count_of}
 use Rattle.cr_check_expressions.specs.Forms.{form_of}
 use Rattle.cr_check_expressions.specs.Known.{an_enumerator}
+use Rattle.cr_typed.specs.Typed.{MOST_CELLS}
 use Rattle.cr_typed.specs.declared.typed.Typed.{Typed}
 use Rattle.cr_typed.specs.declared.typed.Duration.TheVariants as duration
-use Rattle.cr_meaning_operations.specs.Operations.{kind_at, part_at, name_of, entity_of, is_automatic_by}
+use Rattle.cr_meaning.specs.declared.run.Limits.{Limits}
+use Rattle.cr_meaning_operations.specs.Shapes.{named_type, cells_of, type_of_node}
+use Rattle.cr_meaning_operations.specs.Operations.{kind_at, part_at, name_of, entity_of, is_automatic_by, program_of}
+use Rattle.cr_meaning_typed.specs.Placed.{IsNamed}
 use Rattle.cr_meaning_typed.specs.Typing.{has_value, is_expression}
 use Rattle.cr_meaning_declared.specs.Files.{IsUnitOfFile}
+use Rattle.cr_meaning_composed.specs.Laws.{IsObject, named_at}
 use Rattle.cr_meaning_sorts.specs.Founded.{AreLaidOut, AreReached}
 use Rattle.cr_meaning_sorts.specs.Table.{exits_at}
 use Rattle.cr_meaning_soundness.specs.Sorts.{IsAmong}
 use Rattle.cr_meaning_whole.specs.Statements.{is_declarator, AreStatementsLaid}
 use Rattle.cr_meaning_files.specs.Reached.{is_reached}
 use Rattle.cr_meaning_files.specs.Seen.{sees}
-use Rattle.cr_meaning_files.specs.Local.{is_entered, is_early, is_named_locally}
-use Rattle.cr_meaning_files.specs.Files.{judgement_of, AreRead}
+use Rattle.cr_meaning_files.specs.Local.{is_entered, is_early, is_named_locally, is_object_by}
+use Rattle.cr_meaning_files.specs.Files.{judgement_of, AreRead, AreVisible}
+use Rattle.cr_meaning_files.specs.Structures.{IsWhole}
 
 -- expressions have as many parts as their rules read, all of them expressions, used as values but where a place is taken; and only a literal
 -- fills an array
@@ -65,9 +72,9 @@ DeclaratorsSeeObjects = (file : List ℕ) (t : Typed) → IsUnitOfFile file t �
 abbrev pub NamesSeeObjects : Type 0
 NamesSeeObjects = (file : List ℕ) (t : Typed) → IsUnitOfFile file t → (i : ℕ) → kind_at t i ≡ kind.Identifier → is_named_locally t i ≡ true → sees t i (entity_of t i) ≡ true
 
--- a name that a run may reach is told once, since it stands among no definition's parameters, which are told twice (6.9.1)
+-- a name that a run may reach, also a called one, is told once, since it stands among no definition's parameters, which are told twice (6.9.1)
 abbrev pub ReachedNamesAreToldOnce : Type 0
-ReachedNamesAreToldOnce = (file : List ℕ) (t : Typed) (it : IsUnitOfFile file t) (i : ℕ) (n : Node) → slice_get t.nodes i ≡ Some n → n.kind ≡ kind.Identifier → is_reached t i ≡ true
+ReachedNamesAreToldOnce = (file : List ℕ) (t : Typed) (it : IsUnitOfFile file t) (i : ℕ) (n : Node) → slice_get t.nodes i ≡ Some n → is_using n.kind ≡ true → is_reached t i ≡ true
     → count_of n.first (unit_events it.unit) ≤ 1
 
 -- what is executed before main names no automatic object, since it is made of constants and of constant addresses (6.2.4p3, 6.6p9, 6.7.9p4, K12)
@@ -78,3 +85,29 @@ EarlyNamesLast = (file : List ℕ) (t : Typed) (it : IsUnitOfFile file t) (i : �
 -- an automatic object is declared in a block or a `for`, or is a parameter of a definition (6.2.4p5, 6.9.1p9)
 abbrev pub AutomaticObjectsAreEntered : Type 0
 AutomaticObjectsAreEntered = (file : List ℕ) (t : Typed) → IsUnitOfFile file t → (e : ℕ) → is_automatic_by (slice_index_or t.durations e duration.NoObject) ≡ true → is_entered t e ≡ true
+
+-- what a name stands for has a type of objects, and the cells of this type, some and not too many
+pub record HasWholeCells (t : Typed) (limits : Limits) (declared : ℕ) : Type 0 where
+  pub whole : IsWhole t (named_type t declared)
+  pub counted : length ((program_of t limits).shape declared) ≡ cells_of t (named_type t declared)
+  pub some : 1 ≤ length ((program_of t limits).shape declared)
+  pub few : length ((program_of t limits).shape declared) ≤ MOST_CELLS
+
+-- so has an object of the program that declarations declare: one of them defines it, with a complete type (6.7p7, 6.9.2, K6, K7, K14)
+abbrev pub ObjectsHaveWholeCells : Type 0
+ObjectsHaveWholeCells = (file : List ℕ) (t : Typed) (it : IsUnitOfFile file t) (limits : Limits) (node q : ℕ) → IsObject file t it node q
+    → is_object_by (slice_index_or t.durations (entity_of t node) duration.NoObject) ≡ true → HasWholeCells t limits (entity_of t node)
+
+-- a declarator, or the same with its initialiser
+abbrev pub IsDeclaredAt : Typed → ℕ → ℕ → Type 0
+IsDeclaredAt t q p = (p ≡ q) ⊎ ((n : Node) × ((slice_get t.nodes p ≡ Some n) × ((n.kind ≡ kind.InitDeclarator) × (slice_get n.parts 0 ≡ Some q))))
+
+-- and a node that stands for it, with the type of one of its declarators, names whole cells (6.2.7p3)
+abbrev pub NodesNameWholeCells : Type 0
+NodesNameWholeCells = (file : List ℕ) (t : Typed) (it : IsUnitOfFile file t) (limits : Limits) (node q p i : ℕ) → IsObject file t it node q → IsDeclaredAt t q p → type_of_node t i ≡ named_at file t it p
+    → entity_of t i ≡ entity_of t node → is_object_by (slice_index_or t.durations (entity_of t i) duration.NoObject) ≡ true → IsNamed (program_of t limits) t i
+
+-- what a run may name as a place is an object of the program, which has whole cells: the object of a declaration (6.9p3, p5, K40), or a parameter of
+-- the definition around it (6.9.1p9), and never one of a declarator that defines no function (6.2.1p4)
+abbrev pub PlacesNameObjects : Type 0
+PlacesNameObjects = (file : List ℕ) (t : Typed) (it : IsUnitOfFile file t) (limits : Limits) → AreVisible (program_of t limits) t (judgement_of file t it)

@@ -1,6 +1,9 @@
+pub mod Celled
+pub mod Meant
 pub mod Reached
 pub mod Seen
 pub mod Local
 pub mod Structures
+pub mod Assembled
 pub mod Files
 pub mod Laws

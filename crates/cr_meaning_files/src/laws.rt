@@ -1,6 +1,17 @@
 //! What a reader expects of the run of a file's typed unit. The program calls none of these functions.
-ghost use Rattle.cr_meaning_files.specs.Laws.{AreClosed, AreTold, AreWorth, AutomaticObjectsAreEntered, DeclaratorsSeeObjects, EarlyNamesLast, EnumeratorsAreNumbers, LabelsStandAround, MainsAreDefined, NamesSeeObjects, ReachedNamesAreToldOnce};
-ghost use Rattle.cr_meaning_files.specs.Files.{FilesHaveOutcomes};
+ghost use Rattle.cr_meaning_files.specs.Laws.{AreClosed, AreTold, AreWorth, AutomaticObjectsAreEntered, DeclaratorsSeeObjects, EarlyNamesLast, EnumeratorsAreNumbers, LabelsStandAround, MainsAreDefined, NamesSeeObjects, NodesNameWholeCells, ObjectsHaveWholeCells, PlacesNameObjects, ReachedNamesAreToldOnce};
+ghost use Rattle.cr_meaning_files.specs.Files.{FilesHaveOutcomes, FilesAreWellTyped, FixedFilesRunAlike};
+ghost use Rattle.cr_meaning_files.specs.Assembled.{AssembledUnitsAreTyped, AssembledUnitsFit};
+
+/// Whatever is assembled of a unit that breaks no constraint fits.
+pub fn assembled_units_fit()
+    ensures { AssembledUnitsFit }
+{}
+
+/// What is assembled of a unit that breaks no constraint is the file's typed unit.
+pub fn assembled_units_are_typed()
+    ensures { AssembledUnitsAreTyped }
+{}
 
 /// What a run may reach has its operands, its statements and its declarators with it.
 pub fn nodes_are_told()
@@ -42,7 +53,7 @@ pub fn names_see_objects()
     ensures { NamesSeeObjects }
 {}
 
-/// A name that a run may reach is told once.
+/// A name that a run may reach, also a called one, is told once.
 pub fn reached_names_are_told_once()
     ensures { ReachedNamesAreToldOnce }
 {}
@@ -57,7 +68,32 @@ pub fn automatic_objects_are_entered()
     ensures { AutomaticObjectsAreEntered }
 {}
 
+/// A name that is used as a place names an object of the program, with whole cells.
+pub fn places_name_objects()
+    ensures { PlacesNameObjects }
+{}
+
 /// The run of a file's typed unit comes to a status, or to a numbered case at a node, and never to operands that no program has.
 pub fn files_have_outcomes()
     ensures { FilesHaveOutcomes }
+{}
+
+/// The program of a file's typed unit is well typed.
+pub fn files_are_well_typed()
+    ensures { FilesAreWellTyped }
+{}
+
+/// Where its order is fixed, its run comes to one end in whatever order operands, arguments and initialisers are evaluated.
+pub fn fixed_files_run_alike()
+    ensures { FixedFilesRunAlike }
+{}
+
+/// An object of the program that declarations declare has the cells of its type.
+pub fn objects_have_whole_cells()
+    ensures { ObjectsHaveWholeCells }
+{}
+
+/// And what stands for it names whole cells.
+pub fn nodes_name_whole_cells()
+    ensures { NodesNameWholeCells }
 {}

@@ -124,7 +124,7 @@ module _ (t : Typed) (limits : Limits) (j : Judgement) (scene : Scene) (sees : �
         ∙ ap (λ x. Some (statement x)) (ap (λ b. if b then of_function (form.Number IntegerKind) else exits_in (labels_of t j) (result_of t j) (j.around node)) (is_initialiser t k node is));
   }
 
-  typed : IsWellTyped (program_of t limits) sorts
+  pub typed : IsWellTyped (program_of t limits) sorts
   typed = record { nodes = typed_nodes; op = unit_op t; is_root = root_is; whole = whole }
 
   complete : IsComplete (program_of t limits) sorts sees typed

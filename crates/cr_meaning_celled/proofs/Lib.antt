@@ -1,4 +1,0 @@
-pub mod Seen
-pub mod Names
-pub mod Types
-pub mod Cells
