@@ -51,7 +51,7 @@ impl Trial {
     }
 }
 
-// All is well too where the call failed in this way.
+/// All is well too where the call failed in this way.
 pub fn allowing(outcome: io::Result<()>, kind: ErrorKind) -> io::Result<()> {
     match outcome {
         Err(e) if e.kind() != kind => Err(e),
