@@ -5,7 +5,7 @@ use Rattle.cr_syntax.specs.declared.node.Node.{Node}
 use Rattle.cr_scopes_events.specs.Declarators.{declarator_of}
 use Rattle.cr_scopes_bindings.specs.Entities.{declared_entity}
 use Rattle.cr_scopes_shared.specs.Origins.{IsDeclarer}
-use Rattle.cr_check_types.specs.Types.{Qualified, type_at}
+use Rattle.cr_check_types.specs.Types.{Qualified}
 use Rattle.cr_check_types.specs.Relations.{composite_of}
 use Rattle.cr_check_unit.specs.Typing.{cut, object_in}
 use Rattle.cr_typed.specs.declared.typed.Typed.{Typed}
@@ -17,14 +17,11 @@ use Rattle.cr_meaning_known.specs.Sighted.{AreSighted}
 use Rattle.cr_meaning_declared.specs.Files.{IsUnitOfFile}
 use Rattle.cr_meaning_linked.specs.Laws.{DeclaresValue}
 use Rattle.cr_meaning_objects.specs.Laws.{DeclaresObject}
+use Rattle.cr_meaning_parameters.specs.Laws.{named_at}
 
 -- the other is the same type but for sizes that became known: it is the composite of both (6.2.7p3)
 abbrev pub Becomes : Qualified → Qualified → Type 0
 Becomes one whole = composite_of one whole ≡ whole
-
--- what a node names, by the columns of a check; of an initialised declarator its type as its initialiser completes it (6.7.9p22)
-abbrev pub named_at : (file : List ℕ) (t : Typed) → IsUnitOfFile file t → ℕ → Qualified
-named_at file t it p = type_at it.checked.checked.table (slice_index_or it.checked.checked.whole.typing.named p 0)
 
 -- the declared name at a node: its declarator declares the object of an entity
 pub record IsObject (file : List ℕ) (t : Typed) (it : IsUnitOfFile file t) (node q : ℕ) : Type 0 where

@@ -35,11 +35,11 @@ use Rattle.cr_meaning_constant.specs.Laws
 
 -- ---- numbers that rise along a list
 
-forth : {ns : List Node} {from end : ℕ} {ps : List ℕ} → AreListed ns from ps end → from ≤ end
+pub forth : {ns : List Node} {from end : ℕ} {ps : List ℕ} → AreListed ns from ps end → from ≤ end
 forth no_node = omega arith
 forth (one_more at below rest) = let x = forth below in let y = forth rest in omega (arith, x, y)
 
-risen : {ns : List Node} {from end : ℕ} {ps : List ℕ} → AreListed ns from ps end → (k q : ℕ) → slice_get ps k ≡ Some q → from ≤ q
+pub risen : {ns : List Node} {from end : ℕ} {ps : List ℕ} → AreListed ns from ps end → (k q : ℕ) → slice_get ps k ≡ Some q → from ≤ q
 risen no_node k q e = absurd cc
 risen (one_more {p = p} at below rest) zero q e = let same : p ≡ q = cc in let x = forth below in omega (arith, x, same)
 risen (one_more {p = p} at below rest) (suc k) q e = let x = forth below in let y = risen rest k q e in omega (arith, x, y)

@@ -18,8 +18,8 @@ use Rattle.cr_scopes.specs.Spelled.{name_of as spelled_name}
 use Rattle.cr_scopes.specs.Units.{unit_events}
 use Rattle.cr_scopes_bindings.specs.Last.{last_with}
 use Rattle.cr_scopes_bindings.specs.Entities as bound
-use Rattle.cr_scopes_meant.proofs.Entities.{stand}
 use Rattle.cr_scopes_shared.specs.Origins.{is_external, IsDeclarer}
+use Rattle.cr_scopes_shared.specs.Sorts.{is_value}
 use Rattle.cr_scopes_sight.specs.Scopes.{is_using}
 use Rattle.cr_check_callees.proofs.Spelled.{same_spelling}
 use Rattle.cr_check_definitions.specs.Known as checks
@@ -67,9 +67,9 @@ use Rattle.cr_meaning_files.proofs.Names.{declare}
 use Rattle.cr_meaning_called.specs.Laws.{IsMeant}
 use Rattle.cr_meaning_files.specs.Meant as Laws
 use Rattle.cr_meaning_files.specs.Meant.{SeesFunction}
-use Rattle.cr_meaning_files.proofs.Declarers.{seen, few, use_told}
+use Rattle.cr_meaning_files.proofs.Declarers.{seen}
 use Rattle.cr_meaning_files.proofs.Entities.{one_name}
-use Rattle.cr_meaning_files.proofs.Told.{few_times, sorted, within, always}
+use Rattle.cr_meaning_files.proofs.Meant.{stands as stand}
 
 -- ---- what leaves no definition open
 
@@ -193,20 +193,19 @@ module _ (file : List ℕ) (t : Typed) (it : IsUnitOfFile file t) where
         ∙ no_library (map (λ part. is_text (value_type t part)) (drop 1 (parts_at t i))) (function_of t (function_in (named_type t (entity_of t i)))) parameters rest is_main
         (calls t i (codes "printf")) (calls t i (codes "putchar")) (calls t i (codes "exit")) (calls t i (codes "abort")) called
 
+  -- what declares a function is told as a value
+  told_value : IsShaped it.checked.by.tree → (token declaration q : ℕ) (m : Node) → IsDeclarer t.nodes token declaration q m → DeclaresFunction typing q
+      → is_value (scripts.role_by (scripts.storage_of t.nodes m.parts) (declarator_of t.nodes q).next) ≡ true
+  told_value shaped token declaration q m d function =
+      let o = owned file t it shaped token declaration q m d in
+      value_is (scripts.storage_of t.nodes m.parts) (declarator_of t.nodes q).next (function_plain file t it shaped declaration m d.at d.external q o.node o.at o.names o.declaration function)
+
   module _ (shaped : IsShaped it.checked.by.tree) (sighted : AreSighted it.checked.by.tree) (token k declaration q : ℕ) (m : Node) (d : IsDeclarer t.nodes token declaration q m)
       (mine : bound.declared_entity it.names token ≡ Some k) (function : DeclaresFunction typing q) where
     -- ---- what declares the entity of a function
 
     abbrev own_value : DeclaresValue t.nodes token
-    own_value =
-        let o = owned file t it shaped token declaration q m d in
-        record {
-          declaration = declaration;
-          declarator = q;
-          node = m;
-          is = d;
-          value = value_is (scripts.storage_of t.nodes m.parts) (declarator_of t.nodes q).next (function_plain file t it shaped declaration m d.at d.external q o.node o.at o.names o.declaration function);
-        }
+    own_value = record { declaration = declaration; declarator = q; node = m; is = d; value = told_value shaped token declaration q m d function }
 
     record IsFunction (other : ℕ) : Type 0 where
       value : DeclaresValue t.nodes other
@@ -407,8 +406,7 @@ module _ (file : List ℕ) (t : Typed) (it : IsUnitOfFile file t) where
 pub define : Laws.CallsMeanDefinitions
 define file t it shaped sighted i n at call told_few signature stands parameters rest is_main called =
     let s : SeesFunction file t it i n.first = seen file t it shaped i n at call signature stands in
-    let both = stand (spelled_name file it.unit.tokens.list.items) (unit_events it.unit) (length it.unit.tokens.list.items) it.names n.first s.token it.known (sorted file t it)
-    (few file t it shaped i n at call signature stands) (within file t it shaped s.token s.declaration s.declarator s.node s.declares s.function) (use_told file t it shaped i n at call signature stands).used
-    (few_times n.first (unit_events it.unit) told_few) s.found (always file t it shaped s.token s.declaration s.declarator s.node s.declares s.function) in
+    let both = stand file t it s.token s.declaration s.declarator s.node s.declares (told_value file t it shaped s.token s.declaration s.declarator s.node s.declares s.function)
+    i n at (ap is_using call) told_few s.found in
     called_there file t it shaped sighted s.token both.0 s.declaration s.declarator s.node s.declares both.1.1 s.function i n at call both.1.0
     (spelled_own file t it i n at parameters rest is_main called) s.sees

@@ -7,7 +7,6 @@ pub mod Designated
 pub mod Elements
 pub mod Declarers
 pub mod Entities
-pub mod Told
 pub mod Defined
 pub mod Grammar
 pub mod Tables

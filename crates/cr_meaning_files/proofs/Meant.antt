@@ -81,7 +81,7 @@ times_are token (Closes ∷ past) = let h = times_are token past in omega (arith
 times_are token (Member t k ∷ past) = let h = times_are token past in omega (arith, h)
 times_are token (Node i ∷ past) = let h = times_are token past in omega (arith, h)
 
-pub few_times : (token : ℕ) (events : List Event) → count_of token events ≤ 1 → times token (past_of events (length events)) ≤ 1
+few_times : (token : ℕ) (events : List Event) → count_of token events ≤ 1 → times token (past_of events (length events)) ≤ 1
 few_times token events few = let same = times_are token (past_of events (length events)) in let less = counted events token few in omega (arith, same, less)
 
 -- what is declared before a use is told
@@ -160,8 +160,15 @@ module _ (file : List ℕ) (t : Typed) (it : IsUnitOfFile file t) where
       let count : length t.tokens ≡ tokens = ap length made_by.elaborated.tokens_are in
       omega (arith, low, high, count)
 
+  -- what the column says is visible at a node's token is so by the events
+  column : (i : ℕ) (n : SyntaxNode) → slice_get t.nodes i ≡ Some n → slice_index_or it.checked.checked.surroundings.bindings.visible n.first None ≡ visible name past n.first
+  column i n at = made_by.is.surroundings.bindings.visible.each n.first (within i n at) ∙ ap (λ f. visible f past n.first) spelled
+    where
+      spelled : name_in it.checked.checked.surroundings.bindings.spellings ≡ name
+      spelled = λ j y. made_by.is.surroundings.bindings.spellings.each y j
+
   -- each token is told as one sort alone, and a value's isn't used
-  pub sorted : AreSorted events tokens
+  sorted : AreSorted events tokens
   sorted = record {
     sort = one_sort file t it;
     within = λ token told_so. elim (values file t it token) [ inl never ↦ absurd (told_so never) | inr v ↦ v.0 ];
@@ -235,7 +242,7 @@ module _ (file : List ℕ) (t : Typed) (it : IsUnitOfFile file t) where
     -- ---- at a use
 
     module _ (i : ℕ) (n : SyntaxNode) (at : slice_get t.nodes i ≡ Some n) (is : is_using n.kind ≡ true) (few : count_of n.first events ≤ 1)
-        (seen : slice_index_or it.checked.checked.surroundings.bindings.visible n.first None ≡ Some token) where
+        (sees : visible name past n.first ≡ Some token) where
       there : slice_get it.unit.nodes i ≡ Some n
       there = ap (λ ns. slice_get ns i) nodes_are ∙ at
 
@@ -248,22 +255,13 @@ module _ (file : List ℕ) (t : Typed) (it : IsUnitOfFile file t) where
       finds : Finds name n.first past
       finds = all_find name events n.first it.known.right use_told.used
 
-      spelled : name_in it.checked.checked.surroundings.bindings.spellings ≡ name
-      spelled = λ j y. made_by.is.surroundings.bindings.spellings.each y j
-
       found : finds.declared ≡ token
-      found =
-          let column : slice_index_or it.checked.checked.surroundings.bindings.visible n.first None ≡ Some finds.declared =
-          made_by.is.surroundings.bindings.visible.each n.first low ∙ ap (λ f. visible f past n.first) spelled ∙ finds.is in
-          walks.some_same finds.declared token (sym column ∙ seen)
-
-      sees : visible name past n.first ≡ Some token
-      sees = finds.is ∙ ap Some found
+      found = walks.some_same finds.declared token (sym finds.is ∙ sees)
 
       named : is_named token past ≡ true
       named = declared_named token past (subst (λ y. is_declared y past ≡ true) found (before_declared finds.declared n.first past finds.before))
 
-      stands : (k : ℕ) × ((entity_at it.names n.first ≡ Some k) × (declared_entity it.names token ≡ Some k))
+      pub stands : (k : ℕ) × ((entity_at it.names n.first ≡ Some k) × (declared_entity it.names token ≡ Some k))
       stands = elim steady_or_linked [
         | inl steady ↦
             (let own = has_entity name events tokens it.names token it.known (values file t it) less named alike in
@@ -273,4 +271,4 @@ module _ (file : List ℕ) (t : Typed) (it : IsUnitOfFile file t) where
       ]
 
 pub mean : Laws.NamesStandForDeclarations
-mean file t it i n at is few token d q m declared value seen = stands file t it token d q m declared value i n at is few seen
+mean file t it i n at is few token d q m declared value seen = stands file t it token d q m declared value i n at is few (sym (column file t it i n at) ∙ seen)

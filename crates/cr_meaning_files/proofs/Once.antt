@@ -23,6 +23,8 @@ use Rattle.cr_meaning_units.specs.Owned.{AreOfUnit}
 use Rattle.cr_meaning_names.proofs.Leaves as leaves
 use Rattle.cr_meaning_names.proofs.Leaves.{no_tag, no_use}
 use Rattle.cr_meaning_names.proofs.Parents.{IsPartOf, part_below, one_parent, no_item, whole_is}
+use Rattle.cr_meaning_constant.proofs.Once.{forth, risen}
+use Rattle.cr_meaning_kept.proofs.Defined.{used_same}
 use Rattle.cr_meaning_declared.specs.Files.{IsUnitOfFile}
 use Rattle.cr_meaning_declared.proofs.Nodes.{of_unit}
 use Rattle.cr_meaning_linked.proofs.Owned.{HasOwn, own_there, part_of, in_init, alone as in_no_other, one_declaration}
@@ -31,12 +33,6 @@ use Rattle.cr_meaning_mains.proofs.Defined.{no_parameter, no_enumerator}
 use Rattle.cr_meaning_files.specs.Celled as Laws
 
 -- ---- kinds
-
-pub used_same : (k : Kind) → is_using k ≡ true → leaves.is_use k ≡ true
-used_same kind.Identifier h = refl
-used_same kind.Call h = refl
-used_same kind.TypedefName h = refl
-used_same k h = absurd (false≢true h)
 
 tagged_same : (k : Kind) → is_tagging k ≡ true → leaves.is_tagged k ≡ true
 tagged_same kind.StructTag h = refl
@@ -61,16 +57,6 @@ dropped (suc n) (x ∷ ps) k p e = let rest = dropped n ps k p e in (suc rest.0,
 behind : (ps : List ℕ) (k p : ℕ) → slice_get (drop 1 ps) k ≡ Some p → slice_get ps (suc k) ≡ Some p
 behind [] k p e = absurd cc
 behind (x ∷ ps) k p e = e
-
--- numbers rise along a list
-forth : {ns : List Node} {from end : ℕ} {ps : List ℕ} → AreListed ns from ps end → from ≤ end
-forth no_node = omega arith
-forth (one_more at below rest) = let x = forth below in let y = forth rest in omega (arith, x, y)
-
-risen : {ns : List Node} {from end : ℕ} {ps : List ℕ} → AreListed ns from ps end → (k q : ℕ) → slice_get ps k ≡ Some q → from ≤ q
-risen no_node k q e = absurd cc
-risen (one_more {p = p} at below rest) zero q e = let same : p ≡ q = cc in let x = forth below in omega (arith, x, same)
-risen (one_more {p = p} at below rest) (suc k) q e = let x = forth below in let y = risen rest k q e in omega (arith, x, y)
 
 -- the list behind the first
 record IsRest (ns : List Node) (ps : List ℕ) (end : ℕ) : Type 0 where

@@ -18,7 +18,8 @@ use Rattle.cr_meaning_operations.specs.Operations.{kind_at, part_at, name_of, en
 use Rattle.cr_meaning_typed.specs.Placed.{IsNamed}
 use Rattle.cr_meaning_typed.specs.Typing.{has_value, is_expression}
 use Rattle.cr_meaning_declared.specs.Files.{IsUnitOfFile}
-use Rattle.cr_meaning_composed.specs.Laws.{IsObject, named_at}
+use Rattle.cr_meaning_parameters.specs.Laws.{named_at}
+use Rattle.cr_meaning_composed.specs.Laws.{IsObject}
 use Rattle.cr_meaning_sorts.specs.Founded.{AreLaidOut, AreReached}
 use Rattle.cr_meaning_sorts.specs.Table.{exits_at}
 use Rattle.cr_meaning_soundness.specs.Sorts.{IsAmong}

@@ -111,7 +111,7 @@ plain_role NoWord Other = refl
 
 -- ---- kinds
 
-used_same : (k : Kind) → is_using k ≡ true → leaves.is_use k ≡ true
+pub used_same : (k : Kind) → is_using k ≡ true → leaves.is_use k ≡ true
 used_same kind.Identifier h = refl
 used_same kind.Call h = refl
 used_same kind.TypedefName h = refl

@@ -32,7 +32,7 @@ ParametersHaveTheirTypes = (file : List ℕ) (t : Typed) (it : IsUnitOfFile file
 
 -- ---- one parameter
 
--- the type that a node names, by the columns of a check
+-- the type that a node names, by the columns of a check; of an initialised declarator the type that its initialiser completes (6.7.9p22)
 abbrev pub named_at : (file : List ℕ) (t : Typed) → IsUnitOfFile file t → ℕ → Qualified
 named_at file t it p = type_at it.checked.checked.table (slice_index_or it.checked.checked.whole.typing.named p 0)
 

@@ -40,7 +40,7 @@ module _ (file : List ℕ) (t : Typed) (it : IsAssembledFile file t) where
   abbrev nodes_are : t.nodes ≡ it.unit.nodes
   nodes_are = it.checked.by.elaborated.nodes_are
 
-  order : AreListed t.nodes 0 t.items (length t.nodes)
+  pub order : AreListed t.nodes 0 t.items (length t.nodes)
   order = subst (λ is. AreListed t.nodes 0 is (length t.nodes)) (sym it.checked.by.elaborated.items_are) (subst (λ ns. AreListed ns 0 it.unit.items (length ns)) (sym nodes_are) it.listed)
 
   pub moved : (i : ℕ) (m : Node) → slice_get it.unit.nodes i ≡ Some m → slice_get t.nodes i ≡ Some m
@@ -49,7 +49,7 @@ module _ (file : List ℕ) (t : Typed) (it : IsAssembledFile file t) where
   few : length t.tokens ≡ length it.unit.tokens.list.items
   few = ap length it.checked.by.elaborated.tokens_are
 
-  parent : (p a k : ℕ) (m : Node) → slice_get it.unit.nodes a ≡ Some m → slice_get m.parts k ≡ Some p → slice_index_or it.checked.checked.surroundings.above p None ≡ Some a
+  pub parent : (p a k : ℕ) (m : Node) → slice_get it.unit.nodes a ≡ Some m → slice_get m.parts k ≡ Some p → slice_index_or it.checked.checked.surroundings.above p None ≡ Some a
   parent p a k m at e =
       it.checked.by.is.surroundings.above.each p low
       ∙ ap (λ ns. above_of ns (length ns) p) (sym nodes_are)
@@ -61,10 +61,10 @@ module _ (file : List ℕ) (t : Typed) (it : IsAssembledFile file t) where
           let there = slice_get_within it.unit.nodes a m at in
           omega (arith, below, there)
 
-  within : (i : ℕ) (n : Node) → slice_get it.unit.nodes i ≡ Some n → n.first < length it.unit.tokens.list.items
+  pub within : (i : ℕ) (n : Node) → slice_get it.unit.nodes i ≡ Some n → n.first < length it.unit.tokens.list.items
   within i n at = let w = unit.within i n (moved i n at) in let low = w.0 in let high = w.1 in omega (arith, low, high, few)
 
-  names_within : (p token : ℕ) → name_at it.unit.nodes p ≡ Some token → token < length it.unit.tokens.list.items
+  pub names_within : (p token : ℕ) → name_at it.unit.nodes p ≡ Some token → token < length it.unit.tokens.list.items
   names_within p token e = let low = named_within t unit order p token (ap (λ ns. name_at ns p) nodes_are ∙ e) in omega (arith, low, few)
 
   plain : (p a : ℕ) (m : Node) → IsEnumerator it.unit.nodes p → slice_get it.unit.nodes a ≡ Some m → m.kind ≡ kind.InitDeclarator → slice_get m.parts 0 ≡ Some p → ⊥

@@ -27,7 +27,8 @@ use Rattle.cr_meaning_units.specs.Owned.{AreOfUnit}
 use Rattle.cr_meaning_names.proofs.Parents.{part_below, above_is}
 use Rattle.cr_meaning_declared.specs.Files.{IsAssembledFile}
 use Rattle.cr_meaning_declared.proofs.Nodes.{unit_of}
-use Rattle.cr_meaning_told.proofs.Orderly.{apart, named_within}
+use Rattle.cr_meaning_told.proofs.Found.{order, moved, parent, within, names_within}
+use Rattle.cr_meaning_told.proofs.Orderly.{apart}
 use Rattle.cr_meaning_typedefs.specs.Laws
 use Rattle.cr_meaning_typedefs.proofs.Spelled.{spelled}
 use Rattle.cr_meaning_typedefs.proofs.Parameters.{refused}
@@ -94,38 +95,8 @@ module _ (file : List ℕ) (t : Typed) (it : IsAssembledFile file t) where
   unit : AreOfUnit t
   unit = unit_of file t it
 
-  abbrev nodes_are : t.nodes ≡ it.unit.nodes
-  nodes_are = it.checked.by.elaborated.nodes_are
-
-  order : AreListed t.nodes 0 t.items (length t.nodes)
-  order = subst (λ is. AreListed t.nodes 0 is (length t.nodes)) (sym it.checked.by.elaborated.items_are) (subst (λ ns. AreListed ns 0 it.unit.items (length ns)) (sym nodes_are) it.listed)
-
-  moved : (i : ℕ) (m : Node) → slice_get it.unit.nodes i ≡ Some m → slice_get t.nodes i ≡ Some m
-  moved i m at = ap (λ ns. slice_get ns i) nodes_are ∙ at
-
-  few : length t.tokens ≡ length it.unit.tokens.list.items
-  few = ap length it.checked.by.elaborated.tokens_are
-
-  parent : (p a k : ℕ) (m : Node) → slice_get it.unit.nodes a ≡ Some m → slice_get m.parts k ≡ Some p → slice_index_or it.checked.checked.surroundings.above p None ≡ Some a
-  parent p a k m at e =
-      it.checked.by.is.surroundings.above.each p low
-      ∙ ap (λ ns. above_of ns (length ns) p) (sym nodes_are)
-      ∙ above_is t unit p a (record { parent = m; at = moved a m at; place = k; is = e })
-    where
-      low : p < length it.unit.nodes
-      low =
-          let below = part_below t unit p a (record { parent = m; at = moved a m at; place = k; is = e }) in
-          let there = slice_get_within it.unit.nodes a m at in
-          omega (arith, below, there)
-
-  firsts_within : (i : ℕ) (n : Node) → slice_get it.unit.nodes i ≡ Some n → n.first < length it.unit.tokens.list.items
-  firsts_within i n at = let w = it.unit.within i n at in let low = w.0 in let high = w.1 in omega (arith, low, high)
-
-  names_within : (p token : ℕ) → name_at it.unit.nodes p ≡ Some token → token < length it.unit.tokens.list.items
-  names_within p token e = let low = named_within t unit order p token (ap (λ ns. name_at ns p) nodes_are ∙ e) in omega (arith, low, few)
-
   their : told.AreApart it.unit.nodes
-  their = subst told.AreApart nodes_are (apart t unit order)
+  their = subst told.AreApart it.checked.by.elaborated.nodes_are (apart t unit (order file t it))
 
   -- ---- no parameter says `typedef` (K2)
 
@@ -147,8 +118,8 @@ module _ (file : List ℕ) (t : Typed) (it : IsAssembledFile file t) where
   lawful : ParametersAreNone it.unit.nodes
   lawful i n at is says =
       refused u it.checked.checked.texts it.checked.checked.table it.checked.checked.whole.typing it.checked.by.is.whole.typing (λ b broken. it.checked.by.sound.constraints b (inl broken)) around
-      (λ p a k m at e. ap (λ xs. slice_index_or xs p None) tree.above ∙ parent p a k m (kept a m at) e)
-      (λ p a k m at e. part_below t unit p a (record { parent = m; at = moved a m (kept a m at); place = k; is = e }))
+      (λ p a k m at e. ap (λ xs. slice_index_or xs p None) tree.above ∙ parent file t it p a k m (kept a m at) e)
+      (λ p a k m at e. part_below t unit p a (record { parent = m; at = moved file t it a m (kept a m at); place = k; is = e }))
       i n (ap (λ ns. slice_get ns i) tree.nodes ∙ at) is (ap (λ ns. storage_of ns n.parts) tree.nodes ∙ says)
 
   sees : (j : ℕ) (m : Node) → slice_get it.unit.nodes j ≡ Some m → m.kind ≡ kind.TypedefName → (token : ℕ)
@@ -159,10 +130,10 @@ module _ (file : List ℕ) (t : Typed) (it : IsAssembledFile file t) where
 
 pub are_seen : Laws.TypedefsAreSeen
 are_seen file t it i p d n at is vis has =
-    seen file it.unit it.names it.checked.checked.surroundings it.checked.by.tree it.checked.by.is.surroundings it.checked.by.is.whole.tree (their file t it) (parent file t it) (firsts_within file t it)
+    seen file it.unit it.names it.checked.checked.surroundings it.checked.by.tree it.checked.by.is.surroundings it.checked.by.is.whole.tree (their file t it) (parent file t it) (within file t it)
     (names_within file t it) (sees file t it) i p d n (kept file t it i n at) is vis has
 
 pub no_enumerators : Laws.TypedefsAreNoEnumerators
 no_enumerators file t it i p n at is vis k =
-    other file it.unit it.names it.checked.checked.surroundings it.checked.by.tree it.checked.by.is.surroundings it.checked.by.is.whole.tree (their file t it) (parent file t it) (firsts_within file t it)
+    other file it.unit it.names it.checked.checked.surroundings it.checked.by.tree it.checked.by.is.surroundings it.checked.by.is.whole.tree (their file t it) (parent file t it) (within file t it)
     (names_within file t it) (sees file t it) i p n (kept file t it i n at) is vis k
