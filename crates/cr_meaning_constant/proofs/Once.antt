@@ -35,7 +35,7 @@ use Rattle.cr_meaning_constant.specs.Laws
 
 -- ---- numbers that rise along a list
 
-pub forth : {ns : List Node} {from end : ℕ} {ps : List ℕ} → AreListed ns from ps end → from ≤ end
+forth : {ns : List Node} {from end : ℕ} {ps : List ℕ} → AreListed ns from ps end → from ≤ end
 forth no_node = omega arith
 forth (one_more at below rest) = let x = forth below in let y = forth rest in omega (arith, x, y)
 

@@ -15,7 +15,7 @@ use Rattle.cr_scopes.specs.Units.{unit_events}
 use Rattle.cr_scopes_once.specs.Told.{count_of, weight_of, named_by, is_declaring, AreBounds}
 use Rattle.cr_scopes_once.proofs.Counting.{told_within}
 use Rattle.cr_scopes_shared.specs.Origins.{is_external, IsDeclaring, IsDeclarer}
-use Rattle.cr_scopes_sight.specs.Scopes.{is_using, is_tagging}
+use Rattle.cr_scopes_sight.specs.Scopes.{is_tagging}
 use Rattle.cr_scopes_tellings.specs.Tellings as tellings
 use Rattle.cr_typed.specs.declared.typed.Typed.{Typed}
 use Rattle.cr_typed_unit.specs.Typed.{IsTypedBy}
@@ -23,7 +23,7 @@ use Rattle.cr_meaning_units.specs.Owned.{AreOfUnit}
 use Rattle.cr_meaning_names.proofs.Leaves as leaves
 use Rattle.cr_meaning_names.proofs.Leaves.{no_tag, no_use}
 use Rattle.cr_meaning_names.proofs.Parents.{IsPartOf, part_below, one_parent, no_item, whole_is}
-use Rattle.cr_meaning_constant.proofs.Once.{forth, risen}
+use Rattle.cr_meaning_constant.proofs.Once.{risen}
 use Rattle.cr_meaning_kept.proofs.Defined.{used_same}
 use Rattle.cr_meaning_declared.specs.Files.{IsUnitOfFile}
 use Rattle.cr_meaning_declared.proofs.Nodes.{of_unit}

@@ -1,11 +1,9 @@
 -- Typedef names of a file's typed unit.
-use Rattle.std.proofs.Common.{◌≡◌, ℕ, suc, ◌+◌, ◌<◌, ◌==◌, ◌&&◌, ◌||◌, inl, Bool, true, false, List, [], ◌∷◌, Some, None, length, slice_get, slice_index_or, refl, sym, ap, subst, ◌∙◌, arith}
+use Rattle.std.proofs.Common.{◌≡◌, ℕ, suc, ◌+◌, ◌==◌, ◌&&◌, ◌||◌, inl, Bool, true, false, List, [], ◌∷◌, Some, None, length, slice_get, slice_index_or, refl, sym, ap, subst, ◌∙◌}
 use Rattle.std.proofs.lemmas.Bool.{false≢true, and_parts, eqb-true}
-use Rattle.std.proofs.lemmas.Option.{slice_get_within}
 use Rattle.cr_syntax.specs.declared.node.Kind.{Kind}
 use Rattle.cr_syntax.specs.declared.node.Kind.TheVariants as kind
 use Rattle.cr_syntax.specs.declared.node.Node.{Node}
-use Rattle.cr_syntax_order.specs.Listed.{AreListed}
 use Rattle.cr_scopes_events.specs.Declarators.{declarator_of}
 use Rattle.cr_scopes_events.specs.Scripts.{storage_of}
 use Rattle.cr_scopes.specs.Resolved.{past_of}
@@ -18,13 +16,12 @@ use Rattle.cr_scopes_told.specs.Told as told
 use Rattle.cr_scopes_parsed.specs.Apart.{is_expression, is_tagged, AreApart, ParametersAreNone}
 use Rattle.cr_scopes_typedefs.specs.Sees.{is_typedef_name, is_of_typedef, IsTypedef}
 use Rattle.cr_scopes_typedefs.proofs.Seeing.{all_see}
-use Rattle.cr_check_enclosing.specs.Above.{above_of}
 use Rattle.cr_check_enclosing.specs.Around.{AreAround}
 use Rattle.cr_check_declarations.specs.declared.tree.Tree.{Tree}
 use Rattle.cr_check_surroundings.specs.Surroundings.{IsTree}
 use Rattle.cr_typed.specs.declared.typed.Typed.{Typed}
 use Rattle.cr_meaning_units.specs.Owned.{AreOfUnit}
-use Rattle.cr_meaning_names.proofs.Parents.{part_below, above_is}
+use Rattle.cr_meaning_names.proofs.Parents.{part_below}
 use Rattle.cr_meaning_declared.specs.Files.{IsAssembledFile}
 use Rattle.cr_meaning_declared.proofs.Nodes.{unit_of}
 use Rattle.cr_meaning_told.proofs.Found.{order, moved, parent, within, names_within}
