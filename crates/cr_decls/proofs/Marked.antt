@@ -11,10 +11,10 @@ use Rattle.cr_syntax_machine.specs.Machine as m
 use Rattle.cr_syntax_machine.specs.Machine.{Goal, Prog, Test, Manner, Reply, call, give, take, type_identifier, has_word, passes, run_here, run_look, run_set, run_take, run_deep, run_pass, run_free, run_seen, run_unseen, run_yes, run_no, run_call, run_fail}
 use Rattle.cr_syntax_machine.specs.MachineBody as programs
 use Rattle.cr_syntax_machine.specs.MachineBody.{body, may_label, in_compound, is_label, declaration_start, named_statement}
-use Rattle.cr_syntax_machine.proofs.MachineFirst.{differs, yes, sorted}
-use Rattle.cr_syntax_machine.proofs.MachineMarked.{name_starts_none, label_goes, item_label_goes, expression_goes, item_declares}
-use Rattle.cr_exprs.specs.Answers.{RunsTo}
-use Rattle.cr_exprs.proofs.Runs.{handed}
+use Rattle.cr_syntax_machine_laws.proofs.MachineFirst.{differs, yes, sorted}
+use Rattle.cr_syntax_machine_laws.proofs.MachineMarked.{name_starts_none, label_goes, item_label_goes, expression_goes, item_declares}
+use Rattle.cr_exprs_descent.specs.Answers.{RunsTo}
+use Rattle.cr_exprs_descent.proofs.Runs.{handed}
 use Rattle.cr_decls.specs.declared.labels.Labels.{Labels}
 use Rattle.cr_decls.specs.declared.labels.Labels.TheVariants.{OwnBlock, InBlock, Nowhere}
 use Rattle.cr_decls.specs.Programs.{labels_of, is_marked, label_rest, expression_statement, unlabelled, labelled}

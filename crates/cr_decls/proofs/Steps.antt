@@ -10,12 +10,12 @@ use Rattle.cr_syntax.specs.Trees.{Trees, none, ◌&◌}
 use Rattle.cr_syntax_machine.specs.Machine as m
 use Rattle.cr_syntax_machine.specs.Machine.{Goal, Prog, Test, Manner, Reply, call, give, take, run_look, run_set, run_take, run_deep, run_pass, run_seen, run_unseen, run_call, run_fail}
 use Rattle.cr_syntax_machine.specs.MachineBody.{body, may_label, unlabelled, declared_on, for_body}
-use Rattle.cr_exprs.specs.declared.fault.ParseFault.{ParseFault}
-use Rattle.cr_exprs.specs.declared.found.Found.{Found}
-use Rattle.cr_exprs.specs.Loose.{AreKept}
-use Rattle.cr_exprs.specs.Answers.{RunsTo, Comes, Gives, Goes, Keeps, IsPlaced, IsGrown, tree}
-use Rattle.cr_exprs.proofs.Nodes.{row_kept}
-use Rattle.cr_exprs.proofs.Runs.{fails}
+use Rattle.cr_exprs_descent.specs.declared.fault.ParseFault.{ParseFault}
+use Rattle.cr_exprs_descent.specs.declared.found.Found.{Found}
+use Rattle.cr_exprs_descent.specs.Loose.{AreKept}
+use Rattle.cr_exprs_descent.specs.Answers.{RunsTo, Comes, Gives, Goes, Keeps, IsPlaced, IsGrown, tree}
+use Rattle.cr_exprs_descent.proofs.Nodes.{row_kept}
+use Rattle.cr_exprs_descent.proofs.Runs.{fails}
 use Rattle.cr_syntax_machine.proofs.MachineSpells.{and_none, and_and}
 use Rattle.cr_decls.specs.declared.labels.Labels.{Labels}
 use Rattle.cr_decls.specs.declared.labels.Labels.TheVariants.{OwnBlock, Nowhere}

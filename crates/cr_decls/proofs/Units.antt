@@ -10,15 +10,15 @@ use Rattle.cr_syntax.specs.Units as u
 use Rattle.cr_syntax.specs.Units.{file_scope}
 use Rattle.cr_syntax_machine.specs.Machine.{Prog, Reply, Done, Failed, nowhere, unit}
 use Rattle.cr_syntax_machine.specs.MachineBody.{body}
-use Rattle.cr_syntax_machine.proofs.MachineUnit.{is_parsed, only_refusal}
-use Rattle.cr_syntax_machine.proofs.MachineUnits.{unit_is_unit}
-use Rattle.cr_syntax_machine.proofs.MachineUnitComplete.{one_unit}
+use Rattle.cr_syntax_machine_laws.proofs.MachineUnit.{is_parsed, only_refusal}
+use Rattle.cr_syntax_machine_laws.proofs.MachineUnits.{unit_is_unit}
+use Rattle.cr_syntax_machine_laws.proofs.MachineUnitComplete.{one_unit}
 use Rattle.cr_syntax_order.specs.Listed.{AreListed}
-use Rattle.cr_exprs.specs.declared.fault.ParseFault.{ParseFault}
-use Rattle.cr_exprs.specs.declared.fault.ParseFault.TheVariants.{NoMemory, Unexpected, Ended, TooDeep, OutsideSubset}
-use Rattle.cr_exprs.specs.Loose.{AreKept, Replaces}
-use Rattle.cr_exprs.specs.Answers.{RunsTo, FailsSo, Refuses}
-use Rattle.cr_exprs.proofs.Loose.{kept_none, once_turned, nodes_turned}
+use Rattle.cr_exprs_descent.specs.declared.fault.ParseFault.{ParseFault}
+use Rattle.cr_exprs_descent.specs.declared.fault.ParseFault.TheVariants.{NoMemory, Unexpected, Ended, TooDeep, OutsideSubset}
+use Rattle.cr_exprs_descent.specs.Loose.{AreKept, Replaces}
+use Rattle.cr_exprs_descent.specs.Answers.{RunsTo, FailsSo, Refuses}
+use Rattle.cr_exprs_descent.proofs.Loose.{kept_none, once_turned, nodes_turned}
 use Rattle.cr_decls.specs.Unit.{IsOnlyTree, IsRefused, IsOnlyRefusal}
 
 -- what is read is the only tree

@@ -8,8 +8,8 @@ use Rattle.cr_syntax.specs.Units.{own_parameters}
 use Rattle.cr_syntax_machine.specs.Machine as m
 use Rattle.cr_syntax_machine.specs.Machine.{run_no, run_refuse}
 use Rattle.cr_syntax_machine.specs.MachineBody.{may_define, defined, ends_variadic, last_token}
-use Rattle.cr_exprs.specs.declared.fault.ParseFault.TheVariants.{OutsideSubset}
-use Rattle.cr_exprs.specs.Answers.{Refuses}
+use Rattle.cr_exprs_descent.specs.declared.fault.ParseFault.TheVariants.{OutsideSubset}
+use Rattle.cr_exprs_descent.specs.Answers.{Refuses}
 use Rattle.cr_decls.specs.Ellipsis.{ellipsis_of}
 
 variadic_at : (p : Trees) (n : ℕ) → Some n ≡ ellipsis_of p → (ends_variadic p ≡ true) × (last_token p ≡ n)

@@ -10,7 +10,7 @@ use Rattle.cr_syntax_machine.specs.Machine as m
 use Rattle.cr_syntax_machine.specs.Machine.{Prog, plain, opens, reopens, the, type_identifier, give, stop, refuse, take, peek, when, call, expect, made, begins, expression, conditional, declaration, statement, compound, if_rest, switch_rest, while_rest, do_rest, for_rest, return_rest, clause}
 use Rattle.cr_syntax_machine.specs.MachineBody as programs
 use Rattle.cr_syntax_machine.specs.MachineBody.{declaration_start, may_mark, expression_rest}
-use Rattle.cr_exprs.specs.Answers.{tree}
+use Rattle.cr_exprs_descent.specs.Answers.{tree}
 use Rattle.cr_decls.specs.declared.labels.Labels.{Labels}
 use Rattle.cr_decls.specs.declared.labels.Labels.TheVariants.{OwnBlock, InBlock, Nowhere}
 

@@ -5,9 +5,9 @@ use Rattle.cr_syntax.specs.Trees.{Trees}
 use Rattle.cr_syntax.specs.Spells.{AtMost}
 use Rattle.cr_syntax.specs.Units.{IsUnit, most_levels, Refusal, FirstRefusal}
 use Rattle.cr_syntax.specs.Units as refusal
-use Rattle.cr_exprs.specs.Answers.{refusal_in}
-use Rattle.cr_exprs.specs.declared.fault.ParseFault.{ParseFault}
-use Rattle.cr_exprs.specs.declared.fault.ParseFault.TheVariants.{NoMemory, Unexpected, Ended, TooDeep, OutsideSubset}
+use Rattle.cr_exprs_descent.specs.Answers.{refusal_in}
+use Rattle.cr_exprs_descent.specs.declared.fault.ParseFault.{ParseFault}
+use Rattle.cr_exprs_descent.specs.declared.fault.ParseFault.TheVariants.{NoMemory, Unexpected, Ended, TooDeep, OutsideSubset}
 
 -- no other trees are a unit that these tokens spell
 abbrev pub IsOnlyTree : List Lexeme → Trees → Type 0

@@ -5,12 +5,12 @@ ghost use Rattle.cr_syntax.specs.Trees.{Trees};
 ghost use Rattle.cr_syntax.specs.Kept.{PartsAreBelow, row_in};
 ghost use Rattle.cr_syntax_machine.specs.Machine.{Prog, clause};
 ghost use Rattle.cr_syntax_machine.specs.MachineBody.{body};
-ghost use Rattle.cr_exprs.specs.Source.{IsReadable, text_of};
-ghost use Rattle.cr_exprs.specs.Answers.{Answers, Comes, Goes, IsPlaced, IsOptional, tree};
+ghost use Rattle.cr_exprs_descent.specs.Source.{IsReadable, text_of};
+ghost use Rattle.cr_exprs_descent.specs.Answers.{Answers, Comes, Goes, IsPlaced, IsOptional, tree};
 ghost use Rattle.cr_decls.specs.Programs.{controlling, repeated, first_clause, last_clause, with_step};
 
 use crate::declarations::declaration;
-use cr_exprs::{
+use cr_exprs_descent::{
     Found, Goal, Optional, ParseFault, Source, expect, read, room, stands, starts_specifier,
 };
 use cr_rows::Row;

@@ -6,11 +6,11 @@ ghost use Rattle.cr_syntax.specs.Kept.{PartsAreBelow};
 ghost use Rattle.cr_syntax.specs.Context.{fresh, past_part};
 ghost use Rattle.cr_syntax_machine.specs.Machine.{initializer, initializers, initialized, declaration};
 ghost use Rattle.cr_syntax_machine.specs.MachineBody.{body, declared_on};
-ghost use Rattle.cr_exprs.specs.Source.{IsReadable, text_of};
-ghost use Rattle.cr_exprs.specs.Answers.{Reads, IsPlaced, IsGrown, tree};
+ghost use Rattle.cr_exprs_descent.specs.Source.{IsReadable, text_of};
+ghost use Rattle.cr_exprs_descent.specs.Answers.{Reads, IsPlaced, IsGrown, tree};
 
 use crate::start::bar_designator;
-use cr_exprs::{
+use cr_exprs_descent::{
     Found, Goal, ParseFault, Source, declare, expect, named_declarator, over, pair, past, push,
     read, room, row_of, specifier_row, stands,
 };

@@ -4,7 +4,7 @@ ghost use Rattle.std.specs.Prelude.{◌≡◌, ◌<◌, ◌≤◌, length, if◌
 ghost use Rattle.cr_syntax.specs.Kept.{PartsAreBelow, AreBelow, row_in};
 ghost use Rattle.cr_syntax.specs.Context.{is_bare};
 ghost use Rattle.cr_syntax.specs.Units.{own_parameters, after_first};
-ghost use Rattle.cr_exprs.specs.Answers.{tree};
+ghost use Rattle.cr_exprs_descent.specs.Answers.{tree};
 ghost use Rattle.cr_decls.specs.Ellipsis.{built_of, ellipsis_of, ellipsis_at};
 
 use cr_rows::Row;

@@ -4,9 +4,9 @@ ghost use Rattle.std.specs.Prelude.{◌≡◌, ◌+◌, ◌<◌, ◌≤◌, ◌�
 ghost use Rattle.cr_syntax.specs.Kept.{PartsAreBelow, row_in};
 ghost use Rattle.cr_syntax_machine.specs.Machine.{nowhere, unit, external};
 ghost use Rattle.cr_syntax_machine.specs.MachineBody.{body, defined};
-ghost use Rattle.cr_exprs.specs.Source.{IsReadable, text_of};
-ghost use Rattle.cr_exprs.specs.Loose.{Replaces};
-ghost use Rattle.cr_exprs.specs.Answers.{Answers, Reads, IsPlaced, tree};
+ghost use Rattle.cr_exprs_descent.specs.Source.{IsReadable, text_of};
+ghost use Rattle.cr_exprs_descent.specs.Loose.{Replaces};
+ghost use Rattle.cr_exprs_descent.specs.Answers.{Answers, Reads, IsPlaced, tree};
 
 use crate::declarations::declarators;
 use crate::ellipsis::own_ellipsis;
@@ -14,7 +14,7 @@ use crate::labels::Labels;
 use crate::names::define;
 use crate::start::stands_any;
 use crate::statements::compound;
-use cr_exprs::{
+use cr_exprs_descent::{
     Found, ParseFault, Source, drop_scope, named_declarator, over, past, row_of, specifier_row,
     stands, triple,
 };

@@ -6,7 +6,7 @@ ghost use Rattle.cr_syntax_order.specs.Listed.{AreListed};
 ghost use Rattle.cr_decls.specs.Unit.{IsOnlyTree, IsRefused, IsOnlyRefusal};
 
 use crate::externals::unit;
-use cr_exprs::{ParseFault, Source, words_of};
+use cr_exprs_descent::{ParseFault, Source, words_of};
 use cr_rows::Row;
 use cr_syntax::{Unit, begin};
 use cr_tokens::Tokens;

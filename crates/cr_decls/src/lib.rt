@@ -2,7 +2,7 @@
 //!
 //! `parse` reads the one unit that spells the tokens of a file, or names the first refusal, by recursive descent: one
 //! function a goal of the machine in `cr_syntax_machine`, whose definition says what it answers. Expressions, specifiers and
-//! declarators are read by `cr_exprs`. It stands on the parser of expressions, the syntax tree and its grammar, the
+//! declarators are read by `cr_exprs_descent`. It stands on the parser of expressions, the syntax tree and its grammar, the
 //! tokens and the rows.
 #![tactic(auto)]
 

@@ -3,11 +3,11 @@
 ghost use Rattle.std.specs.Prelude.{◌≡◌, ◌<◌, ◌∷◌, OnOk, IfErr, length};
 ghost use Rattle.cr_syntax.specs.Kept.{PartsAreBelow};
 ghost use Rattle.cr_syntax_machine.specs.Machine.{innermost_of};
-ghost use Rattle.cr_exprs.specs.Source.{IsReadable, text_of};
-ghost use Rattle.cr_exprs.specs.Answers.{tree};
-ghost use Rattle.cr_exprs.specs.Parts.{declared};
+ghost use Rattle.cr_exprs_descent.specs.Source.{IsReadable, text_of};
+ghost use Rattle.cr_exprs_descent.specs.Answers.{tree};
+ghost use Rattle.cr_exprs_descent.specs.Parts.{declared};
 
-use cr_exprs::{Found, ParseFault, Source, bring, give_back, past, taken};
+use cr_exprs_descent::{Found, ParseFault, Source, bring, give_back, past, taken};
 use cr_rows::Row;
 use cr_syntax::{Context, Node, OpenScopes};
 use std::alloc::Global;

@@ -6,11 +6,11 @@ ghost use Rattle.cr_syntax.specs.Trees.{none};
 ghost use Rattle.cr_syntax.specs.Kept.{PartsAreBelow};
 ghost use Rattle.cr_syntax_machine.specs.Machine.{plain, expect, made, return_rest};
 ghost use Rattle.cr_syntax_machine.specs.MachineBody.{body};
-ghost use Rattle.cr_exprs.specs.Source.{IsReadable, text_of};
-ghost use Rattle.cr_exprs.specs.Answers.{Reads, IsPlaced, tree};
+ghost use Rattle.cr_exprs_descent.specs.Source.{IsReadable, text_of};
+ghost use Rattle.cr_exprs_descent.specs.Answers.{Reads, IsPlaced, tree};
 ghost use Rattle.cr_decls.specs.Programs.{simple, expression_statement, goto_rest};
 
-use cr_exprs::{
+use cr_exprs_descent::{
     Found, Goal, ParseFault, Source, expect, is_type_identifier, leaf, over, read, refused, stands,
 };
 use cr_rows::Row;

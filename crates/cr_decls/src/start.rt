@@ -5,11 +5,11 @@ ghost use Rattle.cr_syntax_machine.specs.Machine.{has_word, passes, barred};
 ghost use Rattle.cr_syntax.specs.Scopes.{Scopes};
 ghost use Rattle.cr_syntax_machine.specs.MachineBody.{is_designator, is_label, is_any, label_start};
 ghost use Rattle.cr_syntax.specs.Units.{begins_statement};
-ghost use Rattle.cr_exprs.specs.Source.{IsReadable, text_of};
+ghost use Rattle.cr_exprs_descent.specs.Source.{IsReadable, text_of};
 ghost use Rattle.cr_decls.specs.Programs.{is_marked};
-ghost use Rattle.cr_exprs.specs.Answers.{IsRefusal};
+ghost use Rattle.cr_exprs_descent.specs.Answers.{IsRefusal};
 
-use cr_exprs::{ParseFault, Source, barred, here, stands};
+use cr_exprs_descent::{ParseFault, Source, barred, here, stands};
 use cr_syntax::Word;
 
 /// Whether some token stands here.

@@ -6,8 +6,8 @@ ghost use Rattle.cr_syntax.specs.Context.{ends_open};
 ghost use Rattle.cr_syntax.specs.Kept.{PartsAreBelow, AreBelow, row_in};
 ghost use Rattle.cr_syntax_machine.specs.Machine.{own_block, nowhere, around, statement, block, if_rest, switch_rest, while_rest, do_rest, for_rest, for_clauses, compound, items, item};
 ghost use Rattle.cr_syntax_machine.specs.MachineBody.{body};
-ghost use Rattle.cr_exprs.specs.Source.{IsReadable, text_of};
-ghost use Rattle.cr_exprs.specs.Answers.{Reads, IsPlaced, IsPushed, tree};
+ghost use Rattle.cr_exprs_descent.specs.Source.{IsReadable, text_of};
+ghost use Rattle.cr_exprs_descent.specs.Answers.{Reads, IsPlaced, IsPushed, tree};
 ghost use Rattle.cr_decls.specs.Programs.{labels_of, is_marked, label_rest, case_rest, default_rest, labelled, unlabelled};
 
 use crate::clauses::{clause, controlling, first_clause, last_clause, loop_parts, repeated};
@@ -15,7 +15,7 @@ use crate::declarations::declaration;
 use crate::labels::{Labels, may_label, may_mark};
 use crate::simple::simple;
 use crate::start::{bar_body_label, bar_label, bar_statement, stands_label};
-use cr_exprs::{
+use cr_exprs_descent::{
     Found, Goal, Optional, ParseFault, Source, drop_scope, expect, over, pair, push, read, room,
     stands, starts_specifier, triple,
 };

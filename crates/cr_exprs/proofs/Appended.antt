@@ -11,10 +11,10 @@ use Rattle.cr_syntax.specs.Trees.{Trees, none, one, row_of, tree_of, grown, tree
 use Rattle.cr_syntax_order.specs.Listed.{AreListed, no_node, one_more}
 use Rattle.cr_syntax_order.proofs.Listings.{joined, among}
 use Rattle.cr_exprs.specs.Behind.{numbers_behind, node_behind, nodes_behind}
-use Rattle.cr_exprs.specs.Loose.{AreKept}
-use Rattle.cr_exprs.specs.Answers.{Keeps, IsPlaced, tree}
-use Rattle.cr_exprs.proofs.Nodes.{grown_length, get_front, get_past, below_front}
-use Rattle.cr_exprs.proofs.Loose.{names, times, times_append, times_other, times_out, names_below, differs, kept_none, before_same, turned_last}
+use Rattle.cr_exprs_descent.specs.Loose.{AreKept}
+use Rattle.cr_exprs_descent.specs.Answers.{Keeps, IsPlaced, tree}
+use Rattle.cr_exprs_descent.proofs.Nodes.{grown_length, get_front, get_past, below_front}
+use Rattle.cr_exprs_descent.proofs.Loose.{names, times, times_append, times_other, times_out, names_below, differs, kept_none, before_same, turned_last}
 
 -- trees
 

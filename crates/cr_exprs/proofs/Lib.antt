@@ -1,5 +1,2 @@
-pub mod Nodes
-pub mod Runs
-pub mod Grammar
-pub mod Loose
 pub mod Appended
+pub mod Reading

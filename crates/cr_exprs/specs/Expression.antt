@@ -5,10 +5,10 @@ use Rattle.cr_syntax.specs.Scopes.{Scopes}
 use Rattle.cr_syntax.specs.Units.{Refusal}
 use Rattle.cr_syntax.specs.Units as refusal
 use Rattle.cr_syntax.specs.Expressions.{Start, Refused, IsReading}
-use Rattle.cr_exprs.specs.declared.fault.ParseFault.{ParseFault}
-use Rattle.cr_exprs.specs.declared.fault.ParseFault.TheVariants.{NoMemory, Unexpected, Ended, TooDeep, OutsideSubset}
-use Rattle.cr_exprs.specs.declared.goal.Goal.{Goal}
-use Rattle.cr_exprs.specs.Parts.{part_of}
+use Rattle.cr_exprs_descent.specs.declared.fault.ParseFault.{ParseFault}
+use Rattle.cr_exprs_descent.specs.declared.fault.ParseFault.TheVariants.{NoMemory, Unexpected, Ended, TooDeep, OutsideSubset}
+use Rattle.cr_exprs_descent.specs.declared.goal.Goal.{Goal}
+use Rattle.cr_exprs_descent.specs.Parts.{part_of}
 
 -- a goal in these scopes, where so many levels are open, from token i on
 abbrev pub start_of : Goal → Scopes → ℕ → ℕ → Start

@@ -3,10 +3,9 @@
 ghost use Rattle.std.specs.Prelude.{◌≡◌, ◌+◌, ◌++◌, IfOk, OnOk, OnErr, IfErr, length};
 ghost use Rattle.cr_syntax.specs.Kept.{PartsAreBelow};
 ghost use Rattle.cr_exprs.specs.Behind.{numbers_behind, nodes_behind};
-ghost use Rattle.cr_exprs.specs.Answers.{Keeps};
+ghost use Rattle.cr_exprs_descent.specs.Answers.{Keeps};
 
-use crate::arena::drop_to;
-use crate::fault::ParseFault;
+use cr_exprs_descent::{ParseFault, drop_to};
 use cr_rows::Row;
 use cr_syntax::Node;
 use std::alloc::{AllocError, Global};

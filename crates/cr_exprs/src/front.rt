@@ -2,16 +2,13 @@ ghost use Rattle.std.specs.Prelude.{◌≡◌, [], false, ◌<◌, ◌≤◌, �
 ghost use Rattle.cr_syntax.specs.Words.{AreSpans, lexemes_of};
 ghost use Rattle.cr_syntax.specs.Kept.{PartsAreBelow};
 ghost use Rattle.cr_syntax.specs.Expressions.{Read, IsReading};
-ghost use Rattle.cr_exprs.specs.Answers.{IsPlaced, tree};
+ghost use Rattle.cr_exprs_descent.specs.Answers.{IsPlaced, tree};
 ghost use Rattle.cr_exprs.specs.Names.{scopes_of};
 ghost use Rattle.cr_exprs.specs.Expression.{start_of, IsRefused};
 
 use crate::behind::append;
-use crate::fault::ParseFault;
-use crate::goal::Goal;
 use crate::names::TypeNames;
-use crate::reading::whole;
-use crate::source::{Source, words_of};
+use cr_exprs_descent::{Goal, ParseFault, Source, whole, words_of};
 use cr_rows::Row;
 use cr_syntax::Node;
 use cr_tokens::Tokens;

@@ -1,39 +1,15 @@
 //! The parser of expressions of the subset (C11 6.5), with the type names that casts and `sizeof` draw in (6.7.2, 6.7.6,
 //! 6.7.7).
 //!
-//! `expression` reads an expression from some token of a file on, by recursive descent: one function a goal of the
-//! machine in `cr_syntax_machine`, whose definition says what it answers. It appends the nodes that it makes in the order of
-//! `cr_syntax_order`, parts before their node, and knows of the scopes which identifiers are types. It stands on the syntax tree
-//! and the grammar of `cr_syntax`, the tokens and the rows.
+//! `expression` reads an expression from some token of a file on, by the functions of `cr_exprs_descent`, and what it answers is said in terms of the
+//! grammar alone, by the laws of `cr_syntax_machine_laws`. It appends the nodes that it makes in the order of `cr_syntax_order`, parts before their
+//! node, and knows of the scopes which identifiers are types. The parser of units calls the descent itself.
 #![tactic(auto)]
 
-mod arena;
 mod behind;
-mod calls;
-mod declarators;
-mod expressions;
-mod fault;
-mod found;
 mod front;
-mod goal;
 mod names;
-mod operands;
-mod reading;
-mod scopes;
-mod source;
-mod specifiers;
-mod tables;
 
-pub use arena::{leaf, over, pair, past, push, row_of, triple};
-pub use calls::{named_declarator, specifier_row};
-pub use fault::ParseFault;
-pub use found::{Found, Optional};
+pub use cr_exprs_descent::{Goal, ParseFault};
 pub use front::expression;
-pub use goal::Goal;
 pub use names::TypeNames;
-pub use reading::read;
-pub use scopes::{bring, declare, drop_scope, give_back, taken};
-pub use source::{
-    Source, barred, expect, here, is_type_identifier, refused, room, stands, starts_specifier,
-    words_of,
-};

@@ -1,7 +1,7 @@
 ghost use Rattle.std.specs.Prelude.{◌≡◌, [], IfOk};
 ghost use Rattle.cr_exprs.specs.Names.{names_onto, scopes_of};
 
-use crate::scopes::give_back;
+use cr_exprs_descent::give_back;
 use cr_rows::Row;
 use cr_syntax::{OpenScopes, Scope, TypeName};
 use std::alloc::{AllocError, Global};

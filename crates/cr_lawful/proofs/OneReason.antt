@@ -7,7 +7,7 @@ use Rattle.cr_tokens.proofs.Wholes.{one_list}
 use Rattle.cr_syntax.specs.declared.unit.Unit as source
 use Rattle.cr_syntax.specs.Units.{Refusal, Unexpected, Ended, TooDeep, OutsideSubset, FirstRefusal}
 use Rattle.cr_syntax.specs.Words.{lexemes_of}
-use Rattle.cr_syntax_machine.proofs.UnitRefusals.{tree_is_not_refused}
+use Rattle.cr_syntax_machine_laws.proofs.UnitRefusals.{tree_is_not_refused}
 use Rattle.cr_scopes.specs.declared.fault.NameFault.{NameFault}
 use Rattle.cr_scopes.specs.declared.names.Names.{Names}
 use Rattle.cr_scopes.specs.Units.{AreUnitNames}

@@ -5,8 +5,8 @@ use Rattle.cr_syntax.specs.Trees.{Trees}
 use Rattle.cr_syntax.specs.Spells.{Limit, Free, AtMost, Upto}
 use Rattle.cr_syntax.specs.Units.{most_levels, IsUnit, Begins, Outside, IsTooDeep, IsFineBefore, Refusal, Unexpected, Ended, TooDeep, OutsideSubset, FirstRefusal}
 use Rattle.cr_syntax.specs.Units as units
-use Rattle.cr_syntax_machine.proofs.MachineOwn.{Lets, lets_all, lets_fewer, within_other}
-use Rattle.cr_syntax_machine.proofs.MachineOne.{IsCause, by_level, by_row, by_end, Stops, too_deep, outside, unexpected, ended, two_stops}
+use Rattle.cr_syntax_machine_laws.proofs.MachineOwn.{Lets, lets_all, lets_fewer, within_other}
+use Rattle.cr_syntax_machine_laws.proofs.MachineOne.{IsCause, by_level, by_row, by_end, Stops, too_deep, outside, unexpected, ended, two_stops}
 
 -- a refusal without the row of its form
 abbrev pub rowless : Refusal → Refusal

@@ -10,9 +10,9 @@ use Rattle.cr_tokens.proofs.Wholes.{one_list}
 use Rattle.cr_syntax.specs.declared.unit.Unit as source
 use Rattle.cr_syntax.specs.Units.{FirstRefusal, Refusal}
 use Rattle.cr_syntax.specs.Words.{lexemes_of}
-use Rattle.cr_syntax_machine.proofs.UnitRefusals.{tree_is_not_refused}
-use Rattle.cr_exprs.specs.declared.fault.ParseFault.{ParseFault}
-use Rattle.cr_exprs.specs.declared.fault.ParseFault.TheVariants.{NoMemory, Unexpected, Ended, TooDeep, OutsideSubset}
+use Rattle.cr_syntax_machine_laws.proofs.UnitRefusals.{tree_is_not_refused}
+use Rattle.cr_exprs_descent.specs.declared.fault.ParseFault.{ParseFault}
+use Rattle.cr_exprs_descent.specs.declared.fault.ParseFault.TheVariants.{NoMemory, Unexpected, Ended, TooDeep, OutsideSubset}
 use Rattle.cr_decls.specs.Unit.{IsRefused}
 use Rattle.cr_lawful_analysis.specs.Analysis.{AreItsNames, IsParsed, Tree, tree_of}
 use Rattle.cr_lawful_analysis.proofs.Same.{same_tree, one_names}

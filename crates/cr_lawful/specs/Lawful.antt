@@ -7,8 +7,8 @@ use Rattle.cr_syntax.specs.declared.unit.Unit as source
 use Rattle.cr_syntax.specs.Units.{Refusal, FirstRefusal}
 use Rattle.cr_syntax.specs.Units as refusal
 use Rattle.cr_syntax.specs.Words.{lexemes_of}
-use Rattle.cr_exprs.specs.Answers.{refusal_in}
-use Rattle.cr_exprs.specs.declared.fault.ParseFault.{ParseFault}
+use Rattle.cr_exprs_descent.specs.Answers.{refusal_in}
+use Rattle.cr_exprs_descent.specs.declared.fault.ParseFault.{ParseFault}
 use Rattle.cr_lawful_analysis.specs.Analysis.{IsParsed, tree_of}
 use Rattle.cr_scopes.specs.Units.{AreUnitNames}
 use Rattle.cr_scopes.specs.declared.names.Names.{Names}

@@ -4,7 +4,7 @@ ghost use Rattle.cr_lawful.specs.Lawful.{parse_fault_reason, name_reason, type_r
 
 use cr_check::TypeFault;
 use cr_cursor::{Reason, Ruling, line_of};
-use cr_exprs::ParseFault;
+use cr_exprs_descent::ParseFault;
 use cr_meaning::Run;
 use cr_scopes::NameFault;
 use cr_tokens::Token;

@@ -8,10 +8,10 @@ use Rattle.cr_syntax.specs.declared.unit.Unit as source
 use Rattle.cr_syntax.specs.Units.{IsTreeOf}
 use Rattle.cr_syntax.specs.Words.{Lexeme}
 use Rattle.cr_syntax.specs.Trees.{Trees}
-use Rattle.cr_syntax_machine.specs.MachineLaws.{TreeIsNotRefused}
-use Rattle.cr_syntax_machine.proofs.MachineUnitComplete.{one_unit}
-use Rattle.cr_exprs.specs.declared.fault.ParseFault.{ParseFault}
-use Rattle.cr_exprs.specs.declared.fault.ParseFault.TheVariants.{NoMemory, Unexpected, Ended, TooDeep, OutsideSubset}
+use Rattle.cr_syntax_machine_laws.specs.MachineLaws.{TreeIsNotRefused}
+use Rattle.cr_syntax_machine_laws.proofs.MachineUnitComplete.{one_unit}
+use Rattle.cr_exprs_descent.specs.declared.fault.ParseFault.{ParseFault}
+use Rattle.cr_exprs_descent.specs.declared.fault.ParseFault.TheVariants.{NoMemory, Unexpected, Ended, TooDeep, OutsideSubset}
 use Rattle.cr_decls.specs.Unit.{IsRefused}
 use Rattle.cr_scopes_events.specs.Events.{events_of}
 use Rattle.cr_scopes.specs.declared.fault.NameFault.{NameFault}

@@ -2,7 +2,7 @@
 ghost use Rattle.std.specs.Prelude.{◌≡◌, ℕ, List, IfOk, MatchOption, OnOk};
 ghost use Rattle.cr_scopes.specs.declared.fault.NameFault.TheVariants as name_fault;
 ghost use Rattle.cr_tokens.specs.Tokens.{HasNoTokens, Tokenizes};
-ghost use Rattle.cr_exprs.specs.declared.fault.ParseFault.TheVariants.{NoMemory};
+ghost use Rattle.cr_exprs_descent.specs.declared.fault.ParseFault.TheVariants.{NoMemory};
 ghost use Rattle.cr_check.specs.declared.fault.TypeFault.TheVariants as type_fault;
 ghost use Rattle.cr_check.specs.declared.checked.Checked.{Checked};
 ghost use Rattle.cr_lawful_analysis.specs.Analysis.{AreItsNames, IsAnalysis, IsParsed, IsUnitOf, tree_of};
@@ -11,12 +11,12 @@ ghost use Rattle.cr_lawful_analysis.specs.Members.{structures_of};
 use crate::members::structures_of;
 use cr_check::{TypeFault, check};
 use cr_decls::parse;
-use cr_exprs::ParseFault;
+use cr_exprs_descent::ParseFault;
 use cr_holding::holding;
 use cr_rows::Row;
 use cr_scopes::{NameFault, Names, resolve};
 use cr_syntax::{Unit, tokens_are_spans};
-use cr_syntax_machine::one_first_refusal;
+use cr_syntax_machine_laws::one_first_refusal;
 use cr_tokens::{Token, TokenFault, Tokens, read};
 use std::alloc::{AllocError, Global};
 

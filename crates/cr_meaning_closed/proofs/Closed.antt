@@ -15,7 +15,7 @@ use Rattle.cr_syntax.specs.Spells.{Upto, Is}
 use Rattle.cr_syntax.specs.Trees.{Trees, node as tree_node}
 use Rattle.cr_syntax.specs.Units.{Completes, Has, has_here, has_after, most_levels, own_parameters, after_first, ellipsis_at, one_begins_at, variadic_definition, Outside, variadic_function}
 use Rattle.cr_syntax.proofs.Arena.{row_at, below_first, below_rest}
-use Rattle.cr_syntax_machine.proofs.MachineOwn.{lets_upto, within_other}
+use Rattle.cr_syntax_machine_laws.proofs.MachineOwn.{lets_upto, within_other}
 use Rattle.cr_syntax_nodes.specs.Laid.{stands_for, IsLaid}
 use Rattle.cr_syntax_nodes.specs.Nodes.{Rises}
 use Rattle.cr_syntax_nodes.proofs.Made.{forth, made_in, rises}

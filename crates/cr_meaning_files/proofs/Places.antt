@@ -13,8 +13,8 @@ use Rattle.cr_syntax.specs.Spells.{Is}
 use Rattle.cr_syntax.specs.Tables.{rule_of, side_of}
 use Rattle.cr_syntax.specs.Units.{Place, in_switch, own_item, block_item, elsewhere, place_in, is_stray, wrong_at, most_levels, stray_label}
 use Rattle.cr_syntax.proofs.Arena.{row_at}
-use Rattle.cr_syntax_machine.proofs.MachineComplete.{allows_upto}
-use Rattle.cr_syntax_machine.proofs.MachineUnitStuck.{relimit_unit}
+use Rattle.cr_syntax_machine_laws.proofs.MachineComplete.{allows_upto}
+use Rattle.cr_syntax_machine_laws.proofs.MachineUnitStuck.{relimit_unit}
 use Rattle.cr_syntax_nodes.specs.Laid.{IsLaid}
 use Rattle.cr_typed.specs.declared.typed.Typed.{Typed}
 use Rattle.cr_meaning_units.specs.Owned.{AreOfUnit}

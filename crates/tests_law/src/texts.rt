@@ -2,7 +2,7 @@ ghost use Rattle.std.specs.Prelude.{IfOk, IfSome};
 ghost use Rattle.cr_syntax.specs.Words.{AreSpans};
 
 use cr_decls::parse;
-use cr_exprs::ParseFault;
+use cr_exprs_descent::ParseFault;
 use cr_scopes::{NameFault, Names, resolve};
 use cr_syntax::{Unit, tokens_are_spans};
 use cr_tokens::{TokenFault, read};

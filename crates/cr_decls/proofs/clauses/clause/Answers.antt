@@ -1,6 +1,6 @@
 use Rattle.std.proofs.Common.{sym, ◌∙◌}
 use Rattle.cr_syntax_machine.specs.Machine.{run_give, run_stop, run_take, run_pass, run_call, run_fail}
-use Rattle.cr_exprs.proofs.Runs.{exit, fails, stops}
+use Rattle.cr_exprs_descent.proofs.Runs.{exit, fails, stops}
 use Rattle.cr_decls.proofs.clauses.clause.Goals as goal
 
 pub returns-then-stands-clause-reads : goal.returns-then-stands-clause-reads

@@ -1,5 +1,5 @@
 use Rattle.cr_syntax_machine.specs.Machine.{run_stop, run_take, run_deep, run_pass, run_look, run_set, run_call, run_fail}
-use Rattle.cr_exprs.proofs.Runs.{exit, fails, stops, deep, memory, run_in, no_room}
+use Rattle.cr_exprs_descent.proofs.Runs.{exit, fails, stops, deep, memory, run_in, no_room}
 use Rattle.cr_decls.proofs.clauses.controlling.Goals as goal
 
 pub returns-in_err-begin-clause-reads : goal.returns-in_err-begin-clause-reads

@@ -1,6 +1,6 @@
 use Rattle.std.proofs.Common.{sym, ◌∙◌}
 use Rattle.cr_syntax_machine.specs.Machine.{run_seen, run_unseen, run_call, run_fail}
-use Rattle.cr_exprs.proofs.Runs.{exit, fails}
+use Rattle.cr_exprs_descent.proofs.Runs.{exit, fails}
 use Rattle.cr_decls.proofs.Steps.{goes_through}
 use Rattle.cr_decls.proofs.clauses.first_clause.Goals as goal
 

@@ -1,5 +1,5 @@
 use Rattle.cr_syntax_machine.specs.Machine.{run_stop, run_take, run_pass, run_call, run_fail}
-use Rattle.cr_exprs.proofs.Runs.{exit, fails, stops}
+use Rattle.cr_exprs_descent.proofs.Runs.{exit, fails, stops}
 use Rattle.cr_decls.proofs.clauses.repeated.Goals as goal
 
 pub returns-in_err-expect-clause-reads : goal.returns-in_err-expect-clause-reads

@@ -3,9 +3,9 @@ use Rattle.cr_syntax_machine.specs.Machine.{plain, opens, call, give, made, run_
 use Rattle.cr_syntax_machine.specs.Machine as m
 use Rattle.cr_syntax_machine.specs.MachineBody.{body}
 use Rattle.std.proofs.Common.{[]}
-use Rattle.cr_exprs.proofs.Loose.{placed_push, kept_row, kept_more}
-use Rattle.cr_exprs.proofs.Nodes.{keeps_all, keeps_none, below_empty, row_empty, row_more, is_row_more, of_row}
-use Rattle.cr_exprs.proofs.Runs.{exit, fails, stops, deep, memory, finish, through, handed, shift, done_as, no_room}
+use Rattle.cr_exprs_descent.proofs.Loose.{placed_push, kept_row, kept_more}
+use Rattle.cr_exprs_descent.proofs.Nodes.{keeps_all, keeps_none, below_empty, row_empty, row_more, is_row_more, of_row}
+use Rattle.cr_exprs_descent.proofs.Runs.{exit, fails, stops, deep, memory, finish, through, handed, shift, done_as, no_room}
 use Rattle.cr_decls.proofs.declarations.+initializers.Goals as goal
 
 pub initializer-returns-in_err-bar_designator-clause-reads : goal.initializer-returns-in_err-bar_designator-clause-reads

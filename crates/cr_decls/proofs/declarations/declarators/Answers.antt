@@ -1,10 +1,10 @@
 use Rattle.std.proofs.Common.{◌+◌, sym, ◌∙◌, arith}
 use Rattle.cr_syntax_machine.specs.Machine.{run_give, run_stop, run_take, run_pass, run_here, run_look, run_set, run_bring, run_call, run_fail}
 use Rattle.std.proofs.Common.{[], ◌∷◌}
-use Rattle.cr_exprs.specs.Answers.{tree}
-use Rattle.cr_exprs.proofs.Loose.{placed_push, kept_more}
-use Rattle.cr_exprs.proofs.Nodes.{keeps_all, keeps_none, row_single, row_more, is_row_more, row_kept, of_row}
-use Rattle.cr_exprs.proofs.Runs.{exit, fails, stops, no_memory, memory, finish, handed, done_as, run_in}
+use Rattle.cr_exprs_descent.specs.Answers.{tree}
+use Rattle.cr_exprs_descent.proofs.Loose.{placed_push, kept_more}
+use Rattle.cr_exprs_descent.proofs.Nodes.{keeps_all, keeps_none, row_single, row_more, is_row_more, row_kept, of_row}
+use Rattle.cr_exprs_descent.proofs.Runs.{exit, fails, stops, no_memory, memory, finish, handed, done_as, run_in}
 use Rattle.cr_decls.proofs.Steps.{declared_shift, row_below, below_longer, kept_first}
 use Rattle.cr_decls.proofs.declarations.declarators.Goals as goal
 

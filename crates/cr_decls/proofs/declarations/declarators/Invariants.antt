@@ -3,9 +3,9 @@ use Rattle.cr_syntax.specs.Trees.{none, ◌&◌}
 use Rattle.cr_syntax.specs.Kept.{PartsAreBelow, AreBelow, row_in}
 use Rattle.cr_syntax.specs.Context.{fresh, past_part}
 use Rattle.cr_syntax_machine.specs.MachineBody.{declared_on}
-use Rattle.cr_exprs.specs.Source.{text_of}
-use Rattle.cr_exprs.specs.Loose.{Replaces}
-use Rattle.cr_exprs.specs.Answers.{Goes, Keeps, tree}
+use Rattle.cr_exprs_descent.specs.Source.{text_of}
+use Rattle.cr_exprs_descent.specs.Loose.{Replaces}
+use Rattle.cr_exprs_descent.specs.Answers.{Goes, Keeps, tree}
 use Rattle.cr_decls.proofs.declarations.declarators.Given as goal
 
 abbrev pub invariant-declarators : goal.invariant-declarators

@@ -1,9 +1,9 @@
 use Rattle.std.proofs.Common.{sym, ◌∙◌, arith}
 use Rattle.cr_syntax_machine.specs.Machine.{run_give, run_take, run_pass, run_here, run_call, run_fail}
 use Rattle.std.proofs.Common.{[], ◌∷◌}
-use Rattle.cr_exprs.proofs.Loose.{placed_push}
-use Rattle.cr_exprs.proofs.Nodes.{tree_kept, keeps_none}
-use Rattle.cr_exprs.proofs.Runs.{exit, fails, finish, done_as}
+use Rattle.cr_exprs_descent.proofs.Loose.{placed_push}
+use Rattle.cr_exprs_descent.proofs.Nodes.{tree_kept, keeps_none}
+use Rattle.cr_exprs_descent.proofs.Runs.{exit, fails, finish, done_as}
 use Rattle.std.proofs.Common.{length}
 use Rattle.cr_decls.proofs.Steps.{grown_as}
 use Rattle.cr_decls.proofs.declarations.initialized.Goals as goal

@@ -2,7 +2,7 @@ use Rattle.std.proofs.Common.{List, ap, ◌∙◌}
 use Rattle.cr_syntax.specs.declared.node.Node.{Node}
 use Rattle.cr_syntax.specs.Trees.{Trees, none, ◌&◌}
 use Rattle.cr_syntax.specs.Units.{own_parameters}
-use Rattle.cr_exprs.specs.Answers.{tree}
+use Rattle.cr_exprs_descent.specs.Answers.{tree}
 use Rattle.cr_syntax_machine.proofs.MachineSpells.{and_none}
 use Rattle.cr_decls.specs.Ellipsis.{ellipsis_of}
 use Rattle.cr_decls.proofs.ellipsis.own_ellipsis.Goals as goal

@@ -1,10 +1,10 @@
 use Rattle.std.proofs.Common.{arith}
 use Rattle.cr_syntax_machine.specs.Machine.{run_give, run_yes, run_here, run_look, run_set, run_bring, run_call, run_fail}
 use Rattle.std.proofs.Common.{[], ◌∷◌}
-use Rattle.cr_exprs.specs.Answers.{tree}
-use Rattle.cr_exprs.proofs.Loose.{placed_push}
-use Rattle.cr_exprs.proofs.Nodes.{tree_kept}
-use Rattle.cr_exprs.proofs.Runs.{exit, fails, no_memory, finish, done_as, done_in, run_in}
+use Rattle.cr_exprs_descent.specs.Answers.{tree}
+use Rattle.cr_exprs_descent.proofs.Loose.{placed_push}
+use Rattle.cr_exprs_descent.proofs.Nodes.{tree_kept}
+use Rattle.cr_exprs_descent.proofs.Runs.{exit, fails, no_memory, finish, done_as, done_in, run_in}
 use Rattle.cr_decls.proofs.Variadic.{defines, refuses_variadic}
 use Rattle.cr_decls.proofs.externals.defined.Goals as goal
 

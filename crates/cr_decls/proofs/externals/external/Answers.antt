@@ -5,10 +5,10 @@ use Rattle.cr_syntax.specs.Trees.{none, ◌&◌}
 use Rattle.cr_syntax.specs.Context.{fresh, past_part}
 use Rattle.cr_syntax_machine.specs.MachineBody.{declared_on, defined}
 use Rattle.std.proofs.Common.{[], ◌∷◌}
-use Rattle.cr_exprs.specs.Answers.{tree}
-use Rattle.cr_exprs.proofs.Loose.{placed_push, placed_behind}
-use Rattle.cr_exprs.proofs.Nodes.{tree_kept, keeps_all}
-use Rattle.cr_exprs.proofs.Runs.{exit, fails, finish, through, shift}
+use Rattle.cr_exprs_descent.specs.Answers.{tree}
+use Rattle.cr_exprs_descent.proofs.Loose.{placed_push, placed_behind}
+use Rattle.cr_exprs_descent.proofs.Nodes.{tree_kept, keeps_all}
+use Rattle.cr_exprs_descent.proofs.Runs.{exit, fails, finish, through, shift}
 use Rattle.cr_decls.proofs.externals.external.Goals as goal
 
 pub returns-in_err-specifiers-clause-reads : goal.returns-in_err-specifiers-clause-reads

@@ -2,9 +2,9 @@ use Rattle.std.proofs.Common.{refl, sym, ◌∙◌, arith}
 use Rattle.cr_syntax_machine.specs.Machine.{plain, opens, call, give, made, run_give, run_stop, run_take, run_deep, run_pass, run_bar, run_free, run_seen, run_unseen, run_yes, run_no, run_here, run_look, run_set, run_bring, run_call, run_fail}
 use Rattle.cr_syntax_machine.specs.Machine as m
 use Rattle.cr_syntax_machine.specs.MachineBody.{body}
-use Rattle.cr_exprs.proofs.Loose.{kept_row, kept_more}
-use Rattle.cr_exprs.proofs.Nodes.{keeps_all, row_single, row_more, is_row_more}
-use Rattle.cr_exprs.proofs.Runs.{exit, fails, no_memory, memory, handed, shift, done_at}
+use Rattle.cr_exprs_descent.proofs.Loose.{kept_row, kept_more}
+use Rattle.cr_exprs_descent.proofs.Nodes.{keeps_all, row_single, row_more, is_row_more}
+use Rattle.cr_exprs_descent.proofs.Runs.{exit, fails, no_memory, memory, handed, shift, done_at}
 use Rattle.cr_decls.proofs.Steps.{row_below}
 use Rattle.cr_decls.proofs.externals.unit.Goals as goal
 

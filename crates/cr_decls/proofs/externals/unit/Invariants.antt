@@ -2,9 +2,9 @@ use Rattle.std.proofs.Common.{◌-◌, ◌≤◌, [], length, reverse}
 use Rattle.cr_syntax.specs.Kept.{PartsAreBelow, AreBelow, row_in}
 use Rattle.cr_syntax_machine.specs.Machine as m
 use Rattle.cr_syntax_machine.specs.MachineBody.{body}
-use Rattle.cr_exprs.specs.Source.{text_of}
-use Rattle.cr_exprs.specs.Loose.{Replaces}
-use Rattle.cr_exprs.specs.Answers.{Goes, Keeps}
+use Rattle.cr_exprs_descent.specs.Source.{text_of}
+use Rattle.cr_exprs_descent.specs.Loose.{Replaces}
+use Rattle.cr_exprs_descent.specs.Answers.{Goes, Keeps}
 use Rattle.cr_decls.proofs.externals.unit.Given as goal
 
 abbrev pub invariant-externals : goal.invariant-externals

@@ -1,6 +1,6 @@
 use Rattle.std.proofs.Common.{ap, arith, length}
 use Rattle.cr_syntax.specs.Words.{lexemes_of}
-use Rattle.cr_exprs.proofs.Grammar.{refusal_on}
+use Rattle.cr_exprs_descent.proofs.Grammar.{refusal_on}
 use Rattle.cr_decls.proofs.Units.{unit_kept, listed_as, tree_of, only_of, first_of, only_first_of}
 use Rattle.cr_decls.proofs.front.parse.Goals as goal
 

@@ -1,8 +1,8 @@
 use Rattle.std.proofs.Common.{sym, ◌∙◌, arith}
 use Rattle.cr_syntax_machine.specs.Machine.{run_give, run_stop, run_take, run_pass, run_here, run_call, run_fail}
 use Rattle.std.proofs.Common.{[], ◌∷◌}
-use Rattle.cr_exprs.proofs.Loose.{placed_push}
-use Rattle.cr_exprs.proofs.Runs.{exit, fails, stops, finish}
+use Rattle.cr_exprs_descent.proofs.Loose.{placed_push}
+use Rattle.cr_exprs_descent.proofs.Runs.{exit, fails, stops, finish}
 use Rattle.cr_decls.proofs.simple.expression_statement.Goals as goal
 
 pub returns-then-is_type_identifier-clause-reads : goal.returns-then-is_type_identifier-clause-reads

@@ -1,9 +1,9 @@
 use Rattle.std.proofs.Common.{arith}
 use Rattle.cr_syntax_machine.specs.Machine.{run_give, run_stop, run_take, run_pass, run_here}
 use Rattle.std.proofs.Common.{[]}
-use Rattle.cr_exprs.proofs.Loose.{placed_push}
-use Rattle.cr_exprs.proofs.Nodes.{keeps_none}
-use Rattle.cr_exprs.proofs.Runs.{exit, stops, finish}
+use Rattle.cr_exprs_descent.proofs.Loose.{placed_push}
+use Rattle.cr_exprs_descent.proofs.Nodes.{keeps_none}
+use Rattle.cr_exprs_descent.proofs.Runs.{exit, stops, finish}
 use Rattle.cr_decls.proofs.simple.jump.Goals as goal
 
 pub returns-in_err-expect-clause-reads : goal.returns-in_err-expect-clause-reads

@@ -1,9 +1,9 @@
 use Rattle.std.proofs.Common.{sym, ◌∙◌, arith, rules}
 use Rattle.cr_syntax_machine.specs.Machine.{run_give, run_stop, run_take, run_pass, run_here, run_call, run_fail}
 use Rattle.std.proofs.Common.{[], ◌∷◌}
-use Rattle.cr_exprs.proofs.Loose.{placed_push}
-use Rattle.cr_exprs.proofs.Nodes.{keeps_none}
-use Rattle.cr_exprs.proofs.Runs.{exit, fails, stops, finish}
+use Rattle.cr_exprs_descent.proofs.Loose.{placed_push}
+use Rattle.cr_exprs_descent.proofs.Nodes.{keeps_none}
+use Rattle.cr_exprs_descent.proofs.Runs.{exit, fails, stops, finish}
 use Rattle.cr_decls.proofs.simple.return_rest.Goals as goal
 
 pub returns-then-stands-clause-reads : goal.returns-then-stands-clause-reads

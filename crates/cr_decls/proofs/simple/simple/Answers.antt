@@ -1,9 +1,9 @@
 use Rattle.std.proofs.Common.{sym, ◌∙◌, arith, rules}
 use Rattle.cr_syntax_machine.specs.Machine.{run_give, run_take, run_pass, run_here}
 use Rattle.std.proofs.Common.{[]}
-use Rattle.cr_exprs.proofs.Loose.{placed_push}
-use Rattle.cr_exprs.proofs.Nodes.{keeps_none}
-use Rattle.cr_exprs.proofs.Runs.{finish, through, handed}
+use Rattle.cr_exprs_descent.proofs.Loose.{placed_push}
+use Rattle.cr_exprs_descent.proofs.Nodes.{keeps_none}
+use Rattle.cr_exprs_descent.proofs.Runs.{finish, through, handed}
 use Rattle.cr_decls.proofs.simple.simple.Goals as goal
 
 pub returns-then-stands-clause-reads : goal.returns-then-stands-clause-reads

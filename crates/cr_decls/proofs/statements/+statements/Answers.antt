@@ -3,12 +3,12 @@ use Rattle.cr_syntax_machine.specs.Machine.{plain, opens, call, give, made, run_
 use Rattle.cr_syntax_machine.specs.Machine as m
 use Rattle.cr_syntax_machine.specs.MachineBody.{body}
 use Rattle.std.proofs.Common.{[], ◌∷◌}
-use Rattle.cr_exprs.proofs.Loose.{placed_push, placed_behind, kept_row, kept_more}
-use Rattle.cr_exprs.proofs.Nodes.{tree_kept, keeps_all, keeps_none, below_empty, row_empty, row_more, is_row_more, of_row}
-use Rattle.cr_exprs.proofs.Runs.{exit, fails, stops, deep, no_memory, memory, finish, through, handed, shift, done_as, done_in, run_in, no_room}
+use Rattle.cr_exprs_descent.proofs.Loose.{placed_push, placed_behind, kept_row, kept_more}
+use Rattle.cr_exprs_descent.proofs.Nodes.{tree_kept, keeps_all, keeps_none, below_empty, row_empty, row_more, is_row_more, of_row}
+use Rattle.cr_exprs_descent.proofs.Runs.{exit, fails, stops, deep, no_memory, memory, finish, through, handed, shift, done_as, done_in, run_in, no_room}
 use Rattle.std.specs.Prelude.{option_to_list}
 use Rattle.cr_syntax.specs.Kept.{row_in}
-use Rattle.cr_exprs.specs.Source.{text_of}
+use Rattle.cr_exprs_descent.specs.Source.{text_of}
 use Rattle.cr_decls.specs.Programs.{labels_of}
 use Rattle.cr_decls.proofs.Marked.{colon_stands, label_in, labelled_item, declaration_item, labelled_statement, plain_statement}
 use Rattle.cr_decls.proofs.Steps.{step_shift, loop_row, loop_below, loop_kept}

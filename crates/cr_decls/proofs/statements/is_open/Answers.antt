@@ -2,7 +2,7 @@ use Rattle.std.proofs.Common.{List, ap, ◌∙◌}
 use Rattle.cr_syntax.specs.declared.node.Node.{Node}
 use Rattle.cr_syntax.specs.Context.{ends_open}
 use Rattle.cr_syntax.specs.Trees.{none, ◌&◌}
-use Rattle.cr_exprs.specs.Answers.{tree}
+use Rattle.cr_exprs_descent.specs.Answers.{tree}
 use Rattle.cr_syntax_machine.proofs.MachineSpells.{and_none}
 use Rattle.cr_decls.proofs.statements.is_open.Goals as goal
 

@@ -2,12 +2,13 @@ use Rattle.std.proofs.Common.{[], length, refl, sym, subst, arith}
 use Rattle.cr_syntax.specs.Words.{lexemes_of}
 use Rattle.cr_syntax.specs.Expressions.{Read, IsReading}
 use Rattle.cr_syntax_machine.specs.Machine.{Done}
-use Rattle.cr_syntax_machine.proofs.MachineReading.{is_reading}
+use Rattle.cr_syntax_machine_laws.proofs.MachineReading.{is_reading}
 use Rattle.cr_exprs.specs.Names.{scopes_of}
 use Rattle.cr_exprs.specs.Expression.{start_of}
-use Rattle.cr_exprs.specs.Answers.{IsPlaced}
+use Rattle.cr_exprs_descent.specs.Answers.{IsPlaced}
 use Rattle.cr_exprs.proofs.Appended.{tree_so, placed_so}
-use Rattle.cr_exprs.proofs.Grammar.{is_start, refused_is, refusal_on, text_length}
+use Rattle.cr_exprs_descent.proofs.Grammar.{refusal_on}
+use Rattle.cr_exprs.proofs.Reading.{is_start, refused_is, text_length}
 use Rattle.cr_exprs.proofs.front.expression.Goals as goal
 
 pub returns-in_err-found-clause-refused : goal.returns-in_err-found-clause-refused

@@ -1,5 +1,0 @@
-use Rattle.cr_exprs.proofs.Runs.{read_texts}
-use Rattle.cr_exprs.proofs.source.texts.Goals as goal
-
-pub returns-clause-read : goal.returns-clause-read
-returns-clause-read c = read_texts _ _ _ c.after.ensures.from c.after.ensures.all c.after.ensures.other

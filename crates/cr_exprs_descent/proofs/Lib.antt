@@ -1,0 +1,4 @@
+pub mod Nodes
+pub mod Runs
+pub mod Grammar
+pub mod Loose

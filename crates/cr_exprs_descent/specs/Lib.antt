@@ -1,0 +1,5 @@
+pub mod Source
+pub mod Tables
+pub mod Loose
+pub mod Answers
+pub mod Parts

@@ -1,5 +1,0 @@
-use Rattle.cr_syntax_machine.proofs.MachineOne as one
-use Rattle.cr_syntax_machine.proofs.laws.one_reading.Goals as goal
-
-pub returns : goal.returns
-returns c = λ ts s o o' z h h'. one.one_reading ts s z h h'
