@@ -19,7 +19,7 @@ use Rattle.cr_meaning.specs.Values.{kinds_in}
 use Rattle.cr_meaning.specs.declared.run.Limits.{Limits}
 use Rattle.cr_meaning_operations.specs.Shapes.{cells_of, cells_with, structure_cells, shape_of, repeated, form_by, form_of, offset_in}
 use Rattle.cr_meaning_operations.specs.Operations.{kind_if, kind_at, chosen_row, program_of}
-use Rattle.cr_meaning_declared.specs.Files.{IsUnitOfFile}
+use Rattle.cr_meaning_declarations.specs.Declared.Files.{IsUnitOfFile}
 use Rattle.cr_meaning_files.specs.Structures.{IsWhole, AreMembersWhole}
 use Rattle.cr_meaning_files.proofs.Cells.{elements, elements_few, Structured, all_structured, before_structured}
 use Rattle.cr_meaning_files.proofs.Members.{IsChosen}

@@ -5,12 +5,12 @@ use Rattle.cr_typed.specs.declared.typed.Typed.{Typed}
 use Rattle.cr_typed_fit.specs.Fits.{IsFitting}
 use Rattle.cr_typed_unit.specs.Typed.{IsAssembledBy}
 use Rattle.cr_typed_unit.proofs.Made.{typed_of}
-use Rattle.cr_meaning_declared.specs.Files.{IsUnitOfFile, IsAssembledFile}
-use Rattle.cr_meaning_fitting.proofs.Fitting.{fits as typed_units_fit}
-use Rattle.cr_meaning_found.proofs.Names.{declared as are_declared}
-use Rattle.cr_meaning_known.specs.Sighted.{AreSighted}
-use Rattle.cr_meaning_told.proofs.Asked.{all_found}
-use Rattle.cr_meaning_typedefs.proofs.Files.{are_seen, no_enumerators}
+use Rattle.cr_meaning_declarations.specs.Declared.Files.{IsUnitOfFile, IsAssembledFile}
+use Rattle.cr_meaning_types.proofs.FittingLemmas.Fitting.{fits as typed_units_fit}
+use Rattle.cr_meaning_types.proofs.FoundLemmas.Names.{declared as are_declared}
+use Rattle.cr_meaning_types.specs.Known.Sighted.{AreSighted}
+use Rattle.cr_meaning_references.proofs.ToldLemmas.Asked.{all_found}
+use Rattle.cr_meaning_references.proofs.TypedefsLemmas.Files.{are_seen, no_enumerators}
 use Rattle.cr_meaning_files.specs.Assembled.{AssembledUnitsFit, AssembledUnitsAreTyped}
 use Rattle.cr_meaning_files.proofs.Shaped.{tree_shaped}
 

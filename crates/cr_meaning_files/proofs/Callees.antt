@@ -16,12 +16,12 @@ use Rattle.cr_meaning_operations.specs.Shapes.{named_type, value_type}
 use Rattle.cr_meaning_operations.specs.Operations.{kind_if, kind_at, parts_at, part_at, entity_of, function_in, parameter_of, function_of, calls, is_text, callee_of}
 use Rattle.cr_meaning_soundness.specs.Sorts.{statement, IsAmong}
 use Rattle.cr_meaning_soundness.specs.Statements.{of_function}
-use Rattle.cr_meaning_typed.specs.Typing.{is_expression}
-use Rattle.cr_meaning_units.specs.Owned.{AreOfUnit}
-use Rattle.cr_meaning_declared.specs.Files.{IsUnitOfFile}
-use Rattle.cr_meaning_calls.specs.Calls.{IsParameter, IsCalled}
-use Rattle.cr_meaning_called.specs.Laws.{IsMeant, IsFitting}
-use Rattle.cr_meaning_sorts.specs.Table.{result_of, expression_sort, exits_at, sort_at, sorts_in}
+use Rattle.cr_meaning_typing.specs.Typed.Typing.{is_expression}
+use Rattle.cr_meaning_declarations.specs.Units.Owned.{AreOfUnit}
+use Rattle.cr_meaning_declarations.specs.Declared.Files.{IsUnitOfFile}
+use Rattle.cr_meaning_typing.specs.Calls.Calls.{IsParameter, IsCalled}
+use Rattle.cr_meaning_initialisation.specs.Called.Laws.{IsMeant, IsFitting}
+use Rattle.cr_meaning_typing.specs.Sorts.Table.{result_of, expression_sort, exits_at, sort_at, sorts_in}
 use Rattle.cr_meaning_files.specs.Reached.{is_definition}
 use Rattle.cr_meaning_files.specs.Files.{judgement_of}
 use Rattle.cr_meaning_files.proofs.Tree.{as_part}

@@ -18,11 +18,11 @@ use Rattle.cr_check.specs.declared.checked.Checked.{Checked}
 use Rattle.cr_typed.specs.declared.typed.Typed.{Typed}
 use Rattle.cr_typed_unit.specs.Typed.{IsTypedBy}
 use Rattle.cr_meaning_operations.specs.Operations.{kind_if, kind_at}
-use Rattle.cr_meaning_typed.specs.Laws.{HoldsAll}
-use Rattle.cr_meaning_typed.specs.Typing.{has_value, is_expression, IsClear, IsRead}
-use Rattle.cr_meaning_typed.proofs.Worth.{unbroken}
-use Rattle.cr_meaning_judged.specs.Judged.{source_of}
-use Rattle.cr_meaning_declared.specs.Files.{IsUnitOfFile}
+use Rattle.cr_meaning_typing.specs.Typed.Laws.{HoldsAll}
+use Rattle.cr_meaning_typing.specs.Typed.Typing.{has_value, is_expression, IsClear, IsRead}
+use Rattle.cr_meaning_typing.proofs.TypedLemmas.Worth.{unbroken}
+use Rattle.cr_meaning_typing.specs.Judged.Judged.{source_of}
+use Rattle.cr_meaning_declarations.specs.Declared.Files.{IsUnitOfFile}
 use Rattle.cr_meaning_files.specs.Files.{AreRead}
 
 function_alone : (m : Meaning) (argument : ℕ → Seen) (nodes : List Node) (first : ℕ) (parts : List ℕ) → HoldsAll (call_faults nodes m argument first parts) → IsClear m → (s : Signature) × (m ≡ a_function s)

@@ -11,7 +11,7 @@ use Rattle.cr_typed.specs.declared.typed.Typed.{Typed}
 use Rattle.cr_typed.specs.Typed.{IsBefore, MOST_CELLS}
 use Rattle.cr_meaning_operations.specs.Shapes.{cells_of}
 use Rattle.cr_meaning_operations.specs.Operations.{kind_at}
-use Rattle.cr_meaning_typed.specs.Placed.{IsObject}
+use Rattle.cr_meaning_typing.specs.Typed.Placed.{IsObject}
 use Rattle.cr_meaning_files.specs.Structures.{IsWhole}
 
 -- ---- so many cells are counted as they are

@@ -27,9 +27,9 @@ use Rattle.cr_typed.specs.Typed.{IsBefore, MOST_CELLS}
 use Rattle.cr_meaning_soundness.specs.Sorts.{Sort, sort_of_scalar, sorts_in}
 use Rattle.cr_meaning_operations.specs.Shapes.{cells_of, cells_with, structure_cells, shape_of, repeated}
 use Rattle.cr_meaning_operations.specs.Operations.{kind_if, kind_at, parts_at}
-use Rattle.cr_meaning_declared.specs.Files.{IsUnitOfFile}
-use Rattle.cr_meaning_initialised.specs.Parts.{Every, is_aggregate, AreCells}
-use Rattle.cr_meaning_initialised.specs.Asked.{HaveParts}
+use Rattle.cr_meaning_declarations.specs.Declared.Files.{IsUnitOfFile}
+use Rattle.cr_meaning_initialisation.specs.Initialised.Parts.{Every, is_aggregate, AreCells}
+use Rattle.cr_meaning_initialisation.specs.Initialised.Asked.{HaveParts}
 use Rattle.cr_meaning_files.specs.Reached.{is_list as is_list_kind}
 use Rattle.cr_meaning_files.specs.Structures.{IsWhole, AreMembersWhole}
 use Rattle.cr_meaning_files.proofs.Cells.{exact, elements_few}

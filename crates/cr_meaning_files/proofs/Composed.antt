@@ -12,17 +12,17 @@ use Rattle.cr_meaning.specs.declared.run.Limits.{Limits}
 use Rattle.cr_meaning_soundness.specs.Sorts.{sorts_in}
 use Rattle.cr_meaning_operations.specs.Shapes.{named_type, shape_of}
 use Rattle.cr_meaning_operations.specs.Operations.{kind_if, name_of, entity_of, object_shape, program_of}
-use Rattle.cr_meaning_known.specs.Sighted.{AreSighted}
-use Rattle.cr_meaning_known.specs.Shaped.{is_filled}
-use Rattle.cr_meaning_known.proofs.Declaring.{there_is}
-use Rattle.cr_meaning_declared.specs.Files.{IsUnitOfFile}
-use Rattle.cr_meaning_chained.proofs.Known.{there}
-use Rattle.cr_meaning_composed.specs.Laws.{Becomes, IsObject}
-use Rattle.cr_meaning_composed.proofs.Named.{initialised, firsts, objects_named}
-use Rattle.cr_meaning_composed.proofs.Owned.{own}
-use Rattle.cr_meaning_composed.proofs.Planned.{planned}
-use Rattle.cr_meaning_initialised.specs.Composites.{IsSized}
-use Rattle.cr_meaning_initialised.proofs.Composites.{composite_kept}
+use Rattle.cr_meaning_types.specs.Known.Sighted.{AreSighted}
+use Rattle.cr_meaning_types.specs.Known.Shaped.{is_filled}
+use Rattle.cr_meaning_types.proofs.KnownLemmas.Declaring.{there_is}
+use Rattle.cr_meaning_declarations.specs.Declared.Files.{IsUnitOfFile}
+use Rattle.cr_meaning_composites.proofs.ChainedLemmas.Known.{there}
+use Rattle.cr_meaning_composites.specs.Composed.Laws.{Becomes, IsObject}
+use Rattle.cr_meaning_composites.proofs.ComposedLemmas.Named.{initialised, firsts, objects_named}
+use Rattle.cr_meaning_composites.proofs.ComposedLemmas.Owned.{own}
+use Rattle.cr_meaning_composites.proofs.ComposedLemmas.Planned.{planned}
+use Rattle.cr_meaning_initialisation.specs.Initialised.Composites.{IsSized}
+use Rattle.cr_meaning_initialisation.proofs.InitialisedLemmas.Composites.{composite_kept}
 use Rattle.cr_meaning_files.specs.Structures.{IsWhole}
 use Rattle.cr_meaning_files.proofs.Shaped.{shaped}
 

@@ -12,15 +12,15 @@ use Rattle.cr_check_declarators.specs.Declarators.{whole_object}
 use Rattle.cr_typed_columns.specs.Columns.{is_structure}
 use Rattle.cr_typed.specs.declared.typed.Typed.{Typed}
 use Rattle.cr_typed_unit.specs.Typed.{IsTypedBy}
-use Rattle.cr_meaning_declared.specs.Files.{IsUnitOfFile, assembled}
-use Rattle.cr_meaning_known.specs.Sighted.{AreSighted}
-use Rattle.cr_meaning_known.specs.Sized.{is_open}
-use Rattle.cr_meaning_typed.specs.Typing.{has_value}
-use Rattle.cr_meaning_known.specs.Known.{IsMemberType, AreKnown}
-use Rattle.cr_meaning_known.proofs.Listing.{mapped}
-use Rattle.cr_meaning_known.proofs.Known.{known, readable}
-use Rattle.cr_meaning_known.proofs.Sized.{sized}
-use Rattle.cr_meaning_typedefs.proofs.Files.{are_seen}
+use Rattle.cr_meaning_declarations.specs.Declared.Files.{IsUnitOfFile, assembled}
+use Rattle.cr_meaning_types.specs.Known.Sighted.{AreSighted}
+use Rattle.cr_meaning_types.specs.Known.Sized.{is_open}
+use Rattle.cr_meaning_typing.specs.Typed.Typing.{has_value}
+use Rattle.cr_meaning_types.specs.Known.Known.{IsMemberType, AreKnown}
+use Rattle.cr_meaning_types.proofs.KnownLemmas.Listing.{mapped}
+use Rattle.cr_meaning_types.proofs.KnownLemmas.Known.{known, readable}
+use Rattle.cr_meaning_types.proofs.KnownLemmas.Sized.{sized}
+use Rattle.cr_meaning_references.proofs.TypedefsLemmas.Files.{are_seen}
 use Rattle.cr_meaning_files.specs.Files.{AreRead}
 use Rattle.cr_meaning_files.specs.Structures.{AreMembersWhole}
 use Rattle.cr_meaning_files.proofs.Made.{complete_whole}

@@ -26,12 +26,12 @@ use Rattle.cr_scopes.specs.Units.{unit_events}
 use Rattle.cr_scopes_bindings.specs.Bindings.{entry_if}
 use Rattle.cr_scopes_bindings.specs.Nodes.{named_by, named_if, name_at}
 use Rattle.cr_scopes_bindings.specs.Visible.{visible}
-use Rattle.cr_scopes_shared.specs.Origins.{is_external, IsDeclarer}
-use Rattle.cr_scopes_sight.specs.Scopes.{is_using}
-use Rattle.cr_scopes_told.specs.Told.{is_declaration, AreApart, IsHeld, IsDeclarator, IsEnumerator, IsDeclaredBelow, IsTold}
-use Rattle.cr_scopes_told.proofs.Walks.{told}
-use Rattle.cr_scopes_uses.specs.Uses.{Finds}
-use Rattle.cr_scopes_uses.proofs.Finding.{all_find}
+use Rattle.cr_scopes_linkage.specs.Shared.Origins.{is_external, IsDeclarer}
+use Rattle.cr_scopes_visibility.specs.Sight.Scopes.{is_using}
+use Rattle.cr_scopes_visibility.specs.Told.Told.{is_declaration, AreApart, IsHeld, IsDeclarator, IsEnumerator, IsDeclaredBelow, IsTold}
+use Rattle.cr_scopes_visibility.proofs.ToldLemmas.Walks.{told}
+use Rattle.cr_scopes_visibility.specs.Uses.Uses.{Finds}
+use Rattle.cr_scopes_visibility.proofs.UsesLemmas.Finding.{all_find}
 use Rattle.cr_check_enclosing.specs.declared.context.Around.{Around}
 use Rattle.cr_check_enclosing.specs.declared.context.Place.TheVariants as place
 use Rattle.cr_check_enclosing.specs.Around.{outermost, inside}
@@ -49,25 +49,25 @@ use Rattle.cr_check_declarations.specs.Named.{is_declarator, class_of, specifier
 use Rattle.cr_check_declarations.specs.Before.{specified_in}
 use Rattle.cr_check_declarations.specs.Faults.{is_specifier, place_of}
 use Rattle.cr_check_linkage.specs.Linked.{linked_in, linkage_in, linkage_by}
-use Rattle.cr_check_functions.specs.Linked.{has_linkage, IsFunction}
-use Rattle.cr_check_functions.proofs.Linked.{functions}
+use Rattle.cr_check_signatures.specs.Functions.Linked.{has_linkage, IsFunction}
+use Rattle.cr_check_signatures.proofs.FunctionsLemmas.Linked.{functions}
 use Rattle.cr_check_surroundings.specs.Named.{used_by, used_name, visible_if}
 use Rattle.cr_check_surroundings.specs.Raised.{initialises, raised_by, raised_if, raised, raised_of}
 use Rattle.cr_check_unit.specs.declared.typing.Typing.{Typing}
 use Rattle.cr_check_unit.specs.Typing.{cut, entry_at, before_in, past_in}
 use Rattle.cr_typed.specs.declared.typed.Typed.{Typed}
 use Rattle.cr_typed_unit.specs.Typed.{IsTypedBy}
-use Rattle.cr_meaning_judged.specs.Judged.{source_of}
-use Rattle.cr_meaning_units.specs.Owned.{AreOfUnit}
-use Rattle.cr_meaning_units.proofs.Handing.{laid_at, parts_below}
-use Rattle.cr_meaning_known.specs.Shaped.{fits, IsShaped}
-use Rattle.cr_meaning_declared.specs.Files.{IsUnitOfFile}
-use Rattle.cr_meaning_declared.proofs.Nodes.{of_unit}
-use Rattle.cr_meaning_linked.proofs.Order.{order_of}
-use Rattle.cr_meaning_told.proofs.Names.{last_is, initial}
-use Rattle.cr_meaning_told.proofs.Orderly.{apart, named_within}
-use Rattle.cr_meaning_chained.specs.Laws.{DeclaresFunction}
-use Rattle.cr_meaning_chained.proofs.Known.{is_typing, holds, nodes_are}
+use Rattle.cr_meaning_typing.specs.Judged.Judged.{source_of}
+use Rattle.cr_meaning_declarations.specs.Units.Owned.{AreOfUnit}
+use Rattle.cr_meaning_declarations.proofs.UnitsLemmas.Handing.{laid_at, parts_below}
+use Rattle.cr_meaning_types.specs.Known.Shaped.{fits, IsShaped}
+use Rattle.cr_meaning_declarations.specs.Declared.Files.{IsUnitOfFile}
+use Rattle.cr_meaning_declarations.proofs.DeclaredLemmas.Nodes.{of_unit}
+use Rattle.cr_meaning_declarations.proofs.LinkedLemmas.Order.{order_of}
+use Rattle.cr_meaning_references.proofs.ToldLemmas.Names.{last_is, initial}
+use Rattle.cr_meaning_references.proofs.ToldLemmas.Orderly.{apart, named_within}
+use Rattle.cr_meaning_composites.specs.Chained.Laws.{DeclaresFunction}
+use Rattle.cr_meaning_composites.proofs.ChainedLemmas.Known.{is_typing, holds, nodes_are}
 use Rattle.cr_meaning_files.specs.Meant as Laws
 use Rattle.cr_meaning_files.specs.Meant.{SeesFunction}
 

@@ -18,10 +18,10 @@ use Rattle.cr_scopes.specs.Spelled.{name_of as spelled_name}
 use Rattle.cr_scopes.specs.Units.{unit_events}
 use Rattle.cr_scopes_bindings.specs.Last.{last_with}
 use Rattle.cr_scopes_bindings.specs.Entities as bound
-use Rattle.cr_scopes_shared.specs.Origins.{is_external, IsDeclarer}
-use Rattle.cr_scopes_shared.specs.Sorts.{is_value}
-use Rattle.cr_scopes_sight.specs.Scopes.{is_using}
-use Rattle.cr_check_callees.proofs.Spelled.{same_spelling}
+use Rattle.cr_scopes_linkage.specs.Shared.Origins.{is_external, IsDeclarer}
+use Rattle.cr_scopes_linkage.specs.Shared.Sorts.{is_value}
+use Rattle.cr_scopes_visibility.specs.Sight.Scopes.{is_using}
+use Rattle.cr_check_signatures.proofs.CalleesLemmas.Spelled.{same_spelling}
 use Rattle.cr_check_definitions.specs.Known as checks
 use Rattle.cr_check_definitions.specs.Known.{Known, kind_above}
 use Rattle.cr_check_definitions.specs.Defined.{is_definition, is_extern, is_library, open_by, is_open_if}
@@ -46,25 +46,25 @@ use Rattle.cr_meaning.specs.declared.op.Callee.TheVariants as callee
 use Rattle.cr_meaning.specs.declared.op.Parameter.{Parameter}
 use Rattle.cr_meaning_operations.specs.Shapes.{named_type, value_type}
 use Rattle.cr_meaning_operations.specs.Operations.{parts_at, first_if, first_at, entity_if, entity_of, function_in, spelling_if, calls, is_text, function_of, callee_of}
-use Rattle.cr_meaning_units.specs.Owned.{AreOfUnit}
-use Rattle.cr_meaning_known.specs.Shaped.{IsShaped}
-use Rattle.cr_meaning_known.specs.Sighted.{AreSighted}
-use Rattle.cr_meaning_declared.specs.Files.{IsUnitOfFile}
-use Rattle.cr_meaning_declared.proofs.Nodes.{of_unit}
-use Rattle.cr_meaning_declared.proofs.Bodies.{listed_at, IsThere, name_there, node_of}
-use Rattle.cr_meaning_linked.specs.Laws.{DeclaresValue}
-use Rattle.cr_meaning_linked.proofs.Order.{order_of}
-use Rattle.cr_meaning_linked.proofs.Sorts.{values_share}
-use Rattle.cr_meaning_chained.specs.Laws.{DeclaresFunction}
-use Rattle.cr_meaning_chained.proofs.Words.{value_is}
-use Rattle.cr_meaning_chained.proofs.Known.{there, owned, function_plain}
-use Rattle.cr_meaning_chained.proofs.Chained as chained
-use Rattle.cr_meaning_objects.proofs.Declaring.{IsLast, last_there, entity_of_declared, few_of, token_low}
-use Rattle.cr_meaning_objects.proofs.Objects.{follows_at}
-use Rattle.cr_meaning_kept.proofs.Defined.{declarer_is, whole_by, entity_by, IsDefined, defined_there, IsFirst, first_node}
-use Rattle.cr_meaning_kept.proofs.Kept.{sort_of}
+use Rattle.cr_meaning_declarations.specs.Units.Owned.{AreOfUnit}
+use Rattle.cr_meaning_types.specs.Known.Shaped.{IsShaped}
+use Rattle.cr_meaning_types.specs.Known.Sighted.{AreSighted}
+use Rattle.cr_meaning_declarations.specs.Declared.Files.{IsUnitOfFile}
+use Rattle.cr_meaning_declarations.proofs.DeclaredLemmas.Nodes.{of_unit}
+use Rattle.cr_meaning_declarations.proofs.DeclaredLemmas.Bodies.{listed_at, IsThere, name_there, node_of}
+use Rattle.cr_meaning_declarations.specs.Linked.Laws.{DeclaresValue}
+use Rattle.cr_meaning_declarations.proofs.LinkedLemmas.Order.{order_of}
+use Rattle.cr_meaning_declarations.proofs.LinkedLemmas.Sorts.{values_share}
+use Rattle.cr_meaning_composites.specs.Chained.Laws.{DeclaresFunction}
+use Rattle.cr_meaning_composites.proofs.ChainedLemmas.Words.{value_is}
+use Rattle.cr_meaning_composites.proofs.ChainedLemmas.Known.{there, owned, function_plain}
+use Rattle.cr_meaning_composites.proofs.ChainedLemmas.Chained as chained
+use Rattle.cr_meaning_composites.proofs.ObjectsLemmas.Declaring.{IsLast, last_there, entity_of_declared, few_of, token_low}
+use Rattle.cr_meaning_composites.proofs.ObjectsLemmas.Objects.{follows_at}
+use Rattle.cr_meaning_references.proofs.KeptLemmas.Defined.{declarer_is, whole_by, entity_by, IsDefined, defined_there, IsFirst, first_node}
+use Rattle.cr_meaning_references.proofs.KeptLemmas.Kept.{sort_of}
 use Rattle.cr_meaning_files.proofs.Names.{declare}
-use Rattle.cr_meaning_called.specs.Laws.{IsMeant}
+use Rattle.cr_meaning_initialisation.specs.Called.Laws.{IsMeant}
 use Rattle.cr_meaning_files.specs.Meant as Laws
 use Rattle.cr_meaning_files.specs.Meant.{SeesFunction}
 use Rattle.cr_meaning_files.proofs.Declarers.{seen}

@@ -25,14 +25,14 @@ use Rattle.cr_scopes.specs.Looking.{stands_in}
 use Rattle.cr_scopes.specs.Resolved.{with_event, past_of}
 use Rattle.cr_scopes.specs.Units.{unit_events}
 use Rattle.cr_scopes_bindings.specs.Nodes.{named_by, named_if, name_at}
-use Rattle.cr_scopes_once.specs.Told.{count_of}
-use Rattle.cr_scopes_shared.specs.Sorts.{is_value, is_tag}
-use Rattle.cr_scopes_shared.specs.Origins.{is_external, IsTold, declared, tagged, otherwise}
-use Rattle.cr_scopes_sight.specs.Scopes.{is_using}
-use Rattle.cr_scopes_tellings.specs.Tellings as tellings
-use Rattle.cr_scopes_tellings.specs.Tellings.{is_enumerator, Telling, by_declaration, by_parameter, by_enumerator, by_tag, by_use}
-use Rattle.cr_scopes_told.specs.Told.{is_declaration, IsHeld, IsDeclarator, AreApart}
-use Rattle.cr_scopes_uses.specs.Uses.{is_declared}
+use Rattle.cr_scopes_visibility.specs.Once.Told.{count_of}
+use Rattle.cr_scopes_linkage.specs.Shared.Sorts.{is_value, is_tag}
+use Rattle.cr_scopes_linkage.specs.Shared.Origins.{is_external, IsTold, declared, tagged, otherwise}
+use Rattle.cr_scopes_visibility.specs.Sight.Scopes.{is_using}
+use Rattle.cr_scopes_typedef_names.specs.Tellings.Tellings as tellings
+use Rattle.cr_scopes_typedef_names.specs.Tellings.Tellings.{is_enumerator, Telling, by_declaration, by_parameter, by_enumerator, by_tag, by_use}
+use Rattle.cr_scopes_visibility.specs.Told.Told.{is_declaration, IsHeld, IsDeclarator, AreApart}
+use Rattle.cr_scopes_visibility.specs.Uses.Uses.{is_declared}
 use Rattle.cr_check_expressions.specs.declared.known.Declared.TheVariants.{Object}
 use Rattle.cr_check_declarators.specs.declared.words.Specified.{Specified}
 use Rattle.cr_check_declarators.specs.declared.declarator.Declarator.{Declarator}
@@ -41,22 +41,22 @@ use Rattle.cr_check_declarations.specs.Named.{declared_by}
 use Rattle.cr_check_unit.specs.declared.typing.Typing.{Typing}
 use Rattle.cr_typed.specs.declared.typed.Typed.{Typed}
 use Rattle.cr_typed_unit.specs.Typed.{IsTypedBy}
-use Rattle.cr_meaning_units.specs.Owned.{AreOfUnit}
-use Rattle.cr_meaning_known.specs.Shaped.{IsShaped}
-use Rattle.cr_meaning_known.specs.Sighted.{AreSighted}
-use Rattle.cr_meaning_declared.specs.Files.{IsUnitOfFile}
-use Rattle.cr_meaning_declared.proofs.Nodes.{of_unit}
-use Rattle.cr_meaning_declared.proofs.Bodies.{node_of}
-use Rattle.cr_meaning_judged.specs.Judged.{seen_in}
-use Rattle.cr_meaning_linked.proofs.Order.{order_of}
-use Rattle.cr_meaning_told.proofs.Orderly.{apart}
-use Rattle.cr_meaning_mains.proofs.Defined.{At, is_told, telling}
-use Rattle.cr_meaning_objects.specs.Laws.{DeclaresObject}
-use Rattle.cr_meaning_objects.proofs.Objects.{value_there}
-use Rattle.cr_meaning_objects.proofs.Statics.{no_constant, enumerator_nameless}
-use Rattle.cr_meaning_kept.specs.Laws.{SeesObject}
-use Rattle.cr_meaning_kept.proofs.Kept.{keep}
-use Rattle.cr_meaning_kept.proofs.Seen.{see}
+use Rattle.cr_meaning_declarations.specs.Units.Owned.{AreOfUnit}
+use Rattle.cr_meaning_types.specs.Known.Shaped.{IsShaped}
+use Rattle.cr_meaning_types.specs.Known.Sighted.{AreSighted}
+use Rattle.cr_meaning_declarations.specs.Declared.Files.{IsUnitOfFile}
+use Rattle.cr_meaning_declarations.proofs.DeclaredLemmas.Nodes.{of_unit}
+use Rattle.cr_meaning_declarations.proofs.DeclaredLemmas.Bodies.{node_of}
+use Rattle.cr_meaning_typing.specs.Judged.Judged.{seen_in}
+use Rattle.cr_meaning_declarations.proofs.LinkedLemmas.Order.{order_of}
+use Rattle.cr_meaning_references.proofs.ToldLemmas.Orderly.{apart}
+use Rattle.cr_meaning_composites.proofs.MainsLemmas.Defined.{At, is_told, telling}
+use Rattle.cr_meaning_composites.specs.Objects.Laws.{DeclaresObject}
+use Rattle.cr_meaning_composites.proofs.ObjectsLemmas.Objects.{value_there}
+use Rattle.cr_meaning_composites.proofs.ObjectsLemmas.Statics.{no_constant, enumerator_nameless}
+use Rattle.cr_meaning_references.specs.Kept.Laws.{SeesObject}
+use Rattle.cr_meaning_references.proofs.KeptLemmas.Kept.{keep}
+use Rattle.cr_meaning_references.proofs.KeptLemmas.Seen.{see}
 use Rattle.cr_meaning_files.specs.Celled as Laws
 use Rattle.cr_meaning_files.specs.Celled.{StandsForObject, SeesDeclared, SeesParameter}
 use Rattle.cr_meaning_files.proofs.Meant.{before_declared, mean}

@@ -9,7 +9,7 @@ use Rattle.cr_syntax.specs.declared.node.Node.{Node}
 use Rattle.cr_syntax.specs.Tables.{rule_of, side_of}
 use Rattle.cr_syntax.specs.Kept.{row_in}
 use Rattle.cr_syntax_nodes.specs.Nodes.{least, most}
-use Rattle.cr_scopes_sight.specs.Scopes.{is_using}
+use Rattle.cr_scopes_visibility.specs.Sight.Scopes.{is_using}
 use Rattle.cr_check_enclosing.specs.Above.{above_of}
 use Rattle.cr_check_types.specs.declared.shape.Shape.{Shape}
 use Rattle.cr_check_expressions.specs.Forms.{form_of}
@@ -18,27 +18,27 @@ use Rattle.cr_check_declarations.specs.declared.tree.Tree.{Tree}
 use Rattle.cr_check_declarations.specs.Named.{is_declarator}
 use Rattle.cr_check_initialisers.specs.Known.{is_list_if}
 use Rattle.cr_check_unit.specs.declared.typing.Typing.{Typing}
-use Rattle.cr_check_anchored.specs.Anchored.{is_anchored, is_operand, Initialises, itself, listed}
-use Rattle.cr_check_anchored.proofs.Anchoring as anchoring
-use Rattle.cr_check_anchored.proofs.Filling as filling
+use Rattle.cr_check_constant_values.specs.Anchored.Anchored.{is_anchored, is_operand, Initialises, itself, listed}
+use Rattle.cr_check_constant_values.proofs.AnchoredLemmas.Anchoring as anchoring
+use Rattle.cr_check_constant_values.proofs.AnchoredLemmas.Filling as filling
 use Rattle.cr_typed.specs.declared.typed.Typed.{Typed}
 use Rattle.cr_typed.specs.declared.typed.Duration.TheVariants as duration
 use Rattle.cr_typed_unit.specs.Typed.{IsTypedBy}
 use Rattle.cr_meaning_operations.specs.Operations.{kind_if, kind_at, parts_if, parts_at, part_at, entity_of, is_automatic_by, is_automatic, is_case, is_declaration, is_static, is_static_initialiser, nodes_from}
-use Rattle.cr_meaning_typed.specs.Typing.{has_value, is_expression}
-use Rattle.cr_meaning_judged.specs.Judged.{seen_in}
-use Rattle.cr_meaning_units.specs.Owned.{AreOfUnit}
-use Rattle.cr_meaning_units.proofs.Rows.{clear_side, clear_laid, clear_at}
-use Rattle.cr_meaning_units.proofs.Handing.{laid_at, parts_below}
-use Rattle.cr_meaning_names.proofs.Parents.{IsPartOf, part_below, above_some}
-use Rattle.cr_meaning_sorts.specs.Founded.{parts_of}
-use Rattle.cr_meaning_whole.proofs.Whole.{is_initialiser}
-use Rattle.cr_meaning_known.specs.Shaped.{is_type_name, fits}
-use Rattle.cr_meaning_known.specs.Sighted.{AreSighted}
-use Rattle.cr_meaning_declared.specs.Files.{IsUnitOfFile}
-use Rattle.cr_meaning_sight.specs.Under.{is_under}
-use Rattle.cr_meaning_sight.proofs.Under.{under_at, outermost_outside}
-use Rattle.cr_meaning_constant.proofs.Names.{last}
+use Rattle.cr_meaning_typing.specs.Typed.Typing.{has_value, is_expression}
+use Rattle.cr_meaning_typing.specs.Judged.Judged.{seen_in}
+use Rattle.cr_meaning_declarations.specs.Units.Owned.{AreOfUnit}
+use Rattle.cr_meaning_declarations.proofs.UnitsLemmas.Rows.{clear_side, clear_laid, clear_at}
+use Rattle.cr_meaning_declarations.proofs.UnitsLemmas.Handing.{laid_at, parts_below}
+use Rattle.cr_meaning_declarations.proofs.NamesLemmas.Parents.{IsPartOf, part_below, above_some}
+use Rattle.cr_meaning_typing.specs.Sorts.Founded.{parts_of}
+use Rattle.cr_meaning_typing.proofs.WholeLemmas.Whole.{is_initialiser}
+use Rattle.cr_meaning_types.specs.Known.Shaped.{is_type_name, fits}
+use Rattle.cr_meaning_types.specs.Known.Sighted.{AreSighted}
+use Rattle.cr_meaning_declarations.specs.Declared.Files.{IsUnitOfFile}
+use Rattle.cr_meaning_declarations.specs.Sight.Under.{is_under}
+use Rattle.cr_meaning_declarations.proofs.SightLemmas.Under.{under_at, outermost_outside}
+use Rattle.cr_meaning_references.proofs.ConstantLemmas.Names.{last}
 use Rattle.cr_meaning_files.specs.Reached.{is_item, is_size, is_declaring, is_list, is_listing, is_definition, is_block, is_going, goes_on, lives_below, lives, is_reached}
 use Rattle.cr_meaning_files.specs.Local.{is_early}
 use Rattle.cr_meaning_files.proofs.Grammar.{part_in, Stands, row}

@@ -12,8 +12,8 @@ use Rattle.cr_typed.specs.declared.typed.Typed.{Typed}
 use Rattle.cr_typed.specs.Typed.{MOST_CELLS}
 use Rattle.cr_meaning_operations.specs.Shapes.{type_of_node, named_type, cells_of}
 use Rattle.cr_meaning_operations.specs.Operations.{entity_of}
-use Rattle.cr_meaning_typed.specs.Placed.{IsObject}
-use Rattle.cr_meaning_initialised.specs.Composites.{IsSized}
+use Rattle.cr_meaning_typing.specs.Typed.Placed.{IsObject}
+use Rattle.cr_meaning_initialisation.specs.Initialised.Composites.{IsSized}
 use Rattle.cr_meaning_files.specs.Celled as Laws
 use Rattle.cr_meaning_files.specs.Celled.{HasSizedElements}
 

@@ -17,7 +17,7 @@ use Rattle.cr_scopes_events.specs.declared.declarator.Declarator.{Declarator as 
 use Rattle.cr_scopes_events.specs.Declarators.{nowhere, declared_by as names_by, declared_if, declarator_of}
 use Rattle.cr_scopes_events.specs.Scripts as scripts
 use Rattle.cr_scopes_events.proofs.Descents.{declarator_ruled}
-use Rattle.cr_scopes_shared.specs.Origins.{is_external}
+use Rattle.cr_scopes_linkage.specs.Shared.Origins.{is_external}
 use Rattle.cr_check_types.specs.Types.{Qualified}
 use Rattle.cr_check_expressions.specs.Known.{spelling_of}
 use Rattle.cr_check_expressions.specs.Forms.{form_of}
@@ -30,14 +30,14 @@ use Rattle.cr_check_declarations.specs.Before.{declarator_in}
 use Rattle.cr_check_declarations.specs.Named.{class_of, is_typedef, is_initialised, is_declarator, is_declaration as is_declaration_kind, declares_name, names_ordinary, ordinary_by, ordinary_of, specifiers_in, declared_by as declares_by, above_in, declaration_at, declaration_of}
 use Rattle.cr_check_declarations.specs.Faults.{has_at, is_specifier, whole_faults}
 use Rattle.cr_check_unit.specs.Typing.{cut, entry_at, before_in}
-use Rattle.cr_meaning_typed.specs.Laws.{HoldsAll}
-use Rattle.cr_meaning_typed.specs.Typing.{is_expression}
-use Rattle.cr_meaning_known.specs.Shaped.{fits}
-use Rattle.cr_meaning_known.proofs.Declaring.{declarator_holds}
-use Rattle.cr_meaning_chained.proofs.Known.{definitions}
-use Rattle.cr_meaning_objects.proofs.Alone.{value_made}
-use Rattle.cr_meaning_objects.proofs.Declaring.{IsLast, last_there}
-use Rattle.cr_meaning_objects.proofs.Statics.{no_constant, object_if, only_initialised}
+use Rattle.cr_meaning_typing.specs.Typed.Laws.{HoldsAll}
+use Rattle.cr_meaning_typing.specs.Typed.Typing.{is_expression}
+use Rattle.cr_meaning_types.specs.Known.Shaped.{fits}
+use Rattle.cr_meaning_types.proofs.KnownLemmas.Declaring.{declarator_holds}
+use Rattle.cr_meaning_composites.proofs.ChainedLemmas.Known.{definitions}
+use Rattle.cr_meaning_composites.proofs.ObjectsLemmas.Alone.{value_made}
+use Rattle.cr_meaning_composites.proofs.ObjectsLemmas.Declaring.{IsLast, last_there}
+use Rattle.cr_meaning_composites.proofs.ObjectsLemmas.Statics.{no_constant, object_if, only_initialised}
 use Rattle.cr_meaning_files.proofs.Living.{one_of}
 use Rattle.cr_meaning_files.proofs.Lists.{list_counts}
 use Rattle.cr_meaning_files.proofs.Parameters.{found_below, unit_parts, parameters_are, named_locally}
@@ -76,16 +76,16 @@ use Rattle.cr_typed_columns.specs.Entities as entities
 use Rattle.cr_typed_columns.specs.Names as names
 use Rattle.cr_typed_unit.specs.Typed.{IsTypedBy}
 use Rattle.cr_meaning_operations.specs.Operations.{kind_if, kind_at, parts_if, parts_at, part_at, is_name, name_by, name_of, entity_of, is_automatic_by, is_static_by, is_automatic, is_declaration, declarators_of}
-use Rattle.cr_meaning_units.specs.Owned.{AreOfUnit, declared_by, is_declared, declares, owns}
-use Rattle.cr_meaning_units.proofs.Handing.{owning}
-use Rattle.cr_meaning_names.proofs.Leaves.{is_named, named_once}
-use Rattle.cr_meaning_names.proofs.Parents.{IsPartOf, part_below, above_is, above_some}
-use Rattle.cr_meaning_declared.specs.Files.{IsUnitOfFile}
-use Rattle.cr_meaning_declared.proofs.Bodies.{IsThere, listed_at, last_has, name_there, node_of}
-use Rattle.cr_meaning_declared.proofs.Once as declared
-use Rattle.cr_meaning_declared.proofs.Once.{IsAutomatic, automatic_at, token_is}
-use Rattle.cr_meaning_judged.specs.Judged.{seen_in, source_of, scene_of, IsJudged}
-use Rattle.cr_meaning_judged.proofs.Judged.{judged}
+use Rattle.cr_meaning_declarations.specs.Units.Owned.{AreOfUnit, declared_by, is_declared, declares, owns}
+use Rattle.cr_meaning_declarations.proofs.UnitsLemmas.Handing.{owning}
+use Rattle.cr_meaning_declarations.proofs.NamesLemmas.Leaves.{is_named, named_once}
+use Rattle.cr_meaning_declarations.proofs.NamesLemmas.Parents.{IsPartOf, part_below, above_is, above_some}
+use Rattle.cr_meaning_declarations.specs.Declared.Files.{IsUnitOfFile}
+use Rattle.cr_meaning_declarations.proofs.DeclaredLemmas.Bodies.{IsThere, listed_at, last_has, name_there, node_of}
+use Rattle.cr_meaning_declarations.proofs.DeclaredLemmas.Once as declared
+use Rattle.cr_meaning_declarations.proofs.DeclaredLemmas.Once.{IsAutomatic, automatic_at, token_is}
+use Rattle.cr_meaning_typing.specs.Judged.Judged.{seen_in, source_of, scene_of, IsJudged}
+use Rattle.cr_meaning_typing.proofs.JudgedLemmas.Judged.{judged}
 use Rattle.cr_meaning_files.specs.Reached.{is_declaring, is_definition, is_list}
 use Rattle.cr_meaning_files.specs.Seen.{is_one_of, sees}
 use Rattle.cr_meaning_files.specs.Local.{declaration_if, declaration_by, declaration_around, is_held_by, is_local, is_parameter_below, is_parameter, is_own_parameter, is_object_by, is_entered, is_early}

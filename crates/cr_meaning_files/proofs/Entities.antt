@@ -12,10 +12,10 @@ use Rattle.cr_scopes.specs.declared.scope.Found.{Found}
 use Rattle.cr_scopes.specs.declared.scope.Look.{Look}
 use Rattle.cr_scopes.specs.Looking.{or_else, or_given, is_outermost, links, linked, stands_in, is_mention, begun, noted_if, look}
 use Rattle.cr_scopes.specs.Resolved.{space_of, space_number, declares, told_if, told_of, told, past_of, told_below, AreResolved}
-use Rattle.cr_scopes_alone.proofs.First.{one_number}
+use Rattle.cr_scopes_visibility.proofs.AloneLemmas.First.{one_number}
 use Rattle.cr_scopes_bindings.specs.Entities.{entity_at}
-use Rattle.cr_scopes_meant.proofs.Linked.{first_is}
-use Rattle.cr_meaning_kept.proofs.Uses.{first_of_site}
+use Rattle.cr_scopes_linkage.proofs.MeantLemmas.Linked.{first_is}
+use Rattle.cr_meaning_references.proofs.KeptLemmas.Uses.{first_of_site}
 
 module _ (name : ℕ → ℕ) where
   begun_name : (past : List Event) (t : ℕ) (r : Role) → name (begun name past t r).first ≡ name t

@@ -28,7 +28,7 @@ use Rattle.cr_check_declarations.specs.Before.{enumerated_in, kind_in}
 use Rattle.cr_check_declarations.specs.Contents.{enumerator_by, given_in}
 use Rattle.cr_check_declarations.specs.declared.tree.Tree.{Tree}
 use Rattle.cr_check_declarations.specs.Named.{class_of, is_typedef, value_by, ordinary_by, ordinary_of, names_ordinary, specifiers_in, constant_by, named_declared, declares_name, declared_by as declares_by, declaration_of}
-use Rattle.cr_check_ranges.proofs.Ranges.{enumerators}
+use Rattle.cr_check_constant_values.proofs.RangesLemmas.Ranges.{enumerators}
 use Rattle.cr_check_unit.specs.declared.typing.Typing.{Typing}
 use Rattle.cr_check_unit.specs.Typing.{cut, entry_at, before_in, IsRuled, IsRuledIf, IsTyping}
 use Rattle.cr_meaning_operations.specs.Shapes.{kind_in as kind_of_type}

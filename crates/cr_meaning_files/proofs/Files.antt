@@ -6,7 +6,7 @@ use Rattle.cr_ints.specs.IntKind.{Represents}
 use Rattle.cr_syntax.specs.declared.node.Kind.{Kind}
 use Rattle.cr_syntax.specs.declared.node.Kind.TheVariants as kind
 use Rattle.cr_syntax.specs.declared.node.Node.{Node}
-use Rattle.cr_scopes_sight.specs.Scopes.{is_using}
+use Rattle.cr_scopes_visibility.specs.Sight.Scopes.{is_using}
 use Rattle.cr_check_types.specs.declared.layout.Layout.{Layout}
 use Rattle.cr_check_types.specs.Types.{Qualified, type_at}
 use Rattle.cr_check_types.specs.Relations.{is_complete_at}
@@ -22,8 +22,8 @@ use Rattle.cr_check_expressions.specs.declared.known.Declared.TheVariants.{Objec
 use Rattle.cr_check_expressions.specs.Known.{Signature, a_function, an_enumerator, meaning_by}
 use Rattle.cr_check_expressions.specs.Forms.{form_of}
 use Rattle.cr_check_expressions.specs.Ruled.{given, literal, is_type, complete, operand, sized, ruled}
-use Rattle.cr_check_ranges.specs.Laws.{IsInRange}
-use Rattle.cr_check_ranges.proofs.Ranges.{integers, characters, sizes}
+use Rattle.cr_check_constant_values.specs.Ranges.Laws.{IsInRange}
+use Rattle.cr_check_constant_values.proofs.RangesLemmas.Ranges.{integers, characters, sizes}
 use Rattle.cr_check.specs.declared.checked.Checked.{Checked}
 use Rattle.cr_typed.specs.declared.typed.Typed.{Typed}
 use Rattle.cr_typed_unit.specs.Typed.{IsTypedBy}
@@ -34,24 +34,24 @@ use Rattle.cr_meaning.specs.declared.run.Limits.{Limits}
 use Rattle.cr_meaning_soundness.specs.Sorts.{Sort}
 use Rattle.cr_meaning_operations.specs.Shapes.{type_of_node, named_type, kind_in}
 use Rattle.cr_meaning_operations.specs.Operations.{kind_if, kind_at, parts_if, parts_at, pointed, left_type, name_of, entity_of, function_in, parameter_of, callee_of, is_static_initialiser, op_of, program_of}
-use Rattle.cr_meaning_typed.specs.Placed.{IsNamed}
-use Rattle.cr_meaning_typed.specs.Typing.{has_value, is_asked, is_expression}
-use Rattle.cr_meaning_typed.specs.Whole as readable
-use Rattle.cr_meaning_typed.proofs.Units.{all_worth}
-use Rattle.cr_meaning_typed.proofs.Worth.{worth_typed}
-use Rattle.cr_meaning_judged.specs.Judged.{seen_in, source_of, scene_of, IsJudged}
-use Rattle.cr_meaning_judged.proofs.Judged.{judged}
-use Rattle.cr_meaning_declared.specs.Files.{IsUnitOfFile, assembled}
-use Rattle.cr_meaning_calls.specs.Calls.{IsParameter}
-use Rattle.cr_meaning_expressions.specs.Places.{HasCells, IsMemberIn}
-use Rattle.cr_meaning_sorts.specs.Table.{Judgement, sort_at, sorts_in}
-use Rattle.cr_meaning_sorts.specs.Founded.{is_known, is_followed, IsFound, AreInRange, AreReached, AreCalls}
-use Rattle.cr_meaning_whole.specs.Statements.{BlocksRise, IsIn, IsInitialised, IsFounded}
-use Rattle.cr_meaning_whole.specs.Whole.{IsReady}
-use Rattle.cr_meaning_whole.proofs.Around.{rise}
-use Rattle.cr_meaning_whole.proofs.Statements.{nodes}
-use Rattle.cr_meaning_declared.proofs.Runs.{files_run_alike}
-use Rattle.cr_meaning_whole.proofs.Whole.{outcomes, typed}
+use Rattle.cr_meaning_typing.specs.Typed.Placed.{IsNamed}
+use Rattle.cr_meaning_typing.specs.Typed.Typing.{has_value, is_asked, is_expression}
+use Rattle.cr_meaning_typing.specs.Typed.Whole as readable
+use Rattle.cr_meaning_typing.proofs.TypedLemmas.Units.{all_worth}
+use Rattle.cr_meaning_typing.proofs.TypedLemmas.Worth.{worth_typed}
+use Rattle.cr_meaning_typing.specs.Judged.Judged.{seen_in, source_of, scene_of, IsJudged}
+use Rattle.cr_meaning_typing.proofs.JudgedLemmas.Judged.{judged}
+use Rattle.cr_meaning_declarations.specs.Declared.Files.{IsUnitOfFile, assembled}
+use Rattle.cr_meaning_typing.specs.Calls.Calls.{IsParameter}
+use Rattle.cr_meaning_typing.specs.Expressions.Places.{HasCells, IsMemberIn}
+use Rattle.cr_meaning_typing.specs.Sorts.Table.{Judgement, sort_at, sorts_in}
+use Rattle.cr_meaning_typing.specs.Sorts.Founded.{is_known, is_followed, IsFound, AreInRange, AreReached, AreCalls}
+use Rattle.cr_meaning_typing.specs.Whole.Statements.{BlocksRise, IsIn, IsInitialised, IsFounded}
+use Rattle.cr_meaning_typing.specs.Whole.Whole.{IsReady}
+use Rattle.cr_meaning_typing.proofs.WholeLemmas.Around.{rise}
+use Rattle.cr_meaning_typing.proofs.WholeLemmas.Statements.{nodes}
+use Rattle.cr_meaning_declarations.proofs.DeclaredLemmas.Runs.{files_run_alike}
+use Rattle.cr_meaning_typing.proofs.WholeLemmas.Whole.{outcomes, typed}
 use Rattle.cr_meaning_files.specs.Reached.{is_item, is_definition, is_reached}
 use Rattle.cr_meaning_files.specs.Seen.{sees}
 use Rattle.cr_meaning_files.specs.Local.{is_object_by}
@@ -69,14 +69,14 @@ use Rattle.cr_meaning_files.proofs.Calls.{call_names, call_clear, text_there}
 use Rattle.cr_meaning_files.proofs.Library.{library_called}
 use Rattle.cr_meaning_files.proofs.Results.{function_gives, returned_given}
 use Rattle.cr_meaning_files.proofs.Followed.{followed_type}
-use Rattle.cr_meaning_called.specs.Laws.{IsMeant}
+use Rattle.cr_meaning_initialisation.specs.Called.Laws.{IsMeant}
 use Rattle.cr_meaning_files.proofs.Objects.{has_cells, names_cells}
 use Rattle.cr_meaning_files.proofs.Defined.{define}
-use Rattle.cr_meaning_called.proofs.Fitting.{fitting}
-use Rattle.cr_meaning_called.proofs.Objects.{objects as parameters_taken}
-use Rattle.cr_meaning_closed.proofs.Closed.{calls_closed}
-use Rattle.cr_meaning_known.specs.Sighted.{AreSighted}
-use Rattle.cr_meaning_objects.proofs.Statics.{static_first}
+use Rattle.cr_meaning_initialisation.proofs.CalledLemmas.Fitting.{fitting}
+use Rattle.cr_meaning_initialisation.proofs.CalledLemmas.Objects.{objects as parameters_taken}
+use Rattle.cr_meaning_initialisation.proofs.ClosedLemmas.Closed.{calls_closed}
+use Rattle.cr_meaning_types.specs.Known.Sighted.{AreSighted}
+use Rattle.cr_meaning_composites.proofs.ObjectsLemmas.Statics.{static_first}
 use Rattle.cr_meaning_files.proofs.Declared.{types_known, read, members_whole}
 use Rattle.cr_meaning_files.proofs.Returns.{result}
 use Rattle.cr_meaning_files.proofs.Shaped.{shaped}

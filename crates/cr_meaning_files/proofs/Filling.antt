@@ -32,13 +32,13 @@ use Rattle.cr_typed_columns.specs.Rows.{put_entry}
 use Rattle.cr_typed_columns.specs.Expressions.{fills_array, is_array, is_filling}
 use Rattle.cr_typed_unit.specs.Typed.{IsTypedBy}
 use Rattle.cr_meaning_operations.specs.Operations.{kind_if, kind_at, parts_if, parts_at}
-use Rattle.cr_meaning_typed.specs.Laws.{HoldsAll}
-use Rattle.cr_meaning_typed.specs.Typing.{has_value}
-use Rattle.cr_meaning_typed.proofs.Worth.{unbroken}
-use Rattle.cr_meaning_judged.specs.Judged.{seen_in}
-use Rattle.cr_meaning_units.specs.Owned.{AreOfUnit}
-use Rattle.cr_meaning_declared.specs.Files.{IsUnitOfFile}
-use Rattle.cr_meaning_declared.proofs.Nodes.{of_unit}
+use Rattle.cr_meaning_typing.specs.Typed.Laws.{HoldsAll}
+use Rattle.cr_meaning_typing.specs.Typed.Typing.{has_value}
+use Rattle.cr_meaning_typing.proofs.TypedLemmas.Worth.{unbroken}
+use Rattle.cr_meaning_typing.specs.Judged.Judged.{seen_in}
+use Rattle.cr_meaning_declarations.specs.Units.Owned.{AreOfUnit}
+use Rattle.cr_meaning_declarations.specs.Declared.Files.{IsUnitOfFile}
+use Rattle.cr_meaning_declarations.proofs.DeclaredLemmas.Nodes.{of_unit}
 use Rattle.cr_meaning_files.specs.Reached.{is_list}
 use Rattle.cr_meaning_files.proofs.Putting.{IsPut, AreEntries, second, filled_if, line_at, of_initialised}
 

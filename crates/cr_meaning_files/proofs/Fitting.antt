@@ -10,8 +10,8 @@ use Rattle.cr_syntax_nodes.specs.Laid.{stands_for}
 use Rattle.cr_check_expressions.specs.Forms.{form_of}
 use Rattle.cr_check_declarations.specs.Named.{is_declarator, is_initialised, declares_name}
 use Rattle.cr_check_declarations.specs.Faults.{is_specifier}
-use Rattle.cr_meaning_known.specs.Shaped.{is_single, is_member_declaration, is_parameter_kind, is_parameter_list, is_type_name, fits, is_filled}
-use Rattle.cr_meaning_typed.specs.Typing.{is_expression}
+use Rattle.cr_meaning_types.specs.Known.Shaped.{is_single, is_member_declaration, is_parameter_kind, is_parameter_list, is_type_name, fits, is_filled}
+use Rattle.cr_meaning_typing.specs.Typed.Typing.{is_expression}
 use Rattle.cr_meaning_files.proofs.Grammar.{part_in, Stands, row}
 use Rattle.cr_meaning_files.proofs.Tables.{is_jump, expressions_stand}
 

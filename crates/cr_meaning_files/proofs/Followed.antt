@@ -11,8 +11,8 @@ use Rattle.cr_check_operands.specs.Places.{followed, dereferenced, subscripted}
 use Rattle.cr_check_expressions.specs.Forms.{form_of}
 use Rattle.cr_check_expressions.specs.Known.{Source}
 use Rattle.cr_check_expressions.specs.Ruled.{complete, value, ruled}
-use Rattle.cr_meaning_typed.specs.Typing.{has_value}
-use Rattle.cr_meaning_sorts.specs.Founded.{is_followed}
+use Rattle.cr_meaning_typing.specs.Typed.Typing.{has_value}
+use Rattle.cr_meaning_typing.specs.Sorts.Founded.{is_followed}
 
 followed_complete : (whole_at : Qualified → Bool) (type : Qualified) → has_value (followed whole_at type).type ≡ true → whole_at (followed whole_at type).type ≡ true
 followed_complete whole_at type h = by (whole_at type) refl h

@@ -9,10 +9,10 @@ use Rattle.cr_check_enclosing.specs.Around.{inside, outermost}
 use Rattle.cr_check_expressions.specs.Forms.{form_of}
 use Rattle.cr_typed.specs.declared.typed.Typed.{Typed}
 use Rattle.cr_meaning_operations.specs.Operations.{kind_at, parts_if, is_automatic, is_case, is_declaration, is_static_initialiser}
-use Rattle.cr_meaning_typed.specs.Typing.{is_expression}
-use Rattle.cr_meaning_units.specs.Owned.{AreOfUnit}
-use Rattle.cr_meaning_names.proofs.Parents.{IsPartOf, above_some}
-use Rattle.cr_meaning_declared.specs.Files.{IsUnitOfFile}
+use Rattle.cr_meaning_typing.specs.Typed.Typing.{is_expression}
+use Rattle.cr_meaning_declarations.specs.Units.Owned.{AreOfUnit}
+use Rattle.cr_meaning_declarations.proofs.NamesLemmas.Parents.{IsPartOf, above_some}
+use Rattle.cr_meaning_declarations.specs.Declared.Files.{IsUnitOfFile}
 use Rattle.cr_meaning_files.specs.Reached.{is_item, is_declaring, is_list, is_listing, is_definition, is_block, is_going, goes_on, lives_below, lives_by, lives}
 use Rattle.cr_meaning_files.proofs.Tables.{item_is, item_apart, item_lists_nothing, case_item}
 use Rattle.cr_meaning_files.proofs.Tree.{has_part}

@@ -33,28 +33,28 @@ use Rattle.cr_meaning_soundness.specs.Sorts.{Sort, place, chars, statement, sort
 use Rattle.cr_meaning_soundness.specs.Statements.{sorts_of}
 use Rattle.cr_meaning_operations.specs.Shapes.{type_of_node, form_of, shape_of}
 use Rattle.cr_meaning_operations.specs.Operations.{kind_if, kind_at, parts_if, parts_at, name_of, entity_of, line_of, program_of}
-use Rattle.cr_meaning_typed.specs.Good.{value_sort, place_sort, row_at}
-use Rattle.cr_meaning_typed.specs.Typing.{has_value, is_expression}
-use Rattle.cr_meaning_judged.specs.Judged.{seen_in, source_of, scene_of, IsJudged}
-use Rattle.cr_meaning_judged.proofs.Judged.{judged}
-use Rattle.cr_meaning_known.specs.Sighted.{AreSighted}
-use Rattle.cr_meaning_known.proofs.Listing.{mapped}
-use Rattle.cr_meaning_units.specs.Owned.{AreOfUnit}
-use Rattle.cr_meaning_names.proofs.Parents.{IsPartOf}
-use Rattle.cr_meaning_sight.specs.Under.{is_under}
-use Rattle.cr_meaning_sight.proofs.Under.{directly, deeper, not_above, under_at}
-use Rattle.cr_meaning_declared.specs.Files.{IsUnitOfFile}
-use Rattle.cr_meaning_expressions.specs.Used.{beside_sort, used_sort}
-use Rattle.cr_meaning_sorts.specs.Table.{Judgement, size_at, exits_at, expression_sort, sort_at, sorts_in}
-use Rattle.cr_meaning_initialised.specs.Parts.{IsPart, IsPlaced}
-use Rattle.cr_meaning_initialised.specs.Asked.{HaveBytes}
-use Rattle.cr_meaning_initialised.specs.Taken.{IsTaken, IsHeld, IsLine}
-use Rattle.cr_meaning_initialised.proofs.Parts.{set_parts}
-use Rattle.cr_meaning_initialised.proofs.Once.{put_once}
-use Rattle.cr_meaning_initialised.proofs.Asked.{asked_for}
-use Rattle.cr_meaning_initialised.proofs.Taken.{taken}
-use Rattle.cr_meaning_initialised.proofs.Lines.{part_cells, lines as set_lines}
-use Rattle.cr_meaning_whole.specs.Statements.{IsInitialised}
+use Rattle.cr_meaning_typing.specs.Typed.Good.{value_sort, place_sort, row_at}
+use Rattle.cr_meaning_typing.specs.Typed.Typing.{has_value, is_expression}
+use Rattle.cr_meaning_typing.specs.Judged.Judged.{seen_in, source_of, scene_of, IsJudged}
+use Rattle.cr_meaning_typing.proofs.JudgedLemmas.Judged.{judged}
+use Rattle.cr_meaning_types.specs.Known.Sighted.{AreSighted}
+use Rattle.cr_meaning_types.proofs.KnownLemmas.Listing.{mapped}
+use Rattle.cr_meaning_declarations.specs.Units.Owned.{AreOfUnit}
+use Rattle.cr_meaning_declarations.proofs.NamesLemmas.Parents.{IsPartOf}
+use Rattle.cr_meaning_declarations.specs.Sight.Under.{is_under}
+use Rattle.cr_meaning_declarations.proofs.SightLemmas.Under.{directly, deeper, not_above, under_at}
+use Rattle.cr_meaning_declarations.specs.Declared.Files.{IsUnitOfFile}
+use Rattle.cr_meaning_typing.specs.Expressions.Used.{beside_sort, used_sort}
+use Rattle.cr_meaning_typing.specs.Sorts.Table.{Judgement, size_at, exits_at, expression_sort, sort_at, sorts_in}
+use Rattle.cr_meaning_initialisation.specs.Initialised.Parts.{IsPart, IsPlaced}
+use Rattle.cr_meaning_initialisation.specs.Initialised.Asked.{HaveBytes}
+use Rattle.cr_meaning_initialisation.specs.Initialised.Taken.{IsTaken, IsHeld, IsLine}
+use Rattle.cr_meaning_initialisation.proofs.InitialisedLemmas.Parts.{set_parts}
+use Rattle.cr_meaning_initialisation.proofs.InitialisedLemmas.Once.{put_once}
+use Rattle.cr_meaning_initialisation.proofs.InitialisedLemmas.Asked.{asked_for}
+use Rattle.cr_meaning_initialisation.proofs.InitialisedLemmas.Taken.{taken}
+use Rattle.cr_meaning_initialisation.proofs.InitialisedLemmas.Lines.{part_cells, lines as set_lines}
+use Rattle.cr_meaning_typing.specs.Whole.Statements.{IsInitialised}
 use Rattle.cr_meaning_files.specs.Reached.{is_list, is_listing}
 use Rattle.cr_meaning_files.specs.Seen.{sees}
 use Rattle.cr_meaning_files.specs.Structures.{IsWhole, AreMembersWhole}

@@ -29,15 +29,15 @@ use Rattle.cr_meaning.specs.declared.op.Target.{Target}
 use Rattle.cr_meaning_soundness.specs.Sorts.{IsAmong}
 use Rattle.cr_meaning_soundness.specs.Statements.{of_function}
 use Rattle.cr_meaning_operations.specs.Operations.{kind_if, kind_at, parts_if, parts_at, part_at, entity_if, entity_of, is_case, is_default, is_mark, labelled, marks_by, target_of, targets_from, is_static_initialiser}
-use Rattle.cr_meaning_typed.specs.Placed.{exits_in}
-use Rattle.cr_meaning_typed.proofs.Worth.{unbroken}
-use Rattle.cr_meaning_typed.proofs.Units.{listed_at}
-use Rattle.cr_meaning_judged.specs.Judged.{seen_in, source_of, scene_of, IsJudged}
-use Rattle.cr_meaning_judged.proofs.Judged.{judged}
-use Rattle.cr_meaning_units.specs.Owned.{AreOfUnit}
-use Rattle.cr_meaning_declared.specs.Files.{IsUnitOfFile}
-use Rattle.cr_meaning_sorts.specs.Table.{Judgement, labels_by, result_of, labels_of, exits_at}
-use Rattle.cr_meaning_whole.specs.Statements.{is_labelled}
+use Rattle.cr_meaning_typing.specs.Typed.Placed.{exits_in}
+use Rattle.cr_meaning_typing.proofs.TypedLemmas.Worth.{unbroken}
+use Rattle.cr_meaning_typing.proofs.TypedLemmas.Units.{listed_at}
+use Rattle.cr_meaning_typing.specs.Judged.Judged.{seen_in, source_of, scene_of, IsJudged}
+use Rattle.cr_meaning_typing.proofs.JudgedLemmas.Judged.{judged}
+use Rattle.cr_meaning_declarations.specs.Units.Owned.{AreOfUnit}
+use Rattle.cr_meaning_declarations.specs.Declared.Files.{IsUnitOfFile}
+use Rattle.cr_meaning_typing.specs.Sorts.Table.{Judgement, labels_by, result_of, labels_of, exits_at}
+use Rattle.cr_meaning_typing.specs.Whole.Statements.{is_labelled}
 use Rattle.cr_meaning_files.specs.Reached.{is_item}
 use Rattle.cr_meaning_files.specs.Files.{judgement_of}
 use Rattle.cr_meaning_files.proofs.Grammar.{part_in, is_of}

@@ -17,15 +17,15 @@ use Rattle.cr_typed_columns.specs.Reading.{kind_of, part_of}
 use Rattle.cr_typed_columns.specs.Expressions.{form_if, is_part, is_filling, seen_of, valued_of}
 use Rattle.cr_typed_unit.specs.Typed.{IsTypedBy}
 use Rattle.cr_meaning_operations.specs.Operations.{kind_if, kind_at, parts_at, part_at}
-use Rattle.cr_meaning_typed.specs.Typing.{has_value, is_asked, is_expression}
-use Rattle.cr_meaning_typed.specs.Whole as readable
-use Rattle.cr_meaning_typed.proofs.Units.{listed_at}
-use Rattle.cr_meaning_judged.specs.Judged.{seen_in, source_of, scene_of, IsJudged}
-use Rattle.cr_meaning_judged.proofs.Judged.{judged}
-use Rattle.cr_meaning_names.proofs.Parents.{IsPartOf, one_parent}
-use Rattle.cr_meaning_declared.specs.Files.{IsUnitOfFile}
-use Rattle.cr_meaning_sorts.specs.Founded.{IsOperand, AreLaidOut}
-use Rattle.cr_meaning_initialised.proofs.Twice.{one_place}
+use Rattle.cr_meaning_typing.specs.Typed.Typing.{has_value, is_asked, is_expression}
+use Rattle.cr_meaning_typing.specs.Typed.Whole as readable
+use Rattle.cr_meaning_typing.proofs.TypedLemmas.Units.{listed_at}
+use Rattle.cr_meaning_typing.specs.Judged.Judged.{seen_in, source_of, scene_of, IsJudged}
+use Rattle.cr_meaning_typing.proofs.JudgedLemmas.Judged.{judged}
+use Rattle.cr_meaning_declarations.proofs.NamesLemmas.Parents.{IsPartOf, one_parent}
+use Rattle.cr_meaning_declarations.specs.Declared.Files.{IsUnitOfFile}
+use Rattle.cr_meaning_typing.specs.Sorts.Founded.{IsOperand, AreLaidOut}
+use Rattle.cr_meaning_initialisation.proofs.InitialisedLemmas.Twice.{one_place}
 use Rattle.cr_meaning_files.specs.Reached.{is_list, is_listing}
 use Rattle.cr_meaning_files.specs.Files.{judgement_of}
 use Rattle.cr_meaning_files.proofs.Grammar.{part_in, is_of}

@@ -4,8 +4,8 @@ use Rattle.cr_syntax.specs.declared.node.Kind.TheVariants as kind
 use Rattle.cr_typed.specs.declared.typed.Typed.{Typed}
 use Rattle.cr_typed.specs.declared.typed.Duration.TheVariants as duration
 use Rattle.cr_meaning_operations.specs.Operations.{kind_at, name_of, entity_of, is_static_by, is_lasting, is_static_initialiser}
-use Rattle.cr_meaning_declared.specs.Files.{IsUnitOfFile}
-use Rattle.cr_meaning_lasting.proofs.Firsts.{static_named, lasts}
+use Rattle.cr_meaning_declarations.specs.Declared.Files.{IsUnitOfFile}
+use Rattle.cr_meaning_declarations.proofs.LastingLemmas.Firsts.{static_named, lasts}
 use Rattle.cr_meaning_files.specs.Seen.{sees}
 use Rattle.cr_meaning_files.proofs.Seen.{lasting_seen}
 

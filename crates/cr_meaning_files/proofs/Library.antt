@@ -16,8 +16,8 @@ use Rattle.cr_check_expressions.specs.Ruled.{is_parameter}
 use Rattle.cr_check_declarators.specs.declared.functions.Library.{Library}
 use Rattle.cr_check_declarators.specs.declared.functions.Library.TheVariants.{Printf, Putchar, Abort, Exit}
 use Rattle.cr_check_declarators.specs.Functions.{is_int, is_plain_int, is_plain_void, is_format, takes_one, library_of}
-use Rattle.cr_check_callees.specs.Laws.{IsOf}
-use Rattle.cr_check_callees.proofs.Callees.{calls_typed}
+use Rattle.cr_check_signatures.specs.Callees.Laws.{IsOf}
+use Rattle.cr_check_signatures.proofs.CalleesLemmas.Callees.{calls_typed}
 use Rattle.cr_typed.specs.declared.typed.Typed.{Typed}
 use Rattle.cr_typed_unit.specs.Typed.{IsTypedBy}
 use Rattle.cr_meaning.specs.World.{Program}
@@ -26,11 +26,11 @@ use Rattle.cr_meaning.specs.declared.op.Callee.TheVariants as callee
 use Rattle.cr_meaning_soundness.specs.Sorts.{Sort}
 use Rattle.cr_meaning_operations.specs.Shapes.{named_type, value_type}
 use Rattle.cr_meaning_operations.specs.Operations.{parts_at, first_if, first_at, entity_of, function_in, spelling_if, calls, is_text, function_of, callee_of}
-use Rattle.cr_meaning_typed.specs.Typing.{IsClear}
-use Rattle.cr_meaning_typed.proofs.Worth.{worth_typed}
-use Rattle.cr_meaning_calls.specs.Calls.{Is, IsInt, IsVoid, IsAddress, IsCalled}
-use Rattle.cr_meaning_judged.specs.Judged.{source_of}
-use Rattle.cr_meaning_declared.specs.Files.{IsUnitOfFile}
+use Rattle.cr_meaning_typing.specs.Typed.Typing.{IsClear}
+use Rattle.cr_meaning_typing.proofs.TypedLemmas.Worth.{worth_typed}
+use Rattle.cr_meaning_typing.specs.Calls.Calls.{Is, IsInt, IsVoid, IsAddress, IsCalled}
+use Rattle.cr_meaning_typing.specs.Judged.Judged.{source_of}
+use Rattle.cr_meaning_declarations.specs.Declared.Files.{IsUnitOfFile}
 
 -- ---- what a type of the library has
 

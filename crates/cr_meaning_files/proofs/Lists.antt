@@ -26,25 +26,25 @@ use Rattle.cr_scopes_bindings.specs.declared.scoped.Binding.TheVariants.{Bound, 
 use Rattle.cr_scopes_bindings.specs.Stacks.{stack_of, found_in}
 use Rattle.cr_scopes_bindings.specs.Visible.{latest, visible, is_named as named_before}
 use Rattle.cr_scopes_bindings.proofs.Looking.{looked}
-use Rattle.cr_scopes_alone.specs.Sight.{is_bound, is_used, IsSeen}
-use Rattle.cr_scopes_sight.specs.Scopes.{is_using, is_tagging, IsApart}
-use Rattle.cr_scopes_parameters.specs.Definitions.{is_holding, AreOrdered, IsLone, AreWithin}
-use Rattle.cr_scopes_parameters.proofs.Walks.{list_alone}
-use Rattle.cr_scopes_uses.specs.Uses.{is_use}
+use Rattle.cr_scopes_visibility.specs.Alone.Sight.{is_bound, is_used, IsSeen}
+use Rattle.cr_scopes_visibility.specs.Sight.Scopes.{is_using, is_tagging, IsApart}
+use Rattle.cr_scopes_visibility.specs.Parameters.Definitions.{is_holding, AreOrdered, IsLone, AreWithin}
+use Rattle.cr_scopes_visibility.proofs.ParametersLemmas.Walks.{list_alone}
+use Rattle.cr_scopes_visibility.specs.Uses.Uses.{is_use}
 use Rattle.cr_check_enclosing.specs.Above.{above_of}
 use Rattle.cr_typed.specs.declared.typed.Typed.{Typed}
 use Rattle.cr_typed_unit.specs.Typed.{IsTypedBy}
 use Rattle.cr_meaning_operations.specs.Operations.{kind_if, kind_at, parts_if, parts_at, is_static_initialiser}
-use Rattle.cr_meaning_units.specs.Owned.{AreOfUnit}
-use Rattle.cr_meaning_units.proofs.Rows.{clear_side, clear_laid, clear_at}
-use Rattle.cr_meaning_units.proofs.Handing.{laid_at, parts_below}
-use Rattle.cr_meaning_names.proofs.Leaves.{is_named, is_tagged, is_use as uses_name, is_word, word_once, named_once, no_tag, no_use}
-use Rattle.cr_meaning_names.proofs.Walks.{without, clears}
-use Rattle.cr_meaning_names.proofs.Parents.{IsPartOf, part_below, one_parent, no_item, above_is, above_some}
-use Rattle.cr_meaning_declared.specs.Files.{IsUnitOfFile}
-use Rattle.cr_meaning_sight.specs.Under.{is_under}
-use Rattle.cr_meaning_sight.proofs.Under.{under_at, item_outside, not_above, outermost_outside}
-use Rattle.cr_meaning_sight.proofs.Orderly.{orderly}
+use Rattle.cr_meaning_declarations.specs.Units.Owned.{AreOfUnit}
+use Rattle.cr_meaning_declarations.proofs.UnitsLemmas.Rows.{clear_side, clear_laid, clear_at}
+use Rattle.cr_meaning_declarations.proofs.UnitsLemmas.Handing.{laid_at, parts_below}
+use Rattle.cr_meaning_declarations.proofs.NamesLemmas.Leaves.{is_named, is_tagged, is_use as uses_name, is_word, word_once, named_once, no_tag, no_use}
+use Rattle.cr_meaning_declarations.proofs.NamesLemmas.Walks.{without, clears}
+use Rattle.cr_meaning_declarations.proofs.NamesLemmas.Parents.{IsPartOf, part_below, one_parent, no_item, above_is, above_some}
+use Rattle.cr_meaning_declarations.specs.Declared.Files.{IsUnitOfFile}
+use Rattle.cr_meaning_declarations.specs.Sight.Under.{is_under}
+use Rattle.cr_meaning_declarations.proofs.SightLemmas.Under.{under_at, item_outside, not_above, outermost_outside}
+use Rattle.cr_meaning_declarations.proofs.SightLemmas.Orderly.{orderly}
 use Rattle.cr_syntax_nodes.specs.Nodes.{most}
 use Rattle.cr_meaning_files.specs.Reached.{is_item, is_definition, is_block, goes_on, lives_below, lives, is_passed, is_run_kind, is_reached}
 use Rattle.cr_meaning_files.specs.Seen.{sees}
@@ -52,7 +52,7 @@ use Rattle.cr_meaning_files.proofs.Grammar.{Stands, part_in}
 use Rattle.cr_meaning_files.proofs.Living.{one_of, lives_is}
 use Rattle.cr_meaning_files.proofs.Filling.{unit}
 use Rattle.cr_meaning_files.proofs.Tree.{HasPart, has_part, as_part, at_most}
-use Rattle.cr_meaning_initialised.proofs.Twice.{one_place}
+use Rattle.cr_meaning_initialisation.proofs.InitialisedLemmas.Twice.{one_place}
 use Rattle.cr_meaning_files.proofs.Mains.{body_only}
 use Rattle.cr_meaning_files.proofs.Named.{plain_part}
 

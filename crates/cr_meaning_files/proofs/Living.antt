@@ -10,10 +10,10 @@ use Rattle.cr_check_enclosing.specs.Above.{above_of}
 use Rattle.cr_check_expressions.specs.Forms.{form_of}
 use Rattle.cr_typed.specs.declared.typed.Typed.{Typed}
 use Rattle.cr_meaning_operations.specs.Operations.{kind_if, kind_at, is_automatic, is_case, is_declaration, is_static_initialiser}
-use Rattle.cr_meaning_typed.specs.Typing.{is_expression}
-use Rattle.cr_meaning_units.specs.Owned.{AreOfUnit}
-use Rattle.cr_meaning_names.proofs.Parents.{IsPartOf, above_is, above_some, part_below}
-use Rattle.cr_meaning_sorts.specs.Founded.{is_followed}
+use Rattle.cr_meaning_typing.specs.Typed.Typing.{is_expression}
+use Rattle.cr_meaning_declarations.specs.Units.Owned.{AreOfUnit}
+use Rattle.cr_meaning_declarations.proofs.NamesLemmas.Parents.{IsPartOf, above_is, above_some, part_below}
+use Rattle.cr_meaning_typing.specs.Sorts.Founded.{is_followed}
 use Rattle.cr_meaning_files.specs.Reached.{is_item, is_declaring, is_list, is_listing, is_definition, is_block, is_address, is_going, goes_on, lives_below, lives_by, lives, is_below_address, is_passed, is_run_kind, is_reached}
 
 -- one of two that holds

@@ -15,9 +15,9 @@ use Rattle.cr_syntax_nodes.proofs.Loops.{loop}
 use Rattle.cr_check_expressions.specs.Forms.{form_of}
 use Rattle.cr_typed.specs.declared.typed.Typed.{Typed}
 use Rattle.cr_meaning_operations.specs.Operations.{kind_if, kind_at, parts_if, parts_at, first_if, last_if, first_at, last_at, part_from, clause_end, is_declaration, last_part, unless_body}
-use Rattle.cr_meaning_typed.specs.Typing.{is_expression}
-use Rattle.cr_meaning_units.specs.Owned.{AreOfUnit}
-use Rattle.cr_meaning_units.proofs.Handing.{laid_at, parts_below}
+use Rattle.cr_meaning_typing.specs.Typed.Typing.{is_expression}
+use Rattle.cr_meaning_declarations.specs.Units.Owned.{AreOfUnit}
+use Rattle.cr_meaning_declarations.proofs.UnitsLemmas.Handing.{laid_at, parts_below}
 use Rattle.cr_meaning_files.specs.Reached.{is_item}
 use Rattle.cr_meaning_files.proofs.Tables.{expressions_stand, items_stand}
 

@@ -32,10 +32,10 @@ use Rattle.cr_typed_columns.specs.Columns.{layout_at}
 use Rattle.cr_typed_unit.specs.Typed.{IsTypedBy}
 use Rattle.cr_meaning_operations.specs.Shapes.{type_of_node, cells_of}
 use Rattle.cr_meaning_operations.specs.Operations.{kind_if, kind_at, parts_if, part_at}
-use Rattle.cr_meaning_typed.specs.Placed.{IsObject}
-use Rattle.cr_meaning_typed.proofs.Units.{listed_at}
-use Rattle.cr_meaning_expressions.specs.Places.{IsMemberIn}
-use Rattle.cr_meaning_declared.specs.Files.{IsUnitOfFile}
+use Rattle.cr_meaning_typing.specs.Typed.Placed.{IsObject}
+use Rattle.cr_meaning_typing.proofs.TypedLemmas.Units.{listed_at}
+use Rattle.cr_meaning_typing.specs.Expressions.Places.{IsMemberIn}
+use Rattle.cr_meaning_declarations.specs.Declared.Files.{IsUnitOfFile}
 use Rattle.cr_meaning_files.specs.Structures.{IsWhole, AreMembersWhole}
 use Rattle.cr_meaning_files.proofs.Cells.{exact_within, qualified_object, all_structured, before_structured, IsFull, some_cells, object}
 use Rattle.cr_meaning_files.proofs.Grammar.{part_in, Stands}

@@ -20,16 +20,16 @@ use Rattle.cr_typed_unit.specs.Typed.{IsTypedBy}
 use Rattle.cr_meaning.specs.declared.op.Form.{Form}
 use Rattle.cr_meaning.specs.declared.op.Form.TheVariants as form
 use Rattle.cr_meaning_operations.specs.Operations.{kind_if, kind_at, part_at, is_name, name_by, name_of, nodes_from, is_static_initialiser}
-use Rattle.cr_meaning_typed.specs.Typing.{is_expression}
-use Rattle.cr_meaning_typed.specs.Placed.{exits_in}
+use Rattle.cr_meaning_typing.specs.Typed.Typing.{is_expression}
+use Rattle.cr_meaning_typing.specs.Typed.Placed.{exits_in}
 use Rattle.cr_meaning_soundness.specs.Statements.{of_function}
-use Rattle.cr_meaning_sorts.specs.Table.{labels_of, result_of, exits_at}
-use Rattle.cr_meaning_units.specs.Owned.{AreOfUnit}
-use Rattle.cr_meaning_declared.specs.Files.{IsUnitOfFile}
-use Rattle.cr_meaning_mains.proofs.Mains.{main_is}
-use Rattle.cr_meaning_whole.proofs.Whole.{is_initialiser}
-use Rattle.cr_meaning_whole.specs.Statements.{is_statement}
-use Rattle.cr_meaning_sorts.specs.Founded.{is_followed}
+use Rattle.cr_meaning_typing.specs.Sorts.Table.{labels_of, result_of, exits_at}
+use Rattle.cr_meaning_declarations.specs.Units.Owned.{AreOfUnit}
+use Rattle.cr_meaning_declarations.specs.Declared.Files.{IsUnitOfFile}
+use Rattle.cr_meaning_composites.proofs.MainsLemmas.Mains.{main_is}
+use Rattle.cr_meaning_typing.proofs.WholeLemmas.Whole.{is_initialiser}
+use Rattle.cr_meaning_typing.specs.Whole.Statements.{is_statement}
+use Rattle.cr_meaning_typing.specs.Sorts.Founded.{is_followed}
 use Rattle.cr_meaning_files.specs.Reached.{is_definition, is_block, is_run_kind, is_reached}
 use Rattle.cr_meaning_files.proofs.Grammar.{part_in, Stands}
 use Rattle.cr_meaning_files.proofs.Tree.{HasPart, has_part, as_part, needed}

@@ -19,35 +19,35 @@ use Rattle.cr_scopes.specs.Resolved.{past_of}
 use Rattle.cr_scopes.specs.Spelled.{name_of as spelled_name}
 use Rattle.cr_scopes.specs.States.{name_in}
 use Rattle.cr_scopes.specs.Units.{unit_events}
-use Rattle.cr_scopes_alone.specs.Alone.{stands_alone, IsAlone}
-use Rattle.cr_scopes_alone.specs.Sight.{is_used}
+use Rattle.cr_scopes_visibility.specs.Alone.Alone.{stands_alone, IsAlone}
+use Rattle.cr_scopes_visibility.specs.Alone.Sight.{is_used}
 use Rattle.cr_scopes_bindings.specs.Entities.{entity_at, declared_entity}
 use Rattle.cr_scopes_bindings.specs.Visible.{is_named, visible}
-use Rattle.cr_scopes_functions.specs.Functions.{is_other as is_unlike}
-use Rattle.cr_scopes_functions.proofs.Shared.{has_entity}
-use Rattle.cr_scopes_meant.specs.Laws.{times, is_other, AreSorted}
-use Rattle.cr_scopes_meant.proofs.Entities.{stand as linked_stand}
-use Rattle.cr_scopes_once.specs.Told.{count_of}
-use Rattle.cr_scopes_shared.specs.Sorts.{is_value, Never}
-use Rattle.cr_scopes_shared.specs.Origins.{is_external, IsDeclarer}
-use Rattle.cr_scopes_sight.specs.Scopes.{is_using}
-use Rattle.cr_scopes_told.specs.Told.{AreApart, IsTold}
-use Rattle.cr_scopes_told.proofs.Walks.{told}
-use Rattle.cr_scopes_uses.specs.Uses.{is_declared, is_before, Finds}
-use Rattle.cr_scopes_uses.proofs.Finding.{all_find}
+use Rattle.cr_scopes_linkage.specs.Functions.Functions.{is_other as is_unlike}
+use Rattle.cr_scopes_linkage.proofs.FunctionsLemmas.Shared.{has_entity}
+use Rattle.cr_scopes_linkage.specs.Meant.Laws.{times, is_other, AreSorted}
+use Rattle.cr_scopes_linkage.proofs.MeantLemmas.Entities.{stand as linked_stand}
+use Rattle.cr_scopes_visibility.specs.Once.Told.{count_of}
+use Rattle.cr_scopes_linkage.specs.Shared.Sorts.{is_value, Never}
+use Rattle.cr_scopes_linkage.specs.Shared.Origins.{is_external, IsDeclarer}
+use Rattle.cr_scopes_visibility.specs.Sight.Scopes.{is_using}
+use Rattle.cr_scopes_visibility.specs.Told.Told.{AreApart, IsTold}
+use Rattle.cr_scopes_visibility.proofs.ToldLemmas.Walks.{told}
+use Rattle.cr_scopes_visibility.specs.Uses.Uses.{is_declared, is_before, Finds}
+use Rattle.cr_scopes_visibility.proofs.UsesLemmas.Finding.{all_find}
 use Rattle.cr_typed.specs.declared.typed.Typed.{Typed}
 use Rattle.cr_typed_unit.specs.Typed.{IsTypedBy}
-use Rattle.cr_meaning_units.specs.Owned.{AreOfUnit}
-use Rattle.cr_meaning_names.proofs.Walks as walks
-use Rattle.cr_meaning_names.proofs.Walks.{AreNamedWell, all_alone, unit_good}
-use Rattle.cr_meaning_declared.specs.Files.{IsUnitOfFile}
-use Rattle.cr_meaning_declared.proofs.Nodes.{of_unit}
-use Rattle.cr_meaning_linked.proofs.Owned.{HasOwn, own_there, one_declaration, one_role}
-use Rattle.cr_meaning_linked.proofs.Order.{order_of}
-use Rattle.cr_meaning_linked.proofs.Sorts.{one_sort}
-use Rattle.cr_meaning_told.proofs.Orderly.{apart}
-use Rattle.cr_meaning_mains.proofs.Defined.{value_plain, never_past, each, values}
-use Rattle.cr_meaning_objects.proofs.Declaring.{entity_of_declared}
+use Rattle.cr_meaning_declarations.specs.Units.Owned.{AreOfUnit}
+use Rattle.cr_meaning_declarations.proofs.NamesLemmas.Walks as walks
+use Rattle.cr_meaning_declarations.proofs.NamesLemmas.Walks.{AreNamedWell, all_alone, unit_good}
+use Rattle.cr_meaning_declarations.specs.Declared.Files.{IsUnitOfFile}
+use Rattle.cr_meaning_declarations.proofs.DeclaredLemmas.Nodes.{of_unit}
+use Rattle.cr_meaning_declarations.proofs.LinkedLemmas.Owned.{HasOwn, own_there, one_declaration, one_role}
+use Rattle.cr_meaning_declarations.proofs.LinkedLemmas.Order.{order_of}
+use Rattle.cr_meaning_declarations.proofs.LinkedLemmas.Sorts.{one_sort}
+use Rattle.cr_meaning_references.proofs.ToldLemmas.Orderly.{apart}
+use Rattle.cr_meaning_composites.proofs.MainsLemmas.Defined.{value_plain, never_past, each, values}
+use Rattle.cr_meaning_composites.proofs.ObjectsLemmas.Declaring.{entity_of_declared}
 use Rattle.cr_meaning_files.specs.Celled as Laws
 use Rattle.cr_meaning_files.specs.Celled.{IsSteady}
 use Rattle.cr_meaning_files.proofs.Visible.{counted, have}

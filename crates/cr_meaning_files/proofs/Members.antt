@@ -28,11 +28,11 @@ use Rattle.cr_typed_columns.specs.Expressions.{number_of_name, last_if, structur
 use Rattle.cr_typed_unit.specs.Typed.{IsTypedBy}
 use Rattle.cr_meaning_operations.specs.Shapes.{type_of_node, structure_of, as_value}
 use Rattle.cr_meaning_operations.specs.Operations.{parts_if, part_at, pointed, left_type, chosen_row}
-use Rattle.cr_meaning_typed.specs.Typing.{has_value}
-use Rattle.cr_meaning_typed.proofs.Units.{listed_at}
-use Rattle.cr_meaning_judged.specs.Judged.{seen_in, source_of, scene_of, IsJudged}
-use Rattle.cr_meaning_judged.proofs.Judged.{judged}
-use Rattle.cr_meaning_declared.specs.Files.{IsUnitOfFile}
+use Rattle.cr_meaning_typing.specs.Typed.Typing.{has_value}
+use Rattle.cr_meaning_typing.proofs.TypedLemmas.Units.{listed_at}
+use Rattle.cr_meaning_typing.specs.Judged.Judged.{seen_in, source_of, scene_of, IsJudged}
+use Rattle.cr_meaning_typing.proofs.JudgedLemmas.Judged.{judged}
+use Rattle.cr_meaning_declarations.specs.Declared.Files.{IsUnitOfFile}
 
 -- ---- the first member of a name, by its row and by its number
 

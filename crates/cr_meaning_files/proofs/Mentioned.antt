@@ -8,10 +8,10 @@ use Rattle.cr_syntax.specs.declared.node.Node.{Node}
 use Rattle.cr_syntax_order.specs.Listed.{AreListed}
 use Rattle.cr_scopes_events.specs.Scripts as scripts
 use Rattle.cr_scopes_bindings.specs.Entities as bound
-use Rattle.cr_scopes_shared.specs.Origins.{is_external, IsDeclarer}
+use Rattle.cr_scopes_linkage.specs.Shared.Origins.{is_external, IsDeclarer}
 use Rattle.cr_scopes.specs.Units.{unit_events}
-use Rattle.cr_scopes_told.specs.Told.{is_declaration as tells_names}
-use Rattle.cr_scopes_once.specs.Told.{count_of}
+use Rattle.cr_scopes_visibility.specs.Told.Told.{is_declaration as tells_names}
+use Rattle.cr_scopes_visibility.specs.Once.Told.{count_of}
 use Rattle.cr_check_expressions.specs.Forms.{form_of}
 use Rattle.cr_typed.specs.declared.typed.Typed.{Typed}
 use Rattle.cr_typed.specs.declared.typed.Duration.{Duration}
@@ -23,16 +23,16 @@ use Rattle.cr_typed_columns.specs.Names as names
 use Rattle.cr_typed_unit.specs.Typed.{IsTypedBy}
 use Rattle.cr_meaning.specs.declared.run.Limits.{Limits}
 use Rattle.cr_meaning_operations.specs.Operations.{kind_at, entity_if, entity_of, program_of}
-use Rattle.cr_meaning_typed.specs.Placed.{IsNamed}
-use Rattle.cr_meaning_typed.specs.Typing.{has_value, is_expression}
-use Rattle.cr_meaning_units.specs.Owned.{AreOfUnit}
-use Rattle.cr_meaning_judged.specs.Judged.{seen_in}
-use Rattle.cr_meaning_known.specs.Sighted.{AreSighted}
-use Rattle.cr_meaning_declared.specs.Files.{IsUnitOfFile}
-use Rattle.cr_meaning_declared.proofs.Bodies.{listed_at}
-use Rattle.cr_meaning_linked.proofs.Owned.{HasOwn, own_there}
-use Rattle.cr_meaning_composed.specs.Laws.{IsObject}
-use Rattle.cr_meaning_objects.proofs.Declaring.{entity_of_declared}
+use Rattle.cr_meaning_typing.specs.Typed.Placed.{IsNamed}
+use Rattle.cr_meaning_typing.specs.Typed.Typing.{has_value, is_expression}
+use Rattle.cr_meaning_declarations.specs.Units.Owned.{AreOfUnit}
+use Rattle.cr_meaning_typing.specs.Judged.Judged.{seen_in}
+use Rattle.cr_meaning_types.specs.Known.Sighted.{AreSighted}
+use Rattle.cr_meaning_declarations.specs.Declared.Files.{IsUnitOfFile}
+use Rattle.cr_meaning_declarations.proofs.DeclaredLemmas.Bodies.{listed_at}
+use Rattle.cr_meaning_declarations.proofs.LinkedLemmas.Owned.{HasOwn, own_there}
+use Rattle.cr_meaning_composites.specs.Composed.Laws.{IsObject}
+use Rattle.cr_meaning_composites.proofs.ObjectsLemmas.Declaring.{entity_of_declared}
 use Rattle.cr_meaning_files.specs.Celled.{SeesDeclared}
 use Rattle.cr_meaning_files.specs.Local.{is_object_by}
 use Rattle.cr_meaning_files.specs.Structures.{AreMembersWhole}

@@ -13,20 +13,20 @@ use Rattle.cr_syntax.specs.Kept.{row_in}
 use Rattle.cr_syntax_nodes.specs.Laid.{stands_for}
 use Rattle.cr_check_enclosing.specs.Above.{above_of}
 use Rattle.cr_check_expressions.specs.Forms.{form_of}
-use Rattle.cr_scopes_sight.specs.Scopes.{is_blocklike}
+use Rattle.cr_scopes_visibility.specs.Sight.Scopes.{is_blocklike}
 use Rattle.cr_typed.specs.declared.typed.Typed.{Typed}
 use Rattle.cr_typed.specs.declared.typed.Duration.TheVariants as duration
 use Rattle.cr_meaning_soundness.specs.Sorts.{IsAmong}
-use Rattle.cr_meaning_typed.specs.Typing.{is_expression}
+use Rattle.cr_meaning_typing.specs.Typed.Typing.{is_expression}
 use Rattle.cr_meaning_operations.specs.Operations.{kind_if, kind_at, parts_if, entity_of, is_automatic_by, is_declaration, is_static_initialiser, nodes_from}
-use Rattle.cr_meaning_units.specs.Owned.{owns, AreOfUnit}
-use Rattle.cr_meaning_units.proofs.Rows.{clear_side, clear_laid, clear_at}
-use Rattle.cr_meaning_units.proofs.Handing.{laid_at, parts_below}
-use Rattle.cr_meaning_names.proofs.Parents.{IsPartOf, part_below, above_some}
-use Rattle.cr_meaning_declared.specs.Files.{IsUnitOfFile}
-use Rattle.cr_meaning_sight.specs.Under.{is_under}
-use Rattle.cr_meaning_sight.proofs.Under.{under_at, directly, deeper, further, not_above, outermost_outside}
-use Rattle.cr_meaning_sight.proofs.Names.{stands}
+use Rattle.cr_meaning_declarations.specs.Units.Owned.{owns, AreOfUnit}
+use Rattle.cr_meaning_declarations.proofs.UnitsLemmas.Rows.{clear_side, clear_laid, clear_at}
+use Rattle.cr_meaning_declarations.proofs.UnitsLemmas.Handing.{laid_at, parts_below}
+use Rattle.cr_meaning_declarations.proofs.NamesLemmas.Parents.{IsPartOf, part_below, above_some}
+use Rattle.cr_meaning_declarations.specs.Declared.Files.{IsUnitOfFile}
+use Rattle.cr_meaning_declarations.specs.Sight.Under.{is_under}
+use Rattle.cr_meaning_declarations.proofs.SightLemmas.Under.{under_at, directly, deeper, further, not_above, outermost_outside}
+use Rattle.cr_meaning_declarations.proofs.SightLemmas.Names.{stands}
 use Rattle.cr_meaning_files.specs.Reached.{is_item, is_definition}
 use Rattle.cr_meaning_files.specs.Seen.{entered_for, finds}
 use Rattle.cr_meaning_files.specs.Local.{declaration_if, declaration_by, declaration_around, is_held_by, is_local, is_early}

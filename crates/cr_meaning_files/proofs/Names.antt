@@ -14,35 +14,35 @@ use Rattle.cr_scopes.specs.Resolved.{past_of}
 use Rattle.cr_scopes.specs.Spelled.{name_of as spelled_name}
 use Rattle.cr_scopes.specs.States.{name_in}
 use Rattle.cr_scopes.specs.Units.{unit_events}
-use Rattle.cr_scopes_alone.specs.Alone.{IsAlone}
+use Rattle.cr_scopes_visibility.specs.Alone.Alone.{IsAlone}
 use Rattle.cr_scopes_bindings.specs.Nodes.{name_at}
 use Rattle.cr_scopes_bindings.specs.Bindings.{entry_if}
 use Rattle.cr_scopes_bindings.specs.Visible.{visible}
-use Rattle.cr_scopes_shared.specs.Sorts.{Never}
-use Rattle.cr_scopes_sight.specs.Scopes.{is_using}
-use Rattle.cr_scopes_tellings.specs.Tellings.{Telling, by_declaration, by_parameter, by_enumerator, by_tag, by_use}
-use Rattle.cr_scopes_tellings.proofs.Scripts.{all_told}
-use Rattle.cr_scopes_told.specs.Told.{AreApart, IsTold, IsDeclaredBelow}
-use Rattle.cr_scopes_told.proofs.Walks.{told}
-use Rattle.cr_scopes_uses.specs.Uses.{Finds}
-use Rattle.cr_scopes_uses.proofs.Finding.{all_find}
-use Rattle.cr_scopes_once.specs.Told.{count_of}
+use Rattle.cr_scopes_linkage.specs.Shared.Sorts.{Never}
+use Rattle.cr_scopes_visibility.specs.Sight.Scopes.{is_using}
+use Rattle.cr_scopes_typedef_names.specs.Tellings.Tellings.{Telling, by_declaration, by_parameter, by_enumerator, by_tag, by_use}
+use Rattle.cr_scopes_typedef_names.proofs.TellingsLemmas.Scripts.{all_told}
+use Rattle.cr_scopes_visibility.specs.Told.Told.{AreApart, IsTold, IsDeclaredBelow}
+use Rattle.cr_scopes_visibility.proofs.ToldLemmas.Walks.{told}
+use Rattle.cr_scopes_visibility.specs.Uses.Uses.{Finds}
+use Rattle.cr_scopes_visibility.proofs.UsesLemmas.Finding.{all_find}
+use Rattle.cr_scopes_visibility.specs.Once.Told.{count_of}
 use Rattle.cr_check_surroundings.specs.Named.{used_by, used_name, visible_if}
 use Rattle.cr_check_surroundings.specs.Raised.{raised_of}
 use Rattle.cr_typed.specs.declared.typed.Typed.{Typed}
 use Rattle.cr_typed_unit.specs.Typed.{IsTypedBy}
-use Rattle.cr_meaning_units.specs.Owned.{AreOfUnit}
-use Rattle.cr_meaning_names.proofs.Leaves as leaves
-use Rattle.cr_meaning_declared.specs.Files.{IsUnitOfFile}
-use Rattle.cr_meaning_declared.proofs.Nodes.{of_unit}
-use Rattle.cr_meaning_declared.proofs.Once.{automatic_at, alone}
-use Rattle.cr_meaning_linked.proofs.Owned.{own_there}
-use Rattle.cr_meaning_linked.proofs.Order.{order_of}
-use Rattle.cr_meaning_told.proofs.Orderly.{apart, named_within}
-use Rattle.cr_meaning_told.proofs.Names.{last_is}
-use Rattle.cr_meaning_objects.proofs.Alone.{linked_or_alone}
-use Rattle.cr_meaning_objects.proofs.Declaring.{is_silent, never_told, declares_entity, token_low}
-use Rattle.cr_meaning_objects.proofs.Statics.{role_speaks, tagged_same, use_same}
+use Rattle.cr_meaning_declarations.specs.Units.Owned.{AreOfUnit}
+use Rattle.cr_meaning_declarations.proofs.NamesLemmas.Leaves as leaves
+use Rattle.cr_meaning_declarations.specs.Declared.Files.{IsUnitOfFile}
+use Rattle.cr_meaning_declarations.proofs.DeclaredLemmas.Nodes.{of_unit}
+use Rattle.cr_meaning_declarations.proofs.DeclaredLemmas.Once.{automatic_at, alone}
+use Rattle.cr_meaning_declarations.proofs.LinkedLemmas.Owned.{own_there}
+use Rattle.cr_meaning_declarations.proofs.LinkedLemmas.Order.{order_of}
+use Rattle.cr_meaning_references.proofs.ToldLemmas.Orderly.{apart, named_within}
+use Rattle.cr_meaning_references.proofs.ToldLemmas.Names.{last_is}
+use Rattle.cr_meaning_composites.proofs.ObjectsLemmas.Alone.{linked_or_alone}
+use Rattle.cr_meaning_composites.proofs.ObjectsLemmas.Declaring.{is_silent, never_told, declares_entity, token_low}
+use Rattle.cr_meaning_composites.proofs.ObjectsLemmas.Statics.{role_speaks, tagged_same, use_same}
 use Rattle.cr_meaning_files.specs.Celled as Laws
 use Rattle.cr_meaning_files.specs.Celled.{IsSeen}
 use Rattle.cr_meaning_files.proofs.Visible.{stand}

@@ -15,7 +15,7 @@ use Rattle.cr_syntax_nodes.specs.Nodes.{least}
 use Rattle.cr_scopes.specs.Resolved.{is_number}
 use Rattle.cr_scopes_bindings.specs.Last.{last_with}
 use Rattle.cr_scopes_events.specs.Scripts as scripts
-use Rattle.cr_scopes_shared.specs.Origins.{is_external}
+use Rattle.cr_scopes_linkage.specs.Shared.Origins.{is_external}
 use Rattle.cr_check_enclosing.specs.declared.context.Place.{Place}
 use Rattle.cr_check_types.specs.declared.layout.Layout.{Layout}
 use Rattle.cr_check_types.specs.declared.shape.Shape.{Shape}
@@ -50,28 +50,28 @@ use Rattle.cr_typed_unit.specs.Typed.{IsTypedBy}
 use Rattle.cr_meaning.specs.declared.run.Limits.{Limits}
 use Rattle.cr_meaning_operations.specs.Shapes.{named_type, cells_of, shape_of, type_of_node}
 use Rattle.cr_meaning_operations.specs.Operations.{kind_if, kind_at, parts_if, part_at, entity_of, object_shape, program_of}
-use Rattle.cr_meaning_typed.specs.Laws.{HoldsAll}
-use Rattle.cr_meaning_typed.specs.Placed.{IsNamed}
-use Rattle.cr_meaning_typed.specs.Typing.{has_value, is_expression}
-use Rattle.cr_meaning_judged.specs.Judged.{seen_in}
+use Rattle.cr_meaning_typing.specs.Typed.Laws.{HoldsAll}
+use Rattle.cr_meaning_typing.specs.Typed.Placed.{IsNamed}
+use Rattle.cr_meaning_typing.specs.Typed.Typing.{has_value, is_expression}
+use Rattle.cr_meaning_typing.specs.Judged.Judged.{seen_in}
 use Rattle.cr_check_expressions.specs.Forms.{form_of as rule_form}
-use Rattle.cr_meaning_known.specs.Shaped.{IsPart}
-use Rattle.cr_meaning_known.specs.Sighted.{AreSighted}
-use Rattle.cr_meaning_known.specs.Sized as known_sized
-use Rattle.cr_meaning_known.proofs.Declaring.{unplaced}
-use Rattle.cr_meaning_known.proofs.Sized.{bracketless}
-use Rattle.cr_meaning_declared.specs.Files.{IsUnitOfFile, assembled}
-use Rattle.cr_meaning_declared.proofs.Bodies.{listed_at, last_has}
-use Rattle.cr_meaning_typedefs.proofs.Files.{are_seen}
-use Rattle.cr_meaning_chained.proofs.Known.{there, words, HasWords, owned, IsOwned, definition_declares}
-use Rattle.cr_meaning_objects.proofs.Alone.{Stands, in_file, in_block, in_clause, stands_there}
-use Rattle.cr_meaning_kept.proofs.Kept.{duration_at, duration_is}
+use Rattle.cr_meaning_types.specs.Known.Shaped.{IsPart}
+use Rattle.cr_meaning_types.specs.Known.Sighted.{AreSighted}
+use Rattle.cr_meaning_types.specs.Known.Sized as known_sized
+use Rattle.cr_meaning_types.proofs.KnownLemmas.Declaring.{unplaced}
+use Rattle.cr_meaning_types.proofs.KnownLemmas.Sized.{bracketless}
+use Rattle.cr_meaning_declarations.specs.Declared.Files.{IsUnitOfFile, assembled}
+use Rattle.cr_meaning_declarations.proofs.DeclaredLemmas.Bodies.{listed_at, last_has}
+use Rattle.cr_meaning_references.proofs.TypedefsLemmas.Files.{are_seen}
+use Rattle.cr_meaning_composites.proofs.ChainedLemmas.Known.{there, words, HasWords, owned, IsOwned, definition_declares}
+use Rattle.cr_meaning_composites.proofs.ObjectsLemmas.Alone.{Stands, in_file, in_block, in_clause, stands_there}
+use Rattle.cr_meaning_references.proofs.KeptLemmas.Kept.{duration_at, duration_is}
 use Rattle.cr_meaning_files.specs.Celled.{HasSizedElements}
 use Rattle.cr_meaning_files.proofs.Elements.{celled}
-use Rattle.cr_meaning_composed.specs.Laws.{Becomes, IsObject}
-use Rattle.cr_meaning_composed.proofs.Named.{complete, initialised, firsts, objects_named}
-use Rattle.cr_meaning_fitting.specs.Bounded.{IsBounded, Declares}
-use Rattle.cr_meaning_fitting.proofs.Names.{declares_all}
+use Rattle.cr_meaning_composites.specs.Composed.Laws.{Becomes, IsObject}
+use Rattle.cr_meaning_composites.proofs.ComposedLemmas.Named.{complete, initialised, firsts, objects_named}
+use Rattle.cr_meaning_types.specs.Fitting.Bounded.{IsBounded, Declares}
+use Rattle.cr_meaning_types.proofs.FittingLemmas.Names.{declares_all}
 use Rattle.cr_meaning_files.specs.Local.{is_object_by}
 use Rattle.cr_meaning_files.specs.Structures.{IsWhole, AreMembersWhole}
 use Rattle.cr_meaning_files.proofs.Tree.{needed}

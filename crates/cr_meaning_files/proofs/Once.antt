@@ -12,24 +12,24 @@ use Rattle.cr_scopes_events.specs.Declarators.{declarator_of}
 use Rattle.cr_scopes_events.specs.Scripts as scripts
 use Rattle.cr_scopes_events.specs.Events.{events_of}
 use Rattle.cr_scopes.specs.Units.{unit_events}
-use Rattle.cr_scopes_once.specs.Told.{count_of, weight_of, named_by, is_declaring, AreBounds}
-use Rattle.cr_scopes_once.proofs.Counting.{told_within}
-use Rattle.cr_scopes_shared.specs.Origins.{is_external, IsDeclaring, IsDeclarer}
-use Rattle.cr_scopes_sight.specs.Scopes.{is_tagging}
-use Rattle.cr_scopes_tellings.specs.Tellings as tellings
+use Rattle.cr_scopes_visibility.specs.Once.Told.{count_of, weight_of, named_by, is_declaring, AreBounds}
+use Rattle.cr_scopes_visibility.proofs.OnceLemmas.Counting.{told_within}
+use Rattle.cr_scopes_linkage.specs.Shared.Origins.{is_external, IsDeclaring, IsDeclarer}
+use Rattle.cr_scopes_visibility.specs.Sight.Scopes.{is_tagging}
+use Rattle.cr_scopes_typedef_names.specs.Tellings.Tellings as tellings
 use Rattle.cr_typed.specs.declared.typed.Typed.{Typed}
 use Rattle.cr_typed_unit.specs.Typed.{IsTypedBy}
-use Rattle.cr_meaning_units.specs.Owned.{AreOfUnit}
-use Rattle.cr_meaning_names.proofs.Leaves as leaves
-use Rattle.cr_meaning_names.proofs.Leaves.{no_tag, no_use}
-use Rattle.cr_meaning_names.proofs.Parents.{IsPartOf, part_below, one_parent, no_item, whole_is}
-use Rattle.cr_meaning_constant.proofs.Once.{risen}
-use Rattle.cr_meaning_kept.proofs.Defined.{used_same}
-use Rattle.cr_meaning_declared.specs.Files.{IsUnitOfFile}
-use Rattle.cr_meaning_declared.proofs.Nodes.{of_unit}
-use Rattle.cr_meaning_linked.proofs.Owned.{HasOwn, own_there, part_of, in_init, alone as in_no_other, one_declaration}
-use Rattle.cr_meaning_linked.proofs.Order.{order_of}
-use Rattle.cr_meaning_mains.proofs.Defined.{no_parameter, no_enumerator}
+use Rattle.cr_meaning_declarations.specs.Units.Owned.{AreOfUnit}
+use Rattle.cr_meaning_declarations.proofs.NamesLemmas.Leaves as leaves
+use Rattle.cr_meaning_declarations.proofs.NamesLemmas.Leaves.{no_tag, no_use}
+use Rattle.cr_meaning_declarations.proofs.NamesLemmas.Parents.{IsPartOf, part_below, one_parent, no_item, whole_is}
+use Rattle.cr_meaning_references.proofs.ConstantLemmas.Once.{risen}
+use Rattle.cr_meaning_references.proofs.KeptLemmas.Defined.{used_same}
+use Rattle.cr_meaning_declarations.specs.Declared.Files.{IsUnitOfFile}
+use Rattle.cr_meaning_declarations.proofs.DeclaredLemmas.Nodes.{of_unit}
+use Rattle.cr_meaning_declarations.proofs.LinkedLemmas.Owned.{HasOwn, own_there, part_of, in_init, alone as in_no_other, one_declaration}
+use Rattle.cr_meaning_declarations.proofs.LinkedLemmas.Order.{order_of}
+use Rattle.cr_meaning_composites.proofs.MainsLemmas.Defined.{no_parameter, no_enumerator}
 use Rattle.cr_meaning_files.specs.Celled as Laws
 
 -- ---- kinds

@@ -5,16 +5,16 @@ use Rattle.std.proofs.lemmas.Option.{slice_get_within}
 use Rattle.cr_syntax.specs.declared.node.Kind.TheVariants as kind
 use Rattle.cr_syntax.specs.declared.node.Node.{Node}
 use Rattle.cr_scopes_events.specs.Scripts as scripts
-use Rattle.cr_scopes_parameters.proofs.Walks.{reaches}
+use Rattle.cr_scopes_visibility.proofs.ParametersLemmas.Walks.{reaches}
 use Rattle.cr_typed.specs.declared.typed.Typed.{Typed}
 use Rattle.cr_meaning_operations.specs.Operations.{kind_if, kind_at, parts_if, parts_at}
-use Rattle.cr_meaning_units.specs.Owned.{AreOfUnit}
-use Rattle.cr_meaning_names.proofs.Parents.{IsPartOf}
-use Rattle.cr_meaning_declared.specs.Files.{IsUnitOfFile}
-use Rattle.cr_meaning_sight.specs.Under.{is_under}
-use Rattle.cr_meaning_sight.proofs.Under.{directly, deeper}
-use Rattle.cr_meaning_constant.specs.Outside.{leads, IsOutside}
-use Rattle.cr_meaning_constant.proofs.Once.{once}
+use Rattle.cr_meaning_declarations.specs.Units.Owned.{AreOfUnit}
+use Rattle.cr_meaning_declarations.proofs.NamesLemmas.Parents.{IsPartOf}
+use Rattle.cr_meaning_declarations.specs.Declared.Files.{IsUnitOfFile}
+use Rattle.cr_meaning_declarations.specs.Sight.Under.{is_under}
+use Rattle.cr_meaning_declarations.proofs.SightLemmas.Under.{directly, deeper}
+use Rattle.cr_meaning_references.specs.Constant.Outside.{leads, IsOutside}
+use Rattle.cr_meaning_references.proofs.ConstantLemmas.Once.{once}
 use Rattle.cr_meaning_files.specs.Reached.{is_reached}
 use Rattle.cr_meaning_files.specs.Laws
 use Rattle.cr_meaning_files.proofs.Living.{one_of, reached_lives}

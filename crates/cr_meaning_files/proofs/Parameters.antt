@@ -16,8 +16,8 @@ use Rattle.cr_scopes_events.specs.Scripts as scripts
 use Rattle.cr_scopes.specs.Resolved.{is_number}
 use Rattle.cr_scopes.specs.Spelled.{name_of as spelled_name}
 use Rattle.cr_scopes_bindings.specs.Last.{last_with}
-use Rattle.cr_scopes_parameters.specs.Definitions.{AreOwn, AreInside}
-use Rattle.cr_scopes_parameters.proofs.Walks.{reaches, inside_alone}
+use Rattle.cr_scopes_visibility.specs.Parameters.Definitions.{AreOwn, AreInside}
+use Rattle.cr_scopes_visibility.proofs.ParametersLemmas.Walks.{reaches, inside_alone}
 use Rattle.cr_check_types.specs.declared.shape.Shape.{Shape}
 use Rattle.cr_check_enclosing.specs.Above.{above_of}
 use Rattle.cr_check_expressions.specs.Known.{spelling_of}
@@ -39,15 +39,15 @@ use Rattle.cr_typed_columns.specs.Functions as functions
 use Rattle.cr_typed_unit.specs.Typed.{IsTypedBy}
 use Rattle.cr_meaning_soundness.specs.Sorts.{IsAmong}
 use Rattle.cr_meaning_operations.specs.Operations.{kind_if, kind_at, parts_if, parts_at, part_at, entity_of, is_automatic_by, is_lasting, is_static_initialiser, nodes_from}
-use Rattle.cr_meaning_units.specs.Owned.{AreOfUnit}
-use Rattle.cr_meaning_names.proofs.Leaves.{is_named, named_once}
-use Rattle.cr_meaning_names.proofs.Parents.{IsPartOf, part_below, one_parent, no_item, above_some}
-use Rattle.cr_meaning_declared.specs.Files.{IsUnitOfFile}
-use Rattle.cr_meaning_declared.proofs.Bodies.{listed_at, last_has}
-use Rattle.cr_meaning_declared.proofs.Once.{IsAutomatic, automatic_at}
-use Rattle.cr_meaning_sight.specs.Under.{is_under}
-use Rattle.cr_meaning_sight.proofs.Under.{under_at, directly, deeper, further, alike, item_outside, not_above, outermost_outside}
-use Rattle.cr_meaning_sight.proofs.Names.{seen, entity_there}
+use Rattle.cr_meaning_declarations.specs.Units.Owned.{AreOfUnit}
+use Rattle.cr_meaning_declarations.proofs.NamesLemmas.Leaves.{is_named, named_once}
+use Rattle.cr_meaning_declarations.proofs.NamesLemmas.Parents.{IsPartOf, part_below, one_parent, no_item, above_some}
+use Rattle.cr_meaning_declarations.specs.Declared.Files.{IsUnitOfFile}
+use Rattle.cr_meaning_declarations.proofs.DeclaredLemmas.Bodies.{listed_at, last_has}
+use Rattle.cr_meaning_declarations.proofs.DeclaredLemmas.Once.{IsAutomatic, automatic_at}
+use Rattle.cr_meaning_declarations.specs.Sight.Under.{is_under}
+use Rattle.cr_meaning_declarations.proofs.SightLemmas.Under.{under_at, directly, deeper, further, alike, item_outside, not_above, outermost_outside}
+use Rattle.cr_meaning_declarations.proofs.SightLemmas.Names.{seen, entity_there}
 use Rattle.cr_meaning_files.specs.Reached.{is_definition}
 use Rattle.cr_meaning_files.specs.Seen.{entered_for, is_one_of, finds, sees}
 use Rattle.cr_meaning_files.specs.Local.{is_local, is_parameter_below, is_parameter, is_own_parameter, is_early, is_named_locally}
@@ -55,7 +55,7 @@ use Rattle.cr_meaning_files.proofs.Living.{one_of}
 use Rattle.cr_meaning_files.proofs.Seen.{as_seen, finds_entered, finds_outside}
 use Rattle.cr_meaning_files.proofs.Filling.{unit}
 use Rattle.cr_meaning_files.proofs.Tree.{HasPart, has_part, as_part}
-use Rattle.cr_meaning_initialised.proofs.Twice.{one_place}
+use Rattle.cr_meaning_initialisation.proofs.InitialisedLemmas.Twice.{one_place}
 use Rattle.cr_meaning_files.proofs.Mains.{body_at, block_at}
 use Rattle.cr_meaning_files.proofs.Sight.{among_passed, parameters_entered}
 use Rattle.cr_meaning_files.proofs.Named.{any_among, plain_part, finds_local}

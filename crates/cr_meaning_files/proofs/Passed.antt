@@ -10,9 +10,9 @@ use Rattle.cr_check_operands.specs.Rules.{assignable}
 use Rattle.cr_check_expressions.specs.declared.form.Form.TheVariants as form
 use Rattle.cr_check_expressions.specs.Known.{Signature, Source, a_function}
 use Rattle.cr_check_expressions.specs.Ruled.{seen_in, operand, given, is_typed, is_parameter, is_mispassed, called, ruled}
-use Rattle.cr_meaning_typed.specs.Typing.{has_value}
-use Rattle.cr_meaning_calls.proofs.Arguments.{passes, each_passed, passable_by, exactly}
-use Rattle.cr_meaning_called.specs.Laws.{IsPassed}
+use Rattle.cr_meaning_typing.specs.Typed.Typing.{has_value}
+use Rattle.cr_meaning_typing.proofs.CallsLemmas.Arguments.{passes, each_passed, passable_by, exactly}
+use Rattle.cr_meaning_initialisation.specs.Called.Laws.{IsPassed}
 
 passable : (type : Qualified) (v : Valued) → assignable (value_in type NotConstant) v ≡ true → IsPassed type
 passable (plain (Int k) c w) v e = tt

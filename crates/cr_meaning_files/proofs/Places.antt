@@ -17,12 +17,12 @@ use Rattle.cr_syntax_machine_laws.proofs.MachineComplete.{allows_upto}
 use Rattle.cr_syntax_machine_laws.proofs.MachineUnitStuck.{relimit_unit}
 use Rattle.cr_syntax_nodes.specs.Laid.{IsLaid}
 use Rattle.cr_typed.specs.declared.typed.Typed.{Typed}
-use Rattle.cr_meaning_units.specs.Owned.{AreOfUnit}
-use Rattle.cr_meaning_units.proofs.Handing.{laid_at}
-use Rattle.cr_meaning_names.proofs.Parents.{above_some, part_below}
-use Rattle.cr_meaning_declared.specs.Files.{IsUnitOfFile}
-use Rattle.cr_meaning_declared.proofs.Nodes.{of_unit, unit_tokens}
-use Rattle.cr_meaning_composed.proofs.Told.{item_there}
+use Rattle.cr_meaning_declarations.specs.Units.Owned.{AreOfUnit}
+use Rattle.cr_meaning_declarations.proofs.UnitsLemmas.Handing.{laid_at}
+use Rattle.cr_meaning_declarations.proofs.NamesLemmas.Parents.{above_some, part_below}
+use Rattle.cr_meaning_declarations.specs.Declared.Files.{IsUnitOfFile}
+use Rattle.cr_meaning_declarations.proofs.DeclaredLemmas.Nodes.{of_unit, unit_tokens}
+use Rattle.cr_meaning_composites.proofs.ComposedLemmas.Told.{item_there}
 use Rattle.cr_meaning_files.proofs.Living.{one_of, above}
 
 -- a node is an item of the unit, or a part of a node that stands in a place

@@ -53,21 +53,21 @@ use Rattle.cr_typed_columns.specs.Entities as entities
 use Rattle.cr_typed_columns.specs.Names as names
 use Rattle.cr_typed_unit.specs.Typed.{IsTypedBy}
 use Rattle.cr_meaning_operations.specs.Operations.{kind_if, kind_at, parts_if, parts_at, part_at, is_name, name_by, name_of, is_static_by, is_static}
-use Rattle.cr_meaning_units.specs.Owned.{AreOfUnit}
-use Rattle.cr_meaning_names.proofs.Leaves.{is_named, named_once}
-use Rattle.cr_meaning_names.proofs.Parents.{IsPartOf, one_parent, is_deriving, IsInside, as_part as inner_part_of, whole_is}
-use Rattle.cr_meaning_typed.specs.Typing.{has_value}
-use Rattle.cr_meaning_known.specs.Shaped.{IsPart}
-use Rattle.cr_meaning_known.specs.Sighted.{AreSighted}
-use Rattle.cr_meaning_known.proofs.Declaring.{HasType, declared_typed}
-use Rattle.cr_meaning_fitting.specs.Bounded.{IsBounded, Declares}
-use Rattle.cr_meaning_fitting.proofs.Names.{early}
-use Rattle.cr_meaning_fitting.proofs.Bounding.{bounded, structures}
-use Rattle.cr_meaning_fitting.proofs.Literals.{literals}
-use Rattle.cr_meaning_objects.proofs.Declaring.{last_there}
-use Rattle.cr_meaning_typedefs.proofs.Files.{are_seen}
-use Rattle.cr_meaning_declared.specs.Files.{IsUnitOfFile, assembled}
-use Rattle.cr_meaning_declared.proofs.Bodies.{listed_at}
+use Rattle.cr_meaning_declarations.specs.Units.Owned.{AreOfUnit}
+use Rattle.cr_meaning_declarations.proofs.NamesLemmas.Leaves.{is_named, named_once}
+use Rattle.cr_meaning_declarations.proofs.NamesLemmas.Parents.{IsPartOf, one_parent, is_deriving, IsInside, as_part as inner_part_of, whole_is}
+use Rattle.cr_meaning_typing.specs.Typed.Typing.{has_value}
+use Rattle.cr_meaning_types.specs.Known.Shaped.{IsPart}
+use Rattle.cr_meaning_types.specs.Known.Sighted.{AreSighted}
+use Rattle.cr_meaning_types.proofs.KnownLemmas.Declaring.{HasType, declared_typed}
+use Rattle.cr_meaning_types.specs.Fitting.Bounded.{IsBounded, Declares}
+use Rattle.cr_meaning_types.proofs.FittingLemmas.Names.{early}
+use Rattle.cr_meaning_types.proofs.FittingLemmas.Bounding.{bounded, structures}
+use Rattle.cr_meaning_types.proofs.FittingLemmas.Literals.{literals}
+use Rattle.cr_meaning_composites.proofs.ObjectsLemmas.Declaring.{last_there}
+use Rattle.cr_meaning_references.proofs.TypedefsLemmas.Files.{are_seen}
+use Rattle.cr_meaning_declarations.specs.Declared.Files.{IsUnitOfFile, assembled}
+use Rattle.cr_meaning_declarations.proofs.DeclaredLemmas.Bodies.{listed_at}
 use Rattle.cr_meaning_files.proofs.Grammar.{part_in, Stands, is_of, of_part, row, among_drop}
 use Rattle.cr_meaning_files.proofs.Tables.{is_jump}
 use Rattle.cr_meaning_files.proofs.Tree.{has_part, needed}

@@ -8,11 +8,11 @@ use Rattle.cr_syntax.specs.Tables.{side_of}
 use Rattle.cr_check_expressions.specs.Forms.{form_of}
 use Rattle.cr_typed.specs.declared.typed.Typed.{Typed}
 use Rattle.cr_meaning_operations.specs.Operations.{kind_at, parts_at}
-use Rattle.cr_meaning_typed.specs.Typing.{is_expression}
-use Rattle.cr_meaning_units.specs.Owned.{AreOfUnit}
-use Rattle.cr_meaning_sorts.specs.Founded.{is_evaluated, is_followed, AreReached}
-use Rattle.cr_meaning_sorts.specs.Table.{Judgement}
-use Rattle.cr_meaning_whole.specs.Statements.{is_statement}
+use Rattle.cr_meaning_typing.specs.Typed.Typing.{is_expression}
+use Rattle.cr_meaning_declarations.specs.Units.Owned.{AreOfUnit}
+use Rattle.cr_meaning_typing.specs.Sorts.Founded.{is_evaluated, is_followed, AreReached}
+use Rattle.cr_meaning_typing.specs.Sorts.Table.{Judgement}
+use Rattle.cr_meaning_typing.specs.Whole.Statements.{is_statement}
 use Rattle.cr_meaning_files.specs.Reached.{is_item, is_address, is_going, lives, is_run_kind, is_reached}
 use Rattle.cr_meaning_files.proofs.Grammar.{part_in, is_of}
 use Rattle.cr_meaning_files.proofs.Tables.{is_expression_part, expression_there, asked, evaluated, evaluated_part, item_is, counts, counted_there, followed_count, followed_parts, followed_asked, followed_goes, addressed}

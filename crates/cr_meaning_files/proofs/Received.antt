@@ -25,24 +25,24 @@ use Rattle.cr_scopes.specs.Units.{unit_events}
 use Rattle.cr_scopes_bindings.specs.Last.{last_with}
 use Rattle.cr_scopes_bindings.specs.Entities as bound
 use Rattle.cr_scopes_bindings.specs.Visible.{is_named}
-use Rattle.cr_scopes_alone.specs.Alone.{is_plain, IsAlone}
-use Rattle.cr_scopes_alone.specs.Sight.{IsSeen}
-use Rattle.cr_scopes_alone.proofs.First.{first_is}
-use Rattle.cr_scopes_shared.specs.Sorts.{Never}
-use Rattle.cr_scopes_sight.specs.Scopes.{is_using}
-use Rattle.cr_scopes_told.specs.Told.{AreApart}
-use Rattle.cr_scopes_told.proofs.Walks.{told}
-use Rattle.cr_scopes_uses.specs.Uses.{is_use, is_declared, Finds}
-use Rattle.cr_scopes_once.specs.Told.{count_of}
-use Rattle.cr_scopes_functions.specs.Functions.{is_other}
-use Rattle.cr_scopes_functions.proofs.Shared.{has_entity}
-use Rattle.cr_scopes_parameters.proofs.Walks.{reaches}
-use Rattle.cr_scopes_shared.specs.Origins.{is_external}
+use Rattle.cr_scopes_visibility.specs.Alone.Alone.{is_plain, IsAlone}
+use Rattle.cr_scopes_visibility.specs.Alone.Sight.{IsSeen}
+use Rattle.cr_scopes_visibility.proofs.AloneLemmas.First.{first_is}
+use Rattle.cr_scopes_linkage.specs.Shared.Sorts.{Never}
+use Rattle.cr_scopes_visibility.specs.Sight.Scopes.{is_using}
+use Rattle.cr_scopes_visibility.specs.Told.Told.{AreApart}
+use Rattle.cr_scopes_visibility.proofs.ToldLemmas.Walks.{told}
+use Rattle.cr_scopes_visibility.specs.Uses.Uses.{is_use, is_declared, Finds}
+use Rattle.cr_scopes_visibility.specs.Once.Told.{count_of}
+use Rattle.cr_scopes_linkage.specs.Functions.Functions.{is_other}
+use Rattle.cr_scopes_linkage.proofs.FunctionsLemmas.Shared.{has_entity}
+use Rattle.cr_scopes_visibility.proofs.ParametersLemmas.Walks.{reaches}
+use Rattle.cr_scopes_linkage.specs.Shared.Origins.{is_external}
 use Rattle.cr_check_types.specs.Types.{Qualified, plain, pointer as to, array}
 use Rattle.cr_check_types.specs.Relations.{is_complete_at}
 use Rattle.cr_check_declarators.specs.Functions.{adjusted_type}
 use Rattle.cr_check_declarators.specs.Declarators.{whole_leaf, whole_object}
-use Rattle.cr_check_functions.specs.Outlines.{head}
+use Rattle.cr_check_signatures.specs.Functions.Outlines.{head}
 use Rattle.cr_typed.specs.declared.typed.Typed.{Typed}
 use Rattle.cr_typed.specs.declared.typed.Duration.TheVariants as duration
 use Rattle.cr_typed_columns.specs.declared.checked.CheckedColumns.{CheckedColumns}
@@ -53,26 +53,26 @@ use Rattle.cr_typed_unit.specs.Typed.{IsTypedBy}
 use Rattle.cr_meaning.specs.declared.run.Limits.{Limits}
 use Rattle.cr_meaning_operations.specs.Shapes.{type_of_node, named_type, shape_of}
 use Rattle.cr_meaning_operations.specs.Operations.{kind_if, kind_at, parts_if, parts_at, part_at, entity_if, entity_of, is_automatic_by, object_shape, program_of}
-use Rattle.cr_meaning_typed.specs.Placed.{IsObject, IsNamed}
-use Rattle.cr_meaning_typed.specs.Typing.{has_value}
-use Rattle.cr_meaning_units.specs.Owned.{AreOfUnit}
-use Rattle.cr_meaning_names.proofs.Parents.{IsPartOf}
-use Rattle.cr_meaning_declared.specs.Files.{IsUnitOfFile}
-use Rattle.cr_meaning_declared.proofs.Once.{automatic_at, alone}
-use Rattle.cr_meaning_objects.proofs.Declaring.{IsLast, last_there, entity_of_declared}
-use Rattle.cr_meaning_composed.proofs.Begun.{first_exists}
+use Rattle.cr_meaning_typing.specs.Typed.Placed.{IsObject, IsNamed}
+use Rattle.cr_meaning_typing.specs.Typed.Typing.{has_value}
+use Rattle.cr_meaning_declarations.specs.Units.Owned.{AreOfUnit}
+use Rattle.cr_meaning_declarations.proofs.NamesLemmas.Parents.{IsPartOf}
+use Rattle.cr_meaning_declarations.specs.Declared.Files.{IsUnitOfFile}
+use Rattle.cr_meaning_declarations.proofs.DeclaredLemmas.Once.{automatic_at, alone}
+use Rattle.cr_meaning_composites.proofs.ObjectsLemmas.Declaring.{IsLast, last_there, entity_of_declared}
+use Rattle.cr_meaning_composites.proofs.ComposedLemmas.Begun.{first_exists}
 use Rattle.cr_meaning_files.specs.Celled.{SeesParameter}
 use Rattle.cr_meaning_files.proofs.Names as celled
 use Rattle.cr_meaning_files.proofs.Visible.{have}
 use Rattle.cr_meaning_files.proofs.Meant.{before_declared}
-use Rattle.cr_meaning_mains.proofs.Defined.{values}
-use Rattle.cr_meaning_told.proofs.Orderly.{apart}
-use Rattle.cr_meaning_judged.specs.Judged.{seen_in}
-use Rattle.cr_meaning_parameters.specs.Laws.{named_at, IsOwnParameter, HasObject}
-use Rattle.cr_meaning_parameters.proofs.Names.{token_at, name_there, one_name}
-use Rattle.cr_meaning_parameters.proofs.Objects.{objects}
-use Rattle.cr_meaning_sight.specs.Under.{is_under}
-use Rattle.cr_meaning_sight.proofs.Under.{directly, deeper}
+use Rattle.cr_meaning_composites.proofs.MainsLemmas.Defined.{values}
+use Rattle.cr_meaning_references.proofs.ToldLemmas.Orderly.{apart}
+use Rattle.cr_meaning_typing.specs.Judged.Judged.{seen_in}
+use Rattle.cr_meaning_composites.specs.Parameters.Laws.{named_at, IsOwnParameter, HasObject}
+use Rattle.cr_meaning_composites.proofs.ParametersLemmas.Names.{token_at, name_there, one_name}
+use Rattle.cr_meaning_composites.proofs.ParametersLemmas.Objects.{objects}
+use Rattle.cr_meaning_declarations.specs.Sight.Under.{is_under}
+use Rattle.cr_meaning_declarations.proofs.SightLemmas.Under.{directly, deeper}
 use Rattle.cr_meaning_files.specs.Reached.{is_definition, is_reached}
 use Rattle.cr_meaning_files.specs.Local.{is_object_by}
 use Rattle.cr_meaning_files.specs.Structures.{IsWhole, AreMembersWhole}

@@ -31,11 +31,11 @@ use Rattle.cr_check_declarations.specs.Faults.{Has, has_at, fault_at, token_if, 
 use Rattle.cr_check_unit.specs.declared.typing.Typing.{Typing}
 use Rattle.cr_check_unit.specs.Typing.{cut, entry_at, before_in, IsRuledIf, IsTyping}
 use Rattle.cr_check_unit.specs.Breaks.{IsNodeBreak, IsBroken}
-use Rattle.cr_meaning_typed.specs.Laws.{HoldsAll}
-use Rattle.cr_meaning_typed.specs.Typing.{has_value}
-use Rattle.cr_meaning_typed.proofs.Worth.{unbroken}
-use Rattle.cr_meaning_known.proofs.Declaring.{declarator_holds}
-use Rattle.cr_meaning_calls.specs.Calls.{IsGiven}
+use Rattle.cr_meaning_typing.specs.Typed.Laws.{HoldsAll}
+use Rattle.cr_meaning_typing.specs.Typed.Typing.{has_value}
+use Rattle.cr_meaning_typing.proofs.TypedLemmas.Worth.{unbroken}
+use Rattle.cr_meaning_types.proofs.KnownLemmas.Declaring.{declarator_holds}
+use Rattle.cr_meaning_typing.specs.Calls.Calls.{IsGiven}
 
 -- the result of a function may be returned
 abbrev IsReturned : (ℕ → Qualified) → Declared → Type 0

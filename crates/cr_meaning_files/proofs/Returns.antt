@@ -26,13 +26,13 @@ use Rattle.cr_check.specs.declared.checked.Checked.{Checked}
 use Rattle.cr_typed.specs.declared.typed.Typed.{Typed}
 use Rattle.cr_typed_unit.specs.Typed.{IsTypedBy}
 use Rattle.cr_meaning_operations.specs.Operations.{kind_if, kind_at, parts_if, part_at}
-use Rattle.cr_meaning_typed.specs.Laws.{HoldsAll}
-use Rattle.cr_meaning_typed.specs.Typing.{has_value}
-use Rattle.cr_meaning_typed.proofs.Worth.{unbroken}
-use Rattle.cr_meaning_units.specs.Owned.{AreOfUnit}
-use Rattle.cr_meaning_declared.specs.Files.{IsUnitOfFile}
-use Rattle.cr_meaning_statements.specs.Statements.{IsResult}
-use Rattle.cr_meaning_known.specs.Known.{AreKnown}
+use Rattle.cr_meaning_typing.specs.Typed.Laws.{HoldsAll}
+use Rattle.cr_meaning_typing.specs.Typed.Typing.{has_value}
+use Rattle.cr_meaning_typing.proofs.TypedLemmas.Worth.{unbroken}
+use Rattle.cr_meaning_declarations.specs.Units.Owned.{AreOfUnit}
+use Rattle.cr_meaning_declarations.specs.Declared.Files.{IsUnitOfFile}
+use Rattle.cr_meaning_typing.specs.Statements.Statements.{IsResult}
+use Rattle.cr_meaning_types.specs.Known.Known.{AreKnown}
 use Rattle.cr_meaning_files.specs.Files.{judgement_of}
 use Rattle.cr_meaning_files.proofs.Grammar.{part_in, Stands}
 use Rattle.cr_meaning_files.proofs.Tree.{HasPart, has_part, as_part, needed}

@@ -20,11 +20,11 @@ use Rattle.cr_meaning_operations.specs.Shapes.{is_pointer, stride_of}
 use Rattle.cr_meaning_operations.specs.Operations.{kind_if, kind_at, parts_at, part_at, first_at, node_op, constant_by, identifier_by, address_by, change_of, common_kind, left_type, right_type, callee_of, labelled, is_automatic, declarators_of, part_from, clause_end, clause_objects, last_part, op_by}
 use Rattle.cr_meaning_soundness.specs.Sorts.{IsAmong}
 use Rattle.cr_meaning_soundness.specs.Scopes.{IsPart, nodes_of, entered_by, is_past, is_open}
-use Rattle.cr_meaning_units.specs.Owned.{AreOfUnit}
-use Rattle.cr_meaning_names.proofs.Parents.{IsPartOf}
-use Rattle.cr_meaning_declared.specs.Files.{IsUnitOfFile}
-use Rattle.cr_meaning_whole.specs.Statements.{is_labelled}
-use Rattle.cr_meaning_known.proofs.Listing.{behind_first}
+use Rattle.cr_meaning_declarations.specs.Units.Owned.{AreOfUnit}
+use Rattle.cr_meaning_declarations.proofs.NamesLemmas.Parents.{IsPartOf}
+use Rattle.cr_meaning_declarations.specs.Declared.Files.{IsUnitOfFile}
+use Rattle.cr_meaning_typing.specs.Whole.Statements.{is_labelled}
+use Rattle.cr_meaning_types.proofs.KnownLemmas.Listing.{behind_first}
 use Rattle.cr_meaning_files.specs.Reached.{is_definition, is_reached}
 use Rattle.cr_meaning_files.specs.Seen.{entered_for, knows, sees}
 use Rattle.cr_meaning_files.proofs.Tables.{switch_counts, switch_body}

@@ -25,11 +25,11 @@ use Rattle.cr_scopes.specs.Units.{unit_events}
 use Rattle.cr_scopes_bindings.specs.Bindings.{entry_if}
 use Rattle.cr_scopes_bindings.specs.Nodes.{named_by, named_if, name_at}
 use Rattle.cr_scopes_bindings.specs.Visible.{visible}
-use Rattle.cr_scopes_shared.specs.Origins.{IsDeclaring}
-use Rattle.cr_scopes_tellings.specs.Tellings.{is_parameter}
-use Rattle.cr_scopes_told.specs.Told.{IsHeld, IsHeldInside, IsDeclarator, is_declaration as tells_names}
-use Rattle.cr_scopes_uses.specs.Uses.{Finds}
-use Rattle.cr_scopes_once.specs.Told.{count_of}
+use Rattle.cr_scopes_linkage.specs.Shared.Origins.{IsDeclaring}
+use Rattle.cr_scopes_typedef_names.specs.Tellings.Tellings.{is_parameter}
+use Rattle.cr_scopes_visibility.specs.Told.Told.{IsHeld, IsHeldInside, IsDeclarator, is_declaration as tells_names}
+use Rattle.cr_scopes_visibility.specs.Uses.Uses.{Finds}
+use Rattle.cr_scopes_visibility.specs.Once.Told.{count_of}
 use Rattle.cr_check_surroundings.specs.Named.{used_by, used_name, visible_if}
 use Rattle.cr_check_surroundings.specs.Raised.{initialises, raised_by, raised_if, raised, raised_of}
 use Rattle.cr_check_enclosing.specs.Above.{above_of}
@@ -43,25 +43,25 @@ use Rattle.cr_typed.specs.declared.typed.Typed.{Typed}
 use Rattle.cr_typed_unit.specs.Typed.{IsTypedBy}
 use Rattle.cr_meaning_operations.specs.Shapes.{type_of_node}
 use Rattle.cr_meaning_operations.specs.Operations.{kind_if, kind_at, parts_if, parts_at}
-use Rattle.cr_meaning_units.specs.Owned.{AreOfUnit}
-use Rattle.cr_meaning_units.proofs.Rows.{clear_side, clear_laid, clear_at}
-use Rattle.cr_meaning_units.proofs.Handing.{laid_at, parts_below}
-use Rattle.cr_meaning_names.proofs.Walks.{without, clears}
-use Rattle.cr_meaning_names.proofs.Parents.{IsPartOf, one_parent, above_some}
-use Rattle.cr_meaning_typed.specs.Typing.{is_expression}
-use Rattle.cr_meaning_judged.specs.Judged.{seen_in}
-use Rattle.cr_meaning_known.specs.Shaped.{fits, IsPart}
-use Rattle.cr_meaning_declared.specs.Files.{IsUnitOfFile}
-use Rattle.cr_meaning_objects.specs.Laws.{DeclaresObject}
-use Rattle.cr_meaning_told.proofs.Orderly.{apart}
-use Rattle.cr_meaning_told.proofs.Names.{initial}
-use Rattle.cr_meaning_composed.proofs.Told.{item_there}
+use Rattle.cr_meaning_declarations.specs.Units.Owned.{AreOfUnit}
+use Rattle.cr_meaning_declarations.proofs.UnitsLemmas.Rows.{clear_side, clear_laid, clear_at}
+use Rattle.cr_meaning_declarations.proofs.UnitsLemmas.Handing.{laid_at, parts_below}
+use Rattle.cr_meaning_declarations.proofs.NamesLemmas.Walks.{without, clears}
+use Rattle.cr_meaning_declarations.proofs.NamesLemmas.Parents.{IsPartOf, one_parent, above_some}
+use Rattle.cr_meaning_typing.specs.Typed.Typing.{is_expression}
+use Rattle.cr_meaning_typing.specs.Judged.Judged.{seen_in}
+use Rattle.cr_meaning_types.specs.Known.Shaped.{fits, IsPart}
+use Rattle.cr_meaning_declarations.specs.Declared.Files.{IsUnitOfFile}
+use Rattle.cr_meaning_composites.specs.Objects.Laws.{DeclaresObject}
+use Rattle.cr_meaning_references.proofs.ToldLemmas.Orderly.{apart}
+use Rattle.cr_meaning_references.proofs.ToldLemmas.Names.{initial}
+use Rattle.cr_meaning_composites.proofs.ComposedLemmas.Told.{item_there}
 use Rattle.cr_meaning_files.specs.Celled.{HasSeenType, SeesParameter}
 use Rattle.cr_meaning_files.proofs.Names as celled
 use Rattle.cr_meaning_files.proofs.Types.{typed}
-use Rattle.cr_meaning_parameters.specs.Laws.{named_at}
-use Rattle.cr_meaning_sight.specs.Under.{is_under}
-use Rattle.cr_meaning_sight.proofs.Under.{directly}
+use Rattle.cr_meaning_composites.specs.Parameters.Laws.{named_at}
+use Rattle.cr_meaning_declarations.specs.Sight.Under.{is_under}
+use Rattle.cr_meaning_declarations.proofs.SightLemmas.Under.{directly}
 use Rattle.cr_meaning_files.specs.Reached.{is_item}
 use Rattle.cr_meaning_files.specs.Laws.{IsDeclaredAt}
 use Rattle.cr_meaning_files.proofs.Loops.{whole}

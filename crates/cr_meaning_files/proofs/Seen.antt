@@ -6,8 +6,8 @@ use Rattle.cr_syntax.specs.declared.node.Kind.TheVariants as kind
 use Rattle.cr_typed.specs.declared.typed.Typed.{Typed}
 use Rattle.cr_meaning_operations.specs.Operations.{kind_at, is_lasting, is_static_initialiser}
 use Rattle.cr_meaning_soundness.specs.Sorts.{IsAmong}
-use Rattle.cr_meaning_units.specs.Owned.{AreOfUnit}
-use Rattle.cr_meaning_names.proofs.Parents.{IsPartOf, above_is}
+use Rattle.cr_meaning_declarations.specs.Units.Owned.{AreOfUnit}
+use Rattle.cr_meaning_declarations.proofs.NamesLemmas.Parents.{IsPartOf, above_is}
 use Rattle.cr_meaning_files.specs.Reached.{is_definition, is_listing, is_reached}
 use Rattle.cr_meaning_files.specs.Seen.{entered_for, is_one_of, finds_above, finds_by, finds, knows, sees}
 use Rattle.cr_meaning_files.proofs.Living.{one_of, above, above_low}

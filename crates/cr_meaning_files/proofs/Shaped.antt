@@ -18,14 +18,14 @@ use Rattle.cr_check.specs.declared.checked.Checked.{Checked}
 use Rattle.cr_typed.specs.declared.typed.Typed.{Typed}
 use Rattle.cr_typed_unit.specs.Typed.{IsAssembledBy}
 use Rattle.cr_meaning_operations.specs.Operations.{kind_if, kind_at, parts_if, parts_at, part_at}
-use Rattle.cr_meaning_typed.specs.Whole as readable
-use Rattle.cr_meaning_units.specs.Owned.{AreOfUnit}
-use Rattle.cr_meaning_names.proofs.Parents.{IsPartOf, above_some}
-use Rattle.cr_meaning_declared.specs.Files.{IsUnitOfFile, IsAssembledFile, assembled}
-use Rattle.cr_meaning_declared.proofs.Nodes.{unit_of}
-use Rattle.cr_meaning_known.specs.Shaped.{fits, is_filled, IsPart, IsThere, IsShaped}
-use Rattle.cr_meaning_known.proofs.Naming.{declaration_is}
-use Rattle.cr_meaning_known.proofs.Declaring.{has_specifiers}
+use Rattle.cr_meaning_typing.specs.Typed.Whole as readable
+use Rattle.cr_meaning_declarations.specs.Units.Owned.{AreOfUnit}
+use Rattle.cr_meaning_declarations.proofs.NamesLemmas.Parents.{IsPartOf, above_some}
+use Rattle.cr_meaning_declarations.specs.Declared.Files.{IsUnitOfFile, IsAssembledFile, assembled}
+use Rattle.cr_meaning_declarations.proofs.DeclaredLemmas.Nodes.{unit_of}
+use Rattle.cr_meaning_types.specs.Known.Shaped.{fits, is_filled, IsPart, IsThere, IsShaped}
+use Rattle.cr_meaning_types.proofs.KnownLemmas.Naming.{declaration_is}
+use Rattle.cr_meaning_types.proofs.KnownLemmas.Declaring.{has_specifiers}
 use Rattle.cr_meaning_files.proofs.Grammar.{part_in, Stands}
 use Rattle.cr_meaning_files.proofs.Tree.{HasPart, has_part, as_part, at_most, needed, operands_read}
 use Rattle.cr_meaning_files.proofs.Above.{column_above, column_around}

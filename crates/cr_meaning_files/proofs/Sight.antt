@@ -8,25 +8,25 @@ use Rattle.cr_syntax.specs.declared.node.Kind.TheVariants as kind
 use Rattle.cr_syntax.specs.declared.node.Node.{Node}
 use Rattle.cr_syntax.specs.Tables.{rule_of, side_of}
 use Rattle.cr_syntax.specs.Kept.{row_in}
-use Rattle.cr_scopes_sight.specs.Scopes.{is_blocklike}
+use Rattle.cr_scopes_visibility.specs.Sight.Scopes.{is_blocklike}
 use Rattle.cr_typed.specs.declared.typed.Typed.{Typed}
 use Rattle.cr_meaning.specs.declared.run.Limits.{Limits}
 use Rattle.cr_meaning_soundness.specs.Sorts.{IsAmong}
 use Rattle.cr_meaning_soundness.specs.Scopes.{nodes_of, entered_by, is_open, AreScoped, IsScopedWhole}
 use Rattle.cr_meaning_operations.specs.Operations.{kind_if, kind_at, parts_if, parts_at, part_at, name_of, entity_of, is_case, is_declaration, is_automatic, declarators_of, parameter_of, clause_objects, nodes_from, is_lasting, is_static_initialiser, op_of, program_of}
 use Rattle.cr_check_expressions.specs.Forms.{form_of}
-use Rattle.cr_meaning_typed.specs.Typing.{is_expression}
-use Rattle.cr_meaning_units.specs.Owned.{declared_by, is_declared, declares, owns, AreOfUnit, AreDeclaredOnce}
-use Rattle.cr_meaning_units.proofs.Ops.{IsOp, of_node, of_whole, is_op}
-use Rattle.cr_meaning_units.proofs.Rows.{clear_side, clear_laid, clear_at}
-use Rattle.cr_meaning_units.proofs.Handing.{is_declarator as has_declarator, without_declarations, no_declarations, laid_at, parts_below, owning}
-use Rattle.cr_meaning_units.proofs.Blocks.{item_objects}
-use Rattle.cr_meaning_names.proofs.Parents.{IsPartOf, above_some}
-use Rattle.cr_meaning_declared.specs.Files.{IsUnitOfFile}
-use Rattle.cr_meaning_declared.proofs.Once as declared
-use Rattle.cr_meaning_whole.specs.Statements.{is_declarator}
-use Rattle.cr_meaning_whole.specs.Whole.{AreSeen}
-use Rattle.cr_meaning_whole.proofs.Whole.{is_initialiser}
+use Rattle.cr_meaning_typing.specs.Typed.Typing.{is_expression}
+use Rattle.cr_meaning_declarations.specs.Units.Owned.{declared_by, is_declared, declares, owns, AreOfUnit, AreDeclaredOnce}
+use Rattle.cr_meaning_declarations.proofs.UnitsLemmas.Ops.{IsOp, of_node, of_whole, is_op}
+use Rattle.cr_meaning_declarations.proofs.UnitsLemmas.Rows.{clear_side, clear_laid, clear_at}
+use Rattle.cr_meaning_declarations.proofs.UnitsLemmas.Handing.{is_declarator as has_declarator, without_declarations, no_declarations, laid_at, parts_below, owning}
+use Rattle.cr_meaning_declarations.proofs.UnitsLemmas.Blocks.{item_objects}
+use Rattle.cr_meaning_declarations.proofs.NamesLemmas.Parents.{IsPartOf, above_some}
+use Rattle.cr_meaning_declarations.specs.Declared.Files.{IsUnitOfFile}
+use Rattle.cr_meaning_declarations.proofs.DeclaredLemmas.Once as declared
+use Rattle.cr_meaning_typing.specs.Whole.Statements.{is_declarator}
+use Rattle.cr_meaning_typing.specs.Whole.Whole.{AreSeen}
+use Rattle.cr_meaning_typing.proofs.WholeLemmas.Whole.{is_initialiser}
 use Rattle.cr_meaning_files.specs.Reached.{is_item, is_declaring, is_list, is_listing, is_definition, is_block, is_going, goes_on, lives_below, lives, is_reached}
 use Rattle.cr_meaning_files.specs.Seen.{entered_for, finds, knows, sees}
 use Rattle.cr_meaning_files.proofs.Grammar.{part_in, Stands}

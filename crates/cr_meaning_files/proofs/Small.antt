@@ -10,12 +10,12 @@ use Rattle.cr_typed.specs.declared.typed.Typed.{Typed}
 use Rattle.cr_typed.specs.Typed.{MOST_CELLS}
 use Rattle.cr_typed_unit.specs.Typed.{IsTypedBy}
 use Rattle.cr_meaning_operations.specs.Shapes.{cells_of}
-use Rattle.cr_meaning_declared.specs.Files.{IsUnitOfFile, assembled}
-use Rattle.cr_meaning_known.specs.Sighted.{AreSighted}
-use Rattle.cr_meaning_fitting.specs.Bounded.{IsBounded, IsBoundedIn}
-use Rattle.cr_meaning_fitting.proofs.Bounding.{bounded, structures}
-use Rattle.cr_meaning_fitting.proofs.Literals.{literals}
-use Rattle.cr_meaning_typedefs.proofs.Files.{are_seen}
+use Rattle.cr_meaning_declarations.specs.Declared.Files.{IsUnitOfFile, assembled}
+use Rattle.cr_meaning_types.specs.Known.Sighted.{AreSighted}
+use Rattle.cr_meaning_types.specs.Fitting.Bounded.{IsBounded, IsBoundedIn}
+use Rattle.cr_meaning_types.proofs.FittingLemmas.Bounding.{bounded, structures}
+use Rattle.cr_meaning_types.proofs.FittingLemmas.Literals.{literals}
+use Rattle.cr_meaning_references.proofs.TypedefsLemmas.Files.{are_seen}
 use Rattle.cr_meaning_files.proofs.Made.{layouts_at}
 use Rattle.cr_meaning_files.proofs.Shaped.{shaped, surrounded}
 

@@ -12,12 +12,12 @@ use Rattle.cr_check_expressions.specs.Forms.{form_of}
 use Rattle.cr_typed.specs.declared.typed.Typed.{Typed}
 use Rattle.cr_typed.specs.declared.typed.Put.{Put}
 use Rattle.cr_meaning_operations.specs.Operations.{kind_if, kind_at, parts_at, part_at, is_case, is_declaration, is_automatic, declarators_of, labelled, first_at, part_from, clause_end, clause_objects, unless_body, last_part}
-use Rattle.cr_meaning_typed.specs.Typing.{is_expression}
-use Rattle.cr_meaning_units.specs.Owned.{AreOfUnit}
-use Rattle.cr_meaning_declared.specs.Files.{IsUnitOfFile}
-use Rattle.cr_meaning_sorts.specs.Founded.{IsOperand}
-use Rattle.cr_meaning_whole.specs.Statements.{is_statement, has_condition, has_inner, is_labelled, IsInner, IsFor, IsSwitch, AreStatementsLaid}
-use Rattle.cr_meaning_known.proofs.Listing.{behind_first}
+use Rattle.cr_meaning_typing.specs.Typed.Typing.{is_expression}
+use Rattle.cr_meaning_declarations.specs.Units.Owned.{AreOfUnit}
+use Rattle.cr_meaning_declarations.specs.Declared.Files.{IsUnitOfFile}
+use Rattle.cr_meaning_typing.specs.Sorts.Founded.{IsOperand}
+use Rattle.cr_meaning_typing.specs.Whole.Statements.{is_statement, has_condition, has_inner, is_labelled, IsInner, IsFor, IsSwitch, AreStatementsLaid}
+use Rattle.cr_meaning_types.proofs.KnownLemmas.Listing.{behind_first}
 use Rattle.cr_meaning_files.specs.Reached.{is_item, is_list, is_listing, is_going, is_address, goes_on, lives, is_reached}
 use Rattle.cr_meaning_files.specs.Files.{judgement_of}
 use Rattle.cr_meaning_files.proofs.Grammar.{part_in, Stands, is_of}

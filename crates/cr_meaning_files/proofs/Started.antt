@@ -15,14 +15,14 @@ use Rattle.cr_meaning.specs.declared.op.Form.TheVariants as form
 use Rattle.cr_meaning.specs.declared.run.Limits.{Limits}
 use Rattle.cr_meaning_operations.specs.Shapes.{form_by}
 use Rattle.cr_meaning_operations.specs.Operations.{kind_if, kind_at}
-use Rattle.cr_meaning_sorts.specs.Table.{result_of}
-use Rattle.cr_meaning_units.specs.Owned.{AreOfUnit}
-use Rattle.cr_meaning_names.proofs.Parents.{above_some}
-use Rattle.cr_meaning_declared.specs.Files.{IsUnitOfFile}
-use Rattle.cr_meaning_known.specs.Sighted.{AreSighted}
-use Rattle.cr_meaning_composed.proofs.Told.{item_there}
-use Rattle.cr_meaning_mains.specs.Laws.{IsMain}
-use Rattle.cr_meaning_mains.proofs.Mains.{declared_so}
+use Rattle.cr_meaning_typing.specs.Sorts.Table.{result_of}
+use Rattle.cr_meaning_declarations.specs.Units.Owned.{AreOfUnit}
+use Rattle.cr_meaning_declarations.proofs.NamesLemmas.Parents.{above_some}
+use Rattle.cr_meaning_declarations.specs.Declared.Files.{IsUnitOfFile}
+use Rattle.cr_meaning_types.specs.Known.Sighted.{AreSighted}
+use Rattle.cr_meaning_composites.proofs.ComposedLemmas.Told.{item_there}
+use Rattle.cr_meaning_composites.specs.Mains.Laws.{IsMain}
+use Rattle.cr_meaning_composites.proofs.MainsLemmas.Mains.{declared_so}
 use Rattle.cr_meaning_files.specs.Reached.{is_definition}
 use Rattle.cr_meaning_files.specs.Files.{judgement_of}
 use Rattle.cr_meaning_files.proofs.Filling.{unit}

@@ -11,9 +11,9 @@ use Rattle.cr_syntax_nodes.specs.Laid.{expressions, is_among, stands_for, parts_
 use Rattle.cr_check_expressions.specs.Forms.{form_of}
 use Rattle.cr_typed.specs.declared.typed.Typed.{Typed}
 use Rattle.cr_meaning_operations.specs.Operations.{is_case, is_static_initialiser}
-use Rattle.cr_meaning_typed.specs.Typing.{is_asked, is_expression}
-use Rattle.cr_meaning_sorts.specs.Founded.{parts_of, is_evaluated, is_followed}
-use Rattle.cr_meaning_whole.specs.Statements.{is_statement, has_condition, has_inner}
+use Rattle.cr_meaning_typing.specs.Typed.Typing.{is_asked, is_expression}
+use Rattle.cr_meaning_typing.specs.Sorts.Founded.{parts_of, is_evaluated, is_followed}
+use Rattle.cr_meaning_typing.specs.Whole.Statements.{is_statement, has_condition, has_inner}
 use Rattle.cr_meaning_files.specs.Reached.{is_item, is_declaring, is_list, is_listing, is_block, is_going, is_address}
 use Rattle.cr_meaning_files.proofs.Grammar.{part_in, Stands, is_of, of_part, row, among_drop}
 

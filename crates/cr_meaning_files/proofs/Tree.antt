@@ -12,11 +12,11 @@ use Rattle.cr_syntax_nodes.proofs.Counts.{counted, row_counted}
 use Rattle.cr_check_expressions.specs.Forms.{form_of}
 use Rattle.cr_typed.specs.declared.typed.Typed.{Typed}
 use Rattle.cr_meaning_operations.specs.Operations.{kind_if, kind_at, parts_if, parts_at, part_at}
-use Rattle.cr_meaning_typed.specs.Typing.{is_asked, is_expression}
-use Rattle.cr_meaning_typed.specs.Whole as readable
-use Rattle.cr_meaning_units.specs.Owned.{AreOfUnit}
-use Rattle.cr_meaning_units.proofs.Handing.{laid_at, parts_below}
-use Rattle.cr_meaning_names.proofs.Parents.{IsPartOf}
+use Rattle.cr_meaning_typing.specs.Typed.Typing.{is_asked, is_expression}
+use Rattle.cr_meaning_typing.specs.Typed.Whole as readable
+use Rattle.cr_meaning_declarations.specs.Units.Owned.{AreOfUnit}
+use Rattle.cr_meaning_declarations.proofs.UnitsLemmas.Handing.{laid_at, parts_below}
+use Rattle.cr_meaning_declarations.proofs.NamesLemmas.Parents.{IsPartOf}
 use Rattle.cr_meaning_files.proofs.Grammar.{part_in, Stands, stands, is_of}
 use Rattle.cr_meaning_files.proofs.Tables.{is_expression_part, expression_there, is_jump, asked, asked_there}
 

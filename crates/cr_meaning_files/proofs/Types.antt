@@ -27,8 +27,8 @@ use Rattle.cr_check_unit.specs.Typing.{cut, entry_at, source_in, IsRuled, IsRule
 use Rattle.cr_typed.specs.declared.typed.Typed.{Typed}
 use Rattle.cr_typed_unit.specs.Typed.{IsTypedBy}
 use Rattle.cr_meaning_operations.specs.Shapes.{type_of_node}
-use Rattle.cr_meaning_declared.specs.Files.{IsUnitOfFile}
-use Rattle.cr_meaning_judged.proofs.Judged.{judged}
+use Rattle.cr_meaning_declarations.specs.Declared.Files.{IsUnitOfFile}
+use Rattle.cr_meaning_typing.proofs.JudgedLemmas.Judged.{judged}
 use Rattle.cr_meaning_files.specs.Celled as Laws
 use Rattle.cr_meaning_files.specs.Celled.{HasSeenType}
 

@@ -16,14 +16,14 @@ use Rattle.cr_scopes.specs.Looking.{stands_in, begun, noted_if, look}
 use Rattle.cr_scopes.specs.Resolved.{space_of, space_number, told_if, told_of, told, begins, count_of as count_before, number_of, past_of, told_below, AreResolved}
 use Rattle.cr_scopes_bindings.specs.Entities.{entity_within, entity_at}
 use Rattle.cr_scopes_bindings.specs.Visible.{is_named, latest, visible}
-use Rattle.cr_scopes_alone.specs.Alone.{IsAlone}
-use Rattle.cr_scopes_alone.specs.Sight.{is_used}
-use Rattle.cr_scopes_alone.proofs.Telling.{AreRight, all_right, token_told}
-use Rattle.cr_scopes_alone.proofs.First.{number_is, some_same, told_there, within_is}
-use Rattle.cr_scopes_uses.specs.Uses.{is_use}
-use Rattle.cr_scopes_told.proofs.Events.{all_came}
-use Rattle.cr_scopes_once.specs.Told.{count_of}
-use Rattle.cr_scopes_once.proofs.Meaning.{ordinary_space, ordinary_declares, only_used, count_onto}
+use Rattle.cr_scopes_visibility.specs.Alone.Alone.{IsAlone}
+use Rattle.cr_scopes_visibility.specs.Alone.Sight.{is_used}
+use Rattle.cr_scopes_visibility.proofs.AloneLemmas.Telling.{AreRight, all_right, token_told}
+use Rattle.cr_scopes_visibility.proofs.AloneLemmas.First.{number_is, some_same, told_there, within_is}
+use Rattle.cr_scopes_visibility.specs.Uses.Uses.{is_use}
+use Rattle.cr_scopes_visibility.proofs.ToldLemmas.Events.{all_came}
+use Rattle.cr_scopes_visibility.specs.Once.Told.{count_of}
+use Rattle.cr_scopes_visibility.proofs.OnceLemmas.Meaning.{ordinary_space, ordinary_declares, only_used, count_onto}
 use Rattle.cr_meaning_files.specs.Celled as Laws
 
 module _ (name : ℕ → ℕ) (x : ℕ) where

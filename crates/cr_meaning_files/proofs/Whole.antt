@@ -10,7 +10,7 @@ use Rattle.cr_syntax.specs.declared.node.Kind.TheVariants as kind
 use Rattle.cr_syntax.specs.declared.node.Node.{Node}
 use Rattle.cr_syntax.specs.Tables.{rule_of, side_of}
 use Rattle.cr_syntax_nodes.specs.Nodes.{most}
-use Rattle.cr_scopes_sight.specs.Scopes.{is_blocklike}
+use Rattle.cr_scopes_visibility.specs.Sight.Scopes.{is_blocklike}
 use Rattle.cr_check_enclosing.specs.declared.context.Place.{Place}
 use Rattle.cr_check_enclosing.specs.declared.context.Place.TheVariants as place
 use Rattle.cr_check_enclosing.specs.declared.context.Around.{Around}
@@ -44,21 +44,21 @@ use Rattle.cr_check_unit.specs.Typing.{cut, entry_at, before_in, object_in}
 use Rattle.cr_typed.specs.declared.typed.Typed.{Typed}
 use Rattle.cr_typed_unit.specs.Typed.{IsTypedBy}
 use Rattle.cr_meaning_operations.specs.Operations.{kind_if, kind_at, parts_if, parts_at}
-use Rattle.cr_meaning_typed.specs.Laws.{HoldsAll}
-use Rattle.cr_meaning_typed.specs.Typing.{has_value}
-use Rattle.cr_meaning_typed.proofs.Worth.{unbroken}
-use Rattle.cr_meaning_judged.specs.Judged.{seen_in, source_of, scene_of, IsJudged}
-use Rattle.cr_meaning_judged.proofs.Judged.{judged}
-use Rattle.cr_meaning_names.proofs.Parents.{IsPartOf, above_some}
-use Rattle.cr_meaning_known.specs.Shaped.{IsPart, is_filled, fits}
-use Rattle.cr_meaning_known.specs.Sighted.{AreSighted}
-use Rattle.cr_meaning_known.proofs.Declaring.{there_is, declarator_holds}
-use Rattle.cr_meaning_fitting.specs.Bounded.{IsBounded, Declares}
-use Rattle.cr_meaning_fitting.proofs.Names.{declares_all}
-use Rattle.cr_meaning_fitting.proofs.Bounding.{own_bounded_at}
-use Rattle.cr_meaning_fitting.proofs.Literals.{literals}
-use Rattle.cr_meaning_typedefs.proofs.Files.{are_seen}
-use Rattle.cr_meaning_declared.specs.Files.{IsUnitOfFile, assembled}
+use Rattle.cr_meaning_typing.specs.Typed.Laws.{HoldsAll}
+use Rattle.cr_meaning_typing.specs.Typed.Typing.{has_value}
+use Rattle.cr_meaning_typing.proofs.TypedLemmas.Worth.{unbroken}
+use Rattle.cr_meaning_typing.specs.Judged.Judged.{seen_in, source_of, scene_of, IsJudged}
+use Rattle.cr_meaning_typing.proofs.JudgedLemmas.Judged.{judged}
+use Rattle.cr_meaning_declarations.proofs.NamesLemmas.Parents.{IsPartOf, above_some}
+use Rattle.cr_meaning_types.specs.Known.Shaped.{IsPart, is_filled, fits}
+use Rattle.cr_meaning_types.specs.Known.Sighted.{AreSighted}
+use Rattle.cr_meaning_types.proofs.KnownLemmas.Declaring.{there_is, declarator_holds}
+use Rattle.cr_meaning_types.specs.Fitting.Bounded.{IsBounded, Declares}
+use Rattle.cr_meaning_types.proofs.FittingLemmas.Names.{declares_all}
+use Rattle.cr_meaning_types.proofs.FittingLemmas.Bounding.{own_bounded_at}
+use Rattle.cr_meaning_types.proofs.FittingLemmas.Literals.{literals}
+use Rattle.cr_meaning_references.proofs.TypedefsLemmas.Files.{are_seen}
+use Rattle.cr_meaning_declarations.specs.Declared.Files.{IsUnitOfFile, assembled}
 use Rattle.cr_meaning_files.proofs.Grammar.{part_in, Stands}
 use Rattle.cr_meaning_files.proofs.Tree.{has_part, at_most}
 use Rattle.cr_meaning_files.proofs.Filling.{unit, nodes_are, ruled}

@@ -2,7 +2,7 @@
 use Rattle.std.specs.Prelude.{ℕ, ◌<◌, ◌^◌, List, length}
 use Rattle.cr_typed.specs.declared.typed.Typed.{Typed}
 use Rattle.cr_typed_fit.specs.Fits.{IsFitting}
-use Rattle.cr_meaning_declared.specs.Files.{IsUnitOfFile, IsAssembledFile}
+use Rattle.cr_meaning_declarations.specs.Declared.Files.{IsUnitOfFile, IsAssembledFile}
 
 -- Whatever is assembled of the columns of a file's unit that breaks no constraint fits (K6, K7, 6.7.2.1p3): it is what `assembled` of
 -- `cr_typed_unit` gives by its contract, and on which `typed` calls `fits` of `cr_typed_fit`.

@@ -11,13 +11,13 @@ use Rattle.cr_scopes.specs.Units.{unit_events}
 use Rattle.cr_scopes_bindings.specs.Entities.{entity_at, declared_entity}
 use Rattle.cr_scopes_bindings.specs.Nodes.{name_at}
 use Rattle.cr_scopes_bindings.specs.Visible.{visible}
-use Rattle.cr_scopes_alone.specs.Alone.{IsAlone}
-use Rattle.cr_scopes_shared.specs.Sorts.{is_value}
-use Rattle.cr_scopes_shared.specs.Origins.{IsDeclarer}
-use Rattle.cr_scopes_sight.specs.Scopes.{is_using}
-use Rattle.cr_scopes_tellings.specs.Tellings.{is_parameter, IsDeclarer as IsTeller}
-use Rattle.cr_scopes_uses.specs.Uses.{is_use}
-use Rattle.cr_scopes_once.specs.Told.{count_of}
+use Rattle.cr_scopes_visibility.specs.Alone.Alone.{IsAlone}
+use Rattle.cr_scopes_linkage.specs.Shared.Sorts.{is_value}
+use Rattle.cr_scopes_linkage.specs.Shared.Origins.{IsDeclarer}
+use Rattle.cr_scopes_visibility.specs.Sight.Scopes.{is_using}
+use Rattle.cr_scopes_typedef_names.specs.Tellings.Tellings.{is_parameter, IsDeclarer as IsTeller}
+use Rattle.cr_scopes_visibility.specs.Uses.Uses.{is_use}
+use Rattle.cr_scopes_visibility.specs.Once.Told.{count_of}
 use Rattle.cr_check_surroundings.specs.Raised.{raised_of}
 use Rattle.cr_check_types.specs.Types.{Qualified, plain, pointer, array, type_at}
 use Rattle.cr_check_types.specs.Relations.{composite_of}
@@ -27,13 +27,13 @@ use Rattle.cr_typed.specs.Typed.{MOST_CELLS}
 use Rattle.cr_meaning.specs.World.{Program}
 use Rattle.cr_meaning_operations.specs.Shapes.{type_of_node, named_type, cells_of}
 use Rattle.cr_meaning_operations.specs.Operations.{entity_of, is_automatic_by}
-use Rattle.cr_meaning_typed.specs.Placed.{IsNamed}
-use Rattle.cr_meaning_initialised.specs.Composites.{IsSized}
-use Rattle.cr_meaning_declared.specs.Files.{IsUnitOfFile}
-use Rattle.cr_meaning_judged.specs.Judged.{seen_in}
-use Rattle.cr_meaning_known.specs.Shaped.{IsShaped}
-use Rattle.cr_meaning_known.specs.Sighted.{AreSighted}
-use Rattle.cr_meaning_objects.specs.Laws.{DeclaresObject, HasLinkage}
+use Rattle.cr_meaning_typing.specs.Typed.Placed.{IsNamed}
+use Rattle.cr_meaning_initialisation.specs.Initialised.Composites.{IsSized}
+use Rattle.cr_meaning_declarations.specs.Declared.Files.{IsUnitOfFile}
+use Rattle.cr_meaning_typing.specs.Judged.Judged.{seen_in}
+use Rattle.cr_meaning_types.specs.Known.Shaped.{IsShaped}
+use Rattle.cr_meaning_types.specs.Known.Sighted.{AreSighted}
+use Rattle.cr_meaning_composites.specs.Objects.Laws.{DeclaresObject, HasLinkage}
 
 -- a token always stands for the same: it is told once, or each time without linkage (6.2.2p6)
 abbrev pub IsSteady : ℕ → List Event → Type 0

@@ -16,15 +16,15 @@ use Rattle.cr_meaning.specs.Meaning.{body, operands, root_of, start_of, run_of}
 use Rattle.cr_meaning.specs.declared.run.Limits.{Limits}
 use Rattle.cr_meaning.specs.declared.run.Run.{Run}
 use Rattle.cr_meaning_operations.specs.Operations.{entity_of, program_of}
-use Rattle.cr_meaning_typed.specs.Placed.{IsNamed}
-use Rattle.cr_meaning_typed.specs.Typing.{is_expression, IsRead}
-use Rattle.cr_meaning_judged.specs.Judged.{seen_in, source_of, scene_of}
-use Rattle.cr_meaning_declared.specs.Files.{IsUnitOfFile}
+use Rattle.cr_meaning_typing.specs.Typed.Placed.{IsNamed}
+use Rattle.cr_meaning_typing.specs.Typed.Typing.{is_expression, IsRead}
+use Rattle.cr_meaning_typing.specs.Judged.Judged.{seen_in, source_of, scene_of}
+use Rattle.cr_meaning_declarations.specs.Declared.Files.{IsUnitOfFile}
 use Rattle.cr_meaning_soundness.specs.Programs.{IsWellTyped}
 use Rattle.cr_meaning_operations.specs.Laws.{Comes}
 use Rattle.cr_meaning_orders.specs.Fixed.{IsOrderFixed}
-use Rattle.cr_meaning_units.specs.Laws.{ComesInAnyOrder}
-use Rattle.cr_meaning_sorts.specs.Table.{Judgement, sorts_in}
+use Rattle.cr_meaning_declarations.specs.Units.Laws.{ComesInAnyOrder}
+use Rattle.cr_meaning_typing.specs.Sorts.Table.{Judgement, sorts_in}
 use Rattle.cr_meaning_files.specs.Reached.{is_reached}
 use Rattle.cr_meaning_files.specs.Local.{is_object_by}
 

@@ -5,8 +5,8 @@ use Rattle.cr_ints.specs.IntKind.{Represents}
 use Rattle.cr_syntax.specs.declared.node.Kind.TheVariants as kind
 use Rattle.cr_syntax.specs.declared.node.Node.{Node}
 use Rattle.cr_scopes.specs.Units.{unit_events}
-use Rattle.cr_scopes_sight.specs.Scopes.{is_using}
-use Rattle.cr_scopes_once.specs.Told.{count_of}
+use Rattle.cr_scopes_visibility.specs.Sight.Scopes.{is_using}
+use Rattle.cr_scopes_visibility.specs.Once.Told.{count_of}
 use Rattle.cr_check_expressions.specs.Forms.{form_of}
 use Rattle.cr_check_expressions.specs.Known.{an_enumerator}
 use Rattle.cr_typed.specs.Typed.{MOST_CELLS}
@@ -15,15 +15,15 @@ use Rattle.cr_typed.specs.declared.typed.Duration.TheVariants as duration
 use Rattle.cr_meaning.specs.declared.run.Limits.{Limits}
 use Rattle.cr_meaning_operations.specs.Shapes.{named_type, cells_of, type_of_node}
 use Rattle.cr_meaning_operations.specs.Operations.{kind_at, part_at, name_of, entity_of, is_automatic_by, program_of}
-use Rattle.cr_meaning_typed.specs.Placed.{IsNamed}
-use Rattle.cr_meaning_typed.specs.Typing.{has_value, is_expression}
-use Rattle.cr_meaning_declared.specs.Files.{IsUnitOfFile}
-use Rattle.cr_meaning_parameters.specs.Laws.{named_at}
-use Rattle.cr_meaning_composed.specs.Laws.{IsObject}
-use Rattle.cr_meaning_sorts.specs.Founded.{AreLaidOut, AreReached}
-use Rattle.cr_meaning_sorts.specs.Table.{exits_at}
+use Rattle.cr_meaning_typing.specs.Typed.Placed.{IsNamed}
+use Rattle.cr_meaning_typing.specs.Typed.Typing.{has_value, is_expression}
+use Rattle.cr_meaning_declarations.specs.Declared.Files.{IsUnitOfFile}
+use Rattle.cr_meaning_composites.specs.Parameters.Laws.{named_at}
+use Rattle.cr_meaning_composites.specs.Composed.Laws.{IsObject}
+use Rattle.cr_meaning_typing.specs.Sorts.Founded.{AreLaidOut, AreReached}
+use Rattle.cr_meaning_typing.specs.Sorts.Table.{exits_at}
 use Rattle.cr_meaning_soundness.specs.Sorts.{IsAmong}
-use Rattle.cr_meaning_whole.specs.Statements.{is_declarator, AreStatementsLaid}
+use Rattle.cr_meaning_typing.specs.Whole.Statements.{is_declarator, AreStatementsLaid}
 use Rattle.cr_meaning_files.specs.Reached.{is_reached}
 use Rattle.cr_meaning_files.specs.Seen.{sees}
 use Rattle.cr_meaning_files.specs.Local.{is_entered, is_early, is_named_locally, is_object_by}

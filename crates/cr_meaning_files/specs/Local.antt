@@ -7,8 +7,8 @@ use Rattle.cr_typed.specs.declared.typed.Typed.{Typed}
 use Rattle.cr_typed.specs.declared.typed.Duration.{Duration}
 use Rattle.cr_typed.specs.declared.typed.Duration.TheVariants as duration
 use Rattle.cr_meaning_operations.specs.Operations.{kind_at, entity_of, is_automatic_by, is_declaration, is_static_initialiser, nodes_from}
-use Rattle.cr_meaning_units.specs.Owned.{owns}
-use Rattle.cr_meaning_sight.specs.Under.{is_under}
+use Rattle.cr_meaning_declarations.specs.Units.Owned.{owns}
+use Rattle.cr_meaning_declarations.specs.Sight.Under.{is_under}
 use Rattle.cr_meaning_files.specs.Seen.{is_one_of}
 
 -- the innermost declaration around a node

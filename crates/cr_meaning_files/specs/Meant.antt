@@ -6,20 +6,20 @@ use Rattle.cr_scopes.specs.Resolved.{past_of}
 use Rattle.cr_scopes.specs.Spelled.{name_of}
 use Rattle.cr_scopes.specs.Units.{unit_events}
 use Rattle.cr_scopes_bindings.specs.Visible.{visible}
-use Rattle.cr_scopes_shared.specs.Origins.{IsDeclarer}
-use Rattle.cr_scopes_once.specs.Told.{count_of}
+use Rattle.cr_scopes_linkage.specs.Shared.Origins.{IsDeclarer}
+use Rattle.cr_scopes_visibility.specs.Once.Told.{count_of}
 use Rattle.cr_check_expressions.specs.Known.{Signature, a_function}
 use Rattle.cr_typed.specs.declared.typed.Typed.{Typed}
 use Rattle.cr_meaning.specs.declared.op.Callee.TheVariants.{Function}
 use Rattle.cr_meaning.specs.declared.op.Parameter.{Parameter}
 use Rattle.cr_meaning_operations.specs.Shapes.{named_type}
 use Rattle.cr_meaning_operations.specs.Operations.{entity_of, function_in, callee_of}
-use Rattle.cr_meaning_judged.specs.Judged.{source_of}
-use Rattle.cr_meaning_known.specs.Shaped.{IsShaped}
-use Rattle.cr_meaning_known.specs.Sighted.{AreSighted}
-use Rattle.cr_meaning_chained.specs.Laws.{DeclaresFunction}
-use Rattle.cr_meaning_declared.specs.Files.{IsUnitOfFile}
-use Rattle.cr_meaning_called.specs.Laws.{IsMeant}
+use Rattle.cr_meaning_typing.specs.Judged.Judged.{source_of}
+use Rattle.cr_meaning_types.specs.Known.Shaped.{IsShaped}
+use Rattle.cr_meaning_types.specs.Known.Sighted.{AreSighted}
+use Rattle.cr_meaning_composites.specs.Chained.Laws.{DeclaresFunction}
+use Rattle.cr_meaning_declarations.specs.Declared.Files.{IsUnitOfFile}
+use Rattle.cr_meaning_initialisation.specs.Called.Laws.{IsMeant}
 
 -- the declarator that a node sees is that of the token that is visible at a name, and declares a function
 pub record SeesFunction (file : List ℕ) (t : Typed) (it : IsUnitOfFile file t) (i name : ℕ) : Type 0 where

@@ -6,9 +6,9 @@ use Rattle.cr_check_enclosing.specs.Above.{above_of}
 use Rattle.cr_check_expressions.specs.Forms.{form_of}
 use Rattle.cr_typed.specs.declared.typed.Typed.{Typed}
 use Rattle.cr_meaning_operations.specs.Operations.{kind_at, is_automatic, is_case, is_declaration, is_static_initialiser}
-use Rattle.cr_meaning_typed.specs.Typing.{is_expression}
-use Rattle.cr_meaning_sorts.specs.Founded.{is_followed}
-use Rattle.cr_meaning_whole.specs.Statements.{is_statement}
+use Rattle.cr_meaning_typing.specs.Typed.Typing.{is_expression}
+use Rattle.cr_meaning_typing.specs.Sorts.Founded.{is_followed}
+use Rattle.cr_meaning_typing.specs.Whole.Statements.{is_statement}
 
 -- ---- kinds
 

@@ -1,0 +1,3 @@
+pub mod RangesLemmas
+pub mod SpelledLemmas
+pub mod AnchoredLemmas

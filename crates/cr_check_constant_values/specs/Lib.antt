@@ -1,0 +1,3 @@
+pub mod Ranges
+pub mod Spelled
+pub mod Anchored

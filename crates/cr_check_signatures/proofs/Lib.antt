@@ -1,0 +1,3 @@
+pub mod FunctionsLemmas
+pub mod ParametersLemmas
+pub mod CalleesLemmas

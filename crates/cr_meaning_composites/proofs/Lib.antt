@@ -1,0 +1,5 @@
+pub mod ChainedLemmas
+pub mod ParametersLemmas
+pub mod ObjectsLemmas
+pub mod MainsLemmas
+pub mod ComposedLemmas

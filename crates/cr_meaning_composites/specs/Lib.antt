@@ -1,0 +1,5 @@
+pub mod Chained
+pub mod Parameters
+pub mod Objects
+pub mod Mains
+pub mod Composed

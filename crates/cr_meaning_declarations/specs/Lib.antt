@@ -1,0 +1,6 @@
+pub mod Units
+pub mod Names
+pub mod Declared
+pub mod Lasting
+pub mod Sight
+pub mod Linked

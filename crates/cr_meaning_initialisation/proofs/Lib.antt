@@ -1,0 +1,3 @@
+pub mod InitialisedLemmas
+pub mod CalledLemmas
+pub mod ClosedLemmas

@@ -1,0 +1,3 @@
+pub mod Initialised
+pub mod Called
+pub mod Closed

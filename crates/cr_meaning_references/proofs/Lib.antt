@@ -1,0 +1,4 @@
+pub mod ToldLemmas
+pub mod TypedefsLemmas
+pub mod ConstantLemmas
+pub mod KeptLemmas

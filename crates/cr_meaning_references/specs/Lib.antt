@@ -1,0 +1,4 @@
+pub mod Told
+pub mod Typedefs
+pub mod Constant
+pub mod Kept

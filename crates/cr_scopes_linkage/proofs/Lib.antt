@@ -1,0 +1,3 @@
+pub mod SharedLemmas
+pub mod FunctionsLemmas
+pub mod MeantLemmas

@@ -1,7 +1,0 @@
-//! A law of scopes. The program doesn't call this function.
-ghost use Rattle.cr_scopes_sight.specs.Laws.{ScopesAreClosed};
-
-/// What is declared under a block or a `for` isn't found by a use elsewhere.
-pub fn scopes_are_closed()
-    ensures { ScopesAreClosed }
-{}

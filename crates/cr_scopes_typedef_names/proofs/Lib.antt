@@ -1,0 +1,4 @@
+pub mod EffectsLemmas
+pub mod TellingsLemmas
+pub mod ParsedLemmas
+pub mod TypedefsLemmas

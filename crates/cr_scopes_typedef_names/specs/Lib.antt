@@ -1,0 +1,4 @@
+pub mod Effects
+pub mod Tellings
+pub mod Parsed
+pub mod Typedefs

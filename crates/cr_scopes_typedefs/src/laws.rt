@@ -1,7 +1,0 @@
-//! What a reader expects of typedef names. The program doesn't call this function.
-ghost use Rattle.cr_scopes_typedefs.specs.Laws.{TypedefNamesSeeTypedefs};
-
-/// What is visible at a typedef name is declared by a declaration that says `typedef`.
-pub fn typedef_names_see_typedefs()
-    ensures { TypedefNamesSeeTypedefs }
-{}

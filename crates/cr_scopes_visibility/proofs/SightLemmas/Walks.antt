@@ -1,0 +1,491 @@
+-- An identifier that is declared in a block or a `for` isn't in scope outside of it.
+use Rattle.std.proofs.Common.{◌≡◌, ℕ, zero, suc, ◌+◌, ◌-◌, ◌<◌, ◌==◌, ◌⊎◌, inl, inr, Bool, true, false, List, [], ◌∷◌, ◌++◌, Option, None, Some, length, take, drop, nat_lt, slice_get, refl, sym, ap, subst, ◌∙◌, arith}
+use Rattle.std.specs.Prelude.{if◌then◌else◌}
+use Rattle.std.specs.List.{flat_map}
+use Rattle.std.proofs.lemmas.Bool.{false≢true, ltb-true, eqb-true, eq-eqb}
+use Rattle.cr_tokens.specs.declared.token.Token.{Token}
+use Rattle.cr_syntax.specs.declared.node.Kind.{Kind}
+use Rattle.cr_syntax.specs.declared.node.Kind.TheVariants as kind
+use Rattle.cr_syntax.specs.declared.node.Node.{Node}
+use Rattle.cr_scopes_events.specs.declared.event.Role.{Role}
+use Rattle.cr_scopes_events.specs.declared.event.Role.TheVariants as role
+use Rattle.cr_scopes_events.specs.declared.event.Event.{Event}
+use Rattle.cr_scopes_events.specs.declared.event.Event.TheVariants as event
+use Rattle.cr_scopes_events.specs.declared.event.Step.{Step}
+use Rattle.cr_scopes_events.specs.declared.event.Step.TheVariants.{Happens, Inside}
+use Rattle.cr_scopes_events.specs.declared.naming.Storage.{Storage}
+use Rattle.cr_scopes_events.specs.declared.naming.Storage.TheVariants as word
+use Rattle.cr_scopes_events.specs.declared.naming.Naming.{Naming}
+use Rattle.cr_scopes_events.specs.declared.naming.Naming.TheVariants.{Parameters, Members, Declared}
+use Rattle.cr_scopes_events.specs.declared.declarator.Derivation.{Derivation}
+use Rattle.cr_scopes_events.specs.declared.declarator.Derivation.TheVariants as derivation
+use Rattle.cr_scopes_events.specs.declared.declarator.Declarator.{Declarator}
+use Rattle.cr_scopes_events.specs.Values.{before}
+use Rattle.cr_scopes_events.specs.Declarators.{nowhere, innermost, in_first, derived, declared_by, declared_if, declarator_of}
+use Rattle.cr_scopes_events.specs.Scripts.{kind_if, kind_at, first_if, parts_if, parts_at, inside, in_scope, in_scopes, block, storage_of, role_by, event_by, named, declarator_in, declares, declaration_in, is_identifier, tag_event, content_tag, lone_tag, lone_specifiers, declaration, own_parameters, list_of, items_of, members_of, definition, script_by, script_if, script_of}
+use Rattle.cr_scopes_events.specs.Events.{events_by, events_at, events_of}
+use Rattle.cr_scopes_events.proofs.Walks.{events_ruled}
+use Rattle.cr_scopes_events.proofs.Descents.{declarator_ruled}
+use Rattle.cr_scopes.specs.Resolved.{past_of}
+use Rattle.cr_scopes_visibility.specs.Alone.Sight.{is_used, IsSeen}
+use Rattle.cr_scopes_visibility.specs.Sight.Scopes.{is_blocklike, is_using, is_tagging, AreUnder, AreOrderly, IsApart}
+use Rattle.cr_scopes_visibility.specs.Sight.Laws
+use Rattle.cr_scopes_visibility.proofs.SightLemmas.Steps as steps
+use Rattle.cr_scopes_visibility.proofs.SightLemmas.Steps.{AreUnused, AreTame, AreLevel, AreFine}
+
+some_same : {A : Type 0} (x y : A) → Some x ≡ Some y → x ≡ y
+some_same x y e = cc
+
+-- a declarator around another
+abbrev is_deriving : Kind → Bool
+is_deriving kind.GroupDeclarator = true
+is_deriving kind.PointerDeclarator = true
+is_deriving kind.ArrayDeclarator = true
+is_deriving kind.FunctionDeclarator = true
+is_deriving other = false
+
+-- ---- lists
+
+taken : (m : ℕ) (ps : List ℕ) (k p : ℕ) → slice_get (take m ps) k ≡ Some p → slice_get ps k ≡ Some p
+taken zero ps k p e = absurd cc
+taken (suc m) [] k p e = absurd cc
+taken (suc m) (q ∷ ps) zero p e = e
+taken (suc m) (q ∷ ps) (suc k) p e = taken m ps k p e
+
+dropped : (m : ℕ) (ps : List ℕ) (k p : ℕ) → slice_get (drop m ps) k ≡ Some p → (j : ℕ) × (slice_get ps j ≡ Some p)
+dropped zero ps k p e = (k, e)
+dropped (suc m) [] k p e = absurd cc
+dropped (suc m) (q ∷ ps) k p e = let x = dropped m ps k p e in (suc x.0, x.1)
+
+deriving_block : (k : Kind) → is_deriving k ≡ true → is_blocklike k ≡ false
+deriving_block kind.GroupDeclarator h = refl
+deriving_block kind.PointerDeclarator h = refl
+deriving_block kind.ArrayDeclarator h = refl
+deriving_block kind.FunctionDeclarator h = refl
+deriving_block k h = absurd (false≢true h)
+
+-- the events of parts in turn
+in_turn : (at : ℕ → List Event) (ps : List ℕ) → flat_map (events_by at) (inside ps) ≡ flat_map at ps
+in_turn at [] = refl
+in_turn at (p ∷ ps) = ap (λ es. at p ++ es) (in_turn at ps)
+
+role_unused : (s : Storage) (d : Derivation) → is_used (role_by s d) ≡ false
+role_unused word.TypedefWord d = refl
+role_unused word.ExternWord (derivation.Function f) = refl
+role_unused word.ExternWord derivation.Nothing = refl
+role_unused word.ExternWord derivation.Other = refl
+role_unused word.NoWord (derivation.Function f) = refl
+role_unused word.NoWord derivation.Nothing = refl
+role_unused word.NoWord derivation.Other = refl
+
+module _ (nodes : List Node) where
+  -- ---- declarators, from the whole one to the name
+
+  -- what a property that goes from a declarator to its first part says of the name, and of the function declarator next to it
+  record Reaches (P : ℕ → Type 0) (d : Declarator) : Type 0 where
+    name : (x : ℕ) → d.name ≡ Some x → (b : ℕ) × ((m : Node) × ((slice_get nodes b ≡ Some m) × (((m.kind ≡ kind.NameDeclarator) × (m.first ≡ x)) × P b)))
+    next : (l : ℕ) → d.next ≡ derivation.Function l → (m : Node) × ((slice_get nodes l ≡ Some m) × ((m.kind ≡ kind.FunctionDeclarator) × P l))
+
+  module _ (P : ℕ → Type 0) (goes : (a b : ℕ) (m : Node) → slice_get nodes a ≡ Some m → is_deriving m.kind ≡ true → slice_get m.parts 0 ≡ Some b → P a → P b) where
+    reaches_nowhere : Reaches P nowhere
+    reaches_nowhere = record { name = λ x e. (let never : None ≡ Some x = e in absurd cc); next = λ l e. (let never : derivation.Nothing ≡ derivation.Function l = e in absurd cc) }
+
+    around : (outer : Derivation) (d : Declarator) → Reaches P d → ((l : ℕ) → outer ≡ derivation.Function l → (m : Node) × ((slice_get nodes l ≡ Some m) × ((m.kind ≡ kind.FunctionDeclarator) × P l))) → Reaches P (derived outer d)
+    around outer d h own = record { name = h.name; next = λ l e. by d.next refl e }
+      where
+        by : (x : Derivation) → d.next ≡ x → {l : ℕ} → innermost outer x ≡ derivation.Function l → (m : Node) × ((slice_get nodes l ≡ Some m) × ((m.kind ≡ kind.FunctionDeclarator) × P l))
+        by derivation.Nothing q {l = l} e = own l e
+        by (derivation.Function f) q {l = l} e = h.next l (q ∙ e)
+        by derivation.Other q {l = l} e = let never : derivation.Other ≡ derivation.Function l = e in absurd cc
+
+    abbrev Inner : ℕ → Type 0
+    Inner a = (b : ℕ) → b < a → P b → Reaches P (declarator_of nodes b)
+
+    first_reaches : (a : ℕ) (m : Node) → slice_get nodes a ≡ Some m → is_deriving m.kind ≡ true → P a → Inner a → (ps : List ℕ) → m.parts ≡ ps → Reaches P (in_first (before nowhere a (declarator_of nodes)) ps)
+    first_reaches a m at derives p rest [] e = reaches_nowhere
+    first_reaches a m at derives p rest (b ∷ ps) e = by (nat_lt b a) refl
+      where
+        by : (c : Bool) → nat_lt b a ≡ c → Reaches P (if c then declarator_of nodes b else nowhere)
+        by true q = rest b (ltb-true b a q) (goes a b m at derives (ap (λ l. slice_get l 0) e) p)
+        by false q = reaches_nowhere
+
+    no_function : (outer : Derivation) → (outer ≡ derivation.Nothing) ⊎ (outer ≡ derivation.Other) → (l : ℕ) → outer ≡ derivation.Function l → (m : Node) × ((slice_get nodes l ≡ Some m) × ((m.kind ≡ kind.FunctionDeclarator) × P l))
+    no_function outer (inl x) l e = let never : derivation.Nothing ≡ derivation.Function l = sym x ∙ e in absurd cc
+    no_function outer (inr x) l e = let never : derivation.Other ≡ derivation.Function l = sym x ∙ e in absurd cc
+
+    kind_reaches : (a : ℕ) (m : Node) → slice_get nodes a ≡ Some m → P a → Inner a → (k : Kind) → m.kind ≡ k → Reaches P (declared_by k (before nowhere a (declarator_of nodes)) a m)
+    kind_reaches a m at p rest kind.NameDeclarator e = record {
+      name = λ x f. (let same : m.first ≡ x = cc in (a, (m, (at, ((e, same), p)))));
+      next = λ l f. (let never : derivation.Nothing ≡ derivation.Function l = f in absurd cc);
+    }
+    kind_reaches a m at p rest kind.GroupDeclarator e =
+        around derivation.Nothing (in_first (before nowhere a (declarator_of nodes)) m.parts) (first_reaches a m at (ap is_deriving e) p rest m.parts refl) (no_function derivation.Nothing (inl refl))
+    kind_reaches a m at p rest kind.PointerDeclarator e =
+        around derivation.Other (in_first (before nowhere a (declarator_of nodes)) m.parts) (first_reaches a m at (ap is_deriving e) p rest m.parts refl) (no_function derivation.Other (inr refl))
+    kind_reaches a m at p rest kind.ArrayDeclarator e =
+        around derivation.Other (in_first (before nowhere a (declarator_of nodes)) m.parts) (first_reaches a m at (ap is_deriving e) p rest m.parts refl) (no_function derivation.Other (inr refl))
+    kind_reaches a m at p rest kind.FunctionDeclarator e =
+        around (derivation.Function a) (in_first (before nowhere a (declarator_of nodes)) m.parts) (first_reaches a m at (ap is_deriving e) p rest m.parts refl)
+        (λ l f. (let same : a ≡ l = cc in subst (λ x. (y : Node) × ((slice_get nodes x ≡ Some y) × ((y.kind ≡ kind.FunctionDeclarator) × P x))) same (m, (at, (e, p)))))
+    kind_reaches a m at p rest k e = reaches_nowhere
+
+    reaches_if : (a : ℕ) → P a → Inner a → (o : Option Node) → slice_get nodes a ≡ o → Reaches P (declared_if o (before nowhere a (declarator_of nodes)) a)
+    reaches_if a p rest None at = reaches_nowhere
+    reaches_if a p rest (Some m) at = kind_reaches a m at p rest m.kind refl
+
+    reaches_by : (fuel a : ℕ) → a < fuel → P a → Reaches P (declarator_of nodes a)
+    reaches_by zero a low p = absurd (omega (arith, low))
+    reaches_by (suc fuel) a low p =
+        subst (Reaches P) (sym (declarator_ruled nodes a)) (reaches_if a p (λ b less q. reaches_by fuel b (omega (arith, low, less)) q) (slice_get nodes a) refl)
+
+    reaches : (a : ℕ) → P a → Reaches P (declarator_of nodes a)
+    reaches a p = reaches_by (suc a) a (omega arith) p
+
+  -- ---- under the holder
+
+  module _ (tokens : List Token) (items : List ℕ) (name : ℕ → ℕ) (holder : ℕ) (hold : Node) (under : ℕ → Bool) (tok site : ℕ) (hold_at : slice_get nodes holder ≡ Some hold) (blocklike : is_blocklike hold.kind ≡ true)
+      (orderly : AreOrderly nodes) (is_under : AreUnder nodes items holder under) (apart : IsApart nodes under tok site) where
+    -- nodes of another kind
+    not_holder : (i : ℕ) (m : Node) → slice_get nodes i ≡ Some m → is_blocklike m.kind ≡ false → i ≡ holder → ⊥
+    not_holder i m at other same =
+        let one : m ≡ hold = some_same m hold (sym at ∙ ap (slice_get nodes) same ∙ hold_at) in
+        false≢true (sym other ∙ ap (λ (y : Node). is_blocklike y.kind) one ∙ blocklike)
+
+    -- parts of such a node stand under the holder where it does
+    part_alike : (u : Bool) (i k p : ℕ) (m : Node) → slice_get nodes i ≡ Some m → (i ≡ holder → ⊥) → under i ≡ u → slice_get m.parts k ≡ Some p → under p ≡ u
+    part_alike u i k p m at other e f = is_under.parts i k p m at f other ∙ e
+
+    first_alike : (u : Bool) (a b : ℕ) (m : Node) → slice_get nodes a ≡ Some m → is_deriving m.kind ≡ true → slice_get m.parts 0 ≡ Some b → under a ≡ u → under b ≡ u
+    first_alike u a b m at derives e f = part_alike u a 0 b m at (not_holder a m at (deriving_block m.kind derives)) f e
+
+    -- a declarator that doesn't stand there doesn't name the token
+    named_outside : (q : ℕ) → under q ≡ false → (declarator_of nodes q).name ≡ Some tok → ⊥
+    named_outside q out e =
+        let x = (reaches (λ a. under a ≡ false) (first_alike false) q out).name tok e in
+        false≢true (sym x.1.1.1.1 ∙ apart.declared x.0 x.1.0 x.1.1.0 x.1.1.1.0.0 x.1.1.1.0.1)
+
+    -- ---- nodes
+
+    record IsTold (i : ℕ) : Type 0 where
+      level : AreLevel name tok site (events_at tokens nodes i)
+      tame : under i ≡ false → AreTame name tok site (events_at tokens nodes i)
+      unused : under i ≡ true → AreUnused name tok site (events_at tokens nodes i)
+
+    -- of the parts of a node, those before it have been told
+    module _ (i : ℕ) (told : (k : ℕ) → k < i → IsTold k) where
+      abbrev at : ℕ → List Event
+      at = before [] i (events_at tokens nodes)
+
+      abbrev Fine : Bool → List Step → Type 0
+      Fine u steps = AreFine name tok site at u steps
+
+      inner : (u : Bool) (p : ℕ) → under p ≡ u → Fine u (Inside p ∷ [])
+      inner u p e = steps.part name tok site at u p (level (nat_lt p i) refl) (λ f. tame (e ∙ f) (nat_lt p i) refl) (λ f. unused (e ∙ f) (nat_lt p i) refl)
+        where
+          level : (b : Bool) → nat_lt p i ≡ b → AreLevel name tok site (if b then events_at tokens nodes p else [])
+          level true q = (told p (ltb-true p i q)).level
+          level false q = λ st. refl
+
+          tame : under p ≡ false → (b : Bool) → nat_lt p i ≡ b → AreTame name tok site (if b then events_at tokens nodes p else [])
+          tame f true q = (told p (ltb-true p i q)).tame f
+          tame f false q = λ st h. (h, tt)
+
+          unused : under p ≡ true → (b : Bool) → nat_lt p i ≡ b → AreUnused name tok site (if b then events_at tokens nodes p else [])
+          unused f true q = (told p (ltb-true p i q)).unused f
+          unused f false q = tt
+
+      -- ---- steps of one mode
+
+      module _ (u : Bool) where
+        fine_both : (xs ys : List Step) → Fine u xs → Fine u ys → Fine u (xs ++ ys)
+        fine_both xs ys h g = steps.both name tok site at u xs ys h g
+
+        fine_each : (f : ℕ → List Step) (ps : List ℕ) → ((k p : ℕ) → slice_get ps k ≡ Some p → Fine u (f p)) → Fine u (flat_map f ps)
+        fine_each f ps h = steps.each name tok site at u f ps h
+
+        abbrev Under : List ℕ → Type 0
+        Under ps = (k p : ℕ) → slice_get ps k ≡ Some p → under p ≡ u
+
+        through : (ps : List ℕ) → Under ps → Fine u (inside ps)
+        through ps h = fine_each (λ p. Inside p ∷ []) ps (λ k p e. inner u p (h k p e))
+
+        scopes : (ps : List ℕ) → Under ps → Fine u (in_scopes ps)
+        scopes ps h = fine_each (λ p. in_scope (Inside p ∷ [])) ps (λ k p e. steps.scope name tok site at u (Inside p ∷ []) (inner u p (h k p e)))
+
+        in_block : (a b : List ℕ) → Under a → Under b → (c : List ℕ) → Under c → Fine u (inside a ++ in_scopes b ++ inside c)
+        in_block a b h g c k = fine_both (inside a ++ in_scopes b) (inside c) (fine_both (inside a) (in_scopes b) (through a h) (scopes b g)) (through c k)
+
+        none_under : Under []
+        none_under k p e = let never : None ≡ Some p = e in absurd cc
+
+        blocks : (a b c : List ℕ) → Under a → Under b → Under c → Fine u (block a b c)
+        blocks a b c h g k = steps.scope name tok site at u (inside a ++ in_scopes b ++ inside c) (in_block a b h g c k)
+
+        -- ---- names
+
+        a_name : (x : ℕ) (r : Role) → is_used r ≡ false → (u ≡ false → x ≡ tok → ⊥) → Fine u (Happens (event.Name x r) ∷ [])
+        a_name x r unused other = steps.named name tok site at u x r other (λ e q same. false≢true (sym unused ∙ q))
+
+        a_use : (m : Node) → slice_get nodes i ≡ Some m → is_using m.kind ≡ true → under i ≡ u → Fine u (Happens (event.Name m.first role.Used) ∷ [])
+        a_use m here_i used mode =
+            steps.named name tok site at u m.first role.Used (λ e same. apart.used i m here_i used same)
+            (λ e q same. false≢true (sym (apart.uses i m here_i used same) ∙ mode ∙ e))
+
+        a_tag : (j : ℕ) (m : Node) → slice_get nodes j ≡ Some m → is_tagging m.kind ≡ true → (r : Role) → is_used r ≡ false → (b : Bool) → Fine u (tag_event r (m.first + 1) b)
+        a_tag j m at_j tagged r unused false = steps.nothing name tok site at u
+        a_tag j m at_j tagged r unused true = a_name (m.first + 1) r unused (λ e same. apart.tags j m at_j tagged same)
+
+        one_name : (way : Naming) (o : Option ℕ) (next : Derivation) → ((x : ℕ) → o ≡ Some x → u ≡ false → x ≡ tok → ⊥) → Fine u (elim o [ None ↦ [] | Some x ↦ Happens (event_by way next x) ∷ [] ])
+        one_name way None next h = steps.nothing name tok site at u
+        one_name Parameters (Some x) next h = a_name x role.Parameter refl (h x refl)
+        one_name (Members structure) (Some x) next h = steps.a_member name tok site at u x structure
+        one_name (Declared storage) (Some x) next h = a_name x (role_by storage next) (role_unused storage next) (h x refl)
+
+        declarator : (way : Naming) (q : ℕ) → under q ≡ u → Fine u (declarator_in way nodes q)
+        declarator way q e =
+            fine_both (Inside q ∷ []) (named way (declarator_of nodes q)) (inner u q e)
+            (one_name way (declarator_of nodes q).name (declarator_of nodes q).next (λ x f out same. named_outside q (e ∙ out) (f ∙ ap Some same)))
+
+        -- the parts of a node that isn't the holder
+        parts_under : (j : ℕ) (m : Node) → slice_get nodes j ≡ Some m → is_blocklike m.kind ≡ false → under j ≡ u → Under m.parts
+        parts_under j m at_j plain e k p f = part_alike u j k p m at_j (not_holder j m at_j plain) e f
+
+        parts_of : (j : ℕ) → ((m : Node) → slice_get nodes j ≡ Some m → is_blocklike m.kind ≡ false) → under j ≡ u → Under (parts_at nodes j)
+        parts_of j plain e k p f = by (slice_get nodes j) refl f
+          where
+            by : (o : Option Node) → slice_get nodes j ≡ o → slice_get (parts_if o) k ≡ Some p → under p ≡ u
+            by None at_j f = let never : None ≡ Some p = f in absurd cc
+            by (Some m) at_j f = parts_under j m at_j (plain m at_j) e k p f
+
+        taken_under : (m : ℕ) (ps : List ℕ) → Under ps → Under (take m ps)
+        taken_under m ps h k p e = h k p (taken m ps k p e)
+
+        dropped_under : (m : ℕ) (ps : List ℕ) → Under ps → Under (drop m ps)
+        dropped_under m ps h k p e = let x = dropped m ps k p e in h x.0 p x.1
+
+        declares_fine : (way : Naming) (p : ℕ) (o : Option Kind) → kind_at nodes p ≡ o → under p ≡ u → Fine u (declares way nodes p o)
+        declares_fine way p (Some kind.InitDeclarator) e mode =
+            fine_both (flat_map (declarator_in way nodes) (take 1 (parts_at nodes p))) (inside (drop 1 (parts_at nodes p)))
+            (fine_each (declarator_in way nodes) (take 1 (parts_at nodes p)) (λ k q f. declarator way q (stand k q (taken 1 (parts_at nodes p) k q f))))
+            (through (drop 1 (parts_at nodes p)) (dropped_under 1 (parts_at nodes p) stand))
+          where
+            stand : Under (parts_at nodes p)
+            stand = parts_of p (λ m at_p. (let is_init : Some m.kind ≡ Some kind.InitDeclarator = sym (ap kind_if at_p) ∙ e in let same : m.kind ≡ kind.InitDeclarator = cc in ap is_blocklike same)) mode
+        declares_fine way p o e mode = declarator way p mode
+
+        declaration_fine : (way : Naming) (ps : List ℕ) → Under ps → Fine u (declaration_in way nodes ps)
+        declaration_fine way ps h =
+            fine_both (inside (take 1 ps)) (flat_map (λ p. declares way nodes p (kind_at nodes p)) (drop 1 ps)) (through (take 1 ps) (taken_under 1 ps h))
+            (fine_each (λ p. declares way nodes p (kind_at nodes p)) (drop 1 ps) (λ k p e. declares_fine way p (kind_at nodes p) refl (dropped_under 1 ps h k p e)))
+
+        lone_fine : (p : ℕ) → under p ≡ u → (o : Option Node) → slice_get nodes p ≡ o → Fine u (lone_specifiers nodes p (kind_if o))
+        lone_fine p mode None at_p = inner u p mode
+        lone_fine p mode (Some x) at_p = by x.kind refl
+          where
+            tags : (o : Option Node) → o ≡ Some x → is_tagging x.kind ≡ true → Fine u (lone_tag (first_if o))
+            tags None e tagged = let never : None ≡ Some x = e in absurd cc
+            tags (Some y) e tagged =
+                let same : y ≡ x = some_same y x e in
+                a_tag p y (at_p ∙ sym e) (subst (λ (z : Node). is_tagging z.kind ≡ true) (sym same) tagged) role.Alone refl true
+
+            by : (k : Kind) → x.kind ≡ k → Fine u (lone_specifiers nodes p (Some k))
+            by kind.StructTag e = tags (slice_get nodes p) at_p (ap is_tagging e)
+            by k e = inner u p mode
+
+        by_declaration : (ps : List ℕ) → Under ps → Fine u (declaration nodes ps)
+        by_declaration [] h = steps.nothing name tok site at u
+        by_declaration (p ∷ []) h = lone_fine p (h 0 p refl) (slice_get nodes p) refl
+        by_declaration (p ∷ q ∷ ps) h = declaration_fine (Declared (storage_of nodes (p ∷ q ∷ ps))) (p ∷ q ∷ ps) h
+
+        -- the list next to the name of a definition
+        own_list : (q : ℕ) → under q ≡ u → Under (list_of nodes (declarator_of nodes q).next)
+        own_list q mode = by (declarator_of nodes q).next refl
+          where
+            by : (d : Derivation) → (declarator_of nodes q).next ≡ d → Under (list_of nodes d)
+            by (derivation.Function l) e =
+                let x = (reaches (λ a. under a ≡ u) (first_alike u) q mode).next l e in
+                dropped_under 1 (parts_at nodes l)
+                (parts_of l (λ m at_l. (let same : m ≡ x.0 = some_same m x.0 (sym at_l ∙ x.1.0) in ap (λ (y : Node). is_blocklike y.kind) same ∙ ap is_blocklike x.1.1.0)) x.1.1.1)
+            by derivation.Nothing e = none_under
+            by derivation.Other e = none_under
+
+      -- ---- definitions
+
+      -- items of a body that is the holder stand under it
+      holder_items : (k p : ℕ) → slice_get (parts_at nodes holder) k ≡ Some p → under p ≡ true
+      holder_items k p e = is_under.own k p hold hold_at (sym (ap (λ o. slice_get (parts_if o) k) hold_at) ∙ e)
+
+      module _ (m : Node) (here_i : slice_get nodes i ≡ Some m) (defines : m.kind ≡ kind.FunctionDefinition) where
+        plain_i : is_blocklike m.kind ≡ false
+        plain_i = ap is_blocklike defines
+
+        mode : Bool
+        mode = under i
+
+        own_fine : Fine (under i) (flat_map (own_parameters nodes) (take 1 (drop 1 m.parts)))
+        own_fine =
+            fine_each (under i) (own_parameters nodes) (take 1 (drop 1 m.parts))
+            (λ k p e. (let x = dropped 1 m.parts k p (taken 1 (drop 1 m.parts) k p e) in
+            through (under i) (list_of nodes (declarator_of nodes p).next) (own_list (under i) p (parts_under (under i) i m here_i plain_i refl x.0 p x.1))))
+
+        -- a body that isn't the holder
+        items_fine : (k q : ℕ) → slice_get m.parts k ≡ Some q → (q ≡ holder → ⊥) → Fine (under i) (items_of nodes q)
+        items_fine k q e other = by (slice_get nodes q) refl
+          where
+            by : (o : Option Node) → slice_get nodes q ≡ o → Fine (under i) (inside (parts_if o))
+            by None at_q = through (under i) [] (none_under (under i))
+            by (Some x) at_q =
+                through (under i) x.parts
+                (λ j p f. part_alike (under i) q j p x at_q other (parts_under (under i) i m here_i plain_i refl k q e) f)
+
+        -- the holder itself as the body
+        holder_fine : (q : ℕ) → q ≡ holder → Fine true (items_of nodes q ++ [])
+        holder_fine q same =
+            fine_both true (items_of nodes q) [] (through true (parts_at nodes q) (λ k p e. holder_items k p (ap (λ x. slice_get (parts_at nodes x) k) (sym same) ∙ e))) (steps.nothing name tok site at true)
+
+        behind_own : (rest : List ℕ) → drop 2 m.parts ≡ rest → Fine (under i) (in_scope (flat_map (own_parameters nodes) (take 1 (drop 1 m.parts)) ++ flat_map (items_of nodes) rest))
+        behind_own [] e = steps.scope name tok site at (under i) _ (fine_both (under i) (flat_map (own_parameters nodes) (take 1 (drop 1 m.parts))) [] own_fine (steps.nothing name tok site at (under i)))
+        behind_own (q ∷ []) e = by (q == holder) refl
+          where
+            xs : List Step
+            xs = flat_map (own_parameters nodes) (take 1 (drop 1 m.parts))
+
+            third : (k : ℕ) × (slice_get m.parts k ≡ Some q)
+            third = dropped 2 m.parts 0 q (ap (λ l. slice_get l 0) e)
+
+            by : (b : Bool) → (q == holder) ≡ b → Fine (under i) (in_scope (flat_map (own_parameters nodes) (take 1 (drop 1 m.parts)) ++ (items_of nodes q ++ [])))
+            by true f =
+                let same = eqb-true q holder f in
+                let low = orderly.below i third.0 q m here_i third.1 in
+                let out : under i ≡ false = is_under.above i (omega (arith, low, same)) in
+                subst (λ u. Fine u (in_scope (flat_map (own_parameters nodes) (take 1 (drop 1 m.parts)) ++ (items_of nodes q ++ [])))) (sym out)
+                (steps.closed_behind name tok site at (flat_map (own_parameters nodes) (take 1 (drop 1 m.parts))) (items_of nodes q ++ [])
+                (subst (λ u. Fine u (flat_map (own_parameters nodes) (take 1 (drop 1 m.parts)))) out own_fine) (holder_fine q same))
+            by false f =
+                steps.scope name tok site at (under i) _
+                (fine_both (under i) (flat_map (own_parameters nodes) (take 1 (drop 1 m.parts))) (items_of nodes q ++ []) own_fine
+                (fine_both (under i) (items_of nodes q) [] (items_fine third.0 q third.1 (λ same. differs same)) (steps.nothing name tok site at (under i))))
+              where
+                differs : q ≡ holder → ⊥
+                differs same = false≢true (sym f ∙ eq-eqb q holder same)
+        behind_own (q ∷ r ∷ rest) e = absurd (four m.parts refl e)
+          where
+            four : (ps : List ℕ) → m.parts ≡ ps → drop 2 ps ≡ q ∷ r ∷ rest → ⊥
+            four [] f g = let never : [] ≡ q ∷ r ∷ rest = g in absurd cc
+            four (a ∷ []) f g = let never : [] ≡ q ∷ r ∷ rest = g in absurd cc
+            four (a ∷ b ∷ ps) f g =
+                let few = orderly.definitions i m here_i defines in
+                let whole : length m.parts ≡ length (a ∷ b ∷ q ∷ r ∷ rest) = ap length (f ∙ ap (λ l. a ∷ b ∷ l) g) in
+                omega (arith, few, whole)
+
+        by_definition : Fine (under i) (definition nodes m.parts)
+        by_definition =
+            fine_both (under i) (declaration_in (Declared (storage_of nodes m.parts)) nodes (take 2 m.parts)) _
+            (declaration_fine (under i) (Declared (storage_of nodes m.parts)) (take 2 m.parts) (taken_under (under i) 2 m.parts (parts_under (under i) i m here_i plain_i refl)))
+            (behind_own (drop 2 m.parts) refl)
+
+      -- ---- all kinds
+
+      abbrev is_at : Bool
+      is_at = under i
+
+      a_block : (m : Node) → slice_get nodes i ≡ Some m → (a b : List ℕ) → ((u : Bool) → Under u m.parts → Under u a) → ((u : Bool) → Under u m.parts → Under u b) → Fine (under i) (block a b [])
+      a_block m here_i a b first second = by (i == holder) refl
+        where
+          by : (c : Bool) → (i == holder) ≡ c → Fine (under i) (block a b [])
+          by true q =
+              let same = eqb-true i holder q in
+              let out : under i ≡ false = is_under.above i (omega (arith, same)) in
+              let all : Under true m.parts = λ k p e. is_under.own k p m (ap (slice_get nodes) (sym same) ∙ here_i) e in
+              subst (λ u. Fine u (block a b [])) (sym out)
+              (steps.closed name tok site at (inside a ++ in_scopes b ++ inside []) (in_block true a b (first true all) (second true all) [] (none_under true)))
+          by false q =
+              let all : Under (under i) m.parts = λ k p e. part_alike (under i) i k p m here_i (λ same. false≢true (sym q ∙ eq-eqb i holder same)) refl e in
+              blocks (under i) a b [] (first (under i) all) (second (under i) all) (none_under (under i))
+
+      module _ (m : Node) (here_i : slice_get nodes i ≡ Some m) where
+        all_parts : is_blocklike m.kind ≡ false → Fine (under i) (inside m.parts)
+        all_parts plain = through (under i) m.parts (parts_under (under i) i m here_i plain refl)
+
+        plainly : is_blocklike m.kind ≡ false → Under (under i) m.parts
+        plainly plain = parts_under (under i) i m here_i plain refl
+
+        content : is_tagging m.kind ≡ true → Fine (under i) (content_tag tokens m.first)
+        content tagged = a_tag (under i) i m here_i tagged role.Content refl (is_identifier (slice_get tokens (m.first + 1)))
+
+        controlled : is_blocklike m.kind ≡ false → Fine (under i) (block (take 1 m.parts) (drop 1 m.parts) [])
+        controlled plain =
+            blocks (under i) (take 1 m.parts) (drop 1 m.parts) [] (taken_under (under i) 1 m.parts (plainly plain)) (dropped_under (under i) 1 m.parts (plainly plain))
+            (none_under (under i))
+
+        -- a member's declaration is no block
+        member_parts : (k p : ℕ) → slice_get m.parts k ≡ Some p → m.kind ≡ kind.StructContent → Under (under i) (parts_at nodes p)
+        member_parts k p e content_is =
+            parts_of (under i) p (λ x at_p. orderly.members i k p m x here_i content_is e at_p) (plainly (ap is_blocklike content_is) k p e)
+
+        by_kind : (k : Kind) → m.kind ≡ k → Fine (under i) (script_by k tokens nodes i m)
+        by_kind kind.FunctionDefinition e = by_definition m here_i e
+        by_kind kind.Declaration e = by_declaration (under i) m.parts (plainly (ap is_blocklike e))
+        by_kind kind.Parameter e = declaration_fine (under i) Parameters m.parts (plainly (ap is_blocklike e))
+        by_kind kind.FunctionDeclarator e =
+            fine_both (under i) (inside (take 1 m.parts)) (block (drop 1 m.parts) [] []) (through (under i) (take 1 m.parts) (taken_under (under i) 1 m.parts (plainly (ap is_blocklike e))))
+            (blocks (under i) (drop 1 m.parts) [] [] (dropped_under (under i) 1 m.parts (plainly (ap is_blocklike e))) (none_under (under i)) (none_under (under i)))
+        by_kind kind.StructContent e =
+            fine_both (under i) (content_tag tokens m.first) (flat_map (members_of nodes i) m.parts) (content (ap is_tagging e))
+            (fine_each (under i) (members_of nodes i) m.parts (λ k p f. declaration_fine (under i) (Members i) (parts_at nodes p) (member_parts k p f e)))
+        by_kind kind.EnumContent e = fine_both (under i) (content_tag tokens m.first) (inside m.parts) (content (ap is_tagging e)) (all_parts (ap is_blocklike e))
+        by_kind kind.Enumerator e =
+            fine_both (under i) (inside m.parts) (Happens (event.Name m.first role.Enumerator) ∷ []) (all_parts (ap is_blocklike e))
+            (a_name (under i) m.first role.Enumerator refl (λ out same. apart.enumerators i m here_i e same))
+        by_kind kind.StructTag e = a_tag (under i) i m here_i (ap is_tagging e) role.Mentioned refl true
+        by_kind kind.EnumTag e = a_tag (under i) i m here_i (ap is_tagging e) role.Mentioned refl true
+        by_kind kind.TypedefName e = a_use (under i) m here_i (ap is_using e) refl
+        by_kind kind.Identifier e = a_use (under i) m here_i (ap is_using e) refl
+        by_kind kind.Call e =
+            fine_both (under i) (Happens (event.Name m.first role.Used) ∷ []) (inside m.parts) (a_use (under i) m here_i (ap is_using e) refl) (all_parts (ap is_blocklike e))
+        by_kind kind.Compound e = a_block m here_i m.parts [] (λ u h. h) (λ u h. none_under u)
+        by_kind kind.If e = controlled (ap is_blocklike e)
+        by_kind kind.Switch e = controlled (ap is_blocklike e)
+        by_kind kind.While e = controlled (ap is_blocklike e)
+        by_kind kind.Do e =
+            blocks (under i) [] (take 1 m.parts) (drop 1 m.parts) (none_under (under i)) (taken_under (under i) 1 m.parts (plainly (ap is_blocklike e)))
+            (dropped_under (under i) 1 m.parts (plainly (ap is_blocklike e)))
+        by_kind kind.For e =
+            a_block m here_i (take (length m.parts - 1) m.parts) (drop (length m.parts - 1) m.parts) (λ u h. taken_under u (length m.parts - 1) m.parts h) (λ u h. dropped_under u (length m.parts - 1) m.parts h)
+        by_kind k e = all_parts (ap is_blocklike e)
+
+      script : Fine (under i) (script_of tokens nodes i)
+      script = by (slice_get nodes i) refl
+        where
+          by : (o : Option Node) → slice_get nodes i ≡ o → Fine (under i) (script_if o tokens nodes i)
+          by None at_i = steps.nothing name tok site at (under i)
+          by (Some m) at_i = by_kind m at_i m.kind refl
+
+      one_told : IsTold i
+      one_told = record {
+        level = subst (AreLevel name tok site) (sym (events_ruled tokens nodes i)) (λ st. steps.fine_level name tok site at (under i) (script_of tokens nodes i) script st);
+        tame = λ out.
+            subst (AreTame name tok site) (sym (events_ruled tokens nodes i))
+            (λ st h. (let x = steps.fine_tame name tok site at (script_of tokens nodes i) (subst (λ u. Fine u (script_of tokens nodes i)) out script) st h in (x.0, (tt, x.1))));
+        unused = λ within.
+            subst (AreUnused name tok site) (sym (events_ruled tokens nodes i))
+            (tt, steps.fine_unused name tok site at (script_of tokens nodes i) (subst (λ u. Fine u (script_of tokens nodes i)) within script));
+      }
+
+    told_below : (m i : ℕ) → i < m → IsTold i
+    told_below zero i low = absurd (omega (arith, low))
+    told_below (suc m) i low = one_told i (λ k less. told_below m k (omega (arith, low, less)))
+
+    -- ---- the unit
+
+    items_tame : AreTame name tok site (events_of tokens nodes items)
+    items_tame =
+        subst (AreTame name tok site) (in_turn (before [] (length nodes) (events_at tokens nodes)) items)
+        (λ st h. steps.fine_tame name tok site (before [] (length nodes) (events_at tokens nodes)) (inside items)
+        (through (length nodes) (λ k less. told_below (suc k) k (omega arith)) false items (λ k p e. is_under.top k p e)) st h)
+
+    unseen : IsSeen name tok site (past_of (events_of tokens nodes items) (length (events_of tokens nodes items))) → ⊥
+    unseen = steps.never_seen name tok site (events_of tokens nodes items) (items_tame [] refl).1
+
+pub closed : Laws.ScopesAreClosed
+closed tokens nodes items name holder hold under token site at blocklike orderly is_under apart = unseen nodes tokens items name holder hold under token site at blocklike orderly is_under apart
