@@ -1,5 +1,5 @@
 -- An epoch on some of a bench's judges, seen from all of them.
-use Rattle.std.proofs.Common.{◌≡◌, ℕ, ◌+◌, ◌<◌, ◌≤◌, List, [], ◌∷◌, ◌++◌, length, map, set, slice_index_or, take, refl, sym, ap, subst, ◌∙◌, arith}
+use Rattle.std.proofs.Common.{◌≡◌, ℕ, ◌+◌, ◌<◌, ◌≤◌, List, [], ◌∷◌, ◌++◌, drop, length, map, set, slice_index_or, take, refl, sym, ap, subst, ◌∙◌, arith}
 use Prim.Native.Nat.{zero, suc}
 use Rattle.std.proofs.lemmas.List.{length-map, map-append}
 use Rattle.cr_claims.proofs.Views.{total-append}
@@ -142,6 +142,22 @@ module _ {J K : Type 0} (judge : JudgeGhosts J K) where
   pub first_after : (ws : List (Worker J)) (w : Worker J) → 0 < length ws → tally_at (tallies_of judge (judges_in (set ws 0 w))) 0 ≡ tally_of judge w.judge
   first_after [] w some = absurd (omega arith)
   first_after (v ∷ ws) w some = refl
+
+  pub says_before : (ws : List (Worker J)) (d : Worker J) → 0 < length ws → first_says judge.key judge.says (judges_in ws) ≡ judge.says (judge.key (slice_index_or ws 0 d).judge)
+  says_before [] d some = absurd (omega arith)
+  says_before (w ∷ ws) d some = refl
+
+  pub says_after : (ws : List (Worker J)) (w : Worker J) → 0 < length ws → first_says judge.key judge.says (judges_in (set ws 0 w)) ≡ judge.says (judge.key w.judge)
+  says_after [] w some = absurd (omega arith)
+  says_after (v ∷ ws) w some = refl
+
+  pub others_still : (ws : List (Worker J)) (w : Worker J) → drop 1 (judges_in (set ws 0 w)) ≡ drop 1 (judges_in ws)
+  others_still [] w = refl
+  others_still (v ∷ ws) w = refl
+
+  pub count_still : (ws : List (Worker J)) (w : Worker J) → length (judges_in (set ws 0 w)) ≡ length (judges_in ws)
+  count_still [] w = refl
+  count_still (v ∷ ws) w = refl
 
   one_with : (v w : J) (js : List J) → judge.key w ≡ judge.key v → HaveOneKey judge.key (v ∷ js) → HaveOneKey judge.key (w ∷ js)
   one_with v w js same one zero zero d low high = refl
