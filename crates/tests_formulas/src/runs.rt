@@ -140,7 +140,7 @@ pub(crate) fn expect_row(
     let words = words_of(alloc, text)?;
     let wanted = wanted(alloc, before, status, put, rest)?;
     let found = outcome(rt, alloc, &words, bytes_of(alloc, before)?)?;
-    assert!(rt; found == wanted, "{row}");
+    assert!(rt; found == wanted, "{row}: {found:?}");
     Ok(())
 }
 

@@ -35,7 +35,7 @@ fn reduced(
 ) -> Result<Vec<u8>, AllocError> {
     let words = words_of(alloc, words)?;
     let (ended, _, after, _, _) = outcome(rt, alloc, &words, file)?;
-    assert!(rt; ended == status, "{row}");
+    assert!(rt; ended == status, "{row}: {ended}");
     match after {
         Some(after) => Ok(after),
         None => Ok(Vec::new(alloc)),

@@ -232,7 +232,7 @@ fn expect_value(rt: &impl Abort, alloc: Global, row: &str) -> Result<(), AllocEr
     let input = bytes_of(alloc, file_named(cells.next().unwrap_or("")))?;
     let file = bytes_of(alloc, file_named(cells.next().unwrap_or("")))?;
     let found = found(alloc, word.as_str(), input, &file)?;
-    assert!(rt; found == wanted, "{row}");
+    assert!(rt; found == wanted, "{row}: {found}");
     Ok(())
 }
 
@@ -266,7 +266,7 @@ fn expect_run(
     if input == cells.next().unwrap_or("") {
         let words = words_with(alloc, word)?;
         let found = outcome(rt, alloc, &words, bytes_of(alloc, file_named(input))?)?;
-        assert!(rt; found.0 == wanted, "{row}");
+        assert!(rt; found.0 == wanted, "{row}: {}", found.0);
     }
     Ok(())
 }

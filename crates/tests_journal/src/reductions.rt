@@ -152,7 +152,7 @@ fn standing<D: Disk>(rt: &impl Abort, alloc: Global, disk: &mut D) -> Result<Opt
     let Some((header, rows)) = opened(rt, alloc, disk)? else {
         return Ok(None);
     };
-    assert!(rt; header == HEADER);
+    assert!(rt; header == HEADER, "another header");
     match replay(alloc, &CPasses::lines(), &TokenLaw, file, rows, MOST) {
         Ok(kept) => Ok(Some(kept)),
         Err(JournalFault::NoMemory) => Err(AllocError),

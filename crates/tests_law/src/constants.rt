@@ -147,7 +147,7 @@ fn enumerators_are_ints(rt: HostRuntime) {
     ];
     let told = [Some(-2147483648), None, None, None, Some(2147483647), None];
     let holds = values == told;
-    assert!(rt; holds);
+    assert!(rt; holds, "the rule doesn't hold");
 }
 
 // The type and the value of an expression, in words.

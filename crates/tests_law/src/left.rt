@@ -29,7 +29,7 @@ fn the_unit_of_a_lawful_file_is_left_for_that_file_alone(rt: HostRuntime) -> Res
     let same = left(alloc, lawful, lawful)?;
     assert!(rt; same.0.as_str() == "lawful" && same.1);
     let other = left(alloc, lawful, undefined)?;
-    assert!(rt; !other.1);
+    assert!(rt; !other.1, "another file took what the law left");
     let refused = left(alloc, undefined, undefined)?;
     assert!(rt; refused.0.as_str() != "lawful" && !refused.1);
     Ok(())

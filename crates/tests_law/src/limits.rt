@@ -242,7 +242,7 @@ fn expect_most_printed(rt: &impl Abort, alloc: Global) -> Result<(), AllocError>
     let file = format!(in alloc; "{PRINTING}}}")?;
     let found = shown(alloc, file.as_str(), most())?;
     assert!(rt; found.as_str().starts_with("lawful 0 0123456789ABCDEF0123"));
-    assert!(rt; found.len() == 9 + 65_536);
+    assert!(rt; found.len() == 9 + 65_536, "{} bytes", found.len());
     Ok(())
 }
 

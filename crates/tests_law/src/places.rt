@@ -68,7 +68,7 @@ fn marks_are_found_again(rt: HostRuntime) -> Result<(), Fail> {
     let again = repeated(alloc, &marks, &nodes)?;
     let told = [true, false, false, false, false, false, true];
     let holds = again.as_slice() == told.as_slice();
-    assert!(rt; holds);
+    assert!(rt; holds, "the rule doesn't hold");
     Ok(())
 }
 

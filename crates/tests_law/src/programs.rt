@@ -60,7 +60,7 @@ const GENERATED: &str = "\
 
 #[test]
 fn the_sample_runs(rt: HostRuntime) -> Result<(), AllocError> {
-    assert!(rt; SAMPLE.len() == 407);
+    assert!(rt; SAMPLE.len() == 407, "{} and not 407", SAMPLE.len());
     let found = shown(rt.alloc(), SAMPLE, most())?;
     assert!(rt; found.as_str() == "lawful 0 14 6\n", "{found}");
     Ok(())

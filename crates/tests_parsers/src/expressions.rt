@@ -219,7 +219,7 @@ fn expect_tree(rt: &impl Abort, alloc: Global, row: &str) -> Result<(), Fail> {
 #[test]
 fn expressions_have_their_trees(rt: HostRuntime) -> Result<(), Fail> {
     let trees = rows(rt.alloc(), TREES)?;
-    assert!(rt; trees.len() == 100);
+    assert!(rt; trees.len() == 100, "{} and not 100", trees.len());
     for row in trees {
         expect_tree(&rt, rt.alloc(), row)?;
     }
@@ -238,7 +238,7 @@ fn expect_fault(rt: &impl Abort, alloc: Global, row: &str) -> Result<(), Fail> {
 #[test]
 fn refusals_name_kind_and_token(rt: HostRuntime) -> Result<(), Fail> {
     let faults = rows(rt.alloc(), FAULTS)?;
-    assert!(rt; faults.len() == 76);
+    assert!(rt; faults.len() == 76, "{} and not 76", faults.len());
     for row in faults {
         expect_fault(&rt, rt.alloc(), row)?;
     }
@@ -253,7 +253,7 @@ fn expect_after(
     next: u32,
 ) -> Result<(), Fail> {
     let after = after(&read_text(alloc, text, 0, goal)?);
-    assert!(rt; after == next, "{text}");
+    assert!(rt; after == next, "{text}: {after} and not {next}");
     Ok(())
 }
 

@@ -237,7 +237,7 @@ fn expect_tree(rt: &impl Abort, alloc: Global, row: &str) -> Result<(), Fail> {
 #[test]
 fn units_have_their_trees(rt: HostRuntime) -> Result<(), Fail> {
     let trees = rows(rt.alloc(), TREES)?;
-    assert!(rt; trees.len() == 73);
+    assert!(rt; trees.len() == 73, "{} and not 73", trees.len());
     for row in trees {
         expect_tree(&rt, rt.alloc(), row)?;
     }
@@ -265,7 +265,7 @@ fn expect_refused(rt: &impl Abort, alloc: Global, row: &str) -> Result<(), Fail>
 #[test]
 fn refusals_name_kind_and_token(rt: HostRuntime) -> Result<(), Fail> {
     let faults = rows(rt.alloc(), FAULTS)?;
-    assert!(rt; faults.len() == 93);
+    assert!(rt; faults.len() == 93, "{} and not 93", faults.len());
     for row in faults {
         expect_refused(&rt, rt.alloc(), row)?;
     }
@@ -284,7 +284,7 @@ fn is_unit(alloc: Global, text: &str) -> Result<bool, Fail> {
 
 #[test]
 fn a_program_and_its_prefixes(rt: HostRuntime) -> Result<(), Fail> {
-    assert!(rt; PROGRAM.len() == 407);
+    assert!(rt; PROGRAM.len() == 407, "{} and not 407", PROGRAM.len());
     for end in 0..408 {
         let is_unit = is_unit(rt.alloc(), PROGRAM.get(0..end).unwrap_or(""))?;
         // an external declaration ends there, or one byte before
@@ -330,14 +330,14 @@ fn expect_fits(rt: &impl Abort, alloc: Global, row: &str) -> Result<(), Fail> {
 
 fn expect_too_deep(rt: &impl Abort, alloc: Global, row: &str) -> Result<(), Fail> {
     let found = nest_fault(alloc, row, 1)?;
-    assert!(rt; found.as_str().starts_with("TooDeep("), "{row}");
+    assert!(rt; found.as_str().starts_with("TooDeep("), "{row}: {found}");
     Ok(())
 }
 
 #[test]
 fn levels_are_counted_to_128(rt: HostRuntime) -> Result<(), Fail> {
     let nests = rows(rt.alloc(), NESTS)?;
-    assert!(rt; nests.len() == 11);
+    assert!(rt; nests.len() == 11, "{} and not 11", nests.len());
     for row in nests {
         expect_fits(&rt, rt.alloc(), row)?;
         expect_too_deep(&rt, rt.alloc(), row)?;
@@ -366,7 +366,7 @@ fn expect_limit(rt: &impl Abort, alloc: Global, row: &str) -> Result<(), Fail> {
 #[test]
 fn at_one_token_too_deep_comes_first(rt: HostRuntime) -> Result<(), Fail> {
     let limits = rows(rt.alloc(), LIMITS)?;
-    assert!(rt; limits.len() == 7);
+    assert!(rt; limits.len() == 7, "{} and not 7", limits.len());
     for row in limits {
         expect_limit(&rt, rt.alloc(), row)?;
     }
@@ -399,7 +399,7 @@ fn expect_chain(rt: &impl Abort, alloc: Global, row: &str) -> Result<(), Fail> {
 #[test]
 fn rows_cost_no_levels(rt: HostRuntime) -> Result<(), Fail> {
     let chains = rows(rt.alloc(), CHAINS)?;
-    assert!(rt; chains.len() == 5);
+    assert!(rt; chains.len() == 5, "{} and not 5", chains.len());
     for row in chains {
         expect_chain(&rt, rt.alloc(), row)?;
     }

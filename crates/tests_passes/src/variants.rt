@@ -804,7 +804,7 @@ fn byte_of(c: char) -> u8 {
 }
 
 fn expect(rt: &impl Abort, found: &[u8], wanted: &[u8], row: &str) {
-    assert!(rt; found == wanted, "{row}");
+    assert!(rt; found == wanted, "{row}: {found:?} and not {wanted:?}");
 }
 
 fn check<P: Passes>(

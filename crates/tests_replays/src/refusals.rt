@@ -89,7 +89,7 @@ fn expect_row(rt: &impl Abort, alloc: Global, row: &str) -> Result<(), AllocErro
     let reads = cells.next().unwrap_or("");
     let puts = cells.next().unwrap_or("");
     let found = told(alloc, letters, reads, puts, cells.next().unwrap_or(""))?;
-    assert!(rt; found.as_slice() == wanted.as_slice(), "{row}");
+    assert!(rt; found.as_slice() == wanted.as_slice(), "{row}: {found:?}");
     Ok(())
 }
 

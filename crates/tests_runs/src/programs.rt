@@ -101,7 +101,7 @@ fn expect_row(
     let words = words_of(alloc, workers, window, text)?;
     let wanted = told(alloc, file, status, rest)?;
     let found = silent_outcome(rt, alloc, &words, file)?;
-    assert!(rt; found == wanted, "{row}");
+    assert!(rt; found == wanted, "{row}: {found:?}");
     Ok(())
 }
 

@@ -167,6 +167,6 @@ fn a_file_that_was_asked_about_is_not_asked_about_again(rt: HostRuntime) -> Resu
 #[test]
 fn each_file_gets_one_index(rt: HostRuntime) -> Result<(), AllocError> {
     let (calls, indexes) = counts(&rt, rt.alloc(), 1, "has:b")?;
-    assert!(rt; calls == 0 && indexes == 3);
+    assert!(rt; calls == 0 && indexes == 3, "other calls, or other indexes");
     Ok(())
 }

@@ -99,7 +99,7 @@ fn expect_line(
     let file = bytes_of(alloc, text)?;
     let found = silent_outcome(rt, alloc, &words, &file)?;
     let wanted = refused(alloc, line, &file)?;
-    assert!(rt; found == wanted, "{text}");
+    assert!(rt; found == wanted, "{text}: {found:?} and not {wanted:?}");
     Ok(())
 }
 

@@ -169,7 +169,7 @@ fn expect_log(
     accepted: &[Accepted],
     end: (u8, u64, u64),
 ) -> Result<(), LogFault> {
-    assert!(rt; text.len() <= 100);
+    assert!(rt; text.len() <= 100, "the text is too long");
     let log = read_log(alloc, text)?;
     assert!(rt; log.accepted.as_slice() == accepted, "in {text:?}");
     assert!(rt; (log.why, log.size, log.turns) == end, "in {text:?}");
@@ -229,7 +229,7 @@ l 13 1 68 15␊end memory 34 32␊¦2
 
 // The line at which a text is refused.
 fn refusal(rt: &impl Abort, alloc: Global, text: &[u8]) -> Result<String, AllocError> {
-    assert!(rt; text.len() <= 100);
+    assert!(rt; text.len() <= 100, "the text is too long");
     match read_log(alloc, text) {
         Ok(_) => String::from_str(alloc, "a log"),
         Err(LogFault::Line(line)) => format!(in alloc; "{line}"),

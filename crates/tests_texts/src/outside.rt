@@ -93,7 +93,7 @@ fn a_judge_answers_by_its_rows(rt: HostRuntime) -> Result<(), AllocError> {
     for row in rows("\nint a;¦Yes\nint b;¦No\nint a;¦Failed\n") {
         expect_judged(&rt, alloc, &mut judge, row);
     }
-    assert!(rt; judge.calls().len() == 3);
+    assert!(rt; judge.calls().len() == 3, "{} calls", judge.calls().len());
     Ok(())
 }
 
@@ -154,7 +154,7 @@ fn expect_asked(rt: &impl Abort, alloc: Global, test: &Test, judge: &mut Scripte
         let found = test.ask(alloc, judge, "f.c", file.as_bytes());
         expect(rt, word_of(found).as_bytes(), wanted.as_bytes(), row);
     }
-    assert!(rt; judge.calls().is_empty());
+    assert!(rt; judge.calls().is_empty(), "not empty");
 }
 
 #[test]

@@ -86,7 +86,7 @@ pub(crate) fn expect_true(rt: &impl Abort, holds: bool, row: &str) {
 
 /// The one comparison of tables.
 pub(crate) fn expect(rt: &impl Abort, found: &[u8], wanted: &[u8], row: &str) {
-    assert!(rt; found == wanted, "{row}");
+    assert!(rt; found == wanted, "{row}: {found:?} and not {wanted:?}");
 }
 
 /// The same with the bytes that a cell stands for.

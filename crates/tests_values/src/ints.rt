@@ -150,7 +150,7 @@ Shr greatest -1 U4
 ";
 
 fn expect_conversion(rt: &impl Abort, value: i128, to: IntKind, wanted: i128) {
-    assert!(rt; IntKind::ULLong.can_represent(value) || IntKind::LLong.can_represent(value));
+    assert!(rt; IntKind::ULLong.can_represent(value) || IntKind::LLong.can_represent(value), "the kind doesn't represent the value");
     assert!(rt; convert(value, to) == wanted, "{value} to {to:?}");
 }
 
@@ -170,7 +170,7 @@ fn conversions_are_those_of_the_standard(rt: HostRuntime) -> Result<(), Fail> {
 }
 
 fn expect_kind(rt: &impl Abort, found: IntKind, wanted: IntKind, row: &str) {
-    assert!(rt; found == wanted, "{row}");
+    assert!(rt; found == wanted, "{row}: {found:?} and not {wanted:?}");
 }
 
 fn expect_promoted(rt: &impl Abort, row: &str) -> Result<(), Fail> {

@@ -105,13 +105,13 @@ fn printed(
     out: &mut Vec<u8>,
 ) -> Result<Option<ShowEnd>, FormatEnd> {
     let wanted = pieces(alloc, format.as_bytes())?;
-    assert!(rt; wanted.len() == 1 && wanted[0].takes_integer());
+    assert!(rt; wanted.len() == 1 && wanted[0].takes_integer(), "another piece");
     expect_value(rt, kind, value);
     Ok(show(&wanted[0], kind, value, out).err())
 }
 
 fn expect_bytes(rt: &impl Abort, found: &[u8], wanted: &[u8], row: &str) {
-    assert!(rt; found == wanted, "{row}");
+    assert!(rt; found == wanted, "{row}: {found:?} and not {wanted:?}");
 }
 
 fn expect_shown(rt: &impl Abort, end: Option<ShowEnd>, found: &[u8], wanted: &str, row: &str) {
@@ -157,7 +157,7 @@ fn put_number(
     out: &mut Vec<u8>,
 ) -> Result<(), FormatEnd> {
     let end = printed(rt, alloc, format, IntKind::Int, value, out)?;
-    assert!(rt; end.is_none());
+    assert!(rt; end.is_none(), "something where nothing should be");
     Ok(())
 }
 

@@ -18,19 +18,19 @@ fn change_the_first(rows: &mut [Row<u32>]) -> Result<(), Fail> {
 }
 
 fn expect_changed(rt: &impl Abort, rows: &[Row<u32>]) -> Result<(), AllocError> {
-    assert!(rt; rows.len() == 2);
-    assert!(rt; rows[0].as_slice() == [2, 5, 8].as_slice());
-    assert!(rt; rows[0].len() == 3 && rows[1].is_empty());
+    assert!(rt; rows.len() == 2, "{} and not 2", rows.len());
+    assert!(rt; rows[0].as_slice() == [2, 5, 8].as_slice(), "other cells, or other rows");
+    assert!(rt; rows[0].len() == 3 && rows[1].is_empty(), "not as it should be, or not empty");
     let mut copy = rows[0].clone()?;
     let last = copy.pop();
-    assert!(rt; last == Some(8));
+    assert!(rt; last == Some(8), "another last item");
     Ok(())
 }
 
 fn expect_an_empty_last(rt: &impl Abort, rows: &mut Vec<Row<u32>>) -> Result<(), Fail> {
     let last = rows.pop().ok_or("two rows")?;
     let items = last.into_vec();
-    assert!(rt; items.is_empty());
+    assert!(rt; items.is_empty(), "not empty");
     Ok(())
 }
 

@@ -41,12 +41,12 @@ pub(crate) fn enter(
     zero: bool,
 ) -> u32 {
     let entered = store.enter(shape, zero);
-    assert!(rt; entered.is_ok());
+    assert!(rt; entered.is_ok(), "it was refused");
     entered.unwrap_or(0)
 }
 
 pub(crate) fn leave(rt: &impl Abort, store: &mut Store, object: u32) {
-    assert!(rt; store.is_live(object));
+    assert!(rt; store.is_live(object), "the object isn't alive");
     store.leave(object);
 }
 
@@ -56,7 +56,7 @@ pub(crate) fn load(
     at: Pointer,
     kind: Scalar,
 ) -> Result<Cell, Trap> {
-    assert!(rt; store.is_pointer(at));
+    assert!(rt; store.is_pointer(at), "no pointer of the store");
     store.load(at, kind)
 }
 
@@ -67,8 +67,8 @@ pub(crate) fn save(
     kind: Scalar,
     value: Cell,
 ) -> Result<(), Trap> {
-    assert!(rt; store.is_pointer(at));
-    assert!(rt; store.holds(kind, value));
+    assert!(rt; store.is_pointer(at), "no pointer of the store");
+    assert!(rt; store.holds(kind, value), "the cell's kind doesn't hold the value");
     store.save(at, kind, value)
 }
 
@@ -79,9 +79,9 @@ pub(crate) fn copy(
     to: Pointer,
     count: u32,
 ) -> Result<(), Trap> {
-    assert!(rt; store.is_pointer(from));
-    assert!(rt; store.is_pointer(to));
-    assert!(rt; has_stride(from, count));
-    assert!(rt; has_stride(to, count));
+    assert!(rt; store.is_pointer(from), "no pointer of the store");
+    assert!(rt; store.is_pointer(to), "no pointer of the store");
+    assert!(rt; has_stride(from, count), "the pointer has another stride");
+    assert!(rt; has_stride(to, count), "the pointer has another stride");
     store.copy(from, to, count)
 }

@@ -56,7 +56,7 @@ fn two_structs(alloc: Global) -> Result<Foot, FootEnd> {
 #[test]
 fn the_cells_of_two_structs_are_those_of_either(rt: HostRuntime) -> Result<(), Fail> {
     let both = two_structs(rt.alloc())?;
-    assert!(rt; both.reads().len() == 15);
-    assert!(rt; both.writes().is_empty());
+    assert!(rt; both.reads().len() == 15, "{} reads", both.reads().len());
+    assert!(rt; both.writes().is_empty(), "not empty");
     Ok(())
 }

@@ -195,7 +195,7 @@ fn expect_all(rt: &impl Abort, alloc: Global, rows: &str) -> Result<(), AllocErr
     for line in rows.lines() {
         let found = answer(alloc, line)?;
         let wanted = line.split('|').next().unwrap_or("");
-        assert!(rt; found.as_str() == wanted, "{line}");
+        assert!(rt; found.as_str() == wanted, "{line}: {found}");
     }
     Ok(())
 }

@@ -148,7 +148,7 @@ fn answer(alloc: Global, line: &str) -> Result<String, AllocError> {
 fn expect_answer(rt: &impl Abort, alloc: Global, line: &str) -> Result<(), AllocError> {
     let found = answer(alloc, line)?;
     let wanted = line.split('|').next().unwrap_or("");
-    assert!(rt; found.as_str() == wanted, "{line}");
+    assert!(rt; found.as_str() == wanted, "{line}: {found}");
     Ok(())
 }
 

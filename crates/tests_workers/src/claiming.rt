@@ -13,20 +13,20 @@ fn the_row_ends_at_the_hit(rt: HostRuntime) -> Result<(), AllocError> {
     let (claims, mut zero) = Claims::open(rt.alloc(), 3)?;
     let mut one = claims.split(&mut zero);
     let at = claims.claim(&mut zero, Settle::Nothing);
-    assert!(rt; at == 0);
+    assert!(rt; at == 0, "{at} and not 0");
     let at = claims.claim(&mut one, Settle::Nothing);
-    assert!(rt; at == 1);
+    assert!(rt; at == 1, "{at} and not 1");
     claims.hit(&mut one, HitKind::Yes);
     let at = claims.claim(&mut zero, Settle::No);
-    assert!(rt; at == 2);
-    assert!(rt; claims.look(&mut zero));
+    assert!(rt; at == 2, "{at} and not 2");
+    assert!(rt; claims.look(&mut zero), "the look saw no lower hit");
     claims.leave(&mut zero, Settle::Skipped);
     let at = claims.claim(&mut one, Settle::Nothing);
-    assert!(rt; at == 3);
+    assert!(rt; at == 3, "{at} and not 3");
     claims.leave(&mut one, Settle::Skipped);
     claims.join(&mut zero, one);
     let first = claims.close(zero);
-    assert!(rt; first == First::At(1, HitKind::Yes));
+    assert!(rt; first == First::At(1, HitKind::Yes), "another first hit");
     Ok(())
 }
 
@@ -75,7 +75,7 @@ impl Worker {
 fn seen_by(rt: &impl Abort, alloc: Global, workers: &[Worker]) -> Result<Vec<u64>, AllocError> {
     let mut all = Vec::new(alloc);
     for worker in workers {
-        assert!(rt; !worker.starved);
+        assert!(rt; !worker.starved, "a worker ran out of memory");
         all.extend_from_slice(worker.seen.as_slice())?;
     }
     all.sort()?;
@@ -84,9 +84,9 @@ fn seen_by(rt: &impl Abort, alloc: Global, workers: &[Worker]) -> Result<Vec<u64
 
 fn expect_each_once(rt: &impl Abort, alloc: Global, workers: &[Worker]) -> Result<(), AllocError> {
     let all = seen_by(rt, alloc, workers)?;
-    assert!(rt; all.len() == 1000);
+    assert!(rt; all.len() == 1000, "{} and not 1000", all.len());
     for (i, at) in all.iter().enumerate() {
-        assert!(rt; *at == i as u64);
+        assert!(rt; *at == i as u64, "{at} and not {i}");
     }
     Ok(())
 }

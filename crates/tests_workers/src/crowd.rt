@@ -88,13 +88,13 @@ fn rejects_all<R: Threads + Abort + Sync, J: Judge + Send>(
     requires kept { bench.old.kept ≡ [] }
     requires few { variants ≤ 4096 }
 {
-    assert!(rt; file.len() <= 1_048_576);
+    assert!(rt; file.len() <= 1_048_576, "the text is too long");
     let size = size_of(rt, alloc, file)?;
     let question = Test::Program(String::from_str(alloc, "t")?);
     let passes = CPasses::lines();
     let prep = passes.prepare(alloc, file)?;
     let count = positions(&passes, &prep);
-    assert!(rt; variants <= count);
+    assert!(rt; variants <= count, "fewer positions than are looked at");
     let job = Job {
         passes: &passes,
         prep: &prep,
@@ -123,7 +123,7 @@ fn asked_of(
     let present = AtomicU64::new(0);
     let mut bench = bench_of(alloc, &present, count)?;
     let all = rejects_all(rt, alloc, file, 40, &mut bench)?;
-    assert!(rt; all);
+    assert!(rt; all, "not every judge was asked");
     Ok(present.load(Ordering::SeqCst))
 }
 

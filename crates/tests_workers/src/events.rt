@@ -16,7 +16,7 @@ const ROW: [Event; 5] = [
 ];
 
 fn expect_list(rt: &impl Abort, core: &Core, worker: usize, wanted: &[Entry]) {
-    assert!(rt; worker < core.lists.len());
+    assert!(rt; worker < core.lists.len(), "the machine has no such worker");
     assert!(rt; core.lists[worker].as_slice() == wanted, "worker {worker}");
 }
 
@@ -26,8 +26,8 @@ fn expect_step(
     event: Event,
     wanted: bool,
 ) -> Result<(), NoMemory> {
-    assert!(rt; core.next < 4);
-    assert!(rt; core.len == 3);
+    assert!(rt; core.next < 4, "{} and not below 4", core.next);
+    assert!(rt; core.len == 3, "{} and not 3", core.len);
     let found = core.step(event)?;
     assert!(rt; found == wanted, "{event:?}");
     Ok(())
@@ -40,8 +40,8 @@ fn after(alloc: Global, count: usize) -> Result<Core, NoMemory> {
 #[test]
 fn the_row_ends_at_the_hit(rt: HostRuntime) -> Result<(), NoMemory> {
     let core = run(rt.alloc(), 3, 2, &ROW)?;
-    assert!(rt; (core.next, core.least) == (3, 4));
-    assert!(rt; core.lists.len() == 2);
+    assert!(rt; (core.next, core.least) == (3, 4), "next is {}, least is {}", core.next, core.least);
+    assert!(rt; core.lists.len() == 2, "{} and not 2", core.lists.len());
     expect_list(
         &rt,
         &core,
@@ -49,7 +49,7 @@ fn the_row_ends_at_the_hit(rt: HostRuntime) -> Result<(), NoMemory> {
         &[entry(0, Mark::No), entry(2, Mark::Skipped)],
     );
     expect_list(&rt, &core, 1, &[entry(1, Mark::Hit(HitKind::Yes))]);
-    assert!(rt; core.first() == First::At(1, HitKind::Yes));
+    assert!(rt; core.first() == First::At(1, HitKind::Yes), "another first hit");
     Ok(())
 }
 
@@ -83,7 +83,7 @@ fn what_is_not_allowed_changes_nothing(rt: HostRuntime) -> Result<(), NoMemory> 
         Event::Look(2),
     ] {
         let core = stepped(&rt, rt.alloc(), 1, event, false)?;
-        assert!(rt; (core.next, core.least, core.lists.len()) == (1, 15, 2));
+        assert!(rt; (core.next, core.least, core.lists.len()) == (1, 15, 2), "next is {}, least is {}", core.next, core.least);
         expect_list(&rt, &core, 0, &[entry(0, Mark::Open)]);
         expect_list(&rt, &core, 1, &[]);
     }
@@ -94,6 +94,6 @@ fn what_is_not_allowed_changes_nothing(rt: HostRuntime) -> Result<(), NoMemory> 
 fn a_later_hit_leaves_the_least(rt: HostRuntime) -> Result<(), NoMemory> {
     let hit = Event::Hit(0, HitKind::Failed);
     let core = stepped(&rt, rt.alloc(), 4, hit, true)?;
-    assert!(rt; core.least == 4);
+    assert!(rt; core.least == 4, "{} and not 4", core.least);
     Ok(())
 }

@@ -100,13 +100,13 @@ fn asked_twice<R: Threads + Abort + Sync>(
 ) -> Result<(Option<u64>, Option<u64>), NoMemory>
     requires { (again ≤ lines) × (lines ≤ 4096) }
 {
-    assert!(rt; file.len() <= 1_048_576);
+    assert!(rt; file.len() <= 1_048_576, "the text is too long");
     let size = size_of(rt, alloc, file)?;
     let question = Test::Program(String::from_str(alloc, "t")?);
     let passes = CPasses::lines();
     let prep = passes.prepare(alloc, file)?;
     let count = positions(&passes, &prep);
-    assert!(rt; lines <= count);
+    assert!(rt; lines <= count, "fewer positions than are looked at");
     let calls = AtomicU64::new(0);
     let rulings = AtomicU64::new(0);
     let law = Anything { rulings: &rulings };
@@ -127,7 +127,7 @@ fn asked_twice<R: Threads + Abort + Sync>(
     let asked = both(&calls, &rulings);
     job.len = again;
     let second = bench.epoch(rt, alloc, &job);
-    assert!(rt; rejected_all(&first, lines) && rejected_all(&second, again));
+    assert!(rt; rejected_all(&first, lines) && rejected_all(&second, again), "the epoch didn't reject all");
     Ok((asked, both(&calls, &rulings)))
 }
 
@@ -166,7 +166,7 @@ fn expect_calls<R: Threads + Abort + Sync>(
     requires { (asked.1 ≤ asked.0) × (asked.0 ≤ 4096) }
 {
     let seen = asked_twice(rt, alloc, file, asked.0, asked.1)?;
-    assert!(rt; seen == (Some(wanted.0), Some(wanted.1)));
+    assert!(rt; seen == (Some(wanted.0), Some(wanted.1)), "other calls were seen");
     Ok(())
 }
 
@@ -174,7 +174,7 @@ fn expect_calls<R: Threads + Abort + Sync>(
 #[test]
 fn of_256_files_of_65536_bytes_each_is_kept(rt: HostRuntime) -> Result<(), NoMemory> {
     let file = lines(rt.alloc(), 5097, 16)?;
-    assert!(rt; file.len() == 65_552);
+    assert!(rt; file.len() == 65_552, "{} and not 65_552", file.len());
     expect_calls(&rt, rt.alloc(), &file, (256, 256), (256, 256))
 }
 
